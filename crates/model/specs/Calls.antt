@@ -1,0 +1,227 @@
+-- The public calls: from the lists that are lent, as they are at entry, to the answer and to the lists at exit. Contracts cite these.
+-- A refused call "changes no lent byte"; "Lent bytes past a result keep their values."
+-- Assumes nothing: definitions.
+use mathlib.Core.Bool.{not, _||_}
+use mathlib.Core.List.{List, [], _∷_, _++_}
+use Prim.Native.Nat.{ℕ, zero, suc, _+_, _*_, _/_, _%_}
+use lib.Dec.{ltb}
+use lib.ListN.{length, drop, replicate}
+use Rattle.model.specs.declared.Refusal.{Refusal}
+use Rattle.model.specs.declared.Checked.{Checked}
+use Rattle.model.specs.declared.Checked.the-variants.{Accepted}
+use Rattle.model.specs.declared.Outcome.{Outcome}
+use Rattle.model.specs.declared.Outcome.the-variants.{Ended, Open}
+use Rattle.model.specs.declared.Written.{Written}
+use Rattle.model.specs.declared.Written.the-variants.{Done}
+use Rattle.model.specs.declared.Answer.{Answer}
+use Rattle.model.specs.declared.Cell.{Cell}
+use Rattle.model.specs.Word.{pick, get16}
+use Rattle.model.specs.Refusals.{refuseIf, first}
+use Rattle.model.specs.Program.{checkOf, programOf}
+use Rattle.model.specs.Rules.{Store, Run, ended, still, run}
+use Rattle.model.specs.Circuit.{high}
+use Rattle.model.specs.Numbering.{netlist, finish}
+use Rattle.model.specs.NetlistFile.{cellBytes, cellsAt, inList, fileOf, fileCheck, cellsOf, countOf, finishOf, netCheck, countWrong, blocksFor}
+use Rattle.model.specs.State.{stateSize, instantOf, nowAt, beginState, lastState, evaluated, wordsIn, sound}
+
+-- Answers ------------------------------------------------------------------------------------------------------------------------------
+
+-- an answer, and a lent list at exit
+pub record Told (A : Type 0) : Type 0 where
+  pub answer : A
+  pub lent : List ℕ
+
+-- the paper's number and place of each case: 0 where there is no refusal
+unfoldable pub numberOf : Checked → ℕ
+numberOf Accepted = 0
+numberOf (Checked.Refused r) = r .number
+
+unfoldable pub placeOf : Checked → ℕ
+placeOf Accepted = 0
+placeOf (Checked.Refused r) = r .place
+
+-- what an outcome, and an answer of a call that writes, says of refusals
+unfoldable pub verdict : Outcome → Checked
+verdict Ended = Accepted
+verdict Open = Accepted
+verdict (Outcome.Refused r) = Checked.Refused r
+
+unfoldable pub writtenVerdict : Written → Checked
+writtenVerdict (Done n f) = Accepted
+writtenVerdict (Written.Refused r) = Checked.Refused r
+
+-- "Lent bytes past a result keep their values."
+abbrev pub overwrite : List ℕ → List ℕ → List ℕ
+overwrite result lent = result ++ drop (length result) lent
+
+-- "14. A lent buffer shorter than the result, the state or the start words need."
+abbrev pub short : ℕ → ℕ → Checked
+short has needs = refuseIf (ltb has needs) 14 0
+
+-- Programs and netlist files -----------------------------------------------------------------------------------------------------------
+
+unfoldable pub checkCall : List ℕ → Checked
+checkCall program = checkOf program
+
+-- a result of n bytes or cells is written over a lent list, unless a check refuses it
+unfoldable pub writing : Checked → List ℕ → ℕ → ℕ → List ℕ → Told Written
+writing Accepted result n f lent = record { answer = Done n f; lent = overwrite result lent }
+writing (Checked.Refused r) result n f lent = record { answer = Written.Refused r; lent = lent }
+
+-- compiling: 1 to 8, 14
+abbrev pub compiledFile : List ℕ → List ℕ
+compiledFile program = fileOf (netlist (programOf program)) (finish (programOf program))
+
+abbrev pub compileChecks : List ℕ → List ℕ → List Checked
+compileChecks program lent = checkOf program ∷ short (length lent) (length (compiledFile program)) ∷ []
+
+unfoldable pub compileCall : List ℕ → List ℕ → Told Written
+compileCall program lent =
+    let file = compiledFile program in
+    writing (first (compileChecks program lent)) file (length file) (finish (programOf program)) lent
+
+-- writing a netlist, from cells of six bytes each and the finish: a broken cell at the end, a number of cells or a finish that no header
+-- could tell rightly is 11; then 12, 14
+abbrev pub cellsIn : List ℕ → List Cell
+cellsIn cells = cellsAt inList cells 0 (length cells / 6)
+
+abbrev pub writeChecks : List ℕ → ℕ → List ℕ → List Checked
+writeChecks cells f lent =
+    let net = cellsIn cells in
+    refuseIf (ltb 0 (length cells % 6) || countWrong (blocksFor (length net)) (length net) f) 11 0
+    ∷ netCheck net f
+    ∷ short (length lent) (length (fileOf net f))
+    ∷ []
+
+unfoldable pub writeCall : List ℕ → ℕ → List ℕ → Told Written
+writeCall cells f lent =
+    let file = fileOf (cellsIn cells) f in
+    writing (first (writeChecks cells f lent)) file (length file) f lent
+
+-- reading a netlist, to cells of six bytes each: 9 to 12, 14
+abbrev pub readChecks : List ℕ → List ℕ → List Checked
+readChecks file lent = fileCheck file ∷ short (length lent) (6 * countOf file) ∷ []
+
+unfoldable pub readCall : List ℕ → List ℕ → Told Written
+readCall file lent = writing (first (readChecks file lent)) (cellBytes (cellsOf file)) (countOf file) (finishOf file) lent
+
+-- Runs on a netlist --------------------------------------------------------------------------------------------------------------------
+
+-- the start words, in 32 bytes
+abbrev pub wordAt : List ℕ → Store
+wordAt words x = get16 words (2 * x)
+
+-- what a refused run answers
+abbrev pub refusedAnswer : Refusal → Answer
+refusedAnswer r = record { outcome = Outcome.Refused r; instant = 0; count = 0; words = replicate 16 0 }
+
+-- "The answer is ended or open, the instant, the sixteen words and the number of instants evaluated by that call. Ended means that the
+-- finish wire is high at that instant"
+unfoldable pub shows : List ℕ → List ℕ → ℕ → Answer
+shows file s n =
+    record {
+      outcome = pick (high (nowAt s (finishOf file))) Ended Open;
+      instant = instantOf s;
+      count = n;
+      words = wordsIn (cellsOf file) 0 s;
+    }
+
+-- a run that leaves state s after n instants, unless a check refuses it
+unfoldable pub running : Checked → List ℕ → List ℕ → ℕ → List ℕ → Told Answer
+running Accepted file s n lent = record { answer = shows file s n; lent = s }
+running (Checked.Refused r) file s n lent = record { answer = refusedAnswer r; lent = lent }
+
+-- beginning: 9 to 12, 14
+abbrev pub beginChecks : List ℕ → List ℕ → List ℕ → List Checked
+beginChecks file words lent = fileCheck file ∷ short (length words) 32 ∷ short (length lent) (stateSize (cellsOf file)) ∷ []
+
+unfoldable pub beginCall : List ℕ → List ℕ → List ℕ → Told Answer
+beginCall file words lent = running (first (beginChecks file words lent)) file (beginState (cellsOf file) (wordAt words) lent) 1 lent
+
+-- continuing by n: 9 to 12, 14, 15, 16: "16. When continuing, instant plus N above 1,000,000."
+abbrev pub continueChecks : List ℕ → ℕ → List ℕ → List Checked
+continueChecks file n lent =
+    fileCheck file
+    ∷ short (length lent) (stateSize (cellsOf file))
+    ∷ refuseIf (not (sound (cellsOf file) lent)) 15 0
+    ∷ refuseIf (ltb 1000000 (instantOf lent + n)) 16 0
+    ∷ []
+
+unfoldable pub continueCall : List ℕ → ℕ → List ℕ → Told Answer
+continueCall file n lent =
+    running (first (continueChecks file n lent)) file (lastState (cellsOf file) (finishOf file) n lent)
+    (evaluated (cellsOf file) (finishOf file) n lent) lent
+
+-- "A full run of budget N is a beginning, and a continuing by N unless the finish was high.": the state that it leaves, the instants that it
+-- evaluates
+unfoldable pub fullState : List ℕ → List ℕ → ℕ → List ℕ → List ℕ
+fullState file words n lent =
+    let s = beginState (cellsOf file) (wordAt words) lent in
+    pick (high (nowAt s (finishOf file))) s (lastState (cellsOf file) (finishOf file) n s)
+
+unfoldable pub fullCount : List ℕ → List ℕ → ℕ → List ℕ → ℕ
+fullCount file words n lent =
+    let s = beginState (cellsOf file) (wordAt words) lent in
+    pick (high (nowAt s (finishOf file))) 1 (1 + evaluated (cellsOf file) (finishOf file) n s)
+
+-- "13. Budget of a full run above 1,000,000 (place 0), after the checks of program or netlist."
+abbrev pub overBudget : ℕ → Checked
+overBudget n = refuseIf (ltb 1000000 n) 13 0
+
+-- a full run of a netlist: 9 to 12, 13, 14
+abbrev pub runNetlistChecks : List ℕ → List ℕ → ℕ → List ℕ → List Checked
+runNetlistChecks file words n lent =
+    fileCheck file ∷ overBudget n ∷ short (length words) 32 ∷ short (length lent) (stateSize (cellsOf file)) ∷ []
+
+unfoldable pub runNetlistCall : List ℕ → List ℕ → ℕ → List ℕ → Told Answer
+runNetlistCall file words n lent =
+    running (first (runNetlistChecks file words n lent)) file (fullState file words n lent) (fullCount file words n lent) lent
+
+-- a full run of a program, with a list lent for its netlist and one for the state: 1 to 8, 13, 14
+pub record ToldBoth : Type 0 where
+  pub answer : Answer
+  pub netlist : List ℕ
+  pub state : List ℕ
+
+abbrev pub runProgramChecks : List ℕ → List ℕ → ℕ → List ℕ → List ℕ → List Checked
+runProgramChecks program words n forFile lent =
+    let file = compiledFile program in
+    checkOf program
+    ∷ overBudget n
+    ∷ short (length words) 32
+    ∷ short (length forFile) (length file)
+    ∷ short (length lent) (stateSize (cellsOf file))
+    ∷ []
+
+unfoldable pub runProgramCall : List ℕ → List ℕ → ℕ → List ℕ → List ℕ → ToldBoth
+runProgramCall program words n forFile lent =
+    let file = compiledFile program in
+    let c = first (runProgramChecks program words n forFile lent) in
+    let r = running c file (fullState file words n lent) (fullCount file words n lent) lent in
+    record { answer = r .answer; netlist = writing c file (length file) 0 forFile .lent; state = r .lent }
+
+-- Runs by the rules --------------------------------------------------------------------------------------------------------------------
+
+-- the words of n variables from x on
+unfoldable pub listed : Store → ℕ → ℕ → List ℕ
+listed σ x zero = []
+listed σ x (suc n) = σ x ∷ listed σ (x + 1) n
+
+-- what a full run counts, a reference run counts too. An open one shows the budget as its instant; the rules have no words to show of it,
+-- and so they are 0.
+unfoldable pub referenceAnswer : ℕ → Run → Answer
+referenceAnswer n (ended t σ) = record { outcome = Ended; instant = t; count = t + 1; words = listed σ 0 16 }
+referenceAnswer n still = record { outcome = Open; instant = n; count = n + 1; words = replicate 16 0 }
+
+-- an answer, unless a check refuses it
+unfoldable pub answering : Checked → Answer → Answer
+answering Accepted a = a
+answering (Checked.Refused r) a = refusedAnswer r
+
+-- a reference run: 1 to 8, 13, 14
+abbrev pub referenceChecks : List ℕ → List ℕ → ℕ → List Checked
+referenceChecks program words n = checkOf program ∷ overBudget n ∷ short (length words) 32 ∷ []
+
+unfoldable pub referenceCall : List ℕ → List ℕ → ℕ → Answer
+referenceCall program words n =
+    answering (first (referenceChecks program words n)) (referenceAnswer n (run n (programOf program) (wordAt words)))

@@ -1,0 +1,115 @@
+-- The paper's cases 1 to 12, but for the two runs that stay open: rows of one table. The rows by the rules alone are proved here, by
+-- computation; that every row holds on the circuit too is `cases-hold` in theory/Cases, through the theorem that full run and rules agree,
+-- because a state of forty bytes for each cell is too long to be computed here. Assumes nothing.
+use mathlib.Core.Path.{_≡_, refl}
+use mathlib.Core.List.{List, [], _∷_, _++_, map}
+use Prim.Native.Nat.{ℕ, zero, suc, _+_, _/_, _%_, _≤_}
+use lib.ListN.{length, replicate}
+use Rattle.model.specs.declared.Checked.{Checked}
+use Rattle.model.specs.declared.Checked.the-variants.{Accepted}
+use Rattle.model.specs.declared.Outcome.the-variants.{Ended}
+use Rattle.model.specs.declared.Written.{Written}
+use Rattle.model.specs.declared.Answer.{Answer}
+use Rattle.model.specs.Word.{bit, operate, get16}
+use Rattle.model.specs.Refusals.{refuse, firstFault}
+use Rattle.model.specs.Program.{nodeAt, nodesFrom, rowOf, asExpr, asStmt, exprOf, stmtOf, treeOf, grow, forest, treesAt, exprAt, stmtAt, programOf, time, least, reads, writes, touches, clash, clashes, programLengthWrong, spare, faultOf, children, reading, slowAt, clashAt, checkOf}
+use Rattle.model.specs.Rules.{eval, put, over, kept, after, wait, chain, both, whiles, repeats, run}
+use Rattle.model.specs.Numbering.{netlist, finish}
+use Rattle.model.specs.Calls.{Told, checkCall, compileCall, runProgramCall, refusedAnswer, listed, referenceAnswer, answering, referenceCall}
+use Rattle.model.specs.Netlists.{numbering}
+
+-- Programs -----------------------------------------------------------------------------------------------------------------------------
+
+-- a node's four bytes; n below 256
+abbrev node : ℕ → ℕ → ℕ → List ℕ
+node k d n = k ∷ d ∷ n ∷ 0 ∷ []
+
+-- x0 := x0 + n, and x0 := x0 − 1 with d 17
+abbrev adding : ℕ → ℕ → List ℕ
+adding d n = node 18 d 0 ++ node 4 0 0 ++ node 2 0 0 ++ node 1 0 n
+
+abbrev down : List ℕ
+down = node 18 17 0 ++ node 5 0 0 ++ node 2 0 0 ++ node 1 0 1
+
+-- so many times
+unfoldable pub times : ℕ → List ℕ → List ℕ
+times zero s = []
+times (suc n) s = s ++ times n s
+
+-- The table ----------------------------------------------------------------------------------------------------------------------------
+
+pub data Case : Type 0 where
+  -- the program, word 0 at the start, the budget, the end, word 0 at the end; the other words are 0
+  ends : List ℕ → ℕ → ℕ → ℕ → ℕ → Case
+  -- the program, the number of the refusal, its place
+  refuses : List ℕ → ℕ → ℕ → Case
+  -- the program, how many cells its netlist has, its finish cell
+  compiles : List ℕ → ℕ → ℕ → Case
+  -- the program passes the check
+  passes : List ℕ → Case
+
+unfoldable pub cases : List Case
+cases =
+    ends (node 16 0 0) 0 10 0 0  -- 1
+    ∷ ends (node 18 1 0 ++ node 1 0 5) 0 10 2 5  -- 2
+    ∷ compiles (node 18 1 0 ++ node 1 0 5) 23 4
+    ∷ ends (node 19 0 0 ++ adding 16 3 ++ adding 16 4) 0 100 34 7  -- 3
+    ∷ refuses (node 19 0 0 ++ adding 16 3 ++ adding 15 4) 7 5
+    ∷ ends (node 20 0 0 ++ node 17 3 0 ++ node 17 5 0) 0 100 5 0  -- 4
+    ∷ ends (node 20 0 0 ++ node 16 0 0 ++ node 16 0 0) 0 100 0 0  -- 5
+    ∷ ends (node 22 1 0 ++ node 2 0 0 ++ down) 3 100 58 0  -- 6
+    ∷ ends (node 23 6 0 ++ node 8 0 0 ++ node 2 0 0 ++ node 1 0 0 ++ down) 3 100 72 0  -- 7
+    ∷ ends (node 21 0 0 ++ node 2 0 0 ++ node 17 1 0 ++ node 17 9 0) 0 100 9 0  -- 8
+    ∷ ends (node 21 0 0 ++ node 2 0 0 ++ node 17 1 0 ++ node 17 9 0) 65535 100 1 65535
+    ∷ ends (adding 16 1) 65535 100 17 0  -- 9
+    ∷ refuses (node 22 0 0 ++ node 1 0 1 ++ node 16 0 0) 7 0  -- 10
+    ∷ refuses (node 20 0 0 ++ node 18 1 1 ++ node 1 0 1 ++ node 18 1 2 ++ node 2 0 1) 8 0  -- 11
+    ∷ ends (node 22 1 0 ++ node 2 0 0 ++ node 20 0 0 ++ down ++ node 17 2 0) 2 100 39 0  -- 12
+    ∷ refuses [] 1 0
+    ∷ refuses (times 201 (node 16 0 0)) 1 0
+    ∷ passes (times 99 (node 19 0 0) ++ node 18 1 0 ++ node 1 0 0 ++ times 99 (node 16 0 0))
+    ∷ []
+
+-- 32 bytes of start words with word 0 given, and what a run that ends answers
+abbrev pub start : ℕ → List ℕ
+start v = v % 256 ∷ v / 256 ∷ replicate 30 0
+
+abbrev pub endAnswer : ℕ → ℕ → Answer
+endAnswer t w = record { outcome = Ended; instant = t; count = t + 1; words = w ∷ replicate 15 0 }
+
+-- what the program alone gives: its check, its rules, its numbering
+pub data Result : Type 0 where
+  ran : Checked → Answer → Result
+  numbered : ℕ → ℕ → Result
+  checked : Checked → Result
+
+unfoldable pub given : Case → Result
+given (ends p v n t w) = ran (checkCall p) (referenceCall p (start v) n)
+given (refuses p k i) = ran (checkCall p) (referenceCall p (start 0) 100)
+given (compiles p n f) = numbered (length (netlist (programOf p))) (finish (programOf p))
+given (passes p) = checked (checkCall p)
+
+unfoldable pub wanted : Case → Result
+wanted (ends p v n t w) = ran Accepted (endAnswer t w)
+wanted (refuses p k i) = ran (refuse k i) (refusedAnswer (record { number = k; place = i }))
+wanted (compiles p n f) = numbered n f
+wanted (passes p) = checked Accepted
+
+-- what the calls that go through the circuit give, with whatever is lent
+unfoldable pub OnCircuit : Case → Type 0
+OnCircuit (ends p v n t w) =
+    (forFile forState : List ℕ) → 6656 ≤ length forFile → 40968 ≤ length forState
+    → runProgramCall p (start v) n forFile forState .answer ≡ endAnswer t w
+OnCircuit (refuses p k i) =
+    (lent : List ℕ) → compileCall p lent ≡ record { answer = Written.Refused (record { number = k; place = i }); lent = lent }
+OnCircuit (compiles p n f) = Unit {0}
+OnCircuit (passes p) = Unit {0}
+
+-- that every row holds: proved in theory/Cases
+unfoldable pub Hold : List Case → Type 0
+Hold [] = Unit {0}
+Hold (c ∷ cs) = (given c ≡ wanted c) × OnCircuit c × Hold cs
+
+pub cases-by-rules : map given cases ≡ map wanted cases
+unfolding cases given wanted times numbering bit operate get16 firstFault nodeAt nodesFrom rowOf asExpr asStmt exprOf stmtOf treeOf grow forest treesAt exprAt stmtAt time least reads writes touches clash clashes programLengthWrong spare faultOf children reading slowAt clashAt checkOf eval put over kept after wait chain both whiles repeats run listed referenceAnswer answering referenceCall checkCall
+cases-by-rules = refl

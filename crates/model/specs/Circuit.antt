@@ -1,0 +1,121 @@
+-- The circuit: cells, and the equations that their values obey. Assumes nothing: definitions.
+use mathlib.Core.Path.{_≡_}
+use mathlib.Core.Bool.{Bool, false, _&&_, _||_, not}
+use mathlib.Core.List.{List, [], _∷_}
+use Prim.Native.Nat.{ℕ, zero, suc, _+_, _-_, _<_}
+use lib.Dec.{eqb, leb}
+use lib.ListN.{length, getD, take}
+use Rattle.model.specs.declared.Cell.{Cell}
+use Rattle.model.specs.declared.Merge.{Merge}
+use Rattle.model.specs.declared.Merged.{Merged}
+use Rattle.model.specs.Word.{pick, bit, isZero, operate}
+
+-- "Cells have 6 bytes: kind, delay, two-byte a, two-byte b"
+abbrev pub cell : ℕ → ℕ → ℕ → ℕ → Cell
+cell k d a b = record { kind = k; delay = d; a = a; b = b }
+
+-- what stands past the last cell
+abbrev pub noCell : Cell
+noCell = cell 0 0 0 0
+
+abbrev pub cellAt : List Cell → ℕ → Cell
+cellAt net k = getD net k noCell
+
+-- what a kind's number makes a cell do; kUnknown is for the numbers that are no kind
+pub data Shape : Type 0 where
+  kConstant kComplement kOperator kStart kGround kDelay kOr kWhenTrue kWhenFalse kMerge kMemory kGated kUnknown : Shape
+
+unfoldable pub shape : ℕ → Shape
+shape k =
+    pick (leb 4 k && leb k 9) kOperator
+    (pick (eqb k 3) kComplement
+    (pick (eqb k 1) kConstant
+    (pick (eqb k 32) kStart
+    (pick (eqb k 33) kGround
+    (pick (eqb k 34) kDelay
+    (pick (eqb k 35) kOr
+    (pick (eqb k 36) kWhenTrue
+    (pick (eqb k 37) kWhenFalse
+    (pick (eqb k 38) kMerge
+    (pick (eqb k 40) kMemory
+    (pick (eqb k 41) kGated kUnknown)))))))))))
+
+-- "Kinds 32 to 38 are control wires (0 or 1), the others word wires."
+unfoldable pub control : ℕ → Bool
+control k = leb 32 k && leb k 38
+
+-- Signals ----------------------------------------------------------------------------------------------------------------------------
+
+-- the level of a control wire at each instant
+abbrev pub Sig : Type 0
+Sig = ℕ → Bool
+
+-- "34 delay: control a as it was d instants ago, 0 before that."
+unfoldable pub delayed : ℕ → Sig → Sig
+delayed d a t = pick (leb d t) (a (t - d)) false
+
+-- "A merge cell holds two bits between instants. A is a or held a, B is b or held b; the output is 1 when A and B are; afterwards the
+-- held bits are A and B, or both 0 if the output was 1."
+unfoldable pub mergeStep : Merge → Bool → Bool → Merged
+mergeStep m a b =
+    let A = a || m .a in
+    let B = b || m .b in
+    let out = A && B in
+    record { held = record { a = A && not out; b = B && not out }; out = out }
+
+-- "Both are 0 before instant 0.": what a merge of a and b holds before instant t
+unfoldable pub heldBefore : Sig → Sig → ℕ → Merge
+heldBefore a b zero = record { a = false; b = false }
+heldBefore a b (suc t) = mergeStep (heldBefore a b t) (a t) (b t) .held
+
+unfoldable pub merged : Sig → Sig → Sig
+merged a b t = mergeStep (heldBefore a b t) (a t) (b t) .out
+
+-- The equations ------------------------------------------------------------------------------------------------------------------------
+
+-- W k t is the value of cell k at instant t
+abbrev pub Values : Type 0
+Values = ℕ → ℕ → ℕ
+
+-- whether a control wire's value is high
+abbrev pub high : ℕ → Bool
+high v = eqb v 1
+
+abbrev pub level : Values → ℕ → Sig
+level W k t = high (W k t)
+
+-- "40 memory: if clock a (control) is 0 and was 1 an instant ago, the value that word b had an instant ago; else its own former value.
+-- At instant 0, the start word."
+unfoldable pub memory : ℕ → Values → ℕ → Cell → ℕ → ℕ
+memory first W k c zero = first
+memory first W k c (suc t) = pick (level W (c .a) t && not (level W (c .a) (suc t))) (W (c .b) t) (W k t)
+
+-- what cell k, which is c, shows at instant t; first is its start word, if it is a memory
+unfoldable pub equation : Shape → ℕ → Values → ℕ → Cell → ℕ → ℕ
+equation kConstant first W k c t = c .a
+equation kComplement first W k c t = operate 3 (W (c .a) t) 0
+equation kOperator first W k c t = operate (c .kind) (W (c .a) t) (W (c .b) t)
+equation kStart first W k c t = bit (eqb t 0)
+equation kGround first W k c t = 0
+equation kDelay first W k c t = bit (delayed (c .delay) (level W (c .a)) t)
+equation kOr first W k c t = bit (level W (c .a) t || level W (c .b) t)
+equation kWhenTrue first W k c t = bit (level W (c .a) t && not (isZero (W (c .b) t)))
+equation kWhenFalse first W k c t = bit (level W (c .a) t && isZero (W (c .b) t))
+equation kMerge first W k c t = bit (merged (level W (c .a)) (level W (c .b)) t)
+equation kMemory first W k c t = memory first W k c t
+equation kGated first W k c t = pick (level W (c .a) t) (W (c .b) t) 0
+equation kUnknown first W k c t = 0
+
+-- "exactly sixteen are memories, in variable order": how many memories a list of cells has
+unfoldable pub memories : List Cell → ℕ
+memories [] = 0
+memories (c ∷ cs) = bit (eqb (c .kind) 40) + memories cs
+
+-- the start word of cell k, if it is a memory: that of the variable whose number is how many memories stand below k
+abbrev pub startWord : List Cell → (ℕ → ℕ) → ℕ → ℕ
+startWord net words k = words (memories (take k net))
+
+-- W is what the cells show when they are run from these start words
+unfoldable pub Obeys : List Cell → (ℕ → ℕ) → Values → Type 0
+Obeys net words W =
+    (k : ℕ) → k < length net → (t : ℕ) → W k t ≡ equation (shape (cellAt net k .kind)) (startWord net words k) W k (cellAt net k) t

@@ -1,0 +1,13 @@
+pub mod Word
+pub mod Refusals
+pub mod Program
+pub mod Rules
+pub mod Circuit
+pub mod Numbering
+pub mod NetlistFile
+pub mod State
+pub mod Calls
+pub mod Hubrun
+pub mod Promises
+pub mod Netlists
+pub mod Cases

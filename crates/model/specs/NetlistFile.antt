@@ -1,0 +1,173 @@
+-- The netlist file: the bytes that a netlist is written as, the netlist that bytes are read as, and refusals 9 to 12.
+-- "1 to 13 blocks of 512 bytes", each with a header of eight bytes and 84 cells of six.
+-- Assumes nothing: definitions.
+use mathlib.Core.Bool.{Bool, true, false, _&&_, _||_, not}
+use mathlib.Core.List.{List, [], _∷_, _++_}
+use Prim.Native.Nat.{ℕ, zero, suc, _+_, _-_, _*_, _/_, _%_}
+use lib.Dec.{eqb, leb, ltb}
+use lib.ListN.{length, getD, take, drop, replicate}
+use Rattle.model.specs.declared.Cell.{Cell}
+use Rattle.model.specs.declared.Checked.{Checked}
+use Rattle.model.specs.Word.{pick, get16, bytes16}
+use Rattle.model.specs.Refusals.{refuseIf, first, firstFault, faultIf}
+use Rattle.model.specs.Circuit.{cell, cellAt, control, memories, Shape, shape, kConstant, kComplement, kOperator, kStart, kGround, kDelay, kOr, kWhenTrue, kWhenFalse, kMerge, kMemory, kGated, kUnknown}
+
+-- Cells in bytes -----------------------------------------------------------------------------------------------------------------------
+
+-- "Cells have 6 bytes: kind, delay, two-byte a, two-byte b"
+unfoldable pub cellBytes : List Cell → List ℕ
+cellBytes [] = []
+cellBytes (c ∷ cs) = c .kind ∷ c .delay ∷ (bytes16 (c .a) ++ (bytes16 (c .b) ++ cellBytes cs))
+
+-- the cell whose six bytes begin at i
+unfoldable pub cellFrom : List ℕ → ℕ → Cell
+cellFrom s i = cell (getD s i 0) (getD s (i + 1) 0) (get16 s (i + 2)) (get16 s (i + 4))
+
+-- so many cells from cell k on, where cell k begins at byte `at k`
+unfoldable pub cellsAt : (ℕ → ℕ) → List ℕ → ℕ → ℕ → List Cell
+cellsAt at s k zero = []
+cellsAt at s k (suc n) = cellFrom s (at k) ∷ cellsAt at s (k + 1) n
+
+-- where cell k begins in a list of cells, and in a file: "then 84 cells"
+abbrev pub inList : ℕ → ℕ
+inList k = 6 * k
+
+abbrev pub inFile : ℕ → ℕ
+inFile k = 512 * (k / 84) + (8 + 6 * (k % 84))
+
+-- Writing ------------------------------------------------------------------------------------------------------------------------------
+
+-- the sum of the two-byte words of a list
+unfoldable pub wordSum : List ℕ → ℕ
+wordSum [] = 0
+wordSum (x ∷ []) = x
+wordSum (x ∷ (y ∷ s)) = x + 256 * y + wordSum s
+
+-- "bytes 6–7 a check that makes the block's 256 two-byte words sum to 0 modulo 65,536"
+abbrev pub checkFor : ℕ → ℕ
+checkFor sum = (65536 - sum % 65536) % 65536
+
+-- "Bytes 0–1 block number from 0; 2–3 the netlist's number of cells; 4–5 its finish cell, both the same in every block; 6–7 a check;
+-- then 84 cells." "unused bytes are zero"
+unfoldable pub block : ℕ → ℕ → ℕ → List Cell → List ℕ
+block number count finish cs =
+    let head = bytes16 number ++ (bytes16 count ++ bytes16 finish) in
+    let rest = cellBytes cs ++ replicate (504 - 6 * length cs) 0 in
+    head ++ (bytes16 (checkFor (wordSum head + wordSum rest)) ++ rest)
+
+-- so many blocks from block number b on
+unfoldable pub blocks : ℕ → ℕ → ℕ → ℕ → List Cell → List ℕ
+blocks zero b count finish cs = []
+blocks (suc m) b count finish cs = block b count finish (take 84 cs) ++ blocks m (b + 1) count finish (drop 84 cs)
+
+-- "No block is more than needed"
+abbrev pub blocksFor : ℕ → ℕ
+blocksFor count = (count + 83) / 84
+
+unfoldable pub fileOf : List Cell → ℕ → List ℕ
+fileOf net finish = blocks (blocksFor (length net)) 0 (length net) finish net
+
+-- Reading ------------------------------------------------------------------------------------------------------------------------------
+
+abbrev pub countOf : List ℕ → ℕ
+countOf s = get16 s 2
+
+abbrev pub finishOf : List ℕ → ℕ
+finishOf s = get16 s 4
+
+unfoldable pub cellsOf : List ℕ → List Cell
+cellsOf s = cellsAt inFile s 0 (countOf s)
+
+abbrev pub blockAt : List ℕ → ℕ → List ℕ
+blockAt s b = take 512 (drop (512 * b) s)
+
+-- Refusals 9 to 11 ---------------------------------------------------------------------------------------------------------------------
+
+-- "9. Netlist length 0, above 6,656 or not a multiple of 512 (place 0)."
+unfoldable pub fileLengthWrong : List ℕ → Bool
+fileLengthWrong s = eqb (length s) 0 || (ltb 6656 (length s) || ltb 0 (length s % 512))
+
+-- "10. Block check wrong (first block)."
+unfoldable pub sumFault : List ℕ → ℕ → ℕ
+sumFault s b = faultIf (not (eqb (wordSum (blockAt s b) % 65536) 0)) 10
+
+-- "a wrong number of blocks for block 0's cell count, or a finish not below it: block 0"
+unfoldable pub countWrong : ℕ → ℕ → ℕ → Bool
+countWrong m count finish = not (leb 19 count && (leb count 1024 && (eqb m (blocksFor count) && ltb finish count)))
+
+unfoldable pub allZero : List ℕ → Bool
+allZero [] = true
+allZero (x ∷ s) = eqb x 0 && allZero s
+
+-- the header of block b, whose bytes are B, and its unused bytes, which are those after the last cell
+unfoldable pub headed : ℕ → ℕ → ℕ → List ℕ → Bool
+headed count finish b B =
+    eqb (get16 B 0) b && (eqb (get16 B 2) count && (eqb (get16 B 4) finish && allZero (drop (8 + 6 * (count - 84 * b)) B)))
+
+-- "11. Then header or unused byte wrong (first block"
+unfoldable pub headerFault : List ℕ → ℕ → ℕ
+headerFault s b = faultIf (not (headed (countOf s) (finishOf s) b (blockAt s b))) 11
+
+-- Refusal 12 ---------------------------------------------------------------------------------------------------------------------------
+
+-- an input j names a cell below lim, of the right sort
+unfoldable pub controlIn : List Cell → ℕ → ℕ → Bool
+controlIn net lim j = ltb j lim && control (cellAt net j .kind)
+
+unfoldable pub wordIn : List Cell → ℕ → ℕ → Bool
+wordIn net lim j = ltb j lim && not (control (cellAt net j .kind))
+
+-- "All inputs name lower cells, except a delay's a and a memory's b, which may name any cell of the right sort." "fields without a use are
+-- zero". "32 ... and 33, which stand nowhere else".
+unfoldable pub keeps : Shape → List Cell → ℕ → Cell → Bool
+keeps kConstant net k c = eqb (c .delay) 0 && eqb (c .b) 0
+keeps kComplement net k c = eqb (c .delay) 0 && (wordIn net k (c .a) && eqb (c .b) 0)
+keeps kOperator net k c = eqb (c .delay) 0 && (wordIn net k (c .a) && wordIn net k (c .b))
+keeps kStart net k c = eqb (c .delay) 0 && (eqb (c .a) 0 && (eqb (c .b) 0 && eqb k 0))
+keeps kGround net k c = eqb (c .delay) 0 && (eqb (c .a) 0 && (eqb (c .b) 0 && eqb k 1))
+keeps kDelay net k c = leb 1 (c .delay) && (leb (c .delay) 255 && (controlIn net (length net) (c .a) && eqb (c .b) 0))
+keeps kOr net k c = eqb (c .delay) 0 && (controlIn net k (c .a) && controlIn net k (c .b))
+keeps kWhenTrue net k c = eqb (c .delay) 0 && (controlIn net k (c .a) && wordIn net k (c .b))
+keeps kWhenFalse net k c = eqb (c .delay) 0 && (controlIn net k (c .a) && wordIn net k (c .b))
+keeps kMerge net k c = eqb (c .delay) 0 && (controlIn net k (c .a) && controlIn net k (c .b))
+keeps kMemory net k c = eqb (c .delay) 0 && (controlIn net k (c .a) && wordIn net (length net) (c .b))
+keeps kGated net k c = eqb (c .delay) 0 && (controlIn net k (c .a) && wordIn net k (c .b))
+keeps kUnknown net k c = false
+
+-- "Cell 0 is kind 32 and cell 1 kind 33, ... cell 2 is constant 0"
+unfoldable pub placed : ℕ → Cell → Bool
+placed k c =
+    pick (eqb k 0) (eqb (c .kind) 32)
+    (pick (eqb k 1) (eqb (c .kind) 33)
+    (pick (eqb k 2) (eqb (c .kind) 1 && eqb (c .a) 0) true))
+
+-- "12. Then a cell breaks a rule above (first cell"
+unfoldable pub cellFault : List Cell → ℕ → ℕ
+cellFault net k =
+    let c = cellAt net k in
+    faultIf (not (placed k c && keeps (shape (c .kind)) net k c)) 12
+
+-- "a wrong number of memories: the cell count; a finish on a word wire: that cell, last)"
+abbrev pub netChecks : List Cell → ℕ → List Checked
+netChecks net finish =
+    firstFault (cellFault net) 0 (length net)
+    ∷ refuseIf (not (eqb (memories net) 16)) 12 (length net)
+    ∷ refuseIf (not (control (cellAt net finish .kind))) 12 finish
+    ∷ []
+
+unfoldable pub netCheck : List Cell → ℕ → Checked
+netCheck net finish = first (netChecks net finish)
+
+-- refusals 9 to 12 in their order
+abbrev pub fileChecks : List ℕ → List Checked
+fileChecks s =
+    let m = length s / 512 in
+    refuseIf (fileLengthWrong s) 9 0
+    ∷ firstFault (sumFault s) 0 m
+    ∷ refuseIf (countWrong m (countOf s) (finishOf s)) 11 0
+    ∷ firstFault (headerFault s) 0 m
+    ∷ netCheck (cellsOf s) (finishOf s)
+    ∷ []
+
+unfoldable pub fileCheck : List ℕ → Checked
+fileCheck s = first (fileChecks s)

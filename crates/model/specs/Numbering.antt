@@ -1,0 +1,263 @@
+-- The numbering: the netlist of a statement, cell for cell, as paper 01's "Numbering" and "The walk" publish it.
+-- Counts, finish wires, delay cells, walk cells and the assignments are recursions of their own, with the kinds in one order, so that a wire
+-- that is fed by a cell that comes later needs no knot. Assumes nothing: definitions.
+use mathlib.Core.List.{List, [], _∷_, _++_}
+use Prim.Native.Nat.{ℕ, zero, suc, _+_}
+use lib.Dec.{eqb}
+use lib.ListN.{length}
+use Rattle.model.specs.declared.Cell.{Cell}
+use Rattle.model.specs.Word.{pick}
+use Rattle.model.specs.Program.{Expr, const, var, compl, op, Stmt, ok, tick, assign, seq, par, ite, while, repeat}
+use Rattle.model.specs.Circuit.{cell}
+
+-- Expressions -------------------------------------------------------------------------------------------------------------------------
+-- "An expression: children, then its cell; a variable is its memory cell."
+-- M is the number of the first memory, c the number of the next walk cell.
+
+-- how many cells it has
+unfoldable pub exprCount : Expr → ℕ
+exprCount (const n) = 1
+exprCount (var x) = 0
+exprCount (compl e) = exprCount e + 1
+exprCount (op k e f) = exprCount e + exprCount f + 1
+
+-- the wire that has the expression's word
+unfoldable pub exprWire : ℕ → Expr → ℕ → ℕ
+exprWire M (const n) c = c
+exprWire M (var x) c = M + x
+exprWire M (compl e) c = c + exprCount e
+exprWire M (op k e f) c = c + exprCount e + exprCount f
+
+unfoldable pub exprCells : ℕ → Expr → ℕ → List Cell
+exprCells M (const n) c = cell 1 0 n 0 ∷ []
+exprCells M (var x) c = []
+exprCells M (compl e) c = exprCells M e c ++ (cell 3 0 (exprWire M e c) 0 ∷ [])
+exprCells M (op k e f) c =
+    exprCells M e c ++ (exprCells M f (c + exprCount e) ++ (cell k 0 (exprWire M e c) (exprWire M f (c + exprCount e)) ∷ []))
+
+-- Statements --------------------------------------------------------------------------------------------------------------------------
+-- s is the start wire, d the number of the next delay cell, c that of the next walk cell, δ the node's delay.
+
+-- If, while and repeat begin with "expression, 36, 37": the 36, the 37, and the cell after them
+abbrev pub onTrue : Expr → ℕ → ℕ
+onTrue e c = c + exprCount e
+
+abbrev pub onFalse : Expr → ℕ → ℕ
+onFalse e c = c + exprCount e + 1
+
+abbrev pub pastSwitches : Expr → ℕ → ℕ
+pastSwitches e c = c + exprCount e + 1 + 1
+
+-- these cells, with the pulse that they switch, and the rest of the walk
+abbrev pub switches : ℕ → Expr → ℕ → ℕ → List Cell → List Cell
+switches M e pulse c rest =
+    exprCells M e c ++ (cell 36 0 pulse (exprWire M e c) ∷ (cell 37 0 pulse (exprWire M e c) ∷ rest))
+
+-- "if (none when d is 0)": how many delay cells an if has of its own, which they are, and the pulse that it switches:
+-- "switches take the delayed pulse, or the start in an if with d 0"
+unfoldable pub own : ℕ → ℕ
+own zero = 0
+own (suc δ) = 1
+
+unfoldable pub ownCell : ℕ → ℕ → List Cell
+ownCell zero s = []
+ownCell (suc δ) s = cell 34 (suc δ) s 0 ∷ []
+
+unfoldable pub pulse : ℕ → ℕ → ℕ → ℕ
+pulse zero s d = s
+pulse (suc δ) s d = d
+
+-- "tick, if (none when d is 0), while, repeat have one, and an assignment two": how many delay cells
+unfoldable pub delayCount : Stmt → ℕ
+delayCount ok = 0
+delayCount (tick δ) = 1
+delayCount (assign δ x e) = 2
+delayCount (seq P Q) = delayCount P + delayCount Q
+delayCount (par P Q) = delayCount P + delayCount Q
+delayCount (ite δ e P Q) = own δ + (delayCount P + delayCount Q)
+delayCount (while δ e P) = 1 + delayCount P
+delayCount (repeat δ e P) = 1 + delayCount P
+
+-- how many cells the walk has
+unfoldable pub walkCount : Stmt → ℕ
+walkCount ok = 0
+walkCount (tick δ) = 0
+walkCount (assign δ x e) = exprCount e + 1
+walkCount (seq P Q) = walkCount P + walkCount Q
+walkCount (par P Q) = walkCount P + (walkCount Q + 1)
+walkCount (ite δ e P Q) = exprCount e + (2 + (walkCount P + (walkCount Q + 1)))
+walkCount (while δ e P) = exprCount e + (2 + (walkCount P + 1))
+walkCount (repeat δ e P) = exprCount e + (3 + walkCount P)
+
+-- "The finish of ok is its start, of tick its delay, of an assignment its second delay, of a sequence that of Q." Of a parallel it is its
+-- 38, the last cell; of an if its 35, the last cell; of a while its 37; of a repeat its 36.
+unfoldable pub finishWire : Stmt → ℕ → ℕ → ℕ → ℕ
+finishWire ok s d c = s
+finishWire (tick δ) s d c = d
+finishWire (assign δ x e) s d c = d + 1
+finishWire (seq P Q) s d c = finishWire Q (finishWire P s d c) (d + delayCount P) (c + walkCount P)
+finishWire (par P Q) s d c = c + walkCount P + walkCount Q
+finishWire (ite δ e P Q) s d c = pastSwitches e c + walkCount P + walkCount Q
+finishWire (while δ e P) s d c = onFalse e c
+finishWire (repeat δ e P) s d c = onTrue e c
+
+-- "delay cells in node order": an assignment's second is "of delay 1 and fed by the first". A while's is fed by the 35 that ends its walk,
+-- a repeat's by P's finish. "Delays not named here are fed by their node's start."
+unfoldable pub delays : Stmt → ℕ → ℕ → ℕ → List Cell
+delays ok s d c = []
+delays (tick δ) s d c = cell 34 δ s 0 ∷ []
+delays (assign δ x e) s d c = cell 34 δ s 0 ∷ (cell 34 1 d 0 ∷ [])
+delays (seq P Q) s d c = delays P s d c ++ delays Q (finishWire P s d c) (d + delayCount P) (c + walkCount P)
+delays (par P Q) s d c = delays P s d c ++ delays Q s (d + delayCount P) (c + walkCount P)
+delays (ite δ e P Q) s d c =
+    ownCell δ s
+    ++ (delays P (onTrue e c) (d + own δ) (pastSwitches e c)
+    ++ delays Q (onFalse e c) (d + own δ + delayCount P) (pastSwitches e c + walkCount P))
+delays (while δ e P) s d c = cell 34 δ (pastSwitches e c + walkCount P) 0 ∷ delays P (onTrue e c) (d + 1) (pastSwitches e c)
+delays (repeat δ e P) s d c =
+    cell 34 δ (finishWire P (pastSwitches e c) (d + 1) (pastSwitches e c + 1)) 0
+    ∷ delays P (pastSwitches e c) (d + 1) (pastSwitches e c + 1)
+
+-- The walk, kind by kind:
+--   "Assignment: expression, kind 41 on its first delay."
+--   "Q of a sequence starts with P's finish."
+--   "Parallel: P, Q, 38."
+--   "If: expression, 36, 37, P, Q, 35 of the two finishes."
+--   "While: expression, 36 (starts P), 37 (finish), P, 35 of start and P's finish, which feeds the delay."
+--   "Repeat: expression, 36 (finish), 37, 35 of start and that 37 (starts P), P, whose finish feeds the delay."
+unfoldable pub walk : ℕ → Stmt → ℕ → ℕ → ℕ → List Cell
+walk M ok s d c = []
+walk M (tick δ) s d c = []
+walk M (assign δ x e) s d c = exprCells M e c ++ (cell 41 0 d (exprWire M e c) ∷ [])
+walk M (seq P Q) s d c = walk M P s d c ++ walk M Q (finishWire P s d c) (d + delayCount P) (c + walkCount P)
+walk M (par P Q) s d c =
+    walk M P s d c
+    ++ (walk M Q s (d + delayCount P) (c + walkCount P)
+    ++ (cell 38 0 (finishWire P s d c) (finishWire Q s (d + delayCount P) (c + walkCount P)) ∷ []))
+walk M (ite δ e P Q) s d c =
+    switches M e (pulse δ s d) c
+    (walk M P (onTrue e c) (d + own δ) (pastSwitches e c)
+    ++ (walk M Q (onFalse e c) (d + own δ + delayCount P) (pastSwitches e c + walkCount P)
+    ++ (cell 35 0 (finishWire P (onTrue e c) (d + own δ) (pastSwitches e c))
+    (finishWire Q (onFalse e c) (d + own δ + delayCount P) (pastSwitches e c + walkCount P)) ∷ [])))
+walk M (while δ e P) s d c =
+    switches M e d c
+    (walk M P (onTrue e c) (d + 1) (pastSwitches e c)
+    ++ (cell 35 0 s (finishWire P (onTrue e c) (d + 1) (pastSwitches e c)) ∷ []))
+walk M (repeat δ e P) s d c =
+    switches M e d c (cell 35 0 s (onFalse e c) ∷ walk M P (pastSwitches e c) (d + 1) (pastSwitches e c + 1))
+
+-- Ors and memories ---------------------------------------------------------------------------------------------------------------------
+
+-- an assignment's variable, with a wire of that assignment
+abbrev pub Source : Type 0
+Source = ℕ × ℕ
+
+-- the assignments in node order, each with its first delay cell
+unfoldable pub clockSources : Stmt → ℕ → List Source
+clockSources ok d = []
+clockSources (tick δ) d = []
+clockSources (assign δ x e) d = (x, d) ∷ []
+clockSources (seq P Q) d = clockSources P d ++ clockSources Q (d + delayCount P)
+clockSources (par P Q) d = clockSources P d ++ clockSources Q (d + delayCount P)
+clockSources (ite δ e P Q) d = clockSources P (d + own δ) ++ clockSources Q (d + own δ + delayCount P)
+clockSources (while δ e P) d = clockSources P (d + 1)
+clockSources (repeat δ e P) d = clockSources P (d + 1)
+
+-- and each with its kind 41 cell
+unfoldable pub dataSources : Stmt → ℕ → List Source
+dataSources ok c = []
+dataSources (tick δ) c = []
+dataSources (assign δ x e) c = (x, c + exprCount e) ∷ []
+dataSources (seq P Q) c = dataSources P c ++ dataSources Q (c + walkCount P)
+dataSources (par P Q) c = dataSources P c ++ dataSources Q (c + walkCount P)
+dataSources (ite δ e P Q) c = dataSources P (pastSwitches e c) ++ dataSources Q (pastSwitches e c + walkCount P)
+dataSources (while δ e P) c = dataSources P (pastSwitches e c)
+dataSources (repeat δ e P) c = dataSources P (pastSwitches e c + 1)
+
+-- the wires of one variable
+unfoldable pub wiresOf : ℕ → List Source → List ℕ
+wiresOf x [] = []
+wiresOf x (w ∷ ws) = pick (eqb (w .0) x) (w .1 ∷ wiresOf x ws) (wiresOf x ws)
+
+-- "k assignments in node order give k − 1 cells, each joining the result so far (as a) with the next": from number n on
+unfoldable pub orChain : ℕ → ℕ → ℕ → List ℕ → List Cell
+orChain kind acc n [] = []
+orChain kind acc n (w ∷ ws) = cell kind 0 acc w ∷ orChain kind n (n + 1) ws
+
+unfoldable pub orChainOut : ℕ → ℕ → List ℕ → ℕ
+orChainOut acc n [] = acc
+orChainOut acc n (w ∷ ws) = orChainOut n (n + 1) ws
+
+unfoldable pub ors : ℕ → ℕ → List ℕ → List Cell
+ors kind n [] = []
+ors kind n (w ∷ ws) = orChain kind w n ws
+
+-- "A variable never assigned has clock 1 and data 2": none is that wire
+unfoldable pub orsOut : ℕ → ℕ → List ℕ → ℕ
+orsOut none n [] = none
+orsOut none n (w ∷ ws) = orChainOut w n ws
+
+-- how many ors so many wires need
+unfoldable pub orCount : List ℕ → ℕ
+orCount [] = 0
+orCount (w ∷ ws) = length ws
+
+-- the ors of j variables from x on
+unfoldable pub orsFrom : ℕ → List Source → ℕ → ℕ → ℕ → List Cell
+orsFrom kind ws n x zero = []
+orsFrom kind ws n x (suc j) = ors kind n (wiresOf x ws) ++ orsFrom kind ws (n + orCount (wiresOf x ws)) (x + 1) j
+
+-- and the wires that they give
+unfoldable pub outsFrom : ℕ → List Source → ℕ → ℕ → ℕ → List ℕ
+outsFrom none ws n x zero = []
+outsFrom none ws n x (suc j) = orsOut none n (wiresOf x ws) ∷ outsFrom none ws (n + orCount (wiresOf x ws)) (x + 1) j
+
+-- and how many they are
+unfoldable pub orCountFrom : List Source → ℕ → ℕ → ℕ
+orCountFrom ws x zero = 0
+orCountFrom ws x (suc j) = orCount (wiresOf x ws) + orCountFrom ws (x + 1) j
+
+-- memories, from their clock wires and data wires
+unfoldable pub memoriesOf : List ℕ → List ℕ → List Cell
+memoriesOf [] ds = []
+memoriesOf (k ∷ ks) [] = []
+memoriesOf (k ∷ ks) (d ∷ ds) = cell 40 0 k d ∷ memoriesOf ks ds
+
+-- The netlist --------------------------------------------------------------------------------------------------------------------------
+
+-- where the clock ors, the memories, the walk and the data ors begin
+abbrev pub clockAt : Stmt → ℕ
+clockAt P = 3 + delayCount P
+
+abbrev pub memoryAt : Stmt → ℕ
+memoryAt P = 3 + delayCount P + orCountFrom (clockSources P 3) 0 16
+
+abbrev pub walkAt : Stmt → ℕ
+walkAt P = memoryAt P + 16
+
+abbrev pub dataAt : Stmt → ℕ
+dataAt P = walkAt P + walkCount P
+
+abbrev pub clockWires : Stmt → List ℕ
+clockWires P = outsFrom 1 (clockSources P 3) (clockAt P) 0 16
+
+abbrev pub dataWires : Stmt → List ℕ
+dataWires P = outsFrom 2 (dataSources P (walkAt P)) (dataAt P) 0 16
+
+-- "Cell 0 is start, 1 ground, 2 constant 0. Then delay cells ... Then for variables 0 to 15 the clock ors ... Then sixteen memories. Then
+-- the walk; then the data ors (kind 7)"
+abbrev pub headCells : List Cell
+headCells = cell 32 0 0 0 ∷ (cell 33 0 0 0 ∷ (cell 1 0 0 0 ∷ []))
+
+unfoldable pub netlist : Stmt → List Cell
+netlist P =
+    headCells
+    ++ (delays P 0 3 (walkAt P)
+    ++ (orsFrom 35 (clockSources P 3) (clockAt P) 0 16
+    ++ (memoriesOf (clockWires P) (dataWires P)
+    ++ (walk (memoryAt P) P 0 3 (walkAt P)
+    ++ orsFrom 7 (dataSources P (walkAt P)) (dataAt P) 0 16))))
+
+unfoldable pub finish : Stmt → ℕ
+finish P = finishWire P 0 3 (walkAt P)

@@ -1,0 +1,275 @@
+-- The program: its nodes, the table of kinds, the tree that the nodes are, times, reads and writes, and refusals 1 to 8.
+-- "Each node is followed by its children in the order named; node 0 is the root and a statement."
+-- Assumes nothing: definitions.
+use mathlib.Core.Bool.{Bool, false, _&&_, _||_}
+use mathlib.Core.List.{List, [], _∷_, _++_}
+use Prim.Native.Nat.{ℕ, zero, suc, _+_, _-_, _*_, _/_, _%_, max}
+use lib.ListN.{length, getD, drop, replicate}
+use lib.Dec.{ltb, eqb}
+use Rattle.model.specs.declared.Node.{Node}
+use Rattle.model.specs.declared.Row.{Row}
+use Rattle.model.specs.declared.Checked.{Checked}
+use Rattle.model.specs.declared.Checked.the-variants.{Accepted}
+use Rattle.model.specs.Word.{pick, get16}
+use Rattle.model.specs.Refusals.{refuse, refuseIf, first, firstFault, faultIf}
+
+-- Nodes -----------------------------------------------------------------------------------------------------------------------------
+
+-- "A program has 1 to 200 nodes of 4 bytes: kind, delay, and a two-byte number n."
+unfoldable pub nodeAt : List ℕ → ℕ → Node
+nodeAt s i = record { kind = getD s (4 * i) 0; delay = getD s (4 * i + 1) 0; n = get16 s (4 * i + 2) }
+
+abbrev pub nodeCount : List ℕ → ℕ
+nodeCount s = length s / 4
+
+-- so many nodes from node i on
+unfoldable pub nodesFrom : List ℕ → ℕ → ℕ → List Node
+nodesFrom s i zero = []
+nodesFrom s i (suc k) = nodeAt s i ∷ nodesFrom s (i + 1) k
+
+-- all nodes from node i on
+abbrev pub nodesAt : List ℕ → ℕ → List Node
+nodesAt s i = nodesFrom s i (nodeCount s - i)
+
+-- The table --------------------------------------------------------------------------------------------------------------------------
+
+-- sort: 0 unknown, 1 an expression, 2 a statement. delay: used or not. number: 0 no use, 1 a constant, 2 a variable.
+-- exprs, stmts: so many expressions and then so many statements are its children. time: the operator time.
+abbrev row : ℕ → ℕ → ℕ → ℕ → ℕ → ℕ → Row
+row s d n e p t = record { sort = s; delay = d; number = n; exprs = e; stmts = p; time = t }
+
+abbrev unknown : Row
+unknown = row 0 0 0 0 0 0
+
+-- the paper's table: entry k is the row of kind k
+abbrev pub table : List Row
+table =
+    unknown  -- 0
+    ∷ row 1 0 1 0 0 0  -- 1 constant n
+    ∷ row 1 0 2 0 0 0  -- 2 variable n
+    ∷ row 1 0 0 1 0 1  -- 3 complement of all bits
+    ∷ row 1 0 0 2 0 16  -- 4 sum
+    ∷ row 1 0 0 2 0 17  -- 5 difference
+    ∷ row 1 0 0 2 0 1  -- 6 bitwise and
+    ∷ row 1 0 0 2 0 1  -- 7 bitwise or
+    ∷ row 1 0 0 2 0 6  -- 8 equal
+    ∷ row 1 0 0 2 0 17  -- 9 less
+    ∷ unknown ∷ unknown ∷ unknown ∷ unknown ∷ unknown ∷ unknown
+    ∷ row 2 0 0 0 0 0  -- 16 ok
+    ∷ row 2 1 0 0 0 0  -- 17 tick
+    ∷ row 2 1 2 1 0 0  -- 18 variable n := e
+    ∷ row 2 0 0 0 2 0  -- 19 sequence
+    ∷ row 2 0 0 0 2 0  -- 20 parallel
+    ∷ row 2 1 0 1 2 0  -- 21 if e then P else Q
+    ∷ row 2 1 0 1 1 0  -- 22 while e do P
+    ∷ row 2 1 0 1 1 0  -- 23 repeat P until e
+    ∷ []
+
+unfoldable pub rowOf : ℕ → Row
+rowOf k = getD table k unknown
+
+-- The tree ---------------------------------------------------------------------------------------------------------------------------
+
+-- op k a b: the operator of kind k, 4 to 9
+pub data Expr : Type 0 where
+  const : ℕ → Expr
+  var : ℕ → Expr
+  compl : Expr → Expr
+  op : ℕ → Expr → Expr → Expr
+
+-- a number in front is the node's delay
+pub data Stmt : Type 0 where
+  ok : Stmt
+  tick : ℕ → Stmt
+  assign : ℕ → ℕ → Expr → Stmt
+  seq : Stmt → Stmt → Stmt
+  par : Stmt → Stmt → Stmt
+  ite : ℕ → Expr → Stmt → Stmt → Stmt
+  while : ℕ → Expr → Stmt → Stmt
+  repeat : ℕ → Expr → Stmt → Stmt
+
+pub data Tree : Type 0 where
+  expr : Expr → Tree
+  stmt : Stmt → Tree
+
+-- what stands for a child that is missing, or of the wrong sort: refusals 5 and 6 leave no such child
+abbrev pub none : Tree
+none = expr (const 0)
+
+unfoldable pub asExpr : Tree → Expr
+asExpr (expr e) = e
+asExpr (stmt P) = const 0
+
+unfoldable pub asStmt : Tree → Stmt
+asStmt (expr e) = ok
+asStmt (stmt P) = P
+
+unfoldable pub exprOf : Node → Expr → Expr → Expr
+exprOf a e f =
+    pick (eqb (a .kind) 1) (const (a .n))
+    (pick (eqb (a .kind) 2) (var (a .n))
+    (pick (eqb (a .kind) 3) (compl e)
+    (op (a .kind) e f)))
+
+-- of kinds 19 and 20 the children are O and P, of the others e, P and Q
+unfoldable pub stmtOf : Node → Expr → Stmt → Stmt → Stmt → Stmt
+stmtOf a e O P Q =
+    pick (eqb (a .kind) 16) ok
+    (pick (eqb (a .kind) 17) (tick (a .delay))
+    (pick (eqb (a .kind) 18) (assign (a .delay) (a .n) e)
+    (pick (eqb (a .kind) 19) (seq O P)
+    (pick (eqb (a .kind) 20) (par O P)
+    (pick (eqb (a .kind) 21) (ite (a .delay) e P Q)
+    (pick (eqb (a .kind) 22) (while (a .delay) e P)
+    (repeat (a .delay) e P)))))))
+
+unfoldable pub treeOf : Node → Tree → Tree → Tree → Tree
+treeOf a x y z =
+    pick (ltb (a .kind) 16)
+    (expr (exprOf a (asExpr x) (asExpr y)))
+    (stmt (stmtOf a (asExpr x) (asStmt x) (asStmt y) (asStmt z)))
+
+abbrev pub arity : ℕ → ℕ
+arity k = rowOf k .exprs + rowOf k .stmts
+
+-- "Each node is followed by its children in the order named": the trees that nodes make, each node taking its children from the
+-- front of the trees of the nodes after it
+unfoldable pub grow : Node → List Tree → List Tree
+grow a ts = treeOf a (getD ts 0 none) (getD ts 1 none) (getD ts 2 none) ∷ drop (arity (a .kind)) ts
+
+unfoldable pub forest : List Node → List Tree
+forest [] = []
+forest (a ∷ rest) = grow a (forest rest)
+
+-- the trees of all nodes from node i on; the first of them is that of node i
+unfoldable pub treesAt : List ℕ → ℕ → List Tree
+treesAt s i = forest (nodesAt s i)
+
+unfoldable pub exprAt : List ℕ → ℕ → Expr
+exprAt s i = asExpr (getD (treesAt s i) 0 none)
+
+unfoldable pub stmtAt : List ℕ → ℕ → Stmt
+stmtAt s i = asStmt (getD (treesAt s i) 0 none)
+
+-- "node 0 is the root and a statement": the statement that a program is
+abbrev pub programOf : List ℕ → Stmt
+programOf s = stmtAt s 0
+
+-- Times, reads and writes --------------------------------------------------------------------------------------------------------------
+
+-- "The time of an expression is its operator time plus the larger time of its children"; τ k is the operator time of kind k
+unfoldable pub time : (ℕ → ℕ) → Expr → ℕ
+time τ (const n) = τ 1
+time τ (var n) = τ 2
+time τ (compl e) = τ 3 + time τ e
+time τ (op k a b) = τ k + max (time τ a) (time τ b)
+
+abbrev pub paperTime : ℕ → ℕ
+paperTime k = rowOf k .time
+
+-- "A node's delay d is at least its expression's time, and at least 1 for kinds 17, 18, 22 and 23."
+unfoldable pub least : (ℕ → ℕ) → Stmt → ℕ
+least τ ok = 0
+least τ (tick d) = 1
+least τ (assign d x e) = max 1 (time τ e)
+least τ (seq P Q) = 0
+least τ (par P Q) = 0
+least τ (ite d e P Q) = time τ e
+least τ (while d e P) = max 1 (time τ e)
+least τ (repeat d e P) = max 1 (time τ e)
+
+-- variable x is read in e
+unfoldable pub reads : Expr → ℕ → Bool
+reads (const n) x = false
+reads (var n) x = eqb x n
+reads (compl e) x = reads e x
+reads (op k a b) x = reads a x || reads b x
+
+-- it is written in P
+unfoldable pub writes : Stmt → ℕ → Bool
+writes ok x = false
+writes (tick d) x = false
+writes (assign d y e) x = eqb x y
+writes (seq P Q) x = writes P x || writes Q x
+writes (par P Q) x = writes P x || writes Q x
+writes (ite d e P Q) x = writes P x || writes Q x
+writes (while d e P) x = writes P x
+writes (repeat d e P) x = writes P x
+
+-- it is read or written in P
+unfoldable pub touches : Stmt → ℕ → Bool
+touches ok x = false
+touches (tick d) x = false
+touches (assign d y e) x = eqb x y || reads e x
+touches (seq P Q) x = touches P x || touches Q x
+touches (par P Q) x = touches P x || touches Q x
+touches (ite d e P Q) x = reads e x || (touches P x || touches Q x)
+touches (while d e P) x = reads e x || touches P x
+touches (repeat d e P) x = reads e x || touches P x
+
+-- "A variable written on one side of a parallel node and read or written on the other": one below n
+unfoldable pub clash : ℕ → Stmt → Stmt → Bool
+clash zero P Q = false
+clash (suc n) P Q = ((writes P n && touches Q n) || (writes Q n && touches P n)) || clash n P Q
+
+unfoldable pub clashes : Stmt → Bool
+clashes ok = false
+clashes (tick d) = false
+clashes (assign d x e) = false
+clashes (seq P Q) = false
+clashes (par P Q) = clash 16 P Q
+clashes (ite d e P Q) = false
+clashes (while d e P) = false
+clashes (repeat d e P) = false
+
+-- Refusals -----------------------------------------------------------------------------------------------------------------------------
+
+-- "1. Program length 0, above 800 or not a multiple of 4 (place 0)."
+unfoldable pub programLengthWrong : List ℕ → Bool
+programLengthWrong s = eqb (length s) 0 || (ltb 800 (length s) || ltb 0 (length s % 4))
+
+-- "3. a field without a use not zero"
+unfoldable pub spare : ℕ → ℕ → Bool
+spare used v = pick (eqb used 0) (ltb 0 v) false
+
+-- "2. Unknown kind; 3. a field without a use not zero; 4. variable above 15. Node by node, in this order (node)."
+unfoldable pub faultOf : Node → ℕ
+faultOf a =
+    let row = rowOf (a .kind) in
+    pick (eqb (row .sort) 0) 2
+    (pick (spare (row .delay) (a .delay) || spare (row .number) (a .n)) 3
+    (faultIf (eqb (row .number) 2 && ltb 15 (a .n)) 4))
+
+-- the sorts of a node's children, in order
+unfoldable pub children : ℕ → List ℕ
+children k = replicate (rowOf k .exprs) 1 ++ replicate (rowOf k .stmts) 2
+
+-- "5. A statement where an expression belongs or the reverse (node); 6. nodes run out (node count) or are left (first left).
+-- Whichever reading meets first": of nodes that begin at node i, where nodes of the sorts in the first list are still to be read
+unfoldable pub reading : List ℕ → ℕ → List Node → Checked
+reading [] i [] = Accepted
+reading [] i (a ∷ rest) = refuse 6 i
+reading (w ∷ ws) i [] = refuse 6 i
+reading (w ∷ ws) i (a ∷ rest) =
+    pick (eqb (rowOf (a .kind) .sort) w) (reading (children (a .kind) ++ ws) (i + 1) rest) (refuse 5 i)
+
+-- "7. Delay too small (first node)."
+unfoldable pub slowAt : (ℕ → ℕ) → List ℕ → ℕ → ℕ
+slowAt τ s i = faultIf (ltb (nodeAt s i .delay) (least τ (stmtAt s i))) 7
+
+-- "8. A variable written on one side of a parallel node and read or written on the other (first such node, in node order)."
+unfoldable pub clashAt : List ℕ → ℕ → ℕ
+clashAt s i = faultIf (clashes (stmtAt s i)) 8
+
+-- refusals 1 to 8 in their order, with operator times τ
+abbrev pub programChecks : (ℕ → ℕ) → List ℕ → List Checked
+programChecks τ s =
+    refuseIf (programLengthWrong s) 1 0
+    ∷ firstFault (λ i. faultOf (nodeAt s i)) 0 (nodeCount s)
+    ∷ reading (2 ∷ []) 0 (nodesAt s 0)
+    ∷ firstFault (slowAt τ s) 0 (nodeCount s)
+    ∷ firstFault (clashAt s) 0 (nodeCount s)
+    ∷ []
+
+unfoldable pub checkOf : List ℕ → Checked
+checkOf s = first (programChecks paperTime s)

@@ -1,0 +1,141 @@
+-- The program's own rules: as a relation, one clause for each sentence, and as a function that computes it within a budget.
+-- "Nothing but the program and these words goes in, and nothing from a circuit; the rules keep the words and an instant".
+-- Assumes nothing: definitions.
+use Prim.Native.Nat.{ℕ, zero, suc, _+_, _-_, max}
+use mathlib.Core.Path.{_≡_}
+use mathlib.Core.Bool.{Bool, true, false}
+use lib.Dec.{leb, eqb}
+use Rattle.model.specs.Word.{pick, isZero, operate}
+use Rattle.model.specs.Program.{Expr, const, var, compl, op, Stmt, ok, tick, assign, seq, par, ite, while, repeat, writes}
+
+-- Words --------------------------------------------------------------------------------------------------------------------------------
+
+-- the word of each variable
+abbrev pub Store : Type 0
+Store = ℕ → ℕ
+
+unfoldable pub eval : Expr → Store → ℕ
+eval (const n) σ = n
+eval (var n) σ = σ n
+eval (compl e) σ = operate 3 (eval e σ) 0
+eval (op k a b) σ = operate k (eval a σ) (eval b σ)
+
+unfoldable pub put : Store → ℕ → ℕ → Store
+put σ x v y = pick (eqb y x) v (σ y)
+
+-- the words τ, with those that P writes taken from σ
+unfoldable pub over : Stmt → Store → Store → Store
+over P σ τ x = pick (writes P x) (σ x) (τ x)
+
+-- "each side's written words are kept": of P and Q that began with σ and ended with σ₁ and σ₂
+unfoldable pub kept : Stmt → Stmt → Store → Store → Store → Store
+kept P Q σ σ₁ σ₂ = over P σ₁ (over Q σ₂ σ)
+
+-- The rules, as the paper states them -------------------------------------------------------------------------------------------------
+
+-- "A condition is true when its word isn't zero."
+abbrev pub IsTrue : Expr → Store → Type 0
+IsTrue e σ = isZero (eval e σ) ≡ false
+
+abbrev pub IsFalse : Expr → Store → Type 0
+IsFalse e σ = isZero (eval e σ) ≡ true
+
+-- "While takes d for each test, the last included": with n rounds of a body that from σ ends after t with σ′ where R σ t σ′
+unfoldable pub WhileEnds : (Store → ℕ → Store → Type 0) → ℕ → Expr → ℕ → Store → ℕ → Store → Type 0
+WhileEnds R d e zero σ t σ′ = IsFalse e σ × (t ≡ d) × (σ′ ≡ σ)
+WhileEnds R d e (suc n) σ t σ′ =
+    (t₁ : ℕ) × (σ₁ : Store) × (t₂ : ℕ) × IsTrue e σ × R σ t₁ σ₁ × WhileEnds R d e n σ₁ t₂ σ′ × (t ≡ d + (t₁ + t₂))
+
+-- "Repeat runs P, takes d, tests, and goes round while e is false": with n rounds after the first
+unfoldable pub RepeatEnds : (Store → ℕ → Store → Type 0) → ℕ → Expr → ℕ → Store → ℕ → Store → Type 0
+RepeatEnds R d e zero σ t σ′ = (t₁ : ℕ) × R σ t₁ σ′ × IsTrue e σ′ × (t ≡ t₁ + d)
+RepeatEnds R d e (suc n) σ t σ′ =
+    (t₁ : ℕ) × (σ₁ : Store) × (t₂ : ℕ) × R σ t₁ σ₁ × IsFalse e σ₁ × RepeatEnds R d e n σ₁ t₂ σ′ × (t ≡ t₁ + (d + t₂))
+
+-- P, run from σ, ends after t instants with the words σ′: "some programs have no end".
+-- "An expression is worked out on the words as they are when its statement's d begins."
+-- "A sequence or parallel ends only if both parts do."
+unfoldable pub Ends : Stmt → Store → ℕ → Store → Type 0
+-- "ok takes 0."
+Ends ok σ t σ′ = (t ≡ 0) × (σ′ ≡ σ)
+-- "tick takes d."
+Ends (tick d) σ t σ′ = (t ≡ d) × (σ′ ≡ σ)
+-- "An assignment takes d + 1 and changes one word."
+Ends (assign d x e) σ t σ′ = (t ≡ d + 1) × (σ′ ≡ put σ x (eval e σ))
+-- "A sequence adds times, and Q runs from P's last words."
+Ends (seq P Q) σ t σ′ = (t₁ : ℕ) × (σ₁ : Store) × (t₂ : ℕ) × Ends P σ t₁ σ₁ × Ends Q σ₁ t₂ σ′ × (t ≡ t₁ + t₂)
+-- "In parallel both sides run from the same words; the time is the larger one; each side's written words are kept."
+Ends (par P Q) σ t σ′ =
+    (t₁ : ℕ) × (σ₁ : Store) × (t₂ : ℕ) × (σ₂ : Store) × Ends P σ t₁ σ₁ × Ends Q σ t₂ σ₂ × (t ≡ max t₁ t₂) × (σ′ ≡ kept P Q σ σ₁ σ₂)
+-- "An if takes d and then its branch."
+Ends (ite d e P Q) σ t σ′ = (t₁ : ℕ) × (IsTrue e σ → Ends P σ t₁ σ′) × (IsFalse e σ → Ends Q σ t₁ σ′) × (t ≡ d + t₁)
+-- "While takes d for each test, the last included."
+Ends (while d e P) σ t σ′ = (n : ℕ) × WhileEnds (Ends P) d e n σ t σ′
+-- "Repeat runs P, takes d, tests, and goes round while e is false."
+Ends (repeat d e P) σ t σ′ = (n : ℕ) × RepeatEnds (Ends P) d e n σ t σ′
+
+-- The rules, as a run that computes ---------------------------------------------------------------------------------------------------
+
+-- The rules within a budget ------------------------------------------------------------------------------------------------------------
+
+-- A run within a budget of k instants: it ended after t instants with these words, or it is still going.
+pub data Run : Type 0 where
+  ended : ℕ → Store → Run
+  still : Run
+
+-- a run that begins d instants later
+unfoldable pub after : ℕ → Run → Run
+after d (ended t σ) = ended (d + t) σ
+after d still = still
+
+-- d instants pass, and then c goes on with what is left of the budget
+unfoldable pub wait : ℕ → ℕ → (ℕ → Run) → Run
+wait d k c = elim (leb d k) [ true ↦ after d (c (k - d)) | false ↦ still ]
+
+-- r, and where it ended, c from there
+unfoldable pub chain : Run → (ℕ → Store → Run) → Run
+chain (ended t σ) c = after t (c t σ)
+chain still c = still
+
+-- "the time is the larger one"; "ends only if both parts do"; the words joined by j
+unfoldable pub both : (Store → Store → Store) → Run → Run → Run
+both j (ended t σ) (ended t′ σ′) = ended (max t t′) (j σ σ′)
+both j (ended t σ) still = still
+both j still (ended t′ σ′) = still
+both j still still = still
+
+-- a while of at most n turns; each turn takes at least 1, so more turns than instants are enough
+unfoldable pub whiles : (ℕ → Store → Run) → ℕ → Expr → ℕ → ℕ → Store → Run
+whiles body d e zero k σ = still
+whiles body d e (suc n) k σ =
+    wait d k
+    (λ k₁.
+    elim (isZero (eval e σ)) [ true ↦ ended 0 σ | false ↦ chain (body k₁ σ) (λ t σ₁. whiles body d e n (k₁ - t) σ₁) ])
+
+-- a repeat of at most n turns
+unfoldable pub repeats : (ℕ → Store → Run) → ℕ → Expr → ℕ → ℕ → Store → Run
+repeats body d e zero k σ = still
+repeats body d e (suc n) k σ =
+    chain (body k σ)
+    (λ t σ₁.
+    wait d (k - t) (λ k₁. elim (isZero (eval e σ₁)) [ true ↦ repeats body d e n k₁ σ₁ | false ↦ ended 0 σ₁ ]))
+
+-- P from σ within k instants: where it has ended, Ends tells the same time and words (theory/Relation)
+unfoldable pub run : ℕ → Stmt → Store → Run
+run k ok σ = ended 0 σ
+run k (tick d) σ = wait d k (λ k₁. ended 0 σ)
+run k (assign d x e) σ = wait (suc d) k (λ k₁. ended 0 (put σ x (eval e σ)))
+run k (seq P Q) σ = chain (run k P σ) (λ t σ₁. run (k - t) Q σ₁)
+run k (par P Q) σ = both (kept P Q σ) (run k P σ) (run k Q σ)
+run k (ite d e P Q) σ = wait d k (λ k₁. elim (isZero (eval e σ)) [ true ↦ run k₁ Q σ | false ↦ run k₁ P σ ])
+run k (while d e P) σ = whiles (λ k₁ σ₁. run k₁ P σ₁) d e (suc k) k σ
+run k (repeat d e P) σ = repeats (λ k₁ σ₁. run k₁ P σ₁) d e (suc k) k σ
+
+-- a run ended at exactly t
+unfoldable pub endsAt : ℕ → Run → Bool
+endsAt t (ended t′ σ) = eqb t′ t
+endsAt t still = false
+
+-- whether P from σ ends at t, computed: "A finish is due at the program's end and at no other instant."
+unfoldable pub due : Stmt → Store → ℕ → Bool
+due P σ t = endsAt t (run t P σ)

@@ -1,0 +1,158 @@
+-- Running: the bytes of a state, beginning and continuing. Assumes nothing: definitions.
+use mathlib.Core.Bool.{Bool, true, false, not, _&&_, _||_}
+use mathlib.Core.List.{List, [], _∷_, _++_}
+use Prim.Native.Nat.{ℕ, zero, suc, _+_, _-_, _*_, _/_, _%_, _^_}
+use lib.ListN.{length, getD, set, take, drop, replicate}
+use lib.Dec.{eqb, leb}
+use Rattle.model.specs.declared.Cell.{Cell}
+use Rattle.model.specs.declared.Merge.{Merge}
+use Rattle.model.specs.declared.Merged.{Merged}
+use Rattle.model.specs.Word.{pick, bit, isZero, operate, get16, put16, get32, put32}
+use Rattle.model.specs.Circuit.{cellAt, control, high, mergeStep, startWord, Shape, shape, kConstant, kComplement, kOperator, kStart, kGround, kDelay, kOr, kWhenTrue, kWhenFalse, kMerge, kMemory, kGated, kUnknown}
+use Rattle.model.specs.NetlistFile.{allZero}
+
+-- The bytes ----------------------------------------------------------------------------------------------------------------------------
+
+-- "State is 8 bytes (four-byte instant, four zero) and 40 per cell: value now and value an instant ago (two bytes each, the latter 0 at
+-- instant 0), held a, held b (a byte each), two zero bytes, and 32 bytes with the last 256 inputs of a delay, newest in the lowest bit of
+-- the first byte."
+abbrev pub stateSize : List Cell → ℕ
+stateSize net = 8 + 40 * length net
+
+-- where cell k's 40 bytes begin
+abbrev pub base : ℕ → ℕ
+base k = 8 + 40 * k
+
+abbrev pub instantOf : List ℕ → ℕ
+instantOf s = get32 s 0
+
+abbrev pub nowAt : List ℕ → ℕ → ℕ
+nowAt s k = get16 s (base k)
+
+abbrev pub beforeAt : List ℕ → ℕ → ℕ
+beforeAt s k = get16 s (base k + 2)
+
+unfoldable pub heldAt : List ℕ → ℕ → Merge
+heldAt s k = record { a = high (getD s (base k + 4) 0); b = high (getD s (base k + 5) 0) }
+
+-- the input i instants before that of the state's own instant
+unfoldable pub lineBit : List ℕ → ℕ → ℕ → ℕ
+lineBit s k i = getD s (base k + 8 + i / 8) 0 / 2 ^ (i % 8) % 2
+
+-- One instant --------------------------------------------------------------------------------------------------------------------------
+
+-- What cell k, which is c, shows after instant 0. In s, lower cells have their values now already, all cells theirs an instant ago, and
+-- held bits and lines are still those of an instant ago.
+unfoldable pub later : Shape → List ℕ → ℕ → Cell → ℕ
+later kConstant s k c = c .a
+later kComplement s k c = operate 3 (nowAt s (c .a)) 0
+later kOperator s k c = operate (c .kind) (nowAt s (c .a)) (nowAt s (c .b))
+later kStart s k c = 0
+later kGround s k c = 0
+later kDelay s k c = lineBit s k (c .delay - 1)
+later kOr s k c = bit (high (nowAt s (c .a)) || high (nowAt s (c .b)))
+later kWhenTrue s k c = bit (high (nowAt s (c .a)) && not (isZero (nowAt s (c .b))))
+later kWhenFalse s k c = bit (high (nowAt s (c .a)) && isZero (nowAt s (c .b)))
+later kMerge s k c = bit (mergeStep (heldAt s k) (high (nowAt s (c .a))) (high (nowAt s (c .b))) .out)
+later kMemory s k c = pick (high (beforeAt s (c .a)) && not (high (nowAt s (c .a)))) (beforeAt s (c .b)) (beforeAt s k)
+later kGated s k c = pick (high (nowAt s (c .a))) (nowAt s (c .b)) 0
+later kUnknown s k c = 0
+
+abbrev pub value : List Cell → List ℕ → ℕ → ℕ
+value net s k = later (shape (cellAt net k .kind)) s k (cellAt net k)
+
+-- at instant 0 a start is 1 and a memory has its start word; the others, all bytes being 0, show what they show later
+abbrev pub firstValue : List Cell → (ℕ → ℕ) → List ℕ → ℕ → ℕ
+firstValue net words s k =
+    pick (eqb (cellAt net k .kind) 32) 1
+    (pick (eqb (cellAt net k .kind) 40) (startWord net words k)
+    (value net s k))
+
+-- f at cell 0, then at cell 1, and so on to cell n - 1
+unfoldable pub upTo : (List ℕ → ℕ → List ℕ) → ℕ → List ℕ → List ℕ
+upTo f zero s = s
+upTo f (suc n) s = f (upTo f n s) n
+
+-- the value now becomes the value an instant ago
+unfoldable pub aged : List ℕ → ℕ → List ℕ
+aged s k = put16 s (base k + 2) (nowAt s k)
+
+-- cell k shows the value that v makes of the state so far
+unfoldable pub shown : (List ℕ → ℕ → ℕ) → List ℕ → ℕ → List ℕ
+shown v s k = put16 s (base k) (v s k)
+
+-- m bytes from i on, moved by a bit, x coming in lowest
+unfoldable pub shifted : ℕ → List ℕ → ℕ → ℕ → List ℕ
+shifted zero s i x = s
+shifted (suc m) s i x = shifted m (set s i ((2 * getD s i 0 + x) % 256)) (i + 1) ((2 * getD s i 0 + x) / 256)
+
+unfoldable pub holding : List ℕ → ℕ → Merge → List ℕ
+holding s k m = set (set s (base k + 4) (bit (m .a))) (base k + 5) (bit (m .b))
+
+-- a delay takes its input in, a merge holds
+unfoldable pub settle : Shape → List ℕ → ℕ → Cell → List ℕ
+settle kConstant s k c = s
+settle kComplement s k c = s
+settle kOperator s k c = s
+settle kStart s k c = s
+settle kGround s k c = s
+settle kDelay s k c = shifted 32 s (base k + 8) (bit (high (nowAt s (c .a))))
+settle kOr s k c = s
+settle kWhenTrue s k c = s
+settle kWhenFalse s k c = s
+settle kMerge s k c = holding s k (mergeStep (heldAt s k) (high (nowAt s (c .a))) (high (nowAt s (c .b))) .held)
+settle kMemory s k c = s
+settle kGated s k c = s
+settle kUnknown s k c = s
+
+abbrev pub settled : List Cell → List ℕ → ℕ → List ℕ
+settled net s k = settle (shape (cellAt net k .kind)) s k (cellAt net k)
+
+-- "Beginning evaluates instant 0." "Lent bytes past a result keep their values."
+unfoldable pub beginState : List Cell → (ℕ → ℕ) → List ℕ → List ℕ
+beginState net words s =
+    upTo (settled net) (length net)
+    (upTo (shown (firstValue net words)) (length net) (replicate (stateSize net) 0 ++ drop (stateSize net) s))
+
+-- one further instant
+unfoldable pub stepState : List Cell → List ℕ → List ℕ
+stepState net s =
+    upTo (settled net) (length net)
+    (upTo (shown (value net)) (length net)
+    (upTo aged (length net) (put32 s 0 (instantOf s + 1))))
+
+-- "Continuing by N evaluates later instants until the finish wire is high or N are done": the state then, and how many were evaluated
+unfoldable pub lastState : List Cell → ℕ → ℕ → List ℕ → List ℕ
+lastState net f zero s = s
+lastState net f (suc n) s =
+    let t = stepState net s in
+    elim (high (nowAt t f)) [ true ↦ t | false ↦ lastState net f n t ]
+
+unfoldable pub evaluated : List Cell → ℕ → ℕ → List ℕ → ℕ
+evaluated net f zero s = 0
+evaluated net f (suc n) s =
+    let t = stepState net s in
+    elim (high (nowAt t f)) [ true ↦ 1 | false ↦ 1 + evaluated net f n t ]
+
+-- "the sixteen words": the values of the memories among cells that stand from k on, in order
+unfoldable pub wordsIn : List Cell → ℕ → List ℕ → List ℕ
+wordsIn [] k s = []
+wordsIn (c ∷ cs) k s = pick (eqb (c .kind) 40) (nowAt s k ∷ wordsIn cs (k + 1) s) (wordsIn cs (k + 1) s)
+
+-- Refusal 15 ---------------------------------------------------------------------------------------------------------------------------
+
+-- "15. A state whose control values or held bits exceed 1, or with held bits, lines or zero bytes set where the cell has none."
+unfoldable pub cellSound : Cell → List ℕ → ℕ → Bool
+cellSound c s k =
+    (not (control (c .kind)) || (leb (nowAt s k) 1 && leb (beforeAt s k) 1))
+    && ((leb (getD s (base k + 4) 0) (bit (eqb (c .kind) 38)) && leb (getD s (base k + 5) 0) (bit (eqb (c .kind) 38)))
+    && (allZero (take 2 (drop (base k + 6) s))
+    && (eqb (c .kind) 34 || allZero (take 32 (drop (base k + 8) s)))))
+
+-- of the cells cs, which stand from k on
+unfoldable pub cellsSound : List Cell → List ℕ → ℕ → Bool
+cellsSound [] s k = true
+cellsSound (c ∷ cs) s k = cellSound c s k && cellsSound cs s (k + 1)
+
+unfoldable pub sound : List Cell → List ℕ → Bool
+sound net s = allZero (take 4 (drop 4 s)) && cellsSound net s 0

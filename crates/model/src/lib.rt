@@ -1,0 +1,92 @@
+// The public types, by value, and the step of a merge. Definitions that speak of them are in specs/.
+// Numbers and places are those of paper 01, "From the input" and "From the state".
+ghost use mathlib.Core.Path.{_≡_};
+ghost use Rattle.model.specs.Circuit.{mergeStep};
+
+// A refusal: its number, and its place.
+pub struct Refusal {
+    pub number: u8,
+    pub place: usize,
+}
+
+// The answer of a check.
+pub enum Checked {
+    Accepted,
+    Refused(Refusal),
+}
+
+// The answer of a call that writes: how many bytes of a file, or cells of a list, it wrote, and the finish cell.
+pub enum Written {
+    Done { count: usize, finish: u16 },
+    Refused(Refusal),
+}
+
+// How a run stands: the finish wire is high, or it is not, or the call was refused.
+pub enum Outcome {
+    Ended,
+    Open,
+    Refused(Refusal),
+}
+
+// The answer of a run: the sixteen words stand beside the outcome.
+pub struct Answer {
+    pub outcome: Outcome,
+    pub instant: u32,
+    pub count: u32,
+    pub words: [u16; 16],
+}
+
+// A node of a program, four bytes.
+pub struct Node {
+    pub kind: u8,
+    pub delay: u8,
+    pub n: u16,
+}
+
+// A kind's row of the paper's table; specs/Program says what its numbers mean.
+pub struct Row {
+    pub sort: u8,
+    pub delay: u8,
+    pub number: u8,
+    pub exprs: u8,
+    pub stmts: u8,
+    pub time: u8,
+}
+
+// A cell of a netlist, six bytes.
+pub struct Cell {
+    pub kind: u8,
+    pub delay: u8,
+    pub a: u16,
+    pub b: u16,
+}
+
+// The two bits that a merge cell holds between instants.
+pub struct Merge {
+    pub a: bool,
+    pub b: bool,
+}
+
+// What a merge holds after an instant, and its output.
+pub struct Merged {
+    pub held: Merge,
+    pub out: bool,
+}
+
+impl Merge {
+    // One instant with inputs a and b.
+    pub fn step(self, a: bool, b: bool) -> Merged
+        ensures { λ r. ⌜ r ≡ mergeStep self a b ⌝ }
+    {
+        let both_a = a | self.a;
+        let both_b = b | self.b;
+        let out = both_a & both_b;
+        Merged {
+            held: Merge {
+                a: both_a & !out,
+                b: both_b & !out,
+            },
+            out,
+        }
+    }
+}

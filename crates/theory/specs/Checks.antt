@@ -1,0 +1,157 @@
+-- Laws of refusals: what an accepted list of checks says of each, and what the first fault is.
+-- They are the laws that the checks of programs, files and calls go by.
+-- Assumes nothing.
+use mathlib.Core.Path.{_≡_, refl, sym, _∙_, ap, ap₂}
+use mathlib.Core.Bool.{Bool, true, false, not, _&&_, _||_}
+use mathlib.Core.List.{List, [], _∷_}
+use Prim.Native.Nat.{ℕ, zero, suc, _+_, _≤_, _<_}
+use native.Mathlib.Omega.{arith}
+use native.Mathlib.Decide.{ℕ-discrete}
+use lib.Dec.{eqb}
+use lib.ListN.{getD}
+use borrow.Author.Tests.{eqb-true, eqb-false, eq-eqb}
+use Rattle.model.specs.declared.Refusal.{Refusal}
+use Rattle.model.specs.declared.Checked.{Checked}
+use Rattle.model.specs.declared.Checked.the-variants.{Accepted, Refused}
+use Rattle.model.specs.Word.{pick}
+use Rattle.model.specs.Refusals.{refuse, refuseIf, first, firstFault, faultIf}
+use Rattle.model.specs.Promises.{FirstFound, FirstPlace}
+
+-- Tests --------------------------------------------------------------------------------------------------------------------------------
+
+-- case analysis that keeps the equation
+pub by-bool : {A : Type 0} (b : Bool) → (b ≡ true → A) → (b ≡ false → A) → A
+by-bool true p q = p refl
+by-bool false p q = q refl
+
+pub not-both : {A : Type 0} {b : Bool} → b ≡ true → b ≡ false → A
+not-both p q = let z : _≡_ {A = ℕ} 0 1 = cc in absurd (omega arith)
+
+pub and-true : (a b : Bool) → (a && b) ≡ true → (a ≡ true) × (b ≡ true)
+and-true true b e = (refl, e)
+and-true false b e = not-both e refl
+
+pub and-of : {a b : Bool} → a ≡ true → b ≡ true → (a && b) ≡ true
+and-of p q = ap₂ _&&_ p q
+
+pub or-false : (a b : Bool) → (a || b) ≡ false → (a ≡ false) × (b ≡ false)
+or-false true b e = not-both refl e
+or-false false b e = (refl, e)
+
+pub not-false : (b : Bool) → not b ≡ false → b ≡ true
+not-false true e = refl
+not-false false e = not-both refl e
+
+-- One check ----------------------------------------------------------------------------------------------------------------------------
+
+refusals : Checked → ℕ
+refusals Accepted = 0
+refusals (Refused r) = 1
+
+pub not-refused : {A : Type 0} {r : Refusal} → Refused r ≡ Accepted → A
+unfolding refusals
+not-refused e = let z : _≡_ {A = ℕ} 1 0 = ap refusals e in absurd (omega arith)
+
+refusal-of : Refusal → Checked → Refusal
+refusal-of d Accepted = d
+refusal-of d (Refused r) = r
+
+pub same-refusal : {r q : Refusal} → Refused r ≡ Refused q → r ≡ q
+unfolding refusal-of
+same-refusal {r} e = ap (refusal-of r) e
+
+-- a refusal behind a condition
+pub refuse-unless : (b : Bool) (k p : ℕ) → refuseIf b k p ≡ Accepted → b ≡ false
+refuse-unless true k p e = not-refused e
+refuse-unless false k p e = refl
+
+-- a refusal where a condition fails
+pub pick-true : (b : Bool) (c : Checked) (r : Refusal) → pick b c (Refused r) ≡ Accepted → (b ≡ true) × (c ≡ Accepted)
+pick-true true c r e = (refl, e)
+pick-true false c r e = not-refused e
+
+-- A list of checks ---------------------------------------------------------------------------------------------------------------------
+
+-- what is found first stands in the list, and everything before it accepts
+pub first-found : (cs : List Checked) → FirstFound cs (first cs)
+first-found [] = record { accepted = λ e j. refl; refused = λ r e. not-refused (sym e) }
+first-found (Accepted ∷ cs) =
+    let f = first-found cs in
+    record {
+      accepted = λ e. elim [ zero ↦ refl | suc j ↦ f .accepted e j ];
+      refused = λ r e.
+          let g = f .refused r e in
+          (suc (g .0), g .1, elim [ zero ↦ λ l. refl | suc j ↦ λ l. g .2 j (omega arith) ]);
+    }
+first-found (Refused q ∷ cs) =
+    record { accepted = λ e j. not-refused e; refused = λ r e. (0, e, λ j l. absurd (omega arith)) }
+
+pub all-accept : (cs : List Checked) → first cs ≡ Accepted → (j : ℕ) → getD cs j Accepted ≡ Accepted
+all-accept cs e = first-found cs .accepted e
+
+-- The first fault ----------------------------------------------------------------------------------------------------------------------
+
+pub fault-unless : (b : Bool) (k : ℕ) → 1 ≤ k → faultIf b k ≡ 0 → b ≡ false
+fault-unless true k l e = absurd (omega arith)
+fault-unless false k l e = refl
+
+fault-here : (fault : ℕ → ℕ) (i n : ℕ) → (fault i ≡ 0 → ⊥) → firstFault fault i (suc n) ≡ refuse (fault i) i
+unfolding firstFault
+fault-here fault i n h =
+    by-bool (eqb (fault i) 0) (λ e. absurd (h (eqb-true _ _ e)))
+    (λ e. ap (λ (b : Bool). pick b (firstFault fault (i + 1) n) (refuse (fault i) i)) e)
+
+fault-later : (fault : ℕ → ℕ) (i n : ℕ) → fault i ≡ 0 → firstFault fault i (suc n) ≡ firstFault fault (i + 1) n
+unfolding firstFault
+fault-later fault i n h =
+    ap (λ (b : Bool). pick b (firstFault fault (i + 1) n) (refuse (fault i) i)) (eq-eqb (fault i) 0 h)
+
+-- the first fault of n places from i on is at the least of them that has one
+record Found (fault : ℕ → ℕ) (i n : ℕ) (c : Checked) : Type 0 where
+  none : c ≡ Accepted → (j : ℕ) → i ≤ j → j < i + n → fault j ≡ 0
+  some : (r : Refusal) → c ≡ Refused r
+      → (i ≤ r .place) × (r .place < i + n) × (fault (r .place) ≡ r .number) × (1 ≤ r .number) × ((j : ℕ) → i ≤ j → j < r .place → fault j ≡ 0)
+
+found : (fault : ℕ → ℕ) (i n : ℕ) → Found fault i n (firstFault fault i n)
+unfolding firstFault
+found fault i zero = record { none = λ e j l h. absurd (omega arith); some = λ r e. not-refused (sym e) }
+found fault i (suc n) = go (ℕ-discrete (fault i) 0) (found fault (i + 1) n)
+  where
+    at : (j : ℕ) → i ≤ j → (i + 1 ≤ j → fault j ≡ 0) → fault i ≡ 0 → fault j ≡ 0
+    at j l h e = elim (ℕ-discrete i j) [ yes p ↦ ap fault (sym p) ∙ e | no p ↦ h (omega arith) ]
+    go : Dec (fault i ≡ 0) → Found fault (i + 1) n (firstFault fault (i + 1) n) → Found fault i (suc n) (firstFault fault i (suc n))
+    go (yes e) f =
+        rw (fault-later fault i n e)
+        (record {
+          none = λ a j l h. at j l (λ k. f .none a j k (omega arith)) e;
+          some = λ r a.
+              let g = f .some r a in
+              (omega arith, omega arith, g .2, g .3, λ j l h. at j l (λ k. g .4 j k h) e);
+        })
+    go (no h) f =
+        rw (fault-here fault i n h)
+        (record {
+          none = λ a. not-refused a;
+          some = λ r a.
+              let q = same-refusal a in
+              let x : r .place ≡ i = ap (λ (r : Refusal). r .place) (sym q) in
+              let y : fault i ≡ r .number = ap (λ (r : Refusal). r .number) q in
+              (omega arith, omega arith, ap fault x ∙ y, omega (arith, h), λ j l k. absurd (omega arith));
+        })
+
+pub first-place : (fault : ℕ → ℕ) (n : ℕ) → FirstPlace fault n (firstFault fault 0 n)
+first-place fault n =
+    let f = found fault 0 n in
+    record {
+      none = λ e j l. f .none e j (omega arith) (omega arith);
+      some = λ r e.
+          let g = f .some r e in
+          (omega arith, g .2, g .3, λ j l. g .4 j (omega arith) l);
+    }
+
+-- where no place has a fault, nothing is refused
+pub faultless : (fault : ℕ → ℕ) (i n : ℕ) → ((j : ℕ) → i ≤ j → j < i + n → fault j ≡ 0) → firstFault fault i n ≡ Accepted
+unfolding firstFault
+faultless fault i zero h = refl
+faultless fault i (suc n) h =
+    fault-later fault i n (h i (omega arith) (omega arith)) ∙ faultless fault (i + 1) n (λ j l k. h j (omega arith) (omega arith))

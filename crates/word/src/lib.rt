@@ -1,0 +1,59 @@
+// Leaves: the operators on words, and numbers of two and four bytes in slices.
+// Each contract is an equation with the definition of the same name in model/Word.
+ghost use mathlib.Core.Path.{_≡_};
+ghost use Prim.Native.Nat.{_+_, _<_};
+ghost use lib.ListN.{length};
+ghost use Rattle.model.specs.Word.{operate, bit, get16, put16, get32, put32};
+
+pub fn bit(b: bool) -> u16
+    ensures { λ r. ⌜ r ≡ bit b ⌝ }
+{
+    if b { 1 } else { 0 }
+}
+
+// The operators of kinds 3 to 9.
+pub fn operate(kind: u8, x: u16, y: u16) -> u16
+    ensures { λ r. ⌜ r ≡ operate kind x y ⌝ }
+{
+    match kind {
+        3 => 65535 - x,
+        4 => std::num::wrapping_add_u16(x, y),
+        5 => std::num::wrapping_sub_u16(x, y),
+        6 => x & y,
+        7 => x | y,
+        8 => bit(x == y),
+        _ => bit(x < y),
+    }
+}
+
+pub fn get16(s: &[u8], i: usize) -> u16
+    requires { ⌜ i + 1 < length (now s) ⌝ }
+    ensures { λ r. ⌜ r ≡ get16 (now (s .entry)) i ⌝ }
+{
+    (s[i] as u16) + 256 * (s[i + 1] as u16)
+}
+
+pub fn put16(s: &mut [u8], i: usize, v: u16)
+    requires { ⌜ i + 1 < length (now s) ⌝ }
+    ensures { λ _. ⌜ now (s .exit) ≡ put16 (now (s .entry)) i v ⌝ }
+{
+    s[i] = (v % 256) as u8;
+    s[i + 1] = (v / 256) as u8;
+}
+
+pub fn get32(s: &[u8], i: usize) -> u32
+    requires { ⌜ i + 3 < length (now s) ⌝ }
+    ensures { λ r. ⌜ r ≡ get32 (now (s .entry)) i ⌝ }
+{
+    let low = get16(s, i);
+    let high = get16(s, i + 2);
+    (low as u32) + 65536 * (high as u32)
+}
+
+pub fn put32(s: &mut [u8], i: usize, v: u32)
+    requires { ⌜ i + 3 < length (now s) ⌝ }
+    ensures { λ _. ⌜ now (s .exit) ≡ put32 (now (s .entry)) i v ⌝ }
+{
+    put16(s, i, (v % 65536) as u16);
+    put16(s, i + 2, (v / 65536) as u16);
+}

@@ -7,15 +7,16 @@ use lib.Dec.{leb, eqb}
 use lib.Bits.{bitOr}
 use Rattle.model.specs.Word.{pick, isZero}
 use Rattle.model.specs.Program.{Expr, Stmt, ok, tick, assign, seq, par, ite, while, repeat, writes}
-use Rattle.model.specs.Circuit.{Sig, delayed}
-use Rattle.theory.specs.Wiring.{Clk, Dat, Memory, Part, Net, Circuit, Plain, Assigned, Joined, Seq, Par, Ite, While, Repeat, held, merged, either, Timed}
+use Rattle.model.specs.Circuit.{Sig, delayed, heldBefore}
+use Rattle.theory.specs.Wiring.{Clk, Dat, Memory, Part, Net, Circuit, Plain, Assigned, Joined, Seq, Par, Ite, While, Repeat, either, Timed}
 use Rattle.model.specs.Rules.{Store, eval}
-use Rattle.theory.specs.Signal.{Quiet, Clear, Dull, creep, delayed-quiet, clear-later, either-quiet, narrow, merged-left, holds-to}
+use Rattle.theory.specs.Signal.{Quiet, Clear, Dull, creep, delayed-quiet, clear-later, either-quiet, narrow}
+use Rattle.theory.specs.Merges.{Empty, merged-left, holds-to}
 use Rattle.theory.specs.Checks.{by-bool}
 
 -- P's circuit, with nothing in flight just before instant a: no delay holds a pulse, and no merge a bit
 unfoldable pub Calm : Memory → Stmt → Sig → Sig → Clk → Dat → ℕ → Type 0
-Calm m P s f clk dat a = Net m (λ d s. Clear d s a) (λ f g. held f g a ≡ (false, false)) P s f clk dat
+Calm m P s f clk dat a = Net m (λ d s. Clear d s a) (λ f g. Empty f g a) P s f clk dat
 
 -- More is known of a circuit than of another ----------------------------------------------------------------------------------------
 
@@ -90,9 +91,9 @@ module _ (m : Memory) (C C′ : ℕ → Sig → Type 0) (H H′ : Sig → Sig �
 
 -- Nothing is in flight before instant 0
 pub calm-zero : (m : Memory) (P : Stmt) (s f : Sig) (clk : Clk) (dat : Dat) → Circuit m P s f clk dat → Calm m P s f clk dat 0
-unfolding Circuit Calm held
+unfolding Circuit Calm heldBefore
 calm-zero m P s f clk dat n =
-    net-map m (λ d s. Unit {0}) (λ d s. Clear d s 0) (λ a b. Unit {0}) (λ f g. held f g 0 ≡ (false, false))
+    net-map m (λ d s. Unit {0}) (λ d s. Clear d s 0) (λ a b. Unit {0}) (λ f g. Empty f g 0)
     (λ d s u t l k. absurd (omega arith)) (λ f g u. refl) P s f clk dat n
 
 -- What holds at every instant ---------------------------------------------------------------------------------------------------------
@@ -164,13 +165,13 @@ module _ (m : Memory) (C : ℕ → Sig → Type 0) (H : Sig → Sig → Type 0) 
 
 pub calm-dull : (m : Memory) (P : Stmt) (s f : Sig) (clk : Clk) (dat : Dat) (a : ℕ) → Calm m P s f clk dat a → Dull clk dat
 unfolding Calm
-calm-dull m P s f clk dat a n = net-dull m (λ d s. Clear d s a) (λ f g. held f g a ≡ (false, false)) P s f clk dat n
+calm-dull m P s f clk dat a n = net-dull m (λ d s. Clear d s a) (λ f g. Empty f g a) P s f clk dat n
 
 pub calm-unwritten : (m : Memory) (P : Stmt) (s f : Sig) (clk : Clk) (dat : Dat) (a : ℕ) → Calm m P s f clk dat a
     → (x : ℕ) → writes P x ≡ false → (t : ℕ) → clk x t ≡ false
 unfolding Calm
 calm-unwritten m P s f clk dat a n =
-    net-unwritten m (λ d s. Clear d s a) (λ f g. held f g a ≡ (false, false)) P s f clk dat n
+    net-unwritten m (λ d s. Clear d s a) (λ f g. Empty f g a) P s f clk dat n
 
 -- At rest -------------------------------------------------------------------------------------------------------------------------------
 

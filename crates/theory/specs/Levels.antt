@@ -10,10 +10,7 @@ use lib.Bits.{bitOr, or-step}
 use lib.Dec.{eqb, leb, leb·zero}
 use Rattle.model.specs.Word.{pick}
 use Rattle.model.specs.Circuit.{Sig, delayed}
-use Rattle.model.specs.declared.Merge.{Merge}
-use Rattle.model.specs.declared.Merged.{Merged}
-use Rattle.model.specs.Circuit.{mergeStep, heldBefore}
-use Rattle.theory.specs.Wiring.{hold, held, merged, Clk, Dat, Joined}
+use Rattle.theory.specs.Wiring.{Clk, Dat, Joined}
 use Rattle.model.specs.Word.{operate}
 use Rattle.model.specs.Numbering.{Source, wiresOf}
 use Rattle.model.specs.Circuit.{Values, level}
@@ -66,9 +63,6 @@ or-assoc =
     ∙ ap₂ (λ (x y : ℕ). bitOr (n / 2) x * 2 + max (n % 2) y) (sym (or-half b c)) (sym (or-odd b c))
     ∙ sym (or-step n (bitOr b c)))
 
-unfoldable pair : Bool × Bool → Merge
-pair h = record { a = h .0; b = h .1 }
-
 -- what the wires of a list come to, joined
 unfoldable pub anyHigh : Values → List ℕ → Sig
 anyHigh W [] t = false
@@ -113,21 +107,3 @@ joined W us vs us′ vs′ =
     record {
       clocks = λ y t. rw wires-append (any-append W (wiresOf y us) (wiresOf y vs) t);
       words = λ y t. rw wires-append (or-append W (wiresOf y us′) (wiresOf y vs′) t) }
-
--- a merge's bits as a pair
-held-step : (A B : Bool) → record { a = A && not (A && B); b = B && not (A && B) } ≡ pair (hold A B)
-unfolding hold pair
-held-step true true = refl
-held-step true false = refl
-held-step false true = refl
-held-step false false = refl
-
-held-same : (a b : Sig) (t : ℕ) → heldBefore a b t ≡ pair (held a b t)
-unfolding heldBefore held pair mergeStep
-held-same a b zero = refl
-held-same a b (suc t) =
-    ap (λ (m : Merge). mergeStep m (a t) (b t) .held) (held-same a b t) ∙ held-step (a t || (held a b t) .0) (b t || (held a b t) .1)
-
-pub merged-same : (a b : Sig) (t : ℕ) → Rattle.model.specs.Circuit.merged a b t ≡ merged a b t
-unfolding Rattle.model.specs.Circuit.merged merged pair mergeStep
-merged-same a b t = ap (λ (m : Merge). mergeStep m (a t) (b t) .out) (held-same a b t)

@@ -2,12 +2,15 @@ pub mod Checks
 pub mod Accepted
 pub mod Wiring
 pub mod Signal
+pub mod Merges
 pub mod RunLaws
 pub mod Relation
 pub mod Uses
 pub mod Calm
 pub mod Runs
-pub mod Branch
+pub mod Sides
+pub mod If
+pub mod Parallel
 pub mod Loops
 pub mod Timing
 pub mod Cells

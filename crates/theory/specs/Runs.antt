@@ -7,10 +7,11 @@ use lib.Dec.{leb, eqb}
 use Rattle.model.specs.Word.{pick, isZero}
 use Rattle.model.specs.Program.{Expr, Stmt, ok, tick, assign, seq, par, ite, while, repeat, reads, writes, touches}
 use Rattle.model.specs.Circuit.{Sig, delayed}
-use Rattle.theory.specs.Wiring.{Clk, Dat, Memory, Net, Plain, Assigned, Joined, Seq, Par, Ite, While, Repeat, held, merged, either, latch, Timed, Apart, Separate}
+use Rattle.theory.specs.Wiring.{Clk, Dat, Memory, Net, Plain, Assigned, Joined, Seq, Par, Ite, While, Repeat, either, latch, Timed, Apart, Separate}
 use Rattle.model.specs.Rules.{Store, eval, put, Run, ended, still, wait, chain, both, kept, whiles, repeats, run}
-use Rattle.theory.specs.Signal.{Quiet, Clear, Dull, Follow, cases, glue, glue-at, keep, follow-left, follow-right, creep, delayed-at, delayed-quiet, delayed-after, clear-later, clear-after, either-quiet, narrow}
-use Rattle.theory.specs.RunLaws.{by-bool, by-run, ended-time, ended-words, ended-still, wait-ended, wait-still, chain-ended, chain-still, both-ended, both-still, Steady, steady, still-before, still-below}
+use Rattle.theory.specs.Signal.{Quiet, Clear, Dull, Follow, cases, glue, glue-at, keep, joined-swap, follow-left, creep, delayed-at, delayed-quiet, delayed-after, clear-later, clear-after, either-quiet, narrow}
+use Rattle.theory.specs.Checks.{by-bool}
+use Rattle.theory.specs.RunLaws.{by-run, ended-time, ended-words, ended-still, wait-ended, wait-still, chain-ended, chain-still, both-ended, both-still, Steady, steady, still-before, still-below}
 use Rattle.theory.specs.Calm.{Calm, calm-dull, calm-unwritten, Rests, RestOf, rest}
 use Rattle.theory.specs.Uses.{eval-same}
 
@@ -27,7 +28,7 @@ pub record Begins (m : Memory) (P : Stmt) (U : ℕ → Type 0) (σ : Store) (s f
   pub words : (x : ℕ) → U x → m a x ≡ σ x
 
 -- P ends at b with the words σ, and nothing is left in flight
-pub record Ends (m : Memory) (P : Stmt) (U : ℕ → Type 0) (σ : Store) (s f : Sig) (clk : Clk) (dat : Dat) (a b : ℕ) : Type 0 where
+pub record Ended (m : Memory) (P : Stmt) (U : ℕ → Type 0) (σ : Store) (s f : Sig) (clk : Clk) (dat : Dat) (a b : ℕ) : Type 0 where
   pub quiet : Quiet f a b
   pub high : f b ≡ true
   pub low : (x : ℕ) → clk x b ≡ false
@@ -37,7 +38,7 @@ pub record Ends (m : Memory) (P : Stmt) (U : ℕ → Type 0) (σ : Store) (s f :
 -- up to the horizon u, which is the instant b, the circuit does as the rules say
 pub record Does (m : Memory) (P : Stmt) (U : ℕ → Type 0) (σ : Store) (s f : Sig) (clk : Clk) (dat : Dat) (a b u : ℕ) : Type 0 where
   pub goes-on : run u P σ ≡ still → Quiet f a (suc b)
-  pub ends : (σ′ : Store) → run u P σ ≡ ended u σ′ → Ends m P U σ′ s f clk dat a b
+  pub ends : (σ′ : Store) → run u P σ ≡ ended u σ′ → Ended m P U σ′ s f clk dat a b
 
 abbrev pub RunOf : Memory → Stmt → Type 1
 RunOf m P =
@@ -48,7 +49,7 @@ RunOf m P =
 
 pub record Launched (m : Memory) (P : Stmt) (U : ℕ → Type 0) (σ : Store) (s f : Sig) (clk : Clk) (dat : Dat) (a u : ℕ) : Type 0 where
   pub goes-on : run u P σ ≡ still → Quiet f a (suc (a + u))
-  pub ends : (t : ℕ) (σ′ : Store) → run u P σ ≡ ended t σ′ → Ends m P U σ′ s f clk dat a (a + t)
+  pub ends : (t : ℕ) (σ′ : Store) → run u P σ ≡ ended t σ′ → Ended m P U σ′ s f clk dat a (a + t)
 
 module _ (m : Memory) (P : Stmt) (timed : Timed P) (does : RunOf m P)
     (U : ℕ → Type 0) (σ : Store) (s f : Sig) (clk : Clk) (dat : Dat) (a u : ℕ)
@@ -213,7 +214,7 @@ module _ (m : Memory) (P Q : Stmt) (timedP : Timed P) (timedQ : Timed Q) (doesP 
             (λ x i t l k. B .follow x i t l (omega arith)),
       ))
 
-  module _ (t₁ : ℕ) (σ₁ : Store) (o : t₁ ≤ u) (E : Ends m P U σ₁ s (n .mid) (n .clk₁) (n .dat₁) a (a + t₁)) where
+  module _ (t₁ : ℕ) (σ₁ : Store) (o : t₁ ≤ u) (E : Ended m P U σ₁ s (n .mid) (n .clk₁) (n .dat₁) a (a + t₁)) where
     -- the second part, where the first has ended
     seq-second : Launched m Q U σ₁ (n .mid) f (n .clk₂) (n .dat₂) (a + t₁) (u - t₁)
     unfolding touches
@@ -227,7 +228,8 @@ module _ (m : Memory) (P Q : Stmt) (timedP : Timed P) (timedQ : Timed Q) (doesP 
         rest m P timedP s (n .mid) (n .clk₁) (n .dat₁) (suc (a + t₁)) (suc (a + t₁ + v)) (E .calm) (omega arith)
         (λ t l k. B .after t (omega arith) (omega arith)) in (
           r .fin,
-          follow-right m U U (n .clk₁) (n .clk₂) clk (n .dat₁) (n .dat₂) dat (a + t₁) (a + t₁ + v) (n .joined)
+          follow-left m U U (n .clk₂) (n .clk₁) clk (n .dat₂) (n .dat₁) dat (a + t₁) (a + t₁ + v)
+              (joined-swap (n .clk₁) (n .clk₂) clk (n .dat₁) (n .dat₂) dat (n .joined))
               (calm-dull m P s (n .mid) (n .clk₁) (n .dat₁) a (n .left)) (λ x i. i)
               (λ x i t l k. cases (suc (a + t₁)) t (λ g. r .clocks x t g (omega arith)) (λ g. at (n .clk₁ x) (omega arith) (E .low x)))
               (λ x i t l k. B .follow x i t (omega arith) (omega arith)),
@@ -239,12 +241,12 @@ module _ (m : Memory) (P Q : Stmt) (timedP : Timed P) (timedQ : Timed Q) (doesP 
     seq-goes-on : run (u - t₁) Q σ₁ ≡ still → Quiet f a (suc b)
     seq-goes-on p = glue f a (a + t₁) (suc b) seq-quiet (λ t l k. seq-second .goes-on p t l (omega arith))
 
-    seq-ends : (t₂ : ℕ) (σ₂ : Store) → t₁ + t₂ ≡ u → run (u - t₁) Q σ₁ ≡ ended t₂ σ₂ → Ends m (seq P Q) U σ₂ s f clk dat a b
+    seq-ends : (t₂ : ℕ) (σ₂ : Store) → t₁ + t₂ ≡ u → run (u - t₁) Q σ₁ ≡ ended t₂ σ₂ → Ended m (seq P Q) U σ₂ s f clk dat a b
     unfolding Calm Net
     seq-ends t₂ σ₂ z p =
         let q : a + t₁ + t₂ ≡ b = omega arith in
-        let E₂ : Ends m Q U σ₂ (n .mid) f (n .clk₂) (n .dat₂) (a + t₁) b =
-        subst (λ (c : ℕ). Ends m Q U σ₂ (n .mid) f (n .clk₂) (n .dat₂) (a + t₁) c) q (seq-second .ends t₂ σ₂ p) in
+        let E₂ : Ended m Q U σ₂ (n .mid) f (n .clk₂) (n .dat₂) (a + t₁) b =
+        subst (λ (c : ℕ). Ended m Q U σ₂ (n .mid) f (n .clk₂) (n .dat₂) (a + t₁) c) q (seq-second .ends t₂ σ₂ p) in
         let r =
         rest m P timedP s (n .mid) (n .clk₁) (n .dat₁) (suc (a + t₁)) (suc b) (E .calm) (omega arith)
         (λ t l k. B .after t (omega arith) k) in

@@ -22,7 +22,7 @@ use Rattle.model.specs.Numbering.{exprCount, exprWire, exprCells, own, pulse, o
 use Rattle.model.specs.Circuit.{Values, level}
 use Rattle.model.specs.Word.{bit}
 use Rattle.theory.specs.Cells.{cellVal, Rule, Obeyed, split}
-use Rattle.theory.specs.Levels.{level-of, delayed-cong, delayed-zero, anyHigh, allOr, clkOf, datOf, joined, ||-false, merged-same}
+use Rattle.theory.specs.Levels.{level-of, delayed-cong, delayed-zero, anyHigh, allOr, clkOf, datOf, joined, ||-false}
 
 -- what a tree from an accepted program has: variables below 16 and operators of kinds 4 to 9
 abbrev pub WFe : Expr → Type 0
@@ -196,7 +196,7 @@ module _ (first : ℕ → ℕ) (W : Values) (M : ℕ) (m : ℕ → ℕ → ℕ) 
         left = struct P (w .0) s d c (rd .0) (rc .0);
         right = struct Q (w .1) s (d + delayCount P) (c + walkCount P) (rd .1) (rm .0);
         joined = joined W (clockSources P d) (clockSources Q (d + delayCount P)) (dataSources P c) (dataSources Q (c + walkCount P));
-        fin = λ t. level-of (Rattle.model.specs.Circuit.merged (level W f) (level W g) t) (rm .1 .0 t) ∙ merged-same (level W f) (level W g) t;
+        fin = λ t. level-of (merged (level W f) (level W g) t) (rm .1 .0 t);
         merge = tt }
   struct (ite δ e P Q) w s d c hd hw =
       let p = c + exprCount e in

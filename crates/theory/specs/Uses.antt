@@ -9,7 +9,8 @@ use Rattle.model.specs.Word.{pick, operate, isZero}
 use Rattle.model.specs.Program.{Expr, const, var, compl, op, Stmt, ok, tick, assign, seq, par, ite, while, repeat, reads, writes, touches}
 use Rattle.model.specs.Rules.{Store, Run, ended, still, wait, chain, both, over, kept, whiles, repeats, run, eval, put}
 use Rattle.theory.specs.Wiring.{Apart}
-use Rattle.theory.specs.RunLaws.{Body, by-bool, ended-words, ended-still, wait-ended, chain-ended, both-ended, whiles-stop, whiles-more, again, repeats-is, again-more, again-stop, ite-then, ite-else}
+use Rattle.theory.specs.Checks.{by-bool}
+use Rattle.theory.specs.RunLaws.{Body, ended-words, ended-still, wait-ended, chain-ended, both-ended, whiles-stop, whiles-more, again, repeats-is, again-more, again-stop, ite-then, ite-else}
 
 -- An expression's value depends on what it reads
 pub eval-same : (e : Expr) (σ τ : Store) → ((x : ℕ) → reads e x ≡ true → σ x ≡ τ x) → eval e σ ≡ eval e τ

@@ -1,0 +1,5 @@
+-- A netlist's equations have one solution, and its values are words.
+pub mod Shapes
+pub mod Unique
+pub mod Exists
+pub mod Bounds

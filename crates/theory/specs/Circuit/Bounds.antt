@@ -1,0 +1,97 @@
+-- Values that obey a netlist are words, below 65,536: where refusal 12 lets the netlist pass, and its start words and its cells' fields a, the
+-- constants among them, are words. Of a file of bytes these fields are. (That a control wire's value is 0 or 1 is Shapes' level-bound.)
+-- Assumes nothing.
+use mathlib.Core.Path.{_≡_}
+use mathlib.Core.Bool.{Bool, true, false, _&&_, not}
+use mathlib.Core.List.{List}
+use mathlib.Core.WellFounded.{WellFounded·induction}
+use Prim.Native.Nat.{ℕ, zero, suc, _+_, _<_}
+use native.Mathlib.Nat.{lt-suc-self}
+use native.Mathlib.Omega.{arith}
+use lib.Bits.{and-le-l, or-lt}
+use lib.Dec.{eqb}
+use lib.ListN.{length}
+use lib.WfN.{Nat·lt-wfRel}
+use Rattle.model.specs.declared.Cell.{Cell}
+use Rattle.model.specs.declared.Checked.the-variants.{Accepted}
+use Rattle.model.specs.Word.{pick, bit, operate, get16}
+use Rattle.model.specs.Circuit.{cellAt, Values, level, memory, equation, startWord, Obeys, Shape, shape, kConstant, kComplement, kOperator, kStart, kGround, kDelay, kOr, kWhenTrue, kWhenFalse, kMerge, kMemory, kGated, kUnknown}
+use Rattle.model.specs.NetlistFile.{cellFrom, cellsAt, inFile, cellsOf, countOf, finishOf, netCheck, fileCheck}
+use Rattle.model.specs.Promises.{Bytes}
+use Rattle.theory.specs.Circuit.Unique.{Looks, Ordered}
+use Rattle.theory.specs.NetlistFile.Passed.{net-ordered, file-passed}
+use Rattle.theory.specs.Circuit.Shapes.{bit-le}
+
+-- Operators ----------------------------------------------------------------------------------------------------------------------------
+
+bit-word : (b : Bool) → bit b < 65536
+bit-word b = omega (arith, bit-le b)
+
+pick-word : (b : Bool) {x y : ℕ} → x < 65536 → y < 65536 → pick b x y < 65536
+pick-word true h g = h
+pick-word false h g = g
+
+-- an operator's result is a word
+pub operate-word : (k x y : ℕ) → x < 65536 → y < 65536 → operate k x y < 65536
+unfolding operate
+operate-word k x y h g =
+    pick-word (eqb k 3) (omega arith)
+    (pick-word (eqb k 4) (omega arith)
+    (pick-word (eqb k 5) (omega arith)
+    (pick-word (eqb k 6) (omega (arith, and-le-l x y))
+    (pick-word (eqb k 7) (or-lt 16 x y h g)
+    (pick-word (eqb k 8) (bit-word _) (bit-word _))))))
+
+-- Cells --------------------------------------------------------------------------------------------------------------------------------
+
+module _ (n : ℕ) (W : Values) (first k : ℕ) (c : Cell) (a : c .a < 65536) (f : first < 65536) (l : k < n) where
+  -- a cell shows a word if all cells did before and the lower ones do
+  equation-word : (s : Shape) (t : ℕ) → Looks s n k c → ((u : ℕ) → u < t → (j : ℕ) → j < n → W j u < 65536)
+      → ((j : ℕ) → j < k → W j t < 65536) → equation s first W k c t < 65536
+  unfolding equation memory
+  equation-word kConstant t o past below = a
+  equation-word kComplement t o past below = operate-word 3 _ 0 (below (c .a) o) (omega arith)
+  equation-word kOperator t o past below = operate-word (c .kind) _ _ (below (c .a) (o .0)) (below (c .b) (o .1))
+  equation-word kStart t o past below = bit-word _
+  equation-word kGround t o past below = omega arith
+  equation-word kDelay t o past below = bit-word _
+  equation-word kOr t o past below = bit-word _
+  equation-word kWhenTrue t o past below = bit-word _
+  equation-word kWhenFalse t o past below = bit-word _
+  equation-word kMerge t o past below = bit-word _
+  equation-word kMemory zero o past below = f
+  equation-word kMemory (suc t) o past below =
+      pick-word (level W (c .a) t && not (level W (c .a) (suc t))) (past t (lt-suc-self t) (c .b) (o .1)) (past t (lt-suc-self t) k l)
+  equation-word kGated t o past below = pick-word (level W (c .a) t) (below (c .b) (o .1)) (omega arith)
+  equation-word kUnknown t o past below = omega arith
+
+-- Netlists -----------------------------------------------------------------------------------------------------------------------------
+
+-- every wire's value is a word, in a netlist that refusal 12 lets pass
+pub wires-bounded : (net : List Cell) (f : ℕ) → netCheck net f ≡ Accepted → ((k : ℕ) → k < length net → cellAt net k .a < 65536)
+    → (words : ℕ → ℕ) → ((x : ℕ) → words x < 65536)
+    → (W : Values) → Obeys net words W → (k : ℕ) → k < length net → (t : ℕ) → W k t < 65536
+unfolding Obeys Ordered
+wires-bounded net f e a words w W obeys k l t =
+    WellFounded·induction (Nat·lt-wfRel .wf) {C = λ u. (j : ℕ) → j < length net → W j u < 65536} t
+    (λ u past j. WellFounded·induction (Nat·lt-wfRel .wf) {C = λ j. j < length net → W j u < 65536} j
+    (λ j below lj.
+    rw (obeys j lj u)
+    (equation-word (length net) W (startWord net words j) j (cellAt net j) (a j lj) (w _) lj (shape (cellAt net j .kind)) u
+    (net-ordered net f e j lj) past (λ i li. below i li (omega arith)))))
+    k l
+
+-- Files --------------------------------------------------------------------------------------------------------------------------------
+
+-- a cell's field a, read from bytes, is a word
+field-word : (at : ℕ → ℕ) (s : List ℕ) → Bytes s → (k n i : ℕ) → cellAt (cellsAt at s k n) i .a < 65536
+unfolding cellsAt cellFrom get16
+field-word at s y k zero i = omega arith
+field-word at s y k (suc n) zero = omega (arith, y (at k + 2), y (at k + 2 + 1))
+field-word at s y k (suc n) (suc i) = field-word at s y (k + 1) n i
+
+-- every wire's value is a word, in the netlist of an accepted file
+pub file-bounded : (file : List ℕ) → Bytes file → fileCheck file ≡ Accepted → (words : ℕ → ℕ) → ((x : ℕ) → words x < 65536)
+    → (W : Values) → Obeys (cellsOf file) words W → (k : ℕ) → k < length (cellsOf file) → (t : ℕ) → W k t < 65536
+file-bounded file y e =
+    wires-bounded (cellsOf file) (finishOf file) (file-passed file e .cells) (λ k l. unfold cellsOf in field-word inFile file y 0 (countOf file) k)

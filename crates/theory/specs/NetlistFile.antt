@@ -1,0 +1,6 @@
+-- Netlist files are read as they were written.
+pub mod Passed
+pub mod CellBytes
+pub mod Blocks
+pub mod Files
+pub mod ReadWrite

@@ -1,0 +1,262 @@
+-- The structure theorem, first part: a statement's cells, wherever they stand, are a circuit of the statement.
+use mathlib.Core.Path.{_≡_, refl, sym, ap, ap₂, _∙_}
+use mathlib.Core.Logic.{_≢_}
+use mathlib.Core.Bool.{Bool, true, false, _&&_, _||_, not}
+use mathlib.Core.List.{List, [], _∷_, _++_}
+use Prim.Native.Nat.{ℕ, zero, suc, _+_, _<_, _≤_}
+use native.Mathlib.Nat.{add-assoc}
+use native.Mathlib.Omega.{arith}
+use lib.Dec.{eqb, leb, T, le→leb, eqb→eq, eqb-refl}
+use borrow.Author.Tests.{eq-eqb, ne-eqb, eqb-true, eqb-false}
+use lib.Bits.{bitOr, or-zero-r}
+use lib.ListN.{length, length-append}
+use Rattle.model.specs.Word.{pick}
+use Rattle.model.specs.Program.{Expr, const, var, compl, op, Stmt, ok, tick, assign, seq, par, ite, while, repeat}
+use Rattle.model.specs.Circuit.{Sig, delayed, merged}
+use Rattle.theory.specs.Control.Wiring.{Net, Plain, Assigned, Seq, Par, Ite, While, Repeat, Clk, Dat, Circuit, Mem, Joined}
+use Rattle.model.specs.Rules.{eval}
+use Rattle.model.specs.Word.{operate, isZero}
+use Rattle.model.specs.declared.Cell.{Cell}
+use Rattle.model.specs.Circuit.{cell}
+use Rattle.model.specs.Numbering.{exprCount, exprWire, exprCells, own, pulse, ownCell, delayCount, walkCount, finishWire, delays, walk, clockSources, dataSources, Source, wiresOf}
+use Rattle.model.specs.Circuit.{Values, level}
+use Rattle.model.specs.Word.{bit}
+use Rattle.theory.specs.Numbering.Cells.{cellVal, Rule, Obeyed, split}
+use Rattle.theory.specs.Numbering.Levels.{level-of, delayed-cong, delayed-zero, anyHigh, allOr, clkOf, datOf, joined, ||-false}
+
+-- what a tree from an accepted program has: variables below 16 and operators of kinds 4 to 9
+abbrev pub WFe : Expr → Type 0
+WFe (const n) = Unit {0}
+WFe (var x) = x < 16
+WFe (compl e) = WFe e
+WFe (op k e f) = (4 ≤ k) × (k ≤ 9) × WFe e × WFe f
+
+abbrev pub WF : Stmt → Type 0
+WF ok = Unit {0}
+WF (tick δ) = Unit {0}
+WF (assign δ x e) = (x < 16) × WFe e
+WF (seq P Q) = WF P × WF Q
+WF (par P Q) = WF P × WF Q
+WF (ite δ e P Q) = WFe e × WF P × WF Q
+WF (while δ e P) = WFe e × WF P
+WF (repeat δ e P) = WFe e × WF P
+
+-- the lengths
+pub e-len : (M : ℕ) (e : Expr) (c : ℕ) → length (exprCells M e c) ≡ exprCount e
+unfolding exprCells exprCount
+e-len M (const n) c = refl
+e-len M (var x) c = refl
+e-len M (compl e) c = simp (length-append, e-len M e c) (omega arith)
+e-len M (op k e f) c = simp (length-append, e-len M e c, e-len M f (c + exprCount e)) (omega arith)
+
+pub own-len : (δ s : ℕ) → length (ownCell δ s) ≡ own δ
+unfolding ownCell own
+own-len zero s = refl
+own-len (suc δ) s = refl
+
+pub d-len : (P : Stmt) (s d c : ℕ) → length (delays P s d c) ≡ delayCount P
+unfolding delays delayCount
+d-len ok s d c = refl
+d-len (tick δ) s d c = refl
+d-len (assign δ x e) s d c = refl
+d-len (seq P Q) s d c = simp (length-append, d-len P s d c, d-len Q (finishWire P s d c) (d + delayCount P) (c + walkCount P))
+d-len (par P Q) s d c = simp (length-append, d-len P s d c, d-len Q s (d + delayCount P) (c + walkCount P))
+d-len (ite δ e P Q) s d c =
+    simp (
+      length-append,
+      own-len,
+      d-len P (c + exprCount e) (d + own δ) (c + exprCount e + 1 + 1),
+      d-len Q (c + exprCount e + 1) (d + own δ + delayCount P) (c + exprCount e + 1 + 1 + walkCount P),
+    )
+d-len (while δ e P) s d c = rw (d-len P (c + exprCount e) (d + 1) (c + exprCount e + 1 + 1)) (omega arith)
+d-len (repeat δ e P) s d c = rw (d-len P (c + exprCount e + 1 + 1) (d + 1) (c + exprCount e + 1 + 1 + 1)) (omega arith)
+
+pub w-len : (M : ℕ) (P : Stmt) (s d c : ℕ) → length (walk M P s d c) ≡ walkCount P
+unfolding walk walkCount
+w-len M ok s d c = refl
+w-len M (tick δ) s d c = refl
+w-len M (assign δ x e) s d c = simp (length-append, e-len)
+w-len M (seq P Q) s d c = simp (length-append, w-len M P s d c, w-len M Q (finishWire P s d c) (d + delayCount P) (c + walkCount P))
+w-len M (par P Q) s d c = simp (length-append, w-len M P s d c, w-len M Q s (d + delayCount P) (c + walkCount P))
+w-len M (ite δ e P Q) s d c =
+    simp (
+      length-append,
+      e-len,
+      w-len M P (c + exprCount e) (d + own δ) (c + exprCount e + 1 + 1),
+      w-len M Q (c + exprCount e + 1) (d + own δ + delayCount P) (c + exprCount e + 1 + 1 + walkCount P),
+    )
+    (omega arith)
+w-len M (while δ e P) s d c = simp (length-append, e-len, w-len M P (c + exprCount e) (d + 1) (c + exprCount e + 1 + 1)) (omega arith)
+w-len M (repeat δ e P) s d c = simp (length-append, e-len, w-len M P (c + exprCount e + 1 + 1) (d + 1) (c + exprCount e + 1 + 1 + 1)) (omega arith)
+
+pub is-true : (b : Bool) → T b → b ≡ true
+is-true true z = refl
+is-true false z = absurd z
+
+pub is-false : (b : Bool) → (T b → ⊥) → b ≡ false
+is-false true z = absurd (z tt)
+is-false false z = refl
+
+op-rule : (first : ℕ) (W : Values) (p k x y t : ℕ) → 4 ≤ k → k ≤ 9 → cellVal first W p (cell k 0 x y) t ≡ operate k (W x t) (W y t)
+unfolding cellVal
+op-rule first W p k x y t h h′ = rw (is-true (leb 4 k) (le→leb 4 k h), is-true (leb k 9) (le→leb k 9 h′))
+
+module _ (first : ℕ → ℕ) (W : Values) (M : ℕ) (m : ℕ → ℕ → ℕ) (shows : (x t : ℕ) → x < 16 → m t x ≡ W (M + x) t) where
+  pub expr : (e : Expr) → WFe e → (c : ℕ) → Obeyed first W c (exprCells M e c) → (t : ℕ) → W (exprWire M e c) t ≡ eval e (m t)
+  unfolding exprCells exprWire exprCount eval cellVal
+  expr (const n) w c h t = h .0 t
+  expr (var x) w c h t = sym (shows x t w)
+  expr (compl e) w c h t =
+      let r = split (Rule first W) c (exprCount e) (exprCells M e c) (cell 3 0 (exprWire M e c) 0 ∷ []) (e-len M e c) h in
+      r .1 .0 t ∙ ap (λ (x : ℕ). operate 3 x 0) (expr e w c (r .0) t)
+  expr (op k e f) w c h t =
+      let r = split (Rule first W) c (exprCount e) (exprCells M e c) (exprCells M f (c + exprCount e) ++ (cell k 0 (exprWire M e c) (exprWire M f (c + exprCount e)) ∷ [])) (e-len M e c) h in
+      let q = split (Rule first W) (c + exprCount e) (exprCount f) (exprCells M f (c + exprCount e)) (cell k 0 (exprWire M e c) (exprWire M f (c + exprCount e)) ∷ []) (e-len M f (c + exprCount e)) (r .1) in
+      q .1 .0 t
+      ∙ op-rule (first (c + exprCount e + exprCount f)) W (c + exprCount e + exprCount f) k (exprWire M e c) (exprWire M f (c + exprCount e)) t (w .0) (w .1)
+      ∙ ap₂ (λ (x y : ℕ). operate k x y) (expr e (w .2) c (r .0) t) (expr f (w .3) (c + exprCount e) (q .0) t)
+
+  pulse-is : (δ s d : ℕ) → Obeyed first W d (ownCell δ s) → (t : ℕ) → level W (pulse δ s d) t ≡ delayed δ (level W s) t
+  unfolding ownCell pulse cellVal
+  pulse-is zero s d h t = sym (delayed-zero (level W s) t)
+  pulse-is (suc δ) s d h t = level-of (delayed (suc δ) (level W s) t) (h .0 t)
+
+  -- the statement's circuit from its start s, if its delay cells stand at d and its walk cells at c
+  abbrev pub Cells : Stmt → ℕ → ℕ → ℕ → Type 0
+  Cells P s d c = Circuit m P (level W s) (level W (finishWire P s d c)) (clkOf W (clockSources P d)) (datOf W (dataSources P c))
+
+  -- the two switches
+  yes-is : (k a b t : ℕ) {v : ℕ} {D : Bool} → W k t ≡ bit (level W a t && not (eqb (W b t) 0)) → level W a t ≡ D → W b t ≡ v → level W k t ≡ D && not (isZero v)
+  yes-is k a b t h p q = level-of (level W a t && not (eqb (W b t) 0)) h ∙ ap₂ (λ (x : Bool) (y : ℕ). x && not (eqb y 0)) p q
+
+  no-is : (k a b t : ℕ) {v : ℕ} {D : Bool} → W k t ≡ bit (level W a t && eqb (W b t) 0) → level W a t ≡ D → W b t ≡ v → level W k t ≡ D && isZero v
+  no-is k a b t h p q = level-of (level W a t && eqb (W b t) 0) h ∙ ap₂ (λ (x : Bool) (y : ℕ). x && eqb y 0) p q
+
+  -- an assignment's contributions
+  own-clock : (x d y t : ℕ) → clkOf W ((x, d) ∷ []) y t ≡ pick (eqb y x) (level W d t) false
+  unfolding wiresOf anyHigh
+  own-clock x d y t = go (eqb x y) refl
+    where
+      go : (b : Bool) → eqb x y ≡ b → anyHigh W (pick (eqb x y) (d ∷ []) []) t ≡ pick (eqb y x) (level W d t) false
+      go true e = rw (e, eq-eqb y x (sym (eqb-true x y e))) (||-false (level W d t))
+      go false e = rw (e, ne-eqb y x (λ z. eqb-false x y e (sym z)))
+
+  own-data : (x g y t : ℕ) → datOf W ((x, g) ∷ []) y t ≡ pick (eqb y x) (W g t) 0
+  unfolding wiresOf allOr
+  own-data x g y t = go (eqb x y) refl
+    where
+      go : (b : Bool) → eqb x y ≡ b → allOr W (pick (eqb x y) (g ∷ []) []) t ≡ pick (eqb y x) (W g t) 0
+      go true e = rw (e, eq-eqb y x (sym (eqb-true x y e))) (or-zero-r (W g t))
+      go false e = rw (e, ne-eqb y x (λ z. eqb-false x y e (sym z)))
+
+  pub struct : (P : Stmt) → WF P → (s d c : ℕ)
+      → Obeyed first W d (delays P s d c) → Obeyed first W c (walk M P s d c)
+      → Cells P s d c
+  unfolding Circuit Net delays walk finishWire clockSources dataSources cellVal delayCount walkCount anyHigh allOr wiresOf
+  struct ok w s d c hd hw = record { fin = λ t. refl; clocks = λ y t. refl; words = λ y t. refl }
+  struct (tick δ) w s d c hd hw = (record { fin = λ t. level-of (delayed δ (level W s) t) (hd .0 t); clocks = λ y t. refl; words = λ y t. refl }, tt)
+  struct (assign δ x e) w s d c hd hw =
+      let r = split (Rule first W) c (exprCount e) (exprCells M e c) (cell 41 0 d (exprWire M e c) ∷ []) (e-len M e c) hw in
+      let D : (t : ℕ) → level W d t ≡ delayed δ (level W s) t = λ t. level-of (delayed δ (level W s) t) (hd .0 t) in (
+        record {
+          fin = λ t. level-of (delayed 1 (level W d) t) (hd .1 .0 t) ∙ delayed-cong 1 D t;
+          clocks = λ y t. own-clock x d y t ∙ ap (λ (b : Bool). pick (eqb y x) b false) (D t);
+          words = λ y t.
+              own-data x (c + exprCount e) y t
+              ∙ ap (λ (v : ℕ). pick (eqb y x) v 0) (r .1 .0 t ∙ ap₂ (λ (p : Bool) (v : ℕ). pick p v 0) (D t) (expr e (w .1) c (r .0) t)) },
+        tt,
+        tt,
+      )
+  struct (seq P Q) w s d c hd hw =
+      let g = finishWire P s d c in
+      let rd = split (Rule first W) d (delayCount P) (delays P s d c) (delays Q g (d + delayCount P) (c + walkCount P)) (d-len P s d c) hd in
+      let rc = split (Rule first W) c (walkCount P) (walk M P s d c) (walk M Q g (d + delayCount P) (c + walkCount P)) (w-len M P s d c) hw in
+      record {
+        mid = level W g;
+        clk₁ = clkOf W (clockSources P d);
+        dat₁ = datOf W (dataSources P c);
+        clk₂ = clkOf W (clockSources Q (d + delayCount P));
+        dat₂ = datOf W (dataSources Q (c + walkCount P));
+        left = struct P (w .0) s d c (rd .0) (rc .0);
+        right = struct Q (w .1) g (d + delayCount P) (c + walkCount P) (rd .1) (rc .1);
+        joined = joined W (clockSources P d) (clockSources Q (d + delayCount P)) (dataSources P c) (dataSources Q (c + walkCount P)) }
+  struct (par P Q) w s d c hd hw =
+      let f = finishWire P s d c in
+      let g = finishWire Q s (d + delayCount P) (c + walkCount P) in
+      let rd = split (Rule first W) d (delayCount P) (delays P s d c) (delays Q s (d + delayCount P) (c + walkCount P)) (d-len P s d c) hd in
+      let rc = split (Rule first W) c (walkCount P) (walk M P s d c) (walk M Q s (d + delayCount P) (c + walkCount P) ++ (cell 38 0 f g ∷ [])) (w-len M P s d c) hw in
+      let rm = split (Rule first W) (c + walkCount P) (walkCount Q) (walk M Q s (d + delayCount P) (c + walkCount P)) (cell 38 0 f g ∷ []) (w-len M Q s (d + delayCount P) (c + walkCount P)) (rc .1) in
+      record {
+        f₁ = level W f;
+        clk₁ = clkOf W (clockSources P d);
+        dat₁ = datOf W (dataSources P c);
+        f₂ = level W g;
+        clk₂ = clkOf W (clockSources Q (d + delayCount P));
+        dat₂ = datOf W (dataSources Q (c + walkCount P));
+        left = struct P (w .0) s d c (rd .0) (rc .0);
+        right = struct Q (w .1) s (d + delayCount P) (c + walkCount P) (rd .1) (rm .0);
+        joined = joined W (clockSources P d) (clockSources Q (d + delayCount P)) (dataSources P c) (dataSources Q (c + walkCount P));
+        fin = λ t. level-of (merged (level W f) (level W g) t) (rm .1 .0 t);
+        merge = tt }
+  struct (ite δ e P Q) w s d c hd hw =
+      let p = c + exprCount e in
+      let dP = d + own δ in
+      let cP = p + 1 + 1 in
+      let f = finishWire P p dP cP in
+      let g = finishWire Q (p + 1) (dP + delayCount P) (cP + walkCount P) in
+      let ro = split (Rule first W) d (own δ) (ownCell δ s) (delays P p dP cP ++ delays Q (p + 1) (dP + delayCount P) (cP + walkCount P)) (own-len δ s) hd in
+      let rd = split (Rule first W) dP (delayCount P) (delays P p dP cP) (delays Q (p + 1) (dP + delayCount P) (cP + walkCount P)) (d-len P p dP cP) (ro .1) in
+      let o6 = cell 36 0 (pulse δ s d) (exprWire M e c) in
+      let o7 = cell 37 0 (pulse δ s d) (exprWire M e c) in
+      let tail = walk M Q (p + 1) (dP + delayCount P) (cP + walkCount P) ++ (cell 35 0 f g ∷ []) in
+      let re = split (Rule first W) c (exprCount e) (exprCells M e c) (o6 ∷ (o7 ∷ (walk M P p dP cP ++ tail))) (e-len M e c) hw in
+      let rP = split (Rule first W) cP (walkCount P) (walk M P p dP cP) tail (w-len M P p dP cP) (re .1 .1 .1) in
+      let rQ = split (Rule first W) (cP + walkCount P) (walkCount Q) (walk M Q (p + 1) (dP + delayCount P) (cP + walkCount P)) (cell 35 0 f g ∷ []) (w-len M Q (p + 1) (dP + delayCount P) (cP + walkCount P)) (rP .1) in
+      let D : (t : ℕ) → level W (pulse δ s d) t ≡ delayed δ (level W s) t = pulse-is δ s d (ro .0) in
+      let E : (t : ℕ) → W (exprWire M e c) t ≡ eval e (m t) = expr e (w .0) c (re .0) in
+      record {
+        s₁ = level W p;
+        f₁ = level W f;
+        clk₁ = clkOf W (clockSources P dP);
+        dat₁ = datOf W (dataSources P cP);
+        s₂ = level W (p + 1);
+        f₂ = level W g;
+        clk₂ = clkOf W (clockSources Q (dP + delayCount P));
+        dat₂ = datOf W (dataSources Q (cP + walkCount P));
+        left = struct P (w .1) p dP cP (rd .0) (rP .0);
+        right = struct Q (w .2) (p + 1) (dP + delayCount P) (cP + walkCount P) (rd .1) (rQ .0);
+        joined = joined W (clockSources P dP) (clockSources Q (dP + delayCount P)) (dataSources P cP) (dataSources Q (cP + walkCount P));
+        yes₁ = λ t. yes-is p (pulse δ s d) (exprWire M e c) t (re .1 .0 t) (D t) (E t);
+        no₂ = λ t. no-is (p + 1) (pulse δ s d) (exprWire M e c) t (re .1 .1 .0 t) (D t) (E t);
+        fin = λ t. level-of (level W f t || level W g t) (rQ .1 .0 t);
+        delay = tt }
+  struct (while δ e P) w s d c hd hw =
+      let p = c + exprCount e in
+      let cP = p + 1 + 1 in
+      let f = finishWire P p (d + 1) cP in
+      let re = split (Rule first W) c (exprCount e) (exprCells M e c) _ (e-len M e c) hw in
+      let rP = split (Rule first W) cP (walkCount P) (walk M P p (d + 1) cP) (cell 35 0 s f ∷ []) (w-len M P p (d + 1) cP) (re .1 .1 .1) in
+      let D : (t : ℕ) → level W d t ≡ delayed δ (λ u. level W s u || level W f u) t =
+      λ t. level-of (delayed δ (level W (cP + walkCount P)) t) (hd .0 t) ∙ delayed-cong δ (λ u. level-of (level W s u || level W f u) (rP .1 .0 u)) t in
+      let E : (t : ℕ) → W (exprWire M e c) t ≡ eval e (m t) = expr e (w .0) c (re .0) in
+      record {
+        s₁ = level W p;
+        f₁ = level W f;
+        body = struct P (w .1) p (d + 1) cP (hd .1) (rP .0);
+        begin = λ t. yes-is p d (exprWire M e c) t (re .1 .0 t) (D t) (E t);
+        fin = λ t. no-is (p + 1) d (exprWire M e c) t (re .1 .1 .0 t) (D t) (E t);
+        delay = tt }
+  struct (repeat δ e P) w s d c hd hw =
+      let p = c + exprCount e in
+      let cP = p + 1 + 1 + 1 in
+      let f = finishWire P (p + 1 + 1) (d + 1) cP in
+      let re = split (Rule first W) c (exprCount e) (exprCells M e c) _ (e-len M e c) hw in
+      let D : (t : ℕ) → level W d t ≡ delayed δ (level W f) t = λ t. level-of (delayed δ (level W f) t) (hd .0 t) in
+      let E : (t : ℕ) → W (exprWire M e c) t ≡ eval e (m t) = expr e (w .0) c (re .0) in
+      record {
+        s₁ = level W (p + 1 + 1);
+        f₁ = level W f;
+        body = struct P (w .1) (p + 1 + 1) (d + 1) cP (hd .1) (re .1 .1 .1 .1);
+        begin = λ t. level-of (level W s t || level W (p + 1) t) (re .1 .1 .1 .0 t) ∙ ap (λ (b : Bool). level W s t || b) (no-is (p + 1) d (exprWire M e c) t (re .1 .1 .0 t) (D t) (E t));
+        fin = λ t. yes-is p d (exprWire M e c) t (re .1 .0 t) (D t) (E t);
+        delay = tt }

@@ -1,0 +1,3 @@
+-- Programs: what the check accepts.
+pub mod Accepted
+pub mod Size

@@ -1,0 +1,242 @@
+-- Acceptance: an accepted program's tree has variables below 16, operators of kinds 4 to 9, delays that are large enough, and parallel sides
+-- that are apart. What is said of delays holds under any operator times.
+-- Assumes nothing.
+use mathlib.Core.Path.{_≡_, refl, sym, _∙_, ap}
+use mathlib.Core.Bool.{Bool, true, false, _&&_, _||_}
+use mathlib.Core.List.{List, [], _∷_}
+use Prim.Native.Nat.{ℕ, zero, suc, _+_, _-_, _%_, _≤_, _<_}
+use native.Mathlib.Omega.{arith}
+use native.Mathlib.Decide.{ℕ-discrete, decLt}
+use lib.ListN.{length, getD, drop}
+use lib.Dec.{ltb, eqb}
+use borrow.Author.Tests.{ltb-false, ltb-true, eqb-true, eqb-false}
+use Rattle.model.specs.declared.Node.{Node}
+use Rattle.model.specs.declared.Row.{Row}
+use Rattle.model.specs.declared.Checked.{Checked}
+use Rattle.model.specs.declared.Checked.the-variants.{Accepted}
+use Rattle.model.specs.Word.{pick}
+use Rattle.model.specs.Refusals.{first, firstFault, faultIf}
+use Rattle.model.specs.Program.{Expr, const, var, compl, op, Stmt, ok, tick, assign, seq, par, ite, while, repeat, Tree, expr, stmt, none, asExpr, asStmt, exprOf, stmtOf, treeOf, arity, grow, forest, treesAt, stmtAt, nodeCount, nodeAt, nodesFrom, nodesAt, rowOf, programOf, time, paperTime, least, reads, writes, touches, clash, clashes, programLengthWrong, spare, faultOf, reading, slowAt, clashAt, programChecks, checkOf}
+use Rattle.theory.specs.Control.Wiring.{Timed, Apart, Separate}
+use Rattle.theory.specs.Refusals.Laws.{by-bool, all-accept, refuse-unless, fault-unless, first-place}
+use Rattle.theory.specs.Control.Uses.{or-left, or-right}
+use Rattle.theory.specs.Numbering.Structure.{WFe, WF}
+
+-- Nodes without fault ------------------------------------------------------------------------------------------------------------------
+
+pub by-test : {A : Type 0} (R : A → Type 0) (b : Bool) (u v : A) → (b ≡ true → R u) → (b ≡ false → R v) → R (pick b u v)
+by-test R true u v f g = f refl
+by-test R false u v f g = g refl
+
+pub known : (a : Node) → faultOf a ≡ 0 → rowOf (a .kind) .sort ≡ 0 → ⊥
+unfolding faultOf
+known a f z = omega (arith, rw z at f)
+
+unknown-at : (k j : ℕ) → k ≡ j → rowOf j .sort ≡ 0 → rowOf k .sort ≡ 0
+unknown-at k j e h = ap (λ (k : ℕ). rowOf k .sort) e ∙ h
+
+-- an expression's kind that is not 1, 2 or 3 is 4 to 9: it is not the next, and so at least the one after that
+next : (k j : ℕ) → j ≤ k → (k ≡ j → ⊥) → suc j ≤ k
+next k j l n = omega arith
+
+below : (k j : ℕ) → k ≤ j → (k ≡ j → ⊥) → k ≤ j - 1
+below k j l n = omega arith
+
+pub op-kind : (a : Node) → faultOf a ≡ 0 → a .kind < 16 → (a .kind ≡ 1 → ⊥) → (a .kind ≡ 2 → ⊥) → (a .kind ≡ 3 → ⊥) → (4 ≤ a .kind) × (a .kind ≤ 9)
+unfolding rowOf
+op-kind a f l n1 n2 n3 = (
+  next k 3 (next k 2 (next k 1 (next k 0 (omega arith) (no 0 refl)) n1) n2) n3,
+  below k 10 (below k 11 (below k 12 (below k 13 (below k 14 (below k 15 (omega arith) (no 15 refl)) (no 14 refl)) (no 13 refl)) (no 12 refl)) (no 11 refl)) (no 10 refl),
+)
+  where
+    k : ℕ
+    k = a .kind
+    no : (j : ℕ) → rowOf j .sort ≡ 0 → k ≡ j → ⊥
+    no j h e = known a f (unknown-at (a .kind) j e h)
+
+low-number : (n : ℕ) → faultIf (ltb 15 n) 4 ≡ 0 → n < 16
+low-number n e = omega (arith, ltb-false 15 n (fault-unless (ltb 15 n) 4 (omega arith) e))
+
+no-spare : (b : Bool) (x : ℕ) → _≡_ {A = ℕ} (pick b 3 x) 0 → x ≡ 0
+no-spare true x e = absurd (omega (arith, e))
+no-spare false x e = e
+
+var-low : (a : Node) → a .kind ≡ 2 → faultOf a ≡ 0 → a .n < 16
+unfolding faultOf rowOf spare
+var-low a e f = low-number (a .n) (no-spare (ltb 0 (a .delay) || false) _ (rw e at f))
+
+assign-low : (a : Node) → a .kind ≡ 18 → faultOf a ≡ 0 → a .n < 16
+unfolding faultOf rowOf spare
+assign-low a e f = low-number (a .n) (rw e at f)
+
+-- What a program writes is below 16 ------------------------------------------------------------------------------------------------------------
+
+or-cases : {A : Type 0} (a b : Bool) → (a || b) ≡ true → (a ≡ true → A) → (b ≡ true → A) → A
+or-cases true b e f g = f refl
+or-cases false b e f g = g e
+
+written-low : (P : Stmt) → WF P → (x : ℕ) → writes P x ≡ true → x < 16
+unfolding writes
+written-low ok w x e = let z : _≡_ {A = ℕ} 0 1 = cc in absurd (omega arith)
+written-low (tick d) w x e = let z : _≡_ {A = ℕ} 0 1 = cc in absurd (omega arith)
+written-low (assign d y e′) w x e = let q : x ≡ y = eqb-true x y e in omega (arith, w .0)
+written-low (seq P Q) w x e = or-cases (writes P x) (writes Q x) e (written-low P (w .0) x) (written-low Q (w .1) x)
+written-low (par P Q) w x e = or-cases (writes P x) (writes Q x) e (written-low P (w .0) x) (written-low Q (w .1) x)
+written-low (ite d e′ P Q) w x e = or-cases (writes P x) (writes Q x) e (written-low P (w .1) x) (written-low Q (w .2) x)
+written-low (while d e′ P) w x e = written-low P (w .1) x e
+written-low (repeat d e′ P) w x e = written-low P (w .1) x e
+
+no-clash : (n : ℕ) (P Q : Stmt) → clash n P Q ≡ false → (x : ℕ) → x < n
+    → ((writes P x && touches Q x) ≡ false) × ((writes Q x && touches P x) ≡ false)
+unfolding clash
+no-clash zero P Q e x l = absurd (omega arith)
+no-clash (suc n) P Q e x l = go (ℕ-discrete x n) (no-clash n P Q (or-right ((writes P n && touches Q n) || (writes Q n && touches P n)) (clash n P Q) e) x)
+  where
+    go : Dec (x ≡ n) → (x < n → ((writes P x && touches Q x) ≡ false) × ((writes Q x && touches P x) ≡ false)) → ((writes P x && touches Q x) ≡ false) × ((writes Q x && touches P x) ≡ false)
+    go (yes q) r =
+        let h = or-left ((writes P n && touches Q n) || (writes Q n && touches P n)) (clash n P Q) e in
+        rw q (or-left (writes P n && touches Q n) (writes Q n && touches P n) h, or-right (writes P n && touches Q n) (writes Q n && touches P n) h)
+    go (no q) r = r (omega arith)
+
+and-not : (a b : Bool) → (a && b) ≡ false → a ≡ true → b ≡ false
+and-not true b e h = e
+and-not false b e h = cc
+
+apart : (P Q : Stmt) → WF P → WF Q → clash 16 P Q ≡ false → Apart P Q × Apart Q P
+unfolding Apart
+apart P Q w v e = (
+  (λ x h. and-not (writes P x) (touches Q x) (no-clash 16 P Q e x (written-low P w x h) .0) h),
+  (λ x h. and-not (writes Q x) (touches P x) (no-clash 16 P Q e x (written-low Q v x h) .1) h),
+)
+
+-- Trees ----------------------------------------------------------------------------------------------------------------------------------------
+
+pub record Fit (P : Stmt) : Type 0 where
+  pub formed : WF P
+  pub timed : Timed P
+  pub separate : Separate P
+
+abbrev FitT : Tree → Type 0
+FitT (expr e) = WFe e
+FitT (stmt P) = Fit P
+
+fit-e : (t : Tree) → FitT t → WFe (asExpr t)
+unfolding asExpr
+fit-e (expr e) h = h
+fit-e (stmt P) h = tt
+
+ok-fit : Fit ok
+unfolding Timed Separate
+ok-fit = record { formed = tt; timed = tt; separate = tt }
+
+fit-s : (t : Tree) → FitT t → Fit (asStmt t)
+unfolding asStmt
+fit-s (expr e) h = ok-fit
+fit-s (stmt P) h = h
+
+module _ (τ : ℕ → ℕ) (a : Node) (f : faultOf a ≡ 0) where
+  fit-expr : (e g : Expr) → a .kind < 16 → WFe e → WFe g → WFe (exprOf a e g)
+  unfolding exprOf
+  fit-expr e g l p q =
+      by-test WFe (eqb (a .kind) 1) _ _ (λ t. tt)
+      (λ n1. by-test WFe (eqb (a .kind) 2) _ _ (λ t. var-low a (eqb-true _ _ t) f)
+      (λ n2. by-test WFe (eqb (a .kind) 3) _ _ (λ t. p)
+      (λ n3. let k = op-kind a f l (eqb-false _ _ n1) (eqb-false _ _ n2) (eqb-false _ _ n3) in (k .0, k .1, p, q))))
+
+  abbrev Fits : Stmt → Type 0
+  Fits S = least τ S ≤ a .delay → clashes S ≡ false → Fit S
+
+  fit-stmt : (e : Expr) (O P Q : Stmt) → WFe e → Fit O → Fit P → Fit Q → Fits (stmtOf a e O P Q)
+  unfolding stmtOf Timed Separate least clashes
+  fit-stmt e O P Q w o p q =
+      by-test Fits (eqb (a .kind) 16) _ _ (λ t h c. ok-fit)
+      (λ n. by-test Fits (eqb (a .kind) 17) _ _ (λ t h c. record { formed = tt; timed = h; separate = tt })
+      (λ n. by-test Fits (eqb (a .kind) 18) _ _
+        (λ t h c. record { formed = (assign-low a (eqb-true _ _ t) f, w); timed = omega arith; separate = tt })
+      (λ n. by-test Fits (eqb (a .kind) 19) _ _
+        (λ t h c. record { formed = (o .formed, p .formed); timed = (o .timed, p .timed); separate = (o .separate, p .separate) })
+      (λ n. by-test Fits (eqb (a .kind) 20) _ _
+        (λ t h c.
+          let d = apart O P (o .formed) (p .formed) c in
+          record { formed = (o .formed, p .formed); timed = (o .timed, p .timed); separate = (o .separate, p .separate, d .0, d .1) })
+      (λ n. by-test Fits (eqb (a .kind) 21) _ _
+        (λ t h c. record { formed = (w, p .formed, q .formed); timed = (p .timed, q .timed); separate = (p .separate, q .separate) })
+      (λ n. by-test Fits (eqb (a .kind) 22) _ _
+        (λ t h c. record { formed = (w, p .formed); timed = (omega arith, p .timed); separate = p .separate })
+        (λ n h c. record { formed = (w, p .formed); timed = (omega arith, p .timed); separate = p .separate })))))))
+
+  fit-tree : (x y z : Tree) → FitT x → FitT y → FitT z
+      → least τ (asStmt (treeOf a x y z)) ≤ a .delay → clashes (asStmt (treeOf a x y z)) ≡ false → FitT (treeOf a x y z)
+  unfolding treeOf asStmt
+  fit-tree x y z p q r =
+      by-test (λ (t : Tree). least τ (asStmt t) ≤ a .delay → clashes (asStmt t) ≡ false → FitT t) (ltb (a .kind) 16) _ _
+      (λ l h c. fit-expr (asExpr x) (asExpr y) (ltb-true _ _ l) (fit-e x p) (fit-e y q))
+      (λ l h c. fit-stmt (asExpr x) (asStmt x) (asStmt y) (asStmt z) (fit-e x p) (fit-s x p) (fit-s y q) (fit-s z r) h c)
+
+abbrev AllFit : List Tree → Type 0
+AllFit [] = Unit {0}
+AllFit (t ∷ ts) = FitT t × AllFit ts
+
+fit-at : (ts : List Tree) (k : ℕ) → AllFit ts → FitT (getD ts k none)
+fit-at [] zero h = tt
+fit-at [] (suc k) h = tt
+fit-at (t ∷ ts) zero h = h .0
+fit-at (t ∷ ts) (suc k) h = fit-at ts k (h .1)
+
+fit-drop : (ts : List Tree) (k : ℕ) → AllFit ts → AllFit (drop k ts)
+fit-drop [] zero h = tt
+fit-drop [] (suc k) h = tt
+fit-drop (t ∷ ts) zero h = h
+fit-drop (t ∷ ts) (suc k) h = fit-drop ts k (h .1)
+
+-- What the check passed, with operator times τ -----------------------------------------------------------------------------------------
+
+pub record Passed (τ : ℕ → ℕ) (s : List ℕ) : Type 0 where
+  pub lengths : programLengthWrong s ≡ false
+  pub faults : (i : ℕ) → i < nodeCount s → faultOf (nodeAt s i) ≡ 0
+  pub whole : reading (2 ∷ []) 0 (nodesAt s 0) ≡ Accepted
+  pub delays : (i : ℕ) → i < nodeCount s → least τ (stmtAt s i) ≤ nodeAt s i .delay
+  pub sides : (i : ℕ) → i < nodeCount s → clashes (stmtAt s i) ≡ false
+
+pub passed : (τ : ℕ → ℕ) (s : List ℕ) → first (programChecks τ s) ≡ Accepted → Passed τ s
+unfolding slowAt clashAt
+passed τ s e =
+    let a = all-accept (programChecks τ s) e in
+    record {
+      lengths = refuse-unless (programLengthWrong s) 1 0 (a 0);
+      faults = first-place (λ i. faultOf (nodeAt s i)) (nodeCount s) .none (a 1);
+      whole = a 2;
+      delays = λ i l.
+          let slow = ltb (nodeAt s i .delay) (least τ (stmtAt s i)) in
+          ltb-false _ _ (fault-unless slow 7 (omega arith) (first-place (slowAt τ s) (nodeCount s) .none (a 3) i l));
+      sides = λ i l. fault-unless (clashes (stmtAt s i)) 8 (omega arith) (first-place (clashAt s) (nodeCount s) .none (a 4) i l);
+    }
+
+-- the trees from node i on are those of the nodes that are left
+pub trees-from : (s : List ℕ) (i n : ℕ) → i + n ≡ nodeCount s → treesAt s i ≡ forest (nodesFrom s i n)
+unfolding treesAt
+trees-from s i n e = ap (λ (m : ℕ). forest (nodesFrom s i m)) (omega arith)
+
+module _ (τ : ℕ → ℕ) (s : List ℕ) (p : Passed τ s) where
+  fit-forest : (i n : ℕ) → i + n ≡ nodeCount s → AllFit (forest (nodesFrom s i n))
+  unfolding nodesFrom forest grow stmtAt
+  fit-forest i zero e = tt
+  fit-forest i (suc n) e =
+      let F = forest (nodesFrom s (i + 1) n) in
+      let h = fit-forest (i + 1) n (omega arith) in
+      let l : i < nodeCount s = omega arith in
+      let t = trees-from s i (suc n) e in
+      (
+        fit-tree τ (nodeAt s i) (p .faults i l) _ _ _ (fit-at F 0 h) (fit-at F 1 h) (fit-at F 2 h) (rw t at (p .delays i l)) (rw t at (p .sides i l)),
+        fit-drop F (arity (nodeAt s i .kind)) h,
+      )
+
+  pub tree-fit : Fit (programOf s)
+  unfolding stmtAt
+  tree-fit =
+      let t = trees-from s 0 (nodeCount s) (omega arith) in
+      rw t (fit-s _ (fit-at (forest (nodesFrom s 0 (nodeCount s))) 0 (fit-forest 0 (nodeCount s) (omega arith))))
+
+pub program-fit : (s : List ℕ) → checkOf s ≡ Accepted → Fit (programOf s)
+unfolding checkOf
+program-fit s e = tree-fit paperTime s (passed paperTime s e)

@@ -1,0 +1,7 @@
+-- The calls keep the three demands, and the cases hold.
+pub mod Due
+pub mod Answers
+pub mod Replay
+pub mod Kept
+pub mod Demands
+pub mod Cases

@@ -1,0 +1,69 @@
+-- The user's three demands, as model/Promises states them.
+-- Assumes nothing.
+use mathlib.Core.Path.{_≡_, refl, sym, _∙_, ap}
+use mathlib.Core.List.{List}
+use Prim.Native.Nat.{ℕ, _+_, _*_, _<_}
+use native.Mathlib.Omega.{arith}
+use lib.ListN.{length, take}
+use Rattle.model.specs.declared.Checked.the-variants.{Accepted}
+use Rattle.model.specs.declared.Written.the-variants.{Done}
+use Rattle.model.specs.Word.{get16}
+use Rattle.model.specs.Program.{checkOf, programOf}
+use Rattle.model.specs.Numbering.{netlist, finish}
+use Rattle.model.specs.NetlistFile.{fileCheck, cellsOf, finishOf}
+use Rattle.model.specs.Calls.{compiledFile, compileCall, wordAt}
+use Rattle.model.specs.Promises.{Bytes, Published, Demand1, Demand2, Demand3}
+use Rattle.theory.specs.Program.Accepted.{program-fit}
+use Rattle.theory.specs.Program.Size.{few-nodes, program-low}
+use Rattle.theory.specs.Numbering.Parts.{net-length}
+use Rattle.theory.specs.Numbering.Compiled.{net-accepted, count-right}
+use Rattle.theory.specs.NetlistFile.Passed.{net-ordered, file-passed}
+use Rattle.theory.specs.State.OneRun.{one-run}
+use Rattle.theory.specs.Circuit.Bounds.{file-bounded}
+use Rattle.theory.specs.NetlistFile.Files.{cells-written, finish-written, file-accepted}
+use Rattle.theory.specs.NetlistFile.ReadWrite.{same-file}
+use Rattle.theory.specs.Refusals.Order.{demand-1}
+use Rattle.theory.specs.Promises.Kept.{compiled, program-accepted, file-fits, file-made, keeps}
+
+pub demand1 : Demand1
+demand1 = demand-1
+
+-- the file that compiling writes is accepted
+pub compiled-accepted : (program : List ℕ) → Bytes program → checkOf program ≡ Accepted → fileCheck (compiledFile program) ≡ Accepted
+compiled-accepted s bytes e =
+    let P = programOf s in
+    let w = program-fit s e .formed in
+    let z = program-low s bytes e in
+    file-accepted (netlist P) (finish P) (count-right P w z (few-nodes s e)) (net-accepted P w z)
+
+published : (program lent : List ℕ) (n f : ℕ) → Bytes program → compileCall program lent .answer ≡ Done n f
+    → Published program (take n (compileCall program lent .lent)) f
+published program lent n f bytes e =
+    let P = programOf program in
+    let file = file-made program lent n f e in
+    let some : 0 < length (netlist P) = omega (arith, net-length P) in
+    let g = compiled program lent n f e .finish in
+    record {
+      accepted = ap fileCheck file ∙ compiled-accepted program bytes (program-accepted program lent n f e);
+      cells = ap cellsOf file ∙ cells-written (netlist P) (finish P) some;
+      finishes = (g, ap finishOf file ∙ finish-written (netlist P) (finish P) some ∙ sym g);
+    }
+
+word-low : (words : List ℕ) → Bytes words → (x : ℕ) → wordAt words x < 65536
+unfolding get16
+word-low words y x = omega (arith, y (2 * x), y (2 * x + 1))
+
+pub demand2 : Demand2
+demand2 =
+    record {
+      compiled = published;
+      files = same-file;
+      runs = λ file words e. one-run (cellsOf file) (net-ordered (cellsOf file) (finishOf file) (file-passed file e .cells)) words;
+      bounded = λ file words y z e. file-bounded file y e (wordAt words) (word-low words z);
+    }
+
+pub demand3 : Demand3
+unfolding Demand3
+demand3 program forFile words forState calls n f made begun =
+    keeps program (take n (compileCall program forFile .lent)) words forState (program-accepted program forFile n f made) (file-made program forFile n f made) begun
+    forFile (file-fits program forFile n f made) calls

@@ -1,0 +1,31 @@
+-- The published circuit of an accepted program keeps the rules' time: its finish wire is high exactly when a finish is due, and from the end on its
+-- memories show the last words.
+use Prim.Native.Nat.{ℕ, zero, suc, _+_, _≤_, _<_}
+use mathlib.Core.Path.{_≡_, refl, sym, _∙_, ap}
+use mathlib.Core.Bool.{Bool, true, false}
+use mathlib.Core.List.{List}
+use native.Mathlib.Omega.{arith}
+use lib.Dec.{eqb}
+use borrow.Author.Tests.{ne-eqb}
+use Rattle.model.specs.Program.{Stmt}
+use Rattle.model.specs.Rules.{Store, Run, ended, still, run, endsAt, due}
+use Rattle.model.specs.Circuit.{Values, level, Obeys}
+use Rattle.model.specs.Numbering.{netlist, finish, clockSources, dataSources, walkAt, memoryAt}
+use Rattle.theory.specs.Numbering.Levels.{clkOf, datOf}
+use Rattle.theory.specs.Control.Timing.{TimingOf, timing}
+use Rattle.theory.specs.Numbering.Whole.{Built, built, showing, shows}
+use Rattle.theory.specs.Program.Accepted.{Fit}
+
+module _ (P : Stmt) (fit : Fit P) (σ : Store) (W : Values) (obeys : Obeys (netlist P) σ W) where
+  timed : TimingOf P (showing (memoryAt P) σ W) (level W (finish P)) σ
+  timed =
+      let b = built P (fit .formed) σ W obeys in
+      timing P (fit .timed) (fit .separate) (showing (memoryAt P) σ W) (level W 0) (level W (finish P)) (clkOf W (clockSources P 3)) (datOf W (dataSources P (walkAt P)))
+      (b .circuit) (b .memory) (b .start 0) (λ t l. b .start t ∙ ne-eqb t 0 (λ e. omega arith)) σ (b .begin)
+
+  pub finish-due : (t : ℕ) → level W (finish P) t ≡ due P σ t
+  unfolding due
+  finish-due t = timed .finish t
+
+  pub last-words : (t₀ : ℕ) (σ′ : Store) → run t₀ P σ ≡ ended t₀ σ′ → (t x : ℕ) → t₀ ≤ t → x < 16 → W (memoryAt P + x) t ≡ σ′ x
+  last-words t₀ σ′ p t x l m = sym (shows (memoryAt P) σ W x t m) ∙ timed .words t₀ σ′ p t x l

@@ -1,0 +1,3 @@
+-- The rules: laws of the budgeted run, and that it computes the relation.
+pub mod Laws
+pub mod Relation

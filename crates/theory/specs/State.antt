@@ -1,0 +1,6 @@
+-- The bytes of a state hold that solution.
+pub mod Passes
+pub mod States
+pub mod Sound
+pub mod Running
+pub mod OneRun

@@ -1,0 +1,105 @@
+-- A state that holds the values of an instant is never refused by 15; and every state of a run holds them.
+use mathlib.Core.Bool.{Bool, true, false, not, _&&_, _||_}
+use mathlib.Core.List.{List, [], _∷_, _++_}
+use mathlib.Core.Path.{_≡_, refl, sym, _∙_, ap, ap₂}
+use Prim.Native.Nat.{ℕ, zero, suc, _+_, _-_, _*_, _<_, _≤_, suc-le-suc}
+use native.Mathlib.Nat.{add-zero}
+use native.Mathlib.Omega.{arith}
+use lib.ListN.{getD, length, take, drop}
+use lib.Seq.{getD-drop}
+use lib.Dec.{eqb, leb}
+use borrow.Author.Tests.{le-leb, eq-eqb, eqb-true, eqb-false}
+use Rattle.model.specs.declared.Cell.{Cell}
+use Rattle.model.specs.Word.{bit}
+use Rattle.model.specs.Circuit.{cellAt, noCell, Values, control, Obeys}
+use Rattle.model.specs.NetlistFile.{allZero}
+use Rattle.model.specs.State.{stateSize, base, nowAt, beforeAt, beginState, stepState, cellSound, cellsSound, sound}
+use Rattle.model.specs.Promises.{stateAt, earlier, Holds}
+use Rattle.theory.specs.Refusals.Laws.{by-bool, and-of}
+use Rattle.theory.specs.Circuit.Unique.{Ordered}
+use Rattle.theory.specs.Circuit.Shapes.{level-bound}
+use Rattle.theory.specs.State.States.{Clean, Holding, step-holds, step-length, begin-holds, begin-length}
+
+pub zero-run : (m : ℕ) (s : List ℕ) → ((i : ℕ) → i < m → getD s i 0 ≡ 0) → allZero (take m s) ≡ true
+unfolding allZero
+zero-run zero [] h = refl
+zero-run zero (x ∷ s) h = refl
+zero-run (suc m) [] h = refl
+zero-run (suc m) (x ∷ s) h = rw (eq-eqb x 0 (h 0 (omega arith))) (zero-run m s (λ i l. h (suc i) (suc-le-suc l)))
+
+zero-slice : (m j : ℕ) (s : List ℕ) → ((i : ℕ) → j ≤ i → i < j + m → getD s i 0 ≡ 0) → allZero (take m (drop j s)) ≡ true
+zero-slice m j s h = zero-run m (drop j s) (λ i l. getD-drop j s i 0 ∙ h (j + i) (omega arith) (omega arith))
+
+implied : (a b : Bool) → (a ≡ true → b ≡ true) → (not a || b) ≡ true
+implied true b h = h refl
+implied false b h = refl
+
+unless : (a b : Bool) → (a ≡ false → b ≡ true) → (a || b) ≡ true
+unless true b h = refl
+unless false b h = h refl
+
+module _ (net : List Cell) (words : ℕ → ℕ) (W : Values) (obeys : Obeys net words W) (t : ℕ) (s : List ℕ) (H : Holding net W t s) where
+  earlier-le : (k : ℕ) → k < length net → control (cellAt net k .kind) ≡ true → (t : ℕ) → earlier W k t ≤ 1
+  unfolding earlier
+  earlier-le k h e zero = omega arith
+  earlier-le k h e (suc t) = level-bound net words W obeys k h e t
+
+  sound-at : (k : ℕ) → k < length net → cellSound (cellAt net k) s k ≡ true
+  unfolding cellSound
+  sound-at k h =
+      let d = H .clean k h in
+      and-of
+      (implied _ _ (λ e.
+        and-of
+        (le-leb (nowAt s k) 1 (rw (H .present k h) (level-bound net words W obeys k h e t)))
+        (le-leb (beforeAt s k) 1 (rw (H .past k h) (earlier-le k h e t)))))
+      (and-of
+      (and-of
+        (le-leb _ _ (d .bits (base k + 4) (omega arith) (omega arith)))
+        (le-leb _ _ (d .bits (base k + 5) (omega arith) (omega arith))))
+      (and-of
+        (zero-slice 2 (base k + 6) s (λ i x y. d .rest i (omega arith) (omega arith) (λ e. omega arith)))
+        (unless _ _ (λ e. zero-slice 32 (base k + 8) s (λ i x y. d .rest i (omega arith) (omega arith) (λ z. absurd (eqb-false (cellAt net k .kind) 34 e z)))))))
+
+  sound-cells : (cs : List Cell) (k : ℕ) → ((i : ℕ) → i < length cs → cellSound (getD cs i noCell) s (k + i) ≡ true) → cellsSound cs s k ≡ true
+  unfolding cellsSound
+  sound-cells [] k h = refl
+  sound-cells (c ∷ cs) k h =
+      and-of (rw add-zero at (h 0 (omega arith)))
+      (sound-cells cs (k + 1)
+        (λ i l.
+        let e : k + 1 + i ≡ k + suc i = omega arith in
+        rw e (h (suc i) (suc-le-suc l))))
+
+  pub sound-held : sound net s ≡ true
+  unfolding sound
+  sound-held =
+      and-of (zero-slice 4 4 s (λ i x y. H .zeros i x (omega arith)))
+      (sound-cells net 0
+        (λ i l.
+        let e : 0 + i ≡ i = omega arith in
+        rw e (sound-at i l)))
+
+  pub holds : Holds net W t s
+  holds =
+      record {
+        instant = H .instant;
+        present = H .present;
+        past = H .past;
+        held = H .held;
+        lines = H .lines;
+        proper = sound-held }
+
+-- every state of a run
+module _ (net : List Cell) (ordered : Ordered net) (words : ℕ → ℕ) (W : Values) (obeys : Obeys net words W) (lent : List ℕ) (room : stateSize net ≤ length lent) where
+  run-holds : (t : ℕ) → Holding net W t (stateAt net words lent t) × (length (stateAt net words lent t) ≡ length lent)
+  unfolding stateAt
+  run-holds zero = (begin-holds net ordered words W obeys lent room, begin-length net ordered words W obeys lent room)
+  run-holds (suc t) =
+      let r = run-holds t in
+      let s = stateAt net words lent t in
+      let m : 8 + 40 * length net ≤ length s = omega (arith, r .1) in
+      (step-holds net ordered words W obeys t s (r .0) m, step-length net ordered words W obeys t s (r .0) m ∙ r .1)
+
+  pub states : (t : ℕ) → Holds net W t (stateAt net words lent t)
+  states t = holds net words W obeys t (stateAt net words lent t) (run-holds t .0)

@@ -15,7 +15,7 @@ use Rattle.model.specs.Refusals.{refuse, firstFault}
 use Rattle.model.specs.Program.{nodeAt, nodesFrom, rowOf, asExpr, asStmt, exprOf, stmtOf, treeOf, grow, forest, treesAt, exprAt, stmtAt, programOf, time, least, reads, writes, touches, clash, clashes, programLengthWrong, spare, faultOf, children, reading, slowAt, clashAt, checkOf}
 use Rattle.model.specs.Rules.{eval, put, over, kept, after, wait, chain, both, whiles, repeats, run}
 use Rattle.model.specs.Numbering.{netlist, finish}
-use Rattle.model.specs.Calls.{Told, checkCall, compileCall, runProgramCall, refusedAnswer, listed, referenceAnswer, answering, referenceCall}
+use Rattle.model.specs.Calls.{checkCall, compileCall, runProgramCall, refusedAnswer, listed, referenceAnswer, answering, referenceCall}
 use Rattle.model.specs.Netlists.{numbering}
 
 -- Programs -----------------------------------------------------------------------------------------------------------------------------

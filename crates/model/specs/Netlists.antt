@@ -5,7 +5,7 @@ use mathlib.Core.Path.{_≡_, refl}
 use mathlib.Core.List.{List, [], _∷_, map}
 use Prim.Native.Nat.{ℕ, zero, suc}
 use Rattle.model.specs.declared.Cell.{Cell}
-use Rattle.model.specs.Program.{Expr, const, var, compl, op, Stmt, ok, tick, assign, seq, par, ite, while, repeat}
+use Rattle.model.specs.Program.{const, var, compl, op, Stmt, ok, tick, assign, seq, par, ite, while, repeat}
 use Rattle.model.specs.Circuit.{cell}
 use Rattle.model.specs.Numbering.{netlist, finish, exprCount, exprWire, exprCells, own, pulse, ownCell, delayCount, walkCount, finishWire, delays, walk, clockSources, dataSources, wiresOf, orChain, orChainOut, ors, orsOut, orCount, orsFrom, outsFrom, orCountFrom, memoriesOf}
 

@@ -6,7 +6,6 @@ use lib.ListN.{length, getD, set, take, drop, replicate}
 use lib.Dec.{eqb, leb}
 use Rattle.model.specs.declared.Cell.{Cell}
 use Rattle.model.specs.declared.Merge.{Merge}
-use Rattle.model.specs.declared.Merged.{Merged}
 use Rattle.model.specs.Word.{pick, bit, isZero, operate, get16, put16, get32, put32}
 use Rattle.model.specs.Circuit.{cellAt, control, high, mergeStep, startWord, Shape, shape, kConstant, kComplement, kOperator, kStart, kGround, kDelay, kOr, kWhenTrue, kWhenFalse, kMerge, kMemory, kGated, kUnknown}
 use Rattle.model.specs.NetlistFile.{allZero}

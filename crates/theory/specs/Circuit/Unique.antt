@@ -1,17 +1,15 @@
 -- Two sets of values that obey one netlist are equal, if its cells look only at lower cells and at the past.
 use mathlib.Core.Path.{_≡_, refl, sym, ap, ap₂, _∙_}
 use mathlib.Core.Bool.{Bool, true, false, _&&_, _||_, not}
-use mathlib.Core.List.{List, [], _∷_, _++_}
-use mathlib.Core.Logic.{_⊎_, ⊎-elim}
-use Prim.Native.Nat.{ℕ, zero, suc, _+_, _-_, _<_, _≤_, suc-le-suc}
-use native.Mathlib.Nat.{not-suc-le-zero, le-of-suc-le-suc, eq-or-lt-of-le, le-refl, le-trans, le-of-lt}
+use mathlib.Core.List.{List}
+use mathlib.Core.Logic.{⊎-elim}
+use Prim.Native.Nat.{ℕ, zero, suc, _-_, _<_, _≤_}
+use native.Mathlib.Nat.{not-suc-le-zero, le-of-suc-le-suc, eq-or-lt-of-le, le-refl}
 use native.Mathlib.Omega.{arith}
-use lib.Dec.{eqb, leb, T, leb→le}
+use lib.Dec.{eqb, leb, leb→le}
 use lib.ListN.{length, getD}
 use Rattle.model.specs.Word.{pick}
-use Rattle.model.specs.Circuit.{Sig, delayed, merged}
-use Rattle.model.specs.declared.Merge.{Merge}
-use Rattle.model.specs.declared.Merged.{Merged}
+use Rattle.model.specs.Circuit.{delayed, merged}
 use Rattle.model.specs.Circuit.{mergeStep, heldBefore}
 use Rattle.model.specs.Word.{operate}
 use Rattle.model.specs.declared.Cell.{Cell}

@@ -1,18 +1,17 @@
 -- A circuit with nothing in flight: it stays so while its start is quiet. Assumes nothing.
-use Prim.Native.Nat.{ℕ, zero, suc, _+_, _-_, _≤_, _<_, max}
-use mathlib.Core.Path.{_≡_, refl, sym, _∙_, ap, ap₂, subst}
+use Prim.Native.Nat.{ℕ, suc, _+_, _≤_, _<_}
+use mathlib.Core.Path.{_≡_, refl, sym, _∙_, ap, ap₂}
 use mathlib.Core.Bool.{Bool, true, false, not, _&&_, _||_}
 use native.Mathlib.Omega.{arith}
-use lib.Dec.{leb, eqb}
+use lib.Dec.{eqb}
 use lib.Bits.{bitOr}
 use Rattle.model.specs.Word.{pick, isZero}
 use Rattle.model.specs.Program.{Expr, Stmt, ok, tick, assign, seq, par, ite, while, repeat, writes}
 use Rattle.model.specs.Circuit.{Sig, delayed, heldBefore}
-use Rattle.theory.specs.Control.Wiring.{Clk, Dat, Memory, Part, Net, Circuit, Plain, Assigned, Joined, Seq, Par, Ite, While, Repeat, either, Timed}
-use Rattle.model.specs.Rules.{Store, eval}
-use Rattle.theory.specs.Control.Signal.{Quiet, Clear, Dull, creep, delayed-quiet, clear-later, either-quiet, narrow}
+use Rattle.theory.specs.Control.Wiring.{Clk, Dat, Memory, Net, Circuit, Assigned, Joined, either, Timed}
+use Rattle.model.specs.Rules.{eval}
+use Rattle.theory.specs.Control.Signal.{Quiet, Clear, Dull, creep, delayed-quiet, clear-later, either-quiet}
 use Rattle.theory.specs.Control.Merges.{Empty, merged-left, holds-to}
-use Rattle.theory.specs.Refusals.Laws.{by-bool}
 
 -- P's circuit, with nothing in flight just before instant a: no delay holds a pulse, and no merge a bit
 unfoldable pub Calm : Memory → Stmt → Sig → Sig → Clk → Dat → ℕ → Type 0

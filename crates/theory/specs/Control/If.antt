@@ -1,11 +1,11 @@
 -- What the circuit of an if does. Assumes nothing.
-use Prim.Native.Nat.{ℕ, suc, _+_, _-_, _≤_, _<_}
+use Prim.Native.Nat.{ℕ, suc, _+_, _≤_, _<_}
 use mathlib.Core.Path.{_≡_, refl, sym, _∙_, ap, ap₂}
 use mathlib.Core.Bool.{Bool, true, false, not, _&&_, _||_, or-true, or-comm}
 use native.Mathlib.Omega.{arith}
 use Rattle.model.specs.Word.{isZero}
 use Rattle.model.specs.Program.{Expr, Stmt, ite, reads, touches}
-use Rattle.model.specs.Rules.{Store, eval, ended, still, run}
+use Rattle.model.specs.Rules.{Store, eval, run}
 use Rattle.model.specs.Circuit.{Sig, delayed}
 use Rattle.theory.specs.Refusals.Laws.{by-bool}
 use Rattle.theory.specs.Control.Wiring.{Clk, Dat, Memory, Net, Ite, Timed}
@@ -13,8 +13,8 @@ use Rattle.theory.specs.Control.Signal.{Quiet, Clear, cases, glue-at, ke
 use Rattle.theory.specs.Rules.Laws.{wait-ended, wait-still, ite-then, ite-else}
 use Rattle.theory.specs.Control.Calm.{Calm, Rests, rest}
 use Rattle.theory.specs.Control.Uses.{eval-same}
-use Rattle.theory.specs.Control.Runs.{Begins, Ended, Does, RunOf}
-use Rattle.theory.specs.Control.Sides.{Branched, Branch, branch}
+use Rattle.theory.specs.Control.Runs.{Begins, Does, RunOf}
+use Rattle.theory.specs.Control.Sides.{Branch, branch}
 
 module _ (m : Memory) (d : ℕ) (e : Expr) (P Q : Stmt) (timedP : Timed P) (timedQ : Timed Q) (doesP : RunOf m P) (doesQ : RunOf m Q)
     (U : ℕ → Type 0) (σ : Store) (s f : Sig) (clk : Clk) (dat : Dat) (a b u : ℕ) (h : a + u ≡ b)

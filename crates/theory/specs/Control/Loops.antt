@@ -1,17 +1,17 @@
 -- What the circuits of the two loops do. Assumes nothing.
-use Prim.Native.Nat.{ℕ, zero, suc, _+_, _-_, _≤_, _<_, max}
+use Prim.Native.Nat.{ℕ, zero, suc, _+_, _-_, _≤_, _<_}
 use mathlib.Core.Path.{_≡_, refl, sym, _∙_, ap, ap₂, subst}
-use mathlib.Core.Bool.{Bool, true, false, not, _&&_, _||_, or-true, and-false}
+use mathlib.Core.Bool.{Bool, true, false, not, _&&_, _||_, or-true}
 use native.Mathlib.Omega.{arith}
-use Rattle.model.specs.Word.{pick, isZero}
+use Rattle.model.specs.Word.{isZero}
 use Rattle.model.specs.Program.{Expr, Stmt, while, repeat, reads, touches}
 use Rattle.model.specs.Circuit.{Sig, delayed}
 use Rattle.theory.specs.Control.Wiring.{Clk, Dat, Memory, Net, While, Repeat, either, Timed}
-use Rattle.model.specs.Rules.{Store, eval, Run, ended, still, wait, chain, whiles, repeats, run}
-use Rattle.theory.specs.Control.Signal.{Quiet, Clear, Follow, cases, glue, glue-at, keep, delayed-at, delayed-off, delayed-quiet, delayed-after}
+use Rattle.model.specs.Rules.{Store, eval, Run, ended, still, chain, whiles, repeats, run}
+use Rattle.theory.specs.Control.Signal.{Quiet, Clear, Follow, cases, glue, glue-at, keep, delayed-at, delayed-off, delayed-after}
 use Rattle.theory.specs.Refusals.Laws.{by-bool}
-use Rattle.theory.specs.Rules.Laws.{Body, by-run, ended-time, ended-words, ended-still, wait-ended, wait-still, chain-ended, chain-still, steady, whiles-stop, whiles-more, again, repeats-is, again-more, again-stop}
-use Rattle.theory.specs.Control.Calm.{Calm, Rests, RestOf, rest}
+use Rattle.theory.specs.Rules.Laws.{by-run, ended-time, ended-words, ended-still, wait-ended, wait-still, chain-ended, chain-still, steady, whiles-stop, whiles-more, again, repeats-is, again-more, again-stop}
+use Rattle.theory.specs.Control.Calm.{Calm, Rests, rest}
 use Rattle.theory.specs.Control.Uses.{eval-same}
 use Rattle.theory.specs.Control.Runs.{Begins, Ended, Does, RunOf, Launched, launch, at}
 

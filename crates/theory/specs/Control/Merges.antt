@@ -1,11 +1,10 @@
 -- The merge: what it holds and puts out while its inputs are quiet, and what it does where they meet.
 -- Assumes nothing.
-use Prim.Native.Nat.{ℕ, zero, suc, _+_, _-_, _≤_, _<_}
+use Prim.Native.Nat.{ℕ, zero, suc, _+_, _-_, _≤_}
 use mathlib.Core.Path.{_≡_, refl, sym, _∙_, ap, ap₂, subst}
 use mathlib.Core.Bool.{Bool, true, false, not, _&&_, _||_, or-true}
 use native.Mathlib.Omega.{arith}
 use Rattle.model.specs.declared.Merge.{Merge}
-use Rattle.model.specs.declared.Merged.{Merged}
 use Rattle.model.specs.Circuit.{Sig, mergeStep, heldBefore, merged}
 use Rattle.theory.specs.Control.Signal.{Quiet, cases}
 

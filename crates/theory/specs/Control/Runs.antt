@@ -1,18 +1,18 @@
 -- What a circuit does from a start pulse, up to a horizon, beside what the rules say. Assumes nothing.
-use Prim.Native.Nat.{ℕ, zero, suc, _+_, _-_, _≤_, _<_, max}
+use Prim.Native.Nat.{ℕ, suc, _+_, _-_, _≤_}
 use mathlib.Core.Path.{_≡_, refl, sym, _∙_, ap, ap₂, subst}
-use mathlib.Core.Bool.{Bool, true, false, not, _&&_, _||_, or-true}
+use mathlib.Core.Bool.{Bool, true, false, _||_, or-true}
 use native.Mathlib.Omega.{arith}
-use lib.Dec.{leb, eqb}
-use Rattle.model.specs.Word.{pick, isZero}
-use Rattle.model.specs.Program.{Expr, Stmt, ok, tick, assign, seq, par, ite, while, repeat, reads, writes, touches}
+use lib.Dec.{eqb}
+use Rattle.model.specs.Word.{pick}
+use Rattle.model.specs.Program.{Expr, Stmt, ok, tick, assign, seq, touches}
 use Rattle.model.specs.Circuit.{Sig, delayed}
-use Rattle.theory.specs.Control.Wiring.{Clk, Dat, Memory, Net, Plain, Assigned, Joined, Seq, Par, Ite, While, Repeat, either, latch, Timed, Apart, Separate}
-use Rattle.model.specs.Rules.{Store, eval, put, Run, ended, still, wait, chain, both, kept, whiles, repeats, run}
-use Rattle.theory.specs.Control.Signal.{Quiet, Clear, Dull, Follow, cases, glue, glue-at, keep, joined-swap, follow-left, creep, delayed-at, delayed-quiet, delayed-after, clear-later, clear-after, either-quiet, narrow}
+use Rattle.theory.specs.Control.Wiring.{Clk, Dat, Memory, Net, Assigned, Seq, latch, Timed}
+use Rattle.model.specs.Rules.{Store, eval, put, ended, still, run}
+use Rattle.theory.specs.Control.Signal.{Quiet, Follow, cases, glue, keep, joined-swap, follow-left, creep, delayed-at, delayed-quiet, delayed-after, clear-after}
 use Rattle.theory.specs.Refusals.Laws.{by-bool}
-use Rattle.theory.specs.Rules.Laws.{by-run, ended-time, ended-words, ended-still, wait-ended, wait-still, chain-ended, chain-still, both-ended, both-still, Steady, steady, still-before, still-below}
-use Rattle.theory.specs.Control.Calm.{Calm, calm-dull, calm-unwritten, Rests, RestOf, rest}
+use Rattle.theory.specs.Rules.Laws.{by-run, ended-time, ended-words, ended-still, wait-ended, wait-still, chain-ended, chain-still, steady, still-before, still-below}
+use Rattle.theory.specs.Control.Calm.{Calm, calm-dull, rest}
 use Rattle.theory.specs.Control.Uses.{eval-same}
 
 -- The statement -------------------------------------------------------------------------------------------------------------------------

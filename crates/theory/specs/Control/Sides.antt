@@ -1,9 +1,9 @@
 -- A part beside another: the branch that an if takes beside the one that it does not, and a side of a parallel beside the other.
 -- Which of the two stands first does not matter, so each is told once.
 -- Assumes nothing.
-use Prim.Native.Nat.{ℕ, suc, _+_, _-_, _≤_, _<_}
+use Prim.Native.Nat.{ℕ, suc, _+_, _-_, _≤_}
 use mathlib.Core.Path.{_≡_, _∙_, ap₂, subst}
-use mathlib.Core.Bool.{Bool, true, false, _||_}
+use mathlib.Core.Bool.{true, false, _||_}
 use native.Mathlib.Omega.{arith}
 use Rattle.model.specs.Program.{Stmt, writes, touches}
 use Rattle.model.specs.Rules.{Store, ended, still, run}

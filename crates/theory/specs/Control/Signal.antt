@@ -1,15 +1,14 @@
 -- Lemmas on signals: intervals where a signal is false, delays, the merge, the memories. Assumes nothing.
-use Prim.Native.Nat.{ℕ, zero, suc, _+_, _-_, _≤_, _<_, max}
-use mathlib.Core.Path.{_≡_, refl, sym, _∙_, ap, ap₂, subst}
-use mathlib.Core.Bool.{Bool, true, false, not, _&&_, _||_, or-false, or-comm as ||-comm}
+use Prim.Native.Nat.{ℕ, zero, suc, _+_, _-_, _≤_, _<_}
+use mathlib.Core.Path.{_≡_, refl, _∙_, ap, subst}
+use mathlib.Core.Bool.{Bool, true, false, _||_, or-false, or-comm as ||-comm}
 use native.Mathlib.Omega.{arith}
-use lib.Dec.{leb, eqb}
+use lib.Dec.{leb}
 use lib.Bits.{bitOr, or-comm, or-zero-r}
-use borrow.Author.Tests.{leb-true, leb-false, le-leb, lt-leb}
+use borrow.Author.Tests.{leb-true, leb-false, le-leb}
 use Rattle.model.specs.Word.{pick}
 use Rattle.model.specs.Circuit.{Sig, delayed}
 use Rattle.theory.specs.Control.Wiring.{Clk, Dat, Memory, latch, Joined}
-use Rattle.model.specs.Rules.{Store}
 
 -- Intervals ---------------------------------------------------------------------------------------------------------------------
 
@@ -116,9 +115,6 @@ clear-later d s a b o p q t l h = cases a t (λ k. q t k l) (λ k. p t k (omega 
 
 pub either-quiet : (s g : Sig) (a b : ℕ) → Quiet s a b → Quiet g a b → Quiet (λ t. s t || g t) a b
 either-quiet s g a b p q t l h = rw (p t l h) (q t l h)
-
-pub narrow : (s : Sig) (a b a′ b′ : ℕ) → a ≤ a′ → b′ ≤ b → Quiet s a b → Quiet s a′ b′
-narrow s a b a′ b′ o o′ q t l h = q t (omega arith) (omega arith)
 
 pub delayed-after : (d : ℕ) (s : Sig) (a b : ℕ) → Quiet s a b → Quiet (delayed d s) (a + d) (b + d)
 delayed-after d s a b q t l h = delayed-off d s t (λ u e. q u (omega arith) (omega arith))

@@ -1,13 +1,11 @@
 -- What a statement reads and leaves alone, by the rules. Assumes nothing.
-use Prim.Native.Nat.{ℕ, zero, suc, _+_, _-_, _≤_, _<_, max}
-use mathlib.Core.Path.{_≡_, refl, sym, _∙_, ap, ap₂, subst}
-use mathlib.Core.Bool.{Bool, true, false, not, _&&_, _||_, or-true}
-use native.Mathlib.Omega.{arith}
-use lib.Dec.{leb, eqb}
+use Prim.Native.Nat.{ℕ, zero, suc, _-_}
+use mathlib.Core.Path.{_≡_, refl, sym, _∙_, ap, ap₂}
+use mathlib.Core.Bool.{Bool, true, false, _||_, or-true}
 use borrow.Author.Tests.{eq-eqb}
 use Rattle.model.specs.Word.{pick, operate, isZero}
 use Rattle.model.specs.Program.{Expr, const, var, compl, op, Stmt, ok, tick, assign, seq, par, ite, while, repeat, reads, writes, touches}
-use Rattle.model.specs.Rules.{Store, Run, ended, still, wait, chain, both, over, kept, whiles, repeats, run, eval, put}
+use Rattle.model.specs.Rules.{Store, Run, ended, chain, over, kept, whiles, repeats, run, eval, put}
 use Rattle.theory.specs.Control.Wiring.{Apart}
 use Rattle.theory.specs.Refusals.Laws.{by-bool}
 use Rattle.theory.specs.Rules.Laws.{Body, ended-words, ended-still, wait-ended, chain-ended, both-ended, whiles-stop, whiles-more, again, repeats-is, again-more, again-stop, ite-then, ite-else}

@@ -2,9 +2,9 @@
 -- is written.
 -- Assumes nothing.
 use mathlib.Core.Path.{_≡_, refl, sym, _∙_, ap, ap₂}
-use mathlib.Core.Bool.{Bool, true, false, _&&_}
+use mathlib.Core.Bool.{true}
 use mathlib.Core.List.{List, [], _∷_, _++_, append-assoc, append-nil}
-use Prim.Native.Nat.{ℕ, zero, suc, _+_, _-_, _*_, _/_, _%_, _<_, _≤_}
+use Prim.Native.Nat.{ℕ, zero, suc, _+_, _-_, _*_, _%_, _<_, _≤_}
 use native.Mathlib.Nat.{add-zero, mul-suc}
 use native.Mathlib.Omega.{arith}
 use native.Mathlib.Decide.{decLt}
@@ -178,9 +178,6 @@ unfolding allZero
 zero-all [] e i = refl
 zero-all (x ∷ s) e zero = eqb-true x 0 (and-true (eqb x 0) (allZero s) e .0)
 zero-all (x ∷ s) e (suc i) = zero-all s (and-true (eqb x 0) (allZero s) e .1) i
-
-past-end : (s : List ℕ) (i : ℕ) → length s ≤ i → getD s i 0 ≡ 0
-past-end s i l = List·getD-eq-default s 0 {n = i} l
 
 -- the header's numbers, and zeros from its last cell on
 pub header-of : (n f b : ℕ) (B : List ℕ) → headed n f b B ≡ true

@@ -2,14 +2,14 @@
 -- Assumes nothing.
 use mathlib.Core.Path.{_≡_, refl, sym, _∙_, ap, ap₂}
 use mathlib.Core.List.{List, [], _∷_, _++_}
-use Prim.Native.Nat.{ℕ, zero, suc, _+_, _-_, _*_, _/_, _%_, _<_, _≤_, suc-le-suc}
+use Prim.Native.Nat.{ℕ, zero, suc, _+_, _*_, _<_, _≤_, suc-le-suc}
 use native.Mathlib.Nat.{add-zero, le-of-suc-le-suc}
 use native.Mathlib.Omega.{arith}
 use lib.ListN.{length, getD, drop}
 use lib.Seq.{getD-append-add}
 use Rattle.model.specs.declared.Cell.{Cell}
 use Rattle.model.specs.Word.{get16, bytes16}
-use Rattle.model.specs.Circuit.{cell, noCell, cellAt}
+use Rattle.model.specs.Circuit.{cell, cellAt}
 use Rattle.model.specs.NetlistFile.{cellBytes, cellFrom, cellsAt}
 use Rattle.model.specs.Promises.{Bytes}
 

@@ -1,22 +1,20 @@
 -- Netlist files: a file that was written is accepted and read as it was written, and an accepted file is what is written of its netlist.
 -- Assumes nothing.
-use mathlib.Core.Path.{_≡_, refl, sym, _∙_, ap, ap₂}
-use mathlib.Core.Bool.{Bool, true, false, not, _||_}
-use mathlib.Core.List.{List, [], _∷_, _++_}
-use Prim.Native.Nat.{ℕ, zero, suc, _+_, _-_, _*_, _/_, _%_, _<_, _≤_, min}
+use mathlib.Core.Path.{_≡_, refl, sym, _∙_, ap}
+use mathlib.Core.Bool.{false}
+use mathlib.Core.List.{List}
+use Prim.Native.Nat.{ℕ, _+_, _-_, _*_, _/_, _%_, _<_, _≤_, min}
 use native.Mathlib.Nat.{zero-add}
 use native.Mathlib.Omega.{arith}
 use native.Mathlib.Decide.{decLt}
 use lib.Dec.{eqb, ltb}
 use lib.ListN.{length, getD, take, drop, length-take, length-drop, List·getD-eq-default}
 use lib.Seq.{getD-take, getD-drop}
-use borrow.Author.Tests.{eq-eqb, ne-eqb, le-ltb, ltb-false}
+use borrow.Author.Tests.{ne-eqb, le-ltb, ltb-false}
 use Rattle.model.specs.declared.Cell.{Cell}
 use Rattle.model.specs.declared.Checked.the-variants.{Accepted}
-use Rattle.model.specs.Word.{get16}
-use Rattle.model.specs.Refusals.{first, firstFault, faultIf}
 use Rattle.model.specs.Circuit.{cellAt, noCell}
-use Rattle.model.specs.NetlistFile.{cellFrom, cellsAt, inFile, wordSum, block, blocks, blockAt, blocksFor, fileOf, countOf, finishOf, cellsOf, fileLengthWrong, sumFault, countWrong, headed, headerFault, netCheck, fileChecks, fileCheck}
+use Rattle.model.specs.NetlistFile.{cellFrom, cellsAt, inFile, block, blockAt, blocksFor, fileOf, countOf, finishOf, cellsOf, fileLengthWrong, sumFault, countWrong, headerFault, netCheck, fileCheck}
 use Rattle.model.specs.Promises.{Bytes}
 use Rattle.theory.specs.Refusals.Laws.{or-false, faultless}
 use Rattle.theory.specs.NetlistFile.Passed.{FilePassed, file-passed, count-range, count-cells}

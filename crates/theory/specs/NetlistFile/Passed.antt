@@ -1,7 +1,7 @@
 -- What refusals 9 to 12 leave: a netlist whose cells keep every rule, and a file whose blocks are right.
 -- Cells that keep the rules look only at lower cells and at the past.
 -- Assumes nothing.
-use mathlib.Core.Path.{_≡_, refl, sym, _∙_, ap}
+use mathlib.Core.Path.{_≡_, refl, ap}
 use mathlib.Core.Bool.{Bool, true, false, not, _&&_}
 use mathlib.Core.List.{List}
 use Prim.Native.Nat.{ℕ, zero, suc, _+_, _/_, _%_, _<_, _≤_}
@@ -11,7 +11,6 @@ use lib.ListN.{length}
 use borrow.Author.Tests.{ltb-true, leb-true, eqb-true}
 use Rattle.model.specs.declared.Cell.{Cell}
 use Rattle.model.specs.declared.Checked.the-variants.{Accepted}
-use Rattle.model.specs.Refusals.{first, firstFault, faultIf}
 use Rattle.model.specs.Circuit.{cellAt, control, memories, Shape, shape, kConstant, kComplement, kOperator, kStart, kGround, kDelay, kOr, kWhenTrue, kWhenFalse, kMerge, kMemory, kGated, kUnknown}
 use Rattle.model.specs.NetlistFile.{wordSum, blockAt, blocksFor, countOf, finishOf, cellsAt, inFile, cellsOf, fileLengthWrong, sumFault, countWrong, headed, headerFault, controlIn, wordIn, keeps, placed, cellFault, netChecks, netCheck, fileChecks, fileCheck}
 use Rattle.theory.specs.Refusals.Laws.{and-true, not-false, all-accept, refuse-unless, fault-unless, first-place}

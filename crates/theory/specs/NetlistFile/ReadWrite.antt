@@ -1,30 +1,28 @@
 -- Reading and writing netlists as calls: what was written is read back, and what was read is written as the file that it was read from.
 -- Assumes nothing.
 use mathlib.Core.Path.{_≡_, refl, sym, _∙_, ap, ap₂}
-use mathlib.Core.Bool.{Bool, true, false, _||_}
-use mathlib.Core.List.{List, [], _∷_, _++_, append-nil}
-use Prim.Native.Nat.{ℕ, zero, suc, _+_, _*_, _/_, _%_, _<_, _≤_}
+use mathlib.Core.Bool.{false, _||_}
+use mathlib.Core.List.{List, [], _++_, append-nil}
+use Prim.Native.Nat.{ℕ, _*_, _/_, _%_, _≤_}
 use native.Mathlib.Nat.{zero-add}
 use native.Mathlib.Omega.{arith}
 use lib.Dec.{ltb}
 use lib.ListN.{length, take, drop, drop-of-length-le}
 use lib.Seq.{take-append-seam}
 use borrow.Author.Tests.{ltb-false, le-ltb}
-use Rattle.model.specs.declared.Refusal.{Refusal}
 use Rattle.model.specs.declared.Cell.{Cell}
 use Rattle.model.specs.declared.Checked.{Checked}
 use Rattle.model.specs.declared.Checked.the-variants.{Accepted}
 use Rattle.model.specs.declared.Written.{Written}
 use Rattle.model.specs.declared.Written.the-variants.{Done}
-use Rattle.model.specs.Word.{pick}
-use Rattle.model.specs.Refusals.{first, refuseIf}
-use Rattle.model.specs.NetlistFile.{cellBytes, cellFrom, cellsAt, inList, fileOf, countOf, finishOf, cellsOf, countWrong, blocksFor, netCheck, fileCheck}
-use Rattle.model.specs.Calls.{Told, overwrite, short, writing, cellsIn, writeChecks, writeCall, readChecks, readCall}
+use Rattle.model.specs.Refusals.{first}
+use Rattle.model.specs.NetlistFile.{cellBytes, cellFrom, inList, fileOf, countOf, finishOf, cellsOf, countWrong, blocksFor, netCheck, fileCheck}
+use Rattle.model.specs.Calls.{Told, overwrite, writing, cellsIn, writeChecks, writeCall, readChecks, readCall}
 use Rattle.model.specs.Promises.{Bytes, SameFile}
 use Rattle.theory.specs.Refusals.Laws.{or-false, all-accept, refuse-unless}
 use Rattle.theory.specs.NetlistFile.Passed.{file-passed, count-range, count-cells, length-cells}
 use Rattle.theory.specs.NetlistFile.CellBytes.{bytes-length, from-bytes, cells-are, cell-of, cells-back}
-use Rattle.theory.specs.NetlistFile.Files.{count-written, finish-written, cells-written, file-length, some-cells, file-accepted, file-back}
+use Rattle.theory.specs.NetlistFile.Files.{count-written, finish-written, cells-written, some-cells, file-accepted, file-back}
 
 -- A call that writes -------------------------------------------------------------------------------------------------------------------
 

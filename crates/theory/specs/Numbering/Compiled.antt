@@ -1,30 +1,28 @@
 -- The netlist of an accepted program keeps every rule of a netlist: its file is never refused.
-use mathlib.Core.Path.{_≡_, refl, sym, ap, ap₂, _∙_}
+use mathlib.Core.Path.{_≡_, refl}
 use borrow.Author.Tests.{eq-eqb, ne-eqb, le-leb, lt-ltb}
-use mathlib.Core.Bool.{Bool, true, false, not, _&&_, _||_}
+use mathlib.Core.Bool.{Bool, true, false}
 use mathlib.Core.List.{List, [], _∷_, _++_}
 use Prim.Native.Nat.{ℕ, zero, suc, _+_, _<_, _≤_}
-use native.Mathlib.Nat.{zero-add, add-zero, not-suc-le-zero, le-of-suc-le-suc}
+use native.Mathlib.Nat.{zero-add, add-zero, le-of-suc-le-suc}
 use native.Mathlib.Omega.{arith}
-use lib.Dec.{eqb, leb, T, lit≤, lit<, le→leb, eqb→eq}
-use lib.ListN.{length, length-append, getD}
+use lib.Dec.{eqb, eqb→eq}
+use lib.ListN.{length}
 use Rattle.model.specs.Program.{Expr, const, var, compl, op, Stmt, ok, tick, assign, seq, par, ite, while, repeat}
 use Rattle.model.specs.declared.Cell.{Cell}
 use Rattle.model.specs.Circuit.{cell}
 use Rattle.model.specs.Numbering.{exprCount, exprWire, exprCells, own, pulse, ownCell, delayCount, walkCount, finishWire, delays, walk, clockSources, dataSources, Source, wiresOf}
 use Rattle.model.specs.Numbering.{orChain, orChainOut, ors, orsOut, orCount, orsFrom, outsFrom, orCountFrom, memoriesOf, netlist, finish}
-use Rattle.model.specs.Numbering.{headCells, clockAt, memoryAt, walkAt, dataAt, clockWires, dataWires}
-use Rattle.model.specs.Circuit.{control, cellAt, Values, Obeys, memories, shape, noCell}
+use Rattle.model.specs.Numbering.{clockAt, memoryAt, walkAt, dataAt, clockWires, dataWires}
+use Rattle.model.specs.Circuit.{control, cellAt, memories, shape}
 use Rattle.model.specs.Word.{bit}
 use Rattle.theory.specs.Numbering.Cells.{All, all-of, all-at, split, join}
-use Rattle.theory.specs.Numbering.Structure.{WFe, WF, e-len, d-len, w-len, own-len, is-true, is-false}
+use Rattle.theory.specs.Numbering.Structure.{WFe, WF, e-len, d-len, w-len, own-len, is-false}
 use Rattle.theory.specs.Numbering.Parts.{ors-len, outs-len, net-length, Laid, lay, unlay}
 use Rattle.theory.specs.Numbering.Whole.{memories-append, delays-free, orsFrom-free}
 use Rattle.theory.specs.Numbering.Count.{nodes, size}
 use Rattle.theory.specs.Numbering.Valid.{word, In, CellOk, Ok, CellsOk, kinds, HasKind, Low, p-ok}
-use Prim.Native.Nat.{suc-le-suc}
 use Rattle.model.specs.Word.{pick}
-use Rattle.model.specs.declared.Checked.{Checked}
 use Rattle.model.specs.declared.Checked.the-variants.{Accepted}
 use Rattle.model.specs.Circuit.{Shape, kConstant, kComplement, kOperator, kStart, kGround, kDelay, kOr, kWhenTrue, kWhenFalse, kMerge, kMemory, kGated, kUnknown}
 use Rattle.model.specs.NetlistFile.{controlIn, wordIn, keeps, placed, cellFault, netCheck, countWrong, blocksFor}

@@ -1,20 +1,17 @@
 -- A program of n nodes has at most 19 + 3 n cells.
-use mathlib.Core.Path.{_≡_, refl, sym, ap, ap₂, _∙_}
+use mathlib.Core.Path.{_≡_, refl}
 use mathlib.Core.Bool.{Bool, true, false}
-use mathlib.Core.List.{List, [], _∷_, _++_}
-use mathlib.Core.Logic.{_⊎_, ⊎-elim, _≢_}
+use mathlib.Core.List.{List, [], _∷_}
+use mathlib.Core.Logic.{_≢_}
 use Prim.Native.Nat.{ℕ, zero, suc, _+_, _*_, _<_, _≤_}
-use native.Mathlib.Nat.{le-refl, zero-add}
 use native.Mathlib.Omega.{arith}
-use lib.Dec.{eqb, eqb→eq, T}
+use lib.Dec.{eqb, eqb→eq}
 use lib.ListN.{length, length-append}
 use Rattle.model.specs.Word.{pick}
 use Rattle.model.specs.Program.{Expr, const, var, compl, op, Stmt, ok, tick, assign, seq, par, ite, while, repeat}
-use Rattle.model.specs.declared.Cell.{Cell}
-use Rattle.model.specs.Circuit.{cell}
-use Rattle.model.specs.Numbering.{exprCount, own, delayCount, walkCount, delays, walk, clockSources, dataSources, Source, wiresOf, orCount, orsFrom, orCountFrom, memoriesOf, netlist}
-use Rattle.model.specs.Numbering.{headCells, clockAt, memoryAt, walkAt, dataAt, clockWires, dataWires}
-use Rattle.theory.specs.Numbering.Structure.{d-len, w-len, is-true, is-false}
+use Rattle.model.specs.Numbering.{exprCount, own, delayCount, walkCount, clockSources, dataSources, Source, wiresOf, orCount, orCountFrom, netlist}
+use Rattle.model.specs.Numbering.{walkAt}
+use Rattle.theory.specs.Numbering.Structure.{is-false}
 use Rattle.theory.specs.Numbering.Parts.{net-length}
 
 unfoldable pub eNodes : Expr → ℕ

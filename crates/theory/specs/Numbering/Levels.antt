@@ -1,9 +1,9 @@
 -- Small laws of levels, words and lists of wires.
 use mathlib.Core.Path.{_≡_, refl, sym, ap, ap₂, _∙_}
-use mathlib.Core.Bool.{Bool, true, false, _&&_, _||_, not}
+use mathlib.Core.Bool.{Bool, true, false, _||_}
 use mathlib.Core.List.{List, [], _∷_, _++_}
-use Prim.Native.Nat.{ℕ, zero, suc, _+_, _*_, _/_, _%_, _<_, _-_, max}
-use native.Mathlib.Nat.{sub-zero, mod-lt, zero-lt-suc}
+use Prim.Native.Nat.{ℕ, _+_, _*_, _/_, _%_, _<_, _-_, max}
+use native.Mathlib.Nat.{sub-zero}
 use native.Mathlib.Omega.{arith}
 use lib.Arith.{bin-ind, digits-div, digits-mod}
 use lib.Bits.{bitOr, or-step}

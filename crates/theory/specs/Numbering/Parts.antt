@@ -1,5 +1,5 @@
 -- The parts of a netlist: what holds of each cell holds of each cell of each part, where it stands; and the reverse.
-use mathlib.Core.Path.{_≡_, refl, sym, ap, ap₂, _∙_}
+use mathlib.Core.Path.{_≡_, refl, ap, ap₂, _∙_}
 use mathlib.Core.List.{List, [], _∷_, _++_}
 use Prim.Native.Nat.{ℕ, zero, suc, _+_}
 use native.Mathlib.Omega.{arith}
@@ -9,7 +9,7 @@ use Rattle.model.specs.declared.Cell.{Cell}
 use Rattle.model.specs.Circuit.{cell}
 use Rattle.model.specs.Numbering.{delayCount, walkCount, delays, walk, clockSources, dataSources, Source, wiresOf}
 use Rattle.model.specs.Numbering.{orChain, ors, orCount, orsFrom, outsFrom, orCountFrom, memoriesOf, netlist}
-use Rattle.model.specs.Numbering.{headCells, clockAt, memoryAt, walkAt, dataAt, clockWires, dataWires}
+use Rattle.model.specs.Numbering.{clockAt, memoryAt, walkAt, dataAt, clockWires, dataWires}
 use Rattle.theory.specs.Numbering.Cells.{All, split, join}
 use Rattle.theory.specs.Numbering.Structure.{d-len, w-len}
 

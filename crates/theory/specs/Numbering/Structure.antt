@@ -1,24 +1,21 @@
 -- The structure theorem, first part: a statement's cells, wherever they stand, are a circuit of the statement.
 use mathlib.Core.Path.{_≡_, refl, sym, ap, ap₂, _∙_}
-use mathlib.Core.Logic.{_≢_}
 use mathlib.Core.Bool.{Bool, true, false, _&&_, _||_, not}
-use mathlib.Core.List.{List, [], _∷_, _++_}
+use mathlib.Core.List.{[], _∷_, _++_}
 use Prim.Native.Nat.{ℕ, zero, suc, _+_, _<_, _≤_}
-use native.Mathlib.Nat.{add-assoc}
 use native.Mathlib.Omega.{arith}
-use lib.Dec.{eqb, leb, T, le→leb, eqb→eq, eqb-refl}
+use lib.Dec.{eqb, leb, T, le→leb}
 use borrow.Author.Tests.{eq-eqb, ne-eqb, eqb-true, eqb-false}
-use lib.Bits.{bitOr, or-zero-r}
+use lib.Bits.{or-zero-r}
 use lib.ListN.{length, length-append}
 use Rattle.model.specs.Word.{pick}
 use Rattle.model.specs.Program.{Expr, const, var, compl, op, Stmt, ok, tick, assign, seq, par, ite, while, repeat}
-use Rattle.model.specs.Circuit.{Sig, delayed, merged}
-use Rattle.theory.specs.Control.Wiring.{Net, Plain, Assigned, Seq, Par, Ite, While, Repeat, Clk, Dat, Circuit, Mem, Joined}
+use Rattle.model.specs.Circuit.{delayed, merged}
+use Rattle.theory.specs.Control.Wiring.{Net, Circuit}
 use Rattle.model.specs.Rules.{eval}
 use Rattle.model.specs.Word.{operate, isZero}
-use Rattle.model.specs.declared.Cell.{Cell}
 use Rattle.model.specs.Circuit.{cell}
-use Rattle.model.specs.Numbering.{exprCount, exprWire, exprCells, own, pulse, ownCell, delayCount, walkCount, finishWire, delays, walk, clockSources, dataSources, Source, wiresOf}
+use Rattle.model.specs.Numbering.{exprCount, exprWire, exprCells, own, pulse, ownCell, delayCount, walkCount, finishWire, delays, walk, clockSources, dataSources, wiresOf}
 use Rattle.model.specs.Circuit.{Values, level}
 use Rattle.model.specs.Word.{bit}
 use Rattle.theory.specs.Numbering.Cells.{cellVal, Rule, Obeyed, split}

@@ -2,28 +2,27 @@
 use mathlib.Core.Path.{_≡_, refl, sym, ap, ap₂, _∙_}
 use mathlib.Core.Bool.{Bool, true, false, _&&_, _||_, not}
 use mathlib.Core.List.{List, [], _∷_, _++_, append-assoc}
-use Prim.Native.Nat.{ℕ, zero, suc, _+_, _<_, _≤_, suc-le-suc}
-use native.Mathlib.Nat.{not-suc-le-zero, add-zero, le-of-suc-le-suc, zero-lt-suc}
+use Prim.Native.Nat.{ℕ, zero, suc, _+_, _<_, _≤_}
+use native.Mathlib.Nat.{not-suc-le-zero, add-zero, le-of-suc-le-suc}
 use native.Mathlib.Omega.{arith}
-use lib.Dec.{eqb, leb, ltb, T, ltb→lt, lt→ltb, nltb→le, eqb→eq, not-T}
+use lib.Dec.{eqb, ltb, T, ltb→lt, lt→ltb, nltb→le, eqb→eq}
 use lib.Bits.{bitOr, or-zero-r}
 use lib.ListN.{length, length-append, getD, take}
 use lib.Seq.{take-append-add}
 use Rattle.model.specs.Word.{pick}
 use Rattle.model.specs.Program.{Stmt, ok, tick, assign, seq, par, ite, while, repeat}
-use Rattle.model.specs.Circuit.{Sig}
-use Rattle.theory.specs.Control.Wiring.{latch, Clk, Dat, Circuit, Mem}
+use Rattle.theory.specs.Control.Wiring.{latch, Circuit, Mem}
 use Rattle.model.specs.declared.Cell.{Cell}
 use Rattle.model.specs.Circuit.{cell}
-use Rattle.model.specs.Numbering.{exprCount, own, pulse, ownCell, delayCount, walkCount, finishWire, delays, walk, clockSources, dataSources, Source, wiresOf}
-use Rattle.model.specs.Numbering.{orChain, orChainOut, ors, orsOut, orCount, orsFrom, outsFrom, orCountFrom, memoriesOf, netlist, finish}
+use Rattle.model.specs.Numbering.{exprCount, own, ownCell, delayCount, walkCount, finishWire, delays, walk, clockSources, dataSources, Source, wiresOf}
+use Rattle.model.specs.Numbering.{orChain, orChainOut, ors, orsOut, orCount, orsFrom, outsFrom, memoriesOf, netlist, finish}
 use Rattle.model.specs.Numbering.{headCells, clockAt, memoryAt, walkAt, dataAt, clockWires, dataWires}
 use Rattle.model.specs.Circuit.{Values, level, memory, memories, startWord, Obeys}
 use Rattle.model.specs.Word.{bit}
 use Rattle.theory.specs.Numbering.Cells.{cellVal, Rule, Obeyed, split, obeys-holds}
 use Rattle.theory.specs.Numbering.Parts.{ors-len, orsFrom-len, outs-len, Laid, lay}
 use Rattle.theory.specs.Numbering.Levels.{level-of, op-or, ||-assoc, ||-false, or-assoc, anyHigh, allOr, clkOf, datOf, wires-append}
-use Rattle.theory.specs.Numbering.Structure.{WF, d-len, w-len, struct, is-true, is-false}
+use Rattle.theory.specs.Numbering.Structure.{WF, d-len, struct, is-true, is-false}
 
 -- ---- the ors
 

@@ -1,24 +1,22 @@
 -- Acceptance: an accepted program's tree has variables below 16, operators of kinds 4 to 9, delays that are large enough, and parallel sides
 -- that are apart. What is said of delays holds under any operator times.
 -- Assumes nothing.
-use mathlib.Core.Path.{_≡_, refl, sym, _∙_, ap}
+use mathlib.Core.Path.{_≡_, refl, _∙_, ap}
 use mathlib.Core.Bool.{Bool, true, false, _&&_, _||_}
 use mathlib.Core.List.{List, [], _∷_}
-use Prim.Native.Nat.{ℕ, zero, suc, _+_, _-_, _%_, _≤_, _<_}
+use Prim.Native.Nat.{ℕ, zero, suc, _+_, _-_, _≤_, _<_}
 use native.Mathlib.Omega.{arith}
-use native.Mathlib.Decide.{ℕ-discrete, decLt}
-use lib.ListN.{length, getD, drop}
+use native.Mathlib.Decide.{ℕ-discrete}
+use lib.ListN.{getD, drop}
 use lib.Dec.{ltb, eqb}
 use borrow.Author.Tests.{ltb-false, ltb-true, eqb-true, eqb-false}
 use Rattle.model.specs.declared.Node.{Node}
-use Rattle.model.specs.declared.Row.{Row}
-use Rattle.model.specs.declared.Checked.{Checked}
 use Rattle.model.specs.declared.Checked.the-variants.{Accepted}
 use Rattle.model.specs.Word.{pick}
-use Rattle.model.specs.Refusals.{first, firstFault, faultIf}
-use Rattle.model.specs.Program.{Expr, const, var, compl, op, Stmt, ok, tick, assign, seq, par, ite, while, repeat, Tree, expr, stmt, none, asExpr, asStmt, exprOf, stmtOf, treeOf, arity, grow, forest, treesAt, stmtAt, nodeCount, nodeAt, nodesFrom, nodesAt, rowOf, programOf, time, paperTime, least, reads, writes, touches, clash, clashes, programLengthWrong, spare, faultOf, reading, slowAt, clashAt, programChecks, checkOf}
+use Rattle.model.specs.Refusals.{first, faultIf}
+use Rattle.model.specs.Program.{Expr, Stmt, ok, tick, assign, seq, par, ite, while, repeat, Tree, expr, stmt, none, asExpr, asStmt, exprOf, stmtOf, treeOf, arity, grow, forest, treesAt, stmtAt, nodeCount, nodeAt, nodesFrom, nodesAt, rowOf, programOf, paperTime, least, writes, touches, clash, clashes, programLengthWrong, spare, faultOf, reading, slowAt, clashAt, programChecks, checkOf}
 use Rattle.theory.specs.Control.Wiring.{Timed, Apart, Separate}
-use Rattle.theory.specs.Refusals.Laws.{by-bool, all-accept, refuse-unless, fault-unless, first-place}
+use Rattle.theory.specs.Refusals.Laws.{all-accept, refuse-unless, fault-unless, first-place}
 use Rattle.theory.specs.Control.Uses.{or-left, or-right}
 use Rattle.theory.specs.Numbering.Structure.{WFe, WF}
 

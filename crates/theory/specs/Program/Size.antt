@@ -1,24 +1,23 @@
 -- Size: an accepted program is one statement with as many nodes as the program has, and its delays are bytes.
 -- Assumes nothing.
 use mathlib.Core.Path.{_≡_, refl, sym, _∙_, ap, ap₂}
-use mathlib.Core.Bool.{Bool, true, false, _||_}
+use mathlib.Core.Bool.{Bool, true, false}
 use mathlib.Core.List.{List, [], _∷_, _++_}
-use Prim.Native.Nat.{ℕ, zero, suc, _+_, _-_, _*_, _/_, _%_, _≤_, _<_}
+use Prim.Native.Nat.{ℕ, zero, suc, _+_, _-_, _*_, _≤_, _<_}
 use native.Mathlib.Omega.{arith}
 use native.Mathlib.Decide.{decLt}
 use lib.Dec.{ltb, eqb}
-use lib.ListN.{length, getD, drop, replicate, length-append, length-replicate, List·getD-eq-default}
+use lib.ListN.{length, getD, drop, length-append, length-replicate, List·getD-eq-default}
 use borrow.Author.Tests.{eqb-true, eqb-false, ltb-true, ltb-false}
 use Rattle.model.specs.declared.Node.{Node}
 use Rattle.model.specs.declared.Row.{Row}
-use Rattle.model.specs.declared.Checked.{Checked}
 use Rattle.model.specs.declared.Checked.the-variants.{Accepted}
 use Rattle.model.specs.Word.{pick}
-use Rattle.model.specs.Program.{Expr, const, var, compl, op, Stmt, ok, tick, assign, seq, par, ite, while, repeat, Tree, expr, stmt, none, asExpr, asStmt, exprOf, stmtOf, treeOf, arity, grow, forest, treesAt, stmtAt, nodeCount, nodeAt, nodesFrom, nodesAt, table, rowOf, programOf, paperTime, programLengthWrong, faultOf, children, reading, checkOf}
+use Rattle.model.specs.Program.{Expr, Stmt, ok, tick, assign, seq, par, ite, while, repeat, Tree, expr, stmt, none, asExpr, asStmt, exprOf, stmtOf, treeOf, arity, grow, forest, stmtAt, nodeCount, nodeAt, nodesFrom, table, rowOf, programOf, paperTime, programLengthWrong, faultOf, children, reading, checkOf}
 use Rattle.model.specs.Promises.{Bytes}
 use Rattle.theory.specs.Refusals.Laws.{not-refused, pick-true, or-false}
 use Rattle.theory.specs.Control.Wiring.{Timed}
-use Rattle.theory.specs.Program.Accepted.{Fit, program-fit, Passed, passed, by-test, known, op-kind, trees-from}
+use Rattle.theory.specs.Program.Accepted.{program-fit, passed, by-test, known, op-kind, trees-from}
 use Rattle.theory.specs.Numbering.Count.{eNodes, nodes}
 use Rattle.theory.specs.Numbering.Valid.{Low}
 

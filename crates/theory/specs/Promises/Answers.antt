@@ -6,16 +6,16 @@ use Prim.Native.Nat.{ℕ, zero, suc, _+_, _<_, _≤_}
 use native.Mathlib.Nat.{add-zero}
 use native.Mathlib.Omega.{arith}
 use lib.Dec.{eqb}
-use lib.ListN.{length, length-append}
+use lib.ListN.{length}
 use Rattle.model.specs.declared.Cell.{Cell}
 use Rattle.model.specs.Word.{pick, bit}
 use Rattle.model.specs.Program.{Stmt}
 use Rattle.model.specs.Rules.{Store}
-use Rattle.model.specs.Circuit.{cell, memories}
-use Rattle.model.specs.Numbering.{netlist, memoriesOf, clockSources, dataSources, clockAt, walkAt, dataAt, memoryAt, clockWires, dataWires, walk, orsFrom, outsFrom}
+use Rattle.model.specs.Circuit.{memories}
+use Rattle.model.specs.Numbering.{netlist, memoriesOf, clockSources, dataSources, clockAt, walkAt, dataAt, memoryAt, clockWires, dataWires, walk, orsFrom}
 use Rattle.model.specs.State.{nowAt, wordsIn}
 use Rattle.model.specs.Calls.{listed}
-use Rattle.theory.specs.Numbering.Parts.{outs-len, mems16}
+use Rattle.theory.specs.Numbering.Parts.{outs-len}
 use Rattle.theory.specs.Numbering.Whole.{below, above, parts, below-len, below-free, memories-append}
 
 module _ (s : List ℕ) where

@@ -1,27 +1,26 @@
 -- Every row of the paper's cases holds, by the rules and on the circuit: a full run and the reference run of an accepted program agree.
 -- Assumes nothing.
 use mathlib.Core.Path.{_≡_, refl, sym, _∙_, ap}
-use mathlib.Core.Bool.{Bool, true, false, _&&_}
+use mathlib.Core.Bool.{Bool, true, _&&_}
 use mathlib.Core.List.{List, [], _∷_, map}
-use Prim.Native.Nat.{ℕ, zero, suc, _+_, _*_, _/_, _%_, _<_, _≤_}
+use Prim.Native.Nat.{ℕ, zero, suc, _+_, _≤_}
 use native.Mathlib.Omega.{arith}
 use lib.Dec.{eqb, ltb}
-use lib.ListN.{length, getD, replicate}
+use lib.ListN.{length}
 use borrow.Author.Tests.{ltb-true, ltb-false, le-ltb}
 use Rattle.model.specs.declared.Checked.{Checked}
 use Rattle.model.specs.declared.Checked.the-variants.{Accepted}
 use Rattle.model.specs.declared.Outcome.{Outcome}
 use Rattle.model.specs.declared.Outcome.the-variants.{Ended, Open}
-use Rattle.model.specs.declared.Written.{Written}
 use Rattle.model.specs.declared.Answer.{Answer}
-use Rattle.model.specs.Refusals.{refuse, first}
+use Rattle.model.specs.Refusals.{refuse}
 use Rattle.model.specs.Program.{checkOf, programOf}
-use Rattle.model.specs.Rules.{Store, Run, ended, still, run}
+use Rattle.model.specs.Rules.{Store, ended, still, run}
 use Rattle.model.specs.Circuit.{high}
-use Rattle.model.specs.NetlistFile.{fileCheck, cellsOf, countOf, finishOf, fileLengthWrong}
+use Rattle.model.specs.NetlistFile.{fileCheck, cellsOf, finishOf, fileLengthWrong}
 use Rattle.model.specs.State.{stateSize, nowAt, beginState}
 use Rattle.model.specs.Calls.{verdict, checkCall, writing, compiledFile, compileCall, wordAt, shows, running, beginCall, runProgramCall, referenceAnswer, answering, referenceCall}
-use Rattle.model.specs.Promises.{Bytes, Seen, seen}
+use Rattle.model.specs.Promises.{Bytes, seen}
 use Rattle.model.specs.Cases.{Case, ends, refuses, compiles, passes, cases, start, endAnswer, Result, ran, numbered, checked, given, wanted, OnCircuit, Hold, times, cases-by-rules}
 use Rattle.theory.specs.Refusals.Laws.{and-true, or-false}
 use Rattle.theory.specs.Rules.Laws.{by-run}

@@ -1,19 +1,16 @@
 -- The published circuit of an accepted program keeps the rules' time: its finish wire is high exactly when a finish is due, and from the end on its
 -- memories show the last words.
-use Prim.Native.Nat.{ℕ, zero, suc, _+_, _≤_, _<_}
-use mathlib.Core.Path.{_≡_, refl, sym, _∙_, ap}
-use mathlib.Core.Bool.{Bool, true, false}
-use mathlib.Core.List.{List}
+use Prim.Native.Nat.{ℕ, _+_, _≤_, _<_}
+use mathlib.Core.Path.{_≡_, sym, _∙_}
 use native.Mathlib.Omega.{arith}
-use lib.Dec.{eqb}
 use borrow.Author.Tests.{ne-eqb}
 use Rattle.model.specs.Program.{Stmt}
-use Rattle.model.specs.Rules.{Store, Run, ended, still, run, endsAt, due}
+use Rattle.model.specs.Rules.{Store, ended, run, due}
 use Rattle.model.specs.Circuit.{Values, level, Obeys}
 use Rattle.model.specs.Numbering.{netlist, finish, clockSources, dataSources, walkAt, memoryAt}
 use Rattle.theory.specs.Numbering.Levels.{clkOf, datOf}
 use Rattle.theory.specs.Control.Timing.{TimingOf, timing}
-use Rattle.theory.specs.Numbering.Whole.{Built, built, showing, shows}
+use Rattle.theory.specs.Numbering.Whole.{built, showing, shows}
 use Rattle.theory.specs.Program.Accepted.{Fit}
 
 module _ (P : Stmt) (fit : Fit P) (σ : Store) (W : Values) (obeys : Obeys (netlist P) σ W) where

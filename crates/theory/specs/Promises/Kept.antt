@@ -3,32 +3,29 @@
 -- Assumes nothing.
 use mathlib.Core.Path.{_≡_, refl, sym, _∙_, ap, ap₂}
 use mathlib.Core.Bool.{Bool, true, false}
-use mathlib.Core.List.{List, [], _∷_, _++_, map}
-use Prim.Native.Nat.{ℕ, zero, suc, _+_, _-_, _*_, _<_, _≤_}
+use mathlib.Core.List.{List, [], _∷_, map}
+use Prim.Native.Nat.{ℕ, zero, suc, _+_, _<_, _≤_}
 use native.Mathlib.Omega.{arith}
 use native.Mathlib.Decide.{ℕ-discrete, decLt}
 use lib.Dec.{eqb, ltb}
 use lib.ListN.{length, take, drop}
 use lib.Seq.{take-append-seam}
 use borrow.Author.Tests.{ltb-false, le-ltb, eq-eqb, ne-eqb}
-use Rattle.model.specs.declared.Refusal.{Refusal}
 use Rattle.model.specs.declared.Cell.{Cell}
 use Rattle.model.specs.declared.Checked.{Checked}
 use Rattle.model.specs.declared.Checked.the-variants.{Accepted}
-use Rattle.model.specs.declared.Outcome.{Outcome}
-use Rattle.model.specs.declared.Outcome.the-variants.{Ended, Open}
+use Rattle.model.specs.declared.Outcome.the-variants.{Open}
 use Rattle.model.specs.declared.Written.{Written}
 use Rattle.model.specs.declared.Written.the-variants.{Done}
 use Rattle.model.specs.declared.Answer.{Answer}
-use Rattle.model.specs.Word.{pick}
 use Rattle.model.specs.Refusals.{first}
 use Rattle.model.specs.Program.{Stmt, checkOf, programOf}
-use Rattle.model.specs.Rules.{Store, Run, ended, still, run, Ends, endsAt, due}
+use Rattle.model.specs.Rules.{Store, ended, still, run, endsAt, due}
 use Rattle.model.specs.Circuit.{Values, high, level, Obeys, memories}
 use Rattle.model.specs.Numbering.{netlist, finish, memoryAt}
 use Rattle.model.specs.NetlistFile.{fileCheck, cellsOf, finishOf}
 use Rattle.model.specs.State.{stateSize, instantOf, nowAt, beginState, lastState, evaluated, wordsIn}
-use Rattle.model.specs.Calls.{Told, verdict, overwrite, compiledFile, compileChecks, compileCall, wordAt, refusedAnswer, shows, running, beginChecks, beginCall, continueCall, fullState, fullCount, runNetlistChecks, runNetlistCall, ToldBoth, runProgramChecks, runProgramCall, listed, referenceAnswer, answering, referenceCall}
+use Rattle.model.specs.Calls.{Told, verdict, compiledFile, compileChecks, compileCall, wordAt, refusedAnswer, shows, running, beginChecks, beginCall, continueCall, fullState, fullCount, runNetlistCall, runProgramCall, listed, referenceAnswer}
 use Rattle.model.specs.Promises.{Call, replay, Seen, seen, seenOf, endedIf, expected, Shown, Every, Unchanged, lastOf, stopsAt, Keeps}
 use Rattle.theory.specs.Refusals.Laws.{by-bool, not-refused, all-accept, refuse-unless}
 use Rattle.theory.specs.Program.Accepted.{Fit, program-fit}
@@ -45,7 +42,7 @@ use Rattle.theory.specs.State.Running.{continues, stops-high, stops-low}
 use Rattle.theory.specs.NetlistFile.Files.{cells-written, finish-written}
 use Rattle.theory.specs.NetlistFile.ReadWrite.{Wrote, wrote}
 use Rattle.theory.specs.Promises.Answers.{memory-words, listed-same}
-use Rattle.theory.specs.Promises.Replay.{at0, no-refusal, Good, good, answer-seen, checked, run-call}
+use Rattle.theory.specs.Promises.Replay.{at0, Good, good, answer-seen, checked, run-call}
 
 -- Calls that are not refused -----------------------------------------------------------------------------------------------------------
 

@@ -3,32 +3,31 @@
 use mathlib.Core.Path.{_≡_, refl, sym, _∙_, ap, ap₂}
 use mathlib.Core.Bool.{Bool, true, false, not}
 use mathlib.Core.List.{List, [], _∷_, _++_, map}
-use Prim.Native.Nat.{ℕ, zero, suc, _+_, _-_, _*_, _<_, _≤_, min}
+use Prim.Native.Nat.{ℕ, _+_, _-_, _<_, _≤_, min}
 use native.Mathlib.Omega.{arith}
 use native.Mathlib.Decide.{decLt}
 use lib.Dec.{ltb}
-use lib.ListN.{length, getD, take, drop, length-append, length-take, length-drop, take-append-drop, List·getD-append}
+use lib.ListN.{length, take, drop, length-append, length-take, take-append-drop, List·getD-append}
 use lib.Seq.{getD-take}
 use borrow.Author.Tests.{lt-ltb, le-ltb}
 use Rattle.model.specs.declared.Refusal.{Refusal}
 use Rattle.model.specs.declared.Cell.{Cell}
 use Rattle.model.specs.declared.Checked.{Checked}
 use Rattle.model.specs.declared.Checked.the-variants.{Accepted}
-use Rattle.model.specs.declared.Outcome.{Outcome}
 use Rattle.model.specs.declared.Outcome.the-variants.{Ended, Open}
 use Rattle.model.specs.declared.Answer.{Answer}
 use Rattle.model.specs.Word.{pick}
 use Rattle.model.specs.Refusals.{refuse, refuseIf, first}
 use Rattle.model.specs.Circuit.{Values, high, level, Obeys}
 use Rattle.model.specs.NetlistFile.{fileCheck, cellsOf, finishOf}
-use Rattle.model.specs.State.{stateSize, instantOf, nowAt, lastState, evaluated, wordsIn, sound}
+use Rattle.model.specs.State.{stateSize, instantOf, nowAt, lastState, evaluated, sound}
 use Rattle.model.specs.Calls.{Told, verdict, refusedAnswer, shows, running, continueChecks, continueCall}
-use Rattle.model.specs.Promises.{Call, replay, Seen, seen, seenOf, refusedSeen, endedIf, stopsAt, expected, Every, Leaves, Unchanged}
+use Rattle.model.specs.Promises.{Call, replay, Seen, seen, seenOf, refusedSeen, endedIf, stopsAt, expected, Every, Unchanged}
 use Rattle.theory.specs.Refusals.Laws.{not-refused}
 use Rattle.theory.specs.Circuit.Unique.{Ordered}
 use Rattle.theory.specs.State.States.{Holding}
 use Rattle.theory.specs.State.Sound.{sound-held}
-use Rattle.theory.specs.State.Running.{Continued, continues, same-holds}
+use Rattle.theory.specs.State.Running.{continues, same-holds}
 
 -- The clauses of what is expected -----------------------------------------------------------------------------------------------------------------------
 

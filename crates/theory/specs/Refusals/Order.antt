@@ -1,9 +1,9 @@
 -- Demand 1: every call gives the first refusal in the published order, and a refusal leaves what was lent as it was.
 -- Assumes nothing.
-use mathlib.Core.Path.{_≡_, refl, sym, _∙_, ap}
+use mathlib.Core.Path.{_≡_, refl, sym, ap}
 use mathlib.Core.Bool.{Bool, true, false, not, _&&_, _||_}
 use mathlib.Core.List.{List, [], _∷_, _++_}
-use Prim.Native.Nat.{ℕ, zero, suc, _+_, _*_, _/_, _%_, _<_, _≤_}
+use Prim.Native.Nat.{ℕ, _+_, _*_, _/_, _%_, _≤_}
 use native.Mathlib.Omega.{arith}
 use lib.Dec.{eqb, leb, ltb}
 use lib.ListN.{length}
@@ -13,8 +13,6 @@ use Rattle.model.specs.declared.Node.{Node}
 use Rattle.model.specs.declared.Cell.{Cell}
 use Rattle.model.specs.declared.Checked.{Checked}
 use Rattle.model.specs.declared.Checked.the-variants.{Accepted, Refused}
-use Rattle.model.specs.declared.Outcome.{Outcome}
-use Rattle.model.specs.declared.Written.{Written}
 use Rattle.model.specs.declared.Answer.{Answer}
 use Rattle.model.specs.Word.{pick}
 use Rattle.model.specs.Refusals.{refuse, refuseIf, first, firstFault, faultIf}
@@ -24,8 +22,8 @@ use Rattle.model.specs.Circuit.{high, cellAt, control, shape, memories}
 use Rattle.model.specs.Numbering.{finish}
 use Rattle.model.specs.NetlistFile.{wordSum, blockAt, headed, placed, keeps, fileLengthWrong, sumFault, countWrong, headerFault, cellFault, netChecks, netCheck, fileChecks, fileCheck, blocksFor, fileOf, cellBytes, cellsOf, countOf, finishOf}
 use Rattle.model.specs.State.{stateSize, instantOf, nowAt, sound, beginState, lastState, evaluated}
-use Rattle.model.specs.Calls.{Told, verdict, writtenVerdict, short, checkCall, writing, compiledFile, compileChecks, compileCall, cellsIn, writeChecks, writeCall, readChecks, readCall, wordAt, shows, running, beginChecks, beginCall, continueChecks, continueCall, fullState, fullCount, overBudget, runNetlistChecks, runNetlistCall, runProgramChecks, runProgramCall, referenceAnswer, answering, referenceChecks, referenceCall}
-use Rattle.model.specs.Promises.{FirstFound, Gives, InOrder, Refuses, Leaves, Demand1}
+use Rattle.model.specs.Calls.{verdict, writtenVerdict, short, checkCall, writing, compiledFile, compileChecks, compileCall, cellsIn, writeChecks, writeCall, readChecks, readCall, wordAt, shows, running, beginChecks, beginCall, continueChecks, continueCall, fullState, fullCount, overBudget, runNetlistChecks, runNetlistCall, runProgramChecks, runProgramCall, referenceAnswer, answering, referenceChecks, referenceCall}
+use Rattle.model.specs.Promises.{Gives, InOrder, Refuses, Leaves, Demand1}
 use Rattle.theory.specs.Refusals.Laws.{and-true, not-refused, same-refusal, first-found, first-place}
 use Rattle.theory.specs.Promises.Replay.{no-refusal}
 

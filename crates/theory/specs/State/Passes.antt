@@ -1,6 +1,6 @@
 -- The three passes of an instant, on the bytes of a state: what each leaves as it was, and what it makes of each cell.
-use mathlib.Core.Bool.{Bool, true, false, _&&_}
-use mathlib.Core.List.{List, [], _∷_}
+use mathlib.Core.Bool.{Bool, true, false}
+use mathlib.Core.List.{List}
 use mathlib.Core.Logic.{_⊎_, inl, inr, ⊎-elim}
 use mathlib.Core.Path.{_≡_, refl, sym, _∙_, ap}
 use Prim.Native.Nat.{ℕ, zero, suc, _+_, _-_, _*_, _/_, _%_, _^_, _<_, _≤_}
@@ -8,14 +8,12 @@ use native.Mathlib.Omega.{arith}
 use native.Mathlib.Nat.{add-zero}
 use native.Mathlib.Decide.{ℕ-discrete, decLt}
 use lib.ListN.{getD, set, length, length-set}
-use lib.Dec.{eqb}
 use lib.Seq.{getD-set-same, getD-set-other}
 use Rattle.model.specs.declared.Cell.{Cell}
 use Rattle.model.specs.declared.Merge.{Merge}
-use Rattle.model.specs.declared.Merged.{Merged}
 use Rattle.model.specs.Word.{bit, get16, put16, get32, put32}
 use Rattle.model.specs.Circuit.{cellAt, high, mergeStep, Shape, shape, kConstant, kComplement, kOperator, kStart, kGround, kDelay, kOr, kWhenTrue, kWhenFalse, kMerge, kMemory, kGated, kUnknown}
-use Rattle.model.specs.State.{base, instantOf, nowAt, beforeAt, heldAt, lineBit, value, upTo, aged, shown, shifted, holding, settle, settled, stepState}
+use Rattle.model.specs.State.{base, nowAt, beforeAt, heldAt, lineBit, value, upTo, aged, shown, shifted, holding, settle, settled, stepState}
 
 abbrev pub shapeAt : List Cell → ℕ → Shape
 shapeAt c k = shape (cellAt c k .kind)

@@ -1,15 +1,13 @@
 -- Continuing along a run: what a state holds, what is evaluated, and where it stops.
 use mathlib.Core.Bool.{Bool, true, false}
-use mathlib.Core.List.{List, [], _∷_, _++_}
+use mathlib.Core.List.{List}
 use mathlib.Core.Path.{_≡_, refl, sym, _∙_, ap, ap₂}
 use Prim.Native.Nat.{ℕ, zero, suc, _+_, _-_, _*_, _/_, _<_, _≤_}
 use native.Mathlib.Omega.{arith}
 use lib.ListN.{length, getD}
-use lib.Dec.{eqb}
 use Rattle.model.specs.declared.Cell.{Cell}
-use Rattle.model.specs.declared.Merge.{Merge}
-use Rattle.model.specs.Word.{get16, get32}
-use Rattle.model.specs.Circuit.{cellAt, Values, high, level, Obeys}
+use Rattle.model.specs.Word.{get32}
+use Rattle.model.specs.Circuit.{Values, high, level, Obeys}
 use Rattle.model.specs.State.{stateSize, base, instantOf, nowAt, beforeAt, heldAt, lineBit, stepState, lastState, evaluated}
 use Rattle.model.specs.Promises.{stopsAt}
 use Rattle.theory.specs.Refusals.Laws.{by-bool}

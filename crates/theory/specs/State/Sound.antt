@@ -1,24 +1,22 @@
 -- A state that holds the values of an instant is never refused by 15; and every state of a run holds them.
-use mathlib.Core.Bool.{Bool, true, false, not, _&&_, _||_}
-use mathlib.Core.List.{List, [], _∷_, _++_}
-use mathlib.Core.Path.{_≡_, refl, sym, _∙_, ap, ap₂}
-use Prim.Native.Nat.{ℕ, zero, suc, _+_, _-_, _*_, _<_, _≤_, suc-le-suc}
+use mathlib.Core.Bool.{Bool, true, false, not, _||_}
+use mathlib.Core.List.{List, [], _∷_}
+use mathlib.Core.Path.{_≡_, refl, _∙_}
+use Prim.Native.Nat.{ℕ, zero, suc, _+_, _*_, _<_, _≤_, suc-le-suc}
 use native.Mathlib.Nat.{add-zero}
 use native.Mathlib.Omega.{arith}
 use lib.ListN.{getD, length, take, drop}
 use lib.Seq.{getD-drop}
-use lib.Dec.{eqb, leb}
-use borrow.Author.Tests.{le-leb, eq-eqb, eqb-true, eqb-false}
+use borrow.Author.Tests.{le-leb, eq-eqb, eqb-false}
 use Rattle.model.specs.declared.Cell.{Cell}
-use Rattle.model.specs.Word.{bit}
 use Rattle.model.specs.Circuit.{cellAt, noCell, Values, control, Obeys}
 use Rattle.model.specs.NetlistFile.{allZero}
-use Rattle.model.specs.State.{stateSize, base, nowAt, beforeAt, beginState, stepState, cellSound, cellsSound, sound}
+use Rattle.model.specs.State.{stateSize, base, nowAt, beforeAt, cellSound, cellsSound, sound}
 use Rattle.model.specs.Promises.{stateAt, earlier, Holds}
-use Rattle.theory.specs.Refusals.Laws.{by-bool, and-of}
+use Rattle.theory.specs.Refusals.Laws.{and-of}
 use Rattle.theory.specs.Circuit.Unique.{Ordered}
 use Rattle.theory.specs.Circuit.Shapes.{level-bound}
-use Rattle.theory.specs.State.States.{Clean, Holding, step-holds, step-length, begin-holds, begin-length}
+use Rattle.theory.specs.State.States.{Holding, step-holds, step-length, begin-holds, begin-length}
 
 pub zero-run : (m : ℕ) (s : List ℕ) → ((i : ℕ) → i < m → getD s i 0 ≡ 0) → allZero (take m s) ≡ true
 unfolding allZero

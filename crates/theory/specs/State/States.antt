@@ -1,30 +1,26 @@
 -- The bytes of a state hold the values that obey the equations: beginning establishes it, each instant keeps it.
 use mathlib.Core.Bool.{Bool, true, false, not, _&&_, _||_}
-use mathlib.Core.List.{List, [], _∷_, _++_}
-use mathlib.Core.Logic.{_⊎_, inl, inr, ⊎-elim}
+use mathlib.Core.List.{List, _++_}
+use mathlib.Core.Logic.{inl, inr}
 use mathlib.Core.Path.{_≡_, refl, sym, _∙_, ap, ap₂}
-use Prim.Native.Nat.{ℕ, zero, suc, _+_, _-_, _*_, _/_, _%_, _^_, _<_, _≤_}
+use Prim.Native.Nat.{ℕ, zero, suc, _+_, _-_, _*_, _/_, _<_, _≤_}
 use native.Mathlib.Omega.{arith}
-use native.Mathlib.Nat.{add-zero, zero-div, zero-mod, sub-zero}
-use native.Mathlib.Decide.{ℕ-discrete, decLt, decLe}
-use native.Mathlib.Numerals.{add-one}
-use lib.ListN.{getD, set, length, take, drop, replicate, length-set, length-append, length-drop, length-replicate, getD-replicate, List·getD-append}
-use lib.Seq.{getD-drop, getD-set-same, getD-set-other}
-use lib.Dec.{eqb, leb, leb·zero}
-use borrow.Author.Tests.{le-leb, lt-leb, eq-eqb, ne-eqb, eqb-true, eqb-false}
+use native.Mathlib.Nat.{zero-div}
+use native.Mathlib.Decide.{ℕ-discrete, decLe}
+use lib.ListN.{getD, set, length, drop, replicate, length-set, length-append, length-drop, length-replicate, getD-replicate, List·getD-append}
+use lib.Seq.{getD-set-same, getD-set-other}
+use lib.Dec.{eqb, leb}
+use borrow.Author.Tests.{le-leb, lt-leb, ne-eqb, eqb-true, eqb-false}
 use Rattle.model.specs.declared.Cell.{Cell}
 use Rattle.model.specs.declared.Merge.{Merge}
-use Rattle.model.specs.declared.Merged.{Merged}
-use Rattle.model.specs.Word.{pick, bit, isZero, operate, get16, put16, get32}
-use Rattle.model.specs.Circuit.{cellAt, noCell, Sig, Values, high, level, delayed, mergeStep, heldBefore, merged, memory, equation, control, memories, startWord, Obeys, Shape, shape, kConstant, kComplement, kOperator, kStart, kGround, kDelay, kOr, kWhenTrue, kWhenFalse, kMerge, kMemory, kGated, kUnknown}
-use Rattle.model.specs.NetlistFile.{allZero}
-use Rattle.model.specs.State.{stateSize, base, instantOf, nowAt, beforeAt, heldAt, lineBit, later, value, firstValue, upTo, shown, shifted, holding, settle, settled, beginState, stepState, cellSound, cellsSound, sound}
-use Rattle.model.specs.Promises.{stateAt, earlier, Holds}
-use Rattle.theory.specs.Refusals.Laws.{by-bool}
+use Rattle.model.specs.Word.{pick, bit, isZero, operate, get16, get32}
+use Rattle.model.specs.Circuit.{cellAt, Sig, Values, high, level, delayed, mergeStep, heldBefore, merged, memory, equation, startWord, Obeys, Shape, shape, kConstant, kComplement, kOperator, kStart, kGround, kDelay, kOr, kWhenTrue, kWhenFalse, kMerge, kMemory, kGated, kUnknown}
+use Rattle.model.specs.State.{base, instantOf, nowAt, beforeAt, heldAt, lineBit, later, value, firstValue, shown, holding, settle, settled, beginState, stepState}
+use Rattle.model.specs.Promises.{earlier}
 use Rattle.theory.specs.Numbering.Levels.{delayed-zero}
 use Rattle.theory.specs.Circuit.Unique.{Looks, Ordered}
-use Rattle.theory.specs.Circuit.Shapes.{start-kind, delay-kind, merge-kind, memory-kind, bit-le, level-bound}
-use Rattle.theory.specs.State.Passes.{shapeAt, get16-same, upTo-frame, upTo-length, shown-frame, settled-frame, shifted-frame, holding-frame, header, count-now, one, length-one, one-high, before-one, two, two-high, length-two, three, length-three, after, third-at, third-own, now-after, seen-now, seen-before, seen-held, seen-line, before-after, held-after, Line, line-new, line-old, line-bytes, step-is, header-kept}
+use Rattle.theory.specs.Circuit.Shapes.{start-kind, delay-kind, merge-kind, memory-kind, bit-le}
+use Rattle.theory.specs.State.Passes.{shapeAt, upTo-frame, shown-frame, settled-frame, shifted-frame, holding-frame, count-now, one, length-one, one-high, before-one, two, three, length-three, after, third-at, third-own, now-after, seen-now, seen-before, seen-held, seen-line, before-after, held-after, Line, line-new, line-old, line-bytes, step-is, header-kept}
 
 -- Delayed signals --------------------------------------------------------------------------------------------------------------------------------
 

@@ -46,9 +46,10 @@ numbered k =
     (by (eqb k 41) kGated kUnknown (at 41 kGated refl) (inr refl))))))))))))
   where
     by : (b : Bool) (u v : Shape) → (b ≡ true → (number u ≡ k) ⊎ (number u ≡ 0)) → (number v ≡ k) ⊎ (number v ≡ 0)
-      → (number (pick b u v) ≡ k) ⊎ (number (pick b u v) ≡ 0)
+        → (number (pick b u v) ≡ k) ⊎ (number (pick b u v) ≡ 0)
     by true u v f g = f refl
     by false u v f g = g
+
     at : (j : ℕ) (u : Shape) → number u ≡ j → eqb k j ≡ true → (number u ≡ k) ⊎ (number u ≡ 0)
     at j u e t = inl (e ∙ sym (eqb-true k j t))
 

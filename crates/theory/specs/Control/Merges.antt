@@ -63,9 +63,9 @@ holds-for f g p q a zero z e x y = subst (λ (k : ℕ). heldBefore f g k ≡ bit
 holds-for f g p q a (suc n) z e x y =
     let i = holds-for f g p q a n z e (λ t l h. x t l (omega arith)) (λ t l h. y t l (omega arith)) in
     let k : heldBefore f g (suc (a + n)) ≡ bits p q =
-          held-next f g (a + n) p q i
-          ∙ ap₂ (λ (v w : Bool). mergeStep (bits p q) v w .held) (x (a + n) (omega arith) (omega arith)) (y (a + n) (omega arith) (omega arith))
-          ∙ stays p q z in
+    held-next f g (a + n) p q i
+    ∙ ap₂ (λ (v w : Bool). mergeStep (bits p q) v w .held) (x (a + n) (omega arith) (omega arith)) (y (a + n) (omega arith) (omega arith))
+    ∙ stays p q z in
     subst (λ (k : ℕ). heldBefore f g k ≡ bits p q) (omega arith) k
 
 -- while neither input comes the merge holds what it held
@@ -123,7 +123,7 @@ meets f g a c b o₁ o₂ e x₁ x x₂ y₁ y =
     meets-with f g b false false (subst (λ (n : ℕ). Empty f g n) q i) (rw (subst (λ (n : ℕ). f n ≡ true) q x) refl) (rw y refl))
     (λ k.
     let j : heldBefore f g (suc c) ≡ bits true false =
-          held-next f g c false false i ∙ ap₂ (λ (p q : Bool). mergeStep (bits false false) p q .held) x (y₁ c o₁ k) in
+    held-next f g c false false i ∙ ap₂ (λ (p q : Bool). mergeStep (bits false false) p q .held) x (y₁ c o₁ k) in
     let l = holds-to f g true false (suc c) b k refl j (λ t l h. x₂ t l (omega arith)) (λ t l h. y₁ t (omega arith) h) in
     meets-with f g b true false l (or-true (f b)) (rw y refl))
 

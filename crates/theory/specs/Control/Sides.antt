@@ -62,7 +62,7 @@ module _ (m : Memory) (R O : Stmt) (timedR : Timed R) (timedO : Timed O) (doesR 
   ends t₁ σ′ y p =
       let q : a + d + t₁ ≡ b = omega arith in
       let E : Ended m R U σ′ sR fR clkR datR (a + d) b =
-            subst (λ (c : ℕ). Ended m R U σ′ sR fR clkR datR (a + d) c) q (launched .ends t₁ σ′ p) in
+      subst (λ (c : ℕ). Ended m R U σ′ sR fR clkR datR (a + d) c) q (launched .ends t₁ σ′ p) in
       let q₁ : Quiet fR a b = glue fR a (a + d) b (waits .fin) (E .quiet) in
       record {
         quiet = λ t l k. fin t ∙ ap₂ _||_ (q₁ t l k) (other .fin t l (omega arith));

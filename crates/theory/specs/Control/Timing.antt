@@ -93,15 +93,15 @@ unfolding Mem
 timing P timed separate m s f clk dat circuit mem pulse after σ words =
     let U : ℕ → Type 0 = λ x. Unit {0} in
     let B : (t : ℕ) → Begins m P U σ s f clk dat 0 t =
-          λ t.
-          record {
-            mine = λ x h. tt;
-            calm = calm-zero m P s f clk dat circuit;
-            start = pulse;
-            after = λ u l k. after u l;
-            follow = λ x i u l k. mem u x;
-            words = λ x i. words x;
-          } in
+    λ t.
+    record {
+      mine = λ x h. tt;
+      calm = calm-zero m P s f clk dat circuit;
+      start = pulse;
+      after = λ u l k. after u l;
+      follow = λ x i u l k. mem u x;
+      words = λ x i. words x;
+    } in
     record {
       finish = λ t. rw zero-add at (finish-at m P timed separate U σ s f clk dat 0 t (B t) t (omega arith));
       words = λ t₀ σ′ p t x o. rw zero-add at (words-after m P timed separate U σ s f clk dat 0 t (B t) t₀ σ′ p t x o (omega arith) tt);

@@ -166,11 +166,11 @@ block-back b n f cs (x₀ ∷ x₁ ∷ x₂ ∷ x₃ ∷ x₄ ∷ x₅ ∷ x₆ 
     let p : List ℕ = x₀ ∷ x₁ ∷ x₂ ∷ x₃ ∷ x₄ ∷ x₅ ∷ x₆ ∷ x₇ ∷ [] in
     let m = 6 * length cs in
     let rest : drop m r ≡ replicate (504 - m) 0 =
-          zeros-back (504 - m) (drop m r) (rw (length-drop m r) (omega arith))
-          (λ i. getD-drop m r i 0 ∙ sym (getD-append-add p r (m + i) 0) ∙ z (8 + (m + i)) (omega arith)) in
+    zeros-back (504 - m) (drop m r) (rw (length-drop m r) (omega arith))
+    (λ i. getD-drop m r i 0 ∙ sym (getD-append-add p r (m + i) 0) ∙ z (8 + (m + i)) (omega arith)) in
     let whole : cellBytes cs ++ replicate (504 - m) 0 ≡ r =
-          ap (λ (q : List ℕ). cellBytes cs ++ q) (sym rest)
-          ∙ cells-back cs r (λ i. rw (getD-append-add p r i 0) at (y (8 + i))) (λ i g. c i g ∙ from-shift p r (8 + 6 * i) (6 * i) (omega arith)) (omega arith) in
+    ap (λ (q : List ℕ). cellBytes cs ++ q) (sym rest)
+    ∙ cells-back cs r (λ i. rw (getD-append-add p r i 0) at (y (8 + i))) (λ i g. c i g ∙ from-shift p r (8 + 6 * i) (6 * i) (omega arith)) (omega arith) in
     block-of b n f cs x₀ x₁ x₂ x₃ x₄ x₅ x₆ x₇ r (y 0) (y 2) (y 4) (y 6) (y 7) (sym eb) (sym en) (sym ef) s whole
 
 zero-all : (s : List ℕ) → allZero s ≡ true → (i : ℕ) → getD s i 0 ≡ 0
@@ -187,8 +187,7 @@ header-of n f b B e =
     let p = and-true (eqb (get16 B 0) b) _ e in
     let q = and-true (eqb (get16 B 2) n) _ (p .1) in
     let r = and-true (eqb (get16 B 4) f) _ (q .1) in
-    let J = 8 + 6 * (n - 84 * b) in
-    (
+    let J = 8 + 6 * (n - 84 * b) in (
       eqb-true _ _ (p .0),
       eqb-true _ _ (q .0),
       eqb-true _ _ (r .0),
@@ -206,10 +205,10 @@ blocks-back zero b n f cs (x ∷ s) l h = absurd (omega arith)
 blocks-back (suc m) b n f cs s l h =
     let first : block b n f (take 84 cs) ≡ take 512 s = ap (λ (k : ℕ). block k n f (take 84 cs)) (sym (add-zero b)) ∙ h 0 (omega arith) in
     let rest =
-          blocks-back m (b + 1) n f (drop 84 cs) (drop 512 s) (rw (length-drop 512 s) (omega arith))
-          (λ j k.
-          let z : b + 1 + j ≡ b + suc j = omega arith in
-          ap₂ (λ (k : ℕ) (r : List Cell). block k n f (take 84 r)) z (drop-more 84 j cs)
-          ∙ h (suc j) (omega arith)
-          ∙ ap (λ (r : List ℕ). take 512 r) (sym (drop-more 512 j s))) in
+    blocks-back m (b + 1) n f (drop 84 cs) (drop 512 s) (rw (length-drop 512 s) (omega arith))
+    (λ j k.
+    let z : b + 1 + j ≡ b + suc j = omega arith in
+    ap₂ (λ (k : ℕ) (r : List Cell). block k n f (take 84 r)) z (drop-more 84 j cs)
+    ∙ h (suc j) (omega arith)
+    ∙ ap (λ (r : List ℕ). take 512 r) (sym (drop-more 512 j s))) in
     ap₂ (λ (x z : List ℕ). x ++ z) first rest ∙ take-append-drop 512 s

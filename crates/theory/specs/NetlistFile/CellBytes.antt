@@ -116,5 +116,5 @@ cells-back (c ∷ cs) (x₀ ∷ x₁ ∷ x₂ ∷ x₃ ∷ x₄ ∷ x₅ ∷ r) 
     let p : List ℕ = x₀ ∷ x₁ ∷ x₂ ∷ x₃ ∷ x₄ ∷ x₅ ∷ [] in
     rw e
     (six-back c cs x₀ x₁ x₂ x₃ x₄ x₅ (drop (6 * length cs) r) r (b 2) (b 4) (h 0 (omega arith))
-      (cells-back cs r (λ i. b (suc (suc (suc (suc (suc (suc i)))))))
-        (λ i g. h (suc i) (suc-le-suc g) ∙ from-shift p r (6 * suc i) (6 * i) (omega arith)) (omega arith)))
+    (cells-back cs r (λ i. b (suc (suc (suc (suc (suc (suc i)))))))
+    (λ i g. h (suc i) (suc-le-suc g) ∙ from-shift p r (6 * suc i) (6 * i) (omega arith)) (omega arith)))

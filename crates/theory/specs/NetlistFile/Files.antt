@@ -96,8 +96,12 @@ module _ (net : List Cell) (f : ℕ) (c : countWrong (blocksFor (length net)) (l
   header-right : (b : ℕ) → b < m → headerFault (fileOf net f) b ≡ 0
   unfolding headerFault
   header-right b l =
-      rw (count-written net f some-cells, finish-written net f some-cells, written-at net f some-cells b l,
-        headed-written b (length net) f (drop (84 * b) net) (length-drop (84 * b) net))
+      rw (
+        count-written net f some-cells,
+        finish-written net f some-cells,
+        written-at net f some-cells b l,
+        headed-written b (length net) f (drop (84 * b) net) (length-drop (84 * b) net),
+      )
 
   pub file-accepted : fileCheck (fileOf net f) ≡ Accepted
   unfolding fileCheck
@@ -153,16 +157,16 @@ module _ (s : List ℕ) (bytes : Bytes s) (e : fileCheck s ≡ Accepted) where
   block-same b l =
       let part = take 84 (drop (84 * b) (cellsOf s)) in
       let n : length part ≡ min 84 (countOf s - 84 * b) =
-            length-take 84 (drop (84 * b) (cellsOf s)) ∙ ap (min 84) (length-drop (84 * b) (cellsOf s) ∙ ap (λ (k : ℕ). k - 84 * b) (count-cells s)) in
+      length-take 84 (drop (84 * b) (cellsOf s)) ∙ ap (min 84) (length-drop (84 * b) (cellsOf s) ∙ ap (λ (k : ℕ). k - 84 * b) (count-cells s)) in
       let h = header-of (countOf s) (finishOf s) b (blockAt s b) (p .headers b l) in
       let B : length (blockAt s b) ≡ 512 = length-take 512 (drop (512 * b) s) ∙ ap (min 512) (length-drop (512 * b) s) ∙ omega (arith, whole-blocks) in
       block-back b (countOf s) (finishOf s) part (blockAt s b) B (block-bytes b) (h .0) (h .1) (h .2) (p .sums b l) (take-short (drop (84 * b) (cellsOf s)))
       (λ i g.
-        getD-take 84 (drop (84 * b) (cellsOf s)) i noCell (omega (arith, n))
-        ∙ getD-drop (84 * b) (cellsOf s) i noCell
-        ∙ cell-of inFile s 0 (countOf s) (84 * b + i) (omega (arith, n))
-        ∙ ap (λ (k : ℕ). cellFrom s (inFile k)) (zero-add (84 * b + i))
-        ∙ sym (cell-of-block s b i (omega (arith, n))))
+      getD-take 84 (drop (84 * b) (cellsOf s)) i noCell (omega (arith, n))
+      ∙ getD-drop (84 * b) (cellsOf s) i noCell
+      ∙ cell-of inFile s 0 (countOf s) (84 * b + i) (omega (arith, n))
+      ∙ ap (λ (k : ℕ). cellFrom s (inFile k)) (zero-add (84 * b + i))
+      ∙ sym (cell-of-block s b i (omega (arith, n))))
       (λ j g. zero-after b j B (h .3) (omega (arith, n)))
 
   pub file-back : fileOf (cellsOf s) (finishOf s) ≡ s

@@ -62,7 +62,7 @@ cells-same cells y e =
     sym (append-nil (cellBytes (cellsIn cells)))
     ∙ ap (λ (r : List ℕ). cellBytes (cellsIn cells) ++ r) (sym (drop-of-length-le cells {i = 6 * length (cellsIn cells)} (omega (arith, z))))
     ∙ cells-back (cellsIn cells) cells y
-      (λ i l. cell-of inList cells 0 (length cells / 6) i (omega (arith, n)) ∙ ap (λ (k : ℕ). cellFrom cells (6 * k)) (zero-add i)) (omega (arith, z))
+    (λ i l. cell-of inList cells 0 (length cells / 6) i (omega (arith, n)) ∙ ap (λ (k : ℕ). cellFrom cells (6 * k)) (zero-add i)) (omega (arith, z))
 
 -- and what is written of cells has those cells
 cells-in-bytes : (cs : List Cell) → cellsIn (cellBytes cs) ≡ cs

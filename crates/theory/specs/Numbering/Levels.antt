@@ -106,4 +106,5 @@ pub joined : (W : Values) (us vs us′ vs′ : List Source)
 joined W us vs us′ vs′ =
     record {
       clocks = λ y t. rw wires-append (any-append W (wiresOf y us) (wiresOf y vs) t);
-      words = λ y t. rw wires-append (or-append W (wiresOf y us′) (wiresOf y vs′) t) }
+      words = λ y t. rw wires-append (or-append W (wiresOf y us′) (wiresOf y vs′) t);
+    }

@@ -160,7 +160,8 @@ module _ (first : ℕ → ℕ) (W : Values) (M : ℕ) (m : ℕ → ℕ → ℕ) 
           clocks = λ y t. own-clock x d y t ∙ ap (λ (b : Bool). pick (eqb y x) b false) (D t);
           words = λ y t.
               own-data x (c + exprCount e) y t
-              ∙ ap (λ (v : ℕ). pick (eqb y x) v 0) (r .1 .0 t ∙ ap₂ (λ (p : Bool) (v : ℕ). pick p v 0) (D t) (expr e (w .1) c (r .0) t)) },
+              ∙ ap (λ (v : ℕ). pick (eqb y x) v 0) (r .1 .0 t ∙ ap₂ (λ (p : Bool) (v : ℕ). pick p v 0) (D t) (expr e (w .1) c (r .0) t));
+        },
         tt,
         tt,
       )
@@ -176,7 +177,8 @@ module _ (first : ℕ → ℕ) (W : Values) (M : ℕ) (m : ℕ → ℕ → ℕ) 
         dat₂ = datOf W (dataSources Q (c + walkCount P));
         left = struct P (w .0) s d c (rd .0) (rc .0);
         right = struct Q (w .1) g (d + delayCount P) (c + walkCount P) (rd .1) (rc .1);
-        joined = joined W (clockSources P d) (clockSources Q (d + delayCount P)) (dataSources P c) (dataSources Q (c + walkCount P)) }
+        joined = joined W (clockSources P d) (clockSources Q (d + delayCount P)) (dataSources P c) (dataSources Q (c + walkCount P));
+      }
   struct (par P Q) w s d c hd hw =
       let f = finishWire P s d c in
       let g = finishWire Q s (d + delayCount P) (c + walkCount P) in
@@ -194,7 +196,8 @@ module _ (first : ℕ → ℕ) (W : Values) (M : ℕ) (m : ℕ → ℕ → ℕ) 
         right = struct Q (w .1) s (d + delayCount P) (c + walkCount P) (rd .1) (rm .0);
         joined = joined W (clockSources P d) (clockSources Q (d + delayCount P)) (dataSources P c) (dataSources Q (c + walkCount P));
         fin = λ t. level-of (merged (level W f) (level W g) t) (rm .1 .0 t);
-        merge = tt }
+        merge = tt;
+      }
   struct (ite δ e P Q) w s d c hd hw =
       let p = c + exprCount e in
       let dP = d + own δ in
@@ -226,7 +229,8 @@ module _ (first : ℕ → ℕ) (W : Values) (M : ℕ) (m : ℕ → ℕ → ℕ) 
         yes₁ = λ t. yes-is p (pulse δ s d) (exprWire M e c) t (re .1 .0 t) (D t) (E t);
         no₂ = λ t. no-is (p + 1) (pulse δ s d) (exprWire M e c) t (re .1 .1 .0 t) (D t) (E t);
         fin = λ t. level-of (level W f t || level W g t) (rQ .1 .0 t);
-        delay = tt }
+        delay = tt;
+      }
   struct (while δ e P) w s d c hd hw =
       let p = c + exprCount e in
       let cP = p + 1 + 1 in
@@ -242,7 +246,8 @@ module _ (first : ℕ → ℕ) (W : Values) (M : ℕ) (m : ℕ → ℕ → ℕ) 
         body = struct P (w .1) p (d + 1) cP (hd .1) (rP .0);
         begin = λ t. yes-is p d (exprWire M e c) t (re .1 .0 t) (D t) (E t);
         fin = λ t. no-is (p + 1) d (exprWire M e c) t (re .1 .1 .0 t) (D t) (E t);
-        delay = tt }
+        delay = tt;
+      }
   struct (repeat δ e P) w s d c hd hw =
       let p = c + exprCount e in
       let cP = p + 1 + 1 + 1 in
@@ -256,4 +261,5 @@ module _ (first : ℕ → ℕ) (W : Values) (M : ℕ) (m : ℕ → ℕ → ℕ) 
         body = struct P (w .1) (p + 1 + 1) (d + 1) cP (hd .1) (re .1 .1 .1 .1);
         begin = λ t. level-of (level W s t || level W (p + 1) t) (re .1 .1 .1 .0 t) ∙ ap (λ (b : Bool). level W s t || b) (no-is (p + 1) d (exprWire M e c) t (re .1 .1 .0 t) (D t) (E t));
         fin = λ t. yes-is p d (exprWire M e c) t (re .1 .0 t) (D t) (E t);
-        delay = tt }
+        delay = tt;
+      }

@@ -49,6 +49,7 @@ op-kind a f l n1 n2 n3 = (
   where
     k : ℕ
     k = a .kind
+
     no : (j : ℕ) → rowOf j .sort ≡ 0 → k ≡ j → ⊥
     no j h e = known a f (unknown-at (a .kind) j e h)
 
@@ -150,18 +151,18 @@ module _ (τ : ℕ → ℕ) (a : Node) (f : faultOf a ≡ 0) where
       by-test Fits (eqb (a .kind) 16) _ _ (λ t h c. ok-fit)
       (λ n. by-test Fits (eqb (a .kind) 17) _ _ (λ t h c. record { formed = tt; timed = h; separate = tt })
       (λ n. by-test Fits (eqb (a .kind) 18) _ _
-        (λ t h c. record { formed = (assign-low a (eqb-true _ _ t) f, w); timed = omega arith; separate = tt })
+      (λ t h c. record { formed = (assign-low a (eqb-true _ _ t) f, w); timed = omega arith; separate = tt })
       (λ n. by-test Fits (eqb (a .kind) 19) _ _
-        (λ t h c. record { formed = (o .formed, p .formed); timed = (o .timed, p .timed); separate = (o .separate, p .separate) })
+      (λ t h c. record { formed = (o .formed, p .formed); timed = (o .timed, p .timed); separate = (o .separate, p .separate) })
       (λ n. by-test Fits (eqb (a .kind) 20) _ _
-        (λ t h c.
-          let d = apart O P (o .formed) (p .formed) c in
-          record { formed = (o .formed, p .formed); timed = (o .timed, p .timed); separate = (o .separate, p .separate, d .0, d .1) })
+      (λ t h c.
+      let d = apart O P (o .formed) (p .formed) c in
+      record { formed = (o .formed, p .formed); timed = (o .timed, p .timed); separate = (o .separate, p .separate, d .0, d .1) })
       (λ n. by-test Fits (eqb (a .kind) 21) _ _
-        (λ t h c. record { formed = (w, p .formed, q .formed); timed = (p .timed, q .timed); separate = (p .separate, q .separate) })
+      (λ t h c. record { formed = (w, p .formed, q .formed); timed = (p .timed, q .timed); separate = (p .separate, q .separate) })
       (λ n. by-test Fits (eqb (a .kind) 22) _ _
-        (λ t h c. record { formed = (w, p .formed); timed = (omega arith, p .timed); separate = p .separate })
-        (λ n h c. record { formed = (w, p .formed); timed = (omega arith, p .timed); separate = p .separate })))))))
+      (λ t h c. record { formed = (w, p .formed); timed = (omega arith, p .timed); separate = p .separate })
+      (λ n h c. record { formed = (w, p .formed); timed = (omega arith, p .timed); separate = p .separate })))))))
 
   fit-tree : (x y z : Tree) → FitT x → FitT y → FitT z
       → least τ (asStmt (treeOf a x y z)) ≤ a .delay → clashes (asStmt (treeOf a x y z)) ≡ false → FitT (treeOf a x y z)
@@ -223,8 +224,7 @@ module _ (τ : ℕ → ℕ) (s : List ℕ) (p : Passed τ s) where
       let F = forest (nodesFrom s (i + 1) n) in
       let h = fit-forest (i + 1) n (omega arith) in
       let l : i < nodeCount s = omega arith in
-      let t = trees-from s i (suc n) e in
-      (
+      let t = trees-from s i (suc n) e in (
         fit-tree τ (nodeAt s i) (p .faults i l) _ _ _ (fit-at F 0 h) (fit-at F 1 h) (fit-at F 2 h) (rw t at (p .delays i l)) (rw t at (p .sides i l)),
         fit-drop F (arity (nodeAt s i .kind)) h,
       )

@@ -116,9 +116,9 @@ module _ (a : Node) (h : faultOf a ≡ 0) (f : ℕ → Tree) where
       (λ n1. by-test R (eqb (a .kind) 2) _ _ (λ t. rw (eqb-true (a .kind) 2 t) (refl, refl))
       (λ n2. by-test R (eqb (a .kind) 3) _ _ (λ t. rw (eqb-true (a .kind) 3 t) (refl, omega arith))
       (λ n3.
-        let k = op-kind a h l (eqb-false _ _ n1) (eqb-false _ _ n2) (eqb-false _ _ n3) in
-        let r = operator-row (a .kind) (k .0) (k .1) in
-        rw (r .0, r .1) (refl, omega arith))))
+      let k = op-kind a h l (eqb-false _ _ n1) (eqb-false _ _ n2) (eqb-false _ _ n3) in
+      let r = operator-row (a .kind) (k .0) (k .1) in
+      rw (r .0, r .1) (refl, omega arith))))
 
   grown-stmt : 16 ≤ a .kind → Grown a f (stmt (stmtOf a (asExpr (f 0)) (asStmt (f 0)) (asStmt (f 1)) (asStmt (f 2))))
   unfolding Grown stmtOf rowOf children weight part nodes
@@ -132,11 +132,11 @@ module _ (a : Node) (h : faultOf a ≡ 0) (f : ℕ → Tree) where
       (λ n20. by-test R (eqb (a .kind) 21) _ _ (λ t. rw (eqb-true (a .kind) 21 t) (refl, omega arith))
       (λ n21. by-test R (eqb (a .kind) 22) _ _ (λ t. rw (eqb-true (a .kind) 22 t) (refl, omega arith))
       (λ n22.
-        let l₁ : 19 ≤ a .kind = omega (arith, eqb-false (a .kind) 16 n16, eqb-false (a .kind) 17 n17, eqb-false (a .kind) 18 n18) in
-        let l₂ : 23 ≤ a .kind =
-              omega (arith, eqb-false (a .kind) 19 n19, eqb-false (a .kind) 20 n20, eqb-false (a .kind) 21 n21, eqb-false (a .kind) 22 n22) in
-        let k = last-kind a h l₂ in
-        rw k (refl, omega arith))))))))
+      let l₁ : 19 ≤ a .kind = omega (arith, eqb-false (a .kind) 16 n16, eqb-false (a .kind) 17 n17, eqb-false (a .kind) 18 n18) in
+      let l₂ : 23 ≤ a .kind =
+      omega (arith, eqb-false (a .kind) 19 n19, eqb-false (a .kind) 20 n20, eqb-false (a .kind) 21 n21, eqb-false (a .kind) 22 n22) in
+      let k = last-kind a h l₂ in
+      rw k (refl, omega arith))))))))
 
   grown : Grown a f (treeOf a (f 0) (f 1) (f 2))
   unfolding treeOf
@@ -270,5 +270,5 @@ pub program-low : (s : List ℕ) → Bytes s → checkOf s ≡ Accepted → Low 
 unfolding stmtAt
 program-low s bytes e =
     let short : Short (programOf s) =
-          rw (trees-from s 0 (nodeCount s) (omega arith)) (short-at (forest (nodesFrom s 0 (nodeCount s))) 0 (short-forest s bytes 0 (nodeCount s))) in
+    rw (trees-from s 0 (nodeCount s) (omega arith)) (short-at (forest (nodesFrom s 0 (nodeCount s))) 0 (short-forest s bytes 0 (nodeCount s))) in
     low-of (programOf s) (program-fit s e .timed) short

@@ -88,8 +88,15 @@ module _ (P : Stmt) (sixteen : memories (netlist P) ≡ 16) (s : List ℕ) where
 
   rest-free : memories rest ≡ 0
   rest-free =
-      omega (arith, sym sixteen ∙ ap memories (parts P), memories-append (below P) (above P), below-free P, ap memories above-is,
-        memories-append (memoriesOf ks ds) rest, mems-count 16 ks ds ks-len ds-len)
+      omega (
+        arith,
+        sym sixteen ∙ ap memories (parts P),
+        memories-append (below P) (above P),
+        below-free P,
+        ap memories above-is,
+        memories-append (memoriesOf ks ds) rest,
+        mems-count 16 ks ds ks-len ds-len,
+      )
 
   pub memory-words : wordsIn (netlist P) 0 s ≡ listed (λ x. nowAt s (memoryAt P + x)) 0 16
   memory-words =
@@ -97,5 +104,5 @@ module _ (P : Stmt) (sixteen : memories (netlist P) ≡ 16) (s : List ℕ) where
       ap (λ (net : List Cell). wordsIn net 0 s) (parts P)
       ∙ words-append s (below P) (above P) 0
       ∙ rw (words-none s (below P) 0 (below-free P), e, above-is)
-        (words-append s (memoriesOf ks ds) rest (memoryAt P + 0)
-        ∙ rw (words-none s rest (memoryAt P + 0 + length (memoriesOf ks ds)) rest-free, words-mems s 16 (memoryAt P) 0 ks ds ks-len ds-len) (append-nil (listed (λ y. nowAt s (memoryAt P + y)) 0 16)))
+      (words-append s (memoriesOf ks ds) rest (memoryAt P + 0)
+      ∙ rw (words-none s rest (memoryAt P + 0 + length (memoriesOf ks ds)) rest-free, words-mems s 16 (memoryAt P) 0 ks ds ks-len ds-len) (append-nil (listed (λ y. nowAt s (memoryAt P + y)) 0 16)))

@@ -162,9 +162,9 @@ module _ (program file words lent : List ℕ) (accepted : checkOf program ≡ Ac
       ap (λ (net : List Cell). wordsIn net 0 s) cells-are
       ∙ memory-words P (ap memories (sym cells-are) ∙ net-passed net F (file-passed file read .cells) .sixteen) s
       ∙ listed-same (λ x. nowAt s (memoryAt P + x)) σ′ 0 16
-        (λ y a b.
-        H .present (memoryAt P + y) (rw cells-are (omega (arith, net-length P)))
-        ∙ last-words P fit σ W (to-netlist W obeys) t₀ σ′ p t y l (omega arith))
+      (λ y a b.
+      H .present (memoryAt P + y) (rw cells-are (omega (arith, net-length P)))
+      ∙ last-words P fit σ W (to-netlist W obeys) t₀ σ′ p t y l (omega arith))
 
   abbrev state : List ℕ
   state = beginState net σ lent
@@ -198,12 +198,14 @@ module _ (program file words lent : List ℕ) (accepted : checkOf program ≡ Ac
     words-shown : (t₀ : ℕ) (σ′ : Store) → run t₀ P σ ≡ ended t₀ σ′
         → Every (Shown file t₀ σ′) (beginCall file words lent ∷ replay file (beginCall file words lent .lent) calls)
     words-shown t₀ σ′ p =
-        rw begin-is
-        (answers 0 state state 1 (omega arith) holding holding,
-        good file read ordered σ W obeys wire (Shown file t₀ σ′) refuses answers calls 0 state holding long (omega arith) .every)
+        rw begin-is (
+          answers 0 state state 1 (omega arith) holding holding,
+          good file read ordered σ W obeys wire (Shown file t₀ σ′) refuses answers calls 0 state holding long (omega arith) .every,
+        )
       where
         refuses : (k : ℕ) (b : List ℕ) → Shown file t₀ σ′ (record { answer = refusedAnswer (at0 k); lent = b })
         refuses k b z h = unfold verdict in not-refused z
+
         answers : (t : ℕ) (s b : List ℕ) (n : ℕ) → t ≤ 1000000 → Holding net W t s → Holding net W t b
             → Shown file t₀ σ′ (record { answer = shows file s n; lent = b })
         answers t s b n l H K z h = unfold shows in
@@ -238,7 +240,7 @@ module _ (program file words lent : List ℕ) (accepted : checkOf program ≡ Ac
   -- the whole promise
   pub keeps : (forFile : List ℕ) → ltb (length forFile) (length (compiledFile program)) ≡ false → (calls : List Call)
       → Keeps P σ file (beginCall file words lent) calls
-        (λ k. runProgramCall program words k forFile lent .answer ∷ runNetlistCall file words k lent .answer ∷ [])
+      (λ k. runProgramCall program words k forFile lent .answer ∷ runNetlistCall file words k lent .answer ∷ [])
   keeps forFile fits calls =
       record {
         due = due P σ;
@@ -280,6 +282,7 @@ module _ (program file words lent : List ℕ) (accepted : checkOf program ≡ Ac
       where
         begins : high (nowAt state F) ≡ eqb t 0
         begins = ap high (holding .present F wire) ∙ wire-at 0
+
         go : Dec (t ≡ 0) → whole-run n ≡ referenceAnswer n (ended t σ′)
         go (yes e) = rw (begins, eq-eqb t 0 e) (told-end state 1 (rw e holding) (omega arith))
         go (no x) =

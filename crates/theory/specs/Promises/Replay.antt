@@ -38,10 +38,12 @@ module _ (F : ℕ → Bool) (size t : ℕ) (c : Call) (cs : List Call) where
   choose : Bool → Bool → List Seen
   choose p q =
       elim p as (λ z. List Seen) [
-        true ↦ refusedSeen 14 ∷ expected F size t cs |
-        false ↦ elim q as (λ z. List Seen) [
-          true ↦ refusedSeen 16 ∷ expected F size t cs |
-          false ↦ seen (endedIf (F S)) S (S - t) ∷ expected F size S cs ] ]
+        | true ↦ refusedSeen 14 ∷ expected F size t cs
+        | false ↦ elim q as (λ z. List Seen) [
+          | true ↦ refusedSeen 16 ∷ expected F size t cs
+          | false ↦ seen (endedIf (F S)) S (S - t) ∷ expected F size S cs
+        ]
+      ]
 
   expected-is : (p q : Bool) → ltb (c .lent) size ≡ p → ltb 1000000 (t + c .n) ≡ q → expected F size t (c ∷ cs) ≡ choose p q
   unfolding expected choose S
@@ -73,7 +75,8 @@ module _ (file : List ℕ) (accepted : fileCheck file ≡ Accepted) (n : ℕ) (l
       → continueCall file n lent
       ≡ record {
         answer = shows file (lastState (cellsOf file) (finishOf file) n lent) (evaluated (cellsOf file) (finishOf file) n lent);
-        lent = lastState (cellsOf file) (finishOf file) n lent }
+        lent = lastState (cellsOf file) (finishOf file) n lent;
+      }
   unfolding continueCall running
   run-call e =
       ap (λ (c : Checked). running c file (lastState (cellsOf file) (finishOf file) n lent) (evaluated (cellsOf file) (finishOf file) n lent) lent) e
@@ -91,7 +94,7 @@ module _ (file : List ℕ) (accepted : fileCheck file ≡ Accepted) (ordered : O
     (Q : Told Answer → Type 0)
     (refuses : (k : ℕ) (b : List ℕ) → Q (record { answer = refusedAnswer (at0 k); lent = b }))
     (answers : (t : ℕ) (s b : List ℕ) (n : ℕ) → t ≤ 1000000 → Holding (cellsOf file) W t s → Holding (cellsOf file) W t b
-      → Q (record { answer = shows file s n; lent = b })) where
+    → Q (record { answer = shows file s n; lent = b })) where
   abbrev F : ℕ → Bool
   F = level W (finishOf file)
 
@@ -127,12 +130,13 @@ module _ (file : List ℕ) (accepted : fileCheck file ≡ Accepted) (ordered : O
     refused k e x G =
         let r = replay-is file s c cs _ (refused-call file accepted (c .n) (take (c .lent) s) k e) in
         let r′ : replay file s (c ∷ cs) ≡ record { answer = refusedAnswer (at0 k); lent = s } ∷ replay file s cs =
-              r ∙ ap (λ (b : List ℕ). record { answer = refusedAnswer (at0 k); lent = b } ∷ replay file b cs) back in
+        r ∙ ap (λ (b : List ℕ). record { answer = refusedAnswer (at0 k); lent = b } ∷ replay file b cs) back in
         rw r′
         (record {
           outcomes = ap (λ (l : List Seen). refusedSeen k ∷ l) (G .outcomes) ∙ sym x;
           every = (refuses k s, G .every);
-          unchanged = ((λ r h. refl), G .unchanged) })
+          unchanged = ((λ r h. refl), G .unchanged);
+        })
 
     -- the lent part holds what the buffer holds
     lent-holds : stateSize net ≤ c .lent → Holding net W t L
@@ -156,7 +160,7 @@ module _ (file : List ℕ) (accepted : fileCheck file ≡ Accepted) (ordered : O
         let K = lent-holds h in
         refused 16
         (checked file accepted (c .n) L false true true (le-ltb (length L) (stateSize net) (omega (arith, lent-length))) (sound-held net σ W obeys t L K)
-          (lt-ltb 1000000 (instantOf L + c .n) (rw (K .instant l) m)))
+        (lt-ltb 1000000 (instantOf L + c .n) (rw (K .instant l) m)))
         (expected-is F (stateSize net) t c cs false true (le-ltb _ _ h) (lt-ltb _ _ m)) G
 
     runs : stateSize net ≤ c .lent → t + c .n ≤ 1000000
@@ -174,7 +178,7 @@ module _ (file : List ℕ) (accepted : fileCheck file ≡ Accepted) (ordered : O
         let X = same-holds net s₁ b (λ j x. List·getD-append s₁ (drop (c .lent) s) 0 j (omega (arith, C .long, lent-length))) W t′ (C .holding) in
         let G = go t′ b X (rw (length-append s₁ (drop (c .lent) s)) (omega (arith, C .long, lent-length))) k in
         let e = checked file accepted (c .n) L false true false (le-ltb (length L) (stateSize net) (omega (arith, lent-length))) (sound-held net σ W obeys t L K)
-              (le-ltb 1000000 (instantOf L + c .n) (rw (K .instant l) m)) in
+        (le-ltb 1000000 (instantOf L + c .n) (rw (K .instant l) m)) in
         let r = replay-is file s c cs _ (run-call file accepted (c .n) L e) in
         rw r
         (record {
@@ -183,7 +187,8 @@ module _ (file : List ℕ) (accepted : fileCheck file ≡ Accepted) (ordered : O
               (answer-seen t′ s₁ b (evaluated net f (c .n) L) k (C .holding) ∙ ap (seen (endedIf (level W f t′)) t′) (C .count)) (G .outcomes)
               ∙ sym (expected-is F (stateSize net) t c cs false false (le-ltb _ _ h) (le-ltb _ _ m));
           every = (answers t′ s₁ b (evaluated net f (c .n) L) k (C .holding) X, G .every);
-          unchanged = ((λ r h. not-refused (sym h ∙ no-refusal (high (nowAt s₁ f)))), G .unchanged) })
+          unchanged = ((λ r h. not-refused (sym h ∙ no-refusal (high (nowAt s₁ f)))), G .unchanged);
+        })
 
   pub good : (calls : List Call) (t : ℕ) (s : List ℕ) → Holding net W t s → stateSize net ≤ length s → t ≤ 1000000 → Good t s calls (replay file s calls)
   unfolding replay expected

@@ -119,6 +119,7 @@ found fault i (suc n) = go (ℕ-discrete (fault i) 0) (found fault (i + 1) n)
   where
     at : (j : ℕ) → i ≤ j → (i + 1 ≤ j → fault j ≡ 0) → fault i ≡ 0 → fault j ≡ 0
     at j l h e = elim (ℕ-discrete i j) [ yes p ↦ ap fault (sym p) ∙ e | no p ↦ h (omega arith) ]
+
     go : Dec (fault i ≡ 0) → Found fault (i + 1) n (firstFault fault (i + 1) n) → Found fault i (suc n) (firstFault fault i (suc n))
     go (yes e) f =
         rw (fault-later fault i n e)

@@ -101,10 +101,16 @@ program-order : (τ : ℕ → ℕ) (s : List ℕ) → InOrder ((1, 1) ∷ (2, 4)
 unfolding slowAt clashAt
 program-order τ s = (
   gives-if (programLengthWrong s) 1 0,
-  (gives-fault 2 4 (λ i. faultOf (nodeAt s i)) (nodeCount s) (λ i. node-faulty (nodeAt s i)),
-  (reading-gives (nodesAt s 0) (2 ∷ []) 0,
-  (gives-fault 7 7 (slowAt τ s) (nodeCount s) (λ i. faulty-if (ltb (nodeAt s i .delay) (least τ (stmtAt s i))) 7),
-  (gives-fault 8 8 (clashAt s) (nodeCount s) (λ i. faulty-if (clashes (stmtAt s i)) 8), tt)))),
+  (
+    gives-fault 2 4 (λ i. faultOf (nodeAt s i)) (nodeCount s) (λ i. node-faulty (nodeAt s i)),
+    (
+      reading-gives (nodesAt s 0) (2 ∷ []) 0,
+      (
+        gives-fault 7 7 (slowAt τ s) (nodeCount s) (λ i. faulty-if (ltb (nodeAt s i .delay) (least τ (stmtAt s i))) 7),
+        (gives-fault 8 8 (clashAt s) (nodeCount s) (λ i. faulty-if (clashes (stmtAt s i)) 8), tt),
+      ),
+    ),
+  ),
 )
 
 pub check-gives : (s : List ℕ) → Gives (1, 8) (checkOf s)
@@ -114,22 +120,24 @@ check-gives s = gives-first 1 8 ((1, 1) ∷ (2, 4) ∷ (5, 6) ∷ (7, 7) ∷ (8,
 net-gives : (net : List Cell) (f : ℕ) → Gives (12, 12) (netCheck net f)
 unfolding netCheck cellFault
 net-gives net f =
-    gives-first 12 12 ((12, 12) ∷ (12, 12) ∷ (12, 12) ∷ []) (netChecks net f) refl
-    (
+    gives-first 12 12 ((12, 12) ∷ (12, 12) ∷ (12, 12) ∷ []) (netChecks net f) refl (
       gives-fault 12 12 (cellFault net) (length net)
-      (λ i. let c = cellAt net i in faulty-if (not (placed i c && keeps (shape (c .kind)) net i c)) 12),
+          (λ i. let c = cellAt net i in faulty-if (not (placed i c && keeps (shape (c .kind)) net i c)) 12),
       (gives-if (not (eqb (memories net) 16)) 12 (length net), (gives-if (not (control (cellAt net f .kind))) 12 f, tt)),
     )
 
 file-order : (s : List ℕ) → InOrder ((9, 9) ∷ (10, 10) ∷ (11, 11) ∷ (11, 11) ∷ (12, 12) ∷ []) (fileChecks s)
 unfolding sumFault headerFault
 file-order s =
-    let m = length s / 512 in
-    (
+    let m = length s / 512 in (
       gives-if (fileLengthWrong s) 9 0,
-      (gives-fault 10 10 (sumFault s) m (λ b. faulty-if (not (eqb (wordSum (blockAt s b) % 65536) 0)) 10),
-      (gives-if (countWrong m (countOf s) (finishOf s)) 11 0,
-      (gives-fault 11 11 (headerFault s) m (λ b. faulty-if (not (headed (countOf s) (finishOf s) b (blockAt s b))) 11), (net-gives (cellsOf s) (finishOf s), tt)))),
+      (
+        gives-fault 10 10 (sumFault s) m (λ b. faulty-if (not (eqb (wordSum (blockAt s b) % 65536) 0)) 10),
+        (
+          gives-if (countWrong m (countOf s) (finishOf s)) 11 0,
+          (gives-fault 11 11 (headerFault s) m (λ b. faulty-if (not (headed (countOf s) (finishOf s) b (blockAt s b))) 11), (net-gives (cellsOf s) (finishOf s), tt)),
+        ),
+      ),
     )
 
 file-gives : (s : List ℕ) → Gives (9, 12) (fileCheck s)
@@ -203,10 +211,9 @@ unfolding runProgramCall
 program-runs program words n forFile lent =
     let file = compiledFile program in
     let cs = runProgramChecks program words n forFile lent in
-    rw (running-verdict (first cs) file (fullState file words n lent) (fullCount file words n lent) lent)
-    (
+    rw (running-verdict (first cs) file (fullState file words n lent) (fullCount file words n lent) lent) (
       refuses _ cs
-      (check-gives program, (budget-gives n, (short-gives (length words) 32, (short-gives (length forFile) (length file), (short-gives (length lent) (stateSize (cellsOf file)), tt))))),
+          (check-gives program, (budget-gives n, (short-gives (length words) 32, (short-gives (length forFile) (length file), (short-gives (length lent) (stateSize (cellsOf file)), tt))))),
       writing-leaves (first cs) file (length file) 0 forFile,
       running-leaves (first cs) file (fullState file words n lent) (fullCount file words n lent) lent,
     )
@@ -223,8 +230,7 @@ demand-1 =
           (length (compiledFile program)) (finish (programOf program)) lent;
       writing = λ cells f lent.
           let net = cellsIn cells in
-          write-refuses _ (writeChecks cells f lent)
-          (
+          write-refuses _ (writeChecks cells f lent) (
             gives-if (ltb 0 (length cells % 6) || countWrong (blocksFor (length net)) (length net) f) 11 0,
             (net-gives net f, (short-gives (length lent) (length (fileOf net f)), tt)),
           )
@@ -237,11 +243,12 @@ demand-1 =
           (file-gives file, (short-gives (length words) 32, (short-gives (length lent) (stateSize (cellsOf file)), tt))) file
           (beginState (cellsOf file) (wordAt words) lent) 1 lent;
       continuing = λ file n lent.
-          run-refuses _ (continueChecks file n lent)
-          (
+          run-refuses _ (continueChecks file n lent) (
             file-gives file,
-            (short-gives (length lent) (stateSize (cellsOf file)),
-            (gives-if (not (sound (cellsOf file) lent)) 15 0, (gives-if (ltb 1000000 (instantOf lent + n)) 16 0, tt))),
+            (
+              short-gives (length lent) (stateSize (cellsOf file)),
+              (gives-if (not (sound (cellsOf file) lent)) 15 0, (gives-if (ltb 1000000 (instantOf lent + n)) 16 0, tt)),
+            ),
           )
           file (lastState (cellsOf file) (finishOf file) n lent) (evaluated (cellsOf file) (finishOf file) n lent) lent;
       netlistRuns = λ file words n lent.

@@ -39,4 +39,5 @@ module _ (net : List Cell) (o : Ordered net) (words : ℕ → ℕ) where
         only = λ U h. unique net o words U W h obeyed;
         states = λ lent room. states net o words W obeyed lent room;
         continuing = going;
-        controls = level-bound net words W obeyed }
+        controls = level-bound net words W obeyed;
+      }

@@ -36,9 +36,9 @@ module _ (s : List ℕ) (i v : ℕ) where
   unfolding put16 get16
   put16-same h =
       let e : getD (set (set s i (v % 256)) (i + 1) (v / 256)) i 0 ≡ v % 256 =
-            getD-set-other (set s i (v % 256)) (i + 1) i (v / 256) 0 (λ x. omega arith) ∙ getD-set-same s i (v % 256) 0 (omega arith) in
+      getD-set-other (set s i (v % 256)) (i + 1) i (v / 256) 0 (λ x. omega arith) ∙ getD-set-same s i (v % 256) 0 (omega arith) in
       let d : getD (set (set s i (v % 256)) (i + 1) (v / 256)) (i + 1) 0 ≡ v / 256 =
-            getD-set-same (set s i (v % 256)) (i + 1) (v / 256) 0 (simp length-set h) in
+      getD-set-same (set s i (v % 256)) (i + 1) (v / 256) 0 (simp length-set h) in
       omega arith
 
 pub get16-same : (s t : List ℕ) (i : ℕ) → getD t i 0 ≡ getD s i 0 → getD t (i + 1) 0 ≡ getD s (i + 1) 0 → get16 t i ≡ get16 s i
@@ -48,7 +48,7 @@ get16-same s t i h g = cc
 -- a pass that leaves byte j at every cell leaves it; where only cell k changes it, it is as cell k made it
 module _ (f : List ℕ → ℕ → List ℕ) (j : ℕ) where
   pub upTo-frame : (n : ℕ) (s : List ℕ) → ((t : List ℕ) (k : ℕ) → k < n → getD (f t k) j 0 ≡ getD t j 0)
-    → getD (upTo f n s) j 0 ≡ getD s j 0
+      → getD (upTo f n s) j 0 ≡ getD s j 0
   unfolding upTo
   upTo-frame zero s h = refl
   upTo-frame (suc n) s h = h (upTo f n s) n (omega arith) ∙ upTo-frame n s (λ t k g. h t k (omega arith))
@@ -145,12 +145,12 @@ module _ (c : List Cell) (s : List ℕ) where
       let v : ℕ = get32 s 0 + 1 in
       let t : List ℕ = put16 s 0 (v % 65536) in
       let x : get16 (stepState c s) 0 ≡ v % 65536 =
-            get16-same (ticked s) (stepState c s) 0 (header 0 (omega arith)) (header 1 (omega arith))
-            ∙ get16-same t (ticked s) 0 (put16-other t 2 (v / 65536) 0 (λ e. omega arith) (λ e. omega arith)) (put16-other t 2 (v / 65536) 1 (λ e. omega arith) (λ e. omega arith))
-            ∙ put16-same s 0 (v % 65536) (omega arith) in
+      get16-same (ticked s) (stepState c s) 0 (header 0 (omega arith)) (header 1 (omega arith))
+      ∙ get16-same t (ticked s) 0 (put16-other t 2 (v / 65536) 0 (λ e. omega arith) (λ e. omega arith)) (put16-other t 2 (v / 65536) 1 (λ e. omega arith) (λ e. omega arith))
+      ∙ put16-same s 0 (v % 65536) (omega arith) in
       let y : get16 (stepState c s) 2 ≡ v / 65536 =
-            get16-same (ticked s) (stepState c s) 2 (header 2 (omega arith)) (header 3 (omega arith))
-            ∙ put16-same t 2 (v / 65536) (rw (length-put16 s 0 (v % 65536)) (omega arith)) in
+      get16-same (ticked s) (stepState c s) 2 (header 2 (omega arith)) (header 3 (omega arith))
+      ∙ put16-same t 2 (v / 65536) (rw (length-put16 s 0 (v % 65536)) (omega arith)) in
       omega arith
 
 -- the last pass, by shape
@@ -184,7 +184,7 @@ module _ (f : List ℕ → ℕ → List ℕ) (j k : ℕ) (other : (t : List ℕ)
   upTo-at (suc n) s h = go (ℕ-discrete n k) (upTo-at n s)
     where
       go : Dec (n ≡ k) → (k < n → getD (upTo f n s) j 0 ≡ getD (f (upTo f k s) k) j 0)
-        → getD (f (upTo f n s) n) j 0 ≡ getD (f (upTo f k s) k) j 0
+          → getD (f (upTo f n s) n) j 0 ≡ getD (f (upTo f k s) k) j 0
       go (yes e) r = rw e
       go (no x) r = other (upTo f n s) n x ∙ r (omega (arith, x))
 
@@ -301,10 +301,10 @@ held-holding : (t : List ℕ) (k : ℕ) (m : Merge) → base k + 40 ≤ length t
 unfolding heldAt holding
 held-holding t k m h =
     let x : getD (set (set t (base k + 4) (bit (m .a))) (base k + 5) (bit (m .b))) (base k + 4) 0 ≡ bit (m .a) =
-          getD-set-other (set t (base k + 4) (bit (m .a))) (base k + 5) (base k + 4) (bit (m .b)) 0 (λ e. omega arith)
-          ∙ getD-set-same t (base k + 4) (bit (m .a)) 0 (omega arith) in
+    getD-set-other (set t (base k + 4) (bit (m .a))) (base k + 5) (base k + 4) (bit (m .b)) 0 (λ e. omega arith)
+    ∙ getD-set-same t (base k + 4) (bit (m .a)) 0 (omega arith) in
     let y : getD (set (set t (base k + 4) (bit (m .a))) (base k + 5) (bit (m .b))) (base k + 5) 0 ≡ bit (m .b) =
-          getD-set-same (set t (base k + 4) (bit (m .a))) (base k + 5) (bit (m .b)) 0 (simp length-set (omega arith)) in
+    getD-set-same (set t (base k + 4) (bit (m .a))) (base k + 5) (bit (m .b)) 0 (simp length-set (omega arith)) in
     rw (x, y, high-bit (m .a), high-bit (m .b))
 
 module _ (c : List Cell) (v : List ℕ → ℕ → ℕ) (u : List ℕ) where
@@ -353,13 +353,18 @@ module _ (c : List Cell) (v : List ℕ → ℕ → ℕ) (u : List ℕ) where
 
     -- what a merge holds
     pub held-after : (k : ℕ) → k < length c → shapeAt c k ≡ kMerge
-      → heldAt after k ≡ mergeStep (heldAt u k) (high (nowAt after (cellAt c k .a))) (high (nowAt after (cellAt c k .b))) .held
+        → heldAt after k ≡ mergeStep (heldAt u k) (high (nowAt after (cellAt c k .a))) (high (nowAt after (cellAt c k .b))) .held
     held-after k h e =
         same-held k after (settled c (three c v u k) k) (third-at k (base k + 4) h (omega arith) (omega arith)) (third-at k (base k + 5) h (omega arith) (omega arith))
         ∙ ap (λ (t : List ℕ). heldAt t k) (settled-merge c (three c v u k) k e)
         ∙ held-holding (three c v u k) k _ (rw (length-three k) (omega arith))
-        ∙ rw (same-held k (three c v u k) u (third-own k (base k + 4) (omega arith) (omega arith)) (third-own k (base k + 5) (omega arith) (omega arith)),
-              now-three k (cellAt c k .a), now-three k (cellAt c k .b), now-three (length c) (cellAt c k .a), now-three (length c) (cellAt c k .b))
+        ∙ rw (
+          same-held k (three c v u k) u (third-own k (base k + 4) (omega arith) (omega arith)) (third-own k (base k + 5) (omega arith) (omega arith)),
+          now-three k (cellAt c k .a),
+          now-three k (cellAt c k .b),
+          now-three (length c) (cellAt c k .a),
+          now-three (length c) (cellAt c k .b),
+        )
 
 -- ---- a line moved by a bit
 
@@ -371,7 +376,7 @@ shifted-first (suc m) s i x h g =
     ∙ getD-set-same s i ((2 * getD s i 0 + x) % 256) 0 g
 
 shifted-later : (m : ℕ) (s : List ℕ) (i x j : ℕ) → x < 2 → ((p : ℕ) → i ≤ p → p < i + m → getD s p 0 < 256) → i + m ≤ length s → i < j → j < i + m
-  → getD (shifted m s i x) j 0 ≡ (2 * getD s j 0 + getD s (j - 1) 0 / 128) % 256
+    → getD (shifted m s i x) j 0 ≡ (2 * getD s j 0 + getD s (j - 1) 0 / 128) % 256
 unfolding shifted
 shifted-later zero s i x j u w l h g = absurd (omega arith)
 shifted-later (suc m) s i x j u w l h g = go (decLt (i + 1) j) (shifted-later m t (i + 1) y j)
@@ -386,9 +391,9 @@ shifted-later (suc m) s i x j u w l h g = go (decLt (i + 1) j) (shifted-later m 
     other p q = getD-set-other s i p ((2 * getD s i 0 + x) % 256) 0 (λ e. omega arith)
 
     go : Dec (i + 1 < j)
-      → (y < 2 → ((p : ℕ) → i + 1 ≤ p → p < i + 1 + m → getD t p 0 < 256) → i + 1 + m ≤ length t → i + 1 < j → j < i + 1 + m
+        → (y < 2 → ((p : ℕ) → i + 1 ≤ p → p < i + 1 + m → getD t p 0 < 256) → i + 1 + m ≤ length t → i + 1 < j → j < i + 1 + m
         → getD (shifted m t (i + 1) y) j 0 ≡ (2 * getD t j 0 + getD t (j - 1) 0 / 128) % 256)
-      → getD (shifted m t (i + 1) y) j 0 ≡ (2 * getD s j 0 + getD s (j - 1) 0 / 128) % 256
+        → getD (shifted m t (i + 1) y) j 0 ≡ (2 * getD s j 0 + getD s (j - 1) 0 / 128) % 256
     go (yes q) r =
         r (omega (arith, w i (omega arith) (omega arith)))
         (λ p a b. omega (arith, other p (omega arith), w p (omega arith) (omega arith))) (simp length-set (omega arith)) q (omega arith)
@@ -457,7 +462,7 @@ unfoldable pub Line : List ℕ → ℕ → Type 0
 Line s k = (j : ℕ) → base k + 8 ≤ j → j < base k + 8 + 32 → getD s j 0 < 256
 
 module _ (c : List Cell) (v : List ℕ → ℕ → ℕ) (u : List ℕ) (room : 8 + 40 * (length c) ≤ length u)
-  (k : ℕ) (h : k < length c) (e : shapeAt c k ≡ kDelay) (bytes : Line u k) where
+    (k : ℕ) (h : k < length c) (e : shapeAt c k ≡ kDelay) (bytes : Line u k) where
   own : (j : ℕ) → base k + 8 ≤ j → j < base k + 8 + 32 → getD (three c v u k) j 0 ≡ getD u j 0
   own j x y = third-own c v u k j (omega arith) (omega arith)
 
@@ -477,7 +482,7 @@ module _ (c : List Cell) (v : List ℕ → ℕ → ℕ) (u : List ℕ) (room : 8
       third-at c v u k j h (omega arith) (omega arith)
       ∙ ap (λ (t : List ℕ). getD t j 0) (settled-delay c (three c v u k) k e)
       ∙ ap (λ (n : ℕ). getD (shifted 32 (three c v u k) (base k + 8) (bit (high n))) j 0)
-          (now-three c v u k (cellAt c k .a) ∙ sym (now-three c v u (length c) (cellAt c k .a)))
+      (now-three c v u k (cellAt c k .a) ∙ sym (now-three c v u (length c) (cellAt c k .a)))
 
   line-after : (i : ℕ) → i < 256 → lineBit (after c v u) k i ≡ bitAt pushed (base k + 8) i
   line-after i g = line-bits (after c v u) k i ∙ same-bit (after c v u) pushed (base k + 8) i byte-after g

@@ -55,7 +55,8 @@ module _ (net : List Cell) (s u : List ℕ) (same : (j : ℕ) → j < stateSize 
         held = λ k h e. same-held k h ∙ H .held k h e;
         lines = λ k h e i g. same-line k h i g ∙ H .lines k h e i g;
         bytes = λ k h e. same-bytes k h (H .bytes k h e);
-        clean = λ k h. same-clean k h (H .clean k h) }
+        clean = λ k h. same-clean k h (H .clean k h);
+      }
 
 -- The clauses of continuing ---------------------------------------------------------------------------------------------------------------------------
 
@@ -103,10 +104,13 @@ module _ (net : List Cell) (ordered : Ordered net) (words : ℕ → ℕ) (W : Va
     where
       next : Holding net W (suc t) (stepState net s)
       next = step-holds net ordered words W obeys t s H room
+
       len : length (stepState net s) ≡ length s
       len = step-length net ordered words W obeys t s H room
+
       wire-is : (b : Bool) → level W f (suc t) ≡ b → high (nowAt (stepState net s) f) ≡ b
       wire-is b e = ap high (next .present f wire) ∙ e
+
       stop : level W f (suc t) ≡ true → Continued net W f t (suc n) s
       stop e =
           let z = stops-high (level W f) t n e in
@@ -116,7 +120,9 @@ module _ (net : List Cell) (ordered : Ordered net) (words : ℕ → ℕ) (W : Va
             top = omega (arith, z);
             count = omega (arith, z, evaluated-high net f n s (wire-is true e));
             long = ap length x ∙ len;
-            holding = rw (z, x) next }
+            holding = rw (z, x) next;
+          }
+
       on : level W f (suc t) ≡ false → Continued net W f (suc t) n (stepState net s) → Continued net W f t (suc n) s
       on e r =
           let z = stops-low (level W f) t n e in
@@ -126,7 +132,8 @@ module _ (net : List Cell) (ordered : Ordered net) (words : ℕ → ℕ) (W : Va
             top = omega (arith, z, r .top);
             count = omega (arith, z, r .low, r .count, evaluated-low net f n s (wire-is false e));
             long = ap length x ∙ r .long ∙ len;
-            holding = rw (z, x) (r .holding) }
+            holding = rw (z, x) (r .holding);
+          }
 
 -- along the states of a run
 module _ (net : List Cell) (f : ℕ) (at : ℕ → List ℕ) (next : (t : ℕ) → at (suc t) ≡ stepState net (at t)) (F : ℕ → Bool)
@@ -138,16 +145,19 @@ module _ (net : List Cell) (f : ℕ) (at : ℕ → List ℕ) (next : (t : ℕ) �
     where
       now : high (nowAt (stepState net (at t)) f) ≡ F (suc t)
       now = ap (λ (s : List ℕ). high (nowAt s f)) (sym (next t)) ∙ wire (suc t)
+
       stop : F (suc t) ≡ true
           → (lastState net f (suc n) (at t) ≡ at (stopsAt F t (suc n))) × (evaluated net f (suc n) (at t) ≡ stopsAt F t (suc n) - t) × (t ≤ stopsAt F t (suc n))
       stop e =
           let z = stops-high F t n e in
           (last-high net f n (at t) (now ∙ e) ∙ sym (next t) ∙ ap at (sym z), omega (arith, z, evaluated-high net f n (at t) (now ∙ e)), omega (arith, z))
+
       on : F (suc t) ≡ false
           → (lastState net f n (at (suc t)) ≡ at (stopsAt F (suc t) n)) × (evaluated net f n (at (suc t)) ≡ stopsAt F (suc t) n - suc t) × (suc t ≤ stopsAt F (suc t) n)
           → (lastState net f (suc n) (at t) ≡ at (stopsAt F t (suc n))) × (evaluated net f (suc n) (at t) ≡ stopsAt F t (suc n) - t) × (t ≤ stopsAt F t (suc n))
       on e r =
-          let z = stops-low F t n e in
-          (last-low net f n (at t) (now ∙ e) ∙ ap (lastState net f n) (sym (next t)) ∙ r .0 ∙ ap at (sym z),
-           omega (arith, z, evaluated-low net f n (at t) (now ∙ e), ap (evaluated net f n) (next t), r .1, r .2),
-           omega (arith, z, r .2))
+          let z = stops-low F t n e in (
+            last-low net f n (at t) (now ∙ e) ∙ ap (lastState net f n) (sym (next t)) ∙ r .0 ∙ ap at (sym z),
+            omega (arith, z, evaluated-low net f n (at t) (now ∙ e), ap (evaluated net f n) (next t), r .1, r .2),
+            omega (arith, z, r .2),
+          )

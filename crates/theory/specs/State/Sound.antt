@@ -48,16 +48,16 @@ module _ (net : List Cell) (words : ℕ → ℕ) (W : Values) (obeys : Obeys net
       let d = H .clean k h in
       and-of
       (implied _ _ (λ e.
-        and-of
-        (le-leb (nowAt s k) 1 (rw (H .present k h) (level-bound net words W obeys k h e t)))
-        (le-leb (beforeAt s k) 1 (rw (H .past k h) (earlier-le k h e t)))))
+      and-of
+      (le-leb (nowAt s k) 1 (rw (H .present k h) (level-bound net words W obeys k h e t)))
+      (le-leb (beforeAt s k) 1 (rw (H .past k h) (earlier-le k h e t)))))
       (and-of
       (and-of
-        (le-leb _ _ (d .bits (base k + 4) (omega arith) (omega arith)))
-        (le-leb _ _ (d .bits (base k + 5) (omega arith) (omega arith))))
+      (le-leb _ _ (d .bits (base k + 4) (omega arith) (omega arith)))
+      (le-leb _ _ (d .bits (base k + 5) (omega arith) (omega arith))))
       (and-of
-        (zero-slice 2 (base k + 6) s (λ i x y. d .rest i (omega arith) (omega arith) (λ e. omega arith)))
-        (unless _ _ (λ e. zero-slice 32 (base k + 8) s (λ i x y. d .rest i (omega arith) (omega arith) (λ z. absurd (eqb-false (cellAt net k .kind) 34 e z)))))))
+      (zero-slice 2 (base k + 6) s (λ i x y. d .rest i (omega arith) (omega arith) (λ e. omega arith)))
+      (unless _ _ (λ e. zero-slice 32 (base k + 8) s (λ i x y. d .rest i (omega arith) (omega arith) (λ z. absurd (eqb-false (cellAt net k .kind) 34 e z)))))))
 
   sound-cells : (cs : List Cell) (k : ℕ) → ((i : ℕ) → i < length cs → cellSound (getD cs i noCell) s (k + i) ≡ true) → cellsSound cs s k ≡ true
   unfolding cellsSound
@@ -65,18 +65,18 @@ module _ (net : List Cell) (words : ℕ → ℕ) (W : Values) (obeys : Obeys net
   sound-cells (c ∷ cs) k h =
       and-of (rw add-zero at (h 0 (omega arith)))
       (sound-cells cs (k + 1)
-        (λ i l.
-        let e : k + 1 + i ≡ k + suc i = omega arith in
-        rw e (h (suc i) (suc-le-suc l))))
+      (λ i l.
+      let e : k + 1 + i ≡ k + suc i = omega arith in
+      rw e (h (suc i) (suc-le-suc l))))
 
   pub sound-held : sound net s ≡ true
   unfolding sound
   sound-held =
       and-of (zero-slice 4 4 s (λ i x y. H .zeros i x (omega arith)))
       (sound-cells net 0
-        (λ i l.
-        let e : 0 + i ≡ i = omega arith in
-        rw e (sound-at i l)))
+      (λ i l.
+      let e : 0 + i ≡ i = omega arith in
+      rw e (sound-at i l)))
 
   pub holds : Holds net W t s
   holds =
@@ -86,7 +86,8 @@ module _ (net : List Cell) (words : ℕ → ℕ) (W : Values) (obeys : Obeys net
         past = H .past;
         held = H .held;
         lines = H .lines;
-        proper = sound-held }
+        proper = sound-held;
+      }
 
 -- every state of a run
 module _ (net : List Cell) (ordered : Ordered net) (words : ℕ → ℕ) (W : Values) (obeys : Obeys net words W) (lent : List ℕ) (room : stateSize net ≤ length lent) where

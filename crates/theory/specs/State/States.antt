@@ -141,7 +141,8 @@ module _ (net : List Cell) (v : List ℕ → ℕ → ℕ) (u : List ℕ) (room :
         bits = λ j x y.
             rw (third-at net v u k j l (omega arith) (omega arith))
             (settle-bits (shapeAt net k) (three net v u k) k (cellAt net k) j (bit (eqb (cellAt net k .kind) 38)) (rw (length-three net v u k) (omega arith)) x y
-            (rw (third-own net v u k j (omega arith) (omega arith)) (d .bits j x y)) (λ e. one-bit _ (merge-kind _ e))) }
+            (rw (third-own net v u k j (omega arith) (omega arith)) (d .bits j x y)) (λ e. one-bit _ (merge-kind _ e)));
+      }
 
 -- What a state holds ---------------------------------------------------------------------------------------------------------------------------------
 
@@ -209,7 +210,8 @@ one-clean : (net : List Cell) (s : List ℕ) (n k : ℕ) → Clean net s k → C
 one-clean net s n k d =
     record {
       rest = λ j x y z. one-high s n k j (omega arith) y ∙ d .rest j x y z;
-      bits = λ j x y. rw (one-high s n k j (omega arith) (omega arith)) (d .bits j x y) }
+      bits = λ j x y. rw (one-high s n k j (omega arith) (omega arith)) (d .bits j x y);
+    }
 
 module _ (net : List Cell) (ordered : Ordered net) (words : ℕ → ℕ) (W : Values) (obeys : Obeys net words W) where
   module _ (t : ℕ) (s : List ℕ) (H : Holding net W t s) (room : 8 + 40 * length net ≤ length s) where
@@ -306,7 +308,8 @@ module _ (net : List Cell) (ordered : Ordered net) (words : ℕ → ℕ) (W : Va
           held = λ k h e. ap (λ (z : List ℕ). heldAt z k) step-is-S ∙ held-is net ordered words W obeys (suc t) v U room-U step-first k h e (held-U k h e);
           lines = λ k h e i g. ap (λ (z : List ℕ). lineBit z k i) step-is-S ∙ step-lines k h e i g;
           bytes = λ k h e. rw step-is-S (line-bytes net v U room-U k h e (bytes-U k h e));
-          clean = λ k h. rw step-is-S (clean-after net v U room-U k h (clean-U k h)) }
+          clean = λ k h. rw step-is-S (clean-after net v U room-U k h (clean-U k h));
+        }
       where
         clean-U : (k : ℕ) → k < length net → Clean net U k
         clean-U k h = unfold U in one-clean net s (length net) k (H .clean k h)
@@ -409,6 +412,7 @@ module _ (net : List Cell) (ordered : Ordered net) (words : ℕ → ℕ) (W : Va
     where
       kind : ℕ
       kind = cellAt net k .kind
+
       go : (p q : Bool) → eqb kind 32 ≡ p → eqb kind 40 ≡ q
           → pick (eqb kind 32) 1 (pick (eqb kind 40) (startWord net words k) (value net (two w Z k) k))
           ≡ equation (shapeAt net k) (startWord net words k) W k (cellAt net k) 0
@@ -458,10 +462,12 @@ module _ (net : List Cell) (ordered : Ordered net) (words : ℕ → ℕ) (W : Va
         held = λ k h e. ap (λ (z : List ℕ). heldAt z k) begin-is ∙ held-is net ordered words W obeys 0 w Z room-Z begin-first k h e (held-Z k h);
         lines = λ k h e i g. ap (λ (z : List ℕ). lineBit z k i) begin-is ∙ begin-lines k h e i g;
         bytes = λ k h e. rw begin-is (line-bytes net w Z room-Z k h e (bytes-Z k h));
-        clean = λ k h. rw begin-is (clean-after net w Z room-Z k h (clean-Z k h)) }
+        clean = λ k h. rw begin-is (clean-after net w Z room-Z k h (clean-Z k h));
+      }
     where
       before-Z : (k : ℕ) → k < length net → beforeAt Z k ≡ 0
       before-Z k h = unfold Z in zero-before (8 + 40 * length net) s room k (omega arith)
+
       clean-Z : (k : ℕ) → k < length net → Clean net Z k
       clean-Z k h = unfold Z in zero-clean (8 + 40 * length net) s room k (omega arith) net
 

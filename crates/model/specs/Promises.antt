@@ -150,6 +150,8 @@ pub record OneRun (net : List Cell) (words : Store) : Type 0 where
   pub obeys : Obeys net words values
   pub only : (W : Values) → Obeys net words W → (k : ℕ) → k < length net → (t : ℕ) → W k t ≡ values k t
   pub states : (lent : List ℕ) → stateSize net ≤ length lent → (t : ℕ) → Holds net values t (stateAt net words lent t)
+  -- "Lent bytes past a result keep their values."
+  pub past : (lent : List ℕ) (t : ℕ) → drop (stateSize net) (stateAt net words lent t) ≡ drop (stateSize net) lent
   pub continuing : (lent : List ℕ) → stateSize net ≤ length lent → (f : ℕ) → f < length net → (n t : ℕ)
       → (lastState net f n (stateAt net words lent t) ≡ stateAt net words lent (stopsAt (level values f) t n))
       × (evaluated net f n (stateAt net words lent t) ≡ stopsAt (level values f) t n - t)

@@ -3,4 +3,5 @@ pub mod Passes
 pub mod States
 pub mod Sound
 pub mod Running
+pub mod Past
 pub mod OneRun

@@ -14,6 +14,7 @@ use Rattle.theory.specs.Circuit.Exists.{solution, solution-obeys}
 use Rattle.theory.specs.Circuit.Shapes.{level-bound}
 use Rattle.theory.specs.State.Sound.{states}
 use Rattle.theory.specs.State.Running.{along}
+use Rattle.theory.specs.State.Past.{past-state}
 
 module _ (net : List Cell) (o : Ordered net) (words : ℕ → ℕ) where
   W : Values
@@ -38,6 +39,7 @@ module _ (net : List Cell) (o : Ordered net) (words : ℕ → ℕ) where
         obeys = obeyed;
         only = λ U h. unique net o words U W h obeyed;
         states = λ lent room. states net o words W obeyed lent room;
+        past = past-state net words;
         continuing = going;
         controls = level-bound net words W obeyed;
       }

@@ -1,0 +1,101 @@
+-- Refusals 10 and 11: the words of a block as they are summed, its bytes as they are looked through, its header, its faults.
+-- Assumes nothing.
+use mathlib.Core.Bool.{Bool, true, false, _&&_}
+use mathlib.Core.List.{List, [], _∷_}
+use mathlib.Core.Path.{_≡_, refl, _∙_, ap}
+use Prim.Native.Nat.{ℕ, zero, suc, _+_, _-_, _*_, _%_, _<_, _≤_}
+use native.Mathlib.Omega.{arith}
+use native.Mathlib.Numerals.{add-one}
+use borrow.Author.Tests.{ne-eqb}
+use lib.Dec.{eqb}
+use lib.ListN.{length, getD, take, drop, length-take, length-drop, drop-of-length-le}
+use lib.Seq.{drop-cons, getD-take, getD-drop}
+use Rattle.model.specs.Word.{get16}
+use Rattle.model.specs.NetlistFile.{wordSum, blockAt, countOf, finishOf, allZero, headed, sumFault, headerFault}
+
+-- The sum ------------------------------------------------------------------------------------------------------------------------------
+
+drop-two : (s : List ℕ) (i : ℕ) → i + 2 ≤ length s → drop i s ≡ getD s i 0 ∷ getD s (i + 1) 0 ∷ drop (i + 2) s
+drop-two s i h =
+    let e : i + 1 ≡ suc i = add-one i in
+    let f : i + 2 ≡ suc (suc i) = omega arith in
+    rw (e, f) (drop-cons s i 0 (omega arith) ∙ ap (λ (x : List ℕ). getD s i 0 ∷ x) (drop-cons s (suc i) 0 (omega arith)))
+
+wordSum-more : (s : List ℕ) (i left : ℕ) → 2 ≤ left → i + left ≤ length s
+    → wordSum (take left (drop i s)) ≡ get16 s i + wordSum (take (left - 2) (drop (i + 2) s))
+unfolding wordSum get16
+wordSum-more s i zero h g = absurd (omega arith)
+wordSum-more s i (suc zero) h g = absurd (omega arith)
+wordSum-more s i (suc (suc n)) h g =
+    let e : suc (suc n) - 2 ≡ n = omega arith in
+    let t : drop i s ≡ getD s i 0 ∷ getD s (i + 1) 0 ∷ drop (i + 2) s = drop-two s i (omega arith) in
+    rw (e, t) refl
+
+-- what is still to be added, with one word less, and with none
+pub words-more : (s : List ℕ) (i left sum : ℕ) {w next : ℕ} → 2 ≤ left → i + left ≤ length s → w ≡ get16 s i → next ≡ (sum + w) % 65536
+    → (sum + wordSum (take left (drop i s))) % 65536 ≡ (next + wordSum (take (left - 2) (drop (i + 2) s))) % 65536
+words-more s i left sum h g e f = rw (wordSum-more s i left h g, f, e) (omega arith)
+
+pub words-done : (s : List ℕ) (i left sum : ℕ) → left ≡ 0 → sum < 65536 → (sum + wordSum (take left (drop i s))) % 65536 ≡ sum
+unfolding wordSum
+words-done s i left sum h g = rw h (omega arith)
+
+-- Bytes of a block ---------------------------------------------------------------------------------------------------------------------
+
+module _ (s : List ℕ) (b : ℕ) where
+  block-get : (j : ℕ) → j < 512 → getD (blockAt s b) j 0 ≡ getD s (512 * b + j) 0
+  block-get j h = getD-take 512 (drop (512 * b) s) j 0 h ∙ getD-drop (512 * b) s j 0
+
+  block-get16 : (j : ℕ) → j + 1 < 512 → get16 (blockAt s b) j ≡ get16 s (512 * b + j)
+  unfolding get16
+  block-get16 j h =
+      let e : 512 * b + (j + 1) ≡ 512 * b + j + 1 = omega arith in
+      rw (block-get j (omega arith), block-get (j + 1) h, e) refl
+
+  -- whether the rest of a block is zero: a byte that is not, one that is, and none left
+  module _ (k : ℕ) (h : 512 * b + 512 ≤ length s) (g : k < 512) where
+    zero-more : allZero (drop k (blockAt s b)) ≡ (eqb (getD s (512 * b + k) 0) 0 && allZero (drop (k + 1) (blockAt s b)))
+    unfolding allZero
+    zero-more =
+        let l : k < length (blockAt s b) = simp (length-take, length-drop) (omega arith) in
+        let f : k + 1 ≡ suc k = add-one k in
+        rw (f, drop-cons (blockAt s b) k 0 l, block-get k g) refl
+
+    pub zero-stop : (getD s (512 * b + k) 0 ≡ 0 → ⊥) → allZero (drop k (blockAt s b)) ≡ false
+    zero-stop n = rw (zero-more, ne-eqb _ _ n) refl
+
+    pub zero-next : getD s (512 * b + k) 0 ≡ 0 → allZero (drop k (blockAt s b)) ≡ allZero (drop (k + 1) (blockAt s b))
+    zero-next n = rw (zero-more, n) refl
+
+  pub zero-end : (k : ℕ) → 512 ≤ k → allZero (drop k (blockAt s b)) ≡ true
+  unfolding allZero
+  zero-end k h =
+      let e : drop k (blockAt s b) ≡ [] = drop-of-length-le (blockAt s b) {i = k} (simp length-take (omega arith)) in
+      rw e refl
+
+  pub headed-is : (count finish : ℕ) {number c f : ℕ} {z : Bool} → number ≡ get16 s (512 * b) → c ≡ get16 s (512 * b + 2)
+      → f ≡ get16 s (512 * b + 4) → z ≡ allZero (drop (8 + 6 * (count - 84 * b)) (blockAt s b))
+      → (eqb number b && (eqb c count && (eqb f finish && z))) ≡ headed count finish b (blockAt s b)
+  unfolding headed
+  headed-is count finish e₀ e₂ e₄ e =
+      let o : 512 * b + 0 ≡ 512 * b = omega arith in
+      rw (block-get16 0 (omega arith), block-get16 2 (omega arith), block-get16 4 (omega arith), o, ← e₀, ← e₂, ← e₄, ← e) refl
+
+  -- its faults
+
+  pub sum-wrong : {sum : ℕ} → sum ≡ wordSum (blockAt s b) % 65536 → (sum ≡ 0 → ⊥) → sumFault s b ≡ 10
+  unfolding sumFault
+  sum-wrong e n = rw (← e, ne-eqb _ _ n) refl
+
+  pub sum-right : {sum : ℕ} → sum ≡ wordSum (blockAt s b) % 65536 → sum ≡ 0 → sumFault s b ≡ 0
+  unfolding sumFault
+  sum-right e n = rw (← e, n) refl
+
+  module _ {count finish : ℕ} (en : count ≡ countOf s) (ef : finish ≡ finishOf s) where
+    pub header-wrong : headed count finish b (blockAt s b) ≡ false → headerFault s b ≡ 11
+    unfolding headerFault
+    header-wrong e = rw (← en, ← ef, e) refl
+
+    pub header-right : headed count finish b (blockAt s b) ≡ true → headerFault s b ≡ 0
+    unfolding headerFault
+    header-right e = rw (← en, ← ef, e) refl

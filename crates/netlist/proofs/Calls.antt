@@ -1,0 +1,94 @@
+-- The calls that write and that read, outcome by outcome: the answer, and the lent list afterwards. Assumes nothing.
+use mathlib.Core.Bool.{Bool, true, false, _||_}
+use mathlib.Core.List.{List, [], _∷_}
+use mathlib.Core.Path.{_≡_, refl, sym, _∙_, ap}
+use Prim.Native.Nat.{ℕ, _*_, _/_, _%_, _<_, _≤_}
+use native.Mathlib.Omega.{arith}
+use borrow.Author.Tests.{lt-ltb, le-ltb}
+use lib.Dec.{ltb}
+use lib.ListN.{length}
+use lib.Seq.{sets}
+use Rattle.model.specs.declared.Refusal.{Refusal}
+use Rattle.model.specs.declared.Checked.{Checked}
+use Rattle.model.specs.declared.Checked.the-variants.{Accepted}
+use Rattle.model.specs.declared.Written.{Written}
+use Rattle.model.specs.declared.Written.the-variants.{Done}
+use Rattle.model.specs.Refusals.{refuseIf, first}
+use Rattle.model.specs.NetlistFile.{cellBytes, cellsAt, inList, inFile, fileOf, blocksFor, countOf, finishOf, cellsOf, countWrong, netCheck, fileCheck}
+use Rattle.model.specs.Calls.{Told, short, writing, cellsIn, writeCall, readCall}
+use Rattle.netlist.specs.declared.cells.Layout.the-variants.{InList}
+use Rattle.netlist.specs.Offsets.{Room}
+use Rattle.netlist.proofs.Writes.{overwrite-sets}
+use Rattle.netlist.proofs.Bytes.{cells-length, cell-bytes-length}
+use Rattle.netlist.proofs.Putting.{file-length}
+use Rattle.netlist.proofs.FileChecks.{neither, counted}
+
+-- what a call answers, and what it leaves in the lent list
+abbrev pub Tells : Written → List ℕ → Told Written → Type 0
+Tells answer lent told = (answer ≡ told .answer) × (lent ≡ told .lent)
+
+abbrev pub refused : ℕ → Written
+refused number = Written.Refused (record { number = number; place = 0 })
+
+-- Reading ------------------------------------------------------------------------------------------------------------------------------
+
+module _ (file lent : List ℕ) where
+  pub read-refused : {r : Refusal} → fileCheck file ≡ Checked.Refused r → Tells (Written.Refused r) lent (readCall file lent)
+  unfolding readCall writing
+  read-refused e = rw e (refl, refl)
+
+  module _ (e : fileCheck file ≡ Accepted) {n : ℕ} (count : n ≡ countOf file) where
+    pub read-short : length lent < 6 * n → Tells (refused 14) lent (readCall file lent)
+    unfolding readCall writing
+    read-short h = rw (e, ← count, lt-ltb _ _ h) (refl, refl)
+
+    pub read-done : {f : ℕ} {d : List ℕ} → f ≡ finishOf file → 6 * n ≤ length lent → d ≡ sets lent 0 (cellBytes (cellsAt inFile file 0 n))
+        → Tells (Done n f) d (readCall file lent)
+    unfolding readCall writing cellsOf
+    read-done finish h q =
+        let bytes = cellBytes (cellsAt inFile file 0 n) in
+        let l : length bytes ≡ 6 * n = cell-bytes-length (cellsAt inFile file 0 n) ∙ ap (λ (x : ℕ). 6 * x) (cells-length inFile file 0 n) in
+        rw (e, ← count, ← finish, le-ltb _ _ h) (refl, q ∙ sym (overwrite-sets bytes lent (omega arith)))
+
+-- Writing ------------------------------------------------------------------------------------------------------------------------------
+
+module _ (cells : List ℕ) (f : ℕ) (lent : List ℕ) where
+  abbrev n : ℕ
+  n = length cells / 6
+
+  abbrev countTest : Bool
+  countTest = ltb 0 (length cells % 6) || countWrong (blocksFor n) n f
+
+  abbrev size : ℕ
+  size = 512 * blocksFor n
+
+  file-size : length (fileOf (cellsIn cells) f) ≡ size
+  file-size = file-length (cellsIn cells) f ∙ ap (λ (x : ℕ). 512 * blocksFor x) (cells-length inList cells 0 n)
+
+  write-as : writeCall cells f lent
+      ≡ writing (first (refuseIf countTest 11 0 ∷ netCheck (cellsIn cells) f ∷ short (length lent) size ∷ [])) (fileOf (cellsIn cells) f) size f lent
+  unfolding writeCall
+  write-as = rw (file-size, cells-length inList cells 0 n) refl
+
+  pub count-refused : countTest ≡ true → Tells (refused 11) lent (writeCall cells f lent)
+  unfolding writing
+  count-refused e = rw (write-as, e) (refl, refl)
+
+  module _ (e : countTest ≡ false) where
+    pub list-room : Room InList cells n
+    list-room = record { few = counted (blocksFor n) n f (neither (ltb 0 (length cells % 6)) _ e .1) .high; fits = omega arith }
+
+    pub cells-refused : {r : Refusal} → netCheck (cellsIn cells) f ≡ Checked.Refused r → Tells (Written.Refused r) lent (writeCall cells f lent)
+    unfolding writing
+    cells-refused g = rw (write-as, e, g) (refl, refl)
+
+    module _ (g : netCheck (cellsIn cells) f ≡ Accepted) where
+      pub write-short : length lent < size → Tells (refused 14) lent (writeCall cells f lent)
+      unfolding writing
+      write-short h = rw (write-as, e, g, lt-ltb _ _ h) (refl, refl)
+
+      pub write-done : {d : List ℕ} → size ≤ length lent → d ≡ sets lent 0 (fileOf (cellsIn cells) f)
+          → Tells (Done size f) d (writeCall cells f lent)
+      unfolding writing
+      write-done h q =
+          rw (write-as, e, g, le-ltb _ _ h) (refl, q ∙ sym (overwrite-sets (fileOf (cellsIn cells) f) lent (omega (arith, file-size))))

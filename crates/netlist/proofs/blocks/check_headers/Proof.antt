@@ -1,0 +1,62 @@
+-- `blocks::check_headers` meets its contract. The invariant: the answer from block 0 is the answer from block b. Assumes nothing.
+use mathlib.Core.Path.{sym, _∙_}
+use Prim.Native.Nat.{_-_}
+use native.Mathlib.Omega.{arith}
+use borrow.Author.Tests.{not-true, not-false}
+use Rattle.model.specs.NetlistFile.{headerFault}
+use Rattle.netlist.proofs.BlockChecks.{header-wrong, header-right}
+use Rattle.netlist.proofs.Faults.{Passed, passed-none, fault-here, fault-next, faults-end}
+use Rattle.netlist.proofs.blocks.check_headers.Statement.{statement}
+use Rattle.netlist.proofs.blocks.check_headers.Tie as tie
+
+abbrev Inv-loop : tie.InvT-loop
+Inv-loop s m count finish b₀ b = Passed (headerFault s) m b
+
+abbrev μ-loop : tie.MeasureT-loop
+μ-loop s m count finish b₀ b = m - b
+
+loop-holds : tie.Need-loop-holds Inv-loop μ-loop
+loop-holds c = passed-none (headerFault (c .before .args .s .now)) (c .before .args .m)
+
+is-headed-requires : tie.Need-is-headed-requires Inv-loop μ-loop
+is-headed-requires c κs = omega arith
+
+returns : tie.Need-returns Inv-loop μ-loop
+returns c =
+    let args = c .before .before .before .before .before .args in
+    let pre = c .before .before .before .before .before .pre in
+    let loop = c .before .before .before .loop in
+    let unheaded = sym (c .before .is-headed .ensures) ∙ not-true (c .before .is-headed .result) (c .if1 .taken) in
+    fault-here (loop .inv) 11 (c .before .before .loop-test .taken) (omega arith)
+    (header-wrong (args .s .now) (loop .b) (pre .3) (pre .4) unheaded)
+
+add-b : tie.Need-add-b Inv-loop μ-loop
+add-b c = omega arith
+
+loop-less : tie.Need-loop-less Inv-loop μ-loop
+loop-less c = omega arith
+
+loop-again : tie.Need-loop-again Inv-loop μ-loop
+loop-again c =
+    let args = c .before .before .before .before .before .args in
+    let pre = c .before .before .before .before .before .pre in
+    let loop = c .before .before .before .loop in
+    let headed = sym (c .before .is-headed .ensures) ∙ not-false (c .before .is-headed .result) (c .if1 .left) in
+    fault-next (loop .inv) (c .before .before .loop-test .taken) (header-right (args .s .now) (loop .b) (pre .3) (pre .4) headed)
+
+returns-2 : tie.Need-returns-2 Inv-loop μ-loop
+returns-2 c = faults-end (c .before .loop .inv) (c .loop-test .left)
+
+pub check-headers-spec : {M : Type 1} → statement M
+check-headers-spec =
+    tie.close
+    (tie.spec
+    Inv-loop
+    μ-loop
+    loop-holds
+    is-headed-requires
+    returns
+    add-b
+    loop-less
+    loop-again
+    returns-2)

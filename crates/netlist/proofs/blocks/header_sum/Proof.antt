@@ -1,0 +1,19 @@
+-- `blocks::header_sum` meets its contract. Assumes nothing.
+use borrow.Author.Needs.{needs}
+use Rattle.netlist.proofs.Putting.{head-added}
+use Rattle.netlist.proofs.blocks.header_sum.Statement.{statement}
+use Rattle.netlist.proofs.blocks.header_sum.Tie as tie
+
+wrapping-add-u16-requires : tie.Need-wrapping-add-u16-requires
+wrapping-add-u16-requires c κs = search needs
+
+wrapping-add-u16-requires-2 : tie.Need-wrapping-add-u16-requires-2
+wrapping-add-u16-requires-2 c κs = search needs
+
+returns : tie.Need-returns
+returns c =
+    head-added (c .before .before .args .h) (c .before .wrapping-add-u16 .ensures) (c .wrapping-add-u162 .ensures)
+
+pub header-sum-spec : {M : Type 1} → statement M
+header-sum-spec =
+    tie.close (tie.spec wrapping-add-u16-requires wrapping-add-u16-requires-2 returns)

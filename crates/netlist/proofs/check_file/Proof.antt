@@ -1,0 +1,138 @@
+-- `check_file` meets its contract. Assumes nothing.
+use mathlib.Core.Path.{sym, _∙_}
+use native.Mathlib.Omega.{arith}
+use borrow.Author.Needs.{needs}
+use Rattle.model.specs.NetlistFile.{fileLengthWrong}
+use Rattle.netlist.proofs.FileChecks.{length-refused, sums-refused, count-refused, headers-refused, cells-decide, whole-file, counted, counted-room}
+use Rattle.netlist.proofs.check_file.Statement.{statement}
+use Rattle.netlist.proofs.check_file.Tie as tie
+
+returns : tie.Need-returns
+unfolding fileLengthWrong
+returns c = length-refused (c .before .before .args .file .now) (c .if1 .taken)
+
+check-sums-requires : tie.Need-check-sums-requires
+unfolding fileLengthWrong
+check-sums-requires c κs = omega (arith, whole-file (c .before .before .args .file .now) (c .if1 .left))
+
+enum-known-sums : tie.Need-enum-known-sums
+enum-known-sums c = search needs
+
+returns-2 : tie.Need-returns-2
+unfolding fileLengthWrong
+returns-2 c =
+    let args = c .before .before .before .before .before .before .args in
+    sums-refused (args .file .now) (c .before .before .before .before .if1 .left)
+    (sym (c .before .before .before .check-sums .ensures) ∙ c .before .sums .given .1)
+
+enum-told : tie.Need-enum-told
+enum-told c = search needs
+
+get16-requires : tie.Need-get16-requires
+unfolding fileLengthWrong
+get16-requires c κs =
+    let args = c .before .before .before .before .before .args in
+    omega (arith, whole-file (args .file .now) (c .before .before .before .if1 .left))
+
+cast-count : tie.Need-cast-count
+cast-count c = search needs
+
+get16-requires-2 : tie.Need-get16-requires-2
+unfolding fileLengthWrong
+get16-requires-2 c κs =
+    let args = c .before .before .before .before .before .before .args in
+    omega (arith, whole-file (args .file .now) (c .before .before .before .before .if1 .left))
+
+cast-finish : tie.Need-cast-finish
+cast-finish c = search needs
+
+count-wrong-requires : tie.Need-count-wrong-requires
+count-wrong-requires c κs = search needs
+
+returns-3 : tie.Need-returns-3
+unfolding fileLengthWrong
+returns-3 c =
+    let args = c .before .before .before .before .before .before .before .before .before .args in
+    let check-sums = c .before .before .before .before .before .before .check-sums in
+    let if1 = c .before .before .before .before .before .before .before .if1 in
+    let s = args .file .now in
+    let sums-right = sym (check-sums .ensures) ∙ c .before .before .before .before .enum-told .given .1 in
+    count-refused s (if1 .left) sums-right (c .before .before .before .get16 .ensures) (c .before .before .get162 .ensures)
+    (sym (c .before .count-wrong .ensures) ∙ c .if2 .taken)
+
+check-headers-requires : tie.Need-check-headers-requires
+unfolding fileLengthWrong
+check-headers-requires c κs =
+    let args = c .before .before .before .before .before .before .before .before .before .args in
+    let if1 = c .before .before .before .before .before .before .before .if1 in
+    let whole = whole-file (args .file .now) (if1 .left) in
+    let right = counted _ _ _ (sym (c .before .count-wrong .ensures) ∙ c .if2 .left) in
+    (omega arith, right .high, right .blocks, c .before .before .before .get16 .ensures, c .before .before .get162 .ensures)
+
+enum-known-headers : tie.Need-enum-known-headers
+enum-known-headers c = search needs
+
+returns-4 : tie.Need-returns-4
+unfolding fileLengthWrong
+returns-4 c =
+    let args = c .before .before .before .before .before .before .before .before .before .before .before .before .before .args in
+    let check-sums = c .before .before .before .before .before .before .before .before .before .before .check-sums in
+    let enum-told = c .before .before .before .before .before .before .before .before .enum-told in
+    let count-wrong = c .before .before .before .before .before .count-wrong in
+    let if1 = c .before .before .before .before .before .before .before .before .before .before .before .if1 in
+    let get16 = c .before .before .before .before .before .before .before .get16 in
+    let get162 = c .before .before .before .before .before .before .get162 in
+    let s = args .file .now in
+    let sums-right = sym (check-sums .ensures) ∙ enum-told .given .1 in
+    let count-right = sym (count-wrong .ensures) ∙ c .before .before .before .before .if2 .left in
+    headers-refused s (if1 .left) sums-right (get16 .ensures) (get162 .ensures) count-right
+    (sym (c .before .before .before .check-headers .ensures) ∙ c .before .headers .given .1)
+
+enum-told-2 : tie.Need-enum-told-2
+enum-told-2 c = search needs
+
+check-cells-requires : tie.Need-check-cells-requires
+unfolding fileLengthWrong
+check-cells-requires c κs =
+    let args = c .before .before .before .before .before .before .before .before .before .before .before .before .args in
+    let if1 = c .before .before .before .before .before .before .before .before .before .before .if1 in
+    counted-room (whole-file (args .file .now) (if1 .left))
+    (counted _ _ _ (sym (c .before .before .before .before .count-wrong .ensures) ∙ c .before .before .before .if2 .left))
+
+returns-5 : tie.Need-returns-5
+unfolding fileLengthWrong
+returns-5 c =
+    let args = c .before .before .before .before .before .before .before .before .before .before .before .before .before .args in
+    let check-sums = c .before .before .before .before .before .before .before .before .before .before .check-sums in
+    let enum-told = c .before .before .before .before .before .before .before .before .enum-told in
+    let count-wrong = c .before .before .before .before .before .count-wrong in
+    let if1 = c .before .before .before .before .before .before .before .before .before .before .before .if1 in
+    let get16 = c .before .before .before .before .before .before .before .get16 in
+    let get162 = c .before .before .before .before .before .before .get162 in
+    let s = args .file .now in
+    let sums-right = sym (check-sums .ensures) ∙ enum-told .given .1 in
+    let count-right = sym (count-wrong .ensures) ∙ c .before .before .before .before .if2 .left in
+    cells-decide s (if1 .left) sums-right (get16 .ensures) (get162 .ensures) count-right
+    (sym (c .before .before .before .check-headers .ensures) ∙ c .before .enum-told2 .given .1) (c .check-cells .ensures)
+
+pub check-file-spec : {M : Type 1} → statement M
+check-file-spec =
+    tie.close
+    (tie.spec
+    returns
+    check-sums-requires
+    enum-known-sums
+    returns-2
+    enum-told
+    get16-requires
+    cast-count
+    get16-requires-2
+    cast-finish
+    count-wrong-requires
+    returns-3
+    check-headers-requires
+    enum-known-headers
+    returns-4
+    enum-told-2
+    check-cells-requires
+    returns-5)

@@ -1,0 +1,99 @@
+-- `write_netlist` meets its contract. Assumes nothing.
+use mathlib.Core.Path.{sym, _∙_}
+use borrow.Author.Needs.{needs}
+use Rattle.netlist.proofs.Calls.{list-room, count-refused, cells-refused, write-short, write-done}
+use Rattle.netlist.proofs.write_netlist.Statement.{statement}
+use Rattle.netlist.proofs.write_netlist.Tie as tie
+
+add-m : tie.Need-add-m
+add-m c = search needs
+
+count-wrong-requires : tie.Need-count-wrong-requires
+count-wrong-requires c κs = search needs
+
+returns : tie.Need-returns
+returns c =
+    let args = c .before .before .before .before .args in
+    let cells = args .cells .now in
+    let lent = args .file .now in
+    count-refused cells (args .finish) lent (rw (c .before .count-wrong .ensures) at (c .if1 .taken))
+
+check-cells-requires : tie.Need-check-cells-requires
+check-cells-requires c κs =
+    let args = c .before .before .before .before .args in
+    let cells = args .cells .now in
+    let lent = args .file .now in
+    let count-right = rw (c .before .count-wrong .ensures) at (c .if1 .left) in
+    list-room cells (args .finish) lent count-right
+
+enum-known-checked : tie.Need-enum-known-checked
+enum-known-checked c = search needs
+
+returns-2 : tie.Need-returns-2
+returns-2 c =
+    let args = c .before .before .before .before .before .before .before .before .args in
+    let count-wrong = c .before .before .before .before .before .count-wrong in
+    let cells = args .cells .now in
+    let lent = args .file .now in
+    let count-right = rw (count-wrong .ensures) at (c .before .before .before .before .if1 .left) in
+    cells-refused cells (args .finish) lent count-right (sym (c .before .before .before .check-cells .ensures) ∙ c .before .checked .given .1)
+
+enum-told : tie.Need-enum-told
+enum-told c = search needs
+
+mul-count : tie.Need-mul-count
+mul-count c = search needs
+
+returns-3 : tie.Need-returns-3
+returns-3 c =
+    let args = c .before .before .before .before .before .before .before .before .args in
+    let count-wrong = c .before .before .before .before .before .count-wrong in
+    let cells = args .cells .now in
+    let lent = args .file .now in
+    let count-right = rw (count-wrong .ensures) at (c .before .before .before .before .if1 .left) in
+    let cells-right = sym (c .before .before .before .check-cells .ensures) ∙ c .before .enum-told .given .1 in
+    write-short cells (args .finish) lent count-right cells-right (c .if2 .taken)
+
+put-file-requires : tie.Need-put-file-requires
+put-file-requires c κs =
+    let args = c .before .before .before .before .before .before .before .before .before .args in
+    let count-wrong = c .before .before .before .before .before .before .count-wrong in
+    let if1 = c .before .before .before .before .before .if1 in
+    let cells = args .cells .now in
+    let lent = args .file .now in
+    let count-right = rw (count-wrong .ensures) at (if1 .left) in
+    (c .before .if2 .left, list-room cells (args .finish) lent count-right)
+
+same-length : tie.Need-same-length
+same-length c = search needs
+
+returns-4 : tie.Need-returns-4
+returns-4 c =
+    let args = c .before .before .before .before .before .before .before .before .before .before .before .before .args in
+    let count-wrong = c .before .before .before .before .before .before .before .before .before .count-wrong in
+    let if1 = c .before .before .before .before .before .before .before .before .if1 in
+    let check-cells = c .before .before .before .before .before .before .before .check-cells in
+    let enum-told = c .before .before .before .before .before .enum-told in
+    let cells = args .cells .now in
+    let lent = args .file .now in
+    let count-right = rw (count-wrong .ensures) at (if1 .left) in
+    let cells-right = sym (check-cells .ensures) ∙ enum-told .given .1 in
+    write-done cells (args .finish) lent count-right cells-right (c .before .before .before .before .if2 .left)
+    (c .before .before .put-file .ensures)
+
+pub write-netlist-spec : {M : Type 1} → statement M
+write-netlist-spec =
+    tie.close
+    (tie.spec
+    add-m
+    count-wrong-requires
+    returns
+    check-cells-requires
+    enum-known-checked
+    returns-2
+    enum-told
+    mul-count
+    returns-3
+    put-file-requires
+    same-length
+    returns-4)

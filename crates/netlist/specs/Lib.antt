@@ -1,0 +1,4 @@
+-- Definitions that the contracts cite beside those of model.
+pub mod Offsets
+pub mod Inputs
+pub mod Blocks

@@ -1,0 +1,22 @@
+-- Where cells begin, in a list and in a file, and the room that they take. Assumes nothing: definitions.
+use mathlib.Core.List.{List}
+use Prim.Native.Nat.{ℕ, _*_, _≤_}
+use lib.ListN.{length}
+use Rattle.model.specs.NetlistFile.{inList, inFile, blocksFor}
+use Rattle.netlist.specs.declared.cells.Layout.{Layout}
+use Rattle.netlist.specs.declared.cells.Layout.the-variants.{InList, InFile}
+
+-- the byte at which cell k begins
+abbrev pub offset : Layout → ℕ → ℕ
+offset InList k = inList k
+offset InFile k = inFile k
+
+-- how many bytes n cells take
+abbrev pub size : Layout → ℕ → ℕ
+size InList n = 6 * n
+size InFile n = 512 * blocksFor n
+
+-- a list that has room for n cells, and n is a number of cells that a netlist may have
+pub record Room (layout : Layout) (s : List ℕ) (n : ℕ) : Type 0 where
+  pub few : n ≤ 1024
+  pub fits : size layout n ≤ length s

@@ -1,0 +1,183 @@
+// Blocks of 512 bytes: refusals 10 and 11, and putting blocks in.
+// Each contract is an equation with model/NetlistFile; `sets d i v` is d with v put in at i.
+ghost use mathlib.Core.Path.{_≡_};
+ghost use mathlib.Core.List.{_++_};
+ghost use Prim.Native.Nat.{_+_, _-_, _*_, _%_, _^_, _<_, _≤_, min};
+ghost use lib.ListN.{length, drop, replicate};
+ghost use lib.Seq.{sets};
+ghost use Rattle.model.specs.Word.{bytes16};
+ghost use Rattle.model.specs.Refusals.{firstFault};
+ghost use Rattle.model.specs.NetlistFile.{cellsAt, inList, wordSum, checkFor, block, blocksFor, fileOf, countOf, finishOf, blockAt, sumFault, countWrong, allZero, headed, headerFault};
+ghost use Rattle.netlist.specs.Offsets.{Room};
+ghost use Rattle.netlist.specs.Blocks.{headBytes};
+use crate::cells::Layout;
+use model::Checked;
+use model::Refusal;
+
+// The first three words of a block.
+pub struct Header {
+    pub number: u16,
+    pub count: u16,
+    pub finish: u16,
+}
+
+// How many of n cells stand in block b.
+fn cells_here(n: usize, b: usize) -> usize
+    requires { ⌜ 84 * b ≤ n ⌝ }
+    ensures { λ r. ⌜ r ≡ min 84 (n - 84 * b) ⌝ }
+{
+    let left = n - 84 * b;
+    if left < 84 { left } else { 84 }
+}
+
+// Checking -------------------------------------------------------------------------------------------------------------------------------
+
+// The sum of the 256 words of block b.
+fn block_sum(s: &[u8], b: usize) -> u16
+    requires { ⌜ 512 * b + 512 ≤ length (now s) ⌝ }
+    ensures { λ r. ⌜ r ≡ wordSum (blockAt (now (s .entry)) b) % 65536 ⌝ }
+{
+    let mut sum: u16 = 0;
+    let mut i = 512 * b;
+    let mut left: usize = 512;
+    while 0 < left {
+        let w = word::get16(s, i);
+        sum = std::num::wrapping_add_u16(sum, w);
+        i += 2;
+        left -= 2;
+    }
+    sum
+}
+
+// The first of m blocks whose check is wrong.
+pub fn check_sums(s: &[u8], m: usize) -> Checked
+    requires { ⌜ 512 * m ≤ length (now s) ⌝ }
+    ensures { λ r. ⌜ r ≡ firstFault (sumFault (now (s .entry))) 0 m ⌝ }
+{
+    let mut b: usize = 0;
+    while b < m {
+        if block_sum(s, b) != 0 {
+            return Checked::Refused(Refusal {
+                number: 10,
+                place: b,
+            });
+        }
+        b += 1;
+    }
+    Checked::Accepted
+}
+
+pub fn count_wrong(m: usize, count: usize, finish: usize) -> bool
+    requires { ⌜ count + 83 < 2 ^ 64 ⌝ }
+    ensures { λ r. ⌜ r ≡ countWrong m count finish ⌝ }
+{
+    !((19 <= count) & ((count <= 1024) & ((m == (count + 83) / 84) & (finish < count))))
+}
+
+// Whether block b has nothing but zeros from its byte j on.
+fn zero_from(s: &[u8], b: usize, j: usize) -> bool
+    requires { ⌜ 512 * b + 512 ≤ length (now s) ⌝ }
+    ensures { λ r. ⌜ r ≡ allZero (drop j (blockAt (now (s .entry)) b)) ⌝ }
+{
+    let mut k = j;
+    while k < 512 {
+        if s[512 * b + k] != 0 {
+            return false;
+        }
+        k += 1;
+    }
+    true
+}
+
+// Whether block b has the header and the unused bytes of a netlist of so many cells.
+fn is_headed(s: &[u8], b: usize, count: usize, finish: usize) -> bool
+    requires { ⌜ (512 * b + 512 ≤ length (now s)) × (84 * b < count) × (count ≤ 1024) ⌝ }
+    ensures { λ r. ⌜ r ≡ headed count finish b (blockAt (now (s .entry)) b) ⌝ }
+{
+    let i = 512 * b;
+    let number = word::get16(s, i) as usize;
+    let its_count = word::get16(s, i + 2) as usize;
+    let its_finish = word::get16(s, i + 4) as usize;
+    let unused = zero_from(s, b, 8 + 6 * (count - 84 * b));
+    (number == b) & ((its_count == count) & ((its_finish == finish) & unused))
+}
+
+// The first of m blocks whose header or unused bytes are wrong, for the count and the finish of block 0.
+pub fn check_headers(s: &[u8], m: usize, count: usize, finish: usize) -> Checked
+    requires { ⌜ (512 * m ≤ length (now s)) × (count ≤ 1024) × (m ≡ blocksFor count) × (count ≡ countOf (now s)) × (finish ≡ finishOf (now s)) ⌝ }
+    ensures { λ r. ⌜ r ≡ firstFault (headerFault (now (s .entry))) 0 m ⌝ }
+{
+    let mut b: usize = 0;
+    while b < m {
+        if !is_headed(s, b, count, finish) {
+            return Checked::Refused(Refusal {
+                number: 11,
+                place: b,
+            });
+        }
+        b += 1;
+    }
+    Checked::Accepted
+}
+
+// Putting in -----------------------------------------------------------------------------------------------------------------------------
+
+// What a block's running sum begins with.
+pub fn header_sum(h: Header) -> u16
+    ensures { λ r. ⌜ r ≡ wordSum (headBytes h) % 65536 ⌝ }
+{
+    let two = std::num::wrapping_add_u16(h.number, h.count);
+    std::num::wrapping_add_u16(two, h.finish)
+}
+
+// Puts the header of the block at i in; the check comes from the running sum alone.
+pub fn put_header(d: &mut [u8], i: usize, h: Header, sum: u16)
+    requires { ⌜ i + 8 ≤ length (now d) ⌝ }
+    ensures { λ _. ⌜ now (d .exit) ≡ sets (now (d .entry)) i (headBytes h ++ bytes16 (checkFor sum)) ⌝ }
+{
+    word::put16(d, i, h.number);
+    word::put16(d, i + 2, h.count);
+    word::put16(d, i + 4, h.finish);
+    word::put16(d, i + 6, std::num::wrapping_sub_u16(0, sum));
+}
+
+// Puts zeros in from i on, up to end.
+pub fn clear(d: &mut [u8], i: usize, end: usize)
+    requires { ⌜ end ≤ length (now d) ⌝ }
+    ensures { λ _. ⌜ now (d .exit) ≡ sets (now (d .entry)) i (replicate (end - i) 0) ⌝ }
+{
+    let mut j = i;
+    while j < end {
+        d[j] = 0;
+        j += 1;
+    }
+}
+
+// Puts a block in at i, with n cells of a list from cell k on.
+pub fn put_block(d: &mut [u8], i: usize, h: Header, cells: &[u8], k: usize, n: usize)
+    requires { ⌜ (i + 512 ≤ length (now d)) × Room Layout.InList (now cells) (k + n) × (n ≤ 84) ⌝ }
+    ensures { λ _. ⌜ now (d .exit) ≡ sets (now (d .entry)) i (block (h .number) (h .count) (h .finish) (cellsAt inList (now (cells .entry)) k n)) ⌝ }
+{
+    let head = header_sum(h);
+    let sum = crate::cells::put_cells(d, i + 8, cells, Layout::InList, k, n, head);
+    clear(d, i + 8 + 6 * n, i + 512);
+    put_header(d, i, h, sum);
+}
+
+// Puts the file of a list of n cells in.
+pub fn put_file(d: &mut [u8], cells: &[u8], n: usize, finish: u16)
+    requires { ⌜ (512 * blocksFor n ≤ length (now d)) × Room Layout.InList (now cells) n ⌝ }
+    ensures { λ _. ⌜ now (d .exit) ≡ sets (now (d .entry)) 0 (fileOf (cellsAt inList (now (cells .entry)) 0 n) finish) ⌝ }
+{
+    let m = (n + 83) / 84;
+    let mut b: usize = 0;
+    while b < m {
+        let h = Header {
+            number: b as u16,
+            count: n as u16,
+            finish,
+        };
+        put_block(d, 512 * b, h, cells, 84 * b, cells_here(n, b));
+        b += 1;
+    }
+}

@@ -1,0 +1,83 @@
+// Cells in bytes: where they begin, how one is read, how they are put in.
+// A cell that is put in adds its three words to a running sum, from which the check of its block comes.
+ghost use mathlib.Core.Path.{_≡_};
+ghost use mathlib.Core.List.{[], _∷_};
+ghost use Prim.Native.Nat.{_+_, _*_, _%_, _<_, _≤_};
+ghost use lib.ListN.{length};
+ghost use lib.Seq.{sets};
+ghost use Rattle.model.specs.NetlistFile.{cellBytes, cellFrom, cellsAt, wordSum};
+ghost use Rattle.netlist.specs.Offsets.{offset, Room};
+use model::Cell;
+
+// Cells one after another, or in the blocks of a file.
+pub enum Layout {
+    InList,
+    InFile,
+}
+
+// The byte at which cell k begins.
+pub fn offset(layout: Layout, k: usize) -> usize
+    requires { ⌜ k < 1024 ⌝ }
+    ensures { λ r. ⌜ r ≡ offset layout k ⌝ }
+{
+    match layout {
+        Layout::InList => 6 * k,
+        Layout::InFile => 512 * (k / 84) + (8 + 6 * (k % 84)),
+    }
+}
+
+pub fn cell_at(s: &[u8], layout: Layout, k: usize) -> Cell
+    requires { ⌜ (k < 1024) × (offset layout k + 6 ≤ length (now s)) ⌝ }
+    ensures { λ r. ⌜ r ≡ cellFrom (now (s .entry)) (offset layout k) ⌝ }
+{
+    let i = offset(layout, k);
+    let kind = s[i];
+    let delay = s[i + 1];
+    let a = word::get16(s, i + 2);
+    let b = word::get16(s, i + 4);
+    Cell { kind, delay, a, b }
+}
+
+// Puts a cell in at i; answers the sum with the cell's three words added.
+pub fn put_cell(d: &mut [u8], i: usize, c: Cell, sum: u16) -> u16
+    requires { ⌜ i + 6 ≤ length (now d) ⌝ }
+    ensures put { λ _. ⌜ now (d .exit) ≡ sets (now (d .entry)) i (cellBytes (c ∷ [])) ⌝ }
+    ensures sum { λ r. ⌜ r ≡ (sum + wordSum (cellBytes (c ∷ []))) % 65536 ⌝ }
+{
+    d[i] = c.kind;
+    d[i + 1] = c.delay;
+    word::put16(d, i + 2, c.a);
+    word::put16(d, i + 4, c.b);
+    let first = (c.kind as u16) + 256 * (c.delay as u16);
+    let with_first = std::num::wrapping_add_u16(sum, first);
+    let with_a = std::num::wrapping_add_u16(with_first, c.a);
+    std::num::wrapping_add_u16(with_a, c.b)
+}
+
+// Puts n cells of s, from cell k on, in at i; answers the sum with their words added.
+pub fn put_cells(
+    d: &mut [u8],
+    i: usize,
+    s: &[u8],
+    layout: Layout,
+    k: usize,
+    n: usize,
+    sum: u16,
+) -> u16
+    requires { ⌜ Room layout (now s) (k + n) × (i + 6 * n ≤ length (now d)) ⌝ }
+    ensures put { λ _. ⌜ now (d .exit) ≡ sets (now (d .entry)) i (cellBytes (cellsAt (offset layout) (now (s .entry)) k n)) ⌝ }
+    ensures sum { λ r. ⌜ r ≡ (sum + wordSum (cellBytes (cellsAt (offset layout) (now (s .entry)) k n))) % 65536 ⌝ }
+{
+    let mut to = i;
+    let mut from = k;
+    let mut left = n;
+    let mut total = sum;
+    while 0 < left {
+        let c = cell_at(s, layout, from);
+        total = put_cell(d, to, c, total);
+        to += 6;
+        from += 1;
+        left -= 1;
+    }
+    total
+}

@@ -1,0 +1,95 @@
+// Netlist files: checked, written from cells of six bytes each, read back to them.
+// The three calls have no requires, and their contracts are equations with model/NetlistFile and model/Calls.
+ghost use mathlib.Core.Path.{_≡_};
+ghost use Rattle.model.specs.NetlistFile.{fileCheck};
+ghost use Rattle.model.specs.Calls.{writeCall, readCall};
+
+pub mod cells; // cells in bytes
+pub mod rules; // refusal 12
+pub mod blocks; // refusals 10 and 11, and putting blocks in
+
+use cells::Layout;
+use model::Checked;
+use model::Refusal;
+use model::Written;
+
+// Refusals 9 to 12, in their order.
+pub fn check_file(file: &[u8]) -> Checked
+    ensures { λ r. ⌜ r ≡ fileCheck (now (file .entry)) ⌝ }
+{
+    let size = file.len();
+    if (size == 0) | ((6656 < size) | (0 < size % 512)) {
+        return Checked::Refused(Refusal {
+            number: 9,
+            place: 0,
+        });
+    }
+    let m = size / 512;
+    let sums = blocks::check_sums(file, m);
+    if let Checked::Refused(r) = sums {
+        return Checked::Refused(r);
+    }
+    let count = word::get16(file, 2) as usize;
+    let finish = word::get16(file, 4) as usize;
+    if blocks::count_wrong(m, count, finish) {
+        return Checked::Refused(Refusal {
+            number: 11,
+            place: 0,
+        });
+    }
+    let headers = blocks::check_headers(file, m, count, finish);
+    if let Checked::Refused(r) = headers {
+        return Checked::Refused(r);
+    }
+    rules::check_cells(file, Layout::InFile, count, finish)
+}
+
+// Writes a netlist, of six bytes for each cell, as a file: refusals 11, 12, 14.
+pub fn write_netlist(cells: &[u8], finish: u16, file: &mut [u8]) -> Written
+    ensures answer { λ r. ⌜ r ≡ writeCall (now (cells .entry)) finish (now (file .entry)) .answer ⌝ }
+    ensures lent { λ _. ⌜ now (file .exit) ≡ writeCall (now (cells .entry)) finish (now (file .entry)) .lent ⌝ }
+{
+    let n = cells.len() / 6;
+    let m = (n + 83) / 84;
+    let f = finish as usize;
+    if (0 < cells.len() % 6) | blocks::count_wrong(m, n, f) {
+        return Written::Refused(Refusal {
+            number: 11,
+            place: 0,
+        });
+    }
+    let checked = rules::check_cells(cells, Layout::InList, n, f);
+    if let Checked::Refused(r) = checked {
+        return Written::Refused(r);
+    }
+    let count = 512 * m;
+    if file.len() < count {
+        return Written::Refused(Refusal {
+            number: 14,
+            place: 0,
+        });
+    }
+    blocks::put_file(file, cells, n, finish);
+    Written::Done { count, finish }
+}
+
+// Reads a netlist file into cells of six bytes each: refusals 9 to 12, 14.
+pub fn read_netlist(file: &[u8], cells: &mut [u8]) -> Written
+    ensures answer { λ r. ⌜ r ≡ readCall (now (file .entry)) (now (cells .entry)) .answer ⌝ }
+    ensures lent { λ _. ⌜ now (cells .exit) ≡ readCall (now (file .entry)) (now (cells .entry)) .lent ⌝ }
+{
+    let checked = check_file(file);
+    if let Checked::Refused(r) = checked {
+        return Written::Refused(r);
+    }
+    let count = word::get16(file, 2) as usize;
+    let finish = word::get16(file, 4);
+    if cells.len() < 6 * count {
+        return Written::Refused(Refusal {
+            number: 14,
+            place: 0,
+        });
+    }
+    cells::put_cells(cells, 0, file, Layout::InFile, 0, count, 0);
+    Written::Done { count, finish }
+}

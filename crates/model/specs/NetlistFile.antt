@@ -43,16 +43,22 @@ wordSum [] = 0
 wordSum (x ∷ []) = x
 wordSum (x ∷ (y ∷ s)) = x + 256 * y + wordSum s
 
--- "bytes 6–7 a check that makes the block's 256 two-byte words sum to 0 modulo 65,536"
+-- "Bytes 0–1 block number from 0; 2–3 the netlist's number of cells; 4–5 its finish cell, both the same in every block"
+abbrev pub headBytes : ℕ → ℕ → ℕ → List ℕ
+headBytes number count finish = bytes16 number ++ (bytes16 count ++ bytes16 finish)
+
+-- "then 84 cells"; "unused bytes are zero"
+abbrev pub restBytes : List Cell → List ℕ
+restBytes cs = cellBytes cs ++ replicate (504 - 6 * length cs) 0
+
+-- "6–7 a check that makes the block's 256 two-byte words sum to 0 modulo 65,536"
 abbrev pub checkFor : ℕ → ℕ
 checkFor sum = (65536 - sum % 65536) % 65536
 
--- "Bytes 0–1 block number from 0; 2–3 the netlist's number of cells; 4–5 its finish cell, both the same in every block; 6–7 a check;
--- then 84 cells." "unused bytes are zero"
 unfoldable pub block : ℕ → ℕ → ℕ → List Cell → List ℕ
 block number count finish cs =
-    let head = bytes16 number ++ (bytes16 count ++ bytes16 finish) in
-    let rest = cellBytes cs ++ replicate (504 - 6 * length cs) 0 in
+    let head = headBytes number count finish in
+    let rest = restBytes cs in
     head ++ (bytes16 (checkFor (wordSum head + wordSum rest)) ++ rest)
 
 -- so many blocks from block number b on

@@ -8,9 +8,9 @@ use lib.ListN.{length, set, take, drop, replicate, length-append, length-replica
 use lib.Seq.{sets}
 use Rattle.model.specs.declared.Cell.{Cell}
 use Rattle.model.specs.Word.{bytes16, put16}
-use Rattle.model.specs.NetlistFile.{cellBytes, cellsAt, inList, wordSum, checkFor, block, blocks, blocksFor, fileOf}
+use Rattle.model.specs.NetlistFile.{cellBytes, cellsAt, inList, wordSum, checkFor, block, blocks, blocksFor, fileOf, restBytes}
 use Rattle.netlist.specs.declared.blocks.Header.{Header}
-use Rattle.netlist.specs.Blocks.{headBytes, restBytes}
+use Rattle.netlist.specs.Blocks.{headerBytes}
 use Rattle.netlist.proofs.Writes.{sets-append, sets-before}
 use Rattle.netlist.proofs.Bytes.{cells-length, drop-cells, take-cells, cell-bytes-length, cell-sum-append}
 
@@ -33,15 +33,15 @@ zero-sum (suc (suc n)) = omega (arith, zero-sum n)
 -- Headers ------------------------------------------------------------------------------------------------------------------------------
 
 module _ (h : Header) where
-  head-sum : wordSum (headBytes h) ≡ h .number + (h .count + h .finish)
+  head-sum : wordSum (headerBytes h) ≡ h .number + (h .count + h .finish)
   unfolding wordSum bytes16
   head-sum = omega arith
 
-  pub head-added : {x y : ℕ} → x ≡ (h .number + h .count) % 65536 → y ≡ (x + h .finish) % 65536 → y ≡ wordSum (headBytes h) % 65536
+  pub head-added : {x y : ℕ} → x ≡ (h .number + h .count) % 65536 → y ≡ (x + h .finish) % 65536 → y ≡ wordSum (headerBytes h) % 65536
   head-added e f = rw (head-sum, f, e) (omega arith)
 
   pub head-put : (d : List ℕ) (i w : ℕ) {d₁ d₂ d₃ d₄ : List ℕ} → d₁ ≡ put16 d i (h .number) → d₂ ≡ put16 d₁ (i + 2) (h .count)
-      → d₃ ≡ put16 d₂ (i + 4) (h .finish) → d₄ ≡ put16 d₃ (i + 6) w → d₄ ≡ sets d i (headBytes h ++ bytes16 w)
+      → d₃ ≡ put16 d₂ (i + 4) (h .finish) → d₄ ≡ put16 d₃ (i + 6) w → d₄ ≡ sets d i (headerBytes h ++ bytes16 w)
   unfolding bytes16 put16
   head-put d i w e₁ e₂ e₃ e₄ = rw (e₄, e₃, e₂, e₁) (simp towards-suc)
 
@@ -74,14 +74,14 @@ check-same H S sum e = let f : sum % 65536 ≡ (H + S) % 65536 = rw e (omega ari
 
 -- before its rest the header, with the check that comes from the running sum
 pub block-put : (d : List ℕ) (i : ℕ) (h : Header) (cs : List Cell) {sum : ℕ} {d₁ d₂ : List ℕ} → d₁ ≡ sets d (i + 8) (restBytes cs)
-    → sum ≡ (wordSum (headBytes h) % 65536 + wordSum (cellBytes cs)) % 65536 → d₂ ≡ sets d₁ i (headBytes h ++ bytes16 (checkFor sum))
+    → sum ≡ (wordSum (headerBytes h) % 65536 + wordSum (cellBytes cs)) % 65536 → d₂ ≡ sets d₁ i (headerBytes h ++ bytes16 (checkFor sum))
     → d₂ ≡ sets d i (block (h .number) (h .count) (h .finish) cs)
 unfolding block bytes16
 block-put d i h cs {sum} e s f =
-    let H = wordSum (headBytes h) in
+    let H = wordSum (headerBytes h) in
     let t : sum ≡ (H % 65536 + wordSum (restBytes cs)) % 65536 = rw (rest-sum cs) s in
     let c : checkFor sum ≡ checkFor (H + wordSum (restBytes cs)) = check-same H (wordSum (restBytes cs)) sum t in
-    rw (f, e, c) (sets-before d i (headBytes h ++ bytes16 (checkFor (H + wordSum (restBytes cs)))) (restBytes cs))
+    rw (f, e, c) (sets-before d i (headerBytes h ++ bytes16 (checkFor (H + wordSum (restBytes cs)))) (restBytes cs))
 
 -- Files --------------------------------------------------------------------------------------------------------------------------------
 

@@ -9,7 +9,7 @@ ghost use Rattle.model.specs.Word.{bytes16};
 ghost use Rattle.model.specs.Refusals.{firstFault};
 ghost use Rattle.model.specs.NetlistFile.{cellsAt, inList, wordSum, checkFor, block, blocksFor, fileOf, countOf, finishOf, blockAt, sumFault, countWrong, allZero, headed, headerFault};
 ghost use Rattle.netlist.specs.Offsets.{Room};
-ghost use Rattle.netlist.specs.Blocks.{headBytes};
+ghost use Rattle.netlist.specs.Blocks.{headerBytes};
 use crate::cells::Layout;
 use model::Checked;
 use model::Refusal;
@@ -124,7 +124,7 @@ pub fn check_headers(s: &[u8], m: usize, count: usize, finish: usize) -> Checked
 
 // What a block's running sum begins with.
 pub fn header_sum(h: Header) -> u16
-    ensures { λ r. ⌜ r ≡ wordSum (headBytes h) % 65536 ⌝ }
+    ensures { λ r. ⌜ r ≡ wordSum (headerBytes h) % 65536 ⌝ }
 {
     let two = std::num::wrapping_add_u16(h.number, h.count);
     std::num::wrapping_add_u16(two, h.finish)
@@ -133,7 +133,7 @@ pub fn header_sum(h: Header) -> u16
 // Puts the header of the block at i in; the check comes from the running sum alone.
 pub fn put_header(d: &mut [u8], i: usize, h: Header, sum: u16)
     requires { ⌜ i + 8 ≤ length (now d) ⌝ }
-    ensures { λ _. ⌜ now (d .exit) ≡ sets (now (d .entry)) i (headBytes h ++ bytes16 (checkFor sum)) ⌝ }
+    ensures { λ _. ⌜ now (d .exit) ≡ sets (now (d .entry)) i (headerBytes h ++ bytes16 (checkFor sum)) ⌝ }
 {
     word::put16(d, i, h.number);
     word::put16(d, i + 2, h.count);

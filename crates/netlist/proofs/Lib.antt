@@ -1,5 +1,4 @@
 -- The laws behind the proofs of the functions. A crate that puts cells in by itself needs Writes, Bytes and Putting.
-pub mod Faults
 pub mod Writes
 pub mod Bytes
 pub mod CellChecks

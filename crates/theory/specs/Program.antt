@@ -1,3 +1,8 @@
--- Programs: what the check accepts.
+-- Programs: the trees of their nodes, and what the check accepts.
+pub mod Trees
+pub mod Preorder
+pub mod Grows
+pub mod Whole
+pub mod Passed
 pub mod Accepted
 pub mod Size

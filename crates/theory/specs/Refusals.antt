@@ -1,3 +1,4 @@
 -- Refusals: laws of the first one, and demand 1.
 pub mod Laws
+pub mod Search
 pub mod Order

@@ -9,14 +9,14 @@ use native.Mathlib.Omega.{arith}
 use native.Mathlib.Decide.{ℕ-discrete}
 use lib.ListN.{getD, drop}
 use lib.Dec.{ltb, eqb}
-use borrow.Author.Tests.{ltb-false, ltb-true, eqb-true, eqb-false}
+use borrow.Author.Tests.{ltb-true, eqb-true, eqb-false}
 use Rattle.model.specs.declared.Node.{Node}
 use Rattle.model.specs.declared.Checked.the-variants.{Accepted}
 use Rattle.model.specs.Word.{pick}
-use Rattle.model.specs.Refusals.{first, faultIf}
-use Rattle.model.specs.Program.{Expr, Stmt, ok, tick, assign, seq, par, ite, while, repeat, Tree, expr, stmt, none, asExpr, asStmt, exprOf, stmtOf, treeOf, arity, grow, forest, treesAt, stmtAt, nodeCount, nodeAt, nodesFrom, nodesAt, rowOf, programOf, paperTime, least, writes, touches, clash, clashes, programLengthWrong, spare, faultOf, reading, slowAt, clashAt, programChecks, checkOf}
+use Rattle.model.specs.Program.{Expr, Stmt, ok, tick, assign, seq, par, ite, while, repeat, Tree, expr, stmt, none, asExpr, asStmt, exprOf, stmtOf, treeOf, arity, grow, forest, treesAt, stmtAt, nodeCount, nodeAt, nodesFrom, rowOf, programOf, paperTime, least, writes, touches, clash, clashes, faultOf, checkOf}
 use Rattle.theory.specs.Control.Wiring.{Timed, Apart, Separate}
-use Rattle.theory.specs.Refusals.Laws.{all-accept, refuse-unless, fault-unless, first-place}
+use Rattle.theory.specs.Program.Grows.{known-kind, low-variable}
+use Rattle.theory.specs.Program.Passed.{Passed, accepted}
 use Rattle.theory.specs.Control.Uses.{or-left, or-right}
 use Rattle.theory.specs.Numbering.Structure.{WFe, WF}
 
@@ -25,10 +25,6 @@ use Rattle.theory.specs.Numbering.Structure.{WFe, WF}
 pub by-test : {A : Type 0} (R : A → Type 0) (b : Bool) (u v : A) → (b ≡ true → R u) → (b ≡ false → R v) → R (pick b u v)
 by-test R true u v f g = f refl
 by-test R false u v f g = g refl
-
-pub known : (a : Node) → faultOf a ≡ 0 → rowOf (a .kind) .sort ≡ 0 → ⊥
-unfolding faultOf
-known a f z = omega (arith, rw z at f)
 
 unknown-at : (k j : ℕ) → k ≡ j → rowOf j .sort ≡ 0 → rowOf k .sort ≡ 0
 unknown-at k j e h = ap (λ (k : ℕ). rowOf k .sort) e ∙ h
@@ -51,22 +47,11 @@ op-kind a f l n1 n2 n3 = (
     k = a .kind
 
     no : (j : ℕ) → rowOf j .sort ≡ 0 → k ≡ j → ⊥
-    no j h e = known a f (unknown-at (a .kind) j e h)
+    no j h e = known-kind a f (unknown-at (a .kind) j e h)
 
-low-number : (n : ℕ) → faultIf (ltb 15 n) 4 ≡ 0 → n < 16
-low-number n e = omega (arith, ltb-false 15 n (fault-unless (ltb 15 n) 4 (omega arith) e))
-
-no-spare : (b : Bool) (x : ℕ) → _≡_ {A = ℕ} (pick b 3 x) 0 → x ≡ 0
-no-spare true x e = absurd (omega (arith, e))
-no-spare false x e = e
-
-var-low : (a : Node) → a .kind ≡ 2 → faultOf a ≡ 0 → a .n < 16
-unfolding faultOf rowOf spare
-var-low a e f = low-number (a .n) (no-spare (ltb 0 (a .delay) || false) _ (rw e at f))
-
-assign-low : (a : Node) → a .kind ≡ 18 → faultOf a ≡ 0 → a .n < 16
-unfolding faultOf rowOf spare
-assign-low a e f = low-number (a .n) (rw e at f)
+-- a node of a kind whose number is a variable's
+named-low : (a : Node) → faultOf a ≡ 0 → (k : ℕ) → a .kind ≡ k → rowOf k .number ≡ 2 → a .n < 16
+named-low a f k e h = low-variable a f (ap (λ (k : ℕ). rowOf k .number) e ∙ h)
 
 -- What a program writes is below 16 ------------------------------------------------------------------------------------------------------------
 
@@ -135,10 +120,10 @@ fit-s (stmt P) h = h
 
 module _ (τ : ℕ → ℕ) (a : Node) (f : faultOf a ≡ 0) where
   fit-expr : (e g : Expr) → a .kind < 16 → WFe e → WFe g → WFe (exprOf a e g)
-  unfolding exprOf
+  unfolding exprOf rowOf
   fit-expr e g l p q =
       by-test WFe (eqb (a .kind) 1) _ _ (λ t. tt)
-      (λ n1. by-test WFe (eqb (a .kind) 2) _ _ (λ t. var-low a (eqb-true _ _ t) f)
+      (λ n1. by-test WFe (eqb (a .kind) 2) _ _ (λ t. named-low a f 2 (eqb-true _ _ t) refl)
       (λ n2. by-test WFe (eqb (a .kind) 3) _ _ (λ t. p)
       (λ n3. let k = op-kind a f l (eqb-false _ _ n1) (eqb-false _ _ n2) (eqb-false _ _ n3) in (k .0, k .1, p, q))))
 
@@ -146,12 +131,12 @@ module _ (τ : ℕ → ℕ) (a : Node) (f : faultOf a ≡ 0) where
   Fits S = least τ S ≤ a .delay → clashes S ≡ false → Fit S
 
   fit-stmt : (e : Expr) (O P Q : Stmt) → WFe e → Fit O → Fit P → Fit Q → Fits (stmtOf a e O P Q)
-  unfolding stmtOf Timed Separate least clashes
+  unfolding stmtOf Timed Separate least clashes rowOf
   fit-stmt e O P Q w o p q =
       by-test Fits (eqb (a .kind) 16) _ _ (λ t h c. ok-fit)
       (λ n. by-test Fits (eqb (a .kind) 17) _ _ (λ t h c. record { formed = tt; timed = h; separate = tt })
       (λ n. by-test Fits (eqb (a .kind) 18) _ _
-      (λ t h c. record { formed = (assign-low a (eqb-true _ _ t) f, w); timed = omega arith; separate = tt })
+      (λ t h c. record { formed = (named-low a f 18 (eqb-true _ _ t) refl, w); timed = omega arith; separate = tt })
       (λ n. by-test Fits (eqb (a .kind) 19) _ _
       (λ t h c. record { formed = (o .formed, p .formed); timed = (o .timed, p .timed); separate = (o .separate, p .separate) })
       (λ n. by-test Fits (eqb (a .kind) 20) _ _
@@ -188,29 +173,6 @@ fit-drop [] (suc k) h = tt
 fit-drop (t ∷ ts) zero h = h
 fit-drop (t ∷ ts) (suc k) h = fit-drop ts k (h .1)
 
--- What the check passed, with operator times τ -----------------------------------------------------------------------------------------
-
-pub record Passed (τ : ℕ → ℕ) (s : List ℕ) : Type 0 where
-  pub lengths : programLengthWrong s ≡ false
-  pub faults : (i : ℕ) → i < nodeCount s → faultOf (nodeAt s i) ≡ 0
-  pub whole : reading (2 ∷ []) 0 (nodesAt s 0) ≡ Accepted
-  pub delays : (i : ℕ) → i < nodeCount s → least τ (stmtAt s i) ≤ nodeAt s i .delay
-  pub sides : (i : ℕ) → i < nodeCount s → clashes (stmtAt s i) ≡ false
-
-pub passed : (τ : ℕ → ℕ) (s : List ℕ) → first (programChecks τ s) ≡ Accepted → Passed τ s
-unfolding slowAt clashAt
-passed τ s e =
-    let a = all-accept (programChecks τ s) e in
-    record {
-      lengths = refuse-unless (programLengthWrong s) 1 0 (a 0);
-      faults = first-place (λ i. faultOf (nodeAt s i)) (nodeCount s) .none (a 1);
-      whole = a 2;
-      delays = λ i l.
-          let slow = ltb (nodeAt s i .delay) (least τ (stmtAt s i)) in
-          ltb-false _ _ (fault-unless slow 7 (omega arith) (first-place (slowAt τ s) (nodeCount s) .none (a 3) i l));
-      sides = λ i l. fault-unless (clashes (stmtAt s i)) 8 (omega arith) (first-place (clashAt s) (nodeCount s) .none (a 4) i l);
-    }
-
 -- the trees from node i on are those of the nodes that are left
 pub trees-from : (s : List ℕ) (i n : ℕ) → i + n ≡ nodeCount s → treesAt s i ≡ forest (nodesFrom s i n)
 unfolding treesAt
@@ -225,7 +187,7 @@ module _ (τ : ℕ → ℕ) (s : List ℕ) (p : Passed τ s) where
       let h = fit-forest (i + 1) n (omega arith) in
       let l : i < nodeCount s = omega arith in
       let t = trees-from s i (suc n) e in (
-        fit-tree τ (nodeAt s i) (p .faults i l) _ _ _ (fit-at F 0 h) (fit-at F 1 h) (fit-at F 2 h) (rw t at (p .delays i l)) (rw t at (p .sides i l)),
+        fit-tree τ (nodeAt s i) (p .readable .faultless i l) _ _ _ (fit-at F 0 h) (fit-at F 1 h) (fit-at F 2 h) (rw t at (p .slowless i l)) (rw t at (p .clashless i l)),
         fit-drop F (arity (nodeAt s i .kind)) h,
       )
 
@@ -236,5 +198,4 @@ module _ (τ : ℕ → ℕ) (s : List ℕ) (p : Passed τ s) where
       rw t (fit-s _ (fit-at (forest (nodesFrom s 0 (nodeCount s))) 0 (fit-forest 0 (nodeCount s) (omega arith))))
 
 pub program-fit : (s : List ℕ) → checkOf s ≡ Accepted → Fit (programOf s)
-unfolding checkOf
-program-fit s e = tree-fit paperTime s (passed paperTime s e)
+program-fit s e = tree-fit paperTime s (accepted s e)

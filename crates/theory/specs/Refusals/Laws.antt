@@ -8,7 +8,7 @@ use Prim.Native.Nat.{ℕ, zero, suc, _+_, _≤_, _<_}
 use native.Mathlib.Omega.{arith}
 use native.Mathlib.Decide.{ℕ-discrete}
 use lib.Dec.{eqb}
-use lib.ListN.{getD}
+use lib.ListN.{getD, take, drop}
 use borrow.Author.Tests.{eqb-true, eq-eqb}
 use Rattle.model.specs.declared.Refusal.{Refusal}
 use Rattle.model.specs.declared.Checked.{Checked}
@@ -88,6 +88,32 @@ first-found (Refused q ∷ cs) =
 
 pub all-accept : (cs : List Checked) → first cs ≡ Accepted → (j : ℕ) → getD cs j Accepted ≡ Accepted
 all-accept cs e = first-found cs .accepted e
+
+pub first-one : (c : Checked) → c ≡ first (c ∷ [])
+first-one Accepted = refl
+first-one (Refused q) = refl
+
+-- a list of checks in two parts: the first part refuses, or what refuses is in the second
+pub first-take : (n : ℕ) (cs : List Checked) {r : Refusal} → first (take n cs) ≡ Refused r → first cs ≡ Refused r
+first-take zero [] e = e
+first-take zero (c ∷ cs) e = not-refused (sym e)
+first-take (suc n) [] e = e
+first-take (suc n) (Accepted ∷ cs) e = first-take n cs e
+first-take (suc n) (Refused q ∷ cs) e = e
+
+pub first-drop : (n : ℕ) (cs : List Checked) → first (take n cs) ≡ Accepted → first cs ≡ first (drop n cs)
+first-drop zero [] e = refl
+first-drop zero (c ∷ cs) e = refl
+first-drop (suc n) [] e = refl
+first-drop (suc n) (Accepted ∷ cs) e = first-drop n cs e
+first-drop (suc n) (Refused q ∷ cs) e = not-refused e
+
+pub accept-take : (n : ℕ) (cs : List Checked) → first cs ≡ Accepted → first (take n cs) ≡ Accepted
+accept-take zero [] e = refl
+accept-take zero (c ∷ cs) e = refl
+accept-take (suc n) [] e = refl
+accept-take (suc n) (Accepted ∷ cs) e = accept-take n cs e
+accept-take (suc n) (Refused q ∷ cs) e = not-refused e
 
 -- The first fault ----------------------------------------------------------------------------------------------------------------------
 

@@ -5,18 +5,18 @@ use native.Mathlib.Omega.{arith}
 use borrow.Author.Tests.{not-true, not-false}
 use Rattle.model.specs.NetlistFile.{headerFault}
 use Rattle.netlist.proofs.BlockChecks.{header-wrong, header-right}
-use Rattle.netlist.proofs.Faults.{Passed, passed-none, fault-here, fault-next, faults-end}
+use Rattle.theory.specs.Refusals.Search.{Searched, searched-none, fault-here, fault-next, faults-end}
 use Rattle.netlist.proofs.blocks.check_headers.Statement.{statement}
 use Rattle.netlist.proofs.blocks.check_headers.Tie as tie
 
 abbrev Inv-loop : tie.InvT-loop
-Inv-loop s m count finish b₀ b = Passed (headerFault s) m b
+Inv-loop s m count finish b₀ b = Searched (headerFault s) m b
 
 abbrev μ-loop : tie.MeasureT-loop
 μ-loop s m count finish b₀ b = m - b
 
 loop-holds : tie.Need-loop-holds Inv-loop μ-loop
-loop-holds c = passed-none (headerFault (c .before .args .s .now)) (c .before .args .m)
+loop-holds c = searched-none (headerFault (c .before .args .s .now)) (c .before .args .m)
 
 is-headed-requires : tie.Need-is-headed-requires Inv-loop μ-loop
 is-headed-requires c κs = omega arith

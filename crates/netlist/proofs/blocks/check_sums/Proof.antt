@@ -3,18 +3,18 @@ use Prim.Native.Nat.{_-_}
 use native.Mathlib.Omega.{arith}
 use Rattle.model.specs.NetlistFile.{sumFault}
 use Rattle.netlist.proofs.BlockChecks.{sum-wrong, sum-right}
-use Rattle.netlist.proofs.Faults.{Passed, passed-none, fault-here, fault-next, faults-end}
+use Rattle.theory.specs.Refusals.Search.{Searched, searched-none, fault-here, fault-next, faults-end}
 use Rattle.netlist.proofs.blocks.check_sums.Statement.{statement}
 use Rattle.netlist.proofs.blocks.check_sums.Tie as tie
 
 abbrev Inv-loop : tie.InvT-loop
-Inv-loop s m b₀ b = Passed (sumFault s) m b
+Inv-loop s m b₀ b = Searched (sumFault s) m b
 
 abbrev μ-loop : tie.MeasureT-loop
 μ-loop s m b₀ b = m - b
 
 loop-holds : tie.Need-loop-holds Inv-loop μ-loop
-loop-holds c = passed-none (sumFault (c .before .args .s .now)) (c .before .args .m)
+loop-holds c = searched-none (sumFault (c .before .args .s .now)) (c .before .args .m)
 
 block-sum-requires : tie.Need-block-sum-requires Inv-loop μ-loop
 block-sum-requires c κs = omega arith

@@ -4,12 +4,12 @@ use Prim.Native.Nat.{_-_}
 use native.Mathlib.Omega.{arith}
 use Rattle.model.specs.NetlistFile.{cellFault, cellsAt}
 use Rattle.netlist.specs.Offsets.{offset}
-use Rattle.netlist.proofs.Faults.{Passed, passed-none, fault-here, fault-next, faults-end}
+use Rattle.theory.specs.Refusals.Search.{Searched, searched-none, fault-here, fault-next, faults-end}
 use Rattle.netlist.proofs.rules.check_rules.Statement.{statement}
 use Rattle.netlist.proofs.rules.check_rules.Tie as tie
 
 abbrev Inv-loop : tie.InvT-loop
-Inv-loop s layout n k₀ k = Passed (cellFault (cellsAt (offset layout) s 0 n)) n k
+Inv-loop s layout n k₀ k = Searched (cellFault (cellsAt (offset layout) s 0 n)) n k
 
 abbrev μ-loop : tie.MeasureT-loop
 μ-loop s layout n k₀ k = n - k
@@ -17,7 +17,7 @@ abbrev μ-loop : tie.MeasureT-loop
 loop-holds : tie.Need-loop-holds Inv-loop μ-loop
 loop-holds c =
     let args = c .before .args in
-    passed-none (cellFault (cellsAt (offset (args .layout)) (args .s .now) 0 (args .n))) (args .n)
+    searched-none (cellFault (cellsAt (offset (args .layout)) (args .s .now) 0 (args .n))) (args .n)
 
 keeps-rules-requires : tie.Need-keeps-rules-requires Inv-loop μ-loop
 keeps-rules-requires c κs = (c .before .before .before .pre, c .loop-test .taken)

@@ -1,0 +1,62 @@
+-- Refusals 2 to 4 of one node, test by test.
+use borrow.Author.Tests.{eq-eqb, ne-eqb}
+use Rattle.model.specs.Program.{faultOf}
+use borrow.Author.Needs.{needs}
+use Rattle.program.proofs.fault_of.Statement.{statement}
+use Rattle.program.proofs.fault_of.Tie as tie
+
+kind-row-requires : tie.Need-kind-row-requires
+kind-row-requires c κs = search needs
+
+returns : tie.Need-returns
+unfolding faultOf
+returns c = rw (← c .before .before .kind-row .ensures, eq-eqb _ _ (c .if1 .taken))
+
+cast-spare : tie.Need-cast-spare
+cast-spare c = search needs
+
+spare-requires : tie.Need-spare-requires
+spare-requires c κs = search needs
+
+spare-requires-2 : tie.Need-spare-requires-2
+spare-requires-2 c κs = search needs
+
+returns-2 : tie.Need-returns-2
+unfolding faultOf
+returns-2 c =
+    let kind-row = c .before .before .before .before .before .before .kind-row in
+    let if1 = c .before .before .before .before .if1 in
+    rw (← kind-row .ensures, ne-eqb _ _ (if1 .left), ← c .before .before .spare .ensures, ← c .before .spare2 .ensures, c .if2 .taken)
+
+returns-3 : tie.Need-returns-3
+unfolding faultOf
+returns-3 c =
+    let kind-row = c .before .before .before .before .before .before .before .before .before .kind-row in
+    let if1 = c .before .before .before .before .before .before .before .if1 in
+    let spare = c .before .before .before .before .before .spare in
+    let spare2 = c .before .before .before .before .spare2 in
+    let if2 = c .before .before .before .if2 in
+    rw (← kind-row .ensures, ne-eqb _ _ (if1 .left), ← spare .ensures, ← spare2 .ensures, if2 .left, c .if3 .taken)
+
+returns-4 : tie.Need-returns-4
+unfolding faultOf
+returns-4 c =
+    let kind-row = c .before .before .before .before .before .before .before .before .before .kind-row in
+    let if1 = c .before .before .before .before .before .before .before .if1 in
+    let spare = c .before .before .before .before .before .spare in
+    let spare2 = c .before .before .before .before .spare2 in
+    let if2 = c .before .before .before .if2 in
+    rw (← kind-row .ensures, ne-eqb _ _ (if1 .left), ← spare .ensures, ← spare2 .ensures, if2 .left, c .if3 .left)
+
+pub fault-of-spec : {M : Type 1} → statement M
+fault-of-spec =
+    tie.close
+    (tie.spec
+    kind-row-requires
+    returns
+    cast-spare
+    spare-requires
+    spare-requires-2
+    returns-2
+    returns-3
+    returns-4)

@@ -1,0 +1,175 @@
+-- Refusals 5 and 6: the answer from node 0 is the answer from node i, with so many expressions and statements still to be read.
+use mathlib.Core.Path.{_≡_, refl, sym, _∙_, ap}
+use mathlib.Core.List.{[], _∷_}
+use Prim.Native.Nat.{_+_, _-_, _*_, _≤_}
+use native.Mathlib.Omega.{arith}
+use denote.Ref.{now}
+use Rattle.model.specs.Refusals.{refuse}
+use Rattle.model.specs.Program.{nodeCount, nodesAt, reading}
+use Rattle.program.proofs.Reading.{wanted, read-left, read-short, read-end, read-no-stmt, read-no-expr, read-stmt, read-expr}
+use Rattle.program.proofs.first_misread.Statement.{statement}
+use Rattle.program.proofs.first_misread.Tie as tie
+
+abbrev Inv-loop : tie.InvT-loop
+Inv-loop program count exprs₀ stmts₀ i₀ exprs stmts i =
+    (i ≤ count) × (exprs + stmts ≤ 510 * i + 1) × (reading (2 ∷ []) 0 (nodesAt program 0) ≡ reading (wanted exprs stmts) i (nodesAt program i))
+
+abbrev μ-loop : tie.MeasureT-loop
+μ-loop program count exprs₀ stmts₀ i₀ exprs stmts i = count - i
+
+loop-holds : tie.Need-loop-holds Inv-loop μ-loop
+loop-holds c = (omega arith, omega arith, refl)
+
+read-node-requires : tie.Need-read-node-requires Inv-loop μ-loop
+read-node-requires c κs = omega arith
+
+kind-row-requires : tie.Need-kind-row-requires Inv-loop μ-loop
+kind-row-requires c κs = tt
+
+refused-requires : tie.Need-refused-requires Inv-loop μ-loop
+refused-requires c κs = tt
+
+returns : tie.Need-returns Inv-loop μ-loop
+returns c =
+    let loop-test = c .before .before .before .before .before .loop-test in
+    let loop = c .before .before .before .before .before .before .loop in
+    c .refused .ensures ∙ read-left _ _ _ _ (c .before .before .if1 .taken) (c .before .if2 .taken) (loop-test .taken) ∙ sym (loop .inv .2)
+
+refused-requires-2 : tie.Need-refused-requires-2 Inv-loop μ-loop
+refused-requires-2 c κs = tt
+
+returns-2 : tie.Need-returns-2 Inv-loop μ-loop
+returns-2 c =
+    let loop-test = c .before .before .before .before .before .before .before .loop-test in
+    let read-node = c .before .before .before .before .before .before .read-node in
+    let kind-row = c .before .before .before .before .before .kind-row in
+    let if1 = c .before .before .before .before .if1 in
+    let if2 = c .before .before .before .if2 in
+    let loop = c .before .before .before .before .before .before .before .before .loop in
+    c .refused2 .ensures
+    ∙ read-no-stmt _ _ _ _ (loop-test .taken) (read-node .ensures) (kind-row .ensures) _ _ (if1 .taken) (if2 .left) (c .before .if3 .taken)
+    ∙ sym (loop .inv .2)
+
+cast-exprs : tie.Need-cast-exprs Inv-loop μ-loop
+cast-exprs c = omega arith
+
+sub-stmts : tie.Need-sub-stmts Inv-loop μ-loop
+sub-stmts c = omega arith
+
+cast-stmts : tie.Need-cast-stmts Inv-loop μ-loop
+cast-stmts c = omega arith
+
+add-stmts : tie.Need-add-stmts Inv-loop μ-loop
+add-stmts c = omega arith
+
+add-i : tie.Need-add-i Inv-loop μ-loop
+add-i c = omega arith
+
+loop-less : tie.Need-loop-less Inv-loop μ-loop
+loop-less c = omega arith
+
+loop-again : tie.Need-loop-again Inv-loop μ-loop
+loop-again c =
+    let kind-row = c .before .before .before .before .before .before .kind-row in
+    let loop = c .before .before .before .before .before .before .before .before .before .loop in
+    let loop-test = c .before .before .before .before .before .before .before .before .loop-test in
+    let read-node = c .before .before .before .before .before .before .before .read-node in
+    let if1 = c .before .before .before .before .before .if1 in
+    let if2 = c .before .before .before .before .if2 in (
+      omega arith,
+      omega (arith, kind-row .ok),
+      loop .inv .2
+          ∙ read-stmt _ _ _ _ (loop-test .taken) (read-node .ensures) (kind-row .ensures) _ _ (if1 .taken) (if2 .left) (c .before .before .if3 .left),
+    )
+
+refused-requires-3 : tie.Need-refused-requires-3 Inv-loop μ-loop
+refused-requires-3 c κs = tt
+
+returns-3 : tie.Need-returns-3 Inv-loop μ-loop
+returns-3 c =
+    let loop-test = c .before .before .before .before .before .before .loop-test in
+    let read-node = c .before .before .before .before .before .read-node in
+    let kind-row = c .before .before .before .before .kind-row in
+    let loop = c .before .before .before .before .before .before .before .loop in
+    let if1 = c .before .before .before .if1 in
+    c .refused3 .ensures
+    ∙ read-no-expr _ _ _ _ (loop-test .taken) (read-node .ensures) (kind-row .ensures) (loop .exprs) (loop .stmts) (if1 .left) (c .before .if4 .taken)
+    ∙ sym (loop .inv .2)
+
+sub-exprs : tie.Need-sub-exprs Inv-loop μ-loop
+sub-exprs c = omega arith
+
+cast-exprs-2 : tie.Need-cast-exprs-2 Inv-loop μ-loop
+cast-exprs-2 c = omega arith
+
+add-exprs : tie.Need-add-exprs Inv-loop μ-loop
+add-exprs c = omega arith
+
+add-i-2 : tie.Need-add-i-2 Inv-loop μ-loop
+add-i-2 c = omega arith
+
+loop-less-2 : tie.Need-loop-less-2 Inv-loop μ-loop
+loop-less-2 c = omega arith
+
+loop-again-2 : tie.Need-loop-again-2 Inv-loop μ-loop
+loop-again-2 c =
+    let loop = c .before .before .before .before .before .before .before .loop in
+    let loop-test = c .before .before .before .before .before .before .loop-test in
+    let read-node = c .before .before .before .before .before .read-node in
+    let kind-row = c .before .before .before .before .kind-row in
+    let if1 = c .before .before .before .if1 in (
+      omega arith,
+      omega arith,
+      loop .inv .2
+          ∙ read-expr _ _ _ _ (loop-test .taken) (read-node .ensures) (kind-row .ensures) (loop .exprs) (loop .stmts) (if1 .left) (c .before .if4 .left),
+    )
+
+add-if5 : tie.Need-add-if5 Inv-loop μ-loop
+add-if5 c = omega arith
+
+returns-4 : tie.Need-returns-4 Inv-loop μ-loop
+returns-4 c = read-end _ _ _ _ (c .if5 .taken) (c .before .loop-test .left) ∙ sym (c .before .before .loop .inv .2)
+
+refused-requires-4 : tie.Need-refused-requires-4 Inv-loop μ-loop
+refused-requires-4 c κs = tt
+
+returns-5 : tie.Need-returns-5 Inv-loop μ-loop
+returns-5 c =
+    let loop = c .before .before .before .loop in
+    let args = c .before .before .before .before .before .args in
+    let l = loop in
+    let e : nodeCount (now (args .program)) ≡ l .i = omega arith in
+    c .refused4 .ensures ∙ ap (refuse 6) e ∙ read-short _ _ (l .exprs) (l .stmts) (c .before .before .loop-test .left) (c .before .if5 .left) ∙ sym (l .inv .2)
+
+pub first-misread-spec : {M : Type 1} → statement M
+first-misread-spec =
+    tie.close
+    (tie.spec
+    Inv-loop
+    μ-loop
+    loop-holds
+    read-node-requires
+    kind-row-requires
+    refused-requires
+    returns
+    refused-requires-2
+    returns-2
+    cast-exprs
+    sub-stmts
+    cast-stmts
+    add-stmts
+    add-i
+    loop-less
+    loop-again
+    refused-requires-3
+    returns-3
+    sub-exprs
+    cast-exprs-2
+    add-exprs
+    add-i-2
+    loop-less-2
+    loop-again-2
+    add-if5
+    returns-4
+    refused-requires-4
+    returns-5)

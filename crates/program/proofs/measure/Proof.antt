@@ -1,0 +1,130 @@
+-- The arrays are right from node i on; refusals 7 and 8 read them whole.
+use mathlib.Core.Path.{_≡_, refl, _∙_, ap}
+use Prim.Native.Nat.{ℕ, _+_, _-_, _≤_, _<_}
+use native.Mathlib.Omega.{arith}
+use lib.ListN.{length, length-set}
+use denote.Ref.{now}
+use Rattle.model.specs.declared.Row.{Row}
+use Rattle.model.specs.Program.{nodeCount, paperTime}
+use Rattle.program.specs.Ends.{skips}
+use Rattle.program.specs.Shape.{Shaped, shaped-more}
+use Rattle.program.proofs.measure.Statement.{statement}
+use Rattle.program.proofs.measure.Tie as tie
+
+abbrev Inv-loop : tie.InvT-loop
+Inv-loop program count times₀ ends₀ i₀ times ends i =
+    (i ≤ count) × (length times ≡ 200) × (length ends ≡ 200) × ((j : ℕ) → i ≤ j → j < nodeCount program → Shaped paperTime program times ends j)
+
+abbrev μ-loop : tie.MeasureT-loop
+μ-loop program count times₀ ends₀ i₀ times ends i = i
+
+loop-holds : tie.Need-loop-holds Inv-loop μ-loop
+loop-holds c = (omega arith, refl, refl, λ j l m. absurd (omega arith))
+
+sub-i : tie.Need-sub-i Inv-loop μ-loop
+sub-i c = omega arith
+
+read-node-requires : tie.Need-read-node-requires Inv-loop μ-loop
+read-node-requires c κs = omega arith
+
+kind-row-requires : tie.Need-kind-row-requires Inv-loop μ-loop
+kind-row-requires c κs = tt
+
+time-at-requires : tie.Need-time-at-requires Inv-loop μ-loop
+time-at-requires c κs =
+    let pre = c .before .before .before .before .before .before .before .pre in
+    let loop = c .before .before .before .before .before .loop in
+    (pre .short, omega arith, λ j l m. loop .inv .3 j (omega arith) m)
+
+add-skip : tie.Need-add-skip Inv-loop μ-loop
+add-skip c = omega arith
+
+cast-skip : tie.Need-cast-skip Inv-loop μ-loop
+cast-skip c = omega arith
+
+cast-skip-2 : tie.Need-cast-skip-2 Inv-loop μ-loop
+cast-skip-2 c = omega arith
+
+add-skip-2 : tie.Need-add-skip-2 Inv-loop μ-loop
+add-skip-2 c = omega arith
+
+skip-requires : tie.Need-skip-requires Inv-loop μ-loop
+skip-requires c κs =
+    let pre = c .before .before .before .before .before .before .before .before .before .before .before .pre in
+    omega (arith, pre .short)
+
+mul-times : tie.Need-mul-times Inv-loop μ-loop
+mul-times c = omega arith
+
+array-write-times : tie.Need-array-write-times Inv-loop μ-loop
+array-write-times c =
+    let pre = c .before .before .before .before .before .before .before .before .before .before .before .before .pre in
+    omega (arith, pre .short)
+
+mul-ends : tie.Need-mul-ends Inv-loop μ-loop
+mul-ends c = omega arith
+
+array-write-ends : tie.Need-array-write-ends Inv-loop μ-loop
+array-write-ends c =
+    let pre = c .before .before .before .before .before .before .before .before .before .before .before .before .pre in
+    omega (arith, pre .short)
+
+loop-less : tie.Need-loop-less Inv-loop μ-loop
+loop-less c = omega arith
+
+loop-again : tie.Need-loop-again Inv-loop μ-loop
+loop-again c =
+    let args = c .before .before .before .before .before .before .before .before .before .before .before .before .args in
+    let loop = c .before .before .before .before .before .before .before .before .before .before .loop in
+    let loop-test = c .before .before .before .before .before .before .before .before .before .loop-test in
+    let pre = c .before .before .before .before .before .before .before .before .before .before .before .before .pre in
+    let kind-row = c .before .before .before .before .before .before .before .kind-row in
+    let read-node = c .before .before .before .before .before .before .before .before .read-node in
+    let time-at = c .before .before .before .before .time-at in
+    let s = now (args .program) in
+    let i = loop .i - 1 in
+    let h : i < nodeCount s = omega (arith, loop .inv .0, loop-test .taken) in
+    let k : i < 200 = omega (arith, h, pre .short) in
+    let e = c .skip .ensures ∙ ap (λ (r : Row). skips (loop .ends) (nodeCount s) (r .exprs + r .stmts) (i + 1)) (kind-row .ensures) in (
+      omega (arith, h),
+      simp length-set (loop .inv .1),
+      simp length-set (loop .inv .2),
+      shaped-more paperTime s (loop .times) (loop .ends) i (λ j p q. loop .inv .3 j (omega (arith, p)) q) h (omega (arith, k, loop .inv .1)) (omega (arith, k, loop .inv .2))
+          _ (read-node .ensures) _ (time-at .ensures) _ e,
+    )
+
+late-check-requires : tie.Need-late-check-requires Inv-loop μ-loop
+late-check-requires c κs =
+    let pre = c .before .before .before .before .before .pre in
+    let loop = c .before .before .before .loop in
+    (pre, λ j l. loop .inv .3 j (omega arith) l)
+
+returns : tie.Need-returns Inv-loop μ-loop
+returns c =
+    let loop = c .before .before .before .before .loop in
+    record { checked = c .late-check .ensures; shaped = λ j l. loop .inv .3 j (omega arith) l }
+
+pub measure-spec : {M : Type 1} → statement M
+measure-spec =
+    tie.close
+    (tie.spec
+    Inv-loop
+    μ-loop
+    loop-holds
+    sub-i
+    read-node-requires
+    kind-row-requires
+    time-at-requires
+    add-skip
+    cast-skip
+    cast-skip-2
+    add-skip-2
+    skip-requires
+    mul-times
+    array-write-times
+    mul-ends
+    array-write-ends
+    loop-less
+    loop-again
+    late-check-requires
+    returns)

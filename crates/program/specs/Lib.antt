@@ -1,0 +1,6 @@
+pub mod Table
+pub mod Ends
+pub mod Times
+pub mod Ranges
+pub mod Uses
+pub mod Shape

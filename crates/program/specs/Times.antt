@@ -1,0 +1,170 @@
+-- The time of an expression and the least delay of a statement, by a node's kind; how long an expression of a program can take.
+-- Assumes nothing: laws of model/Program, for any operator times.
+use mathlib.Core.Path.{_≡_, refl, sym, _∙_, ap, ap₂}
+use mathlib.Core.Bool.{Bool, true, false}
+use mathlib.Core.List.{List, [], _∷_}
+use Prim.Native.Nat.{ℕ, zero, suc, _+_, _-_, _*_, _≤_, _<_, max}
+use native.Mathlib.Omega.{arith}
+use native.Mathlib.Decide.{decLt}
+use lib.ListN.{length, getD, drop}
+use lib.Seq.{getD-drop}
+use lib.Dec.{T, ltb, eqb}
+use borrow.Author.Tests.{lt-ltb, le-ltb}
+use Rattle.model.specs.declared.Node.{Node}
+use Rattle.model.specs.Word.{pick}
+use Rattle.model.specs.Program.{Expr, while, repeat, Tree, nodeAt, nodeCount, nodesAt, none, asExpr, asStmt, exprOf, stmtOf, treeOf, arity, grow, forest, treesAt, exprAt, stmtAt, time, least, slowAt}
+use Rattle.theory.specs.Program.Passed.{Passed}
+use Rattle.theory.specs.Program.Trees.{length-nodes, expr-none, by-pick, other-kind, node, treeAt, tree-is, tree-of, no-expr, no-stmt, at-const, at-var, at-compl, at-op, at-ok}
+
+-- Times --------------------------------------------------------------------------------------------------------------------------------
+
+pub time-none : (τ : ℕ → ℕ) (s : List ℕ) (i : ℕ) → τ 1 ≡ 0 → nodeCount s ≤ i → 0 ≡ time τ (exprAt s i)
+unfolding time
+time-none τ s i z h = sym (ap (time τ) (expr-none s i h) ∙ z)
+
+-- of node i, which is a, with operator time o
+module _ (τ : ℕ → ℕ) (s : List ℕ) (i : ℕ) (h : i < nodeCount s) (a : Node) (ea : a ≡ nodeAt s i) where
+  pub time-stmt : τ 1 ≡ 0 → 16 ≤ a .kind → 0 ≡ time τ (exprAt s i)
+  unfolding time
+  time-stmt z l = sym (ap (time τ) (no-expr s i h a ea l) ∙ z)
+
+  module _ (o : ℕ) (eo : o ≡ τ (a .kind)) where
+    pub time-const : a .kind ≡ 1 → o ≡ time τ (exprAt s i)
+    unfolding time
+    time-const e = eo ∙ ap τ e ∙ sym (ap (time τ) (at-const s i h a ea e))
+
+    pub time-var : a .kind ≡ 2 → o ≡ time τ (exprAt s i)
+    unfolding time
+    time-var e = eo ∙ ap τ e ∙ sym (ap (time τ) (at-var s i h a ea e))
+
+    module _ (t : ℕ) (et : t ≡ time τ (exprAt s (i + 1))) where
+      pub time-compl : a .kind ≡ 3 → o + t ≡ time τ (exprAt s i)
+      unfolding time
+      time-compl e = ap₂ _+_ (eo ∙ ap τ e) et ∙ sym (ap (time τ) (at-compl s i h a ea e))
+
+      pub time-op : a .kind < 16 → (a .kind ≡ 1 → ⊥) → (a .kind ≡ 2 → ⊥) → (a .kind ≡ 3 → ⊥) → (j : ℕ) → treesAt s j ≡ drop 1 (treesAt s (i + 1))
+          → (u : ℕ) → u ≡ time τ (exprAt s j) → o + max t u ≡ time τ (exprAt s i)
+      unfolding time
+      time-op l p q r j ej u eu = ap₂ _+_ eo (ap₂ max et eu) ∙ sym (ap (time τ) (at-op s i h a ea j ej l p q r))
+
+-- Least delays -------------------------------------------------------------------------------------------------------------------------
+
+-- while and repeat have the same
+loop-least : (τ : ℕ → ℕ) (a : Node) (x y z : Tree) → 22 ≤ a .kind → least τ (asStmt (treeOf a x y z)) ≡ max 1 (time τ (asExpr x))
+unfolding treeOf stmtOf asStmt least
+loop-least τ a x y z l = rw (le-ltb _ _ high, no 16 tt, no 17 tt, no 18 tt, no 19 tt, no 20 tt, no 21 tt) (either (eqb (a .kind) 22))
+  where
+    high : 16 ≤ a .kind
+    high = omega arith
+
+    no : (q : ℕ) → T (ltb q 22) → eqb (a .kind) q ≡ false
+    no q = other-kind (a .kind) 22 q l
+
+    either : (b : Bool) → least τ (pick b (while (a .delay) (asExpr x) (asStmt y)) (repeat (a .delay) (asExpr x) (asStmt y))) ≡ max 1 (time τ (asExpr x))
+    either true = refl
+    either false = refl
+
+module _ (τ : ℕ → ℕ) (s : List ℕ) (i : ℕ) (h : i < nodeCount s) (a : Node) (ea : a ≡ nodeAt s i) where
+  of-kind : (q : ℕ) → a .kind ≡ q
+      → least τ (stmtAt s i)
+      ≡ least τ (asStmt (treeOf (node q (a .delay) (a .n)) (treeAt s (i + 1)) (getD (treesAt s (i + 1)) 1 none) (getD (treesAt s (i + 1)) 2 none)))
+  unfolding stmtAt
+  of-kind q e = ap (λ (t : Tree). least τ (asStmt t)) (tree-of s i h a ea q e)
+
+  pub least-low : a .kind ≤ 16 → 0 ≡ least τ (stmtAt s i)
+  unfolding least
+  least-low l = go (decLt (a .kind) 16)
+    where
+      go : Dec (a .kind < 16) → 0 ≡ least τ (stmtAt s i)
+      go (yes m) = sym (ap (least τ) (no-stmt s i h a ea m))
+      go (no n) = let e : a .kind ≡ 16 = omega arith in sym (ap (least τ) (at-ok s i h a ea e))
+
+  pub least-tick : a .kind ≡ 17 → 1 ≡ least τ (stmtAt s i)
+  unfolding treeOf stmtOf asStmt least
+  least-tick e = sym (of-kind 17 e)
+
+  pub least-seq : a .kind ≡ 19 → 0 ≡ least τ (stmtAt s i)
+  unfolding treeOf stmtOf asStmt least
+  least-seq e = sym (of-kind 19 e)
+
+  pub least-par : a .kind ≡ 20 → 0 ≡ least τ (stmtAt s i)
+  unfolding treeOf stmtOf asStmt least
+  least-par e = sym (of-kind 20 e)
+
+  module _ (t : ℕ) (et : t ≡ time τ (exprAt s (i + 1))) where
+    pub least-if : a .kind ≡ 21 → t ≡ least τ (stmtAt s i)
+    unfolding treeOf stmtOf asStmt least exprAt
+    least-if e = et ∙ sym (of-kind 21 e)
+
+    least-loop : 22 ≤ a .kind → least τ (stmtAt s i) ≡ max 1 (time τ (exprAt s (i + 1)))
+    unfolding stmtAt exprAt
+    least-loop l = ap (λ (t : Tree). least τ (asStmt t)) (tree-is s i h a ea) ∙ loop-least τ a _ _ _ l
+
+    -- assignments and loops
+    pub least-other : 16 < a .kind → (a .kind ≡ 17 → ⊥) → (a .kind ≡ 19 → ⊥) → (a .kind ≡ 20 → ⊥) → (a .kind ≡ 21 → ⊥)
+        → max 1 t ≡ least τ (stmtAt s i)
+    unfolding treeOf stmtOf asStmt least exprAt stmtAt
+    least-other l n p q r = ap (max 1) et ∙ sym (go (decLt (a .kind) 22))
+      where
+        go : Dec (a .kind < 22) → least τ (stmtAt s i) ≡ max 1 (time τ (exprAt s (i + 1)))
+        go (yes m) = let e : a .kind ≡ 18 = omega arith in of-kind 18 e
+        go (no n) = let m : 22 ≤ a .kind = omega arith in least-loop m
+
+-- a delay, and the least that it may be
+module _ (τ : ℕ → ℕ) (s : List ℕ) (i : ℕ) (a : Node) (ea : a ≡ nodeAt s i) (l : ℕ) (el : l ≡ least τ (stmtAt s i)) where
+  pub slow-at : a .delay < l → slowAt τ s i ≡ 7
+  unfolding slowAt
+  slow-at m = rw (← ea, ← el, lt-ltb _ _ m)
+
+  pub not-slow-at : l ≤ a .delay → slowAt τ s i ≡ 0
+  unfolding slowAt
+  not-slow-at m = rw (← ea, ← el, le-ltb _ _ m)
+
+-- Bounds -------------------------------------------------------------------------------------------------------------------------------
+
+-- operator times of at most 255 each
+module _ (τ : ℕ → ℕ) (low : (k : ℕ) → τ k ≤ 255) where
+  tree-time : (a : Node) (x y z : Tree) (m : ℕ) → time τ (asExpr x) ≤ m → time τ (asExpr y) ≤ m → time τ (asExpr (treeOf a x y z)) ≤ 255 + m
+  unfolding treeOf exprOf asExpr time
+  tree-time a x y z m p q =
+      let l1 = low 1 in
+      let l2 = low 2 in
+      let l3 = low 3 in
+      let lk = low (a .kind) in
+      by-pick (λ (t : Tree). time τ (asExpr t) ≤ 255 + m) (ltb (a .kind) 16) _ _
+      (by-pick (λ (e : Expr). time τ e ≤ 255 + m) (eqb (a .kind) 1) _ _ (omega arith)
+      (by-pick (λ (e : Expr). time τ e ≤ 255 + m) (eqb (a .kind) 2) _ _ (omega arith)
+      (by-pick (λ (e : Expr). time τ e ≤ 255 + m) (eqb (a .kind) 3) _ _ (omega arith) (omega arith))))
+      (omega arith)
+
+  forest-time : (ns : List Node) (k : ℕ) → time τ (asExpr (getD (forest ns) k none)) ≤ 255 * length ns + 255
+  unfolding forest grow asExpr time
+  forest-time [] zero = omega (arith, low 1)
+  forest-time [] (suc k) = omega (arith, low 1)
+  forest-time (a ∷ ns) zero =
+      let F = forest ns in
+      omega (arith, tree-time a (getD F 0 none) (getD F 1 none) (getD F 2 none) (255 * length ns + 255) (forest-time ns 0) (forest-time ns 1))
+  forest-time (a ∷ ns) (suc k) =
+      rw (getD-drop (arity (a .kind)) (forest ns) k none) (omega (arith, forest-time ns (arity (a .kind) + k)))
+
+  time-low : (s : List ℕ) (i : ℕ) → time τ (exprAt s i) ≤ 255 * (nodeCount s - i) + 255
+  unfolding exprAt treesAt
+  time-low s i = omega (arith, forest-time (nodesAt s i) 0, length-nodes s i (nodeCount s - i))
+
+  -- with an operator's time it fits sixteen bits
+  pub time-fits : (s : List ℕ) → length s ≤ 800 → (i : ℕ) → 1 ≤ i → (o t k : ℕ) → o ≡ τ k → t ≡ time τ (exprAt s i) → o + t < 65536
+  time-fits s short i l o t k eo et = omega (arith, time-low s i, low k)
+
+-- Of a program that passed ------------------------------------------------------------------------------------------------------------
+
+module _ (τ : ℕ → ℕ) (s : List ℕ) where
+  -- ticks, assignments and loops take at least an instant
+  pub some-delay : Passed τ s → (j : ℕ) → j < nodeCount s → 17 ≤ nodeAt s j .kind
+      → (nodeAt s j .kind ≡ 19 → ⊥) → (nodeAt s j .kind ≡ 20 → ⊥) → (nodeAt s j .kind ≡ 21 → ⊥) → 1 ≤ nodeAt s j .delay
+  some-delay P j h l p q r = go (decLt 17 (nodeAt s j .kind))
+    where
+      go : Dec (17 < nodeAt s j .kind) → 1 ≤ nodeAt s j .delay
+      go (yes m) = omega (arith, P .slowless j h, least-other τ s j h (nodeAt s j) refl _ refl l (λ e. omega (arith, e, m)) p q r)
+      go (no n) =
+          let e : nodeAt s j .kind ≡ 17 = omega arith in
+          omega (arith, P .slowless j h, least-tick τ s j h (nodeAt s j) refl e)

@@ -1,0 +1,419 @@
+// The check of a program: refusals 1 to 8, and the two arrays of 200 that the checks fill.
+// Contracts are equations with the definitions of model/Program; what the arrays hold is said in specs/Ends and specs/Shape.
+// `|` and `&` stand between tests where both sides are cheap: they are the model's own `||` and `&&`.
+ghost use mathlib.Core.Path.{_≡_};
+ghost use mathlib.Core.Bool.{_&&_};
+ghost use mathlib.Core.List.{[], _∷_};
+ghost use Prim.Native.Nat.{ℕ, _+_, _*_, _≤_, _<_, max};
+ghost use lib.ListN.{length, getD, take, drop};
+ghost use Rattle.model.specs.Refusals.{refuse, first, firstFault};
+ghost use Rattle.model.specs.Program.{nodeAt, nodeCount, nodesAt, rowOf, exprAt, stmtAt, time, paperTime, least, writes, touches, programLengthWrong, spare, faultOf, reading, slowAt, clashAt, programChecks};
+ghost use Rattle.model.specs.Calls.{checkCall};
+ghost use Rattle.program.specs.Ends.{Laid, past, skips};
+ghost use Rattle.theory.specs.Program.Passed.{Readable};
+ghost use Rattle.program.specs.Uses.{names, uses, Side};
+ghost use Rattle.program.specs.Shape.{Shaped, Measures, Scans};
+use model::Checked;
+use model::Node;
+use model::Refusal;
+use model::Row;
+
+// What the check answers, with each node's expression time and the node after its subtree.
+pub struct Scanned {
+    pub checked: Checked,
+    pub times: [u16; 200],
+    pub ends: [usize; 200],
+}
+
+// A row of the table in one line: sort, delay, number, exprs, stmts, time.
+struct Line(u8, u8, u8, u8, u8, u8);
+
+// The paper's table: entry k is the row of kind k.
+const TABLE: [Line; 24] = [
+    Line(0, 0, 0, 0, 0, 0), // 0 unknown
+    Line(1, 0, 1, 0, 0, 0), // 1 constant n
+    Line(1, 0, 2, 0, 0, 0), // 2 variable n
+    Line(1, 0, 0, 1, 0, 1), // 3 complement of all bits
+    Line(1, 0, 0, 2, 0, 16), // 4 sum
+    Line(1, 0, 0, 2, 0, 17), // 5 difference
+    Line(1, 0, 0, 2, 0, 1), // 6 bitwise and
+    Line(1, 0, 0, 2, 0, 1), // 7 bitwise or
+    Line(1, 0, 0, 2, 0, 6), // 8 equal
+    Line(1, 0, 0, 2, 0, 17), // 9 less
+    Line(0, 0, 0, 0, 0, 0), // 10
+    Line(0, 0, 0, 0, 0, 0), // 11
+    Line(0, 0, 0, 0, 0, 0), // 12
+    Line(0, 0, 0, 0, 0, 0), // 13
+    Line(0, 0, 0, 0, 0, 0), // 14
+    Line(0, 0, 0, 0, 0, 0), // 15
+    Line(2, 0, 0, 0, 0, 0), // 16 ok
+    Line(2, 1, 0, 0, 0, 0), // 17 tick
+    Line(2, 1, 2, 1, 0, 0), // 18 variable n := e
+    Line(2, 0, 0, 0, 2, 0), // 19 sequence
+    Line(2, 0, 0, 0, 2, 0), // 20 parallel
+    Line(2, 1, 0, 1, 2, 0), // 21 if e then P else Q
+    Line(2, 1, 0, 1, 1, 0), // 22 while e do P
+    Line(2, 1, 0, 1, 1, 0), // 23 repeat P until e
+];
+
+// Of a kind that the table does not have, the row is that of kind 0.
+pub fn kind_row(kind: u8) -> Row
+    ensures { λ r. ⌜ r ≡ rowOf kind ⌝ }
+{
+    let k = if kind < 24 { kind as usize } else { 0 };
+    let line = TABLE[k];
+    Row {
+        sort: line.0,
+        delay: line.1,
+        number: line.2,
+        exprs: line.3,
+        stmts: line.4,
+        time: line.5,
+    }
+}
+
+pub fn read_node(program: &[u8], i: usize) -> Node
+    requires { ⌜ 4 * i + 3 < length (now program) ⌝ }
+    ensures { λ r. ⌜ r ≡ nodeAt (now (program .entry)) i ⌝ }
+{
+    let at = 4 * i;
+    Node {
+        kind: program[at],
+        delay: program[at + 1],
+        n: word::get16(program, at + 2),
+    }
+}
+
+fn refused(number: u8, place: usize) -> Checked
+    ensures { λ r. ⌜ r ≡ refuse number place ⌝ }
+{
+    Checked::Refused(Refusal { number, place })
+}
+
+// A field without a use that is not zero.
+fn spare(used: u8, value: u16) -> bool
+    ensures { λ r. ⌜ r ≡ spare used value ⌝ }
+{
+    if used == 0 { 0 < value } else { false }
+}
+
+// Refusals 2 to 4 of one node, or 0.
+fn fault_of(node: Node) -> u8
+    ensures { λ r. ⌜ r ≡ faultOf node ⌝ }
+{
+    let row = kind_row(node.kind);
+    if row.sort == 0 {
+        return 2;
+    }
+    if spare(row.delay, node.delay as u16) | spare(row.number, node.n) {
+        return 3;
+    }
+    if (row.number == 2) & (15 < node.n) {
+        4
+    } else {
+        0
+    }
+}
+
+// Refusal 1.
+fn length_wrong(program: &[u8]) -> bool
+    ensures { λ r. ⌜ r ≡ programLengthWrong (now (program .entry)) ⌝ }
+{
+    let n = program.len();
+    (n == 0) | ((800 < n) | (0 < n % 4))
+}
+
+// Refusals 2 to 4: the first node with a fault.
+fn first_fault(program: &[u8]) -> Checked
+    ensures { λ r. ⌜ r ≡ firstFault (λ i. faultOf (nodeAt (now (program .entry)) i)) 0 (nodeCount (now (program .entry))) ⌝ }
+{
+    let count = program.len() / 4;
+    let mut i: usize = 0;
+    while i < count {
+        let number = fault_of(read_node(program, i));
+        if number != 0 {
+            return refused(number, i);
+        }
+        i += 1;
+    }
+    Checked::Accepted
+}
+
+// Refusals 5 and 6. What is still to be read is always some expressions and then some statements, so two counts tell it.
+fn first_misread(program: &[u8]) -> Checked
+    requires { ⌜ length (now program) ≤ 800 ⌝ }
+    ensures { λ r. ⌜ r ≡ reading (2 ∷ []) 0 (nodesAt (now (program .entry)) 0) ⌝ }
+{
+    let count = program.len() / 4;
+    let mut exprs: usize = 0;
+    let mut stmts: usize = 1;
+    let mut i: usize = 0;
+    while i < count {
+        let node = read_node(program, i);
+        let row = kind_row(node.kind);
+        if exprs == 0 {
+            if stmts == 0 {
+                return refused(6, i);
+            }
+            if row.sort != 2 {
+                return refused(5, i);
+            }
+            exprs = row.exprs as usize;
+            stmts = stmts - 1 + row.stmts as usize;
+            i += 1;
+        } else {
+            if row.sort != 1 {
+                return refused(5, i);
+            }
+            exprs = exprs - 1 + row.exprs as usize;
+            i += 1;
+        }
+    }
+    if exprs + stmts == 0 {
+        return Checked::Accepted;
+    }
+    refused(6, count)
+}
+
+// Refusals 1 to 6.
+fn early_check(program: &[u8]) -> Checked
+    ensures { λ r. ⌜ r ≡ first (take 3 (programChecks paperTime (now (program .entry)))) ⌝ }
+{
+    if length_wrong(program) {
+        return refused(1, 0);
+    }
+    let faults = first_fault(program);
+    match faults {
+        Checked::Refused(r) => Checked::Refused(r),
+        Checked::Accepted => first_misread(program),
+    }
+}
+
+// The node after the subtree of node i.
+pub fn next(ends: &[usize; 200], count: usize, i: usize) -> usize
+    requires { ⌜ count ≤ 200 ⌝ }
+    ensures { λ r. ⌜ r ≡ past (now (ends .entry)) count i ⌝ }
+{
+    if i < count { ends[i] } else { i }
+}
+
+// The node after so many subtrees that begin at node `from`.
+pub fn skip(ends: &[usize; 200], count: usize, from: usize, trees: usize) -> usize
+    requires { ⌜ count ≤ 200 ⌝ }
+    ensures { λ r. ⌜ r ≡ skips (now (ends .entry)) count trees from ⌝ }
+{
+    let mut at = from;
+    let mut left = trees;
+    while 0 < left {
+        at = next(ends, count, at);
+        left -= 1;
+    }
+    at
+}
+
+fn larger(a: u16, b: u16) -> u16
+    ensures { λ r. ⌜ r ≡ max a b ⌝ }
+{
+    if a < b { b } else { a }
+}
+
+// The expression time of node i, where the array has it.
+fn known_time(program: &[u8], times: &[u16; 200], i: usize) -> u16
+    requires { ⌜ (length (now program) ≤ 800) × (i < nodeCount (now program) → getD (now times) i 0 ≡ time paperTime (exprAt (now program) i)) ⌝ }
+    ensures { λ r. ⌜ r ≡ time paperTime (exprAt (now (program .entry)) i) ⌝ }
+{
+    if i < program.len() / 4 { times[i] } else { 0 }
+}
+
+// The expression time of node i, where the arrays have those after it.
+fn time_at(program: &[u8], times: &[u16; 200], ends: &[usize; 200], i: usize) -> u16
+    requires { ⌜ (length (now program) ≤ 800) × (i < nodeCount (now program)) × ((j : ℕ) → i + 1 ≤ j → j < nodeCount (now program) → Shaped paperTime (now program) (now times) (now ends) j) ⌝ }
+    ensures { λ r. ⌜ r ≡ time paperTime (exprAt (now (program .entry)) i) ⌝ }
+{
+    let node = read_node(program, i);
+    let kind = node.kind;
+    if 16 <= kind {
+        return 0;
+    }
+    let row = kind_row(kind);
+    let operator = row.time as u16;
+    if kind == 1 {
+        return operator;
+    }
+    if kind == 2 {
+        return operator;
+    }
+    let first = known_time(program, times, i + 1);
+    if kind == 3 {
+        return operator + first;
+    }
+    let count = program.len() / 4;
+    let second = known_time(program, times, next(ends, count, i + 1));
+    operator + larger(first, second)
+}
+
+// The least delay that node i may have.
+fn least_at(program: &[u8], times: &[u16; 200], i: usize) -> u16
+    requires { ⌜ (length (now program) ≤ 800) × (i < nodeCount (now program)) × (i + 1 < nodeCount (now program) → getD (now times) (i + 1) 0 ≡ time paperTime (exprAt (now program) (i + 1))) ⌝ }
+    ensures { λ r. ⌜ r ≡ least paperTime (stmtAt (now (program .entry)) i) ⌝ }
+{
+    let node = read_node(program, i);
+    let kind = node.kind;
+    if kind <= 16 {
+        return 0;
+    }
+    if kind == 17 {
+        return 1;
+    }
+    if kind == 19 {
+        return 0;
+    }
+    if kind == 20 {
+        return 0;
+    }
+    let time = known_time(program, times, i + 1);
+    if kind == 21 {
+        return time;
+    }
+    larger(1, time)
+}
+
+// Refusal 7: the first node whose delay is too small.
+fn first_slow(program: &[u8], times: &[u16; 200]) -> Checked
+    requires { ⌜ (length (now program) ≤ 800) × ((j : ℕ) → j < nodeCount (now program) → getD (now times) j 0 ≡ time paperTime (exprAt (now program) j)) ⌝ }
+    ensures { λ r. ⌜ r ≡ firstFault (slowAt paperTime (now (program .entry))) 0 (nodeCount (now (program .entry))) ⌝ }
+{
+    let count = program.len() / 4;
+    let mut i: usize = 0;
+    while i < count {
+        let node = read_node(program, i);
+        if (node.delay as u16) < least_at(program, times, i) {
+            return refused(7, i);
+        }
+        i += 1;
+    }
+    Checked::Accepted
+}
+
+// The node assigns to x or, where the flag is set, reads it.
+fn names(node: Node, x: u16, touch: bool) -> bool
+    ensures { λ r. ⌜ r ≡ names touch x node ⌝ }
+{
+    ((node.kind == 18) | ((node.kind == 2) & touch)) & (x == node.n)
+}
+
+// The statement at node i writes x or, where the flag is set, reads or writes it.
+fn uses(program: &[u8], ends: &[usize; 200], i: usize, x: u16, touch: bool) -> bool
+    requires { ⌜ Side (now program) (now ends) i ⌝ }
+    ensures { λ r. ⌜ r ≡ uses touch (stmtAt (now (program .entry)) i) x ⌝ }
+{
+    let count = program.len() / 4;
+    let end = next(ends, count, i);
+    let mut k = i;
+    while k < end {
+        if names(read_node(program, k), x, touch) {
+            return true;
+        }
+        k += 1;
+    }
+    false
+}
+
+// The statement at node p writes x, and that at node q reads or writes it.
+fn crosses(program: &[u8], ends: &[usize; 200], p: usize, q: usize, x: u16) -> bool
+    requires { ⌜ Side (now program) (now ends) p × Side (now program) (now ends) q ⌝ }
+    ensures { λ r. ⌜ r ≡ (writes (stmtAt (now (program .entry)) p) x && touches (stmtAt (now (program .entry)) q) x) ⌝ }
+{
+    uses(program, ends, p, x, false) && uses(program, ends, q, x, true)
+}
+
+// Refusal 8: parallel nodes in node order, and for each the variables.
+fn first_clash(program: &[u8], ends: &[usize; 200]) -> Checked
+    requires { ⌜ Readable (now program) × Laid (now program) (now ends) ⌝ }
+    ensures { λ r. ⌜ r ≡ firstFault (clashAt (now (program .entry))) 0 (nodeCount (now (program .entry))) ⌝ }
+{
+    let count = program.len() / 4;
+    let mut i: usize = 0;
+    'nodes: while i < count {
+        let node = read_node(program, i);
+        if node.kind == 20 {
+            let second = next(ends, count, i + 1);
+            let mut x: u16 = 0;
+            while x < 16 {
+                if crosses(program, ends, i + 1, second, x)
+                    | crosses(program, ends, second, i + 1, x)
+                {
+                    break 'nodes;
+                }
+                x += 1;
+            }
+            i += 1;
+        } else {
+            i += 1;
+        }
+    }
+    if i < count {
+        return refused(8, i);
+    }
+    Checked::Accepted
+}
+
+// Refusals 7 and 8.
+fn late_check(program: &[u8], times: &[u16; 200], ends: &[usize; 200]) -> Checked
+    requires { ⌜ Readable (now program) × ((j : ℕ) → j < nodeCount (now program) → Shaped paperTime (now program) (now times) (now ends) j) ⌝ }
+    ensures { λ r. ⌜ r ≡ first (drop 3 (programChecks paperTime (now (program .entry)))) ⌝ }
+{
+    let slow = first_slow(program, times);
+    match slow {
+        Checked::Refused(r) => Checked::Refused(r),
+        Checked::Accepted => first_clash(program, ends),
+    }
+}
+
+// The arrays, filled from the last node to the first, and refusals 7 and 8, which read them.
+fn measure(program: &[u8]) -> Scanned
+    requires { ⌜ Readable (now program) ⌝ }
+    ensures { λ r. ⌜ Measures (now (program .entry)) r ⌝ }
+{
+    let count = program.len() / 4;
+    let mut times = [0u16; 200];
+    let mut ends = [0usize; 200];
+    let mut i = count;
+    while 0 < i {
+        i -= 1;
+        let node = read_node(program, i);
+        let row = kind_row(node.kind);
+        let time = time_at(program, &times, &ends, i);
+        let end = skip(&ends, count, i + 1, row.exprs as usize + row.stmts as usize);
+        times[i] = time;
+        ends[i] = end;
+    }
+    let checked = late_check(program, &times, &ends);
+    Scanned {
+        checked,
+        times,
+        ends,
+    }
+}
+
+// All refusals, with the arrays that the compiler and the reference run go by.
+pub fn scan(program: &[u8]) -> Scanned
+    ensures { λ r. ⌜ Scans (now (program .entry)) r ⌝ }
+{
+    let early = early_check(program);
+    match early {
+        Checked::Refused(r) => Scanned {
+            checked: Checked::Refused(r),
+            times: [0u16; 200],
+            ends: [0usize; 200],
+        },
+        Checked::Accepted => measure(program),
+    }
+}
+
+pub fn check(program: &[u8]) -> Checked
+    ensures { λ r. ⌜ r ≡ checkCall (now (program .entry)) ⌝ }
+{
+    let told = scan(program);
+    told.checked
+}

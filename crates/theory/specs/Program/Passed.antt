@@ -1,0 +1,126 @@
+-- What an accepted program gives: what each refusal leaves, and that its nodes are those of one statement.
+-- Assumes nothing.
+use mathlib.Core.Path.{_≡_, refl, sym, _∙_, ap, subst}
+use mathlib.Core.Bool.{false}
+use mathlib.Core.List.{List, [], _∷_, _++_, append-nil}
+use Prim.Native.Nat.{ℕ, zero, suc, _+_, _-_, _≤_, _<_}
+use native.Mathlib.Omega.{arith}
+use native.Mathlib.Numerals.{add-one}
+use lib.ListN.{length, getD, take, drop}
+use lib.Dec.{ltb, eqb}
+use borrow.Author.Tests.{ltb-false}
+use Rattle.model.specs.declared.Checked.the-variants.{Accepted}
+use Rattle.model.specs.Refusals.{first}
+use Rattle.model.specs.Program.{Tree, stmt, nodeAt, nodeCount, nodesAt, rowOf, none, asStmt, treesAt, stmtAt, programOf, paperTime, least, clashes, programLengthWrong, faultOf, children, reading, slowAt, clashAt, programChecks, checkOf}
+use Rattle.theory.specs.Refusals.Laws.{not-refused, pick-true, or-false, all-accept, accept-take, refuse-unless, fault-unless, first-place}
+use Rattle.theory.specs.Program.Trees.{nodes-step, treeAt}
+use Rattle.theory.specs.Program.Preorder.{preorder, allNodes, sortsOf, Known, KnownT, AllKnown}
+use Rattle.theory.specs.Program.Grows.{first-stmt, two-stmts}
+use Rattle.theory.specs.Program.Whole.{Whole, whole}
+
+-- What each refusal leaves -------------------------------------------------------------------------------------------------------------
+
+-- refusals 1 to 6
+pub record Readable (s : List ℕ) : Type 0 where
+  pub short : length s ≤ 800
+  pub faultless : (j : ℕ) → j < nodeCount s → faultOf (nodeAt s j) ≡ 0
+  pub read : reading (2 ∷ []) 0 (nodesAt s 0) ≡ Accepted
+
+-- refusals 1 to 8, with operator times τ
+pub record Passed (τ : ℕ → ℕ) (s : List ℕ) : Type 0 where
+  pub readable : Readable s
+  pub slowless : (j : ℕ) → j < nodeCount s → least τ (stmtAt s j) ≤ nodeAt s j .delay
+  pub clashless : (j : ℕ) → j < nodeCount s → clashes (stmtAt s j) ≡ false
+
+pub right-length : (s : List ℕ) → programLengthWrong s ≡ false → length s ≤ 800
+unfolding programLengthWrong
+right-length s h = ltb-false 800 (length s) (or-false (ltb 800 (length s)) _ (or-false (eqb (length s) 0) _ h .1) .0)
+
+module _ (τ : ℕ → ℕ) (s : List ℕ) where
+  pub readable : first (take 3 (programChecks τ s)) ≡ Accepted → Readable s
+  readable e =
+      let a = all-accept (take 3 (programChecks τ s)) e in
+      record { short = right-length s (refuse-unless (programLengthWrong s) 1 0 (a 0)); faultless = first-place (λ i. faultOf (nodeAt s i)) (nodeCount s) .none (a 1); read = a 2 }
+
+  pub passed : first (programChecks τ s) ≡ Accepted → Passed τ s
+  unfolding slowAt clashAt
+  passed e =
+      let a = all-accept (programChecks τ s) e in
+      record {
+        readable = readable (accept-take 3 (programChecks τ s) e);
+        slowless = λ j l.
+            let slow = ltb (nodeAt s j .delay) (least τ (stmtAt s j)) in
+            ltb-false _ _ (fault-unless slow 7 (omega arith) (first-place (slowAt τ s) (nodeCount s) .none (a 3) j l));
+        clashless = λ j l. fault-unless (clashes (stmtAt s j)) 8 (omega arith) (first-place (clashAt s) (nodeCount s) .none (a 4) j l);
+      }
+
+pub accepted : (s : List ℕ) → checkOf s ≡ Accepted → Passed paperTime s
+unfolding checkOf
+accepted s e = passed paperTime s e
+
+-- Trees and ranges of nodes ------------------------------------------------------------------------------------------------------------
+
+reading-next : (s : List ℕ) (i : ℕ) (ws : List ℕ) → i < nodeCount s → reading ws i (nodesAt s i) ≡ Accepted
+    → (vs : List ℕ) × (reading (children (nodeAt s i .kind) ++ vs) (i + 1) (nodesAt s (i + 1)) ≡ Accepted)
+unfolding reading
+reading-next s i [] h r = not-refused (rw (nodes-step s i (nodeCount s) h) at r)
+reading-next s i (w ∷ ws) h r =
+    (ws, pick-true (eqb (rowOf (nodeAt s i .kind) .sort) w) _ _ (rw (nodes-step s i (nodeCount s) h) at r) .1)
+
+first-known : (ts : List Tree) → AllKnown ts → KnownT (getD ts 0 none)
+first-known [] h = tt
+first-known (t ∷ ts) h = h .0
+
+no-trees : (ts : List Tree) → sortsOf ts ≡ [] → ts ≡ []
+no-trees [] h = refl
+no-trees (t ∷ ts) h = absurd (omega (arith, ap length h))
+
+module _ (s : List ℕ) (R : Readable s) where
+  reading-at : (i : ℕ) → i ≤ nodeCount s → (ws : List ℕ) × (reading ws i (nodesAt s i) ≡ Accepted)
+  reading-at zero h = (2 ∷ [], R .read)
+  reading-at (suc i) h =
+      let r = reading-at i (omega arith) in
+      let n = reading-next s i (r .0) (omega arith) (r .1) in
+      (children (nodeAt s i .kind) ++ n .0, rw add-one at (n .1))
+
+  whole-from : (i : ℕ) (ws : List ℕ) → i ≤ nodeCount s → reading ws i (nodesAt s i) ≡ Accepted → Whole (nodesAt s i) ws
+  whole-from i ws h r = whole s (nodeCount s - i) i ws (λ j l m. R .faultless j (omega arith)) r
+
+  whole-at : (i : ℕ) → i ≤ nodeCount s → (ws : List ℕ) × (Whole (nodesAt s i) ws)
+  whole-at i h = (reading-at i h .0, whole-from i (reading-at i h .0) h (reading-at i h .1))
+
+  pub nodes-at : (i : ℕ) → i ≤ nodeCount s → allNodes (treesAt s i) ≡ nodesAt s i
+  unfolding treesAt
+  nodes-at i h = whole-at i h .1 .nodes
+
+  -- its operators are of kinds 4 to 9
+  pub known-at : (i : ℕ) → i < nodeCount s → KnownT (treeAt s i)
+  unfolding treesAt
+  known-at i h = first-known (treesAt s i) (whole-at i (omega arith) .1 .known)
+
+  -- the whole program is one statement
+  pub program-tree : treesAt s 0 ≡ stmt (programOf s) ∷ []
+  unfolding treesAt stmtAt asStmt
+  program-tree =
+      first-stmt (λ (l : List Tree). l ≡ stmt (asStmt (getD l 0 none)) ∷ []) (treesAt s 0) [] (whole-from 0 (2 ∷ []) (omega arith) (R .read) .sorts)
+      (λ P us q. ap (λ (l : List Tree). stmt P ∷ l) (no-trees us q))
+
+  pub program-nodes : preorder (programOf s) ≡ nodesAt s 0
+  program-nodes = sym (append-nil (preorder (programOf s))) ∙ sym (ap allNodes program-tree) ∙ nodes-at 0 (omega arith)
+
+  pub program-known : Known (programOf s)
+  unfolding treesAt
+  program-known = subst AllKnown program-tree (whole-from 0 (2 ∷ []) (omega arith) (R .read) .known) .0
+
+  -- both sides of a parallel node are statements
+  pub par-sides : (i : ℕ) → i < nodeCount s → nodeAt s i .kind ≡ 20 → (j : ℕ) → treesAt s j ≡ drop 1 (treesAt s (i + 1))
+      → (treeAt s (i + 1) ≡ stmt (stmtAt s (i + 1))) × (treeAt s j ≡ stmt (stmtAt s j))
+  unfolding treesAt stmtAt asStmt children rowOf
+  par-sides i h k j ej =
+      let r = reading-at i (omega arith) in
+      let n = reading-next s i (r .0) h (r .1) in
+      let w = whole-from (i + 1) _ (omega arith) (n .1) in
+      rw (ap (λ (ts : List Tree). getD ts 0 none) ej)
+      (two-stmts
+      (λ (l : List Tree). (getD l 0 none ≡ stmt (asStmt (getD l 0 none))) × (getD (drop 1 l) 0 none ≡ stmt (asStmt (getD (drop 1 l) 0 none))))
+      (treesAt s (i + 1)) (n .0) (w .sorts ∙ ap (λ (k : ℕ). children k ++ n .0) k) (λ P Q us q. (refl, refl)))

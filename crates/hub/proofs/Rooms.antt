@@ -1,0 +1,26 @@
+-- What an exported function leaves: with room for a reply, what its call leaves; without, what was there. Assumes nothing.
+use mathlib.Core.Path.{_≡_, refl, sym, _∙_, ap}
+use mathlib.Core.Bool.{true, false}
+use mathlib.Core.List.{List}
+use Prim.Native.Nat.{ℕ, _<_, _≤_}
+use lib.ListN.{length}
+use borrow.Author.Tests.{le-leb, lt-leb}
+use Rattle.hub.specs.declared.reply.Reply.{Reply}
+use Rattle.hub.specs.Replies.{replied, roomFor, ifRoom}
+
+module _ (reply : List ℕ) (l : 48 ≤ length reply) where
+  pub room : true ≡ roomFor reply
+  room = sym (le-leb 48 (length reply) l)
+
+  pub left : (out after before : List ℕ) → out ≡ after → out ≡ ifRoom reply after before
+  left out after before e = rw (← room) e
+
+  pub put-in : (out : List ℕ) (r q : Reply) → out ≡ replied r reply → r ≡ q → out ≡ ifRoom reply (replied q reply) reply
+  put-in out r q e f = left out (replied q reply) reply (e ∙ ap (λ (r : Reply). replied r reply) f)
+
+module _ (reply : List ℕ) (l : length reply < 48) where
+  pub no-room : false ≡ roomFor reply
+  no-room = sym (lt-leb 48 (length reply) l)
+
+  pub untouched : (after before : List ℕ) → before ≡ ifRoom reply after before
+  untouched after before = rw (← no-room) refl

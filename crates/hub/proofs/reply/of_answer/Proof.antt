@@ -1,0 +1,54 @@
+-- The reply of a run. Assumes nothing.
+use mathlib.Core.Path.{sym, _∙_, ap}
+use Rattle.hub.specs.Replies.{outcomeReply}
+use borrow.Author.Needs.{needs}
+use Rattle.hub.proofs.reply.of_answer.Statement.{statement}
+use Rattle.hub.proofs.reply.of_answer.Tie as tie
+use Rattle.hub.proofs.reply.of_answer.Reads as reads
+use Rattle.hub.proofs.reply.of_answer.Lts as lts
+use Rattle.hub.proofs.reply.of_numbers.Reads as of-numbers-reads
+use Rattle.hub.proofs.reply.of_refusal.Reads as of-refusal-reads
+
+enum-told : tie.Need-enum-told
+enum-told c = search needs
+
+of-numbers-requires : tie.Need-of-numbers-requires
+of-numbers-requires c κs = search needs
+
+enum-told-2 : tie.Need-enum-told-2
+enum-told-2 c = search needs
+
+of-numbers-requires-2 : tie.Need-of-numbers-requires-2
+of-numbers-requires-2 c κs = search needs
+
+enum-known-outcome : tie.Need-enum-known-outcome
+enum-known-outcome c = search needs
+
+of-refusal-requires : tie.Need-of-refusal-requires
+of-refusal-requires c κs = search needs
+
+returns : tie.Need-returns
+unfolding outcomeReply
+returns c = rw (c .before .enum-told .given .1) (c .of-numbers .ensures)
+
+returns-2 : tie.Need-returns-2
+unfolding outcomeReply
+returns-2 c = rw (c .before .enum-told2 .given .1) (c .of-numbers2 .ensures)
+
+returns-3 : tie.Need-returns-3
+unfolding outcomeReply
+returns-3 c = rw (c .before .before .outcome .given .1) (c .of-refusal .ensures)
+
+pub of-answer-spec : {M : Type 1} → statement M
+of-answer-spec =
+    tie.close
+    (tie.spec
+    enum-told
+    of-numbers-requires
+    enum-told-2
+    of-numbers-requires-2
+    enum-known-outcome
+    of-refusal-requires
+    returns
+    returns-2
+    returns-3)

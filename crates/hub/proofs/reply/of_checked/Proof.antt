@@ -1,0 +1,35 @@
+-- The reply of a check. Assumes nothing.
+use mathlib.Core.Path.{sym, _∙_, ap}
+use borrow.Author.Needs.{needs}
+use Rattle.hub.specs.Replies.{checkedReply}
+use Rattle.hub.proofs.reply.of_checked.Statement.{statement}
+use Rattle.hub.proofs.reply.of_checked.Tie as tie
+use Rattle.hub.proofs.reply.of_checked.Reads as reads
+use Rattle.hub.proofs.reply.of_checked.Lts as lts
+use Rattle.hub.proofs.reply.of_numbers.Reads as of-numbers-reads
+use Rattle.hub.proofs.reply.of_refusal.Reads as of-refusal-reads
+
+enum-told : tie.Need-enum-told
+enum-told c = search needs
+
+of-numbers-requires : tie.Need-of-numbers-requires
+of-numbers-requires c κs = search needs
+
+enum-known-c : tie.Need-enum-known-c
+enum-known-c c = search needs
+
+of-refusal-requires : tie.Need-of-refusal-requires
+of-refusal-requires c κs = search needs
+
+returns : tie.Need-returns
+unfolding checkedReply
+returns c = c .of-numbers .ensures ∙ ap checkedReply (sym (c .before .enum-told .given .1))
+
+returns-2 : tie.Need-returns-2
+unfolding checkedReply
+returns-2 c = c .of-refusal .ensures ∙ ap checkedReply (sym (c .before .before .c .given .1))
+
+pub of-checked-spec : {M : Type 1} → statement M
+of-checked-spec =
+    tie.close
+    (tie.spec enum-told of-numbers-requires enum-known-c of-refusal-requires returns returns-2)

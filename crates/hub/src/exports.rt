@@ -1,0 +1,50 @@
+// The calls for other languages: numbers and byte slices in, the answer as 48 bytes in a lent buffer (specs/Replies).
+// Each answers whether there was room for the reply; where there was none it did nothing.
+ghost use mathlib.Core.Path.{_≡_};
+ghost use Rattle.model.specs.Calls.{checkCall, writeCall, readCall};
+ghost use Rattle.hub.specs.Replies.{checkedReply, writtenReply, replied, roomFor, ifRoom};
+use crate::reply;
+
+#[no_mangle]
+pub extern "C" fn hub_check(program: &[u8], reply: &mut [u8]) -> bool
+    ensures done { λ r. ⌜ r ≡ roomFor (now (reply .entry)) ⌝ }
+    ensures reply { λ _. ⌜ now (reply .exit) ≡ ifRoom (now (reply .entry)) (replied (checkedReply (checkCall (now (program .entry)))) (now (reply .entry))) (now (reply .entry)) ⌝ }
+{
+    if reply.len() < 48 {
+        return false;
+    }
+    let answer = crate::check(program);
+    let answered = reply::of_checked(answer);
+    reply::put(reply, answered);
+    true
+}
+
+#[no_mangle]
+pub extern "C" fn hub_write(cells: &[u8], finish: u16, file: &mut [u8], reply: &mut [u8]) -> bool
+    ensures done { λ r. ⌜ r ≡ roomFor (now (reply .entry)) ⌝ }
+    ensures file { λ _. ⌜ now (file .exit) ≡ ifRoom (now (reply .entry)) (writeCall (now (cells .entry)) finish (now (file .entry)) .lent) (now (file .entry)) ⌝ }
+    ensures reply { λ _. ⌜ now (reply .exit) ≡ ifRoom (now (reply .entry)) (replied (writtenReply (writeCall (now (cells .entry)) finish (now (file .entry)) .answer)) (now (reply .entry))) (now (reply .entry)) ⌝ }
+{
+    if reply.len() < 48 {
+        return false;
+    }
+    let answer = crate::write_netlist(cells, finish, file);
+    let answered = reply::of_written(answer);
+    reply::put(reply, answered);
+    true
+}
+
+#[no_mangle]
+pub extern "C" fn hub_read(file: &[u8], cells: &mut [u8], reply: &mut [u8]) -> bool
+    ensures done { λ r. ⌜ r ≡ roomFor (now (reply .entry)) ⌝ }
+    ensures cells { λ _. ⌜ now (cells .exit) ≡ ifRoom (now (reply .entry)) (readCall (now (file .entry)) (now (cells .entry)) .lent) (now (cells .entry)) ⌝ }
+    ensures reply { λ _. ⌜ now (reply .exit) ≡ ifRoom (now (reply .entry)) (replied (writtenReply (readCall (now (file .entry)) (now (cells .entry)) .answer)) (now (reply .entry))) (now (reply .entry)) ⌝ }
+{
+    if reply.len() < 48 {
+        return false;
+    }
+    let answer = crate::read_netlist(file, cells);
+    let answered = reply::of_written(answer);
+    reply::put(reply, answered);
+    true
+}

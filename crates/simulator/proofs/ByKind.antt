@@ -1,0 +1,155 @@
+-- What a cell shows and how it settles, by the number of its kind. Assumes nothing.
+use mathlib.Core.Bool.{Bool, true, false, not, _&&_, _||_}
+use mathlib.Core.List.{List}
+use mathlib.Core.Path.{_≡_, refl, sym, _∙_, ap}
+use Prim.Native.Nat.{ℕ, _+_, _-_, _<_, _≤_}
+use native.Mathlib.Omega.{arith}
+use native.Mathlib.Decide.{ℕ-discrete}
+use lib.Dec.{eqb, leb}
+use borrow.Author.Tests.{eq-eqb, ne-eqb, le-leb, lt-leb}
+use Rattle.model.specs.declared.Cell.{Cell}
+use Rattle.model.specs.Word.{pick, bit, isZero, operate}
+use Rattle.model.specs.Circuit.{high, mergeStep, Shape, shape, kConstant, kComplement, kOperator, kStart, kGround, kDelay, kOr, kWhenTrue, kWhenFalse, kMerge, kMemory, kGated, kUnknown}
+use Rattle.model.specs.State.{base, nowAt, beforeAt, heldAt, lineBit, later, shifted, holding, settle}
+use Rattle.theory.specs.Circuit.Shapes.{delay-kind, merge-kind}
+
+-- a number that is no operator's
+pub record NoOperator (kind : ℕ) : Type 0 where
+  pub test : (leb 4 kind && leb kind 9) ≡ false
+  pub three : kind ≡ 3 → ⊥
+
+pub no-operator-low : (kind : ℕ) → kind < 3 → NoOperator kind
+no-operator-low kind h = record { test = ap (λ (b : Bool). b && leb kind 9) (lt-leb 4 kind (omega arith)); three = λ e. omega arith }
+
+pub no-operator-high : (kind : ℕ) → 10 ≤ kind → NoOperator kind
+no-operator-high kind h =
+    record { test = rw (le-leb 4 kind (omega arith), lt-leb kind 9 (omega arith)) refl; three = λ e. omega arith }
+
+shape-operator : (kind : ℕ) → 4 ≤ kind → kind ≤ 9 → shape kind ≡ kOperator
+unfolding shape
+shape-operator kind h g = rw (le-leb 4 kind h, le-leb kind 9 g) refl
+
+-- kinds that show what their inputs have, worked out, are none of these
+pub record Still (kind : ℕ) : Type 0 where
+  pub operator : NoOperator kind
+  pub constant : kind ≡ 1 → ⊥
+  pub delay : kind ≡ 34 → ⊥
+  pub join : kind ≡ 35 → ⊥
+  pub when-true : kind ≡ 36 → ⊥
+  pub when-false : kind ≡ 37 → ⊥
+  pub merge : kind ≡ 38 → ⊥
+  pub memory : kind ≡ 40 → ⊥
+  pub gated : kind ≡ 41 → ⊥
+
+shape-still : (kind : ℕ) → Still kind → shape kind ≡ pick (eqb kind 32) kStart (pick (eqb kind 33) kGround kUnknown)
+unfolding shape
+shape-still kind h =
+    rw (
+      h .operator .test,
+      ne-eqb kind 3 (h .operator .three),
+      ne-eqb kind 1 (h .constant),
+      ne-eqb kind 34 (h .delay),
+      ne-eqb kind 35 (h .join),
+      ne-eqb kind 36 (h .when-true),
+      ne-eqb kind 37 (h .when-false),
+      ne-eqb kind 38 (h .merge),
+      ne-eqb kind 40 (h .memory),
+      ne-eqb kind 41 (h .gated),
+    ) refl
+
+module _ (s : List ℕ) (k : ℕ) (c : Cell) where
+  -- Values -----------------------------------------------------------------------------------------------------------------------------
+
+  by-kind : (n : ℕ) → c .kind ≡ n → later (shape (c .kind)) s k c ≡ later (shape n) s k c
+  by-kind n h = ap (λ (j : ℕ). later (shape j) s k c) h
+
+  pub later-constant : c .kind ≡ 1 → later (shape (c .kind)) s k c ≡ c .a
+  unfolding later shape
+  later-constant h = by-kind 1 h
+
+  pub later-delay : c .kind ≡ 34 → later (shape (c .kind)) s k c ≡ lineBit s k (c .delay - 1)
+  unfolding later shape
+  later-delay h = by-kind 34 h
+
+  pub later-or : c .kind ≡ 35 → later (shape (c .kind)) s k c ≡ bit (high (nowAt s (c .a)) || high (nowAt s (c .b)))
+  unfolding later shape
+  later-or h = by-kind 35 h
+
+  pub later-when-true : c .kind ≡ 36 → later (shape (c .kind)) s k c ≡ bit (high (nowAt s (c .a)) && not (isZero (nowAt s (c .b))))
+  unfolding later shape
+  later-when-true h = by-kind 36 h
+
+  pub later-when-false : c .kind ≡ 37 → later (shape (c .kind)) s k c ≡ bit (high (nowAt s (c .a)) && isZero (nowAt s (c .b)))
+  unfolding later shape
+  later-when-false h = by-kind 37 h
+
+  pub later-merge : c .kind ≡ 38
+      → later (shape (c .kind)) s k c ≡ bit (mergeStep (heldAt s k) (high (nowAt s (c .a))) (high (nowAt s (c .b))) .out)
+  unfolding later shape
+  later-merge h = by-kind 38 h
+
+  -- a memory whose clock has fallen, and one whose clock has not
+  pub later-fallen : c .kind ≡ 40 → (high (beforeAt s (c .a)) && not (high (nowAt s (c .a)))) ≡ true
+      → later (shape (c .kind)) s k c ≡ beforeAt s (c .b)
+  unfolding later shape
+  later-fallen h e = by-kind 40 h ∙ ap (λ (b : Bool). pick b (beforeAt s (c .b)) (beforeAt s k)) e
+
+  pub later-kept : c .kind ≡ 40 → (high (beforeAt s (c .a)) && not (high (nowAt s (c .a)))) ≡ false
+      → later (shape (c .kind)) s k c ≡ beforeAt s k
+  unfolding later shape
+  later-kept h e = by-kind 40 h ∙ ap (λ (b : Bool). pick b (beforeAt s (c .b)) (beforeAt s k)) e
+
+  pub later-gate-open : c .kind ≡ 41 → nowAt s (c .a) ≡ 1 → later (shape (c .kind)) s k c ≡ nowAt s (c .b)
+  unfolding later shape
+  later-gate-open h e = by-kind 41 h ∙ ap (λ (b : Bool). pick b (nowAt s (c .b)) 0) (eq-eqb _ _ e)
+
+  pub later-gate-shut : c .kind ≡ 41 → (nowAt s (c .a) ≡ 1 → ⊥) → later (shape (c .kind)) s k c ≡ 0
+  unfolding later shape
+  later-gate-shut h e = by-kind 41 h ∙ ap (λ (b : Bool). pick b (nowAt s (c .b)) 0) (ne-eqb _ _ e)
+
+  pub later-operator : 3 ≤ c .kind → c .kind ≤ 9 → later (shape (c .kind)) s k c ≡ operate (c .kind) (nowAt s (c .a)) (nowAt s (c .b))
+  unfolding later shape operate
+  later-operator h g = go (ℕ-discrete (c .kind) 3)
+    where
+      go : Dec (c .kind ≡ 3) → later (shape (c .kind)) s k c ≡ operate (c .kind) (nowAt s (c .a)) (nowAt s (c .b))
+      go (yes e) = by-kind 3 e ∙ ap (λ (n : ℕ). operate n (nowAt s (c .a)) (nowAt s (c .b))) (sym e)
+      go (no e) = ap (λ (sh : Shape). later sh s k c) (shape-operator (c .kind) (omega (arith, e)) g)
+
+  pub later-still : Still (c .kind) → later (shape (c .kind)) s k c ≡ 0
+  unfolding later
+  later-still h = ap (λ (sh : Shape). later sh s k c) (shape-still (c .kind) h) ∙ none (eqb (c .kind) 32) (eqb (c .kind) 33)
+    where
+      none : (p q : Bool) → later (pick p kStart (pick q kGround kUnknown)) s k c ≡ 0
+      none true q = refl
+      none false true = refl
+      none false false = refl
+
+  -- Settling ---------------------------------------------------------------------------------------------------------------------------
+
+  pub settle-delay : c .kind ≡ 34 → settle (shape (c .kind)) s k c ≡ shifted 32 s (base k + 8) (bit (high (nowAt s (c .a))))
+  unfolding settle shape
+  settle-delay h = ap (λ (j : ℕ). settle (shape j) s k c) h
+
+  pub settle-merge : c .kind ≡ 38
+      → settle (shape (c .kind)) s k c ≡ holding s k (mergeStep (heldAt s k) (high (nowAt s (c .a))) (high (nowAt s (c .b))) .held)
+  unfolding settle shape
+  settle-merge h = ap (λ (j : ℕ). settle (shape j) s k c) h
+
+  pub settle-other : (c .kind ≡ 34 → ⊥) → (c .kind ≡ 38 → ⊥) → settle (shape (c .kind)) s k c ≡ s
+  unfolding settle
+  settle-other h g = go (shape (c .kind)) refl
+    where
+      go : (sh : Shape) → shape (c .kind) ≡ sh → settle sh s k c ≡ s
+      go kConstant e = refl
+      go kComplement e = refl
+      go kOperator e = refl
+      go kStart e = refl
+      go kGround e = refl
+      go kDelay e = absurd (h (delay-kind (c .kind) e))
+      go kOr e = refl
+      go kWhenTrue e = refl
+      go kWhenFalse e = refl
+      go kMerge e = absurd (g (merge-kind (c .kind) e))
+      go kMemory e = refl
+      go kGated e = refl
+      go kUnknown e = refl

@@ -1,0 +1,109 @@
+-- The checks of the calls: which one is found first, what is known when none is, and what a call then answers. Assumes nothing.
+use mathlib.Core.Bool.{true, false}
+use mathlib.Core.List.{List, [], _∷_}
+use mathlib.Core.Path.{_≡_, refl}
+use Prim.Native.Nat.{ℕ, _+_, _<_, _≤_}
+use lib.Dec.{ltb}
+use lib.ListN.{length}
+use borrow.Author.Tests.{lt-ltb, le-ltb, ltb-false}
+use Rattle.model.specs.declared.Refusal.{Refusal}
+use Rattle.model.specs.declared.Checked.{Checked}
+use Rattle.model.specs.declared.Checked.the-variants.{Accepted, Refused}
+use Rattle.model.specs.Refusals.{refuse, first}
+use Rattle.model.specs.NetlistFile.{fileCheck, cellsOf}
+use Rattle.model.specs.State.{stateSize, instantOf, sound}
+use Rattle.model.specs.Calls.{short, refusedAnswer, shows, running, beginChecks, continueChecks, runNetlistChecks}
+use Rattle.theory.specs.Refusals.Laws.{all-accept, refuse-unless}
+use Rattle.simulator.specs.Fits.{Runs}
+
+-- Which is found first -----------------------------------------------------------------------------------------------------------------
+
+last-check : (c : Checked) → c ≡ first (c ∷ [])
+last-check Accepted = refl
+last-check (Refused r) = refl
+
+pub is-short : (has needs : ℕ) → has < needs → refuse 14 0 ≡ short has needs
+is-short has needs l = rw (lt-ltb has needs l) refl
+
+pub is-long : (has needs : ℕ) → needs ≤ has → Accepted ≡ short has needs
+is-long has needs l = rw (le-ltb has needs l) refl
+
+module _ (file words lent : List ℕ) where
+  pub begin-file : (r : Refusal) → fileCheck file ≡ Refused r → Refused r ≡ first (beginChecks file words lent)
+  begin-file r e = rw e refl
+
+  pub begin-words : fileCheck file ≡ Accepted → length words < 32 → refuse 14 0 ≡ first (beginChecks file words lent)
+  begin-words e l = rw (e, lt-ltb (length words) 32 l) refl
+
+  pub begin-room : fileCheck file ≡ Accepted → 32 ≤ length words → short (length lent) (stateSize (cellsOf file)) ≡ first (beginChecks file words lent)
+  begin-room e l = rw (e, le-ltb (length words) 32 l) (last-check _)
+
+module _ (file : List ℕ) (n : ℕ) (lent : List ℕ) where
+  pub continue-file : (r : Refusal) → fileCheck file ≡ Refused r → Refused r ≡ first (continueChecks file n lent)
+  continue-file r e = rw e refl
+
+  module _ (e : fileCheck file ≡ Accepted) where
+    pub continue-room : (r : Refusal) → short (length lent) (stateSize (cellsOf file)) ≡ Refused r → Refused r ≡ first (continueChecks file n lent)
+    continue-room r l = rw (e, l) refl
+
+    module _ (l : short (length lent) (stateSize (cellsOf file)) ≡ Accepted) where
+      pub continue-unsound : sound (cellsOf file) lent ≡ false → refuse 15 0 ≡ first (continueChecks file n lent)
+      continue-unsound s = rw (e, l, s) refl
+
+      pub continue-late : sound (cellsOf file) lent ≡ true → 1000000 < instantOf lent + n → refuse 16 0 ≡ first (continueChecks file n lent)
+      continue-late s t = rw (e, l, s, lt-ltb 1000000 (instantOf lent + n) t) refl
+
+      pub continue-right : sound (cellsOf file) lent ≡ true → instantOf lent + n ≤ 1000000 → Accepted ≡ first (continueChecks file n lent)
+      continue-right s t = rw (e, l, s, le-ltb 1000000 (instantOf lent + n) t) refl
+
+module _ (file words : List ℕ) (n : ℕ) (lent : List ℕ) where
+  pub run-file : (r : Refusal) → fileCheck file ≡ Refused r → Refused r ≡ first (runNetlistChecks file words n lent)
+  run-file r e = rw e refl
+
+  module _ (e : fileCheck file ≡ Accepted) where
+    pub run-budget : 1000000 < n → refuse 13 0 ≡ first (runNetlistChecks file words n lent)
+    run-budget b = rw (e, lt-ltb 1000000 n b) refl
+
+    pub run-words : n ≤ 1000000 → length words < 32 → refuse 14 0 ≡ first (runNetlistChecks file words n lent)
+    run-words b l = rw (e, le-ltb 1000000 n b, lt-ltb (length words) 32 l) refl
+
+    pub run-room : n ≤ 1000000 → 32 ≤ length words → short (length lent) (stateSize (cellsOf file)) ≡ first (runNetlistChecks file words n lent)
+    run-room b l = rw (e, le-ltb 1000000 n b, le-ltb (length words) 32 l) (last-check _)
+
+-- What is known when none is -----------------------------------------------------------------------------------------------------------
+
+pub long-enough : (has needs : ℕ) → short has needs ≡ Accepted → needs ≤ has
+long-enough has needs e = ltb-false has needs (refuse-unless (ltb has needs) 14 0 e)
+
+pub begin-accepted : (file words lent : List ℕ) → first (beginChecks file words lent) ≡ Accepted → Runs file lent × (32 ≤ length words)
+begin-accepted file words lent e =
+    let a = all-accept (beginChecks file words lent) e in
+    (record { accepted = a 0; room = long-enough (length lent) (stateSize (cellsOf file)) (a 2) }, long-enough (length words) 32 (a 1))
+
+pub continue-accepted : (file : List ℕ) (n : ℕ) (lent : List ℕ) → first (continueChecks file n lent) ≡ Accepted
+    → Runs file lent × (instantOf lent + n ≤ 1000000)
+continue-accepted file n lent e =
+    let a = all-accept (continueChecks file n lent) e in (
+      record { accepted = a 0; room = long-enough (length lent) (stateSize (cellsOf file)) (a 1) },
+      ltb-false 1000000 (instantOf lent + n) (refuse-unless (ltb 1000000 (instantOf lent + n)) 16 0 (a 3)),
+    )
+
+pub run-accepted : (file words : List ℕ) (n : ℕ) (lent : List ℕ) → first (runNetlistChecks file words n lent) ≡ Accepted
+    → Runs file lent × (32 ≤ length words) × (n ≤ 1000000)
+run-accepted file words n lent e =
+    let a = all-accept (runNetlistChecks file words n lent) e in (
+      record { accepted = a 0; room = long-enough (length lent) (stateSize (cellsOf file)) (a 3) },
+      long-enough (length words) 32 (a 2),
+      ltb-false 1000000 n (refuse-unless (ltb 1000000 n) 13 0 (a 1)),
+    )
+
+-- What a call answers ------------------------------------------------------------------------------------------------------------------
+
+module _ (c : Checked) (file s : List ℕ) (n : ℕ) (lent : List ℕ) where
+  pub refused-run : (r : Refusal) → c ≡ Refused r → running c file s n lent ≡ record { answer = refusedAnswer r; lent = lent }
+  unfolding running
+  refused-run r e = rw e refl
+
+  pub accepted-run : c ≡ Accepted → running c file s n lent ≡ record { answer = shows file s n; lent = s }
+  unfolding running
+  accepted-run e = rw e refl

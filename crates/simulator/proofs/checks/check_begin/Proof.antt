@@ -1,0 +1,56 @@
+-- `check_begin` meets its contract. Assumes nothing.
+use mathlib.Core.Path.{sym, _∙_}
+use borrow.Author.Needs.{needs}
+use Rattle.simulator.proofs.Refusing.{begin-file, begin-words, begin-room}
+use Rattle.simulator.proofs.checks.check_begin.Statement.{statement}
+use Rattle.simulator.proofs.checks.check_begin.Tie as tie
+
+check-file-requires : tie.Need-check-file-requires
+check-file-requires c κs = search needs
+
+enum-known-checked : tie.Need-enum-known-checked
+enum-known-checked c = search needs
+
+returns : tie.Need-returns
+returns c =
+    let args = c .before .before .before .before .before .before .before .args in
+    let check-file = c .before .before .before .check-file in
+    begin-file (args .file .now) (args .words .now) (args .state .now) _ (sym (check-file .ensures) ∙ c .before .checked .given .1)
+
+enum-told : tie.Need-enum-told
+enum-told c = search needs
+
+refuse-requires : tie.Need-refuse-requires
+refuse-requires c κs = search needs
+
+returns-2 : tie.Need-returns-2
+returns-2 c =
+    let args = c .before .before .before .before .before .before .before .before .args in
+    let check-file = c .before .before .before .before .check-file in
+    c .refuse .ensures
+    ∙ begin-words (args .file .now) (args .words .now) (args .state .now) (sym (check-file .ensures) ∙ c .before .before .enum-told .given .1) (c .before .if1 .taken)
+
+check-room-requires : tie.Need-check-room-requires
+check-room-requires c κs =
+    let check-file = c .before .before .before .check-file in
+    sym (check-file .ensures) ∙ c .before .enum-told .given .1
+
+returns-3 : tie.Need-returns-3
+returns-3 c =
+    let args = c .before .before .before .before .before .before .before .before .args in
+    let check-file = c .before .before .before .before .check-file in
+    c .check-room .ensures
+    ∙ begin-room (args .file .now) (args .words .now) (args .state .now) (sym (check-file .ensures) ∙ c .before .before .enum-told .given .1) (c .before .if1 .left)
+
+pub check-begin-spec : {M : Type 1} → statement M
+check-begin-spec =
+    tie.close
+    (tie.spec
+    check-file-requires
+    enum-known-checked
+    returns
+    enum-told
+    refuse-requires
+    returns-2
+    check-room-requires
+    returns-3)

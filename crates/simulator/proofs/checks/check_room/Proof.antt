@@ -1,0 +1,43 @@
+-- `check_room` meets its contract. Assumes nothing.
+use mathlib.Core.Path.{_∙_}
+use native.Mathlib.Omega.{arith}
+use lib.ListN.{length}
+use borrow.Author.Needs.{needs}
+use Rattle.model.specs.NetlistFile.{cellsOf}
+use Rattle.model.specs.State.{stateSize}
+use Rattle.theory.specs.NetlistFile.Passed.{count-cells}
+use Rattle.simulator.proofs.AcceptedFile.{sized}
+use Rattle.simulator.proofs.Refusing.{is-short, is-long}
+use Rattle.simulator.proofs.checks.check_room.Statement.{statement}
+use Rattle.simulator.proofs.checks.check_room.Tie as tie
+
+get16-requires : tie.Need-get16-requires
+get16-requires c κs =
+    let z = sized (c .before .before .args .file .now) (c .before .before .pre) in
+    omega (arith, z .some, z .long)
+
+cast-n : tie.Need-cast-n
+cast-n c = search needs
+
+mul-if1 : tie.Need-mul-if1
+mul-if1 c = search needs
+
+add-if1 : tie.Need-add-if1
+add-if1 c = search needs
+
+refuse-requires : tie.Need-refuse-requires
+refuse-requires c κs = search needs
+
+returns : tie.Need-returns
+returns c =
+    let args = c .before .before .before .before .before .args in
+    c .refuse .ensures ∙ is-short (length (args .state .now)) (stateSize (cellsOf (args .file .now))) (omega (arith, c .before .before .get16 .ensures, count-cells (args .file .now)))
+
+returns-2 : tie.Need-returns-2
+returns-2 c =
+    let args = c .before .before .before .before .args in
+    is-long (length (args .state .now)) (stateSize (cellsOf (args .file .now))) (omega (arith, c .before .get16 .ensures, count-cells (args .file .now)))
+
+pub check-room-spec : {M : Type 1} → statement M
+check-room-spec =
+    tie.close (tie.spec get16-requires cast-n mul-if1 add-if1 refuse-requires returns returns-2)

@@ -1,0 +1,186 @@
+-- `later` meets its contract. Assumes nothing.
+use mathlib.Core.Path.{sym, _∙_}
+use native.Mathlib.Omega.{arith}
+use borrow.Author.Needs.{needs}
+use Rattle.model.specs.Circuit.{memory}
+use Rattle.theory.specs.Numbering.Cells.{join}
+use Rattle.simulator.proofs.ByKind.{no-operator-low, no-operator-high, later-constant, later-delay, later-or, later-when-true, later-when-false, later-merge, later-fallen, later-kept, later-gate-open, later-gate-shut, later-operator, later-still}
+use Rattle.simulator.proofs.instant.later.Statement.{statement}
+use Rattle.simulator.proofs.instant.later.Tie as tie
+
+returns : tie.Need-returns
+returns c = sym (later-constant _ _ _ (c .if1 .taken))
+
+cast-line-bit : tie.Need-cast-line-bit
+cast-line-bit c = search needs
+
+sub-line-bit : tie.Need-sub-line-bit
+sub-line-bit c =
+    let pre = c .before .before .before .before .pre in
+    pre .1 .delay (c .before .if2 .taken)
+
+line-bit-requires : tie.Need-line-bit-requires
+line-bit-requires c κs = search needs
+
+returns-2 : tie.Need-returns-2
+returns-2 c = c .line-bit .ensures ∙ sym (later-delay _ _ _ (c .before .before .if2 .taken))
+
+cast-a : tie.Need-cast-a
+cast-a c = search needs
+
+cast-b : tie.Need-cast-b
+cast-b c = search needs
+
+has-fallen-requires : tie.Need-has-fallen-requires
+has-fallen-requires c κs =
+    let pre = c .before .before .before .before .before .before .pre in
+    let if1 = c .before .before .before .before .if1 in
+    pre .1 .a (if1 .left)
+
+before-at-requires : tie.Need-before-at-requires
+before-at-requires c κs = search needs
+
+returns-3 : tie.Need-returns-3
+returns-3 c =
+    let if3 = c .before .before .before .if3 in
+    c .before-at .ensures ∙ sym (later-fallen _ _ _ (if3 .taken) (sym (c .before .before .has-fallen .ensures) ∙ c .before .if4 .taken))
+
+before-at-requires-2 : tie.Need-before-at-requires-2
+before-at-requires-2 c κs = search needs
+
+returns-4 : tie.Need-returns-4
+returns-4 c =
+    let if3 = c .before .before .before .if3 in
+    c .before-at2 .ensures ∙ sym (later-kept _ _ _ (if3 .taken) (sym (c .before .before .has-fallen .ensures) ∙ c .before .if4 .left))
+
+now-at-requires : tie.Need-now-at-requires
+now-at-requires c κs =
+    let pre = c .before .before .before .before .before .before .pre in
+    let if1 = c .before .before .before .before .if1 in
+    pre .1 .a (if1 .left)
+
+now-at-requires-2 : tie.Need-now-at-requires-2
+now-at-requires-2 c κs = search needs
+
+bit-requires : tie.Need-bit-requires
+bit-requires c κs = search needs
+
+bit-requires-2 : tie.Need-bit-requires-2
+bit-requires-2 c κs = search needs
+
+bit-requires-3 : tie.Need-bit-requires-3
+bit-requires-3 c κs = search needs
+
+merged-requires : tie.Need-merged-requires
+merged-requires c κs = search needs
+
+operate-requires : tie.Need-operate-requires
+operate-requires c κs = search needs
+
+returns-5 : tie.Need-returns-5
+returns-5 c =
+    let args = c .before .before .before .before .before .before .before .before .before .before .args in
+    cc (later-or (args .state .now) (args .k) (args .c) (c .before .match .keys1))
+
+returns-6 : tie.Need-returns-6
+returns-6 c =
+    let args = c .before .before .before .before .before .before .before .before .before .before .args in
+    cc (later-when-true (args .state .now) (args .k) (args .c) (c .before .match .keys2))
+
+returns-7 : tie.Need-returns-7
+returns-7 c =
+    let args = c .before .before .before .before .before .before .before .before .before .before .args in
+    cc (later-when-false (args .state .now) (args .k) (args .c) (c .before .match .keys3))
+
+returns-8 : tie.Need-returns-8
+returns-8 c =
+    let args = c .before .before .before .before .before .before .before .before .before .before .args in
+    cc (later-merge (args .state .now) (args .k) (args .c) (c .before .match .keys4))
+
+returns-9 : tie.Need-returns-9
+returns-9 c =
+    let now-at = c .before .before .before .now-at in
+    c .before .before .now-at2 .ensures ∙ sym (later-gate-open _ _ _ (c .before .match .keys5) (sym (now-at .ensures) ∙ c .if5 .taken))
+
+returns-10 : tie.Need-returns-10
+returns-10 c =
+    let now-at = c .before .before .before .now-at in
+    sym (later-gate-shut _ _ _ (c .before .match .keys5) (λ e. c .if5 .left (now-at .ensures ∙ e)))
+
+returns-11 : tie.Need-returns-11
+returns-11 c =
+    let args = c .before .before .before .before .before .before .before .before .before .before .before .before .args in
+    cc (later-operator (args .state .now) (args .k) (args .c) (c .before .before .if6 .left) (omega arith))
+
+returns-12 : tie.Need-returns-12
+returns-12 c =
+    let if1 = c .before .before .before .before .before .before .before .before .if1 in
+    let if2 = c .before .before .before .before .before .before .before .if2 in
+    let match = c .before .match in
+    let if3 = c .before .before .before .before .if3 in
+    sym
+    (later-still _ _ _
+    (record {
+      operator = no-operator-low _ (c .if6 .taken);
+      constant = if1 .left;
+      delay = if2 .left;
+      join = match .rest .0 .0 .0 .0 .1;
+      when-true = match .rest .0 .0 .0 .1;
+      when-false = match .rest .0 .0 .1;
+      merge = match .rest .0 .1;
+      memory = if3 .left;
+      gated = match .rest .1;
+    }))
+
+returns-13 : tie.Need-returns-13
+returns-13 c =
+    let if1 = c .before .before .before .before .before .before .before .before .before .if1 in
+    let if2 = c .before .before .before .before .before .before .before .before .if2 in
+    let match = c .before .before .match in
+    let if3 = c .before .before .before .before .before .if3 in
+    sym
+    (later-still _ _ _
+    (record {
+      operator = no-operator-high _ (c .if7 .left);
+      constant = if1 .left;
+      delay = if2 .left;
+      join = match .rest .0 .0 .0 .0 .1;
+      when-true = match .rest .0 .0 .0 .1;
+      when-false = match .rest .0 .0 .1;
+      merge = match .rest .0 .1;
+      memory = if3 .left;
+      gated = match .rest .1;
+    }))
+
+pub later-spec : {M : Type 1} → statement M
+later-spec =
+    tie.close
+    (tie.spec
+    returns
+    cast-line-bit
+    sub-line-bit
+    line-bit-requires
+    returns-2
+    cast-a
+    cast-b
+    has-fallen-requires
+    before-at-requires
+    returns-3
+    before-at-requires-2
+    returns-4
+    now-at-requires
+    now-at-requires-2
+    bit-requires
+    bit-requires-2
+    bit-requires-3
+    merged-requires
+    operate-requires
+    returns-5
+    returns-6
+    returns-7
+    returns-8
+    returns-9
+    returns-10
+    returns-11
+    returns-12
+    returns-13)

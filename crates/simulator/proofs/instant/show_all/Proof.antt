@@ -1,0 +1,87 @@
+-- `show_all` meets its contract: the state so far is the pass up to cell k. Assumes nothing.
+use mathlib.Core.Path.{_≡_, refl, sym, _∙_, ap}
+use Prim.Native.Nat.{ℕ, _-_, _≤_}
+use native.Mathlib.Omega.{arith}
+use lib.ListN.{length}
+use Rattle.model.specs.State.{value, upTo, shown}
+use Rattle.simulator.specs.Fits.{netOf}
+use Rattle.simulator.proofs.Passes.{net-value, fits-at, upTo-next, upTo-none}
+use Rattle.simulator.proofs.instant.show_all.Statement.{statement}
+use Rattle.simulator.proofs.instant.show_all.Tie as tie
+
+abbrev Inv-loop : tie.InvT-loop
+Inv-loop cells n state₀ k₀ state k = (k ≤ n) × (length state ≡ length state₀) × (state ≡ upTo (shown (value (netOf cells n))) k state₀)
+
+abbrev μ-loop : tie.MeasureT-loop
+μ-loop cells n state₀ k₀ state k = n - k
+
+loop-holds : tie.Need-loop-holds Inv-loop μ-loop
+loop-holds c = (omega arith, refl, sym (upTo-none _ _))
+
+cell-at-requires : tie.Need-cell-at-requires Inv-loop μ-loop
+cell-at-requires c κs =
+    let pre = c .before .before .before .before .pre in
+    (omega (arith, pre .few), omega (arith, pre .list))
+
+later-requires : tie.Need-later-requires Inv-loop μ-loop
+later-requires c κs =
+    let pre = c .before .before .before .before .before .before .pre in
+    let loop = c .before .before .before .loop in
+    fits-at pre (loop .state) (loop .inv .1) (loop .k) (c .before .before .loop-test .taken) _ (c .before .cell-at .ensures)
+
+mul-put16 : tie.Need-mul-put16 Inv-loop μ-loop
+mul-put16 c = omega arith
+
+add-put16 : tie.Need-add-put16 Inv-loop μ-loop
+add-put16 c = omega arith
+
+put16-requires : tie.Need-put16-requires Inv-loop μ-loop
+put16-requires c κs =
+    let pre = c .before .before .before .before .before .before .before .before .pre in
+    omega (arith, pre .room)
+
+add-k : tie.Need-add-k Inv-loop μ-loop
+add-k c = omega arith
+
+loop-less : tie.Need-loop-less Inv-loop μ-loop
+loop-less c = omega arith
+
+loop-again : tie.Need-loop-again Inv-loop μ-loop
+unfolding shown
+loop-again c =
+    let loop = c .before .before .before .before .before .before .before .before .loop in
+    let args = c .before .before .before .before .before .before .before .before .before .before .before .args in
+    let loop-test = c .before .before .before .before .before .before .before .loop-test in (
+      omega arith,
+      c .before .before .put16 .kept .0 ∙ loop .inv .1,
+      upTo-next (shown (value (netOf (args .cells .now) (args .n)))) (loop .k) _ _ _ (loop .inv .2)
+          (cc (net-value (args .cells .now) (args .n) (loop .k) (loop-test .taken) (loop .state))),
+    )
+
+same-length : tie.Need-same-length Inv-loop μ-loop
+same-length c = c .before .loop .inv .1
+
+returns : tie.Need-returns Inv-loop μ-loop
+returns c =
+    let loop = c .before .loop in
+    let args = c .before .before .before .before .args in
+    let e : loop .k ≡ args .n = omega arith in
+    loop .inv .2 ∙ ap (λ (k : ℕ). upTo (shown (value (netOf (args .cells .now) (args .n)))) k (args .state .now)) e
+
+pub show-all-spec : {M : Type 1} → statement M
+show-all-spec =
+    tie.close
+    (tie.spec
+    Inv-loop
+    μ-loop
+    loop-holds
+    cell-at-requires
+    later-requires
+    mul-put16
+    add-put16
+    put16-requires
+    add-k
+    loop-less
+    loop-again
+    same-length
+    returns)

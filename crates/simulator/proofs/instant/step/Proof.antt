@@ -1,0 +1,49 @@
+-- `step` meets its contract. Assumes nothing.
+use mathlib.Core.Path.{_∙_}
+use borrow.Author.Needs.{needs}
+use Rattle.simulator.proofs.Passes.{net-length, refits, stepped}
+use Rattle.simulator.proofs.instant.step.Statement.{statement}
+use Rattle.simulator.proofs.instant.step.Tie as tie
+
+tick-requires : tie.Need-tick-requires
+tick-requires c κs = search needs
+
+age-all-requires : tie.Need-age-all-requires
+age-all-requires c κs = search needs
+
+show-all-requires : tie.Need-show-all-requires
+show-all-requires c κs =
+    let pre = c .before .before .before .before .before .before .before .before .before .before .before .pre in
+    let age-all = c .before .before .before .age-all in
+    let tick = c .before .before .before .before .before .before .before .tick in
+    refits (pre .0) (age-all .kept .0 ∙ tick .kept .0)
+
+settle-all-requires : tie.Need-settle-all-requires
+settle-all-requires c κs =
+    let pre = c .before .before .before .before .before .before .before .before .before .before .before .before .before .before .before .pre in
+    let show-all = c .before .before .before .show-all in
+    let age-all = c .before .before .before .before .before .before .before .age-all in
+    let tick = c .before .before .before .before .before .before .before .before .before .before .before .tick in
+    refits (pre .0) (show-all .kept .1 .1 .0 ∙ age-all .kept .0 ∙ tick .kept .0)
+
+same-length : tie.Need-same-length
+same-length c = search needs
+
+returns : tie.Need-returns
+returns c =
+    let args = c .before .before .before .before .before .before .before .before .before .before .before .before .before .before .before .before .before .before .args in
+    let tick = c .before .before .before .before .before .before .before .before .before .before .before .before .before .before .tick in
+    let age-all = c .before .before .before .before .before .before .before .before .before .before .age-all in
+    let show-all = c .before .before .before .before .before .before .show-all in
+    stepped _ _ (net-length (args .cells .now) (args .n)) _ _ _ _ _ (tick .ensures) (age-all .ensures) (show-all .ensures) (c .before .before .settle-all .ensures)
+
+pub step-spec : {M : Type 1} → statement M
+step-spec =
+    tie.close
+    (tie.spec
+    tick-requires
+    age-all-requires
+    show-all-requires
+    settle-all-requires
+    same-length
+    returns)

@@ -1,0 +1,76 @@
+-- `continue_by` meets its contract. Assumes nothing.
+use mathlib.Core.List.{List}
+use mathlib.Core.Path.{_∙_, ap₂}
+use Prim.Native.Nat.{ℕ}
+use native.Mathlib.Omega.{arith}
+use borrow.Author.Needs.{needs}
+use Rattle.model.specs.Calls.{shows}
+use Rattle.model.specs.State.{lastState, evaluated}
+use Rattle.model.specs.declared.Cell.{Cell}
+use Rattle.simulator.proofs.AcceptedFile.{file-sized, file-fits}
+use Rattle.simulator.proofs.runs.continue_by.Statement.{statement}
+use Rattle.simulator.proofs.runs.continue_by.Tie as tie
+
+get16-requires : tie.Need-get16-requires
+get16-requires c κs =
+    let args = c .before .before .args in
+    let z = file-sized (args .file .now) (args .state .now) (c .before .before .pre .0) in
+    omega (arith, z .some, z .long)
+
+cast-finish : tie.Need-cast-finish
+cast-finish c = search needs
+
+slice-aggregate-load : tie.Need-slice-aggregate-load
+slice-aggregate-load c = search needs
+
+load-requires : tie.Need-load-requires
+load-requires c κs = search needs
+
+slice-aggregate-continue-state : tie.Need-slice-aggregate-continue-state
+slice-aggregate-continue-state c = search needs
+
+continue-state-requires : tie.Need-continue-state-requires
+continue-state-requires c κs =
+    let args = c .before .before .before .before .before .before .before .before .args in
+    let pre = c .before .before .before .before .before .before .before .before .pre in
+    let load = c .before .before .before .load in
+    let get16-call = c .before .before .before .before .before .get16 in
+    let file : List ℕ = args .file .now in
+    let state : List ℕ = args .state .now in (
+      file-fits file state (pre .0) (load .last .0) (load .result) (omega (arith, load .kept .0)) (load .ensures .0) (load .ensures .1),
+      omega (arith, get16-call .ensures, load .ensures .0, file-sized file state (pre .0) .finish),
+      pre .1,
+    )
+
+shows-requires : tie.Need-shows-requires
+shows-requires c κs = search needs
+
+same-length : tie.Need-same-length
+same-length c = search needs
+
+returns : tie.Need-returns
+returns c =
+    let args = c .before .before .before .before .before .before .before .before .before .before .before .before .before .args in
+    let continue-state = c .before .before .before .before .continue-state in
+    let load = c .before .before .before .before .before .before .before .before .load in
+    let get16-call = c .before .before .before .before .before .before .before .before .before .before .get16 in
+    let file : List ℕ = args .file .now in
+    let state : List ℕ = args .state .now in
+    let n : ℕ = args .budget in
+    let e = continue-state .ensures .0 ∙ ap₂ (λ (net : List Cell) (f : ℕ). lastState net f n state) (load .ensures .1) (get16-call .ensures) in
+    let d = continue-state .ensures .1 ∙ ap₂ (λ (net : List Cell) (f : ℕ). evaluated net f n state) (load .ensures .1) (get16-call .ensures) in
+    (e, c .shows .ensures ∙ ap₂ (shows file) e d)
+
+pub continue-by-spec : {M : Type 1} → statement M
+continue-by-spec =
+    tie.close
+    (tie.spec
+    get16-requires
+    cast-finish
+    slice-aggregate-load
+    load-requires
+    slice-aggregate-continue-state
+    continue-state-requires
+    shows-requires
+    same-length
+    returns)

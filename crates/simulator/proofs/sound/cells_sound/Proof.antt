@@ -1,0 +1,104 @@
+-- `cells_sound` meets its contract: the cells that are left are sound if and only if all are. Assumes nothing.
+use mathlib.Core.Path.{_≡_, refl, sym, _∙_}
+use Prim.Native.Nat.{_-_, _<_, _≤_}
+use native.Mathlib.Omega.{arith}
+use lib.ListN.{drop}
+use borrow.Author.Needs.{needs}
+use borrow.Author.Tests.{not-false, not-true}
+use Rattle.model.specs.NetlistFile.{countOf, cellsOf}
+use Rattle.model.specs.State.{cellsSound}
+use Rattle.theory.specs.NetlistFile.Passed.{count-cells}
+use Rattle.simulator.proofs.AcceptedFile.{file-cell, file-sized, file-room}
+use Rattle.simulator.proofs.Soundness.{sound-here, unsound-here, sound-none}
+use Rattle.simulator.proofs.sound.cells_sound.Statement.{statement}
+use Rattle.simulator.proofs.sound.cells_sound.Tie as tie
+
+abbrev Inv-loop : tie.InvT-loop
+Inv-loop file s n k₀ k = (k ≤ n) × (cellsSound (drop k (cellsOf file)) s k ≡ cellsSound (cellsOf file) s 0)
+
+abbrev μ-loop : tie.MeasureT-loop
+μ-loop file s n k₀ k = n - k
+
+get16-requires : tie.Need-get16-requires Inv-loop μ-loop
+get16-requires c κs =
+    let args = c .before .before .args in
+    let z = file-sized (args .file .now) (args .s .now) (c .before .before .pre) in
+    omega (arith, z .some, z .long)
+
+cast-n : tie.Need-cast-n Inv-loop μ-loop
+cast-n c = search needs
+
+loop-holds : tie.Need-loop-holds Inv-loop μ-loop
+loop-holds c = (omega arith, refl)
+
+cell-at-requires : tie.Need-cell-at-requires Inv-loop μ-loop
+cell-at-requires c κs =
+    let args = c .before .before .before .before .before .args in
+    let pre = c .before .before .before .before .before .pre in
+    let get16-call = c .before .before .get16 in
+    let z = file-sized (args .file .now) (args .s .now) pre in
+    (omega (arith, get16-call .ensures, z .few), omega (arith, get16-call .ensures, z .long))
+
+cell-sound-requires : tie.Need-cell-sound-requires Inv-loop μ-loop
+cell-sound-requires c κs =
+    let args = c .before .before .before .before .before .before .args in
+    let pre = c .before .before .before .before .before .before .pre in
+    let get16-call = c .before .before .before .get16 in
+    let z = file-sized (args .file .now) (args .s .now) pre in
+    let y = file-room (args .file .now) (args .s .now) pre in
+    record { few = omega (arith, get16-call .ensures, z .few); room = omega (arith, get16-call .ensures, y) }
+
+returns : tie.Need-returns Inv-loop μ-loop
+returns c =
+    let loop = c .before .before .before .before .loop in
+    let args = c .before .before .before .before .before .before .before .before .args in
+    let get16-call = c .before .before .before .before .before .get16 in
+    let cell-at = c .before .before .cell-at in
+    let l : loop .k < countOf (args .file .now) = omega (arith, get16-call .ensures) in
+    sym
+    (unsound-here (cellsOf (args .file .now)) (args .s .now) (loop .k) (rw (count-cells (args .file .now)) l) (cell-at .result)
+    (file-cell (args .file .now) (loop .k) l ∙ sym (cell-at .ensures)) (sym (c .before .cell-sound .ensures) ∙ not-true _ (c .if1 .taken)))
+    ∙ loop .inv .1
+
+add-k : tie.Need-add-k Inv-loop μ-loop
+add-k c = omega arith
+
+loop-less : tie.Need-loop-less Inv-loop μ-loop
+loop-less c = omega arith
+
+loop-again : tie.Need-loop-again Inv-loop μ-loop
+loop-again c =
+    let loop = c .before .before .before .before .loop in
+    let args = c .before .before .before .before .before .before .before .before .args in
+    let get16-call = c .before .before .before .before .before .get16 in
+    let cell-at = c .before .before .cell-at in
+    let l : loop .k < countOf (args .file .now) = omega (arith, get16-call .ensures) in (
+      omega arith,
+      sym
+          (sound-here (cellsOf (args .file .now)) (args .s .now) (loop .k) (rw (count-cells (args .file .now)) l) (cell-at .result)
+          (file-cell (args .file .now) (loop .k) l ∙ sym (cell-at .ensures)) (sym (c .before .cell-sound .ensures) ∙ not-false _ (c .if1 .left)))
+          ∙ loop .inv .1,
+    )
+
+returns-2 : tie.Need-returns-2 Inv-loop μ-loop
+returns-2 c =
+    let args = c .before .before .before .before .before .args in
+    let loop = c .before .loop in
+    sym (sound-none (cellsOf (args .file .now)) (args .s .now) (loop .k) (omega (arith, c .before .before .get16 .ensures, count-cells (args .file .now)))) ∙ loop .inv .1
+
+pub cells-sound-spec : {M : Type 1} → statement M
+cells-sound-spec =
+    tie.close
+    (tie.spec
+    Inv-loop
+    μ-loop
+    get16-requires
+    cast-n
+    loop-holds
+    cell-at-requires
+    cell-sound-requires
+    returns
+    add-k
+    loop-less
+    loop-again
+    returns-2)

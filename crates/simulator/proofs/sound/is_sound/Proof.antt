@@ -1,0 +1,18 @@
+-- `is_sound` meets its contract. Assumes nothing.
+use borrow.Author.Needs.{needs}
+use Rattle.model.specs.State.{sound}
+use Rattle.simulator.proofs.sound.is_sound.Statement.{statement}
+use Rattle.simulator.proofs.sound.is_sound.Tie as tie
+
+all-zero-requires : tie.Need-all-zero-requires
+all-zero-requires c κs = search needs
+
+cells-sound-requires : tie.Need-cells-sound-requires
+cells-sound-requires c κs = search needs
+
+returns : tie.Need-returns
+unfolding sound
+returns c = cc
+
+pub is-sound-spec : {M : Type 1} → statement M
+is-sound-spec = tie.close (tie.spec all-zero-requires cells-sound-requires returns)

@@ -1,0 +1,81 @@
+// The checks of the three calls: refusals 9 to 16 in their order, with nothing written.
+// Each contract is `first` of the list of checks in model/Calls.
+ghost use mathlib.Core.Path.{_≡_};
+ghost use lib.ListN.{length};
+ghost use Rattle.model.specs.declared.Checked.the-variants.{Accepted};
+ghost use Rattle.model.specs.Refusals.{refuse, first};
+ghost use Rattle.model.specs.NetlistFile.{fileCheck, cellsOf};
+ghost use Rattle.model.specs.State.{stateSize};
+ghost use Rattle.model.specs.Calls.{short, beginChecks, continueChecks, runNetlistChecks};
+use crate::sound;
+use model::Checked;
+use model::Refusal;
+
+fn refuse(number: u8) -> Checked
+    ensures { λ r. ⌜ r ≡ refuse number 0 ⌝ }
+{
+    Checked::Refused(Refusal { number, place: 0 })
+}
+
+// Refusal 14 of a state for the cells of a file.
+fn check_room(file: &[u8], state: &[u8]) -> Checked
+    requires { ⌜ fileCheck (now file) ≡ Accepted ⌝ }
+    ensures { λ r. ⌜ r ≡ short (length (now (state .entry))) (stateSize (cellsOf (now (file .entry)))) ⌝ }
+{
+    let n = word::get16(file, 2) as usize;
+    if state.len() < 8 + 40 * n {
+        return refuse(14);
+    }
+    Checked::Accepted
+}
+
+pub fn check_begin(file: &[u8], words: &[u8], state: &[u8]) -> Checked
+    ensures { λ r. ⌜ r ≡ first (beginChecks (now (file .entry)) (now (words .entry)) (now (state .entry))) ⌝ }
+{
+    let checked = netlist::check_file(file);
+    if let Checked::Refused(r) = checked {
+        return Checked::Refused(r);
+    }
+    if words.len() < 32 {
+        return refuse(14);
+    }
+    check_room(file, state)
+}
+
+// Refusal 16 takes the sum without wrapping.
+pub fn check_continue(file: &[u8], n: u32, state: &[u8]) -> Checked
+    ensures { λ r. ⌜ r ≡ first (continueChecks (now (file .entry)) n (now (state .entry))) ⌝ }
+{
+    let checked = netlist::check_file(file);
+    if let Checked::Refused(r) = checked {
+        return Checked::Refused(r);
+    }
+    let room = check_room(file, state);
+    if let Checked::Refused(r) = room {
+        return Checked::Refused(r);
+    }
+    if !sound::is_sound(file, state) {
+        return refuse(15);
+    }
+    let t = word::get32(state, 0) as u64;
+    if 1000000 < t + (n as u64) {
+        return refuse(16);
+    }
+    Checked::Accepted
+}
+
+pub fn check_run(file: &[u8], words: &[u8], budget: u32, state: &[u8]) -> Checked
+    ensures { λ r. ⌜ r ≡ first (runNetlistChecks (now (file .entry)) (now (words .entry)) budget (now (state .entry))) ⌝ }
+{
+    let checked = netlist::check_file(file);
+    if let Checked::Refused(r) = checked {
+        return Checked::Refused(r);
+    }
+    if 1000000 < budget {
+        return refuse(13);
+    }
+    if words.len() < 32 {
+        return refuse(14);
+    }
+    check_room(file, state)
+}

@@ -1,0 +1,124 @@
+// One further instant of n cells, which stand in a list of six bytes each.
+// Three passes over the cells, each an equation with `upTo` of model/State; the cells fit the state.
+ghost use mathlib.Core.Path.{_≡_};
+ghost use Prim.Native.Nat.{_+_, _*_, _<_, _≤_};
+ghost use lib.ListN.{length};
+ghost use Rattle.model.specs.Word.{put32};
+ghost use Rattle.model.specs.Circuit.{shape};
+ghost use Rattle.model.specs.State.{instantOf, later, value, upTo, aged, shown, settle, settled, stepState};
+ghost use Rattle.simulator.specs.Fits.{Stands, Sees, netOf, Fits};
+use crate::wires;
+use model::Cell;
+use netlist::cells::Layout;
+
+// What cell k, which is c, shows after instant 0.
+pub fn later(c: Cell, state: &[u8], k: usize) -> u16
+    requires { ⌜ Stands (now state) k × Sees (now state) c ⌝ }
+    ensures { λ r. ⌜ r ≡ later (shape (c .kind)) (now (state .entry)) k c ⌝ }
+{
+    let kind = c.kind;
+    if kind == 1 {
+        return c.a;
+    }
+    if kind == 34 {
+        return wires::line_bit(state, k, (c.delay as usize) - 1);
+    }
+    let a = c.a as usize;
+    let b = c.b as usize;
+    if kind == 40 {
+        if wires::has_fallen(state, a) {
+            return wires::before_at(state, b);
+        }
+        return wires::before_at(state, k);
+    }
+    let x = wires::now_at(state, a);
+    let y = wires::now_at(state, b);
+    match kind {
+        3..=9 => word::operate(kind, x, y),
+        35 => word::bit((x == 1) | (y == 1)),
+        36 => word::bit((x == 1) & (y != 0)),
+        37 => word::bit((x == 1) & (y == 0)),
+        38 => wires::merged(state, k, x == 1, y == 1),
+        41 => if x == 1 { y } else { 0 },
+        _ => 0,
+    }
+}
+
+// A delay takes its input in, a merge holds.
+pub fn settle(c: Cell, state: &mut [u8], k: usize)
+    requires { ⌜ Stands (now state) k × Sees (now state) c ⌝ }
+    ensures { λ _. ⌜ now (state .exit) ≡ settle (shape (c .kind)) (now (state .entry)) k c ⌝ }
+{
+    let kind = c.kind;
+    let a = c.a as usize;
+    let b = c.b as usize;
+    if kind == 34 {
+        let x = wires::is_high(state, a);
+        wires::shift_line(state, k, x);
+    } else if kind == 38 {
+        let x = wires::is_high(state, a);
+        let y = wires::is_high(state, b);
+        let held = wires::held_at(state, k);
+        let m = held.step(x, y);
+        let next = m.held;
+        wires::hold(state, k, next);
+    }
+}
+
+// The passes -----------------------------------------------------------------------------------------------------------------------------
+
+fn tick(state: &mut [u8])
+    requires { ⌜ (3 < length (now state)) × (instantOf (now state) < 1000000) ⌝ }
+    ensures { λ _. ⌜ now (state .exit) ≡ put32 (now (state .entry)) 0 (instantOf (now (state .entry)) + 1) ⌝ }
+{
+    let t = word::get32(state, 0);
+    word::put32(state, 0, t + 1);
+}
+
+fn age_all(state: &mut [u8], n: usize)
+    requires { ⌜ (n ≤ 1024) × (8 + 40 * n ≤ length (now state)) ⌝ }
+    ensures { λ _. ⌜ now (state .exit) ≡ upTo aged n (now (state .entry)) ⌝ }
+{
+    let mut k: usize = 0;
+    while k < n {
+        let v = wires::now_at(state, k);
+        word::put16(state, 8 + 40 * k + 2, v);
+        k += 1;
+    }
+}
+
+fn show_all(cells: &[u8], n: usize, state: &mut [u8])
+    requires { ⌜ Fits (now cells) n (now state) ⌝ }
+    ensures { λ _. ⌜ now (state .exit) ≡ upTo (shown (value (netOf (now (cells .entry)) n))) n (now (state .entry)) ⌝ }
+{
+    let mut k: usize = 0;
+    while k < n {
+        let c = netlist::cells::cell_at(cells, Layout::InList, k);
+        let v = later(c, state, k);
+        word::put16(state, 8 + 40 * k, v);
+        k += 1;
+    }
+}
+
+pub fn settle_all(cells: &[u8], n: usize, state: &mut [u8])
+    requires { ⌜ Fits (now cells) n (now state) ⌝ }
+    ensures { λ _. ⌜ now (state .exit) ≡ upTo (settled (netOf (now (cells .entry)) n)) n (now (state .entry)) ⌝ }
+{
+    let mut k: usize = 0;
+    while k < n {
+        let c = netlist::cells::cell_at(cells, Layout::InList, k);
+        settle(c, state, k);
+        k += 1;
+    }
+}
+
+// One further instant.
+pub fn step(cells: &[u8], n: usize, state: &mut [u8])
+    requires { ⌜ Fits (now cells) n (now state) × (instantOf (now state) < 1000000) ⌝ }
+    ensures { λ _. ⌜ now (state .exit) ≡ stepState (netOf (now (cells .entry)) n) (now (state .entry)) ⌝ }
+{
+    tick(state);
+    age_all(state, n);
+    show_all(cells, n, state);
+    settle_all(cells, n, state);
+}

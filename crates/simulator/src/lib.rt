@@ -1,0 +1,65 @@
+// The simulator: begin, continue and the full run of a netlist file, on the published bytes of a state.
+// The calls have no requires. They check first and write afterwards; their contracts are equations with model/Calls.
+ghost use mathlib.Core.Path.{_≡_};
+ghost use Rattle.model.specs.Calls.{refusedAnswer, beginCall, continueCall, runNetlistCall};
+
+pub mod wires; // one cell's bytes in a state
+pub mod instant; // one further instant
+pub mod start; // instant 0
+pub mod runs; // runs of a file that is accepted
+pub mod sound; // refusal 15
+pub mod checks; // refusals 9 to 16 in their order
+
+use model::Answer;
+use model::Checked;
+use model::Outcome;
+use model::Refusal;
+
+// What a refused call answers.
+pub fn refused(r: Refusal) -> Answer
+    ensures { λ a. ⌜ a ≡ refusedAnswer r ⌝ }
+{
+    let words = [0u16; 16];
+    Answer {
+        outcome: Outcome::Refused(r),
+        instant: 0,
+        count: 0,
+        words,
+    }
+}
+
+// Evaluates instant 0: refusals 9 to 12, 14.
+pub fn begin(netlist: &[u8], words: &[u8], state: &mut [u8]) -> Answer
+    ensures answer { λ r. ⌜ r ≡ beginCall (now (netlist .entry)) (now (words .entry)) (now (state .entry)) .answer ⌝ }
+    ensures lent { λ _. ⌜ now (state .exit) ≡ beginCall (now (netlist .entry)) (now (words .entry)) (now (state .entry)) .lent ⌝ }
+{
+    let checked = checks::check_begin(netlist, words, state);
+    if let Checked::Refused(r) = checked {
+        return refused(r);
+    }
+    runs::begin(netlist, words, state)
+}
+
+// Evaluates later instants, until the finish is high or n are done: refusals 9 to 12, 14 to 16.
+pub fn continue_by(netlist: &[u8], state: &mut [u8], n: u32) -> Answer
+    ensures answer { λ r. ⌜ r ≡ continueCall (now (netlist .entry)) n (now (state .entry)) .answer ⌝ }
+    ensures lent { λ _. ⌜ now (state .exit) ≡ continueCall (now (netlist .entry)) n (now (state .entry)) .lent ⌝ }
+{
+    let checked = checks::check_continue(netlist, n, state);
+    if let Checked::Refused(r) = checked {
+        return refused(r);
+    }
+    runs::continue_by(netlist, state, n)
+}
+
+// A full run: refusals 9 to 14.
+pub fn run_netlist(netlist: &[u8], words: &[u8], budget: u32, state: &mut [u8]) -> Answer
+    ensures answer { λ r. ⌜ r ≡ runNetlistCall (now (netlist .entry)) (now (words .entry)) budget (now (state .entry)) .answer ⌝ }
+    ensures lent { λ _. ⌜ now (state .exit) ≡ runNetlistCall (now (netlist .entry)) (now (words .entry)) budget (now (state .entry)) .lent ⌝ }
+{
+    let checked = checks::check_run(netlist, words, budget, state);
+    if let Checked::Refused(r) = checked {
+        return refused(r);
+    }
+    runs::full_run(netlist, words, budget, state)
+}

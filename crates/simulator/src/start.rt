@@ -1,0 +1,65 @@
+// Beginning: instant 0 of n cells, which stand in a list of six bytes each.
+// The cells fit the state, and sixteen of them are memories.
+ghost use mathlib.Core.Path.{_≡_};
+ghost use mathlib.Core.List.{List, _++_};
+ghost use Prim.Native.Nat.{_+_, _*_, _<_, _≤_};
+ghost use lib.ListN.{length, take, drop, replicate};
+ghost use Rattle.model.specs.declared.Cell.{Cell};
+ghost use Rattle.model.specs.Circuit.{cellAt, memories};
+ghost use Rattle.model.specs.State.{firstValue, upTo, shown, beginState};
+ghost use Rattle.model.specs.Calls.{wordAt};
+ghost use Rattle.simulator.specs.Fits.{Stands, Sees, netOf, Fits};
+use crate::instant;
+use model::Cell;
+use netlist::cells::Layout;
+
+// The first n bytes become zero.
+fn clear(state: &mut [u8], n: usize)
+    requires { ⌜ n ≤ length (now state) ⌝ }
+    ensures { λ _. ⌜ now (state .exit) ≡ replicate n 0 ++ drop n (now (state .entry)) ⌝ }
+{
+    let mut i: usize = 0;
+    while i < n {
+        state[i] = 0;
+        i += 1;
+    }
+}
+
+// What cell k, which is c, shows at instant 0; j memories stand below it.
+fn first_value(c: Cell, words: &[u8], state: &[u8], k: usize, j: usize) -> u16
+    requires { ⌜ Stands (now state) k × Sees (now state) c × (32 ≤ length (now words)) × (c .kind ≡ 40 → j < 16) ⌝ }
+    ensures { λ r. ⌜ ((net : List Cell) → cellAt net k ≡ c → memories (take k net) ≡ j → r ≡ firstValue net (wordAt (now (words .entry))) (now (state .entry)) k) ⌝ }
+{
+    let kind = c.kind;
+    if kind == 32 {
+        return 1;
+    }
+    if kind == 40 {
+        return word::get16(words, 2 * j);
+    }
+    instant::later(c, state, k)
+}
+
+fn show_first(cells: &[u8], n: usize, words: &[u8], state: &mut [u8])
+    requires { ⌜ Fits (now cells) n (now state) × (32 ≤ length (now words)) × (memories (netOf (now cells) n) ≡ 16) ⌝ }
+    ensures { λ _. ⌜ now (state .exit) ≡ upTo (shown (firstValue (netOf (now (cells .entry)) n) (wordAt (now (words .entry))))) n (now (state .entry)) ⌝ }
+{
+    let mut j: usize = 0;
+    let mut k: usize = 0;
+    while k < n {
+        let c = netlist::cells::cell_at(cells, Layout::InList, k);
+        let v = first_value(c, words, state, k, j);
+        word::put16(state, 8 + 40 * k, v);
+        j += word::bit(c.kind == 40) as usize;
+        k += 1;
+    }
+}
+
+pub fn begin_state(cells: &[u8], n: usize, words: &[u8], state: &mut [u8])
+    requires { ⌜ Fits (now cells) n (now state) × (32 ≤ length (now words)) × (memories (netOf (now cells) n) ≡ 16) ⌝ }
+    ensures { λ _. ⌜ now (state .exit) ≡ beginState (netOf (now (cells .entry)) n) (wordAt (now (words .entry))) (now (state .entry)) ⌝ }
+{
+    clear(state, 8 + 40 * n);
+    show_first(cells, n, words, state);
+    instant::settle_all(cells, n, state);
+}

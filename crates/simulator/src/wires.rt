@@ -1,0 +1,96 @@
+// One cell's bytes in a state: its values, its held bits, its line.
+// Each contract is an equation with model/State; the cell stands in the state.
+ghost use mathlib.Core.Path.{_≡_};
+ghost use mathlib.Core.Bool.{not, _&&_};
+ghost use Prim.Native.Nat.{_+_, _<_};
+ghost use Rattle.model.specs.Word.{bit};
+ghost use Rattle.model.specs.Circuit.{high, mergeStep};
+ghost use Rattle.model.specs.State.{base, nowAt, beforeAt, heldAt, lineBit, shifted, holding};
+ghost use Rattle.simulator.specs.Fits.{Stands};
+use model::Merge;
+
+pub fn now_at(state: &[u8], k: usize) -> u16
+    requires { ⌜ Stands (now state) k ⌝ }
+    ensures { λ r. ⌜ r ≡ nowAt (now (state .entry)) k ⌝ }
+{
+    word::get16(state, 8 + 40 * k)
+}
+
+pub fn before_at(state: &[u8], k: usize) -> u16
+    requires { ⌜ Stands (now state) k ⌝ }
+    ensures { λ r. ⌜ r ≡ beforeAt (now (state .entry)) k ⌝ }
+{
+    word::get16(state, 8 + 40 * k + 2)
+}
+
+pub fn is_high(state: &[u8], k: usize) -> bool
+    requires { ⌜ Stands (now state) k ⌝ }
+    ensures { λ r. ⌜ r ≡ high (nowAt (now (state .entry)) k) ⌝ }
+{
+    now_at(state, k) == 1
+}
+
+// A wire was high an instant ago and is so no more.
+pub fn has_fallen(state: &[u8], k: usize) -> bool
+    requires { ⌜ Stands (now state) k ⌝ }
+    ensures { λ r. ⌜ r ≡ high (beforeAt (now (state .entry)) k) && not (high (nowAt (now (state .entry)) k)) ⌝ }
+{
+    let now = is_high(state, k);
+    (before_at(state, k) == 1) & !now
+}
+
+pub fn held_at(state: &[u8], k: usize) -> Merge
+    requires { ⌜ Stands (now state) k ⌝ }
+    ensures { λ r. ⌜ r ≡ heldAt (now (state .entry)) k ⌝ }
+{
+    let at = 8 + 40 * k;
+    let a = state[at + 4] == 1;
+    let b = state[at + 5] == 1;
+    Merge { a, b }
+}
+
+// The output of a merge with inputs a and b.
+pub fn merged(state: &[u8], k: usize, a: bool, b: bool) -> u16
+    requires { ⌜ Stands (now state) k ⌝ }
+    ensures { λ r. ⌜ r ≡ bit (mergeStep (heldAt (now (state .entry)) k) a b .out) ⌝ }
+{
+    let held = held_at(state, k);
+    let m = held.step(a, b);
+    word::bit(m.out)
+}
+
+pub fn hold(state: &mut [u8], k: usize, m: Merge)
+    requires { ⌜ Stands (now state) k ⌝ }
+    ensures { λ _. ⌜ now (state .exit) ≡ holding (now (state .entry)) k m ⌝ }
+{
+    let at = 8 + 40 * k;
+    state[at + 4] = word::bit(m.a) as u8;
+    state[at + 5] = word::bit(m.b) as u8;
+}
+
+// Bit i of a line.
+pub fn line_bit(state: &[u8], k: usize, i: usize) -> u16
+    requires { ⌜ Stands (now state) k × (i < 256) ⌝ }
+    ensures { λ r. ⌜ r ≡ lineBit (now (state .entry)) k i ⌝ }
+{
+    let at = 8 + 40 * k + 8 + i / 8;
+    let byte = state[at] as u16;
+    (byte >> (i % 8)) % 2
+}
+
+// A line moves by a bit; what comes in is the newest.
+pub fn shift_line(state: &mut [u8], k: usize, input: bool)
+    requires { ⌜ Stands (now state) k ⌝ }
+    ensures { λ _. ⌜ now (state .exit) ≡ shifted 32 (now (state .entry)) (base k + 8) (bit input) ⌝ }
+{
+    let mut i = 8 + 40 * k + 8;
+    let mut left: usize = 32;
+    let mut carry = word::bit(input);
+    while 0 < left {
+        let v = 2 * (state[i] as u16) + carry;
+        state[i] = (v % 256) as u8;
+        carry = v / 256;
+        i += 1;
+        left -= 1;
+    }
+}

@@ -18,9 +18,16 @@ module _ (reply : List ℕ) (l : 48 ≤ length reply) where
   pub put-in : (out : List ℕ) (r q : Reply) → out ≡ replied r reply → r ≡ q → out ≡ ifRoom reply (replied q reply) reply
   put-in out r q e f = left out (replied q reply) reply (e ∙ ap (λ (r : Reply). replied r reply) f)
 
+  -- after a call with one lent list
+  pub answered : (lent after before out : List ℕ) (r q : Reply) → lent ≡ after → out ≡ replied r reply → r ≡ q → (true ≡ roomFor reply) × ((lent ≡ ifRoom reply after before) × (out ≡ ifRoom reply (replied q reply) reply))
+  answered lent after before out r q e f g = (room, (left lent after before e, put-in out r q f g))
+
 module _ (reply : List ℕ) (l : length reply < 48) where
   pub no-room : false ≡ roomFor reply
   no-room = sym (lt-leb 48 (length reply) l)
 
   pub untouched : (after before : List ℕ) → before ≡ ifRoom reply after before
   untouched after before = rw (← no-room) refl
+
+  pub nothing : (after before replied : List ℕ) → (false ≡ roomFor reply) × ((before ≡ ifRoom reply after before) × (reply ≡ ifRoom reply replied reply))
+  nothing after before replied = (no-room, (untouched after before, untouched replied reply))

@@ -1,8 +1,8 @@
 // The calls for other languages: numbers and byte slices in, the answer as 48 bytes in a lent buffer (specs/Replies).
 // Each answers whether there was room for the reply; where there was none it did nothing.
 ghost use mathlib.Core.Path.{_≡_};
-ghost use Rattle.model.specs.Calls.{checkCall, writeCall, readCall};
-ghost use Rattle.hub.specs.Replies.{checkedReply, writtenReply, replied, roomFor, ifRoom};
+ghost use Rattle.model.specs.Calls.{checkCall, writeCall, readCall, beginCall, continueCall, runNetlistCall};
+ghost use Rattle.hub.specs.Replies.{checkedReply, writtenReply, answerReply, replied, roomFor, ifRoom};
 use crate::reply;
 
 #[no_mangle]
@@ -45,6 +45,62 @@ pub extern "C" fn hub_read(file: &[u8], cells: &mut [u8], reply: &mut [u8]) -> b
     }
     let answer = crate::read_netlist(file, cells);
     let answered = reply::of_written(answer);
+    reply::put(reply, answered);
+    true
+}
+
+#[no_mangle]
+pub extern "C" fn hub_begin(
+    netlist: &[u8],
+    words: &[u8],
+    state: &mut [u8],
+    reply: &mut [u8],
+) -> bool
+    ensures done { λ r. ⌜ r ≡ roomFor (now (reply .entry)) ⌝ }
+    ensures state { λ _. ⌜ now (state .exit) ≡ ifRoom (now (reply .entry)) (beginCall (now (netlist .entry)) (now (words .entry)) (now (state .entry)) .lent) (now (state .entry)) ⌝ }
+    ensures reply { λ _. ⌜ now (reply .exit) ≡ ifRoom (now (reply .entry)) (replied (answerReply (beginCall (now (netlist .entry)) (now (words .entry)) (now (state .entry)) .answer)) (now (reply .entry))) (now (reply .entry)) ⌝ }
+{
+    if reply.len() < 48 {
+        return false;
+    }
+    let answer = crate::begin(netlist, words, state);
+    let answered = reply::of_answer(answer);
+    reply::put(reply, answered);
+    true
+}
+
+#[no_mangle]
+pub extern "C" fn hub_continue(netlist: &[u8], state: &mut [u8], n: u32, reply: &mut [u8]) -> bool
+    ensures done { λ r. ⌜ r ≡ roomFor (now (reply .entry)) ⌝ }
+    ensures state { λ _. ⌜ now (state .exit) ≡ ifRoom (now (reply .entry)) (continueCall (now (netlist .entry)) n (now (state .entry)) .lent) (now (state .entry)) ⌝ }
+    ensures reply { λ _. ⌜ now (reply .exit) ≡ ifRoom (now (reply .entry)) (replied (answerReply (continueCall (now (netlist .entry)) n (now (state .entry)) .answer)) (now (reply .entry))) (now (reply .entry)) ⌝ }
+{
+    if reply.len() < 48 {
+        return false;
+    }
+    let answer = crate::continue_by(netlist, state, n);
+    let answered = reply::of_answer(answer);
+    reply::put(reply, answered);
+    true
+}
+
+#[no_mangle]
+pub extern "C" fn hub_run_netlist(
+    netlist: &[u8],
+    words: &[u8],
+    budget: u32,
+    state: &mut [u8],
+    reply: &mut [u8],
+) -> bool
+    ensures done { λ r. ⌜ r ≡ roomFor (now (reply .entry)) ⌝ }
+    ensures state { λ _. ⌜ now (state .exit) ≡ ifRoom (now (reply .entry)) (runNetlistCall (now (netlist .entry)) (now (words .entry)) budget (now (state .entry)) .lent) (now (state .entry)) ⌝ }
+    ensures reply { λ _. ⌜ now (reply .exit) ≡ ifRoom (now (reply .entry)) (replied (answerReply (runNetlistCall (now (netlist .entry)) (now (words .entry)) budget (now (state .entry)) .answer)) (now (reply .entry))) (now (reply .entry)) ⌝ }
+{
+    if reply.len() < 48 {
+        return false;
+    }
+    let answer = crate::run_netlist(netlist, words, budget, state);
+    let answered = reply::of_answer(answer);
     reply::put(reply, answered);
     true
 }

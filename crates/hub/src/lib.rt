@@ -1,10 +1,11 @@
 // The public calls. None has a requires; each contract is one equation for the answer and one for each lent list at exit, with model/Calls.
 ghost use mathlib.Core.Path.{_≡_};
-ghost use Rattle.model.specs.Calls.{checkCall, writeCall, readCall};
+ghost use Rattle.model.specs.Calls.{checkCall, writeCall, readCall, beginCall, continueCall, runNetlistCall};
 
 pub mod exports; // the calls for other languages
 pub mod reply; // answers as bytes
 
+use model::Answer;
 use model::Checked;
 use model::Written;
 
@@ -26,4 +27,28 @@ pub fn read_netlist(file: &[u8], cells: &mut [u8]) -> Written
     ensures lent { λ _. ⌜ now (cells .exit) ≡ readCall (now (file .entry)) (now (cells .entry)) .lent ⌝ }
 {
     netlist::read_netlist(file, cells)
+}
+
+// The netlist's instant 0, from 32 bytes of start words.
+pub fn begin(netlist: &[u8], words: &[u8], state: &mut [u8]) -> Answer
+    ensures answer { λ r. ⌜ r ≡ beginCall (now (netlist .entry)) (now (words .entry)) (now (state .entry)) .answer ⌝ }
+    ensures lent { λ _. ⌜ now (state .exit) ≡ beginCall (now (netlist .entry)) (now (words .entry)) (now (state .entry)) .lent ⌝ }
+{
+    simulator::begin(netlist, words, state)
+}
+
+// Further instants, until the finish is high or n are done.
+pub fn continue_by(netlist: &[u8], state: &mut [u8], n: u32) -> Answer
+    ensures answer { λ r. ⌜ r ≡ continueCall (now (netlist .entry)) n (now (state .entry)) .answer ⌝ }
+    ensures lent { λ _. ⌜ now (state .exit) ≡ continueCall (now (netlist .entry)) n (now (state .entry)) .lent ⌝ }
+{
+    simulator::continue_by(netlist, state, n)
+}
+
+// A beginning, and a continuing by the budget unless the finish was high.
+pub fn run_netlist(netlist: &[u8], words: &[u8], budget: u32, state: &mut [u8]) -> Answer
+    ensures answer { λ r. ⌜ r ≡ runNetlistCall (now (netlist .entry)) (now (words .entry)) budget (now (state .entry)) .answer ⌝ }
+    ensures lent { λ _. ⌜ now (state .exit) ≡ runNetlistCall (now (netlist .entry)) (now (words .entry)) budget (now (state .entry)) .lent ⌝ }
+{
+    simulator::run_netlist(netlist, words, budget, state)
 }

@@ -2,22 +2,20 @@
 use mathlib.Core.Path.{_∙_, ap}
 use denote.Ref.{now}
 use Rattle.hub.specs.Replies.{writtenReply}
-use Rattle.hub.proofs.Rooms.{room, left, put-in, no-room, untouched}
+use Rattle.hub.proofs.Rooms.{answered, nothing}
 use borrow.Author.Needs.{needs}
 use Rattle.hub.proofs.exports.hub_write.Statement.{statement}
 use Rattle.hub.proofs.exports.hub_write.Tie as tie
 use Rattle.hub.proofs.exports.hub_write.Reads as reads
 use Rattle.hub.proofs.exports.hub_write.Lts as lts
+use Rattle.hub.proofs.write_netlist.Reads as write-netlist-reads
 use Rattle.hub.proofs.reply.of_written.Reads as of-written-reads
 use Rattle.hub.proofs.reply.put.Reads as put-reads
-use Rattle.hub.proofs.write_netlist.Reads as write-netlist-reads
 
 returns : tie.Need-returns
 returns c =
     let args = c .before .before .before .before .args in
-    let reply = now (args .reply) in
-    let l = c .if1 .taken in
-    (no-room reply l, (untouched reply l _ (now (args .file)), untouched reply l _ reply))
+    nothing (now (args .reply)) (c .if1 .taken) _ (now (args .file)) _
 
 write-netlist-requires : tie.Need-write-netlist-requires
 write-netlist-requires c κs = search needs
@@ -39,13 +37,18 @@ returns-2 c =
     let call = c .before .before .before .before .before .before .before in
     let fits = call .before .before in
     let reply = now (fits .before .before .before .before .args .reply) in
-    let l = fits .if1 .left in (
-      room reply l,
-      (
-        left reply l _ _ _ (call .write-netlist .ensures .1),
-        put-in reply l _ _ _ (c .before .before .put .ensures) (c .before .before .before .before .of-written .ensures ∙ ap writtenReply (call .write-netlist .ensures .0)),
-      ),
-    )
+    answered
+    reply
+    (fits .if1 .left)
+    _
+    _
+    _
+    _
+    _
+    _
+    (call .write-netlist .ensures .1)
+    (c .before .before .put .ensures)
+    (c .before .before .before .before .of-written .ensures ∙ ap writtenReply (call .write-netlist .ensures .0))
 
 pub hub-write-spec : {M : Type 1} → statement M
 hub-write-spec =

@@ -1,0 +1,219 @@
+-- A node: its statement by its kind.
+use Prim.Native.Nat.{ℕ}
+use native.Mathlib.Omega.{arith}
+use Rattle.model.specs.Rules.{run}
+use Rattle.rules.proofs.Nodes.{next-later, stmt-none, low-ok, last-kind, at-tick, at-assign, seq-at, par-at, ite-at, while-at, repeat-at}
+use Rattle.rules.proofs.Parts.{ready-as}
+use Rattle.rules.proofs.Runs.{stands-as, run-ok}
+use Rattle.program.proofs.next.Reads as next
+use Rattle.program.proofs.read_node.Reads as read-node
+use Rattle.rules.proofs.assign_at.Reads as assign-at
+use Rattle.rules.proofs.if_at.Reads as if-reads
+use Rattle.rules.proofs.par_at.Reads as par-reads
+use Rattle.rules.proofs.pause.Reads as pause
+use Rattle.rules.proofs.repeat_at.Reads as repeat-reads
+use Rattle.rules.proofs.run_at.Reads as run-reads
+use Rattle.rules.proofs.seq_at.Reads as seq-reads
+use Rattle.rules.proofs.while_at.Reads as while-reads
+use Rattle.rules.proofs.+if_at+par_at+repeat_at+run_at+seq_at+while_at.Lts-run_at as lts
+use Rattle.rules.proofs.+if_at+par_at+repeat_at+run_at+seq_at+while_at.Proof.Falls.{run-here, if-below, par-below, repeat-below, seq-below, while-below}
+
+module _ (t : ℕ) where
+  abbrev calls : lts.Claims
+  calls = (
+    pause.Asked,
+    pause.Learnt,
+    read-node.Asked,
+    read-node.Learnt,
+    next.Asked,
+    next.Learnt,
+    assign-at.Asked,
+    assign-at.Learnt,
+    seq-below t,
+    seq-reads.Post,
+    par-below t,
+    par-reads.Post,
+    if-below t,
+    if-reads.Post,
+    while-below t,
+    while-reads.Post,
+    repeat-below t,
+    repeat-reads.Post,
+  )
+
+  pause-requires : lts.Need-pause-requires calls (run-here t) run-reads.Post
+  pause-requires c κs = tt
+
+  returns : lts.Need-returns calls (run-here t) run-reads.Post
+  returns c = stands-as _ _ _ (stmt-none _ _ (c .before .if1 .taken)) (run-ok _ _ _ (c .pause .ensures))
+
+  read-node-requires : lts.Need-read-node-requires calls (run-here t) run-reads.Post
+  read-node-requires c κs = omega arith
+
+  pause-requires-2 : lts.Need-pause-requires-2 calls (run-here t) run-reads.Post
+  pause-requires-2 c κs = tt
+
+  returns-2 : lts.Need-returns-2 calls (run-here t) run-reads.Post
+  returns-2 c =
+      let if1 = c .before .before .before .if1 in
+      let read-node = c .before .before .read-node in
+      stands-as _ _ _ (low-ok _ _ (if1 .left) _ (read-node .ensures) (c .before .if2 .taken)) (run-ok _ _ _ (c .pause2 .ensures))
+
+  cast-d : lts.Need-cast-d calls (run-here t) run-reads.Post
+  cast-d c = omega arith
+
+  add-next : lts.Need-add-next calls (run-here t) run-reads.Post
+  add-next c = omega arith
+
+  next-requires : lts.Need-next-requires calls (run-here t) run-reads.Post
+  next-requires c κs =
+      let pre = c .before .before .before .before .before .pre in
+      omega (arith, pre .1 .laid .short)
+
+  pause-requires-3 : lts.Need-pause-requires-3 calls (run-here t) run-reads.Post
+  pause-requires-3 c κs = tt
+
+  add-assign-at : lts.Need-add-assign-at calls (run-here t) run-reads.Post
+  add-assign-at c = omega arith
+
+  assign-at-requires : lts.Need-assign-at-requires calls (run-here t) run-reads.Post
+  assign-at-requires c κs =
+      let if1 = c .before .before .before .before .before .if1 in
+      let read-node = c .before .before .before .before .read-node in
+      let pre = c .before .before .before .before .before .before .before .pre in
+      let is = at-assign _ _ (if1 .left) _ (read-node .ensures) (c .match .keys2) in
+      (ready-as is (pre .1), omega arith)
+
+  add-seq-at : lts.Need-add-seq-at calls (run-here t) run-reads.Post
+  add-seq-at c = omega arith
+
+  seq-at-requires : lts.Need-seq-at-requires calls (run-here t) run-reads.Post
+  seq-at-requires c κs =
+      let pre = c .before .before .before .before .before .before .before .pre in
+      let if1 = c .before .before .before .before .before .if1 in
+      let read-node = c .before .before .before .before .read-node in
+      let next = c .before .next in
+      let is = seq-at _ _ (pre .1 .laid) _ (if1 .left) _ (read-node .ensures) _ (next .ensures) (c .match .keys3) in
+      (omega (arith, pre .0), (ready-as is (pre .1), next-later _ _ (pre .1 .laid) _ _ (next .ensures)))
+
+  add-par-at : lts.Need-add-par-at calls (run-here t) run-reads.Post
+  add-par-at c = omega arith
+
+  par-at-requires : lts.Need-par-at-requires calls (run-here t) run-reads.Post
+  par-at-requires c κs =
+      let pre = c .before .before .before .before .before .before .before .pre in
+      let if1 = c .before .before .before .before .before .if1 in
+      let read-node = c .before .before .before .before .read-node in
+      let next = c .before .next in
+      let is = par-at _ _ (pre .1 .laid) _ (if1 .left) _ (read-node .ensures) _ (next .ensures) (c .match .keys4) in
+      (omega (arith, pre .0), (ready-as is (pre .1), next-later _ _ (pre .1 .laid) _ _ (next .ensures)))
+
+  next-requires-2 : lts.Need-next-requires-2 calls (run-here t) run-reads.Post
+  next-requires-2 c κs =
+      let pre = c .before .before .before .before .before .before .before .pre in
+      omega (arith, pre .1 .laid .short)
+
+  add-if-at : lts.Need-add-if-at calls (run-here t) run-reads.Post
+  add-if-at c = omega arith
+
+  if-at-requires : lts.Need-if-at-requires calls (run-here t) run-reads.Post
+  if-at-requires c κs =
+      let pre = c .before .before .before .before .before .before .before .before .pre in
+      let if1 = c .before .before .before .before .before .before .if1 in
+      let read-node = c .before .before .before .before .before .read-node in
+      let next = c .before .before .next in
+      let third = c .next2 .ensures in
+      let is = ite-at _ _ (pre .1 .laid) _ (if1 .left) _ (read-node .ensures) _ (next .ensures) _ third (c .before .match .keys5) in
+      (omega (arith, pre .0, next-later _ _ (pre .1 .laid) _ _ (next .ensures)), (ready-as is (pre .1), next-later _ _ (pre .1 .laid) _ _ third))
+
+  add-while-at : lts.Need-add-while-at calls (run-here t) run-reads.Post
+  add-while-at c = omega arith
+
+  while-at-requires : lts.Need-while-at-requires calls (run-here t) run-reads.Post
+  while-at-requires c κs =
+      let pre = c .before .before .before .before .before .before .before .pre in
+      let if1 = c .before .before .before .before .before .if1 in
+      let read-node = c .before .before .before .before .read-node in
+      let next = c .before .next in
+      let is = while-at _ _ (pre .1 .laid) _ (if1 .left) _ (read-node .ensures) _ (next .ensures) (c .match .keys6) in
+      (omega (arith, pre .0, next-later _ _ (pre .1 .laid) _ _ (next .ensures)), ready-as is (pre .1))
+
+  add-repeat-at : lts.Need-add-repeat-at calls (run-here t) run-reads.Post
+  add-repeat-at c = omega arith
+
+  repeat-at-requires : lts.Need-repeat-at-requires calls (run-here t) run-reads.Post
+  repeat-at-requires c κs =
+      let pre = c .before .before .before .before .before .before .before .pre in
+      let if1 = c .before .before .before .before .before .if1 in
+      let read-node = c .before .before .before .before .read-node in
+      let next = c .before .next in
+      let if2 = c .before .before .before .if2 in
+      let is = repeat-at _ _ (pre .1 .laid) _ (if1 .left) _ (read-node .ensures) _ (next .ensures) (last-kind _ (if2 .left) (c .match .rest)) in
+      (omega (arith, pre .0, next-later _ _ (pre .1 .laid) _ _ (next .ensures)), ready-as is (pre .1))
+
+  returns-3 : lts.Need-returns-3 calls (run-here t) run-reads.Post
+  unfolding run
+  returns-3 c =
+      let if1 = c .before .before .before .before .before .before .if1 in
+      let read-node = c .before .before .before .before .before .read-node in
+      stands-as _ _ _ (at-tick _ _ (if1 .left) _ (read-node .ensures) (c .before .match .keys1)) (c .pause3 .ensures)
+
+  returns-4 : lts.Need-returns-4 calls (run-here t) run-reads.Post
+  returns-4 c =
+      let if1 = c .before .before .before .before .before .before .if1 in
+      let read-node = c .before .before .before .before .before .read-node in
+      stands-as _ _ _ (at-assign _ _ (if1 .left) _ (read-node .ensures) (c .before .match .keys2)) (c .assign-at .ensures)
+
+  returns-5 : lts.Need-returns-5 calls (run-here t) run-reads.Post
+  returns-5 c =
+      let pre = c .before .before .before .before .before .before .before .before .pre in
+      let if1 = c .before .before .before .before .before .before .if1 in
+      let read-node = c .before .before .before .before .before .read-node in
+      let next = c .before .before .next in
+      let is = seq-at _ _ (pre .1 .laid) _ (if1 .left) _ (read-node .ensures) _ (next .ensures) (c .before .match .keys3) in
+      stands-as _ _ _ is (c .seq-at .ensures)
+
+  returns-6 : lts.Need-returns-6 calls (run-here t) run-reads.Post
+  returns-6 c =
+      let pre = c .before .before .before .before .before .before .before .before .pre in
+      let if1 = c .before .before .before .before .before .before .if1 in
+      let read-node = c .before .before .before .before .before .read-node in
+      let next = c .before .before .next in
+      let is = par-at _ _ (pre .1 .laid) _ (if1 .left) _ (read-node .ensures) _ (next .ensures) (c .before .match .keys4) in
+      stands-as _ _ _ is (c .par-at .ensures)
+
+  returns-7 : lts.Need-returns-7 calls (run-here t) run-reads.Post
+  returns-7 c =
+      let pre = c .before .before .before .before .before .before .before .before .before .pre in
+      let if1 = c .before .before .before .before .before .before .before .if1 in
+      let read-node = c .before .before .before .before .before .before .read-node in
+      let next = c .before .before .before .next in
+      let match = c .before .before .match in
+      let is = ite-at _ _ (pre .1 .laid) _ (if1 .left) _ (read-node .ensures) _ (next .ensures) _ (c .before .next2 .ensures) (match .keys5) in
+      stands-as _ _ _ is (c .if-at .ensures)
+
+  returns-8 : lts.Need-returns-8 calls (run-here t) run-reads.Post
+  returns-8 c =
+      let pre = c .before .before .before .before .before .before .before .before .pre in
+      let if1 = c .before .before .before .before .before .before .if1 in
+      let read-node = c .before .before .before .before .before .read-node in
+      let next = c .before .before .next in
+      let is = while-at _ _ (pre .1 .laid) _ (if1 .left) _ (read-node .ensures) _ (next .ensures) (c .before .match .keys6) in
+      stands-as _ _ _ is (c .while-at .ensures)
+
+  returns-9 : lts.Need-returns-9 calls (run-here t) run-reads.Post
+  returns-9 c =
+      let pre = c .before .before .before .before .before .before .before .before .pre in
+      let if1 = c .before .before .before .before .before .before .if1 in
+      let read-node = c .before .before .before .before .before .read-node in
+      let next = c .before .before .next in
+      let if2 = c .before .before .before .before .if2 in
+      let is = repeat-at _ _ (pre .1 .laid) _ (if1 .left) _ (read-node .ensures) _ (next .ensures) (last-kind _ (if2 .left) (c .before .match .rest)) in
+      stands-as _ _ _ is (c .repeat-at .ensures)
+
+  pub run-closed : {M : Type 1} → lts.Closed calls (run-here t) run-reads.Post M
+  run-closed =
+      lts.spec calls (run-here t) run-reads.Post
+      pause-requires returns read-node-requires pause-requires-2 returns-2 cast-d add-next next-requires pause-requires-3 add-assign-at
+      assign-at-requires add-seq-at seq-at-requires add-par-at par-at-requires next-requires-2 add-if-at if-at-requires add-while-at
+      while-at-requires add-repeat-at repeat-at-requires returns-3 returns-4 returns-5 returns-6 returns-7 returns-8 returns-9

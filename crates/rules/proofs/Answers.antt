@@ -1,0 +1,74 @@
+-- The answer of a run, and that of a call by what the checks say.
+-- Assumes nothing.
+use mathlib.Core.Path.{_≡_, refl, sym, _∙_, ap, ap₂}
+use mathlib.Core.Bool.{Bool, true, false}
+use mathlib.Core.List.{List, [], _∷_}
+use Prim.Native.Nat.{ℕ, _+_, _≤_, _<_}
+use native.Mathlib.Omega.{arith}
+use lib.Dec.{ltb}
+use lib.ListN.{length, getD, replicate}
+use borrow.Author.Tests.{lt-ltb, le-ltb}
+use Rattle.model.specs.declared.Refusal.{Refusal}
+use Rattle.model.specs.declared.Checked.{Checked}
+use Rattle.model.specs.declared.Checked.the-variants.{Accepted, Refused}
+use Rattle.model.specs.declared.Answer.{Answer}
+use Rattle.model.specs.declared.Outcome.the-variants.{Ended, Open}
+use Rattle.model.specs.Program.{programOf, checkOf}
+use Rattle.model.specs.Rules.{ended, run}
+use Rattle.model.specs.Refusals.{refuseIf, first}
+use Rattle.model.specs.Calls.{wordAt, listed, refusedAnswer, referenceAnswer, answering, overBudget, short, referenceCall}
+use Rattle.theory.specs.Program.Accepted.{program-fit}
+use Rattle.rules.specs.declared.Ran.{Ran}
+use Rattle.rules.specs.Ran.{storeOf, runOf}
+use Rattle.rules.proofs.Words.{filled-listed, listed-at}
+use Rattle.rules.proofs.Sixteen.{same-answer}
+use Rattle.rules.proofs.Runs.{run-ended, run-still}
+
+pub answer-words : (t : ℕ) (ws : List ℕ) → length ws ≡ 16
+    → record { outcome = Ended; instant = t; count = t + 1; words = ws } ≡ referenceAnswer t (ended t (storeOf ws))
+unfolding referenceAnswer storeOf
+answer-words t ws l =
+    let e : ws ≡ listed (storeOf ws) 0 16 = filled-listed ws _ (l, omega arith, λ x h. refl) in
+    ap (λ (ws : List ℕ). record { outcome = Ended; instant = t; count = t + 1; words = ws }) e
+
+module _ (n : ℕ) (r : Ran) where
+  pub answer-ended : (a : Answer) → a ≡ referenceAnswer (r .time) (ended (r .time) (storeOf (r .words))) → r .ended ≡ true
+      → a ≡ referenceAnswer n (runOf r)
+  unfolding referenceAnswer
+  answer-ended a h e = h ∙ sym (ap (referenceAnswer n) (run-ended r e))
+
+  pub answer-open : r .ended ≡ false
+      → record { outcome = Open; instant = n; count = n + 1; words = replicate 16 0 } ≡ referenceAnswer n (runOf r)
+  unfolding referenceAnswer
+  answer-open e = sym (ap (referenceAnswer n) (run-still r e))
+
+module _ (s bytes : List ℕ) (n : ℕ) where
+  call-is : (c : Checked) → checkOf s ≡ c → (over few : Bool) → ltb 1000000 n ≡ over → ltb (length bytes) 32 ≡ few
+      → referenceCall s bytes n
+      ≡ answering (first (c ∷ refuseIf over 13 0 ∷ refuseIf few 14 0 ∷ [])) (referenceAnswer n (run n (programOf s) (wordAt bytes)))
+  unfolding referenceCall
+  call-is c ec over few eo ef =
+      let answer : Checked → Bool → Bool → Answer =
+      λ c over few. answering (first (c ∷ refuseIf over 13 0 ∷ refuseIf few 14 0 ∷ [])) (referenceAnswer n (run n (programOf s) (wordAt bytes))) in
+      ap (λ (c : Checked). answer c (ltb 1000000 n) (ltb (length bytes) 32)) ec ∙ ap₂ (answer c) eo ef
+
+  pub call-refused : (r : Refusal) → checkOf s ≡ Refused r → refusedAnswer r ≡ referenceCall s bytes n
+  unfolding answering
+  call-refused r e = sym (call-is (Refused r) e _ _ refl refl)
+
+  module _ (e : checkOf s ≡ Accepted) where
+    pub call-over : 1000000 < n → refusedAnswer (record { number = 13; place = 0 }) ≡ referenceCall s bytes n
+    unfolding answering
+    call-over h = sym (call-is Accepted e true _ (lt-ltb _ _ h) refl)
+
+    pub call-short : n ≤ 1000000 → length bytes < 32 → refusedAnswer (record { number = 14; place = 0 }) ≡ referenceCall s bytes n
+    unfolding answering
+    call-short h l = sym (call-is Accepted e false true (le-ltb _ _ h) (lt-ltb _ _ l))
+
+    pub call-runs : n ≤ 1000000 → 32 ≤ length bytes → (ws : List ℕ) → ws ≡ listed (wordAt bytes) 0 16
+        → referenceAnswer n (run n (programOf s) (storeOf ws)) ≡ referenceCall s bytes n
+    unfolding answering storeOf
+    call-runs h l ws ew =
+        same-answer (programOf s) (program-fit s e .formed) n (storeOf ws) (wordAt bytes)
+        (λ x m. ap (λ (ws : List ℕ). getD ws x 0) ew ∙ listed-at (wordAt bytes) 16 0 x m ∙ ap (wordAt bytes) (omega arith))
+        ∙ sym (call-is Accepted e false false (le-ltb _ _ h) (le-ltb _ _ l))

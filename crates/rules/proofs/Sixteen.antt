@@ -1,0 +1,158 @@
+-- The rules look at no word but the first sixteen: from stores that agree on these, a run ends at the same time, with words that agree.
+-- Assumes that the statement's variables are below 16 (`WF`).
+use mathlib.Core.Path.{_≡_, refl, sym, _∙_, ap, ap₂}
+use mathlib.Core.Bool.{Bool, true, false}
+use mathlib.Core.List.{List, _∷_}
+use Prim.Native.Nat.{ℕ, zero, suc, _+_, _-_, _≤_, _<_, max}
+use native.Mathlib.Omega.{arith}
+use lib.Dec.{leb, eqb}
+use Rattle.model.specs.declared.Answer.{Answer}
+use Rattle.model.specs.declared.Outcome.the-variants.{Ended}
+use Rattle.model.specs.Word.{pick, isZero, operate}
+use Rattle.model.specs.Program.{Expr, const, var, compl, op, Stmt, ok, tick, assign, seq, par, ite, while, repeat, writes}
+use Rattle.model.specs.Rules.{Store, Run, ended, still, eval, put, over, kept, after, wait, chain, both, whiles, repeats, run}
+use Rattle.model.specs.Calls.{listed, referenceAnswer}
+use Rattle.theory.specs.Numbering.Structure.{WFe, WF}
+use Rattle.theory.specs.Rules.Laws.{Body}
+
+abbrev pub Agree : Store → Store → Type 0
+Agree σ τ = (x : ℕ) → x < 16 → σ x ≡ τ x
+
+abbrev Alike : Run → Run → Type 0
+Alike (ended t σ) (ended u τ) = (t ≡ u) × Agree σ τ
+Alike (ended t σ) still = ⊥
+Alike still (ended u τ) = ⊥
+Alike still still = Unit {0}
+
+-- Words --------------------------------------------------------------------------------------------------------------------------------
+
+eval-agree : (e : Expr) → WFe e → (σ τ : Store) → Agree σ τ → eval e σ ≡ eval e τ
+unfolding eval
+eval-agree (const n) w σ τ h = refl
+eval-agree (var n) w σ τ h = h n w
+eval-agree (compl e) w σ τ h = ap (λ (v : ℕ). operate 3 v 0) (eval-agree e w σ τ h)
+eval-agree (op k a b) w σ τ h = ap₂ (operate k) (eval-agree a (w .2) σ τ h) (eval-agree b (w .3) σ τ h)
+
+put-agree : (σ τ : Store) (x v u : ℕ) → Agree σ τ → v ≡ u → Agree (put σ x v) (put τ x u)
+unfolding put
+put-agree σ τ x v u h e y l = ap₂ (pick (eqb y x)) e (h y l)
+
+kept-agree : (P Q : Stmt) (σ τ σ₁ τ₁ σ₂ τ₂ : Store) → Agree σ τ → Agree σ₁ τ₁ → Agree σ₂ τ₂
+    → Agree (kept P Q σ σ₁ σ₂) (kept P Q τ τ₁ τ₂)
+unfolding kept over
+kept-agree P Q σ τ σ₁ τ₁ σ₂ τ₂ h h₁ h₂ x l = ap₂ (pick (writes P x)) (h₁ x l) (ap₂ (pick (writes Q x)) (h₂ x l) (h x l))
+
+-- Parts of a run -----------------------------------------------------------------------------------------------------------------------
+
+after-alike : (d : ℕ) (r q : Run) → Alike r q → Alike (after d r) (after d q)
+unfolding after
+after-alike d (ended t σ) (ended u τ) h = (ap (λ (n : ℕ). d + n) (h .0), h .1)
+after-alike d (ended t σ) still h = h
+after-alike d still (ended u τ) h = h
+after-alike d still still h = h
+
+wait-alike : (d k : ℕ) (f g : ℕ → Run) → ((k₁ : ℕ) → Alike (f k₁) (g k₁)) → Alike (wait d k f) (wait d k g)
+unfolding wait
+wait-alike d k f g h = go (leb d k)
+  where
+    go : (b : Bool)
+        → Alike (elim b as (λ z. Run) [ true ↦ after d (f (k - d)) | false ↦ still ])
+        (elim b as (λ z. Run) [ true ↦ after d (g (k - d)) | false ↦ still ])
+    go true = after-alike d (f (k - d)) (g (k - d)) (h (k - d))
+    go false = tt
+
+-- what goes on after an end, alike from words that agree
+abbrev AlikeOn : (ℕ → Store → Run) → (ℕ → Store → Run) → Type 0
+AlikeOn f g = (k : ℕ) (σ τ : Store) → Agree σ τ → Alike (f k σ) (g k τ)
+
+chain-alike : (r q : Run) (f g : ℕ → Store → Run) → Alike r q → AlikeOn f g → Alike (chain r f) (chain q g)
+unfolding chain
+chain-alike (ended t σ) (ended u τ) f g h c = rw (h .0) (after-alike u (f u σ) (g u τ) (c u σ τ (h .1)))
+chain-alike (ended t σ) still f g h c = absurd h
+chain-alike still (ended u τ) f g h c = absurd h
+chain-alike still still f g h c = h
+
+both-alike : (i j : Store → Store → Store) (r q r′ q′ : Run)
+    → ((σ τ σ′ τ′ : Store) → Agree σ τ → Agree σ′ τ′ → Agree (i σ σ′) (j τ τ′)) → Alike r q → Alike r′ q′
+    → Alike (both i r r′) (both j q q′)
+unfolding both
+both-alike i j (ended t σ) (ended u τ) (ended t′ σ′) (ended u′ τ′) c h h′ = (ap₂ max (h .0) (h′ .0), c σ τ σ′ τ′ (h .1) (h′ .1))
+both-alike i j (ended t σ) (ended u τ) still still c h h′ = tt
+both-alike i j still still (ended t′ σ′) (ended u′ τ′) c h h′ = tt
+both-alike i j still still still still c h h′ = tt
+both-alike i j (ended t σ) still r′ q′ c h h′ = absurd h
+both-alike i j still (ended u τ) r′ q′ c h h′ = absurd h
+both-alike i j (ended t σ) (ended u τ) (ended t′ σ′) still c h h′ = absurd h′
+both-alike i j (ended t σ) (ended u τ) still (ended u′ τ′) c h h′ = absurd h′
+both-alike i j still still (ended t′ σ′) still c h h′ = absurd h′
+both-alike i j still still still (ended u′ τ′) c h h′ = absurd h′
+
+-- by a test that both stores answer alike
+test-alike : (a b : Bool) (f g f′ g′ : Run) → a ≡ b → Alike f f′ → Alike g g′
+    → Alike (elim a as (λ z. Run) [ true ↦ f | false ↦ g ]) (elim b as (λ z. Run) [ true ↦ f′ | false ↦ g′ ])
+test-alike true true f g f′ g′ e p q = p
+test-alike false false f g f′ g′ e p q = q
+test-alike true false f g f′ g′ e p q = let z : _≡_ {A = ℕ} 0 1 = cc in absurd (omega arith)
+test-alike false true f g f′ g′ e p q = let z : _≡_ {A = ℕ} 0 1 = cc in absurd (omega arith)
+
+-- Loops --------------------------------------------------------------------------------------------------------------------------------
+
+module _ (body : Body) (d : ℕ) (e : Expr) (w : WFe e) (h : AlikeOn body body) where
+  zero-alike : (σ τ : Store) → Agree σ τ → isZero (eval e σ) ≡ isZero (eval e τ)
+  zero-alike σ τ a = ap isZero (eval-agree e w σ τ a)
+
+  whiles-alike : (n : ℕ) → AlikeOn (whiles body d e n) (whiles body d e n)
+  unfolding whiles
+  whiles-alike zero k σ τ a = tt
+  whiles-alike (suc n) k σ τ a =
+      let r = whiles-alike n in
+      wait-alike d k _ _
+      (λ k₁.
+      test-alike _ _ _ _ _ _ (zero-alike σ τ a) (refl, a)
+      (chain-alike (body k₁ σ) (body k₁ τ) _ _ (h k₁ σ τ a) (λ t σ₁ τ₁ b. r (k₁ - t) σ₁ τ₁ b)))
+
+  repeats-alike : (n : ℕ) → AlikeOn (repeats body d e n) (repeats body d e n)
+  unfolding repeats
+  repeats-alike zero k σ τ a = tt
+  repeats-alike (suc n) k σ τ a =
+      let r = repeats-alike n in
+      chain-alike (body k σ) (body k τ) _ _ (h k σ τ a)
+      (λ t σ₁ τ₁ b. wait-alike d (k - t) _ _ (λ k₁. test-alike _ _ _ _ _ _ (zero-alike σ₁ τ₁ b) (r k₁ σ₁ τ₁ b) (refl, b)))
+
+-- Statements ---------------------------------------------------------------------------------------------------------------------------
+
+run-alike : (P : Stmt) → WF P → AlikeOn (λ k σ. run k P σ) (λ k σ. run k P σ)
+unfolding run
+run-alike ok w = λ k σ τ h. (refl, h)
+run-alike (tick d) w = λ k σ τ h. wait-alike d k _ _ (λ k₁. (refl, h))
+run-alike (assign d x e) w = λ k σ τ h. wait-alike (suc d) k _ _ (λ k₁. (refl, put-agree σ τ x _ _ h (eval-agree e (w .1) σ τ h)))
+run-alike (seq P Q) w = λ k σ τ h.
+    chain-alike (run k P σ) (run k P τ) _ _ (run-alike P (w .0) k σ τ h) (λ t σ₁ τ₁ b. run-alike Q (w .1) (k - t) σ₁ τ₁ b)
+run-alike (par P Q) w = λ k σ τ h.
+    both-alike (kept P Q σ) (kept P Q τ) _ _ _ _ (λ σ₁ τ₁ σ₂ τ₂. kept-agree P Q σ τ σ₁ τ₁ σ₂ τ₂ h)
+    (run-alike P (w .0) k σ τ h) (run-alike Q (w .1) k σ τ h)
+run-alike (ite d e P Q) w = λ k σ τ h.
+    wait-alike d k _ _
+    (λ k₁. test-alike _ _ _ _ _ _ (ap isZero (eval-agree e (w .0) σ τ h)) (run-alike Q (w .2) k₁ σ τ h) (run-alike P (w .1) k₁ σ τ h))
+run-alike (while d e P) w = λ k. whiles-alike (λ k₁ σ. run k₁ P σ) d e (w .0) (run-alike P (w .1)) (suc k) k
+run-alike (repeat d e P) w = λ k. repeats-alike (λ k₁ σ. run k₁ P σ) d e (w .0) (run-alike P (w .1)) (suc k) k
+
+-- Answers ------------------------------------------------------------------------------------------------------------------------------
+
+listed-agree : (σ τ : Store) (n x : ℕ) → x + n ≤ 16 → Agree σ τ → listed σ x n ≡ listed τ x n
+unfolding listed
+listed-agree σ τ zero x l h = refl
+listed-agree σ τ (suc n) x l h = ap₂ _∷_ (h x (omega arith)) (listed-agree σ τ n (x + 1) (omega arith) h)
+
+alike-answer : (n : ℕ) (r q : Run) → Alike r q → referenceAnswer n r ≡ referenceAnswer n q
+unfolding referenceAnswer
+alike-answer n (ended t σ) (ended u τ) h =
+    ap₂ (λ (t : ℕ) (ws : List ℕ). record { outcome = Ended; instant = t; count = t + 1; words = ws }) (h .0)
+    (listed-agree σ τ 16 0 (omega arith) (h .1))
+alike-answer n (ended t σ) still h = absurd h
+alike-answer n still (ended u τ) h = absurd h
+alike-answer n still still h = refl
+
+pub same-answer : (P : Stmt) → WF P → (n : ℕ) (σ τ : Store) → Agree σ τ
+    → referenceAnswer n (run n P σ) ≡ referenceAnswer n (run n P τ)
+same-answer P w n σ τ h = alike-answer n (run n P σ) (run n P τ) (run-alike P w n σ τ h)

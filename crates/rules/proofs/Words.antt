@@ -1,0 +1,74 @@
+-- Arrays of words as stores: one word put, sixteen written one by one, two sides joined.
+-- Assumes nothing.
+use mathlib.Core.Path.{_≡_, refl, sym, _∙_, ap, ap₂, fun-ext}
+use mathlib.Core.List.{List, [], _∷_}
+use Prim.Native.Nat.{ℕ, zero, suc, _+_, _≤_, _<_}
+use native.Mathlib.Omega.{arith}
+use native.Mathlib.Decide.{decLt, ℕ-discrete}
+use lib.ListN.{length, getD, set, length-set, List·getD-eq-default}
+use lib.Seq.{getD-set-same, getD-set-other, ext-getD}
+use lib.Dec.{eqb}
+use borrow.Author.Tests.{eq-eqb, ne-eqb}
+use Rattle.model.specs.Word.{pick}
+use Rattle.model.specs.Rules.{Store, put}
+use Rattle.model.specs.Calls.{listed}
+use Rattle.rules.specs.Ran.{storeOf, joins}
+
+-- One word -----------------------------------------------------------------------------------------------------------------------------
+
+pub store-set : (w : List ℕ) (x v : ℕ) → x < length w → storeOf (set w x v) ≡ put (storeOf w) x v
+unfolding storeOf put
+store-set w x v h = fun-ext (λ y. go y (ℕ-discrete y x))
+  where
+    go : (y : ℕ) → Dec (y ≡ x) → getD (set w x v) y 0 ≡ pick (eqb y x) v (getD w y 0)
+    go y (yes e) = rw (eq-eqb y x e, e) (getD-set-same w x v 0 h)
+    go y (no n) = rw (ne-eqb y x n) (getD-set-other w x y v 0 n)
+
+-- Sixteen words, written one by one ----------------------------------------------------------------------------------------------------
+
+-- the first n of sixteen words are those of σ
+abbrev pub Filled : List ℕ → Store → ℕ → Type 0
+Filled w σ n = (length w ≡ 16) × (n ≤ 16) × ((x : ℕ) → x < n → getD w x 0 ≡ σ x)
+
+pub filled-more : (w : List ℕ) (σ : Store) (n v : ℕ) → Filled w σ n → n < 16 → v ≡ σ n → Filled (set w n v) σ (n + 1)
+filled-more w σ n v F h e = (simp length-set (F .0), omega arith, λ x l. go x l (ℕ-discrete x n))
+  where
+    go : (x : ℕ) → x < n + 1 → Dec (x ≡ n) → getD (set w n v) x 0 ≡ σ x
+    go x l (yes q) = rw q (getD-set-same w n v 0 (omega (arith, F .0)) ∙ e)
+    go x l (no q) = getD-set-other w n x v 0 q ∙ F .2 x (omega arith)
+
+length-listed : (σ : Store) (x n : ℕ) → length (listed σ x n) ≡ n
+unfolding listed
+length-listed σ x zero = refl
+length-listed σ x (suc n) = ap suc (length-listed σ (x + 1) n)
+
+pub listed-at : (σ : Store) (n x i : ℕ) → i < n → getD (listed σ x n) i 0 ≡ σ (x + i)
+unfolding listed
+listed-at σ zero x i h = absurd (omega arith)
+listed-at σ (suc n) x zero h = ap σ (omega arith)
+listed-at σ (suc n) x (suc i) h = listed-at σ n (x + 1) i (omega arith) ∙ ap σ (omega arith)
+
+pub filled-listed : (w : List ℕ) (σ : Store) → Filled w σ 16 → w ≡ listed σ 0 16
+filled-listed w σ F =
+    ext-getD 0 w (listed σ 0 16) (F .0 ∙ sym (length-listed σ 0 16))
+    (λ i h.
+    let l : i < 16 = omega (arith, F .0) in
+    F .2 i l ∙ ap σ (omega arith) ∙ sym (listed-at σ 16 0 i l))
+
+-- Two sides ----------------------------------------------------------------------------------------------------------------------------
+
+pub joins-at : (u v w : List ℕ) (x y : ℕ) → y ≡ pick (eqb (getD v x 0) (getD u x 0)) (getD w x 0) (getD v x 0)
+    → y ≡ joins (storeOf u) (storeOf v) (storeOf w) x
+unfolding joins storeOf
+joins-at u v w x y e = e
+
+pub filled-joins : (u v w r : List ℕ) → length u ≡ 16 → length v ≡ 16 → length w ≡ 16
+    → Filled r (joins (storeOf u) (storeOf v) (storeOf w)) 16 → storeOf r ≡ joins (storeOf u) (storeOf v) (storeOf w)
+unfolding joins storeOf
+filled-joins u v w r a b c F = fun-ext (λ x. go x (decLt x 16))
+  where
+    go : (x : ℕ) → Dec (x < 16) → getD r x 0 ≡ pick (eqb (getD v x 0) (getD u x 0)) (getD w x 0) (getD v x 0)
+    go x (yes h) = F .2 x h
+    go x (no n) =
+        let past : (l : List ℕ) → length l ≡ 16 → getD l x 0 ≡ 0 = λ l e. List·getD-eq-default l 0 (omega arith) in
+        rw (past r (F .0), past u a, past v b, past w c) refl

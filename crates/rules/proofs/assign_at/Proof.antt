@@ -1,0 +1,25 @@
+-- An assignment: the value, the word put, and d + 1 instants.
+use borrow.Author.Needs.{needs}
+use Rattle.rules.proofs.Parts.{assign-low}
+use Rattle.rules.proofs.Runs.{run-assign}
+use Rattle.rules.proofs.assign_at.Statement.{statement}
+use Rattle.rules.proofs.assign_at.Tie as tie
+
+eval-at-requires : tie.Need-eval-at-requires
+eval-at-requires c κs = c .before .pre .0 .laid
+
+with-word-requires : tie.Need-with-word-requires
+with-word-requires c κs = assign-low (c .before .before .pre .0)
+
+add-pause : tie.Need-add-pause
+add-pause c = search needs
+
+pause-requires : tie.Need-pause-requires
+pause-requires c κs = search needs
+
+returns : tie.Need-returns
+returns c = run-assign _ _ _ _ _ _ _ _ (c .before .before .eval-at .ensures) (c .before .with-word .ensures) (c .pause .ensures)
+
+pub assign-at-spec : {M : Type 1} → statement M
+assign-at-spec =
+    tie.close (tie.spec eval-at-requires with-word-requires add-pause pause-requires returns)

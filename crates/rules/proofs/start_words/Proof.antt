@@ -1,0 +1,62 @@
+-- The first x words are read.
+use mathlib.Core.Path.{_≡_, refl}
+use Prim.Native.Nat.{_-_}
+use native.Mathlib.Omega.{arith}
+use Rattle.model.specs.Calls.{wordAt}
+use Rattle.rules.proofs.Words.{Filled, filled-more, filled-listed}
+use Rattle.rules.proofs.start_words.Statement.{statement}
+use Rattle.rules.proofs.start_words.Tie as tie
+
+abbrev Inv-loop : tie.InvT-loop
+Inv-loop bytes words₀ x₀ words x = Filled words (wordAt bytes) x
+
+abbrev μ-loop : tie.MeasureT-loop
+μ-loop bytes words₀ x₀ words x = 16 - x
+
+loop-holds : tie.Need-loop-holds Inv-loop μ-loop
+loop-holds c = (refl, omega arith, λ x l. absurd (omega arith))
+
+mul-get16 : tie.Need-mul-get16 Inv-loop μ-loop
+mul-get16 c = omega arith
+
+get16-requires : tie.Need-get16-requires Inv-loop μ-loop
+get16-requires c κs = omega arith
+
+mul-words : tie.Need-mul-words Inv-loop μ-loop
+mul-words c = omega arith
+
+array-write-words : tie.Need-array-write-words Inv-loop μ-loop
+array-write-words c = omega arith
+
+add-x : tie.Need-add-x Inv-loop μ-loop
+add-x c = omega arith
+
+loop-less : tie.Need-loop-less Inv-loop μ-loop
+loop-less c = omega arith
+
+loop-again : tie.Need-loop-again Inv-loop μ-loop
+loop-again c =
+    let loop = c .before .before .loop in
+    filled-more (loop .words) _ _ _ (loop .inv) (c .before .loop-test .taken) (c .get16 .ensures)
+
+returns : tie.Need-returns Inv-loop μ-loop
+returns c =
+    let loop = c .before .loop in
+    let e : loop .x ≡ 16 = omega arith in
+    filled-listed _ _ (rw e at (loop .inv))
+
+pub start-words-spec : {M : Type 1} → statement M
+start-words-spec =
+    tie.close
+    (tie.spec
+    Inv-loop
+    μ-loop
+    loop-holds
+    mul-get16
+    get16-requires
+    mul-words
+    array-write-words
+    add-x
+    loop-less
+    loop-again
+    returns)

@@ -1,0 +1,398 @@
+// The reference run: a program is checked, and then run on its bytes by its own rules, within a budget.
+// Contracts are equations with model/Rules and model/Calls; specs/Ran says what words and runs in code stand for.
+// Each kind of statement has a function that runs it from its children's nodes.
+ghost use mathlib.Core.Path.{_≡_};
+ghost use Prim.Native.Nat.{suc, _+_, _≤_, _<_, max};
+ghost use lib.ListN.{length};
+ghost use lib.Dec.{eqb};
+ghost use Rattle.model.specs.Word.{pick};
+ghost use Rattle.model.specs.Program.{exprAt, stmtAt, assign, seq, par, ite, while, repeat};
+ghost use Rattle.model.specs.Rules.{eval, put, ended, still, after, wait, run};
+ghost use Rattle.model.specs.Calls.{wordAt, listed, refusedAnswer, referenceAnswer, referenceCall};
+ghost use Rattle.program.specs.Ends.{Laid};
+ghost use Rattle.rules.specs.Ran.{storeOf, runOf, Stands, joins, Ready};
+use model::Answer;
+use model::Checked;
+use model::Outcome;
+use model::Refusal;
+
+// How a statement ran within a budget: it ended after `time` instants with these words, or it has not ended.
+struct Ran {
+    words: [u16; 16],
+    ended: bool,
+    time: u32,
+}
+
+fn word_of(words: [u16; 16], x: u16) -> u16
+    ensures { λ r. ⌜ r ≡ storeOf words x ⌝ }
+{
+    if x < 16 { words[x as usize] } else { 0 }
+}
+
+fn with_word(words: [u16; 16], x: u16, value: u16) -> [u16; 16]
+    requires { ⌜ x < 16 ⌝ }
+    ensures { λ r. ⌜ storeOf r ≡ put (storeOf words) x value ⌝ }
+{
+    let mut changed = words;
+    changed[x as usize] = value;
+    changed
+}
+
+// The expression at node i, on these words.
+fn eval_at(program: &[u8], ends: &[usize; 200], i: usize, words: [u16; 16]) -> u16
+    requires { ⌜ Laid (now program) (now ends) ⌝ }
+    ensures { λ r. ⌜ r ≡ eval (exprAt (now (program .entry)) i) (storeOf words) ⌝ }
+{
+    let count = program.len() / 4;
+    if count <= i {
+        return 0;
+    }
+    let node = program::read_node(program, i);
+    let kind = node.kind;
+    if 16 <= kind {
+        return 0;
+    }
+    if kind == 1 {
+        return node.n;
+    }
+    if kind == 2 {
+        return word_of(words, node.n);
+    }
+    let first = eval_at(program, ends, i + 1, words);
+    if kind == 3 {
+        return word::operate(3, first, 0);
+    }
+    let second = eval_at(program, ends, program::next(ends, count, i + 1), words);
+    word::operate(kind, first, second)
+}
+
+fn unfinished(words: [u16; 16]) -> Ran
+    ensures { λ r. ⌜ Stands 0 still r ⌝ }
+{
+    Ran {
+        words,
+        ended: false,
+        time: 0,
+    }
+}
+
+// d instants, and then these words.
+fn pause(words: [u16; 16], d: u32, budget: u32) -> Ran
+    ensures { λ r. ⌜ Stands budget (wait d budget (λ k. ended 0 (storeOf words))) r ⌝ }
+{
+    if d <= budget {
+        return Ran {
+            words,
+            ended: true,
+            time: d,
+        };
+    }
+    unfinished(words)
+}
+
+// A run that begins d instants later.
+fn later(d: u32, r: Ran) -> Ran
+    requires { ⌜ d + r .time < 4294967296 ⌝ }
+    ensures { λ q. ⌜ Stands (d + r .time) (after d (runOf r)) q ⌝ }
+{
+    let words = r.words;
+    Ran {
+        words,
+        ended: r.ended,
+        time: d + r.time,
+    }
+}
+
+fn larger(a: u32, b: u32) -> u32
+    ensures { λ r. ⌜ r ≡ max a b ⌝ }
+{
+    if a < b { b } else { a }
+}
+
+// A word after two sides: the first's where it changed it.
+fn word_joined(start: u16, a: u16, b: u16) -> u16
+    ensures { λ r. ⌜ r ≡ pick (eqb a start) b a ⌝ }
+{
+    if a == start { b } else { a }
+}
+
+// The words after two sides. No word is written on both (refusal 8), so a changed one is the only one written.
+fn joined(start: [u16; 16], a: [u16; 16], b: [u16; 16]) -> [u16; 16]
+    ensures { λ r. ⌜ storeOf r ≡ joins (storeOf start) (storeOf a) (storeOf b) ⌝ }
+{
+    let mut words = [0u16; 16];
+    let mut x: usize = 0;
+    while x < 16 {
+        words[x] = word_joined(start[x], a[x], b[x]);
+        x += 1;
+    }
+    words
+}
+
+// The variable x gets the expression at node e.
+fn assign_at(
+    program: &[u8],
+    ends: &[usize; 200],
+    e: usize,
+    x: u16,
+    d: u32,
+    words: [u16; 16],
+    budget: u32,
+) -> Ran
+    requires { ⌜ Ready (now program) (now ends) (assign d x (exprAt (now program) e)) × (d < 256) ⌝ }
+    ensures { λ r. ⌜ Stands budget (run budget (assign d x (exprAt (now (program .entry)) e)) (storeOf words)) r ⌝ }
+{
+    let value = eval_at(program, ends, e, words);
+    pause(with_word(words, x, value), d + 1, budget)
+}
+
+// The statement at node p, and then that at node q.
+fn seq_at(
+    program: &[u8],
+    ends: &[usize; 200],
+    p: usize,
+    q: usize,
+    words: [u16; 16],
+    budget: u32,
+) -> Ran
+    requires { ⌜ Ready (now program) (now ends) (seq (stmtAt (now program) p) (stmtAt (now program) q)) × (p ≤ q) ⌝ }
+    ensures { λ r. ⌜ Stands budget (run budget (seq (stmtAt (now (program .entry)) p) (stmtAt (now (program .entry)) q)) (storeOf words)) r ⌝ }
+{
+    let first = run_at(program, ends, p, words, budget);
+    if first.ended {
+        let between = first.words;
+        let rest = run_at(program, ends, q, between, budget - first.time);
+        return later(first.time, rest);
+    }
+    unfinished(words)
+}
+
+// The statements at nodes p and q, side by side.
+fn par_at(
+    program: &[u8],
+    ends: &[usize; 200],
+    p: usize,
+    q: usize,
+    words: [u16; 16],
+    budget: u32,
+) -> Ran
+    requires { ⌜ Ready (now program) (now ends) (par (stmtAt (now program) p) (stmtAt (now program) q)) × (p ≤ q) ⌝ }
+    ensures { λ r. ⌜ Stands budget (run budget (par (stmtAt (now (program .entry)) p) (stmtAt (now (program .entry)) q)) (storeOf words)) r ⌝ }
+{
+    let first = run_at(program, ends, p, words, budget);
+    if first.ended {
+        let second = run_at(program, ends, q, words, budget);
+        if second.ended {
+            let a = first.words;
+            let b = second.words;
+            return Ran {
+                words: joined(words, a, b),
+                ended: true,
+                time: larger(first.time, second.time),
+            };
+        }
+        return unfinished(words);
+    }
+    unfinished(words)
+}
+
+// If the expression at node e is true, the statement at node p, else that at node q.
+fn if_at(
+    program: &[u8],
+    ends: &[usize; 200],
+    e: usize,
+    p: usize,
+    q: usize,
+    d: u32,
+    words: [u16; 16],
+    budget: u32,
+) -> Ran
+    requires { ⌜ Ready (now program) (now ends) (ite d (exprAt (now program) e) (stmtAt (now program) p) (stmtAt (now program) q)) × (p ≤ q) ⌝ }
+    ensures { λ r. ⌜ Stands budget (run budget (ite d (exprAt (now (program .entry)) e) (stmtAt (now (program .entry)) p) (stmtAt (now (program .entry)) q)) (storeOf words)) r ⌝ }
+{
+    if budget < d {
+        return unfinished(words);
+    }
+    if eval_at(program, ends, e, words) == 0 {
+        return later(d, run_at(program, ends, q, words, budget - d));
+    }
+    later(d, run_at(program, ends, p, words, budget - d))
+}
+
+// While the expression at node e is true, the statement at node p.
+fn while_at(
+    program: &[u8],
+    ends: &[usize; 200],
+    e: usize,
+    p: usize,
+    d: u32,
+    words: [u16; 16],
+    budget: u32,
+) -> Ran
+    requires { ⌜ Ready (now program) (now ends) (while d (exprAt (now program) e) (stmtAt (now program) p)) ⌝ }
+    ensures { λ r. ⌜ Stands budget (run budget (while d (exprAt (now (program .entry)) e) (stmtAt (now (program .entry)) p)) (storeOf words)) r ⌝ }
+{
+    let mut held = words;
+    let mut left = budget;
+    while d <= left {
+        let rest = left - d;
+        if eval_at(program, ends, e, held) == 0 {
+            return Ran {
+                words: held,
+                ended: true,
+                time: budget - rest,
+            };
+        }
+        let turn = run_at(program, ends, p, held, rest);
+        if turn.ended {
+            held = turn.words;
+            left = rest - turn.time;
+        } else {
+            return unfinished(words);
+        }
+    }
+    unfinished(words)
+}
+
+// The statement at node p, until the expression at node e is true.
+fn repeat_at(
+    program: &[u8],
+    ends: &[usize; 200],
+    e: usize,
+    p: usize,
+    d: u32,
+    words: [u16; 16],
+    budget: u32,
+) -> Ran
+    requires { ⌜ Ready (now program) (now ends) (repeat d (exprAt (now program) e) (stmtAt (now program) p)) ⌝ }
+    ensures { λ r. ⌜ Stands budget (run budget (repeat d (exprAt (now (program .entry)) e) (stmtAt (now (program .entry)) p)) (storeOf words)) r ⌝ }
+{
+    let mut held = words;
+    let mut left = budget;
+    loop {
+        let turn = run_at(program, ends, p, held, left);
+        if turn.ended {
+            held = turn.words;
+        } else {
+            return unfinished(words);
+        }
+        let rest = left - turn.time;
+        if rest < d {
+            return unfinished(words);
+        }
+        left = rest - d;
+        if eval_at(program, ends, e, held) != 0 {
+            return Ran {
+                words: held,
+                ended: true,
+                time: budget - left,
+            };
+        }
+    }
+}
+
+// The statement at node i, from these words.
+fn run_at(program: &[u8], ends: &[usize; 200], i: usize, words: [u16; 16], budget: u32) -> Ran
+    requires { ⌜ Ready (now program) (now ends) (stmtAt (now program) i) ⌝ }
+    ensures { λ r. ⌜ Stands budget (run budget (stmtAt (now (program .entry)) i) (storeOf words)) r ⌝ }
+{
+    let count = program.len() / 4;
+    if count <= i {
+        return pause(words, 0, budget);
+    }
+    let node = program::read_node(program, i);
+    let kind = node.kind;
+    if kind <= 16 {
+        return pause(words, 0, budget);
+    }
+    let d = node.delay as u32;
+    let second = program::next(ends, count, i + 1);
+    match kind {
+        17 => pause(words, d, budget),
+        18 => assign_at(program, ends, i + 1, node.n, d, words, budget),
+        19 => seq_at(program, ends, i + 1, second, words, budget),
+        20 => par_at(program, ends, i + 1, second, words, budget),
+        21 => {
+            let third = program::next(ends, count, second);
+            if_at(program, ends, i + 1, second, third, d, words, budget)
+        }
+        22 => while_at(program, ends, i + 1, second, d, words, budget),
+        _ => repeat_at(program, ends, i + 1, second, d, words, budget),
+    }
+}
+
+// The start words, in 32 bytes.
+fn start_words(bytes: &[u8]) -> [u16; 16]
+    requires { ⌜ 32 ≤ length (now bytes) ⌝ }
+    ensures { λ r. ⌜ r ≡ listed (wordAt (now (bytes .entry))) 0 16 ⌝ }
+{
+    let mut words = [0u16; 16];
+    let mut x: usize = 0;
+    while x < 16 {
+        words[x] = word::get16(bytes, 2 * x);
+        x += 1;
+    }
+    words
+}
+
+fn refused(number: u8, place: usize) -> Answer
+    ensures { λ r. ⌜ r ≡ refusedAnswer (record { number = number; place = place }) ⌝ }
+{
+    Answer {
+        outcome: Outcome::Refused(Refusal { number, place }),
+        instant: 0,
+        count: 0,
+        words: [0u16; 16],
+    }
+}
+
+fn ended_at(time: u32, words: [u16; 16]) -> Answer
+    requires { ⌜ time ≤ 1000000 ⌝ }
+    ensures { λ r. ⌜ r ≡ referenceAnswer time (ended time (storeOf words)) ⌝ }
+{
+    Answer {
+        outcome: Outcome::Ended,
+        instant: time,
+        count: time + 1,
+        words,
+    }
+}
+
+// The answer of a run within a budget.
+fn answer(ran: Ran, budget: u32) -> Answer
+    requires { ⌜ (ran .time ≤ budget) × (budget ≤ 1000000) ⌝ }
+    ensures { λ r. ⌜ r ≡ referenceAnswer budget (runOf ran) ⌝ }
+{
+    if ran.ended {
+        let words = ran.words;
+        return ended_at(ran.time, words);
+    }
+    Answer {
+        outcome: Outcome::Open,
+        instant: budget,
+        count: budget + 1,
+        words: [0u16; 16],
+    }
+}
+
+// The check, and then the run of the whole program from 32 bytes of start words.
+pub fn reference_run(program: &[u8], words: &[u8], budget: u32) -> Answer
+    ensures { λ r. ⌜ r ≡ referenceCall (now (program .entry)) (now (words .entry)) budget ⌝ }
+{
+    let told = program::scan(program);
+    let checked = told.checked;
+    match checked {
+        Checked::Refused(r) => refused(r.number, r.place),
+        Checked::Accepted => {
+            if 1000000 < budget {
+                return refused(13, 0);
+            }
+            if words.len() < 32 {
+                return refused(14, 0);
+            }
+            let ends = told.ends;
+            let ran = run_at(program, &ends, 0, start_words(words), budget);
+            answer(ran, budget)
+        }
+    }
+}

@@ -3,7 +3,7 @@
 -- bytes or cells, or the instant; 12 to 15 the finish cell, or the count; then the sixteen words. Assumes nothing: definitions.
 use mathlib.Core.Bool.{Bool}
 use mathlib.Core.List.{List}
-use Prim.Native.Nat.{ℕ, zero, suc, _+_, _*_, _%_}
+use Prim.Native.Nat.{ℕ, _+_, _*_, _%_}
 use lib.ListN.{length, getD, replicate}
 use lib.Dec.{leb}
 use Rattle.model.specs.declared.Refusal.{Refusal}

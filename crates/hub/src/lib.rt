@@ -1,8 +1,9 @@
 // The public calls. None has a requires; each contract is one equation for the answer and one for each lent list at exit, with model/Calls.
 ghost use mathlib.Core.Path.{_≡_};
-ghost use Rattle.model.specs.Calls.{checkCall, writeCall, readCall, beginCall, continueCall, runNetlistCall};
+ghost use Rattle.model.specs.Calls.{checkCall, compileCall, writeCall, readCall, beginCall, continueCall, runNetlistCall, runProgramCall, referenceCall};
 
 pub mod exports; // the calls for other languages
+pub mod full; // the full run of a program
 pub mod reply; // answers as bytes
 
 use model::Answer;
@@ -13,6 +14,14 @@ pub fn check(program: &[u8]) -> Checked
     ensures { λ r. ⌜ r ≡ checkCall (now (program .entry)) ⌝ }
 {
     program::check(program)
+}
+
+// The program's netlist file, into a lent buffer.
+pub fn compile(program: &[u8], file: &mut [u8]) -> Written
+    ensures answer { λ r. ⌜ r ≡ compileCall (now (program .entry)) (now (file .entry)) .answer ⌝ }
+    ensures lent { λ _. ⌜ now (file .exit) ≡ compileCall (now (program .entry)) (now (file .entry)) .lent ⌝ }
+{
+    compiler::compile(program, file)
 }
 
 pub fn write_netlist(cells: &[u8], finish: u16, file: &mut [u8]) -> Written
@@ -51,4 +60,30 @@ pub fn run_netlist(netlist: &[u8], words: &[u8], budget: u32, state: &mut [u8]) 
     ensures lent { λ _. ⌜ now (state .exit) ≡ runNetlistCall (now (netlist .entry)) (now (words .entry)) budget (now (state .entry)) .lent ⌝ }
 {
     simulator::run_netlist(netlist, words, budget, state)
+}
+
+// A compiling and a full run of what it wrote, in two lent buffers.
+pub fn run_program(
+    program: &[u8],
+    words: &[u8],
+    budget: u32,
+    netlist: &mut [u8],
+    state: &mut [u8],
+) -> Answer
+    ensures answer { λ r. ⌜ r ≡ runProgramCall (now (program .entry)) (now (words .entry)) budget (now (netlist .entry)) (now (state .entry)) .answer ⌝ }
+    ensures netlist { λ _. ⌜ now (netlist .exit) ≡ runProgramCall (now (program .entry)) (now (words .entry)) budget (now (netlist .entry)) (now (state .entry)) .netlist ⌝ }
+    ensures state { λ _. ⌜ now (state .exit) ≡ runProgramCall (now (program .entry)) (now (words .entry)) budget (now (netlist .entry)) (now (state .entry)) .state ⌝ }
+{
+    let checked = full::check(program, words, budget, netlist, state);
+    if let Checked::Refused(r) = checked {
+        return simulator::refused(r);
+    }
+    full::run(program, words, budget, netlist, state)
+}
+
+// The program by its own rules, without a circuit.
+pub fn reference_run(program: &[u8], words: &[u8], budget: u32) -> Answer
+    ensures { λ r. ⌜ r ≡ referenceCall (now (program .entry)) (now (words .entry)) budget ⌝ }
+{
+    rules::reference_run(program, words, budget)
 }

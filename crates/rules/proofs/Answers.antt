@@ -16,13 +16,15 @@ use Rattle.model.specs.declared.Outcome.the-variants.{Ended, Open}
 use Rattle.model.specs.Program.{programOf, checkOf}
 use Rattle.model.specs.Rules.{ended, run}
 use Rattle.model.specs.Refusals.{refuseIf, first}
-use Rattle.model.specs.Calls.{wordAt, listed, refusedAnswer, referenceAnswer, answering, overBudget, short, referenceCall}
+use Rattle.model.specs.Calls.{wordAt, listed, refusedAnswer, referenceAnswer, answering, referenceCall}
 use Rattle.theory.specs.Program.Accepted.{program-fit}
 use Rattle.rules.specs.declared.Ran.{Ran}
-use Rattle.rules.specs.Ran.{storeOf, runOf}
+use Rattle.rules.specs.Ran.{storeOf, runOf, Stands}
 use Rattle.rules.proofs.Words.{filled-listed, listed-at}
 use Rattle.rules.proofs.Sixteen.{same-answer}
 use Rattle.rules.proofs.Runs.{run-ended, run-still}
+
+-- Runs ---------------------------------------------------------------------------------------------------------------------------------
 
 pub answer-words : (t : ℕ) (ws : List ℕ) → length ws ≡ 16
     → record { outcome = Ended; instant = t; count = t + 1; words = ws } ≡ referenceAnswer t (ended t (storeOf ws))
@@ -42,33 +44,37 @@ module _ (n : ℕ) (r : Ran) where
   unfolding referenceAnswer
   answer-open e = sym (ap (referenceAnswer n) (run-still r e))
 
+-- Calls --------------------------------------------------------------------------------------------------------------------------------
+
 module _ (s bytes : List ℕ) (n : ℕ) where
-  call-is : (c : Checked) → checkOf s ≡ c → (over few : Bool) → ltb 1000000 n ≡ over → ltb (length bytes) 32 ≡ few
-      → referenceCall s bytes n
-      ≡ answering (first (c ∷ refuseIf over 13 0 ∷ refuseIf few 14 0 ∷ [])) (referenceAnswer n (run n (programOf s) (wordAt bytes)))
+  -- where the check says c, the budget is too large or not, and the start words are too few or not
+  abbrev answerBy : Checked → Bool → Bool → Answer
+  answerBy c large few =
+      answering (first (c ∷ refuseIf large 13 0 ∷ refuseIf few 14 0 ∷ [])) (referenceAnswer n (run n (programOf s) (wordAt bytes)))
+
+  call-by : (c : Checked) → checkOf s ≡ c → (large few : Bool) → ltb 1000000 n ≡ large → ltb (length bytes) 32 ≡ few
+      → answerBy c large few ≡ referenceCall s bytes n
   unfolding referenceCall
-  call-is c ec over few eo ef =
-      let answer : Checked → Bool → Bool → Answer =
-      λ c over few. answering (first (c ∷ refuseIf over 13 0 ∷ refuseIf few 14 0 ∷ [])) (referenceAnswer n (run n (programOf s) (wordAt bytes))) in
-      ap (λ (c : Checked). answer c (ltb 1000000 n) (ltb (length bytes) 32)) ec ∙ ap₂ (answer c) eo ef
+  call-by c ec large few el ef = sym (ap (λ (c : Checked). answerBy c (ltb 1000000 n) (ltb (length bytes) 32)) ec ∙ ap₂ (answerBy c) el ef)
 
   pub call-refused : (r : Refusal) → checkOf s ≡ Refused r → refusedAnswer r ≡ referenceCall s bytes n
   unfolding answering
-  call-refused r e = sym (call-is (Refused r) e _ _ refl refl)
+  call-refused r e = call-by (Refused r) e _ _ refl refl
 
   module _ (e : checkOf s ≡ Accepted) where
     pub call-over : 1000000 < n → refusedAnswer (record { number = 13; place = 0 }) ≡ referenceCall s bytes n
     unfolding answering
-    call-over h = sym (call-is Accepted e true _ (lt-ltb _ _ h) refl)
+    call-over h = call-by Accepted e true _ (lt-ltb _ _ h) refl
 
     pub call-short : n ≤ 1000000 → length bytes < 32 → refusedAnswer (record { number = 14; place = 0 }) ≡ referenceCall s bytes n
     unfolding answering
-    call-short h l = sym (call-is Accepted e false true (le-ltb _ _ h) (lt-ltb _ _ l))
+    call-short h l = call-by Accepted e false true (le-ltb _ _ h) (lt-ltb _ _ l)
 
     pub call-runs : n ≤ 1000000 → 32 ≤ length bytes → (ws : List ℕ) → ws ≡ listed (wordAt bytes) 0 16
-        → referenceAnswer n (run n (programOf s) (storeOf ws)) ≡ referenceCall s bytes n
+        → (r : Ran) → Stands n (run n (programOf s) (storeOf ws)) r → (a : Answer) → a ≡ referenceAnswer n (runOf r) → a ≡ referenceCall s bytes n
     unfolding answering storeOf
-    call-runs h l ws ew =
-        same-answer (programOf s) (program-fit s e .formed) n (storeOf ws) (wordAt bytes)
+    call-runs h l ws ew r R a ea =
+        ea ∙ ap (referenceAnswer n) (R .is)
+        ∙ same-answer (programOf s) (program-fit s e .formed) n (storeOf ws) (wordAt bytes)
         (λ x m. ap (λ (ws : List ℕ). getD ws x 0) ew ∙ listed-at (wordAt bytes) 16 0 x m ∙ ap (wordAt bytes) (omega arith))
-        ∙ sym (call-is Accepted e false false (le-ltb _ _ h) (le-ltb _ _ l))
+        ∙ call-by Accepted e false false (le-ltb _ _ h) (le-ltb _ _ l)

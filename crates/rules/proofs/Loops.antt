@@ -1,7 +1,7 @@
 -- The run of a loop, one turn further; and a loop on its way, from the whole budget to what is left of it.
 -- Assumes that a loop's delay is at least 1, where it goes round.
 use mathlib.Core.Path.{_≡_, refl, sym, _∙_, ap}
-use mathlib.Core.Bool.{Bool, true, false}
+use mathlib.Core.Bool.{true, false}
 use mathlib.Core.List.{List}
 use Prim.Native.Nat.{ℕ, zero, suc, _+_, _-_, _≤_, _<_}
 use native.Mathlib.Omega.{arith}
@@ -76,6 +76,13 @@ module _ (d : ℕ) (e : Expr) (P : Stmt) (k : ℕ) (σ : Store) where
   abbrev body : Body
   body k₁ σ₁ = run k₁ P σ₁
 
+  -- a while after its turn, and a repeat after its own
+  abbrev whileRest : ℕ → Store → Run
+  whileRest t σ₁ = whiles body d e k (k - d - t) σ₁
+
+  abbrev repeatRest : ℕ → Store → Run
+  repeatRest t σ₁ = again body d e k (k - t) σ₁
+
   pub while-out : k < d → run k (while d e P) σ ≡ still
   unfolding run whiles
   while-out l = wait-short d k _ l
@@ -87,38 +94,38 @@ module _ (d : ℕ) (e : Expr) (P : Stmt) (k : ℕ) (σ : Store) where
     while-end z = whiles-stop body d e k k σ (eq-eqb _ 0 (sym ev ∙ z)) ∙ wait-is d k _ l
 
     module _ (n : v ≡ 0 → ⊥) (r : Ran) (R : Stands (k - d) (run (k - d) P σ) r) where
-      while-turn : run k (while d e P) σ ≡ after d (chain (runOf r) (λ t σ₁. whiles body d e k (k - d - t) σ₁))
+      while-turn : run k (while d e P) σ ≡ after d (chain (runOf r) whileRest)
       unfolding run
       while-turn =
           whiles-more body d e k k σ (ne-eqb _ 0 (λ z. n (ev ∙ z))) ∙ wait-is d k _ l
-          ∙ ap (λ (q : Run). after d (chain q (λ t σ₁. whiles body d e k (k - d - t) σ₁))) (sym (R .is))
+          ∙ ap (λ (q : Run). after d (chain q whileRest)) (sym (R .is))
 
       pub while-stuck : r .ended ≡ false → run k (while d e P) σ ≡ still
       unfolding chain after
-      while-stuck f = while-turn ∙ ap (λ (q : Run). after d (chain q (λ t σ₁. whiles body d e k (k - d - t) σ₁))) (run-still r f)
+      while-stuck f = while-turn ∙ ap (λ (q : Run). after d (chain q whileRest)) (run-still r f)
 
       pub while-on : r .ended ≡ true → 1 ≤ d
           → run k (while d e P) σ ≡ after (d + r .time) (run (k - d - r .time) (while d e P) (storeOf (r .words)))
       unfolding chain run
       while-on f one =
           let t = r .time in
-          while-turn ∙ ap (λ (q : Run). after d (chain q (λ t σ₁. whiles body d e k (k - d - t) σ₁))) (run-ended r f) ∙ after-after d t _
+          while-turn ∙ ap (λ (q : Run). after d (chain q whileRest)) (run-ended r f) ∙ after-after d t _
           ∙ ap (after (d + t)) (whiles-enough body d e one k (suc (k - d - t)) (k - d - t) (storeOf (r .words)) (omega arith) (omega arith))
 
   -- the turn r, and where it ended the test, whose word is v
   module _ (r : Ran) (R : Stands k (run k P σ) r) where
-    repeat-turn : run k (repeat d e P) σ ≡ chain (runOf r) (λ t σ₁. again body d e k (k - t) σ₁)
+    repeat-turn : run k (repeat d e P) σ ≡ chain (runOf r) repeatRest
     unfolding run
-    repeat-turn = repeats-is body d e k k σ ∙ ap (λ (q : Run). chain q (λ t σ₁. again body d e k (k - t) σ₁)) (sym (R .is))
+    repeat-turn = repeats-is body d e k k σ ∙ ap (λ (q : Run). chain q repeatRest) (sym (R .is))
 
     pub repeat-stuck : r .ended ≡ false → run k (repeat d e P) σ ≡ still
     unfolding chain
-    repeat-stuck f = repeat-turn ∙ ap (λ (q : Run). chain q (λ t σ₁. again body d e k (k - t) σ₁)) (run-still r f)
+    repeat-stuck f = repeat-turn ∙ ap (λ (q : Run). chain q repeatRest) (run-still r f)
 
     module _ (f : r .ended ≡ true) where
       repeat-turned : run k (repeat d e P) σ ≡ after (r .time) (again body d e k (k - r .time) (storeOf (r .words)))
       unfolding chain
-      repeat-turned = repeat-turn ∙ ap (λ (q : Run). chain q (λ t σ₁. again body d e k (k - t) σ₁)) (run-ended r f)
+      repeat-turned = repeat-turn ∙ ap (λ (q : Run). chain q repeatRest) (run-ended r f)
 
       pub repeat-out : k - r .time < d → run k (repeat d e P) σ ≡ still
       unfolding again after

@@ -1,23 +1,22 @@
 -- The run of each kind of statement but loops, in the form in which the code takes it.
--- Assumes of a parallel that its sides are apart (`Fit`).
+-- Assumes of a parallel that its sides are apart (`Separate`).
 use mathlib.Core.Path.{_≡_, refl, sym, _∙_, ap, ap₂, fun-ext}
 use mathlib.Core.Bool.{Bool, true, false}
 use mathlib.Core.List.{List}
-use Prim.Native.Nat.{ℕ, suc, _+_, _-_, _≤_, _<_, max}
+use Prim.Native.Nat.{ℕ, _+_, _-_, _≤_, _<_, max}
 use native.Mathlib.Omega.{arith}
 use native.Mathlib.Numerals.{add-one}
 use native.Mathlib.Nat.{add-zero}
 use native.Mathlib.Decide.{ℕ-discrete}
 use lib.Dec.{eqb}
 use borrow.Author.Tests.{eq-eqb, ne-eqb}
-use Rattle.model.specs.Word.{pick, isZero}
+use Rattle.model.specs.Word.{pick}
 use Rattle.model.specs.Program.{Expr, Stmt, ok, assign, seq, par, ite, writes}
 use Rattle.model.specs.Rules.{Store, Run, ended, still, eval, put, over, kept, after, wait, chain, both, run}
-use Rattle.theory.specs.Control.Wiring.{Separate}
-use Rattle.theory.specs.Control.Uses.{leaves, writes-touches, apart-unwritten}
+use Rattle.theory.specs.Program.Fit.{Separate}
+use Rattle.theory.specs.Rules.Uses.{leaves, writes-touches, apart-unwritten}
 use Rattle.theory.specs.Refusals.Laws.{by-bool}
 use Rattle.theory.specs.Rules.Laws.{wait-is, wait-short, both-of, ite-then, ite-else}
-use Rattle.theory.specs.Program.Accepted.{Fit}
 use Rattle.rules.specs.declared.Ran.{Ran}
 use Rattle.rules.specs.Ran.{storeOf, runOf, Stands, joins}
 
@@ -123,15 +122,15 @@ module _ (P Q : Stmt) (k : ℕ) (σ : Store) (f : Ran) (F : Stands k (run k P σ
     unfolding run both
     par-second-still e′ r S = stands-still S (ap₂ (both (kept P Q σ)) (sym (F .is) ∙ run-ended f e) (sym (G .is) ∙ run-still g e′))
 
-    pub par-ends : Fit (par P Q) → g .ended ≡ true → (t : ℕ) → t ≡ max (f .time) (g .time) → (w : List ℕ)
+    pub par-ends : Separate (par P Q) → g .ended ≡ true → (t : ℕ) → t ≡ max (f .time) (g .time) → (w : List ℕ)
         → storeOf w ≡ joins σ (storeOf (f .words)) (storeOf (g .words))
         → Stands k (run k (par P Q) σ) (record { words = w; ended = true; time = t })
     unfolding run runOf
-    par-ends fit e′ t et w ew =
+    par-ends apart e′ t et w ew =
         let p = sym (F .is) ∙ run-ended f e in
         let q = sym (G .is) ∙ run-ended g e′ in
         record {
-          is = ap₂ ended et (ew ∙ joins-kept P Q (fit .separate) k _ _ σ _ _ p q) ∙ sym (both-of (kept P Q σ) _ _ p q);
+          is = ap₂ ended et (ew ∙ joins-kept P Q apart k _ _ σ _ _ p q) ∙ sym (both-of (kept P Q σ) _ _ p q);
           within = omega (arith, F .within, G .within);
         }
 

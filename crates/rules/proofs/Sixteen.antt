@@ -1,18 +1,17 @@
 -- The rules look at no word but the first sixteen: from stores that agree on these, a run ends at the same time, with words that agree.
--- Assumes that the statement's variables are below 16 (`WF`).
-use mathlib.Core.Path.{_≡_, refl, sym, _∙_, ap, ap₂}
+-- Assumes that the statement's variables are below 16 (`Formed`).
+use mathlib.Core.Path.{_≡_, refl, ap, ap₂}
 use mathlib.Core.Bool.{Bool, true, false}
 use mathlib.Core.List.{List, _∷_}
 use Prim.Native.Nat.{ℕ, zero, suc, _+_, _-_, _≤_, _<_, max}
 use native.Mathlib.Omega.{arith}
 use lib.Dec.{leb, eqb}
-use Rattle.model.specs.declared.Answer.{Answer}
 use Rattle.model.specs.declared.Outcome.the-variants.{Ended}
 use Rattle.model.specs.Word.{pick, isZero, operate}
 use Rattle.model.specs.Program.{Expr, const, var, compl, op, Stmt, ok, tick, assign, seq, par, ite, while, repeat, writes}
 use Rattle.model.specs.Rules.{Store, Run, ended, still, eval, put, over, kept, after, wait, chain, both, whiles, repeats, run}
 use Rattle.model.specs.Calls.{listed, referenceAnswer}
-use Rattle.theory.specs.Numbering.Structure.{WFe, WF}
+use Rattle.theory.specs.Program.Fit.{FormedExpr, Formed}
 use Rattle.theory.specs.Rules.Laws.{Body}
 
 abbrev pub Agree : Store → Store → Type 0
@@ -26,7 +25,7 @@ Alike still still = Unit {0}
 
 -- Words --------------------------------------------------------------------------------------------------------------------------------
 
-eval-agree : (e : Expr) → WFe e → (σ τ : Store) → Agree σ τ → eval e σ ≡ eval e τ
+eval-agree : (e : Expr) → FormedExpr e → (σ τ : Store) → Agree σ τ → eval e σ ≡ eval e τ
 unfolding eval
 eval-agree (const n) w σ τ h = refl
 eval-agree (var n) w σ τ h = h n w
@@ -97,7 +96,7 @@ test-alike false true f g f′ g′ e p q = let z : _≡_ {A = ℕ} 0 1 = cc in 
 
 -- Loops --------------------------------------------------------------------------------------------------------------------------------
 
-module _ (body : Body) (d : ℕ) (e : Expr) (w : WFe e) (h : AlikeOn body body) where
+module _ (body : Body) (d : ℕ) (e : Expr) (w : FormedExpr e) (h : AlikeOn body body) where
   zero-alike : (σ τ : Store) → Agree σ τ → isZero (eval e σ) ≡ isZero (eval e τ)
   zero-alike σ τ a = ap isZero (eval-agree e w σ τ a)
 
@@ -121,7 +120,7 @@ module _ (body : Body) (d : ℕ) (e : Expr) (w : WFe e) (h : AlikeOn body body) 
 
 -- Statements ---------------------------------------------------------------------------------------------------------------------------
 
-run-alike : (P : Stmt) → WF P → AlikeOn (λ k σ. run k P σ) (λ k σ. run k P σ)
+run-alike : (P : Stmt) → Formed P → AlikeOn (λ k σ. run k P σ) (λ k σ. run k P σ)
 unfolding run
 run-alike ok w = λ k σ τ h. (refl, h)
 run-alike (tick d) w = λ k σ τ h. wait-alike d k _ _ (λ k₁. (refl, h))
@@ -153,6 +152,6 @@ alike-answer n (ended t σ) still h = absurd h
 alike-answer n still (ended u τ) h = absurd h
 alike-answer n still still h = refl
 
-pub same-answer : (P : Stmt) → WF P → (n : ℕ) (σ τ : Store) → Agree σ τ
+pub same-answer : (P : Stmt) → Formed P → (n : ℕ) (σ τ : Store) → Agree σ τ
     → referenceAnswer n (run n P σ) ≡ referenceAnswer n (run n P τ)
 same-answer P w n σ τ h = alike-answer n (run n P σ) (run n P τ) (run-alike P w n σ τ h)

@@ -2,7 +2,7 @@
 // Contracts are equations with model/Rules and model/Calls; specs/Ran says what words and runs in code stand for.
 // Each kind of statement has a function that runs it from its children's nodes.
 ghost use mathlib.Core.Path.{_≡_};
-ghost use Prim.Native.Nat.{suc, _+_, _≤_, _<_, max};
+ghost use Prim.Native.Nat.{_+_, _≤_, _<_, max};
 ghost use lib.ListN.{length};
 ghost use lib.Dec.{eqb};
 ghost use Rattle.model.specs.Word.{pick};
@@ -66,6 +66,7 @@ fn eval_at(program: &[u8], ends: &[usize; 200], i: usize, words: [u16; 16]) -> u
     word::operate(kind, first, second)
 }
 
+// A run that has not ended; its words and time say nothing.
 fn unfinished(words: [u16; 16]) -> Ran
     ensures { λ r. ⌜ Stands 0 still r ⌝ }
 {
@@ -321,7 +322,7 @@ fn run_at(program: &[u8], ends: &[usize; 200], i: usize, words: [u16; 16], budge
     }
 }
 
-// The start words, in 32 bytes.
+// The start words, from 32 bytes; what lies past them is not looked at.
 fn start_words(bytes: &[u8]) -> [u16; 16]
     requires { ⌜ 32 ≤ length (now bytes) ⌝ }
     ensures { λ r. ⌜ r ≡ listed (wordAt (now (bytes .entry))) 0 16 ⌝ }

@@ -15,7 +15,7 @@ use Rattle.model.specs.declared.Cell.{Cell}
 use Rattle.model.specs.declared.Checked.the-variants.{Accepted}
 use Rattle.model.specs.Word.{pick}
 use Rattle.model.specs.Circuit.{cellAt, memories, Shape, shape, kConstant, kComplement, kOperator, kStart, kGround, kDelay, kOr, kWhenTrue, kWhenFalse, kMerge, kMemory, kGated, kUnknown}
-use Rattle.model.specs.NetlistFile.{cellBytes, cellFrom, inList, inFile, blocksFor, countOf, finishOf, cellsOf, fileLengthWrong, controlIn, wordIn, keeps, fileCheck}
+use Rattle.model.specs.NetlistFile.{cellBytes, cellFrom, cellsAt, inList, inFile, blocksFor, countOf, finishOf, cellsOf, fileLengthWrong, controlIn, wordIn, keeps, fileCheck}
 use Rattle.model.specs.State.{stateSize, instantOf, beginState}
 use Rattle.model.specs.Promises.{stateAt}
 use Rattle.theory.specs.Refusals.Laws.{and-true, or-false, not-both}
@@ -23,7 +23,7 @@ use Rattle.theory.specs.NetlistFile.Passed.{looks, net-passed, file-passed, cou
 use Rattle.theory.specs.NetlistFile.CellBytes.{from-bytes, bytes-length, cells-are, cell-of}
 use Rattle.theory.specs.Promises.Demands.{demand2}
 use Rattle.simulator.specs.Fits.{Stands, Sees, netOf, Fits, Runs}
-use Rattle.simulator.proofs.Passes.{net-cell}
+use Rattle.simulator.proofs.Cells.{net-cell}
 
 -- Sizes --------------------------------------------------------------------------------------------------------------------------------
 
@@ -146,13 +146,21 @@ module _ (net : List Cell) (k : ℕ) (h : k < length net) (c : Cell) where
 -- A copy of the cells ------------------------------------------------------------------------------------------------------------------
 
 -- a list over which the bytes of cells have been put
-pub copied : (cells : List ℕ) (net : List Cell) (n : ℕ) → length net ≡ n → 6 * n ≤ length cells → netOf (sets cells 0 (cellBytes net)) n ≡ net
+copied : (cells : List ℕ) (net : List Cell) (n : ℕ) → length net ≡ n → 6 * n ≤ length cells → netOf (sets cells 0 (cellBytes net)) n ≡ net
 copied cells net n e h =
     cells-are inList (sets cells 0 (cellBytes net)) net 0 n e
     (λ i l.
     ap (λ (j : ℕ). cellFrom (sets cells 0 (cellBytes net)) (6 * j)) (zero-add i)
     ∙ ap (λ (r : List ℕ). cellFrom r (6 * i)) (sets-eq (cellBytes net) cells 0 (omega (arith, bytes-length net)))
     ∙ from-bytes net (drop (0 + length (cellBytes net)) cells) i (omega arith))
+
+pub loaded : (file cells t : List ℕ) (n : ℕ) → fileCheck file ≡ Accepted → 6144 ≤ length cells → n ≡ countOf file
+    → t ≡ sets cells 0 (cellBytes (cellsAt inFile file 0 n)) → netOf t n ≡ cellsOf file
+unfolding cellsOf
+loaded file cells t n a h z e =
+    let n′ : ℕ = countOf file in
+    let y : t ≡ sets cells 0 (cellBytes (cellsOf file)) = rw z at e in
+    rw (z, y) (copied cells (cellsOf file) n′ (count-cells file) (omega (arith, sized file a .few)))
 
 pub file-cell : (file : List ℕ) (k : ℕ) → k < countOf file → cellAt (cellsOf file) k ≡ cellFrom file (inFile k)
 unfolding cellsOf
@@ -186,9 +194,11 @@ module _ (file s : List ℕ) (r : Runs file s) where
             rw y at (file-sees k (rw z at l));
       }
 
-  pub begin-instant : (words : ℕ → ℕ) → instantOf (beginState (cellsOf file) words s) ≡ 0
+  pub begin-instant : (net : List Cell) (words : ℕ → ℕ) (b : List ℕ) → net ≡ cellsOf file → b ≡ beginState net words s → instantOf b ≡ 0
   unfolding stateAt
-  begin-instant words = demand2 .runs file words (r .accepted) .states s (r .room) 0 .instant (omega arith)
+  begin-instant net words b e h =
+      let z : b ≡ beginState (cellsOf file) words s = rw e at h in
+      rw z (demand2 .runs file words (r .accepted) .states s (r .room) 0 .instant (omega arith))
 
 -- a state that is as long can be run as well
 pub reruns : {file s t : List ℕ} → Runs file s → length t ≡ length s → Runs file t

@@ -1,8 +1,9 @@
--- Answers of runs, and full runs from their two parts. Assumes nothing.
+-- Answers of runs: what a state shows, and the results of continuings and full runs in terms of the file. Assumes nothing.
 use mathlib.Core.Bool.{Bool, true, false}
 use mathlib.Core.List.{List}
-use mathlib.Core.Path.{_≡_, refl}
+use mathlib.Core.Path.{_≡_, refl, _∙_, ap}
 use Prim.Native.Nat.{ℕ, _+_}
+use Rattle.model.specs.declared.Cell.{Cell}
 use Rattle.model.specs.declared.Outcome.the-variants.{Ended, Open}
 use Rattle.model.specs.Word.{pick}
 use Rattle.model.specs.Circuit.{high}
@@ -15,14 +16,30 @@ pub answer-shows : (file s : List ℕ) (n : ℕ) (b : Bool) (t : ℕ) (words : L
 unfolding shows
 answer-shows file s n b t words h e f = rw (h, e, f) refl
 
-module _ (file words : List ℕ) (n : ℕ) (s : List ℕ) where
-  pub full-ended : high (nowAt (beginState (cellsOf file) (wordAt words) s) (finishOf file)) ≡ true
-      → (fullState file words n s ≡ beginState (cellsOf file) (wordAt words) s) × (fullCount file words n s ≡ 1)
-  unfolding fullState fullCount
-  full-ended h = (rw h refl, rw h refl)
+-- net and f are the cells and the finish of the file
+module _ (file : List ℕ) (net : List Cell) (f : ℕ) (is-net : net ≡ cellsOf file) (is-finish : f ≡ finishOf file) where
+  -- t is the state that a continuing of s by n leaves, after k instants
+  module _ (n : ℕ) (s t : List ℕ) (k : ℕ) (last : t ≡ lastState net f n s) (count : k ≡ evaluated net f n s) where
+    pub continued : (t ≡ lastState (cellsOf file) (finishOf file) n s) × (k ≡ evaluated (cellsOf file) (finishOf file) n s)
+    continued = (rw (is-net, is-finish) at last, rw (is-net, is-finish) at count)
 
-  pub full-open : high (nowAt (beginState (cellsOf file) (wordAt words) s) (finishOf file)) ≡ false
-      → (fullState file words n s ≡ lastState (cellsOf file) (finishOf file) n (beginState (cellsOf file) (wordAt words) s))
-      × (fullCount file words n s ≡ 1 + evaluated (cellsOf file) (finishOf file) n (beginState (cellsOf file) (wordAt words) s))
-  unfolding fullState fullCount
-  full-open h = (rw h refl, rw h refl)
+  -- b is the state that a beginning on s leaves
+  module _ (words : List ℕ) (n : ℕ) (s b : List ℕ) (begun : b ≡ beginState net (wordAt words) s) where
+    begun-file : b ≡ beginState (cellsOf file) (wordAt words) s
+    begun-file = rw is-net at begun
+
+    wire : (level : Bool) → high (nowAt b f) ≡ level → high (nowAt (beginState (cellsOf file) (wordAt words) s) (finishOf file)) ≡ level
+    wire level h = rw (begun-file, is-finish) at h
+
+    pub full-ended : high (nowAt b f) ≡ true → (b ≡ fullState file words n s) × (1 ≡ fullCount file words n s)
+    unfolding fullState fullCount
+    full-ended h = (rw (wire true h) begun-file, rw (wire true h) refl)
+
+    pub full-open : high (nowAt b f) ≡ false → (t : List ℕ) (k : ℕ) → t ≡ lastState net f n b → k ≡ evaluated net f n b
+        → (t ≡ fullState file words n s) × (1 + k ≡ fullCount file words n s)
+    unfolding fullState fullCount
+    full-open h t k last count =
+        let z = continued n b t k last count in (
+          rw (wire false h) (z .0 ∙ ap (lastState (cellsOf file) (finishOf file) n) begun-file),
+          rw (wire false h) (ap (λ (m : ℕ). 1 + m) (z .1 ∙ ap (evaluated (cellsOf file) (finishOf file) n) begun-file)),
+        )

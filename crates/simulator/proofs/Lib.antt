@@ -1,3 +1,4 @@
+pub mod Cells
 pub mod Passes
 pub mod ByKind
 pub mod Memories

@@ -14,7 +14,7 @@ use Rattle.model.specs.Word.{pick, bit}
 use Rattle.model.specs.Circuit.{cellAt, noCell, memories, startWord, shape}
 use Rattle.model.specs.State.{nowAt, later, firstValue, wordsIn}
 use Rattle.theory.specs.Numbering.Whole.{memories-append}
-use Rattle.simulator.proofs.Passes.{cells-from}
+use Rattle.simulator.proofs.Cells.{cells-from}
 
 module _ (net : List Cell) (k : ℕ) (h : k < length net) where
   -- below cell k and with it

@@ -7,12 +7,13 @@ use lib.Dec.{ltb}
 use lib.ListN.{length}
 use borrow.Author.Tests.{lt-ltb, le-ltb, ltb-false}
 use Rattle.model.specs.declared.Refusal.{Refusal}
+use Rattle.model.specs.declared.Answer.{Answer}
 use Rattle.model.specs.declared.Checked.{Checked}
 use Rattle.model.specs.declared.Checked.the-variants.{Accepted, Refused}
 use Rattle.model.specs.Refusals.{refuse, first}
-use Rattle.model.specs.NetlistFile.{fileCheck, cellsOf}
-use Rattle.model.specs.State.{stateSize, instantOf, sound}
-use Rattle.model.specs.Calls.{short, refusedAnswer, shows, running, beginChecks, continueChecks, runNetlistChecks}
+use Rattle.model.specs.NetlistFile.{fileCheck, cellsOf, finishOf}
+use Rattle.model.specs.State.{stateSize, instantOf, beginState, lastState, evaluated, sound}
+use Rattle.model.specs.Calls.{Told, wordAt, short, refusedAnswer, shows, running, beginChecks, beginCall, continueChecks, continueCall, fullState, fullCount, runNetlistChecks, runNetlistCall}
 use Rattle.theory.specs.Refusals.Laws.{all-accept, refuse-unless}
 use Rattle.simulator.specs.Fits.{Runs}
 
@@ -97,13 +98,54 @@ run-accepted file words n lent e =
       ltb-false 1000000 n (refuse-unless (ltb 1000000 n) 13 0 (a 1)),
     )
 
--- What a call answers ------------------------------------------------------------------------------------------------------------------
+-- What a call answers and leaves ------------------------------------------------------------------------------------------------------
 
+-- a run that leaves s and counts n, behind a check
 module _ (c : Checked) (file s : List ℕ) (n : ℕ) (lent : List ℕ) where
-  pub refused-run : (r : Refusal) → c ≡ Refused r → running c file s n lent ≡ record { answer = refusedAnswer r; lent = lent }
+  refused-run : (r : Refusal) → c ≡ Refused r → running c file s n lent ≡ record { answer = refusedAnswer r; lent = lent }
   unfolding running
   refused-run r e = rw e refl
 
-  pub accepted-run : c ≡ Accepted → running c file s n lent ≡ record { answer = shows file s n; lent = s }
+  accepted-run : c ≡ Accepted → running c file s n lent ≡ record { answer = shows file s n; lent = s }
   unfolding running
   accepted-run e = rw e refl
+
+-- an answer a and a list t at exit are those of a call
+abbrev pub Tells : Told Answer → Answer → List ℕ → Type 0
+Tells told a t = (a ≡ told .answer) × (t ≡ told .lent)
+
+tells : (told told′ : Told Answer) (a : Answer) (t : List ℕ) → told ≡ told′ → a ≡ told′ .answer → t ≡ told′ .lent → Tells told a t
+tells told told′ a t e p q = rw e (p, q)
+
+module _ (file words lent : List ℕ) (a : Answer) where
+  pub begin-refused : (r : Refusal) → first (beginChecks file words lent) ≡ Refused r → a ≡ refusedAnswer r → Tells (beginCall file words lent) a lent
+  unfolding beginCall
+  begin-refused r e p = tells _ _ a lent (refused-run _ file _ 1 lent r e) p refl
+
+  pub begin-done : (t : List ℕ) → first (beginChecks file words lent) ≡ Accepted → a ≡ shows file (beginState (cellsOf file) (wordAt words) lent) 1
+      → t ≡ beginState (cellsOf file) (wordAt words) lent → Tells (beginCall file words lent) a t
+  unfolding beginCall
+  begin-done t e p q = tells _ _ a t (accepted-run _ file _ 1 lent e) p q
+
+module _ (file : List ℕ) (n : ℕ) (lent : List ℕ) (a : Answer) where
+  pub continue-refused : (r : Refusal) → first (continueChecks file n lent) ≡ Refused r → a ≡ refusedAnswer r → Tells (continueCall file n lent) a lent
+  unfolding continueCall
+  continue-refused r e p = tells _ _ a lent (refused-run _ file _ _ lent r e) p refl
+
+  pub continue-done : (t : List ℕ) → first (continueChecks file n lent) ≡ Accepted
+      → a ≡ shows file (lastState (cellsOf file) (finishOf file) n lent) (evaluated (cellsOf file) (finishOf file) n lent)
+      → t ≡ lastState (cellsOf file) (finishOf file) n lent → Tells (continueCall file n lent) a t
+  unfolding continueCall
+  continue-done t e p q = tells _ _ a t (accepted-run _ file _ _ lent e) p q
+
+module _ (file words : List ℕ) (n : ℕ) (lent : List ℕ) (a : Answer) where
+  pub run-refused : (r : Refusal) → first (runNetlistChecks file words n lent) ≡ Refused r → a ≡ refusedAnswer r
+      → Tells (runNetlistCall file words n lent) a lent
+  unfolding runNetlistCall
+  run-refused r e p = tells _ _ a lent (refused-run _ file _ _ lent r e) p refl
+
+  pub run-done : (t : List ℕ) → first (runNetlistChecks file words n lent) ≡ Accepted
+      → a ≡ shows file (fullState file words n lent) (fullCount file words n lent) → t ≡ fullState file words n lent
+      → Tells (runNetlistCall file words n lent) a t
+  unfolding runNetlistCall
+  run-done t e p q = tells _ _ a t (accepted-run _ file _ _ lent e) p q

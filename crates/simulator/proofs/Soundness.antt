@@ -13,7 +13,7 @@ use Rattle.model.specs.declared.Cell.{Cell}
 use Rattle.model.specs.Circuit.{cellAt}
 use Rattle.model.specs.NetlistFile.{allZero}
 use Rattle.model.specs.State.{cellSound, cellsSound}
-use Rattle.simulator.proofs.Passes.{cells-from}
+use Rattle.simulator.proofs.Cells.{cells-from}
 
 -- of m bytes from i on
 module _ (s : List ℕ) (i m : ℕ) (h : 0 < m) (l : i < length s) where

@@ -11,7 +11,7 @@ use crate::sound;
 use model::Checked;
 use model::Refusal;
 
-fn refuse(number: u8) -> Checked
+pub fn refuse(number: u8) -> Checked
     ensures { λ r. ⌜ r ≡ refuse number 0 ⌝ }
 {
     Checked::Refused(Refusal { number, place: 0 })

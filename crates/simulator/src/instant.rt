@@ -67,6 +67,7 @@ pub fn settle(c: Cell, state: &mut [u8], k: usize)
 
 // The passes -----------------------------------------------------------------------------------------------------------------------------
 
+// One instant more in the header.
 fn tick(state: &mut [u8])
     requires { ⌜ (3 < length (now state)) × (instantOf (now state) < 1000000) ⌝ }
     ensures { λ _. ⌜ now (state .exit) ≡ put32 (now (state .entry)) 0 (instantOf (now (state .entry)) + 1) ⌝ }
@@ -75,6 +76,7 @@ fn tick(state: &mut [u8])
     word::put32(state, 0, t + 1);
 }
 
+// Comes before any cell is shown: a memory looks at what any cell was an instant ago.
 fn age_all(state: &mut [u8], n: usize)
     requires { ⌜ (n ≤ 1024) × (8 + 40 * n ≤ length (now state)) ⌝ }
     ensures { λ _. ⌜ now (state .exit) ≡ upTo aged n (now (state .entry)) ⌝ }
@@ -87,6 +89,7 @@ fn age_all(state: &mut [u8], n: usize)
     }
 }
 
+// In rising order, since cells look at what lower ones are now.
 fn show_all(cells: &[u8], n: usize, state: &mut [u8])
     requires { ⌜ Fits (now cells) n (now state) ⌝ }
     ensures { λ _. ⌜ now (state .exit) ≡ upTo (shown (value (netOf (now (cells .entry)) n))) n (now (state .entry)) ⌝ }
@@ -100,6 +103,7 @@ fn show_all(cells: &[u8], n: usize, state: &mut [u8])
     }
 }
 
+// Comes last: a delay's input may be a higher cell.
 pub fn settle_all(cells: &[u8], n: usize, state: &mut [u8])
     requires { ⌜ Fits (now cells) n (now state) ⌝ }
     ensures { λ _. ⌜ now (state .exit) ≡ upTo (settled (netOf (now (cells .entry)) n)) n (now (state .entry)) ⌝ }

@@ -26,7 +26,7 @@ fn load(cells: &mut [u8], file: &[u8]) -> usize
     n
 }
 
-// Further instants, until the finish is high or n are done; counts those that it evaluates.
+// Further instants, until the finish is high or the budget is used; counts those that it evaluates.
 fn continue_state(cells: &[u8], n: usize, finish: usize, state: &mut [u8], budget: u32) -> u32
     requires { ⌜ Fits (now cells) n (now state) × (finish < n) × (instantOf (now state) + budget ≤ 1000000) ⌝ }
     ensures state { λ _. ⌜ now (state .exit) ≡ lastState (netOf (now (cells .entry)) n) finish budget (now (state .entry)) ⌝ }

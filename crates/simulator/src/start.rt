@@ -40,6 +40,7 @@ fn first_value(c: Cell, words: &[u8], state: &[u8], k: usize, j: usize) -> u16
     instant::later(c, state, k)
 }
 
+// The k-th memory is variable k, so memories are counted on the way.
 fn show_first(cells: &[u8], n: usize, words: &[u8], state: &mut [u8])
     requires { ⌜ Fits (now cells) n (now state) × (32 ≤ length (now words)) × (memories (netOf (now cells) n) ≡ 16) ⌝ }
     ensures { λ _. ⌜ now (state .exit) ≡ upTo (shown (firstValue (netOf (now (cells .entry)) n) (wordAt (now (words .entry))))) n (now (state .entry)) ⌝ }
@@ -55,6 +56,7 @@ fn show_first(cells: &[u8], n: usize, words: &[u8], state: &mut [u8])
     }
 }
 
+// Evaluates instant 0.
 pub fn begin_state(cells: &[u8], n: usize, words: &[u8], state: &mut [u8])
     requires { ⌜ Fits (now cells) n (now state) × (32 ≤ length (now words)) × (memories (netOf (now cells) n) ≡ 16) ⌝ }
     ensures { λ _. ⌜ now (state .exit) ≡ beginState (netOf (now (cells .entry)) n) (wordAt (now (words .entry))) (now (state .entry)) ⌝ }

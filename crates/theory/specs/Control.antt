@@ -2,7 +2,6 @@
 pub mod Wiring
 pub mod Signal
 pub mod Merges
-pub mod Uses
 pub mod Calm
 pub mod Runs
 pub mod Sides

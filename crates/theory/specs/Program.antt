@@ -1,4 +1,5 @@
 -- Programs: the trees of their nodes, and what the check accepts.
+pub mod Fit
 pub mod Trees
 pub mod Preorder
 pub mod Grows

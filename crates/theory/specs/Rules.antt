@@ -1,3 +1,4 @@
--- The rules: laws of the budgeted run, and that it computes the relation.
+-- The rules: laws of the budgeted run, that it computes the relation, and what a statement leaves alone.
 pub mod Laws
 pub mod Relation
+pub mod Uses

@@ -1,7 +1,6 @@
 -- The check's refusals, the two of the call, and the run.
-use mathlib.Core.Path.{sym, _∙_, ap}
+use mathlib.Core.Path.{sym, _∙_}
 use borrow.Author.Needs.{needs}
-use Rattle.model.specs.Calls.{referenceAnswer}
 use Rattle.theory.specs.Program.Accepted.{program-fit}
 use Rattle.program.specs.Shape.{scanned-laid}
 use Rattle.rules.proofs.Answers.{call-refused, call-over, call-short, call-runs}
@@ -68,7 +67,7 @@ returns-4 c =
     let if2 = c .before .before .before .before .before .if2 in
     let start-words = c .before .before .start-words in
     let accepted = sym (scan .ensures .checked) ∙ enum-told .given .1 in
-    c .answer .ensures ∙ ap (referenceAnswer _) (c .before .run-at .ensures .is) ∙ call-runs _ _ _ accepted (if1 .left) (if2 .left) _ (start-words .ensures)
+    call-runs _ _ _ accepted (if1 .left) (if2 .left) _ (start-words .ensures) _ (c .before .run-at .ensures) _ (c .answer .ensures)
 
 pub reference-run-spec : {M : Type 1} → statement M
 reference-run-spec =

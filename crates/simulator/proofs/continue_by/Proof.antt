@@ -1,12 +1,7 @@
 -- `continue_by` meets its contract. Assumes nothing.
-use mathlib.Core.Path.{sym, _∙_, ap}
+use mathlib.Core.Path.{sym, _∙_}
 use borrow.Author.Needs.{needs}
-use Rattle.model.specs.Calls.{Told, continueChecks, continueCall}
-use Rattle.model.specs.NetlistFile.{finishOf, cellsOf}
-use Rattle.model.specs.Refusals.{first}
-use Rattle.model.specs.State.{lastState, evaluated}
-use Rattle.model.specs.declared.Answer.{Answer}
-use Rattle.simulator.proofs.Refusing.{continue-accepted, refused-run, accepted-run}
+use Rattle.simulator.proofs.Refusing.{continue-accepted, continue-refused, continue-done}
 use Rattle.simulator.proofs.continue_by.Statement.{statement}
 use Rattle.simulator.proofs.continue_by.Tie as tie
 
@@ -23,16 +18,10 @@ same-length : tie.Need-same-length
 same-length c = search needs
 
 returns : tie.Need-returns
-unfolding continueCall
 returns c =
     let args = c .before .before .before .before .before .before .before .before .args in
     let check-continue = c .before .before .before .before .check-continue in
-    let net = cellsOf (args .netlist .now) in
-    let f = finishOf (args .netlist .now) in
-    let e = refused-run (first (continueChecks (args .netlist .now) (args .n) (args .state .now))) (args .netlist .now)
-    (lastState net f (args .n) (args .state .now)) (evaluated net f (args .n) (args .state .now)) (args .state .now) _
-    (sym (check-continue .ensures) ∙ c .before .before .checked .given .1) in
-    (c .refused .ensures ∙ sym (ap (λ (t : Told Answer). t .answer) e), sym (ap (λ (t : Told Answer). t .lent) e))
+    continue-refused (args .netlist .now) (args .n) (args .state .now) _ _ (sym (check-continue .ensures) ∙ c .before .before .checked .given .1) (c .refused .ensures)
 
 enum-told : tie.Need-enum-told
 enum-told c = search needs
@@ -47,18 +36,13 @@ same-length-2 : tie.Need-same-length-2
 same-length-2 c = search needs
 
 returns-2 : tie.Need-returns-2
-unfolding continueCall
 returns-2 c =
     let args = c .before .before .before .before .before .before .before .before .before .before .args in
     let check-continue = c .before .before .before .before .before .before .check-continue in
     let enum-told = c .before .before .before .before .enum-told in
     let continue-by = c .before .before .continue-by in
-    let net = cellsOf (args .netlist .now) in
-    let f = finishOf (args .netlist .now) in
-    let e = accepted-run (first (continueChecks (args .netlist .now) (args .n) (args .state .now))) (args .netlist .now)
-    (lastState net f (args .n) (args .state .now)) (evaluated net f (args .n) (args .state .now)) (args .state .now)
-    (sym (check-continue .ensures) ∙ enum-told .given .1) in
-    (continue-by .ensures .1 ∙ sym (ap (λ (t : Told Answer). t .answer) e), continue-by .ensures .0 ∙ sym (ap (λ (t : Told Answer). t .lent) e))
+    continue-done (args .netlist .now) (args .n) (args .state .now) _ _ (sym (check-continue .ensures) ∙ enum-told .given .1)
+    (continue-by .ensures .1) (continue-by .ensures .0)
 
 pub continue-by-spec : {M : Type 1} → statement M
 continue-by-spec =

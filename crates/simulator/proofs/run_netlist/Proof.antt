@@ -1,10 +1,7 @@
 -- `run_netlist` meets its contract. Assumes nothing.
-use mathlib.Core.Path.{sym, _∙_, ap}
+use mathlib.Core.Path.{sym, _∙_}
 use borrow.Author.Needs.{needs}
-use Rattle.model.specs.Calls.{Told, fullState, fullCount, runNetlistChecks, runNetlistCall}
-use Rattle.model.specs.Refusals.{first}
-use Rattle.model.specs.declared.Answer.{Answer}
-use Rattle.simulator.proofs.Refusing.{run-accepted, refused-run, accepted-run}
+use Rattle.simulator.proofs.Refusing.{run-accepted, run-refused, run-done}
 use Rattle.simulator.proofs.run_netlist.Statement.{statement}
 use Rattle.simulator.proofs.run_netlist.Tie as tie
 
@@ -21,15 +18,10 @@ same-length : tie.Need-same-length
 same-length c = search needs
 
 returns : tie.Need-returns
-unfolding runNetlistCall
 returns c =
     let args = c .before .before .before .before .before .before .before .before .before .args in
     let check-run = c .before .before .before .before .check-run in
-    let e = refused-run (first (runNetlistChecks (args .netlist .now) (args .words .now) (args .budget) (args .state .now))) (args .netlist .now)
-    (fullState (args .netlist .now) (args .words .now) (args .budget) (args .state .now))
-    (fullCount (args .netlist .now) (args .words .now) (args .budget) (args .state .now)) (args .state .now) _
-    (sym (check-run .ensures) ∙ c .before .before .checked .given .1) in
-    (c .refused .ensures ∙ sym (ap (λ (t : Told Answer). t .answer) e), sym (ap (λ (t : Told Answer). t .lent) e))
+    run-refused (args .netlist .now) (args .words .now) (args .budget) (args .state .now) _ _ (sym (check-run .ensures) ∙ c .before .before .checked .given .1) (c .refused .ensures)
 
 enum-told : tie.Need-enum-told
 enum-told c = search needs
@@ -44,17 +36,13 @@ same-length-2 : tie.Need-same-length-2
 same-length-2 c = search needs
 
 returns-2 : tie.Need-returns-2
-unfolding runNetlistCall
 returns-2 c =
     let args = c .before .before .before .before .before .before .before .before .before .before .before .args in
     let check-run = c .before .before .before .before .before .before .check-run in
     let enum-told = c .before .before .before .before .enum-told in
     let full-run-call = c .before .before .full-run in
-    let e = accepted-run (first (runNetlistChecks (args .netlist .now) (args .words .now) (args .budget) (args .state .now))) (args .netlist .now)
-    (fullState (args .netlist .now) (args .words .now) (args .budget) (args .state .now))
-    (fullCount (args .netlist .now) (args .words .now) (args .budget) (args .state .now)) (args .state .now)
-    (sym (check-run .ensures) ∙ enum-told .given .1) in
-    (full-run-call .ensures .1 ∙ sym (ap (λ (t : Told Answer). t .answer) e), full-run-call .ensures .0 ∙ sym (ap (λ (t : Told Answer). t .lent) e))
+    run-done (args .netlist .now) (args .words .now) (args .budget) (args .state .now) _ _ (sym (check-run .ensures) ∙ enum-told .given .1)
+    (full-run-call .ensures .1) (full-run-call .ensures .0)
 
 pub run-netlist-spec : {M : Type 1} → statement M
 run-netlist-spec =

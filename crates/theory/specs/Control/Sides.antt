@@ -8,10 +8,11 @@ use native.Mathlib.Omega.{arith}
 use Rattle.model.specs.Program.{Stmt, writes, touches}
 use Rattle.model.specs.Rules.{Store, ended, still, run}
 use Rattle.model.specs.Circuit.{Sig}
-use Rattle.theory.specs.Control.Wiring.{Clk, Dat, Memory, Joined, _≈_, either, Timed, Apart}
+use Rattle.theory.specs.Control.Wiring.{Clk, Dat, Memory, Joined, _≈_, either}
+use Rattle.theory.specs.Program.Fit.{Timed, Apart}
 use Rattle.theory.specs.Control.Signal.{Quiet, Follow, cases, glue, keep, follow-left}
 use Rattle.theory.specs.Control.Calm.{Calm, calm-dull, calm-unwritten, Rests, rest}
-use Rattle.theory.specs.Control.Uses.{apart-unwritten}
+use Rattle.theory.specs.Rules.Uses.{apart-unwritten}
 use Rattle.theory.specs.Control.Runs.{Ended, RunOf, Launched, launch, at}
 
 -- A branch -----------------------------------------------------------------------------------------------------------------------------

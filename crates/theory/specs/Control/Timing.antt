@@ -9,7 +9,8 @@ use native.Mathlib.Omega.{arith}
 use borrow.Author.Tests.{eq-eqb, ne-eqb}
 use Rattle.model.specs.Program.{Stmt, ok, tick, assign, seq, par, ite, while, repeat}
 use Rattle.model.specs.Circuit.{Sig}
-use Rattle.theory.specs.Control.Wiring.{Clk, Dat, Memory, Circuit, Mem, Timed, Separate}
+use Rattle.theory.specs.Control.Wiring.{Clk, Dat, Memory, Circuit, Mem}
+use Rattle.theory.specs.Program.Fit.{Timed, Separate}
 use Rattle.model.specs.Rules.{Store, ended, run, endsAt}
 use Rattle.theory.specs.Control.Signal.{cases, keep}
 use Rattle.theory.specs.Rules.Laws.{by-run, steady}

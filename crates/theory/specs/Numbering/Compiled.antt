@@ -17,11 +17,12 @@ use Rattle.model.specs.Numbering.{clockAt, memoryAt, walkAt, dataAt, clockWires
 use Rattle.model.specs.Circuit.{control, cellAt, memories, shape}
 use Rattle.model.specs.Word.{bit}
 use Rattle.theory.specs.Numbering.Cells.{All, all-of, all-at, split, join}
-use Rattle.theory.specs.Numbering.Structure.{WFe, WF, e-len, d-len, w-len, own-len, is-false}
+use Rattle.theory.specs.Numbering.Structure.{e-len, d-len, w-len, own-len, is-false}
+use Rattle.theory.specs.Program.Fit.{FormedExpr, Formed, Low}
 use Rattle.theory.specs.Numbering.Parts.{ors-len, outs-len, net-length, Laid, lay, unlay}
 use Rattle.theory.specs.Numbering.Whole.{memories-append, delays-free, orsFrom-free}
 use Rattle.theory.specs.Numbering.Count.{nodes, size}
-use Rattle.theory.specs.Numbering.Valid.{word, In, CellOk, Ok, CellsOk, kinds, HasKind, Low, p-ok}
+use Rattle.theory.specs.Numbering.Valid.{word, In, CellOk, Ok, CellsOk, kinds, HasKind, p-ok}
 use Rattle.model.specs.Word.{pick}
 use Rattle.model.specs.declared.Checked.the-variants.{Accepted}
 use Rattle.model.specs.Circuit.{Shape, kConstant, kComplement, kOperator, kStart, kGround, kDelay, kOr, kWhenTrue, kWhenFalse, kMerge, kMemory, kGated, kUnknown}
@@ -177,14 +178,14 @@ module _ (K : ℕ → ℕ) where
 op-other : (k : ℕ) → 4 ≤ k → k ≤ 9 → eqb k 40 ≡ false
 op-other k h h′ = is-false (eqb k 40) (λ e. let q : k ≡ 40 = eqb→eq k 40 e in omega arith)
 
-e-free : (M : ℕ) (e : Expr) → WFe e → (c : ℕ) → memories (exprCells M e c) ≡ 0
+e-free : (M : ℕ) (e : Expr) → FormedExpr e → (c : ℕ) → memories (exprCells M e c) ≡ 0
 unfolding memories exprCells bit
 e-free M (const v) w c = refl
 e-free M (var x) w c = refl
 e-free M (compl e) w c = simp (memories-append, e-free M e w c)
 e-free M (op k e f) w c = simp (memories-append, e-free M e (w .2) c, e-free M f (w .3) (c + exprCount e), op-other k (w .0) (w .1))
 
-w-free : (M : ℕ) (P : Stmt) → WF P → (s d c : ℕ) → memories (walk M P s d c) ≡ 0
+w-free : (M : ℕ) (P : Stmt) → Formed P → (s d c : ℕ) → memories (walk M P s d c) ≡ 0
 unfolding memories walk bit
 w-free M ok w s d c = refl
 w-free M (tick δ) w s d c = refl
@@ -208,7 +209,7 @@ mems-all n (a ∷ ks) [] e e′ = e′
 mems-all zero (a ∷ ks) (b ∷ ds) e e′ = absurd (omega arith)
 mems-all (suc n) (a ∷ ks) (b ∷ ds) e e′ = rw (mems-all n ks ds (omega arith) (omega arith)) (omega arith)
 
-pub sixteen : (P : Stmt) → WF P → memories (netlist P) ≡ 16
+pub sixteen : (P : Stmt) → Formed P → memories (netlist P) ≡ 16
 unfolding netlist memories bit
 sixteen P w =
     simp (
@@ -222,7 +223,7 @@ sixteen P w =
 
 -- ---- the rules
 
-module _ (P : Stmt) (w : WF P) (z : Low P) where
+module _ (P : Stmt) (w : Formed P) (z : Low P) where
   K : ℕ → ℕ
   K k = kinds (netlist P) k
 
@@ -312,7 +313,7 @@ module _ (net : List Cell) (k : ℕ) (c : Cell) where
   keeps-of kGated h = and-of (eq-eqb _ _ (h .0)) (and-of (control-in k (c .a) (h .1)) (word-in k (c .b) (h .2)))
   keeps-of kUnknown h = absurd h
 
-module _ (P : Stmt) (w : WF P) (z : Low P) where
+module _ (P : Stmt) (w : Formed P) (z : Low P) where
   placed-ok : (k : ℕ) → placed k (cellAt (netlist P) k) ≡ true
   unfolding placed netlist
   placed-ok zero = refl

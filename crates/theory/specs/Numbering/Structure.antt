@@ -12,6 +12,7 @@ use Rattle.model.specs.Word.{pick}
 use Rattle.model.specs.Program.{Expr, const, var, compl, op, Stmt, ok, tick, assign, seq, par, ite, while, repeat}
 use Rattle.model.specs.Circuit.{delayed, merged}
 use Rattle.theory.specs.Control.Wiring.{Net, Circuit}
+use Rattle.theory.specs.Program.Fit.{FormedExpr, Formed}
 use Rattle.model.specs.Rules.{eval}
 use Rattle.model.specs.Word.{operate, isZero}
 use Rattle.model.specs.Circuit.{cell}
@@ -20,23 +21,6 @@ use Rattle.model.specs.Circuit.{Values, level}
 use Rattle.model.specs.Word.{bit}
 use Rattle.theory.specs.Numbering.Cells.{cellVal, Rule, Obeyed, split}
 use Rattle.theory.specs.Numbering.Levels.{level-of, delayed-cong, delayed-zero, anyHigh, allOr, clkOf, datOf, joined, ||-false}
-
--- what a tree from an accepted program has: variables below 16 and operators of kinds 4 to 9
-abbrev pub WFe : Expr → Type 0
-WFe (const n) = Unit {0}
-WFe (var x) = x < 16
-WFe (compl e) = WFe e
-WFe (op k e f) = (4 ≤ k) × (k ≤ 9) × WFe e × WFe f
-
-abbrev pub WF : Stmt → Type 0
-WF ok = Unit {0}
-WF (tick δ) = Unit {0}
-WF (assign δ x e) = (x < 16) × WFe e
-WF (seq P Q) = WF P × WF Q
-WF (par P Q) = WF P × WF Q
-WF (ite δ e P Q) = WFe e × WF P × WF Q
-WF (while δ e P) = WFe e × WF P
-WF (repeat δ e P) = WFe e × WF P
 
 -- the lengths
 pub e-len : (M : ℕ) (e : Expr) (c : ℕ) → length (exprCells M e c) ≡ exprCount e
@@ -99,7 +83,7 @@ unfolding cellVal
 op-rule first W p k x y t h h′ = rw (is-true (leb 4 k) (le→leb 4 k h), is-true (leb k 9) (le→leb k 9 h′))
 
 module _ (first : ℕ → ℕ) (W : Values) (M : ℕ) (m : ℕ → ℕ → ℕ) (shows : (x t : ℕ) → x < 16 → m t x ≡ W (M + x) t) where
-  pub expr : (e : Expr) → WFe e → (c : ℕ) → Obeyed first W c (exprCells M e c) → (t : ℕ) → W (exprWire M e c) t ≡ eval e (m t)
+  pub expr : (e : Expr) → FormedExpr e → (c : ℕ) → Obeyed first W c (exprCells M e c) → (t : ℕ) → W (exprWire M e c) t ≡ eval e (m t)
   unfolding exprCells exprWire exprCount eval cellVal
   expr (const n) w c h t = h .0 t
   expr (var x) w c h t = sym (shows x t w)
@@ -146,7 +130,7 @@ module _ (first : ℕ → ℕ) (W : Values) (M : ℕ) (m : ℕ → ℕ → ℕ) 
       go true e = rw (e, eq-eqb y x (sym (eqb-true x y e))) (or-zero-r (W g t))
       go false e = rw (e, ne-eqb y x (λ z. eqb-false x y e (sym z)))
 
-  pub struct : (P : Stmt) → WF P → (s d c : ℕ)
+  pub struct : (P : Stmt) → Formed P → (s d c : ℕ)
       → Obeyed first W d (delays P s d c) → Obeyed first W c (walk M P s d c)
       → Cells P s d c
   unfolding Circuit Net delays walk finishWire clockSources dataSources cellVal delayCount walkCount anyHigh allOr wiresOf

@@ -14,7 +14,8 @@ use Rattle.model.specs.Numbering.{exprCount, exprWire, exprCells, own, pulse, o
 use Rattle.model.specs.Circuit.{control, Shape, shape, noCell}
 use Rattle.theory.specs.Numbering.Cells.{All, split, join}
 use Rattle.model.specs.Circuit.{kConstant, kComplement, kOperator, kStart, kGround, kDelay, kOr, kWhenTrue, kWhenFalse, kMerge, kMemory, kGated, kUnknown}
-use Rattle.theory.specs.Numbering.Structure.{WFe, WF, e-len, d-len, w-len, own-len, is-true}
+use Rattle.theory.specs.Numbering.Structure.{e-len, d-len, w-len, own-len, is-true}
+use Rattle.theory.specs.Program.Fit.{FormedExpr, Formed, Low}
 
 -- a word wire, by kind
 unfoldable pub word : ℕ → Bool
@@ -50,17 +51,6 @@ Ok K n k c = CellOk (shape (c .kind)) K n k c
 unfoldable pub CellsOk : List Cell → Type 0
 CellsOk net = (k : ℕ) → k < length net → Ok (kinds net) (length net) k (getD net k noCell)
 
--- delays are 1 to 255, or 0 at an if
-abbrev pub Low : Stmt → Type 0
-Low ok = Unit {0}
-Low (tick δ) = (1 ≤ δ) × (δ ≤ 255)
-Low (assign δ x e) = (1 ≤ δ) × (δ ≤ 255)
-Low (seq P Q) = Low P × Low Q
-Low (par P Q) = Low P × Low Q
-Low (ite δ e P Q) = (δ ≤ 255) × Low P × Low Q
-Low (while δ e P) = (1 ≤ δ) × (δ ≤ 255) × Low P
-Low (repeat δ e P) = (1 ≤ δ) × (δ ≤ 255) × Low P
-
 -- a run of cells has the kinds that K says
 abbrev pub HasKind : (ℕ → ℕ) → ℕ → Cell → Type 0
 HasKind K k c = K k ≡ c .kind
@@ -75,7 +65,7 @@ op-word k h h′ = rw (lt-leb 32 k (omega arith))
 
 module _ (K : ℕ → ℕ) (n M : ℕ) (mem : (x : ℕ) → x < 16 → K (M + x) ≡ 40) where
   -- an expression's cells, and its wire
-  e-ok : (e : Expr) → WFe e → (c : ℕ) → M + 16 ≤ c → All (HasKind K) c (exprCells M e c)
+  e-ok : (e : Expr) → FormedExpr e → (c : ℕ) → M + 16 ≤ c → All (HasKind K) c (exprCells M e c)
       → All (Ok K n) c (exprCells M e c) × In word K (c + exprCount e) (exprWire M e c)
   unfolding exprCells exprWire exprCount shape word
   e-ok (const v) w c l h = (((refl, refl), tt), (omega arith, rw (h .0)))
@@ -106,7 +96,7 @@ module _ (K : ℕ → ℕ) (n M : ℕ) (mem : (x : ℕ) → x < 16 → K (M + x)
   pulse-ok (suc δ) s d c z i l l′ h = (((omega arith, z, (omega arith, i .1), refl), tt), (omega arith, rw (h .0)))
 
   -- a statement's cells and its finish
-  pub p-ok : (P : Stmt) → WF P → Low P → (s d c : ℕ) → In control K c s → M + 16 ≤ c → d + delayCount P ≤ c → c + walkCount P ≤ n
+  pub p-ok : (P : Stmt) → Formed P → Low P → (s d c : ℕ) → In control K c s → M + 16 ≤ c → d + delayCount P ≤ c → c + walkCount P ≤ n
       → All (HasKind K) d (delays P s d c) → All (HasKind K) c (walk M P s d c)
       → All (Ok K n) d (delays P s d c) × All (Ok K n) c (walk M P s d c) × In control K (c + walkCount P) (finishWire P s d c)
   unfolding delays walk finishWire delayCount walkCount shape control

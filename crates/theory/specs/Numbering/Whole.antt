@@ -22,7 +22,8 @@ use Rattle.model.specs.Word.{bit}
 use Rattle.theory.specs.Numbering.Cells.{cellVal, Rule, Obeyed, split, obeys-holds}
 use Rattle.theory.specs.Numbering.Parts.{ors-len, orsFrom-len, outs-len, Laid, lay}
 use Rattle.theory.specs.Numbering.Levels.{level-of, op-or, ||-assoc, ||-false, or-assoc, anyHigh, allOr, clkOf, datOf, wires-append}
-use Rattle.theory.specs.Numbering.Structure.{WF, d-len, struct, is-true, is-false}
+use Rattle.theory.specs.Numbering.Structure.{d-len, struct, is-true, is-false}
+use Rattle.theory.specs.Program.Fit.{Formed}
 
 -- ---- the ors
 
@@ -188,7 +189,7 @@ single : (x y g : ℕ) → x < 16 → 16 ≤ y → wiresOf y ((x, g) ∷ []) ≡
 unfolding wiresOf
 single x y g l h = rw (is-false (eqb x y) (λ z. let e : x ≡ y = eqb→eq x y z in omega arith))
 
-no-clocks : (P : Stmt) → WF P → (y d : ℕ) → 16 ≤ y → wiresOf y (clockSources P d) ≡ []
+no-clocks : (P : Stmt) → Formed P → (y d : ℕ) → 16 ≤ y → wiresOf y (clockSources P d) ≡ []
 unfolding clockSources
 no-clocks ok w y d h = unfold wiresOf in refl
 no-clocks (tick δ) w y d h = unfold wiresOf in refl
@@ -221,7 +222,7 @@ pub record Built (P : Stmt) (words : ℕ → ℕ) (W : Values) : Type 0 where
   pub memory : Mem (showing (memoryAt P) words W) (clkOf W (clockSources P 3)) (datOf W (dataSources P (walkAt P)))
   pub begin : (x : ℕ) → showing (memoryAt P) words W 0 x ≡ words x
 
-module _ (P : Stmt) (w : WF P) (words : ℕ → ℕ) (W : Values) (h : Obeys (netlist P) words W) where
+module _ (P : Stmt) (w : Formed P) (words : ℕ → ℕ) (W : Values) (h : Obeys (netlist P) words W) where
   first : ℕ → ℕ
   first k = startWord (netlist P) words k
 

@@ -14,11 +14,10 @@ use Rattle.model.specs.declared.Node.{Node}
 use Rattle.model.specs.declared.Checked.the-variants.{Accepted}
 use Rattle.model.specs.Word.{pick}
 use Rattle.model.specs.Program.{Expr, Stmt, ok, tick, assign, seq, par, ite, while, repeat, Tree, expr, stmt, none, asExpr, asStmt, exprOf, stmtOf, treeOf, arity, grow, forest, treesAt, stmtAt, nodeCount, nodeAt, nodesFrom, rowOf, programOf, paperTime, least, writes, touches, clash, clashes, faultOf, checkOf}
-use Rattle.theory.specs.Control.Wiring.{Timed, Apart, Separate}
+use Rattle.theory.specs.Program.Fit.{FormedExpr, Formed, Timed, Apart, Separate, Fit}
 use Rattle.theory.specs.Program.Grows.{known-kind, low-variable}
 use Rattle.theory.specs.Program.Passed.{Passed, accepted}
-use Rattle.theory.specs.Control.Uses.{or-left, or-right}
-use Rattle.theory.specs.Numbering.Structure.{WFe, WF}
+use Rattle.theory.specs.Rules.Uses.{or-left, or-right}
 
 -- Nodes without fault ------------------------------------------------------------------------------------------------------------------
 
@@ -59,7 +58,7 @@ or-cases : {A : Type 0} (a b : Bool) → (a || b) ≡ true → (a ≡ true → A
 or-cases true b e f g = f refl
 or-cases false b e f g = g e
 
-written-low : (P : Stmt) → WF P → (x : ℕ) → writes P x ≡ true → x < 16
+written-low : (P : Stmt) → Formed P → (x : ℕ) → writes P x ≡ true → x < 16
 unfolding writes
 written-low ok w x e = let z : _≡_ {A = ℕ} 0 1 = cc in absurd (omega arith)
 written-low (tick d) w x e = let z : _≡_ {A = ℕ} 0 1 = cc in absurd (omega arith)
@@ -86,7 +85,7 @@ and-not : (a b : Bool) → (a && b) ≡ false → a ≡ true → b ≡ false
 and-not true b e h = e
 and-not false b e h = cc
 
-apart : (P Q : Stmt) → WF P → WF Q → clash 16 P Q ≡ false → Apart P Q × Apart Q P
+apart : (P Q : Stmt) → Formed P → Formed Q → clash 16 P Q ≡ false → Apart P Q × Apart Q P
 unfolding Apart
 apart P Q w v e = (
   (λ x h. and-not (writes P x) (touches Q x) (no-clash 16 P Q e x (written-low P w x h) .0) h),
@@ -95,16 +94,11 @@ apart P Q w v e = (
 
 -- Trees ----------------------------------------------------------------------------------------------------------------------------------------
 
-pub record Fit (P : Stmt) : Type 0 where
-  pub formed : WF P
-  pub timed : Timed P
-  pub separate : Separate P
-
 abbrev FitT : Tree → Type 0
-FitT (expr e) = WFe e
+FitT (expr e) = FormedExpr e
 FitT (stmt P) = Fit P
 
-fit-e : (t : Tree) → FitT t → WFe (asExpr t)
+fit-e : (t : Tree) → FitT t → FormedExpr (asExpr t)
 unfolding asExpr
 fit-e (expr e) h = h
 fit-e (stmt P) h = tt
@@ -119,18 +113,18 @@ fit-s (expr e) h = ok-fit
 fit-s (stmt P) h = h
 
 module _ (τ : ℕ → ℕ) (a : Node) (f : faultOf a ≡ 0) where
-  fit-expr : (e g : Expr) → a .kind < 16 → WFe e → WFe g → WFe (exprOf a e g)
+  fit-expr : (e g : Expr) → a .kind < 16 → FormedExpr e → FormedExpr g → FormedExpr (exprOf a e g)
   unfolding exprOf rowOf
   fit-expr e g l p q =
-      by-test WFe (eqb (a .kind) 1) _ _ (λ t. tt)
-      (λ n1. by-test WFe (eqb (a .kind) 2) _ _ (λ t. named-low a f 2 (eqb-true _ _ t) refl)
-      (λ n2. by-test WFe (eqb (a .kind) 3) _ _ (λ t. p)
+      by-test FormedExpr (eqb (a .kind) 1) _ _ (λ t. tt)
+      (λ n1. by-test FormedExpr (eqb (a .kind) 2) _ _ (λ t. named-low a f 2 (eqb-true _ _ t) refl)
+      (λ n2. by-test FormedExpr (eqb (a .kind) 3) _ _ (λ t. p)
       (λ n3. let k = op-kind a f l (eqb-false _ _ n1) (eqb-false _ _ n2) (eqb-false _ _ n3) in (k .0, k .1, p, q))))
 
   abbrev Fits : Stmt → Type 0
   Fits S = least τ S ≤ a .delay → clashes S ≡ false → Fit S
 
-  fit-stmt : (e : Expr) (O P Q : Stmt) → WFe e → Fit O → Fit P → Fit Q → Fits (stmtOf a e O P Q)
+  fit-stmt : (e : Expr) (O P Q : Stmt) → FormedExpr e → Fit O → Fit P → Fit Q → Fits (stmtOf a e O P Q)
   unfolding stmtOf Timed Separate least clashes rowOf
   fit-stmt e O P Q w o p q =
       by-test Fits (eqb (a .kind) 16) _ _ (λ t h c. ok-fit)

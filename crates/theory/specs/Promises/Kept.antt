@@ -28,7 +28,8 @@ use Rattle.model.specs.State.{stateSize, instantOf, nowAt, beginState, lastStat
 use Rattle.model.specs.Calls.{Told, verdict, compiledFile, compileChecks, compileCall, wordAt, refusedAnswer, shows, running, beginChecks, beginCall, continueCall, fullState, fullCount, runNetlistCall, runProgramCall, listed, referenceAnswer}
 use Rattle.model.specs.Promises.{Call, replay, Seen, seen, seenOf, endedIf, expected, Shown, Every, Unchanged, lastOf, stopsAt, Keeps}
 use Rattle.theory.specs.Refusals.Laws.{by-bool, not-refused, all-accept, refuse-unless}
-use Rattle.theory.specs.Program.Accepted.{Fit, program-fit}
+use Rattle.theory.specs.Program.Accepted.{program-fit}
+use Rattle.theory.specs.Program.Fit.{Fit}
 use Rattle.theory.specs.Rules.Laws.{steady, still-before, still-below}
 use Rattle.theory.specs.Rules.Relation.{ends-run, due-ends, ends-due}
 use Rattle.theory.specs.Numbering.Parts.{net-length}

@@ -9,7 +9,7 @@ use Rattle.model.specs.Word.{isZero}
 use Rattle.model.specs.Program.{Expr, Stmt, ok, tick, assign, seq, par, ite, while, repeat}
 use Rattle.model.specs.Rules.{Store, Run, ended, still, after, wait, chain, both, kept, whiles, repeats, run, eval, put}
 use Rattle.theory.specs.Refusals.Laws.{by-bool}
-use Rattle.theory.specs.Control.Wiring.{Timed}
+use Rattle.theory.specs.Program.Fit.{Timed}
 
 pub ended-time : {t t′ : ℕ} {σ σ′ : Store} → ended t σ ≡ ended t′ σ′ → t ≡ t′
 ended-time p = cc

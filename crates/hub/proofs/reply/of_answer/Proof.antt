@@ -1,5 +1,4 @@
 -- The reply of a run. Assumes nothing.
-use mathlib.Core.Path.{sym, _∙_, ap}
 use Rattle.hub.specs.Replies.{outcomeReply}
 use borrow.Author.Needs.{needs}
 use Rattle.hub.proofs.reply.of_answer.Statement.{statement}

@@ -1,10 +1,10 @@
 -- Words into a reply: after k of them it is the first k of sixteen puts. Assumes nothing.
 use mathlib.Core.Path.{_≡_, refl, sym, _∙_, ap}
 use mathlib.Core.List.{List}
-use Prim.Native.Nat.{ℕ, suc, _+_, _-_, _*_, _≤_}
+use Prim.Native.Nat.{ℕ, _+_, _-_, _*_, _≤_}
 use native.Mathlib.Omega.{arith}
 use native.Mathlib.Numerals.{add-one}
-use lib.ListN.{length, getD}
+use lib.ListN.{length}
 use Rattle.model.specs.State.{upTo}
 use Rattle.theory.specs.State.Passes.{length-put16}
 use Rattle.hub.specs.Replies.{putWord}

@@ -5,7 +5,8 @@ use native.Mathlib.Omega.{arith}
 use lib.ListN.{length}
 use Rattle.model.specs.State.{value, upTo, shown}
 use Rattle.simulator.specs.Fits.{netOf}
-use Rattle.simulator.proofs.Passes.{net-value, fits-at, upTo-next, upTo-none}
+use Rattle.simulator.proofs.Cells.{net-value, fits-at}
+use Rattle.simulator.proofs.Passes.{upTo-next, upTo-none}
 use Rattle.simulator.proofs.instant.show_all.Statement.{statement}
 use Rattle.simulator.proofs.instant.show_all.Tie as tie
 

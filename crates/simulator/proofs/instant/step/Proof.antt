@@ -1,7 +1,8 @@
 -- `step` meets its contract. Assumes nothing.
 use mathlib.Core.Path.{_∙_}
 use borrow.Author.Needs.{needs}
-use Rattle.simulator.proofs.Passes.{net-length, refits, stepped}
+use Rattle.simulator.proofs.Cells.{net-length, refits}
+use Rattle.simulator.proofs.Passes.{stepped}
 use Rattle.simulator.proofs.instant.step.Statement.{statement}
 use Rattle.simulator.proofs.instant.step.Tie as tie
 

@@ -5,9 +5,9 @@ use Prim.Native.Nat.{ℕ}
 use native.Mathlib.Omega.{arith}
 use borrow.Author.Needs.{needs}
 use Rattle.model.specs.Calls.{shows}
-use Rattle.model.specs.State.{lastState, evaluated}
-use Rattle.model.specs.declared.Cell.{Cell}
+use Rattle.simulator.specs.Fits.{netOf}
 use Rattle.simulator.proofs.AcceptedFile.{file-sized, file-fits}
+use Rattle.simulator.proofs.Answers.{continued}
 use Rattle.simulator.proofs.runs.continue_by.Statement.{statement}
 use Rattle.simulator.proofs.runs.continue_by.Tie as tie
 
@@ -51,15 +51,12 @@ same-length c = search needs
 returns : tie.Need-returns
 returns c =
     let args = c .before .before .before .before .before .before .before .before .before .before .before .before .before .args in
-    let continue-state = c .before .before .before .before .continue-state in
     let load = c .before .before .before .before .before .before .before .before .load in
     let get16-call = c .before .before .before .before .before .before .before .before .before .before .get16 in
-    let file : List ℕ = args .file .now in
-    let state : List ℕ = args .state .now in
-    let n : ℕ = args .budget in
-    let e = continue-state .ensures .0 ∙ ap₂ (λ (net : List Cell) (f : ℕ). lastState net f n state) (load .ensures .1) (get16-call .ensures) in
-    let d = continue-state .ensures .1 ∙ ap₂ (λ (net : List Cell) (f : ℕ). evaluated net f n state) (load .ensures .1) (get16-call .ensures) in
-    (e, c .shows .ensures ∙ ap₂ (shows file) e d)
+    let continue-state = c .before .before .before .before .continue-state in
+    let z = continued (args .file .now) (netOf (load .last .0) (load .result)) (get16-call .result) (load .ensures .1) (get16-call .ensures)
+    (args .budget) (args .state .now) _ _ (continue-state .ensures .0) (continue-state .ensures .1) in
+    (z .0, c .shows .ensures ∙ ap₂ (shows (args .file .now)) (z .0) (z .1))
 
 pub continue-by-spec : {M : Type 1} → statement M
 continue-by-spec =

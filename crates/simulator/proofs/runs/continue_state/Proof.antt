@@ -10,8 +10,8 @@ use Rattle.model.specs.Numbering.{finish}
 use Rattle.model.specs.State.{instantOf, lastState, evaluated}
 use Rattle.theory.specs.State.Passes.{count-now}
 use Rattle.simulator.specs.Fits.{netOf}
+use Rattle.simulator.proofs.Cells.{refits}
 use Rattle.simulator.proofs.Continuing.{stops, goes-on, all-done}
-use Rattle.simulator.proofs.Passes.{refits}
 use Rattle.simulator.proofs.runs.continue_state.Statement.{statement}
 use Rattle.simulator.proofs.runs.continue_state.Tie as tie
 

@@ -1,13 +1,11 @@
 -- `full_run` meets its contract. Assumes nothing.
 use mathlib.Core.List.{List}
 use mathlib.Core.Path.{sym, _∙_, ap, ap₂}
-use Prim.Native.Nat.{ℕ, _+_}
+use Prim.Native.Nat.{ℕ}
 use native.Mathlib.Omega.{arith}
 use borrow.Author.Needs.{needs}
 use Rattle.model.specs.Calls.{wordAt, shows}
-use Rattle.model.specs.Circuit.{high, memories}
-use Rattle.model.specs.NetlistFile.{finishOf, cellsOf}
-use Rattle.model.specs.State.{instantOf, nowAt, beginState, lastState, evaluated}
+use Rattle.model.specs.Circuit.{memories}
 use Rattle.model.specs.declared.Cell.{Cell}
 use Rattle.simulator.specs.Fits.{netOf}
 use Rattle.simulator.proofs.AcceptedFile.{file-sized, file-room, file-sixteen, file-fits, begin-instant, reruns}
@@ -68,16 +66,13 @@ same-length c = search needs
 returns : tie.Need-returns
 returns c =
     let args = c .before .before .before .before .before .before .before .before .before .before .before .before .before .before .before .before .before .args in
-    let begin-state = c .before .before .before .before .before .before .before .begin-state in
     let load = c .before .before .before .before .before .before .before .before .before .before .before .load in
     let get16-call = c .before .before .before .before .before .before .before .before .before .before .before .before .before .get16 in
+    let begin-state = c .before .before .before .before .before .before .before .begin-state in
     let is-high = c .before .before .before .is-high in
-    let file : List ℕ = args .file .now in
-    let words : List ℕ = args .words .now in
-    let e = begin-state .ensures ∙ ap (λ (net : List Cell). beginState net (wordAt words) (args .state .now)) (load .ensures .1) in
-    let z = full-ended file words (args .budget) (args .state .now)
-    (ap₂ (λ (s : List ℕ) (f : ℕ). high (nowAt s f)) (sym e) (sym (get16-call .ensures)) ∙ sym (is-high .ensures) ∙ c .before .before .if1 .taken) in
-    (e ∙ sym (z .0), c .shows .ensures ∙ ap₂ (shows file) (e ∙ sym (z .0)) (sym (z .1)))
+    let z = full-ended (args .file .now) (netOf (load .last .0) (load .result)) (get16-call .result) (load .ensures .1) (get16-call .ensures)
+    (args .words .now) (args .budget) (args .state .now) _ (begin-state .ensures) (sym (is-high .ensures) ∙ c .before .before .if1 .taken) in
+    (z .0, c .shows .ensures ∙ ap₂ (shows (args .file .now)) (z .0) (z .1))
 
 slice-aggregate-continue-state : tie.Need-slice-aggregate-continue-state
 slice-aggregate-continue-state c = search needs
@@ -85,16 +80,17 @@ slice-aggregate-continue-state c = search needs
 continue-state-requires : tie.Need-continue-state-requires
 continue-state-requires c κs =
     let args = c .before .before .before .before .before .before .before .before .before .before .before .before .before .before .before .before .before .args in
-    let begin-state = c .before .before .before .before .before .before .before .begin-state in
     let load = c .before .before .before .before .before .before .before .before .before .before .before .load in
     let pre = c .before .before .before .before .before .before .before .before .before .before .before .before .before .before .before .before .before .pre in
+    let begin-state = c .before .before .before .before .before .before .before .begin-state in
     let get16-call = c .before .before .before .before .before .before .before .before .before .before .before .before .before .get16 in
     let file : List ℕ = args .file .now in
     let state : List ℕ = args .state .now in
-    let e = begin-state .ensures ∙ ap (λ (net : List Cell). beginState net (wordAt (args .words .now)) state) (load .ensures .1) in (
+    let net : List Cell = netOf (load .last .0) (load .result) in
+    let z = begin-instant file state (pre .0) net (wordAt (args .words .now)) _ (load .ensures .1) (begin-state .ensures) in (
       file-fits file _ (reruns (pre .0) (begin-state .kept .1 .1 .1 .0)) (load .last .0) (load .result) (omega (arith, load .kept .0)) (load .ensures .0) (load .ensures .1),
       omega (arith, get16-call .ensures, load .ensures .0, file-sized file state (pre .0) .finish),
-      omega (arith, ap (λ (s : List ℕ). instantOf s) e, begin-instant file state (pre .0) (wordAt (args .words .now)), pre .2),
+      omega (arith, z, pre .2),
     )
 
 add-shows : tie.Need-add-shows
@@ -116,23 +112,16 @@ same-length-2 c = search needs
 returns-2 : tie.Need-returns-2
 returns-2 c =
     let args = c .before .before .before .before .before .before .before .before .before .before .before .before .before .before .before .before .before .before .before .before .before .before .args in
-    let begin-state = c .before .before .before .before .before .before .before .before .before .before .before .before .begin-state in
     let load = c .before .before .before .before .before .before .before .before .before .before .before .before .before .before .before .before .load in
     let get16-call = c .before .before .before .before .before .before .before .before .before .before .before .before .before .before .before .before .before .before .get16 in
+    let begin-state = c .before .before .before .before .before .before .before .before .before .before .before .before .begin-state in
     let is-high = c .before .before .before .before .before .before .before .before .is-high in
     let if1 = c .before .before .before .before .before .before .before .if1 in
     let continue-state = c .before .before .before .before .continue-state in
-    let file : List ℕ = args .file .now in
-    let words : List ℕ = args .words .now in
-    let n : ℕ = args .budget in
-    let e = begin-state .ensures ∙ ap (λ (net : List Cell). beginState net (wordAt words) (args .state .now)) (load .ensures .1) in
-    let z = full-open file words n (args .state .now)
-    (ap₂ (λ (s : List ℕ) (f : ℕ). high (nowAt s f)) (sym e) (sym (get16-call .ensures)) ∙ sym (is-high .ensures) ∙ if1 .left) in
-    let p = continue-state .ensures .0 ∙ ap₂ (λ (net : List Cell) (f : ℕ). lastState net f n (begin-state .last .1 .1 .1 .0)) (load .ensures .1) (get16-call .ensures)
-    ∙ ap (lastState (cellsOf file) (finishOf file) n) e in
-    let q = continue-state .ensures .1 ∙ ap₂ (λ (net : List Cell) (f : ℕ). evaluated net f n (begin-state .last .1 .1 .1 .0)) (load .ensures .1) (get16-call .ensures)
-    ∙ ap (evaluated (cellsOf file) (finishOf file) n) e in
-    (p ∙ sym (z .0), c .shows2 .ensures ∙ ap₂ (shows file) (p ∙ sym (z .0)) (ap (λ (k : ℕ). 1 + k) q ∙ sym (z .1)))
+    let z = full-open (args .file .now) (netOf (load .last .0) (load .result)) (get16-call .result) (load .ensures .1) (get16-call .ensures)
+    (args .words .now) (args .budget) (args .state .now) _ (begin-state .ensures) (sym (is-high .ensures) ∙ if1 .left)
+    _ _ (continue-state .ensures .0) (continue-state .ensures .1) in
+    (z .0, c .shows2 .ensures ∙ ap₂ (shows (args .file .now)) (z .0) (z .1))
 
 pub full-run-spec : {M : Type 1} → statement M
 full-run-spec =

@@ -2,7 +2,8 @@
 use mathlib.Core.Path.{_∙_}
 use borrow.Author.Needs.{needs}
 use Rattle.model.specs.Calls.{wordAt}
-use Rattle.simulator.proofs.Passes.{net-length, refits, begun}
+use Rattle.simulator.proofs.Cells.{net-length, refits}
+use Rattle.simulator.proofs.Passes.{begun}
 use Rattle.simulator.proofs.start.begin_state.Statement.{statement}
 use Rattle.simulator.proofs.start.begin_state.Tie as tie
 

@@ -12,8 +12,9 @@ use Rattle.model.specs.Word.{bit, put16}
 use Rattle.model.specs.declared.Cell.{Cell}
 use Rattle.theory.specs.State.Passes.{bit-lt}
 use Rattle.simulator.specs.Fits.{netOf}
+use Rattle.simulator.proofs.Cells.{net-cell, net-length, fits-at}
 use Rattle.simulator.proofs.Memories.{below-more, below-lt, below-le}
-use Rattle.simulator.proofs.Passes.{net-cell, net-length, fits-at, upTo-next, upTo-none}
+use Rattle.simulator.proofs.Passes.{upTo-next, upTo-none}
 use Rattle.simulator.proofs.start.show_first.Statement.{statement}
 use Rattle.simulator.proofs.start.show_first.Tie as tie
 

@@ -1,0 +1,212 @@
+-- A program's netlist from its parts: what is known of an accepted program, what each part asks, and how the parts make the whole.
+-- Assumes nothing.
+use mathlib.Core.Path.{_≡_, refl, sym, _∙_, ap}
+use mathlib.Core.List.{List, [], _∷_, _++_, append-assoc}
+use Prim.Native.Nat.{ℕ, _+_, _*_, _/_, _≤_}
+use native.Mathlib.Omega.{arith}
+use lib.ListN.{length, length-append}
+use lib.Seq.{sets}
+use Rattle.model.specs.declared.Cell.{Cell}
+use Rattle.model.specs.declared.Checked.the-variants.{Accepted}
+use Rattle.model.specs.Program.{Stmt, checkOf, programOf}
+use Rattle.model.specs.Circuit.{cell}
+use Rattle.model.specs.NetlistFile.{cellBytes, cellsAt, inList}
+use Rattle.model.specs.Numbering.{clockSources, dataSources, orCountFrom, clockAt, memoryAt, walkAt, dataAt, headCells, memoriesOf, netlist, finish}
+use Rattle.theory.specs.Numbering.Structure.{d-len, w-len}
+use Rattle.theory.specs.Program.Fit.{Formed}
+use Rattle.theory.specs.Numbering.Parts.{delayCells, clockOrs, memoryCells, walkCells, dataOrs, orsFrom-len, outs-len, mems16, net-length}
+use Rattle.theory.specs.Numbering.Count.{size}
+use Rattle.theory.specs.Program.Accepted.{program-fit}
+use Rattle.theory.specs.Program.Size.{few-nodes}
+use Rattle.theory.specs.NetlistFile.CellBytes.{from-bytes, cells-are}
+use Rattle.netlist.proofs.Writes.{overwrite-sets}
+use Rattle.netlist.proofs.Bytes.{cell-bytes-length}
+use Rattle.compiler.specs.declared.walk.Place.{Place}
+use Rattle.compiler.specs.declared.ors.Ors.{Ors}
+use Rattle.compiler.specs.declared.ors.Joint.{Joint}
+use Rattle.compiler.specs.declared.whole.Ends.{Ends}
+use Rattle.compiler.specs.Writes.{write, both}
+use Rattle.compiler.specs.Walk.{assignments, Ready, Done}
+use Rattle.compiler.specs.Ors.{sourcesFrom, OrsReady, Ored}
+use Rattle.compiler.specs.Whole.{Given, Clocked, Walked, Made}
+use Rattle.compiler.proofs.Writes.{write-append, write-swap, write-length}
+use Rattle.compiler.proofs.Stmts.{place}
+use Rattle.compiler.proofs.Marks.{few-assignments, clock-marks, data-marks}
+
+-- An accepted program ------------------------------------------------------------------------------------------------------------------
+
+record Facts (P : Stmt) : Type 0 where
+  formed : Formed P
+  few : assignments P ≤ 200
+  len : length (netlist P) ≡ dataAt P + orCountFrom (dataSources P (walkAt P)) 0 16
+  most : length (netlist P) ≤ 619
+
+facts : (s : List ℕ) → checkOf s ≡ Accepted → Facts (programOf s)
+facts s e =
+    let P = programOf s in
+    let n = few-nodes s e in
+    record { formed = program-fit s e .formed; few = omega (arith, n, few-assignments P); len = net-length P; most = omega (arith, n, size P) }
+
+-- Parts --------------------------------------------------------------------------------------------------------------------------------
+
+abbrev pub clockJoint : Joint
+clockJoint = record { kind = 35; none = 1; mark = 1 }
+
+abbrev pub dataJoint : Joint
+dataJoint = record { kind = 7; none = 2; mark = 2 }
+
+-- what a walk from the first mark on tells
+module _ {M : ℕ} {P : Stmt} {p e : Place} {before after ms marked : List ℕ} (u : Done M P p before after ms marked e) (z : p .mark ≡ 0) where
+  marked-count : e .mark / 3 ≡ assignments P
+  marked-count = omega (arith, u .mark, z)
+
+  module _ (l : length ms ≡ 600) (h : assignments P ≤ 200) where
+    marked-clocks : sourcesFrom 1 marked 0 (e .mark / 3) ≡ clockSources P (p .delay)
+    marked-clocks = rw (marked-count, u .marks, z) (clock-marks P (p .delay) (p .cell) ms (omega arith))
+
+    marked-datas : sourcesFrom 2 marked 0 (e .mark / 3) ≡ dataSources P (p .cell)
+    marked-datas = rw (marked-count, u .marks, z) (data-marks P (p .delay) (p .cell) ms (omega arith))
+
+module _ {s ends : List ℕ} {n : ℕ} (G : Given s ends n) where
+  F : Facts (programOf s)
+  F = facts s (G .accepted)
+
+  -- the first walk
+  pub first-ready : Ready 0 (programOf s) (place 0 3 603 0) n
+  first-ready =
+      let f = F in
+      record {
+        formed = f .formed;
+        memory = omega arith;
+        apart = omega (arith, f .len, f .most);
+        room = omega (arith, f .len, f .most, G .size);
+        small = omega (arith, G .size);
+        marks = omega (arith, f .few);
+      }
+
+  module _ {before first ms marked : List ℕ} {e : Place} (u : Done 0 (programOf s) (place 0 3 603 0) before first ms marked e) (l : length ms ≡ 600) where
+    pub clocks-ready : OrsReady clockJoint (e .mark / 3) (e .delay) (orCountFrom (sourcesFrom 1 marked 0 (e .mark / 3)) 0 16) n
+    clocks-ready =
+        let f = F in
+        rw (marked-clocks u refl l (f .few), u .delay)
+        (record {
+          few = omega (arith, marked-count u refl, f .few);
+          mark = omega arith;
+          room = omega (arith, f .len, f .most, G .size);
+          small = omega (arith, G .size);
+        })
+
+    pub clocked : {after : List ℕ} {r : Ors} → Ored clockJoint (e .delay) (sourcesFrom 1 marked 0 (e .mark / 3)) first after r
+        → Clocked (programOf s) after r
+    clocked v₀ =
+        let v = rw (u .delay, marked-clocks u refl l (F .few)) at v₀ in
+        record { first = first; cells = v .cells; wires = v .wires; next = v .next }
+
+  -- the second walk
+  module _ {M : ℕ} (m : M ≡ memoryAt (programOf s)) where
+    pub walk-ready : Ready M (programOf s) (place 0 3 (M + 16) 0) n
+    walk-ready =
+        let f = F in
+        record {
+          formed = f .formed;
+          memory = omega (arith, m, f .len, f .most);
+          apart = omega (arith, m);
+          room = omega (arith, m, f .len, f .most, G .size);
+          small = omega (arith, G .size);
+          marks = omega (arith, f .few);
+        }
+
+    pub walk-low : M + 16 ≤ 619
+    walk-low = let f = F in omega (arith, m, f .len, f .most)
+
+    module _ {before mid ms marked : List ℕ} {e : Place} (u₀ : Done M (programOf s) (place 0 3 (M + 16) 0) before mid ms marked e) (l : length ms ≡ 600) where
+      u : Done (memoryAt (programOf s)) (programOf s) (place 0 3 (walkAt (programOf s)) 0) before mid ms marked e
+      u = rw m at u₀
+
+      pub datas-ready : OrsReady dataJoint (e .mark / 3) (e .cell) (orCountFrom (sourcesFrom 2 marked 0 (e .mark / 3)) 0 16) n
+      datas-ready =
+          let f = F in
+          rw (marked-datas u refl l (f .few), u .cell)
+          (record {
+            few = omega (arith, marked-count u refl, f .few);
+            mark = omega arith;
+            room = omega (arith, f .len, f .most, G .size);
+            small = omega (arith, G .size);
+          })
+
+      pub walked : {after : List ℕ} {r : Ors} → Ored dataJoint (e .cell) (sourcesFrom 2 marked 0 (e .mark / 3)) mid after r
+          → Walked (programOf s) before after (record { wires = r .wires; count = r .next; finish = e .wire })
+      unfolding finish
+      walked v₀ =
+          let v = rw (u .cell, marked-datas u refl l (F .few)) at v₀ in
+          record {
+            cells = rw (u .cells) at (v .cells);
+            wires = v .wires;
+            count = v .next ∙ sym (F .len);
+            finish = u .wire;
+          }
+
+pub clock-sixteen : {P : Stmt} {b : List ℕ} {r : Ors} → Clocked P b r → length (r .wires) ≡ 16
+clock-sixteen {P} K = ap length (K .wires) ∙ outs-len 1 (clockSources P 3) (clockAt P) 0 16
+
+pub data-sixteen : {P : Stmt} {b a : List ℕ} {r : Ends} → Walked P b a r → length (r .wires) ≡ 16
+data-sixteen {P} W = ap length (W .wires) ∙ outs-len 2 (dataSources P (walkAt P)) (dataAt P) 0 16
+
+-- The whole ----------------------------------------------------------------------------------------------------------------------------
+
+-- a run put in before another
+write-before : (k m : ℕ) (xs ys : List Cell) (s : List ℕ) → m ≡ k + length xs → write k xs (write m ys s) ≡ write k (xs ++ ys) s
+write-before k m xs ys s e = write-swap k m xs ys s (omega arith) ∙ write-append k m xs ys s e
+
+module _ (P : Stmt) (first : List ℕ) where
+  assembled : write 0 headCells (write (memoryAt P) (memoryCells P) (write (dataAt P) (dataOrs P) (both 3 (delayCells P) (walkAt P) (walkCells P) (write (clockAt P) (clockOrs P) first))))
+      ≡ write 0 (netlist P) first
+  unfolding netlist both
+  assembled =
+      let D = delayCells P in
+      let C = clockOrs P in
+      let N = memoryCells P in
+      let W = walkCells P in
+      let O = dataOrs P in
+      let lD = d-len P 0 3 (walkAt P) in
+      let lC = orsFrom-len 35 (clockSources P 3) (clockAt P) 0 16 in
+      let lW = w-len (memoryAt P) P 0 3 (walkAt P) in
+      rw (
+        write-before 3 (clockAt P) D C first (omega (arith, lD)),
+        write-append (walkAt P) (dataAt P) W O (write 3 (D ++ C) first) (omega (arith, lW)),
+        write-before (memoryAt P) (walkAt P) N (W ++ O) (write 3 (D ++ C) first) (omega (arith, mems16 P)),
+        write-append 3 (memoryAt P) (D ++ C) (N ++ (W ++ O)) first (simp length-append (omega (arith, lD, lC))),
+        write-before 0 3 headCells ((D ++ C) ++ (N ++ (W ++ O))) first refl,
+        append-assoc D C (N ++ (W ++ O)),
+      )
+
+-- cells that were put in at the front are there
+cells-put : (cs : List Cell) (s : List ℕ) → 6 * length cs ≤ length s → cellsAt inList (write 0 cs s) 0 (length cs) ≡ cs
+unfolding write
+cells-put cs s h =
+    cells-are inList (sets s 0 (cellBytes cs)) cs 0 (length cs) refl
+    (λ i l.
+    let z : 6 * (0 + i) ≡ 6 * i = omega arith in
+    rw (z, ← overwrite-sets (cellBytes cs) s (omega (arith, cell-bytes-length cs))) (from-bytes cs _ i l))
+
+pub made : {s ends : List ℕ} {n : ℕ} → Given s ends n → {b₁ b₂ b₃ b₄ b₅ b₆ : List ℕ} {r : Ors} {w : Ends} → length b₁ ≡ n
+    → Clocked (programOf s) b₁ r
+    → Walked (programOf s) b₁ b₂ w
+    → b₃ ≡ write (r .next) (memoriesOf (r .wires) (w .wires)) b₂
+    → b₄ ≡ write 0 (cell 32 0 0 0 ∷ []) b₃
+    → b₅ ≡ write 1 (cell 33 0 0 0 ∷ []) b₄
+    → b₆ ≡ write 2 (cell 1 0 0 0 ∷ []) b₅
+    → Made (programOf s) b₆ (record { count = w .count; finish = w .finish })
+made {s} G {b₃ = b₃} l K W e₃ e₄ e₅ e₆ =
+    let f = facts s (G .accepted) in
+    let P = programOf s in
+    let head : write 2 (cell 1 0 0 0 ∷ []) (write 1 (cell 33 0 0 0 ∷ []) (write 0 (cell 32 0 0 0 ∷ []) b₃)) ≡ write 0 headCells b₃ =
+    ap (write 2 (cell 1 0 0 0 ∷ [])) (write-append 0 1 (cell 32 0 0 0 ∷ []) (cell 33 0 0 0 ∷ []) b₃ refl)
+    ∙ write-append 0 2 (cell 32 0 0 0 ∷ (cell 33 0 0 0 ∷ [])) (cell 1 0 0 0 ∷ []) b₃ refl in
+    let all = rw (e₅, e₄, head, e₃, K .next, K .wires, W .wires, W .cells, K .cells, assembled P (K .first)) at e₆ in
+    let long : length (K .first) ≡ 7218 = sym (write-length (clockAt P) (clockOrs P) (K .first)) ∙ sym (ap length (K .cells)) ∙ l ∙ G .size in
+    record {
+      cells = rw (all, W .count) (cells-put (netlist P) (K .first) (omega (arith, f .most)));
+      count = W .count;
+      finish = W .finish;
+    }

@@ -1,0 +1,72 @@
+-- What the walk of an expression asks of its parts, and what it leaves, kind by kind. Assumes nothing.
+use mathlib.Core.Path.{_≡_, refl, sym, _∙_, ap}
+use mathlib.Core.List.{List, [], _∷_}
+use Prim.Native.Nat.{ℕ, _+_}
+use native.Mathlib.Omega.{arith}
+use lib.ListN.{length}
+use Rattle.model.specs.Program.{Expr, const, var, compl, op}
+use Rattle.model.specs.Circuit.{cell}
+use Rattle.model.specs.Numbering.{exprCount, exprWire, exprCells}
+use Rattle.theory.specs.Numbering.Structure.{e-len}
+use Rattle.compiler.specs.declared.walk.Word.{Word}
+use Rattle.compiler.specs.Writes.{write}
+use Rattle.compiler.specs.Walk.{ExprReady, ExprDone}
+use Rattle.compiler.proofs.Writes.{write-none, write-append}
+
+abbrev word : ℕ → ℕ → Word
+word w c = record { wire = w; cell = c }
+
+-- the number after an expression's cells, as the laws of writes have it
+after : (M : ℕ) (e : Expr) (c : ℕ) → c + exprCount e ≡ c + length (exprCells M e c)
+after M e c = ap (λ (n : ℕ). c + n) (sym (e-len M e c))
+
+module _ {M c : ℕ} {before : List ℕ} where
+  pub const-done : {n : ℕ} {end : List ℕ} → end ≡ write c (cell 1 0 n 0 ∷ []) before → ExprDone M (const n) c before end (word c (c + 1))
+  unfolding exprCells exprWire exprCount
+  const-done w = record { cells = w; wire = refl; cell = refl }
+
+  pub var-done : {x : ℕ} → ExprDone M (var x) c before before (word (M + x) c)
+  unfolding exprCells exprWire exprCount
+  var-done = record { cells = sym (write-none c before); wire = refl; cell = omega arith }
+
+  module _ {E : Expr} {mid : List ℕ} {e : Word} (u : ExprDone M E c before mid e) where
+    pub compl-done : {end : List ℕ} → end ≡ write (e .cell) (cell 3 0 (e .wire) 0 ∷ []) mid
+        → ExprDone M (compl E) c before end (word (e .cell) (e .cell + 1))
+    unfolding exprCells exprWire exprCount
+    compl-done w =
+        rw (u .cell)
+        (record {
+          cells = rw (u .cell, u .wire, u .cells) at w ∙ write-append c _ (exprCells M E c) _ before (after M E c);
+          wire = refl;
+          cell = omega arith;
+        })
+
+    pub op-done : {k : ℕ} {F : Expr} {mid₂ end : List ℕ} {f : Word} → ExprDone M F (e .cell) mid mid₂ f
+        → end ≡ write (f .cell) (cell k 0 (e .wire) (f .wire) ∷ []) mid₂ → ExprDone M (op k E F) c before end (word (f .cell) (f .cell + 1))
+    unfolding exprCells exprWire exprCount
+    op-done {k} {F} v₀ w =
+        let c₂ = c + exprCount E in
+        let v = rw (u .cell) at v₀ in
+        rw (v .cell)
+        (record {
+          cells =
+              rw (v .cell, v .wire, u .wire, v .cells, u .cells) at w
+              ∙ write-append c₂ _ (exprCells M F c₂) _ (write c (exprCells M E c) before) (after M F c₂)
+              ∙ write-append c c₂ (exprCells M E c) _ before (after M E c);
+          wire = refl;
+          cell = omega arith;
+        })
+
+module _ {M c n : ℕ} where
+  pub compl-ready : {E : Expr} → ExprReady M (compl E) c n → ExprReady M E c n
+  unfolding exprCount
+  compl-ready r = record { formed = r .formed; memory = r .memory; room = omega (arith, r .room); small = r .small }
+
+  module _ {k : ℕ} {E F : Expr} (r : ExprReady M (op k E F) c n) where
+    pub op-first : ExprReady M E c n
+    unfolding exprCount
+    op-first = record { formed = r .formed .2; memory = r .memory; room = omega (arith, r .room); small = r .small }
+
+    pub op-second : ExprReady M F (c + exprCount E) n
+    unfolding exprCount
+    op-second = record { formed = r .formed .3; memory = r .memory; room = omega (arith, r .room); small = r .small }

@@ -1,0 +1,10 @@
+-- The laws behind the proofs of the functions.
+pub mod Writes
+pub mod Reading
+pub mod Exprs
+pub mod Stmts
+pub mod Parts
+pub mod Joining
+pub mod Marks
+pub mod Assembly
+pub mod Call

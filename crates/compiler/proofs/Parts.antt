@@ -1,0 +1,83 @@
+-- What the walk asks of the parts of a statement, from what the statement was given. Assumes nothing.
+use mathlib.Core.List.{List}
+use Prim.Native.Nat.{ℕ, _+_, _*_, _≤_}
+use native.Mathlib.Omega.{arith}
+use Rattle.model.specs.Program.{Expr, Stmt, assign, seq, par, ite, while, repeat}
+use Rattle.model.specs.Numbering.{exprCount, pastSwitches, delayCount, walkCount}
+use Rattle.theory.specs.Program.Fit.{FormedExpr, Formed}
+use Rattle.compiler.specs.declared.walk.Place.{Place}
+use Rattle.compiler.specs.declared.walk.Pulse.{Pulse}
+use Rattle.compiler.specs.Walk.{ExprReady, SwitchReady, Switched, assignments, Owned, Ready, Done}
+use Rattle.compiler.proofs.Stmts.{place, left}
+
+module _ {M n : ℕ} {p : Place} where
+  -- a part is ready where it stays within the whole
+  module _ {S : Stmt} (r : Ready M S p n) where
+    part : {P : Stmt} {q : Place} → Formed P → q .delay + delayCount P ≤ q .cell → q .cell + walkCount P ≤ p .cell + walkCount S
+        → q .mark + 3 * assignments P ≤ p .mark + 3 * assignments S → Ready M P q n
+    part w a b k =
+        record { formed = w; memory = r .memory; apart = a; room = omega (arith, b, r .room); small = r .small; marks = omega (arith, k, r .marks) }
+
+    expr-part : {E : Expr} → FormedExpr E → p .cell + exprCount E ≤ p .cell + walkCount S → ExprReady M E (p .cell) n
+    expr-part w b = record { formed = w; memory = r .memory; room = omega (arith, b, r .room); small = r .small }
+
+    switch-part : {E : Expr} → FormedExpr E → pastSwitches E (p .cell) ≤ p .cell + walkCount S → SwitchReady M E (p .cell) n
+    switch-part w b = record { expr = expr-part w (omega (arith, b)); room = omega (arith, b, r .room) }
+
+  pub assign-expr : {δ x : ℕ} {E : Expr} → Ready M (assign δ x E) p n → ExprReady M E (p .cell) n
+  unfolding walkCount
+  assign-expr r = expr-part r (r .formed .1) (omega arith)
+
+  module _ {P Q : Stmt} where
+    pub seq-first : Ready M (seq P Q) p n → Ready M P p n
+    unfolding delayCount walkCount assignments
+    seq-first r = part r (r .formed .0) (omega (arith, r .apart)) (omega arith) (omega arith)
+
+    pub seq-second : {q : Place} {b a k l : List ℕ} → Ready M (seq P Q) p n → Done M P p b a k l q → Ready M Q q n
+    unfolding delayCount walkCount assignments
+    seq-second r u = rw (left u) (part r (r .formed .1) (omega (arith, r .apart)) (omega arith) (omega arith))
+
+    pub par-first : Ready M (par P Q) p n → Ready M P p n
+    unfolding delayCount walkCount assignments
+    par-first r = part r (r .formed .0) (omega (arith, r .apart)) (omega arith) (omega arith)
+
+    pub par-second : {q : Place} {b a k l : List ℕ} → Ready M (par P Q) p n → Done M P p b a k l q
+        → Ready M Q (place (p .wire) (q .delay) (q .cell) (q .mark)) n
+    unfolding delayCount walkCount assignments
+    par-second r u = rw (left u) (part r (r .formed .1) (omega (arith, r .apart)) (omega arith) (omega arith))
+
+    module _ {δ : ℕ} {E : Expr} (r : Ready M (ite δ E P Q) p n) where
+      pub if-switches : SwitchReady M E (p .cell) n
+      unfolding walkCount
+      if-switches = switch-part r (r .formed .0) (omega arith)
+
+      module _ {g t : ℕ} {m₀ m₁ m₂ : List ℕ} {o : Pulse} (ow : Owned δ (p .wire) (p .delay) m₀ m₁ o) (sw : Switched M E (p .cell) g m₁ m₂ t) where
+        pub if-first : Ready M P (place t (o .delay) (t + 1 + 1) (p .mark)) n
+        unfolding delayCount walkCount assignments
+        if-first = rw (sw .switch, ow .delay) (part r (r .formed .1) (omega (arith, r .apart)) (omega arith) (omega arith))
+
+        pub if-second : {q : Place} {b a k l : List ℕ} → Done M P (place t (o .delay) (t + 1 + 1) (p .mark)) b a k l q
+            → Ready M Q (place (t + 1) (q .delay) (q .cell) (q .mark)) n
+        unfolding delayCount walkCount assignments
+        if-second u₀ =
+            let u = rw (sw .switch, ow .delay) at u₀ in
+            rw (sw .switch, left u) (part r (r .formed .2) (omega (arith, r .apart)) (omega arith) (omega arith))
+
+  module _ {δ : ℕ} {E : Expr} {P : Stmt} where
+    pub while-switches : Ready M (while δ E P) p n → SwitchReady M E (p .cell) n
+    unfolding walkCount
+    while-switches r = switch-part r (r .formed .0) (omega arith)
+
+    pub while-body : {g t : ℕ} {m₁ m₂ : List ℕ} → Ready M (while δ E P) p n → Switched M E (p .cell) g m₁ m₂ t
+        → Ready M P (place t (p .delay + 1) (t + 1 + 1) (p .mark)) n
+    unfolding delayCount walkCount assignments
+    while-body r sw = rw (sw .switch) (part r (r .formed .1) (omega (arith, r .apart)) (omega arith) (omega arith))
+
+    pub repeat-switches : Ready M (repeat δ E P) p n → SwitchReady M E (p .cell) n
+    unfolding walkCount
+    repeat-switches r = switch-part r (r .formed .0) (omega arith)
+
+    pub repeat-body : {g t : ℕ} {m₁ m₂ : List ℕ} → Ready M (repeat δ E P) p n → Switched M E (p .cell) g m₁ m₂ t
+        → Ready M P (place (t + 1 + 1) (p .delay + 1) (t + 1 + 1 + 1) (p .mark)) n
+    unfolding delayCount walkCount assignments
+    repeat-body r sw = rw (sw .switch) (part r (r .formed .1) (omega (arith, r .apart)) (omega arith) (omega arith))

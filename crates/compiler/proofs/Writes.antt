@@ -1,0 +1,73 @@
+-- Runs of cells in a list of bytes: one after another, and two that do not meet. Assumes nothing.
+use mathlib.Core.List.{List, [], _∷_, _++_}
+use mathlib.Core.Path.{_≡_, refl, sym, _∙_, ap}
+use Prim.Native.Nat.{ℕ, _+_, _*_, _≤_}
+use native.Mathlib.Omega.{arith}
+use lib.ListN.{length}
+use lib.Seq.{length-sets}
+use Rattle.model.specs.declared.Cell.{Cell}
+use Rattle.model.specs.Word.{bytes16}
+use Rattle.model.specs.NetlistFile.{cellBytes}
+use Rattle.netlist.proofs.Writes.{sets-append, sets-swap}
+use Rattle.netlist.proofs.Bytes.{cell-bytes-length}
+use Rattle.compiler.specs.Writes.{write, both}
+
+bytes-append : (xs ys : List Cell) → cellBytes (xs ++ ys) ≡ cellBytes xs ++ cellBytes ys
+unfolding cellBytes bytes16
+bytes-append [] ys = refl
+bytes-append (x ∷ xs) ys = rw (bytes-append xs ys)
+
+pub write-none : (k : ℕ) (s : List ℕ) → write k [] s ≡ s
+unfolding write cellBytes
+write-none k s = refl
+
+pub write-length : (k : ℕ) (xs : List Cell) (s : List ℕ) → length (write k xs s) ≡ length s
+unfolding write
+write-length k xs s = length-sets s (6 * k) (cellBytes xs)
+
+pub write-append : (k m : ℕ) (xs ys : List Cell) (s : List ℕ) → m ≡ k + length xs → write m ys (write k xs s) ≡ write k (xs ++ ys) s
+unfolding write
+write-append k m xs ys s e =
+    let p : 6 * m ≡ 6 * k + length (cellBytes xs) = omega (arith, cell-bytes-length xs) in
+    rw (p, bytes-append xs ys) (sym (sets-append s (6 * k) (cellBytes xs) (cellBytes ys)))
+
+pub write-swap : (k j : ℕ) (xs ys : List Cell) (s : List ℕ) → k + length xs ≤ j → write k xs (write j ys s) ≡ write j ys (write k xs s)
+unfolding write
+write-swap k j xs ys s h = sets-swap s (6 * k) (cellBytes xs) (6 * j) (cellBytes ys) (omega (arith, cell-bytes-length xs))
+
+-- Delay cells and walk cells -----------------------------------------------------------------------------------------------------------
+
+pub both-none : (d c : ℕ) (ys : List Cell) (s : List ℕ) → write c ys s ≡ both d [] c ys s
+unfolding both
+both-none d c ys s = ap (write c ys) (sym (write-none d s))
+
+module _ (d c : ℕ) (xs ys : List Cell) (s : List ℕ) where
+  pub both-start : write c ys (write d xs s) ≡ both d xs c ys s
+  unfolding both
+  both-start = refl
+
+  -- the delay cells may come last
+  pub both-late : d + length xs ≤ c → write d xs (write c ys s) ≡ both d xs c ys s
+  unfolding both
+  both-late h = write-swap d c xs ys s h
+
+  module _ (zs : List Cell) (m : ℕ) where
+    -- more walk cells
+    pub both-walk : m ≡ c + length ys → write m zs (both d xs c ys s) ≡ both d xs c (ys ++ zs) s
+    unfolding both
+    both-walk e = write-append c m ys zs (write d xs s) e
+
+    -- more delay cells, behind and in front
+    pub both-delay : m ≡ d + length xs → m + length zs ≤ c → write m zs (both d xs c ys s) ≡ both d (xs ++ zs) c ys s
+    unfolding both
+    both-delay e h = write-swap m c zs ys (write d xs s) h ∙ ap (write c ys) (write-append d m xs zs s e)
+
+    pub both-front : d ≡ m + length zs → d + length xs ≤ c → write m zs (both d xs c ys s) ≡ both m (zs ++ xs) c ys s
+    unfolding both
+    both-front e h =
+        write-swap m c zs ys (write d xs s) (omega arith) ∙ ap (write c ys) (write-swap m d zs xs s (omega arith) ∙ write-append m d zs xs s e)
+
+  pub both-both : (d′ c′ : ℕ) (xs′ ys′ : List Cell) → d′ ≡ d + length xs → c′ ≡ c + length ys → d′ + length xs′ ≤ c
+      → both d′ xs′ c′ ys′ (both d xs c ys s) ≡ both d (xs ++ xs′) c (ys ++ ys′) s
+  unfolding both
+  both-both d′ c′ xs′ ys′ ed ec h = ap (write c′ ys′) (both-delay xs′ d′ ed h) ∙ write-append c c′ ys ys′ (write d (xs ++ xs′) s) ec

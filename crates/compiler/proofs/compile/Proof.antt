@@ -1,0 +1,75 @@
+-- `compile` meets its contract. Assumes nothing.
+use mathlib.Core.Path.{sym, _∙_}
+use borrow.Author.Needs.{needs}
+use Rattle.compiler.proofs.Call.{scanned, list-room, compile-refused, compile-short, compile-done}
+use Rattle.compiler.proofs.compile.Statement.{statement}
+use Rattle.compiler.proofs.compile.Tie as tie
+
+scan-requires : tie.Need-scan-requires
+scan-requires c κs = search needs
+
+enum-known-checked : tie.Need-enum-known-checked
+enum-known-checked c = search needs
+
+returns : tie.Need-returns
+returns c =
+    compile-refused _ (sym (c .before .before .before .scan .ensures .checked) ∙ c .before .checked .given .1)
+
+enum-told : tie.Need-enum-told
+enum-told c = search needs
+
+slice-aggregate-put-netlist : tie.Need-slice-aggregate-put-netlist
+slice-aggregate-put-netlist c = search needs
+
+put-netlist-requires : tie.Need-put-netlist-requires
+put-netlist-requires c κs =
+    scanned (c .before .before .before .before .before .scan .ensures) (sym (c .before .before .before .before .before .scan .ensures .checked) ∙ c .before .before .before .enum-told .given .1)
+
+cast-n : tie.Need-cast-n
+cast-n c = search needs
+
+add-count : tie.Need-add-count
+add-count c = search needs
+
+mul-count : tie.Need-mul-count
+mul-count c = search needs
+
+returns-2 : tie.Need-returns-2
+returns-2 c =
+    let accepted = sym (c .before .before .before .before .before .before .before .before .before .scan .ensures .checked) ∙ c .before .before .before .before .before .before .before .enum-told .given .1 in
+    compile-short _ accepted (c .before .before .before .put-netlist .ensures) (c .if1 .taken)
+
+slice-aggregate-put-file : tie.Need-slice-aggregate-put-file
+slice-aggregate-put-file c = search needs
+
+put-file-requires : tie.Need-put-file-requires
+put-file-requires c κs =
+    let accepted = sym (c .before .before .before .before .before .before .before .before .before .before .before .scan .ensures .checked) ∙ c .before .before .before .before .before .before .before .before .before .enum-told .given .1 in
+    (c .before .before .if1 .left, list-room _ accepted (c .before .before .before .before .before .put-netlist .ensures) (c .before .before .before .before .before .put-netlist .kept .0))
+
+same-length : tie.Need-same-length
+same-length c = search needs
+
+returns-3 : tie.Need-returns-3
+returns-3 c =
+    let accepted = sym (c .before .before .before .before .before .before .before .before .before .before .before .before .before .before .scan .ensures .checked) ∙ c .before .before .before .before .before .before .before .before .before .before .before .before .enum-told .given .1 in
+    compile-done _ accepted (c .before .before .before .before .before .before .before .before .put-netlist .ensures) _ (c .before .before .before .before .before .if1 .left) (c .before .before .put-file .ensures)
+
+pub compile-spec : {M : Type 1} → statement M
+compile-spec =
+    tie.close
+    (tie.spec
+    scan-requires
+    enum-known-checked
+    returns
+    enum-told
+    slice-aggregate-put-netlist
+    put-netlist-requires
+    cast-n
+    add-count
+    mul-count
+    returns-2
+    slice-aggregate-put-file
+    put-file-requires
+    same-length
+    returns-3)

@@ -1,0 +1,60 @@
+-- `compile_accepted` meets its contract. Assumes nothing.
+use mathlib.Core.Path.{sym}
+use native.Mathlib.Omega.{arith}
+use borrow.Author.Needs.{needs}
+use Rattle.compiler.proofs.Call.{scanned, file-size, list-room, file-put}
+use Rattle.compiler.proofs.compile_accepted.Statement.{statement}
+use Rattle.compiler.proofs.compile_accepted.Tie as tie
+
+scan-requires : tie.Need-scan-requires
+scan-requires c κs = search needs
+
+slice-aggregate-put-netlist : tie.Need-slice-aggregate-put-netlist
+slice-aggregate-put-netlist c = search needs
+
+put-netlist-requires : tie.Need-put-netlist-requires
+put-netlist-requires c κs =
+    scanned (c .before .before .before .scan .ensures) (c .before .before .before .before .before .before .pre .0)
+
+cast-n : tie.Need-cast-n
+cast-n c = search needs
+
+slice-aggregate-put-file : tie.Need-slice-aggregate-put-file
+slice-aggregate-put-file c = search needs
+
+put-file-requires : tie.Need-put-file-requires
+put-file-requires c κs =
+    let made = c .before .before .before .before .put-netlist in
+    let pre = c .before .before .before .before .before .before .before .before .before .before .before .pre in
+    (omega (arith, file-size _ (pre .0) (made .ensures), pre .1), list-room _ (pre .0) (made .ensures) (made .kept .0))
+
+add-result : tie.Need-add-result
+add-result c = search needs
+
+mul-result : tie.Need-mul-result
+mul-result c = search needs
+
+same-length : tie.Need-same-length
+same-length c = search needs
+
+returns : tie.Need-returns
+returns c =
+    let made = c .before .before .before .before .before .before .before .put-netlist .ensures in
+    let pre = c .before .before .before .before .before .before .before .before .before .before .before .before .before .before .pre in
+    let size = file-size _ (pre .0) made in
+    (sym size, file-put _ (pre .0) made _ (omega (arith, size, pre .1)) (c .before .before .put-file .ensures))
+
+pub compile-accepted-spec : {M : Type 1} → statement M
+compile-accepted-spec =
+    tie.close
+    (tie.spec
+    scan-requires
+    slice-aggregate-put-netlist
+    put-netlist-requires
+    cast-n
+    slice-aggregate-put-file
+    put-file-requires
+    add-result
+    mul-result
+    same-length
+    returns)

@@ -1,0 +1,90 @@
+-- What the walk asks, and what it leaves, of an expression and of a statement. Assumes nothing: definitions.
+use mathlib.Core.Path.{_≡_}
+use mathlib.Core.List.{List, [], _∷_, _++_}
+use Prim.Native.Nat.{ℕ, _+_, _*_, _<_, _≤_}
+use lib.Seq.{sets}
+use Rattle.model.specs.Program.{Expr, Stmt, ok, tick, assign, seq, par, ite, while, repeat, nodeCount}
+use Rattle.model.specs.Numbering.{exprCount, exprWire, exprCells, onTrue, pastSwitches, switches, own, ownCell, pulse, delayCount, walkCount, finishWire, delays, walk}
+use Rattle.theory.specs.Program.Fit.{FormedExpr, Formed}
+use Rattle.program.specs.Ends.{Laid}
+use Rattle.compiler.specs.declared.walk.Word.{Word}
+use Rattle.compiler.specs.declared.walk.Place.{Place}
+use Rattle.compiler.specs.declared.walk.Pulse.{Pulse}
+use Rattle.compiler.specs.Writes.{write, both}
+
+-- Expressions --------------------------------------------------------------------------------------------------------------------------
+
+-- e goes to cell c of a list of n bytes; the first memory is cell M
+pub record ExprReady (M : ℕ) (e : Expr) (c n : ℕ) : Type 0 where
+  pub formed : FormedExpr e
+  pub memory : M + 16 ≤ 1203
+  pub room : 6 * (c + exprCount e) ≤ n
+  pub small : n ≤ 7218
+
+pub record ExprDone (M : ℕ) (e : Expr) (c : ℕ) (before after : List ℕ) (r : Word) : Type 0 where
+  pub cells : after ≡ write c (exprCells M e c) before
+  pub wire : r .wire ≡ exprWire M e c
+  pub cell : r .cell ≡ c + exprCount e
+
+-- a condition and its switches go there
+pub record SwitchReady (M : ℕ) (e : Expr) (c n : ℕ) : Type 0 where
+  pub expr : ExprReady M e c n
+  pub room : 6 * pastSwitches e c ≤ n
+
+pub record Switched (M : ℕ) (e : Expr) (c pulse : ℕ) (before after : List ℕ) (r : ℕ) : Type 0 where
+  pub cells : after ≡ write c (switches M e pulse c []) before
+  pub switch : r ≡ onTrue e c
+
+-- Statements ---------------------------------------------------------------------------------------------------------------------------
+
+-- how many assignments a statement has
+unfoldable pub assignments : Stmt → ℕ
+assignments ok = 0
+assignments (tick δ) = 0
+assignments (assign δ x e) = 1
+assignments (seq P Q) = assignments P + assignments Q
+assignments (par P Q) = assignments P + assignments Q
+assignments (ite δ e P Q) = assignments P + assignments Q
+assignments (while δ e P) = assignments P
+assignments (repeat δ e P) = assignments P
+
+-- their marks, in node order: variable, first delay cell, kind 41 cell
+unfoldable pub marksOf : Stmt → ℕ → ℕ → List ℕ
+marksOf ok d c = []
+marksOf (tick δ) d c = []
+marksOf (assign δ x e) d c = x ∷ d ∷ (c + exprCount e) ∷ []
+marksOf (seq P Q) d c = marksOf P d c ++ marksOf Q (d + delayCount P) (c + walkCount P)
+marksOf (par P Q) d c = marksOf P d c ++ marksOf Q (d + delayCount P) (c + walkCount P)
+marksOf (ite δ e P Q) d c = marksOf P (d + own δ) (pastSwitches e c) ++ marksOf Q (d + own δ + delayCount P) (pastSwitches e c + walkCount P)
+marksOf (while δ e P) d c = marksOf P (d + 1) (pastSwitches e c)
+marksOf (repeat δ e P) d c = marksOf P (d + 1) (pastSwitches e c + 1)
+
+-- an if's own delay cell
+pub record Owned (δ start d : ℕ) (before after : List ℕ) (r : Pulse) : Type 0 where
+  pub cells : after ≡ write d (ownCell δ start) before
+  pub wire : r .wire ≡ pulse δ start d
+  pub delay : r .delay ≡ d + own δ
+
+-- P goes to place p of a list of n bytes; its delay cells end below its walk cells
+pub record Ready (M : ℕ) (P : Stmt) (p : Place) (n : ℕ) : Type 0 where
+  pub formed : Formed P
+  pub memory : M + 16 ≤ 1203
+  pub apart : p .delay + delayCount P ≤ p .cell
+  pub room : 6 * (p .cell + walkCount P) ≤ n
+  pub small : n ≤ 7218
+  pub marks : p .mark + 3 * assignments P ≤ 600
+
+pub record Done (M : ℕ) (P : Stmt) (p : Place) (before after : List ℕ) (marked remarked : List ℕ) (r : Place) : Type 0 where
+  pub cells :
+      after ≡ both (p .delay) (delays P (p .wire) (p .delay) (p .cell)) (p .cell) (walk M P (p .wire) (p .delay) (p .cell)) before
+  pub marks : remarked ≡ sets marked (p .mark) (marksOf P (p .delay) (p .cell))
+  pub wire : r .wire ≡ finishWire P (p .wire) (p .delay) (p .cell)
+  pub delay : r .delay ≡ p .delay + delayCount P
+  pub cell : r .cell ≡ p .cell + walkCount P
+  pub mark : r .mark ≡ p .mark + 3 * assignments P
+
+-- the same is asked for P at node i, which is there
+pub record Arm (s ends : List ℕ) (M i : ℕ) (P : Stmt) (p : Place) (n : ℕ) : Type 0 where
+  pub laid : Laid s ends
+  pub here : i < nodeCount s
+  pub ready : Ready M P p n

@@ -1,0 +1,42 @@
+-- What the whole netlist's parts ask and leave. Assumes nothing: definitions.
+use mathlib.Core.Path.{_≡_}
+use mathlib.Core.List.{List}
+use Prim.Native.Nat.{ℕ}
+use lib.ListN.{length}
+use Rattle.model.specs.declared.Checked.the-variants.{Accepted}
+use Rattle.model.specs.Program.{Stmt, checkOf}
+use Rattle.model.specs.NetlistFile.{cellsAt, inList}
+use Rattle.model.specs.Numbering.{memoryAt, dataAt, walkAt, clockWires, dataWires, netlist, finish}
+use Rattle.theory.specs.Numbering.Parts.{delayCells, clockOrs, walkCells, dataOrs}
+use Rattle.model.specs.Numbering.{clockAt}
+use Rattle.program.specs.Ends.{Laid}
+use Rattle.compiler.specs.declared.ors.Ors.{Ors}
+use Rattle.compiler.specs.declared.whole.Ends.{Ends}
+use Rattle.compiler.specs.declared.whole.Netlist.{Netlist}
+use Rattle.compiler.specs.Writes.{write, both}
+
+-- an accepted program, with its array of subtree ends, and a list of 1,203 cells, of which the walk's numbers stay below 1,203
+pub record Given (s ends : List ℕ) (n : ℕ) : Type 0 where
+  pub accepted : checkOf s ≡ Accepted
+  pub laid : Laid s ends
+  pub size : n ≡ 7218
+
+-- the clock ors of P, put in after a first walk
+pub record Clocked (P : Stmt) (after : List ℕ) (r : Ors) : Type 0 where
+  pub first : List ℕ
+  pub cells : after ≡ write (clockAt P) (clockOrs P) first
+  pub wires : r .wires ≡ clockWires P
+  pub next : r .next ≡ memoryAt P
+
+-- its delay cells, its walk and its data ors
+pub record Walked (P : Stmt) (before after : List ℕ) (r : Ends) : Type 0 where
+  pub cells : after ≡ write (dataAt P) (dataOrs P) (both 3 (delayCells P) (walkAt P) (walkCells P) before)
+  pub wires : r .wires ≡ dataWires P
+  pub count : r .count ≡ length (netlist P)
+  pub finish : r .finish ≡ finish P
+
+-- its netlist
+pub record Made (P : Stmt) (after : List ℕ) (r : Netlist) : Type 0 where
+  pub cells : cellsAt inList after 0 (r .count) ≡ netlist P
+  pub count : r .count ≡ length (netlist P)
+  pub finish : r .finish ≡ finish P

@@ -1,0 +1,344 @@
+// The walk: the delay cells and the walk cells of a statement, put into a list of cells.
+// What a function leaves is an equation of writes: `write k cs s` is the list s with the cells cs put in from cell k on.
+ghost use mathlib.Core.Path.{_≡_};
+ghost use mathlib.Core.List.{[], _∷_};
+ghost use Prim.Native.Nat.{_+_, _*_, _<_, _≤_};
+ghost use lib.ListN.{length};
+ghost use Rattle.model.specs.Circuit.{cell};
+ghost use Rattle.model.specs.Program.{nodeCount, exprAt, stmtAt};
+ghost use Rattle.program.specs.Ends.{Laid};
+ghost use Rattle.compiler.specs.Writes.{write};
+ghost use Rattle.compiler.specs.Nodes.{assignAt, seqAt, parAt, iteAt, whileAt, repeatAt};
+ghost use Rattle.compiler.specs.Walk.{ExprReady, ExprDone, Owned, SwitchReady, Switched, Ready, Done, Arm};
+use model::Cell;
+use model::Node;
+
+// An expression's wire, and the next walk cell.
+pub struct Word {
+    pub wire: u16,
+    pub cell: u16,
+}
+
+// Where the walk is: the wire that starts a statement or has just finished one, the next delay cell, the next walk cell, and the next free
+// entry of the marks. An assignment has three marks: its variable, its first delay cell, its kind 41 cell.
+pub struct Place {
+    pub wire: u16,
+    pub delay: u16,
+    pub cell: u16,
+    pub mark: usize,
+}
+
+// The pulse that an if switches, and the next delay cell.
+pub struct Pulse {
+    pub wire: u16,
+    pub delay: u16,
+}
+
+// Puts cell k in.
+pub fn put(cells: &mut [u8], k: u16, kind: u8, delay: u8, a: u16, b: u16)
+    requires { ⌜ 6 * k + 6 ≤ length (now cells) ⌝ }
+    ensures { λ _. ⌜ now (cells .exit) ≡ write k (cell kind delay a b ∷ []) (now (cells .entry)) ⌝ }
+{
+    let c = Cell { kind, delay, a, b };
+    netlist::cells::put_cell(cells, 6 * (k as usize), c, 0);
+}
+
+// The cells of the expression at node i, from cell c on.
+fn put_expr(
+    cells: &mut [u8],
+    program: &[u8],
+    ends: &[usize; 200],
+    memory: u16,
+    i: usize,
+    c: u16,
+) -> Word
+    requires { ⌜ Laid (now program) (now ends) × ExprReady memory (exprAt (now program) i) c (length (now cells)) ⌝ }
+    ensures { λ r. ⌜ ExprDone memory (exprAt (now (program .entry)) i) c (now (cells .entry)) (now (cells .exit)) r ⌝ }
+{
+    let node = crate::nodes::expr_node(program, i);
+    let kind = node.kind;
+    if kind == 1 {
+        put(cells, c, 1, 0, node.n, 0);
+        return Word {
+            wire: c,
+            cell: c + 1,
+        };
+    }
+    if kind == 2 {
+        return Word {
+            wire: memory + node.n,
+            cell: c,
+        };
+    }
+    if kind == 3 {
+        let e = put_expr(cells, program, ends, memory, i + 1, c);
+        put(cells, e.cell, 3, 0, e.wire, 0);
+        return Word {
+            wire: e.cell,
+            cell: e.cell + 1,
+        };
+    }
+    let e = put_expr(cells, program, ends, memory, i + 1, c);
+    let second = crate::nodes::next(program, ends, i + 1);
+    let f = put_expr(cells, program, ends, memory, second, e.cell);
+    put(cells, f.cell, kind, 0, e.wire, f.wire);
+    Word {
+        wire: f.cell,
+        cell: f.cell + 1,
+    }
+}
+
+// An if's own delay cell, unless its delay is 0.
+fn put_own(cells: &mut [u8], delay: u8, start: u16, d: u16) -> Pulse
+    requires { ⌜ (d < 1203) × (6 * d + 6 ≤ length (now cells)) ⌝ }
+    ensures { λ r. ⌜ Owned delay start d (now (cells .entry)) (now (cells .exit)) r ⌝ }
+{
+    if delay == 0 {
+        return Pulse {
+            wire: start,
+            delay: d,
+        };
+    }
+    put(cells, d, 34, delay, start, 0);
+    Pulse {
+        wire: d,
+        delay: d + 1,
+    }
+}
+
+// A condition, and its 36 and 37; answers the 36.
+fn put_switches(
+    cells: &mut [u8],
+    program: &[u8],
+    ends: &[usize; 200],
+    memory: u16,
+    i: usize,
+    c: u16,
+    pulse: u16,
+) -> u16
+    requires { ⌜ Laid (now program) (now ends) × SwitchReady memory (exprAt (now program) i) c (length (now cells)) ⌝ }
+    ensures { λ r. ⌜ Switched memory (exprAt (now (program .entry)) i) c pulse (now (cells .entry)) (now (cells .exit)) r ⌝ }
+{
+    let e = put_expr(cells, program, ends, memory, i, c);
+    put(cells, e.cell, 36, 0, pulse, e.wire);
+    put(cells, e.cell + 1, 37, 0, pulse, e.wire);
+    e.cell
+}
+
+fn put_assign(
+    cells: &mut [u8],
+    marks: &mut [u16; 600],
+    program: &[u8],
+    ends: &[usize; 200],
+    memory: u16,
+    i: usize,
+    at: Place,
+    node: Node,
+) -> Place
+    requires { ⌜ Arm (now program) (now ends) memory i (assignAt (now program) i (node .delay) (node .n)) at (length (now cells)) ⌝ }
+    ensures { λ r. ⌜ Done memory (assignAt (now (program .entry)) i (node .delay) (node .n)) at (now (cells .entry)) (now (cells .exit)) (now (marks .entry)) (now (marks .exit)) r ⌝ }
+{
+    let e = put_expr(cells, program, ends, memory, i + 1, at.cell);
+    put(cells, e.cell, 41, 0, at.delay, e.wire);
+    put(cells, at.delay, 34, node.delay, at.wire, 0);
+    put(cells, at.delay + 1, 34, 1, at.delay, 0);
+    let k = at.mark;
+    marks[k] = node.n;
+    marks[k + 1] = at.delay;
+    marks[k + 2] = e.cell;
+    Place {
+        wire: at.delay + 1,
+        delay: at.delay + 2,
+        cell: e.cell + 1,
+        mark: k + 3,
+    }
+}
+
+// The cells of the statement at node i, from a place on; answers the place after it, with the wire of its finish.
+pub fn put_stmt(
+    cells: &mut [u8],
+    marks: &mut [u16; 600],
+    program: &[u8],
+    ends: &[usize; 200],
+    memory: u16,
+    i: usize,
+    at: Place,
+) -> Place
+    requires { ⌜ Laid (now program) (now ends) × Ready memory (stmtAt (now program) i) at (length (now cells)) ⌝ }
+    ensures { λ r. ⌜ Done memory (stmtAt (now (program .entry)) i) at (now (cells .entry)) (now (cells .exit)) (now (marks .entry)) (now (marks .exit)) r ⌝ }
+{
+    let node = crate::nodes::stmt_node(program, i);
+    let kind = node.kind;
+    if kind == 16 {
+        return at;
+    }
+    if kind == 17 {
+        put(cells, at.delay, 34, node.delay, at.wire, 0);
+        return Place {
+            wire: at.delay,
+            delay: at.delay + 1,
+            cell: at.cell,
+            mark: at.mark,
+        };
+    }
+    match kind {
+        18 => put_assign(cells, marks, program, ends, memory, i, at, node),
+        19 => put_seq(cells, marks, program, ends, memory, i, at),
+        20 => put_par(cells, marks, program, ends, memory, i, at),
+        21 => put_if(cells, marks, program, ends, memory, i, at, node.delay),
+        22 => put_while(cells, marks, program, ends, memory, i, at, node.delay),
+        _ => put_repeat(cells, marks, program, ends, memory, i, at, node.delay),
+    }
+}
+
+fn put_seq(
+    cells: &mut [u8],
+    marks: &mut [u16; 600],
+    program: &[u8],
+    ends: &[usize; 200],
+    memory: u16,
+    i: usize,
+    at: Place,
+) -> Place
+    requires { ⌜ Arm (now program) (now ends) memory i (seqAt (now program) (now ends) i) at (length (now cells)) ⌝ }
+    ensures { λ r. ⌜ Done memory (seqAt (now (program .entry)) (now (ends .entry)) i) at (now (cells .entry)) (now (cells .exit)) (now (marks .entry)) (now (marks .exit)) r ⌝ }
+{
+    let p = put_stmt(cells, marks, program, ends, memory, i + 1, at);
+    let second = crate::nodes::next(program, ends, i + 1);
+    put_stmt(cells, marks, program, ends, memory, second, p)
+}
+
+fn put_par(
+    cells: &mut [u8],
+    marks: &mut [u16; 600],
+    program: &[u8],
+    ends: &[usize; 200],
+    memory: u16,
+    i: usize,
+    at: Place,
+) -> Place
+    requires { ⌜ Arm (now program) (now ends) memory i (parAt (now program) (now ends) i) at (length (now cells)) ⌝ }
+    ensures { λ r. ⌜ Done memory (parAt (now (program .entry)) (now (ends .entry)) i) at (now (cells .entry)) (now (cells .exit)) (now (marks .entry)) (now (marks .exit)) r ⌝ }
+{
+    let p = put_stmt(cells, marks, program, ends, memory, i + 1, at);
+    let second = crate::nodes::next(program, ends, i + 1);
+    let to = Place {
+        wire: at.wire,
+        delay: p.delay,
+        cell: p.cell,
+        mark: p.mark,
+    };
+    let q = put_stmt(cells, marks, program, ends, memory, second, to);
+    put(cells, q.cell, 38, 0, p.wire, q.wire);
+    Place {
+        wire: q.cell,
+        delay: q.delay,
+        cell: q.cell + 1,
+        mark: q.mark,
+    }
+}
+
+fn put_if(
+    cells: &mut [u8],
+    marks: &mut [u16; 600],
+    program: &[u8],
+    ends: &[usize; 200],
+    memory: u16,
+    i: usize,
+    at: Place,
+    delay: u8,
+) -> Place
+    requires { ⌜ Arm (now program) (now ends) memory i (iteAt (now program) (now ends) i delay) at (length (now cells)) ⌝ }
+    ensures { λ r. ⌜ Done memory (iteAt (now (program .entry)) (now (ends .entry)) i delay) at (now (cells .entry)) (now (cells .exit)) (now (marks .entry)) (now (marks .exit)) r ⌝ }
+{
+    let own = put_own(cells, delay, at.wire, at.delay);
+    let switch = put_switches(cells, program, ends, memory, i + 1, at.cell, own.wire);
+    let second = crate::nodes::next(program, ends, i + 1);
+    let third = crate::nodes::next(program, ends, second);
+    let when_true = Place {
+        wire: switch,
+        delay: own.delay,
+        cell: switch + 1 + 1,
+        mark: at.mark,
+    };
+    let p = put_stmt(cells, marks, program, ends, memory, second, when_true);
+    let when_false = Place {
+        wire: switch + 1,
+        delay: p.delay,
+        cell: p.cell,
+        mark: p.mark,
+    };
+    let q = put_stmt(cells, marks, program, ends, memory, third, when_false);
+    put(cells, q.cell, 35, 0, p.wire, q.wire);
+    Place {
+        wire: q.cell,
+        delay: q.delay,
+        cell: q.cell + 1,
+        mark: q.mark,
+    }
+}
+
+fn put_while(
+    cells: &mut [u8],
+    marks: &mut [u16; 600],
+    program: &[u8],
+    ends: &[usize; 200],
+    memory: u16,
+    i: usize,
+    at: Place,
+    delay: u8,
+) -> Place
+    requires { ⌜ Arm (now program) (now ends) memory i (whileAt (now program) (now ends) i delay) at (length (now cells)) ⌝ }
+    ensures { λ r. ⌜ Done memory (whileAt (now (program .entry)) (now (ends .entry)) i delay) at (now (cells .entry)) (now (cells .exit)) (now (marks .entry)) (now (marks .exit)) r ⌝ }
+{
+    let switch = put_switches(cells, program, ends, memory, i + 1, at.cell, at.delay);
+    let second = crate::nodes::next(program, ends, i + 1);
+    let body = Place {
+        wire: switch,
+        delay: at.delay + 1,
+        cell: switch + 1 + 1,
+        mark: at.mark,
+    };
+    let p = put_stmt(cells, marks, program, ends, memory, second, body);
+    put(cells, p.cell, 35, 0, at.wire, p.wire);
+    put(cells, at.delay, 34, delay, p.cell, 0);
+    Place {
+        wire: switch + 1,
+        delay: p.delay,
+        cell: p.cell + 1,
+        mark: p.mark,
+    }
+}
+
+fn put_repeat(
+    cells: &mut [u8],
+    marks: &mut [u16; 600],
+    program: &[u8],
+    ends: &[usize; 200],
+    memory: u16,
+    i: usize,
+    at: Place,
+    delay: u8,
+) -> Place
+    requires { ⌜ Arm (now program) (now ends) memory i (repeatAt (now program) (now ends) i delay) at (length (now cells)) ⌝ }
+    ensures { λ r. ⌜ Done memory (repeatAt (now (program .entry)) (now (ends .entry)) i delay) at (now (cells .entry)) (now (cells .exit)) (now (marks .entry)) (now (marks .exit)) r ⌝ }
+{
+    let switch = put_switches(cells, program, ends, memory, i + 1, at.cell, at.delay);
+    let second = crate::nodes::next(program, ends, i + 1);
+    let start = switch + 1 + 1;
+    put(cells, start, 35, 0, at.wire, switch + 1);
+    let body = Place {
+        wire: start,
+        delay: at.delay + 1,
+        cell: start + 1,
+        mark: at.mark,
+    };
+    let p = put_stmt(cells, marks, program, ends, memory, second, body);
+    put(cells, at.delay, 34, delay, p.wire, 0);
+    Place {
+        wire: switch,
+        delay: p.delay,
+        cell: p.cell,
+        mark: p.mark,
+    }
+}

@@ -1,0 +1,91 @@
+// The whole netlist, from its parts, as a list of cells.
+// Where the memories and the walk begin depends on how many delay cells and ors come before; so the walk is done twice, and the first only
+// tells that. What the first walk puts in is put over, or is past the netlist: it begins at cell 603, as no program has 600 delay cells.
+ghost use mathlib.Core.Path.{_≡_};
+ghost use lib.ListN.{length};
+ghost use Rattle.model.specs.Program.{programOf};
+ghost use Rattle.model.specs.Numbering.{memoryAt};
+ghost use Rattle.compiler.specs.Whole.{Given, Clocked, Walked, Made};
+use crate::ors::Joint;
+use crate::ors::Ors;
+use crate::walk::Place;
+
+// What the walk and the data ors leave: each variable's data wire, the number of cells, and the finish.
+pub struct Ends {
+    pub wires: [u16; 16],
+    pub count: u16,
+    pub finish: u16,
+}
+
+pub struct Netlist {
+    pub count: u16,
+    pub finish: u16,
+}
+
+// The clock ors, by a first walk.
+fn put_clocks(cells: &mut [u8], program: &[u8], ends: &[usize; 200]) -> Ors
+    requires { ⌜ Given (now program) (now ends) (length (now cells)) ⌝ }
+    ensures { λ r. ⌜ Clocked (programOf (now (program .entry))) (now (cells .exit)) r ⌝ }
+{
+    let mut marks = [0u16; 600];
+    let at = Place {
+        wire: 0,
+        delay: 3,
+        cell: 603,
+        mark: 0,
+    };
+    let end = crate::walk::put_stmt(cells, &mut marks, program, ends, 0, 0, at);
+    let joint = Joint {
+        kind: 35,
+        none: 1,
+        mark: 1,
+    };
+    crate::ors::put_ors(cells, &marks, end.mark / 3, joint, end.delay)
+}
+
+// The delay cells, the walk, and the data ors.
+fn put_walk(cells: &mut [u8], program: &[u8], ends: &[usize; 200], memory: u16) -> Ends
+    requires { ⌜ Given (now program) (now ends) (length (now cells)) × (memory ≡ memoryAt (programOf (now program))) ⌝ }
+    ensures { λ r. ⌜ Walked (programOf (now (program .entry))) (now (cells .entry)) (now (cells .exit)) r ⌝ }
+{
+    let mut marks = [0u16; 600];
+    let at = Place {
+        wire: 0,
+        delay: 3,
+        cell: memory + 16,
+        mark: 0,
+    };
+    let end = crate::walk::put_stmt(cells, &mut marks, program, ends, memory, 0, at);
+    let joint = Joint {
+        kind: 7,
+        none: 2,
+        mark: 2,
+    };
+    let ors = crate::ors::put_ors(cells, &marks, end.mark / 3, joint, end.cell);
+    let wires = ors.wires;
+    Ends {
+        wires,
+        count: ors.next,
+        finish: end.wire,
+    }
+}
+
+// The netlist of an accepted program.
+pub fn put_netlist(cells: &mut [u8], program: &[u8], ends: &[usize; 200]) -> Netlist
+    requires { ⌜ Given (now program) (now ends) (length (now cells)) ⌝ }
+    ensures { λ r. ⌜ Made (programOf (now (program .entry))) (now (cells .exit)) r ⌝ }
+{
+    let clocks = put_clocks(cells, program, ends);
+    let memory = clocks.next;
+    let walked = put_walk(cells, program, ends, memory);
+    let clock_wires = clocks.wires;
+    let data_wires = walked.wires;
+    crate::ors::put_memories(cells, &clock_wires, &data_wires, memory);
+    crate::walk::put(cells, 0, 32, 0, 0, 0);
+    crate::walk::put(cells, 1, 33, 0, 0, 0);
+    crate::walk::put(cells, 2, 1, 0, 0, 0);
+    Netlist {
+        count: walked.count,
+        finish: walked.finish,
+    }
+}

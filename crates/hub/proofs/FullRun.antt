@@ -1,0 +1,121 @@
+-- The full run of a program: which refusal comes first, what a run that is not refused has, and what the call tells. Assumes nothing.
+use mathlib.Core.List.{List}
+use mathlib.Core.Path.{_≡_, refl, sym, _∙_, ap}
+use Prim.Native.Nat.{ℕ, _+_, _-_, _*_, _/_, _<_, _≤_}
+use native.Mathlib.Omega.{arith}
+use borrow.Author.Tests.{lt-ltb, le-ltb, ltb-false}
+use lib.Dec.{ltb}
+use lib.ListN.{length, take, drop, length-append}
+use lib.Seq.{take-append-seam}
+use Rattle.model.specs.declared.Refusal.{Refusal}
+use Rattle.model.specs.declared.Checked.{Checked}
+use Rattle.model.specs.declared.Checked.the-variants.{Accepted, Refused}
+use Rattle.model.specs.Refusals.{refuse, first}
+use Rattle.model.specs.Program.{checkOf, programOf}
+use Rattle.model.specs.Numbering.{netlist, finish}
+use Rattle.model.specs.NetlistFile.{cellsOf}
+use Rattle.model.specs.State.{stateSize}
+use Rattle.model.specs.Calls.{short, checkCall, overwrite, compiledFile, refusedAnswer, shows, running, writing, fullState, fullCount, runProgramChecks, runProgramCall}
+use Rattle.model.specs.Promises.{Bytes}
+use Rattle.theory.specs.Refusals.Laws.{all-accept, refuse-unless}
+use Rattle.theory.specs.Program.Size.{few-nodes}
+use Rattle.theory.specs.Numbering.Parts.{net-length}
+use Rattle.theory.specs.Numbering.Count.{fits}
+use Rattle.theory.specs.NetlistFile.Files.{cells-written, file-length}
+use Rattle.theory.specs.Promises.Demands.{compiled-accepted}
+use Rattle.simulator.specs.Fits.{Runs}
+
+-- A netlist has few cells
+pub few-cells : (program : List ℕ) → checkOf program ≡ Accepted → length (netlist (programOf program)) ≤ 619
+few-cells program e = fits (programOf program) (few-nodes program e) .1
+
+-- the part of a list that a result was written over
+pub part-is : (result lent after : List ℕ) (n : ℕ) → n ≡ length result → after ≡ overwrite result lent → take (n - 0) (drop 0 after) ≡ result
+part-is result lent after n e q =
+    let m : n - 0 ≡ length result = omega (arith, e) in
+    rw (m, q) (take-append-seam result (drop (length result) lent))
+
+pub part-fits : (result lent after : List ℕ) (n : ℕ) → n ≡ length result → after ≡ overwrite result lent → n ≤ length after
+part-fits result lent after n e q = omega (arith, e, ap length q, length-append result (drop (length result) lent))
+
+-- what the check of a program tells
+pub check-told : (program : List ℕ) {c : Checked} → checkCall program ≡ c → checkOf program ≡ c
+unfolding checkCall
+check-told program e = e
+
+module _ (program words : List ℕ) (budget : ℕ) (file state : List ℕ) where
+  abbrev verdict : Checked
+  verdict = first (runProgramChecks program words budget file state)
+
+  -- Which comes first --------------------------------------------------------------------------------------------------------------------
+
+  pub at-program : {r : Refusal} → checkOf program ≡ Refused r → Refused r ≡ verdict
+  at-program e = rw e refl
+
+  module _ (e : checkOf program ≡ Accepted) where
+    pub at-budget : 1000000 < budget → refuse 13 0 ≡ verdict
+    at-budget b = rw (e, lt-ltb 1000000 budget b) refl
+
+    module _ (b : budget ≤ 1000000) where
+      pub at-words : length words < 32 → refuse 14 0 ≡ verdict
+      at-words l = rw (e, le-ltb 1000000 budget b, lt-ltb (length words) 32 l) refl
+
+      module _ (l : 32 ≤ length words) {n : ℕ} (count : n ≡ length (netlist (programOf program))) where
+        file-size : length (compiledFile program) ≡ 512 * ((n + 83) / 84)
+        file-size = file-length (netlist (programOf program)) (finish (programOf program)) ∙ ap (λ (n : ℕ). 512 * ((n + 83) / 84)) (sym count)
+
+        state-size : stateSize (cellsOf (compiledFile program)) ≡ 8 + 40 * n
+        state-size =
+            ap stateSize (cells-written (netlist (programOf program)) (finish (programOf program)) (omega (arith, net-length (programOf program))))
+            ∙ ap (λ (n : ℕ). 8 + 40 * n) (sym count)
+
+        pub at-file : length file < 512 * ((n + 83) / 84) → refuse 14 0 ≡ verdict
+        at-file s = rw (e, le-ltb 1000000 budget b, le-ltb (length words) 32 l, file-size, lt-ltb (length file) _ s) refl
+
+        module _ (s : 512 * ((n + 83) / 84) ≤ length file) where
+          pub at-state : length state < 8 + 40 * n → refuse 14 0 ≡ verdict
+          at-state t =
+              rw (e, le-ltb 1000000 budget b, le-ltb (length words) 32 l, file-size, le-ltb (length file) _ s, state-size, lt-ltb (length state) _ t) refl
+
+          pub at-none : 8 + 40 * n ≤ length state → Accepted ≡ verdict
+          at-none t =
+              rw (e, le-ltb 1000000 budget b, le-ltb (length words) 32 l, file-size, le-ltb (length file) _ s, state-size, le-ltb (length state) _ t) refl
+
+  -- A run that is not refused ------------------------------------------------------------------------------------------------------------
+
+  long-enough : (has needs : ℕ) → short has needs ≡ Accepted → needs ≤ has
+  long-enough has needs e = ltb-false has needs (refuse-unless (ltb has needs) 14 0 e)
+
+  pub record Ready : Type 0 where
+    pub accepted : checkOf program ≡ Accepted
+    pub few : budget ≤ 1000000
+    pub start : 32 ≤ length words
+    pub fits : length (compiledFile program) ≤ length file
+    pub room : stateSize (cellsOf (compiledFile program)) ≤ length state
+
+  pub ready : verdict ≡ Accepted → Ready
+  ready e =
+      let a = all-accept (runProgramChecks program words budget file state) e in
+      record {
+        accepted = a 0;
+        few = ltb-false 1000000 budget (refuse-unless (ltb 1000000 budget) 13 0 (a 1));
+        start = long-enough (length words) 32 (a 2);
+        fits = long-enough (length file) (length (compiledFile program)) (a 3);
+        room = long-enough (length state) (stateSize (cellsOf (compiledFile program))) (a 4);
+      }
+
+  pub runs : Bytes program → Ready → Runs (compiledFile program) state
+  runs bytes r = record { accepted = compiled-accepted program bytes (r .accepted); room = r .room }
+
+  -- What the call tells ------------------------------------------------------------------------------------------------------------------
+
+  pub refused-call : {r : Refusal} → verdict ≡ Refused r → runProgramCall program words budget file state ≡ record { answer = refusedAnswer r; netlist = file; state = state }
+  unfolding runProgramCall running writing
+  refused-call e = rw e refl
+
+  pub accepted-call : verdict ≡ Accepted →
+      let f = compiledFile program in
+      let s = fullState f words budget state in
+      runProgramCall program words budget file state ≡ record { answer = shows f s (fullCount f words budget state); netlist = overwrite f file; state = s }
+  unfolding runProgramCall running writing
+  accepted-call e = rw e refl

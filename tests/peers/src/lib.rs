@@ -1,0 +1,10 @@
+//! Implementations behind one boundary, so that a test runs against each and
+//! a comparison takes any two.
+
+mod peer;
+mod proved;
+mod second;
+
+pub use peer::{Answer, Bytes, End, Peer, Refused, Reply, Shape};
+pub use proved::PROVED;
+pub use second::SECOND;

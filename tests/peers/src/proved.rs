@@ -1,0 +1,140 @@
+//! The proved implementation as a peer.
+
+use crate::peer::{Answer, End, Peer, Refused, Reply, Shape};
+use ::proved::{self as hub, Kind};
+use std::io::Write;
+use std::path::Path;
+use std::process::{Command, Stdio};
+
+pub const PROVED: Peer = Peer {
+    name: "proved",
+    check,
+    compile,
+    write_netlist,
+    read_netlist,
+    begin,
+    continue_by,
+    run_program,
+    run_netlist,
+    reference_run,
+    hubrun_text,
+};
+
+fn check(program: &[u8]) -> Reply<()> {
+    reply(hub::check(program), |_| (), vec![])
+}
+
+fn compile(program: &[u8], file: &[u8]) -> Reply<Shape> {
+    let mut file = file.to_vec();
+    let told = hub::compile(program, &mut file);
+    reply(told, |told| written(told, &file), vec![file.clone()])
+}
+
+fn write_netlist(cells: &[u8], finish: u16, file: &[u8]) -> Reply<Shape> {
+    let mut file = file.to_vec();
+    let told = hub::write_netlist(cells, finish, &mut file);
+    reply(told, |told| written(told, &file), vec![file.clone()])
+}
+
+fn read_netlist(file: &[u8], cells: &[u8]) -> Reply<Shape> {
+    let mut cells = cells.to_vec();
+    let told = hub::read_netlist(file, &mut cells);
+    let shape = |told: hub::Reply| Shape {
+        cells: told.first,
+        finish: told.second,
+    };
+    reply(told, shape, vec![cells])
+}
+
+fn begin(file: &[u8], words: &[u8], state: &[u8]) -> Reply<Answer> {
+    let mut state = state.to_vec();
+    let told = hub::begin(file, words, &mut state);
+    reply(told, answer, vec![state])
+}
+
+fn continue_by(file: &[u8], n: u32, state: &[u8]) -> Reply<Answer> {
+    let mut state = state.to_vec();
+    let told = hub::continue_by(file, &mut state, n);
+    reply(told, answer, vec![state])
+}
+
+fn run_program(
+    program: &[u8],
+    words: &[u8],
+    budget: u32,
+    file: &[u8],
+    state: &[u8],
+) -> Reply<Answer> {
+    let (mut file, mut state) = (file.to_vec(), state.to_vec());
+    let told = hub::run_program(program, words, budget, &mut file, &mut state);
+    reply(told, answer, vec![file, state])
+}
+
+fn run_netlist(file: &[u8], words: &[u8], budget: u32, state: &[u8]) -> Reply<Answer> {
+    let mut state = state.to_vec();
+    let told = hub::run_netlist(file, words, budget, &mut state);
+    reply(told, answer, vec![state])
+}
+
+/// An open answer is held against model/Calls here: it shows the budget, one
+/// instant more as its count, and no words.
+fn reference_run(program: &[u8], words: &[u8], budget: u32) -> Reply<Option<End>> {
+    let end = |told: hub::Reply| {
+        assert_eq!(told.second, told.first + 1, "the count of a reference run");
+        if told.kind == Kind::Ended {
+            return Some(End {
+                instant: told.first,
+                words: told.words,
+            });
+        }
+        assert_eq!((told.first, told.words), (budget, [0; 16]));
+        None
+    };
+    reply(hub::reference_run(program, words, budget), end, vec![])
+}
+
+/// What the program hubrun prints. It may stop reading early, so that a
+/// broken pipe is no failure.
+fn hubrun_text(input: &[u8]) -> Vec<u8> {
+    let program = Path::new(env!("CARGO_MANIFEST_DIR")).join("../../target/bin/hubrun");
+    let mut hubrun = Command::new(&program)
+        .stdin(Stdio::piped())
+        .stdout(Stdio::piped())
+        .spawn()
+        .unwrap_or_else(|error| panic!("{}: {error}", program.display()));
+    let mut pipe = hubrun.stdin.take().expect("a pipe");
+    let _ = pipe.write_all(input);
+    drop(pipe);
+    hubrun.wait_with_output().expect("hubrun ends").stdout
+}
+
+/// The shape of a file that a call wrote: the call tells its length, the
+/// file its number of cells.
+fn written(told: hub::Reply, file: &[u8]) -> Shape {
+    let cells = u32::from(u16::from_le_bytes([file[2], file[3]]));
+    assert_eq!(told.first, 512 * cells.div_ceil(84), "the bytes written");
+    Shape {
+        cells,
+        finish: told.second,
+    }
+}
+
+fn answer(told: hub::Reply) -> Answer {
+    Answer {
+        ended: told.kind == Kind::Ended,
+        instant: told.first,
+        count: told.second,
+        words: told.words,
+    }
+}
+
+fn reply<T>(told: hub::Reply, result: impl FnOnce(hub::Reply) -> T, lent: Vec<Vec<u8>>) -> Reply<T> {
+    let result = match told.kind {
+        Kind::Refused => Err(Refused {
+            number: u32::from(told.number),
+            place: told.place,
+        }),
+        _ => Ok(result(told)),
+    };
+    Reply { result, lent }
+}

@@ -1,0 +1,115 @@
+//! The crate `second` as a peer.
+
+use crate::peer::{Answer, End, Peer, Refused, Reply, Shape};
+use ::second::answer::Refusal;
+use ::second::rules::Outcome;
+use ::second::{answer, calls, hubrun};
+
+pub const SECOND: Peer = Peer {
+    name: "second",
+    check,
+    compile,
+    write_netlist,
+    read_netlist,
+    begin,
+    continue_by,
+    run_program,
+    run_netlist,
+    reference_run,
+    hubrun_text,
+};
+
+fn check(program: &[u8]) -> Reply<()> {
+    reply(calls::check(program), vec![])
+}
+
+fn compile(program: &[u8], file: &[u8]) -> Reply<Shape> {
+    let mut file = file.to_vec();
+    let result = calls::compile(program, &mut file);
+    reply(result.map(shape), vec![file])
+}
+
+fn write_netlist(cells: &[u8], finish: u16, file: &[u8]) -> Reply<Shape> {
+    let mut file = file.to_vec();
+    let result = calls::write_netlist(cells, finish, &mut file);
+    reply(result.map(shape), vec![file])
+}
+
+fn read_netlist(file: &[u8], cells: &[u8]) -> Reply<Shape> {
+    let mut cells = cells.to_vec();
+    let result = calls::read_netlist(file, &mut cells);
+    reply(result.map(shape), vec![cells])
+}
+
+fn begin(file: &[u8], words: &[u8], state: &[u8]) -> Reply<Answer> {
+    let mut state = state.to_vec();
+    let result = calls::begin(file, words, &mut state);
+    reply(result.map(answer), vec![state])
+}
+
+fn continue_by(file: &[u8], n: u32, state: &[u8]) -> Reply<Answer> {
+    let mut state = state.to_vec();
+    let result = calls::continue_by(file, &mut state, n);
+    reply(result.map(answer), vec![state])
+}
+
+fn run_program(
+    program: &[u8],
+    words: &[u8],
+    budget: u32,
+    file: &[u8],
+    state: &[u8],
+) -> Reply<Answer> {
+    let (mut file, mut state) = (file.to_vec(), state.to_vec());
+    let result = calls::run_program(program, words, budget, &mut file, &mut state);
+    reply(result.map(answer), vec![file, state])
+}
+
+fn run_netlist(file: &[u8], words: &[u8], budget: u32, state: &[u8]) -> Reply<Answer> {
+    let mut state = state.to_vec();
+    let result = calls::run_netlist(file, words, budget, &mut state);
+    reply(result.map(answer), vec![state])
+}
+
+fn reference_run(program: &[u8], words: &[u8], budget: u32) -> Reply<Option<End>> {
+    let result = calls::reference_run(program, words, budget);
+    reply(result.map(end), vec![])
+}
+
+fn hubrun_text(input: &[u8]) -> Vec<u8> {
+    hubrun::text(input).into_bytes()
+}
+
+fn reply<T>(result: Result<T, Refusal>, lent: Vec<Vec<u8>>) -> Reply<T> {
+    let refused = |refusal: Refusal| Refused {
+        number: u32::from(refusal.number),
+        place: refusal.place as u32,
+    };
+    Reply {
+        result: result.map_err(refused),
+        lent,
+    }
+}
+
+fn shape(shape: calls::Shape) -> Shape {
+    Shape {
+        cells: u32::from(shape.cells),
+        finish: u32::from(shape.finish),
+    }
+}
+
+fn answer(answer: answer::Answer) -> Answer {
+    Answer {
+        ended: answer.ended,
+        instant: answer.instant,
+        count: answer.count,
+        words: answer.words,
+    }
+}
+
+fn end(outcome: Outcome) -> Option<End> {
+    match outcome {
+        Outcome::Ended { instant, words } => Some(End { instant, words }),
+        Outcome::Open => None,
+    }
+}

@@ -1,0 +1,169 @@
+//! Every vector of tests/vectors against each implementation: numbers,
+//! places, bytes, answers and text, exactly. The layout of each folder is in
+//! its README.
+
+use peers::{Answer, Peer, Refused, Reply, Shape, PROVED, SECOND};
+use std::fs;
+use std::path::{Path, PathBuf};
+
+const PEERS: [Peer; 2] = [PROVED, SECOND];
+
+/// Longer than any result, and filled so that a stray write shows.
+static LENT: [u8; 50_000] = [0xa5; 50_000];
+
+/// One vector: the folder and the common beginning of its files' names.
+struct Vector {
+    stem: PathBuf,
+}
+
+impl Vector {
+    fn bytes(&self, extension: &str) -> Vec<u8> {
+        let path = format!("{}.{extension}", self.stem.display());
+        fs::read(&path).unwrap_or_else(|error| panic!("{path}: {error}"))
+    }
+
+    /// A text file, without the blanks at its ends.
+    fn text(&self, extension: &str) -> String {
+        let text = String::from_utf8(self.bytes(extension)).expect("a text file");
+        text.trim().to_string()
+    }
+}
+
+/// Each implementation on each vector of a folder, one for each file with
+/// this extension; the name says which, for a failure.
+fn for_each(folder: &str, extension: &str, test: impl Fn(&Peer, &Vector, &str)) {
+    let root = Path::new(env!("CARGO_MANIFEST_DIR"))
+        .join("../vectors")
+        .join(folder);
+    let entries = fs::read_dir(&root).unwrap_or_else(|error| panic!("{}: {error}", root.display()));
+    let mut seen = 0;
+    for entry in entries {
+        let path = entry.expect("a readable folder").path();
+        if path.extension().is_some_and(|found| found == extension) {
+            let stem = path.with_extension("");
+            for peer in &PEERS {
+                let name = format!("{} on {}", peer.name, stem.display());
+                test(peer, &Vector { stem: stem.clone() }, &name);
+            }
+            seen += 1;
+        }
+    }
+    assert!(seen > 0, "no vectors in {folder}");
+}
+
+fn shape_text(result: Result<Shape, Refused>) -> String {
+    match result {
+        Ok(shape) => format!("ok {} {}", shape.cells, shape.finish),
+        Err(refused) => refused_text(refused),
+    }
+}
+
+fn answer_text(result: Result<Answer, Refused>) -> String {
+    match result {
+        Ok(answer) => {
+            let outcome = if answer.ended { "ended" } else { "open" };
+            let words = answer.words.map(|word| word.to_string()).join(" ");
+            format!("{outcome} {} {} {words}", answer.instant, answer.count)
+        }
+        Err(refused) => refused_text(refused),
+    }
+}
+
+fn refused_text(Refused { number, place }: Refused) -> String {
+    format!("refused {number} {place}")
+}
+
+/// Asserts that the lent buffer begins with `result` and is otherwise as lent.
+fn assert_result<T>(reply: &Reply<T>, result: &[u8], name: &str) {
+    let (written, past) = reply.lent[0].split_at(result.len());
+    assert!(written == result, "{name}: other bytes");
+    assert!(
+        past == &LENT[result.len()..],
+        "{name}: bytes past the result"
+    );
+}
+
+#[test]
+fn programs_are_accepted_or_refused_as_told() {
+    for_each("program", "prog", |peer, vector, name| {
+        let program = vector.bytes("prog");
+        let compiled = (peer.compile)(&program, &LENT);
+        let checked = (peer.check)(&program);
+        assert_eq!(checked.result, compiled.result.map(drop), "{name}");
+        assert_eq!(shape_text(compiled.result), vector.text("expect"), "{name}");
+        if compiled.result.is_err() {
+            assert_result(&compiled, &[], name);
+        }
+    });
+}
+
+#[test]
+fn compiling_gives_the_published_bytes() {
+    for folder in ["compile", "speed"] {
+        for_each(folder, "prog", |peer, vector, name| {
+            let compiled = (peer.compile)(&vector.bytes("prog"), &LENT);
+            assert!(compiled.result.is_ok(), "{name}");
+            assert_result(&compiled, &vector.bytes("net"), name);
+        });
+    }
+}
+
+#[test]
+fn netlists_are_accepted_or_refused_as_told() {
+    for_each("netlist", "net", |peer, vector, name| {
+        let file = vector.bytes("net");
+        let read = (peer.read_netlist)(&file, &LENT);
+        assert_eq!(shape_text(read.result), vector.text("expect"), "{name}");
+        match read.result {
+            Ok(shape) => assert_writing_restores(peer, &file, shape, &read.lent[0], name),
+            Err(_) => assert_result(&read, &[], name),
+        }
+    });
+}
+
+/// An accepted file is the one that writing its cells gives.
+fn assert_writing_restores(peer: &Peer, file: &[u8], shape: Shape, cells: &[u8], name: &str) {
+    let cells = &cells[..6 * shape.cells as usize];
+    let written = (peer.write_netlist)(cells, shape.finish as u16, &LENT);
+    assert_eq!(written.result, Ok(shape), "{name}");
+    assert_result(&written, file, name);
+}
+
+#[test]
+fn calls_answer_and_leave_the_states_told() {
+    for_each("calls", "script", |peer, vector, name| {
+        let (netlist, words) = (vector.bytes("net"), vector.bytes("words"));
+        let (script, states) = (vector.text("script"), vector.bytes("states"));
+        let length = states.len() / script.lines().count();
+        let mut state = LENT.to_vec();
+        for (line, expected) in script.lines().zip(states.chunks_exact(length)) {
+            let (call, answer) = line.split_once(" -> ").expect("a call and an answer");
+            let reply = match call.strip_prefix("cont ") {
+                Some(n) => (peer.continue_by)(&netlist, n.parse().expect("a number"), &state),
+                None => (peer.begin)(&netlist, &words, &state),
+            };
+            let name = format!("{name}: {call}");
+            assert_eq!(answer_text(reply.result), answer, "{name}");
+            assert_result(&reply, expected, &name);
+            state.clone_from(&reply.lent[0]);
+        }
+    });
+}
+
+#[test]
+fn states_of_any_origin_are_continued_or_refused_as_told() {
+    for_each("state", "before", |peer, vector, name| {
+        let n = vector.text("n").parse().expect("a number");
+        let reply = (peer.continue_by)(&vector.bytes("net"), n, &vector.bytes("before"));
+        assert_eq!(answer_text(reply.result), vector.text("expect"), "{name}");
+        assert!(reply.lent[0] == vector.bytes("after"), "{name}: other bytes");
+    });
+}
+
+#[test]
+fn hubrun_prints_the_text_told() {
+    for_each("hubrun", "in", |peer, vector, name| {
+        let text = (peer.hubrun_text)(&vector.bytes("in"));
+        assert_eq!(text, vector.bytes("out"), "{name}");
+    });
+}

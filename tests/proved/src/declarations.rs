@@ -1,0 +1,105 @@
+//! The functions of crates/hub/src/exports.rt, each beside the definition of
+//! model/Calls that its contract names. A byte slice is a pointer and a
+//! length. Nothing checks these lines against the Rattle source but the
+//! comparisons with the second implementation.
+
+type In = *const u8;
+type Lent = *mut u8;
+
+extern "C" {
+    /// checkCall
+    pub fn hub_check(program: In, program_length: usize, reply: Lent, reply_length: usize) -> bool;
+
+    /// compileCall
+    pub fn hub_compile(
+        program: In,
+        program_length: usize,
+        file: Lent,
+        file_length: usize,
+        reply: Lent,
+        reply_length: usize,
+    ) -> bool;
+
+    /// writeCall
+    pub fn hub_write(
+        cells: In,
+        cells_length: usize,
+        finish: u16,
+        file: Lent,
+        file_length: usize,
+        reply: Lent,
+        reply_length: usize,
+    ) -> bool;
+
+    /// readCall
+    pub fn hub_read(
+        file: In,
+        file_length: usize,
+        cells: Lent,
+        cells_length: usize,
+        reply: Lent,
+        reply_length: usize,
+    ) -> bool;
+
+    /// beginCall
+    pub fn hub_begin(
+        netlist: In,
+        netlist_length: usize,
+        words: In,
+        words_length: usize,
+        state: Lent,
+        state_length: usize,
+        reply: Lent,
+        reply_length: usize,
+    ) -> bool;
+
+    /// continueCall
+    pub fn hub_continue(
+        netlist: In,
+        netlist_length: usize,
+        state: Lent,
+        state_length: usize,
+        n: u32,
+        reply: Lent,
+        reply_length: usize,
+    ) -> bool;
+
+    /// runProgramCall
+    pub fn hub_run_program(
+        program: In,
+        program_length: usize,
+        words: In,
+        words_length: usize,
+        budget: u32,
+        netlist: Lent,
+        netlist_length: usize,
+        state: Lent,
+        state_length: usize,
+        reply: Lent,
+        reply_length: usize,
+    ) -> bool;
+
+    /// runNetlistCall
+    pub fn hub_run_netlist(
+        netlist: In,
+        netlist_length: usize,
+        words: In,
+        words_length: usize,
+        budget: u32,
+        state: Lent,
+        state_length: usize,
+        reply: Lent,
+        reply_length: usize,
+    ) -> bool;
+
+    /// referenceCall
+    pub fn hub_reference(
+        program: In,
+        program_length: usize,
+        words: In,
+        words_length: usize,
+        budget: u32,
+        reply: Lent,
+        reply_length: usize,
+    ) -> bool;
+}

@@ -1,0 +1,46 @@
+//! The 48 bytes of a reply, as crates/hub/specs/Replies.antt tells them.
+
+pub const LENGTH: usize = 48;
+
+#[derive(Clone, Copy, Debug, PartialEq, Eq)]
+pub enum Kind {
+    Done,
+    Ended,
+    Open,
+    Refused,
+}
+
+#[derive(Clone, Copy, Debug, PartialEq, Eq)]
+pub struct Reply {
+    pub kind: Kind,
+    pub number: u8,
+    pub place: u32,
+    /// A number of bytes or cells, or the instant.
+    pub first: u32,
+    /// The finish cell, or the count.
+    pub second: u32,
+    pub words: [u16; 16],
+}
+
+impl Reply {
+    pub fn of_bytes(bytes: &[u8; LENGTH]) -> Reply {
+        assert_eq!(bytes[2..4], [0, 0], "bytes 2 and 3 of a reply are zero");
+        let number = |at: usize| u32::from_le_bytes(bytes[at..at + 4].try_into().unwrap());
+        Reply {
+            kind: match bytes[0] {
+                0 => Kind::Done,
+                1 => Kind::Ended,
+                2 => Kind::Open,
+                3 => Kind::Refused,
+                other => panic!("no reply has kind {other}"),
+            },
+            number: bytes[1],
+            place: number(4),
+            first: number(8),
+            second: number(12),
+            words: std::array::from_fn(|k| {
+                u16::from_le_bytes([bytes[16 + 2 * k], bytes[17 + 2 * k]])
+            }),
+        }
+    }
+}

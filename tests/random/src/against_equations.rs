@@ -1,0 +1,237 @@
+//! A peer's simulator against the paper's equations, on a netlist of any
+//! shape: demand 2, and continuing from states of any origin.
+//!
+//! Every byte of a state is looked at beside the state an instant before. A
+//! wire at the same instant is taken from the later state itself, so these
+//! are equations that the state must obey, and no second way to compute it.
+
+use crate::damage;
+use crate::lend::{lent, state_length};
+use peers::Peer;
+use crate::xorshift::Random;
+use second::cells::*;
+use second::netfile;
+use second::operator::Operator;
+
+/// Enough instants to see a line of 256 inputs overflow.
+const INSTANTS: u32 = 300;
+
+/// Damaged states, and the instants that each is continued for.
+const DAMAGED: usize = 8;
+const INSTANTS_AFTER_DAMAGE: u32 = 12;
+
+/// Compares; the error names the cell and the instant.
+pub fn compare(peer: &Peer, file: &[u8], words: &[u8], damage: u64) -> Result<(), String> {
+    let netlist = netfile::read(file).map_err(|refusal| format!("generated: {refusal:?}"))?;
+    let run = Run {
+        peer,
+        file,
+        words,
+        netlist: &netlist,
+    };
+    let begun = run.begin()?;
+    let last = run.by_single_instants(begun.clone(), INSTANTS)?;
+    run.check_in_one_go(begun, &last)?;
+    let random = &mut Random::new(damage);
+    for _ in 0..DAMAGED {
+        let damaged = damage::state(file, &last, random);
+        // A refused state is no concern of the equations.
+        if (peer.continue_by)(file, INSTANTS_AFTER_DAMAGE, &damaged)
+            .result
+            .is_ok()
+        {
+            run.by_single_instants(damaged, INSTANTS_AFTER_DAMAGE)?;
+        }
+    }
+    Ok(())
+}
+
+struct Run<'a> {
+    peer: &'a Peer,
+    file: &'a [u8],
+    words: &'a [u8],
+    netlist: &'a Netlist,
+}
+
+impl Run<'_> {
+    /// The state at instant 0. Before it everything was 0.
+    fn begin(&self) -> Result<Vec<u8>, String> {
+        let length = state_length(self.netlist.cells.len() as u32);
+        let mut reply = (self.peer.begin)(self.file, self.words, &lent(length));
+        let after = reply.lent.remove(0);
+        self.check(&vec![0; length], &after, 0)?;
+        Ok(after)
+    }
+
+    /// The state some instants later, each made and checked by itself.
+    fn by_single_instants(&self, begun: Vec<u8>, instants: u32) -> Result<Vec<u8>, String> {
+        let mut state = begun;
+        for _ in 0..instants {
+            let after = (self.peer.continue_by)(self.file, 1, &state).lent.remove(0);
+            self.check(&state, &after, instant_of(&state) + 1)?;
+            state = after;
+        }
+        Ok(state)
+    }
+
+    /// However the instants are parted among calls, the last state is the same.
+    fn check_in_one_go(&self, begun: Vec<u8>, last: &[u8]) -> Result<(), String> {
+        let mut state = begun;
+        let mut left = INSTANTS;
+        while left > 0 {
+            let mut reply = (self.peer.continue_by)(self.file, left, &state);
+            match reply.result {
+                Ok(answer) if (1..=left).contains(&answer.count) => left -= answer.count,
+                other => return Err(format!("in one go, {left} left: {other:?}")),
+            }
+            state = reply.lent.remove(0);
+        }
+        if state != last {
+            return Err("in one go: the last state is another".to_string());
+        }
+        Ok(())
+    }
+
+    /// Checks every byte of the state of an instant.
+    fn check(&self, before: &[u8], after: &[u8], instant: u32) -> Result<(), String> {
+        let step = Step {
+            run: self,
+            before,
+            after,
+            instant,
+        };
+        let header = [instant.to_le_bytes(), [0; 4]].concat();
+        if after[..8] != header {
+            return Err(format!("instant {instant}: header {:?}", &after[..8]));
+        }
+        for cell in 0..self.netlist.cells.len() {
+            let (found, expected) = (bytes_of(after, cell), step.expected(cell));
+            if found != expected {
+                return Err(format!(
+                    "cell {cell}, instant {instant}: found {found:?}, expected {expected:?}"
+                ));
+            }
+        }
+        Ok(())
+    }
+}
+
+fn instant_of(state: &[u8]) -> u32 {
+    u32::from_le_bytes([state[0], state[1], state[2], state[3]])
+}
+
+/// The 40 bytes of a cell.
+fn bytes_of(state: &[u8], cell: usize) -> &[u8] {
+    &state[8 + 40 * cell..][..40]
+}
+
+/// The value of a wire in a state.
+fn wire_of(state: &[u8], wire: u16) -> u16 {
+    let bytes = bytes_of(state, usize::from(wire));
+    u16::from_le_bytes([bytes[0], bytes[1]])
+}
+
+/// Two states, the second an instant after the first.
+struct Step<'a> {
+    run: &'a Run<'a>,
+    before: &'a [u8],
+    after: &'a [u8],
+    instant: u32,
+}
+
+impl Step<'_> {
+    fn now(&self, wire: u16) -> u16 {
+        wire_of(self.after, wire)
+    }
+
+    fn ago(&self, wire: u16) -> u16 {
+        wire_of(self.before, wire)
+    }
+
+    /// The bytes that a cell must have in the later state.
+    fn expected(&self, cell: usize) -> Vec<u8> {
+        let (held_a, held_b) = self.held(cell);
+        let mut bytes = vec![];
+        bytes.extend(self.value(cell).to_le_bytes());
+        bytes.extend(self.ago(cell as u16).to_le_bytes());
+        bytes.extend([u8::from(held_a), u8::from(held_b), 0, 0]);
+        bytes.extend(self.line(cell));
+        bytes
+    }
+
+    /// The value that a cell's equation gives it.
+    fn value(&self, number: usize) -> u16 {
+        let Cell { kind, delay, a, b } = self.run.netlist.cells[number];
+        let now = |wire: u16| self.now(wire);
+        match kind {
+            START => u16::from(self.instant == 0),
+            GROUND => 0,
+            CONSTANT => a,
+            DELAY => self.input_ago(number, usize::from(delay)),
+            OR => now(a) | now(b),
+            WHEN => u16::from(now(a) == 1 && now(b) != 0),
+            UNLESS => u16::from(now(a) == 1 && now(b) == 0),
+            MERGE => u16::from(self.merged(number) == (true, true)),
+            MEMORY => self.memory(number, a, b),
+            GATE => now(a) * now(b),
+            _ => Operator::of_kind(kind).map_or(0, |operator| operator.apply(now(a), now(b))),
+        }
+    }
+
+    /// The input of a delay some instants ago, at least one.
+    fn input_ago(&self, delay: usize, instants: usize) -> u16 {
+        let bit = instants - 1;
+        let byte = bytes_of(self.before, delay)[8 + bit / 8];
+        u16::from(byte >> (bit % 8) & 1)
+    }
+
+    fn memory(&self, number: usize, clock: u16, data: u16) -> u16 {
+        if self.instant == 0 {
+            return self.start_word(number);
+        }
+        let falls = self.now(clock) == 0 && self.ago(clock) == 1;
+        self.ago(if falls { data } else { number as u16 })
+    }
+
+    /// The start word of a memory: the k-th by number is variable k.
+    fn start_word(&self, number: usize) -> u16 {
+        let lower = &self.run.netlist.cells[..number];
+        let variable = lower.iter().filter(|cell| cell.kind == MEMORY).count();
+        let words = &self.run.words[2 * variable..];
+        u16::from_le_bytes([words[0], words[1]])
+    }
+
+    /// A and B of the paper: each input of a merge, or its held bit.
+    fn merged(&self, number: usize) -> (bool, bool) {
+        let Cell { a, b, .. } = self.run.netlist.cells[number];
+        let held = bytes_of(self.before, number);
+        (
+            self.now(a) == 1 || held[4] == 1,
+            self.now(b) == 1 || held[5] == 1,
+        )
+    }
+
+    /// The bits held afterwards; cells other than merges hold none.
+    fn held(&self, number: usize) -> (bool, bool) {
+        if self.run.netlist.cells[number].kind != MERGE {
+            return (false, false);
+        }
+        match self.merged(number) {
+            (true, true) => (false, false),
+            held => held,
+        }
+    }
+
+    /// The last 256 inputs of a delay; other cells have none.
+    fn line(&self, number: usize) -> [u8; 32] {
+        let cell = self.run.netlist.cells[number];
+        let mut line = [0; 32];
+        if cell.kind == DELAY {
+            line[0] = self.now(cell.a) as u8;
+            for bit in 1..256 {
+                line[bit / 8] |= (self.input_ago(number, bit) as u8) << (bit % 8);
+            }
+        }
+        line
+    }
+}

@@ -1,0 +1,158 @@
+//! Two peers against each other, call by call: answers, places and every
+//! lent byte. And each by itself: a refused call changes no lent byte.
+
+use crate::damage;
+use crate::job::{Call, Job};
+use crate::lend::*;
+use peers::{Peer, Reply, Shape};
+use crate::xorshift::Random;
+use std::fmt::Debug;
+
+/// Damaged netlists, cells and states for each job.
+const DAMAGED: usize = 4;
+
+pub struct Pair<'a> {
+    pub left: &'a Peer,
+    pub right: &'a Peer,
+}
+
+impl Pair<'_> {
+    /// All calls on a job's program, and on the netlist it compiles to.
+    pub fn compare(&self, job: &Job) -> Result<(), String> {
+        let program = &job.program;
+        let (file, state) = (lent(job.file_length), lent(job.state_length));
+        self.same("check", &[], |peer| (peer.check)(program))?;
+        self.same("compile", &[&file], |peer| (peer.compile)(program, &file))?;
+        self.same("run_program", &[&file, &state], |peer| {
+            (peer.run_program)(program, &job.words, job.budget, &file, &state)
+        })?;
+        self.same("reference_run", &[], |peer| {
+            (peer.reference_run)(program, &job.words, job.budget)
+        })?;
+        self.same_text(job)?;
+        let room = lent(MOST_FILE);
+        let compiled = self.same("compile", &[&room], |peer| (peer.compile)(program, &room))?;
+        let Ok(shape) = compiled.result else {
+            return Ok(());
+        };
+        let file = &compiled.lent[0][..file_length(shape.cells)];
+        self.compare_netlist(file, &job.words, &job.calls, job.damage)
+    }
+
+    /// All calls on a good netlist file, and on damaged ones.
+    pub fn compare_netlist(
+        &self,
+        file: &[u8],
+        words: &[u8],
+        calls: &[Call],
+        damage: u64,
+    ) -> Result<(), String> {
+        let random = &mut Random::new(damage);
+        if let Some(shape) = self.same_reading(file, random)? {
+            let length = state_length(shape.cells);
+            self.same_calls(file, words, calls, length, random)?;
+        }
+        for _ in 0..DAMAGED {
+            let damaged = damage::netlist(file, random);
+            self.same_reading(&damaged, random)?;
+            let n = random.below(400) as u32;
+            let state = lent(MOST_STATE);
+            self.same("run_netlist", &[&state], |peer| {
+                (peer.run_netlist)(&damaged, words, n, &state)
+            })?;
+        }
+        Ok(())
+    }
+
+    /// Reading a file, and writing its cells, also damaged ones. Gives the
+    /// shape of an accepted file.
+    fn same_reading(&self, file: &[u8], random: &mut Random) -> Result<Option<Shape>, String> {
+        let short = lent(random.below(6_200));
+        self.same("read_netlist", &[&short], |peer| {
+            (peer.read_netlist)(file, &short)
+        })?;
+        let room = lent(MOST_CELLS);
+        let read = self.same("read_netlist", &[&room], |peer| {
+            (peer.read_netlist)(file, &room)
+        })?;
+        let Ok(shape) = read.result else {
+            return Ok(None);
+        };
+        let mut cells = read.lent[0][..6 * shape.cells as usize].to_vec();
+        let file_room = lent(random.pick(&[511, 512, 3_584, 6_656]));
+        for _ in 0..DAMAGED {
+            self.same("write_netlist", &[&file_room], |peer| {
+                (peer.write_netlist)(&cells, shape.finish as u16, &file_room)
+            })?;
+            let place = random.below(cells.len());
+            cells[place] = random.below(44) as u8;
+        }
+        Ok(Some(shape))
+    }
+
+    /// A beginning, the continuings, and continuings of damaged states.
+    fn same_calls(
+        &self,
+        file: &[u8],
+        words: &[u8],
+        calls: &[Call],
+        length: usize,
+        random: &mut Random,
+    ) -> Result<(), String> {
+        let room = lent(length + random.pick(&[0, 1, 500]));
+        let begun = self.same("begin", &[&room], |peer| (peer.begin)(file, words, &room))?;
+        if begun.result.is_err() {
+            return Ok(());
+        }
+        let mut state = begun.lent[0][..length].to_vec();
+        for call in calls {
+            let buffer = lent_with(&state, call.room.around(length));
+            let reply = self.same("continue_by", &[&buffer], |peer| {
+                (peer.continue_by)(file, call.n, &buffer)
+            })?;
+            if reply.result.is_ok() {
+                state.copy_from_slice(&reply.lent[0][..length]);
+            }
+        }
+        for _ in 0..DAMAGED {
+            let damaged = damage::state(file, &state, random);
+            let n = random.below(600) as u32;
+            self.same("continue_by, damaged", &[&damaged], |peer| {
+                (peer.continue_by)(file, n, &damaged)
+            })?;
+        }
+        Ok(())
+    }
+
+    /// The text of hubrun; it lends nothing and refuses in words.
+    fn same_text(&self, job: &Job) -> Result<(), String> {
+        let input = [&job.words[..], &job.budget.to_le_bytes(), &job.program].concat();
+        self.same("hubrun", &[], |peer| Reply {
+            result: Ok(String::from_utf8((peer.hubrun_text)(&input))),
+            lent: vec![],
+        })
+        .map(drop)
+    }
+
+    /// Makes one call of both peers and gives the reply that they agree on.
+    fn same<T: PartialEq + Debug>(
+        &self,
+        name: &str,
+        lent: &[&[u8]],
+        call: impl Fn(&Peer) -> Reply<T>,
+    ) -> Result<Reply<T>, String> {
+        let (left, right) = (call(self.left), call(self.right));
+        if left.result != right.result {
+            let (left, right) = (&left.result, &right.result);
+            let (first, second) = (self.left.name, self.right.name);
+            return Err(format!("{name}: {first} says {left:?}, {second} {right:?}"));
+        }
+        if left.lent != right.lent {
+            return Err(format!("{name}: the lent bytes differ afterwards"));
+        }
+        if left.result.is_err() && left.lent != lent {
+            return Err(format!("{name}: refused, yet lent bytes changed"));
+        }
+        Ok(left)
+    }
+}

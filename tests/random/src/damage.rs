@@ -1,0 +1,186 @@
+//! Slight damage to programs, netlist files and states: some of it is
+//! refused, some makes another good input.
+
+use crate::xorshift::Random;
+use second::cells::{sort, Sort, DELAY, MERGE};
+
+const BLOCK: usize = 512;
+const CELLS_IN_BLOCK: usize = 84;
+const STATE_HEADER: usize = 8;
+const STATE_CELL: usize = 40;
+
+/// Kinds at and beyond the ends of the known ranges.
+const KINDS: [u8; 12] = [0, 1, 2, 9, 10, 15, 16, 18, 20, 23, 24, 32];
+
+/// A program with one to three faults.
+pub fn program(bytes: &[u8], random: &mut Random) -> Vec<u8> {
+    let mut bytes = bytes.to_vec();
+    for _ in 0..random.between(1, 3) {
+        damage_program(&mut bytes, random);
+    }
+    bytes
+}
+
+fn damage_program(bytes: &mut Vec<u8>, random: &mut Random) {
+    if bytes.len() < 4 {
+        return bytes.push(random.byte());
+    }
+    let node = 4 * random.below(bytes.len() / 4);
+    match random.below(8) {
+        0 => bytes[node] = random.pick(&KINDS),
+        1 => bytes[node + 1] = bytes[node + 1].wrapping_sub(1),
+        2 => bytes[node + 1] = random.byte(),
+        3 => bytes[node + 2] = random.below(20) as u8,
+        4 => bytes[node + 3] = random.below(2) as u8,
+        5 => drop(bytes.drain(node..node + 4)),
+        6 => bytes.extend_from_within(node..node + 4),
+        _ => bytes.truncate(random.below(bytes.len())),
+    }
+}
+
+/// A netlist file with a fault; its checks are mostly put right again, so
+/// that the later refusals are met too.
+pub fn netlist(file: &[u8], random: &mut Random) -> Vec<u8> {
+    let mut file = file.to_vec();
+    match random.below(12) {
+        0 => file.truncate(random.below(file.len() + 1)),
+        1 => file.extend_from_within(..BLOCK),
+        2 => drop(file.drain(..BLOCK)),
+        3 => file.extend([0; BLOCK]),
+        4 => set_random_byte(&mut file, random),
+        5 | 6 => {
+            let place = BLOCK * random.below(file.len() / BLOCK) + random.below(6);
+            file[place] = file[place].wrapping_add(random.pick(&[1, 255, 84]));
+            mend_checks(&mut file);
+        }
+        _ => {
+            damage_cell(&mut file, random);
+            mend_checks(&mut file);
+        }
+    }
+    file
+}
+
+fn set_random_byte(bytes: &mut [u8], random: &mut Random) {
+    let place = random.below(bytes.len());
+    bytes[place] = random.byte();
+}
+
+/// Changes a field of a cell, in a used or an unused place.
+fn damage_cell(file: &mut [u8], random: &mut Random) {
+    let block = BLOCK * random.below(file.len() / BLOCK);
+    let cell = block + 8 + 6 * random.below(CELLS_IN_BLOCK);
+    match random.below(5) {
+        0 => file[cell] = random.pick(&[1, 2, 3, 7, 10, 32, 33, 34, 35, 36, 38, 39, 40, 41, 42]),
+        1 => file[cell + 1] = random.byte(),
+        2 => file[cell + 2] = random.byte(),
+        3 => file[cell + 4] = random.byte(),
+        _ => file[cell + random.pick(&[3, 5])] = random.below(5) as u8,
+    }
+}
+
+/// Gives every whole block the check that makes its words sum to 0.
+fn mend_checks(file: &mut [u8]) {
+    for block in file.chunks_exact_mut(BLOCK) {
+        block[6..8].fill(0);
+        let words = block.chunks_exact(2);
+        let sum = words.fold(0u16, |sum, word| {
+            sum.wrapping_add(u16::from_le_bytes([word[0], word[1]]))
+        });
+        block[6..8].copy_from_slice(&sum.wrapping_neg().to_le_bytes());
+    }
+}
+
+/// A state of a netlist with one to four changed fields. Most changes are
+/// such as refusal 15 lets pass: wires and lines that contradict each other.
+pub fn state(file: &[u8], state: &[u8], random: &mut Random) -> Vec<u8> {
+    let mut state = state.to_vec();
+    let cells = (state.len() - STATE_HEADER) / STATE_CELL;
+    for _ in 0..random.between(1, 4) {
+        let cell = random.below(cells);
+        let place = STATE_HEADER + STATE_CELL * cell;
+        match random.below(12) {
+            0 => set_random_byte(&mut state[..STATE_HEADER], random),
+            1 => set_random_byte(&mut state[place..place + STATE_CELL], random),
+            _ => contradict(
+                kind_of(file, cell),
+                &mut state[place..place + STATE_CELL],
+                random,
+            ),
+        }
+    }
+    state
+}
+
+/// The kind of a cell in a netlist file.
+fn kind_of(file: &[u8], cell: usize) -> u8 {
+    file[BLOCK * (cell / CELLS_IN_BLOCK) + 8 + 6 * (cell % CELLS_IN_BLOCK)]
+}
+
+/// Changes a field that a cell of this kind has, to a value it may have.
+fn contradict(kind: u8, cell: &mut [u8], random: &mut Random) {
+    let value = random.pick(&[0, 2]);
+    match (sort(kind), kind) {
+        (Sort::Word, _) => set_random_byte(&mut cell[value..value + 2], random),
+        // The newest inputs matter more than the rest of the line.
+        (_, DELAY) if random.once_in(2) => cell[8] ^= 1 << random.below(2),
+        (_, DELAY) => cell[random.between(8, 39)] ^= 1 << random.below(8),
+        (_, MERGE) => cell[random.pick(&[value, 4, 5])] ^= 1,
+        _ => cell[value] ^= 1,
+    }
+}
+
+#[cfg(test)]
+mod tests {
+    use super::*;
+    use crate::generate;
+    use crate::lend::{file_length, lent, state_length, MOST_FILE};
+    use second::answer::Refusal;
+    use second::calls;
+    use std::collections::BTreeSet;
+
+    /// The refusals, 0 for none, that calls on 4,000 damaged programs meet.
+    fn met(call: impl Fn(&[u8], &mut Random) -> Result<(), Refusal>) -> BTreeSet<u8> {
+        let outcome = |seed: u64| {
+            let random = &mut Random::new(seed);
+            let program = generate::program(random);
+            call(&program, random).map_or_else(|refusal| refusal.number, |()| 0)
+        };
+        (0..4_000).map(outcome).collect()
+    }
+
+    /// The netlist file and the begun state of a good program.
+    fn begun(good: &[u8]) -> (Vec<u8>, Vec<u8>) {
+        let mut file = lent(MOST_FILE);
+        let shape = calls::compile(good, &mut file).expect("a good program");
+        let cells = u32::from(shape.cells);
+        file.truncate(file_length(cells));
+        let mut state = lent(state_length(cells));
+        calls::begin(&file, &[0; 32], &mut state).expect("a good netlist");
+        (file, state)
+    }
+
+    #[test]
+    fn damaged_programs_meet_refusals_1_to_8() {
+        let met = met(|good, random| calls::check(&program(good, random)));
+        assert_eq!(met, (0..=8).collect());
+    }
+
+    #[test]
+    fn damaged_netlists_meet_refusals_9_to_12() {
+        let met = met(|good, random| {
+            let damaged = netlist(&begun(good).0, random);
+            calls::read_netlist(&damaged, &mut lent(MOST_FILE)).map(drop)
+        });
+        assert_eq!(met, [0, 9, 10, 11, 12].into());
+    }
+
+    #[test]
+    fn damaged_states_meet_refusals_15_and_16() {
+        let met = met(|good, random| {
+            let (file, begun) = begun(good);
+            calls::continue_by(&file, &mut state(&file, &begun, random), 1).map(drop)
+        });
+        assert_eq!(met, [0, 15, 16].into());
+    }
+}

@@ -1,0 +1,131 @@
+//! Peers that go wrong in the ways the paper wants rejected, and the proof
+//! that the comparisons tell them from a good one.
+
+use peers::{End, Peer, Refused, Reply, SECOND};
+
+/// Its rules take an instant too many for a program with a parallel node.
+pub const SLOW_PARALLEL: Peer = Peer {
+    name: "slow parallel",
+    reference_run: |program, words, budget| {
+        let parallel = program.chunks_exact(4).any(|node| node[0] == 20);
+        let reply = (SECOND.reference_run)(program, words, budget);
+        let late = |end: End| End {
+            instant: end.instant + u32::from(parallel),
+            ..end
+        };
+        Reply {
+            result: reply.result.map(|end| end.map(late)),
+            lent: reply.lent,
+        }
+    },
+    ..SECOND
+};
+
+/// Says open one instant before the budget is used, and counts it anyway.
+const EARLY_OPEN: Peer = Peer {
+    name: "early open",
+    continue_by: |file, n, state| {
+        let mut reply = (SECOND.continue_by)(file, n.saturating_sub(1), state);
+        if let Ok(answer) = &mut reply.result {
+            answer.count += n.min(1);
+        }
+        reply
+    },
+    ..SECOND
+};
+
+/// Evaluates instant 0 and only copies it after, with the instant moved on.
+const COPYING: Peer = Peer {
+    name: "copying",
+    continue_by: |file, n, state| {
+        let mut reply = (SECOND.continue_by)(file, 0, state);
+        if let Ok(answer) = &mut reply.result {
+            answer.instant += n;
+            answer.count = n;
+            reply.lent[0][..4].copy_from_slice(&answer.instant.to_le_bytes());
+        }
+        reply
+    },
+    ..SECOND
+};
+
+/// Compiles every program to the netlist of ok.
+const STOCK_NETLIST: Peer = Peer {
+    name: "stock netlist",
+    compile: |program, file| match (SECOND.check)(program).result {
+        Ok(()) => (SECOND.compile)(&[16, 0, 0, 0], file),
+        Err(_) => (SECOND.compile)(program, file),
+    },
+    ..SECOND
+};
+
+/// Refuses all programs, and says so everywhere.
+const REFUSING: Peer = Peer {
+    name: "refusing",
+    check: |_| Reply {
+        result: Err(NO),
+        lent: vec![],
+    },
+    compile: |_, file| Reply {
+        result: Err(NO),
+        lent: vec![file.to_vec()],
+    },
+    ..SECOND
+};
+
+const NO: Refused = Refused {
+    number: 1,
+    place: 0,
+};
+
+mod tests {
+    use super::*;
+    use crate::against_peer::Pair;
+    use crate::job::Job;
+    use crate::xorshift::Random;
+    use crate::{against_equations, against_rules, generate, netlists};
+
+    const JOBS: u64 = 40;
+
+    fn disagrees_with_rules(peer: &Peer) -> bool {
+        (0..JOBS).any(|seed| against_rules::compare(peer, &Job::of_seed(seed)).is_err())
+    }
+
+    fn disagrees_with_equations(peer: &Peer) -> bool {
+        let random = &mut Random::new(3);
+        let (file, words) = (netlists::netlist(random), generate::start_words(random));
+        against_equations::compare(peer, &file, &words, 1).is_err()
+    }
+
+    fn disagrees_with_second(peer: &Peer) -> bool {
+        let pair = Pair {
+            left: &SECOND,
+            right: peer,
+        };
+        (0..JOBS).any(|seed| pair.compare(&Job::of_seed(seed)).is_err())
+    }
+
+    #[test]
+    fn rules_tell_faulty_circuits() {
+        assert!(!disagrees_with_rules(&SECOND));
+        for faulty in [SLOW_PARALLEL, EARLY_OPEN, COPYING, STOCK_NETLIST] {
+            assert!(disagrees_with_rules(&faulty), "{}", faulty.name);
+        }
+    }
+
+    #[test]
+    fn equations_tell_faulty_simulators() {
+        assert!(!disagrees_with_equations(&SECOND));
+        for faulty in [EARLY_OPEN, COPYING] {
+            assert!(disagrees_with_equations(&faulty), "{}", faulty.name);
+        }
+    }
+
+    #[test]
+    fn a_good_peer_tells_every_faulty_one() {
+        assert!(!disagrees_with_second(&SECOND));
+        for faulty in [SLOW_PARALLEL, EARLY_OPEN, COPYING, STOCK_NETLIST, REFUSING] {
+            assert!(disagrees_with_second(&faulty), "{}", faulty.name);
+        }
+    }
+}

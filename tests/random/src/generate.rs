@@ -1,0 +1,319 @@
+//! Random programs that the check accepts.
+//!
+//! Every part is written within a limit, the most nodes that the program may
+//! have after it, and a scope, the variables it may read and write. Parallel
+//! sides get scopes that keep them apart, and delays are chosen once the
+//! expression's time is known, so the result is accepted by construction.
+
+use crate::xorshift::Random;
+use second::operator::Operator;
+
+const MOST_NODES: usize = 200;
+const MOST_DELAY: u32 = 255;
+
+/// Sets of variables, as masks.
+#[derive(Clone, Copy)]
+struct Scope {
+    reads: u16,
+    writes: u16,
+}
+
+impl Scope {
+    fn new(reads: u16, writes: u16) -> Scope {
+        Scope { reads, writes }
+    }
+
+    fn without_writing(self, variable: u16) -> Scope {
+        Scope {
+            writes: self.writes & !(1 << variable),
+            ..self
+        }
+    }
+}
+
+#[derive(Clone, Copy, PartialEq)]
+enum Form {
+    Ok,
+    Tick,
+    Assign,
+    Sequence,
+    Parallel,
+    If,
+    While,
+    Repeat,
+    /// A loop around a body and a counting down of its condition.
+    WhileCounting,
+    RepeatCounting,
+}
+
+/// The forms, with the least room of each and how often it is to be chosen.
+const FORMS: [(Form, usize, usize); 10] = [
+    (Form::Ok, 1, 1),
+    (Form::Tick, 1, 2),
+    (Form::Assign, 2, 4),
+    (Form::Sequence, 3, 12),
+    (Form::Parallel, 3, 8),
+    (Form::If, 4, 6),
+    (Form::While, 3, 2),
+    (Form::Repeat, 3, 2),
+    (Form::WhileCounting, 8, 6),
+    (Form::RepeatCounting, 10, 5),
+];
+
+const OPERATORS: [Operator; 7] = [
+    Operator::Complement,
+    Operator::Sum,
+    Operator::Difference,
+    Operator::And,
+    Operator::Or,
+    Operator::Equal,
+    Operator::Less,
+];
+
+/// A program of up to 200 nodes.
+pub fn program(random: &mut Random) -> Vec<u8> {
+    let limit = match random.below(10) {
+        0..=3 => random.between(1, 12),
+        4..=7 => random.between(13, 60),
+        _ => random.between(61, MOST_NODES),
+    };
+    // Few variables meet more often than sixteen do.
+    let variables = random.between(1, 16);
+    let all = ((1u32 << variables) - 1) as u16;
+    let mut author = Author {
+        random,
+        bytes: Vec::new(),
+    };
+    author.statement(limit, Scope::new(all, all));
+    author.bytes
+}
+
+/// The 32 bytes of sixteen start words, small ones more often than not.
+pub fn start_words(random: &mut Random) -> Vec<u8> {
+    let mut word = || match random.below(10) {
+        0..=6 => random.below(6) as u16,
+        7 => 0,
+        _ => random.word(),
+    };
+    (0..16).flat_map(|_| word().to_le_bytes()).collect()
+}
+
+struct Author<'a> {
+    random: &'a mut Random,
+    bytes: Vec<u8>,
+}
+
+impl Author<'_> {
+    /// The nodes written so far.
+    fn count(&self) -> usize {
+        self.bytes.len() / 4
+    }
+
+    /// Writes a node and gives the place of its delay.
+    fn node(&mut self, kind: u8, n: u16) -> usize {
+        let place = self.bytes.len() + 1;
+        let [low, high] = n.to_le_bytes();
+        self.bytes.extend([kind, 0, low, high]);
+        place
+    }
+
+    fn statement(&mut self, limit: usize, scope: Scope) {
+        match self.form(limit - self.count(), scope) {
+            Form::Ok => {
+                self.node(16, 0);
+            }
+            Form::Tick => {
+                let place = self.node(17, 0);
+                self.set_delay(place, 1);
+            }
+            Form::Assign => self.assignment(limit, scope),
+            Form::Sequence => {
+                self.node(19, 0);
+                self.two_statements(limit, scope, scope);
+            }
+            Form::Parallel => self.parallel(limit, scope),
+            Form::If => self.choice(limit, scope),
+            Form::While => self.free_loop(22, limit, scope),
+            Form::Repeat => self.free_loop(23, limit, scope),
+            Form::WhileCounting => self.while_counting(limit, scope),
+            Form::RepeatCounting => self.repeat_counting(limit, scope),
+        }
+    }
+
+    /// A form that fits, by weight; where room is large, none without parts.
+    fn form(&mut self, room: usize, scope: Scope) -> Form {
+        let needs_variable = [Form::Assign, Form::WhileCounting, Form::RepeatCounting];
+        let wanted = if room > 10 { 3..=room } else { 1..=room };
+        let fits = |form: Form, least: usize| {
+            wanted.contains(&least) && (scope.writes != 0 || !needs_variable.contains(&form))
+        };
+        let chosen: Vec<Form> = FORMS
+            .iter()
+            .filter(|&&(form, least, _)| fits(form, least))
+            .flat_map(|&(form, _, weight)| vec![form; weight])
+            .collect();
+        self.random.pick(&chosen)
+    }
+
+    /// Two statements, of which the second has what room the first leaves.
+    fn two_statements(&mut self, limit: usize, p_scope: Scope, q_scope: Scope) {
+        let p_limit = self.random.between(self.count() + 1, limit - 1);
+        self.statement(p_limit, p_scope);
+        self.statement(limit, q_scope);
+    }
+
+    fn assignment(&mut self, limit: usize, scope: Scope) {
+        let variable = self.variable(scope.writes);
+        let place = self.node(18, variable);
+        let time = self.own_expression(limit, scope);
+        self.set_delay(place, time.max(1));
+    }
+
+    /// Each side may read what the other doesn't write.
+    fn parallel(&mut self, limit: usize, scope: Scope) {
+        self.node(20, 0);
+        let share = self.random.word();
+        let (p_writes, q_writes) = (scope.writes & share, scope.writes & !share);
+        let p_scope = Scope::new(scope.reads & !q_writes, p_writes);
+        let q_scope = Scope::new(scope.reads & !p_writes, q_writes);
+        self.two_statements(limit, p_scope, q_scope);
+    }
+
+    fn choice(&mut self, limit: usize, scope: Scope) {
+        let place = self.node(21, 0);
+        let time = self.own_expression(limit - 2, scope);
+        self.set_delay(place, time);
+        self.two_statements(limit, scope, scope);
+    }
+
+    /// A loop with any condition and any body.
+    fn free_loop(&mut self, kind: u8, limit: usize, scope: Scope) {
+        let place = self.node(kind, 0);
+        let time = self.own_expression(limit - 1, scope);
+        self.set_delay(place, time.max(1));
+        self.statement(limit, scope);
+    }
+
+    /// while x do body; x := x - 1
+    fn while_counting(&mut self, limit: usize, scope: Scope) {
+        let variable = self.variable(scope.writes);
+        let place = self.node(22, 0);
+        self.node(2, variable);
+        self.set_delay(place, 1);
+        self.counting_body(variable, limit, scope);
+    }
+
+    /// repeat body; x := x - 1 until x = 0
+    fn repeat_counting(&mut self, limit: usize, scope: Scope) {
+        let variable = self.variable(scope.writes);
+        let place = self.node(23, 0);
+        self.node(8, 0);
+        self.node(2, variable);
+        self.node(1, 0);
+        self.set_delay(place, Operator::Equal.time());
+        self.counting_body(variable, limit, scope);
+    }
+
+    /// A statement that lets x alone, and the four nodes of x := x - 1.
+    fn counting_body(&mut self, variable: u16, limit: usize, scope: Scope) {
+        self.node(19, 0);
+        self.statement(limit - 4, scope.without_writing(variable));
+        let place = self.node(18, variable);
+        self.node(5, 0);
+        self.node(2, variable);
+        self.node(1, 1);
+        self.set_delay(place, Operator::Difference.time());
+    }
+
+    /// The expression of a statement, mostly short, so that room is left for
+    /// statements; gives its time.
+    fn own_expression(&mut self, limit: usize, scope: Scope) -> u32 {
+        let usual = if self.random.once_in(12) { 40 } else { 9 };
+        let room = (limit - self.count()).min(usual);
+        let limit = self.count() + self.random.between(1, room);
+        self.expression(limit, MOST_DELAY, scope.reads)
+    }
+
+    /// Writes an expression within a limit and a time; gives its time.
+    fn expression(&mut self, limit: usize, time: u32, reads: u16) -> u32 {
+        let room = limit - self.count();
+        let fits = |operator: &Operator| operator.time() <= time && inputs(*operator) < room;
+        let operators: Vec<Operator> = OPERATORS.into_iter().filter(fits).collect();
+        // Where a complement alone fits, a leaf is mostly the better choice.
+        let leaves_in_twelve = if room < 3 { 9 } else { 2 };
+        if operators.is_empty() || self.random.below(12) < leaves_in_twelve {
+            self.leaf(reads);
+            return 0;
+        }
+        let operator = self.random.pick(&operators);
+        self.node(operator.kind(), 0);
+        let left = time - operator.time();
+        let mut children = 0;
+        if inputs(operator) == 2 {
+            let first_limit = self.random.between(self.count() + 1, limit - 1);
+            children = self.expression(first_limit, left, reads);
+        }
+        operator.time() + children.max(self.expression(limit, left, reads))
+    }
+
+    fn leaf(&mut self, reads: u16) {
+        if reads != 0 && !self.random.once_in(3) {
+            let variable = self.variable(reads);
+            self.node(2, variable);
+        } else {
+            let small = self.random.below(6) as u16;
+            let any = self.random.word();
+            let n = if self.random.once_in(4) { any } else { small };
+            self.node(1, n);
+        }
+    }
+
+    /// One of the variables of a set that isn't empty.
+    fn variable(&mut self, set: u16) -> u16 {
+        let is_member = |variable: &u16| set >> variable & 1 == 1;
+        let members: Vec<u16> = (0..16).filter(is_member).collect();
+        self.random.pick(&members)
+    }
+
+    /// A delay at the least, a little above it, or anywhere.
+    fn set_delay(&mut self, place: usize, least: u32) {
+        let delay = match self.random.below(10) {
+            0..=5 => least,
+            6..=8 => (least + self.random.below(5) as u32).min(MOST_DELAY),
+            _ => self.random.between(least as usize, MOST_DELAY as usize) as u32,
+        };
+        self.bytes[place] = delay as u8;
+    }
+}
+
+fn inputs(operator: Operator) -> usize {
+    match operator {
+        Operator::Complement => 1,
+        _ => 2,
+    }
+}
+
+#[cfg(test)]
+mod tests {
+    use super::*;
+    use second::{calls, kinds};
+
+    #[test]
+    fn every_program_is_accepted_and_every_kind_occurs() {
+        let mut seen = [0; 256];
+        let mut largest = 0;
+        for seed in 0..2_000 {
+            let program = program(&mut Random::new(seed));
+            assert_eq!(calls::check(&program), Ok(()), "seed {seed}: {program:?}");
+            largest = largest.max(program.len() / 4);
+            for node in program.chunks_exact(4) {
+                seen[usize::from(node[0])] += 1;
+            }
+        }
+        for row in &kinds::TABLE {
+            let count = seen[usize::from(row.number)];
+            assert!(count > 500, "{} occurs {count} times", row.name);
+        }
+        assert!((190..=MOST_NODES).contains(&largest), "{largest}");
+    }
+}

@@ -1,0 +1,118 @@
+//! One random job: a program and all that is asked about it.
+
+use crate::damage;
+use crate::generate;
+use crate::xorshift::Random;
+
+/// The last instant that a run may come to.
+pub const MOST_INSTANT: u32 = 1_000_000;
+
+/// A continuing, and how much of the state's buffer is lent to it.
+#[derive(Clone, Copy, Debug)]
+pub struct Call {
+    pub n: u32,
+    pub room: Room,
+}
+
+#[derive(Clone, Copy, Debug)]
+pub enum Room {
+    Exact,
+    Longer(usize),
+    Shorter(usize),
+}
+
+impl Room {
+    /// The length of a buffer that is asked to hold `length` bytes.
+    pub fn around(self, length: usize) -> usize {
+        match self {
+            Room::Exact => length,
+            Room::Longer(bytes) => length + bytes,
+            Room::Shorter(bytes) => length.saturating_sub(bytes),
+        }
+    }
+}
+
+#[derive(Clone, Debug)]
+pub struct Job {
+    pub program: Vec<u8>,
+    pub words: Vec<u8>,
+    pub budget: u32,
+    /// The lengths of the buffers lent for a netlist file and for a state.
+    pub file_length: usize,
+    pub state_length: usize,
+    pub calls: Vec<Call>,
+    /// The seed of whatever is damaged later.
+    pub damage: u64,
+}
+
+impl Job {
+    /// The job of a seed; one program in eight is slightly damaged.
+    pub fn of_seed(seed: u64) -> Job {
+        let random = &mut Random::new(seed);
+        let mut program = generate::program(random);
+        if random.once_in(8) {
+            program = damage::program(&program, random);
+        }
+        Job {
+            program,
+            words: lent_words(random),
+            budget: budget(random),
+            file_length: random.pick(&[0, 511, 512, 1024, 2048, 3584, 6656, 7000]),
+            state_length: random.pick(&[0, 7, 768, 2000, 10_000, 22_688, 40_968, 41_000]),
+            calls: calls(random),
+            damage: random.bits(),
+        }
+    }
+}
+
+/// Start words, now and then with a byte too few or some too many.
+fn lent_words(random: &mut Random) -> Vec<u8> {
+    let mut words = generate::start_words(random);
+    match random.below(40) {
+        0 => words.truncate(random.below(32)),
+        1 => words.extend([0xa5; 5]),
+        _ => {}
+    }
+    words
+}
+
+fn budget(random: &mut Random) -> u32 {
+    let budget = match random.below(40) {
+        0 => random.pick(&[1_000_001, 2_000_000, u32::MAX as usize]),
+        1..=3 => random.below(3),
+        4..=12 => random.below(300),
+        _ => random.between(1_000, 6_000),
+    };
+    budget as u32
+}
+
+/// The continuings of one run, refused ones among them.
+pub fn calls(random: &mut Random) -> Vec<Call> {
+    let mut list: Vec<Call> = (0..random.between(1, 12)).map(|_| call(random)).collect();
+    // The last instant of all is far for most programs, so it is rarely gone
+    // for: near it the second of these may be refused.
+    if random.once_in(1_000) {
+        list.extend([970_000, 30_000].map(|n| Call {
+            n,
+            room: Room::Exact,
+        }));
+    }
+    list
+}
+
+fn call(random: &mut Random) -> Call {
+    let n = match random.below(20) {
+        0 | 1 => 0,
+        2..=6 => random.between(1, 3),
+        7..=12 => random.between(4, 300),
+        13..=18 => random.between(300, 2_000),
+        _ => random.pick(&[1_000_001, 3_000_000, u32::MAX as usize]),
+    };
+    let room = match random.below(12) {
+        0 => Room::Shorter(random.between(1, 50)),
+        1 => Room::Shorter(random.between(51, 50_000)),
+        2 | 3 => Room::Longer(random.between(1, 100)),
+        _ => Room::Exact,
+    };
+    Call { n: n as u32, room }
+}

@@ -1,0 +1,34 @@
+//! Lent buffers: how long results are, and what a buffer holds before one.
+
+/// The longest netlist file, 13 blocks.
+pub const MOST_FILE: usize = 6656;
+
+/// The cells of a netlist file, six bytes for each of 1,024.
+pub const MOST_CELLS: usize = 6144;
+
+/// The longest state, of 1,024 cells.
+pub const MOST_STATE: usize = 8 + 40 * 1024;
+
+const LENT_BYTE: u8 = 0xa5;
+
+/// A lent buffer, filled so that a write shows.
+pub fn lent(length: usize) -> Vec<u8> {
+    vec![LENT_BYTE; length]
+}
+
+/// A buffer of another length that begins with these bytes.
+pub fn lent_with(bytes: &[u8], length: usize) -> Vec<u8> {
+    let mut buffer = bytes.to_vec();
+    buffer.resize(length, LENT_BYTE);
+    buffer
+}
+
+/// The bytes of the netlist file of this many cells.
+pub fn file_length(cells: u32) -> usize {
+    512 * (cells as usize).div_ceil(84)
+}
+
+/// The bytes of the state of this many cells.
+pub fn state_length(cells: u32) -> usize {
+    8 + 40 * cells as usize
+}

@@ -1,0 +1,161 @@
+//! Makes a failing job smaller, step by step, for as long as it still fails.
+//!
+//! A step puts a smaller subtree for a subtree, lowers a number of a node,
+//! clears a start word, or drops a call. It is greedy: the first step that
+//! keeps the failure is taken, until none does. Of programs of one length the
+//! one whose bytes come first is the smaller, so there is an end to it.
+
+use crate::job::Job;
+use second::kinds::{row, Sort};
+
+const NODE: usize = 4;
+const OK: [u8; NODE] = [16, 0, 0, 0];
+const TICK: [u8; NODE] = [17, 1, 0, 0];
+const ZERO: [u8; NODE] = [1, 0, 0, 0];
+
+/// The smallest job that the steps lead to and that still fails.
+pub fn minimise(job: &Job, fails: impl Fn(&Job) -> bool) -> Job {
+    let mut smallest = job.clone();
+    while let Some(smaller) = steps(&smallest).into_iter().find(&fails) {
+        smallest = smaller;
+    }
+    smallest
+}
+
+/// Every job one step smaller, the large steps first.
+fn steps(job: &Job) -> Vec<Job> {
+    let with_program = |program| Job {
+        program,
+        ..job.clone()
+    };
+    let programs = smaller_programs(&job.program).into_iter().map(with_program);
+    programs
+        .chain(fewer_calls(job))
+        .chain(cleared_words(job))
+        .collect()
+}
+
+/// Programs with fewer nodes, then those with a lower number in a node.
+fn smaller_programs(program: &[u8]) -> Vec<Vec<u8>> {
+    let nodes: Vec<&[u8]> = program.chunks_exact(NODE).collect();
+    let numbers = 0..nodes.len();
+    let fewer = numbers.clone().flat_map(|node| fewer_nodes(&nodes, node));
+    let lower = numbers.flat_map(|node| lower_numbers(program, node));
+    fewer.chain(lower).collect()
+}
+
+/// The program with the subtree at `node` replaced by something smaller.
+fn fewer_nodes(nodes: &[&[u8]], node: usize) -> Vec<Vec<u8>> {
+    let end = subtree_end(nodes, node);
+    let sort_of = |node: usize| row(nodes[node][0]).map(|row| row.sort());
+    let leaves: &[[u8; NODE]] = match sort_of(node) {
+        Some(Sort::Expression) => &[ZERO],
+        _ => &[OK, TICK],
+    };
+    let old = nodes[node..end].concat();
+    let is_smaller = |leaf: &&[u8; NODE]| (NODE, &leaf[..]) < (old.len(), &old[..]);
+    let mut replacements: Vec<Vec<u8>> = leaves
+        .iter()
+        .filter(is_smaller)
+        .map(|leaf| leaf.to_vec())
+        .collect();
+    for child in children(nodes, node) {
+        if sort_of(child) == sort_of(node) {
+            replacements.push(nodes[child..subtree_end(nodes, child)].concat());
+        }
+    }
+    let put = |replacement: Vec<u8>| {
+        [nodes[..node].concat(), replacement, nodes[end..].concat()].concat()
+    };
+    replacements.into_iter().map(put).collect()
+}
+
+/// The children of a node, as far as there are nodes for them.
+fn children(nodes: &[&[u8]], node: usize) -> Vec<usize> {
+    let mut found = vec![];
+    let mut next = node + 1;
+    while found.len() < child_count(nodes[node]) && next < nodes.len() {
+        found.push(next);
+        next = subtree_end(nodes, next);
+    }
+    found
+}
+
+/// The first node after the subtree at `node`: the one where nothing is owed.
+fn subtree_end(nodes: &[&[u8]], node: usize) -> usize {
+    let (mut next, mut owed) = (node, 1);
+    while owed > 0 && next < nodes.len() {
+        owed = owed - 1 + child_count(nodes[next]);
+        next += 1;
+    }
+    next
+}
+
+fn child_count(node: &[u8]) -> usize {
+    row(node[0]).map_or(0, |row| row.children.len())
+}
+
+/// The program with a lower delay or n at a node.
+fn lower_numbers(program: &[u8], node: usize) -> Vec<Vec<u8>> {
+    let mut lower = vec![];
+    for place in NODE * node + 1..NODE * (node + 1) {
+        let old = program[place];
+        for new in [0, 1, old / 2, old.saturating_sub(1)] {
+            if new < old {
+                let mut changed = program.to_vec();
+                changed[place] = new;
+                lower.push(changed);
+            }
+        }
+    }
+    lower
+}
+
+/// The job without one of its calls.
+fn fewer_calls(job: &Job) -> Vec<Job> {
+    let without = |call| {
+        let mut fewer = job.clone();
+        fewer.calls.remove(call);
+        fewer
+    };
+    (0..job.calls.len()).map(without).collect()
+}
+
+/// The job with one byte of a start word cleared.
+fn cleared_words(job: &Job) -> Vec<Job> {
+    let set = (0..job.words.len()).filter(|&place| job.words[place] != 0);
+    let cleared = |place: usize| {
+        let mut cleared = job.clone();
+        cleared.words[place] = 0;
+        cleared
+    };
+    set.map(cleared).collect()
+}
+
+#[cfg(test)]
+mod tests {
+    use super::*;
+    use crate::against_rules;
+    use crate::faulty::SLOW_PARALLEL;
+
+    #[test]
+    fn a_fault_of_parallel_nodes_comes_down_to_one_of_them() {
+        let fails = |job: &Job| against_rules::compare(&SLOW_PARALLEL, job).is_err();
+        let failing = (0..)
+            .map(Job::of_seed)
+            .find(fails)
+            .expect("a parallel program");
+        let smallest = minimise(&failing, fails);
+        assert_eq!(smallest.program, [[20, 0, 0, 0], OK, OK].concat());
+        assert!(smallest.calls.is_empty());
+        assert!(smallest.words.iter().all(|&byte| byte == 0));
+    }
+
+    #[test]
+    fn nothing_is_cut_from_what_fails_only_whole() {
+        let job = Job::of_seed(7);
+        let whole = job.clone();
+        let smallest = minimise(&job, |job| job.program == whole.program);
+        assert_eq!(smallest.program, whole.program);
+    }
+}

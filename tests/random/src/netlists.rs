@@ -1,0 +1,128 @@
+//! Random netlists that no program compiles to: every kind of cell, inputs
+//! anywhere that the rules allow, memories scattered.
+
+use crate::xorshift::Random;
+use second::cells::*;
+use second::netfile;
+
+const FIXED: [u8; 3] = [START, GROUND, CONSTANT];
+
+/// The kinds of the cells that are neither fixed nor memories, by weight: with
+/// fewer ors and delays, pulses would soon die out.
+const KINDS: [(u8, usize); 14] = [
+    (CONSTANT, 1),
+    (3, 1),
+    (4, 1),
+    (5, 1),
+    (6, 1),
+    (7, 1),
+    (8, 1),
+    (9, 1),
+    (DELAY, 6),
+    (OR, 8),
+    (WHEN, 2),
+    (UNLESS, 2),
+    (MERGE, 2),
+    (GATE, 2),
+];
+
+/// The file of a netlist with mostly few and now and then 1,024 cells.
+pub fn netlist(random: &mut Random) -> Vec<u8> {
+    let free = match random.below(20) {
+        0 => random.between(200, 1005),
+        1 => 1005,
+        _ => random.between(0, 110),
+    };
+    let kinds = kinds(free, random);
+    let cells = (0..kinds.len())
+        .map(|number| cell(&kinds, number, random))
+        .collect();
+    let finish = wire(&kinds, kinds.len(), Sort::Control, random);
+    netfile::write(&Netlist { cells, finish })
+}
+
+/// The fixed kinds, then memories and free cells in any order.
+fn kinds(free: usize, random: &mut Random) -> Vec<u8> {
+    let weighted: Vec<u8> = KINDS
+        .iter()
+        .flat_map(|&(kind, weight)| vec![kind; weight])
+        .collect();
+    let mut kinds = FIXED.to_vec();
+    let (mut memories, mut free) = (MEMORIES, free);
+    while memories + free > 0 {
+        if random.below(memories + free) < memories {
+            kinds.push(MEMORY);
+            memories -= 1;
+        } else {
+            kinds.push(random.pick(&weighted));
+            free -= 1;
+        }
+    }
+    kinds
+}
+
+fn cell(kinds: &[u8], number: usize, random: &mut Random) -> Cell {
+    let kind = kinds[number];
+    let (a, b) = fields(kind).expect("a kind of the list");
+    let delay = match kind {
+        DELAY => random.pick(&[1, 1, 2, 3, 7, 64, 65, 200, 254, 255]),
+        _ => 0,
+    };
+    let a = field(kinds, number, a, random);
+    Cell::new(kind, delay, a, field(kinds, number, b, random))
+}
+
+/// A value for a field; the number of cell 2 must be 0.
+fn field(kinds: &[u8], number: usize, field: Field, random: &mut Random) -> u16 {
+    match field {
+        Field::Unused => 0,
+        Field::Number if number < FIXED.len() => 0,
+        Field::Number => random.pick(&[0, 1, 2, 0xffff, 0x8000]),
+        Field::Now(sort) => wire(kinds, number, sort, random),
+        Field::Earlier(sort) => wire(kinds, kinds.len(), sort, random),
+    }
+}
+
+/// A wire of a sort below a limit. One control input in eight is start, since
+/// without its pulse nothing happens; the other fixed cells are mostly passed
+/// over where there is a choice.
+fn wire(kinds: &[u8], limit: usize, wanted: Sort, random: &mut Random) -> u16 {
+    if wanted == Sort::Control && random.once_in(8) {
+        return 0;
+    }
+    let least = if random.once_in(10) { 0 } else { FIXED.len() };
+    let of_sort = |least: usize| -> Vec<usize> {
+        let numbers = least..limit;
+        numbers
+            .filter(|&number| sort(kinds[number]) == wanted)
+            .collect()
+    };
+    let choices = Some(of_sort(least)).filter(|found| !found.is_empty());
+    random.pick(&choices.unwrap_or_else(|| of_sort(0))) as u16
+}
+
+#[cfg(test)]
+mod tests {
+    use super::*;
+    use second::calls;
+
+    #[test]
+    fn every_netlist_is_good_and_many_stay_lively() {
+        let late_change = |&seed: &u64| changes_late(&netlist(&mut Random::new(seed)));
+        let count = (0..200).filter(late_change).count();
+        assert!(count > 50, "{count} of 200 netlists");
+    }
+
+    /// Whether the input of a delay has changed within the last 256 of 600
+    /// instants.
+    fn changes_late(file: &[u8]) -> bool {
+        let mut state = vec![0; 8 + 40 * 1024];
+        let mut answer = calls::begin(file, &[1; 32], &mut state).expect("a good netlist");
+        while answer.instant < 600 {
+            let left = 600 - answer.instant;
+            answer = calls::continue_by(file, &mut state, left).expect("a good state");
+        }
+        let mut lines = state[8..].chunks_exact(40).map(|cell| &cell[8..]);
+        lines.any(|line| line != [0; 32] && line != [255; 32])
+    }
+}

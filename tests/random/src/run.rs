@@ -1,0 +1,95 @@
+//! A run of random jobs, and the report of a disagreement.
+//!
+//! A job depends on the run's seed and its own number alone, so any one can
+//! be had again.
+
+use crate::against_peer::Pair;
+use crate::against_rules::{self, Outcome};
+use crate::job::{self, Job};
+use crate::tally::Tally;
+use crate::xorshift::Random;
+use crate::{against_equations, generate, listing, minimise, netlists};
+use peers::{Peer, PROVED, SECOND};
+use second::netfile;
+
+const LEFT: Peer = SECOND;
+const RIGHT: Peer = PROVED;
+
+/// Programs for each random netlist, which takes that much longer.
+const PROGRAMS_FOR_NETLIST: u64 = 40;
+
+/// All jobs of a run; the error reports the first disagreement.
+pub fn run(seed: u64, count: u64) -> Result<Tally, String> {
+    let mut tally = Tally::default();
+    for number in 0..count {
+        let job_seed = Random::new(seed).bits().wrapping_add(number);
+        let job = Job::of_seed(job_seed);
+        match compare(&job) {
+            Ok(outcome) => tally.add(&job, outcome),
+            Err(what) => return Err(report(&job, number, &what)),
+        }
+        if number % PROGRAMS_FOR_NETLIST == 0 {
+            compare_netlist(&mut Random::new(!job_seed))
+                .map_err(|what| format!("netlist {number}: {what}"))?;
+            tally.netlists += 1;
+        }
+    }
+    Ok(tally)
+}
+
+/// A program: the peers with each other, and the circuit of each with its
+/// rules.
+fn compare(job: &Job) -> Result<Outcome, String> {
+    let pair = Pair {
+        left: &LEFT,
+        right: &RIGHT,
+    };
+    pair.compare(job)?;
+    against_rules::compare(&LEFT, job)?;
+    against_rules::compare(&RIGHT, job)
+}
+
+/// A random netlist: the peers with each other, and the states of each with
+/// the equations.
+fn compare_netlist(random: &mut Random) -> Result<(), String> {
+    let file = netlists::netlist(random);
+    let words = generate::start_words(random);
+    let (calls, damage) = (job::calls(random), random.bits());
+    let pair = Pair {
+        left: &LEFT,
+        right: &RIGHT,
+    };
+    pair.compare_netlist(&file, &words, &calls, damage)
+        .and_then(|()| against_equations::compare(&LEFT, &file, &words, damage))
+        .and_then(|()| against_equations::compare(&RIGHT, &file, &words, damage))
+        .map_err(|what| format!("{what}\nwords: {words:?}\n{}", cells_text(&file)))
+}
+
+fn cells_text(file: &[u8]) -> String {
+    netfile::read(file).map_or(String::new(), |netlist| listing::netlist(&netlist))
+}
+
+/// The report of a disagreement, with a minimised program.
+fn report(job: &Job, number: u64, what: &str) -> String {
+    let smallest = minimise::minimise(job, |job| compare(job).is_err());
+    let what_now = compare(&smallest).err().unwrap_or_default();
+    let mut text = format!("job {number} disagrees: {what}\nminimised: {what_now}\n");
+    text += &format!("program: {:?}\n", smallest.program);
+    text += &listing::program(&smallest.program);
+    text += &format!("words: {:?}\n", smallest.words);
+    text += &format!("budget: {}\ncalls: {:?}", smallest.budget, smallest.calls);
+    text
+}
+
+#[cfg(test)]
+mod tests {
+    use super::*;
+
+    #[test]
+    fn a_short_run_agrees_and_sees_every_outcome() {
+        let tally = run(2, 2_000).unwrap_or_else(|report| panic!("{report}"));
+        let least = tally.ended.min(tally.open).min(tally.refused);
+        assert!(least >= 100, "{tally}");
+        assert_eq!(tally.netlists, 50);
+    }
+}

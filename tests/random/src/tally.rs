@@ -1,0 +1,42 @@
+//! What a run has seen.
+
+use crate::against_rules::Outcome;
+use crate::job::Job;
+use std::fmt::{Display, Formatter, Result};
+
+#[derive(Default)]
+pub struct Tally {
+    pub ended: u64,
+    pub open: u64,
+    pub refused: u64,
+    pub nodes: usize,
+    pub netlists: u64,
+}
+
+impl Tally {
+    /// Counts a program.
+    pub fn add(&mut self, job: &Job, outcome: Outcome) {
+        self.nodes += job.program.len() / 4;
+        match outcome {
+            Outcome::Ended => self.ended += 1,
+            Outcome::Open => self.open += 1,
+            Outcome::Refused => self.refused += 1,
+        }
+    }
+}
+
+impl Display for Tally {
+    fn fmt(&self, text: &mut Formatter) -> Result {
+        let Tally {
+            ended,
+            open,
+            refused,
+            nodes,
+            netlists,
+        } = self;
+        let programs = ended + open + refused;
+        write!(text, "{programs} programs, {nodes} nodes in all, agree: ")?;
+        write!(text, "{ended} ended, {open} open, {refused} refused; ")?;
+        write!(text, "{netlists} netlists agree")
+    }
+}

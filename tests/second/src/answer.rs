@@ -1,0 +1,27 @@
+//! What a call answers.
+
+use crate::word::Words;
+
+/// A refusal: its number in the paper's list, and its place, counted from 0.
+#[derive(Clone, Copy, Debug, PartialEq, Eq)]
+pub struct Refusal {
+    pub number: u8,
+    pub place: usize,
+}
+
+impl Refusal {
+    pub fn new(number: u8, place: usize) -> Refusal {
+        Refusal { number, place }
+    }
+}
+
+/// The answer of an unrefused beginning, continuing or full run.
+#[derive(Clone, Copy, Debug, PartialEq, Eq)]
+pub struct Answer {
+    /// The finish wire is high at `instant`; otherwise the run is open.
+    pub ended: bool,
+    pub instant: u32,
+    /// The instants that this call evaluated.
+    pub count: u32,
+    pub words: Words,
+}

@@ -1,0 +1,179 @@
+//! The calls, on lent bytes and numbers.
+//!
+//! Each call makes all its checks, in the paper's order, before it writes a
+//! lent byte, and writes no further than its result goes.
+
+use crate::answer::{Answer, Refusal};
+use crate::cells::Netlist;
+use crate::check;
+use crate::compile;
+use crate::netfile;
+use crate::rules::{self, Outcome};
+use crate::simulate::Simulator;
+use crate::state;
+use crate::word::{words_of, Words, WORDS_LENGTH};
+
+/// The last instant that a run may come to.
+const MOST_INSTANT: u32 = 1_000_000;
+
+/// What a netlist's header tells of it.
+#[derive(Clone, Copy, Debug, PartialEq, Eq)]
+pub struct Shape {
+    pub cells: u16,
+    pub finish: u16,
+}
+
+impl Shape {
+    fn of(netlist: &Netlist) -> Shape {
+        Shape {
+            cells: netlist.cells.len() as u16,
+            finish: netlist.finish,
+        }
+    }
+}
+
+/// Checks a program: refusals 1 to 8.
+pub fn check(program: &[u8]) -> Result<(), Refusal> {
+    check::check(program).map(drop)
+}
+
+/// Compiles a program to a netlist file: refusals 1 to 8, 14.
+pub fn compile(program: &[u8], file: &mut [u8]) -> Result<Shape, Refusal> {
+    let netlist = compile::compile(&check::check(program)?);
+    put(&netfile::write(&netlist), file)?;
+    Ok(Shape::of(&netlist))
+}
+
+/// Writes cells of six bytes to a netlist file: 11 when they are no cells of
+/// six bytes, otherwise what reading the file would refuse; then 14.
+pub fn write_netlist(cells: &[u8], finish: u16, file: &mut [u8]) -> Result<Shape, Refusal> {
+    let netlist = netfile::netlist_of(cells, finish)?;
+    put(&netfile::write(&netlist), file)?;
+    Ok(Shape::of(&netlist))
+}
+
+/// Reads a netlist file to cells of six bytes: refusals 9 to 12, 14.
+pub fn read_netlist(file: &[u8], cells: &mut [u8]) -> Result<Shape, Refusal> {
+    let netlist = netfile::read(file)?;
+    let bytes: Vec<u8> = netlist
+        .cells
+        .iter()
+        .copied()
+        .flat_map(netfile::cell_bytes)
+        .collect();
+    put(&bytes, cells)?;
+    Ok(Shape::of(&netlist))
+}
+
+/// Begins a run: refusals 9 to 12, 14.
+pub fn begin(file: &[u8], words: &[u8], state: &mut [u8]) -> Result<Answer, Refusal> {
+    let netlist = netfile::read(file)?;
+    let words = start_words(words)?;
+    let state = room(state, state::length(&netlist))?;
+    let simulator = Simulator::begin(&netlist, words);
+    state::store(&simulator, state);
+    Ok(answer(&simulator, 1))
+}
+
+/// Continues a run by at most `n` instants: refusals 9 to 12, 14, 15, 16.
+pub fn continue_by(file: &[u8], state: &mut [u8], n: u32) -> Result<Answer, Refusal> {
+    let netlist = netfile::read(file)?;
+    let state = room(state, state::length(&netlist))?;
+    state::check(&netlist, state)?;
+    check_reach(state::instant(state), n)?;
+    let mut simulator = state::load(&netlist, state);
+    let count = simulator.advance(n);
+    state::store(&simulator, state);
+    Ok(answer(&simulator, count))
+}
+
+/// A full run of a netlist: refusals 9 to 12, 13, 14.
+pub fn run_netlist(
+    file: &[u8],
+    words: &[u8],
+    budget: u32,
+    state: &mut [u8],
+) -> Result<Answer, Refusal> {
+    let netlist = netfile::read(file)?;
+    check_budget(budget)?;
+    let words = start_words(words)?;
+    let state = room(state, state::length(&netlist))?;
+    Ok(full_run(&netlist, words, budget, state))
+}
+
+/// A full run of a program: refusals 1 to 8, 13, 14. Its netlist file and its
+/// last state stand in the lent buffers.
+pub fn run_program(
+    program: &[u8],
+    words: &[u8],
+    budget: u32,
+    file: &mut [u8],
+    state: &mut [u8],
+) -> Result<Answer, Refusal> {
+    let netlist = compile::compile(&check::check(program)?);
+    check_budget(budget)?;
+    let words = start_words(words)?;
+    let state = room(state, state::length(&netlist))?;
+    put(&netfile::write(&netlist), file)?;
+    Ok(full_run(&netlist, words, budget, state))
+}
+
+/// Runs a program by its own rules: refusals 1 to 8, 13, 14.
+pub fn reference_run(program: &[u8], words: &[u8], budget: u32) -> Result<Outcome, Refusal> {
+    let program = check::check(program)?;
+    check_budget(budget)?;
+    Ok(rules::run(&program, start_words(words)?, budget))
+}
+
+/// A beginning, and a continuing unless the finish was high.
+fn full_run(netlist: &Netlist, words: Words, budget: u32, state: &mut [u8]) -> Answer {
+    let mut simulator = Simulator::begin(netlist, words);
+    let mut count = 1;
+    if !simulator.finished() {
+        count += simulator.advance(budget);
+    }
+    state::store(&simulator, state);
+    answer(&simulator, count)
+}
+
+fn answer(simulator: &Simulator, count: u32) -> Answer {
+    Answer {
+        ended: simulator.finished(),
+        instant: simulator.instant(),
+        count,
+        words: simulator.words(),
+    }
+}
+
+/// Refusal 13.
+fn check_budget(budget: u32) -> Result<(), Refusal> {
+    if budget > MOST_INSTANT {
+        return Err(Refusal::new(13, 0));
+    }
+    Ok(())
+}
+
+/// Refusal 16; the sum may exceed four bytes.
+fn check_reach(instant: u32, n: u32) -> Result<(), Refusal> {
+    if u64::from(instant) + u64::from(n) > u64::from(MOST_INSTANT) {
+        return Err(Refusal::new(16, 0));
+    }
+    Ok(())
+}
+
+/// The part of a lent buffer that a result takes; refusal 14.
+fn room(buffer: &mut [u8], length: usize) -> Result<&mut [u8], Refusal> {
+    buffer.get_mut(..length).ok_or(Refusal::new(14, 0))
+}
+
+/// Puts a result into a lent buffer; refusal 14.
+fn put(result: &[u8], buffer: &mut [u8]) -> Result<(), Refusal> {
+    room(buffer, result.len())?.copy_from_slice(result);
+    Ok(())
+}
+
+/// The lent start words; refusal 14.
+fn start_words(bytes: &[u8]) -> Result<Words, Refusal> {
+    let bytes = bytes.get(..WORDS_LENGTH).ok_or(Refusal::new(14, 0))?;
+    Ok(words_of(bytes))
+}

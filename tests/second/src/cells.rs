@@ -1,0 +1,145 @@
+//! Cells, the uses of their fields, and the rules that a netlist keeps
+//! (refusal 12).
+
+use crate::answer::Refusal;
+use crate::operator::Operator;
+
+pub const CONSTANT: u8 = 1;
+pub const START: u8 = 32;
+pub const GROUND: u8 = 33;
+pub const DELAY: u8 = 34;
+/// Or of two control wires; that of two words is an operator.
+pub const OR: u8 = 35;
+/// A pulse goes through when the word isn't zero.
+pub const WHEN: u8 = 36;
+/// A pulse goes through when the word is zero.
+pub const UNLESS: u8 = 37;
+pub const MERGE: u8 = 38;
+pub const MEMORY: u8 = 40;
+/// A word goes through while the control wire is high.
+pub const GATE: u8 = 41;
+
+pub const MEMORIES: usize = 16;
+
+/// The six bytes of a cell.
+#[derive(Clone, Copy, Debug, PartialEq, Eq)]
+pub struct Cell {
+    pub kind: u8,
+    pub delay: u8,
+    pub a: u16,
+    pub b: u16,
+}
+
+impl Cell {
+    pub fn new(kind: u8, delay: u8, a: u16, b: u16) -> Cell {
+        Cell { kind, delay, a, b }
+    }
+}
+
+#[derive(Clone, Debug, PartialEq, Eq)]
+pub struct Netlist {
+    pub cells: Vec<Cell>,
+    pub finish: u16,
+}
+
+impl Netlist {
+    /// The sixteen memory cells, in variable order.
+    pub fn memories(&self) -> Vec<usize> {
+        let numbers = 0..self.cells.len();
+        numbers
+            .filter(|&cell| self.cells[cell].kind == MEMORY)
+            .collect()
+    }
+}
+
+#[derive(Clone, Copy, Debug, PartialEq, Eq)]
+pub enum Sort {
+    Control,
+    Word,
+}
+
+/// The sort of a wire goes by its cell's kind alone.
+pub fn sort(kind: u8) -> Sort {
+    match kind {
+        START..=MERGE => Sort::Control,
+        _ => Sort::Word,
+    }
+}
+
+/// What a cell's a or b is for.
+#[derive(Clone, Copy, Debug, PartialEq, Eq)]
+pub enum Field {
+    Unused,
+    Number,
+    /// A wire at the same instant, so of a lower cell.
+    Now(Sort),
+    /// A wire at an earlier instant, of any cell.
+    Earlier(Sort),
+}
+
+/// The uses of a and b in a cell of this kind, if the kind is known.
+pub fn fields(kind: u8) -> Option<(Field, Field)> {
+    use Field::*;
+    let (control, word) = (Now(Sort::Control), Now(Sort::Word));
+    match kind {
+        START | GROUND => Some((Unused, Unused)),
+        CONSTANT => Some((Number, Unused)),
+        DELAY => Some((Earlier(Sort::Control), Unused)),
+        OR | MERGE => Some((control, control)),
+        WHEN | UNLESS | GATE => Some((control, word)),
+        MEMORY => Some((control, Earlier(Sort::Word))),
+        _ => match Operator::of_kind(kind)? {
+            Operator::Complement => Some((word, Unused)),
+            _ => Some((word, word)),
+        },
+    }
+}
+
+/// Refusal 12: the first bad cell, then the number of memories, then a finish
+/// on a word wire.
+pub fn check(netlist: &Netlist) -> Result<(), Refusal> {
+    let cells = &netlist.cells;
+    let bad = (0..cells.len()).find(|&number| !is_good(cells, number));
+    if let Some(number) = bad {
+        return Err(Refusal::new(12, number));
+    }
+    if netlist.memories().len() != MEMORIES {
+        return Err(Refusal::new(12, cells.len()));
+    }
+    let finish = usize::from(netlist.finish);
+    if sort(cells[finish].kind) != Sort::Control {
+        return Err(Refusal::new(12, finish));
+    }
+    Ok(())
+}
+
+fn is_good(cells: &[Cell], number: usize) -> bool {
+    let cell = cells[number];
+    let Some((a, b)) = fields(cell.kind) else {
+        return false;
+    };
+    stands_well(cell, number)
+        && (cell.delay != 0) == (cell.kind == DELAY)
+        && field_is_good(cells, number, a, cell.a)
+        && field_is_good(cells, number, b, cell.b)
+}
+
+/// The first three cells are fixed; start and ground stand nowhere else.
+fn stands_well(cell: Cell, number: usize) -> bool {
+    match number {
+        0 => cell.kind == START,
+        1 => cell.kind == GROUND,
+        2 => cell.kind == CONSTANT && cell.a == 0,
+        _ => cell.kind != START && cell.kind != GROUND,
+    }
+}
+
+fn field_is_good(cells: &[Cell], number: usize, field: Field, value: u16) -> bool {
+    let input = usize::from(value);
+    match field {
+        Field::Unused => value == 0,
+        Field::Number => true,
+        Field::Now(wanted) => input < number && sort(cells[input].kind) == wanted,
+        Field::Earlier(wanted) => input < cells.len() && sort(cells[input].kind) == wanted,
+    }
+}

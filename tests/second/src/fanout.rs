@@ -1,0 +1,30 @@
+//! The fan-out of each wire: who is to be told when it changes.
+
+use crate::cells::{fields, Field, Netlist, Sort};
+
+pub struct Fanout {
+    /// For each wire, the cells that read it at the same instant.
+    pub readers: Vec<Vec<usize>>,
+    /// For each wire, the delays that it feeds.
+    pub delays: Vec<Vec<usize>>,
+}
+
+impl Fanout {
+    /// The fan-out in a netlist that refusal 12 has passed. A memory's data
+    /// stands in neither list: the fall of its clock alone makes it look.
+    pub fn of(netlist: &Netlist) -> Fanout {
+        let none = vec![Vec::new(); netlist.cells.len()];
+        let (mut readers, mut delays) = (none.clone(), none);
+        for (number, cell) in netlist.cells.iter().enumerate() {
+            let (a, b) = fields(cell.kind).expect("refusal 12 keeps other kinds out");
+            for (field, wire) in [(a, usize::from(cell.a)), (b, usize::from(cell.b))] {
+                match field {
+                    Field::Now(_) => readers[wire].push(number),
+                    Field::Earlier(Sort::Control) => delays[wire].push(number),
+                    Field::Earlier(Sort::Word) | Field::Number | Field::Unused => {}
+                }
+            }
+        }
+        Fanout { readers, delays }
+    }
+}

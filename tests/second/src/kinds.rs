@@ -1,0 +1,137 @@
+//! The table of the kinds of nodes, as the paper prints it.
+
+use crate::operator::Operator;
+
+#[derive(Clone, Copy, Debug, PartialEq, Eq)]
+pub enum Kind {
+    Expression(ExpressionKind),
+    Statement(StatementKind),
+}
+
+#[derive(Clone, Copy, Debug, PartialEq, Eq)]
+pub enum ExpressionKind {
+    Constant,
+    Variable,
+    Operation(Operator),
+}
+
+#[derive(Clone, Copy, Debug, PartialEq, Eq)]
+pub enum StatementKind {
+    Ok,
+    Tick,
+    Assign,
+    Sequence,
+    Parallel,
+    If,
+    While,
+    Repeat,
+}
+
+/// What may stand at a child's place.
+#[derive(Clone, Copy, Debug, PartialEq, Eq)]
+pub enum Sort {
+    Expression,
+    Statement,
+}
+
+/// One row of the table.
+pub struct Row {
+    pub number: u8,
+    pub name: &'static str,
+    pub kind: Kind,
+    pub children: &'static [Sort],
+    pub uses_delay: bool,
+    pub uses_n: bool,
+}
+
+impl Row {
+    pub fn sort(&self) -> Sort {
+        match self.kind {
+            Kind::Expression(_) => Sort::Expression,
+            Kind::Statement(_) => Sort::Statement,
+        }
+    }
+
+    /// Whether n is the number of a variable.
+    pub fn names_variable(&self) -> bool {
+        matches!(
+            self.kind,
+            Kind::Expression(ExpressionKind::Variable) | Kind::Statement(StatementKind::Assign)
+        )
+    }
+}
+
+/// A constant or a variable: no children, and n in use.
+const fn leaf(number: u8, name: &'static str, kind: ExpressionKind) -> Row {
+    Row {
+        number,
+        name,
+        kind: Kind::Expression(kind),
+        children: &[],
+        uses_delay: false,
+        uses_n: true,
+    }
+}
+
+/// An operator: neither delay nor n in use.
+const fn operation(
+    number: u8,
+    name: &'static str,
+    operator: Operator,
+    children: &'static [Sort],
+) -> Row {
+    Row {
+        number,
+        name,
+        kind: Kind::Expression(ExpressionKind::Operation(operator)),
+        children,
+        uses_delay: false,
+        uses_n: false,
+    }
+}
+
+/// A statement; of these an assignment alone has a use for n.
+const fn statement(
+    number: u8,
+    name: &'static str,
+    kind: StatementKind,
+    children: &'static [Sort],
+    uses_delay: bool,
+) -> Row {
+    Row {
+        number,
+        name,
+        kind: Kind::Statement(kind),
+        children,
+        uses_delay,
+        uses_n: matches!(kind, StatementKind::Assign),
+    }
+}
+
+const E: Sort = Sort::Expression;
+const S: Sort = Sort::Statement;
+
+pub const TABLE: [Row; 17] = [
+    leaf(1, "constant", ExpressionKind::Constant),
+    leaf(2, "variable", ExpressionKind::Variable),
+    operation(3, "complement", Operator::Complement, &[E]),
+    operation(4, "sum", Operator::Sum, &[E, E]),
+    operation(5, "difference", Operator::Difference, &[E, E]),
+    operation(6, "and", Operator::And, &[E, E]),
+    operation(7, "or", Operator::Or, &[E, E]),
+    operation(8, "equal", Operator::Equal, &[E, E]),
+    operation(9, "less", Operator::Less, &[E, E]),
+    statement(16, "ok", StatementKind::Ok, &[], false),
+    statement(17, "tick", StatementKind::Tick, &[], true),
+    statement(18, "assign", StatementKind::Assign, &[E], true),
+    statement(19, "sequence", StatementKind::Sequence, &[S, S], false),
+    statement(20, "parallel", StatementKind::Parallel, &[S, S], false),
+    statement(21, "if", StatementKind::If, &[E, S, S], true),
+    statement(22, "while", StatementKind::While, &[E, S], true),
+    statement(23, "repeat", StatementKind::Repeat, &[E, S], true),
+];
+
+/// The row of a kind's number, if it is known.
+pub fn row(number: u8) -> Option<&'static Row> {
+    TABLE.iter().find(|row| row.number == number)
+}

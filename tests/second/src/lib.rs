@@ -1,0 +1,24 @@
+//! A second implementation of hub circuits, written from the paper alone.
+//!
+//! It exists to be compared with the proved implementation and shares nothing
+//! with it. A value goes one way through these modules: bytes of a program,
+//! tree, netlist, netlist file, wires, state bytes, answer. `calls` holds the
+//! calls that others use; what they lend and get back are bytes and numbers.
+
+pub mod answer;
+pub mod calls;
+pub mod cells;
+pub mod check;
+pub mod compile;
+pub mod fanout;
+pub mod hubrun;
+pub mod kinds;
+pub mod line;
+pub mod netfile;
+pub mod operator;
+pub mod program;
+pub mod rules;
+pub mod simulate;
+pub mod state;
+pub mod wheel;
+pub mod word;

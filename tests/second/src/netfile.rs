@@ -1,0 +1,155 @@
+//! Netlist files: writing, and reading with refusals 9 to 12.
+
+use crate::answer::Refusal;
+use crate::cells::{self, Cell, Netlist};
+use crate::word::{number2, put2};
+
+const BLOCK: usize = 512;
+const MOST_BLOCKS: usize = 13;
+const HEADER: usize = 8;
+const CELL: usize = 6;
+const CELLS_IN_BLOCK: usize = (BLOCK - HEADER) / CELL;
+const LEAST_CELLS: usize = 19;
+const MOST_CELLS: usize = 1024;
+
+/// The bytes of the file of a netlist with this many cells.
+pub fn length(cells: usize) -> usize {
+    BLOCK * cells.div_ceil(CELLS_IN_BLOCK)
+}
+
+/// The file of a netlist.
+pub fn write(netlist: &Netlist) -> Vec<u8> {
+    let blocks = netlist.cells.chunks(CELLS_IN_BLOCK).enumerate();
+    blocks
+        .flat_map(|(number, cells)| block(netlist, number, cells))
+        .collect()
+}
+
+fn block(netlist: &Netlist, number: usize, cells: &[Cell]) -> [u8; BLOCK] {
+    let mut block = [0; BLOCK];
+    put2(&mut block, 0, number as u16);
+    put2(&mut block, 2, netlist.cells.len() as u16);
+    put2(&mut block, 4, netlist.finish);
+    for (cell, place) in cells.iter().zip(block[HEADER..].chunks_exact_mut(CELL)) {
+        place.copy_from_slice(&cell_bytes(*cell));
+    }
+    let check = sum(&block).wrapping_neg();
+    put2(&mut block, 6, check);
+    block
+}
+
+/// The sum of a block's 256 words, its check among them.
+fn sum(block: &[u8]) -> u16 {
+    let words = block.chunks_exact(2).map(|word| number2(word, 0));
+    words.fold(0, u16::wrapping_add)
+}
+
+/// The six bytes of a cell.
+pub fn cell_bytes(cell: Cell) -> [u8; CELL] {
+    let mut bytes = [cell.kind, cell.delay, 0, 0, 0, 0];
+    put2(&mut bytes, 2, cell.a);
+    put2(&mut bytes, 4, cell.b);
+    bytes
+}
+
+/// The cells that stand in these bytes, six for each.
+pub fn cells_of(bytes: &[u8]) -> Vec<Cell> {
+    let cell = |bytes: &[u8]| Cell::new(bytes[0], bytes[1], number2(bytes, 2), number2(bytes, 4));
+    bytes.chunks_exact(CELL).map(cell).collect()
+}
+
+/// The netlist in a file, or the refusal found first.
+pub fn read(file: &[u8]) -> Result<Netlist, Refusal> {
+    check_length(file)?;
+    check_sums(file)?;
+    check_layout(file)?;
+    let netlist = unpack(file);
+    cells::check(&netlist)?;
+    Ok(netlist)
+}
+
+/// The netlist of cells that are given as bytes, with the refusal that their
+/// file would meet. Bytes that are not whole cells no header could tell: 11.
+pub fn netlist_of(bytes: &[u8], finish: u16) -> Result<Netlist, Refusal> {
+    if !bytes.len().is_multiple_of(CELL) {
+        return Err(Refusal::new(11, 0));
+    }
+    let netlist = Netlist {
+        cells: cells_of(bytes),
+        finish,
+    };
+    check_counts(netlist.cells.len(), finish)?;
+    cells::check(&netlist)?;
+    Ok(netlist)
+}
+
+/// Refusal 9.
+fn check_length(file: &[u8]) -> Result<(), Refusal> {
+    let length = file.len();
+    if length == 0 || length > MOST_BLOCKS * BLOCK || !length.is_multiple_of(BLOCK) {
+        return Err(Refusal::new(9, 0));
+    }
+    Ok(())
+}
+
+/// Refusal 10, for all blocks before any header is looked at.
+fn check_sums(file: &[u8]) -> Result<(), Refusal> {
+    match blocks(file).position(|block| sum(block) != 0) {
+        Some(place) => Err(Refusal::new(10, place)),
+        None => Ok(()),
+    }
+}
+
+/// Refusal 11.
+fn check_layout(file: &[u8]) -> Result<(), Refusal> {
+    let (cells, finish) = shape(file);
+    check_counts(usize::from(cells), finish)?;
+    if length(usize::from(cells)) != file.len() {
+        return Err(Refusal::new(11, 0));
+    }
+    let is_good = |(number, block): (usize, &[u8])| {
+        usize::from(number2(block, 0)) == number
+            && shape(block) == (cells, finish)
+            && unused(block, number, usize::from(cells))
+                .iter()
+                .all(|&byte| byte == 0)
+    };
+    match blocks(file).enumerate().position(|block| !is_good(block)) {
+        Some(place) => Err(Refusal::new(11, place)),
+        None => Ok(()),
+    }
+}
+
+/// The part of refusal 11 that concerns the counts alone.
+fn check_counts(cells: usize, finish: u16) -> Result<(), Refusal> {
+    let are_good = (LEAST_CELLS..=MOST_CELLS).contains(&cells) && usize::from(finish) < cells;
+    if !are_good {
+        return Err(Refusal::new(11, 0));
+    }
+    Ok(())
+}
+
+fn blocks(file: &[u8]) -> std::slice::ChunksExact<'_, u8> {
+    file.chunks_exact(BLOCK)
+}
+
+/// The number of cells and the finish, as a block's header tells them.
+fn shape(block: &[u8]) -> (u16, u16) {
+    (number2(block, 2), number2(block, 4))
+}
+
+/// The bytes of a block after the last cell of the netlist.
+fn unused(block: &[u8], number: usize, cells: usize) -> &[u8] {
+    let here = (cells - number * CELLS_IN_BLOCK).min(CELLS_IN_BLOCK);
+    &block[HEADER + CELL * here..]
+}
+
+/// The netlist in a file whose layout is right.
+fn unpack(file: &[u8]) -> Netlist {
+    let (count, finish) = shape(file);
+    let mut cells: Vec<Cell> = blocks(file)
+        .flat_map(|block| cells_of(&block[HEADER..]))
+        .collect();
+    cells.truncate(usize::from(count));
+    Netlist { cells, finish }
+}

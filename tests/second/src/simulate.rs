@@ -1,0 +1,268 @@
+//! The second simulator: event-driven, with transport delays.
+//!
+//! It doesn't evaluate every cell at every instant. A cell is woken when
+//! something that its equation names has changed: an input at the same
+//! instant, the input of a delay d instants ago, the held bits of a merge. A
+//! cell that isn't woken has the value that it had. Within an instant cells
+//! are taken in rising order, and inputs of the same instant are lower, so
+//! each is evaluated once.
+
+use crate::cells::*;
+use crate::fanout::Fanout;
+use crate::line::{Instant, Line, LineBytes};
+use crate::operator::Operator;
+use crate::wheel::Wheel;
+use crate::word::Words;
+
+/// What a cell shows of itself between instants.
+#[derive(Clone, Copy, Debug, Default, PartialEq, Eq)]
+pub struct CellState {
+    pub now: u16,
+    pub ago: u16,
+    pub held: Merge,
+    pub line: LineBytes,
+}
+
+/// The two bits that a merge holds.
+#[derive(Clone, Copy, Debug, Default, PartialEq, Eq)]
+pub struct Merge {
+    pub a: bool,
+    pub b: bool,
+}
+
+impl Merge {
+    /// The bits held afterwards, and the output.
+    fn step(self, a: bool, b: bool) -> (Merge, bool) {
+        let (a, b) = (a || self.a, b || self.b);
+        if a && b {
+            (Merge::default(), true)
+        } else {
+            (Merge { a, b }, false)
+        }
+    }
+}
+
+/// A wire's present value, and the one before its last change.
+#[derive(Clone, Copy, Default)]
+struct Wire {
+    now: u16,
+    before: u16,
+    changed: Instant,
+}
+
+pub struct Simulator<'a> {
+    netlist: &'a Netlist,
+    instant: Instant,
+    wires: Vec<Wire>,
+    held: Vec<Merge>,
+    lines: Vec<Line>,
+    wheel: Wheel,
+    fanout: Fanout,
+    /// At the first instant evaluated nothing is known to be unchanged.
+    first: bool,
+}
+
+impl<'a> Simulator<'a> {
+    /// A beginning: evaluates instant 0 from these words.
+    pub fn begin(netlist: &'a Netlist, words: Words) -> Simulator<'a> {
+        let mut simulator = Simulator::still(netlist, -1);
+        for (memory, word) in netlist.memories().into_iter().zip(words) {
+            simulator.set(memory, word, 0);
+        }
+        simulator.step();
+        simulator
+    }
+
+    /// Takes up a run in the state that these cells tell of.
+    pub fn resume(netlist: &'a Netlist, instant: u32, cells: &[CellState]) -> Simulator<'a> {
+        let instant = instant as Instant;
+        let mut simulator = Simulator::still(netlist, instant);
+        for (number, cell) in cells.iter().enumerate() {
+            simulator.wires[number] = Wire {
+                now: cell.now,
+                before: cell.ago,
+                changed: instant,
+            };
+            simulator.held[number] = cell.held;
+            if netlist.cells[number].kind == DELAY {
+                simulator.lay_line(number, &cell.line);
+            }
+        }
+        simulator
+    }
+
+    /// All wires low and nothing held, every cell woken for the next instant.
+    fn still(netlist: &'a Netlist, instant: Instant) -> Simulator<'a> {
+        let count = netlist.cells.len();
+        let mut wheel = Wheel::new(count);
+        for cell in 0..count {
+            wheel.wake(cell, instant + 1);
+        }
+        Simulator {
+            netlist,
+            instant,
+            wires: vec![Wire::default(); count],
+            held: vec![Merge::default(); count],
+            lines: (0..count).map(|_| Line::default()).collect(),
+            wheel,
+            fanout: Fanout::of(netlist),
+            first: true,
+        }
+    }
+
+    /// Puts a delay's past inputs on its line; those still on their way wake it.
+    fn lay_line(&mut self, delay: usize, bytes: &LineBytes) {
+        let line = Line::from_bytes(bytes, self.instant);
+        let d = Instant::from(self.netlist.cells[delay].delay);
+        for due in line.changes().map(|change| change + d) {
+            if due > self.instant {
+                self.wheel.wake(delay, due);
+            }
+        }
+        self.lines[delay] = line;
+    }
+
+    /// Evaluates instants until the finish is high or `n` are done; how many.
+    pub fn advance(&mut self, n: u32) -> u32 {
+        for count in 1..=n {
+            self.step();
+            if self.finished() {
+                return count;
+            }
+        }
+        n
+    }
+
+    /// Whether the finish wire is high at the present instant.
+    pub fn finished(&self) -> bool {
+        self.now(self.netlist.finish) == 1
+    }
+
+    /// The present instant.
+    pub fn instant(&self) -> u32 {
+        self.instant as u32
+    }
+
+    /// The words of the memories.
+    pub fn words(&self) -> Words {
+        let memories = self.netlist.memories();
+        std::array::from_fn(|variable| self.wires[memories[variable]].now)
+    }
+
+    /// What cell `number` shows of itself.
+    pub fn cell_state(&self, number: usize) -> CellState {
+        let line = match self.netlist.cells[number].kind {
+            DELAY => self.lines[number].to_bytes(self.instant),
+            _ => LineBytes::default(),
+        };
+        CellState {
+            now: self.wires[number].now,
+            ago: self.ago(number as u16),
+            held: self.held[number],
+            line,
+        }
+    }
+
+    /// Evaluates the next instant.
+    fn step(&mut self) {
+        self.instant += 1;
+        while let Some(cell) = self.wheel.take(self.instant) {
+            let value = self.evaluate(cell);
+            let changed = value != self.wires[cell].now;
+            if changed {
+                self.set(cell, value, self.instant);
+            }
+            if changed || self.first {
+                self.announce(cell);
+            }
+        }
+        self.first = false;
+    }
+
+    fn set(&mut self, cell: usize, value: u16, at: Instant) {
+        self.wires[cell] = Wire {
+            now: value,
+            before: self.wires[cell].now,
+            changed: at,
+        };
+    }
+
+    /// Wakes whatever depends on this cell's wire.
+    fn announce(&mut self, cell: usize) {
+        for &reader in &self.fanout.readers[cell] {
+            self.wheel.wake(reader, self.instant);
+        }
+        let level = self.wires[cell].now == 1;
+        for &delay in &self.fanout.delays[cell] {
+            if self.lines[delay].record(self.instant, level) {
+                let d = Instant::from(self.netlist.cells[delay].delay);
+                self.wheel.wake(delay, self.instant + d);
+            }
+        }
+    }
+
+    /// The value of a cell at the present instant, by its kind's equation.
+    fn evaluate(&mut self, cell: usize) -> u16 {
+        let Cell { kind, delay, a, b } = self.netlist.cells[cell];
+        match kind {
+            START => self.pulse_at_zero(cell),
+            GROUND => 0,
+            CONSTANT => a,
+            DELAY => u16::from(self.lines[cell].level_at(self.instant - Instant::from(delay))),
+            OR => self.now(a) | self.now(b),
+            WHEN => u16::from(self.now(a) == 1 && self.now(b) != 0),
+            UNLESS => u16::from(self.now(a) == 1 && self.now(b) == 0),
+            MERGE => self.merge(cell, a, b),
+            MEMORY => self.latch(cell, a, b),
+            GATE if self.now(a) == 1 => self.now(b),
+            GATE => 0,
+            _ => {
+                let operator = Operator::of_kind(kind).expect("refusal 12 keeps other kinds out");
+                operator.apply(self.now(a), self.now(b))
+            }
+        }
+    }
+
+    /// Start: its fall at instant 1 has no cause but the instant itself.
+    fn pulse_at_zero(&mut self, cell: usize) -> u16 {
+        let high = self.instant == 0;
+        if high {
+            self.wheel.wake(cell, 1);
+        }
+        u16::from(high)
+    }
+
+    /// Merge: held bits that changed are looked at again an instant later.
+    fn merge(&mut self, cell: usize, a: u16, b: u16) -> u16 {
+        let (held, output) = self.held[cell].step(self.now(a) == 1, self.now(b) == 1);
+        if held != self.held[cell] {
+            self.held[cell] = held;
+            self.wheel.wake(cell, self.instant + 1);
+        }
+        u16::from(output)
+    }
+
+    /// Memory: at a fall of the clock, the data of the instant before.
+    fn latch(&self, cell: usize, clock: u16, data: u16) -> u16 {
+        let falls = self.now(clock) == 0 && self.ago(clock) == 1;
+        if falls {
+            self.ago(data)
+        } else {
+            self.wires[cell].now
+        }
+    }
+
+    fn now(&self, wire: u16) -> u16 {
+        self.wires[usize::from(wire)].now
+    }
+
+    /// The value an instant ago.
+    fn ago(&self, wire: u16) -> u16 {
+        let wire = &self.wires[usize::from(wire)];
+        if wire.changed == self.instant {
+            wire.before
+        } else {
+            wire.now
+        }
+    }
+}

@@ -1,0 +1,85 @@
+//! The published state bytes: their layout, and refusal 15.
+
+use crate::answer::Refusal;
+use crate::cells::{self, Netlist, Sort, DELAY, MERGE};
+use crate::line::LineBytes;
+use crate::simulate::{CellState, Merge, Simulator};
+use crate::word::{number2, number4, put2, put4};
+
+const HEADER: usize = 8;
+const CELL: usize = 40;
+
+/// The bytes of the state of a netlist.
+pub fn length(netlist: &Netlist) -> usize {
+    HEADER + CELL * netlist.cells.len()
+}
+
+/// The instant of a state.
+pub fn instant(state: &[u8]) -> u32 {
+    number4(state, 0)
+}
+
+/// Writes the simulator's present state.
+pub fn store(simulator: &Simulator, state: &mut [u8]) {
+    put4(state, 0, simulator.instant());
+    put4(state, 4, 0);
+    for (number, bytes) in state[HEADER..].chunks_exact_mut(CELL).enumerate() {
+        store_cell(simulator.cell_state(number), bytes);
+    }
+}
+
+fn store_cell(cell: CellState, bytes: &mut [u8]) {
+    put2(bytes, 0, cell.now);
+    put2(bytes, 2, cell.ago);
+    bytes[4] = u8::from(cell.held.a);
+    bytes[5] = u8::from(cell.held.b);
+    bytes[6..8].fill(0);
+    bytes[8..].copy_from_slice(&cell.line);
+}
+
+/// Refusal 15.
+pub fn check(netlist: &Netlist, state: &[u8]) -> Result<(), Refusal> {
+    let kinds = netlist.cells.iter().map(|cell| cell.kind);
+    let mut cells = kinds.zip(state[HEADER..].chunks_exact(CELL));
+    let lawful = state[4..HEADER] == [0; 4] && cells.all(|(kind, bytes)| is_lawful(kind, bytes));
+    if !lawful {
+        return Err(Refusal::new(15, 0));
+    }
+    Ok(())
+}
+
+/// Takes up the run whose lawful state this is.
+pub fn load<'a>(netlist: &'a Netlist, state: &[u8]) -> Simulator<'a> {
+    let cells = state[HEADER..].chunks_exact(CELL).map(load_cell);
+    Simulator::resume(netlist, instant(state), &cells.collect::<Vec<_>>())
+}
+
+/// Whether a cell of this kind may have these bytes. Nothing is asked of them
+/// beyond what refusal 15 names: wires may contradict each other.
+fn is_lawful(kind: u8, bytes: &[u8]) -> bool {
+    let most_value = match cells::sort(kind) {
+        Sort::Control => 1,
+        Sort::Word => u16::MAX,
+    };
+    let most_held = u8::from(kind == MERGE);
+    number2(bytes, 0) <= most_value
+        && number2(bytes, 2) <= most_value
+        && bytes[4] <= most_held
+        && bytes[5] <= most_held
+        && bytes[6..8] == [0; 2]
+        && (kind == DELAY || bytes[8..].iter().all(|&byte| byte == 0))
+}
+
+fn load_cell(bytes: &[u8]) -> CellState {
+    let mut line = LineBytes::default();
+    line.copy_from_slice(&bytes[8..]);
+    CellState {
+        now: number2(bytes, 0),
+        ago: number2(bytes, 2),
+        held: Merge {
+            a: bytes[4] == 1,
+            b: bytes[5] == 1,
+        },
+        line,
+    }
+}

@@ -1,0 +1,32 @@
+//! Words, and numbers in bytes with the low byte first.
+
+/// The words of the sixteen variables.
+pub type Words = [u16; 16];
+
+/// The bytes that sixteen words take.
+pub const WORDS_LENGTH: usize = 32;
+
+/// The two-byte number that stands at `at`.
+pub fn number2(bytes: &[u8], at: usize) -> u16 {
+    u16::from_le_bytes([bytes[at], bytes[at + 1]])
+}
+
+/// The four-byte number that stands at `at`.
+pub fn number4(bytes: &[u8], at: usize) -> u32 {
+    u32::from(number2(bytes, at)) | u32::from(number2(bytes, at + 2)) << 16
+}
+
+/// Writes a two-byte number at `at`.
+pub fn put2(bytes: &mut [u8], at: usize, number: u16) {
+    bytes[at..at + 2].copy_from_slice(&number.to_le_bytes());
+}
+
+/// Writes a four-byte number at `at`.
+pub fn put4(bytes: &mut [u8], at: usize, number: u32) {
+    bytes[at..at + 4].copy_from_slice(&number.to_le_bytes());
+}
+
+/// The sixteen words in the first 32 of `bytes`.
+pub fn words_of(bytes: &[u8]) -> Words {
+    std::array::from_fn(|variable| number2(bytes, 2 * variable))
+}

@@ -1,0 +1,191 @@
+//! States that no run leaves behind: what refusal 15 names is refused, and
+//! everything else is taken as it stands.
+
+use second::answer::Refusal;
+use second::calls;
+use second::cells::*;
+use second::netfile;
+
+/// The first cell after start, ground, zero and sixteen idle memories.
+const FREE: u16 = 19;
+
+const NOW: usize = 0;
+const AGO: usize = 2;
+const HELD_A: usize = 4;
+const HELD_B: usize = 5;
+const ZERO_BYTE: usize = 6;
+const LINE: usize = 8;
+
+/// A netlist file of the idle memories and these cells.
+fn file(cells: &[Cell], finish: u16) -> Vec<u8> {
+    let mut all = vec![
+        Cell::new(START, 0, 0, 0),
+        Cell::new(GROUND, 0, 0, 0),
+        Cell::new(CONSTANT, 0, 0, 0),
+    ];
+    all.extend([Cell::new(MEMORY, 0, 1, 2); 16]);
+    all.extend(cells);
+    netfile::write(&Netlist { cells: all, finish })
+}
+
+fn begun(file: &[u8]) -> Vec<u8> {
+    let cells = calls::read_netlist(file, &mut [0; 6144]).expect("a good netlist");
+    let mut state = vec![0; 8 + 40 * usize::from(cells.cells)];
+    calls::begin(file, &[0; 32], &mut state).expect("the buffer is long enough");
+    state
+}
+
+/// The place of a byte of a cell.
+fn at(cell: u16, byte: usize) -> usize {
+    8 + 40 * usize::from(cell) + byte
+}
+
+/// The state one instant later.
+fn next(file: &[u8], state: &[u8]) -> Vec<u8> {
+    let mut state = state.to_vec();
+    calls::continue_by(file, &mut state, 1).expect("a lawful state");
+    state
+}
+
+#[test]
+fn a_line_decides_whatever_its_input_was() {
+    let file = file(&[Cell::new(DELAY, 2, 1, 0)], FREE);
+    let mut state = begun(&file);
+    // Ground was never high, yet the line says so of the present instant.
+    state[at(FREE, LINE)] = 0b1;
+    let first = next(&file, &state);
+    assert_eq!((first[at(FREE, NOW)], first[at(FREE, LINE)]), (0, 0b10));
+    let second = next(&file, &first);
+    assert_eq!((second[at(FREE, NOW)], second[at(FREE, LINE)]), (1, 0b100));
+    let third = next(&file, &second);
+    assert_eq!((third[at(FREE, NOW)], third[at(FREE, LINE)]), (0, 0b1000));
+}
+
+#[test]
+fn the_output_comes_from_the_line_and_not_from_the_wire() {
+    let file = file(&[Cell::new(DELAY, 1, 1, 0)], FREE);
+    let mut state = begun(&file);
+    state[at(FREE, NOW)] = 1;
+    let after = next(&file, &state);
+    assert_eq!((after[at(FREE, NOW)], after[at(FREE, AGO)]), (0, 1));
+}
+
+#[test]
+fn bits_beyond_the_delay_move_on_and_fall_off() {
+    let file = file(&[Cell::new(DELAY, 1, 1, 0)], FREE);
+    let mut state = begun(&file);
+    state[at(FREE, LINE + 31)] = 0b1100_0000;
+    let after = next(&file, &state);
+    assert_eq!(after[at(FREE, NOW)], 0);
+    assert_eq!(after[at(FREE, LINE)..at(FREE, LINE + 31)], [0; 31]);
+    assert_eq!(after[at(FREE, LINE + 31)], 0b1000_0000);
+}
+
+#[test]
+fn start_and_constants_come_right_by_themselves() {
+    let file = file(&[Cell::new(CONSTANT, 0, 258, 0)], 0);
+    let mut state = next(&file, &begun(&file));
+    state[at(0, NOW)] = 1;
+    state[at(1, NOW)] = 1;
+    state[at(FREE, NOW)] = 9;
+    let after = next(&file, &state);
+    assert_eq!((after[at(0, NOW)], after[at(0, AGO)]), (0, 1));
+    assert_eq!((after[at(1, NOW)], after[at(1, AGO)]), (0, 1));
+    assert_eq!(after[at(FREE, NOW)..at(FREE, NOW + 2)], [2, 1]);
+    assert_eq!(after[at(FREE, AGO)..at(FREE, AGO + 2)], [9, 1]);
+}
+
+#[test]
+fn two_held_bits_are_a_pulse_at_the_next_instant() {
+    let file = file(&[Cell::new(MERGE, 0, 1, 1)], FREE);
+    let mut state = begun(&file);
+    state[at(FREE, HELD_A)] = 1;
+    state[at(FREE, HELD_B)] = 1;
+    let after = next(&file, &state);
+    assert_eq!(after[at(FREE, NOW)], 1);
+    assert_eq!(after[at(FREE, HELD_A)..at(FREE, ZERO_BYTE)], [0, 0]);
+    assert_eq!(next(&file, &after)[at(FREE, NOW)], 0);
+}
+
+#[test]
+fn a_memory_latches_the_data_that_the_state_shows() {
+    // Ground clocks the memories; in the state it is high, so it falls.
+    let file = file(&[], 0);
+    let mut state = next(&file, &begun(&file));
+    state[at(1, NOW)] = 1;
+    state[at(2, NOW)] = 77;
+    let after = next(&file, &state);
+    assert!((3..FREE).all(|memory| after[at(memory, NOW)] == 77));
+    let later = next(&file, &after);
+    assert!((3..FREE).all(|memory| later[at(memory, NOW)] == 77));
+}
+
+#[test]
+fn a_high_finish_is_continued_like_any_other() {
+    let file = file(&[Cell::new(DELAY, 1, 1, 0)], FREE);
+    let mut state = begun(&file);
+    state[at(FREE, NOW)] = 1;
+    let answer = calls::continue_by(&file, &mut state, 0).expect("a lawful state");
+    assert_eq!((answer.ended, answer.instant, answer.count), (true, 0, 0));
+    let answer = calls::continue_by(&file, &mut state, 5).expect("a lawful state");
+    assert_eq!((answer.ended, answer.instant, answer.count), (false, 5, 5));
+}
+
+#[test]
+fn what_refusal_15_names_is_refused_and_nothing_else() {
+    let delay = FREE;
+    let (merge, sum) = (FREE + 1, FREE + 2);
+    let file = file(
+        &[
+            Cell::new(DELAY, 1, 0, 0),
+            Cell::new(MERGE, 0, 0, 1),
+            Cell::new(4, 0, 2, 2),
+        ],
+        delay,
+    );
+    let refused = [
+        (4, 1),
+        (7, 1),
+        (at(delay, NOW), 2),
+        (at(delay, NOW + 1), 1),
+        (at(delay, AGO), 2),
+        (at(delay, AGO + 1), 1),
+        (at(merge, NOW), 2),
+        (at(0, AGO + 1), 1),
+        (at(merge, HELD_A), 2),
+        (at(merge, HELD_B), 2),
+        (at(delay, HELD_A), 1),
+        (at(sum, HELD_B), 1),
+        (at(merge, ZERO_BYTE), 1),
+        (at(sum, ZERO_BYTE + 1), 1),
+        (at(merge, LINE), 1),
+        (at(sum, LINE + 31), 128),
+    ];
+    for (place, byte) in refused {
+        let found = with_byte(&file, place, byte);
+        assert_eq!(found, Err(Refusal::new(15, 0)), "byte {place} = {byte}");
+    }
+    let taken = [
+        (at(delay, NOW), 1),
+        (at(delay, AGO), 1),
+        (at(sum, NOW + 1), 255),
+        (at(sum, AGO + 1), 255),
+        (at(merge, HELD_A), 1),
+        (at(merge, HELD_B), 1),
+        (at(delay, LINE + 31), 255),
+    ];
+    for (place, byte) in taken {
+        assert_eq!(
+            with_byte(&file, place, byte),
+            Ok(()),
+            "byte {place} = {byte}"
+        );
+    }
+}
+
+/// Continuing from the begun state with one byte changed.
+fn with_byte(file: &[u8], place: usize, byte: u8) -> Result<(), Refusal> {
+    let mut state = begun(file);
+    state[place] = byte;
+    calls::continue_by(file, &mut state, 1).map(drop)
+}

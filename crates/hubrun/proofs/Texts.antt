@@ -1,0 +1,62 @@
+-- The text of an input: a refusal where it has under 36 bytes, else that of a run. Bytes after 36 and 801 don't change it, so `main` need not
+-- read them. Assumes nothing.
+use mathlib.Core.Path.{_≡_, refl, sym, _∙_, ap}
+use mathlib.Core.List.{List, [], _∷_}
+use mathlib.Core.Bool.{Bool, true, false, or-true}
+use Prim.Native.Nat.{ℕ, _<_, _≤_}
+use native.Mathlib.Omega.{arith}
+use lib.Dec.{ltb, eqb}
+use lib.ListN.{length, take, drop, replicate, length-take, length-drop}
+use lib.Seq.{take-all}
+use borrow.Author.Tests.{lt-ltb, le-ltb, ltb-true, ltb-false}
+use Rattle.model.specs.declared.Answer.{Answer}
+use Rattle.model.specs.Word.{pick, get32}
+use Rattle.model.specs.Program.{programLengthWrong, checkOf}
+use Rattle.model.specs.Calls.{refusedAnswer, running, runProgramCall}
+use Rattle.model.specs.Hubrun.{decimal, line, refusedWord, linesOf, textOf, hubrunText}
+use Rattle.theory.specs.Refusals.Laws.{by-bool}
+
+picked : {A : Type 0} {b : Bool} (x y : A) → b ≡ true → pick b x y ≡ x
+picked x y e = rw e refl
+
+passed : {A : Type 0} {b : Bool} (x y : A) → b ≡ false → pick b x y ≡ y
+passed x y e = rw e refl
+
+module _ (input : List ℕ) where
+  pub short-text : length input < 36 → hubrunText input ≡ line (refusedWord ∷ decimal 1 ∷ decimal 0 ∷ [])
+  unfolding hubrunText linesOf
+  short-text h = picked _ _ (lt-ltb (length input) 36 h)
+
+  pub long-text : 36 ≤ length input
+      → hubrunText input ≡ textOf (runProgramCall (drop 36 input) (take 32 input) (get32 input 32) (replicate 6656 0) (replicate 40968 0) .answer)
+  unfolding hubrunText
+  long-text h = passed _ _ (le-ltb (length input) 36 h)
+
+  -- a run on parts of the input
+  pub run-told : (netlist state : List ℕ) {program : List ℕ} {budget : ℕ} {r : Answer} → program ≡ drop 36 input → budget ≡ get32 input 32
+      → r ≡ runProgramCall program (take 32 input) budget netlist state .answer
+      → r ≡ runProgramCall (drop 36 input) (take 32 input) (get32 input 32) netlist state .answer
+  run-told netlist state e f told = rw (← e, ← f) told
+
+-- a program above 800 bytes is refused
+length-wrong : (program : List ℕ) → 800 < length program → programLengthWrong program ≡ true
+unfolding programLengthWrong
+length-wrong program h = rw (lt-ltb 800 (length program) h) (or-true (eqb (length program) 0))
+
+too-long : (program words : List ℕ) (budget : ℕ) (netlist state : List ℕ) → 800 < length program
+    → runProgramCall program words budget netlist state .answer ≡ refusedAnswer (record { number = 1; place = 0 })
+unfolding runProgramCall checkOf running
+too-long program words budget netlist state h =
+    rw (length-wrong program h) refl
+
+refused-text : (input : List ℕ) → 836 < length input → hubrunText input ≡ textOf (refusedAnswer (record { number = 1; place = 0 }))
+refused-text input h =
+    long-text input (omega arith)
+    ∙ ap textOf (too-long (drop 36 input) (take 32 input) (get32 input 32) (replicate 6656 0) (replicate 40968 0) (simp length-drop (omega arith)))
+
+pub cut-text : (input : List ℕ) → hubrunText (take 837 input) ≡ hubrunText input
+cut-text input =
+    by-bool (ltb 836 (length input))
+    (λ z. let h : 836 < length input = ltb-true 836 (length input) z in
+          refused-text (take 837 input) (simp length-take (omega arith)) ∙ sym (refused-text input h))
+    (λ z. ap hubrunText (take-all 837 input (omega (arith, ltb-false 836 (length input) z))))

@@ -1,0 +1,29 @@
+-- `text::put_number` meets its contract. Assumes nothing.
+use native.Mathlib.Omega.{arith}
+use Rattle.model.specs.Hubrun.{decimal}
+use Rattle.hubrun.proofs.Puts.{put-after}
+use borrow.Author.Needs.{needs}
+use Rattle.hubrun.proofs.text.put_number.Statement.{statement}
+use Rattle.hubrun.proofs.text.put_number.Tie as tie
+
+put-decimal-requires : tie.Need-put-decimal-requires
+put-decimal-requires c κs = search needs
+
+slice-write-out : tie.Need-slice-write-out
+slice-write-out c = search needs
+
+add-result : tie.Need-add-result
+add-result c = search needs
+
+same-length : tie.Need-same-length
+same-length c = search needs
+
+returns : tie.Need-returns
+returns c =
+    let args = c .before .before .before .before .before .args in
+    let digits = c .before .before .put-decimal .ensures in
+    (omega (arith, digits .0), put-after (args .out .now) (decimal (args .n)) (args .at) (args .after) (digits .0) (digits .1))
+
+pub put-number-spec : {M : Type 1} → statement M
+put-number-spec =
+    tie.close (tie.spec put-decimal-requires slice-write-out add-result same-length returns)

@@ -1,0 +1,71 @@
+-- `text::put_word` meets its contract. The invariant: putting the rest in comes out as putting in the whole. Assumes nothing.
+use mathlib.Core.Path.{_≡_, refl, sym, _∙_}
+use Prim.Native.Nat.{_+_, _-_, _≤_}
+use native.Mathlib.Omega.{arith}
+use lib.ListN.{length, length-set, drop}
+use lib.Seq.{sets}
+use Rattle.hubrun.proofs.Puts.{put-more, put-done}
+use Rattle.hubrun.proofs.text.put_word.Statement.{statement}
+use Rattle.hubrun.proofs.text.put_word.Tie as tie
+
+abbrev Inv-loop : tie.InvT-loop
+Inv-loop out₀ at word i₀ out i =
+    (i ≤ length word) × (length out ≡ length out₀) × (sets out₀ at word ≡ sets out (at + i) (drop i word))
+
+abbrev μ-loop : tie.MeasureT-loop
+μ-loop out₀ at word i₀ out i = length word - i
+
+loop-holds : tie.Need-loop-holds Inv-loop μ-loop
+loop-holds c = let e : c .args .at + 0 ≡ c .args .at = omega arith in (omega arith, refl, rw e refl)
+
+shared-slice-read-out : tie.Need-shared-slice-read-out Inv-loop μ-loop
+shared-slice-read-out c = omega arith
+
+add-out : tie.Need-add-out Inv-loop μ-loop
+add-out c = omega arith
+
+slice-write-out : tie.Need-slice-write-out Inv-loop μ-loop
+slice-write-out c = omega arith
+
+add-i : tie.Need-add-i Inv-loop μ-loop
+add-i c = omega arith
+
+loop-less : tie.Need-loop-less Inv-loop μ-loop
+loop-less c = omega arith
+
+loop-again : tie.Need-loop-again Inv-loop μ-loop
+loop-again c =
+    let args = c .before .before .before .args in
+    let loop = c .before .before .loop in (
+      omega arith,
+      simp length-set (loop .inv .1),
+      loop .inv .2 ∙ put-more (loop .out) (args .word .now) (args .at) (loop .i) (c .before .loop-test .taken),
+    )
+
+add-result : tie.Need-add-result Inv-loop μ-loop
+add-result c = omega arith
+
+same-length : tie.Need-same-length Inv-loop μ-loop
+same-length c = c .before .loop .inv .1
+
+returns : tie.Need-returns Inv-loop μ-loop
+returns c =
+    let loop = c .before .loop in
+    (omega arith, sym (loop .inv .2 ∙ put-done (loop .out) (c .before .before .args .word .now) (c .before .before .args .at + loop .i) (loop .i) (c .loop-test .left)))
+
+pub put-word-spec : {M : Type 1} → statement M
+put-word-spec =
+    tie.close
+    (tie.spec
+    Inv-loop
+    μ-loop
+    loop-holds
+    shared-slice-read-out
+    add-out
+    slice-write-out
+    add-i
+    loop-less
+    loop-again
+    add-result
+    same-length
+    returns)

@@ -1,0 +1,55 @@
+-- `text::run` meets its contract. Assumes nothing.
+use native.Mathlib.Omega.{arith}
+use mathlib.Core.Path.{_≡_}
+use Prim.Native.Nat.{_-_}
+use lib.ListN.{length, take, drop, replicate, length-take, length-drop}
+use lib.Seq.{take-all}
+use Rattle.hubrun.proofs.Texts.{run-told}
+use borrow.Author.Needs.{needs}
+use Rattle.hubrun.proofs.text.run.Statement.{statement}
+use Rattle.hubrun.proofs.text.run.Tie as tie
+
+get32-requires : tie.Need-get32-requires
+get32-requires c κs = search needs
+
+sub-run-program : tie.Need-sub-run-program
+sub-run-program c = search needs
+
+part-run-program-start : tie.Need-part-run-program-start
+part-run-program-start c = search needs
+
+part-run-program-end : tie.Need-part-run-program-end
+part-run-program-end c = search needs
+
+slice-aggregate-run-program : tie.Need-slice-aggregate-run-program
+slice-aggregate-run-program c = simp length-take (omega (arith, c .before .before .before .before .pre))
+
+slice-aggregate-run-program-2 : tie.Need-slice-aggregate-run-program-2
+slice-aggregate-run-program-2 c = search needs
+
+slice-aggregate-run-program-3 : tie.Need-slice-aggregate-run-program-3
+slice-aggregate-run-program-3 c = search needs
+
+run-program-requires : tie.Need-run-program-requires
+run-program-requires c κs = search needs
+
+returns : tie.Need-returns
+returns c =
+    let start = c .before .before .before .before .before .before .before .before .before in
+    let input = start .args .input .now in
+    let e : take (length input - 36) (drop 36 input) ≡ drop 36 input = take-all (length input - 36) (drop 36 input) (simp length-drop (omega arith)) in
+    run-told input (replicate 6656 0) (replicate 40968 0) e (c .before .before .before .before .before .before .before .get32 .ensures) (c .before .before .run-program .ensures .0)
+
+pub run-spec : {M : Type 1} → statement M
+run-spec =
+    tie.close
+    (tie.spec
+    get32-requires
+    sub-run-program
+    part-run-program-start
+    part-run-program-end
+    slice-aggregate-run-program
+    slice-aggregate-run-program-2
+    slice-aggregate-run-program-3
+    run-program-requires
+    returns)

@@ -1,0 +1,132 @@
+// The text of an answer, put into a lent buffer of bytes. Each contract tells the place after what was put in, and the buffer's list at
+// exit: `sets d i v` is d with v put in from i on; the texts themselves are model/Hubrun's.
+ghost use mathlib.Core.Path.{_≡_};
+ghost use mathlib.Core.List.{[], _∷_, _++_, map};
+ghost use Prim.Native.Nat.{_+_, _≤_};
+ghost use lib.ListN.{length, take, drop, replicate};
+ghost use lib.Seq.{sets};
+ghost use Rattle.model.specs.Word.{get32};
+ghost use Rattle.model.specs.Calls.{overwrite, runProgramCall};
+ghost use Rattle.model.specs.Hubrun.{decimal, line, refusedWord, textOf, hubrunText};
+use model::Answer;
+use model::Outcome;
+
+// A word of the output line.
+fn put_word(out: &mut [u8], at: usize, word: &[u8]) -> usize
+    requires { ⌜ at + length (now word) ≤ length (now out) ⌝ }
+    ensures next { λ r. ⌜ r ≡ at + length (now (word .entry)) ⌝ }
+    ensures out { λ _. ⌜ now (out .exit) ≡ sets (now (out .entry)) at (now (word .entry)) ⌝ }
+{
+    let mut i: usize = 0;
+    while i < word.len() {
+        out[at + i] = word[i];
+        i += 1;
+    }
+    at + i
+}
+
+// A number, without a zero in front: the digits of n / 10, and the last one.
+fn put_decimal(out: &mut [u8], at: usize, n: usize) -> usize
+    requires { ⌜ at + length (decimal n) ≤ length (now out) ⌝ }
+    ensures next { λ r. ⌜ r ≡ at + length (decimal n) ⌝ }
+    ensures out { λ _. ⌜ now (out .exit) ≡ sets (now (out .entry)) at (decimal n) ⌝ }
+{
+    if n < 10 {
+        out[at] = 48 + n as u8;
+        return at + 1;
+    }
+    let last = put_decimal(out, at, n / 10);
+    out[last] = 48 + (n % 10) as u8;
+    last + 1
+}
+
+// A number and the byte after it: a space, or the line feed.
+fn put_number(out: &mut [u8], at: usize, n: usize, after: u8) -> usize
+    requires { ⌜ at + length (decimal n) + 1 ≤ length (now out) ⌝ }
+    ensures next { λ r. ⌜ r ≡ at + length (decimal n) + 1 ⌝ }
+    ensures out { λ _. ⌜ now (out .exit) ≡ sets (now (out .entry)) at (decimal n ++ (after ∷ [])) ⌝ }
+{
+    let end = put_decimal(out, at, n);
+    out[end] = after;
+    end + 1
+}
+
+fn wide(word: u16) -> usize
+    ensures { λ r. ⌜ r ≡ word ⌝ }
+{
+    word as usize
+}
+
+// The line of sixteen words.
+fn put_words(out: &mut [u8], at: usize, words: [u16; 16]) -> usize
+    requires { ⌜ at + length (line (map decimal words)) ≤ length (now out) ⌝ }
+    ensures next { λ r. ⌜ r ≡ at + length (line (map decimal words)) ⌝ }
+    ensures out { λ _. ⌜ now (out .exit) ≡ sets (now (out .entry)) at (line (map decimal words)) ⌝ }
+{
+    let mut next = at;
+    let mut k: usize = 0;
+    while k < 15 {
+        next = put_number(out, next, wide(words[k]), b' ');
+        k += 1;
+    }
+    put_number(out, next, wide(words[15]), b'\n')
+}
+
+// The text of a run: the word of its outcome with a space, its instant, and the line of its words.
+fn put_run(out: &mut [u8], word: &[u8], instant: u32, words: [u16; 16]) -> usize
+    requires { ⌜ length (now word) + 358 ≤ length (now out) ⌝ }
+    ensures next { λ r. ⌜ r ≡ length ((now (word .entry) ++ (decimal instant ++ (10 ∷ []))) ++ line (map decimal words)) ⌝ }
+    ensures out { λ _. ⌜ now (out .exit) ≡ overwrite ((now (word .entry) ++ (decimal instant ++ (10 ∷ []))) ++ line (map decimal words)) (now (out .entry)) ⌝ }
+{
+    let told = put_word(out, 0, word);
+    let first = put_number(out, told, instant as usize, b'\n');
+    put_words(out, first, words)
+}
+
+// The text of a refusal.
+fn put_refusal(out: &mut [u8], number: u8, place: usize) -> usize
+    requires { ⌜ 50 ≤ length (now out) ⌝ }
+    ensures next { λ r. ⌜ r ≡ length (line (refusedWord ∷ decimal number ∷ decimal place ∷ [])) ⌝ }
+    ensures out { λ _. ⌜ now (out .exit) ≡ overwrite (line (refusedWord ∷ decimal number ∷ decimal place ∷ [])) (now (out .entry)) ⌝ }
+{
+    let told = put_word(out, 0, b"refused ");
+    let numbered = put_number(out, told, number as usize, b' ');
+    put_number(out, numbered, place, b'\n')
+}
+
+// The text of an answer.
+pub fn answer_text(answer: Answer, out: &mut [u8; 512]) -> usize
+    ensures length { λ r. ⌜ r ≡ length (textOf answer) ⌝ }
+    ensures out { λ _. ⌜ now (out .exit) ≡ overwrite (textOf answer) (now (out .entry)) ⌝ }
+{
+    let outcome = answer.outcome;
+    let words = answer.words;
+    match outcome {
+        Outcome::Ended => put_run(out, b"end ", answer.instant, words),
+        Outcome::Open => put_run(out, b"open ", answer.instant, words),
+        Outcome::Refused(r) => put_refusal(out, r.number, r.place),
+    }
+}
+
+// The full run that an input asks for: 32 bytes of start words, a budget of four bytes, a program.
+fn run(input: &[u8]) -> Answer
+    requires { ⌜ 36 ≤ length (now input) ⌝ }
+    ensures { λ r. ⌜ r ≡ runProgramCall (drop 36 (now (input .entry))) (take 32 (now (input .entry))) (get32 (now (input .entry)) 32) (replicate 6656 0) (replicate 40968 0) .answer ⌝ }
+{
+    let budget = word::get32(input, 32);
+    let mut netlist = [0u8; 6656];
+    let mut state = [0u8; 40968];
+    hub::run_program(&input[36..], &input[..32], budget, &mut netlist, &mut state)
+}
+
+// What hubrun prints for an input.
+pub fn text(input: &[u8], out: &mut [u8; 512]) -> usize
+    ensures length { λ r. ⌜ r ≡ length (hubrunText (now (input .entry))) ⌝ }
+    ensures out { λ _. ⌜ now (out .exit) ≡ overwrite (hubrunText (now (input .entry))) (now (out .entry)) ⌝ }
+{
+    if input.len() < 36 {
+        return put_refusal(out, 1, 0);
+    }
+    let answer = run(input);
+    answer_text(answer, out)
+}

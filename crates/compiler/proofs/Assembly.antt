@@ -11,11 +11,11 @@ use Rattle.model.specs.declared.Checked.the-variants.{Accepted}
 use Rattle.model.specs.Program.{Stmt, checkOf, programOf}
 use Rattle.model.specs.Circuit.{cell}
 use Rattle.model.specs.NetlistFile.{cellBytes, cellsAt, inList}
-use Rattle.model.specs.Numbering.{clockSources, dataSources, orCountFrom, clockAt, memoryAt, walkAt, dataAt, headCells, memoriesOf, netlist, finish}
+use Rattle.model.specs.Numbering.{delayCount, walkCount, clockSources, dataSources, orCountFrom, clockAt, memoryAt, walkAt, dataAt, headCells, memoriesOf, netlist, finish}
 use Rattle.theory.specs.Numbering.Structure.{d-len, w-len}
 use Rattle.theory.specs.Program.Fit.{Formed}
 use Rattle.theory.specs.Numbering.Parts.{delayCells, clockOrs, memoryCells, walkCells, dataOrs, orsFrom-len, outs-len, mems16, net-length}
-use Rattle.theory.specs.Numbering.Count.{size}
+use Rattle.theory.specs.Numbering.Count.{fits}
 use Rattle.theory.specs.Program.Accepted.{program-fit}
 use Rattle.theory.specs.Program.Size.{few-nodes}
 use Rattle.theory.specs.NetlistFile.CellBytes.{from-bytes, cells-are}
@@ -24,20 +24,23 @@ use Rattle.netlist.proofs.Bytes.{cell-bytes-length}
 use Rattle.compiler.specs.declared.walk.Place.{Place}
 use Rattle.compiler.specs.declared.ors.Ors.{Ors}
 use Rattle.compiler.specs.declared.ors.Joint.{Joint}
-use Rattle.compiler.specs.declared.whole.Ends.{Ends}
+use Rattle.compiler.specs.declared.whole.Finished.{Finished}
 use Rattle.compiler.specs.Writes.{write, both}
 use Rattle.compiler.specs.Walk.{assignments, Ready, Done}
 use Rattle.compiler.specs.Ors.{sourcesFrom, OrsReady, Ored}
 use Rattle.compiler.specs.Whole.{Given, Clocked, Walked, Made}
 use Rattle.compiler.proofs.Writes.{write-append, write-swap, write-length}
 use Rattle.compiler.proofs.Stmts.{place}
-use Rattle.compiler.proofs.Marks.{few-assignments, clock-marks, data-marks}
+use Rattle.compiler.proofs.Sizes.{few}
+use Rattle.compiler.proofs.Marks.{clock-marks, data-marks}
 
 -- An accepted program ------------------------------------------------------------------------------------------------------------------
 
 record Facts (P : Stmt) : Type 0 where
   formed : Formed P
-  few : assignments P ≤ 200
+  assigned : assignments P ≤ 200
+  delayed : delayCount P ≤ 200
+  walked : walkCount P ≤ 400
   len : length (netlist P) ≡ dataAt P + orCountFrom (dataSources P (walkAt P)) 0 16
   most : length (netlist P) ≤ 619
 
@@ -45,7 +48,14 @@ facts : (s : List ℕ) → checkOf s ≡ Accepted → Facts (programOf s)
 facts s e =
     let P = programOf s in
     let n = few-nodes s e in
-    record { formed = program-fit s e .formed; few = omega (arith, n, few-assignments P); len = net-length P; most = omega (arith, n, size P) }
+    record {
+      formed = program-fit s e .formed;
+      assigned = omega (arith, n, few P);
+      delayed = omega (arith, n, few P);
+      walked = omega (arith, n, few P);
+      len = net-length P;
+      most = fits P n .1;
+    }
 
 -- Parts --------------------------------------------------------------------------------------------------------------------------------
 
@@ -72,25 +82,25 @@ module _ {s ends : List ℕ} {n : ℕ} (G : Given s ends n) where
   F = facts s (G .accepted)
 
   -- the first walk
-  pub first-ready : Ready 0 (programOf s) (place 0 3 603 0) n
+  pub first-ready : Ready 0 (programOf s) (place 0 3 203 0) n
   first-ready =
       let f = F in
       record {
         formed = f .formed;
         memory = omega arith;
-        apart = omega (arith, f .len, f .most);
-        room = omega (arith, f .len, f .most, G .size);
+        apart = omega (arith, f .delayed);
+        room = omega (arith, f .walked, G .size);
         small = omega (arith, G .size);
-        marks = omega (arith, f .few);
+        marks = omega (arith, f .assigned);
       }
 
-  module _ {before first ms marked : List ℕ} {e : Place} (u : Done 0 (programOf s) (place 0 3 603 0) before first ms marked e) (l : length ms ≡ 600) where
+  module _ {before first ms marked : List ℕ} {e : Place} (u : Done 0 (programOf s) (place 0 3 203 0) before first ms marked e) (l : length ms ≡ 600) where
     pub clocks-ready : OrsReady clockJoint (e .mark / 3) (e .delay) (orCountFrom (sourcesFrom 1 marked 0 (e .mark / 3)) 0 16) n
     clocks-ready =
         let f = F in
-        rw (marked-clocks u refl l (f .few), u .delay)
+        rw (marked-clocks u refl l (f .assigned), u .delay)
         (record {
-          few = omega (arith, marked-count u refl, f .few);
+          few = omega (arith, marked-count u refl, f .assigned);
           mark = omega arith;
           room = omega (arith, f .len, f .most, G .size);
           small = omega (arith, G .size);
@@ -99,7 +109,7 @@ module _ {s ends : List ℕ} {n : ℕ} (G : Given s ends n) where
     pub clocked : {after : List ℕ} {r : Ors} → Ored clockJoint (e .delay) (sourcesFrom 1 marked 0 (e .mark / 3)) first after r
         → Clocked (programOf s) after r
     clocked v₀ =
-        let v = rw (u .delay, marked-clocks u refl l (F .few)) at v₀ in
+        let v = rw (u .delay, marked-clocks u refl l (F .assigned)) at v₀ in
         record { first = first; cells = v .cells; wires = v .wires; next = v .next }
 
   -- the second walk
@@ -113,7 +123,7 @@ module _ {s ends : List ℕ} {n : ℕ} (G : Given s ends n) where
           apart = omega (arith, m);
           room = omega (arith, m, f .len, f .most, G .size);
           small = omega (arith, G .size);
-          marks = omega (arith, f .few);
+          marks = omega (arith, f .assigned);
         }
 
     pub walk-low : M + 16 ≤ 619
@@ -126,9 +136,9 @@ module _ {s ends : List ℕ} {n : ℕ} (G : Given s ends n) where
       pub datas-ready : OrsReady dataJoint (e .mark / 3) (e .cell) (orCountFrom (sourcesFrom 2 marked 0 (e .mark / 3)) 0 16) n
       datas-ready =
           let f = F in
-          rw (marked-datas u refl l (f .few), u .cell)
+          rw (marked-datas u refl l (f .assigned), u .cell)
           (record {
-            few = omega (arith, marked-count u refl, f .few);
+            few = omega (arith, marked-count u refl, f .assigned);
             mark = omega arith;
             room = omega (arith, f .len, f .most, G .size);
             small = omega (arith, G .size);
@@ -138,7 +148,7 @@ module _ {s ends : List ℕ} {n : ℕ} (G : Given s ends n) where
           → Walked (programOf s) before after (record { wires = r .wires; count = r .next; finish = e .wire })
       unfolding finish
       walked v₀ =
-          let v = rw (u .cell, marked-datas u refl l (F .few)) at v₀ in
+          let v = rw (u .cell, marked-datas u refl l (F .assigned)) at v₀ in
           record {
             cells = rw (u .cells) at (v .cells);
             wires = v .wires;
@@ -149,7 +159,7 @@ module _ {s ends : List ℕ} {n : ℕ} (G : Given s ends n) where
 pub clock-sixteen : {P : Stmt} {b : List ℕ} {r : Ors} → Clocked P b r → length (r .wires) ≡ 16
 clock-sixteen {P} K = ap length (K .wires) ∙ outs-len 1 (clockSources P 3) (clockAt P) 0 16
 
-pub data-sixteen : {P : Stmt} {b a : List ℕ} {r : Ends} → Walked P b a r → length (r .wires) ≡ 16
+pub data-sixteen : {P : Stmt} {b a : List ℕ} {r : Finished} → Walked P b a r → length (r .wires) ≡ 16
 data-sixteen {P} W = ap length (W .wires) ∙ outs-len 2 (dataSources P (walkAt P)) (dataAt P) 0 16
 
 -- The whole ----------------------------------------------------------------------------------------------------------------------------
@@ -189,7 +199,7 @@ cells-put cs s h =
     let z : 6 * (0 + i) ≡ 6 * i = omega arith in
     rw (z, ← overwrite-sets (cellBytes cs) s (omega (arith, cell-bytes-length cs))) (from-bytes cs _ i l))
 
-pub made : {s ends : List ℕ} {n : ℕ} → Given s ends n → {b₁ b₂ b₃ b₄ b₅ b₆ : List ℕ} {r : Ors} {w : Ends} → length b₁ ≡ n
+pub made : {s ends : List ℕ} {n : ℕ} → Given s ends n → {b₁ b₂ b₃ b₄ b₅ b₆ : List ℕ} {r : Ors} {w : Finished} → length b₁ ≡ n
     → Clocked (programOf s) b₁ r
     → Walked (programOf s) b₁ b₂ w
     → b₃ ≡ write (r .next) (memoriesOf (r .wires) (w .wires)) b₂
@@ -204,7 +214,7 @@ made {s} G {b₃ = b₃} l K W e₃ e₄ e₅ e₆ =
     ap (write 2 (cell 1 0 0 0 ∷ [])) (write-append 0 1 (cell 32 0 0 0 ∷ []) (cell 33 0 0 0 ∷ []) b₃ refl)
     ∙ write-append 0 2 (cell 32 0 0 0 ∷ (cell 33 0 0 0 ∷ [])) (cell 1 0 0 0 ∷ []) b₃ refl in
     let all = rw (e₅, e₄, head, e₃, K .next, K .wires, W .wires, W .cells, K .cells, assembled P (K .first)) at e₆ in
-    let long : length (K .first) ≡ 7218 = sym (write-length (clockAt P) (clockOrs P) (K .first)) ∙ sym (ap length (K .cells)) ∙ l ∙ G .size in
+    let long : length (K .first) ≡ 3714 = sym (write-length (clockAt P) (clockOrs P) (K .first)) ∙ sym (ap length (K .cells)) ∙ l ∙ G .size in
     record {
       cells = rw (all, W .count) (cells-put (netlist P) (K .first) (omega (arith, f .most)));
       count = W .count;

@@ -27,14 +27,14 @@ use Rattle.program.specs.Shape.{Scans, scanned-laid}
 use Rattle.compiler.specs.declared.whole.Netlist.{Netlist}
 use Rattle.compiler.specs.Whole.{Given, Made}
 
-pub scanned : {s : List ℕ} {r : Scanned} → Scans s r → checkOf s ≡ Accepted → Given s (r .ends) 7218
+pub scanned : {s : List ℕ} {r : Scanned} → Scans s r → checkOf s ≡ Accepted → Given s (r .ends) 3714
 scanned {s} {r} S e = record { accepted = e; laid = scanned-laid s r S (S .checked ∙ e); size = refl }
 
 module _ (s : List ℕ) (e : checkOf s ≡ Accepted) {cells : List ℕ} {made : Netlist} (m : Made (programOf s) cells made) where
   pub file-size : length (compiledFile s) ≡ 512 * blocksFor (made .count)
   file-size = rw (m .count) (file-length (netlist (programOf s)) (finish (programOf s)))
 
-  pub list-room : length cells ≡ 7218 → Room InList cells (made .count)
+  pub list-room : length cells ≡ 3714 → Room InList cells (made .count)
   list-room l =
       let most = fits (programOf s) (few-nodes s e) .1 in
       record { few = omega (arith, m .count, most); fits = omega (arith, m .count, most, l) }

@@ -10,11 +10,8 @@ use Rattle.model.specs.Numbering.{exprCount, exprWire, exprCells}
 use Rattle.theory.specs.Numbering.Structure.{e-len}
 use Rattle.compiler.specs.declared.walk.Word.{Word}
 use Rattle.compiler.specs.Writes.{write}
-use Rattle.compiler.specs.Walk.{ExprReady, ExprDone}
+use Rattle.compiler.specs.Walk.{word, ExprReady, ExprDone}
 use Rattle.compiler.proofs.Writes.{write-none, write-append}
-
-abbrev word : ℕ → ℕ → Word
-word w c = record { wire = w; cell = c }
 
 -- the number after an expression's cells, as the laws of writes have it
 after : (M : ℕ) (e : Expr) (c : ℕ) → c + exprCount e ≡ c + length (exprCells M e c)

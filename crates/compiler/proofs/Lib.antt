@@ -5,6 +5,7 @@ pub mod Exprs
 pub mod Stmts
 pub mod Parts
 pub mod Joining
+pub mod Sizes
 pub mod Marks
 pub mod Assembly
 pub mod Call

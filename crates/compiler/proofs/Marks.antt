@@ -7,22 +7,9 @@ use lib.ListN.{length, getD, length-append, drop}
 use lib.Seq.{sets, sets-eq, getD-append-add}
 use Rattle.model.specs.Program.{Stmt, ok, tick, assign, seq, par, ite, while, repeat}
 use Rattle.model.specs.Numbering.{pastSwitches, own, delayCount, walkCount, Source, clockSources, dataSources}
-use Rattle.theory.specs.Numbering.Count.{nodes}
 use Rattle.compiler.specs.Walk.{assignments, marksOf}
 use Rattle.compiler.specs.Ors.{sourcesFrom}
 use Rattle.compiler.proofs.Stmts.{marks-length}
-
--- no more assignments than nodes
-pub few-assignments : (P : Stmt) → assignments P ≤ nodes P
-unfolding assignments nodes
-few-assignments ok = omega arith
-few-assignments (tick δ) = omega arith
-few-assignments (assign δ x e) = omega arith
-few-assignments (seq P Q) = omega (arith, few-assignments P, few-assignments Q)
-few-assignments (par P Q) = omega (arith, few-assignments P, few-assignments Q)
-few-assignments (ite δ e P Q) = omega (arith, few-assignments P, few-assignments Q)
-few-assignments (while δ e P) = omega (arith, few-assignments P)
-few-assignments (repeat δ e P) = omega (arith, few-assignments P)
 
 -- the sources that a list of marks tells, three for each
 sourcesIn : ℕ → List ℕ → List Source

@@ -19,7 +19,7 @@ pub record OrsReady (j : Joint) (count n k size : ℕ) : Type 0 where
   pub few : count ≤ 200
   pub mark : j .mark ≤ 2
   pub room : 6 * (n + k) ≤ size
-  pub small : size ≤ 7218
+  pub small : size ≤ 3714
 
 pub record Joined (j : Joint) (n : ℕ) (ws : List ℕ) (before after : List ℕ) (r : Word) : Type 0 where
   pub cells : after ≡ write n (ors (j .kind) n ws) before

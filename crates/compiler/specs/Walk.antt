@@ -14,12 +14,15 @@ use Rattle.compiler.specs.Writes.{write, both}
 
 -- Expressions --------------------------------------------------------------------------------------------------------------------------
 
+abbrev pub word : ℕ → ℕ → Word
+word w c = record { wire = w; cell = c }
+
 -- e goes to cell c of a list of n bytes; the first memory is cell M
 pub record ExprReady (M : ℕ) (e : Expr) (c n : ℕ) : Type 0 where
   pub formed : FormedExpr e
-  pub memory : M + 16 ≤ 1203
+  pub memory : M + 16 ≤ 619
   pub room : 6 * (c + exprCount e) ≤ n
-  pub small : n ≤ 7218
+  pub small : n ≤ 3714
 
 pub record ExprDone (M : ℕ) (e : Expr) (c : ℕ) (before after : List ℕ) (r : Word) : Type 0 where
   pub cells : after ≡ write c (exprCells M e c) before
@@ -68,10 +71,10 @@ pub record Owned (δ start d : ℕ) (before after : List ℕ) (r : Pulse) : Type
 -- P goes to place p of a list of n bytes; its delay cells end below its walk cells
 pub record Ready (M : ℕ) (P : Stmt) (p : Place) (n : ℕ) : Type 0 where
   pub formed : Formed P
-  pub memory : M + 16 ≤ 1203
+  pub memory : M + 16 ≤ 619
   pub apart : p .delay + delayCount P ≤ p .cell
   pub room : 6 * (p .cell + walkCount P) ≤ n
-  pub small : n ≤ 7218
+  pub small : n ≤ 3714
   pub marks : p .mark + 3 * assignments P ≤ 600
 
 pub record Done (M : ℕ) (P : Stmt) (p : Place) (before after : List ℕ) (marked remarked : List ℕ) (r : Place) : Type 0 where

@@ -7,19 +7,19 @@ use Rattle.model.specs.declared.Checked.the-variants.{Accepted}
 use Rattle.model.specs.Program.{Stmt, checkOf}
 use Rattle.model.specs.NetlistFile.{cellsAt, inList}
 use Rattle.model.specs.Numbering.{memoryAt, dataAt, walkAt, clockWires, dataWires, netlist, finish}
-use Rattle.theory.specs.Numbering.Parts.{delayCells, clockOrs, walkCells, dataOrs}
 use Rattle.model.specs.Numbering.{clockAt}
+use Rattle.theory.specs.Numbering.Parts.{delayCells, clockOrs, walkCells, dataOrs}
 use Rattle.program.specs.Ends.{Laid}
 use Rattle.compiler.specs.declared.ors.Ors.{Ors}
-use Rattle.compiler.specs.declared.whole.Ends.{Ends}
+use Rattle.compiler.specs.declared.whole.Finished.{Finished}
 use Rattle.compiler.specs.declared.whole.Netlist.{Netlist}
 use Rattle.compiler.specs.Writes.{write, both}
 
--- an accepted program, with its array of subtree ends, and a list of 1,203 cells, of which the walk's numbers stay below 1,203
+-- an accepted program with its array of subtree ends, and a list of 619 cells
 pub record Given (s ends : List ℕ) (n : ℕ) : Type 0 where
   pub accepted : checkOf s ≡ Accepted
   pub laid : Laid s ends
-  pub size : n ≡ 7218
+  pub size : n ≡ 3714
 
 -- the clock ors of P, put in after a first walk
 pub record Clocked (P : Stmt) (after : List ℕ) (r : Ors) : Type 0 where
@@ -29,7 +29,7 @@ pub record Clocked (P : Stmt) (after : List ℕ) (r : Ors) : Type 0 where
   pub next : r .next ≡ memoryAt P
 
 -- its delay cells, its walk and its data ors
-pub record Walked (P : Stmt) (before after : List ℕ) (r : Ends) : Type 0 where
+pub record Walked (P : Stmt) (before after : List ℕ) (r : Finished) : Type 0 where
   pub cells : after ≡ write (dataAt P) (dataOrs P) (both 3 (delayCells P) (walkAt P) (walkCells P) before)
   pub wires : r .wires ≡ dataWires P
   pub count : r .count ≡ length (netlist P)

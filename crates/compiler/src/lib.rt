@@ -8,10 +8,10 @@ ghost use Rattle.model.specs.Program.{checkOf, programOf};
 ghost use Rattle.model.specs.Numbering.{netlist};
 ghost use Rattle.model.specs.Calls.{overwrite, compiledFile, compileCall};
 
-pub mod nodes; // nodes as parts of the tree
-pub mod walk; // delay cells and walk cells
-pub mod ors; // ors and memories
-pub mod whole; // the whole netlist
+mod nodes; // nodes as parts of the tree
+mod walk; // delay cells and walk cells
+mod ors; // ors and memories
+mod whole; // the whole netlist
 
 use model::Checked;
 use model::Refusal;
@@ -24,30 +24,30 @@ pub fn count_cells(program: &[u8]) -> usize
 {
     let told = program::scan(program);
     let ends = told.ends;
-    let mut cells = [0u8; 7218];
+    let mut cells = [0u8; 3714];
     let made = whole::put_netlist(&mut cells, program, &ends);
     made.count as usize
 }
 
 // Writes the netlist file of an accepted program into a buffer that is long enough; answers its length.
-pub fn compile_accepted(program: &[u8], file: &mut [u8]) -> usize
-    requires { ⌜ (checkOf (now program) ≡ Accepted) × (length (compiledFile (now program)) ≤ length (now file)) ⌝ }
+pub fn compile_accepted(program: &[u8], netlist: &mut [u8]) -> usize
+    requires { ⌜ (checkOf (now program) ≡ Accepted) × (length (compiledFile (now program)) ≤ length (now netlist)) ⌝ }
     ensures length { λ r. ⌜ r ≡ length (compiledFile (now (program .entry))) ⌝ }
-    ensures lent { λ _. ⌜ now (file .exit) ≡ overwrite (compiledFile (now (program .entry))) (now (file .entry)) ⌝ }
+    ensures lent { λ _. ⌜ now (netlist .exit) ≡ overwrite (compiledFile (now (program .entry))) (now (netlist .entry)) ⌝ }
 {
     let told = program::scan(program);
     let ends = told.ends;
-    let mut cells = [0u8; 7218];
+    let mut cells = [0u8; 3714];
     let made = whole::put_netlist(&mut cells, program, &ends);
     let n = made.count as usize;
-    netlist::blocks::put_file(file, &cells, n, made.finish);
+    netlist::blocks::put_file(netlist, &cells, n, made.finish);
     512 * ((n + 83) / 84)
 }
 
 // Compiles a program: refusals 1 to 8, and 14.
-pub fn compile(program: &[u8], file: &mut [u8]) -> Written
-    ensures answer { λ r. ⌜ r ≡ compileCall (now (program .entry)) (now (file .entry)) .answer ⌝ }
-    ensures lent { λ _. ⌜ now (file .exit) ≡ compileCall (now (program .entry)) (now (file .entry)) .lent ⌝ }
+pub fn compile(program: &[u8], netlist: &mut [u8]) -> Written
+    ensures answer { λ r. ⌜ r ≡ compileCall (now (program .entry)) (now (netlist .entry)) .answer ⌝ }
+    ensures lent { λ _. ⌜ now (netlist .exit) ≡ compileCall (now (program .entry)) (now (netlist .entry)) .lent ⌝ }
 {
     let told = program::scan(program);
     let checked = told.checked;
@@ -55,19 +55,17 @@ pub fn compile(program: &[u8], file: &mut [u8]) -> Written
         return Written::Refused(r);
     }
     let ends = told.ends;
-    let mut cells = [0u8; 7218];
+    let mut cells = [0u8; 3714];
     let made = whole::put_netlist(&mut cells, program, &ends);
     let n = made.count as usize;
+    let finish = made.finish;
     let count = 512 * ((n + 83) / 84);
-    if file.len() < count {
+    if netlist.len() < count {
         return Written::Refused(Refusal {
             number: 14,
             place: 0,
         });
     }
-    netlist::blocks::put_file(file, &cells, n, made.finish);
-    Written::Done {
-        count,
-        finish: made.finish,
-    }
+    netlist::blocks::put_file(netlist, &cells, n, finish);
+    Written::Done { count, finish }
 }

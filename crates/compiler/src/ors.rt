@@ -80,7 +80,7 @@ pub fn put_ors(cells: &mut [u8], marks: &[u16; 600], count: usize, joint: Joint,
 }
 
 pub fn put_memories(cells: &mut [u8], clocks: &[u16; 16], datas: &[u16; 16], memory: u16)
-    requires { ⌜ (memory + 16 ≤ 1203) × (6 * (memory + 16) ≤ length (now cells)) × (length (now clocks) ≡ 16) × (length (now datas) ≡ 16) ⌝ }
+    requires { ⌜ (memory + 16 ≤ 619) × (6 * (memory + 16) ≤ length (now cells)) × (length (now clocks) ≡ 16) × (length (now datas) ≡ 16) ⌝ }
     ensures { λ _. ⌜ now (cells .exit) ≡ write memory (memoriesOf (now (clocks .entry)) (now (datas .entry))) (now (cells .entry)) ⌝ }
 {
     let mut x: u16 = 0;

@@ -5,11 +5,11 @@ ghost use mathlib.Core.List.{[], _∷_};
 ghost use Prim.Native.Nat.{_+_, _*_, _<_, _≤_};
 ghost use lib.ListN.{length};
 ghost use Rattle.model.specs.Circuit.{cell};
-ghost use Rattle.model.specs.Program.{nodeCount, exprAt, stmtAt};
+ghost use Rattle.model.specs.Program.{exprAt, stmtAt};
 ghost use Rattle.program.specs.Ends.{Laid};
 ghost use Rattle.compiler.specs.Writes.{write};
 ghost use Rattle.compiler.specs.Nodes.{assignAt, seqAt, parAt, iteAt, whileAt, repeatAt};
-ghost use Rattle.compiler.specs.Walk.{ExprReady, ExprDone, Owned, SwitchReady, Switched, Ready, Done, Arm};
+ghost use Rattle.compiler.specs.Walk.{word, ExprReady, ExprDone, Owned, SwitchReady, Switched, Ready, Done, Arm};
 use model::Cell;
 use model::Node;
 
@@ -43,7 +43,20 @@ pub fn put(cells: &mut [u8], k: u16, kind: u8, delay: u8, a: u16, b: u16)
     netlist::cells::put_cell(cells, 6 * (k as usize), c, 0);
 }
 
-// The cells of the expression at node i, from cell c on.
+// Puts a word's cell in at k; it is the word's wire.
+fn put_word(cells: &mut [u8], k: u16, kind: u8, a: u16, b: u16) -> Word
+    requires { ⌜ (k < 619) × (6 * k + 6 ≤ length (now cells)) ⌝ }
+    ensures cells { λ _. ⌜ now (cells .exit) ≡ write k (cell kind 0 a b ∷ []) (now (cells .entry)) ⌝ }
+    ensures word { λ r. ⌜ r ≡ word k (k + 1) ⌝ }
+{
+    put(cells, k, kind, 0, a, b);
+    Word {
+        wire: k,
+        cell: k + 1,
+    }
+}
+
+// The cells of the expression at node i, from cell c on: children, then its cell; a variable is its memory cell.
 fn put_expr(
     cells: &mut [u8],
     program: &[u8],
@@ -58,11 +71,7 @@ fn put_expr(
     let node = crate::nodes::expr_node(program, i);
     let kind = node.kind;
     if kind == 1 {
-        put(cells, c, 1, 0, node.n, 0);
-        return Word {
-            wire: c,
-            cell: c + 1,
-        };
+        return put_word(cells, c, 1, node.n, 0);
     }
     if kind == 2 {
         return Word {
@@ -72,25 +81,17 @@ fn put_expr(
     }
     if kind == 3 {
         let e = put_expr(cells, program, ends, memory, i + 1, c);
-        put(cells, e.cell, 3, 0, e.wire, 0);
-        return Word {
-            wire: e.cell,
-            cell: e.cell + 1,
-        };
+        return put_word(cells, e.cell, 3, e.wire, 0);
     }
     let e = put_expr(cells, program, ends, memory, i + 1, c);
     let second = crate::nodes::next(program, ends, i + 1);
     let f = put_expr(cells, program, ends, memory, second, e.cell);
-    put(cells, f.cell, kind, 0, e.wire, f.wire);
-    Word {
-        wire: f.cell,
-        cell: f.cell + 1,
-    }
+    put_word(cells, f.cell, kind, e.wire, f.wire)
 }
 
 // An if's own delay cell, unless its delay is 0.
 fn put_own(cells: &mut [u8], delay: u8, start: u16, d: u16) -> Pulse
-    requires { ⌜ (d < 1203) × (6 * d + 6 ≤ length (now cells)) ⌝ }
+    requires { ⌜ (d < 619) × (6 * d + 6 ≤ length (now cells)) ⌝ }
     ensures { λ r. ⌜ Owned delay start d (now (cells .entry)) (now (cells .exit)) r ⌝ }
 {
     if delay == 0 {
@@ -125,6 +126,7 @@ fn put_switches(
     e.cell
 }
 
+// Expression, kind 41 on the first delay. The second delay is fed by the first.
 fn put_assign(
     cells: &mut [u8],
     marks: &mut [u16; 600],
@@ -191,6 +193,7 @@ pub fn put_stmt(
     }
 }
 
+// Q starts with P's finish.
 fn put_seq(
     cells: &mut [u8],
     marks: &mut [u16; 600],
@@ -208,6 +211,7 @@ fn put_seq(
     put_stmt(cells, marks, program, ends, memory, second, p)
 }
 
+// P, Q, 38.
 fn put_par(
     cells: &mut [u8],
     marks: &mut [u16; 600],
@@ -238,6 +242,7 @@ fn put_par(
     }
 }
 
+// Expression, 36, 37, P, Q, 35 of the two finishes.
 fn put_if(
     cells: &mut [u8],
     marks: &mut [u16; 600],
@@ -278,6 +283,7 @@ fn put_if(
     }
 }
 
+// Expression, 36 (starts P), 37 (finish), P, 35 of start and P's finish, which feeds the delay.
 fn put_while(
     cells: &mut [u8],
     marks: &mut [u16; 600],
@@ -310,6 +316,7 @@ fn put_while(
     }
 }
 
+// Expression, 36 (finish), 37, 35 of start and that 37 (starts P), P, whose finish feeds the delay.
 fn put_repeat(
     cells: &mut [u8],
     marks: &mut [u16; 600],

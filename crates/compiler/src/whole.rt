@@ -1,6 +1,7 @@
 // The whole netlist, from its parts, as a list of cells.
 // Where the memories and the walk begin depends on how many delay cells and ors come before; so the walk is done twice, and the first only
-// tells that. What the first walk puts in is put over, or is past the netlist: it begins at cell 603, as no program has 600 delay cells.
+// tells that. What it puts in is put over later, or lies past the netlist. It begins at cell 203, since a program of 200 nodes has at most 200
+// delay cells; and it stays below cell 619, since no netlist has more than 619 cells, nor a walk more than 400.
 ghost use mathlib.Core.Path.{_≡_};
 ghost use lib.ListN.{length};
 ghost use Rattle.model.specs.Program.{programOf};
@@ -11,7 +12,7 @@ use crate::ors::Ors;
 use crate::walk::Place;
 
 // What the walk and the data ors leave: each variable's data wire, the number of cells, and the finish.
-pub struct Ends {
+pub struct Finished {
     pub wires: [u16; 16],
     pub count: u16,
     pub finish: u16,
@@ -31,7 +32,7 @@ fn put_clocks(cells: &mut [u8], program: &[u8], ends: &[usize; 200]) -> Ors
     let at = Place {
         wire: 0,
         delay: 3,
-        cell: 603,
+        cell: 203,
         mark: 0,
     };
     let end = crate::walk::put_stmt(cells, &mut marks, program, ends, 0, 0, at);
@@ -44,7 +45,7 @@ fn put_clocks(cells: &mut [u8], program: &[u8], ends: &[usize; 200]) -> Ors
 }
 
 // The delay cells, the walk, and the data ors.
-fn put_walk(cells: &mut [u8], program: &[u8], ends: &[usize; 200], memory: u16) -> Ends
+fn put_walk(cells: &mut [u8], program: &[u8], ends: &[usize; 200], memory: u16) -> Finished
     requires { ⌜ Given (now program) (now ends) (length (now cells)) × (memory ≡ memoryAt (programOf (now program))) ⌝ }
     ensures { λ r. ⌜ Walked (programOf (now (program .entry))) (now (cells .entry)) (now (cells .exit)) r ⌝ }
 {
@@ -63,7 +64,7 @@ fn put_walk(cells: &mut [u8], program: &[u8], ends: &[usize; 200], memory: u16) 
     };
     let ors = crate::ors::put_ors(cells, &marks, end.mark / 3, joint, end.cell);
     let wires = ors.wires;
-    Ends {
+    Finished {
         wires,
         count: ors.next,
         finish: end.wire,

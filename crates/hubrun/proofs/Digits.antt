@@ -1,7 +1,7 @@
 -- The decimal digits of a number: the last one apart from those before it, and how many there are. Assumes nothing.
 use mathlib.Core.List.{List, [], _∷_, _++_}
 use mathlib.Core.Path.{_≡_, refl, sym, _∙_, ap}
-use Prim.Native.Nat.{ℕ, zero, suc, _+_, _*_, _/_, _%_, _^_, _<_, _≤_}
+use Prim.Native.Nat.{ℕ, zero, suc, _+_, _/_, _%_, _^_, _<_, _≤_}
 use native.Mathlib.Omega.{arith}
 use native.Mathlib.Nat.{pow-succ'}
 use lib.ListN.{length, length-append}
@@ -23,7 +23,8 @@ with-room : (m n : ℕ) → (10 ≤ n → digits m (n / 10) ≡ digits (suc m) (
 with-room m n before =
     by-bool (ltb n 10)
     (λ z. one-digit m n (ltb-true n 10 z) ∙ sym (one-digit (suc m) n (ltb-true n 10 z)))
-    (λ z. let l : 10 ≤ n = ltb-false n 10 z in last-digit m n l ∙ ap (λ (ds : List ℕ). ds ++ ((48 + n % 10) ∷ [])) (before l) ∙ sym (last-digit (suc m) n l))
+    (λ z. let l : 10 ≤ n = ltb-false n 10 z in
+    last-digit m n l ∙ ap (λ (ds : List ℕ). ds ++ ((48 + n % 10) ∷ [])) (before l) ∙ sym (last-digit (suc m) n l))
 
 enough : (m n : ℕ) → n < 10 ^ suc m → digits (suc m) n ≡ digits (suc (suc m)) n
 enough zero n h = with-room zero n (λ l. absurd (omega (arith, pow-succ' 10 0)))

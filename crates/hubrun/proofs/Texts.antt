@@ -58,5 +58,5 @@ pub cut-text : (input : List ℕ) → hubrunText (take 837 input) ≡ hubrunText
 cut-text input =
     by-bool (ltb 836 (length input))
     (λ z. let h : 836 < length input = ltb-true 836 (length input) z in
-          refused-text (take 837 input) (simp length-take (omega arith)) ∙ sym (refused-text input h))
+    refused-text (take 837 input) (simp length-take (omega arith)) ∙ sym (refused-text input h))
     (λ z. ap hubrunText (take-all 837 input (omega (arith, ltb-false 836 (length input) z))))

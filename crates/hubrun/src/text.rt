@@ -51,6 +51,7 @@ fn put_number(out: &mut [u8], at: usize, n: usize, after: u8) -> usize
     end + 1
 }
 
+// A word as a number: a cast of an element, apart from its index.
 fn wide(word: u16) -> usize
     ensures { λ r. ⌜ r ≡ word ⌝ }
 {

@@ -13,7 +13,8 @@ enum-known-checked c = search needs
 
 returns : tie.Need-returns
 returns c =
-    compile-refused _ (sym (c .before .before .before .scan .ensures .checked) ∙ c .before .checked .given .1)
+    let scan = c .before .before .before .scan in
+    compile-refused _ (sym (scan .ensures .checked) ∙ c .before .checked .given .1)
 
 enum-told : tie.Need-enum-told
 enum-told c = search needs
@@ -23,7 +24,9 @@ slice-aggregate-put-netlist c = search needs
 
 put-netlist-requires : tie.Need-put-netlist-requires
 put-netlist-requires c κs =
-    scanned (c .before .before .before .before .before .scan .ensures) (sym (c .before .before .before .before .before .scan .ensures .checked) ∙ c .before .before .before .enum-told .given .1)
+    let scan = c .before .before .before .before .before .scan in
+    let enum-told = c .before .before .before .enum-told in
+    scanned (scan .ensures) (sym (scan .ensures .checked) ∙ enum-told .given .1)
 
 cast-n : tie.Need-cast-n
 cast-n c = search needs
@@ -36,24 +39,36 @@ mul-count c = search needs
 
 returns-2 : tie.Need-returns-2
 returns-2 c =
-    let accepted = sym (c .before .before .before .before .before .before .before .before .before .scan .ensures .checked) ∙ c .before .before .before .before .before .before .before .enum-told .given .1 in
-    compile-short _ accepted (c .before .before .before .put-netlist .ensures) (c .if1 .taken)
+    let scan = c .before .before .before .before .before .before .before .before .before .scan in
+    let enum-told = c .before .before .before .before .before .before .before .enum-told in
+    let put-netlist = c .before .before .before .put-netlist in
+    let accepted = sym (scan .ensures .checked) ∙ enum-told .given .1 in
+    compile-short _ accepted (put-netlist .ensures) (c .if1 .taken)
 
 slice-aggregate-put-file : tie.Need-slice-aggregate-put-file
 slice-aggregate-put-file c = search needs
 
 put-file-requires : tie.Need-put-file-requires
 put-file-requires c κs =
-    let accepted = sym (c .before .before .before .before .before .before .before .before .before .before .before .scan .ensures .checked) ∙ c .before .before .before .before .before .before .before .before .before .enum-told .given .1 in
-    (c .before .before .if1 .left, list-room _ accepted (c .before .before .before .before .before .put-netlist .ensures) (c .before .before .before .before .before .put-netlist .kept .0))
+    let scan = c .before .before .before .before .before .before .before .before .before .before .before .scan in
+    let enum-told = c .before .before .before .before .before .before .before .before .before .enum-told in
+    let if1 = c .before .before .if1 in
+    let put-netlist = c .before .before .before .before .before .put-netlist in
+    let accepted = sym (scan .ensures .checked) ∙ enum-told .given .1 in
+    (if1 .left, list-room _ accepted (put-netlist .ensures) (put-netlist .kept .0))
 
 same-length : tie.Need-same-length
 same-length c = search needs
 
 returns-3 : tie.Need-returns-3
 returns-3 c =
-    let accepted = sym (c .before .before .before .before .before .before .before .before .before .before .before .before .before .before .scan .ensures .checked) ∙ c .before .before .before .before .before .before .before .before .before .before .before .before .enum-told .given .1 in
-    compile-done _ accepted (c .before .before .before .before .before .before .before .before .put-netlist .ensures) _ (c .before .before .before .before .before .if1 .left) (c .before .before .put-file .ensures)
+    let scan = c .before .before .before .before .before .before .before .before .before .before .before .before .before .before .scan in
+    let enum-told = c .before .before .before .before .before .before .before .before .before .before .before .before .enum-told in
+    let put-netlist = c .before .before .before .before .before .before .before .before .put-netlist in
+    let if1 = c .before .before .before .before .before .if1 in
+    let put-file = c .before .before .put-file in
+    let accepted = sym (scan .ensures .checked) ∙ enum-told .given .1 in
+    compile-done _ accepted (put-netlist .ensures) _ (if1 .left) (put-file .ensures)
 
 pub compile-spec : {M : Type 1} → statement M
 compile-spec =

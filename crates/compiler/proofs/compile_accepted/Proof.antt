@@ -14,7 +14,9 @@ slice-aggregate-put-netlist c = search needs
 
 put-netlist-requires : tie.Need-put-netlist-requires
 put-netlist-requires c κs =
-    scanned (c .before .before .before .scan .ensures) (c .before .before .before .before .before .before .pre .0)
+    let scan = c .before .before .before .scan in
+    let pre = c .before .before .before .before .before .before .pre in
+    scanned (scan .ensures) (pre .0)
 
 cast-n : tie.Need-cast-n
 cast-n c = search needs
@@ -24,9 +26,10 @@ slice-aggregate-put-file c = search needs
 
 put-file-requires : tie.Need-put-file-requires
 put-file-requires c κs =
-    let made = c .before .before .before .before .put-netlist in
+    let put-netlist = c .before .before .before .before .put-netlist in
     let pre = c .before .before .before .before .before .before .before .before .before .before .before .pre in
-    (omega (arith, file-size _ (pre .0) (made .ensures), pre .1), list-room _ (pre .0) (made .ensures) (made .kept .0))
+    let made = put-netlist .ensures in
+    (omega (arith, file-size _ (pre .0) made, pre .1), list-room _ (pre .0) made (put-netlist .kept .0))
 
 add-result : tie.Need-add-result
 add-result c = search needs
@@ -39,10 +42,13 @@ same-length c = search needs
 
 returns : tie.Need-returns
 returns c =
-    let made = c .before .before .before .before .before .before .before .put-netlist .ensures in
+    let put-netlist = c .before .before .before .before .before .before .before .put-netlist in
     let pre = c .before .before .before .before .before .before .before .before .before .before .before .before .before .before .pre in
-    let size = file-size _ (pre .0) made in
-    (sym size, file-put _ (pre .0) made _ (omega (arith, size, pre .1)) (c .before .before .put-file .ensures))
+    let put-file = c .before .before .put-file in
+    let made = put-netlist .ensures in (
+      sym (file-size _ (pre .0) made),
+      file-put _ (pre .0) made _ (omega (arith, file-size _ (pre .0) made, pre .1)) (put-file .ensures),
+    )
 
 pub compile-accepted-spec : {M : Type 1} → statement M
 compile-accepted-spec =

@@ -12,7 +12,9 @@ slice-aggregate-put-netlist c = search needs
 
 put-netlist-requires : tie.Need-put-netlist-requires
 put-netlist-requires c κs =
-    scanned (c .before .before .before .scan .ensures) (c .before .before .before .before .before .pre)
+    let scan = c .before .before .before .scan in
+    let pre = c .before .before .before .before .before .pre in
+    scanned (scan .ensures) pre
 
 cast-result : tie.Need-cast-result
 cast-result c = search needs

@@ -1,6 +1,5 @@
 -- `main` meets its contract: the text is no longer than the buffer. Assumes nothing.
-use mathlib.Core.Path.{_≡_, sym, _∙_, ap}
-use Prim.Native.Nat.{ℕ, _≤_}
+use mathlib.Core.Path.{ap}
 use native.Mathlib.Omega.{arith}
 use lib.ListN.{length, length-append, length-take}
 use borrow.Author.Needs.{needs}

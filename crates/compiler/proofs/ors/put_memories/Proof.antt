@@ -24,58 +24,67 @@ loop-holds c =
     (rw e, refl, omega arith)
 
 cast-at : tie.Need-cast-at Inv-loop μ-loop
-cast-at c =
-    omega (arith, c .loop-test .taken)
+cast-at c = omega (arith, c .loop-test .taken)
 
 add-put : tie.Need-add-put Inv-loop μ-loop
 add-put c =
-    omega (arith, c .before .loop-test .taken, c .before .before .before .before .pre .0)
+    let pre = c .before .before .before .before .pre in
+    omega (arith, c .before .loop-test .taken, pre .0)
 
 mul-put : tie.Need-mul-put Inv-loop μ-loop
-mul-put c =
-    omega (arith, c .before .loop-test .taken)
+mul-put c = omega (arith, c .before .loop-test .taken)
 
 element-copy-out-put : tie.Need-element-copy-out-put Inv-loop μ-loop
-element-copy-out-put c =
-    omega (arith, c .before .loop-test .taken)
+element-copy-out-put c = omega (arith, c .before .loop-test .taken)
 
 mul-put-2 : tie.Need-mul-put-2 Inv-loop μ-loop
 mul-put-2 c =
-    omega (arith, c .before .before .loop-test .taken)
+    let loop-test = c .before .before .loop-test in
+    omega (arith, loop-test .taken)
 
 element-copy-out-put-2 : tie.Need-element-copy-out-put-2 Inv-loop μ-loop
 element-copy-out-put-2 c =
-    omega (arith, c .before .before .loop-test .taken)
+    let loop-test = c .before .before .loop-test in
+    omega (arith, loop-test .taken)
 
 put-requires : tie.Need-put-requires Inv-loop μ-loop
 put-requires c κs =
-    omega (arith, c .before .before .before .loop-test .taken, c .before .before .before .before .before .before .pre .1, c .before .before .before .before .loop .inv .1)
+    let loop-test = c .before .before .before .loop-test in
+    let pre = c .before .before .before .before .before .before .pre in
+    let loop = c .before .before .before .before .loop in
+    omega (arith, loop-test .taken, pre .1, loop .inv .1)
 
 add-x : tie.Need-add-x Inv-loop μ-loop
 add-x c =
-    omega (arith, c .before .before .before .before .before .before .loop-test .taken)
+    let loop-test = c .before .before .before .before .before .before .loop-test in
+    omega (arith, loop-test .taken)
 
 loop-less : tie.Need-loop-less Inv-loop μ-loop
 loop-less c =
-    omega (arith, c .before .before .before .before .before .before .loop-test .taken)
+    let loop-test = c .before .before .before .before .before .before .loop-test in
+    omega (arith, loop-test .taken)
 
 loop-again : tie.Need-loop-again Inv-loop μ-loop
 loop-again c =
-    let more = c .before .before .before .before .before .before .loop-test .taken in (
-      sym (memories-more _ _ _ _ _ (omega (arith, more, c .before .before .before .before .before .before .before .before .before .pre .2)) (omega (arith, more, c .before .before .before .before .before .before .before .before .before .pre .3)) (c .before .before .put .ensures)) ∙ c .before .before .before .before .before .before .before .loop .inv .0,
-      c .before .before .put .kept .0 ∙ c .before .before .before .before .before .before .before .loop .inv .1,
+    let loop-test = c .before .before .before .before .before .before .loop-test in
+    let pre = c .before .before .before .before .before .before .before .before .before .pre in
+    let put = c .before .before .put in
+    let loop = c .before .before .before .before .before .before .before .loop in
+    let more = loop-test .taken in (
+      sym (memories-more _ _ _ _ _ (omega (arith, more, pre .2)) (omega (arith, more, pre .3)) (put .ensures)) ∙ loop .inv .0,
+      put .kept .0 ∙ loop .inv .1,
       omega (arith, more),
     )
 
 same-length : tie.Need-same-length Inv-loop μ-loop
-same-length c =
-    c .before .loop .inv .1
+same-length c = c .before .loop .inv .1
 
 returns : tie.Need-returns Inv-loop μ-loop
 returns c =
+    let pre = c .before .before .before .pre in
     let args = c .before .before .before .args in
     let loop = c .before .loop in
-    sym (memories-end (args .clocks .now) (args .datas .now) (args .memory) (loop .x) (loop .cells) (omega (arith, c .before .before .before .pre .2, c .loop-test .left))) ∙ loop .inv .0
+    sym (memories-end (args .clocks .now) (args .datas .now) (args .memory) (loop .x) (loop .cells) (omega (arith, pre .2, c .loop-test .left))) ∙ loop .inv .0
 
 pub put-memories-spec : {M : Type 1} → statement M
 put-memories-spec =

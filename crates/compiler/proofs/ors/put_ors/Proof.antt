@@ -14,50 +14,57 @@ abbrev μ-loop : tie.MeasureT-loop
 μ-loop cells₀ marks count joint n wires₀ next₀ x₀ cells wires next x = 16 - x
 
 loop-holds : tie.Need-loop-holds Inv-loop μ-loop
-loop-holds c =
-    joining-start _ _ _ _ _ refl
+loop-holds c = joining-start _ _ _ _ _ refl
 
 put-chain-requires : tie.Need-put-chain-requires Inv-loop μ-loop
 put-chain-requires c κs =
-    let room = joining-room _ _ _ _ (c .before .before .loop .inv) (c .before .loop-test .taken) in
+    let loop = c .before .before .loop in
+    let pre = c .before .before .before .before .pre in
+    let room = joining-room _ _ _ _ (loop .inv) (c .before .loop-test .taken) in
     record {
-      few = c .before .before .before .before .pre .few;
-      mark = c .before .before .before .before .pre .mark;
-      room = omega (arith, room, c .before .before .before .before .pre .room, c .before .before .loop .inv .same);
-      small = omega (arith, c .before .before .before .before .pre .small, c .before .before .loop .inv .same);
+      few = pre .few;
+      mark = pre .mark;
+      room = omega (arith, room, pre .room, loop .inv .same);
+      small = omega (arith, pre .small, loop .inv .same);
     }
 
 cast-at : tie.Need-cast-at Inv-loop μ-loop
 cast-at c =
-    omega (arith, c .before .before .before .before .loop-test .taken)
+    let loop-test = c .before .before .before .before .loop-test in
+    omega (arith, loop-test .taken)
 
 mul-wires : tie.Need-mul-wires Inv-loop μ-loop
 mul-wires c =
-    omega (arith, c .before .before .before .before .loop-test .taken)
+    let loop-test = c .before .before .before .before .loop-test in
+    omega (arith, loop-test .taken)
 
 array-write-wires : tie.Need-array-write-wires Inv-loop μ-loop
 array-write-wires c =
-    omega (arith, c .before .before .before .before .loop-test .taken)
+    let loop-test = c .before .before .before .before .loop-test in
+    omega (arith, loop-test .taken)
 
 add-x : tie.Need-add-x Inv-loop μ-loop
 add-x c =
-    omega (arith, c .before .before .before .before .loop-test .taken)
+    let loop-test = c .before .before .before .before .loop-test in
+    omega (arith, loop-test .taken)
 
 loop-less : tie.Need-loop-less Inv-loop μ-loop
 loop-less c =
-    omega (arith, c .before .before .before .before .loop-test .taken)
+    let loop-test = c .before .before .before .before .loop-test in
+    omega (arith, loop-test .taken)
 
 loop-again : tie.Need-loop-again Inv-loop μ-loop
 loop-again c =
-    joining-more _ _ _ _ (c .before .before .before .before .before .loop .inv) (c .before .before .before .before .loop-test .taken) (c .before .before .put-chain .ensures)
+    let loop = c .before .before .before .before .before .loop in
+    let loop-test = c .before .before .before .before .loop-test in
+    let put-chain = c .before .before .put-chain in
+    joining-more _ _ _ _ (loop .inv) (loop-test .taken) (put-chain .ensures)
 
 same-length : tie.Need-same-length Inv-loop μ-loop
-same-length c =
-    c .before .loop .inv .same
+same-length c = c .before .loop .inv .same
 
 returns : tie.Need-returns Inv-loop μ-loop
-returns c =
-    joining-end _ _ _ _ (c .before .loop .inv) (c .loop-test .left)
+returns c = joining-end _ _ _ _ (c .before .loop .inv) (c .loop-test .left)
 
 pub put-ors-spec : {M : Type 1} → statement M
 put-ors-spec =

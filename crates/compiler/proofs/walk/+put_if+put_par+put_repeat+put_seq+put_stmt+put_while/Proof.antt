@@ -1,17 +1,18 @@
 -- `walk::put_stmt` and its arms meet their contracts: the dispatcher reads the tree at its node by its kind, and the arms go by the parts.
 -- The measure is twice the number of nodes that are left, and one more for the dispatcher. Assumes nothing.
 use mathlib.Core.Path.{_≡_, _∙_}
+use Prim.Native.Nat.{ℕ, _+_, _-_, _*_, _<_, _≤_}
 use native.Mathlib.Omega.{arith}
 use denote.Ref.{now}
+use borrow.Author.Needs.{needs}
+use borrow.Fn.Kinds.{In}
+use borrow.Fn.PlainCycle.{Measures, is, falls, and}
 use Rattle.model.specs.Program.{tick, nodeCount, stmtAt}
 use Rattle.model.specs.Numbering.{delayCount, walkCount}
 use Rattle.theory.specs.Program.Trees.{at-tick, at-assign}
 use Rattle.compiler.proofs.Reading.{second-later, third-later, seq-read, par-read, ite-read, while-read, repeat-read}
 use Rattle.compiler.proofs.Stmts.{ok-done, tick-done, seq-done, par-done, if-done, while-done, repeat-done}
 use Rattle.compiler.proofs.Parts.{seq-first, seq-second, par-first, par-second, if-switches, if-first, if-second, while-switches, while-body, repeat-switches, repeat-body}
-use Prim.Native.Nat.{ℕ, _+_, _-_, _*_, _<_, _≤_}
-use borrow.Fn.Kinds.{In}
-use borrow.Fn.PlainCycle.{Measures, is, falls, and}
 use Rattle.compiler.proofs.walk.put_if.Reads as put-if
 use Rattle.compiler.proofs.walk.put_if.Kinds as put-if-kinds
 use Rattle.compiler.proofs.walk.+put_if+put_par+put_repeat+put_seq+put_stmt+put_while.Lts-put_if as put-if-lts
@@ -136,75 +137,87 @@ at-least-23 {k} h a r =
 put-if-put-own-requires : (t : ℕ) → put-if-lts.Need-put-own-requires (Calls-put-if t) (put-if-at t) put-if.Post
 unfolding delayCount walkCount
 put-if-put-own-requires t c κs =
-    let ready = c .before .before .before .pre .1 .ready in
+    let pre = c .before .before .before .pre in
+    let ready = pre .1 .ready in
     (omega (arith, ready .apart, ready .room, ready .small), omega (arith, ready .apart, ready .room))
 
 put-if-add-put-switches : (t : ℕ) → put-if-lts.Need-add-put-switches (Calls-put-if t) (put-if-at t) put-if.Post
-put-if-add-put-switches t c =
-    omega (arith, c .before .before .before .before .before .before .before .pre .1 .here, c .before .before .before .before .before .before .before .pre .1 .laid .short)
+put-if-add-put-switches t c = search needs
 
 put-if-put-switches-requires : (t : ℕ) → put-if-lts.Need-put-switches-requires (Calls-put-if t) (put-if-at t) put-if.Post
 put-if-put-switches-requires t c κs =
-    let arm = c .before .before .before .before .before .before .before .pre .1 in
-    rw (c .before .before .before .put-own .kept .0) (arm .laid, if-switches (arm .ready))
+    let pre = c .before .before .before .before .before .before .before .pre in
+    let put-own = c .before .before .before .put-own in
+    let arm = pre .1 in
+    rw (put-own .kept .0) (arm .laid, if-switches (arm .ready))
 
 put-if-add-next : (t : ℕ) → put-if-lts.Need-add-next (Calls-put-if t) (put-if-at t) put-if.Post
-put-if-add-next t c =
-    omega (arith, c .before .before .before .before .before .before .before .before .before .before .pre .1 .here, c .before .before .before .before .before .before .before .before .before .before .pre .1 .laid .short)
+put-if-add-next t c = search needs
 
 put-if-next-requires : (t : ℕ) → put-if-lts.Need-next-requires (Calls-put-if t) (put-if-at t) put-if.Post
-put-if-next-requires t c κs =
-    c .before .before .before .before .before .before .before .before .before .before .pre .1 .laid
+put-if-next-requires t c κs = search needs
 
 put-if-next-requires-2 : (t : ℕ) → put-if-lts.Need-next-requires-2 (Calls-put-if t) (put-if-at t) put-if.Post
-put-if-next-requires-2 t c κs =
-    c .before .before .before .before .before .before .before .before .before .before .before .pre .1 .laid
+put-if-next-requires-2 t c κs = search needs
 
 put-if-add-t22 : (t : ℕ) → put-if-lts.Need-add-t22 (Calls-put-if t) (put-if-at t) put-if.Post
 unfolding walkCount
 put-if-add-t22 t c =
-    let ready = c .before .before .before .before .before .before .before .before .before .before .before .before .pre .1 .ready in
-    omega (arith, ready .room, ready .small, c .before .before .before .before .put-switches .ensures .switch)
+    let pre = c .before .before .before .before .before .before .before .before .before .before .before .before .pre in
+    let put-switches = c .before .before .before .before .put-switches in
+    let ready = pre .1 .ready in
+    omega (arith, ready .room, ready .small, put-switches .ensures .switch)
 
 put-if-add-t23 : (t : ℕ) → put-if-lts.Need-add-t23 (Calls-put-if t) (put-if-at t) put-if.Post
 unfolding walkCount
 put-if-add-t23 t c =
-    let ready = c .before .before .before .before .before .before .before .before .before .before .before .before .pre .1 .ready in
-    omega (arith, ready .room, ready .small, c .before .before .before .before .put-switches .ensures .switch)
+    let pre = c .before .before .before .before .before .before .before .before .before .before .before .before .pre in
+    let put-switches = c .before .before .before .before .put-switches in
+    let ready = pre .1 .ready in
+    omega (arith, ready .room, ready .small, put-switches .ensures .switch)
 
 put-if-put-stmt-requires : (t : ℕ) → put-if-lts.Need-put-stmt-requires (Calls-put-if t) (put-if-at t) put-if.Post
 put-if-put-stmt-requires t c κs =
-    let arm = c .before .before .before .before .before .before .before .before .before .before .before .before .before .before .pre .1 in
-    rw (c .before .before .before .next .ensures, c .before .before .before .before .before .before .put-switches .kept .0, c .before .before .before .before .before .before .before .before .before .before .put-own .kept .0)
-    (omega (arith, c .before .before .before .before .before .before .before .before .before .before .before .before .before .before .pre .0, arm .here, second-later (arm .laid) (c .before .before .before .before .before .before .before .before .before .before .before .before .before .before .args .i)), (arm .laid, if-first (arm .ready) (c .before .before .before .before .before .before .before .before .before .before .put-own .ensures) (c .before .before .before .before .before .before .put-switches .ensures)))
+    let pre = c .before .before .before .before .before .before .before .before .before .before .before .before .before .before .pre in
+    let next = c .before .before .before .next in
+    let put-switches = c .before .before .before .before .before .before .put-switches in
+    let put-own = c .before .before .before .before .before .before .before .before .before .before .put-own in
+    let args = c .before .before .before .before .before .before .before .before .before .before .before .before .before .before .args in
+    let arm = pre .1 in
+    rw (next .ensures, put-switches .kept .0, put-own .kept .0)
+    (omega (arith, pre .0, arm .here, second-later (arm .laid) (args .i)), (arm .laid, if-first (arm .ready) (put-own .ensures) (put-switches .ensures)))
 
 put-if-add-t22-2 : (t : ℕ) → put-if-lts.Need-add-t22-2 (Calls-put-if t) (put-if-at t) put-if.Post
-unfolding walkCount
-put-if-add-t22-2 t c =
-    let ready = c .before .before .before .before .before .before .before .before .before .before .before .before .before .before .before .before .before .pre .1 .ready in
-    omega (arith, ready .room, ready .small, c .before .before .before .before .before .before .before .before .before .put-switches .ensures .switch)
+put-if-add-t22-2 t c = search needs
 
 put-if-put-stmt-requires-2 : (t : ℕ) → put-if-lts.Need-put-stmt-requires-2 (Calls-put-if t) (put-if-at t) put-if.Post
 put-if-put-stmt-requires-2 t c κs =
-    let arm = c .before .before .before .before .before .before .before .before .before .before .before .before .before .before .before .before .before .before .before .pre .1 in
+    let pre = c .before .before .before .before .before .before .before .before .before .before .before .before .before .before .before .before .before .before .before .pre in
+    let next = c .before .before .before .before .before .before .before .before .next in
+    let next2 = c .before .before .before .before .before .before .before .next2 in
+    let args = c .before .before .before .before .before .before .before .before .before .before .before .before .before .before .before .before .before .before .before .args in
+    let arm = pre .1 in
     let own = c .before .before .before .before .before .before .before .before .before .before .before .before .before .before .before .put-own in
     let switches = c .before .before .before .before .before .before .before .before .before .before .before .put-switches in
     let p = c .before .before .before .before .put-stmt in
-    let second = c .before .before .before .before .before .before .before .before .next .ensures in
-    let third = rw second at (c .before .before .before .before .before .before .before .next2 .ensures) in
+    let second = next .ensures in
+    let third = rw second at (next2 .ensures) in
     rw (third, p .kept .0, switches .kept .0, own .kept .0)
-    (omega (arith, c .before .before .before .before .before .before .before .before .before .before .before .before .before .before .before .before .before .before .before .pre .0, arm .here, third-later (arm .laid) (c .before .before .before .before .before .before .before .before .before .before .before .before .before .before .before .before .before .before .before .args .i)), (arm .laid, if-second (arm .ready) (own .ensures) (switches .ensures) (rw second at (p .ensures))))
+    (omega (arith, pre .0, arm .here, third-later (arm .laid) (args .i)), (arm .laid, if-second (arm .ready) (own .ensures) (switches .ensures) (rw second at (p .ensures))))
 
 put-if-put-requires : (t : ℕ) → put-if-lts.Need-put-requires (Calls-put-if t) (put-if-at t) put-if.Post
 unfolding walkCount
 put-if-put-requires t c κs =
-    let ready = c .before .before .before .before .before .before .before .before .before .before .before .before .before .before .before .before .before .before .before .before .before .before .before .pre .1 .ready in
+    let pre = c .before .before .before .before .before .before .before .before .before .before .before .before .before .before .before .before .before .before .before .before .before .before .before .pre in
+    let next = c .before .before .before .before .before .before .before .before .before .before .before .before .next in
+    let next2 = c .before .before .before .before .before .before .before .before .before .before .before .next2 in
+    let ready = pre .1 .ready in
     let own = c .before .before .before .before .before .before .before .before .before .before .before .before .before .before .before .before .before .before .before .put-own in
     let switches = c .before .before .before .before .before .before .before .before .before .before .before .before .before .before .before .put-switches in
     let p = c .before .before .before .before .before .before .before .before .put-stmt in
     let q = c .before .before .before .put-stmt2 in
-    let second = c .before .before .before .before .before .before .before .before .before .before .before .before .next .ensures in
-    let third = rw second at (c .before .before .before .before .before .before .before .before .before .before .before .next2 .ensures) in
+    let second = next .ensures in
+    let third = rw second at (next2 .ensures) in
     let p-done = rw second at (p .ensures) in
     let q-done = rw third at (q .ensures) in
     omega (arith, ready .room, switches .ensures .switch, p-done .cell, q-done .cell, own .kept .0, switches .kept .0, p .kept .0, q .kept .0)
@@ -212,377 +225,493 @@ put-if-put-requires t c κs =
 put-if-add-t23-2 : (t : ℕ) → put-if-lts.Need-add-t23-2 (Calls-put-if t) (put-if-at t) put-if.Post
 unfolding walkCount
 put-if-add-t23-2 t c =
-    let ready = c .before .before .before .before .before .before .before .before .before .before .before .before .before .before .before .before .before .before .before .before .before .before .before .before .before .before .before .pre .1 .ready in
-    let second = c .before .before .before .before .before .before .before .before .before .before .before .before .before .before .before .before .next .ensures in
-    let third = rw second at (c .before .before .before .before .before .before .before .before .before .before .before .before .before .before .before .next2 .ensures) in
-    let p-done = rw second at (c .before .before .before .before .before .before .before .before .before .before .before .before .put-stmt .ensures) in
-    let q-done = rw third at (c .before .before .before .before .before .before .before .put-stmt2 .ensures) in
-    omega (arith, ready .room, ready .small, c .before .before .before .before .before .before .before .before .before .before .before .before .before .before .before .before .before .before .before .put-switches .ensures .switch, p-done .cell, q-done .cell)
+    let pre = c .before .before .before .before .before .before .before .before .before .before .before .before .before .before .before .before .before .before .before .before .before .before .before .before .before .before .before .pre in
+    let next = c .before .before .before .before .before .before .before .before .before .before .before .before .before .before .before .before .next in
+    let next2 = c .before .before .before .before .before .before .before .before .before .before .before .before .before .before .before .next2 in
+    let put-stmt = c .before .before .before .before .before .before .before .before .before .before .before .before .put-stmt in
+    let put-stmt2 = c .before .before .before .before .before .before .before .put-stmt2 in
+    let put-switches = c .before .before .before .before .before .before .before .before .before .before .before .before .before .before .before .before .before .before .before .put-switches in
+    let ready = pre .1 .ready in
+    let second = next .ensures in
+    let third = rw second at (next2 .ensures) in
+    let p-done = rw second at (put-stmt .ensures) in
+    let q-done = rw third at (put-stmt2 .ensures) in
+    omega (arith, ready .room, ready .small, put-switches .ensures .switch, p-done .cell, q-done .cell)
 
 put-if-same-length : (t : ℕ) → put-if-lts.Need-same-length (Calls-put-if t) (put-if-at t) put-if.Post
 put-if-same-length t c =
-    c .before .before .before .put .kept .0 ∙ c .before .before .before .before .before .before .before .put-stmt2 .kept .0 ∙ c .before .before .before .before .before .before .before .before .before .before .before .before .put-stmt .kept .0 ∙ c .before .before .before .before .before .before .before .before .before .before .before .before .before .before .before .before .before .before .before .put-switches .kept .0 ∙ c .before .before .before .before .before .before .before .before .before .before .before .before .before .before .before .before .before .before .before .before .before .before .before .put-own .kept .0
+    let put = c .before .before .before .put in
+    let put-stmt2 = c .before .before .before .before .before .before .before .put-stmt2 in
+    let put-stmt = c .before .before .before .before .before .before .before .before .before .before .before .before .put-stmt in
+    let put-switches = c .before .before .before .before .before .before .before .before .before .before .before .before .before .before .before .before .before .before .before .put-switches in
+    let put-own = c .before .before .before .before .before .before .before .before .before .before .before .before .before .before .before .before .before .before .before .before .before .before .before .put-own in
+    put .kept .0 ∙ put-stmt2 .kept .0 ∙ put-stmt .kept .0 ∙ put-switches .kept .0 ∙ put-own .kept .0
 
 put-if-returns : (t : ℕ) → put-if-lts.Need-returns (Calls-put-if t) (put-if-at t) put-if.Post
 put-if-returns t c =
-    let second = c .before .before .before .before .before .before .before .before .before .before .before .before .before .before .before .before .next .ensures in
-    let third = rw second at (c .before .before .before .before .before .before .before .before .before .before .before .before .before .before .before .next2 .ensures) in
-    if-done (c .before .before .before .before .before .before .before .before .before .before .before .before .before .before .before .before .before .before .before .before .before .before .before .before .before .before .before .pre .1 .ready .apart) (c .before .before .before .before .before .before .before .before .before .before .before .before .before .before .before .before .before .before .before .before .before .before .before .put-own .ensures) (c .before .before .before .before .before .before .before .before .before .before .before .before .before .before .before .before .before .before .before .put-switches .ensures) (rw second at (c .before .before .before .before .before .before .before .before .before .before .before .before .put-stmt .ensures))
-    (rw third at (c .before .before .before .before .before .before .before .put-stmt2 .ensures)) (c .before .before .before .put .ensures)
+    let next = c .before .before .before .before .before .before .before .before .before .before .before .before .before .before .before .before .next in
+    let next2 = c .before .before .before .before .before .before .before .before .before .before .before .before .before .before .before .next2 in
+    let pre = c .before .before .before .before .before .before .before .before .before .before .before .before .before .before .before .before .before .before .before .before .before .before .before .before .before .before .before .pre in
+    let put-own = c .before .before .before .before .before .before .before .before .before .before .before .before .before .before .before .before .before .before .before .before .before .before .before .put-own in
+    let put-switches = c .before .before .before .before .before .before .before .before .before .before .before .before .before .before .before .before .before .before .before .put-switches in
+    let put-stmt = c .before .before .before .before .before .before .before .before .before .before .before .before .put-stmt in
+    let put-stmt2 = c .before .before .before .before .before .before .before .put-stmt2 in
+    let put = c .before .before .before .put in
+    let second = next .ensures in
+    let third = rw second at (next2 .ensures) in
+    if-done (pre .1 .ready .apart) (put-own .ensures) (put-switches .ensures) (rw second at (put-stmt .ensures))
+    (rw third at (put-stmt2 .ensures)) (put .ensures)
 
 put-par-add-put-stmt : (t : ℕ) → put-par-lts.Need-add-put-stmt (Calls-put-par t) (put-par-at t) put-par.Post
-put-par-add-put-stmt t c =
-    omega (arith, c .before .before .before .before .pre .1 .here, c .before .before .before .before .pre .1 .laid .short)
+put-par-add-put-stmt t c = search needs
 
 put-par-put-stmt-requires : (t : ℕ) → put-par-lts.Need-put-stmt-requires (Calls-put-par t) (put-par-at t) put-par.Post
 put-par-put-stmt-requires t c κs =
-    let arm = c .before .before .before .before .pre .1 in
-    (omega (arith, c .before .before .before .before .pre .0, arm .here), (arm .laid, par-first (arm .ready)))
+    let pre = c .before .before .before .before .pre in
+    let arm = pre .1 in
+    (omega (arith, pre .0, arm .here), (arm .laid, par-first (arm .ready)))
 
 put-par-add-next : (t : ℕ) → put-par-lts.Need-add-next (Calls-put-par t) (put-par-at t) put-par.Post
-put-par-add-next t c =
-    omega (arith, c .before .before .before .before .before .before .before .pre .1 .here, c .before .before .before .before .before .before .before .pre .1 .laid .short)
+put-par-add-next t c = search needs
 
 put-par-next-requires : (t : ℕ) → put-par-lts.Need-next-requires (Calls-put-par t) (put-par-at t) put-par.Post
-put-par-next-requires t c κs =
-    c .before .before .before .before .before .before .before .pre .1 .laid
+put-par-next-requires t c κs = search needs
 
 put-par-put-stmt-requires-2 : (t : ℕ) → put-par-lts.Need-put-stmt-requires-2 (Calls-put-par t) (put-par-at t) put-par.Post
 put-par-put-stmt-requires-2 t c κs =
-    let arm = c .before .before .before .before .before .before .before .before .before .before .pre .1 in
+    let pre = c .before .before .before .before .before .before .before .before .before .before .pre in
+    let next = c .before .before .next in
+    let args = c .before .before .before .before .before .before .before .before .before .before .args in
+    let arm = pre .1 in
     let p = c .before .before .before .before .before .put-stmt in
-    rw (c .before .before .next .ensures, p .kept .0)
-    (omega (arith, c .before .before .before .before .before .before .before .before .before .before .pre .0, arm .here, second-later (arm .laid) (c .before .before .before .before .before .before .before .before .before .before .args .i)), (arm .laid, par-second (arm .ready) (p .ensures)))
+    rw (next .ensures, p .kept .0)
+    (omega (arith, pre .0, arm .here, second-later (arm .laid) (args .i)), (arm .laid, par-second (arm .ready) (p .ensures)))
 
 put-par-put-requires : (t : ℕ) → put-par-lts.Need-put-requires (Calls-put-par t) (put-par-at t) put-par.Post
 unfolding walkCount
 put-par-put-requires t c κs =
-    let ready = c .before .before .before .before .before .before .before .before .before .before .before .before .before .before .pre .1 .ready in
+    let pre = c .before .before .before .before .before .before .before .before .before .before .before .before .before .before .pre in
+    let next = c .before .before .before .before .before .before .next in
+    let ready = pre .1 .ready in
     let p = c .before .before .before .before .before .before .before .before .before .put-stmt in
     let q = c .before .before .before .put-stmt2 in
-    let done = rw (c .before .before .before .before .before .before .next .ensures) at (q .ensures) in
+    let done = rw (next .ensures) at (q .ensures) in
     omega (arith, ready .room, p .ensures .cell, done .cell, p .kept .0, q .kept .0)
 
 put-par-add-t22 : (t : ℕ) → put-par-lts.Need-add-t22 (Calls-put-par t) (put-par-at t) put-par.Post
 unfolding walkCount
 put-par-add-t22 t c =
-    let ready = c .before .before .before .before .before .before .before .before .before .before .before .before .before .before .before .before .before .before .pre .1 .ready in
-    let done = rw (c .before .before .before .before .before .before .before .before .before .before .next .ensures) at (c .before .before .before .before .before .before .before .put-stmt2 .ensures) in
-    omega (arith, ready .room, ready .small, c .before .before .before .before .before .before .before .before .before .before .before .before .before .put-stmt .ensures .cell, done .cell)
+    let pre = c .before .before .before .before .before .before .before .before .before .before .before .before .before .before .before .before .before .before .pre in
+    let next = c .before .before .before .before .before .before .before .before .before .before .next in
+    let put-stmt2 = c .before .before .before .before .before .before .before .put-stmt2 in
+    let put-stmt = c .before .before .before .before .before .before .before .before .before .before .before .before .before .put-stmt in
+    let ready = pre .1 .ready in
+    let done = rw (next .ensures) at (put-stmt2 .ensures) in
+    omega (arith, ready .room, ready .small, put-stmt .ensures .cell, done .cell)
 
 put-par-same-length : (t : ℕ) → put-par-lts.Need-same-length (Calls-put-par t) (put-par-at t) put-par.Post
-put-par-same-length t c =
-    c .before .before .before .put .kept .0 ∙ c .before .before .before .before .before .before .before .put-stmt2 .kept .0 ∙ c .before .before .before .before .before .before .before .before .before .before .before .before .before .put-stmt .kept .0
+put-par-same-length t c = search needs
 
 put-par-returns : (t : ℕ) → put-par-lts.Need-returns (Calls-put-par t) (put-par-at t) put-par.Post
 put-par-returns t c =
-    par-done (c .before .before .before .before .before .before .before .before .before .before .before .before .before .before .before .before .before .before .pre .1 .ready .apart) (c .before .before .before .before .before .before .before .before .before .before .before .before .before .put-stmt .ensures) (rw (c .before .before .before .before .before .before .before .before .before .before .next .ensures) at (c .before .before .before .before .before .before .before .put-stmt2 .ensures)) (c .before .before .before .put .ensures)
+    let pre = c .before .before .before .before .before .before .before .before .before .before .before .before .before .before .before .before .before .before .pre in
+    let put-stmt = c .before .before .before .before .before .before .before .before .before .before .before .before .before .put-stmt in
+    let next = c .before .before .before .before .before .before .before .before .before .before .next in
+    let put-stmt2 = c .before .before .before .before .before .before .before .put-stmt2 in
+    let put = c .before .before .before .put in
+    par-done (pre .1 .ready .apart) (put-stmt .ensures) (rw (next .ensures) at (put-stmt2 .ensures)) (put .ensures)
 
 put-repeat-add-put-switches : (t : ℕ) → put-repeat-lts.Need-add-put-switches (Calls-put-repeat t) (put-repeat-at t) put-repeat.Post
-put-repeat-add-put-switches t c =
-    omega (arith, c .before .before .before .pre .1 .here, c .before .before .before .pre .1 .laid .short)
+put-repeat-add-put-switches t c = search needs
 
 put-repeat-put-switches-requires : (t : ℕ) → put-repeat-lts.Need-put-switches-requires (Calls-put-repeat t) (put-repeat-at t) put-repeat.Post
 put-repeat-put-switches-requires t c κs =
-    let arm = c .before .before .before .pre .1 in
+    let pre = c .before .before .before .pre in
+    let arm = pre .1 in
     (arm .laid, repeat-switches (arm .ready))
 
 put-repeat-add-next : (t : ℕ) → put-repeat-lts.Need-add-next (Calls-put-repeat t) (put-repeat-at t) put-repeat.Post
-put-repeat-add-next t c =
-    omega (arith, c .before .before .before .before .before .before .pre .1 .here, c .before .before .before .before .before .before .pre .1 .laid .short)
+put-repeat-add-next t c = search needs
 
 put-repeat-next-requires : (t : ℕ) → put-repeat-lts.Need-next-requires (Calls-put-repeat t) (put-repeat-at t) put-repeat.Post
-put-repeat-next-requires t c κs =
-    c .before .before .before .before .before .before .pre .1 .laid
+put-repeat-next-requires t c κs = search needs
 
 put-repeat-add-start : (t : ℕ) → put-repeat-lts.Need-add-start (Calls-put-repeat t) (put-repeat-at t) put-repeat.Post
 unfolding walkCount
 put-repeat-add-start t c =
-    let ready = c .before .before .before .before .before .before .before .pre .1 .ready in
-    omega (arith, ready .room, ready .small, c .before .before .before .put-switches .ensures .switch)
+    let pre = c .before .before .before .before .before .before .before .pre in
+    let put-switches = c .before .before .before .put-switches in
+    let ready = pre .1 .ready in
+    omega (arith, ready .room, ready .small, put-switches .ensures .switch)
 
 put-repeat-add-start-2 : (t : ℕ) → put-repeat-lts.Need-add-start-2 (Calls-put-repeat t) (put-repeat-at t) put-repeat.Post
 unfolding walkCount
 put-repeat-add-start-2 t c =
-    let ready = c .before .before .before .before .before .before .before .pre .1 .ready in
-    omega (arith, ready .room, ready .small, c .before .before .before .put-switches .ensures .switch)
+    let pre = c .before .before .before .before .before .before .before .pre in
+    let put-switches = c .before .before .before .put-switches in
+    let ready = pre .1 .ready in
+    omega (arith, ready .room, ready .small, put-switches .ensures .switch)
 
 put-repeat-add-put : (t : ℕ) → put-repeat-lts.Need-add-put (Calls-put-repeat t) (put-repeat-at t) put-repeat.Post
 unfolding walkCount
 put-repeat-add-put t c =
-    let ready = c .before .before .before .before .before .before .before .before .pre .1 .ready in
-    omega (arith, ready .room, ready .small, c .before .before .before .before .put-switches .ensures .switch)
+    let pre = c .before .before .before .before .before .before .before .before .pre in
+    let put-switches = c .before .before .before .before .put-switches in
+    let ready = pre .1 .ready in
+    omega (arith, ready .room, ready .small, put-switches .ensures .switch)
 
 put-repeat-put-requires : (t : ℕ) → put-repeat-lts.Need-put-requires (Calls-put-repeat t) (put-repeat-at t) put-repeat.Post
 unfolding walkCount
 put-repeat-put-requires t c κs =
-    let ready = c .before .before .before .before .before .before .before .before .pre .1 .ready in
-    omega (arith, ready .room, c .before .before .before .before .put-switches .ensures .switch, c .before .before .before .before .put-switches .kept .0)
+    let pre = c .before .before .before .before .before .before .before .before .pre in
+    let put-switches = c .before .before .before .before .put-switches in
+    let ready = pre .1 .ready in
+    omega (arith, ready .room, put-switches .ensures .switch, put-switches .kept .0)
 
 put-repeat-add-t17 : (t : ℕ) → put-repeat-lts.Need-add-t17 (Calls-put-repeat t) (put-repeat-at t) put-repeat.Post
-put-repeat-add-t17 t c =
-    let ready = c .before .before .before .before .before .before .before .before .before .before .before .before .pre .1 .ready in
-    omega (arith, ready .apart, ready .room, ready .small)
+put-repeat-add-t17 t c = search needs
 
 put-repeat-add-t21 : (t : ℕ) → put-repeat-lts.Need-add-t21 (Calls-put-repeat t) (put-repeat-at t) put-repeat.Post
 unfolding walkCount
 put-repeat-add-t21 t c =
-    let ready = c .before .before .before .before .before .before .before .before .before .before .before .before .pre .1 .ready in
-    omega (arith, ready .room, ready .small, c .before .before .before .before .before .before .before .before .put-switches .ensures .switch)
+    let pre = c .before .before .before .before .before .before .before .before .before .before .before .before .pre in
+    let put-switches = c .before .before .before .before .before .before .before .before .put-switches in
+    let ready = pre .1 .ready in
+    omega (arith, ready .room, ready .small, put-switches .ensures .switch)
 
 put-repeat-put-stmt-requires : (t : ℕ) → put-repeat-lts.Need-put-stmt-requires (Calls-put-repeat t) (put-repeat-at t) put-repeat.Post
 put-repeat-put-stmt-requires t c κs =
-    let arm = c .before .before .before .before .before .before .before .before .before .before .before .before .before .before .pre .1 in
-    rw (c .before .before .before .before .before .before .before .next .ensures, c .before .before .before .before .before .put .kept .0, c .before .before .before .before .before .before .before .before .before .before .put-switches .kept .0)
-    (omega (arith, c .before .before .before .before .before .before .before .before .before .before .before .before .before .before .pre .0, arm .here, second-later (arm .laid) (c .before .before .before .before .before .before .before .before .before .before .before .before .before .before .args .i)), (arm .laid, repeat-body (arm .ready) (c .before .before .before .before .before .before .before .before .before .before .put-switches .ensures)))
+    let pre = c .before .before .before .before .before .before .before .before .before .before .before .before .before .before .pre in
+    let next = c .before .before .before .before .before .before .before .next in
+    let put = c .before .before .before .before .before .put in
+    let put-switches = c .before .before .before .before .before .before .before .before .before .before .put-switches in
+    let args = c .before .before .before .before .before .before .before .before .before .before .before .before .before .before .args in
+    let arm = pre .1 in
+    rw (next .ensures, put .kept .0, put-switches .kept .0)
+    (omega (arith, pre .0, arm .here, second-later (arm .laid) (args .i)), (arm .laid, repeat-body (arm .ready) (put-switches .ensures)))
 
 put-repeat-put-requires-2 : (t : ℕ) → put-repeat-lts.Need-put-requires-2 (Calls-put-repeat t) (put-repeat-at t) put-repeat.Post
 unfolding delayCount walkCount
 put-repeat-put-requires-2 t c κs =
-    let ready = c .before .before .before .before .before .before .before .before .before .before .before .before .before .before .before .before .before .before .pre .1 .ready in
-    omega (arith, ready .apart, ready .room, c .before .before .before .before .before .before .before .before .before .before .before .before .before .before .put-switches .kept .0, c .before .before .before .put-stmt .kept .0, c .before .before .before .before .before .before .before .before .before .put .kept .0)
+    let pre = c .before .before .before .before .before .before .before .before .before .before .before .before .before .before .before .before .before .before .pre in
+    let put-switches = c .before .before .before .before .before .before .before .before .before .before .before .before .before .before .put-switches in
+    let put-stmt = c .before .before .before .put-stmt in
+    let put = c .before .before .before .before .before .before .before .before .before .put in
+    let ready = pre .1 .ready in
+    omega (arith, ready .apart, ready .room, put-switches .kept .0, put-stmt .kept .0, put .kept .0)
 
 put-repeat-same-length : (t : ℕ) → put-repeat-lts.Need-same-length (Calls-put-repeat t) (put-repeat-at t) put-repeat.Post
-put-repeat-same-length t c =
-    c .before .before .put2 .kept .0 ∙ c .before .before .before .before .before .before .put-stmt .kept .0 ∙ c .before .before .before .before .before .before .before .before .before .before .before .before .put .kept .0 ∙ c .before .before .before .before .before .before .before .before .before .before .before .before .before .before .before .before .before .put-switches .kept .0
+put-repeat-same-length t c = search needs
 
 put-repeat-returns : (t : ℕ) → put-repeat-lts.Need-returns (Calls-put-repeat t) (put-repeat-at t) put-repeat.Post
 put-repeat-returns t c =
-    repeat-done (c .before .before .before .before .before .before .before .before .before .before .before .before .before .before .before .before .before .before .before .before .before .pre .1 .ready .apart) (c .before .before .before .before .before .before .before .before .before .before .before .before .before .before .before .before .before .put-switches .ensures) (c .before .before .before .before .before .before .before .before .before .before .before .before .put .ensures) (rw (c .before .before .before .before .before .before .before .before .before .before .before .before .before .before .next .ensures) at (c .before .before .before .before .before .before .put-stmt .ensures)) (c .before .before .put2 .ensures)
+    let pre = c .before .before .before .before .before .before .before .before .before .before .before .before .before .before .before .before .before .before .before .before .before .pre in
+    let put-switches = c .before .before .before .before .before .before .before .before .before .before .before .before .before .before .before .before .before .put-switches in
+    let put = c .before .before .before .before .before .before .before .before .before .before .before .before .put in
+    let next = c .before .before .before .before .before .before .before .before .before .before .before .before .before .before .next in
+    let put-stmt = c .before .before .before .before .before .before .put-stmt in
+    let put2 = c .before .before .put2 in
+    repeat-done (pre .1 .ready .apart) (put-switches .ensures) (put .ensures) (rw (next .ensures) at (put-stmt .ensures)) (put2 .ensures)
 
 put-seq-add-put-stmt : (t : ℕ) → put-seq-lts.Need-add-put-stmt (Calls-put-seq t) (put-seq-at t) put-seq.Post
-put-seq-add-put-stmt t c =
-    omega (arith, c .before .before .before .before .pre .1 .here, c .before .before .before .before .pre .1 .laid .short)
+put-seq-add-put-stmt t c = search needs
 
 put-seq-put-stmt-requires : (t : ℕ) → put-seq-lts.Need-put-stmt-requires (Calls-put-seq t) (put-seq-at t) put-seq.Post
 put-seq-put-stmt-requires t c κs =
-    let arm = c .before .before .before .before .pre .1 in
-    (omega (arith, c .before .before .before .before .pre .0, arm .here), (arm .laid, seq-first (arm .ready)))
+    let pre = c .before .before .before .before .pre in
+    let arm = pre .1 in
+    (omega (arith, pre .0, arm .here), (arm .laid, seq-first (arm .ready)))
 
 put-seq-add-next : (t : ℕ) → put-seq-lts.Need-add-next (Calls-put-seq t) (put-seq-at t) put-seq.Post
-put-seq-add-next t c =
-    omega (arith, c .before .before .before .before .before .before .before .pre .1 .here, c .before .before .before .before .before .before .before .pre .1 .laid .short)
+put-seq-add-next t c = search needs
 
 put-seq-next-requires : (t : ℕ) → put-seq-lts.Need-next-requires (Calls-put-seq t) (put-seq-at t) put-seq.Post
-put-seq-next-requires t c κs =
-    c .before .before .before .before .before .before .before .pre .1 .laid
+put-seq-next-requires t c κs = search needs
 
 put-seq-put-stmt-requires-2 : (t : ℕ) → put-seq-lts.Need-put-stmt-requires-2 (Calls-put-seq t) (put-seq-at t) put-seq.Post
 put-seq-put-stmt-requires-2 t c κs =
-    let arm = c .before .before .before .before .before .before .before .before .before .before .pre .1 in
+    let pre = c .before .before .before .before .before .before .before .before .before .before .pre in
+    let next = c .before .before .next in
+    let args = c .before .before .before .before .before .before .before .before .before .before .args in
+    let arm = pre .1 in
     let p = c .before .before .before .before .before .put-stmt in
-    rw (c .before .before .next .ensures, p .kept .0)
-    (omega (arith, c .before .before .before .before .before .before .before .before .before .before .pre .0, arm .here, second-later (arm .laid) (c .before .before .before .before .before .before .before .before .before .before .args .i)), (arm .laid, seq-second (arm .ready) (p .ensures)))
+    rw (next .ensures, p .kept .0)
+    (omega (arith, pre .0, arm .here, second-later (arm .laid) (args .i)), (arm .laid, seq-second (arm .ready) (p .ensures)))
 
 put-seq-same-length : (t : ℕ) → put-seq-lts.Need-same-length (Calls-put-seq t) (put-seq-at t) put-seq.Post
-put-seq-same-length t c =
-    c .before .before .put-stmt2 .kept .0 ∙ c .before .before .before .before .before .before .before .before .put-stmt .kept .0
+put-seq-same-length t c = search needs
 
 put-seq-returns : (t : ℕ) → put-seq-lts.Need-returns (Calls-put-seq t) (put-seq-at t) put-seq.Post
 put-seq-returns t c =
-    seq-done (c .before .before .before .before .before .before .before .before .before .before .before .before .before .pre .1 .ready .apart) (c .before .before .before .before .before .before .before .before .put-stmt .ensures) (rw (c .before .before .before .before .before .next .ensures) at (c .before .before .put-stmt2 .ensures))
+    let pre = c .before .before .before .before .before .before .before .before .before .before .before .before .before .pre in
+    let put-stmt = c .before .before .before .before .before .before .before .before .put-stmt in
+    let next = c .before .before .before .before .before .next in
+    let put-stmt2 = c .before .before .put-stmt2 in
+    seq-done (pre .1 .ready .apart) (put-stmt .ensures) (rw (next .ensures) at (put-stmt2 .ensures))
 
 put-stmt-stmt-node-requires : (t : ℕ) → put-stmt-lts.Need-stmt-node-requires (Calls-put-stmt t) (put-stmt-at t) put-stmt.Post
-put-stmt-stmt-node-requires t c κs =
-    tt
+put-stmt-stmt-node-requires t c κs = search needs
 
 put-stmt-returns : (t : ℕ) → put-stmt-lts.Need-returns (Calls-put-stmt t) (put-stmt-at t) put-stmt.Post
-put-stmt-returns t c =
-    rw (c .before .stmt-node .ensures .nothing (c .if1 .taken)) ok-done
+put-stmt-returns t c = rw (c .before .stmt-node .ensures .nothing (c .if1 .taken)) ok-done
 
 put-stmt-put-requires : (t : ℕ) → put-stmt-lts.Need-put-requires (Calls-put-stmt t) (put-stmt-at t) put-stmt.Post
 unfolding delayCount
 put-stmt-put-requires t c κs =
-    let ready = rw (tick-of (c .before)) at (c .before .before .before .before .before .before .pre .1 .1) in
+    let pre = c .before .before .before .before .before .before .pre in
+    let ready = rw (tick-of (c .before)) at (pre .1 .1) in
     omega (arith, ready .apart, ready .room)
 
 put-stmt-add-t14 : (t : ℕ) → put-stmt-lts.Need-add-t14 (Calls-put-stmt t) (put-stmt-at t) put-stmt.Post
-unfolding delayCount
-put-stmt-add-t14 t c =
-    let ready = rw (tick-of (c .before .before .before .before .before)) at (c .before .before .before .before .before .before .before .before .before .before .pre .1 .1) in
-    omega (arith, ready .apart, ready .room, ready .small)
+put-stmt-add-t14 t c = search needs
 
 put-stmt-same-length : (t : ℕ) → put-stmt-lts.Need-same-length (Calls-put-stmt t) (put-stmt-at t) put-stmt.Post
-put-stmt-same-length t c =
-    c .before .before .before .put .kept .0
+put-stmt-same-length t c = search needs
 
 put-stmt-returns-2 : (t : ℕ) → put-stmt-lts.Need-returns-2 (Calls-put-stmt t) (put-stmt-at t) put-stmt.Post
 put-stmt-returns-2 t c =
-    rw (tick-of (c .before .before .before .before .before)) (tick-done (c .before .before .before .put .ensures))
+    let then2 = c .before .before .before .before .before in
+    let put = c .before .before .before .put in
+    rw (tick-of then2) (tick-done (put .ensures))
 
 put-stmt-put-assign-requires : (t : ℕ) → put-stmt-lts.Need-put-assign-requires (Calls-put-stmt t) (put-stmt-at t) put-stmt.Post
 put-stmt-put-assign-requires t c κs =
-    let here = c .before .before .before .before .before .stmt-node .ensures .here (c .before .before .before .before .if1 .left) in
+    let stmt-node = c .before .before .before .before .before .stmt-node in
+    let else1 = c .before .before .before .before in
+    let pre = c .before .before .before .before .before .before .before .before .pre in
+    let matched = c .before .before .match in
+    let here = stmt-node .ensures .here (else1 .if1 .left) in
     record {
-      laid = c .before .before .before .before .before .before .before .before .pre .1 .0;
+      laid = pre .1 .0;
       here = here .0;
-      ready = rw (at-assign _ _ (here .0) _ (here .2) (c .before .before .match .keys1)) at (c .before .before .before .before .before .before .before .before .pre .1 .1);
+      ready = rw (at-assign _ _ (here .0) _ (here .2) (matched .keys1)) at (pre .1 .1);
     }
 
 put-stmt-put-seq-requires : (t : ℕ) → put-stmt-lts.Need-put-seq-requires (Calls-put-stmt t) (put-stmt-at t) put-stmt.Post
 put-stmt-put-seq-requires t c κs =
-    let here = c .before .before .before .before .before .stmt-node .ensures .here (c .before .before .before .before .if1 .left) in (
-      omega (arith, c .before .before .before .before .before .before .before .before .pre .0, here .0),
-      record { laid = c .before .before .before .before .before .before .before .before .pre .1 .0; here = here .0; ready = rw (seq-read (c .before .before .before .before .before .before .before .before .pre .1 .0) _ _ (here .0) (here .2) (c .before .before .match .keys2)) at (c .before .before .before .before .before .before .before .before .pre .1 .1) },
+    let stmt-node = c .before .before .before .before .before .stmt-node in
+    let else1 = c .before .before .before .before in
+    let pre = c .before .before .before .before .before .before .before .before .pre in
+    let matched = c .before .before .match in
+    let here = stmt-node .ensures .here (else1 .if1 .left) in (
+      omega (arith, pre .0, here .0),
+      record { laid = pre .1 .0; here = here .0; ready = rw (seq-read (pre .1 .0) _ _ (here .0) (here .2) (matched .keys2)) at (pre .1 .1) },
     )
 
 put-stmt-put-par-requires : (t : ℕ) → put-stmt-lts.Need-put-par-requires (Calls-put-stmt t) (put-stmt-at t) put-stmt.Post
 put-stmt-put-par-requires t c κs =
-    let here = c .before .before .before .before .before .stmt-node .ensures .here (c .before .before .before .before .if1 .left) in (
-      omega (arith, c .before .before .before .before .before .before .before .before .pre .0, here .0),
-      record { laid = c .before .before .before .before .before .before .before .before .pre .1 .0; here = here .0; ready = rw (par-read (c .before .before .before .before .before .before .before .before .pre .1 .0) _ _ (here .0) (here .2) (c .before .before .match .keys3)) at (c .before .before .before .before .before .before .before .before .pre .1 .1) },
+    let stmt-node = c .before .before .before .before .before .stmt-node in
+    let else1 = c .before .before .before .before in
+    let pre = c .before .before .before .before .before .before .before .before .pre in
+    let matched = c .before .before .match in
+    let here = stmt-node .ensures .here (else1 .if1 .left) in (
+      omega (arith, pre .0, here .0),
+      record { laid = pre .1 .0; here = here .0; ready = rw (par-read (pre .1 .0) _ _ (here .0) (here .2) (matched .keys3)) at (pre .1 .1) },
     )
 
 put-stmt-put-if-requires : (t : ℕ) → put-stmt-lts.Need-put-if-requires (Calls-put-stmt t) (put-stmt-at t) put-stmt.Post
 put-stmt-put-if-requires t c κs =
-    let here = c .before .before .before .before .before .stmt-node .ensures .here (c .before .before .before .before .if1 .left) in (
-      omega (arith, c .before .before .before .before .before .before .before .before .pre .0, here .0),
-      record { laid = c .before .before .before .before .before .before .before .before .pre .1 .0; here = here .0; ready = rw (ite-read (c .before .before .before .before .before .before .before .before .pre .1 .0) _ _ (here .0) (here .2) (c .before .before .match .keys4)) at (c .before .before .before .before .before .before .before .before .pre .1 .1) },
+    let stmt-node = c .before .before .before .before .before .stmt-node in
+    let else1 = c .before .before .before .before in
+    let pre = c .before .before .before .before .before .before .before .before .pre in
+    let matched = c .before .before .match in
+    let here = stmt-node .ensures .here (else1 .if1 .left) in (
+      omega (arith, pre .0, here .0),
+      record { laid = pre .1 .0; here = here .0; ready = rw (ite-read (pre .1 .0) _ _ (here .0) (here .2) (matched .keys4)) at (pre .1 .1) },
     )
 
 put-stmt-put-while-requires : (t : ℕ) → put-stmt-lts.Need-put-while-requires (Calls-put-stmt t) (put-stmt-at t) put-stmt.Post
 put-stmt-put-while-requires t c κs =
-    let here = c .before .before .before .before .before .stmt-node .ensures .here (c .before .before .before .before .if1 .left) in (
-      omega (arith, c .before .before .before .before .before .before .before .before .pre .0, here .0),
-      record { laid = c .before .before .before .before .before .before .before .before .pre .1 .0; here = here .0; ready = rw (while-read (c .before .before .before .before .before .before .before .before .pre .1 .0) _ _ (here .0) (here .2) (c .before .before .match .keys5)) at (c .before .before .before .before .before .before .before .before .pre .1 .1) },
+    let stmt-node = c .before .before .before .before .before .stmt-node in
+    let else1 = c .before .before .before .before in
+    let pre = c .before .before .before .before .before .before .before .before .pre in
+    let matched = c .before .before .match in
+    let here = stmt-node .ensures .here (else1 .if1 .left) in (
+      omega (arith, pre .0, here .0),
+      record { laid = pre .1 .0; here = here .0; ready = rw (while-read (pre .1 .0) _ _ (here .0) (here .2) (matched .keys5)) at (pre .1 .1) },
     )
 
 put-stmt-put-repeat-requires : (t : ℕ) → put-stmt-lts.Need-put-repeat-requires (Calls-put-stmt t) (put-stmt-at t) put-stmt.Post
 put-stmt-put-repeat-requires t c κs =
-    let here = c .before .before .before .before .before .stmt-node .ensures .here (c .before .before .before .before .if1 .left) in (
-      omega (arith, c .before .before .before .before .before .before .before .before .pre .0, here .0),
-      record { laid = c .before .before .before .before .before .before .before .before .pre .1 .0; here = here .0; ready = rw (repeat-read (c .before .before .before .before .before .before .before .before .pre .1 .0) _ _ (here .0) (here .2) (at-least-23 (here .1) (c .before .before .before .if2 .left) (c .before .before .match .rest))) at (c .before .before .before .before .before .before .before .before .pre .1 .1) },
+    let stmt-node = c .before .before .before .before .before .stmt-node in
+    let else1 = c .before .before .before .before in
+    let pre = c .before .before .before .before .before .before .before .before .pre in
+    let if2 = c .before .before .before .if2 in
+    let matched = c .before .before .match in
+    let here = stmt-node .ensures .here (else1 .if1 .left) in (
+      omega (arith, pre .0, here .0),
+      record { laid = pre .1 .0; here = here .0; ready = rw (repeat-read (pre .1 .0) _ _ (here .0) (here .2) (at-least-23 (here .1) (if2 .left) (matched .rest))) at (pre .1 .1) },
     )
 
 put-stmt-same-length-2 : (t : ℕ) → put-stmt-lts.Need-same-length-2 (Calls-put-stmt t) (put-stmt-at t) put-stmt.Post
-put-stmt-same-length-2 t c =
-    c .before .before .put-assign .kept .0
+put-stmt-same-length-2 t c = search needs
 
 put-stmt-returns-3 : (t : ℕ) → put-stmt-lts.Need-returns-3 (Calls-put-stmt t) (put-stmt-at t) put-stmt.Post
 put-stmt-returns-3 t c =
-    let here = c .before .before .before .before .before .before .before .before .stmt-node .ensures .here (c .before .before .before .before .before .before .before .if1 .left) in
-    rw (at-assign _ _ (here .0) _ (here .2) (c .before .before .before .before .before .match .keys1)) (c .before .before .put-assign .ensures)
+    let stmt-node = c .before .before .before .before .before .before .before .before .stmt-node in
+    let else1 = c .before .before .before .before .before .before .before in
+    let matched = c .before .before .before .before .before .match in
+    let put-assign = c .before .before .put-assign in
+    let here = stmt-node .ensures .here (else1 .if1 .left) in
+    rw (at-assign _ _ (here .0) _ (here .2) (matched .keys1)) (put-assign .ensures)
 
 put-stmt-same-length-3 : (t : ℕ) → put-stmt-lts.Need-same-length-3 (Calls-put-stmt t) (put-stmt-at t) put-stmt.Post
-put-stmt-same-length-3 t c =
-    c .before .before .put-seq .kept .0
+put-stmt-same-length-3 t c = search needs
 
 put-stmt-returns-4 : (t : ℕ) → put-stmt-lts.Need-returns-4 (Calls-put-stmt t) (put-stmt-at t) put-stmt.Post
 put-stmt-returns-4 t c =
-    let here = c .before .before .before .before .before .before .before .before .stmt-node .ensures .here (c .before .before .before .before .before .before .before .if1 .left) in
-    rw (seq-read (c .before .before .before .before .before .before .before .before .before .before .before .pre .1 .0) _ _ (here .0) (here .2) (c .before .before .before .before .before .match .keys2)) (c .before .before .put-seq .ensures)
+    let stmt-node = c .before .before .before .before .before .before .before .before .stmt-node in
+    let else1 = c .before .before .before .before .before .before .before in
+    let pre = c .before .before .before .before .before .before .before .before .before .before .before .pre in
+    let matched = c .before .before .before .before .before .match in
+    let put-seq = c .before .before .put-seq in
+    let here = stmt-node .ensures .here (else1 .if1 .left) in
+    rw (seq-read (pre .1 .0) _ _ (here .0) (here .2) (matched .keys2)) (put-seq .ensures)
 
 put-stmt-same-length-4 : (t : ℕ) → put-stmt-lts.Need-same-length-4 (Calls-put-stmt t) (put-stmt-at t) put-stmt.Post
-put-stmt-same-length-4 t c =
-    c .before .before .put-par .kept .0
+put-stmt-same-length-4 t c = search needs
 
 put-stmt-returns-5 : (t : ℕ) → put-stmt-lts.Need-returns-5 (Calls-put-stmt t) (put-stmt-at t) put-stmt.Post
 put-stmt-returns-5 t c =
-    let here = c .before .before .before .before .before .before .before .before .stmt-node .ensures .here (c .before .before .before .before .before .before .before .if1 .left) in
-    rw (par-read (c .before .before .before .before .before .before .before .before .before .before .before .pre .1 .0) _ _ (here .0) (here .2) (c .before .before .before .before .before .match .keys3)) (c .before .before .put-par .ensures)
+    let stmt-node = c .before .before .before .before .before .before .before .before .stmt-node in
+    let else1 = c .before .before .before .before .before .before .before in
+    let pre = c .before .before .before .before .before .before .before .before .before .before .before .pre in
+    let matched = c .before .before .before .before .before .match in
+    let put-par = c .before .before .put-par in
+    let here = stmt-node .ensures .here (else1 .if1 .left) in
+    rw (par-read (pre .1 .0) _ _ (here .0) (here .2) (matched .keys3)) (put-par .ensures)
 
 put-stmt-same-length-5 : (t : ℕ) → put-stmt-lts.Need-same-length-5 (Calls-put-stmt t) (put-stmt-at t) put-stmt.Post
-put-stmt-same-length-5 t c =
-    c .before .before .put-if .kept .0
+put-stmt-same-length-5 t c = search needs
 
 put-stmt-returns-6 : (t : ℕ) → put-stmt-lts.Need-returns-6 (Calls-put-stmt t) (put-stmt-at t) put-stmt.Post
 put-stmt-returns-6 t c =
-    let here = c .before .before .before .before .before .before .before .before .stmt-node .ensures .here (c .before .before .before .before .before .before .before .if1 .left) in
-    rw (ite-read (c .before .before .before .before .before .before .before .before .before .before .before .pre .1 .0) _ _ (here .0) (here .2) (c .before .before .before .before .before .match .keys4)) (c .before .before .put-if .ensures)
+    let stmt-node = c .before .before .before .before .before .before .before .before .stmt-node in
+    let else1 = c .before .before .before .before .before .before .before in
+    let pre = c .before .before .before .before .before .before .before .before .before .before .before .pre in
+    let matched = c .before .before .before .before .before .match in
+    let put-if = c .before .before .put-if in
+    let here = stmt-node .ensures .here (else1 .if1 .left) in
+    rw (ite-read (pre .1 .0) _ _ (here .0) (here .2) (matched .keys4)) (put-if .ensures)
 
 put-stmt-same-length-6 : (t : ℕ) → put-stmt-lts.Need-same-length-6 (Calls-put-stmt t) (put-stmt-at t) put-stmt.Post
-put-stmt-same-length-6 t c =
-    c .before .before .put-while .kept .0
+put-stmt-same-length-6 t c = search needs
 
 put-stmt-returns-7 : (t : ℕ) → put-stmt-lts.Need-returns-7 (Calls-put-stmt t) (put-stmt-at t) put-stmt.Post
 put-stmt-returns-7 t c =
-    let here = c .before .before .before .before .before .before .before .before .stmt-node .ensures .here (c .before .before .before .before .before .before .before .if1 .left) in
-    rw (while-read (c .before .before .before .before .before .before .before .before .before .before .before .pre .1 .0) _ _ (here .0) (here .2) (c .before .before .before .before .before .match .keys5)) (c .before .before .put-while .ensures)
+    let stmt-node = c .before .before .before .before .before .before .before .before .stmt-node in
+    let else1 = c .before .before .before .before .before .before .before in
+    let pre = c .before .before .before .before .before .before .before .before .before .before .before .pre in
+    let matched = c .before .before .before .before .before .match in
+    let put-while = c .before .before .put-while in
+    let here = stmt-node .ensures .here (else1 .if1 .left) in
+    rw (while-read (pre .1 .0) _ _ (here .0) (here .2) (matched .keys5)) (put-while .ensures)
 
 put-stmt-same-length-7 : (t : ℕ) → put-stmt-lts.Need-same-length-7 (Calls-put-stmt t) (put-stmt-at t) put-stmt.Post
-put-stmt-same-length-7 t c =
-    c .before .before .put-repeat .kept .0
+put-stmt-same-length-7 t c = search needs
 
 put-stmt-returns-8 : (t : ℕ) → put-stmt-lts.Need-returns-8 (Calls-put-stmt t) (put-stmt-at t) put-stmt.Post
 put-stmt-returns-8 t c =
-    let here = c .before .before .before .before .before .before .before .before .stmt-node .ensures .here (c .before .before .before .before .before .before .before .if1 .left) in
-    rw (repeat-read (c .before .before .before .before .before .before .before .before .before .before .before .pre .1 .0) _ _ (here .0) (here .2) (at-least-23 (here .1) (c .before .before .before .before .before .before .if2 .left) (c .before .before .before .before .before .match .rest))) (c .before .before .put-repeat .ensures)
+    let stmt-node = c .before .before .before .before .before .before .before .before .stmt-node in
+    let else1 = c .before .before .before .before .before .before .before in
+    let pre = c .before .before .before .before .before .before .before .before .before .before .before .pre in
+    let if2 = c .before .before .before .before .before .before .if2 in
+    let matched = c .before .before .before .before .before .match in
+    let put-repeat = c .before .before .put-repeat in
+    let here = stmt-node .ensures .here (else1 .if1 .left) in
+    rw (repeat-read (pre .1 .0) _ _ (here .0) (here .2) (at-least-23 (here .1) (if2 .left) (matched .rest))) (put-repeat .ensures)
 
 put-while-add-put-switches : (t : ℕ) → put-while-lts.Need-add-put-switches (Calls-put-while t) (put-while-at t) put-while.Post
-put-while-add-put-switches t c =
-    omega (arith, c .before .before .before .pre .1 .here, c .before .before .before .pre .1 .laid .short)
+put-while-add-put-switches t c = search needs
 
 put-while-put-switches-requires : (t : ℕ) → put-while-lts.Need-put-switches-requires (Calls-put-while t) (put-while-at t) put-while.Post
 put-while-put-switches-requires t c κs =
-    let arm = c .before .before .before .pre .1 in
+    let pre = c .before .before .before .pre in
+    let arm = pre .1 in
     (arm .laid, while-switches (arm .ready))
 
 put-while-add-next : (t : ℕ) → put-while-lts.Need-add-next (Calls-put-while t) (put-while-at t) put-while.Post
-put-while-add-next t c =
-    omega (arith, c .before .before .before .before .before .before .pre .1 .here, c .before .before .before .before .before .before .pre .1 .laid .short)
+put-while-add-next t c = search needs
 
 put-while-next-requires : (t : ℕ) → put-while-lts.Need-next-requires (Calls-put-while t) (put-while-at t) put-while.Post
-put-while-next-requires t c κs =
-    c .before .before .before .before .before .before .pre .1 .laid
+put-while-next-requires t c κs = search needs
 
 put-while-add-t16 : (t : ℕ) → put-while-lts.Need-add-t16 (Calls-put-while t) (put-while-at t) put-while.Post
-put-while-add-t16 t c =
-    let ready = c .before .before .before .before .before .before .before .before .pre .1 .ready in
-    omega (arith, ready .apart, ready .room, ready .small)
+put-while-add-t16 t c = search needs
 
 put-while-add-t17 : (t : ℕ) → put-while-lts.Need-add-t17 (Calls-put-while t) (put-while-at t) put-while.Post
 unfolding walkCount
 put-while-add-t17 t c =
-    let ready = c .before .before .before .before .before .before .before .before .pre .1 .ready in
-    omega (arith, ready .room, ready .small, c .before .before .before .before .put-switches .ensures .switch)
+    let pre = c .before .before .before .before .before .before .before .before .pre in
+    let put-switches = c .before .before .before .before .put-switches in
+    let ready = pre .1 .ready in
+    omega (arith, ready .room, ready .small, put-switches .ensures .switch)
 
 put-while-add-t18 : (t : ℕ) → put-while-lts.Need-add-t18 (Calls-put-while t) (put-while-at t) put-while.Post
 unfolding walkCount
 put-while-add-t18 t c =
-    let ready = c .before .before .before .before .before .before .before .before .pre .1 .ready in
-    omega (arith, ready .room, ready .small, c .before .before .before .before .put-switches .ensures .switch)
+    let pre = c .before .before .before .before .before .before .before .before .pre in
+    let put-switches = c .before .before .before .before .put-switches in
+    let ready = pre .1 .ready in
+    omega (arith, ready .room, ready .small, put-switches .ensures .switch)
 
 put-while-put-stmt-requires : (t : ℕ) → put-while-lts.Need-put-stmt-requires (Calls-put-while t) (put-while-at t) put-while.Post
 put-while-put-stmt-requires t c κs =
-    let arm = c .before .before .before .before .before .before .before .before .before .before .pre .1 in
-    rw (c .before .before .before .next .ensures, c .before .before .before .before .before .before .put-switches .kept .0)
-    (omega (arith, c .before .before .before .before .before .before .before .before .before .before .pre .0, arm .here, second-later (arm .laid) (c .before .before .before .before .before .before .before .before .before .before .args .i)), (arm .laid, while-body (arm .ready) (c .before .before .before .before .before .before .put-switches .ensures)))
+    let pre = c .before .before .before .before .before .before .before .before .before .before .pre in
+    let next = c .before .before .before .next in
+    let put-switches = c .before .before .before .before .before .before .put-switches in
+    let args = c .before .before .before .before .before .before .before .before .before .before .args in
+    let arm = pre .1 in
+    rw (next .ensures, put-switches .kept .0)
+    (omega (arith, pre .0, arm .here, second-later (arm .laid) (args .i)), (arm .laid, while-body (arm .ready) (put-switches .ensures)))
 
 put-while-put-requires : (t : ℕ) → put-while-lts.Need-put-requires (Calls-put-while t) (put-while-at t) put-while.Post
 unfolding walkCount
 put-while-put-requires t c κs =
-    let ready = c .before .before .before .before .before .before .before .before .before .before .before .before .before .before .pre .1 .ready in
+    let pre = c .before .before .before .before .before .before .before .before .before .before .before .before .before .before .pre in
+    let next = c .before .before .before .before .before .before .before .next in
+    let ready = pre .1 .ready in
     let switches = c .before .before .before .before .before .before .before .before .before .before .put-switches in
     let p = c .before .before .before .put-stmt in
-    let done = rw (c .before .before .before .before .before .before .before .next .ensures) at (p .ensures) in
+    let done = rw (next .ensures) at (p .ensures) in
     omega (arith, ready .room, switches .ensures .switch, done .cell, switches .kept .0, p .kept .0)
 
 put-while-put-requires-2 : (t : ℕ) → put-while-lts.Need-put-requires-2 (Calls-put-while t) (put-while-at t) put-while.Post
 unfolding delayCount walkCount
 put-while-put-requires-2 t c κs =
-    let ready = c .before .before .before .before .before .before .before .before .before .before .before .before .before .before .before .before .before .before .pre .1 .ready in
-    omega (arith, ready .apart, ready .room, c .before .before .before .before .before .before .before .before .before .before .before .before .before .before .put-switches .kept .0, c .before .before .before .before .before .before .before .put-stmt .kept .0, c .before .before .before .put .kept .0)
+    let pre = c .before .before .before .before .before .before .before .before .before .before .before .before .before .before .before .before .before .before .pre in
+    let put-switches = c .before .before .before .before .before .before .before .before .before .before .before .before .before .before .put-switches in
+    let put-stmt = c .before .before .before .before .before .before .before .put-stmt in
+    let put = c .before .before .before .put in
+    let ready = pre .1 .ready in
+    omega (arith, ready .apart, ready .room, put-switches .kept .0, put-stmt .kept .0, put .kept .0)
 
 put-while-add-t16-2 : (t : ℕ) → put-while-lts.Need-add-t16-2 (Calls-put-while t) (put-while-at t) put-while.Post
-unfolding walkCount
-put-while-add-t16-2 t c =
-    let ready = c .before .before .before .before .before .before .before .before .before .before .before .before .before .before .before .before .before .before .before .before .before .pre .1 .ready in
-    omega (arith, ready .room, ready .small, c .before .before .before .before .before .before .before .before .before .before .before .before .before .before .before .before .before .put-switches .ensures .switch)
+put-while-add-t16-2 t c = search needs
 
 put-while-add-t17-2 : (t : ℕ) → put-while-lts.Need-add-t17-2 (Calls-put-while t) (put-while-at t) put-while.Post
 unfolding walkCount
 put-while-add-t17-2 t c =
-    let ready = c .before .before .before .before .before .before .before .before .before .before .before .before .before .before .before .before .before .before .before .before .before .before .pre .1 .ready in
-    let done = rw (c .before .before .before .before .before .before .before .before .before .before .before .before .before .before .before .next .ensures) at (c .before .before .before .before .before .before .before .before .before .before .before .put-stmt .ensures) in
-    omega (arith, ready .room, ready .small, c .before .before .before .before .before .before .before .before .before .before .before .before .before .before .before .before .before .before .put-switches .ensures .switch, done .cell)
+    let pre = c .before .before .before .before .before .before .before .before .before .before .before .before .before .before .before .before .before .before .before .before .before .before .pre in
+    let next = c .before .before .before .before .before .before .before .before .before .before .before .before .before .before .before .next in
+    let put-stmt = c .before .before .before .before .before .before .before .before .before .before .before .put-stmt in
+    let put-switches = c .before .before .before .before .before .before .before .before .before .before .before .before .before .before .before .before .before .before .put-switches in
+    let ready = pre .1 .ready in
+    let done = rw (next .ensures) at (put-stmt .ensures) in
+    omega (arith, ready .room, ready .small, put-switches .ensures .switch, done .cell)
 
 put-while-same-length : (t : ℕ) → put-while-lts.Need-same-length (Calls-put-while t) (put-while-at t) put-while.Post
-put-while-same-length t c =
-    c .before .before .before .put2 .kept .0 ∙ c .before .before .before .before .before .before .before .put .kept .0 ∙ c .before .before .before .before .before .before .before .before .before .before .before .put-stmt .kept .0 ∙ c .before .before .before .before .before .before .before .before .before .before .before .before .before .before .before .before .before .before .put-switches .kept .0
+put-while-same-length t c = search needs
 
 put-while-returns : (t : ℕ) → put-while-lts.Need-returns (Calls-put-while t) (put-while-at t) put-while.Post
 put-while-returns t c =
-    while-done (c .before .before .before .before .before .before .before .before .before .before .before .before .before .before .before .before .before .before .before .before .before .before .pre .1 .ready .apart) (c .before .before .before .before .before .before .before .before .before .before .before .before .before .before .before .before .before .before .put-switches .ensures) (rw (c .before .before .before .before .before .before .before .before .before .before .before .before .before .before .before .next .ensures) at (c .before .before .before .before .before .before .before .before .before .before .before .put-stmt .ensures)) (c .before .before .before .before .before .before .before .put .ensures) (c .before .before .before .put2 .ensures)
+    let pre = c .before .before .before .before .before .before .before .before .before .before .before .before .before .before .before .before .before .before .before .before .before .before .pre in
+    let put-switches = c .before .before .before .before .before .before .before .before .before .before .before .before .before .before .before .before .before .before .put-switches in
+    let next = c .before .before .before .before .before .before .before .before .before .before .before .before .before .before .before .next in
+    let put-stmt = c .before .before .before .before .before .before .before .before .before .before .before .put-stmt in
+    let put = c .before .before .before .before .before .before .before .put in
+    let put2 = c .before .before .before .put2 in
+    while-done (pre .1 .ready .apart) (put-switches .ensures) (rw (next .ensures) at (put-stmt .ensures)) (put .ensures) (put2 .ensures)
 
 pub +put-if+put-par+put-repeat+put-seq+put-stmt+put-while-spec : {M : Type 1} → statement M
 +put-if+put-par+put-repeat+put-seq+put-stmt+put-while-spec =

@@ -14,31 +14,42 @@ add-put-expr c = search needs
 
 put-expr-requires : tie.Need-put-expr-requires
 put-expr-requires c κs =
-    (c .before .before .before .pre .laid, assign-expr (c .before .before .before .pre .ready))
+    let pre = c .before .before .before .pre in
+    (pre .laid, assign-expr (pre .ready))
 
 put-requires : tie.Need-put-requires
 unfolding walkCount
 put-requires c κs =
-    let ready = c .before .before .before .before .before .before .before .pre .ready in
-    omega (arith, ready .room, c .before .before .before .put-expr .ensures .cell, c .before .before .before .put-expr .kept .0)
+    let pre = c .before .before .before .before .before .before .before .pre in
+    let put-expr = c .before .before .before .put-expr in
+    let ready = pre .ready in
+    omega (arith, ready .room, put-expr .ensures .cell, put-expr .kept .0)
 
 put-requires-2 : tie.Need-put-requires-2
 unfolding delayCount walkCount
 put-requires-2 c κs =
-    let ready = c .before .before .before .before .before .before .before .before .before .before .before .pre .ready in
-    omega (arith, ready .apart, ready .room, c .before .before .before .before .before .before .before .put-expr .kept .0, c .before .before .before .put .kept .0)
+    let pre = c .before .before .before .before .before .before .before .before .before .before .before .pre in
+    let put-expr = c .before .before .before .before .before .before .before .put-expr in
+    let put = c .before .before .before .put in
+    let ready = pre .ready in
+    omega (arith, ready .apart, ready .room, put-expr .kept .0, put .kept .0)
 
 add-put : tie.Need-add-put
 unfolding delayCount
 add-put c =
-    let ready = c .before .before .before .before .before .before .before .before .before .before .before .before .before .before .before .before .pre .ready in
+    let pre = c .before .before .before .before .before .before .before .before .before .before .before .before .before .before .before .before .pre in
+    let ready = pre .ready in
     omega (arith, ready .apart, ready .room, ready .small)
 
 put-requires-3 : tie.Need-put-requires-3
 unfolding delayCount walkCount
 put-requires-3 c κs =
-    let ready = c .before .before .before .before .before .before .before .before .before .before .before .before .before .before .before .before .pre .ready in
-    omega (arith, ready .apart, ready .room, c .before .before .before .before .before .before .before .before .before .before .before .before .put-expr .kept .0, c .before .before .before .before .before .before .before .before .put .kept .0, c .before .before .before .before .put2 .kept .0)
+    let pre = c .before .before .before .before .before .before .before .before .before .before .before .before .before .before .before .before .pre in
+    let put-expr = c .before .before .before .before .before .before .before .before .before .before .before .before .put-expr in
+    let put = c .before .before .before .before .before .before .before .before .put in
+    let put2 = c .before .before .before .before .put2 in
+    let ready = pre .ready in
+    omega (arith, ready .apart, ready .room, put-expr .kept .0, put .kept .0, put2 .kept .0)
 
 mul-marks : tie.Need-mul-marks
 mul-marks c = search needs
@@ -46,7 +57,8 @@ mul-marks c = search needs
 element-write-marks : tie.Need-element-write-marks
 unfolding assignments
 element-write-marks c =
-    omega (arith, c .before .before .before .before .before .before .before .before .before .before .before .before .before .before .before .before .before .before .before .pre .ready .marks)
+    let pre = c .before .before .before .before .before .before .before .before .before .before .before .before .before .before .before .before .before .before .before .pre in
+    omega (arith, pre .ready .marks)
 
 add-marks : tie.Need-add-marks
 add-marks c = search needs
@@ -57,7 +69,8 @@ mul-marks-2 c = search needs
 element-write-marks-2 : tie.Need-element-write-marks-2
 unfolding assignments
 element-write-marks-2 c =
-    omega (arith, c .before .before .before .before .before .before .before .before .before .before .before .before .before .before .before .before .before .before .before .pre .ready .marks)
+    let pre = c .before .before .before .before .before .before .before .before .before .before .before .before .before .before .before .before .before .before .before .pre in
+    omega (arith, pre .ready .marks)
 
 add-marks-2 : tie.Need-add-marks-2
 add-marks-2 c = search needs
@@ -68,37 +81,48 @@ mul-marks-3 c = search needs
 element-write-marks-3 : tie.Need-element-write-marks-3
 unfolding assignments
 element-write-marks-3 c =
-    omega (arith, c .before .before .before .before .before .before .before .before .before .before .before .before .before .before .before .before .before .before .before .pre .ready .marks)
+    let pre = c .before .before .before .before .before .before .before .before .before .before .before .before .before .before .before .before .before .before .before .pre in
+    omega (arith, pre .ready .marks)
 
 add-t21 : tie.Need-add-t21
 unfolding delayCount
 add-t21 c =
-    let ready = c .before .before .before .before .before .before .before .before .before .before .before .before .before .before .before .before .before .before .before .before .pre .ready in
+    let pre = c .before .before .before .before .before .before .before .before .before .before .before .before .before .before .before .before .before .before .before .before .pre in
+    let ready = pre .ready in
     omega (arith, ready .apart, ready .room, ready .small)
 
 add-t29 : tie.Need-add-t29
 unfolding delayCount
 add-t29 c =
-    let ready = c .before .before .before .before .before .before .before .before .before .before .before .before .before .before .before .before .before .before .before .before .before .pre .ready in
+    let pre = c .before .before .before .before .before .before .before .before .before .before .before .before .before .before .before .before .before .before .before .before .before .pre in
+    let ready = pre .ready in
     omega (arith, ready .apart, ready .room, ready .small)
 
 add-t30 : tie.Need-add-t30
 unfolding walkCount
 add-t30 c =
-    let ready = c .before .before .before .before .before .before .before .before .before .before .before .before .before .before .before .before .before .before .before .before .before .before .pre .ready in
-    omega (arith, ready .room, ready .small, c .before .before .before .before .before .before .before .before .before .before .before .before .before .before .before .before .before .before .put-expr .ensures .cell)
+    let pre = c .before .before .before .before .before .before .before .before .before .before .before .before .before .before .before .before .before .before .before .before .before .before .pre in
+    let put-expr = c .before .before .before .before .before .before .before .before .before .before .before .before .before .before .before .before .before .before .put-expr in
+    let ready = pre .ready in
+    omega (arith, ready .room, ready .small, put-expr .ensures .cell)
 
 add-t24 : tie.Need-add-t24
 unfolding assignments
 add-t24 c =
-    omega (arith, c .before .before .before .before .before .before .before .before .before .before .before .before .before .before .before .before .before .before .before .before .before .before .pre .ready .marks)
+    let pre = c .before .before .before .before .before .before .before .before .before .before .before .before .before .before .before .before .before .before .before .before .before .before .pre in
+    omega (arith, pre .ready .marks)
 
 same-length : tie.Need-same-length
 same-length c = search needs
 
 returns : tie.Need-returns
 returns c =
-    assign-done (c .before .before .before .before .before .before .before .before .before .before .before .before .before .before .before .before .before .before .before .before .before .before .pre .ready .apart) (c .before .before .before .before .before .before .before .before .before .before .before .before .before .before .before .before .before .before .put-expr .ensures) (c .before .before .before .before .before .before .before .before .before .before .before .before .before .before .put .ensures) (c .before .before .before .before .before .before .before .before .before .before .put2 .ensures) (c .before .before .before .before .before .put3 .ensures) refl
+    let pre = c .before .before .before .before .before .before .before .before .before .before .before .before .before .before .before .before .before .before .before .before .before .before .pre in
+    let put-expr = c .before .before .before .before .before .before .before .before .before .before .before .before .before .before .before .before .before .before .put-expr in
+    let put = c .before .before .before .before .before .before .before .before .before .before .before .before .before .before .put in
+    let put2 = c .before .before .before .before .before .before .before .before .before .before .put2 in
+    let put3 = c .before .before .before .before .before .put3 in
+    assign-done (pre .ready .apart) (put-expr .ensures) (put .ensures) (put2 .ensures) (put3 .ensures) refl
 
 pub put-assign-spec : {M : Type 1} → statement M
 put-assign-spec =

@@ -5,8 +5,7 @@ use Rattle.compiler.proofs.walk.put_own.Statement.{statement}
 use Rattle.compiler.proofs.walk.put_own.Tie as tie
 
 returns : tie.Need-returns
-returns c =
-    own-none (c .if1 .taken)
+returns c = own-none (c .if1 .taken)
 
 put-requires : tie.Need-put-requires
 put-requires c κs = search needs
@@ -19,7 +18,9 @@ same-length c = search needs
 
 returns-2 : tie.Need-returns-2
 returns-2 c =
-    own-some _ (c .before .before .before .before .if1 .left) (c .before .before .put .ensures)
+    let if1 = c .before .before .before .before .if1 in
+    let put = c .before .before .put in
+    own-some _ (if1 .left) (put .ensures)
 
 pub put-own-spec : {M : Type 1} → statement M
 put-own-spec = tie.close (tie.spec returns put-requires add-t9 same-length returns-2)

@@ -21,7 +21,10 @@ same-length c = search needs
 
 returns : tie.Need-returns
 returns c =
-    switches-done (c .before .before .before .before .before .before .before .before .before .before .before .put-expr .ensures) (c .before .before .before .before .before .before .before .put .ensures) (c .before .before .put2 .ensures)
+    let put-expr = c .before .before .before .before .before .before .before .before .before .before .before .put-expr in
+    let put = c .before .before .before .before .before .before .before .put in
+    let put2 = c .before .before .put2 in
+    switches-done (put-expr .ensures) (put .ensures) (put2 .ensures)
 
 pub put-switches-spec : {M : Type 1} → statement M
 put-switches-spec =

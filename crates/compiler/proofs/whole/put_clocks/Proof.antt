@@ -7,18 +7,24 @@ use Rattle.compiler.proofs.whole.put_clocks.Tie as tie
 
 put-stmt-requires : tie.Need-put-stmt-requires
 put-stmt-requires c κs =
-    (c .before .before .before .before .pre .laid, first-ready (c .before .before .before .before .pre))
+    let pre = c .before .before .before .before .pre in
+    (pre .laid, first-ready pre)
 
 put-ors-requires : tie.Need-put-ors-requires
 put-ors-requires c κs =
-    rw (c .before .before .before .before .before .put-stmt .kept .0) (clocks-ready (c .before .before .before .before .before .before .before .before .before .before .pre) (c .before .before .before .before .before .put-stmt .ensures) refl)
+    let put-stmt = c .before .before .before .before .before .put-stmt in
+    let pre = c .before .before .before .before .before .before .before .before .before .before .pre in
+    rw (put-stmt .kept .0) (clocks-ready pre (put-stmt .ensures) refl)
 
 same-length : tie.Need-same-length
 same-length c = search needs
 
 returns : tie.Need-returns
 returns c =
-    clocked (c .before .before .before .before .before .before .before .before .before .before .before .before .before .pre) (c .before .before .before .before .before .before .before .before .put-stmt .ensures) refl (c .before .before .put-ors .ensures)
+    let pre = c .before .before .before .before .before .before .before .before .before .before .before .before .before .pre in
+    let put-stmt = c .before .before .before .before .before .before .before .before .put-stmt in
+    let put-ors = c .before .before .put-ors in
+    clocked pre (put-stmt .ensures) refl (put-ors .ensures)
 
 pub put-clocks-spec : {M : Type 1} → statement M
 put-clocks-spec = tie.close (tie.spec put-stmt-requires put-ors-requires same-length returns)

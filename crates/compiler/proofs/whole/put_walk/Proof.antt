@@ -8,22 +8,29 @@ use Rattle.compiler.proofs.whole.put_walk.Tie as tie
 
 add-t11 : tie.Need-add-t11
 add-t11 c =
-    omega (arith, walk-low (c .before .before .pre .0) (c .before .before .pre .1))
+    let pre = c .before .before .pre in
+    omega (arith, walk-low (pre .0) (pre .1))
 
 put-stmt-requires : tie.Need-put-stmt-requires
 put-stmt-requires c κs =
-    (c .before .before .before .before .pre .0 .laid, walk-ready (c .before .before .before .before .pre .0) (c .before .before .before .before .pre .1))
+    let pre = c .before .before .before .before .pre in
+    (pre .0 .laid, walk-ready (pre .0) (pre .1))
 
 put-ors-requires : tie.Need-put-ors-requires
 put-ors-requires c κs =
-    rw (c .before .before .before .before .before .put-stmt .kept .0) (datas-ready (c .before .before .before .before .before .before .before .before .before .before .pre .0) (c .before .before .before .before .before .before .before .before .before .before .pre .1) (c .before .before .before .before .before .put-stmt .ensures) refl)
+    let put-stmt = c .before .before .before .before .before .put-stmt in
+    let pre = c .before .before .before .before .before .before .before .before .before .before .pre in
+    rw (put-stmt .kept .0) (datas-ready (pre .0) (pre .1) (put-stmt .ensures) refl)
 
 same-length : tie.Need-same-length
 same-length c = search needs
 
 returns : tie.Need-returns
 returns c =
-    walked (c .before .before .before .before .before .before .before .before .before .before .before .before .before .before .pre .0) (c .before .before .before .before .before .before .before .before .before .before .before .before .before .before .pre .1) (c .before .before .before .before .before .before .before .before .before .put-stmt .ensures) refl (c .before .before .before .put-ors .ensures)
+    let pre = c .before .before .before .before .before .before .before .before .before .before .before .before .before .before .pre in
+    let put-stmt = c .before .before .before .before .before .before .before .before .before .put-stmt in
+    let put-ors = c .before .before .before .put-ors in
+    walked (pre .0) (pre .1) (put-stmt .ensures) refl (put-ors .ensures)
 
 pub put-walk-spec : {M : Type 1} → statement M
 put-walk-spec = tie.close (tie.spec add-t11 put-stmt-requires put-ors-requires same-length returns)

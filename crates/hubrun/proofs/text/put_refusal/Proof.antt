@@ -1,6 +1,5 @@
 -- `text::put_refusal` meets its contract: three puts side by side. Assumes nothing.
 use mathlib.Core.List.{List, [], _∷_, _++_, append-assoc}
-use mathlib.Core.Path.{_≡_, sym}
 use Prim.Native.Nat.{ℕ, _+_}
 use native.Mathlib.Omega.{arith}
 use borrow.Author.Needs.{needs}
@@ -43,8 +42,8 @@ returns c =
     let p = decimal (start .args .place) in
     let w : List ℕ = 114 ∷ 101 ∷ 102 ∷ 117 ∷ 115 ∷ 101 ∷ 100 ∷ 32 ∷ [] in
     let both = put-both (word .put-word .last .0) (word .put-word .result) (n ++ (32 ∷ [])) (p ++ (10 ∷ []))
-        (number-put (word .put-word .last .0) (word .put-word .result) n 32 (number .put-number .ensures))
-        (number-put (number .put-number .last .0) (number .put-number .result) p 10 (place .put-number2 .ensures)) in
+    (number-put (word .put-word .last .0) (word .put-word .result) n 32 (number .put-number .ensures))
+    (number-put (number .put-number .last .0) (number .put-number .result) p 10 (place .put-number2 .ensures)) in
     let all = put-both d 0 w (n ++ (32 ∷ (p ++ (10 ∷ [])))) (word .put-word .ensures) (rw append-assoc at both) in
     put-over d (w ++ (n ++ (32 ∷ (p ++ (10 ∷ []))))) all
     (omega (arith, start .pre, decimal-length (start .args .number), decimal-length (start .args .place), word .put-word .ensures .0, number .put-number .ensures .0, place .put-number2 .ensures .0))

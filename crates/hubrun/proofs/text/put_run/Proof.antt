@@ -1,6 +1,6 @@
 -- `text::put_run` meets its contract: three puts side by side. Assumes nothing.
-use mathlib.Core.List.{List, [], _∷_, _++_, map}
-use Prim.Native.Nat.{ℕ, _+_}
+use mathlib.Core.List.{[], _∷_, _++_, map}
+use Prim.Native.Nat.{_+_}
 use native.Mathlib.Omega.{arith}
 use borrow.Author.Needs.{needs}
 use Rattle.model.specs.Hubrun.{decimal, line}
@@ -39,7 +39,7 @@ returns c =
     let n = decimal (start .args .instant) in
     let l = line (map decimal (start .args .words)) in
     let first = put-both d 0 w (n ++ (10 ∷ [])) (word .put-word .ensures)
-        (number-put (word .put-word .last .0) (word .put-word .result) n 10 (number .put-number .ensures)) in
+    (number-put (word .put-word .last .0) (word .put-word .result) n 10 (number .put-number .ensures)) in
     put-over d ((w ++ (n ++ (10 ∷ []))) ++ l) (put-both d 0 (w ++ (n ++ (10 ∷ []))) l first (words .put-words .ensures))
     (omega (arith, start .pre, decimal-length (start .args .instant), line-length (start .args .words), word .put-word .ensures .0, number .put-number .ensures .0, words .put-words .ensures .0))
 

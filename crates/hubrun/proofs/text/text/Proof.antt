@@ -1,6 +1,4 @@
 -- `text::text` meets its contract: too short an input, or a run. Assumes nothing.
-use mathlib.Core.Path.{_∙_, sym, ap}
-use Rattle.model.specs.Hubrun.{textOf}
 use Rattle.hubrun.proofs.Texts.{short-text, long-text}
 use borrow.Author.Needs.{needs}
 use Rattle.hubrun.proofs.text.text.Statement.{statement}

@@ -1,0 +1,52 @@
+//! Lists the netlist of a program: bytes of the program on standard input, a
+//! line for each cell on standard output.
+
+use std::io::Read;
+
+fn main() {
+    let mut program = Vec::new();
+    std::io::stdin()
+        .read_to_end(&mut program)
+        .expect("a readable standard input");
+    let mut file = vec![0; 6_656];
+    let compiled = proved::compile(&program, &mut file);
+    if compiled.kind == proved::Kind::Refused {
+        println!("refused {} {}", compiled.number, compiled.place);
+        std::process::exit(1);
+    }
+    let mut cells = vec![0; 6 * 1_024];
+    let read = proved::read_netlist(&file[..compiled.first as usize], &mut cells);
+    println!("{} cells, finish {}", read.first, read.second);
+    for (number, cell) in cells.chunks(6).take(read.first as usize).enumerate() {
+        println!("{number:4}  {}", text(cell));
+    }
+}
+
+/// A cell: its kind by name, and the fields that it uses.
+fn text(cell: &[u8]) -> String {
+    let (delay, a, b) = (
+        cell[1],
+        u16::from_le_bytes([cell[2], cell[3]]),
+        u16::from_le_bytes([cell[4], cell[5]]),
+    );
+    match cell[0] {
+        1 => format!("constant {a}"),
+        3 => format!("complement {a}"),
+        4 => format!("plus {a} {b}"),
+        5 => format!("minus {a} {b}"),
+        6 => format!("and {a} {b}"),
+        7 => format!("or {a} {b}"),
+        8 => format!("equal {a} {b}"),
+        9 => format!("less {a} {b}"),
+        32 => "start".to_string(),
+        33 => "ground".to_string(),
+        34 => format!("delay {delay} of {a}"),
+        35 => format!("either {a} {b}"),
+        36 => format!("when true {a} by {b}"),
+        37 => format!("when false {a} by {b}"),
+        38 => format!("merge {a} {b}"),
+        40 => format!("memory clock {a} data {b}"),
+        41 => format!("gated {b} by {a}"),
+        kind => format!("kind {kind} {delay} {a} {b}"),
+    }
+}

@@ -6,8 +6,13 @@ pub mod Circuit
 pub mod Numbering
 pub mod NetlistFile
 pub mod State
+pub mod Text
+pub mod Reader
 pub mod Calls
+pub mod TextCalls
 pub mod Hubrun
 pub mod Promises
+pub mod TextPromises
 pub mod Netlists
 pub mod Cases
+pub mod Texts

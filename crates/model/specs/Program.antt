@@ -10,7 +10,7 @@ use Rattle.model.specs.declared.Node.{Node}
 use Rattle.model.specs.declared.Row.{Row}
 use Rattle.model.specs.declared.Checked.{Checked}
 use Rattle.model.specs.declared.Checked.the-variants.{Accepted}
-use Rattle.model.specs.Word.{pick, get16}
+use Rattle.model.specs.Word.{pick, get16, bytes16}
 use Rattle.model.specs.Refusals.{refuse, refuseIf, first, firstFault, faultIf}
 
 -- Nodes -----------------------------------------------------------------------------------------------------------------------------
@@ -30,6 +30,14 @@ nodesFrom s i (suc k) = nodeAt s i ∷ nodesFrom s (i + 1) k
 -- all nodes from node i on
 abbrev pub nodesAt : List ℕ → ℕ → List Node
 nodesAt s i = nodesFrom s i (nodeCount s - i)
+
+abbrev pub node : ℕ → ℕ → ℕ → Node
+node k d n = record { kind = k; delay = d; n = n }
+
+-- the bytes of nodes
+unfoldable pub nodeBytes : List Node → List ℕ
+nodeBytes [] = []
+nodeBytes (a ∷ rest) = a .kind ∷ a .delay ∷ (bytes16 (a .n) ++ nodeBytes rest)
 
 -- The table --------------------------------------------------------------------------------------------------------------------------
 
@@ -154,6 +162,23 @@ stmtAt s i = asStmt (getD (treesAt s i) 0 none)
 -- "node 0 is the root and a statement": the statement that a program is
 abbrev pub programOf : List ℕ → Stmt
 programOf s = stmtAt s 0
+
+-- the nodes of a tree, "in the order named"
+unfoldable pub preorderE : Expr → List Node
+preorderE (const n) = node 1 0 n ∷ []
+preorderE (var n) = node 2 0 n ∷ []
+preorderE (compl e) = node 3 0 0 ∷ preorderE e
+preorderE (op k a b) = node k 0 0 ∷ preorderE a ++ preorderE b
+
+unfoldable pub preorder : Stmt → List Node
+preorder ok = node 16 0 0 ∷ []
+preorder (tick d) = node 17 d 0 ∷ []
+preorder (assign d x e) = node 18 d x ∷ preorderE e
+preorder (seq P Q) = node 19 0 0 ∷ preorder P ++ preorder Q
+preorder (par P Q) = node 20 0 0 ∷ preorder P ++ preorder Q
+preorder (ite d e P Q) = node 21 d 0 ∷ preorderE e ++ (preorder P ++ preorder Q)
+preorder (while d e P) = node 22 d 0 ∷ preorderE e ++ preorder P
+preorder (repeat d e P) = node 23 d 0 ∷ preorderE e ++ preorder P
 
 -- Times, reads and writes --------------------------------------------------------------------------------------------------------------
 

@@ -61,6 +61,25 @@ pub struct Cell {
     pub b: u16,
 }
 
+// A token of a program's text; specs/Text says what its code and value mean.
+pub struct Token {
+    pub code: u8,
+    pub value: u16,
+}
+
+// What the reader of a text expects next; specs/Reader says what it does then.
+pub enum Mode {
+    Statement,
+    AfterStatement,
+    Operand,
+    AfterOperand,
+    Becomes,
+    Ticks,
+    Delay,
+    Body,
+    Broken,
+}
+
 // The two bits that a merge cell holds between instants.
 pub struct Merge {
     pub a: bool,

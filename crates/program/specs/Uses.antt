@@ -11,10 +11,10 @@ use lib.Dec.{eqb}
 use borrow.Author.Tests.{lt-ltb, ne-eqb}
 use Rattle.model.specs.declared.Node.{Node}
 use Rattle.model.specs.Word.{pick}
-use Rattle.model.specs.Program.{Expr, const, var, compl, op, Stmt, ok, tick, assign, seq, par, ite, while, repeat, Tree, stmt, nodeAt, nodeCount, nodesFrom, none, treesAt, stmtAt, reads, writes, touches}
-use Rattle.theory.specs.Program.Trees.{node, nodes-step, nodes-none, treeAt, trees-none}
+use Rattle.model.specs.Program.{Expr, const, var, compl, op, Stmt, ok, tick, assign, seq, par, ite, while, repeat, Tree, stmt, nodeAt, nodeCount, nodesFrom, none, treesAt, stmtAt, reads, writes, touches, preorderE, preorder, node}
+use Rattle.theory.specs.Program.Trees.{nodes-step, nodes-none, treeAt, trees-none}
 use Rattle.program.specs.Ends.{Laid, past, past-trees, past-within}
-use Rattle.theory.specs.Program.Preorder.{preorderE, preorder, nodesOf, KnownE, Known, KnownT}
+use Rattle.theory.specs.Program.Preorder.{nodesOf, KnownE, Known, KnownT}
 use Rattle.theory.specs.Program.Passed.{Readable, known-at, par-sides}
 use Rattle.program.specs.Ranges.{subtree}
 

@@ -14,10 +14,9 @@ use Rattle.model.specs.declared.Node.{Node}
 use Rattle.model.specs.declared.Row.{Row}
 use Rattle.model.specs.Word.{pick}
 use Rattle.model.specs.Refusals.{faultIf}
-use Rattle.model.specs.Program.{Expr, op, Stmt, Tree, expr, stmt, table, rowOf, asExpr, asStmt, exprOf, stmtOf, treeOf, grow, spare, faultOf, children}
+use Rattle.model.specs.Program.{Expr, op, Stmt, Tree, expr, stmt, table, rowOf, asExpr, asStmt, exprOf, stmtOf, treeOf, grow, spare, faultOf, children, preorderE, preorder, node}
 use Rattle.theory.specs.Refusals.Laws.{fault-unless}
-use Rattle.theory.specs.Program.Trees.{node}
-use Rattle.theory.specs.Program.Preorder.{preorderE, preorder, allNodes, sortsOf, AllKnown}
+use Rattle.theory.specs.Program.Preorder.{allNodes, sortsOf, AllKnown}
 
 infixl 20 _then_
 -- Trees of a wanted sort ---------------------------------------------------------------------------------------------------------------

@@ -11,10 +11,10 @@ use lib.Dec.{ltb, eqb}
 use borrow.Author.Tests.{ltb-false}
 use Rattle.model.specs.declared.Checked.the-variants.{Accepted}
 use Rattle.model.specs.Refusals.{first}
-use Rattle.model.specs.Program.{Tree, stmt, nodeAt, nodeCount, nodesAt, rowOf, none, asStmt, treesAt, stmtAt, programOf, paperTime, least, clashes, programLengthWrong, faultOf, children, reading, slowAt, clashAt, programChecks, checkOf}
+use Rattle.model.specs.Program.{Tree, stmt, nodeAt, nodeCount, nodesAt, rowOf, none, asStmt, treesAt, stmtAt, programOf, paperTime, least, clashes, programLengthWrong, faultOf, children, reading, slowAt, clashAt, programChecks, checkOf, preorder}
 use Rattle.theory.specs.Refusals.Laws.{not-refused, pick-true, or-false, all-accept, accept-take, refuse-unless, fault-unless, first-place}
 use Rattle.theory.specs.Program.Trees.{nodes-step, treeAt}
-use Rattle.theory.specs.Program.Preorder.{preorder, allNodes, sortsOf, Known, KnownT, AllKnown}
+use Rattle.theory.specs.Program.Preorder.{allNodes, sortsOf, Known, KnownT, AllKnown}
 use Rattle.theory.specs.Program.Grows.{first-stmt, two-stmts}
 use Rattle.theory.specs.Program.Whole.{Whole, whole}
 

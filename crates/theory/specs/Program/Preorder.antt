@@ -1,26 +1,9 @@
--- The nodes of a tree, each before its children, and the sorts of a list of trees.
+-- The nodes and the sorts of a list of trees, and that its operators are known ones.
 -- Assumes nothing: definitions.
 use mathlib.Core.List.{List, [], _∷_, _++_}
 use Prim.Native.Nat.{ℕ, _≤_}
 use Rattle.model.specs.declared.Node.{Node}
-use Rattle.model.specs.Program.{Expr, const, var, compl, op, Stmt, ok, tick, assign, seq, par, ite, while, repeat, Tree, expr, stmt}
-use Rattle.theory.specs.Program.Trees.{node}
-
-unfoldable pub preorderE : Expr → List Node
-preorderE (const n) = node 1 0 n ∷ []
-preorderE (var n) = node 2 0 n ∷ []
-preorderE (compl e) = node 3 0 0 ∷ preorderE e
-preorderE (op k a b) = node k 0 0 ∷ preorderE a ++ preorderE b
-
-unfoldable pub preorder : Stmt → List Node
-preorder ok = node 16 0 0 ∷ []
-preorder (tick d) = node 17 d 0 ∷ []
-preorder (assign d x e) = node 18 d x ∷ preorderE e
-preorder (seq P Q) = node 19 0 0 ∷ preorder P ++ preorder Q
-preorder (par P Q) = node 20 0 0 ∷ preorder P ++ preorder Q
-preorder (ite d e P Q) = node 21 d 0 ∷ preorderE e ++ (preorder P ++ preorder Q)
-preorder (while d e P) = node 22 d 0 ∷ preorderE e ++ preorder P
-preorder (repeat d e P) = node 23 d 0 ∷ preorderE e ++ preorder P
+use Rattle.model.specs.Program.{Expr, const, var, compl, op, Stmt, ok, tick, assign, seq, par, ite, while, repeat, Tree, expr, stmt, preorderE, preorder}
 
 abbrev pub nodesOf : Tree → List Node
 nodesOf (expr e) = preorderE e

@@ -8,12 +8,11 @@ use lib.Dec.{ltb, eqb}
 use lib.ListN.{length, getD, drop, length-append}
 use Rattle.model.specs.declared.Node.{Node}
 use Rattle.model.specs.declared.Checked.the-variants.{Accepted}
-use Rattle.model.specs.Program.{Expr, const, var, compl, op, Stmt, ok, tick, assign, seq, par, ite, while, repeat, Tree, none, asExpr, asStmt, stmtOf, treeOf, arity, grow, forest, stmtAt, nodeCount, nodeAt, nodesFrom, programOf, checkOf}
+use Rattle.model.specs.Program.{Expr, const, var, compl, op, Stmt, ok, tick, assign, seq, par, ite, while, repeat, Tree, none, asExpr, asStmt, stmtOf, treeOf, arity, grow, forest, stmtAt, nodeCount, nodeAt, nodesFrom, programOf, checkOf, preorderE, preorder}
 use Rattle.model.specs.Promises.{Bytes}
 use Rattle.theory.specs.Program.Fit.{Timed, Low}
 use Rattle.theory.specs.Program.Accepted.{program-fit, trees-from}
 use Rattle.theory.specs.Program.Trees.{length-nodes, by-pick}
-use Rattle.theory.specs.Program.Preorder.{preorderE, preorder}
 use Rattle.theory.specs.Program.Passed.{accepted, program-nodes}
 use Rattle.theory.specs.Numbering.Count.{eNodes, nodes}
 

@@ -12,7 +12,7 @@ use lib.Dec.{T, ltb, eqb, ltb→lt}
 use borrow.Author.Tests.{lt-ltb, le-ltb, ne-eqb}
 use Rattle.model.specs.declared.Node.{Node}
 use Rattle.model.specs.Word.{pick}
-use Rattle.model.specs.Program.{const, var, compl, op, ok, tick, assign, seq, par, ite, while, repeat, Tree, nodeAt, nodeCount, nodesFrom, none, asExpr, asStmt, exprOf, stmtOf, treeOf, grow, forest, treesAt, exprAt, stmtAt}
+use Rattle.model.specs.Program.{const, var, compl, op, ok, tick, assign, seq, par, ite, while, repeat, Tree, node, nodeAt, nodeCount, nodesFrom, none, asExpr, asStmt, exprOf, stmtOf, treeOf, grow, forest, treesAt, exprAt, stmtAt}
 
 -- Nodes --------------------------------------------------------------------------------------------------------------------------------
 
@@ -64,9 +64,6 @@ stmt-none s i h = ap (λ (ts : List Tree). asStmt (getD ts 0 none)) (trees-none 
 
 abbrev pub treeAt : List ℕ → ℕ → Tree
 treeAt s i = getD (treesAt s i) 0 none
-
-abbrev pub node : ℕ → ℕ → ℕ → Node
-node k d n = record { kind = k; delay = d; n = n }
 
 -- what holds of both sides of a choice holds of the choice
 pub by-pick : {A : Type 0} (R : A → Type 0) (b : Bool) (u v : A) → R u → R v → R (pick b u v)

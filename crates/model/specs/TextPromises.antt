@@ -1,0 +1,50 @@
+-- What is promised of programs as text, as a type: the reader of model/Reader finds the reading of model/Text, wherever there is one.
+-- "An accepted text, at most 4,096 bytes, has one reading; its program's bytes are the result."
+-- Assumes nothing: definitions.
+use mathlib.Core.Path.{_≡_}
+use mathlib.Core.List.{List, [], _∷_}
+use Prim.Native.Nat.{ℕ, zero, suc}
+use lib.ListN.{length, take}
+use Rattle.model.specs.declared.Node.{Node}
+use Rattle.model.specs.declared.Token.{Token}
+use Rattle.model.specs.declared.Written.the-variants.{Done}
+use Rattle.model.specs.Program.{Stmt, preorder, nodeBytes, programOf}
+use Rattle.model.specs.Text.{Word, wordsOf, tokens, Means, BreaksAt}
+use Rattle.model.specs.Reader.{good, bad}
+use Rattle.model.specs.TextCalls.{readingOf, readTextChecks, readTextCall, compileTextChecks, compileTextCall, runTextChecks, runTextCall}
+use Rattle.model.specs.Calls.{verdict, writtenVerdict}
+use Rattle.model.specs.Promises.{Refuses, Leaves}
+
+-- the place of word i, or the length of the text where the words are fewer
+unfoldable pub placeAt : ℕ → List Word → ℕ → ℕ
+placeAt end [] i = end
+placeAt end (w ∷ ws) zero = w .place
+placeAt end (w ∷ ws) (suc i) = placeAt end ws i
+
+pub record Texts : Type 0 where
+  -- the grammar is unambiguous
+  pub one : (ts : List Token) (P Q : Stmt) → Means ts P → Means ts Q → P ≡ Q
+  -- the reader finds the reading wherever there is one, and nothing else
+  pub found : (text : List ℕ) (P : Stmt) → Means (tokens (wordsOf text)) P → readingOf text ≡ good (preorder P)
+  pub read : (text : List ℕ) (ns : List Node) → readingOf text ≡ good ns → (P : Stmt) × Means (tokens (wordsOf text)) P × (ns ≡ preorder P)
+  -- "18: the grammar is broken, place the first byte of the word where no continuation fits, or the length"
+  pub broken : (text : List ℕ) (p : ℕ) → readingOf text ≡ bad p
+      → (i : ℕ) × BreaksAt (tokens (wordsOf text)) i × (p ≡ placeAt (length text) (wordsOf text) i)
+  -- the bytes that an accepted text gives are those of its reading, and the program that they are is that statement
+  pub program : (text lent : List ℕ) (n f : ℕ) → readTextCall text lent .answer ≡ Done n f →
+      let bytes = take n (readTextCall text lent .lent) in
+      (P : Stmt) × Means (tokens (wordsOf text)) P × (bytes ≡ nodeBytes (preorder P)) × (programOf bytes ≡ P)
+  -- the refusals in the published order, and what a refusal leaves
+  pub reading : (text lent : List ℕ) →
+      let c = writtenVerdict (readTextCall text lent .answer) in
+      Refuses ((17, 17) ∷ (17, 17) ∷ (18, 18) ∷ (1, 8) ∷ (14, 14) ∷ []) (readTextChecks text lent) c × Leaves c lent (readTextCall text lent .lent)
+  pub compiling : (text lent : List ℕ) →
+      let c = writtenVerdict (compileTextCall text lent .answer) in
+      Refuses ((17, 17) ∷ (17, 17) ∷ (18, 18) ∷ (1, 8) ∷ (14, 14) ∷ []) (compileTextChecks text lent) c
+      × Leaves c lent (compileTextCall text lent .lent)
+  pub runs : (text words : List ℕ) (n : ℕ) (forFile lent : List ℕ) →
+      let r = runTextCall text words n forFile lent in
+      let c = verdict (r .answer .outcome) in
+      Refuses ((17, 17) ∷ (17, 17) ∷ (18, 18) ∷ (1, 8) ∷ (13, 13) ∷ (14, 14) ∷ (14, 14) ∷ (14, 14) ∷ [])
+      (runTextChecks text words n forFile lent) c
+      × Leaves c forFile (r .netlist) × Leaves c lent (r .state)

@@ -6,8 +6,7 @@ use lib.ListN.{length}
 use Rattle.model.specs.declared.Checked.the-variants.{Accepted}
 use Rattle.model.specs.Program.{Stmt, checkOf}
 use Rattle.model.specs.NetlistFile.{cellsAt, inList}
-use Rattle.model.specs.Numbering.{memoryAt, dataAt, walkAt, clockWires, dataWires, netlist, finish}
-use Rattle.model.specs.Numbering.{clockAt}
+use Rattle.model.specs.Numbering.{clockAt, memoryAt, dataAt, walkAt, clockWires, dataWires, netlist, finish}
 use Rattle.theory.specs.Numbering.Parts.{delayCells, clockOrs, walkCells, dataOrs}
 use Rattle.program.specs.Ends.{Laid}
 use Rattle.compiler.specs.declared.ors.Ors.{Ors}

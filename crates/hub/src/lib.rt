@@ -3,7 +3,7 @@ ghost use mathlib.Core.Path.{_≡_};
 ghost use Rattle.model.specs.Calls.{checkCall, compileCall, writeCall, readCall, beginCall, continueCall, runNetlistCall, runProgramCall, referenceCall};
 
 pub mod exports; // the calls for other languages
-pub mod full; // the full run of a program
+mod full; // the full run of a program
 pub mod reply; // answers as bytes
 
 use model::Answer;

@@ -74,8 +74,6 @@ Ends (while d e P) σ t σ′ = (n : ℕ) × WhileEnds (Ends P) d e n σ t σ′
 -- "Repeat runs P, takes d, tests, and goes round while e is false."
 Ends (repeat d e P) σ t σ′ = (n : ℕ) × RepeatEnds (Ends P) d e n σ t σ′
 
--- The rules, as a run that computes ---------------------------------------------------------------------------------------------------
-
 -- The rules within a budget ------------------------------------------------------------------------------------------------------------
 
 -- A run within a budget of k instants: it ended after t instants with these words, or it is still going.
@@ -120,7 +118,7 @@ repeats body d e (suc n) k σ =
     (λ t σ₁.
     wait d (k - t) (λ k₁. elim (isZero (eval e σ₁)) [ true ↦ repeats body d e n k₁ σ₁ | false ↦ ended 0 σ₁ ]))
 
--- P from σ within k instants: where it has ended, Ends tells the same time and words (theory/Relation)
+-- P from σ within k instants: where it has ended, Ends tells the same time and words (theory/Rules/Relation)
 unfoldable pub run : ℕ → Stmt → Store → Run
 run k ok σ = ended 0 σ
 run k (tick d) σ = wait d k (λ k₁. ended 0 σ)

@@ -29,17 +29,17 @@ use Rattle.theory.specs.Promises.Replay.{no-refusal}
 
 -- The numbers that a check gives -------------------------------------------------------------------------------------------------------
 
-gives-none : {n : ℕ × ℕ} → Gives n Accepted
+pub gives-none : {n : ℕ × ℕ} → Gives n Accepted
 gives-none r e = not-refused (sym e)
 
-gives-one : (lo hi k p : ℕ) → lo ≤ k → k ≤ hi → Gives (lo, hi) (refuse k p)
+pub gives-one : (lo hi k p : ℕ) → lo ≤ k → k ≤ hi → Gives (lo, hi) (refuse k p)
 gives-one lo hi k p l h r e = let z = ap (λ (r : Refusal). r .number) (same-refusal e) in (omega arith, omega arith)
 
-gives-if : (b : Bool) (k p : ℕ) → Gives (k, k) (refuseIf b k p)
+pub gives-if : (b : Bool) (k p : ℕ) → Gives (k, k) (refuseIf b k p)
 gives-if true k p = gives-one k k k p (omega arith) (omega arith)
 gives-if false k p = gives-none
 
-gives-pick : (n : ℕ × ℕ) (b : Bool) (c d : Checked) → Gives n c → Gives n d → Gives n (pick b c d)
+pub gives-pick : (n : ℕ × ℕ) (b : Bool) (c d : Checked) → Gives n c → Gives n d → Gives n (pick b c d)
 gives-pick n true c d f g = f
 gives-pick n false c d f g = g
 
@@ -144,7 +144,7 @@ file-gives : (s : List ℕ) → Gives (9, 12) (fileCheck s)
 unfolding fileCheck
 file-gives s = gives-first 9 12 ((9, 9) ∷ (10, 10) ∷ (11, 11) ∷ (11, 11) ∷ (12, 12) ∷ []) (fileChecks s) refl (file-order s)
 
-short-gives : (has needs : ℕ) → Gives (14, 14) (short has needs)
+pub short-gives : (has needs : ℕ) → Gives (14, 14) (short has needs)
 short-gives has needs = gives-if (ltb has needs) 14 0
 
 budget-gives : (n : ℕ) → Gives (13, 13) (overBudget n)
@@ -188,7 +188,7 @@ run-refuses : (ns : List (ℕ × ℕ)) (cs : List Checked) → InOrder ns cs →
 run-refuses ns cs o file s n lent =
     rw (running-verdict (first cs) file s n lent) (refuses ns cs o, running-leaves (first cs) file s n lent)
 
-write-refuses : (ns : List (ℕ × ℕ)) (cs : List Checked) → InOrder ns cs → (result : List ℕ) (n f : ℕ) (lent : List ℕ) →
+pub write-refuses : (ns : List (ℕ × ℕ)) (cs : List Checked) → InOrder ns cs → (result : List ℕ) (n f : ℕ) (lent : List ℕ) →
     let c = writtenVerdict (writing (first cs) result n f lent .answer) in
     Refuses ns cs c × Leaves c lent (writing (first cs) result n f lent .lent)
 write-refuses ns cs o result n f lent =
@@ -202,6 +202,23 @@ reference-runs n program words = go (run n (programOf program) (wordAt words))
     go (ended t σ) = refl
     go still = refl
 
+pub compile-order : (program lent : List ℕ) → InOrder ((1, 8) ∷ (14, 14) ∷ []) (compileChecks program lent)
+compile-order program lent = (check-gives program, (short-gives (length lent) (length (compiledFile program)), tt))
+
+pub run-order : (program words : List ℕ) (n : ℕ) (forFile lent : List ℕ)
+    → InOrder ((1, 8) ∷ (13, 13) ∷ (14, 14) ∷ (14, 14) ∷ (14, 14) ∷ []) (runProgramChecks program words n forFile lent)
+run-order program words n forFile lent =
+    let file = compiledFile program in
+    (check-gives program, (budget-gives n, (short-gives (length words) 32, (short-gives (length forFile) (length file), (short-gives (length lent) (stateSize (cellsOf file)), tt)))))
+
+-- a full run of a program, after whatever checks
+pub run-both-refuses : (ns : List (ℕ × ℕ)) (cs : List Checked) → InOrder ns cs → (file s : List ℕ) (n : ℕ) (forFile lent : List ℕ) →
+    let c = verdict (running (first cs) file s n lent .answer .outcome) in
+    Refuses ns cs c × Leaves c forFile (writing (first cs) file (length file) 0 forFile .lent) × Leaves c lent (running (first cs) file s n lent .lent)
+run-both-refuses ns cs o file s n forFile lent =
+    rw (running-verdict (first cs) file s n lent)
+    (refuses ns cs o, writing-leaves (first cs) file (length file) 0 forFile, running-leaves (first cs) file s n lent)
+
 program-runs : (program words : List ℕ) (n : ℕ) (forFile lent : List ℕ) →
     let r = runProgramCall program words n forFile lent in
     let c = verdict (r .answer .outcome) in
@@ -210,13 +227,8 @@ program-runs : (program words : List ℕ) (n : ℕ) (forFile lent : List ℕ) �
 unfolding runProgramCall
 program-runs program words n forFile lent =
     let file = compiledFile program in
-    let cs = runProgramChecks program words n forFile lent in
-    rw (running-verdict (first cs) file (fullState file words n lent) (fullCount file words n lent) lent) (
-      refuses _ cs
-          (check-gives program, (budget-gives n, (short-gives (length words) 32, (short-gives (length forFile) (length file), (short-gives (length lent) (stateSize (cellsOf file)), tt))))),
-      writing-leaves (first cs) file (length file) 0 forFile,
-      running-leaves (first cs) file (fullState file words n lent) (fullCount file words n lent) lent,
-    )
+    run-both-refuses _ (runProgramChecks program words n forFile lent) (run-order program words n forFile lent) file (fullState file words n lent)
+    (fullCount file words n lent) forFile lent
 
 pub demand-1 : Demand1
 unfolding checkCall checkOf fileCheck compileCall writeCall readCall beginCall continueCall runNetlistCall referenceCall
@@ -226,8 +238,8 @@ demand-1 =
       programs = λ program. refuses _ (programChecks paperTime program) (program-order paperTime program);
       files = λ file. refuses _ (fileChecks file) (file-order file);
       compiling = λ program lent.
-          write-refuses _ (compileChecks program lent) (check-gives program, (short-gives (length lent) (length (compiledFile program)), tt)) (compiledFile program)
-          (length (compiledFile program)) (finish (programOf program)) lent;
+          write-refuses _ (compileChecks program lent) (compile-order program lent) (compiledFile program) (length (compiledFile program))
+          (finish (programOf program)) lent;
       writing = λ cells f lent.
           let net = cellsIn cells in
           write-refuses _ (writeChecks cells f lent) (

@@ -1,3 +1,4 @@
+-- bit: a truth as a number. Assumes nothing.
 use mathlib.Core.Path.{sym, ap}
 use Rattle.model.specs.Word.{bit}
 use Rattle.word.proofs.bit.Statement.{statement}
@@ -5,12 +6,10 @@ use Rattle.word.proofs.bit.Tie as tie
 use Rattle.word.proofs.bit.Reads as reads
 use Rattle.word.proofs.bit.Lts as lts
 
--- src/lib.rt:52:1
 returns : tie.Need-returns
 unfolding bit
 returns c = ap bit (sym (c .if1 .taken))
 
--- src/lib.rt:52:1
 returns-2 : tie.Need-returns-2
 unfolding bit
 returns-2 c = ap bit (sym (c .if1 .left))

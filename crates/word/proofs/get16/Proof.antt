@@ -1,3 +1,4 @@
+-- get16: two bytes as a number. Assumes nothing.
 use native.Mathlib.Omega.{arith}
 use Rattle.model.specs.Word.{get16}
 use mathlib.Core.Path.{refl}
@@ -8,35 +9,27 @@ use Rattle.word.proofs.get16.Tie as tie
 use Rattle.word.proofs.get16.Reads as reads
 use Rattle.word.proofs.get16.Lts as lts
 
--- src/lib.rt:14:6
 shared-slice-read-result : tie.Need-shared-slice-read-result
 shared-slice-read-result c = search needs
 
--- src/lib.rt:14:6
 cast-result : tie.Need-cast-result
 cast-result c = omega (arith, c .shared-slice-known .given (c .before .args .i))
 
--- src/lib.rt:14:30
 add-result : tie.Need-add-result
 add-result c = search needs
 
--- src/lib.rt:14:28
 shared-slice-read-result-2 : tie.Need-shared-slice-read-result-2
 shared-slice-read-result-2 c = search needs
 
--- src/lib.rt:14:28
 cast-result-2 : tie.Need-cast-result-2
 cast-result-2 c = omega (arith, c .shared-slice-known2 .given (c .before .before .args .i + 1))
 
--- src/lib.rt:14:21
 mul-result : tie.Need-mul-result
 mul-result c = omega (arith, c .shared-slice-known2 .given (c .before .before .args .i + 1))
 
--- src/lib.rt:14:5
 add-result-2 : tie.Need-add-result-2
 add-result-2 c = omega (arith, c .shared-slice-known2 .given (c .before .before .args .i + 1), c .before .shared-slice-known .given (c .before .before .args .i))
 
--- src/lib.rt:10:1
 returns : tie.Need-returns
 unfolding get16
 returns c = refl

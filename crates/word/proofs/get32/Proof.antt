@@ -1,3 +1,4 @@
+-- get32: four bytes as a number. Assumes nothing.
 use Rattle.model.specs.Word.{get32}
 use mathlib.Core.Path.{refl}
 use borrow.Author.Needs.{needs}
@@ -7,35 +8,27 @@ use Rattle.word.proofs.get32.Reads as reads
 use Rattle.word.proofs.get32.Lts as lts
 use Rattle.word.proofs.get16.Reads as get16-reads
 
--- src/lib.rt:29:9
 get16-requires : tie.Need-get16-requires
 get16-requires c κs = search needs
 
--- src/lib.rt:30:24
 add-get16 : tie.Need-add-get16
 add-get16 c = search needs
 
--- src/lib.rt:30:9
 get16-requires-2 : tie.Need-get16-requires-2
 get16-requires-2 c κs = search needs
 
--- src/lib.rt:31:6
 cast-result : tie.Need-cast-result
 cast-result c = search needs
 
--- src/lib.rt:31:29
 cast-result-2 : tie.Need-cast-result-2
 cast-result-2 c = search needs
 
--- src/lib.rt:31:20
 mul-result : tie.Need-mul-result
 mul-result c = search needs
 
--- src/lib.rt:31:5
 add-result : tie.Need-add-result
 add-result c = search needs
 
--- src/lib.rt:25:1
 returns : tie.Need-returns
 unfolding get32
 returns c = cc

@@ -1,3 +1,4 @@
+-- operate: the operator of each kind. Assumes nothing.
 use native.Mathlib.Omega.{arith}
 use borrow.Author.Tests.{ne-eqb}
 use mathlib.Core.Path.{refl, sym, _∙_}
@@ -11,57 +12,45 @@ use Rattle.word.proofs.bit.Reads as bit-reads
 use Rattle.std.proofs.num.wrapping_add_u16.Reads as wrapping-add-u16-reads
 use Rattle.std.proofs.num.wrapping_sub_u16.Reads as wrapping-sub-u16-reads
 
--- src/lib.rt:63:14
 sub-result : tie.Need-sub-result
 sub-result c = search needs
 
--- src/lib.rt:64:14
 wrapping-add-u16-requires : tie.Need-wrapping-add-u16-requires
 wrapping-add-u16-requires c κs = search needs
 
--- src/lib.rt:65:14
 wrapping-sub-u16-requires : tie.Need-wrapping-sub-u16-requires
 wrapping-sub-u16-requires c κs = search needs
 
--- src/lib.rt:68:14
 bit-requires : tie.Need-bit-requires
 bit-requires c κs = search needs
 
--- src/lib.rt:69:14
 bit-requires-2 : tie.Need-bit-requires-2
 bit-requires-2 c κs = search needs
 
--- src/lib.rt:59:1
 returns : tie.Need-returns
 unfolding operate
 returns c = rw (c .match .keys1) refl
 
--- src/lib.rt:59:1
 returns-2 : tie.Need-returns-2
 unfolding operate
 returns-2 c = rw (c .before .match .keys2) (c .wrapping-add-u16 .ensures)
 
--- src/lib.rt:59:1
 returns-3 : tie.Need-returns-3
 unfolding operate
 returns-3 c = rw (c .before .match .keys3) (omega (arith, c .wrapping-sub-u16 .ensures))
 
--- src/lib.rt:59:1
 returns-4 : tie.Need-returns-4
 unfolding operate
 returns-4 c = rw (c .match .keys4) refl
 
--- src/lib.rt:59:1
 returns-5 : tie.Need-returns-5
 unfolding operate
 returns-5 c = rw (c .match .keys5) refl
 
--- src/lib.rt:59:1
 returns-6 : tie.Need-returns-6
 unfolding operate
 returns-6 c = rw (c .before .match .keys6) (c .bit .ensures)
 
--- src/lib.rt:59:1
 returns-7 : tie.Need-returns-7
 unfolding operate
 returns-7 c = c .bit2 .ensures ∙ sym (simp (operate, ne-eqb _ _ (c .before .match .rest .1), ne-eqb _ _ (c .before .match .rest .0 .1), ne-eqb _ _ (c .before .match .rest .0 .0 .1), ne-eqb _ _ (c .before .match .rest .0 .0 .0 .1), ne-eqb _ _ (c .before .match .rest .0 .0 .0 .0 .1), ne-eqb _ _ (c .before .match .rest .0 .0 .0 .0 .0 .1)))

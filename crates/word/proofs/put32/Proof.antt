@@ -1,3 +1,4 @@
+-- put32: a number as four bytes. Assumes nothing.
 use Rattle.model.specs.Word.{put32}
 use mathlib.Core.Path.{refl}
 use borrow.Author.Needs.{needs}
@@ -7,31 +8,24 @@ use Rattle.word.proofs.put32.Reads as reads
 use Rattle.word.proofs.put32.Lts as lts
 use Rattle.word.proofs.put16.Reads as put16-reads
 
--- src/lib.rt:38:17
 cast-put16 : tie.Need-cast-put16
 cast-put16 c = search needs
 
--- src/lib.rt:38:5
 put16-requires : tie.Need-put16-requires
 put16-requires c κs = search needs
 
--- src/lib.rt:39:14
 add-put16 : tie.Need-add-put16
 add-put16 c = search needs
 
--- src/lib.rt:39:21
 cast-put16-2 : tie.Need-cast-put16-2
 cast-put16-2 c = search needs
 
--- src/lib.rt:39:5
 put16-requires-2 : tie.Need-put16-requires-2
 put16-requires-2 c κs = search needs
 
--- src/lib.rt:34:1
 same-length : tie.Need-same-length
 same-length c = search needs
 
--- src/lib.rt:34:1
 returns : tie.Need-returns
 unfolding put32
 returns c = cc

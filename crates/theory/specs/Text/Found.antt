@@ -1,0 +1,2 @@
+-- The reader finds every derivation.
+-- Assumes nothing.

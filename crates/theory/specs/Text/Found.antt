@@ -7,8 +7,8 @@ use mathlib.Core.List.{List, [], _∷_, _++_, append-assoc, append-nil}
 use Prim.Native.Nat.{ℕ, zero, suc, _+_, _*_, _<_, _≤_, min}
 use native.Mathlib.Omega.{arith}
 use lib.Dec.{eqb, ltb, leb}
-use lib.ListN.{length, getD, take, drop, set, length-append}
-use lib.Seq.{append-snoc, take-at, drop-at}
+use lib.ListN.{length, getD, take, drop, set, length-append, length-set}
+use lib.Seq.{append-snoc, take-at, drop-at, getD-at, set-at}
 use borrow.Author.Tests.{eqb-true, le-ltb, lt-ltb}
 use Rattle.model.specs.declared.Node.{Node}
 use Rattle.model.specs.declared.Token.{Token}
@@ -116,7 +116,7 @@ module _ {O A : Mode} {K : List Frame} {ys : List Node} where
         run = λ s c ns xs e d.
             let a = f .run s c ns xs e d in
             let b = g c .run c (c + length ms + 1) (insertAt c (node k 0 0) (xs ++ (ms ++ ys))) (xs ++ (node k 0 0 ∷ ms))
-                (simp length-append (omega arith)) (inserted (node k 0 0) c _ xs (ms ++ ys) e refl ∙ simp append-assoc) in
+            (simp length-append (omega arith)) (inserted (node k 0 0) c _ xs (ms ++ ys) e refl ∙ simp append-assoc) in
             record {
               start = b .start;
               frames = b .frames ++ (frame k c ∷ []);
@@ -241,3 +241,149 @@ expr-found (compare {k = k} o d f) K u ys =
     (λ p q c F ns ready. comparison-step o _ (ap (λ (z : Popped). comparison (topCode (z .frames))) (pop-ready 8 7 p q F K ready (omega arith) (omega arith)) ∙ no-comparison (topCode K) u))
     (expr-found d K (omega arith) ys) (λ p. expr-found f (frame k p ∷ K) (b .3) ys)
 expr-found (IsExpr.up d) K u ys = finds-weaker (omega arith) (expr-found d K (omega arith) ys)
+
+-- Delays -------------------------------------------------------------------------------------------------------------------------------
+
+-- the node behind ws gets its delay
+with-delay : (m : Mode) (p d k v : ℕ) (r : Reader) (ws zs : List Node) → p ≡ length ws → r .nodes ≡ ws ++ (node k 0 v ∷ zs) →
+    let ms = ws ++ (node k d v ∷ zs) in
+    withDelay m p d r ≡ reader m p (r .frames) (length ms) ms
+unfolding withDelay
+with-delay m p d k v r ws zs e f =
+    let was = ws ++ (node k 0 v ∷ zs) in
+    let now : delayed p d (r .nodes) ≡ ws ++ (node k d v ∷ zs) =
+    ap (delayed p d) f ∙ ap (λ (a : Node). set was p (node (a .kind) d (a .n))) (getD-at ws (node k 0 v) zs (node 0 0 0) p (sym e))
+    ∙ set-at ws (node k 0 v) zs (node k d v) p (sym e) in
+    same-reader refl (sym (length-set (r .nodes) p _) ∙ ap length now) now
+
+at-turns : (h : ℕ) → ((eqb h 18 || eqb h 21) || (eqb h 22 || eqb h cUntil)) ≡ true
+    → Turns AfterOperand (sign cAt) h (λ r. reader Delay (r .start) (r .frames) (r .cursor) (r .nodes))
+unfolding stepOf onAfterOperand settled topCode
+at-turns h t p q c i fs K ns e = rw e (rw t refl)
+
+-- an expression and its delay, of the node k at the frame on top; what the delay completes, g says
+timed-found : {ts : List Token} {e : Expr} → IsExpr 0 ts e → (d h k v : ℕ) (g : Reader → Reader) → holdOf h ≡ 0
+    → ((eqb h 18 || eqb h 21) || (eqb h 22 || eqb h cUntil)) ≡ true
+    → (K : List Frame) (p : ℕ) → ((c i : ℕ) (ns : List Node) → onDelay (numeral d) (reader Delay c (frame h p ∷ K) i ns) ≡ g (withDelay Body p d (reader Delay c (frame h p ∷ K) i ns)))
+    → (rest : List Token) (s c : ℕ) (ns ws ys : List Node) → p ≡ length ws → c ≡ p + 1 → ns ≡ ws ++ (node k 0 v ∷ ys) →
+    let ms = ws ++ (node k d v ∷ (preorderE e ++ ys)) in
+    steps (timed ts d rest) (reader Operand s (frame h p ∷ K) c ns) ≡ steps rest (g (reader Body p (frame h p ∷ K) (length ms) ms))
+unfolding steps stepOf topCode
+timed-found {ts} {e} x d h k v g hold test K p told rest s c ns ws ys a b f =
+    let F = expr-found x (frame h p ∷ K) (omega (arith, hold)) ys in
+    finds-then (sign cAt) (λ r. reader Delay (r .start) (r .frames) (r .cursor) (r .nodes)) hold (at-turns h test) F (numeral d ∷ rest) s c ns (ws ++ (node k 0 v ∷ [])) (b ∙ simp length-append (omega arith)) (f ∙ sym (append-snoc ws (node k 0 v) ys))
+    ∙ ap (steps rest) (told c _ _ ∙ ap g (with-delay Body p d k v _ ws (preorderE e ++ ys) a (append-snoc ws (node k 0 v) (preorderE e ++ ys))))
+
+-- Statements ---------------------------------------------------------------------------------------------------------------------------
+
+-- as for expressions: how tightly what stands below a statement of a level may hold, and how far back what follows it may reach
+abbrev lowS : ℕ → ℕ
+lowS l = 2 * l + 3
+
+abbrev farS : ℕ → ℕ
+farS l = 2 * l + 1
+
+-- one statement: nothing of it stays on the frames
+one-statement : {m c i j : ℕ} {K : List Frame} {ns ms : List Node} {r : Reader} → r ≡ reader AfterStatement c K i ns → i ≡ j → ns ≡ ms
+    → Read AfterStatement m K c j ms r
+one-statement {c} e x y = record { start = c; frames = []; ready = λ K r l. refl; is = e ∙ same-reader refl x y }
+
+ticks-found : {m : ℕ} {K : List Frame} (d : ℕ) → Finds Statement AfterStatement m (sign 17 ∷ (numeral d ∷ [])) (node 17 d 0 ∷ []) K []
+unfolding steps stepOf onStatement leaf
+ticks-found {K} d =
+    record {
+      run = λ s c ns xs e f.
+          one-statement (with-delay AfterStatement c d 17 0 _ xs [] e (inserted (node 17 0 0) c ns xs [] e f))
+          (simp length-append (omega arith)) refl;
+    }
+
+becomes-found : {m : ℕ} {K : List Frame} {ts : List Token} {e : Expr} (d x : ℕ) → IsExpr 0 ts e
+    → Finds Statement AfterStatement m (name x ∷ (sign 18 ∷ timed ts d [])) (node 18 d x ∷ preorderE e) K []
+unfolding steps stepOf onStatement openedNode onDelay topCode closed topStart holdOf
+becomes-found {K} d x w =
+    record {
+      run = λ s c ns xs e f.
+          one-statement
+          (timed-found w d 18 18 x (closed AfterStatement) refl refl K c (λ b i ms. refl) [] s (c + 1) _ xs [] e refl (inserted (node 18 0 x) c ns xs [] e f))
+          (simp length-append (omega arith)) refl;
+    }
+
+-- the words that close or turn what a statement stands in
+braces-turn : Turns AfterStatement (sign cRight) cLeft (closed AfterStatement)
+unfolding stepOf onAfterStatement settled topCode closed topStart
+braces-turn p q c i fs K ns e = rw e refl
+
+else-turns : Turns AfterStatement (sign cElse) cThen (turned Statement cElse)
+unfolding stepOf onAfterStatement settled topCode turned topStart
+else-turns p q c i fs K ns e = rw e refl
+
+end-turns : (h : ℕ) → (eqb h cElse || eqb h cDo) ≡ true → Turns AfterStatement (sign cEnd) h (closed AfterStatement)
+unfolding stepOf onAfterStatement settled topCode closed topStart
+end-turns h t p q c i fs K ns e = rw e (rw t refl)
+
+abbrev conditioned : Reader → Reader
+conditioned r = reader Operand (r .start) (frame cUntil (topStart (r .frames)) ∷ drop 1 (r .frames)) (topStart (r .frames) + 1) (r .nodes)
+
+until-turns : Turns AfterStatement (sign cUntil) 23 conditioned
+unfolding stepOf onAfterStatement settled topCode topStart
+until-turns p q c i fs K ns e = rw e refl
+
+-- a statement above a frame, of level 0
+abbrev Inner : ℕ → List Token → List Node → List Frame → Type 0
+Inner h ts ms K = (p : ℕ) → Finds Statement AfterStatement (farS 0) ts ms (frame h p ∷ K) []
+
+ifs-found : {m : ℕ} {K : List Frame} {ts us vs : List Token} {e : Expr} {ms ls : List Node} (d : ℕ) → IsExpr 0 ts e → Inner cThen us ms K → Inner cElse vs ls K
+    → Finds Statement AfterStatement m (sign 21 ∷ timed ts d (sign cThen ∷ (us ++ (sign cElse ∷ (vs ++ (sign cEnd ∷ [])))))) (node 21 d 0 ∷ preorderE e ++ (ms ++ ls)) K []
+unfolding steps stepOf onStatement openedNode onDelay onBody topCode closed turned topStart holdOf
+ifs-found {K} {us} {vs} {e = x} {ms} {ls} d w f g =
+    record {
+      run = λ s c ns xs e a.
+          let xs′ = xs ++ (node 21 d 0 ∷ preorderE x) in
+          one-statement
+          (timed-found w d 21 21 0 (λ r. r) refl refl K c (λ b i ms. refl) (sign cThen ∷ (us ++ (sign cElse ∷ (vs ++ (sign cEnd ∷ []))))) s (c + 1) _ xs [] e refl (inserted (node 21 0 0) c ns xs [] e a)
+          ∙ finds-then (sign cElse) (turned Statement cElse) refl else-turns (f c) (vs ++ (sign cEnd ∷ [])) c _ _ xs′ (simp length-append (omega arith)) (simp append-assoc)
+          ∙ finds-then (sign cEnd) (closed AfterStatement) refl (end-turns cElse refl) (g c) [] _ _ _ (xs′ ++ ms) (simp length-append (omega arith)) (simp append-assoc))
+          (simp length-append (omega arith)) (simp append-assoc);
+    }
+
+whiles-found : {m : ℕ} {K : List Frame} {ts us : List Token} {e : Expr} {ms : List Node} (d : ℕ) → IsExpr 0 ts e → Inner cDo us ms K
+    → Finds Statement AfterStatement m (sign 22 ∷ timed ts d (sign cDo ∷ (us ++ (sign cEnd ∷ [])))) (node 22 d 0 ∷ preorderE e ++ ms) K []
+unfolding steps stepOf onStatement openedNode onDelay onBody topCode closed turned topStart holdOf
+whiles-found {K} {us} {e = x} {ms} d w f =
+    record {
+      run = λ s c ns xs e a.
+          one-statement
+          (timed-found w d 22 22 0 (λ r. r) refl refl K c (λ b i ms. refl) (sign cDo ∷ (us ++ (sign cEnd ∷ []))) s (c + 1) _ xs [] e refl (inserted (node 22 0 0) c ns xs [] e a)
+          ∙ finds-then (sign cEnd) (closed AfterStatement) refl (end-turns cDo refl) (f c) [] c _ _ (xs ++ (node 22 d 0 ∷ preorderE x)) (simp length-append (omega arith)) (simp append-assoc))
+          (simp length-append (omega arith)) (simp append-assoc);
+    }
+
+repeats-found : {m : ℕ} {K : List Frame} {ts us : List Token} {e : Expr} {ms : List Node} (d : ℕ) → Inner 23 us ms K → IsExpr 0 ts e
+    → Finds Statement AfterStatement m (sign 23 ∷ (us ++ (sign cUntil ∷ timed ts d (sign cEnd ∷ [])))) (node 23 d 0 ∷ preorderE e ++ ms) K []
+unfolding steps stepOf onStatement openedNode onDelay onBody topCode closed topStart holdOf
+repeats-found {K} {ts} {e = x} {ms} d f w =
+    record {
+      run = λ s c ns xs e a.
+          one-statement
+          (finds-then (sign cUntil) conditioned refl until-turns (f c) (timed ts d (sign cEnd ∷ [])) s (c + 1) _ (xs ++ (node 23 0 0 ∷ [])) (simp length-append (omega arith)) (inserted-snoc (node 23 0 0) c ns xs [] e a)
+          ∙ timed-found w d cUntil 23 0 (λ r. r) refl refl K c (λ b i ms. refl) (sign cEnd ∷ []) _ (c + 1) _ xs (ms ++ []) e refl (append-snoc xs (node 23 0 0) (ms ++ [])))
+          (simp length-append (omega arith)) (simp append-assoc);
+    }
+
+stmt-found : {l : ℕ} {ts : List Token} {P : Stmt} → IsStmt l ts P → (K : List Frame) → Under (lowS l) K
+    → Finds Statement AfterStatement (farS l) ts (preorder P) K []
+unfolding stepOf onStatement onAfterStatement preorder holdOf reachOf topCode
+stmt-found skip K u = finds-leaf (λ r. refl)
+stmt-found (ticks d) K u = ticks-found d
+stmt-found (becomes d x w) K u = becomes-found d x w
+stmt-found (ifs d w f g) K u = ifs-found d w (λ p. stmt-found f (frame cThen p ∷ K) (omega arith)) (λ p. stmt-found g (frame cElse p ∷ K) (omega arith))
+stmt-found (whiles d w f) K u = whiles-found d w (λ p. stmt-found f (frame cDo p ∷ K) (omega arith))
+stmt-found (repeats d f w) K u = repeats-found d (λ p. stmt-found f (frame 23 p ∷ K) (omega arith)) w
+stmt-found (braces f) K u = finds-group (sign cRight) refl (λ r. refl) braces-turn (λ p. stmt-found f (frame cLeft p ∷ K) (omega arith))
+stmt-found (sequence f g) K u =
+    finds-operator (omega arith) u (omega arith) (omega arith) (λ p q c F ns ready. refl) (stmt-found f K (omega arith))
+    (λ p. stmt-found g (frame 19 p ∷ K) (omega arith))
+stmt-found (parallel f g) K u =
+    finds-operator (omega arith) u (omega arith) (omega arith) (λ p q c F ns ready. refl) (stmt-found f K (omega arith))
+    (λ p. stmt-found g (frame 20 p ∷ K) (omega arith))
+stmt-found (IsStmt.up f) K u = finds-weaker (omega arith) (stmt-found f K (omega arith))

@@ -1,164 +1,26 @@
 -- The reader finds every derivation: over the tokens of one it ends with a whole statement, whose nodes are the tree's in preorder.
--- So a list of tokens has at most one reading, and at a word that breaks the steps no continuation fits.
+-- So at a word that breaks the reader's steps no continuation fits.
 -- Assumes nothing.
-use mathlib.Core.Path.{_≡_, refl, sym, _∙_, ap, ap₂}
-use mathlib.Core.Bool.{Bool, true, false, _&&_, _||_}
+use mathlib.Core.Path.{_≡_, refl, sym, _∙_, ap}
+use mathlib.Core.Bool.{Bool, true, false, _||_}
 use mathlib.Core.List.{List, [], _∷_, _++_, append-assoc, append-nil}
 use Prim.Native.Nat.{ℕ, zero, suc, _+_, _*_, _<_, _≤_, min}
 use native.Mathlib.Omega.{arith}
-use lib.Dec.{eqb, ltb, leb}
-use lib.ListN.{length, getD, take, drop, set, length-append, length-set}
-use lib.Seq.{append-snoc, take-at, drop-at, getD-at, set-at}
-use borrow.Author.Tests.{eqb-true, le-ltb, lt-ltb}
+use lib.Dec.{eqb, ltb}
+use lib.ListN.{length, take, drop, set, length-append, length-set}
+use lib.Seq.{append-snoc, getD-at, set-at}
+use borrow.Author.Tests.{eqb-true}
 use Rattle.model.specs.declared.Node.{Node}
 use Rattle.model.specs.declared.Token.{Token}
 use Rattle.model.specs.declared.Mode.{Mode}
-use Rattle.model.specs.declared.Mode.the-variants.{Statement, AfterStatement, Operand, AfterOperand, Becomes, Ticks, Delay, Body, Broken}
-use Rattle.model.specs.Word.{pick}
+use Rattle.model.specs.declared.Mode.the-variants.{Statement, AfterStatement, Operand, AfterOperand, Delay, Body}
 use Rattle.model.specs.Program.{Expr, Stmt, node, preorderE, preorder}
-use Rattle.model.specs.Text.{token, numeral, name, sign, cThen, cElse, cDo, cUntil, cEnd, cAt, cOpen, cClose, cLeft, cRight, Left, sum, difference, and, or, Comparison, equal, less, IsExpr, number, variable, parens, complement, left, compare, timed, IsStmt, skip, ticks, becomes, ifs, whiles, repeats, braces, sequence, parallel, Means, Begins}
-use Rattle.model.specs.Reader.{Frame, frame, Reader, reader, readerAtFirst, broken, holdOf, reachOf, Popped, pop, topCode, topStart, insertAt, delayed, leaf, opened, openedNode, between, closed, turned, settled, withDelay, onStatement, onOperand, comparison, onAfterOperand, onAfterStatement, onDelay, onBody, stepOf, step}
-use Rattle.theory.specs.Refusals.Laws.{by-bool, not-both, or-false}
-use Rattle.theory.specs.Text.Runs.{steps, steps-append}
-
--- Frames -------------------------------------------------------------------------------------------------------------------------------
-
-abbrev popped : ℕ → List Frame → Popped
-popped p K = record { start = p; frames = K }
-
-pop-stays : (r p : ℕ) (K : List Frame) → holdOf (topCode K) ≤ r → pop r p K ≡ popped p K
-unfolding pop topCode
-pop-stays r p [] h = refl
-pop-stays r p (f ∷ K) h = rw (le-ltb r (holdOf (f .code)) h, pop)
-
-pop-takes : (r p c q : ℕ) (K : List Frame) → r < holdOf c → pop r p (frame c q ∷ K) ≡ pop r q K
-unfolding pop
-pop-takes r p c q K h = rw (lt-ltb r (holdOf c) h, pop)
-
--- what reaches back no further than m takes off all of the frames F that a part beginning at p has left, and stops where it would below them
-abbrev Ready : ℕ → ℕ → ℕ → List Frame → Type 0
-Ready m p q F = (K : List Frame) (r : ℕ) → r ≤ m → pop r q (F ++ K) ≡ pop r p K
-
--- a part behind an operator: the operator's frame is the last that is taken off
-ready-behind : (c m n p p′ q : ℕ) (F : List Frame) → n < holdOf c → n ≤ m → Ready m p′ q F → Ready n p q (F ++ (frame c p ∷ []))
-ready-behind c m n p p′ q F h l ready K r e =
-    ap (pop r q) (append-snoc F (frame c p) K) ∙ ready (frame c p ∷ K) r (omega arith) ∙ pop-takes r p′ c p K (omega arith)
-
--- what stands on K holds no more tightly than m
-abbrev Under : ℕ → List Frame → Type 0
-Under m K = holdOf (topCode K) ≤ m
-
-pop-ready : (m r p q : ℕ) (F K : List Frame) → Ready m p q F → r ≤ m → Under r K → pop r q (F ++ K) ≡ popped p K
-pop-ready m r p q F K ready l u = ready K r l ∙ pop-stays r p K u
-
--- Parts --------------------------------------------------------------------------------------------------------------------------------
-
-same-reader : {m : Mode} {p : ℕ} {fs gs : List Frame} {c d : ℕ} {ns ms : List Node} → fs ≡ gs → c ≡ d → ns ≡ ms
-    → reader m p fs c ns ≡ reader m p gs d ms
-same-reader {m} {p} x y z = λ i. reader m p (x i) (y i) (z i)
-
-module _ (a : Node) (c : ℕ) (ns xs ys : List Node) (e : c ≡ length xs) (d : ns ≡ xs ++ ys) where
-  inserted : insertAt c a ns ≡ xs ++ (a ∷ ys)
-  inserted = rw d (ap₂ (λ (u v : List Node). u ++ (a ∷ v)) (take-at xs ys c (sym e)) (drop-at xs ys c (sym e)))
-
-  inserted-snoc : insertAt c a ns ≡ xs ++ (a ∷ []) ++ ys
-  inserted-snoc = inserted ∙ sym (append-snoc xs a ys)
-
--- r is a reader behind a part that began at c, above the frames K
-record Read (A : Mode) (m : ℕ) (K : List Frame) (c i : ℕ) (ns : List Node) (r : Reader) : Type 0 where
-  start : ℕ
-  frames : List Frame
-  ready : Ready m c start frames
-  is : r ≡ reader A start (frames ++ K) i ns
-
--- over the tokens of a part the reader goes from mode O to mode A, and puts the part's nodes ms at the cursor, before the nodes ys
-record Finds (O A : Mode) (m : ℕ) (ts : List Token) (ms : List Node) (K : List Frame) (ys : List Node) : Type 0 where
-  run : (s c : ℕ) (ns xs : List Node) → c ≡ length xs → ns ≡ xs ++ ys
-      → Read A m K c (c + length ms) (xs ++ (ms ++ ys)) (steps ts (reader O s K c ns))
-
-between-is : (O A : Mode) (k m p q c : ℕ) (F K : List Frame) (ns : List Node) → Ready m p q F → reachOf k ≤ m → Under (reachOf k) K
-    → between O k (reader A q (F ++ K) c ns) ≡ reader O p (frame k p ∷ K) (c + 1) (insertAt p (node k 0 0) ns)
-unfolding between
-between-is O A k m p q c F K ns ready reach under =
-    ap (λ (z : Popped). reader O (z .start) (frame k (z .start) ∷ z .frames) (c + 1) (insertAt (z .start) (node k 0 0) ns))
-    (pop-ready m (reachOf k) p q F K ready reach under)
-
-module _ {O A : Mode} {K : List Frame} {ys : List Node} where
-  finds-weaker : {m n : ℕ} {ts : List Token} {ms : List Node} → n ≤ m → Finds O A m ts ms K ys → Finds O A n ts ms K ys
-  finds-weaker l f =
-      record {
-        run = λ s c ns xs e d.
-            let a = f .run s c ns xs e d in
-            record { start = a .start; frames = a .frames; ready = λ K r h. a .ready K r (omega arith); is = a .is };
-      }
-
-  finds-leaf : {m : ℕ} {t : Token} {a : Node} → ((r : Reader) → stepOf O t r ≡ leaf A a r) → Finds O A m (t ∷ []) (a ∷ []) K ys
-  unfolding steps leaf
-  finds-leaf {a} h =
-      record {
-        run = λ s c ns xs e d.
-            record {
-              start = c;
-              frames = [];
-              ready = λ K r l. refl;
-              is = h (reader O s K c ns) ∙ same-reader refl refl (inserted a c ns xs ys e d);
-            };
-      }
-
-  -- an operator between two parts: it takes off what the left one has left, and its node goes before the left one's
-  finds-operator : {k m m′ n : ℕ} {ts us : List Token} {ms ls : List Node} → reachOf k ≤ m → Under (reachOf k) K → n < holdOf k → n ≤ m′
-      → ((p q c : ℕ) (F : List Frame) (ns : List Node) → Ready m p q F → stepOf A (sign k) (reader A q (F ++ K) c ns) ≡ between O k (reader A q (F ++ K) c ns))
-      → Finds O A m ts ms K ys → ((p : ℕ) → Finds O A m′ us ls (frame k p ∷ K) ys)
-      → Finds O A n (ts ++ (sign k ∷ us)) (node k 0 0 ∷ (ms ++ ls)) K ys
-  unfolding steps
-  finds-operator {k} {m} {m′} {n} {ts} {us} {ms} {ls} reach under hold right told f g =
-      record {
-        run = λ s c ns xs e d.
-            let a = f .run s c ns xs e d in
-            let b = g c .run c (c + length ms + 1) (insertAt c (node k 0 0) (xs ++ (ms ++ ys))) (xs ++ (node k 0 0 ∷ ms))
-            (simp length-append (omega arith)) (inserted (node k 0 0) c _ xs (ms ++ ys) e refl ∙ simp append-assoc) in
-            record {
-              start = b .start;
-              frames = b .frames ++ (frame k c ∷ []);
-              ready = ready-behind k m′ n c _ (b .start) (b .frames) hold right (b .ready);
-              is = steps-append ts (sign k ∷ us) (reader O s K c ns) ∙ ap (steps (sign k ∷ us)) (a .is)
-                  ∙ ap (steps us) (told c (a .start) _ (a .frames) _ (a .ready) ∙ between-is O A k m c (a .start) _ (a .frames) K _ (a .ready) reach under)
-                  ∙ b .is ∙ same-reader (sym (append-snoc (b .frames) (frame k c) K)) (simp length-append (omega arith)) (simp append-assoc);
-            };
-      }
-
--- Words that close or turn the frame below a part ----------------------------------------------------------------------------------------
-
--- in mode A, with what is complete taken off and a frame of code h on top, token t does g
-abbrev Turns : Mode → Token → ℕ → (Reader → Reader) → Type 0
-Turns A t h g = (p q c i : ℕ) (fs K : List Frame) (ns : List Node) → pop 0 q fs ≡ popped c (frame h p ∷ K)
-    → stepOf A t (reader A q fs i ns) ≡ g (reader A c (frame h p ∷ K) i ns)
-
-finds-then : {O A : Mode} {m h p : ℕ} {ts : List Token} {ms : List Node} {K : List Frame} {ys : List Node} (t : Token) (g : Reader → Reader)
-    → holdOf h ≡ 0 → Turns A t h g → Finds O A m ts ms (frame h p ∷ K) ys
-    → (rest : List Token) (s c : ℕ) (ns xs : List Node) → c ≡ length xs → ns ≡ xs ++ ys
-    → steps (ts ++ (t ∷ rest)) (reader O s (frame h p ∷ K) c ns) ≡ steps rest (g (reader A c (frame h p ∷ K) (c + length ms) (xs ++ (ms ++ ys))))
-unfolding steps topCode
-finds-then {O} {A} {m} {h} {p} {ts} {ms} {K} {ys} t g hold turns f rest s c ns xs e d =
-    let a = f .run s c ns xs e d in
-    steps-append ts (t ∷ rest) (reader O s (frame h p ∷ K) c ns) ∙ ap (steps (t ∷ rest)) (a .is)
-    ∙ ap (steps rest) (turns p (a .start) c _ (a .frames ++ (frame h p ∷ K)) K _ (pop-ready m 0 c (a .start) (a .frames) (frame h p ∷ K) (a .ready) (omega arith) (omega arith)))
-
--- a part between brackets: nothing of it stays on the frames
-finds-group : {O A : Mode} {m n c : ℕ} {t : Token} {ts : List Token} {ms : List Node} {K : List Frame} {ys : List Node} (u : Token)
-    → holdOf c ≡ 0 → ((r : Reader) → stepOf O t r ≡ opened O c r) → Turns A u c (closed A)
-    → ((p : ℕ) → Finds O A m ts ms (frame c p ∷ K) ys) → Finds O A n (t ∷ (ts ++ (u ∷ []))) ms K ys
-unfolding steps opened closed topStart
-finds-group {O} {A} {ts} {K} u hold opens closes f =
-    record {
-      run = λ s c ns xs e d.
-          record {
-            start = c;
-            frames = [];
-            ready = λ K r l. refl;
-            is = ap (steps (ts ++ (u ∷ []))) (opens (reader O s K c ns)) ∙ finds-then u (closed A) hold closes (f c) [] s c ns xs e d;
-          };
-    }
+use Rattle.model.specs.Text.{numeral, name, sign, cThen, cElse, cDo, cUntil, cEnd, cAt, cOpen, cClose, cLeft, cRight, Word, tokens, Left, sum, difference, and, or, Comparison, equal, less, IsExpr, number, variable, parens, complement, left, compare, timed, IsStmt, skip, ticks, becomes, ifs, whiles, repeats, braces, sequence, parallel, Means, Begins, BreaksAt}
+use Rattle.model.specs.Reader.{Frame, frame, Reader, reader, readerAtFirst, holdOf, reachOf, Popped, pop, topCode, topStart, insertAt, delayed, leaf, openedNode, between, closed, turned, settled, withDelay, onStatement, onOperand, comparison, onAfterOperand, onAfterStatement, onDelay, onBody, stepOf, isBroken, complete, good, bad, readFrom}
+use Rattle.model.specs.TextPromises.{placeAt}
+use Rattle.theory.specs.Refusals.Laws.{by-bool}
+use Rattle.theory.specs.Text.Runs.{steps, steps-append, Complete, Stops, broken-incomplete, reads-whole, reads-bad}
+use Rattle.theory.specs.Text.Parts.{Under, Ready, pop-ready, same-reader, inserted, inserted-snoc, Finds, read-bare, read-behind, finds-weaker, finds-leaf, Joins, finds-operator, Turns, finds-then, finds-group}
 
 -- Expressions --------------------------------------------------------------------------------------------------------------------------
 
@@ -192,12 +54,17 @@ left-step difference r = refl
 left-step and r = refl
 left-step or r = refl
 
--- what holds less than a comparison is none
+-- what holds less tightly than a comparison is none
 no-comparison : (c : ℕ) → holdOf c ≤ 6 → comparison c ≡ false
 unfolding holdOf
 no-comparison c h =
     by-bool (eqb c 8) (λ e. absurd (omega (arith, ap holdOf (eqb-true c 8 e))))
     (λ e. by-bool (eqb c 9) (λ d. absurd (omega (arith, ap holdOf (eqb-true c 9 d)))) (λ d. rw (e, d)))
+
+-- so a comparison behind an expression of level 3 does not chain
+no-chain : (p q : ℕ) (F K : List Frame) → Ready 8 p q F → Under 6 K → comparison (topCode (pop 7 q (F ++ K) .frames)) ≡ false
+no-chain p q F K ready u =
+    ap (λ (z : Popped). comparison (topCode (z .frames))) (pop-ready 8 7 p q F K ready (omega arith) (omega arith)) ∙ no-comparison (topCode K) u
 
 comparison-step : {k : ℕ} → Comparison k → (r : Reader) → comparison (topCode (pop 7 (r .start) (r .frames) .frames)) ≡ false
     → onAfterOperand (sign k) r ≡ between Operand k r
@@ -208,16 +75,12 @@ comparison-step less r e = rw e refl
 complement-found : {ts : List Token} {ms : List Node} {K : List Frame} {ys : List Node}
     → ((p : ℕ) → Finds Operand AfterOperand 8 ts ms (frame 3 p ∷ K) ys) → Finds Operand AfterOperand 8 (sign 3 ∷ ts) (node 3 0 0 ∷ ms) K ys
 unfolding steps stepOf onOperand openedNode holdOf
-complement-found {ts} {ms} {K} {ys} f =
+complement-found {ys} f =
     record {
       run = λ s c ns xs e d.
-          let b = f c .run s (c + 1) (insertAt c (node 3 0 0) ns) (xs ++ (node 3 0 0 ∷ [])) (simp length-append (omega arith)) (inserted-snoc (node 3 0 0) c ns xs ys e d) in
-          record {
-            start = b .start;
-            frames = b .frames ++ (frame 3 c ∷ []);
-            ready = ready-behind 3 8 8 c _ (b .start) (b .frames) (omega arith) (omega arith) (b .ready);
-            is = b .is ∙ same-reader (sym (append-snoc (b .frames) (frame 3 c) K)) (omega arith) (simp append-assoc);
-          };
+          let b = f c .run s (c + 1) (insertAt c (node 3 0 0) ns) (xs ++ (node 3 0 0 ∷ []))
+          (simp length-append (omega arith)) (inserted-snoc (node 3 0 0) c ns xs ys e d) in
+          read-behind (omega arith) (omega arith) refl b (omega arith) (simp append-assoc);
     }
 
 parens-turn : Turns AfterOperand (sign cClose) cOpen (closed AfterOperand)
@@ -233,12 +96,11 @@ expr-found (parens d) K u ys = finds-group (sign cClose) refl (λ r. refl) paren
 expr-found (complement d) K u ys = complement-found (λ p. expr-found d (frame 3 p ∷ K) (omega arith) ys)
 expr-found (left {k = k} o d f) K u ys =
     let b = left-binds o in
-    finds-operator (b .0) (omega arith) (b .2) (omega arith) (λ p q c F ns ready. left-step o _) (expr-found d K u ys)
-    (λ p. expr-found f (frame k p ∷ K) (b .3) ys)
+    finds-operator (b .0) (omega arith) (b .2) (omega arith) (λ p q i F ns ready. left-step o _)
+    (expr-found d K u ys) (λ p. expr-found f (frame k p ∷ K) (b .3) ys)
 expr-found (compare {k = k} o d f) K u ys =
     let b = comparison-binds o in
-    finds-operator (b .0) (omega arith) (b .2) (omega arith)
-    (λ p q c F ns ready. comparison-step o _ (ap (λ (z : Popped). comparison (topCode (z .frames))) (pop-ready 8 7 p q F K ready (omega arith) (omega arith)) ∙ no-comparison (topCode K) u))
+    finds-operator (b .0) (omega arith) (b .2) (omega arith) (λ p q i F ns ready. comparison-step o _ (no-chain p q F K ready u))
     (expr-found d K (omega arith) ys) (λ p. expr-found f (frame k p ∷ K) (b .3) ys)
 expr-found (IsExpr.up d) K u ys = finds-weaker (omega arith) (expr-found d K (omega arith) ys)
 
@@ -283,17 +145,12 @@ lowS l = 2 * l + 3
 abbrev farS : ℕ → ℕ
 farS l = 2 * l + 1
 
--- one statement: nothing of it stays on the frames
-one-statement : {m c i j : ℕ} {K : List Frame} {ns ms : List Node} {r : Reader} → r ≡ reader AfterStatement c K i ns → i ≡ j → ns ≡ ms
-    → Read AfterStatement m K c j ms r
-one-statement {c} e x y = record { start = c; frames = []; ready = λ K r l. refl; is = e ∙ same-reader refl x y }
-
 ticks-found : {m : ℕ} {K : List Frame} (d : ℕ) → Finds Statement AfterStatement m (sign 17 ∷ (numeral d ∷ [])) (node 17 d 0 ∷ []) K []
 unfolding steps stepOf onStatement leaf
 ticks-found {K} d =
     record {
       run = λ s c ns xs e f.
-          one-statement (with-delay AfterStatement c d 17 0 _ xs [] e (inserted (node 17 0 0) c ns xs [] e f))
+          read-bare (with-delay AfterStatement c d 17 0 _ xs [] e (inserted (node 17 0 0) c ns xs [] e f))
           (simp length-append (omega arith)) refl;
     }
 
@@ -303,7 +160,7 @@ unfolding steps stepOf onStatement openedNode onDelay topCode closed topStart ho
 becomes-found {K} d x w =
     record {
       run = λ s c ns xs e f.
-          one-statement
+          read-bare
           (timed-found w d 18 18 x (closed AfterStatement) refl refl K c (λ b i ms. refl) [] s (c + 1) _ xs [] e refl (inserted (node 18 0 x) c ns xs [] e f))
           (simp length-append (omega arith)) refl;
     }
@@ -339,7 +196,7 @@ ifs-found {K} {us} {vs} {e = x} {ms} {ls} d w f g =
     record {
       run = λ s c ns xs e a.
           let xs′ = xs ++ (node 21 d 0 ∷ preorderE x) in
-          one-statement
+          read-bare
           (timed-found w d 21 21 0 (λ r. r) refl refl K c (λ b i ms. refl) (sign cThen ∷ (us ++ (sign cElse ∷ (vs ++ (sign cEnd ∷ []))))) s (c + 1) _ xs [] e refl (inserted (node 21 0 0) c ns xs [] e a)
           ∙ finds-then (sign cElse) (turned Statement cElse) refl else-turns (f c) (vs ++ (sign cEnd ∷ [])) c _ _ xs′ (simp length-append (omega arith)) (simp append-assoc)
           ∙ finds-then (sign cEnd) (closed AfterStatement) refl (end-turns cElse refl) (g c) [] _ _ _ (xs′ ++ ms) (simp length-append (omega arith)) (simp append-assoc))
@@ -352,7 +209,7 @@ unfolding steps stepOf onStatement openedNode onDelay onBody topCode closed turn
 whiles-found {K} {us} {e = x} {ms} d w f =
     record {
       run = λ s c ns xs e a.
-          one-statement
+          read-bare
           (timed-found w d 22 22 0 (λ r. r) refl refl K c (λ b i ms. refl) (sign cDo ∷ (us ++ (sign cEnd ∷ []))) s (c + 1) _ xs [] e refl (inserted (node 22 0 0) c ns xs [] e a)
           ∙ finds-then (sign cEnd) (closed AfterStatement) refl (end-turns cDo refl) (f c) [] c _ _ (xs ++ (node 22 d 0 ∷ preorderE x)) (simp length-append (omega arith)) (simp append-assoc))
           (simp length-append (omega arith)) (simp append-assoc);
@@ -364,7 +221,7 @@ unfolding steps stepOf onStatement openedNode onDelay onBody topCode closed topS
 repeats-found {K} {ts} {e = x} {ms} d f w =
     record {
       run = λ s c ns xs e a.
-          one-statement
+          read-bare
           (finds-then (sign cUntil) conditioned refl until-turns (f c) (timed ts d (sign cEnd ∷ [])) s (c + 1) _ (xs ++ (node 23 0 0 ∷ [])) (simp length-append (omega arith)) (inserted-snoc (node 23 0 0) c ns xs [] e a)
           ∙ timed-found w d cUntil 23 0 (λ r. r) refl refl K c (λ b i ms. refl) (sign cEnd ∷ []) _ (c + 1) _ xs (ms ++ []) e refl (append-snoc xs (node 23 0 0) (ms ++ [])))
           (simp length-append (omega arith)) (simp append-assoc);
@@ -387,3 +244,52 @@ stmt-found (parallel f g) K u =
     finds-operator (omega arith) u (omega arith) (omega arith) (λ p q c F ns ready. refl) (stmt-found f K (omega arith))
     (λ p. stmt-found g (frame 20 p ∷ K) (omega arith))
 stmt-found (IsStmt.up f) K u = finds-weaker (omega arith) (stmt-found f K (omega arith))
+
+-- Whole texts --------------------------------------------------------------------------------------------------------------------------
+
+-- what is taken off does not turn on where what was read begins
+pop-frames : (r p q : ℕ) (K : List Frame) → pop r p K .frames ≡ pop r q K .frames
+unfolding pop
+pop-frames r p q [] = refl
+pop-frames r p q (f ∷ K) =
+    by-bool (ltb r (holdOf (f .code))) (λ e. rw (e, pop) refl) (λ e. rw (e, pop) refl)
+
+complete-ready : (m q : ℕ) (F : List Frame) → Ready m 0 q F → complete AfterStatement (F ++ []) ≡ true
+unfolding complete topCode holdOf
+complete-ready m q F ready =
+    ap (λ (K : List Frame). eqb (length K) 0)
+    (pop-frames 0 0 q (F ++ []) ∙ ap (λ (z : Popped). z .frames) (pop-ready m 0 0 q F [] ready (omega arith) (omega arith)))
+
+pub found : {ts : List Token} {P : Stmt} → Means ts P →
+    let r = steps ts readerAtFirst in
+    Complete r × (r .nodes ≡ preorder P)
+unfolding topCode holdOf
+found {P} m =
+    let a = stmt-found m [] (omega arith) .run 0 0 [] [] refl refl in (
+      ap (λ (r : Reader). complete (r .mode) (r .frames)) (a .is) ∙ complete-ready 1 (a .start) (a .frames) (a .ready),
+      ap (λ (r : Reader). r .nodes) (a .is) ∙ append-nil (preorder P),
+    )
+
+pub reader-finds : (end : ℕ) (ws : List Word) (P : Stmt) → Means (tokens ws) P → readFrom end readerAtFirst ws ≡ good (preorder P)
+reader-finds end ws P m = reads-whole end readerAtFirst ws (found m .0) ∙ ap good (found m .1)
+
+-- where the steps stop, no continuation fits
+pub breaks-at : (ts : List Token) (i : ℕ) → Stops readerAtFirst ts i → Begins (take i ts) → BreaksAt ts i
+breaks-at ts i s b =
+    record {
+      before = b;
+      within = s .within;
+      here = λ l c.
+          let (us, P, m) = c in
+          broken-incomplete us (steps (take (suc i) ts) readerAtFirst) (s .here l)
+          (ap (λ (r : Reader). complete (r .mode) (r .frames)) (sym (steps-append (take (suc i) ts) us readerAtFirst)) ∙ found m .0);
+      none = λ P m. s .none (found m .0);
+    }
+
+pub broken-place : (end : ℕ) (ws : List Word) (p : ℕ) → readFrom end readerAtFirst ws ≡ bad p →
+    let ts = tokens ws in
+    (i : ℕ) × (p ≡ placeAt end ws i) × Stops readerAtFirst ts i × (Begins (take i ts) → BreaksAt ts i)
+unfolding isBroken
+broken-place end ws p h =
+    let (i, e, s) = reads-bad end readerAtFirst ws p refl h in
+    (i, e, s, breaks-at (tokens ws) i s)

@@ -4,7 +4,7 @@
 use mathlib.Core.Path.{_≡_, refl, sym, _∙_, ap}
 use mathlib.Core.Bool.{Bool, true, false, _||_}
 use mathlib.Core.List.{List, [], _∷_, _++_, append-assoc, append-nil}
-use Prim.Native.Nat.{ℕ, zero, suc, _+_, _*_, _<_, _≤_, min}
+use Prim.Native.Nat.{ℕ, suc, _+_, _*_, _<_, _≤_, min}
 use native.Mathlib.Omega.{arith}
 use lib.Dec.{eqb, ltb}
 use lib.ListN.{length, take, drop, set, length-append, length-set}
@@ -20,11 +20,11 @@ use Rattle.model.specs.Reader.{Frame, frame, Reader, reader, readerAtFirst, hol
 use Rattle.model.specs.TextPromises.{placeAt}
 use Rattle.theory.specs.Refusals.Laws.{by-bool}
 use Rattle.theory.specs.Text.Runs.{steps, steps-append, Complete, Stops, broken-incomplete, reads-whole, reads-bad}
-use Rattle.theory.specs.Text.Parts.{Under, Ready, pop-ready, same-reader, inserted, inserted-snoc, Finds, read-bare, read-behind, finds-weaker, finds-leaf, Joins, finds-operator, Turns, finds-then, finds-group}
+use Rattle.theory.specs.Text.Parts.{Under, Ready, pop-ready, same-reader, inserted, inserted-snoc, Finds, read-bare, read-behind, finds-weaker, finds-leaf, finds-operator, Turns, finds-then, finds-group}
 
 -- Expressions --------------------------------------------------------------------------------------------------------------------------
 
--- How tightly what stands below an expression of a level may hold, and how far back what follows it may reach. Nothing reaches further than 8.
+-- How tightly what stands below an expression of a level may hold, and how far back what follows it may reach; nothing reaches further than 8.
 abbrev low : ℕ → ℕ
 low l = 2 * l + 2
 
@@ -72,6 +72,7 @@ unfolding onAfterOperand
 comparison-step equal r e = rw e refl
 comparison-step less r e = rw e refl
 
+-- the frame of ! holds what follows it, as an operator's does
 complement-found : {ts : List Token} {ms : List Node} {K : List Frame} {ys : List Node}
     → ((p : ℕ) → Finds Operand AfterOperand 8 ts ms (frame 3 p ∷ K) ys) → Finds Operand AfterOperand 8 (sign 3 ∷ ts) (node 3 0 0 ∷ ms) K ys
 unfolding steps stepOf onOperand openedNode holdOf
@@ -118,23 +119,34 @@ with-delay m p d k v r ws zs e f =
     ∙ set-at ws (node k 0 v) zs (node k d v) p (sym e) in
     same-reader refl (sym (length-set (r .nodes) p _) ∙ ap length now) now
 
-at-turns : (h : ℕ) → ((eqb h 18 || eqb h 21) || (eqb h 22 || eqb h cUntil)) ≡ true
-    → Turns AfterOperand (sign cAt) h (λ r. reader Delay (r .start) (r .frames) (r .cursor) (r .nodes))
+-- the codes of the frames whose nodes have a delay
+abbrev delays : ℕ → Bool
+delays h = (eqb h 18 || eqb h 21) || (eqb h 22 || eqb h cUntil)
+
+abbrev awaiting : Reader → Reader
+awaiting r = reader Delay (r .start) (r .frames) (r .cursor) (r .nodes)
+
+at-turns : (h : ℕ) → delays h ≡ true → Turns AfterOperand (sign cAt) h awaiting
 unfolding stepOf onAfterOperand settled topCode
 at-turns h t p q c i fs K ns e = rw e (rw t refl)
 
--- an expression and its delay, of the node k at the frame on top; what the delay completes, g says
-timed-found : {ts : List Token} {e : Expr} → IsExpr 0 ts e → (d h k v : ℕ) (g : Reader → Reader) → holdOf h ≡ 0
-    → ((eqb h 18 || eqb h 21) || (eqb h 22 || eqb h cUntil)) ≡ true
-    → (K : List Frame) (p : ℕ) → ((c i : ℕ) (ns : List Node) → onDelay (numeral d) (reader Delay c (frame h p ∷ K) i ns) ≡ g (withDelay Body p d (reader Delay c (frame h p ∷ K) i ns)))
-    → (rest : List Token) (s c : ℕ) (ns ws ys : List Node) → p ≡ length ws → c ≡ p + 1 → ns ≡ ws ++ (node k 0 v ∷ ys) →
-    let ms = ws ++ (node k d v ∷ (preorderE e ++ ys)) in
-    steps (timed ts d rest) (reader Operand s (frame h p ∷ K) c ns) ≡ steps rest (g (reader Body p (frame h p ∷ K) (length ms) ms))
+-- once the node of the frame on top, of code h, has its delay d, the reader does g
+abbrev Completes : ℕ → ℕ → (Reader → Reader) → Type 0
+Completes d h g = (p c i : ℕ) (K : List Frame) (ns : List Node) →
+    let r = reader Delay c (frame h p ∷ K) i ns in
+    onDelay (numeral d) r ≡ g (withDelay Body p d r)
+
+-- an expression, and the delay of the node at p that it belongs to
+timed-found : {ts : List Token} {x : Expr} → IsExpr 0 ts x → (d h k v : ℕ) (g : Reader → Reader) → holdOf h ≡ 0 → delays h ≡ true → Completes d h g
+    → (K : List Frame) (rest : List Token) (s p : ℕ) (ns ws ys : List Node) → p ≡ length ws → ns ≡ ws ++ (node k 0 v ∷ ys) →
+    let ms = ws ++ (node k d v ∷ (preorderE x ++ ys)) in
+    steps (timed ts d rest) (reader Operand s (frame h p ∷ K) (p + 1) ns) ≡ steps rest (g (reader Body p (frame h p ∷ K) (length ms) ms))
 unfolding steps stepOf topCode
-timed-found {ts} {e} x d h k v g hold test K p told rest s c ns ws ys a b f =
-    let F = expr-found x (frame h p ∷ K) (omega (arith, hold)) ys in
-    finds-then (sign cAt) (λ r. reader Delay (r .start) (r .frames) (r .cursor) (r .nodes)) hold (at-turns h test) F (numeral d ∷ rest) s c ns (ws ++ (node k 0 v ∷ [])) (b ∙ simp length-append (omega arith)) (f ∙ sym (append-snoc ws (node k 0 v) ys))
-    ∙ ap (steps rest) (told c _ _ ∙ ap g (with-delay Body p d k v _ ws (preorderE e ++ ys) a (append-snoc ws (node k 0 v) (preorderE e ++ ys))))
+timed-found {x} w d h k v g hold test told K rest s p ns ws ys e f =
+    finds-then (sign cAt) awaiting hold (at-turns h test) (expr-found w (frame h p ∷ K) (omega (arith, hold)) ys) (numeral d ∷ rest) s (p + 1) ns
+    (ws ++ (node k 0 v ∷ [])) (simp length-append (omega arith)) (f ∙ sym (append-snoc ws (node k 0 v) ys))
+    ∙ ap (steps rest)
+    (told p (p + 1) _ K _ ∙ ap g (with-delay Body p d k v _ ws (preorderE x ++ ys) e (append-snoc ws (node k 0 v) (preorderE x ++ ys))))
 
 -- Statements ---------------------------------------------------------------------------------------------------------------------------
 
@@ -145,27 +157,15 @@ lowS l = 2 * l + 3
 abbrev farS : ℕ → ℕ
 farS l = 2 * l + 1
 
-ticks-found : {m : ℕ} {K : List Frame} (d : ℕ) → Finds Statement AfterStatement m (sign 17 ∷ (numeral d ∷ [])) (node 17 d 0 ∷ []) K []
-unfolding steps stepOf onStatement leaf
-ticks-found {K} d =
-    record {
-      run = λ s c ns xs e f.
-          read-bare (with-delay AfterStatement c d 17 0 _ xs [] e (inserted (node 17 0 0) c ns xs [] e f))
-          (simp length-append (omega arith)) refl;
-    }
+-- a statement's nodes go behind all others
+abbrev FindsStmt : ℕ → List Token → List Node → List Frame → Type 0
+FindsStmt m ts ms K = Finds Statement AfterStatement m ts ms K []
 
-becomes-found : {m : ℕ} {K : List Frame} {ts : List Token} {e : Expr} (d x : ℕ) → IsExpr 0 ts e
-    → Finds Statement AfterStatement m (name x ∷ (sign 18 ∷ timed ts d [])) (node 18 d x ∷ preorderE e) K []
-unfolding steps stepOf onStatement openedNode onDelay topCode closed topStart holdOf
-becomes-found {K} d x w =
-    record {
-      run = λ s c ns xs e f.
-          read-bare
-          (timed-found w d 18 18 x (closed AfterStatement) refl refl K c (λ b i ms. refl) [] s (c + 1) _ xs [] e refl (inserted (node 18 0 x) c ns xs [] e f))
-          (simp length-append (omega arith)) refl;
-    }
+-- a statement inside of one whose frame has code h
+abbrev Inside : ℕ → List Token → List Node → List Frame → Type 0
+Inside h ts ms K = (p : ℕ) → FindsStmt (farS 0) ts ms (frame h p ∷ K)
 
--- the words that close or turn what a statement stands in
+-- the words behind a statement that is inside of one
 braces-turn : Turns AfterStatement (sign cRight) cLeft (closed AfterStatement)
 unfolding stepOf onAfterStatement settled topCode closed topStart
 braces-turn p q c i fs K ns e = rw e refl
@@ -185,55 +185,82 @@ until-turns : Turns AfterStatement (sign cUntil) 23 conditioned
 unfolding stepOf onAfterStatement settled topCode topStart
 until-turns p q c i fs K ns e = rw e refl
 
--- a statement above a frame, of level 0
-abbrev Inner : ℕ → List Token → List Node → List Frame → Type 0
-Inner h ts ms K = (p : ℕ) → Finds Statement AfterStatement (farS 0) ts ms (frame h p ∷ K) []
+-- the kinds of statement that have a delay
+ticks-found : {m : ℕ} {K : List Frame} (d : ℕ) → FindsStmt m (sign 17 ∷ (numeral d ∷ [])) (node 17 d 0 ∷ []) K
+unfolding steps stepOf onStatement leaf
+ticks-found d =
+    record {
+      run = λ s c ns xs e f.
+          read-bare (with-delay AfterStatement c d 17 0 _ xs [] e (inserted (node 17 0 0) c ns xs [] e f))
+          (simp length-append (omega arith)) refl;
+    }
 
-ifs-found : {m : ℕ} {K : List Frame} {ts us vs : List Token} {e : Expr} {ms ls : List Node} (d : ℕ) → IsExpr 0 ts e → Inner cThen us ms K → Inner cElse vs ls K
-    → Finds Statement AfterStatement m (sign 21 ∷ timed ts d (sign cThen ∷ (us ++ (sign cElse ∷ (vs ++ (sign cEnd ∷ [])))))) (node 21 d 0 ∷ preorderE e ++ (ms ++ ls)) K []
+becomes-found : {m : ℕ} {K : List Frame} {ts : List Token} {x : Expr} (d v : ℕ) → IsExpr 0 ts x
+    → FindsStmt m (name v ∷ (sign 18 ∷ timed ts d [])) (node 18 d v ∷ preorderE x) K
+unfolding steps stepOf onStatement openedNode onDelay topCode closed topStart holdOf
+becomes-found {K} d v w =
+    record {
+      run = λ s c ns xs e f.
+          read-bare
+          (timed-found w d 18 18 v (closed AfterStatement) refl refl (λ p c i K ns. refl) K [] s c _ xs [] e (inserted (node 18 0 v) c ns xs [] e f))
+          (simp length-append (omega arith)) refl;
+    }
+
+ifs-found : {m : ℕ} {K : List Frame} {ts us vs : List Token} {x : Expr} {ms ls : List Node} (d : ℕ)
+    → IsExpr 0 ts x → Inside cThen us ms K → Inside cElse vs ls K
+    → FindsStmt m (sign 21 ∷ timed ts d (sign cThen ∷ (us ++ (sign cElse ∷ (vs ++ (sign cEnd ∷ [])))))) (node 21 d 0 ∷ preorderE x ++ (ms ++ ls)) K
 unfolding steps stepOf onStatement openedNode onDelay onBody topCode closed turned topStart holdOf
-ifs-found {K} {us} {vs} {e = x} {ms} {ls} d w f g =
+ifs-found {K} {us} {vs} {x} {ms} d w f g =
     record {
       run = λ s c ns xs e a.
+          let rest = vs ++ (sign cEnd ∷ []) in
           let xs′ = xs ++ (node 21 d 0 ∷ preorderE x) in
           read-bare
-          (timed-found w d 21 21 0 (λ r. r) refl refl K c (λ b i ms. refl) (sign cThen ∷ (us ++ (sign cElse ∷ (vs ++ (sign cEnd ∷ []))))) s (c + 1) _ xs [] e refl (inserted (node 21 0 0) c ns xs [] e a)
-          ∙ finds-then (sign cElse) (turned Statement cElse) refl else-turns (f c) (vs ++ (sign cEnd ∷ [])) c _ _ xs′ (simp length-append (omega arith)) (simp append-assoc)
-          ∙ finds-then (sign cEnd) (closed AfterStatement) refl (end-turns cElse refl) (g c) [] _ _ _ (xs′ ++ ms) (simp length-append (omega arith)) (simp append-assoc))
+          (timed-found w d 21 21 0 (λ r. r) refl refl (λ p c i K ns. refl) K (sign cThen ∷ (us ++ (sign cElse ∷ rest))) s c _ xs [] e
+          (inserted (node 21 0 0) c ns xs [] e a)
+          ∙ finds-then (sign cElse) (turned Statement cElse) refl else-turns (f c) rest c _ _ xs′
+          (simp length-append (omega arith)) (simp append-assoc)
+          ∙ finds-then (sign cEnd) (closed AfterStatement) refl (end-turns cElse refl) (g c) [] _ _ _ (xs′ ++ ms)
+          (simp length-append (omega arith)) (simp append-assoc))
           (simp length-append (omega arith)) (simp append-assoc);
     }
 
-whiles-found : {m : ℕ} {K : List Frame} {ts us : List Token} {e : Expr} {ms : List Node} (d : ℕ) → IsExpr 0 ts e → Inner cDo us ms K
-    → Finds Statement AfterStatement m (sign 22 ∷ timed ts d (sign cDo ∷ (us ++ (sign cEnd ∷ [])))) (node 22 d 0 ∷ preorderE e ++ ms) K []
+whiles-found : {m : ℕ} {K : List Frame} {ts us : List Token} {x : Expr} {ms : List Node} (d : ℕ) → IsExpr 0 ts x → Inside cDo us ms K
+    → FindsStmt m (sign 22 ∷ timed ts d (sign cDo ∷ (us ++ (sign cEnd ∷ [])))) (node 22 d 0 ∷ preorderE x ++ ms) K
 unfolding steps stepOf onStatement openedNode onDelay onBody topCode closed turned topStart holdOf
-whiles-found {K} {us} {e = x} {ms} d w f =
+whiles-found {K} {us} {x} d w f =
     record {
       run = λ s c ns xs e a.
           read-bare
-          (timed-found w d 22 22 0 (λ r. r) refl refl K c (λ b i ms. refl) (sign cDo ∷ (us ++ (sign cEnd ∷ []))) s (c + 1) _ xs [] e refl (inserted (node 22 0 0) c ns xs [] e a)
-          ∙ finds-then (sign cEnd) (closed AfterStatement) refl (end-turns cDo refl) (f c) [] c _ _ (xs ++ (node 22 d 0 ∷ preorderE x)) (simp length-append (omega arith)) (simp append-assoc))
+          (timed-found w d 22 22 0 (λ r. r) refl refl (λ p c i K ns. refl) K (sign cDo ∷ (us ++ (sign cEnd ∷ []))) s c _ xs [] e
+          (inserted (node 22 0 0) c ns xs [] e a)
+          ∙ finds-then (sign cEnd) (closed AfterStatement) refl (end-turns cDo refl) (f c) [] c _ _ (xs ++ (node 22 d 0 ∷ preorderE x))
+          (simp length-append (omega arith)) (simp append-assoc))
           (simp length-append (omega arith)) (simp append-assoc);
     }
 
-repeats-found : {m : ℕ} {K : List Frame} {ts us : List Token} {e : Expr} {ms : List Node} (d : ℕ) → Inner 23 us ms K → IsExpr 0 ts e
-    → Finds Statement AfterStatement m (sign 23 ∷ (us ++ (sign cUntil ∷ timed ts d (sign cEnd ∷ [])))) (node 23 d 0 ∷ preorderE e ++ ms) K []
+-- the nodes of the condition go before those of the body, which has been read
+repeats-found : {m : ℕ} {K : List Frame} {ts us : List Token} {x : Expr} {ms : List Node} (d : ℕ) → Inside 23 us ms K → IsExpr 0 ts x
+    → FindsStmt m (sign 23 ∷ (us ++ (sign cUntil ∷ timed ts d (sign cEnd ∷ [])))) (node 23 d 0 ∷ preorderE x ++ ms) K
 unfolding steps stepOf onStatement openedNode onDelay onBody topCode closed topStart holdOf
-repeats-found {K} {ts} {e = x} {ms} d f w =
+repeats-found {K} {ts} {ms} d f w =
     record {
       run = λ s c ns xs e a.
           read-bare
-          (finds-then (sign cUntil) conditioned refl until-turns (f c) (timed ts d (sign cEnd ∷ [])) s (c + 1) _ (xs ++ (node 23 0 0 ∷ [])) (simp length-append (omega arith)) (inserted-snoc (node 23 0 0) c ns xs [] e a)
-          ∙ timed-found w d cUntil 23 0 (λ r. r) refl refl K c (λ b i ms. refl) (sign cEnd ∷ []) _ (c + 1) _ xs (ms ++ []) e refl (append-snoc xs (node 23 0 0) (ms ++ [])))
+          (finds-then (sign cUntil) conditioned refl until-turns (f c) (timed ts d (sign cEnd ∷ [])) s (c + 1) _ (xs ++ (node 23 0 0 ∷ []))
+          (simp length-append (omega arith)) (inserted-snoc (node 23 0 0) c ns xs [] e a)
+          ∙ timed-found w d cUntil 23 0 (λ r. r) refl refl (λ p c i K ns. refl) K (sign cEnd ∷ []) _ c _ xs (ms ++ []) e
+          (append-snoc xs (node 23 0 0) (ms ++ [])))
           (simp length-append (omega arith)) (simp append-assoc);
     }
 
-stmt-found : {l : ℕ} {ts : List Token} {P : Stmt} → IsStmt l ts P → (K : List Frame) → Under (lowS l) K
-    → Finds Statement AfterStatement (farS l) ts (preorder P) K []
+stmt-found : {l : ℕ} {ts : List Token} {P : Stmt} → IsStmt l ts P → (K : List Frame) → Under (lowS l) K → FindsStmt (farS l) ts (preorder P) K
 unfolding stepOf onStatement onAfterStatement preorder holdOf reachOf topCode
 stmt-found skip K u = finds-leaf (λ r. refl)
 stmt-found (ticks d) K u = ticks-found d
 stmt-found (becomes d x w) K u = becomes-found d x w
-stmt-found (ifs d w f g) K u = ifs-found d w (λ p. stmt-found f (frame cThen p ∷ K) (omega arith)) (λ p. stmt-found g (frame cElse p ∷ K) (omega arith))
+stmt-found (ifs d w f g) K u =
+    ifs-found d w (λ p. stmt-found f (frame cThen p ∷ K) (omega arith)) (λ p. stmt-found g (frame cElse p ∷ K) (omega arith))
 stmt-found (whiles d w f) K u = whiles-found d w (λ p. stmt-found f (frame cDo p ∷ K) (omega arith))
 stmt-found (repeats d f w) K u = repeats-found d (λ p. stmt-found f (frame 23 p ∷ K) (omega arith)) w
 stmt-found (braces f) K u = finds-group (sign cRight) refl (λ r. refl) braces-turn (λ p. stmt-found f (frame cLeft p ∷ K) (omega arith))
@@ -247,7 +274,7 @@ stmt-found (IsStmt.up f) K u = finds-weaker (omega arith) (stmt-found f K (omega
 
 -- Whole texts --------------------------------------------------------------------------------------------------------------------------
 
--- what is taken off does not turn on where what was read begins
+-- which frames are taken off does not turn on where what was read begins
 pop-frames : (r p q : ℕ) (K : List Frame) → pop r p K .frames ≡ pop r q K .frames
 unfolding pop
 pop-frames r p q [] = refl

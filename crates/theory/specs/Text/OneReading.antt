@@ -1,4 +1,5 @@
 -- A list of tokens has at most one reading: the reader makes the nodes of each, and the trees of these nodes are the reading again.
+-- So the grammar of model/Text is unambiguous.
 -- Assumes nothing.
 use mathlib.Core.Path.{_≡_, refl, sym, _∙_, ap}
 use mathlib.Core.List.{List, [], _∷_, _++_, append-assoc, append-nil}

@@ -3,9 +3,9 @@
 -- Assumes nothing: laws of model/Reader, for expressions and statements alike.
 use mathlib.Core.Path.{_≡_, refl, sym, _∙_, ap, ap₂}
 use mathlib.Core.List.{List, [], _∷_, _++_, append-assoc}
-use Prim.Native.Nat.{ℕ, zero, suc, _+_, _<_, _≤_}
+use Prim.Native.Nat.{ℕ, _+_, _<_, _≤_}
 use native.Mathlib.Omega.{arith}
-use lib.ListN.{length, take, drop, length-append}
+use lib.ListN.{length, length-append}
 use lib.Seq.{append-snoc, take-at, drop-at}
 use borrow.Author.Tests.{le-ltb, lt-ltb}
 use Rattle.model.specs.declared.Node.{Node}

@@ -2,9 +2,9 @@
 -- A reading is good where the steps end with a whole statement; a bad one names the first word at which they break, or the end.
 -- Assumes nothing: laws of model/Reader, from any reader.
 use mathlib.Core.Path.{_≡_, refl, sym, _∙_, ap}
-use mathlib.Core.Bool.{Bool, true, false}
+use mathlib.Core.Bool.{true, false}
 use mathlib.Core.List.{List, [], _∷_, _++_}
-use Prim.Native.Nat.{ℕ, zero, suc, _<_, _≤_, suc-le-suc}
+use Prim.Native.Nat.{ℕ, suc, _<_, _≤_, suc-le-suc}
 use native.Mathlib.Omega.{arith}
 use native.Mathlib.Nat.{not-suc-le-zero, le-of-suc-le-suc}
 use lib.ListN.{length, take}
@@ -13,7 +13,7 @@ use Rattle.model.specs.declared.Token.{Token}
 use Rattle.model.specs.declared.Mode.{Mode}
 use Rattle.model.specs.declared.Mode.the-variants.{Statement, AfterStatement, Operand, AfterOperand, Becomes, Ticks, Delay, Body, Broken}
 use Rattle.model.specs.Text.{Word, tokens}
-use Rattle.model.specs.Reader.{Frame, Reader, stepOf, step, isBroken, complete, Reading, good, bad, readFrom}
+use Rattle.model.specs.Reader.{Reader, stepOf, step, isBroken, complete, Reading, good, bad, readFrom}
 use Rattle.model.specs.TextPromises.{placeAt}
 use Rattle.theory.specs.Refusals.Laws.{by-bool, not-both}
 

@@ -5,3 +5,4 @@ pub mod Found
 pub mod OneReading
 pub mod Bytes
 pub mod Order
+pub mod AsProgram

@@ -3,7 +3,7 @@
 -- Assumes nothing.
 use mathlib.Core.Path.{_≡_, refl, sym, _∙_, ap, ap₂}
 use mathlib.Core.Bool.{Bool, true, false, not, _&&_, _||_}
-use mathlib.Core.List.{List, [], _∷_}
+use mathlib.Core.List.{List, [], _∷_, _++_}
 use Prim.Native.Nat.{ℕ, zero, suc, _+_, _≤_, _<_}
 use native.Mathlib.Omega.{arith}
 use native.Mathlib.Decide.{ℕ-discrete}
@@ -107,6 +107,18 @@ first-drop zero (c ∷ cs) e = refl
 first-drop (suc n) [] e = refl
 first-drop (suc n) (Accepted ∷ cs) e = first-drop n cs e
 first-drop (suc n) (Refused q ∷ cs) e = not-refused e
+
+-- checks that accept don't matter to those behind them
+pub first-append : (cs ds : List Checked) → first cs ≡ Accepted → first (cs ++ ds) ≡ first ds
+first-append [] ds e = refl
+first-append (Accepted ∷ cs) ds e = first-append cs ds e
+first-append (Refused q ∷ cs) ds e = not-refused e
+
+-- and what is refused first is refused first with more checks behind
+pub refused-append : (cs ds : List Checked) (r : Refusal) → first cs ≡ Refused r → first (cs ++ ds) ≡ Refused r
+refused-append [] ds r e = not-refused (sym e)
+refused-append (Accepted ∷ cs) ds r e = refused-append cs ds r e
+refused-append (Refused q ∷ cs) ds r e = e
 
 pub accept-take : (n : ℕ) (cs : List Checked) → first cs ≡ Accepted → first (take n cs) ≡ Accepted
 accept-take zero [] e = refl

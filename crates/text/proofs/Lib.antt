@@ -1,0 +1,1 @@
+-- The laws behind the proofs of the functions.

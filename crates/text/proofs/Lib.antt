@@ -1,1 +1,3 @@
 -- The laws behind the proofs of the functions.
+pub mod ScanNumbers
+pub mod ScanRuns

@@ -1,63 +1,82 @@
+-- `words::one_code` meets its contract, arm by arm. Assumes nothing.
+use mathlib.Core.Path.{refl, sym}
+use borrow.Author.Tests.{ne-eqb}
+use Rattle.model.specs.Text.{oneCode}
 use Rattle.text.proofs.words.one_code.Statement.{statement}
 use Rattle.text.proofs.words.one_code.Tie as tie
-use Rattle.text.proofs.words.one_code.Reads as reads
-use Rattle.text.proofs.words.one_code.Lts as lts
 
--- src/words.rt:222:1
 returns : tie.Need-returns
-returns c = ?
+unfolding oneCode
+returns c = rw (c .match .keys1) refl
 
--- src/words.rt:222:1
 returns-2 : tie.Need-returns-2
-returns-2 c = ?
+unfolding oneCode
+returns-2 c = rw (c .match .keys2) refl
 
--- src/words.rt:222:1
 returns-3 : tie.Need-returns-3
-returns-3 c = ?
+unfolding oneCode
+returns-3 c = rw (c .match .keys3) refl
 
--- src/words.rt:222:1
 returns-4 : tie.Need-returns-4
-returns-4 c = ?
+unfolding oneCode
+returns-4 c = rw (c .match .keys4) refl
 
--- src/words.rt:222:1
 returns-5 : tie.Need-returns-5
-returns-5 c = ?
+unfolding oneCode
+returns-5 c = rw (c .match .keys5) refl
 
--- src/words.rt:222:1
 returns-6 : tie.Need-returns-6
-returns-6 c = ?
+unfolding oneCode
+returns-6 c = rw (c .match .keys6) refl
 
--- src/words.rt:222:1
 returns-7 : tie.Need-returns-7
-returns-7 c = ?
+unfolding oneCode
+returns-7 c = rw (c .match .keys7) refl
 
--- src/words.rt:222:1
 returns-8 : tie.Need-returns-8
-returns-8 c = ?
+unfolding oneCode
+returns-8 c = rw (c .match .keys8) refl
 
--- src/words.rt:222:1
 returns-9 : tie.Need-returns-9
-returns-9 c = ?
+unfolding oneCode
+returns-9 c = rw (c .match .keys9) refl
 
--- src/words.rt:222:1
 returns-10 : tie.Need-returns-10
-returns-10 c = ?
+unfolding oneCode
+returns-10 c = rw (c .match .keys10) refl
 
--- src/words.rt:222:1
 returns-11 : tie.Need-returns-11
-returns-11 c = ?
+unfolding oneCode
+returns-11 c = rw (c .match .keys11) refl
 
--- src/words.rt:222:1
 returns-12 : tie.Need-returns-12
-returns-12 c = ?
+unfolding oneCode
+returns-12 c = rw (c .match .keys12) refl
 
--- src/words.rt:222:1
 returns-13 : tie.Need-returns-13
-returns-13 c = ?
+unfolding oneCode
+returns-13 c = rw (c .match .keys13) refl
 
--- src/words.rt:222:1
 returns-14 : tie.Need-returns-14
-returns-14 c = ?
+unfolding oneCode
+returns-14 c =
+    let rest = c .match .rest in
+    sym
+    (simp
+    (oneCode,
+    ne-eqb _ _ (rest .1),
+    ne-eqb _ _ (rest .0 .1),
+    ne-eqb _ _ (rest .0 .0 .1),
+    ne-eqb _ _ (rest .0 .0 .0 .1),
+    ne-eqb _ _ (rest .0 .0 .0 .0 .1),
+    ne-eqb _ _ (rest .0 .0 .0 .0 .0 .1),
+    ne-eqb _ _ (rest .0 .0 .0 .0 .0 .0 .1),
+    ne-eqb _ _ (rest .0 .0 .0 .0 .0 .0 .0 .1),
+    ne-eqb _ _ (rest .0 .0 .0 .0 .0 .0 .0 .0 .1),
+    ne-eqb _ _ (rest .0 .0 .0 .0 .0 .0 .0 .0 .0 .1),
+    ne-eqb _ _ (rest .0 .0 .0 .0 .0 .0 .0 .0 .0 .0 .1),
+    ne-eqb _ _ (rest .0 .0 .0 .0 .0 .0 .0 .0 .0 .0 .0 .1),
+    ne-eqb _ _ (rest .0 .0 .0 .0 .0 .0 .0 .0 .0 .0 .0 .0 .1)))
 
 pub one-code-spec : {M : Type 1} → statement M
 one-code-spec =

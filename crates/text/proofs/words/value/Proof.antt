@@ -1,53 +1,69 @@
+-- `words::value` meets its contract. The invariant: going on from v at byte i comes out as from 0 at the start. No value on the way
+-- is above the last one, which has five digits. Assumes nothing.
+use mathlib.Core.Path.{_≡_, refl, sym, _∙_}
+use Prim.Native.Nat.{_-_, _+_, _*_, _≤_}
+use native.Mathlib.Omega.{arith}
+use lib.ListN.{length, getD, drop}
+use Rattle.model.specs.Text.{valueFrom}
+use Rattle.text.proofs.ScanNumbers.{digit-range, digit-at, value-more, value-end, value-grows, value-small}
 use Rattle.text.proofs.words.value.Statement.{statement}
 use Rattle.text.proofs.words.value.Tie as tie
-use Rattle.text.proofs.words.value.Reads as reads
-use Rattle.text.proofs.words.value.Lts as lts
 
 abbrev Inv-loop : tie.InvT-loop
-Inv-loop w v₀ i₀ v i = ?
+Inv-loop w v₀ i₀ v i = valueFrom 0 w ≡ valueFrom v (drop i w)
 
 abbrev μ-loop : tie.MeasureT-loop
-μ-loop w v₀ i₀ v i = ?
+μ-loop w v₀ i₀ v i = length w - i
 
--- src/words.rt:99:5
 loop-holds : tie.Need-loop-holds Inv-loop μ-loop
-loop-holds c = ?
+loop-holds c = refl
 
--- src/words.rt:100:13
 mul-v : tie.Need-mul-v Inv-loop μ-loop
-mul-v c = ?
+mul-v c =
+    let start = c .before .before in
+    let w = start .args .w .now in
+    let loop = c .before .loop in
+    omega (arith, loop .inv, value-grows (loop .v) (drop (loop .i) w), value-small w (start .pre .0) (start .pre .1))
 
--- src/words.rt:100:23
 shared-slice-read-v : tie.Need-shared-slice-read-v Inv-loop μ-loop
-shared-slice-read-v c = ?
+shared-slice-read-v c = omega arith
 
--- src/words.rt:100:23
 sub-v : tie.Need-sub-v Inv-loop μ-loop
-sub-v c = ?
+sub-v c =
+    let start = c .before .before .before in
+    let loop = c .before .before .loop in
+    omega (arith, digit-range _ (digit-at (start .args .w .now) (loop .i) (start .pre .1) (c .before .loop-test .taken)))
 
--- src/words.rt:100:22
 cast-v : tie.Need-cast-v Inv-loop μ-loop
-cast-v c = ?
+cast-v c =
+    let start = c .before .before .before in
+    let loop = c .before .before .loop in
+    omega (arith, digit-range _ (digit-at (start .args .w .now) (loop .i) (start .pre .1) (c .before .loop-test .taken)))
 
--- src/words.rt:100:13
 add-v : tie.Need-add-v Inv-loop μ-loop
-add-v c = ?
+add-v c =
+    let start = c .before .before .before in
+    let w = start .args .w .now in
+    let loop = c .before .before .loop in
+    let next = 10 * loop .v + (getD w (loop .i) 0 - 48) in
+    omega (arith, loop .inv ∙ value-more w (loop .v) (c .before .loop-test .taken), value-grows next (drop (loop .i + 1) w), value-small w (start .pre .0) (start .pre .1))
 
--- src/words.rt:101:9
 add-i : tie.Need-add-i Inv-loop μ-loop
-add-i c = ?
+add-i c = omega arith
 
--- src/words.rt:99:5
 loop-less : tie.Need-loop-less Inv-loop μ-loop
-loop-less c = ?
+loop-less c = omega arith
 
--- src/words.rt:99:5
 loop-again : tie.Need-loop-again Inv-loop μ-loop
-loop-again c = ?
+loop-again c =
+    let start = c .before .before .before in
+    let loop = c .before .before .loop in
+    loop .inv ∙ value-more (start .args .w .now) (loop .v) (c .before .loop-test .taken)
 
--- src/words.rt:93:1
 returns : tie.Need-returns Inv-loop μ-loop
-returns c = ?
+returns c =
+    let loop = c .before .loop in
+    sym (loop .inv ∙ value-end (c .before .before .args .w .now) (loop .v) (c .loop-test .left))
 
 pub value-spec : {M : Type 1} → statement M
 value-spec =

@@ -126,10 +126,10 @@ module _ (limit : ℕ) (w : List ℕ) where
   first-wrong e =
       let both = and-true (ltb 1 (length w)) (eqb (getD w 0 0) 48) e in
       no-number (λ n. let f : (eqb (length w) 1 || not (eqb (getD w 0 0) 48)) ≡ false =
-        rw (ne-eqb (length w) 1 (omega (arith, ltb-true 1 (length w) (both .0))), both .1) refl in
+      rw (ne-eqb (length w) 1 (omega (arith, ltb-true 1 (length w) (both .0))), both .1) refl in
       not-both (n .first) f)
 
-  size-right : (eqb (length w) 0 || ltb 5 (length w)) ≡ false → (1 ≤ length w) × (length w ≤ 5)
+  pub size-right : (eqb (length w) 0 || ltb 5 (length w)) ≡ false → (1 ≤ length w) × (length w ≤ 5)
   size-right e =
       let both = or-false (eqb (length w) 0) (ltb 5 (length w)) e in
       (omega (arith, eqb-false (length w) 0 (both .0)), ltb-false 5 (length w) (both .1))
@@ -146,9 +146,6 @@ module _ (limit : ℕ) (w : List ℕ) where
   number-value e f g =
       let size = size-right e in
       all-true (and-of (le-leb 1 (length w) (size .0)) (le-leb (length w) 5 (size .1))) f (first-right (size .0) g)
-
-  pub number-short : (eqb (length w) 0 || ltb 5 (length w)) ≡ false → length w ≤ 5
-  number-short e = size-right e .1
 
 -- Names --------------------------------------------------------------------------------------------------------------------------------
 

@@ -20,15 +20,16 @@ front test (c ∷ s) = elim (test c) [ true ↦ suc (front test s) | false ↦ 0
 abbrev pub afterBlanks : ℕ → List ℕ → ℕ
 afterBlanks i text = i + front blank (drop i text)
 
--- the word at a place, where there is no blank
-unfoldable pub wordHere : ℕ → ℕ → List ℕ → Scanned
-wordHere p i text =
-    let s = drop i text in
-    record { found = true; token = tokenAt p s; place = i; end = i + sizeAt s }
+-- a word at place i, which ends before place e; and none, where the text ends
+abbrev pub aWord : Token → ℕ → ℕ → Scanned
+aWord t i e = record { found = true; token = t; place = i; end = e }
 
--- no word: the text ends
 abbrev pub noWord : ℕ → Scanned
 noWord i = record { found = false; token = sign 0; place = i; end = i }
+
+-- the word at place i, where there is no blank
+unfoldable pub wordHere : ℕ → ℕ → List ℕ → Scanned
+wordHere p i text = let s = drop i text in aWord (tokenAt p s) i (i + sizeAt s)
 
 -- the first word of a text from place i on, after a token of code p
 unfoldable pub nextWord : ℕ → ℕ → List ℕ → Scanned

@@ -137,7 +137,7 @@ words-first p i (c ∷ s) h e =
     let place : i + 1 + (n - 1) ≡ i + n = omega arith in
     let left : drop n (c ∷ s) ≡ drop (n - 1) s = ap (λ (k : ℕ). drop k (c ∷ s)) size in
     let next : wordsFrom (n - 1) (t .code) (i + 1) s ≡ wordsFrom 0 (t .code) (i + n) (drop n (c ∷ s)) =
-      rw (left, ← place) (words-skip (n - 1) (t .code) (i + 1) s) in
+    rw (left, ← place) (words-skip (n - 1) (t .code) (i + 1) s) in
     words-word p i c s (not-blank c s e) ∙ ap (λ (ws : List Word). wordAt t i ∷ ws) next
 
 -- the next word of a text
@@ -163,7 +163,7 @@ module _ (text : List ℕ) (from p : ℕ) where
       let some : 0 < length s = simp length-drop (omega arith) in
       let bare : front blank s ≡ 0 = rw (← drop-drop (front blank (drop from text)) from text) (front-left blank (drop from text)) in
       let first : wordsFrom 0 p place s ≡ wordAt (tokenAt p s) place ∷ wordsFrom 0 (tokenAt p s .code) (place + sizeAt s) (drop (place + sizeAt s) text) =
-        rw (← drop-drop (sizeAt s) place text) (words-first p place s some bare) in
+      rw (← drop-drop (sizeAt s) place text) (words-first p place s some bare) in
       let size = size-bounds s some in
       let long : sizeAt s ≤ length text - place = rw (length-drop place text) at (size .1) in
       record {
@@ -185,9 +185,12 @@ module _ (text : List ℕ) (from p : ℕ) where
         within = λ e. not-both e refl;
       }
 
-  pub next : Next text from p (nextWord p from text)
+  found-next : Next text from p (nextWord p from text)
   unfolding nextWord
-  next =
+  found-next =
       by-bool (ltb (afterBlanks from text) (length text))
       (λ z. rw z (next-word (ltb-true _ _ z)))
       (λ z. rw z (next-none (ltb-false _ _ z)))
+
+  pub next : {r : Scanned} → r ≡ nextWord p from text → Next text from p r
+  next e = rw e found-next

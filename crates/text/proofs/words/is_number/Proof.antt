@@ -3,7 +3,7 @@ use mathlib.Core.Path.{sym, _∙_}
 use native.Mathlib.Omega.{arith}
 use borrow.Author.Needs.{needs}
 use borrow.Author.Tests.{not-true, not-false}
-use Rattle.text.proofs.ScanNumbers.{size-wrong, digits-wrong, first-wrong, number-value, number-short}
+use Rattle.text.proofs.ScanNumbers.{size-wrong, digits-wrong, first-wrong, size-right, number-value}
 use Rattle.text.proofs.words.is_number.Statement.{statement}
 use Rattle.text.proofs.words.is_number.Tie as tie
 
@@ -22,7 +22,9 @@ returns-2 c =
     sym (digits-wrong (args .limit) (args .w .now) (sym (all-digits .ensures) ∙ not-true (all-digits .result) (c .if2 .taken)))
 
 shared-slice-read-if3 : tie.Need-shared-slice-read-if3
-shared-slice-read-if3 c = ?
+shared-slice-read-if3 c =
+    let args = c .before .before .before .before .before .args in
+    size-right (args .limit) (args .w .now) (c .before .before .before .if1 .left) .0
 
 returns-3 : tie.Need-returns-3
 returns-3 c =
@@ -35,7 +37,7 @@ value-requires c κs =
     let all-digits = c .before .before .before .all-digits in
     let if2 = c .before .before .if2 in
     let if1 = c .before .before .before .before .if1 in
-    (number-short (start .args .limit) (start .args .w .now) (if1 .left), sym (all-digits .ensures) ∙ not-false (all-digits .result) (if2 .left))
+    (size-right (start .args .limit) (start .args .w .now) (if1 .left) .1, sym (all-digits .ensures) ∙ not-false (all-digits .result) (if2 .left))
 
 returns-4 : tie.Need-returns-4
 returns-4 c =

@@ -62,21 +62,22 @@ unfolding oneCode
 returns-14 c =
     let rest = c .match .rest in
     sym
-    (simp
-    (oneCode,
-    ne-eqb _ _ (rest .1),
-    ne-eqb _ _ (rest .0 .1),
-    ne-eqb _ _ (rest .0 .0 .1),
-    ne-eqb _ _ (rest .0 .0 .0 .1),
-    ne-eqb _ _ (rest .0 .0 .0 .0 .1),
-    ne-eqb _ _ (rest .0 .0 .0 .0 .0 .1),
-    ne-eqb _ _ (rest .0 .0 .0 .0 .0 .0 .1),
-    ne-eqb _ _ (rest .0 .0 .0 .0 .0 .0 .0 .1),
-    ne-eqb _ _ (rest .0 .0 .0 .0 .0 .0 .0 .0 .1),
-    ne-eqb _ _ (rest .0 .0 .0 .0 .0 .0 .0 .0 .0 .1),
-    ne-eqb _ _ (rest .0 .0 .0 .0 .0 .0 .0 .0 .0 .0 .1),
-    ne-eqb _ _ (rest .0 .0 .0 .0 .0 .0 .0 .0 .0 .0 .0 .1),
-    ne-eqb _ _ (rest .0 .0 .0 .0 .0 .0 .0 .0 .0 .0 .0 .0 .1)))
+    (simp (
+      oneCode,
+      ne-eqb _ _ (rest .1),
+      ne-eqb _ _ (rest .0 .1),
+      ne-eqb _ _ (rest .0 .0 .1),
+      ne-eqb _ _ (rest .0 .0 .0 .1),
+      ne-eqb _ _ (rest .0 .0 .0 .0 .1),
+      ne-eqb _ _ (rest .0 .0 .0 .0 .0 .1),
+      ne-eqb _ _ (rest .0 .0 .0 .0 .0 .0 .1),
+      ne-eqb _ _ (rest .0 .0 .0 .0 .0 .0 .0 .1),
+      ne-eqb _ _ (rest .0 .0 .0 .0 .0 .0 .0 .0 .1),
+      ne-eqb _ _ (rest .0 .0 .0 .0 .0 .0 .0 .0 .0 .1),
+      ne-eqb _ _ (rest .0 .0 .0 .0 .0 .0 .0 .0 .0 .0 .1),
+      ne-eqb _ _ (rest .0 .0 .0 .0 .0 .0 .0 .0 .0 .0 .0 .1),
+      ne-eqb _ _ (rest .0 .0 .0 .0 .0 .0 .0 .0 .0 .0 .0 .0 .1),
+    ))
 
 pub one-code-spec : {M : Type 1} → statement M
 one-code-spec =

@@ -1,12 +1,12 @@
 -- Runs: equal words, and the token of a run.
 -- Assumes nothing.
 use mathlib.Core.Path.{_≡_, refl, sym, _∙_, ap}
-use mathlib.Core.Bool.{Bool, true, false, not, _&&_, _||_, and-false}
+use mathlib.Core.Bool.{Bool, true, false, _||_, and-false}
 use mathlib.Core.List.{List, [], _∷_}
-use Prim.Native.Nat.{ℕ, zero, suc, _+_, _-_, _*_, _≤_, _<_}
+use Prim.Native.Nat.{ℕ, suc, _+_, _-_, _≤_, _<_}
 use native.Mathlib.Omega.{arith}
 use native.Mathlib.Numerals.{add-one}
-use lib.Dec.{leb, eqb}
+use lib.Dec.{eqb}
 use lib.ListN.{length, getD, drop, drop-of-length-le}
 use lib.Seq.{drop-cons}
 use borrow.Author.Tests.{eq-eqb, ne-eqb}
@@ -92,6 +92,10 @@ past-all p = sym (p .among)
 pub limit-small : (p : ℕ) → limitAfter p ≤ 65535
 unfolding limitAfter
 limit-small p = by-bool (eqb p cAt || eqb p 17) (λ z. rw z (omega arith)) (λ z. rw z (omega arith))
+
+pub limit-large : (p : ℕ) → 255 ≤ limitAfter p
+unfolding limitAfter
+limit-large p = by-bool (eqb p cAt || eqb p 17) (λ z. rw z (omega arith)) (λ z. rw z (omega arith))
 
 module _ (p : ℕ) (w : List ℕ) where
   pub token-number : {n : ℕ} → isNumber (limitAfter p) w ≡ true → n ≡ valueFrom 0 w → numeral n ≡ runToken p w

@@ -1,21 +1,24 @@
 -- Words: a run or a sign at a place, and the first word that is outside the language.
 -- Assumes nothing.
-use mathlib.Core.Path.{_≡_, refl, sym, _∙_, ap, ap₂}
-use mathlib.Core.Bool.{Bool, true, false}
-use mathlib.Core.List.{List, [], _∷_}
+use mathlib.Core.Path.{_≡_, refl, _∙_, ap}
+use mathlib.Core.Bool.{true, false}
+use mathlib.Core.List.{List}
 use Prim.Native.Nat.{ℕ, _+_, _-_, _≤_, _<_}
 use native.Mathlib.Omega.{arith}
-use lib.Dec.{eqb}
+use lib.Dec.{ltb, eqb}
 use lib.ListN.{length, getD, take, drop, length-drop, drop-of-length-le}
 use lib.Seq.{getD-drop}
 use borrow.Author.Tests.{eq-eqb, ne-eqb}
 use Rattle.model.specs.declared.Token.{Token}
 use Rattle.model.specs.declared.Checked.the-variants.{Accepted}
 use Rattle.model.specs.Refusals.{refuse}
-use Rattle.model.specs.Text.{sign, runLength, twoCode, oneCode, runToken, tokenAt, sizeAt, wordsFrom, outside}
+use Rattle.model.specs.Text.{sign, runLength, twoCode, oneCode, isNumber, isName, limitAfter, runToken, tokenAt, sizeAt, wordsFrom, outside}
+use Rattle.theory.specs.Refusals.Laws.{by-bool}
 use Rattle.text.specs.declared.words.Scanned.{Scanned}
-use Rattle.text.specs.Scanning.{aWord, wordHere}
-use Rattle.text.specs.ScanningLaws.{inRun, run-front, front-length, Next}
+use Rattle.text.specs.Scanning.{afterBlanks, aWord, wordHere, nextWord, Next}
+use Rattle.text.specs.ScanningLaws.{inRun, run-front, front-length}
+use Rattle.text.proofs.ScanNumbers.{number-known, name-known}
+use Rattle.text.proofs.ScanRuns.{limit-large}
 
 -- A word at a place --------------------------------------------------------------------------------------------------------------------
 
@@ -50,6 +53,35 @@ module _ (text : List ℕ) (i : ℕ) {e : ℕ} (run : e ≡ i + runLength (drop 
     one-here h o =
         let first : getD (drop i text) 0 0 ≡ c = let z : i + 0 ≡ i = omega arith in rw (f, getD-drop i text 0 0, z) refl in
         rw (no-run, sign-code, eq-eqb two 0 h, first, o) refl
+
+-- How large values are ----------------------------------------------------------------------------------------------------------------
+
+module _ (p : ℕ) where
+  run-small : (w : List ℕ) → runToken p w .value ≤ limitAfter p
+  unfolding runToken
+  run-small w =
+      by-bool (isNumber (limitAfter p) w)
+      (λ z. rw z (number-known (limitAfter p) w z .small))
+      (λ z. by-bool (isName w)
+      (λ y. rw (z, y) (omega (arith, name-known w y .1 .small, limit-large p)))
+      (λ y. rw (z, y) (omega arith)))
+
+  token-small : (s : List ℕ) → tokenAt p s .value ≤ limitAfter p
+  unfolding tokenAt
+  token-small s =
+      by-bool (eqb (runLength s) 0)
+      (λ z. by-bool (eqb (twoCode (getD s 0 0) (getD s 1 0)) 0) (λ y. rw (z, y) (omega arith)) (λ y. rw (z, y) (omega arith)))
+      (λ z. rw z (run-small (take (runLength s) s)))
+
+  -- of a number that is right after `@` or `tick`, a byte
+  pub value-limited : (from : ℕ) (text : List ℕ) {r : Scanned} → r ≡ nextWord p from text → r .token .value ≤ limitAfter p
+  unfolding nextWord wordHere
+  value-limited from text e =
+      let place = afterBlanks from text in
+      rw e
+      (by-bool (ltb place (length text))
+      (λ z. rw z (token-small (drop place text)))
+      (λ z. rw z (omega arith)))
 
 -- The first word outside the language --------------------------------------------------------------------------------------------------
 

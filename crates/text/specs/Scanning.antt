@@ -1,9 +1,9 @@
 -- The next word of a text, from a place on: what `wordsFrom` of model/Text begins with there, and where it goes on.
 -- Assumes nothing.
-use mathlib.Core.Path.{_≡_, refl}
+use mathlib.Core.Path.{_≡_}
 use mathlib.Core.Bool.{Bool, true, false}
 use mathlib.Core.List.{List, [], _∷_}
-use Prim.Native.Nat.{ℕ, zero, suc, _+_, _≤_, _<_}
+use Prim.Native.Nat.{ℕ, suc, _+_, _≤_, _<_}
 use lib.Dec.{ltb}
 use lib.ListN.{length, drop}
 use Rattle.model.specs.declared.Token.{Token}
@@ -36,3 +36,12 @@ unfoldable pub nextWord : ℕ → ℕ → List ℕ → Scanned
 nextWord p i text =
     let place = afterBlanks i text in
     pick (ltb place (length text)) (wordHere p place text) (noWord place)
+
+-- what that says of the words from there on: r is the first, and the others are those from its end on; or there is none
+pub record Next (text : List ℕ) (from p : ℕ) (r : Scanned) : Type 0 where
+  pub word : r .found ≡ true
+      → wordsFrom 0 p from (drop from text) ≡ wordAt (r .token) (r .place) ∷ wordsFrom 0 (r .token .code) (r .end) (drop (r .end) text)
+  pub none : r .found ≡ false → wordsFrom 0 p from (drop from text) ≡ []
+  pub after : from ≤ r .place
+  pub nonempty : r .found ≡ true → r .place < r .end
+  pub within : r .found ≡ true → r .end ≤ length text

@@ -1,6 +1,6 @@
 -- The next word against the words of a text: `next` says what is known of what was found.
 -- Assumes nothing.
-use mathlib.Core.Path.{_≡_, refl, sym, _∙_, ap}
+use mathlib.Core.Path.{_≡_, refl, _∙_, ap}
 use mathlib.Core.Bool.{Bool, true, false, _||_, and-false}
 use mathlib.Core.List.{List, [], _∷_}
 use Prim.Native.Nat.{ℕ, zero, suc, _+_, _-_, _≤_, _<_}
@@ -9,12 +9,11 @@ use native.Mathlib.Numerals.{add-one}
 use lib.Dec.{ltb, eqb}
 use lib.ListN.{length, getD, drop, length-drop, drop-of-length-le}
 use lib.Seq.{drop-cons, drop-drop}
-use borrow.Author.Tests.{ltb-true, ltb-false, lt-ltb, le-ltb, eq-eqb, eqb-false}
-use Rattle.model.specs.Word.{pick}
+use borrow.Author.Tests.{ltb-true, ltb-false, eq-eqb, eqb-false}
 use Rattle.model.specs.Text.{blank, letter, digit, runLength, twoCode, tokenAt, sizeAt, Word, wordAt, wordsFrom}
 use Rattle.theory.specs.Refusals.Laws.{by-bool, not-both}
 use Rattle.text.specs.declared.words.Scanned.{Scanned}
-use Rattle.text.specs.Scanning.{front, afterBlanks, wordHere, noWord, nextWord}
+use Rattle.text.specs.Scanning.{front, afterBlanks, wordHere, noWord, nextWord, Next}
 
 -- The front of a list ------------------------------------------------------------------------------------------------------------------
 
@@ -140,15 +139,7 @@ words-first p i (c ∷ s) h e =
     rw (left, ← place) (words-skip (n - 1) (t .code) (i + 1) s) in
     words-word p i c s (not-blank c s e) ∙ ap (λ (ws : List Word). wordAt t i ∷ ws) next
 
--- the next word of a text
-pub record Next (text : List ℕ) (from p : ℕ) (r : Scanned) : Type 0 where
-  -- it is the first of the words from there on, and the others are those after it
-  pub word : r .found ≡ true
-      → wordsFrom 0 p from (drop from text) ≡ wordAt (r .token) (r .place) ∷ wordsFrom 0 (r .token .code) (r .end) (drop (r .end) text)
-  pub none : r .found ≡ false → wordsFrom 0 p from (drop from text) ≡ []
-  pub after : from ≤ r .place
-  pub nonempty : r .found ≡ true → r .place < r .end
-  pub within : r .found ≡ true → r .end ≤ length text
+-- The next word -------------------------------------------------------------------------------------------------------------------------
 
 module _ (text : List ℕ) (from p : ℕ) where
   -- what is left after the blanks

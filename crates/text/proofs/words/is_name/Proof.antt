@@ -1,7 +1,5 @@
 -- `words::is_name` meets its contract: the first byte, and the rest. Assumes nothing.
-use mathlib.Core.Path.{_≡_, sym, _∙_}
-use native.Mathlib.Omega.{arith}
-use lib.ListN.{getD}
+use mathlib.Core.Path.{sym, _∙_}
 use borrow.Author.Needs.{needs}
 use Rattle.text.proofs.ScanNumbers.{name-first, after-first, no-name, name-number}
 use Rattle.text.proofs.words.is_name.Statement.{statement}

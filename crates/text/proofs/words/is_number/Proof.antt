@@ -1,6 +1,5 @@
 -- `words::is_number` meets its contract, test by test. Assumes nothing.
 use mathlib.Core.Path.{sym, _∙_}
-use native.Mathlib.Omega.{arith}
 use borrow.Author.Needs.{needs}
 use borrow.Author.Tests.{not-true, not-false}
 use Rattle.text.proofs.ScanNumbers.{size-wrong, digits-wrong, first-wrong, size-right, number-value}

@@ -1,5 +1,4 @@
 -- `words::next_word` meets its contract. Assumes nothing.
-use mathlib.Core.Path.{_∙_}
 use borrow.Author.Tests.{lt-ltb, le-ltb}
 use Rattle.text.specs.Scanning.{nextWord}
 use borrow.Author.Needs.{needs}

@@ -1,11 +1,9 @@
 -- `words::run_token` meets its contract: a number, a name, or a word. Assumes nothing.
-use mathlib.Core.Path.{_≡_, refl, sym, _∙_, ap}
-use Prim.Native.Nat.{_≤_}
+use mathlib.Core.Path.{_≡_, sym, _∙_, ap}
 use native.Mathlib.Omega.{arith}
-use lib.ListN.{length, drop}
 use borrow.Author.Needs.{needs}
 use Rattle.model.specs.Text.{valueFrom, isNumber, limitAfter}
-use Rattle.text.proofs.ScanNumbers.{Number, number-known, name-known, after-first}
+use Rattle.text.proofs.ScanNumbers.{number-known, name-known, after-first}
 use Rattle.text.proofs.ScanRuns.{limit-small, token-number, token-name, token-word}
 use Rattle.text.proofs.words.run_token.Statement.{statement}
 use Rattle.text.proofs.words.run_token.Tie as tie

@@ -1,7 +1,7 @@
 -- `words::value` meets its contract. The invariant: going on from v at byte i comes out as from 0 at the start. No value on the way
 -- is above the last one, which has five digits. Assumes nothing.
 use mathlib.Core.Path.{_≡_, refl, sym, _∙_}
-use Prim.Native.Nat.{_-_, _+_, _*_, _≤_}
+use Prim.Native.Nat.{_-_, _+_, _*_}
 use native.Mathlib.Omega.{arith}
 use lib.ListN.{length, getD, drop}
 use Rattle.model.specs.Text.{valueFrom}

@@ -10,7 +10,8 @@ use model::Checked;
 use model::Refusal;
 use model::Token;
 
-// A word that was found: its token, the place of its first byte and the place after its last; else both places are where the text ends.
+// A word that was found: its token, the place of its first byte and the place after its last. Where there is none, both places are
+// behind the blanks.
 pub struct Scanned {
     pub found: bool,
     pub token: Token,

@@ -7,3 +7,4 @@ pub mod Circuit
 pub mod State
 pub mod NetlistFile
 pub mod Promises
+pub mod Text

@@ -1,0 +1,3 @@
+-- Programs as text: what the reader has read is always the beginning of a derivation.
+pub mod Open
+pub mod Sound

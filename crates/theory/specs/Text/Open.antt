@@ -11,7 +11,7 @@ use lib.Dec.{eqb, ltb, leb·suc-zero}
 use borrow.Author.Tests.{ltb-true, ltb-false}
 use Rattle.model.specs.declared.Node.{Node}
 use Rattle.model.specs.declared.Token.{Token}
-use Rattle.model.specs.Program.{Expr, Stmt, node, preorderE, preorder}
+use Rattle.model.specs.Program.{Expr, const, Stmt, ok, node, preorderE, preorder}
 use Rattle.model.specs.Text.{token, numeral, name, sign, cThen, cElse, cDo, cUntil, cEnd, cAt, cOpen, cClose, cLeft, cRight, Left, Comparison, IsExpr, timed, IsStmt, Means, Begins}
 use Rattle.model.specs.Reader.{Frame, frame, holdOf, reachOf, Popped, pop, topCode, topStart, comparison}
 use Rattle.theory.specs.Refusals.Laws.{by-bool, not-both}
@@ -75,16 +75,21 @@ fill {s} {g = g} {vs = vs} {ns = ns} (binary {k = k} {us = us} {ns = ms} o p) q 
 
 -- Binding by numbers: what an operator holds and how far it reaches, against the levels. Expressions group to the left and statements to
 -- the right, which is what the edge of 1 or 2 says.
-abbrev edge : Sort → ℕ
+abbrev pub edge : Sort → ℕ
 edge expression = 1
 edge statement = 2
 
-record Bounds (s : Sort) (k b g : ℕ) : Type 0 where
-  gives : holdOf k ≤ 2 * g + 3
-  wants : 2 * b + edge s ≤ holdOf k
-  most : b ≤ top s
+pub record Bounds (s : Sort) (k b g : ℕ) : Type 0 where
+  pub gives : holdOf k ≤ 2 * g + 3
+  pub wants : 2 * b + edge s ≤ holdOf k
+  pub holds : 1 ≤ holdOf k
+  pub most : b ≤ top s
 
-reaches : {s : Sort} {k a b g : ℕ} → Binary s k a b g → 2 * a + 1 ≤ reachOf k
+pub record Reaches (s : Sort) (k a : ℕ) : Type 0 where
+  pub far : 2 * a + 1 ≤ reachOf k
+  pub most : a ≤ top s
+
+pub reaches : {s : Sort} {k a b g : ℕ} → Binary s k a b g → Reaches s k a
 unfolding reachOf
 reaches (left Left.sum) = omega arith
 reaches (left Left.difference) = omega arith
@@ -95,7 +100,7 @@ reaches (compare Comparison.less) = omega arith
 reaches sequence = omega arith
 reaches parallel = omega arith
 
-bounds : {s : Sort} {k b g : ℕ} {us : List Token} {ns : List Node} → Piece s k b g us ns → Bounds s k b g
+pub bounds : {s : Sort} {k b g : ℕ} {us : List Token} {ns : List Node} → Piece s k b g us ns → Bounds s k b g
 unfolding holdOf
 bounds complement = omega arith
 bounds (binary (left Left.sum) p) = omega arith
@@ -151,12 +156,12 @@ pub data Open : List Frame → Sort → ℕ → List Token → List Node → Lis
   bracket : {fs : List Frame} {s s′ : Sort} {w k : ℕ} {ts us : List Token} {xs ns zs ys : List Node} → Open fs s w ts xs zs → Bracket k s zs s′ us ns ys
       → Open (frame k (length xs) ∷ fs) s′ 0 (ts ++ us) (xs ++ ns) ys
 
-low-enough : {fs : List Frame} {s : Sort} {w : ℕ} {ts : List Token} {xs zs : List Node} → Open fs s w ts xs zs → w ≤ top s
+pub low-enough : {fs : List Frame} {s : Sort} {w : ℕ} {ts : List Token} {xs zs : List Node} → Open fs s w ts xs zs → w ≤ top s
 low-enough whole = omega arith
 low-enough (operator o p h) = bounds p .most
 low-enough (bracket o b) = omega arith
 
-nothing-behind : {fs : List Frame} {w : ℕ} {ts : List Token} {xs zs : List Node} → Open fs statement w ts xs zs → zs ≡ []
+pub nothing-behind : {fs : List Frame} {w : ℕ} {ts : List Token} {xs zs : List Node} → Open fs statement w ts xs zs → zs ≡ []
 nothing-behind whole = refl
 nothing-behind (operator o p h) = nothing-behind o
 nothing-behind (bracket o (thens d h)) = refl
@@ -177,7 +182,7 @@ unchained (binary (compare Comparison.equal) p) c h = not-both refl c
 unchained (binary (compare Comparison.less) p) c h = not-both refl c
 
 -- an operator that is not taken off by a new one has room for all of what the new one makes
-has-room : {s : Sort} {k a b g k′ b′ g′ : ℕ} {us : List Token} {ns : List Node} → Binary s k a b g → Piece s k′ b′ g′ us ns → holdOf k′ ≤ reachOf k
+pub has-room : {s : Sort} {k a b g k′ b′ g′ : ℕ} {us : List Token} {ns : List Node} → Binary s k a b g → Piece s k′ b′ g′ us ns → holdOf k′ ≤ reachOf k
     → (comparison k && comparison k′) ≡ false → b′ ≤ g
 unfolding reachOf
 has-room (left Left.sum) p h c = omega (arith, bounds p .wants)
@@ -201,12 +206,76 @@ pub pop-after : {s : Sort} {fs : List Frame} {w l : ℕ} {ts us : List Token} {x
     → After s a (pop reach (length xs) fs .start) (pop reach (length xs) fs .frames) (xs ++ ns) zs (ts ++ us)
 unfolding pop
 pop-after reach a m whole p h h′ = after whole p h h′
-pop-after {s} {us = us} {ns = ns} reach a m (operator {fs = fs} {k = k} {g = g} {ts = ts} {us = us′} {xs = xs} {ns = ns′} {zs = zs} o q r) p h h′ =
-    go (λ i. pop-after reach a m o (fill q p) r i) (ltb reach (holdOf k)) refl
+pop-after {s} {us = us} {ns = ns} reach a m (operator {fs = fs} {k = k} {b = b} {g = g} {ts = ts} {us = us′} {xs = xs} {ns = ns′} {zs = zs} o q r) p h h′ =
+    go (λ i. pop-after reach a m o (fill q (lower b h p)) r i) (ltb reach (holdOf k)) refl
   where
     go : (a ≤ g → After s a (pop reach (length xs) fs .start) (pop reach (length xs) fs .frames) (xs ++ (ns′ ++ ns)) zs (ts ++ (us′ ++ us)))
-        → (b : Bool) → ltb reach (holdOf k) ≡ b
+        → (t : Bool) → ltb reach (holdOf k) ≡ t
         → After s a (pop reach (length (xs ++ ns′)) (frame k (length xs) ∷ fs) .start) (pop reach (length (xs ++ ns′)) (frame k (length xs) ∷ fs) .frames) (xs ++ ns′ ++ ns) zs (ts ++ us′ ++ us)
-    go f true e = rw (e, pop, append-assoc xs ns′ ns, append-assoc ts us′ us) (f (m g (omega (arith, ltb-true _ _ e, bounds q .gives))))
+    go f true e = rw (e, pop, append-assoc xs ns′ ns, append-assoc ts us′ us) (f (m g (omega (arith, ltb-true reach (holdOf k) e, bounds q .gives))))
     go f false e = rw (e, pop) (after (operator o q r) p h h′)
-pop-after reach a m (bracket {k = k} o b) p h h′ = rw (holds-nothing b, leb·suc-zero) (after (bracket o b) p h h′)
+pop-after reach a m (bracket {k = k} o b) p h h′ =
+    let e : ltb reach (holdOf k) ≡ false = rw (holds-nothing b) (leb·suc-zero reach) in
+    rw (e, pop) (after (bracket o b) p h h′)
+
+-- what is left on top holds no more than the reach
+pub pop-top : (reach p : ℕ) (fs : List Frame) → holdOf (topCode (pop reach p fs .frames)) ≤ reach
+unfolding pop topCode holdOf
+pop-top reach p [] = omega arith
+pop-top reach p (f ∷ fs) = go (pop-top reach (f .start) fs) (ltb reach (holdOf (f .code))) refl
+  where
+    go : holdOf (topCode (pop reach (f .start) fs .frames)) ≤ reach → (t : Bool) → ltb reach (holdOf (f .code)) ≡ t
+        → holdOf (topCode (pop reach p (f ∷ fs) .frames)) ≤ reach
+    go h true e = rw (e, pop) h
+    go h false e = rw (e, pop) (ltb-false reach (holdOf (f .code)) e)
+
+-- which frames are left does not depend on where the phrase begins
+pub pop-frames : (reach p q : ℕ) (fs : List Frame) → pop reach p fs .frames ≡ pop reach q fs .frames
+unfolding pop
+pop-frames reach p q [] = refl
+pop-frames reach p q (f ∷ fs) = by-bool (ltb reach (holdOf (f .code))) (λ e. rw (e, pop)) (λ e. rw (e, pop))
+
+-- Some continuation fits ---------------------------------------------------------------------------------------------------------------
+
+pub shorter : (ts us : List Token) → Begins (ts ++ us) → Begins ts
+shorter ts us (vs, P, d) = (us ++ vs, P, rw append-assoc at d)
+
+simple : IsStmt 0 (sign 16 ∷ []) ok
+simple = IsStmt.up (IsStmt.up IsStmt.skip)
+
+zero′ : IsExpr 0 (numeral 0 ∷ []) (const 0)
+zero′ = IsExpr.up (IsExpr.up (IsExpr.up (IsExpr.up (IsExpr.number 0))))
+
+-- what ends a bracket whose hole is filled, whatever its nodes
+record Ends (s : Sort) (ts : List Token) : Type 0 where
+  rest : List Token
+  nodes : List Node
+  phrase : Fits s (top s) (ts ++ rest) nodes
+
+ends : {s : Sort} {ts us : List Token} {ns : List Node} (rest : List Token) → ts ++ rest ≡ us → Fits s (top s) us ns → Ends s ts
+ends {s} {ns = ns} rest e p = record { rest = rest; nodes = ns; phrase = subst (λ (us : List Token). Fits s (top s) us ns) (sym e) p }
+
+closes : {k : ℕ} {s s′ : Sort} {us vs : List Token} {zs ns ms ys : List Node} → Bracket k s zs s′ us ns ys → Fits s′ 0 vs ms → Ends s (us ++ vs)
+closes parens (expr d) = ends (sign cClose ∷ []) refl (expr (IsExpr.parens d))
+closes (becomes x) (expr d) = ends (sign cAt ∷ (numeral 0 ∷ [])) refl (stmt (IsStmt.becomes 0 x d))
+closes ifs (expr d) =
+    ends (sign cAt ∷ (numeral 0 ∷ (sign cThen ∷ (sign 16 ∷ (sign cElse ∷ (sign 16 ∷ (sign cEnd ∷ []))))))) refl (stmt (IsStmt.ifs 0 d simple simple))
+closes (thens k e) (stmt d) = ends (sign cElse ∷ (sign 16 ∷ (sign cEnd ∷ []))) (simp append-assoc) (stmt (IsStmt.ifs k e d simple))
+closes (elses k e d) (stmt d′) = ends (sign cEnd ∷ []) (simp append-assoc) (stmt (IsStmt.ifs k e d d′))
+closes whiles (expr d) =
+    ends (sign cAt ∷ (numeral 0 ∷ (sign cDo ∷ (sign 16 ∷ (sign cEnd ∷ []))))) refl (stmt (IsStmt.whiles 0 d simple))
+closes (does k e) (stmt d) = ends (sign cEnd ∷ []) (simp append-assoc) (stmt (IsStmt.whiles k e d))
+closes repeats (stmt d) = ends (sign cUntil ∷ (numeral 0 ∷ (sign cAt ∷ (numeral 0 ∷ (sign cEnd ∷ []))))) refl (stmt (IsStmt.repeats 0 d zero′))
+closes (untils d) (expr e) = ends (sign cAt ∷ (numeral 0 ∷ (sign cEnd ∷ []))) (simp append-assoc) (stmt (IsStmt.repeats 0 d e))
+closes braces (stmt d) = ends (sign cRight ∷ []) refl (stmt (IsStmt.braces d))
+
+pub begins-open : {fs : List Frame} {s : Sort} {w l : ℕ} {ts us : List Token} {xs ns zs : List Node} → Open fs s w ts xs zs → Fits s l us ns → w ≤ l
+    → Begins (ts ++ us)
+begins-open whole p h = from (lower 0 h p)
+  where
+    from : {us : List Token} {ns : List Node} → Fits statement 0 us ns → Begins us
+    from {us} (stmt {P = P} d) = ([], P, rw append-nil d)
+begins-open {us = us} (operator {ts = ts} {us = us′} o q r) p h = rw append-assoc (begins-open o (fill q (lower _ h p)) r)
+begins-open {us = us} (bracket {ts = ts} {us = us′} o b) p h =
+    let c = closes b (lower 0 h p) in
+    shorter (ts ++ us′ ++ us) (c .rest) (simp append-assoc (simp append-assoc at (begins-open o (c .phrase) (low-enough o))))

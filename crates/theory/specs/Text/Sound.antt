@@ -1,1 +1,97 @@
--- Sound
+-- What the reader has read is always the beginning of a derivation: as long as it is not broken, some continuation fits; where it is complete,
+-- the tokens mean a statement whose nodes it has.
+-- Assumes of the tokens that a sign has no value, which holds of the words of every text.
+use mathlib.Core.Path.{_≡_, refl, sym, _∙_, ap, ap₂, subst}
+use mathlib.Core.Bool.{Bool, true, false, _&&_, _||_}
+use mathlib.Core.List.{List, [], _∷_, _++_, append-assoc, append-nil}
+use Prim.Native.Nat.{ℕ, zero, suc, _+_, _-_, _*_, _≤_, _<_}
+use native.Mathlib.Omega.{arith}
+use lib.ListN.{length, getD, take, drop, set, length-append, length-set}
+use lib.Seq.{take-append-seam, drop-append-seam, set-append-seam, getD-append-seam}
+use lib.Dec.{T, eqb, ltb, leb, ltb→lt}
+use borrow.Author.Tests.{eqb-true, leb-true}
+use Rattle.model.specs.declared.Node.{Node}
+use Rattle.model.specs.declared.Token.{Token}
+use Rattle.model.specs.declared.Mode.{Mode}
+use Rattle.model.specs.declared.Mode.the-variants.{Statement, AfterStatement, Operand, AfterOperand, Becomes, Ticks, Delay, Body, Broken}
+use Rattle.model.specs.Program.{Stmt, node, preorderE, preorder}
+use Rattle.model.specs.Text.{token, numeral, name, sign, cThen, cElse, cDo, cUntil, cEnd, cAt, cOpen, cClose, cLeft, cRight, Left, Comparison, IsExpr, IsStmt, Means, Begins}
+use Rattle.model.specs.Reader.{Frame, frame, Reader, reader, readerAtFirst, holdOf, reachOf, pop, topCode, topStart, comparison, insertAt, delayed, leaf, opened, openedNode, between, closed, turned, settled, withDelay, onStatement, onOperand, onAfterOperand, onAfterStatement, onDelay, onBody, stepOf, step, isBroken, complete}
+use Rattle.theory.specs.Refusals.Laws.{by-bool, not-both, and-true}
+use Rattle.theory.specs.Text.Open.{Sort, expression, statement, top, Fits, expr, stmt, lower, Binary, left, compare, sequence, parallel, reaches, Bracket, parens, becomes, ifs, thens, elses, whiles, does, repeats, untils, braces, Open, whole, operator, bracket, low-enough, nothing-behind, bounds, has-room, After, after, pop-after, pop-top, pop-frames, shorter, begins-open}
+use Rattle.theory.specs.Text.Open.Piece.{complement, binary}
+
+-- Where the reader stands --------------------------------------------------------------------------------------------------------------
+
+-- the nodes before the cursor and those behind it
+pub data At (R : List Node → List Node → Type 0) : ℕ → List Node → Type 0 where
+  at : (xs zs : List Node) → R xs zs → At R (length xs) (xs ++ zs)
+
+-- a phrase of a sort is expected
+abbrev pub Expects : Sort → List Frame → ℕ → List Node → List Token → Type 0
+Expects s fs c ns ts = At (λ xs zs. (w : ℕ) × Open fs s w ts xs zs) c ns
+
+-- the hole of bracket k on top is filled; with no bracket the phrase is all
+pub data Filled : ℕ → Sort → Sort → List Frame → List Node → List Node → List Token → Type 0 where
+  all : {ts : List Token} {ns : List Node} → Fits statement 0 ts ns → Filled 0 statement statement [] ns [] ts
+  inside : {fs : List Frame} {s s′ : Sort} {w k : ℕ} {ts us vs : List Token} {xs ns ms zs ys : List Node} → Open fs s w ts xs zs → Bracket k s zs s′ us ns ys
+      → Fits s′ 0 vs ms → Filled k s s′ (frame k (length xs) ∷ fs) (xs ++ ns ++ ms) ys (ts ++ us ++ vs)
+
+-- in bracket k on top an expression and its delay were read, and the word that follows is known
+pub data Timed : ℕ → List Frame → List Node → List Token → Type 0 where
+  of-becomes : {fs : List Frame} {p : ℕ} {xs : List Node} {ts : List Token} → After statement 2 p fs xs [] ts → Timed 18 (frame 18 p ∷ fs) xs ts
+  of-ifs : {fs : List Frame} {p : ℕ} {xs : List Node} {ts : List Token} → Open (frame cThen p ∷ fs) statement 0 (ts ++ (sign cThen ∷ [])) xs []
+      → Timed 21 (frame 21 p ∷ fs) xs ts
+  of-whiles : {fs : List Frame} {p : ℕ} {xs : List Node} {ts : List Token} → Open (frame cDo p ∷ fs) statement 0 (ts ++ (sign cDo ∷ [])) xs []
+      → Timed 22 (frame 22 p ∷ fs) xs ts
+  of-untils : {fs : List Frame} {p : ℕ} {xs : List Node} {ts : List Token} → After statement 2 p fs xs [] (ts ++ (sign cEnd ∷ [])) → Timed cUntil (frame cUntil p ∷ fs) xs ts
+
+abbrev pub Stands : Mode → ℕ → List Frame → ℕ → List Node → List Token → Type 0
+Stands Statement p fs c ns ts = Expects statement fs c ns ts
+Stands AfterStatement p fs c ns ts = At (λ xs zs. After statement 2 p fs xs zs ts) c ns
+Stands Operand p fs c ns ts = Expects expression fs c ns ts
+Stands AfterOperand p fs c ns ts = At (λ xs zs. After expression 4 p fs xs zs ts) c ns
+Stands Becomes p fs c ns ts = Expects expression fs c ns (ts ++ (sign 18 ∷ []))
+Stands Ticks p fs c ns ts = (d : ℕ) → After statement 2 p fs (delayed p d ns) [] (ts ++ (numeral d ∷ []))
+Stands Delay p fs c ns ts = (d : ℕ) → Timed (topCode fs) fs (delayed (topStart fs) d ns) (ts ++ (numeral d ∷ []))
+Stands Body p fs c ns ts = (c ≡ length ns) × Timed (topCode fs) fs ns ts
+Stands Broken p fs c ns ts = Unit {0}
+
+abbrev pub StandsAt : Reader → List Token → Type 0
+StandsAt r ts = Stands (r .mode) (r .start) (r .frames) (r .cursor) (r .nodes) ts
+
+-- Tokens -------------------------------------------------------------------------------------------------------------------------------
+
+-- only a numeral and a name have a value
+abbrev pub Proper : Token → Type 0
+Proper t = (t .code ≡ 1 → ⊥) → (t .code ≡ 2 → ⊥) → t .value ≡ 0
+
+-- a token of code k, or another one
+by-value : (R : Token → Type 0) (t : Token) (k : ℕ) → ((v : ℕ) → R (token k v)) → (eqb (t .code) k ≡ false → R t) → R t
+by-value R t k f g = by-bool (eqb (t .code) k) (λ e. subst R (ap (λ (c : ℕ). token c (t .value)) (sym (eqb-true (t .code) k e))) (f (t .value))) g
+
+sign-of : (t : Token) → Proper t → (k : ℕ) → 2 < k → t .code ≡ k → t ≡ sign k
+sign-of t h k l e = ap₂ token e (h (λ z. omega arith) (λ z. omega arith))
+
+by-sign : (R : Token → Type 0) (t : Token) → Proper t → (k : ℕ) → T (ltb 2 k) → R (sign k) → (eqb (t .code) k ≡ false → R t) → R t
+by-sign R t h k l p g =
+    by-bool (eqb (t .code) k) (λ e. subst R (sym (sign-of t h k (ltb→lt 2 k l) (eqb-true (t .code) k e))) p) g
+
+-- Nodes --------------------------------------------------------------------------------------------------------------------------------
+
+insert-is : (xs : List Node) (n : Node) (ns : List Node) → insertAt (length xs) n (xs ++ ns) ≡ xs ++ (n ∷ ns)
+insert-is xs n ns = rw (take-append-seam xs ns, drop-append-seam xs ns)
+
+-- a node goes before what was just read
+put-before : {R : List Node → List Node → Type 0} (n : Node) (xs ns zs : List Node) → R (xs ++ (n ∷ ns)) zs
+    → At R (length (xs ++ ns) + 1) (insertAt (length xs) n (xs ++ ns ++ zs))
+put-before {R} n xs ns zs h =
+    let e : length (xs ++ ns) + 1 ≡ length (xs ++ (n ∷ ns)) = rw (length-append xs ns, length-append xs (n ∷ ns)) (omega arith) in
+    rw (e, append-assoc xs ns zs, insert-is xs n (ns ++ zs), ← append-assoc xs (n ∷ ns) zs) (at (xs ++ (n ∷ ns)) zs h)
+
+put : {R : List Node → List Node → Type 0} (n : Node) (xs zs : List Node) → R (xs ++ (n ∷ [])) zs
+    → At R (length xs + 1) (insertAt (length xs) n (xs ++ zs))
+put {R} n xs zs h = subst (λ (ys : List Node). At R (length ys + 1) (insertAt (length xs) n (ys ++ zs))) (append-nil xs) (put-before n xs [] zs h)
+
+delayed-is : (xs : List Node) (k x d : ℕ) (ns : List Node) → delayed (length xs) d (xs ++ (node k 0 x ∷ ns)) ≡ xs ++ (node k d x ∷ ns)
+delayed-is xs k x d ns = rw (getD-append-seam xs (node k 0 x) ns (node 0 0 0)) (set-append-seam xs (node k 0 x) ns (node k d x))

@@ -95,3 +95,45 @@ put {R} n xs zs h = subst (λ (ys : List Node). At R (length ys + 1) (insertAt (
 
 delayed-is : (xs : List Node) (k x d : ℕ) (ns : List Node) → delayed (length xs) d (xs ++ (node k 0 x ∷ ns)) ≡ xs ++ (node k d x ∷ ns)
 delayed-is xs k x d ns = rw (getD-append-seam xs (node k 0 x) ns (node 0 0 0)) (set-append-seam xs (node k 0 x) ns (node k d x))
+
+-- What is expected is read -------------------------------------------------------------------------------------------------------------
+
+-- a phrase that holds together by itself, in the hole on top
+finished : {fs : List Frame} {s : Sort} {w : ℕ} {ts us ts′ : List Token} {xs ns xs′ zs : List Node} → Open fs s w ts xs zs → Fits s (top s) us ns
+    → xs′ ≡ xs ++ ns → ts′ ≡ ts ++ us → After s (top s) (length xs) fs xs′ zs ts′
+finished o p e f = rw (e, f) (after o p (low-enough o) (omega arith))
+
+on-operand : (t : Token) → Proper t → (p : ℕ) {fs : List Frame} {c : ℕ} {ns : List Node} {ts : List Token} → Expects expression fs c ns ts
+    → StandsAt (onOperand t (reader Operand p fs c ns)) (ts ++ (t ∷ []))
+unfolding onOperand leaf opened openedNode preorderE
+on-operand t h p {fs} {ts = ts} (at xs zs (w, o)) =
+    by-value R t 1 (λ v. put (node 1 0 v) xs zs (finished o (expr (IsExpr.number v)) refl refl)) λ e₁.
+    by-value R t 2 (λ v. put (node 2 0 v) xs zs (finished o (expr (IsExpr.variable v)) refl refl)) λ e₂.
+    by-sign R t h 3 tt (put (node 3 0 0) xs zs (4, operator o complement (low-enough o))) λ e₃.
+    by-sign R t h cOpen tt (at xs zs (0, rw append-nil at (bracket o parens))) λ e₄.
+    rw (e₁, e₂, e₃, e₄) tt
+  where
+    R : Token → Type 0
+    R t = StandsAt (onOperand t (reader Operand p fs (length xs) (xs ++ zs))) (ts ++ (t ∷ []))
+
+ticking : {fs : List Frame} {w : ℕ} {ts : List Token} {xs : List Node} → Open fs statement w ts xs []
+    → Stands Ticks (length xs) fs (length xs + 1) (insertAt (length xs) (node 17 0 0) (xs ++ [])) (ts ++ (sign 17 ∷ []))
+unfolding preorder
+ticking {ts = ts} {xs = xs} o d =
+    finished o (stmt (IsStmt.ticks d)) (ap (delayed (length xs) d) (insert-is xs (node 17 0 0) []) ∙ delayed-is xs 17 0 d []) (append-assoc ts _ _)
+
+on-statement : (t : Token) → Proper t → (p : ℕ) {fs : List Frame} {w : ℕ} {ts : List Token} {xs : List Node} → Open fs statement w ts xs []
+    → StandsAt (onStatement t (reader Statement p fs (length xs) (xs ++ []))) (ts ++ (t ∷ []))
+unfolding onStatement leaf opened openedNode preorder
+on-statement t h p {fs} {ts = ts} {xs = xs} o =
+    by-sign R t h 16 tt (put (node 16 0 0) xs [] (finished o (stmt IsStmt.skip) refl refl)) λ e₁.
+    by-sign R t h 17 tt (ticking o) λ e₂.
+    by-value R t 2 (λ v. put (node 18 0 v) xs [] (0, rw append-assoc (bracket o (becomes v)))) λ e₃.
+    by-sign R t h 21 tt (put (node 21 0 0) xs [] (0, bracket o ifs)) λ e₄.
+    by-sign R t h 22 tt (put (node 22 0 0) xs [] (0, bracket o whiles)) λ e₅.
+    by-sign R t h 23 tt (put (node 23 0 0) xs [] (0, bracket o repeats)) λ e₆.
+    by-sign R t h cLeft tt (at xs [] (0, rw append-nil at (bracket o braces))) λ e₇.
+    rw (e₁, e₂, e₃, e₄, e₅, e₆, e₇) tt
+  where
+    R : Token → Type 0
+    R t = StandsAt (onStatement t (reader Statement p fs (length xs) (xs ++ []))) (ts ++ (t ∷ []))

@@ -137,3 +137,72 @@ on-statement t h p {fs} {ts = ts} {xs = xs} o =
   where
     R : Token → Type 0
     R t = StandsAt (onStatement t (reader Statement p fs (length xs) (xs ++ []))) (ts ++ (t ∷ []))
+
+-- An operator between two phrases ------------------------------------------------------------------------------------------------------
+
+popped : {s : Sort} {p : ℕ} {fs : List Frame} {xs zs : List Node} {ts : List Token} (reach a : ℕ) → ((g : ℕ) → reach < 2 * g + 3 → a ≤ g) → a ≤ top s
+    → After s (top s) p fs xs zs ts → After s a (pop reach p fs .start) (pop reach p fs .frames) xs zs ts
+popped reach a m l (after o q h h′) = pop-after reach a m o q h (omega arith)
+
+room : {s : Sort} {k a b g : ℕ} {fs : List Frame} {w : ℕ} {ts : List Token} {xs zs : List Node} → Binary s k a b g → Open fs s w ts xs zs
+    → holdOf (topCode fs) ≤ reachOf k → (comparison k && comparison (topCode fs)) ≡ false → w ≤ g
+unfolding topCode
+room B whole h c = omega arith
+room B (operator o q r) h c = has-room B q h c
+room B (bracket o b) h c = omega arith
+
+put-operator : {s : Sort} {k a b g p : ℕ} {fs : List Frame} {xs zs : List Node} {ts : List Token} → Binary s k a b g → After s a p fs xs zs ts
+    → holdOf (topCode fs) ≤ reachOf k → (comparison k && comparison (topCode fs)) ≡ false
+    → Expects s (frame k p ∷ fs) (length xs + 1) (insertAt p (node k 0 0) (xs ++ zs)) (ts ++ (sign k ∷ []))
+put-operator {s} {k} {a} {b} B (after {fs = fs} {ts = ts} {us = us} {xs = xs} {ns = ns} {zs = zs} o q h h′) l c =
+    put-before (node k 0 0) xs ns zs (b, rw append-assoc (operator o (binary B (lower a h′ q)) (room B o l c)))
+
+-- only a comparison asks whether another one is open, and it reaches as far as that test looks
+unbound : {s : Sort} {k a b g : ℕ} (p : ℕ) (fs : List Frame) → Binary s k a b g → (comparison k && comparison (topCode (pop 7 p fs .frames))) ≡ false
+    → (comparison k && comparison (topCode (pop (reachOf k) p fs .frames))) ≡ false
+unfolding reachOf
+unbound p fs (left Left.sum) e = e
+unbound p fs (left Left.difference) e = e
+unbound p fs (left Left.and) e = e
+unbound p fs (left Left.or) e = e
+unbound p fs (compare Comparison.equal) e = e
+unbound p fs (compare Comparison.less) e = e
+unbound p fs sequence e = e
+unbound p fs parallel e = e
+
+-- k is put between
+puts : {s : Sort} {k a b g p : ℕ} {fs : List Frame} {c : ℕ} {ns : List Node} {ts : List Token} → Binary s k a b g
+    → (comparison k && comparison (topCode (pop 7 p fs .frames))) ≡ false → At (λ xs zs. After s (top s) p fs xs zs ts) c ns
+    → Expects s (frame k (pop (reachOf k) p fs .start) ∷ pop (reachOf k) p fs .frames) (c + 1)
+    (insertAt (pop (reachOf k) p fs .start) (node k 0 0) ns) (ts ++ (sign k ∷ []))
+puts {k = k} {a = a} {p = p} {fs = fs} B e (at xs zs q) =
+    let r = reaches B in
+    put-operator B (popped (reachOf k) a (λ g h. omega (arith, r .far)) (r .most) q) (pop-top (reachOf k) p fs) (unbound p fs B e)
+
+-- The hole on top is filled ------------------------------------------------------------------------------------------------------------
+
+topmost : {s : Sort} {a p : ℕ} {fs : List Frame} {xs zs : List Node} {ts : List Token} → After s a p fs xs zs ts → holdOf (topCode fs) ≤ 0
+    → (s′ : Sort) × Filled (topCode fs) s′ s fs xs zs ts
+unfolding topCode
+topmost (after whole p h h′) l = (statement, all (lower 0 h p))
+topmost (after (operator o q r) p h h′) l = absurd (omega (arith, bounds q .holds))
+topmost (after (bracket {s = s} o b) p h h′) l = (s, inside o b (lower 0 h p))
+
+filled : {s : Sort} {p : ℕ} {fs : List Frame} {xs zs : List Node} {ts : List Token} → After s (top s) p fs xs zs ts
+    → (s′ : Sort) × Filled (topCode (pop 0 p fs .frames)) s′ s (pop 0 p fs .frames) xs zs ts
+filled {p = p} {fs = fs} q = topmost (popped 0 0 (λ g h. omega arith) (omega arith) q) (pop-top 0 p fs)
+
+-- the word that closes a bracket
+data Closer : Sort → ℕ → ℕ → Type 0 where
+  by-paren : Closer expression cOpen cClose
+  by-end : Closer statement cElse cEnd
+  by-end′ : Closer statement cDo cEnd
+  by-brace : Closer statement cLeft cRight
+
+closing : {s s′ : Sort} {k c : ℕ} {fs : List Frame} {xs zs : List Node} {ts : List Token} → Closer s k c → Filled k s′ s fs xs zs ts
+    → After s (top s) (topStart fs) (drop 1 fs) xs zs (ts ++ (sign c ∷ []))
+unfolding topStart preorder
+closing by-paren (inside o parens (expr d)) = finished o (expr (IsExpr.parens d)) (simp append-nil) (simp append-assoc)
+closing by-end (inside o (elses k e d) (stmt d′)) = finished o (stmt (IsStmt.ifs k e d d′)) (simp append-assoc) (simp append-assoc)
+closing by-end′ (inside o (does k e) (stmt d)) = finished o (stmt (IsStmt.whiles k e d)) (simp append-assoc) (simp append-assoc)
+closing by-brace (inside o braces (stmt d)) = finished o (stmt (IsStmt.braces d)) (simp append-nil) (simp append-assoc)

@@ -40,9 +40,9 @@ pub data Filled : ℕ → Sort → Sort → List Frame → List Node → List No
 -- in bracket k on top an expression and its delay were read, and the word that follows is known
 pub data Timed : ℕ → List Frame → List Node → List Token → Type 0 where
   of-becomes : {fs : List Frame} {p : ℕ} {xs : List Node} {ts : List Token} → After statement 2 p fs xs [] ts → Timed 18 (frame 18 p ∷ fs) xs ts
-  of-ifs : {fs : List Frame} {p : ℕ} {xs : List Node} {ts : List Token} → Open (frame cThen p ∷ fs) statement 0 (ts ++ (sign cThen ∷ [])) xs []
+  of-ifs : {fs : List Frame} {p : ℕ} {xs : List Node} {ts us : List Token} → Open (frame cThen p ∷ fs) statement 0 us xs [] → us ≡ ts ++ (sign cThen ∷ [])
       → Timed 21 (frame 21 p ∷ fs) xs ts
-  of-whiles : {fs : List Frame} {p : ℕ} {xs : List Node} {ts : List Token} → Open (frame cDo p ∷ fs) statement 0 (ts ++ (sign cDo ∷ [])) xs []
+  of-whiles : {fs : List Frame} {p : ℕ} {xs : List Node} {ts us : List Token} → Open (frame cDo p ∷ fs) statement 0 us xs [] → us ≡ ts ++ (sign cDo ∷ [])
       → Timed 22 (frame 22 p ∷ fs) xs ts
   of-untils : {fs : List Frame} {p : ℕ} {xs : List Node} {ts : List Token} → After statement 2 p fs xs [] (ts ++ (sign cEnd ∷ [])) → Timed cUntil (frame cUntil p ∷ fs) xs ts
 
@@ -95,6 +95,13 @@ put {R} n xs zs h = subst (λ (ys : List Node). At R (length ys + 1) (insertAt (
 
 delayed-is : (xs : List Node) (k x d : ℕ) (ns : List Node) → delayed (length xs) d (xs ++ (node k 0 x ∷ ns)) ≡ xs ++ (node k d x ∷ ns)
 delayed-is xs k x d ns = rw (getD-append-seam xs (node k 0 x) ns (node 0 0 0)) (set-append-seam xs (node k 0 x) ns (node k d x))
+
+-- the node that begins a bracket, with the nodes in its hole and behind it
+delay-is : (xs : List Node) (k x d : ℕ) (ns zs : List Node)
+    → delayed (length xs) d (xs ++ (node k 0 x ∷ []) ++ ns ++ zs) ≡ xs ++ (node k d x ∷ (ns ++ zs))
+delay-is xs k x d ns zs =
+    let e : xs ++ (node k 0 x ∷ []) ++ ns ++ zs ≡ xs ++ (node k 0 x ∷ (ns ++ zs)) = simp append-assoc in
+    ap (delayed (length xs) d) e ∙ delayed-is xs k x d (ns ++ zs)
 
 -- What is expected is read -------------------------------------------------------------------------------------------------------------
 
@@ -206,3 +213,33 @@ closing by-paren (inside o parens (expr d)) = finished o (expr (IsExpr.parens d)
 closing by-end (inside o (elses k e d) (stmt d′)) = finished o (stmt (IsStmt.ifs k e d d′)) (simp append-assoc) (simp append-assoc)
 closing by-end′ (inside o (does k e) (stmt d)) = finished o (stmt (IsStmt.whiles k e d)) (simp append-assoc) (simp append-assoc)
 closing by-brace (inside o braces (stmt d)) = finished o (stmt (IsStmt.braces d)) (simp append-nil) (simp append-assoc)
+
+-- the words that lead from one bracket to the next
+else-next : {s : Sort} {fs : List Frame} {xs zs : List Node} {ts : List Token} → Filled cThen s statement fs xs zs ts
+    → (w : ℕ) × Open (frame cElse (topStart fs) ∷ drop 1 fs) statement w (ts ++ (sign cElse ∷ [])) xs zs
+unfolding topStart
+else-next (inside o (thens k e) (stmt d)) = (0, simp append-assoc (bracket o (elses k e d)))
+
+until-next : {s : Sort} {fs : List Frame} {xs zs : List Node} {ts : List Token} → Filled 23 s statement fs xs zs ts
+    → Expects expression (frame cUntil (topStart fs) ∷ drop 1 fs) (topStart fs + 1) (xs ++ zs) (ts ++ (sign cUntil ∷ []))
+unfolding topStart
+until-next (inside {xs = xs} {ms = ms} o repeats (stmt {P = P} d)) =
+    let e : length xs + 1 ≡ length (xs ++ (node 23 0 0 ∷ [])) = sym (length-append xs (node 23 0 0 ∷ [])) in
+    rw (e, append-nil) (at (xs ++ (node 23 0 0 ∷ [])) (preorder P) (0, simp append-assoc (bracket o (untils d))))
+
+-- the delay of an expression in a bracket
+delay-next : {k : ℕ} {s : Sort} {fs : List Frame} {xs zs : List Node} {ts : List Token} (d : ℕ) → Filled k s expression fs xs zs ts
+    → ((eqb k 18 || eqb k 21) || (eqb k 22 || eqb k cUntil)) ≡ true
+    → Timed k fs (delayed (topStart fs) d (xs ++ zs)) (ts ++ (sign cAt ∷ []) ++ (numeral d ∷ []))
+unfolding topStart preorder
+delay-next d (inside o parens e) h = not-both h refl
+delay-next d (inside {xs = xs} o (becomes x) (expr {e = e} q)) h = 
+    rw (delay-is xs 18 x d (preorderE e) [], append-nil) (simp append-assoc (of-becomes (finished o (stmt (IsStmt.becomes d x q)) refl refl)))
+delay-next d (inside {ts = ts} {us = us} {vs = vs} {xs = xs} o ifs (expr {e = e} q)) h =
+    rw (delay-is xs 21 0 d (preorderE e) [], append-nil)
+    (of-ifs {ts = ts ++ us ++ vs ++ (sign cAt ∷ []) ++ (numeral d ∷ [])} (bracket o (thens d q)) (simp append-assoc))
+delay-next d (inside {ts = ts} {us = us} {vs = vs} {xs = xs} o whiles (expr {e = e} q)) h =
+    rw (delay-is xs 22 0 d (preorderE e) [], append-nil)
+    (of-whiles {ts = ts ++ us ++ vs ++ (sign cAt ∷ []) ++ (numeral d ∷ [])} (bracket o (does d q)) (simp append-assoc))
+delay-next d (inside {ts = ts} {us = us} {vs = vs} {xs = xs} {ys = ys} o (untils b) (expr {e = e} q)) h =
+    of-untils {ts = ts ++ us ++ vs ++ (sign cAt ∷ []) ++ (numeral d ∷ [])} (finished o (stmt (IsStmt.repeats d b q)) (delay-is xs 23 0 d (preorderE e) ys) (simp append-assoc))

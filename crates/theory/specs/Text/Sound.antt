@@ -243,3 +243,51 @@ delay-next d (inside {ts = ts} {us = us} {vs = vs} {xs = xs} o whiles (expr {e =
     (of-whiles {ts = ts ++ us ++ vs ++ (sign cAt ∷ []) ++ (numeral d ∷ [])} (bracket o (does d q)) (simp append-assoc))
 delay-next d (inside {ts = ts} {us = us} {vs = vs} {xs = xs} {ys = ys} o (untils b) (expr {e = e} q)) h =
     of-untils {ts = ts ++ us ++ vs ++ (sign cAt ∷ []) ++ (numeral d ∷ [])} (finished o (stmt (IsStmt.repeats d b q)) (delay-is xs 23 0 d (preorderE e) ys) (simp append-assoc))
+
+-- After a phrase -----------------------------------------------------------------------------------------------------------------------
+
+record Operator (k : ℕ) : Type 0 where
+  before : ℕ
+  behind : ℕ
+  gives : ℕ
+  is : Binary expression k before behind gives
+
+operator-of : (i : ℕ) → i ≤ 5 → Operator (4 + i)
+operator-of zero h = record { before = 3; behind = 4; gives = 3; is = left Left.sum }
+operator-of (suc zero) h = record { before = 3; behind = 4; gives = 3; is = left Left.difference }
+operator-of (suc (suc zero)) h = record { before = 1; behind = 2; gives = 1; is = left Left.and }
+operator-of (suc (suc (suc zero))) h = record { before = 0; behind = 1; gives = 0; is = left Left.or }
+operator-of (suc (suc (suc (suc zero)))) h = record { before = 3; behind = 3; gives = 2; is = compare Comparison.equal }
+operator-of (suc (suc (suc (suc (suc zero))))) h = record { before = 3; behind = 3; gives = 2; is = compare Comparison.less }
+operator-of (suc (suc (suc (suc (suc (suc i)))))) h = absurd (omega arith)
+
+operator-at : (k : ℕ) → (leb 4 k && leb k 9) ≡ true → (2 < k) × Operator k
+operator-at k e =
+    let b = and-true (leb 4 k) (leb k 9) e in
+    let l = leb-true 4 k (b .0) in
+    let h = leb-true k 9 (b .1) in
+    let f : 4 + (k - 4) ≡ k = omega arith in
+    (omega arith, subst Operator f (operator-of (k - 4) (omega arith)))
+
+on-after-operand : (t : Token) → Proper t → (p : ℕ) {fs : List Frame} {c : ℕ} {ns : List Node} {ts : List Token} → Stands AfterOperand p fs c ns ts
+    → StandsAt (onAfterOperand t (reader AfterOperand p fs c ns)) (ts ++ (t ∷ []))
+unfolding onAfterOperand between closed settled
+on-after-operand t h p {fs} {ts = ts} (at xs zs q) =
+    by-bool (leb 4 (t .code) && leb (t .code) 9)
+    (λ e. rw e (
+    by-bool (comparison (t .code) && comparison (topCode (pop 7 p fs .frames))) (λ e′. rw e′ tt) λ e′.
+    let (l, o) = operator-at (t .code) e in
+    rw (e′, sign-of t h (t .code) l refl) (puts (o .is) e′ (at xs zs q)))) λ e₁.
+    by-sign R t h cClose tt (by-bool (eqb on-top cOpen) (λ e. rw e (at xs zs (closing by-paren (rw (eqb-true on-top cOpen e) at hole)))) (λ e. rw e tt)) λ e₂.
+    by-sign R t h cAt tt
+    (by-bool ((eqb on-top 18 || eqb on-top 21) || (eqb on-top 22 || eqb on-top cUntil)) (λ e. rw e (λ d. delay-next d hole e)) (λ e. rw e tt)) λ e₃.
+    rw (e₁, e₂, e₃) tt
+  where
+    R : Token → Type 0
+    R t = StandsAt (onAfterOperand t (reader AfterOperand p fs (length xs) (xs ++ zs))) (ts ++ (t ∷ []))
+
+    on-top : ℕ
+    on-top = topCode (pop 0 p fs .frames)
+
+    hole : Filled on-top (filled q .0) expression (pop 0 p fs .frames) xs zs ts
+    hole = filled q .1

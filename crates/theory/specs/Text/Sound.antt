@@ -291,3 +291,100 @@ on-after-operand t h p {fs} {ts = ts} (at xs zs q) =
 
     hole : Filled on-top (filled q .0) expression (pop 0 p fs .frames) xs zs ts
     hole = filled q .1
+
+on-after-statement : (t : Token) → Proper t → (p : ℕ) {fs : List Frame} {c : ℕ} {ns : List Node} {ts : List Token} → Stands AfterStatement p fs c ns ts
+    → StandsAt (onAfterStatement t (reader AfterStatement p fs c ns)) (ts ++ (t ∷ []))
+unfolding onAfterStatement between closed turned settled
+on-after-statement t h p {fs} {ts = ts} (at xs zs q) =
+    by-sign R t h 19 tt (puts sequence refl (at xs zs q)) λ e₁.
+    by-sign R t h 20 tt (puts parallel refl (at xs zs q)) λ e₂.
+    by-sign R t h cRight tt (by-bool (eqb on-top cLeft) (λ e. rw e (at xs zs (closing by-brace (known cLeft e)))) (λ e. rw e tt)) λ e₃.
+    by-sign R t h cElse tt (by-bool (eqb on-top cThen) (λ e. rw e (at xs zs (else-next (known cThen e)))) (λ e. rw e tt)) λ e₄.
+    by-sign R t h cEnd tt
+    (by-bool (eqb on-top cElse) (λ e. rw e (at xs zs (closing by-end (known cElse e)))) λ e.
+    by-bool (eqb on-top cDo) (λ e′. rw (e, e′) (at xs zs (closing by-end′ (known cDo e′)))) (λ e′. rw (e, e′) tt)) λ e₅.
+    by-sign R t h cUntil tt (by-bool (eqb on-top 23) (λ e. rw e (until-next (known 23 e))) (λ e. rw e tt)) λ e₆.
+    rw (e₁, e₂, e₃, e₄, e₅, e₆) tt
+  where
+    R : Token → Type 0
+    R t = StandsAt (onAfterStatement t (reader AfterStatement p fs (length xs) (xs ++ zs))) (ts ++ (t ∷ []))
+
+    on-top : ℕ
+    on-top = topCode (pop 0 p fs .frames)
+
+    known : (k : ℕ) → eqb on-top k ≡ true → Filled k (filled q .0) statement (pop 0 p fs .frames) xs zs ts
+    known k e = rw (eqb-true on-top k e) at (filled q .1)
+
+at-end : {R : List Node → List Node → Type 0} {c : ℕ} {ns : List Node} → c ≡ length ns → R ns [] → At R c ns
+at-end {R} {ns = ns} e h =
+    let a : At R (length ns) (ns ++ []) = at ns [] h in
+    rw e (rw append-nil at a)
+
+assigned : {fs : List Frame} {ns : List Node} {ts : List Token} → Timed 18 fs ns ts → After statement 2 (topStart fs) (drop 1 fs) ns [] ts
+unfolding topStart
+assigned (of-becomes a) = a
+
+then-next : {fs : List Frame} {ns : List Node} {ts : List Token} → Timed 21 fs ns ts
+    → (w : ℕ) × Open (frame cThen (topStart fs) ∷ drop 1 fs) statement w (ts ++ (sign cThen ∷ [])) ns []
+unfolding topStart
+then-next (of-ifs o e) = (0, rw e at o)
+
+do-next : {fs : List Frame} {ns : List Node} {ts : List Token} → Timed 22 fs ns ts
+    → (w : ℕ) × Open (frame cDo (topStart fs) ∷ drop 1 fs) statement w (ts ++ (sign cDo ∷ [])) ns []
+unfolding topStart
+do-next (of-whiles o e) = (0, rw e at o)
+
+end-next : {fs : List Frame} {ns : List Node} {ts : List Token} → Timed cUntil fs ns ts
+    → After statement 2 (topStart fs) (drop 1 fs) ns [] (ts ++ (sign cEnd ∷ []))
+unfolding topStart
+end-next (of-untils a) = a
+
+on-delay : (t : Token) (p : ℕ) (fs : List Frame) (c : ℕ) (ns : List Node) (ts : List Token) → Stands Delay p fs c ns ts
+    → StandsAt (onDelay t (reader Delay p fs c ns)) (ts ++ (t ∷ []))
+unfolding onDelay withDelay closed
+on-delay t p fs c ns ts q =
+    by-value R t 1 (λ d. by-bool (eqb (topCode fs) 18) (λ e. rw e (at-end (same d) (assigned (rw (eqb-true (topCode fs) 18 e) at (q d))))) (λ e. rw e (same d, q d))) λ e.
+    rw e tt
+  where
+    R : Token → Type 0
+    R t = StandsAt (onDelay t (reader Delay p fs c ns)) (ts ++ (t ∷ []))
+
+    same : (d : ℕ) → length ns ≡ length (delayed (topStart fs) d ns)
+    same d = sym (length-set ns (topStart fs) _)
+
+on-body : (t : Token) → Proper t → (p : ℕ) {fs : List Frame} {c : ℕ} {ns : List Node} {ts : List Token} → Stands Body p fs c ns ts
+    → StandsAt (onBody t (reader Body p fs c ns)) (ts ++ (t ∷ []))
+unfolding onBody turned closed
+on-body t h p {fs} {c} {ns} {ts} (l, q) =
+    by-sign R t h cThen tt (by-bool (eqb (topCode fs) 21) (λ e. rw e (at-end l (then-next (known 21 e)))) (λ e. rw e tt)) λ e₁.
+    by-sign R t h cDo tt (by-bool (eqb (topCode fs) 22) (λ e. rw e (at-end l (do-next (known 22 e)))) (λ e. rw e tt)) λ e₂.
+    by-sign R t h cEnd tt (by-bool (eqb (topCode fs) cUntil) (λ e. rw e (at-end l (end-next (known cUntil e)))) (λ e. rw e tt)) λ e₃.
+    rw (e₁, e₂, e₃) tt
+  where
+    R : Token → Type 0
+    R t = StandsAt (onBody t (reader Body p fs c ns)) (ts ++ (t ∷ []))
+
+    known : (k : ℕ) → eqb (topCode fs) k ≡ true → Timed k fs ns ts
+    known k e = rw (eqb-true (topCode fs) k e) at q
+
+-- Every step ---------------------------------------------------------------------------------------------------------------------------
+
+step-from : (t : Token) → Proper t → (m : Mode) (p : ℕ) (fs : List Frame) (c : ℕ) (ns : List Node) (ts : List Token) → Stands m p fs c ns ts
+    → StandsAt (stepOf m t (reader m p fs c ns)) (ts ++ (t ∷ []))
+unfolding stepOf withDelay
+step-from t h Statement p fs c ns ts (at xs zs (w, o)) =
+    subst (λ (ys : List Node). Open fs statement w ts xs ys → StandsAt (onStatement t (reader Statement p fs (length xs) (xs ++ ys))) (ts ++ (t ∷ [])))
+    (sym (nothing-behind o)) (λ o′. on-statement t h p o′) o
+step-from t h AfterStatement p fs c ns ts q = on-after-statement t h p q
+step-from t h Operand p fs c ns ts q = on-operand t h p q
+step-from t h AfterOperand p fs c ns ts q = on-after-operand t h p q
+step-from t h Becomes p fs c ns ts q =
+    by-sign (λ t. StandsAt (stepOf Becomes t (reader Becomes p fs c ns)) (ts ++ (t ∷ []))) t h 18 tt q (λ e. rw e tt)
+step-from t h Ticks p fs c ns ts q =
+    by-value (λ t. StandsAt (stepOf Ticks t (reader Ticks p fs c ns)) (ts ++ (t ∷ []))) t 1 (λ d. at-end (sym (length-set ns p _)) (q d)) (λ e. rw e tt)
+step-from t h Delay p fs c ns ts q = on-delay t p fs c ns ts q
+step-from t h Body p fs c ns ts q = on-body t h p q
+step-from t h Broken p fs c ns ts q = tt
+
+pub step-stands : (t : Token) → Proper t → (r : Reader) (ts : List Token) → StandsAt r ts → StandsAt (step t r) (ts ++ (t ∷ []))
+step-stands t h r ts q = step-from t h (r .mode) (r .start) (r .frames) (r .cursor) (r .nodes) ts q

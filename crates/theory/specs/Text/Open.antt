@@ -1,19 +1,19 @@
 -- What is open while a text is read, as a stack: each frame is the beginning of a phrase of the grammar, with a hole where the next one goes.
 -- A frame knows the tokens and the nodes of its beginning, and the level that the phrase in its hole must have.
 -- Assumes nothing: definitions, and laws of model/Text and of the binding in model/Reader.
-use mathlib.Core.Path.{_≡_, refl, sym, _∙_, ap, subst}
-use mathlib.Core.Bool.{Bool, true, false, _&&_, _||_}
+use mathlib.Core.Path.{_≡_, refl, sym, subst}
+use mathlib.Core.Bool.{Bool, true, false, _&&_}
 use mathlib.Core.List.{List, [], _∷_, _++_, append-assoc, append-nil}
 use Prim.Native.Nat.{ℕ, zero, suc, _+_, _-_, _*_, _≤_, _<_}
 use native.Mathlib.Omega.{arith}
 use lib.ListN.{length}
-use lib.Dec.{eqb, ltb, leb·suc-zero}
+use lib.Dec.{ltb, leb·suc-zero}
 use borrow.Author.Tests.{ltb-true, ltb-false}
 use Rattle.model.specs.declared.Node.{Node}
 use Rattle.model.specs.declared.Token.{Token}
 use Rattle.model.specs.Program.{Expr, const, Stmt, ok, node, preorderE, preorder}
-use Rattle.model.specs.Text.{token, numeral, name, sign, cThen, cElse, cDo, cUntil, cEnd, cAt, cOpen, cClose, cLeft, cRight, Left, Comparison, IsExpr, timed, IsStmt, Means, Begins}
-use Rattle.model.specs.Reader.{Frame, frame, holdOf, reachOf, Popped, pop, topCode, topStart, comparison}
+use Rattle.model.specs.Text.{numeral, name, sign, cThen, cElse, cDo, cUntil, cEnd, cAt, cOpen, cClose, cLeft, cRight, Left, Comparison, IsExpr, timed, IsStmt, Begins}
+use Rattle.model.specs.Reader.{Frame, frame, holdOf, reachOf, pop, topCode, comparison}
 use Rattle.theory.specs.Refusals.Laws.{by-bool, not-both}
 
 -- Phrases ------------------------------------------------------------------------------------------------------------------------------
@@ -67,14 +67,15 @@ pub data Piece : Sort → ℕ → ℕ → ℕ → List Token → List Node → T
   binary : {s : Sort} {k a b g : ℕ} {us : List Token} {ns : List Node} → Binary s k a b g → Fits s a us ns
       → Piece s k b g (us ++ (sign k ∷ [])) (node k 0 0 ∷ ns)
 
+-- the right side of an operator is read
 pub fill : {s : Sort} {k b g : ℕ} {us vs : List Token} {ms ns : List Node} → Piece s k b g us ms → Fits s b vs ns → Fits s g (us ++ vs) (ms ++ ns)
 unfolding preorderE
 fill complement (expr d) = expr (IsExpr.complement d)
 fill {s} {g = g} {vs = vs} {ns = ns} (binary {k = k} {us = us} {ns = ms} o p) q =
     subst (λ (ts : List Token). Fits s g ts (node k 0 0 ∷ (ms ++ ns))) (sym (append-assoc us (sign k ∷ []) vs)) (join o p q)
 
--- Binding by numbers: what an operator holds and how far it reaches, against the levels. Expressions group to the left and statements to
--- the right, which is what the edge of 1 or 2 says.
+-- What an operator holds, and how far it reaches, against the levels of its sides. Expressions group to the left and statements to the right,
+-- which the edge of 1 or 2 says.
 abbrev pub edge : Sort → ℕ
 edge expression = 1
 edge statement = 2
@@ -111,6 +112,30 @@ bounds (binary (compare Comparison.equal) p) = omega arith
 bounds (binary (compare Comparison.less) p) = omega arith
 bounds (binary sequence p) = omega arith
 bounds (binary parallel p) = omega arith
+
+-- a comparison holds 7, and no other operator that is not above it wants more than level 2
+unchained : {k b g : ℕ} {us : List Token} {ns : List Node} → Piece expression k b g us ns → comparison k ≡ false → holdOf k ≤ 7 → b ≤ 2
+unfolding holdOf
+unchained complement c h = omega arith
+unchained (binary (left Left.sum) p) c h = omega arith
+unchained (binary (left Left.difference) p) c h = omega arith
+unchained (binary (left Left.and) p) c h = omega arith
+unchained (binary (left Left.or) p) c h = omega arith
+unchained (binary (compare Comparison.equal) p) c h = not-both refl c
+unchained (binary (compare Comparison.less) p) c h = not-both refl c
+
+-- an operator that is not taken off by a new one has room for all of what the new one makes
+pub has-room : {s : Sort} {k a b g k′ b′ g′ : ℕ} {us : List Token} {ns : List Node} → Binary s k a b g → Piece s k′ b′ g′ us ns → holdOf k′ ≤ reachOf k
+    → (comparison k && comparison k′) ≡ false → b′ ≤ g
+unfolding reachOf
+has-room (left Left.sum) p h c = omega (arith, bounds p .wants)
+has-room (left Left.difference) p h c = omega (arith, bounds p .wants)
+has-room (left Left.and) p h c = omega (arith, bounds p .wants)
+has-room (left Left.or) p h c = omega (arith, bounds p .wants)
+has-room (compare Comparison.equal) p h c = unchained p c h
+has-room (compare Comparison.less) p h c = unchained p c h
+has-room sequence p h c = omega (arith, bounds p .wants)
+has-room parallel p h c = omega (arith, bounds p .wants)
 
 -- Brackets -----------------------------------------------------------------------------------------------------------------------------
 
@@ -156,11 +181,13 @@ pub data Open : List Frame → Sort → ℕ → List Token → List Node → Lis
   bracket : {fs : List Frame} {s s′ : Sort} {w k : ℕ} {ts us : List Token} {xs ns zs ys : List Node} → Open fs s w ts xs zs → Bracket k s zs s′ us ns ys
       → Open (frame k (length xs) ∷ fs) s′ 0 (ts ++ us) (xs ++ ns) ys
 
+-- no hole wants more than a phrase that holds together by itself
 pub low-enough : {fs : List Frame} {s : Sort} {w : ℕ} {ts : List Token} {xs zs : List Node} → Open fs s w ts xs zs → w ≤ top s
 low-enough whole = omega arith
 low-enough (operator o p h) = bounds p .most
 low-enough (bracket o b) = omega arith
 
+-- a statement goes behind all nodes
 pub nothing-behind : {fs : List Frame} {w : ℕ} {ts : List Token} {xs zs : List Node} → Open fs statement w ts xs zs → zs ≡ []
 nothing-behind whole = refl
 nothing-behind (operator o p h) = nothing-behind o
@@ -170,30 +197,6 @@ nothing-behind (bracket o (does d h)) = refl
 nothing-behind (bracket o repeats) = refl
 nothing-behind (bracket o braces) = refl
 
--- a comparison holds 7, and no other operator that is not above it wants more than level 2
-unchained : {k b g : ℕ} {us : List Token} {ns : List Node} → Piece expression k b g us ns → comparison k ≡ false → holdOf k ≤ 7 → b ≤ 2
-unfolding holdOf
-unchained complement c h = omega arith
-unchained (binary (left Left.sum) p) c h = omega arith
-unchained (binary (left Left.difference) p) c h = omega arith
-unchained (binary (left Left.and) p) c h = omega arith
-unchained (binary (left Left.or) p) c h = omega arith
-unchained (binary (compare Comparison.equal) p) c h = not-both refl c
-unchained (binary (compare Comparison.less) p) c h = not-both refl c
-
--- an operator that is not taken off by a new one has room for all of what the new one makes
-pub has-room : {s : Sort} {k a b g k′ b′ g′ : ℕ} {us : List Token} {ns : List Node} → Binary s k a b g → Piece s k′ b′ g′ us ns → holdOf k′ ≤ reachOf k
-    → (comparison k && comparison k′) ≡ false → b′ ≤ g
-unfolding reachOf
-has-room (left Left.sum) p h c = omega (arith, bounds p .wants)
-has-room (left Left.difference) p h c = omega (arith, bounds p .wants)
-has-room (left Left.and) p h c = omega (arith, bounds p .wants)
-has-room (left Left.or) p h c = omega (arith, bounds p .wants)
-has-room (compare Comparison.equal) p h c = unchained p c h
-has-room (compare Comparison.less) p h c = unchained p c h
-has-room sequence p h c = omega (arith, bounds p .wants)
-has-room parallel p h c = omega (arith, bounds p .wants)
-
 -- Taking off ---------------------------------------------------------------------------------------------------------------------------
 
 -- a phrase of level a or more was read in the hole: its first node, the frames, the nodes up to its end and behind it, the tokens
@@ -201,6 +204,8 @@ pub data After (s : Sort) (a : ℕ) : ℕ → List Frame → List Node → List 
   after : {fs : List Frame} {w l : ℕ} {ts us : List Token} {xs ns zs : List Node} → Open fs s w ts xs zs → Fits s l us ns → w ≤ l → a ≤ l
       → After s a (length xs) fs (xs ++ ns) zs (ts ++ us)
 
+-- The operators on top that are complete are taken off: each makes a phrase of its own level of what was read, and the frame below has room for
+-- it. None of those that hold more than the reach makes one below level a.
 pub pop-after : {s : Sort} {fs : List Frame} {w l : ℕ} {ts us : List Token} {xs ns zs : List Node} (reach a : ℕ)
     → ((g : ℕ) → reach < 2 * g + 3 → a ≤ g) → Open fs s w ts xs zs → Fits s l us ns → w ≤ l → a ≤ l
     → After s a (pop reach (length xs) fs .start) (pop reach (length xs) fs .frames) (xs ++ ns) zs (ts ++ us)
@@ -240,11 +245,12 @@ pop-frames reach p q (f ∷ fs) = by-bool (ltb reach (holdOf (f .code))) (λ e. 
 pub shorter : (ts us : List Token) → Begins (ts ++ us) → Begins ts
 shorter ts us (vs, P, d) = (us ++ vs, P, rw append-assoc at d)
 
+-- the shortest phrases
 simple : IsStmt 0 (sign 16 ∷ []) ok
 simple = IsStmt.up (IsStmt.up IsStmt.skip)
 
-zero′ : IsExpr 0 (numeral 0 ∷ []) (const 0)
-zero′ = IsExpr.up (IsExpr.up (IsExpr.up (IsExpr.up (IsExpr.number 0))))
+nought : IsExpr 0 (numeral 0 ∷ []) (const 0)
+nought = IsExpr.up (IsExpr.up (IsExpr.up (IsExpr.up (IsExpr.number 0))))
 
 -- what ends a bracket whose hole is filled, whatever its nodes
 record Ends (s : Sort) (ts : List Token) : Type 0 where
@@ -265,7 +271,7 @@ closes (elses k e d) (stmt d′) = ends (sign cEnd ∷ []) (simp append-assoc) (
 closes whiles (expr d) =
     ends (sign cAt ∷ (numeral 0 ∷ (sign cDo ∷ (sign 16 ∷ (sign cEnd ∷ []))))) refl (stmt (IsStmt.whiles 0 d simple))
 closes (does k e) (stmt d) = ends (sign cEnd ∷ []) (simp append-assoc) (stmt (IsStmt.whiles k e d))
-closes repeats (stmt d) = ends (sign cUntil ∷ (numeral 0 ∷ (sign cAt ∷ (numeral 0 ∷ (sign cEnd ∷ []))))) refl (stmt (IsStmt.repeats 0 d zero′))
+closes repeats (stmt d) = ends (sign cUntil ∷ (numeral 0 ∷ (sign cAt ∷ (numeral 0 ∷ (sign cEnd ∷ []))))) refl (stmt (IsStmt.repeats 0 d nought))
 closes (untils d) (expr e) = ends (sign cAt ∷ (numeral 0 ∷ (sign cEnd ∷ []))) (simp append-assoc) (stmt (IsStmt.repeats 0 d e))
 closes braces (stmt d) = ends (sign cRight ∷ []) refl (stmt (IsStmt.braces d))
 

@@ -123,3 +123,9 @@ words-proper zero p i (c ∷ s) =
     let blanks = words-proper 0 p (i + 1) s in
     let others = words-proper (sizeAt (c ∷ s) - 1) (t .code) (i + 1) s in
     by-bool (blank c) (λ e. rw (e, wordsFrom) blanks) (λ e. rw (e, wordsFrom) (token-proper p (c ∷ s), others))
+
+-- so are the first of them
+pub take-proper : (i : ℕ) (ts : List Token) → AllProper ts → AllProper (take i ts)
+take-proper zero ts h = tt
+take-proper (suc i) [] h = tt
+take-proper (suc i) (t ∷ ts) h = (h .0, take-proper i ts (h .1))

@@ -46,6 +46,7 @@ pub data Timed : ℕ → List Frame → List Node → List Token → Type 0 wher
       → Timed 22 (frame 22 p ∷ fs) xs ts
   of-untils : {fs : List Frame} {p : ℕ} {xs : List Node} {ts : List Token} → After statement 2 p fs xs [] (ts ++ (sign cEnd ∷ [])) → Timed cUntil (frame cUntil p ∷ fs) xs ts
 
+-- By mode. Where only one word or a number can follow, it says what stands behind that word, whatever the number; of a broken reader nothing.
 abbrev pub Stands : Mode → ℕ → List Frame → ℕ → List Node → List Token → Type 0
 Stands Statement p fs c ns ts = Expects statement fs c ns ts
 Stands AfterStatement p fs c ns ts = At (λ xs zs. After statement 2 p fs xs zs ts) c ns
@@ -70,6 +71,7 @@ Proper t = (t .code ≡ 1 → ⊥) → (t .code ≡ 2 → ⊥) → t .value ≡ 
 by-value : (R : Token → Type 0) (t : Token) (k : ℕ) → ((v : ℕ) → R (token k v)) → (eqb (t .code) k ≡ false → R t) → R t
 by-value R t k f g = by-bool (eqb (t .code) k) (λ e. subst R (ap (λ (c : ℕ). token c (t .value)) (sym (eqb-true (t .code) k e))) (f (t .value))) g
 
+-- the same for a code that has no value
 sign-of : (t : Token) → Proper t → (k : ℕ) → 2 < k → t .code ≡ k → t ≡ sign k
 sign-of t h k l e = ap₂ token e (h (λ z. omega arith) (λ z. omega arith))
 
@@ -89,14 +91,16 @@ put-before {R} n xs ns zs h =
     let e : length (xs ++ ns) + 1 ≡ length (xs ++ (n ∷ ns)) = rw (length-append xs ns, length-append xs (n ∷ ns)) (omega arith) in
     rw (e, append-assoc xs ns zs, insert-is xs n (ns ++ zs), ← append-assoc xs (n ∷ ns) zs) (at (xs ++ (n ∷ ns)) zs h)
 
+-- a node goes where the cursor is
 put : {R : List Node → List Node → Type 0} (n : Node) (xs zs : List Node) → R (xs ++ (n ∷ [])) zs
     → At R (length xs + 1) (insertAt (length xs) n (xs ++ zs))
 put {R} n xs zs h = subst (λ (ys : List Node). At R (length ys + 1) (insertAt (length xs) n (ys ++ zs))) (append-nil xs) (put-before n xs [] zs h)
 
+-- a node gets its delay
 delayed-is : (xs : List Node) (k x d : ℕ) (ns : List Node) → delayed (length xs) d (xs ++ (node k 0 x ∷ ns)) ≡ xs ++ (node k d x ∷ ns)
 delayed-is xs k x d ns = rw (getD-append-seam xs (node k 0 x) ns (node 0 0 0)) (set-append-seam xs (node k 0 x) ns (node k d x))
 
--- the node that begins a bracket, with the nodes in its hole and behind it
+-- the same of the node that begins a bracket, with the nodes in its hole and behind it
 delay-is : (xs : List Node) (k x d : ℕ) (ns zs : List Node)
     → delayed (length xs) d (xs ++ (node k 0 x ∷ []) ++ ns ++ zs) ≡ xs ++ (node k d x ∷ (ns ++ zs))
 delay-is xs k x d ns zs =
@@ -147,10 +151,12 @@ on-statement t h p {fs} {ts = ts} {xs = xs} o =
 
 -- An operator between two phrases ------------------------------------------------------------------------------------------------------
 
+-- what is complete is taken off, from a phrase that was just read
 popped : {s : Sort} {p : ℕ} {fs : List Frame} {xs zs : List Node} {ts : List Token} (reach a : ℕ) → ((g : ℕ) → reach < 2 * g + 3 → a ≤ g) → a ≤ top s
     → After s (top s) p fs xs zs ts → After s a (pop reach p fs .start) (pop reach p fs .frames) xs zs ts
 popped reach a m l (after o q h h′) = pop-after reach a m o q h (omega arith)
 
+-- the frame on top has room for what a new operator makes
 room : {s : Sort} {k a b g : ℕ} {fs : List Frame} {w : ℕ} {ts : List Token} {xs zs : List Node} → Binary s k a b g → Open fs s w ts xs zs
     → holdOf (topCode fs) ≤ reachOf k → (comparison k && comparison (topCode fs)) ≡ false → w ≤ g
 unfolding topCode
@@ -188,6 +194,7 @@ puts {k = k} {a = a} {p = p} {fs = fs} B e (at xs zs q) =
 
 -- The hole on top is filled ------------------------------------------------------------------------------------------------------------
 
+-- where all operators are taken off, a bracket is on top, or nothing
 topmost : {s : Sort} {a p : ℕ} {fs : List Frame} {xs zs : List Node} {ts : List Token} → After s a p fs xs zs ts → holdOf (topCode fs) ≤ 0
     → (s′ : Sort) × Filled (topCode fs) s′ s fs xs zs ts
 unfolding topCode
@@ -246,6 +253,7 @@ delay-next d (inside {ts = ts} {us = us} {vs = vs} {xs = xs} {ys = ys} o (untils
 
 -- After a phrase -----------------------------------------------------------------------------------------------------------------------
 
+-- codes 4 to 9 are the operators of expressions
 record Operator (k : ℕ) : Type 0 where
   before : ℕ
   behind : ℕ
@@ -315,11 +323,13 @@ on-after-statement t h p {fs} {ts = ts} (at xs zs q) =
     known : (k : ℕ) → eqb on-top k ≡ true → Filled k (filled q .0) statement (pop 0 p fs .frames) xs zs ts
     known k e = rw (eqb-true on-top k e) at (filled q .1)
 
+-- the cursor is behind all nodes
 at-end : {R : List Node → List Node → Type 0} {c : ℕ} {ns : List Node} → c ≡ length ns → R ns [] → At R c ns
 at-end {R} {ns = ns} e h =
     let a : At R (length ns) (ns ++ []) = at ns [] h in
     rw e (rw append-nil at a)
 
+-- what stands behind the word that is known to follow
 assigned : {fs : List Frame} {ns : List Node} {ts : List Token} → Timed 18 fs ns ts → After statement 2 (topStart fs) (drop 1 fs) ns [] ts
 unfolding topStart
 assigned (of-becomes a) = a

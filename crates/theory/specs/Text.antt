@@ -3,6 +3,10 @@ pub mod Runs
 pub mod Parts
 pub mod Found
 pub mod OneReading
+pub mod Open
+pub mod Stands
+pub mod Sound
 pub mod Bytes
 pub mod Order
 pub mod AsProgram
+pub mod Readings

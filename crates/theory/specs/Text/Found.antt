@@ -19,7 +19,7 @@ use Rattle.model.specs.Text.{numeral, name, sign, cThen, cElse, cDo, cUntil, cE
 use Rattle.model.specs.Reader.{Frame, frame, Reader, reader, readerAtFirst, holdOf, reachOf, Popped, pop, topCode, topStart, insertAt, delayed, leaf, openedNode, between, closed, turned, settled, withDelay, onStatement, onOperand, comparison, onAfterOperand, onAfterStatement, onDelay, onBody, stepOf, isBroken, complete, good, bad, readFrom}
 use Rattle.model.specs.TextPromises.{placeAt}
 use Rattle.theory.specs.Refusals.Laws.{by-bool}
-use Rattle.theory.specs.Text.Runs.{steps, steps-append, Complete, Stops, broken-incomplete, reads-whole, reads-bad}
+use Rattle.theory.specs.Text.Runs.{pop-frames, steps, steps-append, Complete, Stops, broken-incomplete, reads-whole, reads-bad}
 use Rattle.theory.specs.Text.Parts.{Under, Ready, pop-ready, same-reader, inserted, inserted-snoc, Finds, read-bare, read-behind, finds-weaker, finds-leaf, finds-operator, Turns, finds-then, finds-group}
 
 -- Expressions --------------------------------------------------------------------------------------------------------------------------
@@ -273,13 +273,6 @@ stmt-found (parallel f g) K u =
 stmt-found (IsStmt.up f) K u = finds-weaker (omega arith) (stmt-found f K (omega arith))
 
 -- Whole texts --------------------------------------------------------------------------------------------------------------------------
-
--- which frames are taken off does not turn on where what was read begins
-pop-frames : (r p q : ℕ) (K : List Frame) → pop r p K .frames ≡ pop r q K .frames
-unfolding pop
-pop-frames r p q [] = refl
-pop-frames r p q (f ∷ K) =
-    by-bool (ltb r (holdOf (f .code))) (λ e. rw (e, pop) refl) (λ e. rw (e, pop) refl)
 
 complete-ready : (m q : ℕ) (F : List Frame) → Ready m 0 q F → complete AfterStatement (F ++ []) ≡ true
 unfolding complete topCode holdOf

@@ -7,13 +7,14 @@ use mathlib.Core.List.{List, [], _∷_, _++_}
 use Prim.Native.Nat.{ℕ, suc, _<_, _≤_, suc-le-suc}
 use native.Mathlib.Omega.{arith}
 use native.Mathlib.Nat.{not-suc-le-zero, le-of-suc-le-suc}
+use lib.Dec.{ltb}
 use lib.ListN.{length, take}
 use Rattle.model.specs.declared.Node.{Node}
 use Rattle.model.specs.declared.Token.{Token}
 use Rattle.model.specs.declared.Mode.{Mode}
 use Rattle.model.specs.declared.Mode.the-variants.{Statement, AfterStatement, Operand, AfterOperand, Becomes, Ticks, Delay, Body, Broken}
 use Rattle.model.specs.Text.{Word, tokens}
-use Rattle.model.specs.Reader.{Reader, stepOf, step, isBroken, complete, Reading, good, bad, readFrom}
+use Rattle.model.specs.Reader.{Frame, Reader, holdOf, pop, stepOf, step, isBroken, complete, Reading, good, bad, readFrom}
 use Rattle.model.specs.TextPromises.{placeAt}
 use Rattle.theory.specs.Refusals.Laws.{by-bool, not-both}
 
@@ -148,3 +149,11 @@ reads-bad end r (w ∷ ws) p b h =
     (λ e.
     let (i, q, s) = reads-bad end (step t r) ws p e (sym (reads-on end r w ws e) ∙ h) in
     (suc i, q, stops-later r t (tokens ws) i s))
+
+-- Frames -------------------------------------------------------------------------------------------------------------------------------
+
+-- what is taken off does not depend on where the part before began
+pub pop-frames : (reach p q : ℕ) (fs : List Frame) → pop reach p fs .frames ≡ pop reach q fs .frames
+unfolding pop
+pop-frames reach p q [] = refl
+pop-frames reach p q (f ∷ fs) = by-bool (ltb reach (holdOf (f .code))) (λ e. rw (e, pop)) (λ e. rw (e, pop))

@@ -1,3 +1,93 @@
-// Programs as text: refusals 17 and 18, and the program that a text means.
-// Contracts are equations with model/Text, model/Reader and model/TextCalls.
+// Programs as text: refusals 17 and 18, and the program that a text stands for.
+// Contracts are equations with model/Text, model/Reader and model/TextCalls; what the lists that a machine works on show of the reader is said
+// in specs/Shown.
+ghost use mathlib.Core.Path.{_≡_};
+ghost use mathlib.Core.List.{[]};
+ghost use Prim.Native.Nat.{_*_};
+ghost use lib.Dec.{ltb};
+ghost use lib.ListN.{length};
+ghost use Rattle.model.specs.declared.Written.{Written};
+ghost use Rattle.model.specs.Refusals.{refuseIf};
+ghost use Rattle.model.specs.Calls.{writing};
+ghost use Rattle.model.specs.TextCalls.{readTextCall};
+ghost use Rattle.text.specs.Parsing.{programTold, Given, giveCall};
+
 pub mod words; // words of a text, and refusal 17
+pub mod frames; // the stack of what is still open
+pub mod nodes; // the nodes, four bytes each
+pub mod machine; // what the reader keeps, and its moves
+pub mod reader; // what the reader does at a token
+pub mod parsing; // the reader over all words
+
+use model::Checked;
+use model::Refusal;
+use model::Written;
+use parsing::Parsed;
+
+fn refused(number: u8, place: usize) -> Written
+    ensures { λ r. ⌜ r ≡ Written.Refused (record { number = number; place = place }) ⌝ }
+{
+    Written::Refused(Refusal { number, place })
+}
+
+// So many nodes as bytes of a program: above 200 it is too long, whatever they are.
+fn sized(n: usize) -> Written
+    ensures { λ r. ⌜ r ≡ writing (refuseIf (ltb 800 (4 * n)) 1 0) [] (4 * n) 0 [] .answer ⌝ }
+{
+    if 200 < n {
+        return refused(1, 0);
+    }
+    Written::Done {
+        count: 4 * n,
+        finish: 0,
+    }
+}
+
+// The program of a text, into a list of 800 bytes: refusals 17, 18, and 1 where it is longer.
+pub fn program_of(text: &[u8], program: &mut [u8]) -> Written
+    requires { ⌜ length (now program) ≡ 800 ⌝ }
+    ensures answer { λ r. ⌜ r ≡ programTold (now (text .entry)) ⌝ }
+    ensures program { λ _. ⌜ Given (now (text .entry)) (now (program .exit)) ⌝ }
+{
+    if 4096 < text.len() {
+        return refused(17, 4096);
+    }
+    let checked = words::check_words(text);
+    if let Checked::Refused(r) = checked {
+        return Written::Refused(r);
+    }
+    let parsed = parsing::parse(text, program);
+    match parsed {
+        Parsed::Broken(place) => refused(18, place),
+        Parsed::Nodes(n) => sized(n),
+    }
+}
+
+// A program, checked and put into a lent list: refusals 1 to 8, 14.
+fn give(program: &[u8], lent: &mut [u8]) -> Written
+    ensures answer { λ r. ⌜ r ≡ giveCall (now (program .entry)) (now (lent .entry)) .answer ⌝ }
+    ensures lent { λ _. ⌜ now (lent .exit) ≡ giveCall (now (program .entry)) (now (lent .entry)) .lent ⌝ }
+{
+    let checked = program::check(program);
+    if let Checked::Refused(r) = checked {
+        return Written::Refused(r);
+    }
+    if lent.len() < program.len() {
+        return refused(14, 0);
+    }
+    let count = word::put_bytes(lent, 0, program);
+    Written::Done { count, finish: 0 }
+}
+
+// Text to program: refusals 17, 18, 1 to 8, 14.
+pub fn read_text(text: &[u8], lent: &mut [u8]) -> Written
+    ensures answer { λ r. ⌜ r ≡ readTextCall (now (text .entry)) (now (lent .entry)) .answer ⌝ }
+    ensures lent { λ _. ⌜ now (lent .exit) ≡ readTextCall (now (text .entry)) (now (lent .entry)) .lent ⌝ }
+{
+    let mut program = [0u8; 800];
+    let told = program_of(text, &mut program);
+    match told {
+        Written::Refused(r) => Written::Refused(r),
+        Written::Done { count, finish: _ } => give(&program[..count], lent),
+    }
+}

@@ -2,6 +2,7 @@
 // Each answers whether there was room for the reply; where there was none it did nothing.
 ghost use mathlib.Core.Path.{_≡_};
 ghost use Rattle.model.specs.Calls.{checkCall, compileCall, writeCall, readCall, beginCall, continueCall, runNetlistCall, runProgramCall, referenceCall};
+ghost use Rattle.model.specs.TextCalls.{readTextCall, compileTextCall, runTextCall};
 ghost use Rattle.hub.specs.Replies.{checkedReply, writtenReply, answerReply, replied, roomFor, ifRoom};
 use crate::reply;
 
@@ -152,6 +153,59 @@ pub extern "C" fn hub_reference(program: &[u8], words: &[u8], budget: u32, reply
         return false;
     }
     let answer = crate::reference_run(program, words, budget);
+    let answered = reply::of_answer(answer);
+    reply::put(reply, answered);
+    true
+}
+
+#[no_mangle]
+pub extern "C" fn hub_read_text(source: &[u8], program: &mut [u8], reply: &mut [u8]) -> bool
+    ensures done { λ r. ⌜ r ≡ roomFor (now (reply .entry)) ⌝ }
+    ensures program { λ _. ⌜ now (program .exit) ≡ ifRoom (now (reply .entry)) (readTextCall (now (source .entry)) (now (program .entry)) .lent) (now (program .entry)) ⌝ }
+    ensures reply { λ _. ⌜ now (reply .exit) ≡ ifRoom (now (reply .entry)) (replied (writtenReply (readTextCall (now (source .entry)) (now (program .entry)) .answer)) (now (reply .entry))) (now (reply .entry)) ⌝ }
+{
+    if reply.len() < 48 {
+        return false;
+    }
+    let answer = crate::read_text(source, program);
+    let answered = reply::of_written(answer);
+    reply::put(reply, answered);
+    true
+}
+
+#[no_mangle]
+pub extern "C" fn hub_compile_text(source: &[u8], file: &mut [u8], reply: &mut [u8]) -> bool
+    ensures done { λ r. ⌜ r ≡ roomFor (now (reply .entry)) ⌝ }
+    ensures file { λ _. ⌜ now (file .exit) ≡ ifRoom (now (reply .entry)) (compileTextCall (now (source .entry)) (now (file .entry)) .lent) (now (file .entry)) ⌝ }
+    ensures reply { λ _. ⌜ now (reply .exit) ≡ ifRoom (now (reply .entry)) (replied (writtenReply (compileTextCall (now (source .entry)) (now (file .entry)) .answer)) (now (reply .entry))) (now (reply .entry)) ⌝ }
+{
+    if reply.len() < 48 {
+        return false;
+    }
+    let answer = crate::compile_text(source, file);
+    let answered = reply::of_written(answer);
+    reply::put(reply, answered);
+    true
+}
+
+#[no_mangle]
+pub extern "C" fn hub_run_text(
+    source: &[u8],
+    words: &[u8],
+    budget: u32,
+    netlist: &mut [u8],
+    state: &mut [u8],
+    reply: &mut [u8],
+) -> bool
+    ensures done { λ r. ⌜ r ≡ roomFor (now (reply .entry)) ⌝ }
+    ensures netlist { λ _. ⌜ now (netlist .exit) ≡ ifRoom (now (reply .entry)) (runTextCall (now (source .entry)) (now (words .entry)) budget (now (netlist .entry)) (now (state .entry)) .netlist) (now (netlist .entry)) ⌝ }
+    ensures state { λ _. ⌜ now (state .exit) ≡ ifRoom (now (reply .entry)) (runTextCall (now (source .entry)) (now (words .entry)) budget (now (netlist .entry)) (now (state .entry)) .state) (now (state .entry)) ⌝ }
+    ensures reply { λ _. ⌜ now (reply .exit) ≡ ifRoom (now (reply .entry)) (replied (answerReply (runTextCall (now (source .entry)) (now (words .entry)) budget (now (netlist .entry)) (now (state .entry)) .answer)) (now (reply .entry))) (now (reply .entry)) ⌝ }
+{
+    if reply.len() < 48 {
+        return false;
+    }
+    let answer = crate::run_text(source, words, budget, netlist, state);
     let answered = reply::of_answer(answer);
     reply::put(reply, answered);
     true

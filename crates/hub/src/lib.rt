@@ -1,5 +1,6 @@
 // The public calls. None has a requires; each contract is one equation for the answer and one for each lent list at exit, with model/Calls.
 ghost use mathlib.Core.Path.{_≡_};
+ghost use Rattle.model.specs.TextCalls.{readTextCall, compileTextCall, runTextCall};
 ghost use Rattle.model.specs.Calls.{checkCall, compileCall, writeCall, readCall, beginCall, continueCall, runNetlistCall, runProgramCall, referenceCall};
 
 pub mod exports; // the calls for other languages
@@ -86,4 +87,47 @@ pub fn reference_run(program: &[u8], words: &[u8], budget: u32) -> Answer
     ensures { λ r. ⌜ r ≡ referenceCall (now (program .entry)) (now (words .entry)) budget ⌝ }
 {
     rules::reference_run(program, words, budget)
+}
+
+// The program that a text stands for, into a lent buffer.
+pub fn read_text(source: &[u8], program: &mut [u8]) -> Written
+    ensures answer { λ r. ⌜ r ≡ readTextCall (now (source .entry)) (now (program .entry)) .answer ⌝ }
+    ensures lent { λ _. ⌜ now (program .exit) ≡ readTextCall (now (source .entry)) (now (program .entry)) .lent ⌝ }
+{
+    text::read_text(source, program)
+}
+
+// The netlist file of a text's program.
+pub fn compile_text(source: &[u8], file: &mut [u8]) -> Written
+    ensures answer { λ r. ⌜ r ≡ compileTextCall (now (source .entry)) (now (file .entry)) .answer ⌝ }
+    ensures lent { λ _. ⌜ now (file .exit) ≡ compileTextCall (now (source .entry)) (now (file .entry)) .lent ⌝ }
+{
+    let mut program = [0u8; 800];
+    let told = text::program_of(source, &mut program);
+    match told {
+        Written::Refused(r) => Written::Refused(r),
+        Written::Done { count, finish: _ } => compiler::compile(&program[..count], file),
+    }
+}
+
+// A full run of a text's program.
+pub fn run_text(
+    source: &[u8],
+    words: &[u8],
+    budget: u32,
+    netlist: &mut [u8],
+    state: &mut [u8],
+) -> Answer
+    ensures answer { λ r. ⌜ r ≡ runTextCall (now (source .entry)) (now (words .entry)) budget (now (netlist .entry)) (now (state .entry)) .answer ⌝ }
+    ensures netlist { λ _. ⌜ now (netlist .exit) ≡ runTextCall (now (source .entry)) (now (words .entry)) budget (now (netlist .entry)) (now (state .entry)) .netlist ⌝ }
+    ensures state { λ _. ⌜ now (state .exit) ≡ runTextCall (now (source .entry)) (now (words .entry)) budget (now (netlist .entry)) (now (state .entry)) .state ⌝ }
+{
+    let mut program = [0u8; 800];
+    let told = text::program_of(source, &mut program);
+    match told {
+        Written::Refused(r) => simulator::refused(r),
+        Written::Done { count, finish: _ } => {
+            run_program(&program[..count], words, budget, netlist, state)
+        }
+    }
 }

@@ -7,6 +7,7 @@ pub mod Numbering
 pub mod NetlistFile
 pub mod State
 pub mod Calls
+pub mod CellSlices
 pub mod Hubrun
 pub mod Promises
 pub mod Netlists

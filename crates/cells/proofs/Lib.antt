@@ -1,0 +1,5 @@
+-- The laws behind the proofs of the functions.
+pub mod Turns
+pub mod Moving
+pub mod ByKind
+pub mod Listing

@@ -1,0 +1,58 @@
+// Netlists that a caller holds as a slice of cell structs. Every function here is thin: it takes the structs apart and calls a covered
+// function on numbers or on a list of bytes.
+ghost use mathlib.Core.Path.{_≡_};
+ghost use mathlib.Core.List.{map};
+ghost use Prim.Native.Nat.{_-_, _≤_};
+ghost use lib.ListN.{length, take, drop};
+ghost use lib.Seq.{sets};
+ghost use Rattle.model.specs.CellSlices.{moved, checkCellsCall, writeCellsCall};
+ghost use Rattle.cells.specs.Lists.{Lists};
+
+pub mod list; // cells as six bytes each, by value
+pub mod moves; // one cell moved
+
+use list::Listed;
+use model::Cell;
+use model::Checked;
+use model::Written;
+
+// The cells of a slice as six bytes each.
+pub fn listed(cells: &[Cell]) -> Listed
+    ensures { λ r. ⌜ Lists r (now (cells .entry)) ⌝ }
+{
+    let mut p = list::none();
+    let mut k: usize = 0;
+    while k < cells.len() {
+        p = list::with(p, cells[k]);
+        k += 1;
+    }
+    p
+}
+
+// Refusals 11 and 12 of a netlist.
+pub fn check_cells(cells: &[Cell], finish: u16) -> Checked
+    ensures { λ r. ⌜ r ≡ checkCellsCall (now (cells .entry)) finish ⌝ }
+{
+    let p = listed(cells);
+    list::check(p, finish)
+}
+
+// Writes a netlist as a file: refusals 11, 12, 14.
+pub fn write_cells(cells: &[Cell], finish: u16, file: &mut [u8]) -> Written
+    ensures { λ r. ⌜ (r ≡ writeCellsCall (now (cells .entry)) finish (now (file .entry)) .answer) × (now (file .exit) ≡ writeCellsCall (now (cells .entry)) finish (now (file .entry)) .lent) ⌝ }
+{
+    let p = listed(cells);
+    list::write(p, finish, file)
+}
+
+// Moves the inputs of the cells from number `from` up to `end` k places on.
+pub fn renumber(cells: &mut [Cell], from: usize, end: usize, k: u16)
+    requires { ⌜ end ≤ length (now cells) ⌝ }
+    ensures { λ _. ⌜ now (cells .exit) ≡ sets (now (cells .entry)) from (map (moved k) (take (end - from) (drop from (now (cells .entry))))) ⌝ }
+{
+    let mut i = from;
+    while i < end {
+        cells[i] = moves::moved(cells[i], k);
+        i += 1;
+    }
+}

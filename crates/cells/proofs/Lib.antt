@@ -1,5 +1,7 @@
 -- The laws behind the proofs of the functions.
 pub mod Turns
 pub mod Moving
+pub mod Again
+pub mod Planning
 pub mod ByKind
 pub mod Listing

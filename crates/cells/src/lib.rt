@@ -5,11 +5,15 @@ ghost use mathlib.Core.List.{map};
 ghost use Prim.Native.Nat.{_-_, _≤_};
 ghost use lib.ListN.{length, take, drop};
 ghost use lib.Seq.{sets};
-ghost use Rattle.model.specs.CellSlices.{moved, checkCellsCall, writeCellsCall};
+ghost use Rattle.model.specs.CellSlices.{moved, checkCellsCall, writeCellsCall, readCellsCall};
+ghost use Rattle.model.specs.NetlistFile.{cellsAt, inFile};
+ghost use Rattle.netlist.specs.declared.cells.Layout.the-variants.{InFile};
+ghost use Rattle.netlist.specs.Offsets.{Room};
 ghost use Rattle.cells.specs.Lists.{Lists};
 
 pub mod list; // cells as six bytes each, by value
 pub mod moves; // one cell moved
+pub mod reading; // what reading puts in
 
 use list::Listed;
 use model::Cell;
@@ -55,4 +59,26 @@ pub fn renumber(cells: &mut [Cell], from: usize, end: usize, k: u16)
         cells[i] = moves::moved(cells[i], k);
         i += 1;
     }
+}
+
+// Puts the file's cells in, from number `from` up to `end`.
+pub fn place_cells(cells: &mut [Cell], from: usize, end: usize, file: &[u8])
+    requires { ⌜ (from ≤ end) × (end ≤ length (now cells)) × Room InFile (now file) (end - from) ⌝ }
+    ensures { λ _. ⌜ now (cells .exit) ≡ sets (now (cells .entry)) from (cellsAt inFile (now (file .entry)) 0 (end - from)) ⌝ }
+{
+    let mut i = from;
+    while i < end {
+        cells[i] = reading::file_cell(file, from, i);
+        i += 1;
+    }
+}
+
+// Reads a netlist file behind the first `at` cells, as joining netlists does: refusals 9 to 12, 14.
+pub fn read_cells(file: &[u8], at: usize, cells: &mut [Cell]) -> Written
+    ensures { λ r. ⌜ (r ≡ readCellsCall (now (file .entry)) at (now (cells .entry)) .answer) × (now (cells .exit) ≡ readCellsCall (now (file .entry)) at (now (cells .entry)) .lent) ⌝ }
+{
+    let p = reading::planned(file, at, cells.len());
+    place_cells(cells, p.from, p.end, file);
+    renumber(cells, p.from, p.end, p.k);
+    reading::answer(p)
 }

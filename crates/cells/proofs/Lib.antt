@@ -3,5 +3,6 @@ pub mod Turns
 pub mod Moving
 pub mod Again
 pub mod Planning
+pub mod ByBytes
 pub mod ByKind
 pub mod Listing

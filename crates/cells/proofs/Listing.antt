@@ -55,7 +55,7 @@ full-grows p c h cs l =
       cells = λ g. absurd (omega (arith, e, g, l .count));
     }
 
-bytes-append : (cs ds : List Cell) → cellBytes (cs ++ ds) ≡ cellBytes cs ++ cellBytes ds
+pub bytes-append : (cs ds : List Cell) → cellBytes (cs ++ ds) ≡ cellBytes cs ++ cellBytes ds
 unfolding cellBytes bytes16
 bytes-append [] ds = refl
 bytes-append (c ∷ cs) ds = rw (bytes-append cs ds) refl

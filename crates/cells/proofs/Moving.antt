@@ -12,11 +12,8 @@ use Rattle.model.specs.NetlistFile.{cellFrom, cellsAt, inFile, blocksFor}
 use Rattle.model.specs.CellSlices.{moved}
 use Rattle.netlist.specs.declared.cells.Layout.the-variants.{InFile}
 use Rattle.netlist.specs.Offsets.{Room}
+use Rattle.cells.specs.Moves.{movedFrom}
 use Rattle.netlist.proofs.Bytes.{cells-more, cells-none}
-
--- cells i up to end moved k places on
-abbrev pub movedFrom : ℕ → ℕ → List Cell → ℕ → List Cell
-movedFrom k end cs i = sets cs i (map (moved k) (take (end - i) (drop i cs)))
 
 pub move-more : (k end : ℕ) (cs : List Cell) (i : ℕ) {c : Cell} → i < end → end ≤ length cs → c ≡ moved k (cellAt cs i)
     → movedFrom k end cs i ≡ movedFrom k end (set cs i c) (i + 1)

@@ -25,7 +25,7 @@ use Rattle.netlist.proofs.FileChecks.{accepted-room}
 use Rattle.cells.specs.declared.reading.Plan.{Plan}
 use Rattle.cells.specs.Plans.{Plans}
 use Rattle.cells.proofs.Turns.{by-less}
-use Rattle.cells.proofs.Moving.{movedFrom}
+use Rattle.cells.specs.Moves.{movedFrom}
 
 -- Numbers ------------------------------------------------------------------------------------------------------------------------------
 

@@ -1,18 +1,18 @@
 // Netlists that a caller holds as a slice of cell structs. Every function here is thin: it takes the structs apart and calls a covered
 // function on numbers or on a list of bytes.
 ghost use mathlib.Core.Path.{_≡_};
-ghost use mathlib.Core.List.{map};
 ghost use Prim.Native.Nat.{_-_, _≤_};
-ghost use lib.ListN.{length, take, drop};
+ghost use lib.ListN.{length};
 ghost use lib.Seq.{sets};
-ghost use Rattle.model.specs.CellSlices.{moved, checkCellsCall, writeCellsCall, readCellsCall};
+ghost use Rattle.model.specs.CellSlices.{checkCellsCall, writeCellsCall, readCellsCall};
 ghost use Rattle.model.specs.NetlistFile.{cellsAt, inFile};
 ghost use Rattle.netlist.specs.declared.cells.Layout.the-variants.{InFile};
 ghost use Rattle.netlist.specs.Offsets.{Room};
 ghost use Rattle.cells.specs.Lists.{Lists};
+ghost use Rattle.cells.specs.Moves.{movedFrom};
 
 pub mod list; // cells as six bytes each, by value
-pub mod moves; // one cell moved
+pub mod moves; // one cell moved, and cells of six bytes each
 pub mod reading; // what reading puts in
 
 use list::Listed;
@@ -52,7 +52,7 @@ pub fn write_cells(cells: &[Cell], finish: u16, file: &mut [u8]) -> Written
 // Moves the inputs of the cells from number `from` up to `end` k places on.
 pub fn renumber(cells: &mut [Cell], from: usize, end: usize, k: u16)
     requires { ⌜ end ≤ length (now cells) ⌝ }
-    ensures { λ _. ⌜ now (cells .exit) ≡ sets (now (cells .entry)) from (map (moved k) (take (end - from) (drop from (now (cells .entry))))) ⌝ }
+    ensures { λ _. ⌜ now (cells .exit) ≡ movedFrom k end (now (cells .entry)) from ⌝ }
 {
     let mut i = from;
     while i < end {

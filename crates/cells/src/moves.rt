@@ -1,17 +1,13 @@
-// One cell as it stands behind others, and what reading a netlist behind others has to know before it writes.
-// Each contract is an equation with model/CellSlices.
+// Renumbering: one cell as it stands behind others, and cells of six bytes each.
+// Each contract is an equation with model/CellSlices or specs/Moves.
 ghost use mathlib.Core.Path.{_≡_};
-ghost use Prim.Native.Nat.{_<_};
+ghost use Prim.Native.Nat.{_*_, _≤_};
+ghost use lib.ListN.{length};
 ghost use Rattle.model.specs.Word.{pick};
 ghost use Rattle.model.specs.Circuit.{shape};
-ghost use Rattle.model.specs.NetlistFile.{cellFrom, inFile};
 ghost use Rattle.model.specs.CellSlices.{namesA, namesB, later, moved};
-ghost use Rattle.netlist.specs.Offsets.{Room};
-ghost use Rattle.netlist.specs.declared.cells.Layout.the-variants.{InFile};
+ghost use Rattle.cells.specs.Moves.{movedBytes};
 use model::Cell;
-use model::Checked;
-use model::Refusal;
-use model::Written;
 use netlist::cells::Layout;
 
 // Whether a kind's a names a cell.
@@ -53,5 +49,19 @@ pub fn moved(c: Cell, k: u16) -> Cell
         delay: c.delay,
         a,
         b,
+    }
+}
+
+// Renumbering over six bytes for each cell, for callers that hold no structs: the cells from number `from` up to `end` moved k places on.
+pub fn renumber_bytes(cells: &mut [u8], from: usize, end: usize, k: u16)
+    requires { ⌜ (end ≤ 1024) × (6 * end ≤ length (now cells)) ⌝ }
+    ensures { λ _. ⌜ now (cells .exit) ≡ movedBytes k end (now (cells .entry)) from ⌝ }
+{
+    let mut i = from;
+    while i < end {
+        let c = netlist::cells::cell_at(cells, Layout::InList, i);
+        let next = moved(c, k);
+        netlist::cells::put_cell(cells, 6 * i, next, 0);
+        i += 1;
     }
 }

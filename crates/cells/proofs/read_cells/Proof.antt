@@ -54,7 +54,7 @@ use Rattle.netlist.proofs.Bytes.{cells-length}
 use Rattle.cells.specs.declared.reading.Plan.{Plan}
 use Rattle.cells.specs.Plans.{Plans}
 use Rattle.cells.proofs.Again.{LentAgain, lends-again, comes-back}
-use Rattle.cells.proofs.Moving.{movedFrom}
+use Rattle.cells.specs.Moves.{movedFrom}
 use Rattle.cells.proofs.Planning.{place-move}
 use Rattle.cells.proofs.reading.Plan as P
 use Rattle.cells.proofs.reading.Plan.Laws as P′

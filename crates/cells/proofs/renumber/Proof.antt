@@ -50,7 +50,8 @@ use Rattle.model.specs.CellSlices.{moved}
 use Rattle.model.proofs.Cell as T
 use Rattle.model.proofs.Cell.Laws as T′
 use Rattle.cells.proofs.Turns.{by-less, loops}
-use Rattle.cells.proofs.Moving.{movedFrom, move-more, move-done}
+use Rattle.cells.specs.Moves.{movedFrom}
+use Rattle.cells.proofs.Moving.{move-more, move-done}
 use Rattle.cells.proofs.moves.moved as one
 use Rattle.cells.proofs.moves.moved.Symbol as one-def
 use Rattle.cells.proofs.moves.moved.Symbol.{name as #cells·moves·moved}

@@ -1,15 +1,14 @@
 -- A list of six bytes for each cell that grows cell by cell, and what is checked and written of it. Assumes nothing.
-use mathlib.Core.Bool.{Bool, true, false}
+use mathlib.Core.Bool.{true, false}
 use mathlib.Core.List.{List, [], _∷_, _++_}
-use mathlib.Core.Path.{_≡_, refl, sym, _∙_, ap}
-use Prim.Native.Nat.{ℕ, suc, _+_, _-_, _*_, _<_, _≤_, min}
+use mathlib.Core.Path.{_≡_, refl, sym, _∙_}
+use Prim.Native.Nat.{ℕ, _+_, _-_, _*_, _<_, _≤_}
 use native.Mathlib.Omega.{arith}
 use native.Mathlib.Numerals.{add-one}
 use borrow.Author.Tests.{le-leb, lt-leb}
 use lib.ListN.{length, take, drop, replicate, length-append, length-take, length-replicate}
 use lib.Seq.{sets, sets-eq, length-sets, take-suc, take-all, take-append-seam}
 use Rattle.model.specs.declared.Cell.{Cell}
-use Rattle.model.specs.declared.Refusal.{Refusal}
 use Rattle.model.specs.declared.Checked.{Checked}
 use Rattle.model.specs.declared.Checked.the-variants.{Accepted, Refused}
 use Rattle.model.specs.declared.Written.{Written}
@@ -17,7 +16,7 @@ use Rattle.model.specs.Word.{bytes16}
 use Rattle.model.specs.Circuit.{noCell, cellAt}
 use Rattle.model.specs.Refusals.{refuse, first}
 use Rattle.model.specs.NetlistFile.{cellBytes, cellsAt, inList, countWrong, blocksFor, netCheck}
-use Rattle.model.specs.Calls.{Told, writing, writeCall}
+use Rattle.model.specs.Calls.{writing, writeCall}
 use Rattle.model.specs.CellSlices.{checkCellsCall, writeCellsCall}
 use Rattle.theory.specs.NetlistFile.CellBytes.{bytes-length}
 use Rattle.theory.specs.NetlistFile.ByCells.{cells-of-bytes, write-cells-bytes}

@@ -1,8 +1,8 @@
 -- What reading behind other cells puts in, outcome by outcome, and that placing and then moving does it. Assumes nothing.
 use mathlib.Core.Bool.{true, false}
 use mathlib.Core.List.{List, [], _∷_, _++_, map, append-assoc}
-use mathlib.Core.Path.{_≡_, refl, sym, _∙_, ap, ap₂}
-use Prim.Native.Nat.{ℕ, suc, _+_, _-_, _*_, _%_, _<_, _≤_}
+use mathlib.Core.Path.{_≡_, refl, sym, _∙_}
+use Prim.Native.Nat.{ℕ, _+_, _-_, _%_, _≤_}
 use native.Mathlib.Omega.{arith}
 use borrow.Author.Tests.{lt-ltb, le-ltb, ltb-false}
 use lib.Dec.{ltb}
@@ -14,10 +14,8 @@ use Rattle.model.specs.declared.Checked.{Checked}
 use Rattle.model.specs.declared.Checked.the-variants.{Accepted}
 use Rattle.model.specs.declared.Written.{Written}
 use Rattle.model.specs.declared.Written.the-variants.{Done}
-use Rattle.model.specs.Word.{pick}
-use Rattle.model.specs.Circuit.{cell, shape}
 use Rattle.model.specs.NetlistFile.{cellsAt, inFile, countOf, finishOf, cellsOf, fileCheck}
-use Rattle.model.specs.CellSlices.{later, moved, namesA, namesB, placing, readCellsCall}
+use Rattle.model.specs.CellSlices.{later, moved, placing, readCellsCall}
 use Rattle.netlist.specs.declared.cells.Layout.the-variants.{InFile}
 use Rattle.netlist.specs.Offsets.{Room}
 use Rattle.netlist.proofs.Bytes.{cells-length}

@@ -1,7 +1,7 @@
 -- What a list of six bytes for each cell holds. Assumes nothing: definitions.
 use mathlib.Core.List.{List}
 use mathlib.Core.Path.{_≡_}
-use Prim.Native.Nat.{ℕ, _*_, _≤_, min}
+use Prim.Native.Nat.{_*_, _≤_, min}
 use lib.ListN.{length, take}
 use Rattle.model.specs.declared.Cell.{Cell}
 use Rattle.model.specs.NetlistFile.{cellBytes}

@@ -1,48 +1,37 @@
+-- `list::check` meets its contract: the count, and then the rules of crate netlist on the list's bytes. Assumes nothing.
 use native.Mathlib.Omega.{arith}
 use Rattle.netlist.proofs.FileChecks.{counted}
 use Rattle.cells.proofs.Listing.{part-is, part-room, check-miscounted, check-decides}
 use borrow.Author.Needs.{needs}
 use Rattle.cells.proofs.list.check.Statement.{statement}
 use Rattle.cells.proofs.list.check.Tie as tie
-use Rattle.cells.proofs.list.check.Reads as reads
-use Rattle.cells.proofs.list.check.Lts as lts
-use Rattle.netlist.proofs.blocks.count_wrong.Reads as count-wrong-reads
-use Rattle.netlist.proofs.rules.check_cells.Reads as check-cells-reads
 
--- src/list.rt:53:38
 add-count-wrong : tie.Need-add-count-wrong
 add-count-wrong c = search needs
 
--- src/list.rt:53:8
 count-wrong-requires : tie.Need-count-wrong-requires
 count-wrong-requires c κs = search needs
 
--- src/list.rt:54:9
 returns : tie.Need-returns
 returns c =
     let args = c .before .before .before .args in
     λ cs l. check-miscounted (args .p) cs l (args .finish) (rw (c .before .count-wrong .ensures) at (c .if1 .taken))
 
--- src/list.rt:59:15
 mul-end : tie.Need-mul-end
 mul-end c = search needs
 
--- src/list.rt:60:33
 sub-check-cells : tie.Need-sub-check-cells
 sub-check-cells c = search needs
 
--- src/list.rt:60:33
 part-check-cells-start : tie.Need-part-check-cells-start
 part-check-cells-start c = search needs
 
--- src/list.rt:60:33
 part-check-cells-end : tie.Need-part-check-cells-end
 part-check-cells-end c =
     let args = c .before .before .before .before .args in
     let few = counted _ (args .p .n) (args .finish) (rw (c .before .before .count-wrong .ensures) at (c .before .if1 .left)) .high in
     omega (arith, few, c .before .before .before .before .pre .size)
 
--- src/list.rt:60:5
 check-cells-requires : tie.Need-check-cells-requires
 check-cells-requires c κs =
     let args = c .before .before .before .before .before .args in
@@ -50,7 +39,6 @@ check-cells-requires c κs =
     let few = counted _ (args .p .n) (args .finish) (rw (c .before .before .before .count-wrong .ensures) at (c .before .before .if1 .left)) .high in
     part-room (args .p) pre few
 
--- src/list.rt:46:1
 returns-2 : tie.Need-returns-2
 returns-2 c =
     let args = c .before .before .before .before .before .before .args in

@@ -1,31 +1,22 @@
+-- `moves::moved` meets its contract: each input by itself. Assumes nothing.
 use mathlib.Core.Path.{refl}
 use Rattle.model.specs.CellSlices.{moved}
 use borrow.Author.Needs.{needs}
 use Rattle.cells.proofs.moves.moved.Statement.{statement}
 use Rattle.cells.proofs.moves.moved.Tie as tie
-use Rattle.cells.proofs.moves.moved.Reads as reads
-use Rattle.cells.proofs.moves.moved.Lts as lts
-use Rattle.cells.proofs.moves.names_a.Reads as names-a-reads
-use Rattle.cells.proofs.moves.names_b.Reads as names-b-reads
-use Rattle.cells.proofs.moves.shifted.Reads as shifted-reads
 
--- src/moves.rt:49:21
 names-a-requires : tie.Need-names-a-requires
 names-a-requires c κs = search needs
 
--- src/moves.rt:49:9
 shifted-requires : tie.Need-shifted-requires
 shifted-requires c κs = search needs
 
--- src/moves.rt:50:21
 names-b-requires : tie.Need-names-b-requires
 names-b-requires c κs = search needs
 
--- src/moves.rt:50:9
 shifted-requires-2 : tie.Need-shifted-requires-2
 shifted-requires-2 c κs = search needs
 
--- src/moves.rt:46:1
 returns : tie.Need-returns
 unfolding moved
 returns c = rw (c .shifted2 .ensures, c .before .names-b .ensures, c .before .before .shifted .ensures, c .before .before .before .names-a .ensures) refl

@@ -1,19 +1,14 @@
+-- `moves::shifted` meets its contract. Assumes nothing.
 use borrow.Author.Needs.{needs}
 use Rattle.cells.proofs.moves.shifted.Statement.{statement}
 use Rattle.cells.proofs.moves.shifted.Tie as tie
-use Rattle.cells.proofs.moves.shifted.Reads as reads
-use Rattle.cells.proofs.moves.shifted.Lts as lts
-use Rattle.std.proofs.num.wrapping_add_u16.Reads as wrapping-add-u16-reads
 
--- src/moves.rt:40:9
 wrapping-add-u16-requires : tie.Need-wrapping-add-u16-requires
 wrapping-add-u16-requires c κs = search needs
 
--- src/moves.rt:40:9
 returns : tie.Need-returns
 returns c = rw (c .before .if1 .taken) (c .wrapping-add-u16 .ensures)
 
--- src/moves.rt:36:1
 returns-2 : tie.Need-returns-2
 returns-2 c = search needs
 

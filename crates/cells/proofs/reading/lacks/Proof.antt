@@ -6,16 +6,12 @@ use borrow.Author.Tests.{lt-ltb}
 use Rattle.cells.proofs.Planning.{lacks-is}
 use Rattle.cells.proofs.reading.lacks.Statement.{statement}
 use Rattle.cells.proofs.reading.lacks.Tie as tie
-use Rattle.cells.proofs.reading.lacks.Reads as reads
-use Rattle.cells.proofs.reading.lacks.Lts as lts
 
--- src/reading.rt:42:9
 returns : tie.Need-returns
 returns c =
     let args = c .before .args in
     sym (lt-ltb (args .room) (args .at + args .count) (omega (arith, c .if1 .taken)))
 
--- src/reading.rt:38:1
 returns-2 : tie.Need-returns-2
 returns-2 c =
     let args = c .before .args in

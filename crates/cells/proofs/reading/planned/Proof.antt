@@ -8,26 +8,16 @@ use Rattle.cells.proofs.Planning.{plan-refused, plan-short, plan-done}
 use borrow.Author.Needs.{needs}
 use Rattle.cells.proofs.reading.planned.Statement.{statement}
 use Rattle.cells.proofs.reading.planned.Tie as tie
-use Rattle.cells.proofs.reading.planned.Reads as reads
-use Rattle.cells.proofs.reading.planned.Lts as lts
-use Rattle.cells.proofs.reading.lacks.Reads as lacks-reads
-use Rattle.cells.proofs.reading.refused.Reads as refused-reads
-use Rattle.netlist.proofs.check_file.Reads as check-file-reads
-use Rattle.word.proofs.get16.Reads as get16-reads
 
--- src/reading.rt:51:9
 check-file-requires : tie.Need-check-file-requires
 check-file-requires c κs = search needs
 
--- src/reading.rt:52:29
 enum-known-checked : tie.Need-enum-known-checked
 enum-known-checked c = search needs
 
--- src/reading.rt:53:9
 refused-requires : tie.Need-refused-requires
 refused-requires c κs = search needs
 
--- src/reading.rt:53:9
 returns : tie.Need-returns
 returns c =
     let args = c .before .before .before .before .before .before .args in
@@ -37,51 +27,42 @@ returns c =
 enum-told : tie.Need-enum-told
 enum-told c = search needs
 
--- src/reading.rt:55:17
 get16-requires : tie.Need-get16-requires
 get16-requires c κs =
     let args = c .before .before .before .before .args in
     let accepted = sym (c .before .before .check-file .ensures) ∙ c .enum-told .given .1 in
     omega (arith, accepted-whole (args .file .now) accepted)
 
--- src/reading.rt:55:17
 cast-count : tie.Need-cast-count
 cast-count c = search needs
 
--- src/reading.rt:56:9
 get16-requires-2 : tie.Need-get16-requires-2
 get16-requires-2 c κs =
     let args = c .before .before .before .before .before .args in
     let accepted = sym (c .before .before .before .check-file .ensures) ∙ c .before .enum-told .given .1 in
     omega (arith, accepted-whole (args .file .now) accepted)
 
--- src/reading.rt:57:8
 lacks-requires : tie.Need-lacks-requires
 lacks-requires c κs = search needs
 
--- src/reading.rt:58:9
 refused-requires-2 : tie.Need-refused-requires-2
 refused-requires-2 c κs = search needs
 
--- src/reading.rt:58:9
 returns-2 : tie.Need-returns-2
 returns-2 c =
     let args = c .before .before .before .before .before .before .before .before .before .args in
     let accepted = sym (c .before .before .before .before .before .before .before .check-file .ensures) ∙ c .before .before .before .before .before .enum-told .given .1 in
     plan-short (args .file .now) (args .at) (args .room) accepted (c .before .before .before .before .get16 .ensures) (sym (c .before .before .lacks .ensures) ∙ c .before .if1 .taken) (c .refused2 .ensures)
 
--- src/reading.rt:66:14
 add-t12 : tie.Need-add-t12
 add-t12 c =
     let start = c .before .before .before .before .before .before .before .before in
     let fits = ltb-false (start .args .room) (start .args .at + c .before .before .before .get16 .result) (sym (c .before .lacks .ensures) ∙ c .if1 .left) in
     omega (arith, fits, start .fits .room)
 
--- src/reading.rt:67:12
 cast-t8 : tie.Need-cast-t8
 cast-t8 c = search needs
 
--- src/reading.rt:48:1
 returns-3 : tie.Need-returns-3
 returns-3 c =
     let args = c .before .before .before .before .before .before .before .before .args in

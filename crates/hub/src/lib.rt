@@ -7,6 +7,10 @@ pub mod exports; // the calls for other languages
 mod full; // the full run of a program
 pub mod reply; // answers as bytes
 
+// The calls on a slice of cell structs; their contracts stand with them.
+pub use cells::check_cells;
+pub use cells::read_cells;
+pub use cells::write_cells;
 use model::Answer;
 use model::Checked;
 use model::Written;

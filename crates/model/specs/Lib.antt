@@ -10,6 +10,7 @@ pub mod Text
 pub mod Reader
 pub mod Calls
 pub mod TextCalls
+pub mod CellSlices
 pub mod Hubrun
 pub mod Hubtext
 pub mod Promises

@@ -4,3 +4,4 @@ pub mod CellBytes
 pub mod Blocks
 pub mod Files
 pub mod ReadWrite
+pub mod ByCells

@@ -65,7 +65,7 @@ cells-same cells y e =
     (λ i l. cell-of inList cells 0 (length cells / 6) i (omega (arith, n)) ∙ ap (λ (k : ℕ). cellFrom cells (6 * k)) (zero-add i)) (omega (arith, z))
 
 -- and what is written of cells has those cells
-cells-in-bytes : (cs : List Cell) → cellsIn (cellBytes cs) ≡ cs
+pub cells-in-bytes : (cs : List Cell) → cellsIn (cellBytes cs) ≡ cs
 cells-in-bytes cs =
     let e : length cs ≡ length (cellBytes cs) / 6 = omega (arith, bytes-length cs) in
     cells-are inList (cellBytes cs) cs 0 (length (cellBytes cs) / 6) e

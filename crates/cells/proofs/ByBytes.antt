@@ -1,0 +1,97 @@
+-- Renumbering over six bytes for each cell, and the equation that ties it to renumbering over structs. Assumes nothing.
+use mathlib.Core.List.{List, [], _∷_, _++_, map}
+use mathlib.Core.Path.{_≡_, refl, sym, _∙_, ap, ap₂}
+use Prim.Native.Nat.{ℕ, zero, suc, _+_, _-_, _*_, _<_, _≤_, min}
+use native.Mathlib.Omega.{arith}
+use lib.ListN.{length, getD, take, drop, length-map, length-take, length-drop, length-append}
+use lib.Seq.{sets, sets-eq, getD-drop, drop-append-seam}
+use Rattle.model.specs.declared.Cell.{Cell}
+use Rattle.model.specs.Word.{bytes16}
+use Rattle.model.specs.NetlistFile.{cellBytes, cellFrom, cellsAt, inList, netCheck}
+use Rattle.model.specs.CellSlices.{moved}
+use Rattle.theory.specs.NetlistFile.CellBytes.{bytes-length, same-cell}
+use Rattle.theory.specs.NetlistFile.ByCells.{cells-of-bytes}
+use Rattle.netlist.proofs.Writes.{sets-append}
+use Rattle.netlist.proofs.Bytes.{cells-more, cells-none, drop-cells, take-cells, cell-bytes-append}
+use Rattle.cells.specs.Moves.{movedFrom, movedBytes}
+use Rattle.cells.proofs.Listing.{bytes-append}
+
+-- Cell after cell ----------------------------------------------------------------------------------------------------------------------
+
+-- what stands behind a write is as it was
+drop-behind : (s v : List ℕ) (i : ℕ) → i + length v ≤ length s → drop (i + length v) (sets s i v) ≡ drop (i + length v) s
+drop-behind s v i h =
+    let z : length (take i s ++ v) ≡ i + length v = simp (length-append, length-take) (omega (arith, h)) in
+    rw (sets-eq v s i h) (rw z at (drop-append-seam (take i s ++ v) (drop (i + length v) s)))
+
+module _ (s t : List ℕ) (n : ℕ) (e : drop n s ≡ drop n t) where
+  get-same : (j : ℕ) → n ≤ j → getD s j 0 ≡ getD t j 0
+  get-same j h =
+      let z : n + (j - n) ≡ j = omega arith in
+      let a : getD (drop n s) (j - n) 0 ≡ getD s j 0 = rw z at (getD-drop n s (j - n) 0) in
+      let b : getD (drop n t) (j - n) 0 ≡ getD t j 0 = rw z at (getD-drop n t (j - n) 0) in
+      sym a ∙ ap (λ (y : List ℕ). getD y (j - n) 0) e ∙ b
+
+  cells-same : (k m : ℕ) → n ≤ 6 * k → cellsAt inList s k m ≡ cellsAt inList t k m
+  unfolding cellsAt
+  cells-same k zero h = refl
+  cells-same k (suc m) h =
+      ap₂ (λ (c : Cell) (cs : List Cell). c ∷ cs) (same-cell s t (6 * k) (6 * k) (λ j l. get-same (6 * k + j) (omega (arith, h)))) (cells-same (k + 1) m (omega (arith, h)))
+
+module _ (k end : ℕ) (s : List ℕ) (i : ℕ) where
+  pub bytes-more : {c next : Cell} {t : List ℕ} → i < end → 6 * end ≤ length s → c ≡ cellFrom s (6 * i) → next ≡ moved k c → t ≡ sets s (6 * i) (cellBytes (next ∷ []))
+      → movedBytes k end s i ≡ movedBytes k end t (i + 1)
+  bytes-more {c} {next} {t} h g e f q =
+      let six : length (cellBytes (next ∷ [])) ≡ 6 = bytes-length (next ∷ []) in
+      let cs = map (moved k) (cellsAt inList s (i + 1) (end - i - 1)) in
+      let m : end - i - 1 ≡ end - (i + 1) = omega arith in
+      let z : 6 * i + length (cellBytes (next ∷ [])) ≡ 6 * (i + 1) = omega (arith, six) in
+      let d : drop (6 * (i + 1)) t ≡ drop (6 * (i + 1)) s = rw (q, ← z) (drop-behind s (cellBytes (next ∷ [])) (6 * i) (omega (arith, six, h, g))) in
+      let a : cellsAt inList s (i + 1) (end - i - 1) ≡ cellsAt inList t (i + 1) (end - (i + 1)) = rw m (sym (cells-same t s (6 * (i + 1)) d (i + 1) (end - (i + 1)) (omega arith))) in
+      let b : sets s (6 * i) (cellBytes (next ∷ []) ++ cellBytes cs) ≡ sets t (6 * (i + 1)) (cellBytes cs) = rw (q, ← z) (sets-append s (6 * i) (cellBytes (next ∷ [])) (cellBytes cs)) in
+      rw (cells-more inList s i (end - i) (omega arith), ← e, ← f, cell-bytes-append next cs) (b ∙ ap (λ (ds : List Cell). sets t (6 * (i + 1)) (cellBytes (map (moved k) ds))) a)
+
+  pub bytes-done : end ≤ i → movedBytes k end s i ≡ s
+  unfolding cellBytes
+  bytes-done h = rw (cells-none inList s i (end - i) (omega arith)) refl
+
+-- Structs and bytes --------------------------------------------------------------------------------------------------------------------
+
+take-bytes : (j : ℕ) (cs : List Cell) → take (6 * j) (cellBytes cs) ≡ cellBytes (take j cs)
+unfolding cellBytes bytes16
+take-bytes zero cs = refl
+take-bytes (suc j) [] = let e : 6 * suc j ≡ suc (6 * j + 5) = omega arith in rw e refl
+take-bytes (suc j) (c ∷ cs) = let e : 6 * suc j ≡ suc (suc (suc (suc (suc (suc (6 * j)))))) = omega arith in rw (e, take-bytes j cs) refl
+
+drop-bytes : (j : ℕ) (cs : List Cell) → drop (6 * j) (cellBytes cs) ≡ cellBytes (drop j cs)
+unfolding cellBytes bytes16
+drop-bytes zero cs = refl
+drop-bytes (suc j) [] = let e : 6 * suc j ≡ suc (6 * j + 5) = omega arith in rw e refl
+drop-bytes (suc j) (c ∷ cs) = let e : 6 * suc j ≡ suc (suc (suc (suc (suc (suc (6 * j)))))) = omega arith in rw e (drop-bytes j cs)
+
+sets-bytes : (cs ds : List Cell) (i : ℕ) → i + length ds ≤ length cs → sets (cellBytes cs) (6 * i) (cellBytes ds) ≡ cellBytes (sets cs i ds)
+sets-bytes cs ds i h =
+    let l = bytes-length cs in
+    let m = bytes-length ds in
+    let z : 6 * i + length (cellBytes ds) ≡ 6 * (i + length ds) = omega (arith, m) in
+    let a : sets (cellBytes cs) (6 * i) (cellBytes ds) ≡ (take (6 * i) (cellBytes cs) ++ cellBytes ds) ++ drop (6 * i + length (cellBytes ds)) (cellBytes cs) =
+    sets-eq (cellBytes ds) (cellBytes cs) (6 * i) (omega (arith, l, m, h)) in
+    let b : sets cs i ds ≡ (take i cs ++ ds) ++ drop (i + length ds) cs = sets-eq ds cs i h in
+    a ∙ rw (z, take-bytes i cs, drop-bytes (i + length ds) cs, b, bytes-append (take i cs ++ ds) (drop (i + length ds) cs), bytes-append (take i cs) ds) refl
+
+-- renumbering the six bytes of cells gives the six bytes of the cells renumbered
+pub renumber-bytes : (k end : ℕ) (cs : List Cell) (i : ℕ) → i ≤ end → end ≤ length cs → movedBytes k end (cellBytes cs) i ≡ cellBytes (movedFrom k end cs i)
+renumber-bytes k end cs i f h =
+    let n = length cs in
+    let z : min (end - i) (n - i) ≡ end - i = omega arith in
+    let o : 0 + i ≡ i = omega arith in
+    let whole : cellsAt inList (cellBytes cs) 0 n ≡ cs = cells-of-bytes cs n refl in
+    let d : drop i cs ≡ cellsAt inList (cellBytes cs) i (n - i) = ap (drop i) (sym whole) ∙ rw o at (drop-cells inList (cellBytes cs) i 0 n) in
+    let t : cellsAt inList (cellBytes cs) i (end - i) ≡ take (end - i) (drop i cs) = rw d (sym (rw z at (take-cells inList (cellBytes cs) (end - i) i (n - i)))) in
+    let ds = map (moved k) (take (end - i) (drop i cs)) in
+    let l : length ds ≡ end - i = length-map (take (end - i) (drop i cs)) (moved k) ∙ length-take (end - i) (drop i cs) ∙ simp length-drop (omega (arith, h)) in
+    rw t (sets-bytes cs ds i (omega (arith, l, f, h)))
+
+-- the rules are kept by cells if they are kept by their six bytes each, and the same cell breaks one
+pub check-bytes : (cs : List Cell) (f : ℕ) → netCheck (cellsAt inList (cellBytes cs) 0 (length cs)) f ≡ netCheck cs f
+check-bytes cs f = rw (cells-of-bytes cs (length cs) refl) refl

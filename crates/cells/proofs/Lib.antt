@@ -1,0 +1,8 @@
+-- The laws behind the proofs of the functions.
+pub mod Turns
+pub mod Moving
+pub mod Again
+pub mod Planning
+pub mod ByBytes
+pub mod ByKind
+pub mod Listing

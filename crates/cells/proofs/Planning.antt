@@ -1,0 +1,115 @@
+-- What reading behind other cells puts in, outcome by outcome, and that placing and then moving does it. Assumes nothing.
+use mathlib.Core.Bool.{true, false}
+use mathlib.Core.List.{List, [], _∷_, _++_, map, append-assoc}
+use mathlib.Core.Path.{_≡_, refl, sym, _∙_}
+use Prim.Native.Nat.{ℕ, _+_, _-_, _%_, _≤_}
+use native.Mathlib.Omega.{arith}
+use borrow.Author.Tests.{lt-ltb, le-ltb, ltb-false}
+use lib.Dec.{ltb}
+use lib.ListN.{length, take, drop, length-map, length-take, length-append}
+use lib.Seq.{sets, sets-eq, length-sets, take-append-seam, drop-append-seam}
+use Rattle.model.specs.declared.Cell.{Cell}
+use Rattle.model.specs.declared.Refusal.{Refusal}
+use Rattle.model.specs.declared.Checked.{Checked}
+use Rattle.model.specs.declared.Checked.the-variants.{Accepted}
+use Rattle.model.specs.declared.Written.{Written}
+use Rattle.model.specs.declared.Written.the-variants.{Done}
+use Rattle.model.specs.NetlistFile.{cellsAt, inFile, countOf, finishOf, cellsOf, fileCheck}
+use Rattle.model.specs.CellSlices.{later, moved, placing, readCellsCall}
+use Rattle.netlist.specs.declared.cells.Layout.the-variants.{InFile}
+use Rattle.netlist.specs.Offsets.{Room}
+use Rattle.netlist.proofs.Bytes.{cells-length}
+use Rattle.netlist.proofs.FileChecks.{accepted-room}
+use Rattle.cells.specs.declared.reading.Plan.{Plan}
+use Rattle.cells.specs.Plans.{Plans}
+use Rattle.cells.proofs.Turns.{by-less}
+use Rattle.cells.specs.Moves.{movedFrom}
+
+-- Numbers ------------------------------------------------------------------------------------------------------------------------------
+
+pub lacks-is : (room at count : ℕ) → at ≤ room → ltb (room - at) count ≡ ltb room (at + count)
+lacks-is room at count h =
+    by-less room (at + count) (λ l. lt-ltb (room - at) count (omega arith) ∙ sym (lt-ltb room (at + count) l))
+    (λ l. le-ltb (room - at) count (omega arith) ∙ sym (le-ltb room (at + count) l))
+
+later-wraps : (k j : ℕ) → later (k % 65536) j ≡ later k j
+later-wraps k j = omega arith
+
+moved-wraps : (k : ℕ) (cs : List Cell) → map (moved (k % 65536)) cs ≡ map (moved k) cs
+unfolding moved
+moved-wraps k [] = refl
+moved-wraps k (c ∷ cs) = rw (later-wraps k (c .a), later-wraps k (c .b), moved-wraps k cs) refl
+
+-- Outcomes -----------------------------------------------------------------------------------------------------------------------------
+
+abbrev nothing-in : Refusal → Plan
+nothing-in r = record { answer = Written.Refused r; from = 0; end = 0; k = 0 }
+
+no-cells : (file : List ℕ) → Room InFile file 0
+no-cells file = record { few = omega arith; fits = omega arith }
+
+module _ (file : List ℕ) (at room : ℕ) where
+  pub plan-refused : {r : Refusal} {p : Plan} → fileCheck file ≡ Checked.Refused r → p ≡ nothing-in r → Plans file at room p
+  unfolding readCellsCall placing cellsAt
+  plan-refused e q = rw q record { from = omega arith; fits = omega arith; holds = no-cells file; answer = λ lent l. rw e refl; lent = λ lent l. rw e refl }
+
+  module _ (e : fileCheck file ≡ Accepted) {n : ℕ} (count : n ≡ countOf file) where
+    pub plan-short : {p : Plan} → ltb room (at + n) ≡ true → p ≡ nothing-in (record { number = 14; place = 0 }) → Plans file at room p
+    unfolding readCellsCall placing cellsAt
+    plan-short h q = rw q record { from = omega arith; fits = omega arith; holds = no-cells file; answer = λ lent l. rw (e, l, ← count, h) refl; lent = λ lent l. rw (e, l, ← count, h) refl }
+
+    pub plan-done : {f : ℕ} → f ≡ finishOf file → ltb room (at + n) ≡ false → Plans file at room (record { answer = Done n f; from = at; end = at + n; k = at % 65536 })
+    unfolding readCellsCall placing cellsOf
+    plan-done finish h =
+        let z : at + n - at ≡ n = omega arith in
+        let fits = ltb-false room (at + n) h in
+        record {
+          from = omega arith;
+          fits = fits;
+          holds = rw (z, count) (accepted-room file e);
+          answer = λ lent l. rw (e, l, ← count, ← finish, h) refl;
+          lent = λ lent l.
+              let cs = map (moved at) (cellsAt inFile file 0 n) in
+              let m : length cs ≡ n = length-map (cellsAt inFile file 0 n) (moved at) ∙ cells-length inFile file 0 n in
+              let q : sets lent at cs ≡ (take at lent ++ cs) ++ drop (at + length cs) lent = sets-eq cs lent at (omega (arith, fits, l, m)) in
+              rw (e, l, ← count, ← finish, h, z, moved-wraps at (cellsAt inFile file 0 n)) (q ∙ append-assoc (take at lent) cs (drop (at + length cs) lent));
+        }
+
+-- Placed and then moved ----------------------------------------------------------------------------------------------------------------
+
+module _ (xs cs : List Cell) (i : ℕ) (h : i + length cs ≤ length xs) where
+  abbrev front : List Cell
+  front = take i xs
+
+  abbrev back : List Cell
+  back = drop (i + length cs) xs
+
+  front-length : length front ≡ i
+  front-length = length-take i xs ∙ omega (arith, h)
+
+  there : sets xs i cs ≡ (front ++ cs) ++ back
+  there = sets-eq cs xs i h
+
+  there-right : sets xs i cs ≡ front ++ (cs ++ back)
+  there-right = there ∙ append-assoc front cs back
+
+  drop-sets : take (length cs) (drop i (sets xs i cs)) ≡ cs
+  drop-sets =
+      let d : drop i (front ++ (cs ++ back)) ≡ cs ++ back = rw front-length at (drop-append-seam front (cs ++ back)) in
+      rw (there-right, d) (take-append-seam cs back)
+
+  sets-again : (ds : List Cell) → length ds ≡ length cs → sets (sets xs i cs) i ds ≡ sets xs i ds
+  sets-again ds e =
+      let a : sets (sets xs i cs) i ds ≡ (take i (sets xs i cs) ++ ds) ++ drop (i + length ds) (sets xs i cs) = sets-eq ds (sets xs i cs) i (rw (length-sets xs i cs) (omega (arith, e, h))) in
+      let b : sets xs i ds ≡ (front ++ ds) ++ drop (i + length ds) xs = sets-eq ds xs i (omega (arith, e, h)) in
+      let c : take i (sets xs i cs) ≡ front = rw there-right (rw front-length at (take-append-seam front (cs ++ back))) in
+      let z : length (front ++ cs) ≡ i + length cs = simp length-append (omega (arith, front-length)) in
+      let d : drop (i + length cs) (sets xs i cs) ≡ back = rw there (rw z at (drop-append-seam (front ++ cs) back)) in
+      let g : drop (i + length ds) (sets xs i cs) ≡ drop (i + length ds) xs = rw e d in
+      a ∙ rw (c, g) refl ∙ sym b
+
+pub place-move : (k from end : ℕ) (xs cs : List Cell) → length cs ≡ end - from → from ≤ end → end ≤ length xs
+    → movedFrom k end (sets xs from cs) from ≡ sets xs from (map (moved k) cs)
+place-move k from end xs cs l f h =
+    let fits : from + length cs ≤ length xs = omega (arith, l, f, h) in
+    rw (← l, drop-sets xs cs from fits) (sets-again xs cs from fits (map (moved k) cs) (length-map cs (moved k)))

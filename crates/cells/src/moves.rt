@@ -1,0 +1,67 @@
+// Renumbering: one cell as it stands behind others, and cells of six bytes each.
+// Each contract is an equation with model/CellSlices or specs/Moves.
+ghost use mathlib.Core.Path.{_≡_};
+ghost use Prim.Native.Nat.{_*_, _≤_};
+ghost use lib.ListN.{length};
+ghost use Rattle.model.specs.Word.{pick};
+ghost use Rattle.model.specs.Circuit.{shape};
+ghost use Rattle.model.specs.CellSlices.{namesA, namesB, later, moved};
+ghost use Rattle.cells.specs.Moves.{movedBytes};
+use model::Cell;
+use netlist::cells::Layout;
+
+// Whether a kind's a names a cell.
+fn names_a(kind: u8) -> bool
+    ensures { λ r. ⌜ r ≡ namesA (shape kind) ⌝ }
+{
+    let word = (3 <= kind) & (kind <= 9);
+    let control = (34 <= kind) & (kind <= 38);
+    word | (control | ((kind == 40) | (kind == 41)))
+}
+
+// Whether a kind's b names a cell.
+fn names_b(kind: u8) -> bool
+    ensures { λ r. ⌜ r ≡ namesB (shape kind) ⌝ }
+{
+    let word = (4 <= kind) & (kind <= 9);
+    let control = (35 <= kind) & (kind <= 38);
+    word | (control | ((kind == 40) | (kind == 41)))
+}
+
+// An input, k places later where it names a cell.
+fn shifted(names: bool, j: u16, k: u16) -> u16
+    ensures { λ r. ⌜ r ≡ pick names (later k j) j ⌝ }
+{
+    if names {
+        return std::num::wrapping_add_u16(j, k);
+    }
+    j
+}
+
+// The cell with its inputs k places later.
+pub fn moved(c: Cell, k: u16) -> Cell
+    ensures { λ r. ⌜ r ≡ moved k c ⌝ }
+{
+    let a = shifted(names_a(c.kind), c.a, k);
+    let b = shifted(names_b(c.kind), c.b, k);
+    Cell {
+        kind: c.kind,
+        delay: c.delay,
+        a,
+        b,
+    }
+}
+
+// Renumbering over six bytes for each cell, for callers that hold no structs: the cells from number `from` up to `end` moved k places on.
+pub fn renumber_bytes(cells: &mut [u8], from: usize, end: usize, k: u16)
+    requires { ⌜ (end ≤ 1024) × (6 * end ≤ length (now cells)) ⌝ }
+    ensures { λ _. ⌜ now (cells .exit) ≡ movedBytes k end (now (cells .entry)) from ⌝ }
+{
+    let mut i = from;
+    while i < end {
+        let c = netlist::cells::cell_at(cells, Layout::InList, i);
+        let next = moved(c, k);
+        netlist::cells::put_cell(cells, 6 * i, next, 0);
+        i += 1;
+    }
+}

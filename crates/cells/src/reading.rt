@@ -1,0 +1,83 @@
+// Reading a netlist behind cells that stand already: what is to be put in, and each cell of the file.
+// Each contract speaks of model/CellSlices (specs/Plans).
+ghost use mathlib.Core.Path.{_≡_};
+ghost use Prim.Native.Nat.{_+_, _-_, _<_, _≤_};
+ghost use lib.Dec.{ltb};
+ghost use Rattle.model.specs.declared.Written.{Written};
+ghost use Rattle.model.specs.NetlistFile.{cellFrom, inFile};
+ghost use Rattle.netlist.specs.declared.cells.Layout.the-variants.{InFile};
+ghost use Rattle.netlist.specs.Offsets.{Room};
+ghost use Rattle.cells.specs.Plans.{Plans};
+use model::Cell;
+use model::Checked;
+use model::Refusal;
+use model::Written;
+use netlist::cells::Layout;
+
+// What a call answers, and the cells that it puts in: those from number `from` up to `end`, none where it is refused.
+pub struct Plan {
+    pub answer: Written,
+    pub from: usize,
+    pub end: usize,
+    pub k: u16,
+}
+
+// Nothing to put in.
+fn refused(r: Refusal) -> Plan
+    ensures { λ p. ⌜ p ≡ record { answer = Written.Refused r; from = 0; end = 0; k = 0 } ⌝ }
+{
+    Plan {
+        answer: Written::Refused(r),
+        from: 0,
+        end: 0,
+        k: 0,
+    }
+}
+
+// Whether a list has no room for so many cells behind the first `at`.
+fn lacks(room: usize, at: usize, count: usize) -> bool
+    ensures { λ r. ⌜ r ≡ ltb room (at + count) ⌝ }
+{
+    if room < at {
+        return true;
+    }
+    room - at < count
+}
+
+// Refusals 9 to 12, 14, for a list with so much room.
+pub fn planned(file: &[u8], at: usize, room: usize) -> Plan
+    ensures { λ p. ⌜ Plans (now (file .entry)) at room p ⌝ }
+{
+    let checked = netlist::check_file(file);
+    if let Checked::Refused(r) = checked {
+        return refused(r);
+    }
+    let count = word::get16(file, 2) as usize;
+    let finish = word::get16(file, 4);
+    if lacks(room, at, count) {
+        return refused(Refusal {
+            number: 14,
+            place: 0,
+        });
+    }
+    Plan {
+        answer: Written::Done { count, finish },
+        from: at,
+        end: at + count,
+        k: (at % 65536) as u16,
+    }
+}
+
+pub fn answer(p: Plan) -> Written
+    ensures { λ r. ⌜ r ≡ p .answer ⌝ }
+{
+    p.answer
+}
+
+// The cell of the file that is to have number i, where its first has number `from`.
+pub fn file_cell(file: &[u8], from: usize, i: usize) -> Cell
+    requires { ⌜ (from ≤ i) × (i - from < 1024) × Room InFile (now file) (i - from + 1) ⌝ }
+    ensures { λ r. ⌜ r ≡ cellFrom (now (file .entry)) (inFile (i - from)) ⌝ }
+{
+    netlist::cells::cell_at(file, Layout::InFile, i - from)
+}

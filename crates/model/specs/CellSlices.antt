@@ -1,0 +1,94 @@
+-- Netlists that a caller holds as cells, and not as bytes: renumbering, the check, and the calls that write and read them.
+-- "First cells as six bytes each; then a thin lent-slice-of-cell-structs form for renumbering and the cell check."
+-- Assumes nothing: definitions.
+use mathlib.Core.Bool.{Bool, true, false}
+use mathlib.Core.List.{List, [], _∷_, _++_, map}
+use Prim.Native.Nat.{ℕ, _+_, _%_}
+use lib.ListN.{length, take, drop}
+use Rattle.model.specs.declared.Cell.{Cell}
+use Rattle.model.specs.declared.Checked.{Checked}
+use Rattle.model.specs.declared.Checked.the-variants.{Accepted}
+use Rattle.model.specs.declared.Written.{Written}
+use Rattle.model.specs.declared.Written.the-variants.{Done}
+use Rattle.model.specs.Word.{pick}
+use Rattle.model.specs.Refusals.{refuseIf, first}
+use Rattle.model.specs.Circuit.{cell, Shape, shape, kConstant, kComplement, kOperator, kStart, kGround, kDelay, kOr, kWhenTrue, kWhenFalse, kMerge, kMemory, kGated, kUnknown}
+use Rattle.model.specs.NetlistFile.{fileOf, fileCheck, cellsOf, countOf, finishOf, netCheck, countWrong, blocksFor}
+use Rattle.model.specs.Calls.{Told, short, writing}
+
+-- Renumbering --------------------------------------------------------------------------------------------------------------------------
+
+-- whether a kind's a, and its b, names a cell: a constant's a is its value
+unfoldable pub namesA : Shape → Bool
+namesA kConstant = false
+namesA kComplement = true
+namesA kOperator = true
+namesA kStart = false
+namesA kGround = false
+namesA kDelay = true
+namesA kOr = true
+namesA kWhenTrue = true
+namesA kWhenFalse = true
+namesA kMerge = true
+namesA kMemory = true
+namesA kGated = true
+namesA kUnknown = false
+
+unfoldable pub namesB : Shape → Bool
+namesB kConstant = false
+namesB kComplement = false
+namesB kOperator = true
+namesB kStart = false
+namesB kGround = false
+namesB kDelay = false
+namesB kOr = true
+namesB kWhenTrue = true
+namesB kWhenFalse = true
+namesB kMerge = true
+namesB kMemory = true
+namesB kGated = true
+namesB kUnknown = false
+
+-- the number of a cell that stands k places later; a number has two bytes
+abbrev pub later : ℕ → ℕ → ℕ
+later k j = (j + k) % 65536
+
+-- a cell whose inputs stand k places later
+unfoldable pub moved : ℕ → Cell → Cell
+moved k c =
+    cell (c .kind) (c .delay) (pick (namesA (shape (c .kind))) (later k (c .a)) (c .a)) (pick (namesB (shape (c .kind))) (later k (c .b)) (c .b))
+
+-- the cells of a netlist as they stand behind k others
+abbrev pub behind : ℕ → List Cell → List Cell
+behind k cs = map (moved k) cs
+
+-- Calls --------------------------------------------------------------------------------------------------------------------------------
+
+-- a number of cells or a finish that no header could tell rightly is 11
+abbrev pub miscounted : List Cell → ℕ → Checked
+miscounted cs f = refuseIf (countWrong (blocksFor (length cs)) (length cs) f) 11 0
+
+-- checking a netlist: 11, 12
+unfoldable pub checkCellsCall : List Cell → ℕ → Checked
+checkCellsCall cs f = first (miscounted cs f ∷ netCheck cs f ∷ [])
+
+-- writing a netlist from its cells: 11, 12, 14
+unfoldable pub writeCellsCall : List Cell → ℕ → List ℕ → Told Written
+writeCellsCall cs f lent =
+    let file = fileOf cs f in
+    writing (first (miscounted cs f ∷ netCheck cs f ∷ short (length lent) (length file) ∷ [])) file (length file) f lent
+
+-- an answer, and a lent list of cells at exit
+pub record ToldCells : Type 0 where
+  pub answer : Written
+  pub lent : List Cell
+
+-- cells that are put into a lent list from place k on, unless a check refuses it
+unfoldable pub placing : Checked → ℕ → List Cell → ℕ → ℕ → List Cell → ToldCells
+placing Accepted k cs n f lent = record { answer = Done n f; lent = take k lent ++ (cs ++ drop (k + length cs) lent) }
+placing (Checked.Refused r) k cs n f lent = record { answer = Written.Refused r; lent = lent }
+
+-- reading a netlist behind k cells that stand already, as joining netlists does: 9 to 12, 14. The finish is the file's own.
+unfoldable pub readCellsCall : List ℕ → ℕ → List Cell → ToldCells
+readCellsCall file k lent =
+    placing (first (fileCheck file ∷ short (length lent) (k + countOf file) ∷ [])) k (behind k (cellsOf file)) (countOf file) (finishOf file) lent

@@ -7,31 +7,37 @@ use crate::lend::{lent, lent_with};
 use crate::texts::{texts, Known, Text, MOST_TEXT};
 use crate::typing::{with_fewest_blanks, with_fewest_brackets};
 use crate::xorshift::Random;
-use peers::{Refused, Reply, SECOND};
-use second::answer::Refusal;
-use second::calls;
+use peers::{Peer, Refused, Reply};
 
 /// The lengths of buffers lent for a program.
 const ROOMS: [usize; 6] = [0, 4, 100, 799, 800, 801];
 
-/// Every text of a job's program.
-pub fn compare(job: &Job) -> Result<(), String> {
+/// A peer on every text of a job's program.
+pub fn compare(peer: &Peer, job: &Job) -> Result<(), String> {
+    for_each(job, |text, room| compare_text(peer, text, room))
+}
+
+/// Every text of a job's program, and the length of a buffer for a program.
+pub fn for_each(
+    job: &Job,
+    compare: impl Fn(&Text, usize) -> Result<(), String>,
+) -> Result<(), String> {
     let random = &mut Random::new(job.damage);
     for text in texts(&job.program, random) {
         let shown = text.bytes.escape_ascii();
-        compare_text(&text, random.pick(&ROOMS))
+        compare(&text, random.pick(&ROOMS))
             .map_err(|what| format!("{what}\ntext: b\"{shown}\""))?;
     }
     Ok(())
 }
 
-fn compare_text(text: &Text, room: usize) -> Result<(), String> {
+fn compare_text(peer: &Peer, text: &Text, room: usize) -> Result<(), String> {
     let bytes = &text.bytes;
-    let read = read_text(bytes, &lent(room));
+    let read = (peer.read_text)(bytes, &lent(room));
     match (&text.known, read.result) {
-        (Known::Program(program), _) => same(&read, &expected(program, bytes.len(), room)),
-        (Known::Beginning, _) => ends_too_early(bytes),
-        (Known::Nothing, Ok(length)) => read_back(&read.lent[0][..length as usize]),
+        (Known::Program(program), _) => same(&read, &expected(peer, program, bytes.len(), room)),
+        (Known::Beginning, _) => ends_too_early(peer, bytes),
+        (Known::Nothing, Ok(length)) => read_back(peer, &read.lent[0][..length as usize]),
         (Known::Nothing, Err(_)) => Ok(()),
     }
 }
@@ -48,9 +54,9 @@ fn same(found: &Reply<u32>, expected: &Reply<u32>) -> Result<(), String> {
 }
 
 /// What reading the text of a program replies, whatever the text is like.
-fn expected(program: &[u8], text_length: usize, room: usize) -> Reply<u32> {
+fn expected(peer: &Peer, program: &[u8], text_length: usize, room: usize) -> Reply<u32> {
     let refusal = |number, place| Err(Refused { number, place });
-    let result = match (SECOND.check)(program).result {
+    let result = match (peer.check)(program).result {
         _ if text_length > MOST_TEXT => refusal(17, MOST_TEXT as u32),
         Err(refused) => Err(refused),
         Ok(()) if program.len() > room => refusal(14, 0),
@@ -64,26 +70,26 @@ fn expected(program: &[u8], text_length: usize, room: usize) -> Reply<u32> {
 }
 
 /// A program that was read, typed again, is read to the same bytes.
-fn read_back(program: &[u8]) -> Result<(), String> {
+fn read_back(peer: &Peer, program: &[u8]) -> Result<(), String> {
     let text = with_fewest_blanks(&with_fewest_brackets(program));
     let room = program.len();
-    let read = read_text(&text, &lent(room));
-    same(&read, &expected(program, text.len(), room))
+    let read = (peer.read_text)(&text, &lent(room));
+    same(&read, &expected(peer, program, text.len(), room))
 }
 
 /// The beginning of a text isn't broken before its end; of two signs that
 /// never follow each other the one or the other breaks it.
-fn ends_too_early(beginning: &[u8]) -> Result<(), String> {
+fn ends_too_early(peer: &Peer, beginning: &[u8]) -> Result<(), String> {
     let end = beginning.len();
     if end + BROKEN.len() > MOST_TEXT {
         return Ok(());
     }
-    let whole = read_text(beginning, &[]).result;
+    let whole = (peer.read_text)(beginning, &[]).result;
     if whole.is_err_and(|refused| refused.number >= 17 && refused != broken(end)) {
         return Err(format!("a beginning is {whole:?}"));
     }
     let longer = [beginning, BROKEN].concat();
-    let refused = read_text(&longer, &[]).result.err();
+    let refused = (peer.read_text)(&longer, &[]).result.err();
     let mut places = [end + 1, end + 4].into_iter();
     if !places.any(|place| refused == Some(broken(place))) {
         return Err(format!("a beginning and two signs are {refused:?}"));
@@ -97,18 +103,5 @@ fn broken(place: usize) -> Refused {
     Refused {
         number: 18,
         place: place as u32,
-    }
-}
-
-fn read_text(text: &[u8], program: &[u8]) -> Reply<u32> {
-    let mut program = program.to_vec();
-    let result = calls::read_text(text, &mut program);
-    let refused = |refusal: Refusal| Refused {
-        number: u32::from(refusal.number),
-        place: refusal.place as u32,
-    };
-    Reply {
-        result: result.map(|length| length as u32).map_err(refused),
-        lent: vec![program],
     }
 }

@@ -37,15 +37,16 @@ pub fn run(seed: u64, count: u64) -> Result<Tally, String> {
     Ok(tally)
 }
 
-/// A program: the peers with each other, the circuit of each with its rules,
-/// and its texts with it.
+/// A program: the peers with each other, and each by itself, texts with the
+/// program and the circuit with the rules.
 fn compare(job: &Job) -> Result<Outcome, String> {
     let pair = Pair {
         left: &LEFT,
         right: &RIGHT,
     };
     pair.compare(job)?;
-    against_text::compare(job)?;
+    against_text::compare(&LEFT, job)?;
+    against_text::compare(&RIGHT, job)?;
     against_rules::compare(&LEFT, job)?;
     against_rules::compare(&RIGHT, job)
 }

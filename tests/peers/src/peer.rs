@@ -1,6 +1,6 @@
 //! The boundary behind which an implementation stands.
 //!
-//! A peer is ten plain functions on byte slices and numbers. Nothing is lent
+//! A peer is thirteen plain functions on byte slices and numbers. Nothing is lent
 //! to them: each is given what a lent buffer holds at entry and gives back
 //! what it holds afterwards, so two peers are compared by comparing replies.
 
@@ -50,6 +50,10 @@ pub struct Peer {
     pub check: fn(Bytes) -> Reply<()>,
     /// program; lent: netlist file
     pub compile: fn(Bytes, Bytes) -> Reply<Shape>,
+    /// text; lent: program; tells the program's bytes
+    pub read_text: fn(Bytes, Bytes) -> Reply<u32>,
+    /// text; lent: netlist file
+    pub compile_text: fn(Bytes, Bytes) -> Reply<Shape>,
     /// cells of six bytes, finish; lent: netlist file
     pub write_netlist: fn(Bytes, u16, Bytes) -> Reply<Shape>,
     /// netlist file; lent: cells of six bytes
@@ -60,6 +64,8 @@ pub struct Peer {
     pub continue_by: fn(Bytes, u32, Bytes) -> Reply<Answer>,
     /// program, start words, budget; lent: netlist file, state
     pub run_program: fn(Bytes, Bytes, u32, Bytes, Bytes) -> Reply<Answer>,
+    /// text, start words, budget; lent: netlist file, state
+    pub run_text: fn(Bytes, Bytes, u32, Bytes, Bytes) -> Reply<Answer>,
     /// netlist file, start words, budget; lent: state
     pub run_netlist: fn(Bytes, Bytes, u32, Bytes) -> Reply<Answer>,
     /// program, start words, budget; no end is one beyond the budget

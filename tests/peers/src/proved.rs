@@ -10,11 +10,14 @@ pub const PROVED: Peer = Peer {
     name: "proved",
     check,
     compile,
+    read_text,
+    compile_text,
     write_netlist,
     read_netlist,
     begin,
     continue_by,
     run_program,
+    run_text,
     run_netlist,
     reference_run,
     hubrun_text,
@@ -27,6 +30,18 @@ fn check(program: &[u8]) -> Reply<()> {
 fn compile(program: &[u8], file: &[u8]) -> Reply<Shape> {
     let mut file = file.to_vec();
     let told = hub::compile(program, &mut file);
+    reply(told, |told| written(told, &file), vec![file.clone()])
+}
+
+fn read_text(text: &[u8], program: &[u8]) -> Reply<u32> {
+    let mut program = program.to_vec();
+    let told = hub::read_text(text, &mut program);
+    reply(told, |told| told.first, vec![program])
+}
+
+fn compile_text(text: &[u8], file: &[u8]) -> Reply<Shape> {
+    let mut file = file.to_vec();
+    let told = hub::compile_text(text, &mut file);
     reply(told, |told| written(told, &file), vec![file.clone()])
 }
 
@@ -67,6 +82,12 @@ fn run_program(
 ) -> Reply<Answer> {
     let (mut file, mut state) = (file.to_vec(), state.to_vec());
     let told = hub::run_program(program, words, budget, &mut file, &mut state);
+    reply(told, answer, vec![file, state])
+}
+
+fn run_text(text: &[u8], words: &[u8], budget: u32, file: &[u8], state: &[u8]) -> Reply<Answer> {
+    let (mut file, mut state) = (file.to_vec(), state.to_vec());
+    let told = hub::run_text(text, words, budget, &mut file, &mut state);
     reply(told, answer, vec![file, state])
 }
 

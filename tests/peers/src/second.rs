@@ -9,11 +9,14 @@ pub const SECOND: Peer = Peer {
     name: "second",
     check,
     compile,
+    read_text,
+    compile_text,
     write_netlist,
     read_netlist,
     begin,
     continue_by,
     run_program,
+    run_text,
     run_netlist,
     reference_run,
     hubrun_text,
@@ -26,6 +29,18 @@ fn check(program: &[u8]) -> Reply<()> {
 fn compile(program: &[u8], file: &[u8]) -> Reply<Shape> {
     let mut file = file.to_vec();
     let result = calls::compile(program, &mut file);
+    reply(result.map(shape), vec![file])
+}
+
+fn read_text(text: &[u8], program: &[u8]) -> Reply<u32> {
+    let mut program = program.to_vec();
+    let result = calls::read_text(text, &mut program);
+    reply(result.map(|length| length as u32), vec![program])
+}
+
+fn compile_text(text: &[u8], file: &[u8]) -> Reply<Shape> {
+    let mut file = file.to_vec();
+    let result = calls::compile_text(text, &mut file);
     reply(result.map(shape), vec![file])
 }
 
@@ -62,6 +77,12 @@ fn run_program(
 ) -> Reply<Answer> {
     let (mut file, mut state) = (file.to_vec(), state.to_vec());
     let result = calls::run_program(program, words, budget, &mut file, &mut state);
+    reply(result.map(answer), vec![file, state])
+}
+
+fn run_text(text: &[u8], words: &[u8], budget: u32, file: &[u8], state: &[u8]) -> Reply<Answer> {
+    let (mut file, mut state) = (file.to_vec(), state.to_vec());
+    let result = calls::run_text(text, words, budget, &mut file, &mut state);
     reply(result.map(answer), vec![file, state])
 }
 

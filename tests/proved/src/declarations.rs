@@ -20,6 +20,26 @@ extern "C" {
         reply_length: usize,
     ) -> bool;
 
+    /// readTextCall
+    pub fn hub_read_text(
+        text: In,
+        text_length: usize,
+        program: Lent,
+        program_length: usize,
+        reply: Lent,
+        reply_length: usize,
+    ) -> bool;
+
+    /// compileTextCall
+    pub fn hub_compile_text(
+        text: In,
+        text_length: usize,
+        file: Lent,
+        file_length: usize,
+        reply: Lent,
+        reply_length: usize,
+    ) -> bool;
+
     /// writeCall
     pub fn hub_write(
         cells: In,
@@ -68,6 +88,21 @@ extern "C" {
     pub fn hub_run_program(
         program: In,
         program_length: usize,
+        words: In,
+        words_length: usize,
+        budget: u32,
+        netlist: Lent,
+        netlist_length: usize,
+        state: Lent,
+        state_length: usize,
+        reply: Lent,
+        reply_length: usize,
+    ) -> bool;
+
+    /// runTextCall
+    pub fn hub_run_text(
+        text: In,
+        text_length: usize,
         words: In,
         words_length: usize,
         budget: u32,

@@ -37,6 +37,32 @@ pub fn compile(program: &[u8], file: &mut [u8]) -> Reply {
     })
 }
 
+pub fn read_text(text: &[u8], program: &mut [u8]) -> Reply {
+    replied(|reply, length| unsafe {
+        hub_read_text(
+            text.as_ptr(),
+            text.len(),
+            program.as_mut_ptr(),
+            program.len(),
+            reply,
+            length,
+        )
+    })
+}
+
+pub fn compile_text(text: &[u8], file: &mut [u8]) -> Reply {
+    replied(|reply, length| unsafe {
+        hub_compile_text(
+            text.as_ptr(),
+            text.len(),
+            file.as_mut_ptr(),
+            file.len(),
+            reply,
+            length,
+        )
+    })
+}
+
 pub fn write_netlist(cells: &[u8], finish: u16, file: &mut [u8]) -> Reply {
     replied(|reply, length| unsafe {
         hub_write(
@@ -104,6 +130,30 @@ pub fn run_program(
         hub_run_program(
             program.as_ptr(),
             program.len(),
+            words.as_ptr(),
+            words.len(),
+            budget,
+            netlist.as_mut_ptr(),
+            netlist.len(),
+            state.as_mut_ptr(),
+            state.len(),
+            reply,
+            length,
+        )
+    })
+}
+
+pub fn run_text(
+    text: &[u8],
+    words: &[u8],
+    budget: u32,
+    netlist: &mut [u8],
+    state: &mut [u8],
+) -> Reply {
+    replied(|reply, length| unsafe {
+        hub_run_text(
+            text.as_ptr(),
+            text.len(),
             words.as_ptr(),
             words.len(),
             budget,

@@ -1,8 +1,9 @@
 //! Two peers against each other, call by call: answers, places and every
 //! lent byte. And each by itself: a refused call changes no lent byte.
 
+use crate::against_text;
 use crate::damage;
-use crate::job::{Call, Job};
+use crate::job::{Call, Job, MOST_INSTANT};
 use crate::lend::*;
 use peers::{Peer, Reply, Shape};
 use crate::xorshift::Random;
@@ -30,6 +31,7 @@ impl Pair<'_> {
             (peer.reference_run)(program, &job.words, job.budget)
         })?;
         self.same_text(job)?;
+        self.same_texts(job)?;
         let room = lent(MOST_FILE);
         let compiled = self.same("compile", &[&room], |peer| (peer.compile)(program, &room))?;
         let Ok(shape) = compiled.result else {
@@ -132,6 +134,29 @@ impl Pair<'_> {
             lent: vec![],
         })
         .map(drop)
+    }
+
+    /// The calls on the texts of a job's program.
+    fn same_texts(&self, job: &Job) -> Result<(), String> {
+        let (file, state) = (lent(job.file_length), lent(job.state_length));
+        // What a run of a text is shows soon; a budget that is refused stays.
+        let budget = match job.budget {
+            0..=MOST_INSTANT => job.budget.min(100),
+            refused => refused,
+        };
+        against_text::for_each(job, |text, room| {
+            let (text, program) = (&text.bytes, lent(room));
+            self.same("read_text", &[&program], |peer| {
+                (peer.read_text)(text, &program)
+            })?;
+            self.same("compile_text", &[&file], |peer| {
+                (peer.compile_text)(text, &file)
+            })?;
+            self.same("run_text", &[&file, &state], |peer| {
+                (peer.run_text)(text, &job.words, budget, &file, &state)
+            })
+            .map(drop)
+        })
     }
 
     /// Makes one call of both peers and gives the reply that they agree on.

@@ -73,6 +73,53 @@ const REFUSING: Peer = Peer {
     ..SECOND
 };
 
+/// Takes `;` for `||` and the other way round.
+const MIXED_UP: Peer = Peer {
+    name: "mixed up",
+    read_text: |text, program| {
+        let mut reply = (SECOND.read_text)(text, program);
+        for node in reply.lent[0].chunks_mut(4) {
+            match node[0] {
+                19 => node[0] = 20,
+                20 => node[0] = 19,
+                _ => {}
+            }
+        }
+        reply
+    },
+    ..SECOND
+};
+
+/// Doesn't count the blanks at the end of a text.
+const TRIMMING: Peer = Peer {
+    name: "trimming",
+    read_text: |text, program| (SECOND.read_text)(text.trim_ascii_end(), program),
+    ..SECOND
+};
+
+/// Reads no text of 4,096 bytes.
+const SHORT_TEXTS: Peer = Peer {
+    name: "short texts",
+    read_text: |text, program| match text.len() {
+        4096 => (SECOND.read_text)(&[b' '; 4097], program),
+        _ => (SECOND.read_text)(text, program),
+    },
+    ..SECOND
+};
+
+/// Tells only at a text's end that its grammar is broken.
+const LATE_PLACE: Peer = Peer {
+    name: "late place",
+    read_text: |text, program| {
+        let mut reply = (SECOND.read_text)(text, program);
+        if let Err(Refused { number: 18, place }) = &mut reply.result {
+            *place = text.len() as u32;
+        }
+        reply
+    },
+    ..SECOND
+};
+
 const NO: Refused = Refused {
     number: 1,
     place: 0,
@@ -83,7 +130,7 @@ mod tests {
     use crate::against_peer::Pair;
     use crate::job::Job;
     use crate::xorshift::Random;
-    use crate::{against_equations, against_rules, generate, netlists};
+    use crate::{against_equations, against_rules, against_text, generate, netlists};
 
     const JOBS: u64 = 40;
 
@@ -95,6 +142,11 @@ mod tests {
         let random = &mut Random::new(3);
         let (file, words) = (netlists::netlist(random), generate::start_words(random));
         against_equations::compare(peer, &file, &words, 1).is_err()
+    }
+
+    fn disagrees_with_texts(peer: &Peer) -> bool {
+        // A text of exactly the most bytes is rare, and texts take little time.
+        (0..10 * JOBS).any(|seed| against_text::compare(peer, &Job::of_seed(seed)).is_err())
     }
 
     fn disagrees_with_second(peer: &Peer) -> bool {
@@ -122,10 +174,20 @@ mod tests {
     }
 
     #[test]
+    fn texts_tell_faulty_readers() {
+        assert!(!disagrees_with_texts(&SECOND));
+        for faulty in [MIXED_UP, TRIMMING, SHORT_TEXTS, LATE_PLACE] {
+            assert!(disagrees_with_texts(&faulty), "{}", faulty.name);
+        }
+    }
+
+    #[test]
     fn a_good_peer_tells_every_faulty_one() {
         assert!(!disagrees_with_second(&SECOND));
-        for faulty in [SLOW_PARALLEL, EARLY_OPEN, COPYING, STOCK_NETLIST, REFUSING] {
-            assert!(disagrees_with_second(&faulty), "{}", faulty.name);
+        let faulty_runs = [SLOW_PARALLEL, EARLY_OPEN, COPYING, STOCK_NETLIST, REFUSING];
+        let faulty_readers = [MIXED_UP, TRIMMING, LATE_PLACE];
+        for faulty in faulty_runs.iter().chain(&faulty_readers) {
+            assert!(disagrees_with_second(faulty), "{}", faulty.name);
         }
     }
 }

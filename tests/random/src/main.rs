@@ -1,5 +1,5 @@
-//! Random comparison: circuits with rules, simulators with equations, peers
-//! with each other. `random [--seed S] [--count C]`
+//! Random comparison: circuits with rules, texts with programs, simulators
+//! with equations, peers with each other. `random [--seed S] [--count C]`
 //!
 //! A disagreement is printed with a minimised program and ends the run with
 //! a code that isn't zero.
@@ -7,6 +7,7 @@
 mod against_equations;
 mod against_peer;
 mod against_rules;
+mod against_text;
 mod damage;
 #[cfg(test)]
 mod faulty;
@@ -18,6 +19,8 @@ mod minimise;
 mod netlists;
 mod run;
 mod tally;
+mod texts;
+mod typing;
 mod xorshift;
 
 use std::process::ExitCode;

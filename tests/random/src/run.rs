@@ -8,7 +8,7 @@ use crate::against_rules::{self, Outcome};
 use crate::job::{self, Job};
 use crate::tally::Tally;
 use crate::xorshift::Random;
-use crate::{against_equations, generate, listing, minimise, netlists};
+use crate::{against_equations, against_text, generate, listing, minimise, netlists};
 use peers::{Peer, PROVED, SECOND};
 use second::netfile;
 
@@ -37,14 +37,16 @@ pub fn run(seed: u64, count: u64) -> Result<Tally, String> {
     Ok(tally)
 }
 
-/// A program: the peers with each other, and the circuit of each with its
-/// rules.
+/// A program: the peers with each other, and each by itself, texts with the
+/// program and the circuit with the rules.
 fn compare(job: &Job) -> Result<Outcome, String> {
     let pair = Pair {
         left: &LEFT,
         right: &RIGHT,
     };
     pair.compare(job)?;
+    against_text::compare(&LEFT, job)?;
+    against_text::compare(&RIGHT, job)?;
     against_rules::compare(&LEFT, job)?;
     against_rules::compare(&RIGHT, job)
 }

@@ -1,6 +1,7 @@
 //! What a call answers.
 
 use crate::word::Words;
+use std::fmt::{Display, Formatter, Result};
 
 /// A refusal: its number in the paper's list, and its place, counted from 0.
 #[derive(Clone, Copy, Debug, PartialEq, Eq)]
@@ -12,6 +13,13 @@ pub struct Refusal {
 impl Refusal {
     pub fn new(number: u8, place: usize) -> Refusal {
         Refusal { number, place }
+    }
+}
+
+/// As the programs print it, without the line's end.
+impl Display for Refusal {
+    fn fmt(&self, text: &mut Formatter) -> Result {
+        write!(text, "refused {} {}", self.number, self.place)
     }
 }
 

@@ -11,6 +11,7 @@ use crate::netfile;
 use crate::rules::{self, Outcome};
 use crate::simulate::Simulator;
 use crate::state;
+use crate::text;
 use crate::word::{words_of, Words, WORDS_LENGTH};
 
 /// The last instant that a run may come to.
@@ -42,6 +43,20 @@ pub fn compile(program: &[u8], file: &mut [u8]) -> Result<Shape, Refusal> {
     let netlist = compile::compile(&check::check(program)?);
     put(&netfile::write(&netlist), file)?;
     Ok(Shape::of(&netlist))
+}
+
+/// Reads a text to its program's bytes: refusals 17, 18, 1 to 8, 14. Tells how
+/// many bytes these are.
+pub fn read_text(text: &[u8], program: &mut [u8]) -> Result<usize, Refusal> {
+    let bytes = text::program(text)?;
+    check(&bytes)?;
+    put(&bytes, program)?;
+    Ok(bytes.len())
+}
+
+/// Compiles a text: refusals 17, 18, and those of its program.
+pub fn compile_text(text: &[u8], file: &mut [u8]) -> Result<Shape, Refusal> {
+    compile(&text::program(text)?, file)
 }
 
 /// Writes cells of six bytes to a netlist file: 11 when they are no cells of
@@ -116,6 +131,17 @@ pub fn run_program(
     let state = room(state, state::length(&netlist))?;
     put(&netfile::write(&netlist), file)?;
     Ok(full_run(&netlist, words, budget, state))
+}
+
+/// A full run of a text: refusals 17, 18, and those of its program's run.
+pub fn run_text(
+    text: &[u8],
+    words: &[u8],
+    budget: u32,
+    file: &mut [u8],
+    state: &mut [u8],
+) -> Result<Answer, Refusal> {
+    run_program(&text::program(text)?, words, budget, file, state)
 }
 
 /// Runs a program by its own rules: refusals 1 to 8, 13, 14.

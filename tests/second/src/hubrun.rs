@@ -14,7 +14,7 @@ const STATE_ROOM: usize = 8 + 40 * 1024;
 pub fn text(input: &[u8]) -> String {
     match run(input) {
         Ok(answer) => answer_text(answer),
-        Err(Refusal { number, place }) => format!("refused {number} {place}\n"),
+        Err(refusal) => format!("{refusal}\n"),
     }
 }
 

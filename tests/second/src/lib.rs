@@ -1,9 +1,9 @@
 //! A second implementation of hub circuits, written from the paper alone.
 //!
 //! It exists to be compared with the proved implementation and shares nothing
-//! with it. A value goes one way through these modules: bytes of a program,
-//! tree, netlist, netlist file, wires, state bytes, answer. `calls` holds the
-//! calls that others use; what they lend and get back are bytes and numbers.
+//! with it. A value goes one way through these modules: text of a program, its
+//! bytes, tree, netlist, netlist file, wires, state bytes, answer. `calls` holds
+//! the calls that others use; what they lend and get back are bytes and numbers.
 
 pub mod answer;
 pub mod calls;
@@ -12,6 +12,7 @@ pub mod check;
 pub mod compile;
 pub mod fanout;
 pub mod hubrun;
+pub mod hubtext;
 pub mod kinds;
 pub mod line;
 pub mod netfile;
@@ -20,5 +21,9 @@ pub mod program;
 pub mod rules;
 pub mod simulate;
 pub mod state;
+pub mod text;
+mod text_grammar;
+mod text_reading;
+mod text_words;
 pub mod wheel;
 pub mod word;

@@ -1,9 +1,11 @@
-//! The paper's cases 1 to 12 as one table, by the rules and by the circuit.
+//! The paper's cases 1 to 12 as one table: as text and as bytes, by the rules
+//! and, from the text, by the circuit.
 //! The two runs that stay open have the full budget of 1,000,000 instants.
 
-use second::answer::Refusal;
+use second::answer::{Answer, Refusal};
 use second::calls::{self, Shape};
 use second::rules::Outcome;
+use second::text;
 
 const FULL_BUDGET: u32 = 1_000_000;
 
@@ -107,32 +109,91 @@ fn two_hundred_nodes() -> Vec<u8> {
     if_then_else(constant(1), 0, ok(), ok_sequence(99))
 }
 
-/// Each case of the paper: its name, the program, x0 at the start, what is told.
-fn table() -> Vec<(&'static str, Vec<u8>, u16, Told)> {
+/// A case of the paper: its program as text and as bytes, x0 at the start, and
+/// what is told.
+struct Case {
+    name: &'static str,
+    text: String,
+    program: Vec<u8>,
+    x0: u16,
+    told: Told,
+}
+
+fn case(name: &'static str, text: &str, program: Vec<u8>, x0: u16, told: Told) -> Case {
+    Case {
+        name,
+        text: text.to_string(),
+        program,
+        x0,
+        told,
+    }
+}
+
+const COUNT_DOWN: &str = "repeat x0 := x0 - 1 @17 until x0 = 0 @6 end";
+const CHOICE: &str = "if x0 @0 then tick 1 else tick 9 end";
+const CLASH: &str = "x1 := 1 @1 || x2 := x1 @1";
+const SIDE_BY_SIDE: &str = "while x0 @1 do x0 := x0 - 1 @17 || tick 2 end";
+
+fn table() -> Vec<Case> {
     let side = parallel(count_down(), tick(2));
     let clash = parallel(assign(1, constant(1), 1), assign(2, variable(1), 1));
+    let three = "x0 := x0 + 3 @16; x0 := x0 + 4 @16";
     let small = sequence(add(3, 16), add(4, 15));
+    let small_text = "x0 := x0 + 3 @16; x0 := x0 + 4 @15";
+    let counting = while_do(variable(0), 1, count_down());
+    let counting_text = "while x0 @1 do x0 := x0 - 1 @17 end";
+    let ever = while_do(constant(1), 1, ok());
+    let at_once = while_do(constant(1), 0, ok());
+    let two_hundred = format!("if 1 @0 then ok else {} end", ok_text(99));
     vec![
-        ("1", ok(), 0, End(0, 0)),
-        ("2", assign(0, constant(5), 1), 0, End(2, 5)),
-        ("3", sequence(add(3, 16), add(4, 16)), 0, End(34, 7)),
-        ("3, 15 in the second", small, 0, Refused(7, 5)),
-        ("4", parallel(tick(3), tick(5)), 0, End(5, 0)),
-        ("5", parallel(ok(), ok()), 0, End(0, 0)),
-        ("6", while_do(variable(0), 1, count_down()), 3, End(58, 0)),
-        ("7 from 3", repeat_count_down(), 3, End(72, 0)),
-        ("7 from 0", repeat_count_down(), 0, Open),
-        ("8 from 0", choice_of_ticks(), 0, End(9, 0)),
-        ("8 from 65535", choice_of_ticks(), 65_535, End(1, 65_535)),
-        ("9", add(1, 16), 65_535, End(17, 0)),
-        ("10", while_do(constant(1), 1, ok()), 0, Open),
-        ("10, d 0", while_do(constant(1), 0, ok()), 0, Refused(7, 0)),
-        ("11", clash, 0, Refused(8, 0)),
-        ("12", while_do(variable(0), 1, side), 2, End(39, 0)),
-        ("empty", vec![], 0, Refused(1, 0)),
-        ("201 nodes", ok_sequence(101), 0, Refused(1, 0)),
-        ("200 nodes", two_hundred_nodes(), 0, End(0, 0)),
+        case("1", "ok", ok(), 0, End(0, 0)),
+        case("2", "x0 := 5 @1", assign(0, constant(5), 1), 0, End(2, 5)),
+        case("3", three, sequence(add(3, 16), add(4, 16)), 0, End(34, 7)),
+        case("3, 15", small_text, small, 0, Refused(7, 5)),
+        case(
+            "4",
+            "tick 3 || tick 5",
+            parallel(tick(3), tick(5)),
+            0,
+            End(5, 0),
+        ),
+        case("5", "ok || ok", parallel(ok(), ok()), 0, End(0, 0)),
+        case("6", counting_text, counting, 3, End(58, 0)),
+        case("7 from 3", COUNT_DOWN, repeat_count_down(), 3, End(72, 0)),
+        case("7 from 0", COUNT_DOWN, repeat_count_down(), 0, Open),
+        case("8 from 0", CHOICE, choice_of_ticks(), 0, End(9, 0)),
+        case(
+            "8 from 65535",
+            CHOICE,
+            choice_of_ticks(),
+            65_535,
+            End(1, 65_535),
+        ),
+        case("9", "x0 := x0 + 1 @16", add(1, 16), 65_535, End(17, 0)),
+        case("10", "while 1 @1 do ok end", ever, 0, Open),
+        case("10, d 0", "while 1 @0 do ok end", at_once, 0, Refused(7, 0)),
+        case("11", CLASH, clash, 0, Refused(8, 0)),
+        case(
+            "12",
+            SIDE_BY_SIDE,
+            while_do(variable(0), 1, side),
+            2,
+            End(39, 0),
+        ),
+        case(
+            "201 nodes",
+            &ok_text(101),
+            ok_sequence(101),
+            0,
+            Refused(1, 0),
+        ),
+        case("200 nodes", &two_hundred, two_hundred_nodes(), 0, End(0, 0)),
     ]
+}
+
+/// The text of `ok_sequence`.
+fn ok_text(leaves: usize) -> String {
+    vec!["ok"; leaves].join(";")
 }
 
 fn words(x0: u16) -> Vec<u8> {
@@ -149,9 +210,17 @@ fn words_with(x0: u16) -> [u16; 16] {
 }
 
 #[test]
+fn the_texts_are_read_to_the_programs() {
+    for case in table() {
+        let read = text::program(case.text.as_bytes());
+        assert_eq!(read, Ok(case.program), "case {}", case.name);
+    }
+}
+
+#[test]
 fn the_rules_keep_the_cases() {
-    for (name, program, x0, told) in table() {
-        let expected = match told {
+    for case in table() {
+        let expected = match case.told {
             End(instant, x0) => Ok(Outcome::Ended {
                 instant,
                 words: words_with(x0),
@@ -159,41 +228,34 @@ fn the_rules_keep_the_cases() {
             Open => Ok(Outcome::Open),
             Refused(number, place) => Err(Refusal { number, place }),
         };
-        let found = calls::reference_run(&program, &words(x0), FULL_BUDGET);
-        assert_eq!(found, expected, "case {name}");
+        let found = calls::reference_run(&case.program, &words(case.x0), FULL_BUDGET);
+        assert_eq!(found, expected, "case {}", case.name);
     }
 }
 
 #[test]
 fn the_circuit_keeps_the_cases() {
-    for (name, program, x0, told) in table() {
-        let (mut netlist, mut state) = (vec![0; 6656], vec![0; 50_000]);
-        let found = calls::run_program(&program, &words(x0), FULL_BUDGET, &mut netlist, &mut state);
-        match told {
-            End(instant, x0) => {
-                let answer = found.expect(name);
-                assert_eq!(
-                    (answer.ended, answer.instant),
-                    (true, instant),
-                    "case {name}"
-                );
-                assert_eq!(answer.count, instant + 1, "case {name}");
-                assert_eq!(answer.words, words_with(x0), "case {name}");
-            }
-            Open => {
-                let answer = found.expect(name);
-                assert_eq!(
-                    (answer.ended, answer.instant),
-                    (false, FULL_BUDGET),
-                    "case {name}"
-                );
-                assert_eq!(answer.count, FULL_BUDGET + 1, "case {name}");
-            }
-            Refused(number, place) => {
-                assert_eq!(found, Err(Refusal { number, place }), "case {name}");
-            }
-        }
+    for case in table() {
+        let expected = match case.told {
+            End(instant, x0) => Ok((true, instant, instant + 1, Some(words_with(x0)))),
+            Open => Ok((false, FULL_BUDGET, FULL_BUDGET + 1, None)),
+            Refused(number, place) => Err(Refusal { number, place }),
+        };
+        let (mut file, mut state) = (vec![0; 6656], vec![0; 50_000]);
+        let (text, words) = (case.text.as_bytes(), words(case.x0));
+        let found = calls::run_text(text, &words, FULL_BUDGET, &mut file, &mut state);
+        // Of the words of an open run the paper tells nothing.
+        let shown = |answer: Answer| {
+            let words = answer.ended.then_some(answer.words);
+            (answer.ended, answer.instant, answer.count, words)
+        };
+        assert_eq!(found.map(shown), expected, "case {}", case.name);
     }
+}
+
+#[test]
+fn no_nodes_are_refusal_1() {
+    assert_eq!(calls::check(&[]), Err(Refusal::new(1, 0)));
 }
 
 #[test]

@@ -1,0 +1,56 @@
+//! A program's text to its bytes: refusals 17 and 18.
+//!
+//! The way is words (`text_words`), a reading by the grammar
+//! (`text_grammar`, `text_reading`), and here the nodes of that reading.
+
+use crate::answer::Refusal;
+use crate::kinds::{row, Sort};
+use crate::text_grammar::Grammar;
+use crate::text_reading::{Link, Reading};
+use crate::text_words::{words, Word, NAME};
+
+/// The bytes of the program that a text is. The program itself is unchecked
+/// and may have far more nodes than an accepted one.
+pub fn program(text: &[u8]) -> Result<Vec<u8>, Refusal> {
+    let words = words(text)?;
+    let place = |broken: usize| words.get(broken).map_or(text.len(), |word| word.place);
+    let reading = Reading::of_words(&words).map_err(|broken| Refusal::new(18, place(broken)))?;
+    Ok(bytes(&reading))
+}
+
+/// The nodes of a reading, each before its children. A text nests far deeper
+/// than a program may, so the phrases that are due stand in a list.
+fn bytes(reading: &Reading) -> Vec<u8> {
+    let mut bytes = Vec::new();
+    let mut due = vec![reading.whole()];
+    while let Some(link) = due.pop() {
+        let phrase = reading.phrase(link);
+        if let Some(kind) = phrase.rule.kind {
+            bytes.extend(node(kind, &phrase.words));
+        }
+        due.extend(in_node_order(reading, phrase.parts).into_iter().rev());
+    }
+    bytes
+}
+
+/// A node; a name tells its n, and so does a number where there is no delay.
+fn node(kind: u8, words: &[&Word]) -> [u8; 4] {
+    let row = row(kind).expect("the grammar names known kinds");
+    let (mut delay, mut n) = (0, 0);
+    for word in words {
+        match word.number {
+            Some(number) if row.uses_delay && word.sign != NAME => delay = number as u8,
+            Some(number) => n = number,
+            None => {}
+        }
+    }
+    let [low, high] = n.to_le_bytes();
+    [kind, delay, low, high]
+}
+
+/// The parts of a phrase as children: in every kind an expression comes
+/// first, wherever its text stands.
+fn in_node_order(reading: &Reading, mut parts: Vec<Link>) -> Vec<Link> {
+    parts.sort_by_key(|&part| Grammar::sort(reading.rule(part).left) == Sort::Statement);
+    parts
+}

@@ -52,7 +52,7 @@ use Rattle.model.proofs.Written.Laws as S′
 use Rattle.netlist.proofs.Bytes.{cells-length}
 use Rattle.cells.specs.declared.reading.Plan.{Plan}
 use Rattle.cells.specs.Plans.{Plans}
-use Rattle.cells.proofs.Again.{LentAgain, lends-again, comes-back}
+use Rattle.cells.proofs.Reborrow.{Reborrowed, reborrows, returned}
 use Rattle.cells.specs.Moves.{movedFrom}
 use Rattle.cells.proofs.Planning.{place-move}
 use Rattle.cells.proofs.reading.Plan as P
@@ -253,7 +253,7 @@ module _ {M : Type 1} (𝓤 : URA M) (H : Heap 𝓤) (A : Atoms 𝓤) (W : Given
         assigns ! (agg ! (and-then ! (load ! (from ! (stop !)) (look ! 10 refl)) (and-then ! (load ! (from ! (fld ! refl (stop !))) (look-in ! 18 (sub ! 1 refl (whole !)))) (no-more !)))) (from ! (stop !)) (init ! 8 refl (tt, (tt, (record { fits = room .0 }, tt)))) $
         -- the cells are lent again, for a lifetime ν of the call
         lft-new ! tt (λ ν. move ! (4 ∷ 3 ∷ []) $
-        use2 W (later (some (λ (δ : GName). ‵ (Cells (ν ∷ []) δ xs) ⊛ ‵ (LentAgain T.the-row η (ν ∷ []) q₁ γ b o δ xs)))) (lends-again T.the-row η (ν ∷ []) q₁ γ b o 𝓤 H A W (named 0) (named 0) xs) $ await ! tt $ pick ! (λ δ. split ! $
+        use2 W (later (some (λ (δ : GName). ‵ (Cells (ν ∷ []) δ xs) ⊛ ‵ (Reborrowed T.the-row η (ν ∷ []) q₁ γ b o δ xs)))) (reborrows T.the-row η (ν ∷ []) q₁ γ b o 𝓤 H A W (named 0) (named 0) xs) $ await ! tt $ pick ! (λ δ. split ! $
         -- [the cells, lent; what brings them back; the token of ν; the file's token; the file; _10; …]
         move ! (4 ∷ []) $ use1 W (‵ File ⊛ ‵ File) twice $ split ! $ move ! (4 ∷ 5 ∷ []) $ join ! $ move ! (0 ∷ 3 ∷ 1 ∷ []) $
         use3 W (raw (Place 𝓤 H A mem run .pre (to-place p pl (same p w is₀) ν δ))) (asked-place p pl (same p w is₀) ν δ) $
@@ -269,7 +269,7 @@ module _ {M : Type 1} (𝓤 : URA M) (H : Heap 𝓤) (A : Atoms 𝓤) (W : Given
         land ! (from ! (stop !)) (init ! 13 refl (nothing-lawful 𝓤 H A W .typed r₂ _ is₂ .0)) $
         -- [the tokens; the last cells; …; the file; what brings the cells back; _10; …]
         split ! $ lft-end ! tt $ move ! (0 ∷ 5 ∷ 2 ∷ []) $
-        use3 W (later (‵ (Cells η γ (zs .0)) ⊛ ‵ (flft η q₁))) (comes-back T.the-row η (ν ∷ []) q₁ γ b o 𝓤 H A W (named 0) (named 0) xs δ (zs .0) room l) $ await ! tt $ split ! $
+        use3 W (later (‵ (Cells η γ (zs .0)) ⊛ ‵ (flft η q₁))) (returned T.the-row η (ν ∷ []) q₁ γ b o 𝓤 H A W (named 0) (named 0) xs δ (zs .0) room l) $ await ! tt $ split ! $
         -- [the cells; their token; the file's token; …; the file; _10; …; _9; …; _8; …; _7; …; _6; …; _5; …; _4; …; _3; …]
         assigns ! (addr ! (from ! (fld ! refl (hop ! (look-in ! 19 (sub ! 0 refl (whole !))) (stop !))))) (from ! (stop !)) (init ! 7 refl (tt, tt)) $
         assigns ! (agg ! (and-then ! (load ! (from ! (stop !)) (look ! 7 refl)) (and-then ! (load ! (from ! (fld ! refl (stop !))) (look-in ! 19 (sub ! 1 refl (whole !)))) (no-more !)))) (from ! (stop !)) (init ! 5 refl (tt, (tt, (record { fits = room .0 }, tt)))) $

@@ -1,6 +1,7 @@
 -- Words of sixteen bits, their operators, and numbers in bytes.
 -- "A word has 16 bits." "Numbers of two or four bytes have the low byte first."
 -- Assumes nothing: definitions.
+use mathlib.Core.Path.{_≡_, refl}
 use mathlib.Core.Bool.{Bool, true, false}
 use mathlib.Core.List.{List, [], _∷_}
 use Prim.Native.Nat.{ℕ, _+_, _-_, _*_, _/_, _%_}
@@ -26,6 +27,10 @@ bit false = 0
 abbrev pub isZero : ℕ → Bool
 isZero w = eqb w 0
 
+-- "Less therefore compares words as two's complement, −32,768 to 32,767": the number that a word is, with 32,768 added
+unfoldable pub shifted : ℕ → ℕ
+shifted w = (w + 32768) % 65536
+
 -- The operators of kinds 3 to 9: complement of all bits, sum, difference, bitwise and, bitwise or, equal, less.
 -- "Adding and subtracting wrap at sixteen bits." The complement has no use for its second word.
 unfoldable pub operate : ℕ → ℕ → ℕ → ℕ
@@ -36,7 +41,12 @@ operate k x y =
     (pick (eqb k 6) (bitAnd x y)
     (pick (eqb k 7) (bitOr x y)
     (pick (eqb k 8) (bit (eqb x y))
-    (bit (ltb x y)))))))
+    (bit (ltb (shifted x) (shifted y))))))))
+
+-- "−1 < 0 is 1, and 32,767 < −32,768 is 0"
+less-signed : (operate 9 65535 0 ≡ 1) × (operate 9 32767 32768 ≡ 0)
+unfolding operate shifted bit
+less-signed = (refl, refl)
 
 -- Numbers in bytes ---------------------------------------------------------------------------------------------------------------------
 

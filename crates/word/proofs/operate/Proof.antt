@@ -6,11 +6,6 @@ use Rattle.model.specs.Word.{operate}
 use borrow.Author.Needs.{needs}
 use Rattle.word.proofs.operate.Statement.{statement}
 use Rattle.word.proofs.operate.Tie as tie
-use Rattle.word.proofs.operate.Reads as reads
-use Rattle.word.proofs.operate.Lts as lts
-use Rattle.word.proofs.bit.Reads as bit-reads
-use Rattle.std.proofs.num.wrapping_add_u16.Reads as wrapping-add-u16-reads
-use Rattle.std.proofs.num.wrapping_sub_u16.Reads as wrapping-sub-u16-reads
 
 sub-result : tie.Need-sub-result
 sub-result c = search needs
@@ -23,6 +18,12 @@ wrapping-sub-u16-requires c κs = search needs
 
 bit-requires : tie.Need-bit-requires
 bit-requires c κs = search needs
+
+shifted-requires : tie.Need-shifted-requires
+shifted-requires c κs = search needs
+
+shifted-requires-2 : tie.Need-shifted-requires-2
+shifted-requires-2 c κs = search needs
 
 bit-requires-2 : tie.Need-bit-requires-2
 bit-requires-2 c κs = search needs
@@ -53,7 +54,10 @@ returns-6 c = rw (c .before .match .keys6) (c .bit .ensures)
 
 returns-7 : tie.Need-returns-7
 unfolding operate
-returns-7 c = c .bit2 .ensures ∙ sym (simp (operate, ne-eqb _ _ (c .before .match .rest .1), ne-eqb _ _ (c .before .match .rest .0 .1), ne-eqb _ _ (c .before .match .rest .0 .0 .1), ne-eqb _ _ (c .before .match .rest .0 .0 .0 .1), ne-eqb _ _ (c .before .match .rest .0 .0 .0 .0 .1), ne-eqb _ _ (c .before .match .rest .0 .0 .0 .0 .0 .1)))
+returns-7 c =
+    let k = c .before .before .before .match .rest in
+    rw (← c .before .before .shifted .ensures, ← c .before .shifted2 .ensures)
+    (c .bit2 .ensures ∙ sym (simp (operate, ne-eqb _ _ (k .1), ne-eqb _ _ (k .0 .1), ne-eqb _ _ (k .0 .0 .1), ne-eqb _ _ (k .0 .0 .0 .1), ne-eqb _ _ (k .0 .0 .0 .0 .1), ne-eqb _ _ (k .0 .0 .0 .0 .0 .1))))
 
 pub operate-spec : {M : Type 1} → statement M
 operate-spec =
@@ -63,6 +67,8 @@ operate-spec =
     wrapping-add-u16-requires
     wrapping-sub-u16-requires
     bit-requires
+    shifted-requires
+    shifted-requires-2
     bit-requires-2
     returns
     returns-2

@@ -79,7 +79,7 @@ fn operation(kind: u8, a: u16, b: u16) -> String {
         Operator::And => format!("w{a} & w{b}"),
         Operator::Or => format!("w{a} | w{b}"),
         Operator::Equal => format!("{{15'b0, w{a} == w{b}}}"),
-        Operator::Less => format!("{{15'b0, w{a} < w{b}}}"),
+        Operator::Less => format!("{{15'b0, $signed(w{a}) < $signed(w{b})}}"),
     }
 }
 

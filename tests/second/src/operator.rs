@@ -60,7 +60,8 @@ impl Operator {
             And => a & b,
             Or => a | b,
             Equal => u16::from(a == b),
-            Less => u16::from(a < b),
+            // Words count below zero here alone.
+            Less => u16::from((a as i16) < b as i16),
         }
     }
 }

@@ -12,12 +12,12 @@ ghost use Rattle.model.specs.Calls.{writing};
 ghost use Rattle.model.specs.TextCalls.{readTextCall};
 ghost use Rattle.text.specs.Parsing.{programTold, Given, giveCall};
 
-pub mod words; // words of a text, and refusal 17
-pub mod frames; // the stack of what is still open
-pub mod nodes; // the nodes, four bytes each
-pub mod machine; // what the reader keeps, and its moves
-pub mod reader; // what the reader does at a token
-pub mod parsing; // the reader over all words
+mod words; // words of a text, and refusal 17
+mod frames; // the stack of what is still open
+mod nodes; // the nodes, four bytes each
+mod machine; // what the reader keeps, and its moves
+mod reader; // what the reader does at a token
+mod parsing; // the reader over all words
 
 use model::Checked;
 use model::Refusal;

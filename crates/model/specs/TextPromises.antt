@@ -11,6 +11,7 @@ use Rattle.model.specs.declared.Written.the-variants.{Done}
 use Rattle.model.specs.Program.{Stmt, preorder, nodeBytes, programOf}
 use Rattle.model.specs.Text.{Word, wordsOf, tokens, Means, BreaksAt}
 use Rattle.model.specs.Reader.{good, bad}
+use Rattle.model.specs.TimeTables.{Table, load}
 use Rattle.model.specs.TextCalls.{readingOf, readTextChecks, readTextCall, compileTextChecks, compileTextCall, runTextChecks, runTextCall}
 use Rattle.model.specs.Calls.{verdict, writtenVerdict}
 use Rattle.model.specs.Promises.{Refuses, Leaves}
@@ -31,20 +32,21 @@ pub record Texts : Type 0 where
   pub broken : (text : List ℕ) (p : ℕ) → readingOf text ≡ bad p
       → (i : ℕ) × BreaksAt (tokens (wordsOf text)) i × (p ≡ placeAt (length text) (wordsOf text) i)
   -- the bytes that an accepted text gives are those of its reading, and the program that they are is that statement
-  pub program : (text lent : List ℕ) (n f : ℕ) → readTextCall text lent .answer ≡ Done n f →
-      let bytes = take n (readTextCall text lent .lent) in
+  pub program : (T : Table) (text lent : List ℕ) (n f : ℕ) → readTextCall (load T) text lent .answer ≡ Done n f →
+      let bytes = take n (readTextCall (load T) text lent .lent) in
       (P : Stmt) × Means (tokens (wordsOf text)) P × (bytes ≡ nodeBytes (preorder P)) × (programOf bytes ≡ P)
   -- the refusals in the published order, and what a refusal leaves
-  pub reading : (text lent : List ℕ) →
-      let c = writtenVerdict (readTextCall text lent .answer) in
-      Refuses ((17, 17) ∷ (17, 17) ∷ (18, 18) ∷ (1, 8) ∷ (14, 14) ∷ []) (readTextChecks text lent) c × Leaves c lent (readTextCall text lent .lent)
-  pub compiling : (text lent : List ℕ) →
-      let c = writtenVerdict (compileTextCall text lent .answer) in
-      Refuses ((17, 17) ∷ (17, 17) ∷ (18, 18) ∷ (1, 8) ∷ (14, 14) ∷ []) (compileTextChecks text lent) c
-      × Leaves c lent (compileTextCall text lent .lent)
-  pub runs : (text words : List ℕ) (n : ℕ) (forFile lent : List ℕ) →
-      let r = runTextCall text words n forFile lent in
+  pub reading : (T : Table) (text lent : List ℕ) →
+      let c = writtenVerdict (readTextCall (load T) text lent .answer) in
+      Refuses ((19, 21) ∷ (17, 17) ∷ (17, 17) ∷ (18, 18) ∷ (1, 8) ∷ (14, 14) ∷ []) (readTextChecks (load T) text lent) c
+      × Leaves c lent (readTextCall (load T) text lent .lent)
+  pub compiling : (T : Table) (text lent : List ℕ) →
+      let c = writtenVerdict (compileTextCall (load T) text lent .answer) in
+      Refuses ((19, 21) ∷ (17, 17) ∷ (17, 17) ∷ (18, 18) ∷ (1, 8) ∷ (14, 14) ∷ []) (compileTextChecks (load T) text lent) c
+      × Leaves c lent (compileTextCall (load T) text lent .lent)
+  pub runs : (T : Table) (text words : List ℕ) (n : ℕ) (forFile lent : List ℕ) →
+      let r = runTextCall (load T) text words n forFile lent in
       let c = verdict (r .answer .outcome) in
-      Refuses ((17, 17) ∷ (17, 17) ∷ (18, 18) ∷ (1, 8) ∷ (13, 13) ∷ (14, 14) ∷ (14, 14) ∷ (14, 14) ∷ [])
-      (runTextChecks text words n forFile lent) c
+      Refuses ((19, 21) ∷ (17, 17) ∷ (17, 17) ∷ (18, 18) ∷ (1, 8) ∷ (13, 13) ∷ (14, 14) ∷ (14, 14) ∷ (14, 14) ∷ [])
+      (runTextChecks (load T) text words n forFile lent) c
       × Leaves c forFile (r .netlist) × Leaves c lent (r .state)

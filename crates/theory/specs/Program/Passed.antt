@@ -10,8 +10,10 @@ use lib.ListN.{length, getD, take, drop}
 use lib.Dec.{ltb, eqb}
 use borrow.Author.Tests.{ltb-false}
 use Rattle.model.specs.declared.Checked.the-variants.{Accepted}
+use Rattle.model.specs.declared.Loaded.{Loaded}
 use Rattle.model.specs.Refusals.{first}
-use Rattle.model.specs.Program.{Tree, stmt, nodeAt, nodeCount, nodesAt, rowOf, none, asStmt, treesAt, stmtAt, programOf, paperTime, least, clashes, programLengthWrong, faultOf, children, reading, slowAt, clashAt, programChecks, checkOf, preorder}
+use Rattle.model.specs.Program.{Tree, stmt, nodeAt, nodeCount, nodesAt, rowOf, none, asStmt, treesAt, stmtAt, programOf, timeIn, least, clashes, programLengthWrong, faultOf, children, reading, slowAt, clashAt, programChecks, checkOf, preorder}
+use Rattle.model.specs.Calls.{checkCall}
 use Rattle.theory.specs.Refusals.Laws.{not-refused, pick-true, or-false, all-accept, accept-take, refuse-unless, fault-unless, first-place}
 use Rattle.theory.specs.Program.Trees.{nodes-step, treeAt}
 use Rattle.theory.specs.Program.Preorder.{allNodes, sortsOf, Known, KnownT, AllKnown}
@@ -54,9 +56,10 @@ module _ (τ : ℕ → ℕ) (s : List ℕ) where
         clashless = λ j l. fault-unless (clashes (stmtAt s j)) 8 (omega arith) (first-place (clashAt s) (nodeCount s) .none (a 4) j l);
       }
 
-pub accepted : (s : List ℕ) → checkOf s ≡ Accepted → Passed paperTime s
-unfolding checkOf
-accepted s e = passed paperTime s e
+-- of a program that is accepted with some table, under that table's times
+pub accepted : (table : Loaded) (s : List ℕ) → checkCall table s ≡ Accepted → Passed (timeIn (table .times)) s
+unfolding checkCall checkOf
+accepted table s e = passed (timeIn (table .times)) s (all-accept (table .checked ∷ checkOf (table .times) s ∷ []) e 1)
 
 -- Trees and ranges of nodes ------------------------------------------------------------------------------------------------------------
 

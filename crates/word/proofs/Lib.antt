@@ -1,0 +1,2 @@
+-- What the proof of the sum uses.
+pub mod Sums

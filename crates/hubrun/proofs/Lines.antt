@@ -7,8 +7,8 @@ use native.Mathlib.Numerals.{add-one}
 use lib.ListN.{length, getD, drop, drop-of-length-le, length-append}
 use lib.Seq.{sets, drop-cons}
 use Rattle.model.specs.Hubrun.{decimal, line}
-use Rattle.hubrun.proofs.Digits.{decimal-length}
-use Rattle.hubrun.proofs.Puts.{put-rest}
+use Rattle.lines.proofs.Digits.{decimal-length}
+use Rattle.lines.proofs.Puts.{put-rest}
 
 -- the line of the words from k on
 abbrev pub lineFrom : List ℕ → ℕ → List ℕ

@@ -7,49 +7,9 @@ ghost use lib.ListN.{length, take, drop, replicate};
 ghost use lib.Seq.{sets};
 ghost use Rattle.model.specs.Word.{get32};
 ghost use Rattle.model.specs.Calls.{overwrite, runProgramCall};
-ghost use Rattle.model.specs.Hubrun.{decimal, line, refusedWord, textOf, hubrunText};
+ghost use Rattle.model.specs.Hubrun.{decimal, line, textOf, hubrunText};
 use model::Answer;
 use model::Outcome;
-
-// A word of the output line.
-fn put_word(out: &mut [u8], at: usize, word: &[u8]) -> usize
-    requires { ⌜ at + length (now word) ≤ length (now out) ⌝ }
-    ensures next { λ r. ⌜ r ≡ at + length (now (word .entry)) ⌝ }
-    ensures out { λ _. ⌜ now (out .exit) ≡ sets (now (out .entry)) at (now (word .entry)) ⌝ }
-{
-    let mut i: usize = 0;
-    while i < word.len() {
-        out[at + i] = word[i];
-        i += 1;
-    }
-    at + i
-}
-
-// A number, without a zero in front: the digits of n / 10, and the last one.
-fn put_decimal(out: &mut [u8], at: usize, n: usize) -> usize
-    requires { ⌜ at + length (decimal n) ≤ length (now out) ⌝ }
-    ensures next { λ r. ⌜ r ≡ at + length (decimal n) ⌝ }
-    ensures out { λ _. ⌜ now (out .exit) ≡ sets (now (out .entry)) at (decimal n) ⌝ }
-{
-    if n < 10 {
-        out[at] = 48 + n as u8;
-        return at + 1;
-    }
-    let last = put_decimal(out, at, n / 10);
-    out[last] = 48 + (n % 10) as u8;
-    last + 1
-}
-
-// A number and the byte after it: a space, or the line feed.
-fn put_number(out: &mut [u8], at: usize, n: usize, after: u8) -> usize
-    requires { ⌜ at + length (decimal n) + 1 ≤ length (now out) ⌝ }
-    ensures next { λ r. ⌜ r ≡ at + length (decimal n) + 1 ⌝ }
-    ensures out { λ _. ⌜ now (out .exit) ≡ sets (now (out .entry)) at (decimal n ++ (after ∷ [])) ⌝ }
-{
-    let end = put_decimal(out, at, n);
-    out[end] = after;
-    end + 1
-}
 
 // A word as a number: a cast of an element, apart from its index.
 fn wide(word: u16) -> usize
@@ -67,10 +27,10 @@ fn put_words(out: &mut [u8], at: usize, words: [u16; 16]) -> usize
     let mut next = at;
     let mut k: usize = 0;
     while k < 15 {
-        next = put_number(out, next, wide(words[k]), b' ');
+        next = lines::put_number(out, next, wide(words[k]), b' ');
         k += 1;
     }
-    put_number(out, next, wide(words[15]), b'\n')
+    lines::put_number(out, next, wide(words[15]), b'\n')
 }
 
 // The text of a run: the word of its outcome with a space, its instant, and the line of its words.
@@ -79,20 +39,9 @@ fn put_run(out: &mut [u8], word: &[u8], instant: u32, words: [u16; 16]) -> usize
     ensures next { λ r. ⌜ r ≡ length ((now (word .entry) ++ (decimal instant ++ (10 ∷ []))) ++ line (map decimal words)) ⌝ }
     ensures out { λ _. ⌜ now (out .exit) ≡ overwrite ((now (word .entry) ++ (decimal instant ++ (10 ∷ []))) ++ line (map decimal words)) (now (out .entry)) ⌝ }
 {
-    let told = put_word(out, 0, word);
-    let first = put_number(out, told, instant as usize, b'\n');
+    let told = lines::put_word(out, 0, word);
+    let first = lines::put_number(out, told, instant as usize, b'\n');
     put_words(out, first, words)
-}
-
-// The text of a refusal.
-fn put_refusal(out: &mut [u8], number: u8, place: usize) -> usize
-    requires { ⌜ 50 ≤ length (now out) ⌝ }
-    ensures next { λ r. ⌜ r ≡ length (line (refusedWord ∷ decimal number ∷ decimal place ∷ [])) ⌝ }
-    ensures out { λ _. ⌜ now (out .exit) ≡ overwrite (line (refusedWord ∷ decimal number ∷ decimal place ∷ [])) (now (out .entry)) ⌝ }
-{
-    let told = put_word(out, 0, b"refused ");
-    let numbered = put_number(out, told, number as usize, b' ');
-    put_number(out, numbered, place, b'\n')
 }
 
 // The text of an answer.
@@ -105,7 +54,7 @@ pub fn answer_text(answer: Answer, out: &mut [u8; 512]) -> usize
     match outcome {
         Outcome::Ended => put_run(out, b"end ", answer.instant, words),
         Outcome::Open => put_run(out, b"open ", answer.instant, words),
-        Outcome::Refused(r) => put_refusal(out, r.number, r.place),
+        Outcome::Refused(r) => lines::put_refusal(out, r.number, r.place),
     }
 }
 
@@ -126,7 +75,7 @@ pub fn text(input: &[u8], out: &mut [u8; 512]) -> usize
     ensures out { λ _. ⌜ now (out .exit) ≡ overwrite (hubrunText (now (input .entry))) (now (out .entry)) ⌝ }
 {
     if input.len() < 36 {
-        return put_refusal(out, 1, 0);
+        return lines::put_refusal(out, 1, 0);
     }
     let answer = run(input);
     answer_text(answer, out)

@@ -12,6 +12,7 @@ pub mod Reader
 pub mod Calls
 pub mod TextCalls
 pub mod Hubrun
+pub mod Hubtext
 pub mod Promises
 pub mod TextPromises
 pub mod Netlists

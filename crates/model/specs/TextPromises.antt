@@ -7,13 +7,15 @@ use Prim.Native.Nat.{ℕ, zero, suc}
 use lib.ListN.{length, take}
 use Rattle.model.specs.declared.Node.{Node}
 use Rattle.model.specs.declared.Token.{Token}
+use Rattle.model.specs.declared.Checked.the-variants.{Accepted}
 use Rattle.model.specs.declared.Written.the-variants.{Done}
+use Rattle.model.specs.Refusals.{first}
 use Rattle.model.specs.Program.{Stmt, preorder, nodeBytes, programOf}
 use Rattle.model.specs.Text.{Word, wordsOf, tokens, Means, BreaksAt}
 use Rattle.model.specs.Reader.{good, bad}
 use Rattle.model.specs.TimeTables.{Table, load}
-use Rattle.model.specs.TextCalls.{readingOf, readTextChecks, readTextCall, compileTextChecks, compileTextCall, runTextChecks, runTextCall}
-use Rattle.model.specs.Calls.{verdict, writtenVerdict}
+use Rattle.model.specs.TextCalls.{readingOf, textProgram, textChecks, readTextChecks, readTextCall, compileTextChecks, compileTextCall, runTextChecks, runTextCall}
+use Rattle.model.specs.Calls.{verdict, writtenVerdict, compileCall, runProgramCall}
 use Rattle.model.specs.Promises.{Refuses, Leaves}
 
 -- the place of word i, or the length of the text where the words are fewer
@@ -35,6 +37,11 @@ pub record Texts : Type 0 where
   pub program : (T : Table) (text lent : List ℕ) (n f : ℕ) → readTextCall (load T) text lent .answer ≡ Done n f →
       let bytes = take n (readTextCall (load T) text lent .lent) in
       (P : Stmt) × Means (tokens (wordsOf text)) P × (bytes ≡ nodeBytes (preorder P)) × (programOf bytes ≡ P)
+  -- a text that passes 17 and 18 is compiled and run as that program, of which demands 2 and 3 speak
+  pub compiled : (T : Table) (text lent : List ℕ) → first (textChecks text) ≡ Accepted
+      → compileTextCall (load T) text lent ≡ compileCall (load T) (textProgram text) lent
+  pub run : (T : Table) (text words : List ℕ) (n : ℕ) (forFile lent : List ℕ) → first (textChecks text) ≡ Accepted
+      → runTextCall (load T) text words n forFile lent ≡ runProgramCall (load T) (textProgram text) words n forFile lent
   -- the refusals in the published order, and what a refusal leaves
   pub reading : (T : Table) (text lent : List ℕ) →
       let c = writtenVerdict (readTextCall (load T) text lent .answer) in

@@ -6,5 +6,5 @@ pub mod Numbering
 pub mod Circuit
 pub mod State
 pub mod NetlistFile
-pub mod Promises
 pub mod Text
+pub mod Promises

@@ -3,7 +3,7 @@
 -- Assumes nothing.
 use mathlib.Core.Path.{_≡_, refl, sym, _∙_, ap, ap₂}
 use mathlib.Core.Bool.{Bool, true, false, not, _&&_, _||_}
-use mathlib.Core.List.{List, [], _∷_}
+use mathlib.Core.List.{List, [], _∷_, _++_}
 use Prim.Native.Nat.{ℕ, zero, suc, _+_, _≤_, _<_}
 use native.Mathlib.Omega.{arith}
 use native.Mathlib.Decide.{ℕ-discrete}
@@ -93,6 +93,11 @@ pub first-one : (c : Checked) → c ≡ first (c ∷ [])
 first-one Accepted = refl
 first-one (Refused q) = refl
 
+-- what stands behind a check matters by what is found first in it alone
+pub first-behind : (c : Checked) (cs ds : List Checked) → first cs ≡ first ds → first (c ∷ cs) ≡ first (c ∷ ds)
+first-behind Accepted cs ds e = e
+first-behind (Refused q) cs ds e = refl
+
 -- two checks that are found as one
 pub first-two : (a b : Checked) (cs : List Checked) → first (a ∷ b ∷ cs) ≡ first (first (a ∷ b ∷ []) ∷ cs)
 first-two Accepted Accepted cs = refl
@@ -113,6 +118,18 @@ first-drop zero (c ∷ cs) e = refl
 first-drop (suc n) [] e = refl
 first-drop (suc n) (Accepted ∷ cs) e = first-drop n cs e
 first-drop (suc n) (Refused q ∷ cs) e = not-refused e
+
+-- checks that accept don't matter to those behind them
+pub first-append : (cs ds : List Checked) → first cs ≡ Accepted → first (cs ++ ds) ≡ first ds
+first-append [] ds e = refl
+first-append (Accepted ∷ cs) ds e = first-append cs ds e
+first-append (Refused q ∷ cs) ds e = not-refused e
+
+-- and what is refused first is refused first with more checks behind
+pub refused-append : (cs ds : List Checked) (r : Refusal) → first cs ≡ Refused r → first (cs ++ ds) ≡ Refused r
+refused-append [] ds r e = not-refused (sym e)
+refused-append (Accepted ∷ cs) ds r e = refused-append cs ds r e
+refused-append (Refused q ∷ cs) ds r e = e
 
 pub accept-take : (n : ℕ) (cs : List Checked) → first cs ≡ Accepted → first (take n cs) ≡ Accepted
 accept-take zero [] e = refl

@@ -25,7 +25,7 @@ use Rattle.model.specs.TimeTables.{byteWrong, tableFault, tableSumWrong, tableC
 use Rattle.model.specs.State.{stateSize, instantOf, nowAt, sound, beginState, lastState, evaluated}
 use Rattle.model.specs.Calls.{verdict, writtenVerdict, short, checkCall, writing, compiledFile, netlistChecks, compileChecks, compileCall, cellsIn, writeChecks, writeCall, readChecks, readCall, wordAt, shows, running, beginChecks, beginCall, continueChecks, continueCall, fullState, fullCount, overBudget, runNetlistChecks, runNetlistCall, fullRunChecks, runProgramChecks, runProgramCall, referenceAnswer, answering, referenceChecks, referenceCall}
 use Rattle.model.specs.Promises.{Gives, InOrder, Refuses, Leaves, Demand1}
-use Rattle.theory.specs.Refusals.Laws.{and-true, not-refused, same-refusal, first-one, first-found, first-place}
+use Rattle.theory.specs.Refusals.Laws.{and-true, not-refused, same-refusal, first-one, first-behind, first-found, first-place}
 use Rattle.theory.specs.Promises.Replay.{no-refusal}
 
 -- The numbers that a check gives -------------------------------------------------------------------------------------------------------
@@ -192,11 +192,6 @@ unfolding answering verdict
 answering-verdict Accepted a h = h
 answering-verdict (Refused r) a h = refl
 
--- checks that are found as one
-one-check : (c : Checked) (cs : List Checked) → first (c ∷ first cs ∷ []) ≡ first (c ∷ cs)
-one-check Accepted cs = sym (first-one (first cs))
-one-check (Refused r) cs = refl
-
 refuses : (ns : List (ℕ × ℕ)) (cs : List Checked) → InOrder ns cs → Refuses ns cs (first cs)
 refuses ns cs o = record { found = first-found cs; ordered = o }
 
@@ -258,7 +253,7 @@ demand-1 =
       tables = λ file. unfold load in refuses _ (tableChecks file) (table-order file);
       programs = λ T program.
           let τ = timeIn (load T .times) in
-          rw (one-check (load T .checked) (programChecks τ program))
+          rw (first-behind (load T .checked) (first (programChecks τ program) ∷ []) (programChecks τ program) (sym (first-one _)))
           (refuses _ (load T .checked ∷ programChecks τ program) (table-gives T, program-order τ program));
       files = λ file. refuses _ (fileChecks file) (file-order file);
       compiling = λ T program lent.

@@ -1,4 +1,4 @@
--- The nodes of a list of node bytes are those nodes again, and a program of a tree's nodes is that tree.
+-- The nodes of a list of node bytes are those nodes again, and the program that a reading's bytes are is the reading.
 -- Assumes nothing.
 use mathlib.Core.Path.{_≡_, refl, sym, _∙_, ap, ap₂}
 use mathlib.Core.List.{List, [], _∷_, _++_}
@@ -7,7 +7,10 @@ use native.Mathlib.Omega.{arith}
 use lib.ListN.{length, getD, drop}
 use Rattle.model.specs.declared.Node.{Node}
 use Rattle.model.specs.Word.{get16, bytes16}
-use Rattle.model.specs.Program.{node, nodeAt, nodeCount, nodesFrom, nodesAt, nodeBytes}
+use Rattle.model.specs.declared.Token.{Token}
+use Rattle.model.specs.Program.{Stmt, Tree, node, nodeAt, nodeCount, nodesFrom, nodesAt, nodeBytes, preorder, none, asStmt, forest, treesAt, stmtAt, programOf}
+use Rattle.model.specs.Text.{Means}
+use Rattle.theory.specs.Text.OneReading.{reading-tree}
 
 pub length-bytes : (ns : List Node) → length (nodeBytes ns) ≡ 4 * length ns
 unfolding nodeBytes bytes16
@@ -49,3 +52,8 @@ pub nodes-back : (ns : List Node) → nodesAt (nodeBytes ns) 0 ≡ ns
 nodes-back ns =
     let e : length (nodeBytes ns) / 4 - 0 ≡ length ns = omega (arith, length-bytes ns) in
     ap (nodesFrom (nodeBytes ns) 0) e ∙ from-bytes ns
+
+-- the program that the bytes of a reading are
+pub program-back : {ts : List Token} {P : Stmt} → Means ts P → programOf (nodeBytes (preorder P)) ≡ P
+unfolding stmtAt treesAt asStmt
+program-back {ts} {P} d = ap (λ (l : List Tree). asStmt (getD l 0 none)) (ap forest (nodes-back (preorder P)) ∙ reading-tree d)

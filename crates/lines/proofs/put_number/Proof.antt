@@ -1,10 +1,10 @@
 -- `text::put_number` meets its contract. Assumes nothing.
 use native.Mathlib.Omega.{arith}
 use Rattle.model.specs.Hubrun.{decimal}
-use Rattle.hubrun.proofs.Puts.{put-after}
+use Rattle.lines.proofs.Puts.{put-after}
 use borrow.Author.Needs.{needs}
-use Rattle.hubrun.proofs.text.put_number.Statement.{statement}
-use Rattle.hubrun.proofs.text.put_number.Tie as tie
+use Rattle.lines.proofs.put_number.Statement.{statement}
+use Rattle.lines.proofs.put_number.Tie as tie
 
 put-decimal-requires : tie.Need-put-decimal-requires
 put-decimal-requires c κs = search needs

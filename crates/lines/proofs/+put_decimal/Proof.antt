@@ -7,13 +7,13 @@ use borrow.Fn.Kinds.{In}
 use borrow.Fn.PlainCycle.{Measures, is, falls, and}
 use borrow.Author.Needs.{needs}
 use Rattle.model.specs.Hubrun.{decimal}
-use Rattle.hubrun.proofs.Digits.{decimal-one, decimal-more, decimal-more-length}
-use Rattle.hubrun.proofs.Puts.{put-after}
-use Rattle.hubrun.proofs.text.put_decimal.Reads as put-decimal
-use Rattle.hubrun.proofs.text.put_decimal.Kinds as put-decimal-kinds
-use Rattle.hubrun.proofs.text.+put_decimal.Lts-put_decimal as put-decimal-lts
-use Rattle.hubrun.proofs.text.+put_decimal.{statement}
-use Rattle.hubrun.proofs.text.+put_decimal.Tie.{close}
+use Rattle.lines.proofs.Digits.{decimal-one, decimal-more, decimal-more-length}
+use Rattle.lines.proofs.Puts.{put-after}
+use Rattle.lines.proofs.put_decimal.Reads as put-decimal
+use Rattle.lines.proofs.put_decimal.Kinds as put-decimal-kinds
+use Rattle.lines.proofs.+put_decimal.Lts-put_decimal as put-decimal-lts
+use Rattle.lines.proofs.+put_decimal.{statement}
+use Rattle.lines.proofs.+put_decimal.Tie.{close}
 
 abbrev μ-put-decimal : Measures 1 put-decimal-kinds.ps ℕ
 μ-put-decimal κs a = a .1 .1 .0

@@ -4,9 +4,9 @@ use Prim.Native.Nat.{_+_, _-_, _≤_}
 use native.Mathlib.Omega.{arith}
 use lib.ListN.{length, length-set, drop}
 use lib.Seq.{sets}
-use Rattle.hubrun.proofs.Puts.{put-more, put-done}
-use Rattle.hubrun.proofs.text.put_word.Statement.{statement}
-use Rattle.hubrun.proofs.text.put_word.Tie as tie
+use Rattle.lines.proofs.Puts.{put-more, put-done}
+use Rattle.lines.proofs.put_word.Statement.{statement}
+use Rattle.lines.proofs.put_word.Tie as tie
 
 abbrev Inv-loop : tie.InvT-loop
 Inv-loop out₀ at word i₀ out i =

@@ -4,10 +4,10 @@ use Prim.Native.Nat.{ℕ, _+_}
 use native.Mathlib.Omega.{arith}
 use borrow.Author.Needs.{needs}
 use Rattle.model.specs.Hubrun.{decimal, line}
-use Rattle.hubrun.proofs.Digits.{decimal-length}
-use Rattle.hubrun.proofs.Puts.{number-put, put-both, put-over}
-use Rattle.hubrun.proofs.text.put_refusal.Statement.{statement}
-use Rattle.hubrun.proofs.text.put_refusal.Tie as tie
+use Rattle.lines.proofs.Digits.{decimal-length}
+use Rattle.lines.proofs.Puts.{number-put, put-both, put-over}
+use Rattle.lines.proofs.put_refusal.Statement.{statement}
+use Rattle.lines.proofs.put_refusal.Tie as tie
 
 slice-aggregate-put-word : tie.Need-slice-aggregate-put-word
 slice-aggregate-put-word c = search needs

@@ -1,0 +1,77 @@
+-- What is promised of programs as text, as model/TextPromises states it.
+-- Assumes nothing.
+use mathlib.Core.Path.{_≡_, refl, _∙_, ap}
+use mathlib.Core.List.{List}
+use Prim.Native.Nat.{ℕ}
+use lib.ListN.{length, take}
+use Rattle.model.specs.declared.Loaded.{Loaded}
+use Rattle.model.specs.declared.Node.{Node}
+use Rattle.model.specs.declared.Checked.the-variants.{Accepted}
+use Rattle.model.specs.declared.Written.the-variants.{Done}
+use Rattle.model.specs.Program.{Stmt, preorder, nodeBytes, programOf}
+use Rattle.model.specs.Text.{wordsOf, tokens, Means, BreaksAt}
+use Rattle.model.specs.Reader.{Reading, good, bad, readerAtFirst}
+use Rattle.model.specs.TimeTables.{load}
+use Rattle.model.specs.TextCalls.{readingOf, brokenAt, bytesRead, textChecks, readTextCall}
+use Rattle.model.specs.TextPromises.{placeAt, Texts}
+use Rattle.theory.specs.Refusals.Laws.{not-refused, all-accept}
+use Rattle.theory.specs.Text.Runs.{steps, reads-good}
+use Rattle.theory.specs.Text.Found.{reader-finds, broken-place}
+use Rattle.theory.specs.Text.OneReading.{one-reading}
+use Rattle.theory.specs.Text.Sound.{begins, sound, words-proper, take-proper}
+use Rattle.theory.specs.Text.Bytes.{program-back}
+use Rattle.theory.specs.Text.Order.{read-text-refuses, compile-text-refuses, run-text-refuses}
+use Rattle.theory.specs.Text.AsProgram.{compile-as-program, run-as-program, text-accepted, program-made}
+
+module _ (text : List ℕ) where
+  found : (P : Stmt) → Means (tokens (wordsOf text)) P → readingOf text ≡ good (preorder P)
+  unfolding readingOf
+  found P d = reader-finds (length text) (wordsOf text) P d
+
+  read : (ns : List Node) → readingOf text ≡ good ns → (P : Stmt) × Means (tokens (wordsOf text)) P × (ns ≡ preorder P)
+  unfolding readingOf
+  read ns e =
+      let g = reads-good (length text) readerAtFirst (wordsOf text) ns e in
+      let s = sound (tokens (wordsOf text)) (words-proper 0 0 0 text) (g .0) in
+      (s .0, s .1, g .1 ∙ s .2)
+
+  broken : (p : ℕ) → readingOf text ≡ bad p → (i : ℕ) × BreaksAt (tokens (wordsOf text)) i × (p ≡ placeAt (length text) (wordsOf text) i)
+  unfolding readingOf
+  broken p e =
+      let ts = tokens (wordsOf text) in
+      let b = broken-place (length text) (wordsOf text) p e in
+      let i = b .0 in
+      (i, b .3 (begins (take i ts) (take-proper i ts (words-proper 0 0 0 text)) (b .2 .before)), b .1)
+
+  -- a text that passes 18 has a reading, and its bytes are the reading's
+  meant : brokenAt (readingOf text) ≡ Accepted → (P : Stmt) × Means (tokens (wordsOf text)) P × (bytesRead (readingOf text) ≡ nodeBytes (preorder P))
+  unfolding brokenAt bytesRead
+  meant = go (readingOf text) refl
+    where
+      go : (r : Reading) → readingOf text ≡ r → brokenAt r ≡ Accepted
+          → (P : Stmt) × Means (tokens (wordsOf text)) P × (bytesRead r ≡ nodeBytes (preorder P))
+      go (good ns) e a = let q = read ns e in (q .0, q .1, ap nodeBytes (q .2))
+      go (bad p) e a = not-refused a
+
+program : (table : Loaded) (text lent : List ℕ) (n f : ℕ) → readTextCall table text lent .answer ≡ Done n f →
+    let bytes = take n (readTextCall table text lent .lent) in
+    (P : Stmt) × Means (tokens (wordsOf text)) P × (bytes ≡ nodeBytes (preorder P)) × (programOf bytes ≡ P)
+program table text lent n f done =
+    let q = meant text (all-accept (textChecks text) (text-accepted table text lent n f done) 2) in
+    let e = program-made table text lent n f done ∙ q .2 in
+    (q .0, q .1, e, ap programOf e ∙ program-back (q .1))
+
+pub texts : Texts
+texts =
+    record {
+      one = λ ts P Q d e. one-reading d e;
+      found = found;
+      read = read;
+      broken = broken;
+      program = λ T. program (load T);
+      compiled = λ T. compile-as-program (load T);
+      run = λ T. run-as-program (load T);
+      reading = read-text-refuses;
+      compiling = compile-text-refuses;
+      runs = run-text-refuses;
+    }

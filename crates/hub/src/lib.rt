@@ -1,5 +1,7 @@
 // The public calls. None has a requires; each contract is one equation for the answer and one for each lent list at exit, with model/Calls.
+// A call that checks a program goes by the built-in operator times; the call of the same name with `_timed` takes a table's file first.
 ghost use mathlib.Core.Path.{_≡_};
+ghost use Rattle.model.specs.TimeTables.{builtIn, given, load};
 ghost use Rattle.model.specs.Calls.{checkCall, compileCall, writeCall, readCall, beginCall, continueCall, runNetlistCall, runProgramCall, referenceCall};
 
 pub mod exports; // the calls for other languages
@@ -11,17 +13,30 @@ use model::Checked;
 use model::Written;
 
 pub fn check(program: &[u8]) -> Checked
-    ensures { λ r. ⌜ r ≡ checkCall (now (program .entry)) ⌝ }
+    ensures { λ r. ⌜ r ≡ checkCall (load builtIn) (now (program .entry)) ⌝ }
 {
     program::check(program)
 }
 
+pub fn check_timed(table: &[u8], program: &[u8]) -> Checked
+    ensures { λ r. ⌜ r ≡ checkCall (load (given (now (table .entry)))) (now (program .entry)) ⌝ }
+{
+    program::check_timed(table, program)
+}
+
 // The program's netlist file, into a lent buffer.
 pub fn compile(program: &[u8], file: &mut [u8]) -> Written
-    ensures answer { λ r. ⌜ r ≡ compileCall (now (program .entry)) (now (file .entry)) .answer ⌝ }
-    ensures lent { λ _. ⌜ now (file .exit) ≡ compileCall (now (program .entry)) (now (file .entry)) .lent ⌝ }
+    ensures answer { λ r. ⌜ r ≡ compileCall (load builtIn) (now (program .entry)) (now (file .entry)) .answer ⌝ }
+    ensures lent { λ _. ⌜ now (file .exit) ≡ compileCall (load builtIn) (now (program .entry)) (now (file .entry)) .lent ⌝ }
 {
     compiler::compile(program, file)
+}
+
+pub fn compile_timed(table: &[u8], program: &[u8], file: &mut [u8]) -> Written
+    ensures answer { λ r. ⌜ r ≡ compileCall (load (given (now (table .entry)))) (now (program .entry)) (now (file .entry)) .answer ⌝ }
+    ensures lent { λ _. ⌜ now (file .exit) ≡ compileCall (load (given (now (table .entry)))) (now (program .entry)) (now (file .entry)) .lent ⌝ }
+{
+    compiler::compile_timed(table, program, file)
 }
 
 pub fn write_netlist(cells: &[u8], finish: u16, file: &mut [u8]) -> Written
@@ -70,20 +85,51 @@ pub fn run_program(
     netlist: &mut [u8],
     state: &mut [u8],
 ) -> Answer
-    ensures answer { λ r. ⌜ r ≡ runProgramCall (now (program .entry)) (now (words .entry)) budget (now (netlist .entry)) (now (state .entry)) .answer ⌝ }
-    ensures netlist { λ _. ⌜ now (netlist .exit) ≡ runProgramCall (now (program .entry)) (now (words .entry)) budget (now (netlist .entry)) (now (state .entry)) .netlist ⌝ }
-    ensures state { λ _. ⌜ now (state .exit) ≡ runProgramCall (now (program .entry)) (now (words .entry)) budget (now (netlist .entry)) (now (state .entry)) .state ⌝ }
+    ensures answer { λ r. ⌜ r ≡ runProgramCall (load builtIn) (now (program .entry)) (now (words .entry)) budget (now (netlist .entry)) (now (state .entry)) .answer ⌝ }
+    ensures netlist { λ _. ⌜ now (netlist .exit) ≡ runProgramCall (load builtIn) (now (program .entry)) (now (words .entry)) budget (now (netlist .entry)) (now (state .entry)) .netlist ⌝ }
+    ensures state { λ _. ⌜ now (state .exit) ≡ runProgramCall (load builtIn) (now (program .entry)) (now (words .entry)) budget (now (netlist .entry)) (now (state .entry)) .state ⌝ }
 {
-    let checked = full::check(program, words, budget, netlist, state);
-    if let Checked::Refused(r) = checked {
-        return simulator::refused(r);
-    }
-    full::run(program, words, budget, netlist, state)
+    full::run_by(
+        program::tables::built_in(),
+        program,
+        words,
+        budget,
+        netlist,
+        state,
+    )
+}
+
+pub fn run_program_timed(
+    table: &[u8],
+    program: &[u8],
+    words: &[u8],
+    budget: u32,
+    netlist: &mut [u8],
+    state: &mut [u8],
+) -> Answer
+    ensures answer { λ r. ⌜ r ≡ runProgramCall (load (given (now (table .entry)))) (now (program .entry)) (now (words .entry)) budget (now (netlist .entry)) (now (state .entry)) .answer ⌝ }
+    ensures netlist { λ _. ⌜ now (netlist .exit) ≡ runProgramCall (load (given (now (table .entry)))) (now (program .entry)) (now (words .entry)) budget (now (netlist .entry)) (now (state .entry)) .netlist ⌝ }
+    ensures state { λ _. ⌜ now (state .exit) ≡ runProgramCall (load (given (now (table .entry)))) (now (program .entry)) (now (words .entry)) budget (now (netlist .entry)) (now (state .entry)) .state ⌝ }
+{
+    full::run_by(
+        program::tables::load(table),
+        program,
+        words,
+        budget,
+        netlist,
+        state,
+    )
 }
 
 // The program by its own rules, without a circuit.
 pub fn reference_run(program: &[u8], words: &[u8], budget: u32) -> Answer
-    ensures { λ r. ⌜ r ≡ referenceCall (now (program .entry)) (now (words .entry)) budget ⌝ }
+    ensures { λ r. ⌜ r ≡ referenceCall (load builtIn) (now (program .entry)) (now (words .entry)) budget ⌝ }
 {
     rules::reference_run(program, words, budget)
+}
+
+pub fn reference_run_timed(table: &[u8], program: &[u8], words: &[u8], budget: u32) -> Answer
+    ensures { λ r. ⌜ r ≡ referenceCall (load (given (now (table .entry)))) (now (program .entry)) (now (words .entry)) budget ⌝ }
+{
+    rules::reference_run_timed(table, program, words, budget)
 }

@@ -28,7 +28,7 @@ pub record Measures (operators s : List ℕ) (r : Scanned) : Type 0 where
   pub shaped : (j : ℕ) → j < nodeCount s → Shaped (timeIn operators) s (r .times) (r .ends) j
 
 -- refusals 1 to 8; of a refused program the arrays are free
-pub record Reads (operators s : List ℕ) (r : Scanned) : Type 0 where
+pub record ScansBy (operators s : List ℕ) (r : Scanned) : Type 0 where
   pub checked : r .checked ≡ checkOf operators s
   pub shaped : checkOf operators s ≡ Accepted → (j : ℕ) → j < nodeCount s → Shaped (timeIn operators) s (r .times) (r .ends) j
 

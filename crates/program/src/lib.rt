@@ -1,5 +1,6 @@
 // The check of a program with a table of operator times: refusals 1 to 8, and the two arrays of 200 that the checks fill.
 // Contracts are equations with the definitions of model/Program; what the arrays hold is said in specs/Ends and specs/Shape.
+// `operators` is a list of operator times: entry k is that of kind k.
 // `|` and `&` stand between tests where both sides are cheap: they are the model's own `||` and `&&`.
 ghost use mathlib.Core.Path.{_≡_};
 ghost use mathlib.Core.Bool.{_&&_};
@@ -13,7 +14,7 @@ ghost use Rattle.model.specs.Calls.{checkCall};
 ghost use Rattle.program.specs.Ends.{Laid, past, skips};
 ghost use Rattle.theory.specs.Program.Passed.{Readable};
 ghost use Rattle.program.specs.Uses.{names, uses, Side};
-ghost use Rattle.program.specs.Shape.{Shaped, Measures, Reads, Scans};
+ghost use Rattle.program.specs.Shape.{Shaped, Measures, ScansBy, Scans};
 
 pub mod tables; // tables of operator times
 
@@ -434,7 +435,7 @@ fn unscanned(refusal: Refusal) -> Scanned
 
 // Refusals 1 to 8 under operator times, with the arrays.
 fn scan_by(operators: &[u8], program: &[u8]) -> Scanned
-    ensures { λ r. ⌜ Reads (now (operators .entry)) (now (program .entry)) r ⌝ }
+    ensures { λ r. ⌜ ScansBy (now (operators .entry)) (now (program .entry)) r ⌝ }
 {
     let early = early_check(program);
     match early {

@@ -24,12 +24,14 @@ scan-by-requires c κs = search needs
 
 returns : tie.Need-returns
 returns c =
-    let e = table-refuses (c .before .before .before .before .before .args .table) (now (c .before .before .before .before .before .args .program)) (c .before .before .loaded .given .1) in
+    let start = c .before .before .before .before .before in
+    let e = table-refuses (start .args .table) (now (start .args .program)) (c .before .before .loaded .given .1) in
     record { checked = c .unscanned .ensures ∙ sym e; shaped = λ a. not-refused (sym e ∙ a) }
 
 returns-2 : tie.Need-returns-2
 returns-2 c =
-    let e = table-accepts (c .before .before .before .before .before .before .args .table) (now (c .before .before .before .before .before .before .args .program)) (c .before .before .before .enum-told .given .1) in
+    let start = c .before .before .before .before .before .before in
+    let e = table-accepts (start .args .table) (now (start .args .program)) (c .before .before .before .enum-told .given .1) in
     let told = c .scan-by .ensures in
     record { checked = told .checked ∙ sym e; shaped = λ a. told .shaped (sym e ∙ a) }
 

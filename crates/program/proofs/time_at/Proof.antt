@@ -11,32 +11,31 @@ use Rattle.program.proofs.time_at.Statement.{statement}
 use Rattle.program.proofs.time_at.Tie as tie
 
 read-node-requires : tie.Need-read-node-requires
-read-node-requires c κs =
-    search needs
+read-node-requires c κs = search needs
 
 operator-time-requires : tie.Need-operator-time-requires
-operator-time-requires c κs =
-    search needs
+operator-time-requires c κs = search needs
 
 returns : tie.Need-returns
 returns c =
-    time-stmt (timeIn (now (c .before .before .before .before .before .args .operators))) _ _ (c .before .before .before .before .before .pre .1) _ (c .before .before .read-node .ensures) _ (c .operator-time .ensures) (c .before .if1 .taken)
+    let start = c .before .before .before .before .before in
+    time-stmt (timeIn (now (start .args .operators))) _ _ (start .pre .1) _ (c .before .before .read-node .ensures) _ (c .operator-time .ensures) (c .before .if1 .taken)
 
 operator-time-requires-2 : tie.Need-operator-time-requires-2
-operator-time-requires-2 c κs =
-    search needs
+operator-time-requires-2 c κs = search needs
 
 returns-2 : tie.Need-returns-2
 returns-2 c =
-    time-const (timeIn (now (c .before .before .before .before .before .before .args .operators))) _ _ (c .before .before .before .before .before .before .pre .1) _ (c .before .before .before .read-node .ensures) _ (c .before .operator-time2 .ensures) (c .if2 .taken)
+    let start = c .before .before .before .before .before .before in
+    time-const (timeIn (now (start .args .operators))) _ _ (start .pre .1) _ (c .before .before .before .read-node .ensures) _ (c .before .operator-time2 .ensures) (c .if2 .taken)
 
 returns-3 : tie.Need-returns-3
 returns-3 c =
-    time-var (timeIn (now (c .before .before .before .before .before .before .before .args .operators))) _ _ (c .before .before .before .before .before .before .before .pre .1) _ (c .before .before .before .before .read-node .ensures) _ (c .before .before .operator-time2 .ensures) (c .if3 .taken)
+    let start = c .before .before .before .before .before .before .before in
+    time-var (timeIn (now (start .args .operators))) _ _ (start .pre .1) _ (c .before .before .before .before .read-node .ensures) _ (c .before .before .operator-time2 .ensures) (c .if3 .taken)
 
 add-known-time : tie.Need-add-known-time
-add-known-time c =
-    search needs
+add-known-time c = search needs
 
 known-time-requires : tie.Need-known-time-requires
 known-time-requires c κs =
@@ -45,55 +44,50 @@ known-time-requires c κs =
 
 add-result : tie.Need-add-result
 add-result c =
-    let pre = c .before .before .before .before .before .before .before .before .before .pre in
-    let τ = timeIn (now (c .before .before .before .before .before .before .before .before .before .args .operators)) in
+    let start = c .before .before .before .before .before .before .before .before .before in
+    let τ = timeIn (now (start .args .operators)) in
     let low : (k : ℕ) → τ k ≤ 255 = λ k. omega (arith, c .before .before .before .before .before .before .before .before .shared-slice-known .given k) in
-    omega (arith, time-fits τ low _ (pre .0) _ (omega arith) _ _ _ (c .before .before .before .before .operator-time2 .ensures) (c .before .known-time .ensures))
+    omega (arith, time-fits τ low _ (start .pre .0) _ (omega arith) _ _ _ (c .before .before .before .before .operator-time2 .ensures) (c .before .known-time .ensures))
 
 returns-4 : tie.Need-returns-4
 returns-4 c =
-    time-compl (timeIn (now (c .before .before .before .before .before .before .before .before .before .args .operators))) _ _ (c .before .before .before .before .before .before .before .before .before .pre .1) _ (c .before .before .before .before .before .before .read-node .ensures) _ (c .before .before .before .before .operator-time2 .ensures) _ (c .before .known-time .ensures) (c .if4 .taken)
+    let start = c .before .before .before .before .before .before .before .before .before in
+    time-compl (timeIn (now (start .args .operators))) _ _ (start .pre .1) _ (c .before .before .before .before .before .before .read-node .ensures) _ (c .before .before .before .before .operator-time2 .ensures) _ (c .before .known-time .ensures) (c .if4 .taken)
 
 add-next : tie.Need-add-next
-add-next c =
-    search needs
+add-next c = search needs
 
 next-requires : tie.Need-next-requires
-next-requires c κs =
-    search needs
+next-requires c κs = search needs
 
 known-time-requires-2 : tie.Need-known-time-requires-2
 known-time-requires-2 c κs =
-    let pre = c .before .before .before .before .before .before .before .before .before .before .pre in
-    let args = c .before .before .before .before .before .before .before .before .before .before .args in
-    let e = past-later (now (args .program)) (now (args .ends)) (args .i + 1) (λ l. pre .2 _ (omega arith) l .end) in
-    (pre .0, λ l. pre .2 _ (omega (arith, e, c .next .ensures)) l .timed)
+    let start = c .before .before .before .before .before .before .before .before .before .before in
+    let e = past-later (now (start .args .program)) (now (start .args .ends)) (start .args .i + 1) (λ l. start .pre .2 _ (omega arith) l .end) in
+    (start .pre .0, λ l. start .pre .2 _ (omega (arith, e, c .next .ensures)) l .timed)
 
 larger-requires : tie.Need-larger-requires
-larger-requires c κs =
-    search needs
+larger-requires c κs = search needs
 
 add-result-2 : tie.Need-add-result-2
 add-result-2 c =
-    let pre = c .before .before .before .before .before .before .before .before .before .before .before .before .pre in
-    let args = c .before .before .before .before .before .before .before .before .before .before .before .before .args in
-    let τ = timeIn (now (args .operators)) in
+    let start = c .before .before .before .before .before .before .before .before .before .before .before .before in
+    let τ = timeIn (now (start .args .operators)) in
     let low : (k : ℕ) → τ k ≤ 255 = λ k. omega (arith, c .before .before .before .before .before .before .before .before .before .before .before .shared-slice-known .given k) in
     let o = c .before .before .before .before .before .before .before .operator-time2 .ensures in
-    let e = past-later (now (args .program)) (now (args .ends)) (args .i + 1) (λ l. pre .2 _ (omega arith) l .end) in
+    let e = past-later (now (start .args .program)) (now (start .args .ends)) (start .args .i + 1) (λ l. start .pre .2 _ (omega arith) l .end) in
     let l : 1 ≤ c .before .before .next .result = omega (arith, e, c .before .before .next .ensures) in
-    let x = time-fits τ low _ (pre .0) _ (omega arith) _ _ _ o (c .before .before .before .before .known-time .ensures) in
-    let y = time-fits τ low _ (pre .0) _ l _ _ _ o (c .before .known-time2 .ensures) in
+    let x = time-fits τ low _ (start .pre .0) _ (omega arith) _ _ _ o (c .before .before .before .before .known-time .ensures) in
+    let y = time-fits τ low _ (start .pre .0) _ l _ _ _ o (c .before .known-time2 .ensures) in
     omega (arith, x, y, c .larger .ensures)
 
 returns-5 : tie.Need-returns-5
 returns-5 c =
-    let pre = c .before .before .before .before .before .before .before .before .before .before .before .before .pre in
-    let args = c .before .before .before .before .before .before .before .before .before .before .before .before .args in
+    let start = c .before .before .before .before .before .before .before .before .before .before .before .before in
     ap (λ (m : ℕ). c .before .before .before .before .before .before .before .operator-time2 .result + m) (c .larger .ensures)
-    ∙ time-op (timeIn (now (args .operators))) _ _ (pre .1) _ (c .before .before .before .before .before .before .before .before .before .read-node .ensures) _ (c .before .before .before .before .before .before .before .operator-time2 .ensures) _ (c .before .before .before .before .known-time .ensures)
+    ∙ time-op (timeIn (now (start .args .operators))) _ _ (start .pre .1) _ (c .before .before .before .before .before .before .before .before .before .read-node .ensures) _ (c .before .before .before .before .before .before .before .operator-time2 .ensures) _ (c .before .before .before .before .known-time .ensures)
     (c .before .before .before .before .before .before .before .before .if1 .left) (c .before .before .before .before .before .before .if2 .left) (c .before .before .before .before .before .if3 .left) (c .before .before .before .if4 .left) _
-    (ap (treesAt (now (args .program))) (c .before .before .next .ensures) ∙ past-trees _ _ _ (λ l. pre .2 _ (omega arith) l .end)) _ (c .before .known-time2 .ensures)
+    (ap (treesAt (now (start .args .program))) (c .before .before .next .ensures) ∙ past-trees _ _ _ (λ l. start .pre .2 _ (omega arith) l .end)) _ (c .before .known-time2 .ensures)
 
 pub time-at-spec : {M : Type 1} → statement M
 time-at-spec =

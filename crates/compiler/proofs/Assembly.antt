@@ -21,7 +21,7 @@ use Rattle.theory.specs.Numbering.Count.{fits}
 use Rattle.theory.specs.Program.Accepted.{program-fit}
 use Rattle.theory.specs.Program.Size.{few-nodes}
 use Rattle.theory.specs.NetlistFile.CellBytes.{from-bytes, cells-are}
-use Rattle.netlist.proofs.Writes.{overwrite-sets}
+use Rattle.word.proofs.Puts.{overwrite-sets}
 use Rattle.netlist.proofs.Bytes.{cell-bytes-length}
 use Rattle.compiler.specs.declared.walk.Place.{Place}
 use Rattle.compiler.specs.declared.ors.Ors.{Ors}

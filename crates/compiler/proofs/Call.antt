@@ -21,7 +21,7 @@ use Rattle.theory.specs.Numbering.Count.{fits}
 use Rattle.theory.specs.Program.Size.{few-nodes}
 use Rattle.netlist.specs.declared.cells.Layout.the-variants.{InList}
 use Rattle.netlist.specs.Offsets.{Room}
-use Rattle.netlist.proofs.Writes.{overwrite-sets}
+use Rattle.word.proofs.Puts.{overwrite-sets}
 use Rattle.netlist.proofs.Putting.{file-length}
 use Rattle.netlist.proofs.Calls.{Tells, refused}
 use Rattle.program.specs.declared.Scanned.{Scanned}

@@ -2,20 +2,20 @@
 -- read them. Assumes nothing.
 use mathlib.Core.Path.{_≡_, refl, sym, _∙_, ap}
 use mathlib.Core.List.{List, [], _∷_}
-use mathlib.Core.Bool.{Bool, true, false, or-true}
+use mathlib.Core.Bool.{Bool, true, false}
 use Prim.Native.Nat.{ℕ, _<_, _≤_}
 use native.Mathlib.Omega.{arith}
-use lib.Dec.{ltb, eqb}
+use lib.Dec.{ltb}
 use lib.ListN.{length, take, drop, replicate, length-take, length-drop}
 use lib.Seq.{take-all}
 use borrow.Author.Tests.{lt-ltb, le-ltb, ltb-true, ltb-false}
 use Rattle.model.specs.declared.Answer.{Answer}
 use Rattle.model.specs.Word.{pick, get32}
-use Rattle.model.specs.Program.{programLengthWrong, checkOf}
 use Rattle.model.specs.TimeTables.{builtIn, load}
 use Rattle.model.specs.Calls.{refusedAnswer, running, runProgramCall}
 use Rattle.model.specs.Hubrun.{decimal, line, refusedWord, linesOf, textOf, hubrunText}
 use Rattle.theory.specs.Refusals.Laws.{by-bool}
+use Rattle.theory.specs.Program.Passed.{long-refused}
 
 picked : {A : Type 0} {b : Bool} (x y : A) → b ≡ true → pick b x y ≡ x
 picked x y e = rw e refl
@@ -40,15 +40,10 @@ module _ (input : List ℕ) where
   run-told netlist state e f told = rw (← e, ← f) told
 
 -- a program above 800 bytes is refused
-length-wrong : (program : List ℕ) → 800 < length program → programLengthWrong program ≡ true
-unfolding programLengthWrong
-length-wrong program h = rw (lt-ltb 800 (length program) h) (or-true (eqb (length program) 0))
-
 too-long : (program words : List ℕ) (budget : ℕ) (netlist state : List ℕ) → 800 < length program
     → runProgramCall (load builtIn) program words budget netlist state .answer ≡ refusedAnswer (record { number = 1; place = 0 })
-unfolding runProgramCall checkOf running load
-too-long program words budget netlist state h =
-    rw (length-wrong program h) refl
+unfolding runProgramCall running load
+too-long program words budget netlist state h = rw (long-refused (load builtIn .times) program h) refl
 
 refused-text : (input : List ℕ) → 836 < length input → hubrunText input ≡ textOf (refusedAnswer (record { number = 1; place = 0 }))
 refused-text input h =

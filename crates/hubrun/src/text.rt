@@ -40,7 +40,7 @@ fn put_run(out: &mut [u8], word: &[u8], instant: u32, words: [u16; 16]) -> usize
     ensures next { λ r. ⌜ r ≡ length ((now (word .entry) ++ (decimal instant ++ (10 ∷ []))) ++ line (map decimal words)) ⌝ }
     ensures out { λ _. ⌜ now (out .exit) ≡ overwrite ((now (word .entry) ++ (decimal instant ++ (10 ∷ []))) ++ line (map decimal words)) (now (out .entry)) ⌝ }
 {
-    let told = lines::put_word(out, 0, word);
+    let told = word::put_bytes(out, 0, word);
     let first = lines::put_number(out, told, instant as usize, b'\n');
     put_words(out, first, words)
 }

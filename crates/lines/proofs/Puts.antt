@@ -7,15 +7,8 @@ use native.Mathlib.Numerals.{add-one}
 use lib.ListN.{length, set, getD, drop, drop-of-length-le, length-append}
 use lib.Seq.{sets, drop-cons}
 use Rattle.model.specs.Calls.{overwrite}
-use Rattle.netlist.proofs.Writes.{sets-append, overwrite-sets}
-
--- a list, byte by byte
-pub put-more : (d s : List ℕ) (at k : ℕ) → k < length s
-    → sets d (at + k) (drop k s) ≡ sets (set d (at + k) (getD s k 0)) (at + (k + 1)) (drop (k + 1) s)
-put-more d s at k h = let e : at + (k + 1) ≡ suc (at + k) = omega arith in rw (e, add-one k, drop-cons s k 0 h) refl
-
-pub put-done : (d s : List ℕ) (at k : ℕ) → length s ≤ k → sets d at (drop k s) ≡ d
-put-done d s at k h = rw (drop-of-length-le s h) refl
+use Rattle.word.proofs.Puts.{overwrite-sets}
+use Rattle.netlist.proofs.Writes.{sets-append}
 
 module _ (d v : List ℕ) (at b : ℕ) {d′ : List ℕ} {k : ℕ} where
   -- a byte after what was put in

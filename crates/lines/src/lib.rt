@@ -8,20 +8,6 @@ ghost use lib.Seq.{sets};
 ghost use Rattle.model.specs.Calls.{overwrite};
 ghost use Rattle.model.specs.Hubrun.{decimal, line, refusedWord};
 
-// A word of the output line.
-pub fn put_word(out: &mut [u8], at: usize, word: &[u8]) -> usize
-    requires { ⌜ at + length (now word) ≤ length (now out) ⌝ }
-    ensures next { λ r. ⌜ r ≡ at + length (now (word .entry)) ⌝ }
-    ensures out { λ _. ⌜ now (out .exit) ≡ sets (now (out .entry)) at (now (word .entry)) ⌝ }
-{
-    let mut i: usize = 0;
-    while i < word.len() {
-        out[at + i] = word[i];
-        i += 1;
-    }
-    at + i
-}
-
 // A number, without a zero in front: the digits of n / 10, and the last one.
 pub fn put_decimal(out: &mut [u8], at: usize, n: usize) -> usize
     requires { ⌜ at + length (decimal n) ≤ length (now out) ⌝ }
@@ -54,7 +40,7 @@ pub fn put_refusal(out: &mut [u8], number: u8, place: usize) -> usize
     ensures next { λ r. ⌜ r ≡ length (line (refusedWord ∷ decimal number ∷ decimal place ∷ [])) ⌝ }
     ensures out { λ _. ⌜ now (out .exit) ≡ overwrite (line (refusedWord ∷ decimal number ∷ decimal place ∷ [])) (now (out .entry)) ⌝ }
 {
-    let told = put_word(out, 0, b"refused ");
+    let told = word::put_bytes(out, 0, b"refused ");
     let numbered = put_number(out, told, number as usize, b' ');
     put_number(out, numbered, place, b'\n')
 }

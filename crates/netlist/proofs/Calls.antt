@@ -18,7 +18,7 @@ use Rattle.model.specs.NetlistFile.{cellBytes, cellsAt, inList, inFile, fileOf,
 use Rattle.model.specs.Calls.{Told, short, writing, cellsIn, writeCall, readCall}
 use Rattle.netlist.specs.declared.cells.Layout.the-variants.{InList}
 use Rattle.netlist.specs.Offsets.{Room}
-use Rattle.netlist.proofs.Writes.{overwrite-sets}
+use Rattle.word.proofs.Puts.{overwrite-sets}
 use Rattle.netlist.proofs.Bytes.{cells-length, cell-bytes-length}
 use Rattle.netlist.proofs.Putting.{file-length}
 use Rattle.netlist.proofs.FileChecks.{neither, counted}

@@ -5,8 +5,7 @@ use mathlib.Core.Path.{_≡_, refl, sym, _∙_}
 use Prim.Native.Nat.{ℕ, suc, _+_, _<_, _≤_}
 use native.Mathlib.Omega.{arith}
 use lib.ListN.{length, set}
-use lib.Seq.{sets, sets-eq, set-comm}
-use Rattle.model.specs.Calls.{overwrite}
+use lib.Seq.{sets, set-comm}
 
 pub sets-append : (d : List ℕ) (i : ℕ) (u v : List ℕ) → sets d i (u ++ v) ≡ sets (sets d i u) (i + length u) v
 sets-append d i [] v = let e : i + 0 ≡ i = omega arith in rw e refl
@@ -22,6 +21,3 @@ sets-swap d i (a ∷ u) j v h = rw (set-sets d i a j v (omega arith)) (sets-swap
 
 pub sets-before : (d : List ℕ) (i : ℕ) (u v : List ℕ) → sets (sets d (i + length u) v) i u ≡ sets d i (u ++ v)
 sets-before d i u v = sets-swap d i u (i + length u) v (omega arith) ∙ sym (sets-append d i u v)
-
-pub overwrite-sets : (v d : List ℕ) → length v ≤ length d → overwrite v d ≡ sets d 0 v
-overwrite-sets v d h = let e : 0 + length v ≡ length v = omega arith in sym (rw e at (sets-eq v d 0 (omega arith)))

@@ -2,3 +2,11 @@
 pub mod ScanNumbers
 pub mod ScanRuns
 pub mod ScanWords
+pub mod Stack
+pub mod Bytes
+pub mod Bounds
+pub mod Moves
+pub mod Limits
+pub mod Arms
+pub mod Going
+pub mod Giving

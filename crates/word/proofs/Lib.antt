@@ -1,2 +1,3 @@
--- What the proof of the sum uses.
+-- The laws behind the proofs of the functions.
+pub mod Puts
 pub mod Sums

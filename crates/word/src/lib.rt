@@ -1,8 +1,9 @@
-// Leaves: the operators on words, numbers of two and four bytes in slices, and the sum of a block's words.
+// Leaves: the operators on words, numbers of two and four bytes in slices, bytes put into a slice, and the sum of a block's words.
 // Each contract is an equation with the definition of the same name in model/Word, or with wordSum in model/NetlistFile.
 ghost use mathlib.Core.Path.{_≡_};
 ghost use Prim.Native.Nat.{_+_, _*_, _%_, _≤_, _<_};
 ghost use lib.ListN.{length, take, drop};
+ghost use lib.Seq.{sets};
 ghost use Rattle.model.specs.Word.{operate, bit, get16, put16, get32, put32};
 ghost use Rattle.model.specs.NetlistFile.{wordSum};
 
@@ -57,6 +58,20 @@ pub fn put32(s: &mut [u8], i: usize, v: u32)
 {
     put16(s, i, (v % 65536) as u16);
     put16(s, i + 2, (v / 65536) as u16);
+}
+
+// Bytes one after another, from `at` on; answers the place after them.
+pub fn put_bytes(out: &mut [u8], at: usize, bytes: &[u8]) -> usize
+    requires { ⌜ at + length (now bytes) ≤ length (now out) ⌝ }
+    ensures next { λ r. ⌜ r ≡ at + length (now (bytes .entry)) ⌝ }
+    ensures out { λ _. ⌜ now (out .exit) ≡ sets (now (out .entry)) at (now (bytes .entry)) ⌝ }
+{
+    let mut i: usize = 0;
+    while i < bytes.len() {
+        out[at + i] = bytes[i];
+        i += 1;
+    }
+    at + i
 }
 
 // The sum of n words of two bytes, the first of them at byte `from`.

@@ -1,17 +1,17 @@
 -- What an accepted program gives: what each refusal leaves, and that its nodes are those of one statement.
 -- Assumes nothing.
 use mathlib.Core.Path.{_≡_, refl, sym, _∙_, ap, subst}
-use mathlib.Core.Bool.{false}
+use mathlib.Core.Bool.{false, or-true}
 use mathlib.Core.List.{List, [], _∷_, _++_, append-nil}
 use Prim.Native.Nat.{ℕ, zero, suc, _+_, _-_, _≤_, _<_}
 use native.Mathlib.Omega.{arith}
 use native.Mathlib.Numerals.{add-one}
 use lib.ListN.{length, getD, take, drop}
 use lib.Dec.{ltb, eqb}
-use borrow.Author.Tests.{ltb-false}
+use borrow.Author.Tests.{lt-ltb, ltb-false}
 use Rattle.model.specs.declared.Checked.the-variants.{Accepted}
 use Rattle.model.specs.declared.Loaded.{Loaded}
-use Rattle.model.specs.Refusals.{first}
+use Rattle.model.specs.Refusals.{refuse, first}
 use Rattle.model.specs.Program.{Tree, stmt, nodeAt, nodeCount, nodesAt, rowOf, none, asStmt, treesAt, stmtAt, programOf, timeIn, least, clashes, programLengthWrong, faultOf, children, reading, slowAt, clashAt, programChecks, checkOf, preorder}
 use Rattle.model.specs.Calls.{checkCall}
 use Rattle.theory.specs.Refusals.Laws.{not-refused, pick-true, or-false, all-accept, accept-take, refuse-unless, fault-unless, first-place}
@@ -37,6 +37,11 @@ pub record Passed (τ : ℕ → ℕ) (s : List ℕ) : Type 0 where
 pub right-length : (s : List ℕ) → programLengthWrong s ≡ false → length s ≤ 800
 unfolding programLengthWrong
 right-length s h = ltb-false 800 (length s) (or-false (ltb 800 (length s)) _ (or-false (eqb (length s) 0) _ h .1) .0)
+
+-- a program above 800 bytes is refused whatever its nodes are
+pub long-refused : (times s : List ℕ) → 800 < length s → checkOf times s ≡ refuse 1 0
+unfolding checkOf programLengthWrong
+long-refused times s h = rw (lt-ltb 800 (length s) h, or-true (eqb (length s) 0)) refl
 
 module _ (τ : ℕ → ℕ) (s : List ℕ) where
   pub readable : first (take 3 (programChecks τ s)) ≡ Accepted → Readable s

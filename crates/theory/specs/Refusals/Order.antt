@@ -177,7 +177,7 @@ unfolding running
 running-leaves Accepted file s n lent r e = not-refused (sym e)
 running-leaves (Refused q) file s n lent r e = refl
 
-writing-verdict : (c : Checked) (result : List ℕ) (n f : ℕ) (lent : List ℕ) → writtenVerdict (writing c result n f lent .answer) ≡ c
+pub writing-verdict : (c : Checked) (result : List ℕ) (n f : ℕ) (lent : List ℕ) → writtenVerdict (writing c result n f lent .answer) ≡ c
 unfolding writing writtenVerdict
 writing-verdict Accepted result n f lent = refl
 writing-verdict (Refused r) result n f lent = refl

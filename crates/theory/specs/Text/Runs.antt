@@ -77,20 +77,20 @@ not-good e = let z : _≡_ {A = ℕ} 0 1 = ap goods e in absurd (omega arith)
 
 -- the reading of no words, and of one word more, by the test that decides it
 module _ (end : ℕ) (r : Reader) where
-  reads-end : Complete r → readFrom end r [] ≡ good (r .nodes)
+  pub reads-end : Complete r → readFrom end r [] ≡ good (r .nodes)
   unfolding readFrom
   reads-end e = rw (e, readFrom)
 
-  reads-short : complete (r .mode) (r .frames) ≡ false → readFrom end r [] ≡ bad end
+  pub reads-short : complete (r .mode) (r .frames) ≡ false → readFrom end r [] ≡ bad end
   unfolding readFrom
   reads-short e = rw (e, readFrom)
 
   module _ (w : Word) (ws : List Word) where
-    reads-broken : isBroken (step (w .token) r .mode) ≡ true → readFrom end r (w ∷ ws) ≡ bad (w .place)
+    pub reads-broken : isBroken (step (w .token) r .mode) ≡ true → readFrom end r (w ∷ ws) ≡ bad (w .place)
     unfolding readFrom
     reads-broken e = rw (e, readFrom)
 
-    reads-on : isBroken (step (w .token) r .mode) ≡ false → readFrom end r (w ∷ ws) ≡ readFrom end (step (w .token) r) ws
+    pub reads-on : isBroken (step (w .token) r .mode) ≡ false → readFrom end r (w ∷ ws) ≡ readFrom end (step (w .token) r) ws
     unfolding readFrom
     reads-on e = rw (e, readFrom)
 

@@ -1,0 +1,20 @@
+-- `machine::settled` meets its contract. Assumes nothing.
+use native.Mathlib.Omega.{arith}
+use Rattle.text.proofs.Moves.{settled-shown}
+use borrow.Author.Needs.{needs}
+use Rattle.text.proofs.machine.settled.Statement.{statement}
+use Rattle.text.proofs.machine.settled.Tie as tie
+
+pop-requires : tie.Need-pop-requires
+pop-requires c κs = search needs
+
+returns : tie.Need-returns
+returns c =
+    let args = c .before .before .before .args in
+    let pop = c .pop in (
+      omega (arith, pop .ensures .lower),
+      λ nodes. settled-shown (args .codes .now) (args .starts .now) nodes (args .m) (pop .ensures),
+    )
+
+pub settled-spec : {M : Type 1} → statement M
+settled-spec = tie.close (tie.spec pop-requires returns)

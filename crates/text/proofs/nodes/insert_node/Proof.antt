@@ -1,0 +1,74 @@
+-- `nodes::insert_node` meets its contract. Assumes nothing.
+use mathlib.Core.Path.{_∙_}
+use native.Mathlib.Omega.{arith}
+use lib.ListN.{length-set}
+use Rattle.text.proofs.Bytes.{insert-past, insert-here}
+use borrow.Author.Needs.{needs}
+use Rattle.text.proofs.nodes.insert_node.Statement.{statement}
+use Rattle.text.proofs.nodes.insert_node.Tie as tie
+
+returns : tie.Need-returns
+returns c =
+    let args = c .before .before .args in
+    λ ns e k. insert-past (args .nodes .now) (args .at) (args .node) ns (c .before .before .pre) (omega arith)
+
+smaller-requires : tie.Need-smaller-requires
+smaller-requires c κs = search needs
+
+cast-a : tie.Need-cast-a
+cast-a c = search needs
+
+mul-a : tie.Need-mul-a
+mul-a c = search needs
+
+mul-shift : tie.Need-mul-shift
+mul-shift c = search needs
+
+shift-requires : tie.Need-shift-requires
+shift-requires c κs = search needs
+
+slice-write-nodes : tie.Need-slice-write-nodes
+slice-write-nodes c = search needs
+
+add-nodes : tie.Need-add-nodes
+add-nodes c = search needs
+
+slice-write-nodes-2 : tie.Need-slice-write-nodes-2
+slice-write-nodes-2 c = simp length-set (omega arith)
+
+add-put16 : tie.Need-add-put16
+add-put16 c = search needs
+
+put16-requires : tie.Need-put16-requires
+put16-requires c κs = simp length-set (omega arith)
+
+same-length : tie.Need-same-length
+same-length c = c .before .before .put16 .kept .0 ∙ simp length-set (c .before .before .before .before .before .before .shift .kept .0)
+
+returns-2 : tie.Need-returns-2
+returns-2 c =
+    let args = c .before .before .before .before .before .before .before .before .before .before .before .args in
+    let pre = c .before .before .before .before .before .before .before .before .before .before .before .pre in
+    let smaller = c .before .before .before .before .before .before .before .before .smaller in
+    let shift = c .before .before .before .before .before .before .shift in
+    λ ns e k.
+    insert-here (args .nodes .now) (args .at) (args .node) ns pre (omega arith) (rw e at (smaller .ensures)) (rw e at (shift .ensures))
+    (c .before .before .put16 .ensures) k
+
+pub insert-node-spec : {M : Type 1} → statement M
+insert-node-spec =
+    tie.close
+    (tie.spec
+    returns
+    smaller-requires
+    cast-a
+    mul-a
+    mul-shift
+    shift-requires
+    slice-write-nodes
+    add-nodes
+    slice-write-nodes-2
+    add-put16
+    put16-requires
+    same-length
+    returns-2)

@@ -1,0 +1,29 @@
+-- A text read with the built-in times. Assumes nothing.
+use mathlib.Core.Path.{_∙_, ap}
+use denote.Ref.{now}
+use Rattle.model.specs.declared.Loaded.{Loaded}
+use Rattle.model.specs.TextCalls.{readTextCall}
+use borrow.Author.Needs.{needs}
+use Rattle.text.proofs.read_text.Statement.{statement}
+use Rattle.text.proofs.read_text.Tie as tie
+
+built-in-requires : tie.Need-built-in-requires
+built-in-requires c κs = search needs
+
+read-by-requires : tie.Need-read-by-requires
+read-by-requires c κs = search needs
+
+same-length : tie.Need-same-length
+same-length c = search needs
+
+returns : tie.Need-returns
+returns c =
+    let args = c .before .before .before .before .before .before .before .args in
+    let told = c .before .before .read-by .ensures in
+    let loaded = c .before .before .before .before .built-in .ensures in (
+      told .0 ∙ ap (λ (table : Loaded). readTextCall table (now (args .text)) (now (args .lent)) .answer) loaded,
+      told .1 ∙ ap (λ (table : Loaded). readTextCall table (now (args .text)) (now (args .lent)) .lent) loaded,
+    )
+
+pub read-text-spec : {M : Type 1} → statement M
+read-text-spec = tie.close (tie.spec built-in-requires read-by-requires same-length returns)

@@ -1,2 +1,3 @@
 pub mod Rooms
 pub mod FullRun
+pub mod Texts

@@ -3,6 +3,7 @@
 ghost use mathlib.Core.Path.{_≡_};
 ghost use Rattle.model.specs.TimeTables.{builtIn, given, load};
 ghost use Rattle.model.specs.Calls.{checkCall, compileCall, writeCall, readCall, beginCall, continueCall, runNetlistCall, runProgramCall, referenceCall};
+ghost use Rattle.model.specs.TextCalls.{readTextCall, compileTextCall, runTextCall};
 ghost use Rattle.hub.specs.Replies.{checkedReply, writtenReply, answerReply, replied, roomFor, ifRoom};
 use crate::reply;
 
@@ -231,6 +232,59 @@ pub extern "C" fn hub_reference_timed(
         return false;
     }
     let answer = crate::reference_run_timed(table, program, words, budget);
+    let answered = reply::of_answer(answer);
+    reply::put(reply, answered);
+    true
+}
+
+#[no_mangle]
+pub extern "C" fn hub_read_text(source: &[u8], program: &mut [u8], reply: &mut [u8]) -> bool
+    ensures done { λ r. ⌜ r ≡ roomFor (now (reply .entry)) ⌝ }
+    ensures program { λ _. ⌜ now (program .exit) ≡ ifRoom (now (reply .entry)) (readTextCall (load builtIn) (now (source .entry)) (now (program .entry)) .lent) (now (program .entry)) ⌝ }
+    ensures reply { λ _. ⌜ now (reply .exit) ≡ ifRoom (now (reply .entry)) (replied (writtenReply (readTextCall (load builtIn) (now (source .entry)) (now (program .entry)) .answer)) (now (reply .entry))) (now (reply .entry)) ⌝ }
+{
+    if reply.len() < 48 {
+        return false;
+    }
+    let answer = crate::read_text(source, program);
+    let answered = reply::of_written(answer);
+    reply::put(reply, answered);
+    true
+}
+
+#[no_mangle]
+pub extern "C" fn hub_compile_text(source: &[u8], file: &mut [u8], reply: &mut [u8]) -> bool
+    ensures done { λ r. ⌜ r ≡ roomFor (now (reply .entry)) ⌝ }
+    ensures file { λ _. ⌜ now (file .exit) ≡ ifRoom (now (reply .entry)) (compileTextCall (load builtIn) (now (source .entry)) (now (file .entry)) .lent) (now (file .entry)) ⌝ }
+    ensures reply { λ _. ⌜ now (reply .exit) ≡ ifRoom (now (reply .entry)) (replied (writtenReply (compileTextCall (load builtIn) (now (source .entry)) (now (file .entry)) .answer)) (now (reply .entry))) (now (reply .entry)) ⌝ }
+{
+    if reply.len() < 48 {
+        return false;
+    }
+    let answer = crate::compile_text(source, file);
+    let answered = reply::of_written(answer);
+    reply::put(reply, answered);
+    true
+}
+
+#[no_mangle]
+pub extern "C" fn hub_run_text(
+    source: &[u8],
+    words: &[u8],
+    budget: u32,
+    netlist: &mut [u8],
+    state: &mut [u8],
+    reply: &mut [u8],
+) -> bool
+    ensures done { λ r. ⌜ r ≡ roomFor (now (reply .entry)) ⌝ }
+    ensures netlist { λ _. ⌜ now (netlist .exit) ≡ ifRoom (now (reply .entry)) (runTextCall (load builtIn) (now (source .entry)) (now (words .entry)) budget (now (netlist .entry)) (now (state .entry)) .netlist) (now (netlist .entry)) ⌝ }
+    ensures state { λ _. ⌜ now (state .exit) ≡ ifRoom (now (reply .entry)) (runTextCall (load builtIn) (now (source .entry)) (now (words .entry)) budget (now (netlist .entry)) (now (state .entry)) .state) (now (state .entry)) ⌝ }
+    ensures reply { λ _. ⌜ now (reply .exit) ≡ ifRoom (now (reply .entry)) (replied (answerReply (runTextCall (load builtIn) (now (source .entry)) (now (words .entry)) budget (now (netlist .entry)) (now (state .entry)) .answer)) (now (reply .entry))) (now (reply .entry)) ⌝ }
+{
+    if reply.len() < 48 {
+        return false;
+    }
+    let answer = crate::run_text(source, words, budget, netlist, state);
     let answered = reply::of_answer(answer);
     reply::put(reply, answered);
     true

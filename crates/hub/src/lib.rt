@@ -3,6 +3,7 @@
 ghost use mathlib.Core.Path.{_≡_};
 ghost use Rattle.model.specs.TimeTables.{builtIn, given, load};
 ghost use Rattle.model.specs.Calls.{checkCall, compileCall, writeCall, readCall, beginCall, continueCall, runNetlistCall, runProgramCall, referenceCall};
+ghost use Rattle.model.specs.TextCalls.{readTextCall, compileTextCall, runTextCall};
 
 pub mod exports; // the calls for other languages
 mod full; // the full run of a program
@@ -132,4 +133,47 @@ pub fn reference_run_timed(table: &[u8], program: &[u8], words: &[u8], budget: u
     ensures { λ r. ⌜ r ≡ referenceCall (load (given (now (table .entry)))) (now (program .entry)) (now (words .entry)) budget ⌝ }
 {
     rules::reference_run_timed(table, program, words, budget)
+}
+
+// The program that a text stands for, into a lent buffer.
+pub fn read_text(source: &[u8], program: &mut [u8]) -> Written
+    ensures answer { λ r. ⌜ r ≡ readTextCall (load builtIn) (now (source .entry)) (now (program .entry)) .answer ⌝ }
+    ensures lent { λ _. ⌜ now (program .exit) ≡ readTextCall (load builtIn) (now (source .entry)) (now (program .entry)) .lent ⌝ }
+{
+    text::read_text(source, program)
+}
+
+// The netlist file of a text's program.
+pub fn compile_text(source: &[u8], file: &mut [u8]) -> Written
+    ensures answer { λ r. ⌜ r ≡ compileTextCall (load builtIn) (now (source .entry)) (now (file .entry)) .answer ⌝ }
+    ensures lent { λ _. ⌜ now (file .exit) ≡ compileTextCall (load builtIn) (now (source .entry)) (now (file .entry)) .lent ⌝ }
+{
+    let mut program = [0u8; 800];
+    let told = text::program_of(source, &mut program);
+    match told {
+        Written::Refused(r) => Written::Refused(r),
+        Written::Done { count, finish: _ } => compiler::compile(&program[..count], file),
+    }
+}
+
+// A full run of a text's program.
+pub fn run_text(
+    source: &[u8],
+    words: &[u8],
+    budget: u32,
+    netlist: &mut [u8],
+    state: &mut [u8],
+) -> Answer
+    ensures answer { λ r. ⌜ r ≡ runTextCall (load builtIn) (now (source .entry)) (now (words .entry)) budget (now (netlist .entry)) (now (state .entry)) .answer ⌝ }
+    ensures netlist { λ _. ⌜ now (netlist .exit) ≡ runTextCall (load builtIn) (now (source .entry)) (now (words .entry)) budget (now (netlist .entry)) (now (state .entry)) .netlist ⌝ }
+    ensures state { λ _. ⌜ now (state .exit) ≡ runTextCall (load builtIn) (now (source .entry)) (now (words .entry)) budget (now (netlist .entry)) (now (state .entry)) .state ⌝ }
+{
+    let mut program = [0u8; 800];
+    let told = text::program_of(source, &mut program);
+    match told {
+        Written::Refused(r) => simulator::refused(r),
+        Written::Done { count, finish: _ } => {
+            run_program(&program[..count], words, budget, netlist, state)
+        }
+    }
 }

@@ -9,23 +9,23 @@ use Rattle.lines.proofs.Puts.{number-put, put-both, put-over}
 use Rattle.lines.proofs.put_refusal.Statement.{statement}
 use Rattle.lines.proofs.put_refusal.Tie as tie
 
-slice-aggregate-put-word : tie.Need-slice-aggregate-put-word
-slice-aggregate-put-word c = search needs
+slice-aggregate-put-bytes : tie.Need-slice-aggregate-put-bytes
+slice-aggregate-put-bytes c = search needs
 
-put-word-requires : tie.Need-put-word-requires
-put-word-requires c κs = search needs
+put-bytes-requires : tie.Need-put-bytes-requires
+put-bytes-requires c κs = search needs
 
 put-number-requires : tie.Need-put-number-requires
 put-number-requires c κs =
     let start = c .before .before .before .before .before .before .before in
-    omega (arith, start .pre, decimal-length (start .args .number), c .before .before .before .put-word .ensures .0)
+    omega (arith, start .pre, decimal-length (start .args .number), c .before .before .before .put-bytes .ensures .0)
 
 put-number-requires-2 : tie.Need-put-number-requires-2
 put-number-requires-2 c κs =
     let number = c .before .before .before in
     let word = number .before .before .before .before in
     let start = word .before .before .before .before in
-    omega (arith, start .pre, decimal-length (start .args .number), decimal-length (start .args .place), word .put-word .ensures .0, number .put-number .ensures .0)
+    omega (arith, start .pre, decimal-length (start .args .number), decimal-length (start .args .place), word .put-bytes .ensures .0, number .put-number .ensures .0)
 
 same-length : tie.Need-same-length
 same-length c = search needs
@@ -41,19 +41,19 @@ returns c =
     let n = decimal (start .args .number) in
     let p = decimal (start .args .place) in
     let w : List ℕ = 114 ∷ 101 ∷ 102 ∷ 117 ∷ 115 ∷ 101 ∷ 100 ∷ 32 ∷ [] in
-    let both = put-both (word .put-word .last .0) (word .put-word .result) (n ++ (32 ∷ [])) (p ++ (10 ∷ []))
-    (number-put (word .put-word .last .0) (word .put-word .result) n 32 (number .put-number .ensures))
+    let both = put-both (word .put-bytes .last .0) (word .put-bytes .result) (n ++ (32 ∷ [])) (p ++ (10 ∷ []))
+    (number-put (word .put-bytes .last .0) (word .put-bytes .result) n 32 (number .put-number .ensures))
     (number-put (number .put-number .last .0) (number .put-number .result) p 10 (place .put-number2 .ensures)) in
-    let all = put-both d 0 w (n ++ (32 ∷ (p ++ (10 ∷ [])))) (word .put-word .ensures) (rw append-assoc at both) in
+    let all = put-both d 0 w (n ++ (32 ∷ (p ++ (10 ∷ [])))) (word .put-bytes .ensures) (rw append-assoc at both) in
     put-over d (w ++ (n ++ (32 ∷ (p ++ (10 ∷ []))))) all
-    (omega (arith, start .pre, decimal-length (start .args .number), decimal-length (start .args .place), word .put-word .ensures .0, number .put-number .ensures .0, place .put-number2 .ensures .0))
+    (omega (arith, start .pre, decimal-length (start .args .number), decimal-length (start .args .place), word .put-bytes .ensures .0, number .put-number .ensures .0, place .put-number2 .ensures .0))
 
 pub put-refusal-spec : {M : Type 1} → statement M
 put-refusal-spec =
     tie.close
     (tie.spec
-    slice-aggregate-put-word
-    put-word-requires
+    slice-aggregate-put-bytes
+    put-bytes-requires
     put-number-requires
     put-number-requires-2
     same-length

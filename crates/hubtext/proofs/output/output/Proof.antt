@@ -1,0 +1,65 @@
+-- `output::output` meets its contract, by cases on what reading tells. Assumes nothing.
+use mathlib.Core.Path.{sym, _∙_}
+use native.Mathlib.Omega.{arith}
+use lib.ListN.{length-take}
+use Rattle.hubtext.proofs.Outputs.{done-put, refused-output, done-fits}
+use borrow.Author.Needs.{needs}
+use Rattle.hubtext.proofs.output.output.Statement.{statement}
+use Rattle.hubtext.proofs.output.output.Tie as tie
+
+slice-aggregate-read-text : tie.Need-slice-aggregate-read-text
+slice-aggregate-read-text c = search needs
+
+read-text-requires : tie.Need-read-text-requires
+read-text-requires c κs = search needs
+
+enum-known-told : tie.Need-enum-known-told
+enum-known-told c = search needs
+
+array-share-prefix-program : tie.Need-array-share-prefix-program
+array-share-prefix-program c =
+    let read = c .before .before .before .before .before .read-text in
+    omega (arith, done-fits (c .before .before .before .before .before .before .before .before .args .source .now) _ _ (sym (read .ensures .0) ∙ c .before .before .told .given .1), read .kept .1 .0)
+
+slice-aggregate-put-bytes : tie.Need-slice-aggregate-put-bytes
+slice-aggregate-put-bytes c =
+    let read = c .before .before .before .before .before .before .read-text in
+    simp length-take (omega (arith, done-fits (c .before .before .before .before .before .before .before .before .before .args .source .now) _ _ (sym (read .ensures .0) ∙ c .before .before .before .told .given .1), read .kept .1 .0))
+
+put-bytes-requires : tie.Need-put-bytes-requires
+put-bytes-requires c κs =
+    let read = c .before .before .before .before .before .before .read-text in
+    simp length-take (omega (arith, done-fits (c .before .before .before .before .before .before .before .before .before .args .source .now) _ _ (sym (read .ensures .0) ∙ c .before .before .before .told .given .1), read .kept .1 .0))
+
+enum-known-told-2 : tie.Need-enum-known-told-2
+enum-known-told-2 c = search needs
+
+put-refusal-requires : tie.Need-put-refusal-requires
+put-refusal-requires c κs = search needs
+
+returns : tie.Need-returns
+returns c =
+    let args = c .before .before .before .before .before .before .before .before .before .before .args in
+    let read = c .before .before .before .before .before .before .before .read-text in
+    done-put (args .source .now) _ _ (sym (read .ensures .0) ∙ c .before .before .before .before .told .given .1) (args .out .now) (read .ensures .1) (omega arith) (c .put-bytes .ensures)
+
+returns-2 : tie.Need-returns-2
+returns-2 c =
+    let args = c .before .before .before .before .before .before .before .before .before .args in
+    let e = refused-output (args .source .now) _ (sym (c .before .before .before .before .before .before .read-text .ensures .0) ∙ c .before .before .before .told2 .given .1) in
+    rw e (c .put-refusal .ensures)
+
+pub output-spec : {M : Type 1} → statement M
+output-spec =
+    tie.close
+    (tie.spec
+    slice-aggregate-read-text
+    read-text-requires
+    enum-known-told
+    array-share-prefix-program
+    slice-aggregate-put-bytes
+    put-bytes-requires
+    enum-known-told-2
+    put-refusal-requires
+    returns
+    returns-2)

@@ -1,0 +1,14 @@
+// The program hubtext: output has what it writes. This reads and writes.
+mod output;
+
+use libc::STDIN_FILENO;
+use libc::STDOUT_FILENO;
+
+// A text above 4,096 bytes is refused whatever follows, so 4,097 bytes tell all (cut-text in proofs/Outputs).
+fn main() {
+    let mut source = [0u8; 4097];
+    let n = io::read_full(STDIN_FILENO, &mut source);
+    let mut out = [0u8; 1024];
+    let m = output::output(&source[..n], &mut out);
+    io::write_all(STDOUT_FILENO, &out[..m]);
+}

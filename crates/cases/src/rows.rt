@@ -4,6 +4,7 @@ ghost use mathlib.Core.Path.{_≡_};
 ghost use mathlib.Core.Bool.{true};
 ghost use Prim.Native.Nat.{_*_, _≤_, _<_};
 ghost use lib.ListN.{length, replicate};
+ghost use Rattle.model.specs.TimeTables.{builtIn, load};
 ghost use Rattle.model.specs.Calls.{runProgramCall, referenceCall, refusedAnswer};
 ghost use Rattle.model.specs.Cases.{start, endAnswer};
 ghost use Rattle.cases.specs.Rows.{openAnswer, Same, Holds, kindsSet};
@@ -62,7 +63,7 @@ pub fn set_kinds(program: &mut [u8], from: usize, to: usize, kind: u8)
 }
 
 fn by_circuit(program: &[u8], word: u16, budget: u32) -> Answer
-    ensures { λ r. ⌜ r ≡ runProgramCall (now (program .entry)) (start word) budget (replicate 6656 0) (replicate 40968 0) .answer ⌝ }
+    ensures { λ r. ⌜ r ≡ runProgramCall (load builtIn) (now (program .entry)) (start word) budget (replicate 6656 0) (replicate 40968 0) .answer ⌝ }
 {
     let mut words = [0u8; 32];
     word::put16(&mut words, 0, word);
@@ -72,7 +73,7 @@ fn by_circuit(program: &[u8], word: u16, budget: u32) -> Answer
 }
 
 fn by_rules(program: &[u8], word: u16, budget: u32) -> Answer
-    ensures { λ r. ⌜ r ≡ referenceCall (now (program .entry)) (start word) budget ⌝ }
+    ensures { λ r. ⌜ r ≡ referenceCall (load builtIn) (now (program .entry)) (start word) budget ⌝ }
 {
     let mut words = [0u8; 32];
     word::put16(&mut words, 0, word);

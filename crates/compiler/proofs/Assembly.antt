@@ -8,10 +8,12 @@ use lib.ListN.{length, length-append}
 use lib.Seq.{sets}
 use Rattle.model.specs.declared.Cell.{Cell}
 use Rattle.model.specs.declared.Checked.the-variants.{Accepted}
-use Rattle.model.specs.Program.{Stmt, checkOf, programOf}
+use Rattle.model.specs.declared.Loaded.{Loaded}
+use Rattle.model.specs.Program.{Stmt, programOf}
 use Rattle.model.specs.Circuit.{cell}
 use Rattle.model.specs.NetlistFile.{cellBytes, cellsAt, inList}
 use Rattle.model.specs.Numbering.{delayCount, walkCount, clockSources, dataSources, orCountFrom, clockAt, memoryAt, walkAt, dataAt, headCells, memoriesOf, netlist, finish}
+use Rattle.model.specs.Calls.{checkCall}
 use Rattle.theory.specs.Numbering.Structure.{d-len, w-len}
 use Rattle.theory.specs.Program.Fit.{Formed}
 use Rattle.theory.specs.Numbering.Parts.{delayCells, clockOrs, memoryCells, walkCells, dataOrs, orsFrom-len, outs-len, mems16, net-length}
@@ -44,12 +46,12 @@ record Facts (P : Stmt) : Type 0 where
   len : length (netlist P) ≡ dataAt P + orCountFrom (dataSources P (walkAt P)) 0 16
   most : length (netlist P) ≤ 619
 
-facts : (s : List ℕ) → checkOf s ≡ Accepted → Facts (programOf s)
-facts s e =
+facts : (table : Loaded) (s : List ℕ) → checkCall table s ≡ Accepted → Facts (programOf s)
+facts table s e =
     let P = programOf s in
-    let n = few-nodes s e in
+    let n = few-nodes table s e in
     record {
-      formed = program-fit s e .formed;
+      formed = program-fit table s e .formed;
       assigned = omega (arith, n, few P);
       delayed = omega (arith, n, few P);
       walked = omega (arith, n, few P);
@@ -79,7 +81,7 @@ module _ {M : ℕ} {P : Stmt} {p e : Place} {before after ms marked : List ℕ} 
 
 module _ {s ends : List ℕ} {n : ℕ} (G : Given s ends n) where
   F : Facts (programOf s)
-  F = facts s (G .accepted)
+  F = facts (G .table) s (G .accepted)
 
   -- the first walk
   pub first-ready : Ready 0 (programOf s) (place 0 3 203 0) n
@@ -208,7 +210,7 @@ pub made : {s ends : List ℕ} {n : ℕ} → Given s ends n → {b₁ b₂ b₃ 
     → b₆ ≡ write 2 (cell 1 0 0 0 ∷ []) b₅
     → Made (programOf s) b₆ (record { count = w .count; finish = w .finish })
 made {s} G {b₃ = b₃} l K W e₃ e₄ e₅ e₆ =
-    let f = facts s (G .accepted) in
+    let f = facts (G .table) s (G .accepted) in
     let P = programOf s in
     let head : write 2 (cell 1 0 0 0 ∷ []) (write 1 (cell 33 0 0 0 ∷ []) (write 0 (cell 32 0 0 0 ∷ []) b₃)) ≡ write 0 headCells b₃ =
     ap (write 2 (cell 1 0 0 0 ∷ [])) (write-append 0 1 (cell 32 0 0 0 ∷ []) (cell 33 0 0 0 ∷ []) b₃ refl)

@@ -3,10 +3,12 @@ use mathlib.Core.Path.{_≡_}
 use mathlib.Core.List.{List}
 use Prim.Native.Nat.{ℕ}
 use lib.ListN.{length}
+use Rattle.model.specs.declared.Loaded.{Loaded}
 use Rattle.model.specs.declared.Checked.the-variants.{Accepted}
-use Rattle.model.specs.Program.{Stmt, checkOf}
+use Rattle.model.specs.Program.{Stmt}
 use Rattle.model.specs.NetlistFile.{cellsAt, inList}
 use Rattle.model.specs.Numbering.{clockAt, memoryAt, dataAt, walkAt, clockWires, dataWires, netlist, finish}
+use Rattle.model.specs.Calls.{checkCall}
 use Rattle.theory.specs.Numbering.Parts.{delayCells, clockOrs, walkCells, dataOrs}
 use Rattle.program.specs.Ends.{Laid}
 use Rattle.compiler.specs.declared.ors.Ors.{Ors}
@@ -14,9 +16,10 @@ use Rattle.compiler.specs.declared.whole.Finished.{Finished}
 use Rattle.compiler.specs.declared.whole.Netlist.{Netlist}
 use Rattle.compiler.specs.Writes.{write, both}
 
--- an accepted program with its array of subtree ends, and a list of 619 cells
+-- a program that is accepted with some table, its array of subtree ends, and a list of 619 cells
 pub record Given (s ends : List ℕ) (n : ℕ) : Type 0 where
-  pub accepted : checkOf s ≡ Accepted
+  pub table : Loaded
+  pub accepted : checkCall table s ≡ Accepted
   pub laid : Laid s ends
   pub size : n ≡ 3714
 

@@ -8,16 +8,17 @@ use lib.Dec.{ltb}
 use lib.ListN.{length, take, drop, length-append}
 use lib.Seq.{take-append-seam}
 use Rattle.model.specs.declared.Refusal.{Refusal}
+use Rattle.model.specs.declared.Loaded.{Loaded}
 use Rattle.model.specs.declared.Checked.{Checked}
 use Rattle.model.specs.declared.Checked.the-variants.{Accepted, Refused}
 use Rattle.model.specs.Refusals.{refuse, first}
-use Rattle.model.specs.Program.{checkOf, programOf}
+use Rattle.model.specs.Program.{programOf}
 use Rattle.model.specs.Numbering.{netlist, finish}
 use Rattle.model.specs.NetlistFile.{cellsOf}
 use Rattle.model.specs.State.{stateSize}
 use Rattle.model.specs.Calls.{short, checkCall, overwrite, compiledFile, refusedAnswer, shows, running, writing, fullState, fullCount, runProgramChecks, runProgramCall}
 use Rattle.model.specs.Promises.{Bytes}
-use Rattle.theory.specs.Refusals.Laws.{all-accept, refuse-unless}
+use Rattle.theory.specs.Refusals.Laws.{all-accept, refuse-unless, first-take, first-drop, accept-take}
 use Rattle.theory.specs.Program.Size.{few-nodes}
 use Rattle.theory.specs.Numbering.Parts.{net-length}
 use Rattle.theory.specs.Numbering.Count.{fits}
@@ -26,8 +27,8 @@ use Rattle.theory.specs.Promises.Demands.{compiled-accepted}
 use Rattle.simulator.specs.Fits.{Runs}
 
 -- A netlist has few cells
-pub few-cells : (program : List ℕ) → checkOf program ≡ Accepted → length (netlist (programOf program)) ≤ 619
-few-cells program e = fits (programOf program) (few-nodes program e) .1
+pub few-cells : (table : Loaded) (program : List ℕ) → checkCall table program ≡ Accepted → length (netlist (programOf program)) ≤ 619
+few-cells table program e = fits (programOf program) (few-nodes table program e) .1
 
 -- the part of a list that a result was written over
 pub part-is : (result lent after : List ℕ) (n : ℕ) → n ≡ length result → after ≡ overwrite result lent → take (n - 0) (drop 0 after) ≡ result
@@ -38,27 +39,31 @@ part-is result lent after n e q =
 pub part-fits : (result lent after : List ℕ) (n : ℕ) → n ≡ length result → after ≡ overwrite result lent → n ≤ length after
 part-fits result lent after n e q = omega (arith, e, ap length q, length-append result (drop (length result) lent))
 
--- what the check of a program tells
-pub check-told : (program : List ℕ) {c : Checked} → checkCall program ≡ c → checkOf program ≡ c
-unfolding checkCall
-check-told program e = e
+module _ (table : Loaded) (program words : List ℕ) (budget : ℕ) (file state : List ℕ) where
+  abbrev checks : List Checked
+  checks = runProgramChecks table program words budget file state
 
-module _ (program words : List ℕ) (budget : ℕ) (file state : List ℕ) where
   abbrev verdict : Checked
-  verdict = first (runProgramChecks program words budget file state)
+  verdict = first checks
 
   -- Which comes first --------------------------------------------------------------------------------------------------------------------
 
-  pub at-program : {r : Refusal} → checkOf program ≡ Refused r → Refused r ≡ verdict
-  at-program e = rw e refl
+  pub at-program : {r : Refusal} → checkCall table program ≡ Refused r → Refused r ≡ verdict
+  unfolding checkCall
+  at-program e = sym (first-take 2 checks e)
 
-  module _ (e : checkOf program ≡ Accepted) where
+  module _ (e : checkCall table program ≡ Accepted) where
+    -- the table and the program are accepted, and what refuses comes after them
+    after-program : verdict ≡ first (drop 2 checks)
+    unfolding checkCall
+    after-program = first-drop 2 checks e
+
     pub at-budget : 1000000 < budget → refuse 13 0 ≡ verdict
-    at-budget b = rw (e, lt-ltb 1000000 budget b) refl
+    at-budget b = rw (after-program, lt-ltb 1000000 budget b) refl
 
     module _ (b : budget ≤ 1000000) where
       pub at-words : length words < 32 → refuse 14 0 ≡ verdict
-      at-words l = rw (e, le-ltb 1000000 budget b, lt-ltb (length words) 32 l) refl
+      at-words l = rw (after-program, le-ltb 1000000 budget b, lt-ltb (length words) 32 l) refl
 
       module _ (l : 32 ≤ length words) {n : ℕ} (count : n ≡ length (netlist (programOf program))) where
         file-size : length (compiledFile program) ≡ 512 * ((n + 83) / 84)
@@ -70,16 +75,16 @@ module _ (program words : List ℕ) (budget : ℕ) (file state : List ℕ) where
             ∙ ap (λ (n : ℕ). 8 + 40 * n) (sym count)
 
         pub at-file : length file < 512 * ((n + 83) / 84) → refuse 14 0 ≡ verdict
-        at-file s = rw (e, le-ltb 1000000 budget b, le-ltb (length words) 32 l, file-size, lt-ltb (length file) _ s) refl
+        at-file s = rw (after-program, le-ltb 1000000 budget b, le-ltb (length words) 32 l, file-size, lt-ltb (length file) _ s) refl
 
         module _ (s : 512 * ((n + 83) / 84) ≤ length file) where
           pub at-state : length state < 8 + 40 * n → refuse 14 0 ≡ verdict
           at-state t =
-              rw (e, le-ltb 1000000 budget b, le-ltb (length words) 32 l, file-size, le-ltb (length file) _ s, state-size, lt-ltb (length state) _ t) refl
+              rw (after-program, le-ltb 1000000 budget b, le-ltb (length words) 32 l, file-size, le-ltb (length file) _ s, state-size, lt-ltb (length state) _ t) refl
 
           pub at-none : 8 + 40 * n ≤ length state → Accepted ≡ verdict
           at-none t =
-              rw (e, le-ltb 1000000 budget b, le-ltb (length words) 32 l, file-size, le-ltb (length file) _ s, state-size, le-ltb (length state) _ t) refl
+              rw (after-program, le-ltb 1000000 budget b, le-ltb (length words) 32 l, file-size, le-ltb (length file) _ s, state-size, le-ltb (length state) _ t) refl
 
   -- A run that is not refused ------------------------------------------------------------------------------------------------------------
 
@@ -87,35 +92,36 @@ module _ (program words : List ℕ) (budget : ℕ) (file state : List ℕ) where
   long-enough has needs e = ltb-false has needs (refuse-unless (ltb has needs) 14 0 e)
 
   pub record Ready : Type 0 where
-    pub accepted : checkOf program ≡ Accepted
+    pub accepted : checkCall table program ≡ Accepted
     pub few : budget ≤ 1000000
     pub start : 32 ≤ length words
     pub fits : length (compiledFile program) ≤ length file
     pub room : stateSize (cellsOf (compiledFile program)) ≤ length state
 
   pub ready : verdict ≡ Accepted → Ready
+  unfolding checkCall
   ready e =
-      let a = all-accept (runProgramChecks program words budget file state) e in
+      let a = all-accept checks e in
       record {
-        accepted = a 0;
-        few = ltb-false 1000000 budget (refuse-unless (ltb 1000000 budget) 13 0 (a 1));
-        start = long-enough (length words) 32 (a 2);
-        fits = long-enough (length file) (length (compiledFile program)) (a 3);
-        room = long-enough (length state) (stateSize (cellsOf (compiledFile program))) (a 4);
+        accepted = accept-take 2 checks e;
+        few = ltb-false 1000000 budget (refuse-unless (ltb 1000000 budget) 13 0 (a 2));
+        start = long-enough (length words) 32 (a 3);
+        fits = long-enough (length file) (length (compiledFile program)) (a 4);
+        room = long-enough (length state) (stateSize (cellsOf (compiledFile program))) (a 5);
       }
 
   pub runs : Bytes program → Ready → Runs (compiledFile program) state
-  runs bytes r = record { accepted = compiled-accepted program bytes (r .accepted); room = r .room }
+  runs bytes r = record { accepted = compiled-accepted table program bytes (r .accepted); room = r .room }
 
   -- What the call tells ------------------------------------------------------------------------------------------------------------------
 
-  pub refused-call : {r : Refusal} → verdict ≡ Refused r → runProgramCall program words budget file state ≡ record { answer = refusedAnswer r; netlist = file; state = state }
+  pub refused-call : {r : Refusal} → verdict ≡ Refused r → runProgramCall table program words budget file state ≡ record { answer = refusedAnswer r; netlist = file; state = state }
   unfolding runProgramCall running writing
   refused-call e = rw e refl
 
   pub accepted-call : verdict ≡ Accepted →
       let f = compiledFile program in
       let s = fullState f words budget state in
-      runProgramCall program words budget file state ≡ record { answer = shows f s (fullCount f words budget state); netlist = overwrite f file; state = s }
+      runProgramCall table program words budget file state ≡ record { answer = shows f s (fullCount f words budget state); netlist = overwrite f file; state = s }
   unfolding runProgramCall running writing
   accepted-call e = rw e refl

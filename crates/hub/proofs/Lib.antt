@@ -1,3 +1,3 @@
 pub mod Rooms
 pub mod FullRun
-pub mod Texts
+pub mod OnTexts

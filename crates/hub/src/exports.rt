@@ -1,6 +1,7 @@
 // The calls for other languages: numbers and byte slices in, the answer as 48 bytes in a lent buffer (specs/Replies).
 // Each answers whether there was room for the reply; where there was none it did nothing.
 ghost use mathlib.Core.Path.{_≡_};
+ghost use Rattle.model.specs.TimeTables.{builtIn, given, load};
 ghost use Rattle.model.specs.Calls.{checkCall, compileCall, writeCall, readCall, beginCall, continueCall, runNetlistCall, runProgramCall, referenceCall};
 ghost use Rattle.model.specs.TextCalls.{readTextCall, compileTextCall, runTextCall};
 ghost use Rattle.hub.specs.Replies.{checkedReply, writtenReply, answerReply, replied, roomFor, ifRoom};
@@ -9,7 +10,7 @@ use crate::reply;
 #[no_mangle]
 pub extern "C" fn hub_check(program: &[u8], reply: &mut [u8]) -> bool
     ensures done { λ r. ⌜ r ≡ roomFor (now (reply .entry)) ⌝ }
-    ensures reply { λ _. ⌜ now (reply .exit) ≡ ifRoom (now (reply .entry)) (replied (checkedReply (checkCall (now (program .entry)))) (now (reply .entry))) (now (reply .entry)) ⌝ }
+    ensures reply { λ _. ⌜ now (reply .exit) ≡ ifRoom (now (reply .entry)) (replied (checkedReply (checkCall (load builtIn) (now (program .entry)))) (now (reply .entry))) (now (reply .entry)) ⌝ }
 {
     if reply.len() < 48 {
         return false;
@@ -21,15 +22,49 @@ pub extern "C" fn hub_check(program: &[u8], reply: &mut [u8]) -> bool
 }
 
 #[no_mangle]
+pub extern "C" fn hub_check_timed(table: &[u8], program: &[u8], reply: &mut [u8]) -> bool
+    ensures done { λ r. ⌜ r ≡ roomFor (now (reply .entry)) ⌝ }
+    ensures reply { λ _. ⌜ now (reply .exit) ≡ ifRoom (now (reply .entry)) (replied (checkedReply (checkCall (load (given (now (table .entry)))) (now (program .entry)))) (now (reply .entry))) (now (reply .entry)) ⌝ }
+{
+    if reply.len() < 48 {
+        return false;
+    }
+    let answer = crate::check_timed(table, program);
+    let answered = reply::of_checked(answer);
+    reply::put(reply, answered);
+    true
+}
+
+#[no_mangle]
 pub extern "C" fn hub_compile(program: &[u8], file: &mut [u8], reply: &mut [u8]) -> bool
     ensures done { λ r. ⌜ r ≡ roomFor (now (reply .entry)) ⌝ }
-    ensures file { λ _. ⌜ now (file .exit) ≡ ifRoom (now (reply .entry)) (compileCall (now (program .entry)) (now (file .entry)) .lent) (now (file .entry)) ⌝ }
-    ensures reply { λ _. ⌜ now (reply .exit) ≡ ifRoom (now (reply .entry)) (replied (writtenReply (compileCall (now (program .entry)) (now (file .entry)) .answer)) (now (reply .entry))) (now (reply .entry)) ⌝ }
+    ensures file { λ _. ⌜ now (file .exit) ≡ ifRoom (now (reply .entry)) (compileCall (load builtIn) (now (program .entry)) (now (file .entry)) .lent) (now (file .entry)) ⌝ }
+    ensures reply { λ _. ⌜ now (reply .exit) ≡ ifRoom (now (reply .entry)) (replied (writtenReply (compileCall (load builtIn) (now (program .entry)) (now (file .entry)) .answer)) (now (reply .entry))) (now (reply .entry)) ⌝ }
 {
     if reply.len() < 48 {
         return false;
     }
     let answer = crate::compile(program, file);
+    let answered = reply::of_written(answer);
+    reply::put(reply, answered);
+    true
+}
+
+#[no_mangle]
+pub extern "C" fn hub_compile_timed(
+    table: &[u8],
+    program: &[u8],
+    file: &mut [u8],
+    reply: &mut [u8],
+) -> bool
+    ensures done { λ r. ⌜ r ≡ roomFor (now (reply .entry)) ⌝ }
+    ensures file { λ _. ⌜ now (file .exit) ≡ ifRoom (now (reply .entry)) (compileCall (load (given (now (table .entry)))) (now (program .entry)) (now (file .entry)) .lent) (now (file .entry)) ⌝ }
+    ensures reply { λ _. ⌜ now (reply .exit) ≡ ifRoom (now (reply .entry)) (replied (writtenReply (compileCall (load (given (now (table .entry)))) (now (program .entry)) (now (file .entry)) .answer)) (now (reply .entry))) (now (reply .entry)) ⌝ }
+{
+    if reply.len() < 48 {
+        return false;
+    }
+    let answer = crate::compile_timed(table, program, file);
     let answered = reply::of_written(answer);
     reply::put(reply, answered);
     true
@@ -131,9 +166,9 @@ pub extern "C" fn hub_run_program(
     reply: &mut [u8],
 ) -> bool
     ensures done { λ r. ⌜ r ≡ roomFor (now (reply .entry)) ⌝ }
-    ensures netlist { λ _. ⌜ now (netlist .exit) ≡ ifRoom (now (reply .entry)) (runProgramCall (now (program .entry)) (now (words .entry)) budget (now (netlist .entry)) (now (state .entry)) .netlist) (now (netlist .entry)) ⌝ }
-    ensures state { λ _. ⌜ now (state .exit) ≡ ifRoom (now (reply .entry)) (runProgramCall (now (program .entry)) (now (words .entry)) budget (now (netlist .entry)) (now (state .entry)) .state) (now (state .entry)) ⌝ }
-    ensures reply { λ _. ⌜ now (reply .exit) ≡ ifRoom (now (reply .entry)) (replied (answerReply (runProgramCall (now (program .entry)) (now (words .entry)) budget (now (netlist .entry)) (now (state .entry)) .answer)) (now (reply .entry))) (now (reply .entry)) ⌝ }
+    ensures netlist { λ _. ⌜ now (netlist .exit) ≡ ifRoom (now (reply .entry)) (runProgramCall (load builtIn) (now (program .entry)) (now (words .entry)) budget (now (netlist .entry)) (now (state .entry)) .netlist) (now (netlist .entry)) ⌝ }
+    ensures state { λ _. ⌜ now (state .exit) ≡ ifRoom (now (reply .entry)) (runProgramCall (load builtIn) (now (program .entry)) (now (words .entry)) budget (now (netlist .entry)) (now (state .entry)) .state) (now (state .entry)) ⌝ }
+    ensures reply { λ _. ⌜ now (reply .exit) ≡ ifRoom (now (reply .entry)) (replied (answerReply (runProgramCall (load builtIn) (now (program .entry)) (now (words .entry)) budget (now (netlist .entry)) (now (state .entry)) .answer)) (now (reply .entry))) (now (reply .entry)) ⌝ }
 {
     if reply.len() < 48 {
         return false;
@@ -145,9 +180,33 @@ pub extern "C" fn hub_run_program(
 }
 
 #[no_mangle]
+pub extern "C" fn hub_run_program_timed(
+    table: &[u8],
+    program: &[u8],
+    words: &[u8],
+    budget: u32,
+    netlist: &mut [u8],
+    state: &mut [u8],
+    reply: &mut [u8],
+) -> bool
+    ensures done { λ r. ⌜ r ≡ roomFor (now (reply .entry)) ⌝ }
+    ensures netlist { λ _. ⌜ now (netlist .exit) ≡ ifRoom (now (reply .entry)) (runProgramCall (load (given (now (table .entry)))) (now (program .entry)) (now (words .entry)) budget (now (netlist .entry)) (now (state .entry)) .netlist) (now (netlist .entry)) ⌝ }
+    ensures state { λ _. ⌜ now (state .exit) ≡ ifRoom (now (reply .entry)) (runProgramCall (load (given (now (table .entry)))) (now (program .entry)) (now (words .entry)) budget (now (netlist .entry)) (now (state .entry)) .state) (now (state .entry)) ⌝ }
+    ensures reply { λ _. ⌜ now (reply .exit) ≡ ifRoom (now (reply .entry)) (replied (answerReply (runProgramCall (load (given (now (table .entry)))) (now (program .entry)) (now (words .entry)) budget (now (netlist .entry)) (now (state .entry)) .answer)) (now (reply .entry))) (now (reply .entry)) ⌝ }
+{
+    if reply.len() < 48 {
+        return false;
+    }
+    let answer = crate::run_program_timed(table, program, words, budget, netlist, state);
+    let answered = reply::of_answer(answer);
+    reply::put(reply, answered);
+    true
+}
+
+#[no_mangle]
 pub extern "C" fn hub_reference(program: &[u8], words: &[u8], budget: u32, reply: &mut [u8]) -> bool
     ensures done { λ r. ⌜ r ≡ roomFor (now (reply .entry)) ⌝ }
-    ensures reply { λ _. ⌜ now (reply .exit) ≡ ifRoom (now (reply .entry)) (replied (answerReply (referenceCall (now (program .entry)) (now (words .entry)) budget)) (now (reply .entry))) (now (reply .entry)) ⌝ }
+    ensures reply { λ _. ⌜ now (reply .exit) ≡ ifRoom (now (reply .entry)) (replied (answerReply (referenceCall (load builtIn) (now (program .entry)) (now (words .entry)) budget)) (now (reply .entry))) (now (reply .entry)) ⌝ }
 {
     if reply.len() < 48 {
         return false;
@@ -159,10 +218,30 @@ pub extern "C" fn hub_reference(program: &[u8], words: &[u8], budget: u32, reply
 }
 
 #[no_mangle]
+pub extern "C" fn hub_reference_timed(
+    table: &[u8],
+    program: &[u8],
+    words: &[u8],
+    budget: u32,
+    reply: &mut [u8],
+) -> bool
+    ensures done { λ r. ⌜ r ≡ roomFor (now (reply .entry)) ⌝ }
+    ensures reply { λ _. ⌜ now (reply .exit) ≡ ifRoom (now (reply .entry)) (replied (answerReply (referenceCall (load (given (now (table .entry)))) (now (program .entry)) (now (words .entry)) budget)) (now (reply .entry))) (now (reply .entry)) ⌝ }
+{
+    if reply.len() < 48 {
+        return false;
+    }
+    let answer = crate::reference_run_timed(table, program, words, budget);
+    let answered = reply::of_answer(answer);
+    reply::put(reply, answered);
+    true
+}
+
+#[no_mangle]
 pub extern "C" fn hub_read_text(source: &[u8], program: &mut [u8], reply: &mut [u8]) -> bool
     ensures done { λ r. ⌜ r ≡ roomFor (now (reply .entry)) ⌝ }
-    ensures program { λ _. ⌜ now (program .exit) ≡ ifRoom (now (reply .entry)) (readTextCall (now (source .entry)) (now (program .entry)) .lent) (now (program .entry)) ⌝ }
-    ensures reply { λ _. ⌜ now (reply .exit) ≡ ifRoom (now (reply .entry)) (replied (writtenReply (readTextCall (now (source .entry)) (now (program .entry)) .answer)) (now (reply .entry))) (now (reply .entry)) ⌝ }
+    ensures program { λ _. ⌜ now (program .exit) ≡ ifRoom (now (reply .entry)) (readTextCall (load builtIn) (now (source .entry)) (now (program .entry)) .lent) (now (program .entry)) ⌝ }
+    ensures reply { λ _. ⌜ now (reply .exit) ≡ ifRoom (now (reply .entry)) (replied (writtenReply (readTextCall (load builtIn) (now (source .entry)) (now (program .entry)) .answer)) (now (reply .entry))) (now (reply .entry)) ⌝ }
 {
     if reply.len() < 48 {
         return false;
@@ -174,15 +253,55 @@ pub extern "C" fn hub_read_text(source: &[u8], program: &mut [u8], reply: &mut [
 }
 
 #[no_mangle]
+pub extern "C" fn hub_read_text_timed(
+    table: &[u8],
+    source: &[u8],
+    program: &mut [u8],
+    reply: &mut [u8],
+) -> bool
+    ensures done { λ r. ⌜ r ≡ roomFor (now (reply .entry)) ⌝ }
+    ensures program { λ _. ⌜ now (program .exit) ≡ ifRoom (now (reply .entry)) (readTextCall (load (given (now (table .entry)))) (now (source .entry)) (now (program .entry)) .lent) (now (program .entry)) ⌝ }
+    ensures reply { λ _. ⌜ now (reply .exit) ≡ ifRoom (now (reply .entry)) (replied (writtenReply (readTextCall (load (given (now (table .entry)))) (now (source .entry)) (now (program .entry)) .answer)) (now (reply .entry))) (now (reply .entry)) ⌝ }
+{
+    if reply.len() < 48 {
+        return false;
+    }
+    let answer = crate::read_text_timed(table, source, program);
+    let answered = reply::of_written(answer);
+    reply::put(reply, answered);
+    true
+}
+
+#[no_mangle]
 pub extern "C" fn hub_compile_text(source: &[u8], file: &mut [u8], reply: &mut [u8]) -> bool
     ensures done { λ r. ⌜ r ≡ roomFor (now (reply .entry)) ⌝ }
-    ensures file { λ _. ⌜ now (file .exit) ≡ ifRoom (now (reply .entry)) (compileTextCall (now (source .entry)) (now (file .entry)) .lent) (now (file .entry)) ⌝ }
-    ensures reply { λ _. ⌜ now (reply .exit) ≡ ifRoom (now (reply .entry)) (replied (writtenReply (compileTextCall (now (source .entry)) (now (file .entry)) .answer)) (now (reply .entry))) (now (reply .entry)) ⌝ }
+    ensures file { λ _. ⌜ now (file .exit) ≡ ifRoom (now (reply .entry)) (compileTextCall (load builtIn) (now (source .entry)) (now (file .entry)) .lent) (now (file .entry)) ⌝ }
+    ensures reply { λ _. ⌜ now (reply .exit) ≡ ifRoom (now (reply .entry)) (replied (writtenReply (compileTextCall (load builtIn) (now (source .entry)) (now (file .entry)) .answer)) (now (reply .entry))) (now (reply .entry)) ⌝ }
 {
     if reply.len() < 48 {
         return false;
     }
     let answer = crate::compile_text(source, file);
+    let answered = reply::of_written(answer);
+    reply::put(reply, answered);
+    true
+}
+
+#[no_mangle]
+pub extern "C" fn hub_compile_text_timed(
+    table: &[u8],
+    source: &[u8],
+    file: &mut [u8],
+    reply: &mut [u8],
+) -> bool
+    ensures done { λ r. ⌜ r ≡ roomFor (now (reply .entry)) ⌝ }
+    ensures file { λ _. ⌜ now (file .exit) ≡ ifRoom (now (reply .entry)) (compileTextCall (load (given (now (table .entry)))) (now (source .entry)) (now (file .entry)) .lent) (now (file .entry)) ⌝ }
+    ensures reply { λ _. ⌜ now (reply .exit) ≡ ifRoom (now (reply .entry)) (replied (writtenReply (compileTextCall (load (given (now (table .entry)))) (now (source .entry)) (now (file .entry)) .answer)) (now (reply .entry))) (now (reply .entry)) ⌝ }
+{
+    if reply.len() < 48 {
+        return false;
+    }
+    let answer = crate::compile_text_timed(table, source, file);
     let answered = reply::of_written(answer);
     reply::put(reply, answered);
     true
@@ -198,14 +317,38 @@ pub extern "C" fn hub_run_text(
     reply: &mut [u8],
 ) -> bool
     ensures done { λ r. ⌜ r ≡ roomFor (now (reply .entry)) ⌝ }
-    ensures netlist { λ _. ⌜ now (netlist .exit) ≡ ifRoom (now (reply .entry)) (runTextCall (now (source .entry)) (now (words .entry)) budget (now (netlist .entry)) (now (state .entry)) .netlist) (now (netlist .entry)) ⌝ }
-    ensures state { λ _. ⌜ now (state .exit) ≡ ifRoom (now (reply .entry)) (runTextCall (now (source .entry)) (now (words .entry)) budget (now (netlist .entry)) (now (state .entry)) .state) (now (state .entry)) ⌝ }
-    ensures reply { λ _. ⌜ now (reply .exit) ≡ ifRoom (now (reply .entry)) (replied (answerReply (runTextCall (now (source .entry)) (now (words .entry)) budget (now (netlist .entry)) (now (state .entry)) .answer)) (now (reply .entry))) (now (reply .entry)) ⌝ }
+    ensures netlist { λ _. ⌜ now (netlist .exit) ≡ ifRoom (now (reply .entry)) (runTextCall (load builtIn) (now (source .entry)) (now (words .entry)) budget (now (netlist .entry)) (now (state .entry)) .netlist) (now (netlist .entry)) ⌝ }
+    ensures state { λ _. ⌜ now (state .exit) ≡ ifRoom (now (reply .entry)) (runTextCall (load builtIn) (now (source .entry)) (now (words .entry)) budget (now (netlist .entry)) (now (state .entry)) .state) (now (state .entry)) ⌝ }
+    ensures reply { λ _. ⌜ now (reply .exit) ≡ ifRoom (now (reply .entry)) (replied (answerReply (runTextCall (load builtIn) (now (source .entry)) (now (words .entry)) budget (now (netlist .entry)) (now (state .entry)) .answer)) (now (reply .entry))) (now (reply .entry)) ⌝ }
 {
     if reply.len() < 48 {
         return false;
     }
     let answer = crate::run_text(source, words, budget, netlist, state);
+    let answered = reply::of_answer(answer);
+    reply::put(reply, answered);
+    true
+}
+
+#[no_mangle]
+pub extern "C" fn hub_run_text_timed(
+    table: &[u8],
+    source: &[u8],
+    words: &[u8],
+    budget: u32,
+    netlist: &mut [u8],
+    state: &mut [u8],
+    reply: &mut [u8],
+) -> bool
+    ensures done { λ r. ⌜ r ≡ roomFor (now (reply .entry)) ⌝ }
+    ensures netlist { λ _. ⌜ now (netlist .exit) ≡ ifRoom (now (reply .entry)) (runTextCall (load (given (now (table .entry)))) (now (source .entry)) (now (words .entry)) budget (now (netlist .entry)) (now (state .entry)) .netlist) (now (netlist .entry)) ⌝ }
+    ensures state { λ _. ⌜ now (state .exit) ≡ ifRoom (now (reply .entry)) (runTextCall (load (given (now (table .entry)))) (now (source .entry)) (now (words .entry)) budget (now (netlist .entry)) (now (state .entry)) .state) (now (state .entry)) ⌝ }
+    ensures reply { λ _. ⌜ now (reply .exit) ≡ ifRoom (now (reply .entry)) (replied (answerReply (runTextCall (load (given (now (table .entry)))) (now (source .entry)) (now (words .entry)) budget (now (netlist .entry)) (now (state .entry)) .answer)) (now (reply .entry))) (now (reply .entry)) ⌝ }
+{
+    if reply.len() < 48 {
+        return false;
+    }
+    let answer = crate::run_text_timed(table, source, words, budget, netlist, state);
     let answered = reply::of_answer(answer);
     reply::put(reply, answered);
     true

@@ -1,5 +1,6 @@
 -- The public calls: from the lists that are lent, as they are at entry, to the answer and to the lists at exit. Contracts cite these.
 -- A refused call "changes no lent byte"; "Lent bytes past a result keep their values."
+-- A call that checks a program takes a table of operator times, as it is loaded: 19 to 21 come first.
 -- Assumes nothing: definitions.
 use mathlib.Core.Bool.{not, _||_}
 use mathlib.Core.List.{List, [], _∷_, _++_}
@@ -7,6 +8,7 @@ use Prim.Native.Nat.{ℕ, zero, suc, _+_, _*_, _/_, _%_}
 use lib.Dec.{ltb}
 use lib.ListN.{length, drop, replicate}
 use Rattle.model.specs.declared.Refusal.{Refusal}
+use Rattle.model.specs.declared.Loaded.{Loaded}
 use Rattle.model.specs.declared.Checked.{Checked}
 use Rattle.model.specs.declared.Checked.the-variants.{Accepted}
 use Rattle.model.specs.declared.Outcome.{Outcome}
@@ -60,25 +62,29 @@ short has needs = refuseIf (ltb has needs) 14 0
 
 -- Programs and netlist files -----------------------------------------------------------------------------------------------------------
 
-unfoldable pub checkCall : List ℕ → Checked
-checkCall program = checkOf program
+-- checking: 19 to 21, 1 to 8
+unfoldable pub checkCall : Loaded → List ℕ → Checked
+checkCall table program = first (table .checked ∷ checkOf (table .times) program ∷ [])
 
 -- a result of n bytes or cells is written over a lent list, unless a check refuses it
 unfoldable pub writing : Checked → List ℕ → ℕ → ℕ → List ℕ → Told Written
 writing Accepted result n f lent = record { answer = Done n f; lent = overwrite result lent }
 writing (Checked.Refused r) result n f lent = record { answer = Written.Refused r; lent = lent }
 
--- compiling: 1 to 8, 14
+-- compiling: 19 to 21, 1 to 8, 14
 abbrev pub compiledFile : List ℕ → List ℕ
 compiledFile program = fileOf (netlist (programOf program)) (finish (programOf program))
 
-abbrev pub compileChecks : List ℕ → List ℕ → List Checked
-compileChecks program lent = checkOf program ∷ short (length lent) (length (compiledFile program)) ∷ []
+abbrev pub netlistChecks : List ℕ → List ℕ → List ℕ → List Checked
+netlistChecks times program lent = checkOf times program ∷ short (length lent) (length (compiledFile program)) ∷ []
 
-unfoldable pub compileCall : List ℕ → List ℕ → Told Written
-compileCall program lent =
+abbrev pub compileChecks : Loaded → List ℕ → List ℕ → List Checked
+compileChecks table program lent = table .checked ∷ netlistChecks (table .times) program lent
+
+unfoldable pub compileCall : Loaded → List ℕ → List ℕ → Told Written
+compileCall table program lent =
     let file = compiledFile program in
-    writing (first (compileChecks program lent)) file (length file) (finish (programOf program)) lent
+    writing (first (compileChecks table program lent)) file (length file) (finish (programOf program)) lent
 
 -- writing a netlist, from cells of six bytes each and the finish: a broken cell at the end, a number of cells or a finish that no header
 -- could tell rightly is 11; then 12, 14
@@ -177,26 +183,29 @@ unfoldable pub runNetlistCall : List ℕ → List ℕ → ℕ → List ℕ → T
 runNetlistCall file words n lent =
     running (first (runNetlistChecks file words n lent)) file (fullState file words n lent) (fullCount file words n lent) lent
 
--- a full run of a program, with a list lent for its netlist and one for the state: 1 to 8, 13, 14
+-- a full run of a program, with a list lent for its netlist and one for the state: 19 to 21, 1 to 8, 13, 14
 pub record ToldBoth : Type 0 where
   pub answer : Answer
   pub netlist : List ℕ
   pub state : List ℕ
 
-abbrev pub runProgramChecks : List ℕ → List ℕ → ℕ → List ℕ → List ℕ → List Checked
-runProgramChecks program words n forFile lent =
+abbrev pub fullRunChecks : List ℕ → List ℕ → List ℕ → ℕ → List ℕ → List ℕ → List Checked
+fullRunChecks times program words n forFile lent =
     let file = compiledFile program in
-    checkOf program
+    checkOf times program
     ∷ overBudget n
     ∷ short (length words) 32
     ∷ short (length forFile) (length file)
     ∷ short (length lent) (stateSize (cellsOf file))
     ∷ []
 
-unfoldable pub runProgramCall : List ℕ → List ℕ → ℕ → List ℕ → List ℕ → ToldBoth
-runProgramCall program words n forFile lent =
+abbrev pub runProgramChecks : Loaded → List ℕ → List ℕ → ℕ → List ℕ → List ℕ → List Checked
+runProgramChecks table program words n forFile lent = table .checked ∷ fullRunChecks (table .times) program words n forFile lent
+
+unfoldable pub runProgramCall : Loaded → List ℕ → List ℕ → ℕ → List ℕ → List ℕ → ToldBoth
+runProgramCall table program words n forFile lent =
     let file = compiledFile program in
-    let c = first (runProgramChecks program words n forFile lent) in
+    let c = first (runProgramChecks table program words n forFile lent) in
     let r = running c file (fullState file words n lent) (fullCount file words n lent) lent in
     record { answer = r .answer; netlist = writing c file (length file) 0 forFile .lent; state = r .lent }
 
@@ -218,10 +227,10 @@ unfoldable pub answering : Checked → Answer → Answer
 answering Accepted a = a
 answering (Checked.Refused r) a = refusedAnswer r
 
--- a reference run: 1 to 8, 13, 14
-abbrev pub referenceChecks : List ℕ → List ℕ → ℕ → List Checked
-referenceChecks program words n = checkOf program ∷ overBudget n ∷ short (length words) 32 ∷ []
+-- a reference run: 19 to 21, 1 to 8, 13, 14
+abbrev pub referenceChecks : Loaded → List ℕ → List ℕ → ℕ → List Checked
+referenceChecks table program words n = table .checked ∷ checkOf (table .times) program ∷ overBudget n ∷ short (length words) 32 ∷ []
 
-unfoldable pub referenceCall : List ℕ → List ℕ → ℕ → Answer
-referenceCall program words n =
-    answering (first (referenceChecks program words n)) (referenceAnswer n (run n (programOf program) (wordAt words)))
+unfoldable pub referenceCall : Loaded → List ℕ → List ℕ → ℕ → Answer
+referenceCall table program words n =
+    answering (first (referenceChecks table program words n)) (referenceAnswer n (run n (programOf program) (wordAt words)))

@@ -12,9 +12,10 @@ use Rattle.model.specs.declared.Written.{Written}
 use Rattle.model.specs.declared.Answer.{Answer}
 use Rattle.model.specs.Word.{bit, operate, get16}
 use Rattle.model.specs.Refusals.{refuse, firstFault}
-use Rattle.model.specs.Program.{nodeAt, nodesFrom, rowOf, asExpr, asStmt, exprOf, stmtOf, treeOf, grow, forest, treesAt, exprAt, stmtAt, programOf, time, least, reads, writes, touches, clash, clashes, programLengthWrong, spare, faultOf, children, reading, slowAt, clashAt, checkOf}
+use Rattle.model.specs.Program.{nodeAt, nodesFrom, rowOf, asExpr, asStmt, exprOf, stmtOf, treeOf, grow, forest, treesAt, exprAt, stmtAt, programOf, time, least, reads, writes, touches, clash, clashes, programLengthWrong, spare, faultOf, children, reading, slowAt, clashAt, builtInTimes, checkOf}
 use Rattle.model.specs.Rules.{eval, put, over, kept, after, wait, chain, both, whiles, repeats, run}
 use Rattle.model.specs.Numbering.{netlist, finish}
+use Rattle.model.specs.TimeTables.{builtIn, load}
 use Rattle.model.specs.Calls.{checkCall, compileCall, runProgramCall, refusedAnswer, listed, referenceAnswer, answering, referenceCall}
 use Rattle.model.specs.Netlists.{numbering}
 
@@ -84,10 +85,10 @@ pub data Result : Type 0 where
   checked : Checked → Result
 
 unfoldable pub given : Case → Result
-given (ends p v n t w) = ran (checkCall p) (referenceCall p (start v) n)
-given (refuses p k i) = ran (checkCall p) (referenceCall p (start 0) 100)
+given (ends p v n t w) = ran (checkCall (load builtIn) p) (referenceCall (load builtIn) p (start v) n)
+given (refuses p k i) = ran (checkCall (load builtIn) p) (referenceCall (load builtIn) p (start 0) 100)
 given (compiles p n f) = numbered (length (netlist (programOf p))) (finish (programOf p))
-given (passes p) = checked (checkCall p)
+given (passes p) = checked (checkCall (load builtIn) p)
 
 unfoldable pub wanted : Case → Result
 wanted (ends p v n t w) = ran Accepted (endAnswer t w)
@@ -99,9 +100,9 @@ wanted (passes p) = checked Accepted
 unfoldable pub OnCircuit : Case → Type 0
 OnCircuit (ends p v n t w) =
     (forFile forState : List ℕ) → 6656 ≤ length forFile → 40968 ≤ length forState
-    → runProgramCall p (start v) n forFile forState .answer ≡ endAnswer t w
+    → runProgramCall (load builtIn) p (start v) n forFile forState .answer ≡ endAnswer t w
 OnCircuit (refuses p k i) =
-    (lent : List ℕ) → compileCall p lent ≡ record { answer = Written.Refused (record { number = k; place = i }); lent = lent }
+    (lent : List ℕ) → compileCall (load builtIn) p lent ≡ record { answer = Written.Refused (record { number = k; place = i }); lent = lent }
 OnCircuit (compiles p n f) = Unit {0}
 OnCircuit (passes p) = Unit {0}
 
@@ -111,5 +112,5 @@ Hold [] = Unit {0}
 Hold (c ∷ cs) = (given c ≡ wanted c) × OnCircuit c × Hold cs
 
 pub cases-by-rules : map given cases ≡ map wanted cases
-unfolding cases given wanted times numbering bit operate get16 firstFault nodeAt nodesFrom rowOf asExpr asStmt exprOf stmtOf treeOf grow forest treesAt exprAt stmtAt time least reads writes touches clash clashes programLengthWrong spare faultOf children reading slowAt clashAt checkOf eval put over kept after wait chain both whiles repeats run listed referenceAnswer answering referenceCall checkCall
+unfolding cases given wanted times numbering bit operate get16 firstFault nodeAt nodesFrom rowOf asExpr asStmt exprOf stmtOf treeOf grow forest treesAt exprAt stmtAt time least reads writes touches clash clashes programLengthWrong spare faultOf children reading slowAt clashAt builtInTimes checkOf load eval put over kept after wait chain both whiles repeats run listed referenceAnswer answering referenceCall checkCall
 cases-by-rules = refl

@@ -10,6 +10,7 @@ use Rattle.model.specs.declared.Outcome.{Outcome}
 use Rattle.model.specs.declared.Outcome.the-variants.{Ended, Open, Refused}
 use Rattle.model.specs.declared.Answer.{Answer}
 use Rattle.model.specs.Word.{pick, get32}
+use Rattle.model.specs.TimeTables.{builtIn, load}
 use Rattle.model.specs.Calls.{refusedAnswer, runProgramCall}
 
 -- the decimal digits of a number of at most m digits, with no zero in front
@@ -45,8 +46,8 @@ abbrev pub textOf : Answer → List ℕ
 textOf a = linesOf (a .outcome) (a .instant) (a .words)
 
 -- "reads 32 bytes of start words, a four-byte budget and a program"; "Input under 36 bytes is refusal 1, place 0." Its own buffers have
--- room for every netlist and state.
+-- room for every netlist and state, and its operator times are the built-in ones.
 unfoldable pub hubrunText : List ℕ → List ℕ
 hubrunText input =
     pick (ltb (length input) 36) (textOf (refusedAnswer (record { number = 1; place = 0 })))
-    (textOf (runProgramCall (drop 36 input) (take 32 input) (get32 input 32) (replicate 6656 0) (replicate 40968 0) .answer))
+    (textOf (runProgramCall (load builtIn) (drop 36 input) (take 32 input) (get32 input 32) (replicate 6656 0) (replicate 40968 0) .answer))

@@ -5,6 +5,7 @@ pub mod Rules
 pub mod Circuit
 pub mod Numbering
 pub mod NetlistFile
+pub mod TimeTables
 pub mod State
 pub mod Text
 pub mod Reader

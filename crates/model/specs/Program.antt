@@ -42,35 +42,35 @@ nodeBytes (a ∷ rest) = a .kind ∷ a .delay ∷ (bytes16 (a .n) ++ nodeBytes r
 -- The table --------------------------------------------------------------------------------------------------------------------------
 
 -- sort: 0 unknown, 1 an expression, 2 a statement. delay: used or not. number: 0 no use, 1 a constant, 2 a variable.
--- exprs, stmts: so many expressions and then so many statements are its children. time: the operator time.
-abbrev row : ℕ → ℕ → ℕ → ℕ → ℕ → ℕ → Row
-row s d n e p t = record { sort = s; delay = d; number = n; exprs = e; stmts = p; time = t }
+-- exprs, stmts: so many expressions and then so many statements are its children.
+abbrev row : ℕ → ℕ → ℕ → ℕ → ℕ → Row
+row s d n e p = record { sort = s; delay = d; number = n; exprs = e; stmts = p }
 
 abbrev unknown : Row
-unknown = row 0 0 0 0 0 0
+unknown = row 0 0 0 0 0
 
--- the paper's table: entry k is the row of kind k
+-- the paper's table, but for its times: entry k is the row of kind k
 abbrev pub table : List Row
 table =
     unknown  -- 0
-    ∷ row 1 0 1 0 0 0  -- 1 constant n
-    ∷ row 1 0 2 0 0 0  -- 2 variable n
-    ∷ row 1 0 0 1 0 1  -- 3 complement of all bits
-    ∷ row 1 0 0 2 0 16  -- 4 sum
-    ∷ row 1 0 0 2 0 17  -- 5 difference
-    ∷ row 1 0 0 2 0 1  -- 6 bitwise and
-    ∷ row 1 0 0 2 0 1  -- 7 bitwise or
-    ∷ row 1 0 0 2 0 6  -- 8 equal
-    ∷ row 1 0 0 2 0 17  -- 9 less
+    ∷ row 1 0 1 0 0  -- 1 constant n
+    ∷ row 1 0 2 0 0  -- 2 variable n
+    ∷ row 1 0 0 1 0  -- 3 complement of all bits
+    ∷ row 1 0 0 2 0  -- 4 sum
+    ∷ row 1 0 0 2 0  -- 5 difference
+    ∷ row 1 0 0 2 0  -- 6 bitwise and
+    ∷ row 1 0 0 2 0  -- 7 bitwise or
+    ∷ row 1 0 0 2 0  -- 8 equal
+    ∷ row 1 0 0 2 0  -- 9 less
     ∷ unknown ∷ unknown ∷ unknown ∷ unknown ∷ unknown ∷ unknown
-    ∷ row 2 0 0 0 0 0  -- 16 ok
-    ∷ row 2 1 0 0 0 0  -- 17 tick
-    ∷ row 2 1 2 1 0 0  -- 18 variable n := e
-    ∷ row 2 0 0 0 2 0  -- 19 sequence
-    ∷ row 2 0 0 0 2 0  -- 20 parallel
-    ∷ row 2 1 0 1 2 0  -- 21 if e then P else Q
-    ∷ row 2 1 0 1 1 0  -- 22 while e do P
-    ∷ row 2 1 0 1 1 0  -- 23 repeat P until e
+    ∷ row 2 0 0 0 0  -- 16 ok
+    ∷ row 2 1 0 0 0  -- 17 tick
+    ∷ row 2 1 2 1 0  -- 18 variable n := e
+    ∷ row 2 0 0 0 2  -- 19 sequence
+    ∷ row 2 0 0 0 2  -- 20 parallel
+    ∷ row 2 1 0 1 2  -- 21 if e then P else Q
+    ∷ row 2 1 0 1 1  -- 22 while e do P
+    ∷ row 2 1 0 1 1  -- 23 repeat P until e
     ∷ []
 
 unfoldable pub rowOf : ℕ → Row
@@ -189,8 +189,24 @@ time τ (var n) = τ 2
 time τ (compl e) = τ 3 + time τ e
 time τ (op k a b) = τ k + max (time τ a) (time τ b)
 
-abbrev pub paperTime : ℕ → ℕ
-paperTime k = rowOf k .time
+-- the time of kind k in a list of operator times
+abbrev pub timeIn : List ℕ → ℕ → ℕ
+timeIn times k = getD times k 0
+
+-- the table's operator times: entry k is that of kind k
+unfoldable pub builtInTimes : List ℕ
+builtInTimes =
+    0  -- 0 unknown
+    ∷ 0  -- 1 constant n
+    ∷ 0  -- 2 variable n
+    ∷ 1  -- 3 complement of all bits
+    ∷ 16  -- 4 sum
+    ∷ 17  -- 5 difference
+    ∷ 1  -- 6 bitwise and
+    ∷ 1  -- 7 bitwise or
+    ∷ 6  -- 8 equal
+    ∷ 17  -- 9 less
+    ∷ []
 
 -- "A node's delay d is at least its expression's time, and at least 1 for kinds 17, 18, 22 and 23."
 unfoldable pub least : (ℕ → ℕ) → Stmt → ℕ
@@ -296,5 +312,6 @@ programChecks τ s =
     ∷ firstFault (clashAt s) 0 (nodeCount s)
     ∷ []
 
-unfoldable pub checkOf : List ℕ → Checked
-checkOf s = first (programChecks paperTime s)
+-- with the times of a list
+unfoldable pub checkOf : List ℕ → List ℕ → Checked
+checkOf times s = first (programChecks (timeIn times) s)

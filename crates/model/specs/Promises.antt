@@ -18,11 +18,12 @@ use Rattle.model.specs.declared.Written.the-variants.{Done}
 use Rattle.model.specs.declared.Answer.{Answer}
 use Rattle.model.specs.Word.{pick, bit}
 use Rattle.model.specs.Refusals.{firstFault}
-use Rattle.model.specs.Program.{Stmt, paperTime, programChecks, programOf}
+use Rattle.model.specs.Program.{Stmt, timeIn, programChecks, programOf}
 use Rattle.model.specs.Rules.{Store, Ends}
 use Rattle.model.specs.Circuit.{cellAt, control, Values, level, Obeys, delayed, heldBefore, shape, kDelay, kMerge}
 use Rattle.model.specs.Numbering.{netlist, finish}
 use Rattle.model.specs.NetlistFile.{fileChecks, fileCheck, cellsOf, finishOf}
+use Rattle.model.specs.TimeTables.{tableChecks, Table, given, load}
 use Rattle.model.specs.State.{stateSize, instantOf, nowAt, beforeAt, heldAt, lineBit, beginState, stepState, lastState, evaluated, wordsIn, sound}
 use Rattle.model.specs.Calls.{Told, verdict, writtenVerdict, overwrite, checkCall, compileChecks, compileCall, writeChecks, writeCall, readChecks, readCall, wordAt, beginChecks, beginCall, continueChecks, continueCall, runNetlistChecks, runNetlistCall, runProgramChecks, runProgramCall, referenceChecks, referenceCall, listed}
 
@@ -65,15 +66,19 @@ pub record FirstPlace (fault : ℕ → ℕ) (n : ℕ) (c : Checked) : Type 0 whe
   pub some : (r : Refusal) → c ≡ Checked.Refused r
       → (r .place < n) × (fault (r .place) ≡ r .number) × (1 ≤ r .number) × ((j : ℕ) → j < r .place → fault j ≡ 0)
 
--- of every call: the refusals in the published order, a check of its own for each line, and what a refusal leaves
+-- of every call: the refusals in the published order, a check of its own for each line, and what a refusal leaves. Where a program is checked
+-- it is with the operator times of a table T, "before 17, in this order"
 pub record Demand1 : Type 0 where
   pub places : (fault : ℕ → ℕ) (n : ℕ) → FirstPlace fault n (firstFault fault 0 n)
-  pub programs : (program : List ℕ)
-      → Refuses ((1, 1) ∷ (2, 4) ∷ (5, 6) ∷ (7, 7) ∷ (8, 8) ∷ []) (programChecks paperTime program) (checkCall program)
+  pub tables : (file : List ℕ) → Refuses ((19, 19) ∷ (20, 20) ∷ (21, 21) ∷ []) (tableChecks file) (load (given file) .checked)
+  pub programs : (T : Table) (program : List ℕ)
+      → Refuses ((19, 21) ∷ (1, 1) ∷ (2, 4) ∷ (5, 6) ∷ (7, 7) ∷ (8, 8) ∷ [])
+      (load T .checked ∷ programChecks (timeIn (load T .times)) program) (checkCall (load T) program)
   pub files : (file : List ℕ) → Refuses ((9, 9) ∷ (10, 10) ∷ (11, 11) ∷ (11, 11) ∷ (12, 12) ∷ []) (fileChecks file) (fileCheck file)
-  pub compiling : (program lent : List ℕ) →
-      let c = writtenVerdict (compileCall program lent .answer) in
-      Refuses ((1, 8) ∷ (14, 14) ∷ []) (compileChecks program lent) c × Leaves c lent (compileCall program lent .lent)
+  pub compiling : (T : Table) (program lent : List ℕ) →
+      let c = writtenVerdict (compileCall (load T) program lent .answer) in
+      Refuses ((19, 21) ∷ (1, 8) ∷ (14, 14) ∷ []) (compileChecks (load T) program lent) c
+      × Leaves c lent (compileCall (load T) program lent .lent)
   pub writing : (cells : List ℕ) (f : ℕ) (lent : List ℕ) →
       let c = writtenVerdict (writeCall cells f lent .answer) in
       Refuses ((11, 11) ∷ (12, 12) ∷ (14, 14) ∷ []) (writeChecks cells f lent) c × Leaves c lent (writeCall cells f lent .lent)
@@ -90,13 +95,14 @@ pub record Demand1 : Type 0 where
       let c = verdict (runNetlistCall file words n lent .answer .outcome) in
       Refuses ((9, 12) ∷ (13, 13) ∷ (14, 14) ∷ (14, 14) ∷ []) (runNetlistChecks file words n lent) c
       × Leaves c lent (runNetlistCall file words n lent .lent)
-  pub programRuns : (program words : List ℕ) (n : ℕ) (forFile lent : List ℕ) →
-      let r = runProgramCall program words n forFile lent in
+  pub programRuns : (T : Table) (program words : List ℕ) (n : ℕ) (forFile lent : List ℕ) →
+      let r = runProgramCall (load T) program words n forFile lent in
       let c = verdict (r .answer .outcome) in
-      Refuses ((1, 8) ∷ (13, 13) ∷ (14, 14) ∷ (14, 14) ∷ (14, 14) ∷ []) (runProgramChecks program words n forFile lent) c
+      Refuses ((19, 21) ∷ (1, 8) ∷ (13, 13) ∷ (14, 14) ∷ (14, 14) ∷ (14, 14) ∷ []) (runProgramChecks (load T) program words n forFile lent) c
       × Leaves c forFile (r .netlist) × Leaves c lent (r .state)
-  pub references : (program words : List ℕ) (n : ℕ)
-      → Refuses ((1, 8) ∷ (13, 13) ∷ (14, 14) ∷ []) (referenceChecks program words n) (verdict (referenceCall program words n .outcome))
+  pub references : (T : Table) (program words : List ℕ) (n : ℕ)
+      → Refuses ((19, 21) ∷ (1, 8) ∷ (13, 13) ∷ (14, 14) ∷ []) (referenceChecks (load T) program words n)
+      (verdict (referenceCall (load T) program words n .outcome))
 
 -- Demand 2 -----------------------------------------------------------------------------------------------------------------------------
 -- "The netlist is, cell for cell, the published circuit; the simulator's wires at each instant are the only ones the circuit's equations
@@ -158,8 +164,8 @@ pub record OneRun (net : List Cell) (words : Store) : Type 0 where
   pub controls : (k : ℕ) → k < length net → control (cellAt net k .kind) ≡ true → (t : ℕ) → values k t ≤ 1
 
 pub record Demand2 : Type 0 where
-  pub compiled : (program lent : List ℕ) (n f : ℕ) → Bytes program → compileCall program lent .answer ≡ Done n f
-      → Published program (take n (compileCall program lent .lent)) f
+  pub compiled : (T : Table) (program lent : List ℕ) (n f : ℕ) → Bytes program → compileCall (load T) program lent .answer ≡ Done n f
+      → Published program (take n (compileCall (load T) program lent .lent)) f
   pub files : SameFile
   pub runs : (file : List ℕ) (words : Store) → fileCheck file ≡ Accepted → OneRun (cellsOf file) words
   pub bounded : (file words : List ℕ) → Bytes file → Bytes words → fileCheck file ≡ Accepted → (W : Values) → Obeys (cellsOf file) (wordAt words) W
@@ -254,12 +260,13 @@ pub record Keeps (P : Stmt) (σ : Store) (file : List ℕ) (begun : Told Answer)
       fullRuns n ≡ last ∷ last ∷ []
 
 -- "A program is accepted when compiling gives its netlist. The list starts from the state that an unrefused beginning wrote for that netlist
--- and the start words". The full runs are those of the program and of its netlist.
+-- and the start words". The full runs are those of the program and of its netlist. "Under every table that loads, finish and last words are the
+-- program's."
 unfoldable pub Demand3 : Type 0
 Demand3 =
-    (program forFile words forState : List ℕ) (calls : List Call) (n f : ℕ) → compileCall program forFile .answer ≡ Done n f →
-    let file = take n (compileCall program forFile .lent) in
+    (T : Table) (program forFile words forState : List ℕ) (calls : List Call) (n f : ℕ) → compileCall (load T) program forFile .answer ≡ Done n f →
+    let file = take n (compileCall (load T) program forFile .lent) in
     let begun = beginCall file words forState in
     verdict (begun .answer .outcome) ≡ Accepted →
     Keeps (programOf program) (wordAt words) file begun calls
-    (λ k. runProgramCall program words k forFile forState .answer ∷ runNetlistCall file words k forState .answer ∷ [])
+    (λ k. runProgramCall (load T) program words k forFile forState .answer ∷ runNetlistCall file words k forState .answer ∷ [])

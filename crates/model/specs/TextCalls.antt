@@ -1,10 +1,11 @@
 -- The public calls that take a program as text: from the lists that are lent, as they are at entry, to the answer and to the lists at exit.
--- "17 over the whole text first"; 17 and 18 come before 1.
+-- "17 over the whole text first"; 17 and 18 come before 1, and 19 to 21, of the table of operator times, "before 17".
 -- Assumes nothing: definitions.
 use mathlib.Core.List.{List, [], _∷_, _++_}
 use Prim.Native.Nat.{ℕ}
 use lib.Dec.{ltb}
 use lib.ListN.{length}
+use Rattle.model.specs.declared.Loaded.{Loaded}
 use Rattle.model.specs.declared.Checked.{Checked}
 use Rattle.model.specs.declared.Checked.the-variants.{Accepted}
 use Rattle.model.specs.declared.Written.{Written}
@@ -13,7 +14,7 @@ use Rattle.model.specs.Program.{nodeBytes, checkOf, programOf}
 use Rattle.model.specs.Numbering.{finish}
 use Rattle.model.specs.Text.{wordsOf, outside}
 use Rattle.model.specs.Reader.{Reading, good, bad, readerAtFirst, readFrom}
-use Rattle.model.specs.Calls.{Told, ToldBoth, short, writing, compiledFile, compileChecks, running, fullState, fullCount, runProgramChecks}
+use Rattle.model.specs.Calls.{Told, ToldBoth, short, writing, compiledFile, netlistChecks, running, fullState, fullCount, fullRunChecks}
 
 -- the nodes of a text, or the place where its grammar is broken
 unfoldable pub readingOf : List ℕ → Reading
@@ -36,30 +37,32 @@ textProgram text = bytesRead (readingOf text)
 abbrev pub textChecks : List ℕ → List Checked
 textChecks text = refuseIf (ltb 4096 (length text)) 17 4096 ∷ outside (wordsOf text) ∷ brokenAt (readingOf text) ∷ []
 
--- text to program: 17, 18, 1 to 8, 14. A program has no finish cell: it is told as 0.
-abbrev pub readTextChecks : List ℕ → List ℕ → List Checked
-readTextChecks text lent = textChecks text ++ (checkOf (textProgram text) ∷ short (length lent) (length (textProgram text)) ∷ [])
+-- text to program: 19 to 21, 17, 18, 1 to 8, 14. A program has no finish cell: it is told as 0.
+abbrev pub readTextChecks : Loaded → List ℕ → List ℕ → List Checked
+readTextChecks table text lent =
+    table .checked ∷ textChecks text ++ (checkOf (table .times) (textProgram text) ∷ short (length lent) (length (textProgram text)) ∷ [])
 
-unfoldable pub readTextCall : List ℕ → List ℕ → Told Written
-readTextCall text lent = writing (first (readTextChecks text lent)) (textProgram text) (length (textProgram text)) 0 lent
+unfoldable pub readTextCall : Loaded → List ℕ → List ℕ → Told Written
+readTextCall table text lent = writing (first (readTextChecks table text lent)) (textProgram text) (length (textProgram text)) 0 lent
 
--- text to netlist: 17, 18, 1 to 8, 14
-abbrev pub compileTextChecks : List ℕ → List ℕ → List Checked
-compileTextChecks text lent = textChecks text ++ compileChecks (textProgram text) lent
+-- text to netlist: 19 to 21, 17, 18, 1 to 8, 14
+abbrev pub compileTextChecks : Loaded → List ℕ → List ℕ → List Checked
+compileTextChecks table text lent = table .checked ∷ textChecks text ++ netlistChecks (table .times) (textProgram text) lent
 
-unfoldable pub compileTextCall : List ℕ → List ℕ → Told Written
-compileTextCall text lent =
+unfoldable pub compileTextCall : Loaded → List ℕ → List ℕ → Told Written
+compileTextCall table text lent =
     let program = textProgram text in
     let file = compiledFile program in
-    writing (first (compileTextChecks text lent)) file (length file) (finish (programOf program)) lent
+    writing (first (compileTextChecks table text lent)) file (length file) (finish (programOf program)) lent
 
--- a full run of a text: 17, 18, 1 to 8, 13, 14
-abbrev pub runTextChecks : List ℕ → List ℕ → ℕ → List ℕ → List ℕ → List Checked
-runTextChecks text words n forFile lent = textChecks text ++ runProgramChecks (textProgram text) words n forFile lent
+-- a full run of a text: 19 to 21, 17, 18, 1 to 8, 13, 14
+abbrev pub runTextChecks : Loaded → List ℕ → List ℕ → ℕ → List ℕ → List ℕ → List Checked
+runTextChecks table text words n forFile lent =
+    table .checked ∷ textChecks text ++ fullRunChecks (table .times) (textProgram text) words n forFile lent
 
-unfoldable pub runTextCall : List ℕ → List ℕ → ℕ → List ℕ → List ℕ → ToldBoth
-runTextCall text words n forFile lent =
+unfoldable pub runTextCall : Loaded → List ℕ → List ℕ → ℕ → List ℕ → List ℕ → ToldBoth
+runTextCall table text words n forFile lent =
     let file = compiledFile (textProgram text) in
-    let c = first (runTextChecks text words n forFile lent) in
+    let c = first (runTextChecks table text words n forFile lent) in
     let r = running c file (fullState file words n lent) (fullCount file words n lent) lent in
     record { answer = r .answer; netlist = writing c file (length file) 0 forFile .lent; state = r .lent }

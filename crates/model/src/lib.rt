@@ -1,5 +1,5 @@
 // The public types, by value, and the step of a merge. Definitions that speak of them are in specs/.
-// Numbers and places are those of paper 01, "From the input" and "From the state".
+// Numbers and places are those of paper 01, "From the input" and "From the state", and of paper 02.
 ghost use mathlib.Core.Path.{_≡_};
 ghost use Rattle.model.specs.Circuit.{mergeStep};
 
@@ -50,7 +50,12 @@ pub struct Row {
     pub number: u8,
     pub exprs: u8,
     pub stmts: u8,
-    pub time: u8,
+}
+
+// A table of operator times as it is loaded: what its check says, and the time of each kind from kind 0 on.
+pub struct Loaded {
+    pub checked: Checked,
+    pub times: [u8; 10],
 }
 
 // A cell of a netlist, six bytes.

@@ -32,23 +32,6 @@ fn cells_here(n: usize, b: usize) -> usize
 
 // Checking -------------------------------------------------------------------------------------------------------------------------------
 
-// The sum of the 256 words of block b.
-fn block_sum(s: &[u8], b: usize) -> u16
-    requires { ⌜ 512 * b + 512 ≤ length (now s) ⌝ }
-    ensures { λ r. ⌜ r ≡ wordSum (blockAt (now (s .entry)) b) % 65536 ⌝ }
-{
-    let mut sum: u16 = 0;
-    let mut i = 512 * b;
-    let mut left: usize = 512;
-    while 0 < left {
-        let w = word::get16(s, i);
-        sum = std::num::wrapping_add_u16(sum, w);
-        i += 2;
-        left -= 2;
-    }
-    sum
-}
-
 // The first of m blocks whose check is wrong.
 pub fn check_sums(s: &[u8], m: usize) -> Checked
     requires { ⌜ 512 * m ≤ length (now s) ⌝ }
@@ -56,7 +39,7 @@ pub fn check_sums(s: &[u8], m: usize) -> Checked
 {
     let mut b: usize = 0;
     while b < m {
-        if block_sum(s, b) != 0 {
+        if word::sum16(s, 512 * b, 256) != 0 {
             return Checked::Refused(Refusal {
                 number: 10,
                 place: b,

@@ -8,9 +8,11 @@ use native.Mathlib.Decide.{ℕ-discrete}
 use lib.ListN.{length, getD, drop, set}
 use lib.Seq.{getD-set-same, getD-set-other}
 use Rattle.model.specs.declared.Node.{Node}
+use Rattle.model.specs.declared.Loaded.{Loaded}
 use Rattle.model.specs.declared.Checked.the-variants.{Accepted}
 use Rattle.model.specs.Refusals.{first}
-use Rattle.model.specs.Program.{nodeAt, nodeCount, arity, exprAt, time, paperTime, programChecks, checkOf}
+use Rattle.model.specs.Program.{nodeAt, nodeCount, arity, exprAt, time, timeIn, programChecks, checkOf}
+use Rattle.model.specs.Calls.{checkCall}
 use Rattle.program.specs.declared.Scanned.{Scanned}
 use Rattle.theory.specs.Program.Passed.{accepted}
 use Rattle.program.specs.Ends.{EndAt, Laid, skips, end-more}
@@ -21,14 +23,19 @@ pub record Shaped (τ : ℕ → ℕ) (s times ends : List ℕ) (j : ℕ) : Type 
   pub timed : getD times j 0 ≡ time τ (exprAt s j)
 
 -- refusals 7 and 8
-pub record Measures (s : List ℕ) (r : Scanned) : Type 0 where
-  pub checked : r .checked ≡ first (drop 3 (programChecks paperTime s))
-  pub shaped : (j : ℕ) → j < nodeCount s → Shaped paperTime s (r .times) (r .ends) j
+pub record Measures (operators s : List ℕ) (r : Scanned) : Type 0 where
+  pub checked : r .checked ≡ first (drop 3 (programChecks (timeIn operators) s))
+  pub shaped : (j : ℕ) → j < nodeCount s → Shaped (timeIn operators) s (r .times) (r .ends) j
 
--- all refusals; of a refused program the arrays are free
-pub record Scans (s : List ℕ) (r : Scanned) : Type 0 where
-  pub checked : r .checked ≡ checkOf s
-  pub shaped : checkOf s ≡ Accepted → (j : ℕ) → j < nodeCount s → Shaped paperTime s (r .times) (r .ends) j
+-- refusals 1 to 8; of a refused program the arrays are free
+pub record ScansBy (operators s : List ℕ) (r : Scanned) : Type 0 where
+  pub checked : r .checked ≡ checkOf operators s
+  pub shaped : checkOf operators s ≡ Accepted → (j : ℕ) → j < nodeCount s → Shaped (timeIn operators) s (r .times) (r .ends) j
+
+-- all refusals, the table's first
+pub record Scans (table : Loaded) (s : List ℕ) (r : Scanned) : Type 0 where
+  pub checked : r .checked ≡ checkCall table s
+  pub shaped : checkCall table s ≡ Accepted → (j : ℕ) → j < nodeCount s → Shaped (timeIn (table .times)) s (r .times) (r .ends) j
 
 -- the entries of one node more
 pub shaped-more : (τ : ℕ → ℕ) (s times ends : List ℕ) (i : ℕ) → ((j : ℕ) → i + 1 ≤ j → j < nodeCount s → Shaped τ s times ends j)
@@ -43,7 +50,7 @@ shaped-more τ s times ends i S h lt le a ea t et e ee j l m =
     go (no n) = getD-set-other times i j t 0 n ∙ S j (omega arith) m .timed
 
 -- what a scan tells of an accepted program
-pub scanned-laid : (s : List ℕ) (r : Scanned) → Scans s r → r .checked ≡ Accepted → Laid s (r .ends)
-scanned-laid s r S e =
+pub scanned-laid : (table : Loaded) (s : List ℕ) (r : Scanned) → Scans table s r → r .checked ≡ Accepted → Laid s (r .ends)
+scanned-laid table s r S e =
     let a = sym (S .checked) ∙ e in
-    record { short = accepted s a .readable .short; each = λ j l. S .shaped a j l .end }
+    record { short = accepted table s a .readable .short; each = λ j l. S .shaped a j l .end }

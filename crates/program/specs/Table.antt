@@ -3,13 +3,13 @@
 use mathlib.Core.Path.{_≡_}
 use mathlib.Core.Bool.{Bool, true, false, _&&_}
 use mathlib.Core.List.{List, [], _∷_}
-use Prim.Native.Nat.{ℕ, zero, suc, _≤_}
+use Prim.Native.Nat.{ℕ, zero, suc}
 use lib.ListN.{getD}
-use lib.Dec.{T, eqb, leb, eqb→eq, leb→le}
+use lib.Dec.{T, eqb, eqb→eq}
 use borrow.Author.Tests.{eq-eqb}
 use Rattle.model.specs.declared.Row.{Row}
 use Rattle.model.specs.Word.{pick}
-use Rattle.model.specs.Program.{table, rowOf, paperTime}
+use Rattle.model.specs.Program.{table, rowOf}
 
 every : (Row → Bool) → List Row → Bool
 every test [] = true
@@ -38,11 +38,3 @@ no-stmts r = pick (eqb (r .sort) 1) (eqb (r .stmts) 0) true
 pub expr-stmts : (k : ℕ) → rowOf k .sort ≡ 1 → rowOf k .stmts ≡ 0
 unfolding every no-stmts
 expr-stmts k e = eqb→eq (rowOf k .stmts) 0 (rw (eq-eqb (rowOf k .sort) 1 e) at (table-rule no-stmts tt k))
-
--- operator times are bytes
-short-time : Row → Bool
-short-time r = leb (r .time) 255
-
-pub time-is-byte : (k : ℕ) → paperTime k ≤ 255
-unfolding every short-time
-time-is-byte k = leb→le (rowOf k .time) 255 (table-rule short-time tt k)

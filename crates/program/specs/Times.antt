@@ -18,15 +18,16 @@ use Rattle.theory.specs.Program.Trees.{length-nodes, expr-none, by-pick, other-
 
 -- Times --------------------------------------------------------------------------------------------------------------------------------
 
-pub time-none : (τ : ℕ → ℕ) (s : List ℕ) (i : ℕ) → τ 1 ≡ 0 → nodeCount s ≤ i → 0 ≡ time τ (exprAt s i)
+-- a constant, of time o, stands for what is no expression
+pub time-none : (τ : ℕ → ℕ) (s : List ℕ) (i o : ℕ) → o ≡ τ 1 → nodeCount s ≤ i → o ≡ time τ (exprAt s i)
 unfolding time
-time-none τ s i z h = sym (ap (time τ) (expr-none s i h) ∙ z)
+time-none τ s i o z h = z ∙ sym (ap (time τ) (expr-none s i h))
 
 -- of node i, which is a, with operator time o
 module _ (τ : ℕ → ℕ) (s : List ℕ) (i : ℕ) (h : i < nodeCount s) (a : Node) (ea : a ≡ nodeAt s i) where
-  pub time-stmt : τ 1 ≡ 0 → 16 ≤ a .kind → 0 ≡ time τ (exprAt s i)
+  pub time-stmt : (o : ℕ) → o ≡ τ 1 → 16 ≤ a .kind → o ≡ time τ (exprAt s i)
   unfolding time
-  time-stmt z l = sym (ap (time τ) (no-expr s i h a ea l) ∙ z)
+  time-stmt o z l = z ∙ sym (ap (time τ) (no-expr s i h a ea l))
 
   module _ (o : ℕ) (eo : o ≡ τ (a .kind)) where
     pub time-const : a .kind ≡ 1 → o ≡ time τ (exprAt s i)

@@ -1,5 +1,6 @@
-// The check of a program: refusals 1 to 8, and the two arrays of 200 that the checks fill.
+// The check of a program with a table of operator times: refusals 1 to 8, and the two arrays of 200 that the checks fill.
 // Contracts are equations with the definitions of model/Program; what the arrays hold is said in specs/Ends and specs/Shape.
+// `operators` is a list of operator times: entry k is that of kind k.
 // `|` and `&` stand between tests where both sides are cheap: they are the model's own `||` and `&&`.
 ghost use mathlib.Core.Path.{_≡_};
 ghost use mathlib.Core.Bool.{_&&_};
@@ -7,13 +8,18 @@ ghost use mathlib.Core.List.{[], _∷_};
 ghost use Prim.Native.Nat.{ℕ, _+_, _*_, _≤_, _<_, max};
 ghost use lib.ListN.{length, getD, take, drop};
 ghost use Rattle.model.specs.Refusals.{refuse, first, firstFault};
-ghost use Rattle.model.specs.Program.{nodeAt, nodeCount, nodesAt, rowOf, exprAt, stmtAt, time, paperTime, least, writes, touches, programLengthWrong, spare, faultOf, reading, slowAt, clashAt, programChecks};
+ghost use Rattle.model.specs.Program.{nodeAt, nodeCount, nodesAt, rowOf, exprAt, stmtAt, time, timeIn, least, writes, touches, programLengthWrong, spare, faultOf, reading, slowAt, clashAt, programChecks};
+ghost use Rattle.model.specs.TimeTables.{builtIn, given, load};
 ghost use Rattle.model.specs.Calls.{checkCall};
 ghost use Rattle.program.specs.Ends.{Laid, past, skips};
 ghost use Rattle.theory.specs.Program.Passed.{Readable};
 ghost use Rattle.program.specs.Uses.{names, uses, Side};
-ghost use Rattle.program.specs.Shape.{Shaped, Measures, Scans};
+ghost use Rattle.program.specs.Shape.{Shaped, Measures, ScansBy, Scans};
+
+pub mod tables; // tables of operator times
+
 use model::Checked;
+use model::Loaded;
 use model::Node;
 use model::Refusal;
 use model::Row;
@@ -25,35 +31,35 @@ pub struct Scanned {
     pub ends: [usize; 200],
 }
 
-// A row of the table in one line: sort, delay, number, exprs, stmts, time.
-struct Line(u8, u8, u8, u8, u8, u8);
+// A row of the table in one line: sort, delay, number, exprs, stmts.
+struct Line(u8, u8, u8, u8, u8);
 
-// The paper's table: entry k is the row of kind k.
+// The paper's table, but for its times: entry k is the row of kind k.
 const TABLE: [Line; 24] = [
-    Line(0, 0, 0, 0, 0, 0), // 0 unknown
-    Line(1, 0, 1, 0, 0, 0), // 1 constant n
-    Line(1, 0, 2, 0, 0, 0), // 2 variable n
-    Line(1, 0, 0, 1, 0, 1), // 3 complement of all bits
-    Line(1, 0, 0, 2, 0, 16), // 4 sum
-    Line(1, 0, 0, 2, 0, 17), // 5 difference
-    Line(1, 0, 0, 2, 0, 1), // 6 bitwise and
-    Line(1, 0, 0, 2, 0, 1), // 7 bitwise or
-    Line(1, 0, 0, 2, 0, 6), // 8 equal
-    Line(1, 0, 0, 2, 0, 17), // 9 less
-    Line(0, 0, 0, 0, 0, 0), // 10
-    Line(0, 0, 0, 0, 0, 0), // 11
-    Line(0, 0, 0, 0, 0, 0), // 12
-    Line(0, 0, 0, 0, 0, 0), // 13
-    Line(0, 0, 0, 0, 0, 0), // 14
-    Line(0, 0, 0, 0, 0, 0), // 15
-    Line(2, 0, 0, 0, 0, 0), // 16 ok
-    Line(2, 1, 0, 0, 0, 0), // 17 tick
-    Line(2, 1, 2, 1, 0, 0), // 18 variable n := e
-    Line(2, 0, 0, 0, 2, 0), // 19 sequence
-    Line(2, 0, 0, 0, 2, 0), // 20 parallel
-    Line(2, 1, 0, 1, 2, 0), // 21 if e then P else Q
-    Line(2, 1, 0, 1, 1, 0), // 22 while e do P
-    Line(2, 1, 0, 1, 1, 0), // 23 repeat P until e
+    Line(0, 0, 0, 0, 0), // 0 unknown
+    Line(1, 0, 1, 0, 0), // 1 constant n
+    Line(1, 0, 2, 0, 0), // 2 variable n
+    Line(1, 0, 0, 1, 0), // 3 complement of all bits
+    Line(1, 0, 0, 2, 0), // 4 sum
+    Line(1, 0, 0, 2, 0), // 5 difference
+    Line(1, 0, 0, 2, 0), // 6 bitwise and
+    Line(1, 0, 0, 2, 0), // 7 bitwise or
+    Line(1, 0, 0, 2, 0), // 8 equal
+    Line(1, 0, 0, 2, 0), // 9 less
+    Line(0, 0, 0, 0, 0), // 10
+    Line(0, 0, 0, 0, 0), // 11
+    Line(0, 0, 0, 0, 0), // 12
+    Line(0, 0, 0, 0, 0), // 13
+    Line(0, 0, 0, 0, 0), // 14
+    Line(0, 0, 0, 0, 0), // 15
+    Line(2, 0, 0, 0, 0), // 16 ok
+    Line(2, 1, 0, 0, 0), // 17 tick
+    Line(2, 1, 2, 1, 0), // 18 variable n := e
+    Line(2, 0, 0, 0, 2), // 19 sequence
+    Line(2, 0, 0, 0, 2), // 20 parallel
+    Line(2, 1, 0, 1, 2), // 21 if e then P else Q
+    Line(2, 1, 0, 1, 1), // 22 while e do P
+    Line(2, 1, 0, 1, 1), // 23 repeat P until e
 ];
 
 // Of a kind that the table does not have, the row is that of kind 0.
@@ -68,7 +74,6 @@ pub fn kind_row(kind: u8) -> Row
         number: line.2,
         exprs: line.3,
         stmts: line.4,
-        time: line.5,
     }
 }
 
@@ -175,9 +180,9 @@ fn first_misread(program: &[u8]) -> Checked
     refused(6, count)
 }
 
-// Refusals 1 to 6.
+// Refusals 1 to 6, which no operator time touches.
 fn early_check(program: &[u8]) -> Checked
-    ensures { λ r. ⌜ r ≡ first (take 3 (programChecks paperTime (now (program .entry)))) ⌝ }
+    ensures { λ r. ⌜ ((τ : ℕ → ℕ) → r ≡ first (take 3 (programChecks τ (now (program .entry))))) ⌝ }
 {
     if length_wrong(program) {
         return refused(1, 0);
@@ -217,45 +222,66 @@ fn larger(a: u16, b: u16) -> u16
     if a < b { b } else { a }
 }
 
-// The expression time of node i, where the array has it.
-fn known_time(program: &[u8], times: &[u16; 200], i: usize) -> u16
-    requires { ⌜ (length (now program) ≤ 800) × (i < nodeCount (now program) → getD (now times) i 0 ≡ time paperTime (exprAt (now program) i)) ⌝ }
-    ensures { λ r. ⌜ r ≡ time paperTime (exprAt (now (program .entry)) i) ⌝ }
+// The operator time of a kind.
+fn operator_time(operators: &[u8], kind: u8) -> u16
+    ensures { λ r. ⌜ r ≡ timeIn (now (operators .entry)) kind ⌝ }
 {
-    if i < program.len() / 4 { times[i] } else { 0 }
+    let k = kind as usize;
+    if k < operators.len() {
+        operators[k] as u16
+    } else {
+        0
+    }
+}
+
+// The expression time of node i, where the array has it. A constant stands for a node that is not there.
+fn known_time(operators: &[u8], program: &[u8], times: &[u16; 200], i: usize) -> u16
+    requires { ⌜ (length (now program) ≤ 800) × (i < nodeCount (now program) → getD (now times) i 0 ≡ time (timeIn (now operators)) (exprAt (now program) i)) ⌝ }
+    ensures { λ r. ⌜ r ≡ time (timeIn (now (operators .entry))) (exprAt (now (program .entry)) i) ⌝ }
+{
+    if i < program.len() / 4 {
+        times[i]
+    } else {
+        operator_time(operators, 1)
+    }
 }
 
 // The expression time of node i, where the arrays have those after it.
-fn time_at(program: &[u8], times: &[u16; 200], ends: &[usize; 200], i: usize) -> u16
-    requires { ⌜ (length (now program) ≤ 800) × (i < nodeCount (now program)) × ((j : ℕ) → i + 1 ≤ j → j < nodeCount (now program) → Shaped paperTime (now program) (now times) (now ends) j) ⌝ }
-    ensures { λ r. ⌜ r ≡ time paperTime (exprAt (now (program .entry)) i) ⌝ }
+fn time_at(
+    operators: &[u8],
+    program: &[u8],
+    times: &[u16; 200],
+    ends: &[usize; 200],
+    i: usize,
+) -> u16
+    requires { ⌜ (length (now program) ≤ 800) × (i < nodeCount (now program)) × ((j : ℕ) → i + 1 ≤ j → j < nodeCount (now program) → Shaped (timeIn (now operators)) (now program) (now times) (now ends) j) ⌝ }
+    ensures { λ r. ⌜ r ≡ time (timeIn (now (operators .entry))) (exprAt (now (program .entry)) i) ⌝ }
 {
     let node = read_node(program, i);
     let kind = node.kind;
     if 16 <= kind {
-        return 0;
+        return operator_time(operators, 1);
     }
-    let row = kind_row(kind);
-    let operator = row.time as u16;
+    let operator = operator_time(operators, kind);
     if kind == 1 {
         return operator;
     }
     if kind == 2 {
         return operator;
     }
-    let first = known_time(program, times, i + 1);
+    let first = known_time(operators, program, times, i + 1);
     if kind == 3 {
         return operator + first;
     }
     let count = program.len() / 4;
-    let second = known_time(program, times, next(ends, count, i + 1));
+    let second = known_time(operators, program, times, next(ends, count, i + 1));
     operator + larger(first, second)
 }
 
 // The least delay that node i may have.
-fn least_at(program: &[u8], times: &[u16; 200], i: usize) -> u16
-    requires { ⌜ (length (now program) ≤ 800) × (i < nodeCount (now program)) × (i + 1 < nodeCount (now program) → getD (now times) (i + 1) 0 ≡ time paperTime (exprAt (now program) (i + 1))) ⌝ }
-    ensures { λ r. ⌜ r ≡ least paperTime (stmtAt (now (program .entry)) i) ⌝ }
+fn least_at(operators: &[u8], program: &[u8], times: &[u16; 200], i: usize) -> u16
+    requires { ⌜ (length (now program) ≤ 800) × (i < nodeCount (now program)) × (i + 1 < nodeCount (now program) → getD (now times) (i + 1) 0 ≡ time (timeIn (now operators)) (exprAt (now program) (i + 1))) ⌝ }
+    ensures { λ r. ⌜ r ≡ least (timeIn (now (operators .entry))) (stmtAt (now (program .entry)) i) ⌝ }
 {
     let node = read_node(program, i);
     let kind = node.kind;
@@ -271,7 +297,7 @@ fn least_at(program: &[u8], times: &[u16; 200], i: usize) -> u16
     if kind == 20 {
         return 0;
     }
-    let time = known_time(program, times, i + 1);
+    let time = known_time(operators, program, times, i + 1);
     if kind == 21 {
         return time;
     }
@@ -279,15 +305,15 @@ fn least_at(program: &[u8], times: &[u16; 200], i: usize) -> u16
 }
 
 // Refusal 7: the first node whose delay is too small.
-fn first_slow(program: &[u8], times: &[u16; 200]) -> Checked
-    requires { ⌜ (length (now program) ≤ 800) × ((j : ℕ) → j < nodeCount (now program) → getD (now times) j 0 ≡ time paperTime (exprAt (now program) j)) ⌝ }
-    ensures { λ r. ⌜ r ≡ firstFault (slowAt paperTime (now (program .entry))) 0 (nodeCount (now (program .entry))) ⌝ }
+fn first_slow(operators: &[u8], program: &[u8], times: &[u16; 200]) -> Checked
+    requires { ⌜ (length (now program) ≤ 800) × ((j : ℕ) → j < nodeCount (now program) → getD (now times) j 0 ≡ time (timeIn (now operators)) (exprAt (now program) j)) ⌝ }
+    ensures { λ r. ⌜ r ≡ firstFault (slowAt (timeIn (now (operators .entry))) (now (program .entry))) 0 (nodeCount (now (program .entry))) ⌝ }
 {
     let count = program.len() / 4;
     let mut i: usize = 0;
     while i < count {
         let node = read_node(program, i);
-        if (node.delay as u16) < least_at(program, times, i) {
+        if (node.delay as u16) < least_at(operators, program, times, i) {
             return refused(7, i);
         }
         i += 1;
@@ -359,11 +385,11 @@ fn first_clash(program: &[u8], ends: &[usize; 200]) -> Checked
 }
 
 // Refusals 7 and 8.
-fn late_check(program: &[u8], times: &[u16; 200], ends: &[usize; 200]) -> Checked
-    requires { ⌜ Readable (now program) × ((j : ℕ) → j < nodeCount (now program) → Shaped paperTime (now program) (now times) (now ends) j) ⌝ }
-    ensures { λ r. ⌜ r ≡ first (drop 3 (programChecks paperTime (now (program .entry)))) ⌝ }
+fn late_check(operators: &[u8], program: &[u8], times: &[u16; 200], ends: &[usize; 200]) -> Checked
+    requires { ⌜ Readable (now program) × ((j : ℕ) → j < nodeCount (now program) → Shaped (timeIn (now operators)) (now program) (now times) (now ends) j) ⌝ }
+    ensures { λ r. ⌜ r ≡ first (drop 3 (programChecks (timeIn (now (operators .entry))) (now (program .entry)))) ⌝ }
 {
-    let slow = first_slow(program, times);
+    let slow = first_slow(operators, program, times);
     match slow {
         Checked::Refused(r) => Checked::Refused(r),
         Checked::Accepted => first_clash(program, ends),
@@ -371,9 +397,9 @@ fn late_check(program: &[u8], times: &[u16; 200], ends: &[usize; 200]) -> Checke
 }
 
 // The arrays, filled from the last node to the first, and refusals 7 and 8, which read them.
-fn measure(program: &[u8]) -> Scanned
+fn measure(operators: &[u8], program: &[u8]) -> Scanned
     requires { ⌜ Readable (now program) ⌝ }
-    ensures { λ r. ⌜ Measures (now (program .entry)) r ⌝ }
+    ensures { λ r. ⌜ Measures (now (operators .entry)) (now (program .entry)) r ⌝ }
 {
     let count = program.len() / 4;
     let mut times = [0u16; 200];
@@ -383,12 +409,12 @@ fn measure(program: &[u8]) -> Scanned
         i -= 1;
         let node = read_node(program, i);
         let row = kind_row(node.kind);
-        let time = time_at(program, &times, &ends, i);
+        let time = time_at(operators, program, &times, &ends, i);
         let end = skip(&ends, count, i + 1, row.exprs as usize + row.stmts as usize);
         times[i] = time;
         ends[i] = end;
     }
-    let checked = late_check(program, &times, &ends);
+    let checked = late_check(operators, program, &times, &ends);
     Scanned {
         checked,
         times,
@@ -396,24 +422,59 @@ fn measure(program: &[u8]) -> Scanned
     }
 }
 
-// All refusals, with the arrays that the compiler and the reference run go by.
-pub fn scan(program: &[u8]) -> Scanned
-    ensures { λ r. ⌜ Scans (now (program .entry)) r ⌝ }
+// What a refused program is scanned as.
+fn unscanned(refusal: Refusal) -> Scanned
+    ensures { λ r. ⌜ r .checked ≡ Checked.Refused refusal ⌝ }
 {
-    let early = early_check(program);
-    match early {
-        Checked::Refused(r) => Scanned {
-            checked: Checked::Refused(r),
-            times: [0u16; 200],
-            ends: [0usize; 200],
-        },
-        Checked::Accepted => measure(program),
+    Scanned {
+        checked: Checked::Refused(refusal),
+        times: [0u16; 200],
+        ends: [0usize; 200],
     }
 }
 
-pub fn check(program: &[u8]) -> Checked
-    ensures { λ r. ⌜ r ≡ checkCall (now (program .entry)) ⌝ }
+// Refusals 1 to 8 under operator times, with the arrays.
+fn scan_by(operators: &[u8], program: &[u8]) -> Scanned
+    ensures { λ r. ⌜ ScansBy (now (operators .entry)) (now (program .entry)) r ⌝ }
 {
-    let told = scan(program);
+    let early = early_check(program);
+    match early {
+        Checked::Refused(r) => unscanned(r),
+        Checked::Accepted => measure(operators, program),
+    }
+}
+
+// All refusals, the table's first, with the arrays that the compiler and the reference run go by.
+pub fn scan(table: Loaded, program: &[u8]) -> Scanned
+    ensures { λ r. ⌜ Scans table (now (program .entry)) r ⌝ }
+{
+    let loaded = table.checked;
+    match loaded {
+        Checked::Refused(r) => unscanned(r),
+        Checked::Accepted => {
+            let operators = table.times;
+            scan_by(&operators, program)
+        }
+    }
+}
+
+// The check of a program with a table as it was loaded.
+pub fn check_by(table: Loaded, program: &[u8]) -> Checked
+    ensures { λ r. ⌜ r ≡ checkCall table (now (program .entry)) ⌝ }
+{
+    let told = scan(table, program);
     told.checked
+}
+
+pub fn check(program: &[u8]) -> Checked
+    ensures { λ r. ⌜ r ≡ checkCall (load builtIn) (now (program .entry)) ⌝ }
+{
+    check_by(tables::built_in(), program)
+}
+
+// The check with the operator times of a table's file.
+pub fn check_timed(table: &[u8], program: &[u8]) -> Checked
+    ensures { λ r. ⌜ r ≡ checkCall (load (given (now (table .entry)))) (now (program .entry)) ⌝ }
+{
+    check_by(tables::load(table), program)
 }

@@ -10,6 +10,7 @@ use lib.ListN.{length, take}
 use borrow.Author.Tests.{lt-ltb, le-ltb, ltb-true, ltb-false}
 use Rattle.model.specs.declared.Node.{Node}
 use Rattle.model.specs.declared.Refusal.{Refusal}
+use Rattle.model.specs.declared.Loaded.{Loaded}
 use Rattle.model.specs.declared.Checked.{Checked}
 use Rattle.model.specs.declared.Checked.the-variants.{Accepted, Refused}
 use Rattle.model.specs.declared.Written.{Written}
@@ -18,7 +19,7 @@ use Rattle.model.specs.Refusals.{refuse, refuseIf, first}
 use Rattle.model.specs.Program.{nodeBytes, checkOf}
 use Rattle.model.specs.Text.{wordsOf, outside}
 use Rattle.model.specs.Reader.{Reading, good, bad}
-use Rattle.model.specs.Calls.{writtenVerdict, short, writing}
+use Rattle.model.specs.Calls.{writtenVerdict, short, checkCall, writing}
 use Rattle.model.specs.TextCalls.{readingOf, brokenAt, bytesRead, textProgram, textChecks, readTextChecks, readTextCall}
 use Rattle.theory.specs.Refusals.Laws.{by-bool, not-refused, refuse-unless, first-one, first-append, refused-append, accept-take, all-accept}
 use Rattle.theory.specs.Refusals.Order.{writing-verdict}
@@ -78,29 +79,29 @@ module _ (text : List ℕ) (h : length text ≤ 4096) where
 
 -- A program put into a lent list ---------------------------------------------------------------------------------------------------------
 
-module _ (program lent : List ℕ) where
-  given-by : {c : Checked} → first (giveChecks program lent) ≡ c → giveCall program lent ≡ writing c program (length program) 0 lent
+module _ (table : Loaded) (program lent : List ℕ) where
+  given-by : {c : Checked} → first (giveChecks table program lent) ≡ c → giveCall table program lent ≡ writing c program (length program) 0 lent
   unfolding giveCall
   given-by e = ap (λ (c : Checked). writing c program (length program) 0 lent) e
 
-  pub give-refused : (r : Refusal) → checkOf program ≡ Refused r → giveCall program lent ≡ writing (Refused r) program (length program) 0 lent
+  pub give-refused : (r : Refusal) → checkCall table program ≡ Refused r → giveCall table program lent ≡ writing (Refused r) program (length program) 0 lent
   give-refused r e = given-by (rw e refl)
 
-  module _ (e : checkOf program ≡ Accepted) where
-    pub give-short : length lent < length program → giveCall program lent ≡ writing (refuse 14 0) program (length program) 0 lent
+  module _ (e : checkCall table program ≡ Accepted) where
+    pub give-short : length lent < length program → giveCall table program lent ≡ writing (refuse 14 0) program (length program) 0 lent
     give-short h = given-by (rw (e, lt-ltb (length lent) (length program) h) refl)
 
-    pub give-done : length program ≤ length lent → giveCall program lent ≡ writing Accepted program (length program) 0 lent
+    pub give-done : length program ≤ length lent → giveCall table program lent ≡ writing Accepted program (length program) 0 lent
     give-done h = given-by (rw (e, le-ltb (length lent) (length program) h) refl)
 
 -- A text and the checks of its program ---------------------------------------------------------------------------------------------------
 
 -- a program that is too long is refused before anything else
-too-many : (program : List ℕ) (r : Refusal) (cs : List Checked) → refuseIf (ltb 800 (length program)) 1 0 ≡ Refused r
-    → first (checkOf program ∷ cs) ≡ Refused r
-too-many program r cs e =
+too-many : (times program : List ℕ) (r : Refusal) (cs : List Checked) → refuseIf (ltb 800 (length program)) 1 0 ≡ Refused r
+    → first (checkOf times program ∷ cs) ≡ Refused r
+too-many times program r cs e =
     by-bool (ltb 800 (length program))
-    (λ z. rw (long-refused program (ltb-true 800 (length program) z)) (rw z at e))
+    (λ z. rw (long-refused times program (ltb-true 800 (length program) z)) (rw z at e))
     (λ z. not-refused (sym (rw z at e)))
 
 module _ (text : List ℕ) where
@@ -108,15 +109,15 @@ module _ (text : List ℕ) where
   room = refuseIf (ltb 800 (length (textProgram text))) 1 0
 
   -- what refuses the program of a text refuses every call on it
-  pub parse-refuses : (r : Refusal) (cs : List Checked) → first (parseChecks text) ≡ Refused r
-      → first (textChecks text ++ (checkOf (textProgram text) ∷ cs)) ≡ Refused r
-  parse-refuses r cs e = go (first (textChecks text)) refl
+  pub parse-refuses : (times : List ℕ) (r : Refusal) (cs : List Checked) → first (parseChecks text) ≡ Refused r
+      → first (textChecks text ++ (checkOf times (textProgram text) ∷ cs)) ≡ Refused r
+  parse-refuses times r cs e = go (first (textChecks text)) refl
     where
-      go : (c : Checked) → first (textChecks text) ≡ c → first (textChecks text ++ (checkOf (textProgram text) ∷ cs)) ≡ Refused r
-      go (Refused q) z = refused-append (textChecks text) (checkOf (textProgram text) ∷ cs) q z ∙ sym (refused-append (textChecks text) (room ∷ []) q z) ∙ e
+      go : (c : Checked) → first (textChecks text) ≡ c → first (textChecks text ++ (checkOf times (textProgram text) ∷ cs)) ≡ Refused r
+      go (Refused q) z = refused-append (textChecks text) (checkOf times (textProgram text) ∷ cs) q z ∙ sym (refused-append (textChecks text) (room ∷ []) q z) ∙ e
       go Accepted z =
-          first-append (textChecks text) (checkOf (textProgram text) ∷ cs) z
-          ∙ too-many (textProgram text) r cs (first-one room ∙ sym (first-append (textChecks text) (room ∷ []) z) ∙ e)
+          first-append (textChecks text) (checkOf times (textProgram text) ∷ cs) z
+          ∙ too-many times (textProgram text) r cs (first-one room ∙ sym (first-append (textChecks text) (room ∷ []) z) ∙ e)
 
   -- where nothing does, the checks of the text accept
   pub parse-accepts : first (parseChecks text) ≡ Accepted → first (textChecks text) ≡ Accepted
@@ -155,16 +156,35 @@ module _ (text : List ℕ) where
 
 -- Text to program --------------------------------------------------------------------------------------------------------------------------
 
-module _ (text lent : List ℕ) where
-  read-by : {c : Checked} → first (readTextChecks text lent) ≡ c
-      → readTextCall text lent ≡ writing c (textProgram text) (length (textProgram text)) 0 lent
+module _ (table : Loaded) (text lent : List ℕ) where
+  read-by : {c : Checked} → first (readTextChecks table text lent) ≡ c
+      → readTextCall table text lent ≡ writing c (textProgram text) (length (textProgram text)) 0 lent
   unfolding readTextCall
   read-by e = ap (λ (c : Checked). writing c (textProgram text) (length (textProgram text)) 0 lent) e
 
-  pub read-refused : (r : Refusal) → first (parseChecks text) ≡ Refused r
-      → readTextCall text lent ≡ writing (Refused r) (textProgram text) (length (textProgram text)) 0 lent
-  read-refused r e = read-by (parse-refuses text r (short (length lent) (length (textProgram text)) ∷ []) e)
+  -- a table that is refused comes first
+  pub read-no-table : (r : Refusal) → table .checked ≡ Refused r
+      → readTextCall table text lent ≡ writing (Refused r) (textProgram text) (length (textProgram text)) 0 lent
+  read-no-table r e = read-by (rw e refl)
 
-  pub read-given : first (parseChecks text) ≡ Accepted → readTextCall text lent ≡ giveCall (textProgram text) lent
-  unfolding giveCall
-  read-given e = read-by (first-append (textChecks text) (giveChecks (textProgram text) lent) (parse-accepts text e))
+  module _ (a : table .checked ≡ Accepted) where
+    abbrev after : List Checked
+    after = checkOf (table .times) (textProgram text) ∷ short (length lent) (length (textProgram text)) ∷ []
+
+    behind-table : first (readTextChecks table text lent) ≡ first (textChecks text ++ after)
+    behind-table = rw a refl
+
+    pub read-refused : (r : Refusal) → first (parseChecks text) ≡ Refused r
+        → readTextCall table text lent ≡ writing (Refused r) (textProgram text) (length (textProgram text)) 0 lent
+    read-refused r e =
+        read-by (behind-table ∙ parse-refuses text (table .times) r (short (length lent) (length (textProgram text)) ∷ []) e)
+
+    told-by-table : checkOf (table .times) (textProgram text) ≡ checkCall table (textProgram text)
+    unfolding checkCall
+    told-by-table = rw a (first-one _)
+
+    pub read-given : first (parseChecks text) ≡ Accepted → readTextCall table text lent ≡ giveCall table (textProgram text) lent
+    unfolding giveCall
+    read-given e =
+        let room = short (length lent) (length (textProgram text)) ∷ [] in
+        read-by (behind-table ∙ first-append (textChecks text) after (parse-accepts text e) ∙ ap (λ (c : Checked). first (c ∷ room)) told-by-table)

@@ -7,6 +7,7 @@ use Prim.Native.Nat.{ℕ, _+_, _*_, _<_, _≤_}
 use lib.Dec.{ltb}
 use lib.ListN.{length, take, drop}
 use Rattle.model.specs.declared.Node.{Node}
+use Rattle.model.specs.declared.Loaded.{Loaded}
 use Rattle.model.specs.declared.Checked.{Checked}
 use Rattle.model.specs.declared.Checked.the-variants.{Accepted}
 use Rattle.model.specs.declared.Written.{Written}
@@ -14,8 +15,7 @@ use Rattle.model.specs.Word.{pick}
 use Rattle.model.specs.Refusals.{refuseIf, first}
 use Rattle.model.specs.Text.{Word, wordAt, wordsFrom}
 use Rattle.model.specs.Reader.{Reader, good, bad, readFrom}
-use Rattle.model.specs.Program.{checkOf}
-use Rattle.model.specs.Calls.{Told, short, writing}
+use Rattle.model.specs.Calls.{Told, short, checkCall, writing}
 use Rattle.model.specs.TextCalls.{readingOf, textProgram, textChecks}
 use Rattle.text.specs.declared.words.Scanned.{Scanned}
 use Rattle.text.specs.declared.machine.Machine.{Machine}
@@ -60,9 +60,9 @@ programTold text = writing (first (parseChecks text)) [] (length (textProgram te
 unfoldable pub Given : List ℕ → List ℕ → Type 0
 Given text d = first (parseChecks text) ≡ Accepted → take (length (textProgram text)) d ≡ textProgram text
 
--- a program, checked and put into a lent list: 1 to 8, 14
-abbrev pub giveChecks : List ℕ → List ℕ → List Checked
-giveChecks program lent = checkOf program ∷ short (length lent) (length program) ∷ []
+-- a program, checked with a table and put into a lent list: 19 to 21, 1 to 8, 14
+abbrev pub giveChecks : Loaded → List ℕ → List ℕ → List Checked
+giveChecks table program lent = checkCall table program ∷ short (length lent) (length program) ∷ []
 
-unfoldable pub giveCall : List ℕ → List ℕ → Told Written
-giveCall program lent = writing (first (giveChecks program lent)) program (length program) 0 lent
+unfoldable pub giveCall : Loaded → List ℕ → List ℕ → Told Written
+giveCall table program lent = writing (first (giveChecks table program lent)) program (length program) 0 lent

@@ -1,2 +1,3 @@
 -- The laws behind the proofs of the functions.
 pub mod Puts
+pub mod Sums

@@ -1,10 +1,11 @@
-// Leaves: the operators on words, numbers of two and four bytes in slices, bytes put into a slice.
-// Each contract is an equation with the definition of the same name in model/Word.
+// Leaves: the operators on words, numbers of two and four bytes in slices, bytes put into a slice, and the sum of a block's words.
+// Each contract is an equation with the definition of the same name in model/Word, or with wordSum in model/NetlistFile.
 ghost use mathlib.Core.Path.{_≡_};
-ghost use Prim.Native.Nat.{_+_, _<_, _≤_};
-ghost use lib.ListN.{length};
+ghost use Prim.Native.Nat.{_+_, _*_, _%_, _≤_, _<_};
+ghost use lib.ListN.{length, take, drop};
 ghost use lib.Seq.{sets};
 ghost use Rattle.model.specs.Word.{shifted, operate, bit, get16, put16, get32, put32};
+ghost use Rattle.model.specs.NetlistFile.{wordSum};
 
 pub fn bit(b: bool) -> u16
     ensures { λ r. ⌜ r ≡ bit b ⌝ }
@@ -78,4 +79,21 @@ pub fn put_bytes(out: &mut [u8], at: usize, bytes: &[u8]) -> usize
         i += 1;
     }
     at + i
+}
+
+// The sum of n words of two bytes, the first of them at byte `from`.
+pub fn sum16(s: &[u8], from: usize, n: usize) -> u16
+    requires { ⌜ from + 2 * n ≤ length (now s) ⌝ }
+    ensures { λ r. ⌜ r ≡ wordSum (take (2 * n) (drop from (now (s .entry)))) % 65536 ⌝ }
+{
+    let mut sum: u16 = 0;
+    let mut i = from;
+    let mut left = n;
+    while 0 < left {
+        let w = get16(s, i);
+        sum = std::num::wrapping_add_u16(sum, w);
+        i += 2;
+        left -= 1;
+    }
+    sum
 }

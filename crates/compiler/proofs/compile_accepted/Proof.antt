@@ -16,7 +16,7 @@ put-netlist-requires : tie.Need-put-netlist-requires
 put-netlist-requires c κs =
     let scan = c .before .before .before .scan in
     let pre = c .before .before .before .before .before .before .pre in
-    scanned (scan .ensures) (pre .0)
+    scanned (c .before .before .before .before .before .before .args .table) (scan .ensures) (pre .0)
 
 cast-n : tie.Need-cast-n
 cast-n c = search needs
@@ -29,7 +29,7 @@ put-file-requires c κs =
     let put-netlist = c .before .before .before .before .put-netlist in
     let pre = c .before .before .before .before .before .before .before .before .before .before .before .pre in
     let made = put-netlist .ensures in
-    (omega (arith, file-size _ (pre .0) made, pre .1), list-room _ (pre .0) made (put-netlist .kept .0))
+    (omega (arith, file-size _ made, pre .1), list-room _ made (c .before .before .before .before .before .before .before .before .before .before .before .args .table) (pre .0) (put-netlist .kept .0))
 
 add-result : tie.Need-add-result
 add-result c = search needs
@@ -46,8 +46,8 @@ returns c =
     let pre = c .before .before .before .before .before .before .before .before .before .before .before .before .before .before .pre in
     let put-file = c .before .before .put-file in
     let made = put-netlist .ensures in (
-      sym (file-size _ (pre .0) made),
-      file-put _ (pre .0) made _ (omega (arith, file-size _ (pre .0) made, pre .1)) (put-file .ensures),
+      sym (file-size _ made),
+      file-put _ made _ (omega (arith, file-size _ made, pre .1)) (put-file .ensures),
     )
 
 pub compile-accepted-spec : {M : Type 1} → statement M

@@ -14,7 +14,7 @@ put-netlist-requires : tie.Need-put-netlist-requires
 put-netlist-requires c κs =
     let scan = c .before .before .before .scan in
     let pre = c .before .before .before .before .before .pre in
-    scanned (scan .ensures) pre
+    scanned (c .before .before .before .before .before .args .table) (scan .ensures) pre
 
 cast-result : tie.Need-cast-result
 cast-result c = search needs

@@ -13,7 +13,7 @@ refused-requires : tie.Need-refused-requires
 refused-requires c κs = search needs
 
 returns : tie.Need-returns
-returns c = rw (← c .before .before .length-wrong .ensures, c .before .if1 .taken) (c .refused .ensures)
+returns c = λ τ. rw (← c .before .before .length-wrong .ensures, c .before .if1 .taken) (c .refused .ensures)
 
 first-fault-requires : tie.Need-first-fault-requires
 first-fault-requires c κs = search needs
@@ -31,14 +31,14 @@ first-misread-requires c κs =
     right-length _ (sym (length-wrong .ensures) ∙ if1 .left)
 
 returns-2 : tie.Need-returns-2
-returns-2 c =
+returns-2 c = λ τ.
     let length-wrong = c .before .before .before .before .before .length-wrong in
     let if1 = c .before .before .before .before .if1 in
     let first-fault = c .before .before .before .first-fault in
     rw (← length-wrong .ensures, if1 .left, ← first-fault .ensures, c .before .faults .given .1)
 
 returns-3 : tie.Need-returns-3
-returns-3 c =
+returns-3 c = λ τ.
     let length-wrong = c .before .before .before .before .before .length-wrong in
     let if1 = c .before .before .before .before .if1 in
     let first-fault = c .before .before .before .first-fault in

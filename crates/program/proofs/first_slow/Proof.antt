@@ -2,17 +2,18 @@
 use mathlib.Core.Path.{_∙_}
 use Prim.Native.Nat.{_-_}
 use native.Mathlib.Omega.{arith}
-use Rattle.model.specs.Program.{nodeCount, paperTime, slowAt}
+use denote.Ref.{now}
+use Rattle.model.specs.Program.{nodeCount, timeIn, slowAt}
 use Rattle.theory.specs.Refusals.Search.{Searched, searched-none, fault-here, fault-next, faults-end}
 use Rattle.program.specs.Times.{slow-at, not-slow-at}
 use Rattle.program.proofs.first_slow.Statement.{statement}
 use Rattle.program.proofs.first_slow.Tie as tie
 
 abbrev Inv-loop : tie.InvT-loop
-Inv-loop program times count i₀ i = Searched (slowAt paperTime program) (nodeCount program) i
+Inv-loop operators program times count i₀ i = Searched (slowAt (timeIn operators) program) (nodeCount program) i
 
 abbrev μ-loop : tie.MeasureT-loop
-μ-loop program times count i₀ i = count - i
+μ-loop operators program times count i₀ i = count - i
 
 loop-holds : tie.Need-loop-holds Inv-loop μ-loop
 loop-holds c = searched-none _ _
@@ -25,7 +26,7 @@ cast-if1 c = omega arith
 
 least-at-requires : tie.Need-least-at-requires Inv-loop μ-loop
 least-at-requires c κs =
-    let pre = c .before .before .before .before .before .pre in
+    let pre = c .before .before .before .before .before .before .pre in
     (pre .0, c .before .before .loop-test .taken, λ l. pre .1 _ l)
 
 refused-requires : tie.Need-refused-requires Inv-loop μ-loop
@@ -36,9 +37,10 @@ returns c =
     let loop-test = c .before .before .before .before .before .loop-test in
     let read-node = c .before .before .before .before .read-node in
     let loop = c .before .before .before .before .before .before .loop in
+    let τ = timeIn (now (c .before .before .before .before .before .before .before .before .before .args .operators)) in
     c .refused .ensures
     ∙ fault-here (loop .inv) 7 (loop-test .taken) (omega arith)
-    (slow-at paperTime _ _ _ (read-node .ensures) _ (c .before .before .least-at .ensures) (c .before .if1 .taken))
+    (slow-at τ _ _ _ (read-node .ensures) _ (c .before .before .least-at .ensures) (c .before .if1 .taken))
 
 add-i : tie.Need-add-i Inv-loop μ-loop
 add-i c = omega arith
@@ -51,7 +53,8 @@ loop-again c =
     let loop = c .before .before .before .before .before .loop in
     let loop-test = c .before .before .before .before .loop-test in
     let read-node = c .before .before .before .read-node in
-    fault-next (loop .inv) (loop-test .taken) (not-slow-at paperTime _ _ _ (read-node .ensures) _ (c .before .least-at .ensures) (c .if1 .left))
+    let τ = timeIn (now (c .before .before .before .before .before .before .before .before .args .operators)) in
+    fault-next (loop .inv) (loop-test .taken) (not-slow-at τ _ _ _ (read-node .ensures) _ (c .before .least-at .ensures) (c .if1 .left))
 
 returns-2 : tie.Need-returns-2 Inv-loop μ-loop
 returns-2 c = faults-end (c .before .loop .inv) (c .loop-test .left)

@@ -10,10 +10,10 @@ use Rattle.program.proofs.kind_row.Statement.{statement}
 use Rattle.program.proofs.kind_row.Tie as tie
 
 abbrev row : Line → Row
-row l = record { sort = l .0; delay = l .1; number = l .2; exprs = l .3; stmts = l .4; time = l .5 }
+row l = record { sort = l .0; delay = l .1; number = l .2; exprs = l .3; stmts = l .4 }
 
 abbrev line : Row → Line
-line r = (r .sort, r .delay, r .number, r .exprs, r .stmts, r .time)
+line r = (r .sort, r .delay, r .number, r .exprs, r .stmts)
 
 mul-line : tie.Need-mul-line
 mul-line c = ⊎-elim (λ w. omega arith) (λ w. omega arith) (c .before .if1 .came)

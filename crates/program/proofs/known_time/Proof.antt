@@ -1,6 +1,6 @@
--- A time that the array has; past the last node there is none.
-use mathlib.Core.Path.{refl}
-use Rattle.model.specs.Program.{rowOf, paperTime}
+-- A time that the array has; past the last node it is that of a constant.
+use denote.Ref.{now}
+use Rattle.model.specs.Program.{timeIn}
 use Rattle.program.specs.Times.{time-none}
 use borrow.Author.Needs.{needs}
 use Rattle.program.proofs.known_time.Statement.{statement}
@@ -12,12 +12,16 @@ mul-result c = search needs
 element-copy-out-result : tie.Need-element-copy-out-result
 element-copy-out-result c = search needs
 
+operator-time-requires : tie.Need-operator-time-requires
+operator-time-requires c κs = search needs
+
 returns : tie.Need-returns
-returns c = c .before .before .pre .1 (c .before .if1 .taken)
+returns c = c .before .before .before .before .pre .1 (c .before .if1 .taken)
 
 returns-2 : tie.Need-returns-2
-unfolding rowOf
-returns-2 c = time-none paperTime _ _ refl (c .if1 .left)
+returns-2 c = time-none (timeIn (now (c .before .before .before .before .args .operators))) _ _ _ (c .operator-time .ensures) (c .before .if1 .left)
 
 pub known-time-spec : {M : Type 1} → statement M
-known-time-spec = tie.close (tie.spec mul-result element-copy-out-result returns returns-2)
+known-time-spec =
+    tie.close
+    (tie.spec mul-result element-copy-out-result operator-time-requires returns returns-2)

@@ -7,7 +7,7 @@ use Rattle.program.proofs.late_check.Tie as tie
 
 first-slow-requires : tie.Need-first-slow-requires
 first-slow-requires c κs =
-    let pre = c .before .pre in
+    let pre = c .before .before .pre in
     (pre .0 .short, λ j l. pre .1 j l .timed)
 
 enum-known-slow : tie.Need-enum-known-slow
@@ -18,7 +18,7 @@ enum-told c = search needs
 
 first-clash-requires : tie.Need-first-clash-requires
 first-clash-requires c κs =
-    let pre = c .before .before .before .before .pre in
+    let pre = c .before .before .before .before .before .pre in
     (pre .0, record { short = pre .0 .short; each = λ j l. pre .1 j l .end })
 
 returns : tie.Need-returns

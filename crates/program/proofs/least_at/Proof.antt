@@ -1,6 +1,7 @@
 -- The least delay of a node, by its kind.
 use mathlib.Core.Path.{_∙_}
-use Rattle.model.specs.Program.{paperTime}
+use denote.Ref.{now}
+use Rattle.model.specs.Program.{timeIn}
 use Rattle.program.specs.Times.{least-low, least-tick, least-seq, least-par, least-if, least-other}
 use borrow.Author.Needs.{needs}
 use Rattle.program.proofs.least_at.Statement.{statement}
@@ -11,25 +12,29 @@ read-node-requires c κs = search needs
 
 returns : tie.Need-returns
 returns c =
-    let pre = c .before .before .before .pre in
-    least-low paperTime _ _ (pre .1) _ (c .before .read-node .ensures) (c .if1 .taken)
+    let pre = c .before .before .before .before .pre in
+    let τ = timeIn (now (c .before .before .before .before .args .operators)) in
+    least-low τ _ _ (pre .1) _ (c .before .read-node .ensures) (c .if1 .taken)
 
 returns-2 : tie.Need-returns-2
 returns-2 c =
-    let pre = c .before .before .before .before .pre in
-    least-tick paperTime _ _ (pre .1) _ (c .before .before .read-node .ensures) (c .if2 .taken)
+    let pre = c .before .before .before .before .before .pre in
+    let τ = timeIn (now (c .before .before .before .before .before .args .operators)) in
+    least-tick τ _ _ (pre .1) _ (c .before .before .read-node .ensures) (c .if2 .taken)
 
 returns-3 : tie.Need-returns-3
 returns-3 c =
-    let pre = c .before .before .before .before .before .pre in
+    let pre = c .before .before .before .before .before .before .pre in
+    let τ = timeIn (now (c .before .before .before .before .before .before .args .operators)) in
     let read-node = c .before .before .before .read-node in
-    least-seq paperTime _ _ (pre .1) _ (read-node .ensures) (c .if3 .taken)
+    least-seq τ _ _ (pre .1) _ (read-node .ensures) (c .if3 .taken)
 
 returns-4 : tie.Need-returns-4
 returns-4 c =
-    let pre = c .before .before .before .before .before .before .pre in
+    let pre = c .before .before .before .before .before .before .before .pre in
+    let τ = timeIn (now (c .before .before .before .before .before .before .before .args .operators)) in
     let read-node = c .before .before .before .before .read-node in
-    least-par paperTime _ _ (pre .1) _ (read-node .ensures) (c .if4 .taken)
+    least-par τ _ _ (pre .1) _ (read-node .ensures) (c .if4 .taken)
 
 add-known-time : tie.Need-add-known-time
 add-known-time c = search needs
@@ -39,23 +44,25 @@ known-time-requires c κs = search needs
 
 returns-5 : tie.Need-returns-5
 returns-5 c =
-    let pre = c .before .before .before .before .before .before .before .before .pre in
+    let pre = c .before .before .before .before .before .before .before .before .before .pre in
+    let τ = timeIn (now (c .before .before .before .before .before .before .before .before .before .args .operators)) in
     let read-node = c .before .before .before .before .before .before .read-node in
-    least-if paperTime _ _ (pre .1) _ (read-node .ensures) _ (c .before .known-time .ensures) (c .if5 .taken)
+    least-if τ _ _ (pre .1) _ (read-node .ensures) _ (c .before .known-time .ensures) (c .if5 .taken)
 
 larger-requires : tie.Need-larger-requires
 larger-requires c κs = search needs
 
 returns-6 : tie.Need-returns-6
 returns-6 c =
-    let pre = c .before .before .before .before .before .before .before .before .before .pre in
+    let pre = c .before .before .before .before .before .before .before .before .before .before .pre in
+    let τ = timeIn (now (c .before .before .before .before .before .before .before .before .before .before .args .operators)) in
     let read-node = c .before .before .before .before .before .before .before .read-node in
     let if1 = c .before .before .before .before .before .before .if1 in
     let if2 = c .before .before .before .before .before .if2 in
     let if3 = c .before .before .before .before .if3 in
     let if4 = c .before .before .before .if4 in
     c .larger .ensures
-    ∙ least-other paperTime _ _ (pre .1) _ (read-node .ensures) _ (c .before .before .known-time .ensures) (if1 .left) (if2 .left) (if3 .left) (if4 .left) (c .before .if5 .left)
+    ∙ least-other τ _ _ (pre .1) _ (read-node .ensures) _ (c .before .before .known-time .ensures) (if1 .left) (if2 .left) (if3 .left) (if4 .left) (c .before .if5 .left)
 
 pub least-at-spec : {M : Type 1} → statement M
 least-at-spec =

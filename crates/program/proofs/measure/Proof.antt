@@ -5,18 +5,18 @@ use native.Mathlib.Omega.{arith}
 use lib.ListN.{length, length-set}
 use denote.Ref.{now}
 use Rattle.model.specs.declared.Row.{Row}
-use Rattle.model.specs.Program.{nodeCount, paperTime}
+use Rattle.model.specs.Program.{nodeCount, timeIn}
 use Rattle.program.specs.Ends.{skips}
 use Rattle.program.specs.Shape.{Shaped, shaped-more}
 use Rattle.program.proofs.measure.Statement.{statement}
 use Rattle.program.proofs.measure.Tie as tie
 
 abbrev Inv-loop : tie.InvT-loop
-Inv-loop program count times₀ ends₀ i₀ times ends i =
-    (i ≤ count) × (length times ≡ 200) × (length ends ≡ 200) × ((j : ℕ) → i ≤ j → j < nodeCount program → Shaped paperTime program times ends j)
+Inv-loop operators program count times₀ ends₀ i₀ times ends i =
+    (i ≤ count) × (length times ≡ 200) × (length ends ≡ 200) × ((j : ℕ) → i ≤ j → j < nodeCount program → Shaped (timeIn operators) program times ends j)
 
 abbrev μ-loop : tie.MeasureT-loop
-μ-loop program count times₀ ends₀ i₀ times ends i = i
+μ-loop operators program count times₀ ends₀ i₀ times ends i = i
 
 loop-holds : tie.Need-loop-holds Inv-loop μ-loop
 loop-holds c = (omega arith, refl, refl, λ j l m. absurd (omega arith))
@@ -32,7 +32,7 @@ kind-row-requires c κs = tt
 
 time-at-requires : tie.Need-time-at-requires Inv-loop μ-loop
 time-at-requires c κs =
-    let pre = c .before .before .before .before .before .before .before .pre in
+    let pre = c .before .before .before .before .before .before .before .before .pre in
     let loop = c .before .before .before .before .before .loop in
     (pre .short, omega arith, λ j l m. loop .inv .3 j (omega arith) m)
 
@@ -50,7 +50,7 @@ add-skip-2 c = omega arith
 
 skip-requires : tie.Need-skip-requires Inv-loop μ-loop
 skip-requires c κs =
-    let pre = c .before .before .before .before .before .before .before .before .before .before .before .pre in
+    let pre = c .before .before .before .before .before .before .before .before .before .before .before .before .pre in
     omega (arith, pre .short)
 
 mul-times : tie.Need-mul-times Inv-loop μ-loop
@@ -58,7 +58,7 @@ mul-times c = omega arith
 
 array-write-times : tie.Need-array-write-times Inv-loop μ-loop
 array-write-times c =
-    let pre = c .before .before .before .before .before .before .before .before .before .before .before .before .pre in
+    let pre = c .before .before .before .before .before .before .before .before .before .before .before .before .before .pre in
     omega (arith, pre .short)
 
 mul-ends : tie.Need-mul-ends Inv-loop μ-loop
@@ -66,7 +66,7 @@ mul-ends c = omega arith
 
 array-write-ends : tie.Need-array-write-ends Inv-loop μ-loop
 array-write-ends c =
-    let pre = c .before .before .before .before .before .before .before .before .before .before .before .before .pre in
+    let pre = c .before .before .before .before .before .before .before .before .before .before .before .before .before .pre in
     omega (arith, pre .short)
 
 loop-less : tie.Need-loop-less Inv-loop μ-loop
@@ -74,10 +74,11 @@ loop-less c = omega arith
 
 loop-again : tie.Need-loop-again Inv-loop μ-loop
 loop-again c =
-    let args = c .before .before .before .before .before .before .before .before .before .before .before .before .args in
+    let args = c .before .before .before .before .before .before .before .before .before .before .before .before .before .args in
     let loop = c .before .before .before .before .before .before .before .before .before .before .loop in
     let loop-test = c .before .before .before .before .before .before .before .before .before .loop-test in
-    let pre = c .before .before .before .before .before .before .before .before .before .before .before .before .pre in
+    let pre = c .before .before .before .before .before .before .before .before .before .before .before .before .before .pre in
+    let τ = timeIn (now (c .before .before .before .before .before .before .before .before .before .before .before .before .before .args .operators)) in
     let kind-row = c .before .before .before .before .before .before .before .kind-row in
     let read-node = c .before .before .before .before .before .before .before .before .read-node in
     let time-at = c .before .before .before .before .time-at in
@@ -89,13 +90,13 @@ loop-again c =
       omega (arith, h),
       simp length-set (loop .inv .1),
       simp length-set (loop .inv .2),
-      shaped-more paperTime s (loop .times) (loop .ends) i (λ j p q. loop .inv .3 j (omega (arith, p)) q) h (omega (arith, k, loop .inv .1)) (omega (arith, k, loop .inv .2))
+      shaped-more τ s (loop .times) (loop .ends) i (λ j p q. loop .inv .3 j (omega (arith, p)) q) h (omega (arith, k, loop .inv .1)) (omega (arith, k, loop .inv .2))
           _ (read-node .ensures) _ (time-at .ensures) _ e,
     )
 
 late-check-requires : tie.Need-late-check-requires Inv-loop μ-loop
 late-check-requires c κs =
-    let pre = c .before .before .before .before .before .pre in
+    let pre = c .before .before .before .before .before .before .pre in
     let loop = c .before .before .before .loop in
     (pre, λ j l. loop .inv .3 j (omega arith) l)
 

@@ -5,7 +5,7 @@ use lib.ListN.{length}
 use borrow.Author.Needs.{needs}
 use Rattle.model.specs.declared.Written.{Written}
 use Rattle.model.specs.declared.Written.the-variants.{Done}
-use Rattle.model.specs.Calls.{Told, checkCall, writing}
+use Rattle.model.specs.Calls.{Told, writing}
 use Rattle.word.proofs.Puts.{overwrite-sets}
 use Rattle.text.proofs.Giving.{give-refused, give-short, give-done}
 use Rattle.text.proofs.give.Statement.{statement}
@@ -18,17 +18,17 @@ answer-is e = sym (ap (λ (t : Told Written). t .answer) e)
 abbrev lent-is : {a b : Told Written} → a ≡ b → b .lent ≡ a .lent
 lent-is e = sym (ap (λ (t : Told Written). t .lent) e)
 
-check-requires : tie.Need-check-requires
-check-requires c κs = search needs
+check-by-requires : tie.Need-check-by-requires
+check-by-requires c κs = search needs
 
 enum-known-checked : tie.Need-enum-known-checked
 enum-known-checked c = search needs
 
 returns : tie.Need-returns
-unfolding checkCall writing
+unfolding writing
 returns c =
     let args = c .before .before .before .before .before .before .args in
-    let e = give-refused (args .program .now) (args .lent .now) _ (sym (c .before .before .before .check .ensures) ∙ c .before .checked .given .1) in
+    let e = give-refused (args .table) (args .program .now) (args .lent .now) _ (sym (c .before .before .before .check-by .ensures) ∙ c .before .checked .given .1) in
     (answer-is e, lent-is e)
 
 enum-told : tie.Need-enum-told
@@ -38,11 +38,11 @@ refused-requires : tie.Need-refused-requires
 refused-requires c κs = search needs
 
 returns-2 : tie.Need-returns-2
-unfolding checkCall writing
+unfolding writing
 returns-2 c =
     let args = c .before .before .before .before .before .before .before .args in
-    let accepted = sym (c .before .before .before .before .check .ensures) ∙ c .before .before .enum-told .given .1 in
-    let e = give-short (args .program .now) (args .lent .now) accepted (c .before .if1 .taken) in
+    let accepted = sym (c .before .before .before .before .check-by .ensures) ∙ c .before .before .enum-told .given .1 in
+    let e = give-short (args .table) (args .program .now) (args .lent .now) accepted (c .before .if1 .taken) in
     (c .refused .ensures ∙ answer-is e, lent-is e)
 
 put-bytes-requires : tie.Need-put-bytes-requires
@@ -52,14 +52,14 @@ same-length : tie.Need-same-length
 same-length c = search needs
 
 returns-3 : tie.Need-returns-3
-unfolding checkCall writing
+unfolding writing
 returns-3 c =
     let args = c .before .before .before .before .before .before .before .before .before .before .args in
     let program = args .program .now in
-    let accepted = sym (c .before .before .before .before .before .before .before .check .ensures) ∙ c .before .before .before .before .before .enum-told .given .1 in
+    let accepted = sym (c .before .before .before .before .before .before .before .check-by .ensures) ∙ c .before .before .before .before .before .enum-told .given .1 in
     let room = c .before .before .before .before .if1 .left in
     let put = c .before .before .put-bytes .ensures in
-    let e = give-done program (args .lent .now) accepted room in
+    let e = give-done (args .table) program (args .lent .now) accepted room in
     let n : c .before .before .put-bytes .result ≡ length program = omega (arith, put .0) in
     (ap (λ k. Done k 0) n ∙ answer-is e, put .1 ∙ sym (overwrite-sets program (args .lent .now) room) ∙ lent-is e)
 
@@ -67,7 +67,7 @@ pub give-spec : {M : Type 1} → statement M
 give-spec =
     tie.close
     (tie.spec
-    check-requires
+    check-by-requires
     enum-known-checked
     returns
     enum-told

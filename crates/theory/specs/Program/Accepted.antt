@@ -12,8 +12,10 @@ use lib.Dec.{ltb, eqb}
 use borrow.Author.Tests.{ltb-true, eqb-true, eqb-false}
 use Rattle.model.specs.declared.Node.{Node}
 use Rattle.model.specs.declared.Checked.the-variants.{Accepted}
+use Rattle.model.specs.declared.Loaded.{Loaded}
 use Rattle.model.specs.Word.{pick}
-use Rattle.model.specs.Program.{Expr, Stmt, ok, tick, assign, seq, par, ite, while, repeat, Tree, expr, stmt, none, asExpr, asStmt, exprOf, stmtOf, treeOf, arity, grow, forest, treesAt, stmtAt, nodeCount, nodeAt, nodesFrom, rowOf, programOf, paperTime, least, writes, touches, clash, clashes, faultOf, checkOf}
+use Rattle.model.specs.Program.{Expr, Stmt, ok, tick, assign, seq, par, ite, while, repeat, Tree, expr, stmt, none, asExpr, asStmt, exprOf, stmtOf, treeOf, arity, grow, forest, treesAt, stmtAt, nodeCount, nodeAt, nodesFrom, rowOf, programOf, timeIn, least, writes, touches, clash, clashes, faultOf}
+use Rattle.model.specs.Calls.{checkCall}
 use Rattle.theory.specs.Program.Fit.{FormedExpr, Formed, Timed, Apart, Separate, Fit}
 use Rattle.theory.specs.Program.Grows.{known-kind, low-variable}
 use Rattle.theory.specs.Program.Passed.{Passed, accepted}
@@ -191,5 +193,5 @@ module _ (τ : ℕ → ℕ) (s : List ℕ) (p : Passed τ s) where
       let t = trees-from s 0 (nodeCount s) (omega arith) in
       rw t (fit-s _ (fit-at (forest (nodesFrom s 0 (nodeCount s))) 0 (fit-forest 0 (nodeCount s) (omega arith))))
 
-pub program-fit : (s : List ℕ) → checkOf s ≡ Accepted → Fit (programOf s)
-program-fit s e = tree-fit paperTime s (accepted s e)
+pub program-fit : (table : Loaded) (s : List ℕ) → checkCall table s ≡ Accepted → Fit (programOf s)
+program-fit table s e = tree-fit (timeIn (table .times)) s (accepted table s e)

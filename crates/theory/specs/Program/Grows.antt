@@ -115,8 +115,8 @@ compl-grows d n ts ws h f =
     (first-expr (λ (l : List Tree). Grown (node 3 0 0) l ws) ts ws h
     (λ e us q. record { sorts = ap (λ (l : List ℕ). 1 ∷ l) q; nodes = refl; known = λ g. g }))
 
--- kinds 4 to 9 differ in their number and time alone
-module _ (k : ℕ) (row : rowOf k ≡ record { sort = 1; delay = 0; number = 0; exprs = 2; stmts = 0; time = rowOf k .time }) (low : 4 ≤ k) (high : k ≤ 9)
+-- kinds 4 to 9 differ in their number alone
+module _ (k : ℕ) (row : rowOf k ≡ record { sort = 1; delay = 0; number = 0; exprs = 2; stmts = 0 }) (low : 4 ≤ k) (high : k ≤ 9)
     (tree : (x y z : Tree) → treeOf (node k 0 0) x y z ≡ expr (op k (asExpr x) (asExpr y))) where
   op-unused : (d n : ℕ) → faultOf (node k d n) ≡ 0 → (d ≡ 0) × (n ≡ 0)
   unfolding faultOf spare

@@ -10,8 +10,10 @@ use lib.ListN.{length, getD, take, drop}
 use lib.Dec.{ltb, eqb}
 use borrow.Author.Tests.{lt-ltb, ltb-false}
 use Rattle.model.specs.declared.Checked.the-variants.{Accepted}
+use Rattle.model.specs.declared.Loaded.{Loaded}
 use Rattle.model.specs.Refusals.{refuse, first}
-use Rattle.model.specs.Program.{Tree, stmt, nodeAt, nodeCount, nodesAt, rowOf, none, asStmt, treesAt, stmtAt, programOf, paperTime, least, clashes, programLengthWrong, faultOf, children, reading, slowAt, clashAt, programChecks, checkOf, preorder}
+use Rattle.model.specs.Program.{Tree, stmt, nodeAt, nodeCount, nodesAt, rowOf, none, asStmt, treesAt, stmtAt, programOf, timeIn, least, clashes, programLengthWrong, faultOf, children, reading, slowAt, clashAt, programChecks, checkOf, preorder}
+use Rattle.model.specs.Calls.{checkCall}
 use Rattle.theory.specs.Refusals.Laws.{not-refused, pick-true, or-false, all-accept, accept-take, refuse-unless, fault-unless, first-place}
 use Rattle.theory.specs.Program.Trees.{nodes-step, treeAt}
 use Rattle.theory.specs.Program.Preorder.{allNodes, sortsOf, Known, KnownT, AllKnown}
@@ -37,9 +39,9 @@ unfolding programLengthWrong
 right-length s h = ltb-false 800 (length s) (or-false (ltb 800 (length s)) _ (or-false (eqb (length s) 0) _ h .1) .0)
 
 -- a program above 800 bytes is refused whatever its nodes are
-pub long-refused : (s : List ℕ) → 800 < length s → checkOf s ≡ refuse 1 0
+pub long-refused : (times s : List ℕ) → 800 < length s → checkOf times s ≡ refuse 1 0
 unfolding checkOf programLengthWrong
-long-refused s h = rw (lt-ltb 800 (length s) h, or-true (eqb (length s) 0)) refl
+long-refused times s h = rw (lt-ltb 800 (length s) h, or-true (eqb (length s) 0)) refl
 
 module _ (τ : ℕ → ℕ) (s : List ℕ) where
   pub readable : first (take 3 (programChecks τ s)) ≡ Accepted → Readable s
@@ -59,9 +61,10 @@ module _ (τ : ℕ → ℕ) (s : List ℕ) where
         clashless = λ j l. fault-unless (clashes (stmtAt s j)) 8 (omega arith) (first-place (clashAt s) (nodeCount s) .none (a 4) j l);
       }
 
-pub accepted : (s : List ℕ) → checkOf s ≡ Accepted → Passed paperTime s
-unfolding checkOf
-accepted s e = passed paperTime s e
+-- of a program that is accepted with some table, under that table's times
+pub accepted : (table : Loaded) (s : List ℕ) → checkCall table s ≡ Accepted → Passed (timeIn (table .times)) s
+unfolding checkCall checkOf
+accepted table s e = passed (timeIn (table .times)) s (all-accept (table .checked ∷ checkOf (table .times) s ∷ []) e 1)
 
 -- Trees and ranges of nodes ------------------------------------------------------------------------------------------------------------
 

@@ -8,7 +8,9 @@ use lib.Dec.{ltb, eqb}
 use lib.ListN.{length, getD, drop, length-append}
 use Rattle.model.specs.declared.Node.{Node}
 use Rattle.model.specs.declared.Checked.the-variants.{Accepted}
-use Rattle.model.specs.Program.{Expr, const, var, compl, op, Stmt, ok, tick, assign, seq, par, ite, while, repeat, Tree, none, asExpr, asStmt, stmtOf, treeOf, arity, grow, forest, stmtAt, nodeCount, nodeAt, nodesFrom, programOf, checkOf, preorderE, preorder}
+use Rattle.model.specs.declared.Loaded.{Loaded}
+use Rattle.model.specs.Program.{Expr, const, var, compl, op, Stmt, ok, tick, assign, seq, par, ite, while, repeat, Tree, none, asExpr, asStmt, stmtOf, treeOf, arity, grow, forest, stmtAt, nodeCount, nodeAt, nodesFrom, programOf, preorderE, preorder}
+use Rattle.model.specs.Calls.{checkCall}
 use Rattle.model.specs.Promises.{Bytes}
 use Rattle.theory.specs.Program.Fit.{Timed, Low}
 use Rattle.theory.specs.Program.Accepted.{program-fit, trees-from}
@@ -36,12 +38,12 @@ stmt-nodes (ite d e P Q) = simp length-append (omega (arith, expr-nodes e, stmt-
 stmt-nodes (while d e P) = simp length-append (omega (arith, expr-nodes e, stmt-nodes P))
 stmt-nodes (repeat d e P) = simp length-append (omega (arith, expr-nodes e, stmt-nodes P))
 
-pub all-nodes : (s : List ℕ) → checkOf s ≡ Accepted → nodes (programOf s) ≡ nodeCount s
-all-nodes s e =
-    sym (stmt-nodes (programOf s)) ∙ ap length (program-nodes s (accepted s e .readable)) ∙ length-nodes s 0 (nodeCount s - 0) ∙ omega arith
+pub all-nodes : (table : Loaded) (s : List ℕ) → checkCall table s ≡ Accepted → nodes (programOf s) ≡ nodeCount s
+all-nodes table s e =
+    sym (stmt-nodes (programOf s)) ∙ ap length (program-nodes s (accepted table s e .readable)) ∙ length-nodes s 0 (nodeCount s - 0) ∙ omega arith
 
-pub few-nodes : (s : List ℕ) → checkOf s ≡ Accepted → nodes (programOf s) ≤ 200
-few-nodes s e = omega (arith, all-nodes s e, accepted s e .readable .short)
+pub few-nodes : (table : Loaded) (s : List ℕ) → checkCall table s ≡ Accepted → nodes (programOf s) ≤ 200
+few-nodes table s e = omega (arith, all-nodes table s e, accepted table s e .readable .short)
 
 -- Delays are bytes --------------------------------------------------------------------------------------------------------------------------------------
 
@@ -107,9 +109,9 @@ low-of (ite d e P Q) t h = (h .0, low-of P (t .0) (h .1), low-of Q (t .1) (h .2)
 low-of (while d e P) t h = (t .0, h .0, low-of P (t .1) (h .1))
 low-of (repeat d e P) t h = (t .0, h .0, low-of P (t .1) (h .1))
 
-pub program-low : (s : List ℕ) → Bytes s → checkOf s ≡ Accepted → Low (programOf s)
+pub program-low : (table : Loaded) (s : List ℕ) → Bytes s → checkCall table s ≡ Accepted → Low (programOf s)
 unfolding stmtAt
-program-low s bytes e =
+program-low table s bytes e =
     let short : Short (programOf s) =
     rw (trees-from s 0 (nodeCount s) (omega arith)) (short-at (forest (nodesFrom s 0 (nodeCount s))) 0 (short-forest s bytes 0 (nodeCount s))) in
-    low-of (programOf s) (program-fit s e .timed) short
+    low-of (programOf s) (program-fit table s e .timed) short

@@ -8,21 +8,23 @@ use native.Mathlib.Omega.{arith}
 use lib.Dec.{eqb, ltb}
 use lib.ListN.{length}
 use borrow.Author.Tests.{ltb-true, ltb-false, le-ltb}
+use Rattle.model.specs.declared.Loaded.{Loaded}
 use Rattle.model.specs.declared.Checked.{Checked}
 use Rattle.model.specs.declared.Checked.the-variants.{Accepted}
 use Rattle.model.specs.declared.Outcome.{Outcome}
 use Rattle.model.specs.declared.Outcome.the-variants.{Ended, Open}
 use Rattle.model.specs.declared.Answer.{Answer}
 use Rattle.model.specs.Refusals.{refuse}
-use Rattle.model.specs.Program.{checkOf, programOf}
+use Rattle.model.specs.Program.{programOf}
 use Rattle.model.specs.Rules.{Store, ended, still, run}
 use Rattle.model.specs.Circuit.{high}
 use Rattle.model.specs.NetlistFile.{fileCheck, cellsOf, finishOf, fileLengthWrong}
+use Rattle.model.specs.TimeTables.{builtIn, load}
 use Rattle.model.specs.State.{stateSize, nowAt, beginState}
-use Rattle.model.specs.Calls.{verdict, checkCall, writing, compiledFile, compileCall, wordAt, shows, running, beginCall, runProgramCall, referenceAnswer, answering, referenceCall}
+use Rattle.model.specs.Calls.{verdict, checkCall, writing, compiledFile, compileChecks, compileCall, wordAt, shows, running, beginCall, runProgramCall, referenceAnswer, answering, referenceChecks, referenceCall}
 use Rattle.model.specs.Promises.{Bytes, seen}
 use Rattle.model.specs.Cases.{Case, ends, refuses, compiles, passes, cases, start, endAnswer, Result, ran, numbered, checked, given, wanted, OnCircuit, Hold, times, cases-by-rules}
-use Rattle.theory.specs.Refusals.Laws.{and-true, or-false}
+use Rattle.theory.specs.Refusals.Laws.{and-true, or-false, first-take, first-drop}
 use Rattle.theory.specs.Rules.Laws.{by-run}
 use Rattle.theory.specs.NetlistFile.Passed.{file-passed, count-range, count-cells}
 use Rattle.theory.specs.Promises.Replay.{no-refusal}
@@ -36,13 +38,13 @@ has-ended (Outcome.Refused r) = 0
 
 -- A full run with room -----------------------------------------------------------------------------------------------------------------
 
-module _ (program words forFile forState : List ℕ) (n : ℕ) (bytes : Bytes program) (accepted : checkOf program ≡ Accepted) (some : 32 ≤ length words)
-    (f : 6656 ≤ length forFile) (s : 40968 ≤ length forState) (l : n ≤ 1000000) where
+module _ (table : Loaded) (program words forFile forState : List ℕ) (n : ℕ) (bytes : Bytes program) (accepted : checkCall table program ≡ Accepted)
+    (some : 32 ≤ length words) (f : 6656 ≤ length forFile) (s : 40968 ≤ length forState) (l : n ≤ 1000000) where
   abbrev file : List ℕ
   file = compiledFile program
 
   read : fileCheck file ≡ Accepted
-  read = compiled-accepted program bytes accepted
+  read = compiled-accepted table program bytes accepted
 
   file-room : length file ≤ 6656
   unfolding fileLengthWrong
@@ -59,27 +61,27 @@ module _ (program words forFile forState : List ℕ) (n : ℕ) (bytes : Bytes pr
       rw (read, le-ltb (length words) 32 some, le-ltb (length forState) (stateSize (cellsOf file)) state-room)
       (no-refusal (high (nowAt (beginState (cellsOf file) (wordAt words) forState) (finishOf file))))
 
-  full-is : runProgramCall program words n forFile forState .answer ≡ whole-run program file words forState accepted refl begins n
-  full-is = program-run program file words forState accepted refl begins forFile (le-ltb (length forFile) (length file) (omega (arith, file-room))) n l
+  full-is : runProgramCall table program words n forFile forState .answer ≡ whole-run table program file words forState accepted refl begins n
+  full-is = program-run table program file words forState accepted refl begins forFile (le-ltb (length forFile) (length file) (omega (arith, file-room))) n l
 
-  reference-is : referenceCall program words n ≡ referenceAnswer n (run n (programOf program) (wordAt words))
-  unfolding referenceCall answering
-  reference-is = rw (accepted, le-ltb 1000000 n l, le-ltb (length words) 32 some)
+  reference-is : referenceCall table program words n ≡ referenceAnswer n (run n (programOf program) (wordAt words))
+  unfolding referenceCall answering checkCall
+  reference-is = rw (first-drop 2 (referenceChecks table program words n) accepted, le-ltb 1000000 n l, le-ltb (length words) 32 some)
 
   -- where the rules end within the budget, the two runs answer the same
   pub full-run : (t : ℕ) (σ′ : Store) → run n (programOf program) (wordAt words) ≡ ended t σ′
-      → runProgramCall program words n forFile forState .answer ≡ referenceCall program words n
-  full-run t σ′ p = full-is ∙ agrees program file words forState accepted refl begins n t l σ′ p ∙ sym (reference-is ∙ ap (referenceAnswer n) p)
+      → runProgramCall table program words n forFile forState .answer ≡ referenceCall table program words n
+  full-run t σ′ p = full-is ∙ agrees table program file words forState accepted refl begins n t l σ′ p ∙ sym (reference-is ∙ ap (referenceAnswer n) p)
 
   -- where they do not, the full run is open at the budget's end, as the reference run is
   pub full-run-open : run n (programOf program) (wordAt words) ≡ still →
-      let a = runProgramCall program words n forFile forState .answer in
+      let a = runProgramCall table program words n forFile forState .answer in
       seen (a .outcome) (a .instant) (a .count) ≡ seen Open n (n + 1)
   full-run-open p =
-      ap (λ (a : Answer). seen (a .outcome) (a .instant) (a .count)) full-is ∙ stays-open program file words forState accepted refl begins n l p
+      ap (λ (a : Answer). seen (a .outcome) (a .instant) (a .count)) full-is ∙ stays-open table program file words forState accepted refl begins n l p
 
   -- a reference run that says that it ended has an end
-  not-still : has-ended (referenceCall program words n .outcome) ≡ 1 → run n (programOf program) (wordAt words) ≡ still → ⊥
+  not-still : has-ended (referenceCall table program words n .outcome) ≡ 1 → run n (programOf program) (wordAt words) ≡ still → ⊥
   unfolding has-ended referenceAnswer
   not-still h p = omega (arith, h, ap (λ (a : Answer). has-ended (a .outcome)) (reference-is ∙ ap (referenceAnswer n) p))
 
@@ -126,13 +128,13 @@ on-circuit (ends p v n t w) e g = λ forFile forState f s.
     let b = and-true (bytesOnly p) (ltb n 1000000) g in
     let l : n ≤ 1000000 = omega (arith, ltb-true n 1000000 (b .1)) in
     let y = bytes-of p (b .0) in
-    let a : checkOf p ≡ Accepted = ap checked-of e in
-    let r : referenceCall p (start v) n ≡ endAnswer t w = ap (answer-of (endAnswer t w)) e in
-    by-run (run n (programOf p) (wordAt (start v))) (λ t₁ σ′ q. full-run p (start v) forFile forState n y a (omega arith) f s l t₁ σ′ q ∙ r)
-    (λ q. absurd (not-still p (start v) forFile forState n y a (omega arith) f s l (ap (λ (a : Answer). has-ended (a .outcome)) r) q))
+    let a : checkCall (load builtIn) p ≡ Accepted = ap checked-of e in
+    let r : referenceCall (load builtIn) p (start v) n ≡ endAnswer t w = ap (answer-of (endAnswer t w)) e in
+    by-run (run n (programOf p) (wordAt (start v))) (λ t₁ σ′ q. full-run (load builtIn) p (start v) forFile forState n y a (omega arith) f s l t₁ σ′ q ∙ r)
+    (λ q. absurd (not-still (load builtIn) p (start v) forFile forState n y a (omega arith) f s l (ap (λ (a : Answer). has-ended (a .outcome)) r) q))
 on-circuit (refuses p k i) e g = λ lent.
-    let c : checkOf p ≡ refuse k i = ap checked-of e in
-    rw c
+    let c : checkCall (load builtIn) p ≡ refuse k i = ap checked-of e in
+    rw (first-take 2 (compileChecks (load builtIn) p lent) c)
 on-circuit (compiles p n f) e g = tt
 on-circuit (passes p) e g = tt
 

@@ -6,12 +6,14 @@ use Prim.Native.Nat.{ℕ, _+_, _*_, _<_}
 use native.Mathlib.Omega.{arith}
 use lib.ListN.{length, take}
 use Rattle.model.specs.declared.Checked.the-variants.{Accepted}
+use Rattle.model.specs.declared.Loaded.{Loaded}
 use Rattle.model.specs.declared.Written.the-variants.{Done}
 use Rattle.model.specs.Word.{get16}
-use Rattle.model.specs.Program.{checkOf, programOf}
+use Rattle.model.specs.Program.{programOf}
 use Rattle.model.specs.Numbering.{netlist, finish}
 use Rattle.model.specs.NetlistFile.{fileCheck, cellsOf, finishOf}
-use Rattle.model.specs.Calls.{compiledFile, compileCall, wordAt}
+use Rattle.model.specs.TimeTables.{load}
+use Rattle.model.specs.Calls.{checkCall, compiledFile, compileCall, wordAt}
 use Rattle.model.specs.Promises.{Bytes, Published, Demand1, Demand2, Demand3}
 use Rattle.theory.specs.Program.Accepted.{program-fit}
 use Rattle.theory.specs.Program.Size.{few-nodes, program-low}
@@ -29,22 +31,22 @@ pub demand1 : Demand1
 demand1 = demand-1
 
 -- the file that compiling writes is accepted
-pub compiled-accepted : (program : List ℕ) → Bytes program → checkOf program ≡ Accepted → fileCheck (compiledFile program) ≡ Accepted
-compiled-accepted s bytes e =
+pub compiled-accepted : (table : Loaded) (program : List ℕ) → Bytes program → checkCall table program ≡ Accepted → fileCheck (compiledFile program) ≡ Accepted
+compiled-accepted table s bytes e =
     let P = programOf s in
-    let w = program-fit s e .formed in
-    let z = program-low s bytes e in
-    file-accepted (netlist P) (finish P) (count-right P w z (few-nodes s e)) (net-accepted P w z)
+    let w = program-fit table s e .formed in
+    let z = program-low table s bytes e in
+    file-accepted (netlist P) (finish P) (count-right P w z (few-nodes table s e)) (net-accepted P w z)
 
-published : (program lent : List ℕ) (n f : ℕ) → Bytes program → compileCall program lent .answer ≡ Done n f
-    → Published program (take n (compileCall program lent .lent)) f
-published program lent n f bytes e =
+published : (table : Loaded) (program lent : List ℕ) (n f : ℕ) → Bytes program → compileCall table program lent .answer ≡ Done n f
+    → Published program (take n (compileCall table program lent .lent)) f
+published table program lent n f bytes e =
     let P = programOf program in
-    let file = file-made program lent n f e in
+    let file = file-made table program lent n f e in
     let some : 0 < length (netlist P) = omega (arith, net-length P) in
-    let g = compiled program lent n f e .finish in
+    let g = compiled table program lent n f e .finish in
     record {
-      accepted = ap fileCheck file ∙ compiled-accepted program bytes (program-accepted program lent n f e);
+      accepted = ap fileCheck file ∙ compiled-accepted table program bytes (program-accepted table program lent n f e);
       cells = ap cellsOf file ∙ cells-written (netlist P) (finish P) some;
       finishes = (g, ap finishOf file ∙ finish-written (netlist P) (finish P) some ∙ sym g);
     }
@@ -56,7 +58,7 @@ word-low words y x = omega (arith, y (2 * x), y (2 * x + 1))
 pub demand2 : Demand2
 demand2 =
     record {
-      compiled = published;
+      compiled = λ T. published (load T);
       files = same-file;
       runs = λ file words e. one-run (cellsOf file) (net-ordered (cellsOf file) (finishOf file) (file-passed file e .cells)) words;
       bounded = λ file words y z e. file-bounded file y e (wordAt words) (word-low words z);
@@ -64,6 +66,6 @@ demand2 =
 
 pub demand3 : Demand3
 unfolding Demand3
-demand3 program forFile words forState calls n f made begun =
-    keeps program (take n (compileCall program forFile .lent)) words forState (program-accepted program forFile n f made) (file-made program forFile n f made) begun
-    forFile (file-fits program forFile n f made) calls
+demand3 T program forFile words forState calls n f made begun =
+    keeps (load T) program (take n (compileCall (load T) program forFile .lent)) words forState (program-accepted (load T) program forFile n f made)
+    (file-made (load T) program forFile n f made) begun forFile (file-fits (load T) program forFile n f made) calls

@@ -12,6 +12,7 @@ use lib.ListN.{length, take, drop}
 use lib.Seq.{take-append-seam}
 use borrow.Author.Tests.{ltb-false, le-ltb, eq-eqb, ne-eqb}
 use Rattle.model.specs.declared.Cell.{Cell}
+use Rattle.model.specs.declared.Loaded.{Loaded}
 use Rattle.model.specs.declared.Checked.{Checked}
 use Rattle.model.specs.declared.Checked.the-variants.{Accepted}
 use Rattle.model.specs.declared.Outcome.the-variants.{Open}
@@ -19,15 +20,15 @@ use Rattle.model.specs.declared.Written.{Written}
 use Rattle.model.specs.declared.Written.the-variants.{Done}
 use Rattle.model.specs.declared.Answer.{Answer}
 use Rattle.model.specs.Refusals.{first}
-use Rattle.model.specs.Program.{Stmt, checkOf, programOf}
+use Rattle.model.specs.Program.{Stmt, programOf}
 use Rattle.model.specs.Rules.{Store, ended, still, run, endsAt, due}
 use Rattle.model.specs.Circuit.{Values, high, level, Obeys, memories}
 use Rattle.model.specs.Numbering.{netlist, finish, memoryAt}
 use Rattle.model.specs.NetlistFile.{fileCheck, cellsOf, finishOf}
 use Rattle.model.specs.State.{stateSize, instantOf, nowAt, beginState, lastState, evaluated, wordsIn}
-use Rattle.model.specs.Calls.{Told, verdict, compiledFile, compileChecks, compileCall, wordAt, refusedAnswer, shows, running, beginChecks, beginCall, continueCall, fullState, fullCount, runNetlistCall, runProgramCall, listed, referenceAnswer}
+use Rattle.model.specs.Calls.{Told, verdict, checkCall, compiledFile, compileChecks, compileCall, wordAt, refusedAnswer, shows, running, beginChecks, beginCall, continueCall, fullState, fullCount, runNetlistCall, runProgramChecks, runProgramCall, listed, referenceAnswer}
 use Rattle.model.specs.Promises.{Call, replay, Seen, seen, seenOf, endedIf, expected, Shown, Every, Unchanged, lastOf, stopsAt, Keeps}
-use Rattle.theory.specs.Refusals.Laws.{by-bool, not-refused, all-accept, refuse-unless}
+use Rattle.theory.specs.Refusals.Laws.{by-bool, not-refused, all-accept, refuse-unless, accept-take, first-drop}
 use Rattle.theory.specs.Program.Accepted.{program-fit}
 use Rattle.theory.specs.Program.Fit.{Fit}
 use Rattle.theory.specs.Rules.Laws.{steady, still-before, still-below}
@@ -54,19 +55,20 @@ ran Accepted file s n lent e = refl
 ran (Checked.Refused r) file s n lent e = e
 
 -- what compiling wrote
-module _ (program forFile : List ℕ) (n f : ℕ) (done : compileCall program forFile .answer ≡ Done n f) where
-  pub compiled : Wrote (first (compileChecks program forFile)) (compiledFile program) (length (compiledFile program)) (finish (programOf program)) forFile n f
+module _ (table : Loaded) (program forFile : List ℕ) (n f : ℕ) (done : compileCall table program forFile .answer ≡ Done n f) where
+  pub compiled : Wrote (first (compileChecks table program forFile)) (compiledFile program) (length (compiledFile program)) (finish (programOf program)) forFile n f
   unfolding compileCall
   compiled =
-      wrote (first (compileChecks program forFile)) (compiledFile program) (length (compiledFile program)) (finish (programOf program)) forFile n f done
+      wrote (first (compileChecks table program forFile)) (compiledFile program) (length (compiledFile program)) (finish (programOf program)) forFile n f done
 
-  pub program-accepted : checkOf program ≡ Accepted
-  program-accepted = all-accept (compileChecks program forFile) (compiled .accepted) 0
+  pub program-accepted : checkCall table program ≡ Accepted
+  unfolding checkCall
+  program-accepted = accept-take 2 (compileChecks table program forFile) (compiled .accepted)
 
   pub file-fits : ltb (length forFile) (length (compiledFile program)) ≡ false
-  file-fits = refuse-unless _ 14 0 (all-accept (compileChecks program forFile) (compiled .accepted) 1)
+  file-fits = refuse-unless _ 14 0 (all-accept (compileChecks table program forFile) (compiled .accepted) 2)
 
-  pub file-made : take n (compileCall program forFile .lent) ≡ compiledFile program
+  pub file-made : take n (compileCall table program forFile .lent) ≡ compiledFile program
   unfolding compileCall
   file-made =
       ap₂ (λ (k : ℕ) (r : Told Written). take k (r .lent)) (compiled .count) (compiled .told)
@@ -92,7 +94,7 @@ stops-never F (suc n) a h =
 
 -- The promise --------------------------------------------------------------------------------------------------------------------------
 
-module _ (program file words lent : List ℕ) (accepted : checkOf program ≡ Accepted) (e : file ≡ compiledFile program)
+module _ (table : Loaded) (program file words lent : List ℕ) (accepted : checkCall table program ≡ Accepted) (e : file ≡ compiledFile program)
     (begun : verdict (beginCall file words lent .answer .outcome) ≡ Accepted) where
   abbrev P : Stmt
   P = programOf program
@@ -107,7 +109,7 @@ module _ (program file words lent : List ℕ) (accepted : checkOf program ≡ Ac
   net = cellsOf file
 
   fit : Fit P
-  fit = program-fit program accepted
+  fit = program-fit table program accepted
 
   some : 0 < length (netlist P)
   some = omega (arith, net-length P)
@@ -230,9 +232,10 @@ module _ (program file words lent : List ℕ) (accepted : checkOf program ≡ Ac
   last-is n l = rw (begin-is, continued n l) (by-bool (high (nowAt state F)) (λ z. rw (z, z) refl) (λ z. rw z refl))
 
   pub program-run : (forFile : List ℕ) → ltb (length forFile) (length (compiledFile program)) ≡ false → (n : ℕ) → n ≤ 1000000
-      → runProgramCall program words n forFile lent .answer ≡ whole-run n
-  unfolding runProgramCall running whole-run
-  program-run forFile fits n l = rw (← e, accepted, le-ltb 1000000 n l, words-fit, rw (← e) at fits, state-fits)
+      → runProgramCall table program words n forFile lent .answer ≡ whole-run n
+  unfolding runProgramCall running whole-run checkCall
+  program-run forFile fits n l =
+      rw (first-drop 2 (runProgramChecks table program words n forFile lent) accepted, ← e, le-ltb 1000000 n l, words-fit, fits, rw e at state-fits)
 
   netlist-run : (n : ℕ) → n ≤ 1000000 → runNetlistCall file words n lent .answer ≡ whole-run n
   unfolding runNetlistCall running whole-run
@@ -241,7 +244,7 @@ module _ (program file words lent : List ℕ) (accepted : checkOf program ≡ Ac
   -- the whole promise
   pub keeps : (forFile : List ℕ) → ltb (length forFile) (length (compiledFile program)) ≡ false → (calls : List Call)
       → Keeps P σ file (beginCall file words lent) calls
-      (λ k. runProgramCall program words k forFile lent .answer ∷ runNetlistCall file words k lent .answer ∷ [])
+      (λ k. runProgramCall table program words k forFile lent .answer ∷ runNetlistCall file words k lent .answer ∷ [])
   keeps forFile fits calls =
       record {
         due = due P σ;

@@ -93,6 +93,17 @@ pub first-one : (c : Checked) → c ≡ first (c ∷ [])
 first-one Accepted = refl
 first-one (Refused q) = refl
 
+-- what stands behind a check matters by what is found first in it alone
+pub first-behind : (c : Checked) (cs ds : List Checked) → first cs ≡ first ds → first (c ∷ cs) ≡ first (c ∷ ds)
+first-behind Accepted cs ds e = e
+first-behind (Refused q) cs ds e = refl
+
+-- two checks that are found as one
+pub first-two : (a b : Checked) (cs : List Checked) → first (a ∷ b ∷ cs) ≡ first (first (a ∷ b ∷ []) ∷ cs)
+first-two Accepted Accepted cs = refl
+first-two Accepted (Refused q) cs = refl
+first-two (Refused q) b cs = refl
+
 -- a list of checks in two parts: the first part refuses, or what refuses is in the second
 pub first-take : (n : ℕ) (cs : List Checked) {r : Refusal} → first (take n cs) ≡ Refused r → first cs ≡ Refused r
 first-take zero [] e = e

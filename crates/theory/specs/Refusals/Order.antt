@@ -6,7 +6,7 @@ use mathlib.Core.List.{List, [], _∷_, _++_}
 use Prim.Native.Nat.{ℕ, _+_, _*_, _/_, _%_, _≤_}
 use native.Mathlib.Omega.{arith}
 use lib.Dec.{eqb, leb, ltb}
-use lib.ListN.{length}
+use lib.ListN.{length, getD}
 use borrow.Author.Tests.{leb-true}
 use Rattle.model.specs.declared.Refusal.{Refusal}
 use Rattle.model.specs.declared.Node.{Node}
@@ -16,15 +16,16 @@ use Rattle.model.specs.declared.Checked.the-variants.{Accepted, Refused}
 use Rattle.model.specs.declared.Answer.{Answer}
 use Rattle.model.specs.Word.{pick}
 use Rattle.model.specs.Refusals.{refuse, refuseIf, first, firstFault, faultIf}
-use Rattle.model.specs.Program.{paperTime, nodeAt, nodesAt, nodeCount, rowOf, spare, faultOf, children, reading, slowAt, clashAt, clashes, stmtAt, least, programLengthWrong, programChecks, checkOf, programOf}
+use Rattle.model.specs.Program.{timeIn, nodeAt, nodesAt, nodeCount, rowOf, spare, faultOf, children, reading, slowAt, clashAt, clashes, stmtAt, least, programLengthWrong, programChecks, checkOf, programOf}
 use Rattle.model.specs.Rules.{Run, ended, still, run}
 use Rattle.model.specs.Circuit.{high, cellAt, control, shape, memories}
 use Rattle.model.specs.Numbering.{finish}
 use Rattle.model.specs.NetlistFile.{wordSum, blockAt, headed, placed, keeps, fileLengthWrong, sumFault, countWrong, headerFault, cellFault, netChecks, netCheck, fileChecks, fileCheck, blocksFor, fileOf, cellBytes, cellsOf, countOf, finishOf}
+use Rattle.model.specs.TimeTables.{byteWrong, tableFault, tableSumWrong, tableChecks, Table, builtIn, given, load}
 use Rattle.model.specs.State.{stateSize, instantOf, nowAt, sound, beginState, lastState, evaluated}
-use Rattle.model.specs.Calls.{verdict, writtenVerdict, short, checkCall, writing, compiledFile, compileChecks, compileCall, cellsIn, writeChecks, writeCall, readChecks, readCall, wordAt, shows, running, beginChecks, beginCall, continueChecks, continueCall, fullState, fullCount, overBudget, runNetlistChecks, runNetlistCall, runProgramChecks, runProgramCall, referenceAnswer, answering, referenceChecks, referenceCall}
+use Rattle.model.specs.Calls.{verdict, writtenVerdict, short, checkCall, writing, compiledFile, netlistChecks, compileChecks, compileCall, cellsIn, writeChecks, writeCall, readChecks, readCall, wordAt, shows, running, beginChecks, beginCall, continueChecks, continueCall, fullState, fullCount, overBudget, runNetlistChecks, runNetlistCall, fullRunChecks, runProgramChecks, runProgramCall, referenceAnswer, answering, referenceChecks, referenceCall}
 use Rattle.model.specs.Promises.{Gives, InOrder, Refuses, Leaves, Demand1}
-use Rattle.theory.specs.Refusals.Laws.{and-true, not-refused, same-refusal, first-found, first-place}
+use Rattle.theory.specs.Refusals.Laws.{and-true, not-refused, same-refusal, first-one, first-behind, first-found, first-place}
 use Rattle.theory.specs.Promises.Replay.{no-refusal}
 
 -- The numbers that a check gives -------------------------------------------------------------------------------------------------------
@@ -113,9 +114,22 @@ program-order τ s = (
   ),
 )
 
-pub check-gives : (s : List ℕ) → Gives (1, 8) (checkOf s)
+pub check-gives : (times s : List ℕ) → Gives (1, 8) (checkOf times s)
 unfolding checkOf
-check-gives s = gives-first 1 8 ((1, 1) ∷ (2, 4) ∷ (5, 6) ∷ (7, 7) ∷ (8, 8) ∷ []) (programChecks paperTime s) refl (program-order paperTime s)
+check-gives times s =
+    gives-first 1 8 ((1, 1) ∷ (2, 4) ∷ (5, 6) ∷ (7, 7) ∷ (8, 8) ∷ []) (programChecks (timeIn times) s) refl (program-order (timeIn times) s)
+
+table-order : (file : List ℕ) → InOrder ((19, 19) ∷ (20, 20) ∷ (21, 21) ∷ []) (tableChecks file)
+unfolding tableFault
+table-order file = (
+  gives-if (not (eqb (length file) 512)) 19 0,
+  (gives-if (tableSumWrong file) 20 0, (gives-fault 21 21 (tableFault file) 512 (λ i. faulty-if (byteWrong i (getD file i 0)) 21), tt)),
+)
+
+pub table-gives : (T : Table) → Gives (19, 21) (load T .checked)
+unfolding load
+table-gives builtIn = gives-none
+table-gives (given file) = gives-first 19 21 ((19, 19) ∷ (20, 20) ∷ (21, 21) ∷ []) (tableChecks file) refl (table-order file)
 
 net-gives : (net : List Cell) (f : ℕ) → Gives (12, 12) (netCheck net f)
 unfolding netCheck cellFault
@@ -202,14 +216,14 @@ reference-runs n program words = go (run n (programOf program) (wordAt words))
     go (ended t σ) = refl
     go still = refl
 
-pub compile-order : (program lent : List ℕ) → InOrder ((1, 8) ∷ (14, 14) ∷ []) (compileChecks program lent)
-compile-order program lent = (check-gives program, (short-gives (length lent) (length (compiledFile program)), tt))
+pub compile-order : (times program lent : List ℕ) → InOrder ((1, 8) ∷ (14, 14) ∷ []) (netlistChecks times program lent)
+compile-order times program lent = (check-gives times program, (short-gives (length lent) (length (compiledFile program)), tt))
 
-pub run-order : (program words : List ℕ) (n : ℕ) (forFile lent : List ℕ)
-    → InOrder ((1, 8) ∷ (13, 13) ∷ (14, 14) ∷ (14, 14) ∷ (14, 14) ∷ []) (runProgramChecks program words n forFile lent)
-run-order program words n forFile lent =
+pub run-order : (times program words : List ℕ) (n : ℕ) (forFile lent : List ℕ)
+    → InOrder ((1, 8) ∷ (13, 13) ∷ (14, 14) ∷ (14, 14) ∷ (14, 14) ∷ []) (fullRunChecks times program words n forFile lent)
+run-order times program words n forFile lent =
     let file = compiledFile program in
-    (check-gives program, (budget-gives n, (short-gives (length words) 32, (short-gives (length forFile) (length file), (short-gives (length lent) (stateSize (cellsOf file)), tt)))))
+    (check-gives times program, (budget-gives n, (short-gives (length words) 32, (short-gives (length forFile) (length file), (short-gives (length lent) (stateSize (cellsOf file)), tt)))))
 
 -- a full run of a program, after whatever checks
 pub run-both-refuses : (ns : List (ℕ × ℕ)) (cs : List Checked) → InOrder ns cs → (file s : List ℕ) (n : ℕ) (forFile lent : List ℕ) →
@@ -219,15 +233,16 @@ run-both-refuses ns cs o file s n forFile lent =
     rw (running-verdict (first cs) file s n lent)
     (refuses ns cs o, writing-leaves (first cs) file (length file) 0 forFile, running-leaves (first cs) file s n lent)
 
-program-runs : (program words : List ℕ) (n : ℕ) (forFile lent : List ℕ) →
-    let r = runProgramCall program words n forFile lent in
+program-runs : (T : Table) (program words : List ℕ) (n : ℕ) (forFile lent : List ℕ) →
+    let r = runProgramCall (load T) program words n forFile lent in
     let c = verdict (r .answer .outcome) in
-    Refuses ((1, 8) ∷ (13, 13) ∷ (14, 14) ∷ (14, 14) ∷ (14, 14) ∷ []) (runProgramChecks program words n forFile lent) c
+    Refuses ((19, 21) ∷ (1, 8) ∷ (13, 13) ∷ (14, 14) ∷ (14, 14) ∷ (14, 14) ∷ []) (runProgramChecks (load T) program words n forFile lent) c
     × Leaves c forFile (r .netlist) × Leaves c lent (r .state)
 unfolding runProgramCall
-program-runs program words n forFile lent =
+program-runs T program words n forFile lent =
     let file = compiledFile program in
-    run-both-refuses _ (runProgramChecks program words n forFile lent) (run-order program words n forFile lent) file (fullState file words n lent)
+    run-both-refuses _ (runProgramChecks (load T) program words n forFile lent)
+    (table-gives T, run-order (load T .times) program words n forFile lent) file (fullState file words n lent)
     (fullCount file words n lent) forFile lent
 
 pub demand-1 : Demand1
@@ -235,10 +250,14 @@ unfolding checkCall checkOf fileCheck compileCall writeCall readCall beginCall c
 demand-1 =
     record {
       places = first-place;
-      programs = λ program. refuses _ (programChecks paperTime program) (program-order paperTime program);
+      tables = λ file. unfold load in refuses _ (tableChecks file) (table-order file);
+      programs = λ T program.
+          let τ = timeIn (load T .times) in
+          rw (first-behind (load T .checked) (first (programChecks τ program) ∷ []) (programChecks τ program) (sym (first-one _)))
+          (refuses _ (load T .checked ∷ programChecks τ program) (table-gives T, program-order τ program));
       files = λ file. refuses _ (fileChecks file) (file-order file);
-      compiling = λ program lent.
-          write-refuses _ (compileChecks program lent) (compile-order program lent) (compiledFile program) (length (compiledFile program))
+      compiling = λ T program lent.
+          write-refuses _ (compileChecks (load T) program lent) (table-gives T, compile-order (load T .times) program lent) (compiledFile program) (length (compiledFile program))
           (finish (programOf program)) lent;
       writing = λ cells f lent.
           let net = cellsIn cells in
@@ -268,7 +287,7 @@ demand-1 =
           (file-gives file, (budget-gives n, (short-gives (length words) 32, (short-gives (length lent) (stateSize (cellsOf file)), tt)))) file
           (fullState file words n lent) (fullCount file words n lent) lent;
       programRuns = program-runs;
-      references = λ program words n.
-          rw (answering-verdict (first (referenceChecks program words n)) (referenceAnswer n (run n (programOf program) (wordAt words))) (reference-runs n program words))
-          (refuses _ (referenceChecks program words n) (check-gives program, (budget-gives n, (short-gives (length words) 32, tt))));
+      references = λ T program words n.
+          rw (answering-verdict (first (referenceChecks (load T) program words n)) (referenceAnswer n (run n (programOf program) (wordAt words))) (reference-runs n program words))
+          (refuses _ (referenceChecks (load T) program words n) (table-gives T, (check-gives (load T .times) program, (budget-gives n, (short-gives (length words) 32, tt)))));
     }

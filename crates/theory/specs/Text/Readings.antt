@@ -4,12 +4,14 @@ use mathlib.Core.Path.{_≡_, refl, _∙_, ap}
 use mathlib.Core.List.{List}
 use Prim.Native.Nat.{ℕ}
 use lib.ListN.{length, take}
+use Rattle.model.specs.declared.Loaded.{Loaded}
 use Rattle.model.specs.declared.Node.{Node}
 use Rattle.model.specs.declared.Checked.the-variants.{Accepted}
 use Rattle.model.specs.declared.Written.the-variants.{Done}
 use Rattle.model.specs.Program.{Stmt, preorder, nodeBytes, programOf}
 use Rattle.model.specs.Text.{wordsOf, tokens, Means, BreaksAt}
 use Rattle.model.specs.Reader.{Reading, good, bad, readerAtFirst}
+use Rattle.model.specs.TimeTables.{load}
 use Rattle.model.specs.TextCalls.{readingOf, brokenAt, bytesRead, textChecks, readTextCall}
 use Rattle.model.specs.TextPromises.{placeAt, Texts}
 use Rattle.theory.specs.Refusals.Laws.{not-refused, all-accept}
@@ -51,12 +53,12 @@ module _ (text : List ℕ) where
       go (good ns) e a = let q = read ns e in (q .0, q .1, ap nodeBytes (q .2))
       go (bad p) e a = not-refused a
 
-program : (text lent : List ℕ) (n f : ℕ) → readTextCall text lent .answer ≡ Done n f →
-    let bytes = take n (readTextCall text lent .lent) in
+program : (table : Loaded) (text lent : List ℕ) (n f : ℕ) → readTextCall table text lent .answer ≡ Done n f →
+    let bytes = take n (readTextCall table text lent .lent) in
     (P : Stmt) × Means (tokens (wordsOf text)) P × (bytes ≡ nodeBytes (preorder P)) × (programOf bytes ≡ P)
-program text lent n f done =
-    let q = meant text (all-accept (textChecks text) (text-accepted text lent n f done) 2) in
-    let e = program-made text lent n f done ∙ q .2 in
+program table text lent n f done =
+    let q = meant text (all-accept (textChecks text) (text-accepted table text lent n f done) 2) in
+    let e = program-made table text lent n f done ∙ q .2 in
     (q .0, q .1, e, ap programOf e ∙ program-back (q .1))
 
 pub texts : Texts
@@ -66,9 +68,9 @@ texts =
       found = found;
       read = read;
       broken = broken;
-      program = program;
-      compiled = compile-as-program;
-      run = run-as-program;
+      program = λ T. program (load T);
+      compiled = λ T. compile-as-program (load T);
+      run = λ T. run-as-program (load T);
       reading = read-text-refuses;
       compiling = compile-text-refuses;
       runs = run-text-refuses;

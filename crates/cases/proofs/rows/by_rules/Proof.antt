@@ -2,6 +2,7 @@
 use mathlib.Core.Path.{_∙_, ap}
 use mathlib.Core.List.{List}
 use Prim.Native.Nat.{ℕ}
+use Rattle.model.specs.TimeTables.{builtIn, load}
 use Rattle.model.specs.Calls.{referenceCall}
 use Rattle.cases.proofs.Laws.{start-put}
 use borrow.Author.Needs.{needs}
@@ -24,7 +25,7 @@ returns : tie.Need-returns
 returns c =
     let put = c .before .before .before .put16 in
     let args = c .before .before .before .before .before .before .args in
-    c .reference-run .ensures ∙ ap (λ (words : List ℕ). referenceCall (args .program .now) words (args .budget)) (start-put (args .word) (put .ensures))
+    c .reference-run .ensures ∙ ap (λ (words : List ℕ). referenceCall (load builtIn) (args .program .now) words (args .budget)) (start-put (args .word) (put .ensures))
 
 pub by-rules-spec : {M : Type 1} → statement M
 by-rules-spec =

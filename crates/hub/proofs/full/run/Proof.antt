@@ -10,7 +10,7 @@ compile-accepted-requires : tie.Need-compile-accepted-requires
 compile-accepted-requires c κs =
     let start = c .before .before .before .before .before in
     let args = start .args in
-    let r = ready (args .program .now) (args .words .now) (args .budget) (args .netlist .now) (args .state .now) (start .pre) in
+    let r = ready (args .table) (args .program .now) (args .words .now) (args .budget) (args .netlist .now) (args .state .now) (start .pre) in
     (r .accepted, r .fits)
 
 sub-full-run : tie.Need-sub-full-run
@@ -30,10 +30,10 @@ full-run-requires c κs =
     let compile = c .before .before .before .before .before .compile-accepted in
     let start = c .before .before .before .before .before .before .before .before .before .before .before in
     let args = start .args in
-    let r = ready (args .program .now) (args .words .now) (args .budget) (args .netlist .now) (args .state .now) (start .pre) in
+    let r = ready (args .table) (args .program .now) (args .words .now) (args .budget) (args .netlist .now) (args .state .now) (start .pre) in
     let known = c .before .before .before .before .before .before .before .before .before .before .shared-slice-known .given in
     let same = part-is (compiledFile (args .program .now)) (args .netlist .now) _ _ (compile .ensures .0) (compile .ensures .1) in
-    rw same (runs (args .program .now) (args .words .now) (args .budget) (args .netlist .now) (args .state .now) (λ i. omega (arith, known i)) r, r .start, r .few)
+    rw same (runs (args .table) (args .program .now) (args .words .now) (args .budget) (args .netlist .now) (args .state .now) (λ i. omega (arith, known i)) r, r .start, r .few)
 
 same-length : tie.Need-same-length
 same-length c = search needs

@@ -16,14 +16,17 @@ abbrev μ-loop : tie.MeasureT-loop
 loop-holds : tie.Need-loop-holds Inv-loop μ-loop
 loop-holds c = searched-none (sumFault (c .before .args .s .now)) (c .before .args .m)
 
-block-sum-requires : tie.Need-block-sum-requires Inv-loop μ-loop
-block-sum-requires c κs = omega arith
+mul-sum16 : tie.Need-mul-sum16 Inv-loop μ-loop
+mul-sum16 c = omega arith
+
+sum16-requires : tie.Need-sum16-requires Inv-loop μ-loop
+sum16-requires c κs = omega arith
 
 returns : tie.Need-returns Inv-loop μ-loop
 returns c =
     let args = c .before .before .before .before .before .args in
     let loop = c .before .before .before .loop in
-    let wrong = sum-wrong (args .s .now) (loop .b) (c .before .block-sum .ensures) (c .if1 .taken) in
+    let wrong = sum-wrong (args .s .now) (loop .b) (c .before .sum16 .ensures) (c .if1 .taken) in
     fault-here (loop .inv) 10 (c .before .before .loop-test .taken) (omega arith) wrong
 
 add-b : tie.Need-add-b Inv-loop μ-loop
@@ -36,7 +39,7 @@ loop-again : tie.Need-loop-again Inv-loop μ-loop
 loop-again c =
     let args = c .before .before .before .before .before .args in
     let loop = c .before .before .before .loop in
-    let right = sum-right (args .s .now) (loop .b) (c .before .block-sum .ensures) (c .if1 .left) in
+    let right = sum-right (args .s .now) (loop .b) (c .before .sum16 .ensures) (c .if1 .left) in
     fault-next (loop .inv) (c .before .before .loop-test .taken) right
 
 returns-2 : tie.Need-returns-2 Inv-loop μ-loop
@@ -49,7 +52,8 @@ check-sums-spec =
     Inv-loop
     μ-loop
     loop-holds
-    block-sum-requires
+    mul-sum16
+    sum16-requires
     returns
     add-b
     loop-less

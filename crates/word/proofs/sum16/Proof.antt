@@ -1,29 +1,24 @@
--- `blocks::block_sum` meets its contract. The invariant: adding the rest comes out as at the start, and an even number of bytes is left.
--- Assumes nothing.
-use mathlib.Core.Path.{_≡_, refl, sym, _∙_}
-use Prim.Native.Nat.{_+_, _*_, _/_, _%_, _<_}
+-- sum16: adding the rest comes out as at the start. Assumes nothing.
+use mathlib.Core.Path.{_≡_, sym, _∙_}
+use Prim.Native.Nat.{_+_, _*_, _%_, _<_}
 use native.Mathlib.Omega.{arith}
 use lib.ListN.{take, drop}
-use Rattle.model.specs.NetlistFile.{wordSum, blockAt}
-use Rattle.netlist.proofs.BlockChecks.{words-more, words-done}
-use Rattle.netlist.proofs.blocks.block_sum.Statement.{statement}
-use Rattle.netlist.proofs.blocks.block_sum.Tie as tie
+use Rattle.model.specs.NetlistFile.{wordSum}
+use Rattle.word.proofs.Sums.{words-more, words-done}
+use Rattle.word.proofs.sum16.Statement.{statement}
+use Rattle.word.proofs.sum16.Tie as tie
 
 abbrev Inv-loop : tie.InvT-loop
-Inv-loop s b sum₀ i₀ left₀ sum i left =
-    (wordSum (blockAt s b) % 65536 ≡ (sum + wordSum (take left (drop i s))) % 65536)
-    × (i + left ≡ 512 * b + 512)
-    × (left ≡ 2 * (left / 2))
+Inv-loop s from n sum₀ i₀ left₀ sum i left =
+    (wordSum (take (2 * n) (drop from s)) % 65536 ≡ (sum + wordSum (take (2 * left) (drop i s))) % 65536)
+    × (i + 2 * left ≡ from + 2 * n)
     × (sum < 65536)
 
 abbrev μ-loop : tie.MeasureT-loop
-μ-loop s b sum₀ i₀ left₀ sum i left = left
-
-mul-i : tie.Need-mul-i Inv-loop μ-loop
-mul-i c = omega arith
+μ-loop s from n sum₀ i₀ left₀ sum i left = left
 
 loop-holds : tie.Need-loop-holds Inv-loop μ-loop
-loop-holds c = (omega arith, omega arith, refl, omega arith)
+loop-holds c = (omega arith, omega arith, omega arith)
 
 get16-requires : tie.Need-get16-requires Inv-loop μ-loop
 get16-requires c κs = omega arith
@@ -48,22 +43,20 @@ loop-again c =
           ∙ words-more (args .s .now) (loop .i) (loop .left) (loop .sum) (omega arith) (omega arith) (c .before .get16 .ensures)
           (c .wrapping-add-u16 .ensures),
       omega arith,
-      omega arith,
       omega (arith, c .wrapping-add-u16 .ensures),
     )
 
 returns : tie.Need-returns Inv-loop μ-loop
 returns c =
     let loop = c .before .loop in
-    sym (loop .inv .0 ∙ words-done (c .before .before .before .args .s .now) (loop .i) (loop .left) (loop .sum) (omega arith) (loop .inv .3))
+    sym (loop .inv .0 ∙ words-done (c .before .before .before .args .s .now) (loop .i) (loop .left) (loop .sum) (omega arith) (loop .inv .2))
 
-pub block-sum-spec : {M : Type 1} → statement M
-block-sum-spec =
+pub sum16-spec : {M : Type 1} → statement M
+sum16-spec =
     tie.close
     (tie.spec
     Inv-loop
     μ-loop
-    mul-i
     loop-holds
     get16-requires
     wrapping-add-u16-requires

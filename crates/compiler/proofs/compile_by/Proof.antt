@@ -1,0 +1,90 @@
+-- `compile_by` meets its contract. Assumes nothing.
+use mathlib.Core.Path.{sym, _∙_}
+use borrow.Author.Needs.{needs}
+use Rattle.compiler.proofs.Call.{scanned, list-room, compile-refused, compile-short, compile-done}
+use Rattle.compiler.proofs.compile_by.Statement.{statement}
+use Rattle.compiler.proofs.compile_by.Tie as tie
+
+scan-requires : tie.Need-scan-requires
+scan-requires c κs = search needs
+
+enum-known-checked : tie.Need-enum-known-checked
+enum-known-checked c = search needs
+
+returns : tie.Need-returns
+returns c =
+    let scan = c .before .before .before .scan in
+    compile-refused (c .before .before .before .before .before .before .args .table) _ _ (sym (scan .ensures .checked) ∙ c .before .checked .given .1)
+
+enum-told : tie.Need-enum-told
+enum-told c = search needs
+
+slice-aggregate-put-netlist : tie.Need-slice-aggregate-put-netlist
+slice-aggregate-put-netlist c = search needs
+
+put-netlist-requires : tie.Need-put-netlist-requires
+put-netlist-requires c κs =
+    let scan = c .before .before .before .before .before .scan in
+    let enum-told = c .before .before .before .enum-told in
+    scanned (c .before .before .before .before .before .before .before .before .args .table) (scan .ensures) (sym (scan .ensures .checked) ∙ enum-told .given .1)
+
+cast-n : tie.Need-cast-n
+cast-n c = search needs
+
+add-count : tie.Need-add-count
+add-count c = search needs
+
+mul-count : tie.Need-mul-count
+mul-count c = search needs
+
+returns-2 : tie.Need-returns-2
+returns-2 c =
+    let scan = c .before .before .before .before .before .before .before .before .before .scan in
+    let enum-told = c .before .before .before .before .before .before .before .enum-told in
+    let put-netlist = c .before .before .before .put-netlist in
+    let accepted = sym (scan .ensures .checked) ∙ enum-told .given .1 in
+    compile-short _ (put-netlist .ensures) (c .before .before .before .before .before .before .before .before .before .before .before .before .args .table) accepted (c .if1 .taken)
+
+slice-aggregate-put-file : tie.Need-slice-aggregate-put-file
+slice-aggregate-put-file c = search needs
+
+put-file-requires : tie.Need-put-file-requires
+put-file-requires c κs =
+    let scan = c .before .before .before .before .before .before .before .before .before .before .before .scan in
+    let enum-told = c .before .before .before .before .before .before .before .before .before .enum-told in
+    let if1 = c .before .before .if1 in
+    let put-netlist = c .before .before .before .before .before .put-netlist in
+    let accepted = sym (scan .ensures .checked) ∙ enum-told .given .1 in
+    (if1 .left, list-room _ (put-netlist .ensures) (c .before .before .before .before .before .before .before .before .before .before .before .before .before .before .args .table) accepted (put-netlist .kept .0))
+
+same-length : tie.Need-same-length
+same-length c = search needs
+
+returns-3 : tie.Need-returns-3
+returns-3 c =
+    let scan = c .before .before .before .before .before .before .before .before .before .before .before .before .before .before .scan in
+    let enum-told = c .before .before .before .before .before .before .before .before .before .before .before .before .enum-told in
+    let put-netlist = c .before .before .before .before .before .before .before .before .put-netlist in
+    let if1 = c .before .before .before .before .before .if1 in
+    let put-file = c .before .before .put-file in
+    let accepted = sym (scan .ensures .checked) ∙ enum-told .given .1 in
+    compile-done _ (put-netlist .ensures) (c .before .before .before .before .before .before .before .before .before .before .before .before .before .before .before .before .before .args .table) accepted _ (if1 .left) (put-file .ensures)
+
+pub compile-by-spec : {M : Type 1} → statement M
+compile-by-spec =
+    tie.close
+    (tie.spec
+    scan-requires
+    enum-known-checked
+    returns
+    enum-told
+    slice-aggregate-put-netlist
+    put-netlist-requires
+    cast-n
+    add-count
+    mul-count
+    returns-2
+    slice-aggregate-put-file
+    put-file-requires
+    same-length
+    returns-3)

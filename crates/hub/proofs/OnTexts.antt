@@ -1,0 +1,60 @@
+-- The calls on a text, where its table or its program was refused and where the program was given.
+-- Assumes nothing.
+use mathlib.Core.Path.{_≡_, refl, sym, _∙_, ap}
+use mathlib.Core.List.{List, [], _∷_, _++_}
+use Prim.Native.Nat.{ℕ}
+use lib.ListN.{length}
+use Rattle.model.specs.declared.Refusal.{Refusal}
+use Rattle.model.specs.declared.Loaded.{Loaded}
+use Rattle.model.specs.declared.Checked.{Checked}
+use Rattle.model.specs.declared.Checked.the-variants.{Accepted, Refused}
+use Rattle.model.specs.declared.Written.{Written}
+use Rattle.model.specs.Refusals.{first}
+use Rattle.model.specs.Program.{programOf}
+use Rattle.model.specs.Numbering.{finish}
+use Rattle.model.specs.NetlistFile.{cellsOf}
+use Rattle.model.specs.State.{stateSize}
+use Rattle.model.specs.Calls.{Told, ToldBoth, short, writing, compiledFile, compileCall, refusedAnswer, running, fullState, fullCount, overBudget, runProgramCall}
+use Rattle.model.specs.TextCalls.{textProgram, compileTextChecks, compileTextCall, runTextChecks, runTextCall}
+use Rattle.theory.specs.Text.AsProgram.{compile-as-program, run-as-program}
+use Rattle.text.specs.Parsing.{parseChecks}
+use Rattle.text.proofs.Giving.{parse-refuses, parse-accepts}
+
+module _ (table : Loaded) (text lent : List ℕ) where
+  pub compile-unloaded : (r : Refusal) → table .checked ≡ Refused r → compileTextCall table text lent ≡ record { answer = Written.Refused r; lent = lent }
+  unfolding compileTextCall writing
+  compile-unloaded r e = rw e refl
+
+  pub compile-refused : table .checked ≡ Accepted → (r : Refusal) → first (parseChecks text) ≡ Refused r
+      → compileTextCall table text lent ≡ record { answer = Written.Refused r; lent = lent }
+  unfolding compileTextCall writing
+  compile-refused a r e =
+      let file = compiledFile (textProgram text) in
+      let first-is : first (compileTextChecks table text lent) ≡ Refused r =
+      rw a (parse-refuses text (table .times) r (short (length lent) (length file) ∷ []) e) in
+      ap (λ (c : Checked). writing c file (length file) (finish (programOf (textProgram text))) lent) first-is
+
+  pub compile-given : first (parseChecks text) ≡ Accepted → compileTextCall table text lent ≡ compileCall table (textProgram text) lent
+  compile-given e = compile-as-program table text lent (parse-accepts text e)
+
+module _ (table : Loaded) (text words : List ℕ) (n : ℕ) (forFile lent : List ℕ) where
+  pub run-unloaded : (r : Refusal) → table .checked ≡ Refused r
+      → runTextCall table text words n forFile lent ≡ record { answer = refusedAnswer r; netlist = forFile; state = lent }
+  unfolding runTextCall writing running
+  run-unloaded r e = rw e refl
+
+  pub run-refused : table .checked ≡ Accepted → (r : Refusal) → first (parseChecks text) ≡ Refused r
+      → runTextCall table text words n forFile lent ≡ record { answer = refusedAnswer r; netlist = forFile; state = lent }
+  unfolding runTextCall writing running
+  run-refused a r e =
+      let file = compiledFile (textProgram text) in
+      let first-is : first (runTextChecks table text words n forFile lent) ≡ Refused r =
+      rw a (parse-refuses text (table .times) r
+      (overBudget n ∷ short (length words) 32 ∷ short (length forFile) (length file) ∷ short (length lent) (stateSize (cellsOf file)) ∷ []) e) in
+      ap (λ (c : Checked).
+      let s = running c file (fullState file words n lent) (fullCount file words n lent) lent in
+      record { answer = s .answer; netlist = writing c file (length file) 0 forFile .lent; state = s .lent })
+      first-is
+
+  pub run-given : first (parseChecks text) ≡ Accepted → runTextCall table text words n forFile lent ≡ runProgramCall table (textProgram text) words n forFile lent
+  run-given e = run-as-program table text words n forFile lent (parse-accepts text e)

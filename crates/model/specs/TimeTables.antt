@@ -1,0 +1,74 @@
+-- Tables of operator times: the file that gives one, refusals 19 to 21, and what a table is loaded as.
+-- "Clubs buy gate parts of different speeds. A one-block file gives the times". "Refusal 7 uses it; without one the built-in serves."
+-- Assumes nothing: definitions.
+use mathlib.Core.Path.{_≡_, refl}
+use mathlib.Core.Bool.{Bool, false, not, _&&_, _||_}
+use mathlib.Core.List.{List, [], _∷_}
+use Prim.Native.Nat.{ℕ, _%_}
+use lib.Dec.{eqb, leb, ltb}
+use lib.ListN.{length, getD, replicate}
+use Rattle.model.specs.declared.Loaded.{Loaded}
+use Rattle.model.specs.declared.Checked.{Checked}
+use Rattle.model.specs.declared.Checked.the-variants.{Accepted}
+use Rattle.model.specs.Word.{pick}
+use Rattle.model.specs.Refusals.{refuseIf, first, firstFault, faultIf}
+use Rattle.model.specs.Program.{builtInTimes}
+use Rattle.model.specs.NetlistFile.{wordSum}
+
+-- byte i of a table may not be b: "block number 0, 9 in bytes 2–3, zero in 4–5, the usual check, then nine bytes for kinds 1 to 9, the rest
+-- zero. Constant and variable are 0, the others 1 to 200."
+unfoldable pub byteWrong : ℕ → ℕ → Bool
+byteWrong i b =
+    pick (eqb i 2) (not (eqb b 9))
+    (pick (eqb i 6 || eqb i 7) false
+    (pick (leb 10 i && leb i 16) (eqb b 0 || ltb 200 b)
+    (not (eqb b 0))))
+
+-- "21: another rule of the table broken, place the first wrong byte"
+unfoldable pub tableFault : List ℕ → ℕ → ℕ
+tableFault file i = faultIf (byteWrong i (getD file i 0)) 21
+
+-- "20: check wrong": the usual one makes the 256 two-byte words sum to 0 modulo 65,536
+unfoldable pub tableSumWrong : List ℕ → Bool
+tableSumWrong file = not (eqb (wordSum file % 65536) 0)
+
+-- "19: length isn't 512; 20: check wrong; 21 ..., in this order"
+abbrev pub tableChecks : List ℕ → List Checked
+tableChecks file =
+    refuseIf (not (eqb (length file) 512)) 19 0
+    ∷ refuseIf (tableSumWrong file) 20 0
+    ∷ firstFault (tableFault file) 0 512
+    ∷ []
+
+-- "nine bytes for kinds 1 to 9": entry k is the time of kind k, and no kind is 0
+unfoldable pub timesIn : List ℕ → List ℕ
+timesIn file =
+    0
+    ∷ getD file 8 0
+    ∷ getD file 9 0
+    ∷ getD file 10 0
+    ∷ getD file 11 0
+    ∷ getD file 12 0
+    ∷ getD file 13 0
+    ∷ getD file 14 0
+    ∷ getD file 15 0
+    ∷ getD file 16 0
+    ∷ []
+
+-- the built-in table, or one that a file gives
+pub data Table : Type 0 where
+  builtIn : Table
+  given : List ℕ → Table
+
+-- what its check says, and its times
+unfoldable pub load : Table → Loaded
+load builtIn = record { checked = Accepted; times = builtInTimes }
+load (given file) = record { checked = first (tableChecks file); times = timesIn file }
+
+-- the built-in times as a file, which loads
+builtInFile : List ℕ
+builtInFile = 0 ∷ 0 ∷ 9 ∷ 0 ∷ 0 ∷ 0 ∷ 211 ∷ 232 ∷ 0 ∷ 0 ∷ 1 ∷ 16 ∷ 17 ∷ 1 ∷ 1 ∷ 6 ∷ 17 ∷ replicate 495 0
+
+built-in-loads : load (given builtInFile) ≡ load builtIn
+unfolding builtInFile load tableSumWrong tableFault byteWrong wordSum firstFault timesIn builtInTimes
+built-in-loads = refl

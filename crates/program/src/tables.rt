@@ -1,0 +1,92 @@
+// Tables of operator times: the built-in one, and those that files give, with refusals 19 to 21.
+// Contracts are equations with the definitions of model/TimeTables.
+ghost use mathlib.Core.Path.{_≡_};
+ghost use lib.ListN.{length, getD};
+ghost use Rattle.model.specs.Refusals.{first, firstFault};
+ghost use Rattle.model.specs.TimeTables.{byteWrong, tableFault, tableChecks, builtIn, given, load};
+use crate::refused;
+use model::Checked;
+use model::Loaded;
+
+// The paper's operator times: entry k is that of kind k.
+const BUILT_IN: [u8; 10] = [0, 0, 0, 1, 16, 17, 1, 1, 6, 17];
+
+// The built-in table, which serves where no file is given.
+pub fn built_in() -> Loaded
+    ensures { λ r. ⌜ r ≡ load builtIn ⌝ }
+{
+    Loaded {
+        checked: Checked::Accepted,
+        times: BUILT_IN,
+    }
+}
+
+// Byte i of a table may not be b; bytes 6 and 7 are the check.
+fn byte_wrong(i: usize, b: u8) -> bool
+    ensures { λ r. ⌜ r ≡ byteWrong i b ⌝ }
+{
+    if i == 2 {
+        return b != 9;
+    }
+    if (i == 6) | (i == 7) {
+        return false;
+    }
+    if (10 <= i) & (i <= 16) {
+        return (b == 0) | (200 < b);
+    }
+    b != 0
+}
+
+// Refusal 21: the first wrong byte.
+fn first_wrong(file: &[u8]) -> Checked
+    requires { ⌜ length (now file) ≡ 512 ⌝ }
+    ensures { λ r. ⌜ r ≡ firstFault (tableFault (now (file .entry))) 0 512 ⌝ }
+{
+    let mut i: usize = 0;
+    while i < 512 {
+        if byte_wrong(i, file[i]) {
+            return refused(21, i);
+        }
+        i += 1;
+    }
+    Checked::Accepted
+}
+
+// Refusals 19 to 21.
+fn check_table(file: &[u8]) -> Checked
+    ensures { λ r. ⌜ r ≡ first (tableChecks (now (file .entry))) ⌝ }
+{
+    if file.len() != 512 {
+        return refused(19, 0);
+    }
+    if word::sum16(file, 0, 256) != 0 {
+        return refused(20, 0);
+    }
+    first_wrong(file)
+}
+
+fn byte_at(file: &[u8], i: usize) -> u8
+    ensures { λ r. ⌜ r ≡ getD (now (file .entry)) i 0 ⌝ }
+{
+    if i < file.len() { file[i] } else { 0 }
+}
+
+// The table that a file gives. Of a refused one the times are of no use.
+pub fn load(file: &[u8]) -> Loaded
+    ensures { λ r. ⌜ r ≡ load (given (now (file .entry))) ⌝ }
+{
+    let checked = check_table(file);
+    let times = [
+        0,
+        byte_at(file, 8),
+        byte_at(file, 9),
+        byte_at(file, 10),
+        byte_at(file, 11),
+        byte_at(file, 12),
+        byte_at(file, 13),
+        byte_at(file, 14),
+        byte_at(file, 15),
+        byte_at(file, 16),
+    ];
+    Loaded { checked, times }
+}

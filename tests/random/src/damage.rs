@@ -137,13 +137,14 @@ mod tests {
     use crate::lend::{file_length, lent, state_length, MOST_FILE};
     use second::answer::Refusal;
     use second::calls;
+    use second::table::BUILT_IN;
     use std::collections::BTreeSet;
 
     /// The refusals, 0 for none, that calls on 4,000 damaged programs meet.
     fn met(call: impl Fn(&[u8], &mut Random) -> Result<(), Refusal>) -> BTreeSet<u8> {
         let outcome = |seed: u64| {
             let random = &mut Random::new(seed);
-            let program = generate::program(random);
+            let program = generate::program(random, &BUILT_IN);
             call(&program, random).map_or_else(|refusal| refusal.number, |()| 0)
         };
         (0..4_000).map(outcome).collect()

@@ -3,6 +3,7 @@
 use crate::damage;
 use crate::generate;
 use crate::xorshift::Random;
+use second::table::BUILT_IN;
 
 /// The last instant that a run may come to.
 pub const MOST_INSTANT: u32 = 1_000_000;
@@ -49,7 +50,7 @@ impl Job {
     /// The job of a seed; one program in eight is slightly damaged.
     pub fn of_seed(seed: u64) -> Job {
         let random = &mut Random::new(seed);
-        let mut program = generate::program(random);
+        let mut program = generate::program(random, &BUILT_IN);
         if random.once_in(8) {
             program = damage::program(&program, random);
         }

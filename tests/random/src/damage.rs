@@ -80,7 +80,7 @@ fn damage_cell(file: &mut [u8], random: &mut Random) {
 }
 
 /// Gives every whole block the check that makes its words sum to 0.
-fn mend_checks(file: &mut [u8]) {
+pub fn mend_checks(file: &mut [u8]) {
     for block in file.chunks_exact_mut(BLOCK) {
         block[6..8].fill(0);
         let words = block.chunks_exact(2);

@@ -43,17 +43,20 @@ pub struct End {
 
 pub type Bytes<'a> = &'a [u8];
 
+/// A table of operator times; with none the call without a table is made.
+pub type Table<'a> = Option<&'a [u8]>;
+
 #[derive(Clone, Copy)]
 pub struct Peer {
     pub name: &'static str,
-    /// program
-    pub check: fn(Bytes) -> Reply<()>,
-    /// program; lent: netlist file
-    pub compile: fn(Bytes, Bytes) -> Reply<Shape>,
-    /// text; lent: program; tells the program's bytes
-    pub read_text: fn(Bytes, Bytes) -> Reply<u32>,
-    /// text; lent: netlist file
-    pub compile_text: fn(Bytes, Bytes) -> Reply<Shape>,
+    /// table, program
+    pub check: fn(Table, Bytes) -> Reply<()>,
+    /// table, program; lent: netlist file
+    pub compile: fn(Table, Bytes, Bytes) -> Reply<Shape>,
+    /// table, text; lent: program; tells the program's bytes
+    pub read_text: fn(Table, Bytes, Bytes) -> Reply<u32>,
+    /// table, text; lent: netlist file
+    pub compile_text: fn(Table, Bytes, Bytes) -> Reply<Shape>,
     /// cells of six bytes, finish; lent: netlist file
     pub write_netlist: fn(Bytes, u16, Bytes) -> Reply<Shape>,
     /// netlist file; lent: cells of six bytes
@@ -62,14 +65,14 @@ pub struct Peer {
     pub begin: fn(Bytes, Bytes, Bytes) -> Reply<Answer>,
     /// netlist file, number of instants; lent: state
     pub continue_by: fn(Bytes, u32, Bytes) -> Reply<Answer>,
-    /// program, start words, budget; lent: netlist file, state
-    pub run_program: fn(Bytes, Bytes, u32, Bytes, Bytes) -> Reply<Answer>,
-    /// text, start words, budget; lent: netlist file, state
-    pub run_text: fn(Bytes, Bytes, u32, Bytes, Bytes) -> Reply<Answer>,
+    /// table, program, start words, budget; lent: netlist file, state
+    pub run_program: fn(Table, Bytes, Bytes, u32, Bytes, Bytes) -> Reply<Answer>,
+    /// table, text, start words, budget; lent: netlist file, state
+    pub run_text: fn(Table, Bytes, Bytes, u32, Bytes, Bytes) -> Reply<Answer>,
     /// netlist file, start words, budget; lent: state
     pub run_netlist: fn(Bytes, Bytes, u32, Bytes) -> Reply<Answer>,
-    /// program, start words, budget; no end is one beyond the budget
-    pub reference_run: fn(Bytes, Bytes, u32) -> Reply<Option<End>>,
+    /// table, program, start words, budget; no end is one beyond the budget
+    pub reference_run: fn(Table, Bytes, Bytes, u32) -> Reply<Option<End>>,
     /// standard input to standard output
     pub hubrun_text: fn(Bytes) -> Vec<u8>,
 }

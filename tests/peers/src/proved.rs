@@ -1,6 +1,6 @@
 //! The proved implementation as a peer.
 
-use crate::peer::{Answer, End, Peer, Refused, Reply, Shape};
+use crate::peer::{Answer, End, Peer, Refused, Reply, Shape, Table};
 use ::proved::{self as hub, Kind};
 use std::io::Write;
 use std::path::Path;
@@ -23,25 +23,38 @@ pub const PROVED: Peer = Peer {
     hubrun_text,
 };
 
-fn check(program: &[u8]) -> Reply<()> {
-    reply(hub::check(program), |_| (), vec![])
+fn check(table: Table, program: &[u8]) -> Reply<()> {
+    let told = match table {
+        Some(table) => hub::timed::check(table, program),
+        None => hub::check(program),
+    };
+    reply(told, |_| (), vec![])
 }
 
-fn compile(program: &[u8], file: &[u8]) -> Reply<Shape> {
+fn compile(table: Table, program: &[u8], file: &[u8]) -> Reply<Shape> {
     let mut file = file.to_vec();
-    let told = hub::compile(program, &mut file);
+    let told = match table {
+        Some(table) => hub::timed::compile(table, program, &mut file),
+        None => hub::compile(program, &mut file),
+    };
     reply(told, |told| written(told, &file), vec![file.clone()])
 }
 
-fn read_text(text: &[u8], program: &[u8]) -> Reply<u32> {
+fn read_text(table: Table, text: &[u8], program: &[u8]) -> Reply<u32> {
     let mut program = program.to_vec();
-    let told = hub::read_text(text, &mut program);
+    let told = match table {
+        Some(table) => hub::timed::read_text(table, text, &mut program),
+        None => hub::read_text(text, &mut program),
+    };
     reply(told, |told| told.first, vec![program])
 }
 
-fn compile_text(text: &[u8], file: &[u8]) -> Reply<Shape> {
+fn compile_text(table: Table, text: &[u8], file: &[u8]) -> Reply<Shape> {
     let mut file = file.to_vec();
-    let told = hub::compile_text(text, &mut file);
+    let told = match table {
+        Some(table) => hub::timed::compile_text(table, text, &mut file),
+        None => hub::compile_text(text, &mut file),
+    };
     reply(told, |told| written(told, &file), vec![file.clone()])
 }
 
@@ -74,6 +87,7 @@ fn continue_by(file: &[u8], n: u32, state: &[u8]) -> Reply<Answer> {
 }
 
 fn run_program(
+    table: Table,
     program: &[u8],
     words: &[u8],
     budget: u32,
@@ -81,13 +95,28 @@ fn run_program(
     state: &[u8],
 ) -> Reply<Answer> {
     let (mut file, mut state) = (file.to_vec(), state.to_vec());
-    let told = hub::run_program(program, words, budget, &mut file, &mut state);
+    let told = match table {
+        Some(table) => {
+            hub::timed::run_program(table, program, words, budget, &mut file, &mut state)
+        }
+        None => hub::run_program(program, words, budget, &mut file, &mut state),
+    };
     reply(told, answer, vec![file, state])
 }
 
-fn run_text(text: &[u8], words: &[u8], budget: u32, file: &[u8], state: &[u8]) -> Reply<Answer> {
+fn run_text(
+    table: Table,
+    text: &[u8],
+    words: &[u8],
+    budget: u32,
+    file: &[u8],
+    state: &[u8],
+) -> Reply<Answer> {
     let (mut file, mut state) = (file.to_vec(), state.to_vec());
-    let told = hub::run_text(text, words, budget, &mut file, &mut state);
+    let told = match table {
+        Some(table) => hub::timed::run_text(table, text, words, budget, &mut file, &mut state),
+        None => hub::run_text(text, words, budget, &mut file, &mut state),
+    };
     reply(told, answer, vec![file, state])
 }
 
@@ -99,7 +128,7 @@ fn run_netlist(file: &[u8], words: &[u8], budget: u32, state: &[u8]) -> Reply<An
 
 /// An open answer is held against model/Calls here: it shows the budget, one
 /// instant more as its count, and no words.
-fn reference_run(program: &[u8], words: &[u8], budget: u32) -> Reply<Option<End>> {
+fn reference_run(table: Table, program: &[u8], words: &[u8], budget: u32) -> Reply<Option<End>> {
     let end = |told: hub::Reply| {
         assert_eq!(told.second, told.first + 1, "the count of a reference run");
         if told.kind == Kind::Ended {
@@ -111,7 +140,11 @@ fn reference_run(program: &[u8], words: &[u8], budget: u32) -> Reply<Option<End>
         assert_eq!((told.first, told.words), (budget, [0; 16]));
         None
     };
-    reply(hub::reference_run(program, words, budget), end, vec![])
+    let told = match table {
+        Some(table) => hub::timed::reference_run(table, program, words, budget),
+        None => hub::reference_run(program, words, budget),
+    };
+    reply(told, end, vec![])
 }
 
 /// What the program hubrun prints. It may stop reading early, so that a
@@ -149,7 +182,11 @@ fn answer(told: hub::Reply) -> Answer {
     }
 }
 
-fn reply<T>(told: hub::Reply, result: impl FnOnce(hub::Reply) -> T, lent: Vec<Vec<u8>>) -> Reply<T> {
+fn reply<T>(
+    told: hub::Reply,
+    result: impl FnOnce(hub::Reply) -> T,
+    lent: Vec<Vec<u8>>,
+) -> Reply<T> {
     let result = match told.kind {
         Kind::Refused => Err(Refused {
             number: u32::from(told.number),

@@ -1,6 +1,6 @@
 //! The crate `second` as a peer.
 
-use crate::peer::{Answer, End, Peer, Refused, Reply, Shape};
+use crate::peer::{Answer, End, Peer, Refused, Reply, Shape, Table};
 use ::second::answer::Refusal;
 use ::second::rules::Outcome;
 use ::second::{answer, calls, hubrun};
@@ -22,25 +22,38 @@ pub const SECOND: Peer = Peer {
     hubrun_text,
 };
 
-fn check(program: &[u8]) -> Reply<()> {
-    reply(calls::check(program), vec![])
+fn check(table: Table, program: &[u8]) -> Reply<()> {
+    let result = match table {
+        Some(table) => calls::check_timed(table, program),
+        None => calls::check(program),
+    };
+    reply(result, vec![])
 }
 
-fn compile(program: &[u8], file: &[u8]) -> Reply<Shape> {
+fn compile(table: Table, program: &[u8], file: &[u8]) -> Reply<Shape> {
     let mut file = file.to_vec();
-    let result = calls::compile(program, &mut file);
+    let result = match table {
+        Some(table) => calls::compile_timed(table, program, &mut file),
+        None => calls::compile(program, &mut file),
+    };
     reply(result.map(shape), vec![file])
 }
 
-fn read_text(text: &[u8], program: &[u8]) -> Reply<u32> {
+fn read_text(table: Table, text: &[u8], program: &[u8]) -> Reply<u32> {
     let mut program = program.to_vec();
-    let result = calls::read_text(text, &mut program);
+    let result = match table {
+        Some(table) => calls::read_text_timed(table, text, &mut program),
+        None => calls::read_text(text, &mut program),
+    };
     reply(result.map(|length| length as u32), vec![program])
 }
 
-fn compile_text(text: &[u8], file: &[u8]) -> Reply<Shape> {
+fn compile_text(table: Table, text: &[u8], file: &[u8]) -> Reply<Shape> {
     let mut file = file.to_vec();
-    let result = calls::compile_text(text, &mut file);
+    let result = match table {
+        Some(table) => calls::compile_text_timed(table, text, &mut file),
+        None => calls::compile_text(text, &mut file),
+    };
     reply(result.map(shape), vec![file])
 }
 
@@ -69,6 +82,7 @@ fn continue_by(file: &[u8], n: u32, state: &[u8]) -> Reply<Answer> {
 }
 
 fn run_program(
+    table: Table,
     program: &[u8],
     words: &[u8],
     budget: u32,
@@ -76,13 +90,28 @@ fn run_program(
     state: &[u8],
 ) -> Reply<Answer> {
     let (mut file, mut state) = (file.to_vec(), state.to_vec());
-    let result = calls::run_program(program, words, budget, &mut file, &mut state);
+    let result = match table {
+        Some(table) => {
+            calls::run_program_timed(table, program, words, budget, &mut file, &mut state)
+        }
+        None => calls::run_program(program, words, budget, &mut file, &mut state),
+    };
     reply(result.map(answer), vec![file, state])
 }
 
-fn run_text(text: &[u8], words: &[u8], budget: u32, file: &[u8], state: &[u8]) -> Reply<Answer> {
+fn run_text(
+    table: Table,
+    text: &[u8],
+    words: &[u8],
+    budget: u32,
+    file: &[u8],
+    state: &[u8],
+) -> Reply<Answer> {
     let (mut file, mut state) = (file.to_vec(), state.to_vec());
-    let result = calls::run_text(text, words, budget, &mut file, &mut state);
+    let result = match table {
+        Some(table) => calls::run_text_timed(table, text, words, budget, &mut file, &mut state),
+        None => calls::run_text(text, words, budget, &mut file, &mut state),
+    };
     reply(result.map(answer), vec![file, state])
 }
 
@@ -92,8 +121,11 @@ fn run_netlist(file: &[u8], words: &[u8], budget: u32, state: &[u8]) -> Reply<An
     reply(result.map(answer), vec![state])
 }
 
-fn reference_run(program: &[u8], words: &[u8], budget: u32) -> Reply<Option<End>> {
-    let result = calls::reference_run(program, words, budget);
+fn reference_run(table: Table, program: &[u8], words: &[u8], budget: u32) -> Reply<Option<End>> {
+    let result = match table {
+        Some(table) => calls::reference_run_timed(table, program, words, budget),
+        None => calls::reference_run(program, words, budget),
+    };
     reply(result.map(end), vec![])
 }
 

@@ -40,9 +40,9 @@ fn most([before, open, inside, close, after]: [&str; 5]) -> usize {
 }
 
 fn assert_alike(text: &[u8]) {
-    let reply = (SECOND.read_text)(text, &LENT);
+    let reply = (SECOND.read_text)(None, text, &LENT);
     let shown = text[..text.len().min(30)].escape_ascii();
-    assert_eq!((PROVED.read_text)(text, &LENT), reply, "{shown}");
+    assert_eq!((PROVED.read_text)(None, text, &LENT), reply, "{shown}");
 }
 
 #[test]
@@ -76,7 +76,8 @@ fn texts_that_open_and_close_unequally_are_read_alike() {
 fn every_cut_of_a_text_is_read_alike() {
     let text = "if x0 = 1 & !(x2 - 3) < 4 @40 then {x1 := 2 | 5 @9 || tick 255}; ok
         else repeat while x15 + 7 @16 do ok end until 65535 @1 end || tick 1 end \n";
-    assert!((SECOND.read_text)(text.as_bytes(), &LENT).result.is_ok());
+    let whole = (SECOND.read_text)(None, text.as_bytes(), &LENT);
+    assert!(whole.result.is_ok());
     for length in 0..=text.len() {
         assert_alike(&text.as_bytes()[..length]);
     }

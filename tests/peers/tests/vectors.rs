@@ -87,8 +87,8 @@ fn assert_result<T>(reply: &Reply<T>, result: &[u8], name: &str) {
 fn programs_are_accepted_or_refused_as_told() {
     for_each("program", "prog", |peer, vector, name| {
         let program = vector.bytes("prog");
-        let compiled = (peer.compile)(&program, &LENT);
-        let checked = (peer.check)(&program);
+        let compiled = (peer.compile)(None, &program, &LENT);
+        let checked = (peer.check)(None, &program);
         assert_eq!(checked.result, compiled.result.map(drop), "{name}");
         assert_eq!(shape_text(compiled.result), vector.text("expect"), "{name}");
         if compiled.result.is_err() {
@@ -101,7 +101,7 @@ fn programs_are_accepted_or_refused_as_told() {
 fn compiling_gives_the_published_bytes() {
     for folder in ["compile", "speed"] {
         for_each(folder, "prog", |peer, vector, name| {
-            let compiled = (peer.compile)(&vector.bytes("prog"), &LENT);
+            let compiled = (peer.compile)(None, &vector.bytes("prog"), &LENT);
             assert!(compiled.result.is_ok(), "{name}");
             assert_result(&compiled, &vector.bytes("net"), name);
         });

@@ -137,4 +137,97 @@ extern "C" {
         reply: Lent,
         reply_length: usize,
     ) -> bool;
+
+    /// checkCall under a table
+    pub fn hub_check_timed(
+        table: In,
+        table_length: usize,
+        program: In,
+        program_length: usize,
+        reply: Lent,
+        reply_length: usize,
+    ) -> bool;
+
+    /// compileCall under a table
+    pub fn hub_compile_timed(
+        table: In,
+        table_length: usize,
+        program: In,
+        program_length: usize,
+        file: Lent,
+        file_length: usize,
+        reply: Lent,
+        reply_length: usize,
+    ) -> bool;
+
+    /// readTextCall under a table
+    pub fn hub_read_text_timed(
+        table: In,
+        table_length: usize,
+        text: In,
+        text_length: usize,
+        program: Lent,
+        program_length: usize,
+        reply: Lent,
+        reply_length: usize,
+    ) -> bool;
+
+    /// compileTextCall under a table
+    pub fn hub_compile_text_timed(
+        table: In,
+        table_length: usize,
+        text: In,
+        text_length: usize,
+        file: Lent,
+        file_length: usize,
+        reply: Lent,
+        reply_length: usize,
+    ) -> bool;
+
+    /// runProgramCall under a table
+    pub fn hub_run_program_timed(
+        table: In,
+        table_length: usize,
+        program: In,
+        program_length: usize,
+        words: In,
+        words_length: usize,
+        budget: u32,
+        netlist: Lent,
+        netlist_length: usize,
+        state: Lent,
+        state_length: usize,
+        reply: Lent,
+        reply_length: usize,
+    ) -> bool;
+
+    /// runTextCall under a table
+    pub fn hub_run_text_timed(
+        table: In,
+        table_length: usize,
+        text: In,
+        text_length: usize,
+        words: In,
+        words_length: usize,
+        budget: u32,
+        netlist: Lent,
+        netlist_length: usize,
+        state: Lent,
+        state_length: usize,
+        reply: Lent,
+        reply_length: usize,
+    ) -> bool;
+
+    /// referenceCall under a table
+    pub fn hub_reference_timed(
+        table: In,
+        table_length: usize,
+        program: In,
+        program_length: usize,
+        words: In,
+        words_length: usize,
+        budget: u32,
+        reply: Lent,
+        reply_length: usize,
+    ) -> bool;
 }

@@ -5,6 +5,7 @@
 
 mod declarations;
 mod reply;
+pub mod timed;
 
 use declarations::*;
 pub use reply::{Kind, Reply};

@@ -20,20 +20,24 @@ pub struct Pair<'a> {
 impl Pair<'_> {
     /// All calls on a job's program, and on the netlist it compiles to.
     pub fn compare(&self, job: &Job) -> Result<(), String> {
-        let program = &job.program;
+        let (table, program) = (job.table(), &job.program);
         let (file, state) = (lent(job.file_length), lent(job.state_length));
-        self.same("check", &[], |peer| (peer.check)(program))?;
-        self.same("compile", &[&file], |peer| (peer.compile)(program, &file))?;
+        self.same("check", &[], |peer| (peer.check)(table, program))?;
+        self.same("compile", &[&file], |peer| {
+            (peer.compile)(table, program, &file)
+        })?;
         self.same("run_program", &[&file, &state], |peer| {
-            (peer.run_program)(program, &job.words, job.budget, &file, &state)
+            (peer.run_program)(table, program, &job.words, job.budget, &file, &state)
         })?;
         self.same("reference_run", &[], |peer| {
-            (peer.reference_run)(program, &job.words, job.budget)
+            (peer.reference_run)(table, program, &job.words, job.budget)
         })?;
         self.same_text(job)?;
         self.same_texts(job)?;
         let room = lent(MOST_FILE);
-        let compiled = self.same("compile", &[&room], |peer| (peer.compile)(program, &room))?;
+        let compiled = self.same("compile", &[&room], |peer| {
+            (peer.compile)(table, program, &room)
+        })?;
         let Ok(shape) = compiled.result else {
             return Ok(());
         };
@@ -139,6 +143,7 @@ impl Pair<'_> {
     /// The calls on the texts of a job's program.
     fn same_texts(&self, job: &Job) -> Result<(), String> {
         let (file, state) = (lent(job.file_length), lent(job.state_length));
+        let table = job.table();
         // What a run of a text is shows soon; a budget that is refused stays.
         let budget = match job.budget {
             0..=MOST_INSTANT => job.budget.min(100),
@@ -147,13 +152,13 @@ impl Pair<'_> {
         against_text::for_each(job, |text, room| {
             let (text, program) = (&text.bytes, lent(room));
             self.same("read_text", &[&program], |peer| {
-                (peer.read_text)(text, &program)
+                (peer.read_text)(table, text, &program)
             })?;
             self.same("compile_text", &[&file], |peer| {
-                (peer.compile_text)(text, &file)
+                (peer.compile_text)(table, text, &file)
             })?;
             self.same("run_text", &[&file, &state], |peer| {
-                (peer.run_text)(text, &job.words, budget, &file, &state)
+                (peer.run_text)(table, text, &job.words, budget, &file, &state)
             })
             .map(drop)
         })

@@ -1,4 +1,5 @@
-//! A peer's circuit against its rules: the whole of demand 3 for one job.
+//! A peer's circuit against its rules: the whole of demand 3 for one job,
+//! under the job's table.
 //!
 //! From the program's end alone it follows what a beginning and every
 //! continuing must answer, and which of them are refused.
@@ -18,8 +19,8 @@ pub enum Outcome {
 
 /// Compares; the error says which call disagrees, and how.
 pub fn compare(peer: &Peer, job: &Job) -> Result<Outcome, String> {
-    let checked = (peer.check)(&job.program).result;
-    let compiled = (peer.compile)(&job.program, &lent(MOST_FILE));
+    let checked = (peer.check)(job.table(), &job.program).result;
+    let compiled = (peer.compile)(job.table(), &job.program, &lent(MOST_FILE));
     expect("compile", compiled.result.map(drop), checked)?;
     let (Ok(shape), Some(words)) = (compiled.result, job.words.get(..32)) else {
         return Ok(Outcome::Refused);
@@ -45,7 +46,7 @@ fn end_within(peer: &Peer, job: &Job, words: &[u8]) -> Result<Option<End>, Strin
     let asked: u32 = job.calls.iter().map(|call| call.n).filter(possible).sum();
     let budget = Some(job.budget).filter(possible).unwrap_or(0);
     let reach = asked.max(budget).min(MOST_INSTANT);
-    let reply = (peer.reference_run)(&job.program, words, reach);
+    let reply = (peer.reference_run)(job.table(), &job.program, words, reach);
     reply
         .result
         .map_err(|refused| format!("the rules refuse what the check accepts: {refused:?}"))
@@ -101,11 +102,11 @@ impl Run<'_> {
         }
     }
 
-    /// A full run, by the call and as hubrun prints it.
+    /// A full run, by the call and, where there is no table, as hubrun prints it.
     fn check_full_run(&self, job: &Job, words: &[u8]) -> Result<(), String> {
         let (program, budget) = (&job.program, job.budget);
         let (file, state) = (lent(MOST_FILE), lent(MOST_STATE));
-        let reply = (self.peer.run_program)(program, words, budget, &file, &state);
+        let reply = (self.peer.run_program)(job.table(), program, words, budget, &file, &state);
         if budget > MOST_INSTANT {
             let refused = Refused {
                 number: 13,
@@ -115,6 +116,9 @@ impl Run<'_> {
         } else {
             let stop = self.full_stop(budget);
             self.check_answer("full run", &reply, stop, stop.0 + 1)?;
+        }
+        if job.table.is_some() {
+            return Ok(());
         }
         let input = [words, &budget.to_le_bytes(), program].concat();
         let text = String::from_utf8((self.peer.hubrun_text)(&input));

@@ -1,20 +1,51 @@
 //! Texts against programs: the text of a program is read to its bytes or met
 //! by its refusals, and its beginnings are no sooner and no later broken than
-//! where they end.
+//! where they end. A refused table comes before every text.
 
 use crate::job::Job;
 use crate::lend::{lent, lent_with};
 use crate::texts::{texts, Known, Text, MOST_TEXT};
 use crate::typing::{with_fewest_blanks, with_fewest_brackets};
 use crate::xorshift::Random;
-use peers::{Peer, Refused, Reply};
+use peers::{Peer, Refused, Reply, Table};
 
 /// The lengths of buffers lent for a program.
 const ROOMS: [usize; 6] = [0, 4, 100, 799, 800, 801];
 
 /// A peer on every text of a job's program.
 pub fn compare(peer: &Peer, job: &Job) -> Result<(), String> {
-    for_each(job, |text, room| compare_text(peer, text, room))
+    let reader = Reader {
+        peer,
+        table: job.table(),
+    };
+    let refused = job.table.as_ref().and_then(|table| table.refused);
+    for_each(job, |text, room| match refused {
+        Some(refused) => same(&reader.read(&text.bytes, room), &refusing(refused, room)),
+        None => compare_text(&reader, text, room),
+    })
+}
+
+/// A peer that reads texts under one table.
+struct Reader<'a> {
+    peer: &'a Peer,
+    table: Table<'a>,
+}
+
+impl Reader<'_> {
+    fn read(&self, text: &[u8], room: usize) -> Reply<u32> {
+        (self.peer.read_text)(self.table, text, &lent(room))
+    }
+
+    fn check(&self, program: &[u8]) -> Result<(), Refused> {
+        (self.peer.check)(self.table, program).result
+    }
+}
+
+fn refusing(refused: Refused, room: usize) -> Reply<u32> {
+    Reply {
+        result: Err(refused),
+        lent: vec![lent(room)],
+    }
 }
 
 /// Every text of a job's program, and the length of a buffer for a program.
@@ -31,13 +62,13 @@ pub fn for_each(
     Ok(())
 }
 
-fn compare_text(peer: &Peer, text: &Text, room: usize) -> Result<(), String> {
+fn compare_text(reader: &Reader, text: &Text, room: usize) -> Result<(), String> {
     let bytes = &text.bytes;
-    let read = (peer.read_text)(bytes, &lent(room));
+    let read = reader.read(bytes, room);
     match (&text.known, read.result) {
-        (Known::Program(program), _) => same(&read, &expected(peer, program, bytes.len(), room)),
-        (Known::Beginning, _) => ends_too_early(peer, bytes),
-        (Known::Nothing, Ok(length)) => read_back(peer, &read.lent[0][..length as usize]),
+        (Known::Program(program), _) => same(&read, &expected(reader, program, bytes.len(), room)),
+        (Known::Beginning, _) => ends_too_early(reader, bytes),
+        (Known::Nothing, Ok(length)) => read_back(reader, &read.lent[0][..length as usize]),
         (Known::Nothing, Err(_)) => Ok(()),
     }
 }
@@ -54,9 +85,9 @@ fn same(found: &Reply<u32>, expected: &Reply<u32>) -> Result<(), String> {
 }
 
 /// What reading the text of a program replies, whatever the text is like.
-fn expected(peer: &Peer, program: &[u8], text_length: usize, room: usize) -> Reply<u32> {
+fn expected(reader: &Reader, program: &[u8], text_length: usize, room: usize) -> Reply<u32> {
     let refusal = |number, place| Err(Refused { number, place });
-    let result = match (peer.check)(program).result {
+    let result = match reader.check(program) {
         _ if text_length > MOST_TEXT => refusal(17, MOST_TEXT as u32),
         Err(refused) => Err(refused),
         Ok(()) if program.len() > room => refusal(14, 0),
@@ -70,26 +101,26 @@ fn expected(peer: &Peer, program: &[u8], text_length: usize, room: usize) -> Rep
 }
 
 /// A program that was read, typed again, is read to the same bytes.
-fn read_back(peer: &Peer, program: &[u8]) -> Result<(), String> {
+fn read_back(reader: &Reader, program: &[u8]) -> Result<(), String> {
     let text = with_fewest_blanks(&with_fewest_brackets(program));
     let room = program.len();
-    let read = (peer.read_text)(&text, &lent(room));
-    same(&read, &expected(peer, program, text.len(), room))
+    let read = reader.read(&text, room);
+    same(&read, &expected(reader, program, text.len(), room))
 }
 
 /// The beginning of a text isn't broken before its end; of two signs that
 /// never follow each other the one or the other breaks it.
-fn ends_too_early(peer: &Peer, beginning: &[u8]) -> Result<(), String> {
+fn ends_too_early(reader: &Reader, beginning: &[u8]) -> Result<(), String> {
     let end = beginning.len();
     if end + BROKEN.len() > MOST_TEXT {
         return Ok(());
     }
-    let whole = (peer.read_text)(beginning, &[]).result;
+    let whole = reader.read(beginning, 0).result;
     if whole.is_err_and(|refused| refused.number >= 17 && refused != broken(end)) {
         return Err(format!("a beginning is {whole:?}"));
     }
     let longer = [beginning, BROKEN].concat();
-    let refused = (peer.read_text)(&longer, &[]).result.err();
+    let refused = reader.read(&longer, 0).result.err();
     let mut places = [end + 1, end + 4].into_iter();
     if !places.any(|place| refused == Some(broken(place))) {
         return Err(format!("a beginning and two signs are {refused:?}"));

@@ -80,7 +80,7 @@ fn damage_cell(file: &mut [u8], random: &mut Random) {
 }
 
 /// Gives every whole block the check that makes its words sum to 0.
-fn mend_checks(file: &mut [u8]) {
+pub fn mend_checks(file: &mut [u8]) {
     for block in file.chunks_exact_mut(BLOCK) {
         block[6..8].fill(0);
         let words = block.chunks_exact(2);
@@ -137,13 +137,14 @@ mod tests {
     use crate::lend::{file_length, lent, state_length, MOST_FILE};
     use second::answer::Refusal;
     use second::calls;
+    use second::table::BUILT_IN;
     use std::collections::BTreeSet;
 
     /// The refusals, 0 for none, that calls on 4,000 damaged programs meet.
     fn met(call: impl Fn(&[u8], &mut Random) -> Result<(), Refusal>) -> BTreeSet<u8> {
         let outcome = |seed: u64| {
             let random = &mut Random::new(seed);
-            let program = generate::program(random);
+            let program = generate::program(random, &BUILT_IN);
             call(&program, random).map_or_else(|refusal| refusal.number, |()| 0)
         };
         (0..4_000).map(outcome).collect()

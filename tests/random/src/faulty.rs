@@ -6,9 +6,9 @@ use peers::{End, Peer, Refused, Reply, SECOND};
 /// Its rules take an instant too many for a program with a parallel node.
 pub const SLOW_PARALLEL: Peer = Peer {
     name: "slow parallel",
-    reference_run: |program, words, budget| {
+    reference_run: |table, program, words, budget| {
         let parallel = program.chunks_exact(4).any(|node| node[0] == 20);
-        let reply = (SECOND.reference_run)(program, words, budget);
+        let reply = (SECOND.reference_run)(table, program, words, budget);
         let late = |end: End| End {
             instant: end.instant + u32::from(parallel),
             ..end
@@ -52,9 +52,9 @@ const COPYING: Peer = Peer {
 /// Compiles every program to the netlist of ok.
 const STOCK_NETLIST: Peer = Peer {
     name: "stock netlist",
-    compile: |program, file| match (SECOND.check)(program).result {
-        Ok(()) => (SECOND.compile)(&[16, 0, 0, 0], file),
-        Err(_) => (SECOND.compile)(program, file),
+    compile: |table, program, file| match (SECOND.check)(table, program).result {
+        Ok(()) => (SECOND.compile)(table, &[16, 0, 0, 0], file),
+        Err(_) => (SECOND.compile)(table, program, file),
     },
     ..SECOND
 };
@@ -62,11 +62,11 @@ const STOCK_NETLIST: Peer = Peer {
 /// Refuses all programs, and says so everywhere.
 const REFUSING: Peer = Peer {
     name: "refusing",
-    check: |_| Reply {
+    check: |_, _| Reply {
         result: Err(NO),
         lent: vec![],
     },
-    compile: |_, file| Reply {
+    compile: |_, _, file| Reply {
         result: Err(NO),
         lent: vec![file.to_vec()],
     },
@@ -76,8 +76,8 @@ const REFUSING: Peer = Peer {
 /// Takes `;` for `||` and the other way round.
 const MIXED_UP: Peer = Peer {
     name: "mixed up",
-    read_text: |text, program| {
-        let mut reply = (SECOND.read_text)(text, program);
+    read_text: |table, text, program| {
+        let mut reply = (SECOND.read_text)(table, text, program);
         for node in reply.lent[0].chunks_mut(4) {
             match node[0] {
                 19 => node[0] = 20,
@@ -93,16 +93,16 @@ const MIXED_UP: Peer = Peer {
 /// Doesn't count the blanks at the end of a text.
 const TRIMMING: Peer = Peer {
     name: "trimming",
-    read_text: |text, program| (SECOND.read_text)(text.trim_ascii_end(), program),
+    read_text: |table, text, program| (SECOND.read_text)(table, text.trim_ascii_end(), program),
     ..SECOND
 };
 
 /// Reads no text of 4,096 bytes.
 const SHORT_TEXTS: Peer = Peer {
     name: "short texts",
-    read_text: |text, program| match text.len() {
-        4096 => (SECOND.read_text)(&[b' '; 4097], program),
-        _ => (SECOND.read_text)(text, program),
+    read_text: |table, text, program| match text.len() {
+        4096 => (SECOND.read_text)(table, &[b' '; 4097], program),
+        _ => (SECOND.read_text)(table, text, program),
     },
     ..SECOND
 };
@@ -110,12 +110,46 @@ const SHORT_TEXTS: Peer = Peer {
 /// Tells only at a text's end that its grammar is broken.
 const LATE_PLACE: Peer = Peer {
     name: "late place",
-    read_text: |text, program| {
-        let mut reply = (SECOND.read_text)(text, program);
+    read_text: |table, text, program| {
+        let mut reply = (SECOND.read_text)(table, text, program);
         if let Err(Refused { number: 18, place }) = &mut reply.result {
             *place = text.len() as u32;
         }
         reply
+    },
+    ..SECOND
+};
+
+/// Checks by the built-in times whatever the table says.
+const UNTIMED: Peer = Peer {
+    name: "untimed",
+    check: |_, program| (SECOND.check)(None, program),
+    compile: |_, program, file| (SECOND.compile)(None, program, file),
+    ..SECOND
+};
+
+/// Leaves a time of the table in the netlist's first block.
+const TIMED_NETLIST: Peer = Peer {
+    name: "timed netlist",
+    compile: |table, program, file| {
+        let mut reply = (SECOND.compile)(table, program, file);
+        if let (Some(table), Ok(_)) = (table, reply.result) {
+            reply.lent[0][511] = table[10];
+        }
+        reply
+    },
+    ..SECOND
+};
+
+/// Refuses a text before its table.
+const TEXT_FIRST: Peer = Peer {
+    name: "text first",
+    read_text: |table, text, program| {
+        let untimed = (SECOND.read_text)(None, text, program);
+        match untimed.result {
+            Err(Refused { number: 17.., .. }) => untimed,
+            _ => (SECOND.read_text)(table, text, program),
+        }
     },
     ..SECOND
 };
@@ -130,7 +164,8 @@ mod tests {
     use crate::against_peer::Pair;
     use crate::job::Job;
     use crate::xorshift::Random;
-    use crate::{against_equations, against_rules, against_text, generate, netlists};
+    use crate::{against_equations, against_rules, against_tables, against_text};
+    use crate::{generate, netlists};
 
     const JOBS: u64 = 40;
 
@@ -142,6 +177,11 @@ mod tests {
         let random = &mut Random::new(3);
         let (file, words) = (netlists::netlist(random), generate::start_words(random));
         against_equations::compare(peer, &file, &words, 1).is_err()
+    }
+
+    fn disagrees_with_tables(peer: &Peer) -> bool {
+        // A damaged table is rare.
+        (0..10 * JOBS).any(|seed| against_tables::compare(peer, &Job::of_seed(seed)).is_err())
     }
 
     fn disagrees_with_texts(peer: &Peer) -> bool {
@@ -176,8 +216,16 @@ mod tests {
     #[test]
     fn texts_tell_faulty_readers() {
         assert!(!disagrees_with_texts(&SECOND));
-        for faulty in [MIXED_UP, TRIMMING, SHORT_TEXTS, LATE_PLACE] {
+        for faulty in [MIXED_UP, TRIMMING, SHORT_TEXTS, LATE_PLACE, TEXT_FIRST] {
             assert!(disagrees_with_texts(&faulty), "{}", faulty.name);
+        }
+    }
+
+    #[test]
+    fn tables_tell_faulty_checks_and_compilers() {
+        assert!(!disagrees_with_tables(&SECOND));
+        for faulty in [UNTIMED, TIMED_NETLIST] {
+            assert!(disagrees_with_tables(&faulty), "{}", faulty.name);
         }
     }
 
@@ -186,7 +234,9 @@ mod tests {
         assert!(!disagrees_with_second(&SECOND));
         let faulty_runs = [SLOW_PARALLEL, EARLY_OPEN, COPYING, STOCK_NETLIST, REFUSING];
         let faulty_readers = [MIXED_UP, TRIMMING, LATE_PLACE];
-        for faulty in faulty_runs.iter().chain(&faulty_readers) {
+        let faulty_tables = [UNTIMED, TIMED_NETLIST];
+        let faulty = faulty_runs.iter().chain(&faulty_readers);
+        for faulty in faulty.chain(&faulty_tables) {
             assert!(disagrees_with_second(faulty), "{}", faulty.name);
         }
     }

@@ -1,4 +1,4 @@
-//! Random programs that the check accepts.
+//! Random programs that the check accepts under given operator times.
 //!
 //! Every part is written within a limit, the most nodes that the program may
 //! have after it, and a scope, the variables it may read and write. Parallel
@@ -7,6 +7,7 @@
 
 use crate::xorshift::Random;
 use second::operator::Operator;
+use second::table::Times;
 
 const MOST_NODES: usize = 200;
 const MOST_DELAY: u32 = 255;
@@ -70,8 +71,8 @@ const OPERATORS: [Operator; 7] = [
     Operator::Less,
 ];
 
-/// A program of up to 200 nodes.
-pub fn program(random: &mut Random) -> Vec<u8> {
+/// A program of up to 200 nodes, whose delays are long enough for these times.
+pub fn program(random: &mut Random, times: &Times) -> Vec<u8> {
     let limit = match random.below(10) {
         0..=3 => random.between(1, 12),
         4..=7 => random.between(13, 60),
@@ -82,6 +83,7 @@ pub fn program(random: &mut Random) -> Vec<u8> {
     let all = ((1u32 << variables) - 1) as u16;
     let mut author = Author {
         random,
+        times,
         bytes: Vec::new(),
     };
     author.statement(limit, Scope::new(all, all));
@@ -100,6 +102,7 @@ pub fn start_words(random: &mut Random) -> Vec<u8> {
 
 struct Author<'a> {
     random: &'a mut Random,
+    times: &'a Times,
     bytes: Vec<u8>,
 }
 
@@ -210,7 +213,7 @@ impl Author<'_> {
         self.node(8, 0);
         self.node(2, variable);
         self.node(1, 0);
-        self.set_delay(place, Operator::Equal.time());
+        self.set_delay(place, self.times.of(Operator::Equal));
         self.counting_body(variable, limit, scope);
     }
 
@@ -222,7 +225,7 @@ impl Author<'_> {
         self.node(5, 0);
         self.node(2, variable);
         self.node(1, 1);
-        self.set_delay(place, Operator::Difference.time());
+        self.set_delay(place, self.times.of(Operator::Difference));
     }
 
     /// The expression of a statement, mostly short, so that room is left for
@@ -237,7 +240,8 @@ impl Author<'_> {
     /// Writes an expression within a limit and a time; gives its time.
     fn expression(&mut self, limit: usize, time: u32, reads: u16) -> u32 {
         let room = limit - self.count();
-        let fits = |operator: &Operator| operator.time() <= time && inputs(*operator) < room;
+        let times = self.times;
+        let fits = |operator: &Operator| times.of(*operator) <= time && inputs(*operator) < room;
         let operators: Vec<Operator> = OPERATORS.into_iter().filter(fits).collect();
         // Where a complement alone fits, a leaf is mostly the better choice.
         let leaves_in_twelve = if room < 3 { 9 } else { 2 };
@@ -247,13 +251,13 @@ impl Author<'_> {
         }
         let operator = self.random.pick(&operators);
         self.node(operator.kind(), 0);
-        let left = time - operator.time();
+        let left = time - times.of(operator);
         let mut children = 0;
         if inputs(operator) == 2 {
             let first_limit = self.random.between(self.count() + 1, limit - 1);
             children = self.expression(first_limit, left, reads);
         }
-        operator.time() + children.max(self.expression(limit, left, reads))
+        times.of(operator) + children.max(self.expression(limit, left, reads))
     }
 
     fn leaf(&mut self, reads: u16) {
@@ -296,15 +300,25 @@ fn inputs(operator: Operator) -> usize {
 #[cfg(test)]
 mod tests {
     use super::*;
+    use second::table::BUILT_IN;
     use second::{calls, kinds};
 
     #[test]
     fn every_program_is_accepted_and_every_kind_occurs() {
+        let least = Times([0, 0, 1, 1, 1, 1, 1, 1, 1]);
+        let most = Times([0, 0, 200, 200, 200, 200, 200, 200, 200]);
+        for times in [BUILT_IN, least, most] {
+            accepted_and_every_kind_occurs(&times);
+        }
+    }
+
+    fn accepted_and_every_kind_occurs(times: &Times) {
         let mut seen = [0; 256];
         let mut largest = 0;
         for seed in 0..2_000 {
-            let program = program(&mut Random::new(seed));
-            assert_eq!(calls::check(&program), Ok(()), "seed {seed}: {program:?}");
+            let program = program(&mut Random::new(seed), times);
+            let checked = calls::check_timed(&times.file(), &program);
+            assert_eq!(checked, Ok(()), "seed {seed}: {program:?}");
             largest = largest.max(program.len() / 4);
             for node in program.chunks_exact(4) {
                 seen[usize::from(node[0])] += 1;
@@ -312,7 +326,7 @@ mod tests {
         }
         for row in &kinds::TABLE {
             let count = seen[usize::from(row.number)];
-            assert!(count > 500, "{} occurs {count} times", row.name);
+            assert!(count > 400, "{} occurs {count} times", row.name);
         }
         assert!((190..=MOST_NODES).contains(&largest), "{largest}");
     }

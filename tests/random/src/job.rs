@@ -1,8 +1,10 @@
-//! One random job: a program and all that is asked about it.
+//! One random job: a program, perhaps a table for it, and all that is asked.
 
 use crate::damage;
 use crate::generate;
+use crate::tables::{self, Table};
 use crate::xorshift::Random;
+use second::table::BUILT_IN;
 
 /// The last instant that a run may come to.
 pub const MOST_INSTANT: u32 = 1_000_000;
@@ -34,6 +36,7 @@ impl Room {
 
 #[derive(Clone, Debug)]
 pub struct Job {
+    pub table: Option<Table>,
     pub program: Vec<u8>,
     pub words: Vec<u8>,
     pub budget: u32,
@@ -46,14 +49,21 @@ pub struct Job {
 }
 
 impl Job {
-    /// The job of a seed; one program in eight is slightly damaged.
+    /// The job of a seed; one program in eight is slightly damaged. Every other
+    /// one has a table, and one table in twelve is damaged.
     pub fn of_seed(seed: u64) -> Job {
         let random = &mut Random::new(seed);
-        let mut program = generate::program(random);
+        let times = random.once_in(2).then(|| tables::times(random));
+        let mut program = generate::program(random, times.as_ref().unwrap_or(&BUILT_IN));
         if random.once_in(8) {
             program = damage::program(&program, random);
         }
+        let table = times.map(|times| match random.once_in(12) {
+            true => tables::damaged(&times, random),
+            false => tables::good(&times),
+        });
         Job {
+            table,
             program,
             words: lent_words(random),
             budget: budget(random),
@@ -62,6 +72,11 @@ impl Job {
             calls: calls(random),
             damage: random.bits(),
         }
+    }
+
+    /// The bytes of its table, as a peer is given them.
+    pub fn table(&self) -> peers::Table<'_> {
+        self.table.as_ref().map(|table| &table.bytes[..])
     }
 }
 

@@ -1,5 +1,5 @@
-//! A program's bytes as indented text, whether or not it is accepted; and a
-//! netlist's cells as lines.
+//! A program's bytes as indented text, whether or not it is accepted; a
+//! netlist's cells as lines; and a table's bytes.
 
 use second::cells::Netlist;
 use second::kinds::row;
@@ -39,6 +39,15 @@ fn line(node: &[u8]) -> String {
     text
 }
 
+/// The length of a table, and its bytes that aren't zero, each after its place.
+pub fn table(bytes: &[u8]) -> String {
+    let mut text = format!("table of {} bytes:", bytes.len());
+    for (place, byte) in bytes.iter().enumerate().filter(|(_, &byte)| byte != 0) {
+        text += &format!(" {place}: {byte}");
+    }
+    text + "\n"
+}
+
 /// One line for each cell: number, kind, delay, a and b.
 pub fn netlist(netlist: &Netlist) -> String {
     let mut text = format!("finish {}\n", netlist.finish);
@@ -71,6 +80,11 @@ mod tests {
    5     ok
 ";
         assert_eq!(program(&nodes.concat()), expected);
+    }
+
+    #[test]
+    fn a_table_is_shown_without_its_zeros() {
+        assert_eq!(table(&[0, 0, 9, 0, 7, 0]), "table of 6 bytes: 2: 9 4: 7\n");
     }
 
     #[test]

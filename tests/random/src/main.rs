@@ -1,5 +1,5 @@
 //! Random comparison: circuits with rules, texts with programs, simulators
-//! with equations, peers with each other. `random [--seed S] [--count C]`
+//! with equations, peers with each other, all of it under random tables. `random [--seed S] [--count C]`
 //!
 //! A disagreement is printed with a minimised program and ends the run with
 //! a code that isn't zero.
@@ -7,6 +7,7 @@
 mod against_equations;
 mod against_peer;
 mod against_rules;
+mod against_tables;
 mod against_text;
 mod damage;
 #[cfg(test)]
@@ -18,6 +19,7 @@ mod listing;
 mod minimise;
 mod netlists;
 mod run;
+mod tables;
 mod tally;
 mod texts;
 mod typing;

@@ -1,9 +1,9 @@
 //! Makes a failing job smaller, step by step, for as long as it still fails.
 //!
 //! A step puts a smaller subtree for a subtree, lowers a number of a node,
-//! clears a start word, or drops a call. It is greedy: the first step that
-//! keeps the failure is taken, until none does. Of programs of one length the
-//! one whose bytes come first is the smaller, so there is an end to it.
+//! clears a start word, or drops the table or a call. It is greedy: the first
+//! step that keeps the failure is taken, until none does. Of programs of one
+//! length the one whose bytes come first is the smaller, so there is an end.
 
 use crate::job::Job;
 use second::kinds::{row, Sort};
@@ -30,6 +30,7 @@ fn steps(job: &Job) -> Vec<Job> {
     };
     let programs = smaller_programs(&job.program).into_iter().map(with_program);
     programs
+        .chain(without_table(job))
         .chain(fewer_calls(job))
         .chain(cleared_words(job))
         .collect()
@@ -111,6 +112,15 @@ fn lower_numbers(program: &[u8], node: usize) -> Vec<Vec<u8>> {
     lower
 }
 
+/// The job under the built-in times, if it isn't so already.
+fn without_table(job: &Job) -> Option<Job> {
+    let without = |_| Job {
+        table: None,
+        ..job.clone()
+    };
+    job.table.as_ref().map(without)
+}
+
 /// The job without one of its calls.
 fn fewer_calls(job: &Job) -> Vec<Job> {
     let without = |call| {
@@ -147,7 +157,7 @@ mod tests {
             .expect("a parallel program");
         let smallest = minimise(&failing, fails);
         assert_eq!(smallest.program, [[20, 0, 0, 0], OK, OK].concat());
-        assert!(smallest.calls.is_empty());
+        assert!(smallest.calls.is_empty() && smallest.table.is_none());
         assert!(smallest.words.iter().all(|&byte| byte == 0));
     }
 

@@ -8,7 +8,8 @@ use crate::against_rules::{self, Outcome};
 use crate::job::{self, Job};
 use crate::tally::Tally;
 use crate::xorshift::Random;
-use crate::{against_equations, against_text, generate, listing, minimise, netlists};
+use crate::{against_equations, against_tables, against_text};
+use crate::{generate, listing, minimise, netlists};
 use peers::{Peer, PROVED, SECOND};
 use second::netfile;
 
@@ -37,14 +38,16 @@ pub fn run(seed: u64, count: u64) -> Result<Tally, String> {
     Ok(tally)
 }
 
-/// A program: the peers with each other, and each by itself, texts with the
-/// program and the circuit with the rules.
+/// A program: the peers with each other, and each by itself, calls with the
+/// table, texts with the program and the circuit with the rules.
 fn compare(job: &Job) -> Result<Outcome, String> {
     let pair = Pair {
         left: &LEFT,
         right: &RIGHT,
     };
     pair.compare(job)?;
+    against_tables::compare(&LEFT, job)?;
+    against_tables::compare(&RIGHT, job)?;
     against_text::compare(&LEFT, job)?;
     against_text::compare(&RIGHT, job)?;
     against_rules::compare(&LEFT, job)?;
@@ -76,6 +79,7 @@ fn report(job: &Job, number: u64, what: &str) -> String {
     let smallest = minimise::minimise(job, |job| compare(job).is_err());
     let what_now = compare(&smallest).err().unwrap_or_default();
     let mut text = format!("job {number} disagrees: {what}\nminimised: {what_now}\n");
+    text += &smallest.table().map_or(String::new(), listing::table);
     text += &format!("program: {:?}\n", smallest.program);
     text += &listing::program(&smallest.program);
     text += &format!("words: {:?}\n", smallest.words);
@@ -91,7 +95,7 @@ mod tests {
     fn a_short_run_agrees_and_sees_every_outcome() {
         let tally = run(2, 2_000).unwrap_or_else(|report| panic!("{report}"));
         let least = tally.ended.min(tally.open).min(tally.refused);
-        assert!(least >= 100, "{tally}");
+        assert!(least.min(tally.tables) >= 100, "{tally}");
         assert_eq!(tally.netlists, 50);
     }
 }

@@ -10,6 +10,8 @@ pub struct Tally {
     pub open: u64,
     pub refused: u64,
     pub nodes: usize,
+    /// Programs under a table of their own.
+    pub tables: u64,
     pub netlists: u64,
 }
 
@@ -17,6 +19,7 @@ impl Tally {
     /// Counts a program.
     pub fn add(&mut self, job: &Job, outcome: Outcome) {
         self.nodes += job.program.len() / 4;
+        self.tables += u64::from(job.table.is_some());
         match outcome {
             Outcome::Ended => self.ended += 1,
             Outcome::Open => self.open += 1,
@@ -32,11 +35,13 @@ impl Display for Tally {
             open,
             refused,
             nodes,
+            tables,
             netlists,
         } = self;
         let programs = ended + open + refused;
         write!(text, "{programs} programs, {nodes} nodes in all, agree: ")?;
-        write!(text, "{ended} ended, {open} open, {refused} refused; ")?;
+        write!(text, "{ended} ended, {open} open, {refused} refused, ")?;
+        write!(text, "{tables} under a table; ")?;
         write!(text, "{netlists} netlists agree")
     }
 }

@@ -172,6 +172,7 @@ fn damage_bytes(bytes: &mut Vec<u8>, random: &mut Random) {
 mod tests {
     use super::*;
     use crate::generate;
+    use second::table::BUILT_IN;
     use std::collections::BTreeMap;
 
     /// How often texts met each refusal, 0 for none.
@@ -179,7 +180,7 @@ mod tests {
         let mut met = BTreeMap::new();
         for seed in 0..4_000 {
             let random = &mut Random::new(seed);
-            let program = generate::program(random);
+            let program = generate::program(random, &BUILT_IN);
             let texts = texts(&program, random).into_iter();
             for text in texts.filter(|text| wanted(&text.known)) {
                 let read = calls::read_text(&text.bytes, &mut [0; 800]);

@@ -2,15 +2,21 @@
 //!
 //! Each call makes all its checks, in the paper's order, before it writes a
 //! lent byte, and writes no further than its result goes.
+//!
+//! A call that checks a program stands here twice: `_timed` it is given a table
+//! of operator times, whose refusals 19 to 21 come before all others, and
+//! without that the table is the built-in one.
 
 use crate::answer::{Answer, Refusal};
 use crate::cells::Netlist;
 use crate::check;
 use crate::compile;
 use crate::netfile;
+use crate::program::Statement;
 use crate::rules::{self, Outcome};
 use crate::simulate::Simulator;
 use crate::state;
+use crate::table::{self, BUILT_IN};
 use crate::text;
 use crate::word::{words_of, Words, WORDS_LENGTH};
 
@@ -35,12 +41,20 @@ impl Shape {
 
 /// Checks a program: refusals 1 to 8.
 pub fn check(program: &[u8]) -> Result<(), Refusal> {
-    check::check(program).map(drop)
+    check_timed(&BUILT_IN.file(), program)
+}
+
+pub fn check_timed(table: &[u8], program: &[u8]) -> Result<(), Refusal> {
+    checked(table, program).map(drop)
 }
 
 /// Compiles a program to a netlist file: refusals 1 to 8, 14.
 pub fn compile(program: &[u8], file: &mut [u8]) -> Result<Shape, Refusal> {
-    let netlist = compile::compile(&check::check(program)?);
+    compile_timed(&BUILT_IN.file(), program, file)
+}
+
+pub fn compile_timed(table: &[u8], program: &[u8], file: &mut [u8]) -> Result<Shape, Refusal> {
+    let netlist = compile::compile(&checked(table, program)?);
     put(&netfile::write(&netlist), file)?;
     Ok(Shape::of(&netlist))
 }
@@ -48,15 +62,23 @@ pub fn compile(program: &[u8], file: &mut [u8]) -> Result<Shape, Refusal> {
 /// Reads a text to its program's bytes: refusals 17, 18, 1 to 8, 14. Tells how
 /// many bytes these are.
 pub fn read_text(text: &[u8], program: &mut [u8]) -> Result<usize, Refusal> {
-    let bytes = text::program(text)?;
-    check(&bytes)?;
+    read_text_timed(&BUILT_IN.file(), text, program)
+}
+
+pub fn read_text_timed(table: &[u8], text: &[u8], program: &mut [u8]) -> Result<usize, Refusal> {
+    let bytes = program_of(table, text)?;
+    check_timed(table, &bytes)?;
     put(&bytes, program)?;
     Ok(bytes.len())
 }
 
 /// Compiles a text: refusals 17, 18, and those of its program.
 pub fn compile_text(text: &[u8], file: &mut [u8]) -> Result<Shape, Refusal> {
-    compile(&text::program(text)?, file)
+    compile_text_timed(&BUILT_IN.file(), text, file)
+}
+
+pub fn compile_text_timed(table: &[u8], text: &[u8], file: &mut [u8]) -> Result<Shape, Refusal> {
+    compile_timed(table, &program_of(table, text)?, file)
 }
 
 /// Writes cells of six bytes to a netlist file: 11 when they are no cells of
@@ -125,7 +147,18 @@ pub fn run_program(
     file: &mut [u8],
     state: &mut [u8],
 ) -> Result<Answer, Refusal> {
-    let netlist = compile::compile(&check::check(program)?);
+    run_program_timed(&BUILT_IN.file(), program, words, budget, file, state)
+}
+
+pub fn run_program_timed(
+    table: &[u8],
+    program: &[u8],
+    words: &[u8],
+    budget: u32,
+    file: &mut [u8],
+    state: &mut [u8],
+) -> Result<Answer, Refusal> {
+    let netlist = compile::compile(&checked(table, program)?);
     check_budget(budget)?;
     let words = start_words(words)?;
     let state = room(state, state::length(&netlist))?;
@@ -141,14 +174,47 @@ pub fn run_text(
     file: &mut [u8],
     state: &mut [u8],
 ) -> Result<Answer, Refusal> {
-    run_program(&text::program(text)?, words, budget, file, state)
+    run_text_timed(&BUILT_IN.file(), text, words, budget, file, state)
+}
+
+pub fn run_text_timed(
+    table: &[u8],
+    text: &[u8],
+    words: &[u8],
+    budget: u32,
+    file: &mut [u8],
+    state: &mut [u8],
+) -> Result<Answer, Refusal> {
+    let program = program_of(table, text)?;
+    run_program_timed(table, &program, words, budget, file, state)
 }
 
 /// Runs a program by its own rules: refusals 1 to 8, 13, 14.
 pub fn reference_run(program: &[u8], words: &[u8], budget: u32) -> Result<Outcome, Refusal> {
-    let program = check::check(program)?;
+    reference_run_timed(&BUILT_IN.file(), program, words, budget)
+}
+
+pub fn reference_run_timed(
+    table: &[u8],
+    program: &[u8],
+    words: &[u8],
+    budget: u32,
+) -> Result<Outcome, Refusal> {
+    let program = checked(table, program)?;
     check_budget(budget)?;
     Ok(rules::run(&program, start_words(words)?, budget))
+}
+
+/// A program that passes its checks under a table that passes its own.
+fn checked(table: &[u8], program: &[u8]) -> Result<Statement, Refusal> {
+    let times = table::read(table)?;
+    check::check(program, &times)
+}
+
+/// The bytes of a text's program; the table is refused before the text.
+fn program_of(table: &[u8], text: &[u8]) -> Result<Vec<u8>, Refusal> {
+    table::read(table)?;
+    text::program(text)
 }
 
 /// A beginning, and a continuing unless the finish was high.

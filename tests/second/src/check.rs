@@ -6,16 +6,17 @@
 use crate::answer::Refusal;
 use crate::kinds::{row, ExpressionKind, Kind, Row, StatementKind};
 use crate::program::{Expression, Form, Statement};
+use crate::table::Times;
 use crate::word::number2;
 
 const NODE_LENGTH: usize = 4;
 const MOST_NODES: usize = 200;
 
 /// The program that these bytes are, or the refusal found first.
-pub fn check(bytes: &[u8]) -> Result<Statement, Refusal> {
+pub fn check(bytes: &[u8], times: &Times) -> Result<Statement, Refusal> {
     let nodes = nodes(bytes)?;
     let program = read(&nodes)?;
-    check_delays(&program)?;
+    check_delays(&program, times)?;
     check_parallels(&program)?;
     Ok(program)
 }
@@ -126,19 +127,19 @@ impl<'a> Reader<'a> {
 }
 
 /// Refusal 7, at the first statement whose delay is too small.
-fn check_delays(program: &Statement) -> Result<(), Refusal> {
+fn check_delays(program: &Statement, times: &Times) -> Result<(), Refusal> {
     refuse_first(7, program, |statement| {
-        u32::from(statement.delay) < least_delay(statement)
+        u32::from(statement.delay) < least_delay(statement, times)
     })
 }
 
 /// The least delay of a statement: its kind's, and its expression's time.
-fn least_delay(statement: &Statement) -> u32 {
+fn least_delay(statement: &Statement, times: &Times) -> u32 {
     let kind_needs = match statement.form {
         Form::Tick | Form::Assign(..) | Form::While(..) | Form::Repeat(..) => 1,
         Form::Ok | Form::Sequence(..) | Form::Parallel(..) | Form::If(..) => 0,
     };
-    let time = statement.expression().map_or(0, Expression::time);
+    let time = statement.expression().map_or(0, |e| e.time(times));
     time.max(kind_needs)
 }
 

@@ -6,6 +6,7 @@
 //! the calls that others use; what they lend and get back are bytes and numbers.
 
 pub mod answer;
+pub mod block;
 pub mod calls;
 pub mod cells;
 pub mod check;
@@ -21,6 +22,7 @@ pub mod program;
 pub mod rules;
 pub mod simulate;
 pub mod state;
+pub mod table;
 pub mod text;
 mod text_grammar;
 mod text_reading;

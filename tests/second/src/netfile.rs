@@ -1,12 +1,11 @@
 //! Netlist files: writing, and reading with refusals 9 to 12.
 
 use crate::answer::Refusal;
+use crate::block::{sum, CHECK, HEADER, LENGTH as BLOCK};
 use crate::cells::{self, Cell, Netlist};
 use crate::word::{number2, put2};
 
-const BLOCK: usize = 512;
 const MOST_BLOCKS: usize = 13;
-const HEADER: usize = 8;
 const CELL: usize = 6;
 const CELLS_IN_BLOCK: usize = (BLOCK - HEADER) / CELL;
 const LEAST_CELLS: usize = 19;
@@ -34,14 +33,8 @@ fn block(netlist: &Netlist, number: usize, cells: &[Cell]) -> [u8; BLOCK] {
         place.copy_from_slice(&cell_bytes(*cell));
     }
     let check = sum(&block).wrapping_neg();
-    put2(&mut block, 6, check);
+    put2(&mut block, CHECK, check);
     block
-}
-
-/// The sum of a block's 256 words, its check among them.
-fn sum(block: &[u8]) -> u16 {
-    let words = block.chunks_exact(2).map(|word| number2(word, 0));
-    words.fold(0, u16::wrapping_add)
 }
 
 /// The six bytes of a cell.

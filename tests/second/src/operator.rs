@@ -41,16 +41,6 @@ impl Operator {
         }
     }
 
-    /// The operator time of the paper's table.
-    pub fn time(self) -> u32 {
-        match self {
-            Complement | And | Or => 1,
-            Equal => 6,
-            Sum => 16,
-            Difference | Less => 17,
-        }
-    }
-
     /// Its result; a complement looks at `a` alone.
     pub fn apply(self, a: u16, b: u16) -> u16 {
         match self {

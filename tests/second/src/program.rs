@@ -4,6 +4,7 @@
 //! variables are masks: bit k stands for variable k.
 
 use crate::operator::Operator;
+use crate::table::Times;
 use crate::word::Words;
 
 pub enum Expression {
@@ -42,12 +43,14 @@ impl Expression {
         }
     }
 
-    /// Its time; 1,683 at most, so wider than a delay's byte.
-    pub fn time(&self) -> u32 {
+    /// Its time; 39,600 at most, so wider than a delay's byte.
+    pub fn time(&self, times: &Times) -> u32 {
         match self {
             Expression::Constant(_) | Expression::Variable(_) => 0,
-            Expression::Unary(operator, e) => operator.time() + e.time(),
-            Expression::Binary(operator, e, f) => operator.time() + e.time().max(f.time()),
+            Expression::Unary(operator, e) => times.of(*operator) + e.time(times),
+            Expression::Binary(operator, e, f) => {
+                times.of(*operator) + e.time(times).max(f.time(times))
+            }
         }
     }
 

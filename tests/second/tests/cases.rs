@@ -5,7 +5,8 @@
 use second::answer::{Answer, Refusal};
 use second::calls::{self, Shape};
 use second::rules::Outcome;
-use second::text;
+use second::table::BUILT_IN;
+use second::{check, rules, text};
 
 const FULL_BUDGET: u32 = 1_000_000;
 
@@ -271,8 +272,8 @@ fn case_2_has_23_cells_and_finish_4() {
 #[test]
 fn an_open_run_may_end_later() {
     // Case 7 from 0 goes round 65,536 times, 24 instants each.
-    let rounds = second::check::check(&repeat_count_down()).expect("case 7 is accepted");
-    let outcome = second::rules::run(&rounds, [0; 16], 2_000_000);
+    let rounds = check::check(&repeat_count_down(), &BUILT_IN).expect("case 7 is accepted");
+    let outcome = rules::run(&rounds, [0; 16], 2_000_000);
     let expected = Outcome::Ended {
         instant: 1_572_864,
         words: [0; 16],

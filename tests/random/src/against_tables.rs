@@ -1,0 +1,62 @@
+//! A job's table: a damaged one is refused by every call before all else, and
+//! a good one decides only whether a program is accepted.
+
+use crate::job::Job;
+use crate::lend::{lent, MOST_FILE};
+use peers::{Peer, Refused, Reply};
+use second::table::Times;
+
+/// The table that accepts whatever any table accepts.
+const FASTEST: Times = Times([0, 0, 1, 1, 1, 1, 1, 1, 1]);
+
+/// Compares; a job without a table has nothing to compare.
+pub fn compare(peer: &Peer, job: &Job) -> Result<(), String> {
+    match &job.table {
+        None => Ok(()),
+        Some(table) => match table.refused {
+            Some(refused) => refused_by_all(peer, job, refused),
+            None => same_as_under_the_fastest(peer, job),
+        },
+    }
+}
+
+/// The calls on programs; those on texts are compared with the texts.
+fn refused_by_all(peer: &Peer, job: &Job, refused: Refused) -> Result<(), String> {
+    let (table, program, words, budget) = (job.table(), &job.program, &job.words, job.budget);
+    let (file, state) = (lent(job.file_length), lent(job.state_length));
+    let unwritten = [file.clone(), state.clone()];
+    let checked = (peer.check)(table, program);
+    expect("check", checked, refused, &[])?;
+    let compiled = (peer.compile)(table, program, &file);
+    expect("compile", compiled, refused, &unwritten[..1])?;
+    let run = (peer.run_program)(table, program, words, budget, &file, &state);
+    expect("run_program", run, refused, &unwritten)?;
+    let ended = (peer.reference_run)(table, program, words, budget);
+    expect("reference_run", ended, refused, &[])
+}
+
+fn expect<T>(
+    name: &str,
+    found: Reply<T>,
+    refused: Refused,
+    unwritten: &[Vec<u8>],
+) -> Result<(), String> {
+    if found.result.err() != Some(refused) {
+        return Err(format!("{name}: the table isn't {refused:?}"));
+    }
+    if found.lent != unwritten {
+        return Err(format!("{name}: a refused table, yet lent bytes changed"));
+    }
+    Ok(())
+}
+
+/// An accepted program compiles to the same bytes under any faster table.
+fn same_as_under_the_fastest(peer: &Peer, job: &Job) -> Result<(), String> {
+    let room = lent(MOST_FILE);
+    let compiled = (peer.compile)(job.table(), &job.program, &room);
+    let fastest = (peer.compile)(Some(&FASTEST.file()), &job.program, &room);
+    if compiled.result.is_ok() && compiled != fastest {
+        return Err("compile: another netlist under a faster table".to_string());
+    }
+    Ok(())
+}

@@ -138,7 +138,7 @@ extern "C" {
         reply_length: usize,
     ) -> bool;
 
-    /// checkCall under a table
+    /// checkCall
     pub fn hub_check_timed(
         table: In,
         table_length: usize,
@@ -148,7 +148,7 @@ extern "C" {
         reply_length: usize,
     ) -> bool;
 
-    /// compileCall under a table
+    /// compileCall
     pub fn hub_compile_timed(
         table: In,
         table_length: usize,
@@ -160,7 +160,7 @@ extern "C" {
         reply_length: usize,
     ) -> bool;
 
-    /// readTextCall under a table
+    /// readTextCall
     pub fn hub_read_text_timed(
         table: In,
         table_length: usize,
@@ -172,7 +172,7 @@ extern "C" {
         reply_length: usize,
     ) -> bool;
 
-    /// compileTextCall under a table
+    /// compileTextCall
     pub fn hub_compile_text_timed(
         table: In,
         table_length: usize,
@@ -184,7 +184,7 @@ extern "C" {
         reply_length: usize,
     ) -> bool;
 
-    /// runProgramCall under a table
+    /// runProgramCall
     pub fn hub_run_program_timed(
         table: In,
         table_length: usize,
@@ -201,7 +201,7 @@ extern "C" {
         reply_length: usize,
     ) -> bool;
 
-    /// runTextCall under a table
+    /// runTextCall
     pub fn hub_run_text_timed(
         table: In,
         table_length: usize,
@@ -218,7 +218,7 @@ extern "C" {
         reply_length: usize,
     ) -> bool;
 
-    /// referenceCall under a table
+    /// referenceCall
     pub fn hub_reference_timed(
         table: In,
         table_length: usize,

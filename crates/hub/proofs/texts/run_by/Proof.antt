@@ -1,0 +1,99 @@
+-- The full run of a text: its table, and its program run. Assumes nothing.
+use mathlib.Core.Path.{sym, _∙_, ap}
+use native.Mathlib.Omega.{arith}
+use lib.ListN.{length-take}
+use Rattle.model.specs.Calls.{ToldBoth, runProgramCall}
+use Rattle.text.proofs.Giving.{told-refused, told-accepted, told-fits, told-program}
+use Rattle.hub.proofs.OnTexts.{run-unloaded, run-refused, run-given}
+use borrow.Author.Needs.{needs}
+use Rattle.hub.proofs.texts.run_by.Statement.{statement}
+use Rattle.hub.proofs.texts.run_by.Tie as tie
+
+enum-known-loaded : tie.Need-enum-known-loaded
+enum-known-loaded c = search needs
+
+refused-requires : tie.Need-refused-requires
+refused-requires c κs = search needs
+
+returns : tie.Need-returns
+returns c =
+    let args = c .before .before .before .before .before .before .before .before .args in
+    let r = run-unloaded (args .table) (args .source .now) (args .words .now) (args .budget) (args .netlist .now) (args .state .now) _ (c .before .before .loaded .given .1) in
+    (c .refused .ensures ∙ sym (ap (λ (t : ToldBoth). t .answer) r), (sym (ap (λ (t : ToldBoth). t .netlist) r), sym (ap (λ (t : ToldBoth). t .state) r)))
+
+enum-told : tie.Need-enum-told
+enum-told c = search needs
+
+slice-aggregate-program-of : tie.Need-slice-aggregate-program-of
+slice-aggregate-program-of c = search needs
+
+program-of-requires : tie.Need-program-of-requires
+program-of-requires c κs = search needs
+
+enum-known-told : tie.Need-enum-known-told
+enum-known-told c = search needs
+
+refused-requires-2 : tie.Need-refused-requires-2
+refused-requires-2 c κs = search needs
+
+enum-known-told-2 : tie.Need-enum-known-told-2
+enum-known-told-2 c = search needs
+
+array-share-prefix-program : tie.Need-array-share-prefix-program
+array-share-prefix-program c =
+    let of = c .before .before .before .before .program-of in
+    omega (arith, told-fits (c .before .before .before .before .before .before .before .before .before .before .before .before .args .source .now) _ _ (sym (of .ensures .0) ∙ c .before .told2 .given .1), of .kept .1 .0)
+
+slice-aggregate-run-by : tie.Need-slice-aggregate-run-by
+slice-aggregate-run-by c =
+    let of = c .before .before .before .before .before .program-of in
+    simp length-take (omega (arith, told-fits (c .before .before .before .before .before .before .before .before .before .before .before .before .before .args .source .now) _ _ (sym (of .ensures .0) ∙ c .before .before .told2 .given .1), of .kept .1 .0))
+
+run-by-requires : tie.Need-run-by-requires
+run-by-requires c κs = search needs
+
+returns-2 : tie.Need-returns-2
+returns-2 c =
+    let args = c .before .before .before .before .before .before .before .before .before .before .before .before .before .args in
+    let e = sym (c .before .before .before .before .before .program-of .ensures .0) ∙ c .before .before .told .given .1 in
+    let r = run-refused (args .table) (args .source .now) (args .words .now) (args .budget) (args .netlist .now) (args .state .now) (c .before .before .before .before .before .before .before .enum-told .given .1) _ (told-refused (args .source .now) _ e) in
+    (c .refused2 .ensures ∙ sym (ap (λ (t : ToldBoth). t .answer) r), (sym (ap (λ (t : ToldBoth). t .netlist) r), sym (ap (λ (t : ToldBoth). t .state) r)))
+
+same-length : tie.Need-same-length
+same-length c = search needs
+
+same-length-2 : tie.Need-same-length-2
+same-length-2 c = search needs
+
+returns-3 : tie.Need-returns-3
+returns-3 c =
+    let args = c .before .before .before .before .before .before .before .before .before .before .before .before .before .before .before .before .before .before .before .before .args in
+    let text = args .source .now in
+    let of = c .before .before .before .before .before .before .before .before .before .before .before .before .program-of in
+    let e = sym (of .ensures .0) ∙ c .before .before .before .before .before .before .before .before .before .told2 .given .1 in
+    let run = c .before .before .before .before .run-by .ensures in
+    let p = told-program text _ _ e _ (of .ensures .1) in
+    let call = runProgramCall (args .table) in
+    let g = ap (λ l. call l (args .words .now) (args .budget) (args .netlist .now) (args .state .now)) p ∙ sym (run-given (args .table) text (args .words .now) (args .budget) (args .netlist .now) (args .state .now) (told-accepted text _ _ e)) in
+    (run .0 ∙ ap (λ (t : ToldBoth). t .answer) g, (run .1 .0 ∙ ap (λ (t : ToldBoth). t .netlist) g, run .1 .1 ∙ ap (λ (t : ToldBoth). t .state) g))
+
+pub run-by-spec : {M : Type 1} → statement M
+run-by-spec =
+    tie.close
+    (tie.spec
+    enum-known-loaded
+    refused-requires
+    returns
+    enum-told
+    slice-aggregate-program-of
+    program-of-requires
+    enum-known-told
+    refused-requires-2
+    enum-known-told-2
+    array-share-prefix-program
+    slice-aggregate-run-by
+    run-by-requires
+    returns-2
+    same-length
+    same-length-2
+    returns-3)

@@ -9,8 +9,8 @@ use Rattle.model.specs.Word.{put16}
 use Rattle.model.specs.TimeTables.{builtIn, load}
 use Rattle.model.specs.Calls.{runProgramCall}
 use Rattle.model.specs.Cases.{start}
-use Rattle.hub.specs.declared.reply.Reply.{Reply}
-use Rattle.hub.specs.Replies.{answerReply, replied}
+use Rattle.reply.specs.declared.Reply.{Reply}
+use Rattle.reply.specs.Replies.{answerReply, replied}
 use Rattle.cases.specs.Rows.{bytesOf, Same, kindsFrom}
 
 pub start-put : (v : ℕ) {words : List ℕ} → words ≡ put16 (replicate 32 0) 0 v → words ≡ start v

@@ -1,4 +1,4 @@
--- What a row of the cases says: circuit and rules give the answer wanted. Answers are compared as replies (hub/Replies): bytes 0 to 15 have the
+-- What a row of the cases says: circuit and rules give the answer wanted. Answers are compared as replies (reply/Replies): bytes 0 to 15 have the
 -- outcome, a refusal's number and place, the instant and the count, the others the words. Assumes nothing: definitions.
 use mathlib.Core.Path.{_≡_}
 use mathlib.Core.List.{List}
@@ -9,7 +9,7 @@ use Rattle.model.specs.declared.Outcome.the-variants.{Open}
 use Rattle.model.specs.TimeTables.{builtIn, load}
 use Rattle.model.specs.Calls.{runProgramCall, referenceCall}
 use Rattle.model.specs.Cases.{start}
-use Rattle.hub.specs.Replies.{answerReply, replied}
+use Rattle.reply.specs.Replies.{answerReply, replied}
 
 -- what a run that stays open is to answer; its words are not compared
 abbrev pub openAnswer : ℕ → Answer

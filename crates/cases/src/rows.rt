@@ -1,5 +1,5 @@
 // A row: a program, word 0 at the start, a budget, and the answer that circuit and rules are to give. Answers are compared as replies of 48
-// bytes (hub/Replies); of an open run without the words, which the rules don't tell.
+// bytes (reply/Replies); of an open run without the words, which the rules don't tell.
 ghost use mathlib.Core.Path.{_≡_};
 ghost use mathlib.Core.Bool.{true};
 ghost use Prim.Native.Nat.{_*_, _≤_, _<_};
@@ -8,7 +8,7 @@ ghost use Rattle.model.specs.TimeTables.{builtIn, load};
 ghost use Rattle.model.specs.Calls.{runProgramCall, referenceCall, refusedAnswer};
 ghost use Rattle.model.specs.Cases.{start, endAnswer};
 ghost use Rattle.cases.specs.Rows.{openAnswer, Same, Holds, kindsSet};
-use hub::reply;
+
 use model::Answer;
 use model::Outcome;
 use model::Refusal;

@@ -4,8 +4,7 @@ ghost use mathlib.Core.Path.{_≡_};
 ghost use Rattle.model.specs.TimeTables.{builtIn, given, load};
 ghost use Rattle.model.specs.Calls.{checkCall, compileCall, writeCall, readCall, beginCall, continueCall, runNetlistCall, runProgramCall, referenceCall};
 ghost use Rattle.model.specs.TextCalls.{readTextCall, compileTextCall, runTextCall};
-ghost use Rattle.hub.specs.Replies.{checkedReply, writtenReply, answerReply, replied, roomFor, ifRoom};
-use crate::reply;
+ghost use Rattle.reply.specs.Replies.{checkedReply, writtenReply, answerReply, replied, roomFor, ifRoom};
 
 #[no_mangle]
 pub extern "C" fn hub_check(program: &[u8], reply: &mut [u8]) -> bool

@@ -7,7 +7,6 @@ ghost use Rattle.model.specs.TextCalls.{readTextCall, compileTextCall, runTextC
 
 pub mod exports; // the calls for other languages
 mod full; // the full run of a program
-pub mod reply; // answers as bytes
 mod texts; // compiling and running a text
 
 // The calls on a slice of cell structs; their contracts stand with them.

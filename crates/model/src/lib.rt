@@ -58,7 +58,8 @@ pub struct Loaded {
     pub times: [u8; 10],
 }
 
-// A cell of a netlist, six bytes.
+// A cell of a netlist, six bytes; callers in other languages lend slices of them.
+#[repr(C)]
 pub struct Cell {
     pub kind: u8,
     pub delay: u8,

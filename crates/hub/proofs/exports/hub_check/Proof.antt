@@ -1,16 +1,16 @@
 -- The exported check. Assumes nothing.
 use mathlib.Core.Path.{_∙_, ap}
 use denote.Ref.{now}
-use Rattle.hub.specs.Replies.{checkedReply}
-use Rattle.hub.proofs.Rooms.{room, put-in, no-room, untouched}
+use Rattle.reply.specs.Replies.{checkedReply}
+use Rattle.reply.proofs.Rooms.{room, put-in, no-room, untouched}
 use borrow.Author.Needs.{needs}
 use Rattle.hub.proofs.exports.hub_check.Statement.{statement}
 use Rattle.hub.proofs.exports.hub_check.Tie as tie
 use Rattle.hub.proofs.exports.hub_check.Reads as reads
 use Rattle.hub.proofs.exports.hub_check.Lts as lts
 use Rattle.hub.proofs.check.Reads as check-reads
-use Rattle.hub.proofs.reply.of_checked.Reads as of-checked-reads
-use Rattle.hub.proofs.reply.put.Reads as put-reads
+use Rattle.reply.proofs.of_checked.Reads as of-checked-reads
+use Rattle.reply.proofs.put.Reads as put-reads
 
 returns : tie.Need-returns
 returns c =

@@ -1,8 +1,8 @@
 -- The exported check with a table's times. Assumes nothing.
 use mathlib.Core.Path.{_∙_, ap}
 use denote.Ref.{now}
-use Rattle.hub.specs.Replies.{checkedReply}
-use Rattle.hub.proofs.Rooms.{room, put-in, no-room, untouched}
+use Rattle.reply.specs.Replies.{checkedReply}
+use Rattle.reply.proofs.Rooms.{room, put-in, no-room, untouched}
 use borrow.Author.Needs.{needs}
 use Rattle.hub.proofs.exports.hub_check_timed.Statement.{statement}
 use Rattle.hub.proofs.exports.hub_check_timed.Tie as tie

@@ -1,16 +1,16 @@
 -- The exported reference run. Assumes nothing.
 use mathlib.Core.Path.{_∙_, ap}
 use denote.Ref.{now}
-use Rattle.hub.specs.Replies.{answerReply}
-use Rattle.hub.proofs.Rooms.{room, put-in, no-room, untouched}
+use Rattle.reply.specs.Replies.{answerReply}
+use Rattle.reply.proofs.Rooms.{room, put-in, no-room, untouched}
 use borrow.Author.Needs.{needs}
 use Rattle.hub.proofs.exports.hub_reference.Statement.{statement}
 use Rattle.hub.proofs.exports.hub_reference.Tie as tie
 use Rattle.hub.proofs.exports.hub_reference.Reads as reads
 use Rattle.hub.proofs.exports.hub_reference.Lts as lts
 use Rattle.hub.proofs.reference_run.Reads as reference-run-reads
-use Rattle.hub.proofs.reply.of_answer.Reads as of-answer-reads
-use Rattle.hub.proofs.reply.put.Reads as put-reads
+use Rattle.reply.proofs.of_answer.Reads as of-answer-reads
+use Rattle.reply.proofs.put.Reads as put-reads
 
 returns : tie.Need-returns
 returns c =

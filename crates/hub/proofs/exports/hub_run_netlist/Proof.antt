@@ -1,16 +1,16 @@
 -- The exported full run of a netlist. Assumes nothing.
 use mathlib.Core.Path.{_∙_, ap}
 use denote.Ref.{now}
-use Rattle.hub.specs.Replies.{answerReply}
-use Rattle.hub.proofs.Rooms.{answered, nothing}
+use Rattle.reply.specs.Replies.{answerReply}
+use Rattle.reply.proofs.Rooms.{answered, nothing}
 use borrow.Author.Needs.{needs}
 use Rattle.hub.proofs.exports.hub_run_netlist.Statement.{statement}
 use Rattle.hub.proofs.exports.hub_run_netlist.Tie as tie
 use Rattle.hub.proofs.exports.hub_run_netlist.Reads as reads
 use Rattle.hub.proofs.exports.hub_run_netlist.Lts as lts
 use Rattle.hub.proofs.run_netlist.Reads as run-netlist-reads
-use Rattle.hub.proofs.reply.of_answer.Reads as of-answer-reads
-use Rattle.hub.proofs.reply.put.Reads as put-reads
+use Rattle.reply.proofs.of_answer.Reads as of-answer-reads
+use Rattle.reply.proofs.put.Reads as put-reads
 
 returns : tie.Need-returns
 returns c =

@@ -1,15 +1,15 @@
 -- The exported full run of a program. Assumes nothing.
 use mathlib.Core.Path.{_∙_, ap}
 use denote.Ref.{now}
-use Rattle.hub.specs.Replies.{answerReply}
-use Rattle.hub.proofs.Rooms.{room, left, put-in, no-room, untouched}
+use Rattle.reply.specs.Replies.{answerReply}
+use Rattle.reply.proofs.Rooms.{room, left, put-in, no-room, untouched}
 use borrow.Author.Needs.{needs}
 use Rattle.hub.proofs.exports.hub_run_program.Statement.{statement}
 use Rattle.hub.proofs.exports.hub_run_program.Tie as tie
 use Rattle.hub.proofs.exports.hub_run_program.Reads as reads
 use Rattle.hub.proofs.exports.hub_run_program.Lts as lts
-use Rattle.hub.proofs.reply.of_answer.Reads as of-answer-reads
-use Rattle.hub.proofs.reply.put.Reads as put-reads
+use Rattle.reply.proofs.of_answer.Reads as of-answer-reads
+use Rattle.reply.proofs.put.Reads as put-reads
 use Rattle.hub.proofs.run_program.Reads as run-program-reads
 
 returns : tie.Need-returns

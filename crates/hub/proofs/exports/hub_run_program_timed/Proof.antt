@@ -1,8 +1,8 @@
 -- The exported full run of a program with a table's times. Assumes nothing.
 use mathlib.Core.Path.{_∙_, ap}
 use denote.Ref.{now}
-use Rattle.hub.specs.Replies.{answerReply}
-use Rattle.hub.proofs.Rooms.{room, left, put-in, no-room, untouched}
+use Rattle.reply.specs.Replies.{answerReply}
+use Rattle.reply.proofs.Rooms.{room, left, put-in, no-room, untouched}
 use borrow.Author.Needs.{needs}
 use Rattle.hub.proofs.exports.hub_run_program_timed.Statement.{statement}
 use Rattle.hub.proofs.exports.hub_run_program_timed.Tie as tie

@@ -1,12 +1,12 @@
 -- The reply of a run. Assumes nothing.
-use Rattle.hub.specs.Replies.{outcomeReply}
+use Rattle.reply.specs.Replies.{outcomeReply}
 use borrow.Author.Needs.{needs}
-use Rattle.hub.proofs.reply.of_answer.Statement.{statement}
-use Rattle.hub.proofs.reply.of_answer.Tie as tie
-use Rattle.hub.proofs.reply.of_answer.Reads as reads
-use Rattle.hub.proofs.reply.of_answer.Lts as lts
-use Rattle.hub.proofs.reply.of_numbers.Reads as of-numbers-reads
-use Rattle.hub.proofs.reply.of_refusal.Reads as of-refusal-reads
+use Rattle.reply.proofs.of_answer.Statement.{statement}
+use Rattle.reply.proofs.of_answer.Tie as tie
+use Rattle.reply.proofs.of_answer.Reads as reads
+use Rattle.reply.proofs.of_answer.Lts as lts
+use Rattle.reply.proofs.of_numbers.Reads as of-numbers-reads
+use Rattle.reply.proofs.of_refusal.Reads as of-refusal-reads
 
 enum-told : tie.Need-enum-told
 enum-told c = search needs

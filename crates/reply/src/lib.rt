@@ -2,7 +2,7 @@
 ghost use mathlib.Core.Path.{_≡_};
 ghost use Prim.Native.Nat.{_≤_};
 ghost use lib.ListN.{length};
-ghost use Rattle.hub.specs.Replies.{refusedReply, checkedReply, writtenReply, answerReply, putWord, replied};
+ghost use Rattle.reply.specs.Replies.{refusedReply, checkedReply, writtenReply, answerReply, putWord, replied};
 ghost use Rattle.model.specs.State.{upTo};
 use model::Answer;
 use model::Checked;

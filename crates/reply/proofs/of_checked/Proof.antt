@@ -1,13 +1,13 @@
 -- The reply of a check. Assumes nothing.
 use mathlib.Core.Path.{sym, _∙_, ap}
 use borrow.Author.Needs.{needs}
-use Rattle.hub.specs.Replies.{checkedReply}
-use Rattle.hub.proofs.reply.of_checked.Statement.{statement}
-use Rattle.hub.proofs.reply.of_checked.Tie as tie
-use Rattle.hub.proofs.reply.of_checked.Reads as reads
-use Rattle.hub.proofs.reply.of_checked.Lts as lts
-use Rattle.hub.proofs.reply.of_numbers.Reads as of-numbers-reads
-use Rattle.hub.proofs.reply.of_refusal.Reads as of-refusal-reads
+use Rattle.reply.specs.Replies.{checkedReply}
+use Rattle.reply.proofs.of_checked.Statement.{statement}
+use Rattle.reply.proofs.of_checked.Tie as tie
+use Rattle.reply.proofs.of_checked.Reads as reads
+use Rattle.reply.proofs.of_checked.Lts as lts
+use Rattle.reply.proofs.of_numbers.Reads as of-numbers-reads
+use Rattle.reply.proofs.of_refusal.Reads as of-refusal-reads
 
 enum-told : tie.Need-enum-told
 enum-told c = search needs

@@ -4,13 +4,13 @@ use mathlib.Core.List.{List}
 use Prim.Native.Nat.{ℕ}
 use Rattle.model.specs.Word.{put16, put32}
 use Rattle.model.specs.State.{upTo}
-use Rattle.hub.specs.Replies.{putWord, replied}
+use Rattle.reply.specs.Replies.{putWord, replied}
 use borrow.Author.Needs.{needs}
-use Rattle.hub.proofs.reply.put.Statement.{statement}
-use Rattle.hub.proofs.reply.put.Tie as tie
-use Rattle.hub.proofs.reply.put.Reads as reads
-use Rattle.hub.proofs.reply.put.Lts as lts
-use Rattle.hub.proofs.reply.put_words.Reads as put-words-reads
+use Rattle.reply.proofs.put.Statement.{statement}
+use Rattle.reply.proofs.put.Tie as tie
+use Rattle.reply.proofs.put.Reads as reads
+use Rattle.reply.proofs.put.Lts as lts
+use Rattle.reply.proofs.put_words.Reads as put-words-reads
 use Rattle.word.proofs.put16.Reads as put16-reads
 use Rattle.word.proofs.put32.Reads as put32-reads
 

@@ -7,9 +7,9 @@ use native.Mathlib.Numerals.{add-one}
 use lib.ListN.{length}
 use Rattle.model.specs.State.{upTo}
 use Rattle.theory.specs.State.Passes.{length-put16}
-use Rattle.hub.specs.Replies.{putWord}
-use Rattle.hub.proofs.reply.put_words.Statement.{statement}
-use Rattle.hub.proofs.reply.put_words.Tie as tie
+use Rattle.reply.specs.Replies.{putWord}
+use Rattle.reply.proofs.put_words.Statement.{statement}
+use Rattle.reply.proofs.put_words.Tie as tie
 
 abbrev Inv-loop : tie.InvT-loop
 Inv-loop reply₀ words k₀ reply k = (k ≤ 16) × (length reply ≡ length reply₀) × (reply ≡ upTo (putWord words) k reply₀)

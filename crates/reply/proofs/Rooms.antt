@@ -5,8 +5,8 @@ use mathlib.Core.List.{List}
 use Prim.Native.Nat.{ℕ, _<_, _≤_}
 use lib.ListN.{length}
 use borrow.Author.Tests.{le-leb, lt-leb}
-use Rattle.hub.specs.declared.reply.Reply.{Reply}
-use Rattle.hub.specs.Replies.{replied, roomFor, ifRoom}
+use Rattle.reply.specs.declared.Reply.{Reply}
+use Rattle.reply.specs.Replies.{replied, roomFor, ifRoom}
 
 module _ (reply : List ℕ) (l : 48 ≤ length reply) where
   pub room : true ≡ roomFor reply

@@ -1,13 +1,13 @@
 -- The reply of a call that writes. Assumes nothing.
 use mathlib.Core.Path.{sym, _∙_, ap}
-use Rattle.hub.specs.Replies.{writtenReply}
+use Rattle.reply.specs.Replies.{writtenReply}
 use borrow.Author.Needs.{needs}
-use Rattle.hub.proofs.reply.of_written.Statement.{statement}
-use Rattle.hub.proofs.reply.of_written.Tie as tie
-use Rattle.hub.proofs.reply.of_written.Reads as reads
-use Rattle.hub.proofs.reply.of_written.Lts as lts
-use Rattle.hub.proofs.reply.of_numbers.Reads as of-numbers-reads
-use Rattle.hub.proofs.reply.of_refusal.Reads as of-refusal-reads
+use Rattle.reply.proofs.of_written.Statement.{statement}
+use Rattle.reply.proofs.of_written.Tie as tie
+use Rattle.reply.proofs.of_written.Reads as reads
+use Rattle.reply.proofs.of_written.Lts as lts
+use Rattle.reply.proofs.of_numbers.Reads as of-numbers-reads
+use Rattle.reply.proofs.of_refusal.Reads as of-refusal-reads
 
 enum-known-w : tie.Need-enum-known-w
 enum-known-w c = search needs

@@ -16,7 +16,7 @@ use Rattle.model.specs.declared.Outcome.the-variants.{Ended, Open}
 use Rattle.model.specs.declared.Answer.{Answer}
 use Rattle.model.specs.Word.{pick, put16, put32}
 use Rattle.model.specs.State.{upTo}
-use Rattle.hub.specs.declared.reply.Reply.{Reply}
+use Rattle.reply.specs.declared.Reply.{Reply}
 
 abbrev plain : ℕ → ℕ → ℕ → List ℕ → Reply
 plain kind first second words = record { kind = kind; number = 0; place = 0; first = first; second = second; words = words }

@@ -4,6 +4,7 @@
 //! and the best of several runs counts. Only ratios within one run of this
 //! program mean anything.
 
+mod c_engine;
 mod engine;
 mod icarus;
 mod proved_engine;
@@ -25,6 +26,7 @@ fn main() {
         let rows = [
             second_engine::row(&workload),
             proved_engine::row(&workload),
+            c_engine::row(&workload),
             verilator::row(&workload),
             icarus::row(&workload),
         ];

@@ -1,6 +1,7 @@
-//! Running the Verilog tools: whether they are there, folders for their
-//! files, and what they print.
+//! Running compilers and what they make: whether they are there, folders for
+//! their files, and what they print.
 
+use crate::engine::Measured;
 use second::word::Words;
 use std::fs;
 use std::path::{Path, PathBuf};
@@ -37,4 +38,14 @@ pub fn words_of_hex(digits: &str) -> Words {
         let at = 4 * (15 - variable);
         u16::from_str_radix(&digits[at..at + 4], 16).expect("hexadecimal digits")
     })
+}
+
+/// Runs a command that prints the nanoseconds of a run and the words.
+pub fn measured(command: &mut Command) -> Measured {
+    let printed = output(command);
+    let (nanoseconds, words) = printed.trim().split_once(' ').expect("a time and words");
+    Measured {
+        nanoseconds: nanoseconds.parse().expect("a number"),
+        words: words_of_hex(words),
+    }
 }

@@ -1,7 +1,7 @@
 //! Verilator on the rendered netlist.
 
 use crate::engine::{Engine, Measured, Row};
-use crate::tool::{folder, is_on_path, output, words_of_hex};
+use crate::tool::{folder, is_on_path, measured, output};
 use crate::verilog;
 use crate::workload::Workload;
 use std::fs;
@@ -69,10 +69,5 @@ fn build(workload: &Workload) -> PathBuf {
 }
 
 fn measure(program: &Path) -> Measured {
-    let printed = output(Command::new(program).arg(INSTANTS.to_string()));
-    let (nanoseconds, words) = printed.trim().split_once(' ').expect("a time and words");
-    Measured {
-        nanoseconds: nanoseconds.parse().expect("a number"),
-        words: words_of_hex(words),
-    }
+    measured(Command::new(program).arg(INSTANTS.to_string()))
 }

@@ -1,0 +1,118 @@
+/* The plain engine in C: the published bytes of a state, three passes over the cells for each instant.
+   published NETLIST INSTANTS STATE: runs a good netlist from zero start words until the finish is high or the instants are done,
+   writes the state's bytes into STATE, and prints the nanoseconds of the instants and the memories, the last one first. */
+#include <stdint.h>
+#include <stdio.h>
+#include <stdlib.h>
+#include <string.h>
+#include <time.h>
+
+static uint8_t file[6656], cells[6 * 1024], state[8 + 40 * 1024];
+static int count, finish;
+
+static unsigned get16(const uint8_t *p) { return p[0] | p[1] << 8; }
+static void put16(uint8_t *p, unsigned v) { p[0] = (uint8_t)v; p[1] = (uint8_t)(v >> 8); }
+static uint8_t *record(unsigned k) { return state + 8 + 40 * k; }
+static unsigned now(unsigned k) { return get16(record(k)); }
+static unsigned before(unsigned k) { return get16(record(k) + 2); }
+
+static void read_netlist(const char *name) {
+    FILE *in = fopen(name, "rb");
+    if (!in || fread(file, 1, sizeof file, in) < 512) exit(1);
+    fclose(in);
+    count = get16(file + 2);
+    finish = get16(file + 4);
+    for (int k = 0; k < count; k++) memcpy(cells + 6 * k, file + 512 * (k / 84) + 8 + 6 * (k % 84), 6);
+}
+
+/* What cell k shows, from the cells below it and what the state keeps. */
+static unsigned shown(unsigned k, const uint8_t *c) {
+    unsigned kind = c[0], a = get16(c + 2), b = get16(c + 4), d = c[1];
+    const uint8_t *r = record(k);
+    switch (kind) {
+    case 1: return a;
+    case 34: return r[8 + (d - 1) / 8] >> (d - 1) % 8 & 1;
+    case 40: return before(a) == 1 && now(a) != 1 ? before(b) : before(k);
+    case 32: case 33: return 0;
+    }
+    unsigned x = now(a), y = now(b);
+    switch (kind) {
+    case 3: return 65535 - x;
+    case 4: return (x + y) & 65535;
+    case 5: return (x - y) & 65535;
+    case 6: return x & y;
+    case 7: return x | y;
+    case 8: return x == y;
+    case 9: return (int16_t)x < (int16_t)y;
+    case 35: return x == 1 || y == 1;
+    case 36: return x == 1 && y != 0;
+    case 37: return x == 1 && y == 0;
+    case 38: return (x == 1 || r[4]) && (y == 1 || r[5]);
+    default: return x == 1 ? y : 0;
+    }
+}
+
+/* The newest input stands in the lowest bit; four words of 64 bits are shifted by one. */
+static void shift(uint8_t *line, uint64_t bit) {
+    uint64_t w[4];
+    memcpy(w, line, 32);
+    w[3] = w[3] << 1 | w[2] >> 63;
+    w[2] = w[2] << 1 | w[1] >> 63;
+    w[1] = w[1] << 1 | w[0] >> 63;
+    w[0] = w[0] << 1 | bit;
+    memcpy(line, w, 32);
+}
+
+static void settle_all(void) {
+    for (int k = 0; k < count; k++) {
+        const uint8_t *c = cells + 6 * k;
+        uint8_t *r = record(k);
+        if (c[0] == 34) {
+            shift(r + 8, now(get16(c + 2)) == 1);
+        } else if (c[0] == 38) {
+            int a = r[4] || now(get16(c + 2)) == 1, b = r[5] || now(get16(c + 4)) == 1;
+            r[4] = a && !b;
+            r[5] = b && !a;
+        }
+    }
+}
+
+static void begin(void) {
+    for (int k = 0; k < count; k++) {
+        const uint8_t *c = cells + 6 * k;
+        put16(record(k), c[0] == 32 ? 1 : c[0] == 40 ? 0 : shown(k, c));
+    }
+    settle_all();
+}
+
+static void instant(void) {
+    uint32_t t;
+    memcpy(&t, state, 4);
+    t++;
+    memcpy(state, &t, 4);
+    for (int k = 0; k < count; k++) memcpy(record(k) + 2, record(k), 2);
+    for (int k = 0; k < count; k++) put16(record(k), shown(k, cells + 6 * k));
+    settle_all();
+}
+
+static void write_state(const char *name) {
+    FILE *out = fopen(name, "wb");
+    if (!out || fwrite(state, 1, 8 + 40 * count, out) != (size_t)(8 + 40 * count)) exit(1);
+    fclose(out);
+}
+
+int main(int argc, char **argv) {
+    if (argc != 4) return 1;
+    read_netlist(argv[1]);
+    long instants = atol(argv[2]);
+    struct timespec from, to;
+    clock_gettime(CLOCK_MONOTONIC, &from);
+    begin();
+    for (long i = 0; i < instants && now(finish) != 1; i++) instant();
+    clock_gettime(CLOCK_MONOTONIC, &to);
+    write_state(argv[3]);
+    printf("%lld ", (to.tv_sec - from.tv_sec) * 1000000000LL + (to.tv_nsec - from.tv_nsec));
+    for (int k = count - 1; k >= 0; k--)
+        if (cells[6 * k] == 40) printf("%04x", now(k));
+    return 0;
+}

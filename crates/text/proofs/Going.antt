@@ -11,14 +11,14 @@ use Rattle.model.specs.Reader.{step, isBroken, complete, bad, readerAtFirst, re
 use Rattle.model.specs.TextCalls.{readingOf}
 use Rattle.theory.specs.Refusals.Laws.{by-bool}
 use Rattle.theory.specs.Text.Runs.{reads-end, reads-short, reads-broken, reads-on}
-use Rattle.text.specs.declared.words.Scanned.{Scanned}
+use Rattle.scanner.specs.declared.Scanned.{Scanned}
 use Rattle.text.specs.declared.machine.Machine.{Machine}
 use Rattle.text.specs.declared.parsing.Parsed.the-variants.{Nodes, Broken}
-use Rattle.text.specs.Scanning.{nextWord, Next}
-use Rattle.text.specs.ScanningLaws.{next}
+use Rattle.scanner.specs.Scanning.{nextWord, Next}
+use Rattle.scanner.specs.ScanningLaws.{next}
 use Rattle.text.specs.Shown.{Lists, Shows, Grows, FollowsWithin, limitOf, framesIn}
 use Rattle.text.specs.Parsing.{Parses, wordsAhead, Room, Going}
-use Rattle.text.proofs.ScanWords.{value-limited}
+use Rattle.scanner.proofs.Words.{value-limited}
 use Rattle.text.proofs.Bounds.{within-first, within-step, within-up}
 use Rattle.text.proofs.Limits.{admits-step}
 

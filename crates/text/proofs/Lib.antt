@@ -1,7 +1,4 @@
 -- The laws behind the proofs of the functions.
-pub mod ScanNumbers
-pub mod ScanRuns
-pub mod ScanWords
 pub mod Stack
 pub mod Bytes
 pub mod Bounds

@@ -17,7 +17,7 @@ use Rattle.model.specs.Text.{Word, wordAt, wordsFrom}
 use Rattle.model.specs.Reader.{Reader, good, bad, readFrom}
 use Rattle.model.specs.Calls.{Told, short, checkCall, writing}
 use Rattle.model.specs.TextCalls.{readingOf, textProgram, textChecks}
-use Rattle.text.specs.declared.words.Scanned.{Scanned}
+use Rattle.scanner.specs.declared.Scanned.{Scanned}
 use Rattle.text.specs.declared.machine.Machine.{Machine}
 use Rattle.text.specs.declared.parsing.Parsed.{Parsed}
 use Rattle.text.specs.declared.parsing.Parsed.the-variants.{Nodes, Broken}

@@ -14,7 +14,6 @@ ghost use Rattle.model.specs.Calls.{writing};
 ghost use Rattle.model.specs.TextCalls.{readTextCall};
 ghost use Rattle.text.specs.Parsing.{programTold, Given, giveCall};
 
-mod words; // words of a text, and refusal 17
 mod frames; // the stack of what is still open
 mod nodes; // the nodes, four bytes each
 mod machine; // what the reader keeps, and its moves
@@ -55,7 +54,7 @@ pub fn program_of(text: &[u8], program: &mut [u8]) -> Written
     if 4096 < text.len() {
         return refused(17, 4096);
     }
-    let checked = words::check_words(text);
+    let checked = scanner::check_words(text);
     if let Checked::Refused(r) = checked {
         return Written::Refused(r);
     }

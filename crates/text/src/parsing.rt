@@ -19,13 +19,13 @@ pub fn parse(text: &[u8], nodes: &mut [u8]) -> Parsed
     let mut codes = [0u8; 4096];
     let mut starts = [0u16; 4096];
     let mut m = crate::machine::at_first();
-    let mut w = crate::words::next_word(text, 0, 0);
+    let mut w = scanner::next_word(text, 0, 0);
     while w.found {
         m = crate::reader::step(&mut codes, &mut starts, nodes, m, w.token);
         if crate::reader::is_broken(m) {
             return Parsed::Broken(w.place);
         }
-        w = crate::words::next_word(text, w.end, w.token.code);
+        w = scanner::next_word(text, w.end, w.token.code);
     }
     if crate::reader::is_complete(&codes, &starts, m) {
         return Parsed::Nodes(m.count as usize);

@@ -7,7 +7,7 @@ use lib.ListN.{length}
 use borrow.Author.Needs.{needs}
 use Rattle.text.specs.Shown.{lists}
 use Rattle.text.specs.Parsing.{Parses, Going}
-use Rattle.text.specs.ScanningLaws.{next}
+use Rattle.scanner.specs.ScanningLaws.{next}
 use Rattle.text.proofs.Going.{going-first, going-breaks, going-next, going-ends, going-open}
 use Rattle.text.proofs.parsing.parse.Statement.{statement}
 use Rattle.text.proofs.parsing.parse.Tie as tie

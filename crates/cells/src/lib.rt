@@ -4,7 +4,7 @@ ghost use mathlib.Core.Path.{_≡_};
 ghost use Prim.Native.Nat.{_-_, _≤_};
 ghost use lib.ListN.{length};
 ghost use lib.Seq.{sets};
-ghost use Rattle.model.specs.CellSlices.{checkCellsCall, writeCellsCall, readCellsCall};
+ghost use Rattle.model.specs.CellSlices.{behind, checkCellsCall, writeCellsCall, readCellsCall};
 ghost use Rattle.model.specs.NetlistFile.{cellsAt, inFile};
 ghost use Rattle.netlist.specs.declared.cells.Layout.the-variants.{InFile};
 ghost use Rattle.netlist.specs.Offsets.{Room};
@@ -61,16 +61,17 @@ pub fn renumber(cells: &mut [Cell], from: usize, end: usize, k: u16)
     }
 }
 
-// Puts the file's cells in, from number `from` up to `end`.
-pub fn place_cells(cells: &mut [Cell], from: usize, end: usize, file: &[u8])
+// Puts the file's cells in from number `from` up to `end`, and moves their inputs k places on.
+pub fn place_cells(cells: &mut [Cell], from: usize, end: usize, k: u16, file: &[u8])
     requires { ⌜ (from ≤ end) × (end ≤ length (now cells)) × Room InFile (now file) (end - from) ⌝ }
-    ensures { λ _. ⌜ now (cells .exit) ≡ sets (now (cells .entry)) from (cellsAt inFile (now (file .entry)) 0 (end - from)) ⌝ }
+    ensures { λ _. ⌜ now (cells .exit) ≡ sets (now (cells .entry)) from (behind k (cellsAt inFile (now (file .entry)) 0 (end - from))) ⌝ }
 {
     let mut i = from;
     while i < end {
         cells[i] = reading::file_cell(file, from, i);
         i += 1;
     }
+    renumber(cells, from, end, k)
 }
 
 // Reads a netlist file behind the first `at` cells, as joining netlists does: refusals 9 to 12, 14.
@@ -78,7 +79,6 @@ pub fn read_cells(file: &[u8], at: usize, cells: &mut [Cell]) -> Written
     ensures { λ r. ⌜ (r ≡ readCellsCall (now (file .entry)) at (now (cells .entry)) .answer) × (now (cells .exit) ≡ readCellsCall (now (file .entry)) at (now (cells .entry)) .lent) ⌝ }
 {
     let p = reading::planned(file, at, cells.len());
-    place_cells(cells, p.from, p.end, file);
-    renumber(cells, p.from, p.end, p.k);
+    place_cells(cells, p.from, p.end, p.k, file);
     reading::answer(p)
 }

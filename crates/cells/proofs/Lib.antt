@@ -1,5 +1,6 @@
 -- The laws behind the proofs of the functions.
 pub mod Turns
+pub mod Saying
 pub mod Moving
 pub mod Planning
 pub mod ByBytes

@@ -1,7 +1,7 @@
 -- The laws behind the proofs of the functions.
 pub mod Turns
+pub mod Saying
 pub mod Moving
-pub mod Reborrow
 pub mod Planning
 pub mod ByBytes
 pub mod ByKind

@@ -4,6 +4,7 @@ ghost use mathlib.Core.Path.{_≡_};
 ghost use mathlib.Core.List.{List, [], _∷_, _++_};
 ghost use Rattle.model.specs.declared.Cell.{Cell};
 ghost use Rattle.model.specs.CellSlices.{checkCellsCall, writeCellsCall};
+ghost use Rattle.reply.specs.Replies.{checkedReply, writtenReply, replied, roomFor, ifRoom};
 ghost use Rattle.cells.specs.Lists.{Fits, Lists};
 use model::Cell;
 use model::Checked;
@@ -40,7 +41,7 @@ pub fn with(p: Listed, c: Cell) -> Listed
 }
 
 // Refusals 11 and 12.
-pub fn check(p: Listed, finish: u16) -> Checked
+fn check_list(p: Listed, finish: u16) -> Checked
     requires { ⌜ Fits p ⌝ }
     ensures { λ r. ⌜ ((cs : List Cell) → Lists p cs → r ≡ checkCellsCall cs finish) ⌝ }
 {
@@ -57,8 +58,22 @@ pub fn check(p: Listed, finish: u16) -> Checked
     netlist::rules::check_cells(&bytes[0..end], Layout::InList, n, f)
 }
 
+// The reply of the check, where there is room for one.
+pub fn check(p: Listed, finish: u16, reply: &mut [u8]) -> bool
+    requires { ⌜ Fits p ⌝ }
+    ensures { λ r. ⌜ ((cs : List Cell) → Lists p cs → (r ≡ roomFor (now (reply .entry))) × (now (reply .exit) ≡ ifRoom (now (reply .entry)) (replied (checkedReply (checkCellsCall cs finish)) (now (reply .entry))) (now (reply .entry)))) ⌝ }
+{
+    if reply.len() < 48 {
+        return false;
+    }
+    let answer = check_list(p, finish);
+    let answered = reply::of_checked(answer);
+    reply::put(reply, answered);
+    true
+}
+
 // Refusals 11, 12, 14; the file of the cells.
-pub fn write(p: Listed, finish: u16, file: &mut [u8]) -> Written
+fn write_list(p: Listed, finish: u16, file: &mut [u8]) -> Written
     requires { ⌜ Fits p ⌝ }
     ensures { λ r. ⌜ ((cs : List Cell) → Lists p cs → (r ≡ writeCellsCall cs finish (now (file .entry)) .answer) × (now (file .exit) ≡ writeCellsCall cs finish (now (file .entry)) .lent)) ⌝ }
 {
@@ -72,4 +87,18 @@ pub fn write(p: Listed, finish: u16, file: &mut [u8]) -> Written
     }
     let end = 6 * n;
     netlist::write_netlist(&bytes[0..end], finish, file)
+}
+
+// The file, and the reply, where there is room for one.
+pub fn write(p: Listed, finish: u16, file: &mut [u8], reply: &mut [u8]) -> bool
+    requires { ⌜ Fits p ⌝ }
+    ensures { λ r. ⌜ ((cs : List Cell) → Lists p cs → (r ≡ roomFor (now (reply .entry))) × ((now (file .exit) ≡ ifRoom (now (reply .entry)) (writeCellsCall cs finish (now (file .entry)) .lent) (now (file .entry))) × (now (reply .exit) ≡ ifRoom (now (reply .entry)) (replied (writtenReply (writeCellsCall cs finish (now (file .entry)) .answer)) (now (reply .entry))) (now (reply .entry))))) ⌝ }
+{
+    if reply.len() < 48 {
+        return false;
+    }
+    let answer = write_list(p, finish, file);
+    let answered = reply::of_written(answer);
+    reply::put(reply, answered);
+    true
 }

@@ -1,10 +1,13 @@
 // Reading a netlist behind cells that stand already: what is to be put in, and each cell of the file.
 // Each contract speaks of model/CellSlices (specs/Plans).
 ghost use mathlib.Core.Path.{_≡_};
+ghost use mathlib.Core.Bool.{true};
 ghost use Prim.Native.Nat.{_+_, _-_, _<_, _≤_};
 ghost use lib.Dec.{ltb};
+ghost use lib.ListN.{length};
 ghost use Rattle.model.specs.declared.Written.{Written};
 ghost use Rattle.model.specs.NetlistFile.{cellFrom, inFile};
+ghost use Rattle.reply.specs.Replies.{writtenReply, replied};
 ghost use Rattle.netlist.specs.declared.cells.Layout.the-variants.{InFile};
 ghost use Rattle.netlist.specs.Offsets.{Room};
 ghost use Rattle.cells.specs.Plans.{Plans};
@@ -14,20 +17,24 @@ use model::Refusal;
 use model::Written;
 use netlist::cells::Layout;
 
-// What a call answers, and the cells that it puts in: those from number `from` up to `end`, none where it is refused.
+// Whether the answer is told, and the cells that the call puts in: those from number `from` up to `end`, none where it is refused.
 pub struct Plan {
-    pub answer: Written,
+    pub told: bool,
     pub from: usize,
     pub end: usize,
     pub k: u16,
 }
 
-// Nothing to put in.
-fn refused(r: Refusal) -> Plan
-    ensures { λ p. ⌜ p ≡ record { answer = Written.Refused r; from = 0; end = 0; k = 0 } ⌝ }
+// Tells a refusal, and puts nothing in.
+fn refused(r: Refusal, reply: &mut [u8]) -> Plan
+    requires { ⌜ 48 ≤ length (now reply) ⌝ }
+    ensures plan { λ p. ⌜ p ≡ record { told = true; from = 0; end = 0; k = 0 } ⌝ }
+    ensures reply { λ _. ⌜ now (reply .exit) ≡ replied (writtenReply (Written.Refused r)) (now (reply .entry)) ⌝ }
 {
+    let answered = reply::of_written(Written::Refused(r));
+    reply::put(reply, answered);
     Plan {
-        answer: Written::Refused(r),
+        told: true,
         from: 0,
         end: 0,
         k: 0,
@@ -44,34 +51,39 @@ fn lacks(room: usize, at: usize, count: usize) -> bool
     room - at < count
 }
 
-// Refusals 9 to 12, 14, for a list with so much room.
-pub fn planned(file: &[u8], at: usize, room: usize) -> Plan
-    ensures { λ p. ⌜ Plans (now (file .entry)) at room p ⌝ }
+// Refusals 9 to 12, 14, for a list with so much room; without room for a reply there is nothing to do.
+pub fn planned(file: &[u8], at: usize, room: usize, reply: &mut [u8]) -> Plan
+    ensures { λ p. ⌜ Plans (now (file .entry)) at room (now (reply .entry)) p (now (reply .exit)) ⌝ }
 {
+    if reply.len() < 48 {
+        return Plan {
+            told: false,
+            from: 0,
+            end: 0,
+            k: 0,
+        };
+    }
     let checked = netlist::check_file(file);
     if let Checked::Refused(r) = checked {
-        return refused(r);
+        return refused(r, reply);
     }
     let count = word::get16(file, 2) as usize;
     let finish = word::get16(file, 4);
     if lacks(room, at, count) {
-        return refused(Refusal {
+        let r = Refusal {
             number: 14,
             place: 0,
-        });
+        };
+        return refused(r, reply);
     }
+    let answered = reply::of_written(Written::Done { count, finish });
+    reply::put(reply, answered);
     Plan {
-        answer: Written::Done { count, finish },
+        told: true,
         from: at,
         end: at + count,
         k: (at % 65536) as u16,
     }
-}
-
-pub fn answer(p: Plan) -> Written
-    ensures { λ r. ⌜ r ≡ p .answer ⌝ }
-{
-    p.answer
 }
 
 // The cell of the file that is to have number i, where its first has number `from`.

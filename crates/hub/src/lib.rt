@@ -9,10 +9,6 @@ pub mod exports; // the calls for other languages
 mod full; // the full run of a program
 mod texts; // compiling and running a text
 
-// The calls on a slice of cell structs; their contracts stand with them.
-pub use cells::check_cells;
-pub use cells::read_cells;
-pub use cells::write_cells;
 use model::Answer;
 use model::Checked;
 use model::Written;

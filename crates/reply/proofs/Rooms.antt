@@ -12,7 +12,7 @@ module _ (reply : List ℕ) (l : 48 ≤ length reply) where
   pub room : true ≡ roomFor reply
   room = sym (le-leb 48 (length reply) l)
 
-  pub left : (out after before : List ℕ) → out ≡ after → out ≡ ifRoom reply after before
+  pub left : {A : Type 0} (out after before : List A) → out ≡ after → out ≡ ifRoom reply after before
   left out after before e = rw (← room) e
 
   pub put-in : (out : List ℕ) (r q : Reply) → out ≡ replied r reply → r ≡ q → out ≡ ifRoom reply (replied q reply) reply
@@ -26,7 +26,7 @@ module _ (reply : List ℕ) (l : length reply < 48) where
   pub no-room : false ≡ roomFor reply
   no-room = sym (lt-leb 48 (length reply) l)
 
-  pub untouched : (after before : List ℕ) → before ≡ ifRoom reply after before
+  pub untouched : {A : Type 0} (after before : List A) → before ≡ ifRoom reply after before
   untouched after before = rw (← no-room) refl
 
   pub nothing : (after before replied : List ℕ) → (false ≡ roomFor reply) × ((before ≡ ifRoom reply after before) × (reply ≡ ifRoom reply replied reply))

@@ -54,5 +54,5 @@ abbrev pub roomFor : List ℕ → Bool
 roomFor reply = leb 48 (length reply)
 
 -- what becomes of a lent list
-abbrev pub ifRoom : List ℕ → List ℕ → List ℕ → List ℕ
+abbrev pub ifRoom : {A : Type 0} → List ℕ → List A → List A → List A
 ifRoom reply after before = pick (roomFor reply) after before

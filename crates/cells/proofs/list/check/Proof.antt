@@ -1,60 +1,38 @@
--- `list::check` meets its contract: the count, and then the rules of crate netlist on the list's bytes. Assumes nothing.
-use native.Mathlib.Omega.{arith}
-use Rattle.netlist.proofs.FileChecks.{counted}
-use Rattle.cells.proofs.Listing.{part-is, part-room, check-miscounted, check-decides}
+-- `list::check` meets its contract: the reply of `check_list`, or nothing. Assumes nothing.
+use mathlib.Core.Path.{_∙_, ap}
+use denote.Ref.{now}
+use Rattle.reply.specs.Replies.{checkedReply}
+use Rattle.reply.proofs.Rooms.{room, put-in, no-room, untouched}
 use borrow.Author.Needs.{needs}
 use Rattle.cells.proofs.list.check.Statement.{statement}
 use Rattle.cells.proofs.list.check.Tie as tie
 
-add-count-wrong : tie.Need-add-count-wrong
-add-count-wrong c = search needs
-
-count-wrong-requires : tie.Need-count-wrong-requires
-count-wrong-requires c κs = search needs
-
 returns : tie.Need-returns
 returns c =
-    let args = c .before .before .before .args in
-    λ cs l. check-miscounted (args .p) cs l (args .finish) (rw (c .before .count-wrong .ensures) at (c .if1 .taken))
+    let reply = now (c .before .before .args .reply) in
+    λ cs l. (no-room reply (c .if1 .taken), untouched reply (c .if1 .taken) _ reply)
 
-mul-end : tie.Need-mul-end
-mul-end c = search needs
+check-list-requires : tie.Need-check-list-requires
+check-list-requires c κs = search needs
 
-sub-check-cells : tie.Need-sub-check-cells
-sub-check-cells c = search needs
+of-checked-requires : tie.Need-of-checked-requires
+of-checked-requires c κs = search needs
 
-part-check-cells-start : tie.Need-part-check-cells-start
-part-check-cells-start c = search needs
+put-requires : tie.Need-put-requires
+put-requires c κs = search needs
 
-part-check-cells-end : tie.Need-part-check-cells-end
-part-check-cells-end c =
-    let args = c .before .before .before .before .args in
-    let few = counted _ (args .p .n) (args .finish) (rw (c .before .before .count-wrong .ensures) at (c .before .if1 .left)) .high in
-    omega (arith, few, c .before .before .before .before .pre .size)
-
-check-cells-requires : tie.Need-check-cells-requires
-check-cells-requires c κs =
-    let args = c .before .before .before .before .before .args in
-    let pre = c .before .before .before .before .before .pre in
-    let few = counted _ (args .p .n) (args .finish) (rw (c .before .before .before .count-wrong .ensures) at (c .before .before .if1 .left)) .high in
-    part-room (args .p) pre few
+same-length : tie.Need-same-length
+same-length c = search needs
 
 returns-2 : tie.Need-returns-2
 returns-2 c =
-    let args = c .before .before .before .before .before .before .args in
-    let wrong = rw (c .before .before .before .before .count-wrong .ensures) at (c .before .before .before .if1 .left) in
-    λ cs l. check-decides (args .p) cs l (args .finish) wrong (part-is (args .p)) (c .check-cells .ensures)
+    let fits = c .before .before .before .before .before .before in
+    let reply = now (fits .before .before .args .reply) in
+    let answered = c .before .before .before .before .of-checked .ensures in
+    let checked = c .before .before .before .before .before .check-list .ensures in
+    λ cs l. (room reply (fits .if1 .left), put-in reply (fits .if1 .left) _ _ _ (c .before .before .put .ensures) (answered ∙ ap checkedReply (checked cs l)))
 
 pub check-spec : {M : Type 1} → statement M
 check-spec =
     tie.close
-    (tie.spec
-    add-count-wrong
-    count-wrong-requires
-    returns
-    mul-end
-    sub-check-cells
-    part-check-cells-start
-    part-check-cells-end
-    check-cells-requires
-    returns-2)
+    (tie.spec returns check-list-requires of-checked-requires put-requires same-length returns-2)

@@ -1,5 +1,8 @@
--- `list::write` meets its contract: what crate netlist writes of the list's bytes. Assumes nothing.
-use Rattle.cells.proofs.Listing.{part-is, write-too-many, write-listed}
+-- `list::write` meets its contract: the file and the reply of `write_list`, or nothing. Assumes nothing.
+use mathlib.Core.Path.{_∙_, ap}
+use denote.Ref.{now}
+use Rattle.reply.specs.Replies.{writtenReply}
+use Rattle.reply.proofs.Rooms.{answered, nothing}
 use borrow.Author.Needs.{needs}
 use Rattle.cells.proofs.list.write.Statement.{statement}
 use Rattle.cells.proofs.list.write.Tie as tie
@@ -7,42 +10,41 @@ use Rattle.cells.proofs.list.write.Tie as tie
 returns : tie.Need-returns
 returns c =
     let args = c .before .before .before .args in
-    λ cs l. write-too-many (args .p) cs l (args .finish) (args .file .now) (c .if1 .taken)
+    λ cs l. nothing (now (args .reply)) (c .if1 .taken) _ (now (args .file)) _
 
-mul-end : tie.Need-mul-end
-mul-end c = search needs
+write-list-requires : tie.Need-write-list-requires
+write-list-requires c κs = search needs
 
-sub-write-netlist : tie.Need-sub-write-netlist
-sub-write-netlist c = search needs
+of-written-requires : tie.Need-of-written-requires
+of-written-requires c κs = search needs
 
-part-write-netlist-start : tie.Need-part-write-netlist-start
-part-write-netlist-start c = search needs
-
-part-write-netlist-end : tie.Need-part-write-netlist-end
-part-write-netlist-end c = search needs
-
-write-netlist-requires : tie.Need-write-netlist-requires
-write-netlist-requires c κs = search needs
+put-requires : tie.Need-put-requires
+put-requires c κs = search needs
 
 same-length : tie.Need-same-length
 same-length c = search needs
 
+same-length-2 : tie.Need-same-length-2
+same-length-2 c = search needs
+
 returns-2 : tie.Need-returns-2
 returns-2 c =
-    let args = c .before .before .before .before .before .before .before .before .before .args in
-    let few = c .before .before .before .before .before .before .if1 .left in
-    let told = c .before .before .write-netlist .ensures in
-    λ cs l. write-listed (args .p) cs l (args .finish) (args .file .now) few (part-is (args .p)) told
+    let call = c .before .before .before .before .before .before .before in
+    let fits = call .before .before in
+    let reply = now (fits .before .before .before .args .reply) in
+    let told = c .before .before .before .before .of-written .ensures in
+    λ cs l.
+    let written = call .write-list .ensures cs l in
+    answered reply (fits .if1 .left) _ _ _ _ _ _ (written .1) (c .before .before .put .ensures) (told ∙ ap writtenReply (written .0))
 
 pub write-spec : {M : Type 1} → statement M
 write-spec =
     tie.close
     (tie.spec
     returns
-    mul-end
-    sub-write-netlist
-    part-write-netlist-start
-    part-write-netlist-end
-    write-netlist-requires
+    write-list-requires
+    of-written-requires
+    put-requires
     same-length
+    same-length-2
     returns-2)

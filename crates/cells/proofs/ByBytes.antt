@@ -8,12 +8,12 @@ use lib.Seq.{sets, sets-eq, getD-drop, drop-append-seam}
 use Rattle.model.specs.declared.Cell.{Cell}
 use Rattle.model.specs.Word.{bytes16}
 use Rattle.model.specs.NetlistFile.{cellBytes, cellFrom, cellsAt, inList, netCheck}
-use Rattle.model.specs.CellSlices.{moved}
+use Rattle.model.specs.CellSlices.{moved, movedBytes}
 use Rattle.theory.specs.NetlistFile.CellBytes.{bytes-length, same-cell}
 use Rattle.theory.specs.NetlistFile.ByCells.{cells-of-bytes}
 use Rattle.netlist.proofs.Writes.{sets-append}
 use Rattle.netlist.proofs.Bytes.{cells-more, cells-none, drop-cells, take-cells, cell-bytes-append}
-use Rattle.cells.specs.Moves.{movedFrom, movedBytes}
+use Rattle.cells.specs.Moves.{movedFrom}
 use Rattle.cells.proofs.Listing.{bytes-append}
 
 -- Cell after cell ----------------------------------------------------------------------------------------------------------------------

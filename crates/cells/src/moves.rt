@@ -1,12 +1,11 @@
 // Renumbering: one cell as it stands behind others, and cells of six bytes each.
-// Each contract is an equation with model/CellSlices or specs/Moves.
+// Each contract is an equation with model/CellSlices.
 ghost use mathlib.Core.Path.{_≡_};
 ghost use Prim.Native.Nat.{_*_, _≤_};
 ghost use lib.ListN.{length};
 ghost use Rattle.model.specs.Word.{pick};
 ghost use Rattle.model.specs.Circuit.{shape};
-ghost use Rattle.model.specs.CellSlices.{namesA, namesB, later, moved};
-ghost use Rattle.cells.specs.Moves.{movedBytes};
+ghost use Rattle.model.specs.CellSlices.{namesA, namesB, later, moved, movedBytes, hasCells, renumberCall};
 use model::Cell;
 use netlist::cells::Layout;
 
@@ -52,8 +51,8 @@ pub fn moved(c: Cell, k: u16) -> Cell
     }
 }
 
-// Renumbering over six bytes for each cell, for callers that hold no structs: the cells from number `from` up to `end` moved k places on.
-pub fn renumber_bytes(cells: &mut [u8], from: usize, end: usize, k: u16)
+// The cells from number `from` up to `end` moved k places on.
+fn renumber_bytes(cells: &mut [u8], from: usize, end: usize, k: u16)
     requires { ⌜ (end ≤ 1024) × (6 * end ≤ length (now cells)) ⌝ }
     ensures { λ _. ⌜ now (cells .exit) ≡ movedBytes k end (now (cells .entry)) from ⌝ }
 {
@@ -64,4 +63,21 @@ pub fn renumber_bytes(cells: &mut [u8], from: usize, end: usize, k: u16)
         netlist::cells::put_cell(cells, 6 * i, next, 0);
         i += 1;
     }
+}
+
+// Renumbering over six bytes for each cell, for callers that hold no structs. It answers whether there are cells up to `end`; where
+// there are not, it does nothing.
+#[no_mangle]
+pub extern "C" fn hub_renumber(cells: &mut [u8], from: usize, end: usize, k: u16) -> bool
+    ensures done { λ r. ⌜ r ≡ hasCells end (now (cells .entry)) ⌝ }
+    ensures cells { λ _. ⌜ now (cells .exit) ≡ renumberCall k from end (now (cells .entry)) ⌝ }
+{
+    if 1024 < end {
+        return false;
+    }
+    if cells.len() < 6 * end {
+        return false;
+    }
+    renumber_bytes(cells, from, end, k);
+    true
 }

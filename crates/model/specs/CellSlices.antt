@@ -1,10 +1,12 @@
 -- Netlists that a caller holds as cells, and not as bytes: renumbering, the check, and the calls that write and read them.
 -- "First cells as six bytes each; then a thin lent-slice-of-cell-structs form for renumbering and the cell check."
 -- Assumes nothing: definitions.
-use mathlib.Core.Bool.{Bool, true, false}
+use mathlib.Core.Bool.{Bool, true, false, _&&_}
 use mathlib.Core.List.{List, [], _∷_, _++_, map}
-use Prim.Native.Nat.{ℕ, _+_, _%_}
+use Prim.Native.Nat.{ℕ, _+_, _*_, _-_, _%_}
+use lib.Dec.{leb}
 use lib.ListN.{length, take, drop}
+use lib.Seq.{sets}
 use Rattle.model.specs.declared.Cell.{Cell}
 use Rattle.model.specs.declared.Checked.{Checked}
 use Rattle.model.specs.declared.Checked.the-variants.{Accepted}
@@ -13,7 +15,7 @@ use Rattle.model.specs.declared.Written.the-variants.{Done}
 use Rattle.model.specs.Word.{pick}
 use Rattle.model.specs.Refusals.{refuseIf, first}
 use Rattle.model.specs.Circuit.{cell, Shape, shape, kConstant, kComplement, kOperator, kStart, kGround, kDelay, kOr, kWhenTrue, kWhenFalse, kMerge, kMemory, kGated, kUnknown}
-use Rattle.model.specs.NetlistFile.{fileOf, fileCheck, cellsOf, countOf, finishOf, netCheck, countWrong, blocksFor}
+use Rattle.model.specs.NetlistFile.{cellBytes, cellsAt, inList, fileOf, fileCheck, cellsOf, countOf, finishOf, netCheck, countWrong, blocksFor}
 use Rattle.model.specs.Calls.{Told, short, writing}
 
 -- Renumbering --------------------------------------------------------------------------------------------------------------------------
@@ -61,6 +63,17 @@ moved k c =
 -- the cells of a netlist as they stand behind k others
 abbrev pub behind : ℕ → List Cell → List Cell
 behind k cs = map (moved k) cs
+
+-- of cells of six bytes each, those from number i up to end moved k places on
+abbrev pub movedBytes : ℕ → ℕ → List ℕ → ℕ → List ℕ
+movedBytes k end s i = sets s (6 * i) (cellBytes (behind k (cellsAt inList s i (end - i))))
+
+-- renumbering such a list, where it has that many cells; else it stays
+abbrev pub hasCells : ℕ → List ℕ → Bool
+hasCells n s = leb n 1024 && leb (6 * n) (length s)
+
+abbrev pub renumberCall : ℕ → ℕ → ℕ → List ℕ → List ℕ
+renumberCall k i end s = pick (hasCells end s) (movedBytes k end s i) s
 
 -- Calls --------------------------------------------------------------------------------------------------------------------------------
 

@@ -4,7 +4,7 @@ use Prim.Native.Nat.{_-_}
 use native.Mathlib.Omega.{arith}
 use borrow.Author.Needs.{needs}
 use lib.ListN.{length}
-use Rattle.cells.specs.Moves.{movedBytes}
+use Rattle.model.specs.CellSlices.{movedBytes}
 use Rattle.cells.proofs.ByBytes.{bytes-more, bytes-done}
 use Rattle.cells.proofs.moves.renumber_bytes.Statement.{statement}
 use Rattle.cells.proofs.moves.renumber_bytes.Tie as tie

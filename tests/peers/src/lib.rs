@@ -5,6 +5,6 @@ mod peer;
 mod proved;
 mod second;
 
-pub use peer::{Answer, Bytes, End, Peer, Refused, Reply, Shape, Table};
+pub use peer::{Answer, Bytes, Cell, End, Peer, Refused, Reply, Shape, Table};
 pub use proved::PROVED;
 pub use second::SECOND;

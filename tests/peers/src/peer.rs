@@ -1,8 +1,9 @@
 //! The boundary behind which an implementation stands.
 //!
-//! A peer is thirteen plain functions on byte slices and numbers. Nothing is lent
-//! to them: each is given what a lent buffer holds at entry and gives back
-//! what it holds afterwards, so two peers are compared by comparing replies.
+//! A peer is sixteen plain functions on numbers and slices of bytes or cells.
+//! Nothing is lent to them: each is given what a lent buffer holds at entry and
+//! gives back what it holds afterwards, so two peers are compared by comparing
+//! replies.
 
 /// A refusal: its number and its place.
 #[derive(Clone, Copy, Debug, PartialEq, Eq)]
@@ -13,9 +14,35 @@ pub struct Refused {
 
 /// What a call answered, and its lent buffers afterwards, in argument order.
 #[derive(Clone, Debug, PartialEq, Eq)]
-pub struct Reply<T> {
+pub struct Reply<T, Element = u8> {
     pub result: Result<T, Refused>,
-    pub lent: Vec<Vec<u8>>,
+    pub lent: Vec<Vec<Element>>,
+}
+
+/// A cell of a netlist that is no list of bytes.
+#[derive(Clone, Copy, Debug, PartialEq, Eq)]
+pub struct Cell {
+    pub kind: u8,
+    pub delay: u8,
+    pub a: u16,
+    pub b: u16,
+}
+
+impl Cell {
+    pub const fn new(kind: u8, delay: u8, a: u16, b: u16) -> Cell {
+        Cell { kind, delay, a, b }
+    }
+
+    /// The six bytes of a cell, for the calls on bytes.
+    pub fn bytes(self) -> [u8; 6] {
+        let ([a, a_high], [b, b_high]) = (self.a.to_le_bytes(), self.b.to_le_bytes());
+        [self.kind, self.delay, a, a_high, b, b_high]
+    }
+
+    /// The six bytes of each of these cells.
+    pub fn all_bytes(cells: &[Cell]) -> Vec<u8> {
+        cells.iter().flat_map(|cell| cell.bytes()).collect()
+    }
 }
 
 /// The number of cells and the finish cell of a netlist.
@@ -61,6 +88,12 @@ pub struct Peer {
     pub write_netlist: fn(Bytes, u16, Bytes) -> Reply<Shape>,
     /// netlist file; lent: cells of six bytes
     pub read_netlist: fn(Bytes, Bytes) -> Reply<Shape>,
+    /// cells, finish
+    pub check_cells: fn(&[Cell], u16) -> Reply<()>,
+    /// cells, finish; lent: netlist file
+    pub write_cells: fn(&[Cell], u16, Bytes) -> Reply<Shape>,
+    /// netlist file, number of the cells that it is read behind; lent: cells
+    pub read_cells: fn(Bytes, usize, &[Cell]) -> Reply<Shape, Cell>,
     /// netlist file, start words; lent: state
     pub begin: fn(Bytes, Bytes, Bytes) -> Reply<Answer>,
     /// netlist file, number of instants; lent: state

@@ -1,6 +1,6 @@
 //! The proved implementation as a peer.
 
-use crate::peer::{Answer, End, Peer, Refused, Reply, Shape, Table};
+use crate::peer::{Answer, Cell, End, Peer, Refused, Reply, Shape, Table};
 use ::proved::{self as hub, Kind};
 use std::io::Write;
 use std::path::Path;
@@ -14,6 +14,9 @@ pub const PROVED: Peer = Peer {
     compile_text,
     write_netlist,
     read_netlist,
+    check_cells,
+    write_cells,
+    read_cells,
     begin,
     continue_by,
     run_program,
@@ -67,11 +70,23 @@ fn write_netlist(cells: &[u8], finish: u16, file: &[u8]) -> Reply<Shape> {
 fn read_netlist(file: &[u8], cells: &[u8]) -> Reply<Shape> {
     let mut cells = cells.to_vec();
     let told = hub::read_netlist(file, &mut cells);
-    let shape = |told: hub::Reply| Shape {
-        cells: told.first,
-        finish: told.second,
-    };
-    reply(told, shape, vec![cells])
+    reply(told, read, vec![cells])
+}
+
+fn check_cells(cells: &[Cell], finish: u16) -> Reply<()> {
+    reply(hub::cells::check(&theirs(cells), finish), |_| (), vec![])
+}
+
+fn write_cells(cells: &[Cell], finish: u16, file: &[u8]) -> Reply<Shape> {
+    let mut file = file.to_vec();
+    let told = hub::cells::write(&theirs(cells), finish, &mut file);
+    reply(told, |told| written(told, &file), vec![file.clone()])
+}
+
+fn read_cells(file: &[u8], at: usize, cells: &[Cell]) -> Reply<Shape, Cell> {
+    let mut cells = theirs(cells);
+    let told = hub::cells::read(file, at, &mut cells);
+    reply(told, read, vec![ours(&cells)])
 }
 
 fn begin(file: &[u8], words: &[u8], state: &[u8]) -> Reply<Answer> {
@@ -173,6 +188,24 @@ fn written(told: hub::Reply, file: &[u8]) -> Shape {
     }
 }
 
+/// The shape of a netlist that a call read.
+fn read(told: hub::Reply) -> Shape {
+    Shape {
+        cells: told.first,
+        finish: told.second,
+    }
+}
+
+fn theirs(cells: &[Cell]) -> Vec<hub::cells::Cell> {
+    let cell = |&Cell { kind, delay, a, b }: &Cell| hub::cells::Cell { kind, delay, a, b };
+    cells.iter().map(cell).collect()
+}
+
+fn ours(cells: &[hub::cells::Cell]) -> Vec<Cell> {
+    let cell = |cell: &hub::cells::Cell| Cell::new(cell.kind, cell.delay, cell.a, cell.b);
+    cells.iter().map(cell).collect()
+}
+
 fn answer(told: hub::Reply) -> Answer {
     Answer {
         ended: told.kind == Kind::Ended,
@@ -182,11 +215,11 @@ fn answer(told: hub::Reply) -> Answer {
     }
 }
 
-fn reply<T>(
+fn reply<T, Element>(
     told: hub::Reply,
     result: impl FnOnce(hub::Reply) -> T,
-    lent: Vec<Vec<u8>>,
-) -> Reply<T> {
+    lent: Vec<Vec<Element>>,
+) -> Reply<T, Element> {
     let result = match told.kind {
         Kind::Refused => Err(Refused {
             number: u32::from(told.number),

@@ -1,9 +1,9 @@
 //! The crate `second` as a peer.
 
-use crate::peer::{Answer, End, Peer, Refused, Reply, Shape, Table};
+use crate::peer::{Answer, Cell, End, Peer, Refused, Reply, Shape, Table};
 use ::second::answer::Refusal;
 use ::second::rules::Outcome;
-use ::second::{answer, calls, hubrun};
+use ::second::{answer, calls, cell_calls, cells, hubrun};
 
 pub const SECOND: Peer = Peer {
     name: "second",
@@ -13,6 +13,9 @@ pub const SECOND: Peer = Peer {
     compile_text,
     write_netlist,
     read_netlist,
+    check_cells,
+    write_cells,
+    read_cells,
     begin,
     continue_by,
     run_program,
@@ -67,6 +70,22 @@ fn read_netlist(file: &[u8], cells: &[u8]) -> Reply<Shape> {
     let mut cells = cells.to_vec();
     let result = calls::read_netlist(file, &mut cells);
     reply(result.map(shape), vec![cells])
+}
+
+fn check_cells(cells: &[Cell], finish: u16) -> Reply<()> {
+    reply(cell_calls::check(&theirs(cells), finish), vec![])
+}
+
+fn write_cells(cells: &[Cell], finish: u16, file: &[u8]) -> Reply<Shape> {
+    let mut file = file.to_vec();
+    let result = cell_calls::write(&theirs(cells), finish, &mut file);
+    reply(result.map(shape), vec![file])
+}
+
+fn read_cells(file: &[u8], at: usize, cells: &[Cell]) -> Reply<Shape, Cell> {
+    let mut cells = theirs(cells);
+    let result = cell_calls::read(file, at, &mut cells);
+    reply(result.map(shape), vec![ours(&cells)])
 }
 
 fn begin(file: &[u8], words: &[u8], state: &[u8]) -> Reply<Answer> {
@@ -133,7 +152,7 @@ fn hubrun_text(input: &[u8]) -> Vec<u8> {
     hubrun::text(input).into_bytes()
 }
 
-fn reply<T>(result: Result<T, Refusal>, lent: Vec<Vec<u8>>) -> Reply<T> {
+fn reply<T, Element>(result: Result<T, Refusal>, lent: Vec<Vec<Element>>) -> Reply<T, Element> {
     let refused = |refusal: Refusal| Refused {
         number: u32::from(refusal.number),
         place: refusal.place as u32,
@@ -149,6 +168,16 @@ fn shape(shape: calls::Shape) -> Shape {
         cells: u32::from(shape.cells),
         finish: u32::from(shape.finish),
     }
+}
+
+fn theirs(cells: &[Cell]) -> Vec<cells::Cell> {
+    let cell = |cell: &Cell| cells::Cell::new(cell.kind, cell.delay, cell.a, cell.b);
+    cells.iter().map(cell).collect()
+}
+
+fn ours(cells: &[cells::Cell]) -> Vec<Cell> {
+    let cell = |cell: &cells::Cell| Cell::new(cell.kind, cell.delay, cell.a, cell.b);
+    cells.iter().map(cell).collect()
 }
 
 fn answer(answer: answer::Answer) -> Answer {

@@ -2,7 +2,7 @@
 //! places, bytes, answers and text, exactly. The layout of each folder is in
 //! its README.
 
-use peers::{Answer, Peer, Refused, Reply, Shape, PROVED, SECOND};
+use peers::{Answer, Cell, Peer, Refused, Reply, Shape, PROVED, SECOND};
 use std::fs;
 use std::path::{Path, PathBuf};
 
@@ -10,6 +10,12 @@ const PEERS: [Peer; 2] = [PROVED, SECOND];
 
 /// Longer than any result, and filled so that a stray write shows.
 static LENT: [u8; 50_000] = [0xa5; 50_000];
+
+/// More cells than any netlist has, all of a kind that none has.
+static LENT_CELLS: [Cell; 1_100] = [Cell::new(0xa5, 0xa5, 0xa5a5, 0xa5a5); 1_100];
+
+/// The folders with netlist files.
+const WITH_NETLISTS: [&str; 5] = ["netlist", "compile", "speed", "calls", "state"];
 
 /// One vector: the folder and the common beginning of its files' names.
 struct Vector {
@@ -127,6 +133,62 @@ fn assert_writing_restores(peer: &Peer, file: &[u8], shape: Shape, cells: &[u8],
     let written = (peer.write_netlist)(cells, shape.finish as u16, &LENT);
     assert_eq!(written.result, Ok(shape), "{name}");
     assert_result(&written, file, name);
+}
+
+#[test]
+fn netlists_are_read_as_cells_and_written_back() {
+    for folder in WITH_NETLISTS {
+        for_each(folder, "net", |peer, vector, name| {
+            let file = vector.bytes("net");
+            let read = (peer.read_cells)(&file, 0, &LENT_CELLS);
+            let by_bytes = (peer.read_netlist)(&file, &LENT);
+            assert_eq!(read.result, by_bytes.result, "{name}");
+            let count = read.result.map_or(0, |shape| shape.cells as usize);
+            let (cells, past) = read.lent[0].split_at(count);
+            let bytes = &by_bytes.lent[0][..6 * count];
+            assert!(Cell::all_bytes(cells) == bytes, "{name}: other cells");
+            let kept = &LENT_CELLS[count..];
+            assert!(past == kept, "{name}: cells past the result");
+            if let Ok(shape) = read.result {
+                assert_cells_restore(peer, &file, shape, cells, name);
+            }
+        });
+    }
+}
+
+/// An accepted file's cells pass the check and are written as that file.
+fn assert_cells_restore(peer: &Peer, file: &[u8], shape: Shape, cells: &[Cell], name: &str) {
+    let finish = shape.finish as u16;
+    assert_eq!((peer.check_cells)(cells, finish).result, Ok(()), "{name}");
+    let written = (peer.write_cells)(cells, finish, &LENT);
+    assert_eq!(written.result, Ok(shape), "{name}");
+    assert_result(&written, file, name);
+}
+
+/// A file that is refused for its cells has them refused without a file too.
+#[test]
+fn cells_that_break_a_rule_are_refused_as_in_their_file() {
+    for_each("netlist", "net", |peer, vector, name| {
+        let told = vector.text("expect");
+        if told.starts_with("refused 12 ") {
+            let (cells, finish) = cells_in(&vector.bytes("net"));
+            let checked = (peer.check_cells)(&cells, finish);
+            assert_eq!(checked.result.map_err(refused_text), Err(told), "{name}");
+            let written = (peer.write_cells)(&cells, finish, &LENT);
+            assert_eq!(written.result.err(), checked.result.err(), "{name}");
+            assert_result(&written, &[], name);
+        }
+    });
+}
+
+/// The cells and the finish in a file whose headers are right.
+fn cells_in(file: &[u8]) -> (Vec<Cell>, u16) {
+    let number = |bytes: &[u8], at: usize| u16::from_le_bytes([bytes[at], bytes[at + 1]]);
+    let cell = |bytes: &[u8]| Cell::new(bytes[0], bytes[1], number(bytes, 2), number(bytes, 4));
+    let blocks = file.chunks_exact(512);
+    let cells = blocks.flat_map(|block| block[8..].chunks_exact(6).map(cell));
+    let count = usize::from(number(file, 2));
+    (cells.take(count).collect(), number(file, 4))
 }
 
 #[test]

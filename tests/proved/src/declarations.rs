@@ -1,11 +1,15 @@
-//! The functions of crates/hub/src/exports.rt, each beside the definition of
-//! model/Calls that its contract names. A byte slice is a pointer and a
-//! length. Nothing checks these lines against the Rattle source but the
-//! comparisons with the second implementation.
+//! The functions of the proved archives, each beside the definition that its
+//! contract names. A slice is a pointer and a number of elements. Nothing
+//! checks these lines against the Rattle source but the comparisons with the
+//! second implementation.
+
+use crate::cells::Cell;
 
 type In = *const u8;
 type Lent = *mut u8;
 
+// crates/hub/src/exports.rt; the definitions are those of model/Calls and
+// model/TextCalls.
 extern "C" {
     /// checkCall
     pub fn hub_check(program: In, program_length: usize, reply: Lent, reply_length: usize) -> bool;
@@ -227,6 +231,40 @@ extern "C" {
         words: In,
         words_length: usize,
         budget: u32,
+        reply: Lent,
+        reply_length: usize,
+    ) -> bool;
+}
+
+// crates/cells/src; the definitions are those of model/CellSlices.
+extern "C" {
+    /// checkCellsCall
+    pub fn hub_check_cells(
+        cells: *const Cell,
+        cells_length: usize,
+        finish: u16,
+        reply: Lent,
+        reply_length: usize,
+    ) -> bool;
+
+    /// writeCellsCall
+    pub fn hub_write_cells(
+        cells: *const Cell,
+        cells_length: usize,
+        finish: u16,
+        file: Lent,
+        file_length: usize,
+        reply: Lent,
+        reply_length: usize,
+    ) -> bool;
+
+    /// readCellsCall
+    pub fn hub_read_cells(
+        file: In,
+        file_length: usize,
+        at: usize,
+        cells: *mut Cell,
+        cells_length: usize,
         reply: Lent,
         reply_length: usize,
     ) -> bool;

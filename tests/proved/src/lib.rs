@@ -1,9 +1,10 @@
-//! The proved implementation, as safe functions on byte slices.
+//! The proved implementation, as safe functions on slices of bytes and of cells.
 //!
 //! No exported function has a requires, so a wrapper tests nothing: it lends
 //! the slices, and 48 bytes for the reply.
 
-mod declarations;
+pub mod cells;
+pub mod declarations;
 mod reply;
 pub mod timed;
 

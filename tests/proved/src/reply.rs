@@ -1,4 +1,4 @@
-//! The 48 bytes of a reply, as crates/hub/specs/Replies.antt tells them.
+//! The 48 bytes of a reply, as crates/reply/specs/Replies.antt tells them.
 
 pub const LENGTH: usize = 48;
 

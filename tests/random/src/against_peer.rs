@@ -10,7 +10,7 @@ use crate::xorshift::Random;
 use std::fmt::Debug;
 
 /// Damaged netlists, cells and states for each job.
-const DAMAGED: usize = 4;
+pub const DAMAGED: usize = 4;
 
 pub struct Pair<'a> {
     pub left: &'a Peer,
@@ -67,7 +67,7 @@ impl Pair<'_> {
                 (peer.run_netlist)(&damaged, words, n, &state)
             })?;
         }
-        Ok(())
+        self.compare_cells(file, random)
     }
 
     /// Reading a file, and writing its cells, also damaged ones. Gives the
@@ -133,7 +133,7 @@ impl Pair<'_> {
     /// The text of hubrun; it lends nothing and refuses in words.
     fn same_text(&self, job: &Job) -> Result<(), String> {
         let input = [&job.words[..], &job.budget.to_le_bytes(), &job.program].concat();
-        self.same("hubrun", &[], |peer| Reply {
+        self.same::<_, u8>("hubrun", &[], |peer| Reply {
             result: Ok(String::from_utf8((peer.hubrun_text)(&input))),
             lent: vec![],
         })
@@ -165,12 +165,12 @@ impl Pair<'_> {
     }
 
     /// Makes one call of both peers and gives the reply that they agree on.
-    fn same<T: PartialEq + Debug>(
+    pub fn same<T: PartialEq + Debug, Element: PartialEq>(
         &self,
         name: &str,
-        lent: &[&[u8]],
-        call: impl Fn(&Peer) -> Reply<T>,
-    ) -> Result<Reply<T>, String> {
+        lent: &[&[Element]],
+        call: impl Fn(&Peer) -> Reply<T, Element>,
+    ) -> Result<Reply<T, Element>, String> {
         let (left, right) = (call(self.left), call(self.right));
         if left.result != right.result {
             let (left, right) = (&left.result, &right.result);

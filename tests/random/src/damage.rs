@@ -1,7 +1,8 @@
-//! Slight damage to programs, netlist files and states: some of it is
+//! Slight damage to programs, netlist files, cells and states: some of it is
 //! refused, some makes another good input.
 
 use crate::xorshift::Random;
+use peers::Cell;
 use second::cells::{sort, Sort, DELAY, MERGE};
 
 const BLOCK: usize = 512;
@@ -11,6 +12,9 @@ const STATE_CELL: usize = 40;
 
 /// Kinds at and beyond the ends of the known ranges.
 const KINDS: [u8; 12] = [0, 1, 2, 9, 10, 15, 16, 18, 20, 23, 24, 32];
+
+/// The same of cells.
+const CELL_KINDS: [u8; 15] = [1, 2, 3, 7, 10, 32, 33, 34, 35, 36, 38, 39, 40, 41, 42];
 
 /// A program with one to three faults.
 pub fn program(bytes: &[u8], random: &mut Random) -> Vec<u8> {
@@ -71,11 +75,47 @@ fn damage_cell(file: &mut [u8], random: &mut Random) {
     let block = BLOCK * random.below(file.len() / BLOCK);
     let cell = block + 8 + 6 * random.below(CELLS_IN_BLOCK);
     match random.below(5) {
-        0 => file[cell] = random.pick(&[1, 2, 3, 7, 10, 32, 33, 34, 35, 36, 38, 39, 40, 41, 42]),
+        0 => file[cell] = random.pick(&CELL_KINDS),
         1 => file[cell + 1] = random.byte(),
         2 => file[cell + 2] = random.byte(),
         3 => file[cell + 4] = random.byte(),
         _ => file[cell + random.pick(&[3, 5])] = random.below(5) as u8,
+    }
+}
+
+/// The cells and the finish of a netlist with one or two faults.
+pub fn cells(cells: &[Cell], finish: u16, random: &mut Random) -> (Vec<Cell>, u16) {
+    let (mut cells, mut finish) = (cells.to_vec(), finish);
+    for _ in 0..random.between(1, 2) {
+        let number = random.below(cells.len());
+        match random.below(8) {
+            0 => drop(cells.remove(number)),
+            1 => cells.insert(number, cells[number]),
+            2 => finish = input(cells.len(), random),
+            _ => damage_field(&mut cells, number, random),
+        }
+    }
+    (cells, finish)
+}
+
+/// Changes one field of a cell.
+fn damage_field(cells: &mut [Cell], number: usize, random: &mut Random) {
+    let count = cells.len();
+    let cell = &mut cells[number];
+    match random.below(4) {
+        0 => cell.kind = random.pick(&CELL_KINDS),
+        1 => cell.delay = random.byte(),
+        2 => cell.a = input(count, random),
+        _ => cell.b = input(count, random),
+    }
+}
+
+/// The number of a cell; one time in eight, perhaps of none.
+fn input(count: usize, random: &mut Random) -> u16 {
+    match random.below(16) {
+        0 => count as u16,
+        1 => random.word(),
+        _ => random.below(count) as u16,
     }
 }
 
@@ -136,8 +176,8 @@ mod tests {
     use crate::generate;
     use crate::lend::{file_length, lent, state_length, MOST_FILE};
     use second::answer::Refusal;
-    use second::calls;
     use second::table::BUILT_IN;
+    use second::{calls, cells, netfile};
     use std::collections::BTreeSet;
 
     /// The refusals, 0 for none, that calls on 4,000 damaged programs meet.
@@ -174,6 +214,19 @@ mod tests {
             calls::read_netlist(&damaged, &mut lent(MOST_FILE)).map(drop)
         });
         assert_eq!(met, [0, 9, 10, 11, 12].into());
+    }
+
+    #[test]
+    fn damaged_cells_meet_refusals_11_and_12() {
+        let met = met(|good, random| {
+            let netlist = netfile::read(&begun(good).0).expect("a good netlist");
+            let peers_cell = |cell: &cells::Cell| Cell::new(cell.kind, cell.delay, cell.a, cell.b);
+            let list: Vec<Cell> = netlist.cells.iter().map(peers_cell).collect();
+            let (damaged, finish) = cells(&list, netlist.finish, random);
+            let bytes = Cell::all_bytes(&damaged);
+            calls::write_netlist(&bytes, finish, &mut lent(MOST_FILE)).map(drop)
+        });
+        assert_eq!(met, [0, 11, 12].into());
     }
 
     #[test]

@@ -1,7 +1,7 @@
 //! Peers that go wrong in the ways the paper wants rejected, and the proof
 //! that the comparisons tell them from a good one.
 
-use peers::{End, Peer, Refused, Reply, SECOND};
+use peers::{Cell, End, Peer, Refused, Reply, Shape, SECOND};
 
 /// Its rules take an instant too many for a program with a parallel node.
 pub const SLOW_PARALLEL: Peer = Peer {
@@ -154,6 +154,98 @@ const TEXT_FIRST: Peer = Peer {
     ..SECOND
 };
 
+/// Moves the value of a constant as if it were the number of a cell.
+const MOVED_CONSTANTS: Peer = Peer {
+    name: "moved constants",
+    read_cells: |file, at, cells| {
+        reread(file, at, cells, |cell| {
+            if cell.kind == 1 {
+                cell.a = cell.a.wrapping_add(at as u16);
+            }
+        })
+    },
+    ..SECOND
+};
+
+/// Moves the a of a cell and not its b.
+const STAYING_B: Peer = Peer {
+    name: "staying b",
+    read_cells: |file, at, cells| {
+        reread(file, at, cells, |cell| match cell.kind {
+            1 | 3 | 32..=34 => {}
+            _ => cell.b = cell.b.wrapping_sub(at as u16),
+        })
+    },
+    ..SECOND
+};
+
+/// Moves an a that would pass the last number to that number.
+const UNWRAPPED: Peer = Peer {
+    name: "unwrapped",
+    read_cells: |file, at, cells| {
+        reread(file, at, cells, |cell| match cell.kind {
+            1 | 32 | 33 => {}
+            _ => cell.a = cell.a.wrapping_sub(at as u16).saturating_add(at as u16),
+        })
+    },
+    ..SECOND
+};
+
+/// Tells the finish by its number behind the other cells.
+const MOVED_FINISH: Peer = Peer {
+    name: "moved finish",
+    read_cells: |file, at, cells| {
+        let mut reply = (SECOND.read_cells)(file, at, cells);
+        if let Ok(shape) = &mut reply.result {
+            shape.finish += at as u32;
+        }
+        reply
+    },
+    ..SECOND
+};
+
+/// Wants one cell more than it reads.
+const ROOM_TO_SPARE: Peer = Peer {
+    name: "room to spare",
+    read_cells: |file, at, cells| match cells.split_last() {
+        None => (SECOND.read_cells)(file, at, cells),
+        Some((last, rest)) => {
+            let mut reply = (SECOND.read_cells)(file, at, rest);
+            reply.lent[0].push(*last);
+            reply
+        }
+    },
+    ..SECOND
+};
+
+/// Takes a finish that is no cell for cell 0.
+const ABSENT_FINISH: Peer = Peer {
+    name: "absent finish",
+    check_cells: |cells, finish| {
+        let mut reply = (SECOND.check_cells)(cells, finish);
+        if let Err(Refused { number: 11, .. }) = reply.result {
+            reply.result = (SECOND.check_cells)(cells, 0).result;
+        }
+        reply
+    },
+    ..SECOND
+};
+
+/// Reads cells and then changes those that it has put in.
+fn reread(
+    file: &[u8],
+    at: usize,
+    cells: &[Cell],
+    change: impl Fn(&mut Cell),
+) -> Reply<Shape, Cell> {
+    let mut reply = (SECOND.read_cells)(file, at, cells);
+    if let Ok(shape) = reply.result {
+        let read = reply.lent[0].iter_mut().skip(at).take(shape.cells as usize);
+        read.for_each(change);
+    }
+    reply
+}
+
 const NO: Refused = Refused {
     number: 1,
     place: 0,
@@ -235,8 +327,11 @@ mod tests {
         let faulty_runs = [SLOW_PARALLEL, EARLY_OPEN, COPYING, STOCK_NETLIST, REFUSING];
         let faulty_readers = [MIXED_UP, TRIMMING, LATE_PLACE];
         let faulty_tables = [UNTIMED, TIMED_NETLIST];
+        let faulty_moves = [MOVED_CONSTANTS, STAYING_B, UNWRAPPED, MOVED_FINISH];
+        let faulty_lists = [ROOM_TO_SPARE, ABSENT_FINISH];
         let faulty = faulty_runs.iter().chain(&faulty_readers);
-        for faulty in faulty.chain(&faulty_tables) {
+        let faulty_cells = faulty_moves.iter().chain(&faulty_lists);
+        for faulty in faulty.chain(&faulty_tables).chain(faulty_cells) {
             assert!(disagrees_with_second(faulty), "{}", faulty.name);
         }
     }

@@ -1,5 +1,7 @@
 //! Lent buffers: how long results are, and what a buffer holds before one.
 
+use peers::Cell;
+
 /// The longest netlist file, 13 blocks.
 pub const MOST_FILE: usize = 6656;
 
@@ -21,6 +23,11 @@ pub fn lent_with(bytes: &[u8], length: usize) -> Vec<u8> {
     let mut buffer = bytes.to_vec();
     buffer.resize(length, LENT_BYTE);
     buffer
+}
+
+/// A lent list of cells, likewise.
+pub fn lent_cells(length: usize) -> Vec<Cell> {
+    vec![Cell::new(LENT_BYTE, LENT_BYTE, 0xa5a5, 0xa5a5); length]
 }
 
 /// The bytes of the netlist file of this many cells.

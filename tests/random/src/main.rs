@@ -1,9 +1,11 @@
 //! Random comparison: circuits with rules, texts with programs, simulators
-//! with equations, peers with each other, all of it under random tables. `random [--seed S] [--count C]`
+//! with equations, netlists as cells with netlists as bytes, peers with each
+//! other, all of it under random tables. `random [--seed S] [--count C]`
 //!
 //! A disagreement is printed with a minimised program and ends the run with
 //! a code that isn't zero.
 
+mod against_bytes;
 mod against_equations;
 mod against_peer;
 mod against_rules;

@@ -31,7 +31,7 @@ pub struct Shape {
 }
 
 impl Shape {
-    fn of(netlist: &Netlist) -> Shape {
+    pub(crate) fn of(netlist: &Netlist) -> Shape {
         Shape {
             cells: netlist.cells.len() as u16,
             finish: netlist.finish,
@@ -259,7 +259,7 @@ fn room(buffer: &mut [u8], length: usize) -> Result<&mut [u8], Refusal> {
 }
 
 /// Puts a result into a lent buffer; refusal 14.
-fn put(result: &[u8], buffer: &mut [u8]) -> Result<(), Refusal> {
+pub(crate) fn put(result: &[u8], buffer: &mut [u8]) -> Result<(), Refusal> {
     room(buffer, result.len())?.copy_from_slice(result);
     Ok(())
 }

@@ -34,6 +34,16 @@ impl Cell {
     pub fn new(kind: u8, delay: u8, a: u16, b: u16) -> Cell {
         Cell { kind, delay, a, b }
     }
+
+    /// The cell where every cell that it names has a number so much higher.
+    pub fn moved(self, by: u16) -> Cell {
+        let (a, b) = fields(self.kind).unwrap_or((Field::Unused, Field::Unused));
+        Cell {
+            a: a.moved(self.a, by),
+            b: b.moved(self.b, by),
+            ..self
+        }
+    }
 }
 
 #[derive(Clone, Debug, PartialEq, Eq)]
@@ -75,6 +85,17 @@ pub enum Field {
     Now(Sort),
     /// A wire at an earlier instant, of any cell.
     Earlier(Sort),
+}
+
+impl Field {
+    /// A value of this field after moving: only the number of a cell moves, and
+    /// it has two bytes.
+    fn moved(self, value: u16, by: u16) -> u16 {
+        match self {
+            Field::Unused | Field::Number => value,
+            Field::Now(_) | Field::Earlier(_) => value.wrapping_add(by),
+        }
+    }
 }
 
 /// The uses of a and b in a cell of this kind, if the kind is known.

@@ -3,11 +3,13 @@
 //! It exists to be compared with the proved implementation and shares nothing
 //! with it. A value goes one way through these modules: text of a program, its
 //! bytes, tree, netlist, netlist file, wires, state bytes, answer. `calls` holds
-//! the calls that others use; what they lend and get back are bytes and numbers.
+//! the calls that others use; what they lend and get back are bytes and numbers,
+//! and in `cell_calls` cells.
 
 pub mod answer;
 pub mod block;
 pub mod calls;
+pub mod cell_calls;
 pub mod cells;
 pub mod check;
 pub mod compile;

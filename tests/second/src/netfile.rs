@@ -67,11 +67,14 @@ pub fn netlist_of(bytes: &[u8], finish: u16) -> Result<Netlist, Refusal> {
     if !bytes.len().is_multiple_of(CELL) {
         return Err(Refusal::new(11, 0));
     }
-    let netlist = Netlist {
-        cells: cells_of(bytes),
-        finish,
-    };
-    check_counts(netlist.cells.len(), finish)?;
+    netlist_of_cells(cells_of(bytes), finish)
+}
+
+/// The netlist of these cells, with the refusal that their file would meet:
+/// 11 where no header could tell their number or the finish, then 12.
+pub fn netlist_of_cells(cells: Vec<Cell>, finish: u16) -> Result<Netlist, Refusal> {
+    check_counts(cells.len(), finish)?;
+    let netlist = Netlist { cells, finish };
     cells::check(&netlist)?;
     Ok(netlist)
 }

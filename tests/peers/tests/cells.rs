@@ -1,0 +1,271 @@
+//! Netlists as cells: where reading puts them and what it moves, and each
+//! refusal of the three calls but for 12, which has tests of its own.
+
+mod every_kind;
+
+use every_kind::{cells, file, FINISH};
+use peers::{Cell, Peer, Refused, Shape, PROVED, SECOND};
+
+const PEERS: [Peer; 2] = [SECOND, PROVED];
+
+/// A lent cell; no result has such a one.
+const LENT: Cell = Cell::new(0xa5, 0xa5, 0xa5a5, 0xa5a5);
+
+/// A lent file: longer than any, and filled so that a stray write shows.
+static LENT_FILE: [u8; 7_000] = [0xa5; 7_000];
+
+const SHAPE: Shape = Shape {
+    cells: 35,
+    finish: 31,
+};
+
+/// Of each cell of the netlist: the inputs when it is read in front, behind one
+/// cell, behind 7 and behind 65,530, which is six short of no move at all.
+const MOVED: [[(u16, u16); 4]; 35] = [
+    [(0, 0), (0, 0), (0, 0), (0, 0)],
+    [(0, 0), (0, 0), (0, 0), (0, 0)],
+    [(0, 0), (0, 0), (0, 0), (0, 0)],
+    [(1, 26), (2, 27), (8, 33), (65_531, 20)],
+    IDLE,
+    IDLE,
+    IDLE,
+    IDLE,
+    IDLE,
+    IDLE,
+    IDLE,
+    IDLE,
+    IDLE,
+    IDLE,
+    IDLE,
+    IDLE,
+    IDLE,
+    IDLE,
+    IDLE,
+    [(65_533, 0), (65_533, 0), (65_533, 0), (65_533, 0)],
+    [(19, 0), (20, 0), (26, 0), (13, 0)],
+    [(19, 20), (20, 21), (26, 27), (13, 14)],
+    [(20, 21), (21, 22), (27, 28), (14, 15)],
+    [(21, 2), (22, 3), (28, 9), (15, 65_532)],
+    [(22, 23), (23, 24), (29, 30), (16, 17)],
+    [(23, 24), (24, 25), (30, 31), (17, 18)],
+    [(24, 25), (25, 26), (31, 32), (18, 19)],
+    [(31, 0), (32, 0), (38, 0), (25, 0)],
+    [(27, 0), (28, 1), (34, 7), (21, 65_530)],
+    [(28, 26), (29, 27), (35, 33), (22, 20)],
+    [(28, 3), (29, 4), (35, 10), (22, 65_533)],
+    [(29, 30), (30, 31), (36, 37), (23, 24)],
+    [(31, 26), (32, 27), (38, 33), (25, 20)],
+    [(7, 0), (7, 0), (7, 0), (7, 0)],
+    [(0, 0), (1, 1), (7, 7), (65_530, 65_530)],
+];
+
+/// The memory of a variable that is never assigned.
+const IDLE: [(u16, u16); 4] = [(1, 2), (2, 3), (8, 9), (65_531, 65_532)];
+
+fn refused<T>(number: u32, place: u32) -> Result<T, Refused> {
+    Err(Refused { number, place })
+}
+
+/// So many cells that keep the rules: the netlist, and constants after it.
+fn cells_up_to(count: usize) -> Vec<Cell> {
+    let mut cells = cells();
+    cells.resize(count, Cell::new(1, 0, 9, 0));
+    cells
+}
+
+/// The cells of the netlist with the inputs of a column of the table.
+fn moved(column: usize) -> Vec<Cell> {
+    let cell = |(cell, inputs): (Cell, &[(u16, u16); 4])| {
+        let (a, b) = inputs[column];
+        Cell { a, b, ..cell }
+    };
+    cells().into_iter().zip(&MOVED).map(cell).collect()
+}
+
+/// Checking and writing these cells is refused so, and writes nothing.
+fn assert_cells_refused(cells: &[Cell], finish: u16, number: u32, place: u32) {
+    for peer in PEERS {
+        let name = format!("{} on {} cells, {finish}", peer.name, cells.len());
+        let checked = (peer.check_cells)(cells, finish);
+        assert_eq!(checked.result, refused(number, place), "{name}");
+        let written = (peer.write_cells)(cells, finish, &LENT_FILE);
+        assert_eq!(written.result, refused(number, place), "{name}");
+        assert!(written.lent == [LENT_FILE], "{name}: lent bytes changed");
+    }
+}
+
+/// Reading this file behind so many of the lent cells is refused so, and
+/// changes none of them.
+fn assert_file_refused(file: &[u8], at: usize, room: usize, number: u32, place: u32) {
+    let lent = vec![LENT; room];
+    for peer in PEERS {
+        let name = format!("{} behind {at} of {room}", peer.name);
+        let read = (peer.read_cells)(file, at, &lent);
+        assert_eq!(read.result, refused(number, place), "{name}");
+        assert!(read.lent[0] == lent, "{name}: lent cells changed");
+    }
+}
+
+#[test]
+fn reading_moves_what_names_a_cell_and_nothing_else() {
+    let file = file(&cells(), FINISH);
+    let places = [0, 1, 7, 65_530, 65_536, 65_537];
+    for (at, column) in places.into_iter().zip([0, 1, 2, 3, 0, 1]) {
+        let lent = vec![LENT; at + 35 + 3];
+        let mut expected = lent.clone();
+        expected[at..at + 35].copy_from_slice(&moved(column));
+        for peer in PEERS {
+            let name = format!("{} behind {at}", peer.name);
+            let read = (peer.read_cells)(&file, at, &lent);
+            assert_eq!(read.result, Ok(SHAPE), "{name}");
+            let other = (0..lent.len()).find(|&number| read.lent[0][number] != expected[number]);
+            let shown = other.map(|number| (number, read.lent[0][number], expected[number]));
+            assert_eq!(shown, None, "{name}");
+        }
+    }
+}
+
+#[test]
+fn reading_in_front_gives_the_cells_of_the_six_bytes() {
+    for count in [35, 84, 85, 1_024] {
+        let file = file(&cells_up_to(count), FINISH);
+        for peer in PEERS {
+            let name = format!("{} on {count} cells", peer.name);
+            let by_bytes = (peer.read_netlist)(&file, &vec![0; 6 * count]);
+            let read = (peer.read_cells)(&file, 0, &vec![LENT; count]);
+            assert_eq!(read.result, by_bytes.result, "{name}");
+            assert!(read.lent[0] == cells_up_to(count), "{name}");
+            assert!(Cell::all_bytes(&read.lent[0]) == by_bytes.lent[0], "{name}");
+        }
+    }
+}
+
+#[test]
+fn writing_gives_the_file_and_keeps_what_is_past_it() {
+    for count in [35, 84, 85, 1_024] {
+        let cells = cells_up_to(count);
+        let mut expected = LENT_FILE;
+        let file = file(&cells, FINISH);
+        expected[..file.len()].copy_from_slice(&file);
+        for peer in PEERS {
+            let name = format!("{} on {count} cells", peer.name);
+            let checked = (peer.check_cells)(&cells, FINISH);
+            assert_eq!(checked.result, Ok(()), "{name}");
+            let written = (peer.write_cells)(&cells, FINISH, &LENT_FILE);
+            assert!(written.lent == [expected], "{name}: other bytes");
+            let by_bytes = (peer.write_netlist)(&Cell::all_bytes(&cells), FINISH, &LENT_FILE);
+            assert!(written == by_bytes, "{name}: not as its bytes");
+        }
+    }
+}
+
+#[test]
+fn a_count_outside_19_to_1024_is_11() {
+    // The last of these a header would tell as 19.
+    for count in [0, 1, 18, 1_025, 1_026, 65_535, 65_536, 65_555] {
+        assert_cells_refused(&cells_up_to(count), 0, 11, 0);
+    }
+    // Cells that break every rule are not looked at.
+    assert_cells_refused(&[LENT; 18], 0, 11, 0);
+    assert_cells_refused(&[LENT; 1_025], 0, 11, 0);
+}
+
+#[test]
+fn a_finish_not_below_the_count_is_11() {
+    for finish in [35, 36, 1_024, 65_535] {
+        assert_cells_refused(&cells(), finish, 11, 0);
+    }
+    assert_cells_refused(&[LENT; 35], 35, 11, 0);
+    assert_cells_refused(&cells_up_to(1_024), 1_024, 11, 0);
+}
+
+#[test]
+fn a_file_one_byte_short_is_14() {
+    for (count, length) in [(35, 512), (84, 512), (85, 1_024), (1_024, 6_656)] {
+        let cells = cells_up_to(count);
+        for peer in PEERS {
+            let name = format!("{} on {count} cells", peer.name);
+            let short = &LENT_FILE[..length - 1];
+            let written = (peer.write_cells)(&cells, FINISH, short);
+            assert_eq!(written.result, refused(14, 0), "{name}");
+            assert!(written.lent == [short], "{name}: lent bytes changed");
+            let exact = (peer.write_cells)(&cells, FINISH, &LENT_FILE[..length]);
+            assert!(exact.result.is_ok(), "{name}");
+        }
+    }
+}
+
+#[test]
+fn twelve_comes_before_fourteen() {
+    let mut cells = cells();
+    cells[32] = LENT;
+    for peer in PEERS {
+        let written = (peer.write_cells)(&cells, FINISH, &[]);
+        assert_eq!(written.result, refused(12, 32), "{}", peer.name);
+    }
+    assert_file_refused(&file(&cells, FINISH), usize::MAX, 3, 12, 32);
+}
+
+#[test]
+fn a_list_without_room_behind_the_place_is_14() {
+    let file = file(&cells(), FINISH);
+    for (at, room) in [
+        (0, 0),
+        (0, 34),
+        (1, 35),
+        (7, 41),
+        (65_530, 65_564),
+        (50, 50),
+        (51, 50),
+        (65_536, 50),
+        (usize::MAX - 34, 50),
+        (usize::MAX, 50),
+        (usize::MAX, 0),
+    ] {
+        assert_file_refused(&file, at, room, 14, 0);
+    }
+    for (at, room) in [(0, 35), (1, 36), (65_530, 65_565)] {
+        for peer in PEERS {
+            let read = (peer.read_cells)(&file, at, &vec![LENT; room]);
+            assert_eq!(read.result, Ok(SHAPE), "{} behind {at}", peer.name);
+        }
+    }
+}
+
+#[test]
+fn a_file_of_a_wrong_length_is_9() {
+    let file = file(&cells(), FINISH);
+    for length in [0, 1, 511] {
+        assert_file_refused(&file[..length], 1, 50, 9, 0);
+    }
+    assert_file_refused(&[&file[..], &[0]].concat(), 1, 50, 9, 0);
+    assert_file_refused(&file.repeat(14), usize::MAX, 50, 9, 0);
+}
+
+#[test]
+fn a_wrong_check_is_10() {
+    let mut file = file(&cells_up_to(100), FINISH);
+    file[1_000] ^= 1;
+    assert_file_refused(&file, 1, 200, 10, 1);
+    file[0] ^= 1;
+    assert_file_refused(&file, usize::MAX, 200, 10, 0);
+}
+
+#[test]
+fn a_wrong_header_or_unused_byte_is_11() {
+    assert_file_refused(&file(&cells_up_to(18), 0), 1, 50, 11, 0);
+    assert_file_refused(&file(&cells_up_to(1_025), 0), 1, 2_000, 11, 0);
+    assert_file_refused(&file(&cells(), 35), 1, 50, 11, 0);
+    // Two words more, which leave the sum: both in unused places of block 1.
+    let mut unused = file(&cells_up_to(100), FINISH);
+    unused[1_020..].copy_from_slice(&[1, 0, 255, 255]);
+    assert_file_refused(&unused, usize::MAX, 200, 11, 1);
+}
+
+#[test]
+fn a_broken_rule_is_12() {
+    let mut cells = cells();
+    cells[32].delay = 1;
+    assert_cells_refused(&cells, FINISH, 12, 32);
+    assert_file_refused(&file(&cells, FINISH), 1, 50, 12, 32);
+}

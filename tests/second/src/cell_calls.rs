@@ -1,0 +1,41 @@
+//! The calls on netlists that a caller holds as cells, and not as bytes.
+//!
+//! They refuse what the calls on bytes refuse, except for a length that is no
+//! whole number of cells, which a list of cells can't have.
+
+use crate::answer::Refusal;
+use crate::calls::{put, Shape};
+use crate::cells::Cell;
+use crate::netfile;
+
+/// Checks a netlist: refusals 11 and 12.
+pub fn check(cells: &[Cell], finish: u16) -> Result<(), Refusal> {
+    netfile::netlist_of_cells(cells.to_vec(), finish).map(drop)
+}
+
+/// Writes a netlist to a file: refusals 11, 12, 14.
+pub fn write(cells: &[Cell], finish: u16, file: &mut [u8]) -> Result<Shape, Refusal> {
+    let netlist = netfile::netlist_of_cells(cells.to_vec(), finish)?;
+    put(&netfile::write(&netlist), file)?;
+    Ok(Shape::of(&netlist))
+}
+
+/// Reads a netlist file behind the first `at` of the lent cells, so that the
+/// cells it names stand `at` places later: refusals 9 to 12, 14. The finish it
+/// tells is the file's own.
+pub fn read(file: &[u8], at: usize, cells: &mut [Cell]) -> Result<Shape, Refusal> {
+    let netlist = netfile::read(file)?;
+    let places = places(cells, at, netlist.cells.len())?;
+    for (place, cell) in places.iter_mut().zip(&netlist.cells) {
+        *place = cell.moved(at as u16);
+    }
+    Ok(Shape::of(&netlist))
+}
+
+/// So many lent cells behind the first `at`; refusal 14.
+fn places(cells: &mut [Cell], at: usize, count: usize) -> Result<&mut [Cell], Refusal> {
+    cells
+        .get_mut(at..)
+        .and_then(|behind| behind.get_mut(..count))
+        .ok_or(Refusal::new(14, 0))
+}

@@ -1,6 +1,6 @@
 //! The boundary behind which an implementation stands.
 //!
-//! A peer is sixteen plain functions on numbers and slices of bytes or cells.
+//! A peer is seventeen plain functions on numbers and slices of bytes or cells.
 //! Nothing is lent to them: each is given what a lent buffer holds at entry and
 //! gives back what it holds afterwards, so two peers are compared by comparing
 //! replies.
@@ -94,6 +94,8 @@ pub struct Peer {
     pub write_cells: fn(&[Cell], u16, Bytes) -> Reply<Shape>,
     /// netlist file, number of the cells that it is read behind; lent: cells
     pub read_cells: fn(Bytes, usize, &[Cell]) -> Reply<Shape, Cell>,
+    /// from, up to, by; lent: cells of six bytes; tells whether it has them
+    pub renumber: fn(usize, usize, u16, Bytes) -> Reply<bool>,
     /// netlist file, start words; lent: state
     pub begin: fn(Bytes, Bytes, Bytes) -> Reply<Answer>,
     /// netlist file, number of instants; lent: state

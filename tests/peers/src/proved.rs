@@ -17,6 +17,7 @@ pub const PROVED: Peer = Peer {
     check_cells,
     write_cells,
     read_cells,
+    renumber,
     begin,
     continue_by,
     run_program,
@@ -87,6 +88,15 @@ fn read_cells(file: &[u8], at: usize, cells: &[Cell]) -> Reply<Shape, Cell> {
     let mut cells = theirs(cells);
     let told = hub::cells::read(file, at, &mut cells);
     reply(told, read, vec![ours(&cells)])
+}
+
+fn renumber(from: usize, end: usize, by: u16, cells: &[u8]) -> Reply<bool> {
+    let mut cells = cells.to_vec();
+    let done = hub::cells::renumber(&mut cells, from, end, by);
+    Reply {
+        result: Ok(done),
+        lent: vec![cells],
+    }
 }
 
 fn begin(file: &[u8], words: &[u8], state: &[u8]) -> Reply<Answer> {

@@ -16,6 +16,7 @@ pub const SECOND: Peer = Peer {
     check_cells,
     write_cells,
     read_cells,
+    renumber,
     begin,
     continue_by,
     run_program,
@@ -86,6 +87,12 @@ fn read_cells(file: &[u8], at: usize, cells: &[Cell]) -> Reply<Shape, Cell> {
     let mut cells = theirs(cells);
     let result = cell_calls::read(file, at, &mut cells);
     reply(result.map(shape), vec![ours(&cells)])
+}
+
+fn renumber(from: usize, end: usize, by: u16, cells: &[u8]) -> Reply<bool> {
+    let mut cells = cells.to_vec();
+    let done = cell_calls::renumber(&mut cells, from, end, by);
+    reply(Ok(done), vec![cells])
 }
 
 fn begin(file: &[u8], words: &[u8], state: &[u8]) -> Reply<Answer> {

@@ -1,5 +1,5 @@
-//! Netlists as cells: where reading puts them and what it moves, and each
-//! refusal of the three calls but for 12, which has tests of its own.
+//! Netlists as cells: where reading puts them and what it moves, each refusal
+//! of the three calls but for 12, which has tests of its own, and renumbering.
 
 mod every_kind;
 
@@ -268,4 +268,42 @@ fn a_broken_rule_is_12() {
     cells[32].delay = 1;
     assert_cells_refused(&cells, FINISH, 12, 32);
     assert_file_refused(&file(&cells, FINISH), 1, 50, 12, 32);
+}
+
+/// Renumbering the six bytes of the netlist gives those of the moved cells.
+#[test]
+fn six_bytes_are_renumbered_as_cells_are() {
+    let before = Cell::all_bytes(&cells());
+    for (by, column) in [(0, 0), (1, 1), (7, 2), (65_530, 3)] {
+        let moved = Cell::all_bytes(&moved(column));
+        for (from, end) in [(0, 35), (20, 35), (3, 29), (34, 35), (35, 35), (9, 4)] {
+            let mut expected = before.clone();
+            let run = 6 * from.min(end)..6 * end;
+            expected[run.clone()].copy_from_slice(&moved[run]);
+            for peer in PEERS {
+                let name = format!("{} from {from} to {end} by {by}", peer.name);
+                let reply = (peer.renumber)(from, end, by, &before);
+                assert_eq!(reply.result, Ok(true), "{name}");
+                assert!(reply.lent == [&expected[..]], "{name}: other bytes");
+            }
+        }
+    }
+}
+
+#[test]
+fn a_run_past_the_list_is_not_renumbered() {
+    let list = Cell::all_bytes(&cells_up_to(1_100));
+    let ends = [4, 34, 35, 1_024, 1_025, 1_100, usize::MAX / 6, usize::MAX];
+    for (end, missing) in ends.into_iter().flat_map(|end| [(end, 0), (end, 1)]) {
+        let length = end
+            .checked_mul(6)
+            .map_or(list.len(), |all| all.min(list.len()) - missing);
+        let done = end <= 1_024 && missing == 0;
+        for peer in PEERS {
+            let name = format!("{} to {end} of {length} bytes", peer.name);
+            let reply = (peer.renumber)(0, end, 9, &list[..length]);
+            assert_eq!(reply.result, Ok(done), "{name}");
+            assert_eq!(reply.lent[0] != list[..length], done, "{name}");
+        }
+    }
 }

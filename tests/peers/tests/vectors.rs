@@ -218,7 +218,10 @@ fn states_of_any_origin_are_continued_or_refused_as_told() {
         let n = vector.text("n").parse().expect("a number");
         let reply = (peer.continue_by)(&vector.bytes("net"), n, &vector.bytes("before"));
         assert_eq!(answer_text(reply.result), vector.text("expect"), "{name}");
-        assert!(reply.lent[0] == vector.bytes("after"), "{name}: other bytes");
+        assert!(
+            reply.lent[0] == vector.bytes("after"),
+            "{name}: other bytes"
+        );
     });
 }
 

@@ -46,3 +46,9 @@ pub fn read(file: &[u8], at: usize, cells: &mut [Cell]) -> Reply {
         )
     })
 }
+
+/// Moves cells of six bytes each, from one number up to another, so many
+/// places on; tells whether the list has them.
+pub fn renumber(cells: &mut [u8], from: usize, end: usize, by: u16) -> bool {
+    unsafe { hub_renumber(cells.as_mut_ptr(), cells.len(), from, end, by) }
+}

@@ -268,4 +268,7 @@ extern "C" {
         reply: Lent,
         reply_length: usize,
     ) -> bool;
+
+    /// renumberCall; has no reply
+    pub fn hub_renumber(cells: Lent, cells_length: usize, from: usize, end: usize, k: u16) -> bool;
 }

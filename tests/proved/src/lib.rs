@@ -21,9 +21,7 @@ fn replied(call: impl FnOnce(*mut u8, usize) -> bool) -> Reply {
 }
 
 pub fn check(program: &[u8]) -> Reply {
-    replied(|reply, length| unsafe {
-        hub_check(program.as_ptr(), program.len(), reply, length)
-    })
+    replied(|reply, length| unsafe { hub_check(program.as_ptr(), program.len(), reply, length) })
 }
 
 pub fn compile(program: &[u8], file: &mut [u8]) -> Reply {

@@ -59,10 +59,38 @@ impl Pair<'_> {
         });
         let beyond = random.pick(&[room.len(), room.len() + 1, usize::MAX - count, usize::MAX]);
         let at = if random.once_in(8) { beyond } else { at };
-        self.same("read_cells", &[&room], |peer| {
+        let read = self.same("read_cells", &[&room], |peer| {
             (peer.read_cells)(file, at, &room)
-        })
-        .map(drop)
+        })?;
+        match read.result {
+            Err(_) => Ok(()),
+            Ok(shape) => {
+                let behind = Cell::all_bytes(&read.lent[0]);
+                self.same_renumbered(file, at, at + shape.cells as usize, &behind)
+            }
+        }
+    }
+
+    /// Reading in front and renumbering the six bytes of each cell, which gives
+    /// those of the cells that were read behind others.
+    fn same_renumbered(
+        &self,
+        file: &[u8],
+        at: usize,
+        end: usize,
+        behind: &[u8],
+    ) -> Result<(), String> {
+        let front = (self.left.read_netlist)(file, &lent(6 * (end - at)));
+        let mut list = behind.to_vec();
+        list[6 * at..6 * end].copy_from_slice(&front.lent[0]);
+        let moved = self.same("renumber", &[], |peer| {
+            (peer.renumber)(at, end, at as u16, &list)
+        })?;
+        let expected = if end <= 1_024 { behind } else { &list };
+        if moved.lent[0] != expected {
+            return Err("renumber: not the cells that were read behind others".to_string());
+        }
+        Ok(())
     }
 
     /// Checking and writing, which refuse and write what the six bytes of each

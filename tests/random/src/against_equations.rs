@@ -7,8 +7,8 @@
 
 use crate::damage;
 use crate::lend::{lent, state_length};
-use peers::Peer;
 use crate::xorshift::Random;
+use peers::Peer;
 use second::cells::*;
 use second::netfile;
 use second::operator::Operator;

@@ -5,8 +5,8 @@ use crate::against_text;
 use crate::damage;
 use crate::job::{Call, Job, MOST_INSTANT};
 use crate::lend::*;
-use peers::{Peer, Reply, Shape};
 use crate::xorshift::Random;
+use peers::{Peer, Reply, Shape};
 use std::fmt::Debug;
 
 /// Damaged netlists, cells and states for each job.

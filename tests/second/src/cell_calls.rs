@@ -32,6 +32,21 @@ pub fn read(file: &[u8], at: usize, cells: &mut [Cell]) -> Result<Shape, Refusal
     Ok(Shape::of(&netlist))
 }
 
+/// Moves the cells from one number up to another, of six bytes each, so many
+/// places on. Tells whether the list has them; no netlist has more than 1,024.
+pub fn renumber(cells: &mut [u8], from: usize, end: usize, by: u16) -> bool {
+    if end > netfile::MOST_CELLS || end > cells.len() / netfile::CELL {
+        return false;
+    }
+    let run = netfile::CELL * from.min(end)..netfile::CELL * end;
+    let moved = netfile::cells_of(&cells[run.clone()]).into_iter();
+    let bytes: Vec<u8> = moved
+        .flat_map(|cell| netfile::cell_bytes(cell.moved(by)))
+        .collect();
+    cells[run].copy_from_slice(&bytes);
+    true
+}
+
 /// So many lent cells behind the first `at`; refusal 14.
 fn places(cells: &mut [Cell], at: usize, count: usize) -> Result<&mut [Cell], Refusal> {
     cells

@@ -6,10 +6,10 @@ use crate::cells::{self, Cell, Netlist};
 use crate::word::{number2, put2};
 
 const MOST_BLOCKS: usize = 13;
-const CELL: usize = 6;
+pub const CELL: usize = 6;
 const CELLS_IN_BLOCK: usize = (BLOCK - HEADER) / CELL;
 const LEAST_CELLS: usize = 19;
-const MOST_CELLS: usize = 1024;
+pub const MOST_CELLS: usize = 1024;
 
 /// The bytes of the file of a netlist with this many cells.
 pub fn length(cells: usize) -> usize {

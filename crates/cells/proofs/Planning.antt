@@ -1,4 +1,4 @@
--- What reading behind other cells puts in, outcome by outcome, and that placing and then moving does it. Assumes nothing.
+-- What reading behind other cells puts in, and its reply, outcome by outcome. Assumes nothing.
 use mathlib.Core.Bool.{Bool, true, false}
 use mathlib.Core.List.{List, [], _∷_, _++_, map, append-assoc}
 use mathlib.Core.Path.{_≡_, refl, sym, _∙_}
@@ -6,8 +6,8 @@ use Prim.Native.Nat.{ℕ, _+_, _-_, _%_, _<_, _≤_}
 use native.Mathlib.Omega.{arith}
 use borrow.Author.Tests.{lt-ltb, le-ltb, ltb-false}
 use lib.Dec.{ltb}
-use lib.ListN.{length, take, drop, length-map, length-take, length-append}
-use lib.Seq.{sets, sets-eq, length-sets, take-append-seam, drop-append-seam}
+use lib.ListN.{length, take, drop, length-map}
+use lib.Seq.{sets, sets-eq}
 use Rattle.model.specs.declared.Cell.{Cell}
 use Rattle.model.specs.declared.Refusal.{Refusal}
 use Rattle.model.specs.declared.Checked.{Checked}
@@ -26,7 +26,6 @@ use Rattle.netlist.proofs.FileChecks.{accepted-room}
 use Rattle.cells.specs.declared.reading.Plan.{Plan}
 use Rattle.cells.specs.Plans.{Plans}
 use Rattle.cells.proofs.Turns.{by-less}
-use Rattle.cells.specs.Moves.{movedFrom}
 
 -- Numbers ------------------------------------------------------------------------------------------------------------------------------
 
@@ -108,42 +107,3 @@ module _ (file : List ℕ) (at room : ℕ) (reply : List ℕ) where
                 (rw (e, l, ← count, ← finish, h, z, moved-wraps at (cellsAt inFile file 0 n)) (q ∙ append-assoc (take at lent) cs (drop (at + length cs) lent)));
             replies = λ lent l. put-in reply enough out r (writtenReply (readCellsCall file at lent .answer)) o (g ∙ rw (e, l, ← count, ← finish, h) refl);
           }
-
--- Placed and then moved ----------------------------------------------------------------------------------------------------------------
-
-module _ (xs cs : List Cell) (i : ℕ) (h : i + length cs ≤ length xs) where
-  abbrev front : List Cell
-  front = take i xs
-
-  abbrev back : List Cell
-  back = drop (i + length cs) xs
-
-  front-length : length front ≡ i
-  front-length = length-take i xs ∙ omega (arith, h)
-
-  there : sets xs i cs ≡ (front ++ cs) ++ back
-  there = sets-eq cs xs i h
-
-  there-right : sets xs i cs ≡ front ++ (cs ++ back)
-  there-right = there ∙ append-assoc front cs back
-
-  drop-sets : take (length cs) (drop i (sets xs i cs)) ≡ cs
-  drop-sets =
-      let d : drop i (front ++ (cs ++ back)) ≡ cs ++ back = rw front-length at (drop-append-seam front (cs ++ back)) in
-      rw (there-right, d) (take-append-seam cs back)
-
-  sets-again : (ds : List Cell) → length ds ≡ length cs → sets (sets xs i cs) i ds ≡ sets xs i ds
-  sets-again ds e =
-      let a : sets (sets xs i cs) i ds ≡ (take i (sets xs i cs) ++ ds) ++ drop (i + length ds) (sets xs i cs) = sets-eq ds (sets xs i cs) i (rw (length-sets xs i cs) (omega (arith, e, h))) in
-      let b : sets xs i ds ≡ (front ++ ds) ++ drop (i + length ds) xs = sets-eq ds xs i (omega (arith, e, h)) in
-      let c : take i (sets xs i cs) ≡ front = rw there-right (rw front-length at (take-append-seam front (cs ++ back))) in
-      let z : length (front ++ cs) ≡ i + length cs = simp length-append (omega (arith, front-length)) in
-      let d : drop (i + length cs) (sets xs i cs) ≡ back = rw there (rw z at (drop-append-seam (front ++ cs) back)) in
-      let g : drop (i + length ds) (sets xs i cs) ≡ drop (i + length ds) xs = rw e d in
-      a ∙ rw (c, g) refl ∙ sym b
-
-pub place-move : (k from end : ℕ) (xs cs : List Cell) → length cs ≡ end - from → from ≤ end → end ≤ length xs
-    → movedFrom k end (sets xs from cs) from ≡ sets xs from (map (moved k) cs)
-place-move k from end xs cs l f h =
-    let fits : from + length cs ≤ length xs = omega (arith, l, f, h) in
-    rw (← l, drop-sets xs cs from fits) (sets-again xs cs from fits (map (moved k) cs) (length-map cs (moved k)))

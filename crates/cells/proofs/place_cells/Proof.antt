@@ -57,8 +57,7 @@ use Rattle.model.proofs.Cell as T
 use Rattle.model.proofs.Cell.Laws as T′
 use Rattle.cells.specs.Moves.{movedFrom}
 use Rattle.cells.proofs.Turns.{by-less, loops}
-use Rattle.cells.proofs.Moving.{placedFrom, place-begin, place-more, place-done, place-fits}
-use Rattle.cells.proofs.Planning.{place-move}
+use Rattle.cells.proofs.Moving.{placedFrom, place-begin, place-more, place-done, place-fits, place-move}
 use Rattle.cells.proofs.reading.file_cell as one
 use Rattle.cells.proofs.reading.file_cell.Symbol as one-def
 use Rattle.cells.proofs.reading.file_cell.Symbol.{name as #cells·reading·file-cell}

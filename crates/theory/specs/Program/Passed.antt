@@ -17,7 +17,7 @@ use Rattle.model.specs.Calls.{checkCall}
 use Rattle.theory.specs.Refusals.Laws.{not-refused, pick-true, or-false, all-accept, accept-take, refuse-unless, fault-unless, first-place}
 use Rattle.theory.specs.Program.Trees.{nodes-step, treeAt}
 use Rattle.theory.specs.Program.Preorder.{allNodes, sortsOf, Known, KnownT, AllKnown}
-use Rattle.theory.specs.Program.Grows.{first-stmt, two-stmts}
+use Rattle.theory.specs.Program.Grows.{sorted}
 use Rattle.theory.specs.Program.Whole.{Whole, whole}
 
 -- What each refusal leaves -------------------------------------------------------------------------------------------------------------
@@ -110,8 +110,8 @@ module _ (s : List ℕ) (R : Readable s) where
   pub program-tree : treesAt s 0 ≡ stmt (programOf s) ∷ []
   unfolding treesAt stmtAt asStmt
   program-tree =
-      first-stmt (λ (l : List Tree). l ≡ stmt (asStmt (getD l 0 none)) ∷ []) (treesAt s 0) [] (whole-from 0 (2 ∷ []) (omega arith) (R .read) .sorts)
-      (λ P us q. ap (λ (l : List Tree). stmt P ∷ l) (no-trees us q))
+      sorted (2 ∷ []) (λ (l : List Tree) (ws : List ℕ). ws ≡ [] → l ≡ stmt (asStmt (getD l 0 none)) ∷ [])
+      (λ P us q. ap (λ (l : List Tree). stmt P ∷ l) (no-trees us q)) (treesAt s 0) [] (whole-from 0 (2 ∷ []) (omega arith) (R .read) .sorts) refl
 
   pub program-nodes : preorder (programOf s) ≡ nodesAt s 0
   program-nodes = sym (append-nil (preorder (programOf s))) ∙ sym (ap allNodes program-tree) ∙ nodes-at 0 (omega arith)
@@ -129,6 +129,6 @@ module _ (s : List ℕ) (R : Readable s) where
       let n = reading-next s i (r .0) h (r .1) in
       let w = whole-from (i + 1) _ (omega arith) (n .1) in
       rw (ap (λ (ts : List Tree). getD ts 0 none) ej)
-      (two-stmts
-      (λ (l : List Tree). (getD l 0 none ≡ stmt (asStmt (getD l 0 none))) × (getD (drop 1 l) 0 none ≡ stmt (asStmt (getD (drop 1 l) 0 none))))
-      (treesAt s (i + 1)) (n .0) (w .sorts ∙ ap (λ (k : ℕ). children k ++ n .0) k) (λ P Q us q. (refl, refl)))
+      (sorted (2 ∷ 2 ∷ [])
+      (λ (l : List Tree) (ws : List ℕ). (getD l 0 none ≡ stmt (asStmt (getD l 0 none))) × (getD (drop 1 l) 0 none ≡ stmt (asStmt (getD (drop 1 l) 0 none))))
+      (λ P Q us. (refl, refl)) (treesAt s (i + 1)) (n .0) (w .sorts ∙ ap (λ (k : ℕ). children k ++ n .0) k))

@@ -78,7 +78,7 @@ module _ (m : Memory) (d : ℕ) (e : Expr) (P : Stmt) (pos : 1 ≤ d) (timed : T
       while-test : isZero (eval e (m (a + d))) ≡ isZero (eval e σ)
       while-test = ap isZero (eval-same e (m (a + d)) σ (λ x r. while-words x (reading x r)))
 
-      -- the pickition is false: the loop ends
+      -- the condition is false: the loop ends
       while-leaves : isZero (eval e σ) ≡ true → a + d ≡ b → Leaves m P U d (either s f₁) σ s₁ f₁ f clk dat a b
       while-leaves z q =
           let off : Quiet s₁ (suc a) (suc b) =
@@ -332,7 +332,7 @@ module _ (m : Memory) (d : ℕ) (e : Expr) (P : Stmt) (pos : 1 ≤ d) (timed : T
         repeat-test : isZero (eval e (m (a + t₁ + d))) ≡ isZero (eval e σ₁)
         repeat-test = ap isZero (eval-same e (m (a + t₁ + d)) σ₁ (λ x r. repeat-words x (reading x r)))
 
-        -- the pickition is true: the loop ends
+        -- the condition is true: the loop ends
         repeat-leaves : isZero (eval e σ₁) ≡ false → a + t₁ + d ≡ b → Leaves m P U d f₁ σ₁ s₁ f₁ f clk dat a b
         repeat-leaves z q =
             let off : Quiet s₁ (suc (a + t₁)) (suc b) =

@@ -1,6 +1,6 @@
 -- What an accepted program gives: what each refusal leaves, and that its nodes are those of one statement.
 -- Assumes nothing.
-use mathlib.Core.Path.{_≡_, refl, sym, _∙_, ap, subst}
+use mathlib.Core.Path.{_≡_, refl, sym, _∙_, ap}
 use mathlib.Core.Bool.{false, or-true}
 use mathlib.Core.List.{List, [], _∷_, _++_, append-nil}
 use Prim.Native.Nat.{ℕ, zero, suc, _+_, _-_, _≤_, _<_}
@@ -16,7 +16,7 @@ use Rattle.model.specs.Program.{Tree, stmt, nodeAt, nodeCount, nodesAt, rowOf, 
 use Rattle.model.specs.Calls.{checkCall}
 use Rattle.theory.specs.Refusals.Laws.{not-refused, pick-true, or-false, all-accept, accept-take, refuse-unless, fault-unless, first-place}
 use Rattle.theory.specs.Program.Trees.{nodes-step, treeAt}
-use Rattle.theory.specs.Program.Preorder.{allNodes, sortsOf, Known, KnownT, AllKnown}
+use Rattle.theory.specs.Program.Preorder.{allNodes, sortsOf, KnownT, AllKnown}
 use Rattle.theory.specs.Program.Grows.{sorted}
 use Rattle.theory.specs.Program.Whole.{Whole, whole}
 
@@ -115,10 +115,6 @@ module _ (s : List ℕ) (R : Readable s) where
 
   pub program-nodes : preorder (programOf s) ≡ nodesAt s 0
   program-nodes = sym (append-nil (preorder (programOf s))) ∙ sym (ap allNodes program-tree) ∙ nodes-at 0 (omega arith)
-
-  pub program-known : Known (programOf s)
-  unfolding treesAt
-  program-known = subst AllKnown program-tree (whole-from 0 (2 ∷ []) (omega arith) (R .read) .known) .0
 
   -- both sides of a parallel node are statements
   pub par-sides : (i : ℕ) → i < nodeCount s → nodeAt s i .kind ≡ 20 → (j : ℕ) → treesAt s j ≡ drop 1 (treesAt s (i + 1))

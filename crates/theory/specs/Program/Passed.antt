@@ -15,8 +15,8 @@ use Rattle.model.specs.Refusals.{refuse, first}
 use Rattle.model.specs.Program.{Tree, stmt, nodeAt, nodeCount, nodesAt, rowOf, none, asStmt, treesAt, stmtAt, programOf, timeIn, least, clashes, programLengthWrong, faultOf, children, reading, slowAt, clashAt, programChecks, checkOf, preorder}
 use Rattle.model.specs.Calls.{checkCall}
 use Rattle.theory.specs.Refusals.Laws.{not-refused, pick-true, or-false, all-accept, accept-take, refuse-unless, fault-unless, first-place}
-use Rattle.theory.specs.Program.Trees.{nodes-step, treeAt}
-use Rattle.theory.specs.Program.Preorder.{allNodes, sortsOf, KnownT, AllKnown}
+use Rattle.theory.specs.Program.Trees.{nodes-step, treeAt, each-at}
+use Rattle.theory.specs.Program.Preorder.{allNodes, sortsOf, KnownT}
 use Rattle.theory.specs.Program.Grows.{sorted}
 use Rattle.theory.specs.Program.Whole.{Whole, whole}
 
@@ -75,10 +75,6 @@ reading-next s i [] h r = not-refused (rw (nodes-step s i (nodeCount s) h) at r)
 reading-next s i (w ∷ ws) h r =
     (ws, pick-true (eqb (rowOf (nodeAt s i .kind) .sort) w) _ _ (rw (nodes-step s i (nodeCount s) h) at r) .1)
 
-first-known : (ts : List Tree) → AllKnown ts → KnownT (getD ts 0 none)
-first-known [] h = tt
-first-known (t ∷ ts) h = h .0
-
 no-trees : (ts : List Tree) → sortsOf ts ≡ [] → ts ≡ []
 no-trees [] h = refl
 no-trees (t ∷ ts) h = absurd (omega (arith, ap length h))
@@ -104,7 +100,7 @@ module _ (s : List ℕ) (R : Readable s) where
   -- its operators are of kinds 4 to 9
   pub known-at : (i : ℕ) → i < nodeCount s → KnownT (treeAt s i)
   unfolding treesAt
-  known-at i h = first-known (treesAt s i) (whole-at i (omega arith) .1 .known)
+  known-at i h = each-at KnownT tt (treesAt s i) 0 (whole-at i (omega arith) .1 .known)
 
   -- the whole program is one statement
   pub program-tree : treesAt s 0 ≡ stmt (programOf s) ∷ []

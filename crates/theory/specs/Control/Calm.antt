@@ -8,6 +8,7 @@ use lib.Bits.{bitOr}
 use Rattle.model.specs.Word.{pick, isZero}
 use Rattle.model.specs.Program.{Expr, Stmt, ok, tick, assign, seq, par, ite, while, repeat, writes}
 use Rattle.model.specs.Circuit.{Sig, delayed, heldBefore}
+use Rattle.theory.specs.Refusals.Laws.{or-false}
 use Rattle.theory.specs.Control.Wiring.{Clk, Dat, Memory, Net, Circuit, Assigned, Joined, either}
 use Rattle.theory.specs.Program.Fit.{Timed}
 use Rattle.model.specs.Rules.{eval}
@@ -98,14 +99,17 @@ calm-zero m P s f clk dat n =
 
 -- What holds at every instant ---------------------------------------------------------------------------------------------------------
 
-or-split : {A : Type 0} (a b c : Bool) → c ≡ (a || b) → c ≡ false → (a ≡ false → b ≡ false → A) → A
-or-split true b c e p k = let z : _≡_ {A = ℕ} 0 1 = cc in absurd (omega arith)
-or-split false b c e p k = k refl (sym e ∙ p)
-
 joined-dull : (clk₁ clk₂ clk : Clk) (dat₁ dat₂ dat : Dat) → Joined clk₁ clk₂ clk dat₁ dat₂ dat → Dull clk₁ dat₁ → Dull clk₂ dat₂
     → Dull clk dat
 joined-dull clk₁ clk₂ clk dat₁ dat₂ dat j p q x t e =
-    or-split (clk₁ x t) (clk₂ x t) (clk x t) (j .clocks x t) e (λ k₁ k₂. j .words x t ∙ ap₂ bitOr (p x t k₁) (q x t k₂))
+    let k = or-false (clk₁ x t) (clk₂ x t) (sym (j .clocks x t) ∙ e) in
+    j .words x t ∙ ap₂ bitOr (p x t (k .0)) (q x t (k .1))
+
+joined-low : (P Q : Stmt) {clk₁ clk₂ clk : Clk} {dat₁ dat₂ dat : Dat} → Joined clk₁ clk₂ clk dat₁ dat₂ dat → (x t : ℕ)
+    → (writes P x ≡ false → clk₁ x t ≡ false) → (writes Q x ≡ false → clk₂ x t ≡ false) → (writes P x || writes Q x) ≡ false → clk x t ≡ false
+joined-low P Q j x t p q w =
+    let k = or-false (writes P x) (writes Q x) w in
+    j .clocks x t ∙ ap₂ _||_ (p (k .0)) (q (k .1))
 
 assigned-dull : (m : Memory) (d y : ℕ) (e : Expr) (s f : Sig) (clk : Clk) (dat : Dat) → Assigned m d y e s f clk dat → Dull clk dat
 assigned-dull m d y e s f clk dat n x t z = go (eqb x y) (delayed d s t) (n .clocks x t) (n .words x t)
@@ -143,23 +147,14 @@ module _ (m : Memory) (C : ℕ → Sig → Type 0) (H : Sig → Sig → Type 0) 
   net-unwritten (tick d) s f clk dat n x w t = n .0 .clocks x t
   net-unwritten (assign d y e) s f clk dat n x w t = n .0 .clocks x t ∙ ap (λ (b : Bool). pick b (delayed d s t) false) w
   net-unwritten (seq P Q) s f clk dat n x w t =
-      or-split (writes P x) (writes Q x) (writes P x || writes Q x) refl w
-      (λ p q.
-      n .joined .clocks x t
-      ∙ ap₂ _||_ (net-unwritten P s (n .mid) (n .clk₁) (n .dat₁) (n .left) x p t)
-      (net-unwritten Q (n .mid) f (n .clk₂) (n .dat₂) (n .right) x q t))
+      joined-low P Q (n .joined) x t (λ p. net-unwritten P s (n .mid) (n .clk₁) (n .dat₁) (n .left) x p t)
+      (λ q. net-unwritten Q (n .mid) f (n .clk₂) (n .dat₂) (n .right) x q t) w
   net-unwritten (par P Q) s f clk dat n x w t =
-      or-split (writes P x) (writes Q x) (writes P x || writes Q x) refl w
-      (λ p q.
-      n .joined .clocks x t
-      ∙ ap₂ _||_ (net-unwritten P s (n .f₁) (n .clk₁) (n .dat₁) (n .left) x p t)
-      (net-unwritten Q s (n .f₂) (n .clk₂) (n .dat₂) (n .right) x q t))
+      joined-low P Q (n .joined) x t (λ p. net-unwritten P s (n .f₁) (n .clk₁) (n .dat₁) (n .left) x p t)
+      (λ q. net-unwritten Q s (n .f₂) (n .clk₂) (n .dat₂) (n .right) x q t) w
   net-unwritten (ite d e P Q) s f clk dat n x w t =
-      or-split (writes P x) (writes Q x) (writes P x || writes Q x) refl w
-      (λ p q.
-      n .joined .clocks x t
-      ∙ ap₂ _||_ (net-unwritten P (n .s₁) (n .f₁) (n .clk₁) (n .dat₁) (n .left) x p t)
-      (net-unwritten Q (n .s₂) (n .f₂) (n .clk₂) (n .dat₂) (n .right) x q t))
+      joined-low P Q (n .joined) x t (λ p. net-unwritten P (n .s₁) (n .f₁) (n .clk₁) (n .dat₁) (n .left) x p t)
+      (λ q. net-unwritten Q (n .s₂) (n .f₂) (n .clk₂) (n .dat₂) (n .right) x q t) w
   net-unwritten (while d e P) s f clk dat n x w t = net-unwritten P (n .s₁) (n .f₁) clk dat (n .body) x w t
   net-unwritten (repeat d e P) s f clk dat n x w t = net-unwritten P (n .s₁) (n .f₁) clk dat (n .body) x w t
 

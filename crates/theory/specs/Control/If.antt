@@ -7,10 +7,10 @@ use Rattle.model.specs.Word.{isZero}
 use Rattle.model.specs.Program.{Expr, Stmt, ite, reads, touches}
 use Rattle.model.specs.Rules.{Store, eval, run}
 use Rattle.model.specs.Circuit.{Sig, delayed}
-use Rattle.theory.specs.Refusals.Laws.{by-bool}
+use Rattle.theory.specs.Refusals.Laws.{by-bool, by-le}
 use Rattle.theory.specs.Control.Wiring.{Clk, Dat, Memory, Net, Ite}
 use Rattle.theory.specs.Program.Fit.{Timed}
-use Rattle.theory.specs.Control.Signal.{Quiet, Clear, cases, glue-at, keep, joined-swap, delayed-at, delayed-quiet, delayed-after, clear-after}
+use Rattle.theory.specs.Control.Signal.{Quiet, Clear, glue-at, keep, joined-swap, delayed-at, delayed-quiet, delayed-after, clear-after}
 use Rattle.theory.specs.Rules.Laws.{wait-ended, wait-still, ite-then, ite-else}
 use Rattle.theory.specs.Control.Calm.{Calm, Rests, rest}
 use Rattle.theory.specs.Rules.Uses.{eval-same}
@@ -125,7 +125,7 @@ module _ (m : Memory) (d : ℕ) (e : Expr) (P Q : Stmt) (timedP : Timed P) (time
   ite-does =
       record {
         goes-on = λ p.
-            cases d u
+            by-le d u
             (λ o.
             by-bool (isZero (eval e σ)) (λ z. else-branch o z .goes-on (wait-still d u (λ k. run k Q σ) (sym (ite-else u d e P Q σ z) ∙ p) o))
             (λ z. then-branch o z .goes-on (wait-still d u (λ k. run k P σ) (sym (ite-then u d e P Q σ z) ∙ p) o)))

@@ -9,8 +9,8 @@ use Rattle.model.specs.Circuit.{Sig, delayed}
 use Rattle.theory.specs.Control.Wiring.{Clk, Dat, Memory, Net, While, Repeat, either}
 use Rattle.theory.specs.Program.Fit.{Timed}
 use Rattle.model.specs.Rules.{Store, eval, Run, ended, still, chain, whiles, repeats, run}
-use Rattle.theory.specs.Control.Signal.{Quiet, Clear, Follow, cases, glue, glue-at, keep, delayed-at, delayed-off, delayed-after}
-use Rattle.theory.specs.Refusals.Laws.{by-bool}
+use Rattle.theory.specs.Control.Signal.{Quiet, Clear, Follow, glue, glue-at, keep, delayed-at, delayed-off, delayed-after}
+use Rattle.theory.specs.Refusals.Laws.{by-bool, by-le}
 use Rattle.theory.specs.Rules.Laws.{by-run, ended-time, ended-words, ended-still, wait-ended, wait-still, chain-ended, chain-still, steady, whiles-stop, whiles-more, again, repeats-is, again-more, again-stop}
 use Rattle.theory.specs.Control.Calm.{Calm, Rests, rest}
 use Rattle.theory.specs.Rules.Uses.{eval-same}
@@ -72,13 +72,13 @@ module _ (m : Memory) (d : ℕ) (e : Expr) (P : Stmt) (pos : 1 ≤ d) (timed : T
       while-words : (x : ℕ) → U x → m (a + d) x ≡ σ x
       while-words x i =
           keep m U clk dat a (a + d) (omega arith) (λ x i t l k. T .follow x i t l (omega arith)) x i
-          (λ t l k. cases (suc a) t (λ g. while-rest .clocks x t g (omega arith)) (λ g. at (clk x) (omega arith) (T .low x)))
+          (λ t l k. by-le (suc a) t (λ g. while-rest .clocks x t g (omega arith)) (λ g. at (clk x) (omega arith) (T .low x)))
           ∙ T .words x i
 
       while-test : isZero (eval e (m (a + d))) ≡ isZero (eval e σ)
       while-test = ap isZero (eval-same e (m (a + d)) σ (λ x r. while-words x (reading x r)))
 
-      -- the pickition is false: the loop ends
+      -- the condition is false: the loop ends
       while-leaves : isZero (eval e σ) ≡ true → a + d ≡ b → Leaves m P U d (either s f₁) σ s₁ f₁ f clk dat a b
       while-leaves z q =
           let off : Quiet s₁ (suc a) (suc b) =
@@ -104,7 +104,7 @@ module _ (m : Memory) (d : ℕ) (e : Expr) (P : Stmt) (pos : 1 ≤ d) (timed : T
         -- as long as the body has not ended, nothing more enters the delay
         while-feed : (c : ℕ) → c ≤ suc b → Quiet f₁ (a + d) c → Quiet (either s f₁) (suc a) c
         while-feed c o₁ q t l k =
-            ap₂ _||_ (T .after t l (omega arith)) (cases (a + d) t (λ g. q t g k) (λ g. while-rest .fin t l g))
+            ap₂ _||_ (T .after t l (omega arith)) (by-le (a + d) t (λ g. q t g k) (λ g. while-rest .fin t l g))
 
         while-later : (c : ℕ) → c ≤ suc b → Quiet f₁ (a + d) c → Quiet (delayed d (either s f₁)) (suc (a + d)) (c + d)
         while-later c o₁ q t l k =
@@ -187,11 +187,11 @@ module _ (m : Memory) (d : ℕ) (e : Expr) (P : Stmt) (pos : 1 ≤ d) (timed : T
           goes-on = λ l p.
               by-bool (isZero (eval e σ))
               (λ z.
-              cases d u
+              by-le d u
               (λ o. ended-still (wait-still d u (λ k. ended 0 σ) (sym (whiles-stop (λ k σ. run k P σ) d e n u σ z) ∙ p) o))
               (λ o. while-short σ a b u h T o))
               (λ z.
-              cases d u
+              by-le d u
               (λ o.
               while-turn-goes-on o z l
               (wait-still d u (λ k. chain (run k P σ) (onward k)) (sym (whiles-more (λ k σ. run k P σ) d e n u σ z) ∙ p) o))
@@ -293,7 +293,7 @@ module _ (m : Memory) (d : ℕ) (e : Expr) (P : Stmt) (pos : 1 ≤ d) (timed : T
   module _ (σ : Store) (a b u : ℕ) (h : a + u ≡ b) (T : Starts m P U d σ s s₁ f₁ clk dat a b) where
     repeat-later : (c : ℕ) → Quiet f₁ a c → Quiet (delayed d f₁) (suc a) (c + d)
     repeat-later c q t l k =
-        delayed-off d f₁ t (λ v y. cases a v (λ g. q v g (omega arith)) (λ g. T .before v g (omega arith)))
+        delayed-off d f₁ t (λ v y. by-le a v (λ g. q v g (omega arith)) (λ g. T .before v g (omega arith)))
 
     repeat-body : Launched m P U σ s₁ f₁ clk dat a u
     repeat-body =
@@ -326,13 +326,13 @@ module _ (m : Memory) (d : ℕ) (e : Expr) (P : Stmt) (pos : 1 ≤ d) (timed : T
         repeat-words x i =
             keep m U clk dat (a + t₁) (a + t₁ + d) (omega arith) (λ x i t l k. T .follow x i t (omega arith) (omega arith)) x i
             (λ t l k.
-            cases (suc (a + t₁)) t (λ g. repeat-rest .clocks x t g (omega arith)) (λ g. at (clk x) (omega arith) (E .low x)))
+            by-le (suc (a + t₁)) t (λ g. repeat-rest .clocks x t g (omega arith)) (λ g. at (clk x) (omega arith) (E .low x)))
             ∙ E .words x i
 
         repeat-test : isZero (eval e (m (a + t₁ + d))) ≡ isZero (eval e σ₁)
         repeat-test = ap isZero (eval-same e (m (a + t₁ + d)) σ₁ (λ x r. repeat-words x (reading x r)))
 
-        -- the pickition is true: the loop ends
+        -- the condition is true: the loop ends
         repeat-leaves : isZero (eval e σ₁) ≡ false → a + t₁ + d ≡ b → Leaves m P U d f₁ σ₁ s₁ f₁ f clk dat a b
         repeat-leaves z q =
             let off : Quiet s₁ (suc (a + t₁)) (suc b) =
@@ -382,7 +382,7 @@ module _ (m : Memory) (d : ℕ) (e : Expr) (P : Stmt) (pos : 1 ≤ d) (timed : T
 
       repeat-turn-goes-on : u < suc n → again (λ k σ. run k P σ) d e n (u - t₁) σ₁ ≡ still → Quiet f (suc a) (suc b)
       repeat-turn-goes-on l p =
-          cases (t₁ + d) u
+          by-le (t₁ + d) u
           (λ o₁.
           by-bool (isZero (eval e σ₁))
           (λ z.

@@ -6,7 +6,8 @@ use mathlib.Core.Bool.{Bool, true, false, not, _&&_, _||_, or-true}
 use native.Mathlib.Omega.{arith}
 use Rattle.model.specs.declared.Merge.{Merge}
 use Rattle.model.specs.Circuit.{Sig, mergeStep, heldBefore, merged}
-use Rattle.theory.specs.Control.Signal.{Quiet, cases}
+use Rattle.theory.specs.Refusals.Laws.{by-le}
+use Rattle.theory.specs.Control.Signal.{Quiet}
 
 abbrev pub bits : Bool → Bool → Merge
 bits p q = record { a = p; b = q }
@@ -117,7 +118,7 @@ pub meets : (f g : Sig) (a c b : ℕ) → a ≤ c → c ≤ b → Empty f g a �
 unfolding mergeStep
 meets f g a c b o₁ o₂ e x₁ x x₂ y₁ y =
     let i : Empty f g c = holds-to f g false false a c o₁ refl e x₁ (λ t l h. y₁ t l (omega arith)) in
-    cases b c
+    by-le b c
     (λ k.
     let q : c ≡ b = omega arith in
     meets-with f g b false false (subst (λ (n : ℕ). Empty f g n) q i) (rw (subst (λ (n : ℕ). f n ≡ true) q x) refl) (rw y refl))

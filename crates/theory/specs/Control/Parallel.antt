@@ -7,10 +7,10 @@ use Rattle.model.specs.Word.{pick}
 use Rattle.model.specs.Program.{Stmt, par, writes, touches}
 use Rattle.model.specs.Rules.{Store, over, kept, ended, run}
 use Rattle.model.specs.Circuit.{Sig}
-use Rattle.theory.specs.Refusals.Laws.{by-bool}
+use Rattle.theory.specs.Refusals.Laws.{by-bool, by-le}
 use Rattle.theory.specs.Control.Wiring.{Clk, Dat, Memory, Net, Par}
 use Rattle.theory.specs.Program.Fit.{Timed, Apart}
-use Rattle.theory.specs.Control.Signal.{Quiet, cases, joined-swap}
+use Rattle.theory.specs.Control.Signal.{Quiet, joined-swap}
 use Rattle.theory.specs.Control.Merges.{Empty, Meets, meets, meets-swap, empty-swap, merged-left, merged-right}
 use Rattle.theory.specs.Rules.Laws.{both-ended, both-still}
 use Rattle.theory.specs.Control.Calm.{Calm}
@@ -64,7 +64,7 @@ module _ (m : Memory) (P Q : Stmt) (timedP : Timed P) (timedQ : Timed Q) (apartP
 
       par-meets : Quiet f a b × Meets (n .f₁) (n .f₂) b
       par-meets =
-          cases t₁ t₂
+          by-le t₁ t₂
           (λ k.
           let q : a + t₂ ≡ b = omega arith in
           let g : Quiet (n .f₂) a b = λ t l r. E₂ .quiet t l (omega arith) in (

@@ -10,8 +10,8 @@ use Rattle.model.specs.Circuit.{Sig, delayed}
 use Rattle.theory.specs.Control.Wiring.{Clk, Dat, Memory, Net, Assigned, Seq, latch}
 use Rattle.theory.specs.Program.Fit.{Timed}
 use Rattle.model.specs.Rules.{Store, eval, put, ended, still, run}
-use Rattle.theory.specs.Control.Signal.{Quiet, Follow, cases, glue, keep, joined-swap, follow-left, creep, delayed-at, delayed-quiet, delayed-after, clear-after}
-use Rattle.theory.specs.Refusals.Laws.{by-bool}
+use Rattle.theory.specs.Control.Signal.{Quiet, Follow, glue, keep, joined-swap, follow-left, creep, delayed-at, delayed-quiet, delayed-after, clear-after}
+use Rattle.theory.specs.Refusals.Laws.{by-bool, by-le}
 use Rattle.theory.specs.Rules.Laws.{by-run, ended-time, ended-words, ended-still, wait-ended, wait-still, chain-ended, chain-still, steady, still-before, still-below}
 use Rattle.theory.specs.Control.Calm.{Calm, calm-dull, rest}
 use Rattle.theory.specs.Rules.Uses.{eval-same}
@@ -110,7 +110,7 @@ run-tick m d U σ s f clk dat a b u h B =
     let q : Quiet f a (a + d) = λ t l k. B .calm .0 .fin t ∙ delayed-quiet d s a a (B .calm .1) (λ t l k. absurd (omega arith)) t l k in
     record {
       goes-on = λ p.
-          cases d u (λ k. ended-still (wait-still d u (λ k₁. ended 0 σ) p k)) (λ k t l r. q t l (omega arith));
+          by-le d u (λ k. ended-still (wait-still d u (λ k₁. ended 0 σ) p k)) (λ k t l r. q t l (omega arith));
       ends = λ σ′ p.
           let w = wait-ended d u (λ k₁. ended 0 σ) p in
           let z : 0 ≡ w .0 = ended-time (w .2) in
@@ -177,7 +177,7 @@ run-assign m d y e U σ s f clk dat a b u h B =
     let q₃ : Quiet D (suc a + d) (suc b + d) = delayed-after d s (suc a) (suc b) (B .after) in
     record {
       goes-on = λ p.
-          cases (suc d) u (λ k. ended-still (wait-still (suc d) u (λ k₁. ended 0 (put σ y (eval e σ))) p k))
+          by-le (suc d) u (λ k. ended-still (wait-still (suc d) u (λ k₁. ended 0 (put σ y (eval e σ))) p k))
           (λ k t l r₁. r t l (omega arith));
       ends = λ σ′ p.
           let w = wait-ended (suc d) u (λ k₁. ended 0 (put σ y (eval e σ))) p in
@@ -232,7 +232,7 @@ module _ (m : Memory) (P Q : Stmt) (timedP : Timed P) (timedQ : Timed Q) (doesP 
           follow-left m U U (n .clk₂) (n .clk₁) clk (n .dat₂) (n .dat₁) dat (a + t₁) (a + t₁ + v)
               (joined-swap (n .clk₁) (n .clk₂) clk (n .dat₁) (n .dat₂) dat (n .joined))
               (calm-dull m P s (n .mid) (n .clk₁) (n .dat₁) a (n .left)) (λ x i. i)
-              (λ x i t l k. cases (suc (a + t₁)) t (λ g. r .clocks x t g (omega arith)) (λ g. at (n .clk₁ x) (omega arith) (E .low x)))
+              (λ x i t l k. by-le (suc (a + t₁)) t (λ g. r .clocks x t g (omega arith)) (λ g. at (n .clk₁ x) (omega arith) (E .low x)))
               (λ x i t l k. B .follow x i t (omega arith) (omega arith)),
         ))
 
@@ -252,7 +252,7 @@ module _ (m : Memory) (P Q : Stmt) (timedP : Timed P) (timedQ : Timed Q) (doesP 
         rest m P timedP s (n .mid) (n .clk₁) (n .dat₁) (suc (a + t₁)) (suc b) (E .calm) (omega arith)
         (λ t l k. B .after t (omega arith) k) in
         let low₁ : (x : ℕ) → n .clk₁ x b ≡ false =
-        λ x. cases (suc (a + t₁)) b (λ g. r .clocks x b g (omega arith)) (λ g. at (n .clk₁ x) (omega arith) (E .low x)) in
+        λ x. by-le (suc (a + t₁)) b (λ g. r .clocks x b g (omega arith)) (λ g. at (n .clk₁ x) (omega arith) (E .low x)) in
         record {
           quiet = glue f a (a + t₁) b seq-quiet (E₂ .quiet);
           high = E₂ .high;

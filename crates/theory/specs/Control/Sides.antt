@@ -8,9 +8,10 @@ use native.Mathlib.Omega.{arith}
 use Rattle.model.specs.Program.{Stmt, writes, touches}
 use Rattle.model.specs.Rules.{Store, ended, still, run}
 use Rattle.model.specs.Circuit.{Sig}
+use Rattle.theory.specs.Refusals.Laws.{by-le}
 use Rattle.theory.specs.Control.Wiring.{Clk, Dat, Memory, Joined, _≈_, either}
 use Rattle.theory.specs.Program.Fit.{Timed, Apart}
-use Rattle.theory.specs.Control.Signal.{Quiet, Follow, cases, glue, keep, follow-left}
+use Rattle.theory.specs.Control.Signal.{Quiet, Follow, glue, keep, follow-left}
 use Rattle.theory.specs.Control.Calm.{Calm, calm-dull, calm-unwritten, Rests, rest}
 use Rattle.theory.specs.Rules.Uses.{apart-unwritten}
 use Rattle.theory.specs.Control.Runs.{Ended, RunOf, Launched, launch, at}
@@ -117,7 +118,7 @@ module _ (m : Memory) (R O : Stmt) (timedR : Timed R) (doesR : RunOf m R) (apart
     side-rests = rest m R timedR s fR clkR datR (suc (a + t₁)) (suc b) (E .calm) (omega arith) (λ t l k. after t (omega arith) k)
 
     side-low : (x t : ℕ) → a + t₁ ≤ t → t ≤ b → clkR x t ≡ false
-    side-low x t l k = cases (suc (a + t₁)) t (λ g. side-rests .clocks x t g (omega arith)) (λ g. at (clkR x) (omega arith) (E .low x))
+    side-low x t l k = by-le (suc (a + t₁)) t (λ g. side-rests .clocks x t g (omega arith)) (λ g. at (clkR x) (omega arith) (E .low x))
 
     side-words : (x : ℕ) → Own U O x → m b x ≡ σ₁ x
     side-words x i =

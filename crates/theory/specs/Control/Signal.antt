@@ -5,9 +5,10 @@ use mathlib.Core.Bool.{Bool, true, false, _||_, or-false, or-comm as ||-comm}
 use native.Mathlib.Omega.{arith}
 use lib.Dec.{leb}
 use lib.Bits.{bitOr, or-comm, or-zero-r}
-use borrow.Author.Tests.{leb-true, leb-false, le-leb}
+use borrow.Author.Tests.{leb-true, le-leb}
 use Rattle.model.specs.Word.{pick}
 use Rattle.model.specs.Circuit.{Sig, delayed}
+use Rattle.theory.specs.Refusals.Laws.{by-le}
 use Rattle.theory.specs.Control.Wiring.{Clk, Dat, Memory, latch, Joined}
 
 -- Intervals ---------------------------------------------------------------------------------------------------------------------
@@ -20,20 +21,13 @@ Quiet s a b = (t : ℕ) → a ≤ t → t < b → s t ≡ false
 abbrev pub Clear : ℕ → Sig → ℕ → Type 0
 Clear d s a = (t : ℕ) → t < a → a ≤ t + d → s t ≡ false
 
-pub cases : {A : Type 0} (m n : ℕ) → (m ≤ n → A) → (n < m → A) → A
-cases {A} m n yes-case no-case = go (leb m n) refl
-  where
-    go : (b : Bool) → leb m n ≡ b → A
-    go true e = yes-case (leb-true m n e)
-    go false e = no-case (leb-false m n e)
-
 -- two intervals that meet
 pub glue : (s : Sig) (a b c : ℕ) → Quiet s a b → Quiet s b c → Quiet s a c
-glue s a b c p q t l h = cases b t (λ k. q t k h) (λ k. p t l k)
+glue s a b c p q t l h = by-le b t (λ k. q t k h) (λ k. p t l k)
 
 pub glue-at : (s : Sig) (a b c : ℕ) → Quiet s a b → s b ≡ false → Quiet s (suc b) c → Quiet s a c
 glue-at s a b c p e q t l h =
-    cases (suc b) t (λ k. q t k h) (λ k. cases b t (λ j. subst (λ (n : ℕ). s n ≡ false) (omega arith) e) (λ j. p t l j))
+    by-le (suc b) t (λ k. q t k h) (λ k. by-le b t (λ j. subst (λ (n : ℕ). s n ≡ false) (omega arith) e) (λ j. p t l j))
 
 -- Delays ------------------------------------------------------------------------------------------------------------------------
 
@@ -101,17 +95,17 @@ creep-n : (g : Sig) (a k : ℕ) → ((v : ℕ) → v < k → Quiet g a (a + v) �
 creep-n g a k h zero o t l r = absurd (omega arith)
 creep-n g a k h (suc n) o t l r =
     let i : Quiet g a (a + n) = creep-n g a k h n (omega arith) in
-    cases (a + n) t (λ j. subst (λ (u : ℕ). g u ≡ false) (omega arith) (h n o i)) (λ j. i t l j)
+    by-le (a + n) t (λ j. subst (λ (u : ℕ). g u ≡ false) (omega arith) (h n o i)) (λ j. i t l j)
 
 pub creep : (g : Sig) (a b : ℕ) → ((v : ℕ) → a + v < b → Quiet g a (a + v) → g (a + v) ≡ false) → Quiet g a b
 creep g a b h t l r = creep-n g a (b - a) (λ v k. h v (omega arith)) (b - a) (omega arith) t l (omega arith)
 
 pub delayed-quiet : (d : ℕ) (s : Sig) (a b : ℕ) → Clear d s a → Quiet s a b → Quiet (delayed d s) a (b + d)
 delayed-quiet d s a b p q t l h =
-    delayed-off d s t (λ u e. cases a u (λ k. q u k (omega arith)) (λ k. p u k (omega arith)))
+    delayed-off d s t (λ u e. by-le a u (λ k. q u k (omega arith)) (λ k. p u k (omega arith)))
 
 pub clear-later : (d : ℕ) (s : Sig) (a b : ℕ) → a ≤ b → Clear d s a → Quiet s a b → Clear d s b
-clear-later d s a b o p q t l h = cases a t (λ k. q t k l) (λ k. p t k (omega arith))
+clear-later d s a b o p q t l h = by-le a t (λ k. q t k l) (λ k. p t k (omega arith))
 
 pub either-quiet : (s g : Sig) (a b : ℕ) → Quiet s a b → Quiet g a b → Quiet (λ t. s t || g t) a b
 either-quiet s g a b p q t l h = rw (p t l h) (q t l h)

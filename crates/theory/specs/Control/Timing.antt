@@ -9,10 +9,11 @@ use native.Mathlib.Omega.{arith}
 use borrow.Author.Tests.{eq-eqb, ne-eqb}
 use Rattle.model.specs.Program.{Stmt, ok, tick, assign, seq, par, ite, while, repeat}
 use Rattle.model.specs.Circuit.{Sig}
+use Rattle.theory.specs.Refusals.Laws.{by-le}
 use Rattle.theory.specs.Control.Wiring.{Clk, Dat, Memory, Circuit, Mem}
 use Rattle.theory.specs.Program.Fit.{Timed, Separate}
 use Rattle.model.specs.Rules.{Store, ended, run, endsAt}
-use Rattle.theory.specs.Control.Signal.{cases, keep}
+use Rattle.theory.specs.Control.Signal.{keep}
 use Rattle.theory.specs.Rules.Laws.{by-run, steady}
 use Rattle.theory.specs.Control.Calm.{calm-zero, Rests, rest}
 use Rattle.theory.specs.Control.Runs.{Begins, Does, RunOf, at, run-ok, run-tick, run-assign, run-seq}
@@ -63,7 +64,7 @@ module _ (m : Memory) (P : Stmt) (timed : Timed P) (separate : Separate P) (U : 
       (λ t σ′ p.
       let i = steady P timed σ u t σ′ p in
       let e : run t P σ ≡ ended t σ′ = i .1 t (omega arith) in
-      cases u t
+      by-le u t
       (λ k.
       let q : t ≡ u = omega (arith, i .0) in
       let q′ : a + t ≡ a + u = omega (arith, q) in
@@ -79,7 +80,7 @@ module _ (m : Memory) (P : Stmt) (timed : Timed P) (separate : Separate P) (U : 
       let E = up-to t (omega arith) .ends σ′ p in
       let r = rests-after t σ′ p u o l in
       keep m U clk dat (a + t) (a + u) (omega arith) (λ y j v h k. B .follow y j v (omega arith) (omega arith)) x i
-      (λ v h k. cases (suc (a + t)) v (λ g. r .clocks x v g (omega arith)) (λ g. at (clk x) (omega arith) (E .low x)))
+      (λ v h k. by-le (suc (a + t)) v (λ g. r .clocks x v g (omega arith)) (λ g. at (clk x) (omega arith) (E .low x)))
       ∙ E .words x i
 
 -- With one start pulse, at instant 0, and all variables

@@ -3,23 +3,23 @@
 -- Assumes nothing.
 use mathlib.Core.Path.{_≡_, refl, _∙_, ap}
 use mathlib.Core.Bool.{Bool, true, false, _&&_, _||_}
-use mathlib.Core.List.{List, [], _∷_}
-use Prim.Native.Nat.{ℕ, zero, suc, _+_, _-_, _≤_, _<_}
+use mathlib.Core.List.{List}
+use Prim.Native.Nat.{ℕ, zero, suc, _-_, _≤_, _<_}
 use native.Mathlib.Omega.{arith}
 use native.Mathlib.Decide.{ℕ-discrete}
-use lib.ListN.{getD, drop}
 use lib.Dec.{ltb, eqb}
 use borrow.Author.Tests.{ltb-true, eqb-true, eqb-false}
 use Rattle.model.specs.declared.Node.{Node}
 use Rattle.model.specs.declared.Checked.the-variants.{Accepted}
 use Rattle.model.specs.declared.Loaded.{Loaded}
 use Rattle.model.specs.Word.{pick}
-use Rattle.model.specs.Program.{Expr, Stmt, ok, tick, assign, seq, par, ite, while, repeat, Tree, expr, stmt, none, asExpr, asStmt, exprOf, stmtOf, treeOf, arity, grow, forest, treesAt, stmtAt, nodeCount, nodeAt, nodesFrom, rowOf, programOf, timeIn, least, writes, touches, clash, clashes, faultOf}
+use Rattle.model.specs.Program.{Expr, Stmt, ok, tick, assign, seq, par, ite, while, repeat, Tree, expr, stmt, asExpr, asStmt, exprOf, stmtOf, treeOf, stmtAt, nodeAt, rowOf, programOf, timeIn, least, writes, touches, clash, clashes, faultOf}
 use Rattle.model.specs.Calls.{checkCall}
 use Rattle.theory.specs.Program.Fit.{FormedExpr, Formed, Timed, Apart, Separate, Fit}
+use Rattle.theory.specs.Program.Trees.{root-has}
 use Rattle.theory.specs.Program.Grows.{known-kind, low-variable}
 use Rattle.theory.specs.Program.Passed.{Passed, accepted}
-use Rattle.theory.specs.Rules.Uses.{or-left, or-right}
+use Rattle.theory.specs.Refusals.Laws.{or-false}
 
 -- Nodes without fault ------------------------------------------------------------------------------------------------------------------
 
@@ -75,12 +75,11 @@ no-clash : (n : ℕ) (P Q : Stmt) → clash n P Q ≡ false → (x : ℕ) → x 
     → ((writes P x && touches Q x) ≡ false) × ((writes Q x && touches P x) ≡ false)
 unfolding clash
 no-clash zero P Q e x l = absurd (omega arith)
-no-clash (suc n) P Q e x l = go (ℕ-discrete x n) (no-clash n P Q (or-right ((writes P n && touches Q n) || (writes Q n && touches P n)) (clash n P Q) e) x)
+no-clash (suc n) P Q e x l = go (ℕ-discrete x n) (no-clash n P Q (or-false ((writes P n && touches Q n) || (writes Q n && touches P n)) (clash n P Q) e .1) x)
   where
     go : Dec (x ≡ n) → (x < n → ((writes P x && touches Q x) ≡ false) × ((writes Q x && touches P x) ≡ false)) → ((writes P x && touches Q x) ≡ false) × ((writes Q x && touches P x) ≡ false)
     go (yes q) r =
-        let h = or-left ((writes P n && touches Q n) || (writes Q n && touches P n)) (clash n P Q) e in
-        rw q (or-left (writes P n && touches Q n) (writes Q n && touches P n) h, or-right (writes P n && touches Q n) (writes Q n && touches P n) h)
+        rw q (or-false (writes P n && touches Q n) (writes Q n && touches P n) (or-false ((writes P n && touches Q n) || (writes Q n && touches P n)) (clash n P Q) e .0))
     go (no q) r = r (omega arith)
 
 and-not : (a b : Bool) → (a && b) ≡ false → a ≡ true → b ≡ false
@@ -153,45 +152,12 @@ module _ (τ : ℕ → ℕ) (a : Node) (f : faultOf a ≡ 0) where
       (λ l h c. fit-expr (asExpr x) (asExpr y) (ltb-true _ _ l) (fit-e x p) (fit-e y q))
       (λ l h c. fit-stmt (asExpr x) (asStmt x) (asStmt y) (asStmt z) (fit-e x p) (fit-s x p) (fit-s y q) (fit-s z r) h c)
 
-abbrev AllFit : List Tree → Type 0
-AllFit [] = Unit {0}
-AllFit (t ∷ ts) = FitT t × AllFit ts
-
-fit-at : (ts : List Tree) (k : ℕ) → AllFit ts → FitT (getD ts k none)
-fit-at [] zero h = tt
-fit-at [] (suc k) h = tt
-fit-at (t ∷ ts) zero h = h .0
-fit-at (t ∷ ts) (suc k) h = fit-at ts k (h .1)
-
-fit-drop : (ts : List Tree) (k : ℕ) → AllFit ts → AllFit (drop k ts)
-fit-drop [] zero h = tt
-fit-drop [] (suc k) h = tt
-fit-drop (t ∷ ts) zero h = h
-fit-drop (t ∷ ts) (suc k) h = fit-drop ts k (h .1)
-
--- the trees from node i on are those of the nodes that are left
-pub trees-from : (s : List ℕ) (i n : ℕ) → i + n ≡ nodeCount s → treesAt s i ≡ forest (nodesFrom s i n)
-unfolding treesAt
-trees-from s i n e = ap (λ (m : ℕ). forest (nodesFrom s i m)) (omega arith)
-
-module _ (τ : ℕ → ℕ) (s : List ℕ) (p : Passed τ s) where
-  fit-forest : (i n : ℕ) → i + n ≡ nodeCount s → AllFit (forest (nodesFrom s i n))
-  unfolding nodesFrom forest grow stmtAt
-  fit-forest i zero e = tt
-  fit-forest i (suc n) e =
-      let F = forest (nodesFrom s (i + 1) n) in
-      let h = fit-forest (i + 1) n (omega arith) in
-      let l : i < nodeCount s = omega arith in
-      let t = trees-from s i (suc n) e in (
-        fit-tree τ (nodeAt s i) (p .readable .faultless i l) _ _ _ (fit-at F 0 h) (fit-at F 1 h) (fit-at F 2 h) (rw t at (p .slowless i l)) (rw t at (p .clashless i l)),
-        fit-drop F (arity (nodeAt s i .kind)) h,
-      )
-
-  pub tree-fit : Fit (programOf s)
-  unfolding stmtAt
-  tree-fit =
-      let t = trees-from s 0 (nodeCount s) (omega arith) in
-      rw t (fit-s _ (fit-at (forest (nodesFrom s 0 (nodeCount s))) 0 (fit-forest 0 (nodeCount s) (omega arith))))
+pub tree-fit : (τ : ℕ → ℕ) (s : List ℕ) → Passed τ s → Fit (programOf s)
+unfolding stmtAt
+tree-fit τ s p =
+    fit-s _
+    (root-has FitT tt s
+    (λ i l x y z t u v w. fit-tree τ (nodeAt s i) (p .readable .faultless i l) x y z u v w (rw t at (p .slowless i l)) (rw t at (p .clashless i l))))
 
 pub program-fit : (table : Loaded) (s : List ℕ) → checkCall table s ≡ Accepted → Fit (programOf s)
 program-fit table s e = tree-fit (timeIn (table .times)) s (accepted table s e)

@@ -1,6 +1,6 @@
 -- What an accepted program gives: what each refusal leaves, and that its nodes are those of one statement.
 -- Assumes nothing.
-use mathlib.Core.Path.{_≡_, refl, sym, _∙_, ap, subst}
+use mathlib.Core.Path.{_≡_, refl, sym, _∙_, ap}
 use mathlib.Core.Bool.{false, or-true}
 use mathlib.Core.List.{List, [], _∷_, _++_, append-nil}
 use Prim.Native.Nat.{ℕ, zero, suc, _+_, _-_, _≤_, _<_}
@@ -15,9 +15,9 @@ use Rattle.model.specs.Refusals.{refuse, first}
 use Rattle.model.specs.Program.{Tree, stmt, nodeAt, nodeCount, nodesAt, rowOf, none, asStmt, treesAt, stmtAt, programOf, timeIn, least, clashes, programLengthWrong, faultOf, children, reading, slowAt, clashAt, programChecks, checkOf, preorder}
 use Rattle.model.specs.Calls.{checkCall}
 use Rattle.theory.specs.Refusals.Laws.{not-refused, pick-true, or-false, all-accept, accept-take, refuse-unless, fault-unless, first-place}
-use Rattle.theory.specs.Program.Trees.{nodes-step, treeAt}
-use Rattle.theory.specs.Program.Preorder.{allNodes, sortsOf, Known, KnownT, AllKnown}
-use Rattle.theory.specs.Program.Grows.{first-stmt, two-stmts}
+use Rattle.theory.specs.Program.Trees.{nodes-step, treeAt, each-at}
+use Rattle.theory.specs.Program.Preorder.{allNodes, sortsOf, KnownT}
+use Rattle.theory.specs.Program.Grows.{sorted}
 use Rattle.theory.specs.Program.Whole.{Whole, whole}
 
 -- What each refusal leaves -------------------------------------------------------------------------------------------------------------
@@ -75,10 +75,6 @@ reading-next s i [] h r = not-refused (rw (nodes-step s i (nodeCount s) h) at r)
 reading-next s i (w ∷ ws) h r =
     (ws, pick-true (eqb (rowOf (nodeAt s i .kind) .sort) w) _ _ (rw (nodes-step s i (nodeCount s) h) at r) .1)
 
-first-known : (ts : List Tree) → AllKnown ts → KnownT (getD ts 0 none)
-first-known [] h = tt
-first-known (t ∷ ts) h = h .0
-
 no-trees : (ts : List Tree) → sortsOf ts ≡ [] → ts ≡ []
 no-trees [] h = refl
 no-trees (t ∷ ts) h = absurd (omega (arith, ap length h))
@@ -104,21 +100,17 @@ module _ (s : List ℕ) (R : Readable s) where
   -- its operators are of kinds 4 to 9
   pub known-at : (i : ℕ) → i < nodeCount s → KnownT (treeAt s i)
   unfolding treesAt
-  known-at i h = first-known (treesAt s i) (whole-at i (omega arith) .1 .known)
+  known-at i h = each-at KnownT tt (treesAt s i) 0 (whole-at i (omega arith) .1 .known)
 
   -- the whole program is one statement
   pub program-tree : treesAt s 0 ≡ stmt (programOf s) ∷ []
   unfolding treesAt stmtAt asStmt
   program-tree =
-      first-stmt (λ (l : List Tree). l ≡ stmt (asStmt (getD l 0 none)) ∷ []) (treesAt s 0) [] (whole-from 0 (2 ∷ []) (omega arith) (R .read) .sorts)
-      (λ P us q. ap (λ (l : List Tree). stmt P ∷ l) (no-trees us q))
+      sorted (2 ∷ []) (λ (l : List Tree) (ws : List ℕ). ws ≡ [] → l ≡ stmt (asStmt (getD l 0 none)) ∷ [])
+      (λ P us q. ap (λ (l : List Tree). stmt P ∷ l) (no-trees us q)) (treesAt s 0) [] (whole-from 0 (2 ∷ []) (omega arith) (R .read) .sorts) refl
 
   pub program-nodes : preorder (programOf s) ≡ nodesAt s 0
   program-nodes = sym (append-nil (preorder (programOf s))) ∙ sym (ap allNodes program-tree) ∙ nodes-at 0 (omega arith)
-
-  pub program-known : Known (programOf s)
-  unfolding treesAt
-  program-known = subst AllKnown program-tree (whole-from 0 (2 ∷ []) (omega arith) (R .read) .known) .0
 
   -- both sides of a parallel node are statements
   pub par-sides : (i : ℕ) → i < nodeCount s → nodeAt s i .kind ≡ 20 → (j : ℕ) → treesAt s j ≡ drop 1 (treesAt s (i + 1))
@@ -129,6 +121,6 @@ module _ (s : List ℕ) (R : Readable s) where
       let n = reading-next s i (r .0) h (r .1) in
       let w = whole-from (i + 1) _ (omega arith) (n .1) in
       rw (ap (λ (ts : List Tree). getD ts 0 none) ej)
-      (two-stmts
-      (λ (l : List Tree). (getD l 0 none ≡ stmt (asStmt (getD l 0 none))) × (getD (drop 1 l) 0 none ≡ stmt (asStmt (getD (drop 1 l) 0 none))))
-      (treesAt s (i + 1)) (n .0) (w .sorts ∙ ap (λ (k : ℕ). children k ++ n .0) k) (λ P Q us q. (refl, refl)))
+      (sorted (2 ∷ 2 ∷ [])
+      (λ (l : List Tree) (ws : List ℕ). (getD l 0 none ≡ stmt (asStmt (getD l 0 none))) × (getD (drop 1 l) 0 none ≡ stmt (asStmt (getD (drop 1 l) 0 none))))
+      (λ P Q us. (refl, refl)) (treesAt s (i + 1)) (n .0) (w .sorts ∙ ap (λ (k : ℕ). children k ++ n .0) k))

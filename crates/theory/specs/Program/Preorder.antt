@@ -4,6 +4,7 @@ use mathlib.Core.List.{List, [], _∷_, _++_}
 use Prim.Native.Nat.{ℕ, _≤_}
 use Rattle.model.specs.declared.Node.{Node}
 use Rattle.model.specs.Program.{Expr, const, var, compl, op, Stmt, ok, tick, assign, seq, par, ite, while, repeat, Tree, expr, stmt, preorderE, preorder}
+use Rattle.theory.specs.Program.Trees.{Each}
 
 abbrev pub nodesOf : Tree → List Node
 nodesOf (expr e) = preorderE e
@@ -44,5 +45,4 @@ KnownT (expr e) = KnownE e
 KnownT (stmt P) = Known P
 
 abbrev pub AllKnown : List Tree → Type 0
-AllKnown [] = Unit {0}
-AllKnown (t ∷ ts) = KnownT t × AllKnown ts
+AllKnown ts = Each KnownT ts

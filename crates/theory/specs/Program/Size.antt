@@ -1,20 +1,20 @@
 -- Size: an accepted program is one statement with as many nodes as the program has, and its delays are bytes.
 -- Assumes nothing.
 use mathlib.Core.Path.{_≡_, refl, sym, _∙_, ap}
-use mathlib.Core.List.{List, [], _∷_}
-use Prim.Native.Nat.{ℕ, zero, suc, _+_, _-_, _*_, _≤_}
+use mathlib.Core.List.{List}
+use Prim.Native.Nat.{ℕ, _+_, _-_, _*_, _≤_}
 use native.Mathlib.Omega.{arith}
 use lib.Dec.{ltb, eqb}
-use lib.ListN.{length, getD, drop, length-append}
+use lib.ListN.{length, length-append}
 use Rattle.model.specs.declared.Node.{Node}
 use Rattle.model.specs.declared.Checked.the-variants.{Accepted}
 use Rattle.model.specs.declared.Loaded.{Loaded}
-use Rattle.model.specs.Program.{Expr, const, var, compl, op, Stmt, ok, tick, assign, seq, par, ite, while, repeat, Tree, none, asExpr, asStmt, stmtOf, treeOf, arity, grow, forest, stmtAt, nodeCount, nodeAt, nodesFrom, programOf, preorderE, preorder}
+use Rattle.model.specs.Program.{Expr, const, var, compl, op, Stmt, ok, tick, assign, seq, par, ite, while, repeat, Tree, asExpr, asStmt, stmtOf, treeOf, stmtAt, nodeCount, nodeAt, programOf, preorderE, preorder}
 use Rattle.model.specs.Calls.{checkCall}
 use Rattle.model.specs.Promises.{Bytes}
 use Rattle.theory.specs.Program.Fit.{Timed, Low}
-use Rattle.theory.specs.Program.Accepted.{program-fit, trees-from}
-use Rattle.theory.specs.Program.Trees.{length-nodes, by-pick}
+use Rattle.theory.specs.Program.Accepted.{program-fit}
+use Rattle.theory.specs.Program.Trees.{length-nodes, by-pick, root-has}
 use Rattle.theory.specs.Program.Passed.{accepted, program-nodes}
 use Rattle.theory.specs.Numbering.Count.{eNodes, nodes}
 
@@ -72,32 +72,6 @@ short-tree : (a : Node) (x y z : Tree) → a .delay ≤ 255 → Short (asStmt x)
 unfolding treeOf asStmt Short
 short-tree a x y z h p q r = by-pick (λ (t : Tree). Short (asStmt t)) (ltb (a .kind) 16) _ _ tt (short-stmt a (asExpr x) (asStmt x) (asStmt y) (asStmt z) h p q r)
 
-abbrev AllShort : List Tree → Type 0
-AllShort [] = Unit {0}
-AllShort (t ∷ ts) = Short (asStmt t) × AllShort ts
-
-short-at : (ts : List Tree) (k : ℕ) → AllShort ts → Short (asStmt (getD ts k none))
-unfolding asStmt Short
-short-at [] zero h = tt
-short-at [] (suc k) h = tt
-short-at (t ∷ ts) zero h = h .0
-short-at (t ∷ ts) (suc k) h = short-at ts k (h .1)
-
-short-drop : (ts : List Tree) (k : ℕ) → AllShort ts → AllShort (drop k ts)
-short-drop [] zero h = tt
-short-drop [] (suc k) h = tt
-short-drop (t ∷ ts) zero h = h
-short-drop (t ∷ ts) (suc k) h = short-drop ts k (h .1)
-
-short-forest : (s : List ℕ) → Bytes s → (i n : ℕ) → AllShort (forest (nodesFrom s i n))
-unfolding nodesFrom forest grow nodeAt
-short-forest s b i zero = tt
-short-forest s b i (suc n) =
-    let F = forest (nodesFrom s (i + 1) n) in
-    let h = short-forest s b (i + 1) n in
-    let d : nodeAt s i .delay ≤ 255 = let z = b (4 * i + 1) in omega arith in
-    (short-tree (nodeAt s i) _ _ _ d (short-at F 0 h) (short-at F 1 h) (short-at F 2 h), short-drop F (arity (nodeAt s i .kind)) h)
-
 low-of : (P : Stmt) → Timed P → Short P → Low P
 unfolding Timed Short
 low-of ok t h = tt
@@ -110,8 +84,8 @@ low-of (while d e P) t h = (t .0, h .0, low-of P (t .1) (h .1))
 low-of (repeat d e P) t h = (t .0, h .0, low-of P (t .1) (h .1))
 
 pub program-low : (table : Loaded) (s : List ℕ) → Bytes s → checkCall table s ≡ Accepted → Low (programOf s)
-unfolding stmtAt
+unfolding stmtAt asStmt Short nodeAt
 program-low table s bytes e =
-    let short : Short (programOf s) =
-    rw (trees-from s 0 (nodeCount s) (omega arith)) (short-at (forest (nodesFrom s 0 (nodeCount s))) 0 (short-forest s bytes 0 (nodeCount s))) in
+    let short = root-has (λ (t : Tree). Short (asStmt t)) tt s
+    (λ i l x y z t. short-tree (nodeAt s i) x y z (let z = bytes (4 * i + 1) in omega arith)) in
     low-of (programOf s) (program-fit table s e .timed) short

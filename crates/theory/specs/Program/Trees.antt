@@ -1,6 +1,6 @@
 -- The nodes from a node on, and the tree of a node by its kind.
 -- Assumes nothing: laws of model/Program, for any bytes.
-use mathlib.Core.Path.{_≡_, refl, _∙_, ap}
+use mathlib.Core.Path.{_≡_, refl, sym, _∙_, ap, subst}
 use mathlib.Core.Bool.{Bool, true, false}
 use mathlib.Core.List.{List, [], _∷_, _++_}
 use Prim.Native.Nat.{ℕ, zero, suc, _+_, _-_, _≤_, _<_}
@@ -12,7 +12,7 @@ use lib.Dec.{T, ltb, eqb, ltb→lt}
 use borrow.Author.Tests.{lt-ltb, le-ltb, ne-eqb}
 use Rattle.model.specs.declared.Node.{Node}
 use Rattle.model.specs.Word.{pick}
-use Rattle.model.specs.Program.{const, var, compl, op, ok, tick, assign, seq, par, ite, while, repeat, Tree, node, nodeAt, nodeCount, nodesFrom, none, asExpr, asStmt, exprOf, stmtOf, treeOf, grow, forest, treesAt, exprAt, stmtAt}
+use Rattle.model.specs.Program.{const, var, compl, op, ok, tick, assign, seq, par, ite, while, repeat, Tree, node, nodeAt, nodeCount, nodesFrom, none, asExpr, asStmt, exprOf, stmtOf, treeOf, arity, grow, forest, treesAt, exprAt, stmtAt}
 
 -- Nodes --------------------------------------------------------------------------------------------------------------------------------
 
@@ -69,6 +69,24 @@ treeAt s i = getD (treesAt s i) 0 none
 pub by-pick : {A : Type 0} (R : A → Type 0) (b : Bool) (u v : A) → R u → R v → R (pick b u v)
 by-pick R true u v p q = p
 by-pick R false u v p q = q
+
+-- R holds of each of some trees
+abbrev pub Each : (Tree → Type 0) → List Tree → Type 0
+Each R [] = Unit {0}
+Each R (t ∷ ts) = R t × Each R ts
+
+module _ (R : Tree → Type 0) (missing : R none) where
+  pub each-at : (ts : List Tree) (k : ℕ) → Each R ts → R (getD ts k none)
+  each-at [] zero h = missing
+  each-at [] (suc k) h = missing
+  each-at (t ∷ ts) zero h = h .0
+  each-at (t ∷ ts) (suc k) h = each-at ts k (h .1)
+
+  each-drop : (ts : List Tree) (k : ℕ) → Each R ts → Each R (drop k ts)
+  each-drop [] zero h = tt
+  each-drop [] (suc k) h = tt
+  each-drop (t ∷ ts) zero h = h
+  each-drop (t ∷ ts) (suc k) h = each-drop ts k (h .1)
 
 -- a kind that is at least m is none below m
 pub other-kind : (k m q : ℕ) → m ≤ k → T (ltb q m) → eqb k q ≡ false
@@ -164,3 +182,21 @@ module _ (s : List ℕ) (i : ℕ) (h : i < nodeCount s) (a : Node) (ea : a ≡ n
       pub at-ite : a .kind ≡ 21 → stmtAt s i ≡ ite (a .delay) (exprAt s (i + 1)) (stmtAt s j) (stmtAt s k)
       unfolding stmtAt asStmt treeOf stmtOf exprAt
       at-ite e = ap asStmt (tree-of 21 e) ∙ rw (second-is, third-is) refl
+
+-- what the tree of each node has, if its children have it, the root has
+module _ (R : Tree → Type 0) (missing : R none) (s : List ℕ)
+    (step : (i : ℕ) → i < nodeCount s → (x y z : Tree) → treeAt s i ≡ treeOf (nodeAt s i) x y z → R x → R y → R z → R (treeOf (nodeAt s i) x y z)) where
+  each-from : (i n : ℕ) → i + n ≡ nodeCount s → Each R (treesAt s i)
+  unfolding grow
+  each-from i zero e = subst (Each R) (sym (trees-none s i (omega arith))) tt
+  each-from i (suc n) e =
+      let ts = treesAt s (i + 1) in
+      let h = each-from (i + 1) n (omega arith) in
+      let l : i < nodeCount s = omega arith in
+      subst (Each R) (sym (trees-step s i l (nodeAt s i) refl)) (
+        step i l _ _ _ (tree-is s i l (nodeAt s i) refl) (each-at R missing ts 0 h) (each-at R missing ts 1 h) (each-at R missing ts 2 h),
+        each-drop R missing ts (arity (nodeAt s i .kind)) h,
+      )
+
+  pub root-has : R (treeAt s 0)
+  root-has = each-at R missing (treesAt s 0) 0 (each-from 0 (nodeCount s) (omega arith))

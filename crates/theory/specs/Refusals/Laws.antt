@@ -7,9 +7,9 @@ use mathlib.Core.List.{List, [], _∷_, _++_}
 use Prim.Native.Nat.{ℕ, zero, suc, _+_, _≤_, _<_}
 use native.Mathlib.Omega.{arith}
 use native.Mathlib.Decide.{ℕ-discrete}
-use lib.Dec.{eqb}
+use lib.Dec.{eqb, leb}
 use lib.ListN.{getD, take, drop}
-use borrow.Author.Tests.{eqb-true, eq-eqb}
+use borrow.Author.Tests.{eqb-true, eq-eqb, leb-true, leb-false}
 use Rattle.model.specs.declared.Refusal.{Refusal}
 use Rattle.model.specs.declared.Checked.{Checked}
 use Rattle.model.specs.declared.Checked.the-variants.{Accepted, Refused}
@@ -23,6 +23,9 @@ use Rattle.model.specs.Promises.{FirstFound, FirstPlace}
 pub by-bool : {A : Type 0} (b : Bool) → (b ≡ true → A) → (b ≡ false → A) → A
 by-bool true p q = p refl
 by-bool false p q = q refl
+
+pub by-le : {A : Type 0} (m n : ℕ) → (m ≤ n → A) → (n < m → A) → A
+by-le m n p q = by-bool (leb m n) (λ e. p (leb-true m n e)) (λ e. q (leb-false m n e))
 
 pub not-both : {A : Type 0} {b : Bool} → b ≡ true → b ≡ false → A
 not-both p q = let z : _≡_ {A = ℕ} 0 1 = cc in absurd (omega arith)

@@ -3,12 +3,11 @@ use Prim.Native.Nat.{ℕ, zero, suc, _+_, _-_, _≤_, _<_, max}
 use mathlib.Core.Path.{_≡_, refl, sym, _∙_, ap, ap₂, subst}
 use mathlib.Core.Bool.{Bool, true, false}
 use native.Mathlib.Omega.{arith}
-use lib.Dec.{leb}
-use borrow.Author.Tests.{leb-true, leb-false, le-leb, lt-leb}
+use borrow.Author.Tests.{le-leb, lt-leb}
 use Rattle.model.specs.Word.{isZero}
 use Rattle.model.specs.Program.{Expr, Stmt, ok, tick, assign, seq, par, ite, while, repeat}
 use Rattle.model.specs.Rules.{Store, Run, ended, still, after, wait, chain, both, kept, whiles, repeats, run, eval, put}
-use Rattle.theory.specs.Refusals.Laws.{by-bool}
+use Rattle.theory.specs.Refusals.Laws.{by-bool, by-le}
 use Rattle.theory.specs.Program.Fit.{Timed}
 
 pub ended-time : {t t′ : ℕ} {σ σ′ : Store} → ended t σ ≡ ended t′ σ′ → t ≡ t′
@@ -43,13 +42,6 @@ wait-short d k c h = ap (λ (b : Bool). elim b as (λ z. Run) [ true ↦ after d
 pub by-run : {A : Type 0} (r : Run) → ((t : ℕ) (σ : Store) → r ≡ ended t σ → A) → (r ≡ still → A) → A
 by-run (ended t σ) p q = p t σ refl
 by-run still p q = q refl
-
-by-le : {A : Type 0} (m n : ℕ) → (m ≤ n → A) → (n < m → A) → A
-by-le {A} m n p q = go (leb m n) refl
-  where
-    go : (b : Bool) → leb m n ≡ b → A
-    go true e = p (leb-true m n e)
-    go false e = q (leb-false m n e)
 
 pub wait-ended : (d k : ℕ) (c : ℕ → Run) {t : ℕ} {σ : Store} → wait d k c ≡ ended t σ
     → (t₁ : ℕ) × (d ≤ k) × (c (k - d) ≡ ended t₁ σ) × (t ≡ d + t₁)
@@ -109,22 +101,12 @@ Body = ℕ → Store → Run
 pub whiles-stop : (body : Body) (d : ℕ) (e : Expr) (n k : ℕ) (σ : Store) → isZero (eval e σ) ≡ true
     → whiles body d e (suc n) k σ ≡ wait d k (λ k₁. ended 0 σ)
 unfolding whiles
-whiles-stop body d e n k σ z =
-    ap
-    (λ (b : Bool).
-    wait d k
-    (λ k₁. elim b as (λ q. Run) [ true ↦ ended 0 σ | false ↦ chain (body k₁ σ) (λ t σ₁. whiles body d e n (k₁ - t) σ₁) ]))
-    z
+whiles-stop body d e n k σ z = rw z refl
 
 pub whiles-more : (body : Body) (d : ℕ) (e : Expr) (n k : ℕ) (σ : Store) → isZero (eval e σ) ≡ false
     → whiles body d e (suc n) k σ ≡ wait d k (λ k₁. chain (body k₁ σ) (λ t σ₁. whiles body d e n (k₁ - t) σ₁))
 unfolding whiles
-whiles-more body d e n k σ z =
-    ap
-    (λ (b : Bool).
-    wait d k
-    (λ k₁. elim b as (λ q. Run) [ true ↦ ended 0 σ | false ↦ chain (body k₁ σ) (λ t σ₁. whiles body d e n (k₁ - t) σ₁) ]))
-    z
+whiles-more body d e n k σ z = rw z refl
 
 -- what a repeat does after its body
 unfoldable pub again : Body → ℕ → Expr → ℕ → ℕ → Store → Run
@@ -138,24 +120,22 @@ repeats-is body d e n k σ = refl
 pub again-more : (body : Body) (d : ℕ) (e : Expr) (n k : ℕ) (σ : Store) → isZero (eval e σ) ≡ true
     → again body d e n k σ ≡ wait d k (λ k₁. repeats body d e n k₁ σ)
 unfolding again
-again-more body d e n k σ z =
-    ap (λ (b : Bool). wait d k (λ k₁. elim b as (λ q. Run) [ true ↦ repeats body d e n k₁ σ | false ↦ ended 0 σ ])) z
+again-more body d e n k σ z = rw z refl
 
 pub again-stop : (body : Body) (d : ℕ) (e : Expr) (n k : ℕ) (σ : Store) → isZero (eval e σ) ≡ false
     → again body d e n k σ ≡ wait d k (λ k₁. ended 0 σ)
 unfolding again
-again-stop body d e n k σ z =
-    ap (λ (b : Bool). wait d k (λ k₁. elim b as (λ q. Run) [ true ↦ repeats body d e n k₁ σ | false ↦ ended 0 σ ])) z
+again-stop body d e n k σ z = rw z refl
 
 pub ite-else : (k d : ℕ) (e : Expr) (P Q : Stmt) (σ : Store) → isZero (eval e σ) ≡ true
     → run k (ite d e P Q) σ ≡ wait d k (λ k₁. run k₁ Q σ)
 unfolding run
-ite-else k d e P Q σ z = ap (λ (b : Bool). wait d k (λ k₁. elim b as (λ q. Run) [ true ↦ run k₁ Q σ | false ↦ run k₁ P σ ])) z
+ite-else k d e P Q σ z = rw z refl
 
 pub ite-then : (k d : ℕ) (e : Expr) (P Q : Stmt) (σ : Store) → isZero (eval e σ) ≡ false
     → run k (ite d e P Q) σ ≡ wait d k (λ k₁. run k₁ P σ)
 unfolding run
-ite-then k d e P Q σ z = ap (λ (b : Bool). wait d k (λ k₁. elim b as (λ q. Run) [ true ↦ run k₁ Q σ | false ↦ run k₁ P σ ])) z
+ite-then k d e P Q σ z = rw z refl
 
 -- A larger budget changes no end --------------------------------------------------------------------------------------------------
 

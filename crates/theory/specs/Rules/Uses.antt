@@ -7,7 +7,7 @@ use Rattle.model.specs.Word.{pick, operate, isZero}
 use Rattle.model.specs.Program.{Expr, const, var, compl, op, Stmt, ok, tick, assign, seq, par, ite, while, repeat, reads, writes, touches}
 use Rattle.model.specs.Rules.{Store, Run, ended, chain, over, kept, whiles, repeats, run, eval, put}
 use Rattle.theory.specs.Program.Fit.{Apart}
-use Rattle.theory.specs.Refusals.Laws.{by-bool}
+use Rattle.theory.specs.Refusals.Laws.{by-bool, or-false}
 use Rattle.theory.specs.Rules.Laws.{Body, ended-words, ended-still, wait-ended, chain-ended, both-ended, whiles-stop, whiles-more, again, repeats-is, again-more, again-stop, ite-then, ite-else}
 
 -- An expression's value depends on what it reads
@@ -19,15 +19,6 @@ eval-same (compl e) σ τ h = ap (λ (v : ℕ). operate 3 v 0) (eval-same e σ �
 eval-same (op k a b) σ τ h =
     ap₂ (operate k) (eval-same a σ τ (λ x r. h x (ap (λ (z : Bool). z || reads b x) r)))
     (eval-same b σ τ (λ x r. h x (ap (λ (z : Bool). reads a x || z) r ∙ or-true (reads a x))))
-
--- the left and the right side of a false `or`
-pub or-left : (a b : Bool) → (a || b) ≡ false → a ≡ false
-or-left true b p = p
-or-left false b p = refl
-
-pub or-right : (a b : Bool) → (a || b) ≡ false → b ≡ false
-or-right true b p = cc
-or-right false b p = p
 
 -- c leaves x alone, from σ
 abbrev Leaves : ℕ → (ℕ → Store → Run) → Type 0
@@ -82,14 +73,14 @@ leaves (assign d y e) x w = λ k t σ σ′ p.
     at-word x (wait-ended (suc d) k (λ k₁. ended 0 (put σ y (eval e σ))) p .2) ∙ ap (λ (b : Bool). pick b (eval e σ) (σ x)) w
 leaves (seq P Q) x w = λ k t σ σ′ p.
     let v = chain-ended (run k P σ) (λ t σ₁. run (k - t) Q σ₁) p in
-    leaves Q x (or-right (writes P x) (writes Q x) w) (k - v .0) (v .2) (v .1) σ′ (v .4)
-    ∙ leaves P x (or-left (writes P x) (writes Q x) w) k (v .0) σ (v .1) (v .3)
+    leaves Q x (or-false (writes P x) (writes Q x) w .1) (k - v .0) (v .2) (v .1) σ′ (v .4)
+    ∙ leaves P x (or-false (writes P x) (writes Q x) w .0) k (v .0) σ (v .1) (v .3)
 leaves (par P Q) x w = λ k t σ σ′ p.
     let v = both-ended (kept P Q σ) (run k P σ) (run k Q σ) p in
     ap (λ (τ : Store). τ x) (v .7)
-    ∙ kept-leaves P Q σ (v .1) (v .3) x (or-left (writes P x) (writes Q x) w) (or-right (writes P x) (writes Q x) w)
+    ∙ kept-leaves P Q σ (v .1) (v .3) x (or-false (writes P x) (writes Q x) w .0) (or-false (writes P x) (writes Q x) w .1)
 leaves (ite d e P Q) x w =
-    ite-leaves x d e P Q (leaves P x (or-left (writes P x) (writes Q x) w)) (leaves Q x (or-right (writes P x) (writes Q x) w))
+    ite-leaves x d e P Q (leaves P x (or-false (writes P x) (writes Q x) w .0)) (leaves Q x (or-false (writes P x) (writes Q x) w .1))
 leaves (while d e P) x w = λ k. whiles-leaves x (λ k σ. run k P σ) d e (leaves P x w) (suc k) k
 leaves (repeat d e P) x w = λ k. repeats-leaves x (λ k σ. run k P σ) d e (leaves P x w) (suc k) k
 

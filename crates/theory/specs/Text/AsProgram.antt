@@ -1,7 +1,7 @@
 -- A text that passes 17 and 18 is compiled and run as its program is; what an accepted text gives.
 -- Assumes nothing.
 use mathlib.Core.Path.{_≡_, sym, ap, ap₂, _∙_}
-use mathlib.Core.List.{List, [], _∷_, _++_}
+use mathlib.Core.List.{List, _∷_, _++_}
 use Prim.Native.Nat.{ℕ}
 use lib.ListN.{length, take, drop}
 use lib.Seq.{take-append-seam}
@@ -11,10 +11,10 @@ use Rattle.model.specs.declared.Checked.the-variants.{Accepted}
 use Rattle.model.specs.declared.Written.{Written}
 use Rattle.model.specs.declared.Written.the-variants.{Done}
 use Rattle.model.specs.Refusals.{first}
-use Rattle.model.specs.Program.{programOf, checkOf}
+use Rattle.model.specs.Program.{programOf}
 use Rattle.model.specs.Numbering.{finish}
-use Rattle.model.specs.Calls.{Told, ToldBoth, short, writing, compiledFile, netlistChecks, compileCall, running, fullState, fullCount, fullRunChecks, runProgramCall}
-use Rattle.model.specs.TextCalls.{textProgram, textChecks, readTextChecks, readTextCall, compileTextChecks, compileTextCall, runTextChecks, runTextCall}
+use Rattle.model.specs.Calls.{Told, writing, compiledFile, netlistChecks, compileCall, running, fullState, fullCount, fullRunChecks, runProgramCall}
+use Rattle.model.specs.TextCalls.{textProgram, textChecks, readTextChecks, readTextCall, compileTextCall, runTextCall}
 use Rattle.theory.specs.Refusals.Laws.{first-append, first-behind, first-drop, accept-take}
 use Rattle.theory.specs.NetlistFile.ReadWrite.{Wrote, wrote}
 

@@ -1,14 +1,14 @@
 -- The nodes of a list of node bytes are those nodes again, and the program that a reading's bytes are is the reading.
 -- Assumes nothing.
-use mathlib.Core.Path.{_≡_, refl, sym, _∙_, ap, ap₂}
-use mathlib.Core.List.{List, [], _∷_, _++_}
-use Prim.Native.Nat.{ℕ, zero, suc, _+_, _-_, _*_, _/_, _%_, _<_}
+use mathlib.Core.Path.{_≡_, refl, _∙_, ap, ap₂}
+use mathlib.Core.List.{List, [], _∷_}
+use Prim.Native.Nat.{ℕ, zero, suc, _+_, _-_, _*_, _/_, _%_}
 use native.Mathlib.Omega.{arith}
-use lib.ListN.{length, getD, drop}
+use lib.ListN.{length, getD}
 use Rattle.model.specs.declared.Node.{Node}
 use Rattle.model.specs.Word.{get16, bytes16}
 use Rattle.model.specs.declared.Token.{Token}
-use Rattle.model.specs.Program.{Stmt, Tree, node, nodeAt, nodeCount, nodesFrom, nodesAt, nodeBytes, preorder, none, asStmt, forest, treesAt, stmtAt, programOf}
+use Rattle.model.specs.Program.{Stmt, Tree, node, nodeAt, nodesFrom, nodesAt, nodeBytes, preorder, none, asStmt, forest, treesAt, stmtAt, programOf}
 use Rattle.model.specs.Text.{Means}
 use Rattle.theory.specs.Text.OneReading.{reading-tree}
 

@@ -15,7 +15,7 @@ use Rattle.model.specs.TimeTables.{load}
 use Rattle.model.specs.TextCalls.{readingOf, brokenAt, bytesRead, textChecks, readTextCall}
 use Rattle.model.specs.TextPromises.{placeAt, Texts}
 use Rattle.theory.specs.Refusals.Laws.{not-refused, all-accept}
-use Rattle.theory.specs.Text.Runs.{steps, reads-good}
+use Rattle.theory.specs.Text.Runs.{reads-good}
 use Rattle.theory.specs.Text.Found.{reader-finds, broken-place}
 use Rattle.theory.specs.Text.OneReading.{one-reading}
 use Rattle.theory.specs.Text.Sound.{begins, sound, words-proper, take-proper}

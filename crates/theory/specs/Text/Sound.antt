@@ -18,7 +18,7 @@ use Rattle.model.specs.Text.{numeral, sign, cThen, cDo, cEnd, IsExpr, IsStmt, M
 use Rattle.model.specs.Reader.{Frame, Reader, readerAtFirst, pop, step, isBroken, complete}
 use Rattle.theory.specs.Refusals.Laws.{by-bool, not-both}
 use Rattle.theory.specs.Program.Trees.{by-pick}
-use Rattle.theory.specs.Text.Runs.{Complete, pop-frames, steps}
+use Rattle.theory.specs.Text.Runs.{pop-frames, steps}
 use Rattle.theory.specs.Text.Open.{Sort, expression, statement, expr, stmt, Open, whole, low-enough, After, after, shorter, begins-open}
 use Rattle.theory.specs.Text.Stands.{at, Expects, Filled, all, inside, filled, Timed, of-becomes, of-ifs, of-whiles, of-untils, Stands, StandsAt, Proper, step-stands}
 

@@ -1,7 +1,7 @@
 -- What the walk of an expression asks of its parts, and what it leaves, kind by kind. Assumes nothing.
 use mathlib.Core.Path.{_≡_, refl, sym, _∙_, ap}
 use mathlib.Core.List.{List, [], _∷_}
-use Prim.Native.Nat.{ℕ, _+_}
+use Prim.Native.Nat.{ℕ, _+_, _*_, _<_, _≤_}
 use native.Mathlib.Omega.{arith}
 use lib.ListN.{length}
 use Rattle.model.specs.Program.{Expr, const, var, compl, op}
@@ -55,6 +55,10 @@ module _ {M c : ℕ} {before : List ℕ} where
         })
 
 module _ {M c n : ℕ} where
+  -- there is room for an expression's cells, of which k is one
+  pub last-fits : {E : Expr} {k : ℕ} → ExprReady M E c n → k < c + exprCount E → (k < 619) × (6 * k + 6 ≤ n)
+  last-fits r h = (omega (arith, h, r .room, r .small), omega (arith, h, r .room))
+
   pub compl-ready : {E : Expr} → ExprReady M (compl E) c n → ExprReady M E c n
   unfolding exprCount
   compl-ready r = record { formed = r .formed; memory = r .memory; room = omega (arith, r .room); small = r .small }

@@ -32,7 +32,7 @@ use Rattle.compiler.specs.Walk.{assignments, Ready, Done}
 use Rattle.compiler.specs.Ors.{sourcesFrom, OrsReady, Ored}
 use Rattle.compiler.specs.Whole.{Given, Clocked, Walked, Made}
 use Rattle.compiler.proofs.Writes.{write-append, write-swap, write-length}
-use Rattle.compiler.proofs.Stmts.{place}
+use Rattle.compiler.proofs.Growth.{place}
 use Rattle.compiler.proofs.Sizes.{few}
 use Rattle.compiler.proofs.Marks.{clock-marks, data-marks}
 

@@ -9,7 +9,7 @@ use Rattle.compiler.specs.declared.walk.Word.{Word}
 use Rattle.compiler.specs.declared.walk.Place.{Place}
 use Rattle.compiler.specs.declared.walk.Pulse.{Pulse}
 use Rattle.compiler.specs.Walk.{ExprReady, ExprDone, SwitchReady, Switched, assignments, Owned, Ready, Done}
-use Rattle.compiler.proofs.Stmts.{place, left}
+use Rattle.compiler.proofs.Growth.{place, left}
 
 -- the switches' cells have small numbers
 pub switch-low : {M n c g t : ℕ} {E : Expr} {b a : List ℕ} → SwitchReady M E c n → Switched M E c g b a t → t + 2 ≤ 619

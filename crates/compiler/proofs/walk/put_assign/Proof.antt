@@ -2,7 +2,7 @@
 use mathlib.Core.Path.{refl}
 use native.Mathlib.Omega.{arith}
 use borrow.Author.Needs.{needs}
-use Rattle.model.specs.Numbering.{delayCount, walkCount}
+use Rattle.model.specs.Numbering.{delayCount}
 use Rattle.compiler.specs.Walk.{assignments}
 use Rattle.compiler.proofs.Stmts.{assign-done}
 use Rattle.compiler.proofs.Parts.{delays-fit, assign-expr, assign-cell}

@@ -1,7 +1,6 @@
 -- An if: its own delay, its switches, P, Q, and their merge. Assumes nothing.
 use Prim.Native.Nat.{ℕ}
 use native.Mathlib.Omega.{arith}
-use borrow.Author.Needs.{needs}
 use mathlib.Core.Path.{_∙_}
 use Rattle.model.specs.Numbering.{walkCount}
 use Rattle.compiler.proofs.Stmts.{if-done}

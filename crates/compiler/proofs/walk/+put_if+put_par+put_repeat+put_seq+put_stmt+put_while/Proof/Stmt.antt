@@ -4,7 +4,6 @@ use Prim.Native.Nat.{ℕ, _<_, _≤_}
 use native.Mathlib.Omega.{arith}
 use denote.Ref.{now}
 use borrow.Author.Needs.{needs}
-use Rattle.model.specs.declared.Node.{Node}
 use Rattle.model.specs.Program.{tick, nodeAt, nodeCount, stmtAt}
 use Rattle.model.specs.Numbering.{delayCount}
 use Rattle.theory.specs.Program.Trees.{at-tick}
@@ -90,7 +89,10 @@ module _ (t : ℕ) where
   same-length c = search needs
 
   returns-2 : lts.Need-returns-2 calls (stmt-here t) stmt-reads.Post
-  returns-2 c = rw (tick-of (c .before .before .before .before .before)) (tick-done (c .before .before .before .put .ensures))
+  returns-2 c =
+      let w = c .before .before .before .before .before in
+      let ready = rw (tick-of w) at (w .before .before .before .before .before .pre .1 .1) in
+      rw (tick-of w) (tick-done (ready .apart) (c .before .before .before .put .ensures))
 
   add-first : lts.Need-add-first calls (stmt-here t) stmt-reads.Post
   add-first c = omega (arith, here-of (c .before) .0, c .before .before .before .before .before .pre .1 .0 .short)

@@ -106,9 +106,9 @@ module _ {d c k d′ c′ k′ : ℕ} {before marked after remarked : List ℕ} 
 
 module _ {d c k d′ c′ k′ : ℕ} {before marked after remarked : List ℕ} {D W : List Cell} {K : List ℕ} where
   -- a part
-  pub grow-part : {M w : ℕ} {Q : Stmt} {r : Place} {end ends : List ℕ} → Grown d c k before marked D W K after remarked d′ c′ k′
-      → d′ + delayCount Q ≤ c → Done M Q (place w d′ c′ k′) after end remarked ends r
-      → Grown d c k before marked (D ++ delays Q w d′ c′) (W ++ walk M Q w d′ c′) (K ++ marksOf Q d′ c′) end ends
+  pub grow-part : {M w : ℕ} {Q : Stmt} {r : Place} {end marks : List ℕ} → Grown d c k before marked D W K after remarked d′ c′ k′
+      → d′ + delayCount Q ≤ c → Done M Q (place w d′ c′ k′) after end remarked marks r
+      → Grown d c k before marked (D ++ delays Q w d′ c′) (W ++ walk M Q w d′ c′) (K ++ marksOf Q d′ c′) end marks
       (d′ + delayCount Q) (c′ + walkCount Q) (k′ + 3 * assignments Q)
   unfolding both
   grow-part {M} {w} {Q} g h u =

@@ -39,6 +39,10 @@ pub write-swap : (k j : ℕ) (xs ys : List Cell) (s : List ℕ) → k + length x
 unfolding write
 write-swap k j xs ys s h = sets-swap s (6 * k) (cellBytes xs) (6 * j) (cellBytes ys) (omega (arith, cell-bytes-length xs))
 
+-- a run put in before another
+pub write-before : (k m : ℕ) (xs ys : List Cell) (s : List ℕ) → m ≡ k + length xs → write k xs (write m ys s) ≡ write k (xs ++ ys) s
+write-before k m xs ys s e = write-swap k m xs ys s (omega arith) ∙ write-append k m xs ys s e
+
 -- Delay cells and walk cells -----------------------------------------------------------------------------------------------------------
 
 module _ (d c : ℕ) (xs ys : List Cell) (s : List ℕ) (zs : List Cell) (m : ℕ) where
@@ -54,5 +58,4 @@ module _ (d c : ℕ) (xs ys : List Cell) (s : List ℕ) (zs : List Cell) (m : �
 
   pub both-front : d ≡ m + length zs → d + length xs ≤ c → write m zs (both d xs c ys s) ≡ both m (zs ++ xs) c ys s
   unfolding both
-  both-front e h =
-      write-swap m c zs ys (write d xs s) (omega arith) ∙ ap (write c ys) (write-swap m d zs xs s (omega arith) ∙ write-append m d zs xs s e)
+  both-front e h = write-swap m c zs ys (write d xs s) (omega arith) ∙ ap (write c ys) (write-before m d zs xs s e)

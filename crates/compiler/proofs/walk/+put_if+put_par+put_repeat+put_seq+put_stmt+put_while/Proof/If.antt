@@ -1,5 +1,5 @@
 -- An if: its own delay, its switches, P, Q, and their merge. Assumes nothing.
-use Prim.Native.Nat.{ℕ}
+use Prim.Native.Nat.{ℕ, _+_, _≤_}
 use native.Mathlib.Omega.{arith}
 use mathlib.Core.Path.{_∙_}
 use Rattle.model.specs.Numbering.{walkCount}
@@ -26,6 +26,9 @@ module _ (t : ℕ) where
     put-reads.Learnt,
   )
 
+  low : (w : lts.After-put-switches calls (if-here t) if-reads.Post) → w .put-switches .result + 2 ≤ 619
+  low w = switch-low (if-switches (w .before .before .before .before .before .before .before .before .pre .1 .1)) (w .put-switches .ensures)
+
   put-own-requires : lts.Need-put-own-requires calls (if-here t) if-reads.Post
   unfolding walkCount
   put-own-requires c κs =
@@ -39,16 +42,10 @@ module _ (t : ℕ) where
       rw (own .put-own .kept .0) (pre .1 .0, if-switches (pre .1 .1))
 
   add-t21 : lts.Need-add-t21 calls (if-here t) if-reads.Post
-  add-t21 c =
-      let sw = c .before .before in
-      let pre = sw .before .before .before .before .before .before .before .before .pre in
-      omega (arith, switch-low (if-switches (pre .1 .1)) (sw .put-switches .ensures))
+  add-t21 c = omega (arith, low (c .before .before))
 
   add-t22 : lts.Need-add-t22 calls (if-here t) if-reads.Post
-  add-t22 c =
-      let sw = c .before .before in
-      let pre = sw .before .before .before .before .before .before .before .before .pre in
-      omega (arith, switch-low (if-switches (pre .1 .1)) (sw .put-switches .ensures))
+  add-t22 c = omega (arith, low (c .before .before))
 
   put-stmt-requires : lts.Need-put-stmt-requires calls (if-here t) if-reads.Post
   put-stmt-requires c κs =
@@ -59,10 +56,7 @@ module _ (t : ℕ) where
       (omega (arith, pre .0), (pre .1 .0, if-first (pre .1 .1) (own .put-own .ensures) (sw .put-switches .ensures)))
 
   add-t21-2 : lts.Need-add-t21-2 calls (if-here t) if-reads.Post
-  add-t21-2 c =
-      let sw = c .before .before .before .before .before .before .before in
-      let pre = sw .before .before .before .before .before .before .before .before .pre in
-      omega (arith, switch-low (if-switches (pre .1 .1)) (sw .put-switches .ensures))
+  add-t21-2 c = omega (arith, low (c .before .before .before .before .before .before .before))
 
   put-stmt-requires-2 : lts.Need-put-stmt-requires-2 calls (if-here t) if-reads.Post
   put-stmt-requires-2 c κs =

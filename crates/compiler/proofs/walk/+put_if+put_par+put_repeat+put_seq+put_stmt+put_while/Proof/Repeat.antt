@@ -1,5 +1,5 @@
 -- A repeat: its switches, the merge of start and its 37, P, and the delay that P's finish feeds. Assumes nothing.
-use Prim.Native.Nat.{ℕ}
+use Prim.Native.Nat.{ℕ, _+_, _≤_}
 use native.Mathlib.Omega.{arith}
 use borrow.Author.Needs.{needs}
 use Rattle.model.specs.Numbering.{delayCount}
@@ -16,28 +16,22 @@ module _ (t : ℕ) where
   abbrev calls : lts.Claims
   calls = (switches-reads.Asked, switches-reads.Learnt, put-reads.Asked, put-reads.Learnt, stmt-below t, stmt-reads.Post)
 
+  low : (w : lts.After-put-switches calls (repeat-here t) repeat-reads.Post) → w .put-switches .result + 2 ≤ 619
+  low w = switch-low (repeat-switches (w .before .before .before .before .pre .1 .1)) (w .put-switches .ensures)
+
   put-switches-requires : lts.Need-put-switches-requires calls (repeat-here t) repeat-reads.Post
   put-switches-requires c κs =
       let pre = c .before .before .before .pre in
       (pre .1 .0, repeat-switches (pre .1 .1))
 
   add-start : lts.Need-add-start calls (repeat-here t) repeat-reads.Post
-  add-start c =
-      let sw = c .before .before in
-      let pre = sw .before .before .before .before .pre in
-      omega (arith, switch-low (repeat-switches (pre .1 .1)) (sw .put-switches .ensures))
+  add-start c = omega (arith, low (c .before .before))
 
   add-start-2 : lts.Need-add-start-2 calls (repeat-here t) repeat-reads.Post
-  add-start-2 c =
-      let sw = c .before .before in
-      let pre = sw .before .before .before .before .pre in
-      omega (arith, switch-low (repeat-switches (pre .1 .1)) (sw .put-switches .ensures))
+  add-start-2 c = omega (arith, low (c .before .before))
 
   add-put : lts.Need-add-put calls (repeat-here t) repeat-reads.Post
-  add-put c =
-      let sw = c .before .before .before in
-      let pre = sw .before .before .before .before .pre in
-      omega (arith, switch-low (repeat-switches (pre .1 .1)) (sw .put-switches .ensures))
+  add-put c = omega (arith, low (c .before .before .before))
 
   put-requires : lts.Need-put-requires calls (repeat-here t) repeat-reads.Post
   put-requires c κs =
@@ -49,10 +43,7 @@ module _ (t : ℕ) where
   add-t16 c = search needs
 
   add-t20 : lts.Need-add-t20 calls (repeat-here t) repeat-reads.Post
-  add-t20 c =
-      let sw = c .before .before .before .before .before .before .before in
-      let pre = sw .before .before .before .before .pre in
-      omega (arith, switch-low (repeat-switches (pre .1 .1)) (sw .put-switches .ensures))
+  add-t20 c = omega (arith, low (c .before .before .before .before .before .before .before))
 
   put-stmt-requires : lts.Need-put-stmt-requires calls (repeat-here t) repeat-reads.Post
   put-stmt-requires c κs =

@@ -1,5 +1,5 @@
 -- A while: its switches, P, the merge of start and P's finish, and the delay that it feeds. Assumes nothing.
-use Prim.Native.Nat.{ℕ}
+use Prim.Native.Nat.{ℕ, _+_, _≤_}
 use native.Mathlib.Omega.{arith}
 use borrow.Author.Needs.{needs}
 use Rattle.model.specs.Numbering.{delayCount}
@@ -16,6 +16,9 @@ module _ (t : ℕ) where
   abbrev calls : lts.Claims
   calls = (switches-reads.Asked, switches-reads.Learnt, stmt-below t, stmt-reads.Post, put-reads.Asked, put-reads.Learnt)
 
+  low : (w : lts.After-put-switches calls (while-here t) while-reads.Post) → w .put-switches .result + 2 ≤ 619
+  low w = switch-low (while-switches (w .before .before .before .before .pre .1 .1)) (w .put-switches .ensures)
+
   put-switches-requires : lts.Need-put-switches-requires calls (while-here t) while-reads.Post
   put-switches-requires c κs =
       let pre = c .before .before .before .pre in
@@ -25,16 +28,10 @@ module _ (t : ℕ) where
   add-t15 c = search needs
 
   add-t16 : lts.Need-add-t16 calls (while-here t) while-reads.Post
-  add-t16 c =
-      let sw = c .before .before .before in
-      let pre = sw .before .before .before .before .pre in
-      omega (arith, switch-low (while-switches (pre .1 .1)) (sw .put-switches .ensures))
+  add-t16 c = omega (arith, low (c .before .before .before))
 
   add-t17 : lts.Need-add-t17 calls (while-here t) while-reads.Post
-  add-t17 c =
-      let sw = c .before .before .before in
-      let pre = sw .before .before .before .before .pre in
-      omega (arith, switch-low (while-switches (pre .1 .1)) (sw .put-switches .ensures))
+  add-t17 c = omega (arith, low (c .before .before .before))
 
   put-stmt-requires : lts.Need-put-stmt-requires calls (while-here t) while-reads.Post
   put-stmt-requires c κs =
@@ -59,10 +56,7 @@ module _ (t : ℕ) where
       rw (m .put .kept .0, p .put-stmt .kept .0, sw .put-switches .kept .0) (omega (arith, delays-fit (pre .1 .1)))
 
   add-t15-2 : lts.Need-add-t15-2 calls (while-here t) while-reads.Post
-  add-t15-2 c =
-      let sw = c .before .before .before .before .before .before .before .before .before .before .before .before .before .before .before .before in
-      let pre = sw .before .before .before .before .pre in
-      omega (arith, switch-low (while-switches (pre .1 .1)) (sw .put-switches .ensures))
+  add-t15-2 c = omega (arith, low (c .before .before .before .before .before .before .before .before .before .before .before .before .before .before .before .before))
 
   add-t16-2 : lts.Need-add-t16-2 calls (while-here t) while-reads.Post
   add-t16-2 c =

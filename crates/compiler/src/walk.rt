@@ -1,5 +1,6 @@
 // The walk: the delay cells and the walk cells of a statement, put into a list of cells.
 // What a function leaves is an equation of writes: `write k cs s` is the list s with the cells cs put in from cell k on.
+// The function of a kind is given the nodes of its children: first, second, third.
 ghost use mathlib.Core.Path.{_≡_};
 ghost use mathlib.Core.List.{[], _∷_};
 ghost use Prim.Native.Nat.{_+_, _*_, _<_, _≤_};

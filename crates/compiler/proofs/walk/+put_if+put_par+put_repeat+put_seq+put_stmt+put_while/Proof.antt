@@ -1,4 +1,4 @@
--- The functions that put statements in, closed over their cycle of calls; below, what falls along the calls, and each one's needs.
+-- The functions that put statements in, closed over their cycle of calls; below, what falls along the calls, and each one's needs. Assumes nothing.
 mod Falls
 mod Seq
 mod Par

@@ -31,8 +31,8 @@ use Rattle.compiler.specs.Writes.{write, both}
 use Rattle.compiler.specs.Walk.{assignments, Ready, Done}
 use Rattle.compiler.specs.Ors.{sourcesFrom, OrsReady, Ored}
 use Rattle.compiler.specs.Whole.{Given, Clocked, Walked, Made}
-use Rattle.compiler.proofs.Writes.{write-append, write-swap, write-length}
-use Rattle.compiler.proofs.Stmts.{place}
+use Rattle.compiler.proofs.Writes.{write-append, write-before, write-length}
+use Rattle.compiler.proofs.Growth.{place}
 use Rattle.compiler.proofs.Sizes.{few}
 use Rattle.compiler.proofs.Marks.{clock-marks, data-marks}
 
@@ -165,10 +165,6 @@ pub data-sixteen : {P : Stmt} {b a : List ℕ} {r : Finished} → Walked P b a r
 data-sixteen {P} W = ap length (W .wires) ∙ outs-len 2 (dataSources P (walkAt P)) (dataAt P) 0 16
 
 -- The whole ----------------------------------------------------------------------------------------------------------------------------
-
--- a run put in before another
-write-before : (k m : ℕ) (xs ys : List Cell) (s : List ℕ) → m ≡ k + length xs → write k xs (write m ys s) ≡ write k (xs ++ ys) s
-write-before k m xs ys s e = write-swap k m xs ys s (omega arith) ∙ write-append k m xs ys s e
 
 module _ (P : Stmt) (first : List ℕ) where
   assembled : write 0 headCells (write (memoryAt P) (memoryCells P) (write (dataAt P) (dataOrs P) (both 3 (delayCells P) (walkAt P) (walkCells P) (write (clockAt P) (clockOrs P) first))))

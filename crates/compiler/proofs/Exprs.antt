@@ -1,9 +1,8 @@
 -- What the walk of an expression asks of its parts, and what it leaves, kind by kind. Assumes nothing.
-use mathlib.Core.Path.{_≡_, refl, sym, _∙_, ap}
+use mathlib.Core.Path.{_≡_, refl, sym, _∙_}
 use mathlib.Core.List.{List, [], _∷_}
-use Prim.Native.Nat.{ℕ, _+_}
+use Prim.Native.Nat.{ℕ, _+_, _*_, _<_, _≤_}
 use native.Mathlib.Omega.{arith}
-use lib.ListN.{length}
 use Rattle.model.specs.Program.{Expr, const, var, compl, op}
 use Rattle.model.specs.Circuit.{cell}
 use Rattle.model.specs.Numbering.{exprCount, exprWire, exprCells}
@@ -11,11 +10,7 @@ use Rattle.theory.specs.Numbering.Structure.{e-len}
 use Rattle.compiler.specs.declared.walk.Word.{Word}
 use Rattle.compiler.specs.Writes.{write}
 use Rattle.compiler.specs.Walk.{word, ExprReady, ExprDone}
-use Rattle.compiler.proofs.Writes.{write-none, write-append}
-
--- the number after an expression's cells, as the laws of writes have it
-after : (M : ℕ) (e : Expr) (c : ℕ) → c + exprCount e ≡ c + length (exprCells M e c)
-after M e c = ap (λ (n : ℕ). c + n) (sym (e-len M e c))
+use Rattle.compiler.proofs.Writes.{behind, write-none, write-append}
 
 module _ {M c : ℕ} {before : List ℕ} where
   pub const-done : {n : ℕ} {end : List ℕ} → end ≡ write c (cell 1 0 n 0 ∷ []) before → ExprDone M (const n) c before end (word c (c + 1))
@@ -33,7 +28,7 @@ module _ {M c : ℕ} {before : List ℕ} where
     compl-done w =
         rw (u .cell)
         (record {
-          cells = rw (u .cell, u .wire, u .cells) at w ∙ write-append c _ (exprCells M E c) _ before (after M E c);
+          cells = rw (u .cell, u .wire, u .cells) at w ∙ write-append c _ (exprCells M E c) _ before (behind c (e-len M E c));
           wire = refl;
           cell = omega arith;
         })
@@ -48,13 +43,17 @@ module _ {M c : ℕ} {before : List ℕ} where
         (record {
           cells =
               rw (v .cell, v .wire, u .wire, v .cells, u .cells) at w
-              ∙ write-append c₂ _ (exprCells M F c₂) _ (write c (exprCells M E c) before) (after M F c₂)
-              ∙ write-append c c₂ (exprCells M E c) _ before (after M E c);
+              ∙ write-append c₂ _ (exprCells M F c₂) _ (write c (exprCells M E c) before) (behind c₂ (e-len M F c₂))
+              ∙ write-append c c₂ (exprCells M E c) _ before (behind c (e-len M E c));
           wire = refl;
           cell = omega arith;
         })
 
 module _ {M c n : ℕ} where
+  -- there is room for an expression's cells, of which k is one
+  pub last-fits : {E : Expr} {k : ℕ} → ExprReady M E c n → k < c + exprCount E → (k < 619) × (6 * k + 6 ≤ n)
+  last-fits r h = (omega (arith, h, r .room, r .small), omega (arith, h, r .room))
+
   pub compl-ready : {E : Expr} → ExprReady M (compl E) c n → ExprReady M E c n
   unfolding exprCount
   compl-ready r = record { formed = r .formed; memory = r .memory; room = omega (arith, r .room); small = r .small }

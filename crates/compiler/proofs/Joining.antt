@@ -17,7 +17,7 @@ use Rattle.compiler.specs.declared.walk.Word.{Word}
 use Rattle.compiler.specs.declared.ors.Joint.{Joint}
 use Rattle.compiler.specs.Writes.{write}
 use Rattle.compiler.specs.Ors.{sourcesFrom, Joined, Ored}
-use Rattle.compiler.proofs.Writes.{write-none, write-append, write-length}
+use Rattle.compiler.proofs.Writes.{behind, write-none, write-append, write-length}
 
 -- The wires of one variable ------------------------------------------------------------------------------------------------------------
 
@@ -165,7 +165,7 @@ module _ (j : Joint) (ps : List Source) (n : ℕ) (before : List ℕ) where
             far = omega arith;
             cells-are =
                 ap (write m Y) (u .cells)
-                ∙ write-append next m (ors (j .kind) next W) Y cells (ap (λ (k : ℕ). next + k) (sym (ors-len (j .kind) next W)))
+                ∙ write-append next m (ors (j .kind) next W) Y cells (behind next (ors-len (j .kind) next W))
                 ∙ (rw one-less at (C .cells-are));
             wires-are =
                 ap (λ (k : ℕ). sets (set wires x (orsOut (j .none) next W)) k (outsFrom (j .none) ps m (x + 1) (16 - (x + 1)))) (add-one x)

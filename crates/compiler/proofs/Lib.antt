@@ -2,6 +2,7 @@
 pub mod Writes
 pub mod Reading
 pub mod Exprs
+pub mod Growth
 pub mod Stmts
 pub mod Parts
 pub mod Joining

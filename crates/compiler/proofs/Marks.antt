@@ -9,7 +9,7 @@ use Rattle.model.specs.Program.{Stmt, ok, tick, assign, seq, par, ite, while, r
 use Rattle.model.specs.Numbering.{pastSwitches, own, delayCount, walkCount, Source, clockSources, dataSources}
 use Rattle.compiler.specs.Walk.{assignments, marksOf}
 use Rattle.compiler.specs.Ors.{sourcesFrom}
-use Rattle.compiler.proofs.Stmts.{marks-length}
+use Rattle.compiler.proofs.Growth.{marks-length}
 
 -- the sources that a list of marks tells, three for each
 sourcesIn : ℕ → List ℕ → List Source

@@ -5,10 +5,15 @@ use native.Mathlib.Omega.{arith}
 use Rattle.model.specs.Program.{Expr, Stmt, assign, seq, par, ite, while, repeat}
 use Rattle.model.specs.Numbering.{exprCount, pastSwitches, delayCount, walkCount}
 use Rattle.theory.specs.Program.Fit.{FormedExpr, Formed}
+use Rattle.compiler.specs.declared.walk.Word.{Word}
 use Rattle.compiler.specs.declared.walk.Place.{Place}
 use Rattle.compiler.specs.declared.walk.Pulse.{Pulse}
-use Rattle.compiler.specs.Walk.{ExprReady, SwitchReady, Switched, assignments, Owned, Ready, Done}
-use Rattle.compiler.proofs.Stmts.{place, left}
+use Rattle.compiler.specs.Walk.{ExprReady, ExprDone, SwitchReady, Switched, assignments, Owned, Ready, Done}
+use Rattle.compiler.proofs.Growth.{place, left}
+
+-- the switches' cells have small numbers
+pub switch-low : {M n c g t : ℕ} {E : Expr} {b a : List ℕ} → SwitchReady M E c n → Switched M E c g b a t → t + 2 ≤ 619
+switch-low r sw = omega (arith, r .room, r .expr .small, sw .switch)
 
 module _ {M n : ℕ} {p : Place} where
   -- a part is ready where it stays within the whole
@@ -24,9 +29,19 @@ module _ {M n : ℕ} {p : Place} where
     switch-part : {E : Expr} → FormedExpr E → pastSwitches E (p .cell) ≤ p .cell + walkCount S → SwitchReady M E (p .cell) n
     switch-part w b = record { expr = expr-part w (omega (arith, b)); room = omega (arith, b, r .room) }
 
+    -- its delay cells lie within the list
+    pub delays-fit : 6 * (p .delay + delayCount S) ≤ n
+    delays-fit = omega (arith, r .apart, r .room)
+
   pub assign-expr : {δ x : ℕ} {E : Expr} → Ready M (assign δ x E) p n → ExprReady M E (p .cell) n
   unfolding walkCount
   assign-expr r = expr-part r (r .formed .1) (omega arith)
+
+  -- its kind 41 cell lies within the list
+  pub assign-cell : {δ x : ℕ} {E : Expr} {b a : List ℕ} {e : Word} → Ready M (assign δ x E) p n → ExprDone M E (p .cell) b a e
+      → 6 * e .cell + 6 ≤ n
+  unfolding walkCount
+  assign-cell r u = omega (arith, r .room, u .cell)
 
   module _ {P Q : Stmt} where
     pub seq-first : Ready M (seq P Q) p n → Ready M P p n
@@ -46,6 +61,11 @@ module _ {M n : ℕ} {p : Place} where
     unfolding delayCount walkCount assignments
     par-second r u = rw (left u) (part r (r .formed .1) (omega (arith, r .apart)) (omega arith) (omega arith))
 
+    pub par-merge : {q s : Place} {b a k l b′ a′ k′ l′ : List ℕ} → Ready M (par P Q) p n → Done M P p b a k l q
+        → Done M Q (place (p .wire) (q .delay) (q .cell) (q .mark)) b′ a′ k′ l′ s → 6 * s .cell + 6 ≤ n
+    unfolding walkCount
+    par-merge r u v = omega (arith, r .room, u .cell, v .cell)
+
     module _ {δ : ℕ} {E : Expr} (r : Ready M (ite δ E P Q) p n) where
       pub if-switches : SwitchReady M E (p .cell) n
       unfolding walkCount
@@ -63,6 +83,11 @@ module _ {M n : ℕ} {p : Place} where
             let u = rw (sw .switch, ow .delay) at u₀ in
             rw (sw .switch, left u) (part r (r .formed .2) (omega (arith, r .apart)) (omega arith) (omega arith))
 
+        pub if-merge : {q s : Place} {b a k l b′ a′ k′ l′ : List ℕ} → Done M P (place t (o .delay) (t + 1 + 1) (p .mark)) b a k l q
+            → Done M Q (place (t + 1) (q .delay) (q .cell) (q .mark)) b′ a′ k′ l′ s → 6 * s .cell + 6 ≤ n
+        unfolding walkCount
+        if-merge u v = omega (arith, r .room, sw .switch, u .cell, v .cell)
+
   module _ {δ : ℕ} {E : Expr} {P : Stmt} where
     pub while-switches : Ready M (while δ E P) p n → SwitchReady M E (p .cell) n
     unfolding walkCount
@@ -72,6 +97,11 @@ module _ {M n : ℕ} {p : Place} where
         → Ready M P (place t (p .delay + 1) (t + 1 + 1) (p .mark)) n
     unfolding delayCount walkCount assignments
     while-body r sw = rw (sw .switch) (part r (r .formed .1) (omega (arith, r .apart)) (omega arith) (omega arith))
+
+    pub while-merge : {g t : ℕ} {m₁ m₂ b a k l : List ℕ} {q : Place} → Ready M (while δ E P) p n → Switched M E (p .cell) g m₁ m₂ t
+        → Done M P (place t (p .delay + 1) (t + 1 + 1) (p .mark)) b a k l q → 6 * q .cell + 6 ≤ n
+    unfolding walkCount
+    while-merge r sw u = omega (arith, r .room, sw .switch, u .cell)
 
     pub repeat-switches : Ready M (repeat δ E P) p n → SwitchReady M E (p .cell) n
     unfolding walkCount

@@ -12,6 +12,10 @@ use Rattle.netlist.proofs.Writes.{sets-append, sets-swap}
 use Rattle.netlist.proofs.Bytes.{cell-bytes-length}
 use Rattle.compiler.specs.Writes.{write, both}
 
+-- a number behind a run, by the run's length
+pub behind : (k : ℕ) {l n : ℕ} → l ≡ n → k + n ≡ k + l
+behind k e = ap (λ (n : ℕ). k + n) (sym e)
+
 bytes-append : (xs ys : List Cell) → cellBytes (xs ++ ys) ≡ cellBytes xs ++ cellBytes ys
 unfolding cellBytes bytes16
 bytes-append [] ys = refl
@@ -35,39 +39,23 @@ pub write-swap : (k j : ℕ) (xs ys : List Cell) (s : List ℕ) → k + length x
 unfolding write
 write-swap k j xs ys s h = sets-swap s (6 * k) (cellBytes xs) (6 * j) (cellBytes ys) (omega (arith, cell-bytes-length xs))
 
+-- a run put in before another
+pub write-before : (k m : ℕ) (xs ys : List Cell) (s : List ℕ) → m ≡ k + length xs → write k xs (write m ys s) ≡ write k (xs ++ ys) s
+write-before k m xs ys s e = write-swap k m xs ys s (omega arith) ∙ write-append k m xs ys s e
+
 -- Delay cells and walk cells -----------------------------------------------------------------------------------------------------------
 
-pub both-none : (d c : ℕ) (ys : List Cell) (s : List ℕ) → write c ys s ≡ both d [] c ys s
-unfolding both
-both-none d c ys s = ap (write c ys) (sym (write-none d s))
-
-module _ (d c : ℕ) (xs ys : List Cell) (s : List ℕ) where
-  pub both-start : write c ys (write d xs s) ≡ both d xs c ys s
+module _ (d c : ℕ) (xs ys : List Cell) (s : List ℕ) (zs : List Cell) (m : ℕ) where
+  -- more walk cells
+  pub both-walk : m ≡ c + length ys → write m zs (both d xs c ys s) ≡ both d xs c (ys ++ zs) s
   unfolding both
-  both-start = refl
+  both-walk e = write-append c m ys zs (write d xs s) e
 
-  -- the delay cells may come last
-  pub both-late : d + length xs ≤ c → write d xs (write c ys s) ≡ both d xs c ys s
+  -- more delay cells, behind and in front
+  pub both-delay : m ≡ d + length xs → m + length zs ≤ c → write m zs (both d xs c ys s) ≡ both d (xs ++ zs) c ys s
   unfolding both
-  both-late h = write-swap d c xs ys s h
+  both-delay e h = write-swap m c zs ys (write d xs s) h ∙ ap (write c ys) (write-append d m xs zs s e)
 
-  module _ (zs : List Cell) (m : ℕ) where
-    -- more walk cells
-    pub both-walk : m ≡ c + length ys → write m zs (both d xs c ys s) ≡ both d xs c (ys ++ zs) s
-    unfolding both
-    both-walk e = write-append c m ys zs (write d xs s) e
-
-    -- more delay cells, behind and in front
-    pub both-delay : m ≡ d + length xs → m + length zs ≤ c → write m zs (both d xs c ys s) ≡ both d (xs ++ zs) c ys s
-    unfolding both
-    both-delay e h = write-swap m c zs ys (write d xs s) h ∙ ap (write c ys) (write-append d m xs zs s e)
-
-    pub both-front : d ≡ m + length zs → d + length xs ≤ c → write m zs (both d xs c ys s) ≡ both m (zs ++ xs) c ys s
-    unfolding both
-    both-front e h =
-        write-swap m c zs ys (write d xs s) (omega arith) ∙ ap (write c ys) (write-swap m d zs xs s (omega arith) ∙ write-append m d zs xs s e)
-
-  pub both-both : (d′ c′ : ℕ) (xs′ ys′ : List Cell) → d′ ≡ d + length xs → c′ ≡ c + length ys → d′ + length xs′ ≤ c
-      → both d′ xs′ c′ ys′ (both d xs c ys s) ≡ both d (xs ++ xs′) c (ys ++ ys′) s
+  pub both-front : d ≡ m + length zs → d + length xs ≤ c → write m zs (both d xs c ys s) ≡ both m (zs ++ xs) c ys s
   unfolding both
-  both-both d′ c′ xs′ ys′ ed ec h = ap (write c′ ys′) (both-delay xs′ d′ ed h) ∙ write-append c c′ ys ys′ (write d (xs ++ xs′) s) ec
+  both-front e h = write-swap m c zs ys (write d xs s) (omega arith) ∙ ap (write c ys) (write-before m d zs xs s e)

@@ -1,12 +1,11 @@
 -- What the walk asks, and what it leaves, of an expression and of a statement. Assumes nothing: definitions.
 use mathlib.Core.Path.{_≡_}
 use mathlib.Core.List.{List, [], _∷_, _++_}
-use Prim.Native.Nat.{ℕ, _+_, _*_, _<_, _≤_}
+use Prim.Native.Nat.{ℕ, _+_, _*_, _≤_}
 use lib.Seq.{sets}
-use Rattle.model.specs.Program.{Expr, Stmt, ok, tick, assign, seq, par, ite, while, repeat, nodeCount}
+use Rattle.model.specs.Program.{Expr, Stmt, ok, tick, assign, seq, par, ite, while, repeat}
 use Rattle.model.specs.Numbering.{exprCount, exprWire, exprCells, onTrue, pastSwitches, switches, own, ownCell, pulse, delayCount, walkCount, finishWire, delays, walk}
 use Rattle.theory.specs.Program.Fit.{FormedExpr, Formed}
-use Rattle.program.specs.Ends.{Laid}
 use Rattle.compiler.specs.declared.walk.Word.{Word}
 use Rattle.compiler.specs.declared.walk.Place.{Place}
 use Rattle.compiler.specs.declared.walk.Pulse.{Pulse}
@@ -85,9 +84,3 @@ pub record Done (M : ℕ) (P : Stmt) (p : Place) (before after : List ℕ) (mark
   pub delay : r .delay ≡ p .delay + delayCount P
   pub cell : r .cell ≡ p .cell + walkCount P
   pub mark : r .mark ≡ p .mark + 3 * assignments P
-
--- the same is asked for P at node i, which is there
-pub record Arm (s ends : List ℕ) (M i : ℕ) (P : Stmt) (p : Place) (n : ℕ) : Type 0 where
-  pub laid : Laid s ends
-  pub here : i < nodeCount s
-  pub ready : Ready M P p n

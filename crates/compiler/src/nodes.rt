@@ -1,18 +1,7 @@
 // Nodes as parts of the tree. A missing child, or one of the wrong sort, stands for a constant 0 or for ok, as in model/Program;
 // so the walk asks nothing of a program but its array of subtree ends.
-ghost use mathlib.Core.Path.{_≡_};
-ghost use Rattle.model.specs.Program.{nodeCount};
-ghost use Rattle.program.specs.Ends.{Laid, past};
 ghost use Rattle.compiler.specs.Nodes.{ExprNode, StmtNode};
 use model::Node;
-
-// The node after the subtree of node i.
-pub fn next(program: &[u8], ends: &[usize; 200], i: usize) -> usize
-    requires { ⌜ Laid (now program) (now ends) ⌝ }
-    ensures { λ r. ⌜ r ≡ past (now (ends .entry)) (nodeCount (now (program .entry))) i ⌝ }
-{
-    if i < program.len() / 4 { ends[i] } else { i }
-}
 
 // The node of the expression at node i.
 pub fn expr_node(program: &[u8], i: usize) -> Node

@@ -1,15 +1,15 @@
 // The walk: the delay cells and the walk cells of a statement, put into a list of cells.
 // What a function leaves is an equation of writes: `write k cs s` is the list s with the cells cs put in from cell k on.
+// The function of a kind is given the nodes of its children: first, second, third.
 ghost use mathlib.Core.Path.{_≡_};
 ghost use mathlib.Core.List.{[], _∷_};
 ghost use Prim.Native.Nat.{_+_, _*_, _<_, _≤_};
 ghost use lib.ListN.{length};
 ghost use Rattle.model.specs.Circuit.{cell};
-ghost use Rattle.model.specs.Program.{exprAt, stmtAt};
+ghost use Rattle.model.specs.Program.{exprAt, stmtAt, assign, seq, par, ite, while, repeat};
 ghost use Rattle.program.specs.Ends.{Laid};
 ghost use Rattle.compiler.specs.Writes.{write};
-ghost use Rattle.compiler.specs.Nodes.{assignAt, seqAt, parAt, iteAt, whileAt, repeatAt};
-ghost use Rattle.compiler.specs.Walk.{word, ExprReady, ExprDone, Owned, SwitchReady, Switched, Ready, Done, Arm};
+ghost use Rattle.compiler.specs.Walk.{word, ExprReady, ExprDone, Owned, SwitchReady, Switched, Ready, Done};
 use model::Cell;
 use model::Node;
 
@@ -79,12 +79,13 @@ fn put_expr(
             cell: c,
         };
     }
+    let first = i + 1;
     if kind == 3 {
-        let e = put_expr(cells, program, ends, memory, i + 1, c);
+        let e = put_expr(cells, program, ends, memory, first, c);
         return put_word(cells, e.cell, 3, e.wire, 0);
     }
-    let e = put_expr(cells, program, ends, memory, i + 1, c);
-    let second = crate::nodes::next(program, ends, i + 1);
+    let second = program::next(ends, program.len() / 4, first);
+    let e = put_expr(cells, program, ends, memory, first, c);
     let f = put_expr(cells, program, ends, memory, second, e.cell);
     put_word(cells, f.cell, kind, e.wire, f.wire)
 }
@@ -133,14 +134,14 @@ fn put_assign(
     program: &[u8],
     ends: &[usize; 200],
     memory: u16,
-    i: usize,
+    first: usize,
     at: Place,
     node: Node,
 ) -> Place
-    requires { ⌜ Arm (now program) (now ends) memory i (assignAt (now program) i (node .delay) (node .n)) at (length (now cells)) ⌝ }
-    ensures { λ r. ⌜ Done memory (assignAt (now (program .entry)) i (node .delay) (node .n)) at (now (cells .entry)) (now (cells .exit)) (now (marks .entry)) (now (marks .exit)) r ⌝ }
+    requires { ⌜ Laid (now program) (now ends) × Ready memory (assign (node .delay) (node .n) (exprAt (now program) first)) at (length (now cells)) ⌝ }
+    ensures { λ r. ⌜ Done memory (assign (node .delay) (node .n) (exprAt (now (program .entry)) first)) at (now (cells .entry)) (now (cells .exit)) (now (marks .entry)) (now (marks .exit)) r ⌝ }
 {
-    let e = put_expr(cells, program, ends, memory, i + 1, at.cell);
+    let e = put_expr(cells, program, ends, memory, first, at.cell);
     put(cells, e.cell, 41, 0, at.delay, e.wire);
     put(cells, at.delay, 34, node.delay, at.wire, 0);
     put(cells, at.delay + 1, 34, 1, at.delay, 0);
@@ -183,13 +184,31 @@ pub fn put_stmt(
             mark: at.mark,
         };
     }
+    let d = node.delay;
+    let count = program.len() / 4;
+    let first = i + 1;
+    let second = program::next(ends, count, first);
     match kind {
-        18 => put_assign(cells, marks, program, ends, memory, i, at, node),
-        19 => put_seq(cells, marks, program, ends, memory, i, at),
-        20 => put_par(cells, marks, program, ends, memory, i, at),
-        21 => put_if(cells, marks, program, ends, memory, i, at, node.delay),
-        22 => put_while(cells, marks, program, ends, memory, i, at, node.delay),
-        _ => put_repeat(cells, marks, program, ends, memory, i, at, node.delay),
+        18 => put_assign(cells, marks, program, ends, memory, first, at, node),
+        19 => put_seq(cells, marks, program, ends, memory, first, second, at),
+        20 => put_par(cells, marks, program, ends, memory, first, second, at),
+        21 => {
+            let third = program::next(ends, count, second);
+            put_if(
+                cells,
+                marks,
+                program,
+                ends,
+                memory,
+                first,
+                second,
+                third,
+                at,
+                d,
+            )
+        }
+        22 => put_while(cells, marks, program, ends, memory, first, second, at, d),
+        _ => put_repeat(cells, marks, program, ends, memory, first, second, at, d),
     }
 }
 
@@ -200,14 +219,14 @@ fn put_seq(
     program: &[u8],
     ends: &[usize; 200],
     memory: u16,
-    i: usize,
+    first: usize,
+    second: usize,
     at: Place,
 ) -> Place
-    requires { ⌜ Arm (now program) (now ends) memory i (seqAt (now program) (now ends) i) at (length (now cells)) ⌝ }
-    ensures { λ r. ⌜ Done memory (seqAt (now (program .entry)) (now (ends .entry)) i) at (now (cells .entry)) (now (cells .exit)) (now (marks .entry)) (now (marks .exit)) r ⌝ }
+    requires { ⌜ Laid (now program) (now ends) × Ready memory (seq (stmtAt (now program) first) (stmtAt (now program) second)) at (length (now cells)) × (first ≤ second) ⌝ }
+    ensures { λ r. ⌜ Done memory (seq (stmtAt (now (program .entry)) first) (stmtAt (now (program .entry)) second)) at (now (cells .entry)) (now (cells .exit)) (now (marks .entry)) (now (marks .exit)) r ⌝ }
 {
-    let p = put_stmt(cells, marks, program, ends, memory, i + 1, at);
-    let second = crate::nodes::next(program, ends, i + 1);
+    let p = put_stmt(cells, marks, program, ends, memory, first, at);
     put_stmt(cells, marks, program, ends, memory, second, p)
 }
 
@@ -218,14 +237,14 @@ fn put_par(
     program: &[u8],
     ends: &[usize; 200],
     memory: u16,
-    i: usize,
+    first: usize,
+    second: usize,
     at: Place,
 ) -> Place
-    requires { ⌜ Arm (now program) (now ends) memory i (parAt (now program) (now ends) i) at (length (now cells)) ⌝ }
-    ensures { λ r. ⌜ Done memory (parAt (now (program .entry)) (now (ends .entry)) i) at (now (cells .entry)) (now (cells .exit)) (now (marks .entry)) (now (marks .exit)) r ⌝ }
+    requires { ⌜ Laid (now program) (now ends) × Ready memory (par (stmtAt (now program) first) (stmtAt (now program) second)) at (length (now cells)) × (first ≤ second) ⌝ }
+    ensures { λ r. ⌜ Done memory (par (stmtAt (now (program .entry)) first) (stmtAt (now (program .entry)) second)) at (now (cells .entry)) (now (cells .exit)) (now (marks .entry)) (now (marks .exit)) r ⌝ }
 {
-    let p = put_stmt(cells, marks, program, ends, memory, i + 1, at);
-    let second = crate::nodes::next(program, ends, i + 1);
+    let p = put_stmt(cells, marks, program, ends, memory, first, at);
     let to = Place {
         wire: at.wire,
         delay: p.delay,
@@ -249,17 +268,17 @@ fn put_if(
     program: &[u8],
     ends: &[usize; 200],
     memory: u16,
-    i: usize,
+    first: usize,
+    second: usize,
+    third: usize,
     at: Place,
     delay: u8,
 ) -> Place
-    requires { ⌜ Arm (now program) (now ends) memory i (iteAt (now program) (now ends) i delay) at (length (now cells)) ⌝ }
-    ensures { λ r. ⌜ Done memory (iteAt (now (program .entry)) (now (ends .entry)) i delay) at (now (cells .entry)) (now (cells .exit)) (now (marks .entry)) (now (marks .exit)) r ⌝ }
+    requires { ⌜ Laid (now program) (now ends) × Ready memory (ite delay (exprAt (now program) first) (stmtAt (now program) second) (stmtAt (now program) third)) at (length (now cells)) × (second ≤ third) ⌝ }
+    ensures { λ r. ⌜ Done memory (ite delay (exprAt (now (program .entry)) first) (stmtAt (now (program .entry)) second) (stmtAt (now (program .entry)) third)) at (now (cells .entry)) (now (cells .exit)) (now (marks .entry)) (now (marks .exit)) r ⌝ }
 {
     let own = put_own(cells, delay, at.wire, at.delay);
-    let switch = put_switches(cells, program, ends, memory, i + 1, at.cell, own.wire);
-    let second = crate::nodes::next(program, ends, i + 1);
-    let third = crate::nodes::next(program, ends, second);
+    let switch = put_switches(cells, program, ends, memory, first, at.cell, own.wire);
     let when_true = Place {
         wire: switch,
         delay: own.delay,
@@ -290,15 +309,15 @@ fn put_while(
     program: &[u8],
     ends: &[usize; 200],
     memory: u16,
-    i: usize,
+    first: usize,
+    second: usize,
     at: Place,
     delay: u8,
 ) -> Place
-    requires { ⌜ Arm (now program) (now ends) memory i (whileAt (now program) (now ends) i delay) at (length (now cells)) ⌝ }
-    ensures { λ r. ⌜ Done memory (whileAt (now (program .entry)) (now (ends .entry)) i delay) at (now (cells .entry)) (now (cells .exit)) (now (marks .entry)) (now (marks .exit)) r ⌝ }
+    requires { ⌜ Laid (now program) (now ends) × Ready memory (while delay (exprAt (now program) first) (stmtAt (now program) second)) at (length (now cells)) ⌝ }
+    ensures { λ r. ⌜ Done memory (while delay (exprAt (now (program .entry)) first) (stmtAt (now (program .entry)) second)) at (now (cells .entry)) (now (cells .exit)) (now (marks .entry)) (now (marks .exit)) r ⌝ }
 {
-    let switch = put_switches(cells, program, ends, memory, i + 1, at.cell, at.delay);
-    let second = crate::nodes::next(program, ends, i + 1);
+    let switch = put_switches(cells, program, ends, memory, first, at.cell, at.delay);
     let body = Place {
         wire: switch,
         delay: at.delay + 1,
@@ -323,15 +342,15 @@ fn put_repeat(
     program: &[u8],
     ends: &[usize; 200],
     memory: u16,
-    i: usize,
+    first: usize,
+    second: usize,
     at: Place,
     delay: u8,
 ) -> Place
-    requires { ⌜ Arm (now program) (now ends) memory i (repeatAt (now program) (now ends) i delay) at (length (now cells)) ⌝ }
-    ensures { λ r. ⌜ Done memory (repeatAt (now (program .entry)) (now (ends .entry)) i delay) at (now (cells .entry)) (now (cells .exit)) (now (marks .entry)) (now (marks .exit)) r ⌝ }
+    requires { ⌜ Laid (now program) (now ends) × Ready memory (repeat delay (exprAt (now program) first) (stmtAt (now program) second)) at (length (now cells)) ⌝ }
+    ensures { λ r. ⌜ Done memory (repeat delay (exprAt (now (program .entry)) first) (stmtAt (now (program .entry)) second)) at (now (cells .entry)) (now (cells .exit)) (now (marks .entry)) (now (marks .exit)) r ⌝ }
 {
-    let switch = put_switches(cells, program, ends, memory, i + 1, at.cell, at.delay);
-    let second = crate::nodes::next(program, ends, i + 1);
+    let switch = put_switches(cells, program, ends, memory, first, at.cell, at.delay);
     let start = switch + 1 + 1;
     put(cells, start, 35, 0, at.wire, switch + 1);
     let body = Place {

@@ -53,14 +53,5 @@ returns c =
 pub compile-accepted-spec : {M : Type 1} → statement M
 compile-accepted-spec =
     tie.close
-    (tie.spec
-    scan-requires
-    slice-aggregate-put-netlist
-    put-netlist-requires
-    cast-n
-    slice-aggregate-put-file
-    put-file-requires
-    add-result
-    mul-result
-    same-length
-    returns)
+    (tie.spec scan-requires slice-aggregate-put-netlist put-netlist-requires cast-n slice-aggregate-put-file put-file-requires
+    add-result mul-result same-length returns)

@@ -73,18 +73,5 @@ returns-3 c =
 pub compile-by-spec : {M : Type 1} → statement M
 compile-by-spec =
     tie.close
-    (tie.spec
-    scan-requires
-    enum-known-checked
-    returns
-    enum-told
-    slice-aggregate-put-netlist
-    put-netlist-requires
-    cast-n
-    add-count
-    mul-count
-    returns-2
-    slice-aggregate-put-file
-    put-file-requires
-    same-length
-    returns-3)
+    (tie.spec scan-requires enum-known-checked returns enum-told slice-aggregate-put-netlist put-netlist-requires cast-n add-count
+    mul-count returns-2 slice-aggregate-put-file put-file-requires same-length returns-3)

@@ -1,8 +1,4 @@
 -- Compiling with the times of a table's file. Assumes nothing.
-use mathlib.Core.Path.{_∙_, ap}
-use denote.Ref.{now}
-use Rattle.model.specs.declared.Loaded.{Loaded}
-use Rattle.model.specs.Calls.{compileCall}
 use borrow.Author.Needs.{needs}
 use Rattle.compiler.proofs.compile_timed.Statement.{statement}
 use Rattle.compiler.proofs.compile_timed.Tie as tie
@@ -17,13 +13,7 @@ same-length : tie.Need-same-length
 same-length c = search needs
 
 returns : tie.Need-returns
-returns c =
-    let args = c .before .before .before .before .before .before .before .before .args in
-    let told = c .before .before .compile-by .ensures in
-    let loaded = c .before .before .before .before .load .ensures in (
-      told .0 ∙ ap (λ (table : Loaded). compileCall table (now (args .program)) (now (args .netlist)) .answer) loaded,
-      told .1 ∙ ap (λ (table : Loaded). compileCall table (now (args .program)) (now (args .netlist)) .lent) loaded,
-    )
+returns c = rw (c .before .before .before .before .load .ensures) at (c .before .before .compile-by .ensures)
 
 pub compile-timed-spec : {M : Type 1} → statement M
 compile-timed-spec = tie.close (tie.spec load-requires compile-by-requires same-length returns)

@@ -136,27 +136,6 @@ returns c = chain-end _ _ _ _ _ _ _ (c .before .loop .inv) (c .loop-test .left)
 pub put-chain-spec : {M : Type 1} → statement M
 put-chain-spec =
     tie.close
-    (tie.spec
-    Inv-loop
-    μ-loop
-    loop-holds
-    mul-if1
-    mul-if1-2
-    element-copy-out-if1
-    mul-wire
-    add-wire
-    mul-wire-2
-    element-copy-out-wire
-    put-requires
-    add-next
-    add-k
-    loop-less
-    loop-again
-    add-k-2
-    loop-less-2
-    loop-again-2
-    add-k-3
-    loop-less-3
-    loop-again-3
-    same-length
+    (tie.spec Inv-loop μ-loop loop-holds mul-if1 mul-if1-2 element-copy-out-if1 mul-wire add-wire mul-wire-2 element-copy-out-wire
+    put-requires add-next add-k loop-less loop-again add-k-2 loop-less-2 loop-again-2 add-k-3 loop-less-3 loop-again-3 same-length
     returns)

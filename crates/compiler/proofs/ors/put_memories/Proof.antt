@@ -89,19 +89,5 @@ returns c =
 pub put-memories-spec : {M : Type 1} → statement M
 put-memories-spec =
     tie.close
-    (tie.spec
-    Inv-loop
-    μ-loop
-    loop-holds
-    cast-at
-    add-put
-    mul-put
-    element-copy-out-put
-    mul-put-2
-    element-copy-out-put-2
-    put-requires
-    add-x
-    loop-less
-    loop-again
-    same-length
-    returns)
+    (tie.spec Inv-loop μ-loop loop-holds cast-at add-put mul-put element-copy-out-put mul-put-2 element-copy-out-put-2
+    put-requires add-x loop-less loop-again same-length returns)

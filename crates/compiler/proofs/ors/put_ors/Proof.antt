@@ -69,16 +69,5 @@ returns c = joining-end _ _ _ _ (c .before .loop .inv) (c .loop-test .left)
 pub put-ors-spec : {M : Type 1} → statement M
 put-ors-spec =
     tie.close
-    (tie.spec
-    Inv-loop
-    μ-loop
-    loop-holds
-    put-chain-requires
-    cast-at
-    mul-wires
-    array-write-wires
-    add-x
-    loop-less
-    loop-again
-    same-length
-    returns)
+    (tie.spec Inv-loop μ-loop loop-holds put-chain-requires cast-at mul-wires array-write-wires add-x loop-less loop-again
+    same-length returns)

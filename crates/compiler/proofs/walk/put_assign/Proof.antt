@@ -2,63 +2,50 @@
 use mathlib.Core.Path.{refl}
 use native.Mathlib.Omega.{arith}
 use borrow.Author.Needs.{needs}
-use Rattle.model.specs.Numbering.{delayCount, walkCount}
+use Rattle.model.specs.Numbering.{delayCount}
 use Rattle.compiler.specs.Walk.{assignments}
 use Rattle.compiler.proofs.Stmts.{assign-done}
-use Rattle.compiler.proofs.Parts.{assign-expr}
+use Rattle.compiler.proofs.Parts.{delays-fit, assign-expr, assign-cell}
 use Rattle.compiler.proofs.walk.put_assign.Statement.{statement}
 use Rattle.compiler.proofs.walk.put_assign.Tie as tie
-
-add-put-expr : tie.Need-add-put-expr
-add-put-expr c = search needs
 
 put-expr-requires : tie.Need-put-expr-requires
 put-expr-requires c κs =
     let pre = c .before .before .before .pre in
-    (pre .laid, assign-expr (pre .ready))
+    (pre .0, assign-expr (pre .1))
 
 put-requires : tie.Need-put-requires
-unfolding walkCount
 put-requires c κs =
-    let pre = c .before .before .before .before .before .before .before .pre in
-    let put-expr = c .before .before .before .put-expr in
-    let ready = pre .ready in
-    omega (arith, ready .room, put-expr .ensures .cell, put-expr .kept .0)
+    let e = c .before .before .before in
+    rw (e .put-expr .kept .0) (assign-cell (e .before .before .before .before .pre .1) (e .put-expr .ensures))
 
 put-requires-2 : tie.Need-put-requires-2
-unfolding delayCount walkCount
+unfolding delayCount
 put-requires-2 c κs =
-    let pre = c .before .before .before .before .before .before .before .before .before .before .before .pre in
-    let put-expr = c .before .before .before .before .before .before .before .put-expr in
-    let put = c .before .before .before .put in
-    let ready = pre .ready in
-    omega (arith, ready .apart, ready .room, put-expr .kept .0, put .kept .0)
+    let m = c .before .before .before in
+    let e = m .before .before .before .before in
+    rw (m .put .kept .0, e .put-expr .kept .0) (omega (arith, delays-fit (e .before .before .before .before .pre .1)))
 
 add-put : tie.Need-add-put
 unfolding delayCount
 add-put c =
-    let pre = c .before .before .before .before .before .before .before .before .before .before .before .before .before .before .before .before .pre in
-    let ready = pre .ready in
-    omega (arith, ready .apart, ready .room, ready .small)
+    let ready = c .before .before .before .before .before .before .before .before .before .before .before .before .before .before .before .before .pre .1 in
+    omega (arith, ready .small, delays-fit ready)
 
 put-requires-3 : tie.Need-put-requires-3
-unfolding delayCount walkCount
+unfolding delayCount
 put-requires-3 c κs =
-    let pre = c .before .before .before .before .before .before .before .before .before .before .before .before .before .before .before .before .pre in
-    let put-expr = c .before .before .before .before .before .before .before .before .before .before .before .before .put-expr in
-    let put = c .before .before .before .before .before .before .before .before .put in
-    let put2 = c .before .before .before .before .put2 in
-    let ready = pre .ready in
-    omega (arith, ready .apart, ready .room, put-expr .kept .0, put .kept .0, put2 .kept .0)
+    let d = c .before .before .before .before in
+    let m = d .before .before .before .before in
+    let e = m .before .before .before .before in
+    rw (d .put2 .kept .0, m .put .kept .0, e .put-expr .kept .0) (omega (arith, delays-fit (e .before .before .before .before .pre .1)))
 
 mul-marks : tie.Need-mul-marks
 mul-marks c = search needs
 
 element-write-marks : tie.Need-element-write-marks
 unfolding assignments
-element-write-marks c =
-    let pre = c .before .before .before .before .before .before .before .before .before .before .before .before .before .before .before .before .before .before .before .pre in
-    omega (arith, pre .ready .marks)
+element-write-marks c = omega (arith, c .before .before .before .before .before .before .before .before .before .before .before .before .before .before .before .before .before .before .before .pre .1 .marks)
 
 add-marks : tie.Need-add-marks
 add-marks c = search needs
@@ -68,9 +55,7 @@ mul-marks-2 c = search needs
 
 element-write-marks-2 : tie.Need-element-write-marks-2
 unfolding assignments
-element-write-marks-2 c =
-    let pre = c .before .before .before .before .before .before .before .before .before .before .before .before .before .before .before .before .before .before .before .pre in
-    omega (arith, pre .ready .marks)
+element-write-marks-2 c = omega (arith, c .before .before .before .before .before .before .before .before .before .before .before .before .before .before .before .before .before .before .before .pre .1 .marks)
 
 add-marks-2 : tie.Need-add-marks-2
 add-marks-2 c = search needs
@@ -80,71 +65,45 @@ mul-marks-3 c = search needs
 
 element-write-marks-3 : tie.Need-element-write-marks-3
 unfolding assignments
-element-write-marks-3 c =
-    let pre = c .before .before .before .before .before .before .before .before .before .before .before .before .before .before .before .before .before .before .before .pre in
-    omega (arith, pre .ready .marks)
+element-write-marks-3 c = omega (arith, c .before .before .before .before .before .before .before .before .before .before .before .before .before .before .before .before .before .before .before .pre .1 .marks)
 
-add-t21 : tie.Need-add-t21
+add-t20 : tie.Need-add-t20
 unfolding delayCount
-add-t21 c =
-    let pre = c .before .before .before .before .before .before .before .before .before .before .before .before .before .before .before .before .before .before .before .before .pre in
-    let ready = pre .ready in
-    omega (arith, ready .apart, ready .room, ready .small)
+add-t20 c =
+    let ready = c .before .before .before .before .before .before .before .before .before .before .before .before .before .before .before .before .before .before .before .before .pre .1 in
+    omega (arith, ready .small, delays-fit ready)
 
 add-t29 : tie.Need-add-t29
 unfolding delayCount
 add-t29 c =
-    let pre = c .before .before .before .before .before .before .before .before .before .before .before .before .before .before .before .before .before .before .before .before .before .pre in
-    let ready = pre .ready in
-    omega (arith, ready .apart, ready .room, ready .small)
+    let ready = c .before .before .before .before .before .before .before .before .before .before .before .before .before .before .before .before .before .before .before .before .before .pre .1 in
+    omega (arith, ready .small, delays-fit ready)
 
 add-t30 : tie.Need-add-t30
-unfolding walkCount
 add-t30 c =
-    let pre = c .before .before .before .before .before .before .before .before .before .before .before .before .before .before .before .before .before .before .before .before .before .before .pre in
-    let put-expr = c .before .before .before .before .before .before .before .before .before .before .before .before .before .before .before .before .before .before .put-expr in
-    let ready = pre .ready in
-    omega (arith, ready .room, ready .small, put-expr .ensures .cell)
+    let e = c .before .before .before .before .before .before .before .before .before .before .before .before .before .before .before .before .before .before in
+    let ready = e .before .before .before .before .pre .1 in
+    omega (arith, ready .small, assign-cell ready (e .put-expr .ensures))
 
 add-t24 : tie.Need-add-t24
 unfolding assignments
-add-t24 c =
-    let pre = c .before .before .before .before .before .before .before .before .before .before .before .before .before .before .before .before .before .before .before .before .before .before .pre in
-    omega (arith, pre .ready .marks)
+add-t24 c = omega (arith, c .before .before .before .before .before .before .before .before .before .before .before .before .before .before .before .before .before .before .before .before .before .before .pre .1 .marks)
 
 same-length : tie.Need-same-length
 same-length c = search needs
 
 returns : tie.Need-returns
 returns c =
-    let pre = c .before .before .before .before .before .before .before .before .before .before .before .before .before .before .before .before .before .before .before .before .before .before .pre in
-    let put-expr = c .before .before .before .before .before .before .before .before .before .before .before .before .before .before .before .before .before .before .put-expr in
-    let put = c .before .before .before .before .before .before .before .before .before .before .before .before .before .before .put in
-    let put2 = c .before .before .before .before .before .before .before .before .before .before .put2 in
-    let put3 = c .before .before .before .before .before .put3 in
-    assign-done (pre .ready .apart) (put-expr .ensures) (put .ensures) (put2 .ensures) (put3 .ensures) refl
+    let d₂ = c .before .before .before .before .before in
+    let d = d₂ .before .before .before .before .before in
+    let m = d .before .before .before .before in
+    let e = m .before .before .before .before in
+    let ready = e .before .before .before .before .pre .1 in
+    assign-done (ready .apart) (e .put-expr .ensures) (m .put .ensures) (d .put2 .ensures) (d₂ .put3 .ensures) refl
 
 pub put-assign-spec : {M : Type 1} → statement M
 put-assign-spec =
     tie.close
     (tie.spec
-    add-put-expr
-    put-expr-requires
-    put-requires
-    put-requires-2
-    add-put
-    put-requires-3
-    mul-marks
-    element-write-marks
-    add-marks
-    mul-marks-2
-    element-write-marks-2
-    add-marks-2
-    mul-marks-3
-    element-write-marks-3
-    add-t21
-    add-t29
-    add-t30
-    add-t24
-    same-length
-    returns)
+    put-expr-requires put-requires put-requires-2 add-put put-requires-3 mul-marks element-write-marks add-marks mul-marks-2
+    element-write-marks-2 add-marks-2 mul-marks-3 element-write-marks-3 add-t20 add-t29 add-t30 add-t24 same-length returns)

@@ -71,12 +71,5 @@ returns c =
 pub put-netlist-spec : {M : Type 1} → statement M
 put-netlist-spec =
     tie.close
-    (tie.spec
-    put-clocks-requires
-    put-walk-requires
-    put-memories-requires
-    put-requires
-    put-requires-2
-    put-requires-3
-    same-length
+    (tie.spec put-clocks-requires put-walk-requires put-memories-requires put-requires put-requires-2 put-requires-3 same-length
     returns)

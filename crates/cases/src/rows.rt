@@ -8,7 +8,6 @@ ghost use Rattle.model.specs.TimeTables.{builtIn, load};
 ghost use Rattle.model.specs.Calls.{runProgramCall, referenceCall, refusedAnswer};
 ghost use Rattle.model.specs.Cases.{start, endAnswer};
 ghost use Rattle.cases.specs.Rows.{openAnswer, Same, Holds, kindsSet};
-
 use model::Answer;
 use model::Outcome;
 use model::Refusal;

@@ -1,5 +1,5 @@
 -- The paper's cases 1 to 12, but for the two runs that stay open: rows of one table. The rows by the rules alone are proved here, by
--- computation; that every row holds on the circuit too is `cases-hold` in theory/Cases, through the theorem that full run and rules agree,
+-- computation; that every row holds on the circuit too is `cases-hold` in theory/Promises/Cases, through the theorem that full run and rules agree,
 -- because a state of forty bytes for each cell is too long to be computed here. Assumes nothing.
 use mathlib.Core.Path.{_≡_, refl}
 use mathlib.Core.List.{List, [], _∷_, _++_, map}

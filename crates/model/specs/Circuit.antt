@@ -50,11 +50,11 @@ control k = leb 32 k && leb k 38
 abbrev pub Sig : Type 0
 Sig = ℕ → Bool
 
--- "34 delay: control a as it was d instants ago, 0 before that."
+-- "34 delay, d from 1 to 255: control a as it was d instants ago, 0 before that."
 unfoldable pub delayed : ℕ → Sig → Sig
 delayed d a t = pick (leb d t) (a (t - d)) false
 
--- "A merge cell holds two bits between instants. A is a or held a, B is b or held b; the output is 1 when A and B are; afterwards the
+-- "A merge cell holds two bits between instants. ... A is a or held a, B is b or held b; the output is 1 when A and B are; afterwards the
 -- held bits are A and B, or both 0 if the output was 1."
 unfoldable pub mergeStep : Merge → Bool → Bool → Merged
 mergeStep m a b =
@@ -90,7 +90,9 @@ unfoldable pub memory : ℕ → Values → ℕ → Cell → ℕ → ℕ
 memory first W k c zero = first
 memory first W k c (suc t) = pick (level W (c .a) t && not (level W (c .a) (suc t))) (W (c .b) t) (W k t)
 
--- what cell k, which is c, shows at instant t; first is its start word, if it is a memory
+-- what cell k, which is c, shows at instant t; first is its start word, if it is a memory. "32 start: 1 at instant 0, then 0. 33 ground: 0.
+-- 1: constant a." "3 to 9: the operators on words a, and b where there are two." "35: control a or control b." "36: 1 when control a is 1 and
+-- word b isn't zero. 37: when a is 1 and b is zero." "41: word b when control a is 1, else 0."
 unfoldable pub equation : Shape → ℕ → Values → ℕ → Cell → ℕ → ℕ
 equation kConstant first W k c t = c .a
 equation kComplement first W k c t = operate 3 (W (c .a) t) 0

@@ -16,6 +16,7 @@ pub mod Hubrun
 pub mod Hubtext
 pub mod Promises
 pub mod TextPromises
+pub mod Times
 pub mod Netlists
 pub mod Cases
 pub mod Texts

@@ -43,7 +43,7 @@ wordSum [] = 0
 wordSum (x ∷ []) = x
 wordSum (x ∷ (y ∷ s)) = x + 256 * y + wordSum s
 
--- "Bytes 0–1 block number from 0; 2–3 the netlist's number of cells; 4–5 its finish cell, both the same in every block"
+-- "Bytes 0–1 block number from 0; 2–3 the netlist's number of cells (19 to 1,024); 4–5 its finish cell, both the same in every block"
 abbrev pub headBytes : ℕ → ℕ → ℕ → List ℕ
 headBytes number count finish = bytes16 number ++ (bytes16 count ++ bytes16 finish)
 
@@ -97,7 +97,7 @@ fileLengthWrong s = eqb (length s) 0 || (ltb 6656 (length s) || ltb 0 (length s 
 unfoldable pub sumFault : List ℕ → ℕ → ℕ
 sumFault s b = faultIf (not (eqb (wordSum (blockAt s b) % 65536) 0)) 10
 
--- "a wrong number of blocks for block 0's cell count, or a finish not below it: block 0"
+-- "a wrong number of blocks for block 0's cell count, or a finish not below it: block 0"; the count is "19 to 1,024"
 unfoldable pub countWrong : ℕ → ℕ → ℕ → Bool
 countWrong m count finish = not (leb 19 count && (leb count 1024 && (eqb m (blocksFor count) && ltb finish count)))
 
@@ -124,7 +124,7 @@ unfoldable pub wordIn : List Cell → ℕ → ℕ → Bool
 wordIn net lim j = ltb j lim && not (control (cellAt net j .kind))
 
 -- "All inputs name lower cells, except a delay's a and a memory's b, which may name any cell of the right sort." "fields without a use are
--- zero". "32 ... and 33, which stand nowhere else".
+-- zero". "Cell 0 is kind 32 and cell 1 kind 33, which stand nowhere else". "34 delay, d from 1 to 255".
 unfoldable pub keeps : Shape → List Cell → ℕ → Cell → Bool
 keeps kConstant net k c = eqb (c .delay) 0 && eqb (c .b) 0
 keeps kComplement net k c = eqb (c .delay) 0 && (wordIn net k (c .a) && eqb (c .b) 0)

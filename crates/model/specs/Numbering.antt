@@ -125,6 +125,7 @@ delays (repeat δ e P) s d c =
 --   "If: expression, 36, 37, P, Q, 35 of the two finishes."
 --   "While: expression, 36 (starts P), 37 (finish), P, 35 of start and P's finish, which feeds the delay."
 --   "Repeat: expression, 36 (finish), 37, 35 of start and that 37 (starts P), P, whose finish feeds the delay."
+--   "Inputs stand in the order told".
 unfoldable pub walk : ℕ → Stmt → ℕ → ℕ → ℕ → List Cell
 walk M ok s d c = []
 walk M (tick δ) s d c = []

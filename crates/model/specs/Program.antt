@@ -208,7 +208,7 @@ builtInTimes =
     ∷ 17  -- 9 less
     ∷ []
 
--- "A node's delay d is at least its expression's time, and at least 1 for kinds 17, 18, 22 and 23."
+-- "A node's delay d is at least its expression's time, and at least 1 for kinds 17, 18, 22 and 23. If may have 0."
 unfoldable pub least : (ℕ → ℕ) → Stmt → ℕ
 least τ ok = 0
 least τ (tick d) = 1

@@ -1,5 +1,5 @@
 -- The reader of a text: one pass over its tokens, with a stack of what is still open, that makes the program's nodes as it goes.
--- It is how the calls find a reading; what a reading is, model/Text says, and model/Promises states that the two agree.
+-- It is how the calls find a reading; what a reading is, model/Text says, and model/TextPromises states that the two agree.
 -- Assumes nothing: definitions.
 use mathlib.Core.Bool.{Bool, true, false, _&&_, _||_}
 use mathlib.Core.List.{List, [], _∷_, _++_}
@@ -45,8 +45,8 @@ broken r = reader Broken (r .start) (r .frames) (r .cursor) (r .nodes)
 -- Binding ------------------------------------------------------------------------------------------------------------------------------
 
 -- How tightly an operator on the stack holds what follows it, and how far a new one reaches back for what stands before it. One that holds
--- more tightly than the new one reaches is complete. "`;` binds tighter than `||`, and both group to the right. In expressions `!` binds
--- tightest, then + and - to the left, then one = or < that doesn't chain, then &, then |, both to the left". What is no operator holds 0.
+-- more tightly than the new one reaches is complete. "`;` binds tighter than `||`, and both group to the right. In expressions `!` (complement)
+-- binds tightest, then + and - to the left, then one = or < that doesn't chain, then &, then |, both to the left". What is no operator holds 0.
 unfoldable pub holdOf : ℕ → ℕ
 holdOf c =
     pick (eqb c 3) 10

@@ -120,7 +120,8 @@ stepState net s =
     (upTo (shown (value net)) (length net)
     (upTo aged (length net) (put32 s 0 (instantOf s + 1))))
 
--- "Continuing by N evaluates later instants until the finish wire is high or N are done": the state then, and how many were evaluated
+-- "Continuing by N evaluates later instants until the finish wire is high or N are done; a state whose finish is already high is continued
+-- like any other.": the state then, and how many were evaluated
 unfoldable pub lastState : List Cell → ℕ → ℕ → List ℕ → List ℕ
 lastState net f zero s = s
 lastState net f (suc n) s =

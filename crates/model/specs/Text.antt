@@ -211,7 +211,9 @@ pub data Comparison : ℕ → Type 0 where
 pub data IsExpr : ℕ → List Token → Expr → Type 0 where
   number : (n : ℕ) → IsExpr 4 (numeral n ∷ []) (const n)
   variable : (x : ℕ) → IsExpr 4 (name x ∷ []) (var x)
+  -- "parentheses group"
   parens : {ts : List Token} {e : Expr} → IsExpr 0 ts e → IsExpr 4 (sign cOpen ∷ (ts ++ (sign cClose ∷ []))) e
+  -- "`!` (complement) binds tightest"
   complement : {ts : List Token} {e : Expr} → IsExpr 4 ts e → IsExpr 4 (sign 3 ∷ ts) (compl e)
   left : {l k : ℕ} {ts us : List Token} {e f : Expr} → Left l k → IsExpr l ts e → IsExpr (suc l) us f
       → IsExpr l (ts ++ (sign k ∷ us)) (op k e f)
@@ -224,7 +226,8 @@ pub data IsExpr : ℕ → List Token → Expr → Type 0 where
 abbrev pub timed : List Token → ℕ → List Token → List Token
 timed ts d rest = ts ++ (sign cAt ∷ (numeral d ∷ rest))
 
--- The tokens are a statement of a level: 2 is one statement or braces; 1 also ;; 0 also ||.
+-- The tokens are a statement of a level: 2 is one statement or braces; 1 also ;; 0 also ||. "Statements are `ok`, `tick n`, `xk := e @n`,
+-- `if e @n then S else S end`, `while e @n do S end`, `repeat S until e @n end`".
 pub data IsStmt : ℕ → List Token → Stmt → Type 0 where
   skip : IsStmt 2 (sign 16 ∷ []) ok
   ticks : (d : ℕ) → IsStmt 2 (sign 17 ∷ (numeral d ∷ [])) (tick d)

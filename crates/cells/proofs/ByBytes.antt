@@ -1,19 +1,29 @@
--- Renumbering over six bytes for each cell, and the equation that ties it to renumbering over structs. Assumes nothing.
+-- Renumbering over six bytes for each cell, and the equations that tie renumbering, checking and reading over structs to it. Assumes nothing.
+use mathlib.Core.Bool.{Bool, true, false}
 use mathlib.Core.List.{List, [], _∷_, _++_, map}
 use mathlib.Core.Path.{_≡_, refl, sym, _∙_, ap, ap₂}
 use Prim.Native.Nat.{ℕ, zero, suc, _+_, _-_, _*_, _<_, _≤_, min}
+use native.Mathlib.Nat.{zero-add}
 use native.Mathlib.Omega.{arith}
+use borrow.Author.Tests.{lt-ltb, le-ltb}
+use lib.Dec.{ltb}
 use lib.ListN.{length, getD, take, drop, length-map, length-take, length-drop, length-append}
 use lib.Seq.{sets, sets-eq, getD-drop, drop-append-seam}
 use Rattle.model.specs.declared.Cell.{Cell}
-use Rattle.model.specs.Word.{bytes16}
-use Rattle.model.specs.NetlistFile.{cellBytes, cellFrom, cellsAt, inList, netCheck}
-use Rattle.model.specs.CellSlices.{moved, movedBytes}
+use Rattle.model.specs.declared.Checked.{Checked}
+use Rattle.model.specs.declared.Checked.the-variants.{Accepted}
+use Rattle.model.specs.Word.{pick, bytes16, get16}
+use Rattle.model.specs.Circuit.{shape}
+use Rattle.model.specs.NetlistFile.{cellBytes, cellFrom, cellsAt, cellsOf, inList, inFile, countOf, finishOf, netCheck}
+use Rattle.model.specs.Calls.{writing, readCall}
+use Rattle.model.specs.Promises.{Bytes}
+use Rattle.model.specs.CellSlices.{namesA, namesB, later, moved, behind, movedBytes, placing, readCellsCall}
 use Rattle.theory.specs.NetlistFile.CellBytes.{bytes-length, same-cell}
 use Rattle.theory.specs.NetlistFile.ByCells.{cells-of-bytes}
 use Rattle.netlist.proofs.Writes.{sets-append}
 use Rattle.netlist.proofs.Bytes.{cells-more, cells-none, drop-cells, take-cells, cell-bytes-append}
 use Rattle.cells.specs.Moves.{movedFrom}
+use Rattle.cells.proofs.Turns.{by-less}
 use Rattle.cells.proofs.Listing.{bytes-append}
 
 -- Cell after cell ----------------------------------------------------------------------------------------------------------------------
@@ -95,3 +105,46 @@ renumber-bytes k end cs i f h =
 -- the rules are kept by cells if they are kept by their six bytes each, and the same cell breaks one
 pub check-bytes : (cs : List Cell) (f : ℕ) → netCheck (cellsAt inList (cellBytes cs) 0 (length cs)) f ≡ netCheck cs f
 check-bytes cs f = rw (cells-of-bytes cs (length cs) refl) refl
+
+-- Reading in front ---------------------------------------------------------------------------------------------------------------------
+
+-- a number of two bytes that is moved by 0
+still : (b : Bool) (j : ℕ) → j < 65536 → pick b (later 0 j) j ≡ j
+still true j l = omega arith
+still false j l = refl
+
+module _ (file : List ℕ) (y : Bytes file) where
+  two-bytes : (i : ℕ) → get16 file i < 65536
+  unfolding get16
+  two-bytes i = omega (arith, y i, y (i + 1))
+
+  unmoved : (i : ℕ) → moved 0 (cellFrom file i) ≡ cellFrom file i
+  unfolding moved cellFrom
+  unmoved i =
+      let kind = getD file i 0 in
+      rw (still (namesA (shape kind)) (get16 file (i + 2)) (two-bytes (i + 2)), still (namesB (shape kind)) (get16 file (i + 4)) (two-bytes (i + 4))) refl
+
+  all-unmoved : (at : ℕ → ℕ) (k n : ℕ) → behind 0 (cellsAt at file k n) ≡ cellsAt at file k n
+  unfolding cellsAt
+  all-unmoved at k zero = refl
+  all-unmoved at k (suc n) = ap₂ (λ (c : Cell) (cs : List Cell). c ∷ cs) (unmoved (at k)) (all-unmoved at (k + 1) n)
+
+same-room : (n m : ℕ) → ltb (6 * n) (6 * m) ≡ ltb n m
+same-room n m =
+    by-less n m (λ l. lt-ltb (6 * n) (6 * m) (omega arith) ∙ sym (lt-ltb n m l)) (λ l. le-ltb (6 * n) (6 * m) (omega arith) ∙ sym (le-ltb n m l))
+
+-- what is put in as cells, and as their six bytes each
+put-in : (c : Checked) (cs lent : List Cell) (n f : ℕ)
+    → (writing c (cellBytes cs) n f (cellBytes lent) .answer ≡ placing c 0 cs n f lent .answer)
+    × (writing c (cellBytes cs) n f (cellBytes lent) .lent ≡ cellBytes (placing c 0 cs n f lent .lent))
+unfolding writing placing
+put-in Accepted cs lent n f =
+    (refl, rw (zero-add (length cs), bytes-append cs (drop (length cs) lent), bytes-length cs) (ap (λ (s : List ℕ). cellBytes cs ++ s) (drop-bytes (length cs) lent)))
+put-in (Checked.Refused r) cs lent n f = (refl, refl)
+
+-- reading in front gives the cells whose six bytes each are read
+pub read-bytes : (file : List ℕ) (lent : List Cell) → Bytes file
+    → (readCall file (cellBytes lent) .answer ≡ readCellsCall file 0 lent .answer) × (readCall file (cellBytes lent) .lent ≡ cellBytes (readCellsCall file 0 lent .lent))
+unfolding readCall readCellsCall cellsOf
+read-bytes file lent y =
+    rw (zero-add (countOf file), bytes-length lent, same-room (length lent) (countOf file), all-unmoved file y inFile 0 (countOf file)) (put-in _ (cellsOf file) lent (countOf file) (finishOf file))

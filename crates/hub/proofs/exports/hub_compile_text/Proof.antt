@@ -3,5 +3,8 @@ use borrow.Author.Needs.{needs}
 use Rattle.hub.proofs.exports.hub_compile_text.Statement.{statement}
 use Rattle.hub.proofs.exports.hub_compile_text.Tie as tie
 
+returns : tie.Need-returns
+returns c = let call = c .before .before .before .before in rw (call .before .before .before .built-in .ensures) at (call .compile-text-by .ensures)
+
 pub hub-compile-text-spec : {M : Type 1} → statement M
-hub-compile-text-spec = tie.close (tie.spec (λ c κs. search needs) (λ c κs. search needs) (λ c. search needs) (λ c. search needs) (λ c. (cc, (cc, cc))))
+hub-compile-text-spec = tie.close (tie.spec (λ c κs. search needs) (λ c κs. search needs) (λ c. search needs) (λ c. search needs) returns)

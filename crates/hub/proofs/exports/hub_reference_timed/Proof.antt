@@ -3,5 +3,8 @@ use borrow.Author.Needs.{needs}
 use Rattle.hub.proofs.exports.hub_reference_timed.Statement.{statement}
 use Rattle.hub.proofs.exports.hub_reference_timed.Tie as tie
 
+returns : tie.Need-returns
+returns c = let call = c .before .before in rw (call .before .before .load .ensures) at (call .reference-by .ensures)
+
 pub hub-reference-timed-spec : {M : Type 1} → statement M
-hub-reference-timed-spec = tie.close (tie.spec (λ c κs. search needs) (λ c κs. search needs) (λ c. search needs) (λ c. (cc, cc)))
+hub-reference-timed-spec = tie.close (tie.spec (λ c κs. search needs) (λ c κs. search needs) (λ c. search needs) returns)

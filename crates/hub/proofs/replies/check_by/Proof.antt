@@ -13,7 +13,7 @@ returns-2 c =
     let put = c .before .before in
     let call = put .before .before .before in
     let told = call .check-by .ensures in
-    rw (le-leb 48 _ (call .before .if1 .left)) (refl, rw (← told, ← put .before .of-checked .ensures) (put .put .ensures))
+    rw (le-leb 48 _ (call .before .if1 .left)) (refl, rw (put .before .of-checked .ensures, told) at (put .put .ensures))
 
 pub check-by-spec : {M : Type 1} → statement M
 check-by-spec = tie.close (tie.spec returns (λ c κs. search needs) (λ c κs. search needs) (λ c κs. search needs) (λ c. search needs) returns-2)

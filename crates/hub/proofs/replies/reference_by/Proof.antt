@@ -13,7 +13,7 @@ returns-2 c =
     let put = c .before .before in
     let call = put .before .before .before in
     let told = call .reference-by .ensures in
-    rw (le-leb 48 _ (call .before .if1 .left)) (refl, rw (← told, ← put .before .of-answer .ensures) (put .put .ensures))
+    rw (le-leb 48 _ (call .before .if1 .left)) (refl, rw (put .before .of-answer .ensures, told) at (put .put .ensures))
 
 pub reference-by-spec : {M : Type 1} → statement M
 reference-by-spec = tie.close (tie.spec returns (λ c κs. search needs) (λ c κs. search needs) (λ c κs. search needs) (λ c. search needs) returns-2)

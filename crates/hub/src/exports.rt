@@ -5,19 +5,15 @@ ghost use Rattle.model.specs.TimeTables.{builtIn, given, load};
 ghost use Rattle.model.specs.Calls.{checkCall, compileCall, writeCall, readCall, beginCall, continueCall, runNetlistCall, runProgramCall, referenceCall};
 ghost use Rattle.model.specs.TextCalls.{readTextCall, compileTextCall, runTextCall};
 ghost use Rattle.reply.specs.Replies.{checkedReply, writtenReply, answerReply, replied, roomFor, ifRoom};
+use crate::replies;
+use program::tables;
 
 #[no_mangle]
 pub extern "C" fn hub_check(program: &[u8], reply: &mut [u8]) -> bool
     ensures done { λ r. ⌜ r ≡ roomFor (now (reply .entry)) ⌝ }
     ensures reply { λ _. ⌜ now (reply .exit) ≡ ifRoom (now (reply .entry)) (replied (checkedReply (checkCall (load builtIn) (now (program .entry)))) (now (reply .entry))) (now (reply .entry)) ⌝ }
 {
-    if reply.len() < 48 {
-        return false;
-    }
-    let answer = crate::check(program);
-    let answered = reply::of_checked(answer);
-    reply::put(reply, answered);
-    true
+    replies::check_by(tables::built_in(), program, reply)
 }
 
 #[no_mangle]
@@ -25,13 +21,7 @@ pub extern "C" fn hub_check_timed(table: &[u8], program: &[u8], reply: &mut [u8]
     ensures done { λ r. ⌜ r ≡ roomFor (now (reply .entry)) ⌝ }
     ensures reply { λ _. ⌜ now (reply .exit) ≡ ifRoom (now (reply .entry)) (replied (checkedReply (checkCall (load (given (now (table .entry)))) (now (program .entry)))) (now (reply .entry))) (now (reply .entry)) ⌝ }
 {
-    if reply.len() < 48 {
-        return false;
-    }
-    let answer = crate::check_timed(table, program);
-    let answered = reply::of_checked(answer);
-    reply::put(reply, answered);
-    true
+    replies::check_by(tables::load(table), program, reply)
 }
 
 #[no_mangle]
@@ -40,13 +30,7 @@ pub extern "C" fn hub_compile(program: &[u8], file: &mut [u8], reply: &mut [u8])
     ensures file { λ _. ⌜ now (file .exit) ≡ ifRoom (now (reply .entry)) (compileCall (load builtIn) (now (program .entry)) (now (file .entry)) .lent) (now (file .entry)) ⌝ }
     ensures reply { λ _. ⌜ now (reply .exit) ≡ ifRoom (now (reply .entry)) (replied (writtenReply (compileCall (load builtIn) (now (program .entry)) (now (file .entry)) .answer)) (now (reply .entry))) (now (reply .entry)) ⌝ }
 {
-    if reply.len() < 48 {
-        return false;
-    }
-    let answer = crate::compile(program, file);
-    let answered = reply::of_written(answer);
-    reply::put(reply, answered);
-    true
+    replies::compile_by(tables::built_in(), program, file, reply)
 }
 
 #[no_mangle]
@@ -60,13 +44,7 @@ pub extern "C" fn hub_compile_timed(
     ensures file { λ _. ⌜ now (file .exit) ≡ ifRoom (now (reply .entry)) (compileCall (load (given (now (table .entry)))) (now (program .entry)) (now (file .entry)) .lent) (now (file .entry)) ⌝ }
     ensures reply { λ _. ⌜ now (reply .exit) ≡ ifRoom (now (reply .entry)) (replied (writtenReply (compileCall (load (given (now (table .entry)))) (now (program .entry)) (now (file .entry)) .answer)) (now (reply .entry))) (now (reply .entry)) ⌝ }
 {
-    if reply.len() < 48 {
-        return false;
-    }
-    let answer = crate::compile_timed(table, program, file);
-    let answered = reply::of_written(answer);
-    reply::put(reply, answered);
-    true
+    replies::compile_by(tables::load(table), program, file, reply)
 }
 
 #[no_mangle]
@@ -79,8 +57,7 @@ pub extern "C" fn hub_write(cells: &[u8], finish: u16, file: &mut [u8], reply: &
         return false;
     }
     let answer = crate::write_netlist(cells, finish, file);
-    let answered = reply::of_written(answer);
-    reply::put(reply, answered);
+    reply::put(reply, reply::of_written(answer));
     true
 }
 
@@ -94,8 +71,7 @@ pub extern "C" fn hub_read(file: &[u8], cells: &mut [u8], reply: &mut [u8]) -> b
         return false;
     }
     let answer = crate::read_netlist(file, cells);
-    let answered = reply::of_written(answer);
-    reply::put(reply, answered);
+    reply::put(reply, reply::of_written(answer));
     true
 }
 
@@ -114,8 +90,7 @@ pub extern "C" fn hub_begin(
         return false;
     }
     let answer = crate::begin(netlist, words, state);
-    let answered = reply::of_answer(answer);
-    reply::put(reply, answered);
+    reply::put(reply, reply::of_answer(answer));
     true
 }
 
@@ -129,8 +104,7 @@ pub extern "C" fn hub_continue(netlist: &[u8], state: &mut [u8], n: u32, reply: 
         return false;
     }
     let answer = crate::continue_by(netlist, state, n);
-    let answered = reply::of_answer(answer);
-    reply::put(reply, answered);
+    reply::put(reply, reply::of_answer(answer));
     true
 }
 
@@ -150,8 +124,7 @@ pub extern "C" fn hub_run_netlist(
         return false;
     }
     let answer = crate::run_netlist(netlist, words, budget, state);
-    let answered = reply::of_answer(answer);
-    reply::put(reply, answered);
+    reply::put(reply, reply::of_answer(answer));
     true
 }
 
@@ -169,13 +142,8 @@ pub extern "C" fn hub_run_program(
     ensures state { λ _. ⌜ now (state .exit) ≡ ifRoom (now (reply .entry)) (runProgramCall (load builtIn) (now (program .entry)) (now (words .entry)) budget (now (netlist .entry)) (now (state .entry)) .state) (now (state .entry)) ⌝ }
     ensures reply { λ _. ⌜ now (reply .exit) ≡ ifRoom (now (reply .entry)) (replied (answerReply (runProgramCall (load builtIn) (now (program .entry)) (now (words .entry)) budget (now (netlist .entry)) (now (state .entry)) .answer)) (now (reply .entry))) (now (reply .entry)) ⌝ }
 {
-    if reply.len() < 48 {
-        return false;
-    }
-    let answer = crate::run_program(program, words, budget, netlist, state);
-    let answered = reply::of_answer(answer);
-    reply::put(reply, answered);
-    true
+    let table = tables::built_in();
+    replies::run_program_by(table, program, words, budget, netlist, state, reply)
 }
 
 #[no_mangle]
@@ -193,13 +161,8 @@ pub extern "C" fn hub_run_program_timed(
     ensures state { λ _. ⌜ now (state .exit) ≡ ifRoom (now (reply .entry)) (runProgramCall (load (given (now (table .entry)))) (now (program .entry)) (now (words .entry)) budget (now (netlist .entry)) (now (state .entry)) .state) (now (state .entry)) ⌝ }
     ensures reply { λ _. ⌜ now (reply .exit) ≡ ifRoom (now (reply .entry)) (replied (answerReply (runProgramCall (load (given (now (table .entry)))) (now (program .entry)) (now (words .entry)) budget (now (netlist .entry)) (now (state .entry)) .answer)) (now (reply .entry))) (now (reply .entry)) ⌝ }
 {
-    if reply.len() < 48 {
-        return false;
-    }
-    let answer = crate::run_program_timed(table, program, words, budget, netlist, state);
-    let answered = reply::of_answer(answer);
-    reply::put(reply, answered);
-    true
+    let loaded = tables::load(table);
+    replies::run_program_by(loaded, program, words, budget, netlist, state, reply)
 }
 
 #[no_mangle]
@@ -207,13 +170,7 @@ pub extern "C" fn hub_reference(program: &[u8], words: &[u8], budget: u32, reply
     ensures done { λ r. ⌜ r ≡ roomFor (now (reply .entry)) ⌝ }
     ensures reply { λ _. ⌜ now (reply .exit) ≡ ifRoom (now (reply .entry)) (replied (answerReply (referenceCall (load builtIn) (now (program .entry)) (now (words .entry)) budget)) (now (reply .entry))) (now (reply .entry)) ⌝ }
 {
-    if reply.len() < 48 {
-        return false;
-    }
-    let answer = crate::reference_run(program, words, budget);
-    let answered = reply::of_answer(answer);
-    reply::put(reply, answered);
-    true
+    replies::reference_by(tables::built_in(), program, words, budget, reply)
 }
 
 #[no_mangle]
@@ -227,13 +184,7 @@ pub extern "C" fn hub_reference_timed(
     ensures done { λ r. ⌜ r ≡ roomFor (now (reply .entry)) ⌝ }
     ensures reply { λ _. ⌜ now (reply .exit) ≡ ifRoom (now (reply .entry)) (replied (answerReply (referenceCall (load (given (now (table .entry)))) (now (program .entry)) (now (words .entry)) budget)) (now (reply .entry))) (now (reply .entry)) ⌝ }
 {
-    if reply.len() < 48 {
-        return false;
-    }
-    let answer = crate::reference_run_timed(table, program, words, budget);
-    let answered = reply::of_answer(answer);
-    reply::put(reply, answered);
-    true
+    replies::reference_by(tables::load(table), program, words, budget, reply)
 }
 
 #[no_mangle]
@@ -242,13 +193,7 @@ pub extern "C" fn hub_read_text(source: &[u8], program: &mut [u8], reply: &mut [
     ensures program { λ _. ⌜ now (program .exit) ≡ ifRoom (now (reply .entry)) (readTextCall (load builtIn) (now (source .entry)) (now (program .entry)) .lent) (now (program .entry)) ⌝ }
     ensures reply { λ _. ⌜ now (reply .exit) ≡ ifRoom (now (reply .entry)) (replied (writtenReply (readTextCall (load builtIn) (now (source .entry)) (now (program .entry)) .answer)) (now (reply .entry))) (now (reply .entry)) ⌝ }
 {
-    if reply.len() < 48 {
-        return false;
-    }
-    let answer = crate::read_text(source, program);
-    let answered = reply::of_written(answer);
-    reply::put(reply, answered);
-    true
+    replies::read_text_by(tables::built_in(), source, program, reply)
 }
 
 #[no_mangle]
@@ -262,13 +207,7 @@ pub extern "C" fn hub_read_text_timed(
     ensures program { λ _. ⌜ now (program .exit) ≡ ifRoom (now (reply .entry)) (readTextCall (load (given (now (table .entry)))) (now (source .entry)) (now (program .entry)) .lent) (now (program .entry)) ⌝ }
     ensures reply { λ _. ⌜ now (reply .exit) ≡ ifRoom (now (reply .entry)) (replied (writtenReply (readTextCall (load (given (now (table .entry)))) (now (source .entry)) (now (program .entry)) .answer)) (now (reply .entry))) (now (reply .entry)) ⌝ }
 {
-    if reply.len() < 48 {
-        return false;
-    }
-    let answer = crate::read_text_timed(table, source, program);
-    let answered = reply::of_written(answer);
-    reply::put(reply, answered);
-    true
+    replies::read_text_by(tables::load(table), source, program, reply)
 }
 
 #[no_mangle]
@@ -277,13 +216,7 @@ pub extern "C" fn hub_compile_text(source: &[u8], file: &mut [u8], reply: &mut [
     ensures file { λ _. ⌜ now (file .exit) ≡ ifRoom (now (reply .entry)) (compileTextCall (load builtIn) (now (source .entry)) (now (file .entry)) .lent) (now (file .entry)) ⌝ }
     ensures reply { λ _. ⌜ now (reply .exit) ≡ ifRoom (now (reply .entry)) (replied (writtenReply (compileTextCall (load builtIn) (now (source .entry)) (now (file .entry)) .answer)) (now (reply .entry))) (now (reply .entry)) ⌝ }
 {
-    if reply.len() < 48 {
-        return false;
-    }
-    let answer = crate::compile_text(source, file);
-    let answered = reply::of_written(answer);
-    reply::put(reply, answered);
-    true
+    replies::compile_text_by(tables::built_in(), source, file, reply)
 }
 
 #[no_mangle]
@@ -297,13 +230,7 @@ pub extern "C" fn hub_compile_text_timed(
     ensures file { λ _. ⌜ now (file .exit) ≡ ifRoom (now (reply .entry)) (compileTextCall (load (given (now (table .entry)))) (now (source .entry)) (now (file .entry)) .lent) (now (file .entry)) ⌝ }
     ensures reply { λ _. ⌜ now (reply .exit) ≡ ifRoom (now (reply .entry)) (replied (writtenReply (compileTextCall (load (given (now (table .entry)))) (now (source .entry)) (now (file .entry)) .answer)) (now (reply .entry))) (now (reply .entry)) ⌝ }
 {
-    if reply.len() < 48 {
-        return false;
-    }
-    let answer = crate::compile_text_timed(table, source, file);
-    let answered = reply::of_written(answer);
-    reply::put(reply, answered);
-    true
+    replies::compile_text_by(tables::load(table), source, file, reply)
 }
 
 #[no_mangle]
@@ -320,13 +247,8 @@ pub extern "C" fn hub_run_text(
     ensures state { λ _. ⌜ now (state .exit) ≡ ifRoom (now (reply .entry)) (runTextCall (load builtIn) (now (source .entry)) (now (words .entry)) budget (now (netlist .entry)) (now (state .entry)) .state) (now (state .entry)) ⌝ }
     ensures reply { λ _. ⌜ now (reply .exit) ≡ ifRoom (now (reply .entry)) (replied (answerReply (runTextCall (load builtIn) (now (source .entry)) (now (words .entry)) budget (now (netlist .entry)) (now (state .entry)) .answer)) (now (reply .entry))) (now (reply .entry)) ⌝ }
 {
-    if reply.len() < 48 {
-        return false;
-    }
-    let answer = crate::run_text(source, words, budget, netlist, state);
-    let answered = reply::of_answer(answer);
-    reply::put(reply, answered);
-    true
+    let table = tables::built_in();
+    replies::run_text_by(table, source, words, budget, netlist, state, reply)
 }
 
 #[no_mangle]
@@ -344,11 +266,6 @@ pub extern "C" fn hub_run_text_timed(
     ensures state { λ _. ⌜ now (state .exit) ≡ ifRoom (now (reply .entry)) (runTextCall (load (given (now (table .entry)))) (now (source .entry)) (now (words .entry)) budget (now (netlist .entry)) (now (state .entry)) .state) (now (state .entry)) ⌝ }
     ensures reply { λ _. ⌜ now (reply .exit) ≡ ifRoom (now (reply .entry)) (replied (answerReply (runTextCall (load (given (now (table .entry)))) (now (source .entry)) (now (words .entry)) budget (now (netlist .entry)) (now (state .entry)) .answer)) (now (reply .entry))) (now (reply .entry)) ⌝ }
 {
-    if reply.len() < 48 {
-        return false;
-    }
-    let answer = crate::run_text_timed(table, source, words, budget, netlist, state);
-    let answered = reply::of_answer(answer);
-    reply::put(reply, answered);
-    true
+    let loaded = tables::load(table);
+    replies::run_text_by(loaded, source, words, budget, netlist, state, reply)
 }

@@ -7,6 +7,7 @@ ghost use Rattle.model.specs.TextCalls.{readTextCall, compileTextCall, runTextC
 
 pub mod exports; // the calls for other languages
 mod full; // the full run of a program
+mod replies; // the exported calls that go by a table
 mod texts; // compiling and running a text
 
 use model::Answer;

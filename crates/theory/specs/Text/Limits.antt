@@ -10,7 +10,7 @@ use Rattle.model.specs.declared.Node.{Node}
 use Rattle.model.specs.declared.Token.{Token}
 use Rattle.model.specs.Word.{bytes16}
 use Rattle.model.specs.Program.{Expr, Stmt, node, nodeBytes, preorderE, preorder}
-use Rattle.model.specs.Text.{cThen, cElse, cDo, cUntil, cOpen, cLeft, blank, runLength, isNumber, isName, limitAfter, twoCode, runToken, tokenAt, sizeAt, wordsFrom, tokens, timed, Left, sum, difference, and, or, Comparison, equal, less, IsExpr, number, variable, parens, complement, left, compare, IsStmt, ticks, becomes, ifs, whiles, repeats, braces, sequence, parallel, Means, wordsOf}
+use Rattle.model.specs.Text.{cThen, cElse, cDo, cUntil, cAt, cOpen, cLeft, blank, runLength, isNumber, isName, limitAfter, twoCode, runToken, tokenAt, sizeAt, wordsFrom, tokens, timed, Left, sum, difference, and, or, Comparison, equal, less, IsExpr, number, variable, parens, complement, left, compare, IsStmt, ticks, becomes, ifs, whiles, repeats, braces, sequence, parallel, Means, wordsOf}
 use Rattle.model.specs.Promises.{Bytes}
 use Rattle.theory.specs.Refusals.Laws.{by-bool, and-true}
 use Rattle.theory.specs.Program.Trees.{by-pick}
@@ -23,9 +23,21 @@ abbrev Limited : ℕ → List Token → Type 0
 Limited p [] = Unit {0}
 Limited p (t ∷ ts) = (t .value ≤ limitAfter p) × Limited (t .code) ts
 
+limited-parts : (p : ℕ) (ts us : List Token) → Limited p (ts ++ us) → Limited p ts × (q : ℕ) × Limited q us
+limited-parts p [] us h = (tt, p, h)
+limited-parts p (t ∷ ts) us h =
+    let f = limited-parts (t .code) ts us (h .1) in
+    ((h .0, f .0), f .1, f .2)
+
+limited-timed : (p : ℕ) (ts : List Token) (d : ℕ) (rest : List Token) → Limited p (timed ts d rest) → Limited p ts × (d < 256) × Limited 1 rest
+unfolding limitAfter
+limited-timed p ts d rest h =
+    let f = limited-parts p ts _ h in
+    (f .0, omega (arith, f .2 .1 .0), f .2 .1 .1)
+
 limits : (p : ℕ) → (15 ≤ limitAfter p) × (limitAfter p ≤ 65535)
 unfolding limitAfter
-limits p = by-bool (eqb p 37 || eqb p 17) (λ e. rw e (omega arith, omega arith)) (λ e. rw e (omega arith, omega arith))
+limits p = by-pick (λ (n : ℕ). (15 ≤ n) × (n ≤ 65535)) (eqb p cAt || eqb p 17) 255 65535 (omega arith, omega arith) (omega arith, omega arith)
 
 run-limited : (p : ℕ) (w : List ℕ) → runToken p w .value ≤ limitAfter p
 unfolding runToken isName
@@ -33,7 +45,7 @@ run-limited p w =
     by-bool (isNumber (limitAfter p) w) (λ e. rw e (number-known (limitAfter p) w e .small))
     (λ e. rw e
     (by-bool (isName w)
-    (λ f. rw f (omega (arith, number-known 15 (drop 1 w) (and-true (eqb (getD w 0 0) 120) (isNumber 15 (drop 1 w)) f .1) .small, limits p)))
+    (λ f. rw f (omega (arith, number-known _ (drop 1 w) (and-true (eqb (getD w 0 0) 120) _ f .1) .small, limits p)))
     (λ f. rw f (omega arith))))
 
 token-limited : (p : ℕ) (s : List ℕ) → tokenAt p s .value ≤ limitAfter p
@@ -53,18 +65,6 @@ words-limited zero p i (c ∷ s) =
     let blanks = words-limited 0 p (i + 1) s in
     let others = words-limited (sizeAt (c ∷ s) - 1) (t .code) (i + 1) s in
     by-bool (blank c) (λ e. rw (e, wordsFrom) blanks) (λ e. rw (e, wordsFrom) (token-limited p (c ∷ s), others))
-
-limited-parts : (p : ℕ) (ts us : List Token) → Limited p (ts ++ us) → Limited p ts × (q : ℕ) × Limited q us
-limited-parts p [] us h = (tt, p, h)
-limited-parts p (t ∷ ts) us h =
-    let f = limited-parts (t .code) ts us (h .1) in
-    ((h .0, f .0), f .1, f .2)
-
-limited-timed : (p : ℕ) (ts : List Token) (d : ℕ) (rest : List Token) → Limited p (timed ts d rest) → Limited p ts × (d < 256) × Limited 1 rest
-unfolding limitAfter
-limited-timed p ts d rest h =
-    let f = limited-parts p ts _ h in
-    (f .0, omega (arith, f .2 .1 .0), f .2 .1 .1)
 
 -- Nodes --------------------------------------------------------------------------------------------------------------------------------
 

@@ -180,13 +180,13 @@ name-decimal : (w : List ℕ) → isName w ≡ true → (x : ℕ) × (x < 16) ×
 unfolding isName
 name-decimal [] e = not-both e refl
 name-decimal (c ∷ w) e =
-    let both = and-true (eqb c 120) (isNumber 15 w) e in
-    let f = number-decimal 15 w (both .1) in
+    let both = and-true (eqb c 120) _ e in
+    let f = number-decimal _ w (both .1) in
     (f .0, omega (arith, f .1), ap₂ _∷_ (eqb-true c 120 (both .0)) (f .2))
 
 decimal-name : (x : ℕ) → x < 16 → isName (120 ∷ decimal x) ≡ true
 unfolding isName
-decimal-name x h = decimal-passes x (omega arith) 15 (omega arith)
+decimal-name x h = decimal-passes x (omega arith) _ (omega arith)
 
 pub words : Words
 words =

@@ -2,8 +2,9 @@
 -- "An accepted text, at most 4,096 bytes, has one reading; its program's bytes are the result."
 -- Assumes nothing: definitions.
 use mathlib.Core.Path.{_≡_}
+use mathlib.Core.Bool.{true}
 use mathlib.Core.List.{List, [], _∷_}
-use Prim.Native.Nat.{ℕ, zero, suc}
+use Prim.Native.Nat.{ℕ, zero, suc, _≤_, _<_}
 use lib.ListN.{length, take}
 use Rattle.model.specs.declared.Node.{Node}
 use Rattle.model.specs.declared.Token.{Token}
@@ -11,18 +12,30 @@ use Rattle.model.specs.declared.Checked.the-variants.{Accepted}
 use Rattle.model.specs.declared.Written.the-variants.{Done}
 use Rattle.model.specs.Refusals.{first}
 use Rattle.model.specs.Program.{Stmt, preorder, nodeBytes, programOf}
-use Rattle.model.specs.Text.{Word, wordsOf, tokens, Means, BreaksAt}
+use Rattle.model.specs.Text.{valueFrom, isNumber, isName, Word, wordsOf, tokens, Means, BreaksAt}
 use Rattle.model.specs.Reader.{good, bad}
 use Rattle.model.specs.TimeTables.{Table, load}
 use Rattle.model.specs.TextCalls.{readingOf, textProgram, textChecks, readTextChecks, readTextCall, compileTextChecks, compileTextCall, runTextChecks, runTextCall}
 use Rattle.model.specs.Calls.{verdict, writtenVerdict, compileCall, runProgramCall}
-use Rattle.model.specs.Promises.{Refuses, Leaves}
+use Rattle.model.specs.Hubrun.{decimal}
+use Rattle.model.specs.Promises.{Bytes, Refuses, Leaves}
 
 -- the place of word i, or the length of the text where the words are fewer
 unfoldable pub placeAt : ℕ → List Word → ℕ → ℕ
 placeAt end [] i = end
 placeAt end (w ∷ ws) zero = w .place
 placeAt end (w ∷ ws) (suc i) = placeAt end ws i
+
+-- Words are on both sides of what `Texts` states, so what they are is stated by itself: a run of letters and digits is a number or a name
+-- exactly if it is a numeral, or x and a numeral, as `hubrun` prints them.
+pub record Words : Type 0 where
+  -- "Numbers, also in names, are decimal without leading zeros, to" a limit
+  pub numeral : (limit n : ℕ) → limit ≤ 65535 → n ≤ limit → isNumber limit (decimal n) ≡ true
+  pub number : (limit : ℕ) (w : List ℕ) → isNumber limit w ≡ true → (n : ℕ) × (n ≤ limit) × (w ≡ decimal n)
+  pub value : (n : ℕ) → n ≤ 65535 → valueFrom 0 (decimal n) ≡ n
+  -- "xk", with x16 outside
+  pub name : (x : ℕ) → x < 16 → isName (120 ∷ decimal x) ≡ true
+  pub named : (w : List ℕ) → isName w ≡ true → (x : ℕ) × (x < 16) × (w ≡ 120 ∷ decimal x)
 
 pub record Texts : Type 0 where
   -- the grammar is unambiguous
@@ -37,7 +50,8 @@ pub record Texts : Type 0 where
   pub program : (T : Table) (text lent : List ℕ) (n f : ℕ) → readTextCall (load T) text lent .answer ≡ Done n f →
       let bytes = take n (readTextCall (load T) text lent .lent) in
       (P : Stmt) × Means (tokens (wordsOf text)) P × (bytes ≡ nodeBytes (preorder P)) × (programOf bytes ≡ P)
-  -- a text that passes 17 and 18 is compiled and run as that program, of which demands 2 and 3 speak
+  -- a text that passes 17 and 18 has bytes for its program, and is compiled and run as that program, of which demands 2 and 3 speak
+  pub bytes : (text : List ℕ) → first (textChecks text) ≡ Accepted → Bytes (textProgram text)
   pub compiled : (T : Table) (text lent : List ℕ) → first (textChecks text) ≡ Accepted
       → compileTextCall (load T) text lent ≡ compileCall (load T) (textProgram text) lent
   pub run : (T : Table) (text words : List ℕ) (n : ℕ) (forFile lent : List ℕ) → first (textChecks text) ≡ Accepted

@@ -7,6 +7,8 @@ pub mod Open
 pub mod Stands
 pub mod Sound
 pub mod Bytes
+pub mod Numerals
+pub mod Limits
 pub mod Order
 pub mod AsProgram
 pub mod Readings

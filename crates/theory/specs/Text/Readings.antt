@@ -1,6 +1,6 @@
 -- What is promised of programs as text, as model/TextPromises states it.
 -- Assumes nothing.
-use mathlib.Core.Path.{_≡_, refl, _∙_, ap}
+use mathlib.Core.Path.{_≡_, refl, sym, _∙_, ap, subst}
 use mathlib.Core.List.{List}
 use Prim.Native.Nat.{ℕ}
 use lib.ListN.{length, take}
@@ -13,6 +13,7 @@ use Rattle.model.specs.Text.{wordsOf, tokens, Means, BreaksAt}
 use Rattle.model.specs.Reader.{Reading, good, bad, readerAtFirst}
 use Rattle.model.specs.TimeTables.{load}
 use Rattle.model.specs.TextCalls.{readingOf, brokenAt, bytesRead, textChecks, readTextCall}
+use Rattle.model.specs.Promises.{Bytes}
 use Rattle.model.specs.TextPromises.{placeAt, Texts}
 use Rattle.theory.specs.Refusals.Laws.{not-refused, all-accept}
 use Rattle.theory.specs.Text.Runs.{reads-good}
@@ -20,6 +21,7 @@ use Rattle.theory.specs.Text.Found.{reader-finds, broken-place}
 use Rattle.theory.specs.Text.OneReading.{one-reading}
 use Rattle.theory.specs.Text.Sound.{begins, sound, words-proper, take-proper}
 use Rattle.theory.specs.Text.Bytes.{program-back}
+use Rattle.theory.specs.Text.Limits.{reading-bytes}
 use Rattle.theory.specs.Text.Order.{read-text-refuses, compile-text-refuses, run-text-refuses}
 use Rattle.theory.specs.Text.AsProgram.{compile-as-program, run-as-program, text-accepted, program-made}
 
@@ -69,6 +71,9 @@ texts =
       read = read;
       broken = broken;
       program = λ T. program (load T);
+      bytes = λ text e.
+          let q = meant text (all-accept (textChecks text) e 2) in
+          subst Bytes (sym (q .2)) (reading-bytes text (q .1));
       compiled = λ T. compile-as-program (load T);
       run = λ T. run-as-program (load T);
       reading = read-text-refuses;

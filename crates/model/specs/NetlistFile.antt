@@ -55,11 +55,14 @@ restBytes cs = cellBytes cs ++ replicate (504 - 6 * length cs) 0
 abbrev pub checkFor : ℕ → ℕ
 checkFor sum = (65536 - sum % 65536) % 65536
 
-unfoldable pub block : ℕ → ℕ → ℕ → List Cell → List ℕ
-block number count finish cs =
+-- a block: its header, its check, and what comes after them
+abbrev pub blockWith : ℕ → ℕ → ℕ → List ℕ → List ℕ
+blockWith number count finish rest =
     let head = headBytes number count finish in
-    let rest = restBytes cs in
     head ++ (bytes16 (checkFor (wordSum head + wordSum rest)) ++ rest)
+
+unfoldable pub block : ℕ → ℕ → ℕ → List Cell → List ℕ
+block number count finish cs = blockWith number count finish (restBytes cs)
 
 -- so many blocks from block number b on
 unfoldable pub blocks : ℕ → ℕ → ℕ → ℕ → List Cell → List ℕ

@@ -4,4 +4,5 @@ pub mod Answers
 pub mod Replay
 pub mod Kept
 pub mod Demands
+pub mod Tables
 pub mod Cases

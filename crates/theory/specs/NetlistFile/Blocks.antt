@@ -15,7 +15,7 @@ use borrow.Author.Tests.{eq-eqb, eqb-true}
 use Rattle.model.specs.declared.Cell.{Cell}
 use Rattle.model.specs.Word.{get16, bytes16}
 use Rattle.model.specs.Circuit.{cellAt}
-use Rattle.model.specs.NetlistFile.{cellBytes, cellFrom, wordSum, checkFor, block, blocks, blockAt, allZero, headed, countOf, finishOf}
+use Rattle.model.specs.NetlistFile.{cellBytes, cellFrom, wordSum, checkFor, blockWith, block, blocks, blockAt, allZero, headed, countOf, finishOf}
 use Rattle.model.specs.Promises.{Bytes}
 use Rattle.theory.specs.Refusals.Laws.{and-true, and-of}
 use Rattle.theory.specs.State.Sound.{zero-run}
@@ -46,9 +46,9 @@ block-length b n f cs l = simp (length-append, bytes-length, length-replicate) (
 pub take-short : (cs : List Cell) → length (take 84 cs) ≤ 84
 take-short cs = rw (length-take 84 cs) (omega arith)
 
-pub block-sum : (b n f : ℕ) (cs : List Cell) → wordSum (block b n f cs) % 65536 ≡ 0
-unfolding block bytes16 wordSum
-block-sum b n f cs = omega arith
+pub block-sum : (b n f : ℕ) (rest : List ℕ) → wordSum (blockWith b n f rest) % 65536 ≡ 0
+unfolding bytes16 wordSum
+block-sum b n f rest = omega arith
 
 pub in-block : (b n f : ℕ) (cs : List Cell) (k : ℕ) → k < length cs → cellFrom (block b n f cs) (8 + 6 * k) ≡ cellAt cs k
 in-block b n f cs k l =
@@ -61,7 +61,7 @@ in-block b n f cs k l =
 all-zero : (s : List ℕ) → ((i : ℕ) → getD s i 0 ≡ 0) → allZero s ≡ true
 all-zero s h = ap allZero (sym (take-all (length s) s (omega arith))) ∙ zero-run (length s) s (λ i l. h i)
 
-zero-tail : (m i : ℕ) → getD {A = ℕ} (replicate m 0) i 0 ≡ 0
+pub zero-tail : (m i : ℕ) → getD {A = ℕ} (replicate m 0) i 0 ≡ 0
 zero-tail m i = go (decLt i m)
   where
     go : Dec (i < m) → getD {A = ℕ} (replicate m 0) i 0 ≡ 0
@@ -138,22 +138,22 @@ module _ (n f : ℕ) where
 
 -- One block that was read --------------------------------------------------------------------------------------------------------------
 
-zeros-back : (m : ℕ) (s : List ℕ) → length s ≡ m → ((i : ℕ) → getD s i 0 ≡ 0) → s ≡ replicate m 0
+pub zeros-back : (m : ℕ) (s : List ℕ) → length s ≡ m → ((i : ℕ) → getD s i 0 ≡ 0) → s ≡ replicate m 0
 zeros-back m s e h = ext-getD 0 s (replicate m 0) (e ∙ sym (length-replicate {A = ℕ} m 0)) (λ i l. h i ∙ sym (zero-tail m i))
 
--- a block with the right header, sum, cells and unused bytes is the one that is written
-block-of : (b n f : ℕ) (cs : List Cell) (x₀ x₁ x₂ x₃ x₄ x₅ x₆ x₇ : ℕ) (r : List ℕ) → x₀ < 256 → x₂ < 256 → x₄ < 256 → x₆ < 256 → x₇ < 256
+-- a block with the right header and sum is the one that is written
+pub block-of : (b n f x₀ x₁ x₂ x₃ x₄ x₅ x₆ x₇ : ℕ) (r : List ℕ) → x₀ < 256 → x₂ < 256 → x₄ < 256 → x₆ < 256 → x₇ < 256
     → b ≡ x₀ + 256 * x₁ → n ≡ x₂ + 256 * x₃ → f ≡ x₄ + 256 * x₅ → wordSum (x₀ ∷ x₁ ∷ x₂ ∷ x₃ ∷ x₄ ∷ x₅ ∷ x₆ ∷ x₇ ∷ r) % 65536 ≡ 0
-    → cellBytes cs ++ replicate (504 - 6 * length cs) 0 ≡ r → block b n f cs ≡ x₀ ∷ x₁ ∷ x₂ ∷ x₃ ∷ x₄ ∷ x₅ ∷ x₆ ∷ x₇ ∷ r
-unfolding block wordSum
-block-of b n f cs x₀ x₁ x₂ x₃ x₄ x₅ x₆ x₇ r h₀ h₂ h₄ h₆ h₇ eb en ef s e =
-    rw (e, two-back x₀ x₁ b h₀ eb, two-back x₂ x₃ n h₂ en, two-back x₄ x₅ f h₄ ef)
+    → blockWith b n f r ≡ x₀ ∷ x₁ ∷ x₂ ∷ x₃ ∷ x₄ ∷ x₅ ∷ x₆ ∷ x₇ ∷ r
+unfolding wordSum
+block-of b n f x₀ x₁ x₂ x₃ x₄ x₅ x₆ x₇ r h₀ h₂ h₄ h₆ h₇ eb en ef s =
+    rw (two-back x₀ x₁ b h₀ eb, two-back x₂ x₃ n h₂ en, two-back x₄ x₅ f h₄ ef)
     (ap (λ (l : List ℕ). x₀ ∷ x₁ ∷ x₂ ∷ x₃ ∷ x₄ ∷ x₅ ∷ (l ++ r)) (two-back x₆ x₇ _ h₆ (omega arith)))
 
 pub block-back : (b n f : ℕ) (cs : List Cell) (B : List ℕ) → length B ≡ 512 → Bytes B → get16 B 0 ≡ b → get16 B 2 ≡ n → get16 B 4 ≡ f
     → wordSum B % 65536 ≡ 0 → length cs ≤ 84 → ((i : ℕ) → i < length cs → cellAt cs i ≡ cellFrom B (8 + 6 * i))
     → ((j : ℕ) → 8 + 6 * length cs ≤ j → getD B j 0 ≡ 0) → block b n f cs ≡ B
-unfolding get16
+unfolding block get16
 block-back b n f cs [] l y eb en ef s k c z = absurd (omega arith)
 block-back b n f cs (x₀ ∷ []) l y eb en ef s k c z = absurd (omega arith)
 block-back b n f cs (x₀ ∷ x₁ ∷ []) l y eb en ef s k c z = absurd (omega arith)
@@ -171,7 +171,7 @@ block-back b n f cs (x₀ ∷ x₁ ∷ x₂ ∷ x₃ ∷ x₄ ∷ x₅ ∷ x₆ 
     let whole : cellBytes cs ++ replicate (504 - m) 0 ≡ r =
     ap (λ (q : List ℕ). cellBytes cs ++ q) (sym rest)
     ∙ cells-back cs r (λ i. rw (getD-append-add p r i 0) at (y (8 + i))) (λ i g. c i g ∙ from-shift p r (8 + 6 * i) (6 * i) (omega arith)) (omega arith) in
-    block-of b n f cs x₀ x₁ x₂ x₃ x₄ x₅ x₆ x₇ r (y 0) (y 2) (y 4) (y 6) (y 7) (sym eb) (sym en) (sym ef) s whole
+    ap (blockWith b n f) whole ∙ block-of b n f x₀ x₁ x₂ x₃ x₄ x₅ x₆ x₇ r (y 0) (y 2) (y 4) (y 6) (y 7) (sym eb) (sym en) (sym ef) s
 
 zero-all : (s : List ℕ) → allZero s ≡ true → (i : ℕ) → getD s i 0 ≡ 0
 unfolding allZero

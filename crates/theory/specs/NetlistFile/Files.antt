@@ -14,7 +14,7 @@ use borrow.Author.Tests.{ne-eqb, le-ltb, ltb-false}
 use Rattle.model.specs.declared.Cell.{Cell}
 use Rattle.model.specs.declared.Checked.the-variants.{Accepted}
 use Rattle.model.specs.Circuit.{cellAt, noCell}
-use Rattle.model.specs.NetlistFile.{cellFrom, cellsAt, inFile, block, blockAt, blocksFor, fileOf, countOf, finishOf, cellsOf, fileLengthWrong, sumFault, countWrong, headerFault, netCheck, fileCheck}
+use Rattle.model.specs.NetlistFile.{cellFrom, cellsAt, inFile, block, blockAt, blocksFor, fileOf, restBytes, countOf, finishOf, cellsOf, fileLengthWrong, sumFault, countWrong, headerFault, netCheck, fileCheck}
 use Rattle.model.specs.Promises.{Bytes}
 use Rattle.theory.specs.Refusals.Laws.{or-false, faultless}
 use Rattle.theory.specs.NetlistFile.Passed.{FilePassed, file-passed, count-range, count-cells}
@@ -90,8 +90,8 @@ module _ (net : List Cell) (f : ℕ) (c : countWrong (blocksFor (length net)) (l
   some-cells = omega (arith, count-range m (length net) f c .0)
 
   sum-right : (b : ℕ) → b < m → sumFault (fileOf net f) b ≡ 0
-  unfolding sumFault
-  sum-right b l = rw (written-at net f some-cells b l, block-sum b (length net) f (take 84 (drop (84 * b) net)))
+  unfolding sumFault block
+  sum-right b l = rw (written-at net f some-cells b l, block-sum b (length net) f (restBytes (take 84 (drop (84 * b) net))))
 
   header-right : (b : ℕ) → b < m → headerFault (fileOf net f) b ≡ 0
   unfolding headerFault

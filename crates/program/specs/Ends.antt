@@ -37,37 +37,26 @@ skips ends count (suc k) i = skips ends count k (past ends count i)
 
 -- One subtree --------------------------------------------------------------------------------------------------------------------------
 
--- that of node j, which ends before node k
+-- that of node j; node k comes after it
 module _ (s ends : List ℕ) (j : ℕ) (E : j < nodeCount s → EndAt s ends j) (k : ℕ) (e : k ≡ past ends (nodeCount s) j) where
-  pub past-trees : treesAt s k ≡ drop 1 (treesAt s j)
+  by-end : (P : ℕ → Type 0) → (j < nodeCount s → P (getD ends j 0)) → (nodeCount s ≤ j → P j) → P k
   unfolding past
-  past-trees = ap (treesAt s) e ∙ go (decLt j (nodeCount s))
+  by-end P f g = subst⁻¹ P e (go (decLt j (nodeCount s)))
     where
-      go : Dec (j < nodeCount s) → treesAt s (pick (ltb j (nodeCount s)) (getD ends j 0) j) ≡ drop 1 (treesAt s j)
-      go (yes h) = rw (lt-ltb _ _ h) (E h .rest)
+      go : Dec (j < nodeCount s) → P (pick (ltb j (nodeCount s)) (getD ends j 0) j)
+      go (yes h) = rw (lt-ltb _ _ h) (f h)
       go (no n) =
           let m : nodeCount s ≤ j = omega arith in
-          rw (le-ltb _ _ m, trees-none s j m) refl
+          rw (le-ltb _ _ m) (g m)
+
+  pub past-trees : treesAt s k ≡ drop 1 (treesAt s j)
+  past-trees = by-end (λ (m : ℕ). treesAt s m ≡ drop 1 (treesAt s j)) (λ h. E h .rest) (λ m. rw (trees-none s j m) refl)
 
   pub past-later : j ≤ k
-  unfolding past
-  past-later = rw e (go (decLt j (nodeCount s)))
-    where
-      go : Dec (j < nodeCount s) → j ≤ pick (ltb j (nodeCount s)) (getD ends j 0) j
-      go (yes h) = rw (lt-ltb _ _ h) (omega (arith, E h .later))
-      go (no n) =
-          let m : nodeCount s ≤ j = omega arith in
-          rw (le-ltb _ _ m) (omega arith)
+  past-later = by-end (λ (m : ℕ). j ≤ m) (λ h. omega (arith, E h .later)) (λ m. omega arith)
 
   pub past-within : j ≤ nodeCount s → k ≤ nodeCount s
-  unfolding past
-  past-within l = rw e (go (decLt j (nodeCount s)))
-    where
-      go : Dec (j < nodeCount s) → pick (ltb j (nodeCount s)) (getD ends j 0) j ≤ nodeCount s
-      go (yes h) = rw (lt-ltb _ _ h) (E h .within)
-      go (no n) =
-          let m : nodeCount s ≤ j = omega arith in
-          rw (le-ltb _ _ m) l
+  past-within l = by-end (λ (m : ℕ). m ≤ nodeCount s) (λ h. E h .within) (λ m. l)
 
 -- Several subtrees ---------------------------------------------------------------------------------------------------------------------
 

@@ -1,3 +1,4 @@
+pub mod Children
 pub mod Reading
 pub mod Clashes
 pub mod TimeTables

@@ -37,36 +37,26 @@ skips ends count (suc k) i = skips ends count k (past ends count i)
 
 -- One subtree --------------------------------------------------------------------------------------------------------------------------
 
-module _ (s ends : List ℕ) (j : ℕ) (E : j < nodeCount s → EndAt s ends j) where
-  pub past-trees : treesAt s (past ends (nodeCount s) j) ≡ drop 1 (treesAt s j)
+-- that of node j; node k comes after it
+module _ (s ends : List ℕ) (j : ℕ) (E : j < nodeCount s → EndAt s ends j) (k : ℕ) (e : k ≡ past ends (nodeCount s) j) where
+  by-end : (P : ℕ → Type 0) → (j < nodeCount s → P (getD ends j 0)) → (nodeCount s ≤ j → P j) → P k
   unfolding past
-  past-trees = go (decLt j (nodeCount s))
+  by-end P f g = subst⁻¹ P e (go (decLt j (nodeCount s)))
     where
-      go : Dec (j < nodeCount s) → treesAt s (pick (ltb j (nodeCount s)) (getD ends j 0) j) ≡ drop 1 (treesAt s j)
-      go (yes h) = rw (lt-ltb _ _ h) (E h .rest)
+      go : Dec (j < nodeCount s) → P (pick (ltb j (nodeCount s)) (getD ends j 0) j)
+      go (yes h) = rw (lt-ltb _ _ h) (f h)
       go (no n) =
           let m : nodeCount s ≤ j = omega arith in
-          rw (le-ltb _ _ m, trees-none s j m) refl
+          rw (le-ltb _ _ m) (g m)
 
-  pub past-later : j ≤ past ends (nodeCount s) j
-  unfolding past
-  past-later = go (decLt j (nodeCount s))
-    where
-      go : Dec (j < nodeCount s) → j ≤ pick (ltb j (nodeCount s)) (getD ends j 0) j
-      go (yes h) = rw (lt-ltb _ _ h) (omega (arith, E h .later))
-      go (no n) =
-          let m : nodeCount s ≤ j = omega arith in
-          rw (le-ltb _ _ m) (omega arith)
+  pub past-trees : treesAt s k ≡ drop 1 (treesAt s j)
+  past-trees = by-end (λ (m : ℕ). treesAt s m ≡ drop 1 (treesAt s j)) (λ h. E h .rest) (λ m. rw (trees-none s j m) refl)
 
-  pub past-within : j ≤ nodeCount s → past ends (nodeCount s) j ≤ nodeCount s
-  unfolding past
-  past-within l = go (decLt j (nodeCount s))
-    where
-      go : Dec (j < nodeCount s) → pick (ltb j (nodeCount s)) (getD ends j 0) j ≤ nodeCount s
-      go (yes h) = rw (lt-ltb _ _ h) (E h .within)
-      go (no n) =
-          let m : nodeCount s ≤ j = omega arith in
-          rw (le-ltb _ _ m) l
+  pub past-later : j ≤ k
+  past-later = by-end (λ (m : ℕ). j ≤ m) (λ h. omega (arith, E h .later)) (λ m. omega arith)
+
+  pub past-within : j ≤ nodeCount s → k ≤ nodeCount s
+  past-within l = by-end (λ (m : ℕ). m ≤ nodeCount s) (λ h. E h .within) (λ m. l)
 
 -- Several subtrees ---------------------------------------------------------------------------------------------------------------------
 
@@ -89,24 +79,24 @@ module _ (s ends : List ℕ) (m : ℕ) (E : (j : ℕ) → m ≤ j → j < nodeCo
   unfolding skips
   skips-later zero j l = omega arith
   skips-later (suc k) j l =
-      let p = past-later s ends j (E j l) in
+      let p = past-later s ends j (E j l) _ refl in
       omega (arith, skips-later k (past ends (nodeCount s) j) (omega arith))
 
   pub skips-within : (k j : ℕ) → m ≤ j → j ≤ nodeCount s → skips ends (nodeCount s) k j ≤ nodeCount s
   unfolding skips
   skips-within zero j l w = w
   skips-within (suc k) j l w =
-      let p = past-later s ends j (E j l) in
-      skips-within k (past ends (nodeCount s) j) (omega arith) (past-within s ends j (E j l) w)
+      let p = past-later s ends j (E j l) _ refl in
+      skips-within k (past ends (nodeCount s) j) (omega arith) (past-within s ends j (E j l) _ refl w)
 
   pub skips-trees : (k j : ℕ) → m ≤ j → treesAt s (skips ends (nodeCount s) k j) ≡ drop k (treesAt s j)
   unfolding skips
   skips-trees zero j l = refl
   skips-trees (suc k) j l =
-      let p = past-later s ends j (E j l) in
+      let p = past-later s ends j (E j l) _ refl in
       let e : 1 + k ≡ suc k = omega arith in
       skips-trees k (past ends (nodeCount s) j) (omega arith)
-      ∙ ap (drop k) (past-trees s ends j (E j l)) ∙ drop-drop k 1 (treesAt s j) ∙ ap (λ (n : ℕ). drop n (treesAt s j)) e
+      ∙ ap (drop k) (past-trees s ends j (E j l) _ refl) ∙ drop-drop k 1 (treesAt s j) ∙ ap (λ (n : ℕ). drop n (treesAt s j)) e
 
 -- the entry of one node more: its subtree ends where its children's do
 pub end-more : (s ends : List ℕ) (i : ℕ) → ((j : ℕ) → i + 1 ≤ j → j < nodeCount s → EndAt s ends j) → i < nodeCount s → i < length ends

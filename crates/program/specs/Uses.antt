@@ -11,7 +11,7 @@ use lib.Dec.{eqb}
 use borrow.Author.Tests.{lt-ltb, ne-eqb}
 use Rattle.model.specs.declared.Node.{Node}
 use Rattle.model.specs.Word.{pick}
-use Rattle.model.specs.Program.{Expr, const, var, compl, op, Stmt, ok, tick, assign, seq, par, ite, while, repeat, Tree, stmt, nodeAt, nodeCount, nodesFrom, none, treesAt, stmtAt, reads, writes, touches, preorderE, preorder, node}
+use Rattle.model.specs.Program.{Expr, const, var, compl, op, Stmt, ok, tick, assign, seq, par, ite, while, repeat, Tree, stmt, nodeAt, nodeCount, nodesFrom, none, stmtAt, reads, writes, touches, preorderE, preorder, node}
 use Rattle.theory.specs.Program.Trees.{nodes-step, nodes-none, treeAt, trees-none}
 use Rattle.program.specs.Ends.{Laid, past, past-trees, past-within}
 use Rattle.theory.specs.Program.Preorder.{nodesOf, KnownE, Known, KnownT}
@@ -142,7 +142,7 @@ module _ (s ends : List ℕ) (i : ℕ) (S : Side s ends i) where
     pub side-within : e ≤ nodeCount s
     side-within =
         let b = side-below in
-        omega (arith, ee, past-within s ends i (S .laid .each i) (omega arith))
+        past-within s ends i (S .laid .each i) e ee (omega arith)
 
     pub side-uses : (touch : Bool) (x : ℕ) → named touch x (nodesFrom s i (e - i)) ≡ uses touch (stmtAt s i) x
     unfolding past
@@ -157,5 +157,5 @@ module _ (s ends : List ℕ) (i : ℕ) (S : Side s ends i) where
 pub sides : (s ends : List ℕ) → Readable s → Laid s ends → (i : ℕ) → i < nodeCount s → (a : Node) → a ≡ nodeAt s i → a .kind ≡ 20
     → (j : ℕ) → j ≡ past ends (nodeCount s) (i + 1) → Side s ends (i + 1) × Side s ends j
 sides s ends R L i h a ea k j ej =
-    let q = par-sides s R i h (sym (ap (λ (a : Node). a .kind) ea) ∙ k) j (ap (treesAt s) ej ∙ past-trees s ends (i + 1) (L .each (i + 1))) in
+    let q = par-sides s R i h (sym (ap (λ (a : Node). a .kind) ea) ∙ k) j (past-trees s ends (i + 1) (L .each (i + 1)) j ej) in
     (record { readable = R; laid = L; statement = q .0 }, record { readable = R; laid = L; statement = q .1 })

@@ -5,7 +5,7 @@ use mathlib.Core.Logic.{⊎-elim}
 use Prim.Native.Nat.{ℕ, _+_, _-_, _≤_}
 use native.Mathlib.Omega.{arith}
 use denote.Ref.{now}
-use Rattle.model.specs.Program.{nodeCount, treesAt, stmtAt, clash, clashAt}
+use Rattle.model.specs.Program.{nodeCount, stmtAt, clash, clashAt}
 use Rattle.theory.specs.Refusals.Search.{Searched, searched-none, fault-here, fault-next, faults-end}
 use Rattle.program.specs.Ends.{past-trees}
 use Rattle.program.specs.Uses.{sides}
@@ -97,7 +97,7 @@ nodes-again c =
     let s = now (args .program) in
     fault-next (nodes .inv) (nodes-test .taken)
     (clash-par _ _ (nodes-test .taken) _ (read-node .ensures) (if1 .taken) _
-    (ap (treesAt s) (next .ensures) ∙ past-trees _ _ _ (pre .1 .each _)) false
+    (past-trees _ _ _ (pre .1 .each _) _ (next .ensures)) false
     (sym (ap (λ (x : ℕ). clash x (stmtAt s (nodes .i + 1)) (stmtAt s (next .result))) e) ∙ loop .inv .1))
 
 add-i-2 : tie.Need-add-i-2 Inv-loop μ-loop Inv-nodes μ-nodes
@@ -118,15 +118,12 @@ refused-requires c κs = tt
 returns : tie.Need-returns Inv-loop μ-loop Inv-nodes μ-nodes
 returns c =
     let pre = c .before .before .before .before .before .pre in
-    let args = c .before .before .before .before .before .args in
     let nodes = c .before .before .before .nodes in
-    let L = pre .1 in
-    let s = now (args .program) in
     ⊎-elim (λ w. absurd (omega (arith, w .left, c .before .if3 .taken)))
     (λ w.
     c .refused .ensures
     ∙ fault-here (nodes .inv) 8 (w .0 .taken) (omega arith)
-    (clash-par _ _ (w .0 .taken) _ (w .1 .ensures) (w .3 .taken) _ (ap (treesAt s) (w .4 .ensures) ∙ past-trees _ _ _ (L .each _)) true
+    (clash-par _ _ (w .0 .taken) _ (w .1 .ensures) (w .3 .taken) _ (past-trees _ _ _ (pre .1 .each _) _ (w .4 .ensures)) true
     (clash-here _ _ 16 _ (w .6 .taken) (sym (ap₂ _||_ (w .7 .ensures) (w .8 .ensures)) ∙ w .9 .taken))))
     (c .before .before .nodes-test .came)
 

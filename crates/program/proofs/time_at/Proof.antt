@@ -3,7 +3,7 @@ use mathlib.Core.Path.{_∙_, ap}
 use Prim.Native.Nat.{ℕ, _+_, _≤_}
 use native.Mathlib.Omega.{arith}
 use denote.Ref.{now}
-use Rattle.model.specs.Program.{treesAt, timeIn}
+use Rattle.model.specs.Program.{timeIn}
 use Rattle.program.specs.Ends.{past-trees, past-later}
 use Rattle.program.specs.Times.{time-stmt, time-const, time-var, time-compl, time-op, time-fits}
 use borrow.Author.Needs.{needs}
@@ -63,8 +63,8 @@ next-requires c κs = search needs
 known-time-requires-2 : tie.Need-known-time-requires-2
 known-time-requires-2 c κs =
     let start = c .before .before .before .before .before .before .before .before .before .before in
-    let e = past-later (now (start .args .program)) (now (start .args .ends)) (start .args .i + 1) (λ l. start .pre .2 _ (omega arith) l .end) in
-    (start .pre .0, λ l. start .pre .2 _ (omega (arith, e, c .next .ensures)) l .timed)
+    let e = past-later (now (start .args .program)) (now (start .args .ends)) (start .args .i + 1) (λ l. start .pre .2 _ (omega arith) l .end) _ (c .next .ensures) in
+    (start .pre .0, λ l. start .pre .2 _ (omega (arith, e)) l .timed)
 
 larger-requires : tie.Need-larger-requires
 larger-requires c κs = search needs
@@ -75,8 +75,8 @@ add-result-2 c =
     let τ = timeIn (now (start .args .operators)) in
     let low : (k : ℕ) → τ k ≤ 255 = λ k. omega (arith, c .before .before .before .before .before .before .before .before .before .before .before .shared-slice-known .given k) in
     let o = c .before .before .before .before .before .before .before .operator-time2 .ensures in
-    let e = past-later (now (start .args .program)) (now (start .args .ends)) (start .args .i + 1) (λ l. start .pre .2 _ (omega arith) l .end) in
-    let l : 1 ≤ c .before .before .next .result = omega (arith, e, c .before .before .next .ensures) in
+    let e = past-later (now (start .args .program)) (now (start .args .ends)) (start .args .i + 1) (λ l. start .pre .2 _ (omega arith) l .end) _ (c .before .before .next .ensures) in
+    let l : 1 ≤ c .before .before .next .result = omega (arith, e) in
     let x = time-fits τ low _ (start .pre .0) _ (omega arith) _ _ _ o (c .before .before .before .before .known-time .ensures) in
     let y = time-fits τ low _ (start .pre .0) _ l _ _ _ o (c .before .known-time2 .ensures) in
     omega (arith, x, y, c .larger .ensures)
@@ -87,7 +87,7 @@ returns-5 c =
     ap (λ (m : ℕ). c .before .before .before .before .before .before .before .operator-time2 .result + m) (c .larger .ensures)
     ∙ time-op (timeIn (now (start .args .operators))) _ _ (start .pre .1) _ (c .before .before .before .before .before .before .before .before .before .read-node .ensures) _ (c .before .before .before .before .before .before .before .operator-time2 .ensures) _ (c .before .before .before .before .known-time .ensures)
     (c .before .before .before .before .before .before .before .before .if1 .left) (c .before .before .before .before .before .before .if2 .left) (c .before .before .before .before .before .if3 .left) (c .before .before .before .if4 .left) _
-    (ap (treesAt (now (start .args .program))) (c .before .before .next .ensures) ∙ past-trees _ _ _ (λ l. start .pre .2 _ (omega arith) l .end)) _ (c .before .known-time2 .ensures)
+    (past-trees _ _ _ (λ l. start .pre .2 _ (omega arith) l .end) _ (c .before .before .next .ensures)) _ (c .before .known-time2 .ensures)
 
 pub time-at-spec : {M : Type 1} → statement M
 time-at-spec =

@@ -4,7 +4,8 @@ use native.Mathlib.Omega.{arith}
 use borrow.Fn.Kinds.{In}
 use borrow.Fn.PlainCycle.{Measures, is, falls, and}
 use Rattle.model.specs.Program.{nodeCount}
-use Rattle.rules.proofs.Nodes.{next-later, eval-none, eval-stmt, eval-const, eval-var, eval-compl, eval-op}
+use Rattle.program.specs.Ends.{past-later}
+use Rattle.rules.proofs.Nodes.{eval-none, eval-stmt, eval-const, eval-var, eval-compl, eval-op}
 use Rattle.rules.proofs.eval_at.Reads as eval-reads
 use Rattle.rules.proofs.eval_at.Kinds as eval-kinds
 use Rattle.program.proofs.next.Reads as next
@@ -48,13 +49,13 @@ module _ (t : ℕ) where
   returns-2 : lts.Need-returns-2 calls (eval-here t) eval-reads.Post
   returns-2 c =
       let if1 = c .before .before .if1 in
-      eval-stmt _ _ (if1 .left) _ (c .before .read-node .ensures) _ (c .if2 .taken)
+      eval-stmt _ _ _ (if1 .left) _ (c .before .read-node .ensures) (c .if2 .taken)
 
   returns-3 : lts.Need-returns-3 calls (eval-here t) eval-reads.Post
   returns-3 c =
       let if1 = c .before .before .before .if1 in
       let read-node = c .before .before .read-node in
-      eval-const _ _ (if1 .left) _ (read-node .ensures) _ (c .if3 .taken)
+      eval-const _ _ _ (if1 .left) _ (read-node .ensures) (c .if3 .taken)
 
   word-of-requires : lts.Need-word-of-requires calls (eval-here t) eval-reads.Post
   word-of-requires c κs = tt
@@ -63,7 +64,7 @@ module _ (t : ℕ) where
   returns-4 c =
       let if1 = c .before .before .before .before .before .if1 in
       let read-node = c .before .before .before .before .read-node in
-      eval-var _ _ (if1 .left) _ (read-node .ensures) _ (c .before .if4 .taken) _ (c .word-of .ensures)
+      eval-var _ _ _ (if1 .left) _ (read-node .ensures) (c .before .if4 .taken) _ (c .word-of .ensures)
 
   add-eval-at : lts.Need-add-eval-at calls (eval-here t) eval-reads.Post
   add-eval-at c = omega arith
@@ -81,7 +82,7 @@ module _ (t : ℕ) where
       let if1 = c .before .before .before .before .before .before .before .if1 in
       let read-node = c .before .before .before .before .before .before .read-node in
       let eval-at = c .before .before .eval-at in
-      eval-compl _ _ (if1 .left) _ (read-node .ensures) _ _ _ (eval-at .ensures) (c .before .if5 .taken) (c .operate .ensures)
+      eval-compl _ _ _ (if1 .left) _ (read-node .ensures) (c .before .if5 .taken) _ _ (eval-at .ensures) (c .operate .ensures)
 
   add-next : lts.Need-add-next calls (eval-here t) eval-reads.Post
   add-next c = omega arith
@@ -94,7 +95,7 @@ module _ (t : ℕ) where
   eval-at-requires-2 : lts.Need-eval-at-requires-2 calls (eval-here t) eval-reads.Post
   eval-at-requires-2 c κs =
       let pre = c .before .before .before .before .before .before .before .before .before .pre in
-      (omega (arith, pre .0, next-later _ _ (pre .1) _ _ (c .next .ensures)), pre .1)
+      (omega (arith, pre .0, past-later _ _ _ (pre .1 .each _) _ (c .next .ensures)), pre .1)
 
   operate-requires-2 : lts.Need-operate-requires-2 calls (eval-here t) eval-reads.Post
   operate-requires-2 c κs = tt
@@ -109,8 +110,8 @@ module _ (t : ℕ) where
       let if4 = c .before .before .before .before .before .if4 in
       let if5 = c .before .before .before .if5 in
       let next = c .before .before .next in
-      eval-op _ _ (if1 .left) _ (read-node .ensures) _ _ _ (eval-at .ensures) _ (pre .1) (omega arith) (if3 .left) (if4 .left) (if5 .left)
-      _ (next .ensures) _ (c .before .eval-at2 .ensures) (c .operate2 .ensures)
+      eval-op _ _ _ (record { laid = pre .1; here = if1 .left; node = read-node .ensures; next = next .ensures })
+      (omega arith) (if3 .left) (if4 .left) (if5 .left) _ _ _ (eval-at .ensures) (c .before .eval-at2 .ensures) (c .operate2 .ensures)
 
   eval-closed : {M : Type 1} → lts.Closed calls (eval-here t) eval-reads.Post M
   eval-closed =

@@ -1,8 +1,12 @@
 -- A node: its statement by its kind.
-use Prim.Native.Nat.{ℕ}
+use Prim.Native.Nat.{ℕ, _≤_}
 use native.Mathlib.Omega.{arith}
+use denote.Ref.{now}
 use Rattle.model.specs.Rules.{run}
-use Rattle.rules.proofs.Nodes.{next-later, stmt-none, low-ok, last-kind, at-tick, at-assign, seq-at, par-at, ite-at, while-at, repeat-at}
+use Rattle.theory.specs.Program.Trees.{stmt-none, at-tick}
+use Rattle.program.specs.Ends.{past-later}
+use Rattle.program.proofs.Children.{Inner, last-kind, second-later, assign-read, seq-read, par-read, ite-read, while-read, repeat-read}
+use Rattle.rules.proofs.Nodes.{low-ok}
 use Rattle.rules.proofs.Parts.{ready-as}
 use Rattle.rules.proofs.Runs.{stands-as, run-ok}
 use Rattle.program.proofs.next.Reads as next
@@ -41,6 +45,16 @@ module _ (t : ℕ) where
     repeat-reads.Post,
   )
 
+  inner-of : (w : lts.After-next calls (run-here t) run-reads.Post)
+      → let args = w .before .before .before .before .before .before .args in
+      Inner (now (args .program)) (now (args .ends)) (args .i) (w .before .before .before .read-node .result) (w .next .result)
+  inner-of w =
+      let start = w .before .before .before .before in
+      record { laid = start .before .before .pre .1 .laid; here = start .if1 .left; node = w .before .before .before .read-node .ensures; next = w .next .ensures }
+
+  last-of : (w : lts.At-match-rest calls (run-here t) run-reads.Post) → 23 ≤ w .before .before .before .before .read-node .result .kind
+  last-of w = last-kind (omega (arith, w .before .before .before .if2 .left, w .match .rest .0 .0 .0 .0 .0 .1)) (w .match .rest)
+
   pause-requires : lts.Need-pause-requires calls (run-here t) run-reads.Post
   pause-requires c κs = tt
 
@@ -78,35 +92,27 @@ module _ (t : ℕ) where
 
   assign-at-requires : lts.Need-assign-at-requires calls (run-here t) run-reads.Post
   assign-at-requires c κs =
-      let if1 = c .before .before .before .before .before .if1 in
-      let read-node = c .before .before .before .before .read-node in
+      let n = inner-of (c .before) in
       let pre = c .before .before .before .before .before .before .before .pre in
-      let is = at-assign _ _ (if1 .left) _ (read-node .ensures) (c .match .keys2) in
-      (ready-as is (pre .1), omega arith)
+      (ready-as (assign-read n (c .match .keys2)) (pre .1), omega arith)
 
   add-seq-at : lts.Need-add-seq-at calls (run-here t) run-reads.Post
   add-seq-at c = omega arith
 
   seq-at-requires : lts.Need-seq-at-requires calls (run-here t) run-reads.Post
   seq-at-requires c κs =
+      let n = inner-of (c .before) in
       let pre = c .before .before .before .before .before .before .before .pre in
-      let if1 = c .before .before .before .before .before .if1 in
-      let read-node = c .before .before .before .before .read-node in
-      let next = c .before .next in
-      let is = seq-at _ _ (pre .1 .laid) _ (if1 .left) _ (read-node .ensures) _ (next .ensures) (c .match .keys3) in
-      (omega (arith, pre .0), (ready-as is (pre .1), next-later _ _ (pre .1 .laid) _ _ (next .ensures)))
+      (omega (arith, pre .0, n .here), (ready-as (seq-read n (c .match .keys3)) (pre .1), second-later n))
 
   add-par-at : lts.Need-add-par-at calls (run-here t) run-reads.Post
   add-par-at c = omega arith
 
   par-at-requires : lts.Need-par-at-requires calls (run-here t) run-reads.Post
   par-at-requires c κs =
+      let n = inner-of (c .before) in
       let pre = c .before .before .before .before .before .before .before .pre in
-      let if1 = c .before .before .before .before .before .if1 in
-      let read-node = c .before .before .before .before .read-node in
-      let next = c .before .next in
-      let is = par-at _ _ (pre .1 .laid) _ (if1 .left) _ (read-node .ensures) _ (next .ensures) (c .match .keys4) in
-      (omega (arith, pre .0), (ready-as is (pre .1), next-later _ _ (pre .1 .laid) _ _ (next .ensures)))
+      (omega (arith, pre .0, n .here), (ready-as (par-read n (c .match .keys4)) (pre .1), second-later n))
 
   next-requires-2 : lts.Need-next-requires-2 calls (run-here t) run-reads.Post
   next-requires-2 c κs =
@@ -118,98 +124,53 @@ module _ (t : ℕ) where
 
   if-at-requires : lts.Need-if-at-requires calls (run-here t) run-reads.Post
   if-at-requires c κs =
+      let n = inner-of (c .before .before) in
       let pre = c .before .before .before .before .before .before .before .before .pre in
-      let if1 = c .before .before .before .before .before .before .if1 in
-      let read-node = c .before .before .before .before .before .read-node in
-      let next = c .before .before .next in
       let third = c .next2 .ensures in
-      let is = ite-at _ _ (pre .1 .laid) _ (if1 .left) _ (read-node .ensures) _ (next .ensures) _ third (c .before .match .keys5) in
-      (omega (arith, pre .0, next-later _ _ (pre .1 .laid) _ _ (next .ensures)), (ready-as is (pre .1), next-later _ _ (pre .1 .laid) _ _ third))
+      let is = ite-read n _ third (c .before .match .keys5) in
+      (omega (arith, pre .0, n .here, second-later n), (ready-as is (pre .1), past-later _ _ _ (n .laid .each _) _ third))
 
   add-while-at : lts.Need-add-while-at calls (run-here t) run-reads.Post
   add-while-at c = omega arith
 
   while-at-requires : lts.Need-while-at-requires calls (run-here t) run-reads.Post
   while-at-requires c κs =
+      let n = inner-of (c .before) in
       let pre = c .before .before .before .before .before .before .before .pre in
-      let if1 = c .before .before .before .before .before .if1 in
-      let read-node = c .before .before .before .before .read-node in
-      let next = c .before .next in
-      let is = while-at _ _ (pre .1 .laid) _ (if1 .left) _ (read-node .ensures) _ (next .ensures) (c .match .keys6) in
-      (omega (arith, pre .0, next-later _ _ (pre .1 .laid) _ _ (next .ensures)), ready-as is (pre .1))
+      (omega (arith, pre .0, n .here, second-later n), ready-as (while-read n (c .match .keys6)) (pre .1))
 
   add-repeat-at : lts.Need-add-repeat-at calls (run-here t) run-reads.Post
   add-repeat-at c = omega arith
 
   repeat-at-requires : lts.Need-repeat-at-requires calls (run-here t) run-reads.Post
   repeat-at-requires c κs =
+      let n = inner-of (c .before) in
       let pre = c .before .before .before .before .before .before .before .pre in
-      let if1 = c .before .before .before .before .before .if1 in
-      let read-node = c .before .before .before .before .read-node in
-      let next = c .before .next in
-      let if2 = c .before .before .before .if2 in
-      let is = repeat-at _ _ (pre .1 .laid) _ (if1 .left) _ (read-node .ensures) _ (next .ensures) (last-kind _ (if2 .left) (c .match .rest)) in
-      (omega (arith, pre .0, next-later _ _ (pre .1 .laid) _ _ (next .ensures)), ready-as is (pre .1))
+      (omega (arith, pre .0, n .here, second-later n), ready-as (repeat-read n (last-of c)) (pre .1))
 
   returns-3 : lts.Need-returns-3 calls (run-here t) run-reads.Post
   unfolding run
   returns-3 c =
-      let if1 = c .before .before .before .before .before .before .if1 in
-      let read-node = c .before .before .before .before .before .read-node in
-      stands-as _ _ _ (at-tick _ _ (if1 .left) _ (read-node .ensures) (c .before .match .keys1)) (c .pause3 .ensures)
+      let n = inner-of (c .before .before) in
+      stands-as _ _ _ (at-tick _ _ (n .here) _ (n .node) (c .before .match .keys1)) (c .pause3 .ensures)
 
   returns-4 : lts.Need-returns-4 calls (run-here t) run-reads.Post
-  returns-4 c =
-      let if1 = c .before .before .before .before .before .before .if1 in
-      let read-node = c .before .before .before .before .before .read-node in
-      stands-as _ _ _ (at-assign _ _ (if1 .left) _ (read-node .ensures) (c .before .match .keys2)) (c .assign-at .ensures)
+  returns-4 c = stands-as _ _ _ (assign-read (inner-of (c .before .before)) (c .before .match .keys2)) (c .assign-at .ensures)
 
   returns-5 : lts.Need-returns-5 calls (run-here t) run-reads.Post
-  returns-5 c =
-      let pre = c .before .before .before .before .before .before .before .before .pre in
-      let if1 = c .before .before .before .before .before .before .if1 in
-      let read-node = c .before .before .before .before .before .read-node in
-      let next = c .before .before .next in
-      let is = seq-at _ _ (pre .1 .laid) _ (if1 .left) _ (read-node .ensures) _ (next .ensures) (c .before .match .keys3) in
-      stands-as _ _ _ is (c .seq-at .ensures)
+  returns-5 c = stands-as _ _ _ (seq-read (inner-of (c .before .before)) (c .before .match .keys3)) (c .seq-at .ensures)
 
   returns-6 : lts.Need-returns-6 calls (run-here t) run-reads.Post
-  returns-6 c =
-      let pre = c .before .before .before .before .before .before .before .before .pre in
-      let if1 = c .before .before .before .before .before .before .if1 in
-      let read-node = c .before .before .before .before .before .read-node in
-      let next = c .before .before .next in
-      let is = par-at _ _ (pre .1 .laid) _ (if1 .left) _ (read-node .ensures) _ (next .ensures) (c .before .match .keys4) in
-      stands-as _ _ _ is (c .par-at .ensures)
+  returns-6 c = stands-as _ _ _ (par-read (inner-of (c .before .before)) (c .before .match .keys4)) (c .par-at .ensures)
 
   returns-7 : lts.Need-returns-7 calls (run-here t) run-reads.Post
-  returns-7 c =
-      let pre = c .before .before .before .before .before .before .before .before .before .pre in
-      let if1 = c .before .before .before .before .before .before .before .if1 in
-      let read-node = c .before .before .before .before .before .before .read-node in
-      let next = c .before .before .before .next in
-      let match = c .before .before .match in
-      let is = ite-at _ _ (pre .1 .laid) _ (if1 .left) _ (read-node .ensures) _ (next .ensures) _ (c .before .next2 .ensures) (match .keys5) in
-      stands-as _ _ _ is (c .if-at .ensures)
+  returns-7 c = stands-as _ _ _ (ite-read (inner-of (c .before .before .before)) _ (c .before .next2 .ensures) (c .before .before .match .keys5)) (c .if-at .ensures)
 
   returns-8 : lts.Need-returns-8 calls (run-here t) run-reads.Post
-  returns-8 c =
-      let pre = c .before .before .before .before .before .before .before .before .pre in
-      let if1 = c .before .before .before .before .before .before .if1 in
-      let read-node = c .before .before .before .before .before .read-node in
-      let next = c .before .before .next in
-      let is = while-at _ _ (pre .1 .laid) _ (if1 .left) _ (read-node .ensures) _ (next .ensures) (c .before .match .keys6) in
-      stands-as _ _ _ is (c .while-at .ensures)
+  returns-8 c = stands-as _ _ _ (while-read (inner-of (c .before .before)) (c .before .match .keys6)) (c .while-at .ensures)
 
   returns-9 : lts.Need-returns-9 calls (run-here t) run-reads.Post
-  returns-9 c =
-      let pre = c .before .before .before .before .before .before .before .before .pre in
-      let if1 = c .before .before .before .before .before .before .if1 in
-      let read-node = c .before .before .before .before .before .read-node in
-      let next = c .before .before .next in
-      let if2 = c .before .before .before .before .if2 in
-      let is = repeat-at _ _ (pre .1 .laid) _ (if1 .left) _ (read-node .ensures) _ (next .ensures) (last-kind _ (if2 .left) (c .before .match .rest)) in
-      stands-as _ _ _ is (c .repeat-at .ensures)
+  returns-9 c = stands-as _ _ _ (repeat-read (inner-of (c .before .before)) (last-of (c .before))) (c .repeat-at .ensures)
 
   pub run-closed : {M : Type 1} → lts.Closed calls (run-here t) run-reads.Post M
   run-closed =

@@ -7,7 +7,8 @@ use borrow.Author.Needs.{needs}
 use Rattle.model.specs.Program.{tick, nodeAt, nodeCount, stmtAt}
 use Rattle.model.specs.Numbering.{delayCount}
 use Rattle.theory.specs.Program.Trees.{at-tick}
-use Rattle.compiler.proofs.Reading.{next-later, Inner, last-kind, second-later, assign-read, seq-read, par-read, ite-read, while-read, repeat-read}
+use Rattle.program.specs.Ends.{past-later}
+use Rattle.program.proofs.Children.{Inner, last-kind, second-later, assign-read, seq-read, par-read, ite-read, while-read, repeat-read}
 use Rattle.compiler.proofs.Stmts.{ok-done, tick-done}
 use Rattle.compiler.proofs.Parts.{delays-fit}
 use Rattle.program.proofs.next.Reads as next-reads
@@ -68,7 +69,7 @@ module _ (t : ℕ) where
       record { laid = w .before .before .before .before .before .before .pre .1 .0; here = here .0; node = here .2; next = w .next .ensures }
 
   last-of : (w : lts.At-match-rest calls (stmt-here t) stmt-reads.Post) → 23 ≤ w .before .before .before .before .stmt-node .result .kind
-  last-of w = last-kind (here-of (w .before .before .before) .1) (w .before .before .if2 .left) (w .match .rest)
+  last-of w = last-kind (omega (arith, here-of (w .before .before .before) .1, w .before .before .if2 .left)) (w .match .rest)
 
   stmt-node-requires : lts.Need-stmt-node-requires calls (stmt-here t) stmt-reads.Post
   stmt-node-requires c κs = tt
@@ -130,7 +131,7 @@ module _ (t : ℕ) where
       let m = w .before in
       let n = inner-of (m .before) in
       let pre = m .before .before .before .before .before .before .before .pre in
-      (omega (arith, pre .0, n .here, second-later n), (pre .1 .0, rw (ite-read n _ (w .next2 .ensures) (m .match .keys4)) at (pre .1 .1), next-later (n .laid) _ _ (w .next2 .ensures)))
+      (omega (arith, pre .0, n .here, second-later n), (pre .1 .0, rw (ite-read n _ (w .next2 .ensures) (m .match .keys4)) at (pre .1 .1), past-later _ _ _ (n .laid .each _) _ (w .next2 .ensures)))
 
   put-while-requires : lts.Need-put-while-requires calls (stmt-here t) stmt-reads.Post
   put-while-requires c κs =

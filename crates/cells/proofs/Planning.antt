@@ -15,7 +15,7 @@ use Rattle.model.specs.declared.Checked.the-variants.{Accepted}
 use Rattle.model.specs.declared.Written.{Written}
 use Rattle.model.specs.declared.Written.the-variants.{Done}
 use Rattle.model.specs.NetlistFile.{cellsAt, inFile, countOf, finishOf, cellsOf, fileCheck}
-use Rattle.model.specs.CellSlices.{later, moved, placing, readCellsCall}
+use Rattle.model.specs.CellSlices.{renumbered, moved, placing, readCellsCall}
 use Rattle.reply.specs.declared.Reply.{Reply}
 use Rattle.reply.specs.Replies.{writtenReply, replied}
 use Rattle.reply.proofs.Rooms.{room as has-room, left, put-in, no-room, untouched}
@@ -34,7 +34,7 @@ lacks-is room at count h =
     by-less room (at + count) (λ l. lt-ltb (room - at) count (omega arith) ∙ sym (lt-ltb room (at + count) l))
     (λ l. le-ltb (room - at) count (omega arith) ∙ sym (le-ltb room (at + count) l))
 
-later-wraps : (k j : ℕ) → later (k % 65536) j ≡ later k j
+later-wraps : (k j : ℕ) → renumbered (k % 65536) j ≡ renumbered k j
 later-wraps k j = omega arith
 
 moved-wraps : (k : ℕ) (cs : List Cell) → map (moved (k % 65536)) cs ≡ map (moved k) cs

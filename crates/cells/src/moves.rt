@@ -5,7 +5,7 @@ ghost use Prim.Native.Nat.{_*_, _≤_};
 ghost use lib.ListN.{length};
 ghost use Rattle.model.specs.Word.{pick};
 ghost use Rattle.model.specs.Circuit.{shape};
-ghost use Rattle.model.specs.CellSlices.{namesA, namesB, later, moved, movedBytes, hasCells, renumberCall};
+ghost use Rattle.model.specs.CellSlices.{namesA, namesB, renumbered, moved, movedBytes, hasCells, renumberCall};
 use model::Cell;
 use netlist::cells::Layout;
 
@@ -29,7 +29,7 @@ fn names_b(kind: u8) -> bool
 
 // An input, k places later where it names a cell.
 fn shifted(names: bool, j: u16, k: u16) -> u16
-    ensures { λ r. ⌜ r ≡ pick names (later k j) j ⌝ }
+    ensures { λ r. ⌜ r ≡ pick names (renumbered k j) j ⌝ }
 {
     if names {
         return std::num::wrapping_add_u16(j, k);

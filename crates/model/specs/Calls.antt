@@ -33,15 +33,6 @@ pub record Told (A : Type 0) : Type 0 where
   pub answer : A
   pub lent : List ℕ
 
--- the paper's number and place of each case: 0 where there is no refusal
-unfoldable pub numberOf : Checked → ℕ
-numberOf Accepted = 0
-numberOf (Checked.Refused r) = r .number
-
-unfoldable pub placeOf : Checked → ℕ
-placeOf Accepted = 0
-placeOf (Checked.Refused r) = r .place
-
 -- what an outcome, and an answer of a call that writes, says of refusals
 unfoldable pub verdict : Outcome → Checked
 verdict Ended = Accepted

@@ -84,11 +84,11 @@ pub data Result : Type 0 where
   numbered : ℕ → ℕ → Result
   checked : Checked → Result
 
-unfoldable pub given : Case → Result
-given (ends p v n t w) = ran (checkCall (load builtIn) p) (referenceCall (load builtIn) p (start v) n)
-given (refuses p k i) = ran (checkCall (load builtIn) p) (referenceCall (load builtIn) p (start 0) 100)
-given (compiles p n f) = numbered (length (netlist (programOf p))) (finish (programOf p))
-given (passes p) = checked (checkCall (load builtIn) p)
+unfoldable pub computed : Case → Result
+computed (ends p v n t w) = ran (checkCall (load builtIn) p) (referenceCall (load builtIn) p (start v) n)
+computed (refuses p k i) = ran (checkCall (load builtIn) p) (referenceCall (load builtIn) p (start 0) 100)
+computed (compiles p n f) = numbered (length (netlist (programOf p))) (finish (programOf p))
+computed (passes p) = checked (checkCall (load builtIn) p)
 
 unfoldable pub wanted : Case → Result
 wanted (ends p v n t w) = ran Accepted (endAnswer t w)
@@ -109,8 +109,8 @@ OnCircuit (passes p) = Unit {0}
 -- that every row holds: proved in theory/Cases
 unfoldable pub Hold : List Case → Type 0
 Hold [] = Unit {0}
-Hold (c ∷ cs) = (given c ≡ wanted c) × OnCircuit c × Hold cs
+Hold (c ∷ cs) = (computed c ≡ wanted c) × OnCircuit c × Hold cs
 
-pub cases-by-rules : map given cases ≡ map wanted cases
-unfolding cases given wanted times numbering bit operate get16 firstFault nodeAt nodesFrom rowOf asExpr asStmt exprOf stmtOf treeOf grow forest treesAt exprAt stmtAt time least reads writes touches clash clashes programLengthWrong spare faultOf children reading slowAt clashAt builtInTimes checkOf load eval put over kept after wait chain both whiles repeats run listed referenceAnswer answering referenceCall checkCall
+pub cases-by-rules : map computed cases ≡ map wanted cases
+unfolding cases computed wanted times numbering bit operate get16 firstFault nodeAt nodesFrom rowOf asExpr asStmt exprOf stmtOf treeOf grow forest treesAt exprAt stmtAt time least reads writes touches clash clashes programLengthWrong spare faultOf children reading slowAt clashAt builtInTimes checkOf load eval put over kept after wait chain both whiles repeats run listed referenceAnswer answering referenceCall checkCall
 cases-by-rules = refl

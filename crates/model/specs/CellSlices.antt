@@ -52,19 +52,22 @@ namesB kGated = true
 namesB kUnknown = false
 
 -- the number of a cell that stands k places later; a number has two bytes
-abbrev pub later : ℕ → ℕ → ℕ
-later k j = (j + k) % 65536
+abbrev pub renumbered : ℕ → ℕ → ℕ
+renumbered k j = (j + k) % 65536
 
 -- a cell whose inputs stand k places later
 unfoldable pub moved : ℕ → Cell → Cell
 moved k c =
-    cell (c .kind) (c .delay) (pick (namesA (shape (c .kind))) (later k (c .a)) (c .a)) (pick (namesB (shape (c .kind))) (later k (c .b)) (c .b))
+    cell (c .kind) (c .delay) (pick (namesA (shape (c .kind))) (renumbered k (c .a)) (c .a)) (pick (namesB (shape (c .kind))) (renumbered k (c .b)) (c .b))
 
 -- the cells of a netlist as they stand behind k others
 abbrev pub behind : ℕ → List Cell → List Cell
 behind k cs = map (moved k) cs
 
--- of cells of six bytes each, those from number i up to end moved k places on
+-- those from number i up to end moved k places on, in a list of cells, and in one of six bytes each
+abbrev pub movedFrom : ℕ → ℕ → List Cell → ℕ → List Cell
+movedFrom k end cs i = sets cs i (behind k (take (end - i) (drop i cs)))
+
 abbrev pub movedBytes : ℕ → ℕ → List ℕ → ℕ → List ℕ
 movedBytes k end s i = sets s (6 * i) (cellBytes (behind k (cellsAt inList s i (end - i))))
 
@@ -82,14 +85,18 @@ abbrev pub miscounted : List Cell → ℕ → Checked
 miscounted cs f = refuseIf (countWrong (blocksFor (length cs)) (length cs) f) 11 0
 
 -- checking a netlist: 11, 12
+abbrev pub checkCellsChecks : List Cell → ℕ → List Checked
+checkCellsChecks cs f = miscounted cs f ∷ netCheck cs f ∷ []
+
 unfoldable pub checkCellsCall : List Cell → ℕ → Checked
-checkCellsCall cs f = first (miscounted cs f ∷ netCheck cs f ∷ [])
+checkCellsCall cs f = first (checkCellsChecks cs f)
 
 -- writing a netlist from its cells: 11, 12, 14
+abbrev pub writeCellsChecks : List Cell → ℕ → List ℕ → List Checked
+writeCellsChecks cs f lent = miscounted cs f ∷ netCheck cs f ∷ short (length lent) (length (fileOf cs f)) ∷ []
+
 unfoldable pub writeCellsCall : List Cell → ℕ → List ℕ → Told Written
-writeCellsCall cs f lent =
-    let file = fileOf cs f in
-    writing (first (miscounted cs f ∷ netCheck cs f ∷ short (length lent) (length file) ∷ [])) file (length file) f lent
+writeCellsCall cs f lent = writing (first (writeCellsChecks cs f lent)) (fileOf cs f) (length (fileOf cs f)) f lent
 
 -- an answer, and a lent list of cells at exit
 pub record ToldCells : Type 0 where
@@ -102,6 +109,8 @@ placing Accepted k cs n f lent = record { answer = Done n f; lent = take k lent 
 placing (Checked.Refused r) k cs n f lent = record { answer = Written.Refused r; lent = lent }
 
 -- reading a netlist behind k cells that stand already, as joining netlists does: 9 to 12, 14. The finish is the file's own.
+abbrev pub readCellsChecks : List ℕ → ℕ → List Cell → List Checked
+readCellsChecks file k lent = fileCheck file ∷ short (length lent) (k + countOf file) ∷ []
+
 unfoldable pub readCellsCall : List ℕ → ℕ → List Cell → ToldCells
-readCellsCall file k lent =
-    placing (first (fileCheck file ∷ short (length lent) (k + countOf file) ∷ [])) k (behind k (cellsOf file)) (countOf file) (finishOf file) lent
+readCellsCall file k lent = placing (first (readCellsChecks file k lent)) k (behind k (cellsOf file)) (countOf file) (finishOf file) lent

@@ -87,31 +87,36 @@ level W k t = high (W k t)
 -- "40 memory: if clock a (control) is 0 and was 1 an instant ago, the value that word b had an instant ago; else its own former value.
 -- At instant 0, the start word."
 unfoldable pub memory : ℕ → Values → ℕ → Cell → ℕ → ℕ
-memory first W k c zero = first
-memory first W k c (suc t) = pick (level W (c .a) t && not (level W (c .a) (suc t))) (W (c .b) t) (W k t)
+memory word₀ W k c zero = word₀
+memory word₀ W k c (suc t) = pick (level W (c .a) t && not (level W (c .a) (suc t))) (W (c .b) t) (W k t)
 
--- what cell k, which is c, shows at instant t; first is its start word, if it is a memory. "32 start: 1 at instant 0, then 0. 33 ground: 0.
+-- what cell k, which is c, shows at instant t; word₀ is its start word, if it is a memory. "32 start: 1 at instant 0, then 0. 33 ground: 0.
 -- 1: constant a." "3 to 9: the operators on words a, and b where there are two." "35: control a or control b." "36: 1 when control a is 1 and
 -- word b isn't zero. 37: when a is 1 and b is zero." "41: word b when control a is 1, else 0."
 unfoldable pub equation : Shape → ℕ → Values → ℕ → Cell → ℕ → ℕ
-equation kConstant first W k c t = c .a
-equation kComplement first W k c t = operate 3 (W (c .a) t) 0
-equation kOperator first W k c t = operate (c .kind) (W (c .a) t) (W (c .b) t)
-equation kStart first W k c t = bit (eqb t 0)
-equation kGround first W k c t = 0
-equation kDelay first W k c t = bit (delayed (c .delay) (level W (c .a)) t)
-equation kOr first W k c t = bit (level W (c .a) t || level W (c .b) t)
-equation kWhenTrue first W k c t = bit (level W (c .a) t && not (isZero (W (c .b) t)))
-equation kWhenFalse first W k c t = bit (level W (c .a) t && isZero (W (c .b) t))
-equation kMerge first W k c t = bit (merged (level W (c .a)) (level W (c .b)) t)
-equation kMemory first W k c t = memory first W k c t
-equation kGated first W k c t = pick (level W (c .a) t) (W (c .b) t) 0
-equation kUnknown first W k c t = 0
+equation kConstant word₀ W k c t = c .a
+equation kComplement word₀ W k c t = operate 3 (W (c .a) t) 0
+equation kOperator word₀ W k c t = operate (c .kind) (W (c .a) t) (W (c .b) t)
+equation kStart word₀ W k c t = bit (eqb t 0)
+equation kGround word₀ W k c t = 0
+equation kDelay word₀ W k c t = bit (delayed (c .delay) (level W (c .a)) t)
+equation kOr word₀ W k c t = bit (level W (c .a) t || level W (c .b) t)
+equation kWhenTrue word₀ W k c t = bit (level W (c .a) t && not (isZero (W (c .b) t)))
+equation kWhenFalse word₀ W k c t = bit (level W (c .a) t && isZero (W (c .b) t))
+equation kMerge word₀ W k c t = bit (merged (level W (c .a)) (level W (c .b)) t)
+equation kMemory word₀ W k c t = memory word₀ W k c t
+equation kGated word₀ W k c t = pick (level W (c .a) t) (W (c .b) t) 0
+equation kUnknown word₀ W k c t = 0
 
 -- "exactly sixteen are memories, in variable order": how many memories a list of cells has
 unfoldable pub memories : List Cell → ℕ
 memories [] = 0
 memories (c ∷ cs) = bit (eqb (c .kind) 40) + memories cs
+
+-- the words that the memories among cells that stand from k on show, in order, where cell j shows v j
+unfoldable pub memoryWords : List Cell → ℕ → (ℕ → ℕ) → List ℕ
+memoryWords [] k v = []
+memoryWords (c ∷ cs) k v = pick (eqb (c .kind) 40) (v k ∷ memoryWords cs (k + 1) v) (memoryWords cs (k + 1) v)
 
 -- the start word of cell k, if it is a memory: that of the variable whose number is how many memories stand below k
 abbrev pub startWord : List Cell → (ℕ → ℕ) → ℕ → ℕ

@@ -16,6 +16,8 @@ pub mod Hubrun
 pub mod Hubtext
 pub mod Promises
 pub mod TablePromises
+pub mod ProgramPromises
+pub mod CellPromises
 pub mod TextPromises
 pub mod Times
 pub mod Netlists

@@ -50,8 +50,8 @@ abbrev unknown : Row
 unknown = row 0 0 0 0 0
 
 -- the paper's table, but for its times: entry k is the row of kind k
-abbrev pub table : List Row
-table =
+abbrev pub kindTable : List Row
+kindTable =
     unknown  -- 0
     ∷ row 1 0 1 0 0  -- 1 constant n
     ∷ row 1 0 2 0 0  -- 2 variable n
@@ -74,7 +74,7 @@ table =
     ∷ []
 
 unfoldable pub rowOf : ℕ → Row
-rowOf k = getD table k unknown
+rowOf k = getD kindTable k unknown
 
 -- The tree ---------------------------------------------------------------------------------------------------------------------------
 

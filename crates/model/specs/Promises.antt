@@ -2,13 +2,12 @@
 -- The proofs are in crate theory, file Demands: demand1, demand2, demand3.
 -- Assumes nothing: definitions.
 use mathlib.Core.Path.{_≡_}
-use mathlib.Core.Logic.{_↔_}
+use mathlib.Core.Logic.{_↔_, _⊎_}
 use mathlib.Core.Bool.{Bool, true, false}
 use mathlib.Core.List.{List, [], _∷_, _++_, map}
 use Prim.Native.Nat.{ℕ, zero, suc, _+_, _-_, _*_, _/_, _≤_, _<_}
 use lib.Dec.{ltb}
 use lib.ListN.{length, getD, take, drop}
-use Rattle.model.specs.declared.Refusal.{Refusal}
 use Rattle.model.specs.declared.Cell.{Cell}
 use Rattle.model.specs.declared.Checked.{Checked}
 use Rattle.model.specs.declared.Checked.the-variants.{Accepted}
@@ -17,15 +16,16 @@ use Rattle.model.specs.declared.Outcome.the-variants.{Ended, Open}
 use Rattle.model.specs.declared.Written.the-variants.{Done}
 use Rattle.model.specs.declared.Answer.{Answer}
 use Rattle.model.specs.Word.{pick, bit}
-use Rattle.model.specs.Refusals.{firstFault}
+use Rattle.model.specs.Refusals.{numberOf, placeOf, firstFault}
 use Rattle.model.specs.Program.{Stmt, timeIn, programChecks, programOf}
 use Rattle.model.specs.Rules.{Store, Ends}
-use Rattle.model.specs.Circuit.{cellAt, control, Values, level, Obeys, delayed, heldBefore, shape, kDelay, kMerge}
+use Rattle.model.specs.Circuit.{cellAt, control, memoryWords, Values, level, Obeys, delayed, heldBefore, shape, kDelay, kMerge}
 use Rattle.model.specs.Numbering.{netlist, finish}
 use Rattle.model.specs.NetlistFile.{fileChecks, fileCheck, cellsOf, finishOf}
-use Rattle.model.specs.TimeTables.{tableChecks, Table, given, load}
+use Rattle.model.specs.TimeTables.{tableChecks, TimeTable, given, load}
 use Rattle.model.specs.State.{stateSize, instantOf, nowAt, beforeAt, heldAt, lineBit, beginState, stepState, lastState, evaluated, wordsIn, sound}
 use Rattle.model.specs.Calls.{Told, verdict, writtenVerdict, overwrite, checkCall, compileChecks, compileCall, writeChecks, writeCall, readChecks, readCall, wordAt, beginChecks, beginCall, continueChecks, continueCall, runNetlistChecks, runNetlistCall, runProgramChecks, runProgramCall, referenceChecks, referenceCall, listed}
+use Rattle.model.specs.CellSlices.{hasCells, renumberCall, checkCellsChecks, checkCellsCall, writeCellsChecks, writeCellsCall, readCellsChecks, readCellsCall}
 
 -- what lists of bytes are
 abbrev pub Bytes : List ℕ → Type 0
@@ -35,15 +35,16 @@ Bytes s = (i : ℕ) → getD s i 0 < 256
 -- "the answer is the result or the first refusal in the published order, given only when its condition holds, and a refusal leaves all lent
 -- memory as it was"
 
--- c is what is found first in a list of checks
+-- c has no number where no check has one, and else the number and the place of the first that has one
 pub record FirstFound (checks : List Checked) (c : Checked) : Type 0 where
-  pub accepted : c ≡ Accepted → (j : ℕ) → getD checks j Accepted ≡ Accepted
-  pub refused : (r : Refusal) → c ≡ Checked.Refused r
-      → (i : ℕ) × (getD checks i Accepted ≡ Checked.Refused r) × ((j : ℕ) → j < i → getD checks j Accepted ≡ Accepted)
+  pub accepted : numberOf c ≡ 0 → (j : ℕ) → numberOf (getD checks j Accepted) ≡ 0
+  pub refused : 1 ≤ numberOf c
+      → (i : ℕ) × (numberOf c ≡ numberOf (getD checks i Accepted)) × (placeOf c ≡ placeOf (getD checks i Accepted))
+      × ((j : ℕ) → j < i → numberOf (getD checks j Accepted) ≡ 0)
 
--- a check gives no number but those of a range
+-- a check accepts, or gives a number of a range
 abbrev pub Gives : ℕ × ℕ → Checked → Type 0
-Gives n c = (r : Refusal) → c ≡ Checked.Refused r → (n .0 ≤ r .number) × (r .number ≤ n .1)
+Gives n c = (c ≡ Accepted) ⊎ ((n .0 ≤ numberOf c) × (numberOf c ≤ n .1))
 
 -- the checks are as many as the ranges, and each gives no number but those of its own
 abbrev pub InOrder : List (ℕ × ℕ) → List Checked → Type 0
@@ -56,26 +57,25 @@ pub record Refuses (numbers : List (ℕ × ℕ)) (checks : List Checked) (c : Ch
   pub found : FirstFound checks c
   pub ordered : InOrder numbers checks
 
--- a refusal leaves a lent list as it was
-abbrev pub Leaves : Checked → List ℕ → List ℕ → Type 0
-Leaves c entry exit = (r : Refusal) → c ≡ Checked.Refused r → exit ≡ entry
+-- a refusal leaves what was lent, a list of bytes or of cells, as it was
+abbrev pub Leaves : {A : Type 0} → Checked → List A → List A → Type 0
+Leaves c entry exit = 1 ≤ numberOf c → exit ≡ entry
 
 -- the first of n places that has a fault: the condition holds there, and at no place before
 pub record FirstPlace (fault : ℕ → ℕ) (n : ℕ) (c : Checked) : Type 0 where
-  pub none : c ≡ Accepted → (j : ℕ) → j < n → fault j ≡ 0
-  pub some : (r : Refusal) → c ≡ Checked.Refused r
-      → (r .place < n) × (fault (r .place) ≡ r .number) × (1 ≤ r .number) × ((j : ℕ) → j < r .place → fault j ≡ 0)
+  pub none : numberOf c ≡ 0 → (j : ℕ) → j < n → fault j ≡ 0
+  pub some : 1 ≤ numberOf c → (placeOf c < n) × (fault (placeOf c) ≡ numberOf c) × ((j : ℕ) → j < placeOf c → fault j ≡ 0)
 
 -- of every call: the refusals in the published order, a check of its own for each line, and what a refusal leaves. Where a program is checked
 -- it is with the operator times of a table T, "before 17, in this order"
 pub record Demand1 : Type 0 where
   pub places : (fault : ℕ → ℕ) (n : ℕ) → FirstPlace fault n (firstFault fault 0 n)
   pub tables : (file : List ℕ) → Refuses ((19, 19) ∷ (20, 20) ∷ (21, 21) ∷ []) (tableChecks file) (load (given file) .checked)
-  pub programs : (T : Table) (program : List ℕ)
+  pub programs : (T : TimeTable) (program : List ℕ)
       → Refuses ((19, 21) ∷ (1, 1) ∷ (2, 4) ∷ (5, 6) ∷ (7, 7) ∷ (8, 8) ∷ [])
       (load T .checked ∷ programChecks (timeIn (load T .times)) program) (checkCall (load T) program)
   pub files : (file : List ℕ) → Refuses ((9, 9) ∷ (10, 10) ∷ (11, 11) ∷ (11, 11) ∷ (12, 12) ∷ []) (fileChecks file) (fileCheck file)
-  pub compiling : (T : Table) (program lent : List ℕ) →
+  pub compiling : (T : TimeTable) (program lent : List ℕ) →
       let c = writtenVerdict (compileCall (load T) program lent .answer) in
       Refuses ((19, 21) ∷ (1, 8) ∷ (14, 14) ∷ []) (compileChecks (load T) program lent) c
       × Leaves c lent (compileCall (load T) program lent .lent)
@@ -95,14 +95,24 @@ pub record Demand1 : Type 0 where
       let c = verdict (runNetlistCall file words n lent .answer .outcome) in
       Refuses ((9, 12) ∷ (13, 13) ∷ (14, 14) ∷ (14, 14) ∷ []) (runNetlistChecks file words n lent) c
       × Leaves c lent (runNetlistCall file words n lent .lent)
-  pub programRuns : (T : Table) (program words : List ℕ) (n : ℕ) (forFile lent : List ℕ) →
+  pub programRuns : (T : TimeTable) (program words : List ℕ) (n : ℕ) (forFile lent : List ℕ) →
       let r = runProgramCall (load T) program words n forFile lent in
       let c = verdict (r .answer .outcome) in
       Refuses ((19, 21) ∷ (1, 8) ∷ (13, 13) ∷ (14, 14) ∷ (14, 14) ∷ (14, 14) ∷ []) (runProgramChecks (load T) program words n forFile lent) c
       × Leaves c forFile (r .netlist) × Leaves c lent (r .state)
-  pub references : (T : Table) (program words : List ℕ) (n : ℕ)
+  pub references : (T : TimeTable) (program words : List ℕ) (n : ℕ)
       → Refuses ((19, 21) ∷ (1, 8) ∷ (13, 13) ∷ (14, 14) ∷ []) (referenceChecks (load T) program words n)
       (verdict (referenceCall (load T) program words n .outcome))
+  -- the calls on netlists that are held as cells
+  pub cellsChecked : (cs : List Cell) (f : ℕ) → Refuses ((11, 11) ∷ (12, 12) ∷ []) (checkCellsChecks cs f) (checkCellsCall cs f)
+  pub cellsWritten : (cs : List Cell) (f : ℕ) (lent : List ℕ) →
+      let c = writtenVerdict (writeCellsCall cs f lent .answer) in
+      Refuses ((11, 11) ∷ (12, 12) ∷ (14, 14) ∷ []) (writeCellsChecks cs f lent) c × Leaves c lent (writeCellsCall cs f lent .lent)
+  pub cellsRead : (file : List ℕ) (k : ℕ) (lent : List Cell) →
+      let c = writtenVerdict (readCellsCall file k lent .answer) in
+      Refuses ((9, 12) ∷ (14, 14) ∷ []) (readCellsChecks file k lent) c × Leaves c lent (readCellsCall file k lent .lent)
+  -- renumbering has no number to give: where the list has no such cells it stays
+  pub renumbered : (k i end : ℕ) (lent : List ℕ) → hasCells end lent ≡ false → renumberCall k i end lent ≡ lent
 
 -- Demand 2 -----------------------------------------------------------------------------------------------------------------------------
 -- "The netlist is, cell for cell, the published circuit; the simulator's wires at each instant are the only ones the circuit's equations
@@ -164,7 +174,7 @@ pub record OneRun (net : List Cell) (words : Store) : Type 0 where
   pub controls : (k : ℕ) → k < length net → control (cellAt net k .kind) ≡ true → (t : ℕ) → values k t ≤ 1
 
 pub record Demand2 : Type 0 where
-  pub compiled : (T : Table) (program lent : List ℕ) (n f : ℕ) → Bytes program → compileCall (load T) program lent .answer ≡ Done n f
+  pub compiled : (T : TimeTable) (program lent : List ℕ) (n f : ℕ) → Bytes program → compileCall (load T) program lent .answer ≡ Done n f
       → Published program (take n (compileCall (load T) program lent .lent)) f
   pub files : SameFile
   pub runs : (file : List ℕ) (words : Store) → fileCheck file ≡ Accepted → OneRun (cellsOf file) words
@@ -195,8 +205,11 @@ pub record Seen : Type 0 where
 abbrev pub seen : Outcome → ℕ → ℕ → Seen
 seen o t n = record { outcome = o; instant = t; count = n }
 
+abbrev pub seenIn : Answer → Seen
+seenIn a = seen (a .outcome) (a .instant) (a .count)
+
 abbrev pub seenOf : Told Answer → Seen
-seenOf r = seen (r .answer .outcome) (r .answer .instant) (r .answer .count)
+seenOf r = seenIn (r .answer)
 
 -- "a refused one evaluates and changes nothing"
 abbrev pub refusedSeen : ℕ → Seen
@@ -220,15 +233,25 @@ expected due size t (c ∷ cs) =
       ]
     ]
 
+-- the instant at which the state stands after a call: that of the answer, or where it was refused the one before
+unfoldable pub standsAt : Outcome → ℕ → ℕ → ℕ
+standsAt Ended before told = told
+standsAt Open before told = told
+standsAt (Outcome.Refused r) before told = before
+
+abbrev pub instantAfter : ℕ → Told Answer → ℕ
+instantAfter t r = standsAt (r .answer .outcome) t (r .answer .instant)
+
+-- R holds of every call of a list that begins at instant t, with the instant at which the state stands after it
+abbrev pub Along : (ℕ → Told Answer → Type 0) → ℕ → List (Told Answer) → Type 0
+Along R t [] = Unit {0}
+Along R t (r ∷ rs) = R (instantAfter t r) r × Along R (instantAfter t r) rs
+
 -- where a call was not refused and its instant is not below t₀, the answer and the memories of the buffer show the words σ′
 abbrev pub Shown : List ℕ → ℕ → Store → Told Answer → Type 0
 Shown file t₀ σ′ r =
     verdict (r .answer .outcome) ≡ Accepted → t₀ ≤ r .answer .instant
     → (r .answer .words ≡ listed σ′ 0 16) × (wordsIn (cellsOf file) 0 (r .lent) ≡ listed σ′ 0 16)
-
-abbrev pub Every : (Told Answer → Type 0) → List (Told Answer) → Type 0
-Every R [] = Unit {0}
-Every R (r ∷ rs) = R r × Every R rs
 
 -- where a call was refused, the buffer is as it was before
 abbrev pub Unchanged : List ℕ → List (Told Answer) → Type 0
@@ -242,31 +265,45 @@ lastOf Open begun on =
     record { outcome = on .outcome; instant = on .instant; count = begun .count + on .count; words = on .words }
 lastOf (Outcome.Refused r) begun on = begun
 
--- One statement about a beginning, a whole list of continuings, and the full runs: P is the program, σ its start words.
-pub record Keeps (P : Stmt) (σ : Store) (file : List ℕ) (begun : Told Answer) (calls : List Call) (fullRuns : ℕ → List Answer) : Type 0 where
+-- One statement about a beginning, a whole list of continuings, and the full runs of budget n of the program and of its netlist: P is the
+-- program, σ its start words.
+pub record Keeps (P : Stmt) (σ : Store) (file : List ℕ) (begun : Told Answer) (calls : List Call) (programRun netlistRun : ℕ → Answer)
+    : Type 0 where
   -- the instants at which the program, by its own rules, ends
   pub due : ℕ → Bool
   pub decides : (t : ℕ) → (due t ≡ true) ↔ ((σ′ : Store) × Ends P σ t σ′)
+  -- "A finish is due at the program's end and at no other instant.": an end is the only one, and so are its words
+  pub once : (t₁ t₂ : ℕ) (σ₁ σ₂ : Store) → Ends P σ t₁ σ₁ → Ends P σ t₂ σ₂ → (t₁ ≡ t₂) × (σ₁ ≡ σ₂)
+  -- the finish wire is high exactly then
+  pub finishes : (W : Values) → Obeys (cellsOf file) σ W → (t : ℕ) → level W (finishOf file) t ≡ due t
+  -- from then on the words are its last ones: what the memories show at every instant, and what the answers and the buffers do
+  pub memories : (W : Values) → Obeys (cellsOf file) σ W → (t₀ : ℕ) (σ′ : Store) → Ends P σ t₀ σ′
+      → (t : ℕ) → t₀ ≤ t → memoryWords (cellsOf file) 0 (λ k. W k t) ≡ listed σ′ 0 16
+  pub words : (t₀ : ℕ) (σ′ : Store) → Ends P σ t₀ σ′ → Along (λ t. Shown file t₀ σ′) 0 (begun ∷ replay file (begun .lent) calls)
   -- each answer follows from that end and the numbers asked for
   pub outcomes : map seenOf (begun ∷ replay file (begun .lent) calls)
       ≡ seen (endedIf (due 0)) 0 1 ∷ expected due (stateSize (cellsOf file)) 0 calls
+  -- where the program has no end nobody sees a finish: the wire is never high, and no answer says ended
+  pub endless : ((t : ℕ) (σ′ : Store) → Ends P σ t σ′ → ⊥)
+      → ((W : Values) → Obeys (cellsOf file) σ W → (t : ℕ) → level W (finishOf file) t ≡ false)
+      × Along (λ t r. r .answer .outcome ≡ Ended → ⊥) 0 (begun ∷ replay file (begun .lent) calls)
+  -- each buffer holds the circuit's values at the instant at which it stands; a refused call leaves it as it was
+  pub buffers : (W : Values) → Obeys (cellsOf file) σ W
+      → Along (λ t r. Holds (cellsOf file) W t (r .lent)) 0 (begun ∷ replay file (begun .lent) calls)
   pub unchanged : Unchanged (begun .lent) (replay file (begun .lent) calls)
-  -- the finish wire is high exactly then
-  pub finishes : (W : Values) → Obeys (cellsOf file) σ W → (t : ℕ) → level W (finishOf file) t ≡ due t
-  -- from then on the words are its last ones
-  pub words : (t₀ : ℕ) (σ′ : Store) → Ends P σ t₀ σ′ → Every (Shown file t₀ σ′) (begun ∷ replay file (begun .lent) calls)
-  pub full : (n : ℕ) → n ≤ 1000000 →
-      let last = lastOf (begun .answer .outcome) (begun .answer) (continueCall file n (begun .lent) .answer) in
-      fullRuns n ≡ last ∷ last ∷ []
+  -- "A full run answers as its last call does, its calls' counts added."
+  pub programRuns : (n : ℕ) → n ≤ 1000000
+      → programRun n ≡ lastOf (begun .answer .outcome) (begun .answer) (continueCall file n (begun .lent) .answer)
+  pub netlistRuns : (n : ℕ) → n ≤ 1000000
+      → netlistRun n ≡ lastOf (begun .answer .outcome) (begun .answer) (continueCall file n (begun .lent) .answer)
 
 -- "A program is accepted when compiling gives its netlist. The list starts from the state that an unrefused beginning wrote for that netlist
--- and the start words". The full runs are those of the program and of its netlist. "Under every table that loads, finish and last words are the
--- program's."
+-- and the start words". "Under every table that loads, finish and last words are the program's."
 unfoldable pub Demand3 : Type 0
 Demand3 =
-    (T : Table) (program forFile words forState : List ℕ) (calls : List Call) (n f : ℕ) → compileCall (load T) program forFile .answer ≡ Done n f →
+    (T : TimeTable) (program forFile words forState : List ℕ) (calls : List Call) (n f : ℕ) → compileCall (load T) program forFile .answer ≡ Done n f →
     let file = take n (compileCall (load T) program forFile .lent) in
     let begun = beginCall file words forState in
     verdict (begun .answer .outcome) ≡ Accepted →
     Keeps (programOf program) (wordAt words) file begun calls
-    (λ k. runProgramCall (load T) program words k forFile forState .answer ∷ runNetlistCall file words k forState .answer ∷ [])
+    (λ k. runProgramCall (load T) program words k forFile forState .answer) (λ k. runNetlistCall file words k forState .answer)

@@ -12,7 +12,7 @@ use Rattle.model.specs.declared.Mode.{Mode}
 use Rattle.model.specs.declared.Mode.the-variants.{Statement, AfterStatement, Operand, AfterOperand, Becomes, Ticks, Delay, Body, Broken}
 use Rattle.model.specs.Word.{pick}
 use Rattle.model.specs.Program.{node}
-use Rattle.model.specs.Text.{cThen, cElse, cDo, cUntil, cEnd, cAt, cOpen, cClose, cLeft, cRight, Word}
+use Rattle.model.specs.Text.{cThen, cElse, cDo, cUntil, cEnd, cAt, cOpen, cClose, cLeft, cRight, Lexeme}
 
 -- What the reader keeps ----------------------------------------------------------------------------------------------------------------
 
@@ -91,8 +91,8 @@ abbrev pub insertAt : ℕ → Node → List Node → List Node
 insertAt i n ns = take i ns ++ (n ∷ drop i ns)
 
 -- node p with a delay
-abbrev pub delayed : ℕ → ℕ → List Node → List Node
-delayed p d ns = set ns p (node (getD ns p (node 0 0 0) .kind) d (getD ns p (node 0 0 0) .n))
+abbrev pub withNodeDelay : ℕ → ℕ → List Node → List Node
+withNodeDelay p d ns = set ns p (node (getD ns p (node 0 0 0) .kind) d (getD ns p (node 0 0 0) .n))
 
 -- a node more, at the cursor
 unfoldable pub leaf : Mode → Node → Reader → Reader
@@ -122,14 +122,14 @@ unfoldable pub turned : Mode → ℕ → Reader → Reader
 turned m c r = reader m (r .start) (frame c (topStart (r .frames)) ∷ drop 1 (r .frames)) (r .cursor) (r .nodes)
 
 -- everything above the frame that is still to be closed is complete
-unfoldable pub settled : Reader → Reader
-settled r =
+unfoldable pub reduced : Reader → Reader
+reduced r =
     let p = pop 0 (r .start) (r .frames) in
     reader (r .mode) (p .start) (p .frames) (r .cursor) (r .nodes)
 
 -- the node at p gets its delay, and the cursor goes behind all nodes
 unfoldable pub withDelay : Mode → ℕ → ℕ → Reader → Reader
-withDelay m p d r = reader m p (r .frames) (length (r .nodes)) (delayed p d (r .nodes))
+withDelay m p d r = reader m p (r .frames) (length (r .nodes)) (withNodeDelay p d (r .nodes))
 
 -- a statement is expected
 unfoldable pub onStatement : Token → Reader → Reader
@@ -158,7 +158,7 @@ comparison c = eqb c 8 || eqb c 9
 unfoldable pub onAfterOperand : Token → Reader → Reader
 onAfterOperand t r =
     let c = t .code in
-    let r′ = settled r in
+    let r′ = reduced r in
     let top = topCode (r′ .frames) in
     pick (leb 4 c && leb c 9)
     (pick (comparison c && comparison (topCode (pop 7 (r .start) (r .frames) .frames))) (broken r) (between Operand c r))
@@ -171,7 +171,7 @@ onAfterOperand t r =
 unfoldable pub onAfterStatement : Token → Reader → Reader
 onAfterStatement t r =
     let c = t .code in
-    let r′ = settled r in
+    let r′ = reduced r in
     let top = topCode (r′ .frames) in
     let p = topStart (r′ .frames) in
     pick (eqb c 19 || eqb c 20) (between Statement c r)
@@ -245,7 +245,7 @@ pub data Reading : Type 0 where
   good : List Node → Reading
   bad : ℕ → Reading
 
-unfoldable pub readFrom : ℕ → Reader → List Word → Reading
+unfoldable pub readFrom : ℕ → Reader → List Lexeme → Reading
 readFrom end r [] = elim (complete (r .mode) (r .frames)) [ true ↦ good (r .nodes) | false ↦ bad end ]
 readFrom end r (w ∷ ws) =
     let r′ = step (w .token) r in

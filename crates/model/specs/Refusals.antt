@@ -16,6 +16,16 @@ refuse number place = Refused (record { number = number; place = place })
 abbrev pub refuseIf : Bool → ℕ → ℕ → Checked
 refuseIf condition number place = pick condition (refuse number place) Accepted
 
+-- "When an answer is an enum, a definition gives this paper's number and values for each of its cases.": of a check the number and the place,
+-- 0 where there is no refusal. The promises go by these two.
+abbrev pub numberOf : Checked → ℕ
+numberOf Accepted = 0
+numberOf (Refused r) = r .number
+
+abbrev pub placeOf : Checked → ℕ
+placeOf Accepted = 0
+placeOf (Refused r) = r .place
+
 -- "First found wins, top to bottom"
 abbrev pub first : List Checked → Checked
 first [] = Accepted

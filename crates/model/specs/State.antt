@@ -7,7 +7,7 @@ use lib.Dec.{eqb, leb}
 use Rattle.model.specs.declared.Cell.{Cell}
 use Rattle.model.specs.declared.Merge.{Merge}
 use Rattle.model.specs.Word.{pick, bit, isZero, operate, get16, put16, get32, put32}
-use Rattle.model.specs.Circuit.{cellAt, control, high, mergeStep, startWord, Shape, shape, kConstant, kComplement, kOperator, kStart, kGround, kDelay, kOr, kWhenTrue, kWhenFalse, kMerge, kMemory, kGated, kUnknown}
+use Rattle.model.specs.Circuit.{cellAt, control, high, mergeStep, memoryWords, startWord, Shape, shape, kConstant, kComplement, kOperator, kStart, kGround, kDelay, kOr, kWhenTrue, kWhenFalse, kMerge, kMemory, kGated, kUnknown}
 use Rattle.model.specs.NetlistFile.{allZero}
 
 -- The bytes ----------------------------------------------------------------------------------------------------------------------------
@@ -42,23 +42,23 @@ lineBit s k i = getD s (base k + 8 + i / 8) 0 / 2 ^ (i % 8) % 2
 
 -- What cell k, which is c, shows after instant 0. In s, lower cells have their values now already, all cells theirs an instant ago, and
 -- held bits and lines are still those of an instant ago.
-unfoldable pub later : Shape → List ℕ → ℕ → Cell → ℕ
-later kConstant s k c = c .a
-later kComplement s k c = operate 3 (nowAt s (c .a)) 0
-later kOperator s k c = operate (c .kind) (nowAt s (c .a)) (nowAt s (c .b))
-later kStart s k c = 0
-later kGround s k c = 0
-later kDelay s k c = lineBit s k (c .delay - 1)
-later kOr s k c = bit (high (nowAt s (c .a)) || high (nowAt s (c .b)))
-later kWhenTrue s k c = bit (high (nowAt s (c .a)) && not (isZero (nowAt s (c .b))))
-later kWhenFalse s k c = bit (high (nowAt s (c .a)) && isZero (nowAt s (c .b)))
-later kMerge s k c = bit (mergeStep (heldAt s k) (high (nowAt s (c .a))) (high (nowAt s (c .b))) .out)
-later kMemory s k c = pick (high (beforeAt s (c .a)) && not (high (nowAt s (c .a)))) (beforeAt s (c .b)) (beforeAt s k)
-later kGated s k c = pick (high (nowAt s (c .a))) (nowAt s (c .b)) 0
-later kUnknown s k c = 0
+unfoldable pub nextValue : Shape → List ℕ → ℕ → Cell → ℕ
+nextValue kConstant s k c = c .a
+nextValue kComplement s k c = operate 3 (nowAt s (c .a)) 0
+nextValue kOperator s k c = operate (c .kind) (nowAt s (c .a)) (nowAt s (c .b))
+nextValue kStart s k c = 0
+nextValue kGround s k c = 0
+nextValue kDelay s k c = lineBit s k (c .delay - 1)
+nextValue kOr s k c = bit (high (nowAt s (c .a)) || high (nowAt s (c .b)))
+nextValue kWhenTrue s k c = bit (high (nowAt s (c .a)) && not (isZero (nowAt s (c .b))))
+nextValue kWhenFalse s k c = bit (high (nowAt s (c .a)) && isZero (nowAt s (c .b)))
+nextValue kMerge s k c = bit (mergeStep (heldAt s k) (high (nowAt s (c .a))) (high (nowAt s (c .b))) .out)
+nextValue kMemory s k c = pick (high (beforeAt s (c .a)) && not (high (nowAt s (c .a)))) (beforeAt s (c .b)) (beforeAt s k)
+nextValue kGated s k c = pick (high (nowAt s (c .a))) (nowAt s (c .b)) 0
+nextValue kUnknown s k c = 0
 
 abbrev pub value : List Cell → List ℕ → ℕ → ℕ
-value net s k = later (shape (cellAt net k .kind)) s k (cellAt net k)
+value net s k = nextValue (shape (cellAt net k .kind)) s k (cellAt net k)
 
 -- at instant 0 a start is 1 and a memory has its start word; the others, all bytes being 0, show what they show later
 abbrev pub firstValue : List Cell → (ℕ → ℕ) → List ℕ → ℕ → ℕ
@@ -81,9 +81,9 @@ unfoldable pub shown : (List ℕ → ℕ → ℕ) → List ℕ → ℕ → List 
 shown v s k = put16 s (base k) (v s k)
 
 -- m bytes from i on, moved by a bit, x coming in lowest
-unfoldable pub shifted : ℕ → List ℕ → ℕ → ℕ → List ℕ
-shifted zero s i x = s
-shifted (suc m) s i x = shifted m (set s i ((2 * getD s i 0 + x) % 256)) (i + 1) ((2 * getD s i 0 + x) / 256)
+unfoldable pub shiftedIn : ℕ → List ℕ → ℕ → ℕ → List ℕ
+shiftedIn zero s i x = s
+shiftedIn (suc m) s i x = shiftedIn m (set s i ((2 * getD s i 0 + x) % 256)) (i + 1) ((2 * getD s i 0 + x) / 256)
 
 unfoldable pub holding : List ℕ → ℕ → Merge → List ℕ
 holding s k m = set (set s (base k + 4) (bit (m .a))) (base k + 5) (bit (m .b))
@@ -95,7 +95,7 @@ settle kComplement s k c = s
 settle kOperator s k c = s
 settle kStart s k c = s
 settle kGround s k c = s
-settle kDelay s k c = shifted 32 s (base k + 8) (bit (high (nowAt s (c .a))))
+settle kDelay s k c = shiftedIn 32 s (base k + 8) (bit (high (nowAt s (c .a))))
 settle kOr s k c = s
 settle kWhenTrue s k c = s
 settle kWhenFalse s k c = s
@@ -134,10 +134,9 @@ evaluated net f (suc n) s =
     let t = stepState net s in
     elim (high (nowAt t f)) [ true ↦ 1 | false ↦ 1 + evaluated net f n t ]
 
--- "the sixteen words": the values of the memories among cells that stand from k on, in order
-unfoldable pub wordsIn : List Cell → ℕ → List ℕ → List ℕ
-wordsIn [] k s = []
-wordsIn (c ∷ cs) k s = pick (eqb (c .kind) 40) (nowAt s k ∷ wordsIn cs (k + 1) s) (wordsIn cs (k + 1) s)
+-- "the sixteen words": those that the memories show, of the cells that stand from k on
+abbrev pub wordsIn : List Cell → ℕ → List ℕ → List ℕ
+wordsIn cs k s = memoryWords cs k (nowAt s)
 
 -- Refusal 15 ---------------------------------------------------------------------------------------------------------------------------
 

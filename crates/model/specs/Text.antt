@@ -165,32 +165,32 @@ sizeAt s =
     (runLength s)
 
 -- a token, and the place of its first byte
-pub record Word : Type 0 where
+pub record Lexeme : Type 0 where
   pub token : Token
   pub place : ℕ
 
-abbrev pub wordAt : Token → ℕ → Word
-wordAt t i = record { token = t; place = i }
+abbrev pub lexeme : Token → ℕ → Lexeme
+lexeme t i = record { token = t; place = i }
 
 -- the words of bytes that begin at place i, after a token of code p; the first `skip` bytes belong to that token
-unfoldable pub wordsFrom : ℕ → ℕ → ℕ → List ℕ → List Word
+unfoldable pub wordsFrom : ℕ → ℕ → ℕ → List ℕ → List Lexeme
 wordsFrom skip p i [] = []
 wordsFrom (suc skip) p i (c ∷ s) = wordsFrom skip p (i + 1) s
 wordsFrom zero p i (c ∷ s) =
     let t = tokenAt p (c ∷ s) in
     elim (blank c) [
       | true ↦ wordsFrom 0 p (i + 1) s
-      | false ↦ wordAt t i ∷ wordsFrom (sizeAt (c ∷ s) - 1) (t .code) (i + 1) s
+      | false ↦ lexeme t i ∷ wordsFrom (sizeAt (c ∷ s) - 1) (t .code) (i + 1) s
     ]
 
-abbrev pub wordsOf : List ℕ → List Word
+abbrev pub wordsOf : List ℕ → List Lexeme
 wordsOf text = wordsFrom 0 0 0 text
 
-abbrev pub tokens : List Word → List Token
+abbrev pub tokens : List Lexeme → List Token
 tokens ws = map (λ w. w .token) ws
 
 -- "a word or character outside these, x16 or a number above its limit too, place its first byte"
-unfoldable pub outside : List Word → Checked
+unfoldable pub outside : List Lexeme → Checked
 outside [] = Accepted
 outside (w ∷ ws) = pick (eqb (w .token .code) 0) (refuse 17 (w .place)) (outside ws)
 

@@ -12,16 +12,16 @@ use Rattle.model.specs.declared.Checked.the-variants.{Accepted}
 use Rattle.model.specs.declared.Written.the-variants.{Done}
 use Rattle.model.specs.Refusals.{first}
 use Rattle.model.specs.Program.{Stmt, preorder, nodeBytes, programOf}
-use Rattle.model.specs.Text.{valueFrom, isNumber, isName, Word, wordsOf, tokens, Means, BreaksAt}
+use Rattle.model.specs.Text.{valueFrom, isNumber, isName, Lexeme, wordsOf, tokens, Means, BreaksAt}
 use Rattle.model.specs.Reader.{good, bad}
-use Rattle.model.specs.TimeTables.{Table, load}
+use Rattle.model.specs.TimeTables.{TimeTable, load}
 use Rattle.model.specs.TextCalls.{readingOf, textProgram, textChecks, readTextChecks, readTextCall, compileTextChecks, compileTextCall, runTextChecks, runTextCall}
 use Rattle.model.specs.Calls.{verdict, writtenVerdict, compileCall, runProgramCall}
 use Rattle.model.specs.Hubrun.{decimal}
 use Rattle.model.specs.Promises.{Bytes, Refuses, Leaves}
 
 -- the place of word i, or the length of the text where the words are fewer
-unfoldable pub placeAt : ℕ → List Word → ℕ → ℕ
+unfoldable pub placeAt : ℕ → List Lexeme → ℕ → ℕ
 placeAt end [] i = end
 placeAt end (w ∷ ws) zero = w .place
 placeAt end (w ∷ ws) (suc i) = placeAt end ws i
@@ -47,25 +47,25 @@ pub record Texts : Type 0 where
   pub broken : (text : List ℕ) (p : ℕ) → readingOf text ≡ bad p
       → (i : ℕ) × BreaksAt (tokens (wordsOf text)) i × (p ≡ placeAt (length text) (wordsOf text) i)
   -- the bytes that an accepted text gives are those of its reading, and the program that they are is that statement
-  pub program : (T : Table) (text lent : List ℕ) (n f : ℕ) → readTextCall (load T) text lent .answer ≡ Done n f →
+  pub program : (T : TimeTable) (text lent : List ℕ) (n f : ℕ) → readTextCall (load T) text lent .answer ≡ Done n f →
       let bytes = take n (readTextCall (load T) text lent .lent) in
       (P : Stmt) × Means (tokens (wordsOf text)) P × (bytes ≡ nodeBytes (preorder P)) × (programOf bytes ≡ P)
   -- a text that passes 17 and 18 has bytes for its program, and is compiled and run as that program, of which demands 2 and 3 speak
   pub bytes : (text : List ℕ) → first (textChecks text) ≡ Accepted → Bytes (textProgram text)
-  pub compiled : (T : Table) (text lent : List ℕ) → first (textChecks text) ≡ Accepted
+  pub compiled : (T : TimeTable) (text lent : List ℕ) → first (textChecks text) ≡ Accepted
       → compileTextCall (load T) text lent ≡ compileCall (load T) (textProgram text) lent
-  pub run : (T : Table) (text words : List ℕ) (n : ℕ) (forFile lent : List ℕ) → first (textChecks text) ≡ Accepted
+  pub run : (T : TimeTable) (text words : List ℕ) (n : ℕ) (forFile lent : List ℕ) → first (textChecks text) ≡ Accepted
       → runTextCall (load T) text words n forFile lent ≡ runProgramCall (load T) (textProgram text) words n forFile lent
   -- the refusals in the published order, and what a refusal leaves
-  pub reading : (T : Table) (text lent : List ℕ) →
+  pub reading : (T : TimeTable) (text lent : List ℕ) →
       let c = writtenVerdict (readTextCall (load T) text lent .answer) in
       Refuses ((19, 21) ∷ (17, 17) ∷ (17, 17) ∷ (18, 18) ∷ (1, 8) ∷ (14, 14) ∷ []) (readTextChecks (load T) text lent) c
       × Leaves c lent (readTextCall (load T) text lent .lent)
-  pub compiling : (T : Table) (text lent : List ℕ) →
+  pub compiling : (T : TimeTable) (text lent : List ℕ) →
       let c = writtenVerdict (compileTextCall (load T) text lent .answer) in
       Refuses ((19, 21) ∷ (17, 17) ∷ (17, 17) ∷ (18, 18) ∷ (1, 8) ∷ (14, 14) ∷ []) (compileTextChecks (load T) text lent) c
       × Leaves c lent (compileTextCall (load T) text lent .lent)
-  pub runs : (T : Table) (text words : List ℕ) (n : ℕ) (forFile lent : List ℕ) →
+  pub runs : (T : TimeTable) (text words : List ℕ) (n : ℕ) (forFile lent : List ℕ) →
       let r = runTextCall (load T) text words n forFile lent in
       let c = verdict (r .answer .outcome) in
       Refuses ((19, 21) ∷ (17, 17) ∷ (17, 17) ∷ (18, 18) ∷ (1, 8) ∷ (13, 13) ∷ (14, 14) ∷ (14, 14) ∷ (14, 14) ∷ [])

@@ -9,7 +9,7 @@ use Rattle.model.specs.declared.Checked.the-variants.{Accepted}
 use Rattle.model.specs.Refusals.{refuse, first}
 use Rattle.model.specs.Program.{const, var, compl, op, ok, tick, assign, seq, par, ite, while, repeat, preorderE, preorder}
 use Rattle.model.specs.Text.{blank, digit, letter, runLength, allDigits, valueFrom, isNumber, isName, same, wordCode, twoCode, oneCode, limitAfter, runToken, tokenAt, sizeAt, wordsFrom, outside}
-use Rattle.model.specs.Reader.{Reading, good, bad, holdOf, reachOf, pop, topCode, topStart, leaf, opened, openedNode, between, closed, turned, settled, withDelay, onStatement, onOperand, onAfterOperand, onAfterStatement, onDelay, onBody, stepOf, isBroken, complete, readFrom}
+use Rattle.model.specs.Reader.{Reading, good, bad, holdOf, reachOf, pop, topCode, topStart, leaf, opened, openedNode, between, closed, turned, reduced, withDelay, onStatement, onOperand, onAfterOperand, onAfterStatement, onDelay, onBody, stepOf, isBroken, complete, readFrom}
 use Rattle.model.specs.TextCalls.{readingOf, brokenAt, textChecks}
 
 -- a text, and what its reading is
@@ -47,7 +47,7 @@ rows =
     ∷ []
 
 texts-right : map (λ w. readingOf (w .text)) rows ≡ map (λ w. w .reading) rows
-unfolding rows preorderE preorder blank digit letter runLength allDigits valueFrom isNumber isName same wordCode twoCode oneCode limitAfter runToken tokenAt sizeAt wordsFrom holdOf reachOf pop topCode topStart leaf opened openedNode between closed turned settled withDelay onStatement onOperand onAfterOperand onAfterStatement onDelay onBody stepOf isBroken complete readFrom readingOf
+unfolding rows preorderE preorder blank digit letter runLength allDigits valueFrom isNumber isName same wordCode twoCode oneCode limitAfter runToken tokenAt sizeAt wordsFrom holdOf reachOf pop topCode topStart leaf opened openedNode between closed turned reduced withDelay onStatement onOperand onAfterOperand onAfterStatement onDelay onBody stepOf isBroken complete readFrom readingOf
 texts-right = refl
 
 -- a text, and the first of refusals 17 and 18
@@ -79,5 +79,5 @@ judged =
     ∷ []
 
 checks-right : map (λ w. first (textChecks (w .text))) judged ≡ map (λ w. w .checked) judged
-unfolding judged outside brokenAt preorderE preorder blank digit letter runLength allDigits valueFrom isNumber isName same wordCode twoCode oneCode limitAfter runToken tokenAt sizeAt wordsFrom holdOf reachOf pop topCode topStart leaf opened openedNode between closed turned settled withDelay onStatement onOperand onAfterOperand onAfterStatement onDelay onBody stepOf isBroken complete readFrom readingOf
+unfolding judged outside brokenAt preorderE preorder blank digit letter runLength allDigits valueFrom isNumber isName same wordCode twoCode oneCode limitAfter runToken tokenAt sizeAt wordsFrom holdOf reachOf pop topCode topStart leaf opened openedNode between closed turned reduced withDelay onStatement onOperand onAfterOperand onAfterStatement onDelay onBody stepOf isBroken complete readFrom readingOf
 checks-right = refl

@@ -56,12 +56,12 @@ timesIn file =
     ∷ []
 
 -- the built-in table, or one that a file gives
-pub data Table : Type 0 where
-  builtIn : Table
-  given : List ℕ → Table
+pub data TimeTable : Type 0 where
+  builtIn : TimeTable
+  given : List ℕ → TimeTable
 
 -- what its check says, and its times
-unfoldable pub load : Table → Loaded
+unfoldable pub load : TimeTable → Loaded
 load builtIn = record { checked = Accepted; times = builtInTimes }
 load (given file) = record { checked = first (tableChecks file); times = timesIn file }
 

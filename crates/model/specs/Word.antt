@@ -28,8 +28,8 @@ abbrev pub isZero : ℕ → Bool
 isZero w = eqb w 0
 
 -- "Less therefore compares words as two's complement, −32,768 to 32,767": the number that a word is, with 32,768 added
-unfoldable pub shifted : ℕ → ℕ
-shifted w = (w + 32768) % 65536
+unfoldable pub biased : ℕ → ℕ
+biased w = (w + 32768) % 65536
 
 -- The operators of kinds 3 to 9: complement of all bits, sum, difference, bitwise and, bitwise or, equal, less.
 -- "Adding and subtracting wrap at sixteen bits." The complement has no use for its second word.
@@ -41,11 +41,11 @@ operate k x y =
     (pick (eqb k 6) (bitAnd x y)
     (pick (eqb k 7) (bitOr x y)
     (pick (eqb k 8) (bit (eqb x y))
-    (bit (ltb (shifted x) (shifted y))))))))
+    (bit (ltb (biased x) (biased y))))))))
 
 -- "−1 < 0 is 1, and 32,767 < −32,768 is 0"
 less-signed : (operate 9 65535 0 ≡ 1) × (operate 9 32767 32768 ≡ 0)
-unfolding operate shifted bit
+unfolding operate biased bit
 less-signed = (refl, refl)
 
 -- Numbers in bytes ---------------------------------------------------------------------------------------------------------------------

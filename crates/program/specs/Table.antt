@@ -9,7 +9,7 @@ use lib.Dec.{T, eqb, eqb→eq}
 use borrow.Author.Tests.{eq-eqb}
 use Rattle.model.specs.declared.Row.{Row}
 use Rattle.model.specs.Word.{pick}
-use Rattle.model.specs.Program.{table, rowOf}
+use Rattle.model.specs.Program.{kindTable, rowOf}
 
 every : (Row → Bool) → List Row → Bool
 every test [] = true
@@ -27,9 +27,9 @@ every-at test (r ∷ rs) d t u zero = both (test r) (every test rs) t .0
 every-at test (r ∷ rs) d t u (suc k) = every-at test rs d (both (test r) (every test rs) t .1) u k
 
 -- a test that every row of the table passes; so does the row of an unknown kind, which is its first
-table-rule : (test : Row → Bool) → T (every test table) → (k : ℕ) → T (test (rowOf k))
+table-rule : (test : Row → Bool) → T (every test kindTable) → (k : ℕ) → T (test (rowOf k))
 unfolding every rowOf
-table-rule test t k = every-at test table (rowOf 0) t (both (test (rowOf 0)) _ t .0) k
+table-rule test t k = every-at test kindTable (rowOf 0) t (both (test (rowOf 0)) _ t .0) k
 
 -- an expression has no statement among its children
 no-stmts : Row → Bool

@@ -8,7 +8,7 @@ use lib.Dec.{ltb}
 use lib.ListN.{length, drop}
 use Rattle.model.specs.declared.Token.{Token}
 use Rattle.model.specs.Word.{pick}
-use Rattle.model.specs.Text.{blank, sign, tokenAt, sizeAt, wordAt, wordsFrom}
+use Rattle.model.specs.Text.{blank, sign, tokenAt, sizeAt, lexeme, wordsFrom}
 use Rattle.scanner.specs.declared.Scanned.{Scanned}
 
 -- how many numbers at the front of a list pass a test
@@ -40,7 +40,7 @@ nextWord p i text =
 -- what that says of the words from there on: r is the first, and the others are those from its end on; or there is none
 pub record Next (text : List ℕ) (from p : ℕ) (r : Scanned) : Type 0 where
   pub word : r .found ≡ true
-      → wordsFrom 0 p from (drop from text) ≡ wordAt (r .token) (r .place) ∷ wordsFrom 0 (r .token .code) (r .end) (drop (r .end) text)
+      → wordsFrom 0 p from (drop from text) ≡ lexeme (r .token) (r .place) ∷ wordsFrom 0 (r .token .code) (r .end) (drop (r .end) text)
   pub none : r .found ≡ false → wordsFrom 0 p from (drop from text) ≡ []
   pub after : from ≤ r .place
   pub nonempty : r .found ≡ true → r .place < r .end

@@ -10,7 +10,7 @@ use lib.Dec.{ltb, eqb}
 use lib.ListN.{length, getD, drop, length-drop, drop-of-length-le}
 use lib.Seq.{drop-cons, drop-drop}
 use borrow.Author.Tests.{ltb-true, ltb-false, eq-eqb, eqb-false}
-use Rattle.model.specs.Text.{blank, letter, digit, runLength, twoCode, tokenAt, sizeAt, Word, wordAt, wordsFrom}
+use Rattle.model.specs.Text.{blank, letter, digit, runLength, twoCode, tokenAt, sizeAt, Lexeme, lexeme, wordsFrom}
 use Rattle.theory.specs.Refusals.Laws.{by-bool, not-both}
 use Rattle.scanner.specs.declared.Scanned.{Scanned}
 use Rattle.scanner.specs.Scanning.{front, afterBlanks, wordHere, noWord, nextWord, Next}
@@ -103,7 +103,7 @@ module _ (p i c : ℕ) (s : List ℕ) where
   words-blank e = rw (e, wordsFrom) refl
 
   words-word : blank c ≡ false
-      → wordsFrom 0 p i (c ∷ s) ≡ wordAt (tokenAt p (c ∷ s)) i ∷ wordsFrom (sizeAt (c ∷ s) - 1) (tokenAt p (c ∷ s) .code) (i + 1) s
+      → wordsFrom 0 p i (c ∷ s) ≡ lexeme (tokenAt p (c ∷ s)) i ∷ wordsFrom (sizeAt (c ∷ s) - 1) (tokenAt p (c ∷ s) .code) (i + 1) s
   unfolding wordsFrom
   words-word e = rw (e, wordsFrom) refl
 
@@ -127,7 +127,7 @@ not-blank : (c : ℕ) (s : List ℕ) → front blank (c ∷ s) ≡ 0 → blank c
 not-blank c s e = by-bool (blank c) (λ z. absurd (omega (arith, front-in blank c s z))) (λ z. z)
 
 pub words-first : (p i : ℕ) (s : List ℕ) → 0 < length s → front blank s ≡ 0
-    → wordsFrom 0 p i s ≡ wordAt (tokenAt p s) i ∷ wordsFrom 0 (tokenAt p s .code) (i + sizeAt s) (drop (sizeAt s) s)
+    → wordsFrom 0 p i s ≡ lexeme (tokenAt p s) i ∷ wordsFrom 0 (tokenAt p s .code) (i + sizeAt s) (drop (sizeAt s) s)
 words-first p i [] h e = absurd (omega arith)
 words-first p i (c ∷ s) h e =
     let t = tokenAt p (c ∷ s) in
@@ -137,7 +137,7 @@ words-first p i (c ∷ s) h e =
     let left : drop n (c ∷ s) ≡ drop (n - 1) s = ap (λ (k : ℕ). drop k (c ∷ s)) size in
     let next : wordsFrom (n - 1) (t .code) (i + 1) s ≡ wordsFrom 0 (t .code) (i + n) (drop n (c ∷ s)) =
     rw (left, ← place) (words-skip (n - 1) (t .code) (i + 1) s) in
-    words-word p i c s (not-blank c s e) ∙ ap (λ (ws : List Word). wordAt t i ∷ ws) next
+    words-word p i c s (not-blank c s e) ∙ ap (λ (ws : List Lexeme). lexeme t i ∷ ws) next
 
 -- The next word -------------------------------------------------------------------------------------------------------------------------
 
@@ -153,7 +153,7 @@ module _ (text : List ℕ) (from p : ℕ) where
       let s = drop place text in
       let some : 0 < length s = simp length-drop (omega arith) in
       let bare : front blank s ≡ 0 = rw (← drop-drop (front blank (drop from text)) from text) (front-left blank (drop from text)) in
-      let first : wordsFrom 0 p place s ≡ wordAt (tokenAt p s) place ∷ wordsFrom 0 (tokenAt p s .code) (place + sizeAt s) (drop (place + sizeAt s) text) =
+      let first : wordsFrom 0 p place s ≡ lexeme (tokenAt p s) place ∷ wordsFrom 0 (tokenAt p s .code) (place + sizeAt s) (drop (place + sizeAt s) text) =
       rw (← drop-drop (sizeAt s) place text) (words-first p place s some bare) in
       let size = size-bounds s some in
       let long : sizeAt s ≤ length text - place = rw (length-drop place text) at (size .1) in

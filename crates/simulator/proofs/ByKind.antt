@@ -10,7 +10,7 @@ use borrow.Author.Tests.{eq-eqb, ne-eqb, le-leb, lt-leb}
 use Rattle.model.specs.declared.Cell.{Cell}
 use Rattle.model.specs.Word.{pick, bit, isZero, operate}
 use Rattle.model.specs.Circuit.{high, mergeStep, Shape, shape, kConstant, kComplement, kOperator, kStart, kGround, kDelay, kOr, kWhenTrue, kWhenFalse, kMerge, kMemory, kGated, kUnknown}
-use Rattle.model.specs.State.{base, nowAt, beforeAt, heldAt, lineBit, later, shifted, holding, settle}
+use Rattle.model.specs.State.{base, nowAt, beforeAt, heldAt, lineBit, nextValue, shiftedIn, holding, settle}
 use Rattle.theory.specs.Circuit.Shapes.{delay-kind, merge-kind}
 
 -- a number that is no operator's
@@ -60,73 +60,73 @@ shape-still kind h =
 module _ (s : List ℕ) (k : ℕ) (c : Cell) where
   -- Values -----------------------------------------------------------------------------------------------------------------------------
 
-  by-kind : (n : ℕ) → c .kind ≡ n → later (shape (c .kind)) s k c ≡ later (shape n) s k c
-  by-kind n h = ap (λ (j : ℕ). later (shape j) s k c) h
+  by-kind : (n : ℕ) → c .kind ≡ n → nextValue (shape (c .kind)) s k c ≡ nextValue (shape n) s k c
+  by-kind n h = ap (λ (j : ℕ). nextValue (shape j) s k c) h
 
-  pub later-constant : c .kind ≡ 1 → later (shape (c .kind)) s k c ≡ c .a
-  unfolding later shape
-  later-constant h = by-kind 1 h
+  pub next-constant : c .kind ≡ 1 → nextValue (shape (c .kind)) s k c ≡ c .a
+  unfolding nextValue shape
+  next-constant h = by-kind 1 h
 
-  pub later-delay : c .kind ≡ 34 → later (shape (c .kind)) s k c ≡ lineBit s k (c .delay - 1)
-  unfolding later shape
-  later-delay h = by-kind 34 h
+  pub next-delay : c .kind ≡ 34 → nextValue (shape (c .kind)) s k c ≡ lineBit s k (c .delay - 1)
+  unfolding nextValue shape
+  next-delay h = by-kind 34 h
 
-  pub later-or : c .kind ≡ 35 → later (shape (c .kind)) s k c ≡ bit (high (nowAt s (c .a)) || high (nowAt s (c .b)))
-  unfolding later shape
-  later-or h = by-kind 35 h
+  pub next-or : c .kind ≡ 35 → nextValue (shape (c .kind)) s k c ≡ bit (high (nowAt s (c .a)) || high (nowAt s (c .b)))
+  unfolding nextValue shape
+  next-or h = by-kind 35 h
 
-  pub later-when-true : c .kind ≡ 36 → later (shape (c .kind)) s k c ≡ bit (high (nowAt s (c .a)) && not (isZero (nowAt s (c .b))))
-  unfolding later shape
-  later-when-true h = by-kind 36 h
+  pub next-when-true : c .kind ≡ 36 → nextValue (shape (c .kind)) s k c ≡ bit (high (nowAt s (c .a)) && not (isZero (nowAt s (c .b))))
+  unfolding nextValue shape
+  next-when-true h = by-kind 36 h
 
-  pub later-when-false : c .kind ≡ 37 → later (shape (c .kind)) s k c ≡ bit (high (nowAt s (c .a)) && isZero (nowAt s (c .b)))
-  unfolding later shape
-  later-when-false h = by-kind 37 h
+  pub next-when-false : c .kind ≡ 37 → nextValue (shape (c .kind)) s k c ≡ bit (high (nowAt s (c .a)) && isZero (nowAt s (c .b)))
+  unfolding nextValue shape
+  next-when-false h = by-kind 37 h
 
-  pub later-merge : c .kind ≡ 38
-      → later (shape (c .kind)) s k c ≡ bit (mergeStep (heldAt s k) (high (nowAt s (c .a))) (high (nowAt s (c .b))) .out)
-  unfolding later shape
-  later-merge h = by-kind 38 h
+  pub next-merge : c .kind ≡ 38
+      → nextValue (shape (c .kind)) s k c ≡ bit (mergeStep (heldAt s k) (high (nowAt s (c .a))) (high (nowAt s (c .b))) .out)
+  unfolding nextValue shape
+  next-merge h = by-kind 38 h
 
   -- a memory whose clock has fallen, and one whose clock has not
-  pub later-fallen : c .kind ≡ 40 → (high (beforeAt s (c .a)) && not (high (nowAt s (c .a)))) ≡ true
-      → later (shape (c .kind)) s k c ≡ beforeAt s (c .b)
-  unfolding later shape
-  later-fallen h e = by-kind 40 h ∙ ap (λ (b : Bool). pick b (beforeAt s (c .b)) (beforeAt s k)) e
+  pub next-fallen : c .kind ≡ 40 → (high (beforeAt s (c .a)) && not (high (nowAt s (c .a)))) ≡ true
+      → nextValue (shape (c .kind)) s k c ≡ beforeAt s (c .b)
+  unfolding nextValue shape
+  next-fallen h e = by-kind 40 h ∙ ap (λ (b : Bool). pick b (beforeAt s (c .b)) (beforeAt s k)) e
 
-  pub later-kept : c .kind ≡ 40 → (high (beforeAt s (c .a)) && not (high (nowAt s (c .a)))) ≡ false
-      → later (shape (c .kind)) s k c ≡ beforeAt s k
-  unfolding later shape
-  later-kept h e = by-kind 40 h ∙ ap (λ (b : Bool). pick b (beforeAt s (c .b)) (beforeAt s k)) e
+  pub next-kept : c .kind ≡ 40 → (high (beforeAt s (c .a)) && not (high (nowAt s (c .a)))) ≡ false
+      → nextValue (shape (c .kind)) s k c ≡ beforeAt s k
+  unfolding nextValue shape
+  next-kept h e = by-kind 40 h ∙ ap (λ (b : Bool). pick b (beforeAt s (c .b)) (beforeAt s k)) e
 
-  pub later-gate-open : c .kind ≡ 41 → nowAt s (c .a) ≡ 1 → later (shape (c .kind)) s k c ≡ nowAt s (c .b)
-  unfolding later shape
-  later-gate-open h e = by-kind 41 h ∙ ap (λ (b : Bool). pick b (nowAt s (c .b)) 0) (eq-eqb _ _ e)
+  pub next-gate-open : c .kind ≡ 41 → nowAt s (c .a) ≡ 1 → nextValue (shape (c .kind)) s k c ≡ nowAt s (c .b)
+  unfolding nextValue shape
+  next-gate-open h e = by-kind 41 h ∙ ap (λ (b : Bool). pick b (nowAt s (c .b)) 0) (eq-eqb _ _ e)
 
-  pub later-gate-shut : c .kind ≡ 41 → (nowAt s (c .a) ≡ 1 → ⊥) → later (shape (c .kind)) s k c ≡ 0
-  unfolding later shape
-  later-gate-shut h e = by-kind 41 h ∙ ap (λ (b : Bool). pick b (nowAt s (c .b)) 0) (ne-eqb _ _ e)
+  pub next-gate-shut : c .kind ≡ 41 → (nowAt s (c .a) ≡ 1 → ⊥) → nextValue (shape (c .kind)) s k c ≡ 0
+  unfolding nextValue shape
+  next-gate-shut h e = by-kind 41 h ∙ ap (λ (b : Bool). pick b (nowAt s (c .b)) 0) (ne-eqb _ _ e)
 
-  pub later-operator : 3 ≤ c .kind → c .kind ≤ 9 → later (shape (c .kind)) s k c ≡ operate (c .kind) (nowAt s (c .a)) (nowAt s (c .b))
-  unfolding later shape operate
-  later-operator h g = go (ℕ-discrete (c .kind) 3)
+  pub next-operator : 3 ≤ c .kind → c .kind ≤ 9 → nextValue (shape (c .kind)) s k c ≡ operate (c .kind) (nowAt s (c .a)) (nowAt s (c .b))
+  unfolding nextValue shape operate
+  next-operator h g = go (ℕ-discrete (c .kind) 3)
     where
-      go : Dec (c .kind ≡ 3) → later (shape (c .kind)) s k c ≡ operate (c .kind) (nowAt s (c .a)) (nowAt s (c .b))
+      go : Dec (c .kind ≡ 3) → nextValue (shape (c .kind)) s k c ≡ operate (c .kind) (nowAt s (c .a)) (nowAt s (c .b))
       go (yes e) = by-kind 3 e ∙ ap (λ (n : ℕ). operate n (nowAt s (c .a)) (nowAt s (c .b))) (sym e)
-      go (no e) = ap (λ (sh : Shape). later sh s k c) (shape-operator (c .kind) (omega (arith, e)) g)
+      go (no e) = ap (λ (sh : Shape). nextValue sh s k c) (shape-operator (c .kind) (omega (arith, e)) g)
 
-  pub later-still : Still (c .kind) → later (shape (c .kind)) s k c ≡ 0
-  unfolding later
-  later-still h = ap (λ (sh : Shape). later sh s k c) (shape-still (c .kind) h) ∙ none (eqb (c .kind) 32) (eqb (c .kind) 33)
+  pub next-still : Still (c .kind) → nextValue (shape (c .kind)) s k c ≡ 0
+  unfolding nextValue
+  next-still h = ap (λ (sh : Shape). nextValue sh s k c) (shape-still (c .kind) h) ∙ none (eqb (c .kind) 32) (eqb (c .kind) 33)
     where
-      none : (p q : Bool) → later (pick p kStart (pick q kGround kUnknown)) s k c ≡ 0
+      none : (p q : Bool) → nextValue (pick p kStart (pick q kGround kUnknown)) s k c ≡ 0
       none true q = refl
       none false true = refl
       none false false = refl
 
   -- Settling ---------------------------------------------------------------------------------------------------------------------------
 
-  pub settle-delay : c .kind ≡ 34 → settle (shape (c .kind)) s k c ≡ shifted 32 s (base k + 8) (bit (high (nowAt s (c .a))))
+  pub settle-delay : c .kind ≡ 34 → settle (shape (c .kind)) s k c ≡ shiftedIn 32 s (base k + 8) (bit (high (nowAt s (c .a))))
   unfolding settle shape
   settle-delay h = ap (λ (j : ℕ). settle (shape j) s k c) h
 

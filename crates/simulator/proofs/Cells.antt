@@ -10,7 +10,7 @@ use lib.Seq.{drop-cons}
 use Rattle.model.specs.declared.Cell.{Cell}
 use Rattle.model.specs.Circuit.{noCell, cellAt, shape}
 use Rattle.model.specs.NetlistFile.{cellFrom, inList}
-use Rattle.model.specs.State.{later, value, settle, settled}
+use Rattle.model.specs.State.{nextValue, value, settle, settled}
 use Rattle.theory.specs.NetlistFile.Passed.{length-cells}
 use Rattle.theory.specs.NetlistFile.CellBytes.{cell-of}
 use Rattle.simulator.specs.Fits.{Stands, Sees, netOf, Fits}
@@ -23,8 +23,8 @@ module _ (cells : List ℕ) (n k : ℕ) (h : k < n) where
   pub net-cell : cellAt (netOf cells n) k ≡ cellFrom cells (6 * k)
   net-cell = cell-of inList cells 0 n k h ∙ ap (λ (j : ℕ). cellFrom cells (6 * j)) (zero-add k)
 
-  pub net-value : (s : List ℕ) → value (netOf cells n) s k ≡ later (shape (cellFrom cells (6 * k) .kind)) s k (cellFrom cells (6 * k))
-  net-value s = ap (λ (c : Cell). later (shape (c .kind)) s k c) net-cell
+  pub net-value : (s : List ℕ) → value (netOf cells n) s k ≡ nextValue (shape (cellFrom cells (6 * k) .kind)) s k (cellFrom cells (6 * k))
+  net-value s = ap (λ (c : Cell). nextValue (shape (c .kind)) s k c) net-cell
 
   pub net-settled : (s : List ℕ) → settled (netOf cells n) s k ≡ settle (shape (cellFrom cells (6 * k) .kind)) s k (cellFrom cells (6 * k))
   net-settled s = ap (λ (c : Cell). settle (shape (c .kind)) s k c) net-cell

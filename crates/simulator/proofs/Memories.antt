@@ -11,8 +11,8 @@ use lib.Seq.{sets, sets-eq, take-suc}
 use borrow.Author.Tests.{eq-eqb, ne-eqb}
 use Rattle.model.specs.declared.Cell.{Cell}
 use Rattle.model.specs.Word.{pick, bit}
-use Rattle.model.specs.Circuit.{cellAt, noCell, memories, startWord, shape}
-use Rattle.model.specs.State.{nowAt, later, firstValue, wordsIn}
+use Rattle.model.specs.Circuit.{memoryWords, cellAt, noCell, memories, startWord, shape}
+use Rattle.model.specs.State.{nowAt, nextValue, firstValue, wordsIn}
 use Rattle.theory.specs.Numbering.Whole.{memories-append}
 use Rattle.simulator.proofs.Cells.{cells-from}
 
@@ -37,13 +37,13 @@ module _ (net : List Cell) (k : ℕ) (h : k < length net) where
       omega (arith, ap memories (take-append-drop k net), memories-append (take k net) (drop k net), above-memory e)
 
   words-memory : (s : List ℕ) → cellAt net k .kind ≡ 40 → wordsIn (drop k net) k s ≡ nowAt s k ∷ wordsIn (drop (k + 1) net) (k + 1) s
-  unfolding wordsIn
+  unfolding memoryWords
   words-memory s e =
       ap (λ (cs : List Cell). wordsIn cs k s) (cells-from net k h)
       ∙ ap (λ (b : Bool). pick b (nowAt s k ∷ wordsIn (drop (k + 1) net) (k + 1) s) (wordsIn (drop (k + 1) net) (k + 1) s)) (eq-eqb _ _ e)
 
   words-other : (s : List ℕ) → (cellAt net k .kind ≡ 40 → ⊥) → wordsIn (drop k net) k s ≡ wordsIn (drop (k + 1) net) (k + 1) s
-  unfolding wordsIn
+  unfolding memoryWords
   words-other s e =
       ap (λ (cs : List Cell). wordsIn cs k s) (cells-from net k h)
       ∙ ap (λ (b : Bool). pick b (nowAt s k ∷ wordsIn (drop (k + 1) net) (k + 1) s) (wordsIn (drop (k + 1) net) (k + 1) s)) (ne-eqb _ _ e)
@@ -59,7 +59,7 @@ pub record Collects (net : List Cell) (s words : List ℕ) (j k : ℕ) : Type 0 
   pub shown : sets words j (wordsIn (drop k net) k s) ≡ wordsIn net 0 s
 
 length-words : (cs : List Cell) (k : ℕ) (s : List ℕ) → length (wordsIn cs k s) ≡ memories cs
-unfolding wordsIn memories bit
+unfolding memoryWords memories bit
 length-words [] k s = refl
 length-words (c ∷ cs) k s = go (eqb (c .kind) 40) (wordsIn cs (k + 1) s) (length-words cs (k + 1) s)
   where
@@ -103,16 +103,16 @@ module _ (net : List Cell) (s words : List ℕ) (j k : ℕ) (h : k < length net)
       }
 
 pub collects-all : (net : List Cell) (s words : List ℕ) (j k : ℕ) → length net ≤ k → Collects net s words j k → words ≡ wordsIn net 0 s
-unfolding wordsIn
+unfolding memoryWords
 collects-all net s words j k h c =
     sym (ap (λ (cs : List Cell). sets words j (wordsIn cs k s)) (drop-of-length-le net {i = k} h)) ∙ c .shown
 
 -- Values at instant 0 ------------------------------------------------------------------------------------------------------------------
 
 module _ (net : List Cell) (w : ℕ → ℕ) (s : List ℕ) (k : ℕ) (c : Cell) (e : cellAt net k ≡ c) where
-  first-is : firstValue net w s k ≡ pick (eqb (c .kind) 32) 1 (pick (eqb (c .kind) 40) (startWord net w k) (later (shape (c .kind)) s k c))
+  first-is : firstValue net w s k ≡ pick (eqb (c .kind) 32) 1 (pick (eqb (c .kind) 40) (startWord net w k) (nextValue (shape (c .kind)) s k c))
   first-is =
-      ap (λ (x : Cell). pick (eqb (x .kind) 32) 1 (pick (eqb (x .kind) 40) (startWord net w k) (later (shape (x .kind)) s k x))) e
+      ap (λ (x : Cell). pick (eqb (x .kind) 32) 1 (pick (eqb (x .kind) 40) (startWord net w k) (nextValue (shape (x .kind)) s k x))) e
 
   pub first-start : c .kind ≡ 32 → firstValue net w s k ≡ 1
   first-start h = first-is ∙ rw (eq-eqb _ _ h) refl
@@ -120,5 +120,5 @@ module _ (net : List Cell) (w : ℕ → ℕ) (s : List ℕ) (k : ℕ) (c : Cell)
   pub first-memory : c .kind ≡ 40 → firstValue net w s k ≡ w (memories (take k net))
   first-memory h = first-is ∙ rw (ne-eqb (c .kind) 32 (λ z. omega arith), eq-eqb _ _ h) refl
 
-  pub first-other : (c .kind ≡ 32 → ⊥) → (c .kind ≡ 40 → ⊥) → firstValue net w s k ≡ later (shape (c .kind)) s k c
+  pub first-other : (c .kind ≡ 32 → ⊥) → (c .kind ≡ 40 → ⊥) → firstValue net w s k ≡ nextValue (shape (c .kind)) s k c
   first-other h g = first-is ∙ rw (ne-eqb _ _ h, ne-eqb _ _ g) refl

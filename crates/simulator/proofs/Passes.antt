@@ -7,7 +7,7 @@ use native.Mathlib.Numerals.{add-one, sub-one}
 use lib.ListN.{length, getD, set, drop, replicate}
 use Rattle.model.specs.declared.Cell.{Cell}
 use Rattle.model.specs.Word.{put32}
-use Rattle.model.specs.State.{instantOf, value, firstValue, upTo, aged, shown, shifted, settled, beginState, stepState}
+use Rattle.model.specs.State.{instantOf, value, firstValue, upTo, aged, shown, shiftedIn, settled, beginState, stepState}
 
 upTo-more : (f : List ℕ → ℕ → List ℕ) (n : ℕ) (s : List ℕ) → upTo f (n + 1) s ≡ f (upTo f n s) n
 unfolding upTo
@@ -36,12 +36,12 @@ module _ (net : List Cell) (n : ℕ) (e : length net ≡ n) (s : List ℕ) where
 
 -- Lines --------------------------------------------------------------------------------------------------------------------------------
 
-pub shifted-none : (m : ℕ) (s : List ℕ) (i x : ℕ) → m ≡ 0 → shifted m s i x ≡ s
-unfolding shifted
+pub shifted-none : (m : ℕ) (s : List ℕ) (i x : ℕ) → m ≡ 0 → shiftedIn m s i x ≡ s
+unfolding shiftedIn
 shifted-none m s i x h = rw h
 
 pub shifted-more : (m : ℕ) (s : List ℕ) (i x : ℕ) → 0 < m
-    → shifted m s i x ≡ shifted (m - 1) (set s i ((2 * getD s i 0 + x) % 256)) (i + 1) ((2 * getD s i 0 + x) / 256)
-unfolding shifted
+    → shiftedIn m s i x ≡ shiftedIn (m - 1) (set s i ((2 * getD s i 0 + x) % 256)) (i + 1) ((2 * getD s i 0 + x) / 256)
+unfolding shiftedIn
 shifted-more zero s i x h = absurd (omega arith)
 shifted-more (suc m) s i x h = rw sub-one

@@ -5,16 +5,16 @@ ghost use Prim.Native.Nat.{_+_, _*_, _<_, _≤_};
 ghost use lib.ListN.{length};
 ghost use Rattle.model.specs.Word.{put32};
 ghost use Rattle.model.specs.Circuit.{shape};
-ghost use Rattle.model.specs.State.{instantOf, later, value, upTo, aged, shown, settle, settled, stepState};
+ghost use Rattle.model.specs.State.{instantOf, nextValue, value, upTo, aged, shown, settle, settled, stepState};
 ghost use Rattle.simulator.specs.Fits.{Stands, Sees, netOf, Fits};
 use crate::wires;
 use model::Cell;
 use netlist::cells::Layout;
 
 // What cell k, which is c, shows after instant 0.
-pub fn later(c: Cell, state: &[u8], k: usize) -> u16
+pub fn next_value(c: Cell, state: &[u8], k: usize) -> u16
     requires { ⌜ Stands (now state) k × Sees (now state) c ⌝ }
-    ensures { λ r. ⌜ r ≡ later (shape (c .kind)) (now (state .entry)) k c ⌝ }
+    ensures { λ r. ⌜ r ≡ nextValue (shape (c .kind)) (now (state .entry)) k c ⌝ }
 {
     let kind = c.kind;
     if kind == 1 {
@@ -97,7 +97,7 @@ fn show_all(cells: &[u8], n: usize, state: &mut [u8])
     let mut k: usize = 0;
     while k < n {
         let c = netlist::cells::cell_at(cells, Layout::InList, k);
-        let v = later(c, state, k);
+        let v = next_value(c, state, k);
         word::put16(state, 8 + 40 * k, v);
         k += 1;
     }

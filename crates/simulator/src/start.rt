@@ -37,7 +37,7 @@ fn first_value(c: Cell, words: &[u8], state: &[u8], k: usize, j: usize) -> u16
     if kind == 40 {
         return word::get16(words, 2 * j);
     }
-    instant::later(c, state, k)
+    instant::next_value(c, state, k)
 }
 
 // The k-th memory is variable k, so memories are counted on the way.

@@ -5,7 +5,7 @@ ghost use mathlib.Core.Bool.{not, _&&_};
 ghost use Prim.Native.Nat.{_+_, _<_};
 ghost use Rattle.model.specs.Word.{bit};
 ghost use Rattle.model.specs.Circuit.{high, mergeStep};
-ghost use Rattle.model.specs.State.{base, nowAt, beforeAt, heldAt, lineBit, shifted, holding};
+ghost use Rattle.model.specs.State.{base, nowAt, beforeAt, heldAt, lineBit, shiftedIn, holding};
 ghost use Rattle.simulator.specs.Fits.{Stands};
 use model::Merge;
 
@@ -81,7 +81,7 @@ pub fn line_bit(state: &[u8], k: usize, i: usize) -> u16
 // A line moves by a bit; what comes in is the newest.
 pub fn shift_line(state: &mut [u8], k: usize, input: bool)
     requires { ⌜ Stands (now state) k ⌝ }
-    ensures { λ _. ⌜ now (state .exit) ≡ shifted 32 (now (state .entry)) (base k + 8) (bit input) ⌝ }
+    ensures { λ _. ⌜ now (state .exit) ≡ shiftedIn 32 (now (state .entry)) (base k + 8) (bit input) ⌝ }
 {
     let mut i = 8 + 40 * k + 8;
     let mut left: usize = 32;

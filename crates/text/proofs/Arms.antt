@@ -10,7 +10,7 @@ use Rattle.model.specs.declared.Token.{Token}
 use Rattle.model.specs.declared.Mode.{Mode}
 use Rattle.model.specs.declared.Mode.the-variants.{Statement, AfterStatement, Operand, AfterOperand, Becomes, Ticks, Delay, Body}
 use Rattle.model.specs.Program.{node}
-use Rattle.model.specs.Reader.{Reader, pop, topCode, topStart, comparison, broken, leaf, opened, openedNode, between, closed, turned, settled, withDelay, onStatement, onOperand, onAfterOperand, onAfterStatement, onDelay, onBody, stepOf, step}
+use Rattle.model.specs.Reader.{Reader, pop, topCode, topStart, comparison, broken, leaf, opened, openedNode, between, closed, turned, reduced, withDelay, onStatement, onOperand, onAfterOperand, onAfterStatement, onDelay, onBody, stepOf, step}
 use Rattle.text.specs.declared.frames.Popped.{Popped}
 use Rattle.text.specs.declared.machine.Machine.{Machine}
 use Rattle.text.specs.Shown.{framesIn, Pops, Lists, lists, Shows, withMode, rewound}
@@ -80,15 +80,15 @@ module _ (t : Token) (r : Reader) where
     unfolding onAfterOperand
     operator-joins e = rw (operator, e) refl
 
-  module _ {top : ℕ} (shown : top ≡ topCode (settled r .frames)) where
+  module _ {top : ℕ} (shown : top ≡ topCode (reduced r .frames)) where
     module _ (operator : (leb 4 (t .code) && leb (t .code) 9) ≡ false) where
-      pub operand-closed : (eqb (t .code) 39 && eqb top 38) ≡ true → onAfterOperand t r ≡ closed AfterOperand (settled r)
+      pub operand-closed : (eqb (t .code) 39 && eqb top 38) ≡ true → onAfterOperand t r ≡ closed AfterOperand (reduced r)
       unfolding onAfterOperand
       operand-closed e = rw (operator, ← shown, e) refl
 
       module _ (a : (eqb (t .code) 39 && eqb top 38) ≡ false) where
         pub operand-timed : (eqb (t .code) 37 && ((eqb top 18 || eqb top 21) || (eqb top 22 || eqb top 35))) ≡ true
-            → onAfterOperand t r ≡ withMode Delay (settled r)
+            → onAfterOperand t r ≡ withMode Delay (reduced r)
         unfolding onAfterOperand
         operand-timed e = rw (operator, ← shown, a, e) refl
 
@@ -100,22 +100,22 @@ module _ (t : Token) (r : Reader) where
     -- A statement was read -------------------------------------------------------------------------------------------------------------
 
     module _ (join : (eqb (t .code) 19 || eqb (t .code) 20) ≡ false) where
-      pub statement-closed : (eqb (t .code) 41 && eqb top 40) ≡ true → onAfterStatement t r ≡ closed AfterStatement (settled r)
+      pub statement-closed : (eqb (t .code) 41 && eqb top 40) ≡ true → onAfterStatement t r ≡ closed AfterStatement (reduced r)
       unfolding onAfterStatement
       statement-closed e = rw (join, ← shown, e) refl
 
       module _ (a : (eqb (t .code) 41 && eqb top 40) ≡ false) where
-        pub statement-else : (eqb (t .code) 33 && eqb top 32) ≡ true → onAfterStatement t r ≡ turned Statement 33 (settled r)
+        pub statement-else : (eqb (t .code) 33 && eqb top 32) ≡ true → onAfterStatement t r ≡ turned Statement 33 (reduced r)
         unfolding onAfterStatement
         statement-else e = rw (join, ← shown, a, e) refl
 
         module _ (b : (eqb (t .code) 33 && eqb top 32) ≡ false) where
-          pub statement-end : (eqb (t .code) 36 && (eqb top 33 || eqb top 34)) ≡ true → onAfterStatement t r ≡ closed AfterStatement (settled r)
+          pub statement-end : (eqb (t .code) 36 && (eqb top 33 || eqb top 34)) ≡ true → onAfterStatement t r ≡ closed AfterStatement (reduced r)
           unfolding onAfterStatement
           statement-end e = rw (join, ← shown, a, b, e) refl
 
           module _ (d : (eqb (t .code) 36 && (eqb top 33 || eqb top 34)) ≡ false) where
-            pub statement-until : (eqb (t .code) 35 && eqb top 23) ≡ true → onAfterStatement t r ≡ turned Operand 35 (rewound (settled r))
+            pub statement-until : (eqb (t .code) 35 && eqb top 23) ≡ true → onAfterStatement t r ≡ turned Operand 35 (rewound (reduced r))
             unfolding onAfterStatement turned
             statement-until e = rw (join, ← shown, a, b, d, e) refl
 

@@ -11,7 +11,7 @@ use Rattle.model.specs.declared.Node.{Node}
 use Rattle.model.specs.declared.Token.{Token}
 use Rattle.model.specs.Word.{pick}
 use Rattle.model.specs.Program.{node}
-use Rattle.model.specs.Reader.{Frame, Popped, Reader, readerAtFirst, holdOf, reachOf, pop, topCode, topStart, comparison, leaf, opened, openedNode, between, closed, turned, settled, withDelay, onStatement, onOperand, onAfterOperand, onAfterStatement, onDelay, onBody, stepOf}
+use Rattle.model.specs.Reader.{Frame, Popped, Reader, readerAtFirst, holdOf, reachOf, pop, topCode, topStart, comparison, leaf, opened, openedNode, between, closed, turned, reduced, withDelay, onStatement, onOperand, onAfterOperand, onAfterStatement, onDelay, onBody, stepOf}
 use Rattle.text.specs.Shown.{highest, Within, withMode, rewound}
 use Rattle.text.proofs.Bytes.{insert-length, delay-length}
 
@@ -45,8 +45,8 @@ pop-bound reach p n (f ∷ fs) h k =
 -- Moves --------------------------------------------------------------------------------------------------------------------------------
 
 module _ {n : ℕ} (r : Reader) (w : Within n r) where
-  pub within-settled : Within n (settled r)
-  unfolding settled
+  pub within-settled : Within n (reduced r)
+  unfolding reduced
   within-settled =
       let b = pop-bound 0 (r .start) n (r .frames) (w .start) (w .frames) in
       record { start = b .start; frames = b .frames; cursor = w .cursor; nodes = w .nodes }
@@ -167,27 +167,27 @@ module _ {n : ℕ} (t : Token) (r : Reader) (w : Within n r) where
   unfolding onAfterOperand
   on-after-operand =
       let c = t .code in
-      let top = topCode (settled r .frames) in
+      let top = topCode (reduced r .frames) in
       let w′ = within-settled r w in
       chosen (leb 4 c && leb c 9)
       (chosen (comparison c && comparison (topCode (pop 7 (r .start) (r .frames) .frames))) (within-mode r w Broken)
       (within-between r w Operand c))
-      (chosen (eqb c 39 && eqb top 38) (within-more _ (within-closed (settled r) w′ AfterOperand))
-      (chosen (eqb c 37 && ((eqb top 18 || eqb top 21) || (eqb top 22 || eqb top 35))) (within-mode (settled r) w′ Delay)
+      (chosen (eqb c 39 && eqb top 38) (within-more _ (within-closed (reduced r) w′ AfterOperand))
+      (chosen (eqb c 37 && ((eqb top 18 || eqb top 21) || (eqb top 22 || eqb top 35))) (within-mode (reduced r) w′ Delay)
       (within-mode r w Broken)))
 
   on-after-statement : Within (suc n) (onAfterStatement t r)
   unfolding onAfterStatement turned
   on-after-statement =
       let c = t .code in
-      let top = topCode (settled r .frames) in
+      let top = topCode (reduced r .frames) in
       let w′ = within-settled r w in
-      let left = within-more _ (within-closed (settled r) w′ AfterStatement) in
+      let left = within-more _ (within-closed (reduced r) w′ AfterStatement) in
       chosen (eqb c 19 || eqb c 20) (within-between r w Statement c)
       (chosen (eqb c 41 && eqb top 40) left
-      (chosen (eqb c 33 && eqb top 32) (within-more _ (within-turned (settled r) w′ Statement 33))
+      (chosen (eqb c 33 && eqb top 32) (within-more _ (within-turned (reduced r) w′ Statement 33))
       (chosen (eqb c 36 && (eqb top 33 || eqb top 34)) left
-      (chosen (eqb c 35 && eqb top 23) (within-turned (rewound (settled r)) (within-rewound (settled r) w′) Operand 35)
+      (chosen (eqb c 35 && eqb top 23) (within-turned (rewound (reduced r)) (within-rewound (reduced r) w′) Operand 35)
       (within-mode r w Broken)))))
 
   on-delay : Within (suc n) (onDelay t r)

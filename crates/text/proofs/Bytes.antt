@@ -9,7 +9,7 @@ use lib.Seq.{sets, sets-eq, take-suc, drop-cons, set-at, take-at, drop-at, take-
 use Rattle.model.specs.declared.Node.{Node}
 use Rattle.model.specs.Word.{bytes16, put16}
 use Rattle.model.specs.Program.{node, nodeBytes}
-use Rattle.model.specs.Reader.{insertAt, delayed}
+use Rattle.model.specs.Reader.{insertAt, withNodeDelay}
 use Rattle.text.specs.Shown.{shifted, Keeps}
 
 -- Bytes that move ----------------------------------------------------------------------------------------------------------------------
@@ -151,7 +151,7 @@ module _ (d : List ℕ) (p : ℕ) (n : Node) (ns : List Node) (long : length d �
 
 -- A delay ------------------------------------------------------------------------------------------------------------------------------
 
-delay-bytes : (p v : ℕ) (ns : List Node) → set (nodeBytes ns) (4 * p + 1) v ≡ nodeBytes (delayed p v ns)
+delay-bytes : (p v : ℕ) (ns : List Node) → set (nodeBytes ns) (4 * p + 1) v ≡ nodeBytes (withNodeDelay p v ns)
 unfolding nodeBytes bytes16
 delay-bytes p v [] = refl
 delay-bytes zero v (n ∷ ns) = refl
@@ -159,17 +159,17 @@ delay-bytes (suc p) v (n ∷ ns) =
     let e : 4 * suc p + 1 ≡ suc (suc (suc (suc (4 * p + 1)))) = omega arith in rw (e, delay-bytes p v ns) refl
 
 module _ (d : List ℕ) (p v : ℕ) (ns : List Node) where
-  pub delay-length : length (delayed p v ns) ≡ length ns
+  pub delay-length : length (withNodeDelay p v ns) ≡ length ns
   delay-length = length-set ns p _
 
-  pub delay-past : length ns ≤ p → Keeps d ns → Keeps d (delayed p v ns)
+  pub delay-past : length ns ≤ p → Keeps d ns → Keeps d (withNodeDelay p v ns)
   delay-past h k = rw (set-out ns p (node (getD ns p (node 0 0 0) .kind) v (getD ns p (node 0 0 0) .n)) h) k
 
-  pub delay-many : 200 < length ns → Keeps d (delayed p v ns)
+  pub delay-many : 200 < length ns → Keeps d (withNodeDelay p v ns)
   unfolding Keeps
   delay-many h = λ few. absurd (omega (arith, delay-length))
 
-  pub delay-here : p < length ns → Keeps d ns → Keeps (set d (4 * p + 1) v) (delayed p v ns)
+  pub delay-here : p < length ns → Keeps d ns → Keeps (set d (4 * p + 1) v) (withNodeDelay p v ns)
   unfolding Keeps
   delay-here h k =
       λ few.

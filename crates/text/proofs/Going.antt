@@ -6,7 +6,7 @@ use mathlib.Core.List.{List, [], _∷_}
 use Prim.Native.Nat.{ℕ, suc, _+_, _<_, _≤_}
 use native.Mathlib.Omega.{arith}
 use lib.ListN.{length, drop}
-use Rattle.model.specs.Text.{wordAt, wordsFrom, limitAfter}
+use Rattle.model.specs.Text.{lexeme, wordsFrom, limitAfter}
 use Rattle.model.specs.Reader.{step, isBroken, complete, bad, readerAtFirst, readFrom}
 use Rattle.model.specs.TextCalls.{readingOf}
 use Rattle.theory.specs.Refusals.Laws.{by-bool}
@@ -52,7 +52,7 @@ module _ (text : List ℕ) where
       small = omega (arith, g .ends found .0, g .ends found .1)
 
       here : readingOf text
-          ≡ readFrom (length text) (g .reader) (wordAt (w .token) (w .place) ∷ wordsFrom 0 (w .token .code) (w .end) (drop (w .end) text))
+          ≡ readFrom (length text) (g .reader) (lexeme (w .token) (w .place) ∷ wordsFrom 0 (w .token .code) (w .end) (drop (w .end) text))
       unfolding wordsAhead
       here = rw found at (g .rest)
 
@@ -61,7 +61,7 @@ module _ (text : List ℕ) where
         shown = f (g .reader) (within-up (g .reader) (g .within) 4095 small) (g .shows)
 
         pub going-breaks : isBroken (x .mode) ≡ true → readingOf text ≡ bad (w .place)
-        going-breaks e = here ∙ reads-broken (length text) (g .reader) (wordAt (w .token) (w .place)) _ (sym (ap isBroken (shown .mode)) ∙ e)
+        going-breaks e = here ∙ reads-broken (length text) (g .reader) (lexeme (w .token) (w .place)) _ (sym (ap isBroken (shown .mode)) ∙ e)
 
         pub going-next : isBroken (x .mode) ≡ false → Grows 1 1 m x → Room l′ → {v : Scanned} → v ≡ nextWord (w .token .code) (w .end) text → Going text v x l′
         going-next e grows room {v} told =
@@ -72,7 +72,7 @@ module _ (text : List ℕ) where
             record {
               reader = step t r;
               shows = shown;
-              rest = here ∙ reads-on (length text) r (wordAt t (w .place)) _ (sym (ap isBroken (shown .mode)) ∙ e)
+              rest = here ∙ reads-on (length text) r (lexeme t (w .place)) _ (sym (ap isBroken (shown .mode)) ∙ e)
                   ∙ ap (readFrom (length text) (step t r)) (ahead (w .end) (t .code) n);
               within = within-up (step t r) (within-step t r (g .within) (r .mode)) (v .place) onward;
               room = room;

@@ -10,7 +10,7 @@ use Rattle.model.specs.declared.Mode.the-variants.{Statement, AfterStatement, O
 use Rattle.model.specs.declared.Token.{Token}
 use Rattle.model.specs.Word.{pick}
 use Rattle.model.specs.Text.{limitAfter}
-use Rattle.model.specs.Reader.{Reader, pop, topCode, comparison, leaf, opened, openedNode, between, closed, turned, settled, withDelay, onStatement, onOperand, onAfterOperand, onAfterStatement, onDelay, onBody, stepOf}
+use Rattle.model.specs.Reader.{Reader, pop, topCode, comparison, leaf, opened, openedNode, between, closed, turned, reduced, withDelay, onStatement, onOperand, onAfterOperand, onAfterStatement, onDelay, onBody, stepOf}
 use Rattle.theory.specs.Refusals.Laws.{by-bool, and-true}
 use Rattle.text.specs.Shown.{limitOf}
 
@@ -75,7 +75,7 @@ module _ (t : Token) where
     unfolding onAfterOperand between closed limitOf
     on-after-operand =
         let c = t .code in
-        let top = topCode (settled r .frames) in
+        let top = topCode (reduced r .frames) in
         chosen (leb 4 c && leb c 9)
         (λ e. chosen (comparison c && comparison (topCode (pop 7 (r .start) (r .frames) .frames))) (λ f. wide _ refl) (wide _ refl))
         (chosen (eqb c 39 && eqb top 38) (λ e. wide _ refl)
@@ -87,7 +87,7 @@ module _ (t : Token) where
     unfolding onAfterStatement between closed turned limitOf
     on-after-statement =
         let c = t .code in
-        let top = topCode (settled r .frames) in
+        let top = topCode (reduced r .frames) in
         chosen (eqb c 19 || eqb c 20) (λ e. wide _ refl)
         (chosen (eqb c 41 && eqb top 40) (λ e. wide _ refl)
         (chosen (eqb c 33 && eqb top 32) (λ e. wide _ refl)

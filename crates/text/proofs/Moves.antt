@@ -8,7 +8,7 @@ use Rattle.model.specs.declared.Mode.{Mode}
 use Rattle.model.specs.declared.Mode.the-variants.{Statement}
 use Rattle.model.specs.declared.Node.{Node}
 use Rattle.model.specs.Program.{node, nodeBytes}
-use Rattle.model.specs.Reader.{readerAtFirst, frame, reachOf, pop, topStart, insertAt, delayed, leaf, opened, openedNode, between, closed, turned, settled, withDelay}
+use Rattle.model.specs.Reader.{readerAtFirst, frame, reachOf, pop, topStart, insertAt, withNodeDelay, leaf, opened, openedNode, between, closed, turned, reduced, withDelay}
 use Rattle.text.specs.declared.frames.Popped.{Popped}
 use Rattle.text.specs.declared.machine.Machine.{Machine}
 use Rattle.text.specs.Shown.{framesIn, Pops, Keeps, Lists, lists, Shows, Follows, FollowsWithin, withMode, rewound}
@@ -24,7 +24,7 @@ abbrev Inserts : ℕ → ℕ → Node → List ℕ → List ℕ → Type 0
 Inserts at count n d d′ = (ns : List Node) → count ≡ length ns → Keeps d ns → Keeps d′ (insertAt at n ns)
 
 abbrev Delays : ℕ → ℕ → ℕ → List ℕ → List ℕ → Type 0
-Delays at count v d d′ = (ns : List Node) → count ≡ length ns → Keeps d ns → Keeps d′ (delayed at v ns)
+Delays at count v d d′ = (ns : List Node) → count ≡ length ns → Keeps d ns → Keeps d′ (withNodeDelay at v ns)
 
 pub first-shown : (l : Lists) → Shows readerAtFirst (machine Statement 0 0 0 0) l
 unfolding framesIn Keeps nodeBytes
@@ -138,8 +138,8 @@ module _ (c s d : List ℕ) (m : Machine) where
       }
 
   pub settled-shown : {p : Popped} → Pops c s 0 (m .start) (m .height) p
-      → Follows settled m (lists c s d) (machine (m .mode) (p .start) (p .height) (m .cursor) (m .count)) (lists c s d)
-  unfolding settled
+      → Follows reduced m (lists c s d) (machine (m .mode) (p .start) (p .height) (m .cursor) (m .count)) (lists c s d)
+  unfolding reduced
   settled-shown {p} pops r h =
       record {
         mode = h .mode;

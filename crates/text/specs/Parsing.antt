@@ -13,7 +13,7 @@ use Rattle.model.specs.declared.Checked.the-variants.{Accepted}
 use Rattle.model.specs.declared.Written.{Written}
 use Rattle.model.specs.Word.{pick}
 use Rattle.model.specs.Refusals.{refuseIf, first}
-use Rattle.model.specs.Text.{Word, wordAt, wordsFrom}
+use Rattle.model.specs.Text.{Lexeme, lexeme, wordsFrom}
 use Rattle.model.specs.Reader.{Reader, good, bad, readFrom}
 use Rattle.model.specs.Calls.{Told, short, checkCall, writing}
 use Rattle.model.specs.TextCalls.{readingOf, textProgram, textChecks}
@@ -29,9 +29,9 @@ Parses text d (Nodes n) = (ns : List Node) × (readingOf text ≡ good ns) × (n
 Parses text d (Broken p) = readingOf text ≡ bad p
 
 -- the words from a scanned one on
-unfoldable pub wordsAhead : List ℕ → Scanned → List Word
+unfoldable pub wordsAhead : List ℕ → Scanned → List Lexeme
 wordsAhead text w =
-    pick (w .found) (wordAt (w .token) (w .place) ∷ wordsFrom 0 (w .token .code) (w .end) (drop (w .end) text)) []
+    pick (w .found) (lexeme (w .token) (w .place) ∷ wordsFrom 0 (w .token .code) (w .end) (drop (w .end) text)) []
 
 -- the lists are as long as a machine asks for
 abbrev pub Room : Lists → Type 0

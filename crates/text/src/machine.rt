@@ -4,7 +4,7 @@ ghost use mathlib.Core.Path.{_≡_};
 ghost use mathlib.Core.List.{List};
 ghost use Prim.Native.Nat.{ℕ, _+_, _-_, _<_, _≤_};
 ghost use lib.ListN.{length};
-ghost use Rattle.model.specs.Reader.{readerAtFirst, leaf, opened, openedNode, between, closed, turned, settled, withDelay};
+ghost use Rattle.model.specs.Reader.{readerAtFirst, leaf, opened, openedNode, between, closed, turned, reduced, withDelay};
 ghost use Rattle.text.specs.Shown.{lists, Shows, Ready, Grows, Follows, FollowsWithin, Lists, withMode, rewound};
 use model::Mode;
 use model::Node;
@@ -194,7 +194,7 @@ pub fn rewound(starts: &[u16], m: Machine) -> Machine
 pub fn settled(codes: &[u8], starts: &[u16], m: Machine) -> Machine
     requires { ⌜ (m .height ≤ length (now codes)) × (m .height ≤ length (now starts)) ⌝ }
     ensures grows { λ x. ⌜ Grows 0 0 m x ⌝ }
-    ensures follows { λ x. ⌜ ((n : List ℕ) → Follows settled m (lists (now (codes .entry)) (now (starts .entry)) n) x (lists (now (codes .entry)) (now (starts .entry)) n)) ⌝ }
+    ensures follows { λ x. ⌜ ((n : List ℕ) → Follows reduced m (lists (now (codes .entry)) (now (starts .entry)) n) x (lists (now (codes .entry)) (now (starts .entry)) n)) ⌝ }
 {
     let mode = m.mode;
     let p = crate::frames::pop(codes, starts, 0, m.start, m.height);

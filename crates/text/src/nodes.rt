@@ -5,7 +5,7 @@ ghost use mathlib.Core.List.{List};
 ghost use Prim.Native.Nat.{_+_, _≤_, min};
 ghost use lib.ListN.{length};
 ghost use Rattle.model.specs.declared.Node.{Node};
-ghost use Rattle.model.specs.Reader.{insertAt, delayed};
+ghost use Rattle.model.specs.Reader.{insertAt, withNodeDelay};
 ghost use Rattle.text.specs.Shown.{shifted, Keeps};
 use model::Node;
 
@@ -45,7 +45,7 @@ pub fn insert_node(nodes: &mut [u8], at: u16, count: u16, node: Node)
 // Node `at`, if there is one, gets a delay.
 pub fn set_delay(nodes: &mut [u8], at: u16, count: u16, d: u8)
     requires { ⌜ length (now nodes) ≡ 800 ⌝ }
-    ensures { λ _. ⌜ ((ns : List Node) → count ≡ length ns → Keeps (now (nodes .entry)) ns → Keeps (now (nodes .exit)) (delayed at d ns)) ⌝ }
+    ensures { λ _. ⌜ ((ns : List Node) → count ≡ length ns → Keeps (now (nodes .entry)) ns → Keeps (now (nodes .exit)) (withNodeDelay at d ns)) ⌝ }
 {
     if count <= at {
         return;

@@ -4,5 +4,6 @@ pub mod Answers
 pub mod Replay
 pub mod Kept
 pub mod Demands
+pub mod Reference
 pub mod Tables
 pub mod Cases

@@ -4,7 +4,7 @@ ghost use mathlib.Core.Path.{_≡_};
 ghost use Prim.Native.Nat.{_+_, _*_, _%_, _≤_, _<_};
 ghost use lib.ListN.{length, take, drop};
 ghost use lib.Seq.{sets};
-ghost use Rattle.model.specs.Word.{shifted, operate, bit, get16, put16, get32, put32};
+ghost use Rattle.model.specs.Word.{biased, operate, bit, get16, put16, get32, put32};
 ghost use Rattle.model.specs.NetlistFile.{wordSum};
 
 pub fn bit(b: bool) -> u16
@@ -14,8 +14,8 @@ pub fn bit(b: bool) -> u16
 }
 
 // A word's number in two's complement, with 32,768 added.
-fn shifted(w: u16) -> u16
-    ensures { λ r. ⌜ r ≡ shifted w ⌝ }
+fn biased(w: u16) -> u16
+    ensures { λ r. ⌜ r ≡ biased w ⌝ }
 {
     std::num::wrapping_add_u16(w, 32768)
 }
@@ -31,7 +31,7 @@ pub fn operate(kind: u8, x: u16, y: u16) -> u16
         6 => x & y,
         7 => x | y,
         8 => bit(x == y),
-        _ => bit(shifted(x) < shifted(y)),
+        _ => bit(biased(x) < biased(y)),
     }
 }
 

@@ -4,7 +4,7 @@ use mathlib.Core.Logic.{⊎-elim}
 use native.Mathlib.Omega.{arith}
 use lib.ListN.{List·getD-eq-default, List·getD-map}
 use Rattle.model.specs.declared.Row.{Row}
-use Rattle.model.specs.Program.{table, rowOf}
+use Rattle.model.specs.Program.{kindTable, rowOf}
 use Rattle.program.specs.declared.Line.{Line}
 use Rattle.program.proofs.kind_row.Statement.{statement}
 use Rattle.program.proofs.kind_row.Tie as tie
@@ -24,8 +24,8 @@ array-copy-out-line c = ⊎-elim (λ w. omega arith) (λ w. omega arith) (c .bef
 returns : tie.Need-returns
 unfolding rowOf
 returns c =
-    ap row (List·getD-map line table (c .before .before .if1 .k) (rowOf 0))
-    ∙ ⊎-elim (λ w. ap rowOf (w .1)) (λ w. ap rowOf (w .1) ∙ sym (List·getD-eq-default table _ (w .0 .left))) (c .before .before .if1 .came)
+    ap row (List·getD-map line kindTable (c .before .before .if1 .k) (rowOf 0))
+    ∙ ⊎-elim (λ w. ap rowOf (w .1)) (λ w. ap rowOf (w .1) ∙ sym (List·getD-eq-default kindTable _ (w .0 .left))) (c .before .before .if1 .came)
 
 pub kind-row-spec : {M : Type 1} → statement M
 kind-row-spec = tie.close (tie.spec mul-line array-copy-out-line returns)

@@ -13,7 +13,7 @@ use Rattle.model.specs.declared.Cell.{Cell}
 use Rattle.model.specs.declared.Checked.the-variants.{Accepted}
 use Rattle.model.specs.Circuit.{cellAt, control, memories, Shape, shape, kConstant, kComplement, kOperator, kStart, kGround, kDelay, kOr, kWhenTrue, kWhenFalse, kMerge, kMemory, kGated, kUnknown}
 use Rattle.model.specs.NetlistFile.{wordSum, blockAt, blocksFor, countOf, finishOf, cellsAt, inFile, cellsOf, fileLengthWrong, sumFault, countWrong, headed, headerFault, controlIn, wordIn, keeps, placed, cellFault, netChecks, netCheck, fileChecks, fileCheck}
-use Rattle.theory.specs.Refusals.Laws.{and-true, not-false, all-accept, refuse-unless, fault-unless, first-place}
+use Rattle.theory.specs.Refusals.Laws.{and-true, not-false, all-accept, refuse-unless, fault-unless, no-fault}
 use Rattle.theory.specs.Circuit.Unique.{Looks, Ordered}
 
 -- Netlists -----------------------------------------------------------------------------------------------------------------------------
@@ -31,7 +31,7 @@ net-passed net f e =
       kept = λ k l.
           let c = cellAt net k in
           let right = placed k c && keeps (shape (c .kind)) net k c in
-          and-true (placed k c) _ (not-false right (fault-unless (not right) 12 (omega arith) (first-place (cellFault net) (length net) .none (a 0) k l))) .1;
+          and-true (placed k c) _ (not-false right (fault-unless (not right) 12 (omega arith) (no-fault (cellFault net) (length net) (a 0) k l))) .1;
       sixteen = eqb-true _ _ (not-false (eqb (memories net) 16) (refuse-unless (not (eqb (memories net) 16)) 12 (length net) (a 1)));
       finish = not-false (control (cellAt net f .kind)) (refuse-unless (not (control (cellAt net f .kind))) 12 f (a 2));
     }
@@ -91,11 +91,11 @@ file-passed s e =
       lengths = refuse-unless (fileLengthWrong s) 9 0 (a 0);
       sums = λ b l.
           let right = eqb (wordSum (blockAt s b) % 65536) 0 in
-          eqb-true _ _ (not-false right (fault-unless (not right) 10 (omega arith) (first-place (sumFault s) m .none (a 1) b l)));
+          eqb-true _ _ (not-false right (fault-unless (not right) 10 (omega arith) (no-fault (sumFault s) m (a 1) b l)));
       count = refuse-unless (countWrong m (countOf s) (finishOf s)) 11 0 (a 2);
       headers = λ b l.
           let right = headed (countOf s) (finishOf s) b (blockAt s b) in
-          not-false right (fault-unless (not right) 11 (omega arith) (first-place (headerFault s) m .none (a 3) b l));
+          not-false right (fault-unless (not right) 11 (omega arith) (no-fault (headerFault s) m (a 3) b l));
       cells = a 4;
     }
 

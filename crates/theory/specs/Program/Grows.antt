@@ -14,7 +14,7 @@ use Rattle.model.specs.declared.Node.{Node}
 use Rattle.model.specs.declared.Row.{Row}
 use Rattle.model.specs.Word.{pick}
 use Rattle.model.specs.Refusals.{faultIf}
-use Rattle.model.specs.Program.{Expr, const, var, compl, op, Stmt, ok, tick, assign, seq, par, ite, while, repeat, Tree, expr, stmt, table, rowOf, asExpr, asStmt, exprOf, stmtOf, treeOf, grow, spare, faultOf, children, preorderE, preorder, node}
+use Rattle.model.specs.Program.{Expr, const, var, compl, op, Stmt, ok, tick, assign, seq, par, ite, while, repeat, Tree, expr, stmt, kindTable, rowOf, asExpr, asStmt, exprOf, stmtOf, treeOf, grow, spare, faultOf, children, preorderE, preorder, node}
 use Rattle.theory.specs.Refusals.Laws.{or-false, fault-unless}
 use Rattle.theory.specs.Program.Preorder.{nodesOf, allNodes, sortOf, sortsOf, KnownT, AllKnown}
 
@@ -159,7 +159,7 @@ kinds-grow =
 
 past-table : (k : ℕ) → 24 ≤ k → rowOf k .sort ≡ 0
 unfolding rowOf
-past-table k l = ap (λ (r : Row). r .sort) (List·getD-eq-default table _ l)
+past-table k l = ap (λ (r : Row). r .sort) (List·getD-eq-default kindTable _ l)
 
 pub grows : (a : Node) (ts : List Tree) (ws : List ℕ) → sortsOf ts ≡ children (a .kind) ++ ws → faultOf a ≡ 0 → Grown a ts ws
 grows a ts ws h f = go (decLt (a .kind) 24)

@@ -14,7 +14,7 @@ use Rattle.model.specs.declared.Loaded.{Loaded}
 use Rattle.model.specs.Refusals.{refuse, first}
 use Rattle.model.specs.Program.{Tree, stmt, nodeAt, nodeCount, nodesAt, rowOf, none, asStmt, treesAt, stmtAt, programOf, timeIn, least, clashes, programLengthWrong, faultOf, children, reading, slowAt, clashAt, programChecks, checkOf, preorder}
 use Rattle.model.specs.Calls.{checkCall}
-use Rattle.theory.specs.Refusals.Laws.{not-refused, pick-true, or-false, all-accept, accept-take, refuse-unless, fault-unless, first-place}
+use Rattle.theory.specs.Refusals.Laws.{not-refused, pick-true, or-false, all-accept, accept-take, refuse-unless, fault-unless, no-fault}
 use Rattle.theory.specs.Program.Trees.{nodes-step, treeAt, each-at}
 use Rattle.theory.specs.Program.Preorder.{allNodes, sortsOf, KnownT}
 use Rattle.theory.specs.Program.Grows.{sorted}
@@ -47,7 +47,7 @@ module _ (τ : ℕ → ℕ) (s : List ℕ) where
   pub readable : first (take 3 (programChecks τ s)) ≡ Accepted → Readable s
   readable e =
       let a = all-accept (take 3 (programChecks τ s)) e in
-      record { short = right-length s (refuse-unless (programLengthWrong s) 1 0 (a 0)); faultless = first-place (λ i. faultOf (nodeAt s i)) (nodeCount s) .none (a 1); read = a 2 }
+      record { short = right-length s (refuse-unless (programLengthWrong s) 1 0 (a 0)); faultless = no-fault (λ i. faultOf (nodeAt s i)) (nodeCount s) (a 1); read = a 2 }
 
   pub passed : first (programChecks τ s) ≡ Accepted → Passed τ s
   unfolding slowAt clashAt
@@ -57,8 +57,8 @@ module _ (τ : ℕ → ℕ) (s : List ℕ) where
         readable = readable (accept-take 3 (programChecks τ s) e);
         slowless = λ j l.
             let slow = ltb (nodeAt s j .delay) (least τ (stmtAt s j)) in
-            ltb-false _ _ (fault-unless slow 7 (omega arith) (first-place (slowAt τ s) (nodeCount s) .none (a 3) j l));
-        clashless = λ j l. fault-unless (clashes (stmtAt s j)) 8 (omega arith) (first-place (clashAt s) (nodeCount s) .none (a 4) j l);
+            ltb-false _ _ (fault-unless slow 7 (omega arith) (no-fault (slowAt τ s) (nodeCount s) (a 3) j l));
+        clashless = λ j l. fault-unless (clashes (stmtAt s j)) 8 (omega arith) (no-fault (clashAt s) (nodeCount s) (a 4) j l);
       }
 
 -- of a program that is accepted with some table, under that table's times

@@ -11,44 +11,43 @@ use Rattle.model.specs.declared.Cell.{Cell}
 use Rattle.model.specs.Word.{pick, bit}
 use Rattle.model.specs.Program.{Stmt}
 use Rattle.model.specs.Rules.{Store}
-use Rattle.model.specs.Circuit.{memories}
+use Rattle.model.specs.Circuit.{memoryWords, memories}
 use Rattle.model.specs.Numbering.{netlist, memoriesOf, clockSources, dataSources, clockAt, walkAt, dataAt, memoryAt, clockWires, dataWires, walk, orsFrom}
-use Rattle.model.specs.State.{nowAt, wordsIn}
 use Rattle.model.specs.Calls.{listed}
 use Rattle.theory.specs.Numbering.Parts.{outs-len}
 use Rattle.theory.specs.Numbering.Whole.{below, above, parts, below-len, below-free, memories-append}
 
-module _ (s : List ℕ) where
-  words-append : (xs ys : List Cell) (k : ℕ) → wordsIn (xs ++ ys) k s ≡ wordsIn xs k s ++ wordsIn ys (k + length xs) s
-  unfolding wordsIn
-  words-append [] ys k = ap (λ (j : ℕ). wordsIn ys j s) (sym (add-zero k))
+module _ (v : ℕ → ℕ) where
+  words-append : (xs ys : List Cell) (k : ℕ) → memoryWords (xs ++ ys) k v ≡ memoryWords xs k v ++ memoryWords ys (k + length xs) v
+  unfolding memoryWords
+  words-append [] ys k = ap (λ (j : ℕ). memoryWords ys j v) (sym (add-zero k))
   words-append (c ∷ xs) ys k =
       let e : k + 1 + length xs ≡ k + length (c ∷ xs) = omega arith in
-      go (eqb (c .kind) 40) (wordsIn (xs ++ ys) (k + 1) s) (wordsIn xs (k + 1) s) (wordsIn ys (k + length (c ∷ xs)) s) (words-append xs ys (k + 1) ∙ ap (λ (j : ℕ). wordsIn xs (k + 1) s ++ wordsIn ys j s) e)
+      go (eqb (c .kind) 40) (memoryWords (xs ++ ys) (k + 1) v) (memoryWords xs (k + 1) v) (memoryWords ys (k + length (c ∷ xs)) v) (words-append xs ys (k + 1) ∙ ap (λ (j : ℕ). memoryWords xs (k + 1) v ++ memoryWords ys j v) e)
     where
-      go : (b : Bool) (l m r : List ℕ) → l ≡ m ++ r → pick b (nowAt s k ∷ l) l ≡ pick b (nowAt s k ∷ m) m ++ r
-      go true l m r h = ap (λ (l : List ℕ). nowAt s k ∷ l) h
+      go : (b : Bool) (l m r : List ℕ) → l ≡ m ++ r → pick b (v k ∷ l) l ≡ pick b (v k ∷ m) m ++ r
+      go true l m r h = ap (λ (l : List ℕ). v k ∷ l) h
       go false l m r h = h
 
-  words-none : (xs : List Cell) (k : ℕ) → memories xs ≡ 0 → wordsIn xs k s ≡ []
-  unfolding wordsIn memories bit
+  words-none : (xs : List Cell) (k : ℕ) → memories xs ≡ 0 → memoryWords xs k v ≡ []
+  unfolding memoryWords memories bit
   words-none [] k e = refl
   words-none (c ∷ xs) k e = go (eqb (c .kind) 40) e (words-none xs (k + 1))
     where
-      go : (b : Bool) → bit b + memories xs ≡ 0 → (memories xs ≡ 0 → wordsIn xs (k + 1) s ≡ [])
-          → pick b (nowAt s k ∷ wordsIn xs (k + 1) s) (wordsIn xs (k + 1) s) ≡ []
+      go : (b : Bool) → bit b + memories xs ≡ 0 → (memories xs ≡ 0 → memoryWords xs (k + 1) v ≡ [])
+          → pick b (v k ∷ memoryWords xs (k + 1) v) (memoryWords xs (k + 1) v) ≡ []
       go true z h = absurd (omega arith)
       go false z h = h (omega arith)
 
-  words-mems : (n M x : ℕ) (ks ds : List ℕ) → length ks ≡ n → length ds ≡ n → wordsIn (memoriesOf ks ds) (M + x) s ≡ listed (λ y. nowAt s (M + y)) x n
-  unfolding memoriesOf wordsIn listed
+  words-mems : (n M x : ℕ) (ks ds : List ℕ) → length ks ≡ n → length ds ≡ n → memoryWords (memoriesOf ks ds) (M + x) v ≡ listed (λ y. v (M + y)) x n
+  unfolding memoriesOf memoryWords listed
   words-mems zero M x [] ds e d = refl
   words-mems zero M x (a ∷ ks) ds e d = absurd (omega arith)
   words-mems (suc n) M x [] ds e d = absurd (omega arith)
   words-mems (suc n) M x (a ∷ ks) [] e d = absurd (omega arith)
   words-mems (suc n) M x (a ∷ ks) (b ∷ ds) e d =
       let z : M + x + 1 ≡ M + (x + 1) = omega arith in
-      ap (λ (l : List ℕ). nowAt s (M + x) ∷ l) (ap (λ (j : ℕ). wordsIn (memoriesOf ks ds) j s) z ∙ words-mems n M (x + 1) ks ds (omega arith) (omega arith))
+      ap (λ (l : List ℕ). v (M + x) ∷ l) (ap (λ (j : ℕ). memoryWords (memoriesOf ks ds) j v) z ∙ words-mems n M (x + 1) ks ds (omega arith) (omega arith))
 
 mems-count : (n : ℕ) (ks ds : List ℕ) → length ks ≡ n → length ds ≡ n → memories (memoriesOf ks ds) ≡ n
 unfolding memories memoriesOf bit
@@ -64,7 +63,7 @@ listed-same σ τ x (suc n) h =
     ap₂ (λ (v : ℕ) (l : List ℕ). v ∷ l) (h x (omega arith) (omega arith)) (listed-same σ τ (x + 1) n (λ y a b. h y (omega arith) (omega arith)))
 
 -- the sixteen words of a compiled netlist
-module _ (P : Stmt) (sixteen : memories (netlist P) ≡ 16) (s : List ℕ) where
+module _ (P : Stmt) (sixteen : memories (netlist P) ≡ 16) (v : ℕ → ℕ) where
   ks : List ℕ
   ks = clockWires P
 
@@ -98,11 +97,11 @@ module _ (P : Stmt) (sixteen : memories (netlist P) ≡ 16) (s : List ℕ) where
         mems-count 16 ks ds ks-len ds-len,
       )
 
-  pub memory-words : wordsIn (netlist P) 0 s ≡ listed (λ x. nowAt s (memoryAt P + x)) 0 16
+  pub memory-words : memoryWords (netlist P) 0 v ≡ listed (λ x. v (memoryAt P + x)) 0 16
   memory-words =
       let e : 0 + length (below P) ≡ memoryAt P + 0 = omega (arith, below-len P) in
-      ap (λ (net : List Cell). wordsIn net 0 s) (parts P)
-      ∙ words-append s (below P) (above P) 0
-      ∙ rw (words-none s (below P) 0 (below-free P), e, above-is)
-      (words-append s (memoriesOf ks ds) rest (memoryAt P + 0)
-      ∙ rw (words-none s rest (memoryAt P + 0 + length (memoriesOf ks ds)) rest-free, words-mems s 16 (memoryAt P) 0 ks ds ks-len ds-len) (append-nil (listed (λ y. nowAt s (memoryAt P + y)) 0 16)))
+      ap (λ (net : List Cell). memoryWords net 0 v) (parts P)
+      ∙ words-append v (below P) (above P) 0
+      ∙ rw (words-none v (below P) 0 (below-free P), e, above-is)
+      (words-append v (memoriesOf ks ds) rest (memoryAt P + 0)
+      ∙ rw (words-none v rest (memoryAt P + 0 + length (memoriesOf ks ds)) rest-free, words-mems v 16 (memoryAt P) 0 ks ds ks-len ds-len) (append-nil (listed (λ y. v (memoryAt P + y)) 0 16)))

@@ -23,7 +23,7 @@ use Rattle.model.specs.TimeTables.{builtIn, load}
 use Rattle.model.specs.State.{stateSize, nowAt, beginState}
 use Rattle.model.specs.Calls.{verdict, checkCall, writing, compiledFile, compileChecks, compileCall, wordAt, shows, running, beginCall, runProgramCall, referenceAnswer, answering, referenceChecks, referenceCall}
 use Rattle.model.specs.Promises.{Bytes, seen}
-use Rattle.model.specs.Cases.{Case, ends, refuses, compiles, passes, cases, start, endAnswer, Result, ran, numbered, checked, given, wanted, OnCircuit, Hold, times, cases-by-rules}
+use Rattle.model.specs.Cases.{Case, ends, refuses, compiles, passes, cases, start, endAnswer, Result, ran, numbered, checked, computed, wanted, OnCircuit, Hold, times, cases-by-rules}
 use Rattle.theory.specs.Refusals.Laws.{and-true, or-false, first-take, first-drop}
 use Rattle.theory.specs.Rules.Laws.{by-run}
 use Rattle.theory.specs.NetlistFile.Passed.{file-passed, count-range, count-cells}
@@ -122,8 +122,8 @@ all-fair : allFair cases ≡ true
 unfolding allFair fair cases bytesOnly times
 all-fair = refl
 
-on-circuit : (c : Case) → given c ≡ wanted c → fair c ≡ true → OnCircuit c
-unfolding given wanted OnCircuit fair checked-of answer-of has-ended compileCall writing checkCall
+on-circuit : (c : Case) → computed c ≡ wanted c → fair c ≡ true → OnCircuit c
+unfolding computed wanted OnCircuit fair checked-of answer-of has-ended compileCall writing checkCall
 on-circuit (ends p v n t w) e g = λ forFile forState f s.
     let b = and-true (bytesOnly p) (ltb n 1000000) g in
     let l : n ≤ 1000000 = omega (arith, ltb-true n 1000000 (b .1)) in
@@ -153,13 +153,13 @@ tail-same {A} x y xs ys e = ap rest-of e
     rest-of [] = []
     rest-of (z ∷ zs) = zs
 
-hold : (cs : List Case) → map given cs ≡ map wanted cs → allFair cs ≡ true → Hold cs
+hold : (cs : List Case) → map computed cs ≡ map wanted cs → allFair cs ≡ true → Hold cs
 unfolding Hold allFair
 hold [] e g = tt
 hold (c ∷ cs) e g =
     let b = and-true (fair c) (allFair cs) g in
-    let h = head-same (given c) (wanted c) (map given cs) (map wanted cs) e in
-    (h, on-circuit c h (b .0), hold cs (tail-same (given c) (wanted c) (map given cs) (map wanted cs) e) (b .1))
+    let h = head-same (computed c) (wanted c) (map computed cs) (map wanted cs) e in
+    (h, on-circuit c h (b .0), hold cs (tail-same (computed c) (wanted c) (map computed cs) (map wanted cs) e) (b .1))
 
 pub cases-hold : Hold cases
 cases-hold = hold cases cases-by-rules all-fair

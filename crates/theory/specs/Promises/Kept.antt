@@ -3,7 +3,7 @@
 -- Assumes nothing.
 use mathlib.Core.Path.{_≡_, refl, sym, _∙_, ap, ap₂}
 use mathlib.Core.Bool.{Bool, true, false}
-use mathlib.Core.List.{List, [], _∷_, map}
+use mathlib.Core.List.{List, _∷_, map}
 use Prim.Native.Nat.{ℕ, zero, suc, _+_, _<_, _≤_}
 use native.Mathlib.Omega.{arith}
 use native.Mathlib.Decide.{ℕ-discrete, decLt}
@@ -11,40 +11,42 @@ use lib.Dec.{eqb, ltb}
 use lib.ListN.{length, take, drop}
 use lib.Seq.{take-append-seam}
 use borrow.Author.Tests.{ltb-false, le-ltb, eq-eqb, ne-eqb}
+use Rattle.model.specs.declared.Refusal.{Refusal}
 use Rattle.model.specs.declared.Cell.{Cell}
 use Rattle.model.specs.declared.Loaded.{Loaded}
 use Rattle.model.specs.declared.Checked.{Checked}
 use Rattle.model.specs.declared.Checked.the-variants.{Accepted}
-use Rattle.model.specs.declared.Outcome.the-variants.{Open}
+use Rattle.model.specs.declared.Outcome.{Outcome}
+use Rattle.model.specs.declared.Outcome.the-variants.{Ended, Open}
 use Rattle.model.specs.declared.Written.{Written}
 use Rattle.model.specs.declared.Written.the-variants.{Done}
 use Rattle.model.specs.declared.Answer.{Answer}
 use Rattle.model.specs.Refusals.{first}
 use Rattle.model.specs.Program.{Stmt, programOf}
-use Rattle.model.specs.Rules.{Store, ended, still, run, endsAt, due}
-use Rattle.model.specs.Circuit.{Values, high, level, Obeys, memories}
+use Rattle.model.specs.Rules.{Store, Ends, ended, still, run, endsAt, due}
+use Rattle.model.specs.Circuit.{Values, high, level, Obeys, memories, memoryWords}
 use Rattle.model.specs.Numbering.{netlist, finish, memoryAt}
 use Rattle.model.specs.NetlistFile.{fileCheck, cellsOf, finishOf}
 use Rattle.model.specs.State.{stateSize, instantOf, nowAt, beginState, lastState, evaluated, wordsIn}
 use Rattle.model.specs.Calls.{Told, verdict, checkCall, compiledFile, compileChecks, compileCall, wordAt, refusedAnswer, shows, running, beginChecks, beginCall, continueCall, fullState, fullCount, runNetlistCall, runProgramChecks, runProgramCall, listed, referenceAnswer}
-use Rattle.model.specs.Promises.{Call, replay, Seen, seen, seenOf, endedIf, expected, Shown, Every, Unchanged, lastOf, stopsAt, Keeps}
+use Rattle.model.specs.Promises.{Call, replay, Seen, seen, seenOf, endedIf, expected, Holds, Along, Shown, Unchanged, lastOf, stopsAt, Keeps}
 use Rattle.theory.specs.Refusals.Laws.{by-bool, not-refused, all-accept, refuse-unless, accept-take, first-drop}
 use Rattle.theory.specs.Program.Accepted.{program-fit}
 use Rattle.theory.specs.Program.Fit.{Fit}
 use Rattle.theory.specs.Rules.Laws.{steady, still-before, still-below}
-use Rattle.theory.specs.Rules.Relation.{ends-run, due-ends, ends-due}
+use Rattle.theory.specs.Rules.Relation.{ends-run, ends-once, due-ends, ends-due}
 use Rattle.theory.specs.Numbering.Parts.{net-length}
 use Rattle.theory.specs.Promises.Due.{finish-due, last-words}
 use Rattle.theory.specs.Circuit.Unique.{Ordered}
 use Rattle.theory.specs.Circuit.Exists.{solution, solution-obeys}
 use Rattle.theory.specs.NetlistFile.Passed.{net-ordered, net-passed, file-passed, finish-within}
 use Rattle.theory.specs.State.States.{Holding, begin-holds, begin-length}
-use Rattle.theory.specs.State.Sound.{sound-held}
+use Rattle.theory.specs.State.Sound.{sound-held, holds}
 use Rattle.theory.specs.State.Running.{continues, stops-high, stops-low}
 use Rattle.theory.specs.NetlistFile.Files.{cells-written, finish-written}
 use Rattle.theory.specs.NetlistFile.ReadWrite.{Wrote, wrote}
 use Rattle.theory.specs.Promises.Answers.{memory-words, listed-same}
-use Rattle.theory.specs.Promises.Replay.{at0, Good, good, answer-seen, checked, run-call}
+use Rattle.theory.specs.Promises.Replay.{at0, Good, stands, good, answer-seen, checked, run-call}
 
 -- Calls that are not refused -----------------------------------------------------------------------------------------------------------
 
@@ -73,6 +75,20 @@ module _ (table : Loaded) (program forFile : List ℕ) (n f : ℕ) (done : compi
   file-made =
       ap₂ (λ (k : ℕ) (r : Told Written). take k (r .lent)) (compiled .count) (compiled .told)
       ∙ take-append-seam (compiledFile program) (drop (length (compiledFile program)) forFile)
+
+-- open and refused are no end
+ended-code : Outcome → ℕ
+ended-code Ended = 1
+ended-code Open = 0
+ended-code (Outcome.Refused r) = 0
+
+pub open-no-end : Open ≡ Ended → ⊥
+unfolding ended-code
+open-no-end e = omega (arith, ap ended-code e)
+
+refused-no-end : {r : Refusal} → Outcome.Refused r ≡ Ended → ⊥
+unfolding ended-code
+refused-no-end e = omega (arith, ap ended-code e)
 
 -- Where a run stops --------------------------------------------------------------------------------------------------------------------
 
@@ -142,6 +158,9 @@ module _ (table : Loaded) (program file words lent : List ℕ) (accepted : check
   wire : F < length net
   wire = finish-within file read
 
+  sixteen : memories (netlist P) ≡ 16
+  sixteen = ap memories (sym cells-are) ∙ net-passed net F (file-passed file read .cells) .sixteen
+
   -- the equations of the file are those of the program's netlist
   to-netlist : (W : Values) → Obeys net σ W → Obeys (netlist P) σ W
   to-netlist W o = rw cells-are at o
@@ -159,11 +178,17 @@ module _ (table : Loaded) (program file words lent : List ℕ) (accepted : check
   all-due : level W F ≡ due P σ
   all-due i t = finishes W obeys t i
 
-  -- a state at or after the end shows the last words
+  -- at and after the end the memories show the last words
+  lasting : (W : Values) → Obeys net σ W → (t₀ : ℕ) (σ′ : Store) → run t₀ P σ ≡ ended t₀ σ′ → (t : ℕ) → t₀ ≤ t
+      → memoryWords net 0 (λ k. W k t) ≡ listed σ′ 0 16
+  lasting W o t₀ σ′ p t l =
+      ap (λ (net : List Cell). memoryWords net 0 (λ k. W k t)) cells-are ∙ memory-words P sixteen (λ k. W k t)
+      ∙ listed-same (λ x. W (memoryAt P + x) t) σ′ 0 16 (λ y a b. last-words P fit σ W (to-netlist W o) t₀ σ′ p t y l (omega arith))
+
+  -- and so does a state
   last : (t₀ : ℕ) (σ′ : Store) → run t₀ P σ ≡ ended t₀ σ′ → (t : ℕ) (s : List ℕ) → t₀ ≤ t → Holding net W t s → wordsIn net 0 s ≡ listed σ′ 0 16
   last t₀ σ′ p t s l H =
-      ap (λ (net : List Cell). wordsIn net 0 s) cells-are
-      ∙ memory-words P (ap memories (sym cells-are) ∙ net-passed net F (file-passed file read .cells) .sixteen) s
+      ap (λ (net : List Cell). wordsIn net 0 s) cells-are ∙ memory-words P sixteen (nowAt s)
       ∙ listed-same (λ x. nowAt s (memoryAt P + x)) σ′ 0 16
       (λ y a b.
       H .present (memoryAt P + y) (rw cells-are (omega (arith, net-length P)))
@@ -176,44 +201,61 @@ module _ (table : Loaded) (program file words lent : List ℕ) (accepted : check
   unfolding beginCall running
   begin-is = ap (λ (c : Checked). running c file state 1 lent) checks
 
+  holds-first : (W : Values) → Obeys net σ W → Holding net W 0 state
+  holds-first W o = begin-holds net ordered σ W o lent room
+
   holding : Holding net W 0 state
-  holding = begin-holds net ordered σ W obeys lent room
+  holding = holds-first W obeys
 
   long : stateSize net ≤ length state
   long = rw (begin-length net ordered σ W obeys lent room) room
 
-  -- the list of calls
+  -- the list of calls, with the beginning: what is true of every state that holds W, and of every refusal that leaves one, is true along the list
   module _ (calls : List Call) where
-    unremarkable : Good file read ordered σ W obeys wire (λ r. Unit {0}) (λ k b. tt) (λ t s b n l H K. tt) 0 state calls (replay file state calls)
-    unremarkable = good file read ordered σ W obeys wire (λ r. Unit {0}) (λ k b. tt) (λ t s b n l H K. tt) calls 0 state holding long (omega arith)
+    along : (W : Values) (o : Obeys net σ W) (Q : ℕ → Told Answer → Type 0)
+        → ((t k : ℕ) (b : List ℕ) → Holding net W t b → Q t (record { answer = refusedAnswer (at0 k); lent = b }))
+        → ((t : ℕ) (s b : List ℕ) (n : ℕ) → t ≤ 1000000 → Holding net W t s → Holding net W t b → Q t (record { answer = shows file s n; lent = b }))
+        → Along Q 0 (beginCall file words lent ∷ replay file (beginCall file words lent .lent) calls)
+    along W o Q refuses answers =
+        let H = holds-first W o in
+        rw (begin-is, stands file read ordered σ W o wire Q refuses answers 0 0 state state 1 (omega arith) H)
+        (answers 0 state state 1 (omega arith) H H, good file read ordered σ W o wire Q refuses answers calls 0 state H long (omega arith) .every)
+
+    unremarkable : Good file read ordered σ W obeys wire (λ t r. Unit {0}) (λ t k b H. tt) (λ t s b n l H K. tt) 0 state calls (replay file state calls)
+    unremarkable = good file read ordered σ W obeys wire (λ t r. Unit {0}) (λ t k b H. tt) (λ t s b n l H K. tt) calls 0 state holding long (omega arith)
 
     outcomes : map seenOf (beginCall file words lent ∷ replay file (beginCall file words lent .lent) calls)
         ≡ seen (endedIf (due P σ 0)) 0 1 ∷ expected (due P σ) (stateSize net) 0 calls
     outcomes =
         rw (begin-is, ← all-due)
         (ap₂ (λ (x : Seen) (l : List Seen). x ∷ l)
-        (answer-seen file read ordered σ W obeys wire (λ r. Unit {0}) (λ k b. tt) (λ t s b n l H K. tt) 0 state state 1 (omega arith) holding)
+        (answer-seen file read ordered σ W obeys wire (λ t r. Unit {0}) (λ t k b H. tt) (λ t s b n l H K. tt) 0 state state 1 (omega arith) holding)
         (unremarkable .outcomes))
 
     unchanged : Unchanged (beginCall file words lent .lent) (replay file (beginCall file words lent .lent) calls)
     unchanged = rw begin-is (unremarkable .unchanged)
 
     words-shown : (t₀ : ℕ) (σ′ : Store) → run t₀ P σ ≡ ended t₀ σ′
-        → Every (Shown file t₀ σ′) (beginCall file words lent ∷ replay file (beginCall file words lent .lent) calls)
-    words-shown t₀ σ′ p =
-        rw begin-is (
-          answers 0 state state 1 (omega arith) holding holding,
-          good file read ordered σ W obeys wire (Shown file t₀ σ′) refuses answers calls 0 state holding long (omega arith) .every,
-        )
+        → Along (λ t. Shown file t₀ σ′) 0 (beginCall file words lent ∷ replay file (beginCall file words lent .lent) calls)
+    words-shown t₀ σ′ p = along W obeys (λ t. Shown file t₀ σ′) (λ t k b H z h. unfold verdict in not-refused z) answers
       where
-        refuses : (k : ℕ) (b : List ℕ) → Shown file t₀ σ′ (record { answer = refusedAnswer (at0 k); lent = b })
-        refuses k b z h = unfold verdict in not-refused z
-
         answers : (t : ℕ) (s b : List ℕ) (n : ℕ) → t ≤ 1000000 → Holding net W t s → Holding net W t b
             → Shown file t₀ σ′ (record { answer = shows file s n; lent = b })
         answers t s b n l H K z h = unfold shows in
             let g : t₀ ≤ t = rw (H .instant l) at h in
             (last t₀ σ′ p t s g H, last t₀ σ′ p t b g K)
+
+    -- where no finish is due, none is answered
+    none-ended : ((t : ℕ) → due P σ t ≡ false)
+        → Along (λ t r. r .answer .outcome ≡ Ended → ⊥) 0 (beginCall file words lent ∷ replay file (beginCall file words lent .lent) calls)
+    none-ended never = along W obeys (λ t r. r .answer .outcome ≡ Ended → ⊥) (λ t k b H. refused-no-end) answers
+      where
+        answers : (t : ℕ) (s b : List ℕ) (n : ℕ) → t ≤ 1000000 → Holding net W t s → Holding net W t b → shows file s n .outcome ≡ Ended → ⊥
+        answers t s b n l H K = unfold shows in rw (H .present F wire, finishes W obeys t, never t) open-no-end
+
+    held : (W : Values) → Obeys net σ W
+        → Along (λ t r. Holds net W t (r .lent)) 0 (beginCall file words lent ∷ replay file (beginCall file words lent .lent) calls)
+    held W o = along W o (λ t r. Holds net W t (r .lent)) (λ t k b H. holds net σ W o t b H) (λ t s b n l H K. holds net σ W o t b K)
 
   -- a full run
   pub whole-run : ℕ → Answer
@@ -241,19 +283,30 @@ module _ (table : Loaded) (program file words lent : List ℕ) (accepted : check
   unfolding runNetlistCall running whole-run
   netlist-run n l = rw (read, le-ltb 1000000 n l, words-fit, state-fits)
 
+  at-end : (t₀ : ℕ) (σ′ : Store) → Ends P σ t₀ σ′ → run t₀ P σ ≡ ended t₀ σ′
+  at-end t₀ σ′ h = ends-run P (fit .timed) σ t₀ σ′ h t₀ (omega arith)
+
+  never-due : ((t : ℕ) (σ′ : Store) → Ends P σ t σ′ → ⊥) → (t : ℕ) → due P σ t ≡ false
+  never-due h t = by-bool (due P σ t) (λ e. let g = due-ends P σ t e in absurd (h t (g .0) (g .1))) (λ e. e)
+
   -- the whole promise
   pub keeps : (forFile : List ℕ) → ltb (length forFile) (length (compiledFile program)) ≡ false → (calls : List Call)
-      → Keeps P σ file (beginCall file words lent) calls
-      (λ k. runProgramCall table program words k forFile lent .answer ∷ runNetlistCall file words k lent .answer ∷ [])
+      → Keeps P σ file (beginCall file words lent) calls (λ k. runProgramCall table program words k forFile lent .answer)
+      (λ k. runNetlistCall file words k lent .answer)
   keeps forFile fits calls =
       record {
         due = due P σ;
         decides = λ t. (due-ends P σ t, λ h. ends-due P (fit .timed) σ t (h .0) (h .1));
-        outcomes = outcomes calls;
-        unchanged = unchanged calls;
+        once = ends-once P (fit .timed) σ;
         finishes = finishes;
-        words = λ t₀ σ′ h. words-shown calls t₀ σ′ (ends-run P (fit .timed) σ t₀ σ′ h t₀ (omega arith));
-        full = λ n l. ap₂ (λ (x y : Answer). x ∷ y ∷ []) (program-run forFile fits n l ∙ last-is n l) (netlist-run n l ∙ last-is n l);
+        memories = λ W o t₀ σ′ h. lasting W o t₀ σ′ (at-end t₀ σ′ h);
+        words = λ t₀ σ′ h. words-shown calls t₀ σ′ (at-end t₀ σ′ h);
+        outcomes = outcomes calls;
+        endless = λ h. (λ W o t. finishes W o t ∙ never-due h t, none-ended calls (never-due h));
+        buffers = held calls;
+        unchanged = unchanged calls;
+        programRuns = λ n l. program-run forFile fits n l ∙ last-is n l;
+        netlistRuns = λ n l. netlist-run n l ∙ last-is n l;
       }
 
   -- A full run and a reference run agree -----------------------------------------------------------------------------------------------
@@ -296,16 +349,16 @@ module _ (table : Loaded) (program file words lent : List ℕ) (accepted : check
 
   -- where they do not, the full run is open at the budget's end
   module _ (n : ℕ) (l : n ≤ 1000000) (p : run n P σ ≡ still) where
-    never-due : (u : ℕ) → u ≤ n → level W F u ≡ false
+    low : (u : ℕ) → u ≤ n → level W F u ≡ false
     unfolding due endsAt
-    never-due u g = finishes W obeys u ∙ ap (endsAt u) (still-below (λ k. run k P σ) (steady P (fit .timed) σ) n u p g)
+    low u g = finishes W obeys u ∙ ap (endsAt u) (still-below (λ k. run k P σ) (steady P (fit .timed) σ) n u p g)
 
     pub stays-open : seen (whole-run n .outcome) (whole-run n .instant) (whole-run n .count) ≡ seen Open n (n + 1)
     unfolding whole-run fullState fullCount shows
     stays-open =
         let C = continues net ordered σ W obeys F wire n 0 state holding long in
-        let z : stopsAt (level W F) 0 n ≡ n = stops-never (level W F) n 0 (λ u a b. never-due u (omega arith)) ∙ omega arith in
+        let z : stopsAt (level W F) 0 n ≡ n = stops-never (level W F) n 0 (λ u a b. low u (omega arith)) ∙ omega arith in
         let H : Holding net W n (lastState net F n state) = rw z at (C .holding) in
-        let begins : high (nowAt state F) ≡ false = ap high (holding .present F wire) ∙ never-due 0 (omega arith) in
+        let begins : high (nowAt state F) ≡ false = ap high (holding .present F wire) ∙ low 0 (omega arith) in
         let e : 1 + evaluated net F n state ≡ n + 1 = omega (arith, C .count, z) in
-        rw (begins, e, H .instant l, H .present F wire, never-due n (omega arith))
+        rw (begins, e, H .instant l, H .present F wire, low n (omega arith))

@@ -17,13 +17,12 @@ use Rattle.model.specs.declared.Checked.the-variants.{Accepted}
 use Rattle.model.specs.declared.Outcome.the-variants.{Ended, Open}
 use Rattle.model.specs.declared.Answer.{Answer}
 use Rattle.model.specs.Word.{pick}
-use Rattle.model.specs.Refusals.{refuse, refuseIf, first}
+use Rattle.model.specs.Refusals.{refuse, refuseIf, numberOf, first}
 use Rattle.model.specs.Circuit.{Values, high, level, Obeys}
 use Rattle.model.specs.NetlistFile.{fileCheck, cellsOf, finishOf}
 use Rattle.model.specs.State.{stateSize, instantOf, nowAt, lastState, evaluated, sound}
 use Rattle.model.specs.Calls.{Told, verdict, refusedAnswer, shows, running, continueChecks, continueCall}
-use Rattle.model.specs.Promises.{Call, replay, Seen, seen, seenOf, refusedSeen, endedIf, stopsAt, expected, Every, Unchanged}
-use Rattle.theory.specs.Refusals.Laws.{not-refused}
+use Rattle.model.specs.Promises.{Call, replay, Seen, seen, seenOf, refusedSeen, endedIf, stopsAt, expected, standsAt, instantAfter, Along, Unchanged}
 use Rattle.theory.specs.Circuit.Unique.{Ordered}
 use Rattle.theory.specs.State.States.{Holding}
 use Rattle.theory.specs.State.Sound.{sound-held}
@@ -54,6 +53,11 @@ pub no-refusal : (b : Bool) → verdict (pick b Ended Open) ≡ Accepted
 unfolding verdict
 no-refusal true = refl
 no-refusal false = refl
+
+stood : (b : Bool) (t s : ℕ) → standsAt (pick b Ended Open) t s ≡ s
+unfolding standsAt
+stood true t s = refl
+stood false t s = refl
 
 -- a refusal at place 0
 abbrev pub at0 : ℕ → Refusal
@@ -91,10 +95,10 @@ replay-is file s c cs r e =
 
 module _ (file : List ℕ) (accepted : fileCheck file ≡ Accepted) (ordered : Ordered (cellsOf file)) (σ : ℕ → ℕ) (W : Values)
     (obeys : Obeys (cellsOf file) σ W) (wire : finishOf file < length (cellsOf file))
-    (Q : Told Answer → Type 0)
-    (refuses : (k : ℕ) (b : List ℕ) → Q (record { answer = refusedAnswer (at0 k); lent = b }))
+    (Q : ℕ → Told Answer → Type 0)
+    (refuses : (t k : ℕ) (b : List ℕ) → Holding (cellsOf file) W t b → Q t (record { answer = refusedAnswer (at0 k); lent = b }))
     (answers : (t : ℕ) (s b : List ℕ) (n : ℕ) → t ≤ 1000000 → Holding (cellsOf file) W t s → Holding (cellsOf file) W t b
-    → Q (record { answer = shows file s n; lent = b })) where
+    → Q t (record { answer = shows file s n; lent = b })) where
   abbrev F : ℕ → Bool
   F = level W (finishOf file)
 
@@ -104,7 +108,7 @@ module _ (file : List ℕ) (accepted : fileCheck file ≡ Accepted) (ordered : O
   -- what is promised of a list of steps
   pub record Good (t : ℕ) (s : List ℕ) (calls : List Call) (steps : List (Told Answer)) : Type 0 where
     pub outcomes : map seenOf steps ≡ expected F (stateSize net) t calls
-    pub every : Every Q steps
+    pub every : Along Q t steps
     pub unchanged : Unchanged s steps
 
   -- a state's answer
@@ -113,6 +117,11 @@ module _ (file : List ℕ) (accepted : fileCheck file ≡ Accepted) (ordered : O
   unfolding shows
   answer-seen t s b n l H =
       rw (H .instant l, H .present (finishOf file) wire)
+
+  -- after an answer that a state gives, the buffer stands at its instant
+  pub stands : (t₀ t : ℕ) (s b : List ℕ) (n : ℕ) → t ≤ 1000000 → Holding net W t s → instantAfter t₀ (record { answer = shows file s n; lent = b }) ≡ t
+  unfolding shows
+  stands t₀ t s b n l H = stood (high (nowAt s (finishOf file))) t₀ (instantOf s) ∙ H .instant l
 
   module _ (t : ℕ) (s : List ℕ) (H : Holding net W t s) (room : stateSize net ≤ length s) (l : t ≤ 1000000) (c : Call) (cs : List Call) where
     L : List ℕ
@@ -134,8 +143,8 @@ module _ (file : List ℕ) (accepted : fileCheck file ≡ Accepted) (ordered : O
         rw r′
         (record {
           outcomes = ap (λ (l : List Seen). refusedSeen k ∷ l) (G .outcomes) ∙ sym x;
-          every = (refuses k s, G .every);
-          unchanged = ((λ r h. refl), G .unchanged);
+          every = unfold standsAt in (refuses t k s H, G .every);
+          unchanged = ((λ h. refl), G .unchanged);
         })
 
     -- the lent part holds what the buffer holds
@@ -186,8 +195,8 @@ module _ (file : List ℕ) (accepted : fileCheck file ≡ Accepted) (ordered : O
               ap₂ (λ (x : Seen) (l : List Seen). x ∷ l)
               (answer-seen t′ s₁ b (evaluated net f (c .n) L) k (C .holding) ∙ ap (seen (endedIf (level W f t′)) t′) (C .count)) (G .outcomes)
               ∙ sym (expected-is F (stateSize net) t c cs false false (le-ltb _ _ h) (le-ltb _ _ m));
-          every = (answers t′ s₁ b (evaluated net f (c .n) L) k (C .holding) X, G .every);
-          unchanged = ((λ r h. not-refused (sym h ∙ no-refusal (high (nowAt s₁ f)))), G .unchanged);
+          every = rw (stands t t′ s₁ b (evaluated net f (c .n) L) k (C .holding)) (answers t′ s₁ b (evaluated net f (c .n) L) k (C .holding) X, G .every);
+          unchanged = ((λ h. absurd (omega (arith, h, ap numberOf (no-refusal (high (nowAt s₁ f)))))), G .unchanged);
         })
 
   pub good : (calls : List Call) (t : ℕ) (s : List ℕ) → Holding net W t s → stateSize net ≤ length s → t ≤ 1000000 → Good t s calls (replay file s calls)

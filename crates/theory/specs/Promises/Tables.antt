@@ -18,7 +18,7 @@ use Rattle.model.specs.TimeTables.{byteWrong, tableFault, tableSumWrong, tableC
 use Rattle.model.specs.Calls.{listed}
 use Rattle.model.specs.Promises.{Bytes}
 use Rattle.model.specs.TablePromises.{tableFile, InRange, Tables}
-use Rattle.theory.specs.Refusals.Laws.{by-le, or-false, not-false, all-accept, refuse-unless, fault-unless, first-place, faultless}
+use Rattle.theory.specs.Refusals.Laws.{by-le, or-false, not-false, all-accept, refuse-unless, fault-unless, no-fault, faultless}
 use Rattle.theory.specs.NetlistFile.Blocks.{block-sum, block-of, zero-tail, zeros-back}
 
 -- The rules of a byte ------------------------------------------------------------------------------------------------------------------
@@ -68,7 +68,7 @@ module _ (τ : ℕ → ℕ) (range : InRange τ) where
   byte-right : (i : ℕ) → tableFault (tableFile τ) i ≡ 0
   unfolding tableFault
   byte-right i =
-      by-le 17 i (λ l. rw (late-byte i (getD (tableFile τ) i 0) l, late-zero i l)) (λ l. first-place (tableFault (tableFile τ)) 17 .none front-right i l)
+      by-le 17 i (λ l. rw (late-byte i (getD (tableFile τ) i 0) l, late-zero i l)) (λ l. no-fault (tableFault (tableFile τ)) 17 front-right i l)
 
   file-length : length (tableFile τ) ≡ 512
   unfolding tableFile bytes16 listed
@@ -118,7 +118,7 @@ module _ (file : List ℕ) (bytes : Bytes file) (accepted : load (given file) .c
 
   right : (i : ℕ) → i < 512 → byteWrong i (byteAt i) ≡ false
   unfolding tableFault
-  right i l = fault-unless (byteWrong i (byteAt i)) 21 (omega arith) (first-place (tableFault file) 512 .none (checks 2) i l)
+  right i l = fault-unless (byteWrong i (byteAt i)) 21 (omega arith) (no-fault (tableFault file) 512 (checks 2) i l)
 
   byte-is : (i v : ℕ) → i < 512 → byteWrong i (byteAt i) ≡ not (eqb (byteAt i) v) → byteAt i ≡ v
   byte-is i v l e = eqb-true _ _ (not-false (eqb (byteAt i) v) (sym e ∙ right i l))

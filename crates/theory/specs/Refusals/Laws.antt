@@ -14,7 +14,7 @@ use Rattle.model.specs.declared.Refusal.{Refusal}
 use Rattle.model.specs.declared.Checked.{Checked}
 use Rattle.model.specs.declared.Checked.the-variants.{Accepted, Refused}
 use Rattle.model.specs.Word.{pick}
-use Rattle.model.specs.Refusals.{refuse, refuseIf, first, firstFault, faultIf}
+use Rattle.model.specs.Refusals.{refuse, refuseIf, numberOf, first, firstFault, faultIf}
 use Rattle.model.specs.Promises.{FirstFound, FirstPlace}
 
 -- Tests --------------------------------------------------------------------------------------------------------------------------------
@@ -75,22 +75,25 @@ pick-true false c r e = not-refused e
 
 -- A list of checks ---------------------------------------------------------------------------------------------------------------------
 
--- what is found first stands in the list, and everything before it accepts
-pub first-found : (cs : List Checked) → FirstFound cs (first cs)
-first-found [] = record { accepted = λ e j. refl; refused = λ r e. not-refused (sym e) }
-first-found (Accepted ∷ cs) =
-    let f = first-found cs in
+pub all-accept : (cs : List Checked) → first cs ≡ Accepted → (j : ℕ) → getD cs j Accepted ≡ Accepted
+all-accept [] e j = refl
+all-accept (Accepted ∷ cs) e zero = refl
+all-accept (Accepted ∷ cs) e (suc j) = all-accept cs e j
+all-accept (Refused q ∷ cs) e j = not-refused e
+
+-- what is found first stands in the list, and everything before it accepts, if no refusal there has the number 0
+pub first-found : (cs : List Checked) → (numberOf (first cs) ≡ 0 → first cs ≡ Accepted) → FirstFound cs (first cs)
+first-found [] p = record { accepted = λ e j. refl; refused = λ l. absurd (omega arith) }
+first-found (Accepted ∷ cs) p =
+    let f = first-found cs p in
     record {
       accepted = λ e. elim [ zero ↦ refl | suc j ↦ f .accepted e j ];
-      refused = λ r e.
-          let g = f .refused r e in
-          (suc (g .0), g .1, elim [ zero ↦ λ l. refl | suc j ↦ λ l. g .2 j (omega arith) ]);
+      refused = λ l.
+          let g = f .refused l in
+          (suc (g .0), g .1, g .2, elim [ zero ↦ λ l. refl | suc j ↦ λ l. g .3 j (omega arith) ]);
     }
-first-found (Refused q ∷ cs) =
-    record { accepted = λ e j. not-refused e; refused = λ r e. (0, e, λ j l. absurd (omega arith)) }
-
-pub all-accept : (cs : List Checked) → first cs ≡ Accepted → (j : ℕ) → getD cs j Accepted ≡ Accepted
-all-accept cs e = first-found cs .accepted e
+first-found (Refused q ∷ cs) p =
+    record { accepted = λ e j. not-refused (p e); refused = λ l. (0, refl, refl, λ j l. absurd (omega arith)) }
 
 pub first-one : (c : Checked) → c ≡ first (c ∷ [])
 first-one Accepted = refl
@@ -192,15 +195,20 @@ found fault i (suc n) = go (ℕ-discrete (fault i) 0) (found fault (i + 1) n)
               (omega arith, omega arith, ap fault x ∙ y, omega (arith, h), λ j l k. absurd (omega arith));
         })
 
+pub no-fault : (fault : ℕ → ℕ) (n : ℕ) → firstFault fault 0 n ≡ Accepted → (j : ℕ) → j < n → fault j ≡ 0
+no-fault fault n e j l = found fault 0 n .none e j (omega arith) (omega arith)
+
+pub fault-number : (fault : ℕ → ℕ) (n : ℕ) (r : Refusal) → firstFault fault 0 n ≡ Refused r → (fault (r .place) ≡ r .number) × (1 ≤ r .number)
+fault-number fault n r e = let g = found fault 0 n .some r e in (g .2, g .3)
+
 pub first-place : (fault : ℕ → ℕ) (n : ℕ) → FirstPlace fault n (firstFault fault 0 n)
-first-place fault n =
-    let f = found fault 0 n in
-    record {
-      none = λ e j l. f .none e j (omega arith) (omega arith);
-      some = λ r e.
-          let g = f .some r e in
-          (omega arith, g .2, g .3, λ j l. g .4 j (omega arith) l);
-    }
+first-place fault n = go (firstFault fault 0 n) (found fault 0 n)
+  where
+    go : (c : Checked) → Found fault 0 n c → FirstPlace fault n c
+    go Accepted f = record { none = λ e j l. f .none refl j (omega arith) (omega arith); some = λ l. absurd (omega arith) }
+    go (Refused r) f =
+        let g = f .some r refl in
+        record { none = λ e. absurd (omega (arith, g .3)); some = λ l. (omega arith, g .2, λ j l. g .4 j (omega arith) l) }
 
 -- where no place has a fault, nothing is refused
 pub faultless : (fault : ℕ → ℕ) (i n : ℕ) → ((j : ℕ) → i ≤ j → j < i + n → fault j ≡ 0) → firstFault fault i n ≡ Accepted

@@ -13,7 +13,7 @@ use Rattle.model.specs.declared.Cell.{Cell}
 use Rattle.model.specs.declared.Merge.{Merge}
 use Rattle.model.specs.Word.{bit, get16, put16, get32, put32}
 use Rattle.model.specs.Circuit.{cellAt, high, mergeStep, Shape, shape, kConstant, kComplement, kOperator, kStart, kGround, kDelay, kOr, kWhenTrue, kWhenFalse, kMerge, kMemory, kGated, kUnknown}
-use Rattle.model.specs.State.{base, nowAt, beforeAt, heldAt, lineBit, value, upTo, aged, shown, shifted, holding, settle, settled, stepState}
+use Rattle.model.specs.State.{base, nowAt, beforeAt, heldAt, lineBit, value, upTo, aged, shown, shiftedIn, holding, settle, settled, stepState}
 
 abbrev pub shapeAt : List Cell → ℕ → Shape
 shapeAt c k = shape (cellAt c k .kind)
@@ -69,16 +69,16 @@ unfolding shown
 shown-frame v t k j (inl h) = put16-other t _ _ j (λ e. omega arith) (λ e. omega arith)
 shown-frame v t k j (inr h) = put16-other t _ _ j (λ e. omega arith) (λ e. omega arith)
 
-pub shifted-frame : (m : ℕ) (s : List ℕ) (i x j : ℕ) → (j < i) ⊎ (i + m ≤ j) → getD (shifted m s i x) j 0 ≡ getD s j 0
-unfolding shifted
+pub shifted-frame : (m : ℕ) (s : List ℕ) (i x j : ℕ) → (j < i) ⊎ (i + m ≤ j) → getD (shiftedIn m s i x) j 0 ≡ getD s j 0
+unfolding shiftedIn
 shifted-frame zero s i x j h = refl
 shifted-frame (suc m) s i x j (inl h) =
     shifted-frame m _ (i + 1) _ j (inl (omega arith)) ∙ getD-set-other s i j _ 0 (λ e. omega arith)
 shifted-frame (suc m) s i x j (inr h) =
     shifted-frame m _ (i + 1) _ j (inr (omega arith)) ∙ getD-set-other s i j _ 0 (λ e. omega arith)
 
-pub length-shifted : (m : ℕ) (s : List ℕ) (i x : ℕ) → length (shifted m s i x) ≡ length s
-unfolding shifted
+pub length-shifted : (m : ℕ) (s : List ℕ) (i x : ℕ) → length (shiftedIn m s i x) ≡ length s
+unfolding shiftedIn
 length-shifted zero s i x = refl
 length-shifted (suc m) s i x = length-shifted m _ (i + 1) _ ∙ length-set s i _
 
@@ -154,7 +154,7 @@ module _ (c : List Cell) (s : List ℕ) where
       omega arith
 
 -- the last pass, by shape
-settled-delay : (c : List Cell) (s : List ℕ) (k : ℕ) → shapeAt c k ≡ kDelay → settled c s k ≡ shifted 32 s (base k + 8) (bit (high (nowAt s (cellAt c k .a))))
+settled-delay : (c : List Cell) (s : List ℕ) (k : ℕ) → shapeAt c k ≡ kDelay → settled c s k ≡ shiftedIn 32 s (base k + 8) (bit (high (nowAt s (cellAt c k .a))))
 unfolding settle
 settled-delay c s k e = ap (λ (sh : Shape). settle sh s k (cellAt c k)) e
 
@@ -368,16 +368,16 @@ module _ (c : List Cell) (v : List ℕ → ℕ → ℕ) (u : List ℕ) where
 
 -- ---- a line moved by a bit
 
-shifted-first : (m : ℕ) (s : List ℕ) (i x : ℕ) → 0 < m → i < length s → getD (shifted m s i x) i 0 ≡ (2 * getD s i 0 + x) % 256
-unfolding shifted
+shifted-first : (m : ℕ) (s : List ℕ) (i x : ℕ) → 0 < m → i < length s → getD (shiftedIn m s i x) i 0 ≡ (2 * getD s i 0 + x) % 256
+unfolding shiftedIn
 shifted-first zero s i x h g = absurd (omega arith)
 shifted-first (suc m) s i x h g =
     shifted-frame m (set s i ((2 * getD s i 0 + x) % 256)) (i + 1) ((2 * getD s i 0 + x) / 256) i (inl (omega arith))
     ∙ getD-set-same s i ((2 * getD s i 0 + x) % 256) 0 g
 
 shifted-later : (m : ℕ) (s : List ℕ) (i x j : ℕ) → x < 2 → ((p : ℕ) → i ≤ p → p < i + m → getD s p 0 < 256) → i + m ≤ length s → i < j → j < i + m
-    → getD (shifted m s i x) j 0 ≡ (2 * getD s j 0 + getD s (j - 1) 0 / 128) % 256
-unfolding shifted
+    → getD (shiftedIn m s i x) j 0 ≡ (2 * getD s j 0 + getD s (j - 1) 0 / 128) % 256
+unfolding shiftedIn
 shifted-later zero s i x j u w l h g = absurd (omega arith)
 shifted-later (suc m) s i x j u w l h g = go (decLt (i + 1) j) (shifted-later m t (i + 1) y j)
   where
@@ -392,8 +392,8 @@ shifted-later (suc m) s i x j u w l h g = go (decLt (i + 1) j) (shifted-later m 
 
     go : Dec (i + 1 < j)
         → (y < 2 → ((p : ℕ) → i + 1 ≤ p → p < i + 1 + m → getD t p 0 < 256) → i + 1 + m ≤ length t → i + 1 < j → j < i + 1 + m
-        → getD (shifted m t (i + 1) y) j 0 ≡ (2 * getD t j 0 + getD t (j - 1) 0 / 128) % 256)
-        → getD (shifted m t (i + 1) y) j 0 ≡ (2 * getD s j 0 + getD s (j - 1) 0 / 128) % 256
+        → getD (shiftedIn m t (i + 1) y) j 0 ≡ (2 * getD t j 0 + getD t (j - 1) 0 / 128) % 256)
+        → getD (shiftedIn m t (i + 1) y) j 0 ≡ (2 * getD s j 0 + getD s (j - 1) 0 / 128) % 256
     go (yes q) r =
         r (omega (arith, w i (omega arith) (omega arith)))
         (λ p a b. omega (arith, other p (omega arith), w p (omega arith) (omega arith))) (simp length-set (omega arith)) q (omega arith)
@@ -419,23 +419,23 @@ unfoldable bitAt : List ℕ → ℕ → ℕ → ℕ
 bitAt t b i = getD t (b + i / 8) 0 / 2 ^ (i % 8) % 2
 
 module _ (t : List ℕ) (b x : ℕ) (u : x < 2) (w : (p : ℕ) → b ≤ p → p < b + 32 → getD t p 0 < 256) (l : b + 32 ≤ length t) where
-  newest : bitAt (shifted 32 t b x) b 0 ≡ x
+  newest : bitAt (shiftedIn 32 t b x) b 0 ≡ x
   unfolding bitAt
-  newest = omega (arith, ap (λ (p : ℕ). getD (shifted 32 t b x) p 0) (add-zero b), shifted-first 32 t b x (omega arith) (omega arith))
+  newest = omega (arith, ap (λ (p : ℕ). getD (shiftedIn 32 t b x) p 0) (add-zero b), shifted-first 32 t b x (omega arith) (omega arith))
 
   -- each byte is moved, with a bit coming in
-  moved : (j : ℕ) → b ≤ j → j < b + 32 → (C : ℕ) × (C < 2) × (getD (shifted 32 t b x) j 0 ≡ (2 * getD t j 0 + C) % 256)
+  moved : (j : ℕ) → b ≤ j → j < b + 32 → (C : ℕ) × (C < 2) × (getD (shiftedIn 32 t b x) j 0 ≡ (2 * getD t j 0 + C) % 256)
   moved j h g = go (decLt b j)
     where
-      go : Dec (b < j) → (C : ℕ) × (C < 2) × (getD (shifted 32 t b x) j 0 ≡ (2 * getD t j 0 + C) % 256)
+      go : Dec (b < j) → (C : ℕ) × (C < 2) × (getD (shiftedIn 32 t b x) j 0 ≡ (2 * getD t j 0 + C) % 256)
       go (yes q) = (getD t (j - 1) 0 / 128, omega (arith, w (j - 1) (omega arith) (omega arith)), shifted-later 32 t b x j u w l q g)
       go (no q) = let e : j ≡ b = omega arith in (x, u, rw e (shifted-first 32 t b x (omega arith) (omega arith)))
 
-  older : (i : ℕ) → i < 255 → bitAt (shifted 32 t b x) b (i + 1) ≡ bitAt t b i
+  older : (i : ℕ) → i < 255 → bitAt (shiftedIn 32 t b x) b (i + 1) ≡ bitAt t b i
   unfolding bitAt
   older i h = go (decLt (i % 8) 7)
     where
-      go : Dec (i % 8 < 7) → getD (shifted 32 t b x) (b + (i + 1) / 8) 0 / 2 ^ ((i + 1) % 8) % 2 ≡ getD t (b + i / 8) 0 / 2 ^ (i % 8) % 2
+      go : Dec (i % 8 < 7) → getD (shiftedIn 32 t b x) (b + (i + 1) / 8) 0 / 2 ^ ((i + 1) % 8) % 2 ≡ getD t (b + i / 8) 0 / 2 ^ (i % 8) % 2
       go (yes q) =
           let e : (i + 1) / 8 ≡ i / 8 = omega arith in
           let f : (i + 1) % 8 ≡ i % 8 + 1 = omega arith in
@@ -474,14 +474,14 @@ module _ (c : List Cell) (v : List ℕ → ℕ → ℕ) (u : List ℕ) (room : 8
   input-lt = bit-lt (high (nowAt (after c v u) (cellAt c k .a)))
 
   pushed : List ℕ
-  pushed = shifted 32 (three c v u k) (base k + 8) input
+  pushed = shiftedIn 32 (three c v u k) (base k + 8) input
 
   byte-after : (j : ℕ) → base k + 8 ≤ j → j < base k + 8 + 32 → getD (after c v u) j 0 ≡ getD pushed j 0
   unfolding pushed input
   byte-after j x y =
       third-at c v u k j h (omega arith) (omega arith)
       ∙ ap (λ (t : List ℕ). getD t j 0) (settled-delay c (three c v u k) k e)
-      ∙ ap (λ (n : ℕ). getD (shifted 32 (three c v u k) (base k + 8) (bit (high n))) j 0)
+      ∙ ap (λ (n : ℕ). getD (shiftedIn 32 (three c v u k) (base k + 8) (bit (high n))) j 0)
       (now-three c v u k (cellAt c k .a) ∙ sym (now-three c v u (length c) (cellAt c k .a)))
 
   line-after : (i : ℕ) → i < 256 → lineBit (after c v u) k i ≡ bitAt pushed (base k + 8) i

@@ -10,7 +10,7 @@ use Rattle.model.specs.declared.Cell.{Cell}
 use Rattle.model.specs.declared.Merge.{Merge}
 use Rattle.model.specs.Word.{bit, put16, put32}
 use Rattle.model.specs.Circuit.{cellAt, Shape, shape, kConstant, kComplement, kOperator, kStart, kGround, kDelay, kOr, kWhenTrue, kWhenFalse, kMerge, kMemory, kGated, kUnknown}
-use Rattle.model.specs.State.{stateSize, base, instantOf, value, firstValue, upTo, aged, shown, shifted, holding, settle, settled, beginState, stepState}
+use Rattle.model.specs.State.{stateSize, base, instantOf, value, firstValue, upTo, aged, shown, shiftedIn, holding, settle, settled, beginState, stepState}
 use Rattle.model.specs.Promises.{stateAt}
 
 -- t has the bytes of s from n on
@@ -28,8 +28,8 @@ past-put32 : (n : ℕ) (s : List ℕ) (v : ℕ) → 4 ≤ n → Past n s (put32 
 unfolding put32
 past-put32 n s v l = past-put16 n (put16 s 0 (v % 65536)) 2 (v / 65536) (omega arith) ∙ past-put16 n s 0 (v % 65536) (omega arith)
 
-past-shifted : (n m : ℕ) (s : List ℕ) (i x : ℕ) → i + m ≤ n → Past n s (shifted m s i x)
-unfolding shifted
+past-shifted : (n m : ℕ) (s : List ℕ) (i x : ℕ) → i + m ≤ n → Past n s (shiftedIn m s i x)
+unfolding shiftedIn
 past-shifted n zero s i x l = refl
 past-shifted n (suc m) s i x l = past-shifted n m (set s i _) (i + 1) _ (omega arith) ∙ past-set n s i _ (omega arith)
 

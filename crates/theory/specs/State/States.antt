@@ -15,7 +15,7 @@ use Rattle.model.specs.declared.Cell.{Cell}
 use Rattle.model.specs.declared.Merge.{Merge}
 use Rattle.model.specs.Word.{pick, bit, isZero, operate, get16, get32}
 use Rattle.model.specs.Circuit.{cellAt, Sig, Values, high, level, delayed, mergeStep, heldBefore, merged, memory, equation, startWord, Obeys, Shape, shape, kConstant, kComplement, kOperator, kStart, kGround, kDelay, kOr, kWhenTrue, kWhenFalse, kMerge, kMemory, kGated, kUnknown}
-use Rattle.model.specs.State.{base, instantOf, nowAt, beforeAt, heldAt, lineBit, later, value, firstValue, shown, holding, settle, settled, beginState, stepState}
+use Rattle.model.specs.State.{base, instantOf, nowAt, beforeAt, heldAt, lineBit, nextValue, value, firstValue, shown, holding, settle, settled, beginState, stepState}
 use Rattle.model.specs.Promises.{earlier}
 use Rattle.theory.specs.Numbering.Levels.{delayed-zero}
 use Rattle.theory.specs.Circuit.Unique.{Looks, Ordered}
@@ -46,9 +46,9 @@ module _ (W : Values) (T first k n : ℕ) (c : Cell) (s : List ℕ) (lower : (a 
       → (sh ≡ kStart → 0 ≡ bit (eqb T 0))
       → (sh ≡ kDelay → lineBit s k (c .delay - 1) ≡ bit (delayed (c .delay) (level W (c .a)) T))
       → (sh ≡ kMerge → heldAt s k ≡ heldBefore (level W (c .a)) (level W (c .b)) T)
-      → (sh ≡ kMemory → later kMemory s k c ≡ memory first W k c T)
-      → later sh s k c ≡ equation sh first W k c T
-  unfolding later equation merged
+      → (sh ≡ kMemory → nextValue kMemory s k c ≡ memory first W k c T)
+      → nextValue sh s k c ≡ equation sh first W k c T
+  unfolding nextValue equation merged
   later-is kConstant o p q r m = refl
   later-is kComplement o p q r m = ap (λ (x : ℕ). operate 3 x 0) (lower (c .a) o)
   later-is kOperator o p q r m = ap₂ (λ (x y : ℕ). operate (c .kind) x y) (lower (c .a) (o .0)) (lower (c .b) (o .1))
@@ -257,8 +257,8 @@ module _ (net : List Cell) (ordered : Ordered net) (words : ℕ → ℕ) (W : Va
         ∙ ap bit (sym (delayed-more (c .delay - 1) (level W (c .a)) t) ∙ ap (λ (n : ℕ). delayed n (level W (c .a)) (suc t)) d)
 
     step-memory : (k : ℕ) → k < length net → ((a : ℕ) → a < k → nowAt (two v U k) a ≡ W a (suc t)) → shapeAt net k ≡ kMemory
-        → later kMemory (two v U k) k (cellAt net k) ≡ memory (startWord net words k) W k (cellAt net k) (suc t)
-    unfolding later memory Ordered
+        → nextValue kMemory (two v U k) k (cellAt net k) ≡ memory (startWord net words k) W k (cellAt net k) (suc t)
+    unfolding nextValue memory Ordered
     step-memory k h lower e =
         let c = cellAt net k in
         let o = mem-looks (shapeAt net k) (length net) k c e (ordered k h) in

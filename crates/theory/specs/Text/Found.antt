@@ -15,8 +15,8 @@ use Rattle.model.specs.declared.Token.{Token}
 use Rattle.model.specs.declared.Mode.{Mode}
 use Rattle.model.specs.declared.Mode.the-variants.{Statement, AfterStatement, Operand, AfterOperand, Delay, Body}
 use Rattle.model.specs.Program.{Expr, Stmt, node, preorderE, preorder}
-use Rattle.model.specs.Text.{numeral, name, sign, cThen, cElse, cDo, cUntil, cEnd, cAt, cOpen, cClose, cLeft, cRight, Word, tokens, Left, sum, difference, and, or, Comparison, equal, less, IsExpr, number, variable, parens, complement, left, compare, timed, IsStmt, skip, ticks, becomes, ifs, whiles, repeats, braces, sequence, parallel, Means, Begins, BreaksAt}
-use Rattle.model.specs.Reader.{Frame, frame, Reader, reader, readerAtFirst, holdOf, reachOf, Popped, pop, topCode, topStart, insertAt, delayed, leaf, openedNode, between, closed, turned, settled, withDelay, onStatement, onOperand, comparison, onAfterOperand, onAfterStatement, onDelay, onBody, stepOf, isBroken, complete, good, bad, readFrom}
+use Rattle.model.specs.Text.{numeral, name, sign, cThen, cElse, cDo, cUntil, cEnd, cAt, cOpen, cClose, cLeft, cRight, Lexeme, tokens, Left, sum, difference, and, or, Comparison, equal, less, IsExpr, number, variable, parens, complement, left, compare, timed, IsStmt, skip, ticks, becomes, ifs, whiles, repeats, braces, sequence, parallel, Means, Begins, BreaksAt}
+use Rattle.model.specs.Reader.{Frame, frame, Reader, reader, readerAtFirst, holdOf, reachOf, Popped, pop, topCode, topStart, insertAt, withNodeDelay, leaf, openedNode, between, closed, turned, reduced, withDelay, onStatement, onOperand, comparison, onAfterOperand, onAfterStatement, onDelay, onBody, stepOf, isBroken, complete, good, bad, readFrom}
 use Rattle.model.specs.TextPromises.{placeAt}
 use Rattle.theory.specs.Refusals.Laws.{by-bool}
 use Rattle.theory.specs.Text.Runs.{pop-frames, steps, steps-append, Complete, Stops, broken-incomplete, reads-whole, reads-bad}
@@ -85,7 +85,7 @@ complement-found {ys} f =
     }
 
 parens-turn : Turns AfterOperand (sign cClose) cOpen (closed AfterOperand)
-unfolding stepOf onAfterOperand settled topCode closed topStart
+unfolding stepOf onAfterOperand reduced topCode closed topStart
 parens-turn p q c i fs K ns e = rw e refl
 
 expr-found : {l : ℕ} {ts : List Token} {e : Expr} → IsExpr l ts e → (K : List Frame) → Under (low l) K → (ys : List Node)
@@ -114,8 +114,8 @@ with-delay : (m : Mode) (p d k v : ℕ) (r : Reader) (ws zs : List Node) → p �
 unfolding withDelay
 with-delay m p d k v r ws zs e f =
     let was = ws ++ (node k 0 v ∷ zs) in
-    let now : delayed p d (r .nodes) ≡ ws ++ (node k d v ∷ zs) =
-    ap (delayed p d) f ∙ ap (λ (a : Node). set was p (node (a .kind) d (a .n))) (getD-at ws (node k 0 v) zs (node 0 0 0) p (sym e))
+    let now : withNodeDelay p d (r .nodes) ≡ ws ++ (node k d v ∷ zs) =
+    ap (withNodeDelay p d) f ∙ ap (λ (a : Node). set was p (node (a .kind) d (a .n))) (getD-at ws (node k 0 v) zs (node 0 0 0) p (sym e))
     ∙ set-at ws (node k 0 v) zs (node k d v) p (sym e) in
     same-reader refl (sym (length-set (r .nodes) p _) ∙ ap length now) now
 
@@ -127,7 +127,7 @@ abbrev awaiting : Reader → Reader
 awaiting r = reader Delay (r .start) (r .frames) (r .cursor) (r .nodes)
 
 at-turns : (h : ℕ) → delays h ≡ true → Turns AfterOperand (sign cAt) h awaiting
-unfolding stepOf onAfterOperand settled topCode
+unfolding stepOf onAfterOperand reduced topCode
 at-turns h t p q c i fs K ns e = rw e (rw t refl)
 
 -- once the node of the frame on top, of code h, has its delay d, the reader does g
@@ -167,22 +167,22 @@ Inside h ts ms K = (p : ℕ) → FindsStmt (farS 0) ts ms (frame h p ∷ K)
 
 -- the words behind a statement that is inside of one
 braces-turn : Turns AfterStatement (sign cRight) cLeft (closed AfterStatement)
-unfolding stepOf onAfterStatement settled topCode closed topStart
+unfolding stepOf onAfterStatement reduced topCode closed topStart
 braces-turn p q c i fs K ns e = rw e refl
 
 else-turns : Turns AfterStatement (sign cElse) cThen (turned Statement cElse)
-unfolding stepOf onAfterStatement settled topCode turned topStart
+unfolding stepOf onAfterStatement reduced topCode turned topStart
 else-turns p q c i fs K ns e = rw e refl
 
 end-turns : (h : ℕ) → (eqb h cElse || eqb h cDo) ≡ true → Turns AfterStatement (sign cEnd) h (closed AfterStatement)
-unfolding stepOf onAfterStatement settled topCode closed topStart
+unfolding stepOf onAfterStatement reduced topCode closed topStart
 end-turns h t p q c i fs K ns e = rw e (rw t refl)
 
 abbrev conditioned : Reader → Reader
 conditioned r = reader Operand (r .start) (frame cUntil (topStart (r .frames)) ∷ drop 1 (r .frames)) (topStart (r .frames) + 1) (r .nodes)
 
 until-turns : Turns AfterStatement (sign cUntil) 23 conditioned
-unfolding stepOf onAfterStatement settled topCode topStart
+unfolding stepOf onAfterStatement reduced topCode topStart
 until-turns p q c i fs K ns e = rw e refl
 
 -- the kinds of statement that have a delay
@@ -290,7 +290,7 @@ found {P} m =
       ap (λ (r : Reader). r .nodes) (a .is) ∙ append-nil (preorder P),
     )
 
-pub reader-finds : (end : ℕ) (ws : List Word) (P : Stmt) → Means (tokens ws) P → readFrom end readerAtFirst ws ≡ good (preorder P)
+pub reader-finds : (end : ℕ) (ws : List Lexeme) (P : Stmt) → Means (tokens ws) P → readFrom end readerAtFirst ws ≡ good (preorder P)
 reader-finds end ws P m = reads-whole end readerAtFirst ws (found m .0) ∙ ap good (found m .1)
 
 -- where the steps stop, no continuation fits
@@ -306,7 +306,7 @@ breaks-at ts i s b =
       none = λ P m. s .none (found m .0);
     }
 
-pub broken-place : (end : ℕ) (ws : List Word) (p : ℕ) → readFrom end readerAtFirst ws ≡ bad p →
+pub broken-place : (end : ℕ) (ws : List Lexeme) (p : ℕ) → readFrom end readerAtFirst ws ≡ bad p →
     let ts = tokens ws in
     (i : ℕ) × (p ≡ placeAt end ws i) × Stops readerAtFirst ts i × (Begins (take i ts) → BreaksAt ts i)
 unfolding isBroken

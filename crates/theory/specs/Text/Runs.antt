@@ -13,7 +13,7 @@ use Rattle.model.specs.declared.Node.{Node}
 use Rattle.model.specs.declared.Token.{Token}
 use Rattle.model.specs.declared.Mode.{Mode}
 use Rattle.model.specs.declared.Mode.the-variants.{Statement, AfterStatement, Operand, AfterOperand, Becomes, Ticks, Delay, Body, Broken}
-use Rattle.model.specs.Text.{Word, tokens}
+use Rattle.model.specs.Text.{Lexeme, tokens}
 use Rattle.model.specs.Reader.{Frame, Reader, holdOf, pop, stepOf, step, isBroken, complete, Reading, good, bad, readFrom}
 use Rattle.model.specs.TextPromises.{placeAt}
 use Rattle.theory.specs.Refusals.Laws.{by-bool, not-both}
@@ -85,7 +85,7 @@ module _ (end : ℕ) (r : Reader) where
   unfolding readFrom
   reads-short e = rw (e, readFrom)
 
-  module _ (w : Word) (ws : List Word) where
+  module _ (w : Lexeme) (ws : List Lexeme) where
     pub reads-broken : isBroken (step (w .token) r .mode) ≡ true → readFrom end r (w ∷ ws) ≡ bad (w .place)
     unfolding readFrom
     reads-broken e = rw (e, readFrom)
@@ -94,7 +94,7 @@ module _ (end : ℕ) (r : Reader) where
     unfolding readFrom
     reads-on e = rw (e, readFrom)
 
-pub reads-whole : (end : ℕ) (r : Reader) (ws : List Word) → Complete (steps (tokens ws) r)
+pub reads-whole : (end : ℕ) (r : Reader) (ws : List Lexeme) → Complete (steps (tokens ws) r)
     → readFrom end r ws ≡ good (steps (tokens ws) r .nodes)
 unfolding steps
 reads-whole end r [] c = reads-end end r c
@@ -103,7 +103,7 @@ reads-whole end r (w ∷ ws) c =
     by-bool (isBroken (r′ .mode)) (λ e. absurd (broken-incomplete (tokens ws) r′ (broken-mode (r′ .mode) e) c))
     (λ e. reads-on end r w ws e ∙ reads-whole end r′ ws c)
 
-pub reads-good : (end : ℕ) (r : Reader) (ws : List Word) (ns : List Node) → readFrom end r ws ≡ good ns
+pub reads-good : (end : ℕ) (r : Reader) (ws : List Lexeme) (ns : List Node) → readFrom end r ws ≡ good ns
     → Complete (steps (tokens ws) r) × (ns ≡ steps (tokens ws) r .nodes)
 unfolding steps nodes-of
 reads-good end r [] ns h =
@@ -136,7 +136,7 @@ unfolding steps
 stops-later r t ts i s =
     record { within = suc-le-suc (s .within); before = s .before; here = λ l. s .here (le-of-suc-le-suc l); none = s .none }
 
-pub reads-bad : (end : ℕ) (r : Reader) (ws : List Word) (p : ℕ) → isBroken (r .mode) ≡ false → readFrom end r ws ≡ bad p
+pub reads-bad : (end : ℕ) (r : Reader) (ws : List Lexeme) (p : ℕ) → isBroken (r .mode) ≡ false → readFrom end r ws ≡ bad p
     → (i : ℕ) × (p ≡ placeAt end ws i) × Stops r (tokens ws) i
 unfolding placeAt place-of
 reads-bad end r [] p b h =

@@ -16,7 +16,7 @@ use Rattle.model.specs.declared.Mode.{Mode}
 use Rattle.model.specs.declared.Mode.the-variants.{Statement, AfterStatement, Operand, AfterOperand, Becomes, Ticks, Delay, Body, Broken}
 use Rattle.model.specs.Program.{node, preorderE, preorder}
 use Rattle.model.specs.Text.{token, numeral, sign, cThen, cElse, cDo, cUntil, cEnd, cAt, cOpen, cClose, cLeft, cRight, Left, Comparison, IsExpr, IsStmt}
-use Rattle.model.specs.Reader.{Frame, frame, Reader, reader, holdOf, reachOf, pop, topCode, topStart, comparison, insertAt, delayed, leaf, opened, openedNode, between, closed, turned, settled, withDelay, onStatement, onOperand, onAfterOperand, onAfterStatement, onDelay, onBody, stepOf, step}
+use Rattle.model.specs.Reader.{Frame, frame, Reader, reader, holdOf, reachOf, pop, topCode, topStart, comparison, insertAt, withNodeDelay, leaf, opened, openedNode, between, closed, turned, reduced, withDelay, onStatement, onOperand, onAfterOperand, onAfterStatement, onDelay, onBody, stepOf, step}
 use Rattle.theory.specs.Refusals.Laws.{by-bool, not-both, and-true}
 use Rattle.theory.specs.Text.Open.{Sort, expression, statement, top, Fits, expr, stmt, lower, Binary, left, compare, sequence, parallel, reaches, Bracket, parens, becomes, ifs, thens, elses, whiles, does, repeats, untils, braces, Open, whole, operator, bracket, low-enough, nothing-behind, bounds, has-room, After, after, pop-after, pop-top}
 use Rattle.theory.specs.Text.Open.Piece.{complement, binary}
@@ -53,8 +53,8 @@ Stands AfterStatement p fs c ns ts = At (λ xs zs. After statement 2 p fs xs zs 
 Stands Operand p fs c ns ts = Expects expression fs c ns ts
 Stands AfterOperand p fs c ns ts = At (λ xs zs. After expression 4 p fs xs zs ts) c ns
 Stands Becomes p fs c ns ts = Expects expression fs c ns (ts ++ (sign 18 ∷ []))
-Stands Ticks p fs c ns ts = (d : ℕ) → After statement 2 p fs (delayed p d ns) [] (ts ++ (numeral d ∷ []))
-Stands Delay p fs c ns ts = (d : ℕ) → Timed (topCode fs) fs (delayed (topStart fs) d ns) (ts ++ (numeral d ∷ []))
+Stands Ticks p fs c ns ts = (d : ℕ) → After statement 2 p fs (withNodeDelay p d ns) [] (ts ++ (numeral d ∷ []))
+Stands Delay p fs c ns ts = (d : ℕ) → Timed (topCode fs) fs (withNodeDelay (topStart fs) d ns) (ts ++ (numeral d ∷ []))
 Stands Body p fs c ns ts = (c ≡ length ns) × Timed (topCode fs) fs ns ts
 Stands Broken p fs c ns ts = Unit {0}
 
@@ -97,15 +97,15 @@ put : {R : List Node → List Node → Type 0} (n : Node) (xs zs : List Node) �
 put {R} n xs zs h = subst (λ (ys : List Node). At R (length ys + 1) (insertAt (length xs) n (ys ++ zs))) (append-nil xs) (put-before n xs [] zs h)
 
 -- a node gets its delay
-delayed-is : (xs : List Node) (k x d : ℕ) (ns : List Node) → delayed (length xs) d (xs ++ (node k 0 x ∷ ns)) ≡ xs ++ (node k d x ∷ ns)
+delayed-is : (xs : List Node) (k x d : ℕ) (ns : List Node) → withNodeDelay (length xs) d (xs ++ (node k 0 x ∷ ns)) ≡ xs ++ (node k d x ∷ ns)
 delayed-is xs k x d ns = rw (getD-append-seam xs (node k 0 x) ns (node 0 0 0)) (set-append-seam xs (node k 0 x) ns (node k d x))
 
 -- the same of the node that begins a bracket, with the nodes in its hole and behind it
 delay-is : (xs : List Node) (k x d : ℕ) (ns zs : List Node)
-    → delayed (length xs) d (xs ++ (node k 0 x ∷ []) ++ ns ++ zs) ≡ xs ++ (node k d x ∷ (ns ++ zs))
+    → withNodeDelay (length xs) d (xs ++ (node k 0 x ∷ []) ++ ns ++ zs) ≡ xs ++ (node k d x ∷ (ns ++ zs))
 delay-is xs k x d ns zs =
     let e : xs ++ (node k 0 x ∷ []) ++ ns ++ zs ≡ xs ++ (node k 0 x ∷ (ns ++ zs)) = simp append-assoc in
-    ap (delayed (length xs) d) e ∙ delayed-is xs k x d (ns ++ zs)
+    ap (withNodeDelay (length xs) d) e ∙ delayed-is xs k x d (ns ++ zs)
 
 -- What is expected is read -------------------------------------------------------------------------------------------------------------
 
@@ -131,7 +131,7 @@ ticking : {fs : List Frame} {w : ℕ} {ts : List Token} {xs : List Node} → Ope
     → Stands Ticks (length xs) fs (length xs + 1) (insertAt (length xs) (node 17 0 0) (xs ++ [])) (ts ++ (sign 17 ∷ []))
 unfolding preorder
 ticking {ts = ts} {xs = xs} o d =
-    finished o (stmt (IsStmt.ticks d)) (ap (delayed (length xs) d) (insert-is xs (node 17 0 0) []) ∙ delayed-is xs 17 0 d []) (append-assoc ts _ _)
+    finished o (stmt (IsStmt.ticks d)) (ap (withNodeDelay (length xs) d) (insert-is xs (node 17 0 0) []) ∙ delayed-is xs 17 0 d []) (append-assoc ts _ _)
 
 on-statement : (t : Token) → Proper t → (p : ℕ) {fs : List Frame} {w : ℕ} {ts : List Token} {xs : List Node} → Open fs statement w ts xs []
     → StandsAt (onStatement t (reader Statement p fs (length xs) (xs ++ []))) (ts ++ (t ∷ []))
@@ -237,7 +237,7 @@ until-next (inside {xs = xs} {ms = ms} o repeats (stmt {P = P} d)) =
 -- the delay of an expression in a bracket
 delay-next : {k : ℕ} {s : Sort} {fs : List Frame} {xs zs : List Node} {ts : List Token} (d : ℕ) → Filled k s expression fs xs zs ts
     → ((eqb k 18 || eqb k 21) || (eqb k 22 || eqb k cUntil)) ≡ true
-    → Timed k fs (delayed (topStart fs) d (xs ++ zs)) (ts ++ (sign cAt ∷ []) ++ (numeral d ∷ []))
+    → Timed k fs (withNodeDelay (topStart fs) d (xs ++ zs)) (ts ++ (sign cAt ∷ []) ++ (numeral d ∷ []))
 unfolding topStart preorder
 delay-next d (inside o parens e) h = not-both h refl
 delay-next d (inside {xs = xs} o (becomes x) (expr {e = e} q)) h =
@@ -279,7 +279,7 @@ operator-at k e =
 
 on-after-operand : (t : Token) → Proper t → (p : ℕ) {fs : List Frame} {c : ℕ} {ns : List Node} {ts : List Token} → Stands AfterOperand p fs c ns ts
     → StandsAt (onAfterOperand t (reader AfterOperand p fs c ns)) (ts ++ (t ∷ []))
-unfolding onAfterOperand between closed settled
+unfolding onAfterOperand between closed reduced
 on-after-operand t h p {fs} {ts = ts} (at xs zs q) =
     by-bool (leb 4 (t .code) && leb (t .code) 9)
     (λ e. rw e (
@@ -302,7 +302,7 @@ on-after-operand t h p {fs} {ts = ts} (at xs zs q) =
 
 on-after-statement : (t : Token) → Proper t → (p : ℕ) {fs : List Frame} {c : ℕ} {ns : List Node} {ts : List Token} → Stands AfterStatement p fs c ns ts
     → StandsAt (onAfterStatement t (reader AfterStatement p fs c ns)) (ts ++ (t ∷ []))
-unfolding onAfterStatement between closed turned settled
+unfolding onAfterStatement between closed turned reduced
 on-after-statement t h p {fs} {ts = ts} (at xs zs q) =
     by-sign R t h 19 tt (puts sequence refl (at xs zs q)) λ e₁.
     by-sign R t h 20 tt (puts parallel refl (at xs zs q)) λ e₂.
@@ -359,7 +359,7 @@ on-delay t p fs c ns ts q =
     R : Token → Type 0
     R t = StandsAt (onDelay t (reader Delay p fs c ns)) (ts ++ (t ∷ []))
 
-    same : (d : ℕ) → length ns ≡ length (delayed (topStart fs) d ns)
+    same : (d : ℕ) → length ns ≡ length (withNodeDelay (topStart fs) d ns)
     same d = sym (length-set ns (topStart fs) _)
 
 on-body : (t : Token) → Proper t → (p : ℕ) {fs : List Frame} {c : ℕ} {ns : List Node} {ts : List Token} → Stands Body p fs c ns ts

@@ -19,11 +19,11 @@ wrapping-sub-u16-requires c κs = search needs
 bit-requires : tie.Need-bit-requires
 bit-requires c κs = search needs
 
-shifted-requires : tie.Need-shifted-requires
-shifted-requires c κs = search needs
+biased-requires : tie.Need-biased-requires
+biased-requires c κs = search needs
 
-shifted-requires-2 : tie.Need-shifted-requires-2
-shifted-requires-2 c κs = search needs
+biased-requires-2 : tie.Need-biased-requires-2
+biased-requires-2 c κs = search needs
 
 bit-requires-2 : tie.Need-bit-requires-2
 bit-requires-2 c κs = search needs
@@ -56,7 +56,7 @@ returns-7 : tie.Need-returns-7
 unfolding operate
 returns-7 c =
     let k = c .before .before .before .match .rest in
-    rw (← c .before .before .shifted .ensures, ← c .before .shifted2 .ensures)
+    rw (← c .before .before .biased .ensures, ← c .before .biased2 .ensures)
     (c .bit2 .ensures ∙ sym (simp (operate, ne-eqb _ _ (k .1), ne-eqb _ _ (k .0 .1), ne-eqb _ _ (k .0 .0 .1), ne-eqb _ _ (k .0 .0 .0 .1), ne-eqb _ _ (k .0 .0 .0 .0 .1), ne-eqb _ _ (k .0 .0 .0 .0 .0 .1))))
 
 pub operate-spec : {M : Type 1} → statement M
@@ -67,8 +67,8 @@ operate-spec =
     wrapping-add-u16-requires
     wrapping-sub-u16-requires
     bit-requires
-    shifted-requires
-    shifted-requires-2
+    biased-requires
+    biased-requires-2
     bit-requires-2
     returns
     returns-2

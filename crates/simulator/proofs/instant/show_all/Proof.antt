@@ -24,8 +24,8 @@ cell-at-requires c κs =
     let pre = c .before .before .before .before .pre in
     (omega (arith, pre .few), omega (arith, pre .list))
 
-later-requires : tie.Need-later-requires Inv-loop μ-loop
-later-requires c κs =
+next-value-requires : tie.Need-next-value-requires Inv-loop μ-loop
+next-value-requires c κs =
     let pre = c .before .before .before .before .before .before .pre in
     let loop = c .before .before .before .loop in
     fits-at pre (loop .state) (loop .inv .1) (loop .k) (c .before .before .loop-test .taken) _ (c .before .cell-at .ensures)
@@ -77,7 +77,7 @@ show-all-spec =
     μ-loop
     loop-holds
     cell-at-requires
-    later-requires
+    next-value-requires
     mul-put16
     add-put16
     put16-requires

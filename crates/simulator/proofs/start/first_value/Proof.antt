@@ -29,16 +29,16 @@ returns-2 c =
     c .get16 .ensures ∙ ap (wordAt (args .words .now)) (sym m)
     ∙ sym (first-memory net (wordAt (args .words .now)) (args .state .now) (args .k) (args .c) e (c .before .if2 .taken))
 
-later-requires : tie.Need-later-requires
-later-requires c κs = search needs
+next-value-requires : tie.Need-next-value-requires
+next-value-requires c κs = search needs
 
 returns-3 : tie.Need-returns-3
 returns-3 c =
     let args = c .before .before .before .before .before .args in
     λ net e m.
-    c .later .ensures
+    c .next-value .ensures
     ∙ sym (first-other net (wordAt (args .words .now)) (args .state .now) (args .k) (args .c) e (c .before .before .if1 .left) (c .before .if2 .left))
 
 pub first-value-spec : {M : Type 1} → statement M
 first-value-spec =
-    tie.close (tie.spec returns mul-get16 get16-requires returns-2 later-requires returns-3)
+    tie.close (tie.spec returns mul-get16 get16-requires returns-2 next-value-requires returns-3)

@@ -5,7 +5,7 @@ use Prim.Native.Nat.{ℕ, _+_, _<_}
 use native.Mathlib.Omega.{arith}
 use lib.ListN.{length, length-set}
 use borrow.Author.Needs.{needs}
-use Rattle.model.specs.State.{base, shifted}
+use Rattle.model.specs.State.{base, shiftedIn}
 use Rattle.model.specs.Word.{bit}
 use Rattle.theory.specs.State.Passes.{bit-lt}
 use Rattle.simulator.proofs.Passes.{shifted-none, shifted-more}
@@ -14,7 +14,7 @@ use Rattle.simulator.proofs.wires.shift_line.Tie as tie
 
 abbrev Inv-loop : tie.InvT-loop
 Inv-loop state₀ k input i₀ left₀ carry₀ state i left carry =
-    (i + left ≡ base k + 40) × (carry < 2) × (length state ≡ length state₀) × (shifted left state i carry ≡ shifted 32 state₀ (base k + 8) (bit input))
+    (i + left ≡ base k + 40) × (carry < 2) × (length state ≡ length state₀) × (shiftedIn left state i carry ≡ shiftedIn 32 state₀ (base k + 8) (bit input))
 
 abbrev μ-loop : tie.MeasureT-loop
 μ-loop state₀ k input i₀ left₀ carry₀ state i left carry = left
@@ -34,7 +34,7 @@ bit-requires c κs = search needs
 loop-holds : tie.Need-loop-holds Inv-loop μ-loop
 loop-holds c =
     let args = c .before .before .args in
-    (omega arith, omega (arith, c .bit .ensures, bit-lt (args .input)), refl, ap (λ (x : ℕ). shifted 32 (args .state .now) (base (args .k) + 8) x) (c .bit .ensures))
+    (omega arith, omega (arith, c .bit .ensures, bit-lt (args .input)), refl, ap (λ (x : ℕ). shiftedIn 32 (args .state .now) (base (args .k) + 8) x) (c .bit .ensures))
 
 slice-read-v : tie.Need-slice-read-v Inv-loop μ-loop
 slice-read-v c = omega arith

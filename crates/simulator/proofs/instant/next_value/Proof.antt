@@ -1,15 +1,15 @@
--- `later` meets its contract. Assumes nothing.
+-- `next_value` meets its contract. Assumes nothing.
 use mathlib.Core.Path.{sym, _∙_}
 use native.Mathlib.Omega.{arith}
 use borrow.Author.Needs.{needs}
 use Rattle.model.specs.Circuit.{memory}
 use Rattle.theory.specs.Numbering.Cells.{join}
-use Rattle.simulator.proofs.ByKind.{no-operator-low, no-operator-high, later-constant, later-delay, later-or, later-when-true, later-when-false, later-merge, later-fallen, later-kept, later-gate-open, later-gate-shut, later-operator, later-still}
-use Rattle.simulator.proofs.instant.later.Statement.{statement}
-use Rattle.simulator.proofs.instant.later.Tie as tie
+use Rattle.simulator.proofs.ByKind.{no-operator-low, no-operator-high, next-constant, next-delay, next-or, next-when-true, next-when-false, next-merge, next-fallen, next-kept, next-gate-open, next-gate-shut, next-operator, next-still}
+use Rattle.simulator.proofs.instant.next_value.Statement.{statement}
+use Rattle.simulator.proofs.instant.next_value.Tie as tie
 
 returns : tie.Need-returns
-returns c = sym (later-constant _ _ _ (c .if1 .taken))
+returns c = sym (next-constant _ _ _ (c .if1 .taken))
 
 cast-line-bit : tie.Need-cast-line-bit
 cast-line-bit c = search needs
@@ -23,7 +23,7 @@ line-bit-requires : tie.Need-line-bit-requires
 line-bit-requires c κs = search needs
 
 returns-2 : tie.Need-returns-2
-returns-2 c = c .line-bit .ensures ∙ sym (later-delay _ _ _ (c .before .before .if2 .taken))
+returns-2 c = c .line-bit .ensures ∙ sym (next-delay _ _ _ (c .before .before .if2 .taken))
 
 cast-a : tie.Need-cast-a
 cast-a c = search needs
@@ -43,7 +43,7 @@ before-at-requires c κs = search needs
 returns-3 : tie.Need-returns-3
 returns-3 c =
     let if3 = c .before .before .before .if3 in
-    c .before-at .ensures ∙ sym (later-fallen _ _ _ (if3 .taken) (sym (c .before .before .has-fallen .ensures) ∙ c .before .if4 .taken))
+    c .before-at .ensures ∙ sym (next-fallen _ _ _ (if3 .taken) (sym (c .before .before .has-fallen .ensures) ∙ c .before .if4 .taken))
 
 before-at-requires-2 : tie.Need-before-at-requires-2
 before-at-requires-2 c κs = search needs
@@ -51,7 +51,7 @@ before-at-requires-2 c κs = search needs
 returns-4 : tie.Need-returns-4
 returns-4 c =
     let if3 = c .before .before .before .if3 in
-    c .before-at2 .ensures ∙ sym (later-kept _ _ _ (if3 .taken) (sym (c .before .before .has-fallen .ensures) ∙ c .before .if4 .left))
+    c .before-at2 .ensures ∙ sym (next-kept _ _ _ (if3 .taken) (sym (c .before .before .has-fallen .ensures) ∙ c .before .if4 .left))
 
 now-at-requires : tie.Need-now-at-requires
 now-at-requires c κs =
@@ -80,37 +80,37 @@ operate-requires c κs = search needs
 returns-5 : tie.Need-returns-5
 returns-5 c =
     let args = c .before .before .before .before .before .before .before .before .before .before .args in
-    cc (later-or (args .state .now) (args .k) (args .c) (c .before .match .keys1))
+    cc (next-or (args .state .now) (args .k) (args .c) (c .before .match .keys1))
 
 returns-6 : tie.Need-returns-6
 returns-6 c =
     let args = c .before .before .before .before .before .before .before .before .before .before .args in
-    cc (later-when-true (args .state .now) (args .k) (args .c) (c .before .match .keys2))
+    cc (next-when-true (args .state .now) (args .k) (args .c) (c .before .match .keys2))
 
 returns-7 : tie.Need-returns-7
 returns-7 c =
     let args = c .before .before .before .before .before .before .before .before .before .before .args in
-    cc (later-when-false (args .state .now) (args .k) (args .c) (c .before .match .keys3))
+    cc (next-when-false (args .state .now) (args .k) (args .c) (c .before .match .keys3))
 
 returns-8 : tie.Need-returns-8
 returns-8 c =
     let args = c .before .before .before .before .before .before .before .before .before .before .args in
-    cc (later-merge (args .state .now) (args .k) (args .c) (c .before .match .keys4))
+    cc (next-merge (args .state .now) (args .k) (args .c) (c .before .match .keys4))
 
 returns-9 : tie.Need-returns-9
 returns-9 c =
     let now-at = c .before .before .before .now-at in
-    c .before .before .now-at2 .ensures ∙ sym (later-gate-open _ _ _ (c .before .match .keys5) (sym (now-at .ensures) ∙ c .if5 .taken))
+    c .before .before .now-at2 .ensures ∙ sym (next-gate-open _ _ _ (c .before .match .keys5) (sym (now-at .ensures) ∙ c .if5 .taken))
 
 returns-10 : tie.Need-returns-10
 returns-10 c =
     let now-at = c .before .before .before .now-at in
-    sym (later-gate-shut _ _ _ (c .before .match .keys5) (λ e. c .if5 .left (now-at .ensures ∙ e)))
+    sym (next-gate-shut _ _ _ (c .before .match .keys5) (λ e. c .if5 .left (now-at .ensures ∙ e)))
 
 returns-11 : tie.Need-returns-11
 returns-11 c =
     let args = c .before .before .before .before .before .before .before .before .before .before .before .before .args in
-    cc (later-operator (args .state .now) (args .k) (args .c) (c .before .before .if6 .left) (omega arith))
+    cc (next-operator (args .state .now) (args .k) (args .c) (c .before .before .if6 .left) (omega arith))
 
 returns-12 : tie.Need-returns-12
 returns-12 c =
@@ -119,7 +119,7 @@ returns-12 c =
     let match = c .before .match in
     let if3 = c .before .before .before .before .if3 in
     sym
-    (later-still _ _ _
+    (next-still _ _ _
     (record {
       operator = no-operator-low _ (c .if6 .taken);
       constant = if1 .left;
@@ -139,7 +139,7 @@ returns-13 c =
     let match = c .before .before .match in
     let if3 = c .before .before .before .before .before .if3 in
     sym
-    (later-still _ _ _
+    (next-still _ _ _
     (record {
       operator = no-operator-high _ (c .if7 .left);
       constant = if1 .left;
@@ -152,8 +152,8 @@ returns-13 c =
       gated = match .rest .1;
     }))
 
-pub later-spec : {M : Type 1} → statement M
-later-spec =
+pub next-value-spec : {M : Type 1} → statement M
+next-value-spec =
     tie.close
     (tie.spec
     returns

@@ -1,0 +1,40 @@
+-- What is promised of a program without its circuit, as a type: its tree is its nodes, the reference run tells the end that the rules give, and a
+-- full run on the circuit answers as the reference run does.
+-- Assumes nothing: definitions.
+use mathlib.Core.Path.{_≡_}
+use mathlib.Core.List.{List}
+use Prim.Native.Nat.{ℕ, _+_, _≤_}
+use lib.ListN.{replicate}
+use Rattle.model.specs.declared.Checked.the-variants.{Accepted}
+use Rattle.model.specs.declared.Outcome.the-variants.{Ended, Open}
+use Rattle.model.specs.declared.Answer.{Answer}
+use Rattle.model.specs.Program.{nodesAt, programOf, preorder}
+use Rattle.model.specs.Rules.{Store, Ends}
+use Rattle.model.specs.TimeTables.{TimeTable, load}
+use Rattle.model.specs.Calls.{verdict, checkCall, runProgramCall, wordAt, listed, referenceCall}
+use Rattle.model.specs.Promises.{Bytes, seenIn}
+
+-- the answers of a run that ended at t with the words σ, and of one that is open after n instants: the rules have no words to show of it
+abbrev pub endedAnswer : ℕ → Store → Answer
+endedAnswer t σ = record { outcome = Ended; instant = t; count = t + 1; words = listed σ 0 16 }
+
+abbrev pub openAnswer : ℕ → Answer
+openAnswer n = record { outcome = Open; instant = n; count = n + 1; words = replicate 16 0 }
+
+pub record Programs : Type 0 where
+  -- "Each node is followed by its children in the order named; node 0 is the root": an accepted program's nodes are those of its tree
+  pub tree : (T : TimeTable) (program : List ℕ) → checkCall (load T) program ≡ Accepted → nodesAt program 0 ≡ preorder (programOf program)
+  -- "The program's end is the instant at which its root ends": the reference run answers an end within its budget
+  pub ends : (T : TimeTable) (program words : List ℕ) (n t : ℕ) (σ′ : Store) → verdict (referenceCall (load T) program words n .outcome) ≡ Accepted
+      → Ends (programOf program) (wordAt words) t σ′ → t ≤ n → referenceCall (load T) program words n ≡ endedAnswer t σ′
+  -- and no other: what it answers is an end, or there is none within the budget
+  pub ended : (T : TimeTable) (program words : List ℕ) (n : ℕ) → referenceCall (load T) program words n .outcome ≡ Ended
+      → (t : ℕ) × (σ′ : Store) × (t ≤ n) × Ends (programOf program) (wordAt words) t σ′
+  pub stillOpen : (T : TimeTable) (program words : List ℕ) (n : ℕ) → referenceCall (load T) program words n .outcome ≡ Open
+      → (referenceCall (load T) program words n ≡ openAnswer n)
+      × ((t : ℕ) (σ′ : Store) → Ends (programOf program) (wordAt words) t σ′ → t ≤ n → ⊥)
+  -- a full run that is not refused answers what the reference run does; the words of one that is open are the memories'
+  pub agree : (T : TimeTable) (program words : List ℕ) (n : ℕ) (forFile lent : List ℕ) → Bytes program →
+      let full = runProgramCall (load T) program words n forFile lent .answer in
+      let reference = referenceCall (load T) program words n in
+      verdict (full .outcome) ≡ Accepted → (seenIn full ≡ seenIn reference) × (full .outcome ≡ Ended → full ≡ reference)

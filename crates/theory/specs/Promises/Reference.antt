@@ -1,0 +1,152 @@
+-- The tree of an accepted program is its nodes, its reference run tells the end that the rules give, and a full run answers as the reference run.
+-- Assumes nothing.
+use mathlib.Core.Path.{_≡_, refl, sym, _∙_, ap}
+use mathlib.Core.Bool.{false}
+use mathlib.Core.List.{List}
+use Prim.Native.Nat.{ℕ, _≤_}
+use lib.Dec.{ltb}
+use lib.ListN.{length}
+use borrow.Author.Tests.{ltb-false}
+use Rattle.model.specs.declared.Loaded.{Loaded}
+use Rattle.model.specs.declared.Checked.{Checked}
+use Rattle.model.specs.declared.Checked.the-variants.{Accepted}
+use Rattle.model.specs.declared.Outcome.the-variants.{Ended, Open}
+use Rattle.model.specs.declared.Answer.{Answer}
+use Rattle.model.specs.Refusals.{first}
+use Rattle.model.specs.Program.{Stmt, programOf}
+use Rattle.model.specs.Rules.{Store, Ends, ended, run}
+use Rattle.model.specs.Circuit.{high}
+use Rattle.model.specs.NetlistFile.{cellsOf, finishOf}
+use Rattle.model.specs.TimeTables.{load}
+use Rattle.model.specs.State.{stateSize, nowAt, beginState}
+use Rattle.model.specs.Calls.{verdict, checkCall, compiledFile, wordAt, shows, running, beginCall, runProgramChecks, runProgramCall, fullState, fullCount, referenceAnswer, answering, referenceChecks, referenceCall}
+use Rattle.model.specs.Promises.{Bytes, Seen, seenIn}
+use Rattle.model.specs.ProgramPromises.{endedAnswer, openAnswer, Programs}
+use Rattle.theory.specs.Refusals.Laws.{not-refused, all-accept, accept-take, first-drop, refuse-unless}
+use Rattle.theory.specs.Program.Passed.{accepted, program-nodes}
+use Rattle.theory.specs.Program.Accepted.{program-fit}
+use Rattle.theory.specs.Rules.Laws.{by-run, steady}
+use Rattle.theory.specs.Rules.Relation.{run-ends, ends-run}
+use Rattle.theory.specs.Promises.Replay.{no-refusal}
+use Rattle.theory.specs.Promises.Kept.{ran, open-no-end, whole-run, program-run, agrees, stays-open}
+use Rattle.theory.specs.Promises.Demands.{compiled-accepted}
+
+-- The reference run --------------------------------------------------------------------------------------------------------------------
+
+-- an answer that is no refusal is that of an accepted call
+answered : (c : Checked) (a : Answer) → verdict (answering c a .outcome) ≡ Accepted → (c ≡ Accepted) × (answering c a ≡ a)
+unfolding answering verdict
+answered Accepted a e = (refl, refl)
+answered (Checked.Refused r) a e = not-refused e
+
+module _ (table : Loaded) (program words : List ℕ) (n : ℕ) (answered-so : verdict (referenceCall table program words n .outcome) ≡ Accepted) where
+  abbrev P : Stmt
+  P = programOf program
+
+  abbrev σ : Store
+  σ = wordAt words
+
+  called : (first (referenceChecks table program words n) ≡ Accepted) × (referenceCall table program words n ≡ referenceAnswer n (run n P σ))
+  unfolding referenceCall
+  called = answered (first (referenceChecks table program words n)) (referenceAnswer n (run n P σ)) answered-so
+
+  passes : checkCall table program ≡ Accepted
+  unfolding checkCall
+  passes = accept-take 2 (referenceChecks table program words n) (called .0)
+
+  pub reference-ends : (t : ℕ) (σ′ : Store) → Ends P σ t σ′ → t ≤ n → referenceCall table program words n ≡ endedAnswer t σ′
+  unfolding referenceAnswer
+  reference-ends t σ′ E l = called .1 ∙ ap (referenceAnswer n) (ends-run P (program-fit table program passes .timed) σ t σ′ E n l)
+
+  pub reference-ended : referenceCall table program words n .outcome ≡ Ended → (t : ℕ) × (σ′ : Store) × (t ≤ n) × Ends P σ t σ′
+  unfolding referenceAnswer
+  reference-ended e =
+      by-run (run n P σ) (λ t σ′ p. (t, σ′, steady P (program-fit table program passes .timed) σ n t σ′ p .0, run-ends P n σ t σ′ p))
+      (λ p. absurd (open-no-end (sym (ap (λ (a : Answer). a .outcome) (called .1 ∙ ap (referenceAnswer n) p)) ∙ e)))
+
+  pub reference-open : referenceCall table program words n .outcome ≡ Open
+      → (referenceCall table program words n ≡ openAnswer n) × ((t : ℕ) (σ′ : Store) → Ends P σ t σ′ → t ≤ n → ⊥)
+  unfolding referenceAnswer
+  reference-open e =
+      (
+        by-run (run n P σ) (λ t σ′ p. absurd (open-no-end (sym e ∙ ap (λ (a : Answer). a .outcome) (called .1 ∙ ap (referenceAnswer n) p))))
+            (λ p. called .1 ∙ ap (referenceAnswer n) p),
+        λ t σ′ E l. open-no-end (sym e ∙ ap (λ (a : Answer). a .outcome) (reference-ends t σ′ E l)),
+      )
+
+-- A full run and a reference run -------------------------------------------------------------------------------------------------------
+
+module _ (table : Loaded) (program words : List ℕ) (n : ℕ) (forFile lent : List ℕ) (bytes : Bytes program)
+    (checks : first (runProgramChecks table program words n forFile lent) ≡ Accepted) where
+  abbrev file : List ℕ
+  file = compiledFile program
+
+  accepts : checkCall table program ≡ Accepted
+  unfolding checkCall
+  accepts = accept-take 2 (runProgramChecks table program words n forFile lent) checks
+
+  budget : ltb 1000000 n ≡ false
+  budget = refuse-unless _ 13 0 (all-accept (runProgramChecks table program words n forFile lent) checks 2)
+
+  words-fit : ltb (length words) 32 ≡ false
+  words-fit = refuse-unless _ 14 0 (all-accept (runProgramChecks table program words n forFile lent) checks 3)
+
+  state-fits : ltb (length lent) (stateSize (cellsOf file)) ≡ false
+  state-fits = refuse-unless _ 14 0 (all-accept (runProgramChecks table program words n forFile lent) checks 5)
+
+  begins : verdict (beginCall file words lent .answer .outcome) ≡ Accepted
+  unfolding beginCall running shows
+  begins =
+      rw (compiled-accepted table program bytes accepts, words-fit, state-fits)
+      (no-refusal (high (nowAt (beginState (cellsOf file) (wordAt words) lent) (finishOf file))))
+
+  abbrev full : Answer
+  full = runProgramCall table program words n forFile lent .answer
+
+  abbrev reference : Answer
+  reference = referenceCall table program words n
+
+  full-is : full ≡ whole-run table program file words lent accepts refl begins n
+  full-is =
+      program-run table program file words lent accepts refl begins forFile
+      (refuse-unless _ 14 0 (all-accept (runProgramChecks table program words n forFile lent) checks 4)) n (ltb-false 1000000 n budget)
+
+  reference-is : reference ≡ referenceAnswer n (run n (programOf program) (wordAt words))
+  unfolding referenceCall answering checkCall
+  reference-is = rw (first-drop 2 (referenceChecks table program words n) accepts, budget, words-fit)
+
+  pub same-answers : (seenIn full ≡ seenIn reference) × (full .outcome ≡ Ended → full ≡ reference)
+  unfolding referenceAnswer
+  same-answers =
+      by-run (run n (programOf program) (wordAt words))
+      (λ t σ′ p.
+      let e : full ≡ reference =
+      full-is ∙ agrees table program file words lent accepts refl begins n t (ltb-false 1000000 n budget) σ′ p ∙ sym (reference-is ∙ ap (referenceAnswer n) p) in
+      (ap seenIn e, λ z. e))
+      (λ p.
+      let o = ap seenIn full-is ∙ stays-open table program file words lent accepts refl begins n (ltb-false 1000000 n budget) p in
+      (o ∙ sym (ap seenIn (reference-is ∙ ap (referenceAnswer n) p)), λ z. absurd (open-no-end (sym (ap (λ (s : Seen). s .outcome) o) ∙ z))))
+
+-- The promise --------------------------------------------------------------------------------------------------------------------------
+
+accepted-open : verdict Open ≡ Accepted
+unfolding verdict
+accepted-open = refl
+
+accepted-ended : verdict Ended ≡ Accepted
+unfolding verdict
+accepted-ended = refl
+
+pub programs : Programs
+programs =
+    record {
+      tree = λ T program e. sym (program-nodes program (accepted (load T) program e .readable));
+      ends = λ T program words n t σ′ v. reference-ends (load T) program words n v t σ′;
+      ended = λ T program words n e. reference-ended (load T) program words n (ap verdict e ∙ accepted-ended) e;
+      stillOpen = λ T program words n e. reference-open (load T) program words n (ap verdict e ∙ accepted-open) e;
+      agree = λ T program words n forFile lent y v.
+          same-answers (load T) program words n forFile lent y
+          (unfold runProgramCall in
+          ran (first (runProgramChecks (load T) program words n forFile lent)) (compiledFile program) (fullState (compiledFile program) words n lent)
+          (fullCount (compiledFile program) words n lent) lent v);
+    }

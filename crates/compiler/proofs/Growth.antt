@@ -8,7 +8,7 @@ use lib.ListN.{length, length-append}
 use lib.Seq.{sets}
 use Rattle.model.specs.declared.Cell.{Cell}
 use Rattle.model.specs.Program.{Stmt, ok, tick, assign, seq, par, ite, while, repeat}
-use Rattle.model.specs.Numbering.{own, pastSwitches, delayCount, walkCount, finishWire, delays, walk}
+use Rattle.model.specs.Numbering.{ifDelayCount, pastSwitches, delayCount, walkCount, finishWire, delays, walk}
 use Rattle.theory.specs.Numbering.Structure.{d-len, w-len}
 use Rattle.netlist.proofs.Writes.{sets-append}
 use Rattle.compiler.specs.declared.walk.Place.{Place}
@@ -40,8 +40,8 @@ marks-length (par P Q) d c = simp (length-append, marks-length P d c, marks-leng
 marks-length (ite δ e P Q) d c =
     simp (
       length-append,
-      marks-length P (d + own δ) (pastSwitches e c),
-      marks-length Q (d + own δ + delayCount P) (pastSwitches e c + walkCount P),
+      marks-length P (d + ifDelayCount δ) (pastSwitches e c),
+      marks-length Q (d + ifDelayCount δ + delayCount P) (pastSwitches e c + walkCount P),
     )
     (omega arith)
 marks-length (while δ e P) d c = marks-length P (d + 1) (pastSwitches e c)

@@ -6,7 +6,7 @@ use native.Mathlib.Omega.{arith}
 use lib.ListN.{length, getD, length-append, drop}
 use lib.Seq.{sets, sets-eq, getD-append-add}
 use Rattle.model.specs.Program.{Stmt, ok, tick, assign, seq, par, ite, while, repeat}
-use Rattle.model.specs.Numbering.{pastSwitches, own, delayCount, walkCount, Source, clockSources, dataSources}
+use Rattle.model.specs.Numbering.{pastSwitches, ifDelayCount, delayCount, walkCount, Source, clockSources, dataSources}
 use Rattle.compiler.specs.Walk.{assignments, marksOf}
 use Rattle.compiler.specs.Ors.{sourcesFrom}
 use Rattle.compiler.proofs.Growth.{marks-length}
@@ -37,7 +37,7 @@ clocks-in (par P Q) d c l =
     then-sources 1 (marksOf P d c) (marksOf Q (d + delayCount P) (c + walkCount P)) l (clockSources P d) (clockSources Q (d + delayCount P))
     (clocks-in P d c) (clocks-in Q (d + delayCount P) (c + walkCount P))
 clocks-in (ite δ e P Q) d c l =
-    let d₁ = d + own δ in
+    let d₁ = d + ifDelayCount δ in
     let c₁ = pastSwitches e c in
     then-sources 1 (marksOf P d₁ c₁) (marksOf Q (d₁ + delayCount P) (c₁ + walkCount P)) l (clockSources P d₁) (clockSources Q (d₁ + delayCount P))
     (clocks-in P d₁ c₁) (clocks-in Q (d₁ + delayCount P) (c₁ + walkCount P))
@@ -56,7 +56,7 @@ datas-in (par P Q) d c l =
     then-sources 2 (marksOf P d c) (marksOf Q (d + delayCount P) (c + walkCount P)) l (dataSources P c) (dataSources Q (c + walkCount P))
     (datas-in P d c) (datas-in Q (d + delayCount P) (c + walkCount P))
 datas-in (ite δ e P Q) d c l =
-    let d₁ = d + own δ in
+    let d₁ = d + ifDelayCount δ in
     let c₁ = pastSwitches e c in
     then-sources 2 (marksOf P d₁ c₁) (marksOf Q (d₁ + delayCount P) (c₁ + walkCount P)) l (dataSources P c₁) (dataSources Q (c₁ + walkCount P))
     (datas-in P d₁ c₁) (datas-in Q (d₁ + delayCount P) (c₁ + walkCount P))

@@ -2,7 +2,7 @@
 use Prim.Native.Nat.{ℕ, zero, suc, _*_, _≤_}
 use native.Mathlib.Omega.{arith}
 use Rattle.model.specs.Program.{Expr, const, var, compl, op, Stmt, ok, tick, assign, seq, par, ite, while, repeat}
-use Rattle.model.specs.Numbering.{exprCount, own, delayCount, walkCount}
+use Rattle.model.specs.Numbering.{exprCount, ifDelayCount, delayCount, walkCount}
 use Rattle.theory.specs.Numbering.Count.{eNodes, nodes}
 use Rattle.compiler.specs.Walk.{assignments}
 
@@ -13,8 +13,8 @@ few-expr (var x) = omega arith
 few-expr (compl e) = omega (arith, few-expr e)
 few-expr (op k e f) = omega (arith, few-expr e, few-expr f)
 
-few-own : (δ : ℕ) → own δ ≤ 1
-unfolding own
+few-own : (δ : ℕ) → ifDelayCount δ ≤ 1
+unfolding ifDelayCount
 few-own zero = omega arith
 few-own (suc δ) = omega arith
 

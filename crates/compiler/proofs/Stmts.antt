@@ -7,7 +7,7 @@ use native.Mathlib.Numerals.{towards-suc}
 use lib.ListN.{length, set, length-append}
 use Rattle.model.specs.Program.{Expr, Stmt, ok, tick, assign, seq, par, ite, while, repeat}
 use Rattle.model.specs.Circuit.{cell}
-use Rattle.model.specs.Numbering.{exprCount, exprWire, exprCells, pastSwitches, switches, own, ownCell, pulse, delayCount, finishWire, delays, walk}
+use Rattle.model.specs.Numbering.{exprCount, exprWire, exprCells, pastSwitches, switches, ifDelayCount, ifDelayCells, ifPulse, delayCount, finishWire, delays, walk}
 use Rattle.theory.specs.Numbering.Structure.{e-len, own-len}
 use Rattle.compiler.specs.declared.walk.Word.{Word}
 use Rattle.compiler.specs.declared.walk.Place.{Place}
@@ -48,12 +48,12 @@ module _ {M : ℕ} {p : Place} {before marked : List ℕ} where
 -- an if's own delay cell
 module _ {s d : ℕ} {before : List ℕ} where
   pub own-none : {δ : ℕ} → δ ≡ 0 → Owned δ s d before before (record { wire = s; delay = d })
-  unfolding ownCell pulse own
+  unfolding ifDelayCells ifPulse ifDelayCount
   own-none e = rw e (record { cells = sym (write-none d before); wire = refl; delay = omega arith })
 
   pub own-some : (δ : ℕ) {end : List ℕ} → (δ ≡ 0 → ⊥) → end ≡ write d (cell 34 δ s 0 ∷ []) before
       → Owned δ s d before end (record { wire = d; delay = d + 1 })
-  unfolding ownCell pulse own
+  unfolding ifDelayCells ifPulse ifDelayCount
   own-some zero n w = absurd (n refl)
   own-some (suc δ) n w = record { cells = w; wire = refl; delay = refl }
 
@@ -113,7 +113,7 @@ module _ {M : ℕ} {P Q : Stmt} {p q r : Place} {before m₁ m₂ marked k₁ k�
       let v = rw (sw .switch, left u) at v₀ in
       let z = grown-none {d = d} {c = c} {k = p .mark} {before = start} {marked = marked} in
       let o = grow-delay z _ (behind d (own-len δ w)) (omega arith) (ow .cells) in
-      let s = grow-walk o _ (after-switches M (pulse δ w d) E c) (sw .cells) in
+      let s = grow-walk o _ (after-switches M (ifPulse δ w d) E c) (sw .cells) in
       let g = grow-part (grow-part s (omega arith) u) (omega arith) v in
       closed (grow-walk g _ refl (rw (left v, u .wire) at a)) (simp append-assoc) (simp append-assoc) refl (rw (left v) refl)
 

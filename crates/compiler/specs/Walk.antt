@@ -4,7 +4,7 @@ use mathlib.Core.List.{List, [], _∷_, _++_}
 use Prim.Native.Nat.{ℕ, _+_, _*_, _≤_}
 use lib.Seq.{sets}
 use Rattle.model.specs.Program.{Expr, Stmt, ok, tick, assign, seq, par, ite, while, repeat}
-use Rattle.model.specs.Numbering.{exprCount, exprWire, exprCells, onTrue, pastSwitches, switches, own, ownCell, pulse, delayCount, walkCount, finishWire, delays, walk}
+use Rattle.model.specs.Numbering.{exprCount, exprWire, exprCells, onTrue, pastSwitches, switches, ifDelayCount, ifDelayCells, ifPulse, delayCount, walkCount, finishWire, delays, walk}
 use Rattle.theory.specs.Program.Fit.{FormedExpr, Formed}
 use Rattle.compiler.specs.declared.walk.Word.{Word}
 use Rattle.compiler.specs.declared.walk.Place.{Place}
@@ -33,8 +33,8 @@ pub record SwitchReady (M : ℕ) (e : Expr) (c n : ℕ) : Type 0 where
   pub expr : ExprReady M e c n
   pub room : 6 * pastSwitches e c ≤ n
 
-pub record Switched (M : ℕ) (e : Expr) (c pulse : ℕ) (before after : List ℕ) (r : ℕ) : Type 0 where
-  pub cells : after ≡ write c (switches M e pulse c []) before
+pub record Switched (M : ℕ) (e : Expr) (c ifPulse : ℕ) (before after : List ℕ) (r : ℕ) : Type 0 where
+  pub cells : after ≡ write c (switches M e ifPulse c []) before
   pub switch : r ≡ onTrue e c
 
 -- Statements ---------------------------------------------------------------------------------------------------------------------------
@@ -57,15 +57,15 @@ marksOf (tick δ) d c = []
 marksOf (assign δ x e) d c = x ∷ d ∷ (c + exprCount e) ∷ []
 marksOf (seq P Q) d c = marksOf P d c ++ marksOf Q (d + delayCount P) (c + walkCount P)
 marksOf (par P Q) d c = marksOf P d c ++ marksOf Q (d + delayCount P) (c + walkCount P)
-marksOf (ite δ e P Q) d c = marksOf P (d + own δ) (pastSwitches e c) ++ marksOf Q (d + own δ + delayCount P) (pastSwitches e c + walkCount P)
+marksOf (ite δ e P Q) d c = marksOf P (d + ifDelayCount δ) (pastSwitches e c) ++ marksOf Q (d + ifDelayCount δ + delayCount P) (pastSwitches e c + walkCount P)
 marksOf (while δ e P) d c = marksOf P (d + 1) (pastSwitches e c)
 marksOf (repeat δ e P) d c = marksOf P (d + 1) (pastSwitches e c + 1)
 
 -- an if's own delay cell
 pub record Owned (δ start d : ℕ) (before after : List ℕ) (r : Pulse) : Type 0 where
-  pub cells : after ≡ write d (ownCell δ start) before
-  pub wire : r .wire ≡ pulse δ start d
-  pub delay : r .delay ≡ d + own δ
+  pub cells : after ≡ write d (ifDelayCells δ start) before
+  pub wire : r .wire ≡ ifPulse δ start d
+  pub delay : r .delay ≡ d + ifDelayCount δ
 
 -- P goes to place p of a list of n bytes; its delay cells end below its walk cells
 pub record Ready (M : ℕ) (P : Stmt) (p : Place) (n : ℕ) : Type 0 where

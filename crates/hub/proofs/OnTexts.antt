@@ -14,7 +14,7 @@ use Rattle.model.specs.Program.{programOf}
 use Rattle.model.specs.Numbering.{finish}
 use Rattle.model.specs.NetlistFile.{cellsOf}
 use Rattle.model.specs.State.{stateSize}
-use Rattle.model.specs.Calls.{Told, ToldBoth, short, writing, compiledFile, compileCall, refusedAnswer, running, fullState, fullCount, overBudget, runProgramCall}
+use Rattle.model.specs.Calls.{Returned, ReturnedBoth, short, writing, compiledFile, compileCall, refusedAnswer, running, fullState, fullCount, overBudget, runProgramCall}
 use Rattle.model.specs.TextCalls.{textProgram, compileTextChecks, compileTextCall, runTextChecks, runTextCall}
 use Rattle.theory.specs.Text.AsProgram.{compile-as-program, run-as-program}
 use Rattle.text.specs.Parsing.{parseChecks}

@@ -29,7 +29,7 @@ use Rattle.model.specs.State.{stateSize, instantOf, nowAt, beginState, l
 -- Answers ------------------------------------------------------------------------------------------------------------------------------
 
 -- an answer, and a lent list at exit
-pub record Told (A : Type 0) : Type 0 where
+pub record Returned (A : Type 0) : Type 0 where
   pub answer : A
   pub lent : List ℕ
 
@@ -58,7 +58,7 @@ unfoldable pub checkCall : Loaded → List ℕ → Checked
 checkCall table program = first (table .checked ∷ checkOf (table .times) program ∷ [])
 
 -- a result of n bytes or cells is written over a lent list, unless a check refuses it
-unfoldable pub writing : Checked → List ℕ → ℕ → ℕ → List ℕ → Told Written
+unfoldable pub writing : Checked → List ℕ → ℕ → ℕ → List ℕ → Returned Written
 writing Accepted result n f lent = record { answer = Done n f; lent = overwrite result lent }
 writing (Checked.Refused r) result n f lent = record { answer = Written.Refused r; lent = lent }
 
@@ -72,7 +72,7 @@ netlistChecks times program lent = checkOf times program ∷ short (length lent)
 abbrev pub compileChecks : Loaded → List ℕ → List ℕ → List Checked
 compileChecks table program lent = table .checked ∷ netlistChecks (table .times) program lent
 
-unfoldable pub compileCall : Loaded → List ℕ → List ℕ → Told Written
+unfoldable pub compileCall : Loaded → List ℕ → List ℕ → Returned Written
 compileCall table program lent =
     let file = compiledFile program in
     writing (first (compileChecks table program lent)) file (length file) (finish (programOf program)) lent
@@ -90,7 +90,7 @@ writeChecks cells f lent =
     ∷ short (length lent) (length (fileOf net f))
     ∷ []
 
-unfoldable pub writeCall : List ℕ → ℕ → List ℕ → Told Written
+unfoldable pub writeCall : List ℕ → ℕ → List ℕ → Returned Written
 writeCall cells f lent =
     let file = fileOf (cellsIn cells) f in
     writing (first (writeChecks cells f lent)) file (length file) f lent
@@ -99,7 +99,7 @@ writeCall cells f lent =
 abbrev pub readChecks : List ℕ → List ℕ → List Checked
 readChecks file lent = fileCheck file ∷ short (length lent) (6 * countOf file) ∷ []
 
-unfoldable pub readCall : List ℕ → List ℕ → Told Written
+unfoldable pub readCall : List ℕ → List ℕ → Returned Written
 readCall file lent = writing (first (readChecks file lent)) (cellBytes (cellsOf file)) (countOf file) (finishOf file) lent
 
 -- Runs on a netlist --------------------------------------------------------------------------------------------------------------------
@@ -124,7 +124,7 @@ shows file s n =
     }
 
 -- a run that leaves state s after n instants, unless a check refuses it
-unfoldable pub running : Checked → List ℕ → List ℕ → ℕ → List ℕ → Told Answer
+unfoldable pub running : Checked → List ℕ → List ℕ → ℕ → List ℕ → Returned Answer
 running Accepted file s n lent = record { answer = shows file s n; lent = s }
 running (Checked.Refused r) file s n lent = record { answer = refusedAnswer r; lent = lent }
 
@@ -132,7 +132,7 @@ running (Checked.Refused r) file s n lent = record { answer = refusedAnswer r; l
 abbrev pub beginChecks : List ℕ → List ℕ → List ℕ → List Checked
 beginChecks file words lent = fileCheck file ∷ short (length words) 32 ∷ short (length lent) (stateSize (cellsOf file)) ∷ []
 
-unfoldable pub beginCall : List ℕ → List ℕ → List ℕ → Told Answer
+unfoldable pub beginCall : List ℕ → List ℕ → List ℕ → Returned Answer
 beginCall file words lent = running (first (beginChecks file words lent)) file (beginState (cellsOf file) (wordAt words) lent) 1 lent
 
 -- continuing by n: 9 to 12, 14, 15, 16: "16. When continuing, instant plus N above 1,000,000."
@@ -144,7 +144,7 @@ continueChecks file n lent =
     ∷ refuseIf (ltb 1000000 (instantOf lent + n)) 16 0
     ∷ []
 
-unfoldable pub continueCall : List ℕ → ℕ → List ℕ → Told Answer
+unfoldable pub continueCall : List ℕ → ℕ → List ℕ → Returned Answer
 continueCall file n lent =
     running (first (continueChecks file n lent)) file (lastState (cellsOf file) (finishOf file) n lent)
     (evaluated (cellsOf file) (finishOf file) n lent) lent
@@ -170,12 +170,12 @@ abbrev pub runNetlistChecks : List ℕ → List ℕ → ℕ → List ℕ → Lis
 runNetlistChecks file words n lent =
     fileCheck file ∷ overBudget n ∷ short (length words) 32 ∷ short (length lent) (stateSize (cellsOf file)) ∷ []
 
-unfoldable pub runNetlistCall : List ℕ → List ℕ → ℕ → List ℕ → Told Answer
+unfoldable pub runNetlistCall : List ℕ → List ℕ → ℕ → List ℕ → Returned Answer
 runNetlistCall file words n lent =
     running (first (runNetlistChecks file words n lent)) file (fullState file words n lent) (fullCount file words n lent) lent
 
 -- a full run of a program, with a list lent for its netlist and one for the state: 19 to 21, 1 to 8, 13, 14
-pub record ToldBoth : Type 0 where
+pub record ReturnedBoth : Type 0 where
   pub answer : Answer
   pub netlist : List ℕ
   pub state : List ℕ
@@ -193,7 +193,7 @@ fullRunChecks times program words n forFile lent =
 abbrev pub runProgramChecks : Loaded → List ℕ → List ℕ → ℕ → List ℕ → List ℕ → List Checked
 runProgramChecks table program words n forFile lent = table .checked ∷ fullRunChecks (table .times) program words n forFile lent
 
-unfoldable pub runProgramCall : Loaded → List ℕ → List ℕ → ℕ → List ℕ → List ℕ → ToldBoth
+unfoldable pub runProgramCall : Loaded → List ℕ → List ℕ → ℕ → List ℕ → List ℕ → ReturnedBoth
 runProgramCall table program words n forFile lent =
     let file = compiledFile program in
     let c = first (runProgramChecks table program words n forFile lent) in

@@ -12,7 +12,7 @@ use Rattle.model.specs.declared.Written.{Written}
 use Rattle.model.specs.declared.Answer.{Answer}
 use Rattle.model.specs.Word.{bit, operate, get16}
 use Rattle.model.specs.Refusals.{refuse, firstFault}
-use Rattle.model.specs.Program.{nodeAt, nodesFrom, rowOf, asExpr, asStmt, exprOf, stmtOf, treeOf, grow, forest, treesAt, exprAt, stmtAt, programOf, time, least, reads, writes, touches, clash, clashes, programLengthWrong, spare, faultOf, children, reading, slowAt, clashAt, builtInTimes, checkOf}
+use Rattle.model.specs.Program.{nodeAt, nodesFrom, rowOf, asExpr, asStmt, exprOf, stmtOf, treeOf, grow, forest, treesAt, exprAt, stmtAt, programOf, time, least, reads, writes, touches, conflict, conflicts, programLengthWrong, unusedSet, nodeFault, children, reading, delayFault, conflictFault, builtInTimes, checkOf}
 use Rattle.model.specs.Rules.{eval, put, over, kept, after, wait, chain, both, whiles, repeats, run}
 use Rattle.model.specs.Numbering.{netlist, finish}
 use Rattle.model.specs.TimeTables.{builtIn, load}
@@ -112,5 +112,5 @@ Hold [] = Unit {0}
 Hold (c ∷ cs) = (computed c ≡ wanted c) × OnCircuit c × Hold cs
 
 pub cases-by-rules : map computed cases ≡ map wanted cases
-unfolding cases computed wanted times numbering bit operate get16 firstFault nodeAt nodesFrom rowOf asExpr asStmt exprOf stmtOf treeOf grow forest treesAt exprAt stmtAt time least reads writes touches clash clashes programLengthWrong spare faultOf children reading slowAt clashAt builtInTimes checkOf load eval put over kept after wait chain both whiles repeats run listed referenceAnswer answering referenceCall checkCall
+unfolding cases computed wanted times numbering bit operate get16 firstFault nodeAt nodesFrom rowOf asExpr asStmt exprOf stmtOf treeOf grow forest treesAt exprAt stmtAt time least reads writes touches conflict conflicts programLengthWrong unusedSet nodeFault children reading delayFault conflictFault builtInTimes checkOf load eval put over kept after wait chain both whiles repeats run listed referenceAnswer answering referenceCall checkCall
 cases-by-rules = refl

@@ -16,7 +16,7 @@ use Rattle.model.specs.Word.{pick}
 use Rattle.model.specs.Refusals.{refuseIf, first}
 use Rattle.model.specs.Circuit.{cell, Shape, shape, kConstant, kComplement, kOperator, kStart, kGround, kDelay, kOr, kWhenTrue, kWhenFalse, kMerge, kMemory, kGated, kUnknown}
 use Rattle.model.specs.NetlistFile.{cellBytes, cellsAt, inList, fileOf, fileCheck, cellsOf, countOf, finishOf, netCheck, countWrong, blocksFor}
-use Rattle.model.specs.Calls.{Told, short, writing}
+use Rattle.model.specs.Calls.{Returned, short, writing}
 
 -- Renumbering --------------------------------------------------------------------------------------------------------------------------
 
@@ -95,16 +95,16 @@ checkCellsCall cs f = first (checkCellsChecks cs f)
 abbrev pub writeCellsChecks : List Cell → ℕ → List ℕ → List Checked
 writeCellsChecks cs f lent = miscounted cs f ∷ netCheck cs f ∷ short (length lent) (length (fileOf cs f)) ∷ []
 
-unfoldable pub writeCellsCall : List Cell → ℕ → List ℕ → Told Written
+unfoldable pub writeCellsCall : List Cell → ℕ → List ℕ → Returned Written
 writeCellsCall cs f lent = writing (first (writeCellsChecks cs f lent)) (fileOf cs f) (length (fileOf cs f)) f lent
 
 -- an answer, and a lent list of cells at exit
-pub record ToldCells : Type 0 where
+pub record ReturnedCells : Type 0 where
   pub answer : Written
   pub lent : List Cell
 
 -- cells that are put into a lent list from place k on, unless a check refuses it
-unfoldable pub placing : Checked → ℕ → List Cell → ℕ → ℕ → List Cell → ToldCells
+unfoldable pub placing : Checked → ℕ → List Cell → ℕ → ℕ → List Cell → ReturnedCells
 placing Accepted k cs n f lent = record { answer = Done n f; lent = take k lent ++ (cs ++ drop (k + length cs) lent) }
 placing (Checked.Refused r) k cs n f lent = record { answer = Written.Refused r; lent = lent }
 
@@ -112,5 +112,5 @@ placing (Checked.Refused r) k cs n f lent = record { answer = Written.Refused r;
 abbrev pub readCellsChecks : List ℕ → ℕ → List Cell → List Checked
 readCellsChecks file k lent = fileCheck file ∷ short (length lent) (k + countOf file) ∷ []
 
-unfoldable pub readCellsCall : List ℕ → ℕ → List Cell → ToldCells
+unfoldable pub readCellsCall : List ℕ → ℕ → List Cell → ReturnedCells
 readCellsCall file k lent = placing (first (readCellsChecks file k lent)) k (behind k (cellsOf file)) (countOf file) (finishOf file) lent

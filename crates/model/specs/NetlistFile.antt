@@ -109,13 +109,13 @@ allZero [] = true
 allZero (x ∷ s) = eqb x 0 && allZero s
 
 -- the header of block b, whose bytes are B, and its unused bytes, which are those after the last cell
-unfoldable pub headed : ℕ → ℕ → ℕ → List ℕ → Bool
-headed count finish b B =
+unfoldable pub headerRight : ℕ → ℕ → ℕ → List ℕ → Bool
+headerRight count finish b B =
     eqb (get16 B 0) b && (eqb (get16 B 2) count && (eqb (get16 B 4) finish && allZero (drop (8 + 6 * (count - 84 * b)) B)))
 
 -- "11. Then header or unused byte wrong (first block"
 unfoldable pub headerFault : List ℕ → ℕ → ℕ
-headerFault s b = faultIf (not (headed (countOf s) (finishOf s) b (blockAt s b))) 11
+headerFault s b = faultIf (not (headerRight (countOf s) (finishOf s) b (blockAt s b))) 11
 
 -- Refusal 12 ---------------------------------------------------------------------------------------------------------------------------
 

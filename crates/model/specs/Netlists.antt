@@ -7,11 +7,11 @@ use Prim.Native.Nat.{ℕ, zero, suc}
 use Rattle.model.specs.declared.Cell.{Cell}
 use Rattle.model.specs.Program.{const, var, compl, op, Stmt, ok, tick, assign, seq, par, ite, while, repeat}
 use Rattle.model.specs.Circuit.{cell}
-use Rattle.model.specs.Numbering.{netlist, finish, exprCount, exprWire, exprCells, own, pulse, ownCell, delayCount, walkCount, finishWire, delays, walk, clockSources, dataSources, wiresOf, orChain, orChainOut, ors, orsOut, orCount, orsFrom, outsFrom, orCountFrom, memoriesOf}
+use Rattle.model.specs.Numbering.{netlist, finish, exprCount, exprWire, exprCells, ifDelayCount, ifPulse, ifDelayCells, delayCount, walkCount, finishWire, delays, walk, clockSources, dataSources, wiresOf, orChain, orChainOut, ors, orsOut, orCount, orsFrom, outsFrom, orCountFrom, memoriesOf}
 
 -- whoever unfolds this unfolds all that a netlist is made by
 unfoldable pub numbering : Stmt → List Cell
-unfolding netlist finish exprCount exprWire exprCells own pulse ownCell delayCount walkCount finishWire delays walk clockSources dataSources wiresOf orChain orChainOut ors orsOut orCount orsFrom outsFrom orCountFrom memoriesOf
+unfolding netlist finish exprCount exprWire exprCells ifDelayCount ifPulse ifDelayCells delayCount walkCount finishWire delays walk clockSources dataSources wiresOf orChain orChainOut ors orsOut orCount orsFrom outsFrom orCountFrom memoriesOf
 numbering P = netlist P
 
 -- a statement, and its netlist and finish drawn by hand

@@ -50,22 +50,22 @@ pastSwitches e c = c + exprCount e + 1 + 1
 
 -- these cells, with the pulse that they switch, and the rest of the walk
 abbrev pub switches : ℕ → Expr → ℕ → ℕ → List Cell → List Cell
-switches M e pulse c rest =
-    exprCells M e c ++ (cell 36 0 pulse (exprWire M e c) ∷ (cell 37 0 pulse (exprWire M e c) ∷ rest))
+switches M e ifPulse c rest =
+    exprCells M e c ++ (cell 36 0 ifPulse (exprWire M e c) ∷ (cell 37 0 ifPulse (exprWire M e c) ∷ rest))
 
 -- "if (none when d is 0)": how many delay cells an if has of its own, which they are, and the pulse that it switches:
 -- "switches take the delayed pulse, or the start in an if with d 0"
-unfoldable pub own : ℕ → ℕ
-own zero = 0
-own (suc δ) = 1
+unfoldable pub ifDelayCount : ℕ → ℕ
+ifDelayCount zero = 0
+ifDelayCount (suc δ) = 1
 
-unfoldable pub ownCell : ℕ → ℕ → List Cell
-ownCell zero s = []
-ownCell (suc δ) s = cell 34 (suc δ) s 0 ∷ []
+unfoldable pub ifDelayCells : ℕ → ℕ → List Cell
+ifDelayCells zero s = []
+ifDelayCells (suc δ) s = cell 34 (suc δ) s 0 ∷ []
 
-unfoldable pub pulse : ℕ → ℕ → ℕ → ℕ
-pulse zero s d = s
-pulse (suc δ) s d = d
+unfoldable pub ifPulse : ℕ → ℕ → ℕ → ℕ
+ifPulse zero s d = s
+ifPulse (suc δ) s d = d
 
 -- "tick, if (none when d is 0), while, repeat have one, and an assignment two": how many delay cells
 unfoldable pub delayCount : Stmt → ℕ
@@ -74,7 +74,7 @@ delayCount (tick δ) = 1
 delayCount (assign δ x e) = 2
 delayCount (seq P Q) = delayCount P + delayCount Q
 delayCount (par P Q) = delayCount P + delayCount Q
-delayCount (ite δ e P Q) = own δ + (delayCount P + delayCount Q)
+delayCount (ite δ e P Q) = ifDelayCount δ + (delayCount P + delayCount Q)
 delayCount (while δ e P) = 1 + delayCount P
 delayCount (repeat δ e P) = 1 + delayCount P
 
@@ -89,6 +89,16 @@ walkCount (ite δ e P Q) = exprCount e + (2 + (walkCount P + (walkCount Q + 1)))
 walkCount (while δ e P) = exprCount e + (2 + (walkCount P + 1))
 walkCount (repeat δ e P) = exprCount e + (3 + walkCount P)
 
+-- where the branches of an if begin: their first delay cells, and Q's first walk cell; P's is past the switches
+abbrev pub thenDelays : ℕ → ℕ → ℕ
+thenDelays δ d = d + ifDelayCount δ
+
+abbrev pub elseDelays : ℕ → Stmt → ℕ → ℕ
+elseDelays δ P d = d + ifDelayCount δ + delayCount P
+
+abbrev pub elseCells : Expr → Stmt → ℕ → ℕ
+elseCells e P c = pastSwitches e c + walkCount P
+
 -- "The finish of ok is its start, of tick its delay, of an assignment its second delay, of a sequence that of Q." Of a parallel it is its
 -- 38, the last cell; of an if its 35, the last cell; of a while its 37; of a repeat its 36.
 unfoldable pub finishWire : Stmt → ℕ → ℕ → ℕ → ℕ
@@ -97,9 +107,16 @@ finishWire (tick δ) s d c = d
 finishWire (assign δ x e) s d c = d + 1
 finishWire (seq P Q) s d c = finishWire Q (finishWire P s d c) (d + delayCount P) (c + walkCount P)
 finishWire (par P Q) s d c = c + walkCount P + walkCount Q
-finishWire (ite δ e P Q) s d c = pastSwitches e c + walkCount P + walkCount Q
+finishWire (ite δ e P Q) s d c = elseCells e P c + walkCount Q
 finishWire (while δ e P) s d c = onFalse e c
 finishWire (repeat δ e P) s d c = onTrue e c
+
+-- the finishes of an if's branches
+abbrev pub thenFinish : ℕ → Expr → Stmt → ℕ → ℕ → ℕ
+thenFinish δ e P d c = finishWire P (onTrue e c) (thenDelays δ d) (pastSwitches e c)
+
+abbrev pub elseFinish : ℕ → Expr → Stmt → Stmt → ℕ → ℕ → ℕ
+elseFinish δ e P Q d c = finishWire Q (onFalse e c) (elseDelays δ P d) (elseCells e P c)
 
 -- "delay cells in node order": an assignment's second is "of delay 1 and fed by the first". A while's is fed by the 35 that ends its walk,
 -- a repeat's by P's finish. "Delays not named here are fed by their node's start."
@@ -110,9 +127,8 @@ delays (assign δ x e) s d c = cell 34 δ s 0 ∷ (cell 34 1 d 0 ∷ [])
 delays (seq P Q) s d c = delays P s d c ++ delays Q (finishWire P s d c) (d + delayCount P) (c + walkCount P)
 delays (par P Q) s d c = delays P s d c ++ delays Q s (d + delayCount P) (c + walkCount P)
 delays (ite δ e P Q) s d c =
-    ownCell δ s
-    ++ (delays P (onTrue e c) (d + own δ) (pastSwitches e c)
-    ++ delays Q (onFalse e c) (d + own δ + delayCount P) (pastSwitches e c + walkCount P))
+    ifDelayCells δ s
+    ++ (delays P (onTrue e c) (thenDelays δ d) (pastSwitches e c) ++ delays Q (onFalse e c) (elseDelays δ P d) (elseCells e P c))
 delays (while δ e P) s d c = cell 34 δ (pastSwitches e c + walkCount P) 0 ∷ delays P (onTrue e c) (d + 1) (pastSwitches e c)
 delays (repeat δ e P) s d c =
     cell 34 δ (finishWire P (pastSwitches e c) (d + 1) (pastSwitches e c + 1)) 0
@@ -136,11 +152,9 @@ walk M (par P Q) s d c =
     ++ (walk M Q s (d + delayCount P) (c + walkCount P)
     ++ (cell 38 0 (finishWire P s d c) (finishWire Q s (d + delayCount P) (c + walkCount P)) ∷ []))
 walk M (ite δ e P Q) s d c =
-    switches M e (pulse δ s d) c
-    (walk M P (onTrue e c) (d + own δ) (pastSwitches e c)
-    ++ (walk M Q (onFalse e c) (d + own δ + delayCount P) (pastSwitches e c + walkCount P)
-    ++ (cell 35 0 (finishWire P (onTrue e c) (d + own δ) (pastSwitches e c))
-    (finishWire Q (onFalse e c) (d + own δ + delayCount P) (pastSwitches e c + walkCount P)) ∷ [])))
+    switches M e (ifPulse δ s d) c
+    (walk M P (onTrue e c) (thenDelays δ d) (pastSwitches e c)
+    ++ (walk M Q (onFalse e c) (elseDelays δ P d) (elseCells e P c) ++ (cell 35 0 (thenFinish δ e P d c) (elseFinish δ e P Q d c) ∷ [])))
 walk M (while δ e P) s d c =
     switches M e d c
     (walk M P (onTrue e c) (d + 1) (pastSwitches e c)
@@ -161,7 +175,7 @@ clockSources (tick δ) d = []
 clockSources (assign δ x e) d = (x, d) ∷ []
 clockSources (seq P Q) d = clockSources P d ++ clockSources Q (d + delayCount P)
 clockSources (par P Q) d = clockSources P d ++ clockSources Q (d + delayCount P)
-clockSources (ite δ e P Q) d = clockSources P (d + own δ) ++ clockSources Q (d + own δ + delayCount P)
+clockSources (ite δ e P Q) d = clockSources P (thenDelays δ d) ++ clockSources Q (elseDelays δ P d)
 clockSources (while δ e P) d = clockSources P (d + 1)
 clockSources (repeat δ e P) d = clockSources P (d + 1)
 
@@ -172,7 +186,7 @@ dataSources (tick δ) c = []
 dataSources (assign δ x e) c = (x, c + exprCount e) ∷ []
 dataSources (seq P Q) c = dataSources P c ++ dataSources Q (c + walkCount P)
 dataSources (par P Q) c = dataSources P c ++ dataSources Q (c + walkCount P)
-dataSources (ite δ e P Q) c = dataSources P (pastSwitches e c) ++ dataSources Q (pastSwitches e c + walkCount P)
+dataSources (ite δ e P Q) c = dataSources P (pastSwitches e c) ++ dataSources Q (elseCells e P c)
 dataSources (while δ e P) c = dataSources P (pastSwitches e c)
 dataSources (repeat δ e P) c = dataSources P (pastSwitches e c + 1)
 

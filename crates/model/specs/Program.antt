@@ -7,7 +7,7 @@ use Prim.Native.Nat.{ℕ, zero, suc, _+_, _-_, _*_, _/_, _%_, max}
 use lib.ListN.{length, getD, drop, replicate}
 use lib.Dec.{ltb, eqb}
 use Rattle.model.specs.declared.Node.{Node}
-use Rattle.model.specs.declared.Row.{Row}
+use Rattle.model.specs.declared.kinds.Row.{Row}
 use Rattle.model.specs.declared.Checked.{Checked}
 use Rattle.model.specs.declared.Checked.the-variants.{Accepted}
 use Rattle.model.specs.Word.{pick, get16, bytes16}
@@ -249,19 +249,19 @@ touches (while d e P) x = reads e x || touches P x
 touches (repeat d e P) x = reads e x || touches P x
 
 -- "A variable written on one side of a parallel node and read or written on the other": one below n
-unfoldable pub clash : ℕ → Stmt → Stmt → Bool
-clash zero P Q = false
-clash (suc n) P Q = ((writes P n && touches Q n) || (writes Q n && touches P n)) || clash n P Q
+unfoldable pub conflict : ℕ → Stmt → Stmt → Bool
+conflict zero P Q = false
+conflict (suc n) P Q = ((writes P n && touches Q n) || (writes Q n && touches P n)) || conflict n P Q
 
-unfoldable pub clashes : Stmt → Bool
-clashes ok = false
-clashes (tick d) = false
-clashes (assign d x e) = false
-clashes (seq P Q) = false
-clashes (par P Q) = clash 16 P Q
-clashes (ite d e P Q) = false
-clashes (while d e P) = false
-clashes (repeat d e P) = false
+unfoldable pub conflicts : Stmt → Bool
+conflicts ok = false
+conflicts (tick d) = false
+conflicts (assign d x e) = false
+conflicts (seq P Q) = false
+conflicts (par P Q) = conflict 16 P Q
+conflicts (ite d e P Q) = false
+conflicts (while d e P) = false
+conflicts (repeat d e P) = false
 
 -- Refusals -----------------------------------------------------------------------------------------------------------------------------
 
@@ -270,15 +270,15 @@ unfoldable pub programLengthWrong : List ℕ → Bool
 programLengthWrong s = eqb (length s) 0 || (ltb 800 (length s) || ltb 0 (length s % 4))
 
 -- "3. a field without a use not zero"
-unfoldable pub spare : ℕ → ℕ → Bool
-spare used v = pick (eqb used 0) (ltb 0 v) false
+unfoldable pub unusedSet : ℕ → ℕ → Bool
+unusedSet used v = pick (eqb used 0) (ltb 0 v) false
 
 -- "2. Unknown kind; 3. a field without a use not zero; 4. variable above 15. Node by node, in this order (node)."
-unfoldable pub faultOf : Node → ℕ
-faultOf a =
+unfoldable pub nodeFault : Node → ℕ
+nodeFault a =
     let row = rowOf (a .kind) in
     pick (eqb (row .sort) 0) 2
-    (pick (spare (row .delay) (a .delay) || spare (row .number) (a .n)) 3
+    (pick (unusedSet (row .delay) (a .delay) || unusedSet (row .number) (a .n)) 3
     (faultIf (eqb (row .number) 2 && ltb 15 (a .n)) 4))
 
 -- the sorts of a node's children, in order
@@ -295,21 +295,21 @@ reading (w ∷ ws) i (a ∷ rest) =
     pick (eqb (rowOf (a .kind) .sort) w) (reading (children (a .kind) ++ ws) (i + 1) rest) (refuse 5 i)
 
 -- "7. Delay too small (first node)."
-unfoldable pub slowAt : (ℕ → ℕ) → List ℕ → ℕ → ℕ
-slowAt τ s i = faultIf (ltb (nodeAt s i .delay) (least τ (stmtAt s i))) 7
+unfoldable pub delayFault : (ℕ → ℕ) → List ℕ → ℕ → ℕ
+delayFault τ s i = faultIf (ltb (nodeAt s i .delay) (least τ (stmtAt s i))) 7
 
 -- "8. A variable written on one side of a parallel node and read or written on the other (first such node, in node order)."
-unfoldable pub clashAt : List ℕ → ℕ → ℕ
-clashAt s i = faultIf (clashes (stmtAt s i)) 8
+unfoldable pub conflictFault : List ℕ → ℕ → ℕ
+conflictFault s i = faultIf (conflicts (stmtAt s i)) 8
 
 -- refusals 1 to 8 in their order, with operator times τ
 abbrev pub programChecks : (ℕ → ℕ) → List ℕ → List Checked
 programChecks τ s =
     refuseIf (programLengthWrong s) 1 0
-    ∷ firstFault (λ i. faultOf (nodeAt s i)) 0 (nodeCount s)
+    ∷ firstFault (λ i. nodeFault (nodeAt s i)) 0 (nodeCount s)
     ∷ reading (2 ∷ []) 0 (nodesAt s 0)
-    ∷ firstFault (slowAt τ s) 0 (nodeCount s)
-    ∷ firstFault (clashAt s) 0 (nodeCount s)
+    ∷ firstFault (delayFault τ s) 0 (nodeCount s)
+    ∷ firstFault (conflictFault s) 0 (nodeCount s)
     ∷ []
 
 -- with the times of a list

@@ -24,7 +24,7 @@ use Rattle.model.specs.Numbering.{netlist, finish}
 use Rattle.model.specs.NetlistFile.{fileChecks, fileCheck, cellsOf, finishOf}
 use Rattle.model.specs.TimeTables.{tableChecks, TimeTable, given, load}
 use Rattle.model.specs.State.{stateSize, instantOf, nowAt, beforeAt, heldAt, lineBit, beginState, stepState, lastState, evaluated, wordsIn, sound}
-use Rattle.model.specs.Calls.{Told, verdict, writtenVerdict, overwrite, checkCall, compileChecks, compileCall, writeChecks, writeCall, readChecks, readCall, wordAt, beginChecks, beginCall, continueChecks, continueCall, runNetlistChecks, runNetlistCall, runProgramChecks, runProgramCall, referenceChecks, referenceCall, listed}
+use Rattle.model.specs.Calls.{Returned, verdict, writtenVerdict, overwrite, checkCall, compileChecks, compileCall, writeChecks, writeCall, readChecks, readCall, wordAt, beginChecks, beginCall, continueChecks, continueCall, runNetlistChecks, runNetlistCall, runProgramChecks, runProgramCall, referenceChecks, referenceCall, listed}
 use Rattle.model.specs.CellSlices.{hasCells, renumberCall, checkCellsChecks, checkCellsCall, writeCellsChecks, writeCellsCall, readCellsChecks, readCellsCall}
 
 -- what lists of bytes are
@@ -189,7 +189,7 @@ pub record Call : Type 0 where
   pub lent : ℕ
 
 -- the calls on a netlist, "with that netlist and the state as the last call returned or left it": each answer, with the buffer afterwards
-unfoldable pub replay : List ℕ → List ℕ → List Call → List (Told Answer)
+unfoldable pub replay : List ℕ → List ℕ → List Call → List (Returned Answer)
 replay file s [] = []
 replay file s (c ∷ cs) =
     let r = continueCall file (c .n) (take (c .lent) s) in
@@ -208,7 +208,7 @@ seen o t n = record { outcome = o; instant = t; count = n }
 abbrev pub seenIn : Answer → Seen
 seenIn a = seen (a .outcome) (a .instant) (a .count)
 
-abbrev pub seenOf : Told Answer → Seen
+abbrev pub seenOf : Returned Answer → Seen
 seenOf r = seenIn (r .answer)
 
 -- "a refused one evaluates and changes nothing"
@@ -239,22 +239,22 @@ standsAt Ended before told = told
 standsAt Open before told = told
 standsAt (Outcome.Refused r) before told = before
 
-abbrev pub instantAfter : ℕ → Told Answer → ℕ
+abbrev pub instantAfter : ℕ → Returned Answer → ℕ
 instantAfter t r = standsAt (r .answer .outcome) t (r .answer .instant)
 
 -- R holds of every call of a list that begins at instant t, with the instant at which the state stands after it
-abbrev pub Along : (ℕ → Told Answer → Type 0) → ℕ → List (Told Answer) → Type 0
+abbrev pub Along : (ℕ → Returned Answer → Type 0) → ℕ → List (Returned Answer) → Type 0
 Along R t [] = Unit {0}
 Along R t (r ∷ rs) = R (instantAfter t r) r × Along R (instantAfter t r) rs
 
 -- where a call was not refused and its instant is not below t₀, the answer and the memories of the buffer show the words σ′
-abbrev pub Shown : List ℕ → ℕ → Store → Told Answer → Type 0
+abbrev pub Shown : List ℕ → ℕ → Store → Returned Answer → Type 0
 Shown file t₀ σ′ r =
     verdict (r .answer .outcome) ≡ Accepted → t₀ ≤ r .answer .instant
     → (r .answer .words ≡ listed σ′ 0 16) × (wordsIn (cellsOf file) 0 (r .lent) ≡ listed σ′ 0 16)
 
 -- where a call was refused, the buffer is as it was before
-abbrev pub Unchanged : List ℕ → List (Told Answer) → Type 0
+abbrev pub Unchanged : List ℕ → List (Returned Answer) → Type 0
 Unchanged s [] = Unit {0}
 Unchanged s (r ∷ rs) = Leaves (verdict (r .answer .outcome)) s (r .lent) × Unchanged (r .lent) rs
 
@@ -267,7 +267,7 @@ lastOf (Outcome.Refused r) begun on = begun
 
 -- One statement about a beginning, a whole list of continuings, and the full runs of budget n of the program and of its netlist: P is the
 -- program, σ its start words.
-pub record Keeps (P : Stmt) (σ : Store) (file : List ℕ) (begun : Told Answer) (calls : List Call) (programRun netlistRun : ℕ → Answer)
+pub record Keeps (P : Stmt) (σ : Store) (file : List ℕ) (begun : Returned Answer) (calls : List Call) (programRun netlistRun : ℕ → Answer)
     : Type 0 where
   -- the instants at which the program, by its own rules, ends
   pub due : ℕ → Bool

@@ -3,13 +3,13 @@
 -- Assumes nothing: definitions.
 use mathlib.Core.Bool.{Bool, true, false, _&&_, _||_}
 use mathlib.Core.List.{List, [], _∷_, _++_}
-use Prim.Native.Nat.{ℕ, suc, _+_}
+use Prim.Native.Nat.{ℕ, suc, _+_, _*_}
 use lib.Dec.{eqb, ltb, leb}
 use lib.ListN.{length, getD, take, drop, set}
 use Rattle.model.specs.declared.Node.{Node}
-use Rattle.model.specs.declared.Token.{Token}
-use Rattle.model.specs.declared.Mode.{Mode}
-use Rattle.model.specs.declared.Mode.the-variants.{Statement, AfterStatement, Operand, AfterOperand, Becomes, Ticks, Delay, Body, Broken}
+use Rattle.model.specs.declared.texts.Token.{Token}
+use Rattle.model.specs.declared.texts.Mode.{Mode}
+use Rattle.model.specs.declared.texts.Mode.the-variants.{Statement, AfterStatement, Operand, AfterOperand, Becomes, Ticks, Delay, Body, Broken}
 use Rattle.model.specs.Word.{pick}
 use Rattle.model.specs.Program.{node}
 use Rattle.model.specs.Text.{cThen, cElse, cDo, cUntil, cEnd, cAt, cOpen, cClose, cLeft, cRight, Lexeme}
@@ -47,24 +47,48 @@ broken r = reader Broken (r .start) (r .frames) (r .cursor) (r .nodes)
 -- How tightly an operator on the stack holds what follows it, and how far a new one reaches back for what stands before it. One that holds
 -- more tightly than the new one reaches is complete. "`;` binds tighter than `||`, and both group to the right. In expressions `!` (complement)
 -- binds tightest, then + and - to the left, then one = or < that doesn't chain, then &, then |, both to the left". What is no operator holds 0.
+-- Levels from 1 on, the tighter the higher. One that groups to the left is complete when another of its level follows; one that groups to the
+-- right is not; a comparison reaches back to none of its own level, so that it does not chain.
+abbrev pub holdsLeft : ℕ → ℕ
+holdsLeft level = 2 * level + 1
+
+abbrev pub reachesLeft : ℕ → ℕ
+reachesLeft level = 2 * level
+
+abbrev pub holdsRight : ℕ → ℕ
+holdsRight level = 2 * level
+
+abbrev pub reachesRight : ℕ → ℕ
+reachesRight level = 2 * level + 1
+
+abbrev pub additive : ℕ → Bool
+additive c = eqb c 4 || eqb c 5
+
+-- "one = or < that doesn't chain"
+abbrev pub comparison : ℕ → Bool
+comparison c = eqb c 8 || eqb c 9
+
+abbrev pub comparisonReach : ℕ
+comparisonReach = reachesRight 3
+
 unfoldable pub holdOf : ℕ → ℕ
 holdOf c =
-    pick (eqb c 3) 10
-    (pick (eqb c 4 || eqb c 5) 9
-    (pick (eqb c 8 || eqb c 9) 7
-    (pick (eqb c 6) 5
-    (pick (eqb c 7) 3
-    (pick (eqb c 19) 4
-    (pick (eqb c 20) 2 0))))))
+    pick (eqb c 3) (holdsRight 5)
+    (pick (additive c) (holdsLeft 4)
+    (pick (comparison c) (holdsLeft 3)
+    (pick (eqb c 6) (holdsLeft 2)
+    (pick (eqb c 7) (holdsLeft 1)
+    (pick (eqb c 19) (holdsRight 2)
+    (pick (eqb c 20) (holdsRight 1) 0))))))
 
 unfoldable pub reachOf : ℕ → ℕ
 reachOf c =
-    pick (eqb c 4 || eqb c 5) 8
-    (pick (eqb c 8 || eqb c 9) 7
-    (pick (eqb c 6) 4
-    (pick (eqb c 7) 2
-    (pick (eqb c 19) 5
-    (pick (eqb c 20) 3 0)))))
+    pick (additive c) (reachesLeft 4)
+    (pick (comparison c) comparisonReach
+    (pick (eqb c 6) (reachesLeft 2)
+    (pick (eqb c 7) (reachesLeft 1)
+    (pick (eqb c 19) (reachesRight 2)
+    (pick (eqb c 20) (reachesRight 1) 0)))))
 
 -- the operators on top that are complete are taken off; what was read then begins where the last of them does
 pub record Popped : Type 0 where
@@ -150,10 +174,6 @@ onOperand t r =
     (pick (eqb c 3) (openedNode Operand 3 (node 3 0 0) r)
     (pick (eqb c cOpen) (opened Operand cOpen r) (broken r)))
 
--- "one = or < that doesn't chain"
-abbrev pub comparison : ℕ → Bool
-comparison c = eqb c 8 || eqb c 9
-
 -- an operand was read; r′ is r with what is complete taken off
 unfoldable pub onAfterOperand : Token → Reader → Reader
 onAfterOperand t r =
@@ -161,7 +181,7 @@ onAfterOperand t r =
     let r′ = reduced r in
     let top = topCode (r′ .frames) in
     pick (leb 4 c && leb c 9)
-    (pick (comparison c && comparison (topCode (pop 7 (r .start) (r .frames) .frames))) (broken r) (between Operand c r))
+    (pick (comparison c && comparison (topCode (pop comparisonReach (r .start) (r .frames) .frames))) (broken r) (between Operand c r))
     (pick (eqb c cClose && eqb top cOpen) (closed AfterOperand r′)
     (pick (eqb c cAt && ((eqb top 18 || eqb top 21) || (eqb top 22 || eqb top cUntil)))
     (reader Delay (r′ .start) (r′ .frames) (r′ .cursor) (r′ .nodes))

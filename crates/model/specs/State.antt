@@ -110,15 +110,17 @@ settled net s k = settle (shape (cellAt net k .kind)) s k (cellAt net k)
 -- "Beginning evaluates instant 0." "Lent bytes past a result keep their values."
 unfoldable pub beginState : List Cell → (ℕ → ℕ) → List ℕ → List ℕ
 beginState net words s =
-    upTo (settled net) (length net)
-    (upTo (shown (firstValue net words)) (length net) (replicate (stateSize net) 0 ++ drop (stateSize net) s))
+    let cleared = replicate (stateSize net) 0 ++ drop (stateSize net) s in
+    let valued = upTo (shown (firstValue net words)) (length net) cleared in
+    upTo (settled net) (length net) valued
 
 -- one further instant
 unfoldable pub stepState : List Cell → List ℕ → List ℕ
 stepState net s =
-    upTo (settled net) (length net)
-    (upTo (shown (value net)) (length net)
-    (upTo aged (length net) (put32 s 0 (instantOf s + 1))))
+    let counted = put32 s 0 (instantOf s + 1) in
+    let past = upTo aged (length net) counted in
+    let valued = upTo (shown (value net)) (length net) past in
+    upTo (settled net) (length net) valued
 
 -- "Continuing by N evaluates later instants until the finish wire is high or N are done; a state whose finish is already high is continued
 -- like any other.": the state then, and how many were evaluated

@@ -14,7 +14,7 @@ use Rattle.model.specs.Program.{nodeBytes, checkOf, programOf}
 use Rattle.model.specs.Numbering.{finish}
 use Rattle.model.specs.Text.{wordsOf, outside}
 use Rattle.model.specs.Reader.{Reading, good, bad, readerAtFirst, readFrom}
-use Rattle.model.specs.Calls.{Told, ToldBoth, short, writing, compiledFile, netlistChecks, running, fullState, fullCount, fullRunChecks}
+use Rattle.model.specs.Calls.{Returned, ReturnedBoth, short, writing, compiledFile, netlistChecks, running, fullState, fullCount, fullRunChecks}
 
 -- the nodes of a text, or the place where its grammar is broken
 unfoldable pub readingOf : List ℕ → Reading
@@ -42,14 +42,14 @@ abbrev pub readTextChecks : Loaded → List ℕ → List ℕ → List Checked
 readTextChecks table text lent =
     table .checked ∷ textChecks text ++ (checkOf (table .times) (textProgram text) ∷ short (length lent) (length (textProgram text)) ∷ [])
 
-unfoldable pub readTextCall : Loaded → List ℕ → List ℕ → Told Written
+unfoldable pub readTextCall : Loaded → List ℕ → List ℕ → Returned Written
 readTextCall table text lent = writing (first (readTextChecks table text lent)) (textProgram text) (length (textProgram text)) 0 lent
 
 -- text to netlist: 19 to 21, 17, 18, 1 to 8, 14
 abbrev pub compileTextChecks : Loaded → List ℕ → List ℕ → List Checked
 compileTextChecks table text lent = table .checked ∷ textChecks text ++ netlistChecks (table .times) (textProgram text) lent
 
-unfoldable pub compileTextCall : Loaded → List ℕ → List ℕ → Told Written
+unfoldable pub compileTextCall : Loaded → List ℕ → List ℕ → Returned Written
 compileTextCall table text lent =
     let program = textProgram text in
     let file = compiledFile program in
@@ -60,7 +60,7 @@ abbrev pub runTextChecks : Loaded → List ℕ → List ℕ → ℕ → List ℕ
 runTextChecks table text words n forFile lent =
     table .checked ∷ textChecks text ++ fullRunChecks (table .times) (textProgram text) words n forFile lent
 
-unfoldable pub runTextCall : Loaded → List ℕ → List ℕ → ℕ → List ℕ → List ℕ → ToldBoth
+unfoldable pub runTextCall : Loaded → List ℕ → List ℕ → ℕ → List ℕ → List ℕ → ReturnedBoth
 runTextCall table text words n forFile lent =
     let file = compiledFile (textProgram text) in
     let c = first (runTextChecks table text words n forFile lent) in

@@ -3,6 +3,9 @@
 ghost use mathlib.Core.Path.{_≡_};
 ghost use Rattle.model.specs.Circuit.{mergeStep};
 
+pub mod kinds; // rows of the table of kinds, for the check of a program
+pub mod texts; // tokens and modes, for the reader of a text
+
 // A refusal: its number, and its place.
 pub struct Refusal {
     pub number: u8,
@@ -43,15 +46,6 @@ pub struct Node {
     pub n: u16,
 }
 
-// A kind's row of the paper's table; specs/Program says what its numbers mean.
-pub struct Row {
-    pub sort: u8,
-    pub delay: u8,
-    pub number: u8,
-    pub exprs: u8,
-    pub stmts: u8,
-}
-
 // A table of operator times as it is loaded: what its check says, and the time of each kind from kind 0 on.
 pub struct Loaded {
     pub checked: Checked,
@@ -65,25 +59,6 @@ pub struct Cell {
     pub delay: u8,
     pub a: u16,
     pub b: u16,
-}
-
-// A token of a program's text; specs/Text says what its code and value mean.
-pub struct Token {
-    pub code: u8,
-    pub value: u16,
-}
-
-// What the reader of a text expects next; specs/Reader says what it does then.
-pub enum Mode {
-    Statement,
-    AfterStatement,
-    Operand,
-    AfterOperand,
-    Becomes,
-    Ticks,
-    Delay,
-    Body,
-    Broken,
 }
 
 // The two bits that a merge cell holds between instants.

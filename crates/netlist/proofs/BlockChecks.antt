@@ -11,7 +11,7 @@ use lib.Dec.{eqb}
 use lib.ListN.{length, getD, drop, length-take, length-drop, drop-of-length-le}
 use lib.Seq.{drop-cons, getD-take, getD-drop}
 use Rattle.model.specs.Word.{get16}
-use Rattle.model.specs.NetlistFile.{wordSum, blockAt, countOf, finishOf, allZero, headed, sumFault, headerFault}
+use Rattle.model.specs.NetlistFile.{wordSum, blockAt, countOf, finishOf, allZero, headerRight, sumFault, headerFault}
 
 -- Bytes of a block ---------------------------------------------------------------------------------------------------------------------
 
@@ -48,8 +48,8 @@ module _ (s : List ℕ) (b : ℕ) where
 
   pub headed-is : (count finish : ℕ) {number c f : ℕ} {z : Bool} → number ≡ get16 s (512 * b) → c ≡ get16 s (512 * b + 2)
       → f ≡ get16 s (512 * b + 4) → z ≡ allZero (drop (8 + 6 * (count - 84 * b)) (blockAt s b))
-      → (eqb number b && (eqb c count && (eqb f finish && z))) ≡ headed count finish b (blockAt s b)
-  unfolding headed
+      → (eqb number b && (eqb c count && (eqb f finish && z))) ≡ headerRight count finish b (blockAt s b)
+  unfolding headerRight
   headed-is count finish e₀ e₂ e₄ e =
       let o : 512 * b + 0 ≡ 512 * b = omega arith in
       rw (block-get16 0 (omega arith), block-get16 2 (omega arith), block-get16 4 (omega arith), o, ← e₀, ← e₂, ← e₄, ← e) refl
@@ -65,10 +65,10 @@ module _ (s : List ℕ) (b : ℕ) where
   sum-right e n = rw (← e, n) refl
 
   module _ {count finish : ℕ} (en : count ≡ countOf s) (ef : finish ≡ finishOf s) where
-    pub header-wrong : headed count finish b (blockAt s b) ≡ false → headerFault s b ≡ 11
+    pub header-wrong : headerRight count finish b (blockAt s b) ≡ false → headerFault s b ≡ 11
     unfolding headerFault
     header-wrong e = rw (← en, ← ef, e) refl
 
-    pub header-right : headed count finish b (blockAt s b) ≡ true → headerFault s b ≡ 0
+    pub header-right : headerRight count finish b (blockAt s b) ≡ true → headerFault s b ≡ 0
     unfolding headerFault
     header-right e = rw (← en, ← ef, e) refl

@@ -15,7 +15,7 @@ use Rattle.model.specs.declared.Written.{Written}
 use Rattle.model.specs.declared.Written.the-variants.{Done}
 use Rattle.model.specs.Refusals.{refuseIf, first}
 use Rattle.model.specs.NetlistFile.{cellBytes, cellsAt, inList, inFile, fileOf, blocksFor, countOf, finishOf, cellsOf, countWrong, netCheck, fileCheck}
-use Rattle.model.specs.Calls.{Told, short, writing, cellsIn, writeCall, readCall}
+use Rattle.model.specs.Calls.{Returned, short, writing, cellsIn, writeCall, readCall}
 use Rattle.netlist.specs.declared.cells.Layout.the-variants.{InList}
 use Rattle.netlist.specs.Offsets.{Room}
 use Rattle.word.proofs.Puts.{overwrite-sets}
@@ -24,7 +24,7 @@ use Rattle.netlist.proofs.Putting.{file-length}
 use Rattle.netlist.proofs.FileChecks.{neither, counted}
 
 -- what a call answers, and what it leaves in the lent list
-abbrev pub Tells : Written → List ℕ → Told Written → Type 0
+abbrev pub Tells : Written → List ℕ → Returned Written → Type 0
 Tells answer lent told = (answer ≡ told .answer) × (lent ≡ told .lent)
 
 abbrev pub refused : ℕ → Written

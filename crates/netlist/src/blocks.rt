@@ -7,7 +7,7 @@ ghost use lib.ListN.{length, drop, replicate};
 ghost use lib.Seq.{sets};
 ghost use Rattle.model.specs.Word.{bytes16};
 ghost use Rattle.model.specs.Refusals.{firstFault};
-ghost use Rattle.model.specs.NetlistFile.{cellsAt, inList, wordSum, checkFor, block, blocksFor, fileOf, countOf, finishOf, blockAt, sumFault, countWrong, allZero, headed, headerFault};
+ghost use Rattle.model.specs.NetlistFile.{cellsAt, inList, wordSum, checkFor, block, blocksFor, fileOf, countOf, finishOf, blockAt, sumFault, countWrong, allZero, headerRight, headerFault};
 ghost use Rattle.netlist.specs.Offsets.{Room};
 ghost use Rattle.netlist.specs.Blocks.{headerBytes};
 use crate::cells::Layout;
@@ -75,7 +75,7 @@ fn zero_from(s: &[u8], b: usize, j: usize) -> bool
 // Whether block b has the header and the unused bytes of a netlist of so many cells.
 fn is_headed(s: &[u8], b: usize, count: usize, finish: usize) -> bool
     requires { ⌜ (512 * b + 512 ≤ length (now s)) × (84 * b < count) × (count ≤ 1024) ⌝ }
-    ensures { λ r. ⌜ r ≡ headed count finish b (blockAt (now (s .entry)) b) ⌝ }
+    ensures { λ r. ⌜ r ≡ headerRight count finish b (blockAt (now (s .entry)) b) ⌝ }
 {
     let i = 512 * b;
     let number = word::get16(s, i) as usize;

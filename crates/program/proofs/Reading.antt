@@ -8,7 +8,7 @@ use lib.ListN.{replicate, replicate-append-replicate}
 use lib.Dec.{eqb}
 use borrow.Author.Tests.{eq-eqb, ne-eqb}
 use Rattle.model.specs.declared.Node.{Node}
-use Rattle.model.specs.declared.Row.{Row}
+use Rattle.model.specs.declared.kinds.Row.{Row}
 use Rattle.model.specs.declared.Checked.the-variants.{Accepted}
 use Rattle.model.specs.Word.{pick}
 use Rattle.model.specs.Refusals.{refuse}

@@ -7,7 +7,7 @@ use Prim.Native.Nat.{ℕ, zero, suc}
 use lib.ListN.{getD}
 use lib.Dec.{T, eqb, eqb→eq}
 use borrow.Author.Tests.{eq-eqb}
-use Rattle.model.specs.declared.Row.{Row}
+use Rattle.model.specs.declared.kinds.Row.{Row}
 use Rattle.model.specs.Word.{pick}
 use Rattle.model.specs.Program.{kindTable, rowOf}
 

@@ -12,7 +12,7 @@ use lib.Dec.{T, ltb, eqb}
 use borrow.Author.Tests.{lt-ltb, le-ltb}
 use Rattle.model.specs.declared.Node.{Node}
 use Rattle.model.specs.Word.{pick}
-use Rattle.model.specs.Program.{Expr, while, repeat, Tree, nodeAt, nodeCount, nodesAt, none, asExpr, asStmt, exprOf, stmtOf, treeOf, arity, grow, forest, treesAt, exprAt, stmtAt, time, least, slowAt, node}
+use Rattle.model.specs.Program.{Expr, while, repeat, Tree, nodeAt, nodeCount, nodesAt, none, asExpr, asStmt, exprOf, stmtOf, treeOf, arity, grow, forest, treesAt, exprAt, stmtAt, time, least, delayFault, node}
 use Rattle.theory.specs.Program.Passed.{Passed}
 use Rattle.theory.specs.Program.Trees.{length-nodes, expr-none, by-pick, other-kind, treeAt, tree-is, tree-of, no-expr, no-stmt, at-const, at-var, at-compl, at-op, at-ok}
 
@@ -113,12 +113,12 @@ module _ (τ : ℕ → ℕ) (s : List ℕ) (i : ℕ) (h : i < nodeCount s) (a : 
 
 -- a delay, and the least that it may be
 module _ (τ : ℕ → ℕ) (s : List ℕ) (i : ℕ) (a : Node) (ea : a ≡ nodeAt s i) (l : ℕ) (el : l ≡ least τ (stmtAt s i)) where
-  pub slow-at : a .delay < l → slowAt τ s i ≡ 7
-  unfolding slowAt
+  pub slow-at : a .delay < l → delayFault τ s i ≡ 7
+  unfolding delayFault
   slow-at m = rw (← ea, ← el, lt-ltb _ _ m)
 
-  pub not-slow-at : l ≤ a .delay → slowAt τ s i ≡ 0
-  unfolding slowAt
+  pub not-slow-at : l ≤ a .delay → delayFault τ s i ≡ 0
+  unfolding delayFault
   not-slow-at m = rw (← ea, ← el, le-ltb _ _ m)
 
 -- Bounds -------------------------------------------------------------------------------------------------------------------------------

@@ -8,7 +8,7 @@ ghost use mathlib.Core.List.{[], _∷_};
 ghost use Prim.Native.Nat.{ℕ, _+_, _*_, _≤_, _<_, max};
 ghost use lib.ListN.{length, getD, take, drop};
 ghost use Rattle.model.specs.Refusals.{refuse, first, firstFault};
-ghost use Rattle.model.specs.Program.{nodeAt, nodeCount, nodesAt, rowOf, exprAt, stmtAt, time, timeIn, least, writes, touches, programLengthWrong, spare, faultOf, reading, slowAt, clashAt, programChecks};
+ghost use Rattle.model.specs.Program.{nodeAt, nodeCount, nodesAt, rowOf, exprAt, stmtAt, time, timeIn, least, writes, touches, programLengthWrong, unusedSet, nodeFault, reading, delayFault, conflictFault, programChecks};
 ghost use Rattle.model.specs.TimeTables.{builtIn, given, load};
 ghost use Rattle.model.specs.Calls.{checkCall};
 ghost use Rattle.program.specs.Ends.{Laid, past, skips};
@@ -22,7 +22,7 @@ use model::Checked;
 use model::Loaded;
 use model::Node;
 use model::Refusal;
-use model::Row;
+use model::kinds::Row;
 
 // What the check answers, with each node's expression time and the node after its subtree.
 pub struct Scanned {
@@ -97,14 +97,14 @@ fn refused(number: u8, place: usize) -> Checked
 
 // A field without a use that is not zero.
 fn spare(used: u8, value: u16) -> bool
-    ensures { λ r. ⌜ r ≡ spare used value ⌝ }
+    ensures { λ r. ⌜ r ≡ unusedSet used value ⌝ }
 {
     if used == 0 { 0 < value } else { false }
 }
 
 // Refusals 2 to 4 of one node, or 0.
 fn fault_of(node: Node) -> u8
-    ensures { λ r. ⌜ r ≡ faultOf node ⌝ }
+    ensures { λ r. ⌜ r ≡ nodeFault node ⌝ }
 {
     let row = kind_row(node.kind);
     if row.sort == 0 {
@@ -130,7 +130,7 @@ fn length_wrong(program: &[u8]) -> bool
 
 // Refusals 2 to 4: the first node with a fault.
 fn first_fault(program: &[u8]) -> Checked
-    ensures { λ r. ⌜ r ≡ firstFault (λ i. faultOf (nodeAt (now (program .entry)) i)) 0 (nodeCount (now (program .entry))) ⌝ }
+    ensures { λ r. ⌜ r ≡ firstFault (λ i. nodeFault (nodeAt (now (program .entry)) i)) 0 (nodeCount (now (program .entry))) ⌝ }
 {
     let count = program.len() / 4;
     let mut i: usize = 0;
@@ -307,7 +307,7 @@ fn least_at(operators: &[u8], program: &[u8], times: &[u16; 200], i: usize) -> u
 // Refusal 7: the first node whose delay is too small.
 fn first_slow(operators: &[u8], program: &[u8], times: &[u16; 200]) -> Checked
     requires { ⌜ (length (now program) ≤ 800) × ((j : ℕ) → j < nodeCount (now program) → getD (now times) j 0 ≡ time (timeIn (now operators)) (exprAt (now program) j)) ⌝ }
-    ensures { λ r. ⌜ r ≡ firstFault (slowAt (timeIn (now (operators .entry))) (now (program .entry))) 0 (nodeCount (now (program .entry))) ⌝ }
+    ensures { λ r. ⌜ r ≡ firstFault (delayFault (timeIn (now (operators .entry))) (now (program .entry))) 0 (nodeCount (now (program .entry))) ⌝ }
 {
     let count = program.len() / 4;
     let mut i: usize = 0;
@@ -356,7 +356,7 @@ fn crosses(program: &[u8], ends: &[usize; 200], p: usize, q: usize, x: u16) -> b
 // Refusal 8: parallel nodes in node order, and for each the variables.
 fn first_clash(program: &[u8], ends: &[usize; 200]) -> Checked
     requires { ⌜ Readable (now program) × Laid (now program) (now ends) ⌝ }
-    ensures { λ r. ⌜ r ≡ firstFault (clashAt (now (program .entry))) 0 (nodeCount (now (program .entry))) ⌝ }
+    ensures { λ r. ⌜ r ≡ firstFault (conflictFault (now (program .entry))) 0 (nodeCount (now (program .entry))) ⌝ }
 {
     let count = program.len() / 4;
     let mut i: usize = 0;

@@ -9,7 +9,7 @@ use lib.Dec.{ltb, eqb}
 use lib.ListN.{length, getD, take, drop, length-drop, drop-of-length-le}
 use lib.Seq.{getD-drop}
 use borrow.Author.Tests.{eq-eqb, ne-eqb}
-use Rattle.model.specs.declared.Token.{Token}
+use Rattle.model.specs.declared.texts.Token.{Token}
 use Rattle.model.specs.declared.Checked.the-variants.{Accepted}
 use Rattle.model.specs.Refusals.{refuse}
 use Rattle.model.specs.Text.{sign, runLength, twoCode, oneCode, isNumber, isName, limitAfter, runToken, tokenAt, sizeAt, wordsFrom, outside}

@@ -6,7 +6,7 @@ use mathlib.Core.List.{List, [], _∷_}
 use Prim.Native.Nat.{ℕ, suc, _+_, _≤_, _<_}
 use lib.Dec.{ltb}
 use lib.ListN.{length, drop}
-use Rattle.model.specs.declared.Token.{Token}
+use Rattle.model.specs.declared.texts.Token.{Token}
 use Rattle.model.specs.Word.{pick}
 use Rattle.model.specs.Text.{blank, sign, tokenAt, sizeAt, lexeme, wordsFrom}
 use Rattle.scanner.specs.declared.Scanned.{Scanned}

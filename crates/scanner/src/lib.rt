@@ -8,7 +8,7 @@ ghost use Rattle.model.specs.Text.{blank, digit, letter, runLength, allDigits, 
 ghost use Rattle.scanner.specs.Scanning.{afterBlanks, wordHere, nextWord};
 use model::Checked;
 use model::Refusal;
-use model::Token;
+use model::texts::Token;
 
 // A word that was found: its token, the place of its first byte and the place after its last. Where there is none, both places are
 // behind the blanks.

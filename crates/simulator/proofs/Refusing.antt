@@ -13,7 +13,7 @@ use Rattle.model.specs.declared.Checked.the-variants.{Accepted, Refused}
 use Rattle.model.specs.Refusals.{refuse, first}
 use Rattle.model.specs.NetlistFile.{fileCheck, cellsOf, finishOf}
 use Rattle.model.specs.State.{stateSize, instantOf, beginState, lastState, evaluated, sound}
-use Rattle.model.specs.Calls.{Told, wordAt, short, refusedAnswer, shows, running, beginChecks, beginCall, continueChecks, continueCall, fullState, fullCount, runNetlistChecks, runNetlistCall}
+use Rattle.model.specs.Calls.{Returned, wordAt, short, refusedAnswer, shows, running, beginChecks, beginCall, continueChecks, continueCall, fullState, fullCount, runNetlistChecks, runNetlistCall}
 use Rattle.theory.specs.Refusals.Laws.{all-accept, refuse-unless}
 use Rattle.simulator.specs.Fits.{Runs}
 
@@ -111,10 +111,10 @@ module _ (c : Checked) (file s : List ℕ) (n : ℕ) (lent : List ℕ) where
   accepted-run e = rw e refl
 
 -- an answer a and a list t at exit are those of a call
-abbrev pub Tells : Told Answer → Answer → List ℕ → Type 0
+abbrev pub Tells : Returned Answer → Answer → List ℕ → Type 0
 Tells told a t = (a ≡ told .answer) × (t ≡ told .lent)
 
-tells : (told told′ : Told Answer) (a : Answer) (t : List ℕ) → told ≡ told′ → a ≡ told′ .answer → t ≡ told′ .lent → Tells told a t
+tells : (told told′ : Returned Answer) (a : Answer) (t : List ℕ) → told ≡ told′ → a ≡ told′ .answer → t ≡ told′ .lent → Tells told a t
 tells told told′ a t e p q = rw e (p, q)
 
 module _ (file words lent : List ℕ) (a : Answer) where

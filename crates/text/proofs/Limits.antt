@@ -5,9 +5,9 @@ use Prim.Native.Nat.{ℕ, _≤_}
 use native.Mathlib.Omega.{arith}
 use borrow.Author.Tests.{eqb-true}
 use lib.Dec.{eqb, leb}
-use Rattle.model.specs.declared.Mode.{Mode}
-use Rattle.model.specs.declared.Mode.the-variants.{Statement, AfterStatement, Operand, AfterOperand, Becomes, Ticks, Delay, Body, Broken}
-use Rattle.model.specs.declared.Token.{Token}
+use Rattle.model.specs.declared.texts.Mode.{Mode}
+use Rattle.model.specs.declared.texts.Mode.the-variants.{Statement, AfterStatement, Operand, AfterOperand, Becomes, Ticks, Delay, Body, Broken}
+use Rattle.model.specs.declared.texts.Token.{Token}
 use Rattle.model.specs.Word.{pick}
 use Rattle.model.specs.Text.{limitAfter}
 use Rattle.model.specs.Reader.{Reader, pop, topCode, comparison, leaf, opened, openedNode, between, closed, turned, reduced, withDelay, onStatement, onOperand, onAfterOperand, onAfterStatement, onDelay, onBody, stepOf}

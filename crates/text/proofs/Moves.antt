@@ -4,8 +4,8 @@ use mathlib.Core.Path.{_≡_, refl, sym, _∙_}
 use Prim.Native.Nat.{ℕ, _+_, _-_, _%_}
 use native.Mathlib.Omega.{arith}
 use lib.ListN.{length, drop}
-use Rattle.model.specs.declared.Mode.{Mode}
-use Rattle.model.specs.declared.Mode.the-variants.{Statement}
+use Rattle.model.specs.declared.texts.Mode.{Mode}
+use Rattle.model.specs.declared.texts.Mode.the-variants.{Statement}
 use Rattle.model.specs.declared.Node.{Node}
 use Rattle.model.specs.Program.{node, nodeBytes}
 use Rattle.model.specs.Reader.{readerAtFirst, frame, reachOf, pop, topStart, insertAt, withNodeDelay, leaf, opened, openedNode, between, closed, turned, reduced, withDelay}

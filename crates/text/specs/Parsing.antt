@@ -15,7 +15,7 @@ use Rattle.model.specs.Word.{pick}
 use Rattle.model.specs.Refusals.{refuseIf, first}
 use Rattle.model.specs.Text.{Lexeme, lexeme, wordsFrom}
 use Rattle.model.specs.Reader.{Reader, good, bad, readFrom}
-use Rattle.model.specs.Calls.{Told, short, checkCall, writing}
+use Rattle.model.specs.Calls.{Returned, short, checkCall, writing}
 use Rattle.model.specs.TextCalls.{readingOf, textProgram, textChecks}
 use Rattle.scanner.specs.declared.Scanned.{Scanned}
 use Rattle.text.specs.declared.machine.Machine.{Machine}
@@ -64,5 +64,5 @@ Given text d = first (parseChecks text) ≡ Accepted → take (length (textProgr
 abbrev pub giveChecks : Loaded → List ℕ → List ℕ → List Checked
 giveChecks table program lent = checkCall table program ∷ short (length lent) (length program) ∷ []
 
-unfoldable pub giveCall : Loaded → List ℕ → List ℕ → Told Written
+unfoldable pub giveCall : Loaded → List ℕ → List ℕ → Returned Written
 giveCall table program lent = writing (first (giveChecks table program lent)) program (length program) 0 lent

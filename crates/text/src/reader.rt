@@ -10,9 +10,9 @@ ghost use Rattle.model.specs.Program.{node};
 ghost use Rattle.model.specs.Reader.{Reader, pop, topCode, comparison, broken, onStatement, onOperand, onAfterOperand, onAfterStatement, onDelay, onBody, stepOf, step, isBroken, complete};
 ghost use Rattle.text.specs.Shown.{framesIn, Lists, lists, Shows, Ready, Grows, Follows, FollowsWithin, limitOf};
 use crate::machine::Machine;
-use model::Mode;
+use model::texts::Mode;
 use model::Node;
-use model::Token;
+use model::texts::Token;
 
 fn broken(m: Machine) -> Machine
     ensures grows { λ x. ⌜ Grows 0 0 m x ⌝ }

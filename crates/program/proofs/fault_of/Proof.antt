@@ -1,6 +1,6 @@
 -- Refusals 2 to 4 of one node, test by test.
 use borrow.Author.Tests.{eq-eqb, ne-eqb}
-use Rattle.model.specs.Program.{faultOf}
+use Rattle.model.specs.Program.{nodeFault}
 use borrow.Author.Needs.{needs}
 use Rattle.program.proofs.fault_of.Statement.{statement}
 use Rattle.program.proofs.fault_of.Tie as tie
@@ -9,7 +9,7 @@ kind-row-requires : tie.Need-kind-row-requires
 kind-row-requires c κs = search needs
 
 returns : tie.Need-returns
-unfolding faultOf
+unfolding nodeFault
 returns c = rw (← c .before .before .kind-row .ensures, eq-eqb _ _ (c .if1 .taken))
 
 cast-spare : tie.Need-cast-spare
@@ -22,14 +22,14 @@ spare-requires-2 : tie.Need-spare-requires-2
 spare-requires-2 c κs = search needs
 
 returns-2 : tie.Need-returns-2
-unfolding faultOf
+unfolding nodeFault
 returns-2 c =
     let kind-row = c .before .before .before .before .before .before .kind-row in
     let if1 = c .before .before .before .before .if1 in
     rw (← kind-row .ensures, ne-eqb _ _ (if1 .left), ← c .before .before .spare .ensures, ← c .before .spare2 .ensures, c .if2 .taken)
 
 returns-3 : tie.Need-returns-3
-unfolding faultOf
+unfolding nodeFault
 returns-3 c =
     let kind-row = c .before .before .before .before .before .before .before .before .before .kind-row in
     let if1 = c .before .before .before .before .before .before .before .if1 in
@@ -39,7 +39,7 @@ returns-3 c =
     rw (← kind-row .ensures, ne-eqb _ _ (if1 .left), ← spare .ensures, ← spare2 .ensures, if2 .left, c .if3 .taken)
 
 returns-4 : tie.Need-returns-4
-unfolding faultOf
+unfolding nodeFault
 returns-4 c =
     let kind-row = c .before .before .before .before .before .before .before .before .before .kind-row in
     let if1 = c .before .before .before .before .before .before .before .if1 in

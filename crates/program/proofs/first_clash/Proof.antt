@@ -5,7 +5,7 @@ use mathlib.Core.Logic.{⊎-elim}
 use Prim.Native.Nat.{ℕ, _+_, _-_, _≤_}
 use native.Mathlib.Omega.{arith}
 use denote.Ref.{now}
-use Rattle.model.specs.Program.{nodeCount, stmtAt, clash, clashAt}
+use Rattle.model.specs.Program.{nodeCount, stmtAt, conflict, conflictFault}
 use Rattle.theory.specs.Refusals.Search.{Searched, searched-none, fault-here, fault-next, faults-end}
 use Rattle.program.specs.Ends.{past-trees}
 use Rattle.program.specs.Uses.{sides}
@@ -14,13 +14,13 @@ use Rattle.program.proofs.first_clash.Statement.{statement}
 use Rattle.program.proofs.first_clash.Tie as tie
 
 abbrev Inv-loop : tie.InvT-loop
-Inv-loop program ends count i second x₀ x = (x ≤ 16) × (clash x (stmtAt program (i + 1)) (stmtAt program second) ≡ false)
+Inv-loop program ends count i second x₀ x = (x ≤ 16) × (conflict x (stmtAt program (i + 1)) (stmtAt program second) ≡ false)
 
 abbrev μ-loop : tie.MeasureT-loop
 μ-loop program ends count i second x₀ x = 16 - x
 
 abbrev Inv-nodes : tie.InvT-nodes
-Inv-nodes program ends count i₀ i = Searched (clashAt program) (nodeCount program) i
+Inv-nodes program ends count i₀ i = Searched (conflictFault program) (nodeCount program) i
 
 abbrev μ-nodes : tie.MeasureT-nodes
 μ-nodes program ends count i₀ i = count - i
@@ -98,7 +98,7 @@ nodes-again c =
     fault-next (nodes .inv) (nodes-test .taken)
     (clash-par _ _ (nodes-test .taken) _ (read-node .ensures) (if1 .taken) _
     (past-trees _ _ _ (pre .1 .each _) _ (next .ensures)) false
-    (sym (ap (λ (x : ℕ). clash x (stmtAt s (nodes .i + 1)) (stmtAt s (next .result))) e) ∙ loop .inv .1))
+    (sym (ap (λ (x : ℕ). conflict x (stmtAt s (nodes .i + 1)) (stmtAt s (next .result))) e) ∙ loop .inv .1))
 
 add-i-2 : tie.Need-add-i-2 Inv-loop μ-loop Inv-nodes μ-nodes
 add-i-2 c = omega arith

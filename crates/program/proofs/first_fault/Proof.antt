@@ -2,14 +2,14 @@
 use mathlib.Core.Path.{sym, _∙_, ap}
 use Prim.Native.Nat.{ℕ, _-_}
 use native.Mathlib.Omega.{arith}
-use Rattle.model.specs.Program.{nodeAt, nodeCount, faultOf}
+use Rattle.model.specs.Program.{nodeAt, nodeCount, nodeFault}
 use Rattle.theory.specs.Refusals.Search.{Searched, searched-none, fault-here, fault-next, faults-end}
 use Rattle.program.proofs.first_fault.Statement.{statement}
 use Rattle.program.proofs.first_fault.Tie as tie
 
 abbrev Inv-loop : tie.InvT-loop
 Inv-loop program count i₀ i =
-    Searched (λ (j : ℕ). faultOf (nodeAt program j)) (nodeCount program) i
+    Searched (λ (j : ℕ). nodeFault (nodeAt program j)) (nodeCount program) i
 
 abbrev μ-loop : tie.MeasureT-loop
 μ-loop program count i₀ i = count - i
@@ -33,7 +33,7 @@ returns c =
     let loop = c .before .before .before .before .before .loop in
     c .refused .ensures
     ∙ fault-here (loop .inv) _ (loop-test .taken) (omega (arith, c .before .if1 .taken))
-    (sym (c .before .before .fault-of .ensures ∙ ap faultOf (read-node .ensures)))
+    (sym (c .before .before .fault-of .ensures ∙ ap nodeFault (read-node .ensures)))
 
 add-i : tie.Need-add-i Inv-loop μ-loop
 add-i c = omega arith
@@ -45,7 +45,7 @@ loop-again : tie.Need-loop-again Inv-loop μ-loop
 loop-again c =
     let loop = c .before .before .before .before .loop in
     let loop-test = c .before .before .before .loop-test in
-    fault-next (loop .inv) (loop-test .taken) (sym (c .before .fault-of .ensures ∙ ap faultOf (c .before .before .read-node .ensures)) ∙ c .if1 .left)
+    fault-next (loop .inv) (loop-test .taken) (sym (c .before .fault-of .ensures ∙ ap nodeFault (c .before .before .read-node .ensures)) ∙ c .if1 .left)
 
 returns-2 : tie.Need-returns-2 Inv-loop μ-loop
 returns-2 c = faults-end (c .before .loop .inv) (c .loop-test .left)

@@ -3,14 +3,14 @@ use mathlib.Core.Path.{_∙_}
 use Prim.Native.Nat.{_-_}
 use native.Mathlib.Omega.{arith}
 use denote.Ref.{now}
-use Rattle.model.specs.Program.{nodeCount, timeIn, slowAt}
+use Rattle.model.specs.Program.{nodeCount, timeIn, delayFault}
 use Rattle.theory.specs.Refusals.Search.{Searched, searched-none, fault-here, fault-next, faults-end}
 use Rattle.program.specs.Times.{slow-at, not-slow-at}
 use Rattle.program.proofs.first_slow.Statement.{statement}
 use Rattle.program.proofs.first_slow.Tie as tie
 
 abbrev Inv-loop : tie.InvT-loop
-Inv-loop operators program times count i₀ i = Searched (slowAt (timeIn operators) program) (nodeCount program) i
+Inv-loop operators program times count i₀ i = Searched (delayFault (timeIn operators) program) (nodeCount program) i
 
 abbrev μ-loop : tie.MeasureT-loop
 μ-loop operators program times count i₀ i = count - i

@@ -3,7 +3,7 @@ use mathlib.Core.Path.{sym, _∙_, ap}
 use mathlib.Core.Logic.{⊎-elim}
 use native.Mathlib.Omega.{arith}
 use lib.ListN.{List·getD-eq-default, List·getD-map}
-use Rattle.model.specs.declared.Row.{Row}
+use Rattle.model.specs.declared.kinds.Row.{Row}
 use Rattle.model.specs.Program.{kindTable, rowOf}
 use Rattle.program.specs.declared.Line.{Line}
 use Rattle.program.proofs.kind_row.Statement.{statement}

@@ -1,15 +1,15 @@
 -- A field without a use is zero.
 use borrow.Author.Tests.{eq-eqb, ne-eqb}
-use Rattle.model.specs.Program.{spare}
+use Rattle.model.specs.Program.{unusedSet}
 use Rattle.program.proofs.spare.Statement.{statement}
 use Rattle.program.proofs.spare.Tie as tie
 
 returns : tie.Need-returns
-unfolding spare
+unfolding unusedSet
 returns c = rw (eq-eqb _ _ (c .if1 .taken))
 
 returns-2 : tie.Need-returns-2
-unfolding spare
+unfolding unusedSet
 returns-2 c = rw (ne-eqb _ _ (c .if1 .left))
 
 pub spare-spec : {M : Type 1} → statement M

@@ -5,18 +5,18 @@ use lib.ListN.{length}
 use borrow.Author.Needs.{needs}
 use Rattle.model.specs.declared.Written.{Written}
 use Rattle.model.specs.declared.Written.the-variants.{Done}
-use Rattle.model.specs.Calls.{Told, writing}
+use Rattle.model.specs.Calls.{Returned, writing}
 use Rattle.word.proofs.Puts.{overwrite-sets}
 use Rattle.text.proofs.Giving.{give-refused, give-short, give-done}
 use Rattle.text.proofs.give.Statement.{statement}
 use Rattle.text.proofs.give.Tie as tie
 
 -- an answer and a list, from what a call is
-abbrev answer-is : {a b : Told Written} → a ≡ b → b .answer ≡ a .answer
-answer-is e = sym (ap (λ (t : Told Written). t .answer) e)
+abbrev answer-is : {a b : Returned Written} → a ≡ b → b .answer ≡ a .answer
+answer-is e = sym (ap (λ (t : Returned Written). t .answer) e)
 
-abbrev lent-is : {a b : Told Written} → a ≡ b → b .lent ≡ a .lent
-lent-is e = sym (ap (λ (t : Told Written). t .lent) e)
+abbrev lent-is : {a b : Returned Written} → a ≡ b → b .lent ≡ a .lent
+lent-is e = sym (ap (λ (t : Returned Written). t .lent) e)
 
 check-by-requires : tie.Need-check-by-requires
 check-by-requires c κs = search needs

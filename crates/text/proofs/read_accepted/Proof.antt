@@ -4,7 +4,7 @@ use native.Mathlib.Omega.{arith}
 use lib.ListN.{length-take}
 use borrow.Author.Needs.{needs}
 use Rattle.model.specs.declared.Written.{Written}
-use Rattle.model.specs.Calls.{Told, writing}
+use Rattle.model.specs.Calls.{Returned, writing}
 use Rattle.text.specs.Parsing.{giveCall}
 use Rattle.text.proofs.Giving.{told-refused, told-accepted, told-fits, told-program, read-refused, read-given}
 use Rattle.text.proofs.read_accepted.Statement.{statement}
@@ -41,7 +41,7 @@ returns c =
     let args = c .before .before .before .before .before .before .before .before .args in
     let e = sym (c .before .before .before .before .program-of .ensures .0) ∙ c .before .told .given .1 in
     let r = read-refused (args .table) (args .text .now) (args .lent .now) (c .before .before .before .before .before .before .before .before .pre) _ (told-refused (args .text .now) _ e) in
-    (sym (ap (λ (t : Told Written). t .answer) r), sym (ap (λ (t : Told Written). t .lent) r))
+    (sym (ap (λ (t : Returned Written). t .answer) r), sym (ap (λ (t : Returned Written). t .lent) r))
 
 same-length : tie.Need-same-length
 same-length c = search needs
@@ -56,7 +56,7 @@ returns-2 c =
     let r = read-given (args .table) text (args .lent .now) (c .before .before .before .before .before .before .before .before .before .before .before .before .before .pre) (told-accepted text _ _ e) in
     let p = told-program text _ _ e _ (of .ensures .1) in
     let g = ap (λ l. giveCall (args .table) l (args .lent .now)) p ∙ sym r in
-    (give .0 ∙ ap (λ (t : Told Written). t .answer) g, give .1 ∙ ap (λ (t : Told Written). t .lent) g)
+    (give .0 ∙ ap (λ (t : Returned Written). t .answer) g, give .1 ∙ ap (λ (t : Returned Written). t .lent) g)
 
 pub read-accepted-spec : {M : Type 1} → statement M
 read-accepted-spec =

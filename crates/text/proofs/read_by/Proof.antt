@@ -1,7 +1,7 @@
 -- The table's refusal, and then those of the text. Assumes nothing.
 use mathlib.Core.Path.{sym, ap}
 use Rattle.model.specs.declared.Written.{Written}
-use Rattle.model.specs.Calls.{Told, writing}
+use Rattle.model.specs.Calls.{Returned, writing}
 use Rattle.text.proofs.Giving.{read-no-table}
 use borrow.Author.Needs.{needs}
 use Rattle.text.proofs.read_by.Statement.{statement}
@@ -15,7 +15,7 @@ unfolding writing
 returns c =
     let args = c .before .before .before .before .before .args in
     let e = read-no-table (args .table) (args .text .now) (args .lent .now) _ (c .before .loaded .given .1) in
-    (sym (ap (λ (t : Told Written). t .answer) e), sym (ap (λ (t : Told Written). t .lent) e))
+    (sym (ap (λ (t : Returned Written). t .answer) e), sym (ap (λ (t : Returned Written). t .lent) e))
 
 enum-told : tie.Need-enum-told
 enum-told c = search needs

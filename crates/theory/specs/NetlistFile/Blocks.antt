@@ -15,7 +15,7 @@ use borrow.Author.Tests.{eq-eqb, eqb-true}
 use Rattle.model.specs.declared.Cell.{Cell}
 use Rattle.model.specs.Word.{get16, bytes16}
 use Rattle.model.specs.Circuit.{cellAt}
-use Rattle.model.specs.NetlistFile.{cellBytes, cellFrom, wordSum, checkFor, blockWith, block, blocks, blockAt, allZero, headed, countOf, finishOf}
+use Rattle.model.specs.NetlistFile.{cellBytes, cellFrom, wordSum, checkFor, blockWith, block, blocks, blockAt, allZero, headerRight, countOf, finishOf}
 use Rattle.model.specs.Promises.{Bytes}
 use Rattle.theory.specs.Refusals.Laws.{and-true, and-of}
 use Rattle.theory.specs.State.Sound.{zero-run}
@@ -85,8 +85,8 @@ unfolding block bytes16 get16
 head-numbers b n f cs = (omega arith, omega arith, omega arith)
 
 -- a block whose cells are all that are left, or 84, has the right header
-pub headed-written : (b n f : ℕ) (cs : List Cell) → length cs ≡ n - 84 * b → headed n f b (block b n f (take 84 cs)) ≡ true
-unfolding headed
+pub headed-written : (b n f : ℕ) (cs : List Cell) → length cs ≡ n - 84 * b → headerRight n f b (block b n f (take 84 cs)) ≡ true
+unfolding headerRight
 headed-written b n f cs e =
     let B = block b n f (take 84 cs) in
     let h = head-numbers b n f (take 84 cs) in
@@ -180,9 +180,9 @@ zero-all (x ∷ s) e zero = eqb-true x 0 (and-true (eqb x 0) (allZero s) e .0)
 zero-all (x ∷ s) e (suc i) = zero-all s (and-true (eqb x 0) (allZero s) e .1) i
 
 -- the header's numbers, and zeros from its last cell on
-pub header-of : (n f b : ℕ) (B : List ℕ) → headed n f b B ≡ true
+pub header-of : (n f b : ℕ) (B : List ℕ) → headerRight n f b B ≡ true
     → (get16 B 0 ≡ b) × (get16 B 2 ≡ n) × (get16 B 4 ≡ f) × ((j : ℕ) → 8 + 6 * (n - 84 * b) ≤ j → getD B j 0 ≡ 0)
-unfolding headed
+unfolding headerRight
 header-of n f b B e =
     let p = and-true (eqb (get16 B 0) b) _ e in
     let q = and-true (eqb (get16 B 2) n) _ (p .1) in

@@ -12,7 +12,7 @@ use borrow.Author.Tests.{ltb-true, leb-true, eqb-true}
 use Rattle.model.specs.declared.Cell.{Cell}
 use Rattle.model.specs.declared.Checked.the-variants.{Accepted}
 use Rattle.model.specs.Circuit.{cellAt, control, memories, Shape, shape, kConstant, kComplement, kOperator, kStart, kGround, kDelay, kOr, kWhenTrue, kWhenFalse, kMerge, kMemory, kGated, kUnknown}
-use Rattle.model.specs.NetlistFile.{wordSum, blockAt, blocksFor, countOf, finishOf, cellsAt, inFile, cellsOf, fileLengthWrong, sumFault, countWrong, headed, headerFault, controlIn, wordIn, keeps, placed, cellFault, netChecks, netCheck, fileChecks, fileCheck}
+use Rattle.model.specs.NetlistFile.{wordSum, blockAt, blocksFor, countOf, finishOf, cellsAt, inFile, cellsOf, fileLengthWrong, sumFault, countWrong, headerRight, headerFault, controlIn, wordIn, keeps, placed, cellFault, netChecks, netCheck, fileChecks, fileCheck}
 use Rattle.theory.specs.Refusals.Laws.{and-true, not-false, all-accept, refuse-unless, fault-unless, no-fault}
 use Rattle.theory.specs.Circuit.Unique.{Looks, Ordered}
 
@@ -79,7 +79,7 @@ pub record FilePassed (s : List ℕ) : Type 0 where
   pub lengths : fileLengthWrong s ≡ false
   pub sums : (b : ℕ) → b < length s / 512 → wordSum (blockAt s b) % 65536 ≡ 0
   pub count : countWrong (length s / 512) (countOf s) (finishOf s) ≡ false
-  pub headers : (b : ℕ) → b < length s / 512 → headed (countOf s) (finishOf s) b (blockAt s b) ≡ true
+  pub headers : (b : ℕ) → b < length s / 512 → headerRight (countOf s) (finishOf s) b (blockAt s b) ≡ true
   pub cells : netCheck (cellsOf s) (finishOf s) ≡ Accepted
 
 pub file-passed : (s : List ℕ) → fileCheck s ≡ Accepted → FilePassed s
@@ -94,7 +94,7 @@ file-passed s e =
           eqb-true _ _ (not-false right (fault-unless (not right) 10 (omega arith) (no-fault (sumFault s) m (a 1) b l)));
       count = refuse-unless (countWrong m (countOf s) (finishOf s)) 11 0 (a 2);
       headers = λ b l.
-          let right = headed (countOf s) (finishOf s) b (blockAt s b) in
+          let right = headerRight (countOf s) (finishOf s) b (blockAt s b) in
           not-false right (fault-unless (not right) 11 (omega arith) (no-fault (headerFault s) m (a 3) b l));
       cells = a 4;
     }

@@ -17,7 +17,7 @@ use Rattle.model.specs.declared.Written.{Written}
 use Rattle.model.specs.declared.Written.the-variants.{Done}
 use Rattle.model.specs.Refusals.{first}
 use Rattle.model.specs.NetlistFile.{cellBytes, cellFrom, inList, fileOf, countOf, finishOf, cellsOf, countWrong, blocksFor, netCheck, fileCheck}
-use Rattle.model.specs.Calls.{Told, overwrite, writing, cellsIn, writeChecks, writeCall, readChecks, readCall}
+use Rattle.model.specs.Calls.{Returned, overwrite, writing, cellsIn, writeChecks, writeCall, readChecks, readCall}
 use Rattle.model.specs.Promises.{Bytes, SameFile}
 use Rattle.theory.specs.Refusals.Laws.{or-false, all-accept, refuse-unless}
 use Rattle.theory.specs.NetlistFile.Passed.{file-passed, count-range, count-cells, length-cells}
@@ -94,7 +94,7 @@ module _ (cells forFile forCells : List ℕ) (f n g : ℕ) (bytes : Bytes cells)
   file-is : take n (writeCall cells f forFile .lent) ≡ fileOf net f
   unfolding writeCall
   file-is =
-      ap₂ (λ (k : ℕ) (r : Told Written). take k (r .lent)) (w .count) (w .told) ∙ take-append-seam (fileOf net f) (drop (length (fileOf net f)) forFile)
+      ap₂ (λ (k : ℕ) (r : Returned Written). take k (r .lent)) (w .count) (w .told) ∙ take-append-seam (fileOf net f) (drop (length (fileOf net f)) forFile)
 
   pub read-back : length cells ≤ length forCells
       → readCall (take n (writeCall cells f forFile .lent)) forCells ≡ record { answer = Done (length cells / 6) f; lent = overwrite cells forCells }
@@ -121,7 +121,7 @@ module _ (file forCells forFile : List ℕ) (n f : ℕ) (bytes : Bytes file) (do
   unfolding readCall
   cells-are-read =
       let e : 6 * n ≡ length (cellBytes cs) = omega (arith, bytes-length cs, count-cells file, r .count) in
-      ap₂ (λ (k : ℕ) (t : Told Written). take k (t .lent)) e (r .told) ∙ take-append-seam (cellBytes cs) (drop (length (cellBytes cs)) forCells)
+      ap₂ (λ (k : ℕ) (t : Returned Written). take k (t .lent)) e (r .told) ∙ take-append-seam (cellBytes cs) (drop (length (cellBytes cs)) forCells)
 
   pub write-back : length file ≤ length forFile
       → writeCall (take (6 * n) (readCall file forCells .lent)) f forFile ≡ record { answer = Done (length file) f; lent = overwrite file forFile }

@@ -11,7 +11,7 @@ use lib.ListN.{length}
 use Rattle.model.specs.Program.{Expr, const, var, compl, op, Stmt, ok, tick, assign, seq, par, ite, while, repeat}
 use Rattle.model.specs.declared.Cell.{Cell}
 use Rattle.model.specs.Circuit.{cell}
-use Rattle.model.specs.Numbering.{exprCount, exprWire, exprCells, own, pulse, ownCell, delayCount, walkCount, finishWire, delays, walk, clockSources, dataSources, Source, wiresOf}
+use Rattle.model.specs.Numbering.{exprCount, exprWire, exprCells, ifDelayCount, ifPulse, ifDelayCells, delayCount, walkCount, finishWire, delays, walk, clockSources, dataSources, Source, wiresOf}
 use Rattle.model.specs.Numbering.{orChain, orChainOut, ors, orsOut, orCount, orsFrom, outsFrom, orCountFrom, memoriesOf, netlist, finish}
 use Rattle.model.specs.Numbering.{clockAt, memoryAt, walkAt, dataAt, clockWires, dataWires}
 use Rattle.model.specs.Circuit.{control, cellAt, memories, shape}
@@ -67,9 +67,9 @@ module _ (K : ℕ → ℕ) where
       (clocks-ok Q s (d + delayCount P) (c + walkCount P) lim (omega arith) (r .1))
   clocks-ok (ite δ e P Q) s d c lim l h =
       let p = c + exprCount e in
-      let dP = d + own δ in
+      let dP = d + ifDelayCount δ in
       let cP = p + 1 + 1 in
-      let o = split (HasKind K) d (own δ) (ownCell δ s) (delays P p dP cP ++ delays Q (p + 1) (dP + delayCount P) (cP + walkCount P)) (own-len δ s) h in
+      let o = split (HasKind K) d (ifDelayCount δ) (ifDelayCells δ s) (delays P p dP cP ++ delays Q (p + 1) (dP + delayCount P) (cP + walkCount P)) (own-len δ s) h in
       let r = split (HasKind K) dP (delayCount P) (delays P p dP cP) (delays Q (p + 1) (dP + delayCount P) (cP + walkCount P)) (d-len P p dP cP) (o .1) in
       wire-append (In control K lim) (clockSources P dP) (clockSources Q (dP + delayCount P)) (clocks-ok P p dP cP lim (omega arith) (r .0))
       (clocks-ok Q (p + 1) (dP + delayCount P) (cP + walkCount P) lim (omega arith) (r .1))
@@ -98,13 +98,13 @@ module _ (K : ℕ → ℕ) where
       (datas-ok M Q s dQ cQ lim (omega arith) (q .0))
   datas-ok M (ite δ e P Q) s d c lim l h =
       let p = c + exprCount e in
-      let dP = d + own δ in
+      let dP = d + ifDelayCount δ in
       let cP = p + 1 + 1 in
       let dQ = dP + delayCount P in
       let cQ = cP + walkCount P in
       let o = cell 35 0 (finishWire P p dP cP) (finishWire Q (p + 1) dQ cQ) in
-      let o6 = cell 36 0 (pulse δ s d) (exprWire M e c) in
-      let o7 = cell 37 0 (pulse δ s d) (exprWire M e c) in
+      let o6 = cell 36 0 (ifPulse δ s d) (exprWire M e c) in
+      let o7 = cell 37 0 (ifPulse δ s d) (exprWire M e c) in
       let re = split (HasKind K) c (exprCount e) (exprCells M e c) (o6 ∷ (o7 ∷ (walk M P p dP cP ++ (walk M Q (p + 1) dQ cQ ++ (o ∷ []))))) (e-len M e c) h in
       let rP = split (HasKind K) cP (walkCount P) (walk M P p dP cP) (walk M Q (p + 1) dQ cQ ++ (o ∷ [])) (w-len M P p dP cP) (re .1 .1 .1) in
       let rQ = split (HasKind K) cQ (walkCount Q) (walk M Q (p + 1) dQ cQ) (o ∷ []) (w-len M Q (p + 1) dQ cQ) (rP .1) in
@@ -196,8 +196,8 @@ w-free M (ite δ e P Q) w s d c =
     simp (
       memories-append,
       e-free M e (w .0) c,
-      w-free M P (w .1) (c + exprCount e) (d + own δ) (c + exprCount e + 1 + 1),
-      w-free M Q (w .2) (c + exprCount e + 1) (d + own δ + delayCount P) (c + exprCount e + 1 + 1 + walkCount P),
+      w-free M P (w .1) (c + exprCount e) (d + ifDelayCount δ) (c + exprCount e + 1 + 1),
+      w-free M Q (w .2) (c + exprCount e + 1) (d + ifDelayCount δ + delayCount P) (c + exprCount e + 1 + 1 + walkCount P),
     )
 w-free M (while δ e P) w s d c = simp (memories-append, e-free M e (w .0) c, w-free M P (w .1) (c + exprCount e) (d + 1) (c + exprCount e + 1 + 1))
 w-free M (repeat δ e P) w s d c = simp (memories-append, e-free M e (w .0) c, w-free M P (w .1) (c + exprCount e + 1 + 1) (d + 1) (c + exprCount e + 1 + 1 + 1))

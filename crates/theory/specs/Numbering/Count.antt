@@ -9,7 +9,7 @@ use lib.Dec.{eqb, eqb→eq}
 use lib.ListN.{length, length-append}
 use Rattle.model.specs.Word.{pick}
 use Rattle.model.specs.Program.{Expr, const, var, compl, op, Stmt, ok, tick, assign, seq, par, ite, while, repeat}
-use Rattle.model.specs.Numbering.{exprCount, own, delayCount, walkCount, clockSources, dataSources, Source, wiresOf, orCount, orCountFrom, netlist}
+use Rattle.model.specs.Numbering.{exprCount, ifDelayCount, delayCount, walkCount, clockSources, dataSources, Source, wiresOf, orCount, orCountFrom, netlist}
 use Rattle.model.specs.Numbering.{walkAt}
 use Rattle.theory.specs.Numbering.Structure.{is-false}
 use Rattle.theory.specs.Numbering.Parts.{net-length}
@@ -37,8 +37,8 @@ e-count (var x) = omega arith
 e-count (compl e) = let h = e-count e in omega arith
 e-count (op k e f) = let h = e-count e in let h′ = e-count f in omega arith
 
-own-count : (δ : ℕ) → own δ ≤ 1
-unfolding own
+own-count : (δ : ℕ) → ifDelayCount δ ≤ 1
+unfolding ifDelayCount
 own-count zero = omega arith
 own-count (suc δ) = omega arith
 
@@ -52,8 +52,8 @@ count (seq P Q) d c = simp length-append (let h = count P d c in let h′ = coun
 count (par P Q) d c = simp length-append (let h = count P d c in let h′ = count Q (d + delayCount P) (c + walkCount P) in omega arith)
 count (ite δ e P Q) d c =
     simp length-append
-    (let h = count P (d + own δ) (c + exprCount e + 1 + 1) in
-    let h′ = count Q (d + own δ + delayCount P) (c + exprCount e + 1 + 1 + walkCount P) in
+    (let h = count P (d + ifDelayCount δ) (c + exprCount e + 1 + 1) in
+    let h′ = count Q (d + ifDelayCount δ + delayCount P) (c + exprCount e + 1 + 1 + walkCount P) in
     let he = e-count e in
     let ho = own-count δ in
     omega arith)

@@ -16,7 +16,7 @@ use Rattle.theory.specs.Program.Fit.{FormedExpr, Formed}
 use Rattle.model.specs.Rules.{eval}
 use Rattle.model.specs.Word.{operate, isZero}
 use Rattle.model.specs.Circuit.{cell}
-use Rattle.model.specs.Numbering.{exprCount, exprWire, exprCells, own, pulse, ownCell, delayCount, walkCount, finishWire, delays, walk, clockSources, dataSources, wiresOf}
+use Rattle.model.specs.Numbering.{exprCount, exprWire, exprCells, ifDelayCount, ifPulse, ifDelayCells, delayCount, walkCount, finishWire, delays, walk, clockSources, dataSources, wiresOf}
 use Rattle.model.specs.Circuit.{Values, level}
 use Rattle.model.specs.Word.{bit}
 use Rattle.theory.specs.Numbering.Cells.{cellVal, Rule, Obeyed, split}
@@ -30,8 +30,8 @@ e-len M (var x) c = refl
 e-len M (compl e) c = simp (length-append, e-len M e c) (omega arith)
 e-len M (op k e f) c = simp (length-append, e-len M e c, e-len M f (c + exprCount e)) (omega arith)
 
-pub own-len : (δ s : ℕ) → length (ownCell δ s) ≡ own δ
-unfolding ownCell own
+pub own-len : (δ s : ℕ) → length (ifDelayCells δ s) ≡ ifDelayCount δ
+unfolding ifDelayCells ifDelayCount
 own-len zero s = refl
 own-len (suc δ) s = refl
 
@@ -46,8 +46,8 @@ d-len (ite δ e P Q) s d c =
     simp (
       length-append,
       own-len,
-      d-len P (c + exprCount e) (d + own δ) (c + exprCount e + 1 + 1),
-      d-len Q (c + exprCount e + 1) (d + own δ + delayCount P) (c + exprCount e + 1 + 1 + walkCount P),
+      d-len P (c + exprCount e) (d + ifDelayCount δ) (c + exprCount e + 1 + 1),
+      d-len Q (c + exprCount e + 1) (d + ifDelayCount δ + delayCount P) (c + exprCount e + 1 + 1 + walkCount P),
     )
 d-len (while δ e P) s d c = rw (d-len P (c + exprCount e) (d + 1) (c + exprCount e + 1 + 1)) (omega arith)
 d-len (repeat δ e P) s d c = rw (d-len P (c + exprCount e + 1 + 1) (d + 1) (c + exprCount e + 1 + 1 + 1)) (omega arith)
@@ -63,8 +63,8 @@ w-len M (ite δ e P Q) s d c =
     simp (
       length-append,
       e-len,
-      w-len M P (c + exprCount e) (d + own δ) (c + exprCount e + 1 + 1),
-      w-len M Q (c + exprCount e + 1) (d + own δ + delayCount P) (c + exprCount e + 1 + 1 + walkCount P),
+      w-len M P (c + exprCount e) (d + ifDelayCount δ) (c + exprCount e + 1 + 1),
+      w-len M Q (c + exprCount e + 1) (d + ifDelayCount δ + delayCount P) (c + exprCount e + 1 + 1 + walkCount P),
     )
     (omega arith)
 w-len M (while δ e P) s d c = simp (length-append, e-len, w-len M P (c + exprCount e) (d + 1) (c + exprCount e + 1 + 1)) (omega arith)
@@ -97,8 +97,8 @@ module _ (first : ℕ → ℕ) (W : Values) (M : ℕ) (m : ℕ → ℕ → ℕ) 
       ∙ op-rule (first (c + exprCount e + exprCount f)) W (c + exprCount e + exprCount f) k (exprWire M e c) (exprWire M f (c + exprCount e)) t (w .0) (w .1)
       ∙ ap₂ (λ (x y : ℕ). operate k x y) (expr e (w .2) c (r .0) t) (expr f (w .3) (c + exprCount e) (q .0) t)
 
-  pulse-is : (δ s d : ℕ) → Obeyed first W d (ownCell δ s) → (t : ℕ) → level W (pulse δ s d) t ≡ delayed δ (level W s) t
-  unfolding ownCell pulse cellVal
+  pulse-is : (δ s d : ℕ) → Obeyed first W d (ifDelayCells δ s) → (t : ℕ) → level W (ifPulse δ s d) t ≡ delayed δ (level W s) t
+  unfolding ifDelayCells ifPulse cellVal
   pulse-is zero s d h t = sym (delayed-zero (level W s) t)
   pulse-is (suc δ) s d h t = level-of (delayed (suc δ) (level W s) t) (h .0 t)
 
@@ -184,19 +184,19 @@ module _ (first : ℕ → ℕ) (W : Values) (M : ℕ) (m : ℕ → ℕ → ℕ) 
       }
   struct (ite δ e P Q) w s d c hd hw =
       let p = c + exprCount e in
-      let dP = d + own δ in
+      let dP = d + ifDelayCount δ in
       let cP = p + 1 + 1 in
       let f = finishWire P p dP cP in
       let g = finishWire Q (p + 1) (dP + delayCount P) (cP + walkCount P) in
-      let ro = split (Rule first W) d (own δ) (ownCell δ s) (delays P p dP cP ++ delays Q (p + 1) (dP + delayCount P) (cP + walkCount P)) (own-len δ s) hd in
+      let ro = split (Rule first W) d (ifDelayCount δ) (ifDelayCells δ s) (delays P p dP cP ++ delays Q (p + 1) (dP + delayCount P) (cP + walkCount P)) (own-len δ s) hd in
       let rd = split (Rule first W) dP (delayCount P) (delays P p dP cP) (delays Q (p + 1) (dP + delayCount P) (cP + walkCount P)) (d-len P p dP cP) (ro .1) in
-      let o6 = cell 36 0 (pulse δ s d) (exprWire M e c) in
-      let o7 = cell 37 0 (pulse δ s d) (exprWire M e c) in
+      let o6 = cell 36 0 (ifPulse δ s d) (exprWire M e c) in
+      let o7 = cell 37 0 (ifPulse δ s d) (exprWire M e c) in
       let tail = walk M Q (p + 1) (dP + delayCount P) (cP + walkCount P) ++ (cell 35 0 f g ∷ []) in
       let re = split (Rule first W) c (exprCount e) (exprCells M e c) (o6 ∷ (o7 ∷ (walk M P p dP cP ++ tail))) (e-len M e c) hw in
       let rP = split (Rule first W) cP (walkCount P) (walk M P p dP cP) tail (w-len M P p dP cP) (re .1 .1 .1) in
       let rQ = split (Rule first W) (cP + walkCount P) (walkCount Q) (walk M Q (p + 1) (dP + delayCount P) (cP + walkCount P)) (cell 35 0 f g ∷ []) (w-len M Q (p + 1) (dP + delayCount P) (cP + walkCount P)) (rP .1) in
-      let D : (t : ℕ) → level W (pulse δ s d) t ≡ delayed δ (level W s) t = pulse-is δ s d (ro .0) in
+      let D : (t : ℕ) → level W (ifPulse δ s d) t ≡ delayed δ (level W s) t = pulse-is δ s d (ro .0) in
       let E : (t : ℕ) → W (exprWire M e c) t ≡ eval e (m t) = expr e (w .0) c (re .0) in
       record {
         s₁ = level W p;
@@ -210,8 +210,8 @@ module _ (first : ℕ → ℕ) (W : Values) (M : ℕ) (m : ℕ → ℕ → ℕ) 
         left = struct P (w .1) p dP cP (rd .0) (rP .0);
         right = struct Q (w .2) (p + 1) (dP + delayCount P) (cP + walkCount P) (rd .1) (rQ .0);
         joined = joined W (clockSources P dP) (clockSources Q (dP + delayCount P)) (dataSources P cP) (dataSources Q (cP + walkCount P));
-        yes₁ = λ t. yes-is p (pulse δ s d) (exprWire M e c) t (re .1 .0 t) (D t) (E t);
-        no₂ = λ t. no-is (p + 1) (pulse δ s d) (exprWire M e c) t (re .1 .1 .0 t) (D t) (E t);
+        yes₁ = λ t. yes-is p (ifPulse δ s d) (exprWire M e c) t (re .1 .0 t) (D t) (E t);
+        no₂ = λ t. no-is (p + 1) (ifPulse δ s d) (exprWire M e c) t (re .1 .1 .0 t) (D t) (E t);
         fin = λ t. level-of (level W f t || level W g t) (rQ .1 .0 t);
         delay = tt;
       }

@@ -10,7 +10,7 @@ use lib.ListN.{length, getD}
 use Rattle.model.specs.Program.{Expr, const, var, compl, op, Stmt, ok, tick, assign, seq, par, ite, while, repeat}
 use Rattle.model.specs.declared.Cell.{Cell}
 use Rattle.model.specs.Circuit.{cell}
-use Rattle.model.specs.Numbering.{exprCount, exprWire, exprCells, own, pulse, ownCell, delayCount, walkCount, finishWire, delays, walk}
+use Rattle.model.specs.Numbering.{exprCount, exprWire, exprCells, ifDelayCount, ifPulse, ifDelayCells, delayCount, walkCount, finishWire, delays, walk}
 use Rattle.model.specs.Circuit.{control, Shape, shape, noCell}
 use Rattle.theory.specs.Numbering.Cells.{All, split, join}
 use Rattle.model.specs.Circuit.{kConstant, kComplement, kOperator, kStart, kGround, kDelay, kOr, kWhenTrue, kWhenFalse, kMerge, kMemory, kGated, kUnknown}
@@ -89,9 +89,9 @@ module _ (K : ℕ → ℕ) (n M : ℕ) (mem : (x : ℕ) → x < 16 → K (M + x)
         (omega arith, rw (q .1 .0) (op-word k (w .0) (w .1))),
       )
 
-  pulse-ok : (δ s d c : ℕ) → δ ≤ 255 → In control K c s → d + own δ ≤ c → c ≤ n → All (HasKind K) d (ownCell δ s)
-      → All (Ok K n) d (ownCell δ s) × In control K c (pulse δ s d)
-  unfolding ownCell own pulse shape control
+  pulse-ok : (δ s d c : ℕ) → δ ≤ 255 → In control K c s → d + ifDelayCount δ ≤ c → c ≤ n → All (HasKind K) d (ifDelayCells δ s)
+      → All (Ok K n) d (ifDelayCells δ s) × In control K c (ifPulse δ s d)
+  unfolding ifDelayCells ifDelayCount ifPulse shape control
   pulse-ok zero s d c z i l l′ h = (tt, i)
   pulse-ok (suc δ) s d c z i l l′ h = (((omega arith, z, (omega arith, i .1), refl), tt), (omega arith, rw (h .0)))
 
@@ -138,14 +138,14 @@ module _ (K : ℕ → ℕ) (n M : ℕ) (mem : (x : ℕ) → x < 16 → K (M + x)
       )
   p-ok (ite δ e P Q) w z s d c i lM ld lc hd hw =
       let p = c + exprCount e in
-      let dP = d + own δ in
+      let dP = d + ifDelayCount δ in
       let cP = p + 1 + 1 in
       let dQ = dP + delayCount P in
       let cQ = cP + walkCount P in
       let o = cell 35 0 (finishWire P p dP cP) (finishWire Q (p + 1) dQ cQ) in
-      let o6 = cell 36 0 (pulse δ s d) (exprWire M e c) in
-      let o7 = cell 37 0 (pulse δ s d) (exprWire M e c) in
-      let ro = split (HasKind K) d (own δ) (ownCell δ s) (delays P p dP cP ++ delays Q (p + 1) dQ cQ) (own-len δ s) hd in
+      let o6 = cell 36 0 (ifPulse δ s d) (exprWire M e c) in
+      let o7 = cell 37 0 (ifPulse δ s d) (exprWire M e c) in
+      let ro = split (HasKind K) d (ifDelayCount δ) (ifDelayCells δ s) (delays P p dP cP ++ delays Q (p + 1) dQ cQ) (own-len δ s) hd in
       let rd = split (HasKind K) dP (delayCount P) (delays P p dP cP) (delays Q (p + 1) dQ cQ) (d-len P p dP cP) (ro .1) in
       let re = split (HasKind K) c (exprCount e) (exprCells M e c) (o6 ∷ (o7 ∷ (walk M P p dP cP ++ (walk M Q (p + 1) dQ cQ ++ (o ∷ []))))) (e-len M e c) hw in
       let rP = split (HasKind K) cP (walkCount P) (walk M P p dP cP) (walk M Q (p + 1) dQ cQ ++ (o ∷ [])) (w-len M P p dP cP) (re .1 .1 .1) in
@@ -154,7 +154,7 @@ module _ (K : ℕ → ℕ) (n M : ℕ) (mem : (x : ℕ) → x < 16 → K (M + x)
       let ie = e-ok e (w .0) c lM (re .0) in
       let iP = p-ok P (w .1) (z .1) p dP cP (omega arith, rw (re .1 .0)) (omega arith) (omega arith) (omega arith) (rd .0) (rP .0) in
       let iQ = p-ok Q (w .2) (z .2) (p + 1) dQ cQ (omega arith, rw (re .1 .1 .0)) (omega arith) (omega arith) (omega arith) (rd .1) (rQ .0) in (
-        join (Ok K n) d (own δ) (ownCell δ s) (delays P p dP cP ++ delays Q (p + 1) dQ cQ) (own-len δ s) (ip .0)
+        join (Ok K n) d (ifDelayCount δ) (ifDelayCells δ s) (delays P p dP cP ++ delays Q (p + 1) dQ cQ) (own-len δ s) (ip .0)
             (join (Ok K n) dP (delayCount P) (delays P p dP cP) (delays Q (p + 1) dQ cQ) (d-len P p dP cP) (iP .0) (iQ .0)),
         join (Ok K n) c (exprCount e) (exprCells M e c) (o6 ∷ (o7 ∷ (walk M P p dP cP ++ (walk M Q (p + 1) dQ cQ ++ (o ∷ []))))) (e-len M e c) (ie .0) (
           (refl, (omega arith, ip .1 .1), ie .1),

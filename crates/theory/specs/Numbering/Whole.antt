@@ -14,7 +14,7 @@ use Rattle.model.specs.Program.{Stmt, ok, tick, assign, seq, par, ite, while, r
 use Rattle.theory.specs.Control.Wiring.{latch, Circuit, Mem}
 use Rattle.model.specs.declared.Cell.{Cell}
 use Rattle.model.specs.Circuit.{cell}
-use Rattle.model.specs.Numbering.{exprCount, own, ownCell, delayCount, walkCount, finishWire, delays, walk, clockSources, dataSources, Source, wiresOf}
+use Rattle.model.specs.Numbering.{exprCount, ifDelayCount, ifDelayCells, delayCount, walkCount, finishWire, delays, walk, clockSources, dataSources, Source, wiresOf}
 use Rattle.model.specs.Numbering.{orChain, orChainOut, ors, orsOut, orCount, orsFrom, outsFrom, memoriesOf, netlist, finish}
 use Rattle.model.specs.Numbering.{headCells, clockAt, memoryAt, walkAt, dataAt, clockWires, dataWires}
 use Rattle.model.specs.Circuit.{Values, level, memory, memories, startWord, Obeys}
@@ -101,8 +101,8 @@ unfolding memories
 memories-append [] ys = omega arith
 memories-append (c ∷ xs) ys = rw (memories-append xs ys) (omega arith)
 
-own-free : (δ s : ℕ) → memories (ownCell δ s) ≡ 0
-unfolding memories ownCell bit
+own-free : (δ s : ℕ) → memories (ifDelayCells δ s) ≡ 0
+unfolding memories ifDelayCells bit
 own-free zero s = refl
 own-free (suc δ) s = refl
 
@@ -117,8 +117,8 @@ delays-free (ite δ e P Q) s d c =
     simp (
       memories-append,
       own-free,
-      delays-free P (c + exprCount e) (d + own δ) (c + exprCount e + 1 + 1),
-      delays-free Q (c + exprCount e + 1) (d + own δ + delayCount P) (c + exprCount e + 1 + 1 + walkCount P),
+      delays-free P (c + exprCount e) (d + ifDelayCount δ) (c + exprCount e + 1 + 1),
+      delays-free Q (c + exprCount e + 1) (d + ifDelayCount δ + delayCount P) (c + exprCount e + 1 + 1 + walkCount P),
     )
 delays-free (while δ e P) s d c = rw (delays-free P (c + exprCount e) (d + 1) (c + exprCount e + 1 + 1))
 delays-free (repeat δ e P) s d c = rw (delays-free P (c + exprCount e + 1 + 1) (d + 1) (c + exprCount e + 1 + 1 + 1))
@@ -196,7 +196,7 @@ no-clocks (tick δ) w y d h = unfold wiresOf in refl
 no-clocks (assign δ x e) w y d h = single x y d (w .0) h
 no-clocks (seq P Q) w y d h = simp (wires-append, no-clocks P (w .0) y d h, no-clocks Q (w .1) y (d + delayCount P) h)
 no-clocks (par P Q) w y d h = simp (wires-append, no-clocks P (w .0) y d h, no-clocks Q (w .1) y (d + delayCount P) h)
-no-clocks (ite δ e P Q) w y d h = simp (wires-append, no-clocks P (w .1) y (d + own δ) h, no-clocks Q (w .2) y (d + own δ + delayCount P) h)
+no-clocks (ite δ e P Q) w y d h = simp (wires-append, no-clocks P (w .1) y (d + ifDelayCount δ) h, no-clocks Q (w .2) y (d + ifDelayCount δ + delayCount P) h)
 no-clocks (while δ e P) w y d h = no-clocks P (w .1) y (d + 1) h
 no-clocks (repeat δ e P) w y d h = no-clocks P (w .1) y (d + 1) h
 

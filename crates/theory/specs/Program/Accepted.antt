@@ -13,7 +13,7 @@ use Rattle.model.specs.declared.Node.{Node}
 use Rattle.model.specs.declared.Checked.the-variants.{Accepted}
 use Rattle.model.specs.declared.Loaded.{Loaded}
 use Rattle.model.specs.Word.{pick}
-use Rattle.model.specs.Program.{Expr, Stmt, ok, tick, assign, seq, par, ite, while, repeat, Tree, expr, stmt, asExpr, asStmt, exprOf, stmtOf, treeOf, stmtAt, nodeAt, rowOf, programOf, timeIn, least, writes, touches, clash, clashes, faultOf}
+use Rattle.model.specs.Program.{Expr, Stmt, ok, tick, assign, seq, par, ite, while, repeat, Tree, expr, stmt, asExpr, asStmt, exprOf, stmtOf, treeOf, stmtAt, nodeAt, rowOf, programOf, timeIn, least, writes, touches, conflict, conflicts, nodeFault}
 use Rattle.model.specs.Calls.{checkCall}
 use Rattle.theory.specs.Program.Fit.{FormedExpr, Formed, Timed, Apart, Separate, Fit}
 use Rattle.theory.specs.Program.Trees.{root-has}
@@ -37,7 +37,7 @@ next k j l n = omega arith
 below : (k j : ℕ) → k ≤ j → (k ≡ j → ⊥) → k ≤ j - 1
 below k j l n = omega arith
 
-pub op-kind : (a : Node) → faultOf a ≡ 0 → a .kind < 16 → (a .kind ≡ 1 → ⊥) → (a .kind ≡ 2 → ⊥) → (a .kind ≡ 3 → ⊥) → (4 ≤ a .kind) × (a .kind ≤ 9)
+pub op-kind : (a : Node) → nodeFault a ≡ 0 → a .kind < 16 → (a .kind ≡ 1 → ⊥) → (a .kind ≡ 2 → ⊥) → (a .kind ≡ 3 → ⊥) → (4 ≤ a .kind) × (a .kind ≤ 9)
 unfolding rowOf
 op-kind a f l n1 n2 n3 = (
   next k 3 (next k 2 (next k 1 (next k 0 (omega arith) (no 0 refl)) n1) n2) n3,
@@ -51,7 +51,7 @@ op-kind a f l n1 n2 n3 = (
     no j h e = known-kind a f (unknown-at (a .kind) j e h)
 
 -- a node of a kind whose number is a variable's
-named-low : (a : Node) → faultOf a ≡ 0 → (k : ℕ) → a .kind ≡ k → rowOf k .number ≡ 2 → a .n < 16
+named-low : (a : Node) → nodeFault a ≡ 0 → (k : ℕ) → a .kind ≡ k → rowOf k .number ≡ 2 → a .n < 16
 named-low a f k e h = low-variable a f (ap (λ (k : ℕ). rowOf k .number) e ∙ h)
 
 -- What a program writes is below 16 ------------------------------------------------------------------------------------------------------------
@@ -71,22 +71,22 @@ written-low (ite d e′ P Q) w x e = or-cases (writes P x) (writes Q x) e (writt
 written-low (while d e′ P) w x e = written-low P (w .1) x e
 written-low (repeat d e′ P) w x e = written-low P (w .1) x e
 
-no-clash : (n : ℕ) (P Q : Stmt) → clash n P Q ≡ false → (x : ℕ) → x < n
+no-clash : (n : ℕ) (P Q : Stmt) → conflict n P Q ≡ false → (x : ℕ) → x < n
     → ((writes P x && touches Q x) ≡ false) × ((writes Q x && touches P x) ≡ false)
-unfolding clash
+unfolding conflict
 no-clash zero P Q e x l = absurd (omega arith)
-no-clash (suc n) P Q e x l = go (ℕ-discrete x n) (no-clash n P Q (or-false ((writes P n && touches Q n) || (writes Q n && touches P n)) (clash n P Q) e .1) x)
+no-clash (suc n) P Q e x l = go (ℕ-discrete x n) (no-clash n P Q (or-false ((writes P n && touches Q n) || (writes Q n && touches P n)) (conflict n P Q) e .1) x)
   where
     go : Dec (x ≡ n) → (x < n → ((writes P x && touches Q x) ≡ false) × ((writes Q x && touches P x) ≡ false)) → ((writes P x && touches Q x) ≡ false) × ((writes Q x && touches P x) ≡ false)
     go (yes q) r =
-        rw q (or-false (writes P n && touches Q n) (writes Q n && touches P n) (or-false ((writes P n && touches Q n) || (writes Q n && touches P n)) (clash n P Q) e .0))
+        rw q (or-false (writes P n && touches Q n) (writes Q n && touches P n) (or-false ((writes P n && touches Q n) || (writes Q n && touches P n)) (conflict n P Q) e .0))
     go (no q) r = r (omega arith)
 
 and-not : (a b : Bool) → (a && b) ≡ false → a ≡ true → b ≡ false
 and-not true b e h = e
 and-not false b e h = cc
 
-apart : (P Q : Stmt) → Formed P → Formed Q → clash 16 P Q ≡ false → Apart P Q × Apart Q P
+apart : (P Q : Stmt) → Formed P → Formed Q → conflict 16 P Q ≡ false → Apart P Q × Apart Q P
 unfolding Apart
 apart P Q w v e = (
   (λ x h. and-not (writes P x) (touches Q x) (no-clash 16 P Q e x (written-low P w x h) .0) h),
@@ -113,7 +113,7 @@ unfolding asStmt
 fit-s (expr e) h = ok-fit
 fit-s (stmt P) h = h
 
-module _ (τ : ℕ → ℕ) (a : Node) (f : faultOf a ≡ 0) where
+module _ (τ : ℕ → ℕ) (a : Node) (f : nodeFault a ≡ 0) where
   fit-expr : (e g : Expr) → a .kind < 16 → FormedExpr e → FormedExpr g → FormedExpr (exprOf a e g)
   unfolding exprOf rowOf
   fit-expr e g l p q =
@@ -123,10 +123,10 @@ module _ (τ : ℕ → ℕ) (a : Node) (f : faultOf a ≡ 0) where
       (λ n3. let k = op-kind a f l (eqb-false _ _ n1) (eqb-false _ _ n2) (eqb-false _ _ n3) in (k .0, k .1, p, q))))
 
   abbrev Fits : Stmt → Type 0
-  Fits S = least τ S ≤ a .delay → clashes S ≡ false → Fit S
+  Fits S = least τ S ≤ a .delay → conflicts S ≡ false → Fit S
 
   fit-stmt : (e : Expr) (O P Q : Stmt) → FormedExpr e → Fit O → Fit P → Fit Q → Fits (stmtOf a e O P Q)
-  unfolding stmtOf Timed Separate least clashes rowOf
+  unfolding stmtOf Timed Separate least conflicts rowOf
   fit-stmt e O P Q w o p q =
       by-test Fits (eqb (a .kind) 16) _ _ (λ t h c. ok-fit)
       (λ n. by-test Fits (eqb (a .kind) 17) _ _ (λ t h c. record { formed = tt; timed = h; separate = tt })
@@ -145,10 +145,10 @@ module _ (τ : ℕ → ℕ) (a : Node) (f : faultOf a ≡ 0) where
       (λ n h c. record { formed = (w, p .formed); timed = (omega arith, p .timed); separate = p .separate })))))))
 
   fit-tree : (x y z : Tree) → FitT x → FitT y → FitT z
-      → least τ (asStmt (treeOf a x y z)) ≤ a .delay → clashes (asStmt (treeOf a x y z)) ≡ false → FitT (treeOf a x y z)
+      → least τ (asStmt (treeOf a x y z)) ≤ a .delay → conflicts (asStmt (treeOf a x y z)) ≡ false → FitT (treeOf a x y z)
   unfolding treeOf asStmt
   fit-tree x y z p q r =
-      by-test (λ (t : Tree). least τ (asStmt t) ≤ a .delay → clashes (asStmt t) ≡ false → FitT t) (ltb (a .kind) 16) _ _
+      by-test (λ (t : Tree). least τ (asStmt t) ≤ a .delay → conflicts (asStmt t) ≡ false → FitT t) (ltb (a .kind) 16) _ _
       (λ l h c. fit-expr (asExpr x) (asExpr y) (ltb-true _ _ l) (fit-e x p) (fit-e y q))
       (λ l h c. fit-stmt (asExpr x) (asStmt x) (asStmt y) (asStmt z) (fit-e x p) (fit-s x p) (fit-s y q) (fit-s z r) h c)
 

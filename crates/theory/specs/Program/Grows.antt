@@ -11,10 +11,10 @@ use lib.ListN.{length, List·getD-eq-default}
 use lib.Dec.{ltb, eqb}
 use borrow.Author.Tests.{eq-eqb, ltb-false}
 use Rattle.model.specs.declared.Node.{Node}
-use Rattle.model.specs.declared.Row.{Row}
+use Rattle.model.specs.declared.kinds.Row.{Row}
 use Rattle.model.specs.Word.{pick}
 use Rattle.model.specs.Refusals.{faultIf}
-use Rattle.model.specs.Program.{Expr, const, var, compl, op, Stmt, ok, tick, assign, seq, par, ite, while, repeat, Tree, expr, stmt, kindTable, rowOf, asExpr, asStmt, exprOf, stmtOf, treeOf, grow, spare, faultOf, children, preorderE, preorder, node}
+use Rattle.model.specs.Program.{Expr, const, var, compl, op, Stmt, ok, tick, assign, seq, par, ite, while, repeat, Tree, expr, stmt, kindTable, rowOf, asExpr, asStmt, exprOf, stmtOf, treeOf, grow, unusedSet, nodeFault, children, preorderE, preorder, node}
 use Rattle.theory.specs.Refusals.Laws.{or-false, fault-unless}
 use Rattle.theory.specs.Program.Preorder.{nodesOf, allNodes, sortOf, sortsOf, KnownT, AllKnown}
 
@@ -49,8 +49,8 @@ sorted (w ∷ cs) R g (stmt P ∷ ts) ws h =
 
 -- Nodes without a fault ----------------------------------------------------------------------------------------------------------------
 
-pub known-kind : (a : Node) → faultOf a ≡ 0 → rowOf (a .kind) .sort ≡ 0 → ⊥
-unfolding faultOf
+pub known-kind : (a : Node) → nodeFault a ≡ 0 → rowOf (a .kind) .sort ≡ 0 → ⊥
+unfolding nodeFault
 known-kind a f z = omega (arith, rw z at f)
 
 fault-tests : (a b c : Bool) → pick a 2 (pick b 3 (faultIf c 4)) ≡ 0 → (b ≡ false) × (c ≡ false)
@@ -66,13 +66,13 @@ unused : (b : Bool) (v : ℕ) → pick b (ltb 0 v) false ≡ false → pick b 0 
 unused true v h = omega (arith, ltb-false 0 v h)
 unused false v h = refl
 
-module _ (a : Node) (f : faultOf a ≡ 0) where
+module _ (a : Node) (f : nodeFault a ≡ 0) where
   row : Row
   row = rowOf (a .kind)
 
-  tests : ((spare (row .delay) (a .delay) || spare (row .number) (a .n)) ≡ false) × ((eqb (row .number) 2 && ltb 15 (a .n)) ≡ false)
-  unfolding faultOf row
-  tests = fault-tests (eqb (row .sort) 0) (spare (row .delay) (a .delay) || spare (row .number) (a .n)) (eqb (row .number) 2 && ltb 15 (a .n)) f
+  tests : ((unusedSet (row .delay) (a .delay) || unusedSet (row .number) (a .n)) ≡ false) × ((eqb (row .number) 2 && ltb 15 (a .n)) ≡ false)
+  unfolding nodeFault row
+  tests = fault-tests (eqb (row .sort) 0) (unusedSet (row .delay) (a .delay) || unusedSet (row .number) (a .n)) (eqb (row .number) 2 && ltb 15 (a .n)) f
 
   -- a variable is below 16
   pub low-variable : rowOf (a .kind) .number ≡ 2 → a .n < 16
@@ -80,9 +80,9 @@ module _ (a : Node) (f : faultOf a ≡ 0) where
   low-variable e = omega (arith, ltb-false 15 (a .n) (rw (eq-eqb (row .number) 2 e) at (tests .1)))
 
   cleared : node (a .kind) (used (rowOf (a .kind) .delay) (a .delay)) (used (rowOf (a .kind) .number) (a .n)) ≡ a
-  unfolding row spare
+  unfolding row unusedSet
   cleared =
-      let z = or-false (spare (row .delay) (a .delay)) (spare (row .number) (a .n)) (tests .0) in
+      let z = or-false (unusedSet (row .delay) (a .delay)) (unusedSet (row .number) (a .n)) (tests .0) in
       ap₂ (node (a .kind)) (unused (eqb (row .delay) 0) (a .delay) (z .0)) (unused (eqb (row .number) 0) (a .n) (z .1))
 
 -- One node more ------------------------------------------------------------------------------------------------------------------------
@@ -161,7 +161,7 @@ past-table : (k : ℕ) → 24 ≤ k → rowOf k .sort ≡ 0
 unfolding rowOf
 past-table k l = ap (λ (r : Row). r .sort) (List·getD-eq-default kindTable _ l)
 
-pub grows : (a : Node) (ts : List Tree) (ws : List ℕ) → sortsOf ts ≡ children (a .kind) ++ ws → faultOf a ≡ 0 → Grown a ts ws
+pub grows : (a : Node) (ts : List Tree) (ws : List ℕ) → sortsOf ts ≡ children (a .kind) ++ ws → nodeFault a ≡ 0 → Grown a ts ws
 grows a ts ws h f = go (decLt (a .kind) 24)
   where
     go : Dec (a .kind < 24) → Grown a ts ws

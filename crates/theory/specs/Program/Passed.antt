@@ -12,7 +12,7 @@ use borrow.Author.Tests.{lt-ltb, ltb-false}
 use Rattle.model.specs.declared.Checked.the-variants.{Accepted}
 use Rattle.model.specs.declared.Loaded.{Loaded}
 use Rattle.model.specs.Refusals.{refuse, first}
-use Rattle.model.specs.Program.{Tree, stmt, nodeAt, nodeCount, nodesAt, rowOf, none, asStmt, treesAt, stmtAt, programOf, timeIn, least, clashes, programLengthWrong, faultOf, children, reading, slowAt, clashAt, programChecks, checkOf, preorder}
+use Rattle.model.specs.Program.{Tree, stmt, nodeAt, nodeCount, nodesAt, rowOf, none, asStmt, treesAt, stmtAt, programOf, timeIn, least, conflicts, programLengthWrong, nodeFault, children, reading, delayFault, conflictFault, programChecks, checkOf, preorder}
 use Rattle.model.specs.Calls.{checkCall}
 use Rattle.theory.specs.Refusals.Laws.{not-refused, pick-true, or-false, all-accept, accept-take, refuse-unless, fault-unless, no-fault}
 use Rattle.theory.specs.Program.Trees.{nodes-step, treeAt, each-at}
@@ -25,14 +25,14 @@ use Rattle.theory.specs.Program.Whole.{Whole, whole}
 -- refusals 1 to 6
 pub record Readable (s : List ℕ) : Type 0 where
   pub short : length s ≤ 800
-  pub faultless : (j : ℕ) → j < nodeCount s → faultOf (nodeAt s j) ≡ 0
+  pub faultless : (j : ℕ) → j < nodeCount s → nodeFault (nodeAt s j) ≡ 0
   pub read : reading (2 ∷ []) 0 (nodesAt s 0) ≡ Accepted
 
 -- refusals 1 to 8, with operator times τ
 pub record Passed (τ : ℕ → ℕ) (s : List ℕ) : Type 0 where
   pub readable : Readable s
   pub slowless : (j : ℕ) → j < nodeCount s → least τ (stmtAt s j) ≤ nodeAt s j .delay
-  pub clashless : (j : ℕ) → j < nodeCount s → clashes (stmtAt s j) ≡ false
+  pub clashless : (j : ℕ) → j < nodeCount s → conflicts (stmtAt s j) ≡ false
 
 pub right-length : (s : List ℕ) → programLengthWrong s ≡ false → length s ≤ 800
 unfolding programLengthWrong
@@ -47,18 +47,18 @@ module _ (τ : ℕ → ℕ) (s : List ℕ) where
   pub readable : first (take 3 (programChecks τ s)) ≡ Accepted → Readable s
   readable e =
       let a = all-accept (take 3 (programChecks τ s)) e in
-      record { short = right-length s (refuse-unless (programLengthWrong s) 1 0 (a 0)); faultless = no-fault (λ i. faultOf (nodeAt s i)) (nodeCount s) (a 1); read = a 2 }
+      record { short = right-length s (refuse-unless (programLengthWrong s) 1 0 (a 0)); faultless = no-fault (λ i. nodeFault (nodeAt s i)) (nodeCount s) (a 1); read = a 2 }
 
   pub passed : first (programChecks τ s) ≡ Accepted → Passed τ s
-  unfolding slowAt clashAt
+  unfolding delayFault conflictFault
   passed e =
       let a = all-accept (programChecks τ s) e in
       record {
         readable = readable (accept-take 3 (programChecks τ s) e);
         slowless = λ j l.
             let slow = ltb (nodeAt s j .delay) (least τ (stmtAt s j)) in
-            ltb-false _ _ (fault-unless slow 7 (omega arith) (no-fault (slowAt τ s) (nodeCount s) (a 3) j l));
-        clashless = λ j l. fault-unless (clashes (stmtAt s j)) 8 (omega arith) (no-fault (clashAt s) (nodeCount s) (a 4) j l);
+            ltb-false _ _ (fault-unless slow 7 (omega arith) (no-fault (delayFault τ s) (nodeCount s) (a 3) j l));
+        clashless = λ j l. fault-unless (conflicts (stmtAt s j)) 8 (omega arith) (no-fault (conflictFault s) (nodeCount s) (a 4) j l);
       }
 
 -- of a program that is accepted with some table, under that table's times

@@ -8,7 +8,7 @@ use lib.Dec.{eqb}
 use borrow.Author.Tests.{eqb-true}
 use Rattle.model.specs.declared.Node.{Node}
 use Rattle.model.specs.declared.Checked.the-variants.{Accepted}
-use Rattle.model.specs.Program.{nodeAt, nodesFrom, rowOf, forest, faultOf, children, reading}
+use Rattle.model.specs.Program.{nodeAt, nodesFrom, rowOf, forest, nodeFault, children, reading}
 use Rattle.theory.specs.Refusals.Laws.{not-refused, pick-true}
 use Rattle.theory.specs.Program.Preorder.{allNodes, sortsOf, AllKnown}
 use Rattle.theory.specs.Program.Grows.{grows}
@@ -18,7 +18,7 @@ pub record Whole (ns : List Node) (ws : List ℕ) : Type 0 where
   pub nodes : allNodes (forest ns) ≡ ns
   pub known : AllKnown (forest ns)
 
-pub whole : (s : List ℕ) (n i : ℕ) (ws : List ℕ) → ((j : ℕ) → i ≤ j → j < i + n → faultOf (nodeAt s j) ≡ 0)
+pub whole : (s : List ℕ) (n i : ℕ) (ws : List ℕ) → ((j : ℕ) → i ≤ j → j < i + n → nodeFault (nodeAt s j) ≡ 0)
     → reading ws i (nodesFrom s i n) ≡ Accepted → Whole (nodesFrom s i n) ws
 unfolding reading nodesFrom forest
 whole s zero i [] f r = record { sorts = refl; nodes = refl; known = tt }

@@ -28,7 +28,7 @@ use Rattle.model.specs.Circuit.{Values, high, level, Obeys, memories, memoryWor
 use Rattle.model.specs.Numbering.{netlist, finish, memoryAt}
 use Rattle.model.specs.NetlistFile.{fileCheck, cellsOf, finishOf}
 use Rattle.model.specs.State.{stateSize, instantOf, nowAt, beginState, lastState, evaluated, wordsIn}
-use Rattle.model.specs.Calls.{Told, verdict, checkCall, compiledFile, compileChecks, compileCall, wordAt, refusedAnswer, shows, running, beginChecks, beginCall, continueCall, fullState, fullCount, runNetlistCall, runProgramChecks, runProgramCall, listed, referenceAnswer}
+use Rattle.model.specs.Calls.{Returned, verdict, checkCall, compiledFile, compileChecks, compileCall, wordAt, refusedAnswer, shows, running, beginChecks, beginCall, continueCall, fullState, fullCount, runNetlistCall, runProgramChecks, runProgramCall, listed, referenceAnswer}
 use Rattle.model.specs.Promises.{Call, replay, Seen, seen, seenOf, endedIf, expected, Holds, Along, Shown, Unchanged, lastOf, stopsAt, Keeps}
 use Rattle.theory.specs.Refusals.Laws.{by-bool, not-refused, all-accept, refuse-unless, accept-take, first-drop}
 use Rattle.theory.specs.Program.Accepted.{program-fit}
@@ -73,7 +73,7 @@ module _ (table : Loaded) (program forFile : List ℕ) (n f : ℕ) (done : compi
   pub file-made : take n (compileCall table program forFile .lent) ≡ compiledFile program
   unfolding compileCall
   file-made =
-      ap₂ (λ (k : ℕ) (r : Told Written). take k (r .lent)) (compiled .count) (compiled .told)
+      ap₂ (λ (k : ℕ) (r : Returned Written). take k (r .lent)) (compiled .count) (compiled .told)
       ∙ take-append-seam (compiledFile program) (drop (length (compiledFile program)) forFile)
 
 -- open and refused are no end
@@ -212,7 +212,7 @@ module _ (table : Loaded) (program file words lent : List ℕ) (accepted : check
 
   -- the list of calls, with the beginning: what is true of every state that holds W, and of every refusal that leaves one, is true along the list
   module _ (calls : List Call) where
-    along : (W : Values) (o : Obeys net σ W) (Q : ℕ → Told Answer → Type 0)
+    along : (W : Values) (o : Obeys net σ W) (Q : ℕ → Returned Answer → Type 0)
         → ((t k : ℕ) (b : List ℕ) → Holding net W t b → Q t (record { answer = refusedAnswer (at0 k); lent = b }))
         → ((t : ℕ) (s b : List ℕ) (n : ℕ) → t ≤ 1000000 → Holding net W t s → Holding net W t b → Q t (record { answer = shows file s n; lent = b }))
         → Along Q 0 (beginCall file words lent ∷ replay file (beginCall file words lent .lent) calls)
@@ -263,7 +263,7 @@ module _ (table : Loaded) (program file words lent : List ℕ) (accepted : check
 
   continued : (n : ℕ) → n ≤ 1000000 → continueCall file n state .answer ≡ shows file (lastState net F n state) (evaluated net F n state)
   continued n l =
-      ap (λ (r : Told Answer). r .answer)
+      ap (λ (r : Returned Answer). r .answer)
       (run-call file read n state
       (checked file read n state false true false (le-ltb (length state) (stateSize net) long) (sound-held net σ W obeys 0 state holding)
       (le-ltb 1000000 (instantOf state + n) (rw (holding .instant (omega arith)) (omega arith)))))

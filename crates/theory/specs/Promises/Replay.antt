@@ -21,7 +21,7 @@ use Rattle.model.specs.Refusals.{refuse, refuseIf, numberOf, first}
 use Rattle.model.specs.Circuit.{Values, high, level, Obeys}
 use Rattle.model.specs.NetlistFile.{fileCheck, cellsOf, finishOf}
 use Rattle.model.specs.State.{stateSize, instantOf, nowAt, lastState, evaluated, sound}
-use Rattle.model.specs.Calls.{Told, verdict, refusedAnswer, shows, running, continueChecks, continueCall}
+use Rattle.model.specs.Calls.{Returned, verdict, refusedAnswer, shows, running, continueChecks, continueCall}
 use Rattle.model.specs.Promises.{Call, replay, Seen, seen, seenOf, refusedSeen, endedIf, stopsAt, expected, standsAt, instantAfter, Along, Unchanged}
 use Rattle.theory.specs.Circuit.Unique.{Ordered}
 use Rattle.theory.specs.State.States.{Holding}
@@ -87,15 +87,15 @@ module _ (file : List ℕ) (accepted : fileCheck file ≡ Accepted) (n : ℕ) (l
 
 -- A list of calls -----------------------------------------------------------------------------------------------------------------------------------------------
 
-replay-is : (file s : List ℕ) (c : Call) (cs : List Call) (r : Told Answer) → continueCall file (c .n) (take (c .lent) s) ≡ r
+replay-is : (file s : List ℕ) (c : Call) (cs : List Call) (r : Returned Answer) → continueCall file (c .n) (take (c .lent) s) ≡ r
     → replay file s (c ∷ cs) ≡ record { answer = r .answer; lent = r .lent ++ drop (c .lent) s } ∷ replay file (r .lent ++ drop (c .lent) s) cs
 unfolding replay
 replay-is file s c cs r e =
-    ap (λ (r : Told Answer). record { answer = r .answer; lent = r .lent ++ drop (c .lent) s } ∷ replay file (r .lent ++ drop (c .lent) s) cs) e
+    ap (λ (r : Returned Answer). record { answer = r .answer; lent = r .lent ++ drop (c .lent) s } ∷ replay file (r .lent ++ drop (c .lent) s) cs) e
 
 module _ (file : List ℕ) (accepted : fileCheck file ≡ Accepted) (ordered : Ordered (cellsOf file)) (σ : ℕ → ℕ) (W : Values)
     (obeys : Obeys (cellsOf file) σ W) (wire : finishOf file < length (cellsOf file))
-    (Q : ℕ → Told Answer → Type 0)
+    (Q : ℕ → Returned Answer → Type 0)
     (refuses : (t k : ℕ) (b : List ℕ) → Holding (cellsOf file) W t b → Q t (record { answer = refusedAnswer (at0 k); lent = b }))
     (answers : (t : ℕ) (s b : List ℕ) (n : ℕ) → t ≤ 1000000 → Holding (cellsOf file) W t s → Holding (cellsOf file) W t b
     → Q t (record { answer = shows file s n; lent = b })) where
@@ -106,7 +106,7 @@ module _ (file : List ℕ) (accepted : fileCheck file ≡ Accepted) (ordered : O
   net = cellsOf file
 
   -- what is promised of a list of steps
-  pub record Good (t : ℕ) (s : List ℕ) (calls : List Call) (steps : List (Told Answer)) : Type 0 where
+  pub record Good (t : ℕ) (s : List ℕ) (calls : List Call) (steps : List (Returned Answer)) : Type 0 where
     pub outcomes : map seenOf steps ≡ expected F (stateSize net) t calls
     pub every : Along Q t steps
     pub unchanged : Unchanged s steps

@@ -16,11 +16,11 @@ use Rattle.model.specs.declared.Checked.the-variants.{Accepted, Refused}
 use Rattle.model.specs.declared.Answer.{Answer}
 use Rattle.model.specs.Word.{pick}
 use Rattle.model.specs.Refusals.{refuse, refuseIf, first, firstFault, faultIf}
-use Rattle.model.specs.Program.{timeIn, nodeAt, nodesAt, nodeCount, rowOf, spare, faultOf, children, reading, slowAt, clashAt, clashes, stmtAt, least, programLengthWrong, programChecks, checkOf, programOf}
+use Rattle.model.specs.Program.{timeIn, nodeAt, nodesAt, nodeCount, rowOf, unusedSet, nodeFault, children, reading, delayFault, conflictFault, conflicts, stmtAt, least, programLengthWrong, programChecks, checkOf, programOf}
 use Rattle.model.specs.Rules.{Run, ended, still, run}
 use Rattle.model.specs.Circuit.{high, cellAt, control, shape, memories}
 use Rattle.model.specs.Numbering.{finish}
-use Rattle.model.specs.NetlistFile.{wordSum, blockAt, headed, placed, keeps, fileLengthWrong, sumFault, countWrong, headerFault, cellFault, netChecks, netCheck, fileChecks, fileCheck, blocksFor, fileOf, cellBytes, cellsOf, countOf, finishOf}
+use Rattle.model.specs.NetlistFile.{wordSum, blockAt, headerRight, placed, keeps, fileLengthWrong, sumFault, countWrong, headerFault, cellFault, netChecks, netCheck, fileChecks, fileCheck, blocksFor, fileOf, cellBytes, cellsOf, countOf, finishOf}
 use Rattle.model.specs.TimeTables.{byteWrong, tableFault, tableSumWrong, tableChecks, TimeTable, builtIn, given, load}
 use Rattle.model.specs.State.{stateSize, instantOf, nowAt, sound, beginState, lastState, evaluated}
 use Rattle.model.specs.Calls.{verdict, writtenVerdict, short, checkCall, writing, compiledFile, netlistChecks, compileChecks, compileCall, cellsIn, writeChecks, writeCall, readChecks, readCall, wordAt, shows, running, beginChecks, beginCall, continueChecks, continueCall, fullState, fullCount, overBudget, runNetlistChecks, runNetlistCall, fullRunChecks, runProgramChecks, runProgramCall, referenceAnswer, answering, referenceChecks, referenceCall}
@@ -63,10 +63,10 @@ faulty-if : (b : Bool) (k : ℕ) → Faulty k k (faultIf b k)
 faulty-if true k l = (omega arith, omega arith)
 faulty-if false k l = absurd (omega arith)
 
-node-faulty : (a : Node) → Faulty 2 4 (faultOf a)
-unfolding faultOf
+node-faulty : (a : Node) → Faulty 2 4 (nodeFault a)
+unfolding nodeFault
 node-faulty a =
-    go (eqb (rowOf (a .kind) .sort) 0) (spare (rowOf (a .kind) .delay) (a .delay) || spare (rowOf (a .kind) .number) (a .n)) (eqb (rowOf (a .kind) .number) 2 && ltb 15 (a .n))
+    go (eqb (rowOf (a .kind) .sort) 0) (unusedSet (rowOf (a .kind) .delay) (a .delay) || unusedSet (rowOf (a .kind) .number) (a .n)) (eqb (rowOf (a .kind) .number) 2 && ltb 15 (a .n))
   where
     go : (p q r : Bool) → Faulty 2 4 (pick p 2 (pick q 3 (faultIf r 4)))
     go true q r l = (omega arith, omega arith)
@@ -103,16 +103,16 @@ gives-first lo hi (n ∷ ns) (Refused q ∷ cs) w o =
 -- Programs and files -------------------------------------------------------------------------------------------------------------------
 
 program-order : (τ : ℕ → ℕ) (s : List ℕ) → InOrder ((1, 1) ∷ (2, 4) ∷ (5, 6) ∷ (7, 7) ∷ (8, 8) ∷ []) (programChecks τ s)
-unfolding slowAt clashAt
+unfolding delayFault conflictFault
 program-order τ s = (
   gives-if (programLengthWrong s) 1 0,
   (
-    gives-fault 2 4 (λ i. faultOf (nodeAt s i)) (nodeCount s) (λ i. node-faulty (nodeAt s i)),
+    gives-fault 2 4 (λ i. nodeFault (nodeAt s i)) (nodeCount s) (λ i. node-faulty (nodeAt s i)),
     (
       reading-gives (nodesAt s 0) (2 ∷ []) 0,
       (
-        gives-fault 7 7 (slowAt τ s) (nodeCount s) (λ i. faulty-if (ltb (nodeAt s i .delay) (least τ (stmtAt s i))) 7),
-        (gives-fault 8 8 (clashAt s) (nodeCount s) (λ i. faulty-if (clashes (stmtAt s i)) 8), tt),
+        gives-fault 7 7 (delayFault τ s) (nodeCount s) (λ i. faulty-if (ltb (nodeAt s i .delay) (least τ (stmtAt s i))) 7),
+        (gives-fault 8 8 (conflictFault s) (nodeCount s) (λ i. faulty-if (conflicts (stmtAt s i)) 8), tt),
       ),
     ),
   ),
@@ -156,7 +156,7 @@ file-order s =
         gives-fault 10 10 (sumFault s) m (λ b. faulty-if (not (eqb (wordSum (blockAt s b) % 65536) 0)) 10),
         (
           gives-if (countWrong m (countOf s) (finishOf s)) 11 0,
-          (gives-fault 11 11 (headerFault s) m (λ b. faulty-if (not (headed (countOf s) (finishOf s) b (blockAt s b))) 11), (net-gives (cellsOf s) (finishOf s), tt)),
+          (gives-fault 11 11 (headerFault s) m (λ b. faulty-if (not (headerRight (countOf s) (finishOf s) b (blockAt s b))) 11), (net-gives (cellsOf s) (finishOf s), tt)),
         ),
       ),
     )

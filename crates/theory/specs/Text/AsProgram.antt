@@ -13,7 +13,7 @@ use Rattle.model.specs.declared.Written.the-variants.{Done}
 use Rattle.model.specs.Refusals.{first}
 use Rattle.model.specs.Program.{programOf}
 use Rattle.model.specs.Numbering.{finish}
-use Rattle.model.specs.Calls.{Told, writing, compiledFile, netlistChecks, compileCall, running, fullState, fullCount, fullRunChecks, runProgramCall}
+use Rattle.model.specs.Calls.{Returned, writing, compiledFile, netlistChecks, compileCall, running, fullState, fullCount, fullRunChecks, runProgramCall}
 use Rattle.model.specs.TextCalls.{textProgram, textChecks, readTextChecks, readTextCall, compileTextCall, runTextCall}
 use Rattle.theory.specs.Refusals.Laws.{first-append, first-behind, first-drop, accept-take}
 use Rattle.theory.specs.NetlistFile.ReadWrite.{Wrote, wrote}
@@ -56,5 +56,5 @@ module _ (table : Loaded) (text lent : List ℕ) (n f : ℕ) (done : readTextCal
   pub program-made : take n (readTextCall table text lent .lent) ≡ textProgram text
   unfolding readTextCall
   program-made =
-      ap₂ (λ (k : ℕ) (r : Told Written). take k (r .lent)) (read .count) (read .told)
+      ap₂ (λ (k : ℕ) (r : Returned Written). take k (r .lent)) (read .count) (read .told)
       ∙ take-append-seam (textProgram text) (drop (length (textProgram text)) lent)

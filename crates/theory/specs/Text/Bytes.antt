@@ -7,7 +7,7 @@ use native.Mathlib.Omega.{arith}
 use lib.ListN.{length, getD}
 use Rattle.model.specs.declared.Node.{Node}
 use Rattle.model.specs.Word.{get16, bytes16}
-use Rattle.model.specs.declared.Token.{Token}
+use Rattle.model.specs.declared.texts.Token.{Token}
 use Rattle.model.specs.Program.{Stmt, Tree, node, nodeAt, nodesFrom, nodesAt, nodeBytes, preorder, none, asStmt, forest, treesAt, stmtAt, programOf}
 use Rattle.model.specs.Text.{Means}
 use Rattle.theory.specs.Text.OneReading.{reading-tree}

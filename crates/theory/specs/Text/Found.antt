@@ -11,9 +11,9 @@ use lib.ListN.{length, take, drop, set, length-append, length-set}
 use lib.Seq.{append-snoc, getD-at, set-at}
 use borrow.Author.Tests.{eqb-true}
 use Rattle.model.specs.declared.Node.{Node}
-use Rattle.model.specs.declared.Token.{Token}
-use Rattle.model.specs.declared.Mode.{Mode}
-use Rattle.model.specs.declared.Mode.the-variants.{Statement, AfterStatement, Operand, AfterOperand, Delay, Body}
+use Rattle.model.specs.declared.texts.Token.{Token}
+use Rattle.model.specs.declared.texts.Mode.{Mode}
+use Rattle.model.specs.declared.texts.Mode.the-variants.{Statement, AfterStatement, Operand, AfterOperand, Delay, Body}
 use Rattle.model.specs.Program.{Expr, Stmt, node, preorderE, preorder}
 use Rattle.model.specs.Text.{numeral, name, sign, cThen, cElse, cDo, cUntil, cEnd, cAt, cOpen, cClose, cLeft, cRight, Lexeme, tokens, Left, sum, difference, and, or, Comparison, equal, less, IsExpr, number, variable, parens, complement, left, compare, timed, IsStmt, skip, ticks, becomes, ifs, whiles, repeats, braces, sequence, parallel, Means, Begins, BreaksAt}
 use Rattle.model.specs.Reader.{Frame, frame, Reader, reader, readerAtFirst, holdOf, reachOf, Popped, pop, topCode, topStart, insertAt, withNodeDelay, leaf, openedNode, between, closed, turned, reduced, withDelay, onStatement, onOperand, comparison, onAfterOperand, onAfterStatement, onDelay, onBody, stepOf, isBroken, complete, good, bad, readFrom}

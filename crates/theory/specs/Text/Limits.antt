@@ -7,7 +7,7 @@ use native.Mathlib.Omega.{arith}
 use lib.Dec.{eqb}
 use lib.ListN.{getD, take, drop}
 use Rattle.model.specs.declared.Node.{Node}
-use Rattle.model.specs.declared.Token.{Token}
+use Rattle.model.specs.declared.texts.Token.{Token}
 use Rattle.model.specs.Word.{bytes16}
 use Rattle.model.specs.Program.{Expr, Stmt, node, nodeBytes, preorderE, preorder}
 use Rattle.model.specs.Text.{cThen, cElse, cDo, cUntil, cAt, cOpen, cLeft, blank, runLength, isNumber, isName, limitAfter, twoCode, runToken, tokenAt, sizeAt, wordsFrom, tokens, timed, Left, sum, difference, and, or, Comparison, equal, less, IsExpr, number, variable, parens, complement, left, compare, IsStmt, ticks, becomes, ifs, whiles, repeats, braces, sequence, parallel, Means, wordsOf}

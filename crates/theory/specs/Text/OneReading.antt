@@ -6,7 +6,7 @@ use mathlib.Core.List.{List, [], _∷_, _++_, append-assoc, append-nil}
 use Prim.Native.Nat.{ℕ}
 use lib.ListN.{getD}
 use Rattle.model.specs.declared.Node.{Node}
-use Rattle.model.specs.declared.Token.{Token}
+use Rattle.model.specs.declared.texts.Token.{Token}
 use Rattle.model.specs.Program.{Expr, op, Stmt, Tree, expr, stmt, none, rowOf, asExpr, asStmt, exprOf, stmtOf, treeOf, node, grow, forest, preorderE, preorder}
 use Rattle.model.specs.Text.{Left, sum, difference, and, or, Comparison, equal, less, IsExpr, number, variable, parens, complement, left, compare, IsStmt, skip, ticks, becomes, ifs, whiles, repeats, braces, sequence, parallel, Means}
 use Rattle.theory.specs.Text.Found.{found}

@@ -10,7 +10,7 @@ use lib.ListN.{length}
 use lib.Dec.{ltb, leb·suc-zero}
 use borrow.Author.Tests.{ltb-true, ltb-false}
 use Rattle.model.specs.declared.Node.{Node}
-use Rattle.model.specs.declared.Token.{Token}
+use Rattle.model.specs.declared.texts.Token.{Token}
 use Rattle.model.specs.Program.{Expr, const, Stmt, ok, node, preorderE, preorder}
 use Rattle.model.specs.Text.{numeral, name, sign, cThen, cElse, cDo, cUntil, cEnd, cAt, cOpen, cClose, cLeft, cRight, Left, Comparison, IsExpr, timed, IsStmt, Begins}
 use Rattle.model.specs.Reader.{Frame, frame, holdOf, reachOf, pop, topCode, comparison}

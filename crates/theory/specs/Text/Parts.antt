@@ -9,8 +9,8 @@ use lib.ListN.{length, length-append}
 use lib.Seq.{append-snoc, take-at, drop-at}
 use borrow.Author.Tests.{le-ltb, lt-ltb}
 use Rattle.model.specs.declared.Node.{Node}
-use Rattle.model.specs.declared.Token.{Token}
-use Rattle.model.specs.declared.Mode.{Mode}
+use Rattle.model.specs.declared.texts.Token.{Token}
+use Rattle.model.specs.declared.texts.Mode.{Mode}
 use Rattle.model.specs.Program.{node}
 use Rattle.model.specs.Text.{sign}
 use Rattle.model.specs.Reader.{Frame, frame, Reader, reader, holdOf, reachOf, Popped, pop, topCode, topStart, insertAt, leaf, opened, between, closed, stepOf}

@@ -10,9 +10,9 @@ use native.Mathlib.Nat.{not-suc-le-zero, le-of-suc-le-suc}
 use lib.Dec.{ltb}
 use lib.ListN.{length, take}
 use Rattle.model.specs.declared.Node.{Node}
-use Rattle.model.specs.declared.Token.{Token}
-use Rattle.model.specs.declared.Mode.{Mode}
-use Rattle.model.specs.declared.Mode.the-variants.{Statement, AfterStatement, Operand, AfterOperand, Becomes, Ticks, Delay, Body, Broken}
+use Rattle.model.specs.declared.texts.Token.{Token}
+use Rattle.model.specs.declared.texts.Mode.{Mode}
+use Rattle.model.specs.declared.texts.Mode.the-variants.{Statement, AfterStatement, Operand, AfterOperand, Becomes, Ticks, Delay, Body, Broken}
 use Rattle.model.specs.Text.{Lexeme, tokens}
 use Rattle.model.specs.Reader.{Frame, Reader, holdOf, pop, stepOf, step, isBroken, complete, Reading, good, bad, readFrom}
 use Rattle.model.specs.TextPromises.{placeAt}

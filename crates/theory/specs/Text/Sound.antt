@@ -10,9 +10,9 @@ use lib.ListN.{length, getD, take}
 use lib.Dec.{eqb}
 use borrow.Author.Tests.{eqb-true}
 use Rattle.model.specs.declared.Node.{Node}
-use Rattle.model.specs.declared.Token.{Token}
-use Rattle.model.specs.declared.Mode.{Mode}
-use Rattle.model.specs.declared.Mode.the-variants.{Statement, AfterStatement, Operand, AfterOperand, Becomes, Ticks, Delay, Body, Broken}
+use Rattle.model.specs.declared.texts.Token.{Token}
+use Rattle.model.specs.declared.texts.Mode.{Mode}
+use Rattle.model.specs.declared.texts.Mode.the-variants.{Statement, AfterStatement, Operand, AfterOperand, Becomes, Ticks, Delay, Body, Broken}
 use Rattle.model.specs.Program.{Stmt, preorder}
 use Rattle.model.specs.Text.{numeral, sign, cThen, cDo, cEnd, IsExpr, IsStmt, Means, Begins, blank, runLength, isNumber, isName, limitAfter, twoCode, runToken, tokenAt, sizeAt, wordsFrom, tokens}
 use Rattle.model.specs.Reader.{Frame, Reader, readerAtFirst, pop, step, isBroken, complete}

@@ -11,9 +11,9 @@ use lib.Seq.{take-append-seam, drop-append-seam, set-append-seam, getD-append-se
 use lib.Dec.{T, eqb, ltb, leb, ltb→lt}
 use borrow.Author.Tests.{eqb-true, leb-true}
 use Rattle.model.specs.declared.Node.{Node}
-use Rattle.model.specs.declared.Token.{Token}
-use Rattle.model.specs.declared.Mode.{Mode}
-use Rattle.model.specs.declared.Mode.the-variants.{Statement, AfterStatement, Operand, AfterOperand, Becomes, Ticks, Delay, Body, Broken}
+use Rattle.model.specs.declared.texts.Token.{Token}
+use Rattle.model.specs.declared.texts.Mode.{Mode}
+use Rattle.model.specs.declared.texts.Mode.the-variants.{Statement, AfterStatement, Operand, AfterOperand, Becomes, Ticks, Delay, Body, Broken}
 use Rattle.model.specs.Program.{node, preorderE, preorder}
 use Rattle.model.specs.Text.{token, numeral, sign, cThen, cElse, cDo, cUntil, cEnd, cAt, cOpen, cClose, cLeft, cRight, Left, Comparison, IsExpr, IsStmt}
 use Rattle.model.specs.Reader.{Frame, frame, Reader, reader, holdOf, reachOf, pop, topCode, topStart, comparison, insertAt, withNodeDelay, leaf, opened, openedNode, between, closed, turned, reduced, withDelay, onStatement, onOperand, onAfterOperand, onAfterStatement, onDelay, onBody, stepOf, step}

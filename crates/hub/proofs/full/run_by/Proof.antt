@@ -1,6 +1,6 @@
 -- The full run of a program: its checks, and then the run. Assumes nothing.
 use mathlib.Core.Path.{sym, _∙_, ap}
-use Rattle.model.specs.Calls.{ToldBoth}
+use Rattle.model.specs.Calls.{ReturnedBoth}
 use Rattle.hub.proofs.FullRun.{refused-call, accepted-call}
 use borrow.Author.Needs.{needs}
 use Rattle.hub.proofs.full.run_by.Statement.{statement}
@@ -25,8 +25,8 @@ returns : tie.Need-returns
 returns c =
     let args = c .before .before .before .before .before .before .before .before .before .before .before .args in
     let e = refused-call (args .table) (args .program .now) (args .words .now) (args .budget) (args .netlist .now) (args .state .now) (sym (c .before .before .before .before .check .ensures) ∙ c .before .before .checked .given .1) in (
-      c .refused .ensures ∙ sym (ap (λ (t : ToldBoth). t .answer) e),
-      (sym (ap (λ (t : ToldBoth). t .netlist) e), sym (ap (λ (t : ToldBoth). t .state) e)),
+      c .refused .ensures ∙ sym (ap (λ (t : ReturnedBoth). t .answer) e),
+      (sym (ap (λ (t : ReturnedBoth). t .netlist) e), sym (ap (λ (t : ReturnedBoth). t .state) e)),
     )
 
 enum-told : tie.Need-enum-told
@@ -46,8 +46,8 @@ returns-2 c =
     let args = c .before .before .before .before .before .before .before .before .before .before .before .before .before .before .before .before .args in
     let run = c .before .before .before .before .run .ensures in
     let e = accepted-call (args .table) (args .program .now) (args .words .now) (args .budget) (args .netlist .now) (args .state .now) (sym (c .before .before .before .before .before .before .before .before .before .check .ensures) ∙ c .before .before .before .before .before .before .before .enum-told .given .1) in (
-      run .0 ∙ sym (ap (λ (t : ToldBoth). t .answer) e),
-      (run .1 .0 ∙ sym (ap (λ (t : ToldBoth). t .netlist) e), run .1 .1 ∙ sym (ap (λ (t : ToldBoth). t .state) e)),
+      run .0 ∙ sym (ap (λ (t : ReturnedBoth). t .answer) e),
+      (run .1 .0 ∙ sym (ap (λ (t : ReturnedBoth). t .netlist) e), run .1 .1 ∙ sym (ap (λ (t : ReturnedBoth). t .state) e)),
     )
 
 pub run-by-spec : {M : Type 1} → statement M

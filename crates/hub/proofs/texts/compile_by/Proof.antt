@@ -3,7 +3,7 @@ use mathlib.Core.Path.{sym, _∙_, ap}
 use native.Mathlib.Omega.{arith}
 use lib.ListN.{length-take}
 use Rattle.model.specs.declared.Written.{Written}
-use Rattle.model.specs.Calls.{Told, compileCall}
+use Rattle.model.specs.Calls.{Returned, compileCall}
 use Rattle.text.proofs.Giving.{told-refused, told-accepted, told-fits, told-program}
 use Rattle.hub.proofs.OnTexts.{compile-unloaded, compile-refused, compile-given}
 use borrow.Author.Needs.{needs}
@@ -17,7 +17,7 @@ returns : tie.Need-returns
 returns c =
     let args = c .before .before .before .before .before .args in
     let r = compile-unloaded (args .table) (args .source .now) (args .file .now) _ (c .before .loaded .given .1) in
-    (sym (ap (λ (t : Told Written). t .answer) r), sym (ap (λ (t : Told Written). t .lent) r))
+    (sym (ap (λ (t : Returned Written). t .answer) r), sym (ap (λ (t : Returned Written). t .lent) r))
 
 enum-told : tie.Need-enum-told
 enum-told c = search needs
@@ -52,7 +52,7 @@ returns-2 c =
     let args = c .before .before .before .before .before .before .before .before .before .before .args in
     let e = sym (c .before .before .before .before .program-of .ensures .0) ∙ c .before .told .given .1 in
     let r = compile-refused (args .table) (args .source .now) (args .file .now) (c .before .before .before .before .before .before .enum-told .given .1) _ (told-refused (args .source .now) _ e) in
-    (sym (ap (λ (t : Told Written). t .answer) r), sym (ap (λ (t : Told Written). t .lent) r))
+    (sym (ap (λ (t : Returned Written). t .answer) r), sym (ap (λ (t : Returned Written). t .lent) r))
 
 same-length : tie.Need-same-length
 same-length c = search needs
@@ -66,7 +66,7 @@ returns-3 c =
     let compiled = c .before .before .compile-by .ensures in
     let p = told-program text _ _ e _ (of .ensures .1) in
     let g = ap (λ l. compileCall (args .table) l (args .file .now)) p ∙ sym (compile-given (args .table) text (args .file .now) (told-accepted text _ _ e)) in
-    (compiled .0 ∙ ap (λ (t : Told Written). t .answer) g, compiled .1 ∙ ap (λ (t : Told Written). t .lent) g)
+    (compiled .0 ∙ ap (λ (t : Returned Written). t .answer) g, compiled .1 ∙ ap (λ (t : Returned Written). t .lent) g)
 
 pub compile-by-spec : {M : Type 1} → statement M
 compile-by-spec =

@@ -2,7 +2,7 @@
 use mathlib.Core.Path.{sym, _∙_, ap}
 use native.Mathlib.Omega.{arith}
 use lib.ListN.{length-take}
-use Rattle.model.specs.Calls.{ToldBoth, runProgramCall}
+use Rattle.model.specs.Calls.{ReturnedBoth, runProgramCall}
 use Rattle.text.proofs.Giving.{told-refused, told-accepted, told-fits, told-program}
 use Rattle.hub.proofs.OnTexts.{run-unloaded, run-refused, run-given}
 use borrow.Author.Needs.{needs}
@@ -19,7 +19,7 @@ returns : tie.Need-returns
 returns c =
     let args = c .before .before .before .before .before .before .before .before .args in
     let r = run-unloaded (args .table) (args .source .now) (args .words .now) (args .budget) (args .netlist .now) (args .state .now) _ (c .before .before .loaded .given .1) in
-    (c .refused .ensures ∙ sym (ap (λ (t : ToldBoth). t .answer) r), (sym (ap (λ (t : ToldBoth). t .netlist) r), sym (ap (λ (t : ToldBoth). t .state) r)))
+    (c .refused .ensures ∙ sym (ap (λ (t : ReturnedBoth). t .answer) r), (sym (ap (λ (t : ReturnedBoth). t .netlist) r), sym (ap (λ (t : ReturnedBoth). t .state) r)))
 
 enum-told : tie.Need-enum-told
 enum-told c = search needs
@@ -57,7 +57,7 @@ returns-2 c =
     let args = c .before .before .before .before .before .before .before .before .before .before .before .before .before .args in
     let e = sym (c .before .before .before .before .before .program-of .ensures .0) ∙ c .before .before .told .given .1 in
     let r = run-refused (args .table) (args .source .now) (args .words .now) (args .budget) (args .netlist .now) (args .state .now) (c .before .before .before .before .before .before .before .enum-told .given .1) _ (told-refused (args .source .now) _ e) in
-    (c .refused2 .ensures ∙ sym (ap (λ (t : ToldBoth). t .answer) r), (sym (ap (λ (t : ToldBoth). t .netlist) r), sym (ap (λ (t : ToldBoth). t .state) r)))
+    (c .refused2 .ensures ∙ sym (ap (λ (t : ReturnedBoth). t .answer) r), (sym (ap (λ (t : ReturnedBoth). t .netlist) r), sym (ap (λ (t : ReturnedBoth). t .state) r)))
 
 same-length : tie.Need-same-length
 same-length c = search needs
@@ -75,7 +75,7 @@ returns-3 c =
     let p = told-program text _ _ e _ (of .ensures .1) in
     let call = runProgramCall (args .table) in
     let g = ap (λ l. call l (args .words .now) (args .budget) (args .netlist .now) (args .state .now)) p ∙ sym (run-given (args .table) text (args .words .now) (args .budget) (args .netlist .now) (args .state .now) (told-accepted text _ _ e)) in
-    (run .0 ∙ ap (λ (t : ToldBoth). t .answer) g, (run .1 .0 ∙ ap (λ (t : ToldBoth). t .netlist) g, run .1 .1 ∙ ap (λ (t : ToldBoth). t .state) g))
+    (run .0 ∙ ap (λ (t : ReturnedBoth). t .answer) g, (run .1 .0 ∙ ap (λ (t : ReturnedBoth). t .netlist) g, run .1 .1 ∙ ap (λ (t : ReturnedBoth). t .state) g))
 
 pub run-by-spec : {M : Type 1} → statement M
 run-by-spec =

@@ -82,7 +82,7 @@ returns-3 c =
       λ r w h.
           let h′ = settled .ensures .1 (args .nodes .now) r h in
           let top = top-shown h′ (top-code .ensures (args .starts .now)) in
-          rw (operand-closed (args .t) r top (if1 .left) (if3 .taken)) (closed .ensures .1 (args .codes .now) (args .nodes .now) (model.settled r) h′),
+          rw (operand-closed (args .t) r top (if1 .left) (if3 .taken)) (closed .ensures .1 (args .codes .now) (args .nodes .now) (model.reduced r) h′),
     )
 
 in-mode-requires : tie.Need-in-mode-requires
@@ -107,7 +107,7 @@ returns-4 c =
       λ r w h.
           let h′ = settled .ensures .1 (args .nodes .now) r h in
           let top = top-shown h′ (top-code .ensures (args .starts .now)) in
-          rw (operand-timed (args .t) r top (if1 .left) (if3 .left) (if4 .taken)) (in-mode .ensures .1 _ (model.settled r) h′),
+          rw (operand-timed (args .t) r top (if1 .left) (if3 .left) (if4 .taken)) (in-mode .ensures .1 _ (model.reduced r) h′),
     )
 
 broken-requires-2 : tie.Need-broken-requires-2

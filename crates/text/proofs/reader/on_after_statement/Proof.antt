@@ -53,7 +53,7 @@ returns-2 c =
       λ r w h.
           let h′ = settled .ensures .1 (args .nodes .now) r h in
           let top = top-shown h′ (top-code .ensures (args .starts .now)) in
-          rw (statement-closed (args .t) r top (if1 .left) (if2 .taken)) (closed .ensures .1 (args .codes .now) (args .nodes .now) (model.settled r) h′),
+          rw (statement-closed (args .t) r top (if1 .left) (if2 .taken)) (closed .ensures .1 (args .codes .now) (args .nodes .now) (model.reduced r) h′),
     )
 
 turned-requires : tie.Need-turned-requires
@@ -78,7 +78,7 @@ returns-3 c =
       λ r w h.
           let h′ = settled .ensures .1 (args .nodes .now) r h in
           let top = top-shown h′ (top-code .ensures (args .starts .now)) in
-          rw (statement-else (args .t) r top (if1 .left) (if2 .left) (if3 .taken)) (turned .ensures .1 (args .nodes .now) (model.settled r) h′),
+          rw (statement-else (args .t) r top (if1 .left) (if2 .left) (if3 .taken)) (turned .ensures .1 (args .nodes .now) (model.reduced r) h′),
     )
 
 closed-requires-2 : tie.Need-closed-requires-2
@@ -104,7 +104,7 @@ returns-4 c =
       λ r w h.
           let h′ = settled .ensures .1 (args .nodes .now) r h in
           let top = top-shown h′ (top-code .ensures (args .starts .now)) in
-          rw (statement-end (args .t) r top (if1 .left) (if2 .left) (if3 .left) (if4 .taken)) (closed2 .ensures .1 (args .codes .now) (args .nodes .now) (model.settled r) h′),
+          rw (statement-end (args .t) r top (if1 .left) (if2 .left) (if3 .left) (if4 .taken)) (closed2 .ensures .1 (args .codes .now) (args .nodes .now) (model.reduced r) h′),
     )
 
 rewound-requires : tie.Need-rewound-requires
@@ -135,7 +135,7 @@ returns-5 c =
       λ r w h.
           let h′ = settled .ensures .1 (args .nodes .now) r h in
           let top = top-shown h′ (top-code .ensures (args .starts .now)) in
-          let u = rewound .ensures .1 (args .codes .now) (args .nodes .now) (model.settled r) (within-settled r w) h′ in
+          let u = rewound .ensures .1 (args .codes .now) (args .nodes .now) (model.reduced r) (within-settled r w) h′ in
           rw (statement-until (args .t) r top (if1 .left) (if2 .left) (if3 .left) (if4 .left) (if5 .taken))
           (turned2 .ensures .1 (args .nodes .now) _ u),
     )

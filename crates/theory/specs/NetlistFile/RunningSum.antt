@@ -46,7 +46,7 @@ one-more sum (x ∷ cs) c = one-more (sumWith sum x) cs c
 module _ (b n f : ℕ) where
   is-sum : (cs : List Cell) → runningSum b n f cs ≡ wordSum (headBytes b n f ++ cellBytes cs) % 65536
   unfolding runningSum
-  is-sum cs = sum-after ((b + n + f) % 65536) cs (omega arith) ∙ omega (arith, head-sum b n f (cellBytes cs))
+  is-sum cs = sum-after _ cs (omega arith) ∙ omega (arith, head-sum b n f (cellBytes cs))
 
   of-all-words : (cs : List Cell) → runningSum b n f cs ≡ wordSum (headBytes b n f ++ restBytes cs) % 65536
   of-all-words cs = is-sum cs ∙ omega (arith, head-sum b n f (cellBytes cs), head-sum b n f (restBytes cs), rest-sum cs)
@@ -61,4 +61,4 @@ module _ (b n f : ℕ) where
 
   pub running-sum : RunningSum b n f
   unfolding runningSum
-  running-sum = record { after = one-more ((b + n + f) % 65536); sum = is-sum; check = check-at; same = same-bytes }
+  running-sum = record { after = one-more _; sum = is-sum; check = check-at; same = same-bytes }

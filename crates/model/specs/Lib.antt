@@ -15,6 +15,7 @@ pub mod CellSlices
 pub mod Hubrun
 pub mod Hubtext
 pub mod Promises
+pub mod FilePromises
 pub mod TablePromises
 pub mod ProgramPromises
 pub mod CellPromises

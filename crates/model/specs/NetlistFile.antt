@@ -1,6 +1,7 @@
 -- The netlist file: the bytes that a netlist is written as, the netlist that bytes are read as, and refusals 9 to 12.
 -- "1 to 13 blocks of 512 bytes", each with a header of eight bytes and 84 cells of six.
 -- Assumes nothing: definitions.
+use mathlib.Core.Path.{_≡_, refl}
 use mathlib.Core.Bool.{Bool, true, false, _&&_, _||_, not}
 use mathlib.Core.List.{List, [], _∷_, _++_}
 use Prim.Native.Nat.{ℕ, zero, suc, _+_, _-_, _*_, _/_, _%_}
@@ -51,18 +52,43 @@ headBytes number count finish = bytes16 number ++ (bytes16 count ++ bytes16 fini
 abbrev pub restBytes : List Cell → List ℕ
 restBytes cs = cellBytes cs ++ replicate (504 - 6 * length cs) 0
 
--- "6–7 a check that makes the block's 256 two-byte words sum to 0 modulo 65,536"
+-- "Keep each block's sum running as cells are put in": the sum with one more cell, whose three words are kind and delay, a, and b
+unfoldable pub sumWith : ℕ → Cell → ℕ
+sumWith sum c = (sum + (c .kind + 256 * c .delay) + c .a + c .b) % 65536
+
+-- the sum after cells that are put in one after another
+unfoldable pub sumAfter : ℕ → List Cell → ℕ
+sumAfter sum [] = sum
+sumAfter sum (c ∷ cs) = sumAfter (sumWith sum c) cs
+
+-- "after each cell it is the sum, modulo 65,536, of the header's first three words and the cells put in so far"
+unfoldable pub runningSum : ℕ → ℕ → ℕ → List Cell → ℕ
+runningSum number count finish cs = sumAfter ((number + count + finish) % 65536) cs
+
+-- "6–7 a check that makes the block's 256 two-byte words sum to 0 modulo 65,536": from the sum of the other words
 abbrev pub checkFor : ℕ → ℕ
 checkFor sum = (65536 - sum % 65536) % 65536
 
--- a block: its header, its check, and what comes after them
-abbrev pub blockWith : ℕ → ℕ → ℕ → List ℕ → List ℕ
-blockWith number count finish rest =
-    let head = headBytes number count finish in
-    head ++ (bytes16 (checkFor (wordSum head + wordSum rest)) ++ rest)
+-- a block by that sum: its header, its check, and what comes after them
+abbrev pub blockBySum : ℕ → ℕ → ℕ → ℕ → List ℕ → List ℕ
+blockBySum number count finish sum rest = headBytes number count finish ++ (bytes16 (checkFor sum) ++ rest)
 
+-- "and the check comes from it alone"
 unfoldable pub block : ℕ → ℕ → ℕ → List Cell → List ℕ
-block number count finish cs = blockWith number count finish (restBytes cs)
+block number count finish cs = blockBySum number count finish (runningSum number count finish cs) (restBytes cs)
+
+-- a block of any contents, whose words are added up where they all stand
+abbrev pub blockWith : ℕ → ℕ → ℕ → List ℕ → List ℕ
+blockWith number count finish rest = blockBySum number count finish (wordSum (headBytes number count finish ++ rest)) rest
+
+-- Worked out by hand, for a header of block 0, 23 cells and finish 5: 0 + 23 + 5 = 28. A delay of 5 with a 7 adds 34 + 256 · 5 + 7 + 0 = 1,321,
+-- so 1,349. The constant 65,000 adds 1 + 65,000, so 66,350, which is 814 modulo 65,536. Its check is 65,536 − 814 = 64,722.
+sums-right : (runningSum 0 23 5 [] ≡ 28)
+    × (runningSum 0 23 5 (cell 34 5 7 0 ∷ []) ≡ 1349)
+    × (runningSum 0 23 5 (cell 34 5 7 0 ∷ cell 1 0 65000 0 ∷ []) ≡ 814)
+    × (checkFor 814 ≡ 64722)
+unfolding runningSum sumAfter sumWith
+sums-right = (refl, refl, refl, refl)
 
 -- so many blocks from block number b on
 unfoldable pub blocks : ℕ → ℕ → ℕ → ℕ → List Cell → List ℕ

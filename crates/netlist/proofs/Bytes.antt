@@ -1,4 +1,4 @@
--- Cells in bytes: where they stand, how lists of them are taken apart, and their bytes and words. Assumes nothing.
+-- Cells in bytes: where they stand, how lists of them are taken apart, their bytes, and their sum. Assumes nothing.
 use mathlib.Core.List.{List, [], _∷_, _++_}
 use mathlib.Core.Path.{_≡_, refl, ap}
 use Prim.Native.Nat.{ℕ, zero, suc, _+_, _-_, _*_, _%_, _<_, _≤_, min}
@@ -9,7 +9,7 @@ use lib.Seq.{sets}
 use Rattle.model.specs.declared.Cell.{Cell}
 use Rattle.model.specs.Word.{bytes16, put16}
 use Rattle.model.specs.Circuit.{cellAt, noCell}
-use Rattle.model.specs.NetlistFile.{cellBytes, cellFrom, cellsAt, wordSum}
+use Rattle.model.specs.NetlistFile.{cellBytes, cellFrom, cellsAt, sumWith, sumAfter}
 use Rattle.netlist.specs.declared.cells.Layout.{Layout}
 use Rattle.netlist.specs.declared.cells.Layout.the-variants.{InList, InFile}
 use Rattle.netlist.specs.Offsets.{offset, size, Room}
@@ -70,7 +70,7 @@ module _ (at : ℕ → ℕ) (s : List ℕ) where
   take-cells (suc j) k zero = let e : min (suc j) 0 ≡ 0 = omega arith in rw e refl
   take-cells (suc j) k (suc n) = let e : min (suc j) (suc n) ≡ suc (min j n) = omega arith in rw (e, take-cells j (k + 1) n) refl
 
--- The bytes and the words of cells -----------------------------------------------------------------------------------------------------
+-- The bytes of cells -------------------------------------------------------------------------------------------------------------------
 
 pub cell-bytes-length : (cs : List Cell) → length (cellBytes cs) ≡ 6 * length cs
 unfolding cellBytes bytes16
@@ -81,11 +81,6 @@ pub cell-bytes-append : (c : Cell) (cs : List Cell) → cellBytes (c ∷ cs) ≡
 unfolding cellBytes bytes16
 cell-bytes-append c cs = refl
 
-pub cell-sum-append : (cs : List Cell) (t : List ℕ) → wordSum (cellBytes cs ++ t) ≡ wordSum (cellBytes cs) + wordSum t
-unfolding wordSum cellBytes bytes16
-cell-sum-append [] t = omega arith
-cell-sum-append (c ∷ cs) t = omega (arith, cell-sum-append cs t)
-
 -- One cell put in ----------------------------------------------------------------------------------------------------------------------
 
 pub cell-put : (d : List ℕ) (i : ℕ) (c : Cell) {d₁ d₂ : List ℕ} → d₁ ≡ put16 (set (set d i (c .kind)) (i + 1) (c .delay)) (i + 2) (c .a)
@@ -93,15 +88,13 @@ pub cell-put : (d : List ℕ) (i : ℕ) (c : Cell) {d₁ d₂ : List ℕ} → d�
 unfolding cellBytes bytes16 put16
 cell-put d i c e f = rw (f, e) (simp towards-suc)
 
-cell-sum : (c : Cell) → wordSum (cellBytes (c ∷ [])) ≡ c .kind + 256 * c .delay + (c .a + c .b)
-unfolding wordSum cellBytes bytes16
-cell-sum c = omega arith
-
+-- its three words, added one by one
 pub cell-added : (c : Cell) (sum : ℕ) {x y z : ℕ} → x ≡ (sum + (c .kind + 256 * c .delay)) % 65536 → y ≡ (x + c .a) % 65536
-    → z ≡ (y + c .b) % 65536 → z ≡ (sum + wordSum (cellBytes (c ∷ []))) % 65536
-cell-added c sum e f g = rw (cell-sum c) (omega arith)
+    → z ≡ (y + c .b) % 65536 → z ≡ sumWith sum c
+unfolding sumWith
+cell-added c sum e f g = omega arith
 
--- Cells put in one after another: what is still to be put in, and to be added ----------------------------------------------------------
+-- Cells put in one after another: the rest put in, and the sum after it, come out as at the start ---------------------------------------
 
 module _ (at : ℕ → ℕ) (s : List ℕ) (k n : ℕ) (c : Cell) (more : 0 < n) (e : c ≡ cellFrom s (at k)) where
   pub put-more : (d : List ℕ) (i : ℕ) {d′ : List ℕ} → d′ ≡ sets d i (cellBytes (c ∷ []))
@@ -113,17 +106,15 @@ module _ (at : ℕ → ℕ) (s : List ℕ) (k n : ℕ) (c : Cell) (more : 0 < n)
       rw l at (sets-append d i (cellBytes (c ∷ [])) (cellBytes cs)) in
       rw (cells-more at s k n more, ← e, cell-bytes-append c cs, f) q
 
-  pub added-more : (sum : ℕ) {next : ℕ} → next ≡ (sum + wordSum (cellBytes (c ∷ []))) % 65536
-      → (sum + wordSum (cellBytes (cellsAt at s k n))) % 65536 ≡ (next + wordSum (cellBytes (cellsAt at s (k + 1) (n - 1)))) % 65536
-  added-more sum f =
-      let cs = cellsAt at s (k + 1) (n - 1) in
-      rw (cells-more at s k n more, ← e, cell-bytes-append c cs, cell-sum-append (c ∷ []) (cellBytes cs), f) (omega arith)
+  pub sum-more : (sum : ℕ) {next : ℕ} → next ≡ sumWith sum c → sumAfter sum (cellsAt at s k n) ≡ sumAfter next (cellsAt at s (k + 1) (n - 1))
+  unfolding sumAfter
+  sum-more sum f = rw (cells-more at s k n more, ← e, f) refl
 
 module _ (at : ℕ → ℕ) (s : List ℕ) (k n : ℕ) (none : n ≡ 0) where
   pub put-done : (d : List ℕ) (i : ℕ) → sets d i (cellBytes (cellsAt at s k n)) ≡ d
   unfolding cellBytes
   put-done d i = rw (cells-none at s k n none) refl
 
-  pub added-done : (sum : ℕ) → sum < 65536 → (sum + wordSum (cellBytes (cellsAt at s k n))) % 65536 ≡ sum
-  unfolding cellBytes wordSum
-  added-done sum h = rw (cells-none at s k n none) (omega arith)
+  pub sum-done : (sum : ℕ) → sumAfter sum (cellsAt at s k n) ≡ sum
+  unfolding sumAfter
+  sum-done sum = rw (cells-none at s k n none) refl

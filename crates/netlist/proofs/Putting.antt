@@ -1,5 +1,5 @@
 -- Blocks and files put in: a block from its parts and its running sum, a file as the blocks that are still to be put in. Assumes nothing.
-use mathlib.Core.List.{List, _++_}
+use mathlib.Core.List.{List, [], _++_}
 use mathlib.Core.Path.{_≡_, refl, sym}
 use Prim.Native.Nat.{ℕ, zero, suc, _+_, _-_, _*_, _%_, _<_, _≤_, min}
 use native.Mathlib.Omega.{arith}
@@ -8,11 +8,11 @@ use lib.ListN.{length, set, take, drop, replicate, length-append, length-replica
 use lib.Seq.{sets}
 use Rattle.model.specs.declared.Cell.{Cell}
 use Rattle.model.specs.Word.{bytes16, put16}
-use Rattle.model.specs.NetlistFile.{cellBytes, cellsAt, inList, wordSum, checkFor, block, blocks, blocksFor, fileOf, restBytes}
+use Rattle.model.specs.NetlistFile.{cellBytes, cellsAt, inList, sumAfter, runningSum, checkFor, block, blocks, blocksFor, fileOf, restBytes}
 use Rattle.netlist.specs.declared.blocks.Header.{Header}
 use Rattle.netlist.specs.Blocks.{headerBytes}
 use Rattle.netlist.proofs.Writes.{sets-append, sets-before}
-use Rattle.netlist.proofs.Bytes.{cells-length, drop-cells, take-cells, cell-bytes-length, cell-sum-append}
+use Rattle.netlist.proofs.Bytes.{cells-length, drop-cells, take-cells, cell-bytes-length}
 
 -- Zeros --------------------------------------------------------------------------------------------------------------------------------
 
@@ -24,22 +24,9 @@ clear-more d i end h = let e : end - i ≡ suc (end - (i + 1)) = omega arith in 
 pub clear-done : (d : List ℕ) (i end : ℕ) → end ≤ i → sets d i (replicate (end - i) 0) ≡ d
 clear-done d i end h = let e : end - i ≡ 0 = omega arith in rw e refl
 
-zero-sum : (n : ℕ) → wordSum (replicate n 0) ≡ 0
-unfolding wordSum
-zero-sum zero = refl
-zero-sum (suc zero) = refl
-zero-sum (suc (suc n)) = omega (arith, zero-sum n)
-
 -- Headers ------------------------------------------------------------------------------------------------------------------------------
 
 module _ (h : Header) where
-  head-sum : wordSum (headerBytes h) ≡ h .number + (h .count + h .finish)
-  unfolding wordSum bytes16
-  head-sum = omega arith
-
-  pub head-added : {x y : ℕ} → x ≡ (h .number + h .count) % 65536 → y ≡ (x + h .finish) % 65536 → y ≡ wordSum (headerBytes h) % 65536
-  head-added e f = rw (head-sum, f, e) (omega arith)
-
   pub head-put : (d : List ℕ) (i w : ℕ) {d₁ d₂ d₃ d₄ : List ℕ} → d₁ ≡ put16 d i (h .number) → d₂ ≡ put16 d₁ (i + 2) (h .count)
       → d₃ ≡ put16 d₂ (i + 4) (h .finish) → d₄ ≡ put16 d₃ (i + 6) w → d₄ ≡ sets d i (headerBytes h ++ bytes16 w)
   unfolding bytes16 put16
@@ -54,9 +41,6 @@ check-word h g e = omega arith
 rest-length : (cs : List Cell) → length cs ≤ 84 → length (restBytes cs) ≡ 504
 rest-length cs h = simp (length-append, length-replicate) (omega (arith, cell-bytes-length cs))
 
-rest-sum : (cs : List Cell) → wordSum (restBytes cs) ≡ wordSum (cellBytes cs)
-rest-sum cs = omega (arith, cell-sum-append cs (replicate (504 - 6 * length cs) 0), zero-sum (504 - 6 * length cs))
-
 pub block-length : (number count finish : ℕ) (cs : List Cell) → length cs ≤ 84 → length (block number count finish cs) ≡ 512
 unfolding block bytes16
 block-length number count finish cs h = omega (arith, rest-length cs h)
@@ -69,19 +53,13 @@ rest-put d i n cs l h e f =
     let b : i + 8 + 6 * n ≡ i + 8 + length (cellBytes cs) = omega (arith, cell-bytes-length cs) in
     rw (f, z, b, e) (sym (sets-append d (i + 8) (cellBytes cs) (replicate (504 - 6 * length cs) 0)))
 
-check-same : (H S sum : ℕ) → sum ≡ (H % 65536 + S) % 65536 → checkFor sum ≡ checkFor (H + S)
-check-same H S sum e = let f : sum % 65536 ≡ (H + S) % 65536 = rw e (omega arith) in rw f refl
-
 -- before its rest the header, with the check that comes from the running sum
-pub block-put : (d : List ℕ) (i : ℕ) (h : Header) (cs : List Cell) {sum : ℕ} {d₁ d₂ : List ℕ} → d₁ ≡ sets d (i + 8) (restBytes cs)
-    → sum ≡ (wordSum (headerBytes h) % 65536 + wordSum (cellBytes cs)) % 65536 → d₂ ≡ sets d₁ i (headerBytes h ++ bytes16 (checkFor sum))
+pub block-put : (d : List ℕ) (i : ℕ) (h : Header) (cs : List Cell) {head sum : ℕ} {d₁ d₂ : List ℕ} → d₁ ≡ sets d (i + 8) (restBytes cs)
+    → head ≡ runningSum (h .number) (h .count) (h .finish) [] → sum ≡ sumAfter head cs → d₂ ≡ sets d₁ i (headerBytes h ++ bytes16 (checkFor sum))
     → d₂ ≡ sets d i (block (h .number) (h .count) (h .finish) cs)
-unfolding block bytes16
-block-put d i h cs {sum} e s f =
-    let H = wordSum (headerBytes h) in
-    let t : sum ≡ (H % 65536 + wordSum (restBytes cs)) % 65536 = rw (rest-sum cs) s in
-    let c : checkFor sum ≡ checkFor (H + wordSum (restBytes cs)) = check-same H (wordSum (restBytes cs)) sum t in
-    rw (f, e, c) (sets-before d i (headerBytes h ++ bytes16 (checkFor (H + wordSum (restBytes cs)))) (restBytes cs))
+unfolding block bytes16 runningSum sumAfter
+block-put d i h cs e b s f =
+    rw (f, e, s, b) (sets-before d i (headerBytes h ++ bytes16 (checkFor (runningSum (h .number) (h .count) (h .finish) cs))) (restBytes cs))
 
 -- Files --------------------------------------------------------------------------------------------------------------------------------
 

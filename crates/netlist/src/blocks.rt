@@ -1,13 +1,13 @@
 // Blocks of 512 bytes: refusals 10 and 11, and putting blocks in.
 // Each contract is an equation with model/NetlistFile; `sets d i v` is d with v put in at i.
 ghost use mathlib.Core.Path.{_≡_};
-ghost use mathlib.Core.List.{_++_};
-ghost use Prim.Native.Nat.{_+_, _-_, _*_, _%_, _^_, _<_, _≤_, min};
+ghost use mathlib.Core.List.{[], _++_};
+ghost use Prim.Native.Nat.{_+_, _-_, _*_, _^_, _<_, _≤_, min};
 ghost use lib.ListN.{length, drop, replicate};
 ghost use lib.Seq.{sets};
 ghost use Rattle.model.specs.Word.{bytes16};
 ghost use Rattle.model.specs.Refusals.{firstFault};
-ghost use Rattle.model.specs.NetlistFile.{cellsAt, inList, wordSum, checkFor, block, blocksFor, fileOf, countOf, finishOf, blockAt, sumFault, countWrong, allZero, headerRight, headerFault};
+ghost use Rattle.model.specs.NetlistFile.{cellsAt, inList, checkFor, block, blocksFor, fileOf, countOf, finishOf, blockAt, sumFault, countWrong, allZero, headerRight, headerFault, runningSum};
 ghost use Rattle.netlist.specs.Offsets.{Room};
 ghost use Rattle.netlist.specs.Blocks.{headerBytes};
 use crate::cells::Layout;
@@ -105,9 +105,9 @@ pub fn check_headers(s: &[u8], m: usize, count: usize, finish: usize) -> Checked
 
 // Putting in -----------------------------------------------------------------------------------------------------------------------------
 
-// What a block's running sum begins with.
+// The running sum of a block before its first cell.
 pub fn header_sum(h: Header) -> u16
-    ensures { λ r. ⌜ r ≡ wordSum (headerBytes h) % 65536 ⌝ }
+    ensures { λ r. ⌜ r ≡ runningSum (h .number) (h .count) (h .finish) [] ⌝ }
 {
     let two = std::num::wrapping_add_u16(h.number, h.count);
     std::num::wrapping_add_u16(two, h.finish)

@@ -1,11 +1,11 @@
 // Cells in bytes: where they begin, how one is read, how they are put in.
-// A cell that is put in adds its three words to a running sum, from which the check of its block comes.
+// Putting a cell in keeps its block's sum running: the contract tells the sum after it from the sum before. The block's check comes from that.
 ghost use mathlib.Core.Path.{_≡_};
 ghost use mathlib.Core.List.{[], _∷_};
-ghost use Prim.Native.Nat.{_+_, _*_, _%_, _<_, _≤_};
+ghost use Prim.Native.Nat.{_+_, _*_, _<_, _≤_};
 ghost use lib.ListN.{length};
 ghost use lib.Seq.{sets};
-ghost use Rattle.model.specs.NetlistFile.{cellBytes, cellFrom, cellsAt, wordSum};
+ghost use Rattle.model.specs.NetlistFile.{cellBytes, cellFrom, cellsAt, sumWith, sumAfter};
 ghost use Rattle.netlist.specs.Offsets.{offset, Room};
 use model::Cell;
 
@@ -38,11 +38,11 @@ pub fn cell_at(s: &[u8], layout: Layout, k: usize) -> Cell
     Cell { kind, delay, a, b }
 }
 
-// Puts a cell in at i; answers the sum with the cell's three words added.
+// Puts a cell in at i; answers the sum after it, from the sum before.
 pub fn put_cell(d: &mut [u8], i: usize, c: Cell, sum: u16) -> u16
     requires { ⌜ i + 6 ≤ length (now d) ⌝ }
     ensures put { λ _. ⌜ now (d .exit) ≡ sets (now (d .entry)) i (cellBytes (c ∷ [])) ⌝ }
-    ensures sum { λ r. ⌜ r ≡ (sum + wordSum (cellBytes (c ∷ []))) % 65536 ⌝ }
+    ensures sum { λ r. ⌜ r ≡ sumWith sum c ⌝ }
 {
     d[i] = c.kind;
     d[i + 1] = c.delay;
@@ -54,7 +54,7 @@ pub fn put_cell(d: &mut [u8], i: usize, c: Cell, sum: u16) -> u16
     std::num::wrapping_add_u16(with_a, c.b)
 }
 
-// Puts n cells of s, from cell k on, in at i; answers the sum with their words added.
+// Puts n cells of s, from cell k on, in at i; answers the sum after them, from the sum before.
 pub fn put_cells(
     d: &mut [u8],
     i: usize,
@@ -66,7 +66,7 @@ pub fn put_cells(
 ) -> u16
     requires { ⌜ Room layout (now s) (k + n) × (i + 6 * n ≤ length (now d)) ⌝ }
     ensures put { λ _. ⌜ now (d .exit) ≡ sets (now (d .entry)) i (cellBytes (cellsAt (offset layout) (now (s .entry)) k n)) ⌝ }
-    ensures sum { λ r. ⌜ r ≡ (sum + wordSum (cellBytes (cellsAt (offset layout) (now (s .entry)) k n))) % 65536 ⌝ }
+    ensures sum { λ r. ⌜ r ≡ sumAfter sum (cellsAt (offset layout) (now (s .entry)) k n) ⌝ }
 {
     let mut to = i;
     let mut from = k;

@@ -15,21 +15,18 @@ use borrow.Author.Tests.{eq-eqb, eqb-true}
 use Rattle.model.specs.declared.Cell.{Cell}
 use Rattle.model.specs.Word.{get16, bytes16}
 use Rattle.model.specs.Circuit.{cellAt}
-use Rattle.model.specs.NetlistFile.{cellBytes, cellFrom, wordSum, checkFor, blockWith, block, blocks, blockAt, allZero, headerRight, countOf, finishOf}
+use Rattle.model.specs.NetlistFile.{cellBytes, cellFrom, wordSum, checkFor, blockWith, block, blocks, blockAt, allZero, headerRight, countOf, finishOf, headBytes, restBytes, runningSum}
 use Rattle.model.specs.Promises.{Bytes}
 use Rattle.theory.specs.Refusals.Laws.{and-true, and-of}
 use Rattle.theory.specs.State.Sound.{zero-run}
+use Rattle.theory.specs.NetlistFile.RunningSum.{running-sum}
 use Rattle.theory.specs.NetlistFile.CellBytes.{from-shift, from-bytes, bytes-length, two-back, cells-back}
 
 -- One block that was written -----------------------------------------------------------------------------------------------------------
 
 -- a block's eight bytes before its cells
 pub frontOf : ℕ → ℕ → ℕ → List Cell → List ℕ
-frontOf b n f cs =
-    bytes16 b
-    ++ (bytes16 n
-    ++ (bytes16 f
-    ++ bytes16 (checkFor (wordSum (bytes16 b ++ (bytes16 n ++ bytes16 f)) + wordSum (cellBytes cs ++ replicate (504 - 6 * length cs) 0)))))
+frontOf b n f cs = headBytes b n f ++ bytes16 (checkFor (runningSum b n f cs))
 
 pub block-is : (b n f : ℕ) (cs : List Cell) (q : List ℕ) → block b n f cs ++ q ≡ frontOf b n f cs ++ (cellBytes cs ++ (replicate (504 - 6 * length cs) 0 ++ q))
 unfolding block frontOf bytes16
@@ -153,7 +150,7 @@ block-of b n f x₀ x₁ x₂ x₃ x₄ x₅ x₆ x₇ r h₀ h₂ h₄ h₆ h�
 pub block-back : (b n f : ℕ) (cs : List Cell) (B : List ℕ) → length B ≡ 512 → Bytes B → get16 B 0 ≡ b → get16 B 2 ≡ n → get16 B 4 ≡ f
     → wordSum B % 65536 ≡ 0 → length cs ≤ 84 → ((i : ℕ) → i < length cs → cellAt cs i ≡ cellFrom B (8 + 6 * i))
     → ((j : ℕ) → 8 + 6 * length cs ≤ j → getD B j 0 ≡ 0) → block b n f cs ≡ B
-unfolding block get16
+unfolding get16
 block-back b n f cs [] l y eb en ef s k c z = absurd (omega arith)
 block-back b n f cs (x₀ ∷ []) l y eb en ef s k c z = absurd (omega arith)
 block-back b n f cs (x₀ ∷ x₁ ∷ []) l y eb en ef s k c z = absurd (omega arith)
@@ -168,10 +165,10 @@ block-back b n f cs (x₀ ∷ x₁ ∷ x₂ ∷ x₃ ∷ x₄ ∷ x₅ ∷ x₆ 
     let rest : drop m r ≡ replicate (504 - m) 0 =
     zeros-back (504 - m) (drop m r) (rw (length-drop m r) (omega arith))
     (λ i. getD-drop m r i 0 ∙ sym (getD-append-add p r (m + i) 0) ∙ z (8 + (m + i)) (omega arith)) in
-    let whole : cellBytes cs ++ replicate (504 - m) 0 ≡ r =
+    let whole : restBytes cs ≡ r =
     ap (λ (q : List ℕ). cellBytes cs ++ q) (sym rest)
     ∙ cells-back cs r (λ i. rw (getD-append-add p r i 0) at (y (8 + i))) (λ i g. c i g ∙ from-shift p r (8 + 6 * i) (6 * i) (omega arith)) (omega arith) in
-    ap (blockWith b n f) whole ∙ block-of b n f x₀ x₁ x₂ x₃ x₄ x₅ x₆ x₇ r (y 0) (y 2) (y 4) (y 6) (y 7) (sym eb) (sym en) (sym ef) s
+    running-sum b n f .same cs ∙ ap (blockWith b n f) whole ∙ block-of b n f x₀ x₁ x₂ x₃ x₄ x₅ x₆ x₇ r (y 0) (y 2) (y 4) (y 6) (y 7) (sym eb) (sym en) (sym ef) s
 
 zero-all : (s : List ℕ) → allZero s ≡ true → (i : ℕ) → getD s i 0 ≡ 0
 unfolding allZero

@@ -19,6 +19,7 @@ use Rattle.model.specs.Promises.{Bytes}
 use Rattle.theory.specs.Refusals.Laws.{or-false, faultless}
 use Rattle.theory.specs.NetlistFile.Passed.{FilePassed, file-passed, count-range, count-cells}
 use Rattle.theory.specs.NetlistFile.CellBytes.{same-cell, cells-are, cell-of}
+use Rattle.theory.specs.NetlistFile.RunningSum.{running-sum}
 use Rattle.theory.specs.NetlistFile.Blocks.{in-block, block-sum, headed-written, block-at, blocks-length, count-is, finish-is, block-back, header-of, blocks-back, take-short}
 
 -- Cells of a block are cells of the file -----------------------------------------------------------------------------------------------
@@ -90,8 +91,10 @@ module _ (net : List Cell) (f : ℕ) (c : countWrong (blocksFor (length net)) (l
   some-cells = omega (arith, count-range m (length net) f c .0)
 
   sum-right : (b : ℕ) → b < m → sumFault (fileOf net f) b ≡ 0
-  unfolding sumFault block
-  sum-right b l = rw (written-at net f some-cells b l, block-sum b (length net) f (restBytes (take 84 (drop (84 * b) net))))
+  unfolding sumFault
+  sum-right b l =
+      let part = take 84 (drop (84 * b) net) in
+      rw (written-at net f some-cells b l, running-sum b (length net) f .same part, block-sum b (length net) f (restBytes part))
 
   header-right : (b : ℕ) → b < m → headerFault (fileOf net f) b ≡ 0
   unfolding headerFault

@@ -1,6 +1,7 @@
 -- `blocks::header_sum` meets its contract. Assumes nothing.
+use native.Mathlib.Omega.{arith}
 use borrow.Author.Needs.{needs}
-use Rattle.netlist.proofs.Putting.{head-added}
+use Rattle.model.specs.NetlistFile.{sumAfter, runningSum}
 use Rattle.netlist.proofs.blocks.header_sum.Statement.{statement}
 use Rattle.netlist.proofs.blocks.header_sum.Tie as tie
 
@@ -11,8 +12,8 @@ wrapping-add-u16-requires-2 : tie.Need-wrapping-add-u16-requires-2
 wrapping-add-u16-requires-2 c κs = search needs
 
 returns : tie.Need-returns
-returns c =
-    head-added (c .before .before .args .h) (c .before .wrapping-add-u16 .ensures) (c .wrapping-add-u162 .ensures)
+unfolding runningSum sumAfter
+returns c = omega arith
 
 pub header-sum-spec : {M : Type 1} → statement M
 header-sum-spec =

@@ -48,7 +48,8 @@ returns c =
     let l = cells-length inList (args .cells .now) (args .k) (args .n) in
     block-put d (args .i) (args .h) cs
     (rest-put d (args .i) (args .n) cs l (pre .2) (put-cells .ensures .0) (clear .ensures))
-    (rw (header-sum .ensures) at (put-cells .ensures .1))
+    (header-sum .ensures)
+    (put-cells .ensures .1)
     (c .before .before .put-header .ensures)
 
 pub put-block-spec : {M : Type 1} → statement M

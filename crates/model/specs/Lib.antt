@@ -1,4 +1,5 @@
 pub mod Word
+pub mod Ascii
 pub mod Refusals
 pub mod Program
 pub mod Rules
@@ -17,7 +18,7 @@ pub mod Hubtext
 pub mod Promises
 pub mod TablePromises
 pub mod TextPromises
-pub mod Times
+pub mod OperatorRows
 pub mod Netlists
 pub mod Cases
 pub mod Texts

@@ -2,7 +2,7 @@
 -- `code` is the prover's own number of a character, as "a" is 97. Assumes nothing: definitions.
 use mathlib.Core.List.{List, [], _∷_}
 use Prim.Native.Nat.{ℕ}
-use Prim.Native.Char.{Char, code}
+use Prim.Native.Char.{code}
 use Prim.Native.String.{String, [] as none, _∷_ as _then_}
 
 abbrev pub ascii : String → List ℕ

@@ -3,27 +3,24 @@
 -- because a state of forty bytes for each cell is too long to be computed here. Assumes nothing.
 use mathlib.Core.Path.{_≡_, refl}
 use mathlib.Core.List.{List, [], _∷_, _++_, map}
-use Prim.Native.Nat.{ℕ, zero, suc, _+_, _/_, _%_, _≤_}
+use Prim.Native.Nat.{ℕ, _+_, _/_, _%_, _≤_}
 use lib.ListN.{length, replicate}
 use Rattle.model.specs.declared.Checked.{Checked}
 use Rattle.model.specs.declared.Checked.the-variants.{Accepted}
 use Rattle.model.specs.declared.Outcome.the-variants.{Ended}
 use Rattle.model.specs.declared.Written.{Written}
 use Rattle.model.specs.declared.Answer.{Answer}
-use Rattle.model.specs.Word.{bit, operate, get16}
-use Rattle.model.specs.Refusals.{refuse, firstFault}
-use Rattle.model.specs.Program.{nodeAt, nodesFrom, rowOf, asExpr, asStmt, exprOf, stmtOf, treeOf, grow, forest, treesAt, exprAt, stmtAt, programOf, time, least, reads, writes, touches, clash, clashes, programLengthWrong, spare, faultOf, children, reading, slowAt, clashAt, builtInTimes, checkOf}
+use Rattle.model.specs.Word.{bit, operate}
+use Rattle.model.specs.Refusals.{refuse}
+use Rattle.model.specs.Program.{programOf}
 use Rattle.model.specs.Rules.{eval, put, over, kept, after, wait, chain, both, whiles, repeats, run}
 use Rattle.model.specs.Numbering.{netlist, finish}
 use Rattle.model.specs.TimeTables.{builtIn, load}
 use Rattle.model.specs.Calls.{checkCall, compileCall, runProgramCall, refusedAnswer, listed, referenceAnswer, answering, referenceCall}
 use Rattle.model.specs.Netlists.{numbering}
+use Rattle.model.specs.ProgramRows.{node, times, checkOfProgram}
 
 -- Programs -----------------------------------------------------------------------------------------------------------------------------
-
--- a node's four bytes; n below 256
-abbrev node : ℕ → ℕ → ℕ → List ℕ
-node k d n = k ∷ d ∷ n ∷ 0 ∷ []
 
 -- x0 := x0 + n, and x0 := x0 − 1 with d 17
 abbrev adding : ℕ → ℕ → List ℕ
@@ -31,11 +28,6 @@ adding d n = node 18 d 0 ++ node 4 0 0 ++ node 2 0 0 ++ node 1 0 n
 
 abbrev down : List ℕ
 down = node 18 17 0 ++ node 5 0 0 ++ node 2 0 0 ++ node 1 0 1
-
--- so many times
-unfoldable pub times : ℕ → List ℕ → List ℕ
-times zero s = []
-times (suc n) s = s ++ times n s
 
 -- The table ----------------------------------------------------------------------------------------------------------------------------
 
@@ -112,5 +104,5 @@ Hold [] = Unit {0}
 Hold (c ∷ cs) = (given c ≡ wanted c) × OnCircuit c × Hold cs
 
 pub cases-by-rules : map given cases ≡ map wanted cases
-unfolding cases given wanted times numbering bit operate get16 firstFault nodeAt nodesFrom rowOf asExpr asStmt exprOf stmtOf treeOf grow forest treesAt exprAt stmtAt time least reads writes touches clash clashes programLengthWrong spare faultOf children reading slowAt clashAt builtInTimes checkOf load eval put over kept after wait chain both whiles repeats run listed referenceAnswer answering referenceCall checkCall
+unfolding cases given wanted checkOfProgram numbering bit operate eval put over kept after wait chain both whiles repeats run listed referenceAnswer answering referenceCall
 cases-by-rules = refl

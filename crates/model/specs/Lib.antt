@@ -19,6 +19,11 @@ pub mod Promises
 pub mod TablePromises
 pub mod TextPromises
 pub mod OperatorRows
+pub mod ProgramRows
+pub mod TableRows
 pub mod Netlists
+pub mod NetlistRows
+pub mod StateRows
+pub mod CallRows
 pub mod Cases
 pub mod Texts

@@ -1,12 +1,11 @@
 -- Programs as text: the words of a text (refusal 17), and the grammar as derivations of a statement from words (refusal 18).
 -- "Spaces and line feeds separate words; letters and digits in a run make one word, and of signs the longest counts."
 -- Assumes nothing: definitions.
-use mathlib.Core.Path.{_≡_}
 use mathlib.Core.Bool.{Bool, true, false, _&&_, _||_, not}
 use mathlib.Core.List.{List, [], _∷_, _++_, map}
 use Prim.Native.Nat.{ℕ, zero, suc, _+_, _-_, _*_, _<_, _≤_}
 use Prim.Native.Char.{code}
-use lib.Dec.{eqb, leb, ltb}
+use lib.Dec.{eqb, leb}
 use lib.ListN.{length, getD, take, drop}
 use Rattle.model.specs.declared.Token.{Token}
 use Rattle.model.specs.declared.Checked.{Checked}

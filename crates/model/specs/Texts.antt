@@ -3,7 +3,6 @@
 -- Assumes nothing.
 use mathlib.Core.Path.{_≡_, refl}
 use mathlib.Core.List.{List, [], _∷_, map}
-use Prim.Native.Nat.{ℕ}
 use Prim.Native.Char.{code}
 use Prim.Native.String.{String}
 use lib.ListN.{replicate}
@@ -13,7 +12,7 @@ use Rattle.model.specs.Refusals.{refuse, first}
 use Rattle.model.specs.Program.{const, var, compl, op, Stmt, ok, tick, assign, seq, par, ite, while, repeat, preorderE, preorder}
 use Rattle.model.specs.Ascii.{ascii}
 use Rattle.model.specs.Text.{blank, digit, letter, runLength, allDigits, valueFrom, isNumber, isName, same, wordCode, twoCode, oneCode, limitAfter, runToken, tokenAt, sizeAt, wordsFrom, outside}
-use Rattle.model.specs.Reader.{Reading, good, bad, holdOf, reachOf, pop, topCode, topStart, leaf, opened, openedNode, between, closed, turned, settled, withDelay, onStatement, onOperand, onAfterOperand, onAfterStatement, onDelay, onBody, stepOf, isBroken, complete, readFrom}
+use Rattle.model.specs.Reader.{Reading, good, holdOf, reachOf, pop, topCode, topStart, leaf, opened, openedNode, between, closed, turned, settled, withDelay, onStatement, onOperand, onAfterOperand, onAfterStatement, onDelay, onBody, stepOf, isBroken, complete, readFrom}
 use Rattle.model.specs.TextCalls.{readingOf, brokenAt, textChecks}
 
 -- whoever unfolds this unfolds all that a text is read by

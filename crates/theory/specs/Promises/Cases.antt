@@ -23,7 +23,8 @@ use Rattle.model.specs.TimeTables.{builtIn, load}
 use Rattle.model.specs.State.{stateSize, nowAt, beginState}
 use Rattle.model.specs.Calls.{verdict, checkCall, writing, compiledFile, compileChecks, compileCall, wordAt, shows, running, beginCall, runProgramCall, referenceAnswer, answering, referenceChecks, referenceCall}
 use Rattle.model.specs.Promises.{Bytes, seen}
-use Rattle.model.specs.Cases.{Case, ends, refuses, compiles, passes, cases, start, endAnswer, Result, ran, numbered, checked, given, wanted, OnCircuit, Hold, times, cases-by-rules}
+use Rattle.model.specs.Cases.{Case, ends, refuses, compiles, passes, cases, start, endAnswer, Result, ran, numbered, checked, given, wanted, OnCircuit, Hold, cases-by-rules}
+use Rattle.model.specs.ProgramRows.{times}
 use Rattle.theory.specs.Refusals.Laws.{and-true, or-false, first-take, first-drop}
 use Rattle.theory.specs.Rules.Laws.{by-run}
 use Rattle.theory.specs.NetlistFile.Passed.{file-passed, count-range, count-cells}

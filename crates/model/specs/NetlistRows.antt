@@ -1,18 +1,22 @@
--- Cells, netlists and netlist files with what their check says, worked out by hand from the paper: refusals 9 to 12 with their places, and what
--- is just allowed; and one file, byte for byte. No theorem refuses a wrong condition or a wrong layout, because all of them cite the same ones.
+-- Cells, netlists and netlist files with what their check says, worked out by hand from the paper: refusals 9 to 12 with their places, what is
+-- just allowed, and one file byte for byte; then renumbering. No theorem refuses a wrong condition or a wrong layout, because all of them cite the same ones.
 -- Assumes nothing.
 use mathlib.Core.Path.{_≡_, refl}
 use mathlib.Core.List.{List, [], _∷_, _++_, map}
 use Prim.Native.Nat.{ℕ}
-use lib.ListN.{drop, set, replicate}
+use lib.ListN.{take, drop, set, replicate}
 use Rattle.model.specs.declared.Cell.{Cell}
 use Rattle.model.specs.declared.Checked.{Checked}
 use Rattle.model.specs.declared.Checked.the-variants.{Accepted}
+use Rattle.model.specs.declared.Written.{Written}
+use Rattle.model.specs.declared.Written.the-variants.{Done}
 use Rattle.model.specs.Word.{bit, get16, bytes16}
 use Rattle.model.specs.Refusals.{refuse, firstFault}
 use Rattle.model.specs.Circuit.{cell, shape, control, memories}
 use Rattle.model.specs.NetlistFile.{cellBytes, cellFrom, cellsAt, wordSum, restBytes, blockWith, block, blocks, fileOf, cellsOf, fileLengthWrong, sumFault, countWrong, allZero, headed, headerFault, controlIn, wordIn, keeps, placed, cellFault, netCheck, fileCheck}
-use Rattle.model.specs.Calls.{compiledFile}
+use Rattle.model.specs.TimeTables.{builtIn, load}
+use Rattle.model.specs.Calls.{Told, writing, compileCall, readCall, writeCall}
+use Rattle.model.specs.CellSlices.{namesA, namesB, moved, behind, renumberCall}
 use Rattle.model.specs.Netlists.{numbering, front, idle}
 use Rattle.model.specs.ProgramRows.{node, times, checkOfProgram}
 
@@ -145,13 +149,21 @@ small =
     ∷ 41 ∷ 0 ∷ 3 ∷ 0 ∷ 21 ∷ 0  -- 22 the 41 of 3 and 21
     ∷ replicate 366 0)
 
-small-right : compiledFile (node 18 1 0 ++ node 1 0 5) ≡ small
-unfolding small checkOfFile checkOfProgram numbering
-small-right = refl
-
 -- what stands behind its header: cell k begins at 6 k
 abbrev rest : List ℕ
 rest = drop 8 small
+
+-- compiling, reading and writing, and what they leave of a longer list
+calls : List (Told Written × Told Written)
+calls =
+    (compileCall (load builtIn) (node 18 1 0 ++ node 1 0 5) (replicate 514 7), record { answer = Done 512 4; lent = small ++ (7 ∷ 7 ∷ []) })
+    ∷ (readCall small (replicate 140 7), record { answer = Done 23 4; lent = take 138 rest ++ (7 ∷ 7 ∷ []) })
+    ∷ (writeCall (take 138 rest) 4 (replicate 513 7), record { answer = Done 512 4; lent = small ++ (7 ∷ []) })
+    ∷ []
+
+calls-right : map (λ r. r .0) calls ≡ map (λ r. r .1) calls
+unfolding calls small checkOfFile checkOfProgram numbering writing compileCall readCall writeCall
+calls-right = refl
 
 -- 85 cells in two blocks: 84, and one more
 abbrev five : Cell
@@ -210,3 +222,36 @@ files =
 files-right : map (λ r. fileCheck (r .0)) files ≡ map (λ r. r .1) files
 unfolding files small checkOfFile times
 files-right = refl
+
+-- Renumbering --------------------------------------------------------------------------------------------------------------------------
+
+-- a cell, and the same cell 100 places on: what it names moves, and a constant's value does not; a number has sixteen bits
+moves : List (Cell × Cell)
+moves =
+    (cell 1 0 5 0, cell 1 0 5 0)
+    ∷ (cell 3 0 18 0, cell 3 0 118 0)
+    ∷ (cell 4 0 2 18, cell 4 0 102 118)
+    ∷ (cell 9 0 2 18, cell 9 0 102 118)
+    ∷ (cell 32 0 0 0, cell 32 0 0 0)
+    ∷ (cell 33 0 0 0, cell 33 0 0 0)
+    ∷ (cell 34 9 0 0, cell 34 9 100 0)
+    ∷ (cell 35 0 0 1, cell 35 0 100 101)
+    ∷ (cell 36 0 0 18, cell 36 0 100 118)
+    ∷ (cell 37 0 0 18, cell 37 0 100 118)
+    ∷ (cell 38 0 0 1, cell 38 0 100 101)
+    ∷ (cell 40 0 1 2, cell 40 0 101 102)
+    ∷ (cell 41 0 0 65535, cell 41 0 100 99)
+    ∷ (cell 10 0 1 2, cell 10 0 1 2)
+    ∷ []
+
+moves-right : behind 100 (map (λ r. r .0) moves) ≡ map (λ r. r .1) moves
+unfolding moves moved namesA namesB shape
+moves-right = refl
+
+-- of four delays of six bytes each, those from 1 up to 3 moved; a list that is too short stays
+renumber-right :
+    (renumberCall 100 1 3 (cellBytes (cell 34 1 0 0 ∷ cell 34 1 1 0 ∷ cell 34 1 2 0 ∷ cell 34 1 3 0 ∷ []))
+    ≡ cellBytes (cell 34 1 0 0 ∷ cell 34 1 101 0 ∷ cell 34 1 102 0 ∷ cell 34 1 3 0 ∷ []))
+    × (renumberCall 100 0 2 (cellBytes (cell 34 1 0 0 ∷ [])) ≡ cellBytes (cell 34 1 0 0 ∷ []))
+unfolding checkOfFile moved namesA namesB
+renumber-right = (refl, refl)

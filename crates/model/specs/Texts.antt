@@ -1,19 +1,26 @@
--- Texts written by hand, with the statement that each is, or with its refusal: rows of two tables, computed.
--- Every kind of statement and operator, groupings, limits of numbers, and places.
+-- Texts written by hand, with the statement that each is, or with its refusal: every kind of statement and operator, groupings, limits of
+-- numbers, and places. Then what hubrun prints and hubtext writes. Rows of tables, computed; `ascii` turns a quoted text into its bytes.
 -- Assumes nothing.
 use mathlib.Core.Path.{_≡_, refl}
-use mathlib.Core.List.{List, [], _∷_, map}
+use mathlib.Core.List.{List, [], _∷_, _++_, map}
+use Prim.Native.Nat.{ℕ}
 use Prim.Native.Char.{code}
 use Prim.Native.String.{String}
 use lib.ListN.{replicate}
 use Rattle.model.specs.declared.Checked.{Checked}
 use Rattle.model.specs.declared.Checked.the-variants.{Accepted}
+use Rattle.model.specs.declared.Outcome.the-variants.{Ended, Open}
+use Rattle.model.specs.declared.Answer.{Answer}
 use Rattle.model.specs.Refusals.{refuse, first}
 use Rattle.model.specs.Program.{const, var, compl, op, Stmt, ok, tick, assign, seq, par, ite, while, repeat, preorderE, preorder}
 use Rattle.model.specs.Ascii.{ascii}
 use Rattle.model.specs.Text.{blank, digit, letter, runLength, allDigits, valueFrom, isNumber, isName, same, wordCode, twoCode, oneCode, limitAfter, runToken, tokenAt, sizeAt, wordsFrom, outside}
 use Rattle.model.specs.Reader.{Reading, good, holdOf, reachOf, pop, topCode, topStart, leaf, opened, openedNode, between, closed, turned, settled, withDelay, onStatement, onOperand, onAfterOperand, onAfterStatement, onDelay, onBody, stepOf, isBroken, complete, readFrom}
-use Rattle.model.specs.TextCalls.{readingOf, brokenAt, textChecks}
+use Rattle.model.specs.Calls.{writing, refusedAnswer}
+use Rattle.model.specs.Hubrun.{digits, line, linesOf, textOf, hubrunText}
+use Rattle.model.specs.TextCalls.{readingOf, brokenAt, bytesRead, textChecks, readTextCall}
+use Rattle.model.specs.Hubtext.{written, hubtextOutput}
+use Rattle.model.specs.ProgramRows.{checkOfProgram}
 
 -- whoever unfolds this unfolds all that a text is read by
 unfoldable readingOfText : String → Reading
@@ -26,9 +33,25 @@ readings =
     ("ok", ok)
     ∷ ("x0 := x0+3 @16; x0:=x0 +4@16", seq (assign 16 0 (op 4 (var 0) (const 3))) (assign 16 0 (op 4 (var 0) (const 4))))
     ∷ ("repeat x0 := x0-1 @17 until x0 = 0 @6 end", repeat 6 (op 8 (var 0) (const 0)) (assign 17 0 (op 5 (var 0) (const 1))))
-    ∷ ("if x0 @0 then tick 1 else tick 9 end || ok ; {ok || tick 255}; ok", par (ite 0 (var 0) (tick 1) (tick 9)) (seq ok (seq (par ok (tick 255)) ok)))
-    ∷ ("x15 := !x1 - 2 + (3 | 4 & !!5 < 6 + 7) = 8 & 9 | 65535 @200", assign 200 15 (op 7 (op 6 (op 8 (op 4 (op 5 (compl (var 1)) (const 2)) (op 7 (const 3) (op 6 (const 4) (op 9 (compl (compl (const 5))) (op 4 (const 6) (const 7)))))) (const 8)) (const 9)) (const 65535)))
-    ∷ ("repeat ok; tick 2 until 1 | 2 @1 end; while 1 @1 do repeat ok until 2 + 3 + 4@ 3 end end", seq (repeat 1 (op 7 (const 1) (const 2)) (seq ok (tick 2))) (while 1 (const 1) (repeat 3 (op 4 (op 4 (const 2) (const 3)) (const 4)) ok)))
+    ∷ (
+      "if x0 @0 then tick 1 else tick 9 end || ok ; {ok || tick 255}; ok",
+      par (ite 0 (var 0) (tick 1) (tick 9)) (seq ok (seq (par ok (tick 255)) ok)),
+    )
+    ∷ (
+      "x15 := !x1 - 2 + (3 | 4 & !!5 < 6 + 7) = 8 & 9 | 65535 @200",
+      assign 200 15
+          (op 7
+          (op 6
+          (op 8
+          (op 4 (op 5 (compl (var 1)) (const 2)) (op 7 (const 3) (op 6 (const 4) (op 9 (compl (compl (const 5))) (op 4 (const 6) (const 7))))))
+          (const 8))
+          (const 9))
+          (const 65535)),
+    )
+    ∷ (
+      "repeat ok; tick 2 until 1 | 2 @1 end; while 1 @1 do repeat ok until 2 + 3 + 4@ 3 end end",
+      seq (repeat 1 (op 7 (const 1) (const 2)) (seq ok (tick 2))) (while 1 (const 1) (repeat 3 (op 4 (op 4 (const 2) (const 3)) (const 4)) ok)),
+    )
     ∷ ("tick 1; tick 2 || tick 3; tick 4", par (seq (tick 1) (tick 2)) (seq (tick 3) (tick 4)))
     ∷ ("ok || ok || ok", par ok (par ok ok))
     ∷ ("ok; ok; ok", seq ok (seq ok ok))
@@ -79,3 +102,33 @@ refusals-right = refl
 long-right : map (λ n. first (textChecks (replicate n (code " ")))) (4096 ∷ 4097 ∷ []) ≡ refuse 18 4096 ∷ refuse 17 4096 ∷ []
 unfolding readingOfText outside brokenAt
 long-right = refl
+
+-- an answer, and what hubrun prints of it; the paper's own example is a row of Cases
+answers : List (Answer × String)
+answers =
+    (record { outcome = Ended; instant = 0; count = 1; words = replicate 15 0 ++ (65535 ∷ []) }, "end 0\n0 0 0 0 0 0 0 0 0 0 0 0 0 0 0 65535\n")
+    ∷ (record { outcome = Open; instant = 1000000; count = 7; words = replicate 16 10 }, "open 1000000\n10 10 10 10 10 10 10 10 10 10 10 10 10 10 10 10\n")
+    ∷ (refusedAnswer (record { number = 12; place = 84 }), "refused 12 84\n")
+    ∷ []
+
+answers-right : map (λ r. textOf (r .0)) answers ≡ map (λ r. ascii (r .1)) answers
+unfolding answers digits line linesOf
+answers-right = refl
+
+-- "Input under 36 bytes is refusal 1, place 0."
+short-right : hubrunText (replicate 35 0) ≡ ascii "refused 1 0\n"
+unfolding hubrunText digits line linesOf
+short-right = refl
+
+-- a text, and the bytes that hubtext writes for it: the program, or a line
+outputs : List (String × List ℕ)
+outputs =
+    ("ok; tick 3", 19 ∷ 0 ∷ 0 ∷ 0 ∷ 16 ∷ 0 ∷ 0 ∷ 0 ∷ 17 ∷ 3 ∷ 0 ∷ 0 ∷ [])
+    ∷ ("x2 := 513 @7", 18 ∷ 7 ∷ 2 ∷ 0 ∷ 1 ∷ 0 ∷ 1 ∷ 2 ∷ [])
+    ∷ ("ok; x16 := 0 @1", ascii "refused 17 4\n")
+    ∷ ("ok; tick 0", ascii "refused 7 2\n")
+    ∷ []
+
+outputs-right : map (λ r. hubtextOutput (ascii (r .0))) outputs ≡ map (λ r. r .1) outputs
+unfolding outputs readingOfText outside brokenAt checkOfProgram bytesRead writing readTextCall written hubtextOutput digits line
+outputs-right = refl

@@ -3,27 +3,30 @@
 -- because a state of forty bytes for each cell is too long to be computed here. Assumes nothing.
 use mathlib.Core.Path.{_≡_, refl}
 use mathlib.Core.List.{List, [], _∷_, _++_, map}
-use Prim.Native.Nat.{ℕ, zero, suc, _+_, _/_, _%_, _≤_}
-use lib.ListN.{length, replicate}
+use Prim.Native.Nat.{ℕ, _+_, _*_, _/_, _%_, _≤_}
+use Prim.Native.String.{String}
+use lib.ListN.{length, take, replicate}
 use Rattle.model.specs.declared.Checked.{Checked}
 use Rattle.model.specs.declared.Checked.the-variants.{Accepted}
+use Rattle.model.specs.declared.Outcome.{Outcome}
 use Rattle.model.specs.declared.Outcome.the-variants.{Ended}
 use Rattle.model.specs.declared.Written.{Written}
+use Rattle.model.specs.declared.Written.the-variants.{Done}
 use Rattle.model.specs.declared.Answer.{Answer}
-use Rattle.model.specs.Word.{bit, operate, get16}
-use Rattle.model.specs.Refusals.{refuse, firstFault}
-use Rattle.model.specs.Program.{nodeAt, nodesFrom, rowOf, asExpr, asStmt, exprOf, stmtOf, treeOf, grow, forest, treesAt, exprAt, stmtAt, programOf, time, least, reads, writes, touches, conflict, conflicts, programLengthWrong, unusedSet, nodeFault, children, reading, delayFault, conflictFault, builtInTimes, checkOf}
+use Rattle.model.specs.Word.{bit, operate}
+use Rattle.model.specs.Refusals.{refuse}
+use Rattle.model.specs.Program.{programOf}
 use Rattle.model.specs.Rules.{eval, put, over, kept, after, wait, chain, both, whiles, repeats, run}
 use Rattle.model.specs.Numbering.{netlist, finish}
+use Rattle.model.specs.NetlistFile.{blocksFor, cellsOf}
 use Rattle.model.specs.TimeTables.{builtIn, load}
-use Rattle.model.specs.Calls.{checkCall, compileCall, runProgramCall, refusedAnswer, listed, referenceAnswer, answering, referenceCall}
+use Rattle.model.specs.Calls.{writtenVerdict, checkCall, compileCall, runProgramCall, refusedAnswer, listed, referenceAnswer, answering, referenceCall}
+use Rattle.model.specs.Ascii.{ascii}
+use Rattle.model.specs.Hubrun.{digits, line, linesOf, textOf, hubrunText}
 use Rattle.model.specs.Netlists.{numbering}
+use Rattle.model.specs.ProgramRows.{node, times, checkOfProgram}
 
 -- Programs -----------------------------------------------------------------------------------------------------------------------------
-
--- a node's four bytes; n below 256
-abbrev node : ℕ → ℕ → ℕ → List ℕ
-node k d n = k ∷ d ∷ n ∷ 0 ∷ []
 
 -- x0 := x0 + n, and x0 := x0 − 1 with d 17
 abbrev adding : ℕ → ℕ → List ℕ
@@ -31,11 +34,6 @@ adding d n = node 18 d 0 ++ node 4 0 0 ++ node 2 0 0 ++ node 1 0 n
 
 abbrev down : List ℕ
 down = node 18 17 0 ++ node 5 0 0 ++ node 2 0 0 ++ node 1 0 1
-
--- so many times
-unfoldable pub times : ℕ → List ℕ → List ℕ
-times zero s = []
-times (suc n) s = s ++ times n s
 
 -- The table ----------------------------------------------------------------------------------------------------------------------------
 
@@ -46,6 +44,8 @@ pub data Case : Type 0 where
   refuses : List ℕ → ℕ → ℕ → Case
   -- the program, how many cells its netlist has, its finish cell
   compiles : List ℕ → ℕ → ℕ → Case
+  -- the program, word 0 at the start, the budget below 65,536, and what hubrun prints of its run, which ends
+  prints : List ℕ → ℕ → ℕ → String → Case
   -- the program passes the check
   passes : List ℕ → Case
 
@@ -54,6 +54,7 @@ cases =
     ends (node 16 0 0) 0 10 0 0  -- 1
     ∷ ends (node 18 1 0 ++ node 1 0 5) 0 10 2 5  -- 2
     ∷ compiles (node 18 1 0 ++ node 1 0 5) 23 4
+    ∷ prints (node 18 1 0 ++ node 1 0 5) 0 10 "end 2\n5 0 0 0 0 0 0 0 0 0 0 0 0 0 0 0\n"
     ∷ ends (node 19 0 0 ++ adding 16 3 ++ adding 16 4) 0 100 34 7  -- 3
     ∷ refuses (node 19 0 0 ++ adding 16 3 ++ adding 15 4) 7 5
     ∷ ends (node 20 0 0 ++ node 17 3 0 ++ node 17 5 0) 0 100 5 0  -- 4
@@ -71,46 +72,59 @@ cases =
     ∷ passes (times 99 (node 19 0 0) ++ node 18 1 0 ++ node 1 0 0 ++ times 99 (node 16 0 0))
     ∷ []
 
--- 32 bytes of start words with word 0 given, and what a run that ends answers
+-- 32 bytes of start words with word 0 given, hubrun's input, and what a run that ends answers
 abbrev pub start : ℕ → List ℕ
 start v = v % 256 ∷ v / 256 ∷ replicate 30 0
+
+abbrev pub hubrunInput : List ℕ → ℕ → ℕ → List ℕ
+hubrunInput p v n = start v ++ (n % 256 ∷ n / 256 ∷ 0 ∷ 0 ∷ p)
 
 abbrev pub endAnswer : ℕ → ℕ → Answer
 endAnswer t w = record { outcome = Ended; instant = t; count = t + 1; words = w ∷ replicate 15 0 }
 
--- what the program alone gives: its check, its rules, its numbering
+-- what the program alone gives: its check, its rules, its numbering, its rules' answer as a text
 pub data Result : Type 0 where
   ran : Checked → Answer → Result
-  numbered : ℕ → ℕ → Result
+  numbered : Checked → ℕ → ℕ → Result
+  printed : Checked → Outcome → List ℕ → Result
   checked : Checked → Result
 
 unfoldable pub computed : Case → Result
 computed (ends p v n t w) = ran (checkCall (load builtIn) p) (referenceCall (load builtIn) p (start v) n)
 computed (refuses p k i) = ran (checkCall (load builtIn) p) (referenceCall (load builtIn) p (start 0) 100)
-computed (compiles p n f) = numbered (length (netlist (programOf p))) (finish (programOf p))
+computed (compiles p n f) = numbered (checkCall (load builtIn) p) (length (netlist (programOf p))) (finish (programOf p))
+computed (prints p v n text) =
+    let a = referenceCall (load builtIn) p (start v) n in
+    printed (checkCall (load builtIn) p) (a .outcome) (textOf a)
 computed (passes p) = checked (checkCall (load builtIn) p)
 
 unfoldable pub wanted : Case → Result
 wanted (ends p v n t w) = ran Accepted (endAnswer t w)
 wanted (refuses p k i) = ran (refuse k i) (refusedAnswer (record { number = k; place = i }))
-wanted (compiles p n f) = numbered n f
+wanted (compiles p n f) = numbered Accepted n f
+wanted (prints p v n text) = printed Accepted Ended (ascii text)
 wanted (passes p) = checked Accepted
 
--- what the calls that go through the circuit give, with whatever is lent
+-- what the calls that go through the circuit give, with whatever is lent; and hubrun, which has buffers of its own
 unfoldable pub OnCircuit : Case → Type 0
 OnCircuit (ends p v n t w) =
     (forFile forState : List ℕ) → 6656 ≤ length forFile → 40968 ≤ length forState
     → runProgramCall (load builtIn) p (start v) n forFile forState .answer ≡ endAnswer t w
 OnCircuit (refuses p k i) =
     (lent : List ℕ) → compileCall (load builtIn) p lent ≡ record { answer = Written.Refused (record { number = k; place = i }); lent = lent }
-OnCircuit (compiles p n f) = Unit {0}
-OnCircuit (passes p) = Unit {0}
+OnCircuit (compiles p n f) =
+    (lent : List ℕ) → 6656 ≤ length lent →
+    let size = 512 * blocksFor n in
+    let r = compileCall (load builtIn) p lent in
+    (r .answer ≡ Done size f) × (length (cellsOf (take size (r .lent))) ≡ n)
+OnCircuit (prints p v n text) = hubrunText (hubrunInput p v n) ≡ ascii text
+OnCircuit (passes p) = (lent : List ℕ) → 6656 ≤ length lent → writtenVerdict (compileCall (load builtIn) p lent .answer) ≡ Accepted
 
--- that every row holds: proved in theory/Cases
+-- that every row holds: `cases-hold`
 unfoldable pub Hold : List Case → Type 0
 Hold [] = Unit {0}
 Hold (c ∷ cs) = (computed c ≡ wanted c) × OnCircuit c × Hold cs
 
 pub cases-by-rules : map computed cases ≡ map wanted cases
-unfolding cases computed wanted times numbering bit operate get16 firstFault nodeAt nodesFrom rowOf asExpr asStmt exprOf stmtOf treeOf grow forest treesAt exprAt stmtAt time least reads writes touches conflict conflicts programLengthWrong unusedSet nodeFault children reading delayFault conflictFault builtInTimes checkOf load eval put over kept after wait chain both whiles repeats run listed referenceAnswer answering referenceCall checkCall
+unfolding cases computed wanted checkOfProgram numbering bit operate eval put over kept after wait chain both whiles repeats run listed referenceAnswer answering referenceCall digits line linesOf
 cases-by-rules = refl

@@ -4,19 +4,21 @@
 use mathlib.Core.Bool.{true, false}
 use mathlib.Core.List.{List, [], _∷_, _++_, map}
 use Prim.Native.Nat.{ℕ, zero, suc, _+_, _/_, _%_}
+use Prim.Native.Char.{code}
 use lib.Dec.{ltb}
 use lib.ListN.{length, take, drop, replicate}
 use Rattle.model.specs.declared.Outcome.{Outcome}
 use Rattle.model.specs.declared.Outcome.the-variants.{Ended, Open, Refused}
 use Rattle.model.specs.declared.Answer.{Answer}
 use Rattle.model.specs.Word.{pick, get32}
+use Rattle.model.specs.Ascii.{ascii}
 use Rattle.model.specs.TimeTables.{builtIn, load}
 use Rattle.model.specs.Calls.{refusedAnswer, runProgramCall}
 
 -- the decimal digits of a number of at most m digits, with no zero in front
 unfoldable pub digits : ℕ → ℕ → List ℕ
 digits zero n = []
-digits (suc m) n = elim (ltb n 10) [ true ↦ (48 + n) ∷ [] | false ↦ digits m (n / 10) ++ ((48 + n % 10) ∷ []) ]
+digits (suc m) n = elim (ltb n 10) [ true ↦ (code "0" + n) ∷ [] | false ↦ digits m (n / 10) ++ ((code "0" + n % 10) ∷ []) ]
 
 -- twenty are enough for every number of 64 bits
 abbrev pub decimal : ℕ → List ℕ
@@ -24,18 +26,18 @@ decimal n = digits 20 n
 
 -- words in a line
 unfoldable pub line : List (List ℕ) → List ℕ
-line [] = 10 ∷ []
-line (w ∷ []) = w ++ (10 ∷ [])
-line (w ∷ (v ∷ ws)) = w ++ (32 ∷ line (v ∷ ws))
+line [] = code "\n" ∷ []
+line (w ∷ []) = w ++ (code "\n" ∷ [])
+line (w ∷ (v ∷ ws)) = w ++ (code " " ∷ line (v ∷ ws))
 
 abbrev pub endWord : List ℕ
-endWord = 101 ∷ 110 ∷ 100 ∷ []
+endWord = ascii "end"
 
 abbrev pub openWord : List ℕ
-openWord = 111 ∷ 112 ∷ 101 ∷ 110 ∷ []
+openWord = ascii "open"
 
 abbrev pub refusedWord : List ℕ
-refusedWord = 114 ∷ 101 ∷ 102 ∷ 117 ∷ 115 ∷ 101 ∷ 100 ∷ []
+refusedWord = ascii "refused"
 
 unfoldable pub linesOf : Outcome → ℕ → List ℕ → List ℕ
 linesOf Ended t words = line (endWord ∷ decimal t ∷ []) ++ line (map decimal words)

@@ -1,4 +1,5 @@
 pub mod Word
+pub mod Ascii
 pub mod Refusals
 pub mod Program
 pub mod Rules
@@ -20,7 +21,12 @@ pub mod TablePromises
 pub mod ProgramPromises
 pub mod CellPromises
 pub mod TextPromises
-pub mod Times
+pub mod OperatorRows
+pub mod ProgramRows
+pub mod TableRows
 pub mod Netlists
+pub mod NetlistRows
+pub mod StateRows
+pub mod CallRows
 pub mod Cases
 pub mod Texts

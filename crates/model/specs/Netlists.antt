@@ -21,10 +21,10 @@ record Drawn : Type 0 where
   end : ℕ
 
 -- cells 0 to 2, and n memories of variables never assigned
-abbrev front : List Cell → List Cell
+abbrev pub front : List Cell → List Cell
 front l = cell 32 0 0 0 ∷ cell 33 0 0 0 ∷ cell 1 0 0 0 ∷ l
 
-abbrev idle : ℕ → List Cell → List Cell
+abbrev pub idle : ℕ → List Cell → List Cell
 idle zero l = l
 idle (suc n) l = cell 40 0 1 2 ∷ idle n l
 

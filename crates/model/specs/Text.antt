@@ -1,16 +1,17 @@
 -- Programs as text: the words of a text (refusal 17), and the grammar as derivations of a statement from words (refusal 18).
 -- "Spaces and line feeds separate words; letters and digits in a run make one word, and of signs the longest counts."
 -- Assumes nothing: definitions.
-use mathlib.Core.Path.{_≡_}
 use mathlib.Core.Bool.{Bool, true, false, _&&_, _||_, not}
 use mathlib.Core.List.{List, [], _∷_, _++_, map}
 use Prim.Native.Nat.{ℕ, zero, suc, _+_, _-_, _*_, _<_, _≤_}
-use lib.Dec.{eqb, leb, ltb}
+use Prim.Native.Char.{code}
+use lib.Dec.{eqb, leb}
 use lib.ListN.{length, getD, take, drop}
 use Rattle.model.specs.declared.texts.Token.{Token}
 use Rattle.model.specs.declared.Checked.{Checked}
 use Rattle.model.specs.declared.Checked.the-variants.{Accepted}
 use Rattle.model.specs.Word.{pick}
+use Rattle.model.specs.Ascii.{ascii}
 use Rattle.model.specs.Refusals.{refuse}
 use Rattle.model.specs.Program.{Expr, const, var, compl, op, Stmt, ok, tick, assign, seq, par, ite, while, repeat}
 
@@ -65,13 +66,13 @@ cRight = 41
 -- Words --------------------------------------------------------------------------------------------------------------------------------
 
 unfoldable pub blank : ℕ → Bool
-blank c = eqb c 32 || eqb c 10
+blank c = eqb c (code " ") || eqb c (code "\n")
 
 unfoldable pub digit : ℕ → Bool
-digit c = leb 48 c && leb c 57
+digit c = leb (code "0") c && leb c (code "9")
 
 unfoldable pub letter : ℕ → Bool
-letter c = (leb 65 c && leb c 90) || (leb 97 c && leb c 122)
+letter c = (leb (code "A") c && leb c (code "Z")) || (leb (code "a") c && leb c (code "z"))
 
 -- "letters and digits in a run make one word": how many bytes at the front of s are such
 unfoldable pub runLength : List ℕ → ℕ
@@ -85,16 +86,16 @@ allDigits (c ∷ s) = digit c && allDigits s
 
 unfoldable pub valueFrom : ℕ → List ℕ → ℕ
 valueFrom v [] = v
-valueFrom v (c ∷ s) = valueFrom (10 * v + (c - 48)) s
+valueFrom v (c ∷ s) = valueFrom (10 * v + (c - code "0")) s
 
 unfoldable pub isNumber : ℕ → List ℕ → Bool
 isNumber limit w =
     (leb 1 (length w) && leb (length w) 5)
-    && (allDigits w && ((eqb (length w) 1 || not (eqb (getD w 0 0) 48)) && leb (valueFrom 0 w) limit))
+    && (allDigits w && ((eqb (length w) 1 || not (eqb (getD w 0 0) (code "0"))) && leb (valueFrom 0 w) limit))
 
 -- "xk", k from 0 to 15
 unfoldable pub isName : List ℕ → Bool
-isName w = eqb (getD w 0 0) 120 && isNumber 15 (drop 1 w)
+isName w = eqb (getD w 0 0) (code "x") && isNumber 15 (drop 1 w)
 
 unfoldable pub same : List ℕ → List ℕ → Bool
 same [] [] = true
@@ -105,38 +106,38 @@ same (c ∷ s) (d ∷ t) = eqb c d && same s t
 -- the code of a word of letters, 0 for one that is "outside these"
 unfoldable pub wordCode : List ℕ → ℕ
 wordCode w =
-    pick (same w (111 ∷ 107 ∷ [])) 16  -- ok
-    (pick (same w (116 ∷ 105 ∷ 99 ∷ 107 ∷ [])) 17  -- tick
-    (pick (same w (105 ∷ 102 ∷ [])) 21  -- if
-    (pick (same w (119 ∷ 104 ∷ 105 ∷ 108 ∷ 101 ∷ [])) 22  -- while
-    (pick (same w (114 ∷ 101 ∷ 112 ∷ 101 ∷ 97 ∷ 116 ∷ [])) 23  -- repeat
-    (pick (same w (116 ∷ 104 ∷ 101 ∷ 110 ∷ [])) cThen
-    (pick (same w (101 ∷ 108 ∷ 115 ∷ 101 ∷ [])) cElse
-    (pick (same w (100 ∷ 111 ∷ [])) cDo
-    (pick (same w (117 ∷ 110 ∷ 116 ∷ 105 ∷ 108 ∷ [])) cUntil
-    (pick (same w (101 ∷ 110 ∷ 100 ∷ [])) cEnd 0)))))))))
+    pick (same w (ascii "ok")) 16
+    (pick (same w (ascii "tick")) 17
+    (pick (same w (ascii "if")) 21
+    (pick (same w (ascii "while")) 22
+    (pick (same w (ascii "repeat")) 23
+    (pick (same w (ascii "then")) cThen
+    (pick (same w (ascii "else")) cElse
+    (pick (same w (ascii "do")) cDo
+    (pick (same w (ascii "until")) cUntil
+    (pick (same w (ascii "end")) cEnd 0)))))))))
 
 -- "of signs the longest counts": := and || are the signs of two characters
 unfoldable pub twoCode : ℕ → ℕ → ℕ
 twoCode c d =
-    pick (eqb c 58 && eqb d 61) 18
-    (pick (eqb c 124 && eqb d 124) 20 0)
+    pick (eqb c (code ":") && eqb d (code "=")) 18
+    (pick (eqb c (code "|") && eqb d (code "|")) 20 0)
 
 unfoldable pub oneCode : ℕ → ℕ
 oneCode c =
-    pick (eqb c 33) 3  -- !
-    (pick (eqb c 43) 4  -- +
-    (pick (eqb c 45) 5  -- -
-    (pick (eqb c 38) 6  -- &
-    (pick (eqb c 124) 7  -- |
-    (pick (eqb c 61) 8  -- =
-    (pick (eqb c 60) 9  -- <
-    (pick (eqb c 59) 19  -- ;
-    (pick (eqb c 64) cAt  -- @
-    (pick (eqb c 40) cOpen
-    (pick (eqb c 41) cClose
-    (pick (eqb c 123) cLeft
-    (pick (eqb c 125) cRight 0))))))))))))
+    pick (eqb c (code "!")) 3
+    (pick (eqb c (code "+")) 4
+    (pick (eqb c (code "-")) 5
+    (pick (eqb c (code "&")) 6
+    (pick (eqb c (code "|")) 7
+    (pick (eqb c (code "=")) 8
+    (pick (eqb c (code "<")) 9
+    (pick (eqb c (code ";")) 19
+    (pick (eqb c (code "@")) cAt
+    (pick (eqb c (code "(")) cOpen
+    (pick (eqb c (code ")")) cClose
+    (pick (eqb c (code "{")) cLeft
+    (pick (eqb c (code "}")) cRight 0))))))))))))
 
 -- "to 65,535, right after `@` or `tick` to 255": after a token of code p
 unfoldable pub limitAfter : ℕ → ℕ

@@ -1,12 +1,11 @@
 -- Tables of operator times: the file that gives one, refusals 19 to 21, and what a table is loaded as.
 -- "Clubs buy gate parts of different speeds. A one-block file gives the times". "Refusal 7 uses it; without one the built-in serves."
 -- Assumes nothing: definitions.
-use mathlib.Core.Path.{_≡_, refl}
 use mathlib.Core.Bool.{Bool, false, not, _&&_, _||_}
 use mathlib.Core.List.{List, [], _∷_}
 use Prim.Native.Nat.{ℕ, _%_}
 use lib.Dec.{eqb, leb, ltb}
-use lib.ListN.{length, getD, replicate}
+use lib.ListN.{length, getD}
 use Rattle.model.specs.declared.Loaded.{Loaded}
 use Rattle.model.specs.declared.Checked.{Checked}
 use Rattle.model.specs.declared.Checked.the-variants.{Accepted}
@@ -64,11 +63,3 @@ pub data TimeTable : Type 0 where
 unfoldable pub load : TimeTable → Loaded
 load builtIn = record { checked = Accepted; times = builtInTimes }
 load (given file) = record { checked = first (tableChecks file); times = timesIn file }
-
--- the built-in times as a file, which loads
-builtInFile : List ℕ
-builtInFile = 0 ∷ 0 ∷ 9 ∷ 0 ∷ 0 ∷ 0 ∷ 211 ∷ 232 ∷ 0 ∷ 0 ∷ 1 ∷ 16 ∷ 17 ∷ 1 ∷ 1 ∷ 6 ∷ 17 ∷ replicate 495 0
-
-built-in-loads : load (given builtInFile) ≡ load builtIn
-unfolding builtInFile load tableSumWrong tableFault byteWrong wordSum firstFault timesIn builtInTimes
-built-in-loads = refl

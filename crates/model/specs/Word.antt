@@ -1,7 +1,6 @@
 -- Words of sixteen bits, their operators, and numbers in bytes.
 -- "A word has 16 bits." "Numbers of two or four bytes have the low byte first."
 -- Assumes nothing: definitions.
-use mathlib.Core.Path.{_≡_, refl}
 use mathlib.Core.Bool.{Bool, true, false}
 use mathlib.Core.List.{List, [], _∷_}
 use Prim.Native.Nat.{ℕ, _+_, _-_, _*_, _/_, _%_}
@@ -42,11 +41,6 @@ operate k x y =
     (pick (eqb k 7) (bitOr x y)
     (pick (eqb k 8) (bit (eqb x y))
     (bit (ltb (biased x) (biased y))))))))
-
--- "−1 < 0 is 1, and 32,767 < −32,768 is 0"
-less-signed : (operate 9 65535 0 ≡ 1) × (operate 9 32767 32768 ≡ 0)
-unfolding operate biased bit
-less-signed = (refl, refl)
 
 -- Numbers in bytes ---------------------------------------------------------------------------------------------------------------------
 

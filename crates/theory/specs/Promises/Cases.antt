@@ -1,40 +1,56 @@
 -- Every row of the paper's cases holds, by the rules and on the circuit: a full run and the reference run of an accepted program agree.
 -- Assumes nothing.
-use mathlib.Core.Path.{_≡_, refl, sym, _∙_, ap}
+use mathlib.Core.Path.{_≡_, refl, _∙_, ap, ap₂}
 use mathlib.Core.Bool.{Bool, true, _&&_}
 use mathlib.Core.List.{List, [], _∷_, map}
-use Prim.Native.Nat.{ℕ, zero, suc, _+_, _≤_}
+use Prim.Native.Nat.{ℕ, zero, suc, _+_, _*_, _/_, _%_, _≤_}
 use native.Mathlib.Omega.{arith}
 use lib.Dec.{eqb, ltb}
-use lib.ListN.{length}
+use lib.ListN.{length, replicate}
 use borrow.Author.Tests.{ltb-true, ltb-false, le-ltb}
 use Rattle.model.specs.declared.Loaded.{Loaded}
 use Rattle.model.specs.declared.Checked.{Checked}
 use Rattle.model.specs.declared.Checked.the-variants.{Accepted}
 use Rattle.model.specs.declared.Outcome.{Outcome}
 use Rattle.model.specs.declared.Outcome.the-variants.{Ended, Open}
+use Rattle.model.specs.declared.Written.the-variants.{Done}
 use Rattle.model.specs.declared.Answer.{Answer}
-use Rattle.model.specs.Refusals.{refuse}
+use Rattle.model.specs.Word.{get16, get32}
+use Rattle.model.specs.Refusals.{first, refuse}
 use Rattle.model.specs.Program.{programOf}
-use Rattle.model.specs.Rules.{Store, ended, still, run}
-use Rattle.model.specs.Circuit.{high}
-use Rattle.model.specs.NetlistFile.{fileCheck, cellsOf, finishOf, fileLengthWrong}
+use Rattle.model.specs.NetlistFile.{blocksFor, fileCheck, cellsOf, fileLengthWrong}
+use Rattle.model.specs.Numbering.{netlist, finish}
 use Rattle.model.specs.TimeTables.{builtIn, load}
-use Rattle.model.specs.State.{stateSize, nowAt, beginState}
-use Rattle.model.specs.Calls.{verdict, checkCall, writing, compiledFile, compileChecks, compileCall, wordAt, shows, running, beginCall, runProgramCall, referenceAnswer, answering, referenceChecks, referenceCall}
-use Rattle.model.specs.Promises.{Bytes, seen}
-use Rattle.model.specs.Cases.{Case, ends, refuses, compiles, passes, cases, start, endAnswer, Result, ran, numbered, checked, computed, wanted, OnCircuit, Hold, times, cases-by-rules}
+use Rattle.model.specs.State.{stateSize}
+use Rattle.model.specs.Calls.{writtenVerdict, checkCall, writing, compiledFile, compileChecks, compileCall, runProgramCall, referenceCall, runProgramChecks}
+use Rattle.model.specs.Hubrun.{textOf, hubrunText}
+use Rattle.model.specs.Promises.{Bytes, Seen}
+use Rattle.model.specs.Cases.{Case, ends, refuses, compiles, prints, passes, cases, start, hubrunInput, endAnswer, Result, ran, numbered, printed, checked, computed, wanted, OnCircuit, Hold, cases-by-rules}
+use Rattle.model.specs.ProgramRows.{times}
 use Rattle.theory.specs.Refusals.Laws.{and-true, or-false, first-take, first-drop}
-use Rattle.theory.specs.Rules.Laws.{by-run}
 use Rattle.theory.specs.NetlistFile.Passed.{file-passed, count-range, count-cells}
-use Rattle.theory.specs.Promises.Replay.{no-refusal}
-use Rattle.theory.specs.Promises.Kept.{whole-run, program-run, agrees, stays-open}
-use Rattle.theory.specs.Promises.Demands.{compiled-accepted}
+use Rattle.theory.specs.NetlistFile.Files.{file-length}
+use Rattle.theory.specs.Promises.Demands.{compiled-accepted, demand2}
+use Rattle.theory.specs.Promises.Reference.{same-answers}
 
-has-ended : Outcome → ℕ
-has-ended Ended = 1
-has-ended Open = 0
-has-ended (Outcome.Refused r) = 0
+-- Compiling with room ------------------------------------------------------------------------------------------------------------------
+
+module _ (table : Loaded) (program : List ℕ) (bytes : Bytes program) (accepted : checkCall table program ≡ Accepted) where
+  file-read : fileCheck (compiledFile program) ≡ Accepted
+  file-read = compiled-accepted table program bytes accepted
+
+  file-room : length (compiledFile program) ≤ 6656
+  unfolding fileLengthWrong
+  file-room =
+      let n = length (compiledFile program) in
+      let o = or-false (ltb 6656 n) _ (or-false (eqb n 0) _ (file-passed (compiledFile program) file-read .lengths) .1) in
+      ltb-false 6656 n (o .0)
+
+  compile-is : (lent : List ℕ) → 6656 ≤ length lent
+      → compileCall table program lent .answer ≡ Done (length (compiledFile program)) (finish (programOf program))
+  unfolding compileCall writing checkCall
+  compile-is lent room =
+      rw (first-drop 2 (compileChecks table program lent) accepted, le-ltb (length lent) (length (compiledFile program)) (omega (arith, file-room)))
 
 -- A full run with room -----------------------------------------------------------------------------------------------------------------
 
@@ -43,59 +59,57 @@ module _ (table : Loaded) (program words forFile forState : List ℕ) (n : ℕ) 
   abbrev file : List ℕ
   file = compiledFile program
 
-  read : fileCheck file ≡ Accepted
-  read = compiled-accepted table program bytes accepted
-
-  file-room : length file ≤ 6656
-  unfolding fileLengthWrong
-  file-room =
-      let o = or-false (ltb 6656 (length file)) _ (or-false (eqb (length file) 0) _ (file-passed file read .lengths) .1) in
-      ltb-false 6656 (length file) (o .0)
+  abbrev read : fileCheck file ≡ Accepted
+  read = file-read table program bytes accepted
 
   state-room : stateSize (cellsOf file) ≤ length forState
   state-room = omega (arith, count-range _ _ _ (file-passed file read .count) .1, count-cells file)
 
-  begins : verdict (beginCall file words forState .answer .outcome) ≡ Accepted
-  unfolding beginCall running shows
-  begins =
-      rw (read, le-ltb (length words) 32 some, le-ltb (length forState) (stateSize (cellsOf file)) state-room)
-      (no-refusal (high (nowAt (beginState (cellsOf file) (wordAt words) forState) (finishOf file))))
+  checks : first (runProgramChecks table program words n forFile forState) ≡ Accepted
+  unfolding checkCall
+  checks =
+      rw (
+        first-drop 2 (runProgramChecks table program words n forFile forState) accepted,
+        le-ltb 1000000 n l,
+        le-ltb (length words) 32 some,
+        le-ltb (length forFile) (length file) (omega (arith, file-room table program bytes accepted)),
+        le-ltb (length forState) (stateSize (cellsOf file)) state-room,
+      )
 
-  full-is : runProgramCall table program words n forFile forState .answer ≡ whole-run table program file words forState accepted refl begins n
-  full-is = program-run table program file words forState accepted refl begins forFile (le-ltb (length forFile) (length file) (omega (arith, file-room))) n l
-
-  reference-is : referenceCall table program words n ≡ referenceAnswer n (run n (programOf program) (wordAt words))
-  unfolding referenceCall answering checkCall
-  reference-is = rw (first-drop 2 (referenceChecks table program words n) accepted, le-ltb 1000000 n l, le-ltb (length words) 32 some)
-
-  -- where the rules end within the budget, the two runs answer the same
-  pub full-run : (t : ℕ) (σ′ : Store) → run n (programOf program) (wordAt words) ≡ ended t σ′
+  -- where the reference run says that it ended, the two answer the same
+  full-run-ended : referenceCall table program words n .outcome ≡ Ended
       → runProgramCall table program words n forFile forState .answer ≡ referenceCall table program words n
-  full-run t σ′ p = full-is ∙ agrees table program file words forState accepted refl begins n t l σ′ p ∙ sym (reference-is ∙ ap (referenceAnswer n) p)
-
-  -- where they do not, the full run is open at the budget's end, as the reference run is
-  pub full-run-open : run n (programOf program) (wordAt words) ≡ still →
-      let a = runProgramCall table program words n forFile forState .answer in
-      seen (a .outcome) (a .instant) (a .count) ≡ seen Open n (n + 1)
-  full-run-open p =
-      ap (λ (a : Answer). seen (a .outcome) (a .instant) (a .count)) full-is ∙ stays-open table program file words forState accepted refl begins n l p
-
-  -- a reference run that says that it ended has an end
-  not-still : has-ended (referenceCall table program words n .outcome) ≡ 1 → run n (programOf program) (wordAt words) ≡ still → ⊥
-  unfolding has-ended referenceAnswer
-  not-still h p = omega (arith, h, ap (λ (a : Answer). has-ended (a .outcome)) (reference-is ∙ ap (referenceAnswer n) p))
+  full-run-ended h =
+      let a = same-answers table program words n forFile forState bytes checks in
+      a .1 (ap (λ (s : Seen). s .outcome) (a .0) ∙ h)
 
 -- The rows -----------------------------------------------------------------------------------------------------------------------------
 
 checked-of : Result → Checked
 checked-of (ran c a) = c
-checked-of (numbered n f) = Accepted
+checked-of (numbered c n f) = c
+checked-of (printed c o text) = c
 checked-of (checked c) = c
 
 answer-of : Answer → Result → Answer
 answer-of d (ran c a) = a
-answer-of d (numbered n f) = d
+answer-of d (numbered c n f) = d
+answer-of d (printed c o text) = d
 answer-of d (checked c) = d
+
+-- cells and finish
+numbers-of : Result → ℕ × ℕ
+numbers-of (ran c a) = (0, 0)
+numbers-of (numbered c n f) = (n, f)
+numbers-of (printed c o text) = (0, 0)
+numbers-of (checked c) = (0, 0)
+
+-- outcome and text
+text-of : Result → Outcome × List ℕ
+text-of (ran c a) = (Open, [])
+text-of (numbered c n f) = (Open, [])
+text-of (printed c o text) = (o, text)
+text-of (checked c) = (Open, [])
 
 bytesOnly : List ℕ → Bool
 bytesOnly [] = true
@@ -111,8 +125,9 @@ bytes-of (x ∷ s) e (suc i) = bytes-of s (and-true (ltb x 256) (bytesOnly s) e 
 fair : Case → Bool
 fair (ends p v n t w) = bytesOnly p && ltb n 1000000
 fair (refuses p k i) = true
-fair (compiles p n f) = true
-fair (passes p) = true
+fair (compiles p n f) = bytesOnly p
+fair (prints p v n text) = bytesOnly p && ltb n 65536
+fair (passes p) = bytesOnly p
 
 allFair : List Case → Bool
 allFair [] = true
@@ -122,21 +137,39 @@ all-fair : allFair cases ≡ true
 unfolding allFair fair cases bytesOnly times
 all-fair = refl
 
+-- what hubrun prints of a program's bytes behind 32 of words and a budget
+hubrun-is : (p : List ℕ) (v n : ℕ)
+    → hubrunText (hubrunInput p v n) ≡ textOf (runProgramCall (load builtIn) p (start v) n (replicate 6656 0) (replicate 40968 0) .answer)
+unfolding hubrunText get32 get16
+hubrun-is p v n =
+    let e : n % 256 + 256 * (n / 256) + 65536 * (0 + 256 * 0) ≡ n = omega arith in
+    rw (le-ltb (length (hubrunInput p v n)) 36 (omega arith), e)
+
 on-circuit : (c : Case) → computed c ≡ wanted c → fair c ≡ true → OnCircuit c
-unfolding computed wanted OnCircuit fair checked-of answer-of has-ended compileCall writing checkCall
+unfolding computed wanted OnCircuit fair checked-of answer-of numbers-of text-of compileCall writing checkCall writtenVerdict
 on-circuit (ends p v n t w) e g = λ forFile forState f s.
     let b = and-true (bytesOnly p) (ltb n 1000000) g in
-    let l : n ≤ 1000000 = omega (arith, ltb-true n 1000000 (b .1)) in
-    let y = bytes-of p (b .0) in
-    let a : checkCall (load builtIn) p ≡ Accepted = ap checked-of e in
     let r : referenceCall (load builtIn) p (start v) n ≡ endAnswer t w = ap (answer-of (endAnswer t w)) e in
-    by-run (run n (programOf p) (wordAt (start v))) (λ t₁ σ′ q. full-run (load builtIn) p (start v) forFile forState n y a (omega arith) f s l t₁ σ′ q ∙ r)
-    (λ q. absurd (not-still (load builtIn) p (start v) forFile forState n y a (omega arith) f s l (ap (λ (a : Answer). has-ended (a .outcome)) r) q))
+    full-run-ended (load builtIn) p (start v) forFile forState n (bytes-of p (b .0)) (ap checked-of e) (omega arith) f s
+    (omega (arith, ltb-true n 1000000 (b .1))) (ap (λ (a : Answer). a .outcome) r) ∙ r
 on-circuit (refuses p k i) e g = λ lent.
     let c : checkCall (load builtIn) p ≡ refuse k i = ap checked-of e in
     rw (first-take 2 (compileChecks (load builtIn) p lent) c)
-on-circuit (compiles p n f) e g = tt
-on-circuit (passes p) e g = tt
+on-circuit (compiles p n f) e g = λ lent room.
+    let y = bytes-of p g in
+    let cells : length (netlist (programOf p)) ≡ n = ap (λ r. numbers-of r .0) e in
+    let end : finish (programOf p) ≡ f = ap (λ r. numbers-of r .1) e in
+    let size = file-length (netlist (programOf p)) (finish (programOf p)) ∙ ap (λ k. 512 * blocksFor k) cells in
+    let told = compile-is (load builtIn) p y (ap checked-of e) lent room ∙ ap₂ Done size end in
+    (told, ap length (demand2 .compiled builtIn p lent (512 * blocksFor n) f y told .cells) ∙ cells)
+on-circuit (prints p v n text) e g =
+    let b = and-true (bytesOnly p) (ltb n 65536) g in
+    hubrun-is p v n
+    ∙ ap textOf
+    (full-run-ended (load builtIn) p (start v) (replicate 6656 0) (replicate 40968 0) n (bytes-of p (b .0)) (ap checked-of e) (omega arith) (omega arith) (omega arith)
+    (omega (arith, ltb-true n 65536 (b .1))) (ap (λ r. text-of r .0) e))
+    ∙ ap (λ r. text-of r .1) e
+on-circuit (passes p) e g = λ lent room. ap writtenVerdict (compile-is (load builtIn) p (bytes-of p g) (ap checked-of e) lent room)
 
 -- equal rows of two lists
 head-same : {A : Type 0} (x y : A) (xs ys : List A) → _≡_ {A = List A} (x ∷ xs) (y ∷ ys) → x ≡ y

@@ -1,0 +1,89 @@
+-- Calls with the first that their checks find, worked out by hand from the paper: refusals 13, 14 and 16, what is just allowed, and that the
+-- checks of programs, netlists and states come in the published order. Places are 0 where the paper names none.
+-- Assumes nothing.
+use mathlib.Core.Path.{_≡_, refl}
+use mathlib.Core.List.{List, [], _∷_, _++_, map}
+use Prim.Native.Nat.{ℕ}
+use lib.ListN.{set, replicate}
+use Rattle.model.specs.declared.Checked.{Checked}
+use Rattle.model.specs.declared.Checked.the-variants.{Accepted}
+use Rattle.model.specs.Refusals.{refuse, first}
+use Rattle.model.specs.NetlistFile.{cellBytes, fileOf}
+use Rattle.model.specs.TimeTables.{builtIn, load}
+use Rattle.model.specs.Calls.{compileChecks, writeChecks, readChecks, beginChecks, continueChecks, runNetlistChecks, runProgramChecks, referenceChecks}
+use Rattle.model.specs.Netlists.{numbering, front, idle}
+use Rattle.model.specs.ProgramRows.{node, checkOfProgram}
+use Rattle.model.specs.StateRows.{stateOfCells}
+
+-- ok, and its file of 19 cells, whose state is 8 + 40 * 19 = 768 bytes
+abbrev okProgram : List ℕ
+okProgram = node 16 0 0
+
+abbrev okCells : List ℕ
+okCells = cellBytes (front (idle 16 []))
+
+abbrev okFile : List ℕ
+okFile = fileOf (front (idle 16 [])) 0
+
+-- n bytes of 0; and a state of ok at an instant of three bytes
+abbrev room : ℕ → List ℕ
+room n = replicate n 0
+
+abbrev stateOf : ℕ → ℕ → ℕ → List ℕ
+stateOf a b c = a ∷ b ∷ c ∷ replicate 765 0
+
+-- the first that a call's checks find, and what the paper says
+calls : List (Checked × Checked)
+calls =
+    -- compiling: 1 to 8, then 14 for the file
+    (first (compileChecks (load builtIn) okProgram (room 512)), Accepted)
+    ∷ (first (compileChecks (load builtIn) okProgram (room 511)), refuse 14 0)
+    ∷ (first (compileChecks (load builtIn) [] []), refuse 1 0)
+    -- writing: 11 for a broken cell or a finish that is none, 12, then 14 for the file
+    ∷ (first (writeChecks okCells 0 (room 512)), Accepted)
+    ∷ (first (writeChecks okCells 0 (room 511)), refuse 14 0)
+    ∷ (first (writeChecks okCells 2 []), refuse 12 2)
+    ∷ (first (writeChecks okCells 19 []), refuse 11 0)
+    ∷ (first (writeChecks (okCells ++ (1 ∷ [])) 0 []), refuse 11 0)
+    -- reading: 9 to 12, then 14 for 19 cells of 6 bytes
+    ∷ (first (readChecks okFile (room 114)), Accepted)
+    ∷ (first (readChecks okFile (room 113)), refuse 14 0)
+    ∷ (first (readChecks [] []), refuse 9 0)
+    -- beginning: 9 to 12, then 14 for the words or the state
+    ∷ (first (beginChecks okFile (room 32) (room 768)), Accepted)
+    ∷ (first (beginChecks okFile (room 31) (room 768)), refuse 14 0)
+    ∷ (first (beginChecks okFile (room 32) (room 767)), refuse 14 0)
+    ∷ (first (beginChecks (set okFile 0 1) [] []), refuse 10 0)
+    -- continuing: 9 to 12, 14, 15, 16. 1,000,000 is 64 + 256 * (66 + 256 * 15)
+    ∷ (first (continueChecks okFile 1000000 (stateOf 0 0 0)), Accepted)
+    ∷ (first (continueChecks okFile 1000001 (stateOf 0 0 0)), refuse 16 0)
+    ∷ (first (continueChecks okFile 1 (stateOf 63 66 15)), Accepted)
+    ∷ (first (continueChecks okFile 2 (stateOf 63 66 15)), refuse 16 0)
+    ∷ (first (continueChecks okFile 0 (stateOf 64 66 15)), Accepted)
+    ∷ (first (continueChecks okFile 0 (stateOf 65 66 15)), refuse 16 0)
+    ∷ (first (continueChecks okFile 0 (set (stateOf 65 66 15) 4 1)), refuse 15 0)
+    ∷ (first (continueChecks okFile 1000001 (set (room 767) 4 1)), refuse 14 0)
+    ∷ (first (continueChecks (set okFile 0 1) 0 []), refuse 10 0)
+    -- a full run of a netlist: 9 to 12, 13, 14
+    ∷ (first (runNetlistChecks okFile (room 32) 1000000 (room 768)), Accepted)
+    ∷ (first (runNetlistChecks okFile (room 31) 1000001 (room 767)), refuse 13 0)
+    ∷ (first (runNetlistChecks okFile (room 31) 1000000 (room 768)), refuse 14 0)
+    ∷ (first (runNetlistChecks okFile (room 32) 1000000 (room 767)), refuse 14 0)
+    ∷ (first (runNetlistChecks [] (room 32) 1000001 (room 768)), refuse 9 0)
+    -- a full run of a program: 1 to 8, 13, then 14 for the words, the file or the state
+    ∷ (first (runProgramChecks (load builtIn) okProgram (room 32) 1000000 (room 512) (room 768)), Accepted)
+    ∷ (first (runProgramChecks (load builtIn) okProgram [] 1000001 [] []), refuse 13 0)
+    ∷ (first (runProgramChecks (load builtIn) okProgram (room 31) 1000000 (room 512) (room 768)), refuse 14 0)
+    ∷ (first (runProgramChecks (load builtIn) okProgram (room 32) 1000000 (room 511) (room 768)), refuse 14 0)
+    ∷ (first (runProgramChecks (load builtIn) okProgram (room 32) 1000000 (room 512) (room 767)), refuse 14 0)
+    ∷ (first (runProgramChecks (load builtIn) [] [] 1000001 [] []), refuse 1 0)
+    -- a reference run: 1 to 8, 13, then 14 for the words
+    ∷ (first (referenceChecks (load builtIn) okProgram (room 32) 1000000), Accepted)
+    ∷ (first (referenceChecks (load builtIn) okProgram (room 31) 1000001), refuse 13 0)
+    ∷ (first (referenceChecks (load builtIn) okProgram (room 31) 1000000), refuse 14 0)
+    ∷ (first (referenceChecks (load builtIn) [] [] 1000001), refuse 1 0)
+    ∷ []
+
+calls-right : map (λ r. r .0) calls ≡ map (λ r. r .1) calls
+unfolding calls checkOfProgram numbering stateOfCells
+calls-right = refl

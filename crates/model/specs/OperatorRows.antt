@@ -1,0 +1,118 @@
+-- Operators, worked out by hand from the papers: what each gives on words at the edges, how long nested ones take, and the least delay of every
+-- kind of statement around them. No theorem refuses a wrong operator or a wrong time, because circuit and rules use the same ones.
+-- Assumes nothing.
+use mathlib.Core.Path.{_≡_, refl}
+use mathlib.Core.List.{List, [], _∷_, map}
+use Prim.Native.Nat.{ℕ}
+use Rattle.model.specs.Word.{bit, biased, operate}
+use Rattle.model.specs.Program.{Expr, const, var, compl, op, Stmt, ok, tick, assign, seq, par, ite, while, repeat, time, least, builtInTimes, timeIn}
+
+-- an operator's kind, its two words, and what it gives
+results : List (ℕ × ℕ × ℕ × ℕ)
+results =
+    -- complement of all bits, with no use for a second word
+    (3, 0, 0, 65535)
+    ∷ (3, 65535, 0, 0)
+    ∷ (3, 1, 0, 65534)
+    ∷ (3, 32767, 0, 32768)
+    ∷ (3, 0x0f0f, 0x1234, 0xf0f0)
+    -- sum
+    ∷ (4, 0, 0, 0)
+    ∷ (4, 255, 1, 256)
+    ∷ (4, 32767, 1, 32768)
+    ∷ (4, 65534, 1, 65535)
+    ∷ (4, 65535, 1, 0)
+    ∷ (4, 32768, 32768, 0)
+    ∷ (4, 65535, 65535, 65534)
+    -- difference
+    ∷ (5, 7, 7, 0)
+    ∷ (5, 65535, 0, 65535)
+    ∷ (5, 256, 1, 255)
+    ∷ (5, 32768, 1, 32767)
+    ∷ (5, 0, 1, 65535)
+    ∷ (5, 0, 65535, 1)
+    ∷ (5, 32767, 32768, 65535)
+    -- bitwise and
+    ∷ (6, 65535, 0, 0)
+    ∷ (6, 65535, 65535, 65535)
+    ∷ (6, 65535, 32768, 32768)
+    ∷ (6, 0xff00, 0x0ff0, 0x0f00)
+    ∷ (6, 0x5555, 0xaaaa, 0)
+    -- bitwise or
+    ∷ (7, 0, 0, 0)
+    ∷ (7, 65535, 0, 65535)
+    ∷ (7, 32768, 1, 32769)
+    ∷ (7, 0xff00, 0x0ff0, 0xfff0)
+    ∷ (7, 0x5555, 0xaaaa, 65535)
+    -- equal: all sixteen bits count
+    ∷ (8, 0, 0, 1)
+    ∷ (8, 65535, 65535, 1)
+    ∷ (8, 0, 65535, 0)
+    ∷ (8, 32767, 32768, 0)
+    ∷ (8, 1, 257, 0)
+    -- less: 65535 is −1, 32768 is −32768. "−1 < 0 is 1, and 32,767 < −32,768 is 0"
+    ∷ (9, 65535, 0, 1)
+    ∷ (9, 32767, 32768, 0)
+    ∷ (9, 0, 65535, 0)
+    ∷ (9, 32768, 32767, 1)
+    ∷ (9, 32768, 65535, 1)
+    ∷ (9, 65535, 32768, 0)
+    ∷ (9, 0, 1, 1)
+    ∷ (9, 1, 0, 0)
+    ∷ (9, 32766, 32767, 1)
+    ∷ (9, 0, 0, 0)
+    ∷ (9, 32768, 32768, 0)
+    ∷ []
+
+results-right : map (λ r. operate (r .0) (r .1) (r .2)) results ≡ map (λ r. r .3) results
+unfolding results operate biased bit
+results-right = refl
+
+-- x0 + 1 < !x1: less takes 17 after plus's 16, which is the larger beside complement's 1
+abbrev nested : Expr
+nested = op 9 (op 4 (var 0) (const 1)) (compl (var 1))
+
+-- an expression, and its time: 0 for a constant and a variable; 1 for !, & and |, 16 for +, 17 for - and <, 6 for =
+times : List (Expr × ℕ)
+times =
+    (const 7, 0)
+    ∷ (var 0, 0)
+    ∷ (compl (var 0), 1)
+    ∷ (op 4 (var 0) (const 1), 16)
+    ∷ (op 5 (var 0) (const 1), 17)
+    ∷ (op 6 (var 0) (const 1), 1)
+    ∷ (op 7 (var 0) (const 1), 1)
+    ∷ (op 8 (var 0) (const 1), 6)
+    ∷ (op 9 (var 0) (const 1), 17)
+    ∷ (compl (compl (var 0)), 2)
+    -- 6 after the larger of 17 and 1
+    ∷ (op 8 (op 5 (var 0) (const 1)) (op 6 (var 1) (const 3)), 23)
+    ∷ (nested, 33)
+    -- the larger child may be the second
+    ∷ (op 7 (const 1) nested, 34)
+    ∷ []
+
+times-right : map (λ r. time (timeIn builtInTimes) (r .0)) times ≡ map (λ r. r .1) times
+unfolding times time builtInTimes
+times-right = refl
+
+-- a statement, and its least delay: "at least its expression's time, and at least 1 for kinds 17, 18, 22 and 23. If may have 0."
+delays : List (Stmt × ℕ)
+delays =
+    (ok, 0)
+    ∷ (tick 0, 1)
+    ∷ (assign 0 0 (const 7), 1)
+    ∷ (assign 0 0 nested, 33)
+    ∷ (seq (tick 3) (tick 4), 0)
+    ∷ (par (tick 3) (tick 4), 0)
+    ∷ (ite 0 (var 0) ok ok, 0)
+    ∷ (ite 0 nested ok ok, 33)
+    ∷ (while 0 (var 0) ok, 1)
+    ∷ (while 0 nested ok, 33)
+    ∷ (repeat 0 (var 0) ok, 1)
+    ∷ (repeat 0 nested ok, 33)
+    ∷ []
+
+delays-right : map (λ r. least (timeIn builtInTimes) (r .0)) delays ≡ map (λ r. r .1) delays
+unfolding delays time least builtInTimes
+delays-right = refl

@@ -1,0 +1,165 @@
+-- Programs with what their check says, worked out by hand from the paper: refusals 1 to 8 with their places, and what is just allowed.
+-- No theorem refuses a wrong condition, because the calls and the promises cite the same checks.
+-- Assumes nothing.
+use mathlib.Core.Path.{_≡_, refl}
+use mathlib.Core.List.{List, [], _∷_, _++_, map}
+use Prim.Native.Nat.{ℕ, zero, suc}
+use Rattle.model.specs.declared.Checked.{Checked}
+use Rattle.model.specs.declared.Checked.the-variants.{Accepted}
+use Rattle.model.specs.Word.{get16, bytes16}
+use Rattle.model.specs.Refusals.{refuse, firstFault}
+use Rattle.model.specs.Program.{nodeAt, nodesFrom, nodeBytes, rowOf, Expr, const, var, compl, op, Stmt, ok, tick, assign, seq, par, ite, while, repeat, asExpr, asStmt, exprOf, stmtOf, treeOf, grow, forest, treesAt, exprAt, stmtAt, preorderE, preorder, time, builtInTimes, least, reads, writes, touches, conflict, conflicts, programLengthWrong, unusedSet, nodeFault, children, reading, delayFault, conflictFault, checkOf}
+use Rattle.model.specs.TimeTables.{builtIn, load}
+use Rattle.model.specs.Calls.{checkCall}
+
+-- Notation -----------------------------------------------------------------------------------------------------------------------------
+
+-- a node's four bytes; n below 256
+abbrev pub node : ℕ → ℕ → ℕ → List ℕ
+node k d n = k ∷ d ∷ n ∷ 0 ∷ []
+
+-- so many times
+unfoldable pub times : ℕ → List ℕ → List ℕ
+times zero s = []
+times (suc n) s = s ++ times n s
+
+-- whoever unfolds this unfolds all that a program is checked by
+unfoldable pub checkOfProgram : List ℕ → Checked
+unfolding get16 firstFault nodeAt nodesFrom rowOf asExpr asStmt exprOf stmtOf treeOf grow forest treesAt exprAt stmtAt time builtInTimes least reads writes touches conflict conflicts programLengthWrong unusedSet nodeFault children reading delayFault conflictFault checkOf load checkCall times nodeBytes bytes16 preorderE preorder
+checkOfProgram s = checkCall (load builtIn) s
+
+-- Kinds --------------------------------------------------------------------------------------------------------------------------------
+
+-- a kind, then what is said of a program of one such node with delay 1, and with number 1. Where the field has no use it is 3, even if the
+-- node is no statement (5) or lacks children (6, place the node count 1).
+kinds : List (ℕ × Checked × Checked)
+kinds =
+    (0, refuse 2 0, refuse 2 0)
+    ∷ (1, refuse 3 0, refuse 5 0)
+    ∷ (2, refuse 3 0, refuse 5 0)
+    ∷ (3, refuse 3 0, refuse 3 0)
+    ∷ (4, refuse 3 0, refuse 3 0)
+    ∷ (5, refuse 3 0, refuse 3 0)
+    ∷ (6, refuse 3 0, refuse 3 0)
+    ∷ (7, refuse 3 0, refuse 3 0)
+    ∷ (8, refuse 3 0, refuse 3 0)
+    ∷ (9, refuse 3 0, refuse 3 0)
+    ∷ (10, refuse 2 0, refuse 2 0)
+    ∷ (15, refuse 2 0, refuse 2 0)
+    ∷ (16, refuse 3 0, refuse 3 0)
+    ∷ (17, Accepted, refuse 3 0)
+    ∷ (18, refuse 6 1, refuse 6 1)
+    ∷ (19, refuse 3 0, refuse 3 0)
+    ∷ (20, refuse 3 0, refuse 3 0)
+    ∷ (21, refuse 6 1, refuse 3 0)
+    ∷ (22, refuse 6 1, refuse 3 0)
+    ∷ (23, refuse 6 1, refuse 3 0)
+    ∷ (24, refuse 2 0, refuse 2 0)
+    -- a cell's kind
+    ∷ (32, refuse 2 0, refuse 2 0)
+    ∷ (255, refuse 2 0, refuse 2 0)
+    ∷ []
+
+kinds-right :
+    (map (λ r. checkCall (load builtIn) (node (r .0) 1 0)) kinds ≡ map (λ r. r .1) kinds)
+    × (map (λ r. checkCall (load builtIn) (node (r .0) 0 1)) kinds ≡ map (λ r. r .2) kinds)
+unfolding kinds checkOfProgram
+kinds-right = (refl, refl)
+
+-- Programs -----------------------------------------------------------------------------------------------------------------------------
+
+-- the bytes of a statement; nodes are counted in the order in which they are written
+abbrev bytesOf : Stmt → List ℕ
+bytesOf P = nodeBytes (preorder P)
+
+-- x := n with d 1, and x := y
+abbrev gets : ℕ → ℕ → Stmt
+gets x n = assign 1 x (const n)
+
+abbrev copies : ℕ → ℕ → Stmt
+copies x y = assign 1 x (var y)
+
+-- x0 = 0, of time 6
+abbrev isNought : Expr
+isNought = op 8 (var 0) (const 0)
+
+programs : List (List ℕ × Checked)
+programs =
+    -- 1: not a multiple of 4, above 800
+    (16 ∷ 0 ∷ 0 ∷ [], refuse 1 0)
+    ∷ (node 16 0 0 ++ (0 ∷ []), refuse 1 0)
+    ∷ (times 200 (node 16 0 0) ++ (0 ∷ []), refuse 1 0)
+    -- 2: at its node, before the nodes are read as a tree
+    ∷ (node 19 0 0 ++ node 16 0 0 ++ node 24 0 0, refuse 2 2)
+    ∷ (node 16 0 0 ++ node 0 0 0, refuse 2 1)
+    -- 3: at its node; the high byte of a number counts
+    ∷ (node 18 1 0 ++ node 1 1 5, refuse 3 1)
+    ∷ (node 19 0 0 ++ node 16 0 0 ++ node 16 0 1, refuse 3 2)
+    ∷ (16 ∷ 0 ∷ 0 ∷ 1 ∷ [], refuse 3 0)
+    -- 4: x15 is good and x16 is not, written or read; 256 is above 15; constants have all sixteen bits
+    ∷ (node 18 1 15 ++ node 2 0 15, Accepted)
+    ∷ (node 18 1 16 ++ node 1 0 0, refuse 4 0)
+    ∷ (node 18 1 0 ++ node 2 0 16, refuse 4 1)
+    ∷ (node 18 1 0 ++ (2 ∷ 0 ∷ 0 ∷ 1 ∷ []), refuse 4 1)
+    ∷ (node 18 1 0 ++ (1 ∷ 0 ∷ 255 ∷ 255 ∷ []), Accepted)
+    -- 2, 3 and 4 node by node; at one node 3 before 4
+    ∷ (node 18 1 16 ++ node 0 0 0, refuse 4 0)
+    ∷ (node 18 1 0 ++ node 2 1 16, refuse 3 1)
+    -- 5: a statement where an expression belongs, or the reverse; the root is a statement
+    ∷ (node 1 0 5, refuse 5 0)
+    ∷ (node 18 1 0 ++ node 16 0 0, refuse 5 1)
+    ∷ (node 18 16 0 ++ node 4 0 0 ++ node 2 0 0 ++ node 16 0 0, refuse 5 3)
+    ∷ (node 19 0 0 ++ node 16 0 0 ++ node 1 0 5, refuse 5 2)
+    ∷ (node 21 0 0 ++ node 2 0 0 ++ node 16 0 0 ++ node 2 0 0, refuse 5 3)
+    ∷ (node 22 1 0 ++ node 16 0 0 ++ node 16 0 0, refuse 5 1)
+    -- a repeat has its expression first
+    ∷ (node 23 1 0 ++ node 16 0 0 ++ node 2 0 0, refuse 5 1)
+    -- 6: nodes run out, place the node count; or are left, place the first
+    ∷ (node 19 0 0 ++ node 16 0 0, refuse 6 2)
+    ∷ (node 18 16 0 ++ node 4 0 0 ++ node 2 0 0, refuse 6 3)
+    ∷ (node 21 0 0 ++ node 2 0 0 ++ node 16 0 0, refuse 6 3)
+    ∷ (node 16 0 0 ++ node 16 0 0 ++ node 16 0 0, refuse 6 1)
+    ∷ (node 18 1 0 ++ node 2 0 0 ++ node 2 0 1, refuse 6 2)
+    -- whichever reading meets first: the sequence lacks a node too; a node that is left is not 5
+    ∷ (node 19 0 0 ++ node 1 0 0, refuse 5 1)
+    ∷ (node 16 0 0 ++ node 1 0 0, refuse 6 1)
+    -- 7: the first node whose delay is too small, which is that of the statement
+    ∷ (bytesOf (tick 0), refuse 7 0)
+    ∷ (bytesOf (seq ok (seq (tick 0) (tick 0))), refuse 7 3)
+    ∷ (bytesOf (assign 0 0 (const 5)), refuse 7 0)
+    ∷ (bytesOf (ite 5 isNought ok ok), refuse 7 0)
+    ∷ (bytesOf (ite 6 isNought ok ok), Accepted)
+    ∷ (bytesOf (seq ok (while 5 isNought ok)), refuse 7 2)
+    ∷ (bytesOf (repeat 5 isNought ok), refuse 7 0)
+    ∷ (bytesOf (repeat 6 isNought ok), Accepted)
+    -- sixteen sums one in the other take 256, more than any delay; fifteen take 240
+    ∷ (node 18 255 0 ++ times 16 (node 4 0 0) ++ times 17 (node 1 0 1), refuse 7 0)
+    ∷ (node 18 240 0 ++ times 15 (node 4 0 0) ++ times 16 (node 1 0 1), Accepted)
+    -- 8: written on both sides, x0 to x15; written on one and read on the other, in both directions
+    ∷ (bytesOf (par (gets 0 1) (gets 0 2)), refuse 8 0)
+    ∷ (bytesOf (par (gets 15 1) (gets 15 2)), refuse 8 0)
+    ∷ (bytesOf (par (gets 1 1) (copies 2 1)), refuse 8 0)
+    ∷ (bytesOf (par (copies 2 1) (gets 1 1)), refuse 8 0)
+    ∷ (bytesOf (par (gets 1 1) (assign 18 2 (op 4 (const 1) (compl (var 1))))), refuse 8 0)
+    -- both sides may read one variable, and a side what it writes
+    ∷ (bytesOf (par (copies 1 0) (copies 2 0)), Accepted)
+    ∷ (bytesOf (par (copies 1 1) (copies 2 2)), Accepted)
+    ∷ (bytesOf (seq (gets 1 1) (gets 1 2)), Accepted)
+    -- a condition's variables are read; what stands inside a statement counts
+    ∷ (bytesOf (par (gets 3 1) (ite 0 (var 3) ok ok)), refuse 8 0)
+    ∷ (bytesOf (par (while 1 (var 3) ok) (gets 3 1)), refuse 8 0)
+    ∷ (bytesOf (par (gets 3 1) (repeat 1 (var 3) ok)), refuse 8 0)
+    ∷ (bytesOf (par (ite 0 (var 0) ok (gets 3 1)) (seq ok (copies 2 3))), refuse 8 0)
+    ∷ (bytesOf (par (while 1 (var 0) (gets 3 1)) (repeat 1 (var 0) (gets 3 1))), refuse 8 0)
+    -- the first such node, the outer before the inner
+    ∷ (bytesOf (seq ok (par (gets 1 1) (gets 1 2))), refuse 8 2)
+    ∷ (bytesOf (par ok (par (gets 1 1) (gets 1 2))), refuse 8 2)
+    ∷ (bytesOf (par (gets 1 1) (par (gets 1 2) (gets 1 3))), refuse 8 0)
+    ∷ (bytesOf (par (gets 1 1) (par (gets 2 2) (gets 2 3))), refuse 8 3)
+    -- every 7 comes before 8
+    ∷ (bytesOf (par (gets 1 1) (assign 0 1 (const 2))), refuse 7 3)
+    ∷ []
+
+programs-right : map (λ r. checkCall (load builtIn) (r .0)) programs ≡ map (λ r. r .1) programs
+unfolding programs checkOfProgram
+programs-right = refl

@@ -1,0 +1,138 @@
+-- States and runs with what is said of them, worked out by hand from the paper: a run byte for byte, and refusal 15 clause by clause.
+-- No theorem refuses a wrong layout of the state or a wrong condition, because all of them cite the same ones.
+-- Assumes nothing.
+use mathlib.Core.Path.{_≡_, refl}
+use mathlib.Core.Bool.{Bool, true, false}
+use mathlib.Core.List.{List, [], _∷_, _++_, map}
+use Prim.Native.Nat.{ℕ, _+_, _*_}
+use lib.ListN.{set, replicate}
+use Rattle.model.specs.declared.Cell.{Cell}
+use Rattle.model.specs.Word.{operate, put16, get32, put32}
+use Rattle.model.specs.Circuit.{memoryWords, cell, mergeStep}
+use Rattle.model.specs.State.{heldAt, lineBit, nextValue, upTo, aged, shown, shiftedIn, holding, settle, beginState, stepState, lastState, evaluated, wordsIn, cellSound, cellsSound, sound}
+use Rattle.model.specs.Calls.{wordAt}
+use Rattle.model.specs.NetlistRows.{checkOfFile}
+
+-- A run --------------------------------------------------------------------------------------------------------------------------------
+
+-- Seven cells are enough to show every byte: start, ground, constant 5, a delay of the start by 9, two memories whose data is the constant and
+-- whose clocks are start and ground, and a merge of the start and the delay, which is the finish.
+abbrev net : List Cell
+net = cell 32 0 0 0 ∷ cell 33 0 0 0 ∷ cell 1 0 5 0 ∷ cell 34 9 0 0 ∷ cell 40 0 0 2 ∷ cell 40 0 1 2 ∷ cell 38 0 0 3 ∷ []
+
+-- Instant 0: the start is 1, and stands newest in the delay's line; the memories have their start words, 1 + 256 * 2 and 3 + 256 * 4; the merge
+-- holds a.
+state0 : List ℕ
+state0 =
+    replicate 8 0
+    ++ (1 ∷ replicate 39 0)  -- start
+    ++ replicate 40 0  -- ground
+    ++ (5 ∷ replicate 39 0)  -- constant
+    ++ replicate 8 0 ++ (1 ∷ replicate 31 0)  -- delay
+    ++ (1 ∷ 2 ∷ replicate 38 0)  -- memory of x0
+    ++ (3 ∷ 4 ∷ replicate 38 0)  -- memory of x1
+    ++ replicate 4 0 ++ (1 ∷ replicate 35 0)  -- merge
+
+-- Instant 1: what was now is an instant ago; the line has moved by a bit; the first memory's clock has fallen.
+state1 : List ℕ
+state1 =
+    (1 ∷ replicate 7 0)
+    ++ (0 ∷ 0 ∷ 1 ∷ replicate 37 0)
+    ++ replicate 40 0
+    ++ (5 ∷ 0 ∷ 5 ∷ replicate 37 0)
+    ++ replicate 8 0 ++ (2 ∷ replicate 31 0)
+    ++ (5 ∷ 0 ∷ 1 ∷ 2 ∷ replicate 36 0)
+    ++ (3 ∷ 4 ∷ 3 ∷ 4 ∷ replicate 36 0)
+    ++ replicate 4 0 ++ (1 ∷ replicate 35 0)
+
+-- Instant 9: the delay puts out what came in nine instants ago, which is bit 9 of its line now, bit 1 of the second byte; the merge has both
+-- its inputs, is 1 and holds nothing.
+state9 : List ℕ
+state9 =
+    (9 ∷ replicate 7 0)
+    ++ replicate 40 0
+    ++ replicate 40 0
+    ++ (5 ∷ 0 ∷ 5 ∷ replicate 37 0)
+    ++ (1 ∷ replicate 7 0) ++ (0 ∷ 2 ∷ replicate 30 0)
+    ++ (5 ∷ 0 ∷ 5 ∷ replicate 37 0)
+    ++ (3 ∷ 4 ∷ 3 ∷ 4 ∷ replicate 36 0)
+    ++ (1 ∷ replicate 39 0)
+
+-- whoever unfolds this unfolds all that a state is made by
+unfoldable pub stateOfCells : List Cell → ℕ → ℕ → List ℕ → List ℕ
+unfolding state0 state1 state9 checkOfFile operate put16 get32 put32 mergeStep heldAt lineBit nextValue upTo aged shown shiftedIn holding settle beginState stepState lastState evaluated memoryWords cellSound cellsSound sound
+stateOfCells cells finish n s = lastState cells finish n s
+
+-- "Lent bytes past a result keep their values."
+begin-right : beginState net (wordAt (1 ∷ 2 ∷ 3 ∷ 4 ∷ [])) (replicate 288 9 ++ (7 ∷ 7 ∷ [])) ≡ state0 ++ (7 ∷ 7 ∷ [])
+unfolding stateOfCells
+begin-right = refl
+
+-- a state, how many instants it is continued by, the state then, and how many were evaluated
+continued : List (List ℕ × ℕ × List ℕ × ℕ)
+continued =
+    (state0, 0, state0, 0)
+    ∷ (state0, 1, state1, 1)
+    ∷ (state0 ++ (7 ∷ 7 ∷ []), 1, state1 ++ (7 ∷ 7 ∷ []), 1)
+    -- to the finish, and no further
+    ∷ (state0, 100, state9, 9)
+    ∷ (state1, 8, state9, 8)
+    ∷ []
+
+continued-right :
+    (map (λ r. lastState net 6 (r .1) (r .0)) continued ≡ map (λ r. r .2) continued)
+    × (map (λ r. evaluated net 6 (r .1) (r .0)) continued ≡ map (λ r. r .3) continued)
+unfolding continued stateOfCells
+continued-right = (refl, refl)
+
+words-right : wordsIn net 0 state1 ≡ 5 ∷ 1027 ∷ []
+unfolding stateOfCells
+words-right = refl
+
+-- Refusal 15 ---------------------------------------------------------------------------------------------------------------------------
+
+-- byte j of cell k
+abbrev at : ℕ → ℕ → ℕ
+at k j = 8 + 40 * k + j
+
+-- of the seven cells above: a byte of the state, a value for it, and whether the state is good if all its other bytes are 0
+bytes : List (ℕ × ℕ × Bool)
+bytes =
+    -- a control's value now, and an instant ago: 0 or 1, both bytes; a word's may be any
+    (at 0 0, 1, true)
+    ∷ (at 0 0, 2, false)
+    ∷ (at 0 1, 1, false)
+    ∷ (at 0 2, 1, true)
+    ∷ (at 0 2, 2, false)
+    ∷ (at 0 3, 1, false)
+    ∷ (at 1 0, 2, false)
+    ∷ (at 3 2, 2, false)
+    ∷ (at 6 0, 2, false)
+    ∷ (at 2 0, 2, true)
+    ∷ (at 4 1, 255, true)
+    ∷ (at 4 3, 255, true)
+    -- held bits: 0 or 1, at a merge and nowhere else
+    ∷ (at 6 4, 1, true)
+    ∷ (at 6 4, 2, false)
+    ∷ (at 6 5, 1, true)
+    ∷ (at 6 5, 2, false)
+    ∷ (at 3 4, 1, false)
+    ∷ (at 4 5, 1, false)
+    -- zero bytes
+    ∷ (at 6 6, 1, false)
+    ∷ (at 3 7, 1, false)
+    -- a line: any, at a delay and nowhere else
+    ∷ (at 3 8, 255, true)
+    ∷ (at 3 39, 255, true)
+    ∷ (at 6 8, 1, false)
+    ∷ (at 4 39, 1, false)
+    -- the header: four bytes of an instant, four of zero
+    ∷ (0, 255, true)
+    ∷ (3, 255, true)
+    ∷ (4, 1, false)
+    ∷ (7, 1, false)
+    ∷ []
+
+bytes-right : map (λ r. sound net (set (replicate 288 0) (r .0) (r .1))) bytes ≡ map (λ r. r .2) bytes
+unfolding bytes stateOfCells
+bytes-right = refl

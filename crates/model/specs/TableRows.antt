@@ -1,0 +1,82 @@
+-- Tables of operator times with what their check says, worked out by hand from paper 02, S-4: refusals 19 to 21 with their places, what is just
+-- allowed, and what a program's check says under a table. No theorem refuses a wrong place. Assumes nothing.
+use mathlib.Core.Path.{_≡_, refl}
+use mathlib.Core.List.{List, [], _∷_, _++_, map}
+use Prim.Native.Nat.{ℕ}
+use lib.ListN.{set, replicate}
+use Rattle.model.specs.declared.Checked.{Checked}
+use Rattle.model.specs.declared.Checked.the-variants.{Accepted}
+use Rattle.model.specs.Word.{bytes16}
+use Rattle.model.specs.Refusals.{refuse, firstFault}
+use Rattle.model.specs.Program.{builtInTimes}
+use Rattle.model.specs.NetlistFile.{wordSum, blockWith}
+use Rattle.model.specs.TimeTables.{byteWrong, tableFault, tableSumWrong, timesIn, builtIn, given, load}
+use Rattle.model.specs.Calls.{checkCall}
+use Rattle.model.specs.ProgramRows.{node, checkOfProgram}
+
+-- The built-in times as a file. Its words, but for the check, sum to 9 + (1 + 256 * 16) + (17 + 256) + (1 + 256 * 6) + 17 = 5933, and
+-- 65536 − 5933 = 59603 = 211 + 256 * 232.
+builtInFile : List ℕ
+builtInFile =
+    0 ∷ 0 ∷ 9 ∷ 0 ∷ 0 ∷ 0 ∷ 211 ∷ 232  -- block 0, 9, zero, the check
+    ∷ 0 ∷ 0 ∷ 1 ∷ 16 ∷ 17 ∷ 1 ∷ 1 ∷ 6 ∷ 17  -- kinds 1 to 9
+    ∷ replicate 495 0
+
+built-in-loads : load (given builtInFile) ≡ load builtIn
+unfolding builtInFile load tableSumWrong tableFault byteWrong wordSum firstFault timesIn builtInTimes
+built-in-loads = refl
+
+-- bytes behind the header with times of kinds 3 and 9: byte i of the file is number i − 8 of these
+abbrev timed : ℕ → ℕ → List ℕ
+timed t u = 0 ∷ 0 ∷ t ∷ 16 ∷ 17 ∷ 1 ∷ 1 ∷ 6 ∷ u ∷ replicate 495 0
+
+-- a table's file, and what is said of it
+tables : List (List ℕ × Checked)
+tables =
+    (blockWith 0 9 0 (timed 1 200), Accepted)
+    ∷ (blockWith 0 9 0 (timed 200 1), Accepted)
+    -- 19: the length isn't 512
+    ∷ ([], refuse 19 0)
+    ∷ (replicate 511 0, refuse 19 0)
+    ∷ (builtInFile ++ replicate 512 0, refuse 19 0)
+    -- 20: the words don't sum to 0, the check among them
+    ∷ (set builtInFile 511 1, refuse 20 0)
+    ∷ (set builtInFile 6 212, refuse 20 0)
+    -- 21: block number 0, 9 in bytes 2–3, zero in 4–5
+    ∷ (replicate 512 0, refuse 21 2)
+    ∷ (blockWith 1 9 0 (timed 1 17), refuse 21 0)
+    ∷ (blockWith 256 9 0 (timed 1 17), refuse 21 1)
+    ∷ (blockWith 0 10 0 (timed 1 17), refuse 21 2)
+    ∷ (blockWith 0 265 0 (timed 1 17), refuse 21 3)
+    ∷ (blockWith 0 9 1 (timed 1 17), refuse 21 4)
+    ∷ (blockWith 0 9 256 (timed 1 17), refuse 21 5)
+    -- constant and variable are 0, the others 1 to 200, the rest zero
+    ∷ (blockWith 0 9 0 (set (timed 1 17) 0 1), refuse 21 8)
+    ∷ (blockWith 0 9 0 (set (timed 1 17) 1 1), refuse 21 9)
+    ∷ (blockWith 0 9 0 (timed 0 17), refuse 21 10)
+    ∷ (blockWith 0 9 0 (timed 201 17), refuse 21 10)
+    ∷ (blockWith 0 9 0 (timed 1 0), refuse 21 16)
+    ∷ (blockWith 0 9 0 (timed 1 201), refuse 21 16)
+    ∷ (blockWith 0 9 0 (set (timed 1 17) 9 1), refuse 21 17)
+    ∷ (blockWith 0 9 0 (set (timed 1 17) 503 1), refuse 21 511)
+    -- the first wrong byte; 20 before 21
+    ∷ (blockWith 0 9 1 (timed 0 0), refuse 21 4)
+    ∷ (set builtInFile 2 8, refuse 20 0)
+    ∷ []
+
+tables-right : map (λ r. load (given (r .0)) .checked) tables ≡ map (λ r. r .1) tables
+unfolding tables builtInFile load tableSumWrong tableFault byteWrong wordSum firstFault timesIn bytes16
+tables-right = refl
+
+-- a table, a program, and what the check says of both: x0 := !x0 takes the time of kind 3, and a table's refusal comes before the program's
+checks : List (List ℕ × List ℕ × Checked)
+checks =
+    (blockWith 0 9 0 (timed 40 17), node 18 40 0 ++ node 3 0 0 ++ node 2 0 0, Accepted)
+    ∷ (blockWith 0 9 0 (timed 40 17), node 18 39 0 ++ node 3 0 0 ++ node 2 0 0, refuse 7 0)
+    ∷ (blockWith 0 9 0 (timed 0 17), [], refuse 21 10)
+    ∷ (builtInFile, [], refuse 1 0)
+    ∷ []
+
+checks-right : map (λ r. checkCall (load (given (r .0))) (r .1)) checks ≡ map (λ r. r .2) checks
+unfolding checks builtInFile checkOfProgram tableSumWrong tableFault byteWrong wordSum timesIn
+checks-right = refl

@@ -8,7 +8,7 @@ use lib.Seq.{sets, sets-eq, getD-drop, drop-append-seam}
 use Rattle.model.specs.declared.Cell.{Cell}
 use Rattle.model.specs.NetlistFile.{cellBytes, cellFrom, cellsAt, inList}
 use Rattle.model.specs.CellSlices.{moved, movedBytes}
-use Rattle.theory.specs.NetlistFile.CellBytes.{bytes-length, same-cell}
+use Rattle.laws.specs.NetlistFile.CellBytes.{bytes-length, same-cell}
 use Rattle.netlist.proofs.Writes.{sets-append}
 use Rattle.netlist.proofs.Bytes.{cells-more, cells-none, cell-bytes-append}
 

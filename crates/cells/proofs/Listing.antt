@@ -18,8 +18,8 @@ use Rattle.model.specs.Refusals.{refuse, first}
 use Rattle.model.specs.NetlistFile.{cellBytes, cellsAt, inList, countWrong, blocksFor, netCheck}
 use Rattle.model.specs.Calls.{writing, writeCall}
 use Rattle.model.specs.CellSlices.{checkCellsCall, writeCellsCall}
-use Rattle.theory.specs.NetlistFile.CellBytes.{bytes-length}
-use Rattle.theory.specs.NetlistFile.ByCells.{cells-of-bytes, write-cells-bytes}
+use Rattle.laws.specs.NetlistFile.CellBytes.{bytes-length}
+use Rattle.laws.specs.NetlistFile.ByCells.{cells-of-bytes, write-cells-bytes}
 use Rattle.netlist.specs.declared.cells.Layout.the-variants.{InList}
 use Rattle.netlist.specs.Offsets.{Room}
 use Rattle.netlist.proofs.FileChecks.{counted}

@@ -14,13 +14,13 @@ use Rattle.model.specs.Circuit.{cell}
 use Rattle.model.specs.NetlistFile.{cellBytes, cellsAt, inList}
 use Rattle.model.specs.Numbering.{delayCount, walkCount, clockSources, dataSources, orCountFrom, clockAt, memoryAt, walkAt, dataAt, headCells, memoriesOf, netlist, finish}
 use Rattle.model.specs.Calls.{checkCall}
-use Rattle.theory.specs.Numbering.Structure.{d-len, w-len}
-use Rattle.theory.specs.Program.Fit.{Formed}
-use Rattle.theory.specs.Numbering.Parts.{delayCells, clockOrs, memoryCells, walkCells, dataOrs, orsFrom-len, outs-len, mems16, net-length}
-use Rattle.theory.specs.Numbering.Count.{fits}
-use Rattle.theory.specs.Program.Accepted.{program-fit}
-use Rattle.theory.specs.Program.Size.{few-nodes}
-use Rattle.theory.specs.NetlistFile.CellBytes.{from-bytes, cells-are}
+use Rattle.laws.specs.Numbering.Lengths.{d-len, w-len}
+use Rattle.laws.specs.Program.Fit.{Formed}
+use Rattle.laws.specs.Numbering.Parts.{delayCells, clockOrs, memoryCells, walkCells, dataOrs, orsFrom-len, outs-len, mems16, net-length}
+use Rattle.laws.specs.Numbering.Count.{fits}
+use Rattle.laws.specs.Program.Accepted.{program-fit}
+use Rattle.laws.specs.Program.Size.{few-nodes}
+use Rattle.laws.specs.NetlistFile.CellBytes.{from-bytes, cells-are}
 use Rattle.word.proofs.Puts.{overwrite-sets}
 use Rattle.netlist.proofs.Bytes.{cell-bytes-length}
 use Rattle.compiler.specs.declared.walk.Place.{Place}

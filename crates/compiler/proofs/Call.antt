@@ -16,9 +16,9 @@ use Rattle.model.specs.Program.{programOf}
 use Rattle.model.specs.Numbering.{netlist, finish}
 use Rattle.model.specs.NetlistFile.{cellsAt, inList, fileOf, blocksFor}
 use Rattle.model.specs.Calls.{overwrite, checkCall, compiledFile, compileChecks, writing, compileCall}
-use Rattle.theory.specs.Refusals.Laws.{first-take, first-drop}
-use Rattle.theory.specs.Numbering.Count.{fits}
-use Rattle.theory.specs.Program.Size.{few-nodes}
+use Rattle.laws.specs.Refusals.Laws.{first-take, first-drop}
+use Rattle.laws.specs.Numbering.Count.{fits}
+use Rattle.laws.specs.Program.Size.{few-nodes}
 use Rattle.netlist.specs.declared.cells.Layout.the-variants.{InList}
 use Rattle.netlist.specs.Offsets.{Room}
 use Rattle.word.proofs.Puts.{overwrite-sets}

@@ -6,7 +6,7 @@ use native.Mathlib.Omega.{arith}
 use Rattle.model.specs.Program.{Expr, const, var, compl, op}
 use Rattle.model.specs.Circuit.{cell}
 use Rattle.model.specs.Numbering.{exprCount, exprWire, exprCells}
-use Rattle.theory.specs.Numbering.Structure.{e-len}
+use Rattle.laws.specs.Numbering.Lengths.{e-len}
 use Rattle.compiler.specs.declared.walk.Word.{Word}
 use Rattle.compiler.specs.Writes.{write}
 use Rattle.compiler.specs.Walk.{word, ExprReady, ExprDone}

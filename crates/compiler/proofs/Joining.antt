@@ -12,7 +12,7 @@ use lib.Seq.{sets, sets-eq, drop-cons}
 use Rattle.model.specs.declared.Cell.{Cell}
 use Rattle.model.specs.Circuit.{cell}
 use Rattle.model.specs.Numbering.{Source, wiresOf, orChain, orChainOut, ors, orsOut, orCount, orsFrom, outsFrom, orCountFrom, memoriesOf}
-use Rattle.theory.specs.Numbering.Parts.{ors-len, outs-len}
+use Rattle.laws.specs.Numbering.Parts.{ors-len, outs-len}
 use Rattle.compiler.specs.declared.walk.Word.{Word}
 use Rattle.compiler.specs.declared.ors.Joint.{Joint}
 use Rattle.compiler.specs.Writes.{write}

@@ -4,7 +4,7 @@ use Prim.Native.Nat.{ℕ, _+_, _*_, _≤_}
 use native.Mathlib.Omega.{arith}
 use Rattle.model.specs.Program.{Expr, Stmt, assign, seq, par, ite, while, repeat}
 use Rattle.model.specs.Numbering.{exprCount, pastSwitches, delayCount, walkCount}
-use Rattle.theory.specs.Program.Fit.{FormedExpr, Formed}
+use Rattle.laws.specs.Program.Fit.{FormedExpr, Formed}
 use Rattle.compiler.specs.declared.walk.Word.{Word}
 use Rattle.compiler.specs.declared.walk.Place.{Place}
 use Rattle.compiler.specs.declared.walk.Pulse.{Pulse}

@@ -5,7 +5,7 @@ use Prim.Native.Nat.{ℕ, _≤_, _<_}
 use native.Mathlib.Omega.{arith}
 use Rattle.model.specs.declared.Node.{Node}
 use Rattle.model.specs.Program.{nodeAt, nodeCount}
-use Rattle.theory.specs.Program.Trees.{expr-none, stmt-none, no-expr, no-stmt, at-const, at-ok}
+use Rattle.laws.specs.Program.Trees.{expr-none, stmt-none, no-expr, no-stmt, at-const, at-ok}
 use Rattle.compiler.specs.Nodes.{ExprNode, StmtNode}
 
 abbrev none : ℕ → Node

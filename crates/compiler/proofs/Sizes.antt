@@ -3,7 +3,7 @@ use Prim.Native.Nat.{ℕ, zero, suc, _*_, _≤_}
 use native.Mathlib.Omega.{arith}
 use Rattle.model.specs.Program.{Expr, const, var, compl, op, Stmt, ok, tick, assign, seq, par, ite, while, repeat}
 use Rattle.model.specs.Numbering.{exprCount, ifDelayCount, delayCount, walkCount}
-use Rattle.theory.specs.Numbering.Count.{eNodes, nodes}
+use Rattle.laws.specs.Numbering.Count.{eNodes, nodes}
 use Rattle.compiler.specs.Walk.{assignments}
 
 few-expr : (e : Expr) → (exprCount e ≤ eNodes e) × (1 ≤ eNodes e)

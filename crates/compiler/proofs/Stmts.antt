@@ -8,7 +8,7 @@ use lib.ListN.{length, set, length-append}
 use Rattle.model.specs.Program.{Expr, Stmt, ok, tick, assign, seq, par, ite, while, repeat}
 use Rattle.model.specs.Circuit.{cell}
 use Rattle.model.specs.Numbering.{exprCount, exprWire, exprCells, pastSwitches, switches, ifDelayCount, ifDelayCells, ifPulse, delayCount, finishWire, delays, walk}
-use Rattle.theory.specs.Numbering.Structure.{e-len, own-len}
+use Rattle.laws.specs.Numbering.Lengths.{e-len, own-len}
 use Rattle.compiler.specs.declared.walk.Word.{Word}
 use Rattle.compiler.specs.declared.walk.Place.{Place}
 use Rattle.compiler.specs.declared.walk.Pulse.{Pulse}

@@ -5,7 +5,7 @@ use Prim.Native.Nat.{ℕ, _+_, _*_, _≤_}
 use lib.Seq.{sets}
 use Rattle.model.specs.Program.{Expr, Stmt, ok, tick, assign, seq, par, ite, while, repeat}
 use Rattle.model.specs.Numbering.{exprCount, exprWire, exprCells, onTrue, pastSwitches, switches, ifDelayCount, ifDelayCells, ifPulse, delayCount, walkCount, finishWire, delays, walk}
-use Rattle.theory.specs.Program.Fit.{FormedExpr, Formed}
+use Rattle.laws.specs.Program.Fit.{FormedExpr, Formed}
 use Rattle.compiler.specs.declared.walk.Word.{Word}
 use Rattle.compiler.specs.declared.walk.Place.{Place}
 use Rattle.compiler.specs.declared.walk.Pulse.{Pulse}

@@ -9,7 +9,7 @@ use Rattle.model.specs.Program.{Stmt}
 use Rattle.model.specs.NetlistFile.{cellsAt, inList}
 use Rattle.model.specs.Numbering.{clockAt, memoryAt, dataAt, walkAt, clockWires, dataWires, netlist, finish}
 use Rattle.model.specs.Calls.{checkCall}
-use Rattle.theory.specs.Numbering.Parts.{delayCells, clockOrs, walkCells, dataOrs}
+use Rattle.laws.specs.Numbering.Parts.{delayCells, clockOrs, walkCells, dataOrs}
 use Rattle.program.specs.Ends.{Laid}
 use Rattle.compiler.specs.declared.ors.Ors.{Ors}
 use Rattle.compiler.specs.declared.whole.Finished.{Finished}

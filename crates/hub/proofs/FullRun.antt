@@ -18,12 +18,12 @@ use Rattle.model.specs.NetlistFile.{cellsOf}
 use Rattle.model.specs.State.{stateSize}
 use Rattle.model.specs.Calls.{short, checkCall, overwrite, compiledFile, refusedAnswer, shows, running, writing, fullState, fullCount, runProgramChecks, runProgramCall}
 use Rattle.model.specs.Promises.{Bytes}
-use Rattle.theory.specs.Refusals.Laws.{all-accept, refuse-unless, first-take, first-drop, accept-take}
-use Rattle.theory.specs.Program.Size.{few-nodes}
-use Rattle.theory.specs.Numbering.Parts.{net-length}
-use Rattle.theory.specs.Numbering.Count.{fits}
-use Rattle.theory.specs.NetlistFile.Files.{cells-written, file-length}
-use Rattle.theory.specs.Promises.Demands.{compiled-accepted}
+use Rattle.laws.specs.Refusals.Laws.{all-accept, refuse-unless, first-take, first-drop, accept-take}
+use Rattle.laws.specs.Program.Size.{few-nodes}
+use Rattle.laws.specs.Numbering.Parts.{net-length}
+use Rattle.laws.specs.Numbering.Count.{fits}
+use Rattle.laws.specs.NetlistFile.Files.{cells-written, file-length}
+use Rattle.laws.specs.NetlistFile.Compiled.{compiled-accepted}
 use Rattle.simulator.specs.Fits.{Runs}
 
 -- A netlist has few cells

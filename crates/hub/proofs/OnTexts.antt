@@ -16,7 +16,7 @@ use Rattle.model.specs.NetlistFile.{cellsOf}
 use Rattle.model.specs.State.{stateSize}
 use Rattle.model.specs.Calls.{Returned, ReturnedBoth, short, writing, compiledFile, compileCall, refusedAnswer, running, fullState, fullCount, overBudget, runProgramCall}
 use Rattle.model.specs.TextCalls.{textProgram, compileTextChecks, compileTextCall, runTextChecks, runTextCall}
-use Rattle.theory.specs.Text.AsProgram.{compile-as-program, run-as-program}
+use Rattle.laws.specs.Text.AsProgram.{compile-as-program, run-as-program}
 use Rattle.text.specs.Parsing.{parseChecks}
 use Rattle.text.proofs.Giving.{parse-refuses, parse-accepts}
 

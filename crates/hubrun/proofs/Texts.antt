@@ -14,8 +14,8 @@ use Rattle.model.specs.Word.{pick, get32}
 use Rattle.model.specs.TimeTables.{builtIn, load}
 use Rattle.model.specs.Calls.{refusedAnswer, running, runProgramCall}
 use Rattle.model.specs.Hubrun.{decimal, line, refusedWord, linesOf, textOf, hubrunText}
-use Rattle.theory.specs.Refusals.Laws.{by-bool}
-use Rattle.theory.specs.Program.Passed.{long-refused}
+use Rattle.laws.specs.Refusals.Laws.{by-bool}
+use Rattle.laws.specs.Program.Passed.{long-refused}
 
 picked : {A : Type 0} {b : Bool} (x y : A) → b ≡ true → pick b x y ≡ x
 picked x y e = rw e refl

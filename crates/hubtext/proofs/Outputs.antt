@@ -18,8 +18,8 @@ use Rattle.model.specs.declared.Written.the-variants.{Done, Refused}
 use Rattle.model.specs.Refusals.{first}
 use Rattle.model.specs.TextCalls.{textProgram, readTextChecks, readTextCall}
 use Rattle.model.specs.Hubtext.{written, hubtextOutput}
-use Rattle.theory.specs.Refusals.Laws.{by-bool, refuse-unless, all-accept}
-use Rattle.theory.specs.NetlistFile.ReadWrite.{wrote}
+use Rattle.laws.specs.Refusals.Laws.{by-bool, refuse-unless, all-accept}
+use Rattle.laws.specs.NetlistFile.ReadWrite.{wrote}
 use Rattle.word.proofs.Puts.{overwrite-sets}
 
 too-long : (text : List ℕ) → 4096 < length text → hubtextOutput text ≡ line (refusedWord ∷ decimal 17 ∷ decimal 4096 ∷ [])

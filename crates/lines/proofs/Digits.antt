@@ -8,7 +8,7 @@ use lib.ListN.{length, length-append}
 use borrow.Author.Tests.{ltb-true, ltb-false, lt-ltb, le-ltb}
 use lib.Dec.{ltb}
 use Rattle.model.specs.Hubrun.{digits, decimal}
-use Rattle.theory.specs.Refusals.Laws.{by-bool}
+use Rattle.laws.specs.Refusals.Laws.{by-bool}
 
 one-digit : (m n : ℕ) → n < 10 → digits (suc m) n ≡ (48 + n) ∷ []
 unfolding digits

@@ -7,7 +7,7 @@ use native.Mathlib.Omega.{arith}
 use lib.ListN.{drop}
 use Rattle.model.specs.declared.Node.{Node}
 use Rattle.model.specs.Program.{op, assign, seq, par, ite, while, repeat, nodeAt, nodeCount, treesAt, exprAt, stmtAt}
-use Rattle.theory.specs.Program.Trees.{at-op, at-assign, at-seq, at-par, at-ite, at-while, at-repeat}
+use Rattle.laws.specs.Program.Trees.{at-op, at-assign, at-seq, at-par, at-ite, at-while, at-repeat}
 use Rattle.program.specs.Ends.{Laid, past, past-trees, past-later}
 
 -- node i is there; it is a, and its second child is node j

@@ -13,7 +13,7 @@ use borrow.Author.Tests.{ne-eqb}
 use Rattle.model.specs.declared.Node.{Node}
 use Rattle.model.specs.Refusals.{faultIf}
 use Rattle.model.specs.Program.{Stmt, Tree, nodeAt, nodeCount, asStmt, stmtOf, treeOf, treesAt, stmtAt, writes, touches, conflict, conflicts, conflictFault}
-use Rattle.theory.specs.Program.Trees.{by-pick, tree-is, at-par}
+use Rattle.laws.specs.Program.Trees.{by-pick, tree-is, at-par}
 
 -- Variables ----------------------------------------------------------------------------------------------------------------------------
 

@@ -13,7 +13,7 @@ use Rattle.model.specs.declared.Checked.the-variants.{Accepted}
 use Rattle.model.specs.Word.{pick}
 use Rattle.model.specs.Refusals.{refuse}
 use Rattle.model.specs.Program.{nodeAt, nodeCount, nodesAt, rowOf, children, reading}
-use Rattle.theory.specs.Program.Trees.{nodes-step, nodes-none}
+use Rattle.laws.specs.Program.Trees.{nodes-step, nodes-none}
 use Rattle.program.specs.Table.{expr-stmts}
 
 abbrev pub wanted : ℕ → ℕ → List ℕ

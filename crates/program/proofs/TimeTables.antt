@@ -16,7 +16,7 @@ use Rattle.model.specs.Program.{checkOf}
 use Rattle.model.specs.NetlistFile.{wordSum}
 use Rattle.model.specs.TimeTables.{byteWrong, tableFault, tableSumWrong, tableChecks}
 use Rattle.model.specs.Calls.{checkCall}
-use Rattle.theory.specs.Refusals.Laws.{first-one}
+use Rattle.laws.specs.Refusals.Laws.{first-one}
 
 module _ (file : List ℕ) (i : ℕ) where
   pub wrong-byte : byteWrong i (getD file i 0) ≡ true → tableFault file i ≡ 21

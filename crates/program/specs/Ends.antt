@@ -13,7 +13,7 @@ use borrow.Author.Tests.{lt-ltb, le-ltb}
 use Rattle.model.specs.declared.Node.{Node}
 use Rattle.model.specs.Word.{pick}
 use Rattle.model.specs.Program.{nodeAt, nodeCount, arity, grow, treesAt}
-use Rattle.theory.specs.Program.Trees.{trees-none, trees-step}
+use Rattle.laws.specs.Program.Trees.{trees-none, trees-step}
 
 -- entry j is the node after the subtree of node j: the trees from there on are those after the first
 pub record EndAt (s ends : List ℕ) (j : ℕ) : Type 0 where

@@ -9,10 +9,10 @@ use lib.Seq.{take-at}
 use Rattle.model.specs.declared.Node.{Node}
 use Rattle.model.specs.Refusals.{first}
 use Rattle.model.specs.Program.{nodeAt, nodeCount, nodesFrom, nodesAt, grow, treesAt}
-use Rattle.theory.specs.Program.Trees.{nodes-split, treeAt, trees-step}
+use Rattle.laws.specs.Program.Trees.{nodes-split, treeAt, trees-step}
 use Rattle.program.specs.Ends.{EndAt}
-use Rattle.theory.specs.Program.Passed.{Readable, nodes-at}
-use Rattle.theory.specs.Program.Preorder.{nodesOf, allNodes}
+use Rattle.laws.specs.Program.Passed.{Readable, nodes-at}
+use Rattle.laws.specs.Program.Preorder.{nodesOf, allNodes}
 
 cancel : (p q r : List Node) → p ++ r ≡ q ++ r → p ≡ q
 cancel p q r e =

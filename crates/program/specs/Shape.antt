@@ -14,7 +14,7 @@ use Rattle.model.specs.Refusals.{first}
 use Rattle.model.specs.Program.{nodeAt, nodeCount, arity, exprAt, time, timeIn, programChecks, checkOf}
 use Rattle.model.specs.Calls.{checkCall}
 use Rattle.program.specs.declared.Scanned.{Scanned}
-use Rattle.theory.specs.Program.Passed.{accepted}
+use Rattle.laws.specs.Program.Passed.{accepted}
 use Rattle.program.specs.Ends.{EndAt, Laid, skips, end-more}
 
 -- the entries of node j, with operator times τ

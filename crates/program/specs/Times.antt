@@ -13,8 +13,8 @@ use borrow.Author.Tests.{lt-ltb, le-ltb}
 use Rattle.model.specs.declared.Node.{Node}
 use Rattle.model.specs.Word.{pick}
 use Rattle.model.specs.Program.{Expr, while, repeat, Tree, nodeAt, nodeCount, nodesAt, none, asExpr, asStmt, exprOf, stmtOf, treeOf, arity, grow, forest, treesAt, exprAt, stmtAt, time, least, delayFault, node}
-use Rattle.theory.specs.Program.Passed.{Passed}
-use Rattle.theory.specs.Program.Trees.{length-nodes, expr-none, by-pick, other-kind, treeAt, tree-is, tree-of, no-expr, no-stmt, at-const, at-var, at-compl, at-op, at-ok}
+use Rattle.laws.specs.Program.Passed.{Passed}
+use Rattle.laws.specs.Program.Trees.{length-nodes, expr-none, by-pick, other-kind, treeAt, tree-is, tree-of, no-expr, no-stmt, at-const, at-var, at-compl, at-op, at-ok}
 
 -- Times --------------------------------------------------------------------------------------------------------------------------------
 

@@ -12,10 +12,10 @@ use borrow.Author.Tests.{lt-ltb, ne-eqb}
 use Rattle.model.specs.declared.Node.{Node}
 use Rattle.model.specs.Word.{pick}
 use Rattle.model.specs.Program.{Expr, const, var, compl, op, Stmt, ok, tick, assign, seq, par, ite, while, repeat, Tree, stmt, nodeAt, nodeCount, nodesFrom, none, stmtAt, reads, writes, touches, preorderE, preorder, node}
-use Rattle.theory.specs.Program.Trees.{nodes-step, nodes-none, treeAt, trees-none}
+use Rattle.laws.specs.Program.Trees.{nodes-step, nodes-none, treeAt, trees-none}
 use Rattle.program.specs.Ends.{Laid, past, past-trees, past-within}
-use Rattle.theory.specs.Program.Preorder.{nodesOf, KnownE, Known, KnownT}
-use Rattle.theory.specs.Program.Passed.{Readable, known-at, par-sides}
+use Rattle.laws.specs.Program.Preorder.{nodesOf, KnownE, Known, KnownT}
+use Rattle.laws.specs.Program.Passed.{Readable, known-at, par-sides}
 use Rattle.program.specs.Ranges.{subtree}
 
 -- a node assigns to x or, where the flag is set, reads it

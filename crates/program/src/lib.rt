@@ -12,7 +12,7 @@ ghost use Rattle.model.specs.Program.{nodeAt, nodeCount, nodesAt, rowOf, exprAt
 ghost use Rattle.model.specs.TimeTables.{builtIn, given, load};
 ghost use Rattle.model.specs.Calls.{checkCall};
 ghost use Rattle.program.specs.Ends.{Laid, past, skips};
-ghost use Rattle.theory.specs.Program.Passed.{Readable};
+ghost use Rattle.laws.specs.Program.Passed.{Readable};
 ghost use Rattle.program.specs.Uses.{names, uses, Side};
 ghost use Rattle.program.specs.Shape.{Shaped, Measures, ScansBy, Scans};
 

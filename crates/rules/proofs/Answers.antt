@@ -18,8 +18,8 @@ use Rattle.model.specs.Program.{programOf, checkOf}
 use Rattle.model.specs.Rules.{ended, run}
 use Rattle.model.specs.Refusals.{refuseIf, first}
 use Rattle.model.specs.Calls.{wordAt, listed, refusedAnswer, referenceAnswer, answering, short, checkCall, overBudget, referenceCall}
-use Rattle.theory.specs.Refusals.Laws.{first-two}
-use Rattle.theory.specs.Program.Accepted.{program-fit}
+use Rattle.laws.specs.Refusals.Laws.{first-two}
+use Rattle.laws.specs.Program.Accepted.{program-fit}
 use Rattle.rules.specs.declared.Ran.{Ran}
 use Rattle.rules.specs.Ran.{storeOf, runOf, Stands}
 use Rattle.rules.proofs.Words.{filled-listed, listed-at}

@@ -11,8 +11,8 @@ use borrow.Author.Tests.{eq-eqb, ne-eqb}
 use Rattle.model.specs.Word.{isZero}
 use Rattle.model.specs.Program.{Expr, Stmt, while, repeat}
 use Rattle.model.specs.Rules.{Store, Run, ended, still, eval, after, wait, chain, whiles, repeats, run}
-use Rattle.theory.specs.Refusals.Laws.{by-bool}
-use Rattle.theory.specs.Rules.Laws.{Body, wait-is, wait-short, whiles-stop, whiles-more, again, repeats-is, again-more, again-stop}
+use Rattle.laws.specs.Refusals.Laws.{by-bool}
+use Rattle.laws.specs.Rules.Laws.{Body, wait-is, wait-short, whiles-stop, whiles-more, again, repeats-is, again-more, again-stop}
 use Rattle.rules.specs.declared.Ran.{Ran}
 use Rattle.rules.specs.Ran.{storeOf, runOf, Stands}
 use Rattle.rules.proofs.Runs.{run-ended, run-still, stands-still}

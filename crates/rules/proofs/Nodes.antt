@@ -8,7 +8,7 @@ use Rattle.model.specs.declared.Node.{Node}
 use Rattle.model.specs.Word.{operate}
 use Rattle.model.specs.Program.{Expr, ok, nodeAt, nodeCount, exprAt, stmtAt}
 use Rattle.model.specs.Rules.{Store, eval}
-use Rattle.theory.specs.Program.Trees.{expr-none, at-const, at-var, at-compl, no-expr, no-stmt, at-ok}
+use Rattle.laws.specs.Program.Trees.{expr-none, at-const, at-var, at-compl, no-expr, no-stmt, at-ok}
 use Rattle.program.proofs.Children.{Inner, op-read}
 
 -- Statements ---------------------------------------------------------------------------------------------------------------------------

@@ -4,7 +4,7 @@ use mathlib.Core.Path.{_≡_, subst}
 use mathlib.Core.List.{List}
 use Prim.Native.Nat.{ℕ, _≤_, _<_}
 use Rattle.model.specs.Program.{Expr, Stmt, assign, seq, par, ite, while, repeat}
-use Rattle.theory.specs.Program.Fit.{Timed, Separate}
+use Rattle.laws.specs.Program.Fit.{Timed, Separate}
 use Rattle.rules.specs.Ran.{Ready}
 
 module _ {s ends : List ℕ} where

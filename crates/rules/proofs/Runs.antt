@@ -13,10 +13,10 @@ use borrow.Author.Tests.{eq-eqb, ne-eqb}
 use Rattle.model.specs.Word.{pick}
 use Rattle.model.specs.Program.{Expr, Stmt, ok, assign, seq, par, ite, writes}
 use Rattle.model.specs.Rules.{Store, Run, ended, still, eval, put, over, kept, after, wait, chain, both, run}
-use Rattle.theory.specs.Program.Fit.{Separate}
-use Rattle.theory.specs.Rules.Uses.{leaves, writes-touches, apart-unwritten}
-use Rattle.theory.specs.Refusals.Laws.{by-bool}
-use Rattle.theory.specs.Rules.Laws.{wait-is, wait-short, both-of, ite-then, ite-else}
+use Rattle.laws.specs.Program.Fit.{Separate}
+use Rattle.laws.specs.Rules.Uses.{leaves, writes-touches, apart-unwritten}
+use Rattle.laws.specs.Refusals.Laws.{by-bool}
+use Rattle.laws.specs.Rules.Laws.{wait-is, wait-short, both-of, ite-then, ite-else}
 use Rattle.rules.specs.declared.Ran.{Ran}
 use Rattle.rules.specs.Ran.{storeOf, runOf, Stands, joins}
 

@@ -11,8 +11,8 @@ use Rattle.model.specs.Word.{pick, isZero, operate}
 use Rattle.model.specs.Program.{Expr, const, var, compl, op, Stmt, ok, tick, assign, seq, par, ite, while, repeat, writes}
 use Rattle.model.specs.Rules.{Store, Run, ended, still, eval, put, over, kept, after, wait, chain, both, whiles, repeats, run}
 use Rattle.model.specs.Calls.{listed, referenceAnswer}
-use Rattle.theory.specs.Program.Fit.{FormedExpr, Formed}
-use Rattle.theory.specs.Rules.Laws.{Body}
+use Rattle.laws.specs.Program.Fit.{FormedExpr, Formed}
+use Rattle.laws.specs.Rules.Laws.{Body}
 
 abbrev pub Agree : Store → Store → Type 0
 Agree σ τ = (x : ℕ) → x < 16 → σ x ≡ τ x

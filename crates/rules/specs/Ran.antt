@@ -8,7 +8,7 @@ use lib.Dec.{eqb}
 use Rattle.model.specs.Word.{pick}
 use Rattle.model.specs.Program.{Stmt}
 use Rattle.model.specs.Rules.{Store, Run, ended, still}
-use Rattle.theory.specs.Program.Fit.{Fit}
+use Rattle.laws.specs.Program.Fit.{Fit}
 use Rattle.program.specs.Ends.{Laid}
 use Rattle.rules.specs.declared.Ran.{Ran}
 

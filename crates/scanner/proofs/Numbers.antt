@@ -11,7 +11,7 @@ use lib.ListN.{length, getD, take, drop, length-drop, drop-of-length-le, List·g
 use lib.Seq.{drop-cons, take-all}
 use borrow.Author.Tests.{leb-true, le-leb, ltb-true, ltb-false, le-ltb, eqb-true, eqb-false, eq-eqb, ne-eqb}
 use Rattle.model.specs.Text.{digit, allDigits, valueFrom, isNumber, isName}
-use Rattle.theory.specs.Refusals.Laws.{by-bool, not-both, and-true, and-of, or-false}
+use Rattle.laws.specs.Refusals.Laws.{by-bool, not-both, and-true, and-of, or-false}
 
 -- Digits -------------------------------------------------------------------------------------------------------------------------------
 

@@ -12,7 +12,7 @@ use lib.Seq.{drop-cons}
 use borrow.Author.Tests.{eq-eqb, ne-eqb}
 use Rattle.model.specs.Text.{cThen, cElse, cDo, cUntil, cEnd, cAt, numeral, name, sign, valueFrom, isNumber, isName, same, wordCode, limitAfter, runToken}
 use Rattle.model.specs.Word.{pick}
-use Rattle.theory.specs.Refusals.Laws.{by-bool}
+use Rattle.laws.specs.Refusals.Laws.{by-bool}
 
 pub same-lengths : (s t : List ℕ) → (length s ≡ length t → ⊥) → same s t ≡ false
 unfolding same

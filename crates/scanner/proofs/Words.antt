@@ -13,7 +13,7 @@ use Rattle.model.specs.declared.texts.Token.{Token}
 use Rattle.model.specs.declared.Checked.the-variants.{Accepted}
 use Rattle.model.specs.Refusals.{refuse}
 use Rattle.model.specs.Text.{sign, runLength, twoCode, oneCode, isNumber, isName, limitAfter, runToken, tokenAt, sizeAt, wordsFrom, outside}
-use Rattle.theory.specs.Refusals.Laws.{by-bool}
+use Rattle.laws.specs.Refusals.Laws.{by-bool}
 use Rattle.scanner.specs.declared.Scanned.{Scanned}
 use Rattle.scanner.specs.Scanning.{afterBlanks, aWord, wordHere, nextWord, Next}
 use Rattle.scanner.specs.ScanningLaws.{inRun, run-front, front-length}

@@ -11,7 +11,7 @@ use lib.ListN.{length, getD, drop, length-drop, drop-of-length-le}
 use lib.Seq.{drop-cons, drop-drop}
 use borrow.Author.Tests.{ltb-true, ltb-false, eq-eqb, eqb-false}
 use Rattle.model.specs.Text.{blank, letter, digit, runLength, twoCode, tokenAt, sizeAt, Lexeme, lexeme, wordsFrom}
-use Rattle.theory.specs.Refusals.Laws.{by-bool, not-both}
+use Rattle.laws.specs.Refusals.Laws.{by-bool, not-both}
 use Rattle.scanner.specs.declared.Scanned.{Scanned}
 use Rattle.scanner.specs.Scanning.{front, afterBlanks, wordHere, noWord, nextWord, Next}
 

@@ -18,10 +18,10 @@ use Rattle.model.specs.Circuit.{cellAt, memories, Shape, shape, kConstant, kCom
 use Rattle.model.specs.NetlistFile.{cellBytes, cellFrom, cellsAt, inList, inFile, blocksFor, countOf, finishOf, cellsOf, fileLengthWrong, controlIn, wordIn, keeps, fileCheck}
 use Rattle.model.specs.State.{stateSize, instantOf, beginState}
 use Rattle.model.specs.Promises.{stateAt}
-use Rattle.theory.specs.Refusals.Laws.{and-true, or-false, not-both}
-use Rattle.theory.specs.NetlistFile.Passed.{looks, net-passed, file-passed, count-range, count-cells}
-use Rattle.theory.specs.NetlistFile.CellBytes.{from-bytes, bytes-length, cells-are, cell-of}
-use Rattle.theory.specs.Promises.Demands.{demand2}
+use Rattle.laws.specs.Refusals.Laws.{and-true, or-false, not-both}
+use Rattle.laws.specs.NetlistFile.Passed.{looks, net-passed, file-passed, count-range, count-cells}
+use Rattle.laws.specs.NetlistFile.CellBytes.{from-bytes, bytes-length, cells-are, cell-of}
+use Rattle.laws.specs.State.Passes.{begin-instant as begun-instant}
 use Rattle.simulator.specs.Fits.{Stands, Sees, netOf, Fits, Runs}
 use Rattle.simulator.proofs.Cells.{net-cell}
 
@@ -195,10 +195,7 @@ module _ (file s : List ℕ) (r : Runs file s) where
       }
 
   pub begin-instant : (net : List Cell) (words : ℕ → ℕ) (b : List ℕ) → net ≡ cellsOf file → b ≡ beginState net words s → instantOf b ≡ 0
-  unfolding stateAt
-  begin-instant net words b e h =
-      let z : b ≡ beginState (cellsOf file) words s = rw e at h in
-      rw z (demand2 .runs file words (r .accepted) .states s (r .room) 0 .instant (omega arith))
+  begin-instant net words b e h = rw h (begun-instant net words s)
 
 -- a state that is as long can be run as well
 pub reruns : {file s t : List ℕ} → Runs file s → length t ≡ length s → Runs file t

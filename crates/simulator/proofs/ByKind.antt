@@ -11,7 +11,7 @@ use Rattle.model.specs.declared.Cell.{Cell}
 use Rattle.model.specs.Word.{pick, bit, isZero, operate}
 use Rattle.model.specs.Circuit.{high, mergeStep, Shape, shape, kConstant, kComplement, kOperator, kStart, kGround, kDelay, kOr, kWhenTrue, kWhenFalse, kMerge, kMemory, kGated, kUnknown}
 use Rattle.model.specs.State.{base, nowAt, beforeAt, heldAt, lineBit, nextValue, shiftedIn, holding, settle}
-use Rattle.theory.specs.Circuit.Shapes.{delay-kind, merge-kind}
+use Rattle.laws.specs.Circuit.Shapes.{delay-kind, merge-kind}
 
 -- a number that is no operator's
 pub record NoOperator (kind : ℕ) : Type 0 where

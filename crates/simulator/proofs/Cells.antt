@@ -11,8 +11,8 @@ use Rattle.model.specs.declared.Cell.{Cell}
 use Rattle.model.specs.Circuit.{noCell, cellAt, shape}
 use Rattle.model.specs.NetlistFile.{cellFrom, inList}
 use Rattle.model.specs.State.{nextValue, value, settle, settled}
-use Rattle.theory.specs.NetlistFile.Passed.{length-cells}
-use Rattle.theory.specs.NetlistFile.CellBytes.{cell-of}
+use Rattle.laws.specs.NetlistFile.Passed.{length-cells}
+use Rattle.laws.specs.NetlistFile.CellBytes.{cell-of}
 use Rattle.simulator.specs.Fits.{Stands, Sees, netOf, Fits}
 
 -- a list of cells from cell k on

@@ -13,7 +13,7 @@ use Rattle.model.specs.declared.Cell.{Cell}
 use Rattle.model.specs.Word.{pick, bit}
 use Rattle.model.specs.Circuit.{memoryWords, cellAt, noCell, memories, startWord, shape}
 use Rattle.model.specs.State.{nowAt, nextValue, firstValue, wordsIn}
-use Rattle.theory.specs.Numbering.Whole.{memories-append}
+use Rattle.laws.specs.Numbering.Memories.{memories-append}
 use Rattle.simulator.proofs.Cells.{cells-from}
 
 module _ (net : List Cell) (k : ℕ) (h : k < length net) where

@@ -14,7 +14,7 @@ use Rattle.model.specs.Refusals.{refuse, first}
 use Rattle.model.specs.NetlistFile.{fileCheck, cellsOf, finishOf}
 use Rattle.model.specs.State.{stateSize, instantOf, beginState, lastState, evaluated, sound}
 use Rattle.model.specs.Calls.{Returned, wordAt, short, refusedAnswer, shows, running, beginChecks, beginCall, continueChecks, continueCall, fullState, fullCount, runNetlistChecks, runNetlistCall}
-use Rattle.theory.specs.Refusals.Laws.{all-accept, refuse-unless}
+use Rattle.laws.specs.Refusals.Laws.{all-accept, refuse-unless}
 use Rattle.simulator.specs.Fits.{Runs}
 
 -- Which is found first -----------------------------------------------------------------------------------------------------------------

@@ -21,11 +21,10 @@ use Rattle.model.specs.Text.{wordsOf, outside}
 use Rattle.model.specs.Reader.{Reading, good, bad}
 use Rattle.model.specs.Calls.{writtenVerdict, short, checkCall, writing}
 use Rattle.model.specs.TextCalls.{readingOf, brokenAt, bytesRead, textProgram, textChecks, readTextChecks, readTextCall}
-use Rattle.theory.specs.Refusals.Laws.{by-bool, not-refused, refuse-unless, first-one, first-append, refused-append, accept-take, all-accept}
-use Rattle.theory.specs.Refusals.Order.{writing-verdict}
-use Rattle.theory.specs.NetlistFile.ReadWrite.{wrote}
-use Rattle.theory.specs.Program.Passed.{long-refused}
-use Rattle.theory.specs.Text.Bytes.{length-bytes}
+use Rattle.laws.specs.Refusals.Laws.{by-bool, not-refused, refuse-unless, first-one, first-append, refused-append, accept-take, all-accept}
+use Rattle.laws.specs.NetlistFile.ReadWrite.{wrote, writing-verdict}
+use Rattle.laws.specs.Program.Passed.{long-refused}
+use Rattle.laws.specs.Program.NodeBytes.{length-bytes}
 use Rattle.text.specs.Shown.{Keeps}
 use Rattle.text.specs.Parsing.{parseChecks, programTold, Given, giveChecks, giveCall}
 

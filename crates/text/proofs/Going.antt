@@ -9,8 +9,8 @@ use lib.ListN.{length, drop}
 use Rattle.model.specs.Text.{lexeme, wordsFrom, limitAfter}
 use Rattle.model.specs.Reader.{step, isBroken, complete, bad, readerAtFirst, readFrom}
 use Rattle.model.specs.TextCalls.{readingOf}
-use Rattle.theory.specs.Refusals.Laws.{by-bool}
-use Rattle.theory.specs.Text.Runs.{reads-end, reads-short, reads-broken, reads-on}
+use Rattle.laws.specs.Refusals.Laws.{by-bool}
+use Rattle.laws.specs.Text.Runs.{reads-end, reads-short, reads-broken, reads-on}
 use Rattle.scanner.specs.declared.Scanned.{Scanned}
 use Rattle.text.specs.declared.machine.Machine.{Machine}
 use Rattle.text.specs.declared.parsing.Parsed.the-variants.{Nodes, Broken}

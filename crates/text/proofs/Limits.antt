@@ -11,7 +11,7 @@ use Rattle.model.specs.declared.texts.Token.{Token}
 use Rattle.model.specs.Word.{pick}
 use Rattle.model.specs.Text.{limitAfter}
 use Rattle.model.specs.Reader.{Reader, pop, topCode, comparison, leaf, opened, openedNode, between, closed, turned, reduced, withDelay, onStatement, onOperand, onAfterOperand, onAfterStatement, onDelay, onBody, stepOf}
-use Rattle.theory.specs.Refusals.Laws.{by-bool, and-true}
+use Rattle.laws.specs.Refusals.Laws.{by-bool, and-true}
 use Rattle.text.specs.Shown.{limitOf}
 
 most-limit : (p : ℕ) → limitAfter p ≤ 65535

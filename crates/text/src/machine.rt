@@ -6,8 +6,8 @@ ghost use Prim.Native.Nat.{ℕ, _+_, _-_, _<_, _≤_};
 ghost use lib.ListN.{length};
 ghost use Rattle.model.specs.Reader.{readerAtFirst, leaf, opened, openedNode, between, closed, turned, reduced, withDelay};
 ghost use Rattle.text.specs.Shown.{lists, Shows, Ready, Grows, Follows, FollowsWithin, Lists, withMode, rewound};
-use model::texts::Mode;
 use model::Node;
+use model::texts::Mode;
 
 // mode: what is expected. start: the first node of what was just read. height: of the stack. cursor: where the next node goes. count: of nodes.
 pub struct Machine {

@@ -10,8 +10,8 @@ ghost use Rattle.model.specs.Program.{node};
 ghost use Rattle.model.specs.Reader.{Reader, pop, topCode, comparison, broken, onStatement, onOperand, onAfterOperand, onAfterStatement, onDelay, onBody, stepOf, step, isBroken, complete};
 ghost use Rattle.text.specs.Shown.{framesIn, Lists, lists, Shows, Ready, Grows, Follows, FollowsWithin, limitOf};
 use crate::machine::Machine;
-use model::texts::Mode;
 use model::Node;
+use model::texts::Mode;
 use model::texts::Token;
 
 fn broken(m: Machine) -> Machine

@@ -1,5 +1,4 @@
 -- A netlist's equations have one solution, and its values are words.
-pub mod Shapes
 pub mod Unique
 pub mod Exists
 pub mod Bounds

@@ -1,10 +1,8 @@
 pub mod Refusals
-pub mod Program
 pub mod Rules
 pub mod Control
 pub mod Numbering
 pub mod Circuit
 pub mod State
-pub mod NetlistFile
 pub mod Text
 pub mod Promises

@@ -1,4 +1,2 @@
 -- Refusals: laws of the first one, and demand 1.
-pub mod Laws
-pub mod Search
 pub mod Order

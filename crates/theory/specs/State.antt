@@ -1,5 +1,4 @@
 -- The bytes of a state hold that solution.
-pub mod Passes
 pub mod States
 pub mod Sound
 pub mod Running

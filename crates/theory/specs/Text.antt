@@ -1,5 +1,4 @@
 -- Programs as text: the reader's steps, that it finds every reading and nothing else, that there is at most one, and what the calls promise.
-pub mod Runs
 pub mod Parts
 pub mod Found
 pub mod OneReading
@@ -10,5 +9,4 @@ pub mod Bytes
 pub mod Numerals
 pub mod Limits
 pub mod Order
-pub mod AsProgram
 pub mod Readings

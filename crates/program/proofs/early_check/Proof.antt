@@ -1,7 +1,7 @@
 -- Refusals 1 to 6, in their order.
 use mathlib.Core.Path.{sym, _∙_}
-use Rattle.theory.specs.Refusals.Laws.{first-one}
-use Rattle.theory.specs.Program.Passed.{right-length}
+use Rattle.laws.specs.Refusals.Laws.{first-one}
+use Rattle.laws.specs.Program.Passed.{right-length}
 use borrow.Author.Needs.{needs}
 use Rattle.program.proofs.early_check.Statement.{statement}
 use Rattle.program.proofs.early_check.Tie as tie

@@ -6,7 +6,7 @@ use Prim.Native.Nat.{ℕ, _+_, _-_, _≤_}
 use native.Mathlib.Omega.{arith}
 use denote.Ref.{now}
 use Rattle.model.specs.Program.{nodeCount, stmtAt, conflict, conflictFault}
-use Rattle.theory.specs.Refusals.Search.{Searched, searched-none, fault-here, fault-next, faults-end}
+use Rattle.laws.specs.Refusals.Search.{Searched, searched-none, fault-here, fault-next, faults-end}
 use Rattle.program.specs.Ends.{past-trees}
 use Rattle.program.specs.Uses.{sides}
 use Rattle.program.proofs.Clashes.{clash-start, clash-next, clash-here, clash-par, clash-other}

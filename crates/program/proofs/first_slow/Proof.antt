@@ -4,7 +4,7 @@ use Prim.Native.Nat.{_-_}
 use native.Mathlib.Omega.{arith}
 use denote.Ref.{now}
 use Rattle.model.specs.Program.{nodeCount, timeIn, delayFault}
-use Rattle.theory.specs.Refusals.Search.{Searched, searched-none, fault-here, fault-next, faults-end}
+use Rattle.laws.specs.Refusals.Search.{Searched, searched-none, fault-here, fault-next, faults-end}
 use Rattle.program.specs.Times.{slow-at, not-slow-at}
 use Rattle.program.proofs.first_slow.Statement.{statement}
 use Rattle.program.proofs.first_slow.Tie as tie

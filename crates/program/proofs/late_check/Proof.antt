@@ -1,6 +1,6 @@
 -- Refusals 7 and 8, in their order.
 use mathlib.Core.Path.{_∙_}
-use Rattle.theory.specs.Refusals.Laws.{first-one}
+use Rattle.laws.specs.Refusals.Laws.{first-one}
 use borrow.Author.Needs.{needs}
 use Rattle.program.proofs.late_check.Statement.{statement}
 use Rattle.program.proofs.late_check.Tie as tie

@@ -1,7 +1,7 @@
 -- The table's refusal, and then those of the program.
 use mathlib.Core.Path.{sym, _∙_}
 use denote.Ref.{now}
-use Rattle.theory.specs.Refusals.Laws.{not-refused}
+use Rattle.laws.specs.Refusals.Laws.{not-refused}
 use Rattle.program.proofs.TimeTables.{table-refuses, table-accepts}
 use borrow.Author.Needs.{needs}
 use Rattle.program.proofs.scan.Statement.{statement}

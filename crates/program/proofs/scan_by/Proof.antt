@@ -2,8 +2,8 @@
 use mathlib.Core.Path.{sym, _∙_}
 use denote.Ref.{now}
 use Rattle.model.specs.Program.{timeIn, programChecks, checkOf}
-use Rattle.theory.specs.Refusals.Laws.{not-refused, first-take, first-drop}
-use Rattle.theory.specs.Program.Passed.{readable}
+use Rattle.laws.specs.Refusals.Laws.{not-refused, first-take, first-drop}
+use Rattle.laws.specs.Program.Passed.{readable}
 use borrow.Author.Needs.{needs}
 use Rattle.program.proofs.scan_by.Statement.{statement}
 use Rattle.program.proofs.scan_by.Tie as tie

@@ -1,7 +1,7 @@
 -- A wait, and then nothing more.
 use mathlib.Core.Path.{sym}
 use borrow.Author.Needs.{needs}
-use Rattle.theory.specs.Rules.Laws.{wait-short}
+use Rattle.laws.specs.Rules.Laws.{wait-short}
 use Rattle.rules.specs.Ran.{runOf}
 use Rattle.rules.proofs.Runs.{stands-still, wait-ends}
 use Rattle.rules.proofs.pause.Statement.{statement}

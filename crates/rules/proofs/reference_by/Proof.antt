@@ -1,7 +1,7 @@
 -- The check's refusals, the two of the call, and the run.
 use mathlib.Core.Path.{sym, _∙_}
 use borrow.Author.Needs.{needs}
-use Rattle.theory.specs.Program.Accepted.{program-fit}
+use Rattle.laws.specs.Program.Accepted.{program-fit}
 use Rattle.program.specs.Shape.{scanned-laid}
 use Rattle.rules.proofs.Answers.{call-refused, call-over, call-short, call-runs}
 use Rattle.rules.proofs.reference_by.Statement.{statement}

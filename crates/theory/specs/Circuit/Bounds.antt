@@ -18,9 +18,9 @@ use Rattle.model.specs.Word.{pick, bit, operate, get16}
 use Rattle.model.specs.Circuit.{cellAt, Values, level, memory, equation, startWord, Obeys, Shape, shape, kConstant, kComplement, kOperator, kStart, kGround, kDelay, kOr, kWhenTrue, kWhenFalse, kMerge, kMemory, kGated, kUnknown}
 use Rattle.model.specs.NetlistFile.{cellFrom, cellsAt, inFile, cellsOf, countOf, finishOf, netCheck, fileCheck}
 use Rattle.model.specs.Promises.{Bytes}
-use Rattle.theory.specs.Circuit.Unique.{Looks, Ordered}
-use Rattle.theory.specs.NetlistFile.Passed.{net-ordered, file-passed}
-use Rattle.theory.specs.Circuit.Shapes.{bit-le}
+use Rattle.laws.specs.Circuit.Ordered.{Looks, Ordered}
+use Rattle.laws.specs.NetlistFile.Passed.{net-ordered, file-passed}
+use Rattle.laws.specs.Circuit.Shapes.{bit-le}
 
 -- Operators ----------------------------------------------------------------------------------------------------------------------------
 

@@ -12,9 +12,10 @@ use lib.ListN.{length, getD}
 use Rattle.model.specs.Word.{pick}
 use Rattle.model.specs.declared.Cell.{Cell}
 use Rattle.model.specs.Circuit.{Values, startWord, noCell, Obeys}
-use Rattle.theory.specs.Numbering.Cells.{cellVal}
-use Rattle.theory.specs.Numbering.Structure.{is-true, is-false}
-use Rattle.theory.specs.Circuit.Unique.{Ordered, Before, cell-cong}
+use Rattle.laws.specs.Numbering.Cells.{cellVal}
+use Rattle.laws.specs.Refusals.Laws.{is-true, is-false}
+use Rattle.theory.specs.Circuit.Unique.{Before, cell-cong}
+use Rattle.laws.specs.Circuit.Ordered.{Ordered}
 
 -- the values, with v for that of cell k at instant t
 put : Values → ℕ → ℕ → ℕ → Values

@@ -8,6 +8,7 @@ use native.Mathlib.Nat.{not-suc-le-zero, le-of-suc-le-suc, eq-or-lt-of-le, le-re
 use native.Mathlib.Omega.{arith}
 use lib.Dec.{eqb, leb, leb→le}
 use lib.ListN.{length, getD}
+use Rattle.laws.specs.Circuit.Ordered.{Looks, Ordered}
 use Rattle.model.specs.Word.{pick}
 use Rattle.model.specs.Circuit.{delayed, merged}
 use Rattle.model.specs.Circuit.{mergeStep, heldBefore}
@@ -15,27 +16,8 @@ use Rattle.model.specs.Word.{operate}
 use Rattle.model.specs.declared.Cell.{Cell}
 use Rattle.model.specs.Circuit.{Values, level, memory, Shape, shape, equation, startWord, noCell, Obeys}
 use Rattle.model.specs.Word.{bit}
-use Rattle.theory.specs.Numbering.Cells.{cellVal}
+use Rattle.laws.specs.Numbering.Cells.{cellVal}
 use Rattle.model.specs.Circuit.{kConstant, kComplement, kOperator, kStart, kGround, kDelay, kOr, kWhenTrue, kWhenFalse, kMerge, kMemory, kGated, kUnknown}
-
--- what cell k of n may look at
-abbrev pub Looks : Shape → ℕ → ℕ → Cell → Type 0
-Looks kConstant n k c = Unit {0}
-Looks kComplement n k c = c .a < k
-Looks kOperator n k c = (c .a < k) × (c .b < k)
-Looks kStart n k c = Unit {0}
-Looks kGround n k c = Unit {0}
-Looks kDelay n k c = (1 ≤ c .delay) × (c .delay ≤ 255) × (c .a < n)
-Looks kOr n k c = (c .a < k) × (c .b < k)
-Looks kWhenTrue n k c = (c .a < k) × (c .b < k)
-Looks kWhenFalse n k c = (c .a < k) × (c .b < k)
-Looks kMerge n k c = (c .a < k) × (c .b < k)
-Looks kMemory n k c = (c .a < k) × (c .b < n)
-Looks kGated n k c = (c .a < k) × (c .b < k)
-Looks kUnknown n k c = Unit {0}
-
-unfoldable pub Ordered : List Cell → Type 0
-Ordered net = (k : ℕ) → k < length net → Looks (shape (getD net k noCell .kind)) (length net) k (getD net k noCell)
 
 module _ (n : ℕ) (U W : Values) where
   -- equal at every cell before instant t, and at the cells below k at t

@@ -8,9 +8,9 @@ use lib.Bits.{bitOr}
 use Rattle.model.specs.Word.{pick, isZero}
 use Rattle.model.specs.Program.{Expr, Stmt, ok, tick, assign, seq, par, ite, while, repeat, writes}
 use Rattle.model.specs.Circuit.{Sig, delayed, heldBefore}
-use Rattle.theory.specs.Refusals.Laws.{or-false}
+use Rattle.laws.specs.Refusals.Laws.{or-false}
 use Rattle.theory.specs.Control.Wiring.{Clk, Dat, Memory, Net, Circuit, Assigned, Joined, either}
-use Rattle.theory.specs.Program.Fit.{Timed}
+use Rattle.laws.specs.Program.Fit.{Timed}
 use Rattle.model.specs.Rules.{eval}
 use Rattle.theory.specs.Control.Signal.{Quiet, Clear, Dull, creep, delayed-quiet, clear-later, either-quiet}
 use Rattle.theory.specs.Control.Merges.{Empty, merged-left, holds-to}

@@ -7,13 +7,13 @@ use Rattle.model.specs.Word.{isZero}
 use Rattle.model.specs.Program.{Expr, Stmt, ite, reads, touches}
 use Rattle.model.specs.Rules.{Store, eval, run}
 use Rattle.model.specs.Circuit.{Sig, delayed}
-use Rattle.theory.specs.Refusals.Laws.{by-bool, by-le}
+use Rattle.laws.specs.Refusals.Laws.{by-bool, by-le}
 use Rattle.theory.specs.Control.Wiring.{Clk, Dat, Memory, Net, Ite}
-use Rattle.theory.specs.Program.Fit.{Timed}
+use Rattle.laws.specs.Program.Fit.{Timed}
 use Rattle.theory.specs.Control.Signal.{Quiet, Clear, glue-at, keep, joined-swap, delayed-at, delayed-quiet, delayed-after, clear-after}
-use Rattle.theory.specs.Rules.Laws.{wait-ended, wait-still, ite-then, ite-else}
+use Rattle.laws.specs.Rules.Laws.{wait-ended, wait-still, ite-then, ite-else}
 use Rattle.theory.specs.Control.Calm.{Calm, Rests, rest}
-use Rattle.theory.specs.Rules.Uses.{eval-same}
+use Rattle.laws.specs.Rules.Uses.{eval-same}
 use Rattle.theory.specs.Control.Runs.{Begins, Does, RunOf}
 use Rattle.theory.specs.Control.Sides.{Branch, branch}
 

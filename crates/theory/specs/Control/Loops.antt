@@ -7,13 +7,13 @@ use Rattle.model.specs.Word.{isZero}
 use Rattle.model.specs.Program.{Expr, Stmt, while, repeat, reads, touches}
 use Rattle.model.specs.Circuit.{Sig, delayed}
 use Rattle.theory.specs.Control.Wiring.{Clk, Dat, Memory, Net, While, Repeat, either}
-use Rattle.theory.specs.Program.Fit.{Timed}
+use Rattle.laws.specs.Program.Fit.{Timed}
 use Rattle.model.specs.Rules.{Store, eval, Run, ended, still, chain, whiles, repeats, run}
 use Rattle.theory.specs.Control.Signal.{Quiet, Clear, Follow, glue, glue-at, keep, delayed-at, delayed-off, delayed-after}
-use Rattle.theory.specs.Refusals.Laws.{by-bool, by-le}
-use Rattle.theory.specs.Rules.Laws.{by-run, ended-time, ended-words, ended-still, wait-ended, wait-still, chain-ended, chain-still, steady, whiles-stop, whiles-more, again, repeats-is, again-more, again-stop}
+use Rattle.laws.specs.Refusals.Laws.{by-bool, by-le}
+use Rattle.laws.specs.Rules.Laws.{by-run, ended-time, ended-words, ended-still, wait-ended, wait-still, chain-ended, chain-still, steady, whiles-stop, whiles-more, again, repeats-is, again-more, again-stop}
 use Rattle.theory.specs.Control.Calm.{Calm, Rests, rest}
-use Rattle.theory.specs.Rules.Uses.{eval-same}
+use Rattle.laws.specs.Rules.Uses.{eval-same}
 use Rattle.theory.specs.Control.Runs.{Begins, Ended, Does, RunOf, Launched, launch, at}
 
 -- A loop ends at b with the words σ. Its finish has been quiet since just after a; w feeds its delay

@@ -6,7 +6,7 @@ use mathlib.Core.Bool.{Bool, true, false, not, _&&_, _||_, or-true}
 use native.Mathlib.Omega.{arith}
 use Rattle.model.specs.declared.Merge.{Merge}
 use Rattle.model.specs.Circuit.{Sig, mergeStep, heldBefore, merged}
-use Rattle.theory.specs.Refusals.Laws.{by-le}
+use Rattle.laws.specs.Refusals.Laws.{by-le}
 use Rattle.theory.specs.Control.Signal.{Quiet}
 
 abbrev pub bits : Bool → Bool → Merge

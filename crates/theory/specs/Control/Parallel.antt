@@ -7,14 +7,14 @@ use Rattle.model.specs.Word.{pick}
 use Rattle.model.specs.Program.{Stmt, par, writes, touches}
 use Rattle.model.specs.Rules.{Store, over, kept, ended, run}
 use Rattle.model.specs.Circuit.{Sig}
-use Rattle.theory.specs.Refusals.Laws.{by-bool, by-le}
+use Rattle.laws.specs.Refusals.Laws.{by-bool, by-le}
 use Rattle.theory.specs.Control.Wiring.{Clk, Dat, Memory, Net, Par}
-use Rattle.theory.specs.Program.Fit.{Timed, Apart}
+use Rattle.laws.specs.Program.Fit.{Timed, Apart}
 use Rattle.theory.specs.Control.Signal.{Quiet, joined-swap}
 use Rattle.theory.specs.Control.Merges.{Empty, Meets, meets, meets-swap, empty-swap, merged-left, merged-right}
-use Rattle.theory.specs.Rules.Laws.{both-ended, both-still}
+use Rattle.laws.specs.Rules.Laws.{both-ended, both-still}
 use Rattle.theory.specs.Control.Calm.{Calm}
-use Rattle.theory.specs.Rules.Uses.{leaves, writes-touches, apart-unwritten}
+use Rattle.laws.specs.Rules.Uses.{leaves, writes-touches, apart-unwritten}
 use Rattle.theory.specs.Control.Runs.{Begins, Ended, Does, RunOf, at}
 use Rattle.theory.specs.Control.Sides.{Sided, Side, side}
 

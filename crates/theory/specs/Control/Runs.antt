@@ -8,13 +8,13 @@ use Rattle.model.specs.Word.{pick}
 use Rattle.model.specs.Program.{Expr, Stmt, ok, tick, assign, seq, touches}
 use Rattle.model.specs.Circuit.{Sig, delayed}
 use Rattle.theory.specs.Control.Wiring.{Clk, Dat, Memory, Net, Assigned, Seq, latch}
-use Rattle.theory.specs.Program.Fit.{Timed}
+use Rattle.laws.specs.Program.Fit.{Timed}
 use Rattle.model.specs.Rules.{Store, eval, put, ended, still, run}
 use Rattle.theory.specs.Control.Signal.{Quiet, Follow, glue, keep, joined-swap, follow-left, creep, delayed-at, delayed-quiet, delayed-after, clear-after}
-use Rattle.theory.specs.Refusals.Laws.{by-bool, by-le}
-use Rattle.theory.specs.Rules.Laws.{by-run, ended-time, ended-words, ended-still, wait-ended, wait-still, chain-ended, chain-still, steady, still-before, still-below}
+use Rattle.laws.specs.Refusals.Laws.{by-bool, by-le}
+use Rattle.laws.specs.Rules.Laws.{by-run, ended-time, ended-words, ended-still, wait-ended, wait-still, chain-ended, chain-still, steady, still-before, still-below}
 use Rattle.theory.specs.Control.Calm.{Calm, calm-dull, rest}
-use Rattle.theory.specs.Rules.Uses.{eval-same}
+use Rattle.laws.specs.Rules.Uses.{eval-same}
 
 -- The statement -------------------------------------------------------------------------------------------------------------------------
 

@@ -8,12 +8,12 @@ use native.Mathlib.Omega.{arith}
 use Rattle.model.specs.Program.{Stmt, writes, touches}
 use Rattle.model.specs.Rules.{Store, ended, still, run}
 use Rattle.model.specs.Circuit.{Sig}
-use Rattle.theory.specs.Refusals.Laws.{by-le}
+use Rattle.laws.specs.Refusals.Laws.{by-le}
 use Rattle.theory.specs.Control.Wiring.{Clk, Dat, Memory, Joined, _≈_, either}
-use Rattle.theory.specs.Program.Fit.{Timed, Apart}
+use Rattle.laws.specs.Program.Fit.{Timed, Apart}
 use Rattle.theory.specs.Control.Signal.{Quiet, Follow, glue, keep, follow-left}
 use Rattle.theory.specs.Control.Calm.{Calm, calm-dull, calm-unwritten, Rests, rest}
-use Rattle.theory.specs.Rules.Uses.{apart-unwritten}
+use Rattle.laws.specs.Rules.Uses.{apart-unwritten}
 use Rattle.theory.specs.Control.Runs.{Ended, RunOf, Launched, launch, at}
 
 -- A branch -----------------------------------------------------------------------------------------------------------------------------

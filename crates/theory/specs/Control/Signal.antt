@@ -8,7 +8,7 @@ use lib.Bits.{bitOr, or-comm, or-zero-r}
 use borrow.Author.Tests.{leb-true, le-leb}
 use Rattle.model.specs.Word.{pick}
 use Rattle.model.specs.Circuit.{Sig, delayed}
-use Rattle.theory.specs.Refusals.Laws.{by-le}
+use Rattle.laws.specs.Refusals.Laws.{by-le}
 use Rattle.theory.specs.Control.Wiring.{Clk, Dat, Memory, latch, Joined}
 
 -- Intervals ---------------------------------------------------------------------------------------------------------------------

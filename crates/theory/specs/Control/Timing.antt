@@ -9,12 +9,12 @@ use native.Mathlib.Omega.{arith}
 use borrow.Author.Tests.{eq-eqb, ne-eqb}
 use Rattle.model.specs.Program.{Stmt, ok, tick, assign, seq, par, ite, while, repeat}
 use Rattle.model.specs.Circuit.{Sig}
-use Rattle.theory.specs.Refusals.Laws.{by-le}
+use Rattle.laws.specs.Refusals.Laws.{by-le}
 use Rattle.theory.specs.Control.Wiring.{Clk, Dat, Memory, Circuit, Mem}
-use Rattle.theory.specs.Program.Fit.{Timed, Separate}
+use Rattle.laws.specs.Program.Fit.{Timed, Separate}
 use Rattle.model.specs.Rules.{Store, ended, run, endsAt}
 use Rattle.theory.specs.Control.Signal.{keep}
-use Rattle.theory.specs.Rules.Laws.{by-run, steady}
+use Rattle.laws.specs.Rules.Laws.{by-run, steady}
 use Rattle.theory.specs.Control.Calm.{calm-zero, Rests, rest}
 use Rattle.theory.specs.Control.Runs.{Begins, Does, RunOf, at, run-ok, run-tick, run-assign, run-seq}
 use Rattle.theory.specs.Control.If.{run-ite}

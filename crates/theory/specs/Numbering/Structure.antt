@@ -3,80 +3,24 @@ use mathlib.Core.Path.{_≡_, refl, sym, ap, ap₂, _∙_}
 use mathlib.Core.Bool.{Bool, true, false, _&&_, _||_, not}
 use mathlib.Core.List.{[], _∷_, _++_}
 use Prim.Native.Nat.{ℕ, zero, suc, _+_, _<_, _≤_}
-use native.Mathlib.Omega.{arith}
-use lib.Dec.{eqb, leb, T, le→leb}
+use lib.Dec.{eqb, leb, le→leb}
 use borrow.Author.Tests.{eq-eqb, ne-eqb, eqb-true, eqb-false}
 use lib.Bits.{or-zero-r}
-use lib.ListN.{length, length-append}
+use Rattle.laws.specs.Numbering.Lengths.{e-len, own-len, d-len, w-len}
+use Rattle.laws.specs.Refusals.Laws.{is-true}
 use Rattle.model.specs.Word.{pick}
 use Rattle.model.specs.Program.{Expr, const, var, compl, op, Stmt, ok, tick, assign, seq, par, ite, while, repeat}
 use Rattle.model.specs.Circuit.{delayed, merged}
 use Rattle.theory.specs.Control.Wiring.{Net, Circuit}
-use Rattle.theory.specs.Program.Fit.{FormedExpr, Formed}
+use Rattle.laws.specs.Program.Fit.{FormedExpr, Formed}
 use Rattle.model.specs.Rules.{eval}
 use Rattle.model.specs.Word.{operate, isZero}
 use Rattle.model.specs.Circuit.{cell}
 use Rattle.model.specs.Numbering.{exprCount, exprWire, exprCells, ifDelayCount, ifPulse, ifDelayCells, delayCount, walkCount, finishWire, delays, walk, clockSources, dataSources, wiresOf}
 use Rattle.model.specs.Circuit.{Values, level}
 use Rattle.model.specs.Word.{bit}
-use Rattle.theory.specs.Numbering.Cells.{cellVal, Rule, Obeyed, split}
+use Rattle.laws.specs.Numbering.Cells.{cellVal, Rule, Obeyed, split}
 use Rattle.theory.specs.Numbering.Levels.{level-of, delayed-cong, delayed-zero, anyHigh, allOr, clkOf, datOf, joined, ||-false}
-
--- the lengths
-pub e-len : (M : ℕ) (e : Expr) (c : ℕ) → length (exprCells M e c) ≡ exprCount e
-unfolding exprCells exprCount
-e-len M (const n) c = refl
-e-len M (var x) c = refl
-e-len M (compl e) c = simp (length-append, e-len M e c) (omega arith)
-e-len M (op k e f) c = simp (length-append, e-len M e c, e-len M f (c + exprCount e)) (omega arith)
-
-pub own-len : (δ s : ℕ) → length (ifDelayCells δ s) ≡ ifDelayCount δ
-unfolding ifDelayCells ifDelayCount
-own-len zero s = refl
-own-len (suc δ) s = refl
-
-pub d-len : (P : Stmt) (s d c : ℕ) → length (delays P s d c) ≡ delayCount P
-unfolding delays delayCount
-d-len ok s d c = refl
-d-len (tick δ) s d c = refl
-d-len (assign δ x e) s d c = refl
-d-len (seq P Q) s d c = simp (length-append, d-len P s d c, d-len Q (finishWire P s d c) (d + delayCount P) (c + walkCount P))
-d-len (par P Q) s d c = simp (length-append, d-len P s d c, d-len Q s (d + delayCount P) (c + walkCount P))
-d-len (ite δ e P Q) s d c =
-    simp (
-      length-append,
-      own-len,
-      d-len P (c + exprCount e) (d + ifDelayCount δ) (c + exprCount e + 1 + 1),
-      d-len Q (c + exprCount e + 1) (d + ifDelayCount δ + delayCount P) (c + exprCount e + 1 + 1 + walkCount P),
-    )
-d-len (while δ e P) s d c = rw (d-len P (c + exprCount e) (d + 1) (c + exprCount e + 1 + 1)) (omega arith)
-d-len (repeat δ e P) s d c = rw (d-len P (c + exprCount e + 1 + 1) (d + 1) (c + exprCount e + 1 + 1 + 1)) (omega arith)
-
-pub w-len : (M : ℕ) (P : Stmt) (s d c : ℕ) → length (walk M P s d c) ≡ walkCount P
-unfolding walk walkCount
-w-len M ok s d c = refl
-w-len M (tick δ) s d c = refl
-w-len M (assign δ x e) s d c = simp (length-append, e-len)
-w-len M (seq P Q) s d c = simp (length-append, w-len M P s d c, w-len M Q (finishWire P s d c) (d + delayCount P) (c + walkCount P))
-w-len M (par P Q) s d c = simp (length-append, w-len M P s d c, w-len M Q s (d + delayCount P) (c + walkCount P))
-w-len M (ite δ e P Q) s d c =
-    simp (
-      length-append,
-      e-len,
-      w-len M P (c + exprCount e) (d + ifDelayCount δ) (c + exprCount e + 1 + 1),
-      w-len M Q (c + exprCount e + 1) (d + ifDelayCount δ + delayCount P) (c + exprCount e + 1 + 1 + walkCount P),
-    )
-    (omega arith)
-w-len M (while δ e P) s d c = simp (length-append, e-len, w-len M P (c + exprCount e) (d + 1) (c + exprCount e + 1 + 1)) (omega arith)
-w-len M (repeat δ e P) s d c = simp (length-append, e-len, w-len M P (c + exprCount e + 1 + 1) (d + 1) (c + exprCount e + 1 + 1 + 1)) (omega arith)
-
-pub is-true : (b : Bool) → T b → b ≡ true
-is-true true z = refl
-is-true false z = absurd z
-
-pub is-false : (b : Bool) → (T b → ⊥) → b ≡ false
-is-false true z = absurd (z tt)
-is-false false z = refl
 
 op-rule : (first : ℕ) (W : Values) (p k x y t : ℕ) → 4 ≤ k → k ≤ 9 → cellVal first W p (cell k 0 x y) t ≡ operate k (W x t) (W y t)
 unfolding cellVal

@@ -9,21 +9,24 @@ use lib.Dec.{eqb, ltb, T, ltb→lt, lt→ltb, nltb→le, eqb→eq}
 use lib.Bits.{bitOr, or-zero-r}
 use lib.ListN.{length, length-append, getD, take}
 use lib.Seq.{take-append-add}
+use Rattle.laws.specs.Numbering.Memories.{memories-append, delays-free, orsFrom-free}
 use Rattle.model.specs.Word.{pick}
 use Rattle.model.specs.Program.{Stmt, ok, tick, assign, seq, par, ite, while, repeat}
 use Rattle.theory.specs.Control.Wiring.{latch, Circuit, Mem}
 use Rattle.model.specs.declared.Cell.{Cell}
 use Rattle.model.specs.Circuit.{cell}
-use Rattle.model.specs.Numbering.{exprCount, ifDelayCount, ifDelayCells, delayCount, walkCount, finishWire, delays, walk, clockSources, dataSources, Source, wiresOf}
+use Rattle.model.specs.Numbering.{ifDelayCount, delayCount, delays, walk, clockSources, dataSources, Source, wiresOf}
 use Rattle.model.specs.Numbering.{orChain, orChainOut, ors, orsOut, orCount, orsFrom, outsFrom, memoriesOf, netlist, finish}
 use Rattle.model.specs.Numbering.{headCells, clockAt, memoryAt, walkAt, dataAt, clockWires, dataWires}
 use Rattle.model.specs.Circuit.{Values, level, memory, memories, startWord, Obeys}
 use Rattle.model.specs.Word.{bit}
-use Rattle.theory.specs.Numbering.Cells.{cellVal, Rule, Obeyed, split, obeys-holds}
-use Rattle.theory.specs.Numbering.Parts.{ors-len, orsFrom-len, outs-len, Laid, lay}
+use Rattle.laws.specs.Numbering.Cells.{cellVal, Rule, Obeyed, split, obeys-holds}
+use Rattle.laws.specs.Numbering.Parts.{ors-len, orsFrom-len, outs-len, Laid, lay}
 use Rattle.theory.specs.Numbering.Levels.{level-of, op-or, ||-assoc, ||-false, or-assoc, anyHigh, allOr, clkOf, datOf, wires-append}
-use Rattle.theory.specs.Numbering.Structure.{d-len, struct, is-true, is-false}
-use Rattle.theory.specs.Program.Fit.{Formed}
+use Rattle.theory.specs.Numbering.Structure.{struct}
+use Rattle.laws.specs.Numbering.Lengths.{d-len}
+use Rattle.laws.specs.Refusals.Laws.{is-true, is-false}
+use Rattle.laws.specs.Program.Fit.{Formed}
 
 -- ---- the ors
 
@@ -95,49 +98,6 @@ module _ (first : ℕ → ℕ) (W : Values) where
       rw q at (mem-at n (k + 1) ks ds (omega arith) (omega arith) (h .1) i (le-of-suc-le-suc l) t)
 
 -- ---- the start words: below memory x stand x memoryCells
-
-pub memories-append : (xs ys : List Cell) → memories (xs ++ ys) ≡ memories xs + memories ys
-unfolding memories
-memories-append [] ys = omega arith
-memories-append (c ∷ xs) ys = rw (memories-append xs ys) (omega arith)
-
-own-free : (δ s : ℕ) → memories (ifDelayCells δ s) ≡ 0
-unfolding memories ifDelayCells bit
-own-free zero s = refl
-own-free (suc δ) s = refl
-
-pub delays-free : (P : Stmt) (s d c : ℕ) → memories (delays P s d c) ≡ 0
-unfolding memories delays bit
-delays-free ok s d c = refl
-delays-free (tick δ) s d c = refl
-delays-free (assign δ x e) s d c = refl
-delays-free (seq P Q) s d c = simp (memories-append, delays-free P s d c, delays-free Q (finishWire P s d c) (d + delayCount P) (c + walkCount P))
-delays-free (par P Q) s d c = simp (memories-append, delays-free P s d c, delays-free Q s (d + delayCount P) (c + walkCount P))
-delays-free (ite δ e P Q) s d c =
-    simp (
-      memories-append,
-      own-free,
-      delays-free P (c + exprCount e) (d + ifDelayCount δ) (c + exprCount e + 1 + 1),
-      delays-free Q (c + exprCount e + 1) (d + ifDelayCount δ + delayCount P) (c + exprCount e + 1 + 1 + walkCount P),
-    )
-delays-free (while δ e P) s d c = rw (delays-free P (c + exprCount e) (d + 1) (c + exprCount e + 1 + 1))
-delays-free (repeat δ e P) s d c = rw (delays-free P (c + exprCount e + 1 + 1) (d + 1) (c + exprCount e + 1 + 1 + 1))
-
-module _ (kind : ℕ) (other : eqb kind 40 ≡ false) where
-  chain-free : (acc n : ℕ) (ws : List ℕ) → memories (orChain kind acc n ws) ≡ 0
-  unfolding memories orChain bit
-  chain-free acc n [] = refl
-  chain-free acc n (w ∷ ws) = rw (other, chain-free n (n + 1) ws)
-
-  ors-free : (n : ℕ) (ws : List ℕ) → memories (ors kind n ws) ≡ 0
-  unfolding memories ors
-  ors-free n [] = refl
-  ors-free n (w ∷ ws) = chain-free w n ws
-
-  pub orsFrom-free : (ws : List Source) (n x j : ℕ) → memories (orsFrom kind ws n x j) ≡ 0
-  unfolding memories orsFrom
-  orsFrom-free ws n x zero = refl
-  orsFrom-free ws n x (suc j) = simp (memories-append, ors-free, orsFrom-free ws (n + orCount (wiresOf x ws)) (x + 1) j)
 
 mems-count : (n : ℕ) (ks ds : List ℕ) (rest : List Cell) → length ks ≡ n → length ds ≡ n → (i : ℕ) → i < n → memories (take i (memoriesOf ks ds ++ rest)) ≡ i
 unfolding memories memoriesOf bit

@@ -14,8 +14,9 @@ use Rattle.model.specs.Rules.{Store}
 use Rattle.model.specs.Circuit.{memoryWords, memories}
 use Rattle.model.specs.Numbering.{netlist, memoriesOf, clockSources, dataSources, clockAt, walkAt, dataAt, memoryAt, clockWires, dataWires, walk, orsFrom}
 use Rattle.model.specs.Calls.{listed}
-use Rattle.theory.specs.Numbering.Parts.{outs-len}
-use Rattle.theory.specs.Numbering.Whole.{below, above, parts, below-len, below-free, memories-append}
+use Rattle.laws.specs.Numbering.Parts.{outs-len}
+use Rattle.theory.specs.Numbering.Whole.{below, above, parts, below-len, below-free}
+use Rattle.laws.specs.Numbering.Memories.{memories-append}
 
 module _ (v : ℕ → ℕ) where
   words-append : (xs ys : List Cell) (k : ℕ) → memoryWords (xs ++ ys) k v ≡ memoryWords xs k v ++ memoryWords ys (k + length xs) v

@@ -27,10 +27,11 @@ use Rattle.model.specs.Hubrun.{textOf, hubrunText}
 use Rattle.model.specs.Promises.{Bytes, Seen}
 use Rattle.model.specs.Cases.{Case, ends, refuses, compiles, prints, passes, cases, start, hubrunInput, endAnswer, Result, ran, numbered, printed, checked, computed, wanted, OnCircuit, Hold, cases-by-rules}
 use Rattle.model.specs.ProgramRows.{times}
-use Rattle.theory.specs.Refusals.Laws.{and-true, or-false, first-take, first-drop}
-use Rattle.theory.specs.NetlistFile.Passed.{file-passed, count-range, count-cells}
-use Rattle.theory.specs.NetlistFile.Files.{file-length}
-use Rattle.theory.specs.Promises.Demands.{compiled-accepted, demand2}
+use Rattle.laws.specs.Refusals.Laws.{and-true, or-false, first-take, first-drop}
+use Rattle.laws.specs.NetlistFile.Passed.{file-passed, count-range, count-cells}
+use Rattle.laws.specs.NetlistFile.Files.{file-length}
+use Rattle.theory.specs.Promises.Demands.{demand2}
+use Rattle.laws.specs.NetlistFile.Compiled.{compiled-accepted}
 use Rattle.theory.specs.Promises.Reference.{same-answers}
 
 -- Compiling with room ------------------------------------------------------------------------------------------------------------------

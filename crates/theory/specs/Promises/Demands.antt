@@ -5,7 +5,7 @@ use mathlib.Core.List.{List}
 use Prim.Native.Nat.{ℕ, _+_, _*_, _<_}
 use native.Mathlib.Omega.{arith}
 use lib.ListN.{length, take}
-use Rattle.model.specs.declared.Checked.the-variants.{Accepted}
+use Rattle.laws.specs.NetlistFile.Compiled.{compiled-accepted}
 use Rattle.model.specs.declared.Loaded.{Loaded}
 use Rattle.model.specs.declared.Written.the-variants.{Done}
 use Rattle.model.specs.Word.{get16}
@@ -13,30 +13,19 @@ use Rattle.model.specs.Program.{programOf}
 use Rattle.model.specs.Numbering.{netlist, finish}
 use Rattle.model.specs.NetlistFile.{fileCheck, cellsOf, finishOf}
 use Rattle.model.specs.TimeTables.{load}
-use Rattle.model.specs.Calls.{checkCall, compiledFile, compileCall, wordAt}
+use Rattle.model.specs.Calls.{compileCall, wordAt}
 use Rattle.model.specs.Promises.{Bytes, Published, Demand1, Demand2, Demand3}
-use Rattle.theory.specs.Program.Accepted.{program-fit}
-use Rattle.theory.specs.Program.Size.{few-nodes, program-low}
-use Rattle.theory.specs.Numbering.Parts.{net-length}
-use Rattle.theory.specs.Numbering.Compiled.{net-accepted, count-right}
-use Rattle.theory.specs.NetlistFile.Passed.{net-ordered, file-passed}
+use Rattle.laws.specs.Numbering.Parts.{net-length}
+use Rattle.laws.specs.NetlistFile.Passed.{net-ordered, file-passed}
 use Rattle.theory.specs.State.OneRun.{one-run}
 use Rattle.theory.specs.Circuit.Bounds.{file-bounded}
-use Rattle.theory.specs.NetlistFile.Files.{cells-written, finish-written, file-accepted}
-use Rattle.theory.specs.NetlistFile.ReadWrite.{same-file}
+use Rattle.laws.specs.NetlistFile.Files.{cells-written, finish-written}
+use Rattle.laws.specs.NetlistFile.ReadWrite.{same-file}
 use Rattle.theory.specs.Refusals.Order.{demand-1}
 use Rattle.theory.specs.Promises.Kept.{compiled, program-accepted, file-fits, file-made, keeps}
 
 pub demand1 : Demand1
 demand1 = demand-1
-
--- the file that compiling writes is accepted
-pub compiled-accepted : (table : Loaded) (program : List ℕ) → Bytes program → checkCall table program ≡ Accepted → fileCheck (compiledFile program) ≡ Accepted
-compiled-accepted table s bytes e =
-    let P = programOf s in
-    let w = program-fit table s e .formed in
-    let z = program-low table s bytes e in
-    file-accepted (netlist P) (finish P) (count-right P w z (few-nodes table s e)) (net-accepted P w z)
 
 published : (table : Loaded) (program lent : List ℕ) (n f : ℕ) → Bytes program → compileCall table program lent .answer ≡ Done n f
     → Published program (take n (compileCall table program lent .lent)) f

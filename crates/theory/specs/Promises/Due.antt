@@ -11,7 +11,7 @@ use Rattle.model.specs.Numbering.{netlist, finish, clockSources, dataSources, w
 use Rattle.theory.specs.Numbering.Levels.{clkOf, datOf}
 use Rattle.theory.specs.Control.Timing.{TimingOf, timing}
 use Rattle.theory.specs.Numbering.Whole.{built, showing, shows}
-use Rattle.theory.specs.Program.Fit.{Fit}
+use Rattle.laws.specs.Program.Fit.{Fit}
 
 module _ (P : Stmt) (fit : Fit P) (σ : Store) (W : Values) (obeys : Obeys (netlist P) σ W) where
   timed : TimingOf P (showing (memoryAt P) σ W) (level W (finish P)) σ

@@ -30,21 +30,21 @@ use Rattle.model.specs.NetlistFile.{fileCheck, cellsOf, finishOf}
 use Rattle.model.specs.State.{stateSize, instantOf, nowAt, beginState, lastState, evaluated, wordsIn}
 use Rattle.model.specs.Calls.{Returned, verdict, checkCall, compiledFile, compileChecks, compileCall, wordAt, refusedAnswer, shows, running, beginChecks, beginCall, continueCall, fullState, fullCount, runNetlistCall, runProgramChecks, runProgramCall, listed, referenceAnswer}
 use Rattle.model.specs.Promises.{Call, replay, Seen, seen, seenOf, endedIf, expected, Holds, Along, Shown, Unchanged, lastOf, stopsAt, Keeps}
-use Rattle.theory.specs.Refusals.Laws.{by-bool, not-refused, all-accept, refuse-unless, accept-take, first-drop}
-use Rattle.theory.specs.Program.Accepted.{program-fit}
-use Rattle.theory.specs.Program.Fit.{Fit}
-use Rattle.theory.specs.Rules.Laws.{steady, still-before, still-below}
+use Rattle.laws.specs.Refusals.Laws.{by-bool, not-refused, all-accept, refuse-unless, accept-take, first-drop}
+use Rattle.laws.specs.Program.Accepted.{program-fit}
+use Rattle.laws.specs.Program.Fit.{Fit}
+use Rattle.laws.specs.Rules.Laws.{steady, still-before, still-below}
 use Rattle.theory.specs.Rules.Relation.{ends-run, ends-once, due-ends, ends-due}
-use Rattle.theory.specs.Numbering.Parts.{net-length}
+use Rattle.laws.specs.Numbering.Parts.{net-length}
 use Rattle.theory.specs.Promises.Due.{finish-due, last-words}
-use Rattle.theory.specs.Circuit.Unique.{Ordered}
+use Rattle.laws.specs.Circuit.Ordered.{Ordered}
 use Rattle.theory.specs.Circuit.Exists.{solution, solution-obeys}
-use Rattle.theory.specs.NetlistFile.Passed.{net-ordered, net-passed, file-passed, finish-within}
+use Rattle.laws.specs.NetlistFile.Passed.{net-ordered, net-passed, file-passed, finish-within}
 use Rattle.theory.specs.State.States.{Holding, begin-holds, begin-length}
 use Rattle.theory.specs.State.Sound.{sound-held, holds}
 use Rattle.theory.specs.State.Running.{continues, stops-high, stops-low}
-use Rattle.theory.specs.NetlistFile.Files.{cells-written, finish-written}
-use Rattle.theory.specs.NetlistFile.ReadWrite.{Wrote, wrote}
+use Rattle.laws.specs.NetlistFile.Files.{cells-written, finish-written}
+use Rattle.laws.specs.NetlistFile.ReadWrite.{Wrote, wrote}
 use Rattle.theory.specs.Promises.Answers.{memory-words, listed-same}
 use Rattle.theory.specs.Promises.Replay.{at0, Good, stands, good, answer-seen, checked, run-call}
 

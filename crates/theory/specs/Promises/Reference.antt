@@ -22,14 +22,14 @@ use Rattle.model.specs.State.{stateSize, nowAt, beginState}
 use Rattle.model.specs.Calls.{verdict, checkCall, compiledFile, wordAt, shows, running, beginCall, runProgramChecks, runProgramCall, fullState, fullCount, referenceAnswer, answering, referenceChecks, referenceCall}
 use Rattle.model.specs.Promises.{Bytes, Seen, seenIn}
 use Rattle.model.specs.ProgramPromises.{endedAnswer, openAnswer, Programs}
-use Rattle.theory.specs.Refusals.Laws.{not-refused, all-accept, accept-take, first-drop, refuse-unless}
-use Rattle.theory.specs.Program.Passed.{accepted, program-nodes}
-use Rattle.theory.specs.Program.Accepted.{program-fit}
-use Rattle.theory.specs.Rules.Laws.{by-run, steady}
+use Rattle.laws.specs.Refusals.Laws.{not-refused, all-accept, accept-take, first-drop, refuse-unless}
+use Rattle.laws.specs.Program.Passed.{accepted, program-nodes}
+use Rattle.laws.specs.Program.Accepted.{program-fit}
+use Rattle.laws.specs.Rules.Laws.{by-run, steady}
 use Rattle.theory.specs.Rules.Relation.{run-ends, ends-run}
 use Rattle.theory.specs.Promises.Replay.{no-refusal}
 use Rattle.theory.specs.Promises.Kept.{ran, open-no-end, whole-run, program-run, agrees, stays-open}
-use Rattle.theory.specs.Promises.Demands.{compiled-accepted}
+use Rattle.laws.specs.NetlistFile.Compiled.{compiled-accepted}
 
 -- The reference run --------------------------------------------------------------------------------------------------------------------
 
@@ -67,12 +67,11 @@ module _ (table : Loaded) (program words : List ℕ) (n : ℕ) (answered-so : ve
   pub reference-open : referenceCall table program words n .outcome ≡ Open
       → (referenceCall table program words n ≡ openAnswer n) × ((t : ℕ) (σ′ : Store) → Ends P σ t σ′ → t ≤ n → ⊥)
   unfolding referenceAnswer
-  reference-open e =
-      (
-        by-run (run n P σ) (λ t σ′ p. absurd (open-no-end (sym e ∙ ap (λ (a : Answer). a .outcome) (called .1 ∙ ap (referenceAnswer n) p))))
-            (λ p. called .1 ∙ ap (referenceAnswer n) p),
-        λ t σ′ E l. open-no-end (sym e ∙ ap (λ (a : Answer). a .outcome) (reference-ends t σ′ E l)),
-      )
+  reference-open e = (
+    by-run (run n P σ) (λ t σ′ p. absurd (open-no-end (sym e ∙ ap (λ (a : Answer). a .outcome) (called .1 ∙ ap (referenceAnswer n) p))))
+        (λ p. called .1 ∙ ap (referenceAnswer n) p),
+    λ t σ′ E l. open-no-end (sym e ∙ ap (λ (a : Answer). a .outcome) (reference-ends t σ′ E l)),
+  )
 
 -- A full run and a reference run -------------------------------------------------------------------------------------------------------
 

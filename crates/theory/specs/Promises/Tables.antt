@@ -18,8 +18,8 @@ use Rattle.model.specs.TimeTables.{byteWrong, tableFault, tableSumWrong, tableC
 use Rattle.model.specs.Calls.{listed}
 use Rattle.model.specs.Promises.{Bytes}
 use Rattle.model.specs.TablePromises.{tableFile, InRange, Tables}
-use Rattle.theory.specs.Refusals.Laws.{by-le, or-false, not-false, all-accept, refuse-unless, fault-unless, no-fault, faultless}
-use Rattle.theory.specs.NetlistFile.Blocks.{block-sum, block-of, zero-tail, zeros-back}
+use Rattle.laws.specs.Refusals.Laws.{by-le, or-false, not-false, all-accept, refuse-unless, fault-unless, no-fault, faultless}
+use Rattle.laws.specs.NetlistFile.Blocks.{block-sum, block-of, zero-tail, zeros-back}
 
 -- The rules of a byte ------------------------------------------------------------------------------------------------------------------
 

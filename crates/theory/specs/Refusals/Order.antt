@@ -9,6 +9,7 @@ use native.Mathlib.Omega.{arith}
 use lib.Dec.{eqb, leb, ltb}
 use lib.ListN.{length, getD}
 use borrow.Author.Tests.{leb-true}
+use Rattle.laws.specs.NetlistFile.ReadWrite.{writing-verdict}
 use Rattle.model.specs.declared.Node.{Node}
 use Rattle.model.specs.declared.Cell.{Cell}
 use Rattle.model.specs.declared.Checked.{Checked}
@@ -26,7 +27,7 @@ use Rattle.model.specs.State.{stateSize, instantOf, nowAt, sound, beginState, l
 use Rattle.model.specs.Calls.{verdict, writtenVerdict, short, checkCall, writing, compiledFile, netlistChecks, compileChecks, compileCall, cellsIn, writeChecks, writeCall, readChecks, readCall, wordAt, shows, running, beginChecks, beginCall, continueChecks, continueCall, fullState, fullCount, overBudget, runNetlistChecks, runNetlistCall, fullRunChecks, runProgramChecks, runProgramCall, referenceAnswer, answering, referenceChecks, referenceCall}
 use Rattle.model.specs.CellSlices.{behind, miscounted, placing, checkCellsChecks, checkCellsCall, writeCellsChecks, writeCellsCall, readCellsChecks, readCellsCall}
 use Rattle.model.specs.Promises.{Gives, InOrder, Refuses, Leaves, Demand1}
-use Rattle.theory.specs.Refusals.Laws.{and-true, not-refused, first-one, first-behind, first-found, fault-number, first-place}
+use Rattle.laws.specs.Refusals.Laws.{and-true, not-refused, first-one, first-behind, first-found, fault-number, first-place}
 use Rattle.theory.specs.Promises.Replay.{no-refusal}
 
 -- The numbers that a check gives -------------------------------------------------------------------------------------------------------
@@ -183,11 +184,6 @@ running-leaves : (c : Checked) (file s : List ℕ) (n : ℕ) (lent : List ℕ) �
 unfolding running
 running-leaves Accepted file s n lent l = absurd (omega arith)
 running-leaves (Refused q) file s n lent l = refl
-
-pub writing-verdict : (c : Checked) (result : List ℕ) (n f : ℕ) (lent : List ℕ) → writtenVerdict (writing c result n f lent .answer) ≡ c
-unfolding writing writtenVerdict
-writing-verdict Accepted result n f lent = refl
-writing-verdict (Refused r) result n f lent = refl
 
 writing-leaves : (c : Checked) (result : List ℕ) (n f : ℕ) (lent : List ℕ) → Leaves c lent (writing c result n f lent .lent)
 unfolding writing

@@ -10,9 +10,9 @@ use borrow.Author.Tests.{eqb-true, eq-eqb}
 use Rattle.model.specs.Word.{isZero}
 use Rattle.model.specs.Program.{Expr, Stmt, ok, tick, assign, seq, par, ite, while, repeat}
 use Rattle.model.specs.Rules.{Store, eval, put, kept, WhileEnds, RepeatEnds, Ends, Run, ended, wait, chain, whiles, repeats, run, endsAt, due}
-use Rattle.theory.specs.Program.Fit.{Timed}
-use Rattle.theory.specs.Refusals.Laws.{by-bool}
-use Rattle.theory.specs.Rules.Laws.{Body, by-run, ended-time, ended-words, ended-still, wait-ended, wait-of, chain-ended, chain-of, both-ended, both-of, whiles-stop, whiles-more, again, repeats-is, again-more, again-stop, ite-then, ite-else}
+use Rattle.laws.specs.Program.Fit.{Timed}
+use Rattle.laws.specs.Refusals.Laws.{by-bool}
+use Rattle.laws.specs.Rules.Laws.{Body, by-run, ended-time, ended-words, ended-still, wait-ended, wait-of, chain-ended, chain-of, both-ended, both-of, whiles-stop, whiles-more, again, repeats-is, again-more, again-stop, ite-then, ite-else}
 
 -- A run that ended is an end by the rules ---------------------------------------------------------------------------------------------
 

@@ -9,9 +9,10 @@ use Rattle.model.specs.declared.Cell.{Cell}
 use Rattle.model.specs.Circuit.{Values, high, level, Obeys}
 use Rattle.model.specs.State.{stateSize, lastState, evaluated}
 use Rattle.model.specs.Promises.{stateAt, stopsAt, OneRun}
-use Rattle.theory.specs.Circuit.Unique.{Ordered, unique}
+use Rattle.theory.specs.Circuit.Unique.{unique}
+use Rattle.laws.specs.Circuit.Ordered.{Ordered}
 use Rattle.theory.specs.Circuit.Exists.{solution, solution-obeys}
-use Rattle.theory.specs.Circuit.Shapes.{level-bound}
+use Rattle.laws.specs.Circuit.Shapes.{level-bound}
 use Rattle.theory.specs.State.Sound.{states}
 use Rattle.theory.specs.State.Running.{along}
 use Rattle.theory.specs.State.Past.{past-state}

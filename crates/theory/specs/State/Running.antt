@@ -10,9 +10,9 @@ use Rattle.model.specs.Word.{get32}
 use Rattle.model.specs.Circuit.{Values, high, level, Obeys}
 use Rattle.model.specs.State.{stateSize, base, instantOf, nowAt, beforeAt, heldAt, lineBit, stepState, lastState, evaluated}
 use Rattle.model.specs.Promises.{stopsAt}
-use Rattle.theory.specs.Refusals.Laws.{by-bool}
-use Rattle.theory.specs.Circuit.Unique.{Ordered}
-use Rattle.theory.specs.State.Passes.{Line, get16-same}
+use Rattle.laws.specs.Refusals.Laws.{by-bool}
+use Rattle.laws.specs.Circuit.Ordered.{Ordered}
+use Rattle.laws.specs.State.Passes.{Line, get16-same}
 use Rattle.theory.specs.State.States.{Clean, Holding, step-holds, step-length}
 
 -- A state whose bytes are the same holds the same ---------------------------------------------------------------------------------------------------

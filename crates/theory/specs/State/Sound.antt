@@ -7,23 +7,17 @@ use native.Mathlib.Nat.{add-zero}
 use native.Mathlib.Omega.{arith}
 use lib.ListN.{getD, length, take, drop}
 use lib.Seq.{getD-drop}
-use borrow.Author.Tests.{le-leb, eq-eqb, eqb-false}
+use borrow.Author.Tests.{le-leb, eqb-false}
+use Rattle.laws.specs.NetlistFile.CellBytes.{zero-run}
 use Rattle.model.specs.declared.Cell.{Cell}
 use Rattle.model.specs.Circuit.{cellAt, noCell, Values, control, Obeys}
 use Rattle.model.specs.NetlistFile.{allZero}
 use Rattle.model.specs.State.{stateSize, base, nowAt, beforeAt, cellSound, cellsSound, sound}
 use Rattle.model.specs.Promises.{stateAt, earlier, Holds}
-use Rattle.theory.specs.Refusals.Laws.{and-of}
-use Rattle.theory.specs.Circuit.Unique.{Ordered}
-use Rattle.theory.specs.Circuit.Shapes.{level-bound}
+use Rattle.laws.specs.Refusals.Laws.{and-of}
+use Rattle.laws.specs.Circuit.Ordered.{Ordered}
+use Rattle.laws.specs.Circuit.Shapes.{level-bound}
 use Rattle.theory.specs.State.States.{Holding, step-holds, step-length, begin-holds, begin-length}
-
-pub zero-run : (m : ℕ) (s : List ℕ) → ((i : ℕ) → i < m → getD s i 0 ≡ 0) → allZero (take m s) ≡ true
-unfolding allZero
-zero-run zero [] h = refl
-zero-run zero (x ∷ s) h = refl
-zero-run (suc m) [] h = refl
-zero-run (suc m) (x ∷ s) h = rw (eq-eqb x 0 (h 0 (omega arith))) (zero-run m s (λ i l. h (suc i) (suc-le-suc l)))
 
 zero-slice : (m j : ℕ) (s : List ℕ) → ((i : ℕ) → j ≤ i → i < j + m → getD s i 0 ≡ 0) → allZero (take m (drop j s)) ≡ true
 zero-slice m j s h = zero-run m (drop j s) (λ i l. getD-drop j s i 0 ∙ h (j + i) (omega arith) (omega arith))

@@ -7,20 +7,21 @@ use Prim.Native.Nat.{ℕ, zero, suc, _+_, _-_, _*_, _/_, _<_, _≤_}
 use native.Mathlib.Omega.{arith}
 use native.Mathlib.Nat.{zero-div}
 use native.Mathlib.Decide.{ℕ-discrete, decLe}
-use lib.ListN.{getD, set, length, drop, replicate, length-set, length-append, length-drop, length-replicate, getD-replicate, List·getD-append}
+use lib.ListN.{getD, set, length, drop, replicate, length-set, length-append, length-drop, length-replicate}
 use lib.Seq.{getD-set-same, getD-set-other}
 use lib.Dec.{eqb, leb}
 use borrow.Author.Tests.{le-leb, lt-leb, ne-eqb, eqb-true, eqb-false}
+use Rattle.laws.specs.State.Passes.{cleared-zero, begin-header, begin-instant}
 use Rattle.model.specs.declared.Cell.{Cell}
 use Rattle.model.specs.declared.Merge.{Merge}
-use Rattle.model.specs.Word.{pick, bit, isZero, operate, get16, get32}
+use Rattle.model.specs.Word.{pick, bit, isZero, operate, get16}
 use Rattle.model.specs.Circuit.{cellAt, Sig, Values, high, level, delayed, mergeStep, heldBefore, merged, memory, equation, startWord, Obeys, Shape, shape, kConstant, kComplement, kOperator, kStart, kGround, kDelay, kOr, kWhenTrue, kWhenFalse, kMerge, kMemory, kGated, kUnknown}
-use Rattle.model.specs.State.{base, instantOf, nowAt, beforeAt, heldAt, lineBit, nextValue, value, firstValue, shown, holding, settle, settled, beginState, stepState}
+use Rattle.model.specs.State.{base, instantOf, nowAt, beforeAt, heldAt, lineBit, nextValue, value, firstValue, holding, settle, beginState, stepState}
 use Rattle.model.specs.Promises.{earlier}
 use Rattle.theory.specs.Numbering.Levels.{delayed-zero}
-use Rattle.theory.specs.Circuit.Unique.{Looks, Ordered}
-use Rattle.theory.specs.Circuit.Shapes.{start-kind, delay-kind, merge-kind, memory-kind, bit-le}
-use Rattle.theory.specs.State.Passes.{shapeAt, upTo-frame, shown-frame, settled-frame, shifted-frame, holding-frame, count-now, one, length-one, one-high, before-one, two, three, length-three, after, third-at, third-own, now-after, seen-now, seen-before, seen-held, seen-line, before-after, held-after, Line, line-new, line-old, line-bytes, step-is, header-kept}
+use Rattle.laws.specs.Circuit.Ordered.{Looks, Ordered}
+use Rattle.laws.specs.Circuit.Shapes.{start-kind, delay-kind, merge-kind, memory-kind, bit-le}
+use Rattle.laws.specs.State.Passes.{shapeAt, shifted-frame, holding-frame, count-now, one, length-one, one-high, before-one, two, three, length-three, after, third-at, third-own, now-after, seen-now, seen-before, seen-held, seen-line, before-after, held-after, Line, line-new, line-old, line-bytes, step-is, header-kept}
 
 -- Delayed signals --------------------------------------------------------------------------------------------------------------------------------
 
@@ -329,7 +330,7 @@ module _ (m : ℕ) (s : List ℕ) (h : m ≤ length s) where
   length-cleared = simp (length-append, length-replicate, length-drop) (omega arith)
 
   zero-at : (j : ℕ) → j < m → getD (cleared m s) j 0 ≡ 0
-  zero-at j g = List·getD-append (replicate m 0) (drop m s) 0 j (rw (length-replicate {A = ℕ} m 0) g) ∙ getD-replicate {A = ℕ} m j 0 0 g
+  zero-at j g = cleared-zero m s j g
 
   module _ (k : ℕ) (g : base k + 40 ≤ m) where
     zero-held : heldAt (cleared m s) k ≡ record { a = false; b = false }
@@ -440,23 +441,12 @@ module _ (net : List Cell) (ordered : Ordered net) (words : ℕ → ℕ) (W : Va
       (line-old net w Z room-Z k h e (bytes-Z k h) i (omega arith) ∙ line-Z k h i (omega arith)
       ∙ early (i + 1) (level W (cellAt net k .a)) (omega arith))
 
-  begin-header : (j : ℕ) → j < 8 → getD (beginState net words s) j 0 ≡ 0
-  unfolding beginState
-  begin-header j h =
-      upTo-frame (settled net) j _ _ (λ t k g. settled-frame net t k j (inl (omega arith)))
-      ∙ upTo-frame (shown (firstValue net words)) j _ _ (λ t k g. shown-frame (firstValue net words) t k j (inl (omega arith)))
-      ∙ zero-at (8 + 40 * length net) s room j (omega arith)
-
-  begin-instant : instantOf (beginState net words s) ≡ 0
-  unfolding get32 get16
-  begin-instant = omega (arith, begin-header 0 (omega arith), begin-header 1 (omega arith), begin-header 2 (omega arith), begin-header 3 (omega arith))
-
   pub begin-holds : Holding net W 0 (beginState net words s)
   unfolding earlier
   begin-holds =
       record {
-        instant = λ l. begin-instant;
-        zeros = λ j x y. begin-header j y;
+        instant = λ l. begin-instant net words s;
+        zeros = λ j x y. begin-header net words s j y;
         present = λ k h. ap (λ (z : List ℕ). nowAt z k) begin-is ∙ now-is net ordered words W obeys 0 w Z room-Z begin-first k h;
         past = λ k h. ap (λ (z : List ℕ). beforeAt z k) begin-is ∙ before-after net w Z k ∙ before-Z k h;
         held = λ k h e. ap (λ (z : List ℕ). heldAt z k) begin-is ∙ held-is net ordered words W obeys 0 w Z room-Z begin-first k h e (held-Z k h);

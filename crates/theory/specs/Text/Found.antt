@@ -18,8 +18,8 @@ use Rattle.model.specs.Program.{Expr, Stmt, node, preorderE, preorder}
 use Rattle.model.specs.Text.{numeral, name, sign, cThen, cElse, cDo, cUntil, cEnd, cAt, cOpen, cClose, cLeft, cRight, Lexeme, tokens, Left, sum, difference, and, or, Comparison, equal, less, IsExpr, number, variable, parens, complement, left, compare, timed, IsStmt, skip, ticks, becomes, ifs, whiles, repeats, braces, sequence, parallel, Means, Begins, BreaksAt}
 use Rattle.model.specs.Reader.{Frame, frame, Reader, reader, readerAtFirst, holdOf, reachOf, Popped, pop, topCode, topStart, insertAt, withNodeDelay, leaf, openedNode, between, closed, turned, reduced, withDelay, onStatement, onOperand, comparison, onAfterOperand, onAfterStatement, onDelay, onBody, stepOf, isBroken, complete, good, bad, readFrom}
 use Rattle.model.specs.TextPromises.{placeAt}
-use Rattle.theory.specs.Refusals.Laws.{by-bool}
-use Rattle.theory.specs.Text.Runs.{pop-frames, steps, steps-append, Complete, Stops, broken-incomplete, reads-whole, reads-bad}
+use Rattle.laws.specs.Refusals.Laws.{by-bool}
+use Rattle.laws.specs.Text.Runs.{pop-frames, steps, steps-append, Complete, Stops, broken-incomplete, reads-whole, reads-bad}
 use Rattle.theory.specs.Text.Parts.{Under, Ready, pop-ready, same-reader, inserted, inserted-snoc, Finds, read-bare, read-behind, finds-weaker, finds-leaf, finds-operator, Turns, finds-then, finds-group}
 
 -- Expressions --------------------------------------------------------------------------------------------------------------------------

@@ -12,7 +12,7 @@ use borrow.Author.Tests.{lt-ltb, le-ltb, leb-true, le-leb, eqb-true, eqb-false, 
 use Rattle.model.specs.Text.{digit, allDigits, valueFrom, isNumber, isName}
 use Rattle.model.specs.Hubrun.{digits, decimal}
 use Rattle.model.specs.TextPromises.{Words}
-use Rattle.theory.specs.Refusals.Laws.{by-bool, by-le, not-both, and-true, and-of}
+use Rattle.laws.specs.Refusals.Laws.{by-bool, by-le, not-both, and-true, and-of}
 
 -- Digits -------------------------------------------------------------------------------------------------------------------------------
 

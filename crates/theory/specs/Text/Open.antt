@@ -14,7 +14,7 @@ use Rattle.model.specs.declared.texts.Token.{Token}
 use Rattle.model.specs.Program.{Expr, const, Stmt, ok, node, preorderE, preorder}
 use Rattle.model.specs.Text.{numeral, name, sign, cThen, cElse, cDo, cUntil, cEnd, cAt, cOpen, cClose, cLeft, cRight, Left, Comparison, IsExpr, timed, IsStmt, Begins}
 use Rattle.model.specs.Reader.{Frame, frame, holdOf, reachOf, pop, topCode, comparison}
-use Rattle.theory.specs.Refusals.Laws.{not-both}
+use Rattle.laws.specs.Refusals.Laws.{not-both}
 
 -- Phrases ------------------------------------------------------------------------------------------------------------------------------
 

@@ -14,7 +14,7 @@ use Rattle.model.specs.declared.texts.Mode.{Mode}
 use Rattle.model.specs.Program.{node}
 use Rattle.model.specs.Text.{sign}
 use Rattle.model.specs.Reader.{Frame, frame, Reader, reader, holdOf, reachOf, Popped, pop, topCode, topStart, insertAt, leaf, opened, between, closed, stepOf}
-use Rattle.theory.specs.Text.Runs.{steps, steps-append}
+use Rattle.laws.specs.Text.Runs.{steps, steps-append}
 
 -- Frames -------------------------------------------------------------------------------------------------------------------------------
 

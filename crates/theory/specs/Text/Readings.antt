@@ -15,15 +15,15 @@ use Rattle.model.specs.TimeTables.{load}
 use Rattle.model.specs.TextCalls.{readingOf, brokenAt, bytesRead, textChecks, readTextCall}
 use Rattle.model.specs.Promises.{Bytes}
 use Rattle.model.specs.TextPromises.{placeAt, Texts}
-use Rattle.theory.specs.Refusals.Laws.{not-refused, all-accept}
-use Rattle.theory.specs.Text.Runs.{reads-good}
+use Rattle.laws.specs.Refusals.Laws.{not-refused, all-accept}
+use Rattle.laws.specs.Text.Runs.{reads-good}
 use Rattle.theory.specs.Text.Found.{reader-finds, broken-place}
 use Rattle.theory.specs.Text.OneReading.{one-reading}
 use Rattle.theory.specs.Text.Sound.{begins, sound, words-proper, take-proper}
 use Rattle.theory.specs.Text.Bytes.{program-back}
 use Rattle.theory.specs.Text.Limits.{reading-bytes}
 use Rattle.theory.specs.Text.Order.{read-text-refuses, compile-text-refuses, run-text-refuses}
-use Rattle.theory.specs.Text.AsProgram.{compile-as-program, run-as-program, text-accepted, program-made}
+use Rattle.laws.specs.Text.AsProgram.{compile-as-program, run-as-program, text-accepted, program-made}
 
 module _ (text : List ℕ) where
   found : (P : Stmt) → Means (tokens (wordsOf text)) P → readingOf text ≡ good (preorder P)

@@ -16,9 +16,9 @@ use Rattle.model.specs.declared.texts.Mode.the-variants.{Statement, AfterStatem
 use Rattle.model.specs.Program.{Stmt, preorder}
 use Rattle.model.specs.Text.{numeral, sign, cThen, cDo, cEnd, IsExpr, IsStmt, Means, Begins, blank, runLength, isNumber, isName, limitAfter, twoCode, runToken, tokenAt, sizeAt, wordsFrom, tokens}
 use Rattle.model.specs.Reader.{Frame, Reader, readerAtFirst, pop, step, isBroken, complete}
-use Rattle.theory.specs.Refusals.Laws.{by-bool, not-both}
-use Rattle.theory.specs.Program.Trees.{by-pick}
-use Rattle.theory.specs.Text.Runs.{pop-frames, steps}
+use Rattle.laws.specs.Refusals.Laws.{by-bool, not-both}
+use Rattle.laws.specs.Program.Trees.{by-pick}
+use Rattle.laws.specs.Text.Runs.{pop-frames, steps}
 use Rattle.theory.specs.Text.Open.{Sort, expression, statement, expr, stmt, Open, whole, low-enough, After, after, shorter, begins-open}
 use Rattle.theory.specs.Text.Stands.{at, Expects, Filled, all, inside, filled, Timed, of-becomes, of-ifs, of-whiles, of-untils, Stands, StandsAt, Proper, step-stands}
 

@@ -1,7 +1,7 @@
 -- `rows::holds` meets its contract. Assumes nothing.
 use mathlib.Core.Path.{refl, subst}
 use Rattle.model.specs.declared.Answer.{Answer}
-use Rattle.theory.specs.Refusals.Laws.{not-both}
+use Rattle.laws.specs.Refusals.Laws.{not-both}
 use Rattle.cases.specs.Rows.{Same}
 use borrow.Author.Needs.{needs}
 use Rattle.cases.proofs.rows.holds.Statement.{statement}

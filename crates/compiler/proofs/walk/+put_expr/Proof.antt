@@ -8,7 +8,7 @@ use borrow.Fn.Kinds.{In}
 use borrow.Fn.PlainCycle.{Measures, is, falls, and}
 use Rattle.model.specs.Program.{const, var, compl, op, exprAt, nodeCount, nodeAt}
 use Rattle.model.specs.Numbering.{exprCount}
-use Rattle.theory.specs.Program.Trees.{at-var, at-compl}
+use Rattle.laws.specs.Program.Trees.{at-var, at-compl}
 use Rattle.program.proofs.Children.{Inner, second-later, op-read}
 use Rattle.compiler.proofs.Exprs.{last-fits, const-done, var-done, compl-done, op-done, compl-ready, op-first, op-second}
 use Rattle.program.proofs.next.Reads as next-reads

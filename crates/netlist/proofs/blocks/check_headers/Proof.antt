@@ -5,7 +5,7 @@ use native.Mathlib.Omega.{arith}
 use borrow.Author.Tests.{not-true, not-false}
 use Rattle.model.specs.NetlistFile.{headerFault}
 use Rattle.netlist.proofs.BlockChecks.{header-wrong, header-right}
-use Rattle.theory.specs.Refusals.Search.{Searched, searched-none, fault-here, fault-next, faults-end}
+use Rattle.laws.specs.Refusals.Search.{Searched, searched-none, fault-here, fault-next, faults-end}
 use Rattle.netlist.proofs.blocks.check_headers.Statement.{statement}
 use Rattle.netlist.proofs.blocks.check_headers.Tie as tie
 

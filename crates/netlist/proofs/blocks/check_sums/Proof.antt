@@ -3,7 +3,7 @@ use Prim.Native.Nat.{_-_}
 use native.Mathlib.Omega.{arith}
 use Rattle.model.specs.NetlistFile.{sumFault}
 use Rattle.netlist.proofs.BlockChecks.{sum-wrong, sum-right}
-use Rattle.theory.specs.Refusals.Search.{Searched, searched-none, fault-here, fault-next, faults-end}
+use Rattle.laws.specs.Refusals.Search.{Searched, searched-none, fault-here, fault-next, faults-end}
 use Rattle.netlist.proofs.blocks.check_sums.Statement.{statement}
 use Rattle.netlist.proofs.blocks.check_sums.Tie as tie
 

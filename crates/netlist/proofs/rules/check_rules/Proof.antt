@@ -4,7 +4,7 @@ use Prim.Native.Nat.{_-_}
 use native.Mathlib.Omega.{arith}
 use Rattle.model.specs.NetlistFile.{cellFault, cellsAt}
 use Rattle.netlist.specs.Offsets.{offset}
-use Rattle.theory.specs.Refusals.Search.{Searched, searched-none, fault-here, fault-next, faults-end}
+use Rattle.laws.specs.Refusals.Search.{Searched, searched-none, fault-here, fault-next, faults-end}
 use Rattle.netlist.proofs.rules.check_rules.Statement.{statement}
 use Rattle.netlist.proofs.rules.check_rules.Tie as tie
 

@@ -3,7 +3,7 @@ use mathlib.Core.Path.{sym, _∙_}
 use Prim.Native.Nat.{_-_}
 use native.Mathlib.Omega.{arith}
 use Rattle.model.specs.TimeTables.{tableFault}
-use Rattle.theory.specs.Refusals.Search.{Searched, searched-none, fault-here, fault-next, faults-end}
+use Rattle.laws.specs.Refusals.Search.{Searched, searched-none, fault-here, fault-next, faults-end}
 use Rattle.program.proofs.TimeTables.{wrong-byte, right-byte}
 use Rattle.program.proofs.tables.first_wrong.Statement.{statement}
 use Rattle.program.proofs.tables.first_wrong.Tie as tie

@@ -3,7 +3,7 @@ use Prim.Native.Nat.{ℕ, _≤_}
 use native.Mathlib.Omega.{arith}
 use denote.Ref.{now}
 use Rattle.model.specs.Rules.{run}
-use Rattle.theory.specs.Program.Trees.{stmt-none, at-tick}
+use Rattle.laws.specs.Program.Trees.{stmt-none, at-tick}
 use Rattle.program.specs.Ends.{past-later}
 use Rattle.program.proofs.Children.{Inner, last-kind, second-later, assign-read, seq-read, par-read, ite-read, while-read, repeat-read}
 use Rattle.rules.proofs.Nodes.{low-ok}

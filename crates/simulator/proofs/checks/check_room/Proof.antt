@@ -5,7 +5,7 @@ use lib.ListN.{length}
 use borrow.Author.Needs.{needs}
 use Rattle.model.specs.NetlistFile.{cellsOf}
 use Rattle.model.specs.State.{stateSize}
-use Rattle.theory.specs.NetlistFile.Passed.{count-cells}
+use Rattle.laws.specs.NetlistFile.Passed.{count-cells}
 use Rattle.simulator.proofs.AcceptedFile.{sized}
 use Rattle.simulator.proofs.Refusing.{is-short, is-long}
 use Rattle.simulator.proofs.checks.check_room.Statement.{statement}

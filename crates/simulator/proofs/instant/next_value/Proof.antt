@@ -3,7 +3,7 @@ use mathlib.Core.Path.{sym, _∙_}
 use native.Mathlib.Omega.{arith}
 use borrow.Author.Needs.{needs}
 use Rattle.model.specs.Circuit.{memory}
-use Rattle.theory.specs.Numbering.Cells.{join}
+use Rattle.laws.specs.Numbering.Cells.{join}
 use Rattle.simulator.proofs.ByKind.{no-operator-low, no-operator-high, next-constant, next-delay, next-or, next-when-true, next-when-false, next-merge, next-fallen, next-kept, next-gate-open, next-gate-shut, next-operator, next-still}
 use Rattle.simulator.proofs.instant.next_value.Statement.{statement}
 use Rattle.simulator.proofs.instant.next_value.Tie as tie

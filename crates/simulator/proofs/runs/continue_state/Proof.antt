@@ -8,7 +8,7 @@ use native.Mathlib.Omega.{arith}
 use lib.ListN.{length}
 use Rattle.model.specs.Numbering.{finish}
 use Rattle.model.specs.State.{instantOf, lastState, evaluated}
-use Rattle.theory.specs.State.Passes.{count-now}
+use Rattle.laws.specs.State.Passes.{count-now}
 use Rattle.simulator.specs.Fits.{netOf}
 use Rattle.simulator.proofs.Cells.{refits}
 use Rattle.simulator.proofs.Continuing.{stops, goes-on, all-done}

@@ -1,7 +1,7 @@
 -- `load` meets its contract. Assumes nothing.
 use native.Mathlib.Omega.{arith}
 use borrow.Author.Needs.{needs}
-use Rattle.theory.specs.Numbering.Count.{fits}
+use Rattle.laws.specs.Numbering.Count.{fits}
 use Rattle.simulator.proofs.AcceptedFile.{sized, loaded}
 use Rattle.simulator.proofs.runs.load.Statement.{statement}
 use Rattle.simulator.proofs.runs.load.Tie as tie

@@ -6,7 +6,7 @@ use lib.ListN.{length}
 use borrow.Author.Needs.{needs}
 use Rattle.model.specs.Circuit.{cellAt}
 use Rattle.model.specs.NetlistFile.{countOf, cellsOf}
-use Rattle.theory.specs.NetlistFile.Passed.{count-cells}
+use Rattle.laws.specs.NetlistFile.Passed.{count-cells}
 use Rattle.simulator.proofs.AcceptedFile.{file-cell, file-sized, file-room, file-sixteen}
 use Rattle.simulator.proofs.Memories.{Collects, collects-first, collects-room, collects-memory, collects-other, collects-all}
 use Rattle.simulator.proofs.runs.words_in.Statement.{statement}

@@ -4,7 +4,6 @@ use Prim.Native.Nat.{_+_}
 use native.Mathlib.Omega.{arith}
 use lib.ListN.{take, drop}
 use Rattle.model.specs.NetlistFile.{allZero}
-use Rattle.theory.specs.Control.Runs.{at}
 use Rattle.simulator.proofs.Soundness.{zero-here, set-here, zero-none}
 use Rattle.simulator.proofs.sound.all_zero.Statement.{statement}
 use Rattle.simulator.proofs.sound.all_zero.Tie as tie

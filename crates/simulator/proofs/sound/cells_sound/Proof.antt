@@ -7,7 +7,7 @@ use borrow.Author.Needs.{needs}
 use borrow.Author.Tests.{not-false, not-true}
 use Rattle.model.specs.NetlistFile.{countOf, cellsOf}
 use Rattle.model.specs.State.{cellsSound}
-use Rattle.theory.specs.NetlistFile.Passed.{count-cells}
+use Rattle.laws.specs.NetlistFile.Passed.{count-cells}
 use Rattle.simulator.proofs.AcceptedFile.{file-cell, file-sized, file-room}
 use Rattle.simulator.proofs.Soundness.{sound-here, unsound-here, sound-none}
 use Rattle.simulator.proofs.sound.cells_sound.Statement.{statement}

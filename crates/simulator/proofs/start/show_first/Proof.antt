@@ -10,7 +10,7 @@ use Rattle.model.specs.Circuit.{cellAt, memories}
 use Rattle.model.specs.State.{base, firstValue, upTo, shown}
 use Rattle.model.specs.Word.{bit, put16}
 use Rattle.model.specs.declared.Cell.{Cell}
-use Rattle.theory.specs.State.Passes.{bit-lt}
+use Rattle.laws.specs.State.Passes.{bit-lt}
 use Rattle.simulator.specs.Fits.{netOf}
 use Rattle.simulator.proofs.Cells.{net-cell, net-length, fits-at}
 use Rattle.simulator.proofs.Memories.{below-more, below-lt, below-le}

@@ -3,7 +3,7 @@ use native.Mathlib.Omega.{arith}
 use lib.ListN.{length-set}
 use borrow.Author.Needs.{needs}
 use Rattle.model.specs.State.{holding}
-use Rattle.theory.specs.State.Passes.{bit-lt}
+use Rattle.laws.specs.State.Passes.{bit-lt}
 use Rattle.simulator.proofs.wires.hold.Statement.{statement}
 use Rattle.simulator.proofs.wires.hold.Tie as tie
 

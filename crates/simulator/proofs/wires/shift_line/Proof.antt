@@ -7,7 +7,7 @@ use lib.ListN.{length, length-set}
 use borrow.Author.Needs.{needs}
 use Rattle.model.specs.State.{base, shiftedIn}
 use Rattle.model.specs.Word.{bit}
-use Rattle.theory.specs.State.Passes.{bit-lt}
+use Rattle.laws.specs.State.Passes.{bit-lt}
 use Rattle.simulator.proofs.Passes.{shifted-none, shifted-more}
 use Rattle.simulator.proofs.wires.shift_line.Statement.{statement}
 use Rattle.simulator.proofs.wires.shift_line.Tie as tie

@@ -6,7 +6,7 @@ use denote.Ref.{now}
 use borrow.Author.Needs.{needs}
 use Rattle.model.specs.Program.{tick, nodeAt, nodeCount, stmtAt}
 use Rattle.model.specs.Numbering.{delayCount}
-use Rattle.theory.specs.Program.Trees.{at-tick}
+use Rattle.laws.specs.Program.Trees.{at-tick}
 use Rattle.program.specs.Ends.{past-later}
 use Rattle.program.proofs.Children.{Inner, last-kind, second-later, assign-read, seq-read, par-read, ite-read, while-read, repeat-read}
 use Rattle.compiler.proofs.Stmts.{ok-done, tick-done}

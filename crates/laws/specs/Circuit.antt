@@ -1,0 +1,3 @@
+-- A netlist's equations have one solution, and its values are words.
+pub mod Shapes
+pub mod Ordered

@@ -1,0 +1,8 @@
+-- The published netlist is a circuit of its program, and keeps every rule of a netlist.
+pub mod Cells
+pub mod Lengths
+pub mod Memories
+pub mod Parts
+pub mod Count
+pub mod Valid
+pub mod Compiled

@@ -1,0 +1,117 @@
+-- A program of n nodes has at most 19 + 3 n cells.
+use mathlib.Core.Path.{_≡_, refl}
+use mathlib.Core.Bool.{Bool, true, false}
+use mathlib.Core.List.{List, [], _∷_}
+use mathlib.Core.Logic.{_≢_}
+use Prim.Native.Nat.{ℕ, zero, suc, _+_, _*_, _<_, _≤_}
+use native.Mathlib.Omega.{arith}
+use lib.Dec.{eqb, eqb→eq}
+use lib.ListN.{length, length-append}
+use Rattle.model.specs.Word.{pick}
+use Rattle.model.specs.Program.{Expr, const, var, compl, op, Stmt, ok, tick, assign, seq, par, ite, while, repeat}
+use Rattle.model.specs.Numbering.{exprCount, ifDelayCount, delayCount, walkCount, clockSources, dataSources, Source, wiresOf, orCount, orCountFrom, netlist}
+use Rattle.model.specs.Numbering.{walkAt}
+use Rattle.laws.specs.Refusals.Laws.{is-false}
+use Rattle.laws.specs.Numbering.Parts.{net-length}
+
+unfoldable pub eNodes : Expr → ℕ
+eNodes (const n) = 1
+eNodes (var x) = 1
+eNodes (compl e) = 1 + eNodes e
+eNodes (op k e f) = 1 + eNodes e + eNodes f
+
+unfoldable pub nodes : Stmt → ℕ
+nodes ok = 1
+nodes (tick δ) = 1
+nodes (assign δ x e) = 1 + eNodes e
+nodes (seq P Q) = 1 + nodes P + nodes Q
+nodes (par P Q) = 1 + nodes P + nodes Q
+nodes (ite δ e P Q) = 1 + eNodes e + nodes P + nodes Q
+nodes (while δ e P) = 1 + eNodes e + nodes P
+nodes (repeat δ e P) = 1 + eNodes e + nodes P
+
+e-count : (e : Expr) → (exprCount e ≤ eNodes e) × (1 ≤ eNodes e)
+unfolding exprCount eNodes
+e-count (const n) = omega arith
+e-count (var x) = omega arith
+e-count (compl e) = let h = e-count e in omega arith
+e-count (op k e f) = let h = e-count e in let h′ = e-count f in omega arith
+
+own-count : (δ : ℕ) → ifDelayCount δ ≤ 1
+unfolding ifDelayCount
+own-count zero = omega arith
+own-count (suc δ) = omega arith
+
+-- delay cells, walk cells and an or of each sort for each assignment
+count : (P : Stmt) (d c : ℕ) → delayCount P + walkCount P + length (clockSources P d) + length (dataSources P c) ≤ 3 * nodes P
+unfolding delayCount walkCount clockSources dataSources nodes
+count ok d c = omega arith
+count (tick δ) d c = omega arith
+count (assign δ x e) d c = let h = e-count e in omega arith
+count (seq P Q) d c = simp length-append (let h = count P d c in let h′ = count Q (d + delayCount P) (c + walkCount P) in omega arith)
+count (par P Q) d c = simp length-append (let h = count P d c in let h′ = count Q (d + delayCount P) (c + walkCount P) in omega arith)
+count (ite δ e P Q) d c =
+    simp length-append
+    (let h = count P (d + ifDelayCount δ) (c + exprCount e + 1 + 1) in
+    let h′ = count Q (d + ifDelayCount δ + delayCount P) (c + exprCount e + 1 + 1 + walkCount P) in
+    let he = e-count e in
+    let ho = own-count δ in
+    omega arith)
+count (while δ e P) d c = let h = count P (d + 1) (c + exprCount e + 1 + 1) in let he = e-count e in omega arith
+count (repeat δ e P) d c = let h = count P (d + 1) (c + exprCount e + 1 + 1 + 1) in let he = e-count e in omega arith
+
+-- the ors of variables x and on are no more than the wires
+nOrs-le : (ws : List ℕ) → orCount ws ≤ length ws
+unfolding orCount
+nOrs-le [] = omega arith
+nOrs-le (w ∷ ws) = omega arith
+
+-- how many wires the variables from x on have
+wires : List Source → ℕ → ℕ → ℕ
+wires ws x zero = 0
+wires ws x (suc j) = length (wiresOf x ws) + wires ws (x + 1) j
+
+ors-wires : (ws : List Source) (x j : ℕ) → orCountFrom ws x j ≤ wires ws x j
+unfolding orCountFrom wires
+ors-wires ws x zero = omega arith
+ors-wires ws x (suc j) = let h = ors-wires ws (x + 1) j in let h′ = nOrs-le (wiresOf x ws) in omega arith
+
+wires-nil : (x j : ℕ) → wires [] x j ≡ 0
+unfolding wires wiresOf
+wires-nil x zero = refl
+wires-nil x (suc j) = rw (wires-nil (x + 1) j)
+
+-- a wire of a lower variable adds nothing, and any wire adds at most one
+one-miss : (w : Source) (ws : List Source) (x : ℕ) → w .0 ≢ x → wiresOf x (w ∷ ws) ≡ wiresOf x ws
+unfolding wiresOf
+one-miss w ws x n = rw (is-false (eqb (w .0) x) (λ z. n (eqb→eq (w .0) x z)))
+
+miss : (w : Source) (ws : List Source) (x j : ℕ) → w .0 < x → wires (w ∷ ws) x j ≡ wires ws x j
+unfolding wires
+miss w ws x zero l = refl
+miss w ws x (suc j) l = rw (one-miss w ws x (omega arith), miss w ws (x + 1) j (omega arith))
+
+add-one-wire : (w : Source) (ws : List Source) (x j : ℕ) → wires (w ∷ ws) x j ≤ wires ws x j + 1
+unfolding wires wiresOf
+add-one-wire w ws x zero = omega arith
+add-one-wire w ws x (suc j) = go (eqb (w .0) x) refl (add-one-wire w ws (x + 1) j)
+  where
+    go : (q : Bool) → eqb (w .0) x ≡ q → wires (w ∷ ws) (x + 1) j ≤ wires ws (x + 1) j + 1
+        → length (pick (eqb (w .0) x) (w .1 ∷ wiresOf x ws) (wiresOf x ws)) + wires (w ∷ ws) (x + 1) j
+        ≤ length (wiresOf x ws) + wires ws (x + 1) j + 1
+    go true e h =
+        let l : w .0 ≡ x = eqb→eq (w .0) x (rw e tt) in
+        rw (e, miss w ws (x + 1) j (omega arith)) (omega arith)
+    go false e h = rw e (omega arith)
+
+wires-le : (ws : List Source) (x j : ℕ) → wires ws x j ≤ length ws
+wires-le [] x j = rw wires-nil (omega arith)
+wires-le (w ∷ ws) x j = let h = wires-le ws x j in let h′ = add-one-wire w ws x j in omega arith
+
+pub size : (P : Stmt) → length (netlist P) ≤ 19 + 3 * nodes P
+size P =
+    let c = count P 3 (walkAt P) in
+    omega (arith, net-length P, ors-wires (clockSources P 3) 0 16, wires-le (clockSources P 3) 0 16, ors-wires (dataSources P (walkAt P)) 0 16, wires-le (dataSources P (walkAt P)) 0 16)
+
+pub fits : (P : Stmt) → nodes P ≤ 200 → (19 ≤ length (netlist P)) × (length (netlist P) ≤ 619)
+fits P h = let s = size P in omega (arith, net-length P)

@@ -1,0 +1,55 @@
+-- How many cells an expression, the delays and the walk of a statement are.
+-- Assumes nothing.
+use mathlib.Core.Path.{_≡_, refl}
+use Prim.Native.Nat.{ℕ, zero, suc, _+_}
+use native.Mathlib.Omega.{arith}
+use lib.ListN.{length, length-append}
+use Rattle.model.specs.Program.{Expr, const, var, compl, op, Stmt, ok, tick, assign, seq, par, ite, while, repeat}
+use Rattle.model.specs.Numbering.{exprCount, exprCells, ifDelayCount, ifDelayCells, delayCount, walkCount, finishWire, delays, walk}
+
+pub e-len : (M : ℕ) (e : Expr) (c : ℕ) → length (exprCells M e c) ≡ exprCount e
+unfolding exprCells exprCount
+e-len M (const n) c = refl
+e-len M (var x) c = refl
+e-len M (compl e) c = simp (length-append, e-len M e c) (omega arith)
+e-len M (op k e f) c = simp (length-append, e-len M e c, e-len M f (c + exprCount e)) (omega arith)
+
+pub own-len : (δ s : ℕ) → length (ifDelayCells δ s) ≡ ifDelayCount δ
+unfolding ifDelayCells ifDelayCount
+own-len zero s = refl
+own-len (suc δ) s = refl
+
+pub d-len : (P : Stmt) (s d c : ℕ) → length (delays P s d c) ≡ delayCount P
+unfolding delays delayCount
+d-len ok s d c = refl
+d-len (tick δ) s d c = refl
+d-len (assign δ x e) s d c = refl
+d-len (seq P Q) s d c = simp (length-append, d-len P s d c, d-len Q (finishWire P s d c) (d + delayCount P) (c + walkCount P))
+d-len (par P Q) s d c = simp (length-append, d-len P s d c, d-len Q s (d + delayCount P) (c + walkCount P))
+d-len (ite δ e P Q) s d c =
+    simp (
+      length-append,
+      own-len,
+      d-len P (c + exprCount e) (d + ifDelayCount δ) (c + exprCount e + 1 + 1),
+      d-len Q (c + exprCount e + 1) (d + ifDelayCount δ + delayCount P) (c + exprCount e + 1 + 1 + walkCount P),
+    )
+d-len (while δ e P) s d c = rw (d-len P (c + exprCount e) (d + 1) (c + exprCount e + 1 + 1)) (omega arith)
+d-len (repeat δ e P) s d c = rw (d-len P (c + exprCount e + 1 + 1) (d + 1) (c + exprCount e + 1 + 1 + 1)) (omega arith)
+
+pub w-len : (M : ℕ) (P : Stmt) (s d c : ℕ) → length (walk M P s d c) ≡ walkCount P
+unfolding walk walkCount
+w-len M ok s d c = refl
+w-len M (tick δ) s d c = refl
+w-len M (assign δ x e) s d c = simp (length-append, e-len)
+w-len M (seq P Q) s d c = simp (length-append, w-len M P s d c, w-len M Q (finishWire P s d c) (d + delayCount P) (c + walkCount P))
+w-len M (par P Q) s d c = simp (length-append, w-len M P s d c, w-len M Q s (d + delayCount P) (c + walkCount P))
+w-len M (ite δ e P Q) s d c =
+    simp (
+      length-append,
+      e-len,
+      w-len M P (c + exprCount e) (d + ifDelayCount δ) (c + exprCount e + 1 + 1),
+      w-len M Q (c + exprCount e + 1) (d + ifDelayCount δ + delayCount P) (c + exprCount e + 1 + 1 + walkCount P),
+    )
+    (omega arith)
+w-len M (while δ e P) s d c = simp (length-append, e-len, w-len M P (c + exprCount e) (d + 1) (c + exprCount e + 1 + 1)) (omega arith)
+w-len M (repeat δ e P) s d c = simp (length-append, e-len, w-len M P (c + exprCount e + 1 + 1) (d + 1) (c + exprCount e + 1 + 1 + 1)) (omega arith)

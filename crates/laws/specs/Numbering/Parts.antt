@@ -1,0 +1,109 @@
+-- The parts of a netlist: what holds of each cell holds of each cell of each part, where it stands; and the reverse.
+use mathlib.Core.Path.{_≡_, refl, ap, ap₂, _∙_}
+use mathlib.Core.List.{List, [], _∷_, _++_}
+use Prim.Native.Nat.{ℕ, zero, suc, _+_}
+use native.Mathlib.Omega.{arith}
+use lib.ListN.{length, length-append}
+use Rattle.model.specs.Program.{Stmt}
+use Rattle.model.specs.declared.Cell.{Cell}
+use Rattle.model.specs.Circuit.{cell}
+use Rattle.model.specs.Numbering.{delayCount, walkCount, delays, walk, clockSources, dataSources, Source, wiresOf}
+use Rattle.model.specs.Numbering.{orChain, ors, orCount, orsFrom, outsFrom, orCountFrom, memoriesOf, netlist}
+use Rattle.model.specs.Numbering.{clockAt, memoryAt, walkAt, dataAt, clockWires, dataWires}
+use Rattle.laws.specs.Numbering.Cells.{All, split, join}
+use Rattle.laws.specs.Numbering.Lengths.{d-len, w-len}
+
+-- ---- lengths
+
+pub chain-len : (kind acc n : ℕ) (ws : List ℕ) → length (orChain kind acc n ws) ≡ length ws
+unfolding orChain
+chain-len kind acc n [] = refl
+chain-len kind acc n (w ∷ ws) = ap suc (chain-len kind n (n + 1) ws)
+
+pub ors-len : (kind n : ℕ) (ws : List ℕ) → length (ors kind n ws) ≡ orCount ws
+unfolding ors orCount
+ors-len kind n [] = refl
+ors-len kind n (w ∷ ws) = chain-len kind w n ws
+
+pub orsFrom-len : (kind : ℕ) (ws : List Source) (n x j : ℕ) → length (orsFrom kind ws n x j) ≡ orCountFrom ws x j
+unfolding orsFrom orCountFrom
+orsFrom-len kind ws n x zero = refl
+orsFrom-len kind ws n x (suc j) =
+    length-append (ors kind n (wiresOf x ws)) (orsFrom kind ws (n + orCount (wiresOf x ws)) (x + 1) j)
+    ∙ ap₂ (λ (a b : ℕ). a + b) (ors-len kind n (wiresOf x ws)) (orsFrom-len kind ws (n + orCount (wiresOf x ws)) (x + 1) j)
+
+pub outs-len : (noCell : ℕ) (ws : List Source) (n x j : ℕ) → length (outsFrom noCell ws n x j) ≡ j
+unfolding outsFrom
+outs-len noCell ws n x zero = refl
+outs-len noCell ws n x (suc j) = ap suc (outs-len noCell ws (n + orCount (wiresOf x ws)) (x + 1) j)
+
+pub mems-len : (n : ℕ) (ks ds : List ℕ) → length ks ≡ n → length ds ≡ n → length (memoriesOf ks ds) ≡ n
+unfolding memoriesOf
+mems-len n [] ds h h′ = h
+mems-len n (k ∷ ks) [] h h′ = h′
+mems-len zero (k ∷ ks) (d ∷ ds) h h′ = absurd (omega arith)
+mems-len (suc n) (k ∷ ks) (d ∷ ds) h h′ = ap suc (mems-len n ks ds (omega arith) (omega arith))
+
+pub mems16 : (P : Stmt) → length (memoriesOf (clockWires P) (dataWires P)) ≡ 16
+mems16 P =
+    mems-len 16 (clockWires P) (dataWires P) (outs-len 1 (clockSources P 3) (clockAt P) 0 16) (outs-len 2 (dataSources P (walkAt P)) (dataAt P) 0 16)
+
+pub net-length : (P : Stmt) → length (netlist P) ≡ dataAt P + orCountFrom (dataSources P (walkAt P)) 0 16
+unfolding netlist
+net-length P = simp (length-append, d-len, w-len, orsFrom-len, mems16) (omega arith)
+
+-- ---- the parts
+
+module _ (P : Stmt) where
+  abbrev pub delayCells : List Cell
+  delayCells = delays P 0 3 (walkAt P)
+
+  abbrev pub clockOrs : List Cell
+  clockOrs = orsFrom 35 (clockSources P 3) (clockAt P) 0 16
+
+  abbrev pub memoryCells : List Cell
+  memoryCells = memoriesOf (clockWires P) (dataWires P)
+
+  abbrev pub walkCells : List Cell
+  walkCells = walk (memoryAt P) P 0 3 (walkAt P)
+
+  abbrev pub dataOrs : List Cell
+  dataOrs = orsFrom 7 (dataSources P (walkAt P)) (dataAt P) 0 16
+
+pub record Laid (R : ℕ → Cell → Type 0) (P : Stmt) : Type 0 where
+  pub at-start : R 0 (cell 32 0 0 0)
+  pub at-ground : R 1 (cell 33 0 0 0)
+  pub at-zero : R 2 (cell 1 0 0 0)
+  pub at-delays : All R 3 (delayCells P)
+  pub at-clocks : All R (clockAt P) (clockOrs P)
+  pub at-mems : All R (memoryAt P) (memoryCells P)
+  pub at-walk : All R (walkAt P) (walkCells P)
+  pub at-datas : All R (dataAt P) (dataOrs P)
+
+module _ (R : ℕ → Cell → Type 0) (P : Stmt) where
+  pub lay : All R 0 (netlist P) → Laid R P
+  unfolding netlist
+  lay h =
+      let r₁ = split R 3 (delayCount P) (delayCells P) (clockOrs P ++ (memoryCells P ++ (walkCells P ++ dataOrs P))) (d-len P 0 3 (walkAt P)) (h .1 .1 .1) in
+      let r₂ = split R (clockAt P) (orCountFrom (clockSources P 3) 0 16) (clockOrs P) (memoryCells P ++ (walkCells P ++ dataOrs P)) (orsFrom-len 35 (clockSources P 3) (clockAt P) 0 16) (r₁ .1) in
+      let r₃ = split R (memoryAt P) 16 (memoryCells P) (walkCells P ++ dataOrs P) (mems16 P) (r₂ .1) in
+      let r₄ = split R (walkAt P) (walkCount P) (walkCells P) (dataOrs P) (w-len (memoryAt P) P 0 3 (walkAt P)) (r₃ .1) in
+      record {
+        at-start = h .0;
+        at-ground = h .1 .0;
+        at-zero = h .1 .1 .0;
+        at-delays = r₁ .0;
+        at-clocks = r₂ .0;
+        at-mems = r₃ .0;
+        at-walk = r₄ .0;
+        at-datas = r₄ .1;
+      }
+
+  pub unlay : Laid R P → All R 0 (netlist P)
+  unfolding netlist
+  unlay r =
+      let r₄ = join R (walkAt P) (walkCount P) (walkCells P) (dataOrs P) (w-len (memoryAt P) P 0 3 (walkAt P)) (r .at-walk) (r .at-datas) in
+      let r₃ = join R (memoryAt P) 16 (memoryCells P) (walkCells P ++ dataOrs P) (mems16 P) (r .at-mems) r₄ in
+      let r₂ = join R (clockAt P) (orCountFrom (clockSources P 3) 0 16) (clockOrs P) (memoryCells P ++ (walkCells P ++ dataOrs P)) (orsFrom-len 35 (clockSources P 3) (clockAt P) 0 16) (r .at-clocks) r₃ in
+      let r₁ = join R 3 (delayCount P) (delayCells P) (clockOrs P ++ (memoryCells P ++ (walkCells P ++ dataOrs P))) (d-len P 0 3 (walkAt P)) (r .at-delays) r₂ in
+      (r .at-start, (r .at-ground, (r .at-zero, r₁)))

@@ -1,0 +1,91 @@
+-- Size: an accepted program is one statement with as many nodes as the program has, and its delays are bytes.
+-- Assumes nothing.
+use mathlib.Core.Path.{_≡_, refl, sym, _∙_, ap}
+use mathlib.Core.List.{List}
+use Prim.Native.Nat.{ℕ, _+_, _-_, _*_, _≤_}
+use native.Mathlib.Omega.{arith}
+use lib.Dec.{ltb, eqb}
+use lib.ListN.{length, length-append}
+use Rattle.model.specs.declared.Node.{Node}
+use Rattle.model.specs.declared.Checked.the-variants.{Accepted}
+use Rattle.model.specs.declared.Loaded.{Loaded}
+use Rattle.model.specs.Program.{Expr, const, var, compl, op, Stmt, ok, tick, assign, seq, par, ite, while, repeat, Tree, asExpr, asStmt, stmtOf, treeOf, stmtAt, nodeCount, nodeAt, programOf, preorderE, preorder}
+use Rattle.model.specs.Calls.{checkCall}
+use Rattle.model.specs.Promises.{Bytes}
+use Rattle.laws.specs.Program.Fit.{Timed, Low}
+use Rattle.laws.specs.Program.Accepted.{program-fit}
+use Rattle.laws.specs.Program.Trees.{length-nodes, by-pick, root-has}
+use Rattle.laws.specs.Program.Passed.{accepted, program-nodes}
+use Rattle.laws.specs.Numbering.Count.{eNodes, nodes}
+
+-- As many nodes as the program ---------------------------------------------------------------------------------------------------------
+
+expr-nodes : (e : Expr) → length (preorderE e) ≡ eNodes e
+unfolding preorderE eNodes
+expr-nodes (const n) = refl
+expr-nodes (var n) = refl
+expr-nodes (compl e) = omega (arith, expr-nodes e)
+expr-nodes (op k a b) = simp length-append (omega (arith, expr-nodes a, expr-nodes b))
+
+stmt-nodes : (P : Stmt) → length (preorder P) ≡ nodes P
+unfolding preorder nodes
+stmt-nodes ok = refl
+stmt-nodes (tick d) = refl
+stmt-nodes (assign d x e) = omega (arith, expr-nodes e)
+stmt-nodes (seq P Q) = simp length-append (omega (arith, stmt-nodes P, stmt-nodes Q))
+stmt-nodes (par P Q) = simp length-append (omega (arith, stmt-nodes P, stmt-nodes Q))
+stmt-nodes (ite d e P Q) = simp length-append (omega (arith, expr-nodes e, stmt-nodes P, stmt-nodes Q))
+stmt-nodes (while d e P) = simp length-append (omega (arith, expr-nodes e, stmt-nodes P))
+stmt-nodes (repeat d e P) = simp length-append (omega (arith, expr-nodes e, stmt-nodes P))
+
+pub all-nodes : (table : Loaded) (s : List ℕ) → checkCall table s ≡ Accepted → nodes (programOf s) ≡ nodeCount s
+all-nodes table s e =
+    sym (stmt-nodes (programOf s)) ∙ ap length (program-nodes s (accepted table s e .readable)) ∙ length-nodes s 0 (nodeCount s - 0) ∙ omega arith
+
+pub few-nodes : (table : Loaded) (s : List ℕ) → checkCall table s ≡ Accepted → nodes (programOf s) ≤ 200
+few-nodes table s e = omega (arith, all-nodes table s e, accepted table s e .readable .short)
+
+-- Delays are bytes --------------------------------------------------------------------------------------------------------------------------------------
+
+unfoldable Short : Stmt → Type 0
+Short ok = Unit {0}
+Short (tick d) = d ≤ 255
+Short (assign d x e) = d ≤ 255
+Short (seq P Q) = Short P × Short Q
+Short (par P Q) = Short P × Short Q
+Short (ite d e P Q) = (d ≤ 255) × Short P × Short Q
+Short (while d e P) = (d ≤ 255) × Short P
+Short (repeat d e P) = (d ≤ 255) × Short P
+
+short-stmt : (a : Node) (e : Expr) (O P Q : Stmt) → a .delay ≤ 255 → Short O → Short P → Short Q → Short (stmtOf a e O P Q)
+unfolding stmtOf Short
+short-stmt a e O P Q h o p q =
+    by-pick Short (eqb (a .kind) 16) _ _ tt
+    (by-pick Short (eqb (a .kind) 17) _ _ h
+    (by-pick Short (eqb (a .kind) 18) _ _ h
+    (by-pick Short (eqb (a .kind) 19) _ _ (o, p)
+    (by-pick Short (eqb (a .kind) 20) _ _ (o, p)
+    (by-pick Short (eqb (a .kind) 21) _ _ (h, p, q)
+    (by-pick Short (eqb (a .kind) 22) _ _ (h, p) (h, p)))))))
+
+short-tree : (a : Node) (x y z : Tree) → a .delay ≤ 255 → Short (asStmt x) → Short (asStmt y) → Short (asStmt z) → Short (asStmt (treeOf a x y z))
+unfolding treeOf asStmt Short
+short-tree a x y z h p q r = by-pick (λ (t : Tree). Short (asStmt t)) (ltb (a .kind) 16) _ _ tt (short-stmt a (asExpr x) (asStmt x) (asStmt y) (asStmt z) h p q r)
+
+low-of : (P : Stmt) → Timed P → Short P → Low P
+unfolding Timed Short
+low-of ok t h = tt
+low-of (tick d) t h = (t, h)
+low-of (assign d x e) t h = (t, h)
+low-of (seq P Q) t h = (low-of P (t .0) (h .0), low-of Q (t .1) (h .1))
+low-of (par P Q) t h = (low-of P (t .0) (h .0), low-of Q (t .1) (h .1))
+low-of (ite d e P Q) t h = (h .0, low-of P (t .0) (h .1), low-of Q (t .1) (h .2))
+low-of (while d e P) t h = (t .0, h .0, low-of P (t .1) (h .1))
+low-of (repeat d e P) t h = (t .0, h .0, low-of P (t .1) (h .1))
+
+pub program-low : (table : Loaded) (s : List ℕ) → Bytes s → checkCall table s ≡ Accepted → Low (programOf s)
+unfolding stmtAt asStmt Short nodeAt
+program-low table s bytes e =
+    let short = root-has (λ (t : Tree). Short (asStmt t)) tt s
+    (λ i l x y z t. short-tree (nodeAt s i) x y z (let z = bytes (4 * i + 1) in omega arith)) in
+    low-of (programOf s) (program-fit table s e .timed) short

@@ -1,0 +1,2 @@
+-- The bytes of a state hold that solution.
+pub mod Passes

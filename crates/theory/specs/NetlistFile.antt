@@ -1,8 +1,0 @@
--- Netlist files are read as they were written.
-pub mod Passed
-pub mod CellBytes
-pub mod RunningSum
-pub mod Blocks
-pub mod Files
-pub mod ReadWrite
-pub mod ByCells

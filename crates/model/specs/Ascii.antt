@@ -1,5 +1,6 @@
--- Texts in bytes: a quoted text as the list of its characters' numbers, which are its bytes, since only ASCII characters are quoted here.
--- `code` is the prover's own number of a character, as "a" is 97. Assumes nothing: definitions.
+-- Texts in bytes: a quoted text as the list of its characters' numbers, which are its bytes, since only ASCII characters are quoted.
+-- `code` is the prover's own number of a character: that of "a" is 97.
+-- Assumes nothing: definitions.
 use mathlib.Core.List.{List, [], _∷_}
 use Prim.Native.Nat.{ℕ}
 use Prim.Native.Char.{code}

@@ -1,6 +1,7 @@
 -- What hubrun prints for an input.
 -- "It prints the word end, open or refused; after end or open the instant, then a second line of sixteen words; after refused the number
--- and place. Single spaces part them and a line feed ends each line." Assumes nothing: definitions.
+-- and place. Single spaces part them and a line feed ends each line." Bytes are written as the characters that they are: `code` of one, `ascii`
+-- of a word. Assumes nothing: definitions.
 use mathlib.Core.Bool.{true, false}
 use mathlib.Core.List.{List, [], _∷_, _++_, map}
 use Prim.Native.Nat.{ℕ, zero, suc, _+_, _/_, _%_}

@@ -1,5 +1,5 @@
 -- Cells, netlists and netlist files with what their check says, worked out by hand from the paper: refusals 9 to 12 with their places, what is
--- just allowed, and one file byte for byte; then renumbering. No theorem refuses a wrong condition or a wrong layout, because all of them cite the same ones.
+-- just allowed, one file byte for byte, and renumbering. Theorems cite the same conditions and layout, and so leave them free.
 -- Assumes nothing.
 use mathlib.Core.Path.{_≡_, refl}
 use mathlib.Core.List.{List, [], _∷_, _++_, map}

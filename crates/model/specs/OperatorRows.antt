@@ -1,5 +1,5 @@
 -- Operators, worked out by hand from the papers: what each gives on words at the edges, how long nested ones take, and the least delay of every
--- kind of statement around them. No theorem refuses a wrong operator or a wrong time, because circuit and rules use the same ones.
+-- kind of statement around them. Circuit and rules use the same ones, and so leave them free.
 -- Assumes nothing.
 use mathlib.Core.Path.{_≡_, refl}
 use mathlib.Core.List.{List, [], _∷_, map}

@@ -1,5 +1,5 @@
 -- Programs with what their check says, worked out by hand from the paper: refusals 1 to 8 with their places, and what is just allowed.
--- No theorem refuses a wrong condition, because the calls and the promises cite the same checks.
+-- Calls and promises cite the same checks, and so leave them free.
 -- Assumes nothing.
 use mathlib.Core.Path.{_≡_, refl}
 use mathlib.Core.List.{List, [], _∷_, _++_, map}
@@ -83,6 +83,7 @@ copies x y = assign 1 x (var y)
 abbrev isNought : Expr
 isNought = op 8 (var 0) (const 0)
 
+-- a program, and what is said of it
 programs : List (List ℕ × Checked)
 programs =
     -- 1: not a multiple of 4, above 800

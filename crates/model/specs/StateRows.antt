@@ -1,5 +1,5 @@
 -- States and runs with what is said of them, worked out by hand from the paper: a run byte for byte, and refusal 15 clause by clause.
--- No theorem refuses a wrong layout of the state or a wrong condition, because all of them cite the same ones.
+-- Theorems cite the same layout and condition, and so leave them free.
 -- Assumes nothing.
 use mathlib.Core.Path.{_≡_, refl}
 use mathlib.Core.Bool.{Bool, true, false}
@@ -75,7 +75,7 @@ continued =
     ∷ (state0, 1, state1, 1)
     ∷ (state0 ++ (7 ∷ 7 ∷ []), 1, state1 ++ (7 ∷ 7 ∷ []), 1)
     -- to the finish, and no further
-    ∷ (state0, 100, state9, 9)
+    ∷ (state0, 20, state9, 9)
     ∷ (state1, 8, state9, 8)
     ∷ []
 

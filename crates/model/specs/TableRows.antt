@@ -1,5 +1,5 @@
 -- Tables of operator times with what their check says, worked out by hand from paper 02, S-4: refusals 19 to 21 with their places, what is just
--- allowed, and what a program's check says under a table. No theorem refuses a wrong place. Assumes nothing.
+-- allowed, and what a program's check says under a table. Assumes nothing.
 use mathlib.Core.Path.{_≡_, refl}
 use mathlib.Core.List.{List, [], _∷_, _++_, map}
 use Prim.Native.Nat.{ℕ}

@@ -1,6 +1,6 @@
 -- Programs as text: the words of a text (refusal 17), and the grammar as derivations of a statement from words (refusal 18).
--- "Spaces and line feeds separate words; letters and digits in a run make one word, and of signs the longest counts."
--- Assumes nothing: definitions.
+-- "Spaces and line feeds separate words; letters and digits in a run make one word, and of signs the longest counts." Bytes are written as the
+-- characters that they are: `code` of one, `ascii` of a word. Assumes nothing: definitions.
 use mathlib.Core.Bool.{Bool, true, false, _&&_, _||_, not}
 use mathlib.Core.List.{List, [], _∷_, _++_, map}
 use Prim.Native.Nat.{ℕ, zero, suc, _+_, _-_, _*_, _<_, _≤_}

@@ -1,7 +1,7 @@
 -- Cells in a list of six bytes each, and the state that they fit. Assumes nothing.
 use mathlib.Core.List.{List, _∷_}
 use mathlib.Core.Path.{_≡_, _∙_, ap}
-use Prim.Native.Nat.{ℕ, _+_, _*_, _<_}
+use Prim.Native.Nat.{ℕ, _+_, _*_, _<_, _≤_}
 use native.Mathlib.Omega.{arith}
 use native.Mathlib.Numerals.{add-one}
 use native.Mathlib.Nat.{zero-add}
@@ -32,15 +32,15 @@ module _ (cells : List ℕ) (n k : ℕ) (h : k < n) where
 pub net-length : (cells : List ℕ) (n : ℕ) → length (netOf cells n) ≡ n
 net-length cells n = length-cells inList cells 0 n
 
--- a state that is as long fits as well
-pub refits : {cells : List ℕ} {n : ℕ} {s t : List ℕ} → Fits cells n s → length t ≡ length s → Fits cells n t
-refits f e =
+-- m of the cells fit a state that is as long
+pub refits : {cells : List ℕ} {m n : ℕ} {s t : List ℕ} → Fits cells n s → m ≤ n → length t ≡ length s → Fits cells m t
+refits f l e =
     record {
-      few = f .few;
-      list = f .list;
-      room = rw e (f .room);
+      few = omega (arith, f .few);
+      list = omega (arith, f .list);
+      room = omega (arith, f .room);
       sees = λ k h.
-          let z = f .sees k h in
+          let z = f .sees k (omega arith) in
           record {
             a = λ i. record { few = z .a i .few; room = rw e (z .a i .room) };
             b = record { few = z .b .few; room = rw e (z .b .room) };
@@ -52,5 +52,5 @@ refits f e =
 pub fits-at : {cells : List ℕ} {n : ℕ} {s : List ℕ} → Fits cells n s → (t : List ℕ) → length t ≡ length s → (k : ℕ) → k < n
     → (c : Cell) → c ≡ cellFrom cells (6 * k) → Stands t k × Sees t c
 fits-at {cells} {n} f t e k h c z =
-    let g : Fits cells n t = refits f e in
+    let g : Fits cells n t = refits f (omega arith) e in
     (record { few = omega (arith, f .few); room = omega (arith, g .room) }, rw z (g .sees k h))

@@ -2,7 +2,7 @@
 -- A reading is good where the steps end with a whole statement; a bad one names the first word at which they break, or the end.
 -- Assumes nothing: laws of model/Reader, from any reader.
 use mathlib.Core.Path.{_≡_, refl, sym, _∙_, ap}
-use mathlib.Core.Bool.{true, false}
+use mathlib.Core.Bool.{Bool, true, false}
 use mathlib.Core.List.{List, [], _∷_, _++_}
 use Prim.Native.Nat.{ℕ, suc, _<_, _≤_, suc-le-suc}
 use native.Mathlib.Omega.{arith}
@@ -86,13 +86,17 @@ module _ (end : ℕ) (r : Reader) where
   reads-short e = rw (e, readFrom)
 
   module _ (w : Lexeme) (ws : List Lexeme) where
+    -- where the step breaks, and where it does not
+    by-step : Bool → Reading
+    by-step b = elim b [ true ↦ bad (w .place) | false ↦ readFrom end (step (w .token) r) ws ]
+
     pub reads-broken : isBroken (step (w .token) r .mode) ≡ true → readFrom end r (w ∷ ws) ≡ bad (w .place)
-    unfolding readFrom
-    reads-broken e = rw (e, readFrom)
+    unfolding readFrom by-step
+    reads-broken e = ap by-step e
 
     pub reads-on : isBroken (step (w .token) r .mode) ≡ false → readFrom end r (w ∷ ws) ≡ readFrom end (step (w .token) r) ws
-    unfolding readFrom
-    reads-on e = rw (e, readFrom)
+    unfolding readFrom by-step
+    reads-on e = ap by-step e
 
 pub reads-whole : (end : ℕ) (r : Reader) (ws : List Lexeme) → Complete (steps (tokens ws) r)
     → readFrom end r ws ≡ good (steps (tokens ws) r .nodes)

@@ -34,16 +34,16 @@ put-decimal-add-out : (t : ℕ) → put-decimal-lts.Need-add-out (Calls t) (put-
 put-decimal-add-out t c = omega (arith, c .if1 .taken)
 
 put-decimal-slice-write-out : (t : ℕ) → put-decimal-lts.Need-slice-write-out (Calls t) (put-decimal-at t) put-decimal.Post
-put-decimal-slice-write-out t c = omega (arith, ap length (decimal-one (c .if1 .taken)), c .before .before .pre .1)
+put-decimal-slice-write-out t c = omega (arith, ap length (decimal-one {n = c .before .before .args .n} (omega arith)), c .before .before .pre .1)
 
 put-decimal-add-result : (t : ℕ) → put-decimal-lts.Need-add-result (Calls t) (put-decimal-at t) put-decimal.Post
-put-decimal-add-result t c = omega (arith, ap length (decimal-one (c .if1 .taken)), c .before .before .pre .1)
+put-decimal-add-result t c = omega (arith, ap length (decimal-one {n = c .before .before .args .n} (omega arith)), c .before .before .pre .1)
 
 put-decimal-same-length : (t : ℕ) → put-decimal-lts.Need-same-length (Calls t) (put-decimal-at t) put-decimal.Post
 put-decimal-same-length t c = search needs
 
 put-decimal-returns : (t : ℕ) → put-decimal-lts.Need-returns (Calls t) (put-decimal-at t) put-decimal.Post
-put-decimal-returns t c = rw (decimal-one (c .if1 .taken)) (refl, refl)
+put-decimal-returns t c = rw (decimal-one {n = c .before .before .args .n} (omega arith)) (refl, refl)
 
 put-decimal-put-decimal-requires : (t : ℕ) → put-decimal-lts.Need-put-decimal-requires (Calls t) (put-decimal-at t) put-decimal.Post
 put-decimal-put-decimal-requires t c κs =

@@ -1,5 +1,8 @@
 -- Refusals 2 to 4 of one node, test by test.
+use mathlib.Core.Path.{sym, ap}
+use mathlib.Core.Bool.{Bool}
 use borrow.Author.Tests.{eq-eqb, ne-eqb}
+use Rattle.model.specs.Refusals.{faultIf}
 use Rattle.model.specs.Program.{nodeFault}
 use borrow.Author.Needs.{needs}
 use Rattle.program.proofs.fault_of.Statement.{statement}
@@ -36,7 +39,8 @@ returns-3 c =
     let spare = c .before .before .before .before .before .spare in
     let spare2 = c .before .before .before .before .spare2 in
     let if2 = c .before .before .before .if2 in
-    rw (← kind-row .ensures, ne-eqb _ _ (if1 .left), ← spare .ensures, ← spare2 .ensures, if2 .left, c .if3 .taken)
+    rw (← kind-row .ensures, ne-eqb _ _ (if1 .left), ← spare .ensures, ← spare2 .ensures, if2 .left)
+    (ap (λ (b : Bool). faultIf b 4) (sym (c .if3 .taken)))
 
 returns-4 : tie.Need-returns-4
 unfolding nodeFault
@@ -46,7 +50,8 @@ returns-4 c =
     let spare = c .before .before .before .before .before .spare in
     let spare2 = c .before .before .before .before .spare2 in
     let if2 = c .before .before .before .if2 in
-    rw (← kind-row .ensures, ne-eqb _ _ (if1 .left), ← spare .ensures, ← spare2 .ensures, if2 .left, c .if3 .left)
+    rw (← kind-row .ensures, ne-eqb _ _ (if1 .left), ← spare .ensures, ← spare2 .ensures, if2 .left)
+    (ap (λ (b : Bool). faultIf b 4) (sym (c .if3 .left)))
 
 pub fault-of-spec : {M : Type 1} → statement M
 fault-of-spec =

@@ -63,8 +63,7 @@ crosses-requires-2 c κs =
     let read-node = c .before .before .before .before .before .before .read-node in
     let if1 = c .before .before .before .before .if1 in
     let next = c .before .before .before .next in
-    let q = sides _ _ (pre .0) (pre .1) _ (nodes-test .taken) _ (read-node .ensures) (if1 .taken) _ (next .ensures) in
-    (q .1, q .0)
+    search (sides _ _ (pre .0) (pre .1) _ (nodes-test .taken) _ (read-node .ensures) (if1 .taken) _ (next .ensures))
 
 add-x : tie.Need-add-x Inv-loop μ-loop Inv-nodes μ-nodes
 add-x c = omega arith

@@ -1,5 +1,6 @@
 -- A wait, and then nothing more.
 use mathlib.Core.Path.{sym}
+use native.Mathlib.Omega.{arith}
 use borrow.Author.Needs.{needs}
 use Rattle.laws.specs.Rules.Laws.{wait-short}
 use Rattle.rules.specs.Ran.{runOf}
@@ -9,13 +10,13 @@ use Rattle.rules.proofs.pause.Tie as tie
 
 returns : tie.Need-returns
 unfolding runOf
-returns c = record { is = sym (wait-ends _ _ _ (c .if1 .taken)); within = c .if1 .taken }
+returns c = record { is = sym (wait-ends _ _ _ (omega arith)); within = omega arith }
 
 unfinished-requires : tie.Need-unfinished-requires
 unfinished-requires c κs = search needs
 
 returns-2 : tie.Need-returns-2
-returns-2 c = stands-still (c .unfinished .ensures) (wait-short _ _ _ (c .before .if1 .left))
+returns-2 c = stands-still (c .unfinished .ensures) (wait-short _ _ _ (omega arith))
 
 pub pause-spec : {M : Type 1} → statement M
 pause-spec = tie.close (tie.spec returns unfinished-requires returns-2)

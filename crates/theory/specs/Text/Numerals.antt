@@ -47,69 +47,11 @@ module _ (m n : ℕ) where
   unfolding digits
   last-digit h = rw (digits, le-ltb n 10 h) refl
 
--- A numeral passes ---------------------------------------------------------------------------------------------------------------------
+-- What passes is a numeral -------------------------------------------------------------------------------------------------------------
 
 -- a zero stands in front only if it is alone
 abbrev noZero : List ℕ → Bool
 noZero w = eqb (length w) 1 || not (eqb (getD w 0 0) 48)
-
--- w is as the numeral of n, a number of at most k + 1 digits, is
-record Numeral (k n : ℕ) (w : List ℕ) : Type 0 where
-  value : valueFrom 0 w ≡ n
-  all : allDigits w ≡ true
-  some : 1 ≤ length w
-  short : length w ≤ suc k
-  front : 1 ≤ n → getD w 0 0 ≡ 48 → ⊥
-  leading : noZero w ≡ true
-
-short-numeral : (m k n : ℕ) → n < 10 → Numeral k n (digits (suc m) n)
-unfolding valueFrom allDigits
-short-numeral m k n h =
-    rw (one-digit m n h)
-    (record {
-      value = omega arith;
-      all = and-of (digit-of n h) refl;
-      some = omega arith;
-      short = omega arith;
-      front = λ l e. absurd (omega arith);
-      leading = refl;
-    })
-
-long-numeral : (m k n : ℕ) → 10 ≤ n → Numeral k (n / 10) (digits m (n / 10)) → Numeral (suc k) n (digits (suc m) n)
-long-numeral m k n h f =
-    let w = digits m (n / 10) in
-    let c = 48 + n % 10 in
-    let e : getD (w ++ (c ∷ [])) 0 0 ≡ getD w 0 0 = List·getD-append w (c ∷ []) 0 0 (omega arith) in
-    rw (last-digit m n h)
-    (record {
-      value = value-append 0 w c ∙ omega (arith, f .value);
-      all = all-append w c (f .all) (digit-of (n % 10) (omega arith));
-      some = simp length-append (omega arith);
-      short = simp length-append (omega (arith, f .short));
-      front = λ l z. f .front (omega arith) (sym e ∙ z);
-      leading = rw (ne-eqb _ 48 (λ z. f .front (omega arith) (sym e ∙ z))) (or-true (eqb (length (w ++ (c ∷ []))) 1));
-    })
-
-numeral : (m k n : ℕ) → k ≤ m → n < 10 ^ suc k → Numeral k n (digits (suc m) n)
-numeral m zero n l h = short-numeral m 0 n (omega (arith, pow-succ' 10 0))
-numeral zero (suc k) n l h = absurd (omega arith)
-numeral (suc m) (suc k) n l h =
-    by-le 10 n
-    (λ g. long-numeral (suc m) k n g (numeral m k (n / 10) (omega arith) (omega (arith, pow-succ' 10 (suc k)))))
-    (λ g. short-numeral (suc m) (suc k) n g)
-
-module _ (n : ℕ) (h : n ≤ 65535) where
-  five-digits : Numeral 4 n (decimal n)
-  five-digits = numeral 19 4 n (omega arith) (omega arith)
-
-  decimal-passes : (limit : ℕ) → n ≤ limit → isNumber limit (decimal n) ≡ true
-  unfolding isNumber
-  decimal-passes limit l =
-      let f = five-digits in
-      and-of (and-of (le-leb 1 _ (f .some)) (le-leb _ 5 (f .short)))
-      (and-of (f .all) (and-of (f .leading) (le-leb _ limit (omega (arith, f .value)))))
-
--- Nothing else passes ------------------------------------------------------------------------------------------------------------------
 
 -- digits behind a numeral that is not 0 make a numeral, with so much more room
 digits-behind : (m v : ℕ) (w : List ℕ) → 1 ≤ v → allDigits w ≡ true → digits m v ++ w ≡ digits (m + length w) (valueFrom v w)
@@ -173,6 +115,64 @@ module _ (limit : ℕ) (w : List ℕ) (e : isNumber limit w ≡ true) where
   number-decimal =
       let f = number-known in
       (valueFrom 0 w, f .small, run-decimal w (f .some) (f .short) (f .all) (f .leading))
+
+-- A numeral passes ---------------------------------------------------------------------------------------------------------------------
+
+-- w is as the numeral of n, a number of at most k + 1 digits, is
+record Numeral (k n : ℕ) (w : List ℕ) : Type 0 where
+  value : valueFrom 0 w ≡ n
+  all : allDigits w ≡ true
+  some : 1 ≤ length w
+  short : length w ≤ suc k
+  front : 1 ≤ n → getD w 0 0 ≡ 48 → ⊥
+  leading : noZero w ≡ true
+
+short-numeral : (m k n : ℕ) → n < 10 → Numeral k n (digits (suc m) n)
+unfolding valueFrom allDigits
+short-numeral m k n h =
+    rw (one-digit m n h)
+    (record {
+      value = omega arith;
+      all = and-of (digit-of n h) refl;
+      some = omega arith;
+      short = omega arith;
+      front = λ l e. absurd (omega arith);
+      leading = refl;
+    })
+
+long-numeral : (m k n : ℕ) → 10 ≤ n → Numeral k (n / 10) (digits m (n / 10)) → Numeral (suc k) n (digits (suc m) n)
+long-numeral m k n h f =
+    let w = digits m (n / 10) in
+    let c = 48 + n % 10 in
+    let e : getD (w ++ (c ∷ [])) 0 0 ≡ getD w 0 0 = List·getD-append w (c ∷ []) 0 0 (omega arith) in
+    rw (last-digit m n h)
+    (record {
+      value = value-append 0 w c ∙ omega (arith, f .value);
+      all = all-append w c (f .all) (digit-of (n % 10) (omega arith));
+      some = simp length-append (omega arith);
+      short = simp length-append (omega (arith, f .short));
+      front = λ l z. f .front (omega arith) (sym e ∙ z);
+      leading = rw (ne-eqb _ 48 (λ z. f .front (omega arith) (sym e ∙ z))) (or-true (eqb (length (w ++ (c ∷ []))) 1));
+    })
+
+numeral : (m k n : ℕ) → k ≤ m → n < 10 ^ suc k → Numeral k n (digits (suc m) n)
+numeral m zero n l h = short-numeral m 0 n (omega (arith, pow-succ' 10 0))
+numeral zero (suc k) n l h = absurd (omega arith)
+numeral (suc m) (suc k) n l h =
+    by-le 10 n
+    (λ g. long-numeral (suc m) k n g (numeral m k (n / 10) (omega arith) (omega (arith, pow-succ' 10 (suc k)))))
+    (λ g. short-numeral (suc m) (suc k) n g)
+
+module _ (n : ℕ) (h : n ≤ 65535) where
+  five-digits : Numeral 4 n (decimal n)
+  five-digits = numeral 19 4 n (omega arith) (omega arith)
+
+  decimal-passes : (limit : ℕ) → n ≤ limit → isNumber limit (decimal n) ≡ true
+  unfolding isNumber
+  decimal-passes limit l =
+      let f = five-digits in
+      and-of (and-of (le-leb 1 _ (f .some)) (le-leb _ 5 (f .short)))
+      (and-of (f .all) (and-of (f .leading) (le-leb _ limit (omega (arith, f .value)))))
 
 -- As model/TextPromises states it ------------------------------------------------------------------------------------------------------
 

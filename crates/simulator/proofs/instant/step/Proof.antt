@@ -1,5 +1,6 @@
 -- `step` meets its contract. Assumes nothing.
 use mathlib.Core.Path.{_∙_}
+use native.Mathlib.Omega.{arith}
 use borrow.Author.Needs.{needs}
 use Rattle.simulator.proofs.Cells.{net-length, refits}
 use Rattle.simulator.proofs.Passes.{stepped}
@@ -17,7 +18,7 @@ show-all-requires c κs =
     let pre = c .before .before .before .before .before .before .before .before .before .before .before .pre in
     let age-all = c .before .before .before .age-all in
     let tick = c .before .before .before .before .before .before .before .tick in
-    refits (pre .0) (age-all .kept .0 ∙ tick .kept .0)
+    refits (pre .0) (omega arith) (age-all .kept .0 ∙ tick .kept .0)
 
 settle-all-requires : tie.Need-settle-all-requires
 settle-all-requires c κs =
@@ -25,7 +26,7 @@ settle-all-requires c κs =
     let show-all = c .before .before .before .show-all in
     let age-all = c .before .before .before .before .before .before .before .age-all in
     let tick = c .before .before .before .before .before .before .before .before .before .before .before .tick in
-    refits (pre .0) (show-all .kept .1 .1 .0 ∙ age-all .kept .0 ∙ tick .kept .0)
+    refits (pre .0) (omega arith) (show-all .kept .1 .1 .0 ∙ age-all .kept .0 ∙ tick .kept .0)
 
 same-length : tie.Need-same-length
 same-length c = search needs

@@ -34,7 +34,7 @@ step-requires : tie.Need-step-requires Inv-loop μ-loop
 step-requires c κs =
     let pre = c .before .before .before .before .before .pre in
     let loop = c .before .before .loop in
-    (refits (pre .0) (loop .inv .1), omega (arith, loop .inv .2))
+    (refits (pre .0) (omega arith) (loop .inv .1), omega (arith, loop .inv .2))
 
 add-count : tie.Need-add-count Inv-loop μ-loop
 add-count c = omega arith
@@ -58,7 +58,7 @@ returns c =
     let loop = c .before .before .before .before .before .before .before .before .loop in
     let loop-test = c .before .before .before .before .before .before .before .loop-test in
     let step = c .before .before .before .before .before .step in
-    let z = stops (netOf (args .cells .now) (args .n)) (args .finish) (args .budget) (loop .count) (loop .state) _ (loop-test .taken) (step .ensures)
+    let z = stops (netOf (args .cells .now) (args .n)) (args .finish) (args .budget) (loop .count) (loop .state) _ (omega (arith, loop-test .taken)) (step .ensures)
     (sym (c .before .is-high .ensures) ∙ c .if1 .taken) in
     (sym (z .0) ∙ loop .inv .3, omega (arith, z .1, loop .inv .4))
 
@@ -73,7 +73,7 @@ loop-again c =
     let step = c .before .before .before .before .before .step in
     let pre = c .before .before .before .before .before .before .before .before .before .before .before .pre in
     let net = netOf (args .cells .now) (args .n) in
-    let z = goes-on net (args .finish) (args .budget) (loop .count) (loop .state) _ (loop-test .taken) (step .ensures) (sym (c .before .is-high .ensures) ∙ c .if1 .left) in (
+    let z = goes-on net (args .finish) (args .budget) (loop .count) (loop .state) _ (omega (arith, loop-test .taken)) (step .ensures) (sym (c .before .is-high .ensures) ∙ c .if1 .left) in (
       omega arith,
       step .kept .1 .1 .0 ∙ loop .inv .1,
       omega (arith, ap (λ (s : List ℕ). instantOf s) (step .ensures), count-now net (loop .state) (omega (arith, pre .0 .room, loop .inv .1)) (omega (arith, loop .inv .2)), loop .inv .2),

@@ -1,5 +1,6 @@
 -- `begin_state` meets its contract. Assumes nothing.
 use mathlib.Core.Path.{_∙_}
+use native.Mathlib.Omega.{arith}
 use borrow.Author.Needs.{needs}
 use Rattle.model.specs.Calls.{wordAt}
 use Rattle.simulator.proofs.Cells.{net-length, refits}
@@ -20,14 +21,14 @@ show-first-requires : tie.Need-show-first-requires
 show-first-requires c κs =
     let pre = c .before .before .before .before .before .before .before .before .pre in
     let clear = c .before .before .before .clear in
-    (refits (pre .0) (clear .kept .0), pre .1, pre .2)
+    (refits (pre .0) (omega arith) (clear .kept .0), pre .1, pre .2)
 
 settle-all-requires : tie.Need-settle-all-requires
 settle-all-requires c κs =
     let pre = c .before .before .before .before .before .before .before .before .before .before .before .before .pre in
     let show-first = c .before .before .before .show-first in
     let clear = c .before .before .before .before .before .before .before .clear in
-    refits (pre .0) (show-first .kept .1 .1 .1 .0 ∙ clear .kept .0)
+    refits (pre .0) (omega arith) (show-first .kept .1 .1 .1 .0 ∙ clear .kept .0)
 
 same-length : tie.Need-same-length
 same-length c = search needs

@@ -24,7 +24,6 @@ use Rattle.netlist.proofs.Writes.{sets-append}
 use Rattle.netlist.proofs.Bytes.{cells-more, cells-none, drop-cells, take-cells, cell-bytes-append}
 use Rattle.cells.specs.Moves.{movedFrom}
 use Rattle.cells.proofs.Turns.{by-less}
-use Rattle.cells.proofs.Listing.{bytes-append}
 
 -- Cell after cell ----------------------------------------------------------------------------------------------------------------------
 
@@ -59,7 +58,7 @@ module _ (k end : ℕ) (s : List ℕ) (i : ℕ) where
       let d : drop (6 * (i + 1)) t ≡ drop (6 * (i + 1)) s = rw (q, ← z) (drop-behind s (cellBytes (next ∷ [])) (6 * i) (omega (arith, six, h, g))) in
       let a : cellsAt inList s (i + 1) (end - i - 1) ≡ cellsAt inList t (i + 1) (end - (i + 1)) = rw m (sym (cells-same t s (6 * (i + 1)) d (i + 1) (end - (i + 1)) (omega arith))) in
       let b : sets s (6 * i) (cellBytes (next ∷ []) ++ cellBytes cs) ≡ sets t (6 * (i + 1)) (cellBytes cs) = rw (q, ← z) (sets-append s (6 * i) (cellBytes (next ∷ [])) (cellBytes cs)) in
-      rw (cells-more inList s i (end - i) (omega arith), ← e, ← f, cell-bytes-append next cs) (b ∙ ap (λ (ds : List Cell). sets t (6 * (i + 1)) (cellBytes (map (moved k) ds))) a)
+      rw (cells-more inList s i (end - i) (omega arith), ← e, ← f, cell-bytes-append (next ∷ []) cs) (b ∙ ap (λ (ds : List Cell). sets t (6 * (i + 1)) (cellBytes (map (moved k) ds))) a)
 
   pub bytes-done : end ≤ i → movedBytes k end s i ≡ s
   unfolding cellBytes
@@ -87,7 +86,7 @@ sets-bytes cs ds i h =
     let a : sets (cellBytes cs) (6 * i) (cellBytes ds) ≡ (take (6 * i) (cellBytes cs) ++ cellBytes ds) ++ drop (6 * i + length (cellBytes ds)) (cellBytes cs) =
     sets-eq (cellBytes ds) (cellBytes cs) (6 * i) (omega (arith, l, m, h)) in
     let b : sets cs i ds ≡ (take i cs ++ ds) ++ drop (i + length ds) cs = sets-eq ds cs i h in
-    a ∙ rw (z, take-bytes i cs, drop-bytes (i + length ds) cs, b, bytes-append (take i cs ++ ds) (drop (i + length ds) cs), bytes-append (take i cs) ds) refl
+    a ∙ rw (z, take-bytes i cs, drop-bytes (i + length ds) cs, b, cell-bytes-append (take i cs ++ ds) (drop (i + length ds) cs), cell-bytes-append (take i cs) ds) refl
 
 -- renumbering the six bytes of cells gives the six bytes of the cells renumbered
 pub renumber-bytes : (k end : ℕ) (cs : List Cell) (i : ℕ) → i ≤ end → end ≤ length cs → movedBytes k end (cellBytes cs) i ≡ cellBytes (movedFrom k end cs i)
@@ -139,7 +138,7 @@ put-in : (c : Checked) (cs lent : List Cell) (n f : ℕ)
     × (writing c (cellBytes cs) n f (cellBytes lent) .lent ≡ cellBytes (placing c 0 cs n f lent .lent))
 unfolding writing placing
 put-in Accepted cs lent n f =
-    (refl, rw (zero-add (length cs), bytes-append cs (drop (length cs) lent), bytes-length cs) (ap (λ (s : List ℕ). cellBytes cs ++ s) (drop-bytes (length cs) lent)))
+    (refl, rw (zero-add (length cs), cell-bytes-append cs (drop (length cs) lent), bytes-length cs) (ap (λ (s : List ℕ). cellBytes cs ++ s) (drop-bytes (length cs) lent)))
 put-in (Checked.Refused r) cs lent n f = (refl, refl)
 
 -- reading in front gives the cells whose six bytes each are read

@@ -77,9 +77,10 @@ unfolding cellBytes bytes16
 cell-bytes-length [] = refl
 cell-bytes-length (c ∷ cs) = omega (arith, cell-bytes-length cs)
 
-pub cell-bytes-append : (c : Cell) (cs : List Cell) → cellBytes (c ∷ cs) ≡ cellBytes (c ∷ []) ++ cellBytes cs
+pub cell-bytes-append : (cs ds : List Cell) → cellBytes (cs ++ ds) ≡ cellBytes cs ++ cellBytes ds
 unfolding cellBytes bytes16
-cell-bytes-append c cs = refl
+cell-bytes-append [] ds = refl
+cell-bytes-append (c ∷ cs) ds = rw (cell-bytes-append cs ds) refl
 
 pub cell-sum-append : (cs : List Cell) (t : List ℕ) → wordSum (cellBytes cs ++ t) ≡ wordSum (cellBytes cs) + wordSum t
 unfolding wordSum cellBytes bytes16
@@ -101,7 +102,7 @@ pub cell-added : (c : Cell) (sum : ℕ) {x y z : ℕ} → x ≡ (sum + (c .kind 
     → z ≡ (y + c .b) % 65536 → z ≡ (sum + wordSum (cellBytes (c ∷ []))) % 65536
 cell-added c sum e f g = rw (cell-sum c) (omega arith)
 
--- Cells put in one after another: what is still to be put in, and to be added ----------------------------------------------------------
+-- Cells put in one after another: what is still to be put in --------------------------------------------------------------------------
 
 module _ (at : ℕ → ℕ) (s : List ℕ) (k n : ℕ) (c : Cell) (more : 0 < n) (e : c ≡ cellFrom s (at k)) where
   pub put-more : (d : List ℕ) (i : ℕ) {d′ : List ℕ} → d′ ≡ sets d i (cellBytes (c ∷ []))
@@ -111,19 +112,9 @@ module _ (at : ℕ → ℕ) (s : List ℕ) (k n : ℕ) (c : Cell) (more : 0 < n)
       let l : length (cellBytes (c ∷ [])) ≡ 6 = cell-bytes-length (c ∷ []) in
       let q : sets d i (cellBytes (c ∷ []) ++ cellBytes cs) ≡ sets (sets d i (cellBytes (c ∷ []))) (i + 6) (cellBytes cs) =
       rw l at (sets-append d i (cellBytes (c ∷ [])) (cellBytes cs)) in
-      rw (cells-more at s k n more, ← e, cell-bytes-append c cs, f) q
-
-  pub added-more : (sum : ℕ) {next : ℕ} → next ≡ (sum + wordSum (cellBytes (c ∷ []))) % 65536
-      → (sum + wordSum (cellBytes (cellsAt at s k n))) % 65536 ≡ (next + wordSum (cellBytes (cellsAt at s (k + 1) (n - 1)))) % 65536
-  added-more sum f =
-      let cs = cellsAt at s (k + 1) (n - 1) in
-      rw (cells-more at s k n more, ← e, cell-bytes-append c cs, cell-sum-append (c ∷ []) (cellBytes cs), f) (omega arith)
+      rw (cells-more at s k n more, ← e, cell-bytes-append (c ∷ []) cs, f) q
 
 module _ (at : ℕ → ℕ) (s : List ℕ) (k n : ℕ) (none : n ≡ 0) where
   pub put-done : (d : List ℕ) (i : ℕ) → sets d i (cellBytes (cellsAt at s k n)) ≡ d
   unfolding cellBytes
   put-done d i = rw (cells-none at s k n none) refl
-
-  pub added-done : (sum : ℕ) → sum < 65536 → (sum + wordSum (cellBytes (cellsAt at s k n))) % 65536 ≡ sum
-  unfolding cellBytes wordSum
-  added-done sum h = rw (cells-none at s k n none) (omega arith)

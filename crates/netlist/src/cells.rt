@@ -54,30 +54,19 @@ pub fn put_cell(d: &mut [u8], i: usize, c: Cell, sum: u16) -> u16
     std::num::wrapping_add_u16(with_a, c.b)
 }
 
-// Puts n cells of s, from cell k on, in at i; answers the sum with their words added.
-pub fn put_cells(
-    d: &mut [u8],
-    i: usize,
-    s: &[u8],
-    layout: Layout,
-    k: usize,
-    n: usize,
-    sum: u16,
-) -> u16
+// Puts n cells of s, from cell k on, in at i.
+pub fn put_cells(d: &mut [u8], i: usize, s: &[u8], layout: Layout, k: usize, n: usize)
     requires { ⌜ Room layout (now s) (k + n) × (i + 6 * n ≤ length (now d)) ⌝ }
-    ensures put { λ _. ⌜ now (d .exit) ≡ sets (now (d .entry)) i (cellBytes (cellsAt (offset layout) (now (s .entry)) k n)) ⌝ }
-    ensures sum { λ r. ⌜ r ≡ (sum + wordSum (cellBytes (cellsAt (offset layout) (now (s .entry)) k n))) % 65536 ⌝ }
+    ensures { λ _. ⌜ now (d .exit) ≡ sets (now (d .entry)) i (cellBytes (cellsAt (offset layout) (now (s .entry)) k n)) ⌝ }
 {
     let mut to = i;
     let mut from = k;
     let mut left = n;
-    let mut total = sum;
     while 0 < left {
         let c = cell_at(s, layout, from);
-        total = put_cell(d, to, c, total);
+        put_cell(d, to, c, 0);
         to += 6;
         from += 1;
         left -= 1;
     }
-    total
 }

@@ -1,35 +1,42 @@
 // Netlists that a caller holds as a slice of cell structs, for callers in other languages: the answer is 48 bytes in a lent buffer (crate reply).
-// Every function here is thin: it takes the structs apart and calls a covered function on numbers or on a list of bytes.
+// Every function here is thin: it takes cells out of the slice, or puts them in, and calls covered functions on a cell by value.
 ghost use mathlib.Core.Path.{_≡_};
-ghost use Prim.Native.Nat.{_-_, _≤_};
-ghost use lib.ListN.{length};
+ghost use Prim.Native.Nat.{_-_, _*_, _≤_};
+ghost use lib.ListN.{length, take};
 ghost use lib.Seq.{sets};
 ghost use Rattle.model.specs.CellSlices.{behind, checkCellsCall, writeCellsCall, readCellsCall};
-ghost use Rattle.model.specs.NetlistFile.{cellsAt, inFile};
+ghost use Rattle.model.specs.NetlistFile.{cellsAt, inFile, blocksFor, fileOf};
 ghost use Rattle.reply.specs.Replies.{checkedReply, writtenReply, replied, roomFor, ifRoom};
 ghost use Rattle.netlist.specs.declared.cells.Layout.the-variants.{InFile};
 ghost use Rattle.netlist.specs.Offsets.{Room};
-ghost use Rattle.cells.specs.Lists.{Lists};
+ghost use Rattle.netlist.specs.Scans.{Scanned};
 ghost use Rattle.cells.specs.Moves.{movedFrom};
 
-pub mod list; // cells as six bytes each, by value
+mod checking; // what the check tells
 pub mod moves; // one cell moved, and cells of six bytes each
-pub mod reading; // what reading puts in
+mod reading; // what reading puts in
+mod writing; // what writing puts in
 
-use list::Listed;
 use model::Cell;
+use netlist::rules::Scan;
 
-// The cells of a slice as six bytes each.
-pub fn listed(cells: &[Cell]) -> Listed
-    ensures { λ r. ⌜ Lists r (now (cells .entry)) ⌝ }
+// What is found of a netlist's cells, one after another.
+fn scanned(cells: &[Cell], finish: u16) -> Scan
+    ensures { λ r. ⌜ Scanned (now (cells .entry)) finish (length (now (cells .entry))) r ⌝ }
 {
-    let mut p = list::none();
+    let n = cells.len();
+    let mut scan = netlist::rules::begin(n, finish as usize);
     let mut k: usize = 0;
-    while k < cells.len() {
-        p = list::with(p, cells[k]);
+    while k < n {
+        let c = cells[k];
+        let i = netlist::rules::input(n, k, c.a);
+        let j = netlist::rules::input(n, k, c.b);
+        let a = cells[i];
+        let b = cells[j];
+        scan = netlist::rules::step(scan, k, c, a.kind, b.kind);
         k += 1;
     }
-    p
+    scan
 }
 
 // Refusals 11 and 12 of a netlist.
@@ -38,8 +45,21 @@ pub extern "C" fn hub_check_cells(cells: &[Cell], finish: u16, reply: &mut [u8])
     ensures done { λ r. ⌜ r ≡ roomFor (now (reply .entry)) ⌝ }
     ensures reply { λ _. ⌜ now (reply .exit) ≡ ifRoom (now (reply .entry)) (replied (checkedReply (checkCellsCall (now (cells .entry)) finish)) (now (reply .entry))) (now (reply .entry)) ⌝ }
 {
-    let p = listed(cells);
-    list::check(p, finish, reply)
+    let scan = scanned(cells, finish);
+    checking::tell(scan, reply)
+}
+
+// Puts the first n cells in as their file.
+fn put_cells(cells: &[Cell], n: usize, finish: u16, file: &mut [u8])
+    requires { ⌜ (n ≤ length (now cells)) × (n ≤ 1024) × (512 * blocksFor n ≤ length (now file)) ⌝ }
+    ensures { λ _. ⌜ now (file .exit) ≡ sets (now (file .entry)) 0 (fileOf (take n (now (cells .entry))) finish) ⌝ }
+{
+    let mut k: usize = 0;
+    let mut sum: u16 = 0;
+    while k < n {
+        sum = netlist::blocks::put_next(file, k, n, finish, cells[k], sum);
+        k += 1;
+    }
 }
 
 // Writes a netlist as a file: refusals 11, 12, 14.
@@ -54,12 +74,14 @@ pub extern "C" fn hub_write_cells(
     ensures file { λ _. ⌜ now (file .exit) ≡ ifRoom (now (reply .entry)) (writeCellsCall (now (cells .entry)) finish (now (file .entry)) .lent) (now (file .entry)) ⌝ }
     ensures reply { λ _. ⌜ now (reply .exit) ≡ ifRoom (now (reply .entry)) (replied (writtenReply (writeCellsCall (now (cells .entry)) finish (now (file .entry)) .answer)) (now (reply .entry))) (now (reply .entry)) ⌝ }
 {
-    let p = listed(cells);
-    list::write(p, finish, file, reply)
+    let scan = scanned(cells, finish);
+    let p = writing::planned(scan, finish, file.len(), reply);
+    put_cells(cells, p.n, finish, file);
+    p.told
 }
 
 // Moves the inputs of the cells from number `from` up to `end` k places on.
-pub fn renumber(cells: &mut [Cell], from: usize, end: usize, k: u16)
+fn renumber(cells: &mut [Cell], from: usize, end: usize, k: u16)
     requires { ⌜ end ≤ length (now cells) ⌝ }
     ensures { λ _. ⌜ now (cells .exit) ≡ movedFrom k end (now (cells .entry)) from ⌝ }
 {
@@ -71,7 +93,7 @@ pub fn renumber(cells: &mut [Cell], from: usize, end: usize, k: u16)
 }
 
 // Puts the file's cells in from number `from` up to `end`, and moves their inputs k places on.
-pub fn place_cells(cells: &mut [Cell], from: usize, end: usize, k: u16, file: &[u8])
+fn place_cells(cells: &mut [Cell], from: usize, end: usize, k: u16, file: &[u8])
     requires { ⌜ (from ≤ end) × (end ≤ length (now cells)) × Room InFile (now file) (end - from) ⌝ }
     ensures { λ _. ⌜ now (cells .exit) ≡ sets (now (cells .entry)) from (behind k (cellsAt inFile (now (file .entry)) 0 (end - from))) ⌝ }
 {

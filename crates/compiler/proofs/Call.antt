@@ -22,7 +22,7 @@ use Rattle.laws.specs.Program.Size.{few-nodes}
 use Rattle.netlist.specs.declared.cells.Layout.the-variants.{InList}
 use Rattle.netlist.specs.Offsets.{Room}
 use Rattle.word.proofs.Puts.{overwrite-sets}
-use Rattle.netlist.proofs.Putting.{file-length}
+use Rattle.laws.specs.NetlistFile.Files.{file-length}
 use Rattle.netlist.proofs.Calls.{Tells, refused}
 use Rattle.program.specs.declared.Scanned.{Scanned}
 use Rattle.program.specs.Shape.{Scans, scanned-laid}

@@ -1,4 +1,4 @@
--- Cells in bytes: where they stand, how lists of them are taken apart, their bytes, and their sum. Assumes nothing.
+-- Cells in bytes: where they stand, how lists of them are taken apart, and their bytes and words. Assumes nothing.
 use mathlib.Core.List.{List, [], _∷_, _++_}
 use mathlib.Core.Path.{_≡_, refl, ap}
 use Prim.Native.Nat.{ℕ, zero, suc, _+_, _-_, _*_, _%_, _<_, _≤_, min}
@@ -9,7 +9,7 @@ use lib.Seq.{sets}
 use Rattle.model.specs.declared.Cell.{Cell}
 use Rattle.model.specs.Word.{bytes16, put16}
 use Rattle.model.specs.Circuit.{cellAt, noCell}
-use Rattle.model.specs.NetlistFile.{cellBytes, cellFrom, cellsAt, sumWith, sumAfter}
+use Rattle.model.specs.NetlistFile.{cellBytes, cellFrom, cellsAt, sumWith}
 use Rattle.netlist.specs.declared.cells.Layout.{Layout}
 use Rattle.netlist.specs.declared.cells.Layout.the-variants.{InList, InFile}
 use Rattle.netlist.specs.Offsets.{offset, size, Room}
@@ -70,16 +70,17 @@ module _ (at : ℕ → ℕ) (s : List ℕ) where
   take-cells (suc j) k zero = let e : min (suc j) 0 ≡ 0 = omega arith in rw e refl
   take-cells (suc j) k (suc n) = let e : min (suc j) (suc n) ≡ suc (min j n) = omega arith in rw (e, take-cells j (k + 1) n) refl
 
--- The bytes of cells -------------------------------------------------------------------------------------------------------------------
+-- The bytes and the words of cells -----------------------------------------------------------------------------------------------------
 
 pub cell-bytes-length : (cs : List Cell) → length (cellBytes cs) ≡ 6 * length cs
 unfolding cellBytes bytes16
 cell-bytes-length [] = refl
 cell-bytes-length (c ∷ cs) = omega (arith, cell-bytes-length cs)
 
-pub cell-bytes-append : (c : Cell) (cs : List Cell) → cellBytes (c ∷ cs) ≡ cellBytes (c ∷ []) ++ cellBytes cs
+pub cell-bytes-append : (cs ds : List Cell) → cellBytes (cs ++ ds) ≡ cellBytes cs ++ cellBytes ds
 unfolding cellBytes bytes16
-cell-bytes-append c cs = refl
+cell-bytes-append [] ds = refl
+cell-bytes-append (c ∷ cs) ds = rw (cell-bytes-append cs ds) refl
 
 -- One cell put in ----------------------------------------------------------------------------------------------------------------------
 
@@ -94,7 +95,7 @@ pub cell-added : (c : Cell) (sum : ℕ) {x y z : ℕ} → x ≡ (sum + (c .kind 
 unfolding sumWith
 cell-added c sum e f g = omega arith
 
--- Cells put in one after another: the rest put in, and the sum after it, come out as at the start ---------------------------------------
+-- Cells put in one after another: what is still to be put in --------------------------------------------------------------------------
 
 module _ (at : ℕ → ℕ) (s : List ℕ) (k n : ℕ) (c : Cell) (more : 0 < n) (e : c ≡ cellFrom s (at k)) where
   pub put-more : (d : List ℕ) (i : ℕ) {d′ : List ℕ} → d′ ≡ sets d i (cellBytes (c ∷ []))
@@ -104,17 +105,9 @@ module _ (at : ℕ → ℕ) (s : List ℕ) (k n : ℕ) (c : Cell) (more : 0 < n)
       let l : length (cellBytes (c ∷ [])) ≡ 6 = cell-bytes-length (c ∷ []) in
       let q : sets d i (cellBytes (c ∷ []) ++ cellBytes cs) ≡ sets (sets d i (cellBytes (c ∷ []))) (i + 6) (cellBytes cs) =
       rw l at (sets-append d i (cellBytes (c ∷ [])) (cellBytes cs)) in
-      rw (cells-more at s k n more, ← e, cell-bytes-append c cs, f) q
-
-  pub sum-more : (sum : ℕ) {next : ℕ} → next ≡ sumWith sum c → sumAfter sum (cellsAt at s k n) ≡ sumAfter next (cellsAt at s (k + 1) (n - 1))
-  unfolding sumAfter
-  sum-more sum f = rw (cells-more at s k n more, ← e, f) refl
+      rw (cells-more at s k n more, ← e, cell-bytes-append (c ∷ []) cs, f) q
 
 module _ (at : ℕ → ℕ) (s : List ℕ) (k n : ℕ) (none : n ≡ 0) where
   pub put-done : (d : List ℕ) (i : ℕ) → sets d i (cellBytes (cellsAt at s k n)) ≡ d
   unfolding cellBytes
   put-done d i = rw (cells-none at s k n none) refl
-
-  pub sum-done : (sum : ℕ) → sumAfter sum (cellsAt at s k n) ≡ sum
-  unfolding sumAfter
-  sum-done sum = rw (cells-none at s k n none) refl

@@ -20,7 +20,7 @@ use Rattle.netlist.specs.declared.cells.Layout.the-variants.{InList}
 use Rattle.netlist.specs.Offsets.{Room}
 use Rattle.word.proofs.Puts.{overwrite-sets}
 use Rattle.netlist.proofs.Bytes.{cells-length, cell-bytes-length}
-use Rattle.netlist.proofs.Putting.{file-length}
+use Rattle.laws.specs.NetlistFile.Files.{file-length}
 use Rattle.netlist.proofs.FileChecks.{neither, counted}
 
 -- what a call answers, and what it leaves in the lent list

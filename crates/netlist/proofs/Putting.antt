@@ -1,18 +1,26 @@
--- Blocks and files put in: a block from its parts and its running sum, a file as the blocks that are still to be put in. Assumes nothing.
-use mathlib.Core.List.{List, [], _++_}
-use mathlib.Core.Path.{_≡_, refl, sym}
-use Prim.Native.Nat.{ℕ, zero, suc, _+_, _-_, _*_, _%_, _<_, _≤_, min}
+-- Blocks and files put in: a block from its parts and its running sum, and a file cell by cell. Assumes nothing.
+use mathlib.Core.Bool.{true, false, _||_}
+use mathlib.Core.List.{List, [], _∷_, _++_, append-assoc, append-nil}
+use mathlib.Core.Path.{_≡_, refl, sym, _∙_}
+use Prim.Native.Nat.{ℕ, zero, suc, _+_, _-_, _*_, _/_, _%_, _<_, _≤_}
 use native.Mathlib.Omega.{arith}
 use native.Mathlib.Numerals.{add-one, towards-suc}
-use lib.ListN.{length, set, take, drop, replicate, length-append, length-replicate, length-take}
-use lib.Seq.{sets}
+use borrow.Author.Tests.{eqb-true, eqb-false, ne-eqb}
+use lib.Dec.{eqb}
+use lib.ListN.{length, set, take, drop, replicate, length-take, length-drop}
+use lib.Seq.{sets, take-suc, take-all, getD-drop, drop-drop}
 use Rattle.model.specs.declared.Cell.{Cell}
-use Rattle.model.specs.Word.{bytes16, put16}
-use Rattle.model.specs.NetlistFile.{cellBytes, cellsAt, inList, sumAfter, runningSum, checkFor, block, blocks, blocksFor, fileOf, restBytes}
+use Rattle.model.specs.Word.{pick, bytes16, put16}
+use Rattle.model.specs.Circuit.{cellAt, noCell}
+use Rattle.model.specs.NetlistFile.{cellBytes, sumWith, runningSum, checkFor, block, blocks, blocksFor, fileOf, restBytes}
+use Rattle.laws.specs.Refusals.Laws.{by-bool}
+use Rattle.laws.specs.NetlistFile.RunningSum.{running-sum}
+use Rattle.laws.specs.NetlistFile.Blocks.{blocks-length}
 use Rattle.netlist.specs.declared.blocks.Header.{Header}
-use Rattle.netlist.specs.Blocks.{headerBytes}
+use Rattle.netlist.specs.Blocks.{headerBytes, firstOf, filledTo, sumTo, Filled}
 use Rattle.netlist.proofs.Writes.{sets-append, sets-before}
-use Rattle.netlist.proofs.Bytes.{cells-length, drop-cells, take-cells, cell-bytes-length}
+use Rattle.netlist.proofs.Bytes.{cell-bytes-length, cell-bytes-append}
+use Rattle.netlist.proofs.FileChecks.{neither}
 
 -- Zeros --------------------------------------------------------------------------------------------------------------------------------
 
@@ -38,70 +46,136 @@ check-word h g e = omega arith
 
 -- Blocks -------------------------------------------------------------------------------------------------------------------------------
 
-rest-length : (cs : List Cell) → length cs ≤ 84 → length (restBytes cs) ≡ 504
-rest-length cs h = simp (length-append, length-replicate) (omega (arith, cell-bytes-length cs))
-
-pub block-length : (number count finish : ℕ) (cs : List Cell) → length cs ≤ 84 → length (block number count finish cs) ≡ 512
-unfolding block bytes16
-block-length number count finish cs h = omega (arith, rest-length cs h)
-
--- the cells of a block, and zeros after them
-pub rest-put : (d : List ℕ) (i n : ℕ) (cs : List Cell) {d₁ d₂ : List ℕ} → length cs ≡ n → n ≤ 84 → d₁ ≡ sets d (i + 8) (cellBytes cs)
-    → d₂ ≡ sets d₁ (i + 8 + 6 * n) (replicate (i + 512 - (i + 8 + 6 * n)) 0) → d₂ ≡ sets d (i + 8) (restBytes cs)
-rest-put d i n cs l h e f =
-    let z : i + 512 - (i + 8 + 6 * n) ≡ 504 - 6 * length cs = omega arith in
-    let b : i + 8 + 6 * n ≡ i + 8 + length (cellBytes cs) = omega (arith, cell-bytes-length cs) in
-    rw (f, z, b, e) (sym (sets-append d (i + 8) (cellBytes cs) (replicate (504 - 6 * length cs) 0)))
-
--- before its rest the header, with the check that comes from the running sum
-pub block-put : (d : List ℕ) (i : ℕ) (h : Header) (cs : List Cell) {head sum : ℕ} {d₁ d₂ : List ℕ} → d₁ ≡ sets d (i + 8) (restBytes cs)
-    → head ≡ runningSum (h .number) (h .count) (h .finish) [] → sum ≡ sumAfter head cs → d₂ ≡ sets d₁ i (headerBytes h ++ bytes16 (checkFor sum))
+-- a block's cells, zeros after them, and before them the header with the check that comes from the running sum
+block-put : (d : List ℕ) (i : ℕ) (h : Header) (cs : List Cell) {n sum : ℕ} {d₁ d₂ : List ℕ} → length cs ≡ n → d₁ ≡ sets d (i + 8) (cellBytes cs)
+    → sum ≡ runningSum (h .number) (h .count) (h .finish) cs
+    → d₂ ≡ sets (sets d₁ (i + 8 + 6 * n) (replicate (504 - 6 * n) 0)) i (headerBytes h ++ bytes16 (checkFor sum))
     → d₂ ≡ sets d i (block (h .number) (h .count) (h .finish) cs)
-unfolding block bytes16 runningSum sumAfter
-block-put d i h cs e b s f =
-    rw (f, e, s, b) (sets-before d i (headerBytes h ++ bytes16 (checkFor (runningSum (h .number) (h .count) (h .finish) cs))) (restBytes cs))
+unfolding block bytes16
+block-put d i h cs {n} l e s f =
+    let b : i + 8 + 6 * n ≡ i + 8 + length (cellBytes cs) = omega (arith, cell-bytes-length cs, l) in
+    rw (f, b, ← l, e, ← sets-append d (i + 8) (cellBytes cs) (replicate (504 - 6 * length cs) 0), s)
+    (sets-before d i (headerBytes h ++ bytes16 (checkFor (runningSum (h .number) (h .count) (h .finish) cs))) (restBytes cs))
 
 -- Files --------------------------------------------------------------------------------------------------------------------------------
 
--- of m blocks with n cells of s, those that are still to be put in, from block b on
-abbrev pub blocksFrom : List ℕ → ℕ → ℕ → ℕ → ℕ → List ℕ
-blocksFrom s m n finish b = blocks (m - b) b n finish (cellsAt inList s (84 * b) (n - 84 * b))
-
-pub file-begin : (s : List ℕ) (n finish : ℕ) → fileOf (cellsAt inList s 0 n) finish ≡ blocksFrom s (blocksFor n) n finish 0
-unfolding fileOf
-file-begin s n finish =
-    let e : blocksFor n - 0 ≡ blocksFor n = omega arith in let g : n - 0 ≡ n = omega arith in rw (e, g, cells-length inList s 0 n) refl
-
-module _ (s : List ℕ) (m n finish b : ℕ) where
-  blocks-more : {here : ℕ} → b < m → here ≡ min 84 (n - 84 * b)
-      → blocksFrom s m n finish b ≡ block b n finish (cellsAt inList s (84 * b) here) ++ blocksFrom s m n finish (b + 1)
-  unfolding blocks
-  blocks-more h t =
-      let e : m - b ≡ suc (m - (b + 1)) = omega arith in
-      let p : 84 * (b + 1) ≡ 84 * b + 84 = omega arith in
-      let q : n - (84 * b + 84) ≡ n - 84 * b - 84 = omega arith in
-      rw (e, p, q, t, take-cells inList s 84 (84 * b) (n - 84 * b), drop-cells inList s 84 (84 * b) (n - 84 * b)) refl
-
-  pub file-more : (d : List ℕ) {here : ℕ} {d′ : List ℕ} → b < m → here ≡ min 84 (n - 84 * b)
-      → d′ ≡ sets d (512 * b) (block b n finish (cellsAt inList s (84 * b) here))
-      → sets d (512 * b) (blocksFrom s m n finish b) ≡ sets d′ (512 * (b + 1)) (blocksFrom s m n finish (b + 1))
-  file-more d {here} h t e =
-      let B = block b n finish (cellsAt inList s (84 * b) here) in
-      let l : length B ≡ 512 = block-length b n finish _ (rw (cells-length inList s (84 * b) here) (omega arith)) in
-      let o : 512 * (b + 1) ≡ 512 * b + length B = omega arith in
-      rw (blocks-more h t, e, o) (sets-append d (512 * b) B (blocksFrom s m n finish (b + 1)))
-
-  pub file-done : (d : List ℕ) → m ≤ b → sets d (512 * b) (blocksFrom s m n finish b) ≡ d
-  unfolding blocks
-  file-done d h = let e : m - b ≡ 0 = omega arith in rw e refl
-
-blocks-length : (m b count finish : ℕ) (cs : List Cell) → length (blocks m b count finish cs) ≡ 512 * m
+blocks-last : (m b n f : ℕ) (cs : List Cell) → blocks (suc m) b n f cs ≡ blocks m b n f cs ++ block (b + m) n f (take 84 (drop (84 * m) cs))
 unfolding blocks
-blocks-length zero b count finish cs = refl
-blocks-length (suc m) b count finish cs =
-    simp length-append
-    (omega (arith, block-length b count finish (take 84 cs) (simp length-take (omega arith)), blocks-length m (b + 1) count finish (drop 84 cs)))
+blocks-last zero b n f cs = let e : b + 0 ≡ b = omega arith in rw e (append-nil (block b n f (take 84 cs)))
+blocks-last (suc m) b n f cs =
+    let e : b + suc m ≡ b + 1 + m = omega arith in
+    let z : 84 * suc m ≡ 84 + 84 * m = omega arith in
+    let B = block (b + 1 + m) n f (take 84 (drop (84 + 84 * m) cs)) in
+    let g : blocks (suc m) (b + 1) n f (drop 84 cs) ≡ blocks m (b + 1) n f (drop 84 cs) ++ B =
+    rw (drop-drop (84 * m) 84 cs) at (blocks-last m (b + 1) n f (drop 84 cs)) in
+    rw (e, z, g) (sym (append-assoc (block b n f (take 84 cs)) (blocks m (b + 1) n f (drop 84 cs)) B))
 
-pub file-length : (net : List Cell) (finish : ℕ) → length (fileOf net finish) ≡ 512 * blocksFor (length net)
-unfolding fileOf
-file-length net finish = blocks-length (blocksFor (length net)) 0 (length net) finish net
+module _ (net : List Cell) (finish : ℕ) (was : List ℕ) where
+  pub filled-none : (sum : ℕ) → Filled net finish was 0 sum was
+  unfolding fileOf blocks cellBytes
+  filled-none sum = record {
+    part = λ _. refl;
+    added = λ _ h. absurd (omega (arith, h));
+    whole = λ h. let e : blocksFor (length net) ≡ 0 = omega (arith, h) in rw e refl;
+  }
+
+  -- the number of the first j cells of a block
+  first-length : (b j : ℕ) → 84 * b + j ≤ length net → length (firstOf net b j) ≡ j
+  first-length b j h = omega (arith, h, length-take j (drop (84 * b) net), length-drop (84 * b) net)
+
+  module _ (b j : ℕ) {c : Cell} (h : 84 * b + j < length net) (e : cellAt net (84 * b + j) ≡ c) where
+    first-more : firstOf net b (j + 1) ≡ firstOf net b j ++ (c ∷ [])
+    first-more =
+        let l : j < length (drop (84 * b) net) = omega (arith, h, length-drop (84 * b) net) in
+        rw (add-one j, take-suc (drop (84 * b) net) j noCell l, getD-drop (84 * b) net j noCell, e) refl
+
+    filled-more : {d d′ : List ℕ} → d ≡ filledTo net finish was b j → d′ ≡ sets d (512 * b + 8 + 6 * j) (cellBytes (c ∷ []))
+        → d′ ≡ filledTo net finish was b (j + 1)
+    filled-more f g =
+        let cs = firstOf net b j in
+        let l : 512 * b + 8 + 6 * j ≡ 512 * b + 8 + length (cellBytes cs) =
+        omega (arith, cell-bytes-length cs, first-length b j (omega (arith, h))) in
+        rw (g, f, first-more, cell-bytes-append cs (c ∷ []), l) (sym (sets-append _ (512 * b + 8) (cellBytes cs) (cellBytes (c ∷ []))))
+
+    sum-more : {s s′ : ℕ} → s ≡ sumTo net finish b j → s′ ≡ sumWith s c → s′ ≡ sumTo net finish b (j + 1)
+    sum-more f g = rw (g, f, first-more) (sym (running-sum b (length net) finish .after (firstOf net b j) c))
+
+  -- a block that has all its cells, and is closed
+  filled-whole : (b j : ℕ) {h : Header} {sum : ℕ} {d d′ : List ℕ} → 84 * b + j ≤ length net → firstOf net b j ≡ firstOf net b 84
+      → h ≡ record { number = b; count = length net; finish = finish } → d ≡ filledTo net finish was b j → sum ≡ sumTo net finish b j
+      → d′ ≡ sets (sets d (512 * b + 8 + 6 * j) (replicate (504 - 6 * j) 0)) (512 * b) (headerBytes h ++ bytes16 (checkFor sum))
+      → d′ ≡ sets was 0 (blocks (b + 1) 0 (length net) finish net)
+  filled-whole b j {h} l a e f s g =
+      let B = blocks b 0 (length net) finish net in
+      let z : 512 * b ≡ 0 + length B = omega (arith, blocks-length b 0 (length net) finish net) in
+      let q : 0 + b ≡ b = omega arith in
+      let cs = firstOf net b j in
+      let top : Header = record { number = b; count = length net; finish = finish } in
+      let w = block-put (sets was 0 B) (512 * b) top cs (first-length b j l) f s (rw e at g) in
+      rw (add-one b, blocks-last b 0 (length net) finish net, q, ← a, sets-append was 0 B (block b (length net) finish cs), ← z) w
+
+  -- the running sum before a cell: its block's header has been added
+  sum-begun : (b j : ℕ) {h : Header} {s s′ : ℕ} → h ≡ record { number = b; count = length net; finish = finish } → (0 < j → s ≡ sumTo net finish b j)
+      → s′ ≡ pick (eqb j 0) (runningSum (h .number) (h .count) (h .finish) []) s → s′ ≡ sumTo net finish b j
+  sum-begun b zero e f g = rw (g, e) refl
+  sum-begun b (suc j) e f g = rw (g, ne-eqb (suc j) 0 (λ z. omega (arith, z))) (f (omega arith))
+
+  module _ (k : ℕ) {c : Cell} {h : Header} {s s₁ s₂ : ℕ} {d d₁ : List ℕ} (low : k < length net) (here : cellAt net k ≡ c)
+      (head : h ≡ record { number = k / 84; count = length net; finish = finish }) (p : Filled net finish was k s d)
+      (begun : s₁ ≡ pick (eqb (k % 84) 0) (runningSum (h .number) (h .count) (h .finish) []) s)
+      (put : d₁ ≡ sets d (512 * (k / 84) + 8 + 6 * (k % 84)) (cellBytes (c ∷ [])))
+      (added : s₂ ≡ sumWith s₁ c) where
+    at-k : 84 * (k / 84) + k % 84 ≡ k
+    at-k = omega arith
+
+    inside : 84 * (k / 84) + k % 84 < length net
+    inside = rw at-k low
+
+    stands : cellAt net (84 * (k / 84) + k % 84) ≡ c
+    stands = rw at-k here
+
+    next : d₁ ≡ filledTo net finish was (k / 84) (k % 84 + 1)
+    next = filled-more (k / 84) (k % 84) inside stands (p .part low) put
+
+    next-sum : s₂ ≡ sumTo net finish (k / 84) (k % 84 + 1)
+    next-sum = sum-more (k / 84) (k % 84) inside stands (sum-begun (k / 84) (k % 84) head (p .added low) begun) added
+
+    pub put-inside : {q : ℕ} → q ≡ length net → (eqb (k % 84) 83 || eqb (k + 1) q) ≡ false → Filled net finish was (k + 1) s₂ d₁
+    put-inside {q} l t =
+        let (inner, more) = neither (eqb (k % 84) 83) (eqb (k + 1) q) t in
+        let m = eqb-false (k % 84) 83 inner in
+        let b : (k + 1) / 84 ≡ k / 84 = omega (arith, m) in
+        let j : (k + 1) % 84 ≡ k % 84 + 1 = omega (arith, m) in
+        record {
+          part = λ _. rw (b, j) next;
+          added = λ _ _. rw (b, j) next-sum;
+          whole = λ g. absurd (omega (arith, g, low, l, eqb-false (k + 1) q more));
+        }
+
+    -- a block is closed when it is full, or when there are no more cells
+    last-of : {q : ℕ} → q ≡ length net → (eqb (k % 84) 83 || eqb (k + 1) q) ≡ true → k + 1 < length net → k % 84 ≡ 83
+    last-of {q} l t i =
+        by-bool (eqb (k % 84) 83) (eqb-true (k % 84) 83) (λ u. absurd (omega (arith, i, l, eqb-true (k + 1) q (rw u at t))))
+
+    all-first : {q : ℕ} → q ≡ length net → (eqb (k % 84) 83 || eqb (k + 1) q) ≡ true
+        → firstOf net (k / 84) (k % 84 + 1) ≡ firstOf net (k / 84) 84
+    all-first {q} l t =
+        by-bool (eqb (k % 84) 83) (λ u. rw (eqb-true (k % 84) 83 u) refl)
+        (λ u. let e = eqb-true (k + 1) q (rw u at t) in
+        let cs = drop (84 * (k / 84)) net in
+        let n = length-drop (84 * (k / 84)) net in
+        take-all (k % 84 + 1) cs (omega (arith, n, e, l)) ∙ sym (take-all 84 cs (omega (arith, n, e, l))))
+
+    pub put-last : {q : ℕ} {d₂ : List ℕ} → q ≡ length net → (eqb (k % 84) 83 || eqb (k + 1) q) ≡ true
+        → d₂ ≡ sets (sets d₁ (512 * (k / 84) + 8 + 6 * (k % 84 + 1)) (replicate (504 - 6 * (k % 84 + 1)) 0))
+        (512 * (k / 84)) (headerBytes h ++ bytes16 (checkFor s₂))
+        → Filled net finish was (k + 1) s₂ d₂
+    unfolding fileOf cellBytes
+    put-last {q} l t g =
+        let closed = filled-whole (k / 84) (k % 84 + 1) (omega (arith, low)) (all-first l t) head next next-sum g in
+        record {
+          part = λ i. let e = last-of l t i in
+              let b : (k + 1) / 84 ≡ k / 84 + 1 = omega (arith, e) in let j : (k + 1) % 84 ≡ 0 = omega (arith, e) in rw (b, j) closed;
+          added = λ i o. absurd (omega (arith, o, last-of l t i));
+          whole = λ i. let e : blocksFor (length net) ≡ k / 84 + 1 = omega (arith, i, low) in rw e closed;
+        }

@@ -1,4 +1,5 @@
 -- Definitions that the contracts cite beside those of model.
 pub mod Offsets
 pub mod Inputs
+pub mod Scans
 pub mod Blocks

@@ -1,16 +1,20 @@
 // Blocks of 512 bytes: refusals 10 and 11, and putting blocks in.
 // Each contract is an equation with model/NetlistFile; `sets d i v` is d with v put in at i.
 ghost use mathlib.Core.Path.{_≡_};
-ghost use mathlib.Core.List.{[], _++_};
-ghost use Prim.Native.Nat.{_+_, _-_, _*_, _^_, _<_, _≤_, min};
+ghost use mathlib.Core.List.{List, [], _++_};
+ghost use Prim.Native.Nat.{ℕ, _+_, _-_, _*_, _^_, _<_, _≤_};
+ghost use lib.Dec.{eqb};
 ghost use lib.ListN.{length, drop, replicate};
 ghost use lib.Seq.{sets};
-ghost use Rattle.model.specs.Word.{bytes16};
+ghost use Rattle.model.specs.declared.Cell.{Cell};
+ghost use Rattle.model.specs.Word.{pick, bytes16};
+ghost use Rattle.model.specs.Circuit.{cellAt};
 ghost use Rattle.model.specs.Refusals.{firstFault};
-ghost use Rattle.model.specs.NetlistFile.{cellsAt, inList, checkFor, block, blocksFor, fileOf, countOf, finishOf, blockAt, sumFault, countWrong, allZero, headerRight, headerFault, runningSum};
+ghost use Rattle.model.specs.NetlistFile.{cellsAt, inList, runningSum, checkFor, blocksFor, fileOf, countOf, finishOf, blockAt, sumFault, countWrong, allZero, headerRight, headerFault};
 ghost use Rattle.netlist.specs.Offsets.{Room};
-ghost use Rattle.netlist.specs.Blocks.{headerBytes};
+ghost use Rattle.netlist.specs.Blocks.{headerBytes, Filled};
 use crate::cells::Layout;
+use model::Cell;
 use model::Checked;
 use model::Refusal;
 
@@ -19,15 +23,6 @@ pub struct Header {
     pub number: u16,
     pub count: u16,
     pub finish: u16,
-}
-
-// How many of n cells stand in block b.
-fn cells_here(n: usize, b: usize) -> usize
-    requires { ⌜ 84 * b ≤ n ⌝ }
-    ensures { λ r. ⌜ r ≡ min 84 (n - 84 * b) ⌝ }
-{
-    let left = n - 84 * b;
-    if left < 84 { left } else { 84 }
 }
 
 // Checking -------------------------------------------------------------------------------------------------------------------------------
@@ -105,7 +100,7 @@ pub fn check_headers(s: &[u8], m: usize, count: usize, finish: usize) -> Checked
 
 // Putting in -----------------------------------------------------------------------------------------------------------------------------
 
-// The running sum of a block before its first cell.
+// What a block's running sum begins with.
 pub fn header_sum(h: Header) -> u16
     ensures { λ r. ⌜ r ≡ runningSum (h .number) (h .count) (h .finish) [] ⌝ }
 {
@@ -136,15 +131,44 @@ pub fn clear(d: &mut [u8], i: usize, end: usize)
     }
 }
 
-// Puts a block in at i, with n cells of a list from cell k on.
-pub fn put_block(d: &mut [u8], i: usize, h: Header, cells: &[u8], k: usize, n: usize)
-    requires { ⌜ (i + 512 ≤ length (now d)) × Room Layout.InList (now cells) (k + n) × (n ≤ 84) ⌝ }
-    ensures { λ _. ⌜ now (d .exit) ≡ sets (now (d .entry)) i (block (h .number) (h .count) (h .finish) (cellsAt inList (now (cells .entry)) k n)) ⌝ }
+// What the running sum is before cell j of a block.
+fn sum_before(h: Header, j: usize, sum: u16) -> u16
+    ensures { λ r. ⌜ r ≡ pick (eqb j 0) (runningSum (h .number) (h .count) (h .finish) []) sum ⌝ }
 {
-    let head = header_sum(h);
-    let sum = crate::cells::put_cells(d, i + 8, cells, Layout::InList, k, n, head);
+    if j == 0 {
+        return header_sum(h);
+    }
+    sum
+}
+
+// Puts what the block at i has beside its n cells in: zeros after them, and the header.
+fn close_block(d: &mut [u8], i: usize, h: Header, n: usize, sum: u16)
+    requires { ⌜ (i + 512 ≤ length (now d)) × (n ≤ 84) ⌝ }
+    ensures { λ _. ⌜ now (d .exit) ≡ sets (sets (now (d .entry)) (i + 8 + 6 * n) (replicate (504 - 6 * n) 0)) i (headerBytes h ++ bytes16 (checkFor sum)) ⌝ }
+{
     clear(d, i + 8 + 6 * n, i + 512);
     put_header(d, i, h, sum);
+}
+
+// Puts cell k of n, which is c, into their file, and with the last cell of a block what else the block has; answers the running sum.
+pub fn put_next(d: &mut [u8], k: usize, n: usize, finish: u16, c: Cell, sum: u16) -> u16
+    requires { ⌜ (k < n) × (n ≤ 1024) × (512 * blocksFor n ≤ length (now d)) ⌝ }
+    ensures { λ r. ⌜ ((net : List Cell) (was : List ℕ) → length net ≡ n → cellAt net k ≡ c → Filled net finish was k sum (now (d .entry)) → Filled net finish was (k + 1) r (now (d .exit))) ⌝ }
+{
+    let b = k / 84;
+    let j = k % 84;
+    let h = Header {
+        number: b as u16,
+        count: n as u16,
+        finish,
+    };
+    let before = sum_before(h, j, sum);
+    let total = crate::cells::put_cell(d, 512 * b + 8 + 6 * j, c, before);
+    if (j == 83) | (k + 1 == n) {
+        close_block(d, 512 * b, h, j + 1, total);
+        return total;
+    }
+    total
 }
 
 // Puts the file of a list of n cells in.
@@ -152,15 +176,11 @@ pub fn put_file(d: &mut [u8], cells: &[u8], n: usize, finish: u16)
     requires { ⌜ (512 * blocksFor n ≤ length (now d)) × Room Layout.InList (now cells) n ⌝ }
     ensures { λ _. ⌜ now (d .exit) ≡ sets (now (d .entry)) 0 (fileOf (cellsAt inList (now (cells .entry)) 0 n) finish) ⌝ }
 {
-    let m = (n + 83) / 84;
-    let mut b: usize = 0;
-    while b < m {
-        let h = Header {
-            number: b as u16,
-            count: n as u16,
-            finish,
-        };
-        put_block(d, 512 * b, h, cells, 84 * b, cells_here(n, b));
-        b += 1;
+    let mut k: usize = 0;
+    let mut sum: u16 = 0;
+    while k < n {
+        let c = crate::cells::cell_at(cells, Layout::InList, k);
+        sum = put_next(d, k, n, finish, c, sum);
+        k += 1;
     }
 }

@@ -90,6 +90,6 @@ pub fn read_netlist(file: &[u8], cells: &mut [u8]) -> Written
             place: 0,
         });
     }
-    cells::put_cells(cells, 0, file, Layout::InFile, 0, count, 0);
+    cells::put_cells(cells, 0, file, Layout::InFile, 0, count);
     Written::Done { count, finish }
 }

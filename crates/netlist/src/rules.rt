@@ -1,19 +1,32 @@
-// Refusal 12: the rules that the cells of a netlist keep, in a list or in a file.
-// Each contract is an equation with model/NetlistFile, over the cells that the bytes hold.
+// Refusal 12: the rules that the cells of a netlist keep. One step looks at one cell, whether it stands in a list, in a file or as a struct.
+// Each contract is an equation with model/NetlistFile, or says what is found of the netlist's first cells (specs/Scans).
 ghost use mathlib.Core.Path.{_≡_};
-ghost use mathlib.Core.Bool.{not};
+ghost use mathlib.Core.Bool.{_&&_};
 ghost use mathlib.Core.List.{List};
-ghost use Prim.Native.Nat.{_<_};
+ghost use Prim.Native.Nat.{ℕ, _+_, _^_, _<_, _≤_};
+ghost use lib.Dec.{ltb, eqb};
+ghost use lib.ListN.{length};
 ghost use Rattle.model.specs.declared.Cell.{Cell};
-ghost use Rattle.model.specs.Circuit.{cellAt, control, memories, shape};
-ghost use Rattle.model.specs.Refusals.{firstFault, faultIf};
-ghost use Rattle.model.specs.NetlistFile.{cellsAt, keeps, placed, cellFault, netCheck};
+ghost use Rattle.model.specs.Word.{pick};
+ghost use Rattle.model.specs.Circuit.{cellAt, control, shape};
+ghost use Rattle.model.specs.NetlistFile.{cellsAt, keeps, placed, netCheck};
 ghost use Rattle.netlist.specs.Offsets.{offset, Room};
 ghost use Rattle.netlist.specs.Inputs.{Inputs};
+ghost use Rattle.netlist.specs.Scans.{Stands, Scanned};
 use crate::cells::Layout;
 use model::Cell;
 use model::Checked;
 use model::Refusal;
+
+// A netlist of n cells, and what is found of its first ones: how many of them keep the rules, how many are memories, and whether the
+// finish is among them and is a control wire.
+pub struct Scan {
+    pub n: usize,
+    pub finish: usize,
+    pub kept: usize,
+    pub memories: usize,
+    pub control: bool,
+}
 
 fn is_control(kind: u8) -> bool
     ensures { λ r. ⌜ r ≡ control kind ⌝ }
@@ -76,47 +89,84 @@ fn keeps_rule(n: usize, k: usize, c: Cell, ca: bool, cb: bool) -> bool
     }
 }
 
-// Whether cell k of n keeps the rules.
-fn keeps_rules(s: &[u8], layout: Layout, n: usize, k: usize) -> bool
-    requires { ⌜ Room layout (now s) n × (k < n) ⌝ }
-    ensures { λ r. ⌜ cellFault (cellsAt (offset layout) (now (s .entry)) 0 n) k ≡ faultIf (not r) 12 ⌝ }
+// One cell more, where all before it keep the rules and it does, too.
+fn with_next(kept: usize, k: usize, right: bool) -> usize
+    requires { ⌜ k + 1 < 2 ^ 64 ⌝ }
+    ensures { λ r. ⌜ r ≡ pick (eqb kept k && right) (k + 1) kept ⌝ }
 {
-    let c = crate::cells::cell_at(s, layout, k);
-    let ca = is_control(kind_at(s, layout, n, c.a as usize));
-    let cb = is_control(kind_at(s, layout, n, c.b as usize));
-    let kept = keeps_rule(n, k, c, ca, cb);
-    is_placed(k, c) & kept
+    if (kept == k) & right {
+        return k + 1;
+    }
+    kept
 }
 
-// The first cell of n that breaks a rule.
-fn check_rules(s: &[u8], layout: Layout, n: usize) -> Checked
-    requires { ⌜ Room layout (now s) n ⌝ }
-    ensures { λ r. ⌜ r ≡ firstFault (cellFault (cellsAt (offset layout) (now (s .entry)) 0 n)) 0 n ⌝ }
+pub fn begin(n: usize, finish: usize) -> Scan
+    ensures { λ r. ⌜ ((net : List Cell) → length net ≡ n → Scanned net finish 0 r) ⌝ }
 {
-    let mut k: usize = 0;
-    while k < n {
-        if !keeps_rules(s, layout, n, k) {
-            return Checked::Refused(Refusal {
-                number: 12,
-                place: k,
-            });
-        }
-        k += 1;
+    Scan {
+        n,
+        finish,
+        kept: 0,
+        memories: 0,
+        control: false,
     }
-    Checked::Accepted
 }
 
-fn count_memories(s: &[u8], layout: Layout, n: usize) -> u16
-    requires { ⌜ Room layout (now s) n ⌝ }
-    ensures { λ r. ⌜ r ≡ memories (cellsAt (offset layout) (now (s .entry)) 0 n) ⌝ }
+// The cell to look at for input j of cell k: cell j, or cell k itself past the last.
+pub fn input(n: usize, k: usize, j: u16) -> usize
+    ensures { λ r. ⌜ r ≡ pick (ltb j n) j k ⌝ }
 {
-    let mut k: usize = 0;
-    let mut found: u16 = 0;
-    while k < n {
-        found += word::bit(kind_at(s, layout, n, k) == 40);
-        k += 1;
+    let i = j as usize;
+    if i < n {
+        return i;
     }
-    found
+    k
+}
+
+// The scan with cell k, which is c; a and b are the kinds of the cells that its inputs name.
+pub fn step(s: Scan, k: usize, c: Cell, a: u8, b: u8) -> Scan
+    requires { ⌜ (k < s .n) × (s .memories ≤ k) ⌝ }
+    ensures { λ r. ⌜ ((net : List Cell) (finish : ℕ) → Stands net k c a b → Scanned net finish k s → Scanned net finish (k + 1) r) ⌝ }
+{
+    let n = s.n;
+    let ca = ((c.a as usize) < n) & is_control(a);
+    let cb = ((c.b as usize) < n) & is_control(b);
+    let keeps = keeps_rule(n, k, c, ca, cb);
+    let kept = with_next(s.kept, k, is_placed(k, c) & keeps);
+    let memory = word::bit(c.kind == 40) as usize;
+    let found = (s.finish == k) & is_control(c.kind);
+    Scan {
+        n,
+        finish: s.finish,
+        kept,
+        memories: s.memories + memory,
+        control: s.control | found,
+    }
+}
+
+// Refusal 12, when every cell is looked at.
+pub fn told(s: Scan) -> Checked
+    ensures { λ r. ⌜ ((net : List Cell) (finish : ℕ) → Scanned net finish (length net) s → r ≡ netCheck net finish) ⌝ }
+{
+    if s.kept < s.n {
+        return Checked::Refused(Refusal {
+            number: 12,
+            place: s.kept,
+        });
+    }
+    if s.memories != 16 {
+        return Checked::Refused(Refusal {
+            number: 12,
+            place: s.n,
+        });
+    }
+    if s.control {
+        return Checked::Accepted;
+    }
+    Checked::Refused(Refusal {
+        number: 12,
+        place: s.finish,
+    })
 }
 
 // Refusal 12, of n cells and their finish.
@@ -124,21 +174,14 @@ pub fn check_cells(s: &[u8], layout: Layout, n: usize, finish: usize) -> Checked
     requires { ⌜ Room layout (now s) n ⌝ }
     ensures { λ r. ⌜ r ≡ netCheck (cellsAt (offset layout) (now (s .entry)) 0 n) finish ⌝ }
 {
-    let rules = check_rules(s, layout, n);
-    if let Checked::Refused(r) = rules {
-        return Checked::Refused(r);
+    let mut scan = begin(n, finish);
+    let mut k: usize = 0;
+    while k < n {
+        let c = crate::cells::cell_at(s, layout, k);
+        let a = kind_at(s, layout, n, c.a as usize);
+        let b = kind_at(s, layout, n, c.b as usize);
+        scan = step(scan, k, c, a, b);
+        k += 1;
     }
-    if count_memories(s, layout, n) != 16 {
-        return Checked::Refused(Refusal {
-            number: 12,
-            place: n,
-        });
-    }
-    if is_control(kind_at(s, layout, n, finish)) {
-        return Checked::Accepted;
-    }
-    Checked::Refused(Refusal {
-        number: 12,
-        place: finish,
-    })
+    told(scan)
 }

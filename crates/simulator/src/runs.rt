@@ -22,7 +22,7 @@ fn load(cells: &mut [u8], file: &[u8]) -> usize
     ensures cells { λ r. ⌜ netOf (now (cells .exit)) r ≡ cellsOf (now (file .entry)) ⌝ }
 {
     let n = word::get16(file, 2) as usize;
-    netlist::cells::put_cells(cells, 0, file, Layout::InFile, 0, n, 0);
+    netlist::cells::put_cells(cells, 0, file, Layout::InFile, 0, n);
     n
 }
 

@@ -1,7 +1,8 @@
--- `hub_check_cells` meets its contract: a walk of its MIR, by hand. The slice of cells is Copy: one copy goes to `listed`, beside the lifetime's token, which
--- comes back, and one is kept for the exit. What `listed` returns goes to `list::check`, with the reply, which is given up for good. Assumes nothing.
+-- `hub_check_cells` meets its contract: a walk of its MIR, by hand. The slice of cells is Copy: one copy goes to `scanned`, beside the lifetime's token, which
+-- comes back, and one is kept for the exit. What `scanned` returns goes to `checking::tell`, with the reply, which is given up for good. Assumes nothing.
 use mathlib.Core.Path.{_≡_, refl}
-use Prim.Native.Nat.{ℕ, _<_, _^_}
+use Prim.Native.Nat.{ℕ, _*_, _<_, _^_}
+use native.Mathlib.Omega.{arith}
 use mathlib.Core.Bool.{Bool}
 use mathlib.Core.List.{List, [], _∷_}
 use lib.ListN.{length}
@@ -41,19 +42,19 @@ use Rattle.model.specs.declared.Cell.{Cell}
 use Rattle.model.specs.CellSlices.{checkCellsCall}
 use Rattle.reply.specs.Replies.{checkedReply, replied, roomFor, ifRoom}
 use Rattle.model.proofs.Cell as T
-use Rattle.cells.specs.declared.list.Listed.{Listed}
-use Rattle.cells.specs.Lists.{Fits, Lists}
+use Rattle.netlist.specs.declared.rules.Scan.{Scan}
+use Rattle.netlist.specs.Scans.{Scanned}
+use Rattle.netlist.proofs.rules.Scan as S
+use Rattle.netlist.proofs.rules.Scan.Laws as S′
 use Rattle.cells.proofs.Saying.{says-two}
-use Rattle.cells.proofs.list.Listed as L
-use Rattle.cells.proofs.list.Listed.Laws as L′
-use Rattle.cells.proofs.listed as listed
-use Rattle.cells.proofs.listed.Symbol as listed-def
-use Rattle.cells.proofs.listed.Symbol.{name as #cells·listed}
-use Rattle.cells.proofs.listed.Met as listed-thm
-use Rattle.cells.proofs.list.check as check
-use Rattle.cells.proofs.list.check.Symbol as check-def
-use Rattle.cells.proofs.list.check.Symbol.{name as #cells·list·check}
-use Rattle.cells.proofs.list.check.Met as check-thm
+use Rattle.cells.proofs.scanned as scanned
+use Rattle.cells.proofs.scanned.Symbol as scanned-def
+use Rattle.cells.proofs.scanned.Symbol.{name as #cells·scanned}
+use Rattle.cells.proofs.scanned.Met as scanned-thm
+use Rattle.cells.proofs.checking.tell as tell
+use Rattle.cells.proofs.checking.tell.Symbol as tell-def
+use Rattle.cells.proofs.checking.tell.Symbol.{name as #cells·checking·tell}
+use Rattle.cells.proofs.checking.tell.Met as tell-thm
 use Rattle.cells.proofs.hub_check_cells.Key.{name as #cells·hub-check-cells}
 use Rattle.cells.proofs.hub_check_cells as f
 use Rattle.cells.proofs.hub_check_cells.Statement as stated
@@ -71,11 +72,11 @@ Tells cs finish reply r zs = (r ≡ roomFor reply) × (zs ≡ ifRoom reply (repl
 
 module _ {M : Type 1} (𝓤 : URA M) (H : Heap 𝓤) (A : Atoms 𝓤) (mem : Memory → SProp 𝓤) (run : Routine → Fun 𝓤) where
   -- the contracts that the proof cites
-  abbrev Listing : Contract 𝓤
-  Listing = tripleOf 𝓤 H A listed.signature (listed.spec 𝓤 H A mem run)
+  abbrev Scanning : Contract 𝓤
+  Scanning = tripleOf 𝓤 H A scanned.signature (scanned.spec 𝓤 H A mem run)
 
-  abbrev Check : Contract 𝓤
-  Check = tripleOf 𝓤 H A check.signature (check.spec 𝓤 H A mem run)
+  abbrev Tell : Contract 𝓤
+  Tell = tripleOf 𝓤 H A tell.signature (tell.spec 𝓤 H A mem run)
 
 module _ {M : Type 1} (𝓤 : URA M) (H : Heap 𝓤) (A : Atoms 𝓤) (W : Given 𝓤 H A) (mem : Memory → SProp 𝓤) (run : Routine → Fun 𝓤) (κ η : Lft) (q q₁ : Share) (b o : ℕ) (γ : GName) (xs : List Cell) (finish : ℕ)
     (b₁ o₁ : ℕ) (γ₁ : GName) (ys : List ℕ) (room : Room T.the-row (length xs)) (finish-fits : finish < 2 ^ 16) (room₁ : Room u8 (length ys)) where
@@ -106,31 +107,35 @@ module _ {M : Type 1} (𝓤 : URA M) (H : Heap 𝓤) (A : Atoms 𝓤) (W : Given
   abbrev Reply : Fml
   Reply = MutSlice (named 0) η u8 .own d (v₁ ∷ [])
 
-  abbrev to : Listing 𝓤 H A mem run .Ghost
-  to = (((κ, tt), (q, tt), tt, (s, tt), (v ∷ [], tt)), tt)
+  abbrev to : Scanning 𝓤 H A mem run .Ghost
+  to = (((κ, tt), (q, tt), tt, (s, (finish, tt)), (v ∷ [], (vint w16 finish ∷ [], tt))), tt)
 
-  -- what the slice of cells owns, twice: once for `listed`; and the reply, with its token
-  apart : ent 𝓤 (onEntry 𝓤 H A f.signature (κ, (η, tt)) (q, (q₁, tt)) x at) (sep 𝓤 (Listing 𝓤 H A mem run .pre to) (sep 𝓤 (sem 𝓤 H A Own) (sep 𝓤 (A .lft η q₁) (sem 𝓤 H A Reply))))
+  -- what the slice of cells owns, twice: once for `scanned`; and the reply, with its token
+  apart : ent 𝓤 (onEntry 𝓤 H A f.signature (κ, (η, tt)) (q, (q₁, tt)) x at) (sep 𝓤 (Scanning 𝓤 H A mem run .pre to) (sep 𝓤 (sem 𝓤 H A Own) (sep 𝓤 (A .lft η q₁) (sem 𝓤 H A Reply))))
   apart =
       qed W ((‵ (flft κ q) ⊛ (‵ (flft η q₁) ⊛ ‵ ftrue)) ∷ ‵ (owns (ShrSlice (named 0) κ T.the-row ∷ u16 ∷ MutSlice (named 1) η u8 ∷ []) x at) ∷ []) ∵ move ! (1 ∷ []) $ fsplit ! $ move ! (1 ∷ []) $ fsplit ! $ drop ! $ fsplit ! $
       -- [the reply; true; the cells; the tokens]
       move ! (2 ∷ []) $ use1 W (‵ Own ⊛ ‵ Own) (shr-slice-copy 𝓤 H A W (named 0) κ T.the-row .twice s (v ∷ [])) $ split ! $
       move ! (4 ∷ []) $ split ! $ move ! (1 ∷ []) $ split ! $
       -- [the reply's token; true; the cells' token; the cells; again; the reply; true]
-      nothing ! $ move ! (4 ∷ 0 ∷ []) $ fjoin ! $ move ! (3 ∷ 2 ∷ []) $ join ! $ move ! (0 ∷ 1 ∷ []) $ join ! $ nothing ! $ move ! (1 ∷ 0 ∷ []) $ join ! $ frame ! $
+      nothing ! $ owned ! u16 (Is u16) (uint-makes 𝓤 H A W w16) finish _ (refl, finish-fits) $ fjoin ! $ move ! (4 ∷ 0 ∷ []) $ fjoin ! $ move ! (3 ∷ 2 ∷ []) $ join ! $ move ! (0 ∷ 1 ∷ []) $ join ! $ nothing ! $ move ! (1 ∷ 0 ∷ []) $ join ! $ frame ! $
       -- [the reply's token; the cells; the reply; true]
       keep ! (1 ∷ 0 ∷ 2 ∷ []) $ done !
 
-  said : (r : Listed) → ent 𝓤 (ensured 𝓤 H A listed.ended (listed.clauses 𝓤 H A mem run) (κ, tt) (s, tt) tt r) (fact 𝓤 (Lists r xs))
-  said r = exE 𝓤 _ (λ ws. snd∗ 𝓤 (sem 𝓤 H A (lasts listed.ended (κ, tt) (s, tt) ws)) (fact 𝓤 (Lists r xs)))
+  said : (r : Scan) → ent 𝓤 (ensured 𝓤 H A scanned.ended (scanned.clauses 𝓤 H A mem run) (κ, tt) (s, (finish, tt)) tt r) (fact 𝓤 (Scanned xs finish (length xs) r))
+  said r = exE 𝓤 _ (λ ws. snd∗ 𝓤 (sem 𝓤 H A (lasts scanned.ended (κ, tt) (s, (finish, tt)) ws)) (fact 𝓤 (Scanned xs finish (length xs) r)))
 
-  abbrev to-check : Listed → Val → Check 𝓤 H A mem run .Ghost
-  to-check p u = (((η, tt), (q₁, tt), tt, (p, (finish, (d, tt))), (u ∷ [], (vint w16 finish ∷ [], (v₁ ∷ [], tt)))), tt)
+  abbrev to-tell : Scan → Val → Tell 𝓤 H A mem run .Ghost
+  to-tell p u = (((η, tt), (q₁, tt), tt, (p, (d, tt)), (u ∷ [], (v₁ ∷ [], tt))), tt)
 
-  asked : (p : Listed) (u : Val) → Fits p → ent 𝓤 (sep 𝓤 (sem 𝓤 H A (L.the-row .own p (u ∷ []))) (sep 𝓤 (A .lft η q₁) (sem 𝓤 H A Reply))) (Check 𝓤 H A mem run .pre (to-check p u))
+  asked : (p : Scan) (u : Val) → 6 * p .n < 2 ^ 63 → ent 𝓤 (sep 𝓤 (sem 𝓤 H A (S.the-row .own p (u ∷ []))) (sep 𝓤 (A .lft η q₁) (sem 𝓤 H A Reply))) (Tell 𝓤 H A mem run .pre (to-tell p u))
   asked p u fit =
-      qed W (‵ (L.the-row .own p (u ∷ [])) ∷ ‵ (flft η q₁) ∷ ‵ Reply ∷ []) ∵ says ! fit $ nothing ! $ move ! (2 ∷ 0 ∷ []) $ join ! $ frame ! $
-      nothing ! $ move ! (2 ∷ 0 ∷ []) $ fjoin ! $ owned ! u16 (Is u16) (uint-makes 𝓤 H A W w16) finish _ (refl, finish-fits) $ fjoin ! $ move ! (1 ∷ 0 ∷ []) $ fjoin ! $ done !
+      qed W (‵ (S.the-row .own p (u ∷ [])) ∷ ‵ (flft η q₁) ∷ ‵ Reply ∷ []) ∵ says ! fit $ nothing ! $ move ! (2 ∷ 0 ∷ []) $ join ! $ frame ! $
+      nothing ! $ move ! (2 ∷ 0 ∷ []) $ fjoin ! $ move ! (1 ∷ 0 ∷ []) $ fjoin ! $ done !
+
+  -- as many cells as the scan counts fit in memory
+  counts : (p : Scan) → Scanned xs finish (length xs) p → 6 * p .n < 2 ^ 63
+  counts p e = omega (arith, room .1, e .count)
 
   exits : (r : Bool) (u : Val) (zs : List ℕ) → Tells xs finish ys r zs → length zs ≡ length ys
       → ent 𝓤 (⋆ 𝓤 H A (‵ (bool .own r (u ∷ [])) ∷ (‵ (flft η q₁) ⊛ ‵ ftrue) ∷ ‵ (finally u8 γ₁ zs) ∷ (‵ (flft κ q) ⊛ ‵ ftrue) ∷ ‵ Own ∷ [])) (Post u)
@@ -141,47 +146,47 @@ module _ {M : Type 1} (𝓤 : URA M) (H : Heap 𝓤) (A : Atoms 𝓤) (W : Given
       -- [true; the answer; the reply's last list; the cells]
       move ! (2 ∷ 0 ∷ []) $ fjoin ! $ owned ! u16 (Is u16) (uint-makes 𝓤 H A W w16) finish _ (refl, finish-fits) $ fjoin ! $ move ! (2 ∷ 0 ∷ []) $ fjoin ! $ frame ! $ done !
 
-  module _ (C : Calls 𝓤 H) (Λ : Loops 𝓤 H) (fm : FmC 𝓤 H (W .laws) C) (known-listed : Triple 𝓤 (C #cells·listed) (Listing 𝓤 H A mem run)) (known : Triple 𝓤 (C #cells·list·check) (Check 𝓤 H A mem run)) where
+  module _ (C : Calls 𝓤 H) (Λ : Loops 𝓤 H) (fm : FmC 𝓤 H (W .laws) C) (known-scanned : Triple 𝓤 (C #cells·scanned) (Scanning 𝓤 H A mem run)) (known : Triple 𝓤 (C #cells·checking·tell) (Tell 𝓤 H A mem run)) where
     walk : ent 𝓤 (onEntry 𝓤 H A f.signature (κ, (η, tt)) (q, (q₁, tt)) x at) (WpFn 𝓤 H C Λ code.function (v ∷ vint w16 finish ∷ v₁ ∷ []) Post)
     walk =
         qed W (raw (onEntry 𝓤 H A f.signature (κ, (η, tt)) (q, (q₁, tt)) x at) ∷ []) ∵ enter ! C Λ code.function (v ∷ vint w16 finish ∷ v₁ ∷ []) _ $
         alloc1 ! (λ l₀. alloc1 ! (λ l₁. alloc1 ! (λ l₂. alloc1 ! (λ l₃. alloc1 ! (λ l₄. alloc1 ! (λ l₅. alloc1 ! (λ l₆. alloc0 ! $ params1 ! $
         pass1 ! (init ! 10 refl (tt, (tt, (record { fits = room .0 }, tt)))) $ pass1 ! (init ! 8 refl (tt, record { fits = finish-fits })) $ pass1 ! (init ! 6 refl (tt, (tt, (record { fits = room₁ .0 }, tt)))) $ pass0 ! $
-        move ! (14 ∷ []) $ use1 W (raw (Listing 𝓤 H A mem run .pre to) ⊛ (‵ Own ⊛ (‵ (flft η q₁) ⊛ ‵ Reply))) apart $ split ! $ move ! (1 ∷ []) $ split ! $ move ! (1 ∷ []) $ split ! $ move ! (3 ∷ []) $
-        -- [what `listed` asks; the reply's token; the reply; the cells; _6; …; _5; …; _4; …; _3; …; _2; …; _1; …; room for _0; …]
-        calls-at ! fm (Listing 𝓤 H A mem run) known-listed to (and-then ! (load ! (from ! (stop !)) (look ! 14 refl)) (no-more !)) (λ w.
-        use1 W (later (some (λ (p : Listed). ((‵ (flft κ q) ⊛ ‵ ftrue) ⊛ ‵ (L.the-row .own p (w ∷ []))) ⊛ raw (ensured 𝓤 H A listed.ended (listed.clauses 𝓤 H A mem run) (κ, tt) (s, tt) tt p)))) (id⊢ 𝓤 _) $ await ! tt $ pick ! (λ p.
-        split ! $ move ! (1 ∷ []) $ use1 W (raw (fact 𝓤 (Lists p xs))) (said p) $ heard ! (Lists p xs) (λ e. split ! $ move ! (1 ∷ []) $
+        move ! (14 ∷ []) $ use1 W (raw (Scanning 𝓤 H A mem run .pre to) ⊛ (‵ Own ⊛ (‵ (flft η q₁) ⊛ ‵ Reply))) apart $ split ! $ move ! (1 ∷ []) $ split ! $ move ! (1 ∷ []) $ split ! $ move ! (3 ∷ []) $
+        -- [what `scanned` asks; the reply's token; the reply; the cells; _6; …; _5; …; _4; …; _3; …; _2; …; _1; …; room for _0; …]
+        calls-at ! fm (Scanning 𝓤 H A mem run) known-scanned to (and-then ! (load ! (from ! (stop !)) (look ! 14 refl)) (and-then ! (load ! (from ! (stop !)) (look ! 12 refl)) (no-more !))) (λ w.
+        use1 W (later (some (λ (p : Scan). ((‵ (flft κ q) ⊛ ‵ ftrue) ⊛ ‵ (S.the-row .own p (w ∷ []))) ⊛ raw (ensured 𝓤 H A scanned.ended (scanned.clauses 𝓤 H A mem run) (κ, tt) (s, (finish, tt)) tt p)))) (id⊢ 𝓤 _) $ await ! tt $ pick ! (λ p.
+        split ! $ move ! (1 ∷ []) $ use1 W (raw (fact 𝓤 (Scanned xs finish (length xs) p))) (said p) $ heard ! (Scanned xs finish (length xs) p) (λ e. split ! $ move ! (1 ∷ []) $
         -- [what the list owns; the cells' token; the reply's token; the reply; the cells; _6; …; _5; …; room for _4; …; _3; …]
-        peeks ! L.the-row (Is L.the-row) (shows 𝓤 H A L.the-row) p (w ∷ []) (λ is.
-        land ! (from ! (stop !)) (init ! 9 refl (LL.lawful L.the-type L′.the-laws 𝓤 H A W .typed p _ is .0)) $
+        peeks ! S.the-row (Is S.the-row) (shows 𝓤 H A S.the-row) p (w ∷ []) (λ is.
+        land ! (from ! (stop !)) (init ! 9 refl (LL.lawful S.the-type S′.the-laws 𝓤 H A W .typed p _ is .0)) $
         assigns ! (addr ! (from ! (fld ! refl (hop ! (look-in ! 11 (sub ! 0 refl (whole !))) (stop !))))) (from ! (stop !)) (init ! 7 refl (tt, tt)) $
         assigns ! (agg ! (and-then ! (load ! (from ! (stop !)) (look ! 7 refl)) (and-then ! (load ! (from ! (fld ! refl (stop !))) (look-in ! 11 (sub ! 1 refl (whole !)))) (no-more !)))) (from ! (stop !)) (init ! 5 refl (tt, (tt, (record { fits = room₁ .0 }, tt)))) $
-        move ! (0 ∷ 2 ∷ 3 ∷ []) $ use3 W (raw (Check 𝓤 H A mem run .pre (to-check p w))) (asked p w (e .fits)) $
-        -- [what `check` asks; the cells' token; the cells; _6; …; _5; …; _4; …; _3; …; _2; …; _1; …; room for _0; …]
-        calls-at ! fm (Check 𝓤 H A mem run) known (to-check p w) (and-then ! (load ! (from ! (stop !)) (look ! 7 refl)) (and-then ! (load ! (from ! (stop !)) (look ! 11 refl)) (and-then ! (load ! (from ! (stop !)) (look ! 3 refl)) (no-more !)))) (λ u.
-        use1 W (later (some (λ (r : Bool). ((‵ (flft η q₁) ⊛ ‵ ftrue) ⊛ ‵ (bool .own r (u ∷ []))) ⊛ raw (ensured 𝓤 H A check.ended (check.clauses 𝓤 H A mem run) (η, tt) (p, (finish, (d, tt))) tt r)))) (id⊢ 𝓤 _) $ await ! tt $ pick ! (λ r.
+        move ! (0 ∷ 2 ∷ 3 ∷ []) $ use3 W (raw (Tell 𝓤 H A mem run .pre (to-tell p w))) (asked p w (counts p e)) $
+        -- [what `tell` asks; the cells' token; the cells; _6; …; _5; …; _4; …; _3; …; _2; …; _1; …; room for _0; …]
+        calls-at ! fm (Tell 𝓤 H A mem run) known (to-tell p w) (and-then ! (load ! (from ! (stop !)) (look ! 7 refl)) (and-then ! (load ! (from ! (stop !)) (look ! 3 refl)) (no-more !))) (λ u.
+        use1 W (later (some (λ (r : Bool). ((‵ (flft η q₁) ⊛ ‵ ftrue) ⊛ ‵ (bool .own r (u ∷ []))) ⊛ raw (ensured 𝓤 H A tell.ended (tell.clauses 𝓤 H A mem run) (η, tt) (p, (d, tt)) tt r)))) (id⊢ 𝓤 _) $ await ! tt $ pick ! (λ r.
         split ! $ move ! (1 ∷ []) $
-        use1 W (some (λ (zs : Unit {0} × (Unit {0} × (List ℕ × Unit {0}))). ‵ (lasts check.ended (η, tt) (p, (finish, (d, tt))) zs) ⊛ raw (fact 𝓤 ((cs : List Cell) → Lists p cs → Tells cs finish ys r (zs .1 .1 .0))))) (id⊢ 𝓤 _) $ pick ! (λ zs.
-        split ! $ move ! (1 ∷ []) $ heard ! ((cs : List Cell) → Lists p cs → Tells cs finish ys r (zs .1 .1 .0)) (λ g. fsplit ! $ drop ! $ fsplit ! $ drop ! $ fsplit ! $ fsplit ! $ move ! (1 ∷ []) $ feqL ! (λ l.
+        use1 W (some (λ (zs : Unit {0} × (List ℕ × Unit {0})). ‵ (lasts tell.ended (η, tt) (p, (d, tt)) zs) ⊛ raw (fact 𝓤 ((cs : List Cell) (g : ℕ) → Scanned cs g (length cs) p → Tells cs g ys r (zs .1 .0))))) (id⊢ 𝓤 _) $ pick ! (λ zs.
+        split ! $ move ! (1 ∷ []) $ heard ! ((cs : List Cell) (g : ℕ) → Scanned cs g (length cs) p → Tells cs g ys r (zs .1 .0)) (λ g. fsplit ! $ drop ! $ fsplit ! $ fsplit ! $ move ! (1 ∷ []) $ feqL ! (λ l.
         -- [the reply's last list; true; the reply's token and the answer; the cells' token; the cells; _6; …]
         move ! (2 ∷ []) $ split ! $ move ! (1 ∷ []) $ peeks ! bool (Is bool) (shows 𝓤 H A bool) r (u ∷ []) (λ is′.
         land ! (from ! (stop !)) (init ! 18 refl (bool-lawful 𝓤 H A W .typed r _ is′ .0)) $
         returns ! (look ! 18 refl) $ forget ! 6 refl $ forget ! 8 refl $ forget ! 10 refl $ forget ! 12 refl $ forget ! 14 refl $ forget ! 16 refl $ forget ! 18 refl $
         move ! (18 ∷ 19 ∷ []) $ free1 ! $ move ! (16 ∷ 17 ∷ []) $ free1 ! $ move ! (14 ∷ 15 ∷ []) $ free1 ! $ move ! (12 ∷ 13 ∷ []) $ free1 ! $ move ! (10 ∷ 11 ∷ []) $ free1 ! $ move ! (8 ∷ 9 ∷ []) $ free1 ! $ move ! (6 ∷ 7 ∷ []) $ free1 ! $ free0 ! $
-        keep ! (0 ∷ 1 ∷ 2 ∷ 4 ∷ 5 ∷ []) $ by ! (exits r u (zs .1 .1 .0) (g xs e) l))))))))))))))))))
+        keep ! (0 ∷ 1 ∷ 2 ∷ 4 ∷ 5 ∷ []) $ by ! (exits r u (zs .1 .0) (g xs finish e) l))))))))))))))))))
 
 module _ {M : Type 1} (𝓤 : URA M) (H : Heap 𝓤) (A : Atoms 𝓤) (W : Given 𝓤 H A) (mem : Memory → SProp 𝓤) (run : Routine → Fun 𝓤) where
-  hub-check-cells-walks : (C : Calls 𝓤 H) (Λ : Loops 𝓤 H) → FmC 𝓤 H (W .laws) C → Triple 𝓤 (C #cells·listed) (Listing 𝓤 H A mem run) → Triple 𝓤 (C #cells·list·check) (Check 𝓤 H A mem run)
+  hub-check-cells-walks : (C : Calls 𝓤 H) (Λ : Loops 𝓤 H) → FmC 𝓤 H (W .laws) C → Triple 𝓤 (C #cells·scanned) (Scanning 𝓤 H A mem run) → Triple 𝓤 (C #cells·checking·tell) (Tell 𝓤 H A mem run)
       → Walks 𝓤 H A f.ended stayed (WpFn 𝓤 H C Λ code.function) (f.clauses 𝓤 H A mem run)
-  hub-check-cells-walks C Λ fm known-listed known = walked 𝓤 H A f.ended stayed (f.clauses 𝓤 H A mem run) (WpFn 𝓤 H C Λ code.function) (λ κs. (slice-vals, (uint-vals w16, (slice-vals, tt)))) (λ κs. (shr-slice-tells (named 0) (κs .0) T.the-row, (uint-tells w16, (mut-slice-tells (named 1) (κs .1 .0) u8, tt))))
-      (λ κs qs bounds a g are. via 𝓤 _ (fst∗ 𝓤 _ (emp 𝓤)) (walk 𝓤 H A W mem run (κs .0) (κs .1 .0) (qs .0) (qs .1 .0) (a .0 .ptr .0) (a .0 .ptr .1) (a .0 .name) (a .0 .now) (a .1 .0) (a .1 .1 .0 .ptr .0) (a .1 .1 .0 .ptr .1) (a .1 .1 .0 .name) (a .1 .1 .0 .now) (are .0 .0 .1) (are .1 .0 .1) (are .1 .1 .0 .0 .1) C Λ fm known-listed known))
+  hub-check-cells-walks C Λ fm known-scanned known = walked 𝓤 H A f.ended stayed (f.clauses 𝓤 H A mem run) (WpFn 𝓤 H C Λ code.function) (λ κs. (slice-vals, (uint-vals w16, (slice-vals, tt)))) (λ κs. (shr-slice-tells (named 0) (κs .0) T.the-row, (uint-tells w16, (mut-slice-tells (named 1) (κs .1 .0) u8, tt))))
+      (λ κs qs bounds a g are. via 𝓤 _ (fst∗ 𝓤 _ (emp 𝓤)) (walk 𝓤 H A W mem run (κs .0) (κs .1 .0) (qs .0) (qs .1 .0) (a .0 .ptr .0) (a .0 .ptr .1) (a .0 .name) (a .0 .now) (a .1 .0) (a .1 .1 .0 .ptr .0) (a .1 .1 .0 .ptr .1) (a .1 .1 .0 .name) (a .1 .1 .0 .now) (are .0 .0 .1) (are .1 .0 .1) (are .1 .1 .0 .0 .1) C Λ fm known-scanned known))
 
-hub-check-cells-meets : {M : Type 1} (𝓤 : URA M) (H : Heap 𝓤) (A : Atoms 𝓤) (W : Given 𝓤 H A) (mem : Memory → SProp 𝓤) (run : Routine → Fun 𝓤) (𝓣 : Tables 𝓤 H) → Triple 𝓤 (𝓣 .C #cells·listed) (Listing 𝓤 H A mem run)
-    → Triple 𝓤 (𝓣 .C #cells·list·check) (Check 𝓤 H A mem run) → Meets 𝓤 H A f.signature (WpFn 𝓤 H (𝓣 .C) (𝓣 .Λ) code.function) (f.spec 𝓤 H A mem run)
-hub-check-cells-meets 𝓤 H A W mem run 𝓣 known-listed known =
+hub-check-cells-meets : {M : Type 1} (𝓤 : URA M) (H : Heap 𝓤) (A : Atoms 𝓤) (W : Given 𝓤 H A) (mem : Memory → SProp 𝓤) (run : Routine → Fun 𝓤) (𝓣 : Tables 𝓤 H) → Triple 𝓤 (𝓣 .C #cells·scanned) (Scanning 𝓤 H A mem run)
+    → Triple 𝓤 (𝓣 .C #cells·checking·tell) (Tell 𝓤 H A mem run) → Meets 𝓤 H A f.signature (WpFn 𝓤 H (𝓣 .C) (𝓣 .Λ) code.function) (f.spec 𝓤 H A mem run)
+hub-check-cells-meets 𝓤 H A W mem run 𝓣 known-scanned known =
     walk-meets 𝓤 H A f.ended stayed W (goes-none-slice 𝓤 H A W 2 (0 ∷ []) tt (plain (λ _. T.the-row)) yes, (goes-none 𝓤 H A W 2 (λ _. u16) yes (λ κs x f. refl), (goes-gave-slice 𝓤 H A W 2 1 tt (plain (λ _. u8)), tt))) (f.clauses 𝓤 H A mem run) (WpFn 𝓤 H (𝓣 .C) (𝓣 .Λ) code.function)
-    (WpFn-mono 𝓤 H (W .laws) 𝓣 code.function) (hub-check-cells-walks 𝓤 H A W mem run (𝓣 .C) (𝓣 .Λ) (fmOf 𝓤 H (W .laws) 𝓣) known-listed known)
+    (WpFn-mono 𝓤 H (W .laws) 𝓣 code.function) (hub-check-cells-walks 𝓤 H A W mem run (𝓣 .C) (𝓣 .Λ) (fmOf 𝓤 H (W .laws) 𝓣) known-scanned known)
 
 pub hub-check-cells-spec : {M : Type 1} → stated.statement M
 unfolding code.routine tablesOf
@@ -189,5 +194,5 @@ hub-check-cells-spec 𝓤 H 𝓜 𝓖 𝓡 =
     entered 𝓤 H (tripleOf 𝓤 H (𝓖 .A) f.signature (f.spec 𝓤 H (𝓖 .A) (𝓜 .mem) (𝓡 .run)))
     (tables 𝓤 H 𝓜 𝓡 code.env .C) (tables 𝓤 H 𝓜 𝓡 code.env .Λ) #cells·hub-check-cells code.function (code.unfolded 𝓤 H 𝓜 𝓡)
     (hub-check-cells-meets 𝓤 H (𝓖 .A) (givenOf 𝓤 H 𝓜 𝓖) (𝓜 .mem) (𝓡 .run) (tablesOf 𝓤 H 𝓜 (tables 𝓤 H 𝓜 𝓡 code.env))
-    (cited 𝓤 H (Listing 𝓤 H (𝓖 .A) (𝓜 .mem) (𝓡 .run)) 𝓜 𝓡 code.env #cells·listed listed-def.routine code.calls-cells·listed (listed-thm.met 𝓤 H 𝓜 𝓖 𝓡))
-    (cited 𝓤 H (Check 𝓤 H (𝓖 .A) (𝓜 .mem) (𝓡 .run)) 𝓜 𝓡 code.env #cells·list·check check-def.routine code.calls-cells·list·check (check-thm.met 𝓤 H 𝓜 𝓖 𝓡)))
+    (cited 𝓤 H (Scanning 𝓤 H (𝓖 .A) (𝓜 .mem) (𝓡 .run)) 𝓜 𝓡 code.env #cells·scanned scanned-def.routine code.calls-cells·scanned (scanned-thm.met 𝓤 H 𝓜 𝓖 𝓡))
+    (cited 𝓤 H (Tell 𝓤 H (𝓖 .A) (𝓜 .mem) (𝓡 .run)) 𝓜 𝓡 code.env #cells·checking·tell tell-def.routine code.calls-cells·checking·tell (tell-thm.met 𝓤 H 𝓜 𝓖 𝓡)))

@@ -72,7 +72,7 @@ returns-3 c =
     let get162 = c .before .before .before .before .before .get162 in
     let accepted = sym (check-file .ensures) ∙ enum-told .given .1 in
     read-done (args .file .now) (args .cells .now) accepted (get16 .ensures) (get162 .ensures) (c .before .before .before .before .if1 .left)
-    (c .before .before .put-cells .ensures .0)
+    (c .before .before .put-cells .ensures)
 
 pub read-netlist-spec : {M : Type 1} → statement M
 read-netlist-spec =

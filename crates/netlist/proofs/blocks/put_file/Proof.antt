@@ -1,56 +1,38 @@
--- `blocks::put_file` meets its contract. The invariant: putting the blocks from b on in comes out as at the start. Assumes nothing.
+-- `blocks::put_file` meets its contract. The invariant: the first k cells are put in. Assumes nothing.
 use mathlib.Core.Path.{_≡_, refl, sym, _∙_}
-use Prim.Native.Nat.{_-_, _*_}
+use Prim.Native.Nat.{_-_, _≤_}
 use native.Mathlib.Omega.{arith}
 use lib.ListN.{length}
-use lib.Seq.{sets}
-use Rattle.model.specs.NetlistFile.{cellsAt, inList, blocksFor, fileOf}
-use Rattle.netlist.proofs.Putting.{blocksFrom, file-begin, file-more, file-done}
+use Rattle.model.specs.NetlistFile.{cellsAt, inList}
+use Rattle.netlist.specs.Blocks.{Filled}
+use Rattle.netlist.proofs.Bytes.{cells-length, cell-of}
+use Rattle.netlist.proofs.Putting.{filled-none}
 use Rattle.netlist.proofs.blocks.put_file.Statement.{statement}
 use Rattle.netlist.proofs.blocks.put_file.Tie as tie
 
 abbrev Inv-loop : tie.InvT-loop
-Inv-loop d₀ cells n finish m b₀ d b =
-    (length d ≡ length d₀)
-    × (m ≡ blocksFor n)
-    × (sets d₀ 0 (fileOf (cellsAt inList cells 0 n) finish) ≡ sets d (512 * b) (blocksFrom cells m n finish b))
+Inv-loop d₀ cells n finish k₀ sum₀ d k sum = (k ≤ n) × (length d ≡ length d₀) × Filled (cellsAt inList cells 0 n) finish d₀ k sum d
 
 abbrev μ-loop : tie.MeasureT-loop
-μ-loop d₀ cells n finish m b₀ d b = m - b
-
-add-m : tie.Need-add-m Inv-loop μ-loop
-add-m c = omega (arith, c .before .before .pre .1 .few)
+μ-loop d₀ cells n finish k₀ sum₀ d k sum = n - k
 
 loop-holds : tie.Need-loop-holds Inv-loop μ-loop
 loop-holds c =
     let args = c .before .before .args in
-    (refl, refl, rw (file-begin (args .cells .now) (args .n) (args .finish)) refl)
+    (omega arith, refl, filled-none (cellsAt inList (args .cells .now) 0 (args .n)) (args .finish) (args .d .now) 0)
 
-cast-t10 : tie.Need-cast-t10 Inv-loop μ-loop
-cast-t10 c = omega (arith, c .before .before .before .before .pre .1 .few)
+cell-at-requires : tie.Need-cell-at-requires Inv-loop μ-loop
+cell-at-requires c κs =
+    let pre = c .before .before .before .before .pre in
+    (omega (arith, pre .1 .few), omega (arith, pre .1 .fits))
 
-cast-t11 : tie.Need-cast-t11 Inv-loop μ-loop
-cast-t11 c = omega (arith, c .before .before .before .before .pre .1 .few)
+put-next-requires : tie.Need-put-next-requires Inv-loop μ-loop
+put-next-requires c κs =
+    let pre = c .before .before .before .before .before .before .pre in
+    (c .before .before .loop-test .taken, pre .1 .few, omega (arith, pre .0, c .before .before .before .loop .inv .1))
 
-mul-put-block : tie.Need-mul-put-block Inv-loop μ-loop
-mul-put-block c = omega arith
-
-mul-put-block-2 : tie.Need-mul-put-block-2 Inv-loop μ-loop
-mul-put-block-2 c = omega arith
-
-cells-here-requires : tie.Need-cells-here-requires Inv-loop μ-loop
-cells-here-requires c κs = omega arith
-
-put-block-requires : tie.Need-put-block-requires Inv-loop μ-loop
-put-block-requires c κs =
-    let pre = c .before .before .before .before .before .before .pre in (
-      omega (arith, pre .0),
-      record { few = omega (arith, pre .1 .few, c .cells-here .ensures); fits = omega (arith, pre .1 .fits, c .cells-here .ensures) },
-      omega (arith, c .cells-here .ensures),
-    )
-
-add-b : tie.Need-add-b Inv-loop μ-loop
-add-b c = omega arith
+add-k : tie.Need-add-k Inv-loop μ-loop
+add-k c = omega arith
 
 loop-less : tie.Need-loop-less Inv-loop μ-loop
 loop-less c = omega arith
@@ -59,23 +41,23 @@ loop-again : tie.Need-loop-again Inv-loop μ-loop
 loop-again c =
     let args = c .before .before .before .before .before .before .before .before .before .args in
     let loop = c .before .before .before .before .before .before .loop in
-    let put-block = c .before .before .put-block in
-    let loop-test = c .before .before .before .before .before .loop-test in (
-      put-block .kept .0 ∙ loop .inv .0,
-      loop .inv .1,
-      loop .inv .2
-          ∙ file-more (args .cells .now) _ (args .n) (args .finish) (loop .b) (loop .d) (loop-test .taken)
-          (c .before .before .before .cells-here .ensures) (put-block .ensures),
+    let s = args .cells .now in
+    let put-next = c .before .before .put-next in
+    let low = c .before .before .before .before .before .loop-test .taken in
+    let here = cell-of inList s (args .n) (loop .k) low ∙ sym (c .before .before .before .before .cell-at .ensures) in
+    let l = cells-length inList s 0 (args .n) in (
+      omega arith,
+      put-next .kept .0 ∙ loop .inv .1,
+      put-next .ensures (cellsAt inList s 0 (args .n)) (args .d .now) l here (loop .inv .2),
     )
 
 same-length : tie.Need-same-length Inv-loop μ-loop
-same-length c = c .before .loop .inv .0
+same-length c = c .before .loop .inv .1
 
 returns : tie.Need-returns Inv-loop μ-loop
 returns c =
     let args = c .before .before .before .before .args in
-    let loop = c .before .loop in
-    sym (loop .inv .2 ∙ file-done (args .cells .now) _ (args .n) (args .finish) (loop .b) (loop .d) (c .loop-test .left))
+    c .before .loop .inv .2 .whole (omega (arith, c .loop-test .left, cells-length inList (args .cells .now) 0 (args .n)))
 
 pub put-file-spec : {M : Type 1} → statement M
 put-file-spec =
@@ -83,15 +65,10 @@ put-file-spec =
     (tie.spec
     Inv-loop
     μ-loop
-    add-m
     loop-holds
-    cast-t10
-    cast-t11
-    mul-put-block
-    mul-put-block-2
-    cells-here-requires
-    put-block-requires
-    add-b
+    cell-at-requires
+    put-next-requires
+    add-k
     loop-less
     loop-again
     same-length

@@ -1,28 +1,27 @@
--- `cells::put_cells` meets its contract. The invariant: putting the rest in, and the sum after it, come out as at the start. Assumes nothing.
+-- `cells::put_cells` meets its contract. The invariant: putting the rest in comes out as at the start. Assumes nothing.
 use mathlib.Core.Path.{_≡_, refl, sym, _∙_}
 use Prim.Native.Nat.{_+_, _*_, _<_}
 use native.Mathlib.Omega.{arith}
 use lib.ListN.{length}
 use lib.Seq.{sets}
-use Rattle.model.specs.NetlistFile.{cellBytes, cellsAt, sumAfter}
+use Rattle.model.specs.NetlistFile.{cellBytes, cellsAt}
 use Rattle.netlist.specs.Offsets.{offset}
-use Rattle.netlist.proofs.Bytes.{cell-fits, put-more, sum-more, put-done, sum-done}
+use Rattle.netlist.proofs.Bytes.{cell-fits, put-more, put-done}
 use Rattle.netlist.proofs.cells.put_cells.Statement.{statement}
 use Rattle.netlist.proofs.cells.put_cells.Tie as tie
 
 abbrev Inv-loop : tie.InvT-loop
-Inv-loop d₀ i s layout k n sum to₀ from₀ left₀ total₀ d to from left total =
+Inv-loop d₀ i s layout k n to₀ from₀ left₀ d to from left =
     (length d ≡ length d₀)
     × (from + left ≡ k + n)
     × (to + 6 * left ≡ i + 6 * n)
     × (sets d₀ i (cellBytes (cellsAt (offset layout) s k n)) ≡ sets d to (cellBytes (cellsAt (offset layout) s from left)))
-    × (sumAfter sum (cellsAt (offset layout) s k n) ≡ sumAfter total (cellsAt (offset layout) s from left))
 
 abbrev μ-loop : tie.MeasureT-loop
-μ-loop d₀ i s layout k n sum to₀ from₀ left₀ total₀ d to from left total = left
+μ-loop d₀ i s layout k n to₀ from₀ left₀ d to from left = left
 
 loop-holds : tie.Need-loop-holds Inv-loop μ-loop
-loop-holds c = (refl, refl, refl, refl, refl)
+loop-holds c = (refl, refl, refl, refl)
 
 cell-at-requires : tie.Need-cell-at-requires Inv-loop μ-loop
 cell-at-requires c κs =
@@ -59,7 +58,6 @@ loop-again c =
       omega arith,
       loop .inv .3 ∙ put-more at s (loop .from) (loop .left) (cell-at .result) more (cell-at .ensures) (loop .d) (loop .to)
           (put-cell .ensures .0),
-      loop .inv .4 ∙ sum-more at s (loop .from) (loop .left) (cell-at .result) more (cell-at .ensures) (loop .total) (put-cell .ensures .1),
     )
 
 same-length : tie.Need-same-length Inv-loop μ-loop
@@ -70,10 +68,7 @@ returns c =
     let args = c .before .before .before .before .args in
     let loop = c .before .loop in
     let at = offset (args .layout) in
-    let s = args .s .now in (
-      sym (loop .inv .3 ∙ put-done at s (loop .from) (loop .left) (omega arith) (loop .d) (loop .to)),
-      sym (loop .inv .4 ∙ sum-done at s (loop .from) (loop .left) (omega arith) (loop .total)),
-    )
+    sym (loop .inv .3 ∙ put-done at (args .s .now) (loop .from) (loop .left) (omega arith) (loop .d) (loop .to))
 
 pub put-cells-spec : {M : Type 1} → statement M
 put-cells-spec =

@@ -1,80 +1,101 @@
--- `rules::check_cells` meets its contract. Assumes nothing.
-use mathlib.Core.Path.{sym, _∙_, ap}
+-- `rules::check_cells` meets its contract. The invariant: what is found of the first k cells. Assumes nothing.
+use mathlib.Core.Path.{_≡_, sym, _∙_}
+use Prim.Native.Nat.{_-_, _≤_}
+use native.Mathlib.Omega.{arith}
 use borrow.Author.Needs.{needs}
-use Rattle.model.specs.Circuit.{control}
+use lib.ListN.{length}
+use Rattle.model.specs.NetlistFile.{cellsAt}
 use Rattle.netlist.specs.Offsets.{offset}
-use Rattle.netlist.proofs.CellChecks.{rules-broken, memories-wrong, finish-right, finish-wrong}
+use Rattle.netlist.specs.Scans.{Scanned}
+use Rattle.netlist.proofs.Bytes.{cells-length, cell-fits, cell-of}
 use Rattle.netlist.proofs.rules.check_cells.Statement.{statement}
 use Rattle.netlist.proofs.rules.check_cells.Tie as tie
 
-check-rules-requires : tie.Need-check-rules-requires
-check-rules-requires c κs = search needs
+abbrev Inv-loop : tie.InvT-loop
+Inv-loop s layout n finish scan₀ k₀ scan k = (k ≤ n) × Scanned (cellsAt (offset layout) s 0 n) finish k scan
 
-enum-known-rules : tie.Need-enum-known-rules
-enum-known-rules c = search needs
+abbrev μ-loop : tie.MeasureT-loop
+μ-loop s layout n finish scan₀ k₀ scan k = n - k
 
-returns : tie.Need-returns
-returns c =
-    let args = c .before .before .before .before .before .args in
-    let at = offset (args .layout) in
-    let s = args .s .now in
-    rules-broken at s (args .n) (args .finish) (sym (c .before .before .before .check-rules .ensures) ∙ c .before .rules .given .1)
+begin-requires : tie.Need-begin-requires Inv-loop μ-loop
+begin-requires c κs = tt
 
-enum-told : tie.Need-enum-told
-enum-told c = search needs
+loop-holds : tie.Need-loop-holds Inv-loop μ-loop
+loop-holds c = (omega arith, c .begin .ensures _ (cells-length _ _ 0 _))
 
-count-memories-requires : tie.Need-count-memories-requires
-count-memories-requires c κs = search needs
+cell-at-requires : tie.Need-cell-at-requires Inv-loop μ-loop
+cell-at-requires c κs =
+    let pre = c .before .before .before .before .pre in
+    let h = c .loop-test .taken in
+    (omega (arith, pre .few, h), cell-fits pre (c .before .loop .k) h)
 
-returns-2 : tie.Need-returns-2
-returns-2 c =
-    let args = c .before .before .before .before .before .before .args in
-    let at = offset (args .layout) in
-    let s = args .s .now in
-    let kept = sym (c .before .before .before .before .check-rules .ensures) ∙ c .before .before .enum-told .given .1 in
-    memories-wrong at s (args .n) (args .finish) kept (c .before .count-memories .ensures) (c .if1 .taken)
+cast-kind-at : tie.Need-cast-kind-at Inv-loop μ-loop
+cast-kind-at c = search needs
 
-kind-at-requires : tie.Need-kind-at-requires
+kind-at-requires : tie.Need-kind-at-requires Inv-loop μ-loop
 kind-at-requires c κs = search needs
 
-is-control-requires : tie.Need-is-control-requires
-is-control-requires c κs = search needs
+cast-kind-at-2 : tie.Need-cast-kind-at-2 Inv-loop μ-loop
+cast-kind-at-2 c = search needs
 
-returns-3 : tie.Need-returns-3
-returns-3 c =
+kind-at-requires-2 : tie.Need-kind-at-requires-2 Inv-loop μ-loop
+kind-at-requires-2 c κs = search needs
+
+step-requires : tie.Need-step-requires Inv-loop μ-loop
+step-requires c κs =
     let args = c .before .before .before .before .before .before .before .before .before .args in
-    let check-rules = c .before .before .before .before .before .before .before .check-rules in
-    let enum-told = c .before .before .before .before .before .enum-told in
+    let p = c .before .before .before .before .before .before .loop .inv .1 in
+    (omega (arith, p .count, cells-length (offset (args .layout)) (args .s .now) 0 (args .n), c .before .before .before .before .before .loop-test .taken), p .few)
+
+add-k : tie.Need-add-k Inv-loop μ-loop
+add-k c = omega arith
+
+loop-less : tie.Need-loop-less Inv-loop μ-loop
+loop-less c = omega arith
+
+loop-again : tie.Need-loop-again Inv-loop μ-loop
+loop-again c =
+    let args = c .before .before .before .before .before .before .before .before .before .before .args in
+    let loop = c .before .before .before .before .before .before .before .loop in
     let at = offset (args .layout) in
     let s = args .s .now in
-    let kept = sym (check-rules .ensures) ∙ enum-told .given .1 in
-    let sort = c .before .is-control .ensures ∙ ap control (c .before .before .kind-at .ensures) in
-    finish-right at s (args .n) (args .finish) kept (c .before .before .before .before .count-memories .ensures)
-    (c .before .before .before .if1 .left) sort (c .if2 .taken)
+    let n = args .n in
+    let h = c .before .before .before .before .before .before .loop-test .taken in (
+      omega arith,
+      c .step .ensures (cellsAt at s 0 n) (args .finish) (record {
+        here = cell-of at s n (loop .k) h ∙ sym (c .before .before .before .before .before .cell-at .ensures);
+        first = λ _. c .before .before .before .kind-at .ensures;
+        second = λ _. c .before .kind-at2 .ensures;
+      }) (loop .inv .1),
+    )
 
-returns-4 : tie.Need-returns-4
-returns-4 c =
-    let args = c .before .before .before .before .before .before .before .before .before .args in
-    let check-rules = c .before .before .before .before .before .before .before .check-rules in
-    let enum-told = c .before .before .before .before .before .enum-told in
-    let at = offset (args .layout) in
-    let s = args .s .now in
-    let kept = sym (check-rules .ensures) ∙ enum-told .given .1 in
-    let sort = c .before .is-control .ensures ∙ ap control (c .before .before .kind-at .ensures) in
-    finish-wrong at s (args .n) (args .finish) kept (c .before .before .before .before .count-memories .ensures)
-    (c .before .before .before .if1 .left) sort (c .if2 .left)
+told-requires : tie.Need-told-requires Inv-loop μ-loop
+told-requires c κs = tt
+
+returns : tie.Need-returns Inv-loop μ-loop
+returns c =
+    let args = c .before .before .before .before .before .args in
+    let loop = c .before .before .loop in
+    let net = cellsAt (offset (args .layout)) (args .s .now) 0 (args .n) in
+    let e : loop .k ≡ length net = omega (arith, loop .inv .0, c .before .loop-test .left, cells-length (offset (args .layout)) (args .s .now) 0 (args .n)) in
+    c .told .ensures net (args .finish) (rw e at (loop .inv .1))
 
 pub check-cells-spec : {M : Type 1} → statement M
 check-cells-spec =
     tie.close
     (tie.spec
-    check-rules-requires
-    enum-known-rules
-    returns
-    enum-told
-    count-memories-requires
-    returns-2
+    Inv-loop
+    μ-loop
+    begin-requires
+    loop-holds
+    cell-at-requires
+    cast-kind-at
     kind-at-requires
-    is-control-requires
-    returns-3
-    returns-4)
+    cast-kind-at-2
+    kind-at-requires-2
+    step-requires
+    add-k
+    loop-less
+    loop-again
+    told-requires
+    returns)

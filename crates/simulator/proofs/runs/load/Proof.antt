@@ -32,7 +32,7 @@ returns c =
     let put-cells = c .before .before .put-cells in
     let pre = c .before .before .before .before .before .before .before .pre in (
       get16-call .ensures,
-      loaded (args .file .now) (args .cells .now) (put-cells .last .0) (get16-call .result) (pre .1) (pre .0) (get16-call .ensures) (put-cells .ensures .0),
+      loaded (args .file .now) (args .cells .now) (put-cells .last .0) (get16-call .result) (pre .1) (pre .0) (get16-call .ensures) (put-cells .ensures),
     )
 
 pub load-spec : {M : Type 1} → statement M

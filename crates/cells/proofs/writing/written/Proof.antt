@@ -1,0 +1,50 @@
+-- `writing::written` meets its contract. Assumes nothing.
+use mathlib.Core.Path.{sym, _∙_}
+use native.Mathlib.Omega.{arith}
+use borrow.Author.Needs.{needs}
+use Rattle.cells.proofs.Answering.{write-refused, write-short, write-done}
+use Rattle.cells.proofs.writing.written.Statement.{statement}
+use Rattle.cells.proofs.writing.written.Tie as tie
+
+checked-requires : tie.Need-checked-requires
+checked-requires c κs = search needs
+
+enum-known-found : tie.Need-enum-known-found
+enum-known-found c = search needs
+
+returns : tie.Need-returns
+returns c =
+    let args = c .before .before .before .before .args in
+    λ cs lent p l. write-refused cs (args .finish) lent (sym (c .before .before .before .checked .ensures cs (args .finish) p) ∙ c .before .found .given .1)
+
+enum-told : tie.Need-enum-told
+enum-told c = search needs
+
+add-count : tie.Need-add-count
+add-count c = search needs
+
+mul-count : tie.Need-mul-count
+mul-count c = omega (arith, c .before .before .before .pre)
+
+returns-2 : tie.Need-returns-2
+returns-2 c =
+    let args = c .before .before .before .before .args in
+    λ cs lent p l. write-short cs (args .finish) lent (sym (c .before .before .before .checked .ensures cs (args .finish) p) ∙ c .before .enum-told .given .1) (p .count) l (c .if1 .taken)
+
+returns-3 : tie.Need-returns-3
+returns-3 c =
+    let args = c .before .before .before .before .args in
+    λ cs lent p l. write-done cs (args .finish) lent (sym (c .before .before .before .checked .ensures cs (args .finish) p) ∙ c .before .enum-told .given .1) (p .count) l (c .if1 .left)
+
+pub written-spec : {M : Type 1} → statement M
+written-spec =
+    tie.close
+    (tie.spec
+    checked-requires
+    enum-known-found
+    returns
+    enum-told
+    add-count
+    mul-count
+    returns-2
+    returns-3)

@@ -1,0 +1,73 @@
+-- `rules::step` meets its contract. Assumes nothing.
+use native.Mathlib.Omega.{arith}
+use lib.Dec.{eqb}
+use borrow.Author.Needs.{needs}
+use Rattle.netlist.proofs.CellChecks.{bit-small, cell-fault, stands-inputs, scan-more}
+use Rattle.netlist.proofs.rules.step.Statement.{statement}
+use Rattle.netlist.proofs.rules.step.Tie as tie
+
+cast-ca : tie.Need-cast-ca
+cast-ca c = search needs
+
+is-control-requires : tie.Need-is-control-requires
+is-control-requires c κs = search needs
+
+cast-cb : tie.Need-cast-cb
+cast-cb c = search needs
+
+is-control-requires-2 : tie.Need-is-control-requires-2
+is-control-requires-2 c κs = search needs
+
+keeps-rule-requires : tie.Need-keeps-rule-requires
+keeps-rule-requires c κs = search needs
+
+is-placed-requires : tie.Need-is-placed-requires
+is-placed-requires c κs = search needs
+
+with-next-requires : tie.Need-with-next-requires
+with-next-requires c κs = search needs
+
+bit-requires : tie.Need-bit-requires
+bit-requires c κs = search needs
+
+cast-memory : tie.Need-cast-memory
+cast-memory c = search needs
+
+is-control-requires-3 : tie.Need-is-control-requires-3
+is-control-requires-3 c κs = search needs
+
+add-t13 : tie.Need-add-t13
+add-t13 c =
+    let args = c .before .before .before .before .before .before .before .before .before .before .before .before .args in
+    let pre = c .before .before .before .before .before .before .before .before .before .before .before .before .pre in
+    omega (arith, pre .0, pre .1, c .before .before .before .bit .ensures, bit-small (eqb (args .c .kind) 40))
+
+returns : tie.Need-returns
+returns c =
+    let args = c .before .before .before .before .before .before .before .before .before .before .before .before .before .args in
+    let pre = c .before .before .before .before .before .before .before .before .before .before .before .before .before .pre in
+    let control-a = c .before .before .before .before .before .before .before .before .before .before .before .is-control .ensures in
+    let control-b = c .before .before .before .before .before .before .before .before .before .is-control2 .ensures in
+    let keeps = c .before .before .before .before .before .before .before .before .keeps-rule .ensures in
+    let placed = c .before .before .before .before .before .before .before .is-placed .ensures in
+    λ net f st p.
+    let fault = cell-fault net (args .k) (args .c) (st .here) placed (keeps net (stands-inputs (p .count) st control-a control-b)) in
+    scan-more (omega (arith, pre .0, p .count)) p _ (st .here) fault
+    (c .before .before .before .before .before .before .with-next .ensures) (c .before .before .before .before .bit .ensures) (c .before .before .is-control3 .ensures)
+
+pub step-spec : {M : Type 1} → statement M
+step-spec =
+    tie.close
+    (tie.spec
+    cast-ca
+    is-control-requires
+    cast-cb
+    is-control-requires-2
+    keeps-rule-requires
+    is-placed-requires
+    with-next-requires
+    bit-requires
+    cast-memory
+    is-control-requires-3
+    add-t13
+    returns)

@@ -31,9 +31,7 @@ fn scanned(cells: &[Cell], finish: u16) -> Scan
         let c = cells[k];
         let i = netlist::rules::input(n, k, c.a);
         let j = netlist::rules::input(n, k, c.b);
-        let a = cells[i];
-        let b = cells[j];
-        scan = netlist::rules::step(scan, k, c, a.kind, b.kind);
+        scan = netlist::rules::step(scan, k, c, cells[i].kind, cells[j].kind);
         k += 1;
     }
     scan

@@ -1,5 +1,5 @@
 -- `scanned` meets its contract: a walk of its MIR, by hand. The slice is looked into once, before the loop, and shut once, after it. Each turn copies a cell
--- out, asks `input` which cells its inputs name, copies those out, and hands them to `step`, beside the scan so far. Assumes nothing.
+-- out, asks `input` which cells its inputs name, reads their kinds, and hands all that to `step`, beside the scan so far. Assumes nothing.
 use mathlib.Core.Path.{_≡_, refl, sym, ap}
 use Prim.Native.Nat.{ℕ, _+_, _-_, _*_, _<_, _≤_, _^_}
 use native.Mathlib.Omega.{arith}
@@ -83,6 +83,9 @@ Arg = RefT (List Cell) × (ℕ × Unit {0})
 
 abbrev word : Ty
 word = tyInt w64
+
+abbrev byte : Ty
+byte = tyInt w8
 
 abbrev slice : Ty
 slice = sliceTy (tyRef (named 0) imm (pointee (T.the-row .written)))
@@ -200,16 +203,16 @@ module _ {M : Type 1} (𝓤 : URA M) (H : Heap 𝓤) (A : Atoms 𝓤) (W : Given
 
   module _ (𝓣 : Tables 𝓤 H) (fm : FmC 𝓤 H (W .laws) (𝓣 .C)) (known-begin : Triple 𝓤 (𝓣 .C #netlist·rules·begin) (Begin 𝓤 H A mem run)) (known-input : Triple 𝓤 (𝓣 .C #netlist·rules·input) (Input 𝓤 H A mem run))
       (known-step : Triple 𝓤 (𝓣 .C #netlist·rules·step) (Next 𝓤 H A mem run)) where
-    module _ (q′ : Share) (l₀ l₁ l₂ l₃ l₄ l₅ l₆ l₇ l₈ l₉ l₁₀ l₁₁ l₁₂ l₁₃ l₁₄ l₁₅ l₁₆ l₁₇ : ℕ) where
+    module _ (q′ : Share) (l₀ l₁ l₂ l₃ l₄ l₅ l₆ l₇ l₈ l₉ l₁₀ l₁₁ l₁₂ l₁₃ l₁₄ l₁₅ l₁₆ l₁₇ l₁₈ : ℕ) where
       abbrev En : Env 𝓤 H
-      En = (scan, l₀) ∷ (slice, l₁) ∷ (tyInt w16, l₂) ∷ (word, l₃) ∷ (scan, l₄) ∷ (word, l₅) ∷ (cell, l₆) ∷ (word, l₇) ∷ (word, l₈) ∷ (cell, l₉) ∷ (cell, l₁₀) ∷ (word, l₁₁) ∷ (tyBool, l₁₂) ∷ (word, l₁₃) ∷ (tyPtr, l₁₄) ∷ (cell, l₁₅) ∷ (tyPtr, l₁₆) ∷ (tyPtr, l₁₇) ∷ []
+      En = (scan, l₀) ∷ (slice, l₁) ∷ (tyInt w16, l₂) ∷ (word, l₃) ∷ (scan, l₄) ∷ (word, l₅) ∷ (cell, l₆) ∷ (word, l₇) ∷ (word, l₈) ∷ (word, l₉) ∷ (tyBool, l₁₀) ∷ (word, l₁₁) ∷ (tyPtr, l₁₂) ∷ (cell, l₁₃) ∷ (tyPtr, l₁₄) ∷ (byte, l₁₅) ∷ (word, l₁₆) ∷ (tyPtr, l₁₇) ∷ (byte, l₁₈) ∷ []
 
       -- where the loop stands: the number of the next cell, the scan so far, and its machine value
       abbrev State : Type 0
       State = ℕ × (Scan × Val)
 
       abbrev At : State → List (Item 𝓤)
-      At (i, (s, v)) = ‵ (row T.the-row q′ xs b o) ∷ ‵ (fobor κ q (arr-parts (shares T.the-row) n .part q′ xs b o)) ∷ ‵ Shared ∷ ‵ (fat fullShare scan l₄ 0 v) ∷ ‵ (fat fullShare word l₅ 0 (vint w64 i)) ∷ ‵ (froom cell l₆ 0) ∷ ‵ (froom word l₇ 0) ∷ ‵ (froom word l₈ 0) ∷ ‵ (froom cell l₉ 0) ∷ ‵ (froom cell l₁₀ 0) ∷ ‵ (froom tyBool l₁₂ 0) ∷ ‵ (froom word l₁₃ 0) ∷ ‵ (froom tyPtr l₁₄ 0) ∷ ‵ (froom cell l₁₅ 0) ∷ ‵ (froom tyPtr l₁₆ 0) ∷ ‵ (froom tyPtr l₁₇ 0) ∷ ‵ (fat fullShare slice l₁ 0 (sliceVal (b, o) n)) ∷ ‵ (fat fullShare word l₃ 0 (vint w64 n)) ∷ ‵ (froom scan l₀ 0) ∷ ‵ (fat fullShare (tyInt w16) l₂ 0 (vint w16 finish)) ∷ ‵ (fat fullShare word l₁₁ 0 (vint w64 finish)) ∷ ‵ Named ∷ ‵ (fdies scan l₀) ∷ ‵ (fdies slice l₁) ∷ ‵ (fdies (tyInt w16) l₂) ∷ ‵ (fdies word l₃) ∷ ‵ (fdies scan l₄) ∷ ‵ (fdies word l₅) ∷ ‵ (fdies cell l₆) ∷ ‵ (fdies word l₇) ∷ ‵ (fdies word l₈) ∷ ‵ (fdies cell l₉) ∷ ‵ (fdies cell l₁₀) ∷ ‵ (fdies word l₁₁) ∷ ‵ (fdies tyBool l₁₂) ∷ ‵ (fdies word l₁₃) ∷ ‵ (fdies tyPtr l₁₄) ∷ ‵ (fdies cell l₁₅) ∷ ‵ (fdies tyPtr l₁₆) ∷ ‵ (fdies tyPtr l₁₇) ∷ []
+      At (i, (s, v)) = ‵ (row T.the-row q′ xs b o) ∷ ‵ (fobor κ q (arr-parts (shares T.the-row) n .part q′ xs b o)) ∷ ‵ Shared ∷ ‵ (fat fullShare scan l₄ 0 v) ∷ ‵ (fat fullShare word l₅ 0 (vint w64 i)) ∷ ‵ (froom cell l₆ 0) ∷ ‵ (froom word l₇ 0) ∷ ‵ (froom word l₈ 0) ∷ ‵ (froom tyBool l₁₀ 0) ∷ ‵ (froom word l₁₁ 0) ∷ ‵ (froom tyPtr l₁₂ 0) ∷ ‵ (froom cell l₁₃ 0) ∷ ‵ (froom tyPtr l₁₄ 0) ∷ ‵ (froom byte l₁₅ 0) ∷ ‵ (froom word l₁₆ 0) ∷ ‵ (froom tyPtr l₁₇ 0) ∷ ‵ (froom byte l₁₈ 0) ∷ ‵ (fat fullShare slice l₁ 0 (sliceVal (b, o) n)) ∷ ‵ (fat fullShare word l₃ 0 (vint w64 n)) ∷ ‵ (froom scan l₀ 0) ∷ ‵ (fat fullShare (tyInt w16) l₂ 0 (vint w16 finish)) ∷ ‵ (fat fullShare word l₉ 0 (vint w64 finish)) ∷ ‵ Named ∷ ‵ (fdies scan l₀) ∷ ‵ (fdies slice l₁) ∷ ‵ (fdies (tyInt w16) l₂) ∷ ‵ (fdies word l₃) ∷ ‵ (fdies scan l₄) ∷ ‵ (fdies word l₅) ∷ ‵ (fdies cell l₆) ∷ ‵ (fdies word l₇) ∷ ‵ (fdies word l₈) ∷ ‵ (fdies word l₉) ∷ ‵ (fdies tyBool l₁₀) ∷ ‵ (fdies word l₁₁) ∷ ‵ (fdies tyPtr l₁₂) ∷ ‵ (fdies cell l₁₃) ∷ ‵ (fdies tyPtr l₁₄) ∷ ‵ (fdies byte l₁₅) ∷ ‵ (fdies word l₁₆) ∷ ‵ (fdies tyPtr l₁₇) ∷ ‵ (fdies byte l₁₈) ∷ []
 
       abbrev Ok : State → Type 0
       Ok (i, (s, v)) = (i ≤ n) × Scanned xs finish i s × Is S.the-row s (v ∷ [])
@@ -226,56 +229,54 @@ module _ {M : Type 1} (𝓤 : URA M) (H : Heap 𝓤) (A : Atoms 𝓤) (W : Given
       unfolding afterTurn
       more i s v X small p was go =
           qed W (At (i, (s, v))) ∵ exec ! (𝓣 .C) (𝓣 .Λ) En turn-1 (anyQ (afterTurn 𝓤 H X Left)) $
-          assigns ! (bin ! (load ! (from ! (stop !)) (look ! 4 refl)) (load ! (from ! (stop !)) (look ! 17 refl)) tt) (from ! (stop !)) (init ! 10 refl (tt, tt)) $
-          rewrite ! 10 (λ (t : Bool). ‵ (fat fullShare tyBool l₁₂ 0 (vbool t))) (lt-ltb i n small) refl $
-          stays ! (load ! (from ! (stop !)) (look ! 10 refl)) $
+          assigns ! (bin ! (load ! (from ! (stop !)) (look ! 4 refl)) (load ! (from ! (stop !)) (look ! 18 refl)) tt) (from ! (stop !)) (init ! 8 refl (tt, tt)) $
+          rewrite ! 8 (λ (t : Bool). ‵ (fat fullShare tyBool l₁₀ 0 (vbool t))) (lt-ltb i n small) refl $
+          stays ! (load ! (from ! (stop !)) (look ! 8 refl)) $
           -- the cell
-          assigns ! (bin ! (load ! (from ! (stop !)) (look ! 4 refl)) (lit ! tt) (record { fits = (byte-fits i small) })) (from ! (stop !)) (init ! 11 refl (tt, record { fits = (byte-fits i small) })) $
-          assigns ! (bin ! (load ! (from ! (fld ! refl (stop !))) (look-in ! 16 (sub ! 0 refl (whole !)))) (load ! (from ! (stop !)) (look ! 11 refl)) tt) (from ! (stop !)) (init ! 12 refl (tt, tt)) $
-          rewrite ! 12 (λ (y : ℕ). ‵ (fat fullShare tyPtr l₁₄ 0 (vptr b y))) (sym (place-is 6 o i)) refl $
+          assigns ! (bin ! (load ! (from ! (stop !)) (look ! 4 refl)) (lit ! tt) (record { fits = (byte-fits i small) })) (from ! (stop !)) (init ! 9 refl (tt, record { fits = (byte-fits i small) })) $
+          assigns ! (bin ! (load ! (from ! (fld ! refl (stop !))) (look-in ! 17 (sub ! 0 refl (whole !)))) (load ! (from ! (stop !)) (look ! 9 refl)) tt) (from ! (stop !)) (init ! 10 refl (tt, tt)) $
+          rewrite ! 10 (λ (y : ℕ). ‵ (fat fullShare tyPtr l₁₂ 0 (vptr b y))) (sym (place-is 6 o i)) refl $
           elem-out ! T.the-row (Is T.the-row) (shows 𝓤 H A T.the-row) (LL.vals T.the-type T′.the-laws) (LL.tells T.the-type T′.the-laws) q′ xs i noCell b o small (λ g.
-          assigns ! (of-opd ! (load ! (from ! (hop ! (look ! 14 refl) (stop !))) (look-raw ! 0 refl))) (from ! (stop !)) (init ! 15 refl (LL.lawful T.the-type T′.the-laws 𝓤 H A W .typed (cellAt xs i) _ g .0)) $
+          assigns ! (of-opd ! (load ! (from ! (hop ! (look ! 12 refl) (stop !))) (look-raw ! 0 refl))) (from ! (stop !)) (init ! 13 refl (LL.lawful T.the-type T′.the-laws 𝓤 H A W .typed (cellAt xs i) _ g .0)) $
           elem-back ! T.the-row q′ xs i noCell (LL.vals T.the-type T′.the-laws (cellAt xs i)) b o small $
-          assigns ! (of-opd ! (load ! (from ! (stop !)) (look ! 13 refl))) (from ! (stop !)) (init ! 5 refl (LL.lawful T.the-type T′.the-laws 𝓤 H A W .typed (cellAt xs i) _ g .0)) $
+          assigns ! (of-opd ! (load ! (from ! (stop !)) (look ! 11 refl))) (from ! (stop !)) (init ! 5 refl (LL.lawful T.the-type T′.the-laws 𝓤 H A W .typed (cellAt xs i) _ g .0)) $
           -- which cells its inputs name
           nothing ! $ use1 W (raw (Input 𝓤 H A mem run .pre (to-input i (cellAt xs i .a)))) (asked-input i (cellAt xs i .a) (omega (arith, small, room .0)) (field-fits i g .2)) $
-          calls-at ! fm (Input 𝓤 H A mem run) known-input (to-input i (cellAt xs i .a)) (and-then ! (load ! (from ! (stop !)) (look ! 18 refl)) (and-then ! (load ! (from ! (stop !)) (look ! 5 refl)) (and-then ! (load ! (from ! (fld ! refl (stop !))) (look-in ! 6 (sub ! 2 refl (whole !)))) (no-more !)))) (λ wa.
+          calls-at ! fm (Input 𝓤 H A mem run) known-input (to-input i (cellAt xs i .a)) (and-then ! (load ! (from ! (stop !)) (look ! 19 refl)) (and-then ! (load ! (from ! (stop !)) (look ! 5 refl)) (and-then ! (load ! (from ! (fld ! refl (stop !))) (look-in ! 6 (sub ! 2 refl (whole !)))) (no-more !)))) (λ wa.
           use1 W (later (some (λ (j : ℕ). (‵ ftrue ⊛ ‵ (usize .own j (wa ∷ []))) ⊛ raw (ensured 𝓤 H A input.ended (input.clauses 𝓤 H A mem run) tt (n, (i, (cellAt xs i .a, tt))) tt j)))) (id⊢ 𝓤 _) $ await ! tt $ pick ! (λ ja.
           split ! $ move ! (1 ∷ []) $ use1 W (raw (fact 𝓤 (Names i (cellAt xs i .a) ja))) (said-input i (cellAt xs i .a) ja) $ heard ! (Names i (cellAt xs i .a) ja) (λ ea. split ! $ drop ! $
           facts ! usize (Is usize) (shows 𝓤 H A usize) ja (wa ∷ []) (λ isa.
           land ! (from ! (stop !)) (init ! 6 refl (uint-lawful 𝓤 H A W w64 .typed ja _ isa .0)) $ rewrite ! 6 (λ (u : Val). ‵ (fat fullShare word l₇ 0 u)) (ap only (isa .0)) refl $
           nothing ! $ use1 W (raw (Input 𝓤 H A mem run .pre (to-input i (cellAt xs i .b)))) (asked-input i (cellAt xs i .b) (omega (arith, small, room .0)) (field-fits i g .3)) $
-          calls-at ! fm (Input 𝓤 H A mem run) known-input (to-input i (cellAt xs i .b)) (and-then ! (load ! (from ! (stop !)) (look ! 18 refl)) (and-then ! (load ! (from ! (stop !)) (look ! 5 refl)) (and-then ! (load ! (from ! (fld ! refl (stop !))) (look-in ! 6 (sub ! 3 refl (whole !)))) (no-more !)))) (λ wb.
+          calls-at ! fm (Input 𝓤 H A mem run) known-input (to-input i (cellAt xs i .b)) (and-then ! (load ! (from ! (stop !)) (look ! 19 refl)) (and-then ! (load ! (from ! (stop !)) (look ! 5 refl)) (and-then ! (load ! (from ! (fld ! refl (stop !))) (look-in ! 6 (sub ! 3 refl (whole !)))) (no-more !)))) (λ wb.
           use1 W (later (some (λ (j : ℕ). (‵ ftrue ⊛ ‵ (usize .own j (wb ∷ []))) ⊛ raw (ensured 𝓤 H A input.ended (input.clauses 𝓤 H A mem run) tt (n, (i, (cellAt xs i .b, tt))) tt j)))) (id⊢ 𝓤 _) $ await ! tt $ pick ! (λ jb.
           split ! $ move ! (1 ∷ []) $ use1 W (raw (fact 𝓤 (Names i (cellAt xs i .b) jb))) (said-input i (cellAt xs i .b) jb) $ heard ! (Names i (cellAt xs i .b) jb) (λ eb. split ! $ drop ! $
           facts ! usize (Is usize) (shows 𝓤 H A usize) jb (wb ∷ []) (λ isb.
           land ! (from ! (stop !)) (init ! 7 refl (uint-lawful 𝓤 H A W w64 .typed jb _ isb .0)) $ rewrite ! 7 (λ (u : Val). ‵ (fat fullShare word l₈ 0 u)) (ap only (isb .0)) refl $
-          -- those cells
-          assigns ! (bin ! (load ! (from ! (stop !)) (look ! 6 refl)) (lit ! tt) (record { fits = (byte-fits ja (named-in n i (cellAt xs i .a) ja small ea)) })) (from ! (stop !)) (store ! 11 refl (tt, record { fits = (byte-fits ja (named-in n i (cellAt xs i .a) ja small ea)) })) $
-          assigns ! (bin ! (load ! (from ! (fld ! refl (stop !))) (look-in ! 16 (sub ! 0 refl (whole !)))) (load ! (from ! (stop !)) (look ! 11 refl)) tt) (from ! (stop !)) (init ! 14 refl (tt, tt)) $
-          rewrite ! 14 (λ (y : ℕ). ‵ (fat fullShare tyPtr l₁₆ 0 (vptr b y))) (sym (place-is 6 o ja)) refl $
+          -- the kinds of those cells
+          assigns ! (bin ! (load ! (from ! (stop !)) (look ! 6 refl)) (lit ! tt) (record { fits = (byte-fits ja (named-in n i (cellAt xs i .a) ja small ea)) })) (from ! (stop !)) (store ! 9 refl (tt, record { fits = (byte-fits ja (named-in n i (cellAt xs i .a) ja small ea)) })) $
+          assigns ! (bin ! (load ! (from ! (fld ! refl (stop !))) (look-in ! 17 (sub ! 0 refl (whole !)))) (load ! (from ! (stop !)) (look ! 9 refl)) tt) (from ! (stop !)) (init ! 12 refl (tt, tt)) $
+          rewrite ! 12 (λ (y : ℕ). ‵ (fat fullShare tyPtr l₁₄ 0 (vptr b y))) (sym (place-is 6 o ja)) refl $
           elem-out ! T.the-row (Is T.the-row) (shows 𝓤 H A T.the-row) (LL.vals T.the-type T′.the-laws) (LL.tells T.the-type T′.the-laws) q′ xs ja noCell b o (named-in n i (cellAt xs i .a) ja small ea) (λ ga.
-          assigns ! (of-opd ! (load ! (from ! (hop ! (look ! 16 refl) (stop !))) (look-raw ! 0 refl))) (from ! (stop !)) (store ! 15 refl (LL.lawful T.the-type T′.the-laws 𝓤 H A W .typed (cellAt xs ja) _ ga .0)) $
+          assigns ! (of-opd ! (load ! (from ! (hop ! (look ! 14 refl) (fld ! refl (stop !)))) (look-in ! 0 (sub ! 0 refl (whole !))))) (from ! (stop !)) (init ! 15 refl (tt, record { fits = field-fits ja ga .0 })) $
           elem-back ! T.the-row q′ xs ja noCell (LL.vals T.the-type T′.the-laws (cellAt xs ja)) b o (named-in n i (cellAt xs i .a) ja small ea) $
-          assigns ! (of-opd ! (load ! (from ! (stop !)) (look ! 13 refl))) (from ! (stop !)) (init ! 8 refl (LL.lawful T.the-type T′.the-laws 𝓤 H A W .typed (cellAt xs ja) _ ga .0)) $
-          assigns ! (bin ! (load ! (from ! (stop !)) (look ! 7 refl)) (lit ! tt) (record { fits = (byte-fits jb (named-in n i (cellAt xs i .b) jb small eb)) })) (from ! (stop !)) (store ! 11 refl (tt, record { fits = (byte-fits jb (named-in n i (cellAt xs i .b) jb small eb)) })) $
-          assigns ! (bin ! (load ! (from ! (fld ! refl (stop !))) (look-in ! 16 (sub ! 0 refl (whole !)))) (load ! (from ! (stop !)) (look ! 11 refl)) tt) (from ! (stop !)) (init ! 15 refl (tt, tt)) $
+          assigns ! (bin ! (load ! (from ! (stop !)) (look ! 7 refl)) (lit ! tt) (record { fits = (byte-fits jb (named-in n i (cellAt xs i .b) jb small eb)) })) (from ! (stop !)) (init ! 14 refl (tt, record { fits = (byte-fits jb (named-in n i (cellAt xs i .b) jb small eb)) })) $
+          assigns ! (bin ! (load ! (from ! (fld ! refl (stop !))) (look-in ! 17 (sub ! 0 refl (whole !)))) (load ! (from ! (stop !)) (look ! 14 refl)) tt) (from ! (stop !)) (init ! 15 refl (tt, tt)) $
           rewrite ! 15 (λ (y : ℕ). ‵ (fat fullShare tyPtr l₁₇ 0 (vptr b y))) (sym (place-is 6 o jb)) refl $
           elem-out ! T.the-row (Is T.the-row) (shows 𝓤 H A T.the-row) (LL.vals T.the-type T′.the-laws) (LL.tells T.the-type T′.the-laws) q′ xs jb noCell b o (named-in n i (cellAt xs i .b) jb small eb) (λ gb.
-          assigns ! (of-opd ! (load ! (from ! (hop ! (look ! 17 refl) (stop !))) (look-raw ! 0 refl))) (from ! (stop !)) (store ! 15 refl (LL.lawful T.the-type T′.the-laws 𝓤 H A W .typed (cellAt xs jb) _ gb .0)) $
+          assigns ! (of-opd ! (load ! (from ! (hop ! (look ! 17 refl) (fld ! refl (stop !)))) (look-in ! 0 (sub ! 0 refl (whole !))))) (from ! (stop !)) (init ! 18 refl (tt, record { fits = field-fits jb gb .0 })) $
           elem-back ! T.the-row q′ xs jb noCell (LL.vals T.the-type T′.the-laws (cellAt xs jb)) b o (named-in n i (cellAt xs i .b) jb small eb) $
-          assigns ! (of-opd ! (load ! (from ! (stop !)) (look ! 13 refl))) (from ! (stop !)) (init ! 9 refl (LL.lawful T.the-type T′.the-laws 𝓤 H A W .typed (cellAt xs jb) _ gb .0)) $
           -- the scan with the cell
           owned ! T.the-row (Is T.the-row) ((LL.makes T.the-type T′.the-plain) 𝓤 H A) (cellAt xs i) _ g $ owned ! S.the-row (Is S.the-row) ((LL.makes S.the-type S′.the-plain) 𝓤 H A) s (v ∷ []) was $
           use2 W (raw (Next 𝓤 H A mem run .pre (to-step s v i ja jb))) (asked-step s v i ja jb (omega (arith, small, p .count), p .few) (omega (arith, small, room .0)) (field-fits ja ga .0) (field-fits jb gb .0)) $
           calls-at ! fm (Next 𝓤 H A mem run) known-step (to-step s v i ja jb) (and-then ! (load ! (from ! (stop !)) (look ! 4 refl)) (and-then ! (load ! (from ! (stop !)) (look ! 5 refl)) (and-then ! (load ! (from ! (stop !)) (look ! 6 refl))
-          (and-then ! (load ! (from ! (fld ! refl (stop !))) (look-in ! 9 (sub ! 0 refl (whole !)))) (and-then ! (load ! (from ! (fld ! refl (stop !))) (look-in ! 10 (sub ! 0 refl (whole !)))) (no-more !)))))) (λ u.
+          (and-then ! (load ! (from ! (stop !)) (look ! 14 refl)) (and-then ! (load ! (from ! (stop !)) (look ! 17 refl)) (no-more !)))))) (λ u.
           use1 W (later (some (λ (r : Scan). (‵ ftrue ⊛ ‵ (S.the-row .own r (u ∷ []))) ⊛ raw (ensured 𝓤 H A step.ended (step.clauses 𝓤 H A mem run) tt (next s v i ja jb) tt r)))) (id⊢ 𝓤 _) $ await ! tt $ pick ! (λ r.
           split ! $ move ! (1 ∷ []) $ use1 W (raw (fact 𝓤 (Makes s v i ja jb r))) (said-step s v i ja jb r) $ heard ! (Makes s v i ja jb r) (λ e. split ! $ drop ! $
           facts ! S.the-row (Is S.the-row) (shows 𝓤 H A S.the-row) r (u ∷ []) (λ is.
           land ! (from ! (stop !)) (store ! 3 refl (LL.lawful S.the-type S′.the-laws 𝓤 H A W .typed r _ is .0)) $
           assigns-last ! (bin ! (load ! (from ! (stop !)) (look ! 4 refl)) (lit ! tt) (record { fits = next-fits })) (from ! (stop !)) (store ! 4 refl (tt, record { fits = next-fits })) $
-          forget ! 5 refl $ forget ! 6 refl $ forget ! 7 refl $ forget ! 8 refl $ forget ! 9 refl $ forget ! 10 refl $ forget ! 11 refl $ forget ! 12 refl $ forget ! 13 refl $ forget ! 14 refl $ forget ! 15 refl $
+          forget ! 5 refl $ forget ! 6 refl $ forget ! 7 refl $ forget ! 8 refl $ forget ! 9 refl $ forget ! 10 refl $ forget ! 11 refl $ forget ! 12 refl $ forget ! 13 refl $ forget ! 14 refl $ forget ! 15 refl $ forget ! 16 refl $
           by ! (go r u (e xs finish (record { here = refl; first = named-there xs i (cellAt xs i .a) ja ea; second = named-there xs i (cellAt xs i .b) jb eb }) p) is))))))))))))))))
         where
           byte-fits : (j : ℕ) → j < n → j * 6 < 2 ^ 64
@@ -288,13 +289,13 @@ module _ {M : Type 1} (𝓤 : URA M) (H : Heap 𝓤) (A : Atoms 𝓤) (W : Given
       unfolding afterTurn
       ends i s v X past e is =
           qed W (At (i, (s, v))) ∵ exec ! (𝓣 .C) (𝓣 .Λ) En turn-1 (anyQ (afterTurn 𝓤 H X Left)) $
-          assigns ! (bin ! (load ! (from ! (stop !)) (look ! 4 refl)) (load ! (from ! (stop !)) (look ! 17 refl)) tt) (from ! (stop !)) (init ! 10 refl (tt, tt)) $
-          rewrite ! 10 (λ (t : Bool). ‵ (fat fullShare tyBool l₁₂ 0 (vbool t))) (le-ltb i n past) refl $
-          leaves-loop ! (load ! (from ! (stop !)) (look ! 10 refl)) $ exec ! (𝓣 .C) (𝓣 .Λ) En t-6 (atRet En Post) $ shuts-slice ! tt T.the-row q′ xs b o $
+          assigns ! (bin ! (load ! (from ! (stop !)) (look ! 4 refl)) (load ! (from ! (stop !)) (look ! 18 refl)) tt) (from ! (stop !)) (init ! 8 refl (tt, tt)) $
+          rewrite ! 8 (λ (t : Bool). ‵ (fat fullShare tyBool l₁₀ 0 (vbool t))) (le-ltb i n past) refl $
+          leaves-loop ! (load ! (from ! (stop !)) (look ! 8 refl)) $ exec ! (𝓣 .C) (𝓣 .Λ) En t-6 (atRet En Post) $ shuts-slice ! tt T.the-row q′ xs b o $
           -- [the token; the slice's borrow; _4; _5; …]
-          assigns ! (of-opd ! (load ! (from ! (stop !)) (look ! 2 refl))) (from ! (stop !)) (init ! 17 refl (LL.lawful S.the-type S′.the-laws 𝓤 H A W .typed s _ is .0)) $
-          returns ! (look ! 17 refl) $ forget ! 2 refl $ forget ! 3 refl $ forget ! 9 refl $ forget ! 15 refl $ forget ! 16 refl $ forget ! 17 refl $ forget ! 18 refl $ forget ! 19 refl $
-          move ! (17 ∷ 21 ∷ []) $ free1 ! $ move ! (15 ∷ 20 ∷ []) $ free1 ! $ move ! (16 ∷ 19 ∷ []) $ free1 ! $ move ! (15 ∷ 18 ∷ []) $ free1 ! $ move ! (2 ∷ 17 ∷ []) $ free1 ! $ move ! (2 ∷ 16 ∷ []) $ free1 ! $ move ! (2 ∷ 15 ∷ []) $ free1 ! $ move ! (2 ∷ 14 ∷ []) $ free1 ! $ move ! (2 ∷ 13 ∷ []) $ free1 ! $ move ! (2 ∷ 12 ∷ []) $ free1 ! $ move ! (2 ∷ 11 ∷ []) $ free1 ! $ move ! (8 ∷ 10 ∷ []) $ free1 ! $ move ! (2 ∷ 9 ∷ []) $ free1 ! $ move ! (2 ∷ 8 ∷ []) $ free1 ! $ move ! (2 ∷ 7 ∷ []) $ free1 ! $ move ! (2 ∷ 6 ∷ []) $ free1 ! $ move ! (2 ∷ 5 ∷ []) $ free1 ! $ move ! (2 ∷ 4 ∷ []) $ free1 ! $ free0 ! $
+          assigns ! (of-opd ! (load ! (from ! (stop !)) (look ! 2 refl))) (from ! (stop !)) (init ! 18 refl (LL.lawful S.the-type S′.the-laws 𝓤 H A W .typed s _ is .0)) $
+          returns ! (look ! 18 refl) $ forget ! 2 refl $ forget ! 3 refl $ forget ! 7 refl $ forget ! 16 refl $ forget ! 17 refl $ forget ! 18 refl $ forget ! 19 refl $ forget ! 20 refl $
+          move ! (18 ∷ 22 ∷ []) $ free1 ! $ move ! (16 ∷ 21 ∷ []) $ free1 ! $ move ! (17 ∷ 20 ∷ []) $ free1 ! $ move ! (16 ∷ 19 ∷ []) $ free1 ! $ move ! (2 ∷ 18 ∷ []) $ free1 ! $ move ! (2 ∷ 17 ∷ []) $ free1 ! $ move ! (2 ∷ 16 ∷ []) $ free1 ! $ move ! (2 ∷ 15 ∷ []) $ free1 ! $ move ! (2 ∷ 14 ∷ []) $ free1 ! $ move ! (11 ∷ 13 ∷ []) $ free1 ! $ move ! (2 ∷ 12 ∷ []) $ free1 ! $ move ! (2 ∷ 11 ∷ []) $ free1 ! $ move ! (2 ∷ 10 ∷ []) $ free1 ! $ move ! (2 ∷ 9 ∷ []) $ free1 ! $ move ! (2 ∷ 8 ∷ []) $ free1 ! $ move ! (2 ∷ 7 ∷ []) $ free1 ! $ move ! (2 ∷ 6 ∷ []) $ free1 ! $ move ! (2 ∷ 5 ∷ []) $ free1 ! $ move ! (2 ∷ 4 ∷ []) $ free1 ! $ free0 ! $
           owned ! S.the-row (Is S.the-row) ((LL.makes S.the-type S′.the-plain) 𝓤 H A) s (v ∷ []) is $ by ! (exits s v e)
 
       one-turn : (t : State) → Ok t → (X : SProp 𝓤) → ((t′ : State) → Ok t′ → left t′ < left t → ent 𝓤 (⋆ 𝓤 H A (At t′)) X) → ent 𝓤 (⋆ 𝓤 H A (At t)) (Wp 𝓤 H (𝓣 .C) (𝓣 .Λ) En turn-1 (afterTurn 𝓤 H X Left))
@@ -306,22 +307,22 @@ module _ {M : Type 1} (𝓤 : URA M) (H : Heap 𝓤) (A : Atoms 𝓤) (W : Given
     walk : ent 𝓤 (onEntry 𝓤 H A f.signature (κ, tt) (q, tt) x at) (WpFn 𝓤 H (𝓣 .C) (𝓣 .Λ) code.function (sliceVal (b, o) n ∷ vint w16 finish ∷ []) Post)
     walk =
         qed W (raw (onEntry 𝓤 H A f.signature (κ, tt) (q, tt) x at) ∷ []) ∵ enter ! (𝓣 .C) (𝓣 .Λ) code.function (sliceVal (b, o) n ∷ vint w16 finish ∷ []) _ $
-        alloc1 ! (λ l₀. alloc1 ! (λ l₁. alloc1 ! (λ l₂. alloc1 ! (λ l₃. alloc1 ! (λ l₄. alloc1 ! (λ l₅. alloc1 ! (λ l₆. alloc1 ! (λ l₇. alloc1 ! (λ l₈. alloc1 ! (λ l₉. alloc1 ! (λ l₁₀. alloc1 ! (λ l₁₁. alloc1 ! (λ l₁₂. alloc1 ! (λ l₁₃. alloc1 ! (λ l₁₄. alloc1 ! (λ l₁₅. alloc1 ! (λ l₁₆. alloc1 ! (λ l₁₇. alloc0 ! $ params1 ! $
-        pass1 ! (init ! 32 refl (tt, (tt, (record { fits = room .0 }, tt)))) $ pass1 ! (init ! 30 refl (tt, record { fits = finish-fits })) $ pass0 ! $
-        assigns ! (of-opd ! (load ! (from ! (fld ! refl (stop !))) (look-in ! 32 (sub ! 1 refl (whole !))))) (from ! (stop !)) (init ! 28 refl (tt, record { fits = room .0 })) $
-        assigns ! (un ! (load ! (from ! (stop !)) (look ! 30 refl)) (record { fits = wide })) (from ! (stop !)) (init ! 12 refl (tt, record { fits = wide })) $
-        -- [_17; …; _16; …; … ; _0; …; what the function is handed]
+        alloc1 ! (λ l₀. alloc1 ! (λ l₁. alloc1 ! (λ l₂. alloc1 ! (λ l₃. alloc1 ! (λ l₄. alloc1 ! (λ l₅. alloc1 ! (λ l₆. alloc1 ! (λ l₇. alloc1 ! (λ l₈. alloc1 ! (λ l₉. alloc1 ! (λ l₁₀. alloc1 ! (λ l₁₁. alloc1 ! (λ l₁₂. alloc1 ! (λ l₁₃. alloc1 ! (λ l₁₄. alloc1 ! (λ l₁₅. alloc1 ! (λ l₁₆. alloc1 ! (λ l₁₇. alloc1 ! (λ l₁₈. alloc0 ! $ params1 ! $
+        pass1 ! (init ! 34 refl (tt, (tt, (record { fits = room .0 }, tt)))) $ pass1 ! (init ! 32 refl (tt, record { fits = finish-fits })) $ pass0 ! $
+        assigns ! (of-opd ! (load ! (from ! (fld ! refl (stop !))) (look-in ! 34 (sub ! 1 refl (whole !))))) (from ! (stop !)) (init ! 30 refl (tt, record { fits = room .0 })) $
+        assigns ! (un ! (load ! (from ! (stop !)) (look ! 32 refl)) (record { fits = wide })) (from ! (stop !)) (init ! 18 refl (tt, record { fits = wide })) $
+        -- [_18; …; _17; …; … ; _0; …; what the function is handed]
         nothing ! $ use1 W (raw (Begin 𝓤 H A mem run .pre to-begin)) asked-begin $
-        calls-at ! fm (Begin 𝓤 H A mem run) known-begin to-begin (and-then ! (load ! (from ! (stop !)) (look ! 29 refl)) (and-then ! (load ! (from ! (stop !)) (look ! 13 refl)) (no-more !))) (λ v.
+        calls-at ! fm (Begin 𝓤 H A mem run) known-begin to-begin (and-then ! (load ! (from ! (stop !)) (look ! 31 refl)) (and-then ! (load ! (from ! (stop !)) (look ! 19 refl)) (no-more !))) (λ v.
         use1 W (later (some (λ (r : Scan). (‵ ftrue ⊛ ‵ (S.the-row .own r (v ∷ []))) ⊛ raw (ensured 𝓤 H A begin.ended (begin.clauses 𝓤 H A mem run) tt (n, (finish, tt)) tt r)))) (id⊢ 𝓤 _) $ await ! tt $ pick ! (λ r.
         split ! $ move ! (1 ∷ []) $ use1 W (raw (fact 𝓤 (Begun n finish r))) (said-begin r) $ heard ! (Begun n finish r) (λ e. split ! $ drop ! $
         facts ! S.the-row (Is S.the-row) (shows 𝓤 H A S.the-row) r (v ∷ []) (λ is.
-        land ! (from ! (stop !)) (init ! 26 refl (LL.lawful S.the-type S′.the-laws 𝓤 H A W .typed r _ is .0)) $
-        assigns ! (of-opd ! (lit ! tt)) (from ! (stop !)) (init ! 24 refl (tt, record { fits = lit< tt })) $
-        move ! (36 ∷ []) $ use1 W (‵ (flft κ q) ⊛ (‵ Shared ⊛ ‵ Named)) opened $ split ! $ move ! (1 ∷ []) $ split ! $ move ! (0 ∷ 2 ∷ []) $
+        land ! (from ! (stop !)) (init ! 28 refl (LL.lawful S.the-type S′.the-laws 𝓤 H A W .typed r _ is .0)) $
+        assigns ! (of-opd ! (lit ! tt)) (from ! (stop !)) (init ! 26 refl (tt, record { fits = lit< tt })) $
+        move ! (38 ∷ []) $ use1 W (‵ (flft κ q) ⊛ (‵ Shared ⊛ ‵ Named)) opened $ split ! $ move ! (1 ∷ []) $ split ! $ move ! (0 ∷ 2 ∷ []) $
         looks-slice ! tt T.the-row (Is T.the-row) (shows 𝓤 H A T.the-row) (LL.vals T.the-type T′.the-laws) (LL.tells T.the-type T′.the-laws) (LL.copy T.the-type T′.the-copy 𝓤 H A W) xs b o (λ q′.
-        keep ! (0 ∷ 1 ∷ 2 ∷ 30 ∷ 28 ∷ 26 ∷ 24 ∷ 22 ∷ 20 ∷ 18 ∷ 14 ∷ 12 ∷ 10 ∷ 8 ∷ 6 ∷ 4 ∷ 36 ∷ 32 ∷ 38 ∷ 34 ∷ 16 ∷ 3 ∷ 39 ∷ 37 ∷ 35 ∷ 33 ∷ 31 ∷ 29 ∷ 27 ∷ 25 ∷ 23 ∷ 21 ∷ 19 ∷ 17 ∷ 15 ∷ 13 ∷ 11 ∷ 9 ∷ 7 ∷ 5 ∷ []) $
-        by ! (loops 𝓤 H A W 𝓣 (En q′ l₀ l₁ l₂ l₃ l₄ l₅ l₆ l₇ l₈ l₉ l₁₀ l₁₁ l₁₂ l₁₃ l₁₄ l₁₅ l₁₆ l₁₇) turn-1 (Left q′ l₀ l₁ l₂ l₃ l₄ l₅ l₆ l₇ l₈ l₉ l₁₀ l₁₁ l₁₂ l₁₃ l₁₄ l₁₅ l₁₆ l₁₇) (At q′ l₀ l₁ l₂ l₃ l₄ l₅ l₆ l₇ l₈ l₉ l₁₀ l₁₁ l₁₂ l₁₃ l₁₄ l₁₅ l₁₆ l₁₇) (Ok q′ l₀ l₁ l₂ l₃ l₄ l₅ l₆ l₇ l₈ l₉ l₁₀ l₁₁ l₁₂ l₁₃ l₁₄ l₁₅ l₁₆ l₁₇) (left q′ l₀ l₁ l₂ l₃ l₄ l₅ l₆ l₇ l₈ l₉ l₁₀ l₁₁ l₁₂ l₁₃ l₁₄ l₁₅ l₁₆ l₁₇) (one-turn q′ l₀ l₁ l₂ l₃ l₄ l₅ l₆ l₇ l₈ l₉ l₁₀ l₁₁ l₁₂ l₁₃ l₁₄ l₁₅ l₁₆ l₁₇) (0, (r, v)) (none-below n, e xs refl, is)))))))))))))))))))))))))
+        keep ! (0 ∷ 1 ∷ 2 ∷ 32 ∷ 30 ∷ 28 ∷ 26 ∷ 24 ∷ 20 ∷ 18 ∷ 16 ∷ 14 ∷ 12 ∷ 10 ∷ 8 ∷ 6 ∷ 4 ∷ 38 ∷ 34 ∷ 40 ∷ 36 ∷ 22 ∷ 3 ∷ 41 ∷ 39 ∷ 37 ∷ 35 ∷ 33 ∷ 31 ∷ 29 ∷ 27 ∷ 25 ∷ 23 ∷ 21 ∷ 19 ∷ 17 ∷ 15 ∷ 13 ∷ 11 ∷ 9 ∷ 7 ∷ 5 ∷ []) $
+        by ! (loops 𝓤 H A W 𝓣 (En q′ l₀ l₁ l₂ l₃ l₄ l₅ l₆ l₇ l₈ l₉ l₁₀ l₁₁ l₁₂ l₁₃ l₁₄ l₁₅ l₁₆ l₁₇ l₁₈) turn-1 (Left q′ l₀ l₁ l₂ l₃ l₄ l₅ l₆ l₇ l₈ l₉ l₁₀ l₁₁ l₁₂ l₁₃ l₁₄ l₁₅ l₁₆ l₁₇ l₁₈) (At q′ l₀ l₁ l₂ l₃ l₄ l₅ l₆ l₇ l₈ l₉ l₁₀ l₁₁ l₁₂ l₁₃ l₁₄ l₁₅ l₁₆ l₁₇ l₁₈) (Ok q′ l₀ l₁ l₂ l₃ l₄ l₅ l₆ l₇ l₈ l₉ l₁₀ l₁₁ l₁₂ l₁₃ l₁₄ l₁₅ l₁₆ l₁₇ l₁₈) (left q′ l₀ l₁ l₂ l₃ l₄ l₅ l₆ l₇ l₈ l₉ l₁₀ l₁₁ l₁₂ l₁₃ l₁₄ l₁₅ l₁₆ l₁₇ l₁₈) (one-turn q′ l₀ l₁ l₂ l₃ l₄ l₅ l₆ l₇ l₈ l₉ l₁₀ l₁₁ l₁₂ l₁₃ l₁₄ l₁₅ l₁₆ l₁₇ l₁₈) (0, (r, v)) (none-below n, e xs refl, is))))))))))))))))))))))))))
 
 module _ {M : Type 1} (𝓤 : URA M) (H : Heap 𝓤) (A : Atoms 𝓤) (W : Given 𝓤 H A) (mem : Memory → SProp 𝓤) (run : Routine → Fun 𝓤) where
   scanned-walks : (𝓣 : Tables 𝓤 H) → FmC 𝓤 H (W .laws) (𝓣 .C) → Triple 𝓤 (𝓣 .C #netlist·rules·begin) (Begin 𝓤 H A mem run) → Triple 𝓤 (𝓣 .C #netlist·rules·input) (Input 𝓤 H A mem run) → Triple 𝓤 (𝓣 .C #netlist·rules·step) (Next 𝓤 H A mem run)

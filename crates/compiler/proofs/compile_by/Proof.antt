@@ -1,5 +1,6 @@
 -- `compile_by` meets its contract. Assumes nothing.
 use mathlib.Core.Path.{sym, _∙_}
+use native.Mathlib.Omega.{arith}
 use borrow.Author.Needs.{needs}
 use Rattle.compiler.proofs.Call.{scanned, list-room, compile-refused, compile-short, compile-done}
 use Rattle.compiler.proofs.compile_by.Statement.{statement}
@@ -55,7 +56,8 @@ put-file-requires c κs =
     let if1 = c .before .before .if1 in
     let put-netlist = c .before .before .before .before .before .put-netlist in
     let accepted = sym (scan .ensures .checked) ∙ enum-told .given .1 in
-    (if1 .left, list-room _ (put-netlist .ensures) (c .before .before .before .before .before .before .before .before .before .before .before .before .before .before .args .table) accepted (put-netlist .kept .0))
+    let room = list-room _ (put-netlist .ensures) (c .before .before .before .before .before .before .before .before .before .before .before .before .before .before .args .table) accepted (put-netlist .kept .0) in
+    omega (arith, if1 .left, room)
 
 same-length : tie.Need-same-length
 same-length c = search needs

@@ -10,10 +10,9 @@ use lib.Seq.{sets, sets-eq, length-sets, drop-cons, drop-set-lt, take-append-sea
 use Rattle.model.specs.declared.Cell.{Cell}
 use Rattle.model.specs.Circuit.{noCell, cellAt}
 use Rattle.model.specs.NetlistFile.{cellFrom, cellsAt, inFile, blocksFor}
-use Rattle.model.specs.CellSlices.{moved, behind}
+use Rattle.model.specs.CellSlices.{movedFrom, moved, behind}
 use Rattle.netlist.specs.declared.cells.Layout.the-variants.{InFile}
 use Rattle.netlist.specs.Offsets.{Room}
-use Rattle.cells.specs.Moves.{movedFrom}
 use Rattle.netlist.proofs.Bytes.{cells-more, cells-none}
 
 pub move-more : (k end : ℕ) (cs : List Cell) (i : ℕ) {c : Cell} → i < end → end ≤ length cs → c ≡ moved k (cellAt cs i)

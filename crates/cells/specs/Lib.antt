@@ -1,4 +1,3 @@
 -- Definitions that the contracts cite beside those of model.
-pub mod Moves
 pub mod Plans
 pub mod Writes

@@ -4,13 +4,12 @@ ghost use mathlib.Core.Path.{_≡_};
 ghost use Prim.Native.Nat.{_-_, _*_, _≤_};
 ghost use lib.ListN.{length, take};
 ghost use lib.Seq.{sets};
-ghost use Rattle.model.specs.CellSlices.{behind, checkCellsCall, writeCellsCall, readCellsCall};
+ghost use Rattle.model.specs.CellSlices.{movedFrom, behind, checkCellsCall, writeCellsCall, readCellsCall};
 ghost use Rattle.model.specs.NetlistFile.{cellsAt, inFile, blocksFor, fileOf};
 ghost use Rattle.reply.specs.Replies.{checkedReply, writtenReply, replied, roomFor, ifRoom};
 ghost use Rattle.netlist.specs.declared.cells.Layout.the-variants.{InFile};
 ghost use Rattle.netlist.specs.Offsets.{Room};
 ghost use Rattle.netlist.specs.Scans.{Scanned};
-ghost use Rattle.cells.specs.Moves.{movedFrom};
 
 mod checking; // what the check tells
 pub mod moves; // one cell moved, and cells of six bytes each

@@ -28,7 +28,7 @@ fn names_b(kind: u8) -> bool
 }
 
 // An input, k places later where it names a cell.
-fn shifted(names: bool, j: u16, k: u16) -> u16
+fn renumbered(names: bool, j: u16, k: u16) -> u16
     ensures { λ r. ⌜ r ≡ pick names (renumbered k j) j ⌝ }
 {
     if names {
@@ -41,8 +41,8 @@ fn shifted(names: bool, j: u16, k: u16) -> u16
 pub fn moved(c: Cell, k: u16) -> Cell
     ensures { λ r. ⌜ r ≡ moved k c ⌝ }
 {
-    let a = shifted(names_a(c.kind), c.a, k);
-    let b = shifted(names_b(c.kind), c.b, k);
+    let a = renumbered(names_a(c.kind), c.a, k);
+    let b = renumbered(names_b(c.kind), c.b, k);
     Cell {
         kind: c.kind,
         delay: c.delay,

@@ -49,13 +49,12 @@ use denote.Triple.Clauses.{ensured, lasts}
 use Rattle.model.specs.declared.Cell.{Cell}
 use Rattle.model.specs.Circuit.{noCell}
 use Rattle.model.specs.NetlistFile.{cellFrom, cellsAt, inFile}
-use Rattle.model.specs.CellSlices.{behind}
+use Rattle.model.specs.CellSlices.{movedFrom, behind}
 use Rattle.netlist.specs.declared.cells.Layout.the-variants.{InFile}
 use Rattle.netlist.specs.Offsets.{Room as Holds}
 use Rattle.netlist.proofs.Bytes.{cells-length}
 use Rattle.model.proofs.Cell as T
 use Rattle.model.proofs.Cell.Laws as T′
-use Rattle.cells.specs.Moves.{movedFrom}
 use Rattle.cells.proofs.Turns.{by-less, loops}
 use Rattle.cells.proofs.Moving.{placedFrom, place-begin, place-more, place-done, place-fits, place-move}
 use Rattle.cells.proofs.reading.file_cell as one

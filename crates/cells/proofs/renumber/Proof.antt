@@ -46,11 +46,10 @@ use denote.Exit.{yes}
 use denote.Triple.Clauses.{ensured, lasts}
 use Rattle.model.specs.declared.Cell.{Cell}
 use Rattle.model.specs.Circuit.{noCell, cellAt}
-use Rattle.model.specs.CellSlices.{moved}
+use Rattle.model.specs.CellSlices.{movedFrom, moved}
 use Rattle.model.proofs.Cell as T
 use Rattle.model.proofs.Cell.Laws as T′
 use Rattle.cells.proofs.Turns.{by-less, loops}
-use Rattle.cells.specs.Moves.{movedFrom}
 use Rattle.cells.proofs.Moving.{move-more, move-done}
 use Rattle.cells.proofs.moves.moved as one
 use Rattle.cells.proofs.moves.moved.Symbol as one-def

@@ -8,20 +8,20 @@ use Rattle.cells.proofs.moves.moved.Tie as tie
 names-a-requires : tie.Need-names-a-requires
 names-a-requires c κs = search needs
 
-shifted-requires : tie.Need-shifted-requires
-shifted-requires c κs = search needs
+renumbered-requires : tie.Need-renumbered-requires
+renumbered-requires c κs = search needs
 
 names-b-requires : tie.Need-names-b-requires
 names-b-requires c κs = search needs
 
-shifted-requires-2 : tie.Need-shifted-requires-2
-shifted-requires-2 c κs = search needs
+renumbered-requires-2 : tie.Need-renumbered-requires-2
+renumbered-requires-2 c κs = search needs
 
 returns : tie.Need-returns
 unfolding moved
-returns c = rw (c .shifted2 .ensures, c .before .names-b .ensures, c .before .before .shifted .ensures, c .before .before .before .names-a .ensures) refl
+returns c = rw (c .renumbered2 .ensures, c .before .names-b .ensures, c .before .before .renumbered .ensures, c .before .before .before .names-a .ensures) refl
 
 pub moved-spec : {M : Type 1} → statement M
 moved-spec =
     tie.close
-    (tie.spec names-a-requires shifted-requires names-b-requires shifted-requires-2 returns)
+    (tie.spec names-a-requires renumbered-requires names-b-requires renumbered-requires-2 returns)

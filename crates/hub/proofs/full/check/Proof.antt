@@ -28,7 +28,7 @@ returns-2 c =
     let told = c .before .before in
     let args = told .before .before .before .before .before .before .before .args in
     let accepted = (sym (told .before .before .check-by .ensures) ∙ told .enum-told .given .1) in
-    c .refuse .ensures ∙ at-budget (args .table) (args .program .now) (args .words .now) (args .budget) (args .netlist .now) (args .state .now) accepted (c .before .if1 .taken)
+    c .refuse .ensures ∙ at-budget (args .table) (args .program .now) (args .words .now) (args .budget) (args .netlist .now) (args .state .now) accepted (omega (arith, c .before .if1 .taken))
 
 refuse-requires-2 : tie.Need-refuse-requires-2
 refuse-requires-2 c κs = search needs
@@ -83,7 +83,7 @@ returns-5 c =
     let args = told .before .before .before .before .before .before .before .args in
     let accepted = (sym (told .before .before .check-by .ensures) ∙ told .enum-told .given .1) in
     c .refuse4 .ensures
-    ∙ at-state (args .table) (args .program .now) (args .words .now) (args .budget) (args .netlist .now) (args .state .now) accepted (c .before .before .before .before .before .if1 .left) (c .before .before .before .before .if2 .left) (c .before .before .before .count-cells .ensures) (c .before .before .if3 .left) (c .before .if4 .taken)
+    ∙ at-state (args .table) (args .program .now) (args .words .now) (args .budget) (args .netlist .now) (args .state .now) accepted (c .before .before .before .before .before .if1 .left) (c .before .before .before .before .if2 .left) (c .before .before .before .count-cells .ensures) (c .before .before .if3 .left) (omega (arith, c .before .if4 .taken))
 
 returns-6 : tie.Need-returns-6
 returns-6 c =

@@ -33,7 +33,7 @@ full-run-requires c κs =
     let r = ready (args .table) (args .program .now) (args .words .now) (args .budget) (args .netlist .now) (args .state .now) (start .pre) in
     let known = c .before .before .before .before .before .before .before .before .before .before .shared-slice-known .given in
     let same = part-is (compiledFile (args .program .now)) (args .netlist .now) _ _ (compile .ensures .0) (compile .ensures .1) in
-    rw same (runs (args .table) (args .program .now) (args .words .now) (args .budget) (args .netlist .now) (args .state .now) (λ i. omega (arith, known i)) r, r .start, r .few)
+    rw same (runs (args .table) (args .program .now) (args .words .now) (args .budget) (args .netlist .now) (args .state .now) (λ i. omega (arith, known i)) r, r .start, omega (arith, r .few))
 
 same-length : tie.Need-same-length
 same-length c = search needs

@@ -8,9 +8,9 @@ use lib.Seq.{sets, sets-eq, getD-drop, drop-append-seam}
 use Rattle.model.specs.declared.Cell.{Cell}
 use Rattle.model.specs.NetlistFile.{cellBytes, cellFrom, cellsAt, inList}
 use Rattle.model.specs.CellSlices.{moved, movedBytes}
-use Rattle.laws.specs.NetlistFile.CellBytes.{bytes-length, same-cell}
-use Rattle.netlist.proofs.Writes.{sets-append}
-use Rattle.netlist.proofs.Bytes.{cells-more, cells-none, cell-bytes-append}
+use Rattle.laws.specs.NetlistFile.CellBytes.{bytes-length, same-cell, bytes-append}
+use Rattle.laws.specs.Lists.Writes.{sets-append}
+use Rattle.netlist.proofs.Bytes.{cells-more, cells-none}
 
 -- Cell after cell ----------------------------------------------------------------------------------------------------------------------
 
@@ -45,7 +45,7 @@ module _ (k end : ℕ) (s : List ℕ) (i : ℕ) where
       let d : drop (6 * (i + 1)) t ≡ drop (6 * (i + 1)) s = rw (q, ← z) (drop-behind s (cellBytes (next ∷ [])) (6 * i) (omega (arith, six, h, g))) in
       let a : cellsAt inList s (i + 1) (end - i - 1) ≡ cellsAt inList t (i + 1) (end - (i + 1)) = rw m (sym (cells-same t s (6 * (i + 1)) d (i + 1) (end - (i + 1)) (omega arith))) in
       let b : sets s (6 * i) (cellBytes (next ∷ []) ++ cellBytes cs) ≡ sets t (6 * (i + 1)) (cellBytes cs) = rw (q, ← z) (sets-append s (6 * i) (cellBytes (next ∷ [])) (cellBytes cs)) in
-      rw (cells-more inList s i (end - i) (omega arith), ← e, ← f, cell-bytes-append (next ∷ []) cs) (b ∙ ap (λ (ds : List Cell). sets t (6 * (i + 1)) (cellBytes (map (moved k) ds))) a)
+      rw (cells-more inList s i (end - i) (omega arith), ← e, ← f, bytes-append (next ∷ []) cs) (b ∙ ap (λ (ds : List Cell). sets t (6 * (i + 1)) (cellBytes (map (moved k) ds))) a)
 
   pub bytes-done : end ≤ i → movedBytes k end s i ≡ s
   unfolding cellBytes

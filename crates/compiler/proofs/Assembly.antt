@@ -20,9 +20,8 @@ use Rattle.laws.specs.Numbering.Parts.{delayCells, clockOrs, memoryCells, walkC
 use Rattle.laws.specs.Numbering.Count.{fits}
 use Rattle.laws.specs.Program.Accepted.{program-fit}
 use Rattle.laws.specs.Program.Size.{few-nodes}
-use Rattle.laws.specs.NetlistFile.CellBytes.{from-bytes, cells-are}
+use Rattle.laws.specs.NetlistFile.CellBytes.{from-bytes, cells-are, bytes-length}
 use Rattle.word.proofs.Puts.{overwrite-sets}
-use Rattle.netlist.proofs.Bytes.{cell-bytes-length}
 use Rattle.compiler.specs.declared.walk.Place.{Place}
 use Rattle.compiler.specs.declared.ors.Ors.{Ors}
 use Rattle.compiler.specs.declared.ors.Joint.{Joint}
@@ -195,7 +194,7 @@ cells-put cs s h =
     cells-are inList (sets s 0 (cellBytes cs)) cs 0 (length cs) refl
     (λ i l.
     let z : 6 * (0 + i) ≡ 6 * i = omega arith in
-    rw (z, ← overwrite-sets (cellBytes cs) s (omega (arith, cell-bytes-length cs))) (from-bytes cs _ i l))
+    rw (z, ← overwrite-sets (cellBytes cs) s (omega (arith, bytes-length cs))) (from-bytes cs _ i l))
 
 pub made : {s ends : List ℕ} {n : ℕ} → Given s ends n → {b₁ b₂ b₃ b₄ b₅ b₆ : List ℕ} {r : Ors} {w : Finished} → length b₁ ≡ n
     → Clocked (programOf s) b₁ r

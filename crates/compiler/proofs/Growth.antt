@@ -10,7 +10,7 @@ use Rattle.model.specs.declared.Cell.{Cell}
 use Rattle.model.specs.Program.{Stmt, ok, tick, assign, seq, par, ite, while, repeat}
 use Rattle.model.specs.Numbering.{ifDelayCount, pastSwitches, delayCount, walkCount, finishWire, delays, walk}
 use Rattle.laws.specs.Numbering.Lengths.{d-len, w-len}
-use Rattle.netlist.proofs.Writes.{sets-append}
+use Rattle.laws.specs.Lists.Writes.{sets-append}
 use Rattle.compiler.specs.declared.walk.Place.{Place}
 use Rattle.compiler.specs.Writes.{write, both}
 use Rattle.compiler.specs.Walk.{assignments, marksOf, Done}

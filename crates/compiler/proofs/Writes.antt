@@ -1,25 +1,19 @@
 -- Runs of cells in a list of bytes: one after another, and two that do not meet. Assumes nothing.
-use mathlib.Core.List.{List, [], _∷_, _++_}
+use mathlib.Core.List.{List, [], _++_}
 use mathlib.Core.Path.{_≡_, refl, sym, _∙_, ap}
 use Prim.Native.Nat.{ℕ, _+_, _*_, _≤_}
 use native.Mathlib.Omega.{arith}
 use lib.ListN.{length}
 use lib.Seq.{length-sets}
 use Rattle.model.specs.declared.Cell.{Cell}
-use Rattle.model.specs.Word.{bytes16}
 use Rattle.model.specs.NetlistFile.{cellBytes}
-use Rattle.netlist.proofs.Writes.{sets-append, sets-swap}
-use Rattle.netlist.proofs.Bytes.{cell-bytes-length}
+use Rattle.laws.specs.NetlistFile.CellBytes.{bytes-length, bytes-append}
+use Rattle.laws.specs.Lists.Writes.{sets-append, sets-swap}
 use Rattle.compiler.specs.Writes.{write, both}
 
 -- a number behind a run, by the run's length
 pub behind : (k : ℕ) {l n : ℕ} → l ≡ n → k + n ≡ k + l
 behind k e = ap (λ (n : ℕ). k + n) (sym e)
-
-bytes-append : (xs ys : List Cell) → cellBytes (xs ++ ys) ≡ cellBytes xs ++ cellBytes ys
-unfolding cellBytes bytes16
-bytes-append [] ys = refl
-bytes-append (x ∷ xs) ys = rw (bytes-append xs ys)
 
 pub write-none : (k : ℕ) (s : List ℕ) → write k [] s ≡ s
 unfolding write cellBytes
@@ -32,12 +26,12 @@ write-length k xs s = length-sets s (6 * k) (cellBytes xs)
 pub write-append : (k m : ℕ) (xs ys : List Cell) (s : List ℕ) → m ≡ k + length xs → write m ys (write k xs s) ≡ write k (xs ++ ys) s
 unfolding write
 write-append k m xs ys s e =
-    let p : 6 * m ≡ 6 * k + length (cellBytes xs) = omega (arith, cell-bytes-length xs) in
+    let p : 6 * m ≡ 6 * k + length (cellBytes xs) = omega (arith, bytes-length xs) in
     rw (p, bytes-append xs ys) (sym (sets-append s (6 * k) (cellBytes xs) (cellBytes ys)))
 
 pub write-swap : (k j : ℕ) (xs ys : List Cell) (s : List ℕ) → k + length xs ≤ j → write k xs (write j ys s) ≡ write j ys (write k xs s)
 unfolding write
-write-swap k j xs ys s h = sets-swap s (6 * k) (cellBytes xs) (6 * j) (cellBytes ys) (omega (arith, cell-bytes-length xs))
+write-swap k j xs ys s h = sets-swap s (6 * k) (cellBytes xs) (6 * j) (cellBytes ys) (omega (arith, bytes-length xs))
 
 -- a run put in before another
 pub write-before : (k m : ℕ) (xs ys : List Cell) (s : List ℕ) → m ≡ k + length xs → write k xs (write m ys s) ≡ write k (xs ++ ys) s

@@ -1,3 +1,4 @@
+pub mod Lists
 pub mod Refusals
 pub mod Program
 pub mod Rules

@@ -8,7 +8,7 @@ use lib.ListN.{length, set, getD, drop, drop-of-length-le, length-append}
 use lib.Seq.{sets, drop-cons}
 use Rattle.model.specs.Calls.{overwrite}
 use Rattle.word.proofs.Puts.{overwrite-sets}
-use Rattle.netlist.proofs.Writes.{sets-append}
+use Rattle.laws.specs.Lists.Writes.{sets-append}
 
 module _ (d v : List ℕ) (at b : ℕ) {d′ : List ℕ} {k : ℕ} where
   -- a byte after what was put in

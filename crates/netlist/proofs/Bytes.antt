@@ -10,10 +10,11 @@ use Rattle.model.specs.declared.Cell.{Cell}
 use Rattle.model.specs.Word.{bytes16, put16}
 use Rattle.model.specs.Circuit.{cellAt, noCell}
 use Rattle.model.specs.NetlistFile.{cellBytes, cellFrom, cellsAt, sumWith}
+use Rattle.laws.specs.NetlistFile.CellBytes.{bytes-length, bytes-append}
 use Rattle.netlist.specs.declared.cells.Layout.{Layout}
 use Rattle.netlist.specs.declared.cells.Layout.the-variants.{InList, InFile}
 use Rattle.netlist.specs.Offsets.{offset, size, Room}
-use Rattle.netlist.proofs.Writes.{sets-append}
+use Rattle.laws.specs.Lists.Writes.{sets-append}
 
 -- Where cells stand --------------------------------------------------------------------------------------------------------------------
 
@@ -72,16 +73,6 @@ module _ (at : ℕ → ℕ) (s : List ℕ) where
 
 -- The bytes and the words of cells -----------------------------------------------------------------------------------------------------
 
-pub cell-bytes-length : (cs : List Cell) → length (cellBytes cs) ≡ 6 * length cs
-unfolding cellBytes bytes16
-cell-bytes-length [] = refl
-cell-bytes-length (c ∷ cs) = omega (arith, cell-bytes-length cs)
-
-pub cell-bytes-append : (cs ds : List Cell) → cellBytes (cs ++ ds) ≡ cellBytes cs ++ cellBytes ds
-unfolding cellBytes bytes16
-cell-bytes-append [] ds = refl
-cell-bytes-append (c ∷ cs) ds = rw (cell-bytes-append cs ds) refl
-
 -- One cell put in ----------------------------------------------------------------------------------------------------------------------
 
 pub cell-put : (d : List ℕ) (i : ℕ) (c : Cell) {d₁ d₂ : List ℕ} → d₁ ≡ put16 (set (set d i (c .kind)) (i + 1) (c .delay)) (i + 2) (c .a)
@@ -102,10 +93,10 @@ module _ (at : ℕ → ℕ) (s : List ℕ) (k n : ℕ) (c : Cell) (more : 0 < n)
       → sets d i (cellBytes (cellsAt at s k n)) ≡ sets d′ (i + 6) (cellBytes (cellsAt at s (k + 1) (n - 1)))
   put-more d i f =
       let cs = cellsAt at s (k + 1) (n - 1) in
-      let l : length (cellBytes (c ∷ [])) ≡ 6 = cell-bytes-length (c ∷ []) in
+      let l : length (cellBytes (c ∷ [])) ≡ 6 = bytes-length (c ∷ []) in
       let q : sets d i (cellBytes (c ∷ []) ++ cellBytes cs) ≡ sets (sets d i (cellBytes (c ∷ []))) (i + 6) (cellBytes cs) =
       rw l at (sets-append d i (cellBytes (c ∷ [])) (cellBytes cs)) in
-      rw (cells-more at s k n more, ← e, cell-bytes-append (c ∷ []) cs, f) q
+      rw (cells-more at s k n more, ← e, bytes-append (c ∷ []) cs, f) q
 
 module _ (at : ℕ → ℕ) (s : List ℕ) (k n : ℕ) (none : n ≡ 0) where
   pub put-done : (d : List ℕ) (i : ℕ) → sets d i (cellBytes (cellsAt at s k n)) ≡ d

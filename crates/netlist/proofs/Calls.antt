@@ -16,10 +16,11 @@ use Rattle.model.specs.declared.Written.the-variants.{Done}
 use Rattle.model.specs.Refusals.{refuseIf, first}
 use Rattle.model.specs.NetlistFile.{cellBytes, cellsAt, inList, inFile, fileOf, blocksFor, countOf, finishOf, cellsOf, countWrong, netCheck, fileCheck}
 use Rattle.model.specs.Calls.{Returned, short, writing, cellsIn, writeCall, readCall}
+use Rattle.laws.specs.NetlistFile.CellBytes.{bytes-length}
 use Rattle.netlist.specs.declared.cells.Layout.the-variants.{InList}
 use Rattle.netlist.specs.Offsets.{Room}
 use Rattle.word.proofs.Puts.{overwrite-sets}
-use Rattle.netlist.proofs.Bytes.{cells-length, cell-bytes-length}
+use Rattle.netlist.proofs.Bytes.{cells-length}
 use Rattle.laws.specs.NetlistFile.Files.{file-length}
 use Rattle.netlist.proofs.FileChecks.{neither, counted}
 
@@ -47,7 +48,7 @@ module _ (file lent : List ℕ) where
     unfolding readCall writing cellsOf
     read-done finish h q =
         let bytes = cellBytes (cellsAt inFile file 0 n) in
-        let l : length bytes ≡ 6 * n = cell-bytes-length (cellsAt inFile file 0 n) ∙ ap (λ (x : ℕ). 6 * x) (cells-length inFile file 0 n) in
+        let l : length bytes ≡ 6 * n = bytes-length (cellsAt inFile file 0 n) ∙ ap (λ (x : ℕ). 6 * x) (cells-length inFile file 0 n) in
         rw (e, ← count, ← finish, le-ltb _ _ h) (refl, q ∙ sym (overwrite-sets bytes lent (omega arith)))
 
 -- Writing ------------------------------------------------------------------------------------------------------------------------------

@@ -1,5 +1,4 @@
--- The laws behind the proofs of the functions. A crate that puts cells in by itself needs Writes, Bytes and Putting.
-pub mod Writes
+-- The laws behind the proofs of the functions. A crate that puts cells in by itself needs Bytes and Putting.
 pub mod Bytes
 pub mod CellChecks
 pub mod BlockChecks

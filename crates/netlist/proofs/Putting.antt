@@ -13,13 +13,13 @@ use Rattle.model.specs.declared.Cell.{Cell}
 use Rattle.model.specs.Word.{pick, bytes16, put16}
 use Rattle.model.specs.Circuit.{cellAt, noCell}
 use Rattle.model.specs.NetlistFile.{cellBytes, sumWith, runningSum, checkFor, block, blocks, blocksFor, fileOf, restBytes}
+use Rattle.laws.specs.NetlistFile.CellBytes.{bytes-length, bytes-append}
 use Rattle.laws.specs.Refusals.Laws.{by-bool}
 use Rattle.laws.specs.NetlistFile.RunningSum.{running-sum}
 use Rattle.laws.specs.NetlistFile.Blocks.{blocks-length}
 use Rattle.netlist.specs.declared.blocks.Header.{Header}
 use Rattle.netlist.specs.Blocks.{headerBytes, firstOf, filledTo, sumTo, Filled}
-use Rattle.netlist.proofs.Writes.{sets-append, sets-before}
-use Rattle.netlist.proofs.Bytes.{cell-bytes-length, cell-bytes-append}
+use Rattle.laws.specs.Lists.Writes.{sets-append, sets-before}
 use Rattle.netlist.proofs.FileChecks.{neither}
 
 -- Zeros --------------------------------------------------------------------------------------------------------------------------------
@@ -53,7 +53,7 @@ block-put : (d : List ℕ) (i : ℕ) (h : Header) (cs : List Cell) {n sum : ℕ}
     → d₂ ≡ sets d i (block (h .number) (h .count) (h .finish) cs)
 unfolding block bytes16
 block-put d i h cs {n} l e s f =
-    let b : i + 8 + 6 * n ≡ i + 8 + length (cellBytes cs) = omega (arith, cell-bytes-length cs, l) in
+    let b : i + 8 + 6 * n ≡ i + 8 + length (cellBytes cs) = omega (arith, bytes-length cs, l) in
     rw (f, b, ← l, e, ← sets-append d (i + 8) (cellBytes cs) (replicate (504 - 6 * length cs) 0), s)
     (sets-before d i (headerBytes h ++ bytes16 (checkFor (runningSum (h .number) (h .count) (h .finish) cs))) (restBytes cs))
 
@@ -94,8 +94,8 @@ module _ (net : List Cell) (finish : ℕ) (was : List ℕ) where
     filled-more f g =
         let cs = firstOf net b j in
         let l : 512 * b + 8 + 6 * j ≡ 512 * b + 8 + length (cellBytes cs) =
-        omega (arith, cell-bytes-length cs, first-length b j (omega (arith, h))) in
-        rw (g, f, first-more, cell-bytes-append cs (c ∷ []), l) (sym (sets-append _ (512 * b + 8) (cellBytes cs) (cellBytes (c ∷ []))))
+        omega (arith, bytes-length cs, first-length b j (omega (arith, h))) in
+        rw (g, f, first-more, bytes-append cs (c ∷ []), l) (sym (sets-append _ (512 * b + 8) (cellBytes cs) (cellBytes (c ∷ []))))
 
     sum-more : {s s′ : ℕ} → s ≡ sumTo net finish b j → s′ ≡ sumWith s c → s′ ≡ sumTo net finish b (j + 1)
     sum-more f g = rw (g, f, first-more) (sym (running-sum b (length net) finish .after (firstOf net b j) c))

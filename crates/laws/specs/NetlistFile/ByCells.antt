@@ -4,7 +4,7 @@
 use mathlib.Core.Bool.{Bool, true, false}
 use mathlib.Core.List.{List, [], _∷_, _++_, append-nil}
 use mathlib.Core.Path.{_≡_, refl, sym, _∙_, ap, ap₂}
-use Prim.Native.Nat.{ℕ, zero, suc, _+_, _-_, _*_, _/_, _%_, _<_, _≤_}
+use Prim.Native.Nat.{ℕ, zero, suc, _+_, _-_, _*_, _%_, _<_, _≤_}
 use native.Mathlib.Nat.{zero-add}
 use native.Mathlib.Omega.{arith}
 use borrow.Author.Tests.{lt-ltb, le-ltb}
@@ -22,15 +22,10 @@ use Rattle.model.specs.CellSlices.{namesA, namesB, renumbered, moved, behind, m
 use Rattle.model.specs.Promises.{Bytes}
 use Rattle.model.specs.CellPromises.{SameCells}
 use Rattle.laws.specs.Refusals.Laws.{by-le}
-use Rattle.laws.specs.NetlistFile.CellBytes.{bytes-length, from-bytes, cells-are}
+use Rattle.laws.specs.NetlistFile.CellBytes.{bytes-length, bytes-append, from-bytes, cells-are}
 use Rattle.laws.specs.NetlistFile.ReadWrite.{cells-in-bytes}
 
 -- Parts of lists -----------------------------------------------------------------------------------------------------------------------
-
-pub bytes-append : (cs ds : List Cell) → cellBytes (cs ++ ds) ≡ cellBytes cs ++ cellBytes ds
-unfolding cellBytes bytes16
-bytes-append [] ds = refl
-bytes-append (c ∷ cs) ds = rw (bytes-append cs ds) refl
 
 take-bytes : (j : ℕ) (cs : List Cell) → take (6 * j) (cellBytes cs) ≡ cellBytes (take j cs)
 unfolding cellBytes bytes16
@@ -54,12 +49,7 @@ sets-bytes cs ds i h =
     let b : sets cs i ds ≡ (take i cs ++ ds) ++ drop (i + length ds) cs = sets-eq ds cs i h in
     a ∙ rw (z, take-bytes i cs, drop-bytes (i + length ds) cs, b, bytes-append (take i cs ++ ds) (drop (i + length ds) cs), bytes-append (take i cs) ds) refl
 
--- the cells that a list of their six bytes each holds, and those of a part of it
-pub cells-of-bytes : (cs : List Cell) (n : ℕ) → length cs ≡ n → cellsAt inList (cellBytes cs) 0 n ≡ cs
-cells-of-bytes cs n e =
-    let z : length (cellBytes cs) / 6 ≡ n = omega (arith, bytes-length cs) in
-    rw z at (cells-in-bytes cs)
-
+-- the cells of a part of a list of six bytes each
 part-of-bytes : (cs : List Cell) (i n : ℕ) → i + n ≤ length cs → cellsAt inList (cellBytes cs) i n ≡ take n (drop i cs)
 part-of-bytes cs i n h =
     cells-are inList (cellBytes cs) (take n (drop i cs)) i n (length-take n (drop i cs) ∙ simp length-drop (omega (arith, h)))

@@ -61,6 +61,11 @@ unfolding cellBytes bytes16
 bytes-length [] = refl
 bytes-length (c ∷ cs) = omega (arith, bytes-length cs)
 
+pub bytes-append : (cs ds : List Cell) → cellBytes (cs ++ ds) ≡ cellBytes cs ++ cellBytes ds
+unfolding cellBytes bytes16
+bytes-append [] ds = refl
+bytes-append (c ∷ cs) ds = rw (bytes-append cs ds) refl
+
 pub from-bytes : (cs : List Cell) (q : List ℕ) (k : ℕ) → k < length cs → cellFrom (cellBytes cs ++ q) (6 * k) ≡ cellAt cs k
 from-bytes [] q k l = absurd (omega arith)
 from-bytes (c ∷ cs) q zero l = ap (λ (s : List ℕ). cellFrom s 0) (six-more c cs q) ∙ from-six c (cellBytes cs ++ q)

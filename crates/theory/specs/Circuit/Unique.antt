@@ -66,7 +66,7 @@ module _ (n : ℕ) (U W : Values) where
       let e₂ : U (c .a) (suc t) ≡ W (c .a) (suc t) = h .1 (c .a) la in
       let e₃ : U (c .b) t ≡ W (c .b) t = h .0 t (le-refl (suc t)) (c .b) lb in
       let e₄ : U k t ≡ W k t = h .0 t (le-refl (suc t)) k l in
-      λ i. pick (eqb (e₁ i) 1 && not (eqb (e₂ i) 1)) (e₃ i) (e₄ i)
+      rw (e₁, e₂, e₃, e₄)
 
   pub shape-cong : (s : Shape) (first k : ℕ) (c : Cell) (t : ℕ) → k < n → Looks s n k c → Before t k
       → equation s first U k c t ≡ equation s first W k c t

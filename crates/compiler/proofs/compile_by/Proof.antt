@@ -6,12 +6,6 @@ use Rattle.compiler.proofs.Call.{scanned, list-room, compile-refused, c
 use Rattle.compiler.proofs.compile_by.Statement.{statement}
 use Rattle.compiler.proofs.compile_by.Tie as tie
 
-scan-requires : tie.Need-scan-requires
-scan-requires c κs = search needs
-
-enum-known-checked : tie.Need-enum-known-checked
-enum-known-checked c = search needs
-
 returns : tie.Need-returns
 returns c =
     let scan = c .before .before .before .scan in
@@ -20,23 +14,11 @@ returns c =
 enum-told : tie.Need-enum-told
 enum-told c = search needs
 
-slice-aggregate-put-netlist : tie.Need-slice-aggregate-put-netlist
-slice-aggregate-put-netlist c = search needs
-
 put-netlist-requires : tie.Need-put-netlist-requires
 put-netlist-requires c κs =
     let scan = c .before .before .before .before .before .scan in
     let enum-told = c .before .before .before .enum-told in
     scanned (c .before .before .before .before .before .before .before .before .args .table) (scan .ensures) (sym (scan .ensures .checked) ∙ enum-told .given .1)
-
-cast-n : tie.Need-cast-n
-cast-n c = search needs
-
-add-count : tie.Need-add-count
-add-count c = search needs
-
-mul-count : tie.Need-mul-count
-mul-count c = search needs
 
 returns-2 : tie.Need-returns-2
 returns-2 c =
@@ -45,9 +27,6 @@ returns-2 c =
     let put-netlist = c .before .before .before .put-netlist in
     let accepted = sym (scan .ensures .checked) ∙ enum-told .given .1 in
     compile-short _ (put-netlist .ensures) (c .before .before .before .before .before .before .before .before .before .before .before .before .args .table) accepted (c .if1 .taken)
-
-slice-aggregate-put-file : tie.Need-slice-aggregate-put-file
-slice-aggregate-put-file c = search needs
 
 put-file-requires : tie.Need-put-file-requires
 put-file-requires c κs =
@@ -58,9 +37,6 @@ put-file-requires c κs =
     let accepted = sym (scan .ensures .checked) ∙ enum-told .given .1 in
     let room = list-room _ (put-netlist .ensures) (c .before .before .before .before .before .before .before .before .before .before .before .before .before .before .args .table) accepted (put-netlist .kept .0) in
     omega (arith, if1 .left, room)
-
-same-length : tie.Need-same-length
-same-length c = search needs
 
 returns-3 : tie.Need-returns-3
 returns-3 c =
@@ -75,5 +51,5 @@ returns-3 c =
 pub compile-by-spec : {M : Type 1} → statement M
 compile-by-spec =
     tie.close
-    (tie.spec scan-requires enum-known-checked returns enum-told slice-aggregate-put-netlist put-netlist-requires cast-n add-count
-    mul-count returns-2 slice-aggregate-put-file put-file-requires same-length returns-3)
+    (tie.spec (λ c κs. search needs) (λ c. search needs) returns enum-told (λ c. search needs) put-netlist-requires (λ c. search needs) (λ c. search needs)
+    (λ c. search needs) returns-2 (λ c. search needs) put-file-requires (λ c. search needs) returns-3)

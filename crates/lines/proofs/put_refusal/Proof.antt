@@ -9,12 +9,6 @@ use Rattle.lines.proofs.Puts.{number-put, put-both, put-over}
 use Rattle.lines.proofs.put_refusal.Statement.{statement}
 use Rattle.lines.proofs.put_refusal.Tie as tie
 
-slice-aggregate-put-bytes : tie.Need-slice-aggregate-put-bytes
-slice-aggregate-put-bytes c = search needs
-
-put-bytes-requires : tie.Need-put-bytes-requires
-put-bytes-requires c κs = search needs
-
 put-number-requires : tie.Need-put-number-requires
 put-number-requires c κs =
     let start = c .before .before .before .before .before .before .before in
@@ -26,9 +20,6 @@ put-number-requires-2 c κs =
     let word = number .before .before .before .before in
     let start = word .before .before .before .before in
     omega (arith, start .pre, decimal-length (start .args .number), decimal-length (start .args .place), word .put-bytes .ensures .0, number .put-number .ensures .0)
-
-same-length : tie.Need-same-length
-same-length c = search needs
 
 returns : tie.Need-returns
 unfolding line
@@ -52,9 +43,9 @@ pub put-refusal-spec : {M : Type 1} → statement M
 put-refusal-spec =
     tie.close
     (tie.spec
-    slice-aggregate-put-bytes
-    put-bytes-requires
+    (λ c. search needs)
+    (λ c κs. search needs)
     put-number-requires
     put-number-requires-2
-    same-length
+    (λ c. search needs)
     returns)

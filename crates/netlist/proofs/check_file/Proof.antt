@@ -15,9 +15,6 @@ check-sums-requires : tie.Need-check-sums-requires
 unfolding fileLengthWrong
 check-sums-requires c κs = omega (arith, whole-file (c .before .before .args .file .now) (c .if1 .left))
 
-enum-known-sums : tie.Need-enum-known-sums
-enum-known-sums c = search needs
-
 returns-2 : tie.Need-returns-2
 unfolding fileLengthWrong
 returns-2 c =
@@ -34,20 +31,11 @@ get16-requires c κs =
     let args = c .before .before .before .before .before .args in
     omega (arith, whole-file (args .file .now) (c .before .before .before .if1 .left))
 
-cast-count : tie.Need-cast-count
-cast-count c = search needs
-
 get16-requires-2 : tie.Need-get16-requires-2
 unfolding fileLengthWrong
 get16-requires-2 c κs =
     let args = c .before .before .before .before .before .before .args in
     omega (arith, whole-file (args .file .now) (c .before .before .before .before .if1 .left))
-
-cast-finish : tie.Need-cast-finish
-cast-finish c = search needs
-
-count-wrong-requires : tie.Need-count-wrong-requires
-count-wrong-requires c κs = search needs
 
 returns-3 : tie.Need-returns-3
 unfolding fileLengthWrong
@@ -69,9 +57,6 @@ check-headers-requires c κs =
     let right = counted _ _ _ (sym (c .before .count-wrong .ensures) ∙ c .if2 .left) in
     (omega arith, right .high, right .blocks, c .before .before .before .get16 .ensures, c .before .before .get162 .ensures)
 
-enum-known-headers : tie.Need-enum-known-headers
-enum-known-headers c = search needs
-
 returns-4 : tie.Need-returns-4
 unfolding fileLengthWrong
 returns-4 c =
@@ -87,9 +72,6 @@ returns-4 c =
     let count-right = sym (count-wrong .ensures) ∙ c .before .before .before .before .if2 .left in
     headers-refused s (if1 .left) sums-right (get16 .ensures) (get162 .ensures) count-right
     (sym (c .before .before .before .check-headers .ensures) ∙ c .before .headers .given .1)
-
-enum-told-2 : tie.Need-enum-told-2
-enum-told-2 c = search needs
 
 check-cells-requires : tie.Need-check-cells-requires
 unfolding fileLengthWrong
@@ -121,18 +103,18 @@ check-file-spec =
     (tie.spec
     returns
     check-sums-requires
-    enum-known-sums
+    (λ c. search needs)
     returns-2
     enum-told
     get16-requires
-    cast-count
+    (λ c. search needs)
     get16-requires-2
-    cast-finish
-    count-wrong-requires
+    (λ c. search needs)
+    (λ c κs. search needs)
     returns-3
     check-headers-requires
-    enum-known-headers
+    (λ c. search needs)
     returns-4
-    enum-told-2
+    (λ c. search needs)
     check-cells-requires
     returns-5)

@@ -10,12 +10,6 @@ use Rattle.netlist.proofs.Calls.{read-refused, read-short, read-done}
 use Rattle.netlist.proofs.read_netlist.Statement.{statement}
 use Rattle.netlist.proofs.read_netlist.Tie as tie
 
-check-file-requires : tie.Need-check-file-requires
-check-file-requires c κs = search needs
-
-enum-known-checked : tie.Need-enum-known-checked
-enum-known-checked c = search needs
-
 returns : tie.Need-returns
 returns c =
     let args = c .before .before .before .before .before .before .args in
@@ -30,17 +24,11 @@ get16-requires c κs =
     let accepted = sym (c .before .before .check-file .ensures) ∙ c .enum-told .given .1 in
     omega (arith, accepted-whole (args .file .now) accepted)
 
-cast-count : tie.Need-cast-count
-cast-count c = search needs
-
 get16-requires-2 : tie.Need-get16-requires-2
 get16-requires-2 c κs =
     let args = c .before .before .before .before .before .before .args in
     let accepted = sym (c .before .before .before .check-file .ensures) ∙ c .before .enum-told .given .1 in
     omega (arith, accepted-whole (args .file .now) accepted)
-
-mul-if1 : tie.Need-mul-if1
-mul-if1 c = search needs
 
 returns-2 : tie.Need-returns-2
 returns-2 c =
@@ -60,9 +48,6 @@ put-cells-requires c κs =
     let room : Room InFile file (0 + get16 .result) = rw (z, get16 .ensures) (accepted-room file accepted) in
     (room, omega arith)
 
-same-length : tie.Need-same-length
-same-length c = search needs
-
 returns-3 : tie.Need-returns-3
 returns-3 c =
     let args = c .before .before .before .before .before .before .before .before .before .before .before .before .args in
@@ -78,15 +63,15 @@ pub read-netlist-spec : {M : Type 1} → statement M
 read-netlist-spec =
     tie.close
     (tie.spec
-    check-file-requires
-    enum-known-checked
+    (λ c κs. search needs)
+    (λ c. search needs)
     returns
     enum-told
     get16-requires
-    cast-count
+    (λ c. search needs)
     get16-requires-2
-    mul-if1
+    (λ c. search needs)
     returns-2
     put-cells-requires
-    same-length
+    (λ c. search needs)
     returns-3)

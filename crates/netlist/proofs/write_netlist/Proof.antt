@@ -5,12 +5,6 @@ use Rattle.netlist.proofs.Calls.{list-room, count-refused, cells-refuse
 use Rattle.netlist.proofs.write_netlist.Statement.{statement}
 use Rattle.netlist.proofs.write_netlist.Tie as tie
 
-add-m : tie.Need-add-m
-add-m c = search needs
-
-count-wrong-requires : tie.Need-count-wrong-requires
-count-wrong-requires c κs = search needs
-
 returns : tie.Need-returns
 returns c =
     let args = c .before .before .before .before .args in
@@ -26,9 +20,6 @@ check-cells-requires c κs =
     let count-right = rw (c .before .count-wrong .ensures) at (c .if1 .left) in
     list-room cells (args .finish) lent count-right
 
-enum-known-checked : tie.Need-enum-known-checked
-enum-known-checked c = search needs
-
 returns-2 : tie.Need-returns-2
 returns-2 c =
     let args = c .before .before .before .before .before .before .before .before .args in
@@ -40,9 +31,6 @@ returns-2 c =
 
 enum-told : tie.Need-enum-told
 enum-told c = search needs
-
-mul-count : tie.Need-mul-count
-mul-count c = search needs
 
 returns-3 : tie.Need-returns-3
 returns-3 c =
@@ -64,9 +52,6 @@ put-file-requires c κs =
     let count-right = rw (count-wrong .ensures) at (if1 .left) in
     (c .before .if2 .left, list-room cells (args .finish) lent count-right)
 
-same-length : tie.Need-same-length
-same-length c = search needs
-
 returns-4 : tie.Need-returns-4
 returns-4 c =
     let args = c .before .before .before .before .before .before .before .before .before .before .before .before .args in
@@ -85,15 +70,15 @@ pub write-netlist-spec : {M : Type 1} → statement M
 write-netlist-spec =
     tie.close
     (tie.spec
-    add-m
-    count-wrong-requires
+    (λ c. search needs)
+    (λ c κs. search needs)
     returns
     check-cells-requires
-    enum-known-checked
+    (λ c. search needs)
     returns-2
     enum-told
-    mul-count
+    (λ c. search needs)
     returns-3
     put-file-requires
-    same-length
+    (λ c. search needs)
     returns-4)

@@ -3,11 +3,8 @@ use borrow.Author.Needs.{needs}
 use Rattle.program.proofs.check_by.Statement.{statement}
 use Rattle.program.proofs.check_by.Tie as tie
 
-scan-requires : tie.Need-scan-requires
-scan-requires c κs = search needs
-
 returns : tie.Need-returns
 returns c = c .scan .ensures .checked
 
 pub check-by-spec : {M : Type 1} → statement M
-check-by-spec = tie.close (tie.spec scan-requires returns)
+check-by-spec = tie.close (tie.spec (λ c κs. search needs) returns)

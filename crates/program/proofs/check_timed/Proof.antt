@@ -7,14 +7,8 @@ use borrow.Author.Needs.{needs}
 use Rattle.program.proofs.check_timed.Statement.{statement}
 use Rattle.program.proofs.check_timed.Tie as tie
 
-load-requires : tie.Need-load-requires
-load-requires c κs = search needs
-
-check-by-requires : tie.Need-check-by-requires
-check-by-requires c κs = search needs
-
 returns : tie.Need-returns
 returns c = c .check-by .ensures ∙ ap (λ (table : Loaded). checkCall table (now (c .before .before .before .before .args .program))) (c .before .load .ensures)
 
 pub check-timed-spec : {M : Type 1} → statement M
-check-timed-spec = tie.close (tie.spec load-requires check-by-requires returns)
+check-timed-spec = tie.close (tie.spec (λ c κs. search needs) (λ c κs. search needs) returns)

@@ -3,12 +3,6 @@ use borrow.Author.Needs.{needs}
 use Rattle.program.proofs.crosses.Statement.{statement}
 use Rattle.program.proofs.crosses.Tie as tie
 
-uses-requires : tie.Need-uses-requires
-uses-requires c κs = search needs
-
-uses-requires-2 : tie.Need-uses-requires-2
-uses-requires-2 c κs = search needs
-
 returns : tie.Need-returns
 returns c = rw (← c .before .before .uses .ensures, c .before .if1 .taken) (c .uses2 .ensures)
 
@@ -16,4 +10,4 @@ returns-2 : tie.Need-returns-2
 returns-2 c = rw (← c .before .uses .ensures, c .if1 .left)
 
 pub crosses-spec : {M : Type 1} → statement M
-crosses-spec = tie.close (tie.spec uses-requires uses-requires-2 returns returns-2)
+crosses-spec = tie.close (tie.spec (λ c κs. search needs) (λ c κs. search needs) returns returns-2)

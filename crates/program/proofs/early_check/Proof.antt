@@ -6,23 +6,8 @@ use borrow.Author.Needs.{needs}
 use Rattle.program.proofs.early_check.Statement.{statement}
 use Rattle.program.proofs.early_check.Tie as tie
 
-length-wrong-requires : tie.Need-length-wrong-requires
-length-wrong-requires c κs = search needs
-
-refused-requires : tie.Need-refused-requires
-refused-requires c κs = search needs
-
 returns : tie.Need-returns
 returns c = λ τ. rw (← c .before .before .length-wrong .ensures, c .before .if1 .taken) (c .refused .ensures)
-
-first-fault-requires : tie.Need-first-fault-requires
-first-fault-requires c κs = search needs
-
-enum-known-faults : tie.Need-enum-known-faults
-enum-known-faults c = search needs
-
-enum-told : tie.Need-enum-told
-enum-told c = search needs
 
 first-misread-requires : tie.Need-first-misread-requires
 first-misread-requires c κs =
@@ -48,12 +33,12 @@ pub early-check-spec : {M : Type 1} → statement M
 early-check-spec =
     tie.close
     (tie.spec
-    length-wrong-requires
-    refused-requires
+    (λ c κs. search needs)
+    (λ c κs. search needs)
     returns
-    first-fault-requires
-    enum-known-faults
-    enum-told
+    (λ c κs. search needs)
+    (λ c. search needs)
+    (λ c. search needs)
     first-misread-requires
     returns-2
     returns-3)

@@ -8,21 +8,9 @@ use borrow.Author.Needs.{needs}
 use Rattle.program.proofs.fault_of.Statement.{statement}
 use Rattle.program.proofs.fault_of.Tie as tie
 
-kind-row-requires : tie.Need-kind-row-requires
-kind-row-requires c κs = search needs
-
 returns : tie.Need-returns
 unfolding nodeFault
 returns c = rw (← c .before .before .kind-row .ensures, eq-eqb _ _ (c .if1 .taken))
-
-cast-spare : tie.Need-cast-spare
-cast-spare c = search needs
-
-spare-requires : tie.Need-spare-requires
-spare-requires c κs = search needs
-
-spare-requires-2 : tie.Need-spare-requires-2
-spare-requires-2 c κs = search needs
 
 returns-2 : tie.Need-returns-2
 unfolding nodeFault
@@ -57,11 +45,11 @@ pub fault-of-spec : {M : Type 1} → statement M
 fault-of-spec =
     tie.close
     (tie.spec
-    kind-row-requires
+    (λ c κs. search needs)
     returns
-    cast-spare
-    spare-requires
-    spare-requires-2
+    (λ c. search needs)
+    (λ c κs. search needs)
+    (λ c κs. search needs)
     returns-2
     returns-3
     returns-4)

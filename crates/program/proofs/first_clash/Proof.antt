@@ -28,12 +28,6 @@ abbrev μ-nodes : tie.MeasureT-nodes
 nodes-holds : tie.Need-nodes-holds Inv-loop μ-loop Inv-nodes μ-nodes
 nodes-holds c = searched-none _ _
 
-read-node-requires : tie.Need-read-node-requires Inv-loop μ-loop Inv-nodes μ-nodes
-read-node-requires c κs = omega arith
-
-add-next : tie.Need-add-next Inv-loop μ-loop Inv-nodes μ-nodes
-add-next c = omega arith
-
 next-requires : tie.Need-next-requires Inv-loop μ-loop Inv-nodes μ-nodes
 next-requires c κs =
     let pre = c .before .before .before .before .before .before .pre in
@@ -42,9 +36,6 @@ next-requires c κs =
 loop-holds : tie.Need-loop-holds Inv-loop μ-loop Inv-nodes μ-nodes
 loop-holds c = (omega arith, clash-start _ _)
 
-add-crosses : tie.Need-add-crosses Inv-loop μ-loop Inv-nodes μ-nodes
-add-crosses c = omega arith
-
 crosses-requires : tie.Need-crosses-requires Inv-loop μ-loop Inv-nodes μ-nodes
 crosses-requires c κs =
     let pre = c .before .before .before .before .before .before .before .before .before .pre in
@@ -52,9 +43,6 @@ crosses-requires c κs =
     let read-node = c .before .before .before .before .before .read-node in
     let if1 = c .before .before .before .if1 in
     sides _ _ (pre .0) (pre .1) _ (nodes-test .taken) _ (read-node .ensures) (if1 .taken) _ (c .before .before .next .ensures)
-
-add-crosses-2 : tie.Need-add-crosses-2 Inv-loop μ-loop Inv-nodes μ-nodes
-add-crosses-2 c = omega arith
 
 crosses-requires-2 : tie.Need-crosses-requires-2 Inv-loop μ-loop Inv-nodes μ-nodes
 crosses-requires-2 c κs =
@@ -65,22 +53,10 @@ crosses-requires-2 c κs =
     let next = c .before .before .before .next in
     search (sides _ _ (pre .0) (pre .1) _ (nodes-test .taken) _ (read-node .ensures) (if1 .taken) _ (next .ensures))
 
-add-x : tie.Need-add-x Inv-loop μ-loop Inv-nodes μ-nodes
-add-x c = omega arith
-
-loop-less : tie.Need-loop-less Inv-loop μ-loop Inv-nodes μ-nodes
-loop-less c = omega arith
-
 loop-again : tie.Need-loop-again Inv-loop μ-loop Inv-nodes μ-nodes
 loop-again c =
     let loop = c .before .before .before .before .loop in
     (omega arith, clash-next _ _ _ (loop .inv .1) (sym (ap₂ _||_ (c .before .before .crosses .ensures) (c .before .crosses2 .ensures)) ∙ c .if2 .left))
-
-add-i : tie.Need-add-i Inv-loop μ-loop Inv-nodes μ-nodes
-add-i c = omega arith
-
-nodes-less : tie.Need-nodes-less Inv-loop μ-loop Inv-nodes μ-nodes
-nodes-less c = omega arith
 
 nodes-again : tie.Need-nodes-again Inv-loop μ-loop Inv-nodes μ-nodes
 nodes-again c =
@@ -98,12 +74,6 @@ nodes-again c =
     (clash-par _ _ (nodes-test .taken) _ (read-node .ensures) (if1 .taken) _
     (past-trees _ _ _ (pre .1 .each _) _ (next .ensures)) false
     (sym (ap (λ (x : ℕ). conflict x (stmtAt s (nodes .i + 1)) (stmtAt s (next .result))) e) ∙ loop .inv .1))
-
-add-i-2 : tie.Need-add-i-2 Inv-loop μ-loop Inv-nodes μ-nodes
-add-i-2 c = omega arith
-
-nodes-less-2 : tie.Need-nodes-less-2 Inv-loop μ-loop Inv-nodes μ-nodes
-nodes-less-2 c = omega arith
 
 nodes-again-2 : tie.Need-nodes-again-2 Inv-loop μ-loop Inv-nodes μ-nodes
 nodes-again-2 c =
@@ -138,22 +108,22 @@ first-clash-spec =
     Inv-nodes
     μ-nodes
     nodes-holds
-    read-node-requires
-    add-next
+    (λ c κs. omega arith)
+    (λ c. omega arith)
     next-requires
     loop-holds
-    add-crosses
+    (λ c. omega arith)
     crosses-requires
-    add-crosses-2
+    (λ c. omega arith)
     crosses-requires-2
-    add-x
-    loop-less
+    (λ c. omega arith)
+    (λ c. omega arith)
     loop-again
-    add-i
-    nodes-less
+    (λ c. omega arith)
+    (λ c. omega arith)
     nodes-again
-    add-i-2
-    nodes-less-2
+    (λ c. omega arith)
+    (λ c. omega arith)
     nodes-again-2
     refused-requires
     returns

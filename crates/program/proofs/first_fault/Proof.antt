@@ -17,9 +17,6 @@ abbrev μ-loop : tie.MeasureT-loop
 loop-holds : tie.Need-loop-holds Inv-loop μ-loop
 loop-holds c = searched-none _ _
 
-read-node-requires : tie.Need-read-node-requires Inv-loop μ-loop
-read-node-requires c κs = omega arith
-
 fault-of-requires : tie.Need-fault-of-requires Inv-loop μ-loop
 fault-of-requires c κs = tt
 
@@ -34,12 +31,6 @@ returns c =
     c .refused .ensures
     ∙ fault-here (loop .inv) _ (loop-test .taken) (omega (arith, c .before .if1 .taken))
     (sym (c .before .before .fault-of .ensures ∙ ap nodeFault (read-node .ensures)))
-
-add-i : tie.Need-add-i Inv-loop μ-loop
-add-i c = omega arith
-
-loop-less : tie.Need-loop-less Inv-loop μ-loop
-loop-less c = omega arith
 
 loop-again : tie.Need-loop-again Inv-loop μ-loop
 loop-again c =
@@ -57,11 +48,11 @@ first-fault-spec =
     Inv-loop
     μ-loop
     loop-holds
-    read-node-requires
+    (λ c κs. omega arith)
     fault-of-requires
     refused-requires
     returns
-    add-i
-    loop-less
+    (λ c. omega arith)
+    (λ c. omega arith)
     loop-again
     returns-2)

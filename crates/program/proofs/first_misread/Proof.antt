@@ -20,9 +20,6 @@ abbrev μ-loop : tie.MeasureT-loop
 loop-holds : tie.Need-loop-holds Inv-loop μ-loop
 loop-holds c = (omega arith, omega arith, refl)
 
-read-node-requires : tie.Need-read-node-requires Inv-loop μ-loop
-read-node-requires c κs = omega arith
-
 kind-row-requires : tie.Need-kind-row-requires Inv-loop μ-loop
 kind-row-requires c κs = tt
 
@@ -49,24 +46,6 @@ returns-2 c =
     c .refused2 .ensures
     ∙ read-no-stmt _ _ _ _ (loop-test .taken) (read-node .ensures) (kind-row .ensures) _ _ (if1 .taken) (if2 .left) (c .before .if3 .taken)
     ∙ sym (loop .inv .2)
-
-cast-exprs : tie.Need-cast-exprs Inv-loop μ-loop
-cast-exprs c = omega arith
-
-sub-stmts : tie.Need-sub-stmts Inv-loop μ-loop
-sub-stmts c = omega arith
-
-cast-stmts : tie.Need-cast-stmts Inv-loop μ-loop
-cast-stmts c = omega arith
-
-add-stmts : tie.Need-add-stmts Inv-loop μ-loop
-add-stmts c = omega arith
-
-add-i : tie.Need-add-i Inv-loop μ-loop
-add-i c = omega arith
-
-loop-less : tie.Need-loop-less Inv-loop μ-loop
-loop-less c = omega arith
 
 loop-again : tie.Need-loop-again Inv-loop μ-loop
 loop-again c =
@@ -96,21 +75,6 @@ returns-3 c =
     ∙ read-no-expr _ _ _ _ (loop-test .taken) (read-node .ensures) (kind-row .ensures) (loop .exprs) (loop .stmts) (if1 .left) (c .before .if4 .taken)
     ∙ sym (loop .inv .2)
 
-sub-exprs : tie.Need-sub-exprs Inv-loop μ-loop
-sub-exprs c = omega arith
-
-cast-exprs-2 : tie.Need-cast-exprs-2 Inv-loop μ-loop
-cast-exprs-2 c = omega arith
-
-add-exprs : tie.Need-add-exprs Inv-loop μ-loop
-add-exprs c = omega arith
-
-add-i-2 : tie.Need-add-i-2 Inv-loop μ-loop
-add-i-2 c = omega arith
-
-loop-less-2 : tie.Need-loop-less-2 Inv-loop μ-loop
-loop-less-2 c = omega arith
-
 loop-again-2 : tie.Need-loop-again-2 Inv-loop μ-loop
 loop-again-2 c =
     let loop = c .before .before .before .before .before .before .before .loop in
@@ -123,9 +87,6 @@ loop-again-2 c =
       loop .inv .2
           ∙ read-expr _ _ _ _ (loop-test .taken) (read-node .ensures) (kind-row .ensures) (loop .exprs) (loop .stmts) (if1 .left) (c .before .if4 .left),
     )
-
-add-if5 : tie.Need-add-if5 Inv-loop μ-loop
-add-if5 c = omega arith
 
 returns-4 : tie.Need-returns-4 Inv-loop μ-loop
 returns-4 c = read-end _ _ _ _ (c .if5 .taken) (c .before .loop-test .left) ∙ sym (c .before .before .loop .inv .2)
@@ -148,28 +109,28 @@ first-misread-spec =
     Inv-loop
     μ-loop
     loop-holds
-    read-node-requires
+    (λ c κs. omega arith)
     kind-row-requires
     refused-requires
     returns
     refused-requires-2
     returns-2
-    cast-exprs
-    sub-stmts
-    cast-stmts
-    add-stmts
-    add-i
-    loop-less
+    (λ c. omega arith)
+    (λ c. omega arith)
+    (λ c. omega arith)
+    (λ c. omega arith)
+    (λ c. omega arith)
+    (λ c. omega arith)
     loop-again
     refused-requires-3
     returns-3
-    sub-exprs
-    cast-exprs-2
-    add-exprs
-    add-i-2
-    loop-less-2
+    (λ c. omega arith)
+    (λ c. omega arith)
+    (λ c. omega arith)
+    (λ c. omega arith)
+    (λ c. omega arith)
     loop-again-2
-    add-if5
+    (λ c. omega arith)
     returns-4
     refused-requires-4
     returns-5)

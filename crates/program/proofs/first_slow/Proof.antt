@@ -18,12 +18,6 @@ abbrev μ-loop : tie.MeasureT-loop
 loop-holds : tie.Need-loop-holds Inv-loop μ-loop
 loop-holds c = searched-none _ _
 
-read-node-requires : tie.Need-read-node-requires Inv-loop μ-loop
-read-node-requires c κs = omega arith
-
-cast-if1 : tie.Need-cast-if1 Inv-loop μ-loop
-cast-if1 c = omega arith
-
 least-at-requires : tie.Need-least-at-requires Inv-loop μ-loop
 least-at-requires c κs =
     let pre = c .before .before .before .before .before .before .pre in
@@ -41,12 +35,6 @@ returns c =
     c .refused .ensures
     ∙ fault-here (loop .inv) 7 (loop-test .taken) (omega arith)
     (slow-at τ _ _ _ (read-node .ensures) _ (c .before .before .least-at .ensures) (c .before .if1 .taken))
-
-add-i : tie.Need-add-i Inv-loop μ-loop
-add-i c = omega arith
-
-loop-less : tie.Need-loop-less Inv-loop μ-loop
-loop-less c = omega arith
 
 loop-again : tie.Need-loop-again Inv-loop μ-loop
 loop-again c =
@@ -66,12 +54,12 @@ first-slow-spec =
     Inv-loop
     μ-loop
     loop-holds
-    read-node-requires
-    cast-if1
+    (λ c κs. omega arith)
+    (λ c. omega arith)
     least-at-requires
     refused-requires
     returns
-    add-i
-    loop-less
+    (λ c. omega arith)
+    (λ c. omega arith)
     loop-again
     returns-2)

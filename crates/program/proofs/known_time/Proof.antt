@@ -6,15 +6,6 @@ use borrow.Author.Needs.{needs}
 use Rattle.program.proofs.known_time.Statement.{statement}
 use Rattle.program.proofs.known_time.Tie as tie
 
-mul-result : tie.Need-mul-result
-mul-result c = search needs
-
-element-copy-out-result : tie.Need-element-copy-out-result
-element-copy-out-result c = search needs
-
-operator-time-requires : tie.Need-operator-time-requires
-operator-time-requires c κs = search needs
-
 returns : tie.Need-returns
 returns c = c .before .before .before .before .pre .1 (c .before .if1 .taken)
 
@@ -24,4 +15,4 @@ returns-2 c = time-none (timeIn (now (c .before .before .before .before .args .o
 pub known-time-spec : {M : Type 1} → statement M
 known-time-spec =
     tie.close
-    (tie.spec mul-result element-copy-out-result operator-time-requires returns returns-2)
+    (tie.spec (λ c. search needs) (λ c. search needs) (λ c κs. search needs) returns returns-2)

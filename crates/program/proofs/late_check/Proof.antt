@@ -10,12 +10,6 @@ first-slow-requires c κs =
     let pre = c .before .before .pre in
     (pre .0 .short, λ j l. pre .1 j l .timed)
 
-enum-known-slow : tie.Need-enum-known-slow
-enum-known-slow c = search needs
-
-enum-told : tie.Need-enum-told
-enum-told c = search needs
-
 first-clash-requires : tie.Need-first-clash-requires
 first-clash-requires c κs =
     let pre = c .before .before .before .before .before .pre in
@@ -34,4 +28,4 @@ returns-2 c =
 pub late-check-spec : {M : Type 1} → statement M
 late-check-spec =
     tie.close
-    (tie.spec first-slow-requires enum-known-slow enum-told first-clash-requires returns returns-2)
+    (tie.spec first-slow-requires (λ c. search needs) (λ c. search needs) first-clash-requires returns returns-2)

@@ -7,9 +7,6 @@ use borrow.Author.Needs.{needs}
 use Rattle.program.proofs.least_at.Statement.{statement}
 use Rattle.program.proofs.least_at.Tie as tie
 
-read-node-requires : tie.Need-read-node-requires
-read-node-requires c κs = search needs
-
 returns : tie.Need-returns
 returns c =
     let pre = c .before .before .before .before .pre in
@@ -36,21 +33,12 @@ returns-4 c =
     let read-node = c .before .before .before .before .read-node in
     least-par τ _ _ (pre .1) _ (read-node .ensures) (c .if4 .taken)
 
-add-known-time : tie.Need-add-known-time
-add-known-time c = search needs
-
-known-time-requires : tie.Need-known-time-requires
-known-time-requires c κs = search needs
-
 returns-5 : tie.Need-returns-5
 returns-5 c =
     let pre = c .before .before .before .before .before .before .before .before .before .pre in
     let τ = timeIn (now (c .before .before .before .before .before .before .before .before .before .args .operators)) in
     let read-node = c .before .before .before .before .before .before .read-node in
     least-if τ _ _ (pre .1) _ (read-node .ensures) _ (c .before .known-time .ensures) (c .if5 .taken)
-
-larger-requires : tie.Need-larger-requires
-larger-requires c κs = search needs
 
 returns-6 : tie.Need-returns-6
 returns-6 c =
@@ -68,13 +56,13 @@ pub least-at-spec : {M : Type 1} → statement M
 least-at-spec =
     tie.close
     (tie.spec
-    read-node-requires
+    (λ c κs. search needs)
     returns
     returns-2
     returns-3
     returns-4
-    add-known-time
-    known-time-requires
+    (λ c. search needs)
+    (λ c κs. search needs)
     returns-5
-    larger-requires
+    (λ c κs. search needs)
     returns-6)

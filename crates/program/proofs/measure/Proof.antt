@@ -21,12 +21,6 @@ abbrev μ-loop : tie.MeasureT-loop
 loop-holds : tie.Need-loop-holds Inv-loop μ-loop
 loop-holds c = (omega arith, refl, refl, λ j l m. absurd (omega arith))
 
-sub-i : tie.Need-sub-i Inv-loop μ-loop
-sub-i c = omega arith
-
-read-node-requires : tie.Need-read-node-requires Inv-loop μ-loop
-read-node-requires c κs = omega arith
-
 kind-row-requires : tie.Need-kind-row-requires Inv-loop μ-loop
 kind-row-requires c κs = tt
 
@@ -36,41 +30,20 @@ time-at-requires c κs =
     let loop = c .before .before .before .before .before .loop in
     (pre .short, omega arith, λ j l m. loop .inv .3 j (omega arith) m)
 
-add-skip : tie.Need-add-skip Inv-loop μ-loop
-add-skip c = omega arith
-
-cast-skip : tie.Need-cast-skip Inv-loop μ-loop
-cast-skip c = omega arith
-
-cast-skip-2 : tie.Need-cast-skip-2 Inv-loop μ-loop
-cast-skip-2 c = omega arith
-
-add-skip-2 : tie.Need-add-skip-2 Inv-loop μ-loop
-add-skip-2 c = omega arith
-
 skip-requires : tie.Need-skip-requires Inv-loop μ-loop
 skip-requires c κs =
     let pre = c .before .before .before .before .before .before .before .before .before .before .before .before .pre in
     omega (arith, pre .short)
-
-mul-times : tie.Need-mul-times Inv-loop μ-loop
-mul-times c = omega arith
 
 array-write-times : tie.Need-array-write-times Inv-loop μ-loop
 array-write-times c =
     let pre = c .before .before .before .before .before .before .before .before .before .before .before .before .before .pre in
     omega (arith, pre .short)
 
-mul-ends : tie.Need-mul-ends Inv-loop μ-loop
-mul-ends c = omega arith
-
 array-write-ends : tie.Need-array-write-ends Inv-loop μ-loop
 array-write-ends c =
     let pre = c .before .before .before .before .before .before .before .before .before .before .before .before .before .pre in
     omega (arith, pre .short)
-
-loop-less : tie.Need-loop-less Inv-loop μ-loop
-loop-less c = omega arith
 
 loop-again : tie.Need-loop-again Inv-loop μ-loop
 loop-again c =
@@ -112,20 +85,20 @@ measure-spec =
     Inv-loop
     μ-loop
     loop-holds
-    sub-i
-    read-node-requires
+    (λ c. omega arith)
+    (λ c κs. omega arith)
     kind-row-requires
     time-at-requires
-    add-skip
-    cast-skip
-    cast-skip-2
-    add-skip-2
+    (λ c. omega arith)
+    (λ c. omega arith)
+    (λ c. omega arith)
+    (λ c. omega arith)
     skip-requires
-    mul-times
+    (λ c. omega arith)
     array-write-times
-    mul-ends
+    (λ c. omega arith)
     array-write-ends
-    loop-less
+    (λ c. omega arith)
     loop-again
     late-check-requires
     returns)

@@ -5,12 +5,6 @@ use borrow.Author.Needs.{needs}
 use Rattle.program.proofs.next.Statement.{statement}
 use Rattle.program.proofs.next.Tie as tie
 
-mul-result : tie.Need-mul-result
-mul-result c = search needs
-
-element-copy-out-result : tie.Need-element-copy-out-result
-element-copy-out-result c = search needs
-
 returns : tie.Need-returns
 unfolding past
 returns c = rw (lt-ltb _ _ (c .before .if1 .taken))
@@ -20,4 +14,4 @@ unfolding past
 returns-2 c = rw (le-ltb _ _ (c .if1 .left))
 
 pub next-spec : {M : Type 1} → statement M
-next-spec = tie.close (tie.spec mul-result element-copy-out-result returns returns-2)
+next-spec = tie.close (tie.spec (λ c. search needs) (λ c. search needs) returns returns-2)

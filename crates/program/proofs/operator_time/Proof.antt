@@ -6,17 +6,11 @@ use borrow.Author.Needs.{needs}
 use Rattle.program.proofs.operator_time.Statement.{statement}
 use Rattle.program.proofs.operator_time.Tie as tie
 
-shared-slice-read-result : tie.Need-shared-slice-read-result
-shared-slice-read-result c = search needs
-
 cast-result : tie.Need-cast-result
 cast-result c = omega (arith, c .shared-slice-known .given (c .before .before .args .kind))
-
-returns : tie.Need-returns
-returns c = search needs
 
 returns-2 : tie.Need-returns-2
 returns-2 c = sym (List·getD-eq-default (c .before .args .operators .now) 0 (omega arith))
 
 pub operator-time-spec : {M : Type 1} → statement M
-operator-time-spec = tie.close (tie.spec shared-slice-read-result cast-result returns returns-2)
+operator-time-spec = tie.close (tie.spec (λ c. search needs) cast-result (λ c. search needs) returns-2)

@@ -7,21 +7,6 @@ use borrow.Author.Needs.{needs}
 use Rattle.program.proofs.scan.Statement.{statement}
 use Rattle.program.proofs.scan.Tie as tie
 
-enum-known-loaded : tie.Need-enum-known-loaded
-enum-known-loaded c = search needs
-
-unscanned-requires : tie.Need-unscanned-requires
-unscanned-requires c κs = search needs
-
-enum-told : tie.Need-enum-told
-enum-told c = search needs
-
-slice-aggregate-scan-by : tie.Need-slice-aggregate-scan-by
-slice-aggregate-scan-by c = search needs
-
-scan-by-requires : tie.Need-scan-by-requires
-scan-by-requires c κs = search needs
-
 returns : tie.Need-returns
 returns c =
     let start = c .before .before .before .before .before in
@@ -39,10 +24,10 @@ pub scan-spec : {M : Type 1} → statement M
 scan-spec =
     tie.close
     (tie.spec
-    enum-known-loaded
-    unscanned-requires
-    enum-told
-    slice-aggregate-scan-by
-    scan-by-requires
+    (λ c. search needs)
+    (λ c κs. search needs)
+    (λ c. search needs)
+    (λ c. search needs)
+    (λ c κs. search needs)
     returns
     returns-2)

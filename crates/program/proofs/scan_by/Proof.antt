@@ -8,18 +8,6 @@ use borrow.Author.Needs.{needs}
 use Rattle.program.proofs.scan_by.Statement.{statement}
 use Rattle.program.proofs.scan_by.Tie as tie
 
-early-check-requires : tie.Need-early-check-requires
-early-check-requires c κs = search needs
-
-enum-known-early : tie.Need-enum-known-early
-enum-known-early c = search needs
-
-unscanned-requires : tie.Need-unscanned-requires
-unscanned-requires c κs = search needs
-
-enum-told : tie.Need-enum-told
-enum-told c = search needs
-
 measure-requires : tie.Need-measure-requires
 measure-requires c κs = readable (λ k. 0) _ (sym (c .before .before .early-check .ensures (λ k. 0)) ∙ c .enum-told .given .1)
 
@@ -44,4 +32,4 @@ returns-2 c =
 pub scan-by-spec : {M : Type 1} → statement M
 scan-by-spec =
     tie.close
-    (tie.spec early-check-requires enum-known-early unscanned-requires enum-told measure-requires returns returns-2)
+    (tie.spec (λ c κs. search needs) (λ c. search needs) (λ c κs. search needs) (λ c. search needs) measure-requires returns returns-2)

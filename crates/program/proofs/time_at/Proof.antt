@@ -10,19 +10,10 @@ use borrow.Author.Needs.{needs}
 use Rattle.program.proofs.time_at.Statement.{statement}
 use Rattle.program.proofs.time_at.Tie as tie
 
-read-node-requires : tie.Need-read-node-requires
-read-node-requires c κs = search needs
-
-operator-time-requires : tie.Need-operator-time-requires
-operator-time-requires c κs = search needs
-
 returns : tie.Need-returns
 returns c =
     let start = c .before .before .before .before .before in
     time-stmt (timeIn (now (start .args .operators))) _ _ (start .pre .1) _ (c .before .before .read-node .ensures) _ (c .operator-time .ensures) (c .before .if1 .taken)
-
-operator-time-requires-2 : tie.Need-operator-time-requires-2
-operator-time-requires-2 c κs = search needs
 
 returns-2 : tie.Need-returns-2
 returns-2 c =
@@ -33,9 +24,6 @@ returns-3 : tie.Need-returns-3
 returns-3 c =
     let start = c .before .before .before .before .before .before .before in
     time-var (timeIn (now (start .args .operators))) _ _ (start .pre .1) _ (c .before .before .before .before .read-node .ensures) _ (c .before .before .operator-time2 .ensures) (c .if3 .taken)
-
-add-known-time : tie.Need-add-known-time
-add-known-time c = search needs
 
 known-time-requires : tie.Need-known-time-requires
 known-time-requires c κs =
@@ -54,20 +42,11 @@ returns-4 c =
     let start = c .before .before .before .before .before .before .before .before .before in
     time-compl (timeIn (now (start .args .operators))) _ _ (start .pre .1) _ (c .before .before .before .before .before .before .read-node .ensures) _ (c .before .before .before .before .operator-time2 .ensures) _ (c .before .known-time .ensures) (c .if4 .taken)
 
-add-next : tie.Need-add-next
-add-next c = search needs
-
-next-requires : tie.Need-next-requires
-next-requires c κs = search needs
-
 known-time-requires-2 : tie.Need-known-time-requires-2
 known-time-requires-2 c κs =
     let start = c .before .before .before .before .before .before .before .before .before .before in
     let e = past-later (now (start .args .program)) (now (start .args .ends)) (start .args .i + 1) (λ l. start .pre .2 _ (omega arith) l .end) _ (c .next .ensures) in
     (start .pre .0, λ l. start .pre .2 _ (omega (arith, e)) l .timed)
-
-larger-requires : tie.Need-larger-requires
-larger-requires c κs = search needs
 
 add-result-2 : tie.Need-add-result-2
 add-result-2 c =
@@ -93,19 +72,19 @@ pub time-at-spec : {M : Type 1} → statement M
 time-at-spec =
     tie.close
     (tie.spec
-    read-node-requires
-    operator-time-requires
+    (λ c κs. search needs)
+    (λ c κs. search needs)
     returns
-    operator-time-requires-2
+    (λ c κs. search needs)
     returns-2
     returns-3
-    add-known-time
+    (λ c. search needs)
     known-time-requires
     add-result
     returns-4
-    add-next
-    next-requires
+    (λ c. search needs)
+    (λ c κs. search needs)
     known-time-requires-2
-    larger-requires
+    (λ c κs. search needs)
     add-result-2
     returns-5)

@@ -36,12 +36,6 @@ returns c =
     named-here _ _ _ _ _ _ (c .before .before .read-node .ensures) (loop-test .taken) (sym (c .before .names .ensures) ∙ c .if1 .taken)
     ∙ sym (loop .inv) ∙ side-uses _ _ _ pre _ (next .ensures) _ _
 
-add-k : tie.Need-add-k Inv-loop μ-loop
-add-k c = omega arith
-
-loop-less : tie.Need-loop-less Inv-loop μ-loop
-loop-less c = omega arith
-
 loop-again : tie.Need-loop-again Inv-loop μ-loop
 loop-again c =
     let loop = c .before .before .before .before .loop in
@@ -64,7 +58,7 @@ uses-spec =
     read-node-requires
     names-requires
     returns
-    add-k
-    loop-less
+    (λ c. omega arith)
+    (λ c. omega arith)
     loop-again
     returns-2)

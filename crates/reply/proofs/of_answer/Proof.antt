@@ -8,24 +8,6 @@ use Rattle.reply.proofs.of_answer.Lts as lts
 use Rattle.reply.proofs.of_numbers.Reads as of-numbers-reads
 use Rattle.reply.proofs.of_refusal.Reads as of-refusal-reads
 
-enum-told : tie.Need-enum-told
-enum-told c = search needs
-
-of-numbers-requires : tie.Need-of-numbers-requires
-of-numbers-requires c κs = search needs
-
-enum-told-2 : tie.Need-enum-told-2
-enum-told-2 c = search needs
-
-of-numbers-requires-2 : tie.Need-of-numbers-requires-2
-of-numbers-requires-2 c κs = search needs
-
-enum-known-outcome : tie.Need-enum-known-outcome
-enum-known-outcome c = search needs
-
-of-refusal-requires : tie.Need-of-refusal-requires
-of-refusal-requires c κs = search needs
-
 returns : tie.Need-returns
 unfolding outcomeReply
 returns c = rw (c .before .enum-told .given .1) (c .of-numbers .ensures)
@@ -42,12 +24,12 @@ pub of-answer-spec : {M : Type 1} → statement M
 of-answer-spec =
     tie.close
     (tie.spec
-    enum-told
-    of-numbers-requires
-    enum-told-2
-    of-numbers-requires-2
-    enum-known-outcome
-    of-refusal-requires
+    (λ c. search needs)
+    (λ c κs. search needs)
+    (λ c. search needs)
+    (λ c κs. search needs)
+    (λ c. search needs)
+    (λ c κs. search needs)
     returns
     returns-2
     returns-3)

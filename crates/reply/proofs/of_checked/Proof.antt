@@ -9,18 +9,6 @@ use Rattle.reply.proofs.of_checked.Lts as lts
 use Rattle.reply.proofs.of_numbers.Reads as of-numbers-reads
 use Rattle.reply.proofs.of_refusal.Reads as of-refusal-reads
 
-enum-told : tie.Need-enum-told
-enum-told c = search needs
-
-of-numbers-requires : tie.Need-of-numbers-requires
-of-numbers-requires c κs = search needs
-
-enum-known-c : tie.Need-enum-known-c
-enum-known-c c = search needs
-
-of-refusal-requires : tie.Need-of-refusal-requires
-of-refusal-requires c κs = search needs
-
 returns : tie.Need-returns
 unfolding checkedReply
 returns c = c .of-numbers .ensures ∙ ap checkedReply (sym (c .before .enum-told .given .1))
@@ -32,4 +20,4 @@ returns-2 c = c .of-refusal .ensures ∙ ap checkedReply (sym (c .before .before
 pub of-checked-spec : {M : Type 1} → statement M
 of-checked-spec =
     tie.close
-    (tie.spec enum-told of-numbers-requires enum-known-c of-refusal-requires returns returns-2)
+    (tie.spec (λ c. search needs) (λ c κs. search needs) (λ c. search needs) (λ c κs. search needs) returns returns-2)

@@ -14,39 +14,6 @@ use Rattle.reply.proofs.put_words.Reads as put-words-reads
 use Rattle.word.proofs.put16.Reads as put16-reads
 use Rattle.word.proofs.put32.Reads as put32-reads
 
-cast-put16 : tie.Need-cast-put16
-cast-put16 c = search needs
-
-cast-put16-2 : tie.Need-cast-put16-2
-cast-put16-2 c = search needs
-
-mul-put16 : tie.Need-mul-put16
-mul-put16 c = search needs
-
-add-put16 : tie.Need-add-put16
-add-put16 c = search needs
-
-put16-requires : tie.Need-put16-requires
-put16-requires c κs = search needs
-
-put16-requires-2 : tie.Need-put16-requires-2
-put16-requires-2 c κs = search needs
-
-put32-requires : tie.Need-put32-requires
-put32-requires c κs = search needs
-
-put32-requires-2 : tie.Need-put32-requires-2
-put32-requires-2 c κs = search needs
-
-put32-requires-3 : tie.Need-put32-requires-3
-put32-requires-3 c κs = search needs
-
-put-words-requires : tie.Need-put-words-requires
-put-words-requires c κs = search needs
-
-same-length : tie.Need-same-length
-same-length c = search needs
-
 returns : tie.Need-returns
 unfolding replied
 returns c =
@@ -68,15 +35,15 @@ pub put-spec : {M : Type 1} → statement M
 put-spec =
     tie.close
     (tie.spec
-    cast-put16
-    cast-put16-2
-    mul-put16
-    add-put16
-    put16-requires
-    put16-requires-2
-    put32-requires
-    put32-requires-2
-    put32-requires-3
-    put-words-requires
-    same-length
+    (λ c. search needs)
+    (λ c. search needs)
+    (λ c. search needs)
+    (λ c. search needs)
+    (λ c κs. search needs)
+    (λ c κs. search needs)
+    (λ c κs. search needs)
+    (λ c κs. search needs)
+    (λ c κs. search needs)
+    (λ c κs. search needs)
+    (λ c. search needs)
     returns)

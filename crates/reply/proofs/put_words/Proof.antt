@@ -21,26 +21,8 @@ loop-holds : tie.Need-loop-holds Inv-loop μ-loop
 unfolding upTo
 loop-holds c = (omega arith, refl, refl)
 
-mul-put16 : tie.Need-mul-put16 Inv-loop μ-loop
-mul-put16 c = omega arith
-
-add-put16 : tie.Need-add-put16 Inv-loop μ-loop
-add-put16 c = omega arith
-
-mul-put16-2 : tie.Need-mul-put16-2 Inv-loop μ-loop
-mul-put16-2 c = omega arith
-
-array-read-put16 : tie.Need-array-read-put16 Inv-loop μ-loop
-array-read-put16 c = omega arith
-
 put16-requires : tie.Need-put16-requires Inv-loop μ-loop
 put16-requires c κs = omega (arith, c .before .before .loop .inv .1, c .before .before .before .before .pre)
-
-add-k : tie.Need-add-k Inv-loop μ-loop
-add-k c = omega arith
-
-loop-less : tie.Need-loop-less Inv-loop μ-loop
-loop-less c = omega arith
 
 loop-again : tie.Need-loop-again Inv-loop μ-loop
 unfolding upTo
@@ -71,13 +53,13 @@ put-words-spec =
     Inv-loop
     μ-loop
     loop-holds
-    mul-put16
-    add-put16
-    mul-put16-2
-    array-read-put16
+    (λ c. omega arith)
+    (λ c. omega arith)
+    (λ c. omega arith)
+    (λ c. omega arith)
     put16-requires
-    add-k
-    loop-less
+    (λ c. omega arith)
+    (λ c. omega arith)
     loop-again
     same-length
     returns)

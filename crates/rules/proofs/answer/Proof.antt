@@ -4,17 +4,11 @@ use Rattle.rules.proofs.Answers.{answer-ended, answer-open}
 use Rattle.rules.proofs.answer.Statement.{statement}
 use Rattle.rules.proofs.answer.Tie as tie
 
-ended-at-requires : tie.Need-ended-at-requires
-ended-at-requires c κs = search needs
-
 returns : tie.Need-returns
 returns c = answer-ended _ (c .before .before .before .args .ran) _ (c .ended-at .ensures) (c .before .before .if1 .taken)
-
-add-t6 : tie.Need-add-t6
-add-t6 c = search needs
 
 returns-2 : tie.Need-returns-2
 returns-2 c = answer-open _ _ (c .if1 .left)
 
 pub answer-spec : {M : Type 1} → statement M
-answer-spec = tie.close (tie.spec ended-at-requires returns add-t6 returns-2)
+answer-spec = tie.close (tie.spec (λ c κs. search needs) returns (λ c. search needs) returns-2)

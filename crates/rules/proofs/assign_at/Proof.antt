@@ -11,15 +11,9 @@ eval-at-requires c κs = c .before .pre .0 .laid
 with-word-requires : tie.Need-with-word-requires
 with-word-requires c κs = assign-low (c .before .before .pre .0)
 
-add-pause : tie.Need-add-pause
-add-pause c = search needs
-
-pause-requires : tie.Need-pause-requires
-pause-requires c κs = search needs
-
 returns : tie.Need-returns
 returns c = run-assign _ _ _ _ _ _ _ _ (c .before .before .eval-at .ensures) (c .before .with-word .ensures) (c .pause .ensures)
 
 pub assign-at-spec : {M : Type 1} → statement M
 assign-at-spec =
-    tie.close (tie.spec eval-at-requires with-word-requires add-pause pause-requires returns)
+    tie.close (tie.spec eval-at-requires with-word-requires (λ c. search needs) (λ c κs. search needs) returns)

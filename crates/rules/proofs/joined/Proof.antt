@@ -16,38 +16,8 @@ abbrev μ-loop : tie.MeasureT-loop
 loop-holds : tie.Need-loop-holds Inv-loop μ-loop
 loop-holds c = (refl, omega arith, λ x l. absurd (omega arith))
 
-mul-word-joined : tie.Need-mul-word-joined Inv-loop μ-loop
-mul-word-joined c = omega arith
-
-array-read-word-joined : tie.Need-array-read-word-joined Inv-loop μ-loop
-array-read-word-joined c = omega arith
-
-mul-word-joined-2 : tie.Need-mul-word-joined-2 Inv-loop μ-loop
-mul-word-joined-2 c = omega arith
-
-array-read-word-joined-2 : tie.Need-array-read-word-joined-2 Inv-loop μ-loop
-array-read-word-joined-2 c = omega arith
-
-mul-word-joined-3 : tie.Need-mul-word-joined-3 Inv-loop μ-loop
-mul-word-joined-3 c = omega arith
-
-array-read-word-joined-3 : tie.Need-array-read-word-joined-3 Inv-loop μ-loop
-array-read-word-joined-3 c = omega arith
-
 word-joined-requires : tie.Need-word-joined-requires Inv-loop μ-loop
 word-joined-requires c κs = tt
-
-mul-words : tie.Need-mul-words Inv-loop μ-loop
-mul-words c = omega arith
-
-array-write-words : tie.Need-array-write-words Inv-loop μ-loop
-array-write-words c = omega arith
-
-add-x : tie.Need-add-x Inv-loop μ-loop
-add-x c = omega arith
-
-loop-less : tie.Need-loop-less Inv-loop μ-loop
-loop-less c = omega arith
 
 loop-again : tie.Need-loop-again Inv-loop μ-loop
 loop-again c =
@@ -67,16 +37,16 @@ joined-spec =
     Inv-loop
     μ-loop
     loop-holds
-    mul-word-joined
-    array-read-word-joined
-    mul-word-joined-2
-    array-read-word-joined-2
-    mul-word-joined-3
-    array-read-word-joined-3
+    (λ c. omega arith)
+    (λ c. omega arith)
+    (λ c. omega arith)
+    (λ c. omega arith)
+    (λ c. omega arith)
+    (λ c. omega arith)
     word-joined-requires
-    mul-words
-    array-write-words
-    add-x
-    loop-less
+    (λ c. omega arith)
+    (λ c. omega arith)
+    (λ c. omega arith)
+    (λ c. omega arith)
     loop-again
     returns)

@@ -12,11 +12,8 @@ returns : tie.Need-returns
 unfolding runOf
 returns c = record { is = sym (wait-ends _ _ _ (omega arith)); within = omega arith }
 
-unfinished-requires : tie.Need-unfinished-requires
-unfinished-requires c κs = search needs
-
 returns-2 : tie.Need-returns-2
 returns-2 c = stands-still (c .unfinished .ensures) (wait-short _ _ _ (omega arith))
 
 pub pause-spec : {M : Type 1} → statement M
-pause-spec = tie.close (tie.spec returns unfinished-requires returns-2)
+pause-spec = tie.close (tie.spec returns (λ c κs. search needs) returns-2)

@@ -7,20 +7,8 @@ use Rattle.rules.proofs.Answers.{call-refused, call-over, call-short, c
 use Rattle.rules.proofs.reference_by.Statement.{statement}
 use Rattle.rules.proofs.reference_by.Tie as tie
 
-scan-requires : tie.Need-scan-requires
-scan-requires c κs = search needs
-
-enum-known-checked : tie.Need-enum-known-checked
-enum-known-checked c = search needs
-
-refused-requires : tie.Need-refused-requires
-refused-requires c κs = search needs
-
 enum-told : tie.Need-enum-told
 enum-told c = search needs
-
-refused-requires-2 : tie.Need-refused-requires-2
-refused-requires-2 c κs = search needs
 
 returns : tie.Need-returns
 returns c =
@@ -28,9 +16,6 @@ returns c =
     let enum-told = c .before .before .enum-told in
     let accepted = sym (scan .ensures .checked) ∙ enum-told .given .1 in
     c .refused2 .ensures ∙ call-over (c .before .before .before .before .before .before .before .args .table) _ _ _ accepted (c .before .if1 .taken)
-
-refused-requires-3 : tie.Need-refused-requires-3
-refused-requires-3 c κs = search needs
 
 returns-2 : tie.Need-returns-2
 returns-2 c =
@@ -40,18 +25,12 @@ returns-2 c =
     let accepted = sym (scan .ensures .checked) ∙ enum-told .given .1 in
     c .refused3 .ensures ∙ call-short (c .before .before .before .before .before .before .before .before .args .table) _ _ _ accepted (if1 .left) (c .before .if2 .taken)
 
-start-words-requires : tie.Need-start-words-requires
-start-words-requires c κs = search needs
-
 run-at-requires : tie.Need-run-at-requires
 run-at-requires c κs =
     let enum-told = c .before .before .before .before .before .enum-told in
     let scan = c .before .before .before .before .before .before .before .scan in
     let told = enum-told .given .1 in
     record { laid = scanned-laid (c .before .before .before .before .before .before .before .before .before .before .args .table) _ _ (scan .ensures) told; fit = program-fit (c .before .before .before .before .before .before .before .before .before .before .args .table) _ (sym (scan .ensures .checked) ∙ told) }
-
-answer-requires : tie.Need-answer-requires
-answer-requires c κs = search needs
 
 returns-3 : tie.Need-returns-3
 returns-3 c =
@@ -73,16 +52,16 @@ pub reference-by-spec : {M : Type 1} → statement M
 reference-by-spec =
     tie.close
     (tie.spec
-    scan-requires
-    enum-known-checked
-    refused-requires
+    (λ c κs. search needs)
+    (λ c. search needs)
+    (λ c κs. search needs)
     enum-told
-    refused-requires-2
+    (λ c κs. search needs)
     returns
-    refused-requires-3
+    (λ c κs. search needs)
     returns-2
-    start-words-requires
+    (λ c κs. search needs)
     run-at-requires
-    answer-requires
+    (λ c κs. search needs)
     returns-3
     returns-4)

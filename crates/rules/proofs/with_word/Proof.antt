@@ -5,14 +5,8 @@ use Rattle.rules.proofs.Words.{store-set}
 use Rattle.rules.proofs.with_word.Statement.{statement}
 use Rattle.rules.proofs.with_word.Tie as tie
 
-mul-changed : tie.Need-mul-changed
-mul-changed c = search needs
-
-array-write-changed : tie.Need-array-write-changed
-array-write-changed c = search needs
-
 returns : tie.Need-returns
 returns c = store-set _ _ _ (omega arith)
 
 pub with-word-spec : {M : Type 1} → statement M
-with-word-spec = tie.close (tie.spec mul-changed array-write-changed returns)
+with-word-spec = tie.close (tie.spec (λ c. search needs) (λ c. search needs) returns)

@@ -7,12 +7,6 @@ use Rattle.rules.specs.Ran.{storeOf}
 use Rattle.rules.proofs.word_of.Statement.{statement}
 use Rattle.rules.proofs.word_of.Tie as tie
 
-mul-result : tie.Need-mul-result
-mul-result c = search needs
-
-array-read-result : tie.Need-array-read-result
-array-read-result c = search needs
-
 returns : tie.Need-returns
 unfolding storeOf
 returns c = refl
@@ -22,4 +16,4 @@ unfolding storeOf
 returns-2 c = sym (List·getD-eq-default (c .before .args .t1) 0 (omega arith))
 
 pub word-of-spec : {M : Type 1} → statement M
-word-of-spec = tie.close (tie.spec mul-result array-read-result returns returns-2)
+word-of-spec = tie.close (tie.spec (λ c. search needs) (λ c. search needs) returns returns-2)

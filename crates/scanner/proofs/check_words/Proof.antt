@@ -21,9 +21,6 @@ abbrev μ-loop : tie.MeasureT-loop
 loop-holds : tie.Need-loop-holds Inv-loop μ-loop
 loop-holds c = refl
 
-next-word-requires : tie.Need-next-word-requires Inv-loop μ-loop
-next-word-requires c κs = search needs
-
 returns : tie.Need-returns Inv-loop μ-loop
 returns c =
     let found = c .before .before in
@@ -71,7 +68,7 @@ check-words-spec =
     Inv-loop
     μ-loop
     loop-holds
-    next-word-requires
+    (λ c κs. search needs)
     returns
     returns-2
     loop-less

@@ -5,9 +5,6 @@ use Rattle.scanner.proofs.Numbers.{name-first, after-first, no-name, na
 use Rattle.scanner.proofs.is_name.Statement.{statement}
 use Rattle.scanner.proofs.is_name.Tie as tie
 
-byte-at-requires : tie.Need-byte-at-requires
-byte-at-requires c κs = search needs
-
 returns : tie.Need-returns
 returns c =
     let w = c .before .before .before .args .w .now in
@@ -23,12 +20,6 @@ part-is-number-start c =
     let w = c .before .before .before .args .w .now in
     name-first w (sym (c .before .byte-at .ensures) ∙ c .if1 .left)
 
-part-is-number-end : tie.Need-part-is-number-end
-part-is-number-end c = search needs
-
-is-number-requires : tie.Need-is-number-requires
-is-number-requires c κs = search needs
-
 returns-2 : tie.Need-returns-2
 returns-2 c =
     let test = c .before .before in
@@ -39,10 +30,10 @@ pub is-name-spec : {M : Type 1} → statement M
 is-name-spec =
     tie.close
     (tie.spec
-    byte-at-requires
+    (λ c κs. search needs)
     returns
     sub-is-number
     part-is-number-start
-    part-is-number-end
-    is-number-requires
+    (λ c. search needs)
+    (λ c κs. search needs)
     returns-2)

@@ -11,9 +11,6 @@ returns c =
     let args = c .before .before .args in
     sym (size-wrong (args .limit) (args .w .now) (c .if1 .taken))
 
-all-digits-requires : tie.Need-all-digits-requires
-all-digits-requires c κs = search needs
-
 returns-2 : tie.Need-returns-2
 returns-2 c =
     let args = c .before .before .before .before .args in
@@ -52,7 +49,7 @@ is-number-spec =
     tie.close
     (tie.spec
     returns
-    all-digits-requires
+    (λ c κs. search needs)
     returns-2
     shared-slice-read-if3
     returns-3

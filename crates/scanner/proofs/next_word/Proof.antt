@@ -5,12 +5,6 @@ use borrow.Author.Needs.{needs}
 use Rattle.scanner.proofs.next_word.Statement.{statement}
 use Rattle.scanner.proofs.next_word.Tie as tie
 
-skip-blanks-requires : tie.Need-skip-blanks-requires
-skip-blanks-requires c κs = search needs
-
-word-at-requires : tie.Need-word-at-requires
-word-at-requires c κs = search needs
-
 returns : tie.Need-returns
 unfolding nextWord
 returns c =
@@ -24,4 +18,4 @@ returns-2 c =
     rw (← skip .ensures, le-ltb _ _ (c .if1 .left))
 
 pub next-word-spec : {M : Type 1} → statement M
-next-word-spec = tie.close (tie.spec skip-blanks-requires word-at-requires returns returns-2)
+next-word-spec = tie.close (tie.spec (λ c κs. search needs) (λ c κs. search needs) returns returns-2)

@@ -20,15 +20,6 @@ abbrev μ-loop : tie.MeasureT-loop
 loop-holds : tie.Need-loop-holds Inv-loop μ-loop
 loop-holds c = refl
 
-shared-slice-read-c : tie.Need-shared-slice-read-c Inv-loop μ-loop
-shared-slice-read-c c = omega arith
-
-is-letter-requires : tie.Need-is-letter-requires Inv-loop μ-loop
-is-letter-requires c κs = search needs
-
-is-digit-requires : tie.Need-is-digit-requires Inv-loop μ-loop
-is-digit-requires c κs = search needs
-
 returns : tie.Need-returns Inv-loop μ-loop
 returns c =
     let letter = c .before .before .is-letter in
@@ -37,12 +28,6 @@ returns c =
     let text = at .before .before .args .text .now in
     let out = sym (ap₂ _||_ (letter .ensures) (digit .ensures)) ∙ not-true (letter .result || digit .result) (c .if1 .taken) in
     rw run-front (sym (at .loop .inv ∙ front-stop inRun text (c .before .before .before .before .loop-test .taken) out))
-
-add-j : tie.Need-add-j Inv-loop μ-loop
-add-j c = omega arith
-
-loop-less : tie.Need-loop-less Inv-loop μ-loop
-loop-less c = omega arith
 
 loop-again : tie.Need-loop-again Inv-loop μ-loop
 loop-again c =
@@ -63,11 +48,11 @@ run-end-spec =
     Inv-loop
     μ-loop
     loop-holds
-    shared-slice-read-c
-    is-letter-requires
-    is-digit-requires
+    (λ c. omega arith)
+    (λ c κs. search needs)
+    (λ c κs. search needs)
     returns
-    add-j
-    loop-less
+    (λ c. omega arith)
+    (λ c. omega arith)
     loop-again
     returns-2)

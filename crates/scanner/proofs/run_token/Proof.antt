@@ -8,12 +8,6 @@ use Rattle.scanner.proofs.Runs.{limit-small, token-number, token-name, 
 use Rattle.scanner.proofs.run_token.Statement.{statement}
 use Rattle.scanner.proofs.run_token.Tie as tie
 
-limit-after-requires : tie.Need-limit-after-requires
-limit-after-requires c κs = search needs
-
-is-number-requires : tie.Need-is-number-requires
-is-number-requires c κs = search needs
-
 value-requires : tie.Need-value-requires
 value-requires c κs =
     let w = c .before .before .before .before .args .w .now in
@@ -34,9 +28,6 @@ returns c =
     let e : isNumber (limit .result) (args .w .now) ≡ isNumber (limitAfter (args .previous)) (args .w .now) = ap (λ l. isNumber l (args .w .now)) (limit .ensures) in
     token-number (args .previous) (args .w .now) (sym (c .before .before .is-number .ensures ∙ e) ∙ c .before .if1 .taken) (c .value .ensures)
 
-is-name-requires : tie.Need-is-name-requires
-is-name-requires c κs = search needs
-
 sub-value : tie.Need-sub-value
 sub-value c =
     let w = c .before .before .before .before .before .before .args .w .now in
@@ -46,9 +37,6 @@ part-value-start : tie.Need-part-value-start
 part-value-start c =
     let w = c .before .before .before .before .before .before .args .w .now in
     name-known w (sym (c .before .is-name .ensures) ∙ c .if2 .taken) .0
-
-part-value-end : tie.Need-part-value-end
-part-value-end c = search needs
 
 value-requires-2 : tie.Need-value-requires-2
 value-requires-2 c κs =
@@ -73,9 +61,6 @@ returns-2 c =
     token-name (args .previous) w (sym (number .is-number .ensures ∙ e) ∙ name .before .if1 .left)
     (sym (name .is-name .ensures) ∙ c .before .before .if2 .taken) (c .value2 .ensures ∙ ap (valueFrom 0) (after-first w))
 
-word-code-requires : tie.Need-word-code-requires
-word-code-requires c κs = search needs
-
 returns-3 : tie.Need-returns-3
 returns-3 c =
     let name = c .before .before in
@@ -91,17 +76,17 @@ pub run-token-spec : {M : Type 1} → statement M
 run-token-spec =
     tie.close
     (tie.spec
-    limit-after-requires
-    is-number-requires
+    (λ c κs. search needs)
+    (λ c κs. search needs)
     value-requires
     cast-t6
     returns
-    is-name-requires
+    (λ c κs. search needs)
     sub-value
     part-value-start
-    part-value-end
+    (λ c. search needs)
     value-requires-2
     cast-t13
     returns-2
-    word-code-requires
+    (λ c κs. search needs)
     returns-3)

@@ -25,9 +25,6 @@ mul-v c =
     let loop = c .before .loop in
     omega (arith, loop .inv, value-grows (loop .v) (drop (loop .i) w), value-small w (start .pre .0) (start .pre .1))
 
-shared-slice-read-v : tie.Need-shared-slice-read-v Inv-loop μ-loop
-shared-slice-read-v c = omega arith
-
 sub-v : tie.Need-sub-v Inv-loop μ-loop
 sub-v c =
     let start = c .before .before .before in
@@ -48,12 +45,6 @@ add-v c =
     let next = 10 * loop .v + (getD w (loop .i) 0 - 48) in
     omega (arith, loop .inv ∙ value-more w (loop .v) (c .before .loop-test .taken), value-grows next (drop (loop .i + 1) w), value-small w (start .pre .0) (start .pre .1))
 
-add-i : tie.Need-add-i Inv-loop μ-loop
-add-i c = omega arith
-
-loop-less : tie.Need-loop-less Inv-loop μ-loop
-loop-less c = omega arith
-
 loop-again : tie.Need-loop-again Inv-loop μ-loop
 loop-again c =
     let start = c .before .before .before in
@@ -73,11 +64,11 @@ value-spec =
     μ-loop
     loop-holds
     mul-v
-    shared-slice-read-v
+    (λ c. omega arith)
     sub-v
     cast-v
     add-v
-    add-i
-    loop-less
+    (λ c. omega arith)
+    (λ c. omega arith)
     loop-again
     returns)

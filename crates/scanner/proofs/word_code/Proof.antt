@@ -13,12 +13,6 @@ use Rattle.scanner.proofs.same.Reads as same-reads
 abbrev Calls : lts.Claims
 Calls = (same-reads.Asked, same-reads.Learnt)
 
-slice-aggregate-same : tie.Need-slice-aggregate-same
-slice-aggregate-same c = search needs
-
-same-requires : tie.Need-same-requires
-same-requires c κs = search needs
-
 returns : tie.Need-returns
 returns c = code-here (past-none (c .before .before .before .before .args .w .now)) (omega arith) (c .before .same .ensures) (c .if1 .taken)
 
@@ -27,12 +21,6 @@ w1 c = c .before .before .before .before .args .w .now
 
 past1 : (c : lts.Else1 Calls reads.Pre reads.Post) → Past 1 (w1 c)
 past1 c = code-past (past-none (c .before .before .before .before .args .w .now)) (omega arith) (c .before .same .ensures) (c .if1 .left)
-
-slice-aggregate-same-2 : tie.Need-slice-aggregate-same-2
-slice-aggregate-same-2 c = search needs
-
-same-requires-2 : tie.Need-same-requires-2
-same-requires-2 c κs = search needs
 
 returns-2 : tie.Need-returns-2
 returns-2 c = code-here (past1 (c .before .before .before)) (omega arith) (c .before .same2 .ensures) (c .if2 .taken)
@@ -43,12 +31,6 @@ w2 c = w1 (c .before .before .before)
 past2 : (c : lts.Else2 Calls reads.Pre reads.Post) → Past 2 (w2 c)
 past2 c = code-past (past1 (c .before .before .before)) (omega arith) (c .before .same2 .ensures) (c .if2 .left)
 
-slice-aggregate-same-3 : tie.Need-slice-aggregate-same-3
-slice-aggregate-same-3 c = search needs
-
-same-requires-3 : tie.Need-same-requires-3
-same-requires-3 c κs = search needs
-
 returns-3 : tie.Need-returns-3
 returns-3 c = code-here (past2 (c .before .before .before)) (omega arith) (c .before .same3 .ensures) (c .if3 .taken)
 
@@ -57,12 +39,6 @@ w3 c = w2 (c .before .before .before)
 
 past3 : (c : lts.Else3 Calls reads.Pre reads.Post) → Past 3 (w3 c)
 past3 c = code-past (past2 (c .before .before .before)) (omega arith) (c .before .same3 .ensures) (c .if3 .left)
-
-slice-aggregate-same-4 : tie.Need-slice-aggregate-same-4
-slice-aggregate-same-4 c = search needs
-
-same-requires-4 : tie.Need-same-requires-4
-same-requires-4 c κs = search needs
 
 returns-4 : tie.Need-returns-4
 returns-4 c = code-here (past3 (c .before .before .before)) (omega arith) (c .before .same4 .ensures) (c .if4 .taken)
@@ -73,12 +49,6 @@ w4 c = w3 (c .before .before .before)
 past4 : (c : lts.Else4 Calls reads.Pre reads.Post) → Past 4 (w4 c)
 past4 c = code-past (past3 (c .before .before .before)) (omega arith) (c .before .same4 .ensures) (c .if4 .left)
 
-slice-aggregate-same-5 : tie.Need-slice-aggregate-same-5
-slice-aggregate-same-5 c = search needs
-
-same-requires-5 : tie.Need-same-requires-5
-same-requires-5 c κs = search needs
-
 returns-5 : tie.Need-returns-5
 returns-5 c = code-here (past4 (c .before .before .before)) (omega arith) (c .before .same5 .ensures) (c .if5 .taken)
 
@@ -87,12 +57,6 @@ w5 c = w4 (c .before .before .before)
 
 past5 : (c : lts.Else5 Calls reads.Pre reads.Post) → Past 5 (w5 c)
 past5 c = code-past (past4 (c .before .before .before)) (omega arith) (c .before .same5 .ensures) (c .if5 .left)
-
-slice-aggregate-same-6 : tie.Need-slice-aggregate-same-6
-slice-aggregate-same-6 c = search needs
-
-same-requires-6 : tie.Need-same-requires-6
-same-requires-6 c κs = search needs
 
 returns-6 : tie.Need-returns-6
 returns-6 c = code-here (past5 (c .before .before .before)) (omega arith) (c .before .same6 .ensures) (c .if6 .taken)
@@ -103,12 +67,6 @@ w6 c = w5 (c .before .before .before)
 past6 : (c : lts.Else6 Calls reads.Pre reads.Post) → Past 6 (w6 c)
 past6 c = code-past (past5 (c .before .before .before)) (omega arith) (c .before .same6 .ensures) (c .if6 .left)
 
-slice-aggregate-same-7 : tie.Need-slice-aggregate-same-7
-slice-aggregate-same-7 c = search needs
-
-same-requires-7 : tie.Need-same-requires-7
-same-requires-7 c κs = search needs
-
 returns-7 : tie.Need-returns-7
 returns-7 c = code-here (past6 (c .before .before .before)) (omega arith) (c .before .same7 .ensures) (c .if7 .taken)
 
@@ -117,12 +75,6 @@ w7 c = w6 (c .before .before .before)
 
 past7 : (c : lts.Else7 Calls reads.Pre reads.Post) → Past 7 (w7 c)
 past7 c = code-past (past6 (c .before .before .before)) (omega arith) (c .before .same7 .ensures) (c .if7 .left)
-
-slice-aggregate-same-8 : tie.Need-slice-aggregate-same-8
-slice-aggregate-same-8 c = search needs
-
-same-requires-8 : tie.Need-same-requires-8
-same-requires-8 c κs = search needs
 
 returns-8 : tie.Need-returns-8
 returns-8 c = code-here (past7 (c .before .before .before)) (omega arith) (c .before .same8 .ensures) (c .if8 .taken)
@@ -133,12 +85,6 @@ w8 c = w7 (c .before .before .before)
 past8 : (c : lts.Else8 Calls reads.Pre reads.Post) → Past 8 (w8 c)
 past8 c = code-past (past7 (c .before .before .before)) (omega arith) (c .before .same8 .ensures) (c .if8 .left)
 
-slice-aggregate-same-9 : tie.Need-slice-aggregate-same-9
-slice-aggregate-same-9 c = search needs
-
-same-requires-9 : tie.Need-same-requires-9
-same-requires-9 c κs = search needs
-
 returns-9 : tie.Need-returns-9
 returns-9 c = code-here (past8 (c .before .before .before)) (omega arith) (c .before .same9 .ensures) (c .if9 .taken)
 
@@ -147,12 +93,6 @@ w9 c = w8 (c .before .before .before)
 
 past9 : (c : lts.Else9 Calls reads.Pre reads.Post) → Past 9 (w9 c)
 past9 c = code-past (past8 (c .before .before .before)) (omega arith) (c .before .same9 .ensures) (c .if9 .left)
-
-slice-aggregate-same-10 : tie.Need-slice-aggregate-same-10
-slice-aggregate-same-10 c = search needs
-
-same-requires-10 : tie.Need-same-requires-10
-same-requires-10 c κs = search needs
 
 returns-10 : tie.Need-returns-10
 returns-10 c = code-here (past9 (c .before .before .before)) (omega arith) (c .before .same10 .ensures) (c .if10 .taken)
@@ -170,34 +110,34 @@ pub word-code-spec : {M : Type 1} → statement M
 word-code-spec =
     tie.close
     (tie.spec
-    slice-aggregate-same
-    same-requires
+    (λ c. search needs)
+    (λ c κs. search needs)
     returns
-    slice-aggregate-same-2
-    same-requires-2
+    (λ c. search needs)
+    (λ c κs. search needs)
     returns-2
-    slice-aggregate-same-3
-    same-requires-3
+    (λ c. search needs)
+    (λ c κs. search needs)
     returns-3
-    slice-aggregate-same-4
-    same-requires-4
+    (λ c. search needs)
+    (λ c κs. search needs)
     returns-4
-    slice-aggregate-same-5
-    same-requires-5
+    (λ c. search needs)
+    (λ c κs. search needs)
     returns-5
-    slice-aggregate-same-6
-    same-requires-6
+    (λ c. search needs)
+    (λ c κs. search needs)
     returns-6
-    slice-aggregate-same-7
-    same-requires-7
+    (λ c. search needs)
+    (λ c κs. search needs)
     returns-7
-    slice-aggregate-same-8
-    same-requires-8
+    (λ c. search needs)
+    (λ c κs. search needs)
     returns-8
-    slice-aggregate-same-9
-    same-requires-9
+    (λ c. search needs)
+    (λ c κs. search needs)
     returns-9
-    slice-aggregate-same-10
-    same-requires-10
+    (λ c. search needs)
+    (λ c κs. search needs)
     returns-10
     returns-11)

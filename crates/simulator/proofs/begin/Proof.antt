@@ -5,18 +5,6 @@ use Rattle.simulator.proofs.Refusing.{begin-accepted, begin-refused, be
 use Rattle.simulator.proofs.begin.Statement.{statement}
 use Rattle.simulator.proofs.begin.Tie as tie
 
-check-begin-requires : tie.Need-check-begin-requires
-check-begin-requires c κs = search needs
-
-enum-known-checked : tie.Need-enum-known-checked
-enum-known-checked c = search needs
-
-refused-requires : tie.Need-refused-requires
-refused-requires c κs = search needs
-
-same-length : tie.Need-same-length
-same-length c = search needs
-
 returns : tie.Need-returns
 returns c =
     let args = c .before .before .before .before .before .before .before .before .before .args in
@@ -32,9 +20,6 @@ begin-requires c κs =
     let check-begin = c .before .before .before .check-begin in
     begin-accepted (args .netlist .now) (args .words .now) (args .state .now) (sym (check-begin .ensures) ∙ c .before .enum-told .given .1)
 
-same-length-2 : tie.Need-same-length-2
-same-length-2 c = search needs
-
 returns-2 : tie.Need-returns-2
 returns-2 c =
     let args = c .before .before .before .before .before .before .before .before .before .before .before .args in
@@ -48,12 +33,12 @@ pub begin-spec : {M : Type 1} → statement M
 begin-spec =
     tie.close
     (tie.spec
-    check-begin-requires
-    enum-known-checked
-    refused-requires
-    same-length
+    (λ c κs. search needs)
+    (λ c. search needs)
+    (λ c κs. search needs)
+    (λ c. search needs)
     returns
     enum-told
     begin-requires
-    same-length-2
+    (λ c. search needs)
     returns-2)

@@ -5,18 +5,6 @@ use Rattle.simulator.proofs.Refusing.{continue-accepted, continue-refus
 use Rattle.simulator.proofs.continue_by.Statement.{statement}
 use Rattle.simulator.proofs.continue_by.Tie as tie
 
-check-continue-requires : tie.Need-check-continue-requires
-check-continue-requires c κs = search needs
-
-enum-known-checked : tie.Need-enum-known-checked
-enum-known-checked c = search needs
-
-refused-requires : tie.Need-refused-requires
-refused-requires c κs = search needs
-
-same-length : tie.Need-same-length
-same-length c = search needs
-
 returns : tie.Need-returns
 returns c =
     let args = c .before .before .before .before .before .before .before .before .args in
@@ -32,9 +20,6 @@ continue-by-requires c κs =
     let check-continue = c .before .before .before .check-continue in
     continue-accepted (args .netlist .now) (args .n) (args .state .now) (sym (check-continue .ensures) ∙ c .before .enum-told .given .1)
 
-same-length-2 : tie.Need-same-length-2
-same-length-2 c = search needs
-
 returns-2 : tie.Need-returns-2
 returns-2 c =
     let args = c .before .before .before .before .before .before .before .before .before .before .args in
@@ -48,12 +33,12 @@ pub continue-by-spec : {M : Type 1} → statement M
 continue-by-spec =
     tie.close
     (tie.spec
-    check-continue-requires
-    enum-known-checked
-    refused-requires
-    same-length
+    (λ c κs. search needs)
+    (λ c. search needs)
+    (λ c κs. search needs)
+    (λ c. search needs)
     returns
     enum-told
     continue-by-requires
-    same-length-2
+    (λ c. search needs)
     returns-2)

@@ -5,18 +5,6 @@ use Rattle.simulator.proofs.Refusing.{run-accepted, run-refused, run-do
 use Rattle.simulator.proofs.run_netlist.Statement.{statement}
 use Rattle.simulator.proofs.run_netlist.Tie as tie
 
-check-run-requires : tie.Need-check-run-requires
-check-run-requires c κs = search needs
-
-enum-known-checked : tie.Need-enum-known-checked
-enum-known-checked c = search needs
-
-refused-requires : tie.Need-refused-requires
-refused-requires c κs = search needs
-
-same-length : tie.Need-same-length
-same-length c = search needs
-
 returns : tie.Need-returns
 returns c =
     let args = c .before .before .before .before .before .before .before .before .before .args in
@@ -32,9 +20,6 @@ full-run-requires c κs =
     let check-run = c .before .before .before .check-run in
     run-accepted (args .netlist .now) (args .words .now) (args .budget) (args .state .now) (sym (check-run .ensures) ∙ c .before .enum-told .given .1)
 
-same-length-2 : tie.Need-same-length-2
-same-length-2 c = search needs
-
 returns-2 : tie.Need-returns-2
 returns-2 c =
     let args = c .before .before .before .before .before .before .before .before .before .before .before .args in
@@ -48,12 +33,12 @@ pub run-netlist-spec : {M : Type 1} → statement M
 run-netlist-spec =
     tie.close
     (tie.spec
-    check-run-requires
-    enum-known-checked
-    refused-requires
-    same-length
+    (λ c κs. search needs)
+    (λ c. search needs)
+    (λ c κs. search needs)
+    (λ c. search needs)
     returns
     enum-told
     full-run-requires
-    same-length-2
+    (λ c. search needs)
     returns-2)

@@ -18,24 +18,12 @@ answer-is e = sym (ap (λ (t : Returned Written). t .answer) e)
 abbrev lent-is : {a b : Returned Written} → a ≡ b → b .lent ≡ a .lent
 lent-is e = sym (ap (λ (t : Returned Written). t .lent) e)
 
-check-by-requires : tie.Need-check-by-requires
-check-by-requires c κs = search needs
-
-enum-known-checked : tie.Need-enum-known-checked
-enum-known-checked c = search needs
-
 returns : tie.Need-returns
 unfolding writing
 returns c =
     let args = c .before .before .before .before .before .before .args in
     let e = give-refused (args .table) (args .program .now) (args .lent .now) _ (sym (c .before .before .before .check-by .ensures) ∙ c .before .checked .given .1) in
     (answer-is e, lent-is e)
-
-enum-told : tie.Need-enum-told
-enum-told c = search needs
-
-refused-requires : tie.Need-refused-requires
-refused-requires c κs = search needs
 
 returns-2 : tie.Need-returns-2
 unfolding writing
@@ -44,12 +32,6 @@ returns-2 c =
     let accepted = sym (c .before .before .before .before .check-by .ensures) ∙ c .before .before .enum-told .given .1 in
     let e = give-short (args .table) (args .program .now) (args .lent .now) accepted (c .before .if1 .taken) in
     (c .refused .ensures ∙ answer-is e, lent-is e)
-
-put-bytes-requires : tie.Need-put-bytes-requires
-put-bytes-requires c κs = search needs
-
-same-length : tie.Need-same-length
-same-length c = search needs
 
 returns-3 : tie.Need-returns-3
 unfolding writing
@@ -67,12 +49,12 @@ pub give-spec : {M : Type 1} → statement M
 give-spec =
     tie.close
     (tie.spec
-    check-by-requires
-    enum-known-checked
+    (λ c κs. search needs)
+    (λ c. search needs)
     returns
-    enum-told
-    refused-requires
+    (λ c. search needs)
+    (λ c κs. search needs)
     returns-2
-    put-bytes-requires
-    same-length
+    (λ c κs. search needs)
+    (λ c. search needs)
     returns-3)

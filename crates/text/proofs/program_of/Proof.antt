@@ -7,20 +7,11 @@ use Rattle.text.proofs.Giving.{refused-told, refused-given, too-long, w
 use Rattle.text.proofs.program_of.Statement.{statement}
 use Rattle.text.proofs.program_of.Tie as tie
 
-refused-requires : tie.Need-refused-requires
-refused-requires c κs = search needs
-
 returns : tie.Need-returns
 returns c =
     let args = c .before .before .before .before .args in
     let e = too-long (args .text .now) (c .before .if1 .taken) in
     (c .refused .ensures ∙ sym (refused-told (args .text .now) (args .program .now) _ e), refused-given (args .text .now) (args .program .now) _ e)
-
-check-words-requires : tie.Need-check-words-requires
-check-words-requires c κs = search needs
-
-enum-known-checked : tie.Need-enum-known-checked
-enum-known-checked c = search needs
 
 returns-2 : tie.Need-returns-2
 returns-2 c =
@@ -28,26 +19,8 @@ returns-2 c =
     let e = word-outside (args .text .now) (c .before .before .before .before .if1 .left) _ (sym (c .before .before .before .check-words .ensures) ∙ c .before .checked .given .1) in
     (sym (refused-told (args .text .now) (args .program .now) _ e), refused-given (args .text .now) (args .program .now) _ e)
 
-enum-told : tie.Need-enum-told
-enum-told c = search needs
-
 parse-requires : tie.Need-parse-requires
 parse-requires c κs = (c .before .before .before .before .if1 .left, c .before .before .before .before .before .before .before .pre)
-
-enum-known-parsed : tie.Need-enum-known-parsed
-enum-known-parsed c = search needs
-
-refused-requires-2 : tie.Need-refused-requires-2
-refused-requires-2 c κs = search needs
-
-enum-known-parsed-2 : tie.Need-enum-known-parsed-2
-enum-known-parsed-2 c = search needs
-
-sized-requires : tie.Need-sized-requires
-sized-requires c κs = search needs
-
-same-length : tie.Need-same-length
-same-length c = search needs
 
 returns-3 : tie.Need-returns-3
 unfolding Parses
@@ -58,9 +31,6 @@ returns-3 c =
     let p = subst (Parses text _) (c .before .before .parsed .given .1) (c .before .before .before .before .before .before .parse .ensures) in
     let e = grammar-broken text (c .before .before .before .before .before .before .before .before .before .before .before .if1 .left) accepted _ p in
     (c .refused2 .ensures ∙ sym (refused-told text [] _ e), refused-given text _ _ e)
-
-same-length-2 : tie.Need-same-length-2
-same-length-2 c = search needs
 
 returns-4 : tie.Need-returns-4
 unfolding Parses
@@ -76,18 +46,18 @@ pub program-of-spec : {M : Type 1} → statement M
 program-of-spec =
     tie.close
     (tie.spec
-    refused-requires
+    (λ c κs. search needs)
     returns
-    check-words-requires
-    enum-known-checked
+    (λ c κs. search needs)
+    (λ c. search needs)
     returns-2
-    enum-told
+    (λ c. search needs)
     parse-requires
-    enum-known-parsed
-    refused-requires-2
-    enum-known-parsed-2
-    sized-requires
-    same-length
+    (λ c. search needs)
+    (λ c κs. search needs)
+    (λ c. search needs)
+    (λ c κs. search needs)
+    (λ c. search needs)
     returns-3
-    same-length-2
+    (λ c. search needs)
     returns-4)

@@ -10,18 +10,6 @@ use Rattle.text.proofs.Giving.{told-refused, told-accepted, told-fits, 
 use Rattle.text.proofs.read_accepted.Statement.{statement}
 use Rattle.text.proofs.read_accepted.Tie as tie
 
-slice-aggregate-program-of : tie.Need-slice-aggregate-program-of
-slice-aggregate-program-of c = search needs
-
-program-of-requires : tie.Need-program-of-requires
-program-of-requires c κs = search needs
-
-enum-known-told : tie.Need-enum-known-told
-enum-known-told c = search needs
-
-enum-known-told-2 : tie.Need-enum-known-told-2
-enum-known-told-2 c = search needs
-
 array-share-prefix-program : tie.Need-array-share-prefix-program
 array-share-prefix-program c =
     let of = c .before .before .before .before .program-of in
@@ -32,9 +20,6 @@ slice-aggregate-give c =
     let of = c .before .before .before .before .before .program-of in
     simp length-take (omega (arith, told-fits (c .before .before .before .before .before .before .before .before .before .args .text .now) _ _ (sym (of .ensures .0) ∙ c .before .before .told2 .given .1), of .kept .1 .0))
 
-give-requires : tie.Need-give-requires
-give-requires c κs = search needs
-
 returns : tie.Need-returns
 unfolding writing
 returns c =
@@ -42,9 +27,6 @@ returns c =
     let e = sym (c .before .before .before .before .program-of .ensures .0) ∙ c .before .told .given .1 in
     let r = read-refused (args .table) (args .text .now) (args .lent .now) (c .before .before .before .before .before .before .before .before .pre) _ (told-refused (args .text .now) _ e) in
     (sym (ap (λ (t : Returned Written). t .answer) r), sym (ap (λ (t : Returned Written). t .lent) r))
-
-same-length : tie.Need-same-length
-same-length c = search needs
 
 returns-2 : tie.Need-returns-2
 returns-2 c =
@@ -62,13 +44,13 @@ pub read-accepted-spec : {M : Type 1} → statement M
 read-accepted-spec =
     tie.close
     (tie.spec
-    slice-aggregate-program-of
-    program-of-requires
-    enum-known-told
-    enum-known-told-2
+    (λ c. search needs)
+    (λ c κs. search needs)
+    (λ c. search needs)
+    (λ c. search needs)
     array-share-prefix-program
     slice-aggregate-give
-    give-requires
+    (λ c κs. search needs)
     returns
-    same-length
+    (λ c. search needs)
     returns-2)

@@ -7,9 +7,6 @@ use borrow.Author.Needs.{needs}
 use Rattle.text.proofs.read_by.Statement.{statement}
 use Rattle.text.proofs.read_by.Tie as tie
 
-enum-known-loaded : tie.Need-enum-known-loaded
-enum-known-loaded c = search needs
-
 returns : tie.Need-returns
 unfolding writing
 returns c =
@@ -17,19 +14,7 @@ returns c =
     let e = read-no-table (args .table) (args .text .now) (args .lent .now) _ (c .before .loaded .given .1) in
     (sym (ap (λ (t : Returned Written). t .answer) e), sym (ap (λ (t : Returned Written). t .lent) e))
 
-enum-told : tie.Need-enum-told
-enum-told c = search needs
-
-read-accepted-requires : tie.Need-read-accepted-requires
-read-accepted-requires c κs = search needs
-
-same-length : tie.Need-same-length
-same-length c = search needs
-
-returns-2 : tie.Need-returns-2
-returns-2 c = search needs
-
 pub read-by-spec : {M : Type 1} → statement M
 read-by-spec =
     tie.close
-    (tie.spec enum-known-loaded returns enum-told read-accepted-requires same-length returns-2)
+    (tie.spec (λ c. search needs) returns (λ c. search needs) (λ c κs. search needs) (λ c. search needs) (λ c. search needs))

@@ -7,15 +7,6 @@ use borrow.Author.Needs.{needs}
 use Rattle.text.proofs.read_text.Statement.{statement}
 use Rattle.text.proofs.read_text.Tie as tie
 
-built-in-requires : tie.Need-built-in-requires
-built-in-requires c κs = search needs
-
-read-by-requires : tie.Need-read-by-requires
-read-by-requires c κs = search needs
-
-same-length : tie.Need-same-length
-same-length c = search needs
-
 returns : tie.Need-returns
 returns c =
     let args = c .before .before .before .before .before .before .before .args in
@@ -26,4 +17,4 @@ returns c =
     )
 
 pub read-text-spec : {M : Type 1} → statement M
-read-text-spec = tie.close (tie.spec built-in-requires read-by-requires same-length returns)
+read-text-spec = tie.close (tie.spec (λ c κs. search needs) (λ c κs. search needs) (λ c. search needs) returns)

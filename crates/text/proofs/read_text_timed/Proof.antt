@@ -7,15 +7,6 @@ use borrow.Author.Needs.{needs}
 use Rattle.text.proofs.read_text_timed.Statement.{statement}
 use Rattle.text.proofs.read_text_timed.Tie as tie
 
-load-requires : tie.Need-load-requires
-load-requires c κs = search needs
-
-read-by-requires : tie.Need-read-by-requires
-read-by-requires c κs = search needs
-
-same-length : tie.Need-same-length
-same-length c = search needs
-
 returns : tie.Need-returns
 returns c =
     let args = c .before .before .before .before .before .before .before .before .args in
@@ -26,4 +17,4 @@ returns c =
     )
 
 pub read-text-timed-spec : {M : Type 1} → statement M
-read-text-timed-spec = tie.close (tie.spec load-requires read-by-requires same-length returns)
+read-text-timed-spec = tie.close (tie.spec (λ c κs. search needs) (λ c κs. search needs) (λ c. search needs) returns)

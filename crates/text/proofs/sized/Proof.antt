@@ -8,19 +8,13 @@ use Rattle.model.specs.Calls.{writing}
 use Rattle.text.proofs.sized.Statement.{statement}
 use Rattle.text.proofs.sized.Tie as tie
 
-refused-requires : tie.Need-refused-requires
-refused-requires c κs = search needs
-
 returns : tie.Need-returns
 unfolding writing
 returns c = rw (lt-ltb 800 (4 * c .before .before .args .n) (omega (arith, c .before .if1 .taken))) (c .refused .ensures)
-
-mul-t3 : tie.Need-mul-t3
-mul-t3 c = search needs
 
 returns-2 : tie.Need-returns-2
 unfolding writing
 returns-2 c = rw (le-ltb 800 (4 * c .before .args .n) (omega (arith, c .if1 .left))) refl
 
 pub sized-spec : {M : Type 1} → statement M
-sized-spec = tie.close (tie.spec refused-requires returns mul-t3 returns-2)
+sized-spec = tie.close (tie.spec (λ c κs. search needs) returns (λ c. search needs) returns-2)

@@ -4,12 +4,9 @@ use Rattle.model.specs.Word.{biased}
 use Rattle.word.proofs.biased.Statement.{statement}
 use Rattle.word.proofs.biased.Tie as tie
 
-wrapping-add-u16-requires : tie.Need-wrapping-add-u16-requires
-wrapping-add-u16-requires c κs = search needs
-
 returns : tie.Need-returns
 unfolding biased
 returns c = c .wrapping-add-u16 .ensures
 
 pub biased-spec : {M : Type 1} → statement M
-biased-spec = tie.close (tie.spec wrapping-add-u16-requires returns)
+biased-spec = tie.close (tie.spec (λ c κs. search needs) returns)

@@ -8,27 +8,6 @@ use Rattle.word.proofs.get32.Reads as reads
 use Rattle.word.proofs.get32.Lts as lts
 use Rattle.word.proofs.get16.Reads as get16-reads
 
-get16-requires : tie.Need-get16-requires
-get16-requires c κs = search needs
-
-add-get16 : tie.Need-add-get16
-add-get16 c = search needs
-
-get16-requires-2 : tie.Need-get16-requires-2
-get16-requires-2 c κs = search needs
-
-cast-result : tie.Need-cast-result
-cast-result c = search needs
-
-cast-result-2 : tie.Need-cast-result-2
-cast-result-2 c = search needs
-
-mul-result : tie.Need-mul-result
-mul-result c = search needs
-
-add-result : tie.Need-add-result
-add-result c = search needs
-
 returns : tie.Need-returns
 unfolding get32
 returns c = cc
@@ -37,11 +16,11 @@ pub get32-spec : {M : Type 1} → statement M
 get32-spec =
     tie.close
     (tie.spec
-    get16-requires
-    add-get16
-    get16-requires-2
-    cast-result
-    cast-result-2
-    mul-result
-    add-result
+    (λ c κs. search needs)
+    (λ c. search needs)
+    (λ c κs. search needs)
+    (λ c. search needs)
+    (λ c. search needs)
+    (λ c. search needs)
+    (λ c. search needs)
     returns)

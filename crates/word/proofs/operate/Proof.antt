@@ -7,27 +7,6 @@ use borrow.Author.Needs.{needs}
 use Rattle.word.proofs.operate.Statement.{statement}
 use Rattle.word.proofs.operate.Tie as tie
 
-sub-result : tie.Need-sub-result
-sub-result c = search needs
-
-wrapping-add-u16-requires : tie.Need-wrapping-add-u16-requires
-wrapping-add-u16-requires c κs = search needs
-
-wrapping-sub-u16-requires : tie.Need-wrapping-sub-u16-requires
-wrapping-sub-u16-requires c κs = search needs
-
-bit-requires : tie.Need-bit-requires
-bit-requires c κs = search needs
-
-biased-requires : tie.Need-biased-requires
-biased-requires c κs = search needs
-
-biased-requires-2 : tie.Need-biased-requires-2
-biased-requires-2 c κs = search needs
-
-bit-requires-2 : tie.Need-bit-requires-2
-bit-requires-2 c κs = search needs
-
 returns : tie.Need-returns
 unfolding operate
 returns c = rw (c .match .keys1) refl
@@ -63,13 +42,13 @@ pub operate-spec : {M : Type 1} → statement M
 operate-spec =
     tie.close
     (tie.spec
-    sub-result
-    wrapping-add-u16-requires
-    wrapping-sub-u16-requires
-    bit-requires
-    biased-requires
-    biased-requires-2
-    bit-requires-2
+    (λ c. search needs)
+    (λ c κs. search needs)
+    (λ c κs. search needs)
+    (λ c κs. search needs)
+    (λ c κs. search needs)
+    (λ c κs. search needs)
+    (λ c κs. search needs)
     returns
     returns-2
     returns-3

@@ -8,24 +8,6 @@ use Rattle.word.proofs.put32.Reads as reads
 use Rattle.word.proofs.put32.Lts as lts
 use Rattle.word.proofs.put16.Reads as put16-reads
 
-cast-put16 : tie.Need-cast-put16
-cast-put16 c = search needs
-
-put16-requires : tie.Need-put16-requires
-put16-requires c κs = search needs
-
-add-put16 : tie.Need-add-put16
-add-put16 c = search needs
-
-cast-put16-2 : tie.Need-cast-put16-2
-cast-put16-2 c = search needs
-
-put16-requires-2 : tie.Need-put16-requires-2
-put16-requires-2 c κs = search needs
-
-same-length : tie.Need-same-length
-same-length c = search needs
-
 returns : tie.Need-returns
 unfolding put32
 returns c = cc
@@ -34,10 +16,10 @@ pub put32-spec : {M : Type 1} → statement M
 put32-spec =
     tie.close
     (tie.spec
-    cast-put16
-    put16-requires
-    add-put16
-    cast-put16-2
-    put16-requires-2
-    same-length
+    (λ c. search needs)
+    (λ c κs. search needs)
+    (λ c. search needs)
+    (λ c. search needs)
+    (λ c κs. search needs)
+    (λ c. search needs)
     returns)

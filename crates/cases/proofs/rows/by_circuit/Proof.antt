@@ -5,24 +5,6 @@ use borrow.Author.Needs.{needs}
 use Rattle.cases.proofs.rows.by_circuit.Statement.{statement}
 use Rattle.cases.proofs.rows.by_circuit.Tie as tie
 
-slice-aggregate-put16 : tie.Need-slice-aggregate-put16
-slice-aggregate-put16 c = search needs
-
-put16-requires : tie.Need-put16-requires
-put16-requires c κs = search needs
-
-slice-aggregate-run-program : tie.Need-slice-aggregate-run-program
-slice-aggregate-run-program c = search needs
-
-slice-aggregate-run-program-2 : tie.Need-slice-aggregate-run-program-2
-slice-aggregate-run-program-2 c = search needs
-
-slice-aggregate-run-program-3 : tie.Need-slice-aggregate-run-program-3
-slice-aggregate-run-program-3 c = search needs
-
-run-program-requires : tie.Need-run-program-requires
-run-program-requires c κs = search needs
-
 returns : tie.Need-returns
 returns c =
     let put = c .before .before .before .before .before .before .before .put16 in
@@ -34,10 +16,10 @@ pub by-circuit-spec : {M : Type 1} → statement M
 by-circuit-spec =
     tie.close
     (tie.spec
-    slice-aggregate-put16
-    put16-requires
-    slice-aggregate-run-program
-    slice-aggregate-run-program-2
-    slice-aggregate-run-program-3
-    run-program-requires
+    (λ c. search needs)
+    (λ c κs. search needs)
+    (λ c. search needs)
+    (λ c. search needs)
+    (λ c. search needs)
+    (λ c κs. search needs)
     returns)

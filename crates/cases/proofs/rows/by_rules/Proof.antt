@@ -9,18 +9,6 @@ use borrow.Author.Needs.{needs}
 use Rattle.cases.proofs.rows.by_rules.Statement.{statement}
 use Rattle.cases.proofs.rows.by_rules.Tie as tie
 
-slice-aggregate-put16 : tie.Need-slice-aggregate-put16
-slice-aggregate-put16 c = search needs
-
-put16-requires : tie.Need-put16-requires
-put16-requires c κs = search needs
-
-slice-aggregate-reference-run : tie.Need-slice-aggregate-reference-run
-slice-aggregate-reference-run c = search needs
-
-reference-run-requires : tie.Need-reference-run-requires
-reference-run-requires c κs = search needs
-
 returns : tie.Need-returns
 returns c =
     let put = c .before .before .before .put16 in
@@ -31,8 +19,8 @@ pub by-rules-spec : {M : Type 1} → statement M
 by-rules-spec =
     tie.close
     (tie.spec
-    slice-aggregate-put16
-    put16-requires
-    slice-aggregate-reference-run
-    reference-run-requires
+    (λ c. search needs)
+    (λ c κs. search needs)
+    (λ c. search needs)
+    (λ c κs. search needs)
     returns)

@@ -7,18 +7,6 @@ use borrow.Author.Needs.{needs}
 use Rattle.cases.proofs.rows.holds.Statement.{statement}
 use Rattle.cases.proofs.rows.holds.Tie as tie
 
-by-circuit-requires : tie.Need-by-circuit-requires
-by-circuit-requires c κs = search needs
-
-same-requires : tie.Need-same-requires
-same-requires c κs = search needs
-
-by-rules-requires : tie.Need-by-rules-requires
-by-rules-requires c κs = search needs
-
-same-requires-2 : tie.Need-same-requires-2
-same-requires-2 c κs = search needs
-
 returns : tie.Need-returns
 returns c =
     let wanted = c .before .before .before .before .before .before .args .wanted in
@@ -35,9 +23,9 @@ pub holds-spec : {M : Type 1} → statement M
 holds-spec =
     tie.close
     (tie.spec
-    by-circuit-requires
-    same-requires
-    by-rules-requires
-    same-requires-2
+    (λ c κs. search needs)
+    (λ c κs. search needs)
+    (λ c κs. search needs)
+    (λ c κs. search needs)
     returns
     returns-2)

@@ -6,50 +6,11 @@ use borrow.Author.Needs.{needs}
 use Rattle.cases.proofs.rows.same.Statement.{statement}
 use Rattle.cases.proofs.rows.same.Tie as tie
 
-slice-aggregate-put : tie.Need-slice-aggregate-put
-slice-aggregate-put c = search needs
-
-of-answer-requires : tie.Need-of-answer-requires
-of-answer-requires c κs = search needs
-
-put-requires : tie.Need-put-requires
-put-requires c κs = search needs
-
-slice-aggregate-put-2 : tie.Need-slice-aggregate-put-2
-slice-aggregate-put-2 c = search needs
-
-of-answer-requires-2 : tie.Need-of-answer-requires-2
-of-answer-requires-2 c κs = search needs
-
-put-requires-2 : tie.Need-put-requires-2
-put-requires-2 c κs = search needs
-
-array-read-if1 : tie.Need-array-read-if1
-array-read-if1 c = search needs
-
-array-share-prefix-x : tie.Need-array-share-prefix-x
-array-share-prefix-x c = search needs
-
 slice-aggregate-same : tie.Need-slice-aggregate-same
 slice-aggregate-same c = simp length-take (omega (arith, c .before .before .before .before .before .before .before .put .kept .0))
 
-array-share-prefix-y : tie.Need-array-share-prefix-y
-array-share-prefix-y c = search needs
-
 slice-aggregate-same-2 : tie.Need-slice-aggregate-same-2
 slice-aggregate-same-2 c = simp length-take (omega (arith, c .before .before .before .before .put2 .kept .0))
-
-same-requires : tie.Need-same-requires
-same-requires c κs = search needs
-
-slice-aggregate-same-3 : tie.Need-slice-aggregate-same-3
-slice-aggregate-same-3 c = search needs
-
-slice-aggregate-same-4 : tie.Need-slice-aggregate-same-4
-slice-aggregate-same-4 c = search needs
-
-same-requires-2 : tie.Need-same-requires-2
-same-requires-2 c κs = search needs
 
 returns : tie.Need-returns
 returns c =
@@ -71,20 +32,20 @@ pub same-spec : {M : Type 1} → statement M
 same-spec =
     tie.close
     (tie.spec
-    slice-aggregate-put
-    of-answer-requires
-    put-requires
-    slice-aggregate-put-2
-    of-answer-requires-2
-    put-requires-2
-    array-read-if1
-    array-share-prefix-x
+    (λ c. search needs)
+    (λ c κs. search needs)
+    (λ c κs. search needs)
+    (λ c. search needs)
+    (λ c κs. search needs)
+    (λ c κs. search needs)
+    (λ c. search needs)
+    (λ c. search needs)
     slice-aggregate-same
-    array-share-prefix-y
+    (λ c. search needs)
     slice-aggregate-same-2
-    same-requires
-    slice-aggregate-same-3
-    slice-aggregate-same-4
-    same-requires-2
+    (λ c κs. search needs)
+    (λ c. search needs)
+    (λ c. search needs)
+    (λ c κs. search needs)
     returns
     returns-2)

@@ -18,18 +18,6 @@ abbrev μ-loop : tie.MeasureT-loop
 loop-holds : tie.Need-loop-holds Inv-loop μ-loop
 loop-holds c = (refl, refl)
 
-mul-program : tie.Need-mul-program Inv-loop μ-loop
-mul-program c = omega arith
-
-slice-write-program : tie.Need-slice-write-program Inv-loop μ-loop
-slice-write-program c = omega arith
-
-add-i : tie.Need-add-i Inv-loop μ-loop
-add-i c = omega arith
-
-loop-less : tie.Need-loop-less Inv-loop μ-loop
-loop-less c = omega arith
-
 loop-again : tie.Need-loop-again Inv-loop μ-loop
 loop-again c =
     let args = c .before .before .args in
@@ -52,10 +40,10 @@ set-kinds-spec =
     Inv-loop
     μ-loop
     loop-holds
-    mul-program
-    slice-write-program
-    add-i
-    loop-less
+    (λ c. omega arith)
+    (λ c. omega arith)
+    (λ c. omega arith)
+    (λ c. omega arith)
     loop-again
     same-length
     returns)

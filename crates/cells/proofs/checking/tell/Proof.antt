@@ -12,18 +12,6 @@ returns c =
     let reply = now (c .before .before .args .reply) in
     λ cs f p. (no-room reply (c .if1 .taken), untouched reply (c .if1 .taken) _ reply)
 
-checked-requires : tie.Need-checked-requires
-checked-requires c κs = search needs
-
-of-checked-requires : tie.Need-of-checked-requires
-of-checked-requires c κs = search needs
-
-put-requires : tie.Need-put-requires
-put-requires c κs = search needs
-
-same-length : tie.Need-same-length
-same-length c = search needs
-
 returns-2 : tie.Need-returns-2
 returns-2 c =
     let fits = c .before .before .before .before .before .before in
@@ -35,4 +23,4 @@ returns-2 c =
 pub tell-spec : {M : Type 1} → statement M
 tell-spec =
     tie.close
-    (tie.spec returns checked-requires of-checked-requires put-requires same-length returns-2)
+    (tie.spec returns (λ c κs. search needs) (λ c κs. search needs) (λ c κs. search needs) (λ c. search needs) returns-2)

@@ -33,19 +33,10 @@ returns c =
     let args = c .before .before .args in
     stays (args .end) (now (args .cells)) (args .k) (args .from) (too-many (args .end) (now (args .cells)) (c .if1 .taken))
 
-mul-if2 : tie.Need-mul-if2
-mul-if2 c = search needs
-
 returns-2 : tie.Need-returns-2
 returns-2 c =
     let args = c .before .before .before .args in
     stays (args .end) (now (args .cells)) (args .k) (args .from) (too-short (args .end) (now (args .cells)) (c .if2 .taken))
-
-renumber-bytes-requires : tie.Need-renumber-bytes-requires
-renumber-bytes-requires c κs = search needs
-
-same-length : tie.Need-same-length
-same-length c = search needs
 
 returns-3 : tie.Need-returns-3
 returns-3 c =
@@ -55,4 +46,4 @@ returns-3 c =
 
 pub hub-renumber-spec : {M : Type 1} → statement M
 hub-renumber-spec =
-    tie.close (tie.spec returns mul-if2 returns-2 renumber-bytes-requires same-length returns-3)
+    tie.close (tie.spec returns (λ c. search needs) returns-2 (λ c κs. search needs) (λ c. search needs) returns-3)

@@ -24,9 +24,6 @@ cell-at-requires c κs =
     let small = c .before .loop-test .taken in
     (omega (arith, pre .0, small), omega (arith, pre .1, small, c .before .before .loop .inv .0))
 
-moved-requires : tie.Need-moved-requires Inv-loop μ-loop
-moved-requires c κs = search needs
-
 mul-put-cell : tie.Need-mul-put-cell Inv-loop μ-loop
 mul-put-cell c = omega (arith, c .before .before .before .before .before .before .before .pre .0, c .before .before .before .before .loop-test .taken)
 
@@ -71,7 +68,7 @@ renumber-bytes-spec =
     μ-loop
     loop-holds
     cell-at-requires
-    moved-requires
+    (λ c κs. search needs)
     mul-put-cell
     put-cell-requires
     add-i

@@ -7,19 +7,10 @@ use borrow.Author.Needs.{needs}
 use Rattle.cells.proofs.reading.refused.Statement.{statement}
 use Rattle.cells.proofs.reading.refused.Tie as tie
 
-of-written-requires : tie.Need-of-written-requires
-of-written-requires c κs = search needs
-
-put-requires : tie.Need-put-requires
-put-requires c κs = search needs
-
-same-length : tie.Need-same-length
-same-length c = search needs
-
 returns : tie.Need-returns
 returns c =
     let reply = now (c .before .before .before .before .before .before .args .reply) in
     (refl, c .before .before .put .ensures ∙ ap (λ (r : Reply). replied r reply) (c .before .before .before .before .of-written .ensures))
 
 pub refused-spec : {M : Type 1} → statement M
-refused-spec = tie.close (tie.spec of-written-requires put-requires same-length returns)
+refused-spec = tie.close (tie.spec (λ c κs. search needs) (λ c κs. search needs) (λ c. search needs) returns)

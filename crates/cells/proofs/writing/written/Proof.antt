@@ -6,22 +6,10 @@ use Rattle.cells.proofs.Answering.{write-refused, write-short, write-do
 use Rattle.cells.proofs.writing.written.Statement.{statement}
 use Rattle.cells.proofs.writing.written.Tie as tie
 
-checked-requires : tie.Need-checked-requires
-checked-requires c κs = search needs
-
-enum-known-found : tie.Need-enum-known-found
-enum-known-found c = search needs
-
 returns : tie.Need-returns
 returns c =
     let args = c .before .before .before .before .args in
     λ cs lent p l. write-refused cs (args .finish) lent (sym (c .before .before .before .checked .ensures cs (args .finish) p) ∙ c .before .found .given .1)
-
-enum-told : tie.Need-enum-told
-enum-told c = search needs
-
-add-count : tie.Need-add-count
-add-count c = search needs
 
 mul-count : tie.Need-mul-count
 mul-count c = omega (arith, c .before .before .before .pre)
@@ -40,11 +28,11 @@ pub written-spec : {M : Type 1} → statement M
 written-spec =
     tie.close
     (tie.spec
-    checked-requires
-    enum-known-found
+    (λ c κs. search needs)
+    (λ c. search needs)
     returns
-    enum-told
-    add-count
+    (λ c. search needs)
+    (λ c. search needs)
     mul-count
     returns-2
     returns-3)

@@ -7,9 +7,6 @@ use Rattle.compiler.proofs.nodes.stmt_node.Tie as tie
 returns : tie.Need-returns
 returns c = no-node _ _ (c .if1 .taken) .1
 
-read-node-requires : tie.Need-read-node-requires
-read-node-requires c κs = search needs
-
 returns-2 : tie.Need-returns-2
 returns-2 c = other-stmt _ _ _ (c .before .before .before .if1 .left) (c .before .before .read-node .ensures) (c .if2 .taken)
 
@@ -17,4 +14,4 @@ returns-3 : tie.Need-returns-3
 returns-3 c = stmt-read _ _ _ (c .before .before .before .if1 .left) (c .before .before .read-node .ensures) (c .if2 .left)
 
 pub stmt-node-spec : {M : Type 1} → statement M
-stmt-node-spec = tie.close (tie.spec returns read-node-requires returns-2 returns-3)
+stmt-node-spec = tie.close (tie.spec returns (λ c κs. search needs) returns-2 returns-3)

@@ -40,28 +40,13 @@ put-requires-3 c κs =
     let e = m .before .before .before .before in
     rw (d .put2 .kept .0, m .put .kept .0, e .put-expr .kept .0) (omega (arith, delays-fit (e .before .before .before .before .pre .1)))
 
-mul-marks : tie.Need-mul-marks
-mul-marks c = search needs
-
 element-write-marks : tie.Need-element-write-marks
 unfolding assignments
 element-write-marks c = omega (arith, c .before .before .before .before .before .before .before .before .before .before .before .before .before .before .before .before .before .before .before .pre .1 .marks)
 
-add-marks : tie.Need-add-marks
-add-marks c = search needs
-
-mul-marks-2 : tie.Need-mul-marks-2
-mul-marks-2 c = search needs
-
 element-write-marks-2 : tie.Need-element-write-marks-2
 unfolding assignments
 element-write-marks-2 c = omega (arith, c .before .before .before .before .before .before .before .before .before .before .before .before .before .before .before .before .before .before .before .pre .1 .marks)
-
-add-marks-2 : tie.Need-add-marks-2
-add-marks-2 c = search needs
-
-mul-marks-3 : tie.Need-mul-marks-3
-mul-marks-3 c = search needs
 
 element-write-marks-3 : tie.Need-element-write-marks-3
 unfolding assignments
@@ -89,9 +74,6 @@ add-t24 : tie.Need-add-t24
 unfolding assignments
 add-t24 c = omega (arith, c .before .before .before .before .before .before .before .before .before .before .before .before .before .before .before .before .before .before .before .before .before .before .pre .1 .marks)
 
-same-length : tie.Need-same-length
-same-length c = search needs
-
 returns : tie.Need-returns
 returns c =
     let d₂ = c .before .before .before .before .before in
@@ -105,5 +87,5 @@ pub put-assign-spec : {M : Type 1} → statement M
 put-assign-spec =
     tie.close
     (tie.spec
-    put-expr-requires put-requires put-requires-2 add-put put-requires-3 mul-marks element-write-marks add-marks mul-marks-2
-    element-write-marks-2 add-marks-2 mul-marks-3 element-write-marks-3 add-t20 add-t29 add-t30 add-t24 same-length returns)
+    put-expr-requires put-requires put-requires-2 add-put put-requires-3 (λ c. search needs) element-write-marks (λ c. search needs) (λ c. search needs)
+    element-write-marks-2 (λ c. search needs) (λ c. search needs) element-write-marks-3 add-t20 add-t29 add-t30 add-t24 (λ c. search needs) returns)

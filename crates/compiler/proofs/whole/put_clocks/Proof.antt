@@ -16,9 +16,6 @@ put-ors-requires c κs =
     let pre = c .before .before .before .before .before .before .before .before .before .before .pre in
     rw (put-stmt .kept .0) (clocks-ready pre (put-stmt .ensures) refl)
 
-same-length : tie.Need-same-length
-same-length c = search needs
-
 returns : tie.Need-returns
 returns c =
     let pre = c .before .before .before .before .before .before .before .before .before .before .before .before .before .pre in
@@ -27,4 +24,4 @@ returns c =
     clocked pre (put-stmt .ensures) refl (put-ors .ensures)
 
 pub put-clocks-spec : {M : Type 1} → statement M
-put-clocks-spec = tie.close (tie.spec put-stmt-requires put-ors-requires same-length returns)
+put-clocks-spec = tie.close (tie.spec put-stmt-requires put-ors-requires (λ c. search needs) returns)

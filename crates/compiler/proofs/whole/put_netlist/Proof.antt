@@ -5,9 +5,6 @@ use Rattle.compiler.proofs.Assembly.{walk-low, clock-sixteen, data-sixt
 use Rattle.compiler.proofs.whole.put_netlist.Statement.{statement}
 use Rattle.compiler.proofs.whole.put_netlist.Tie as tie
 
-put-clocks-requires : tie.Need-put-clocks-requires
-put-clocks-requires c κs = search needs
-
 put-walk-requires : tie.Need-put-walk-requires
 put-walk-requires c κs =
     let put-clocks = c .before .before .before .put-clocks in
@@ -53,9 +50,6 @@ put-requires-3 c κs =
     let put2 = c .before .before .before .put2 in
     omega (arith, pre .size, put-clocks .kept .0, put-walk .kept .0, put-memories .kept .0, put .kept .0, put2 .kept .0)
 
-same-length : tie.Need-same-length
-same-length c = search needs
-
 returns : tie.Need-returns
 returns c =
     let pre = c .before .before .before .before .before .before .before .before .before .before .before .before .before .before .before .before .before .before .before .before .before .before .before .before .before .before .before .before .before .before .pre in
@@ -71,5 +65,5 @@ returns c =
 pub put-netlist-spec : {M : Type 1} → statement M
 put-netlist-spec =
     tie.close
-    (tie.spec put-clocks-requires put-walk-requires put-memories-requires put-requires put-requires-2 put-requires-3 same-length
+    (tie.spec (λ c κs. search needs) put-walk-requires put-memories-requires put-requires put-requires-2 put-requires-3 (λ c. search needs)
     returns)

@@ -22,9 +22,6 @@ put-ors-requires c κs =
     let pre = c .before .before .before .before .before .before .before .before .before .before .pre in
     rw (put-stmt .kept .0) (datas-ready (pre .0) (pre .1) (put-stmt .ensures) refl)
 
-same-length : tie.Need-same-length
-same-length c = search needs
-
 returns : tie.Need-returns
 returns c =
     let pre = c .before .before .before .before .before .before .before .before .before .before .before .before .before .before .pre in
@@ -33,4 +30,4 @@ returns c =
     walked (pre .0) (pre .1) (put-stmt .ensures) refl (put-ors .ensures)
 
 pub put-walk-spec : {M : Type 1} → statement M
-put-walk-spec = tie.close (tie.spec add-t11 put-stmt-requires put-ors-requires same-length returns)
+put-walk-spec = tie.close (tie.spec add-t11 put-stmt-requires put-ors-requires (λ c. search needs) returns)

@@ -4,30 +4,6 @@ use Rattle.model.specs.Hubrun.{line, linesOf}
 use Rattle.hubrun.proofs.text.answer_text.Statement.{statement}
 use Rattle.hubrun.proofs.text.answer_text.Tie as tie
 
-enum-told : tie.Need-enum-told
-enum-told c = search needs
-
-slice-aggregate-put-run : tie.Need-slice-aggregate-put-run
-slice-aggregate-put-run c = search needs
-
-put-run-requires : tie.Need-put-run-requires
-put-run-requires c κs = search needs
-
-enum-told-2 : tie.Need-enum-told-2
-enum-told-2 c = search needs
-
-slice-aggregate-put-run-2 : tie.Need-slice-aggregate-put-run-2
-slice-aggregate-put-run-2 c = search needs
-
-put-run-requires-2 : tie.Need-put-run-requires-2
-put-run-requires-2 c κs = search needs
-
-enum-known-outcome : tie.Need-enum-known-outcome
-enum-known-outcome c = search needs
-
-put-refusal-requires : tie.Need-put-refusal-requires
-put-refusal-requires c κs = search needs
-
 returns : tie.Need-returns
 unfolding line linesOf
 returns c = rw (c .before .before .before .enum-told .given .1) (c .put-run .ensures)
@@ -44,14 +20,14 @@ pub answer-text-spec : {M : Type 1} → statement M
 answer-text-spec =
     tie.close
     (tie.spec
-    enum-told
-    slice-aggregate-put-run
-    put-run-requires
-    enum-told-2
-    slice-aggregate-put-run-2
-    put-run-requires-2
-    enum-known-outcome
-    put-refusal-requires
+    (λ c. search needs)
+    (λ c. search needs)
+    (λ c κs. search needs)
+    (λ c. search needs)
+    (λ c. search needs)
+    (λ c κs. search needs)
+    (λ c. search needs)
+    (λ c κs. search needs)
     returns
     returns-2
     returns-3)

@@ -10,9 +10,6 @@ use Rattle.lines.proofs.Puts.{number-put, put-both, put-over}
 use Rattle.hubrun.proofs.text.put_run.Statement.{statement}
 use Rattle.hubrun.proofs.text.put_run.Tie as tie
 
-put-bytes-requires : tie.Need-put-bytes-requires
-put-bytes-requires c κs = search needs
-
 put-number-requires : tie.Need-put-number-requires
 put-number-requires c κs =
     let start = c .before .before .before .before .before .before .before in
@@ -24,9 +21,6 @@ put-words-requires c κs =
     let word = number .before .before .before .before in
     let args = word .before .before .before .before .args in
     omega (arith, word .before .before .before .before .pre, decimal-length (args .instant), line-length (args .words), word .put-bytes .ensures .0, number .put-number .ensures .0)
-
-same-length : tie.Need-same-length
-same-length c = search needs
 
 returns : tie.Need-returns
 returns c =
@@ -44,4 +38,4 @@ returns c =
     (omega (arith, start .pre, decimal-length (start .args .instant), line-length (start .args .words), word .put-bytes .ensures .0, number .put-number .ensures .0, words .put-words .ensures .0))
 
 pub put-run-spec : {M : Type 1} → statement M
-put-run-spec = tie.close (tie.spec put-bytes-requires put-number-requires put-words-requires same-length returns)
+put-run-spec = tie.close (tie.spec (λ c κs. search needs) put-number-requires put-words-requires (λ c. search needs) returns)

@@ -9,29 +9,8 @@ use borrow.Author.Needs.{needs}
 use Rattle.hubrun.proofs.text.run.Statement.{statement}
 use Rattle.hubrun.proofs.text.run.Tie as tie
 
-get32-requires : tie.Need-get32-requires
-get32-requires c κs = search needs
-
-sub-run-program : tie.Need-sub-run-program
-sub-run-program c = search needs
-
-part-run-program-start : tie.Need-part-run-program-start
-part-run-program-start c = search needs
-
-part-run-program-end : tie.Need-part-run-program-end
-part-run-program-end c = search needs
-
 slice-aggregate-run-program : tie.Need-slice-aggregate-run-program
 slice-aggregate-run-program c = simp length-take (omega (arith, c .before .before .before .before .pre))
-
-slice-aggregate-run-program-2 : tie.Need-slice-aggregate-run-program-2
-slice-aggregate-run-program-2 c = search needs
-
-slice-aggregate-run-program-3 : tie.Need-slice-aggregate-run-program-3
-slice-aggregate-run-program-3 c = search needs
-
-run-program-requires : tie.Need-run-program-requires
-run-program-requires c κs = search needs
 
 returns : tie.Need-returns
 returns c =
@@ -44,12 +23,12 @@ pub run-spec : {M : Type 1} → statement M
 run-spec =
     tie.close
     (tie.spec
-    get32-requires
-    sub-run-program
-    part-run-program-start
-    part-run-program-end
+    (λ c κs. search needs)
+    (λ c. search needs)
+    (λ c. search needs)
+    (λ c. search needs)
     slice-aggregate-run-program
-    slice-aggregate-run-program-2
-    slice-aggregate-run-program-3
-    run-program-requires
+    (λ c. search needs)
+    (λ c. search needs)
+    (λ c κs. search needs)
     returns)

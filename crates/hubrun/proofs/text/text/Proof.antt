@@ -4,19 +4,10 @@ use borrow.Author.Needs.{needs}
 use Rattle.hubrun.proofs.text.text.Statement.{statement}
 use Rattle.hubrun.proofs.text.text.Tie as tie
 
-put-refusal-requires : tie.Need-put-refusal-requires
-put-refusal-requires c κs = search needs
-
 returns : tie.Need-returns
 returns c =
     let input = c .before .before .before .before .args .input .now in
     rw (short-text input (c .before .before .if1 .taken)) (c .put-refusal .ensures)
-
-run-requires : tie.Need-run-requires
-run-requires c κs = search needs
-
-answer-text-requires : tie.Need-answer-text-requires
-answer-text-requires c κs = search needs
 
 returns-2 : tie.Need-returns-2
 returns-2 c =
@@ -25,4 +16,4 @@ returns-2 c =
 
 pub text-spec : {M : Type 1} → statement M
 text-spec =
-    tie.close (tie.spec put-refusal-requires returns run-requires answer-text-requires returns-2)
+    tie.close (tie.spec (λ c κs. search needs) returns (λ c κs. search needs) (λ c κs. search needs) returns-2)

@@ -7,15 +7,6 @@ use borrow.Author.Needs.{needs}
 use Rattle.hubtext.proofs.output.output.Statement.{statement}
 use Rattle.hubtext.proofs.output.output.Tie as tie
 
-slice-aggregate-read-text : tie.Need-slice-aggregate-read-text
-slice-aggregate-read-text c = search needs
-
-read-text-requires : tie.Need-read-text-requires
-read-text-requires c κs = search needs
-
-enum-known-told : tie.Need-enum-known-told
-enum-known-told c = search needs
-
 array-share-prefix-program : tie.Need-array-share-prefix-program
 array-share-prefix-program c =
     let read = c .before .before .before .before .before .read-text in
@@ -30,12 +21,6 @@ put-bytes-requires : tie.Need-put-bytes-requires
 put-bytes-requires c κs =
     let read = c .before .before .before .before .before .before .read-text in
     simp length-take (omega (arith, done-fits (c .before .before .before .before .before .before .before .before .before .args .source .now) _ _ (sym (read .ensures .0) ∙ c .before .before .before .told .given .1), read .kept .1 .0))
-
-enum-known-told-2 : tie.Need-enum-known-told-2
-enum-known-told-2 c = search needs
-
-put-refusal-requires : tie.Need-put-refusal-requires
-put-refusal-requires c κs = search needs
 
 returns : tie.Need-returns
 returns c =
@@ -53,13 +38,13 @@ pub output-spec : {M : Type 1} → statement M
 output-spec =
     tie.close
     (tie.spec
-    slice-aggregate-read-text
-    read-text-requires
-    enum-known-told
+    (λ c. search needs)
+    (λ c κs. search needs)
+    (λ c. search needs)
     array-share-prefix-program
     slice-aggregate-put-bytes
     put-bytes-requires
-    enum-known-told-2
-    put-refusal-requires
+    (λ c. search needs)
+    (λ c κs. search needs)
     returns
     returns-2)

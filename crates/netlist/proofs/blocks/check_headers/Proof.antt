@@ -18,9 +18,6 @@ abbrev μ-loop : tie.MeasureT-loop
 loop-holds : tie.Need-loop-holds Inv-loop μ-loop
 loop-holds c = searched-none (headerFault (c .before .args .s .now)) (c .before .args .m)
 
-is-headed-requires : tie.Need-is-headed-requires Inv-loop μ-loop
-is-headed-requires c κs = omega arith
-
 returns : tie.Need-returns Inv-loop μ-loop
 returns c =
     let args = c .before .before .before .before .before .args in
@@ -29,12 +26,6 @@ returns c =
     let unheaded = sym (c .before .is-headed .ensures) ∙ not-true (c .before .is-headed .result) (c .if1 .taken) in
     fault-here (loop .inv) 11 (c .before .before .loop-test .taken) (omega arith)
     (header-wrong (args .s .now) (loop .b) (pre .3) (pre .4) unheaded)
-
-add-b : tie.Need-add-b Inv-loop μ-loop
-add-b c = omega arith
-
-loop-less : tie.Need-loop-less Inv-loop μ-loop
-loop-less c = omega arith
 
 loop-again : tie.Need-loop-again Inv-loop μ-loop
 loop-again c =
@@ -54,9 +45,9 @@ check-headers-spec =
     Inv-loop
     μ-loop
     loop-holds
-    is-headed-requires
+    (λ c κs. omega arith)
     returns
-    add-b
-    loop-less
+    (λ c. omega arith)
+    (λ c. omega arith)
     loop-again
     returns-2)

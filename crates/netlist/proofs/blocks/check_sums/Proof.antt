@@ -16,24 +16,12 @@ abbrev μ-loop : tie.MeasureT-loop
 loop-holds : tie.Need-loop-holds Inv-loop μ-loop
 loop-holds c = searched-none (sumFault (c .before .args .s .now)) (c .before .args .m)
 
-mul-sum16 : tie.Need-mul-sum16 Inv-loop μ-loop
-mul-sum16 c = omega arith
-
-sum16-requires : tie.Need-sum16-requires Inv-loop μ-loop
-sum16-requires c κs = omega arith
-
 returns : tie.Need-returns Inv-loop μ-loop
 returns c =
     let args = c .before .before .before .before .before .args in
     let loop = c .before .before .before .loop in
     let wrong = sum-wrong (args .s .now) (loop .b) (c .before .sum16 .ensures) (c .if1 .taken) in
     fault-here (loop .inv) 10 (c .before .before .loop-test .taken) (omega arith) wrong
-
-add-b : tie.Need-add-b Inv-loop μ-loop
-add-b c = omega arith
-
-loop-less : tie.Need-loop-less Inv-loop μ-loop
-loop-less c = omega arith
 
 loop-again : tie.Need-loop-again Inv-loop μ-loop
 loop-again c =
@@ -52,10 +40,10 @@ check-sums-spec =
     Inv-loop
     μ-loop
     loop-holds
-    mul-sum16
-    sum16-requires
+    (λ c. omega arith)
+    (λ c κs. omega arith)
     returns
-    add-b
-    loop-less
+    (λ c. omega arith)
+    (λ c. omega arith)
     loop-again
     returns-2)

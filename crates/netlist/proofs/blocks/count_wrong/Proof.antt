@@ -5,13 +5,10 @@ use Rattle.model.specs.NetlistFile.{countWrong}
 use Rattle.netlist.proofs.blocks.count_wrong.Statement.{statement}
 use Rattle.netlist.proofs.blocks.count_wrong.Tie as tie
 
-add-result : tie.Need-add-result
-add-result c = search needs
-
 returns : tie.Need-returns
 unfolding countWrong
 returns c =
     refl
 
 pub count-wrong-spec : {M : Type 1} → statement M
-count-wrong-spec = tie.close (tie.spec add-result returns)
+count-wrong-spec = tie.close (tie.spec (λ c. search needs) returns)

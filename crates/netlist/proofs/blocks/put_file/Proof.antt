@@ -31,12 +31,6 @@ put-next-requires c κs =
     let pre = c .before .before .before .before .before .before .pre in
     (c .before .before .loop-test .taken, pre .1 .few, omega (arith, pre .0, c .before .before .before .loop .inv .1))
 
-add-k : tie.Need-add-k Inv-loop μ-loop
-add-k c = omega arith
-
-loop-less : tie.Need-loop-less Inv-loop μ-loop
-loop-less c = omega arith
-
 loop-again : tie.Need-loop-again Inv-loop μ-loop
 loop-again c =
     let args = c .before .before .before .before .before .before .before .before .before .args in
@@ -68,8 +62,8 @@ put-file-spec =
     loop-holds
     cell-at-requires
     put-next-requires
-    add-k
-    loop-less
+    (λ c. omega arith)
+    (λ c. omega arith)
     loop-again
     same-length
     returns)

@@ -4,27 +4,6 @@ use borrow.Author.Needs.{needs}
 use Rattle.netlist.proofs.cells.offset.Statement.{statement}
 use Rattle.netlist.proofs.cells.offset.Tie as tie
 
-enum-told : tie.Need-enum-told
-enum-told c = search needs
-
-mul-result : tie.Need-mul-result
-mul-result c = search needs
-
-enum-told-2 : tie.Need-enum-told-2
-enum-told-2 c = search needs
-
-mul-result-2 : tie.Need-mul-result-2
-mul-result-2 c = search needs
-
-mul-result-3 : tie.Need-mul-result-3
-mul-result-3 c = search needs
-
-add-result : tie.Need-add-result
-add-result c = search needs
-
-add-result-2 : tie.Need-add-result-2
-add-result-2 c = search needs
-
 returns : tie.Need-returns
 returns c =
     rw (c .enum-told .given .1) refl
@@ -37,12 +16,12 @@ pub offset-spec : {M : Type 1} → statement M
 offset-spec =
     tie.close
     (tie.spec
-    enum-told
-    mul-result
-    enum-told-2
-    mul-result-2
-    mul-result-3
-    add-result
-    add-result-2
+    (λ c. search needs)
+    (λ c. search needs)
+    (λ c. search needs)
+    (λ c. search needs)
+    (λ c. search needs)
+    (λ c. search needs)
+    (λ c. search needs)
     returns
     returns-2)

@@ -28,21 +28,6 @@ cell-at-requires c κs =
     let pre = c .before .before .before .before .pre in
     (omega (arith, pre .0 .few), cell-fits (pre .0) (c .before .loop .from) (omega arith))
 
-put-cell-requires : tie.Need-put-cell-requires Inv-loop μ-loop
-put-cell-requires c κs = omega arith
-
-add-to : tie.Need-add-to Inv-loop μ-loop
-add-to c = omega arith
-
-add-from : tie.Need-add-from Inv-loop μ-loop
-add-from c = omega arith
-
-sub-left : tie.Need-sub-left Inv-loop μ-loop
-sub-left c = omega arith
-
-loop-less : tie.Need-loop-less Inv-loop μ-loop
-loop-less c = omega arith
-
 loop-again : tie.Need-loop-again Inv-loop μ-loop
 loop-again c =
     let args = c .before .before .before .before .before .before .before .before .before .args in
@@ -78,11 +63,11 @@ put-cells-spec =
     μ-loop
     loop-holds
     cell-at-requires
-    put-cell-requires
-    add-to
-    add-from
-    sub-left
-    loop-less
+    (λ c κs. omega arith)
+    (λ c. omega arith)
+    (λ c. omega arith)
+    (λ c. omega arith)
+    (λ c. omega arith)
     loop-again
     same-length
     returns)

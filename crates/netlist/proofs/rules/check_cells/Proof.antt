@@ -29,29 +29,11 @@ cell-at-requires c κs =
     let h = c .loop-test .taken in
     (omega (arith, pre .few, h), cell-fits pre (c .before .loop .k) h)
 
-cast-kind-at : tie.Need-cast-kind-at Inv-loop μ-loop
-cast-kind-at c = search needs
-
-kind-at-requires : tie.Need-kind-at-requires Inv-loop μ-loop
-kind-at-requires c κs = search needs
-
-cast-kind-at-2 : tie.Need-cast-kind-at-2 Inv-loop μ-loop
-cast-kind-at-2 c = search needs
-
-kind-at-requires-2 : tie.Need-kind-at-requires-2 Inv-loop μ-loop
-kind-at-requires-2 c κs = search needs
-
 step-requires : tie.Need-step-requires Inv-loop μ-loop
 step-requires c κs =
     let args = c .before .before .before .before .before .before .before .before .before .args in
     let p = c .before .before .before .before .before .before .loop .inv .1 in
     (omega (arith, p .count, cells-length (offset (args .layout)) (args .s .now) 0 (args .n), c .before .before .before .before .before .loop-test .taken), p .few)
-
-add-k : tie.Need-add-k Inv-loop μ-loop
-add-k c = omega arith
-
-loop-less : tie.Need-loop-less Inv-loop μ-loop
-loop-less c = omega arith
 
 loop-again : tie.Need-loop-again Inv-loop μ-loop
 loop-again c =
@@ -89,13 +71,13 @@ check-cells-spec =
     begin-requires
     loop-holds
     cell-at-requires
-    cast-kind-at
-    kind-at-requires
-    cast-kind-at-2
-    kind-at-requires-2
+    (λ c. search needs)
+    (λ c κs. search needs)
+    (λ c. search needs)
+    (λ c κs. search needs)
     step-requires
-    add-k
-    loop-less
+    (λ c. omega arith)
+    (λ c. omega arith)
     loop-again
     told-requires
     returns)

@@ -8,12 +8,6 @@ use Rattle.model.specs.NetlistFile.{keeps, controlIn, wordIn}
 use Rattle.netlist.proofs.rules.keeps_rule.Statement.{statement}
 use Rattle.netlist.proofs.rules.keeps_rule.Tie as tie
 
-cast-a : tie.Need-cast-a
-cast-a c = search needs
-
-cast-b : tie.Need-cast-b
-cast-b c = search needs
-
 returns : tie.Need-returns
 unfolding keeps shape controlIn wordIn
 returns c = λ net i. rw (c .if1 .taken, i .a, i .b) refl
@@ -89,8 +83,8 @@ pub keeps-rule-spec : {M : Type 1} → statement M
 keeps-rule-spec =
     tie.close
     (tie.spec
-    cast-a
-    cast-b
+    (λ c. search needs)
+    (λ c. search needs)
     returns
     returns-2
     returns-3

@@ -7,9 +7,6 @@ use Rattle.netlist.proofs.Bytes.{cell-fits, kind-of, kind-past}
 use Rattle.netlist.proofs.rules.kind_at.Statement.{statement}
 use Rattle.netlist.proofs.rules.kind_at.Tie as tie
 
-offset-requires : tie.Need-offset-requires
-offset-requires c κs = search needs
-
 shared-slice-read-result : tie.Need-shared-slice-read-result
 shared-slice-read-result c =
     let room = cell-fits (c .before .before .before .before .pre) (c .before .before .before .before .args .k) (c .before .before .if1 .taken) in
@@ -26,4 +23,4 @@ returns-2 c =
     sym (kind-past (offset (args .layout)) (args .s .now) (args .n) (args .k) (c .if1 .left))
 
 pub kind-at-spec : {M : Type 1} → statement M
-kind-at-spec = tie.close (tie.spec offset-requires shared-slice-read-result returns returns-2)
+kind-at-spec = tie.close (tie.spec (λ c κs. search needs) shared-slice-read-result returns returns-2)

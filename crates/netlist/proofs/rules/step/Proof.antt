@@ -6,36 +6,6 @@ use Rattle.netlist.proofs.CellChecks.{bit-small, cell-fault, stands-inp
 use Rattle.netlist.proofs.rules.step.Statement.{statement}
 use Rattle.netlist.proofs.rules.step.Tie as tie
 
-cast-ca : tie.Need-cast-ca
-cast-ca c = search needs
-
-is-control-requires : tie.Need-is-control-requires
-is-control-requires c κs = search needs
-
-cast-cb : tie.Need-cast-cb
-cast-cb c = search needs
-
-is-control-requires-2 : tie.Need-is-control-requires-2
-is-control-requires-2 c κs = search needs
-
-keeps-rule-requires : tie.Need-keeps-rule-requires
-keeps-rule-requires c κs = search needs
-
-is-placed-requires : tie.Need-is-placed-requires
-is-placed-requires c κs = search needs
-
-with-next-requires : tie.Need-with-next-requires
-with-next-requires c κs = search needs
-
-bit-requires : tie.Need-bit-requires
-bit-requires c κs = search needs
-
-cast-memory : tie.Need-cast-memory
-cast-memory c = search needs
-
-is-control-requires-3 : tie.Need-is-control-requires-3
-is-control-requires-3 c κs = search needs
-
 add-t13 : tie.Need-add-t13
 add-t13 c =
     let args = c .before .before .before .before .before .before .before .before .before .before .before .before .args in
@@ -59,15 +29,15 @@ pub step-spec : {M : Type 1} → statement M
 step-spec =
     tie.close
     (tie.spec
-    cast-ca
-    is-control-requires
-    cast-cb
-    is-control-requires-2
-    keeps-rule-requires
-    is-placed-requires
-    with-next-requires
-    bit-requires
-    cast-memory
-    is-control-requires-3
+    (λ c. search needs)
+    (λ c κs. search needs)
+    (λ c. search needs)
+    (λ c κs. search needs)
+    (λ c κs. search needs)
+    (λ c κs. search needs)
+    (λ c κs. search needs)
+    (λ c κs. search needs)
+    (λ c. search needs)
+    (λ c κs. search needs)
     add-t13
     returns)

@@ -17,9 +17,6 @@ abbrev μ-loop : tie.MeasureT-loop
 loop-holds : tie.Need-loop-holds Inv-loop μ-loop
 loop-holds c = searched-none _ _
 
-shared-slice-read-byte-wrong : tie.Need-shared-slice-read-byte-wrong Inv-loop μ-loop
-shared-slice-read-byte-wrong c = omega arith
-
 byte-wrong-requires : tie.Need-byte-wrong-requires Inv-loop μ-loop
 byte-wrong-requires c κs = tt
 
@@ -30,12 +27,6 @@ returns : tie.Need-returns Inv-loop μ-loop
 returns c =
     let loop = c .before .before .before .before .before .loop in
     c .refused .ensures ∙ fault-here (loop .inv) 21 (c .before .before .before .before .loop-test .taken) (omega arith) (wrong-byte _ _ (sym (c .before .before .byte-wrong .ensures) ∙ c .before .if1 .taken))
-
-add-i : tie.Need-add-i Inv-loop μ-loop
-add-i c = omega arith
-
-loop-less : tie.Need-loop-less Inv-loop μ-loop
-loop-less c = omega arith
 
 loop-again : tie.Need-loop-again Inv-loop μ-loop
 loop-again c =
@@ -52,11 +43,11 @@ first-wrong-spec =
     Inv-loop
     μ-loop
     loop-holds
-    shared-slice-read-byte-wrong
+    (λ c. omega arith)
     byte-wrong-requires
     refused-requires
     returns
-    add-i
-    loop-less
+    (λ c. omega arith)
+    (λ c. omega arith)
     loop-again
     returns-2)

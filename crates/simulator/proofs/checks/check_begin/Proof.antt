@@ -5,23 +5,11 @@ use Rattle.simulator.proofs.Refusing.{begin-file, begin-words, begin-ro
 use Rattle.simulator.proofs.checks.check_begin.Statement.{statement}
 use Rattle.simulator.proofs.checks.check_begin.Tie as tie
 
-check-file-requires : tie.Need-check-file-requires
-check-file-requires c κs = search needs
-
-enum-known-checked : tie.Need-enum-known-checked
-enum-known-checked c = search needs
-
 returns : tie.Need-returns
 returns c =
     let args = c .before .before .before .before .before .before .before .args in
     let check-file = c .before .before .before .check-file in
     begin-file (args .file .now) (args .words .now) (args .state .now) _ (sym (check-file .ensures) ∙ c .before .checked .given .1)
-
-enum-told : tie.Need-enum-told
-enum-told c = search needs
-
-refuse-requires : tie.Need-refuse-requires
-refuse-requires c κs = search needs
 
 returns-2 : tie.Need-returns-2
 returns-2 c =
@@ -46,11 +34,11 @@ pub check-begin-spec : {M : Type 1} → statement M
 check-begin-spec =
     tie.close
     (tie.spec
-    check-file-requires
-    enum-known-checked
+    (λ c κs. search needs)
+    (λ c. search needs)
     returns
-    enum-told
-    refuse-requires
+    (λ c. search needs)
+    (λ c κs. search needs)
     returns-2
     check-room-requires
     returns-3)

@@ -10,12 +10,6 @@ use Rattle.simulator.proofs.Refusing.{continue-file, continue-room, con
 use Rattle.simulator.proofs.checks.check_continue.Statement.{statement}
 use Rattle.simulator.proofs.checks.check_continue.Tie as tie
 
-check-file-requires : tie.Need-check-file-requires
-check-file-requires c κs = search needs
-
-enum-known-checked : tie.Need-enum-known-checked
-enum-known-checked c = search needs
-
 returns : tie.Need-returns
 returns c =
     let args = c .before .before .before .before .before .before .args in
@@ -28,9 +22,6 @@ enum-told c = search needs
 check-room-requires : tie.Need-check-room-requires
 check-room-requires c κs = sym (c .before .before .check-file .ensures) ∙ c .enum-told .given .1
 
-enum-known-room : tie.Need-enum-known-room
-enum-known-room c = search needs
-
 returns-2 : tie.Need-returns-2
 returns-2 c =
     let args = c .before .before .before .before .before .before .before .before .before .args in
@@ -38,9 +29,6 @@ returns-2 c =
     let enum-told = c .before .before .before .before .enum-told in
     let check-room = c .before .before .before .check-room in
     continue-room (args .file .now) (args .n) (args .state .now) (sym (check-file .ensures) ∙ enum-told .given .1) _ (sym (check-room .ensures) ∙ c .before .room .given .1)
-
-enum-told-2 : tie.Need-enum-told-2
-enum-told-2 c = search needs
 
 is-sound-requires : tie.Need-is-sound-requires
 is-sound-requires c κs =
@@ -50,9 +38,6 @@ is-sound-requires c κs =
       accepted = sym (check-file .ensures) ∙ enum-told .given .1;
       room = long-enough _ _ (sym (c .before .before .check-room .ensures) ∙ c .enum-told2 .given .1);
     }
-
-refuse-requires : tie.Need-refuse-requires
-refuse-requires c κs = search needs
 
 returns-3 : tie.Need-returns-3
 returns-3 c =
@@ -71,15 +56,6 @@ get32-requires c κs =
     let check-room = c .before .before .before .before .check-room in
     let l = long-enough (length (args .state .now)) (stateSize (cellsOf (args .file .now))) (sym (check-room .ensures) ∙ c .before .before .enum-told2 .given .1) in
     omega (arith, l)
-
-cast-t : tie.Need-cast-t
-cast-t c = search needs
-
-add-if2 : tie.Need-add-if2
-add-if2 c = search needs
-
-refuse-requires-2 : tie.Need-refuse-requires-2
-refuse-requires-2 c κs = search needs
 
 returns-4 : tie.Need-returns-4
 returns-4 c =
@@ -109,20 +85,20 @@ pub check-continue-spec : {M : Type 1} → statement M
 check-continue-spec =
     tie.close
     (tie.spec
-    check-file-requires
-    enum-known-checked
+    (λ c κs. search needs)
+    (λ c. search needs)
     returns
     enum-told
     check-room-requires
-    enum-known-room
+    (λ c. search needs)
     returns-2
-    enum-told-2
+    (λ c. search needs)
     is-sound-requires
-    refuse-requires
+    (λ c κs. search needs)
     returns-3
     get32-requires
-    cast-t
-    add-if2
-    refuse-requires-2
+    (λ c. search needs)
+    (λ c. search needs)
+    (λ c κs. search needs)
     returns-4
     returns-5)

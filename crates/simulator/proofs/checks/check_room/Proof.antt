@@ -16,18 +16,6 @@ get16-requires c κs =
     let z = sized (c .before .before .args .file .now) (c .before .before .pre) in
     omega (arith, z .some, z .long)
 
-cast-n : tie.Need-cast-n
-cast-n c = search needs
-
-mul-if1 : tie.Need-mul-if1
-mul-if1 c = search needs
-
-add-if1 : tie.Need-add-if1
-add-if1 c = search needs
-
-refuse-requires : tie.Need-refuse-requires
-refuse-requires c κs = search needs
-
 returns : tie.Need-returns
 returns c =
     let args = c .before .before .before .before .before .args in
@@ -40,4 +28,4 @@ returns-2 c =
 
 pub check-room-spec : {M : Type 1} → statement M
 check-room-spec =
-    tie.close (tie.spec get16-requires cast-n mul-if1 add-if1 refuse-requires returns returns-2)
+    tie.close (tie.spec get16-requires (λ c. search needs) (λ c. search needs) (λ c. search needs) (λ c κs. search needs) returns returns-2)

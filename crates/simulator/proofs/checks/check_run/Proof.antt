@@ -5,12 +5,6 @@ use Rattle.simulator.proofs.Refusing.{run-file, run-budget, run-words, 
 use Rattle.simulator.proofs.checks.check_run.Statement.{statement}
 use Rattle.simulator.proofs.checks.check_run.Tie as tie
 
-check-file-requires : tie.Need-check-file-requires
-check-file-requires c κs = search needs
-
-enum-known-checked : tie.Need-enum-known-checked
-enum-known-checked c = search needs
-
 returns : tie.Need-returns
 returns c =
     let args = c .before .before .before .before .before .before .before .args in
@@ -20,18 +14,12 @@ returns c =
 enum-told : tie.Need-enum-told
 enum-told c = search needs
 
-refuse-requires : tie.Need-refuse-requires
-refuse-requires c κs = search needs
-
 returns-2 : tie.Need-returns-2
 returns-2 c =
     let args = c .before .before .before .before .before .before .before .before .args in
     let check-file = c .before .before .before .before .check-file in
     c .refuse .ensures
     ∙ run-budget (args .file .now) (args .words .now) (args .budget) (args .state .now) (sym (check-file .ensures) ∙ c .before .before .enum-told .given .1) (c .before .if1 .taken)
-
-refuse-requires-2 : tie.Need-refuse-requires-2
-refuse-requires-2 c κs = search needs
 
 returns-3 : tie.Need-returns-3
 returns-3 c =
@@ -58,13 +46,13 @@ pub check-run-spec : {M : Type 1} → statement M
 check-run-spec =
     tie.close
     (tie.spec
-    check-file-requires
-    enum-known-checked
+    (λ c κs. search needs)
+    (λ c. search needs)
     returns
     enum-told
-    refuse-requires
+    (λ c κs. search needs)
     returns-2
-    refuse-requires-2
+    (λ c κs. search needs)
     returns-3
     check-room-requires
     returns-4)

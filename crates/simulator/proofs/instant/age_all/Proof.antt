@@ -20,24 +20,6 @@ loop-holds c = (omega arith, refl, sym (upTo-none _ _))
 now-at-requires : tie.Need-now-at-requires Inv-loop μ-loop
 now-at-requires c κs = record { few = omega arith; room = omega arith }
 
-mul-put16 : tie.Need-mul-put16 Inv-loop μ-loop
-mul-put16 c = omega arith
-
-add-put16 : tie.Need-add-put16 Inv-loop μ-loop
-add-put16 c = omega arith
-
-add-put16-2 : tie.Need-add-put16-2 Inv-loop μ-loop
-add-put16-2 c = omega arith
-
-put16-requires : tie.Need-put16-requires Inv-loop μ-loop
-put16-requires c κs = omega arith
-
-add-k : tie.Need-add-k Inv-loop μ-loop
-add-k c = omega arith
-
-loop-less : tie.Need-loop-less Inv-loop μ-loop
-loop-less c = omega arith
-
 loop-again : tie.Need-loop-again Inv-loop μ-loop
 unfolding aged
 loop-again c =
@@ -62,12 +44,12 @@ age-all-spec =
     μ-loop
     loop-holds
     now-at-requires
-    mul-put16
-    add-put16
-    add-put16-2
-    put16-requires
-    add-k
-    loop-less
+    (λ c. omega arith)
+    (λ c. omega arith)
+    (λ c. omega arith)
+    (λ c κs. omega arith)
+    (λ c. omega arith)
+    (λ c. omega arith)
     loop-again
     same-length
     returns)

@@ -11,25 +11,13 @@ use Rattle.simulator.proofs.instant.next_value.Tie as tie
 returns : tie.Need-returns
 returns c = sym (next-constant _ _ _ (c .if1 .taken))
 
-cast-line-bit : tie.Need-cast-line-bit
-cast-line-bit c = search needs
-
 sub-line-bit : tie.Need-sub-line-bit
 sub-line-bit c =
     let pre = c .before .before .before .before .pre in
     pre .1 .delay (c .before .if2 .taken)
 
-line-bit-requires : tie.Need-line-bit-requires
-line-bit-requires c κs = search needs
-
 returns-2 : tie.Need-returns-2
 returns-2 c = c .line-bit .ensures ∙ sym (next-delay _ _ _ (c .before .before .if2 .taken))
-
-cast-a : tie.Need-cast-a
-cast-a c = search needs
-
-cast-b : tie.Need-cast-b
-cast-b c = search needs
 
 has-fallen-requires : tie.Need-has-fallen-requires
 has-fallen-requires c κs =
@@ -37,16 +25,10 @@ has-fallen-requires c κs =
     let if1 = c .before .before .before .before .if1 in
     pre .1 .a (if1 .left)
 
-before-at-requires : tie.Need-before-at-requires
-before-at-requires c κs = search needs
-
 returns-3 : tie.Need-returns-3
 returns-3 c =
     let if3 = c .before .before .before .if3 in
     c .before-at .ensures ∙ sym (next-fallen _ _ _ (if3 .taken) (sym (c .before .before .has-fallen .ensures) ∙ c .before .if4 .taken))
-
-before-at-requires-2 : tie.Need-before-at-requires-2
-before-at-requires-2 c κs = search needs
 
 returns-4 : tie.Need-returns-4
 returns-4 c =
@@ -58,24 +40,6 @@ now-at-requires c κs =
     let pre = c .before .before .before .before .before .before .pre in
     let if1 = c .before .before .before .before .if1 in
     pre .1 .a (if1 .left)
-
-now-at-requires-2 : tie.Need-now-at-requires-2
-now-at-requires-2 c κs = search needs
-
-bit-requires : tie.Need-bit-requires
-bit-requires c κs = search needs
-
-bit-requires-2 : tie.Need-bit-requires-2
-bit-requires-2 c κs = search needs
-
-bit-requires-3 : tie.Need-bit-requires-3
-bit-requires-3 c κs = search needs
-
-merged-requires : tie.Need-merged-requires
-merged-requires c κs = search needs
-
-operate-requires : tie.Need-operate-requires
-operate-requires c κs = search needs
 
 returns-5 : tie.Need-returns-5
 returns-5 c =
@@ -157,24 +121,24 @@ next-value-spec =
     tie.close
     (tie.spec
     returns
-    cast-line-bit
+    (λ c. search needs)
     sub-line-bit
-    line-bit-requires
+    (λ c κs. search needs)
     returns-2
-    cast-a
-    cast-b
+    (λ c. search needs)
+    (λ c. search needs)
     has-fallen-requires
-    before-at-requires
+    (λ c κs. search needs)
     returns-3
-    before-at-requires-2
+    (λ c κs. search needs)
     returns-4
     now-at-requires
-    now-at-requires-2
-    bit-requires
-    bit-requires-2
-    bit-requires-3
-    merged-requires
-    operate-requires
+    (λ c κs. search needs)
+    (λ c κs. search needs)
+    (λ c κs. search needs)
+    (λ c κs. search needs)
+    (λ c κs. search needs)
+    (λ c κs. search needs)
     returns-5
     returns-6
     returns-7

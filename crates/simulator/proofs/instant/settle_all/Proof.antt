@@ -30,12 +30,6 @@ settle-requires c κs =
     let loop = c .before .before .before .loop in
     fits-at pre (loop .state) (loop .inv .1) (loop .k) (c .before .before .loop-test .taken) _ (c .before .cell-at .ensures)
 
-add-k : tie.Need-add-k Inv-loop μ-loop
-add-k c = omega arith
-
-loop-less : tie.Need-loop-less Inv-loop μ-loop
-loop-less c = omega arith
-
 loop-again : tie.Need-loop-again Inv-loop μ-loop
 loop-again c =
     let loop = c .before .before .before .before .before .before .loop in
@@ -66,8 +60,8 @@ settle-all-spec =
     loop-holds
     cell-at-requires
     settle-requires
-    add-k
-    loop-less
+    (λ c. omega arith)
+    (λ c. omega arith)
     loop-again
     same-length
     returns)

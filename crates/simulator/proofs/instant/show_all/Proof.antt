@@ -30,22 +30,10 @@ next-value-requires c κs =
     let loop = c .before .before .before .loop in
     fits-at pre (loop .state) (loop .inv .1) (loop .k) (c .before .before .loop-test .taken) _ (c .before .cell-at .ensures)
 
-mul-put16 : tie.Need-mul-put16 Inv-loop μ-loop
-mul-put16 c = omega arith
-
-add-put16 : tie.Need-add-put16 Inv-loop μ-loop
-add-put16 c = omega arith
-
 put16-requires : tie.Need-put16-requires Inv-loop μ-loop
 put16-requires c κs =
     let pre = c .before .before .before .before .before .before .before .before .pre in
     omega (arith, pre .room)
-
-add-k : tie.Need-add-k Inv-loop μ-loop
-add-k c = omega arith
-
-loop-less : tie.Need-loop-less Inv-loop μ-loop
-loop-less c = omega arith
 
 loop-again : tie.Need-loop-again Inv-loop μ-loop
 unfolding shown
@@ -78,11 +66,11 @@ show-all-spec =
     loop-holds
     cell-at-requires
     next-value-requires
-    mul-put16
-    add-put16
+    (λ c. omega arith)
+    (λ c. omega arith)
     put16-requires
-    add-k
-    loop-less
+    (λ c. omega arith)
+    (λ c. omega arith)
     loop-again
     same-length
     returns)

@@ -7,12 +7,6 @@ use Rattle.simulator.proofs.Passes.{stepped}
 use Rattle.simulator.proofs.instant.step.Statement.{statement}
 use Rattle.simulator.proofs.instant.step.Tie as tie
 
-tick-requires : tie.Need-tick-requires
-tick-requires c κs = search needs
-
-age-all-requires : tie.Need-age-all-requires
-age-all-requires c κs = search needs
-
 show-all-requires : tie.Need-show-all-requires
 show-all-requires c κs =
     let pre = c .before .before .before .before .before .before .before .before .before .before .before .pre in
@@ -28,9 +22,6 @@ settle-all-requires c κs =
     let tick = c .before .before .before .before .before .before .before .before .before .before .before .tick in
     refits (pre .0) (omega arith) (show-all .kept .1 .1 .0 ∙ age-all .kept .0 ∙ tick .kept .0)
 
-same-length : tie.Need-same-length
-same-length c = search needs
-
 returns : tie.Need-returns
 returns c =
     let args = c .before .before .before .before .before .before .before .before .before .before .before .before .before .before .before .before .before .before .args in
@@ -43,9 +34,9 @@ pub step-spec : {M : Type 1} → statement M
 step-spec =
     tie.close
     (tie.spec
-    tick-requires
-    age-all-requires
+    (λ c κs. search needs)
+    (λ c κs. search needs)
     show-all-requires
     settle-all-requires
-    same-length
+    (λ c. search needs)
     returns)

@@ -12,15 +12,6 @@ use Rattle.simulator.proofs.AcceptedFile.{file-sixteen, file-fits}
 use Rattle.simulator.proofs.runs.begin.Statement.{statement}
 use Rattle.simulator.proofs.runs.begin.Tie as tie
 
-slice-aggregate-load : tie.Need-slice-aggregate-load
-slice-aggregate-load c = search needs
-
-load-requires : tie.Need-load-requires
-load-requires c κs = search needs
-
-slice-aggregate-begin-state : tie.Need-slice-aggregate-begin-state
-slice-aggregate-begin-state c = search needs
-
 begin-state-requires : tie.Need-begin-state-requires
 begin-state-requires c κs =
     let args = c .before .before .before .before .before .before .before .before .args in
@@ -32,12 +23,6 @@ begin-state-requires c κs =
       pre .1,
       ap memories (load .ensures .1) ∙ file-sixteen file state (pre .0),
     )
-
-shows-requires : tie.Need-shows-requires
-shows-requires c κs = search needs
-
-same-length : tie.Need-same-length
-same-length c = search needs
 
 returns : tie.Need-returns
 returns c =
@@ -52,10 +37,10 @@ pub begin-spec : {M : Type 1} → statement M
 begin-spec =
     tie.close
     (tie.spec
-    slice-aggregate-load
-    load-requires
-    slice-aggregate-begin-state
+    (λ c. search needs)
+    (λ c κs. search needs)
+    (λ c. search needs)
     begin-state-requires
-    shows-requires
-    same-length
+    (λ c κs. search needs)
+    (λ c. search needs)
     returns)

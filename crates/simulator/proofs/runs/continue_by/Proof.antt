@@ -17,18 +17,6 @@ get16-requires c κs =
     let z = file-sized (args .file .now) (args .state .now) (c .before .before .pre .0) in
     omega (arith, z .some, z .long)
 
-cast-finish : tie.Need-cast-finish
-cast-finish c = search needs
-
-slice-aggregate-load : tie.Need-slice-aggregate-load
-slice-aggregate-load c = search needs
-
-load-requires : tie.Need-load-requires
-load-requires c κs = search needs
-
-slice-aggregate-continue-state : tie.Need-slice-aggregate-continue-state
-slice-aggregate-continue-state c = search needs
-
 continue-state-requires : tie.Need-continue-state-requires
 continue-state-requires c κs =
     let args = c .before .before .before .before .before .before .before .before .args in
@@ -41,12 +29,6 @@ continue-state-requires c κs =
       omega (arith, get16-call .ensures, load .ensures .0, file-sized file state (pre .0) .finish),
       pre .1,
     )
-
-shows-requires : tie.Need-shows-requires
-shows-requires c κs = search needs
-
-same-length : tie.Need-same-length
-same-length c = search needs
 
 returns : tie.Need-returns
 returns c =
@@ -63,11 +45,11 @@ continue-by-spec =
     tie.close
     (tie.spec
     get16-requires
-    cast-finish
-    slice-aggregate-load
-    load-requires
-    slice-aggregate-continue-state
+    (λ c. search needs)
+    (λ c. search needs)
+    (λ c κs. search needs)
+    (λ c. search needs)
     continue-state-requires
-    shows-requires
-    same-length
+    (λ c κs. search needs)
+    (λ c. search needs)
     returns)

@@ -36,9 +36,6 @@ step-requires c κs =
     let loop = c .before .before .loop in
     (refits (pre .0) (omega arith) (loop .inv .1), omega (arith, loop .inv .2))
 
-add-count : tie.Need-add-count Inv-loop μ-loop
-add-count c = omega arith
-
 is-high-requires : tie.Need-is-high-requires Inv-loop μ-loop
 is-high-requires c κs =
     let pre = c .before .before .before .before .before .before .before .before .before .pre in
@@ -61,9 +58,6 @@ returns c =
     let z = stops (netOf (args .cells .now) (args .n)) (args .finish) (args .budget) (loop .count) (loop .state) _ (omega (arith, loop-test .taken)) (step .ensures)
     (sym (c .before .is-high .ensures) ∙ c .if1 .taken) in
     (sym (z .0) ∙ loop .inv .3, omega (arith, z .1, loop .inv .4))
-
-loop-less : tie.Need-loop-less Inv-loop μ-loop
-loop-less c = omega arith
 
 loop-again : tie.Need-loop-again Inv-loop μ-loop
 loop-again c =
@@ -99,11 +93,11 @@ continue-state-spec =
     μ-loop
     loop-holds
     step-requires
-    add-count
+    (λ c. omega arith)
     is-high-requires
     same-length
     returns
-    loop-less
+    (λ c. omega arith)
     loop-again
     same-length-2
     returns-2)

@@ -21,18 +21,6 @@ get16-requires c κs =
     let z = file-sized (args .file .now) (args .state .now) (pre .0) in
     omega (arith, z .some, z .long)
 
-cast-finish : tie.Need-cast-finish
-cast-finish c = search needs
-
-slice-aggregate-load : tie.Need-slice-aggregate-load
-slice-aggregate-load c = search needs
-
-load-requires : tie.Need-load-requires
-load-requires c κs = search needs
-
-slice-aggregate-begin-state : tie.Need-slice-aggregate-begin-state
-slice-aggregate-begin-state c = search needs
-
 begin-state-requires : tie.Need-begin-state-requires
 begin-state-requires c κs =
     let args = c .before .before .before .before .before .before .before .before .before .args in
@@ -57,12 +45,6 @@ is-high-requires c κs =
     let y = file-room file state (pre .0) in
     record { few = omega (arith, get16-call .ensures, z .few, z .finish); room = omega (arith, get16-call .ensures, z .finish, y, begin-state .kept .1 .1 .1 .0) }
 
-shows-requires : tie.Need-shows-requires
-shows-requires c κs = search needs
-
-same-length : tie.Need-same-length
-same-length c = search needs
-
 returns : tie.Need-returns
 returns c =
     let args = c .before .before .before .before .before .before .before .before .before .before .before .before .before .before .before .before .before .args in
@@ -73,9 +55,6 @@ returns c =
     let z = full-ended (args .file .now) (netOf (load .last .0) (load .result)) (get16-call .result) (load .ensures .1) (get16-call .ensures)
     (args .words .now) (args .budget) (args .state .now) _ (begin-state .ensures) (sym (is-high .ensures) ∙ c .before .before .if1 .taken) in
     (z .0, c .shows .ensures ∙ ap₂ (shows (args .file .now)) (z .0) (z .1))
-
-slice-aggregate-continue-state : tie.Need-slice-aggregate-continue-state
-slice-aggregate-continue-state c = search needs
 
 continue-state-requires : tie.Need-continue-state-requires
 continue-state-requires c κs =
@@ -103,12 +82,6 @@ add-shows c =
     let pre = c .before .before .before .before .before .before .before .before .before .before .before .before .before .before .before .before .before .before .before .before .before .pre in
     omega (arith, continue-state .ensures .1, evaluated-le (netOf (load .last .0) (load .result)) (get16-call .result) (args .budget) (begin-state .last .1 .1 .1 .0), pre .2)
 
-shows-requires-2 : tie.Need-shows-requires-2
-shows-requires-2 c κs = search needs
-
-same-length-2 : tie.Need-same-length-2
-same-length-2 c = search needs
-
 returns-2 : tie.Need-returns-2
 returns-2 c =
     let args = c .before .before .before .before .before .before .before .before .before .before .before .before .before .before .before .before .before .before .before .before .before .before .args in
@@ -128,18 +101,18 @@ full-run-spec =
     tie.close
     (tie.spec
     get16-requires
-    cast-finish
-    slice-aggregate-load
-    load-requires
-    slice-aggregate-begin-state
+    (λ c. search needs)
+    (λ c. search needs)
+    (λ c κs. search needs)
+    (λ c. search needs)
     begin-state-requires
     is-high-requires
-    shows-requires
-    same-length
+    (λ c κs. search needs)
+    (λ c. search needs)
     returns
-    slice-aggregate-continue-state
+    (λ c. search needs)
     continue-state-requires
     add-shows
-    shows-requires-2
-    same-length-2
+    (λ c κs. search needs)
+    (λ c. search needs)
     returns-2)

@@ -11,9 +11,6 @@ get16-requires c κs =
     let z = sized (c .before .before .args .file .now) (c .before .before .pre .1) in
     omega (arith, z .some, z .long)
 
-cast-n : tie.Need-cast-n
-cast-n c = search needs
-
 put-cells-requires : tie.Need-put-cells-requires
 put-cells-requires c κs =
     let args = c .before .before .before .before .args in
@@ -21,9 +18,6 @@ put-cells-requires c κs =
     let get16-call = c .before .get16 in
     let z = sized (args .file .now) (pre .1) in
     (record { few = omega (arith, get16-call .ensures, z .few); fits = omega (arith, get16-call .ensures, z .long) }, omega (arith, get16-call .ensures, z .few, pre .0))
-
-same-length : tie.Need-same-length
-same-length c = search needs
 
 returns : tie.Need-returns
 returns c =
@@ -36,4 +30,4 @@ returns c =
     )
 
 pub load-spec : {M : Type 1} → statement M
-load-spec = tie.close (tie.spec get16-requires cast-n put-cells-requires same-length returns)
+load-spec = tie.close (tie.spec get16-requires (λ c. search needs) put-cells-requires (λ c. search needs) returns)

@@ -11,18 +11,12 @@ use Rattle.simulator.proofs.Answers.{answer-shows}
 use Rattle.simulator.proofs.runs.shows.Statement.{statement}
 use Rattle.simulator.proofs.runs.shows.Tie as tie
 
-words-in-requires : tie.Need-words-in-requires
-words-in-requires c κs = search needs
-
 get16-requires : tie.Need-get16-requires
 get16-requires c κs =
     let args = c .before .before .before .args in
     let pre = c .before .before .before .pre in
     let z = file-sized (args .file .now) (args .state .now) pre in
     omega (arith, z .some, z .long)
-
-cast-finish : tie.Need-cast-finish
-cast-finish c = search needs
 
 get32-requires : tie.Need-get32-requires
 get32-requires c κs =
@@ -61,9 +55,9 @@ pub shows-spec : {M : Type 1} → statement M
 shows-spec =
     tie.close
     (tie.spec
-    words-in-requires
+    (λ c κs. search needs)
     get16-requires
-    cast-finish
+    (λ c. search needs)
     get32-requires
     is-high-requires
     returns

@@ -24,9 +24,6 @@ get16-requires c κs =
     let z = file-sized (args .file .now) (args .state .now) (c .before .before .pre) in
     omega (arith, z .some, z .long)
 
-cast-n : tie.Need-cast-n Inv-loop μ-loop
-cast-n c = search needs
-
 loop-holds : tie.Need-loop-holds Inv-loop μ-loop
 loop-holds c =
     let args = c .before .before .before .args in
@@ -49,9 +46,6 @@ now-at-requires c κs =
     let z = file-sized (args .file .now) (args .state .now) pre in
     let y = file-room (args .file .now) (args .state .now) pre in
     record { few = omega (arith, get16-call .ensures, z .few); room = omega (arith, get16-call .ensures, y) }
-
-add-k : tie.Need-add-k Inv-loop μ-loop
-add-k c = omega arith
 
 mul-words : tie.Need-mul-words Inv-loop μ-loop
 mul-words c =
@@ -86,9 +80,6 @@ add-j c =
     let e : cellAt (cellsOf (args .file .now)) (loop .k) ≡ cell-at .result = file-cell (args .file .now) (loop .k) l ∙ sym (cell-at .ensures) in
     omega (arith, collects-room (cellsOf (args .file .now)) (args .state .now) (loop .words) (loop .j) (loop .k) m (cell-at .result) e (loop .inv .1) (c .if1 .taken))
 
-loop-less : tie.Need-loop-less Inv-loop μ-loop
-loop-less c = omega arith
-
 loop-again : tie.Need-loop-again Inv-loop μ-loop
 loop-again c =
     let loop = c .before .before .before .before .before .loop in
@@ -102,9 +93,6 @@ loop-again c =
       rw (c .before .before .now-at .ensures)
           (collects-memory (cellsOf (args .file .now)) (args .state .now) (loop .words) (loop .j) (loop .k) m (cell-at .result) e (loop .inv .1) (c .if1 .taken)),
     )
-
-loop-less-2 : tie.Need-loop-less-2 Inv-loop μ-loop
-loop-less-2 c = omega arith
 
 loop-again-2 : tie.Need-loop-again-2 Inv-loop μ-loop
 loop-again-2 c =
@@ -130,16 +118,16 @@ words-in-spec =
     Inv-loop
     μ-loop
     get16-requires
-    cast-n
+    (λ c. search needs)
     loop-holds
     cell-at-requires
     now-at-requires
-    add-k
+    (λ c. omega arith)
     mul-words
     array-write-words
     add-j
-    loop-less
+    (λ c. omega arith)
     loop-again
-    loop-less-2
+    (λ c. omega arith)
     loop-again-2
     returns)

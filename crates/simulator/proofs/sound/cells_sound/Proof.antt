@@ -25,9 +25,6 @@ get16-requires c κs =
     let z = file-sized (args .file .now) (args .s .now) (c .before .before .pre) in
     omega (arith, z .some, z .long)
 
-cast-n : tie.Need-cast-n Inv-loop μ-loop
-cast-n c = search needs
-
 loop-holds : tie.Need-loop-holds Inv-loop μ-loop
 loop-holds c = (omega arith, refl)
 
@@ -60,12 +57,6 @@ returns c =
     (file-cell (args .file .now) (loop .k) l ∙ sym (cell-at .ensures)) (sym (c .before .cell-sound .ensures) ∙ not-true _ (c .if1 .taken)))
     ∙ loop .inv .1
 
-add-k : tie.Need-add-k Inv-loop μ-loop
-add-k c = omega arith
-
-loop-less : tie.Need-loop-less Inv-loop μ-loop
-loop-less c = omega arith
-
 loop-again : tie.Need-loop-again Inv-loop μ-loop
 loop-again c =
     let loop = c .before .before .before .before .loop in
@@ -93,12 +84,12 @@ cells-sound-spec =
     Inv-loop
     μ-loop
     get16-requires
-    cast-n
+    (λ c. search needs)
     loop-holds
     cell-at-requires
     cell-sound-requires
     returns
-    add-k
-    loop-less
+    (λ c. omega arith)
+    (λ c. omega arith)
     loop-again
     returns-2)

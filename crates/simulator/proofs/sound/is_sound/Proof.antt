@@ -4,15 +4,9 @@ use Rattle.model.specs.State.{sound}
 use Rattle.simulator.proofs.sound.is_sound.Statement.{statement}
 use Rattle.simulator.proofs.sound.is_sound.Tie as tie
 
-all-zero-requires : tie.Need-all-zero-requires
-all-zero-requires c κs = search needs
-
-cells-sound-requires : tie.Need-cells-sound-requires
-cells-sound-requires c κs = search needs
-
 returns : tie.Need-returns
 unfolding sound
 returns c = cc
 
 pub is-sound-spec : {M : Type 1} → statement M
-is-sound-spec = tie.close (tie.spec all-zero-requires cells-sound-requires returns)
+is-sound-spec = tie.close (tie.spec (λ c κs. search needs) (λ c κs. search needs) returns)

@@ -8,15 +8,6 @@ use Rattle.simulator.proofs.Passes.{begun}
 use Rattle.simulator.proofs.start.begin_state.Statement.{statement}
 use Rattle.simulator.proofs.start.begin_state.Tie as tie
 
-mul-clear : tie.Need-mul-clear
-mul-clear c = search needs
-
-add-clear : tie.Need-add-clear
-add-clear c = search needs
-
-clear-requires : tie.Need-clear-requires
-clear-requires c κs = search needs
-
 show-first-requires : tie.Need-show-first-requires
 show-first-requires c κs =
     let pre = c .before .before .before .before .before .before .before .before .pre in
@@ -30,9 +21,6 @@ settle-all-requires c κs =
     let clear = c .before .before .before .before .before .before .before .clear in
     refits (pre .0) (omega arith) (show-first .kept .1 .1 .1 .0 ∙ clear .kept .0)
 
-same-length : tie.Need-same-length
-same-length c = search needs
-
 returns : tie.Need-returns
 returns c =
     let args = c .before .before .before .before .before .before .before .before .before .before .before .before .before .before .before .args in
@@ -44,10 +32,10 @@ pub begin-state-spec : {M : Type 1} → statement M
 begin-state-spec =
     tie.close
     (tie.spec
-    mul-clear
-    add-clear
-    clear-requires
+    (λ c. search needs)
+    (λ c. search needs)
+    (λ c κs. search needs)
     show-first-requires
     settle-all-requires
-    same-length
+    (λ c. search needs)
     returns)

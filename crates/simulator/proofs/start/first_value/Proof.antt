@@ -29,9 +29,6 @@ returns-2 c =
     c .get16 .ensures ∙ ap (wordAt (args .words .now)) (sym m)
     ∙ sym (first-memory net (wordAt (args .words .now)) (args .state .now) (args .k) (args .c) e (c .before .if2 .taken))
 
-next-value-requires : tie.Need-next-value-requires
-next-value-requires c κs = search needs
-
 returns-3 : tie.Need-returns-3
 returns-3 c =
     let args = c .before .before .before .before .before .args in
@@ -41,4 +38,4 @@ returns-3 c =
 
 pub first-value-spec : {M : Type 1} → statement M
 first-value-spec =
-    tie.close (tie.spec returns mul-get16 get16-requires returns-2 next-value-requires returns-3)
+    tie.close (tie.spec returns mul-get16 get16-requires returns-2 (λ c κs. search needs) returns-3)

@@ -52,19 +52,10 @@ first-value-requires c κs =
       λ q. omega (arith, loop .inv .2, pre .2, below-lt net (loop .k) l (ap (λ (d : Cell). d .kind) e ∙ q)),
     )
 
-mul-put16 : tie.Need-mul-put16 Inv-loop μ-loop
-mul-put16 c = omega arith
-
-add-put16 : tie.Need-add-put16 Inv-loop μ-loop
-add-put16 c = omega arith
-
 put16-requires : tie.Need-put16-requires Inv-loop μ-loop
 put16-requires c κs =
     let pre = c .before .before .before .before .before .before .before .before .before .pre in
     omega (arith, pre .0 .room)
-
-bit-requires : tie.Need-bit-requires Inv-loop μ-loop
-bit-requires c κs = search needs
 
 cast-j : tie.Need-cast-j Inv-loop μ-loop
 cast-j c =
@@ -78,12 +69,6 @@ add-j c =
     let args = c .before .before .before .before .before .before .before .before .before .before .before .before .before .before .args in
     let cell-at = c .before .before .before .before .before .before .before .before .cell-at in
     omega (arith, loop .inv .2, pre .2, below-le (netOf (args .cells .now) (args .n)) (loop .k), c .bit .ensures, bit-lt (eqb (cell-at .result .kind) 40))
-
-add-k : tie.Need-add-k Inv-loop μ-loop
-add-k c = omega arith
-
-loop-less : tie.Need-loop-less Inv-loop μ-loop
-loop-less c = omega arith
 
 loop-again : tie.Need-loop-again Inv-loop μ-loop
 unfolding shown
@@ -123,14 +108,14 @@ show-first-spec =
     loop-holds
     cell-at-requires
     first-value-requires
-    mul-put16
-    add-put16
+    (λ c. omega arith)
+    (λ c. omega arith)
     put16-requires
-    bit-requires
+    (λ c κs. search needs)
     cast-j
     add-j
-    add-k
-    loop-less
+    (λ c. omega arith)
+    (λ c. omega arith)
     loop-again
     same-length
     returns)

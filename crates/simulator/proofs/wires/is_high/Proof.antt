@@ -5,11 +5,8 @@ use Rattle.model.specs.Circuit.{high}
 use Rattle.simulator.proofs.wires.is_high.Statement.{statement}
 use Rattle.simulator.proofs.wires.is_high.Tie as tie
 
-now-at-requires : tie.Need-now-at-requires
-now-at-requires c κs = search needs
-
 returns : tie.Need-returns
 returns c = ap high (c .now-at .ensures)
 
 pub is-high-spec : {M : Type 1} → statement M
-is-high-spec = tie.close (tie.spec now-at-requires returns)
+is-high-spec = tie.close (tie.spec (λ c κs. search needs) returns)

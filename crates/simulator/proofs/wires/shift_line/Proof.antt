@@ -19,25 +19,10 @@ Inv-loop state₀ k input i₀ left₀ carry₀ state i left carry =
 abbrev μ-loop : tie.MeasureT-loop
 μ-loop state₀ k input i₀ left₀ carry₀ state i left carry = left
 
-mul-i : tie.Need-mul-i Inv-loop μ-loop
-mul-i c = omega arith
-
-add-i : tie.Need-add-i Inv-loop μ-loop
-add-i c = omega arith
-
-add-i-2 : tie.Need-add-i-2 Inv-loop μ-loop
-add-i-2 c = omega arith
-
-bit-requires : tie.Need-bit-requires Inv-loop μ-loop
-bit-requires c κs = search needs
-
 loop-holds : tie.Need-loop-holds Inv-loop μ-loop
 loop-holds c =
     let args = c .before .before .args in
     (omega arith, omega (arith, c .bit .ensures, bit-lt (args .input)), refl, ap (λ (x : ℕ). shiftedIn 32 (args .state .now) (base (args .k) + 8) x) (c .bit .ensures))
-
-slice-read-v : tie.Need-slice-read-v Inv-loop μ-loop
-slice-read-v c = omega arith
 
 cast-v : tie.Need-cast-v Inv-loop μ-loop
 cast-v c = omega (arith, c .slice-known2 .given (c .before .before .loop .i))
@@ -47,21 +32,6 @@ mul-v c = omega (arith, c .slice-known2 .given (c .before .before .loop .i))
 
 add-v : tie.Need-add-v Inv-loop μ-loop
 add-v c = omega (arith, c .slice-known2 .given (c .before .before .loop .i))
-
-cast-state : tie.Need-cast-state Inv-loop μ-loop
-cast-state c = omega arith
-
-slice-write-state : tie.Need-slice-write-state Inv-loop μ-loop
-slice-write-state c = omega arith
-
-add-i-3 : tie.Need-add-i-3 Inv-loop μ-loop
-add-i-3 c = omega arith
-
-sub-left : tie.Need-sub-left Inv-loop μ-loop
-sub-left c = omega arith
-
-loop-less : tie.Need-loop-less Inv-loop μ-loop
-loop-less c = omega arith
 
 loop-again : tie.Need-loop-again Inv-loop μ-loop
 loop-again c =
@@ -84,20 +54,20 @@ shift-line-spec =
     (tie.spec
     Inv-loop
     μ-loop
-    mul-i
-    add-i
-    add-i-2
-    bit-requires
+    (λ c. omega arith)
+    (λ c. omega arith)
+    (λ c. omega arith)
+    (λ c κs. search needs)
     loop-holds
-    slice-read-v
+    (λ c. omega arith)
     cast-v
     mul-v
     add-v
-    cast-state
-    slice-write-state
-    add-i-3
-    sub-left
-    loop-less
+    (λ c. omega arith)
+    (λ c. omega arith)
+    (λ c. omega arith)
+    (λ c. omega arith)
+    (λ c. omega arith)
     loop-again
     same-length
     returns)

@@ -18,12 +18,6 @@ abbrev μ-loop : tie.MeasureT-loop
 loop-holds : tie.Need-loop-holds Inv-loop μ-loop
 loop-holds c = (omega arith, refl)
 
-sub-hold-of : tie.Need-sub-hold-of Inv-loop μ-loop
-sub-hold-of c = omega arith
-
-shared-slice-read-hold-of : tie.Need-shared-slice-read-hold-of Inv-loop μ-loop
-shared-slice-read-hold-of c = omega arith
-
 hold-of-requires : tie.Need-hold-of-requires Inv-loop μ-loop
 hold-of-requires c κs = tt
 
@@ -33,21 +27,6 @@ returns c =
     let loop = c .before .before .before .before .loop in
     popped (args .codes .now) (args .starts .now) (args .reach) (loop .p) (args .start) (args .height) (loop .h) (loop .inv .0) (loop .inv .1)
     (pop-stays (args .codes .now) (args .starts .now) (args .reach) (loop .p) (loop .h) (c .before .before .before .loop-test .taken) (omega (arith, c .before .hold-of .ensures)))
-
-sub-p : tie.Need-sub-p Inv-loop μ-loop
-sub-p c = omega arith
-
-mul-p : tie.Need-mul-p Inv-loop μ-loop
-mul-p c = omega arith
-
-shared-slice-read-p : tie.Need-shared-slice-read-p Inv-loop μ-loop
-shared-slice-read-p c = omega arith
-
-sub-h : tie.Need-sub-h Inv-loop μ-loop
-sub-h c = omega arith
-
-loop-less : tie.Need-loop-less Inv-loop μ-loop
-loop-less c = omega arith
 
 loop-again : tie.Need-loop-again Inv-loop μ-loop
 loop-again c =
@@ -72,14 +51,14 @@ pop-spec =
     Inv-loop
     μ-loop
     loop-holds
-    sub-hold-of
-    shared-slice-read-hold-of
+    (λ c. omega arith)
+    (λ c. omega arith)
     hold-of-requires
     returns
-    sub-p
-    mul-p
-    shared-slice-read-p
-    sub-h
-    loop-less
+    (λ c. omega arith)
+    (λ c. omega arith)
+    (λ c. omega arith)
+    (λ c. omega arith)
+    (λ c. omega arith)
     loop-again
     returns-2)

@@ -8,15 +8,9 @@ returns : tie.Need-returns
 returns c =
     λ starts. code-none (c .before .args .codes .now) starts (c .before .args .height) (c .if1 .taken)
 
-sub-result : tie.Need-sub-result
-sub-result c = search needs
-
-shared-slice-read-result : tie.Need-shared-slice-read-result
-shared-slice-read-result c = search needs
-
 returns-2 : tie.Need-returns-2
 returns-2 c =
     λ starts. code-some (c .before .before .args .codes .now) starts (c .before .before .args .height) (c .before .if1 .left)
 
 pub top-code-spec : {M : Type 1} → statement M
-top-code-spec = tie.close (tie.spec returns sub-result shared-slice-read-result returns-2)
+top-code-spec = tie.close (tie.spec returns (λ c. search needs) (λ c. search needs) returns-2)

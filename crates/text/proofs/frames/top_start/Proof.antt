@@ -8,19 +8,10 @@ returns : tie.Need-returns
 returns c =
     λ codes. start-none codes (c .before .args .starts .now) (c .before .args .height) (c .if1 .taken)
 
-sub-result : tie.Need-sub-result
-sub-result c = search needs
-
-mul-result : tie.Need-mul-result
-mul-result c = search needs
-
-shared-slice-read-result : tie.Need-shared-slice-read-result
-shared-slice-read-result c = search needs
-
 returns-2 : tie.Need-returns-2
 returns-2 c =
     λ codes. start-some codes (c .before .before .args .starts .now) (c .before .before .args .height) (c .before .if1 .left)
 
 pub top-start-spec : {M : Type 1} → statement M
 top-start-spec =
-    tie.close (tie.spec returns sub-result mul-result shared-slice-read-result returns-2)
+    tie.close (tie.spec returns (λ c. search needs) (λ c. search needs) (λ c. search needs) returns-2)

@@ -5,12 +5,6 @@ use borrow.Author.Needs.{needs}
 use Rattle.text.proofs.machine.closed.Statement.{statement}
 use Rattle.text.proofs.machine.closed.Tie as tie
 
-top-start-requires : tie.Need-top-start-requires
-top-start-requires c κs = search needs
-
-below-requires : tie.Need-below-requires
-below-requires c κs = search needs
-
 returns : tie.Need-returns
 returns c =
     let args = c .before .before .before .args in
@@ -21,4 +15,4 @@ returns c =
     )
 
 pub closed-spec : {M : Type 1} → statement M
-closed-spec = tie.close (tie.spec top-start-requires below-requires returns)
+closed-spec = tie.close (tie.spec (λ c κs. search needs) (λ c κs. search needs) returns)

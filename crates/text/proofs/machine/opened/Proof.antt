@@ -5,18 +5,6 @@ use borrow.Author.Needs.{needs}
 use Rattle.text.proofs.machine.opened.Statement.{statement}
 use Rattle.text.proofs.machine.opened.Tie as tie
 
-push-requires : tie.Need-push-requires
-push-requires c κs = search needs
-
-add-t11 : tie.Need-add-t11
-add-t11 c = search needs
-
-same-length : tie.Need-same-length
-same-length c = search needs
-
-same-length-2 : tie.Need-same-length-2
-same-length-2 c = search needs
-
 returns : tie.Need-returns
 returns c =
     let args = c .before .before .before .before .before .before .before .before .before .before .args in
@@ -26,4 +14,4 @@ returns c =
     )
 
 pub opened-spec : {M : Type 1} → statement M
-opened-spec = tie.close (tie.spec push-requires add-t11 same-length same-length-2 returns)
+opened-spec = tie.close (tie.spec (λ c κs. search needs) (λ c. search needs) (λ c. search needs) (λ c. search needs) returns)

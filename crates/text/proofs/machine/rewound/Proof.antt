@@ -5,12 +5,6 @@ use borrow.Author.Needs.{needs}
 use Rattle.text.proofs.machine.rewound.Statement.{statement}
 use Rattle.text.proofs.machine.rewound.Tie as tie
 
-top-start-requires : tie.Need-top-start-requires
-top-start-requires c κs = search needs
-
-wrapping-add-u16-requires : tie.Need-wrapping-add-u16-requires
-wrapping-add-u16-requires c κs = search needs
-
 returns : tie.Need-returns
 returns c =
     let args = c .before .before .before .args in
@@ -21,4 +15,4 @@ returns c =
     )
 
 pub rewound-spec : {M : Type 1} → statement M
-rewound-spec = tie.close (tie.spec top-start-requires wrapping-add-u16-requires returns)
+rewound-spec = tie.close (tie.spec (λ c κs. search needs) (λ c κs. search needs) returns)

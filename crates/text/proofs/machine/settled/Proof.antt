@@ -5,9 +5,6 @@ use borrow.Author.Needs.{needs}
 use Rattle.text.proofs.machine.settled.Statement.{statement}
 use Rattle.text.proofs.machine.settled.Tie as tie
 
-pop-requires : tie.Need-pop-requires
-pop-requires c κs = search needs
-
 returns : tie.Need-returns
 returns c =
     let args = c .before .before .before .args in
@@ -17,4 +14,4 @@ returns c =
     )
 
 pub settled-spec : {M : Type 1} → statement M
-settled-spec = tie.close (tie.spec pop-requires returns)
+settled-spec = tie.close (tie.spec (λ c κs. search needs) returns)

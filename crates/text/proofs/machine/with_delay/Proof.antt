@@ -5,12 +5,6 @@ use borrow.Author.Needs.{needs}
 use Rattle.text.proofs.machine.with_delay.Statement.{statement}
 use Rattle.text.proofs.machine.with_delay.Tie as tie
 
-set-delay-requires : tie.Need-set-delay-requires
-set-delay-requires c κs = search needs
-
-same-length : tie.Need-same-length
-same-length c = search needs
-
 returns : tie.Need-returns
 returns c =
     let args = c .before .before .before .before .before .args in
@@ -21,4 +15,4 @@ returns c =
     )
 
 pub with-delay-spec : {M : Type 1} → statement M
-with-delay-spec = tie.close (tie.spec set-delay-requires same-length returns)
+with-delay-spec = tie.close (tie.spec (λ c κs. search needs) (λ c. search needs) returns)

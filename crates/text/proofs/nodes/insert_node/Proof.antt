@@ -12,32 +12,8 @@ returns c =
     let args = c .before .before .args in
     λ ns e k. insert-past (args .nodes .now) (args .at) (args .node) ns (c .before .before .pre) (omega arith)
 
-smaller-requires : tie.Need-smaller-requires
-smaller-requires c κs = search needs
-
-cast-a : tie.Need-cast-a
-cast-a c = search needs
-
-mul-a : tie.Need-mul-a
-mul-a c = search needs
-
-mul-shift : tie.Need-mul-shift
-mul-shift c = search needs
-
-shift-requires : tie.Need-shift-requires
-shift-requires c κs = search needs
-
-slice-write-nodes : tie.Need-slice-write-nodes
-slice-write-nodes c = search needs
-
-add-nodes : tie.Need-add-nodes
-add-nodes c = search needs
-
 slice-write-nodes-2 : tie.Need-slice-write-nodes-2
 slice-write-nodes-2 c = simp length-set (omega arith)
-
-add-put16 : tie.Need-add-put16
-add-put16 c = search needs
 
 put16-requires : tie.Need-put16-requires
 put16-requires c κs = simp length-set (omega arith)
@@ -60,15 +36,15 @@ insert-node-spec =
     tie.close
     (tie.spec
     returns
-    smaller-requires
-    cast-a
-    mul-a
-    mul-shift
-    shift-requires
-    slice-write-nodes
-    add-nodes
+    (λ c κs. search needs)
+    (λ c. search needs)
+    (λ c. search needs)
+    (λ c. search needs)
+    (λ c κs. search needs)
+    (λ c. search needs)
+    (λ c. search needs)
     slice-write-nodes-2
-    add-put16
+    (λ c. search needs)
     put16-requires
     same-length
     returns-2)

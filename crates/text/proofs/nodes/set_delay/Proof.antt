@@ -15,18 +15,6 @@ returns-2 c =
     let args = c .before .before .args in
     λ ns e k. delay-many (args .nodes .now) (args .at) (args .d) ns (omega arith)
 
-mul-nodes : tie.Need-mul-nodes
-mul-nodes c = search needs
-
-add-nodes : tie.Need-add-nodes
-add-nodes c = search needs
-
-slice-write-nodes : tie.Need-slice-write-nodes
-slice-write-nodes c = search needs
-
-same-length : tie.Need-same-length
-same-length c = search needs
-
 returns-3 : tie.Need-returns-3
 returns-3 c =
     let args = c .before .before .args in
@@ -35,4 +23,4 @@ returns-3 c =
 pub set-delay-spec : {M : Type 1} → statement M
 set-delay-spec =
     tie.close
-    (tie.spec returns returns-2 mul-nodes add-nodes slice-write-nodes same-length returns-3)
+    (tie.spec returns returns-2 (λ c. search needs) (λ c. search needs) (λ c. search needs) (λ c. search needs) returns-3)

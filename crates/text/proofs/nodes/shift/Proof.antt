@@ -19,21 +19,6 @@ loop-holds c =
     let args = c .args in
     (refl, omega arith, omega arith, sym (shift-none (args .nodes .now) (args .e) (omega arith)))
 
-sub-i : tie.Need-sub-i Inv-loop μ-loop
-sub-i c = omega arith
-
-slice-read-nodes : tie.Need-slice-read-nodes Inv-loop μ-loop
-slice-read-nodes c = omega arith
-
-add-nodes : tie.Need-add-nodes Inv-loop μ-loop
-add-nodes c = omega arith
-
-slice-write-nodes : tie.Need-slice-write-nodes Inv-loop μ-loop
-slice-write-nodes c = omega arith
-
-loop-less : tie.Need-loop-less Inv-loop μ-loop
-loop-less c = omega arith
-
 loop-again : tie.Need-loop-again Inv-loop μ-loop
 loop-again c =
     let args = c .before .before .before .args in
@@ -59,11 +44,11 @@ shift-spec =
     Inv-loop
     μ-loop
     loop-holds
-    sub-i
-    slice-read-nodes
-    add-nodes
-    slice-write-nodes
-    loop-less
+    (λ c. omega arith)
+    (λ c. omega arith)
+    (λ c. omega arith)
+    (λ c. omega arith)
+    (λ c. omega arith)
     loop-again
     same-length
     returns)

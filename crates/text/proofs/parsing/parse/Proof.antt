@@ -18,12 +18,6 @@ Inv-loop text nodes₀ codes₀ starts₀ m₀ w₀ nodes codes starts m w = Goi
 abbrev μ-loop : tie.MeasureT-loop
 μ-loop text nodes₀ codes₀ starts₀ m₀ w₀ nodes codes starts m w = length text - w .place
 
-at-first-requires : tie.Need-at-first-requires Inv-loop μ-loop
-at-first-requires c κs = search needs
-
-next-word-requires : tie.Need-next-word-requires Inv-loop μ-loop
-next-word-requires c κs = search needs
-
 loop-holds : tie.Need-loop-holds Inv-loop μ-loop
 loop-holds c =
     let args = c .before .before .before .before .args in
@@ -43,21 +37,12 @@ step-requires c κs =
     let pre = c .before .before .before .before .before .before .before .before .before .pre in
     (record { codes = g .room .0; starts = g .room .1; nodes = g .room .2; height = omega (arith, g .height .0, h .0, h .1, pre .0); count = omega (arith, g .shows .count, g .within .nodes, h .0, h .1, pre .0) }, g .limited)
 
-is-broken-requires : tie.Need-is-broken-requires Inv-loop μ-loop
-is-broken-requires c κs = search needs
-
-same-length : tie.Need-same-length Inv-loop μ-loop
-same-length c = search needs
-
 returns : tie.Need-returns Inv-loop μ-loop
 unfolding Parses
 returns c =
     let loop = c .before .before .before .before .before .before .before .before .before .before .before .loop in
     let text = c .before .before .before .before .before .before .before .before .before .before .before .before .before .before .before .before .args .text .now in
     going-breaks text (loop .inv) (c .before .before .before .before .before .before .before .before .before .before .loop-test .taken) (c .before .before .before .before .before .before .before .before .before .before .before .before .before .before .before .before .pre .0) (c .before .before .before .before .before .before .step .ensures .1) (sym (c .before .is-broken .ensures) ∙ c .if1 .taken)
-
-next-word-requires-2 : tie.Need-next-word-requires-2 Inv-loop μ-loop
-next-word-requires-2 c κs = search needs
 
 loop-less : tie.Need-loop-less Inv-loop μ-loop
 loop-less c =
@@ -87,18 +72,9 @@ is-complete-requires c κs =
     let g = c .before .before .before .loop .inv in
     (omega (arith, g .height .1, g .room .0), omega (arith, g .height .1, g .room .1))
 
-cast-t20 : tie.Need-cast-t20 Inv-loop μ-loop
-cast-t20 c = search needs
-
-same-length-2 : tie.Need-same-length-2 Inv-loop μ-loop
-same-length-2 c = search needs
-
 returns-2 : tie.Need-returns-2 Inv-loop μ-loop
 returns-2 c =
     going-ends (c .before .before .before .before .before .before .before .before .before .before .before .args .text .now) (c .before .before .before .before .before .before .loop .inv) (c .before .before .before .before .before .loop-test .left) (sym (c .before .before .is-complete .ensures) ∙ c .before .if2 .taken)
-
-same-length-3 : tie.Need-same-length-3 Inv-loop μ-loop
-same-length-3 c = search needs
 
 returns-3 : tie.Need-returns-3 Inv-loop μ-loop
 returns-3 c =
@@ -110,23 +86,23 @@ parse-spec =
     (tie.spec
     Inv-loop
     μ-loop
-    at-first-requires
-    next-word-requires
+    (λ c κs. search needs)
+    (λ c κs. search needs)
     loop-holds
     slice-aggregate-step
     slice-aggregate-step-2
     step-requires
-    is-broken-requires
-    same-length
+    (λ c κs. search needs)
+    (λ c. search needs)
     returns
-    next-word-requires-2
+    (λ c κs. search needs)
     loop-less
     loop-again
     slice-aggregate-is-complete
     slice-aggregate-is-complete-2
     is-complete-requires
-    cast-t20
-    same-length-2
+    (λ c. search needs)
+    (λ c. search needs)
     returns-2
-    same-length-3
+    (λ c. search needs)
     returns-3)

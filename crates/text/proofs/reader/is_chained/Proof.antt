@@ -5,12 +5,6 @@ use borrow.Author.Needs.{needs}
 use Rattle.text.proofs.reader.is_chained.Statement.{statement}
 use Rattle.text.proofs.reader.is_chained.Tie as tie
 
-pop-requires : tie.Need-pop-requires
-pop-requires c κs = search needs
-
-top-code-requires : tie.Need-top-code-requires
-top-code-requires c κs = search needs
-
 returns : tie.Need-returns
 returns c =
     let args = c .before .before .before .before .args in
@@ -19,4 +13,4 @@ returns c =
     λ n r h. rw (popped-shown h 7 (pop .ensures) (top-code .ensures (args .starts .now))) refl
 
 pub is-chained-spec : {M : Type 1} → statement M
-is-chained-spec = tie.close (tie.spec pop-requires top-code-requires returns)
+is-chained-spec = tie.close (tie.spec (λ c κs. search needs) (λ c κs. search needs) returns)

@@ -4,9 +4,6 @@ use borrow.Author.Needs.{needs}
 use Rattle.text.proofs.reader.is_empty.Statement.{statement}
 use Rattle.text.proofs.reader.is_empty.Tie as tie
 
-pop-requires : tie.Need-pop-requires
-pop-requires c κs = search needs
-
 returns : tie.Need-returns
 returns c =
     let args = c .before .before .before .before .args in
@@ -14,4 +11,4 @@ returns c =
     empty-shown (args .codes .now) (args .starts .now) (args .height) (pop .ensures)
 
 pub is-empty-spec : {M : Type 1} → statement M
-is-empty-spec = tie.close (tie.spec pop-requires returns)
+is-empty-spec = tie.close (tie.spec (λ c κs. search needs) returns)

@@ -4,18 +4,12 @@ use borrow.Author.Needs.{needs}
 use Rattle.text.proofs.reader.on_becomes.Statement.{statement}
 use Rattle.text.proofs.reader.on_becomes.Tie as tie
 
-in-mode-requires : tie.Need-in-mode-requires
-in-mode-requires c κs = search needs
-
 returns : tie.Need-returns
 returns c =
     let args = c .before .before .before .args in
     let if1 = c .before .if1 in
     let in-mode = c .in-mode in
     (in-mode .ensures .0, λ l r h. rw (becomes-operand (args .t) r (if1 .taken)) (in-mode .ensures .1 l r h))
-
-broken-requires : tie.Need-broken-requires
-broken-requires c κs = search needs
 
 returns-2 : tie.Need-returns-2
 returns-2 c =
@@ -25,4 +19,4 @@ returns-2 c =
     (broken .ensures .0, λ l r h. rw (becomes-broken (args .t) r (if1 .left)) (broken .ensures .1 l r h))
 
 pub on-becomes-spec : {M : Type 1} → statement M
-on-becomes-spec = tie.close (tie.spec in-mode-requires returns broken-requires returns-2)
+on-becomes-spec = tie.close (tie.spec (λ c κs. search needs) returns (λ c κs. search needs) returns-2)

@@ -5,18 +5,6 @@ use borrow.Author.Needs.{needs}
 use Rattle.text.proofs.reader.on_body.Statement.{statement}
 use Rattle.text.proofs.reader.on_body.Tie as tie
 
-top-code-requires : tie.Need-top-code-requires
-top-code-requires c κs = search needs
-
-turned-requires : tie.Need-turned-requires
-turned-requires c κs = search needs
-
-same-length : tie.Need-same-length
-same-length c = search needs
-
-same-length-2 : tie.Need-same-length-2
-same-length-2 c = search needs
-
 returns : tie.Need-returns
 returns c =
     let args = c .before .before .before .before .before .before .before .before .before .before .before .before .args in
@@ -28,15 +16,6 @@ returns c =
           let top = top-shown h (top-code .ensures (args .starts .now)) in
           rw (body-then (args .t) r top (if1 .taken)) (turned .ensures .1 n r h),
     )
-
-turned-requires-2 : tie.Need-turned-requires-2
-turned-requires-2 c κs = search needs
-
-same-length-3 : tie.Need-same-length-3
-same-length-3 c = search needs
-
-same-length-4 : tie.Need-same-length-4
-same-length-4 c = search needs
 
 returns-2 : tie.Need-returns-2
 returns-2 c =
@@ -51,15 +30,6 @@ returns-2 c =
           rw (body-do (args .t) r top (if1 .left) (if2 .taken)) (turned2 .ensures .1 n r h),
     )
 
-closed-requires : tie.Need-closed-requires
-closed-requires c κs = search needs
-
-same-length-5 : tie.Need-same-length-5
-same-length-5 c = search needs
-
-same-length-6 : tie.Need-same-length-6
-same-length-6 c = search needs
-
 returns-3 : tie.Need-returns-3
 returns-3 c =
     let args = c .before .before .before .before .before .before .before .before .before .args in
@@ -73,12 +43,6 @@ returns-3 c =
           let top = top-shown h (top-code .ensures (args .starts .now)) in
           rw (body-end (args .t) r top (if1 .left) (if2 .left) (if3 .taken)) (closed .ensures .1 (args .codes .now) n r h),
     )
-
-broken-requires : tie.Need-broken-requires
-broken-requires c κs = search needs
-
-same-length-7 : tie.Need-same-length-7
-same-length-7 c = search needs
 
 returns-4 : tie.Need-returns-4
 returns-4 c =
@@ -98,19 +62,19 @@ pub on-body-spec : {M : Type 1} → statement M
 on-body-spec =
     tie.close
     (tie.spec
-    top-code-requires
-    turned-requires
-    same-length
-    same-length-2
+    (λ c κs. search needs)
+    (λ c κs. search needs)
+    (λ c. search needs)
+    (λ c. search needs)
     returns
-    turned-requires-2
-    same-length-3
-    same-length-4
+    (λ c κs. search needs)
+    (λ c. search needs)
+    (λ c. search needs)
     returns-2
-    closed-requires
-    same-length-5
-    same-length-6
+    (λ c κs. search needs)
+    (λ c. search needs)
+    (λ c. search needs)
     returns-3
-    broken-requires
-    same-length-7
+    (λ c κs. search needs)
+    (λ c. search needs)
     returns-4)

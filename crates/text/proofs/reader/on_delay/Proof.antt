@@ -5,33 +5,12 @@ use borrow.Author.Needs.{needs}
 use Rattle.text.proofs.reader.on_delay.Statement.{statement}
 use Rattle.text.proofs.reader.on_delay.Tie as tie
 
-broken-requires : tie.Need-broken-requires
-broken-requires c κs = search needs
-
 returns : tie.Need-returns
 returns c =
     let args = c .before .before .before .before .before .before .args in
     let if1 = c .before .if1 in
     let broken = c .broken in
     (broken .ensures .0, λ r h. rw (delay-broken (args .t) r (if1 .taken)) (broken .ensures .1 _ r h))
-
-top-start-requires : tie.Need-top-start-requires
-top-start-requires c κs = search needs
-
-top-code-requires : tie.Need-top-code-requires
-top-code-requires c κs = search needs
-
-cast-with-delay : tie.Need-cast-with-delay
-cast-with-delay c = search needs
-
-with-delay-requires : tie.Need-with-delay-requires
-with-delay-requires c κs = search needs
-
-closed-requires : tie.Need-closed-requires
-closed-requires c κs = search needs
-
-same-length : tie.Need-same-length
-same-length c = search needs
 
 returns-2 : tie.Need-returns-2
 returns-2 c =
@@ -49,9 +28,6 @@ returns-2 c =
           rw (delay-closes (args .t) r top (if1 .left) (if2 .taken), ← p)
           (closed .ensures .1 (args .codes .now) (with-delay .last .0) _ (with-delay .ensures .1 (args .codes .now) (args .starts .now) r h)),
     )
-
-same-length-2 : tie.Need-same-length-2
-same-length-2 c = search needs
 
 returns-3 : tie.Need-returns-3
 returns-3 c =
@@ -72,14 +48,14 @@ pub on-delay-spec : {M : Type 1} → statement M
 on-delay-spec =
     tie.close
     (tie.spec
-    broken-requires
+    (λ c κs. search needs)
     returns
-    top-start-requires
-    top-code-requires
-    cast-with-delay
-    with-delay-requires
-    closed-requires
-    same-length
+    (λ c κs. search needs)
+    (λ c κs. search needs)
+    (λ c. search needs)
+    (λ c κs. search needs)
+    (λ c κs. search needs)
+    (λ c. search needs)
     returns-2
-    same-length-2
+    (λ c. search needs)
     returns-3)

@@ -5,33 +5,12 @@ use borrow.Author.Needs.{needs}
 use Rattle.text.proofs.reader.on_operand.Statement.{statement}
 use Rattle.text.proofs.reader.on_operand.Tie as tie
 
-leaf-requires : tie.Need-leaf-requires
-leaf-requires c κs = search needs
-
-same-length : tie.Need-same-length
-same-length c = search needs
-
 returns : tie.Need-returns
 returns c =
     let args = c .before .before .before .before .before .before .before .before .args in
     let if1 = c .before .before .before .before .if1 in
     let leaf = c .before .before .leaf in
     (omega (arith, leaf .ensures .0), λ r w h. rw (operand-leaf (args .t) r (if1 .taken)) (leaf .ensures .1 (args .codes .now) (args .starts .now) r w h))
-
-bare-requires : tie.Need-bare-requires
-bare-requires c κs = search needs
-
-opened-node-requires : tie.Need-opened-node-requires
-opened-node-requires c κs = search needs
-
-same-length-2 : tie.Need-same-length-2
-same-length-2 c = search needs
-
-same-length-3 : tie.Need-same-length-3
-same-length-3 c = search needs
-
-same-length-4 : tie.Need-same-length-4
-same-length-4 c = search needs
 
 returns-2 : tie.Need-returns-2
 returns-2 c =
@@ -41,24 +20,12 @@ returns-2 c =
     let opened-node = c .before .before .before .before .before .before .opened-node in
     (opened-node .ensures .0, λ r w h. rw (operand-complement (args .t) r (if2 .taken), ← bare .ensures) (opened-node .ensures .1 r w h))
 
-opened-requires : tie.Need-opened-requires
-opened-requires c κs = search needs
-
-same-length-5 : tie.Need-same-length-5
-same-length-5 c = search needs
-
-same-length-6 : tie.Need-same-length-6
-same-length-6 c = search needs
-
 returns-3 : tie.Need-returns-3
 returns-3 c =
     let args = c .before .before .before .before .before .before .before .before .before .before .before .before .before .args in
     let if3 = c .before .before .before .before .before .before .before .if3 in
     let opened = c .before .before .before .before .opened in
     (omega (arith, opened .ensures .0), λ r w h. rw (operand-paren (args .t) r (if3 .taken)) (opened .ensures .1 (args .nodes .now) r h))
-
-broken-requires : tie.Need-broken-requires
-broken-requires c κs = search needs
 
 returns-4 : tie.Need-returns-4
 returns-4 c =
@@ -73,18 +40,18 @@ pub on-operand-spec : {M : Type 1} → statement M
 on-operand-spec =
     tie.close
     (tie.spec
-    leaf-requires
-    same-length
+    (λ c κs. search needs)
+    (λ c. search needs)
     returns
-    bare-requires
-    opened-node-requires
-    same-length-2
-    same-length-3
-    same-length-4
+    (λ c κs. search needs)
+    (λ c κs. search needs)
+    (λ c. search needs)
+    (λ c. search needs)
+    (λ c. search needs)
     returns-2
-    opened-requires
-    same-length-5
-    same-length-6
+    (λ c κs. search needs)
+    (λ c. search needs)
+    (λ c. search needs)
     returns-3
-    broken-requires
+    (λ c κs. search needs)
     returns-4)

@@ -4,24 +4,12 @@ use borrow.Author.Needs.{needs}
 use Rattle.text.proofs.reader.on_ticks.Statement.{statement}
 use Rattle.text.proofs.reader.on_ticks.Tie as tie
 
-cast-with-delay : tie.Need-cast-with-delay
-cast-with-delay c = search needs
-
-with-delay-requires : tie.Need-with-delay-requires
-with-delay-requires c κs = search needs
-
-same-length : tie.Need-same-length
-same-length c = search needs
-
 returns : tie.Need-returns
 returns c =
     let args = c .before .before .before .before .before .before .before .before .args in
     let if1 = c .before .before .before .before .before .if1 in
     let with-delay = c .before .before .with-delay in
     (with-delay .ensures .0, λ codes starts r h. rw (ticks-delay (args .t) r (h .start) (if1 .taken)) (with-delay .ensures .1 codes starts r h))
-
-broken-requires : tie.Need-broken-requires
-broken-requires c κs = search needs
 
 returns-2 : tie.Need-returns-2
 returns-2 c =
@@ -33,4 +21,4 @@ returns-2 c =
 pub on-ticks-spec : {M : Type 1} → statement M
 on-ticks-spec =
     tie.close
-    (tie.spec cast-with-delay with-delay-requires same-length returns broken-requires returns-2)
+    (tie.spec (λ c. search needs) (λ c κs. search needs) (λ c. search needs) returns (λ c κs. search needs) returns-2)

@@ -11,36 +11,6 @@ use Rattle.text.proofs.reader.step.Tie as tie
 enum-told : tie.Need-enum-told
 enum-told c = search needs
 
-on-statement-requires : tie.Need-on-statement-requires
-on-statement-requires c κs = search needs
-
-enum-told-2 : tie.Need-enum-told-2
-enum-told-2 c = search needs
-
-on-after-statement-requires : tie.Need-on-after-statement-requires
-on-after-statement-requires c κs = search needs
-
-enum-told-3 : tie.Need-enum-told-3
-enum-told-3 c = search needs
-
-on-operand-requires : tie.Need-on-operand-requires
-on-operand-requires c κs = search needs
-
-enum-told-4 : tie.Need-enum-told-4
-enum-told-4 c = search needs
-
-on-after-operand-requires : tie.Need-on-after-operand-requires
-on-after-operand-requires c κs = search needs
-
-enum-told-5 : tie.Need-enum-told-5
-enum-told-5 c = search needs
-
-on-becomes-requires : tie.Need-on-becomes-requires
-on-becomes-requires c κs = search needs
-
-enum-told-6 : tie.Need-enum-told-6
-enum-told-6 c = search needs
-
 on-ticks-requires : tie.Need-on-ticks-requires
 unfolding limitOf
 on-ticks-requires c κs =
@@ -49,9 +19,6 @@ on-ticks-requires c κs =
     let enum-told6 = c .before .enum-told6 in
     let few : args .t .value ≤ 255 = rw (enum-told6 .given .1) at (pre .1) in
     (pre .0 .nodes, few)
-
-enum-told-7 : tie.Need-enum-told-7
-enum-told-7 c = search needs
 
 on-delay-requires : tie.Need-on-delay-requires
 unfolding limitOf
@@ -62,24 +29,6 @@ on-delay-requires c κs =
     let few : args .t .value ≤ 255 = rw (enum-told7 .given .1) at (pre .1) in
     (omega (arith, pre .0 .codes, pre .0 .height), omega (arith, pre .0 .starts, pre .0 .height), pre .0 .nodes, few)
 
-enum-told-8 : tie.Need-enum-told-8
-enum-told-8 c = search needs
-
-on-body-requires : tie.Need-on-body-requires
-on-body-requires c κs = search needs
-
-enum-told-9 : tie.Need-enum-told-9
-enum-told-9 c = search needs
-
-same-length : tie.Need-same-length
-same-length c = search needs
-
-same-length-2 : tie.Need-same-length-2
-same-length-2 c = search needs
-
-same-length-3 : tie.Need-same-length-3
-same-length-3 c = search needs
-
 returns : tie.Need-returns
 unfolding stepOf
 returns c =
@@ -87,15 +36,6 @@ returns c =
     let enum-told = c .before .before .before .before .before .before .before .before .before .before .enum-told in
     let on-statement = c .before .before .before .before .before .before .on-statement in
     (on-statement .ensures .0, λ r w h. rw (step-in (args .t) r h (enum-told .given .1)) (on-statement .ensures .1 r w h))
-
-same-length-4 : tie.Need-same-length-4
-same-length-4 c = search needs
-
-same-length-5 : tie.Need-same-length-5
-same-length-5 c = search needs
-
-same-length-6 : tie.Need-same-length-6
-same-length-6 c = search needs
 
 returns-2 : tie.Need-returns-2
 unfolding stepOf
@@ -105,15 +45,6 @@ returns-2 c =
     let on-after-statement = c .before .before .before .before .before .before .on-after-statement in
     (on-after-statement .ensures .0, λ r w h. rw (step-in (args .t) r h (enum-told2 .given .1)) (on-after-statement .ensures .1 r w h))
 
-same-length-7 : tie.Need-same-length-7
-same-length-7 c = search needs
-
-same-length-8 : tie.Need-same-length-8
-same-length-8 c = search needs
-
-same-length-9 : tie.Need-same-length-9
-same-length-9 c = search needs
-
 returns-3 : tie.Need-returns-3
 unfolding stepOf
 returns-3 c =
@@ -121,15 +52,6 @@ returns-3 c =
     let enum-told3 = c .before .before .before .before .before .before .before .before .before .before .enum-told3 in
     let on-operand = c .before .before .before .before .before .before .on-operand in
     (on-operand .ensures .0, λ r w h. rw (step-in (args .t) r h (enum-told3 .given .1)) (on-operand .ensures .1 r w h))
-
-same-length-10 : tie.Need-same-length-10
-same-length-10 c = search needs
-
-same-length-11 : tie.Need-same-length-11
-same-length-11 c = search needs
-
-same-length-12 : tie.Need-same-length-12
-same-length-12 c = search needs
 
 returns-4 : tie.Need-returns-4
 unfolding stepOf
@@ -147,9 +69,6 @@ returns-5 c =
     let on-becomes = c .on-becomes in
     (omega (arith, on-becomes .ensures .0), λ r w h. rw (step-in (args .t) r h (enum-told5 .given .1)) (on-becomes .ensures .1 _ r h))
 
-same-length-13 : tie.Need-same-length-13
-same-length-13 c = search needs
-
 returns-6 : tie.Need-returns-6
 unfolding stepOf
 returns-6 c =
@@ -158,15 +77,6 @@ returns-6 c =
     let on-ticks = c .before .before .on-ticks in
     (omega (arith, on-ticks .ensures .0), λ r w h. rw (step-in (args .t) r h (enum-told6 .given .1)) (on-ticks .ensures .1 (args .codes .now) (args .starts .now) r h))
 
-same-length-14 : tie.Need-same-length-14
-same-length-14 c = search needs
-
-same-length-15 : tie.Need-same-length-15
-same-length-15 c = search needs
-
-same-length-16 : tie.Need-same-length-16
-same-length-16 c = search needs
-
 returns-7 : tie.Need-returns-7
 unfolding stepOf
 returns-7 c =
@@ -174,12 +84,6 @@ returns-7 c =
     let enum-told7 = c .before .before .before .before .before .before .enum-told7 in
     let on-delay = c .before .before .on-delay in
     (omega (arith, on-delay .ensures .0), λ r w h. rw (step-in (args .t) r h (enum-told7 .given .1)) (on-delay .ensures .1 r h))
-
-same-length-17 : tie.Need-same-length-17
-same-length-17 c = search needs
-
-same-length-18 : tie.Need-same-length-18
-same-length-18 c = search needs
 
 returns-8 : tie.Need-returns-8
 unfolding stepOf
@@ -201,46 +105,46 @@ step-spec =
     tie.close
     (tie.spec
     enum-told
-    on-statement-requires
-    enum-told-2
-    on-after-statement-requires
-    enum-told-3
-    on-operand-requires
-    enum-told-4
-    on-after-operand-requires
-    enum-told-5
-    on-becomes-requires
-    enum-told-6
+    (λ c κs. search needs)
+    (λ c. search needs)
+    (λ c κs. search needs)
+    (λ c. search needs)
+    (λ c κs. search needs)
+    (λ c. search needs)
+    (λ c κs. search needs)
+    (λ c. search needs)
+    (λ c κs. search needs)
+    (λ c. search needs)
     on-ticks-requires
-    enum-told-7
+    (λ c. search needs)
     on-delay-requires
-    enum-told-8
-    on-body-requires
-    enum-told-9
-    same-length
-    same-length-2
-    same-length-3
+    (λ c. search needs)
+    (λ c κs. search needs)
+    (λ c. search needs)
+    (λ c. search needs)
+    (λ c. search needs)
+    (λ c. search needs)
     returns
-    same-length-4
-    same-length-5
-    same-length-6
+    (λ c. search needs)
+    (λ c. search needs)
+    (λ c. search needs)
     returns-2
-    same-length-7
-    same-length-8
-    same-length-9
+    (λ c. search needs)
+    (λ c. search needs)
+    (λ c. search needs)
     returns-3
-    same-length-10
-    same-length-11
-    same-length-12
+    (λ c. search needs)
+    (λ c. search needs)
+    (λ c. search needs)
     returns-4
     returns-5
-    same-length-13
+    (λ c. search needs)
     returns-6
-    same-length-14
-    same-length-15
-    same-length-16
+    (λ c. search needs)
+    (λ c. search needs)
+    (λ c. search needs)
     returns-7
-    same-length-17
-    same-length-18
+    (λ c. search needs)
+    (λ c. search needs)
     returns-8
     returns-9)

@@ -1,6 +1,6 @@
 -- `rules::step` meets its contract. Assumes nothing.
+use Prim.Native.Nat.{_≤_}
 use native.Mathlib.Omega.{arith}
-use lib.Dec.{eqb}
 use borrow.Author.Needs.{needs}
 use Rattle.netlist.proofs.CellChecks.{bit-small, cell-fault, stands-inputs, scan-more}
 use Rattle.netlist.proofs.rules.step.Statement.{statement}
@@ -8,9 +8,10 @@ use Rattle.netlist.proofs.rules.step.Tie as tie
 
 add-t13 : tie.Need-add-t13
 add-t13 c =
-    let args = c .before .before .before .before .before .before .before .before .before .before .before .before .args in
     let pre = c .before .before .before .before .before .before .before .before .before .before .before .before .pre in
-    omega (arith, pre .0, pre .1, c .before .before .before .bit .ensures, bit-small (eqb (args .c .kind) 40))
+    let bit = c .before .before .before .bit in
+    let small : bit .result ≤ 1 = rw (bit .ensures) (bit-small _) in
+    omega (arith, pre .0, pre .1, small)
 
 returns : tie.Need-returns
 returns c =

@@ -4,6 +4,8 @@
 use crate::engine::{Engine, Measured, Row};
 use crate::tool::{folder, is_on_path, measured, output};
 use crate::workload::Workload;
+use proved::exports::hub_run_netlist;
+use proved::replied;
 use std::fs;
 use std::path::Path;
 use std::process::Command;
@@ -55,6 +57,7 @@ fn run(folder: &Path, instants: u32) -> Measured {
 
 fn proved_state(workload: &Workload) -> Vec<u8> {
     let mut state = vec![0; 8 + 40 * workload.netlist.cells.len()];
-    proved::run_netlist(&workload.file, &[0; 32], COMPARED, &mut state);
+    let (file, words) = (&workload.file, &[0; 32]);
+    replied(|reply| hub_run_netlist(file, words, COMPARED, &mut state, reply));
     state
 }

@@ -1,6 +1,6 @@
 //! What is measured: an engine that runs one workload.
 
-use second::word::Words;
+use values::Words;
 
 /// One run of an engine.
 pub struct Measured {

@@ -3,8 +3,8 @@
 use crate::engine::{Engine, Measured, Row};
 use crate::workload::Workload;
 use second::calls;
-use second::word::Words;
 use std::time::Instant;
+use values::Words;
 
 const INSTANTS: u32 = 1_000_000;
 

@@ -1,7 +1,8 @@
 //! Peers that go wrong in the ways the paper wants rejected, and the proof
 //! that the comparisons tell them from a good one.
 
-use peers::{Cell, End, Peer, Refused, Reply, Shape, SECOND};
+use peers::{Peer, Reply, SECOND};
+use values::{Cell, End, Refusal, Shape};
 
 /// Its rules take an instant too many for a program with a parallel node.
 pub const SLOW_PARALLEL: Peer = Peer {
@@ -112,8 +113,8 @@ const LATE_PLACE: Peer = Peer {
     name: "late place",
     read_text: |table, text, program| {
         let mut reply = (SECOND.read_text)(table, text, program);
-        if let Err(Refused { number: 18, place }) = &mut reply.result {
-            *place = text.len() as u32;
+        if let Err(Refusal { number: 18, place }) = &mut reply.result {
+            *place = text.len();
         }
         reply
     },
@@ -147,7 +148,7 @@ const TEXT_FIRST: Peer = Peer {
     read_text: |table, text, program| {
         let untimed = (SECOND.read_text)(None, text, program);
         match untimed.result {
-            Err(Refused { number: 17.., .. }) => untimed,
+            Err(Refusal { number: 17.., .. }) => untimed,
             _ => (SECOND.read_text)(table, text, program),
         }
     },
@@ -197,7 +198,7 @@ const MOVED_FINISH: Peer = Peer {
     read_cells: |file, at, cells| {
         let mut reply = (SECOND.read_cells)(file, at, cells);
         if let Ok(shape) = &mut reply.result {
-            shape.finish += at as u32;
+            shape.finish = shape.finish.wrapping_add(at as u16);
         }
         reply
     },
@@ -223,7 +224,7 @@ const ABSENT_FINISH: Peer = Peer {
     name: "absent finish",
     check_cells: |cells, finish| {
         let mut reply = (SECOND.check_cells)(cells, finish);
-        if let Err(Refused { number: 11, .. }) = reply.result {
+        if let Err(Refusal { number: 11, .. }) = reply.result {
             reply.result = (SECOND.check_cells)(cells, 0).result;
         }
         reply
@@ -246,10 +247,7 @@ fn reread(
     reply
 }
 
-const NO: Refused = Refused {
-    number: 1,
-    place: 0,
-};
+const NO: Refusal = Refusal::new(1, 0);
 
 mod tests {
     use super::*;

@@ -10,13 +10,7 @@ const INSTANTS: u32 = 1_000_000;
 
 pub fn row(workload: &Workload) -> Row {
     let file = workload.file.clone();
-    Row {
-        name: "proved",
-        engine: Ok(Engine {
-            instants: INSTANTS,
-            run: Box::new(move || run(&file)),
-        }),
-    }
+    Row::of("proved", Engine::new(INSTANTS, move || run(&file)))
 }
 
 fn run(file: &[u8]) -> Measured {

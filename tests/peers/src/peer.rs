@@ -89,31 +89,3 @@ pub struct Peer {
     /// standard input to standard output
     pub hubtext_bytes: fn(Bytes) -> Vec<u8>,
 }
-
-/// The peer whose functions stand, by the names above, where this is written.
-macro_rules! peer {
-    ($name:literal) => {
-        Peer {
-            name: $name,
-            check,
-            compile,
-            read_text,
-            compile_text,
-            write_netlist,
-            read_netlist,
-            check_cells,
-            write_cells,
-            read_cells,
-            renumber,
-            begin,
-            continue_by,
-            run_program,
-            run_text,
-            run_netlist,
-            reference_run,
-            hubrun_text,
-            hubtext_bytes,
-        }
-    };
-}
-pub(crate) use peer;

@@ -1,173 +1,109 @@
 //! The proved implementation as a peer.
 
-use crate::peer::{peer, Peer, Reply};
+use crate::peer::{Peer, Reply};
 use ::proved::exports::*;
 use ::proved::{replied, Kind, Reply as Told};
 use std::io::Write;
 use std::path::Path;
 use std::process::{Command, Stdio};
-use values::{Answer, Cell, End, Refusal, Shape, Table};
+use values::{Answer, End, Refusal, Shape};
 
-pub const PROVED: Peer = peer!("proved");
-
-fn check(table: Table, program: &[u8]) -> Reply<()> {
-    let call = |reply: &mut [u8]| match table {
-        Some(table) => hub_check_timed(table, program, reply),
-        None => hub_check(program, reply),
-    };
-    Reply::lending_none(answered(call, |_| ()))
-}
-
-fn compile(table: Table, program: &[u8], file: &[u8]) -> Reply<Shape> {
-    written(file, |file, reply| match table {
-        Some(table) => hub_compile_timed(table, program, file, reply),
-        None => hub_compile(program, file, reply),
-    })
-}
-
-fn read_text(table: Table, text: &[u8], program: &[u8]) -> Reply<usize> {
-    Reply::lending(program, |program| {
-        let call = |reply: &mut [u8]| match table {
-            Some(table) => hub_read_text_timed(table, text, program, reply),
-            None => hub_read_text(text, program, reply),
-        };
-        answered(call, |told| told.first as usize)
-    })
-}
-
-fn compile_text(table: Table, text: &[u8], file: &[u8]) -> Reply<Shape> {
-    written(file, |file, reply| match table {
-        Some(table) => hub_compile_text_timed(table, text, file, reply),
-        None => hub_compile_text(text, file, reply),
-    })
-}
-
-fn write_netlist(cells: &[u8], finish: u16, file: &[u8]) -> Reply<Shape> {
-    written(file, |file, reply| hub_write(cells, finish, file, reply))
-}
-
-fn read_netlist(file: &[u8], cells: &[u8]) -> Reply<Shape> {
-    Reply::lending(cells, |cells| {
-        answered(|reply| hub_read(file, cells, reply), shape)
-    })
-}
-
-fn check_cells(cells: &[Cell], finish: u16) -> Reply<()> {
-    let call = |reply: &mut [u8]| hub_check_cells(cells, finish, reply);
-    Reply::lending_none(answered(call, |_| ()))
-}
-
-fn write_cells(cells: &[Cell], finish: u16, file: &[u8]) -> Reply<Shape> {
-    written(file, |file, reply| {
-        hub_write_cells(cells, finish, file, reply)
-    })
-}
-
-fn read_cells(file: &[u8], at: usize, cells: &[Cell]) -> Reply<Shape, Cell> {
-    Reply::lending(cells, |cells| {
-        answered(|reply| hub_read_cells(file, at, cells, reply), shape)
-    })
-}
-
-fn renumber(from: usize, end: usize, by: u16, cells: &[u8]) -> Reply<bool> {
-    Reply::lending(cells, |cells| Ok(hub_renumber(cells, from, end, by)))
-}
-
-fn begin(file: &[u8], words: &[u8], state: &[u8]) -> Reply<Answer> {
-    simulated(state, |state, reply| hub_begin(file, words, state, reply))
-}
-
-fn continue_by(file: &[u8], n: u32, state: &[u8]) -> Reply<Answer> {
-    simulated(state, |state, reply| hub_continue(file, state, n, reply))
-}
-
-fn run_program(
-    table: Table,
-    program: &[u8],
-    words: &[u8],
-    budget: u32,
-    file: &[u8],
-    state: &[u8],
-) -> Reply<Answer> {
-    Reply::lending_two(file, state, |file, state| {
-        let call = |reply: &mut [u8]| match table {
+pub const PROVED: Peer = Peer {
+    name: "proved",
+    check: |table, program| {
+        answering(|reply| match table {
+            Some(table) => hub_check_timed(table, program, reply),
+            None => hub_check(program, reply),
+        })
+    },
+    compile: |table, program, file| {
+        writing(file, |file, reply| match table {
+            Some(table) => hub_compile_timed(table, program, file, reply),
+            None => hub_compile(program, file, reply),
+        })
+    },
+    read_text: |table, text, program| {
+        Reply::lending(program, |program| {
+            let told = accepted(|reply| match table {
+                Some(table) => hub_read_text_timed(table, text, program, reply),
+                None => hub_read_text(text, program, reply),
+            })?;
+            Ok(told.first as usize)
+        })
+    },
+    compile_text: |table, text, file| {
+        writing(file, |file, reply| match table {
+            Some(table) => hub_compile_text_timed(table, text, file, reply),
+            None => hub_compile_text(text, file, reply),
+        })
+    },
+    write_netlist: |cells, finish, file| {
+        writing(file, |file, reply| hub_write(cells, finish, file, reply))
+    },
+    read_netlist: |file, cells| {
+        Reply::lending(cells, |cells| {
+            accepted(|reply| hub_read(file, cells, reply)).map(shape)
+        })
+    },
+    check_cells: |cells, finish| answering(|reply| hub_check_cells(cells, finish, reply)),
+    write_cells: |cells, finish, file| {
+        writing(file, |file, reply| {
+            hub_write_cells(cells, finish, file, reply)
+        })
+    },
+    read_cells: |file, at, cells| {
+        Reply::lending(cells, |cells| {
+            accepted(|reply| hub_read_cells(file, at, cells, reply)).map(shape)
+        })
+    },
+    renumber: |from, end, by, cells| {
+        Reply::lending(cells, |cells| Ok(hub_renumber(cells, from, end, by)))
+    },
+    begin: |file, words, state| {
+        simulating(state, |state, reply| hub_begin(file, words, state, reply))
+    },
+    continue_by: |file, n, state| {
+        simulating(state, |state, reply| hub_continue(file, state, n, reply))
+    },
+    run_program: |table, program, words, budget, file, state| {
+        running(file, state, |file, state, reply| match table {
             Some(table) => hub_run_program_timed(table, program, words, budget, file, state, reply),
             None => hub_run_program(program, words, budget, file, state, reply),
-        };
-        answered(call, answer)
-    })
-}
-
-fn run_text(
-    table: Table,
-    text: &[u8],
-    words: &[u8],
-    budget: u32,
-    file: &[u8],
-    state: &[u8],
-) -> Reply<Answer> {
-    Reply::lending_two(file, state, |file, state| {
-        let call = |reply: &mut [u8]| match table {
+        })
+    },
+    run_text: |table, text, words, budget, file, state| {
+        running(file, state, |file, state, reply| match table {
             Some(table) => hub_run_text_timed(table, text, words, budget, file, state, reply),
             None => hub_run_text(text, words, budget, file, state, reply),
-        };
-        answered(call, answer)
-    })
-}
+        })
+    },
+    run_netlist: |file, words, budget, state| {
+        simulating(state, |state, reply| {
+            hub_run_netlist(file, words, budget, state, reply)
+        })
+    },
+    reference_run: |table, program, words, budget| {
+        let told = accepted(|reply| match table {
+            Some(table) => hub_reference_timed(table, program, words, budget, reply),
+            None => hub_reference(program, words, budget, reply),
+        });
+        Reply::lending_none(told.map(|told| end(told, budget)))
+    },
+    hubrun_text: |input| printed("hubrun", input),
+    hubtext_bytes: |input| printed("hubtext", input),
+};
 
-fn run_netlist(file: &[u8], words: &[u8], budget: u32, state: &[u8]) -> Reply<Answer> {
-    simulated(state, |state, reply| {
-        hub_run_netlist(file, words, budget, state, reply)
-    })
-}
-
-/// An open answer is held against model/Calls here: it shows the budget, one
-/// instant more as its count, and no words.
-fn reference_run(table: Table, program: &[u8], words: &[u8], budget: u32) -> Reply<Option<End>> {
-    let call = |reply: &mut [u8]| match table {
-        Some(table) => hub_reference_timed(table, program, words, budget, reply),
-        None => hub_reference(program, words, budget, reply),
-    };
-    let end = |told: Told| {
-        let (instant, words) = (told.first, told.words);
-        assert_eq!(told.second, instant + 1, "the count of a reference run");
-        if told.kind == Kind::Ended {
-            return Some(End { instant, words });
-        }
-        assert_eq!((instant, words), (budget, [0; 16]));
-        None
-    };
-    Reply::lending_none(answered(call, end))
-}
-
-fn hubrun_text(input: &[u8]) -> Vec<u8> {
-    printed("hubrun", input)
-}
-
-fn hubtext_bytes(input: &[u8]) -> Vec<u8> {
-    printed("hubtext", input)
-}
-
-/// What a program prints. It may stop reading early, so that a broken pipe is
-/// no failure.
-fn printed(program: &str, input: &[u8]) -> Vec<u8> {
-    let folder = Path::new(env!("CARGO_MANIFEST_DIR")).join("../../target/bin");
-    let mut process = Command::new(folder.join(program))
-        .stdin(Stdio::piped())
-        .stdout(Stdio::piped())
-        .spawn()
-        .unwrap_or_else(|error| panic!("{program}: {error}"));
-    let mut pipe = process.stdin.take().expect("a pipe");
-    let _ = pipe.write_all(input);
-    drop(pipe);
-    process.wait_with_output().expect("it ends").stdout
+/// A call that is lent nothing but its reply, and tells no more than that it
+/// isn't refused.
+fn answering(call: impl FnOnce(&mut [u8]) -> bool) -> Reply<()> {
+    Reply::lending_none(accepted(call).map(drop))
 }
 
 /// A call that writes a netlist file: it tells the file's length, the file its
 /// number of cells.
-fn written(file: &[u8], call: impl FnOnce(&mut [u8], &mut [u8]) -> bool) -> Reply<Shape> {
+fn writing(file: &[u8], call: impl FnOnce(&mut [u8], &mut [u8]) -> bool) -> Reply<Shape> {
     Reply::lending(file, |file| {
-        let told = answered(|reply| call(file, reply), |told| told)?;
+        let told = accepted(|reply| call(file, reply))?;
         let cells = u16::from_le_bytes([file[2], file[3]]);
         let length = 512 * u32::from(cells).div_ceil(84);
         assert_eq!(told.first, length, "the bytes written");
@@ -176,17 +112,28 @@ fn written(file: &[u8], call: impl FnOnce(&mut [u8], &mut [u8]) -> bool) -> Repl
     })
 }
 
-/// A call that begins or continues a run of a netlist.
-fn simulated(state: &[u8], call: impl FnOnce(&mut [u8], &mut [u8]) -> bool) -> Reply<Answer> {
-    Reply::lending(state, |state| answered(|reply| call(state, reply), answer))
+/// A call that begins, continues or makes a run of a netlist.
+fn simulating(state: &[u8], call: impl FnOnce(&mut [u8], &mut [u8]) -> bool) -> Reply<Answer> {
+    Reply::lending(state, |state| {
+        accepted(|reply| call(state, reply)).map(answer)
+    })
 }
 
-fn answered<T>(
-    call: impl FnOnce(&mut [u8]) -> bool,
-    answer: impl FnOnce(Told) -> T,
-) -> Result<T, Refusal> {
+/// A call that makes a run of a program.
+fn running(
+    file: &[u8],
+    state: &[u8],
+    call: impl FnOnce(&mut [u8], &mut [u8], &mut [u8]) -> bool,
+) -> Reply<Answer> {
+    Reply::lending_two(file, state, |file, state| {
+        accepted(|reply| call(file, state, reply)).map(answer)
+    })
+}
+
+/// The reply of a call that isn't refused.
+fn accepted(call: impl FnOnce(&mut [u8]) -> bool) -> Result<Told, Refusal> {
     let told = replied(call);
-    told.refusal().map_or_else(|| Ok(answer(told)), Err)
+    told.refusal().map_or(Ok(told), Err)
 }
 
 /// The shape of a netlist that a call read.
@@ -208,4 +155,32 @@ fn answer(told: Told) -> Answer {
         count: told.second,
         words: told.words,
     }
+}
+
+/// The end that a reference run tells. An open answer is held against
+/// model/Calls here: it shows the budget, one instant more as its count, and no
+/// words.
+fn end(told: Told, budget: u32) -> Option<End> {
+    let (instant, words) = (told.first, told.words);
+    assert_eq!(told.second, instant + 1, "the count of a reference run");
+    if told.kind == Kind::Ended {
+        return Some(End { instant, words });
+    }
+    assert_eq!((instant, words), (budget, [0; 16]));
+    None
+}
+
+/// What a program prints. It may stop reading early, so that a broken pipe is
+/// no failure.
+fn printed(program: &str, input: &[u8]) -> Vec<u8> {
+    let folder = Path::new(env!("CARGO_MANIFEST_DIR")).join("../../target/bin");
+    let mut process = Command::new(folder.join(program))
+        .stdin(Stdio::piped())
+        .stdout(Stdio::piped())
+        .spawn()
+        .unwrap_or_else(|error| panic!("{program}: {error}"));
+    let mut pipe = process.stdin.take().expect("a pipe");
+    let _ = pipe.write_all(input);
+    drop(pipe);
+    process.wait_with_output().expect("it ends").stdout
 }

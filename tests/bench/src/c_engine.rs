@@ -2,8 +2,10 @@
 //! on the same bytes, by which the proved one's code is judged.
 
 use crate::engine::{Engine, Measured, Row};
-use crate::tool::{folder, is_on_path, measured, output};
+use crate::tool::{folder, measured, output};
 use crate::workload::Workload;
+use proved::exports::hub_run_netlist;
+use proved::replied;
 use std::fs;
 use std::path::Path;
 use std::process::Command;
@@ -14,11 +16,7 @@ const INSTANTS: u32 = 1_000_000;
 const COMPARED: u32 = 1_000;
 
 pub fn row(workload: &Workload) -> Row {
-    let engine = is_on_path("gcc").then(|| engine(workload));
-    Row {
-        name: "C",
-        engine: engine.ok_or("gcc is not on the PATH"),
-    }
+    Row::with_tools("C", &["gcc"], || engine(workload))
 }
 
 fn engine(workload: &Workload) -> Engine {
@@ -28,10 +26,7 @@ fn engine(workload: &Workload) -> Engine {
     run(&folder, COMPARED);
     let state = fs::read(folder.join("state")).expect("the run has written it");
     assert!(state == proved_state(workload), "C on {}", workload.name);
-    Engine {
-        instants: INSTANTS,
-        run: Box::new(move || run(&folder, INSTANTS)),
-    }
+    Engine::new(INSTANTS, move || run(&folder, INSTANTS))
 }
 
 fn build(folder: &Path) {
@@ -55,6 +50,7 @@ fn run(folder: &Path, instants: u32) -> Measured {
 
 fn proved_state(workload: &Workload) -> Vec<u8> {
     let mut state = vec![0; 8 + 40 * workload.netlist.cells.len()];
-    proved::run_netlist(&workload.file, &[0; 32], COMPARED, &mut state);
+    let (file, words) = (&workload.file, &[0; 32]);
+    replied(|reply| hub_run_netlist(file, words, COMPARED, &mut state, reply));
     state
 }

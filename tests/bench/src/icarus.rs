@@ -1,7 +1,7 @@
 //! Icarus Verilog on the rendered netlist.
 
 use crate::engine::{Engine, Measured, Row};
-use crate::tool::{folder, is_on_path, output, words_of_hex};
+use crate::tool::{folder, output, words_of_hex};
 use crate::verilog;
 use crate::workload::Workload;
 use std::fs;
@@ -37,20 +37,12 @@ endmodule
 ";
 
 pub fn row(workload: &Workload) -> Row {
-    let present = is_on_path("iverilog") && is_on_path("vvp");
-    let engine = present.then(|| engine(workload));
-    Row {
-        name: "icarus",
-        engine: engine.ok_or("not on the PATH"),
-    }
+    Row::with_tools("icarus", &["iverilog", "vvp"], || engine(workload))
 }
 
 fn engine(workload: &Workload) -> Engine {
     let program = build(workload);
-    Engine {
-        instants: INSTANTS,
-        run: Box::new(move || measure(&program)),
-    }
+    Engine::new(INSTANTS, move || measure(&program))
 }
 
 fn build(workload: &Workload) -> PathBuf {

@@ -3,20 +3,17 @@
 use crate::engine::{Engine, Measured, Row};
 use crate::workload::Workload;
 use second::calls;
-use second::word::Words;
 use std::time::Instant;
+use values::Words;
 
 const INSTANTS: u32 = 1_000_000;
 
 pub fn row(workload: &Workload) -> Row {
     let file = workload.file.clone();
-    Row {
-        name: "second",
-        engine: Ok(Engine {
-            instants: INSTANTS,
-            run: Box::new(move || run(&file, INSTANTS)),
-        }),
-    }
+    Row::of(
+        "second",
+        Engine::new(INSTANTS, move || run(&file, INSTANTS)),
+    )
 }
 
 /// The words after a number of instants, which other engines must have too.

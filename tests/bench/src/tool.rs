@@ -2,10 +2,10 @@
 //! their files, and what they print.
 
 use crate::engine::Measured;
-use second::word::Words;
 use std::fs;
 use std::path::{Path, PathBuf};
 use std::process::Command;
+use values::Words;
 
 /// Whether a program is on the PATH.
 pub fn is_on_path(program: &str) -> bool {

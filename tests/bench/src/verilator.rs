@@ -1,7 +1,7 @@
 //! Verilator on the rendered netlist.
 
 use crate::engine::{Engine, Measured, Row};
-use crate::tool::{folder, is_on_path, measured, output};
+use crate::tool::{folder, measured, output};
 use crate::verilog;
 use crate::workload::Workload;
 use std::fs;
@@ -40,19 +40,12 @@ int main(int, char **arguments) {
 "#;
 
 pub fn row(workload: &Workload) -> Row {
-    let engine = is_on_path("verilator").then(|| engine(workload));
-    Row {
-        name: "verilator",
-        engine: engine.ok_or("not on the PATH"),
-    }
+    Row::with_tools("verilator", &["verilator"], || engine(workload))
 }
 
 fn engine(workload: &Workload) -> Engine {
     let program = build(workload);
-    Engine {
-        instants: INSTANTS,
-        run: Box::new(move || measure(&program)),
-    }
+    Engine::new(INSTANTS, move || measure(&program))
 }
 
 fn build(workload: &Workload) -> PathBuf {

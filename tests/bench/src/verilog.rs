@@ -6,6 +6,7 @@
 
 use second::cells::*;
 use second::operator::Operator;
+use values::Cell;
 
 /// The module `hub`: a clock in, the finish wire and the memories out.
 pub fn module(netlist: &Netlist) -> String {

@@ -1,77 +1,53 @@
 //! The boundary behind which an implementation stands.
 //!
-//! A peer is seventeen plain functions on numbers and slices of bytes or cells.
+//! A peer is eighteen plain functions on numbers and slices of bytes or cells.
 //! Nothing is lent to them: each is given what a lent buffer holds at entry and
 //! gives back what it holds afterwards, so two peers are compared by comparing
 //! replies.
 
-/// A refusal: its number and its place.
-#[derive(Clone, Copy, Debug, PartialEq, Eq)]
-pub struct Refused {
-    pub number: u32,
-    pub place: u32,
-}
+use values::{Answer, Cell, End, Refusal, Shape, Table};
 
 /// What a call answered, and its lent buffers afterwards, in argument order.
 #[derive(Clone, Debug, PartialEq, Eq)]
 pub struct Reply<T, Element = u8> {
-    pub result: Result<T, Refused>,
+    pub result: Result<T, Refusal>,
     pub lent: Vec<Vec<Element>>,
 }
 
-/// A cell of a netlist that is no list of bytes.
-#[derive(Clone, Copy, Debug, PartialEq, Eq)]
-pub struct Cell {
-    pub kind: u8,
-    pub delay: u8,
-    pub a: u16,
-    pub b: u16,
-}
-
-impl Cell {
-    pub const fn new(kind: u8, delay: u8, a: u16, b: u16) -> Cell {
-        Cell { kind, delay, a, b }
+impl<T> Reply<T> {
+    /// Of a call that is lent nothing.
+    pub fn lending_none(result: Result<T, Refusal>) -> Reply<T> {
+        let lent = vec![];
+        Reply { result, lent }
     }
 
-    /// The six bytes of a cell, for the calls on bytes.
-    pub fn bytes(self) -> [u8; 6] {
-        let ([a, a_high], [b, b_high]) = (self.a.to_le_bytes(), self.b.to_le_bytes());
-        [self.kind, self.delay, a, a_high, b, b_high]
-    }
-
-    /// The six bytes of each of these cells.
-    pub fn all_bytes(cells: &[Cell]) -> Vec<u8> {
-        cells.iter().flat_map(|cell| cell.bytes()).collect()
+    /// Of a call that is lent copies of two buffers.
+    pub fn lending_two(
+        first: &[u8],
+        second: &[u8],
+        call: impl FnOnce(&mut [u8], &mut [u8]) -> Result<T, Refusal>,
+    ) -> Reply<T> {
+        let (mut first, mut second) = (first.to_vec(), second.to_vec());
+        let result = call(&mut first, &mut second);
+        let lent = vec![first, second];
+        Reply { result, lent }
     }
 }
 
-/// The number of cells and the finish cell of a netlist.
-#[derive(Clone, Copy, Debug, PartialEq, Eq)]
-pub struct Shape {
-    pub cells: u32,
-    pub finish: u32,
-}
-
-/// The answer of a beginning, a continuing or a full run.
-#[derive(Clone, Copy, Debug, PartialEq, Eq)]
-pub struct Answer {
-    pub ended: bool,
-    pub instant: u32,
-    pub count: u32,
-    pub words: [u16; 16],
-}
-
-/// The end of a program by its own rules.
-#[derive(Clone, Copy, Debug, PartialEq, Eq)]
-pub struct End {
-    pub instant: u32,
-    pub words: [u16; 16],
+impl<T, Element: Clone> Reply<T, Element> {
+    /// Of a call that is lent a copy of a buffer.
+    pub fn lending(
+        buffer: &[Element],
+        call: impl FnOnce(&mut [Element]) -> Result<T, Refusal>,
+    ) -> Reply<T, Element> {
+        let mut buffer = buffer.to_vec();
+        let result = call(&mut buffer);
+        let lent = vec![buffer];
+        Reply { result, lent }
+    }
 }
 
 pub type Bytes<'a> = &'a [u8];
-
-/// A table of operator times; with none the call without a table is made.
-pub type Table<'a> = Option<&'a [u8]>;
 
 #[derive(Clone, Copy)]
 pub struct Peer {
@@ -81,7 +57,7 @@ pub struct Peer {
     /// table, program; lent: netlist file
     pub compile: fn(Table, Bytes, Bytes) -> Reply<Shape>,
     /// table, text; lent: program; tells the program's bytes
-    pub read_text: fn(Table, Bytes, Bytes) -> Reply<u32>,
+    pub read_text: fn(Table, Bytes, Bytes) -> Reply<usize>,
     /// table, text; lent: netlist file
     pub compile_text: fn(Table, Bytes, Bytes) -> Reply<Shape>,
     /// cells of six bytes, finish; lent: netlist file
@@ -110,4 +86,6 @@ pub struct Peer {
     pub reference_run: fn(Table, Bytes, Bytes, u32) -> Reply<Option<End>>,
     /// standard input to standard output
     pub hubrun_text: fn(Bytes) -> Vec<u8>,
+    /// standard input to standard output
+    pub hubtext_bytes: fn(Bytes) -> Vec<u8>,
 }

@@ -1,222 +1,154 @@
 //! The proved implementation as a peer.
 
-use crate::peer::{Answer, Cell, End, Peer, Refused, Reply, Shape, Table};
-use ::proved::{self as hub, Kind};
+use crate::peer::{Peer, Reply};
+use ::proved::exports::*;
+use ::proved::{replied, Kind, Reply as Told};
 use std::io::Write;
 use std::path::Path;
 use std::process::{Command, Stdio};
+use values::{Answer, End, Refusal, Shape};
 
 pub const PROVED: Peer = Peer {
     name: "proved",
-    check,
-    compile,
-    read_text,
-    compile_text,
-    write_netlist,
-    read_netlist,
-    check_cells,
-    write_cells,
-    read_cells,
-    renumber,
-    begin,
-    continue_by,
-    run_program,
-    run_text,
-    run_netlist,
-    reference_run,
-    hubrun_text,
+    check: |table, program| {
+        answering(|reply| match table {
+            Some(table) => hub_check_timed(table, program, reply),
+            None => hub_check(program, reply),
+        })
+    },
+    compile: |table, program, file| {
+        writing(file, |file, reply| match table {
+            Some(table) => hub_compile_timed(table, program, file, reply),
+            None => hub_compile(program, file, reply),
+        })
+    },
+    read_text: |table, text, program| {
+        Reply::lending(program, |program| {
+            let told = accepted(|reply| match table {
+                Some(table) => hub_read_text_timed(table, text, program, reply),
+                None => hub_read_text(text, program, reply),
+            })?;
+            Ok(told.first as usize)
+        })
+    },
+    compile_text: |table, text, file| {
+        writing(file, |file, reply| match table {
+            Some(table) => hub_compile_text_timed(table, text, file, reply),
+            None => hub_compile_text(text, file, reply),
+        })
+    },
+    write_netlist: |cells, finish, file| {
+        writing(file, |file, reply| hub_write(cells, finish, file, reply))
+    },
+    read_netlist: |file, cells| {
+        Reply::lending(cells, |cells| {
+            accepted(|reply| hub_read(file, cells, reply)).map(shape)
+        })
+    },
+    check_cells: |cells, finish| answering(|reply| hub_check_cells(cells, finish, reply)),
+    write_cells: |cells, finish, file| {
+        writing(file, |file, reply| {
+            hub_write_cells(cells, finish, file, reply)
+        })
+    },
+    read_cells: |file, at, cells| {
+        Reply::lending(cells, |cells| {
+            accepted(|reply| hub_read_cells(file, at, cells, reply)).map(shape)
+        })
+    },
+    renumber: |from, end, by, cells| {
+        Reply::lending(cells, |cells| Ok(hub_renumber(cells, from, end, by)))
+    },
+    begin: |file, words, state| {
+        simulating(state, |state, reply| hub_begin(file, words, state, reply))
+    },
+    continue_by: |file, n, state| {
+        simulating(state, |state, reply| hub_continue(file, state, n, reply))
+    },
+    run_program: |table, program, words, budget, file, state| {
+        running(file, state, |file, state, reply| match table {
+            Some(table) => hub_run_program_timed(table, program, words, budget, file, state, reply),
+            None => hub_run_program(program, words, budget, file, state, reply),
+        })
+    },
+    run_text: |table, text, words, budget, file, state| {
+        running(file, state, |file, state, reply| match table {
+            Some(table) => hub_run_text_timed(table, text, words, budget, file, state, reply),
+            None => hub_run_text(text, words, budget, file, state, reply),
+        })
+    },
+    run_netlist: |file, words, budget, state| {
+        simulating(state, |state, reply| {
+            hub_run_netlist(file, words, budget, state, reply)
+        })
+    },
+    reference_run: |table, program, words, budget| {
+        let told = accepted(|reply| match table {
+            Some(table) => hub_reference_timed(table, program, words, budget, reply),
+            None => hub_reference(program, words, budget, reply),
+        });
+        Reply::lending_none(told.map(|told| end(told, budget)))
+    },
+    hubrun_text: |input| printed("hubrun", input),
+    hubtext_bytes: |input| printed("hubtext", input),
 };
 
-fn check(table: Table, program: &[u8]) -> Reply<()> {
-    let told = match table {
-        Some(table) => hub::timed::check(table, program),
-        None => hub::check(program),
-    };
-    reply(told, |_| (), vec![])
+/// A call that is lent nothing but its reply, and tells no more than that it
+/// isn't refused.
+fn answering(call: impl FnOnce(&mut [u8]) -> bool) -> Reply<()> {
+    Reply::lending_none(accepted(call).map(drop))
 }
 
-fn compile(table: Table, program: &[u8], file: &[u8]) -> Reply<Shape> {
-    let mut file = file.to_vec();
-    let told = match table {
-        Some(table) => hub::timed::compile(table, program, &mut file),
-        None => hub::compile(program, &mut file),
-    };
-    reply(told, |told| written(told, &file), vec![file.clone()])
+/// A call that writes a netlist file: it tells the file's length, the file its
+/// number of cells.
+fn writing(file: &[u8], call: impl FnOnce(&mut [u8], &mut [u8]) -> bool) -> Reply<Shape> {
+    Reply::lending(file, |file| {
+        let told = accepted(|reply| call(file, reply))?;
+        let cells = u16::from_le_bytes([file[2], file[3]]);
+        let length = 512 * u32::from(cells).div_ceil(84);
+        assert_eq!(told.first, length, "the bytes written");
+        let finish = two_bytes(told.second);
+        Ok(Shape { cells, finish })
+    })
 }
 
-fn read_text(table: Table, text: &[u8], program: &[u8]) -> Reply<u32> {
-    let mut program = program.to_vec();
-    let told = match table {
-        Some(table) => hub::timed::read_text(table, text, &mut program),
-        None => hub::read_text(text, &mut program),
-    };
-    reply(told, |told| told.first, vec![program])
+/// A call that begins, continues or makes a run of a netlist.
+fn simulating(state: &[u8], call: impl FnOnce(&mut [u8], &mut [u8]) -> bool) -> Reply<Answer> {
+    Reply::lending(state, |state| {
+        accepted(|reply| call(state, reply)).map(answer)
+    })
 }
 
-fn compile_text(table: Table, text: &[u8], file: &[u8]) -> Reply<Shape> {
-    let mut file = file.to_vec();
-    let told = match table {
-        Some(table) => hub::timed::compile_text(table, text, &mut file),
-        None => hub::compile_text(text, &mut file),
-    };
-    reply(told, |told| written(told, &file), vec![file.clone()])
-}
-
-fn write_netlist(cells: &[u8], finish: u16, file: &[u8]) -> Reply<Shape> {
-    let mut file = file.to_vec();
-    let told = hub::write_netlist(cells, finish, &mut file);
-    reply(told, |told| written(told, &file), vec![file.clone()])
-}
-
-fn read_netlist(file: &[u8], cells: &[u8]) -> Reply<Shape> {
-    let mut cells = cells.to_vec();
-    let told = hub::read_netlist(file, &mut cells);
-    reply(told, read, vec![cells])
-}
-
-fn check_cells(cells: &[Cell], finish: u16) -> Reply<()> {
-    reply(hub::cells::check(&theirs(cells), finish), |_| (), vec![])
-}
-
-fn write_cells(cells: &[Cell], finish: u16, file: &[u8]) -> Reply<Shape> {
-    let mut file = file.to_vec();
-    let told = hub::cells::write(&theirs(cells), finish, &mut file);
-    reply(told, |told| written(told, &file), vec![file.clone()])
-}
-
-fn read_cells(file: &[u8], at: usize, cells: &[Cell]) -> Reply<Shape, Cell> {
-    let mut cells = theirs(cells);
-    let told = hub::cells::read(file, at, &mut cells);
-    reply(told, read, vec![ours(&cells)])
-}
-
-fn renumber(from: usize, end: usize, by: u16, cells: &[u8]) -> Reply<bool> {
-    let mut cells = cells.to_vec();
-    let done = hub::cells::renumber(&mut cells, from, end, by);
-    Reply {
-        result: Ok(done),
-        lent: vec![cells],
-    }
-}
-
-fn begin(file: &[u8], words: &[u8], state: &[u8]) -> Reply<Answer> {
-    let mut state = state.to_vec();
-    let told = hub::begin(file, words, &mut state);
-    reply(told, answer, vec![state])
-}
-
-fn continue_by(file: &[u8], n: u32, state: &[u8]) -> Reply<Answer> {
-    let mut state = state.to_vec();
-    let told = hub::continue_by(file, &mut state, n);
-    reply(told, answer, vec![state])
-}
-
-fn run_program(
-    table: Table,
-    program: &[u8],
-    words: &[u8],
-    budget: u32,
+/// A call that makes a run of a program.
+fn running(
     file: &[u8],
     state: &[u8],
+    call: impl FnOnce(&mut [u8], &mut [u8], &mut [u8]) -> bool,
 ) -> Reply<Answer> {
-    let (mut file, mut state) = (file.to_vec(), state.to_vec());
-    let told = match table {
-        Some(table) => {
-            hub::timed::run_program(table, program, words, budget, &mut file, &mut state)
-        }
-        None => hub::run_program(program, words, budget, &mut file, &mut state),
-    };
-    reply(told, answer, vec![file, state])
+    Reply::lending_two(file, state, |file, state| {
+        accepted(|reply| call(file, state, reply)).map(answer)
+    })
 }
 
-fn run_text(
-    table: Table,
-    text: &[u8],
-    words: &[u8],
-    budget: u32,
-    file: &[u8],
-    state: &[u8],
-) -> Reply<Answer> {
-    let (mut file, mut state) = (file.to_vec(), state.to_vec());
-    let told = match table {
-        Some(table) => hub::timed::run_text(table, text, words, budget, &mut file, &mut state),
-        None => hub::run_text(text, words, budget, &mut file, &mut state),
-    };
-    reply(told, answer, vec![file, state])
-}
-
-fn run_netlist(file: &[u8], words: &[u8], budget: u32, state: &[u8]) -> Reply<Answer> {
-    let mut state = state.to_vec();
-    let told = hub::run_netlist(file, words, budget, &mut state);
-    reply(told, answer, vec![state])
-}
-
-/// An open answer is held against model/Calls here: it shows the budget, one
-/// instant more as its count, and no words.
-fn reference_run(table: Table, program: &[u8], words: &[u8], budget: u32) -> Reply<Option<End>> {
-    let end = |told: hub::Reply| {
-        assert_eq!(told.second, told.first + 1, "the count of a reference run");
-        if told.kind == Kind::Ended {
-            return Some(End {
-                instant: told.first,
-                words: told.words,
-            });
-        }
-        assert_eq!((told.first, told.words), (budget, [0; 16]));
-        None
-    };
-    let told = match table {
-        Some(table) => hub::timed::reference_run(table, program, words, budget),
-        None => hub::reference_run(program, words, budget),
-    };
-    reply(told, end, vec![])
-}
-
-/// What the program hubrun prints. It may stop reading early, so that a
-/// broken pipe is no failure.
-fn hubrun_text(input: &[u8]) -> Vec<u8> {
-    let program = Path::new(env!("CARGO_MANIFEST_DIR")).join("../../target/bin/hubrun");
-    let mut hubrun = Command::new(&program)
-        .stdin(Stdio::piped())
-        .stdout(Stdio::piped())
-        .spawn()
-        .unwrap_or_else(|error| panic!("{}: {error}", program.display()));
-    let mut pipe = hubrun.stdin.take().expect("a pipe");
-    let _ = pipe.write_all(input);
-    drop(pipe);
-    hubrun.wait_with_output().expect("hubrun ends").stdout
-}
-
-/// The shape of a file that a call wrote: the call tells its length, the
-/// file its number of cells.
-fn written(told: hub::Reply, file: &[u8]) -> Shape {
-    let cells = u32::from(u16::from_le_bytes([file[2], file[3]]));
-    assert_eq!(told.first, 512 * cells.div_ceil(84), "the bytes written");
-    Shape {
-        cells,
-        finish: told.second,
-    }
+/// The reply of a call that isn't refused.
+fn accepted(call: impl FnOnce(&mut [u8]) -> bool) -> Result<Told, Refusal> {
+    let told = replied(call);
+    told.refusal().map_or(Ok(told), Err)
 }
 
 /// The shape of a netlist that a call read.
-fn read(told: hub::Reply) -> Shape {
+fn shape(told: Told) -> Shape {
     Shape {
-        cells: told.first,
-        finish: told.second,
+        cells: two_bytes(told.first),
+        finish: two_bytes(told.second),
     }
 }
 
-fn theirs(cells: &[Cell]) -> Vec<hub::cells::Cell> {
-    let cell = |&Cell { kind, delay, a, b }: &Cell| hub::cells::Cell { kind, delay, a, b };
-    cells.iter().map(cell).collect()
+fn two_bytes(number: u32) -> u16 {
+    number.try_into().expect("a number of two bytes")
 }
 
-fn ours(cells: &[hub::cells::Cell]) -> Vec<Cell> {
-    let cell = |cell: &hub::cells::Cell| Cell::new(cell.kind, cell.delay, cell.a, cell.b);
-    cells.iter().map(cell).collect()
-}
-
-fn answer(told: hub::Reply) -> Answer {
+fn answer(told: Told) -> Answer {
     Answer {
         ended: told.kind == Kind::Ended,
         instant: told.first,
@@ -225,17 +157,30 @@ fn answer(told: hub::Reply) -> Answer {
     }
 }
 
-fn reply<T, Element>(
-    told: hub::Reply,
-    result: impl FnOnce(hub::Reply) -> T,
-    lent: Vec<Vec<Element>>,
-) -> Reply<T, Element> {
-    let result = match told.kind {
-        Kind::Refused => Err(Refused {
-            number: u32::from(told.number),
-            place: told.place,
-        }),
-        _ => Ok(result(told)),
-    };
-    Reply { result, lent }
+/// The end that a reference run tells. An open answer is held against
+/// model/Calls here: it shows the budget, one instant more as its count, and no
+/// words.
+fn end(told: Told, budget: u32) -> Option<End> {
+    let (instant, words) = (told.first, told.words);
+    assert_eq!(told.second, instant + 1, "the count of a reference run");
+    if told.kind == Kind::Ended {
+        return Some(End { instant, words });
+    }
+    assert_eq!((instant, words), (budget, [0; 16]));
+    None
+}
+
+/// What a program prints. It may stop reading early, so that a broken pipe is
+/// no failure.
+fn printed(program: &str, input: &[u8]) -> Vec<u8> {
+    let folder = Path::new(env!("CARGO_MANIFEST_DIR")).join("../../target/bin");
+    let mut process = Command::new(folder.join(program))
+        .stdin(Stdio::piped())
+        .stdout(Stdio::piped())
+        .spawn()
+        .unwrap_or_else(|error| panic!("{program}: {error}"));
+    let mut pipe = process.stdin.take().expect("a pipe");
+    let _ = pipe.write_all(input);
+    drop(pipe);
+    process.wait_with_output().expect("it ends").stdout
 }

@@ -1,6 +1,8 @@
 //! The 48 bytes of a reply, as crates/reply/specs/Replies.antt tells them.
 
-pub const LENGTH: usize = 48;
+use values::{Refusal, Words};
+
+const LENGTH: usize = 48;
 
 #[derive(Clone, Copy, Debug, PartialEq, Eq)]
 pub enum Kind {
@@ -19,11 +21,25 @@ pub struct Reply {
     pub first: u32,
     /// The finish cell, or the count.
     pub second: u32,
-    pub words: [u16; 16],
+    pub words: Words,
+}
+
+/// Lends bytes for a reply to a call and reads them. The bytes are not zero
+/// at entry, so that one left unwritten shows.
+pub fn replied(call: impl FnOnce(&mut [u8]) -> bool) -> Reply {
+    let mut bytes = [0xa5; LENGTH];
+    assert!(call(&mut bytes), "48 bytes are enough for a reply");
+    Reply::of_bytes(&bytes)
 }
 
 impl Reply {
-    pub fn of_bytes(bytes: &[u8; LENGTH]) -> Reply {
+    /// The refusal, if the call was refused.
+    pub fn refusal(&self) -> Option<Refusal> {
+        let refusal = Refusal::new(self.number, self.place as usize);
+        (self.kind == Kind::Refused).then_some(refusal)
+    }
+
+    fn of_bytes(bytes: &[u8; LENGTH]) -> Reply {
         assert_eq!(bytes[2..4], [0, 0], "bytes 2 and 3 of a reply are zero");
         let number = |at: usize| u32::from_le_bytes(bytes[at..at + 4].try_into().unwrap());
         Reply {

@@ -5,7 +5,7 @@ use crate::against_peer::{Pair, DAMAGED};
 use crate::damage;
 use crate::lend::*;
 use crate::xorshift::Random;
-use peers::{Cell, Refused};
+use values::{Cell, Refusal};
 
 /// Behind so many cells and a few more, numbers that are moved wrap.
 const WRAPPING: usize = 65_520;
@@ -43,9 +43,9 @@ impl Pair<'_> {
         if read.result != by_bytes.result || bytes != by_bytes.lent[0] {
             return Err("read_cells: not the cells of the six bytes".to_string());
         }
-        let cells = |count: u32| read.lent[0][..count as usize].to_vec();
+        let cells = |count: u16| read.lent[0][..usize::from(count)].to_vec();
         let told = read.result.ok();
-        Ok(told.map(|shape| (cells(shape.cells), shape.finish as u16)))
+        Ok(told.map(|shape| (cells(shape.cells), shape.finish)))
     }
 
     /// Reading behind other cells, where there is room and where there is none.
@@ -101,7 +101,7 @@ impl Pair<'_> {
         finish: u16,
         random: &mut Random,
     ) -> Result<(), String> {
-        let length = file_length(cells.len() as u32);
+        let length = file_length(cells.len());
         let room = lent(random.pick(&[0, length - 1, length, length, length + 1, MOST_FILE]));
         let written = self.same("write_cells", &[&room], |peer| {
             (peer.write_cells)(cells, finish, &room)
@@ -115,7 +115,7 @@ impl Pair<'_> {
         }
         let checked = self.same("check_cells", &[], |peer| (peer.check_cells)(cells, finish))?;
         let expected = match written.result {
-            Ok(_) | Err(Refused { number: 14, .. }) => Ok(()),
+            Ok(_) | Err(Refusal { number: 14, .. }) => Ok(()),
             Err(refused) => Err(refused),
         };
         if checked.result != expected {

@@ -12,6 +12,7 @@ use peers::Peer;
 use second::cells::*;
 use second::netfile;
 use second::operator::Operator;
+use values::Cell;
 
 /// Enough instants to see a line of 256 inputs overflow.
 const INSTANTS: u32 = 300;
@@ -56,7 +57,7 @@ struct Run<'a> {
 impl Run<'_> {
     /// The state at instant 0. Before it everything was 0.
     fn begin(&self) -> Result<Vec<u8>, String> {
-        let length = state_length(self.netlist.cells.len() as u32);
+        let length = state_length(self.netlist.cells.len());
         let mut reply = (self.peer.begin)(self.file, self.words, &lent(length));
         let after = reply.lent.remove(0);
         self.check(&vec![0; length], &after, 0)?;

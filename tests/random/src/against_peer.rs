@@ -6,8 +6,9 @@ use crate::damage;
 use crate::job::{Call, Job, MOST_INSTANT};
 use crate::lend::*;
 use crate::xorshift::Random;
-use peers::{Peer, Reply, Shape};
+use peers::{Peer, Reply};
 use std::fmt::Debug;
+use values::Shape;
 
 /// Damaged netlists, cells and states for each job.
 pub const DAMAGED: usize = 4;
@@ -41,7 +42,7 @@ impl Pair<'_> {
         let Ok(shape) = compiled.result else {
             return Ok(());
         };
-        let file = &compiled.lent[0][..file_length(shape.cells)];
+        let file = &compiled.lent[0][..file_length(shape.cells.into())];
         self.compare_netlist(file, &job.words, &job.calls, job.damage)
     }
 
@@ -55,7 +56,7 @@ impl Pair<'_> {
     ) -> Result<(), String> {
         let random = &mut Random::new(damage);
         if let Some(shape) = self.same_reading(file, random)? {
-            let length = state_length(shape.cells);
+            let length = state_length(shape.cells.into());
             self.same_calls(file, words, calls, length, random)?;
         }
         for _ in 0..DAMAGED {
@@ -88,7 +89,7 @@ impl Pair<'_> {
         let file_room = lent(random.pick(&[511, 512, 3_584, 6_656]));
         for _ in 0..DAMAGED {
             self.same("write_netlist", &[&file_room], |peer| {
-                (peer.write_netlist)(&cells, shape.finish as u16, &file_room)
+                (peer.write_netlist)(&cells, shape.finish, &file_room)
             })?;
             let place = random.below(cells.len());
             cells[place] = random.below(44) as u8;

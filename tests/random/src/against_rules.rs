@@ -6,8 +6,9 @@
 
 use crate::job::{Job, MOST_INSTANT};
 use crate::lend::{file_length, lent, lent_with, state_length, MOST_FILE, MOST_STATE};
-use peers::{Answer, End, Peer, Refused, Reply};
+use peers::{Peer, Reply};
 use std::fmt::Debug;
+use values::{Answer, End, Refusal};
 
 /// How a job came out, for the tally.
 #[derive(Clone, Copy, Debug, PartialEq, Eq)]
@@ -28,8 +29,8 @@ pub fn compare(peer: &Peer, job: &Job) -> Result<Outcome, String> {
     let end = end_within(peer, job, words)?;
     let run = Run {
         peer,
-        file: &compiled.lent[0][..file_length(shape.cells)],
-        length: state_length(shape.cells),
+        file: &compiled.lent[0][..file_length(shape.cells.into())],
+        length: state_length(shape.cells.into()),
         end,
     };
     run.check_calls(job, words)?;
@@ -73,7 +74,7 @@ impl Run<'_> {
             let buffer = lent_with(&state, call.room.around(self.length));
             let reply = (self.peer.continue_by)(self.file, call.n, &buffer);
             if let Some(number) = self.refusal(&buffer, instant, call.n) {
-                expect(&name, reply.result, Err(Refused { number, place: 0 }))?;
+                expect(&name, reply.result, Err(Refusal::new(number, 0)))?;
                 expect(&name, &reply.lent[0], &buffer)?;
                 continue;
             }
@@ -91,7 +92,7 @@ impl Run<'_> {
     }
 
     /// The refusal that a continuing must meet, if any.
-    fn refusal(&self, buffer: &[u8], instant: u32, n: u32) -> Option<u32> {
+    fn refusal(&self, buffer: &[u8], instant: u32, n: u32) -> Option<u8> {
         let last = u64::from(instant) + u64::from(n);
         if buffer.len() < self.length {
             Some(14)
@@ -108,11 +109,7 @@ impl Run<'_> {
         let (file, state) = (lent(MOST_FILE), lent(MOST_STATE));
         let reply = (self.peer.run_program)(job.table(), program, words, budget, &file, &state);
         if budget > MOST_INSTANT {
-            let refused = Refused {
-                number: 13,
-                place: 0,
-            };
-            expect("full run", reply.result, Err(refused))?;
+            expect("full run", reply.result, Err(Refusal::new(13, 0)))?;
         } else {
             let stop = self.full_stop(budget);
             self.check_answer("full run", &reply, stop, stop.0 + 1)?;
@@ -167,14 +164,14 @@ impl Run<'_> {
 }
 
 /// What hubrun prints of a full run.
-fn hubrun_lines(result: Result<Answer, Refused>) -> String {
+fn hubrun_lines(result: Result<Answer, Refusal>) -> String {
     match result {
         Ok(answer) => {
             let outcome = if answer.ended { "end" } else { "open" };
             let words = answer.words.map(|word| word.to_string()).join(" ");
             format!("{outcome} {}\n{words}\n", answer.instant)
         }
-        Err(Refused { number, place }) => format!("refused {number} {place}\n"),
+        Err(refusal) => format!("{refusal}\n"),
     }
 }
 

@@ -3,8 +3,9 @@
 
 use crate::job::Job;
 use crate::lend::{lent, MOST_FILE};
-use peers::{Peer, Refused, Reply};
+use peers::{Peer, Reply};
 use second::table::Times;
+use values::Refusal;
 
 /// The table that accepts whatever any table accepts.
 const FASTEST: Times = Times([0, 0, 1, 1, 1, 1, 1, 1, 1]);
@@ -21,7 +22,7 @@ pub fn compare(peer: &Peer, job: &Job) -> Result<(), String> {
 }
 
 /// The calls on programs; those on texts are compared with the texts.
-fn refused_by_all(peer: &Peer, job: &Job, refused: Refused) -> Result<(), String> {
+fn refused_by_all(peer: &Peer, job: &Job, refused: Refusal) -> Result<(), String> {
     let (table, program, words, budget) = (job.table(), &job.program, &job.words, job.budget);
     let (file, state) = (lent(job.file_length), lent(job.state_length));
     let unwritten = [file.clone(), state.clone()];
@@ -38,7 +39,7 @@ fn refused_by_all(peer: &Peer, job: &Job, refused: Refused) -> Result<(), String
 fn expect<T>(
     name: &str,
     found: Reply<T>,
-    refused: Refused,
+    refused: Refusal,
     unwritten: &[Vec<u8>],
 ) -> Result<(), String> {
     if found.result.err() != Some(refused) {

@@ -7,7 +7,8 @@ use crate::lend::{lent, lent_with};
 use crate::texts::{texts, Known, Text, MOST_TEXT};
 use crate::typing::{with_fewest_blanks, with_fewest_brackets};
 use crate::xorshift::Random;
-use peers::{Peer, Refused, Reply, Table};
+use peers::{Peer, Reply};
+use values::{Refusal, Table};
 
 /// The lengths of buffers lent for a program.
 const ROOMS: [usize; 6] = [0, 4, 100, 799, 800, 801];
@@ -32,16 +33,16 @@ struct Reader<'a> {
 }
 
 impl Reader<'_> {
-    fn read(&self, text: &[u8], room: usize) -> Reply<u32> {
+    fn read(&self, text: &[u8], room: usize) -> Reply<usize> {
         (self.peer.read_text)(self.table, text, &lent(room))
     }
 
-    fn check(&self, program: &[u8]) -> Result<(), Refused> {
+    fn check(&self, program: &[u8]) -> Result<(), Refusal> {
         (self.peer.check)(self.table, program).result
     }
 }
 
-fn refusing(refused: Refused, room: usize) -> Reply<u32> {
+fn refusing(refused: Refusal, room: usize) -> Reply<usize> {
     Reply {
         result: Err(refused),
         lent: vec![lent(room)],
@@ -68,12 +69,12 @@ fn compare_text(reader: &Reader, text: &Text, room: usize) -> Result<(), String>
     match (&text.known, read.result) {
         (Known::Program(program), _) => same(&read, &expected(reader, program, bytes.len(), room)),
         (Known::Beginning, _) => ends_too_early(reader, bytes),
-        (Known::Nothing, Ok(length)) => read_back(reader, &read.lent[0][..length as usize]),
+        (Known::Nothing, Ok(length)) => read_back(reader, &read.lent[0][..length]),
         (Known::Nothing, Err(_)) => Ok(()),
     }
 }
 
-fn same(found: &Reply<u32>, expected: &Reply<u32>) -> Result<(), String> {
+fn same(found: &Reply<usize>, expected: &Reply<usize>) -> Result<(), String> {
     if found.result != expected.result {
         let (found, expected) = (found.result, expected.result);
         return Err(format!("read_text says {found:?} instead of {expected:?}"));
@@ -85,13 +86,13 @@ fn same(found: &Reply<u32>, expected: &Reply<u32>) -> Result<(), String> {
 }
 
 /// What reading the text of a program replies, whatever the text is like.
-fn expected(reader: &Reader, program: &[u8], text_length: usize, room: usize) -> Reply<u32> {
-    let refusal = |number, place| Err(Refused { number, place });
+fn expected(reader: &Reader, program: &[u8], text_length: usize, room: usize) -> Reply<usize> {
+    let refusal = |number, place| Err(Refusal::new(number, place));
     let result = match reader.check(program) {
-        _ if text_length > MOST_TEXT => refusal(17, MOST_TEXT as u32),
+        _ if text_length > MOST_TEXT => refusal(17, MOST_TEXT),
         Err(refused) => Err(refused),
         Ok(()) if program.len() > room => refusal(14, 0),
-        Ok(()) => Ok(program.len() as u32),
+        Ok(()) => Ok(program.len()),
     };
     let written = if result.is_ok() { program } else { &[] };
     Reply {
@@ -130,9 +131,6 @@ fn ends_too_early(reader: &Reader, beginning: &[u8]) -> Result<(), String> {
 
 const BROKEN: &[u8] = b" := :=";
 
-fn broken(place: usize) -> Refused {
-    Refused {
-        number: 18,
-        place: place as u32,
-    }
+fn broken(place: usize) -> Refusal {
+    Refusal::new(18, place)
 }

@@ -2,8 +2,8 @@
 //! refused, some makes another good input.
 
 use crate::xorshift::Random;
-use peers::Cell;
 use second::cells::{sort, Sort, DELAY, MERGE};
+use values::Cell;
 
 const BLOCK: usize = 512;
 const CELLS_IN_BLOCK: usize = 84;
@@ -175,10 +175,10 @@ mod tests {
     use super::*;
     use crate::generate;
     use crate::lend::{file_length, lent, state_length, MOST_FILE};
-    use second::answer::Refusal;
     use second::table::BUILT_IN;
-    use second::{calls, cells, netfile};
+    use second::{calls, netfile};
     use std::collections::BTreeSet;
+    use values::Refusal;
 
     /// The refusals, 0 for none, that calls on 4,000 damaged programs meet.
     fn met(call: impl Fn(&[u8], &mut Random) -> Result<(), Refusal>) -> BTreeSet<u8> {
@@ -193,17 +193,16 @@ mod tests {
     /// The netlist file and the begun state of a good program.
     fn begun(good: &[u8]) -> (Vec<u8>, Vec<u8>) {
         let mut file = lent(MOST_FILE);
-        let shape = calls::compile(good, &mut file).expect("a good program");
-        let cells = u32::from(shape.cells);
-        file.truncate(file_length(cells));
-        let mut state = lent(state_length(cells));
+        let shape = calls::compile(None, good, &mut file).expect("a good program");
+        file.truncate(file_length(shape.cells.into()));
+        let mut state = lent(state_length(shape.cells.into()));
         calls::begin(&file, &[0; 32], &mut state).expect("a good netlist");
         (file, state)
     }
 
     #[test]
     fn damaged_programs_meet_refusals_1_to_8() {
-        let met = met(|good, random| calls::check(&program(good, random)));
+        let met = met(|good, random| calls::check(None, &program(good, random)));
         assert_eq!(met, (0..=8).collect());
     }
 
@@ -220,9 +219,7 @@ mod tests {
     fn damaged_cells_meet_refusals_11_and_12() {
         let met = met(|good, random| {
             let netlist = netfile::read(&begun(good).0).expect("a good netlist");
-            let peers_cell = |cell: &cells::Cell| Cell::new(cell.kind, cell.delay, cell.a, cell.b);
-            let list: Vec<Cell> = netlist.cells.iter().map(peers_cell).collect();
-            let (damaged, finish) = cells(&list, netlist.finish, random);
+            let (damaged, finish) = cells(&netlist.cells, netlist.finish, random);
             let bytes = Cell::all_bytes(&damaged);
             calls::write_netlist(&bytes, finish, &mut lent(MOST_FILE)).map(drop)
         });

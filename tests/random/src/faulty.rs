@@ -1,7 +1,8 @@
 //! Peers that go wrong in the ways the paper wants rejected, and the proof
 //! that the comparisons tell them from a good one.
 
-use peers::{Cell, End, Peer, Refused, Reply, Shape, SECOND};
+use peers::{Peer, Reply, SECOND};
+use values::{Cell, End, Refusal, Shape};
 
 /// Its rules take an instant too many for a program with a parallel node.
 pub const SLOW_PARALLEL: Peer = Peer {
@@ -112,8 +113,8 @@ const LATE_PLACE: Peer = Peer {
     name: "late place",
     read_text: |table, text, program| {
         let mut reply = (SECOND.read_text)(table, text, program);
-        if let Err(Refused { number: 18, place }) = &mut reply.result {
-            *place = text.len() as u32;
+        if let Err(Refusal { number: 18, place }) = &mut reply.result {
+            *place = text.len();
         }
         reply
     },
@@ -147,7 +148,7 @@ const TEXT_FIRST: Peer = Peer {
     read_text: |table, text, program| {
         let untimed = (SECOND.read_text)(None, text, program);
         match untimed.result {
-            Err(Refused { number: 17.., .. }) => untimed,
+            Err(Refusal { number: 17.., .. }) => untimed,
             _ => (SECOND.read_text)(table, text, program),
         }
     },
@@ -197,7 +198,7 @@ const MOVED_FINISH: Peer = Peer {
     read_cells: |file, at, cells| {
         let mut reply = (SECOND.read_cells)(file, at, cells);
         if let Ok(shape) = &mut reply.result {
-            shape.finish += at as u32;
+            shape.finish = shape.finish.wrapping_add(at as u16);
         }
         reply
     },
@@ -223,7 +224,7 @@ const ABSENT_FINISH: Peer = Peer {
     name: "absent finish",
     check_cells: |cells, finish| {
         let mut reply = (SECOND.check_cells)(cells, finish);
-        if let Err(Refused { number: 11, .. }) = reply.result {
+        if let Err(Refusal { number: 11, .. }) = reply.result {
             reply.result = (SECOND.check_cells)(cells, 0).result;
         }
         reply
@@ -246,10 +247,7 @@ fn reread(
     reply
 }
 
-const NO: Refused = Refused {
-    number: 1,
-    place: 0,
-};
+const NO: Refusal = Refusal::new(1, 0);
 
 mod tests {
     use super::*;
@@ -289,50 +287,44 @@ mod tests {
         (0..JOBS).any(|seed| pair.compare(&Job::of_seed(seed)).is_err())
     }
 
+    /// A comparison accepts a good peer and tells each of these.
+    fn assert_tells(disagrees: impl Fn(&Peer) -> bool, faulty: &[Peer]) {
+        assert!(!disagrees(&SECOND));
+        for peer in faulty {
+            assert!(disagrees(peer), "{}", peer.name);
+        }
+    }
+
     #[test]
     fn rules_tell_faulty_circuits() {
-        assert!(!disagrees_with_rules(&SECOND));
-        for faulty in [SLOW_PARALLEL, EARLY_OPEN, COPYING, STOCK_NETLIST] {
-            assert!(disagrees_with_rules(&faulty), "{}", faulty.name);
-        }
+        let faulty = [SLOW_PARALLEL, EARLY_OPEN, COPYING, STOCK_NETLIST];
+        assert_tells(disagrees_with_rules, &faulty);
     }
 
     #[test]
     fn equations_tell_faulty_simulators() {
-        assert!(!disagrees_with_equations(&SECOND));
-        for faulty in [EARLY_OPEN, COPYING] {
-            assert!(disagrees_with_equations(&faulty), "{}", faulty.name);
-        }
+        assert_tells(disagrees_with_equations, &[EARLY_OPEN, COPYING]);
     }
 
     #[test]
     fn texts_tell_faulty_readers() {
-        assert!(!disagrees_with_texts(&SECOND));
-        for faulty in [MIXED_UP, TRIMMING, SHORT_TEXTS, LATE_PLACE, TEXT_FIRST] {
-            assert!(disagrees_with_texts(&faulty), "{}", faulty.name);
-        }
+        let faulty = [MIXED_UP, TRIMMING, SHORT_TEXTS, LATE_PLACE, TEXT_FIRST];
+        assert_tells(disagrees_with_texts, &faulty);
     }
 
     #[test]
     fn tables_tell_faulty_checks_and_compilers() {
-        assert!(!disagrees_with_tables(&SECOND));
-        for faulty in [UNTIMED, TIMED_NETLIST] {
-            assert!(disagrees_with_tables(&faulty), "{}", faulty.name);
-        }
+        assert_tells(disagrees_with_tables, &[UNTIMED, TIMED_NETLIST]);
     }
 
     #[test]
     fn a_good_peer_tells_every_faulty_one() {
-        assert!(!disagrees_with_second(&SECOND));
-        let faulty_runs = [SLOW_PARALLEL, EARLY_OPEN, COPYING, STOCK_NETLIST, REFUSING];
-        let faulty_readers = [MIXED_UP, TRIMMING, LATE_PLACE];
-        let faulty_tables = [UNTIMED, TIMED_NETLIST];
-        let faulty_moves = [MOVED_CONSTANTS, STAYING_B, UNWRAPPED, MOVED_FINISH];
-        let faulty_lists = [ROOM_TO_SPARE, ABSENT_FINISH];
-        let faulty = faulty_runs.iter().chain(&faulty_readers);
-        let faulty_cells = faulty_moves.iter().chain(&faulty_lists);
-        for faulty in faulty.chain(&faulty_tables).chain(faulty_cells) {
-            assert!(disagrees_with_second(faulty), "{}", faulty.name);
-        }
+        let runs = [SLOW_PARALLEL, EARLY_OPEN, COPYING, STOCK_NETLIST, REFUSING];
+        let readers = [MIXED_UP, TRIMMING, LATE_PLACE];
+        let tables = [UNTIMED, TIMED_NETLIST];
+        let moves = [MOVED_CONSTANTS, STAYING_B, UNWRAPPED, MOVED_FINISH];
+        let lists = [ROOM_TO_SPARE, ABSENT_FINISH];
+        let faulty = [&runs[..], &readers, &tables, &moves, &lists].concat();
+        assert_tells(disagrees_with_second, &faulty);
     }
 }

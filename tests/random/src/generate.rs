@@ -317,7 +317,7 @@ mod tests {
         let mut largest = 0;
         for seed in 0..2_000 {
             let program = program(&mut Random::new(seed), times);
-            let checked = calls::check_timed(&times.file(), &program);
+            let checked = calls::check(Some(&times.file()), &program);
             assert_eq!(checked, Ok(()), "seed {seed}: {program:?}");
             largest = largest.max(program.len() / 4);
             for node in program.chunks_exact(4) {

@@ -75,7 +75,7 @@ impl Job {
     }
 
     /// The bytes of its table, as a peer is given them.
-    pub fn table(&self) -> peers::Table<'_> {
+    pub fn table(&self) -> values::Table<'_> {
         self.table.as_ref().map(|table| &table.bytes[..])
     }
 }

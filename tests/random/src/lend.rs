@@ -1,6 +1,6 @@
 //! Lent buffers: how long results are, and what a buffer holds before one.
 
-use peers::Cell;
+use values::Cell;
 
 /// The longest netlist file, 13 blocks.
 pub const MOST_FILE: usize = 6656;
@@ -31,11 +31,11 @@ pub fn lent_cells(length: usize) -> Vec<Cell> {
 }
 
 /// The bytes of the netlist file of this many cells.
-pub fn file_length(cells: u32) -> usize {
-    512 * (cells as usize).div_ceil(84)
+pub fn file_length(cells: usize) -> usize {
+    512 * cells.div_ceil(84)
 }
 
 /// The bytes of the state of this many cells.
-pub fn state_length(cells: u32) -> usize {
-    8 + 40 * cells as usize
+pub fn state_length(cells: usize) -> usize {
+    8 + 40 * cells
 }

@@ -4,6 +4,7 @@
 use crate::xorshift::Random;
 use second::cells::*;
 use second::netfile;
+use values::Cell;
 
 const FIXED: [u8; 3] = [START, GROUND, CONSTANT];
 

@@ -2,9 +2,9 @@
 
 use crate::damage::mend_checks;
 use crate::xorshift::Random;
-use peers::Refused;
 use second::table::Times;
 use std::ops::RangeInclusive;
+use values::Refusal;
 
 const LENGTH: usize = 512;
 
@@ -18,7 +18,7 @@ const REST: usize = 17;
 #[derive(Clone, Debug)]
 pub struct Table {
     pub bytes: Vec<u8>,
-    pub refused: Option<Refused>,
+    pub refused: Option<Refusal>,
 }
 
 /// Times that are alike fast or slow, or go far apart.
@@ -56,10 +56,7 @@ pub fn damaged(times: &Times, random: &mut Random) -> Table {
     }
     Table {
         bytes,
-        refused: Some(Refused {
-            number,
-            place: place as u32,
-        }),
+        refused: Some(Refusal::new(number, place)),
     }
 }
 
@@ -108,12 +105,8 @@ mod tests {
 
     const OK: [u8; 4] = [16, 0, 0, 0];
 
-    fn met(table: &Table) -> Option<Refused> {
-        let refusal = calls::check_timed(&table.bytes, &OK).err()?;
-        Some(Refused {
-            number: u32::from(refusal.number),
-            place: refusal.place as u32,
-        })
+    fn met(table: &Table) -> Option<Refusal> {
+        calls::check(Some(&table.bytes), &OK).err()
     }
 
     #[test]
@@ -126,7 +119,7 @@ mod tests {
 
     #[test]
     fn damaged_tables_meet_the_refusals_told() {
-        let mut seen: BTreeMap<(u32, u32), u32> = BTreeMap::new();
+        let mut seen: BTreeMap<(u8, usize), u32> = BTreeMap::new();
         for seed in 0..4_000 {
             let random = &mut Random::new(seed);
             let table = damaged(&times(random), random);

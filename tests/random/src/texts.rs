@@ -68,7 +68,7 @@ pub fn texts(program: &[u8], random: &mut Random) -> Vec<Text> {
 
 /// Whether refusals 1 to 6 let a program pass.
 fn is_tree(program: &[u8]) -> bool {
-    calls::check(program).map_or_else(|refusal| refusal.number > 6, |()| true)
+    calls::check(None, program).map_or_else(|refusal| refusal.number > 6, |()| true)
 }
 
 fn unknown(bytes: Vec<u8>) -> Text {
@@ -183,7 +183,7 @@ mod tests {
             let program = generate::program(random, &BUILT_IN);
             let texts = texts(&program, random).into_iter();
             for text in texts.filter(|text| wanted(&text.known)) {
-                let read = calls::read_text(&text.bytes, &mut [0; 800]);
+                let read = calls::read_text(None, &text.bytes, &mut [0; 800]);
                 *met.entry(read.map_or_else(|refusal| refusal.number, |_| 0))
                     .or_default() += 1;
             }

@@ -3,82 +3,56 @@
 //! Each call makes all its checks, in the paper's order, before it writes a
 //! lent byte, and writes no further than its result goes.
 //!
-//! A call that checks a program stands here twice: `_timed` it is given a table
-//! of operator times, whose refusals 19 to 21 come before all others, and
-//! without that the table is the built-in one.
+//! A call that checks a program may be given a table of operator times, whose
+//! refusals 19 to 21 come before all others; without it the built-in one serves.
 
-use crate::answer::{Answer, Refusal};
 use crate::cells::Netlist;
 use crate::check;
 use crate::compile;
 use crate::netfile;
 use crate::program::Statement;
-use crate::rules::{self, Outcome};
+use crate::rules;
 use crate::simulate::Simulator;
 use crate::state;
-use crate::table::{self, BUILT_IN};
+use crate::table::{self, Times, BUILT_IN};
 use crate::text;
-use crate::word::{words_of, Words, WORDS_LENGTH};
+use crate::word::{words_of, WORDS_LENGTH};
+use values::{Answer, Cell, End, Refusal, Shape, Table, Words};
 
 /// The last instant that a run may come to.
 const MOST_INSTANT: u32 = 1_000_000;
 
-/// What a netlist's header tells of it.
-#[derive(Clone, Copy, Debug, PartialEq, Eq)]
-pub struct Shape {
-    pub cells: u16,
-    pub finish: u16,
-}
-
-impl Shape {
-    pub(crate) fn of(netlist: &Netlist) -> Shape {
-        Shape {
-            cells: netlist.cells.len() as u16,
-            finish: netlist.finish,
-        }
+pub(crate) fn shape(netlist: &Netlist) -> Shape {
+    Shape {
+        cells: netlist.cells.len() as u16,
+        finish: netlist.finish,
     }
 }
 
 /// Checks a program: refusals 1 to 8.
-pub fn check(program: &[u8]) -> Result<(), Refusal> {
-    check_timed(&BUILT_IN.file(), program)
-}
-
-pub fn check_timed(table: &[u8], program: &[u8]) -> Result<(), Refusal> {
+pub fn check(table: Table, program: &[u8]) -> Result<(), Refusal> {
     checked(table, program).map(drop)
 }
 
 /// Compiles a program to a netlist file: refusals 1 to 8, 14.
-pub fn compile(program: &[u8], file: &mut [u8]) -> Result<Shape, Refusal> {
-    compile_timed(&BUILT_IN.file(), program, file)
-}
-
-pub fn compile_timed(table: &[u8], program: &[u8], file: &mut [u8]) -> Result<Shape, Refusal> {
+pub fn compile(table: Table, program: &[u8], file: &mut [u8]) -> Result<Shape, Refusal> {
     let netlist = compile::compile(&checked(table, program)?);
     put(&netfile::write(&netlist), file)?;
-    Ok(Shape::of(&netlist))
+    Ok(shape(&netlist))
 }
 
 /// Reads a text to its program's bytes: refusals 17, 18, 1 to 8, 14. Tells how
 /// many bytes these are.
-pub fn read_text(text: &[u8], program: &mut [u8]) -> Result<usize, Refusal> {
-    read_text_timed(&BUILT_IN.file(), text, program)
-}
-
-pub fn read_text_timed(table: &[u8], text: &[u8], program: &mut [u8]) -> Result<usize, Refusal> {
+pub fn read_text(table: Table, text: &[u8], program: &mut [u8]) -> Result<usize, Refusal> {
     let bytes = program_of(table, text)?;
-    check_timed(table, &bytes)?;
+    check(table, &bytes)?;
     put(&bytes, program)?;
     Ok(bytes.len())
 }
 
 /// Compiles a text: refusals 17, 18, and those of its program.
-pub fn compile_text(text: &[u8], file: &mut [u8]) -> Result<Shape, Refusal> {
-    compile_text_timed(&BUILT_IN.file(), text, file)
-}
-
-pub fn compile_text_timed(table: &[u8], text: &[u8], file: &mut [u8]) -> Result<Shape, Refusal> {
-    compile_timed(table, &program_of(table, text)?, file)
+pub fn compile_text(table: Table, text: &[u8], file: &mut [u8]) -> Result<Shape, Refusal> {
+    compile(table, &program_of(table, text)?, file)
 }
 
 /// Writes cells of six bytes to a netlist file: 11 when they are no cells of
@@ -86,20 +60,14 @@ pub fn compile_text_timed(table: &[u8], text: &[u8], file: &mut [u8]) -> Result<
 pub fn write_netlist(cells: &[u8], finish: u16, file: &mut [u8]) -> Result<Shape, Refusal> {
     let netlist = netfile::netlist_of(cells, finish)?;
     put(&netfile::write(&netlist), file)?;
-    Ok(Shape::of(&netlist))
+    Ok(shape(&netlist))
 }
 
 /// Reads a netlist file to cells of six bytes: refusals 9 to 12, 14.
 pub fn read_netlist(file: &[u8], cells: &mut [u8]) -> Result<Shape, Refusal> {
     let netlist = netfile::read(file)?;
-    let bytes: Vec<u8> = netlist
-        .cells
-        .iter()
-        .copied()
-        .flat_map(netfile::cell_bytes)
-        .collect();
-    put(&bytes, cells)?;
-    Ok(Shape::of(&netlist))
+    put(&Cell::all_bytes(&netlist.cells), cells)?;
+    Ok(shape(&netlist))
 }
 
 /// Begins a run: refusals 9 to 12, 14.
@@ -141,17 +109,7 @@ pub fn run_netlist(
 /// A full run of a program: refusals 1 to 8, 13, 14. Its netlist file and its
 /// last state stand in the lent buffers.
 pub fn run_program(
-    program: &[u8],
-    words: &[u8],
-    budget: u32,
-    file: &mut [u8],
-    state: &mut [u8],
-) -> Result<Answer, Refusal> {
-    run_program_timed(&BUILT_IN.file(), program, words, budget, file, state)
-}
-
-pub fn run_program_timed(
-    table: &[u8],
+    table: Table,
     program: &[u8],
     words: &[u8],
     budget: u32,
@@ -168,17 +126,7 @@ pub fn run_program_timed(
 
 /// A full run of a text: refusals 17, 18, and those of its program's run.
 pub fn run_text(
-    text: &[u8],
-    words: &[u8],
-    budget: u32,
-    file: &mut [u8],
-    state: &mut [u8],
-) -> Result<Answer, Refusal> {
-    run_text_timed(&BUILT_IN.file(), text, words, budget, file, state)
-}
-
-pub fn run_text_timed(
-    table: &[u8],
+    table: Table,
     text: &[u8],
     words: &[u8],
     budget: u32,
@@ -186,35 +134,35 @@ pub fn run_text_timed(
     state: &mut [u8],
 ) -> Result<Answer, Refusal> {
     let program = program_of(table, text)?;
-    run_program_timed(table, &program, words, budget, file, state)
+    run_program(table, &program, words, budget, file, state)
 }
 
-/// Runs a program by its own rules: refusals 1 to 8, 13, 14.
-pub fn reference_run(program: &[u8], words: &[u8], budget: u32) -> Result<Outcome, Refusal> {
-    reference_run_timed(&BUILT_IN.file(), program, words, budget)
-}
-
-pub fn reference_run_timed(
-    table: &[u8],
+/// The end of a program by its own rules, if within the budget: refusals 1 to
+/// 8, 13, 14.
+pub fn reference_run(
+    table: Table,
     program: &[u8],
     words: &[u8],
     budget: u32,
-) -> Result<Outcome, Refusal> {
+) -> Result<Option<End>, Refusal> {
     let program = checked(table, program)?;
     check_budget(budget)?;
     Ok(rules::run(&program, start_words(words)?, budget))
 }
 
 /// A program that passes its checks under a table that passes its own.
-fn checked(table: &[u8], program: &[u8]) -> Result<Statement, Refusal> {
-    let times = table::read(table)?;
-    check::check(program, &times)
+fn checked(table: Table, program: &[u8]) -> Result<Statement, Refusal> {
+    check::check(program, &times(table)?)
 }
 
 /// The bytes of a text's program; the table is refused before the text.
-fn program_of(table: &[u8], text: &[u8]) -> Result<Vec<u8>, Refusal> {
-    table::read(table)?;
+fn program_of(table: Table, text: &[u8]) -> Result<Vec<u8>, Refusal> {
+    times(table)?;
     text::program(text)
+}
+
+fn times(table: Table) -> Result<Times, Refusal> {
+    table.map_or(Ok(BUILT_IN), table::read)
 }
 
 /// A beginning, and a continuing unless the finish was high.

@@ -3,10 +3,10 @@
 //! They refuse what the calls on bytes refuse, except for a length that is no
 //! whole number of cells, which a list of cells can't have.
 
-use crate::answer::Refusal;
-use crate::calls::{put, Shape};
-use crate::cells::Cell;
+use crate::calls::{put, shape};
+use crate::cells::moved;
 use crate::netfile;
+use values::{Cell, Refusal, Shape};
 
 /// Checks a netlist: refusals 11 and 12.
 pub fn check(cells: &[Cell], finish: u16) -> Result<(), Refusal> {
@@ -17,7 +17,7 @@ pub fn check(cells: &[Cell], finish: u16) -> Result<(), Refusal> {
 pub fn write(cells: &[Cell], finish: u16, file: &mut [u8]) -> Result<Shape, Refusal> {
     let netlist = netfile::netlist_of_cells(cells.to_vec(), finish)?;
     put(&netfile::write(&netlist), file)?;
-    Ok(Shape::of(&netlist))
+    Ok(shape(&netlist))
 }
 
 /// Reads a netlist file behind the first `at` of the lent cells, so that the
@@ -27,23 +27,23 @@ pub fn read(file: &[u8], at: usize, cells: &mut [Cell]) -> Result<Shape, Refusal
     let netlist = netfile::read(file)?;
     let places = places(cells, at, netlist.cells.len())?;
     for (place, cell) in places.iter_mut().zip(&netlist.cells) {
-        *place = cell.moved(at as u16);
+        *place = moved(*cell, at as u16);
     }
-    Ok(Shape::of(&netlist))
+    Ok(shape(&netlist))
 }
 
 /// Moves the cells from one number up to another, of six bytes each, so many
 /// places on. Tells whether the list has them; no netlist has more than 1,024.
 pub fn renumber(cells: &mut [u8], from: usize, end: usize, by: u16) -> bool {
-    if end > netfile::MOST_CELLS || end > cells.len() / netfile::CELL {
+    if end > netfile::MOST_CELLS || end > cells.len() / Cell::LENGTH {
         return false;
     }
-    let run = netfile::CELL * from.min(end)..netfile::CELL * end;
-    let moved = netfile::cells_of(&cells[run.clone()]).into_iter();
-    let bytes: Vec<u8> = moved
-        .flat_map(|cell| netfile::cell_bytes(cell.moved(by)))
+    let run = Cell::LENGTH * from.min(end)..Cell::LENGTH * end;
+    let renumbered: Vec<Cell> = Cell::all_of(&cells[run.clone()])
+        .into_iter()
+        .map(|cell| moved(cell, by))
         .collect();
-    cells[run].copy_from_slice(&bytes);
+    cells[run].copy_from_slice(&Cell::all_bytes(&renumbered));
     true
 }
 

@@ -1,8 +1,8 @@
 //! Cells, the uses of their fields, and the rules that a netlist keeps
 //! (refusal 12).
 
-use crate::answer::Refusal;
 use crate::operator::Operator;
+use values::{Cell, Refusal};
 
 pub const CONSTANT: u8 = 1;
 pub const START: u8 = 32;
@@ -20,31 +20,6 @@ pub const MEMORY: u8 = 40;
 pub const GATE: u8 = 41;
 
 pub const MEMORIES: usize = 16;
-
-/// The six bytes of a cell.
-#[derive(Clone, Copy, Debug, PartialEq, Eq)]
-pub struct Cell {
-    pub kind: u8,
-    pub delay: u8,
-    pub a: u16,
-    pub b: u16,
-}
-
-impl Cell {
-    pub fn new(kind: u8, delay: u8, a: u16, b: u16) -> Cell {
-        Cell { kind, delay, a, b }
-    }
-
-    /// The cell where every cell that it names has a number so much higher.
-    pub fn moved(self, by: u16) -> Cell {
-        let (a, b) = fields(self.kind).unwrap_or((Field::Unused, Field::Unused));
-        Cell {
-            a: a.moved(self.a, by),
-            b: b.moved(self.b, by),
-            ..self
-        }
-    }
-}
 
 #[derive(Clone, Debug, PartialEq, Eq)]
 pub struct Netlist {
@@ -113,6 +88,16 @@ pub fn fields(kind: u8) -> Option<(Field, Field)> {
             Operator::Complement => Some((word, Unused)),
             _ => Some((word, word)),
         },
+    }
+}
+
+/// The cell where every cell that it names has a number so much higher.
+pub fn moved(cell: Cell, by: u16) -> Cell {
+    let (a, b) = fields(cell.kind).unwrap_or((Field::Unused, Field::Unused));
+    Cell {
+        a: a.moved(cell.a, by),
+        b: b.moved(cell.b, by),
+        ..cell
     }
 }
 

@@ -3,11 +3,11 @@
 //! The order is the paper's: the length; each node by itself; the reading,
 //! which meets 5 and 6 on its way; the delays; the parallel nodes.
 
-use crate::answer::Refusal;
 use crate::kinds::{row, ExpressionKind, Kind, Row, StatementKind};
 use crate::program::{Expression, Form, Statement};
 use crate::table::Times;
 use crate::word::number2;
+use values::Refusal;
 
 const NODE_LENGTH: usize = 4;
 const MOST_NODES: usize = 200;

@@ -7,6 +7,7 @@
 use crate::cells::*;
 use crate::operator::Operator;
 use crate::program::{Expression, Form, Statement};
+use values::Cell;
 
 /// The number of a cell, which is the number of its wire.
 type Wire = u16;

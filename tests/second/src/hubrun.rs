@@ -1,8 +1,8 @@
 //! The text that `hubrun` prints for its input.
 
-use crate::answer::{Answer, Refusal};
 use crate::calls;
 use crate::word::{number4, WORDS_LENGTH};
+use values::{Answer, Refusal};
 
 const BUDGET_LENGTH: usize = 4;
 
@@ -26,7 +26,7 @@ fn run(input: &[u8]) -> Result<Answer, Refusal> {
     let words = &input[..WORDS_LENGTH];
     let budget = number4(input, WORDS_LENGTH);
     let (mut netlist, mut state) = (vec![0; NETLIST_ROOM], vec![0; STATE_ROOM]);
-    calls::run_program(program, words, budget, &mut netlist, &mut state)
+    calls::run_program(None, program, words, budget, &mut netlist, &mut state)
 }
 
 fn answer_text(answer: Answer) -> String {

@@ -6,7 +6,6 @@
 //! the calls that others use; what they lend and get back are bytes and numbers,
 //! and in `cell_calls` cells.
 
-pub mod answer;
 pub mod block;
 pub mod calls;
 pub mod cell_calls;

@@ -1,13 +1,12 @@
 //! Netlist files: writing, and reading with refusals 9 to 12.
 
-use crate::answer::Refusal;
 use crate::block::{sum, CHECK, HEADER, LENGTH as BLOCK};
-use crate::cells::{self, Cell, Netlist};
+use crate::cells::{self, Netlist};
 use crate::word::{number2, put2};
+use values::{Cell, Refusal};
 
 const MOST_BLOCKS: usize = 13;
-pub const CELL: usize = 6;
-const CELLS_IN_BLOCK: usize = (BLOCK - HEADER) / CELL;
+const CELLS_IN_BLOCK: usize = (BLOCK - HEADER) / Cell::LENGTH;
 const LEAST_CELLS: usize = 19;
 pub const MOST_CELLS: usize = 1024;
 
@@ -29,26 +28,15 @@ fn block(netlist: &Netlist, number: usize, cells: &[Cell]) -> [u8; BLOCK] {
     put2(&mut block, 0, number as u16);
     put2(&mut block, 2, netlist.cells.len() as u16);
     put2(&mut block, 4, netlist.finish);
-    for (cell, place) in cells.iter().zip(block[HEADER..].chunks_exact_mut(CELL)) {
-        place.copy_from_slice(&cell_bytes(*cell));
+    for (cell, place) in cells
+        .iter()
+        .zip(block[HEADER..].chunks_exact_mut(Cell::LENGTH))
+    {
+        place.copy_from_slice(&cell.bytes());
     }
     let check = sum(&block).wrapping_neg();
     put2(&mut block, CHECK, check);
     block
-}
-
-/// The six bytes of a cell.
-pub fn cell_bytes(cell: Cell) -> [u8; CELL] {
-    let mut bytes = [cell.kind, cell.delay, 0, 0, 0, 0];
-    put2(&mut bytes, 2, cell.a);
-    put2(&mut bytes, 4, cell.b);
-    bytes
-}
-
-/// The cells that stand in these bytes, six for each.
-pub fn cells_of(bytes: &[u8]) -> Vec<Cell> {
-    let cell = |bytes: &[u8]| Cell::new(bytes[0], bytes[1], number2(bytes, 2), number2(bytes, 4));
-    bytes.chunks_exact(CELL).map(cell).collect()
 }
 
 /// The netlist in a file, or the refusal found first.
@@ -64,10 +52,10 @@ pub fn read(file: &[u8]) -> Result<Netlist, Refusal> {
 /// The netlist of cells that are given as bytes, with the refusal that their
 /// file would meet. Bytes that are not whole cells no header could tell: 11.
 pub fn netlist_of(bytes: &[u8], finish: u16) -> Result<Netlist, Refusal> {
-    if !bytes.len().is_multiple_of(CELL) {
+    if !bytes.len().is_multiple_of(Cell::LENGTH) {
         return Err(Refusal::new(11, 0));
     }
-    netlist_of_cells(cells_of(bytes), finish)
+    netlist_of_cells(Cell::all_of(bytes), finish)
 }
 
 /// The netlist of these cells, with the refusal that their file would meet:
@@ -137,14 +125,14 @@ fn shape(block: &[u8]) -> (u16, u16) {
 /// The bytes of a block after the last cell of the netlist.
 fn unused(block: &[u8], number: usize, cells: usize) -> &[u8] {
     let here = (cells - number * CELLS_IN_BLOCK).min(CELLS_IN_BLOCK);
-    &block[HEADER + CELL * here..]
+    &block[HEADER + Cell::LENGTH * here..]
 }
 
 /// The netlist in a file whose layout is right.
 fn unpack(file: &[u8]) -> Netlist {
     let (count, finish) = shape(file);
     let mut cells: Vec<Cell> = blocks(file)
-        .flat_map(|block| cells_of(&block[HEADER..]))
+        .flat_map(|block| Cell::all_of(&block[HEADER..]))
         .collect();
     cells.truncate(usize::from(count));
     Netlist { cells, finish }

@@ -5,7 +5,7 @@
 
 use crate::operator::Operator;
 use crate::table::Times;
-use crate::word::Words;
+use values::Words;
 
 pub enum Expression {
     Constant(u16),

@@ -1,24 +1,13 @@
 //! The program's own rules, run on its tree; nothing here knows of a circuit.
 
 use crate::program::{Expression, Form, Statement};
-use crate::word::Words;
+use values::{End, Words};
 
-/// How a run of the rules came out.
-#[derive(Clone, Copy, Debug, PartialEq, Eq)]
-pub enum Outcome {
-    /// The root ends at this instant with these words.
-    Ended { instant: u32, words: Words },
-    /// There is no end at an instant within the budget.
-    Open,
-}
-
-/// Runs a program from these words as far as instant `budget`.
-pub fn run(program: &Statement, words: Words, budget: u32) -> Outcome {
+/// The end of a program run from these words, if it is no later than `budget`.
+pub fn run(program: &Statement, words: Words, budget: u32) -> Option<End> {
     let begin = Moment { instant: 0, words };
-    match (Rules { budget }).end(program, begin) {
-        Some(Moment { instant, words }) => Outcome::Ended { instant, words },
-        None => Outcome::Open,
-    }
+    let Moment { instant, words } = (Rules { budget }).end(program, begin)?;
+    Some(End { instant, words })
 }
 
 /// All that the rules keep: an instant and the words.

@@ -12,7 +12,7 @@ use crate::fanout::Fanout;
 use crate::line::{Instant, Line, LineBytes};
 use crate::operator::Operator;
 use crate::wheel::Wheel;
-use crate::word::Words;
+use values::{Cell, Words};
 
 /// What a cell shows of itself between instants.
 #[derive(Clone, Copy, Debug, Default, PartialEq, Eq)]

@@ -1,10 +1,10 @@
 //! The published state bytes: their layout, and refusal 15.
 
-use crate::answer::Refusal;
 use crate::cells::{self, Netlist, Sort, DELAY, MERGE};
 use crate::line::LineBytes;
 use crate::simulate::{CellState, Merge, Simulator};
 use crate::word::{number2, number4, put2, put4};
+use values::Refusal;
 
 const HEADER: usize = 8;
 const CELL: usize = 40;

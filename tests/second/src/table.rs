@@ -1,10 +1,10 @@
 //! Operator times, and the one-block file that gives them: refusals 19 to 21.
 
-use crate::answer::Refusal;
 use crate::block;
 use crate::operator::Operator;
 use crate::word::put2;
 use std::ops::RangeInclusive;
+use values::Refusal;
 
 /// The kinds of expressions, 1 to 9.
 const KINDS: usize = 9;

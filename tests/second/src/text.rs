@@ -3,11 +3,11 @@
 //! The way is words (`text_words`), a reading by the grammar
 //! (`text_grammar`, `text_reading`), and here the nodes of that reading.
 
-use crate::answer::Refusal;
 use crate::kinds::{row, Sort};
 use crate::text_grammar::Grammar;
 use crate::text_reading::{Link, Reading};
 use crate::text_words::{words, Word, NAME};
+use values::Refusal;
 
 /// The bytes of the program that a text is. The program itself is unchecked
 /// and may have far more nodes than an accepted one.

@@ -1,6 +1,6 @@
 //! The words of a text: refusal 17.
 
-use crate::answer::Refusal;
+use values::Refusal;
 
 const MOST_LENGTH: usize = 4096;
 const MOST_VARIABLE: u16 = 15;

@@ -1,7 +1,6 @@
 //! Words, and numbers in bytes with the low byte first.
 
-/// The words of the sixteen variables.
-pub type Words = [u16; 16];
+use values::Words;
 
 /// The bytes that sixteen words take.
 pub const WORDS_LENGTH: usize = 32;

@@ -1,7 +1,10 @@
 //! Lists the netlist of a program: bytes of the program on standard input, a
 //! line for each cell on standard output.
 
+use proved::exports::{hub_compile, hub_read};
+use proved::replied;
 use std::io::Read;
+use values::Cell;
 
 fn main() {
     let mut program = Vec::new();
@@ -9,27 +12,23 @@ fn main() {
         .read_to_end(&mut program)
         .expect("a readable standard input");
     let mut file = vec![0; 6_656];
-    let compiled = proved::compile(&program, &mut file);
-    if compiled.kind == proved::Kind::Refused {
-        println!("refused {} {}", compiled.number, compiled.place);
+    let compiled = replied(|reply| hub_compile(&program, &mut file, reply));
+    if let Some(refusal) = compiled.refusal() {
+        println!("{refusal}");
         std::process::exit(1);
     }
-    let mut cells = vec![0; 6 * 1_024];
-    let read = proved::read_netlist(&file[..compiled.first as usize], &mut cells);
+    let mut bytes = vec![0; 6 * 1_024];
+    let read = replied(|reply| hub_read(&file[..compiled.first as usize], &mut bytes, reply));
     println!("{} cells, finish {}", read.first, read.second);
-    for (number, cell) in cells.chunks(6).take(read.first as usize).enumerate() {
+    let cells = Cell::all_of(&bytes).into_iter().take(read.first as usize);
+    for (number, cell) in cells.enumerate() {
         println!("{number:4}  {}", text(cell));
     }
 }
 
 /// A cell: its kind by name, and the fields that it uses.
-fn text(cell: &[u8]) -> String {
-    let (delay, a, b) = (
-        cell[1],
-        u16::from_le_bytes([cell[2], cell[3]]),
-        u16::from_le_bytes([cell[4], cell[5]]),
-    );
-    match cell[0] {
+fn text(Cell { kind, delay, a, b }: Cell) -> String {
+    match kind {
         1 => format!("constant {a}"),
         3 => format!("complement {a}"),
         4 => format!("plus {a} {b}"),

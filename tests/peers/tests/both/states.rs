@@ -1,10 +1,11 @@
 //! States that no run leaves behind: what refusal 15 names is refused, and
 //! everything else is taken as it stands.
 
-use second::answer::Refusal;
-use second::calls;
-use second::cells::*;
-use second::netfile;
+use crate::expect::refused;
+use crate::netlist;
+use peers::BOTH;
+use second::cells::{CONSTANT, DELAY, MERGE};
+use values::{Cell, Refusal};
 
 /// The first cell after start, ground, zero and sixteen idle memories.
 const FREE: u16 = 19;
@@ -18,21 +19,16 @@ const LINE: usize = 8;
 
 /// A netlist file of the idle memories and these cells.
 fn file(cells: &[Cell], finish: u16) -> Vec<u8> {
-    let mut all = vec![
-        Cell::new(START, 0, 0, 0),
-        Cell::new(GROUND, 0, 0, 0),
-        Cell::new(CONSTANT, 0, 0, 0),
-    ];
-    all.extend([Cell::new(MEMORY, 0, 1, 2); 16]);
-    all.extend(cells);
-    netfile::write(&Netlist { cells: all, finish })
+    netlist::file(&[&netlist::idle(), cells].concat(), finish)
 }
 
 fn begun(file: &[u8]) -> Vec<u8> {
-    let cells = calls::read_netlist(file, &mut [0; 6144]).expect("a good netlist");
-    let mut state = vec![0; 8 + 40 * usize::from(cells.cells)];
-    calls::begin(file, &[0; 32], &mut state).expect("the buffer is long enough");
-    state
+    let read = (BOTH.read_netlist)(file, &[0; 6144]);
+    let count = read.result.expect("a good netlist").cells;
+    let state = vec![0; 8 + 40 * usize::from(count)];
+    let begun = (BOTH.begin)(file, &[0; 32], &state);
+    begun.result.expect("the buffer is long enough");
+    begun.lent[0].clone()
 }
 
 /// The place of a byte of a cell.
@@ -42,9 +38,9 @@ fn at(cell: u16, byte: usize) -> usize {
 
 /// The state one instant later.
 fn next(file: &[u8], state: &[u8]) -> Vec<u8> {
-    let mut state = state.to_vec();
-    calls::continue_by(file, &mut state, 1).expect("a lawful state");
-    state
+    let continued = (BOTH.continue_by)(file, 1, state);
+    continued.result.expect("a lawful state");
+    continued.lent[0].clone()
 }
 
 #[test]
@@ -125,10 +121,12 @@ fn a_high_finish_is_continued_like_any_other() {
     let file = file(&[Cell::new(DELAY, 1, 1, 0)], FREE);
     let mut state = begun(&file);
     state[at(FREE, NOW)] = 1;
-    let answer = calls::continue_by(&file, &mut state, 0).expect("a lawful state");
-    assert_eq!((answer.ended, answer.instant, answer.count), (true, 0, 0));
-    let answer = calls::continue_by(&file, &mut state, 5).expect("a lawful state");
-    assert_eq!((answer.ended, answer.instant, answer.count), (false, 5, 5));
+    for (n, expected) in [(0, (true, 0, 0)), (5, (false, 5, 5))] {
+        let continued = (BOTH.continue_by)(&file, n, &state);
+        let answer = continued.result.expect("a lawful state");
+        assert_eq!((answer.ended, answer.instant, answer.count), expected);
+        state.clone_from(&continued.lent[0]);
+    }
 }
 
 #[test]
@@ -143,7 +141,7 @@ fn what_refusal_15_names_is_refused_and_nothing_else() {
         ],
         delay,
     );
-    let refused = [
+    let unlawful = [
         (4, 1),
         (7, 1),
         (at(delay, NOW), 2),
@@ -161,9 +159,9 @@ fn what_refusal_15_names_is_refused_and_nothing_else() {
         (at(merge, LINE), 1),
         (at(sum, LINE + 31), 128),
     ];
-    for (place, byte) in refused {
+    for (place, byte) in unlawful {
         let found = with_byte(&file, place, byte);
-        assert_eq!(found, Err(Refusal::new(15, 0)), "byte {place} = {byte}");
+        assert_eq!(found, refused(15, 0), "byte {place} = {byte}");
     }
     let taken = [
         (at(delay, NOW), 1),
@@ -187,5 +185,5 @@ fn what_refusal_15_names_is_refused_and_nothing_else() {
 fn with_byte(file: &[u8], place: usize, byte: u8) -> Result<(), Refusal> {
     let mut state = begun(file);
     state[place] = byte;
-    calls::continue_by(file, &mut state, 1).map(drop)
+    (BOTH.continue_by)(file, 1, &state).result.map(drop)
 }

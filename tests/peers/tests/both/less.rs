@@ -1,7 +1,8 @@
 //! Less compares words as two's complement, by the rules and by the circuit.
 
-use second::rules::Outcome;
-use second::{calls, text};
+use crate::expect::{read, start_with};
+use peers::BOTH;
+use values::End;
 
 /// A budget above the end of every program here.
 const BUDGET: u32 = 40;
@@ -9,26 +10,19 @@ const BUDGET: u32 = 40;
 /// Both sides of both borders, in their order.
 const BORDERS: [i16; 4] = [-32_768, -1, 0, 32_767];
 
-/// Start words of which the first two are these.
-fn words(x0: i16, x1: i16) -> Vec<u8> {
-    let mut words = [x0.to_le_bytes(), x1.to_le_bytes()].concat();
-    words.resize(32, 0);
-    words
-}
-
 /// x2 at a program's end, on which rules and circuit agree.
 fn x2_after(text: &str, x0: i16, x1: i16) -> u16 {
-    let program = text::program(text.as_bytes()).expect("a good text");
-    let (mut file, mut state) = ([0; 1024], [0; 4000]);
-    let words = words(x0, x1);
-    let answer = calls::run_program(&program, &words, BUDGET, &mut file, &mut state)
-        .expect("a good program");
-    let end = Outcome::Ended {
+    let program = read(text).expect("a good text");
+    let (file, state) = ([0; 1024], [0; 4000]);
+    let words = start_with([x0 as u16, x1 as u16]);
+    let ran = (BOTH.run_program)(None, &program, &words, BUDGET, &file, &state);
+    let answer = ran.result.expect("a good program");
+    let end = End {
         instant: answer.instant,
         words: answer.words,
     };
-    let by_the_rules = calls::reference_run(&program, &words, BUDGET);
-    assert_eq!(by_the_rules, Ok(end), "{text} from {x0}, {x1}");
+    let by_the_rules = (BOTH.reference_run)(None, &program, &words, BUDGET);
+    assert_eq!(by_the_rules.result, Ok(Some(end)), "{text} from {x0}, {x1}");
     answer.words[2]
 }
 

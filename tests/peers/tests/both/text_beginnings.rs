@@ -2,9 +2,9 @@
 //! word lists and without any reading: which short lists are texts, and which
 //! begin one. The reader must agree on every list.
 
-use second::answer::Refusal;
-use second::text;
+use peers::BOTH;
 use std::collections::{BTreeMap, BTreeSet};
+use values::Refusal;
 
 const WORDS: [&str; 27] = [
     "ok", "tick", "if", "then", "else", "end", "while", "do", "repeat", "until", "x3", "7", ":=",
@@ -199,19 +199,23 @@ fn typed(list: &[usize]) -> (String, Vec<usize>) {
 }
 
 /// The number of the word where the reader finds the list broken, that of all
-/// words where it ends too early, or none for a whole text.
+/// words where it ends too early, or none for a whole text: its program is
+/// refused, or has no room.
 fn broken_at(list: &[usize]) -> Option<usize> {
     let (text, places) = typed(list);
-    match text::program(text.as_bytes()) {
-        Ok(_) => None,
-        Err(Refusal { number: 18, place }) if place == text.len() => Some(list.len()),
-        Err(Refusal { number: 18, place }) => Some(
+    let refusal = (BOTH.read_text)(None, text.as_bytes(), &[]).result.err();
+    match refusal.expect("no room") {
+        Refusal {
+            number: 1..=8 | 14, ..
+        } => None,
+        Refusal { number: 18, place } if place == text.len() => Some(list.len()),
+        Refusal { number: 18, place } => Some(
             places
                 .iter()
                 .position(|&word| word == place)
                 .expect("a word's place"),
         ),
-        Err(refusal) => panic!("{text}: {refusal}"),
+        refusal => panic!("{text}: {refusal}"),
     }
 }
 

@@ -1,15 +1,19 @@
 //! The text of hubrun at its corners; the vectors hold the common course.
 
-use second::hubrun;
+use peers::BOTH;
 
 /// Case 2: x0 := 5, d 1.
 const CASE_2: [u8; 8] = [18, 1, 0, 0, 1, 0, 5, 0];
 const OK: [u8; 4] = [16, 0, 0, 0];
 const UNKNOWN_KIND: [u8; 4] = [0, 0, 0, 0];
 
+fn printed_for(input: &[u8]) -> String {
+    String::from_utf8((BOTH.hubrun_text)(input)).expect("a text")
+}
+
 /// What hubrun prints for zero start words.
 fn printed(budget: u32, program: &[u8]) -> String {
-    hubrun::text(&[&[0; 32], &budget.to_le_bytes()[..], program].concat())
+    printed_for(&[&[0; 32], &budget.to_le_bytes()[..], program].concat())
 }
 
 #[test]
@@ -27,7 +31,7 @@ fn an_open_run_shows_the_memories() {
 #[test]
 fn input_without_a_program_is_refusal_1() {
     for length in 0..=36 {
-        assert_eq!(hubrun::text(&vec![0; length]), "refused 1 0\n", "{length}");
+        assert_eq!(printed_for(&vec![0; length]), "refused 1 0\n", "{length}");
     }
 }
 

@@ -1,14 +1,15 @@
-//! A netlist with every kind of cell, for tests that change it and read it.
+//! Netlists for tests that change them and read them.
 
-use peers::Cell;
-use second::cells::Netlist;
+use second::cells::{Netlist, CONSTANT, GROUND, MEMORY, START};
 use second::netfile;
+use values::Cell;
 
+/// The finish of the netlist with every kind of cell.
 pub const FINISH: u16 = 31;
 
-/// Past these 35 cells there is none; number 32 is named by no other cell, and
+/// Every kind of cell. Past these 35 cells there is none; number 32 is named by no other cell, and
 /// of the two after it one is a word wire and the other a control wire.
-pub fn cells() -> Vec<Cell> {
+pub fn every_kind() -> Vec<Cell> {
     let mut cells = vec![
         Cell::new(32, 0, 0, 0),
         Cell::new(33, 0, 0, 0),
@@ -37,8 +38,19 @@ pub fn cells() -> Vec<Cell> {
     cells
 }
 
+/// The fixed cells and sixteen memories that are never assigned.
+pub fn idle() -> Vec<Cell> {
+    let mut cells = vec![
+        Cell::new(START, 0, 0, 0),
+        Cell::new(GROUND, 0, 0, 0),
+        Cell::new(CONSTANT, 0, 0, 0),
+    ];
+    cells.extend([Cell::new(MEMORY, 0, 1, 2); 16]);
+    cells
+}
+
 /// The file of these cells, whatever rules they break, with right checks.
 pub fn file(cells: &[Cell], finish: u16) -> Vec<u8> {
-    let cells = netfile::cells_of(&Cell::all_bytes(cells));
+    let cells = cells.to_vec();
     netfile::write(&Netlist { cells, finish })
 }

@@ -1,8 +1,8 @@
 //! Refusals 17 and 18 with their places. A `^` in a text marks the place and
 //! is no part of it.
 
-use second::answer::Refusal;
-use second::{calls, text};
+use crate::expect::{read, refused};
+use peers::BOTH;
 
 /// A text without its mark, and the mark's place.
 fn unmarked(marked: &str) -> (String, usize) {
@@ -13,8 +13,7 @@ fn unmarked(marked: &str) -> (String, usize) {
 fn assert_refused(number: u8, marked: &[&str]) {
     for marked in marked {
         let (text, place) = unmarked(marked);
-        let read = text::program(text.as_bytes());
-        assert_eq!(read, Err(Refusal::new(number, place)), "{marked:?}");
+        assert_eq!(read(&text), refused(number, place), "{marked:?}");
     }
 }
 
@@ -74,8 +73,8 @@ fn characters_outside_are_refusal_17() {
     ];
     assert_refused(17, &signs);
     for byte in 128..=255 {
-        let read = text::program(&[b'o', b'k', byte]);
-        assert_eq!(read, Err(Refusal::new(17, 2)), "{byte}");
+        let read = (BOTH.read_text)(None, &[b'o', b'k', byte], &[]);
+        assert_eq!(read.result, refused(17, 2), "{byte}");
     }
 }
 
@@ -266,14 +265,14 @@ fn comparisons_do_not_chain() {
 fn words_are_refused_before_grammar_before_program() {
     assert_refused(17, &["ok ok ^_", "^x16 ok ok", "; ok ^00", "tick 0 ok ^_"]);
     assert_refused(18, &["tick 0 ^ok"]);
-    let refused = [
-        ("tick 0", Refusal::new(7, 0)),
-        ("ok; x0 := 1 + 1 @15", Refusal::new(7, 2)),
-        ("x1 := 1 @1 || x2 := x1 @1", Refusal::new(8, 0)),
-        ("repeat tick 0 until 1 @1 end", Refusal::new(7, 2)),
+    let table = [
+        ("tick 0", 7, 0),
+        ("ok; x0 := 1 + 1 @15", 7, 2),
+        ("x1 := 1 @1 || x2 := x1 @1", 8, 0),
+        ("repeat tick 0 until 1 @1 end", 7, 2),
     ];
-    for (text, refusal) in refused {
-        let read = calls::read_text(text.as_bytes(), &mut []);
-        assert_eq!(read, Err(refusal), "{text:?}");
+    for (text, number, place) in table {
+        let read = (BOTH.read_text)(None, text.as_bytes(), &[]);
+        assert_eq!(read.result, refused(number, place), "{text:?}");
     }
 }

@@ -1,6 +1,6 @@
 //! What a call answers.
 
-use crate::word::Words;
+use crate::Words;
 use std::fmt::{Display, Formatter, Result};
 
 /// A refusal: its number in the paper's list, and its place, counted from 0.
@@ -11,7 +11,7 @@ pub struct Refusal {
 }
 
 impl Refusal {
-    pub fn new(number: u8, place: usize) -> Refusal {
+    pub const fn new(number: u8, place: usize) -> Refusal {
         Refusal { number, place }
     }
 }
@@ -23,6 +23,13 @@ impl Display for Refusal {
     }
 }
 
+/// What a netlist's header tells of it.
+#[derive(Clone, Copy, Debug, PartialEq, Eq)]
+pub struct Shape {
+    pub cells: u16,
+    pub finish: u16,
+}
+
 /// The answer of an unrefused beginning, continuing or full run.
 #[derive(Clone, Copy, Debug, PartialEq, Eq)]
 pub struct Answer {
@@ -31,5 +38,12 @@ pub struct Answer {
     pub instant: u32,
     /// The instants that this call evaluated.
     pub count: u32,
+    pub words: Words,
+}
+
+/// The end of a program by its own rules.
+#[derive(Clone, Copy, Debug, PartialEq, Eq)]
+pub struct End {
+    pub instant: u32,
     pub words: Words,
 }

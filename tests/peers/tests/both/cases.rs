@@ -2,18 +2,16 @@
 //! and, from the text, by the circuit.
 //! The two runs that stay open have the full budget of 1,000,000 instants.
 
-use second::answer::{Answer, Refusal};
-use second::calls::{self, Shape};
-use second::rules::Outcome;
-use second::table::BUILT_IN;
-use second::{check, rules, text};
+use crate::expect::{read, refused, start_with, words_with};
+use peers::BOTH;
+use values::{Answer, End, Shape};
 
 const FULL_BUDGET: u32 = 1_000_000;
 
 /// What the paper says of a program run from x0, all other words 0.
 enum Told {
     /// The end, and x0 then.
-    End(u32, u16),
+    Ended(u32, u16),
     Open,
     Refused(u8, usize),
 }
@@ -147,30 +145,36 @@ fn table() -> Vec<Case> {
     let at_once = while_do(constant(1), 0, ok());
     let two_hundred = format!("if 1 @0 then ok else {} end", ok_text(99));
     vec![
-        case("1", "ok", ok(), 0, End(0, 0)),
-        case("2", "x0 := 5 @1", assign(0, constant(5), 1), 0, End(2, 5)),
-        case("3", three, sequence(add(3, 16), add(4, 16)), 0, End(34, 7)),
+        case("1", "ok", ok(), 0, Ended(0, 0)),
+        case("2", "x0 := 5 @1", assign(0, constant(5), 1), 0, Ended(2, 5)),
+        case(
+            "3",
+            three,
+            sequence(add(3, 16), add(4, 16)),
+            0,
+            Ended(34, 7),
+        ),
         case("3, 15", small_text, small, 0, Refused(7, 5)),
         case(
             "4",
             "tick 3 || tick 5",
             parallel(tick(3), tick(5)),
             0,
-            End(5, 0),
+            Ended(5, 0),
         ),
-        case("5", "ok || ok", parallel(ok(), ok()), 0, End(0, 0)),
-        case("6", counting_text, counting, 3, End(58, 0)),
-        case("7 from 3", COUNT_DOWN, repeat_count_down(), 3, End(72, 0)),
+        case("5", "ok || ok", parallel(ok(), ok()), 0, Ended(0, 0)),
+        case("6", counting_text, counting, 3, Ended(58, 0)),
+        case("7 from 3", COUNT_DOWN, repeat_count_down(), 3, Ended(72, 0)),
         case("7 from 0", COUNT_DOWN, repeat_count_down(), 0, Open),
-        case("8 from 0", CHOICE, choice_of_ticks(), 0, End(9, 0)),
+        case("8 from 0", CHOICE, choice_of_ticks(), 0, Ended(9, 0)),
         case(
             "8 from 65535",
             CHOICE,
             choice_of_ticks(),
             65_535,
-            End(1, 65_535),
+            Ended(1, 65_535),
         ),
-        case("9", "x0 := x0 + 1 @16", add(1, 16), 65_535, End(17, 0)),
+        case("9", "x0 := x0 + 1 @16", add(1, 16), 65_535, Ended(17, 0)),
         case("10", "while 1 @1 do ok end", ever, 0, Open),
         case("10, d 0", "while 1 @0 do ok end", at_once, 0, Refused(7, 0)),
         case("11", CLASH, clash, 0, Refused(8, 0)),
@@ -179,7 +183,7 @@ fn table() -> Vec<Case> {
             SIDE_BY_SIDE,
             while_do(variable(0), 1, side),
             2,
-            End(39, 0),
+            Ended(39, 0),
         ),
         case(
             "201 nodes",
@@ -188,7 +192,13 @@ fn table() -> Vec<Case> {
             0,
             Refused(1, 0),
         ),
-        case("200 nodes", &two_hundred, two_hundred_nodes(), 0, End(0, 0)),
+        case(
+            "200 nodes",
+            &two_hundred,
+            two_hundred_nodes(),
+            0,
+            Ended(0, 0),
+        ),
     ]
 }
 
@@ -197,24 +207,13 @@ fn ok_text(leaves: usize) -> String {
     vec!["ok"; leaves].join(";")
 }
 
-fn words(x0: u16) -> Vec<u8> {
-    let mut words = vec![0; 32];
-    words[..2].copy_from_slice(&x0.to_le_bytes());
-    words
-}
-
-/// The sixteen words whose first is x0, all others 0.
-fn words_with(x0: u16) -> [u16; 16] {
-    let mut words = [0; 16];
-    words[0] = x0;
-    words
-}
-
+/// A refused program is refused as text too.
 #[test]
 fn the_texts_are_read_to_the_programs() {
     for case in table() {
-        let read = text::program(case.text.as_bytes());
-        assert_eq!(read, Ok(case.program), "case {}", case.name);
+        let checked = (BOTH.check)(None, &case.program).result;
+        let expected = checked.map(|()| case.program);
+        assert_eq!(read(&case.text), expected, "case {}", case.name);
     }
 }
 
@@ -222,15 +221,16 @@ fn the_texts_are_read_to_the_programs() {
 fn the_rules_keep_the_cases() {
     for case in table() {
         let expected = match case.told {
-            End(instant, x0) => Ok(Outcome::Ended {
+            Ended(instant, x0) => Ok(Some(End {
                 instant,
-                words: words_with(x0),
-            }),
-            Open => Ok(Outcome::Open),
-            Refused(number, place) => Err(Refusal { number, place }),
+                words: words_with([x0]),
+            })),
+            Open => Ok(None),
+            Refused(number, place) => refused(number, place),
         };
-        let found = calls::reference_run(&case.program, &words(case.x0), FULL_BUDGET);
-        assert_eq!(found, expected, "case {}", case.name);
+        let words = start_with([case.x0]);
+        let found = (BOTH.reference_run)(None, &case.program, &words, FULL_BUDGET);
+        assert_eq!(found.result, expected, "case {}", case.name);
     }
 }
 
@@ -238,60 +238,48 @@ fn the_rules_keep_the_cases() {
 fn the_circuit_keeps_the_cases() {
     for case in table() {
         let expected = match case.told {
-            End(instant, x0) => Ok((true, instant, instant + 1, Some(words_with(x0)))),
+            Ended(instant, x0) => Ok((true, instant, instant + 1, Some(words_with([x0])))),
             Open => Ok((false, FULL_BUDGET, FULL_BUDGET + 1, None)),
-            Refused(number, place) => Err(Refusal { number, place }),
+            Refused(number, place) => refused(number, place),
         };
-        let (mut file, mut state) = (vec![0; 6656], vec![0; 50_000]);
-        let (text, words) = (case.text.as_bytes(), words(case.x0));
-        let found = calls::run_text(text, &words, FULL_BUDGET, &mut file, &mut state);
+        let (file, state) = (vec![0; 6656], vec![0; 50_000]);
+        let (text, words) = (case.text.as_bytes(), start_with([case.x0]));
+        let found = (BOTH.run_text)(None, text, &words, FULL_BUDGET, &file, &state);
         // Of the words of an open run the paper tells nothing.
         let shown = |answer: Answer| {
             let words = answer.ended.then_some(answer.words);
             (answer.ended, answer.instant, answer.count, words)
         };
-        assert_eq!(found.map(shown), expected, "case {}", case.name);
+        assert_eq!(found.result.map(shown), expected, "case {}", case.name);
     }
 }
 
 #[test]
 fn no_nodes_are_refusal_1() {
-    assert_eq!(calls::check(&[]), Err(Refusal::new(1, 0)));
+    assert_eq!((BOTH.check)(None, &[]).result, refused(1, 0));
 }
 
 #[test]
 fn case_2_has_23_cells_and_finish_4() {
-    let compiled = calls::compile(&assign(0, constant(5), 1), &mut [0; 512]);
+    let compiled = (BOTH.compile)(None, &assign(0, constant(5), 1), &[0; 512]);
     let expected = Shape {
         cells: 23,
         finish: 4,
     };
-    assert_eq!(compiled, Ok(expected));
-}
-
-#[test]
-fn an_open_run_may_end_later() {
-    // Case 7 from 0 goes round 65,536 times, 24 instants each.
-    let rounds = check::check(&repeat_count_down(), &BUILT_IN).expect("case 7 is accepted");
-    let outcome = rules::run(&rounds, [0; 16], 2_000_000);
-    let expected = Outcome::Ended {
-        instant: 1_572_864,
-        words: [0; 16],
-    };
-    assert_eq!(outcome, expected);
+    assert_eq!(compiled.result, Ok(expected));
 }
 
 #[test]
 fn a_delay_of_0_is_too_small_except_in_an_if() {
-    let refused = [
+    let too_small = [
         tick(0),
         assign(0, constant(0), 0),
         while_do(constant(0), 0, ok()),
         repeat_until(ok(), constant(1), 0),
     ];
-    for program in refused {
-        assert_eq!(calls::check(&program), Err(Refusal::new(7, 0)));
+    for program in too_small {
+        assert_eq!((BOTH.check)(None, &program).result, refused(7, 0));
     }
     let choice = if_then_else(constant(0), 0, ok(), ok());
-    assert_eq!(calls::check(&choice), Ok(()));
+    assert_eq!((BOTH.check)(None, &choice).result, Ok(()));
 }

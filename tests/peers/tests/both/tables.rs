@@ -1,11 +1,9 @@
 //! Tables of operator times: refusals 19 to 21 with their places, refusal 7
 //! under other times, and runs under them.
 
-use second::answer::Refusal;
-use second::calls;
-use second::rules::Outcome;
-use second::table::BUILT_IN;
-use second::text;
+use crate::expect::{refused, words_with};
+use peers::BOTH;
+use values::{End, Refusal};
 
 const LENGTH: usize = 512;
 const CHECK: [usize; 2] = [6, 7];
@@ -21,6 +19,11 @@ const OPERATIONS: [&str; 7] = [
 ];
 
 const OK: [u8; 4] = [16, 0, 0, 0];
+
+/// x0 := (x0 + 1) = x1 @40, so of the times of + and = together at most 40.
+const TIMED: [u8; 24] = [
+    18, 40, 0, 0, 8, 0, 0, 0, 4, 0, 0, 0, 2, 0, 0, 0, 1, 0, 1, 0, 2, 0, 1, 0,
+];
 
 /// The table of nine times, with the check that makes its words sum to 0.
 fn table(times: [u8; 9]) -> Vec<u8> {
@@ -59,26 +62,39 @@ fn is_good(place: usize, byte: u8) -> bool {
     }
 }
 
+/// What a good table replies to the check of the program above.
+fn timed(table: &[u8]) -> Result<(), Refusal> {
+    let time = u32::from(table[11]) + u32::from(table[15]);
+    if time > 40 {
+        return refused(7, 0);
+    }
+    Ok(())
+}
+
+/// The check under a table of a program that every good table accepts; the
+/// same refusal meets the one that not all accept.
 fn loaded(table: &[u8]) -> Result<(), Refusal> {
-    calls::check_timed(table, &OK)
+    let [loaded, checked] = [&OK[..], &TIMED].map(|program| check(table, program));
+    assert_eq!(checked, loaded.and_then(|()| timed(table)));
+    loaded
 }
 
-fn refused<T>(number: u8, place: usize) -> Result<T, Refusal> {
-    Err(Refusal::new(number, place))
+fn check(table: &[u8], program: &[u8]) -> Result<(), Refusal> {
+    (BOTH.check)(Some(table), program).result
 }
 
+/// The bytes of a text's program, which need not be accepted.
 fn program(text: &str) -> Vec<u8> {
-    text::program(text.as_bytes()).unwrap_or_else(|refusal| panic!("{text}: {refusal}"))
+    second::text::program(text.as_bytes()).unwrap_or_else(|refusal| panic!("{text}: {refusal}"))
 }
 
 /// The check of a text's program under these times.
 fn checked(times: [u8; 9], text: &str) -> Result<(), Refusal> {
-    calls::check_timed(&table(times), &program(text))
+    check(&table(times), &program(text))
 }
 
 #[test]
 fn the_built_in_times_are_a_table() {
-    assert_eq!(BUILT_IN.file()[..], table(USUAL));
     for times in [USUAL, LEAST, MOST] {
         assert_eq!(loaded(&table(times)), Ok(()), "{times:?}");
     }
@@ -86,8 +102,8 @@ fn the_built_in_times_are_a_table() {
 
 #[test]
 fn another_length_is_19() {
-    let long = [table(USUAL), table(USUAL)].concat();
-    for length in [0, 1, 8, 17, 510, 511, 513, 514, 1024] {
+    let long = table(USUAL).repeat(3);
+    for length in (0..=long.len()).filter(|&length| length != LENGTH) {
         assert_eq!(loaded(&long[..length]), refused(19, 0), "{length}");
     }
 }
@@ -119,7 +135,10 @@ fn a_wrong_byte_with_a_right_check_is_21_at_its_place() {
 
 #[test]
 fn of_two_wrong_bytes_the_first_counts() {
-    let places = [0, 1, 2, 3, 4, 5, 8, 9, 10, 16, 17, 255, 256, 510, 511];
+    let places: Vec<usize> = (0..20)
+        .chain([255, 256, 510, 511])
+        .filter(|place| !CHECK.contains(place))
+        .collect();
     for (index, &first) in places.iter().enumerate() {
         for &second in &places[index + 1..] {
             let table = mended(changed(&[(first, 255), (second, 255)]));
@@ -136,15 +155,18 @@ fn wrong_bytes_that_leave_the_sum_right_are_21() {
 
 /// All calls under a table, with a budget and buffers that are refused last.
 fn all_calls(table: &[u8], program: &[u8], text: &[u8]) -> [Result<(), Refusal>; 7] {
-    let (words, budget) = (&[][..], 1_000_001);
+    let (table, words, budget) = (Some(table), &[], 1_000_001);
+    let run_program = (BOTH.run_program)(table, program, words, budget, &[], &[]);
+    let reference_run = (BOTH.reference_run)(table, program, words, budget);
+    let run_text = (BOTH.run_text)(table, text, words, budget, &[], &[]);
     [
-        calls::check_timed(table, program),
-        calls::compile_timed(table, program, &mut []).map(drop),
-        calls::run_program_timed(table, program, words, budget, &mut [], &mut []).map(drop),
-        calls::reference_run_timed(table, program, words, budget).map(drop),
-        calls::read_text_timed(table, text, &mut []).map(drop),
-        calls::compile_text_timed(table, text, &mut []).map(drop),
-        calls::run_text_timed(table, text, words, budget, &mut [], &mut []).map(drop),
+        (BOTH.check)(table, program).result,
+        (BOTH.compile)(table, program, &[]).result.map(drop),
+        run_program.result.map(drop),
+        reference_run.result.map(drop),
+        (BOTH.read_text)(table, text, &[]).result.map(drop),
+        (BOTH.compile_text)(table, text, &[]).result.map(drop),
+        run_text.result.map(drop),
     ]
 }
 
@@ -261,36 +283,25 @@ fn a_kind_needs_its_delay_under_every_table() {
 
 /// The end of a text under these times, on which rules and circuit agree, as
 /// do the text and its program.
-fn end(times: [u8; 9], text: &str) -> Result<Outcome, Refusal> {
+fn end(times: [u8; 9], text: &str) -> Result<Option<End>, Refusal> {
     let (table, program, words) = (table(times), program(text), [0; 32]);
-    let (mut file, mut state) = (vec![0; 2_000], vec![0; 5_000]);
-    let by_text = calls::run_text_timed(
-        &table,
-        text.as_bytes(),
-        &words,
-        1_000,
-        &mut file,
-        &mut state,
-    );
-    let by_program =
-        calls::run_program_timed(&table, &program, &words, 1_000, &mut file, &mut state);
-    assert_eq!(by_text, by_program, "{text}");
-    let by_circuit = by_program.map(|answer| match answer.ended {
-        true => Outcome::Ended {
-            instant: answer.instant,
-            words: answer.words,
-        },
-        false => Outcome::Open,
+    let (table, text) = (Some(&table[..]), text.as_bytes());
+    let (file, state) = (vec![0; 2_000], vec![0; 5_000]);
+    let by_text = (BOTH.run_text)(table, text, &words, 1_000, &file, &state);
+    let by_program = (BOTH.run_program)(table, &program, &words, 1_000, &file, &state);
+    assert_eq!(by_text, by_program);
+    let by_circuit = by_program.result.map(|answer| {
+        let (instant, words) = (answer.instant, answer.words);
+        answer.ended.then_some(End { instant, words })
     });
-    let by_rules = calls::reference_run_timed(&table, &program, &words, 1_000);
-    assert_eq!(by_circuit, by_rules, "{text}");
-    by_rules
+    let by_rules = (BOTH.reference_run)(table, &program, &words, 1_000);
+    assert_eq!(by_circuit, by_rules.result);
+    by_circuit
 }
 
-fn ended(instant: u32, x0: u16) -> Result<Outcome, Refusal> {
-    let mut words = [0; 16];
-    words[0] = x0;
-    Ok(Outcome::Ended { instant, words })
+fn ended(instant: u32, x0: u16) -> Result<Option<End>, Refusal> {
+    let words = words_with([x0]);
+    Ok(Some(End { instant, words }))
 }
 
 #[test]
@@ -309,10 +320,9 @@ fn programs_run_by_their_delays_under_every_table_that_takes_them() {
 fn a_table_changes_no_byte_of_a_netlist() {
     let text = b"x0 := x0 + 3 @200; if x0 < 4 @255 then ok else x0 := !x0 @201 end";
     let compiled = |times| {
-        let mut file = [7; 1_024];
-        let shape = calls::compile_text_timed(&table(times), text, &mut file);
-        assert!(shape.is_ok(), "{times:?}: {shape:?}");
-        file
+        let compiled = (BOTH.compile_text)(Some(&table(times)), text, &[7; 1_024]);
+        assert!(compiled.result.is_ok(), "{times:?}");
+        compiled
     };
     assert_eq!(compiled(MOST), compiled(LEAST));
 }
@@ -326,8 +336,9 @@ fn without_a_table_the_built_in_serves() {
         "x0 := x0 < 1 @16",
     ] {
         let program = program(text);
-        assert_eq!(calls::check(&program), checked(USUAL, text), "{text}");
-        let rules = calls::reference_run(&program, &[0; 32], 1_000);
-        assert_eq!(rules, end(USUAL, text), "{text}");
+        let without = (BOTH.check)(None, &program).result;
+        assert_eq!(without, checked(USUAL, text), "{text}");
+        let without = (BOTH.reference_run)(None, &program, &[0; 32], 1_000).result;
+        assert_eq!(without, end(USUAL, text), "{text}");
     }
 }

@@ -2,11 +2,10 @@
 //! places, bytes, answers and text, exactly. The layout of each folder is in
 //! its README.
 
-use peers::{Answer, Cell, Peer, Refused, Reply, Shape, PROVED, SECOND};
+use peers::{Reply, BOTH};
 use std::fs;
 use std::path::{Path, PathBuf};
-
-const PEERS: [Peer; 2] = [PROVED, SECOND];
+use values::{Answer, Cell, Refusal, Shape};
 
 /// Longer than any result, and filled so that a stray write shows.
 static LENT: [u8; 50_000] = [0xa5; 50_000];
@@ -35,9 +34,9 @@ impl Vector {
     }
 }
 
-/// Each implementation on each vector of a folder, one for each file with
-/// this extension; the name says which, for a failure.
-fn for_each(folder: &str, extension: &str, test: impl Fn(&Peer, &Vector, &str)) {
+/// Each vector of a folder, one for each file with this extension; the name
+/// says which, for a failure.
+fn for_each(folder: &str, extension: &str, test: impl Fn(&Vector, &str)) {
     let root = Path::new(env!("CARGO_MANIFEST_DIR"))
         .join("../vectors")
         .join(folder);
@@ -47,36 +46,30 @@ fn for_each(folder: &str, extension: &str, test: impl Fn(&Peer, &Vector, &str)) 
         let path = entry.expect("a readable folder").path();
         if path.extension().is_some_and(|found| found == extension) {
             let stem = path.with_extension("");
-            for peer in &PEERS {
-                let name = format!("{} on {}", peer.name, stem.display());
-                test(peer, &Vector { stem: stem.clone() }, &name);
-            }
+            let name = stem.display().to_string();
+            test(&Vector { stem }, &name);
             seen += 1;
         }
     }
     assert!(seen > 0, "no vectors in {folder}");
 }
 
-fn shape_text(result: Result<Shape, Refused>) -> String {
+fn shape_text(result: Result<Shape, Refusal>) -> String {
     match result {
         Ok(shape) => format!("ok {} {}", shape.cells, shape.finish),
-        Err(refused) => refused_text(refused),
+        Err(refusal) => refusal.to_string(),
     }
 }
 
-fn answer_text(result: Result<Answer, Refused>) -> String {
+fn answer_text(result: Result<Answer, Refusal>) -> String {
     match result {
         Ok(answer) => {
             let outcome = if answer.ended { "ended" } else { "open" };
             let words = answer.words.map(|word| word.to_string()).join(" ");
             format!("{outcome} {} {} {words}", answer.instant, answer.count)
         }
-        Err(refused) => refused_text(refused),
+        Err(refusal) => refusal.to_string(),
     }
-}
-
-fn refused_text(Refused { number, place }: Refused) -> String {
-    format!("refused {number} {place}")
 }
 
 /// Asserts that the lent buffer begins with `result` and is otherwise as lent.
@@ -91,10 +84,10 @@ fn assert_result<T>(reply: &Reply<T>, result: &[u8], name: &str) {
 
 #[test]
 fn programs_are_accepted_or_refused_as_told() {
-    for_each("program", "prog", |peer, vector, name| {
+    for_each("program", "prog", |vector, name| {
         let program = vector.bytes("prog");
-        let compiled = (peer.compile)(None, &program, &LENT);
-        let checked = (peer.check)(None, &program);
+        let compiled = (BOTH.compile)(None, &program, &LENT);
+        let checked = (BOTH.check)(None, &program);
         assert_eq!(checked.result, compiled.result.map(drop), "{name}");
         assert_eq!(shape_text(compiled.result), vector.text("expect"), "{name}");
         if compiled.result.is_err() {
@@ -106,8 +99,8 @@ fn programs_are_accepted_or_refused_as_told() {
 #[test]
 fn compiling_gives_the_published_bytes() {
     for folder in ["compile", "speed"] {
-        for_each(folder, "prog", |peer, vector, name| {
-            let compiled = (peer.compile)(None, &vector.bytes("prog"), &LENT);
+        for_each(folder, "prog", |vector, name| {
+            let compiled = (BOTH.compile)(None, &vector.bytes("prog"), &LENT);
             assert!(compiled.result.is_ok(), "{name}");
             assert_result(&compiled, &vector.bytes("net"), name);
         });
@@ -116,21 +109,21 @@ fn compiling_gives_the_published_bytes() {
 
 #[test]
 fn netlists_are_accepted_or_refused_as_told() {
-    for_each("netlist", "net", |peer, vector, name| {
+    for_each("netlist", "net", |vector, name| {
         let file = vector.bytes("net");
-        let read = (peer.read_netlist)(&file, &LENT);
+        let read = (BOTH.read_netlist)(&file, &LENT);
         assert_eq!(shape_text(read.result), vector.text("expect"), "{name}");
         match read.result {
-            Ok(shape) => assert_writing_restores(peer, &file, shape, &read.lent[0], name),
+            Ok(shape) => assert_writing_restores(&file, shape, &read.lent[0], name),
             Err(_) => assert_result(&read, &[], name),
         }
     });
 }
 
 /// An accepted file is the one that writing its cells gives.
-fn assert_writing_restores(peer: &Peer, file: &[u8], shape: Shape, cells: &[u8], name: &str) {
-    let cells = &cells[..6 * shape.cells as usize];
-    let written = (peer.write_netlist)(cells, shape.finish as u16, &LENT);
+fn assert_writing_restores(file: &[u8], shape: Shape, cells: &[u8], name: &str) {
+    let cells = &cells[..6 * usize::from(shape.cells)];
+    let written = (BOTH.write_netlist)(cells, shape.finish, &LENT);
     assert_eq!(written.result, Ok(shape), "{name}");
     assert_result(&written, file, name);
 }
@@ -138,29 +131,29 @@ fn assert_writing_restores(peer: &Peer, file: &[u8], shape: Shape, cells: &[u8],
 #[test]
 fn netlists_are_read_as_cells_and_written_back() {
     for folder in WITH_NETLISTS {
-        for_each(folder, "net", |peer, vector, name| {
+        for_each(folder, "net", |vector, name| {
             let file = vector.bytes("net");
-            let read = (peer.read_cells)(&file, 0, &LENT_CELLS);
-            let by_bytes = (peer.read_netlist)(&file, &LENT);
+            let read = (BOTH.read_cells)(&file, 0, &LENT_CELLS);
+            let by_bytes = (BOTH.read_netlist)(&file, &LENT);
             assert_eq!(read.result, by_bytes.result, "{name}");
-            let count = read.result.map_or(0, |shape| shape.cells as usize);
+            let count = read.result.map_or(0, |shape| usize::from(shape.cells));
             let (cells, past) = read.lent[0].split_at(count);
             let bytes = &by_bytes.lent[0][..6 * count];
             assert!(Cell::all_bytes(cells) == bytes, "{name}: other cells");
             let kept = &LENT_CELLS[count..];
             assert!(past == kept, "{name}: cells past the result");
             if let Ok(shape) = read.result {
-                assert_cells_restore(peer, &file, shape, cells, name);
+                assert_cells_restore(&file, shape, cells, name);
             }
         });
     }
 }
 
 /// An accepted file's cells pass the check and are written as that file.
-fn assert_cells_restore(peer: &Peer, file: &[u8], shape: Shape, cells: &[Cell], name: &str) {
-    let finish = shape.finish as u16;
-    assert_eq!((peer.check_cells)(cells, finish).result, Ok(()), "{name}");
-    let written = (peer.write_cells)(cells, finish, &LENT);
+fn assert_cells_restore(file: &[u8], shape: Shape, cells: &[Cell], name: &str) {
+    let finish = shape.finish;
+    assert_eq!((BOTH.check_cells)(cells, finish).result, Ok(()), "{name}");
+    let written = (BOTH.write_cells)(cells, finish, &LENT);
     assert_eq!(written.result, Ok(shape), "{name}");
     assert_result(&written, file, name);
 }
@@ -168,14 +161,15 @@ fn assert_cells_restore(peer: &Peer, file: &[u8], shape: Shape, cells: &[Cell], 
 /// A file that is refused for its cells has them refused without a file too.
 #[test]
 fn cells_that_break_a_rule_are_refused_as_in_their_file() {
-    for_each("netlist", "net", |peer, vector, name| {
+    for_each("netlist", "net", |vector, name| {
         let told = vector.text("expect");
         if told.starts_with("refused 12 ") {
             let (cells, finish) = cells_in(&vector.bytes("net"));
-            let checked = (peer.check_cells)(&cells, finish);
-            assert_eq!(checked.result.map_err(refused_text), Err(told), "{name}");
-            let written = (peer.write_cells)(&cells, finish, &LENT);
-            assert_eq!(written.result.err(), checked.result.err(), "{name}");
+            let refusal = (BOTH.check_cells)(&cells, finish).result.err();
+            let shown = refusal.map(|refusal| refusal.to_string());
+            assert_eq!(shown, Some(told), "{name}");
+            let written = (BOTH.write_cells)(&cells, finish, &LENT);
+            assert_eq!(written.result.err(), refusal, "{name}");
             assert_result(&written, &[], name);
         }
     });
@@ -183,17 +177,16 @@ fn cells_that_break_a_rule_are_refused_as_in_their_file() {
 
 /// The cells and the finish in a file whose headers are right.
 fn cells_in(file: &[u8]) -> (Vec<Cell>, u16) {
-    let number = |bytes: &[u8], at: usize| u16::from_le_bytes([bytes[at], bytes[at + 1]]);
-    let cell = |bytes: &[u8]| Cell::new(bytes[0], bytes[1], number(bytes, 2), number(bytes, 4));
+    let number = |at: usize| u16::from_le_bytes([file[at], file[at + 1]]);
     let blocks = file.chunks_exact(512);
-    let cells = blocks.flat_map(|block| block[8..].chunks_exact(6).map(cell));
-    let count = usize::from(number(file, 2));
-    (cells.take(count).collect(), number(file, 4))
+    let cells = blocks.flat_map(|block| Cell::all_of(&block[8..]));
+    let count = usize::from(number(2));
+    (cells.take(count).collect(), number(4))
 }
 
 #[test]
 fn calls_answer_and_leave_the_states_told() {
-    for_each("calls", "script", |peer, vector, name| {
+    for_each("calls", "script", |vector, name| {
         let (netlist, words) = (vector.bytes("net"), vector.bytes("words"));
         let (script, states) = (vector.text("script"), vector.bytes("states"));
         let length = states.len() / script.lines().count();
@@ -201,8 +194,8 @@ fn calls_answer_and_leave_the_states_told() {
         for (line, expected) in script.lines().zip(states.chunks_exact(length)) {
             let (call, answer) = line.split_once(" -> ").expect("a call and an answer");
             let reply = match call.strip_prefix("cont ") {
-                Some(n) => (peer.continue_by)(&netlist, n.parse().expect("a number"), &state),
-                None => (peer.begin)(&netlist, &words, &state),
+                Some(n) => (BOTH.continue_by)(&netlist, n.parse().expect("a number"), &state),
+                None => (BOTH.begin)(&netlist, &words, &state),
             };
             let name = format!("{name}: {call}");
             assert_eq!(answer_text(reply.result), answer, "{name}");
@@ -214,9 +207,9 @@ fn calls_answer_and_leave_the_states_told() {
 
 #[test]
 fn states_of_any_origin_are_continued_or_refused_as_told() {
-    for_each("state", "before", |peer, vector, name| {
+    for_each("state", "before", |vector, name| {
         let n = vector.text("n").parse().expect("a number");
-        let reply = (peer.continue_by)(&vector.bytes("net"), n, &vector.bytes("before"));
+        let reply = (BOTH.continue_by)(&vector.bytes("net"), n, &vector.bytes("before"));
         assert_eq!(answer_text(reply.result), vector.text("expect"), "{name}");
         assert!(
             reply.lent[0] == vector.bytes("after"),
@@ -227,8 +220,8 @@ fn states_of_any_origin_are_continued_or_refused_as_told() {
 
 #[test]
 fn hubrun_prints_the_text_told() {
-    for_each("hubrun", "in", |peer, vector, name| {
-        let text = (peer.hubrun_text)(&vector.bytes("in"));
+    for_each("hubrun", "in", |vector, name| {
+        let text = (BOTH.hubrun_text)(&vector.bytes("in"));
         assert_eq!(text, vector.bytes("out"), "{name}");
     });
 }

@@ -1,12 +1,10 @@
 //! Netlists as cells: where reading puts them and what it moves, each refusal
 //! of the three calls but for 12, which has tests of its own, and renumbering.
 
-mod every_kind;
-
-use every_kind::{cells, file, FINISH};
-use peers::{Cell, Peer, Refused, Shape, PROVED, SECOND};
-
-const PEERS: [Peer; 2] = [SECOND, PROVED];
+use crate::expect::refused;
+use crate::netlist::{every_kind, file, FINISH};
+use peers::BOTH;
+use values::{Cell, Shape};
 
 /// A lent cell; no result has such a one.
 const LENT: Cell = Cell::new(0xa5, 0xa5, 0xa5a5, 0xa5a5);
@@ -62,13 +60,9 @@ const MOVED: [[(u16, u16); 4]; 35] = [
 /// The memory of a variable that is never assigned.
 const IDLE: [(u16, u16); 4] = [(1, 2), (2, 3), (8, 9), (65_531, 65_532)];
 
-fn refused<T>(number: u32, place: u32) -> Result<T, Refused> {
-    Err(Refused { number, place })
-}
-
 /// So many cells that keep the rules: the netlist, and constants after it.
 fn cells_up_to(count: usize) -> Vec<Cell> {
-    let mut cells = cells();
+    let mut cells = every_kind();
     cells.resize(count, Cell::new(1, 0, 9, 0));
     cells
 }
@@ -79,49 +73,41 @@ fn moved(column: usize) -> Vec<Cell> {
         let (a, b) = inputs[column];
         Cell { a, b, ..cell }
     };
-    cells().into_iter().zip(&MOVED).map(cell).collect()
+    every_kind().into_iter().zip(&MOVED).map(cell).collect()
 }
 
 /// Checking and writing these cells is refused so, and writes nothing.
-fn assert_cells_refused(cells: &[Cell], finish: u16, number: u32, place: u32) {
-    for peer in PEERS {
-        let name = format!("{} on {} cells, {finish}", peer.name, cells.len());
-        let checked = (peer.check_cells)(cells, finish);
-        assert_eq!(checked.result, refused(number, place), "{name}");
-        let written = (peer.write_cells)(cells, finish, &LENT_FILE);
-        assert_eq!(written.result, refused(number, place), "{name}");
-        assert!(written.lent == [LENT_FILE], "{name}: lent bytes changed");
-    }
+fn assert_cells_refused(cells: &[Cell], finish: u16, number: u8, place: usize) {
+    let name = format!("{} cells, {finish}", cells.len());
+    let checked = (BOTH.check_cells)(cells, finish);
+    assert_eq!(checked.result, refused(number, place), "{name}");
+    let written = (BOTH.write_cells)(cells, finish, &LENT_FILE);
+    assert_eq!(written.result, refused(number, place), "{name}");
+    assert!(written.lent == [LENT_FILE], "{name}: lent bytes changed");
 }
 
 /// Reading this file behind so many of the lent cells is refused so, and
 /// changes none of them.
-fn assert_file_refused(file: &[u8], at: usize, room: usize, number: u32, place: u32) {
+fn assert_file_refused(file: &[u8], at: usize, room: usize, number: u8, place: usize) {
     let lent = vec![LENT; room];
-    for peer in PEERS {
-        let name = format!("{} behind {at} of {room}", peer.name);
-        let read = (peer.read_cells)(file, at, &lent);
-        assert_eq!(read.result, refused(number, place), "{name}");
-        assert!(read.lent[0] == lent, "{name}: lent cells changed");
-    }
+    let read = (BOTH.read_cells)(file, at, &lent);
+    assert_eq!(read.result, refused(number, place), "behind {at} of {room}");
+    assert!(read.lent[0] == lent, "behind {at} of {room}");
 }
 
 #[test]
 fn reading_moves_what_names_a_cell_and_nothing_else() {
-    let file = file(&cells(), FINISH);
+    let file = file(&every_kind(), FINISH);
     let places = [0, 1, 7, 65_530, 65_536, 65_537];
     for (at, column) in places.into_iter().zip([0, 1, 2, 3, 0, 1]) {
         let lent = vec![LENT; at + 35 + 3];
         let mut expected = lent.clone();
         expected[at..at + 35].copy_from_slice(&moved(column));
-        for peer in PEERS {
-            let name = format!("{} behind {at}", peer.name);
-            let read = (peer.read_cells)(&file, at, &lent);
-            assert_eq!(read.result, Ok(SHAPE), "{name}");
-            let other = (0..lent.len()).find(|&number| read.lent[0][number] != expected[number]);
-            let shown = other.map(|number| (number, read.lent[0][number], expected[number]));
-            assert_eq!(shown, None, "{name}");
-        }
+        let read = (BOTH.read_cells)(&file, at, &lent);
+        assert_eq!(read.result, Ok(SHAPE), "behind {at}");
+        let other = (0..lent.len()).find(|&number| read.lent[0][number] != expected[number]);
+        let shown = other.map(|number| (number, read.lent[0][number], expected[number]));
+        assert_eq!(shown, None, "behind {at}");
     }
 }
 
@@ -129,14 +115,12 @@ fn reading_moves_what_names_a_cell_and_nothing_else() {
 fn reading_in_front_gives_the_cells_of_the_six_bytes() {
     for count in [35, 84, 85, 1_024] {
         let file = file(&cells_up_to(count), FINISH);
-        for peer in PEERS {
-            let name = format!("{} on {count} cells", peer.name);
-            let by_bytes = (peer.read_netlist)(&file, &vec![0; 6 * count]);
-            let read = (peer.read_cells)(&file, 0, &vec![LENT; count]);
-            assert_eq!(read.result, by_bytes.result, "{name}");
-            assert!(read.lent[0] == cells_up_to(count), "{name}");
-            assert!(Cell::all_bytes(&read.lent[0]) == by_bytes.lent[0], "{name}");
-        }
+        let by_bytes = (BOTH.read_netlist)(&file, &vec![0; 6 * count]);
+        let read = (BOTH.read_cells)(&file, 0, &vec![LENT; count]);
+        assert_eq!(read.result, by_bytes.result, "{count} cells");
+        assert!(read.lent[0] == cells_up_to(count), "{count} cells");
+        let bytes = Cell::all_bytes(&read.lent[0]);
+        assert!(bytes == by_bytes.lent[0], "{count} cells");
     }
 }
 
@@ -147,15 +131,12 @@ fn writing_gives_the_file_and_keeps_what_is_past_it() {
         let mut expected = LENT_FILE;
         let file = file(&cells, FINISH);
         expected[..file.len()].copy_from_slice(&file);
-        for peer in PEERS {
-            let name = format!("{} on {count} cells", peer.name);
-            let checked = (peer.check_cells)(&cells, FINISH);
-            assert_eq!(checked.result, Ok(()), "{name}");
-            let written = (peer.write_cells)(&cells, FINISH, &LENT_FILE);
-            assert!(written.lent == [expected], "{name}: other bytes");
-            let by_bytes = (peer.write_netlist)(&Cell::all_bytes(&cells), FINISH, &LENT_FILE);
-            assert!(written == by_bytes, "{name}: not as its bytes");
-        }
+        let checked = (BOTH.check_cells)(&cells, FINISH);
+        assert_eq!(checked.result, Ok(()), "{count} cells");
+        let written = (BOTH.write_cells)(&cells, FINISH, &LENT_FILE);
+        assert!(written.lent == [expected], "{count} cells: other bytes");
+        let by_bytes = (BOTH.write_netlist)(&Cell::all_bytes(&cells), FINISH, &LENT_FILE);
+        assert!(written == by_bytes, "{count} cells: not as its bytes");
     }
 }
 
@@ -173,7 +154,7 @@ fn a_count_outside_19_to_1024_is_11() {
 #[test]
 fn a_finish_not_below_the_count_is_11() {
     for finish in [35, 36, 1_024, 65_535] {
-        assert_cells_refused(&cells(), finish, 11, 0);
+        assert_cells_refused(&every_kind(), finish, 11, 0);
     }
     assert_cells_refused(&[LENT; 35], 35, 11, 0);
     assert_cells_refused(&cells_up_to(1_024), 1_024, 11, 0);
@@ -183,32 +164,27 @@ fn a_finish_not_below_the_count_is_11() {
 fn a_file_one_byte_short_is_14() {
     for (count, length) in [(35, 512), (84, 512), (85, 1_024), (1_024, 6_656)] {
         let cells = cells_up_to(count);
-        for peer in PEERS {
-            let name = format!("{} on {count} cells", peer.name);
-            let short = &LENT_FILE[..length - 1];
-            let written = (peer.write_cells)(&cells, FINISH, short);
-            assert_eq!(written.result, refused(14, 0), "{name}");
-            assert!(written.lent == [short], "{name}: lent bytes changed");
-            let exact = (peer.write_cells)(&cells, FINISH, &LENT_FILE[..length]);
-            assert!(exact.result.is_ok(), "{name}");
-        }
+        let short = &LENT_FILE[..length - 1];
+        let written = (BOTH.write_cells)(&cells, FINISH, short);
+        assert_eq!(written.result, refused(14, 0), "{count} cells");
+        assert!(written.lent == [short], "{count} cells: bytes changed");
+        let exact = (BOTH.write_cells)(&cells, FINISH, &LENT_FILE[..length]);
+        assert!(exact.result.is_ok(), "{count} cells");
     }
 }
 
 #[test]
 fn twelve_comes_before_fourteen() {
-    let mut cells = cells();
+    let mut cells = every_kind();
     cells[32] = LENT;
-    for peer in PEERS {
-        let written = (peer.write_cells)(&cells, FINISH, &[]);
-        assert_eq!(written.result, refused(12, 32), "{}", peer.name);
-    }
+    let written = (BOTH.write_cells)(&cells, FINISH, &[]);
+    assert_eq!(written.result, refused(12, 32));
     assert_file_refused(&file(&cells, FINISH), usize::MAX, 3, 12, 32);
 }
 
 #[test]
 fn a_list_without_room_behind_the_place_is_14() {
-    let file = file(&cells(), FINISH);
+    let file = file(&every_kind(), FINISH);
     for (at, room) in [
         (0, 0),
         (0, 34),
@@ -225,16 +201,14 @@ fn a_list_without_room_behind_the_place_is_14() {
         assert_file_refused(&file, at, room, 14, 0);
     }
     for (at, room) in [(0, 35), (1, 36), (65_530, 65_565)] {
-        for peer in PEERS {
-            let read = (peer.read_cells)(&file, at, &vec![LENT; room]);
-            assert_eq!(read.result, Ok(SHAPE), "{} behind {at}", peer.name);
-        }
+        let read = (BOTH.read_cells)(&file, at, &vec![LENT; room]);
+        assert_eq!(read.result, Ok(SHAPE), "behind {at}");
     }
 }
 
 #[test]
 fn a_file_of_a_wrong_length_is_9() {
-    let file = file(&cells(), FINISH);
+    let file = file(&every_kind(), FINISH);
     for length in [0, 1, 511] {
         assert_file_refused(&file[..length], 1, 50, 9, 0);
     }
@@ -255,7 +229,7 @@ fn a_wrong_check_is_10() {
 fn a_wrong_header_or_unused_byte_is_11() {
     assert_file_refused(&file(&cells_up_to(18), 0), 1, 50, 11, 0);
     assert_file_refused(&file(&cells_up_to(1_025), 0), 1, 2_000, 11, 0);
-    assert_file_refused(&file(&cells(), 35), 1, 50, 11, 0);
+    assert_file_refused(&file(&every_kind(), 35), 1, 50, 11, 0);
     // Two words more, which leave the sum: both in unused places of block 1.
     let mut unused = file(&cells_up_to(100), FINISH);
     unused[1_020..].copy_from_slice(&[1, 0, 255, 255]);
@@ -264,7 +238,7 @@ fn a_wrong_header_or_unused_byte_is_11() {
 
 #[test]
 fn a_broken_rule_is_12() {
-    let mut cells = cells();
+    let mut cells = every_kind();
     cells[32].delay = 1;
     assert_cells_refused(&cells, FINISH, 12, 32);
     assert_file_refused(&file(&cells, FINISH), 1, 50, 12, 32);
@@ -273,19 +247,17 @@ fn a_broken_rule_is_12() {
 /// Renumbering the six bytes of the netlist gives those of the moved cells.
 #[test]
 fn six_bytes_are_renumbered_as_cells_are() {
-    let before = Cell::all_bytes(&cells());
+    let before = Cell::all_bytes(&every_kind());
     for (by, column) in [(0, 0), (1, 1), (7, 2), (65_530, 3)] {
         let moved = Cell::all_bytes(&moved(column));
         for (from, end) in [(0, 35), (20, 35), (3, 29), (34, 35), (35, 35), (9, 4)] {
             let mut expected = before.clone();
             let run = 6 * from.min(end)..6 * end;
             expected[run.clone()].copy_from_slice(&moved[run]);
-            for peer in PEERS {
-                let name = format!("{} from {from} to {end} by {by}", peer.name);
-                let reply = (peer.renumber)(from, end, by, &before);
-                assert_eq!(reply.result, Ok(true), "{name}");
-                assert!(reply.lent == [&expected[..]], "{name}: other bytes");
-            }
+            let name = format!("from {from} to {end} by {by}");
+            let reply = (BOTH.renumber)(from, end, by, &before);
+            assert_eq!(reply.result, Ok(true), "{name}");
+            assert!(reply.lent == [&expected[..]], "{name}: other bytes");
         }
     }
 }
@@ -299,11 +271,9 @@ fn a_run_past_the_list_is_not_renumbered() {
             .checked_mul(6)
             .map_or(list.len(), |all| all.min(list.len()) - missing);
         let done = end <= 1_024 && missing == 0;
-        for peer in PEERS {
-            let name = format!("{} to {end} of {length} bytes", peer.name);
-            let reply = (peer.renumber)(0, end, 9, &list[..length]);
-            assert_eq!(reply.result, Ok(done), "{name}");
-            assert_eq!(reply.lent[0] != list[..length], done, "{name}");
-        }
+        let reply = (BOTH.renumber)(0, end, 9, &list[..length]);
+        assert_eq!(reply.result, Ok(done), "to {end} of {length} bytes");
+        let changed = reply.lent[0] != list[..length];
+        assert_eq!(changed, done, "to {end} of {length} bytes");
     }
 }

@@ -2,12 +2,10 @@
 //! Each is met by the check, by writing and by reading, at the same place as by
 //! the calls on six bytes for each cell.
 
-mod every_kind;
-
-use every_kind::{cells, file, FINISH};
-use peers::{Cell, Peer, Refused, PROVED, SECOND};
-
-const PEERS: [Peer; 2] = [SECOND, PROVED];
+use crate::expect::refused;
+use crate::netlist::{every_kind, file, FINISH};
+use peers::BOTH;
+use values::Cell;
 
 /// The number of cells, so the place of a wrong number of memories.
 const COUNT: usize = 35;
@@ -29,40 +27,32 @@ const NO_WORD: [u16; 6] = [0, CONTROL, ITSELF, HIGHER_WORD, NONE, 65_535];
 const NO_CONTROL: [u16; 6] = [2, WORD, ITSELF, HIGHER_CONTROL, NONE, 65_535];
 
 fn with(number: usize, cell: Cell) -> Vec<Cell> {
-    let mut cells = cells();
+    let mut cells = every_kind();
     cells[number] = cell;
     cells
 }
 
 fn assert_good(cells: &[Cell]) {
-    for peer in PEERS {
-        let checked = (peer.check_cells)(cells, FINISH);
-        assert_eq!(checked.result, Ok(()), "{}, {:?}", peer.name, cells[PUT]);
-    }
+    let checked = (BOTH.check_cells)(cells, FINISH);
+    assert_eq!(checked.result, Ok(()), "{:?}", cells[PUT]);
 }
 
 /// All calls refuse these cells with 12 at this place and write nothing.
 fn assert_refused(cells: &[Cell], finish: u16, place: usize) {
-    let refused = Refused {
-        number: 12,
-        place: place as u32,
-    };
     let (lent_file, lent) = ([0xa5; 600], [Cell::new(0xa5, 1, 2, 3); 50]);
     let (bytes, file) = (Cell::all_bytes(cells), file(cells, finish));
-    for peer in PEERS {
-        let name = format!("{} at {place}: {:?}", peer.name, cells.get(place));
-        let checked = (peer.check_cells)(cells, finish);
-        assert_eq!(checked.result, Err(refused), "{name}");
-        let written = (peer.write_cells)(cells, finish, &lent_file);
-        assert_eq!(written.result, Err(refused), "{name}");
-        assert_eq!(written.lent, [lent_file], "{name}");
-        let by_bytes = (peer.write_netlist)(&bytes, finish, &lent_file);
-        assert_eq!(written, by_bytes, "{name}");
-        for at in [0, 7] {
-            let read = (peer.read_cells)(&file, at, &lent);
-            assert_eq!(read.result, Err(refused), "{name}");
-            assert_eq!(read.lent, [lent], "{name}");
-        }
+    let name = format!("at {place}: {:?}", cells.get(place));
+    let checked = (BOTH.check_cells)(cells, finish);
+    assert_eq!(checked.result, refused(12, place), "{name}");
+    let written = (BOTH.write_cells)(cells, finish, &lent_file);
+    assert_eq!(written.result, refused(12, place), "{name}");
+    assert_eq!(written.lent, [lent_file], "{name}");
+    let by_bytes = (BOTH.write_netlist)(&bytes, finish, &lent_file);
+    assert_eq!(written, by_bytes, "{name}");
+    for at in [0, 7] {
+        let read = (BOTH.read_cells)(&file, at, &lent);
+        assert_eq!(read.result, refused(12, place), "{name}");
+        assert_eq!(read.lent, [lent], "{name}");
     }
 }
 
@@ -75,7 +65,7 @@ fn assert_bad(bad: impl IntoIterator<Item = Cell>) {
 
 #[test]
 fn the_netlist_is_good_and_the_highest_lower_inputs_are() {
-    assert_good(&cells());
+    assert_good(&every_kind());
     for kind in 4..=9 {
         assert_good(&with(PUT, Cell::new(kind, 0, WORD, WORD)));
     }
@@ -120,7 +110,7 @@ fn start_and_ground_stand_nowhere_else() {
 
 #[test]
 fn a_delay_field_is_for_delays_alone() {
-    for (number, mut cell) in cells().into_iter().enumerate() {
+    for (number, mut cell) in every_kind().into_iter().enumerate() {
         cell.delay = if cell.kind == 34 { 0 } else { 1 };
         assert_refused(&with(number, cell), FINISH, number);
     }
@@ -179,16 +169,16 @@ fn other_than_sixteen_memories_are_told_at_the_count() {
     let constant = Cell::new(1, 0, 0, 0);
     assert_refused(&with(18, constant), FINISH, COUNT);
     assert_refused(&with(33, Cell::new(40, 0, 1, 2)), FINISH, COUNT);
-    let mut none = cells();
+    let mut none = every_kind();
     none[3..19].fill(constant);
     assert_refused(&none, FINISH, COUNT);
 }
 
 #[test]
 fn a_finish_on_a_word_wire_is_told_at_that_cell() {
-    for (number, cell) in cells().into_iter().enumerate() {
+    for (number, cell) in every_kind().into_iter().enumerate() {
         if !(32..=38).contains(&cell.kind) {
-            assert_refused(&cells(), number as u16, number);
+            assert_refused(&every_kind(), number as u16, number);
         }
     }
 }

@@ -1,0 +1,20 @@
+//! What the paper tells of each call, held against both implementations at
+//! once: a reply in which they differ fails, whatever a test expects of it.
+
+mod cases;
+mod cell_rules;
+mod cells;
+mod expect;
+mod hubrun;
+mod lending;
+mod less;
+mod netlist;
+mod netlists;
+mod replies;
+mod states;
+mod tables;
+mod text;
+mod text_beginnings;
+mod text_limits;
+mod text_refusals;
+mod vectors;

@@ -1,0 +1,144 @@
+//! The reply of every exported function that has one: without room for 48 bytes
+//! nothing is done, and bytes past them are kept.
+
+use peers::SECOND;
+use proved::exports::*;
+use second::table::BUILT_IN;
+use values::Cell;
+
+/// The bytes of a reply, the first of which is 3 where a call was refused.
+const LENGTH: usize = 48;
+const REFUSED: u8 = 3;
+
+const LENT_BYTE: u8 = 0xa5;
+
+/// Case 2, as text and as bytes.
+const TEXT: &[u8] = b"x0 := 5 @1";
+const PROGRAM: [u8; 8] = [18, 1, 0, 0, 1, 0, 5, 0];
+
+/// All that a call is given or lent.
+#[derive(Clone, Debug, PartialEq, Eq)]
+struct Memory {
+    program: Vec<u8>,
+    table: Vec<u8>,
+    words: Vec<u8>,
+    netlist: Vec<u8>,
+    bytes: Vec<u8>,
+    cells: Vec<Cell>,
+    finish: u16,
+    lent_program: Vec<u8>,
+    lent_file: Vec<u8>,
+    lent_bytes: Vec<u8>,
+    lent_cells: Vec<Cell>,
+    lent_state: Vec<u8>,
+}
+
+impl Memory {
+    /// What every call accepts. The state was begun from other words, so that
+    /// a beginning shows too.
+    fn new() -> Memory {
+        let compiled = (SECOND.compile)(None, &PROGRAM, &[0; 512]);
+        let shape = compiled.result.expect("case 2 compiles");
+        let netlist = compiled.lent[0].clone();
+        let lent_cell = Cell::new(LENT_BYTE, LENT_BYTE, 0, 0);
+        let count = usize::from(shape.cells);
+        let read = (SECOND.read_cells)(&netlist, 0, &vec![lent_cell; count]);
+        let begun = (SECOND.begin)(&netlist, &[0; 32], &[LENT_BYTE; 1_000]);
+        Memory {
+            program: PROGRAM.to_vec(),
+            table: BUILT_IN.file().to_vec(),
+            words: vec![1; 32],
+            bytes: Cell::all_bytes(&read.lent[0]),
+            cells: read.lent[0].clone(),
+            finish: shape.finish,
+            lent_program: vec![LENT_BYTE; 100],
+            lent_file: vec![LENT_BYTE; 600],
+            lent_bytes: vec![LENT_BYTE; 6 * (count + 1)],
+            lent_cells: vec![lent_cell; count + 2],
+            lent_state: begun.lent[0].clone(),
+            netlist,
+        }
+    }
+}
+
+/// Rows of a function and what it is given: `m` is the memory, and the reply
+/// is lent last.
+macro_rules! calls {
+    ($m:ident: $($export:ident($($given:expr),*);)*) => {
+        &[$((
+            stringify!($export),
+            |$m, reply| $export($($given,)* reply),
+        )),*]
+    };
+}
+
+type Call = fn(&mut Memory, &mut [u8]) -> bool;
+
+/// The functions that lend nothing but the reply.
+const ANSWERING: &[(&str, Call)] = calls! { m:
+    hub_check(&m.program);
+    hub_check_timed(&m.table, &m.program);
+    hub_reference(&m.program, &m.words, 10);
+    hub_reference_timed(&m.table, &m.program, &m.words, 10);
+    hub_check_cells(&m.cells, m.finish);
+};
+
+/// The functions that write to another slice.
+const WRITING: &[(&str, Call)] = calls! { m:
+    hub_compile(&m.program, &mut m.lent_file);
+    hub_compile_timed(&m.table, &m.program, &mut m.lent_file);
+    hub_read_text(TEXT, &mut m.lent_program);
+    hub_read_text_timed(&m.table, TEXT, &mut m.lent_program);
+    hub_compile_text(TEXT, &mut m.lent_file);
+    hub_compile_text_timed(&m.table, TEXT, &mut m.lent_file);
+    hub_write(&m.bytes, m.finish, &mut m.lent_file);
+    hub_read(&m.netlist, &mut m.lent_bytes);
+    hub_begin(&m.netlist, &m.words, &mut m.lent_state);
+    hub_continue(&m.netlist, &mut m.lent_state, 1);
+    hub_run_program(&m.program, &m.words, 10, &mut m.lent_file, &mut m.lent_state);
+    hub_run_program_timed(&m.table, &m.program, &m.words, 10, &mut m.lent_file, &mut m.lent_state);
+    hub_run_text(TEXT, &m.words, 10, &mut m.lent_file, &mut m.lent_state);
+    hub_run_text_timed(&m.table, TEXT, &m.words, 10, &mut m.lent_file, &mut m.lent_state);
+    hub_run_netlist(&m.netlist, &m.words, 10, &mut m.lent_state);
+    hub_write_cells(&m.cells, m.finish, &mut m.lent_file);
+    hub_read_cells(&m.netlist, 2, &mut m.lent_cells);
+};
+
+#[test]
+fn without_room_for_a_reply_nothing_is_done() {
+    let before = Memory::new();
+    for (name, call) in ANSWERING.iter().chain(WRITING) {
+        for length in 0..LENGTH {
+            let (mut memory, mut reply) = (before.clone(), vec![LENT_BYTE; length]);
+            assert!(!call(&mut memory, &mut reply), "{name}, {length} bytes");
+            assert_eq!(memory, before, "{name}, {length} bytes");
+            assert_eq!(reply, vec![LENT_BYTE; length], "{name}, {length} bytes");
+        }
+    }
+}
+
+/// What was left undone above is done with room, so that it could be seen.
+#[test]
+fn with_room_for_a_reply_the_calls_are_done() {
+    let before = Memory::new();
+    for (calls, writes) in [(ANSWERING, false), (WRITING, true)] {
+        for (name, call) in calls {
+            let (mut memory, mut reply) = (before.clone(), [LENT_BYTE; LENGTH]);
+            assert!(call(&mut memory, &mut reply), "{name}");
+            assert_ne!(reply[0], REFUSED, "{name}");
+            assert_eq!(memory != before, writes, "{name}");
+        }
+    }
+}
+
+#[test]
+fn bytes_past_a_reply_are_kept() {
+    let before = Memory::new();
+    for (name, call) in ANSWERING.iter().chain(WRITING) {
+        let (mut reply, mut longer) = ([0; LENGTH], [LENT_BYTE; LENGTH + 20]);
+        assert!(call(&mut before.clone(), &mut reply), "{name}");
+        assert!(call(&mut before.clone(), &mut longer), "{name}");
+        assert_eq!(longer[..LENGTH], reply, "{name}");
+        assert_eq!(longer[LENGTH..], [LENT_BYTE; 20], "{name}");
+    }
+}

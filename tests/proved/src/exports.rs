@@ -1,0 +1,123 @@
+//! The functions of the proved archives, one row for each, beside the
+//! definition that its contract names. A row is a safe function: no export has
+//! a requires, so the function tests nothing, and declares and calls the one
+//! of the archive, where a slice is a pointer and a number of elements.
+//!
+//! Nothing checks these rows against the Rattle source but the comparisons
+//! with the second implementation.
+
+use values::Cell;
+
+macro_rules! exports {
+    ($(
+        $(#[$definition:meta])*
+        $export:ident($(
+            $given:ident: $(&[$read:ty])? $(&mut [$lent:ty])? $($number:ident)?
+        ),*);
+    )*) => {$(
+        $(#[$definition])*
+        pub fn $export($($given: $(&[$read])? $(&mut [$lent])? $($number)?),*) -> bool {
+            extern "C" {
+                fn $export($(
+                    $($given: *const $read, _: usize,)?
+                    $($given: *mut $lent, _: usize,)?
+                    $($given: $number,)?
+                )*) -> bool;
+            }
+            // SAFETY: each pointer and length are those of a slice.
+            unsafe {
+                $export($(
+                    $(<[$read]>::as_ptr($given), $given.len(),)?
+                    $(<[$lent]>::as_mut_ptr($given), $given.len(),)?
+                    $($given as $number,)?
+                )*)
+            }
+        }
+    )*};
+}
+
+// crates/hub/src/exports.rt; the definitions are those of model/Calls and
+// model/TextCalls. A call under a table of operator times has that table in
+// front.
+exports! {
+    /// checkCall
+    hub_check(program: &[u8], reply: &mut [u8]);
+    /// checkCall
+    hub_check_timed(table: &[u8], program: &[u8], reply: &mut [u8]);
+
+    /// compileCall
+    hub_compile(program: &[u8], file: &mut [u8], reply: &mut [u8]);
+    /// compileCall
+    hub_compile_timed(table: &[u8], program: &[u8], file: &mut [u8], reply: &mut [u8]);
+
+    /// readTextCall
+    hub_read_text(text: &[u8], program: &mut [u8], reply: &mut [u8]);
+    /// readTextCall
+    hub_read_text_timed(table: &[u8], text: &[u8], program: &mut [u8], reply: &mut [u8]);
+
+    /// compileTextCall
+    hub_compile_text(text: &[u8], file: &mut [u8], reply: &mut [u8]);
+    /// compileTextCall
+    hub_compile_text_timed(table: &[u8], text: &[u8], file: &mut [u8], reply: &mut [u8]);
+
+    /// writeCall
+    hub_write(cells: &[u8], finish: u16, file: &mut [u8], reply: &mut [u8]);
+
+    /// readCall
+    hub_read(file: &[u8], cells: &mut [u8], reply: &mut [u8]);
+
+    /// beginCall
+    hub_begin(netlist: &[u8], words: &[u8], state: &mut [u8], reply: &mut [u8]);
+
+    /// continueCall
+    hub_continue(netlist: &[u8], state: &mut [u8], n: u32, reply: &mut [u8]);
+
+    /// runProgramCall
+    hub_run_program(
+        program: &[u8], words: &[u8], budget: u32,
+        netlist: &mut [u8], state: &mut [u8], reply: &mut [u8]
+    );
+    /// runProgramCall
+    hub_run_program_timed(
+        table: &[u8], program: &[u8], words: &[u8], budget: u32,
+        netlist: &mut [u8], state: &mut [u8], reply: &mut [u8]
+    );
+
+    /// runTextCall
+    hub_run_text(
+        text: &[u8], words: &[u8], budget: u32,
+        netlist: &mut [u8], state: &mut [u8], reply: &mut [u8]
+    );
+    /// runTextCall
+    hub_run_text_timed(
+        table: &[u8], text: &[u8], words: &[u8], budget: u32,
+        netlist: &mut [u8], state: &mut [u8], reply: &mut [u8]
+    );
+
+    /// runNetlistCall
+    hub_run_netlist(
+        netlist: &[u8], words: &[u8], budget: u32, state: &mut [u8], reply: &mut [u8]
+    );
+
+    /// referenceCall
+    hub_reference(program: &[u8], words: &[u8], budget: u32, reply: &mut [u8]);
+    /// referenceCall
+    hub_reference_timed(
+        table: &[u8], program: &[u8], words: &[u8], budget: u32, reply: &mut [u8]
+    );
+}
+
+// crates/cells/src; the definitions are those of model/CellSlices.
+exports! {
+    /// checkCellsCall
+    hub_check_cells(cells: &[Cell], finish: u16, reply: &mut [u8]);
+
+    /// writeCellsCall
+    hub_write_cells(cells: &[Cell], finish: u16, file: &mut [u8], reply: &mut [u8]);
+
+    /// readCellsCall
+    hub_read_cells(file: &[u8], at: usize, cells: &mut [Cell], reply: &mut [u8]);
+
+    /// renumberCall; has no reply
+    hub_renumber(cells: &mut [u8], from: usize, end: usize, by: u16);
+}

@@ -12,12 +12,12 @@ use Rattle.model.specs.NetlistFile.{cellBytes, fileOf}
 use Rattle.model.specs.TimeTables.{builtIn, load}
 use Rattle.model.specs.Calls.{compileChecks, writeChecks, readChecks, beginChecks, continueChecks, runNetlistChecks, runProgramChecks, referenceChecks}
 use Rattle.model.specs.Netlists.{numbering, front, idle}
-use Rattle.model.specs.ProgramRows.{node, checkOfProgram}
+use Rattle.model.specs.ProgramRows.{raw, checkOfProgram}
 use Rattle.model.specs.StateRows.{stateOfCells}
 
 -- ok, and its file of 19 cells, whose state is 8 + 40 * 19 = 768 bytes
 abbrev okProgram : List ℕ
-okProgram = node 16 0 0
+okProgram = raw 16 0 0
 
 abbrev okCells : List ℕ
 okCells = cellBytes (front (idle 16 []))

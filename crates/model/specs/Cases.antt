@@ -24,16 +24,16 @@ use Rattle.model.specs.Calls.{writtenVerdict, checkCall, compileCall, ru
 use Rattle.model.specs.Ascii.{ascii}
 use Rattle.model.specs.Hubrun.{digits, line, linesOf, textOf, hubrunText}
 use Rattle.model.specs.Netlists.{numbering}
-use Rattle.model.specs.ProgramRows.{node, times, checkOfProgram}
+use Rattle.model.specs.ProgramRows.{raw, repeated, checkOfProgram}
 
 -- Programs -----------------------------------------------------------------------------------------------------------------------------
 
 -- x0 := x0 + n, and x0 := x0 − 1 with d 17
 abbrev adding : ℕ → ℕ → List ℕ
-adding d n = node 18 d 0 ++ node 4 0 0 ++ node 2 0 0 ++ node 1 0 n
+adding d n = raw 18 d 0 ++ raw 4 0 0 ++ raw 2 0 0 ++ raw 1 0 n
 
 abbrev down : List ℕ
-down = node 18 17 0 ++ node 5 0 0 ++ node 2 0 0 ++ node 1 0 1
+down = raw 18 17 0 ++ raw 5 0 0 ++ raw 2 0 0 ++ raw 1 0 1
 
 -- The table ----------------------------------------------------------------------------------------------------------------------------
 
@@ -51,25 +51,25 @@ pub data Case : Type 0 where
 
 unfoldable pub cases : List Case
 cases =
-    ends (node 16 0 0) 0 10 0 0  -- 1
-    ∷ ends (node 18 1 0 ++ node 1 0 5) 0 10 2 5  -- 2
-    ∷ compiles (node 18 1 0 ++ node 1 0 5) 23 4
-    ∷ prints (node 18 1 0 ++ node 1 0 5) 0 10 "end 2\n5 0 0 0 0 0 0 0 0 0 0 0 0 0 0 0\n"
-    ∷ ends (node 19 0 0 ++ adding 16 3 ++ adding 16 4) 0 100 34 7  -- 3
-    ∷ refuses (node 19 0 0 ++ adding 16 3 ++ adding 15 4) 7 5
-    ∷ ends (node 20 0 0 ++ node 17 3 0 ++ node 17 5 0) 0 100 5 0  -- 4
-    ∷ ends (node 20 0 0 ++ node 16 0 0 ++ node 16 0 0) 0 100 0 0  -- 5
-    ∷ ends (node 22 1 0 ++ node 2 0 0 ++ down) 3 100 58 0  -- 6
-    ∷ ends (node 23 6 0 ++ node 8 0 0 ++ node 2 0 0 ++ node 1 0 0 ++ down) 3 100 72 0  -- 7
-    ∷ ends (node 21 0 0 ++ node 2 0 0 ++ node 17 1 0 ++ node 17 9 0) 0 100 9 0  -- 8
-    ∷ ends (node 21 0 0 ++ node 2 0 0 ++ node 17 1 0 ++ node 17 9 0) 65535 100 1 65535
+    ends (raw 16 0 0) 0 10 0 0  -- 1
+    ∷ ends (raw 18 1 0 ++ raw 1 0 5) 0 10 2 5  -- 2
+    ∷ compiles (raw 18 1 0 ++ raw 1 0 5) 23 4
+    ∷ prints (raw 18 1 0 ++ raw 1 0 5) 0 10 "end 2\n5 0 0 0 0 0 0 0 0 0 0 0 0 0 0 0\n"
+    ∷ ends (raw 19 0 0 ++ adding 16 3 ++ adding 16 4) 0 100 34 7  -- 3
+    ∷ refuses (raw 19 0 0 ++ adding 16 3 ++ adding 15 4) 7 5
+    ∷ ends (raw 20 0 0 ++ raw 17 3 0 ++ raw 17 5 0) 0 100 5 0  -- 4
+    ∷ ends (raw 20 0 0 ++ raw 16 0 0 ++ raw 16 0 0) 0 100 0 0  -- 5
+    ∷ ends (raw 22 1 0 ++ raw 2 0 0 ++ down) 3 100 58 0  -- 6
+    ∷ ends (raw 23 6 0 ++ raw 8 0 0 ++ raw 2 0 0 ++ raw 1 0 0 ++ down) 3 100 72 0  -- 7
+    ∷ ends (raw 21 0 0 ++ raw 2 0 0 ++ raw 17 1 0 ++ raw 17 9 0) 0 100 9 0  -- 8
+    ∷ ends (raw 21 0 0 ++ raw 2 0 0 ++ raw 17 1 0 ++ raw 17 9 0) 65535 100 1 65535
     ∷ ends (adding 16 1) 65535 100 17 0  -- 9
-    ∷ refuses (node 22 0 0 ++ node 1 0 1 ++ node 16 0 0) 7 0  -- 10
-    ∷ refuses (node 20 0 0 ++ node 18 1 1 ++ node 1 0 1 ++ node 18 1 2 ++ node 2 0 1) 8 0  -- 11
-    ∷ ends (node 22 1 0 ++ node 2 0 0 ++ node 20 0 0 ++ down ++ node 17 2 0) 2 100 39 0  -- 12
+    ∷ refuses (raw 22 0 0 ++ raw 1 0 1 ++ raw 16 0 0) 7 0  -- 10
+    ∷ refuses (raw 20 0 0 ++ raw 18 1 1 ++ raw 1 0 1 ++ raw 18 1 2 ++ raw 2 0 1) 8 0  -- 11
+    ∷ ends (raw 22 1 0 ++ raw 2 0 0 ++ raw 20 0 0 ++ down ++ raw 17 2 0) 2 100 39 0  -- 12
     ∷ refuses [] 1 0
-    ∷ refuses (times 201 (node 16 0 0)) 1 0
-    ∷ passes (times 99 (node 19 0 0) ++ node 18 1 0 ++ node 1 0 0 ++ times 99 (node 16 0 0))
+    ∷ refuses (repeated 201 (raw 16 0 0)) 1 0
+    ∷ passes (repeated 99 (raw 19 0 0) ++ raw 18 1 0 ++ raw 1 0 0 ++ repeated 99 (raw 16 0 0))
     ∷ []
 
 -- 32 bytes of start words with word 0 given, hubrun's input, and what a run that ends answers

@@ -18,7 +18,7 @@ use Rattle.model.specs.TimeTables.{builtIn, load}
 use Rattle.model.specs.Calls.{Returned, writing, compileCall, readCall, writeCall}
 use Rattle.model.specs.CellSlices.{namesA, namesB, moved, behind, renumberCall}
 use Rattle.model.specs.Netlists.{numbering, front, idle}
-use Rattle.model.specs.ProgramRows.{node, times, checkOfProgram}
+use Rattle.model.specs.ProgramRows.{raw, repeated, checkOfProgram}
 
 -- whoever unfolds this unfolds all that a netlist file is written and checked by
 unfoldable pub checkOfFile : List ℕ → Checked
@@ -144,7 +144,7 @@ small =
     ∷ 34 ∷ 1 ∷ 0 ∷ 0 ∷ 0 ∷ 0  -- 3 delay 1 of 0
     ∷ 34 ∷ 1 ∷ 3 ∷ 0 ∷ 0 ∷ 0  -- 4 delay 1 of 3
     ∷ 40 ∷ 0 ∷ 3 ∷ 0 ∷ 22 ∷ 0  -- 5 memory of clock 3 and data 22
-    ∷ times 15 (40 ∷ 0 ∷ 1 ∷ 0 ∷ 2 ∷ 0 ∷ [])  -- 6 to 20, clock 1 and data 2
+    ∷ repeated 15 (40 ∷ 0 ∷ 1 ∷ 0 ∷ 2 ∷ 0 ∷ [])  -- 6 to 20, clock 1 and data 2
     ++ (1 ∷ 0 ∷ 5 ∷ 0 ∷ 0 ∷ 0  -- 21 constant 5
     ∷ 41 ∷ 0 ∷ 3 ∷ 0 ∷ 21 ∷ 0  -- 22 the 41 of 3 and 21
     ∷ replicate 366 0)
@@ -154,16 +154,16 @@ abbrev rest : List ℕ
 rest = drop 8 small
 
 -- compiling, reading and writing, and what they leave of a longer list
-calls : List (Returned Written × Returned Written)
-calls =
-    (compileCall (load builtIn) (node 18 1 0 ++ node 1 0 5) (replicate 514 7), record { answer = Done 512 4; lent = small ++ (7 ∷ 7 ∷ []) })
+fileCalls : List (Returned Written × Returned Written)
+fileCalls =
+    (compileCall (load builtIn) (raw 18 1 0 ++ raw 1 0 5) (replicate 514 7), record { answer = Done 512 4; lent = small ++ (7 ∷ 7 ∷ []) })
     ∷ (readCall small (replicate 140 7), record { answer = Done 23 4; lent = take 138 rest ++ (7 ∷ 7 ∷ []) })
     ∷ (writeCall (take 138 rest) 4 (replicate 513 7), record { answer = Done 512 4; lent = small ++ (7 ∷ []) })
     ∷ []
 
-calls-right : map (λ r. r .0) calls ≡ map (λ r. r .1) calls
-unfolding calls small checkOfFile checkOfProgram numbering writing compileCall readCall writeCall
-calls-right = refl
+file-calls-right : map (λ r. r .0) fileCalls ≡ map (λ r. r .1) fileCalls
+unfolding fileCalls small checkOfFile checkOfProgram numbering writing compileCall readCall writeCall
+file-calls-right = refl
 
 -- 85 cells in two blocks: 84, and one more
 abbrev five : Cell
@@ -220,7 +220,7 @@ files =
     ∷ []
 
 files-right : map (λ r. fileCheck (r .0)) files ≡ map (λ r. r .1) files
-unfolding files small checkOfFile times
+unfolding files small checkOfFile repeated
 files-right = refl
 
 -- Renumbering --------------------------------------------------------------------------------------------------------------------------

@@ -169,9 +169,9 @@ drawings = case1 ∷ case2 ∷ case3 ∷ case4 ∷ case6 ∷ case7 ∷ case8 ∷
 abbrev given : Drawn → List Cell × ℕ
 given d = (netlist (d .program), finish (d .program))
 
-abbrev wanted : Drawn → List Cell × ℕ
-wanted d = (d .cells, d .end)
+abbrev drawing : Drawn → List Cell × ℕ
+drawing d = (d .cells, d .end)
 
-drawings-right : map given drawings ≡ map wanted drawings
+drawings-right : map given drawings ≡ map drawing drawings
 unfolding drawings case1 case2 case3 case4 case6 case7 case8 case12 mixed numbering
 drawings-right = refl

@@ -73,8 +73,8 @@ abbrev nested : Expr
 nested = op 9 (op 4 (var 0) (const 1)) (compl (var 1))
 
 -- an expression, and its time: 0 for a constant and a variable; 1 for !, & and |, 16 for +, 17 for - and <, 6 for =
-times : List (Expr × ℕ)
-times =
+expressionTimes : List (Expr × ℕ)
+expressionTimes =
     (const 7, 0)
     ∷ (var 0, 0)
     ∷ (compl (var 0), 1)
@@ -92,13 +92,13 @@ times =
     ∷ (op 7 (const 1) nested, 34)
     ∷ []
 
-times-right : map (λ r. time (timeIn builtInTimes) (r .0)) times ≡ map (λ r. r .1) times
-unfolding times time builtInTimes
+times-right : map (λ r. time (timeIn builtInTimes) (r .0)) expressionTimes ≡ map (λ r. r .1) expressionTimes
+unfolding expressionTimes time builtInTimes
 times-right = refl
 
 -- a statement, and its least delay: "at least its expression's time, and at least 1 for kinds 17, 18, 22 and 23. If may have 0."
-delays : List (Stmt × ℕ)
-delays =
+leastDelays : List (Stmt × ℕ)
+leastDelays =
     (ok, 0)
     ∷ (tick 0, 1)
     ∷ (assign 0 0 (const 7), 1)
@@ -113,6 +113,6 @@ delays =
     ∷ (repeat 0 nested ok, 33)
     ∷ []
 
-delays-right : map (λ r. least (timeIn builtInTimes) (r .0)) delays ≡ map (λ r. r .1) delays
-unfolding delays time least builtInTimes
+delays-right : map (λ r. least (timeIn builtInTimes) (r .0)) leastDelays ≡ map (λ r. r .1) leastDelays
+unfolding leastDelays time least builtInTimes
 delays-right = refl

@@ -15,17 +15,17 @@ use Rattle.model.specs.Calls.{checkCall}
 -- Notation -----------------------------------------------------------------------------------------------------------------------------
 
 -- a node's four bytes; n below 256
-abbrev pub node : ℕ → ℕ → ℕ → List ℕ
-node k d n = k ∷ d ∷ n ∷ 0 ∷ []
+abbrev pub raw : ℕ → ℕ → ℕ → List ℕ
+raw k d n = k ∷ d ∷ n ∷ 0 ∷ []
 
 -- so many times
-unfoldable pub times : ℕ → List ℕ → List ℕ
-times zero s = []
-times (suc n) s = s ++ times n s
+unfoldable pub repeated : ℕ → List ℕ → List ℕ
+repeated zero s = []
+repeated (suc n) s = s ++ repeated n s
 
 -- whoever unfolds this unfolds all that a program is checked by
 unfoldable pub checkOfProgram : List ℕ → Checked
-unfolding get16 firstFault nodeAt nodesFrom rowOf asExpr asStmt exprOf stmtOf treeOf grow forest treesAt exprAt stmtAt time builtInTimes least reads writes touches conflict conflicts programLengthWrong unusedSet nodeFault children reading delayFault conflictFault checkOf load checkCall times nodeBytes bytes16 preorderE preorder
+unfolding get16 firstFault nodeAt nodesFrom rowOf asExpr asStmt exprOf stmtOf treeOf grow forest treesAt exprAt stmtAt time builtInTimes least reads writes touches conflict conflicts programLengthWrong unusedSet nodeFault children reading delayFault conflictFault checkOf load checkCall repeated nodeBytes bytes16 preorderE preorder
 checkOfProgram s = checkCall (load builtIn) s
 
 -- Kinds --------------------------------------------------------------------------------------------------------------------------------
@@ -61,8 +61,8 @@ kinds =
     ∷ []
 
 kinds-right :
-    (map (λ r. checkCall (load builtIn) (node (r .0) 1 0)) kinds ≡ map (λ r. r .1) kinds)
-    × (map (λ r. checkCall (load builtIn) (node (r .0) 0 1)) kinds ≡ map (λ r. r .2) kinds)
+    (map (λ r. checkCall (load builtIn) (raw (r .0) 1 0)) kinds ≡ map (λ r. r .1) kinds)
+    × (map (λ r. checkCall (load builtIn) (raw (r .0) 0 1)) kinds ≡ map (λ r. r .2) kinds)
 unfolding kinds checkOfProgram
 kinds-right = (refl, refl)
 
@@ -88,42 +88,42 @@ programs : List (List ℕ × Checked)
 programs =
     -- 1: not a multiple of 4, above 800
     (16 ∷ 0 ∷ 0 ∷ [], refuse 1 0)
-    ∷ (node 16 0 0 ++ (0 ∷ []), refuse 1 0)
-    ∷ (times 200 (node 16 0 0) ++ (0 ∷ []), refuse 1 0)
+    ∷ (raw 16 0 0 ++ (0 ∷ []), refuse 1 0)
+    ∷ (repeated 200 (raw 16 0 0) ++ (0 ∷ []), refuse 1 0)
     -- 2: at its node, before the nodes are read as a tree
-    ∷ (node 19 0 0 ++ node 16 0 0 ++ node 24 0 0, refuse 2 2)
-    ∷ (node 16 0 0 ++ node 0 0 0, refuse 2 1)
+    ∷ (raw 19 0 0 ++ raw 16 0 0 ++ raw 24 0 0, refuse 2 2)
+    ∷ (raw 16 0 0 ++ raw 0 0 0, refuse 2 1)
     -- 3: at its node; the high byte of a number counts
-    ∷ (node 18 1 0 ++ node 1 1 5, refuse 3 1)
-    ∷ (node 19 0 0 ++ node 16 0 0 ++ node 16 0 1, refuse 3 2)
+    ∷ (raw 18 1 0 ++ raw 1 1 5, refuse 3 1)
+    ∷ (raw 19 0 0 ++ raw 16 0 0 ++ raw 16 0 1, refuse 3 2)
     ∷ (16 ∷ 0 ∷ 0 ∷ 1 ∷ [], refuse 3 0)
     -- 4: x15 is good and x16 is not, written or read; 256 is above 15; constants have all sixteen bits
-    ∷ (node 18 1 15 ++ node 2 0 15, Accepted)
-    ∷ (node 18 1 16 ++ node 1 0 0, refuse 4 0)
-    ∷ (node 18 1 0 ++ node 2 0 16, refuse 4 1)
-    ∷ (node 18 1 0 ++ (2 ∷ 0 ∷ 0 ∷ 1 ∷ []), refuse 4 1)
-    ∷ (node 18 1 0 ++ (1 ∷ 0 ∷ 255 ∷ 255 ∷ []), Accepted)
+    ∷ (raw 18 1 15 ++ raw 2 0 15, Accepted)
+    ∷ (raw 18 1 16 ++ raw 1 0 0, refuse 4 0)
+    ∷ (raw 18 1 0 ++ raw 2 0 16, refuse 4 1)
+    ∷ (raw 18 1 0 ++ (2 ∷ 0 ∷ 0 ∷ 1 ∷ []), refuse 4 1)
+    ∷ (raw 18 1 0 ++ (1 ∷ 0 ∷ 255 ∷ 255 ∷ []), Accepted)
     -- 2, 3 and 4 node by node; at one node 3 before 4
-    ∷ (node 18 1 16 ++ node 0 0 0, refuse 4 0)
-    ∷ (node 18 1 0 ++ node 2 1 16, refuse 3 1)
+    ∷ (raw 18 1 16 ++ raw 0 0 0, refuse 4 0)
+    ∷ (raw 18 1 0 ++ raw 2 1 16, refuse 3 1)
     -- 5: a statement where an expression belongs, or the reverse; the root is a statement
-    ∷ (node 1 0 5, refuse 5 0)
-    ∷ (node 18 1 0 ++ node 16 0 0, refuse 5 1)
-    ∷ (node 18 16 0 ++ node 4 0 0 ++ node 2 0 0 ++ node 16 0 0, refuse 5 3)
-    ∷ (node 19 0 0 ++ node 16 0 0 ++ node 1 0 5, refuse 5 2)
-    ∷ (node 21 0 0 ++ node 2 0 0 ++ node 16 0 0 ++ node 2 0 0, refuse 5 3)
-    ∷ (node 22 1 0 ++ node 16 0 0 ++ node 16 0 0, refuse 5 1)
+    ∷ (raw 1 0 5, refuse 5 0)
+    ∷ (raw 18 1 0 ++ raw 16 0 0, refuse 5 1)
+    ∷ (raw 18 16 0 ++ raw 4 0 0 ++ raw 2 0 0 ++ raw 16 0 0, refuse 5 3)
+    ∷ (raw 19 0 0 ++ raw 16 0 0 ++ raw 1 0 5, refuse 5 2)
+    ∷ (raw 21 0 0 ++ raw 2 0 0 ++ raw 16 0 0 ++ raw 2 0 0, refuse 5 3)
+    ∷ (raw 22 1 0 ++ raw 16 0 0 ++ raw 16 0 0, refuse 5 1)
     -- a repeat has its expression first
-    ∷ (node 23 1 0 ++ node 16 0 0 ++ node 2 0 0, refuse 5 1)
+    ∷ (raw 23 1 0 ++ raw 16 0 0 ++ raw 2 0 0, refuse 5 1)
     -- 6: nodes run out, place the node count; or are left, place the first
-    ∷ (node 19 0 0 ++ node 16 0 0, refuse 6 2)
-    ∷ (node 18 16 0 ++ node 4 0 0 ++ node 2 0 0, refuse 6 3)
-    ∷ (node 21 0 0 ++ node 2 0 0 ++ node 16 0 0, refuse 6 3)
-    ∷ (node 16 0 0 ++ node 16 0 0 ++ node 16 0 0, refuse 6 1)
-    ∷ (node 18 1 0 ++ node 2 0 0 ++ node 2 0 1, refuse 6 2)
+    ∷ (raw 19 0 0 ++ raw 16 0 0, refuse 6 2)
+    ∷ (raw 18 16 0 ++ raw 4 0 0 ++ raw 2 0 0, refuse 6 3)
+    ∷ (raw 21 0 0 ++ raw 2 0 0 ++ raw 16 0 0, refuse 6 3)
+    ∷ (raw 16 0 0 ++ raw 16 0 0 ++ raw 16 0 0, refuse 6 1)
+    ∷ (raw 18 1 0 ++ raw 2 0 0 ++ raw 2 0 1, refuse 6 2)
     -- whichever reading meets first: the sequence lacks a node too; a node that is left is not 5
-    ∷ (node 19 0 0 ++ node 1 0 0, refuse 5 1)
-    ∷ (node 16 0 0 ++ node 1 0 0, refuse 6 1)
+    ∷ (raw 19 0 0 ++ raw 1 0 0, refuse 5 1)
+    ∷ (raw 16 0 0 ++ raw 1 0 0, refuse 6 1)
     -- 7: the first node whose delay is too small, which is that of the statement
     ∷ (bytesOf (tick 0), refuse 7 0)
     ∷ (bytesOf (seq ok (seq (tick 0) (tick 0))), refuse 7 3)
@@ -134,8 +134,8 @@ programs =
     ∷ (bytesOf (repeat 5 isNought ok), refuse 7 0)
     ∷ (bytesOf (repeat 6 isNought ok), Accepted)
     -- sixteen sums one in the other take 256, more than any delay; fifteen take 240
-    ∷ (node 18 255 0 ++ times 16 (node 4 0 0) ++ times 17 (node 1 0 1), refuse 7 0)
-    ∷ (node 18 240 0 ++ times 15 (node 4 0 0) ++ times 16 (node 1 0 1), Accepted)
+    ∷ (raw 18 255 0 ++ repeated 16 (raw 4 0 0) ++ repeated 17 (raw 1 0 1), refuse 7 0)
+    ∷ (raw 18 240 0 ++ repeated 15 (raw 4 0 0) ++ repeated 16 (raw 1 0 1), Accepted)
     -- 8: written on both sides, x0 to x15; written on one and read on the other, in both directions
     ∷ (bytesOf (par (gets 0 1) (gets 0 2)), refuse 8 0)
     ∷ (bytesOf (par (gets 15 1) (gets 15 2)), refuse 8 0)

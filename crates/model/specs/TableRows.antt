@@ -12,7 +12,7 @@ use Rattle.model.specs.Program.{builtInTimes}
 use Rattle.model.specs.NetlistFile.{wordSum, blockWith}
 use Rattle.model.specs.TimeTables.{byteWrong, tableFault, tableSumWrong, timesIn, builtIn, given, load}
 use Rattle.model.specs.Calls.{checkCall}
-use Rattle.model.specs.ProgramRows.{node, checkOfProgram}
+use Rattle.model.specs.ProgramRows.{raw, checkOfProgram}
 
 -- The built-in times as a file. Its words, but for the check, sum to 9 + (1 + 256 * 16) + (17 + 256) + (1 + 256 * 6) + 17 = 5933, and
 -- 65536 − 5933 = 59603 = 211 + 256 * 232.
@@ -27,14 +27,14 @@ unfolding builtInFile load tableSumWrong tableFault byteWrong wordSum firstFault
 built-in-loads = refl
 
 -- bytes behind the header with times of kinds 3 and 9: byte i of the file is number i − 8 of these
-abbrev timed : ℕ → ℕ → List ℕ
-timed t u = 0 ∷ 0 ∷ t ∷ 16 ∷ 17 ∷ 1 ∷ 1 ∷ 6 ∷ u ∷ replicate 495 0
+abbrev timesFor : ℕ → ℕ → List ℕ
+timesFor t u = 0 ∷ 0 ∷ t ∷ 16 ∷ 17 ∷ 1 ∷ 1 ∷ 6 ∷ u ∷ replicate 495 0
 
 -- a table's file, and what is said of it
 tables : List (List ℕ × Checked)
 tables =
-    (blockWith 0 9 0 (timed 1 200), Accepted)
-    ∷ (blockWith 0 9 0 (timed 200 1), Accepted)
+    (blockWith 0 9 0 (timesFor 1 200), Accepted)
+    ∷ (blockWith 0 9 0 (timesFor 200 1), Accepted)
     -- 19: the length isn't 512
     ∷ ([], refuse 19 0)
     ∷ (replicate 511 0, refuse 19 0)
@@ -44,23 +44,23 @@ tables =
     ∷ (set builtInFile 6 212, refuse 20 0)
     -- 21: block number 0, 9 in bytes 2–3, zero in 4–5
     ∷ (replicate 512 0, refuse 21 2)
-    ∷ (blockWith 1 9 0 (timed 1 17), refuse 21 0)
-    ∷ (blockWith 256 9 0 (timed 1 17), refuse 21 1)
-    ∷ (blockWith 0 10 0 (timed 1 17), refuse 21 2)
-    ∷ (blockWith 0 265 0 (timed 1 17), refuse 21 3)
-    ∷ (blockWith 0 9 1 (timed 1 17), refuse 21 4)
-    ∷ (blockWith 0 9 256 (timed 1 17), refuse 21 5)
+    ∷ (blockWith 1 9 0 (timesFor 1 17), refuse 21 0)
+    ∷ (blockWith 256 9 0 (timesFor 1 17), refuse 21 1)
+    ∷ (blockWith 0 10 0 (timesFor 1 17), refuse 21 2)
+    ∷ (blockWith 0 265 0 (timesFor 1 17), refuse 21 3)
+    ∷ (blockWith 0 9 1 (timesFor 1 17), refuse 21 4)
+    ∷ (blockWith 0 9 256 (timesFor 1 17), refuse 21 5)
     -- constant and variable are 0, the others 1 to 200, the rest zero
-    ∷ (blockWith 0 9 0 (set (timed 1 17) 0 1), refuse 21 8)
-    ∷ (blockWith 0 9 0 (set (timed 1 17) 1 1), refuse 21 9)
-    ∷ (blockWith 0 9 0 (timed 0 17), refuse 21 10)
-    ∷ (blockWith 0 9 0 (timed 201 17), refuse 21 10)
-    ∷ (blockWith 0 9 0 (timed 1 0), refuse 21 16)
-    ∷ (blockWith 0 9 0 (timed 1 201), refuse 21 16)
-    ∷ (blockWith 0 9 0 (set (timed 1 17) 9 1), refuse 21 17)
-    ∷ (blockWith 0 9 0 (set (timed 1 17) 503 1), refuse 21 511)
+    ∷ (blockWith 0 9 0 (set (timesFor 1 17) 0 1), refuse 21 8)
+    ∷ (blockWith 0 9 0 (set (timesFor 1 17) 1 1), refuse 21 9)
+    ∷ (blockWith 0 9 0 (timesFor 0 17), refuse 21 10)
+    ∷ (blockWith 0 9 0 (timesFor 201 17), refuse 21 10)
+    ∷ (blockWith 0 9 0 (timesFor 1 0), refuse 21 16)
+    ∷ (blockWith 0 9 0 (timesFor 1 201), refuse 21 16)
+    ∷ (blockWith 0 9 0 (set (timesFor 1 17) 9 1), refuse 21 17)
+    ∷ (blockWith 0 9 0 (set (timesFor 1 17) 503 1), refuse 21 511)
     -- the first wrong byte; 20 before 21
-    ∷ (blockWith 0 9 1 (timed 0 0), refuse 21 4)
+    ∷ (blockWith 0 9 1 (timesFor 0 0), refuse 21 4)
     ∷ (set builtInFile 2 8, refuse 20 0)
     ∷ []
 
@@ -71,9 +71,9 @@ tables-right = refl
 -- a table, a program, and what the check says of both: x0 := !x0 takes the time of kind 3, and a table's refusal comes before the program's
 checks : List (List ℕ × List ℕ × Checked)
 checks =
-    (blockWith 0 9 0 (timed 40 17), node 18 40 0 ++ node 3 0 0 ++ node 2 0 0, Accepted)
-    ∷ (blockWith 0 9 0 (timed 40 17), node 18 39 0 ++ node 3 0 0 ++ node 2 0 0, refuse 7 0)
-    ∷ (blockWith 0 9 0 (timed 0 17), [], refuse 21 10)
+    (blockWith 0 9 0 (timesFor 40 17), raw 18 40 0 ++ raw 3 0 0 ++ raw 2 0 0, Accepted)
+    ∷ (blockWith 0 9 0 (timesFor 40 17), raw 18 39 0 ++ raw 3 0 0 ++ raw 2 0 0, refuse 7 0)
+    ∷ (blockWith 0 9 0 (timesFor 0 17), [], refuse 21 10)
     ∷ (builtInFile, [], refuse 1 0)
     ∷ []
 

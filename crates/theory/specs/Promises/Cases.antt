@@ -26,7 +26,7 @@ use Rattle.model.specs.Calls.{writtenVerdict, checkCall, writing, compiledFile,
 use Rattle.model.specs.Hubrun.{textOf, hubrunText}
 use Rattle.model.specs.Promises.{Bytes, Seen}
 use Rattle.model.specs.Cases.{Case, ends, refuses, compiles, prints, passes, cases, start, hubrunInput, endAnswer, Result, ran, numbered, printed, checked, computed, wanted, OnCircuit, Hold, cases-by-rules}
-use Rattle.model.specs.ProgramRows.{times}
+use Rattle.model.specs.ProgramRows.{repeated}
 use Rattle.laws.specs.Refusals.Laws.{and-true, or-false, first-take, first-drop}
 use Rattle.laws.specs.NetlistFile.Passed.{file-passed, count-range, count-cells}
 use Rattle.laws.specs.NetlistFile.Files.{file-length}
@@ -135,7 +135,7 @@ allFair [] = true
 allFair (c ∷ cs) = fair c && allFair cs
 
 all-fair : allFair cases ≡ true
-unfolding allFair fair cases bytesOnly times
+unfolding allFair fair cases bytesOnly repeated
 all-fair = refl
 
 -- what hubrun prints of a program's bytes behind 32 of words and a budget

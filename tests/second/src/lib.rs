@@ -1,10 +1,10 @@
 //! A second implementation of hub circuits, written from the paper alone.
 //!
 //! It exists to be compared with the proved implementation and shares nothing
-//! with it. A value goes one way through these modules: text of a program, its
-//! bytes, tree, netlist, netlist file, wires, state bytes, answer. `calls` holds
-//! the calls that others use; what they lend and get back are bytes and numbers,
-//! and in `cell_calls` cells.
+//! with it but the plain values that callers give and get. A value goes one way
+//! through these modules: text of a program, its bytes, tree, netlist, netlist
+//! file, wires, state bytes, answer. `calls` holds the calls that others use;
+//! what they lend and get back are bytes and numbers, and in `cell_calls` cells.
 
 pub mod block;
 pub mod calls;

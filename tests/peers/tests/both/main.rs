@@ -10,7 +10,6 @@ mod lending;
 mod less;
 mod netlist;
 mod netlists;
-mod replies;
 mod states;
 mod tables;
 mod text;

@@ -1,21 +1,16 @@
-//! Links the proved archives, which `rt staticlib hub` and `rt staticlib cells`
-//! write.
+//! Links the proved archive, which `rt staticlib exports` writes.
 
 use std::path::Path;
 
-const ARCHIVES: [&str; 2] = ["hub", "cells"];
-
 fn main() {
     let folder = Path::new(env!("CARGO_MANIFEST_DIR")).join("../../target/staticlib");
+    let archive = folder.join("libexports.a");
+    assert!(
+        archive.exists(),
+        "{} is missing: run `rt staticlib exports` in the repository first",
+        archive.display()
+    );
     println!("cargo:rustc-link-search=native={}", folder.display());
-    for name in ARCHIVES {
-        let archive = folder.join(format!("lib{name}.a"));
-        assert!(
-            archive.exists(),
-            "{} is missing: run `rt staticlib {name}` in the repository first",
-            archive.display()
-        );
-        println!("cargo:rerun-if-changed={}", archive.display());
-        println!("cargo:rustc-link-lib=static={name}");
-    }
+    println!("cargo:rerun-if-changed={}", archive.display());
+    println!("cargo:rustc-link-lib=static=exports");
 }

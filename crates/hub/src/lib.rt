@@ -5,10 +5,8 @@ ghost use Rattle.model.specs.TimeTables.{builtIn, given, load};
 ghost use Rattle.model.specs.Calls.{checkCall, compileCall, writeCall, readCall, beginCall, continueCall, runNetlistCall, runProgramCall, referenceCall};
 ghost use Rattle.model.specs.TextCalls.{readTextCall, compileTextCall, runTextCall};
 
-pub mod exports; // the calls for other languages
-mod full; // the full run of a program
-mod replies; // the exported calls that go by a table
-mod texts; // compiling and running a text
+pub mod full; // the full run of a program
+pub mod texts; // compiling and running a text
 
 use model::Answer;
 use model::Checked;

@@ -1,4 +1,4 @@
-//! The functions of the proved archives, one row for each, beside the
+//! The functions of the proved archive, one row for each, beside the
 //! definition that its contract names. A row is a safe function: no export has
 //! a requires, so the function tests nothing, and declares and calls the one
 //! of the archive, where a slice is a pointer and a number of elements.

@@ -1,0 +1,57 @@
+// Writing a netlist: what is to be put into the file, from a scan of its cells, and the reply.
+// The contract speaks of whatever cells the scan is of (netlist/specs/Scans, specs/Writes).
+ghost use mathlib.Core.Path.{_≡_};
+ghost use mathlib.Core.List.{List};
+ghost use Prim.Native.Nat.{ℕ, _*_, _^_, _<_};
+ghost use lib.ListN.{length};
+ghost use Rattle.model.specs.declared.Cell.{Cell};
+ghost use Rattle.model.specs.CellSlices.{writeCellsCall};
+ghost use Rattle.netlist.specs.Scans.{Scanned};
+ghost use Rattle.exports.specs.Writes.{Writes};
+use model::Checked;
+use model::Refusal;
+use model::Written;
+use netlist::rules::Scan;
+
+// Whether the answer is told, and how many cells the call puts in: none where it is refused.
+pub struct Write {
+    pub told: bool,
+    pub n: usize,
+}
+
+// What writing answers, for a file with so much room: refusals 11, 12, 14.
+fn written(s: Scan, finish: u16, room: usize) -> Written
+    requires { ⌜ 6 * s .n < 2 ^ 63 ⌝ }
+    ensures { λ r. ⌜ ((cs : List Cell) (lent : List ℕ) → Scanned cs finish (length cs) s → length lent ≡ room → r ≡ writeCellsCall cs finish lent .answer) ⌝ }
+{
+    let found = crate::checking::checked(s);
+    if let Checked::Refused(r) = found {
+        return Written::Refused(r);
+    }
+    let n = s.n;
+    let count = 512 * ((n + 83) / 84);
+    if room < count {
+        return Written::Refused(Refusal {
+            number: 14,
+            place: 0,
+        });
+    }
+    Written::Done { count, finish }
+}
+
+// Tells the answer; without room for a reply there is nothing to do.
+pub fn planned(s: Scan, finish: u16, room: usize, reply: &mut [u8]) -> Write
+    requires { ⌜ 6 * s .n < 2 ^ 63 ⌝ }
+    ensures { λ w. ⌜ ((cs : List Cell) → Scanned cs finish (length cs) s → Writes cs finish room (now (reply .entry)) w (now (reply .exit))) ⌝ }
+{
+    if reply.len() < 48 {
+        return Write { told: false, n: 0 };
+    }
+    let answer = written(s, finish, room);
+    let answered = reply::of_written(answer);
+    reply::put(reply, answered);
+    if let Written::Refused(_r) = answer {
+        return Write { told: true, n: 0 };
+    }
+    Write { told: true, n: s.n }
+}

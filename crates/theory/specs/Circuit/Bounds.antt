@@ -60,8 +60,7 @@ module _ (n : ℕ) (W : Values) (first k : ℕ) (c : Cell) (a : c .a < 65536) (f
   equation-word kWhenFalse t o past below = bit-word _
   equation-word kMerge t o past below = bit-word _
   equation-word kMemory zero o past below = f
-  equation-word kMemory (suc t) o past below =
-      pick-word (level W (c .a) t && not (level W (c .a) (suc t))) (past t (lt-suc-self t) (c .b) (o .1)) (past t (lt-suc-self t) k l)
+  equation-word kMemory (suc t) o past below = pick-word _ (past t (lt-suc-self t) (c .b) (o .1)) (past t (lt-suc-self t) k l)
   equation-word kGated t o past below = pick-word (level W (c .a) t) (below (c .b) (o .1)) (omega arith)
   equation-word kUnknown t o past below = omega arith
 

@@ -84,11 +84,15 @@ high v = eqb v 1
 abbrev pub level : Values → ℕ → Sig
 level W k t = high (W k t)
 
+-- the falling edge of a clock: it "is 0 and was 1 an instant ago"
+abbrev pub falls : Values → ℕ → ℕ → Bool
+falls W k t = level W k t && not (level W k (suc t))
+
 -- "40 memory: if clock a (control) is 0 and was 1 an instant ago, the value that word b had an instant ago; else its own former value.
 -- At instant 0, the start word."
 unfoldable pub memory : ℕ → Values → ℕ → Cell → ℕ → ℕ
 memory word₀ W k c zero = word₀
-memory word₀ W k c (suc t) = pick (level W (c .a) t && not (level W (c .a) (suc t))) (W (c .b) t) (W k t)
+memory word₀ W k c (suc t) = pick (falls W (c .a) t) (W (c .b) t) (W k t)
 
 -- what cell k, which is c, shows at instant t; word₀ is its start word, if it is a memory. "32 start: 1 at instant 0, then 0. 33 ground: 0.
 -- 1: constant a." "3 to 9: the operators on words a, and b where there are two." "35: control a or control b." "36: 1 when control a is 1 and

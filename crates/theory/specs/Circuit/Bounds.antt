@@ -2,7 +2,7 @@
 -- constants among them, are words. Of a file of bytes these fields are. (That a control wire's value is 0 or 1 is Shapes' level-bound.)
 -- Assumes nothing.
 use mathlib.Core.Path.{_≡_}
-use mathlib.Core.Bool.{Bool, true, false, _&&_, not}
+use mathlib.Core.Bool.{Bool, true, false}
 use mathlib.Core.List.{List}
 use mathlib.Core.WellFounded.{WellFounded·induction}
 use Prim.Native.Nat.{ℕ, zero, suc, _+_, _<_}
@@ -15,7 +15,7 @@ use lib.WfN.{Nat·lt-wfRel}
 use Rattle.model.specs.declared.Cell.{Cell}
 use Rattle.model.specs.declared.Checked.the-variants.{Accepted}
 use Rattle.model.specs.Word.{pick, bit, operate, get16}
-use Rattle.model.specs.Circuit.{cellAt, Values, level, memory, equation, startWord, Obeys, Shape, shape, kConstant, kComplement, kOperator, kStart, kGround, kDelay, kOr, kWhenTrue, kWhenFalse, kMerge, kMemory, kGated, kUnknown}
+use Rattle.model.specs.Circuit.{falls, cellAt, Values, level, memory, equation, startWord, Obeys, Shape, shape, kConstant, kComplement, kOperator, kStart, kGround, kDelay, kOr, kWhenTrue, kWhenFalse, kMerge, kMemory, kGated, kUnknown}
 use Rattle.model.specs.NetlistFile.{cellFrom, cellsAt, inFile, cellsOf, countOf, finishOf, netCheck, fileCheck}
 use Rattle.model.specs.Promises.{Bytes}
 use Rattle.laws.specs.Circuit.Ordered.{Looks, Ordered}
@@ -60,7 +60,8 @@ module _ (n : ℕ) (W : Values) (first k : ℕ) (c : Cell) (a : c .a < 65536) (f
   equation-word kWhenFalse t o past below = bit-word _
   equation-word kMerge t o past below = bit-word _
   equation-word kMemory zero o past below = f
-  equation-word kMemory (suc t) o past below = pick-word _ (past t (lt-suc-self t) (c .b) (o .1)) (past t (lt-suc-self t) k l)
+  equation-word kMemory (suc t) o past below =
+      pick-word (falls W (c .a) t) (past t (lt-suc-self t) (c .b) (o .1)) (past t (lt-suc-self t) k l)
   equation-word kGated t o past below = pick-word (level W (c .a) t) (below (c .b) (o .1)) (omega arith)
   equation-word kUnknown t o past below = omega arith
 

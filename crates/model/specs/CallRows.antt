@@ -62,6 +62,8 @@ calls =
     ∷ (first (continueChecks okFile 0 (stateOf 64 66 15)), Accepted)
     ∷ (first (continueChecks okFile 0 (stateOf 65 66 15)), refuse 16 0)
     ∷ (first (continueChecks okFile 0 (set (stateOf 65 66 15) 4 1)), refuse 15 0)
+    -- the start, a control wire, shows 2
+    ∷ (first (continueChecks okFile 1 (set (stateOf 0 0 0) 8 2)), refuse 15 0)
     ∷ (first (continueChecks okFile 1000001 (set (room 767) 4 1)), refuse 14 0)
     ∷ (first (continueChecks (set okFile 0 1) 0 []), refuse 10 0)
     -- a full run of a netlist: 9 to 12, 13, 14

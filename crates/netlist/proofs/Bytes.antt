@@ -1,10 +1,10 @@
 -- Cells in bytes: where they stand, how lists of them are taken apart, and their bytes and words. Assumes nothing.
 use mathlib.Core.List.{List, [], _∷_, _++_}
 use mathlib.Core.Path.{_≡_, refl, ap}
-use Prim.Native.Nat.{ℕ, zero, suc, _+_, _-_, _*_, _%_, _<_, _≤_, min}
+use Prim.Native.Nat.{ℕ, zero, suc, _+_, _-_, _*_, _%_, _<_, _≤_}
 use native.Mathlib.Omega.{arith}
 use native.Mathlib.Numerals.{towards-suc}
-use lib.ListN.{length, getD, set, take, drop, List·getD-eq-default}
+use lib.ListN.{length, getD, set, drop, List·getD-eq-default}
 use lib.Seq.{sets}
 use Rattle.model.specs.declared.Cell.{Cell}
 use Rattle.model.specs.Word.{bytes16, put16}
@@ -64,14 +64,6 @@ module _ (at : ℕ → ℕ) (s : List ℕ) where
   drop-cells (suc j) k zero = let e : 0 - suc j ≡ 0 = omega arith in rw e refl
   drop-cells (suc j) k (suc n) =
       let e : k + suc j ≡ k + 1 + j = omega arith in let f : suc n - suc j ≡ n - j = omega arith in rw (e, f) (drop-cells j (k + 1) n)
-
-  pub take-cells : (j k n : ℕ) → take j (cellsAt at s k n) ≡ cellsAt at s k (min j n)
-  unfolding cellsAt
-  take-cells zero k n = let e : min 0 n ≡ 0 = omega arith in rw e refl
-  take-cells (suc j) k zero = let e : min (suc j) 0 ≡ 0 = omega arith in rw e refl
-  take-cells (suc j) k (suc n) = let e : min (suc j) (suc n) ≡ suc (min j n) = omega arith in rw (e, take-cells j (k + 1) n) refl
-
--- The bytes and the words of cells -----------------------------------------------------------------------------------------------------
 
 -- One cell put in ----------------------------------------------------------------------------------------------------------------------
 

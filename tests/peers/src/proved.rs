@@ -11,31 +11,19 @@ use values::{Answer, End, Refusal, Shape};
 pub const PROVED: Peer = Peer {
     name: "proved",
     check: |table, program| {
-        answering(|reply| match table {
-            Some(table) => hub_check_timed(table, program, reply),
-            None => hub_check(program, reply),
-        })
+        answering(|reply| hub_check(table, program, reply))
     },
     compile: |table, program, file| {
-        writing(file, |file, reply| match table {
-            Some(table) => hub_compile_timed(table, program, file, reply),
-            None => hub_compile(program, file, reply),
-        })
+        writing(file, |file, reply| hub_compile(table, program, file, reply))
     },
     read_text: |table, text, program| {
         Reply::lending(program, |program| {
-            let told = accepted(|reply| match table {
-                Some(table) => hub_read_text_timed(table, text, program, reply),
-                None => hub_read_text(text, program, reply),
-            })?;
+            let told = accepted(|reply| hub_read_text(table, text, program, reply))?;
             Ok(told.first as usize)
         })
     },
     compile_text: |table, text, file| {
-        writing(file, |file, reply| match table {
-            Some(table) => hub_compile_text_timed(table, text, file, reply),
-            None => hub_compile_text(text, file, reply),
-        })
+        writing(file, |file, reply| hub_compile_text(table, text, file, reply))
     },
     write_netlist: |cells, finish, file| {
         writing(file, |file, reply| hub_write(cells, finish, file, reply))
@@ -66,16 +54,10 @@ pub const PROVED: Peer = Peer {
         simulating(state, |state, reply| hub_continue(file, state, n, reply))
     },
     run_program: |table, program, words, budget, file, state| {
-        running(file, state, |file, state, reply| match table {
-            Some(table) => hub_run_program_timed(table, program, words, budget, file, state, reply),
-            None => hub_run_program(program, words, budget, file, state, reply),
-        })
+        running(file, state, |file, state, reply| hub_run_program(table, program, words, budget, file, state, reply))
     },
     run_text: |table, text, words, budget, file, state| {
-        running(file, state, |file, state, reply| match table {
-            Some(table) => hub_run_text_timed(table, text, words, budget, file, state, reply),
-            None => hub_run_text(text, words, budget, file, state, reply),
-        })
+        running(file, state, |file, state, reply| hub_run_text(table, text, words, budget, file, state, reply))
     },
     run_netlist: |file, words, budget, state| {
         simulating(state, |state, reply| {
@@ -83,10 +65,7 @@ pub const PROVED: Peer = Peer {
         })
     },
     reference_run: |table, program, words, budget| {
-        let told = accepted(|reply| match table {
-            Some(table) => hub_reference_timed(table, program, words, budget, reply),
-            None => hub_reference(program, words, budget, reply),
-        });
+        let told = accepted(|reply| hub_reference(table, program, words, budget, reply));
         Reply::lending_none(told.map(|told| end(told, budget)))
     },
     hubrun_text: |input| printed("hubrun", input),

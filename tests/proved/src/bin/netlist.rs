@@ -12,7 +12,7 @@ fn main() {
         .read_to_end(&mut program)
         .expect("a readable standard input");
     let mut file = vec![0; 6_656];
-    let compiled = replied(|reply| hub_compile(&program, &mut file, reply));
+    let compiled = replied(|reply| hub_compile(None, &program, &mut file, reply));
     if let Some(refusal) = compiled.refusal() {
         println!("{refusal}");
         std::process::exit(1);

@@ -35,7 +35,7 @@ module _ {M n : ℕ} {p : Place} where
 
   pub assign-expr : {δ x : ℕ} {E : Expr} → Ready M (assign δ x E) p n → ExprReady M E (p .cell) n
   unfolding walkCount
-  assign-expr r = expr-part r (r .formed .1) (omega arith)
+  assign-expr r = expr-part r (r .formed .2) (omega arith)
 
   -- its kind 41 cell lies within the list
   pub assign-cell : {δ x : ℕ} {E : Expr} {b a : List ℕ} {e : Word} → Ready M (assign δ x E) p n → ExprDone M E (p .cell) b a e
@@ -69,19 +69,19 @@ module _ {M n : ℕ} {p : Place} where
     module _ {δ : ℕ} {E : Expr} (r : Ready M (ite δ E P Q) p n) where
       pub if-switches : SwitchReady M E (p .cell) n
       unfolding walkCount
-      if-switches = switch-part r (r .formed .0) (omega arith)
+      if-switches = switch-part r (r .formed .1) (omega arith)
 
       module _ {g t : ℕ} {m₀ m₁ m₂ : List ℕ} {o : Pulse} (ow : Owned δ (p .wire) (p .delay) m₀ m₁ o) (sw : Switched M E (p .cell) g m₁ m₂ t) where
         pub if-first : Ready M P (place t (o .delay) (t + 1 + 1) (p .mark)) n
         unfolding delayCount walkCount assignments
-        if-first = rw (sw .switch, ow .delay) (part r (r .formed .1) (omega (arith, r .apart)) (omega arith) (omega arith))
+        if-first = rw (sw .switch, ow .delay) (part r (r .formed .2) (omega (arith, r .apart)) (omega arith) (omega arith))
 
         pub if-second : {q : Place} {b a k l : List ℕ} → Done M P (place t (o .delay) (t + 1 + 1) (p .mark)) b a k l q
             → Ready M Q (place (t + 1) (q .delay) (q .cell) (q .mark)) n
         unfolding delayCount walkCount assignments
         if-second u₀ =
             let u = rw (sw .switch, ow .delay) at u₀ in
-            rw (sw .switch, left u) (part r (r .formed .2) (omega (arith, r .apart)) (omega arith) (omega arith))
+            rw (sw .switch, left u) (part r (r .formed .3) (omega (arith, r .apart)) (omega arith) (omega arith))
 
         pub if-merge : {q s : Place} {b a k l b′ a′ k′ l′ : List ℕ} → Done M P (place t (o .delay) (t + 1 + 1) (p .mark)) b a k l q
             → Done M Q (place (t + 1) (q .delay) (q .cell) (q .mark)) b′ a′ k′ l′ s → 6 * s .cell + 6 ≤ n
@@ -91,12 +91,12 @@ module _ {M n : ℕ} {p : Place} where
   module _ {δ : ℕ} {E : Expr} {P : Stmt} where
     pub while-switches : Ready M (while δ E P) p n → SwitchReady M E (p .cell) n
     unfolding walkCount
-    while-switches r = switch-part r (r .formed .0) (omega arith)
+    while-switches r = switch-part r (r .formed .1) (omega arith)
 
     pub while-body : {g t : ℕ} {m₁ m₂ : List ℕ} → Ready M (while δ E P) p n → Switched M E (p .cell) g m₁ m₂ t
         → Ready M P (place t (p .delay + 1) (t + 1 + 1) (p .mark)) n
     unfolding delayCount walkCount assignments
-    while-body r sw = rw (sw .switch) (part r (r .formed .1) (omega (arith, r .apart)) (omega arith) (omega arith))
+    while-body r sw = rw (sw .switch) (part r (r .formed .2) (omega (arith, r .apart)) (omega arith) (omega arith))
 
     pub while-merge : {g t : ℕ} {m₁ m₂ b a k l : List ℕ} {q : Place} → Ready M (while δ E P) p n → Switched M E (p .cell) g m₁ m₂ t
         → Done M P (place t (p .delay + 1) (t + 1 + 1) (p .mark)) b a k l q → 6 * q .cell + 6 ≤ n
@@ -105,9 +105,9 @@ module _ {M n : ℕ} {p : Place} where
 
     pub repeat-switches : Ready M (repeat δ E P) p n → SwitchReady M E (p .cell) n
     unfolding walkCount
-    repeat-switches r = switch-part r (r .formed .0) (omega arith)
+    repeat-switches r = switch-part r (r .formed .1) (omega arith)
 
     pub repeat-body : {g t : ℕ} {m₁ m₂ : List ℕ} → Ready M (repeat δ E P) p n → Switched M E (p .cell) g m₁ m₂ t
         → Ready M P (place (t + 1 + 1) (p .delay + 1) (t + 1 + 1 + 1) (p .mark)) n
     unfolding delayCount walkCount assignments
-    repeat-body r sw = rw (sw .switch) (part r (r .formed .1) (omega (arith, r .apart)) (omega arith) (omega arith))
+    repeat-body r sw = rw (sw .switch) (part r (r .formed .2) (omega (arith, r .apart)) (omega arith) (omega arith))

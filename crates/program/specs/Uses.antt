@@ -14,7 +14,8 @@ use Rattle.model.specs.Word.{pick}
 use Rattle.model.specs.Program.{Expr, const, var, compl, op, Stmt, ok, tick, assign, seq, par, ite, while, repeat, Tree, stmt, nodeAt, nodeCount, nodesFrom, none, stmtAt, reads, writes, touches, preorderE, preorder, node}
 use Rattle.laws.specs.Program.Trees.{nodes-step, nodes-none, treeAt, trees-none}
 use Rattle.program.specs.Ends.{Laid, past, past-trees, past-within}
-use Rattle.laws.specs.Program.Preorder.{nodesOf, KnownE, Known, KnownT}
+use Rattle.laws.specs.Program.Preorder.{nodesOf, KnownT}
+use Rattle.laws.specs.Program.Fit.{KnownE, Known}
 use Rattle.laws.specs.Program.Passed.{Readable, known-at, par-sides}
 use Rattle.program.specs.Ranges.{subtree}
 
@@ -115,15 +116,15 @@ module _ (touch : Bool) (x : ℕ) where
   unfolding preorder touches writes named names
   named-uses ok g = uses-none touch
   named-uses (tick d) g = uses-none touch
-  named-uses (assign d y e) g = ap (λ (b : Bool). eqb x y || b) (named-reads e g) ∙ uses-assign touch (eqb x y) (reads e x)
+  named-uses (assign d y e) g = ap (λ (b : Bool). eqb x y || b) (named-reads e (g .2)) ∙ uses-assign touch (eqb x y) (reads e x)
   named-uses (seq P Q) g = named-two (preorder P) (preorder Q) _ _ (named-uses P (g .0)) (named-uses Q (g .1)) ∙ uses-two touch _ _ _ _
   named-uses (par P Q) g = named-two (preorder P) (preorder Q) _ _ (named-uses P (g .0)) (named-uses Q (g .1)) ∙ uses-two touch _ _ _ _
   named-uses (ite d e P Q) g =
-      named-two (preorderE e) (preorder P ++ preorder Q) _ _ (named-reads e (g .0))
-      (named-two (preorder P) (preorder Q) _ _ (named-uses P (g .1)) (named-uses Q (g .2)) ∙ uses-two touch _ _ _ _)
+      named-two (preorderE e) (preorder P ++ preorder Q) _ _ (named-reads e (g .1))
+      (named-two (preorder P) (preorder Q) _ _ (named-uses P (g .2)) (named-uses Q (g .3)) ∙ uses-two touch _ _ _ _)
       ∙ uses-test touch _ _ _
-  named-uses (while d e P) g = named-two (preorderE e) (preorder P) _ _ (named-reads e (g .0)) (named-uses P (g .1)) ∙ uses-test touch _ _ _
-  named-uses (repeat d e P) g = named-two (preorderE e) (preorder P) _ _ (named-reads e (g .0)) (named-uses P (g .1)) ∙ uses-test touch _ _ _
+  named-uses (while d e P) g = named-two (preorderE e) (preorder P) _ _ (named-reads e (g .1)) (named-uses P (g .2)) ∙ uses-test touch _ _ _
+  named-uses (repeat d e P) g = named-two (preorderE e) (preorder P) _ _ (named-reads e (g .1)) (named-uses P (g .2)) ∙ uses-test touch _ _ _
 
 -- the nodes of a side
 module _ (s ends : List ℕ) (i : ℕ) (S : Side s ends i) where

@@ -4,7 +4,6 @@ use mathlib.Core.Path.{_≡_, subst}
 use mathlib.Core.List.{List}
 use Prim.Native.Nat.{ℕ, _≤_, _<_}
 use Rattle.model.specs.Program.{Expr, Stmt, assign, seq, par, ite, while, repeat}
-use Rattle.laws.specs.Program.Fit.{Timed, Separate}
 use Rattle.rules.specs.Ran.{Ready}
 
 module _ {s ends : List ℕ} where
@@ -13,46 +12,36 @@ module _ {s ends : List ℕ} where
   ready-as e R = subst (Ready s ends) e R
 
   pub assign-low : {d x : ℕ} {e : Expr} → Ready s ends (assign d x e) → x < 16
-  assign-low R = R .fit .formed .0
+  assign-low R = R .fit .formed .1
 
   module _ {P Q : Stmt} where
     pub seq-first : Ready s ends (seq P Q) → Ready s ends P
-    unfolding Timed Separate
     seq-first R = let F = R .fit in record { laid = R .laid; fit = record { formed = F .formed .0; timed = F .timed .0; separate = F .separate .0 } }
 
     pub seq-second : Ready s ends (seq P Q) → Ready s ends Q
-    unfolding Timed Separate
     seq-second R = let F = R .fit in record { laid = R .laid; fit = record { formed = F .formed .1; timed = F .timed .1; separate = F .separate .1 } }
 
     pub par-first : Ready s ends (par P Q) → Ready s ends P
-    unfolding Timed Separate
     par-first R = let F = R .fit in record { laid = R .laid; fit = record { formed = F .formed .0; timed = F .timed .0; separate = F .separate .0 } }
 
     pub par-second : Ready s ends (par P Q) → Ready s ends Q
-    unfolding Timed Separate
     par-second R = let F = R .fit in record { laid = R .laid; fit = record { formed = F .formed .1; timed = F .timed .1; separate = F .separate .1 } }
 
     pub ite-first : {d : ℕ} {e : Expr} → Ready s ends (ite d e P Q) → Ready s ends P
-    unfolding Timed Separate
-    ite-first R = let F = R .fit in record { laid = R .laid; fit = record { formed = F .formed .1; timed = F .timed .0; separate = F .separate .0 } }
+    ite-first R = let F = R .fit in record { laid = R .laid; fit = record { formed = F .formed .2; timed = F .timed .2; separate = F .separate .2 } }
 
     pub ite-second : {d : ℕ} {e : Expr} → Ready s ends (ite d e P Q) → Ready s ends Q
-    unfolding Timed Separate
-    ite-second R = let F = R .fit in record { laid = R .laid; fit = record { formed = F .formed .2; timed = F .timed .1; separate = F .separate .1 } }
+    ite-second R = let F = R .fit in record { laid = R .laid; fit = record { formed = F .formed .3; timed = F .timed .3; separate = F .separate .3 } }
 
   module _ {d : ℕ} {e : Expr} {P : Stmt} where
     pub while-body : Ready s ends (while d e P) → Ready s ends P
-    unfolding Timed Separate
-    while-body R = let F = R .fit in record { laid = R .laid; fit = record { formed = F .formed .1; timed = F .timed .1; separate = F .separate } }
+    while-body R = let F = R .fit in record { laid = R .laid; fit = record { formed = F .formed .2; timed = F .timed .2; separate = F .separate .2 } }
 
     pub while-delay : Ready s ends (while d e P) → 1 ≤ d
-    unfolding Timed
     while-delay R = R .fit .timed .0
 
     pub repeat-body : Ready s ends (repeat d e P) → Ready s ends P
-    unfolding Timed Separate
-    repeat-body R = let F = R .fit in record { laid = R .laid; fit = record { formed = F .formed .1; timed = F .timed .1; separate = F .separate } }
+    repeat-body R = let F = R .fit in record { laid = R .laid; fit = record { formed = F .formed .2; timed = F .timed .2; separate = F .separate .2 } }
 
     pub repeat-delay : Ready s ends (repeat d e P) → 1 ≤ d
-    unfolding Timed
     repeat-delay R = R .fit .timed .0

@@ -86,7 +86,7 @@ module _ (P Q : Stmt) (k : ℕ) (σ : Store) (f r : Ran) (F : Stands k (run k P 
 -- what the first side wrote, the second left alone; and what the first left alone is the second's, written or not
 joins-kept : (P Q : Stmt) → Separate (par P Q) → (k t u : ℕ) (σ σ₁ σ₂ : Store) → run k P σ ≡ ended t σ₁ → run k Q σ ≡ ended u σ₂
     → joins σ σ₁ σ₂ ≡ kept P Q σ σ₁ σ₂
-unfolding joins kept over Separate
+unfolding joins kept over
 joins-kept P Q apart k t u σ σ₁ σ₂ p q = fun-ext (λ x. by-bool (writes P x) (written x) (unwritten x))
   where
     Joined : ℕ → Type 0
@@ -96,7 +96,7 @@ joins-kept P Q apart k t u σ σ₁ σ₂ p q = fun-ext (λ x. by-bool (writes P
     written x w = rw w (go (ℕ-discrete (σ₁ x) (σ x)))
       where
         alone : σ₂ x ≡ σ x
-        alone = leaves Q x (apart-unwritten Q P (apart .3) x (writes-touches P x w)) k u σ σ₂ q
+        alone = leaves Q x (apart-unwritten Q P (apart .2 .1) x (writes-touches P x w)) k u σ σ₂ q
 
         go : Dec (σ₁ x ≡ σ x) → pick (eqb (σ₁ x) (σ x)) (σ₂ x) (σ₁ x) ≡ σ₁ x
         go (yes e) = rw (eq-eqb _ _ e) (alone ∙ sym e)

@@ -124,7 +124,7 @@ run-alike : (P : Stmt) → Formed P → AlikeOn (λ k σ. run k P σ) (λ k σ. 
 unfolding run
 run-alike ok w = λ k σ τ h. (refl, h)
 run-alike (tick d) w = λ k σ τ h. wait-alike d k _ _ (λ k₁. (refl, h))
-run-alike (assign d x e) w = λ k σ τ h. wait-alike (suc d) k _ _ (λ k₁. (refl, put-agree σ τ x _ _ h (eval-agree e (w .1) σ τ h)))
+run-alike (assign d x e) w = λ k σ τ h. wait-alike (suc d) k _ _ (λ k₁. (refl, put-agree σ τ x _ _ h (eval-agree e (w .2) σ τ h)))
 run-alike (seq P Q) w = λ k σ τ h.
     chain-alike (run k P σ) (run k P τ) _ _ (run-alike P (w .0) k σ τ h) (λ t σ₁ τ₁ b. run-alike Q (w .1) (k - t) σ₁ τ₁ b)
 run-alike (par P Q) w = λ k σ τ h.
@@ -132,9 +132,9 @@ run-alike (par P Q) w = λ k σ τ h.
     (run-alike P (w .0) k σ τ h) (run-alike Q (w .1) k σ τ h)
 run-alike (ite d e P Q) w = λ k σ τ h.
     wait-alike d k _ _
-    (λ k₁. test-alike _ _ _ _ _ _ (ap isZero (eval-agree e (w .0) σ τ h)) (run-alike Q (w .2) k₁ σ τ h) (run-alike P (w .1) k₁ σ τ h))
-run-alike (while d e P) w = λ k. whiles-alike (λ k₁ σ. run k₁ P σ) d e (w .0) (run-alike P (w .1)) (suc k) k
-run-alike (repeat d e P) w = λ k. repeats-alike (λ k₁ σ. run k₁ P σ) d e (w .0) (run-alike P (w .1)) (suc k) k
+    (λ k₁. test-alike _ _ _ _ _ _ (ap isZero (eval-agree e (w .1) σ τ h)) (run-alike Q (w .3) k₁ σ τ h) (run-alike P (w .2) k₁ σ τ h))
+run-alike (while d e P) w = λ k. whiles-alike (λ k₁ σ. run k₁ P σ) d e (w .1) (run-alike P (w .2)) (suc k) k
+run-alike (repeat d e P) w = λ k. repeats-alike (λ k₁ σ. run k₁ P σ) d e (w .1) (run-alike P (w .2)) (suc k) k
 
 -- Answers ------------------------------------------------------------------------------------------------------------------------------
 

@@ -11,13 +11,17 @@ use Rattle.model.specs.declared.Answer.{Answer}
 use Rattle.model.specs.declared.Checked.{Checked}
 use Rattle.model.specs.declared.Checked.the-variants.{Accepted, Refused}
 use Rattle.model.specs.Refusals.{refuse, first}
-use Rattle.model.specs.NetlistFile.{fileCheck, cellsOf, finishOf}
-use Rattle.model.specs.State.{stateSize, instantOf, beginState, lastState, evaluated, sound}
-use Rattle.model.specs.Calls.{Returned, wordAt, short, refusedAnswer, shows, running, beginChecks, beginCall, continueChecks, continueCall, fullState, fullCount, runNetlistChecks, runNetlistCall}
+use Rattle.model.specs.NetlistFile.{fileCheck, cellsOf}
+use Rattle.model.specs.State.{stateSize, instantOf, sound}
+use Rattle.model.specs.Calls.{Returned, short, refusedAnswer, shows, running, beginChecks, continueChecks, runNetlistChecks}
 use Rattle.laws.specs.Refusals.Laws.{all-accept, refuse-unless}
 use Rattle.simulator.specs.Fits.{Runs}
 
 -- Which is found first -----------------------------------------------------------------------------------------------------------------
+
+-- the file's own refusal, whatever the call asks then
+pub first-refuses : (c : Checked) (rest : List Checked) (r : Refusal) → c ≡ Refused r → Refused r ≡ first (c ∷ rest)
+first-refuses c rest r e = rw e refl
 
 last-check : (c : Checked) → c ≡ first (c ∷ [])
 last-check Accepted = refl
@@ -30,9 +34,6 @@ pub is-long : (has needs : ℕ) → needs ≤ has → Accepted ≡ short has nee
 is-long has needs l = rw (le-ltb has needs l) refl
 
 module _ (file words lent : List ℕ) where
-  pub begin-file : (r : Refusal) → fileCheck file ≡ Refused r → Refused r ≡ first (beginChecks file words lent)
-  begin-file r e = rw e refl
-
   pub begin-words : fileCheck file ≡ Accepted → length words < 32 → refuse 14 0 ≡ first (beginChecks file words lent)
   begin-words e l = rw (e, lt-ltb (length words) 32 l) refl
 
@@ -40,9 +41,6 @@ module _ (file words lent : List ℕ) where
   begin-room e l = rw (e, le-ltb (length words) 32 l) (last-check _)
 
 module _ (file : List ℕ) (n : ℕ) (lent : List ℕ) where
-  pub continue-file : (r : Refusal) → fileCheck file ≡ Refused r → Refused r ≡ first (continueChecks file n lent)
-  continue-file r e = rw e refl
-
   module _ (e : fileCheck file ≡ Accepted) where
     pub continue-room : (r : Refusal) → short (length lent) (stateSize (cellsOf file)) ≡ Refused r → Refused r ≡ first (continueChecks file n lent)
     continue-room r l = rw (e, l) refl
@@ -58,9 +56,6 @@ module _ (file : List ℕ) (n : ℕ) (lent : List ℕ) where
       continue-right s t = rw (e, l, s, le-ltb 1000000 (instantOf lent + n) t) refl
 
 module _ (file words : List ℕ) (n : ℕ) (lent : List ℕ) where
-  pub run-file : (r : Refusal) → fileCheck file ≡ Refused r → Refused r ≡ first (runNetlistChecks file words n lent)
-  run-file r e = rw e refl
-
   module _ (e : fileCheck file ≡ Accepted) where
     pub run-budget : 1000000 < n → refuse 13 0 ≡ first (runNetlistChecks file words n lent)
     run-budget b = rw (e, lt-ltb 1000000 n b) refl
@@ -100,52 +95,16 @@ run-accepted file words n lent e =
 
 -- What a call answers and leaves ------------------------------------------------------------------------------------------------------
 
--- a run that leaves s and counts n, behind a check
-module _ (c : Checked) (file s : List ℕ) (n : ℕ) (lent : List ℕ) where
-  refused-run : (r : Refusal) → c ≡ Refused r → running c file s n lent ≡ record { answer = refusedAnswer r; lent = lent }
-  unfolding running
-  refused-run r e = rw e refl
-
-  accepted-run : c ≡ Accepted → running c file s n lent ≡ record { answer = shows file s n; lent = s }
-  unfolding running
-  accepted-run e = rw e refl
-
 -- an answer a and a list t at exit are those of a call
 abbrev pub Tells : Returned Answer → Answer → List ℕ → Type 0
 Tells told a t = (a ≡ told .answer) × (t ≡ told .lent)
 
-tells : (told told′ : Returned Answer) (a : Answer) (t : List ℕ) → told ≡ told′ → a ≡ told′ .answer → t ≡ told′ .lent → Tells told a t
-tells told told′ a t e p q = rw e (p, q)
+-- of a run that leaves s and counts n, behind a check
+module _ (c : Checked) (file s : List ℕ) (n : ℕ) (lent : List ℕ) (a : Answer) where
+  pub run-refused : (r : Refusal) → c ≡ Refused r → a ≡ refusedAnswer r → Tells (running c file s n lent) a lent
+  unfolding running
+  run-refused r e p = rw e (p, refl)
 
-module _ (file words lent : List ℕ) (a : Answer) where
-  pub begin-refused : (r : Refusal) → first (beginChecks file words lent) ≡ Refused r → a ≡ refusedAnswer r → Tells (beginCall file words lent) a lent
-  unfolding beginCall
-  begin-refused r e p = tells _ _ a lent (refused-run _ file _ 1 lent r e) p refl
-
-  pub begin-done : (t : List ℕ) → first (beginChecks file words lent) ≡ Accepted → a ≡ shows file (beginState (cellsOf file) (wordAt words) lent) 1
-      → t ≡ beginState (cellsOf file) (wordAt words) lent → Tells (beginCall file words lent) a t
-  unfolding beginCall
-  begin-done t e p q = tells _ _ a t (accepted-run _ file _ 1 lent e) p q
-
-module _ (file : List ℕ) (n : ℕ) (lent : List ℕ) (a : Answer) where
-  pub continue-refused : (r : Refusal) → first (continueChecks file n lent) ≡ Refused r → a ≡ refusedAnswer r → Tells (continueCall file n lent) a lent
-  unfolding continueCall
-  continue-refused r e p = tells _ _ a lent (refused-run _ file _ _ lent r e) p refl
-
-  pub continue-done : (t : List ℕ) → first (continueChecks file n lent) ≡ Accepted
-      → a ≡ shows file (lastState (cellsOf file) (finishOf file) n lent) (evaluated (cellsOf file) (finishOf file) n lent)
-      → t ≡ lastState (cellsOf file) (finishOf file) n lent → Tells (continueCall file n lent) a t
-  unfolding continueCall
-  continue-done t e p q = tells _ _ a t (accepted-run _ file _ _ lent e) p q
-
-module _ (file words : List ℕ) (n : ℕ) (lent : List ℕ) (a : Answer) where
-  pub run-refused : (r : Refusal) → first (runNetlistChecks file words n lent) ≡ Refused r → a ≡ refusedAnswer r
-      → Tells (runNetlistCall file words n lent) a lent
-  unfolding runNetlistCall
-  run-refused r e p = tells _ _ a lent (refused-run _ file _ _ lent r e) p refl
-
-  pub run-done : (t : List ℕ) → first (runNetlistChecks file words n lent) ≡ Accepted
-      → a ≡ shows file (fullState file words n lent) (fullCount file words n lent) → t ≡ fullState file words n lent
-      → Tells (runNetlistCall file words n lent) a t
-  unfolding runNetlistCall
-  run-done t e p q = tells _ _ a t (accepted-run _ file _ _ lent e) p q
+  pub run-done : (t : List ℕ) → c ≡ Accepted → a ≡ shows file s n → t ≡ s → Tells (running c file s n lent) a t
+  unfolding running
+  run-done t e p q = rw e (p, q)

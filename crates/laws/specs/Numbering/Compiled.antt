@@ -189,18 +189,18 @@ w-free : (M : ℕ) (P : Stmt) → Formed P → (s d c : ℕ) → memories (walk 
 unfolding memories walk bit
 w-free M ok w s d c = refl
 w-free M (tick δ) w s d c = refl
-w-free M (assign δ x e) w s d c = simp (memories-append, e-free M e (w .1) c)
+w-free M (assign δ x e) w s d c = simp (memories-append, e-free M e (w .2) c)
 w-free M (seq P Q) w s d c = simp (memories-append, w-free M P (w .0) s d c, w-free M Q (w .1) (finishWire P s d c) (d + delayCount P) (c + walkCount P))
 w-free M (par P Q) w s d c = simp (memories-append, w-free M P (w .0) s d c, w-free M Q (w .1) s (d + delayCount P) (c + walkCount P))
 w-free M (ite δ e P Q) w s d c =
     simp (
       memories-append,
-      e-free M e (w .0) c,
-      w-free M P (w .1) (c + exprCount e) (d + ifDelayCount δ) (c + exprCount e + 1 + 1),
-      w-free M Q (w .2) (c + exprCount e + 1) (d + ifDelayCount δ + delayCount P) (c + exprCount e + 1 + 1 + walkCount P),
+      e-free M e (w .1) c,
+      w-free M P (w .2) (c + exprCount e) (d + ifDelayCount δ) (c + exprCount e + 1 + 1),
+      w-free M Q (w .3) (c + exprCount e + 1) (d + ifDelayCount δ + delayCount P) (c + exprCount e + 1 + 1 + walkCount P),
     )
-w-free M (while δ e P) w s d c = simp (memories-append, e-free M e (w .0) c, w-free M P (w .1) (c + exprCount e) (d + 1) (c + exprCount e + 1 + 1))
-w-free M (repeat δ e P) w s d c = simp (memories-append, e-free M e (w .0) c, w-free M P (w .1) (c + exprCount e + 1 + 1) (d + 1) (c + exprCount e + 1 + 1 + 1))
+w-free M (while δ e P) w s d c = simp (memories-append, e-free M e (w .1) c, w-free M P (w .2) (c + exprCount e) (d + 1) (c + exprCount e + 1 + 1))
+w-free M (repeat δ e P) w s d c = simp (memories-append, e-free M e (w .1) c, w-free M P (w .2) (c + exprCount e + 1 + 1) (d + 1) (c + exprCount e + 1 + 1 + 1))
 
 mems-all : (n : ℕ) (ks ds : List ℕ) → length ks ≡ n → length ds ≡ n → memories (memoriesOf ks ds) ≡ n
 unfolding memories memoriesOf bit

@@ -106,8 +106,8 @@ module _ (K : ℕ → ℕ) (n M : ℕ) (mem : (x : ℕ) → x < 16 → K (M + x)
   p-ok (assign δ x e) w z s d c i lM ld lc hd hw =
       let o = cell 41 0 d (exprWire M e c) in
       let r = split (HasKind K) c (exprCount e) (exprCells M e c) (o ∷ []) (e-len M e c) hw in
-      let ie = e-ok e (w .1) c lM (r .0) in (
-        ((z .0, z .1, (omega arith, i .1), refl), ((omega arith, omega arith, (omega arith, rw (hd .0)), refl), tt)),
+      let ie = e-ok e (w .2) c lM (r .0) in (
+        ((z .0 .0, z .0 .1, (omega arith, i .1), refl), ((omega arith, omega arith, (omega arith, rw (hd .0)), refl), tt)),
         join (Ok K n) c (exprCount e) (exprCells M e c) (o ∷ []) (e-len M e c) (ie .0) ((refl, (omega arith, rw (hd .0)), ie .1), tt),
         (omega arith, rw (hd .1 .0)),
       )
@@ -152,9 +152,9 @@ module _ (K : ℕ → ℕ) (n M : ℕ) (mem : (x : ℕ) → x < 16 → K (M + x)
       let rP = split (HasKind K) cP (walkCount P) (walk M P p dP cP) (walk M Q (p + 1) dQ cQ ++ (o ∷ [])) (w-len M P p dP cP) (re .1 .1 .1) in
       let rQ = split (HasKind K) cQ (walkCount Q) (walk M Q (p + 1) dQ cQ) (o ∷ []) (w-len M Q (p + 1) dQ cQ) (rP .1) in
       let ip = pulse-ok δ s d c (z .0) i (omega arith) (omega arith) (ro .0) in
-      let ie = e-ok e (w .0) c lM (re .0) in
-      let iP = p-ok P (w .1) (z .1) p dP cP (omega arith, rw (re .1 .0)) (omega arith) (omega arith) (omega arith) (rd .0) (rP .0) in
-      let iQ = p-ok Q (w .2) (z .2) (p + 1) dQ cQ (omega arith, rw (re .1 .1 .0)) (omega arith) (omega arith) (omega arith) (rd .1) (rQ .0) in (
+      let ie = e-ok e (w .1) c lM (re .0) in
+      let iP = p-ok P (w .2) (z .2) p dP cP (omega arith, rw (re .1 .0)) (omega arith) (omega arith) (omega arith) (rd .0) (rP .0) in
+      let iQ = p-ok Q (w .3) (z .3) (p + 1) dQ cQ (omega arith, rw (re .1 .1 .0)) (omega arith) (omega arith) (omega arith) (rd .1) (rQ .0) in (
         join (Ok K n) d (ifDelayCount δ) (ifDelayCells δ s) (delays P p dP cP ++ delays Q (p + 1) dQ cQ) (own-len δ s) (ip .0)
             (join (Ok K n) dP (delayCount P) (delays P p dP cP) (delays Q (p + 1) dQ cQ) (d-len P p dP cP) (iP .0) (iQ .0)),
         join (Ok K n) c (exprCount e) (exprCells M e c) (o6 ∷ (o7 ∷ (walk M P p dP cP ++ (walk M Q (p + 1) dQ cQ ++ (o ∷ []))))) (e-len M e c) (ie .0) (
@@ -175,9 +175,9 @@ module _ (K : ℕ → ℕ) (n M : ℕ) (mem : (x : ℕ) → x < 16 → K (M + x)
       let o7 = cell 37 0 d (exprWire M e c) in
       let re = split (HasKind K) c (exprCount e) (exprCells M e c) (o6 ∷ (o7 ∷ (walk M P p (d + 1) cP ++ (o ∷ [])))) (e-len M e c) hw in
       let rP = split (HasKind K) cP (walkCount P) (walk M P p (d + 1) cP) (o ∷ []) (w-len M P p (d + 1) cP) (re .1 .1 .1) in
-      let ie = e-ok e (w .0) c lM (re .0) in
-      let iP = p-ok P (w .1) (z .2) p (d + 1) cP (omega arith, rw (re .1 .0)) (omega arith) (omega arith) (omega arith) (hd .1) (rP .0) in (
-        ((z .0, z .1, (omega arith, rw (rP .1 .0)), refl), iP .0),
+      let ie = e-ok e (w .1) c lM (re .0) in
+      let iP = p-ok P (w .2) (z .2) p (d + 1) cP (omega arith, rw (re .1 .0)) (omega arith) (omega arith) (omega arith) (hd .1) (rP .0) in (
+        ((z .0 .0, z .0 .1, (omega arith, rw (rP .1 .0)), refl), iP .0),
         join (Ok K n) c (exprCount e) (exprCells M e c) (o6 ∷ (o7 ∷ (walk M P p (d + 1) cP ++ (o ∷ [])))) (e-len M e c) (ie .0) (
           (refl, (omega arith, rw (hd .0)), ie .1),
           (
@@ -194,9 +194,9 @@ module _ (K : ℕ → ℕ) (n M : ℕ) (mem : (x : ℕ) → x < 16 → K (M + x)
       let o7 = cell 37 0 d (exprWire M e c) in
       let o5 = cell 35 0 s (p + 1) in
       let re = split (HasKind K) c (exprCount e) (exprCells M e c) (o6 ∷ (o7 ∷ (o5 ∷ walk M P (p + 1 + 1) (d + 1) cP))) (e-len M e c) hw in
-      let ie = e-ok e (w .0) c lM (re .0) in
-      let iP = p-ok P (w .1) (z .2) (p + 1 + 1) (d + 1) cP (omega arith, rw (re .1 .1 .1 .0)) (omega arith) (omega arith) (omega arith) (hd .1) (re .1 .1 .1 .1) in (
-        ((z .0, z .1, (omega arith, iP .2 .1), refl), iP .0),
+      let ie = e-ok e (w .1) c lM (re .0) in
+      let iP = p-ok P (w .2) (z .2) (p + 1 + 1) (d + 1) cP (omega arith, rw (re .1 .1 .1 .0)) (omega arith) (omega arith) (omega arith) (hd .1) (re .1 .1 .1 .1) in (
+        ((z .0 .0, z .0 .1, (omega arith, iP .2 .1), refl), iP .0),
         join (Ok K n) c (exprCount e) (exprCells M e c) (o6 ∷ (o7 ∷ (o5 ∷ walk M P (p + 1 + 1) (d + 1) cP))) (e-len M e c) (ie .0) (
           (refl, (omega arith, rw (hd .0)), ie .1),
           (

@@ -64,12 +64,12 @@ written-low : (P : Stmt) → Formed P → (x : ℕ) → writes P x ≡ true → 
 unfolding writes
 written-low ok w x e = let z : _≡_ {A = ℕ} 0 1 = cc in absurd (omega arith)
 written-low (tick d) w x e = let z : _≡_ {A = ℕ} 0 1 = cc in absurd (omega arith)
-written-low (assign d y e′) w x e = let q : x ≡ y = eqb-true x y e in omega (arith, w .0)
+written-low (assign d y e′) w x e = let q : x ≡ y = eqb-true x y e in omega (arith, w .1)
 written-low (seq P Q) w x e = or-cases (writes P x) (writes Q x) e (written-low P (w .0) x) (written-low Q (w .1) x)
 written-low (par P Q) w x e = or-cases (writes P x) (writes Q x) e (written-low P (w .0) x) (written-low Q (w .1) x)
-written-low (ite d e′ P Q) w x e = or-cases (writes P x) (writes Q x) e (written-low P (w .1) x) (written-low Q (w .2) x)
-written-low (while d e′ P) w x e = written-low P (w .1) x e
-written-low (repeat d e′ P) w x e = written-low P (w .1) x e
+written-low (ite d e′ P Q) w x e = or-cases (writes P x) (writes Q x) e (written-low P (w .2) x) (written-low Q (w .3) x)
+written-low (while d e′ P) w x e = written-low P (w .2) x e
+written-low (repeat d e′ P) w x e = written-low P (w .2) x e
 
 no-clash : (n : ℕ) (P Q : Stmt) → conflict n P Q ≡ false → (x : ℕ) → x < n
     → ((writes P x && touches Q x) ≡ false) × ((writes Q x && touches P x) ≡ false)
@@ -105,7 +105,6 @@ fit-e (expr e) h = h
 fit-e (stmt P) h = tt
 
 ok-fit : Fit ok
-unfolding Timed Separate
 ok-fit = record { formed = tt; timed = tt; separate = tt }
 
 fit-s : (t : Tree) → FitT t → Fit (asStmt t)
@@ -126,23 +125,22 @@ module _ (τ : ℕ → ℕ) (a : Node) (f : nodeFault a ≡ 0) where
   Fits S = least τ S ≤ a .delay → conflicts S ≡ false → Fit S
 
   fit-stmt : (e : Expr) (O P Q : Stmt) → FormedExpr e → Fit O → Fit P → Fit Q → Fits (stmtOf a e O P Q)
-  unfolding stmtOf Timed Separate least conflicts rowOf
+  unfolding stmtOf least conflicts rowOf
   fit-stmt e O P Q w o p q =
       by-test Fits (eqb (a .kind) 16) _ _ (λ t h c. ok-fit)
       (λ n. by-test Fits (eqb (a .kind) 17) _ _ (λ t h c. record { formed = tt; timed = h; separate = tt })
       (λ n. by-test Fits (eqb (a .kind) 18) _ _
-      (λ t h c. record { formed = (named-low a f 18 (eqb-true _ _ t) refl, w); timed = omega arith; separate = tt })
+      (λ t h c. record { formed = (tt, named-low a f 18 (eqb-true _ _ t) refl, w); timed = (omega arith, tt, tt); separate = (tt, tt, tt) })
       (λ n. by-test Fits (eqb (a .kind) 19) _ _
       (λ t h c. record { formed = (o .formed, p .formed); timed = (o .timed, p .timed); separate = (o .separate, p .separate) })
       (λ n. by-test Fits (eqb (a .kind) 20) _ _
       (λ t h c.
-      let d = apart O P (o .formed) (p .formed) c in
-      record { formed = (o .formed, p .formed); timed = (o .timed, p .timed); separate = (o .separate, p .separate, d .0, d .1) })
+      record { formed = (o .formed, p .formed, tt); timed = (o .timed, p .timed, tt); separate = (o .separate, p .separate, apart O P (o .formed) (p .formed) c) })
       (λ n. by-test Fits (eqb (a .kind) 21) _ _
-      (λ t h c. record { formed = (w, p .formed, q .formed); timed = (p .timed, q .timed); separate = (p .separate, q .separate) })
+      (λ t h c. record { formed = (tt, w, p .formed, q .formed); timed = (tt, tt, p .timed, q .timed); separate = (tt, tt, p .separate, q .separate) })
       (λ n. by-test Fits (eqb (a .kind) 22) _ _
-      (λ t h c. record { formed = (w, p .formed); timed = (omega arith, p .timed); separate = p .separate })
-      (λ n h c. record { formed = (w, p .formed); timed = (omega arith, p .timed); separate = p .separate })))))))
+      (λ t h c. record { formed = (tt, w, p .formed); timed = (omega arith, tt, p .timed); separate = (tt, tt, p .separate) })
+      (λ n h c. record { formed = (tt, w, p .formed); timed = (omega arith, tt, p .timed); separate = (tt, tt, p .separate) })))))))
 
   fit-tree : (x y z : Tree) → FitT x → FitT y → FitT z
       → least τ (asStmt (treeOf a x y z)) ≤ a .delay → conflicts (asStmt (treeOf a x y z)) ≡ false → FitT (treeOf a x y z)

@@ -5,7 +5,40 @@ use mathlib.Core.Bool.{true, false}
 use Prim.Native.Nat.{ℕ, _<_, _≤_}
 use Rattle.model.specs.Program.{Expr, const, var, compl, op, Stmt, ok, tick, assign, seq, par, ite, while, repeat, writes, touches}
 
--- variables below 16 and operators of kinds 4 to 9
+-- what is asked of the delays, variables and expressions in a statement, and of the sides of a parallel
+pub record Asks : Type 1 where
+  pub delay : ℕ → Type 0
+  pub ifDelay : ℕ → Type 0
+  pub variable : ℕ → Type 0
+  pub expr : Expr → Type 0
+  pub sides : Stmt → Stmt → Type 0
+
+-- it holds wherever they stand
+abbrev pub Everywhere : Asks → Stmt → Type 0
+Everywhere a ok = Unit {0}
+Everywhere a (tick d) = a .delay d
+Everywhere a (assign d x e) = a .delay d × a .variable x × a .expr e
+Everywhere a (seq P Q) = Everywhere a P × Everywhere a Q
+Everywhere a (par P Q) = Everywhere a P × Everywhere a Q × a .sides P Q
+Everywhere a (ite d e P Q) = a .ifDelay d × a .expr e × Everywhere a P × Everywhere a Q
+Everywhere a (while d e P) = a .delay d × a .expr e × Everywhere a P
+Everywhere a (repeat d e P) = a .delay d × a .expr e × Everywhere a P
+
+-- nothing is asked of a piece
+abbrev free : {A : Type 0} → A → Type 0
+free x = Unit {0}
+
+-- operators of kinds 4 to 9
+abbrev pub KnownE : Expr → Type 0
+KnownE (const n) = Unit {0}
+KnownE (var n) = Unit {0}
+KnownE (compl e) = KnownE e
+KnownE (op k e f) = (4 ≤ k) × (k ≤ 9) × KnownE e × KnownE f
+
+abbrev pub Known : Stmt → Type 0
+Known = Everywhere (record { delay = free; ifDelay = free; variable = free; expr = KnownE; sides = λ P Q. Unit {0} })
+
+-- and variables below 16
 abbrev pub FormedExpr : Expr → Type 0
 FormedExpr (const n) = Unit {0}
 FormedExpr (var x) = x < 16
@@ -13,50 +46,27 @@ FormedExpr (compl e) = FormedExpr e
 FormedExpr (op k e f) = (4 ≤ k) × (k ≤ 9) × FormedExpr e × FormedExpr f
 
 abbrev pub Formed : Stmt → Type 0
-Formed ok = Unit {0}
-Formed (tick δ) = Unit {0}
-Formed (assign δ x e) = (x < 16) × FormedExpr e
-Formed (seq P Q) = Formed P × Formed Q
-Formed (par P Q) = Formed P × Formed Q
-Formed (ite δ e P Q) = FormedExpr e × Formed P × Formed Q
-Formed (while δ e P) = FormedExpr e × Formed P
-Formed (repeat δ e P) = FormedExpr e × Formed P
+Formed = Everywhere (record { delay = free; ifDelay = free; variable = λ x. x < 16; expr = FormedExpr; sides = λ P Q. Unit {0} })
 
 -- delays of at least 1, but for an if's
-unfoldable pub Timed : Stmt → Type 0
-Timed ok = Unit {0}
-Timed (tick d) = 1 ≤ d
-Timed (assign d x e) = 1 ≤ d
-Timed (seq P Q) = Timed P × Timed Q
-Timed (par P Q) = Timed P × Timed Q
-Timed (ite d e P Q) = Timed P × Timed Q
-Timed (while d e P) = (1 ≤ d) × Timed P
-Timed (repeat d e P) = (1 ≤ d) × Timed P
+abbrev pub Timed : Stmt → Type 0
+Timed = Everywhere (record { delay = λ d. 1 ≤ d; ifDelay = free; variable = free; expr = free; sides = λ P Q. Unit {0} })
+
+-- delays that are bytes
+abbrev pub Short : Stmt → Type 0
+Short = Everywhere (record { delay = λ d. d ≤ 255; ifDelay = λ d. d ≤ 255; variable = free; expr = free; sides = λ P Q. Unit {0} })
+
+-- delays of 1 to 255, or 0 at an if
+abbrev pub Low : Stmt → Type 0
+Low = Everywhere (record { delay = λ d. (1 ≤ d) × (d ≤ 255); ifDelay = λ d. d ≤ 255; variable = free; expr = free; sides = λ P Q. Unit {0} })
 
 -- what P writes, Q does not touch
 unfoldable pub Apart : Stmt → Stmt → Type 0
 Apart P Q = (x : ℕ) → writes P x ≡ true → touches Q x ≡ false
 
-unfoldable pub Separate : Stmt → Type 0
-Separate ok = Unit {0}
-Separate (tick d) = Unit {0}
-Separate (assign d x e) = Unit {0}
-Separate (seq P Q) = Separate P × Separate Q
-Separate (par P Q) = Separate P × Separate Q × Apart P Q × Apart Q P
-Separate (ite d e P Q) = Separate P × Separate Q
-Separate (while d e P) = Separate P
-Separate (repeat d e P) = Separate P
-
--- delays are 1 to 255, or 0 at an if
-abbrev pub Low : Stmt → Type 0
-Low ok = Unit {0}
-Low (tick δ) = (1 ≤ δ) × (δ ≤ 255)
-Low (assign δ x e) = (1 ≤ δ) × (δ ≤ 255)
-Low (seq P Q) = Low P × Low Q
-Low (par P Q) = Low P × Low Q
-Low (ite δ e P Q) = (δ ≤ 255) × Low P × Low Q
-Low (while δ e P) = (1 ≤ δ) × (δ ≤ 255) × Low P
-Low (repeat δ e P) = (1 ≤ δ) × (δ ≤ 255) × Low P
+-- sides of a parallel that are apart, either way
+abbrev pub Separate : Stmt → Type 0
+Separate = Everywhere (record { delay = free; ifDelay = free; variable = free; expr = free; sides = λ P Q. Apart P Q × Apart Q P })
 
 pub record Fit (P : Stmt) : Type 0 where
   pub formed : Formed P

@@ -150,12 +150,12 @@ kinds-grow =
     then none 10 refl then none 11 refl then none 12 refl then none 13 refl then none 14 refl then none 15 refl
     then (λ u d n us. grown (stmt ok) [] us refl refl refl (λ k. tt))
     then (λ u d n us. grown (stmt (tick d)) [] us refl refl refl (λ k. tt))
-    then (λ u d n e us. grown (stmt (assign d n e)) (expr e ∷ []) us refl refl (rw append-nil refl) (λ k. k .0))
+    then (λ u d n e us. grown (stmt (assign d n e)) (expr e ∷ []) us refl refl (rw append-nil refl) (λ k. (tt, tt, k .0)))
     then (λ u d n P Q us. grown (stmt (seq P Q)) (stmt P ∷ stmt Q ∷ []) us refl refl (rw append-nil refl) (λ k. (k .0, k .1 .0)))
-    then (λ u d n P Q us. grown (stmt (par P Q)) (stmt P ∷ stmt Q ∷ []) us refl refl (rw append-nil refl) (λ k. (k .0, k .1 .0)))
-    then (λ u d n e P Q us. grown (stmt (ite d e P Q)) (expr e ∷ stmt P ∷ stmt Q ∷ []) us refl refl (rw append-nil refl) (λ k. (k .0, k .1 .0, k .1 .1 .0)))
-    then (λ u d n e P us. grown (stmt (while d e P)) (expr e ∷ stmt P ∷ []) us refl refl (rw append-nil refl) (λ k. (k .0, k .1 .0)))
-    then (λ u d n e P us. grown (stmt (repeat d e P)) (expr e ∷ stmt P ∷ []) us refl refl (rw append-nil refl) (λ k. (k .0, k .1 .0)))
+    then (λ u d n P Q us. grown (stmt (par P Q)) (stmt P ∷ stmt Q ∷ []) us refl refl (rw append-nil refl) (λ k. (k .0, k .1 .0, tt)))
+    then (λ u d n e P Q us. grown (stmt (ite d e P Q)) (expr e ∷ stmt P ∷ stmt Q ∷ []) us refl refl (rw append-nil refl) (λ k. (tt, k .0, k .1 .0, k .1 .1 .0)))
+    then (λ u d n e P us. grown (stmt (while d e P)) (expr e ∷ stmt P ∷ []) us refl refl (rw append-nil refl) (λ k. (tt, k .0, k .1 .0)))
+    then (λ u d n e P us. grown (stmt (repeat d e P)) (expr e ∷ stmt P ∷ []) us refl refl (rw append-nil refl) (λ k. (tt, k .0, k .1 .0)))
 
 past-table : (k : ℕ) → 24 ≤ k → rowOf k .sort ≡ 0
 unfolding rowOf

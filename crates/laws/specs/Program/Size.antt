@@ -12,7 +12,7 @@ use Rattle.model.specs.declared.Options.{Options}
 use Rattle.model.specs.Program.{Expr, const, var, compl, op, Stmt, ok, tick, assign, seq, par, ite, while, repeat, Tree, asExpr, asStmt, stmtOf, treeOf, stmtAt, nodeCount, nodeAt, programOf, preorderE, preorder}
 use Rattle.model.specs.Calls.{checkCall}
 use Rattle.model.specs.Promises.{Bytes}
-use Rattle.laws.specs.Program.Fit.{Timed, Low}
+use Rattle.laws.specs.Program.Fit.{Timed, Short, Low}
 use Rattle.laws.specs.Program.Accepted.{program-fit}
 use Rattle.laws.specs.Program.Trees.{length-nodes, by-pick, root-has}
 use Rattle.laws.specs.Program.Passed.{accepted, program-nodes}
@@ -47,44 +47,33 @@ few-nodes options s e = omega (arith, all-nodes options s e, accepted options s 
 
 -- Delays are bytes --------------------------------------------------------------------------------------------------------------------------------------
 
-unfoldable Short : Stmt → Type 0
-Short ok = Unit {0}
-Short (tick d) = d ≤ 255
-Short (assign d x e) = d ≤ 255
-Short (seq P Q) = Short P × Short Q
-Short (par P Q) = Short P × Short Q
-Short (ite d e P Q) = (d ≤ 255) × Short P × Short Q
-Short (while d e P) = (d ≤ 255) × Short P
-Short (repeat d e P) = (d ≤ 255) × Short P
-
 short-stmt : (a : Node) (e : Expr) (O P Q : Stmt) → a .delay ≤ 255 → Short O → Short P → Short Q → Short (stmtOf a e O P Q)
-unfolding stmtOf Short
+unfolding stmtOf
 short-stmt a e O P Q h o p q =
     by-pick Short (eqb (a .kind) 16) _ _ tt
     (by-pick Short (eqb (a .kind) 17) _ _ h
-    (by-pick Short (eqb (a .kind) 18) _ _ h
+    (by-pick Short (eqb (a .kind) 18) _ _ (h, tt, tt)
     (by-pick Short (eqb (a .kind) 19) _ _ (o, p)
-    (by-pick Short (eqb (a .kind) 20) _ _ (o, p)
-    (by-pick Short (eqb (a .kind) 21) _ _ (h, p, q)
-    (by-pick Short (eqb (a .kind) 22) _ _ (h, p) (h, p)))))))
+    (by-pick Short (eqb (a .kind) 20) _ _ (o, p, tt)
+    (by-pick Short (eqb (a .kind) 21) _ _ (h, tt, p, q)
+    (by-pick Short (eqb (a .kind) 22) _ _ (h, tt, p) (h, tt, p)))))))
 
 short-tree : (a : Node) (x y z : Tree) → a .delay ≤ 255 → Short (asStmt x) → Short (asStmt y) → Short (asStmt z) → Short (asStmt (treeOf a x y z))
-unfolding treeOf asStmt Short
+unfolding treeOf asStmt
 short-tree a x y z h p q r = by-pick (λ (t : Tree). Short (asStmt t)) (ltb (a .kind) 16) _ _ tt (short-stmt a (asExpr x) (asStmt x) (asStmt y) (asStmt z) h p q r)
 
 low-of : (P : Stmt) → Timed P → Short P → Low P
-unfolding Timed Short
 low-of ok t h = tt
 low-of (tick d) t h = (t, h)
-low-of (assign d x e) t h = (t, h)
+low-of (assign d x e) t h = ((t .0, h .0), tt, tt)
 low-of (seq P Q) t h = (low-of P (t .0) (h .0), low-of Q (t .1) (h .1))
-low-of (par P Q) t h = (low-of P (t .0) (h .0), low-of Q (t .1) (h .1))
-low-of (ite d e P Q) t h = (h .0, low-of P (t .0) (h .1), low-of Q (t .1) (h .2))
-low-of (while d e P) t h = (t .0, h .0, low-of P (t .1) (h .1))
-low-of (repeat d e P) t h = (t .0, h .0, low-of P (t .1) (h .1))
+low-of (par P Q) t h = (low-of P (t .0) (h .0), low-of Q (t .1) (h .1), tt)
+low-of (ite d e P Q) t h = (h .0, tt, low-of P (t .2) (h .2), low-of Q (t .3) (h .3))
+low-of (while d e P) t h = ((t .0, h .0), tt, low-of P (t .2) (h .2))
+low-of (repeat d e P) t h = ((t .0, h .0), tt, low-of P (t .2) (h .2))
 
 pub program-low : (options : Options) (s : List ℕ) → Bytes s → checkCall options s ≡ Accepted → Low (programOf s)
-unfolding stmtAt asStmt Short nodeAt
+unfolding stmtAt asStmt nodeAt
 program-low options s bytes e =
     let short = root-has (λ (t : Tree). Short (asStmt t)) tt s
     (λ i l x y z t. short-tree (nodeAt s i) x y z (let z = bytes (4 * i + 1) in omega arith)) in

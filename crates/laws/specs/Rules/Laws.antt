@@ -305,16 +305,16 @@ steady-ite d e P Q σ p q k t σ′ r =
 
 -- A larger budget changes no end
 pub steady : (P : Stmt) → Timed P → (σ : Store) → Steady (λ k. run k P σ)
-unfolding run Timed
+unfolding run
 steady ok h σ = steady-end σ
 steady (tick d) h σ = steady-wait d (λ k. ended 0 σ) (steady-end σ)
 steady (assign d x e) h σ = steady-wait (suc d) (λ k. ended 0 (put σ x (eval e σ))) (steady-end (put σ x (eval e σ)))
 steady (seq P Q) h σ = steady-chain (λ k. run k P σ) (λ k σ. run k Q σ) (steady P (h .0) σ) (steady Q (h .1))
 steady (par P Q) h σ = steady-both (kept P Q σ) (λ k. run k P σ) (λ k. run k Q σ) (steady P (h .0) σ) (steady Q (h .1) σ)
-steady (ite d e P Q) h σ = steady-ite d e P Q σ (steady P (h .0) σ) (steady Q (h .1) σ)
+steady (ite d e P Q) h σ = steady-ite d e P Q σ (steady P (h .2) σ) (steady Q (h .3) σ)
 steady (while d e P) h σ = λ k t σ′ p.
-    let i = steady-whiles (λ k σ. run k P σ) d e (h .0) (steady P (h .1)) (suc k) k t σ σ′ p in
+    let i = steady-whiles (λ k σ. run k P σ) d e (h .0) (steady P (h .2)) (suc k) k t σ σ′ p in
     (i .0, λ k′ l. i .1 (suc k′) k′ l (omega arith))
 steady (repeat d e P) h σ = λ k t σ′ p.
-    let i = steady-repeats (λ k σ. run k P σ) d e (h .0) (steady P (h .1)) (suc k) k t σ σ′ p in
+    let i = steady-repeats (λ k σ. run k P σ) d e (h .0) (steady P (h .2)) (suc k) k t σ σ′ p in
     (i .0, λ k′ l. i .1 (suc k′) k′ l (omega arith))

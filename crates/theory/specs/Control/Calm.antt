@@ -345,12 +345,11 @@ rest-repeat m d e P pos hP s f clk dat a b n o q =
     }
 
 pub rest : (m : Memory) (P : Stmt) → Timed P → RestOf m P
-unfolding Timed
 rest m ok h = rest-ok m
 rest m (tick d) h = rest-tick m d
-rest m (assign d x e) h = rest-assign m d x e h
+rest m (assign d x e) h = rest-assign m d x e (h .0)
 rest m (seq P Q) h = rest-seq m P Q (rest m P (h .0)) (rest m Q (h .1))
 rest m (par P Q) h = rest-par m P Q (rest m P (h .0)) (rest m Q (h .1))
-rest m (ite d e P Q) h = rest-ite m d e P Q (rest m P (h .0)) (rest m Q (h .1))
-rest m (while d e P) h = rest-while m d e P (h .0) (rest m P (h .1))
-rest m (repeat d e P) h = rest-repeat m d e P (h .0) (rest m P (h .1))
+rest m (ite d e P Q) h = rest-ite m d e P Q (rest m P (h .2)) (rest m Q (h .3))
+rest m (while d e P) h = rest-while m d e P (h .0) (rest m P (h .2))
+rest m (repeat d e P) h = rest-repeat m d e P (h .0) (rest m P (h .2))

@@ -23,15 +23,14 @@ use Rattle.theory.specs.Control.Loops.{run-while, run-repeat}
 
 -- From any start pulse and up to any horizon, the circuit does as the rules say
 pub does : (m : Memory) (P : Stmt) → Timed P → Separate P → RunOf m P
-unfolding Timed Separate
 does m ok h g = run-ok m
 does m (tick d) h g = run-tick m d
 does m (assign d x e) h g = run-assign m d x e
 does m (seq P Q) h g = run-seq m P Q (h .0) (h .1) (does m P (h .0) (g .0)) (does m Q (h .1) (g .1))
-does m (par P Q) h g = run-par m P Q (h .0) (h .1) (g .2) (g .3) (does m P (h .0) (g .0)) (does m Q (h .1) (g .1))
-does m (ite d e P Q) h g = run-ite m d e P Q (h .0) (h .1) (does m P (h .0) (g .0)) (does m Q (h .1) (g .1))
-does m (while d e P) h g = run-while m d e P (h .0) (h .1) (does m P (h .1) g)
-does m (repeat d e P) h g = run-repeat m d e P (h .0) (h .1) (does m P (h .1) g)
+does m (par P Q) h g = run-par m P Q (h .0) (h .1) (g .2 .0) (g .2 .1) (does m P (h .0) (g .0)) (does m Q (h .1) (g .1))
+does m (ite d e P Q) h g = run-ite m d e P Q (h .2) (h .3) (does m P (h .2) (g .2)) (does m Q (h .3) (g .3))
+does m (while d e P) h g = run-while m d e P (h .0) (h .2) (does m P (h .2) (g .2))
+does m (repeat d e P) h g = run-repeat m d e P (h .0) (h .2) (does m P (h .2) (g .2))
 
 -- A pulse at a, with nothing in flight, and no other up to b; U holds all variables that P touches, and on [a, b] they follow P's own clocks and
 -- data. Of other variables nothing is asked, and nothing is said.

@@ -88,7 +88,7 @@ module _ (first : ℕ → ℕ) (W : Values) (M : ℕ) (m : ℕ → ℕ → ℕ) 
           clocks = λ y t. own-clock x d y t ∙ ap (λ (b : Bool). pick (eqb y x) b false) (D t);
           words = λ y t.
               own-data x (c + exprCount e) y t
-              ∙ ap (λ (v : ℕ). pick (eqb y x) v 0) (r .1 .0 t ∙ ap₂ (λ (p : Bool) (v : ℕ). pick p v 0) (D t) (expr e (w .1) c (r .0) t));
+              ∙ ap (λ (v : ℕ). pick (eqb y x) v 0) (r .1 .0 t ∙ ap₂ (λ (p : Bool) (v : ℕ). pick p v 0) (D t) (expr e (w .2) c (r .0) t));
         },
         tt,
         tt,
@@ -141,7 +141,7 @@ module _ (first : ℕ → ℕ) (W : Values) (M : ℕ) (m : ℕ → ℕ → ℕ) 
       let rP = split (Rule first W) cP (walkCount P) (walk M P p dP cP) tail (w-len M P p dP cP) (re .1 .1 .1) in
       let rQ = split (Rule first W) (cP + walkCount P) (walkCount Q) (walk M Q (p + 1) (dP + delayCount P) (cP + walkCount P)) (cell 35 0 f g ∷ []) (w-len M Q (p + 1) (dP + delayCount P) (cP + walkCount P)) (rP .1) in
       let D : (t : ℕ) → level W (ifPulse δ s d) t ≡ delayed δ (level W s) t = pulse-is δ s d (ro .0) in
-      let E : (t : ℕ) → W (exprWire M e c) t ≡ eval e (m t) = expr e (w .0) c (re .0) in
+      let E : (t : ℕ) → W (exprWire M e c) t ≡ eval e (m t) = expr e (w .1) c (re .0) in
       record {
         s₁ = level W p;
         f₁ = level W f;
@@ -151,8 +151,8 @@ module _ (first : ℕ → ℕ) (W : Values) (M : ℕ) (m : ℕ → ℕ → ℕ) 
         f₂ = level W g;
         clk₂ = clkOf W (clockSources Q (dP + delayCount P));
         dat₂ = datOf W (dataSources Q (cP + walkCount P));
-        left = struct P (w .1) p dP cP (rd .0) (rP .0);
-        right = struct Q (w .2) (p + 1) (dP + delayCount P) (cP + walkCount P) (rd .1) (rQ .0);
+        left = struct P (w .2) p dP cP (rd .0) (rP .0);
+        right = struct Q (w .3) (p + 1) (dP + delayCount P) (cP + walkCount P) (rd .1) (rQ .0);
         joined = joined W (clockSources P dP) (clockSources Q (dP + delayCount P)) (dataSources P cP) (dataSources Q (cP + walkCount P));
         yes₁ = λ t. yes-is p (ifPulse δ s d) (exprWire M e c) t (re .1 .0 t) (D t) (E t);
         no₂ = λ t. no-is (p + 1) (ifPulse δ s d) (exprWire M e c) t (re .1 .1 .0 t) (D t) (E t);
@@ -167,11 +167,11 @@ module _ (first : ℕ → ℕ) (W : Values) (M : ℕ) (m : ℕ → ℕ → ℕ) 
       let rP = split (Rule first W) cP (walkCount P) (walk M P p (d + 1) cP) (cell 35 0 s f ∷ []) (w-len M P p (d + 1) cP) (re .1 .1 .1) in
       let D : (t : ℕ) → level W d t ≡ delayed δ (λ u. level W s u || level W f u) t =
       λ t. level-of (delayed δ (level W (cP + walkCount P)) t) (hd .0 t) ∙ delayed-cong δ (λ u. level-of (level W s u || level W f u) (rP .1 .0 u)) t in
-      let E : (t : ℕ) → W (exprWire M e c) t ≡ eval e (m t) = expr e (w .0) c (re .0) in
+      let E : (t : ℕ) → W (exprWire M e c) t ≡ eval e (m t) = expr e (w .1) c (re .0) in
       record {
         s₁ = level W p;
         f₁ = level W f;
-        body = struct P (w .1) p (d + 1) cP (hd .1) (rP .0);
+        body = struct P (w .2) p (d + 1) cP (hd .1) (rP .0);
         begin = λ t. yes-is p d (exprWire M e c) t (re .1 .0 t) (D t) (E t);
         fin = λ t. no-is (p + 1) d (exprWire M e c) t (re .1 .1 .0 t) (D t) (E t);
         delay = tt;
@@ -182,11 +182,11 @@ module _ (first : ℕ → ℕ) (W : Values) (M : ℕ) (m : ℕ → ℕ → ℕ) 
       let f = finishWire P (p + 1 + 1) (d + 1) cP in
       let re = split (Rule first W) c (exprCount e) (exprCells M e c) _ (e-len M e c) hw in
       let D : (t : ℕ) → level W d t ≡ delayed δ (level W f) t = λ t. level-of (delayed δ (level W f) t) (hd .0 t) in
-      let E : (t : ℕ) → W (exprWire M e c) t ≡ eval e (m t) = expr e (w .0) c (re .0) in
+      let E : (t : ℕ) → W (exprWire M e c) t ≡ eval e (m t) = expr e (w .1) c (re .0) in
       record {
         s₁ = level W (p + 1 + 1);
         f₁ = level W f;
-        body = struct P (w .1) (p + 1 + 1) (d + 1) cP (hd .1) (re .1 .1 .1 .1);
+        body = struct P (w .2) (p + 1 + 1) (d + 1) cP (hd .1) (re .1 .1 .1 .1);
         begin = λ t. level-of (level W s t || level W (p + 1) t) (re .1 .1 .1 .0 t) ∙ ap (λ (b : Bool). level W s t || b) (no-is (p + 1) d (exprWire M e c) t (re .1 .1 .0 t) (D t) (E t));
         fin = λ t. yes-is p d (exprWire M e c) t (re .1 .0 t) (D t) (E t);
         delay = tt;

@@ -153,12 +153,12 @@ no-clocks : (P : Stmt) → Formed P → (y d : ℕ) → 16 ≤ y → wiresOf y (
 unfolding clockSources
 no-clocks ok w y d h = unfold wiresOf in refl
 no-clocks (tick δ) w y d h = unfold wiresOf in refl
-no-clocks (assign δ x e) w y d h = single x y d (w .0) h
+no-clocks (assign δ x e) w y d h = single x y d (w .1) h
 no-clocks (seq P Q) w y d h = simp (wires-append, no-clocks P (w .0) y d h, no-clocks Q (w .1) y (d + delayCount P) h)
 no-clocks (par P Q) w y d h = simp (wires-append, no-clocks P (w .0) y d h, no-clocks Q (w .1) y (d + delayCount P) h)
-no-clocks (ite δ e P Q) w y d h = simp (wires-append, no-clocks P (w .1) y (d + ifDelayCount δ) h, no-clocks Q (w .2) y (d + ifDelayCount δ + delayCount P) h)
-no-clocks (while δ e P) w y d h = no-clocks P (w .1) y (d + 1) h
-no-clocks (repeat δ e P) w y d h = no-clocks P (w .1) y (d + 1) h
+no-clocks (ite δ e P Q) w y d h = simp (wires-append, no-clocks P (w .2) y (d + ifDelayCount δ) h, no-clocks Q (w .3) y (d + ifDelayCount δ + delayCount P) h)
+no-clocks (while δ e P) w y d h = no-clocks P (w .2) y (d + 1) h
+no-clocks (repeat δ e P) w y d h = no-clocks P (w .2) y (d + 1) h
 
 -- ---- the theorem
 

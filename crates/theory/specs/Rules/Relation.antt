@@ -115,7 +115,7 @@ module _ (body : Body) (R : Store → ℕ → Store → Type 0) (d : ℕ) (e : E
 
 -- and an end is what the run gives within any budget of at least its time
 pub ends-run : (P : Stmt) → Timed P → (σ : Store) (t : ℕ) (σ′ : Store) → Ends P σ t σ′ → (k : ℕ) → t ≤ k → run k P σ ≡ ended t σ′
-unfolding run Ends Timed
+unfolding run Ends
 ends-run ok h σ t σ′ E k l = rw (E .0, E .1)
 ends-run (tick d) h σ t σ′ E k l = rw (E .0, E .1) (wait-all d k σ (omega (arith, E .0)))
 ends-run (assign d x e) h σ t σ′ E k l =
@@ -134,14 +134,14 @@ ends-run (ite d e P Q) h σ t σ′ E k l =
     (by-bool (isZero (eval e σ))
     (λ z.
     ite-else k d e P Q σ z
-    ∙ wait-of d k (λ k₁. run k₁ Q σ) (omega (arith, E .3)) (ends-run Q (h .1) σ (E .0) σ′ (E .2 z) (k - d) (omega (arith, E .3))))
+    ∙ wait-of d k (λ k₁. run k₁ Q σ) (omega (arith, E .3)) (ends-run Q (h .3) σ (E .0) σ′ (E .2 z) (k - d) (omega (arith, E .3))))
     (λ z.
     ite-then k d e P Q σ z
-    ∙ wait-of d k (λ k₁. run k₁ P σ) (omega (arith, E .3)) (ends-run P (h .0) σ (E .0) σ′ (E .1 z) (k - d) (omega (arith, E .3)))))
+    ∙ wait-of d k (λ k₁. run k₁ P σ) (omega (arith, E .3)) (ends-run P (h .2) σ (E .0) σ′ (E .1 z) (k - d) (omega (arith, E .3)))))
 ends-run (while d e P) h σ t σ′ E k l =
-    ends-whiles (λ k σ. run k P σ) (Ends P) d e (h .0) (ends-run P (h .1)) (E .0) σ t σ′ (E .1) k k l (omega arith)
+    ends-whiles (λ k σ. run k P σ) (Ends P) d e (h .0) (ends-run P (h .2)) (E .0) σ t σ′ (E .1) k k l (omega arith)
 ends-run (repeat d e P) h σ t σ′ E k l =
-    ends-repeats (λ k σ. run k P σ) (Ends P) d e (h .0) (ends-run P (h .1)) (E .0) σ t σ′ (E .1) k k l (omega arith)
+    ends-repeats (λ k σ. run k P σ) (Ends P) d e (h .0) (ends-run P (h .2)) (E .0) σ t σ′ (E .1) k k l (omega arith)
 
 -- One end, and a finish due at it ------------------------------------------------------------------------------------------------------
 

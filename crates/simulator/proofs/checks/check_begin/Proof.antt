@@ -1,7 +1,9 @@
 -- `check_begin` meets its contract. Assumes nothing.
 use mathlib.Core.Path.{sym, _∙_}
+use lib.ListN.{drop}
 use borrow.Author.Needs.{needs}
-use Rattle.simulator.proofs.Refusing.{begin-file, begin-words, begin-room}
+use Rattle.model.specs.Calls.{beginChecks}
+use Rattle.simulator.proofs.Refusing.{first-refuses, begin-words, begin-room}
 use Rattle.simulator.proofs.checks.check_begin.Statement.{statement}
 use Rattle.simulator.proofs.checks.check_begin.Tie as tie
 
@@ -9,7 +11,7 @@ returns : tie.Need-returns
 returns c =
     let args = c .before .before .before .before .before .before .before .args in
     let check-file = c .before .before .before .check-file in
-    begin-file (args .file .now) (args .words .now) (args .state .now) _ (sym (check-file .ensures) ∙ c .before .checked .given .1)
+    first-refuses _ (drop 1 (beginChecks (args .file .now) (args .words .now) (args .state .now))) _ (sym (check-file .ensures) ∙ c .before .checked .given .1)
 
 returns-2 : tie.Need-returns-2
 returns-2 c =

@@ -1,7 +1,9 @@
 -- `check_run` meets its contract. Assumes nothing.
 use mathlib.Core.Path.{sym, _∙_}
+use lib.ListN.{drop}
 use borrow.Author.Needs.{needs}
-use Rattle.simulator.proofs.Refusing.{run-file, run-budget, run-words, run-room}
+use Rattle.model.specs.Calls.{runNetlistChecks}
+use Rattle.simulator.proofs.Refusing.{first-refuses, run-budget, run-words, run-room}
 use Rattle.simulator.proofs.checks.check_run.Statement.{statement}
 use Rattle.simulator.proofs.checks.check_run.Tie as tie
 
@@ -9,7 +11,7 @@ returns : tie.Need-returns
 returns c =
     let args = c .before .before .before .before .before .before .before .args in
     let check-file = c .before .before .before .check-file in
-    run-file (args .file .now) (args .words .now) (args .budget) (args .state .now) _ (sym (check-file .ensures) ∙ c .before .checked .given .1)
+    first-refuses _ (drop 1 (runNetlistChecks (args .file .now) (args .words .now) (args .budget) (args .state .now))) _ (sym (check-file .ensures) ∙ c .before .checked .given .1)
 
 enum-told : tie.Need-enum-told
 enum-told c = search needs

@@ -11,19 +11,19 @@ array-share-prefix-program : tie.Need-array-share-prefix-program
 array-share-prefix-program c =
     let call = c .before .before .before .before .before in
     let told = rw (call .before .before .defaults .ensures) at (call .read-text .ensures) in
-    omega (arith, done-fits (call .before .before .before .before .args .source .now) _ _ (sym (told .0) ∙ c .before .before .told .given .1), call .read-text .kept .2 .0)
+    omega (arith, done-fits (call .before .before .before .before .args .source .now) _ _ (sym (told .0) ∙ c .before .before .told .given .1), call .read-text .kept .1 .1 .0)
 
 slice-aggregate-put-bytes : tie.Need-slice-aggregate-put-bytes
 slice-aggregate-put-bytes c =
     let call = c .before .before .before .before .before .before in
     let told = rw (call .before .before .defaults .ensures) at (call .read-text .ensures) in
-    simp length-take (omega (arith, done-fits (call .before .before .before .before .args .source .now) _ _ (sym (told .0) ∙ c .before .before .before .told .given .1), call .read-text .kept .2 .0))
+    simp length-take (omega (arith, done-fits (call .before .before .before .before .args .source .now) _ _ (sym (told .0) ∙ c .before .before .before .told .given .1), call .read-text .kept .1 .1 .0))
 
 put-bytes-requires : tie.Need-put-bytes-requires
 put-bytes-requires c κs =
     let call = c .before .before .before .before .before .before in
     let told = rw (call .before .before .defaults .ensures) at (call .read-text .ensures) in
-    simp length-take (omega (arith, done-fits (call .before .before .before .before .args .source .now) _ _ (sym (told .0) ∙ c .before .before .before .told .given .1), call .read-text .kept .2 .0))
+    simp length-take (omega (arith, done-fits (call .before .before .before .before .args .source .now) _ _ (sym (told .0) ∙ c .before .before .before .told .given .1), call .read-text .kept .1 .1 .0))
 
 returns : tie.Need-returns
 returns c =

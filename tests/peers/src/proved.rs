@@ -10,9 +10,7 @@ use values::{Answer, End, Refusal, Shape};
 
 pub const PROVED: Peer = Peer {
     name: "proved",
-    check: |table, program| {
-        answering(|reply| hub_check(table, program, reply))
-    },
+    check: |table, program| answering(|reply| hub_check(table, program, reply)),
     compile: |table, program, file| {
         writing(file, |file, reply| hub_compile(table, program, file, reply))
     },
@@ -23,7 +21,9 @@ pub const PROVED: Peer = Peer {
         })
     },
     compile_text: |table, text, file| {
-        writing(file, |file, reply| hub_compile_text(table, text, file, reply))
+        writing(file, |file, reply| {
+            hub_compile_text(table, text, file, reply)
+        })
     },
     write_netlist: |cells, finish, file| {
         writing(file, |file, reply| hub_write(cells, finish, file, reply))
@@ -54,10 +54,14 @@ pub const PROVED: Peer = Peer {
         simulating(state, |state, reply| hub_continue(file, state, n, reply))
     },
     run_program: |table, program, words, budget, file, state| {
-        running(file, state, |file, state, reply| hub_run_program(table, program, words, budget, file, state, reply))
+        running(file, state, |file, state, reply| {
+            hub_run_program(table, program, words, budget, file, state, reply)
+        })
     },
     run_text: |table, text, words, budget, file, state| {
-        running(file, state, |file, state, reply| hub_run_text(table, text, words, budget, file, state, reply))
+        running(file, state, |file, state, reply| {
+            hub_run_text(table, text, words, budget, file, state, reply)
+        })
     },
     run_netlist: |file, words, budget, state| {
         simulating(state, |state, reply| {

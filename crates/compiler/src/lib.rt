@@ -17,6 +17,9 @@ use model::Checked;
 use model::Options;
 use model::Refusal;
 use model::Written;
+use model::sizes::BLOCK;
+use model::sizes::BLOCK_CELLS;
+use model::sizes::BLOCK_LAST;
 
 // How many cells the netlist of an accepted program has; its file takes 512 bytes for every 84 of them.
 pub fn count_cells(options: Options, program: &[u8]) -> usize
@@ -42,7 +45,7 @@ pub fn compile_accepted(options: Options, program: &[u8], netlist: &mut [u8]) ->
     let made = whole::put_netlist(&mut cells, program, &ends);
     let n = made.count as usize;
     netlist::blocks::put_file(netlist, &cells, n, made.finish);
-    512 * ((n + 83) / 84)
+    BLOCK * ((n + BLOCK_LAST) / BLOCK_CELLS)
 }
 
 // Compiles a program: refusals 19 to 21, 1 to 8, and 14.
@@ -60,7 +63,7 @@ pub fn compile(options: Options, program: &[u8], netlist: &mut [u8]) -> Written
     let made = whole::put_netlist(&mut cells, program, &ends);
     let n = made.count as usize;
     let finish = made.finish;
-    let count = 512 * ((n + 83) / 84);
+    let count = BLOCK * ((n + BLOCK_LAST) / BLOCK_CELLS);
     if netlist.len() < count {
         return Written::Refused(Refusal {
             number: 14,

@@ -11,7 +11,7 @@ pub extern "C" fn hub_check(timed: bool, table: &[u8], program: &[u8], reply: &m
     ensures done { λ r. ⌜ r ≡ roomFor (now (reply .entry)) ⌝ }
     ensures reply { λ _. ⌜ now (reply .exit) ≡ ifRoom (now (reply .entry)) (replied (checkedReply (checkCall (load (givenIf timed (now (table .entry)))) (now (program .entry)))) (now (reply .entry))) (now (reply .entry)) ⌝ }
 {
-    if reply.len() < 48 {
+    if reply.len() < reply::LENGTH {
         return false;
     }
     let options = program::tables::load_if(timed, table);
@@ -32,7 +32,7 @@ pub extern "C" fn hub_compile(
     ensures file { λ _. ⌜ now (file .exit) ≡ ifRoom (now (reply .entry)) (compileCall (load (givenIf timed (now (table .entry)))) (now (program .entry)) (now (file .entry)) .lent) (now (file .entry)) ⌝ }
     ensures reply { λ _. ⌜ now (reply .exit) ≡ ifRoom (now (reply .entry)) (replied (writtenReply (compileCall (load (givenIf timed (now (table .entry)))) (now (program .entry)) (now (file .entry)) .answer)) (now (reply .entry))) (now (reply .entry)) ⌝ }
 {
-    if reply.len() < 48 {
+    if reply.len() < reply::LENGTH {
         return false;
     }
     let options = program::tables::load_if(timed, table);
@@ -47,7 +47,7 @@ pub extern "C" fn hub_write(cells: &[u8], finish: u16, file: &mut [u8], reply: &
     ensures file { λ _. ⌜ now (file .exit) ≡ ifRoom (now (reply .entry)) (writeCall (now (cells .entry)) finish (now (file .entry)) .lent) (now (file .entry)) ⌝ }
     ensures reply { λ _. ⌜ now (reply .exit) ≡ ifRoom (now (reply .entry)) (replied (writtenReply (writeCall (now (cells .entry)) finish (now (file .entry)) .answer)) (now (reply .entry))) (now (reply .entry)) ⌝ }
 {
-    if reply.len() < 48 {
+    if reply.len() < reply::LENGTH {
         return false;
     }
     let answer = hub::write_netlist(cells, finish, file);
@@ -61,7 +61,7 @@ pub extern "C" fn hub_read(file: &[u8], cells: &mut [u8], reply: &mut [u8]) -> b
     ensures cells { λ _. ⌜ now (cells .exit) ≡ ifRoom (now (reply .entry)) (readCall (now (file .entry)) (now (cells .entry)) .lent) (now (cells .entry)) ⌝ }
     ensures reply { λ _. ⌜ now (reply .exit) ≡ ifRoom (now (reply .entry)) (replied (writtenReply (readCall (now (file .entry)) (now (cells .entry)) .answer)) (now (reply .entry))) (now (reply .entry)) ⌝ }
 {
-    if reply.len() < 48 {
+    if reply.len() < reply::LENGTH {
         return false;
     }
     let answer = hub::read_netlist(file, cells);
@@ -80,7 +80,7 @@ pub extern "C" fn hub_begin(
     ensures state { λ _. ⌜ now (state .exit) ≡ ifRoom (now (reply .entry)) (beginCall (now (netlist .entry)) (now (words .entry)) (now (state .entry)) .lent) (now (state .entry)) ⌝ }
     ensures reply { λ _. ⌜ now (reply .exit) ≡ ifRoom (now (reply .entry)) (replied (answerReply (beginCall (now (netlist .entry)) (now (words .entry)) (now (state .entry)) .answer)) (now (reply .entry))) (now (reply .entry)) ⌝ }
 {
-    if reply.len() < 48 {
+    if reply.len() < reply::LENGTH {
         return false;
     }
     let answer = hub::begin(netlist, words, state);
@@ -94,7 +94,7 @@ pub extern "C" fn hub_continue(netlist: &[u8], state: &mut [u8], n: u32, reply: 
     ensures state { λ _. ⌜ now (state .exit) ≡ ifRoom (now (reply .entry)) (continueCall (now (netlist .entry)) n (now (state .entry)) .lent) (now (state .entry)) ⌝ }
     ensures reply { λ _. ⌜ now (reply .exit) ≡ ifRoom (now (reply .entry)) (replied (answerReply (continueCall (now (netlist .entry)) n (now (state .entry)) .answer)) (now (reply .entry))) (now (reply .entry)) ⌝ }
 {
-    if reply.len() < 48 {
+    if reply.len() < reply::LENGTH {
         return false;
     }
     let answer = hub::continue_by(netlist, state, n);
@@ -114,7 +114,7 @@ pub extern "C" fn hub_run_netlist(
     ensures state { λ _. ⌜ now (state .exit) ≡ ifRoom (now (reply .entry)) (runNetlistCall (now (netlist .entry)) (now (words .entry)) budget (now (state .entry)) .lent) (now (state .entry)) ⌝ }
     ensures reply { λ _. ⌜ now (reply .exit) ≡ ifRoom (now (reply .entry)) (replied (answerReply (runNetlistCall (now (netlist .entry)) (now (words .entry)) budget (now (state .entry)) .answer)) (now (reply .entry))) (now (reply .entry)) ⌝ }
 {
-    if reply.len() < 48 {
+    if reply.len() < reply::LENGTH {
         return false;
     }
     let answer = hub::run_netlist(netlist, words, budget, state);
@@ -138,7 +138,7 @@ pub extern "C" fn hub_run_program(
     ensures state { λ _. ⌜ now (state .exit) ≡ ifRoom (now (reply .entry)) (runProgramCall (load (givenIf timed (now (table .entry)))) (now (program .entry)) (now (words .entry)) budget (now (netlist .entry)) (now (state .entry)) .state) (now (state .entry)) ⌝ }
     ensures reply { λ _. ⌜ now (reply .exit) ≡ ifRoom (now (reply .entry)) (replied (answerReply (runProgramCall (load (givenIf timed (now (table .entry)))) (now (program .entry)) (now (words .entry)) budget (now (netlist .entry)) (now (state .entry)) .answer)) (now (reply .entry))) (now (reply .entry)) ⌝ }
 {
-    if reply.len() < 48 {
+    if reply.len() < reply::LENGTH {
         return false;
     }
     let options = program::tables::load_if(timed, table);
@@ -159,7 +159,7 @@ pub extern "C" fn hub_reference(
     ensures done { λ r. ⌜ r ≡ roomFor (now (reply .entry)) ⌝ }
     ensures reply { λ _. ⌜ now (reply .exit) ≡ ifRoom (now (reply .entry)) (replied (answerReply (referenceCall (load (givenIf timed (now (table .entry)))) (now (program .entry)) (now (words .entry)) budget)) (now (reply .entry))) (now (reply .entry)) ⌝ }
 {
-    if reply.len() < 48 {
+    if reply.len() < reply::LENGTH {
         return false;
     }
     let options = program::tables::load_if(timed, table);
@@ -180,7 +180,7 @@ pub extern "C" fn hub_read_text(
     ensures program { λ _. ⌜ now (program .exit) ≡ ifRoom (now (reply .entry)) (readTextCall (load (givenIf timed (now (table .entry)))) (now (source .entry)) (now (program .entry)) .lent) (now (program .entry)) ⌝ }
     ensures reply { λ _. ⌜ now (reply .exit) ≡ ifRoom (now (reply .entry)) (replied (writtenReply (readTextCall (load (givenIf timed (now (table .entry)))) (now (source .entry)) (now (program .entry)) .answer)) (now (reply .entry))) (now (reply .entry)) ⌝ }
 {
-    if reply.len() < 48 {
+    if reply.len() < reply::LENGTH {
         return false;
     }
     let options = program::tables::load_if(timed, table);
@@ -201,7 +201,7 @@ pub extern "C" fn hub_compile_text(
     ensures file { λ _. ⌜ now (file .exit) ≡ ifRoom (now (reply .entry)) (compileTextCall (load (givenIf timed (now (table .entry)))) (now (source .entry)) (now (file .entry)) .lent) (now (file .entry)) ⌝ }
     ensures reply { λ _. ⌜ now (reply .exit) ≡ ifRoom (now (reply .entry)) (replied (writtenReply (compileTextCall (load (givenIf timed (now (table .entry)))) (now (source .entry)) (now (file .entry)) .answer)) (now (reply .entry))) (now (reply .entry)) ⌝ }
 {
-    if reply.len() < 48 {
+    if reply.len() < reply::LENGTH {
         return false;
     }
     let options = program::tables::load_if(timed, table);
@@ -226,7 +226,7 @@ pub extern "C" fn hub_run_text(
     ensures state { λ _. ⌜ now (state .exit) ≡ ifRoom (now (reply .entry)) (runTextCall (load (givenIf timed (now (table .entry)))) (now (source .entry)) (now (words .entry)) budget (now (netlist .entry)) (now (state .entry)) .state) (now (state .entry)) ⌝ }
     ensures reply { λ _. ⌜ now (reply .exit) ≡ ifRoom (now (reply .entry)) (replied (answerReply (runTextCall (load (givenIf timed (now (table .entry)))) (now (source .entry)) (now (words .entry)) budget (now (netlist .entry)) (now (state .entry)) .answer)) (now (reply .entry))) (now (reply .entry)) ⌝ }
 {
-    if reply.len() < 48 {
+    if reply.len() < reply::LENGTH {
         return false;
     }
     let options = program::tables::load_if(timed, table);

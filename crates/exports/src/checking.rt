@@ -10,6 +10,8 @@ ghost use Rattle.reply.specs.Replies.{checkedReply, replied, roomFor, ifRoom};
 ghost use Rattle.netlist.specs.Scans.{Scanned};
 use model::Checked;
 use model::Refusal;
+use model::sizes::BLOCK_CELLS;
+use model::sizes::BLOCK_LAST;
 use netlist::rules::Scan;
 
 // Refusals 11 and 12.
@@ -18,7 +20,7 @@ pub fn checked(s: Scan) -> Checked
     ensures { λ r. ⌜ ((cs : List Cell) (finish : ℕ) → Scanned cs finish (length cs) s → r ≡ checkCellsCall cs finish) ⌝ }
 {
     let n = s.n;
-    if netlist::blocks::count_wrong((n + 83) / 84, n, s.finish) {
+    if netlist::blocks::count_wrong((n + BLOCK_LAST) / BLOCK_CELLS, n, s.finish) {
         return Checked::Refused(Refusal {
             number: 11,
             place: 0,
@@ -32,7 +34,7 @@ pub fn tell(s: Scan, reply: &mut [u8]) -> bool
     requires { ⌜ 6 * s .n < 2 ^ 63 ⌝ }
     ensures { λ r. ⌜ ((cs : List Cell) (finish : ℕ) → Scanned cs finish (length cs) s → (r ≡ roomFor (now (reply .entry))) × (now (reply .exit) ≡ ifRoom (now (reply .entry)) (replied (checkedReply (checkCellsCall cs finish)) (now (reply .entry))) (now (reply .entry)))) ⌝ }
 {
-    if reply.len() < 48 {
+    if reply.len() < reply::LENGTH {
         return false;
     }
     let answer = checked(s);

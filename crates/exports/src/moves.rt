@@ -7,6 +7,8 @@ ghost use Rattle.model.specs.Word.{pick};
 ghost use Rattle.model.specs.Circuit.{shape};
 ghost use Rattle.model.specs.CellSlices.{namesA, namesB, renumbered, moved, movedBytes, hasCells, renumberCall};
 use model::Cell;
+use model::sizes::CELL;
+use model::sizes::MOST_CELLS;
 use netlist::cells::Layout;
 
 // Whether a kind's a names a cell.
@@ -60,7 +62,7 @@ fn renumber_bytes(cells: &mut [u8], from: usize, end: usize, k: u16)
     while i < end {
         let c = netlist::cells::cell_at(cells, Layout::InList, i);
         let next = moved(c, k);
-        netlist::cells::put_cell(cells, 6 * i, next, 0);
+        netlist::cells::put_cell(cells, CELL * i, next, 0);
         i += 1;
     }
 }
@@ -72,7 +74,7 @@ pub extern "C" fn hub_renumber(cells: &mut [u8], from: usize, end: usize, k: u16
     ensures done { λ r. ⌜ r ≡ hasCells end (now (cells .entry)) ⌝ }
     ensures cells { λ _. ⌜ now (cells .exit) ≡ renumberCall k from end (now (cells .entry)) ⌝ }
 {
-    if 1024 < end {
+    if MOST_CELLS < end {
         return false;
     }
     if cells.len() < 6 * end {

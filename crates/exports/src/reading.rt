@@ -55,7 +55,7 @@ fn lacks(room: usize, at: usize, count: usize) -> bool
 pub fn planned(file: &[u8], at: usize, room: usize, reply: &mut [u8]) -> Plan
     ensures { λ p. ⌜ Plans (now (file .entry)) at room (now (reply .entry)) p (now (reply .exit)) ⌝ }
 {
-    if reply.len() < 48 {
+    if reply.len() < reply::LENGTH {
         return Plan {
             told: false,
             from: 0,

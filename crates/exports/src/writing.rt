@@ -11,6 +11,9 @@ ghost use Rattle.exports.specs.Writes.{Writes};
 use model::Checked;
 use model::Refusal;
 use model::Written;
+use model::sizes::BLOCK;
+use model::sizes::BLOCK_CELLS;
+use model::sizes::BLOCK_LAST;
 use netlist::rules::Scan;
 
 // Whether the answer is told, and how many cells the call puts in: none where it is refused.
@@ -29,7 +32,7 @@ fn written(s: Scan, finish: u16, room: usize) -> Written
         return Written::Refused(r);
     }
     let n = s.n;
-    let count = 512 * ((n + 83) / 84);
+    let count = BLOCK * ((n + BLOCK_LAST) / BLOCK_CELLS);
     if room < count {
         return Written::Refused(Refusal {
             number: 14,
@@ -44,7 +47,7 @@ pub fn planned(s: Scan, finish: u16, room: usize, reply: &mut [u8]) -> Write
     requires { ⌜ 6 * s .n < 2 ^ 63 ⌝ }
     ensures { λ w. ⌜ ((cs : List Cell) → Scanned cs finish (length cs) s → Writes cs finish room (now (reply .entry)) w (now (reply .exit))) ⌝ }
 {
-    if reply.len() < 48 {
+    if reply.len() < reply::LENGTH {
         return Write { told: false, n: 0 };
     }
     let answer = written(s, finish, room);

@@ -6,6 +6,13 @@ ghost use Rattle.model.specs.Calls.{overwrite, compiledFile, shows, fullState, 
 use model::Answer;
 use model::Checked;
 use model::Options;
+use model::sizes::BLOCK;
+use model::sizes::BLOCK_CELLS;
+use model::sizes::BLOCK_LAST;
+use model::sizes::LAST_INSTANT;
+use model::sizes::START_WORDS;
+use model::sizes::STATE_CELL;
+use model::sizes::STATE_HEADER;
 
 // Refusals 19 to 21, 1 to 8, 13, 14.
 fn check(
@@ -22,17 +29,17 @@ fn check(
     if let Checked::Refused(r) = checked {
         return Checked::Refused(r);
     }
-    if 1000000 < budget {
+    if LAST_INSTANT < budget {
         return simulator::checks::refuse(13);
     }
-    if words.len() < 32 {
+    if words.len() < START_WORDS {
         return simulator::checks::refuse(14);
     }
     let n = compiler::count_cells(options, program);
-    if netlist.len() < 512 * ((n + 83) / 84) {
+    if netlist.len() < BLOCK * ((n + BLOCK_LAST) / BLOCK_CELLS) {
         return simulator::checks::refuse(14);
     }
-    if state.len() < 8 + 40 * n {
+    if state.len() < STATE_HEADER + STATE_CELL * n {
         return simulator::checks::refuse(14);
     }
     Checked::Accepted

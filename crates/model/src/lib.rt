@@ -4,6 +4,7 @@ ghost use mathlib.Core.Path.{_≡_};
 ghost use Rattle.model.specs.Circuit.{mergeStep};
 
 pub mod kinds; // rows of the table of kinds, for the check of a program
+pub mod sizes; // sizes and limits, for code
 pub mod texts; // tokens and modes, for the reader of a text
 
 // A refusal: its number, and its place.

@@ -17,6 +17,12 @@ use crate::cells::Layout;
 use model::Cell;
 use model::Checked;
 use model::Refusal;
+use model::sizes::BLOCK;
+use model::sizes::BLOCK_CELLS;
+use model::sizes::BLOCK_HEADER;
+use model::sizes::BLOCK_LAST;
+use model::sizes::CELL;
+use model::sizes::MOST_CELLS;
 
 // The first three words of a block.
 pub struct Header {
@@ -34,7 +40,7 @@ pub fn check_sums(s: &[u8], m: usize) -> Checked
 {
     let mut b: usize = 0;
     while b < m {
-        if word::sum16(s, 512 * b, 256) != 0 {
+        if word::sum16(s, BLOCK * b, 256) != 0 {
             return Checked::Refused(Refusal {
                 number: 10,
                 place: b,
@@ -49,7 +55,8 @@ pub fn count_wrong(m: usize, count: usize, finish: usize) -> bool
     requires { ⌜ count + 83 < 2 ^ 64 ⌝ }
     ensures { λ r. ⌜ r ≡ countWrong m count finish ⌝ }
 {
-    !((19 <= count) & ((count <= 1024) & ((m == (count + 83) / 84) & (finish < count))))
+    !((19 <= count)
+        & ((count <= MOST_CELLS) & ((m == (count + BLOCK_LAST) / BLOCK_CELLS) & (finish < count))))
 }
 
 // Whether block b has nothing but zeros from its byte j on.
@@ -58,8 +65,8 @@ fn zero_from(s: &[u8], b: usize, j: usize) -> bool
     ensures { λ r. ⌜ r ≡ allZero (drop j (blockAt (now (s .entry)) b)) ⌝ }
 {
     let mut k = j;
-    while k < 512 {
-        if s[512 * b + k] != 0 {
+    while k < BLOCK {
+        if s[BLOCK * b + k] != 0 {
             return false;
         }
         k += 1;
@@ -72,11 +79,11 @@ fn is_headed(s: &[u8], b: usize, count: usize, finish: usize) -> bool
     requires { ⌜ (512 * b + 512 ≤ length (now s)) × (84 * b < count) × (count ≤ 1024) ⌝ }
     ensures { λ r. ⌜ r ≡ headerRight count finish b (blockAt (now (s .entry)) b) ⌝ }
 {
-    let i = 512 * b;
+    let i = BLOCK * b;
     let number = word::get16(s, i) as usize;
     let its_count = word::get16(s, i + 2) as usize;
     let its_finish = word::get16(s, i + 4) as usize;
-    let unused = zero_from(s, b, 8 + 6 * (count - 84 * b));
+    let unused = zero_from(s, b, BLOCK_HEADER + CELL * (count - BLOCK_CELLS * b));
     (number == b) & ((its_count == count) & ((its_finish == finish) & unused))
 }
 
@@ -146,7 +153,7 @@ fn close_block(d: &mut [u8], i: usize, h: Header, n: usize, sum: u16)
     requires { ⌜ (i + 512 ≤ length (now d)) × (n ≤ 84) ⌝ }
     ensures { λ _. ⌜ now (d .exit) ≡ sets (sets (now (d .entry)) (i + 8 + 6 * n) (replicate (504 - 6 * n) 0)) i (headerBytes h ++ bytes16 (checkFor sum)) ⌝ }
 {
-    clear(d, i + 8 + 6 * n, i + 512);
+    clear(d, i + BLOCK_HEADER + CELL * n, i + BLOCK);
     put_header(d, i, h, sum);
 }
 
@@ -155,17 +162,17 @@ pub fn put_next(d: &mut [u8], k: usize, n: usize, finish: u16, c: Cell, sum: u16
     requires { ⌜ (k < n) × (n ≤ 1024) × (512 * blocksFor n ≤ length (now d)) ⌝ }
     ensures { λ r. ⌜ ((net : List Cell) (was : List ℕ) → length net ≡ n → cellAt net k ≡ c → Filled net finish was k sum (now (d .entry)) → Filled net finish was (k + 1) r (now (d .exit))) ⌝ }
 {
-    let b = k / 84;
-    let j = k % 84;
+    let b = k / BLOCK_CELLS;
+    let j = k % BLOCK_CELLS;
     let h = Header {
         number: b as u16,
         count: n as u16,
         finish,
     };
     let before = sum_before(h, j, sum);
-    let total = crate::cells::put_cell(d, 512 * b + 8 + 6 * j, c, before);
+    let total = crate::cells::put_cell(d, BLOCK * b + BLOCK_HEADER + CELL * j, c, before);
     if (j == 83) | (k + 1 == n) {
-        close_block(d, 512 * b, h, j + 1, total);
+        close_block(d, BLOCK * b, h, j + 1, total);
         return total;
     }
     total

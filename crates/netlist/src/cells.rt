@@ -8,6 +8,10 @@ ghost use lib.Seq.{sets};
 ghost use Rattle.model.specs.NetlistFile.{cellBytes, cellFrom, cellsAt, sumWith};
 ghost use Rattle.netlist.specs.Offsets.{offset, Room};
 use model::Cell;
+use model::sizes::BLOCK;
+use model::sizes::BLOCK_CELLS;
+use model::sizes::BLOCK_HEADER;
+use model::sizes::CELL;
 
 // Cells one after another, or in the blocks of a file.
 pub enum Layout {
@@ -21,8 +25,8 @@ pub fn offset(layout: Layout, k: usize) -> usize
     ensures { λ r. ⌜ r ≡ offset layout k ⌝ }
 {
     match layout {
-        Layout::InList => 6 * k,
-        Layout::InFile => 512 * (k / 84) + (8 + 6 * (k % 84)),
+        Layout::InList => CELL * k,
+        Layout::InFile => BLOCK * (k / BLOCK_CELLS) + (BLOCK_HEADER + CELL * (k % BLOCK_CELLS)),
     }
 }
 

@@ -12,19 +12,23 @@ use cells::Layout;
 use model::Checked;
 use model::Refusal;
 use model::Written;
+use model::sizes::BLOCK;
+use model::sizes::BLOCK_CELLS;
+use model::sizes::BLOCK_LAST;
+use model::sizes::FILE_MOST;
 
 // Refusals 9 to 12, in their order.
 pub fn check_file(file: &[u8]) -> Checked
     ensures { λ r. ⌜ r ≡ fileCheck (now (file .entry)) ⌝ }
 {
     let size = file.len();
-    if (size == 0) | ((6656 < size) | (0 < size % 512)) {
+    if (size == 0) | ((FILE_MOST < size) | (0 < size % BLOCK)) {
         return Checked::Refused(Refusal {
             number: 9,
             place: 0,
         });
     }
-    let m = size / 512;
+    let m = size / BLOCK;
     let sums = blocks::check_sums(file, m);
     if let Checked::Refused(r) = sums {
         return Checked::Refused(r);
@@ -50,7 +54,7 @@ pub fn write_netlist(cells: &[u8], finish: u16, file: &mut [u8]) -> Written
     ensures lent { λ _. ⌜ now (file .exit) ≡ writeCall (now (cells .entry)) finish (now (file .entry)) .lent ⌝ }
 {
     let n = cells.len() / 6;
-    let m = (n + 83) / 84;
+    let m = (n + BLOCK_LAST) / BLOCK_CELLS;
     let f = finish as usize;
     if (0 < cells.len() % 6) | blocks::count_wrong(m, n, f) {
         return Written::Refused(Refusal {
@@ -62,7 +66,7 @@ pub fn write_netlist(cells: &[u8], finish: u16, file: &mut [u8]) -> Written
     if let Checked::Refused(r) = checked {
         return Written::Refused(r);
     }
-    let count = 512 * m;
+    let count = BLOCK * m;
     if file.len() < count {
         return Written::Refused(Refusal {
             number: 14,

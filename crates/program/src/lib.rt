@@ -22,6 +22,8 @@ use model::Node;
 use model::Options;
 use model::Refusal;
 use model::kinds::Row;
+use model::sizes::NODE;
+use model::sizes::PROGRAM_MOST;
 
 // What the check answers, with each node's expression time and the node after its subtree.
 pub struct Scanned {
@@ -80,7 +82,7 @@ pub fn read_node(program: &[u8], i: usize) -> Node
     requires { ⌜ 4 * i + 3 < length (now program) ⌝ }
     ensures { λ r. ⌜ r ≡ nodeAt (now (program .entry)) i ⌝ }
 {
-    let at = 4 * i;
+    let at = NODE * i;
     Node {
         kind: program[at],
         delay: program[at + 1],
@@ -124,14 +126,14 @@ fn length_wrong(program: &[u8]) -> bool
     ensures { λ r. ⌜ r ≡ programLengthWrong (now (program .entry)) ⌝ }
 {
     let n = program.len();
-    (n == 0) | ((800 < n) | (0 < n % 4))
+    (n == 0) | ((PROGRAM_MOST < n) | (0 < n % NODE))
 }
 
 // Refusals 2 to 4: the first node with a fault.
 fn first_fault(program: &[u8]) -> Checked
     ensures { λ r. ⌜ r ≡ firstFault (λ i. nodeFault (nodeAt (now (program .entry)) i)) 0 (nodeCount (now (program .entry))) ⌝ }
 {
-    let count = program.len() / 4;
+    let count = program.len() / NODE;
     let mut i: usize = 0;
     while i < count {
         let number = fault_of(read_node(program, i));
@@ -148,7 +150,7 @@ fn first_misread(program: &[u8]) -> Checked
     requires { ⌜ length (now program) ≤ 800 ⌝ }
     ensures { λ r. ⌜ r ≡ reading (2 ∷ []) 0 (nodesAt (now (program .entry)) 0) ⌝ }
 {
-    let count = program.len() / 4;
+    let count = program.len() / NODE;
     let mut exprs: usize = 0;
     let mut stmts: usize = 1;
     let mut i: usize = 0;
@@ -238,7 +240,7 @@ fn known_time(operators: &[u8], program: &[u8], times: &[u16; 200], i: usize) ->
     requires { ⌜ (length (now program) ≤ 800) × (i < nodeCount (now program) → getD (now times) i 0 ≡ time (timeIn (now operators)) (exprAt (now program) i)) ⌝ }
     ensures { λ r. ⌜ r ≡ time (timeIn (now (operators .entry))) (exprAt (now (program .entry)) i) ⌝ }
 {
-    if i < program.len() / 4 {
+    if i < program.len() / NODE {
         times[i]
     } else {
         operator_time(operators, 1)
@@ -272,7 +274,7 @@ fn time_at(
     if kind == 3 {
         return operator + first;
     }
-    let count = program.len() / 4;
+    let count = program.len() / NODE;
     let second = known_time(operators, program, times, next(ends, count, i + 1));
     operator + larger(first, second)
 }
@@ -308,7 +310,7 @@ fn first_slow(operators: &[u8], program: &[u8], times: &[u16; 200]) -> Checked
     requires { ⌜ (length (now program) ≤ 800) × ((j : ℕ) → j < nodeCount (now program) → getD (now times) j 0 ≡ time (timeIn (now operators)) (exprAt (now program) j)) ⌝ }
     ensures { λ r. ⌜ r ≡ firstFault (delayFault (timeIn (now (operators .entry))) (now (program .entry))) 0 (nodeCount (now (program .entry))) ⌝ }
 {
-    let count = program.len() / 4;
+    let count = program.len() / NODE;
     let mut i: usize = 0;
     while i < count {
         let node = read_node(program, i);
@@ -332,7 +334,7 @@ fn uses(program: &[u8], ends: &[usize; 200], i: usize, x: u16, touch: bool) -> b
     requires { ⌜ Side (now program) (now ends) i ⌝ }
     ensures { λ r. ⌜ r ≡ uses touch (stmtAt (now (program .entry)) i) x ⌝ }
 {
-    let count = program.len() / 4;
+    let count = program.len() / NODE;
     let end = next(ends, count, i);
     let mut k = i;
     while k < end {
@@ -357,7 +359,7 @@ fn first_clash(program: &[u8], ends: &[usize; 200]) -> Checked
     requires { ⌜ Readable (now program) × Laid (now program) (now ends) ⌝ }
     ensures { λ r. ⌜ r ≡ firstFault (conflictFault (now (program .entry))) 0 (nodeCount (now (program .entry))) ⌝ }
 {
-    let count = program.len() / 4;
+    let count = program.len() / NODE;
     let mut i: usize = 0;
     'nodes: while i < count {
         let node = read_node(program, i);
@@ -400,7 +402,7 @@ fn measure(operators: &[u8], program: &[u8]) -> Scanned
     requires { ⌜ Readable (now program) ⌝ }
     ensures { λ r. ⌜ Measures (now (operators .entry)) (now (program .entry)) r ⌝ }
 {
-    let count = program.len() / 4;
+    let count = program.len() / NODE;
     let mut times = [0u16; 200];
     let mut ends = [0usize; 200];
     let mut i = count;

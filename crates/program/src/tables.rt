@@ -7,6 +7,7 @@ ghost use Rattle.model.specs.TimeTables.{byteWrong, tableFault, tableChecks, gi
 use crate::refused;
 use model::Checked;
 use model::Options;
+use model::sizes::BLOCK;
 
 // The paper's operator times: entry k is that of kind k.
 const BUILT_IN: [u8; 10] = [0, 0, 0, 1, 16, 17, 1, 1, 6, 17];
@@ -43,7 +44,7 @@ fn first_wrong(file: &[u8]) -> Checked
     ensures { λ r. ⌜ r ≡ firstFault (tableFault (now (file .entry))) 0 512 ⌝ }
 {
     let mut i: usize = 0;
-    while i < 512 {
+    while i < BLOCK {
         if byte_wrong(i, file[i]) {
             return refused(21, i);
         }
@@ -56,7 +57,7 @@ fn first_wrong(file: &[u8]) -> Checked
 fn check_table(file: &[u8]) -> Checked
     ensures { λ r. ⌜ r ≡ first (tableChecks (now (file .entry))) ⌝ }
 {
-    if file.len() != 512 {
+    if file.len() != BLOCK {
         return refused(19, 0);
     }
     if word::sum16(file, 0, 256) != 0 {

@@ -10,6 +10,8 @@ use model::Outcome;
 use model::Refusal;
 use model::Written;
 
+pub const LENGTH: usize = 48;
+
 pub struct Reply {
     pub kind: u8,
     pub number: u8,

@@ -16,6 +16,8 @@ use model::Checked;
 use model::Options;
 use model::Outcome;
 use model::Refusal;
+use model::sizes::LAST_INSTANT;
+use model::sizes::START_WORDS;
 
 // How a statement ran within a budget: it ended after `time` instants with these words, or it has not ended.
 struct Ran {
@@ -386,10 +388,10 @@ pub fn reference_run(options: Options, program: &[u8], words: &[u8], budget: u32
     match checked {
         Checked::Refused(r) => refused(r.number, r.place),
         Checked::Accepted => {
-            if 1000000 < budget {
+            if LAST_INSTANT < budget {
                 return refused(13, 0);
             }
-            if words.len() < 32 {
+            if words.len() < START_WORDS {
                 return refused(14, 0);
             }
             let ends = told.ends;

@@ -10,6 +10,10 @@ ghost use Rattle.model.specs.Calls.{short, beginChecks, continueChecks, runNetl
 use crate::sound;
 use model::Checked;
 use model::Refusal;
+use model::sizes::LAST_INSTANT;
+use model::sizes::START_WORDS;
+use model::sizes::STATE_CELL;
+use model::sizes::STATE_HEADER;
 
 pub fn refuse(number: u8) -> Checked
     ensures { λ r. ⌜ r ≡ refuse number 0 ⌝ }
@@ -23,7 +27,7 @@ fn check_room(file: &[u8], state: &[u8]) -> Checked
     ensures { λ r. ⌜ r ≡ short (length (now (state .entry))) (stateSize (cellsOf (now (file .entry)))) ⌝ }
 {
     let n = word::get16(file, 2) as usize;
-    if state.len() < 8 + 40 * n {
+    if state.len() < STATE_HEADER + STATE_CELL * n {
         return refuse(14);
     }
     Checked::Accepted
@@ -36,7 +40,7 @@ pub fn check_begin(file: &[u8], words: &[u8], state: &[u8]) -> Checked
     if let Checked::Refused(r) = checked {
         return Checked::Refused(r);
     }
-    if words.len() < 32 {
+    if words.len() < START_WORDS {
         return refuse(14);
     }
     check_room(file, state)
@@ -71,10 +75,10 @@ pub fn check_run(file: &[u8], words: &[u8], budget: u32, state: &[u8]) -> Checke
     if let Checked::Refused(r) = checked {
         return Checked::Refused(r);
     }
-    if 1000000 < budget {
+    if LAST_INSTANT < budget {
         return refuse(13);
     }
-    if words.len() < 32 {
+    if words.len() < START_WORDS {
         return refuse(14);
     }
     check_room(file, state)

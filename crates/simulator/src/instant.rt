@@ -9,6 +9,8 @@ ghost use Rattle.model.specs.State.{instantOf, nextValue, value, upTo, aged, sh
 ghost use Rattle.simulator.specs.Fits.{Stands, Sees, netOf, Fits};
 use crate::wires;
 use model::Cell;
+use model::sizes::STATE_CELL;
+use model::sizes::STATE_HEADER;
 use netlist::cells::Layout;
 
 // What cell k, which is c, shows after instant 0.
@@ -84,7 +86,7 @@ fn age_all(state: &mut [u8], n: usize)
     let mut k: usize = 0;
     while k < n {
         let v = wires::now_at(state, k);
-        word::put16(state, 8 + 40 * k + 2, v);
+        word::put16(state, STATE_HEADER + STATE_CELL * k + 2, v);
         k += 1;
     }
 }
@@ -98,7 +100,7 @@ fn show_all(cells: &[u8], n: usize, state: &mut [u8])
     while k < n {
         let c = netlist::cells::cell_at(cells, Layout::InList, k);
         let v = next_value(c, state, k);
-        word::put16(state, 8 + 40 * k, v);
+        word::put16(state, STATE_HEADER + STATE_CELL * k, v);
         k += 1;
     }
 }

@@ -8,6 +8,10 @@ ghost use Rattle.model.specs.State.{cellSound, cellsSound, sound};
 ghost use Rattle.simulator.specs.Fits.{Stands, Runs};
 use crate::wires;
 use model::Cell;
+use model::sizes::LINE;
+use model::sizes::STATE_CELL;
+use model::sizes::STATE_HEADER;
+use model::sizes::STATE_LINE;
 use netlist::cells::Layout;
 
 // Whether n bytes from i on are zero.
@@ -33,14 +37,14 @@ fn cell_sound(c: Cell, s: &[u8], k: usize) -> bool
     ensures { λ r. ⌜ r ≡ cellSound c (now (s .entry)) k ⌝ }
 {
     let kind = c.kind;
-    let at = 8 + 40 * k;
+    let at = STATE_HEADER + STATE_CELL * k;
     let most = word::bit(kind == 38);
     let now = wires::now_at(s, k);
     let ago = wires::before_at(s, k);
     let values = !((32 <= kind) & (kind <= 38)) | ((now <= 1) & (ago <= 1));
     let held = ((s[at + 4] as u16) <= most) & ((s[at + 5] as u16) <= most);
     let zeros = all_zero(s, at + 6, 2);
-    let line = all_zero(s, at + 8, 32);
+    let line = all_zero(s, at + STATE_LINE, LINE);
     values & (held & (zeros & ((kind == 34) | line)))
 }
 

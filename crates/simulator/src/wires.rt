@@ -8,19 +8,23 @@ ghost use Rattle.model.specs.Circuit.{high, mergeStep};
 ghost use Rattle.model.specs.State.{base, nowAt, beforeAt, heldAt, lineBit, shiftedIn, holding};
 ghost use Rattle.simulator.specs.Fits.{Stands};
 use model::Merge;
+use model::sizes::LINE;
+use model::sizes::STATE_CELL;
+use model::sizes::STATE_HEADER;
+use model::sizes::STATE_LINE;
 
 pub fn now_at(state: &[u8], k: usize) -> u16
     requires { ⌜ Stands (now state) k ⌝ }
     ensures { λ r. ⌜ r ≡ nowAt (now (state .entry)) k ⌝ }
 {
-    word::get16(state, 8 + 40 * k)
+    word::get16(state, STATE_HEADER + STATE_CELL * k)
 }
 
 pub fn before_at(state: &[u8], k: usize) -> u16
     requires { ⌜ Stands (now state) k ⌝ }
     ensures { λ r. ⌜ r ≡ beforeAt (now (state .entry)) k ⌝ }
 {
-    word::get16(state, 8 + 40 * k + 2)
+    word::get16(state, STATE_HEADER + STATE_CELL * k + 2)
 }
 
 pub fn is_high(state: &[u8], k: usize) -> bool
@@ -43,7 +47,7 @@ pub fn held_at(state: &[u8], k: usize) -> Merge
     requires { ⌜ Stands (now state) k ⌝ }
     ensures { λ r. ⌜ r ≡ heldAt (now (state .entry)) k ⌝ }
 {
-    let at = 8 + 40 * k;
+    let at = STATE_HEADER + STATE_CELL * k;
     let a = state[at + 4] == 1;
     let b = state[at + 5] == 1;
     Merge { a, b }
@@ -63,7 +67,7 @@ pub fn hold(state: &mut [u8], k: usize, m: Merge)
     requires { ⌜ Stands (now state) k ⌝ }
     ensures { λ _. ⌜ now (state .exit) ≡ holding (now (state .entry)) k m ⌝ }
 {
-    let at = 8 + 40 * k;
+    let at = STATE_HEADER + STATE_CELL * k;
     state[at + 4] = word::bit(m.a) as u8;
     state[at + 5] = word::bit(m.b) as u8;
 }
@@ -73,7 +77,7 @@ pub fn line_bit(state: &[u8], k: usize, i: usize) -> u16
     requires { ⌜ Stands (now state) k × (i < 256) ⌝ }
     ensures { λ r. ⌜ r ≡ lineBit (now (state .entry)) k i ⌝ }
 {
-    let at = 8 + 40 * k + 8 + i / 8;
+    let at = STATE_HEADER + STATE_CELL * k + STATE_LINE + i / 8;
     let byte = state[at] as u16;
     (byte >> (i % 8)) % 2
 }
@@ -83,8 +87,8 @@ pub fn shift_line(state: &mut [u8], k: usize, input: bool)
     requires { ⌜ Stands (now state) k ⌝ }
     ensures { λ _. ⌜ now (state .exit) ≡ shiftedIn 32 (now (state .entry)) (base k + 8) (bit input) ⌝ }
 {
-    let mut i = 8 + 40 * k + 8;
-    let mut left: usize = 32;
+    let mut i = STATE_HEADER + STATE_CELL * k + STATE_LINE;
+    let mut left: usize = LINE;
     let mut carry = word::bit(input);
     while 0 < left {
         let v = 2 * (state[i] as u16) + carry;

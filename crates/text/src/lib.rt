@@ -23,6 +23,8 @@ use model::Checked;
 use model::Options;
 use model::Refusal;
 use model::Written;
+use model::sizes::MOST_NODES;
+use model::sizes::TEXT_MOST;
 use parsing::Parsed;
 
 fn refused(number: u8, place: usize) -> Written
@@ -35,7 +37,7 @@ fn refused(number: u8, place: usize) -> Written
 fn sized(n: usize) -> Written
     ensures { λ r. ⌜ r ≡ writing (refuseIf (ltb 800 (4 * n)) 1 0) [] (4 * n) 0 [] .answer ⌝ }
 {
-    if 200 < n {
+    if MOST_NODES < n {
         return refused(1, 0);
     }
     Written::Done {
@@ -50,8 +52,8 @@ pub fn program_of(text: &[u8], program: &mut [u8]) -> Written
     ensures answer { λ r. ⌜ r ≡ programTold (now (text .entry)) ⌝ }
     ensures program { λ _. ⌜ Given (now (text .entry)) (now (program .exit)) ⌝ }
 {
-    if 4096 < text.len() {
-        return refused(17, 4096);
+    if TEXT_MOST < text.len() {
+        return refused(17, TEXT_MOST);
     }
     let checked = scanner::check_words(text);
     if let Checked::Refused(r) = checked {

@@ -1,0 +1,38 @@
+// Sizes and limits that code goes by, each the paper's. Definitions have the numbers themselves.
+
+// A netlist file: blocks of a header and so many cells, and a last cell's number in its block.
+pub const BLOCK: usize = 512;
+
+pub const BLOCK_HEADER: usize = 8;
+
+pub const BLOCK_CELLS: usize = 84;
+
+pub const BLOCK_LAST: usize = 83;
+
+pub const CELL: usize = 6;
+
+pub const MOST_CELLS: usize = 1024;
+
+pub const FILE_MOST: usize = 6656;
+
+// A state: a header, and for each cell its values, held bits and line.
+pub const STATE_HEADER: usize = 8;
+
+pub const STATE_CELL: usize = 40;
+
+pub const STATE_LINE: usize = 8;
+
+pub const LINE: usize = 32;
+
+// A program, a text, the start words, a run.
+pub const NODE: usize = 4;
+
+pub const MOST_NODES: usize = 200;
+
+pub const PROGRAM_MOST: usize = 800;
+
+pub const TEXT_MOST: usize = 4096;
+
+pub const START_WORDS: usize = 32;
+
+pub const LAST_INSTANT: u32 = 1000000;

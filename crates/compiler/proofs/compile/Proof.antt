@@ -11,9 +11,6 @@ returns c =
     let scan = c .before .before .before .scan in
     compile-refused (c .before .before .before .before .before .before .args .options) _ _ (sym (scan .ensures .checked) ∙ c .before .checked .given .1)
 
-enum-told : tie.Need-enum-told
-enum-told c = search needs
-
 put-netlist-requires : tie.Need-put-netlist-requires
 put-netlist-requires c κs =
     let scan = c .before .before .before .before .before .scan in
@@ -51,5 +48,5 @@ returns-3 c =
 pub compile-spec : {M : Type 1} → statement M
 compile-spec =
     tie.close
-    (tie.spec (λ c κs. search needs) (λ c. search needs) returns enum-told (λ c. search needs) put-netlist-requires (λ c. search needs) (λ c. search needs)
+    (tie.spec (λ c κs. search needs) (λ c. search needs) returns (λ c. search needs) (λ c. search needs) put-netlist-requires (λ c. search needs) (λ c. search needs)
     (λ c. search needs) returns-2 (λ c. search needs) put-file-requires (λ c. search needs) returns-3)

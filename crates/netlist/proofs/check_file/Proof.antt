@@ -22,9 +22,6 @@ returns-2 c =
     sums-refused (args .file .now) (c .before .before .before .before .if1 .left)
     (sym (c .before .before .before .check-sums .ensures) ∙ c .before .sums .given .1)
 
-enum-told : tie.Need-enum-told
-enum-told c = search needs
-
 get16-requires : tie.Need-get16-requires
 unfolding fileLengthWrong
 get16-requires c κs =
@@ -105,7 +102,7 @@ check-file-spec =
     check-sums-requires
     (λ c. search needs)
     returns-2
-    enum-told
+    (λ c. search needs)
     get16-requires
     (λ c. search needs)
     get16-requires-2

@@ -15,9 +15,6 @@ returns c =
     let args = c .before .before .before .before .before .before .args in
     read-refused (args .file .now) (args .cells .now) (sym (c .before .before .before .check-file .ensures) ∙ c .before .checked .given .1)
 
-enum-told : tie.Need-enum-told
-enum-told c = search needs
-
 get16-requires : tie.Need-get16-requires
 get16-requires c κs =
     let args = c .before .before .before .before .before .args in
@@ -66,7 +63,7 @@ read-netlist-spec =
     (λ c κs. search needs)
     (λ c. search needs)
     returns
-    enum-told
+    (λ c. search needs)
     get16-requires
     (λ c. search needs)
     get16-requires-2

@@ -29,9 +29,6 @@ returns-2 c =
     let count-right = rw (count-wrong .ensures) at (c .before .before .before .before .if1 .left) in
     cells-refused cells (args .finish) lent count-right (sym (c .before .before .before .check-cells .ensures) ∙ c .before .checked .given .1)
 
-enum-told : tie.Need-enum-told
-enum-told c = search needs
-
 returns-3 : tie.Need-returns-3
 returns-3 c =
     let args = c .before .before .before .before .before .before .before .before .args in
@@ -76,7 +73,7 @@ write-netlist-spec =
     check-cells-requires
     (λ c. search needs)
     returns-2
-    enum-told
+    (λ c. search needs)
     (λ c. search needs)
     returns-3
     put-file-requires

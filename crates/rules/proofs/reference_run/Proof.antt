@@ -7,9 +7,6 @@ use Rattle.rules.proofs.Answers.{call-refused, call-over, call-short, c
 use Rattle.rules.proofs.reference_run.Statement.{statement}
 use Rattle.rules.proofs.reference_run.Tie as tie
 
-enum-told : tie.Need-enum-told
-enum-told c = search needs
-
 returns : tie.Need-returns
 returns c =
     let scan = c .before .before .before .before .scan in
@@ -55,7 +52,7 @@ reference-run-spec =
     (λ c κs. search needs)
     (λ c. search needs)
     (λ c κs. search needs)
-    enum-told
+    (λ c. search needs)
     (λ c κs. search needs)
     returns
     (λ c κs. search needs)

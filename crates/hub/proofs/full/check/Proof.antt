@@ -6,22 +6,10 @@ use borrow.Author.Needs.{needs}
 use Rattle.hub.proofs.full.check.Statement.{statement}
 use Rattle.hub.proofs.full.check.Tie as tie
 
-check-requires : tie.Need-check-requires
-check-requires c κs = search needs
-
-enum-known-checked : tie.Need-enum-known-checked
-enum-known-checked c = search needs
-
 returns : tie.Need-returns
 returns c =
     let args = c .before .before .before .before .before .before .before .before .args in
     at-program (args .options) (args .program .now) (args .words .now) (args .budget) (args .netlist .now) (args .state .now) ((sym (c .before .before .before .check .ensures) ∙ c .before .checked .given .1))
-
-enum-told : tie.Need-enum-told
-enum-told c = search needs
-
-refuse-requires : tie.Need-refuse-requires
-refuse-requires c κs = search needs
 
 returns-2 : tie.Need-returns-2
 returns-2 c =
@@ -29,9 +17,6 @@ returns-2 c =
     let args = told .before .before .before .before .before .before .before .args in
     let accepted = (sym (told .before .before .check .ensures) ∙ told .enum-told .given .1) in
     c .refuse .ensures ∙ at-budget (args .options) (args .program .now) (args .words .now) (args .budget) (args .netlist .now) (args .state .now) accepted (omega (arith, c .before .if1 .taken))
-
-refuse-requires-2 : tie.Need-refuse-requires-2
-refuse-requires-2 c κs = search needs
 
 returns-3 : tie.Need-returns-3
 returns-3 c =
@@ -53,9 +38,6 @@ mul-if3 c =
     let told = c .before .before .before in
     omega (arith, c .count-cells .ensures, few-cells (c .before .before .before .before .before .before .before .before .before .before .args .options) _ ((sym (told .before .before .check .ensures) ∙ told .enum-told .given .1)))
 
-refuse-requires-3 : tie.Need-refuse-requires-3
-refuse-requires-3 c κs = search needs
-
 returns-4 : tie.Need-returns-4
 returns-4 c =
     let told = c .before .before .before .before .before in
@@ -73,9 +55,6 @@ add-if4 : tie.Need-add-if4
 add-if4 c =
     let told = c .before .before .before .before in
     omega (arith, c .before .count-cells .ensures, few-cells (c .before .before .before .before .before .before .before .before .before .before .before .args .options) _ ((sym (told .before .before .check .ensures) ∙ told .enum-told .given .1)))
-
-refuse-requires-4 : tie.Need-refuse-requires-4
-refuse-requires-4 c κs = search needs
 
 returns-5 : tie.Need-returns-5
 returns-5 c =
@@ -96,21 +75,21 @@ pub check-spec : {M : Type 1} → statement M
 check-spec =
     tie.close
     (tie.spec
-    check-requires
-    enum-known-checked
+    (λ c κs. search needs)
+    (λ c. search needs)
     returns
-    enum-told
-    refuse-requires
+    (λ c. search needs)
+    (λ c κs. search needs)
     returns-2
-    refuse-requires-2
+    (λ c κs. search needs)
     returns-3
     count-cells-requires
     add-if3
     mul-if3
-    refuse-requires-3
+    (λ c κs. search needs)
     returns-4
     mul-if4
     add-if4
-    refuse-requires-4
+    (λ c κs. search needs)
     returns-5
     returns-6)

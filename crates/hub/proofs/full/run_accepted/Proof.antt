@@ -13,12 +13,6 @@ compile-accepted-requires c κs =
     let r = ready (args .options) (args .program .now) (args .words .now) (args .budget) (args .netlist .now) (args .state .now) (start .pre) in
     (r .accepted, r .fits)
 
-sub-full-run : tie.Need-sub-full-run
-sub-full-run c = search needs
-
-part-full-run-start : tie.Need-part-full-run-start
-part-full-run-start c = search needs
-
 part-full-run-end : tie.Need-part-full-run-end
 part-full-run-end c =
     let compile = c .before .before .before .compile-accepted in
@@ -35,12 +29,6 @@ full-run-requires c κs =
     let same = part-is (compiledFile (args .program .now)) (args .netlist .now) _ _ (compile .ensures .0) (compile .ensures .1) in
     rw same (runs (args .options) (args .program .now) (args .words .now) (args .budget) (args .netlist .now) (args .state .now) (λ i. omega (arith, known i)) r, r .start, omega (arith, r .few))
 
-same-length : tie.Need-same-length
-same-length c = search needs
-
-same-length-2 : tie.Need-same-length-2
-same-length-2 c = search needs
-
 returns : tie.Need-returns
 returns c =
     let compile = c .before .before .before .before .before .before .before .before .compile-accepted in
@@ -54,10 +42,10 @@ run-accepted-spec =
     tie.close
     (tie.spec
     compile-accepted-requires
-    sub-full-run
-    part-full-run-start
+    (λ c. search needs)
+    (λ c. search needs)
     part-full-run-end
     full-run-requires
-    same-length
-    same-length-2
+    (λ c. search needs)
+    (λ c. search needs)
     returns)

@@ -10,29 +10,11 @@ use borrow.Author.Needs.{needs}
 use Rattle.hub.proofs.texts.compile.Statement.{statement}
 use Rattle.hub.proofs.texts.compile.Tie as tie
 
-enum-known-beside : tie.Need-enum-known-beside
-enum-known-beside c = search needs
-
 returns : tie.Need-returns
 returns c =
     let args = c .before .before .before .before .before .args in
     let r = compile-unloaded (args .options) (args .source .now) (args .file .now) _ (c .before .beside .given .1) in
     (sym (ap (λ (t : Returned Written). t .answer) r), sym (ap (λ (t : Returned Written). t .lent) r))
-
-enum-told : tie.Need-enum-told
-enum-told c = search needs
-
-slice-aggregate-program-of : tie.Need-slice-aggregate-program-of
-slice-aggregate-program-of c = search needs
-
-program-of-requires : tie.Need-program-of-requires
-program-of-requires c κs = search needs
-
-enum-known-told : tie.Need-enum-known-told
-enum-known-told c = search needs
-
-enum-known-told-2 : tie.Need-enum-known-told-2
-enum-known-told-2 c = search needs
 
 array-share-prefix-program : tie.Need-array-share-prefix-program
 array-share-prefix-program c =
@@ -44,18 +26,12 @@ slice-aggregate-compile c =
     let of = c .before .before .before .before .before .program-of in
     simp length-take (omega (arith, told-fits (c .before .before .before .before .before .before .before .before .before .before .before .args .source .now) _ _ (sym (of .ensures .0) ∙ c .before .before .told2 .given .1), of .kept .1 .0))
 
-compile-requires : tie.Need-compile-requires
-compile-requires c κs = search needs
-
 returns-2 : tie.Need-returns-2
 returns-2 c =
     let args = c .before .before .before .before .before .before .before .before .before .before .args in
     let e = sym (c .before .before .before .before .program-of .ensures .0) ∙ c .before .told .given .1 in
     let r = compile-refused (args .options) (args .source .now) (args .file .now) (c .before .before .before .before .before .before .enum-told .given .1) _ (told-refused (args .source .now) _ e) in
     (sym (ap (λ (t : Returned Written). t .answer) r), sym (ap (λ (t : Returned Written). t .lent) r))
-
-same-length : tie.Need-same-length
-same-length c = search needs
 
 returns-3 : tie.Need-returns-3
 returns-3 c =
@@ -72,16 +48,16 @@ pub compile-spec : {M : Type 1} → statement M
 compile-spec =
     tie.close
     (tie.spec
-    enum-known-beside
+    (λ c. search needs)
     returns
-    enum-told
-    slice-aggregate-program-of
-    program-of-requires
-    enum-known-told
-    enum-known-told-2
+    (λ c. search needs)
+    (λ c. search needs)
+    (λ c κs. search needs)
+    (λ c. search needs)
+    (λ c. search needs)
     array-share-prefix-program
     slice-aggregate-compile
-    compile-requires
+    (λ c κs. search needs)
     returns-2
-    same-length
+    (λ c. search needs)
     returns-3)

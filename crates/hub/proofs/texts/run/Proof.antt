@@ -9,35 +9,11 @@ use borrow.Author.Needs.{needs}
 use Rattle.hub.proofs.texts.run.Statement.{statement}
 use Rattle.hub.proofs.texts.run.Tie as tie
 
-enum-known-beside : tie.Need-enum-known-beside
-enum-known-beside c = search needs
-
-refused-requires : tie.Need-refused-requires
-refused-requires c κs = search needs
-
 returns : tie.Need-returns
 returns c =
     let args = c .before .before .before .before .before .before .before .before .args in
     let r = run-unloaded (args .options) (args .source .now) (args .words .now) (args .budget) (args .netlist .now) (args .state .now) _ (c .before .before .beside .given .1) in
     (c .refused .ensures ∙ sym (ap (λ (t : ReturnedBoth). t .answer) r), (sym (ap (λ (t : ReturnedBoth). t .netlist) r), sym (ap (λ (t : ReturnedBoth). t .state) r)))
-
-enum-told : tie.Need-enum-told
-enum-told c = search needs
-
-slice-aggregate-program-of : tie.Need-slice-aggregate-program-of
-slice-aggregate-program-of c = search needs
-
-program-of-requires : tie.Need-program-of-requires
-program-of-requires c κs = search needs
-
-enum-known-told : tie.Need-enum-known-told
-enum-known-told c = search needs
-
-refused-requires-2 : tie.Need-refused-requires-2
-refused-requires-2 c κs = search needs
-
-enum-known-told-2 : tie.Need-enum-known-told-2
-enum-known-told-2 c = search needs
 
 array-share-prefix-program : tie.Need-array-share-prefix-program
 array-share-prefix-program c =
@@ -49,21 +25,12 @@ slice-aggregate-run c =
     let of = c .before .before .before .before .before .program-of in
     simp length-take (omega (arith, told-fits (c .before .before .before .before .before .before .before .before .before .before .before .before .before .args .source .now) _ _ (sym (of .ensures .0) ∙ c .before .before .told2 .given .1), of .kept .1 .0))
 
-run-requires : tie.Need-run-requires
-run-requires c κs = search needs
-
 returns-2 : tie.Need-returns-2
 returns-2 c =
     let args = c .before .before .before .before .before .before .before .before .before .before .before .before .before .args in
     let e = sym (c .before .before .before .before .before .program-of .ensures .0) ∙ c .before .before .told .given .1 in
     let r = run-refused (args .options) (args .source .now) (args .words .now) (args .budget) (args .netlist .now) (args .state .now) (c .before .before .before .before .before .before .before .enum-told .given .1) _ (told-refused (args .source .now) _ e) in
     (c .refused2 .ensures ∙ sym (ap (λ (t : ReturnedBoth). t .answer) r), (sym (ap (λ (t : ReturnedBoth). t .netlist) r), sym (ap (λ (t : ReturnedBoth). t .state) r)))
-
-same-length : tie.Need-same-length
-same-length c = search needs
-
-same-length-2 : tie.Need-same-length-2
-same-length-2 c = search needs
 
 returns-3 : tie.Need-returns-3
 returns-3 c =
@@ -81,19 +48,19 @@ pub run-spec : {M : Type 1} → statement M
 run-spec =
     tie.close
     (tie.spec
-    enum-known-beside
-    refused-requires
+    (λ c. search needs)
+    (λ c κs. search needs)
     returns
-    enum-told
-    slice-aggregate-program-of
-    program-of-requires
-    enum-known-told
-    refused-requires-2
-    enum-known-told-2
+    (λ c. search needs)
+    (λ c. search needs)
+    (λ c κs. search needs)
+    (λ c. search needs)
+    (λ c κs. search needs)
+    (λ c. search needs)
     array-share-prefix-program
     slice-aggregate-run
-    run-requires
+    (λ c κs. search needs)
     returns-2
-    same-length
-    same-length-2
+    (λ c. search needs)
+    (λ c. search needs)
     returns-3)

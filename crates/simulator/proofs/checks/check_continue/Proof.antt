@@ -17,9 +17,6 @@ returns c =
     let check-file = c .before .before .before .check-file in
     first-refuses _ (drop 1 (continueChecks (args .file .now) (args .n) (args .state .now))) _ (sym (check-file .ensures) ∙ c .before .checked .given .1)
 
-enum-told : tie.Need-enum-told
-enum-told c = search needs
-
 check-room-requires : tie.Need-check-room-requires
 check-room-requires c κs = sym (c .before .before .check-file .ensures) ∙ c .enum-told .given .1
 
@@ -89,7 +86,7 @@ check-continue-spec =
     (λ c κs. search needs)
     (λ c. search needs)
     returns
-    enum-told
+    (λ c. search needs)
     check-room-requires
     (λ c. search needs)
     returns-2

@@ -13,9 +13,6 @@ returns c =
     let check-file = c .before .before .before .check-file in
     first-refuses _ (drop 1 (runNetlistChecks (args .file .now) (args .words .now) (args .budget) (args .state .now))) _ (sym (check-file .ensures) ∙ c .before .checked .given .1)
 
-enum-told : tie.Need-enum-told
-enum-told c = search needs
-
 returns-2 : tie.Need-returns-2
 returns-2 c =
     let args = c .before .before .before .before .before .before .before .before .args in
@@ -51,7 +48,7 @@ check-run-spec =
     (λ c κs. search needs)
     (λ c. search needs)
     returns
-    enum-told
+    (λ c. search needs)
     (λ c κs. search needs)
     returns-2
     (λ c κs. search needs)

@@ -5,9 +5,6 @@ use borrow.Author.Needs.{needs}
 use Rattle.text.proofs.reader.is_complete.Statement.{statement}
 use Rattle.text.proofs.reader.is_complete.Tie as tie
 
-enum-told : tie.Need-enum-told
-enum-told c = search needs
-
 returns : tie.Need-returns
 unfolding complete
 returns c =
@@ -67,7 +64,7 @@ pub is-complete-spec : {M : Type 1} → statement M
 is-complete-spec =
     tie.close
     (tie.spec
-    enum-told
+    (λ c. search needs)
     (λ c. search needs)
     (λ c κs. search needs)
     (λ c. search needs)

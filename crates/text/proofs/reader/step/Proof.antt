@@ -8,9 +8,6 @@ use borrow.Author.Needs.{needs}
 use Rattle.text.proofs.reader.step.Statement.{statement}
 use Rattle.text.proofs.reader.step.Tie as tie
 
-enum-told : tie.Need-enum-told
-enum-told c = search needs
-
 on-ticks-requires : tie.Need-on-ticks-requires
 unfolding limitOf
 on-ticks-requires c κs =
@@ -104,7 +101,7 @@ pub step-spec : {M : Type 1} → statement M
 step-spec =
     tie.close
     (tie.spec
-    enum-told
+    (λ c. search needs)
     (λ c κs. search needs)
     (λ c. search needs)
     (λ c κs. search needs)

@@ -9,6 +9,7 @@ use Rattle.model.specs.Program.{Expr, const, var, compl, op, Stmt, ok, tick, as
 pub record Asks : Type 1 where
   pub delay : ℕ → Type 0
   pub ifDelay : ℕ → Type 0
+  pub loopDelay : ℕ → Type 0
   pub variable : ℕ → Type 0
   pub expr : Expr → Type 0
   pub sides : Stmt → Stmt → Type 0
@@ -21,11 +22,11 @@ Everywhere a (assign d x e) = a .delay d × a .variable x × a .expr e
 Everywhere a (seq P Q) = Everywhere a P × Everywhere a Q
 Everywhere a (par P Q) = Everywhere a P × Everywhere a Q × a .sides P Q
 Everywhere a (ite d e P Q) = a .ifDelay d × a .expr e × Everywhere a P × Everywhere a Q
-Everywhere a (while d e P) = a .delay d × a .expr e × Everywhere a P
-Everywhere a (repeat d e P) = a .delay d × a .expr e × Everywhere a P
+Everywhere a (while d e P) = a .loopDelay d × a .expr e × Everywhere a P
+Everywhere a (repeat d e P) = a .loopDelay d × a .expr e × Everywhere a P
 
 -- nothing is asked of a piece
-abbrev free : {A : Type 0} → A → Type 0
+abbrev pub free : {A : Type 0} → A → Type 0
 free x = Unit {0}
 
 -- operators of kinds 4 to 9
@@ -36,7 +37,7 @@ KnownE (compl e) = KnownE e
 KnownE (op k e f) = (4 ≤ k) × (k ≤ 9) × KnownE e × KnownE f
 
 abbrev pub Known : Stmt → Type 0
-Known = Everywhere (record { delay = free; ifDelay = free; variable = free; expr = KnownE; sides = λ P Q. Unit {0} })
+Known = Everywhere (record { delay = free; ifDelay = free; loopDelay = free; variable = free; expr = KnownE; sides = λ P Q. Unit {0} })
 
 -- and variables below 16
 abbrev pub FormedExpr : Expr → Type 0
@@ -46,19 +47,19 @@ FormedExpr (compl e) = FormedExpr e
 FormedExpr (op k e f) = (4 ≤ k) × (k ≤ 9) × FormedExpr e × FormedExpr f
 
 abbrev pub Formed : Stmt → Type 0
-Formed = Everywhere (record { delay = free; ifDelay = free; variable = λ x. x < 16; expr = FormedExpr; sides = λ P Q. Unit {0} })
+Formed = Everywhere (record { delay = free; ifDelay = free; loopDelay = free; variable = λ x. x < 16; expr = FormedExpr; sides = λ P Q. Unit {0} })
 
 -- delays of at least 1, but for an if's
 abbrev pub Timed : Stmt → Type 0
-Timed = Everywhere (record { delay = λ d. 1 ≤ d; ifDelay = free; variable = free; expr = free; sides = λ P Q. Unit {0} })
+Timed = Everywhere (record { delay = λ d. 1 ≤ d; ifDelay = free; loopDelay = λ d. 1 ≤ d; variable = free; expr = free; sides = λ P Q. Unit {0} })
 
 -- delays that are bytes
 abbrev pub Short : Stmt → Type 0
-Short = Everywhere (record { delay = λ d. d ≤ 255; ifDelay = λ d. d ≤ 255; variable = free; expr = free; sides = λ P Q. Unit {0} })
+Short = Everywhere (record { delay = λ d. d ≤ 255; ifDelay = λ d. d ≤ 255; loopDelay = λ d. d ≤ 255; variable = free; expr = free; sides = λ P Q. Unit {0} })
 
 -- delays of 1 to 255, or 0 at an if
 abbrev pub Low : Stmt → Type 0
-Low = Everywhere (record { delay = λ d. (1 ≤ d) × (d ≤ 255); ifDelay = λ d. d ≤ 255; variable = free; expr = free; sides = λ P Q. Unit {0} })
+Low = Everywhere (record { delay = λ d. (1 ≤ d) × (d ≤ 255); ifDelay = λ d. d ≤ 255; loopDelay = λ d. (1 ≤ d) × (d ≤ 255); variable = free; expr = free; sides = λ P Q. Unit {0} })
 
 -- what P writes, Q does not touch
 unfoldable pub Apart : Stmt → Stmt → Type 0
@@ -66,7 +67,7 @@ Apart P Q = (x : ℕ) → writes P x ≡ true → touches Q x ≡ false
 
 -- sides of a parallel that are apart, either way
 abbrev pub Separate : Stmt → Type 0
-Separate = Everywhere (record { delay = free; ifDelay = free; variable = free; expr = free; sides = λ P Q. Apart P Q × Apart Q P })
+Separate = Everywhere (record { delay = free; ifDelay = free; loopDelay = free; variable = free; expr = free; sides = λ P Q. Apart P Q × Apart Q P })
 
 pub record Fit (P : Stmt) : Type 0 where
   pub formed : Formed P

@@ -12,7 +12,7 @@ use Rattle.model.specs.Rules.{Store, ended, run, endsAt}
 use Rattle.laws.specs.Refusals.Laws.{by-le, not-both}
 use Rattle.laws.specs.Program.Fit.{Timed, Separate}
 use Rattle.laws.specs.Rules.Laws.{by-run, steady}
-use Rattle.theory.specs.Control.Widths.{gap-least, Timely, timely-one, widened-one}
+use Rattle.theory.specs.Control.Widths.{gap-least, timely-one, widened-one}
 use Rattle.theory.specs.Control.Ways.{atEnd, comes-end}
 use Rattle.theory.specs.Control.Pulses.{Pulse}
 use Rattle.theory.specs.Control.Wiring.{Memory, ground, Reading, ideal, Gives, Circuit, Mem}

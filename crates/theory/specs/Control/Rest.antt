@@ -8,7 +8,7 @@ use Rattle.model.specs.Word.{pick, isZero}
 use Rattle.model.specs.Program.{Expr, Stmt, ok, tick, assign, seq, par, ite, while, repeat}
 use Rattle.model.specs.Circuit.{Sig, delayed}
 use Rattle.model.specs.Rules.{eval}
-use Rattle.theory.specs.Control.Widths.{Timely, turn-least}
+use Rattle.theory.specs.Control.Widths.{turn-least}
 use Rattle.theory.specs.Control.Signal.{Quiet, Clear, creep, delayed-quiet, clear-later}
 use Rattle.theory.specs.Control.Merge.{merged-left, stays-empty}
 use Rattle.theory.specs.Control.History.{stable-off, spaced-off}

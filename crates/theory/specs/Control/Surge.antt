@@ -11,7 +11,7 @@ use Rattle.model.specs.Circuit.{Sig, delayed}
 use Rattle.model.specs.Rules.{eval}
 use Rattle.laws.specs.Refusals.Laws.{by-bool, and-true}
 use Rattle.laws.specs.Rules.Uses.{eval-same}
-use Rattle.theory.specs.Control.Widths.{gap, Timely, widened}
+use Rattle.theory.specs.Control.Widths.{gap, widened}
 use Rattle.theory.specs.Control.Signal.{Quiet, delayed-quiet}
 use Rattle.theory.specs.Control.Pulses.{Firm, quiet-firm, delayed-firm, either-firm}
 use Rattle.theory.specs.Control.Meets.{merged-firm}

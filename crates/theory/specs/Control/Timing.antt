@@ -13,7 +13,7 @@ use Rattle.model.specs.Rules.{Store, Run, ended, still}
 use Rattle.laws.specs.Refusals.Laws.{by-le}
 use Rattle.laws.specs.Program.Fit.{Separate}
 use Rattle.laws.specs.Rules.Laws.{by-run}
-use Rattle.theory.specs.Control.Widths.{gap, Timely, widened}
+use Rattle.theory.specs.Control.Widths.{gap, widened}
 use Rattle.theory.specs.Control.Ways.{Way, atEnd, Comes, comes-end, by-way, comes-steady}
 use Rattle.theory.specs.Control.Pulses.{Pulse, pulse-less}
 use Rattle.theory.specs.Control.Wiring.{Gives}

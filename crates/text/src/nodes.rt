@@ -8,7 +8,6 @@ ghost use Rattle.model.specs.declared.Node.{Node};
 ghost use Rattle.model.specs.Reader.{insertAt, withNodeDelay};
 ghost use Rattle.text.specs.Shown.{shifted, Keeps};
 use model::Node;
-use model::sizes::MOST_NODES;
 
 fn smaller(a: u16, b: u16) -> u16
     ensures { λ r. ⌜ r ≡ min a b ⌝ }
@@ -33,7 +32,7 @@ pub fn insert_node(nodes: &mut [u8], at: u16, count: u16, node: Node)
     requires { ⌜ length (now nodes) ≡ 800 ⌝ }
     ensures { λ _. ⌜ ((ns : List Node) → count ≡ length ns → Keeps (now (nodes .entry)) ns → Keeps (now (nodes .exit)) (insertAt at node ns)) ⌝ }
 {
-    if MOST_NODES <= count {
+    if 200 <= count {
         return;
     }
     let a = 4 * (smaller(at, count) as usize);
@@ -51,7 +50,7 @@ pub fn set_delay(nodes: &mut [u8], at: u16, count: u16, d: u8)
     if count <= at {
         return;
     }
-    if MOST_NODES < count {
+    if 200 < count {
         return;
     }
     nodes[4 * (at as usize) + 1] = d;

@@ -1,356 +1,212 @@
--- A circuit with nothing in flight: it stays so while its start is quiet. Assumes nothing.
-use Prim.Native.Nat.{ℕ, suc, _+_, _≤_, _<_}
-use mathlib.Core.Path.{_≡_, refl, sym, _∙_, ap, ap₂}
-use mathlib.Core.Bool.{Bool, true, false, not, _&&_, _||_}
+-- What is known of every cell of a circuit: that nothing is in flight, and that what has been so far is in order; and what holds of a circuit at every
+-- instant. Assumes nothing.
+use Prim.Native.Nat.{ℕ, _+_, _≤_}
+use mathlib.Core.Path.{_≡_, sym, _∙_, ap, ap₂}
+use mathlib.Core.Bool.{Bool, true, false, _||_}
 use native.Mathlib.Omega.{arith}
 use lib.Dec.{eqb}
 use lib.Bits.{bitOr}
-use Rattle.model.specs.Word.{pick, isZero}
+use Rattle.model.specs.Word.{pick}
 use Rattle.model.specs.Program.{Expr, Stmt, ok, tick, assign, seq, par, ite, while, repeat, writes}
-use Rattle.model.specs.Circuit.{Sig, delayed, heldBefore}
+use Rattle.model.specs.Circuit.{Sig, delayed}
 use Rattle.laws.specs.Refusals.Laws.{or-false}
-use Rattle.theory.specs.Control.Wiring.{Clk, Dat, Memory, Net, Circuit, Assigned, Joined, either}
-use Rattle.laws.specs.Program.Fit.{Timed}
-use Rattle.model.specs.Rules.{eval}
-use Rattle.theory.specs.Control.Signal.{Quiet, Clear, Dull, creep, delayed-quiet, clear-later, either-quiet}
-use Rattle.theory.specs.Control.Merges.{Empty, merged-left, holds-to}
+use Rattle.theory.specs.Control.Widths.{gap, widened}
+use Rattle.theory.specs.Control.Signal.{Quiet, Clear}
+use Rattle.theory.specs.Control.Merge.{Empty, empty-zero}
+use Rattle.theory.specs.Control.History.{Stable, Spaced}
+use Rattle.theory.specs.Control.Wiring.{Memory, either, Reading, ideal, Gives, Joined, Assigned, Circuit, Known, Test, Each}
+use Rattle.theory.specs.Control.World.{World, Built, means}
+use Rattle.theory.specs.Control.Memories.{Dull}
 
--- P's circuit, with nothing in flight just before instant a: no delay holds a pulse, and no merge a bit
-unfoldable pub Calm : Memory → Stmt → Sig → Sig → Clk → Dat → ℕ → Type 0
-Calm m P s f clk dat a = Net m (λ d s. Clear d s a) (λ f g. Empty f g a) P s f clk dat
+-- nothing is in flight just before instant a: no delay holds a pulse, and no merge a bit; and so far every word that was used was held, and no line has
+-- held two pulses
+abbrev pub calmly : ℕ → Memory → ℕ → Known
+calmly w m a =
+    record {
+      delay = λ d s. Clear d s a;
+      merge = λ f₁ f₂. Empty w f₁ f₂ a;
+      answer = λ f₁ f₂. Unit {0};
+      line = λ d s. Spaced w d s a;
+      word = λ d e s. Stable m d e s a;
+    }
 
--- More is known of a circuit than of another ----------------------------------------------------------------------------------------
+-- the past alone, before instant c
+abbrev pub lately : ℕ → Memory → ℕ → Known
+lately w m c =
+    record {
+      delay = λ d s. Unit {0};
+      merge = λ f₁ f₂. Unit {0};
+      answer = λ f₁ f₂. Unit {0};
+      line = λ d s. Spaced w d s c;
+      word = λ d e s. Stable m d e s c;
+    }
 
-module _ (m : Memory) (C C′ : ℕ → Sig → Type 0) (H H′ : Sig → Sig → Type 0) (c : (d : ℕ) (s : Sig) → C d s → C′ d s)
-    (h : (f g : Sig) → H f g → H′ f g) where
-  net-map : (P : Stmt) (s f : Sig) (clk : Clk) (dat : Dat) → Net m C H P s f clk dat → Net m C′ H′ P s f clk dat
-  unfolding Net
-  net-map ok s f clk dat n = n
-  net-map (tick d) s f clk dat n = (n .0, c d s (n .1))
-  net-map (assign d x e) s f clk dat n = (n .0, c d s (n .1), c 1 (delayed d s) (n .2))
-  net-map (seq P Q) s f clk dat n =
-      record {
-        mid = n .mid;
-        clk₁ = n .clk₁;
-        dat₁ = n .dat₁;
-        clk₂ = n .clk₂;
-        dat₂ = n .dat₂;
-        left = net-map P s (n .mid) (n .clk₁) (n .dat₁) (n .left);
-        right = net-map Q (n .mid) f (n .clk₂) (n .dat₂) (n .right);
-        joined = n .joined;
-      }
-  net-map (par P Q) s f clk dat n =
-      record {
-        f₁ = n .f₁;
-        clk₁ = n .clk₁;
-        dat₁ = n .dat₁;
-        f₂ = n .f₂;
-        clk₂ = n .clk₂;
-        dat₂ = n .dat₂;
-        left = net-map P s (n .f₁) (n .clk₁) (n .dat₁) (n .left);
-        right = net-map Q s (n .f₂) (n .clk₂) (n .dat₂) (n .right);
-        joined = n .joined;
-        fin = n .fin;
-        merge = h (n .f₁) (n .f₂) (n .merge);
-      }
-  net-map (ite d e P Q) s f clk dat n =
-      record {
-        s₁ = n .s₁;
-        f₁ = n .f₁;
-        clk₁ = n .clk₁;
-        dat₁ = n .dat₁;
-        s₂ = n .s₂;
-        f₂ = n .f₂;
-        clk₂ = n .clk₂;
-        dat₂ = n .dat₂;
-        left = net-map P (n .s₁) (n .f₁) (n .clk₁) (n .dat₁) (n .left);
-        right = net-map Q (n .s₂) (n .f₂) (n .clk₂) (n .dat₂) (n .right);
-        joined = n .joined;
-        yes₁ = n .yes₁;
-        no₂ = n .no₂;
-        fin = n .fin;
-        delay = c d s (n .delay);
-      }
-  net-map (while d e P) s f clk dat n =
-      record {
-        s₁ = n .s₁;
-        f₁ = n .f₁;
-        body = net-map P (n .s₁) (n .f₁) clk dat (n .body);
-        begin = n .begin;
-        fin = n .fin;
-        delay = c d (either s (n .f₁)) (n .delay);
-      }
-  net-map (repeat d e P) s f clk dat n =
-      record {
-        s₁ = n .s₁;
-        f₁ = n .f₁;
-        body = net-map P (n .s₁) (n .f₁) clk dat (n .body);
-        begin = n .begin;
-        fin = n .fin;
-        delay = c d (n .f₁) (n .delay);
-      }
+abbrev pub Calm : (W : World) (P : Stmt) (s f : Sig) (g : Gives) → Built W P s f g → ℕ → Type 0
+Calm W P s f g n a = Each (calmly (W .w) (W .m) a) (W .w) (ideal (W .m)) P s f g n
+
+abbrev pub Sofar : (W : World) (P : Stmt) (s f : Sig) (g : Gives) → Built W P s f g → ℕ → Type 0
+Sofar W P s f g n c = Each (lately (W .w) (W .m) c) (W .w) (ideal (W .m)) P s f g n
+
+-- What is known of every cell ---------------------------------------------------------------------------------------------------------
+
+-- K′ is known of a cell of which K is
+record Gains (K K′ : Known) : Type 0 where
+  delay : (d : ℕ) (s : Sig) → K .delay d s → K′ .delay d s
+  merge : (f₁ f₂ : Sig) → K .merge f₁ f₂ → K′ .merge f₁ f₂
+  line : (d : ℕ) (s : Sig) → K .line d s → K′ .line d s
+  word : (d : ℕ) (e : Expr) (s : Sig) → K .word d e s → K′ .word d e s
+
+module _ (K K′ : Known) (h : Gains K K′) (w : ℕ) (R : Reading) where
+  test-map : (d : ℕ) (e : Expr) (s : Sig) → Test K d e s → Test K′ d e s
+  test-map d e s p = (h .delay d s (p .0), h .line d s (p .1), h .word d e s (p .2))
+
+  each-map : (P : Stmt) (s f : Sig) (g : Gives) (n : Circuit w R P s f g) → Each K w R P s f g n → Each K′ w R P s f g n
+  unfolding Circuit Each
+  each-map ok s f g n p = tt
+  each-map (tick d) s f g n p = (h .delay d s (p .0), h .line d s (p .1))
+  each-map (assign d x e) s f g n p =
+      (test-map d e s (p .0), (h .delay w (delayed d s) (p .1 .0), h .line w (delayed d s) (p .1 .1)))
+  each-map (seq P Q) s f g n p = (each-map P s (n .mid) (n .g₁) (n .left) (p .0), each-map Q (n .mid) f (n .g₂) (n .right) (p .1))
+  each-map (par P Q) s f g n p =
+      (h .merge (n .f₁) (n .f₂) (p .0), each-map P s (n .f₁) (n .g₁) (n .left) (p .1), each-map Q s (n .f₂) (n .g₂) (n .right) (p .2))
+  each-map (ite d e P Q) s f g n p =
+      (test-map d e s (p .0), each-map P (n .s₁) (n .f₁) (n .g₁) (n .left) (p .1), each-map Q (n .s₂) (n .f₂) (n .g₂) (n .right) (p .2))
+  each-map (while d e P) s f g n p = (test-map d e (either s (n .f₁)) (p .0), each-map P (n .s₁) (n .f₁) g (n .body) (p .1))
+  each-map (repeat d e P) s f g n p = (test-map d e (n .f₁) (p .0), each-map P (n .s₁) (n .f₁) g (n .body) (p .1))
+
+-- of every circuit nothing is known
+abbrev nothing : Known
+nothing =
+    record { delay = λ d s. Unit {0}; merge = λ a b. Unit {0}; answer = λ a b. Unit {0}; line = λ d s. Unit {0}; word = λ d e s. Unit {0} }
+
+each-nothing : (w : ℕ) (R : Reading) (P : Stmt) (s f : Sig) (g : Gives) (n : Circuit w R P s f g) → Each nothing w R P s f g n
+unfolding Circuit Each
+each-nothing w R ok s f g n = tt
+each-nothing w R (tick d) s f g n = (tt, tt)
+each-nothing w R (assign d x e) s f g n = ((tt, tt, tt), (tt, tt))
+each-nothing w R (seq P Q) s f g n = (each-nothing w R P s (n .mid) (n .g₁) (n .left), each-nothing w R Q (n .mid) f (n .g₂) (n .right))
+each-nothing w R (par P Q) s f g n = (tt, each-nothing w R P s (n .f₁) (n .g₁) (n .left), each-nothing w R Q s (n .f₂) (n .g₂) (n .right))
+each-nothing w R (ite d e P Q) s f g n =
+    ((tt, tt, tt), each-nothing w R P (n .s₁) (n .f₁) (n .g₁) (n .left), each-nothing w R Q (n .s₂) (n .f₂) (n .g₂) (n .right))
+each-nothing w R (while d e P) s f g n = ((tt, tt, tt), each-nothing w R P (n .s₁) (n .f₁) g (n .body))
+each-nothing w R (repeat d e P) s f g n = ((tt, tt, tt), each-nothing w R P (n .s₁) (n .f₁) g (n .body))
 
 -- Nothing is in flight before instant 0
-pub calm-zero : (m : Memory) (P : Stmt) (s f : Sig) (clk : Clk) (dat : Dat) → Circuit m P s f clk dat → Calm m P s f clk dat 0
-unfolding Circuit Calm heldBefore
-calm-zero m P s f clk dat n =
-    net-map m (λ d s. Unit {0}) (λ d s. Clear d s 0) (λ a b. Unit {0}) (λ f g. Empty f g 0)
-    (λ d s u t l k. absurd (omega arith)) (λ f g u. refl) P s f clk dat n
+pub calm-zero : (W : World) (P : Stmt) (s f : Sig) (g : Gives) (n : Built W P s f g) → Calm W P s f g n 0
+calm-zero W P s f g n =
+    each-map nothing (calmly (W .w) (W .m) 0)
+    (record {
+      delay = λ d s u t l k. absurd (omega arith);
+      merge = λ f₁ f₂ u. empty-zero (W .w) f₁ f₂;
+      line = λ d s u one v t l k. absurd (omega arith);
+      word = λ d e s u v t l k. absurd (omega arith);
+    })
+    (W .w) (ideal (W .m)) P s f g n (each-nothing (W .w) (ideal (W .m)) P s f g n)
+
+pub calm-sofar : (W : World) (P : Stmt) (s f : Sig) (g : Gives) (n : Built W P s f g) (a : ℕ) → Calm W P s f g n a → Sofar W P s f g n a
+calm-sofar W P s f g n a p =
+    each-map (calmly (W .w) (W .m) a) (lately (W .w) (W .m) a)
+    (record { delay = λ d s u. tt; merge = λ f₁ f₂ u. tt; line = λ d s u. u; word = λ d e s u. u }) (W .w) (ideal (W .m)) P s f g n p
+
+pub sofar-less : (W : World) (P : Stmt) (s f : Sig) (g : Gives) (n : Built W P s f g) (c c′ : ℕ) → c′ ≤ c → Sofar W P s f g n c → Sofar W P s f g n c′
+sofar-less W P s f g n c c′ o p =
+    each-map (lately (W .w) (W .m) c) (lately (W .w) (W .m) c′)
+    (record {
+      delay = λ d s u. u;
+      merge = λ f₁ f₂ u. u;
+      line = λ d s u one v t l k. u one v t l (omega arith);
+      word = λ d e s u v t l k. u v t l (omega arith);
+    })
+    (W .w) (ideal (W .m)) P s f g n p
 
 -- What holds at every instant ---------------------------------------------------------------------------------------------------------
 
-joined-dull : (clk₁ clk₂ clk : Clk) (dat₁ dat₂ dat : Dat) → Joined clk₁ clk₂ clk dat₁ dat₂ dat → Dull clk₁ dat₁ → Dull clk₂ dat₂
-    → Dull clk dat
-joined-dull clk₁ clk₂ clk dat₁ dat₂ dat j p q x t e =
-    let k = or-false (clk₁ x t) (clk₂ x t) (sym (j .clocks x t) ∙ e) in
+joined-dull : (g₁ g₂ g : Gives) → Joined g₁ g₂ g → Dull g₁ → Dull g₂ → Dull g
+joined-dull g₁ g₂ g j p q x t e =
+    let k = or-false (g₁ .clk x t) (g₂ .clk x t) (sym (j .clocks x t) ∙ e) in
     j .words x t ∙ ap₂ bitOr (p x t (k .0)) (q x t (k .1))
 
-joined-low : (P Q : Stmt) {clk₁ clk₂ clk : Clk} {dat₁ dat₂ dat : Dat} → Joined clk₁ clk₂ clk dat₁ dat₂ dat → (x t : ℕ)
-    → (writes P x ≡ false → clk₁ x t ≡ false) → (writes Q x ≡ false → clk₂ x t ≡ false) → (writes P x || writes Q x) ≡ false → clk x t ≡ false
-joined-low P Q j x t p q w =
-    let k = or-false (writes P x) (writes Q x) w in
-    j .clocks x t ∙ ap₂ _||_ (p (k .0)) (q (k .1))
-
-assigned-dull : (m : Memory) (d y : ℕ) (e : Expr) (s f : Sig) (clk : Clk) (dat : Dat) → Assigned m d y e s f clk dat → Dull clk dat
-assigned-dull m d y e s f clk dat n x t z = go (eqb x y) (delayed d s t) (n .clocks x t) (n .words x t)
+assigned-dull : (w : ℕ) (R : Reading) (d y : ℕ) (e : Expr) (s f : Sig) (g : Gives) → Assigned w R d y e s f g → Dull g
+assigned-dull w R d y e s f g n x t z = go (eqb x y) (delayed d s t) (n .clocks x t) (n .words x t)
   where
-    go : (p q : Bool) → clk x t ≡ pick p q false → dat x t ≡ pick p (pick q (eval e (m t)) 0) 0 → dat x t ≡ 0
-    go true true k w = cc
-    go true false k w = w
-    go false true k w = w
-    go false false k w = w
+    go : (p q : Bool) → g .clk x t ≡ pick p q false → g .dat x t ≡ pick p (pick q (R e t) 0) 0 → g .dat x t ≡ 0
+    go true true k v = cc
+    go true false k v = v
+    go false true k v = v
+    go false false k v = v
 
-module _ (m : Memory) (C : ℕ → Sig → Type 0) (H : Sig → Sig → Type 0) where
+-- two clocks joined, where two variables' tests joined are false
+both-low : {a b c p q : Bool} → c ≡ (a || b) → (p ≡ false → a ≡ false) → (q ≡ false → b ≡ false) → (p || q) ≡ false → c ≡ false
+both-low {p = p} {q = q} e l r z =
+    let k = or-false p q z in
+    e ∙ ap₂ _||_ (l (k .0)) (r (k .1))
+
+-- what a part never gives: no kind of today's leaves a loop or calls a body
+record Keeps (g : Gives) : Type 0 where
+  inside : (t : ℕ) → g .out t ≡ false
+  uncalled : (q t : ℕ) → g .calls q t ≡ false
+
+joined-keeps : (g₁ g₂ g : Gives) → Joined g₁ g₂ g → Keeps g₁ → Keeps g₂ → Keeps g
+joined-keeps g₁ g₂ g j p q =
+    record { inside = λ t. j .out t ∙ ap₂ _||_ (p .inside t) (q .inside t); uncalled = λ x t. j .called x t ∙ ap₂ _||_ (p .uncalled x t) (q .uncalled x t) }
+
+module _ (w : ℕ) (R : Reading) where
   -- a word is 0 where its clock is low
-  net-dull : (P : Stmt) (s f : Sig) (clk : Clk) (dat : Dat) → Net m C H P s f clk dat → Dull clk dat
-  unfolding Net
-  net-dull ok s f clk dat n = λ x t e. n .words x t
-  net-dull (tick d) s f clk dat n = λ x t e. n .0 .words x t
-  net-dull (assign d y e) s f clk dat n = assigned-dull m d y e s f clk dat (n .0)
-  net-dull (seq P Q) s f clk dat n =
-      joined-dull (n .clk₁) (n .clk₂) clk (n .dat₁) (n .dat₂) dat (n .joined)
-      (net-dull P s (n .mid) (n .clk₁) (n .dat₁) (n .left)) (net-dull Q (n .mid) f (n .clk₂) (n .dat₂) (n .right))
-  net-dull (par P Q) s f clk dat n =
-      joined-dull (n .clk₁) (n .clk₂) clk (n .dat₁) (n .dat₂) dat (n .joined)
-      (net-dull P s (n .f₁) (n .clk₁) (n .dat₁) (n .left)) (net-dull Q s (n .f₂) (n .clk₂) (n .dat₂) (n .right))
-  net-dull (ite d e P Q) s f clk dat n =
-      joined-dull (n .clk₁) (n .clk₂) clk (n .dat₁) (n .dat₂) dat (n .joined)
-      (net-dull P (n .s₁) (n .f₁) (n .clk₁) (n .dat₁) (n .left)) (net-dull Q (n .s₂) (n .f₂) (n .clk₂) (n .dat₂) (n .right))
-  net-dull (while d e P) s f clk dat n = net-dull P (n .s₁) (n .f₁) clk dat (n .body)
-  net-dull (repeat d e P) s f clk dat n = net-dull P (n .s₁) (n .f₁) clk dat (n .body)
+  dull : (P : Stmt) (s f : Sig) (g : Gives) → Circuit w R P s f g → Dull g
+  unfolding Circuit
+  dull ok s f g n = λ x t e. n .words x t
+  dull (tick d) s f g n = λ x t e. n .words x t
+  dull (assign d y e) s f g n = assigned-dull w R d y e s f g n
+  dull (seq P Q) s f g n = joined-dull (n .g₁) (n .g₂) g (n .joined) (dull P s (n .mid) (n .g₁) (n .left)) (dull Q (n .mid) f (n .g₂) (n .right))
+  dull (par P Q) s f g n = joined-dull (n .g₁) (n .g₂) g (n .joined) (dull P s (n .f₁) (n .g₁) (n .left)) (dull Q s (n .f₂) (n .g₂) (n .right))
+  dull (ite d e P Q) s f g n =
+      joined-dull (n .g₁) (n .g₂) g (n .joined) (dull P (n .s₁) (n .f₁) (n .g₁) (n .left)) (dull Q (n .s₂) (n .f₂) (n .g₂) (n .right))
+  dull (while d e P) s f g n = dull P (n .s₁) (n .f₁) g (n .body)
+  dull (repeat d e P) s f g n = dull P (n .s₁) (n .f₁) g (n .body)
+
+  keeps : (P : Stmt) (s f : Sig) (g : Gives) → Circuit w R P s f g → Keeps g
+  unfolding Circuit
+  keeps ok s f g n = record { inside = n .out; uncalled = n .called }
+  keeps (tick d) s f g n = record { inside = n .out; uncalled = n .called }
+  keeps (assign d y e) s f g n = record { inside = n .out; uncalled = n .called }
+  keeps (seq P Q) s f g n = joined-keeps (n .g₁) (n .g₂) g (n .joined) (keeps P s (n .mid) (n .g₁) (n .left)) (keeps Q (n .mid) f (n .g₂) (n .right))
+  keeps (par P Q) s f g n = joined-keeps (n .g₁) (n .g₂) g (n .joined) (keeps P s (n .f₁) (n .g₁) (n .left)) (keeps Q s (n .f₂) (n .g₂) (n .right))
+  keeps (ite d e P Q) s f g n =
+      joined-keeps (n .g₁) (n .g₂) g (n .joined) (keeps P (n .s₁) (n .f₁) (n .g₁) (n .left)) (keeps Q (n .s₂) (n .f₂) (n .g₂) (n .right))
+  keeps (while d e P) s f g n = keeps P (n .s₁) (n .f₁) g (n .body)
+  keeps (repeat d e P) s f g n = keeps P (n .s₁) (n .f₁) g (n .body)
 
   -- a variable that is not written has a clock that is low throughout
-  net-unwritten : (P : Stmt) (s f : Sig) (clk : Clk) (dat : Dat) → Net m C H P s f clk dat → (x : ℕ) → writes P x ≡ false
-      → (t : ℕ) → clk x t ≡ false
-  unfolding Net writes
-  net-unwritten ok s f clk dat n x w t = n .clocks x t
-  net-unwritten (tick d) s f clk dat n x w t = n .0 .clocks x t
-  net-unwritten (assign d y e) s f clk dat n x w t = n .0 .clocks x t ∙ ap (λ (b : Bool). pick b (delayed d s t) false) w
-  net-unwritten (seq P Q) s f clk dat n x w t =
-      joined-low P Q (n .joined) x t (λ p. net-unwritten P s (n .mid) (n .clk₁) (n .dat₁) (n .left) x p t)
-      (λ q. net-unwritten Q (n .mid) f (n .clk₂) (n .dat₂) (n .right) x q t) w
-  net-unwritten (par P Q) s f clk dat n x w t =
-      joined-low P Q (n .joined) x t (λ p. net-unwritten P s (n .f₁) (n .clk₁) (n .dat₁) (n .left) x p t)
-      (λ q. net-unwritten Q s (n .f₂) (n .clk₂) (n .dat₂) (n .right) x q t) w
-  net-unwritten (ite d e P Q) s f clk dat n x w t =
-      joined-low P Q (n .joined) x t (λ p. net-unwritten P (n .s₁) (n .f₁) (n .clk₁) (n .dat₁) (n .left) x p t)
-      (λ q. net-unwritten Q (n .s₂) (n .f₂) (n .clk₂) (n .dat₂) (n .right) x q t) w
-  net-unwritten (while d e P) s f clk dat n x w t = net-unwritten P (n .s₁) (n .f₁) clk dat (n .body) x w t
-  net-unwritten (repeat d e P) s f clk dat n x w t = net-unwritten P (n .s₁) (n .f₁) clk dat (n .body) x w t
+  unwritten : (k : ℕ) (P : Stmt) (s f : Sig) (g : Gives) → Circuit w R P s f g → (x : ℕ) → writes (widened k P) x ≡ false → (t : ℕ) → g .clk x t ≡ false
+  unfolding Circuit writes widened
+  unwritten k ok s f g n x z t = n .clocks x t
+  unwritten k (tick d) s f g n x z t = n .clocks x t
+  unwritten k (assign d y e) s f g n x z t = n .clocks x t ∙ ap (λ (b : Bool). pick b (delayed d s t) false) z
+  unwritten k (seq P Q) s f g n x z t =
+      both-low (n .joined .clocks x t) (λ p. unwritten k P s (n .mid) (n .g₁) (n .left) x p t)
+      (λ q. unwritten k Q (n .mid) f (n .g₂) (n .right) x q t) z
+  unwritten k (par P Q) s f g n x z t =
+      both-low (n .joined .clocks x t) (λ p. unwritten k P s (n .f₁) (n .g₁) (n .left) x p t)
+      (λ q. unwritten k Q s (n .f₂) (n .g₂) (n .right) x q t) z
+  unwritten k (ite d e P Q) s f g n x z t =
+      both-low (n .joined .clocks x t) (λ p. unwritten k P (n .s₁) (n .f₁) (n .g₁) (n .left) x p t)
+      (λ q. unwritten k Q (n .s₂) (n .f₂) (n .g₂) (n .right) x q t) z
+  unwritten k (while d e P) s f g n x z t = unwritten k P (n .s₁) (n .f₁) g (n .body) x z t
+  unwritten k (repeat d e P) s f g n x z t = unwritten k P (n .s₁) (n .f₁) g (n .body) x z t
 
-pub calm-dull : (m : Memory) (P : Stmt) (s f : Sig) (clk : Clk) (dat : Dat) (a : ℕ) → Calm m P s f clk dat a → Dull clk dat
-unfolding Calm
-calm-dull m P s f clk dat a n = net-dull m (λ d s. Clear d s a) (λ f g. Empty f g a) P s f clk dat n
+module _ (W : World) (P : Stmt) (s f : Sig) (g : Gives) (n : Built W P s f g) where
+  pub is-dull : Dull g
+  is-dull = dull (W .w) (ideal (W .m)) P s f g n
 
-pub calm-unwritten : (m : Memory) (P : Stmt) (s f : Sig) (clk : Clk) (dat : Dat) (a : ℕ) → Calm m P s f clk dat a
-    → (x : ℕ) → writes P x ≡ false → (t : ℕ) → clk x t ≡ false
-unfolding Calm
-calm-unwritten m P s f clk dat a n =
-    net-unwritten m (λ d s. Clear d s a) (λ f g. Empty f g a) P s f clk dat n
+  pub is-unwritten : (x : ℕ) → writes (means W P) x ≡ false → (t : ℕ) → g .clk x t ≡ false
+  is-unwritten = unwritten (W .w) (ideal (W .m)) (W .w) P s f g n
 
--- At rest -------------------------------------------------------------------------------------------------------------------------------
+  pub is-inside : (t : ℕ) → g .out t ≡ false
+  is-inside = keeps (W .w) (ideal (W .m)) P s f g n .inside
 
-pub record Rests (m : Memory) (P : Stmt) (s f : Sig) (clk : Clk) (dat : Dat) (a b : ℕ) : Type 0 where
-  pub calm : Calm m P s f clk dat b
-  pub fin : Quiet f a b
-  pub clocks : (x : ℕ) → Quiet (clk x) a (suc b)
+  pub is-uncalled : (q t : ℕ) → g .calls q t ≡ false
+  is-uncalled = keeps (W .w) (ideal (W .m)) P s f g n .uncalled
 
--- With nothing in flight at a and a start that is quiet on [a, b), nothing is in flight at b, and nothing came out
-abbrev pub RestOf : Memory → Stmt → Type 0
-RestOf m P =
-    (s f : Sig) (clk : Clk) (dat : Dat) (a b : ℕ) → Calm m P s f clk dat a → a ≤ b → Quiet s a b → Rests m P s f clk dat a b
-
-joined-quiet : (clk₁ clk₂ clk : Clk) (dat₁ dat₂ dat : Dat) (a b : ℕ) → Joined clk₁ clk₂ clk dat₁ dat₂ dat
-    → ((x : ℕ) → Quiet (clk₁ x) a b) → ((x : ℕ) → Quiet (clk₂ x) a b) → (x : ℕ) → Quiet (clk x) a b
-joined-quiet clk₁ clk₂ clk dat₁ dat₂ dat a b j p q x t l h = j .clocks x t ∙ ap₂ _||_ (p x t l h) (q x t l h)
-
-rest-ok : (m : Memory) → RestOf m ok
-unfolding Calm Net
-rest-ok m s f clk dat a b n o q =
-    record { calm = n; fin = λ t l h. n .fin t ∙ q t l h; clocks = λ x t l h. n .clocks x t }
-
-rest-tick : (m : Memory) (d : ℕ) → RestOf m (tick d)
-unfolding Calm Net
-rest-tick m d s f clk dat a b n o q =
-    record {
-      calm = (n .0, clear-later d s a b o (n .1) q);
-      fin = λ t l h. n .0 .fin t ∙ delayed-quiet d s a b (n .1) q t l (omega arith);
-      clocks = λ x t l h. n .0 .clocks x t;
-    }
-
-rest-assign : (m : Memory) (d y : ℕ) (e : Expr) → 1 ≤ d → RestOf m (assign d y e)
-unfolding Calm Net
-rest-assign m d y e pos s f clk dat a b n o q =
-    let z : Quiet (delayed d s) a (b + d) = delayed-quiet d s a b (n .1) q in
-    record {
-      calm = (n .0, clear-later d s a b o (n .1) q, clear-later 1 (delayed d s) a b o (n .2) (λ t l h. z t l (omega arith)));
-      fin = λ t l h. n .0 .fin t ∙ delayed-quiet 1 (delayed d s) a b (n .2) (λ t l h. z t l (omega arith)) t l (omega arith);
-      clocks = λ x t l h. off (eqb x y) (delayed d s t) (n .0 .clocks x t) (z t l (omega arith));
-    }
-  where
-    off : {c : Bool} (p q : Bool) → c ≡ pick p q false → q ≡ false → c ≡ false
-    off true q k w = k ∙ w
-    off false q k w = k
-
-rest-seq : (m : Memory) (P Q : Stmt) → RestOf m P → RestOf m Q → RestOf m (seq P Q)
-unfolding Calm Net
-rest-seq m P Q hP hQ s f clk dat a b n o q =
-    let r = hP s (n .mid) (n .clk₁) (n .dat₁) a b (n .left) o q in
-    let r′ = hQ (n .mid) f (n .clk₂) (n .dat₂) a b (n .right) o (r .fin) in
-    record {
-      calm = record {
-        mid = n .mid;
-        clk₁ = n .clk₁;
-        dat₁ = n .dat₁;
-        clk₂ = n .clk₂;
-        dat₂ = n .dat₂;
-        left = r .calm;
-        right = r′ .calm;
-        joined = n .joined;
-      };
-      fin = r′ .fin;
-      clocks = joined-quiet (n .clk₁) (n .clk₂) clk (n .dat₁) (n .dat₂) dat a (suc b) (n .joined) (r .clocks) (r′ .clocks);
-    }
-
-rest-par : (m : Memory) (P Q : Stmt) → RestOf m P → RestOf m Q → RestOf m (par P Q)
-unfolding Calm Net
-rest-par m P Q hP hQ s f clk dat a b n o q =
-    let r = hP s (n .f₁) (n .clk₁) (n .dat₁) a b (n .left) o q in
-    let r′ = hQ s (n .f₂) (n .clk₂) (n .dat₂) a b (n .right) o q in
-    record {
-      calm = record {
-        f₁ = n .f₁;
-        clk₁ = n .clk₁;
-        dat₁ = n .dat₁;
-        f₂ = n .f₂;
-        clk₂ = n .clk₂;
-        dat₂ = n .dat₂;
-        left = r .calm;
-        right = r′ .calm;
-        joined = n .joined;
-        fin = n .fin;
-        merge = holds-to (n .f₁) (n .f₂) false false a b o refl (n .merge) (r .fin) (r′ .fin);
-      };
-      fin = λ t l h. n .fin t ∙ merged-left (n .f₁) (n .f₂) a b (n .merge) (r .fin) t l h;
-      clocks = joined-quiet (n .clk₁) (n .clk₂) clk (n .dat₁) (n .dat₂) dat a (suc b) (n .joined) (r .clocks) (r′ .clocks);
-    }
-
-rest-ite : (m : Memory) (d : ℕ) (e : Expr) (P Q : Stmt) → RestOf m P → RestOf m Q → RestOf m (ite d e P Q)
-unfolding Calm Net
-rest-ite m d e P Q hP hQ s f clk dat a b n o q =
-    let z : Quiet (delayed d s) a (b + d) = delayed-quiet d s a b (n .delay) q in
-    let q₁ : Quiet (n .s₁) a b = λ t l h. n .yes₁ t ∙ ap (λ (c : Bool). c && not (isZero (eval e (m t)))) (z t l (omega arith)) in
-    let q₂ : Quiet (n .s₂) a b = λ t l h. n .no₂ t ∙ ap (λ (c : Bool). c && isZero (eval e (m t))) (z t l (omega arith)) in
-    let r = hP (n .s₁) (n .f₁) (n .clk₁) (n .dat₁) a b (n .left) o q₁ in
-    let r′ = hQ (n .s₂) (n .f₂) (n .clk₂) (n .dat₂) a b (n .right) o q₂ in
-    record {
-      calm = record {
-        s₁ = n .s₁;
-        f₁ = n .f₁;
-        clk₁ = n .clk₁;
-        dat₁ = n .dat₁;
-        s₂ = n .s₂;
-        f₂ = n .f₂;
-        clk₂ = n .clk₂;
-        dat₂ = n .dat₂;
-        left = r .calm;
-        right = r′ .calm;
-        joined = n .joined;
-        yes₁ = n .yes₁;
-        no₂ = n .no₂;
-        fin = n .fin;
-        delay = clear-later d s a b o (n .delay) q;
-      };
-      fin = λ t l h. n .fin t ∙ ap₂ _||_ (r .fin t l h) (r′ .fin t l h);
-      clocks = joined-quiet (n .clk₁) (n .clk₂) clk (n .dat₁) (n .dat₂) dat a (suc b) (n .joined) (r .clocks) (r′ .clocks);
-    }
-
-rest-while : (m : Memory) (d : ℕ) (e : Expr) (P : Stmt) → 1 ≤ d → RestOf m P → RestOf m (while d e P)
-unfolding Calm Net
-rest-while m d e P pos hP s f clk dat a b n o q =
-    let begun : (c : ℕ) → c ≤ b → Quiet (n .f₁) a c → Quiet (delayed d (either s (n .f₁))) a (c + d) =
-    λ c o₁ x. delayed-quiet d (either s (n .f₁)) a c (n .delay) (either-quiet s (n .f₁) a c (λ t l h. q t l (omega arith)) x) in
-    let begins : (c : ℕ) → c < b → Quiet (n .f₁) a c → Quiet (n .s₁) a (suc c) =
-    λ c o₁ x t l h.
-    n .begin t ∙ ap (λ (c : Bool). c && not (isZero (eval e (m t)))) (begun c (omega arith) x t l (omega arith)) in
-    let x : Quiet (n .f₁) a b =
-    creep (n .f₁) a b
-    (λ v h x.
-    hP (n .s₁) (n .f₁) clk dat a (suc (a + v)) (n .body) (omega arith) (begins (a + v) h x)
-    .fin (a + v) (omega arith) (omega arith)) in
-    let z : Quiet (delayed d (either s (n .f₁))) a (b + d) = begun b (omega arith) x in
-    let q₁ : Quiet (n .s₁) a b = λ t l h. n .begin t ∙ ap (λ (c : Bool). c && not (isZero (eval e (m t)))) (z t l (omega arith)) in
-    let r = hP (n .s₁) (n .f₁) clk dat a b (n .body) o q₁ in
-    record {
-      calm = record {
-        s₁ = n .s₁;
-        f₁ = n .f₁;
-        body = r .calm;
-        begin = n .begin;
-        fin = n .fin;
-        delay = clear-later d (either s (n .f₁)) a b o (n .delay) (either-quiet s (n .f₁) a b q x);
-      };
-      fin = λ t l h. n .fin t ∙ ap (λ (c : Bool). c && isZero (eval e (m t))) (z t l (omega arith));
-      clocks = r .clocks;
-    }
-
-rest-repeat : (m : Memory) (d : ℕ) (e : Expr) (P : Stmt) → 1 ≤ d → RestOf m P → RestOf m (repeat d e P)
-unfolding Calm Net
-rest-repeat m d e P pos hP s f clk dat a b n o q =
-    let begun : (c : ℕ) → Quiet (n .f₁) a c → Quiet (delayed d (n .f₁)) a (c + d) = λ c x. delayed-quiet d (n .f₁) a c (n .delay) x in
-    let begins : (c : ℕ) → c < b → Quiet (n .f₁) a c → Quiet (n .s₁) a (suc c) =
-    λ c o₁ x t l h.
-    n .begin t
-    ∙ ap₂ (λ (p c : Bool). p || (c && isZero (eval e (m t)))) (q t l (omega arith)) (begun c x t l (omega arith)) in
-    let x : Quiet (n .f₁) a b =
-    creep (n .f₁) a b
-    (λ v h x.
-    hP (n .s₁) (n .f₁) clk dat a (suc (a + v)) (n .body) (omega arith) (begins (a + v) h x)
-    .fin (a + v) (omega arith) (omega arith)) in
-    let z : Quiet (delayed d (n .f₁)) a (b + d) = begun b x in
-    let q₁ : Quiet (n .s₁) a b =
-    λ t l h. n .begin t ∙ ap₂ (λ (p c : Bool). p || (c && isZero (eval e (m t)))) (q t l h) (z t l (omega arith)) in
-    let r = hP (n .s₁) (n .f₁) clk dat a b (n .body) o q₁ in
-    record {
-      calm = record {
-        s₁ = n .s₁;
-        f₁ = n .f₁;
-        body = r .calm;
-        begin = n .begin;
-        fin = n .fin;
-        delay = clear-later d (n .f₁) a b o (n .delay) x;
-      };
-      fin = λ t l h. n .fin t ∙ ap (λ (c : Bool). c && not (isZero (eval e (m t)))) (z t l (omega arith));
-      clocks = r .clocks;
-    }
-
-pub rest : (m : Memory) (P : Stmt) → Timed P → RestOf m P
-unfolding Timed
-rest m ok h = rest-ok m
-rest m (tick d) h = rest-tick m d
-rest m (assign d x e) h = rest-assign m d x e h
-rest m (seq P Q) h = rest-seq m P Q (rest m P (h .0)) (rest m Q (h .1))
-rest m (par P Q) h = rest-par m P Q (rest m P (h .0)) (rest m Q (h .1))
-rest m (ite d e P Q) h = rest-ite m d e P Q (rest m P (h .0)) (rest m Q (h .1))
-rest m (while d e P) h = rest-while m d e P (h .0) (rest m P (h .1))
-rest m (repeat d e P) h = rest-repeat m d e P (h .0) (rest m P (h .1))
+  -- whatever its start does, a calm part calls nothing for a gap
+  pub hush : (a : ℕ) → Calm W P s f g n a → (q : ℕ) → Quiet (g .calls q) a (a + gap (W .w))
+  hush a calm q t l k = is-uncalled q t

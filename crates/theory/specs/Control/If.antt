@@ -1,148 +1,233 @@
--- What the circuit of an if does. Assumes nothing.
+-- What the circuit of an if does. Its condition is read w times, and its words stay meanwhile. Assumes nothing.
 use Prim.Native.Nat.{ℕ, suc, _+_, _≤_, _<_}
-use mathlib.Core.Path.{_≡_, refl, sym, _∙_, ap, ap₂}
+use mathlib.Core.Path.{_≡_, sym, _∙_, ap, ap₂}
 use mathlib.Core.Bool.{Bool, true, false, not, _&&_, _||_, or-true, or-comm}
 use native.Mathlib.Omega.{arith}
 use Rattle.model.specs.Word.{isZero}
 use Rattle.model.specs.Program.{Expr, Stmt, ite, reads, touches}
-use Rattle.model.specs.Rules.{Store, eval, run}
+use Rattle.model.specs.Rules.{Store, eval}
 use Rattle.model.specs.Circuit.{Sig, delayed}
-use Rattle.laws.specs.Refusals.Laws.{by-bool, by-le}
-use Rattle.theory.specs.Control.Wiring.{Clk, Dat, Memory, Net, Ite}
-use Rattle.laws.specs.Program.Fit.{Timed}
-use Rattle.theory.specs.Control.Signal.{Quiet, Clear, glue-at, keep, joined-swap, delayed-at, delayed-quiet, delayed-after, clear-after}
-use Rattle.laws.specs.Rules.Laws.{wait-ended, wait-still, ite-then, ite-else}
-use Rattle.theory.specs.Control.Calm.{Calm, Rests, rest}
-use Rattle.laws.specs.Rules.Uses.{eval-same}
-use Rattle.theory.specs.Control.Runs.{Begins, Does, RunOf}
+use Rattle.laws.specs.Refusals.Laws.{by-bool, by-le, not-both}
+use Rattle.laws.specs.Rules.Laws.{wait-still, ite-then, ite-else}
+use Rattle.theory.specs.Control.Widths.{gap, widened}
+use Rattle.theory.specs.Control.Ways.{comes-is, wait-comes}
+use Rattle.theory.specs.Control.Signal.{Quiet, delayed-quiet}
+use Rattle.theory.specs.Control.Pulses.{Pulse, Firm, pulse-less, pulse-delayed, pulse-firm, either-firm}
+use Rattle.theory.specs.Control.History.{Stable, stable-off, stable-on, Spaced, spaced-on}
+use Rattle.theory.specs.Control.Wiring.{ideal, Gives, Ite, Circuit, Test, Each}
+use Rattle.theory.specs.Control.World.{World, Built, means, Paced, goes}
+use Rattle.theory.specs.Control.Memories.{joined-swap}
+use Rattle.theory.specs.Control.Calm.{Calm, calmly, Sofar, lately, calm-sofar, hush}
+use Rattle.theory.specs.Control.Rest.{Rests, rest}
+use Rattle.theory.specs.Control.Surge.{surge, gated-firm, test-same}
+use Rattle.theory.specs.Control.Bodies.{Owned, Owns, pause-sofar}
+use Rattle.theory.specs.Control.Runs.{Begins, Going, Does, RunOf, ShortOf, done-as, going-as}
+use Rattle.theory.specs.Control.Tests.{Waits, waited-settled, waited-words, test-words, test-is}
 use Rattle.theory.specs.Control.Sides.{Branch, branch}
 
-module _ (m : Memory) (d : ℕ) (e : Expr) (P Q : Stmt) (timedP : Timed P) (timedQ : Timed Q) (doesP : RunOf m P) (doesQ : RunOf m Q)
-    (U : ℕ → Type 0) (σ : Store) (s f : Sig) (clk : Clk) (dat : Dat) (a b u : ℕ) (h : a + u ≡ b)
-    (B : Begins m (ite d e P Q) U σ s f clk dat a b)
-    (n : Ite m d e (λ s f clk dat. Calm m P s f clk dat a) (λ s f clk dat. Calm m Q s f clk dat a) (λ s. Clear d s a) s f clk dat) where
-  ite-before : Quiet (delayed d s) a (a + d)
-  ite-before = delayed-quiet d s a a (n .delay) (λ t l k. absurd (omega arith))
+module _ (W : World) (d : ℕ) (e : Expr) (P Q : Stmt) (timedP : Paced W P) (timedQ : Paced W Q) (doesP : RunOf W P) (doesQ : RunOf W Q)
+    (U : Owned) (σ : Store) (s f : Sig) (g : Gives) (n : Ite (ideal (W .m)) d e (Built W P) (Built W Q) s f g) where
+  abbrev K₁ : ℕ → Type 0
+  K₁ = Calm W P (n .s₁) (n .f₁) (n .g₁) (n .left)
 
-  ite-pulse : delayed d s (a + d) ≡ true
-  ite-pulse = delayed-at d s a (a + d) refl ∙ B .start
+  abbrev L₁ : ℕ → Type 0
+  L₁ = Sofar W P (n .s₁) (n .f₁) (n .g₁) (n .left)
 
-  ite-after : Quiet (delayed d s) (suc (a + d)) (suc b)
-  ite-after t l k = delayed-after d s (suc a) (suc b) (B .after) t (omega arith) (omega arith)
+  abbrev K₂ : ℕ → Type 0
+  K₂ = Calm W Q (n .s₂) (n .f₂) (n .g₂) (n .right)
+
+  abbrev L₂ : ℕ → Type 0
+  L₂ = Sofar W Q (n .s₂) (n .f₂) (n .g₂) (n .right)
+
+  abbrev K : ℕ → Type 0
+  K t = Test (calmly (W .w) (W .m) t) d e s × K₁ t × K₂ t
+
+  abbrev L : ℕ → Type 0
+  L t = Test (lately (W .w) (W .m) t) d e s × L₁ t × L₂ t
 
   -- the starts of the two branches, where the delay says nothing
   ite-off₁ : (t : ℕ) → delayed d s t ≡ false → n .s₁ t ≡ false
-  ite-off₁ t q = n .yes₁ t ∙ ap (λ (c : Bool). c && not (isZero (eval e (m t)))) q
+  ite-off₁ t q = n .yes₁ t ∙ ap (λ (c : Bool). c && not (isZero (eval e (W .m t)))) q
 
   ite-off₂ : (t : ℕ) → delayed d s t ≡ false → n .s₂ t ≡ false
-  ite-off₂ t q = n .no₂ t ∙ ap (λ (c : Bool). c && isZero (eval e (m t))) q
+  ite-off₂ t q = n .no₂ t ∙ ap (λ (c : Bool). c && isZero (eval e (W .m t))) q
 
-  ite-rest₁ : (c : ℕ) → a ≤ c → c ≤ a + d → Rests m P (n .s₁) (n .f₁) (n .clk₁) (n .dat₁) a c
-  ite-rest₁ c o o₁ =
-      rest m P timedP (n .s₁) (n .f₁) (n .clk₁) (n .dat₁) a c (n .left) o (λ t l k. ite-off₁ t (ite-before t l (omega arith)))
+  module _ (a c j u : ℕ) (h : a + u ≡ c) (o′ : c < j) (B : Begins W (ite d e P Q) U σ K s g a c j) where
+    ite-before : Quiet (delayed d s) a (a + d)
+    ite-before = delayed-quiet d s a a (B .ready .calm .0 .0) (λ t l k. absurd (omega arith))
 
-  ite-rest₂ : (c : ℕ) → a ≤ c → c ≤ a + d → Rests m Q (n .s₂) (n .f₂) (n .clk₂) (n .dat₂) a c
-  ite-rest₂ c o o₁ =
-      rest m Q timedQ (n .s₂) (n .f₂) (n .clk₂) (n .dat₂) a c (n .right) o (λ t l k. ite-off₂ t (ite-before t l (omega arith)))
+    ite-pulse : Pulse (W .w) (delayed d s) (a + d) (j + d)
+    ite-pulse = pulse-delayed d (B .pulse)
 
-  -- the test has not come
-  ite-short : u < d → Quiet f a (suc b)
-  ite-short k t l r =
-      n .fin t
-      ∙ ap₂ _||_ (ite-rest₁ (suc b) (omega arith) (omega arith) .fin t l r) (ite-rest₂ (suc b) (omega arith) (omega arith) .fin t l r)
+    ite-rest₁ : (b : ℕ) → a ≤ b → b ≤ a + d → Rests (n .f₁) (n .g₁) K₁ a b
+    ite-rest₁ b o o₁ =
+        rest W P timedP (n .s₁) (n .f₁) (n .g₁) (n .left) a b (B .ready .calm .1) o (λ t l k. ite-off₁ t (ite-before t l (omega arith)))
 
-  module _ (o : d ≤ u) where
-    -- the words at the test
-    ite-words : (x : ℕ) → U x → m (a + d) x ≡ σ x
-    ite-words x i =
-        keep m U clk dat a (a + d) (omega arith) (λ x i t l k. B .follow x i t l (omega arith)) x i
-        (λ t l k.
-        n .joined .clocks x t
-        ∙ ap₂ _||_ (ite-rest₁ (a + d) (omega arith) (omega arith) .clocks x t l (omega arith))
-        (ite-rest₂ (a + d) (omega arith) (omega arith) .clocks x t l (omega arith)))
-        ∙ B .words x i
+    ite-rest₂ : (b : ℕ) → a ≤ b → b ≤ a + d → Rests (n .f₂) (n .g₂) K₂ a b
+    ite-rest₂ b o o₁ =
+        rest W Q timedQ (n .s₂) (n .f₂) (n .g₂) (n .right) a b (B .ready .calm .2) o (λ t l k. ite-off₂ t (ite-before t l (omega arith)))
 
-    ite-test : isZero (eval e (m (a + d))) ≡ isZero (eval e σ)
-    unfolding touches
-    ite-test =
-        ap isZero
-        (eval-same e (m (a + d)) σ
-        (λ x r. ite-words x (B .mine x (ap (λ (c : Bool). c || (touches P x || touches Q x)) r))))
+    ite-line : (b : ℕ) → b ≤ j → Spaced (W .w) d s b
+    ite-line b o = spaced-on (W .w) d s a b (B .ready .calm .0 .1) (B .ready .calm .0 .0) (pulse-less o (B .pulse))
 
-    -- with both branches at rest, and the start's pulse gone through, nothing is in flight
-    ite-calm : Calm m P (n .s₁) (n .f₁) (n .clk₁) (n .dat₁) (suc b) → Calm m Q (n .s₂) (n .f₂) (n .clk₂) (n .dat₂) (suc b)
-        → Calm m (ite d e P Q) s f clk dat (suc b)
-    unfolding Calm Net
-    ite-calm p q =
+    -- the test has not come
+    ite-short : u < d → Going W U K L f g a c
+    ite-short k =
+        let r₁ = ite-rest₁ (suc c) (omega arith) (omega arith) in
+        let r₂ = ite-rest₂ (suc c) (omega arith) (omega arith) in
         record {
-          s₁ = n .s₁;
-          f₁ = n .f₁;
-          clk₁ = n .clk₁;
-          dat₁ = n .dat₁;
-          s₂ = n .s₂;
-          f₂ = n .f₂;
-          clk₂ = n .clk₂;
-          dat₂ = n .dat₂;
-          left = p;
-          right = q;
-          joined = n .joined;
-          yes₁ = n .yes₁;
-          no₂ = n .no₂;
-          fin = n .fin;
-          delay = clear-after d s a b (omega arith) (B .after);
+          fin = λ t l r. n .fin t ∙ ap₂ _||_ (r₁ .fin t l r) (r₂ .fin t l r);
+          out = λ t l r. n .joined .out t ∙ ap₂ _||_ (r₁ .out t l r) (r₂ .out t l r);
+          sofar = (
+            (tt, ite-line (suc c) (omega arith), stable-off (W .m) d e s a (suc c) (B .ready .calm .0 .2) (λ t l r. ite-before t l (omega arith))),
+            calm-sofar W P (n .s₁) (n .f₁) (n .g₁) (n .left) (suc c) (r₁ .calm),
+            calm-sofar W Q (n .s₂) (n .f₂) (n .g₂) (n .right) (suc c) (r₂ .calm),
+          );
+          alive = λ k₁. not-both (B .pulse .high a (omega arith) (omega arith) (omega arith)) (k₁ .0 .0 a (omega arith) (omega arith));
+          bodies = pause-sofar W U g a (suc c) j (omega arith) (B .ready .settled) (λ t l r. B .silent t l (omega arith) (omega arith))
+              (λ q t l r. n .joined .called q t ∙ ap₂ _||_ (r₁ .called q t (omega arith) (omega arith)) (r₂ .called q t (omega arith) (omega arith)));
         }
 
-    -- what a branch touches, the if touches
-    then-mine : (x : ℕ) → touches P x ≡ true → U x
-    unfolding touches
-    then-mine x t = B .mine x (ap (λ (c : Bool). reads e x || (c || touches Q x)) t ∙ or-true (reads e x))
+    -- what the condition reads, and what a branch uses, the if uses
+    ite-reads : (x : ℕ) → reads e x ≡ true → U .vars x
+    unfolding touches widened
+    ite-reads x r = B .ready .owns .mine x (ap (λ (c : Bool). c || (touches (means W P) x || touches (means W Q) x)) r)
 
-    else-mine : (x : ℕ) → touches Q x ≡ true → U x
-    unfolding touches
-    else-mine x t =
-        B .mine x (ap (λ (c : Bool). reads e x || c) (ap (λ (c : Bool). touches P x || c) t ∙ or-true (touches P x)) ∙ or-true (reads e x))
+    then-owns : Owns W P U
+    unfolding touches widened
+    then-owns =
+        record {
+          mine = λ x t. B .ready .owns .mine x (ap (λ (c : Bool). reads e x || (c || touches (means W Q) x)) t ∙ or-true (reads e x));
+          reach = B .ready .owns .reach;
+        }
 
-    then-branch : isZero (eval e σ) ≡ false → Branch m P Q U σ f clk (n .s₁) (n .f₁) (n .clk₁) (n .dat₁) (n .s₂) (n .f₂) (n .clk₂) (n .dat₂) a b u d
-    then-branch z =
-        branch m P Q timedP timedQ doesP U σ f clk dat a b u d h o (n .s₁) (n .f₁) (n .clk₁) (n .dat₁) (n .s₂) (n .f₂) (n .clk₂) (n .dat₂) (n .left)
-        (n .right) (n .joined) (n .fin) (λ t l k. ite-off₁ t (ite-before t l k))
-        (n .yes₁ (a + d) ∙ ap₂ (λ (p q : Bool). p && not q) ite-pulse (ite-test ∙ z)) (λ t l k. ite-off₁ t (ite-after t l k))
-        (glue-at (n .s₂) a (a + d) (suc b) (λ t l k. ite-off₂ t (ite-before t l k))
-        (n .no₂ (a + d) ∙ ap₂ (λ (p q : Bool). p && q) ite-pulse (ite-test ∙ z)) (λ t l k. ite-off₂ t (ite-after t l k)))
-        then-mine ite-words (B .follow)
+    else-owns : Owns W Q U
+    unfolding touches widened
+    else-owns =
+        record {
+          mine = λ x t.
+              B .ready .owns .mine x
+              (ap (λ (c : Bool). reads e x || c) (ap (λ (c : Bool). touches (means W P) x || c) t ∙ or-true (touches (means W P) x)) ∙ or-true (reads e x));
+          reach = B .ready .owns .reach;
+        }
 
-    else-branch : isZero (eval e σ) ≡ true → Branch m Q P U σ f clk (n .s₂) (n .f₂) (n .clk₂) (n .dat₂) (n .s₁) (n .f₁) (n .clk₁) (n .dat₁) a b u d
-    else-branch z =
-        branch m Q P timedQ timedP doesQ U σ f clk dat a b u d h o (n .s₂) (n .f₂) (n .clk₂) (n .dat₂) (n .s₁) (n .f₁) (n .clk₁) (n .dat₁) (n .right)
-        (n .left) (joined-swap (n .clk₁) (n .clk₂) clk (n .dat₁) (n .dat₂) dat (n .joined)) (λ t. n .fin t ∙ or-comm (n .f₁ t) (n .f₂ t))
-        (λ t l k. ite-off₂ t (ite-before t l k)) (n .no₂ (a + d) ∙ ap₂ (λ (p q : Bool). p && q) ite-pulse (ite-test ∙ z))
-        (λ t l k. ite-off₂ t (ite-after t l k))
-        (glue-at (n .s₁) a (a + d) (suc b) (λ t l k. ite-off₁ t (ite-before t l k))
-        (n .yes₁ (a + d) ∙ ap₂ (λ (p q : Bool). p && not q) ite-pulse (ite-test ∙ z)) (λ t l k. ite-off₁ t (ite-after t l k)))
-        else-mine ite-words (B .follow)
+    module _ (o : d ≤ u) where
+      rest₁ : Rests (n .f₁) (n .g₁) K₁ a (a + d)
+      rest₁ = ite-rest₁ (a + d) (omega arith) (omega arith)
 
-  ite-does : Does m (ite d e P Q) U σ s f clk dat a b u
-  ite-does =
-      record {
-        goes-on = λ p.
-            by-le d u
-            (λ o.
-            by-bool (isZero (eval e σ)) (λ z. else-branch o z .goes-on (wait-still d u (λ k. run k Q σ) (sym (ite-else u d e P Q σ z) ∙ p) o))
-            (λ z. then-branch o z .goes-on (wait-still d u (λ k. run k P σ) (sym (ite-then u d e P Q σ z) ∙ p) o)))
-            (λ o. ite-short o);
-        ends = λ σ′ p.
-            by-bool (isZero (eval e σ))
-            (λ z.
-            let w = wait-ended d u (λ k. run k Q σ) (sym (ite-else u d e P Q σ z) ∙ p) in
-            let E = else-branch (w .1) z .ends (w .0) σ′ (sym (w .3)) (w .2) in
-            record { quiet = E .quiet; high = E .high; low = E .low; words = E .words; calm = ite-calm (w .1) (E .other) (E .taken) })
-            (λ z.
-            let w = wait-ended d u (λ k. run k P σ) (sym (ite-then u d e P Q σ z) ∙ p) in
-            let E = then-branch (w .1) z .ends (w .0) σ′ (sym (w .3)) (w .2) in
-            record { quiet = E .quiet; high = E .high; low = E .low; words = E .words; calm = ite-calm (w .1) (E .taken) (E .other) });
-      }
+      rest₂ : Rests (n .f₂) (n .g₂) K₂ a (a + d)
+      rest₂ = ite-rest₂ (a + d) (omega arith) (omega arith)
 
-pub run-ite : (m : Memory) (d : ℕ) (e : Expr) (P Q : Stmt) → Timed P → Timed Q → RunOf m P → RunOf m Q → RunOf m (ite d e P Q)
-unfolding Calm Net
-run-ite m d e P Q timedP timedQ doesP doesQ U σ s f clk dat a b u h B =
-    ite-does m d e P Q timedP timedQ doesP doesQ U σ s f clk dat a b u h B (B .calm)
+      -- up to a gap after the test nothing is called
+      ite-uncalled : (q : ℕ) → Quiet (g .calls q) a (a + d + gap (W .w))
+      ite-uncalled q t l k =
+          n .joined .called q t
+          ∙ by-le (a + d) t
+          (λ z.
+          ap₂ _||_ (hush W P (n .s₁) (n .f₁) (n .g₁) (n .left) (a + d) (rest₁ .calm) q t z k)
+          (hush W Q (n .s₂) (n .f₂) (n .g₂) (n .right) (a + d) (rest₂ .calm) q t z k))
+          (λ z. ap₂ _||_ (rest₁ .called q t l (omega arith)) (rest₂ .called q t l (omega arith)))
+
+      ite-waits : Waits W U g d σ a c j
+      ite-waits =
+          record {
+            room = omega arith;
+            last = o′;
+            settled = B .ready .settled;
+            words = B .ready .words;
+            follow = B .follow;
+            silent = B .silent;
+            hold = B .hold;
+            low = λ x t l k. n .joined .clocks x t ∙ ap₂ _||_ (rest₁ .clocks x t l (omega arith)) (rest₂ .clocks x t l (omega arith));
+            uncalled = λ q t l k k′. ite-uncalled q t (omega arith) k;
+            firm = λ k l l₁ l₂ q x.
+                let D : Firm (delayed d s) (a + d) k = pulse-firm k (omega arith) (omega arith) ite-pulse in
+                let z = test-same W e (U .vars) (a + d) k ite-reads q in
+                let r =
+                surge W P timedP (n .s₁) (n .f₁) (n .g₁) (n .left) (a + d) k (rest₁ .calm) l (omega arith)
+                (gated-firm (delayed d s) (n .s₁) (λ t. not (isZero (eval e (W .m t)))) (a + d) k (λ t l h. n .yes₁ t) D (λ t l h. ap not (z t l h)))
+                (λ y r. q y (then-owns .mine y r)) in
+                let r′ =
+                surge W Q timedQ (n .s₂) (n .f₂) (n .g₂) (n .right) (a + d) k (rest₂ .calm) l (omega arith)
+                (gated-firm (delayed d s) (n .s₂) (λ t. isZero (eval e (W .m t))) (a + d) k (λ t l h. n .no₂ t) D z)
+                (λ y r. q y (else-owns .mine y r)) in
+                either-firm (n .g₁ .clk x) (n .g₂ .clk x) (g .clk x) (a + d) (suc k) (n .joined .clocks x) (r .clocks x) (r′ .clocks x);
+          }
+
+      ite-used : (b : ℕ) → b ≤ j → Stable (W .m) d e s b
+      ite-used b o₁ =
+          stable-on (W .w) (W .m) d e s a b σ (B .ready .calm .0 .2) (B .ready .calm .0 .0) (pulse-less o₁ (B .pulse))
+          (λ k x r v l k₁ k₂. test-words ite-waits e ite-reads x r v l k₁ (omega arith))
+
+      -- what is known of the delay, at the end and so far
+      ite-calm : c + gap (W .w) ≤ j → Test (calmly (W .w) (W .m) j) d e s
+      ite-calm k = (λ t l k′. B .pulse .low t (omega arith) l, ite-line j (omega arith), ite-used j (omega arith))
+
+      ite-sofar : (b : ℕ) → b ≤ j → Test (lately (W .w) (W .m) b) d e s
+      ite-sofar b o₁ = (tt, ite-line b o₁, ite-used b o₁)
+
+      -- a branch's start, where the condition is its
+      ite-off : (r : Sig) → ((t : ℕ) → delayed d s t ≡ false → r t ≡ false)
+          → ((t : ℕ) → a + d ≤ t → t < a + d + W .w → t < j → r t ≡ false) → Quiet r a j
+      ite-off r p q t l k =
+          by-le (a + d) t
+          (λ y₀. by-le (a + d + W .w) t (λ y₁. p t (ite-pulse .low t y₁ (omega arith))) (λ y₁. q t y₀ y₁ k))
+          (λ y₀. p t (ite-before t l y₀))
+
+      then-branch : isZero (eval e σ) ≡ false → Branch W P U σ (λ t. K₁ t × K₂ t) (λ t. L₁ t × L₂ t) f g a c j u d
+      then-branch z =
+          branch W P Q timedP timedQ doesP U σ f g (n .s₁) (n .f₁) (n .g₁) (n .left) (n .s₂) (n .f₂) (n .g₂) (n .right) (n .joined) (n .fin)
+          a c j u d h o o′ (B .ready .calm .1) (B .ready .calm .2) (λ t l k. ite-off₁ t (ite-before t l k))
+          (record {
+            high = λ t l k k′.
+                n .yes₁ t ∙ ap₂ (λ (p q : Bool). p && not q) (ite-pulse .high t l k (omega arith)) (test-is ite-waits e ite-reads t l k k′ ∙ z);
+            low = λ t l k. ite-off₁ t (ite-pulse .low t l (omega arith));
+          })
+          (ite-off (n .s₂) ite-off₂
+          (λ t l k k′. n .no₂ t ∙ ap₂ (λ (p q : Bool). p && q) (ite-pulse .high t l k (omega arith)) (test-is ite-waits e ite-reads t l k k′ ∙ z)))
+          then-owns (waited-settled ite-waits) (waited-words ite-waits (a + d) (omega arith) (omega arith)) (B .follow) (B .silent) (B .hold)
+
+      else-branch : isZero (eval e σ) ≡ true → Branch W Q U σ (λ t. K₂ t × K₁ t) (λ t. L₂ t × L₁ t) f g a c j u d
+      else-branch z =
+          branch W Q P timedQ timedP doesQ U σ f g (n .s₂) (n .f₂) (n .g₂) (n .right) (n .s₁) (n .f₁) (n .g₁) (n .left)
+          (joined-swap (n .g₁) (n .g₂) g (n .joined)) (λ t. n .fin t ∙ or-comm (n .f₁ t) (n .f₂ t))
+          a c j u d h o o′ (B .ready .calm .2) (B .ready .calm .1) (λ t l k. ite-off₂ t (ite-before t l k))
+          (record {
+            high = λ t l k k′.
+                n .no₂ t ∙ ap₂ (λ (p q : Bool). p && q) (ite-pulse .high t l k (omega arith)) (test-is ite-waits e ite-reads t l k k′ ∙ z);
+            low = λ t l k. ite-off₂ t (ite-pulse .low t l (omega arith));
+          })
+          (ite-off (n .s₁) ite-off₁
+          (λ t l k k′. n .yes₁ t ∙ ap₂ (λ (p q : Bool). p && not q) (ite-pulse .high t l k (omega arith)) (test-is ite-waits e ite-reads t l k k′ ∙ z)))
+          else-owns (waited-settled ite-waits) (waited-words ite-waits (a + d) (omega arith) (omega arith)) (B .follow) (B .silent) (B .hold)
+
+    ite-does : Does W U (goes W u (ite d e P Q) σ) K L f g a c j u
+    unfolding widened
+    ite-does =
+        record {
+          goes-on = λ p.
+              by-le d u
+              (λ o.
+              by-bool (isZero (eval e σ))
+              (λ z.
+              going-as K L (λ k. (k .2, k .1)) (λ l. (ite-sofar o (suc c) (omega arith), l .1, l .0))
+              (else-branch o z .goes-on (wait-still d u (λ k. goes W k Q σ) (sym (ite-else u d e (means W P) (means W Q) σ z) ∙ p) o)))
+              (λ z.
+              going-as K L (λ k. (k .1, k .2)) (λ l. (ite-sofar o (suc c) (omega arith), l .0, l .1))
+              (then-branch o z .goes-on (wait-still d u (λ k. goes W k P σ) (sym (ite-then u d e (means W P) (means W Q) σ z) ∙ p) o))))
+              (λ o. ite-short o);
+          ends = λ way σ′ p.
+              by-bool (isZero (eval e σ))
+              (λ z.
+              let v = wait-comes d u (λ k. goes W k Q σ) (comes-is (ite-else u d e (means W P) (means W Q) σ z) p) in
+              done-as K L (λ o k. (ite-calm (v .1) o, k .1, k .0)) (λ l. (ite-sofar (v .1) j (omega arith), l .1, l .0))
+              (else-branch (v .1) z .ends way (v .0) σ′ (sym (v .3)) (v .2)))
+              (λ z.
+              let v = wait-comes d u (λ k. goes W k P σ) (comes-is (ite-then u d e (means W P) (means W Q) σ z) p) in
+              done-as K L (λ o k. (ite-calm (v .1) o, k .0, k .1)) (λ l. (ite-sofar (v .1) j (omega arith), l .0, l .1))
+              (then-branch (v .1) z .ends way (v .0) σ′ (sym (v .3)) (v .2)));
+        }
+
+pub run-ite : (W : World) (d : ℕ) (e : Expr) (P Q : Stmt) → Paced W P → Paced W Q → RunOf W P → RunOf W Q → ShortOf W (ite d e P Q)
+unfolding Circuit Each
+run-ite W d e P Q timedP timedQ doesP doesQ U σ s f g n a c j u h o k B = ite-does W d e P Q timedP timedQ doesP doesQ U σ s f g n a c j u h o B

@@ -1,6 +1,6 @@
 -- What the circuit of a parallel does. Assumes nothing.
-use Prim.Native.Nat.{ℕ, suc, _+_, max}
-use mathlib.Core.Path.{_≡_, sym, _∙_, ap, ap₂, subst}
+use Prim.Native.Nat.{ℕ, suc, _+_, _≤_, _<_, max}
+use mathlib.Core.Path.{_≡_, refl, sym, _∙_, ap, ap₂, subst}
 use mathlib.Core.Bool.{Bool, true, false, _||_, or-true}
 use native.Mathlib.Omega.{arith}
 use Rattle.model.specs.Word.{pick}
@@ -8,15 +8,21 @@ use Rattle.model.specs.Program.{Stmt, par, writes, touches}
 use Rattle.model.specs.Rules.{Store, over, kept, ended, run}
 use Rattle.model.specs.Circuit.{Sig}
 use Rattle.laws.specs.Refusals.Laws.{by-bool, by-le}
-use Rattle.theory.specs.Control.Wiring.{Clk, Dat, Memory, Net, Par}
-use Rattle.laws.specs.Program.Fit.{Timed, Apart}
-use Rattle.theory.specs.Control.Signal.{Quiet, joined-swap}
-use Rattle.theory.specs.Control.Merges.{Empty, Meets, meets, meets-swap, empty-swap, merged-left, merged-right}
-use Rattle.laws.specs.Rules.Laws.{both-ended, both-still}
-use Rattle.theory.specs.Control.Calm.{Calm}
+use Rattle.laws.specs.Program.Fit.{Apart}
+use Rattle.laws.specs.Rules.Laws.{both-still}
 use Rattle.laws.specs.Rules.Uses.{leaves, writes-touches, apart-unwritten}
-use Rattle.theory.specs.Control.Runs.{Begins, Ended, Does, RunOf, at}
-use Rattle.theory.specs.Control.Sides.{Sided, Side, side}
+use Rattle.theory.specs.Control.Widths.{gap, widened}
+use Rattle.theory.specs.Control.Ways.{atEnd, both-comes}
+use Rattle.theory.specs.Control.Pulses.{pulse-is, pulse-at, shows-pulse, shows-on, shows-off}
+use Rattle.theory.specs.Control.Merge.{Empty, empty-swap, merged-left, merged-right}
+use Rattle.theory.specs.Control.Meets.{Meets, meets, meets-swap}
+use Rattle.theory.specs.Control.Wiring.{Gives, Par, Circuit, Each}
+use Rattle.theory.specs.Control.World.{World, Built, means, Paced, goes}
+use Rattle.theory.specs.Control.Memories.{joined-swap}
+use Rattle.theory.specs.Control.Calm.{Calm, Sofar, is-inside}
+use Rattle.theory.specs.Control.Bodies.{Owned, Owns, Settled}
+use Rattle.theory.specs.Control.Runs.{Words, Begins, Done, Does, RunOf, ShortOf, in-way}
+use Rattle.theory.specs.Control.Sides.{Own, Side, side}
 
 module _ (P Q : Stmt) (σ σ₁ σ₂ : Store) (x : ℕ) where
   kept-left : writes P x ≡ true → kept P Q σ σ₁ σ₂ x ≡ σ₁ x
@@ -31,96 +37,131 @@ module _ (P Q : Stmt) (σ σ₁ σ₂ : Store) (x : ℕ) where
   unfolding kept over
   kept-neither p q = ap₂ (λ (b c : Bool). pick b (σ₁ x) (pick c (σ₂ x) (σ x))) p q
 
-module _ (m : Memory) (P Q : Stmt) (timedP : Timed P) (timedQ : Timed Q) (apartPQ : Apart P Q) (apartQP : Apart Q P)
-    (doesP : RunOf m P) (doesQ : RunOf m Q)
-    (U : ℕ → Type 0) (σ : Store) (s f : Sig) (clk : Clk) (dat : Dat) (a b u : ℕ) (h : a + u ≡ b)
-    (B : Begins m (par P Q) U σ s f clk dat a b)
-    (n : Par (λ s f clk dat. Calm m P s f clk dat a) (λ s f clk dat. Calm m Q s f clk dat a) (λ f g. Empty f g a) s f clk dat)
+module _ (W : World) (P Q : Stmt) (timedP : Paced W P) (timedQ : Paced W Q) (apartPQ : Apart (means W P) (means W Q)) (apartQP : Apart (means W Q) (means W P))
+    (doesP : RunOf W P) (doesQ : RunOf W Q) (U : Owned) (σ : Store) (s f : Sig) (g : Gives) (n : Par (W .w) (Built W P) (Built W Q) s f g)
   where
-    side₁ : Side m P Q U σ s (n .f₁) (n .clk₁) (n .dat₁) a b u
-    unfolding touches
-    side₁ =
-        side m P Q timedP doesP apartQP U σ s clk dat a b u h (n .f₁) (n .clk₁) (n .dat₁) (n .f₂) (n .clk₂) (n .dat₂) (n .left) (n .right) (n .joined)
-        (B .start) (B .after) (λ x t. B .mine x (ap (λ (c : Bool). c || touches Q x) t)) (B .words) (B .follow)
+    abbrev K₁ : ℕ → Type 0
+    K₁ = Calm W P s (n .f₁) (n .g₁) (n .left)
 
-    side₂ : Side m Q P U σ s (n .f₂) (n .clk₂) (n .dat₂) a b u
-    unfolding touches
-    side₂ =
-        side m Q P timedQ doesQ apartPQ U σ s clk dat a b u h (n .f₂) (n .clk₂) (n .dat₂) (n .f₁) (n .clk₁) (n .dat₁) (n .right) (n .left)
-        (joined-swap (n .clk₁) (n .clk₂) clk (n .dat₁) (n .dat₂) dat (n .joined)) (B .start) (B .after)
-        (λ x t. B .mine x (ap (λ (c : Bool). touches P x || c) t ∙ or-true (touches P x))) (B .words) (B .follow)
+    abbrev L₁ : ℕ → Type 0
+    L₁ = Sofar W P s (n .f₁) (n .g₁) (n .left)
 
-    module _ (t₁ : ℕ) (σ₁ : Store) (t₂ : ℕ) (σ₂ : Store) (y : u ≡ max t₁ t₂) (p₁ : run u P σ ≡ ended t₁ σ₁)
-        (E₁ : Sided m P Q U σ₁ s (n .f₁) (n .clk₁) (n .dat₁) a b t₁) (E₂ : Sided m Q P U σ₂ s (n .f₂) (n .clk₂) (n .dat₂) a b t₂) where
-      par-words : (x : ℕ) → U x → m b x ≡ kept P Q σ σ₁ σ₂ x
-      par-words x i =
-          by-bool (writes Q x)
-          (λ w.
-          let w′ : writes P x ≡ false = apart-unwritten P Q apartPQ x (writes-touches Q x w) in
-          E₂ .words x (i, w′) ∙ sym (kept-right P Q σ σ₁ σ₂ x w′ w))
-          (λ w.
-          E₁ .words x (i, w)
-          ∙ by-bool (writes P x) (λ w′. sym (kept-left P Q σ σ₁ σ₂ x w′)) (λ w′. leaves P x w′ u t₁ σ σ₁ p₁ ∙ sym (kept-neither P Q σ σ₁ σ₂ x w′ w)))
+    abbrev K₂ : ℕ → Type 0
+    K₂ = Calm W Q s (n .f₂) (n .g₂) (n .right)
 
-      par-meets : Quiet f a b × Meets (n .f₁) (n .f₂) b
-      par-meets =
-          by-le t₁ t₂
-          (λ k.
-          let q : a + t₂ ≡ b = omega arith in
-          let g : Quiet (n .f₂) a b = λ t l r. E₂ .quiet t l (omega arith) in (
-            λ t l r. n .fin t ∙ merged-right (n .f₁) (n .f₂) a b (n .merge) g t l r,
-            meets (n .f₁) (n .f₂) a (a + t₁) b (omega arith) (omega arith) (n .merge) (E₁ .quiet) (E₁ .high) (E₁ .rests .fin) g (at (n .f₂) q (E₂ .high)),
-          ))
-          (λ k.
-          let q : a + t₁ ≡ b = omega arith in
-          let g : Quiet (n .f₁) a b = λ t l r. E₁ .quiet t l (omega arith) in (
-            λ t l r. n .fin t ∙ merged-left (n .f₁) (n .f₂) a b (n .merge) g t l r,
-            meets-swap (n .f₁) (n .f₂) b
-                (meets (n .f₂) (n .f₁) a (a + t₂) b (omega arith) (omega arith) (empty-swap (n .f₁) (n .f₂) a (n .merge)) (E₂ .quiet) (E₂ .high)
-                (E₂ .rests .fin) g (at (n .f₁) q (E₁ .high))),
-          ))
+    abbrev L₂ : ℕ → Type 0
+    L₂ = Sofar W Q s (n .f₂) (n .g₂) (n .right)
 
-      par-ends : Ended m (par P Q) U (kept P Q σ σ₁ σ₂) s f clk dat a b
-      unfolding Calm Net
-      par-ends =
+    abbrev K : ℕ → Type 0
+    K t = Empty (W .w) (n .f₁) (n .f₂) t × K₁ t × K₂ t
+
+    abbrev L : ℕ → Type 0
+    L t = Unit {0} × L₁ t × L₂ t
+
+    -- no exit leaves a side
+    par-in : (t : ℕ) → g .out t ≡ false
+    par-in t = n .joined .out t ∙ ap₂ _||_ (is-inside W P s (n .f₁) (n .g₁) (n .left) t) (is-inside W Q s (n .f₂) (n .g₂) (n .right) t)
+
+    module _ (a c e u : ℕ) (h : a + u ≡ c) (o : c < e) (short : e ≤ c + gap (W .w)) (B : Begins W (par P Q) U σ K s g a c e) where
+      par-owns₁ : Owns W P U
+      unfolding touches widened
+      par-owns₁ =
+          record { mine = λ x t. B .ready .owns .mine x (ap (λ (c : Bool). c || touches (means W Q) x) t); reach = B .ready .owns .reach }
+
+      par-owns₂ : Owns W Q U
+      unfolding touches widened
+      par-owns₂ =
           record {
-            quiet = par-meets .0;
-            high = n .fin b ∙ par-meets .1 .0;
-            low = λ x.
-                n .joined .clocks x b
-                ∙ ap₂ _||_ (E₁ .low x b (omega arith) (omega arith)) (E₂ .low x b (omega arith) (omega arith));
-            words = par-words;
-            calm = record {
-              f₁ = n .f₁;
-              clk₁ = n .clk₁;
-              dat₁ = n .dat₁;
-              f₂ = n .f₂;
-              clk₂ = n .clk₂;
-              dat₂ = n .dat₂;
-              left = E₁ .rests .calm;
-              right = E₂ .rests .calm;
-              joined = n .joined;
-              fin = n .fin;
-              merge = par-meets .1 .1;
-            };
+            mine = λ x t. B .ready .owns .mine x (ap (λ (c : Bool). touches (means W P) x || c) t ∙ or-true (touches (means W P) x));
+            reach = B .ready .owns .reach;
           }
 
-    par-does : Does m (par P Q) U σ s f clk dat a b u
-    unfolding run
-    par-does =
-        record {
-          goes-on = λ p.
-              both-still (kept P Q σ) (run u P σ) (run u Q σ) p
-              (λ q t l k. n .fin t ∙ merged-left (n .f₁) (n .f₂) a (suc b) (n .merge) (side₁ .goes-on q) t l k)
-              (λ q t l k. n .fin t ∙ merged-right (n .f₁) (n .f₂) a (suc b) (n .merge) (side₂ .goes-on q) t l k);
-          ends = λ σ′ p.
-              let v = both-ended (kept P Q σ) (run u P σ) (run u Q σ) p in
-              subst (λ (τ : Store). Ended m (par P Q) U τ s f clk dat a b) (sym (v .7))
-              (par-ends (v .0) (v .1) (v .2) (v .3) (v .6) (v .4) (side₁ .ends (v .0) (v .1) (omega (arith, v .6)) (v .4))
-              (side₂ .ends (v .2) (v .3) (omega (arith, v .6)) (v .5)));
-        }
+      side₁ : Side W P Q U σ K₁ L₁ (n .f₁) (n .g₁) a c e u
+      side₁ =
+          side W P Q timedP doesP apartQP U σ s g (n .f₁) (n .g₁) (n .left) (n .f₂) (n .g₂) (n .right) (n .joined) a c e u h o (B .ready .calm .1)
+          (B .pulse) par-owns₁ (B .ready .settled) (B .ready .words) (B .follow) (B .silent) (B .hold)
 
-pub run-par : (m : Memory) (P Q : Stmt) → Timed P → Timed Q → Apart P Q → Apart Q P → RunOf m P → RunOf m Q → RunOf m (par P Q)
-unfolding Calm Net
-run-par m P Q timedP timedQ apartPQ apartQP doesP doesQ U σ s f clk dat a b u h B =
-    par-does m P Q timedP timedQ apartPQ apartQP doesP doesQ U σ s f clk dat a b u h B (B .calm)
+      side₂ : Side W Q P U σ K₂ L₂ (n .f₂) (n .g₂) a c e u
+      side₂ =
+          side W Q P timedQ doesQ apartPQ U σ s g (n .f₂) (n .g₂) (n .right) (n .f₁) (n .g₁) (n .left) (joined-swap (n .g₁) (n .g₂) g (n .joined))
+          a c e u h o (B .ready .calm .2) (B .pulse) par-owns₂ (B .ready .settled) (B .ready .words) (B .follow) (B .silent) (B .hold)
+
+      module _ (t₁ : ℕ) (σ₁ : Store) (t₂ : ℕ) (σ₂ : Store) (y : u ≡ max t₁ t₂) (p₁ : goes W u P σ ≡ ended t₁ σ₁) (p₂ : goes W u Q σ ≡ ended t₂ σ₂) where
+        E₁ : Done atEnd W (Own W U Q) σ₁ K₁ L₁ (n .f₁) (n .g₁) a (a + t₁) e
+        E₁ = side₁ .ends t₁ σ₁ (omega arith) p₁
+
+        E₂ : Done atEnd W (Own W U P) σ₂ K₂ L₂ (n .f₂) (n .g₂) a (a + t₂) e
+        E₂ = side₂ .ends t₂ σ₂ (omega arith) p₂
+
+        par-words : Words W U (kept (means W P) (means W Q) σ σ₁ σ₂) c
+        par-words x i =
+            by-bool (writes (means W Q) x)
+            (λ z.
+            let z′ : writes (means W P) x ≡ false = apart-unwritten (means W P) (means W Q) apartPQ x (writes-touches (means W Q) x z) in
+            side₂ .last t₂ σ₂ (omega arith) p₂ .0 x (i, z′) ∙ sym (kept-right (means W P) (means W Q) σ σ₁ σ₂ x z′ z))
+            (λ z.
+            side₁ .last t₁ σ₁ (omega arith) p₁ .0 x (i, z)
+            ∙ by-bool (writes (means W P) x) (λ z′. sym (kept-left (means W P) (means W Q) σ σ₁ σ₂ x z′))
+            (λ z′. leaves (means W P) x z′ u t₁ σ σ₁ p₁ ∙ sym (kept-neither (means W P) (means W Q) σ σ₁ σ₂ x z′ z)))
+
+        par-meets : Meets (W .w) (n .f₁) (n .f₂) a c e
+        par-meets =
+            by-le t₁ t₂
+            (λ k.
+            let q : a + t₂ ≡ c = omega arith in
+            meets (W .w) (n .f₁) (n .f₂) (W .pos) a (a + t₁) c e short o (omega arith) (omega arith) (B .ready .calm .0) (E₁ .fin .quiet)
+            (shows-pulse (E₁ .fin)) (λ t l r. E₂ .fin .quiet t l (omega arith)) (pulse-at q (shows-pulse (E₂ .fin))))
+            (λ k.
+            let q : a + t₁ ≡ c = omega arith in
+            meets-swap (W .w) (n .f₁) (n .f₂) a c e
+            (meets (W .w) (n .f₂) (n .f₁) (W .pos) a (a + t₂) c e short o (omega arith) (omega arith)
+            (empty-swap (W .w) (n .f₁) (n .f₂) a (B .ready .calm .0)) (E₂ .fin .quiet) (shows-pulse (E₂ .fin))
+            (λ t l r. E₁ .fin .quiet t l (omega arith)) (pulse-at q (shows-pulse (E₁ .fin)))))
+
+        -- no side reaches a body, so each body is the first side's own
+        par-settled : Settled W (U .procs) c e
+        par-settled =
+            let S = side₁ .last t₁ σ₁ (omega arith) p₁ .1 in
+            record { idle = λ q v. S .idle q (v, refl); low = λ q v. S .low q (v, refl); sofar = λ q v. S .sofar q (v, refl) }
+
+        par-ends : Done atEnd W U (kept (means W P) (means W Q) σ σ₁ σ₂) K L f g a c e
+        par-ends =
+            record {
+              fin = shows-on (λ t l k. n .fin t ∙ par-meets .quiet t l k) (pulse-is (n .fin) (par-meets .pulse));
+              out = shows-off (omega arith) (omega arith) (λ t l k. par-in t);
+              low = λ x t l k. n .joined .clocks x t ∙ ap₂ _||_ (E₁ .low x t (omega arith) k) (E₂ .low x t (omega arith) k);
+              called = λ x t l k. n .joined .called x t ∙ ap₂ _||_ (E₁ .called x t (omega arith) k) (E₂ .called x t (omega arith) k);
+              words = par-words;
+              sofar = (tt, E₁ .sofar, E₂ .sofar);
+              calm = λ k. (par-meets .empty k, E₁ .calm (omega arith), E₂ .calm (omega arith));
+              settled = par-settled;
+            }
+
+      par-does : Does W U (goes W u (par P Q) σ) K L f g a c e u
+      unfolding run widened
+      par-does =
+          record {
+            goes-on = λ p.
+                record {
+                  fin =
+                      both-still (kept (means W P) (means W Q) σ) (goes W u P σ) (goes W u Q σ) p
+                      (λ q t l k. n .fin t ∙ merged-left (W .w) (n .f₁) (n .f₂) a (suc c) (B .ready .calm .0) (side₁ .goes-on q .fin) t l k)
+                      (λ q t l k. n .fin t ∙ merged-right (W .w) (n .f₁) (n .f₂) a (suc c) (B .ready .calm .0) (side₂ .goes-on q .fin) t l k);
+                  out = λ t l k. par-in t;
+                  sofar = (tt, side₁ .sofar, side₂ .sofar);
+                  alive = λ k.
+                      both-still (kept (means W P) (means W Q) σ) (goes W u P σ) (goes W u Q σ) p (λ q. side₁ .goes-on q .alive (k .1))
+                      (λ q. side₂ .goes-on q .alive (k .2));
+                  bodies = λ q v. side₁ .bodies q (v, refl);
+                };
+            ends = λ way σ′ p.
+                let v = both-comes (kept (means W P) (means W Q) σ) (goes W u P σ) (goes W u Q σ) p in
+                in-way (v .8)
+                (subst (λ (τ : Store). Done atEnd W U τ K L f g a c e) (sym (v .7)) (par-ends (v .0) (v .1) (v .2) (v .3) (v .6) (v .4) (v .5)));
+          }
+
+pub run-par : (W : World) (P Q : Stmt) → Paced W P → Paced W Q → Apart (means W P) (means W Q) → Apart (means W Q) (means W P) → RunOf W P → RunOf W Q
+    → ShortOf W (par P Q)
+unfolding Circuit Each
+run-par W P Q timedP timedQ apartPQ apartQP doesP doesQ U σ s f g n a c e u h o k B =
+    par-does W P Q timedP timedQ apartPQ apartQP doesP doesQ U σ s f g n a c e u h o k B

@@ -1,296 +1,304 @@
--- What a circuit does from a start pulse, up to a horizon, beside what the rules say. Assumes nothing.
-use Prim.Native.Nat.{ℕ, suc, _+_, _-_, _≤_}
-use mathlib.Core.Path.{_≡_, refl, sym, _∙_, ap, ap₂, subst}
-use mathlib.Core.Bool.{Bool, true, false, _||_, or-true}
+-- What a circuit does from a start pulse of w instants, up to a horizon, beside what the rules say; and the lemma that carries every composite,
+-- `launch`. K is that nothing is in flight in its cells, L that what they have seen so far is in order. Assumes nothing.
+use Prim.Native.Nat.{ℕ, zero, suc, _+_, _-_, _≤_, _<_}
+use mathlib.Core.Path.{_≡_, refl, _∙_, ap, subst}
+use mathlib.Core.Bool.{Bool, true, false}
 use native.Mathlib.Omega.{arith}
-use lib.Dec.{eqb}
-use Rattle.model.specs.Word.{pick}
-use Rattle.model.specs.Program.{Expr, Stmt, ok, tick, assign, seq, touches}
-use Rattle.model.specs.Circuit.{Sig, delayed}
-use Rattle.theory.specs.Control.Wiring.{Clk, Dat, Memory, Net, Assigned, Seq, latch}
-use Rattle.laws.specs.Program.Fit.{Timed}
-use Rattle.model.specs.Rules.{Store, eval, put, ended, still, run}
-use Rattle.theory.specs.Control.Signal.{Quiet, Follow, glue, keep, joined-swap, follow-left, creep, delayed-at, delayed-quiet, delayed-after, clear-after}
-use Rattle.laws.specs.Refusals.Laws.{by-bool, by-le}
-use Rattle.laws.specs.Rules.Laws.{by-run, ended-time, ended-words, ended-still, wait-ended, wait-still, chain-ended, chain-still, steady, still-before, still-below}
-use Rattle.theory.specs.Control.Calm.{Calm, calm-dull, rest}
-use Rattle.laws.specs.Rules.Uses.{eval-same}
+use Rattle.model.specs.Program.{Stmt}
+use Rattle.model.specs.Rules.{Store, Run, still}
+use Rattle.model.specs.Circuit.{Sig}
+use Rattle.laws.specs.Refusals.Laws.{by-le}
+use Rattle.theory.specs.Control.Signal.{Quiet, glue, creep}
+use Rattle.laws.specs.Rules.Laws.{still-below}
+use Rattle.theory.specs.Control.Widths.{gap}
+use Rattle.theory.specs.Control.Ways.{Way, atEnd, atExit, Comes, comes-steady, not-yet}
+use Rattle.theory.specs.Control.Pulses.{Pulse, Shows, pulse-less, shows-from}
+use Rattle.theory.specs.Control.Wiring.{Gives}
+use Rattle.theory.specs.Control.World.{World, Built, Paced, goes, steadily}
+use Rattle.theory.specs.Control.Memories.{Follow}
+use Rattle.theory.specs.Control.Calm.{Calm, Sofar, calm-sofar}
+use Rattle.theory.specs.Control.Rest.{rest}
+use Rattle.theory.specs.Control.Bodies.{Owned, BodySofar, Owns, SilentAt, Follows, within, Settled, settled-less, settled-more, pause-follow, pause-words}
 
 -- The statement -------------------------------------------------------------------------------------------------------------------------
 
--- P gets a pulse at a, with nothing in flight, and no other up to b; on [a, b] the variables of U, which are those that P touches and
--- perhaps others, follow P's own clocks and data, and at a they have the words σ
-pub record Begins (m : Memory) (P : Stmt) (U : ℕ → Type 0) (σ : Store) (s f : Sig) (clk : Clk) (dat : Dat) (a b : ℕ) : Type 0 where
-  pub mine : (x : ℕ) → touches P x ≡ true → U x
-  pub calm : Calm m P s f clk dat a
-  pub start : s a ≡ true
-  pub after : Quiet s (suc a) (suc b)
-  pub follow : Follow m U clk dat a b
-  pub words : (x : ℕ) → U x → m a x ≡ σ x
+-- at a U's variables have the words σ
+abbrev pub Words : World → Owned → Store → ℕ → Type 0
+Words W U σ a = (x : ℕ) → U .vars x → W .m a x ≡ σ x
 
--- P ends at b with the words σ, and nothing is left in flight
-pub record Ended (m : Memory) (P : Stmt) (U : ℕ → Type 0) (σ : Store) (s f : Sig) (clk : Clk) (dat : Dat) (a b : ℕ) : Type 0 where
-  pub quiet : Quiet f a b
-  pub high : f b ≡ true
-  pub low : (x : ℕ) → clk x b ≡ false
-  pub words : (x : ℕ) → U x → m b x ≡ σ x
-  pub calm : Calm m P s f clk dat (suc b)
+-- in the w instants from c on, before e, U's variables stay
+abbrev pub Hold : World → Owned → ℕ → ℕ → Type 0
+Hold W U c e = (x : ℕ) → U .vars x → (t : ℕ) → c ≤ t → t < c + W .w → t < e → W .m t x ≡ W .m c x
 
--- up to the horizon u, which is the instant b, the circuit does as the rules say
-pub record Does (m : Memory) (P : Stmt) (U : ℕ → Type 0) (σ : Store) (s f : Sig) (clk : Clk) (dat : Dat) (a b u : ℕ) : Type 0 where
-  pub goes-on : run u P σ ≡ still → Quiet f a (suc b)
-  pub ends : (σ′ : Store) → run u P σ ≡ ended u σ′ → Ended m P U σ′ s f clk dat a b
+-- from w instants after a to a gap after c, before e, only the part and U's bodies start U's bodies
+abbrev pub Silent : World → Owned → Gives → ℕ → ℕ → ℕ → Type 0
+Silent W U g a c e = (t : ℕ) → a + W .w ≤ t → t < c + gap (W .w) → t < e → SilentAt W (U .procs) g t
 
-abbrev pub RunOf : Memory → Stmt → Type 1
-RunOf m P =
-    (U : ℕ → Type 0) (σ : Store) (s f : Sig) (clk : Clk) (dat : Dat) (a b u : ℕ) → a + u ≡ b → Begins m P U σ s f clk dat a b
-    → Does m P U σ s f clk dat a b u
+-- P may be started at a: it is calm, and its bodies, which may still be leaving, clock nothing and will be calm a gap later, if that is before e
+pub record Ready (W : World) (P : Stmt) (U : Owned) (σ : Store) (K : ℕ → Type 0) (a e : ℕ) : Type 0 where
+  pub owns : Owns W P U
+  pub calm : K a
+  pub settled : Settled W (U .procs) a e
+  pub words : Words W U σ a
+
+ready-less : {W : World} {P : Stmt} {U : Owned} {σ : Store} {K : ℕ → Type 0} {a e e′ : ℕ} → e′ ≤ e → Ready W P U σ K a e → Ready W P U σ K a e′
+ready-less {W = W} {U = U} {a = a} {e = e} {e′ = e′} o R =
+    record { owns = R .owns; calm = R .calm; settled = settled-less W (U .procs) a e e′ o (R .settled); words = R .words }
+
+-- P gets a pulse from a on, and before e no other. Up to c its variables follow only what P and its bodies give; in the w instants from c on, before
+-- e, they stay. Its bodies are started by P and by themselves only, up to a gap after c.
+pub record Begins (W : World) (P : Stmt) (U : Owned) (σ : Store) (K : ℕ → Type 0) (s : Sig) (g : Gives) (a c e : ℕ) : Type 0 where
+  pub ready : Ready W P U σ K a e
+  pub pulse : Pulse (W .w) s a e
+  pub follow : Follows W U g a c
+  pub silent : Silent W U g a c e
+  pub hold : Hold W U c e
+
+-- what the finish and the exit signal show when P is done in this way
+abbrev pub atFinish : Way → Bool
+atFinish atEnd = true
+atFinish atExit = false
+
+abbrev pub atOut : Way → Bool
+atOut atEnd = false
+atOut atExit = true
+
+-- P is done at c, in this way, with the words σ: its finish, or its exit signal, is high on [c, c + w), its clocks are low from c on, it calls nothing
+-- from c + w on, and a gap after c nothing is in flight, in its bodies neither
+pub record Done (way : Way) (W : World) (U : Owned) (σ : Store) (K L : ℕ → Type 0) (f : Sig) (g : Gives) (a c e : ℕ) : Type 0 where
+  pub fin : Shows (W .w) (atFinish way) f a c e
+  pub out : Shows (W .w) (atOut way) (g .out) a c e
+  pub low : (x : ℕ) → Quiet (g .clk x) c (suc e)
+  pub called : (q : ℕ) → Quiet (g .calls q) (c + W .w) (suc e)
+  pub words : Words W U σ c
+  pub sofar : L e
+  pub calm : c + gap (W .w) ≤ e → K e
+  pub settled : Settled W (U .procs) c e
+
+-- up to c nothing has come; what has been so far is in order, in P and in its bodies
+pub record Going (W : World) (U : Owned) (K L : ℕ → Type 0) (f : Sig) (g : Gives) (a c : ℕ) : Type 0 where
+  pub fin : Quiet f a (suc c)
+  pub out : Quiet (g .out) a (suc c)
+  pub sofar : L (suc c)
+  pub alive : K (suc c) → ⊥
+  pub bodies : (q : ℕ) → U .procs q → BodySofar W q (suc c)
+
+pub going-at : {W : World} {U : Owned} {K L : ℕ → Type 0} {f : Sig} {g : Gives} {a c c′ : ℕ} → c ≡ c′ → Going W U K L f g a c → Going W U K L f g a c′
+going-at {W = W} {U = U} {K = K} {L = L} {f = f} {g = g} {a = a} q G = subst (λ (k : ℕ). Going W U K L f g a k) q G
+
+-- up to the horizon u, which is the instant c, the circuit does as the run r says; and if it is done there, also on to e
+pub record Does (W : World) (U : Owned) (r : Run) (K L : ℕ → Type 0) (f : Sig) (g : Gives) (a c e u : ℕ) : Type 0 where
+  pub goes-on : r ≡ still → Going W U K L f g a c
+  pub ends : (way : Way) (σ′ : Store) → Comes r way u σ′ → Done way W U σ′ K L f g a c e
+
+abbrev pub RunOf : World → Stmt → Type 1
+RunOf W P =
+    (U : Owned) (σ : Store) (s f : Sig) (g : Gives) (n : Built W P s f g) (a c e u : ℕ) → a + u ≡ c → c < e
+    → Begins W P U σ (Calm W P s f g n) s g a c e → Does W U (goes W u P σ) (Calm W P s f g n) (Sofar W P s f g n) f g a c e u
+
+-- the same as far as the gap
+abbrev pub ShortOf : World → Stmt → Type 1
+ShortOf W P =
+    (U : Owned) (σ : Store) (s f : Sig) (g : Gives) (n : Built W P s f g) (a c e u : ℕ) → a + u ≡ c → c < e → e ≤ c + gap (W .w)
+    → Begins W P U σ (Calm W P s f g n) s g a c e → Does W U (goes W u P σ) (Calm W P s f g n) (Sofar W P s f g n) f g a c e u
+
+-- and after the gap the circuit is at rest
+pub onward : (W : World) (P : Stmt) → Paced W P → ShortOf W P → RunOf W P
+onward W P timed does U σ s f g n a c e u h o B =
+    by-le e (c + gap (W .w)) (λ k. does U σ s f g n a c e u h o k B)
+    (λ k.
+    let D : Does W U (goes W u P σ) (Calm W P s f g n) (Sofar W P s f g n) f g a c (c + gap (W .w)) u =
+    does U σ s f g n a c (c + gap (W .w)) u h (omega arith) (omega arith)
+    (record {
+      ready = ready-less (omega arith) (B .ready);
+      pulse = pulse-less (omega arith) (B .pulse);
+      follow = B .follow;
+      silent = λ t l j j′. B .silent t l j (omega arith);
+      hold = λ x i t l j j′. B .hold x i t l j (omega arith);
+    }) in
+    record {
+      goes-on = D .goes-on;
+      ends = λ way σ′ p.
+          let E = D .ends way σ′ p in
+          let r =
+          rest W P timed s f g n (c + gap (W .w)) e (E .calm (omega arith)) (omega arith) (λ t l j. B .pulse .low t (omega arith) j) in
+          record {
+            fin = record {
+              quiet = E .fin .quiet;
+              level = λ t l j j′. E .fin .level t l j (omega arith);
+              low = λ t l j. by-le (c + gap (W .w)) t (λ q. r .fin t q j) (λ q. E .fin .low t l q);
+            };
+            out = record {
+              quiet = E .out .quiet;
+              level = λ t l j j′. E .out .level t l j (omega arith);
+              low = λ t l j. by-le (c + gap (W .w)) t (λ q. r .out t q j) (λ q. E .out .low t l q);
+            };
+            low = λ x t l j. by-le (c + gap (W .w)) t (λ q. r .clocks x t q j) (λ q. E .low x t l (omega arith));
+            called = λ x t l j. by-le (c + gap (W .w)) t (λ q. r .called x t q j) (λ q. E .called x t l (omega arith));
+            words = E .words;
+            sofar = calm-sofar W P s f g n e (r .calm);
+            calm = λ q. r .calm;
+            settled = settled-more W (U .procs) c e (E .settled);
+          };
+    })
+
+-- Done in another way that is the same
+pub in-way : {way way′ : Way} {W : World} {U : Owned} {σ : Store} {K L : ℕ → Type 0} {f : Sig} {g : Gives} {a c e : ℕ} → way ≡ way′
+    → Done way W U σ K L f g a c e → Done way′ W U σ K L f g a c e
+in-way {W = W} {U = U} {σ = σ} {K = K} {L = L} {f = f} {g = g} {a = a} {c = c} {e = e} q D =
+    subst (λ (way : Way). Done way W U σ K L f g a c e) q D
+
+-- What is known of some cells is known of others
+pub done-as : {way : Way} {W : World} {U : Owned} {σ : Store} {K L : ℕ → Type 0} {f : Sig} {g : Gives} {a c e : ℕ} (K′ L′ : ℕ → Type 0)
+    → (c + gap (W .w) ≤ e → K e → K′ e) → (L e → L′ e) → Done way W U σ K L f g a c e → Done way W U σ K′ L′ f g a c e
+done-as K′ L′ k l D =
+    record {
+      fin = D .fin;
+      out = D .out;
+      low = D .low;
+      called = D .called;
+      words = D .words;
+      sofar = l (D .sofar);
+      calm = λ o. k o (D .calm o);
+      settled = D .settled;
+    }
+
+pub going-as : {W : World} {U : Owned} {K L : ℕ → Type 0} {f : Sig} {g : Gives} {a c : ℕ} (K′ L′ : ℕ → Type 0) → (K′ (suc c) → K (suc c))
+    → (L (suc c) → L′ (suc c)) → Going W U K L f g a c → Going W U K′ L′ f g a c
+going-as K′ L′ k l G = record { fin = G .fin; out = G .out; sofar = l (G .sofar); alive = λ x. G .alive (k x); bodies = G .bodies }
+
+-- The same, from an earlier instant on
+pub done-from : {way : Way} {W : World} {U : Owned} {σ : Store} {K L : ℕ → Type 0} {f : Sig} {g : Gives} {a a′ c e : ℕ}
+    → Quiet f a a′ → Quiet (g .out) a a′ → Done way W U σ K L f g a′ c e → Done way W U σ K L f g a c e
+done-from p q D =
+    record {
+      fin = shows-from p (D .fin);
+      out = shows-from q (D .out);
+      low = D .low;
+      called = D .called;
+      words = D .words;
+      sofar = D .sofar;
+      calm = D .calm;
+      settled = D .settled;
+    }
+
+pub going-from : {W : World} {U : Owned} {K L : ℕ → Type 0} {f : Sig} {g : Gives} {a a′ c : ℕ}
+    → Quiet f a a′ → Quiet (g .out) a a′ → Going W U K L f g a′ c → Going W U K L f g a c
+going-from {f = f} {g = g} {a = a} {a′ = a′} {c = c} p q G =
+    record {
+      fin = glue f a a′ (suc c) p (G .fin);
+      out = glue (g .out) a a′ (suc c) q (G .out);
+      sofar = G .sofar;
+      alive = G .alive;
+      bodies = G .bodies;
+    }
+
+-- While a part that has begun calls nothing, up to b, its variables follow it alone
+pub follow-to : {W : World} {P : Stmt} {U : Owned} {σ : Store} {K : ℕ → Type 0} {g : Gives} {a e : ℕ} (b c : ℕ) → b ≤ e → b ≤ c + gap (W .w)
+    → Ready W P U σ K a e → Silent W U g a c e → ((q : ℕ) → Quiet (g .calls q) (a + W .w) b) → Follows W U g a b → Follow W (U .vars) g a b
+follow-to {W = W} {U = U} {g = g} {a = a} {e = e} b c o o′ R S off F =
+    pause-follow W U g a b e o (R .settled) (λ t l k. S t l (omega arith) (omega arith)) off F
+
+-- A part that is done at c and is seen to leave up to e: its words stay as far as what it owns follows it alone
+pub words-stay : {way : Way} {W : World} {U : Owned} {σ : Store} {K L : ℕ → Type 0} {f : Sig} {g : Gives} {a c e : ℕ} → Done way W U σ K L f g a c e
+    → (b : ℕ) → c ≤ b → b ≤ e → Follows W U g c b → ((t : ℕ) → c + W .w ≤ t → t < b → SilentAt W (U .procs) g t)
+    → (x : ℕ) → U .vars x → W .m b x ≡ W .m c x
+words-stay {W = W} {U = U} {g = g} {c = c} {e = e} E b o o′ F silent x i =
+    pause-words W U g c b e o′ (E .settled) silent (λ q t l k. E .called q t l (omega arith)) o F (λ x t l k. E .low x t l (omega arith)) x i
+
+-- and on to e, if they stay in the w instants from b on
+pub words-last : {way : Way} {W : World} {U : Owned} {σ : Store} {K L : ℕ → Type 0} {f : Sig} {g : Gives} {a c e : ℕ} → Done way W U σ K L f g a c e
+    → (b j : ℕ) → c ≤ b → c ≤ e → e < j → Follows W U g c b → ((t : ℕ) → c + W .w ≤ t → t < b → t < j → SilentAt W (U .procs) g t) → Hold W U b j
+    → (x : ℕ) → U .vars x → e < c + W .w → W .m e x ≡ W .m c x
+words-last {W = W} {U = U} {g = g} {c = c} {e = e} E b j o o₁ o′ F silent hold x i k =
+    by-le e b
+    (λ q. words-stay E e o₁ (omega arith) (within W U g c b c e (omega arith) q F) (λ t l h. silent t l (omega arith) (omega arith)) x i)
+    (λ q. hold x i e (omega arith) (omega arith) o′ ∙ words-stay E b o (omega arith) F (λ t l h. silent t l h (omega arith)) x i)
 
 -- A part that is started at a, of which the surroundings stay out as long as it has not ended --------------------------------------------
 
-pub record Launched (m : Memory) (P : Stmt) (U : ℕ → Type 0) (σ : Store) (s f : Sig) (clk : Clk) (dat : Dat) (a u : ℕ) : Type 0 where
-  pub goes-on : run u P σ ≡ still → Quiet f a (suc (a + u))
-  pub ends : (t : ℕ) (σ′ : Store) → run u P σ ≡ ended t σ′ → Ended m P U σ′ s f clk dat a (a + t)
+-- P, which has been seen to leave up to e: up to there its start has no other pulse, its words stay, and its bodies are not started from outside
+abbrev pub Stays : World → Owned → Sig → Gives → ℕ → ℕ → ℕ → Type 0
+Stays W U s g a c e =
+    Pulse (W .w) s a (suc e) × ((x : ℕ) → U .vars x → e < c + W .w → W .m e x ≡ W .m c x)
+    × (a + W .w ≤ e → e < c + gap (W .w) → SilentAt W (U .procs) g e)
 
-module _ (m : Memory) (P : Stmt) (timed : Timed P) (does : RunOf m P)
-    (U : ℕ → Type 0) (σ : Store) (s f : Sig) (clk : Clk) (dat : Dat) (a u : ℕ)
-    (mine : (x : ℕ) → touches P x ≡ true → U x) (calm : Calm m P s f clk dat a) (start : s a ≡ true)
-    (words : (x : ℕ) → U x → m a x ≡ σ x)
-    (cause : (v : ℕ) → v ≤ u → Quiet f a (a + v) → Quiet s (suc a) (suc (a + v)) × Follow m U clk dat a (a + v)) where
-  launch-to : (v : ℕ) → v ≤ u → Quiet f a (a + v) → Does m P U σ s f clk dat a (a + v) v
+-- j is the last horizon
+pub record Launched (W : World) (P : Stmt) (U : Owned) (σ : Store) (K L : ℕ → Type 0) (s f : Sig) (g : Gives) (a j u : ℕ) : Type 0 where
+  pub goes-on : goes W u P σ ≡ still → Going W U K L f g a (a + u)
+  -- on to e, if the surroundings stay out as long as it has been seen to leave
+  pub ends : (way : Way) (t : ℕ) (σ′ : Store) → Comes (goes W u P σ) way t σ′ → (e : ℕ) → a + t < e → e ≤ j
+      → ((e′ : ℕ) → a + t < e′ → e′ < e → Done way W U σ′ K L f g a (a + t) e′ → Stays W U s g a (a + t) e′)
+      → Done way W U σ′ K L f g a (a + t) e
+
+module _ (W : World) (P : Stmt) (timed : Paced W P) (does : RunOf W P) (U : Owned) (σ : Store) (s f : Sig) (g : Gives) (n : Built W P s f g)
+    (a j u : ℕ) (last : a + u < j) (ready : Ready W P U σ (Calm W P s f g n) a j)
+    (cause : (v : ℕ) → v ≤ u → Quiet f a (a + v)
+    → Pulse (W .w) s a (suc (a + v)) × Follows W U g a (a + v) × ((t : ℕ) → a + W .w ≤ t → t ≤ a + v → SilentAt W (U .procs) g t)) where
+  launch-to : (v : ℕ) → v ≤ u → Quiet f a (a + v) → Does W U (goes W v P σ) (Calm W P s f g n) (Sofar W P s f g n) f g a (a + v) (suc (a + v)) v
   launch-to v o q =
       let c = cause v o q in
-      does U σ s f clk dat a (a + v) v refl
-      (record { mine = mine; calm = calm; start = start; after = c .0; follow = c .1; words = words })
+      does U σ s f g n a (a + v) (suc (a + v)) v refl (omega arith)
+      (record {
+        ready = ready-less (omega arith) ready;
+        pulse = c .0;
+        follow = c .1;
+        silent = λ t l k h. c .2 t l (omega arith);
+        hold = λ x i t l j k. ap (λ (n : ℕ). W .m n x) (omega arith);
+      })
 
-  pub launch : Launched m P U σ s f clk dat a u
+  launch-goes-on : goes W u P σ ≡ still → Quiet f a (suc (a + u))
+  launch-goes-on p =
+      creep f a (suc (a + u))
+      (λ v h q.
+      launch-to v (omega arith) q .goes-on (still-below (λ k. goes W k P σ) (steadily W P timed σ) u v p (omega arith)) .fin
+      (a + v) (omega arith) (omega arith))
+
+  module _ (way : Way) (t : ℕ) (σ′ : Store) (o : t ≤ u) (p : Comes (goes W t P σ) way t σ′) (q : Quiet f a (a + t)) (e : ℕ) (o′ : e ≤ j)
+      (more : (e′ : ℕ) → a + t < e′ → e′ < e → Done way W U σ′ (Calm W P s f g n) (Sofar W P s f g n) f g a (a + t) e′ → Stays W U s g a (a + t) e′) where
+    extend : (v : ℕ) → a + t + v < e
+        → Done way W U σ′ (Calm W P s f g n) (Sofar W P s f g n) f g a (a + t) (suc (a + t + v)) × Hold W U (a + t) (suc (a + t + v)) × Silent W U g a (a + t) (suc (a + t + v))
+    extend zero l =
+        let z : suc (a + t) ≡ suc (a + t + 0) = omega arith in (
+          subst (λ (k : ℕ). Done way W U σ′ (Calm W P s f g n) (Sofar W P s f g n) f g a (a + t) k) z (launch-to t o q .ends way σ′ p),
+          λ x i k l₁ l₂ l₃. ap (λ (n : ℕ). W .m n x) (omega arith),
+          λ k l₁ l₂ l₃. cause t o q .2 k l₁ (omega arith),
+        )
+    extend (suc v) l =
+        let i = extend v (omega arith) in
+        let z : suc (a + t + v) ≡ a + t + suc v = omega arith in
+        let E : Done way W U σ′ (Calm W P s f g n) (Sofar W P s f g n) f g a (a + t) (a + t + suc v) = subst (λ (k : ℕ). Done way W U σ′ (Calm W P s f g n) (Sofar W P s f g n) f g a (a + t) k) z (i .0) in
+        let c = more (a + t + suc v) (omega arith) l E in
+        let hold : Hold W U (a + t) (suc (a + t + suc v)) =
+        λ x j k l₁ l₂ l₃.
+        by-le (a + t + suc v) k
+        (λ r. let y : a + t + suc v ≡ k = omega arith in subst (λ (k : ℕ). W .m k x ≡ W .m (a + t) x) y (c .1 x j (omega arith)))
+        (λ r. i .1 x j k l₁ l₂ (omega arith)) in
+        let silent : Silent W U g a (a + t) (suc (a + t + suc v)) =
+        λ k l₁ l₂ l₃.
+        by-le (a + t + suc v) k
+        (λ r. let y : a + t + suc v ≡ k = omega arith in subst (λ (k : ℕ). SilentAt W (U .procs) g k) y (c .2 (omega arith) (omega arith)))
+        (λ r. i .2 k l₁ l₂ (omega arith)) in (
+          does U σ s f g n a (a + t) (suc (a + t + suc v)) t refl (omega arith)
+              (record { ready = ready-less (omega arith) ready; pulse = c .0; follow = cause t o q .1; silent = silent; hold = hold })
+              .ends way σ′ p,
+          hold,
+          silent,
+        )
+
+  pub launch : Launched W P U σ (Calm W P s f g n) (Sofar W P s f g n) s f g a j u
   launch =
       record {
-        goes-on = λ p.
-            creep f a (suc (a + u))
-            (λ v h q.
-            launch-to v (omega arith) q .goes-on (still-below (λ k. run k P σ) (steady P timed σ) u v p (omega arith))
-            (a + v) (omega arith) (omega arith));
-        ends = λ t σ′ p.
-            let i = steady P timed σ u t σ′ p in
+        goes-on = λ p. launch-to u (omega arith) (λ t l k. launch-goes-on p t l (omega arith)) .goes-on p;
+        ends = λ way t σ′ p e l l′ more.
+            let i = comes-steady (λ k. goes W k P σ) (steadily W P timed σ) u p in
             let q : Quiet f a (a + t) =
             creep f a (a + t)
             (λ v h q.
             launch-to v (omega (arith, i .0)) q .goes-on
-            (still-before (λ k. run k P σ) (steady P timed σ) u t v σ′ p (omega arith))
-            (a + v) (omega arith) (omega arith)) in
-            launch-to t (i .0) q .ends σ′ (i .1 t (omega arith));
+            (not-yet (λ k. goes W k P σ) (steadily W P timed σ) u p v (omega arith))
+            .fin (a + v) (omega arith) (omega arith)) in
+            let z : suc (a + t + (e - suc (a + t))) ≡ e = omega arith in
+            subst (λ (k : ℕ). Done way W U σ′ (Calm W P s f g n) (Sofar W P s f g n) f g a (a + t) k) z
+            (extend way t σ′ (i .0) (i .1 t (omega arith)) q e l′ more (e - suc (a + t)) (omega arith) .0);
       }
-
--- ok, tick, assignment ----------------------------------------------------------------------------------------------------------------------
-
-pub at : (s : Sig) {a b : ℕ} {c : Bool} → a ≡ b → s a ≡ c → s b ≡ c
-at s {a} {b} {c} p e = subst (λ (t : ℕ). s t ≡ c) p e
-
-pub run-ok : (m : Memory) → RunOf m ok
-unfolding run Calm Net
-run-ok m U σ s f clk dat a b u h B =
-    record {
-      goes-on = λ p. ended-still p;
-      ends = λ σ′ p.
-          let z : 0 ≡ u = ended-time p in
-          let q : a ≡ b = omega arith in
-          record {
-            quiet = λ t l k. absurd (omega arith);
-            high = B .calm .fin b ∙ at s q (B .start);
-            low = λ x. B .calm .clocks x b;
-            words = λ x i. ap (λ (t : ℕ). m t x) (sym q) ∙ B .words x i ∙ ap (λ (τ : Store). τ x) (ended-words p);
-            calm = B .calm;
-          };
-    }
-
-pub run-tick : (m : Memory) (d : ℕ) → RunOf m (tick d)
-unfolding run Calm Net
-run-tick m d U σ s f clk dat a b u h B =
-    let q : Quiet f a (a + d) = λ t l k. B .calm .0 .fin t ∙ delayed-quiet d s a a (B .calm .1) (λ t l k. absurd (omega arith)) t l k in
-    record {
-      goes-on = λ p.
-          by-le d u (λ k. ended-still (wait-still d u (λ k₁. ended 0 σ) p k)) (λ k t l r. q t l (omega arith));
-      ends = λ σ′ p.
-          let w = wait-ended d u (λ k₁. ended 0 σ) p in
-          let z : 0 ≡ w .0 = ended-time (w .2) in
-          let o : a + d ≡ b = omega (arith, w .3) in
-          record {
-            quiet = λ t l k. q t l (omega arith);
-            high = B .calm .0 .fin b ∙ delayed-at d s a b o ∙ B .start;
-            low = λ x. B .calm .0 .clocks x b;
-            words = λ x i.
-                keep m U clk dat a b (omega arith) (B .follow) x i (λ t l k. B .calm .0 .clocks x t) ∙ B .words x i
-                ∙ ap (λ (τ : Store). τ x) (ended-words (w .2));
-            calm = (B .calm .0, clear-after d s a b (omega arith) (B .after));
-          };
-    }
-
-module _ (m : Memory) (d y : ℕ) (e : Expr) (U : ℕ → Type 0) (σ : Store) (s f : Sig) (clk : Clk) (dat : Dat) (a b : ℕ)
-    (n : Assigned m d y e s f clk dat) where
-  own-clock : (x t : ℕ) → eqb x y ≡ true → clk x t ≡ delayed d s t
-  own-clock x t z = n .clocks x t ∙ ap (λ (c : Bool). pick c (delayed d s t) false) z
-
-  other-clock : (x t : ℕ) → eqb x y ≡ false → clk x t ≡ false
-  other-clock x t z = n .clocks x t ∙ ap (λ (c : Bool). pick c (delayed d s t) false) z
-
-  own-word : (x t : ℕ) → eqb x y ≡ true → delayed d s t ≡ true → dat x t ≡ eval e (m t)
-  own-word x t z k = n .words x t ∙ ap₂ (λ (c c′ : Bool). pick c (pick c′ (eval e (m t)) 0) 0) z k
-
-  clock-off : (x t : ℕ) → delayed d s t ≡ false → clk x t ≡ false
-  clock-off x t z = by-bool (eqb x y) (λ k. own-clock x t k ∙ z) (λ k. other-clock x t k)
-
-  -- the latching, at a + d + 1
-  latched : a + suc d ≡ b → ((x : ℕ) → touches (assign d y e) x ≡ true → U x) → Follow m U clk dat a b
-      → ((x : ℕ) → U x → m a x ≡ σ x) → Quiet (delayed d s) a (a + d) → delayed d s (a + d) ≡ true → delayed d s (suc (a + d)) ≡ false
-      → (x : ℕ) → U x → m b x ≡ put σ y (eval e σ) x
-  unfolding touches put latch
-  latched o mine follow words q₁ q₂ q₃ x i =
-      let held-words : (z : ℕ) → U z → m (a + d) z ≡ σ z =
-      λ z j. keep m U clk dat a (a + d) (omega arith) (λ x i t l k. follow x i t l (omega arith)) z j
-      (λ t l k. clock-off z t (q₁ t l k)) ∙ words z j in
-      by-bool (eqb x y)
-      (λ z.
-      let v : eval e (m (a + d)) ≡ eval e σ =
-      eval-same e (m (a + d)) σ
-      (λ w r. held-words w (mine w (ap (λ (c : Bool). eqb w y || c) r ∙ or-true (eqb w y)))) in
-      let k : m (suc (a + d)) x ≡ latch (clk x (a + d)) (clk x (suc (a + d))) (dat x (a + d)) (m (a + d) x) =
-      follow x i (a + d) (omega arith) (omega arith) in
-      let k₁ : clk x (a + d) ≡ true = own-clock x (a + d) z ∙ q₂ in
-      let k₂ : clk x (suc (a + d)) ≡ false = own-clock x (suc (a + d)) z ∙ q₃ in
-      let k₃ : dat x (a + d) ≡ eval e σ = own-word x (a + d) z q₂ ∙ v in
-      ap (λ (t : ℕ). m t x) (omega arith) ∙ k
-      ∙ ap₂ (λ (p q : Bool). latch p q (dat x (a + d)) (m (a + d) x)) k₁ k₂ ∙ k₃
-      ∙ sym (ap (λ (c : Bool). pick c (eval e σ) (σ x)) z))
-      (λ z.
-      keep m U clk dat a b (omega arith) follow x i (λ t l k. other-clock x t z) ∙ words x i
-      ∙ sym (ap (λ (c : Bool). pick c (eval e σ) (σ x)) z))
-
-pub run-assign : (m : Memory) (d y : ℕ) (e : Expr) → RunOf m (assign d y e)
-unfolding run Calm Net
-run-assign m d y e U σ s f clk dat a b u h B =
-    let D : Sig = delayed d s in
-    let q : Quiet D a (a + d) = delayed-quiet d s a a (B .calm .1) (λ t l k. absurd (omega arith)) in
-    let r : Quiet f a (suc (a + d)) =
-    λ t l k. B .calm .0 .fin t ∙ delayed-quiet 1 D a (a + d) (B .calm .2) q t l (omega arith) in
-    let q₂ : D (a + d) ≡ true = delayed-at d s a (a + d) refl ∙ B .start in
-    let q₃ : Quiet D (suc a + d) (suc b + d) = delayed-after d s (suc a) (suc b) (B .after) in
-    record {
-      goes-on = λ p.
-          by-le (suc d) u (λ k. ended-still (wait-still (suc d) u (λ k₁. ended 0 (put σ y (eval e σ))) p k))
-          (λ k t l r₁. r t l (omega arith));
-      ends = λ σ′ p.
-          let w = wait-ended (suc d) u (λ k₁. ended 0 (put σ y (eval e σ))) p in
-          let z : 0 ≡ w .0 = ended-time (w .2) in
-          let o : a + suc d ≡ b = omega (arith, w .3) in
-          record {
-            quiet = λ t l k. r t l (omega arith);
-            high = B .calm .0 .fin b ∙ delayed-at 1 D (a + d) b (omega arith) ∙ q₂;
-            low = λ x. clock-off m d y e U σ s f clk dat a b (B .calm .0) x b (q₃ b (omega arith) (omega arith));
-            words = λ x i.
-                latched m d y e U σ s f clk dat a b (B .calm .0) o (B .mine) (B .follow) (B .words) q q₂
-                (q₃ (suc (a + d)) (omega arith) (omega arith)) x i
-                ∙ ap (λ (τ : Store). τ x) (ended-words (w .2));
-            calm = (B .calm .0, clear-after d s a b (omega arith) (B .after), λ t l k. q₃ t (omega arith) (omega arith));
-          };
-    }
-
--- Sequence ------------------------------------------------------------------------------------------------------------------------------------
-
-module _ (m : Memory) (P Q : Stmt) (timedP : Timed P) (timedQ : Timed Q) (doesP : RunOf m P) (doesQ : RunOf m Q)
-    (U : ℕ → Type 0) (σ : Store) (s f : Sig) (clk : Clk) (dat : Dat) (a b u : ℕ) (h : a + u ≡ b)
-    (B : Begins m (seq P Q) U σ s f clk dat a b)
-    (n : Seq (λ s f clk dat. Calm m P s f clk dat a) (λ s f clk dat. Calm m Q s f clk dat a) s f clk dat) where
-  -- the first part
-  seq-first : Launched m P U σ s (n .mid) (n .clk₁) (n .dat₁) a u
-  unfolding touches
-  seq-first =
-      launch m P timedP doesP U σ s (n .mid) (n .clk₁) (n .dat₁) a u (λ x t. B .mine x (ap (λ (c : Bool). c || touches Q x) t)) (n .left)
-      (B .start) (B .words)
-      (λ v o q. (
-        λ t l k. B .after t l (omega arith),
-        let r = rest m Q timedQ (n .mid) f (n .clk₂) (n .dat₂) a (a + v) (n .right) (omega arith) q in
-            follow-left m U U (n .clk₁) (n .clk₂) clk (n .dat₁) (n .dat₂) dat a (a + v) (n .joined)
-            (calm-dull m Q (n .mid) f (n .clk₂) (n .dat₂) a (n .right)) (λ x i. i) (λ x i. r .clocks x)
-            (λ x i t l k. B .follow x i t l (omega arith)),
-      ))
-
-  module _ (t₁ : ℕ) (σ₁ : Store) (o : t₁ ≤ u) (E : Ended m P U σ₁ s (n .mid) (n .clk₁) (n .dat₁) a (a + t₁)) where
-    -- the second part, where the first has ended
-    seq-second : Launched m Q U σ₁ (n .mid) f (n .clk₂) (n .dat₂) (a + t₁) (u - t₁)
-    unfolding touches
-    seq-second =
-        launch m Q timedQ doesQ U σ₁ (n .mid) f (n .clk₂) (n .dat₂) (a + t₁) (u - t₁)
-        (λ x t. B .mine x (ap (λ (c : Bool). touches P x || c) t ∙ or-true (touches P x)))
-        (rest m Q timedQ (n .mid) f (n .clk₂) (n .dat₂) a (a + t₁) (n .right) (omega arith) (E .quiet) .calm)
-        (E .high) (E .words)
-        (λ v o₁ q.
-        let r =
-        rest m P timedP s (n .mid) (n .clk₁) (n .dat₁) (suc (a + t₁)) (suc (a + t₁ + v)) (E .calm) (omega arith)
-        (λ t l k. B .after t (omega arith) (omega arith)) in (
-          r .fin,
-          follow-left m U U (n .clk₂) (n .clk₁) clk (n .dat₂) (n .dat₁) dat (a + t₁) (a + t₁ + v)
-              (joined-swap (n .clk₁) (n .clk₂) clk (n .dat₁) (n .dat₂) dat (n .joined))
-              (calm-dull m P s (n .mid) (n .clk₁) (n .dat₁) a (n .left)) (λ x i. i)
-              (λ x i t l k. by-le (suc (a + t₁)) t (λ g. r .clocks x t g (omega arith)) (λ g. at (n .clk₁ x) (omega arith) (E .low x)))
-              (λ x i t l k. B .follow x i t (omega arith) (omega arith)),
-        ))
-
-    seq-quiet : Quiet f a (a + t₁)
-    seq-quiet = rest m Q timedQ (n .mid) f (n .clk₂) (n .dat₂) a (a + t₁) (n .right) (omega arith) (E .quiet) .fin
-
-    seq-goes-on : run (u - t₁) Q σ₁ ≡ still → Quiet f a (suc b)
-    seq-goes-on p = glue f a (a + t₁) (suc b) seq-quiet (λ t l k. seq-second .goes-on p t l (omega arith))
-
-    seq-ends : (t₂ : ℕ) (σ₂ : Store) → t₁ + t₂ ≡ u → run (u - t₁) Q σ₁ ≡ ended t₂ σ₂ → Ended m (seq P Q) U σ₂ s f clk dat a b
-    unfolding Calm Net
-    seq-ends t₂ σ₂ z p =
-        let q : a + t₁ + t₂ ≡ b = omega arith in
-        let E₂ : Ended m Q U σ₂ (n .mid) f (n .clk₂) (n .dat₂) (a + t₁) b =
-        subst (λ (c : ℕ). Ended m Q U σ₂ (n .mid) f (n .clk₂) (n .dat₂) (a + t₁) c) q (seq-second .ends t₂ σ₂ p) in
-        let r =
-        rest m P timedP s (n .mid) (n .clk₁) (n .dat₁) (suc (a + t₁)) (suc b) (E .calm) (omega arith)
-        (λ t l k. B .after t (omega arith) k) in
-        let low₁ : (x : ℕ) → n .clk₁ x b ≡ false =
-        λ x. by-le (suc (a + t₁)) b (λ g. r .clocks x b g (omega arith)) (λ g. at (n .clk₁ x) (omega arith) (E .low x)) in
-        record {
-          quiet = glue f a (a + t₁) b seq-quiet (E₂ .quiet);
-          high = E₂ .high;
-          low = λ x. n .joined .clocks x b ∙ ap₂ _||_ (low₁ x) (E₂ .low x);
-          words = E₂ .words;
-          calm = record {
-            mid = n .mid;
-            clk₁ = n .clk₁;
-            dat₁ = n .dat₁;
-            clk₂ = n .clk₂;
-            dat₂ = n .dat₂;
-            left = r .calm;
-            right = E₂ .calm;
-            joined = n .joined;
-          };
-        }
-
-  seq-does : Does m (seq P Q) U σ s f clk dat a b u
-  unfolding run
-  seq-does =
-      record {
-        goes-on = λ p.
-            by-run (run u P σ)
-            (λ t₁ σ₁ e.
-            seq-goes-on t₁ σ₁ (steady P timedP σ u t₁ σ₁ e .0) (seq-first .ends t₁ σ₁ e)
-            (chain-still (run u P σ) (λ t σ₁. run (u - t) Q σ₁) e p))
-            (λ e.
-            λ t l k.
-            rest m Q timedQ (n .mid) f (n .clk₂) (n .dat₂) a (suc b) (n .right) (omega arith)
-            (λ t l k. seq-first .goes-on e t l (omega arith))
-            .fin t l k);
-        ends = λ σ′ p.
-            let v = chain-ended (run u P σ) (λ t σ₁. run (u - t) Q σ₁) p in
-            seq-ends (v .0) (v .1) (steady P timedP σ u (v .0) (v .1) (v .3) .0) (seq-first .ends (v .0) (v .1) (v .3)) (v .2) σ′
-            (sym (v .5)) (v .4);
-      }
-
-pub run-seq : (m : Memory) (P Q : Stmt) → Timed P → Timed Q → RunOf m P → RunOf m Q → RunOf m (seq P Q)
-unfolding Calm Net
-run-seq m P Q timedP timedQ doesP doesQ U σ s f clk dat a b u h B =
-    seq-does m P Q timedP timedQ doesP doesQ U σ s f clk dat a b u h B (B .calm)

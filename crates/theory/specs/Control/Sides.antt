@@ -1,135 +1,183 @@
 -- A part beside another: the branch that an if takes beside the one that it does not, and a side of a parallel beside the other.
--- Which of the two stands first does not matter, so each is told once.
--- Assumes nothing.
-use Prim.Native.Nat.{ℕ, suc, _+_, _-_, _≤_}
-use mathlib.Core.Path.{_≡_, _∙_, ap₂, subst}
-use mathlib.Core.Bool.{true, false, _||_}
+-- Which of the two stands first does not matter, so each is told once. Assumes nothing.
+use Prim.Native.Nat.{ℕ, suc, _+_, _-_, _≤_, _<_}
+use mathlib.Core.Path.{_≡_, refl, _∙_, ap, ap₂}
+use mathlib.Core.Bool.{Bool, false, _||_, or-false}
 use native.Mathlib.Omega.{arith}
-use Rattle.model.specs.Program.{Stmt, writes, touches}
-use Rattle.model.specs.Rules.{Store, ended, still, run}
+use Rattle.model.specs.Program.{Stmt, writes}
 use Rattle.model.specs.Circuit.{Sig}
-use Rattle.laws.specs.Refusals.Laws.{by-le}
-use Rattle.theory.specs.Control.Wiring.{Clk, Dat, Memory, Joined, _≈_, either}
-use Rattle.laws.specs.Program.Fit.{Timed, Apart}
-use Rattle.theory.specs.Control.Signal.{Quiet, Follow, glue, keep, follow-left}
-use Rattle.theory.specs.Control.Calm.{Calm, calm-dull, calm-unwritten, Rests, rest}
+use Rattle.model.specs.Rules.{Store, ended, still}
+use Rattle.laws.specs.Program.Fit.{Apart}
 use Rattle.laws.specs.Rules.Uses.{apart-unwritten}
-use Rattle.theory.specs.Control.Runs.{Ended, RunOf, Launched, launch, at}
+use Rattle.theory.specs.Control.Ways.{Way, atEnd, Comes, comes-end, comes-at, by-way, comes-steady}
+use Rattle.theory.specs.Control.Signal.{Quiet, glue}
+use Rattle.theory.specs.Control.Pulses.{Pulse, pulse-less, shows-from, shows-is}
+use Rattle.theory.specs.Control.Wiring.{_≈_, either, Gives, Joined}
+use Rattle.theory.specs.Control.World.{World, Built, means, Paced, goes, steadily}
+use Rattle.theory.specs.Control.Memories.{out-left}
+use Rattle.theory.specs.Control.Calm.{Calm, Sofar, calm-sofar, sofar-less, is-dull, is-unwritten, is-uncalled}
+use Rattle.theory.specs.Control.Rest.{Rests, rest}
+use Rattle.theory.specs.Control.Bodies.{Owned, BodySofar, Owns, reaches, Follows, within, silent-left, follows-left, silent-beside, follows-beside, Settled, pause, pause-sofar}
+use Rattle.theory.specs.Control.Runs.{Words, Hold, Silent, Done, Going, going-at, Does, RunOf, Launched, launch, words-stay, words-last}
 
 -- A branch -----------------------------------------------------------------------------------------------------------------------------
 
--- the branch R, which is taken, ends at b with the words σ′, and the other, O, has been at rest
-pub record Branched (m : Memory) (R O : Stmt) (U : ℕ → Type 0) (σ′ : Store) (f : Sig) (clk : Clk) (sR fR : Sig) (clkR : Clk) (datR : Dat)
-    (sO fO : Sig) (clkO : Clk) (datO : Dat) (a b : ℕ) : Type 0 where
-  pub quiet : Quiet f a b
-  pub high : f b ≡ true
-  pub low : (x : ℕ) → clk x b ≡ false
-  pub words : (x : ℕ) → U x → m b x ≡ σ′ x
-  pub taken : Calm m R sR fR clkR datR (suc b)
-  pub other : Calm m O sO fO clkO datO (suc b)
-
-pub record Branch (m : Memory) (R O : Stmt) (U : ℕ → Type 0) (σ : Store) (f : Sig) (clk : Clk) (sR fR : Sig) (clkR : Clk) (datR : Dat)
-    (sO fO : Sig) (clkO : Clk) (datO : Dat) (a b u d : ℕ) : Type 0 where
-  pub goes-on : run (u - d) R σ ≡ still → Quiet f a (suc b)
-  pub ends : (t₁ : ℕ) (σ′ : Store) → d + t₁ ≡ u → run (u - d) R σ ≡ ended t₁ σ′ → Branched m R O U σ′ f clk sR fR clkR datR sO fO clkO datO a b
+-- what an if comes to where its branch R is taken at a + d: K and L are of both branches' cells
+pub record Branch (W : World) (R : Stmt) (U : Owned) (σ : Store) (K L : ℕ → Type 0) (f : Sig) (g : Gives) (a c e u d : ℕ) : Type 0 where
+  pub goes-on : goes W (u - d) R σ ≡ still → Going W U K L f g a c
+  pub ends : (way : Way) (t₁ : ℕ) (σ′ : Store) → d + t₁ ≡ u → Comes (goes W (u - d) R σ) way t₁ σ′ → Done way W U σ′ K L f g a c e
 
 -- R gets its pulse at a + d, and O gets none
-module _ (m : Memory) (R O : Stmt) (timedR : Timed R) (timedO : Timed O) (doesR : RunOf m R)
-    (U : ℕ → Type 0) (σ : Store) (f : Sig) (clk : Clk) (dat : Dat) (a b u d : ℕ) (h : a + u ≡ b) (o : d ≤ u)
-    (sR fR : Sig) (clkR : Clk) (datR : Dat) (sO fO : Sig) (clkO : Clk) (datO : Dat)
-    (calmR : Calm m R sR fR clkR datR a) (calmO : Calm m O sO fO clkO datO a) (joined : Joined clkR clkO clk datR datO dat) (fin : f ≈ either fR fO)
-    (before : Quiet sR a (a + d)) (on : sR (a + d) ≡ true) (after : Quiet sR (suc (a + d)) (suc b)) (off : Quiet sO a (suc b))
-    (mine : (x : ℕ) → touches R x ≡ true → U x) (words : (x : ℕ) → U x → m (a + d) x ≡ σ x) (follow : Follow m U clk dat a b) where
-  waits : Rests m R sR fR clkR datR a (a + d)
-  waits = rest m R timedR sR fR clkR datR a (a + d) calmR (omega arith) before
+module _ (W : World) (R O : Stmt) (timedR : Paced W R) (timedO : Paced W O) (doesR : RunOf W R) (U : Owned) (σ : Store) (f : Sig) (g : Gives)
+    (sR fR : Sig) (gR : Gives) (nR : Built W R sR fR gR) (sO fO : Sig) (gO : Gives) (nO : Built W O sO fO gO)
+    (joined : Joined gR gO g) (fin : f ≈ either fR fO) (a c e u d : ℕ) (h : a + u ≡ c) (o : d ≤ u) (o′ : c < e)
+    (calmR : Calm W R sR fR gR nR a) (calmO : Calm W O sO fO gO nO a) (before : Quiet sR a (a + d)) (on : Pulse (W .w) sR (a + d) e) (off : Quiet sO a e)
+    (owns : Owns W R U) (settled : Settled W (U .procs) (a + d) e) (words : Words W U σ (a + d)) (follow : Follows W U g a c)
+    (silent : Silent W U g a c e) (hold : Hold W U c e) where
+  waits : Rests fR gR (Calm W R sR fR gR nR) a (a + d)
+  waits = rest W R timedR sR fR gR nR a (a + d) calmR (omega arith) before
 
-  other : Rests m O sO fO clkO datO a (suc b)
-  other = rest m O timedO sO fO clkO datO a (suc b) calmO (omega arith) off
+  other : Rests fO gO (Calm W O sO fO gO nO) a e
+  other = rest W O timedO sO fO gO nO a e calmO (omega arith) off
 
-  launched : Launched m R U σ sR fR clkR datR (a + d) (u - d)
-  launched =
-      launch m R timedR doesR U σ sR fR clkR datR (a + d) (u - d) mine (waits .calm) on words
-      (λ v o₁ q. (
-        λ t l k. after t l (omega arith),
-        follow-left m U U clkR clkO clk datR datO dat (a + d) (a + d + v) joined (calm-dull m O sO fO clkO datO a calmO) (λ x i. i)
-            (λ x i t l k. other .clocks x t (omega arith) (omega arith)) (λ x i t l k. follow x i t (omega arith) (omega arith)),
-      ))
+  other-sofar : Sofar W O sO fO gO nO e
+  other-sofar = calm-sofar W O sO fO gO nO e (other .calm)
 
-  goes-on : run (u - d) R σ ≡ still → Quiet f a (suc b)
-  goes-on p t l k =
-      let q : fR t ≡ false = glue fR a (a + d) (suc b) (waits .fin) (λ t l k. launched .goes-on p t l (omega arith)) t l k in
-      fin t ∙ ap₂ _||_ q (other .fin t l k)
+  taken : Does W U (goes W (u - d) R σ) (Calm W R sR fR gR nR) (Sofar W R sR fR gR nR) fR gR (a + d) c e (u - d)
+  taken =
+      doesR U σ sR fR gR nR (a + d) c e (u - d) (omega arith) o′
+      (record {
+        ready = record { owns = owns; calm = waits .calm; settled = settled; words = words };
+        pulse = on;
+        follow = follows-beside W U gR gO g (a + d) c joined (is-dull W O sO fO gO nO)
+            (λ x t l k. other .clocks x t (omega arith) (omega arith)) (within W U g a c (a + d) c (omega arith) (omega arith) follow);
+        silent = λ t l k k′.
+            silent-beside W U gR gO g t joined (λ x. other .called x t (omega arith) (omega arith)) (silent t (omega arith) k k′);
+        hold = hold;
+      })
 
-  ends : (t₁ : ℕ) (σ′ : Store) → d + t₁ ≡ u → run (u - d) R σ ≡ ended t₁ σ′ → Branched m R O U σ′ f clk sR fR clkR datR sO fO clkO datO a b
-  ends t₁ σ′ y p =
-      let q : a + d + t₁ ≡ b = omega arith in
-      let E : Ended m R U σ′ sR fR clkR datR (a + d) b =
-      subst (λ (c : ℕ). Ended m R U σ′ sR fR clkR datR (a + d) c) q (launched .ends t₁ σ′ p) in
-      let q₁ : Quiet fR a b = glue fR a (a + d) b (waits .fin) (E .quiet) in
+  -- what the other branch adds
+  fin-is : (t : ℕ) → a ≤ t → t < e → f t ≡ fR t
+  fin-is t l k = fin t ∙ ap (λ (b : Bool). fR t || b) (other .fin t l k) ∙ or-false (fR t)
+
+  out-is : (t : ℕ) → a ≤ t → t < e → g .out t ≡ gR .out t
+  out-is t l k = out-left gR gO g joined t (other .out t l k)
+
+  pub branch : Branch W R U σ (λ t. Calm W R sR fR gR nR t × Calm W O sO fO gO nO t) (λ t. Sofar W R sR fR gR nR t × Sofar W O sO fO gO nO t) f g a c e u d
+  branch =
       record {
-        quiet = λ t l k. fin t ∙ ap₂ _||_ (q₁ t l k) (other .fin t l (omega arith));
-        high = fin b ∙ ap₂ _||_ (E .high) (other .fin b (omega arith) (omega arith));
-        low = λ x. joined .clocks x b ∙ ap₂ _||_ (E .low x) (other .clocks x b (omega arith) (omega arith));
-        words = E .words;
-        taken = E .calm;
-        other = other .calm;
+        goes-on = λ p.
+            let G = taken .goes-on p in
+            record {
+              fin = λ t l k. fin-is t l (omega arith) ∙ glue fR a (a + d) (suc c) (waits .fin) (G .fin) t l k;
+              out = λ t l k. out-is t l (omega arith) ∙ glue (gR .out) a (a + d) (suc c) (waits .out) (G .out) t l k;
+              sofar = (G .sofar, sofar-less W O sO fO gO nO e (suc c) (omega arith) other-sofar);
+              alive = λ k. G .alive (k .0);
+              bodies = G .bodies;
+            };
+        ends = λ way t₁ σ′ y p.
+            let q : t₁ ≡ u - d = omega arith in
+            let E = taken .ends way σ′ (comes-at (goes W (u - d) R σ) q p) in
+            record {
+              fin = shows-is (omega arith) (omega arith) fin-is (shows-from (waits .fin) (E .fin));
+              out = shows-is (omega arith) (omega arith) out-is (shows-from (waits .out) (E .out));
+              low = λ x t l k. joined .clocks x t ∙ ap₂ _||_ (E .low x t l k) (other .clocks x t (omega arith) k);
+              called = λ x t l k. joined .called x t ∙ ap₂ _||_ (E .called x t l k) (other .called x t (omega arith) k);
+              words = E .words;
+              sofar = (E .sofar, other-sofar);
+              calm = λ k. (E .calm k, other .calm);
+              settled = E .settled;
+            };
       }
-
-  pub branch : Branch m R O U σ f clk sR fR clkR datR sO fO clkO datO a b u d
-  branch = record { goes-on = goes-on; ends = ends }
 
 -- A side -------------------------------------------------------------------------------------------------------------------------------
 
--- a side's own variables: those of U that the other, O, does not write
-abbrev pub Own : (ℕ → Type 0) → Stmt → ℕ → Type 0
-Own U O x = U x × (writes O x ≡ false)
+-- what a side has for itself: the variables of U that the other, O, does not write, and the bodies of U that O does not reach
+abbrev pub Own : World → Owned → Stmt → Owned
+Own W U O = record { vars = λ x. U .vars x × (writes (means W O) x ≡ false); procs = λ q. U .procs q × (reaches O q ≡ false) }
 
--- the side R ended t₁ after its start, and from then on is at rest and keeps its words
-pub record Sided (m : Memory) (R O : Stmt) (U : ℕ → Type 0) (σ₁ : Store) (s fR : Sig) (clkR : Clk) (datR : Dat) (a b t₁ : ℕ) : Type 0 where
-  pub quiet : Quiet fR a (a + t₁)
-  pub high : fR (a + t₁) ≡ true
-  pub rests : Rests m R s fR clkR datR (suc (a + t₁)) (suc b)
-  pub low : (x t : ℕ) → a + t₁ ≤ t → t ≤ b → clkR x t ≡ false
-  pub words : (x : ℕ) → Own U O x → m b x ≡ σ₁ x
-
-pub record Side (m : Memory) (R O : Stmt) (U : ℕ → Type 0) (σ : Store) (s fR : Sig) (clkR : Clk) (datR : Dat) (a b u : ℕ) : Type 0 where
-  pub goes-on : run u R σ ≡ still → Quiet fR a (suc b)
-  pub ends : (t₁ : ℕ) (σ₁ : Store) → t₁ ≤ u → run u R σ ≡ ended t₁ σ₁ → Sided m R O U σ₁ s fR clkR datR a b t₁
+pub record Side (W : World) (R O : Stmt) (U : Owned) (σ : Store) (K L : ℕ → Type 0) (fR : Sig) (gR : Gives) (a c e u : ℕ) : Type 0 where
+  pub goes-on : goes W u R σ ≡ still → Going W (Own W U O) K L fR gR a c
+  pub ends : (t₁ : ℕ) (σ₁ : Store) → t₁ ≤ u → goes W u R σ ≡ ended t₁ σ₁ → Done atEnd W (Own W U O) σ₁ K L fR gR a (a + t₁) e
+  -- whether it has ended or not
+  pub sofar : L (suc c)
+  pub bodies : (q : ℕ) → Own W U O .procs q → BodySofar W q (suc c)
+  -- at the end of both sides
+  pub last : (t₁ : ℕ) (σ₁ : Store) → t₁ ≤ u → goes W u R σ ≡ ended t₁ σ₁ → Words W (Own W U O) σ₁ c × Settled W (Own W U O .procs) c e
 
 -- both sides get their pulse at a
-module _ (m : Memory) (R O : Stmt) (timedR : Timed R) (doesR : RunOf m R) (apart : Apart O R)
-    (U : ℕ → Type 0) (σ : Store) (s : Sig) (clk : Clk) (dat : Dat) (a b u : ℕ) (h : a + u ≡ b)
-    (fR : Sig) (clkR : Clk) (datR : Dat) (fO : Sig) (clkO : Clk) (datO : Dat)
-    (calmR : Calm m R s fR clkR datR a) (calmO : Calm m O s fO clkO datO a) (joined : Joined clkR clkO clk datR datO dat)
-    (start : s a ≡ true) (after : Quiet s (suc a) (suc b))
-    (mine : (x : ℕ) → touches R x ≡ true → U x) (words : (x : ℕ) → U x → m a x ≡ σ x) (follow : Follow m U clk dat a b) where
-  own-follow : Follow m (Own U O) clkR datR a b
+module _ (W : World) (R O : Stmt) (timedR : Paced W R) (doesR : RunOf W R) (apart : Apart (means W O) (means W R)) (U : Owned) (σ : Store) (s : Sig) (g : Gives)
+    (fR : Sig) (gR : Gives) (nR : Built W R s fR gR) (fO : Sig) (gO : Gives) (nO : Built W O s fO gO) (joined : Joined gR gO g)
+    (a c e u : ℕ) (h : a + u ≡ c) (o : c < e) (calmR : Calm W R s fR gR nR a) (pulse : Pulse (W .w) s a e)
+    (owns : Owns W R U) (settled : Settled W (U .procs) a e) (words : Words W U σ a) (follow : Follows W U g a c)
+    (silent : Silent W U g a c e) (hold : Hold W U c e) where
+  own-follow : Follows W (Own W U O) gR a c
   own-follow =
-      follow-left m U (Own U O) clkR clkO clk datR datO dat a b joined (calm-dull m O s fO clkO datO a calmO) (λ x i. i .0)
-      (λ x i t l k. calm-unwritten m O s fO clkO datO a calmO x (i .1) t) follow
+      follows-left W U (Own W U O) gR gO g joined (λ q i. i .0) a c (is-dull W O s fO gO nO) (λ x i. i .0)
+      (λ x i t l k. is-unwritten W O s fO gO nO x (i .1) t) (λ x i t r v z. z (v, refl)) follow
 
-  side-launched : Launched m R (Own U O) σ s fR clkR datR a u
+  own-silent : Silent W (Own W U O) gR a c e
+  own-silent t l k k′ =
+      silent-left W U (Own W U O) gR gO g joined (λ q i. i .0) t (λ q i. is-uncalled W O s fO gO nO q t) (λ q i r v z. z (v, refl)) (silent t l k k′)
+
+  side-launched : Launched W R (Own W U O) σ (Calm W R s fR gR nR) (Sofar W R s fR gR nR) s fR gR a e u
   side-launched =
-      launch m R timedR doesR (Own U O) σ s fR clkR datR a u (λ x t. (mine x t, apart-unwritten O R apart x t)) calmR start (λ x i. words x (i .0))
-      (λ v o q. (λ t l k. after t l (omega arith), λ x i t l k. own-follow x i t l (omega arith)))
+      launch W R timedR doesR (Own W U O) σ s fR gR nR a e u (omega arith)
+      (record {
+        owns = record { mine = λ x t. (owns .mine x t, apart-unwritten (means W O) (means W R) apart x t); reach = λ q t. (owns .reach q t, refl) };
+        calm = calmR;
+        settled = record {
+          idle = λ q i. settled .idle q (i .0);
+          low = λ q i. settled .low q (i .0);
+          sofar = λ q i. settled .sofar q (i .0);
+        };
+        words = λ x i. words x (i .0);
+      })
+      (λ v o₁ q. (
+        pulse-less (omega arith) pulse,
+        within W (Own W U O) gR a c a (a + v) (omega arith) (omega arith) own-follow,
+        λ t l k. own-silent t l (omega arith) (omega arith),
+      ))
 
-  module _ (t₁ : ℕ) (σ₁ : Store) (o : t₁ ≤ u) (E : Ended m R (Own U O) σ₁ s fR clkR datR a (a + t₁)) where
-    side-rests : Rests m R s fR clkR datR (suc (a + t₁)) (suc b)
-    side-rests = rest m R timedR s fR clkR datR (suc (a + t₁)) (suc b) (E .calm) (omega arith) (λ t l k. after t (omega arith) k)
+  module _ (way : Way) (t₁ : ℕ) (σ₁ : Store) (o₁ : t₁ ≤ u) (p : Comes (goes W u R σ) way t₁ σ₁) where
+    side-left : Done way W (Own W U O) σ₁ (Calm W R s fR gR nR) (Sofar W R s fR gR nR) fR gR a (a + t₁) e
+    side-left =
+        side-launched .ends way t₁ σ₁ p e (omega arith) (omega arith)
+        (λ e′ l k E. (
+          pulse-less (omega arith) pulse,
+          words-last E c e (omega arith) (omega arith) k (within W (Own W U O) gR a c (a + t₁) c (omega arith) (omega arith) own-follow)
+              (λ t l k k′. own-silent t (omega arith) (omega arith) k′) (λ x i. hold x (i .0)),
+          λ l₁ l₂. own-silent e′ l₁ (omega arith) k,
+        ))
 
-    side-low : (x t : ℕ) → a + t₁ ≤ t → t ≤ b → clkR x t ≡ false
-    side-low x t l k = by-le (suc (a + t₁)) t (λ g. side-rests .clocks x t g (omega arith)) (λ g. at (clkR x) (omega arith) (E .low x))
+    side-last : Words W (Own W U O) σ₁ c × Settled W (Own W U O .procs) c e
+    side-last = (
+      λ x i.
+          words-stay side-left c (omega arith) (omega arith) (within W (Own W U O) gR a c (a + t₁) c (omega arith) (omega arith) own-follow)
+          (λ t l k. own-silent t (omega arith) (omega arith) (omega arith)) x i
+          ∙ side-left .words x i,
+      pause W (Own W U O) gR (a + t₁) c e (omega arith) (side-left .settled) (λ t l k k′. own-silent t (omega arith) k k′)
+          (λ q t l k k′. side-left .called q t l (omega arith)),
+    )
 
-    side-words : (x : ℕ) → Own U O x → m b x ≡ σ₁ x
-    side-words x i =
-        keep m (Own U O) clkR datR (a + t₁) b (omega arith) (λ x i t l k. own-follow x i t (omega arith) k) x i (λ t l k. side-low x t l (omega arith))
-        ∙ E .words x i
+    side-sofar : Sofar W R s fR gR nR (suc c) × ((q : ℕ) → Own W U O .procs q → BodySofar W q (suc c))
+    side-sofar = (
+      sofar-less W R s fR gR nR e (suc c) (omega arith) (side-left .sofar),
+      pause-sofar W (Own W U O) gR (a + t₁) (suc c) e (omega arith) (side-left .settled) (λ t l k. own-silent t (omega arith) (omega arith) (omega arith))
+          (λ q t l k. side-left .called q t l (omega arith)),
+    )
 
-  pub side : Side m R O U σ s fR clkR datR a b u
+  side-so-far : Sofar W R s fR gR nR (suc c) × ((q : ℕ) → Own W U O .procs q → BodySofar W q (suc c))
+  side-so-far =
+      by-way (goes W u R σ) (λ way t σ₁ p. side-sofar way t σ₁ (comes-steady (λ k. goes W k R σ) (steadily W R timedR σ) u p .0) p)
+      (λ p. let G = going-at h (side-launched .goes-on p) in (G .sofar, G .bodies))
+
+  pub side : Side W R O U σ (Calm W R s fR gR nR) (Sofar W R s fR gR nR) fR gR a c e u
   side =
       record {
-        goes-on = λ p t l k. side-launched .goes-on p t l (omega arith);
-        ends = λ t₁ σ₁ o p.
-            let E = side-launched .ends t₁ σ₁ p in
-            record { quiet = E .quiet; high = E .high; rests = side-rests t₁ σ₁ o E; low = side-low t₁ σ₁ o E; words = side-words t₁ σ₁ o E };
+        goes-on = λ p. going-at h (side-launched .goes-on p);
+        ends = λ t₁ σ₁ o₁ p. side-left atEnd t₁ σ₁ o₁ (comes-end p);
+        sofar = side-so-far .0;
+        bodies = side-so-far .1;
+        last = λ t₁ σ₁ o₁ p. side-last atEnd t₁ σ₁ o₁ (comes-end p);
       }

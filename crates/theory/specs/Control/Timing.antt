@@ -1,110 +1,124 @@
--- The timing theorem: from a start pulse at any instant at which nothing is in flight, a circuit built by the scheme does exactly what the
+-- The timing theorem: from a start pulse of w instants at any instant at which nothing is in flight, a circuit built by the scheme does exactly what the
 -- program's own rules say, up to any horizon before which no other pulse comes.
 -- Assumes nothing.
 use Prim.Native.Nat.{ℕ, suc, _+_, _≤_, _<_}
-use mathlib.Core.Path.{_≡_, refl, sym, _∙_, ap}
-use mathlib.Core.Bool.{true, false}
-use native.Mathlib.Nat.{zero-add}
+use mathlib.Core.Path.{_≡_, sym, _∙_, ap}
+use mathlib.Core.Bool.{Bool, false}
 use native.Mathlib.Omega.{arith}
-use borrow.Author.Tests.{eq-eqb, ne-eqb}
+use lib.Dec.{ltb}
+use borrow.Author.Tests.{lt-ltb, le-ltb}
 use Rattle.model.specs.Program.{Stmt, ok, tick, assign, seq, par, ite, while, repeat}
 use Rattle.model.specs.Circuit.{Sig}
+use Rattle.model.specs.Rules.{Store, Run, ended, still}
 use Rattle.laws.specs.Refusals.Laws.{by-le}
-use Rattle.theory.specs.Control.Wiring.{Clk, Dat, Memory, Circuit, Mem}
-use Rattle.laws.specs.Program.Fit.{Timed, Separate}
-use Rattle.model.specs.Rules.{Store, ended, run, endsAt}
-use Rattle.theory.specs.Control.Signal.{keep}
-use Rattle.laws.specs.Rules.Laws.{by-run, steady}
-use Rattle.theory.specs.Control.Calm.{calm-zero, Rests, rest}
-use Rattle.theory.specs.Control.Runs.{Begins, Does, RunOf, at, run-ok, run-tick, run-assign, run-seq}
+use Rattle.laws.specs.Program.Fit.{Separate}
+use Rattle.laws.specs.Rules.Laws.{by-run}
+use Rattle.theory.specs.Control.Widths.{gap, Timely, widened}
+use Rattle.theory.specs.Control.Ways.{Way, atEnd, Comes, comes-end, by-way, comes-steady}
+use Rattle.theory.specs.Control.Pulses.{Pulse, pulse-less}
+use Rattle.theory.specs.Control.Wiring.{Gives}
+use Rattle.theory.specs.Control.World.{World, Built, means, Paced, goes, steadily}
+use Rattle.theory.specs.Control.Calm.{Calm, Sofar, sofar-less}
+use Rattle.theory.specs.Control.Bodies.{Owned, Idle, BodySofar, SilentAt, Follows, within, pause-rests, pause-sofar}
+use Rattle.theory.specs.Control.Runs.{Ready, Done, RunOf, Launched, launch, onward, words-stay}
+use Rattle.theory.specs.Control.Simple.{run-ok, run-tick, run-assign}
+use Rattle.theory.specs.Control.Sequence.{run-seq}
 use Rattle.theory.specs.Control.If.{run-ite}
 use Rattle.theory.specs.Control.Parallel.{run-par}
-use Rattle.theory.specs.Control.Loops.{run-while, run-repeat}
+use Rattle.theory.specs.Control.While.{run-while}
+use Rattle.theory.specs.Control.Repeat.{run-repeat}
 
 -- From any start pulse and up to any horizon, the circuit does as the rules say
-pub does : (m : Memory) (P : Stmt) → Timed P → Separate P → RunOf m P
-unfolding Timed Separate
-does m ok h g = run-ok m
-does m (tick d) h g = run-tick m d
-does m (assign d x e) h g = run-assign m d x e
-does m (seq P Q) h g = run-seq m P Q (h .0) (h .1) (does m P (h .0) (g .0)) (does m Q (h .1) (g .1))
-does m (par P Q) h g = run-par m P Q (h .0) (h .1) (g .2) (g .3) (does m P (h .0) (g .0)) (does m Q (h .1) (g .1))
-does m (ite d e P Q) h g = run-ite m d e P Q (h .0) (h .1) (does m P (h .0) (g .0)) (does m Q (h .1) (g .1))
-does m (while d e P) h g = run-while m d e P (h .0) (h .1) (does m P (h .1) g)
-does m (repeat d e P) h g = run-repeat m d e P (h .0) (h .1) (does m P (h .1) g)
+pub does : (W : World) (P : Stmt) → Paced W P → Separate (means W P) → RunOf W P
+unfolding Timely Separate widened
+does W ok h k = onward W ok h (run-ok W)
+does W (tick d) h k = onward W (tick d) h (run-tick W d)
+does W (assign d x e) h k = onward W (assign d x e) h (run-assign W d x e h)
+does W (seq P Q) h k = onward W (seq P Q) h (run-seq W P Q (h .0) (h .1) (does W P (h .0) (k .0)) (does W Q (h .1) (k .1)))
+does W (par P Q) h k =
+    onward W (par P Q) h (run-par W P Q (h .0) (h .1) (k .2) (k .3) (does W P (h .0) (k .0)) (does W Q (h .1) (k .1)))
+does W (ite d e P Q) h k = onward W (ite d e P Q) h (run-ite W d e P Q (h .0) (h .1) (does W P (h .0) (k .0)) (does W Q (h .1) (k .1)))
+does W (while d e P) h k = onward W (while d e P) h (run-while W d e P (h .0) (h .1) (does W P (h .1) k))
+does W (repeat d e P) h k = onward W (repeat d e P) h (run-repeat W d e P (h .0) (h .1) (does W P (h .1) k))
 
--- A pulse at a, with nothing in flight, and no other up to b; U holds all variables that P touches, and on [a, b] they follow P's own clocks and
--- data. Of other variables nothing is asked, and nothing is said.
-module _ (m : Memory) (P : Stmt) (timed : Timed P) (separate : Separate P) (U : ℕ → Type 0) (σ : Store) (s f : Sig) (clk : Clk) (dat : Dat) (a b : ℕ)
-    (B : Begins m P U σ s f clk dat a b) where
-  -- up to each instant a + u
-  up-to : (u : ℕ) → a + u ≤ b → Does m P U σ s f clk dat a (a + u) u
-  up-to u l =
-      does m P timed separate U σ s f clk dat a (a + u) u refl
-      (record {
-        mine = B .mine;
-        calm = B .calm;
-        start = B .start;
-        after = λ t h k. B .after t h (omega arith);
-        follow = λ x i t h k. B .follow x i t h (omega arith);
-        words = B .words;
-      })
+-- whether a finish shows at u a run that has ended: for w instants from its end on
+unfoldable pub showsAt : ℕ → ℕ → Run → Bool
+showsAt w u (ended t σ) = ltb u (t + w)
+showsAt w u still = false
 
-  -- from the end on nothing happens, and so a new pulse may come
-  pub rests-after : (t : ℕ) (σ′ : Store) → run t P σ ≡ ended t σ′ → (u : ℕ) → t ≤ u → a + u ≤ b → Rests m P s f clk dat (suc (a + t)) (suc (a + u))
-  rests-after t σ′ p u o l =
-      rest m P timed s f clk dat (suc (a + t)) (suc (a + u)) (up-to t (omega arith) .ends σ′ p .calm) (omega arith)
-      (λ v h k. B .after v (omega arith) (omega arith))
+-- A pulse from a on, with nothing in flight, and no other before e; on [a, e] what P owns follows what P and its bodies give. Of the rest nothing is
+-- asked, and nothing is said.
+module _ (W : World) (P : Stmt) (timed : Paced W P) (separate : Separate (means W P)) (U : Owned) (σ : Store) (s f : Sig) (g : Gives)
+    (n : Built W P s f g) (a e : ℕ) (ready : Ready W P U σ (Calm W P s f g n) a e) (pulse : Pulse (W .w) s a e) (follow : Follows W U g a e)
+    (silent : (t : ℕ) → a + W .w ≤ t → t < e → SilentAt W (U .procs) g t) where
+  launched : (u : ℕ) → a + u < e → Launched W P U σ (Calm W P s f g n) (Sofar W P s f g n) s f g a e u
+  launched u l =
+      launch W P timed (does W P timed separate) U σ s f g n a e u l ready
+      (λ v o q. (
+        pulse-less (omega arith) pulse,
+        within W U g a e a (a + v) (omega arith) (omega arith) follow,
+        λ t h k. silent t h (omega arith),
+      ))
 
-  -- the finish is high exactly at the end
-  pub finish-at : (u : ℕ) → a + u ≤ b → f (a + u) ≡ endsAt u (run u P σ)
-  unfolding endsAt
+  -- where P is done by the rules, the circuit is
+  pub done-at : (way : Way) (t : ℕ) (σ′ : Store) → Comes (goes W t P σ) way t σ′ → a + t < e
+      → Done way W U σ′ (Calm W P s f g n) (Sofar W P s f g n) f g a (a + t) e
+  done-at way t σ′ p l =
+      launched t l .ends way t σ′ p e l (omega arith)
+      (λ e′ l′ k E. (
+        pulse-less (omega arith) pulse,
+        λ x i y.
+            words-stay E e′ (omega arith) (omega arith) (within W U g a e (a + t) e′ (omega arith) (omega arith) follow)
+            (λ t h k′. silent t (omega arith) (omega arith)) x i,
+        λ h k′. silent e′ h k,
+      ))
+
+  -- the finish is high exactly on the w instants from the end on
+  pub finish-at : (u : ℕ) → a + u < e → f (a + u) ≡ showsAt (W .w) u (goes W u P σ)
+  unfolding showsAt
   finish-at u l =
-      by-run (run u P σ)
+      by-run (goes W u P σ)
       (λ t σ′ p.
-      let i = steady P timed σ u t σ′ p in
-      let e : run t P σ ≡ ended t σ′ = i .1 t (omega arith) in
-      by-le u t
-      (λ k.
-      let q : t ≡ u = omega (arith, i .0) in
-      let q′ : a + t ≡ a + u = omega (arith, q) in
-      at f q′ (up-to t (omega arith) .ends σ′ e .high) ∙ sym (ap (endsAt u) p ∙ eq-eqb t u q))
-      (λ k.
-      rests-after t σ′ e u (omega arith) l .fin (a + u) (omega arith) (omega arith)
-      ∙ sym (ap (endsAt u) p ∙ ne-eqb t u (λ q. omega arith))))
-      (λ p. up-to u l .goes-on p (a + u) (omega arith) (omega arith) ∙ sym (ap (endsAt u) p))
+      let i = steadily W P timed σ u t σ′ p in
+      let E = done-at atEnd t σ′ (comes-end (i .1 t (omega arith))) (omega (arith, i .0)) in
+      (by-le (t + W .w) u (λ k. E .fin .low (a + u) (omega arith) l ∙ sym (le-ltb u (t + W .w) k))
+      (λ k. E .fin .level (a + u) (omega (arith, i .0)) (omega arith) l ∙ sym (lt-ltb u (t + W .w) k)))
+      ∙ sym (ap (showsAt (W .w) u) p))
+      (λ p. launched u l .goes-on p .fin (a + u) (omega arith) (omega arith) ∙ sym (ap (showsAt (W .w) u) p))
 
   -- from the end on the words are the last ones
-  pub words-after : (t : ℕ) (σ′ : Store) → run t P σ ≡ ended t σ′ → (u x : ℕ) → t ≤ u → a + u ≤ b → U x → m (a + u) x ≡ σ′ x
-  words-after t σ′ p u x o l i =
-      let E = up-to t (omega arith) .ends σ′ p in
-      let r = rests-after t σ′ p u o l in
-      keep m U clk dat (a + t) (a + u) (omega arith) (λ y j v h k. B .follow y j v (omega arith) (omega arith)) x i
-      (λ v h k. by-le (suc (a + t)) v (λ g. r .clocks x v g (omega arith)) (λ g. at (clk x) (omega arith) (E .low x)))
+  pub words-after : (way : Way) (t : ℕ) (σ′ : Store) → Comes (goes W t P σ) way t σ′ → (u x : ℕ) → t ≤ u → a + u < e → U .vars x → W .m (a + u) x ≡ σ′ x
+  words-after way t σ′ p u x o l i =
+      let E = done-at way t σ′ p (omega arith) in
+      words-stay E (a + u) (omega arith) (omega arith) (within W U g a e (a + t) (a + u) (omega arith) (omega arith) follow)
+      (λ v h k. silent v (omega arith) (omega arith)) x i
       ∙ E .words x i
 
--- With one start pulse, at instant 0, and all variables
-pub record TimingOf (P : Stmt) (m : Memory) (f : Sig) (σ : Store) : Type 0 where
-  pub finish : (t : ℕ) → f t ≡ endsAt t (run t P σ)
-  pub words : (t₀ : ℕ) (σ′ : Store) → run t₀ P σ ≡ ended t₀ σ′ → (t x : ℕ) → t₀ ≤ t → m t x ≡ σ′ x
+  -- a gap later nothing is in flight, so that a new pulse may come at e
+  pub rests-after : (way : Way) (t : ℕ) (σ′ : Store) → Comes (goes W t P σ) way t σ′ → a + t + gap (W .w) ≤ e
+      → Calm W P s f g n e × ((q : ℕ) → U .procs q → Idle W q e)
+  rests-after way t σ′ p l =
+      let E = done-at way t σ′ p (omega arith) in (
+        E .calm l,
+        λ q v.
+            pause-rests W U g (a + t) e e (omega arith) (E .settled) (λ v h k. silent v (omega arith) k)
+            (λ q v h k. E .called q v h (omega arith)) l q v
+            .calm,
+      )
 
-pub timing : (P : Stmt) → Timed P → Separate P → (m : Memory) (s f : Sig) (clk : Clk) (dat : Dat)
-    → Circuit m P s f clk dat → Mem m clk dat → s 0 ≡ true → ((t : ℕ) → 0 < t → s t ≡ false)
-    → (σ : Store) → ((x : ℕ) → m 0 x ≡ σ x) → TimingOf P m f σ
-unfolding Mem
-timing P timed separate m s f clk dat circuit mem pulse after σ words =
-    let U : ℕ → Type 0 = λ x. Unit {0} in
-    let B : (t : ℕ) → Begins m P U σ s f clk dat 0 t =
-    λ t.
-    record {
-      mine = λ x h. tt;
-      calm = calm-zero m P s f clk dat circuit;
-      start = pulse;
-      after = λ u l k. after u l;
-      follow = λ x i u l k. mem u x;
-      words = λ x i. words x;
-    } in
-    record {
-      finish = λ t. rw zero-add at (finish-at m P timed separate U σ s f clk dat 0 t (B t) t (omega arith));
-      words = λ t₀ σ′ p t x o. rw zero-add at (words-after m P timed separate U σ s f clk dat 0 t (B t) t₀ σ′ p t x o (omega arith) tt);
-    }
+  -- before the end something is
+  pub alive-at : (u : ℕ) → a + u < e → goes W u P σ ≡ still → Calm W P s f g n (suc (a + u)) → ⊥
+  alive-at u l p = launched u l .goes-on p .alive
+
+  -- at every instant what has been so far is in order: words that were used were held, and with pulses of one instant no line has held two
+  pub sofar-at : (u : ℕ) → a + u < e → Sofar W P s f g n (suc (a + u)) × ((q : ℕ) → U .procs q → BodySofar W q (suc (a + u)))
+  sofar-at u l =
+      by-way (goes W u P σ)
+      (λ way t σ′ p.
+      let i = comes-steady (λ k. goes W k P σ) (steadily W P timed σ) u p in
+      let E = done-at way t σ′ (i .1 t (omega arith)) (omega (arith, i .0)) in (
+        sofar-less W P s f g n e (suc (a + u)) (omega arith) (E .sofar),
+        pause-sofar W U g (a + t) (suc (a + u)) e (omega arith) (E .settled) (λ v h k. silent v (omega arith) (omega arith))
+            (λ q v h k. E .called q v h (omega arith)),
+      ))
+      (λ p. let G = launched u l .goes-on p in (G .sofar, G .bodies))

@@ -10,7 +10,7 @@ use lib.Bits.{bitOr, or-step}
 use lib.Dec.{eqb, leb, leb·zero}
 use Rattle.model.specs.Word.{pick}
 use Rattle.model.specs.Circuit.{Sig, delayed}
-use Rattle.theory.specs.Control.Wiring.{Clk, Dat, Joined}
+use Rattle.theory.specs.Control.Wiring.{ground, Gives, Joined}
 use Rattle.model.specs.Word.{operate}
 use Rattle.model.specs.Numbering.{Source, wiresOf}
 use Rattle.model.specs.Circuit.{Values, level}
@@ -73,11 +73,15 @@ allOr W [] t = 0
 allOr W (k ∷ ks) t = bitOr (W k t) (allOr W ks t)
 
 -- what a list of assignments gives to each variable
-abbrev pub clkOf : Values → List Source → Clk
+abbrev pub clkOf : Values → List Source → ℕ → Sig
 clkOf W ws y t = anyHigh W (wiresOf y ws) t
 
-abbrev pub datOf : Values → List Source → Dat
+abbrev pub datOf : Values → List Source → ℕ → ℕ → ℕ
 datOf W ws y t = allOr W (wiresOf y ws) t
+
+-- with clocks from us and data from vs; a numbering of today's has neither calls nor exits
+abbrev pub givesOf : Values → List Source → List Source → Gives
+givesOf W us vs = record { clk = clkOf W us; dat = datOf W vs; calls = λ q. ground; out = ground }
 
 pub wires-append : (y : ℕ) (us vs : List Source) → wiresOf y (us ++ vs) ≡ wiresOf y us ++ wiresOf y vs
 unfolding wiresOf
@@ -101,10 +105,11 @@ or-append W [] ls t = refl
 or-append W (k ∷ ks) ls t =
     ap (λ (b : ℕ). bitOr (W k t) b) (or-append W ks ls t) ∙ sym (or-assoc (W k t) (allOr W ks t) (allOr W ls t))
 
-pub joined : (W : Values) (us vs us′ vs′ : List Source)
-    → Joined (clkOf W us) (clkOf W vs) (clkOf W (us ++ vs)) (datOf W us′) (datOf W vs′) (datOf W (us′ ++ vs′))
+pub joined : (W : Values) (us vs us′ vs′ : List Source) → Joined (givesOf W us us′) (givesOf W vs vs′) (givesOf W (us ++ vs) (us′ ++ vs′))
 joined W us vs us′ vs′ =
     record {
       clocks = λ y t. rw wires-append (any-append W (wiresOf y us) (wiresOf y vs) t);
       words = λ y t. rw wires-append (or-append W (wiresOf y us′) (wiresOf y vs′) t);
+      called = λ q t. refl;
+      out = λ t. refl;
     }

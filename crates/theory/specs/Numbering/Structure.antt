@@ -11,7 +11,8 @@ use Rattle.laws.specs.Refusals.Laws.{is-true}
 use Rattle.model.specs.Word.{pick}
 use Rattle.model.specs.Program.{Expr, const, var, compl, op, Stmt, ok, tick, assign, seq, par, ite, while, repeat}
 use Rattle.model.specs.Circuit.{delayed, merged}
-use Rattle.theory.specs.Control.Wiring.{Net, Circuit}
+use Rattle.theory.specs.Control.Merge.{merged-one}
+use Rattle.theory.specs.Control.Wiring.{ideal, Circuit}
 use Rattle.laws.specs.Program.Fit.{FormedExpr, Formed}
 use Rattle.model.specs.Rules.{eval}
 use Rattle.model.specs.Word.{operate, isZero}
@@ -20,7 +21,7 @@ use Rattle.model.specs.Numbering.{exprCount, exprWire, exprCells, ifDelayCount,
 use Rattle.model.specs.Circuit.{Values, level}
 use Rattle.model.specs.Word.{bit}
 use Rattle.laws.specs.Numbering.Cells.{cellVal, Rule, Obeyed, split}
-use Rattle.theory.specs.Numbering.Levels.{level-of, delayed-cong, delayed-zero, anyHigh, allOr, clkOf, datOf, joined, ||-false}
+use Rattle.theory.specs.Numbering.Levels.{level-of, delayed-cong, delayed-zero, anyHigh, allOr, clkOf, datOf, givesOf, joined, ||-false}
 
 op-rule : (first : ℕ) (W : Values) (p k x y t : ℕ) → 4 ≤ k → k ≤ 9 → cellVal first W p (cell k 0 x y) t ≡ operate k (W x t) (W y t)
 unfolding cellVal
@@ -48,7 +49,7 @@ module _ (first : ℕ → ℕ) (W : Values) (M : ℕ) (m : ℕ → ℕ → ℕ) 
 
   -- the statement's circuit from its start s, if its delay cells stand at d and its walk cells at c
   abbrev pub Cells : Stmt → ℕ → ℕ → ℕ → Type 0
-  Cells P s d c = Circuit m P (level W s) (level W (finishWire P s d c)) (clkOf W (clockSources P d)) (datOf W (dataSources P c))
+  Cells P s d c = Circuit 1 (ideal m) P (level W s) (level W (finishWire P s d c)) (givesOf W (clockSources P d) (dataSources P c))
 
   -- the two switches
   yes-is : (k a b t : ℕ) {v : ℕ} {D : Bool} → W k t ≡ bit (level W a t && not (eqb (W b t) 0)) → level W a t ≡ D → W b t ≡ v → level W k t ≡ D && not (isZero v)
@@ -77,32 +78,37 @@ module _ (first : ℕ → ℕ) (W : Values) (M : ℕ) (m : ℕ → ℕ → ℕ) 
   pub struct : (P : Stmt) → Formed P → (s d c : ℕ)
       → Obeyed first W d (delays P s d c) → Obeyed first W c (walk M P s d c)
       → Cells P s d c
-  unfolding Circuit Net delays walk finishWire clockSources dataSources cellVal delayCount walkCount anyHigh allOr wiresOf
-  struct ok w s d c hd hw = record { fin = λ t. refl; clocks = λ y t. refl; words = λ y t. refl }
-  struct (tick δ) w s d c hd hw = (record { fin = λ t. level-of (delayed δ (level W s) t) (hd .0 t); clocks = λ y t. refl; words = λ y t. refl }, tt)
+  unfolding Circuit delays walk finishWire clockSources dataSources cellVal delayCount walkCount anyHigh allOr wiresOf
+  struct ok w s d c hd hw =
+      record { fin = λ t. refl; clocks = λ y t. refl; words = λ y t. refl; called = λ q t. refl; out = λ t. refl }
+  struct (tick δ) w s d c hd hw =
+      record {
+        fin = λ t. level-of (delayed δ (level W s) t) (hd .0 t);
+        clocks = λ y t. refl;
+        words = λ y t. refl;
+        called = λ q t. refl;
+        out = λ t. refl;
+      }
   struct (assign δ x e) w s d c hd hw =
       let r = split (Rule first W) c (exprCount e) (exprCells M e c) (cell 41 0 d (exprWire M e c) ∷ []) (e-len M e c) hw in
-      let D : (t : ℕ) → level W d t ≡ delayed δ (level W s) t = λ t. level-of (delayed δ (level W s) t) (hd .0 t) in (
-        record {
-          fin = λ t. level-of (delayed 1 (level W d) t) (hd .1 .0 t) ∙ delayed-cong 1 D t;
-          clocks = λ y t. own-clock x d y t ∙ ap (λ (b : Bool). pick (eqb y x) b false) (D t);
-          words = λ y t.
-              own-data x (c + exprCount e) y t
-              ∙ ap (λ (v : ℕ). pick (eqb y x) v 0) (r .1 .0 t ∙ ap₂ (λ (p : Bool) (v : ℕ). pick p v 0) (D t) (expr e (w .1) c (r .0) t));
-        },
-        tt,
-        tt,
-      )
+      let D : (t : ℕ) → level W d t ≡ delayed δ (level W s) t = λ t. level-of (delayed δ (level W s) t) (hd .0 t) in
+      record {
+        fin = λ t. level-of (delayed 1 (level W d) t) (hd .1 .0 t) ∙ delayed-cong 1 D t;
+        clocks = λ y t. own-clock x d y t ∙ ap (λ (b : Bool). pick (eqb y x) b false) (D t);
+        words = λ y t.
+            own-data x (c + exprCount e) y t
+            ∙ ap (λ (v : ℕ). pick (eqb y x) v 0) (r .1 .0 t ∙ ap₂ (λ (p : Bool) (v : ℕ). pick p v 0) (D t) (expr e (w .1) c (r .0) t));
+        called = λ q t. refl;
+        out = λ t. refl;
+      }
   struct (seq P Q) w s d c hd hw =
       let g = finishWire P s d c in
       let rd = split (Rule first W) d (delayCount P) (delays P s d c) (delays Q g (d + delayCount P) (c + walkCount P)) (d-len P s d c) hd in
       let rc = split (Rule first W) c (walkCount P) (walk M P s d c) (walk M Q g (d + delayCount P) (c + walkCount P)) (w-len M P s d c) hw in
       record {
         mid = level W g;
-        clk₁ = clkOf W (clockSources P d);
-        dat₁ = datOf W (dataSources P c);
-        clk₂ = clkOf W (clockSources Q (d + delayCount P));
-        dat₂ = datOf W (dataSources Q (c + walkCount P));
+        g₁ = givesOf W (clockSources P d) (dataSources P c);
+        g₂ = givesOf W (clockSources Q (d + delayCount P)) (dataSources Q (c + walkCount P));
         left = struct P (w .0) s d c (rd .0) (rc .0);
         right = struct Q (w .1) g (d + delayCount P) (c + walkCount P) (rd .1) (rc .1);
         joined = joined W (clockSources P d) (clockSources Q (d + delayCount P)) (dataSources P c) (dataSources Q (c + walkCount P));
@@ -115,16 +121,13 @@ module _ (first : ℕ → ℕ) (W : Values) (M : ℕ) (m : ℕ → ℕ → ℕ) 
       let rm = split (Rule first W) (c + walkCount P) (walkCount Q) (walk M Q s (d + delayCount P) (c + walkCount P)) (cell 38 0 f g ∷ []) (w-len M Q s (d + delayCount P) (c + walkCount P)) (rc .1) in
       record {
         f₁ = level W f;
-        clk₁ = clkOf W (clockSources P d);
-        dat₁ = datOf W (dataSources P c);
+        g₁ = givesOf W (clockSources P d) (dataSources P c);
         f₂ = level W g;
-        clk₂ = clkOf W (clockSources Q (d + delayCount P));
-        dat₂ = datOf W (dataSources Q (c + walkCount P));
+        g₂ = givesOf W (clockSources Q (d + delayCount P)) (dataSources Q (c + walkCount P));
         left = struct P (w .0) s d c (rd .0) (rc .0);
         right = struct Q (w .1) s (d + delayCount P) (c + walkCount P) (rd .1) (rm .0);
         joined = joined W (clockSources P d) (clockSources Q (d + delayCount P)) (dataSources P c) (dataSources Q (c + walkCount P));
-        fin = λ t. level-of (merged (level W f) (level W g) t) (rm .1 .0 t);
-        merge = tt;
+        fin = λ t. level-of (merged (level W f) (level W g) t) (rm .1 .0 t) ∙ sym (merged-one (level W f) (level W g) t);
       }
   struct (ite δ e P Q) w s d c hd hw =
       let p = c + exprCount e in
@@ -145,19 +148,16 @@ module _ (first : ℕ → ℕ) (W : Values) (M : ℕ) (m : ℕ → ℕ → ℕ) 
       record {
         s₁ = level W p;
         f₁ = level W f;
-        clk₁ = clkOf W (clockSources P dP);
-        dat₁ = datOf W (dataSources P cP);
+        g₁ = givesOf W (clockSources P dP) (dataSources P cP);
         s₂ = level W (p + 1);
         f₂ = level W g;
-        clk₂ = clkOf W (clockSources Q (dP + delayCount P));
-        dat₂ = datOf W (dataSources Q (cP + walkCount P));
+        g₂ = givesOf W (clockSources Q (dP + delayCount P)) (dataSources Q (cP + walkCount P));
         left = struct P (w .1) p dP cP (rd .0) (rP .0);
         right = struct Q (w .2) (p + 1) (dP + delayCount P) (cP + walkCount P) (rd .1) (rQ .0);
         joined = joined W (clockSources P dP) (clockSources Q (dP + delayCount P)) (dataSources P cP) (dataSources Q (cP + walkCount P));
         yes₁ = λ t. yes-is p (ifPulse δ s d) (exprWire M e c) t (re .1 .0 t) (D t) (E t);
         no₂ = λ t. no-is (p + 1) (ifPulse δ s d) (exprWire M e c) t (re .1 .1 .0 t) (D t) (E t);
         fin = λ t. level-of (level W f t || level W g t) (rQ .1 .0 t);
-        delay = tt;
       }
   struct (while δ e P) w s d c hd hw =
       let p = c + exprCount e in
@@ -174,7 +174,6 @@ module _ (first : ℕ → ℕ) (W : Values) (M : ℕ) (m : ℕ → ℕ → ℕ) 
         body = struct P (w .1) p (d + 1) cP (hd .1) (rP .0);
         begin = λ t. yes-is p d (exprWire M e c) t (re .1 .0 t) (D t) (E t);
         fin = λ t. no-is (p + 1) d (exprWire M e c) t (re .1 .1 .0 t) (D t) (E t);
-        delay = tt;
       }
   struct (repeat δ e P) w s d c hd hw =
       let p = c + exprCount e in
@@ -189,5 +188,4 @@ module _ (first : ℕ → ℕ) (W : Values) (M : ℕ) (m : ℕ → ℕ → ℕ) 
         body = struct P (w .1) (p + 1 + 1) (d + 1) cP (hd .1) (re .1 .1 .1 .1);
         begin = λ t. level-of (level W s t || level W (p + 1) t) (re .1 .1 .1 .0 t) ∙ ap (λ (b : Bool). level W s t || b) (no-is (p + 1) d (exprWire M e c) t (re .1 .1 .0 t) (D t) (E t));
         fin = λ t. yes-is p d (exprWire M e c) t (re .1 .0 t) (D t) (E t);
-        delay = tt;
       }

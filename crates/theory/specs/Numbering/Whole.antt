@@ -12,7 +12,7 @@ use lib.Seq.{take-append-add}
 use Rattle.laws.specs.Numbering.Memories.{memories-append, delays-free, orsFrom-free}
 use Rattle.model.specs.Word.{pick}
 use Rattle.model.specs.Program.{Stmt, ok, tick, assign, seq, par, ite, while, repeat}
-use Rattle.theory.specs.Control.Wiring.{latch, Circuit, Mem}
+use Rattle.theory.specs.Control.Wiring.{ideal, latch, Circuit, Mem}
 use Rattle.model.specs.declared.Cell.{Cell}
 use Rattle.model.specs.Circuit.{cell}
 use Rattle.model.specs.Numbering.{ifDelayCount, delayCount, delays, walk, clockSources, dataSources, Source, wiresOf}
@@ -22,7 +22,7 @@ use Rattle.model.specs.Circuit.{Values, level, memory, memories, startWord, Obe
 use Rattle.model.specs.Word.{bit}
 use Rattle.laws.specs.Numbering.Cells.{cellVal, Rule, Obeyed, split, obeys-holds}
 use Rattle.laws.specs.Numbering.Parts.{ors-len, orsFrom-len, outs-len, Laid, lay}
-use Rattle.theory.specs.Numbering.Levels.{level-of, op-or, ||-assoc, ||-false, or-assoc, anyHigh, allOr, clkOf, datOf, wires-append}
+use Rattle.theory.specs.Numbering.Levels.{level-of, op-or, ||-assoc, ||-false, or-assoc, anyHigh, allOr, clkOf, datOf, givesOf, wires-append}
 use Rattle.theory.specs.Numbering.Structure.{struct}
 use Rattle.laws.specs.Numbering.Lengths.{d-len}
 use Rattle.laws.specs.Refusals.Laws.{is-true, is-false}
@@ -178,7 +178,7 @@ shows M words W x t l = rw (is-true (ltb x 16) (lt→ltb x 16 l))
 -- a program's circuit: the start pulse, the control, the memoryCells and their start words
 pub record Built (P : Stmt) (words : ℕ → ℕ) (W : Values) : Type 0 where
   pub start : (t : ℕ) → level W 0 t ≡ eqb t 0
-  pub circuit : Circuit (showing (memoryAt P) words W) P (level W 0) (level W (finish P)) (clkOf W (clockSources P 3)) (datOf W (dataSources P (walkAt P)))
+  pub circuit : Circuit 1 (ideal (showing (memoryAt P) words W)) P (level W 0) (level W (finish P)) (givesOf W (clockSources P 3) (dataSources P (walkAt P)))
   pub memory : Mem (showing (memoryAt P) words W) (clkOf W (clockSources P 3)) (datOf W (dataSources P (walkAt P)))
   pub begin : (x : ℕ) → showing (memoryAt P) words W 0 x ≡ words x
 
@@ -219,7 +219,7 @@ module _ (P : Stmt) (w : Formed P) (words : ℕ → ℕ) (W : Values) (h : Obeys
       mem-at first W 16 (memoryAt P) (clockWires P) (dataWires P)
       (outs-len 1 (clockSources P 3) (clockAt P) 0 16) (outs-len 2 (dataSources P (walkAt P)) (dataAt P) 0 16) (laid .at-mems) x l t
 
-  circuit-is : Circuit (showing (memoryAt P) words W) P (level W 0) (level W (finish P)) (clkOf W (clockSources P 3)) (datOf W (dataSources P (walkAt P)))
+  circuit-is : Circuit 1 (ideal (showing (memoryAt P) words W)) P (level W 0) (level W (finish P)) (givesOf W (clockSources P 3) (dataSources P (walkAt P)))
   unfolding finish
   circuit-is = struct first W (memoryAt P) (showing (memoryAt P) words W) (shows (memoryAt P) words W) P w 0 3 (walkAt P) (laid .at-delays) (laid .at-walk)
 

@@ -8,8 +8,8 @@ use Rattle.model.specs.Program.{Stmt}
 use Rattle.model.specs.Rules.{Store, ended, run, due}
 use Rattle.model.specs.Circuit.{Values, level, Obeys}
 use Rattle.model.specs.Numbering.{netlist, finish, clockSources, dataSources, walkAt, memoryAt}
-use Rattle.theory.specs.Numbering.Levels.{clkOf, datOf}
-use Rattle.theory.specs.Control.Timing.{TimingOf, timing}
+use Rattle.theory.specs.Numbering.Levels.{givesOf}
+use Rattle.theory.specs.Control.Once.{TimingOf, timing}
 use Rattle.theory.specs.Numbering.Whole.{built, showing, shows}
 use Rattle.laws.specs.Program.Fit.{Fit}
 
@@ -17,7 +17,7 @@ module _ (P : Stmt) (fit : Fit P) (σ : Store) (W : Values) (obeys : Obeys (netl
   timed : TimingOf P (showing (memoryAt P) σ W) (level W (finish P)) σ
   timed =
       let b = built P (fit .formed) σ W obeys in
-      timing P (fit .timed) (fit .separate) (showing (memoryAt P) σ W) (level W 0) (level W (finish P)) (clkOf W (clockSources P 3)) (datOf W (dataSources P (walkAt P)))
+      timing P (fit .timed) (fit .separate) (showing (memoryAt P) σ W) (level W 0) (level W (finish P)) (givesOf W (clockSources P 3) (dataSources P (walkAt P)))
       (b .circuit) (b .memory) (b .start 0) (λ t l. b .start t ∙ ne-eqb t 0 (λ e. omega arith)) σ (b .begin)
 
   pub finish-due : (t : ℕ) → level W (finish P) t ≡ due P σ t

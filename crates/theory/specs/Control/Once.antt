@@ -22,7 +22,7 @@ use Rattle.theory.specs.Control.Bodies.{Owned, Follows}
 use Rattle.theory.specs.Control.Runs.{Ready}
 use Rattle.theory.specs.Control.Timing.{showsAt, finish-at, words-after}
 
--- what is called, if nothing is: nothing
+-- what a body gives that is never called
 abbrev none : Gives
 none = record { clk = λ x. ground; dat = λ x t. 0; calls = λ r. ground; out = ground }
 

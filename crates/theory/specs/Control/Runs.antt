@@ -75,7 +75,7 @@ pub record Done (way : Way) (W : World) (U : Owned) (σ : Store) (K L : ℕ → 
   pub calm : c + gap (W .w) ≤ e → K e
   pub settled : Settled W (U .procs) c e
 
--- up to c nothing has come; what has been so far is in order, in P and in its bodies
+-- up to c nothing has come, and something is in flight; what has been so far is in order, in P and in its bodies
 pub record Going (W : World) (U : Owned) (K L : ℕ → Type 0) (f : Sig) (g : Gives) (a c : ℕ) : Type 0 where
   pub fin : Quiet f a (suc c)
   pub out : Quiet (g .out) a (suc c)

@@ -24,7 +24,7 @@ Comes r way t σ = course r ≡ done way t σ
 only-end : (r : Run) {way : Way} {t : ℕ} {σ : Store} → Comes r way t σ → (atEnd ≡ way) × (r ≡ ended t σ)
 unfolding course
 only-end (ended t′ σ′) p = (cc, cc)
-only-end still p = absurd (let z : ended 0 (λ x. 0) ≡ still = cc in ended-still z)
+only-end still p = let z : ended 0 (λ x. 0) ≡ still = cc in ended-still z
 
 in-way : {r : Run} {way : Way} {t : ℕ} {σ : Store} → atEnd ≡ way → r ≡ ended t σ → Comes r way t σ
 unfolding course

@@ -5,5 +5,4 @@ pub mod Saying
 pub mod Moving
 pub mod Planning
 pub mod ByBytes
-pub mod ByKind
 pub mod Answering

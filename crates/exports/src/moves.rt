@@ -4,30 +4,11 @@ ghost use mathlib.Core.Path.{_≡_};
 ghost use Prim.Native.Nat.{_*_, _≤_};
 ghost use lib.ListN.{length};
 ghost use Rattle.model.specs.Word.{pick};
-ghost use Rattle.model.specs.Circuit.{shape};
-ghost use Rattle.model.specs.CellSlices.{namesA, namesB, renumbered, moved, movedBytes, hasCells, renumberCall};
+ghost use Rattle.model.specs.CellSlices.{renumbered, moved, movedBytes, hasCells, renumberCall};
 use model::Cell;
 use model::sizes::CELL;
 use model::sizes::MOST_CELLS;
 use netlist::cells::Layout;
-
-// Whether a kind's a names a cell.
-fn names_a(kind: u8) -> bool
-    ensures { λ r. ⌜ r ≡ namesA (shape kind) ⌝ }
-{
-    let word = (3 <= kind) & (kind <= 9);
-    let control = (34 <= kind) & (kind <= 38);
-    word | (control | ((kind == 40) | (kind == 41)))
-}
-
-// Whether a kind's b names a cell.
-fn names_b(kind: u8) -> bool
-    ensures { λ r. ⌜ r ≡ namesB (shape kind) ⌝ }
-{
-    let word = (4 <= kind) & (kind <= 9);
-    let control = (35 <= kind) & (kind <= 38);
-    word | (control | ((kind == 40) | (kind == 41)))
-}
 
 // An input, k places later where it names a cell.
 fn renumbered(names: bool, j: u16, k: u16) -> u16
@@ -43,8 +24,11 @@ fn renumbered(names: bool, j: u16, k: u16) -> u16
 pub fn moved(c: Cell, k: u16) -> Cell
     ensures { λ r. ⌜ r ≡ moved k c ⌝ }
 {
-    let a = renumbered(names_a(c.kind), c.a, k);
-    let b = renumbered(names_b(c.kind), c.b, k);
+    let row = netlist::kinds::cell_row(c.kind);
+    let use_a = row.a;
+    let use_b = row.b;
+    let a = renumbered(netlist::kinds::names(use_a), c.a, k);
+    let b = renumbered(netlist::kinds::names(use_b), c.b, k);
     Cell {
         kind: c.kind,
         delay: c.delay,

@@ -1,4 +1,5 @@
 -- Netlist files are read as they were written.
+pub mod Uses
 pub mod Passed
 pub mod CellBytes
 pub mod RunningSum

@@ -14,42 +14,11 @@ use Rattle.model.specs.declared.Written.{Written}
 use Rattle.model.specs.declared.Written.the-variants.{Done}
 use Rattle.model.specs.Word.{pick}
 use Rattle.model.specs.Refusals.{refuseIf, first}
-use Rattle.model.specs.Circuit.{cell, Shape, shape, kConstant, kComplement, kOperator, kStart, kGround, kDelay, kOr, kWhenTrue, kWhenFalse, kMerge, kMemory, kGated, kUnknown}
+use Rattle.model.specs.Circuit.{cell, cellRow, names}
 use Rattle.model.specs.NetlistFile.{cellBytes, cellsAt, inList, fileOf, fileCheck, cellsOf, countOf, finishOf, netCheck, countWrong, blocksFor}
 use Rattle.model.specs.Calls.{Returned, short, writing}
 
 -- Renumbering --------------------------------------------------------------------------------------------------------------------------
-
--- whether a kind's a, and its b, names a cell: a constant's a is its value
-unfoldable pub namesA : Shape → Bool
-namesA kConstant = false
-namesA kComplement = true
-namesA kOperator = true
-namesA kStart = false
-namesA kGround = false
-namesA kDelay = true
-namesA kOr = true
-namesA kWhenTrue = true
-namesA kWhenFalse = true
-namesA kMerge = true
-namesA kMemory = true
-namesA kGated = true
-namesA kUnknown = false
-
-unfoldable pub namesB : Shape → Bool
-namesB kConstant = false
-namesB kComplement = false
-namesB kOperator = true
-namesB kStart = false
-namesB kGround = false
-namesB kDelay = false
-namesB kOr = true
-namesB kWhenTrue = true
-namesB kWhenFalse = true
-namesB kMerge = true
-namesB kMemory = true
-namesB kGated = true
-namesB kUnknown = false
 
 -- the number of a cell that stands k places later; a number has two bytes
 abbrev pub renumbered : ℕ → ℕ → ℕ
@@ -58,7 +27,8 @@ renumbered k j = (j + k) % 65536
 -- a cell whose inputs stand k places later
 unfoldable pub moved : ℕ → Cell → Cell
 moved k c =
-    cell (c .kind) (c .delay) (pick (namesA (shape (c .kind))) (renumbered k (c .a)) (c .a)) (pick (namesB (shape (c .kind))) (renumbered k (c .b)) (c .b))
+    let row = cellRow (c .kind) in
+    cell (c .kind) (c .delay) (pick (names (row .a)) (renumbered k (c .a)) (c .a)) (pick (names (row .b)) (renumbered k (c .b)) (c .b))
 
 -- the cells of a netlist as they stand behind k others
 abbrev pub behind : ℕ → List Cell → List Cell

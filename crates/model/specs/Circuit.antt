@@ -1,11 +1,14 @@
--- The circuit: cells, and the equations that their values obey. Assumes nothing: definitions.
+-- The circuit: cells, the table of their kinds, and the equations that their values obey. Assumes nothing: definitions.
 use mathlib.Core.Path.{_≡_}
-use mathlib.Core.Bool.{Bool, false, _&&_, _||_, not}
+use mathlib.Core.Bool.{Bool, true, false, _&&_, _||_, not}
 use mathlib.Core.List.{List, [], _∷_}
 use Prim.Native.Nat.{ℕ, zero, suc, _+_, _-_, _<_}
 use lib.Dec.{eqb, leb}
 use lib.ListN.{length, getD, take}
 use Rattle.model.specs.declared.Cell.{Cell}
+use Rattle.model.specs.declared.kinds.CellRow.{CellRow}
+use Rattle.model.specs.declared.kinds.Use.{Use}
+use Rattle.model.specs.declared.kinds.Use.the-variants.{Unknown, Unused, Value, Positive, ControlBelow, ControlAny, WordBelow, WordAny}
 use Rattle.model.specs.declared.Merge.{Merge}
 use Rattle.model.specs.declared.Merged.{Merged}
 use Rattle.model.specs.Word.{pick, bit, isZero, operate}
@@ -21,28 +24,78 @@ noCell = cell 0 0 0 0
 abbrev pub cellAt : List Cell → ℕ → Cell
 cellAt net k = getD net k noCell
 
+-- The table ----------------------------------------------------------------------------------------------------------------------------
+
 -- what a kind's number makes a cell do; kUnknown is for the numbers that are no kind
 pub data Shape : Type 0 where
   kConstant kComplement kOperator kStart kGround kDelay kOr kWhenTrue kWhenFalse kMerge kMemory kGated kUnknown : Shape
 
-unfoldable pub shape : ℕ → Shape
-shape k =
-    pick (leb 4 k && leb k 9) kOperator
-    (pick (eqb k 3) kComplement
-    (pick (eqb k 1) kConstant
-    (pick (eqb k 32) kStart
-    (pick (eqb k 33) kGround
-    (pick (eqb k 34) kDelay
-    (pick (eqb k 35) kOr
-    (pick (eqb k 36) kWhenTrue
-    (pick (eqb k 37) kWhenFalse
-    (pick (eqb k 38) kMerge
-    (pick (eqb k 40) kMemory
-    (pick (eqb k 41) kGated kUnknown)))))))))))
+-- the kinds of a shape, from the first number to the last, and their row
+pub record CellKinds : Type 0 where
+  pub first : ℕ
+  pub last : ℕ
+  pub row : CellRow
 
--- "Kinds 32 to 38 are control wires (0 or 1), the others word wires."
+abbrev pub row : Bool → Use → Use → Use → CellRow
+row control delay a b = record { control = control; delay = delay; a = a; b = b }
+
+abbrev line : ℕ → ℕ → CellRow → CellKinds
+line first last r = record { first = first; last = last; row = r }
+
+-- the numbers of the kinds, whether they are control wires, and what delay, a and b are. "Kinds 32 to 38 are control wires (0 or 1), the others
+-- word wires." "fields without a use are zero". "34 delay, d from 1 to 255". "All inputs name lower cells, except a delay's a and a memory's b,
+-- which may name any cell of the right sort." kUnknown has no numbers.
+unfoldable pub cellTable : Shape → CellKinds
+cellTable kConstant = line 1 1 (row false Unused Value Unused)
+cellTable kComplement = line 3 3 (row false Unused WordBelow Unused)
+cellTable kOperator = line 4 9 (row false Unused WordBelow WordBelow)
+cellTable kStart = line 32 32 (row true Unused Unused Unused)
+cellTable kGround = line 33 33 (row true Unused Unused Unused)
+cellTable kDelay = line 34 34 (row true Positive ControlAny Unused)
+cellTable kOr = line 35 35 (row true Unused ControlBelow ControlBelow)
+cellTable kWhenTrue = line 36 36 (row true Unused ControlBelow WordBelow)
+cellTable kWhenFalse = line 37 37 (row true Unused ControlBelow WordBelow)
+cellTable kMerge = line 38 38 (row true Unused ControlBelow ControlBelow)
+cellTable kMemory = line 40 40 (row false Unused ControlBelow WordAny)
+cellTable kGated = line 41 41 (row false Unused ControlBelow WordBelow)
+cellTable kUnknown = line 1 0 (row false Unknown Unknown Unknown)
+
+abbrev pub shapes : List Shape
+shapes =
+    kConstant ∷ kComplement ∷ kOperator ∷ kStart ∷ kGround ∷ kDelay ∷ kOr ∷ kWhenTrue ∷ kWhenFalse ∷ kMerge ∷ kMemory ∷ kGated ∷ []
+
+abbrev pub hasKind : Shape → ℕ → Bool
+hasKind sh k = leb (cellTable sh .first) k && leb k (cellTable sh .last)
+
+-- the first of these shapes that has kind k
+unfoldable pub shapeIn : List Shape → ℕ → Shape
+unfolding cellTable
+shapeIn [] k = kUnknown
+shapeIn (sh ∷ rest) k = pick (hasKind sh k) sh (shapeIn rest k)
+
+unfoldable pub shape : ℕ → Shape
+unfolding shapeIn
+shape k = shapeIn shapes k
+
+-- the row of kind k
+abbrev pub cellRow : ℕ → CellRow
+cellRow k = cellTable (shape k) .row
+
+-- whether kind k is a control wire
 unfoldable pub control : ℕ → Bool
-control k = leb 32 k && leb k 38
+unfolding shape
+control k = cellRow k .control
+
+-- whether such a field is the number of a cell: a constant's a is its value
+unfoldable pub names : Use → Bool
+names Unknown = false
+names Unused = false
+names Value = false
+names Positive = false
+names ControlBelow = true
+names ControlAny = true
+names WordBelow = true
+names WordAny = true
 
 -- Signals ----------------------------------------------------------------------------------------------------------------------------
 

@@ -9,9 +9,11 @@ use lib.Dec.{eqb, leb, ltb}
 use lib.ListN.{length, getD, take, drop, replicate}
 use Rattle.model.specs.declared.Cell.{Cell}
 use Rattle.model.specs.declared.Checked.{Checked}
+use Rattle.model.specs.declared.kinds.Use.{Use}
+use Rattle.model.specs.declared.kinds.Use.the-variants.{Unknown, Unused, Value, Positive, ControlBelow, ControlAny, WordBelow, WordAny}
 use Rattle.model.specs.Word.{pick, get16, bytes16}
 use Rattle.model.specs.Refusals.{refuseIf, first, firstFault, faultIf}
-use Rattle.model.specs.Circuit.{cell, cellAt, control, memories, Shape, shape, kConstant, kComplement, kOperator, kStart, kGround, kDelay, kOr, kWhenTrue, kWhenFalse, kMerge, kMemory, kGated, kUnknown}
+use Rattle.model.specs.Circuit.{cell, cellAt, cellRow, control, memories}
 
 -- Cells in bytes -----------------------------------------------------------------------------------------------------------------------
 
@@ -152,22 +154,26 @@ controlIn net lim j = ltb j lim && control (cellAt net j .kind)
 unfoldable pub wordIn : List Cell → ℕ → ℕ → Bool
 wordIn net lim j = ltb j lim && not (control (cellAt net j .kind))
 
--- "All inputs name lower cells, except a delay's a and a memory's b, which may name any cell of the right sort." "fields without a use are
--- zero". "Cell 0 is kind 32 and cell 1 kind 33, which stand nowhere else". "34 delay, d from 1 to 255".
-unfoldable pub keeps : Shape → List Cell → ℕ → Cell → Bool
-keeps kConstant net k c = eqb (c .delay) 0 && eqb (c .b) 0
-keeps kComplement net k c = eqb (c .delay) 0 && (wordIn net k (c .a) && eqb (c .b) 0)
-keeps kOperator net k c = eqb (c .delay) 0 && (wordIn net k (c .a) && wordIn net k (c .b))
-keeps kStart net k c = eqb (c .delay) 0 && (eqb (c .a) 0 && (eqb (c .b) 0 && eqb k 0))
-keeps kGround net k c = eqb (c .delay) 0 && (eqb (c .a) 0 && (eqb (c .b) 0 && eqb k 1))
-keeps kDelay net k c = leb 1 (c .delay) && (leb (c .delay) 255 && (controlIn net (length net) (c .a) && eqb (c .b) 0))
-keeps kOr net k c = eqb (c .delay) 0 && (controlIn net k (c .a) && controlIn net k (c .b))
-keeps kWhenTrue net k c = eqb (c .delay) 0 && (controlIn net k (c .a) && wordIn net k (c .b))
-keeps kWhenFalse net k c = eqb (c .delay) 0 && (controlIn net k (c .a) && wordIn net k (c .b))
-keeps kMerge net k c = eqb (c .delay) 0 && (controlIn net k (c .a) && controlIn net k (c .b))
-keeps kMemory net k c = eqb (c .delay) 0 && (controlIn net k (c .a) && wordIn net (length net) (c .b))
-keeps kGated net k c = eqb (c .delay) 0 && (controlIn net k (c .a) && wordIn net k (c .b))
-keeps kUnknown net k c = false
+-- whether v is what its use asks for, in cell k
+unfoldable pub kept : Use → List Cell → ℕ → ℕ → Bool
+kept Unknown net k v = false
+kept Unused net k v = eqb v 0
+kept Value net k v = true
+kept Positive net k v = leb 1 v && leb v 255
+kept ControlBelow net k v = controlIn net k v
+kept ControlAny net k v = controlIn net (length net) v
+kept WordBelow net k v = wordIn net k v
+kept WordAny net k v = wordIn net (length net) v
+
+-- whether cell k may have that kind: kinds 32 and 33 "stand nowhere else"
+unfoldable pub stands : ℕ → ℕ → Bool
+stands kind k = pick (eqb kind 32) (eqb k 0) (pick (eqb kind 33) (eqb k 1) true)
+
+-- cell k, which is c, keeps the rules of its kind
+unfoldable pub keeps : List Cell → ℕ → Cell → Bool
+keeps net k c =
+    let row = cellRow (c .kind) in
+    stands (c .kind) k && (kept (row .delay) net k (c .delay) && (kept (row .a) net k (c .a) && kept (row .b) net k (c .b)))
 
 -- "Cell 0 is kind 32 and cell 1 kind 33, ... cell 2 is constant 0"
 unfoldable pub placed : ℕ → Cell → Bool
@@ -180,7 +186,7 @@ placed k c =
 unfoldable pub cellFault : List Cell → ℕ → ℕ
 cellFault net k =
     let c = cellAt net k in
-    faultIf (not (placed k c && keeps (shape (c .kind)) net k c)) 12
+    faultIf (not (placed k c && keeps net k c)) 12
 
 -- "a wrong number of memories: the cell count; a finish on a word wire: that cell, last)"
 abbrev pub netChecks : List Cell → ℕ → List Checked

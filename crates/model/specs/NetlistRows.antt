@@ -12,17 +12,17 @@ use Rattle.model.specs.declared.Written.{Written}
 use Rattle.model.specs.declared.Written.the-variants.{Done}
 use Rattle.model.specs.Word.{bit, get16, bytes16}
 use Rattle.model.specs.Refusals.{refuse, firstFault}
-use Rattle.model.specs.Circuit.{cell, shape, control, memories}
-use Rattle.model.specs.NetlistFile.{runningSum, sumAfter, sumWith, cellBytes, cellFrom, cellsAt, wordSum, restBytes, blockWith, block, blocks, fileOf, cellsOf, fileLengthWrong, sumFault, countWrong, allZero, headerRight, headerFault, controlIn, wordIn, keeps, placed, cellFault, netCheck, fileCheck}
+use Rattle.model.specs.Circuit.{cell, shape, control, names, memories}
+use Rattle.model.specs.NetlistFile.{runningSum, sumAfter, sumWith, cellBytes, cellFrom, cellsAt, wordSum, restBytes, blockWith, block, blocks, fileOf, cellsOf, fileLengthWrong, sumFault, countWrong, allZero, headerRight, headerFault, controlIn, wordIn, kept, keeps, stands, placed, cellFault, netCheck, fileCheck}
 use Rattle.model.specs.TimeTables.{defaults}
 use Rattle.model.specs.Calls.{Returned, writing, compileCall, readCall, writeCall}
-use Rattle.model.specs.CellSlices.{namesA, namesB, moved, behind, renumberCall}
+use Rattle.model.specs.CellSlices.{moved, behind, renumberCall}
 use Rattle.model.specs.Netlists.{numbering, front, idle}
 use Rattle.model.specs.ProgramRows.{raw, repeated, checkOfProgram}
 
 -- whoever unfolds this unfolds all that a netlist file is written and checked by
 unfoldable pub checkOfFile : List ℕ → Checked
-unfolding bit get16 bytes16 firstFault shape control memories cellBytes cellFrom cellsAt wordSum block runningSum sumAfter sumWith blocks fileOf cellsOf fileLengthWrong sumFault countWrong allZero headerRight headerFault controlIn wordIn keeps placed cellFault netCheck fileCheck
+unfolding bit get16 bytes16 firstFault shape control memories cellBytes cellFrom cellsAt wordSum block runningSum sumAfter sumWith blocks fileOf cellsOf fileLengthWrong sumFault countWrong allZero headerRight headerFault controlIn wordIn kept keeps stands placed cellFault netCheck fileCheck
 checkOfFile s = fileCheck s
 
 -- Cells --------------------------------------------------------------------------------------------------------------------------------
@@ -245,7 +245,7 @@ moves =
     ∷ []
 
 moves-right : behind 100 (map (λ r. r .0) moves) ≡ map (λ r. r .1) moves
-unfolding moves moved namesA namesB shape
+unfolding moves moved names shape
 moves-right = refl
 
 -- of four delays of six bytes each, those from 1 up to 3 moved; a list that is too short stays
@@ -253,5 +253,5 @@ renumber-right :
     (renumberCall 100 1 3 (cellBytes (cell 34 1 0 0 ∷ cell 34 1 1 0 ∷ cell 34 1 2 0 ∷ cell 34 1 3 0 ∷ []))
     ≡ cellBytes (cell 34 1 0 0 ∷ cell 34 1 101 0 ∷ cell 34 1 102 0 ∷ cell 34 1 3 0 ∷ []))
     × (renumberCall 100 0 2 (cellBytes (cell 34 1 0 0 ∷ [])) ≡ cellBytes (cell 34 1 0 0 ∷ []))
-unfolding checkOfFile moved namesA namesB
+unfolding checkOfFile moved names
 renumber-right = (refl, refl)

@@ -13,7 +13,7 @@ use Rattle.model.specs.declared.Cell.{Cell}
 use Rattle.model.specs.declared.Checked.the-variants.{Accepted}
 use Rattle.model.specs.Word.{pick, bit}
 use Rattle.model.specs.Refusals.{refuse, firstFault, faultIf}
-use Rattle.model.specs.Circuit.{cellAt, noCell, control, memories, shape}
+use Rattle.model.specs.Circuit.{cellAt, noCell, control, memories}
 use Rattle.model.specs.NetlistFile.{keeps, placed, cellFault, netCheck}
 use Rattle.laws.specs.Refusals.Laws.{by-bool}
 use Rattle.laws.specs.Refusals.Search.{searched-none, fault-here, fault-next, faults-end}
@@ -27,7 +27,7 @@ unfolding bit
 bit-small true = omega arith
 bit-small false = omega arith
 
-pub cell-fault : (net : List Cell) (k : ℕ) (c : Cell) {p q : Bool} → cellAt net k ≡ c → p ≡ placed k c → q ≡ keeps (shape (c .kind)) net k c
+pub cell-fault : (net : List Cell) (k : ℕ) (c : Cell) {p q : Bool} → cellAt net k ≡ c → p ≡ placed k c → q ≡ keeps net k c
     → cellFault net k ≡ faultIf (not (p && q)) 12
 unfolding cellFault
 cell-fault net k c e f g = rw (e, ← f, ← g) refl

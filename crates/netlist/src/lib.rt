@@ -5,6 +5,7 @@ ghost use Rattle.model.specs.NetlistFile.{fileCheck};
 ghost use Rattle.model.specs.Calls.{writeCall, readCall};
 
 pub mod cells; // cells in bytes
+pub mod kinds; // the table of cell kinds
 pub mod rules; // refusal 12
 pub mod blocks; // refusals 10 and 11, and putting blocks in
 

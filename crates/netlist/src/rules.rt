@@ -1,22 +1,24 @@
 // Refusal 12: the rules that the cells of a netlist keep. One step looks at one cell, whether it stands in a list, in a file or as a struct.
 // Each contract is an equation with model/NetlistFile, or says what is found of the netlist's first cells (specs/Scans).
 ghost use mathlib.Core.Path.{_≡_};
-ghost use mathlib.Core.Bool.{_&&_};
+ghost use mathlib.Core.Bool.{true, _&&_};
 ghost use mathlib.Core.List.{List};
 ghost use Prim.Native.Nat.{ℕ, _+_, _^_, _<_, _≤_};
 ghost use lib.Dec.{ltb, eqb};
 ghost use lib.ListN.{length};
 ghost use Rattle.model.specs.declared.Cell.{Cell};
 ghost use Rattle.model.specs.Word.{pick};
-ghost use Rattle.model.specs.Circuit.{cellAt, control, shape};
-ghost use Rattle.model.specs.NetlistFile.{cellsAt, keeps, placed, netCheck};
+ghost use Rattle.model.specs.Circuit.{cellAt, control, names};
+ghost use Rattle.model.specs.NetlistFile.{cellsAt, kept, stands, keeps, placed, netCheck};
 ghost use Rattle.netlist.specs.Offsets.{offset, Room};
 ghost use Rattle.netlist.specs.Inputs.{Inputs};
 ghost use Rattle.netlist.specs.Scans.{Stands, Scanned};
 use crate::cells::Layout;
+use crate::kinds;
 use model::Cell;
 use model::Checked;
 use model::Refusal;
+use model::kinds::Use;
 
 // A netlist of n cells, and what is found of its first ones: how many of them keep the rules, how many are memories, and whether the
 // finish is among them and is a control wire.
@@ -26,12 +28,6 @@ pub struct Scan {
     pub kept: usize,
     pub memories: usize,
     pub control: bool,
-}
-
-fn is_control(kind: u8) -> bool
-    ensures { λ r. ⌜ r ≡ control kind ⌝ }
-{
-    (32 <= kind) & (kind <= 38)
 }
 
 // The kind of cell k of n, 0 past the last.
@@ -58,35 +54,45 @@ fn is_placed(k: usize, c: Cell) -> bool
     }
 }
 
-// Whether cell k of n, which is c, keeps the rule of its kind; ca and cb tell whether its inputs are control wires.
-fn keeps_rule(n: usize, k: usize, c: Cell, ca: bool, cb: bool) -> bool
-    ensures { λ r. ⌜ ((net : List Cell) → Inputs net n c ca cb → r ≡ keeps (shape (c .kind)) net k c) ⌝ }
+// Whether cell k may have that kind: kinds 32 and 33 stand nowhere else.
+fn stands(kind: u8, k: usize) -> bool
+    ensures { λ r. ⌜ r ≡ stands kind k ⌝ }
 {
-    let kind = c.kind;
-    let a = c.a as usize;
-    let b = c.b as usize;
-    let bare = c.delay == 0;
-    let control_a = (a < k) & ca;
-    let control_b = (b < k) & cb;
-    let word_a = (a < k) & !ca;
-    let word_b = (b < k) & !cb;
-    if (4 <= kind) & (kind <= 9) {
-        return bare & (word_a & word_b);
-    }
     match kind {
-        1 => bare & (b == 0),
-        3 => bare & (word_a & (b == 0)),
-        32 => bare & ((a == 0) & ((b == 0) & (k == 0))),
-        33 => bare & ((a == 0) & ((b == 0) & (k == 1))),
-        34 => (1 <= c.delay) & (((a < n) & ca) & (b == 0)),
-        35 => bare & (control_a & control_b),
-        36 => bare & (control_a & word_b),
-        37 => bare & (control_a & word_b),
-        38 => bare & (control_a & control_b),
-        40 => bare & (control_a & ((b < n) & !cb)),
-        41 => bare & (control_a & word_b),
-        _ => false,
+        32 => k == 0,
+        33 => k == 1,
+        _ => true,
     }
+}
+
+// Whether v, in cell k of n, is what its use asks for; `sort` tells whether cell v is a control wire, if v names a cell.
+fn keeps_use(u: Use, n: usize, k: usize, v: usize, sort: bool) -> bool
+    ensures { λ r. ⌜ ((net : List Cell) → length net ≡ n → (names u ≡ true → sort ≡ control (cellAt net v .kind)) → r ≡ kept u net k v) ⌝ }
+{
+    match u {
+        Use::Unknown => false,
+        Use::Unused => v == 0,
+        Use::Value => true,
+        Use::Positive => (1 <= v) & (v <= 255),
+        Use::ControlBelow => (v < k) & sort,
+        Use::ControlAny => (v < n) & sort,
+        Use::WordBelow => (v < k) & !sort,
+        Use::WordAny => (v < n) & !sort,
+    }
+}
+
+// Whether cell k of n, which is c, keeps the rules of its kind; ca and cb tell whether its inputs are control wires.
+fn keeps_rule(n: usize, k: usize, c: Cell, ca: bool, cb: bool) -> bool
+    ensures { λ r. ⌜ ((net : List Cell) → Inputs net n c ca cb → r ≡ keeps net k c) ⌝ }
+{
+    let row = kinds::cell_row(c.kind);
+    let delay = row.delay;
+    let a = row.a;
+    let b = row.b;
+    let right_delay = keeps_use(delay, n, k, c.delay as usize, false);
+    let right_a = keeps_use(a, n, k, c.a as usize, ca);
+    let right_b = keeps_use(b, n, k, c.b as usize, cb);
+    stands(c.kind, k) & (right_delay & (right_a & right_b))
 }
 
 // One cell more, where all before it keep the rules and it does, too.
@@ -129,12 +135,12 @@ pub fn step(s: Scan, k: usize, c: Cell, a: u8, b: u8) -> Scan
     ensures { λ r. ⌜ ((net : List Cell) (finish : ℕ) → Stands net k c a b → Scanned net finish k s → Scanned net finish (k + 1) r) ⌝ }
 {
     let n = s.n;
-    let ca = ((c.a as usize) < n) & is_control(a);
-    let cb = ((c.b as usize) < n) & is_control(b);
+    let ca = ((c.a as usize) < n) & kinds::is_control(a);
+    let cb = ((c.b as usize) < n) & kinds::is_control(b);
     let keeps = keeps_rule(n, k, c, ca, cb);
     let kept = with_next(s.kept, k, is_placed(k, c) & keeps);
     let memory = word::bit(c.kind == 40) as usize;
-    let found = (s.finish == k) & is_control(c.kind);
+    let found = (s.finish == k) & kinds::is_control(c.kind);
     Scan {
         n,
         finish: s.finish,

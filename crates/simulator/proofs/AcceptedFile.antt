@@ -1,25 +1,28 @@
 -- What a netlist file that is accepted gives the runs: its size, cells that see no further than its state, and a copy of its cells.
 -- Assumes nothing.
-use mathlib.Core.Bool.{Bool, true, false, _&&_}
+use mathlib.Core.Bool.{Bool, true, false, _&&_, _||_}
 use mathlib.Core.List.{List}
 use mathlib.Core.Path.{_≡_, refl, sym, _∙_, ap}
 use Prim.Native.Nat.{ℕ, _+_, _*_, _%_, _<_, _≤_}
 use native.Mathlib.Omega.{arith}
 use native.Mathlib.Nat.{zero-add}
-use native.Mathlib.Decide.{ℕ-discrete}
-use lib.Dec.{eqb, leb, ltb}
+use lib.Dec.{eqb, ltb}
 use lib.ListN.{length, drop}
 use lib.Seq.{sets, sets-eq}
-use borrow.Author.Tests.{eqb-true, ltb-false, ne-eqb}
+use borrow.Author.Tests.{eqb-true, ltb-false}
 use Rattle.model.specs.declared.Cell.{Cell}
 use Rattle.model.specs.declared.Checked.the-variants.{Accepted}
-use Rattle.model.specs.Word.{pick}
-use Rattle.model.specs.Circuit.{cellAt, memories, Shape, shape, kConstant, kComplement, kOperator, kStart, kGround, kDelay, kOr, kWhenTrue, kWhenFalse, kMerge, kMemory, kGated, kUnknown}
-use Rattle.model.specs.NetlistFile.{cellBytes, cellFrom, cellsAt, inList, inFile, blocksFor, countOf, finishOf, cellsOf, fileLengthWrong, controlIn, wordIn, keeps, fileCheck}
+use Rattle.model.specs.declared.kinds.Use.{Use}
+use Rattle.model.specs.declared.kinds.Use.the-variants.{Unknown, Unused, Value, Positive, ControlBelow, ControlAny, WordBelow, WordAny}
+use Rattle.model.specs.Circuit.{cellAt, memories, cellTable, shape, cellRow}
+use Rattle.model.specs.NetlistFile.{cellBytes, cellFrom, cellsAt, inList, inFile, blocksFor, countOf, finishOf, cellsOf, fileLengthWrong, keeps, fileCheck}
 use Rattle.model.specs.State.{stateSize, instantOf, beginState}
 use Rattle.model.specs.Promises.{stateAt}
-use Rattle.laws.specs.Refusals.Laws.{and-true, or-false, not-both}
-use Rattle.laws.specs.NetlistFile.Passed.{looks, net-passed, file-passed, count-range, count-cells}
+use Rattle.laws.specs.Refusals.Laws.{by-bool, and-true, or-false, not-both}
+use Rattle.laws.specs.Circuit.Ordered.{Meets, Looks, kinds}
+use Rattle.laws.specs.Circuit.Shapes.{only-kind, allLines, every-line}
+use Rattle.laws.specs.NetlistFile.Uses.{keeps-looks}
+use Rattle.laws.specs.NetlistFile.Passed.{net-passed, file-passed, count-range, count-cells}
 use Rattle.laws.specs.NetlistFile.CellBytes.{from-bytes, bytes-length, cells-are, cell-of}
 use Rattle.laws.specs.State.Passes.{begin-instant as begun-instant}
 use Rattle.simulator.specs.Fits.{Stands, Sees, netOf, Fits, Runs}
@@ -44,100 +47,56 @@ sized file e =
 
 -- Cells that keep the rules ------------------------------------------------------------------------------------------------------------
 
-isConstant : Shape → Bool
-isConstant kConstant = true
-isConstant kComplement = false
-isConstant kOperator = false
-isConstant kStart = false
-isConstant kGround = false
-isConstant kDelay = false
-isConstant kOr = false
-isConstant kWhenTrue = false
-isConstant kWhenFalse = false
-isConstant kMerge = false
-isConstant kMemory = false
-isConstant kGated = false
-isConstant kUnknown = false
+-- whether a field of this use is always below the number of cells
+bounded : Use → Bool
+bounded Unknown = true
+bounded Unused = true
+bounded Value = false
+bounded Positive = false
+bounded ControlBelow = true
+bounded ControlAny = true
+bounded WordBelow = true
+bounded WordAny = true
 
-constant-kind : (k : ℕ) → shape k ≡ kConstant → k ≡ 1
-unfolding isConstant shape
-constant-kind k e = go (ℕ-discrete k 1)
-  where
-    pass : (b : Bool) (u v : Shape) → isConstant u ≡ false → isConstant v ≡ false → isConstant (pick b u v) ≡ false
-    pass true u v p q = p
-    pass false u v p q = q
+-- a constant's a alone is not, and no b
+a-bounded : (k : ℕ) → (k ≡ 1 → ⊥) → bounded (cellRow k .a) ≡ true
+unfolding bounded allLines cellTable
+a-bounded k n =
+    by-bool (bounded (cellRow k .a)) (λ t. t)
+    (λ t.
+    let one = rw t at (every-line (λ l. bounded (l .row .a) || (eqb (l .first) 1 && eqb (l .last) 1)) refl k) in
+    let ends = and-true (eqb (cellTable (shape k) .first) 1) _ one in
+    absurd (n (only-kind k 1 (eqb-true _ _ (ends .0)) (eqb-true _ _ (ends .1)))))
 
-    skip : (b : Bool) (v : Shape) → b ≡ false → isConstant v ≡ false → isConstant (pick b kConstant v) ≡ false
-    skip true v p q = p
-    skip false v p q = q
+b-bounded : (k : ℕ) → bounded (cellRow k .b) ≡ true
+unfolding bounded allLines cellTable
+b-bounded k = every-line (λ l. bounded (l .row .b)) refl k
 
-    other : (k ≡ 1 → ⊥) → isConstant (shape k) ≡ false
-    other n =
-        pass (leb 4 k && leb k 9) kOperator _ refl
-        (pass (eqb k 3) kComplement _ refl
-        (skip (eqb k 1) _ (ne-eqb k 1 n)
-        (pass (eqb k 32) kStart _ refl
-        (pass (eqb k 33) kGround _ refl
-        (pass (eqb k 34) kDelay _ refl
-        (pass (eqb k 35) kOr _ refl
-        (pass (eqb k 36) kWhenTrue _ refl
-        (pass (eqb k 37) kWhenFalse _ refl
-        (pass (eqb k 38) kMerge _ refl
-        (pass (eqb k 40) kMemory _ refl
-        (pass (eqb k 41) kGated kUnknown refl refl)))))))))))
+module _ (net : List Cell) (k : ℕ) (h : k < length net) (c : Cell) (e : keeps net k c ≡ true) where
+  within : (u : Use) (v : ℕ) → bounded u ≡ true → Meets u (kinds net) (length net) k v → v < length net
+  unfolding bounded
+  within Unknown v b m = absurd m
+  within Unused v b m = omega arith
+  within Value v b m = not-both b refl
+  within Positive v b m = not-both b refl
+  within ControlBelow v b m = omega (arith, m .0)
+  within ControlAny v b m = m .0
+  within WordBelow v b m = omega (arith, m .0)
+  within WordAny v b m = m .0
 
-    go : Dec (k ≡ 1) → k ≡ 1
-    go (yes p) = p
-    go (no n) = not-both (ap isConstant e) (other n)
+  sees : Looks (cellRow (c .kind)) (kinds net) (length net) k c
+  sees = keeps-looks net k c e
 
-module _ (net : List Cell) (k : ℕ) (h : k < length net) (c : Cell) where
-  zero-is : (j : ℕ) → eqb j 0 ≡ true → j < length net
-  zero-is j e = omega (arith, eqb-true j 0 e)
+  delay-long : c .kind ≡ 34 → 1 ≤ c .delay
+  unfolding shape cellTable
+  delay-long z = let m : Meets (cellRow 34 .delay) (kinds net) (length net) k (c .delay) = rw z at (sees .0) in m .0
 
-  a-within : (sh : Shape) → keeps sh net k c ≡ true → (sh ≡ kConstant → ⊥) → c .a < length net
-  unfolding keeps
-  a-within kConstant e n = absurd (n refl)
-  a-within kComplement e n = omega (arith, looks net k c kComplement e)
-  a-within kOperator e n = omega (arith, looks net k c kOperator e .0)
-  a-within kStart e n = zero-is (c .a) (and-true (eqb (c .a) 0) _ (and-true (eqb (c .delay) 0) _ e .1) .0)
-  a-within kGround e n = zero-is (c .a) (and-true (eqb (c .a) 0) _ (and-true (eqb (c .delay) 0) _ e .1) .0)
-  a-within kDelay e n = looks net k c kDelay e .2
-  a-within kOr e n = omega (arith, looks net k c kOr e .0)
-  a-within kWhenTrue e n = omega (arith, looks net k c kWhenTrue e .0)
-  a-within kWhenFalse e n = omega (arith, looks net k c kWhenFalse e .0)
-  a-within kMerge e n = omega (arith, looks net k c kMerge e .0)
-  a-within kMemory e n = omega (arith, looks net k c kMemory e .0)
-  a-within kGated e n = omega (arith, looks net k c kGated e .0)
-  a-within kUnknown e n = not-both e refl
-
-  b-within : (sh : Shape) → keeps sh net k c ≡ true → c .b < length net
-  unfolding keeps
-  b-within kConstant e = zero-is (c .b) (and-true (eqb (c .delay) 0) _ e .1)
-  b-within kComplement e = zero-is (c .b) (and-true (wordIn net k (c .a)) _ (and-true (eqb (c .delay) 0) _ e .1) .1)
-  b-within kOperator e = omega (arith, looks net k c kOperator e .1)
-  b-within kStart e = zero-is (c .b) (and-true (eqb (c .b) 0) _ (and-true (eqb (c .a) 0) _ (and-true (eqb (c .delay) 0) _ e .1) .1) .0)
-  b-within kGround e = zero-is (c .b) (and-true (eqb (c .b) 0) _ (and-true (eqb (c .a) 0) _ (and-true (eqb (c .delay) 0) _ e .1) .1) .0)
-  b-within kDelay e =
-      zero-is (c .b)
-      (and-true (controlIn net (length net) (c .a)) _ (and-true (leb (c .delay) 255) _ (and-true (leb 1 (c .delay)) _ e .1) .1) .1)
-  b-within kOr e = omega (arith, looks net k c kOr e .1)
-  b-within kWhenTrue e = omega (arith, looks net k c kWhenTrue e .1)
-  b-within kWhenFalse e = omega (arith, looks net k c kWhenFalse e .1)
-  b-within kMerge e = omega (arith, looks net k c kMerge e .1)
-  b-within kMemory e = looks net k c kMemory e .1
-  b-within kGated e = omega (arith, looks net k c kGated e .1)
-  b-within kUnknown e = not-both e refl
-
-  delay-long : keeps (shape (c .kind)) net k c ≡ true → c .kind ≡ 34 → 1 ≤ c .delay
-  unfolding shape
-  delay-long e z = looks net k c kDelay (ap (λ (j : ℕ). keeps (shape j) net k c) (sym z) ∙ e) .0
-
-  keeps-sees : (s : List ℕ) → length net ≤ 1024 → stateSize net ≤ length s → keeps (shape (c .kind)) net k c ≡ true → Sees s c
-  keeps-sees s few room e =
+  keeps-sees : (s : List ℕ) → length net ≤ 1024 → stateSize net ≤ length s → Sees s c
+  keeps-sees s few room =
       record {
-        a = λ n. stands (c .a) (a-within (shape (c .kind)) e (λ z. n (constant-kind (c .kind) z)));
-        b = stands (c .b) (b-within (shape (c .kind)) e);
-        delay = delay-long e;
+        a = λ n. stands (c .a) (within _ _ (a-bounded (c .kind) n) (sees .1));
+        b = stands (c .b) (within _ _ (b-bounded (c .kind)) (sees .2));
+        delay = delay-long;
       }
     where
       stands : (j : ℕ) → j < length net → Stands s j
@@ -180,8 +139,8 @@ module _ (file s : List ℕ) (r : Runs file s) where
   file-sees k l =
       let net = cellsOf file in
       let m : k < length net = rw (count-cells file) l in
-      keeps-sees net k m (cellAt net k) s (rw (count-cells file) (file-sized .few)) (r .room)
-      (net-passed net (finishOf file) (file-passed file (r .accepted) .cells) .kept k m)
+      keeps-sees net k m (cellAt net k) (net-passed net (finishOf file) (file-passed file (r .accepted) .cells) .kept k m)
+      s (rw (count-cells file) (file-sized .few)) (r .room)
 
   pub file-fits : (cells : List ℕ) (n : ℕ) → 6144 ≤ length cells → n ≡ countOf file → netOf cells n ≡ cellsOf file → Fits cells n s
   file-fits cells n h z e =

@@ -5,13 +5,13 @@ use mathlib.Core.Path.{_≡_, refl, sym, _∙_, ap}
 use Prim.Native.Nat.{ℕ, _+_, _-_, _<_, _≤_}
 use native.Mathlib.Omega.{arith}
 use native.Mathlib.Decide.{ℕ-discrete}
-use lib.Dec.{eqb, leb}
+use lib.Dec.{leb}
 use borrow.Author.Tests.{eq-eqb, ne-eqb, le-leb, lt-leb}
 use Rattle.model.specs.declared.Cell.{Cell}
 use Rattle.model.specs.Word.{pick, bit, isZero, operate}
-use Rattle.model.specs.Circuit.{high, mergeStep, Shape, shape, kConstant, kComplement, kOperator, kStart, kGround, kDelay, kOr, kWhenTrue, kWhenFalse, kMerge, kMemory, kGated, kUnknown}
+use Rattle.model.specs.Circuit.{high, mergeStep, Shape, cellTable, shape, kConstant, kComplement, kOperator, kStart, kGround, kDelay, kOr, kWhenTrue, kWhenFalse, kMerge, kMemory, kGated, kUnknown}
 use Rattle.model.specs.State.{base, nowAt, beforeAt, heldAt, lineBit, nextValue, shiftedIn, holding, settle}
-use Rattle.laws.specs.Circuit.Shapes.{delay-kind, merge-kind}
+use Rattle.laws.specs.Circuit.Shapes.{delay-kind, merge-kind, operator-shape, apart}
 
 -- a number that is no operator's
 pub record NoOperator (kind : ℕ) : Type 0 where
@@ -25,10 +25,6 @@ pub no-operator-high : (kind : ℕ) → 10 ≤ kind → NoOperator kind
 no-operator-high kind h =
     record { test = rw (le-leb 4 kind (omega arith), lt-leb kind 9 (omega arith)) refl; three = λ e. omega arith }
 
-shape-operator : (kind : ℕ) → 4 ≤ kind → kind ≤ 9 → shape kind ≡ kOperator
-unfolding shape
-shape-operator kind h g = rw (le-leb 4 kind h, le-leb kind 9 g) refl
-
 -- kinds that show what their inputs have, worked out, are none of these
 pub record Still (kind : ℕ) : Type 0 where
   pub operator : NoOperator kind
@@ -41,20 +37,20 @@ pub record Still (kind : ℕ) : Type 0 where
   pub memory : kind ≡ 40 → ⊥
   pub gated : kind ≡ 41 → ⊥
 
-shape-still : (kind : ℕ) → Still kind → shape kind ≡ pick (eqb kind 32) kStart (pick (eqb kind 33) kGround kUnknown)
-unfolding shape
+shape-still : (kind : ℕ) → Still kind → shape kind ≡ pick (leb 32 kind && leb kind 32) kStart (pick (leb 33 kind && leb kind 33) kGround kUnknown)
+unfolding shape cellTable
 shape-still kind h =
     rw (
+      apart kind 1 (h .constant),
+      apart kind 3 (h .operator .three),
       h .operator .test,
-      ne-eqb kind 3 (h .operator .three),
-      ne-eqb kind 1 (h .constant),
-      ne-eqb kind 34 (h .delay),
-      ne-eqb kind 35 (h .join),
-      ne-eqb kind 36 (h .when-true),
-      ne-eqb kind 37 (h .when-false),
-      ne-eqb kind 38 (h .merge),
-      ne-eqb kind 40 (h .memory),
-      ne-eqb kind 41 (h .gated),
+      apart kind 34 (h .delay),
+      apart kind 35 (h .join),
+      apart kind 36 (h .when-true),
+      apart kind 37 (h .when-false),
+      apart kind 38 (h .merge),
+      apart kind 40 (h .memory),
+      apart kind 41 (h .gated),
     ) refl
 
 module _ (s : List ℕ) (k : ℕ) (c : Cell) where
@@ -113,11 +109,11 @@ module _ (s : List ℕ) (k : ℕ) (c : Cell) where
     where
       go : Dec (c .kind ≡ 3) → nextValue (shape (c .kind)) s k c ≡ operate (c .kind) (nowAt s (c .a)) (nowAt s (c .b))
       go (yes e) = by-kind 3 e ∙ ap (λ (n : ℕ). operate n (nowAt s (c .a)) (nowAt s (c .b))) (sym e)
-      go (no e) = ap (λ (sh : Shape). nextValue sh s k c) (shape-operator (c .kind) (omega (arith, e)) g)
+      go (no e) = ap (λ (sh : Shape). nextValue sh s k c) (operator-shape (c .kind) (omega (arith, e)) g)
 
   pub next-still : Still (c .kind) → nextValue (shape (c .kind)) s k c ≡ 0
   unfolding nextValue
-  next-still h = ap (λ (sh : Shape). nextValue sh s k c) (shape-still (c .kind) h) ∙ none (eqb (c .kind) 32) (eqb (c .kind) 33)
+  next-still h = ap (λ (sh : Shape). nextValue sh s k c) (shape-still (c .kind) h) ∙ none (leb 32 (c .kind) && leb (c .kind) 32) (leb 33 (c .kind) && leb (c .kind) 33)
     where
       none : (p q : Bool) → nextValue (pick p kStart (pick q kGround kUnknown)) s k c ≡ 0
       none true q = refl

@@ -41,7 +41,7 @@ fn cell_sound(c: Cell, s: &[u8], k: usize) -> bool
     let most = word::bit(kind == 38);
     let now = wires::now_at(s, k);
     let ago = wires::before_at(s, k);
-    let values = !((32 <= kind) & (kind <= 38)) | ((now <= 1) & (ago <= 1));
+    let values = !netlist::kinds::is_control(kind) | ((now <= 1) & (ago <= 1));
     let held = ((s[at + 4] as u16) <= most) & ((s[at + 5] as u16) <= most);
     let zeros = all_zero(s, at + 6, 2);
     let line = all_zero(s, at + STATE_LINE, LINE);

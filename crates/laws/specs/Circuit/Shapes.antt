@@ -1,124 +1,99 @@
 -- Kinds and their shapes, and control wires: a control wire's value is 0 or 1.
-use mathlib.Core.Path.{_≡_, refl, sym, ap, _∙_}
-use mathlib.Core.Bool.{Bool, true, false, _&&_, _||_, not}
-use mathlib.Core.List.{List}
+use mathlib.Core.Path.{_≡_, refl, ap, _∙_}
+use mathlib.Core.Bool.{Bool, true, false, _&&_, _||_, not, and-false}
+use mathlib.Core.List.{List, [], _∷_}
 use mathlib.Core.Logic.{_⊎_, inl, inr, ⊎-elim}
-use Prim.Native.Nat.{ℕ, suc, _<_, _≤_}
-use native.Mathlib.Nat.{eq-or-lt-of-le}
+use Prim.Native.Nat.{ℕ, _<_, _≤_}
 use native.Mathlib.Omega.{arith}
-use lib.Dec.{eqb, leb, T, leb→le}
+use lib.Dec.{eqb, leb}
 use lib.ListN.{length}
-use borrow.Author.Tests.{eqb-true}
+use borrow.Author.Tests.{leb-true, le-leb, lt-leb}
 use Rattle.model.specs.declared.Cell.{Cell}
 use Rattle.model.specs.Word.{pick, bit, isZero}
-use Rattle.model.specs.Circuit.{cellAt, Values, level, delayed, merged, control, equation, startWord, Obeys, Shape, shape, kConstant, kComplement, kOperator, kStart, kGround, kDelay, kOr, kWhenTrue, kWhenFalse, kMerge, kMemory, kGated, kUnknown}
+use Rattle.model.specs.Circuit.{cellAt, Values, level, delayed, merged, control, equation, startWord, Obeys, Shape, CellKinds, cellTable, shapes, hasKind, shapeIn, shape, kConstant, kComplement, kOperator, kStart, kGround, kDelay, kOr, kWhenTrue, kWhenFalse, kMerge, kMemory, kGated, kUnknown}
+use Rattle.laws.specs.Refusals.Laws.{and-true, by-le, not-both}
 
--- the one kind of a shape; 0 where there are several or none
-number : Shape → ℕ
-number kConstant = 1
-number kComplement = 3
-number kOperator = 0
-number kStart = 32
-number kGround = 33
-number kDelay = 34
-number kOr = 35
-number kWhenTrue = 36
-number kWhenFalse = 37
-number kMerge = 38
-number kMemory = 40
-number kGated = 41
-number kUnknown = 0
+-- a kind is one of its shape's, but for the shape of no kinds
+abbrev Within : ℕ → Shape → Type 0
+Within k sh = (cellTable sh .last < cellTable sh .first) ⊎ ((cellTable sh .first ≤ k) × (k ≤ cellTable sh .last))
 
-numbered : (k : ℕ) → (number (shape k) ≡ k) ⊎ (number (shape k) ≡ 0)
-unfolding shape number
-numbered k =
-    by (leb 4 k && leb k 9) kOperator _ (λ t. inr refl)
-    (by (eqb k 3) kComplement _ (at 3 kComplement refl)
-    (by (eqb k 1) kConstant _ (at 1 kConstant refl)
-    (by (eqb k 32) kStart _ (at 32 kStart refl)
-    (by (eqb k 33) kGround _ (at 33 kGround refl)
-    (by (eqb k 34) kDelay _ (at 34 kDelay refl)
-    (by (eqb k 35) kOr _ (at 35 kOr refl)
-    (by (eqb k 36) kWhenTrue _ (at 36 kWhenTrue refl)
-    (by (eqb k 37) kWhenFalse _ (at 37 kWhenFalse refl)
-    (by (eqb k 38) kMerge _ (at 38 kMerge refl)
-    (by (eqb k 40) kMemory _ (at 40 kMemory refl)
-    (by (eqb k 41) kGated kUnknown (at 41 kGated refl) (inr refl))))))))))))
+within : (k : ℕ) (shs : List Shape) → Within k (shapeIn shs k)
+unfolding shapeIn
+within k [] = inl (omega arith)
+within k (sh ∷ rest) = go (hasKind sh k) refl (within k rest)
   where
-    by : (b : Bool) (u v : Shape) → (b ≡ true → (number u ≡ k) ⊎ (number u ≡ 0)) → (number v ≡ k) ⊎ (number v ≡ 0)
-        → (number (pick b u v) ≡ k) ⊎ (number (pick b u v) ≡ 0)
-    by true u v f g = f refl
-    by false u v f g = g
-
-    at : (j : ℕ) (u : Shape) → number u ≡ j → eqb k j ≡ true → (number u ≡ k) ⊎ (number u ≡ 0)
-    at j u e t = inl (e ∙ sym (eqb-true k j t))
+    go : (b : Bool) → hasKind sh k ≡ b → Within k (shapeIn rest k) → Within k (pick b sh (shapeIn rest k))
+    go true e r = let p = and-true (leb (cellTable sh .first) k) _ e in inr (leb-true _ _ (p .0), leb-true _ _ (p .1))
+    go false e r = r
 
 -- a shape of one kind has that kind
-kind-of : (k j : ℕ) (sh : Shape) → number sh ≡ suc j → shape k ≡ sh → k ≡ suc j
-kind-of k j sh n e =
-    let z : number (shape k) ≡ suc j = ap number e ∙ n in
-    ⊎-elim (λ (p : number (shape k) ≡ k). sym p ∙ z) (λ (p : number (shape k) ≡ 0). absurd (omega arith)) (numbered k)
+pub only-kind : (k j : ℕ) → cellTable (shape k) .first ≡ j → cellTable (shape k) .last ≡ j → k ≡ j
+unfolding shape
+only-kind k j f l = ⊎-elim (λ p. absurd (omega (arith, p, f, l))) (λ p. omega (arith, p .0, p .1, f, l)) (within k shapes)
+
+kind-of : (k j : ℕ) (sh : Shape) → cellTable sh .first ≡ j → cellTable sh .last ≡ j → shape k ≡ sh → k ≡ j
+kind-of k j sh f l e = only-kind k j (ap (λ (x : Shape). cellTable x .first) e ∙ f) (ap (λ (x : Shape). cellTable x .last) e ∙ l)
 
 pub start-kind : (k : ℕ) → shape k ≡ kStart → k ≡ 32
-unfolding number
-start-kind k e = kind-of k 31 kStart refl e
+unfolding cellTable
+start-kind k e = kind-of k 32 kStart refl refl e
 
 pub delay-kind : (k : ℕ) → shape k ≡ kDelay → k ≡ 34
-unfolding number
-delay-kind k e = kind-of k 33 kDelay refl e
+unfolding cellTable
+delay-kind k e = kind-of k 34 kDelay refl refl e
 
 pub merge-kind : (k : ℕ) → shape k ≡ kMerge → k ≡ 38
-unfolding number
-merge-kind k e = kind-of k 37 kMerge refl e
+unfolding cellTable
+merge-kind k e = kind-of k 38 kMerge refl refl e
 
 pub memory-kind : (k : ℕ) → shape k ≡ kMemory → k ≡ 40
-unfolding number
-memory-kind k e = kind-of k 39 kMemory refl e
+unfolding cellTable
+memory-kind k e = kind-of k 40 kMemory refl refl e
+
+pub operator-shape : (k : ℕ) → 4 ≤ k → k ≤ 9 → shape k ≡ kOperator
+unfolding shape
+operator-shape k h g =
+    rw (le-leb 1 k (omega arith), lt-leb k 1 (omega arith), le-leb 3 k (omega arith), lt-leb k 3 (omega arith), le-leb 4 k h, le-leb k 9 g) refl
+
+-- a kind is not in a range that ends below it or begins above it, nor in one of another kind alone
+pub outside : (k m n : ℕ) → (k < m) ⊎ (n < k) → (leb m k && leb k n) ≡ false
+outside k m n h = ⊎-elim (λ l. rw (lt-leb m k l) refl) (λ l. rw (lt-leb k n l) (and-false (leb m k))) h
+
+pub apart : (k j : ℕ) → (k ≡ j → ⊥) → (leb j k && leb k j) ≡ false
+apart k j n = by-le j k (λ h. outside k j j (inr (omega (arith, h, n)))) (λ h. outside k j j (inl h))
+
+-- a test that every line of the table passes is passed by every kind's line
+unfoldable pub allLines : (CellKinds → Bool) → List Shape → Bool
+allLines p [] = p (cellTable kUnknown)
+allLines p (sh ∷ rest) = p (cellTable sh) && allLines p rest
+
+lines-pass : (p : CellKinds → Bool) (k : ℕ) (shs : List Shape) → allLines p shs ≡ true → p (cellTable (shapeIn shs k)) ≡ true
+unfolding allLines shapeIn
+lines-pass p k [] e = e
+lines-pass p k (sh ∷ rest) e =
+    let (here, later) = and-true (p (cellTable sh)) (allLines p rest) e in
+    go (hasKind sh k) here (lines-pass p k rest later)
+  where
+    go : (b : Bool) → p (cellTable sh) ≡ true → p (cellTable (shapeIn rest k)) ≡ true → p (cellTable (pick b sh (shapeIn rest k))) ≡ true
+    go true h r = h
+    go false h r = r
+
+pub every-line : (p : CellKinds → Bool) → allLines p shapes ≡ true → (k : ℕ) → p (cellTable (shape k)) ≡ true
+unfolding shape
+every-line p e k = lines-pass p k shapes e
 
 -- Control wires --------------------------------------------------------------------------------------------------------------------------------
-
-controlShape : Shape → Bool
-controlShape kConstant = false
-controlShape kComplement = false
-controlShape kOperator = false
-controlShape kStart = true
-controlShape kGround = true
-controlShape kDelay = true
-controlShape kOr = true
-controlShape kWhenTrue = true
-controlShape kWhenFalse = true
-controlShape kMerge = true
-controlShape kMemory = false
-controlShape kGated = false
-controlShape kUnknown = false
-
-both : (a b : Bool) → a && b ≡ true → T a × T b
-both true true e = (tt, tt)
-both true false e = absurd (let z : _≡_ {A = ℕ} 0 1 = cc in omega arith)
-both false b e = absurd (let z : _≡_ {A = ℕ} 0 1 = cc in omega arith)
-
-control-shape : (k : ℕ) → control k ≡ true → controlShape (shape k) ≡ true
-unfolding control controlShape shape
-control-shape k h =
-    let r = both (leb 32 k) (leb k 38) h in
-    let hi : k ≤ 38 = leb→le k 38 (r .1) in
-    go 32 refl
-    (go 33 refl (go 34 refl (go 35 refl (go 36 refl (go 37 refl (go 38 refl (λ (z : 39 ≤ k). absurd (omega arith))))))))
-    (leb→le 32 k (r .0))
-  where
-    go : (j : ℕ) → controlShape (shape j) ≡ true → (suc j ≤ k → controlShape (shape k) ≡ true) → j ≤ k → controlShape (shape k) ≡ true
-    go j e f l = ⊎-elim (λ (q : j ≡ k). rw q at e) f (eq-or-lt-of-le l)
 
 pub bit-le : (b : Bool) → bit b ≤ 1
 unfolding bit
 bit-le true = omega arith
 bit-le false = omega arith
 
-shape-level : (s : Shape) (first : ℕ) (W : Values) (k : ℕ) (c : Cell) (t : ℕ) → controlShape s ≡ true → equation s first W k c t ≤ 1
-unfolding equation controlShape
-shape-level kConstant first W k c t e = absurd (let z : _≡_ {A = ℕ} 0 1 = cc in omega arith)
-shape-level kComplement first W k c t e = absurd (let z : _≡_ {A = ℕ} 0 1 = cc in omega arith)
-shape-level kOperator first W k c t e = absurd (let z : _≡_ {A = ℕ} 0 1 = cc in omega arith)
+shape-level : (s : Shape) (first : ℕ) (W : Values) (k : ℕ) (c : Cell) (t : ℕ) → cellTable s .row .control ≡ true → equation s first W k c t ≤ 1
+unfolding equation cellTable
+shape-level kConstant first W k c t e = not-both e refl
+shape-level kComplement first W k c t e = not-both e refl
+shape-level kOperator first W k c t e = not-both e refl
 shape-level kStart first W k c t e = bit-le (eqb t 0)
 shape-level kGround first W k c t e = omega arith
 shape-level kDelay first W k c t e = bit-le (delayed (c .delay) (level W (c .a)) t)
@@ -126,12 +101,11 @@ shape-level kOr first W k c t e = bit-le (level W (c .a) t || level W (c .b) t)
 shape-level kWhenTrue first W k c t e = bit-le (level W (c .a) t && not (isZero (W (c .b) t)))
 shape-level kWhenFalse first W k c t e = bit-le (level W (c .a) t && isZero (W (c .b) t))
 shape-level kMerge first W k c t e = bit-le (merged (level W (c .a)) (level W (c .b)) t)
-shape-level kMemory first W k c t e = absurd (let z : _≡_ {A = ℕ} 0 1 = cc in omega arith)
-shape-level kGated first W k c t e = absurd (let z : _≡_ {A = ℕ} 0 1 = cc in omega arith)
-shape-level kUnknown first W k c t e = absurd (let z : _≡_ {A = ℕ} 0 1 = cc in omega arith)
+shape-level kMemory first W k c t e = not-both e refl
+shape-level kGated first W k c t e = not-both e refl
+shape-level kUnknown first W k c t e = not-both e refl
 
 pub level-bound : (net : List Cell) (words : ℕ → ℕ) (W : Values) → Obeys net words W
     → (k : ℕ) → k < length net → control (cellAt net k .kind) ≡ true → (t : ℕ) → W k t ≤ 1
-unfolding Obeys
-level-bound net words W h k l e t =
-    rw (h k l t) (shape-level (shape (cellAt net k .kind)) (startWord net words k) W k (cellAt net k) t (control-shape (cellAt net k .kind) e))
+unfolding Obeys control
+level-bound net words W h k l e t = rw (h k l t) (shape-level (shape (cellAt net k .kind)) (startWord net words k) W k (cellAt net k) t e)

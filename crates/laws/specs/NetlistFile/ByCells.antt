@@ -15,10 +15,10 @@ use Rattle.model.specs.declared.Cell.{Cell}
 use Rattle.model.specs.declared.Checked.{Checked}
 use Rattle.model.specs.declared.Checked.the-variants.{Accepted}
 use Rattle.model.specs.Word.{pick, bytes16, get16}
-use Rattle.model.specs.Circuit.{noCell, shape}
+use Rattle.model.specs.Circuit.{noCell, cellRow, names}
 use Rattle.model.specs.NetlistFile.{cellBytes, cellFrom, cellsAt, cellsOf, inList, inFile, countOf, finishOf, netCheck}
 use Rattle.model.specs.Calls.{writing, writeCall, readCall}
-use Rattle.model.specs.CellSlices.{namesA, namesB, renumbered, moved, behind, movedFrom, movedBytes, placing, writeCellsCall, readCellsCall}
+use Rattle.model.specs.CellSlices.{renumbered, moved, behind, movedFrom, movedBytes, placing, writeCellsCall, readCellsCall}
 use Rattle.model.specs.Promises.{Bytes}
 use Rattle.model.specs.CellPromises.{SameCells}
 use Rattle.laws.specs.Refusals.Laws.{by-le}
@@ -86,7 +86,7 @@ module _ (file : List ℕ) (y : Bytes file) where
   unfolding moved cellFrom
   unmoved i =
       let kind = getD file i 0 in
-      rw (still (namesA (shape kind)) (get16 file (i + 2)) (two-bytes (i + 2)), still (namesB (shape kind)) (get16 file (i + 4)) (two-bytes (i + 4))) refl
+      rw (still (names (cellRow kind .a)) (get16 file (i + 2)) (two-bytes (i + 2)), still (names (cellRow kind .b)) (get16 file (i + 4)) (two-bytes (i + 4))) refl
 
   all-unmoved : (at : ℕ → ℕ) (k n : ℕ) → behind 0 (cellsAt at file k n) ≡ cellsAt at file k n
   unfolding cellsAt

@@ -11,15 +11,16 @@ use lib.ListN.{length}
 use borrow.Author.Tests.{ltb-true, leb-true, eqb-true}
 use Rattle.model.specs.declared.Cell.{Cell}
 use Rattle.model.specs.declared.Checked.the-variants.{Accepted}
-use Rattle.model.specs.Circuit.{cellAt, control, memories, Shape, shape, kConstant, kComplement, kOperator, kStart, kGround, kDelay, kOr, kWhenTrue, kWhenFalse, kMerge, kMemory, kGated, kUnknown}
-use Rattle.model.specs.NetlistFile.{wordSum, blockAt, blocksFor, countOf, finishOf, cellsAt, inFile, cellsOf, fileLengthWrong, sumFault, countWrong, headerRight, headerFault, controlIn, wordIn, keeps, placed, cellFault, netChecks, netCheck, fileChecks, fileCheck}
+use Rattle.model.specs.Circuit.{cellAt, control, memories}
+use Rattle.model.specs.NetlistFile.{wordSum, blockAt, blocksFor, countOf, finishOf, cellsAt, inFile, cellsOf, fileLengthWrong, sumFault, countWrong, headerRight, headerFault, keeps, placed, cellFault, netChecks, netCheck, fileChecks, fileCheck}
 use Rattle.laws.specs.Refusals.Laws.{and-true, not-false, all-accept, refuse-unless, fault-unless, no-fault}
-use Rattle.laws.specs.Circuit.Ordered.{Looks, Ordered}
+use Rattle.laws.specs.Circuit.Ordered.{Ordered}
+use Rattle.laws.specs.NetlistFile.Uses.{keeps-looks}
 
 -- Netlists -----------------------------------------------------------------------------------------------------------------------------
 
 pub record NetPassed (net : List Cell) (f : ℕ) : Type 0 where
-  pub kept : (k : ℕ) → k < length net → keeps (shape (cellAt net k .kind)) net k (cellAt net k) ≡ true
+  pub kept : (k : ℕ) → k < length net → keeps net k (cellAt net k) ≡ true
   pub sixteen : memories net ≡ 16
   pub finish : control (cellAt net f .kind) ≡ true
 
@@ -30,48 +31,15 @@ net-passed net f e =
     record {
       kept = λ k l.
           let c = cellAt net k in
-          let right = placed k c && keeps (shape (c .kind)) net k c in
+          let right = placed k c && keeps net k c in
           and-true (placed k c) _ (not-false right (fault-unless (not right) 12 (omega arith) (no-fault (cellFault net) (length net) (a 0) k l))) .1;
       sixteen = eqb-true _ _ (not-false (eqb (memories net) 16) (refuse-unless (not (eqb (memories net) 16)) 12 (length net) (a 1)));
       finish = not-false (control (cellAt net f .kind)) (refuse-unless (not (control (cellAt net f .kind))) 12 f (a 2));
     }
 
-module _ (net : List Cell) (k : ℕ) (c : Cell) where
-  control-lt : (lim j : ℕ) → controlIn net lim j ≡ true → j < lim
-  unfolding controlIn
-  control-lt lim j e = ltb-true j lim (and-true (ltb j lim) _ e .0)
-
-  word-lt : (lim j : ℕ) → wordIn net lim j ≡ true → j < lim
-  unfolding wordIn
-  word-lt lim j e = ltb-true j lim (and-true (ltb j lim) _ e .0)
-
-  -- the second and the third part of a chain of tests
-  second : (p q r : Bool) → (p && (q && r)) ≡ true → (q ≡ true) × (r ≡ true)
-  second p q r e = and-true q r (and-true p (q && r) e .1)
-
-  pub looks : (sh : Shape) → keeps sh net k c ≡ true → Looks sh (length net) k c
-  unfolding keeps
-  looks kConstant e = tt
-  looks kComplement e = word-lt k (c .a) (second (eqb (c .delay) 0) (wordIn net k (c .a)) (eqb (c .b) 0) e .0)
-  looks kOperator e = let r = second (eqb (c .delay) 0) (wordIn net k (c .a)) (wordIn net k (c .b)) e in (word-lt k (c .a) (r .0), word-lt k (c .b) (r .1))
-  looks kStart e = tt
-  looks kGround e = tt
-  looks kDelay e =
-      let p = and-true (leb 1 (c .delay)) _ e in
-      let q = and-true (leb (c .delay) 255) _ (p .1) in
-      let r = and-true (controlIn net (length net) (c .a)) _ (q .1) in
-      (leb-true 1 (c .delay) (p .0), leb-true (c .delay) 255 (q .0), control-lt (length net) (c .a) (r .0))
-  looks kOr e = let r = second (eqb (c .delay) 0) (controlIn net k (c .a)) (controlIn net k (c .b)) e in (control-lt k (c .a) (r .0), control-lt k (c .b) (r .1))
-  looks kWhenTrue e = let r = second (eqb (c .delay) 0) (controlIn net k (c .a)) (wordIn net k (c .b)) e in (control-lt k (c .a) (r .0), word-lt k (c .b) (r .1))
-  looks kWhenFalse e = let r = second (eqb (c .delay) 0) (controlIn net k (c .a)) (wordIn net k (c .b)) e in (control-lt k (c .a) (r .0), word-lt k (c .b) (r .1))
-  looks kMerge e = let r = second (eqb (c .delay) 0) (controlIn net k (c .a)) (controlIn net k (c .b)) e in (control-lt k (c .a) (r .0), control-lt k (c .b) (r .1))
-  looks kMemory e = let r = second (eqb (c .delay) 0) (controlIn net k (c .a)) (wordIn net (length net) (c .b)) e in (control-lt k (c .a) (r .0), word-lt (length net) (c .b) (r .1))
-  looks kGated e = let r = second (eqb (c .delay) 0) (controlIn net k (c .a)) (wordIn net k (c .b)) e in (control-lt k (c .a) (r .0), word-lt k (c .b) (r .1))
-  looks kUnknown e = tt
-
 pub net-ordered : (net : List Cell) (f : ℕ) → netCheck net f ≡ Accepted → Ordered net
 unfolding Ordered
-net-ordered net f e k l = looks net k (cellAt net k) (shape (cellAt net k .kind)) (net-passed net f e .kept k l)
+net-ordered net f e k l = keeps-looks net k (cellAt net k) (net-passed net f e .kept k l)
 
 -- Files --------------------------------------------------------------------------------------------------------------------------------
 

@@ -14,7 +14,7 @@ use Rattle.model.specs.Circuit.{cell}
 use Rattle.model.specs.Numbering.{exprCount, exprWire, exprCells, ifDelayCount, ifPulse, ifDelayCells, delayCount, walkCount, finishWire, delays, walk, clockSources, dataSources, Source, wiresOf}
 use Rattle.model.specs.Numbering.{orChain, orChainOut, ors, orsOut, orCount, orsFrom, outsFrom, orCountFrom, memoriesOf, netlist, finish}
 use Rattle.model.specs.Numbering.{clockAt, memoryAt, walkAt, dataAt, clockWires, dataWires}
-use Rattle.model.specs.Circuit.{control, cellAt, memories, shape}
+use Rattle.model.specs.Circuit.{control, cellAt, memories, cellTable, shape}
 use Rattle.model.specs.Word.{bit}
 use Rattle.laws.specs.Numbering.Cells.{All, all-of, all-at, split, join}
 use Rattle.laws.specs.Numbering.Lengths.{e-len, d-len, w-len, own-len}
@@ -22,12 +22,13 @@ use Rattle.laws.specs.Program.Fit.{FormedExpr, Formed, Low}
 use Rattle.laws.specs.Numbering.Parts.{ors-len, outs-len, net-length, Laid, lay, unlay}
 use Rattle.laws.specs.Numbering.Memories.{memories-append, delays-free, orsFrom-free}
 use Rattle.laws.specs.Numbering.Count.{nodes, size}
-use Rattle.laws.specs.Numbering.Valid.{word, In, CellOk, Ok, CellsOk, kinds, HasKind, p-ok}
+use Rattle.laws.specs.Circuit.Ordered.{word, In, kinds}
+use Rattle.laws.specs.NetlistFile.Uses.{looks-keeps}
+use Rattle.laws.specs.Numbering.Valid.{Ok, HasKind, p-ok}
 use Rattle.model.specs.Word.{pick}
 use Rattle.model.specs.declared.Checked.the-variants.{Accepted}
-use Rattle.model.specs.Circuit.{Shape, kConstant, kComplement, kOperator, kStart, kGround, kDelay, kOr, kWhenTrue, kWhenFalse, kMerge, kMemory, kGated, kUnknown}
-use Rattle.model.specs.NetlistFile.{controlIn, wordIn, keeps, placed, cellFault, netCheck, countWrong, blocksFor}
-use Rattle.laws.specs.Refusals.Laws.{and-of, faultless, is-false}
+use Rattle.model.specs.NetlistFile.{stands, placed, cellFault, netCheck, countWrong, blocksFor}
+use Rattle.laws.specs.Refusals.Laws.{faultless, is-false}
 
 -- Q holds of each wire
 abbrev Every : (ℕ → Type 0) → List ℕ → Type 0
@@ -157,11 +158,11 @@ module _ (K : ℕ → ℕ) where
         (join (Ok K n) c k here rest (ors-len kind c (wiresOf x ws)) (i .0) (i′ .0), ((omega arith, i .1 .1), i′ .1))
 
   mems-ok : (n lim k : ℕ) (ks ds : List ℕ) → lim ≤ k → Every (In control K lim) ks → Every (In word K n) ds → All (Ok K n) k (memoriesOf ks ds)
-  unfolding memoriesOf shape
+  unfolding memoriesOf shape cellTable stands
   mems-ok n lim k [] ds l h h′ = tt
   mems-ok n lim k (a ∷ ks) [] l h h′ = tt
   mems-ok n lim k (a ∷ ks) (b ∷ ds) l h h′ =
-      ((refl, (omega arith, h .0 .1), h′ .0), mems-ok n lim (k + 1) ks ds (omega arith) (h .1) (h′ .1))
+      ((refl, (refl, (omega arith, h .0 .1), h′ .0)), mems-ok n lim (k + 1) ks ds (omega arith) (h .1) (h′ .1))
 
   mems-kind : (n k : ℕ) (ks ds : List ℕ) → length ks ≡ n → length ds ≡ n → All (HasKind K) k (memoriesOf ks ds) → (i : ℕ) → i < n → K (k + i) ≡ 40
   unfolding memoriesOf
@@ -252,24 +253,24 @@ module _ (P : Stmt) (w : Formed P) (z : Low P) where
       p-ok K n (memoryAt P) mem P w z 0 3 (walkAt P) start-ok (omega arith) (omega arith) (omega (arith, total)) (has .at-delays) (has .at-walk)
 
   clockParts : All (Ok K n) (clockAt P) (orsFrom 35 (clockSources P 3) (clockAt P) 0 16) × Every (In control K (memoryAt P)) (clockWires P)
-  unfolding control shape
+  unfolding control shape cellTable stands
   clockParts =
-      orsFrom-ok K n 35 control refl (λ k a b i j. (refl, i, j)) (clockAt P) 1 (clockSources P 3) (clockAt P) 0 16 (memoryAt P) (omega arith) (omega arith)
+      orsFrom-ok K n 35 control refl (λ k a b i j. (refl, (refl, i, j))) (clockAt P) 1 (clockSources P 3) (clockAt P) 0 16 (memoryAt P) (omega arith) (omega arith)
       (omega arith, rw (has .at-ground)) (clocks-ok K P 0 3 (walkAt P) (clockAt P) (omega arith) (has .at-delays)) (has .at-clocks)
 
   dataParts : All (Ok K n) (dataAt P) (orsFrom 7 (dataSources P (walkAt P)) (dataAt P) 0 16) × Every (In word K n) (dataWires P)
-  unfolding word shape
+  unfolding word shape cellTable stands
   dataParts =
-      orsFrom-ok K n 7 word refl (λ k a b i j. (refl, i, j)) (dataAt P) 2 (dataSources P (walkAt P)) (dataAt P) 0 16 n (omega arith) (omega (arith, total))
+      orsFrom-ok K n 7 word refl (λ k a b i j. (refl, (refl, i, j))) (dataAt P) 2 (dataSources P (walkAt P)) (dataAt P) 0 16 n (omega arith) (omega (arith, total))
       (omega arith, rw (has .at-zero)) (datas-ok K (memoryAt P) P 0 3 (walkAt P) (dataAt P) (omega arith) (has .at-walk)) (has .at-datas)
 
   laid-ok : Laid (Ok K n) P
-  unfolding shape
+  unfolding shape cellTable stands
   laid-ok =
       record {
-        at-start = (refl, refl, refl, refl);
-        at-ground = (refl, refl, refl, refl);
-        at-zero = (refl, refl);
+        at-start = (refl, (refl, refl, refl));
+        at-ground = (refl, (refl, refl, refl));
+        at-zero = (refl, (refl, tt, refl));
         at-delays = body .0;
         at-clocks = clockParts .0;
         at-mems = mems-ok K n (memoryAt P) (memoryAt P) (clockWires P) (dataWires P) (omega arith) (clockParts .1) (dataParts .1);
@@ -277,8 +278,8 @@ module _ (P : Stmt) (w : Formed P) (z : Low P) where
         at-datas = dataParts .0;
       }
 
-  pub cells-ok : CellsOk (netlist P)
-  unfolding CellsOk K n
+  cells-ok : (k : ℕ) → k < length (netlist P) → Ok (kinds (netlist P)) (length (netlist P)) k (cellAt (netlist P) k)
+  unfolding K n
   cells-ok k l = rw zero-add at (all-at (Ok K n) (netlist P) 0 (unlay (Ok K n) P laid-ok) k l)
 
   pub finish-ok : In control (kinds (netlist P)) (length (netlist P)) (finish P)
@@ -286,32 +287,6 @@ module _ (P : Stmt) (w : Formed P) (z : Low P) where
   finish-ok = (omega (arith, total, body .2 .0), body .2 .1)
 
 -- ---- refusals 11 and 12
-
-module _ (net : List Cell) (k : ℕ) (c : Cell) where
-  control-in : (lim j : ℕ) → In control (kinds net) lim j → controlIn net lim j ≡ true
-  unfolding controlIn
-  control-in lim j h = and-of (lt-ltb j lim (h .0)) (h .1)
-
-  word-in : (lim j : ℕ) → In word (kinds net) lim j → wordIn net lim j ≡ true
-  unfolding wordIn word
-  word-in lim j h = and-of (lt-ltb j lim (h .0)) (h .1)
-
-  keeps-of : (sh : Shape) → CellOk sh (kinds net) (length net) k c → keeps sh net k c ≡ true
-  unfolding keeps
-  keeps-of kConstant h = and-of (eq-eqb _ _ (h .0)) (eq-eqb _ _ (h .1))
-  keeps-of kComplement h = and-of (eq-eqb _ _ (h .0)) (and-of (word-in k (c .a) (h .1)) (eq-eqb _ _ (h .2)))
-  keeps-of kOperator h = and-of (eq-eqb _ _ (h .0)) (and-of (word-in k (c .a) (h .1)) (word-in k (c .b) (h .2)))
-  keeps-of kStart h = and-of (eq-eqb _ _ (h .0)) (and-of (eq-eqb _ _ (h .1)) (and-of (eq-eqb _ _ (h .2)) (eq-eqb _ _ (h .3))))
-  keeps-of kGround h = and-of (eq-eqb _ _ (h .0)) (and-of (eq-eqb _ _ (h .1)) (and-of (eq-eqb _ _ (h .2)) (eq-eqb _ _ (h .3))))
-  keeps-of kDelay h =
-      and-of (le-leb 1 (c .delay) (h .0)) (and-of (le-leb (c .delay) 255 (h .1)) (and-of (control-in (length net) (c .a) (h .2)) (eq-eqb _ _ (h .3))))
-  keeps-of kOr h = and-of (eq-eqb _ _ (h .0)) (and-of (control-in k (c .a) (h .1)) (control-in k (c .b) (h .2)))
-  keeps-of kWhenTrue h = and-of (eq-eqb _ _ (h .0)) (and-of (control-in k (c .a) (h .1)) (word-in k (c .b) (h .2)))
-  keeps-of kWhenFalse h = and-of (eq-eqb _ _ (h .0)) (and-of (control-in k (c .a) (h .1)) (word-in k (c .b) (h .2)))
-  keeps-of kMerge h = and-of (eq-eqb _ _ (h .0)) (and-of (control-in k (c .a) (h .1)) (control-in k (c .b) (h .2)))
-  keeps-of kMemory h = and-of (eq-eqb _ _ (h .0)) (and-of (control-in k (c .a) (h .1)) (word-in (length net) (c .b) (h .2)))
-  keeps-of kGated h = and-of (eq-eqb _ _ (h .0)) (and-of (control-in k (c .a) (h .1)) (word-in k (c .b) (h .2)))
-  keeps-of kUnknown h = absurd h
 
 module _ (P : Stmt) (w : Formed P) (z : Low P) where
   placed-ok : (k : ℕ) → placed k (cellAt (netlist P) k) ≡ true
@@ -323,10 +298,10 @@ module _ (P : Stmt) (w : Formed P) (z : Low P) where
       rw (ne-eqb (suc (suc (suc k))) 0 (λ e. omega arith), ne-eqb (suc (suc (suc k))) 1 (λ e. omega arith), ne-eqb (suc (suc (suc k))) 2 (λ e. omega arith))
 
   faultless-at : (k : ℕ) → k < length (netlist P) → cellFault (netlist P) k ≡ 0
-  unfolding cellFault CellsOk
+  unfolding cellFault
   faultless-at k l =
-      let c = cellAt (netlist P) k in
-      rw (placed-ok k, keeps-of (netlist P) k c (shape (c .kind)) (cells-ok P w z k l))
+      let r = cells-ok P w z k l in
+      rw (placed-ok k, looks-keeps (netlist P) k (cellAt (netlist P) k) (r .0) (r .1))
 
   pub net-accepted : netCheck (netlist P) (finish P) ≡ Accepted
   unfolding netCheck

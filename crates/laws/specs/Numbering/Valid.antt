@@ -1,6 +1,6 @@
 -- The rules of a cell, sorts of wires included, and that each cell of a compiled netlist keeps them.
-use mathlib.Core.Path.{_≡_, refl}
-use borrow.Author.Tests.{lt-leb}
+use mathlib.Core.Path.{_≡_, refl, ap}
+use borrow.Author.Tests.{ne-eqb}
 use mathlib.Core.Bool.{Bool, true, not}
 use mathlib.Core.List.{List, [], _∷_, _++_}
 use Prim.Native.Nat.{ℕ, zero, suc, _+_, _<_, _≤_}
@@ -11,70 +11,42 @@ use Rattle.model.specs.Program.{Expr, const, var, compl, op, Stmt, ok, tick, as
 use Rattle.model.specs.declared.Cell.{Cell}
 use Rattle.model.specs.Circuit.{cell}
 use Rattle.model.specs.Numbering.{exprCount, exprWire, exprCells, ifDelayCount, ifPulse, ifDelayCells, delayCount, walkCount, finishWire, delays, walk}
-use Rattle.model.specs.Circuit.{control, Shape, shape, noCell}
+use Rattle.model.specs.Circuit.{control, Shape, cellTable, shape, cellRow}
+use Rattle.model.specs.NetlistFile.{stands}
 use Rattle.laws.specs.Numbering.Cells.{All, split, join}
-use Rattle.model.specs.Circuit.{kConstant, kComplement, kOperator, kStart, kGround, kDelay, kOr, kWhenTrue, kWhenFalse, kMerge, kMemory, kGated, kUnknown}
+use Rattle.laws.specs.Circuit.Ordered.{word, In, Looks}
+use Rattle.laws.specs.Circuit.Shapes.{operator-shape}
 use Rattle.laws.specs.Numbering.Lengths.{e-len, d-len, w-len, own-len}
-use Rattle.laws.specs.Refusals.Laws.{is-true}
 use Rattle.laws.specs.Program.Fit.{FormedExpr, Formed, Low}
 
--- a word wire, by kind
-unfoldable pub word : ℕ → Bool
-unfolding control
-word k = not (control k)
-
--- an input names a wire below lim, of the right sort; K j is the kind of cell j
-abbrev pub In : (ℕ → Bool) → (ℕ → ℕ) → ℕ → ℕ → Type 0
-In sort K lim j = (j < lim) × (sort (K j) ≡ true)
-
--- the rules of cell k of n, which is c
-abbrev pub CellOk : Shape → (ℕ → ℕ) → ℕ → ℕ → Cell → Type 0
-CellOk kConstant K n k c = (c .delay ≡ 0) × (c .b ≡ 0)
-CellOk kComplement K n k c = (c .delay ≡ 0) × In word K k (c .a) × (c .b ≡ 0)
-CellOk kOperator K n k c = (c .delay ≡ 0) × In word K k (c .a) × In word K k (c .b)
-CellOk kStart K n k c = (c .delay ≡ 0) × (c .a ≡ 0) × (c .b ≡ 0) × (k ≡ 0)
-CellOk kGround K n k c = (c .delay ≡ 0) × (c .a ≡ 0) × (c .b ≡ 0) × (k ≡ 1)
-CellOk kDelay K n k c = (1 ≤ c .delay) × (c .delay ≤ 255) × In control K n (c .a) × (c .b ≡ 0)
-CellOk kOr K n k c = (c .delay ≡ 0) × In control K k (c .a) × In control K k (c .b)
-CellOk kWhenTrue K n k c = (c .delay ≡ 0) × In control K k (c .a) × In word K k (c .b)
-CellOk kWhenFalse K n k c = (c .delay ≡ 0) × In control K k (c .a) × In word K k (c .b)
-CellOk kMerge K n k c = (c .delay ≡ 0) × In control K k (c .a) × In control K k (c .b)
-CellOk kMemory K n k c = (c .delay ≡ 0) × In control K k (c .a) × In word K n (c .b)
-CellOk kGated K n k c = (c .delay ≡ 0) × In control K k (c .a) × In word K k (c .b)
-CellOk kUnknown K n k c = ⊥
-
-abbrev pub kinds : List Cell → ℕ → ℕ
-kinds net k = getD net k noCell .kind
-
+-- cell k of n, which is c, keeps the rules of its kind
 abbrev pub Ok : (ℕ → ℕ) → ℕ → ℕ → Cell → Type 0
-Ok K n k c = CellOk (shape (c .kind)) K n k c
-
-unfoldable pub CellsOk : List Cell → Type 0
-CellsOk net = (k : ℕ) → k < length net → Ok (kinds net) (length net) k (getD net k noCell)
+Ok K n k c = (stands (c .kind) k ≡ true) × Looks (cellRow (c .kind)) K n k c
 
 -- a run of cells has the kinds that K says
 abbrev pub HasKind : (ℕ → ℕ) → ℕ → Cell → Type 0
 HasKind K k c = K k ≡ c .kind
 
-op-shape : (k : ℕ) → 4 ≤ k → k ≤ 9 → shape k ≡ kOperator
-unfolding shape
-op-shape k h h′ = rw (is-true (leb 4 k) (le→leb 4 k h), is-true (leb k 9) (le→leb k 9 h′))
-
 op-word : (k : ℕ) → 4 ≤ k → k ≤ 9 → word k ≡ true
-unfolding word
-op-word k h h′ = rw (lt-leb 32 k (omega arith))
+unfolding word cellTable
+op-word k h h′ = ap (λ (sh : Shape). not (cellTable sh .row .control)) (operator-shape k h h′)
+
+op-ok : (K : ℕ → ℕ) (n k i a b : ℕ) → 4 ≤ k → k ≤ 9 → In word K i a → In word K i b → Ok K n i (cell k 0 a b)
+unfolding stands cellTable
+op-ok K n k i a b h h′ p q =
+    (rw (ne-eqb k 32 (λ e. omega arith), ne-eqb k 33 (λ e. omega arith)) refl, rw (cellRow, operator-shape k h h′) (refl, p, q))
 
 module _ (K : ℕ → ℕ) (n M : ℕ) (mem : (x : ℕ) → x < 16 → K (M + x) ≡ 40) where
   -- an expression's cells, and its wire
   e-ok : (e : Expr) → FormedExpr e → (c : ℕ) → M + 16 ≤ c → All (HasKind K) c (exprCells M e c)
       → All (Ok K n) c (exprCells M e c) × In word K (c + exprCount e) (exprWire M e c)
-  unfolding exprCells exprWire exprCount shape word
-  e-ok (const v) w c l h = (((refl, refl), tt), (omega arith, rw (h .0)))
+  unfolding exprCells exprWire exprCount shape cellTable stands word
+  e-ok (const v) w c l h = (((refl, (refl, tt, refl)), tt), (omega arith, rw (h .0)))
   e-ok (var x) w c l h = (tt, (omega arith, rw (mem x w)))
   e-ok (compl e) w c l h =
       let r = split (HasKind K) c (exprCount e) (exprCells M e c) (cell 3 0 (exprWire M e c) 0 ∷ []) (e-len M e c) h in
       let i = e-ok e w c l (r .0) in (
-        join (Ok K n) c (exprCount e) (exprCells M e c) (cell 3 0 (exprWire M e c) 0 ∷ []) (e-len M e c) (i .0) ((refl, i .1, refl), tt),
+        join (Ok K n) c (exprCount e) (exprCells M e c) (cell 3 0 (exprWire M e c) 0 ∷ []) (e-len M e c) (i .0) ((refl, (refl, i .1, refl)), tt),
         (omega arith, rw (r .1 .0)),
       )
   e-ok (op k e f) w c l h =
@@ -84,7 +56,7 @@ module _ (K : ℕ → ℕ) (n M : ℕ) (mem : (x : ℕ) → x < 16 → K (M + x)
       let q = split (HasKind K) cf (exprCount f) (exprCells M f cf) (o ∷ []) (e-len M f cf) (r .1) in
       let i = e-ok e (w .2) c l (r .0) in
       let j = e-ok f (w .3) cf (omega arith) (q .0) in
-      let this : Ok K n (cf + exprCount f) o = rw (op-shape k (w .0) (w .1)) (refl, (omega arith, i .1 .1), j .1) in (
+      let this : Ok K n (cf + exprCount f) o = op-ok K n k (cf + exprCount f) (exprWire M e c) (exprWire M f cf) (w .0) (w .1) (omega arith, i .1 .1) (j .1) in (
         join (Ok K n) c (exprCount e) (exprCells M e c) (exprCells M f cf ++ (o ∷ [])) (e-len M e c) (i .0)
             (join (Ok K n) cf (exprCount f) (exprCells M f cf) (o ∷ []) (e-len M f cf) (j .0) (this, tt)),
         (omega arith, rw (q .1 .0) (op-word k (w .0) (w .1))),
@@ -92,23 +64,23 @@ module _ (K : ℕ → ℕ) (n M : ℕ) (mem : (x : ℕ) → x < 16 → K (M + x)
 
   pulse-ok : (δ s d c : ℕ) → δ ≤ 255 → In control K c s → d + ifDelayCount δ ≤ c → c ≤ n → All (HasKind K) d (ifDelayCells δ s)
       → All (Ok K n) d (ifDelayCells δ s) × In control K c (ifPulse δ s d)
-  unfolding ifDelayCells ifDelayCount ifPulse shape control
+  unfolding ifDelayCells ifDelayCount ifPulse shape cellTable stands control
   pulse-ok zero s d c z i l l′ h = (tt, i)
-  pulse-ok (suc δ) s d c z i l l′ h = (((omega arith, z, (omega arith, i .1), refl), tt), (omega arith, rw (h .0)))
+  pulse-ok (suc δ) s d c z i l l′ h = (((refl, ((omega arith, z), (omega arith, i .1), refl)), tt), (omega arith, rw (h .0)))
 
   -- a statement's cells and its finish
   pub p-ok : (P : Stmt) → Formed P → Low P → (s d c : ℕ) → In control K c s → M + 16 ≤ c → d + delayCount P ≤ c → c + walkCount P ≤ n
       → All (HasKind K) d (delays P s d c) → All (HasKind K) c (walk M P s d c)
       → All (Ok K n) d (delays P s d c) × All (Ok K n) c (walk M P s d c) × In control K (c + walkCount P) (finishWire P s d c)
-  unfolding delays walk finishWire delayCount walkCount shape control
+  unfolding delays walk finishWire delayCount walkCount shape cellTable stands control
   p-ok ok w z s d c i lM ld lc hd hw = (tt, tt, (omega arith, i .1))
-  p-ok (tick δ) w z s d c i lM ld lc hd hw = (((z .0, z .1, (omega arith, i .1), refl), tt), tt, (omega arith, rw (hd .0)))
+  p-ok (tick δ) w z s d c i lM ld lc hd hw = (((refl, ((z .0, z .1), (omega arith, i .1), refl)), tt), tt, (omega arith, rw (hd .0)))
   p-ok (assign δ x e) w z s d c i lM ld lc hd hw =
       let o = cell 41 0 d (exprWire M e c) in
       let r = split (HasKind K) c (exprCount e) (exprCells M e c) (o ∷ []) (e-len M e c) hw in
       let ie = e-ok e (w .2) c lM (r .0) in (
-        ((z .0 .0, z .0 .1, (omega arith, i .1), refl), ((omega arith, omega arith, (omega arith, rw (hd .0)), refl), tt)),
-        join (Ok K n) c (exprCount e) (exprCells M e c) (o ∷ []) (e-len M e c) (ie .0) ((refl, (omega arith, rw (hd .0)), ie .1), tt),
+        ((refl, ((z .0 .0, z .0 .1), (omega arith, i .1), refl)), ((refl, ((omega arith, omega arith), (omega arith, rw (hd .0)), refl)), tt)),
+        join (Ok K n) c (exprCount e) (exprCells M e c) (o ∷ []) (e-len M e c) (ie .0) ((refl, (refl, (omega arith, rw (hd .0)), ie .1)), tt),
         (omega arith, rw (hd .1 .0)),
       )
   p-ok (seq P Q) w z s d c i lM ld lc hd hw =
@@ -134,7 +106,7 @@ module _ (K : ℕ → ℕ) (n M : ℕ) (mem : (x : ℕ) → x < 16 → K (M + x)
       let iQ = p-ok Q (w .1) (z .1) s dQ cQ (omega arith, i .1) (omega arith) (omega arith) (omega arith) (rd .1) (rm .0) in (
         join (Ok K n) d (delayCount P) (delays P s d c) (delays Q s dQ cQ) (d-len P s d c) (iP .0) (iQ .0),
         join (Ok K n) c (walkCount P) (walk M P s d c) (walk M Q s dQ cQ ++ (o ∷ [])) (w-len M P s d c) (iP .1)
-            (join (Ok K n) cQ (walkCount Q) (walk M Q s dQ cQ) (o ∷ []) (w-len M Q s dQ cQ) (iQ .1) ((refl, (omega arith, iP .2 .1), iQ .2), tt)),
+            (join (Ok K n) cQ (walkCount Q) (walk M Q s dQ cQ) (o ∷ []) (w-len M Q s dQ cQ) (iQ .1) ((refl, (refl, (omega arith, iP .2 .1), iQ .2)), tt)),
         (omega arith, rw (rm .1 .0)),
       )
   p-ok (ite δ e P Q) w z s d c i lM ld lc hd hw =
@@ -158,11 +130,11 @@ module _ (K : ℕ → ℕ) (n M : ℕ) (mem : (x : ℕ) → x < 16 → K (M + x)
         join (Ok K n) d (ifDelayCount δ) (ifDelayCells δ s) (delays P p dP cP ++ delays Q (p + 1) dQ cQ) (own-len δ s) (ip .0)
             (join (Ok K n) dP (delayCount P) (delays P p dP cP) (delays Q (p + 1) dQ cQ) (d-len P p dP cP) (iP .0) (iQ .0)),
         join (Ok K n) c (exprCount e) (exprCells M e c) (o6 ∷ (o7 ∷ (walk M P p dP cP ++ (walk M Q (p + 1) dQ cQ ++ (o ∷ []))))) (e-len M e c) (ie .0) (
-          (refl, (omega arith, ip .1 .1), ie .1),
+          (refl, (refl, (omega arith, ip .1 .1), ie .1)),
           (
-            (refl, (omega arith, ip .1 .1), (omega arith, ie .1 .1)),
+            (refl, (refl, (omega arith, ip .1 .1), (omega arith, ie .1 .1))),
             join (Ok K n) cP (walkCount P) (walk M P p dP cP) (walk M Q (p + 1) dQ cQ ++ (o ∷ [])) (w-len M P p dP cP) (iP .1)
-                (join (Ok K n) cQ (walkCount Q) (walk M Q (p + 1) dQ cQ) (o ∷ []) (w-len M Q (p + 1) dQ cQ) (iQ .1) ((refl, (omega arith, iP .2 .1), iQ .2), tt)),
+                (join (Ok K n) cQ (walkCount Q) (walk M Q (p + 1) dQ cQ) (o ∷ []) (w-len M Q (p + 1) dQ cQ) (iQ .1) ((refl, (refl, (omega arith, iP .2 .1), iQ .2)), tt)),
           ),
         ),
         (omega arith, rw (rQ .1 .0)),
@@ -177,12 +149,12 @@ module _ (K : ℕ → ℕ) (n M : ℕ) (mem : (x : ℕ) → x < 16 → K (M + x)
       let rP = split (HasKind K) cP (walkCount P) (walk M P p (d + 1) cP) (o ∷ []) (w-len M P p (d + 1) cP) (re .1 .1 .1) in
       let ie = e-ok e (w .1) c lM (re .0) in
       let iP = p-ok P (w .2) (z .2) p (d + 1) cP (omega arith, rw (re .1 .0)) (omega arith) (omega arith) (omega arith) (hd .1) (rP .0) in (
-        ((z .0 .0, z .0 .1, (omega arith, rw (rP .1 .0)), refl), iP .0),
+        ((refl, ((z .0 .0, z .0 .1), (omega arith, rw (rP .1 .0)), refl)), iP .0),
         join (Ok K n) c (exprCount e) (exprCells M e c) (o6 ∷ (o7 ∷ (walk M P p (d + 1) cP ++ (o ∷ [])))) (e-len M e c) (ie .0) (
-          (refl, (omega arith, rw (hd .0)), ie .1),
+          (refl, (refl, (omega arith, rw (hd .0)), ie .1)),
           (
-            (refl, (omega arith, rw (hd .0)), (omega arith, ie .1 .1)),
-            join (Ok K n) cP (walkCount P) (walk M P p (d + 1) cP) (o ∷ []) (w-len M P p (d + 1) cP) (iP .1) ((refl, (omega arith, i .1), iP .2), tt),
+            (refl, (refl, (omega arith, rw (hd .0)), (omega arith, ie .1 .1))),
+            join (Ok K n) cP (walkCount P) (walk M P p (d + 1) cP) (o ∷ []) (w-len M P p (d + 1) cP) (iP .1) ((refl, (refl, (omega arith, i .1), iP .2)), tt),
           ),
         ),
         (omega arith, rw (re .1 .1 .0)),
@@ -196,12 +168,12 @@ module _ (K : ℕ → ℕ) (n M : ℕ) (mem : (x : ℕ) → x < 16 → K (M + x)
       let re = split (HasKind K) c (exprCount e) (exprCells M e c) (o6 ∷ (o7 ∷ (o5 ∷ walk M P (p + 1 + 1) (d + 1) cP))) (e-len M e c) hw in
       let ie = e-ok e (w .1) c lM (re .0) in
       let iP = p-ok P (w .2) (z .2) (p + 1 + 1) (d + 1) cP (omega arith, rw (re .1 .1 .1 .0)) (omega arith) (omega arith) (omega arith) (hd .1) (re .1 .1 .1 .1) in (
-        ((z .0 .0, z .0 .1, (omega arith, iP .2 .1), refl), iP .0),
+        ((refl, ((z .0 .0, z .0 .1), (omega arith, iP .2 .1), refl)), iP .0),
         join (Ok K n) c (exprCount e) (exprCells M e c) (o6 ∷ (o7 ∷ (o5 ∷ walk M P (p + 1 + 1) (d + 1) cP))) (e-len M e c) (ie .0) (
-          (refl, (omega arith, rw (hd .0)), ie .1),
+          (refl, (refl, (omega arith, rw (hd .0)), ie .1)),
           (
-            (refl, (omega arith, rw (hd .0)), (omega arith, ie .1 .1)),
-            ((refl, (omega arith, i .1), (omega arith, rw (re .1 .1 .0))), iP .1),
+            (refl, (refl, (omega arith, rw (hd .0)), (omega arith, ie .1 .1))),
+            ((refl, (refl, (omega arith, i .1), (omega arith, rw (re .1 .1 .0)))), iP .1),
           ),
         ),
         (omega arith, rw (re .1 .0)),

@@ -15,10 +15,10 @@ use lib.WfN.{Nat·lt-wfRel}
 use Rattle.model.specs.declared.Cell.{Cell}
 use Rattle.model.specs.declared.Checked.the-variants.{Accepted}
 use Rattle.model.specs.Word.{pick, bit, operate, get16}
-use Rattle.model.specs.Circuit.{falls, cellAt, Values, level, memory, equation, startWord, Obeys, Shape, shape, kConstant, kComplement, kOperator, kStart, kGround, kDelay, kOr, kWhenTrue, kWhenFalse, kMerge, kMemory, kGated, kUnknown}
+use Rattle.model.specs.Circuit.{falls, cellAt, Values, level, memory, equation, startWord, Obeys, Shape, cellTable, shape, kConstant, kComplement, kOperator, kStart, kGround, kDelay, kOr, kWhenTrue, kWhenFalse, kMerge, kMemory, kGated, kUnknown}
 use Rattle.model.specs.NetlistFile.{cellFrom, cellsAt, inFile, cellsOf, countOf, finishOf, netCheck, fileCheck}
 use Rattle.model.specs.Promises.{Bytes}
-use Rattle.laws.specs.Circuit.Ordered.{Looks, Ordered}
+use Rattle.laws.specs.Circuit.Ordered.{Looks, kinds, Ordered}
 use Rattle.laws.specs.NetlistFile.Passed.{net-ordered, file-passed}
 use Rattle.laws.specs.Circuit.Shapes.{bit-le}
 
@@ -44,14 +44,14 @@ operate-word k x y h g =
 
 -- Cells --------------------------------------------------------------------------------------------------------------------------------
 
-module _ (n : ℕ) (W : Values) (first k : ℕ) (c : Cell) (a : c .a < 65536) (f : first < 65536) (l : k < n) where
+module _ (K : ℕ → ℕ) (n : ℕ) (W : Values) (first k : ℕ) (c : Cell) (a : c .a < 65536) (f : first < 65536) (l : k < n) where
   -- a cell shows a word if all cells did before and the lower ones do
-  equation-word : (s : Shape) (t : ℕ) → Looks s n k c → ((u : ℕ) → u < t → (j : ℕ) → j < n → W j u < 65536)
+  equation-word : (s : Shape) (t : ℕ) → Looks (cellTable s .row) K n k c → ((u : ℕ) → u < t → (j : ℕ) → j < n → W j u < 65536)
       → ((j : ℕ) → j < k → W j t < 65536) → equation s first W k c t < 65536
-  unfolding equation memory
+  unfolding equation memory cellTable
   equation-word kConstant t o past below = a
-  equation-word kComplement t o past below = operate-word 3 _ 0 (below (c .a) o) (omega arith)
-  equation-word kOperator t o past below = operate-word (c .kind) _ _ (below (c .a) (o .0)) (below (c .b) (o .1))
+  equation-word kComplement t o past below = operate-word 3 _ 0 (below (c .a) (o .1 .0)) (omega arith)
+  equation-word kOperator t o past below = operate-word (c .kind) _ _ (below (c .a) (o .1 .0)) (below (c .b) (o .2 .0))
   equation-word kStart t o past below = bit-word _
   equation-word kGround t o past below = omega arith
   equation-word kDelay t o past below = bit-word _
@@ -61,8 +61,8 @@ module _ (n : ℕ) (W : Values) (first k : ℕ) (c : Cell) (a : c .a < 65536) (f
   equation-word kMerge t o past below = bit-word _
   equation-word kMemory zero o past below = f
   equation-word kMemory (suc t) o past below =
-      pick-word (falls W (c .a) t) (past t (lt-suc-self t) (c .b) (o .1)) (past t (lt-suc-self t) k l)
-  equation-word kGated t o past below = pick-word (level W (c .a) t) (below (c .b) (o .1)) (omega arith)
+      pick-word (falls W (c .a) t) (past t (lt-suc-self t) (c .b) (o .2 .0)) (past t (lt-suc-self t) k l)
+  equation-word kGated t o past below = pick-word (level W (c .a) t) (below (c .b) (o .2 .0)) (omega arith)
   equation-word kUnknown t o past below = omega arith
 
 -- Netlists -----------------------------------------------------------------------------------------------------------------------------
@@ -77,7 +77,7 @@ wires-bounded net f e a words w W obeys k l t =
     (λ u past j. WellFounded·induction (Nat·lt-wfRel .wf) {C = λ j. j < length net → W j u < 65536} j
     (λ j below lj.
     rw (obeys j lj u)
-    (equation-word (length net) W (startWord net words j) j (cellAt net j) (a j lj) (w _) lj (shape (cellAt net j .kind)) u
+    (equation-word (kinds net) (length net) W (startWord net words j) j (cellAt net j) (a j lj) (w _) lj (shape (cellAt net j .kind)) u
     (net-ordered net f e j lj) past (λ i li. below i li (omega arith)))))
     k l
 

@@ -15,7 +15,7 @@ use Rattle.model.specs.Circuit.{Values, startWord, noCell, Obeys}
 use Rattle.laws.specs.Numbering.Cells.{cellVal}
 use Rattle.laws.specs.Refusals.Laws.{is-true, is-false}
 use Rattle.theory.specs.Circuit.Unique.{Before, cell-cong}
-use Rattle.laws.specs.Circuit.Ordered.{Ordered}
+use Rattle.laws.specs.Circuit.Ordered.{kinds, Ordered}
 
 -- the values, with v for that of cell k at instant t
 put : Values → ℕ → ℕ → ℕ → Values
@@ -83,4 +83,4 @@ module _ (net : List Cell) (words : ℕ → ℕ) where
   unfolding Obeys Ordered solution table cellVal
   solution-obeys o k l t =
       fill-cell (table t) t (length net) k l
-      ∙ cell-cong (length net) (fill (table t) t k) solution (startWord net words k) k (getD net k noCell) t l (o k l) (so-far t k l)
+      ∙ cell-cong (length net) (fill (table t) t k) solution (kinds net) (startWord net words k) k (getD net k noCell) t l (o k l) (so-far t k l)

@@ -8,13 +8,13 @@ use native.Mathlib.Nat.{not-suc-le-zero, le-of-suc-le-suc, eq-or-lt-of-le, le-re
 use native.Mathlib.Omega.{arith}
 use lib.Dec.{eqb, leb, leb→le}
 use lib.ListN.{length, getD}
-use Rattle.laws.specs.Circuit.Ordered.{Looks, Ordered}
+use Rattle.laws.specs.Circuit.Ordered.{Looks, kinds, Ordered}
 use Rattle.model.specs.Word.{pick}
 use Rattle.model.specs.Circuit.{delayed, merged}
 use Rattle.model.specs.Circuit.{mergeStep, heldBefore}
 use Rattle.model.specs.Word.{operate}
 use Rattle.model.specs.declared.Cell.{Cell}
-use Rattle.model.specs.Circuit.{Values, level, memory, Shape, shape, equation, startWord, noCell, Obeys}
+use Rattle.model.specs.Circuit.{Values, level, memory, Shape, cellTable, shape, cellRow, equation, startWord, noCell, Obeys}
 use Rattle.model.specs.Word.{bit}
 use Rattle.laws.specs.Numbering.Cells.{cellVal}
 use Rattle.model.specs.Circuit.{kConstant, kComplement, kOperator, kStart, kGround, kDelay, kOr, kWhenTrue, kWhenFalse, kMerge, kMemory, kGated, kUnknown}
@@ -68,28 +68,28 @@ module _ (n : ℕ) (U W : Values) where
       let e₄ : U k t ≡ W k t = h .0 t (le-refl (suc t)) k l in
       rw (e₁, e₂, e₃, e₄)
 
-  pub shape-cong : (s : Shape) (first k : ℕ) (c : Cell) (t : ℕ) → k < n → Looks s n k c → Before t k
+  pub shape-cong : (K : ℕ → ℕ) (s : Shape) (first k : ℕ) (c : Cell) (t : ℕ) → k < n → Looks (cellTable s .row) K n k c → Before t k
       → equation s first U k c t ≡ equation s first W k c t
-  unfolding equation
-  shape-cong kConstant first k c t l o h = refl
-  shape-cong kComplement first k c t l o h = ap (λ (x : ℕ). operate 3 x 0) (h .1 (c .a) o)
-  shape-cong kOperator first k c t l o h = ap₂ (λ (x y : ℕ). operate (c .kind) x y) (h .1 (c .a) (o .0)) (h .1 (c .b) (o .1))
-  shape-cong kStart first k c t l o h = refl
-  shape-cong kGround first k c t l o h = refl
-  shape-cong kDelay first k c t l o h = ap bit (delayed-here (c .delay) (c .a) t (o .0) (λ u lu. h .0 u lu (c .a) (o .2)))
-  shape-cong kOr first k c t l o h = ap₂ (λ (x y : ℕ). bit (eqb x 1 || eqb y 1)) (h .1 (c .a) (o .0)) (h .1 (c .b) (o .1))
-  shape-cong kWhenTrue first k c t l o h = ap₂ (λ (x y : ℕ). bit (eqb x 1 && not (eqb y 0))) (h .1 (c .a) (o .0)) (h .1 (c .b) (o .1))
-  shape-cong kWhenFalse first k c t l o h = ap₂ (λ (x y : ℕ). bit (eqb x 1 && eqb y 0)) (h .1 (c .a) (o .0)) (h .1 (c .b) (o .1))
-  shape-cong kMerge first k c t l o h =
-      ap bit (merged-cong (c .a) (c .b) t (upto t k l h (c .a) (o .0)) (upto t k l h (c .b) (o .1)))
-  shape-cong kMemory first k c t l o h = mem-cong first t k c l (o .0) (o .1) h
-  shape-cong kGated first k c t l o h = ap₂ (λ (x y : ℕ). pick (eqb x 1) y 0) (h .1 (c .a) (o .0)) (h .1 (c .b) (o .1))
-  shape-cong kUnknown first k c t l o h = refl
+  unfolding equation cellTable
+  shape-cong K kConstant first k c t l o h = refl
+  shape-cong K kComplement first k c t l o h = ap (λ (x : ℕ). operate 3 x 0) (h .1 (c .a) (o .1 .0))
+  shape-cong K kOperator first k c t l o h = ap₂ (λ (x y : ℕ). operate (c .kind) x y) (h .1 (c .a) (o .1 .0)) (h .1 (c .b) (o .2 .0))
+  shape-cong K kStart first k c t l o h = refl
+  shape-cong K kGround first k c t l o h = refl
+  shape-cong K kDelay first k c t l o h = ap bit (delayed-here (c .delay) (c .a) t (o .0 .0) (λ u lu. h .0 u lu (c .a) (o .1 .0)))
+  shape-cong K kOr first k c t l o h = ap₂ (λ (x y : ℕ). bit (eqb x 1 || eqb y 1)) (h .1 (c .a) (o .1 .0)) (h .1 (c .b) (o .2 .0))
+  shape-cong K kWhenTrue first k c t l o h = ap₂ (λ (x y : ℕ). bit (eqb x 1 && not (eqb y 0))) (h .1 (c .a) (o .1 .0)) (h .1 (c .b) (o .2 .0))
+  shape-cong K kWhenFalse first k c t l o h = ap₂ (λ (x y : ℕ). bit (eqb x 1 && eqb y 0)) (h .1 (c .a) (o .1 .0)) (h .1 (c .b) (o .2 .0))
+  shape-cong K kMerge first k c t l o h =
+      ap bit (merged-cong (c .a) (c .b) t (upto t k l h (c .a) (o .1 .0)) (upto t k l h (c .b) (o .2 .0)))
+  shape-cong K kMemory first k c t l o h = mem-cong first t k c l (o .1 .0) (o .2 .0) h
+  shape-cong K kGated first k c t l o h = ap₂ (λ (x y : ℕ). pick (eqb x 1) y 0) (h .1 (c .a) (o .1 .0)) (h .1 (c .b) (o .2 .0))
+  shape-cong K kUnknown first k c t l o h = refl
 
-  pub cell-cong : (first k : ℕ) (c : Cell) (t : ℕ) → k < n → Looks (shape (c .kind)) n k c → Before t k
+  pub cell-cong : (K : ℕ → ℕ) (first k : ℕ) (c : Cell) (t : ℕ) → k < n → Looks (cellRow (c .kind)) K n k c → Before t k
       → cellVal first U k c t ≡ cellVal first W k c t
   unfolding cellVal
-  cell-cong first k c t l o h = shape-cong (shape (c .kind)) first k c t l o h
+  cell-cong K first k c t l o h = shape-cong K (shape (c .kind)) first k c t l o h
 
 module _ (net : List Cell) (o : Ordered net) (words : ℕ → ℕ) (U W : Values) (hV : Obeys net words U) (hW : Obeys net words W) where
   -- at instant t, if they are equal before
@@ -100,7 +100,7 @@ module _ (net : List Cell) (o : Ordered net) (words : ℕ → ℕ) (U W : Values
       let ih = row t h k (omega arith) in
       ⊎-elim (λ (e : j ≡ k).
       rw e
-      (hV k l t ∙ cell-cong (length net) U W (startWord net words k) k (getD net k noCell) t l (o k l) (h, ih) ∙ sym (hW k l t)))
+      (hV k l t ∙ cell-cong (length net) U W (kinds net) (startWord net words k) k (getD net k noCell) t l (o k l) (h, ih) ∙ sym (hW k l t)))
       (λ (lt : j < k). ih j lt) (eq-or-lt-of-le (le-of-suc-le-suc lj))
 
   rows : (t : ℕ) (u : ℕ) → u < t → (j : ℕ) → j < length net → U j u ≡ W j u

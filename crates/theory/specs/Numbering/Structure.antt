@@ -3,11 +3,11 @@ use mathlib.Core.Path.{_≡_, refl, sym, ap, ap₂, _∙_}
 use mathlib.Core.Bool.{Bool, true, false, _&&_, _||_, not}
 use mathlib.Core.List.{[], _∷_, _++_}
 use Prim.Native.Nat.{ℕ, zero, suc, _+_, _<_, _≤_}
-use lib.Dec.{eqb, leb, le→leb}
+use lib.Dec.{eqb}
 use borrow.Author.Tests.{eq-eqb, ne-eqb, eqb-true, eqb-false}
 use lib.Bits.{or-zero-r}
 use Rattle.laws.specs.Numbering.Lengths.{e-len, own-len, d-len, w-len}
-use Rattle.laws.specs.Refusals.Laws.{is-true}
+use Rattle.laws.specs.Circuit.Shapes.{operator-shape}
 use Rattle.model.specs.Word.{pick}
 use Rattle.model.specs.Program.{Expr, const, var, compl, op, Stmt, ok, tick, assign, seq, par, ite, while, repeat}
 use Rattle.model.specs.Circuit.{delayed, merged}
@@ -18,14 +18,14 @@ use Rattle.model.specs.Rules.{eval}
 use Rattle.model.specs.Word.{operate, isZero}
 use Rattle.model.specs.Circuit.{cell}
 use Rattle.model.specs.Numbering.{exprCount, exprWire, exprCells, ifDelayCount, ifPulse, ifDelayCells, delayCount, walkCount, finishWire, delays, walk, clockSources, dataSources, wiresOf}
-use Rattle.model.specs.Circuit.{Values, level}
+use Rattle.model.specs.Circuit.{Values, level, Shape, equation}
 use Rattle.model.specs.Word.{bit}
 use Rattle.laws.specs.Numbering.Cells.{cellVal, Rule, Obeyed, split}
 use Rattle.theory.specs.Numbering.Levels.{level-of, delayed-cong, delayed-zero, anyHigh, allOr, clkOf, datOf, givesOf, joined, ||-false}
 
 op-rule : (first : ℕ) (W : Values) (p k x y t : ℕ) → 4 ≤ k → k ≤ 9 → cellVal first W p (cell k 0 x y) t ≡ operate k (W x t) (W y t)
 unfolding cellVal
-op-rule first W p k x y t h h′ = rw (is-true (leb 4 k) (le→leb 4 k h), is-true (leb k 9) (le→leb k 9 h′))
+op-rule first W p k x y t h h′ = ap (λ (sh : Shape). equation sh first W p (cell k 0 x y) t) (operator-shape k h h′)
 
 module _ (first : ℕ → ℕ) (W : Values) (M : ℕ) (m : ℕ → ℕ → ℕ) (shows : (x t : ℕ) → x < 16 → m t x ≡ W (M + x) t) where
   pub expr : (e : Expr) → FormedExpr e → (c : ℕ) → Obeyed first W c (exprCells M e c) → (t : ℕ) → W (exprWire M e c) t ≡ eval e (m t)

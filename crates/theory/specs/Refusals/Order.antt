@@ -19,7 +19,7 @@ use Rattle.model.specs.Word.{pick}
 use Rattle.model.specs.Refusals.{refuse, refuseIf, first, firstFault, faultIf}
 use Rattle.model.specs.Program.{timeIn, nodeAt, nodesAt, nodeCount, rowOf, unusedSet, nodeFault, children, reading, delayFault, conflictFault, conflicts, stmtAt, least, programLengthWrong, programChecks, checkOf, programOf}
 use Rattle.model.specs.Rules.{Run, ended, still, run}
-use Rattle.model.specs.Circuit.{high, cellAt, control, shape, memories}
+use Rattle.model.specs.Circuit.{high, cellAt, control, memories}
 use Rattle.model.specs.Numbering.{finish}
 use Rattle.model.specs.NetlistFile.{wordSum, blockAt, headerRight, placed, keeps, fileLengthWrong, sumFault, countWrong, headerFault, cellFault, netChecks, netCheck, fileChecks, fileCheck, blocksFor, fileOf, cellBytes, cellsOf, countOf, finishOf}
 use Rattle.model.specs.TimeTables.{byteWrong, tableFault, tableSumWrong, tableChecks, TimeTable, builtIn, given, load}
@@ -141,7 +141,7 @@ unfolding netCheck cellFault
 net-gives net f =
     gives-first 12 12 ((12, 12) ∷ (12, 12) ∷ (12, 12) ∷ []) (netChecks net f) refl (
       gives-fault 12 12 (cellFault net) (length net)
-          (λ i. let c = cellAt net i in faulty-if (not (placed i c && keeps (shape (c .kind)) net i c)) 12),
+          (λ i. let c = cellAt net i in faulty-if (not (placed i c && keeps net i c)) 12),
       (gives-if (not (eqb (memories net) 16)) 12 (length net), (gives-if (not (control (cellAt net f .kind))) 12 f, tt)),
     )
 

@@ -15,11 +15,11 @@ use Rattle.laws.specs.State.Passes.{cleared-zero, begin-header, begin-instant}
 use Rattle.model.specs.declared.Cell.{Cell}
 use Rattle.model.specs.declared.Merge.{Merge}
 use Rattle.model.specs.Word.{pick, bit, isZero, operate, get16}
-use Rattle.model.specs.Circuit.{cellAt, Sig, Values, high, level, delayed, mergeStep, heldBefore, merged, memory, equation, startWord, Obeys, Shape, shape, kConstant, kComplement, kOperator, kStart, kGround, kDelay, kOr, kWhenTrue, kWhenFalse, kMerge, kMemory, kGated, kUnknown}
+use Rattle.model.specs.Circuit.{cellAt, Sig, Values, high, level, delayed, mergeStep, heldBefore, merged, memory, equation, startWord, Obeys, Shape, cellTable, shape, kConstant, kComplement, kOperator, kStart, kGround, kDelay, kOr, kWhenTrue, kWhenFalse, kMerge, kMemory, kGated, kUnknown}
 use Rattle.model.specs.State.{base, instantOf, nowAt, beforeAt, heldAt, lineBit, nextValue, value, firstValue, holding, settle, beginState, stepState}
 use Rattle.model.specs.Promises.{earlier}
 use Rattle.theory.specs.Numbering.Levels.{delayed-zero}
-use Rattle.laws.specs.Circuit.Ordered.{Looks, Ordered}
+use Rattle.laws.specs.Circuit.Ordered.{Looks, kinds, Ordered}
 use Rattle.laws.specs.Circuit.Shapes.{start-kind, delay-kind, merge-kind, memory-kind, bit-le}
 use Rattle.laws.specs.State.Passes.{shapeAt, shifted-frame, holding-frame, count-now, one, length-one, one-high, before-one, two, three, length-three, after, third-at, third-own, now-after, seen-now, seen-before, seen-held, seen-line, before-after, held-after, Line, line-new, line-old, line-bytes, step-is, header-kept}
 
@@ -42,36 +42,44 @@ delayed-more d x t = go (decLe d t)
 -- A cell's value -----------------------------------------------------------------------------------------------------------------------------------
 
 -- what a cell shows in the second pass is what its equation says at instant T, if lower cells show theirs; s is the state in that pass
-module _ (W : Values) (T first k n : ℕ) (c : Cell) (s : List ℕ) (lower : (a : ℕ) → a < k → nowAt s a ≡ W a T) where
-  later-is : (sh : Shape) → Looks sh n k c
+module _ (W : Values) (K : ℕ → ℕ) (T first k n : ℕ) (c : Cell) (s : List ℕ) (lower : (a : ℕ) → a < k → nowAt s a ≡ W a T) where
+  later-is : (sh : Shape) → Looks (cellTable sh .row) K n k c
       → (sh ≡ kStart → 0 ≡ bit (eqb T 0))
       → (sh ≡ kDelay → lineBit s k (c .delay - 1) ≡ bit (delayed (c .delay) (level W (c .a)) T))
       → (sh ≡ kMerge → heldAt s k ≡ heldBefore (level W (c .a)) (level W (c .b)) T)
       → (sh ≡ kMemory → nextValue kMemory s k c ≡ memory first W k c T)
       → nextValue sh s k c ≡ equation sh first W k c T
-  unfolding nextValue equation merged
+  unfolding nextValue equation merged cellTable
   later-is kConstant o p q r m = refl
-  later-is kComplement o p q r m = ap (λ (x : ℕ). operate 3 x 0) (lower (c .a) o)
-  later-is kOperator o p q r m = ap₂ (λ (x y : ℕ). operate (c .kind) x y) (lower (c .a) (o .0)) (lower (c .b) (o .1))
+  later-is kComplement o p q r m = ap (λ (x : ℕ). operate 3 x 0) (lower (c .a) (o .1 .0))
+  later-is kOperator o p q r m = ap₂ (λ (x y : ℕ). operate (c .kind) x y) (lower (c .a) (o .1 .0)) (lower (c .b) (o .2 .0))
   later-is kStart o p q r m = p refl
   later-is kGround o p q r m = refl
   later-is kDelay o p q r m = q refl
-  later-is kOr o p q r m = ap₂ (λ (x y : ℕ). bit (high x || high y)) (lower (c .a) (o .0)) (lower (c .b) (o .1))
-  later-is kWhenTrue o p q r m = ap₂ (λ (x y : ℕ). bit (high x && not (isZero y))) (lower (c .a) (o .0)) (lower (c .b) (o .1))
-  later-is kWhenFalse o p q r m = ap₂ (λ (x y : ℕ). bit (high x && isZero y)) (lower (c .a) (o .0)) (lower (c .b) (o .1))
-  later-is kMerge o p q r m = rw (r refl, lower (c .a) (o .0), lower (c .b) (o .1))
+  later-is kOr o p q r m = ap₂ (λ (x y : ℕ). bit (high x || high y)) (lower (c .a) (o .1 .0)) (lower (c .b) (o .2 .0))
+  later-is kWhenTrue o p q r m = ap₂ (λ (x y : ℕ). bit (high x && not (isZero y))) (lower (c .a) (o .1 .0)) (lower (c .b) (o .2 .0))
+  later-is kWhenFalse o p q r m = ap₂ (λ (x y : ℕ). bit (high x && isZero y)) (lower (c .a) (o .1 .0)) (lower (c .b) (o .2 .0))
+  later-is kMerge o p q r m = rw (r refl, lower (c .a) (o .1 .0), lower (c .b) (o .2 .0))
   later-is kMemory o p q r m = m refl
-  later-is kGated o p q r m = ap₂ (λ (x y : ℕ). pick (high x) y 0) (lower (c .a) (o .0)) (lower (c .b) (o .1))
+  later-is kGated o p q r m = ap₂ (λ (x y : ℕ). pick (high x) y 0) (lower (c .a) (o .1 .0)) (lower (c .b) (o .2 .0))
   later-is kUnknown o p q r m = refl
 
-merge-looks : (sh : Shape) (n k : ℕ) (c : Cell) → sh ≡ kMerge → Looks sh n k c → (c .a < k) × (c .b < k)
-merge-looks sh n k c e o = rw e at o
+-- what a cell of a known shape looks at
+looks-as : (K : ℕ → ℕ) (n k : ℕ) (c : Cell) {sh known : Shape} → sh ≡ known → Looks (cellTable sh .row) K n k c → Looks (cellTable known .row) K n k c
+looks-as K n k c e o = rw e at o
 
-delay-looks : (sh : Shape) (n k : ℕ) (c : Cell) → sh ≡ kDelay → Looks sh n k c → (1 ≤ c .delay) × (c .delay ≤ 255) × (c .a < n)
-delay-looks sh n k c e o = rw e at o
+module _ (K : ℕ → ℕ) (n k : ℕ) (c : Cell) {sh : Shape} where
+  merge-looks : sh ≡ kMerge → Looks (cellTable sh .row) K n k c → (c .a < k) × (c .b < k)
+  unfolding cellTable
+  merge-looks e o = let (d, a, b) = looks-as K n k c e o in (a .0, b .0)
 
-mem-looks : (sh : Shape) (n k : ℕ) (c : Cell) → sh ≡ kMemory → Looks sh n k c → (c .a < k) × (c .b < n)
-mem-looks sh n k c e o = rw e at o
+  delay-looks : sh ≡ kDelay → Looks (cellTable sh .row) K n k c → (1 ≤ c .delay) × (c .delay ≤ 255) × (c .a < n)
+  unfolding cellTable
+  delay-looks e o = let (d, a, b) = looks-as K n k c e o in (d .0, d .1, a .0)
+
+  mem-looks : sh ≡ kMemory → Looks (cellTable sh .row) K n k c → (c .a < k) × (c .b < n)
+  unfolding cellTable
+  mem-looks e o = let (d, a, b) = looks-as K n k c e o in (a .0, b .0)
 
 -- Bytes without a use ------------------------------------------------------------------------------------------------------------------------------
 
@@ -180,14 +188,14 @@ module _ (net : List Cell) (ordered : Ordered net) (words : ℕ → ℕ) (W : Va
       → heldAt (after net v u) k ≡ heldBefore (level W (cellAt net k .a)) (level W (cellAt net k .b)) (suc T)
   unfolding heldBefore Ordered
   held-is k h e r =
-      let o = merge-looks (shapeAt net k) (length net) k (cellAt net k) e (ordered k h) in
+      let o = merge-looks (kinds net) (length net) k (cellAt net k) e (ordered k h) in
       held-after net v u room k h e
       ∙ rw (r, now-is (cellAt net k .a) (omega arith), now-is (cellAt net k .b) (omega arith))
 
   newest-is : (k : ℕ) → k < length net → (e : shapeAt net k ≡ kDelay) → Line u k → lineBit (after net v u) k 0 ≡ bit (delayed 0 (level W (cellAt net k .a)) T)
   unfolding Ordered
   newest-is k h e b =
-      let o = delay-looks (shapeAt net k) (length net) k (cellAt net k) e (ordered k h) in
+      let o = delay-looks (kinds net) (length net) k (cellAt net k) e (ordered k h) in
       line-new net v u room k h e b
       ∙ ap (λ (x : ℕ). bit (high x)) (now-is (cellAt net k .a) (o .2))
       ∙ ap bit (sym (delayed-zero (level W (cellAt net k .a)) T))
@@ -251,7 +259,7 @@ module _ (net : List Cell) (ordered : Ordered net) (words : ℕ → ℕ) (W : Va
     unfolding Ordered
     step-delay k h e =
         let c = cellAt net k in
-        let o = delay-looks (shapeAt net k) (length net) k c e (ordered k h) in
+        let o = delay-looks (kinds net) (length net) k c e (ordered k h) in
         let d : c .delay - 1 + 1 ≡ c .delay = omega (arith, o .0) in
         seen-line v U k k (c .delay - 1) (omega (arith, o .1))
         ∙ line-U k h e (c .delay - 1) (omega (arith, o .1))
@@ -262,7 +270,7 @@ module _ (net : List Cell) (ordered : Ordered net) (words : ℕ → ℕ) (W : Va
     unfolding nextValue memory Ordered
     step-memory k h lower e =
         let c = cellAt net k in
-        let o = mem-looks (shapeAt net k) (length net) k c e (ordered k h) in
+        let o = mem-looks (kinds net) (length net) k c e (ordered k h) in
         let A : beforeAt (two v U k) (c .a) ≡ W (c .a) t = seen-before v U k (c .a) ∙ before-U (c .a) (omega (arith, o .0)) in
         let B : beforeAt (two v U k) (c .b) ≡ W (c .b) t = seen-before v U k (c .b) ∙ before-U (c .b) (o .1) in
         let K : beforeAt (two v U k) k ≡ W k t = seen-before v U k k ∙ before-U k h in
@@ -271,7 +279,7 @@ module _ (net : List Cell) (ordered : Ordered net) (words : ℕ → ℕ) (W : Va
     step-first : (k : ℕ) → k < length net → ((a : ℕ) → a < k → nowAt (two v U k) a ≡ W a (suc t)) → v (two v U k) k ≡ W k (suc t)
     unfolding Obeys Ordered v
     step-first k h lower =
-        later-is W (suc t) (startWord net words k) k (length net) (cellAt net k) (two (value net) U k) lower (shapeAt net k) (ordered k h)
+        later-is W (kinds net) (suc t) (startWord net words k) k (length net) (cellAt net k) (two (value net) U k) lower (shapeAt net k) (ordered k h)
         (λ e. no-start) (step-delay k h) (λ e. seen-held (value net) U k k ∙ held-U k h e) (step-memory k h lower)
         ∙ sym (obeys k h (suc t))
 
@@ -402,7 +410,7 @@ module _ (net : List Cell) (ordered : Ordered net) (words : ℕ → ℕ) (W : Va
   unfolding Ordered
   begin-delay k h e =
       let c = cellAt net k in
-      let o = delay-looks (shapeAt net k) (length net) k c e (ordered k h) in
+      let o = delay-looks (kinds net) (length net) k c e (ordered k h) in
       seen-line w Z k k (c .delay - 1) (omega (arith, o .1))
       ∙ line-Z k h (c .delay - 1) (omega (arith, o .1))
       ∙ early (c .delay) (level W (c .a)) (o .0)
@@ -422,7 +430,7 @@ module _ (net : List Cell) (ordered : Ordered net) (words : ℕ → ℕ) (W : Va
           rw (e, f) (sym (memory-equation (shapeAt net k) (startWord net words k) W k (cellAt net k) (memory-shape kind (eqb-true kind 40 f))))
       go false false e f =
           rw (e, f)
-          (later-is W 0 (startWord net words k) k (length net) (cellAt net k) (two w Z k) lower (shapeAt net k) (ordered k h)
+          (later-is W (kinds net) 0 (startWord net words k) k (length net) (cellAt net k) (two w Z k) lower (shapeAt net k) (ordered k h)
           (λ z. absurd (eqb-false kind 32 e (start-kind kind z))) (begin-delay k h) (λ z. seen-held w Z k k ∙ held-Z k h)
           (λ z. absurd (eqb-false kind 40 f (memory-kind kind z))))
 

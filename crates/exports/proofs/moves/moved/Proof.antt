@@ -7,9 +7,17 @@ use Rattle.exports.proofs.moves.moved.Tie as tie
 
 returns : tie.Need-returns
 unfolding moved
-returns c = rw (c .renumbered2 .ensures, c .before .names-b .ensures, c .before .before .renumbered .ensures, c .before .before .before .names-a .ensures) refl
+returns c =
+    rw (
+      c .renumbered2 .ensures,
+      c .before .names2 .ensures,
+      c .before .before .renumbered .ensures,
+      c .before .before .before .names .ensures,
+      c .before .before .before .before .cell-row .ensures,
+    )
+    refl
 
 pub moved-spec : {M : Type 1} → statement M
 moved-spec =
     tie.close
-    (tie.spec (λ c κs. search needs) (λ c κs. search needs) (λ c κs. search needs) (λ c κs. search needs) returns)
+    (tie.spec (λ c κs. search needs) (λ c κs. search needs) (λ c κs. search needs) (λ c κs. search needs) (λ c κs. search needs) returns)

@@ -1,0 +1,62 @@
+// The table of cell kinds in code, and what it tells of a kind and of a use.
+// Each contract is an equation with model/Circuit.
+ghost use mathlib.Core.Path.{_≡_};
+ghost use Rattle.model.specs.Circuit.{row, cellRow, control, names};
+use model::kinds::CellRow;
+use model::kinds::Use;
+
+// A row of the table in one line.
+fn row(control: bool, delay: Use, a: Use, b: Use) -> CellRow
+    ensures { λ r. ⌜ r ≡ row control delay a b ⌝ }
+{
+    CellRow {
+        control,
+        delay,
+        a,
+        b,
+    }
+}
+
+// The table: the row of a kind.
+pub fn cell_row(kind: u8) -> CellRow
+    ensures { λ r. ⌜ r ≡ cellRow kind ⌝ }
+{
+    match kind {
+        1 => row(false, Use::Unused, Use::Value, Use::Unused),
+        3 => row(false, Use::Unused, Use::WordBelow, Use::Unused),
+        4..=9 => row(false, Use::Unused, Use::WordBelow, Use::WordBelow),
+        32 => row(true, Use::Unused, Use::Unused, Use::Unused),
+        33 => row(true, Use::Unused, Use::Unused, Use::Unused),
+        34 => row(true, Use::Positive, Use::ControlAny, Use::Unused),
+        35 => row(true, Use::Unused, Use::ControlBelow, Use::ControlBelow),
+        36 => row(true, Use::Unused, Use::ControlBelow, Use::WordBelow),
+        37 => row(true, Use::Unused, Use::ControlBelow, Use::WordBelow),
+        38 => row(true, Use::Unused, Use::ControlBelow, Use::ControlBelow),
+        40 => row(false, Use::Unused, Use::ControlBelow, Use::WordAny),
+        41 => row(false, Use::Unused, Use::ControlBelow, Use::WordBelow),
+        _ => row(false, Use::Unknown, Use::Unknown, Use::Unknown),
+    }
+}
+
+pub fn is_control(kind: u8) -> bool
+    ensures { λ r. ⌜ r ≡ control kind ⌝ }
+{
+    let row = cell_row(kind);
+    row.control
+}
+
+// Whether a field of this use is the number of a cell.
+pub fn names(u: Use) -> bool
+    ensures { λ r. ⌜ r ≡ names u ⌝ }
+{
+    match u {
+        Use::Unknown => false,
+        Use::Unused => false,
+        Use::Value => false,
+        Use::Positive => false,
+        Use::ControlBelow => true,
+        Use::ControlAny => true,
+        Use::WordBelow => true,
+        Use::WordAny => true,
+    }
+}

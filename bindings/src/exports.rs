@@ -36,7 +36,7 @@ macro_rules! exports {
     )*};
 }
 
-// crates/hub/src/exports.rt; the definitions are those of model/Calls and
+// crates/exports/src/calls.rt; the definitions are those of model/Calls and
 // model/TextCalls. A call under a table of operator times has that table in
 // front.
 exports! {
@@ -107,7 +107,7 @@ exports! {
     );
 }
 
-// crates/cells/src; the definitions are those of model/CellSlices.
+// crates/exports/src/lib.rt and moves.rt; the definitions are those of model/CellSlices.
 exports! {
     /// checkCellsCall
     hub_check_cells(cells: &[Cell], finish: u16, reply: &mut [u8]);

@@ -1,6 +1,6 @@
 //! The 48 bytes of a reply, as crates/reply/specs/Replies.antt tells them.
 
-use values::{Refusal, Words};
+use values::{Answer, End, Refusal, Shape, Words};
 
 const LENGTH: usize = 48;
 
@@ -59,4 +59,54 @@ impl Reply {
             }),
         }
     }
+}
+
+/// The reply of a call that isn't refused.
+pub(crate) fn accepted(call: impl FnOnce(&mut [u8]) -> bool) -> Result<Reply, Refusal> {
+    let told = replied(call);
+    told.refusal().map_or(Ok(told), Err)
+}
+
+/// The shape of a netlist that a call wrote to a file: the reply tells the
+/// file's length, the file its number of cells.
+pub(crate) fn written(told: Reply, file: &[u8]) -> Shape {
+    let cells = u16::from_le_bytes([file[2], file[3]]);
+    let length = 512 * u32::from(cells).div_ceil(84);
+    assert_eq!(told.first, length, "the bytes written");
+    let finish = two_bytes(told.second);
+    Shape { cells, finish }
+}
+
+/// The shape of a netlist that a call read.
+pub(crate) fn shape(told: Reply) -> Shape {
+    Shape {
+        cells: two_bytes(told.first),
+        finish: two_bytes(told.second),
+    }
+}
+
+fn two_bytes(number: u32) -> u16 {
+    number.try_into().expect("a number of two bytes")
+}
+
+pub(crate) fn answer(told: Reply) -> Answer {
+    Answer {
+        ended: told.kind == Kind::Ended,
+        instant: told.first,
+        count: told.second,
+        words: told.words,
+    }
+}
+
+/// The end that a reference run tells. An open answer is held against
+/// model/Calls here: it shows the budget, one instant more as its count, and no
+/// words.
+pub(crate) fn end(told: Reply, budget: u32) -> Option<End> {
+    let (instant, words) = (told.first, told.words);
+    assert_eq!(told.second, instant + 1, "the count of a reference run");
+    if told.kind == Kind::Ended {
+        return Some(End { instant, words });
+    }
+    assert_eq!((instant, words), (budget, [0; 16]));
+    None
 }

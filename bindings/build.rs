@@ -3,7 +3,7 @@
 use std::path::Path;
 
 fn main() {
-    let folder = Path::new(env!("CARGO_MANIFEST_DIR")).join("../../target/staticlib");
+    let folder = Path::new(env!("CARGO_MANIFEST_DIR")).join("../target/staticlib");
     let archive = folder.join("libexports.a");
     assert!(
         archive.exists(),

@@ -1,0 +1,54 @@
+//! `hub help`: the commands, or one of them with an example.
+
+use super::{named, Command, Stop, COMMANDS};
+use crate::args::{Args, Options};
+use crate::types::Done;
+
+pub const COMMAND: Command = Command {
+    name: "help",
+    usage: "[COMMAND]",
+    about: "lists the commands, or tells one with an example",
+    more: "",
+    example: "hub help run",
+    options: Options {
+        valued: &[],
+        flags: &[],
+    },
+    run,
+};
+
+fn run(args: &Args) -> Result<Done, Stop> {
+    if args.given.is_empty() {
+        return Ok(Done::printing(overview() + "\n"));
+    }
+    let [name] = args.exactly(["COMMAND"])?;
+    Ok(Done::printing(of(named(name)?)))
+}
+
+/// The list of the commands, without the last line's end.
+pub fn overview() -> String {
+    let mut text = String::from("the tool for people who write hub programs\n\n");
+    for command in COMMANDS {
+        text += &format!("  hub {:10} {}\n", command.name, command.about);
+    }
+    text + "\n'hub help COMMAND' tells more; every command takes --json.\n\
+        Exit status: 0 ended or done, 1 refused, 2 open, 64 wrong usage."
+}
+
+/// The page of a command.
+pub fn of(command: &Command) -> String {
+    let Command {
+        name,
+        usage,
+        about,
+        more,
+        example,
+        ..
+    } = command;
+    let more = if more.is_empty() {
+        String::new()
+    } else {
+        format!("\n{more}\n")
+    };
+    format!("usage: hub {name} {usage}\n\n{about}\n{more}\nexample: {example}\n")
+}

@@ -1,13 +1,20 @@
 //! The commands, one file for each, and the choice among them.
 
+mod assemble;
 mod begin;
+mod cells;
 mod check;
 mod compile;
+mod format;
 mod go;
 mod help;
+mod outline;
 mod read;
 mod run;
 mod start;
+mod times;
+mod wave;
+mod wire;
 
 use crate::args::{Args, Options};
 use crate::json::Json;
@@ -37,6 +44,13 @@ pub const COMMANDS: &[&Command] = &[
     &begin::COMMAND,
     &go::COMMAND,
     &start::COMMAND,
+    &cells::COMMAND,
+    &wire::COMMAND,
+    &wave::COMMAND,
+    &outline::COMMAND,
+    &assemble::COMMAND,
+    &format::COMMAND,
+    &times::COMMAND,
     &help::COMMAND,
 ];
 

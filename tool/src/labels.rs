@@ -36,8 +36,14 @@ impl Labels {
     }
 }
 
+/// Its head stands behind the statement in it.
+const REPEAT: u8 = 23;
+
 fn put_heads(tree: &Tree, heads: &mut [String]) {
-    heads[tree.at] = format::head(tree);
+    heads[tree.at] = match tree.node.kind {
+        REPEAT => format!("repeat {}", format::head(tree)),
+        _ => format::head(tree),
+    };
     for part in &tree.parts {
         put_heads(part, heads);
     }

@@ -4,6 +4,7 @@
 pub mod args;
 pub mod assemble;
 pub mod commands;
+pub mod draw;
 pub mod files;
 pub mod format;
 pub mod input;

@@ -5,6 +5,7 @@ mod begin;
 mod cells;
 mod check;
 mod compile;
+mod draw;
 mod format;
 mod go;
 mod help;
@@ -46,6 +47,7 @@ pub const COMMANDS: &[&Command] = &[
     &start::COMMAND,
     &cells::COMMAND,
     &wire::COMMAND,
+    &draw::COMMAND,
     &wave::COMMAND,
     &outline::COMMAND,
     &assemble::COMMAND,

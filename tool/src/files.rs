@@ -6,7 +6,7 @@ use std::fs;
 use std::io::{self, Read, Write};
 use std::path::{Path, PathBuf};
 
-const STANDARD: &str = "-";
+pub const STANDARD: &str = "-";
 
 /// The bytes of a file.
 pub fn read(name: &str) -> Result<Vec<u8>, Fault> {

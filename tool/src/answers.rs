@@ -1,4 +1,4 @@
-//! An answer of a run, for a reader and for scripts.
+//! An answer of a run, a word and a count, for a reader and for scripts.
 
 use crate::json::Json;
 use crate::types::{Answer, Words};
@@ -25,6 +25,12 @@ pub fn word(word: u16) -> String {
         below @ ..=-1 => format!("{word} ({below})"),
         _ => word.to_string(),
     }
+}
+
+/// A number of things.
+pub fn counted(count: usize, thing: &str) -> String {
+    let plural = if count == 1 { "" } else { "s" };
+    format!("{count} {thing}{plural}")
 }
 
 /// The fields of an answer as JSON.

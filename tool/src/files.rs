@@ -8,6 +8,14 @@ use std::path::{Path, PathBuf};
 
 pub const STANDARD: &str = "-";
 
+/// A file's name, for a reader.
+pub fn shown(name: &str) -> &str {
+    match name {
+        STANDARD => "standard input",
+        name => name,
+    }
+}
+
 /// The bytes of a file.
 pub fn read(name: &str) -> Result<Vec<u8>, Fault> {
     let bytes = if name == STANDARD {
@@ -16,7 +24,7 @@ pub fn read(name: &str) -> Result<Vec<u8>, Fault> {
     } else {
         fs::read(name)
     };
-    bytes.map_err(|error| Fault::usage(format!("{name} can't be read: {error}")))
+    bytes.map_err(|error| Fault::usage(format!("{} can't be read: {error}", shown(name))))
 }
 
 /// Writes a file whole: to another file beside it first, which then takes its

@@ -57,7 +57,7 @@ impl Given {
             None => None,
         };
         Ok(Given {
-            name: name.to_string(),
+            name: files::shown(name).to_string(),
             form,
             bytes: files::read(name)?,
             times,

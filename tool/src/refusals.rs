@@ -108,19 +108,28 @@ fn cell_at(file: &[u8], number: usize) -> Option<Cell> {
 fn of_word(mut report: Report, text: &[u8]) -> Report {
     let place = report.refusal.place;
     let word = source::word_at(text, place);
-    report.rule = match text.get(place).copied() {
-        _ if text.len() > 4_096 => "a text has at most 4,096 bytes".to_string(),
-        Some(b'x') => "variables are x0 to x15".to_string(),
-        Some(b'0'..=b'9') => "numbers are decimal without leading zeros, at most 65535, \
-            and at most 255 right after @ and tick"
-            .to_string(),
-        Some(b'\t' | b'\r') => "words are separated by spaces and line feeds, \
-            not by tabs or carriage returns"
-            .to_string(),
-        _ => report.rule,
+    let (rule, remedy) = match text.get(place).copied() {
+        _ if text.len() > 4_096 => ("a text has at most 4,096 bytes", "make it shorter"),
+        Some(b'x') => ("this is no variable", "use x0 to x15"),
+        Some(b'0'..=b'9') => (
+            "this is no number, or too big a one",
+            "write it in decimal without leading zeros, at most 65535, \
+             right after @ and tick at most 255",
+        ),
+        Some(b'\t' | b'\r') => (
+            "this is a tab or a carriage return",
+            "separate words by spaces and line feeds",
+        ),
+        _ => (
+            "this is no word of the language",
+            "use ok tick if then else while do repeat until end, x0 to x15, numbers \
+             and := @ ; || { } ( ) ! + - = < & |",
+        ),
     };
+    report.rule = rule.to_string();
+    report.remedy = remedy.to_string();
     if text.len() > 4_096 {
-        report.remedy = format!("this one has {} bytes: make it shorter", text.len());
+        report.at = Some(format!("this one has {} bytes", text.len()));
     }
     report.marks = vec![Mark::new(text, word, "")];
     report
@@ -159,7 +168,10 @@ fn of_nodes(mut report: Report, given: &Given, nodes: &[Node], source: Option<&S
         1 if source.is_none() => {
             report.at = Some(format!("this file has {} bytes", given.bytes.len()));
         }
-        1 => report.at = Some(format!("this program has {} nodes", nodes.len())),
+        1 => {
+            report.at = Some(format!("this program has {} nodes", nodes.len()));
+            report.remedy = "make the program shorter".into();
+        }
         7 => of_delay(&mut report, given, nodes, source),
         8 => of_clash(&mut report, given, nodes, source),
         _ => report.at = Some(node_shown(nodes, place)),

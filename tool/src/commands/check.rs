@@ -1,6 +1,7 @@
 //! `hub check`: whether a file is accepted, and how much room its delays have.
 
 use super::{Command, Stop};
+use crate::answers::counted;
 use crate::args::{Args, Options};
 use crate::input::{Circuit, Given, Program};
 use crate::json::Json;
@@ -76,16 +77,14 @@ fn first_line(text: &[u8], whole: Span) -> String {
 }
 
 fn text(given: &Given, circuit: &Circuit, delays: &[Delay]) -> String {
-    let cells = circuit.netlist.cells.len();
     let nodes = match &circuit.program {
-        Some((program, _)) => format!("{} nodes, ", program.nodes.len()),
+        Some((program, _)) => counted(program.nodes.len(), "node") + ", ",
         None => String::new(),
     };
+    let cells = counted(circuit.netlist.cells.len(), "cell");
     let finish = circuit.netlist.finish;
-    let mut text = format!(
-        "{}: accepted: {nodes}{cells} cells, finish {finish}\n",
-        given.name
-    );
+    let name = &given.name;
+    let mut text = format!("{name}: accepted: {nodes}{cells}, finish {finish}\n");
     for delay in delays {
         let Delay {
             node, given, least, ..

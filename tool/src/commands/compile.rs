@@ -24,5 +24,5 @@ fn run(args: &Args) -> Result<Done, Stop> {
     let given = Given::read(args, file)?;
     let circuit = given.circuit()?;
     let cells = circuit.netlist.cells.len();
-    written(args, to, &circuit.file, ("cells", cells))
+    written(args, to, &circuit.file, (cells, "cell"))
 }

@@ -9,7 +9,7 @@ mod read;
 mod run;
 mod start;
 
-use crate::answers;
+use crate::answers::{self, counted};
 use crate::args::{Args, Options};
 use crate::files;
 use crate::json::Json;
@@ -138,7 +138,7 @@ fn written(
     args: &Args,
     to: &str,
     bytes: &[u8],
-    (what, count): (&'static str, usize),
+    (count, thing): (usize, &str),
 ) -> Result<Done, Stop> {
     files::write(to, bytes)?;
     let length = bytes.len();
@@ -149,11 +149,11 @@ fn written(
             ("outcome", Json::text("done")),
             ("file", Json::text(to)),
             ("bytes", Json::number(length)),
-            (what, Json::number(count)),
+            ("count", Json::number(count)),
         ])
         .line()
     } else {
-        format!("{to}: {length} bytes, {count} {what}\n").into_bytes()
+        format!("{to}: {length} bytes, {}\n", counted(count, thing)).into_bytes()
     }))
 }
 

@@ -24,5 +24,5 @@ fn run(args: &Args) -> Result<Done, Stop> {
     let given = Given::read(args, file)?;
     let program = given.program()?;
     let nodes = program.nodes.len();
-    written(args, to, &program.bytes, ("nodes", nodes))
+    written(args, to, &program.bytes, (nodes, "node"))
 }

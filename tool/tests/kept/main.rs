@@ -3,6 +3,8 @@
 //! output, standard error, and the exit status where it isn't 0. With KEEP=1 the
 //! files are made anew, to be looked at before they are kept.
 
+mod inputs;
+
 use std::fs;
 use std::path::{Path, PathBuf};
 use std::process::Command;
@@ -66,6 +68,7 @@ fn command_lines_give_what_is_kept() {
         let name = file.file_stem().expect("a name").to_string_lossy();
         let folder = std::env::temp_dir().join(format!("hub-{name}-{}", std::process::id()));
         fs::create_dir_all(&folder).expect("a folder");
+        inputs::make(&folder);
         let text = fs::read_to_string(&file).expect("a kept file");
         let made = remade(&text, &folder);
         fs::remove_dir_all(&folder).expect("the folder goes");
@@ -77,14 +80,20 @@ fn command_lines_give_what_is_kept() {
     }
 }
 
-/// A command line of the kept files names each pair.
-#[test]
-fn every_command_is_kept_on_every_example() {
+/// The lines of all kept files.
+fn kept_lines() -> Vec<String> {
     let texts = kept()
         .into_iter()
         .map(|file| fs::read_to_string(file).expect("a kept file"));
-    let texts: Vec<String> = texts.collect();
-    let lines: Vec<&str> = texts.iter().flat_map(|text| text.lines()).collect();
+    texts
+        .flat_map(|text| text.lines().map(String::from).collect::<Vec<_>>())
+        .collect()
+}
+
+/// A command line of the kept files names each pair.
+#[test]
+fn every_command_is_kept_on_every_example() {
+    let lines = kept_lines();
     let commands = hub::commands::COMMANDS.iter().map(|command| command.name);
     for command in commands.filter(|name| !["help", "start"].contains(name)) {
         let begins = format!("{PROMPT}{command} ");
@@ -95,5 +104,23 @@ fn every_command_is_kept_on_every_example() {
                 .any(|line| line.starts_with(&begins) && line.contains(&*name));
             assert!(found, "no kept line of 'hub {command}' for {name}");
         }
+    }
+}
+
+/// The kept files show the message of every refusal that has landed.
+#[test]
+fn every_refusal_is_kept() {
+    let lines = kept_lines();
+    let numbers: Vec<u8> = hub::refusals::RULES
+        .iter()
+        .map(|rule| rule.number)
+        .collect();
+    assert_eq!(numbers, (1..=21).collect::<Vec<u8>>());
+    for number in numbers {
+        let met = format!(": refused {number}: ");
+        assert!(
+            lines.iter().any(|line| line.contains(&met)),
+            "refusal {number}"
+        );
     }
 }

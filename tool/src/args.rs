@@ -70,12 +70,16 @@ impl Args {
     /// The start words, from words such as x0=3; those not given are 0.
     pub fn start_words(words: &[String]) -> Result<Words, Fault> {
         let mut start = [0; 16];
-        for word in words {
+        for (k, word) in words.iter().enumerate() {
             let (variable, value) = start_word(word).ok_or_else(|| {
                 Fault::usage(format!(
                     "'{word}' is no start word; one is x0=3, with x0 to x15 and -32768 to 65535"
                 ))
             })?;
+            let name = format!("x{variable}=");
+            if words[..k].iter().any(|earlier| earlier.starts_with(&name)) {
+                return Err(Fault::usage(format!("x{variable} has two start words")));
+            }
             start[variable] = value;
         }
         Ok(start)
@@ -132,6 +136,7 @@ fn start_word(word: &str) -> Option<(usize, u16)> {
     let (name, value) = word.split_once('=')?;
     let variable: usize = name.strip_prefix('x')?.parse().ok()?;
     let value: i32 = value.parse().ok()?;
-    let fits = variable < 16 && (-32_768..=65_535).contains(&value);
+    let fits =
+        name == format!("x{variable}") && variable < 16 && (-32_768..=65_535).contains(&value);
     fits.then_some((variable, value as u16))
 }

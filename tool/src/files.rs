@@ -2,11 +2,19 @@
 //! or output.
 
 use crate::types::Fault;
-use std::fs;
-use std::io::{self, Read, Write};
+use std::fs::{self, File, Permissions};
+use std::io::{self, ErrorKind, Read, Write};
 use std::path::{Path, PathBuf};
 
-const STANDARD: &str = "-";
+pub const STANDARD: &str = "-";
+
+/// A file's name, for a reader.
+pub fn shown(name: &str) -> &str {
+    match name {
+        STANDARD => "standard input",
+        name => name,
+    }
+}
 
 /// The bytes of a file.
 pub fn read(name: &str) -> Result<Vec<u8>, Fault> {
@@ -16,30 +24,66 @@ pub fn read(name: &str) -> Result<Vec<u8>, Fault> {
     } else {
         fs::read(name)
     };
-    bytes.map_err(|error| Fault::usage(format!("{name} can't be read: {error}")))
+    bytes.map_err(|error| Fault::usage(format!("{} can't be read: {error}", shown(name))))
 }
 
 /// Writes a file whole: to another file beside it first, which then takes its
-/// name.
+/// name. What is no plain file, as a pipe, is written as it is.
 pub fn write(name: &str, bytes: &[u8]) -> Result<(), Fault> {
     let written = if name == STANDARD {
-        io::stdout().write_all(bytes)
+        put(io::stdout(), bytes)
     } else {
-        replace(Path::new(name), bytes)
+        write_named(Path::new(name), bytes)
     };
-    written.map_err(|error| Fault::usage(format!("{name} can't be written: {error}")))
+    written.map_err(|error| unwritten(name, &error))
 }
 
-fn replace(name: &Path, bytes: &[u8]) -> io::Result<()> {
-    if name.is_dir() {
-        return Err(io::Error::other("it is a folder"));
+/// Prints what a command tells. Whoever reads may have gone, which is no fault.
+pub fn print(bytes: &[u8]) -> Result<(), Fault> {
+    match put(io::stdout(), bytes) {
+        Err(error) if error.kind() != ErrorKind::BrokenPipe => {
+            Err(unwritten("standard output", &error))
+        }
+        _ => Ok(()),
     }
+}
+
+fn unwritten(name: &str, error: &io::Error) -> Fault {
+    Fault::usage(format!("{name} can't be written: {error}"))
+}
+
+fn put(mut to: impl Write, bytes: &[u8]) -> io::Result<()> {
+    to.write_all(bytes)?;
+    to.flush()
+}
+
+fn write_named(name: &Path, bytes: &[u8]) -> io::Result<()> {
+    match fs::metadata(name) {
+        Ok(found) if found.is_file() => {
+            let name = fs::canonicalize(name)?;
+            replace(&name, bytes, Some(found.permissions()))
+        }
+        Ok(_) => put(File::options().write(true).open(name)?, bytes),
+        Err(_) => replace(name, bytes, None),
+    }
+}
+
+fn replace(name: &Path, bytes: &[u8], permissions: Option<Permissions>) -> io::Result<()> {
     let beside = beside(name);
-    let moved = fs::write(&beside, bytes).and_then(|()| fs::rename(&beside, name));
+    let moved = fill(&beside, bytes, permissions).and_then(|()| fs::rename(&beside, name));
     if moved.is_err() {
         let _ = fs::remove_file(&beside);
     }
     moved
+}
+
+fn fill(name: &Path, bytes: &[u8], permissions: Option<Permissions>) -> io::Result<()> {
+    let mut file = File::create(name)?;
+    file.write_all(bytes)?;
+    if let Some(permissions) = permissions {
+        file.set_permissions(permissions)?;
+    }
+    file.sync_all()
 }
 
 /// A name in the same folder, so that a rename moves no bytes.

@@ -6,7 +6,7 @@ use crate::commands::Stop;
 use crate::files;
 use crate::origin::{self, Trace};
 use crate::product;
-use crate::refusals::{self, Report};
+use crate::refusals;
 use crate::source::{self, Place};
 use crate::types::{Fault, Netlist, Node, Refusal, Table};
 
@@ -57,7 +57,7 @@ impl Given {
             None => None,
         };
         Ok(Given {
-            name: name.to_string(),
+            name: files::shown(name).to_string(),
             form,
             bytes: files::read(name)?,
             times,
@@ -98,10 +98,7 @@ impl Given {
                 nodes,
                 places: Some(source.places),
             }),
-            _ => {
-                let message = format!("the tool reads {} otherwise than the product", self.name);
-                Err(Fault::internal(message).into())
-            }
+            _ => Err(self.misread().into()),
         }
     }
 
@@ -127,9 +124,18 @@ impl Given {
         })
     }
 
-    /// What there is to say of a refusal that this file met.
-    pub fn refused(&self, refusal: Refusal) -> Report {
-        refusals::report(self, refusal)
+    /// Why a command stops at a refusal that this file met.
+    pub fn refused(&self, refusal: Refusal) -> Stop {
+        match refusals::report(self, refusal) {
+            Ok(report) => report.into(),
+            Err(fault) => fault.into(),
+        }
+    }
+
+    /// The tool's own reading isn't the product's.
+    pub fn misread(&self) -> Fault {
+        let name = &self.name;
+        Fault::internal(format!("the tool reads {name} otherwise than the product"))
     }
 }
 

@@ -1,6 +1,7 @@
 //! The tool for people who write hub programs. Every rule of the product is
 //! asked of the product, by `product`; the tool reads, explains and shows.
 
+pub mod answers;
 pub mod args;
 pub mod assemble;
 pub mod commands;
@@ -17,6 +18,7 @@ pub mod origin;
 pub mod outline;
 pub mod output;
 pub mod product;
+pub mod progress;
 pub mod refusals;
 pub mod source;
 pub mod svg;

@@ -59,10 +59,13 @@ pub fn go(file: &[u8], state: &mut [u8], n: u32) -> Result<Answer, Refusal> {
     calls::continue_by(file, state, n)
 }
 
-/// A full run of a netlist file: refusal 13 is this call's.
-pub fn run_netlist(file: &[u8], words: &Words, budget: u32) -> Result<Answer, Refusal> {
-    let mut state = vec![0; state_length(CELLS)];
-    calls::run_netlist(file, &word_bytes(words), budget, &mut state)
+/// Whether a netlist file may be run with this budget. A full run looks at the
+/// budget before it looks at the room for its state, and here there is none.
+pub fn check_budget(file: &[u8], budget: u32) -> Result<(), Refusal> {
+    match calls::run_netlist(file, &word_bytes(&[0; 16]), budget, &mut []) {
+        Err(refusal) if refusal.number != 14 => Err(refusal),
+        _ => Ok(()),
+    }
 }
 
 /// The end of a program by its own rules, if within the budget.

@@ -37,6 +37,19 @@ pub fn read(text: &[u8]) -> Result<Source, usize> {
     Ok(source)
 }
 
+/// The word at a place, or the place alone.
+pub fn word_at(text: &[u8], place: usize) -> Span {
+    let mut words = Words::of(text);
+    words.skip_to(place);
+    words.peek().map_or(
+        Span {
+            start: place,
+            end: place,
+        },
+        |word| word.span,
+    )
+}
+
 /// A node with its children.
 struct Tree {
     node: Node,

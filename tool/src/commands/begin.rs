@@ -1,29 +1,38 @@
-//! `hub begin`.
+//! `hub begin`: the state of a circuit at instant 0.
 
-use super::{Command, Stop};
+use super::{answered, Command, Stop};
 use crate::args::{Args, Options};
+use crate::files;
 use crate::input::Given;
-use crate::types::Done;
+use crate::product;
+use crate::types::{Done, Fault, DONE};
 
 pub const COMMAND: Command = Command {
     name: "begin",
-    usage: "FILE",
-    about: "",
-    more: "",
-    example: "",
+    usage: "FILE [xK=N ..] -o STATE [--times T] [--as FORM]",
+    about: "begins a run, and writes its state to go on from",
+    more: "FILE is a netlist, NAME.net, or a program that is compiled first. The exit status is 0.",
+    example: "hub begin two_boards.net x0=3 x1=5 -o two_boards.state",
     options: Options {
-        valued: &["as", "times"],
-        flags: &[],
+        valued: &["o", "times", "as"],
+        flags: &["all"],
     },
     run,
 };
 
 fn run(args: &Args) -> Result<Done, Stop> {
-    let [file] = args.exactly(["FILE"])?;
+    let Some((file, words)) = args.given.split_first() else {
+        return Err(Fault::usage("FILE is missing").into());
+    };
+    let start = Args::start_words(words)?;
+    let to = args.needed("o")?;
     let given = Given::read(args, file)?;
     let circuit = given.circuit()?;
-    Ok(Done::printing(format!(
-        "{} cells\n",
-        circuit.netlist.cells.len()
-    )))
+    let begun = product::begin(&circuit.file, &start);
+    let (state, answer) = begun.map_err(|met| given.refused(met))?;
+    files::write(to, &state)?;
+    Ok(Done {
+        exit: DONE,
+        ..answered(args, &start, &answer)
+    })
 }

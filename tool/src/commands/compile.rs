@@ -1,18 +1,18 @@
-//! `hub compile`.
+//! `hub compile`: a program to its netlist file.
 
-use super::{Command, Stop};
+use super::{written, Command, Stop};
 use crate::args::{Args, Options};
 use crate::input::Given;
 use crate::types::Done;
 
 pub const COMMAND: Command = Command {
     name: "compile",
-    usage: "FILE",
-    about: "",
-    more: "",
-    example: "",
+    usage: "FILE -o NET [--times T] [--as FORM]",
+    about: "writes the netlist file of a program",
+    more: "FILE is a text, NAME.prog a program's bytes, or --as says it (text, program).",
+    example: "hub compile examples/two_boards.hub -o two_boards.net",
     options: Options {
-        valued: &["as", "times"],
+        valued: &["o", "times", "as"],
         flags: &[],
     },
     run,
@@ -20,10 +20,9 @@ pub const COMMAND: Command = Command {
 
 fn run(args: &Args) -> Result<Done, Stop> {
     let [file] = args.exactly(["FILE"])?;
+    let to = args.needed("o")?;
     let given = Given::read(args, file)?;
     let circuit = given.circuit()?;
-    Ok(Done::printing(format!(
-        "{} cells\n",
-        circuit.netlist.cells.len()
-    )))
+    let cells = circuit.netlist.cells.len();
+    written(args, to, &circuit.file, (cells, "cell"))
 }

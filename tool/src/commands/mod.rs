@@ -17,10 +17,12 @@ mod times;
 mod wave;
 mod wire;
 
+use crate::answers::{self, counted};
 use crate::args::{Args, Options};
+use crate::files;
 use crate::json::Json;
 use crate::refusals::Report;
-use crate::types::{Done, Fault, REFUSED};
+use crate::types::{Answer, Done, Fault, Words, DONE, OPEN, REFUSED};
 
 pub struct Command {
     pub name: &'static str,
@@ -145,4 +147,38 @@ fn named(name: &str) -> Result<&'static Command, Fault> {
 fn with_usage(fault: Fault, command: &Command) -> Fault {
     let Command { name, usage, .. } = command;
     Fault::usage(format!("{}\nusage: hub {name} {usage}", fault.message))
+}
+
+/// Writes a command's file and tells it, with a count of what is in it.
+fn written(
+    args: &Args,
+    to: &str,
+    bytes: &[u8],
+    (count, thing): (usize, &str),
+) -> Result<Done, Stop> {
+    files::write(to, bytes)?;
+    let length = bytes.len();
+    Ok(Done::printing(if to == files::STANDARD {
+        Vec::new()
+    } else if args.flag("json") {
+        Json::Object(vec![
+            ("outcome", Json::text("done")),
+            ("file", Json::text(to)),
+            ("bytes", Json::number(length)),
+            ("count", Json::number(count)),
+        ])
+        .line()
+    } else {
+        format!("{to}: {length} bytes, {}\n", counted(count, thing)).into_bytes()
+    }))
+}
+
+/// Tells the answer of a run that began with these words.
+fn answered(args: &Args, start: &Words, answer: &Answer) -> Done {
+    let output = match args.flag("json") {
+        true => Json::Object(answers::fields(answer)).line(),
+        false => answers::text(start, answer, args.flag("all")).into_bytes(),
+    };
+    let exit = if answer.ended { DONE } else { OPEN };
+    Done { exit, output }
 }

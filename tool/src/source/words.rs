@@ -38,6 +38,11 @@ impl<'a> Words<'a> {
         Words { text, at: 0 }
     }
 
+    /// Goes on at a byte of the text, or at its end.
+    pub fn skip_to(&mut self, place: usize) {
+        self.at = place.min(self.text.len());
+    }
+
     pub fn peek(&mut self) -> Option<Word<'a>> {
         let blank = |byte: &&u8| matches!(**byte, b' ' | b'\n');
         self.at += self.text[self.at..].iter().take_while(blank).count();

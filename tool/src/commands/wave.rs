@@ -4,9 +4,9 @@ use super::{Command, Stop};
 use crate::args::{Args, Options};
 use crate::input::{Circuit, Given};
 use crate::json::Json;
-use crate::output;
-use crate::types::{Done, Fault, Words};
+use crate::types::{Done, Fault, Refusal, Words};
 use crate::wave::{choice, record, svg, terminal, vcd, Waveforms};
+use crate::{output, product};
 
 pub const COMMAND: Command = Command {
     name: "wave",
@@ -50,11 +50,14 @@ fn run(args: &Args) -> Result<Done, Stop> {
 }
 
 /// The last instant that is shown.
-fn last(circuit: &Circuit, words: &Words, from: u32) -> Result<u32, crate::types::Refusal> {
+fn last(circuit: &Circuit, words: &Words, from: u32) -> Result<u32, Refusal> {
     let most = from.saturating_add(MOST);
-    let end = crate::product::run_netlist(&circuit.file, words, most)?;
-    Ok(match end.ended {
-        true => (end.instant + AFTER).clamp(from + AFTER, most),
+    let (mut state, mut answer) = product::begin(&circuit.file, words)?;
+    if !answer.ended {
+        answer = product::go(&circuit.file, &mut state, most)?;
+    }
+    Ok(match answer.ended {
+        true => (answer.instant + AFTER).clamp(from + AFTER, most),
         false => most,
     })
 }

@@ -23,7 +23,7 @@ impl Wrong {
     pub fn fault(self, file: &str) -> Fault {
         Fault {
             exit: REFUSED,
-            message: format!("{file}, line {}: {}", self.line, self.why),
+            message: format!("{}, line {}: {}", files::shown(file), self.line, self.why),
         }
     }
 }
@@ -31,7 +31,7 @@ impl Wrong {
 /// The text of a file, which must be one.
 pub fn read(name: &str) -> Result<String, Fault> {
     let text = String::from_utf8(files::read(name)?);
-    text.map_err(|_| Fault::usage(format!("{name} is no text; it may be a file of bytes")))
+    text.map_err(|_| Fault::usage(format!("{} is no text", files::shown(name))))
 }
 
 /// The words of a line before its comment.
@@ -48,6 +48,6 @@ pub fn refused(file: &str, text: &str, met: Refusal, line: Option<usize>) -> Rep
         at: line
             .and_then(said)
             .map(|(line, words)| format!("line {line}: {}", words.trim())),
-        ..refusals::plain(file, met)
+        ..refusals::plain(files::shown(file), met)
     }
 }

@@ -28,7 +28,7 @@ fn run(args: &Args) -> Result<Done, Stop> {
     }
     match &args.given[..] {
         [] => show(args, None, "the built-in times"),
-        [name] => show(args, Some(&files::read(name)?), name),
+        [name] => show(args, Some(&files::read(name)?), files::shown(name)),
         _ => Err(Fault::usage("-o and the table's name are missing").into()),
     }
 }

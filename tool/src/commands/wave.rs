@@ -14,7 +14,8 @@ pub const COMMAND: Command = Command {
     about: "shows how wires go up and down in a run: in the terminal, as VCD for GTKWave, as SVG",
     more: "Shown are start, finish, the words that are written, and each statement's start and\n\
         finish, named by its kind and node, as while1.start. --wires chooses some of them, or\n\
-        others by NAME=CELL. Without --to the waves go to the finish, at most 240 instants.",
+        cells by number; NAME=WIRE gives a wire another name. Without --to the waves go to the\n\
+        finish, at most 240 instants.",
     example: "hub wave examples/two_boards.hub x0=1 x1=2 --to 40",
     options: Options {
         valued: &["as", "times", "from", "to", "wires", "o"],

@@ -165,7 +165,7 @@ fn put_cell(out: &mut String, plan: &Plan, placed: &Placed, scale: &Scale) {
     if placed.cell == FINISH {
         let _ = writeln!(
             out,
-            "<rect x=\"{x}\" y=\"{y}\" width=\"60\" height=\"{height}\" rx=\"18\" \
+            "<rect x=\"{x}\" y=\"{y}\" width=\"60\" height=\"{height}\" rx=\"9\" \
              fill=\"#e8eef8\" {CONTROL}/>\n\
              <text x=\"{}\" y=\"{}\" text-anchor=\"middle\" font-size=\"11\">{title}</text>",
             x + 30,

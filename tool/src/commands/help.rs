@@ -1,6 +1,6 @@
 //! `hub help`: the commands, or one of them with an example.
 
-use super::{named, Command, Stop, COMMANDS};
+use super::{named, usage, Command, Stop, COMMANDS};
 use crate::args::{Args, Options};
 use crate::types::Done;
 
@@ -38,17 +38,15 @@ pub fn overview() -> String {
 /// The page of a command.
 pub fn of(command: &Command) -> String {
     let Command {
-        name,
-        usage,
         about,
         more,
         example,
         ..
     } = command;
-    let more = if more.is_empty() {
-        String::new()
-    } else {
-        format!("\n{more}\n")
+    let usage = usage(command);
+    let more = match *more {
+        "" => String::new(),
+        more => format!("\n{more}\n"),
     };
-    format!("usage: hub {name} {usage}\n\n{about}\n{more}\nexample: {example}\n")
+    format!("usage: {usage}\n\n{about}\n{more}\nexample: {example}\n")
 }

@@ -3,13 +3,26 @@
 
 pub mod answers;
 pub mod args;
+pub mod assemble;
 pub mod commands;
+pub mod draw;
 pub mod files;
+pub mod format;
 pub mod input;
 pub mod json;
+pub mod kinds;
+pub mod labels;
+pub mod lines;
+pub mod listing;
 pub mod origin;
+pub mod outline;
+pub mod output;
 pub mod product;
 pub mod progress;
 pub mod refusals;
 pub mod source;
+pub mod svg;
+pub mod template;
+pub mod times;
 pub mod types;
+pub mod wave;

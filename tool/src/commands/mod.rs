@@ -1,13 +1,21 @@
 //! The commands, one file for each, and the choice among them.
 
+mod assemble;
 mod begin;
+mod cells;
 mod check;
 mod compile;
+mod draw;
+mod format;
 mod go;
 mod help;
+mod outline;
 mod read;
 mod run;
 mod start;
+mod times;
+mod wave;
+mod wire;
 
 use crate::answers::{self, counted};
 use crate::args::{Args, Options};
@@ -39,6 +47,14 @@ pub const COMMANDS: &[&Command] = &[
     &begin::COMMAND,
     &go::COMMAND,
     &start::COMMAND,
+    &cells::COMMAND,
+    &wire::COMMAND,
+    &draw::COMMAND,
+    &wave::COMMAND,
+    &outline::COMMAND,
+    &assemble::COMMAND,
+    &format::COMMAND,
+    &times::COMMAND,
     &help::COMMAND,
 ];
 

@@ -1,0 +1,47 @@
+//! `hub assemble`: an outline back to a program's bytes.
+
+use super::{Command, Stop};
+use crate::args::{Args, Options};
+use crate::assemble::assemble;
+use crate::files;
+use crate::json::Json;
+use crate::types::{Done, Node};
+use crate::{lines, product};
+
+pub const COMMAND: Command = Command {
+    name: "assemble",
+    usage: "OUTLINE -o PROG [--times T] [--unchecked]",
+    about: "makes a program's bytes of an outline",
+    more: "The order of the lines counts; indentation is for the eye, and text after # is passed\n\
+        over. A program that the product refuses isn't written, unless --unchecked is given.",
+    example: "hub outline examples/two_boards.hub | hub assemble - -o two_boards.prog",
+    options: Options {
+        valued: &["o", "times"],
+        flags: &["unchecked"],
+    },
+    run,
+};
+
+fn run(args: &Args) -> Result<Done, Stop> {
+    let [name] = args.exactly(["OUTLINE"])?;
+    let out = args.needed("o")?;
+    let table = args.value("times").map(files::read).transpose()?;
+    let lined = assemble(&lines::read(name)?).map_err(|wrong| wrong.fault(name))?;
+    let nodes: Vec<Node> = lined.iter().map(|(node, _)| *node).collect();
+    let program = product::program_bytes(&nodes);
+    if !args.flag("unchecked") {
+        product::check(table.as_deref(), &program).map_err(|met| {
+            let line = lined.get(met.place).map(|(_, line)| *line);
+            lines::refused(name, met, line)
+        })?;
+    }
+    files::write(out, &program)?;
+    if args.flag("json") {
+        let fields = vec![
+            ("file", Json::text(out)),
+            ("nodes", Json::number(nodes.len())),
+        ];
+        return Ok(Done::printing(Json::Object(fields).line()));
+    }
+    Ok(Done::printing(format!("{out}: {} nodes\n", nodes.len())))
+}

@@ -1,0 +1,81 @@
+//! `hub times`: tables of operator times, made and shown.
+
+use super::{Command, Stop};
+use crate::args::{Args, Options};
+use crate::json::Json;
+use crate::lines;
+use crate::times::{self, OPERATORS};
+use crate::types::{Done, Fault, Table};
+use crate::{files, product};
+
+pub const COMMAND: Command = Command {
+    name: "times",
+    usage: "[OPERATOR=TIME ..] -o T, or hub times [T]",
+    about: "makes a table of operator times, or shows one",
+    more: "The operators are complement, sum, difference, and, or, equal, less; one that isn't\n\
+        named keeps its built-in time. Without a file the built-in times are shown.",
+    example: "hub times sum=12 less=9 -o fast.times",
+    options: Options {
+        valued: &["o"],
+        flags: &[],
+    },
+    run,
+};
+
+fn run(args: &Args) -> Result<Done, Stop> {
+    if let Some(out) = args.value("o") {
+        return make(args, out);
+    }
+    match &args.given[..] {
+        [] => show(args, None, "the built-in times"),
+        [name] => show(args, Some(&files::read(name)?), name),
+        _ => Err(Fault::usage("-o and the table's name are missing").into()),
+    }
+}
+
+fn show(args: &Args, table: Table, name: &str) -> Result<Done, Stop> {
+    let times = times::times(table).map_err(|met| lines::refused(name, met, None))?;
+    let named = || OPERATORS.iter().map(|(_, name)| *name).zip(&times);
+    if args.flag("json") {
+        let fields = named().map(|(name, time)| (name, Json::number(*time)));
+        return Ok(Done::printing(Json::Object(fields.collect()).line()));
+    }
+    let line = |(name, time): (&str, &u8)| format!("{name:10} {time:3}\n");
+    Ok(Done::printing(named().map(line).collect::<String>()))
+}
+
+fn make(args: &Args, out: &str) -> Result<Done, Stop> {
+    let builtin = times::times(None);
+    let mut times = builtin.map_err(|_| Fault::internal("an operator without a time"))?;
+    for word in &args.given {
+        let (operator, time) = setting(word)?;
+        times[operator] = time;
+    }
+    let table = times::file(&times)?;
+    // Times that are out of range are the product's to refuse.
+    if let Err(met) = product::check(Some(&table), &OK) {
+        return Err(lines::refused(out, met, None).into());
+    }
+    files::write(out, &table)?;
+    show(args, Some(&table), out)
+}
+
+/// A program that every table takes: ok.
+const OK: [u8; 4] = [16, 0, 0, 0];
+
+/// An operator, by its place, and the time that it is to have.
+fn setting(word: &str) -> Result<(usize, u8), Fault> {
+    let wrong = || {
+        let names: Vec<&str> = OPERATORS.iter().map(|(_, name)| *name).collect();
+        let names = names.join(", ");
+        Fault::usage(format!(
+            "'{word}' isn't OPERATOR=TIME with a time below 256; operators: {names}"
+        ))
+    };
+    let (name, time) = word.split_once('=').ok_or_else(wrong)?;
+    let operator = OPERATORS.iter().position(|(_, known)| *known == name);
+    Ok((
+        operator.ok_or_else(wrong)?,
+        time.parse().map_err(|_| wrong())?,
+    ))
+}

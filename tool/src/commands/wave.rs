@@ -1,0 +1,95 @@
+//! `hub wave`: waveforms of named wires.
+
+use super::{Command, Stop};
+use crate::args::{Args, Options};
+use crate::input::{Circuit, Given};
+use crate::json::Json;
+use crate::output;
+use crate::types::{Done, Fault, Words};
+use crate::wave::{choice, record, svg, terminal, vcd, Waveforms};
+
+pub const COMMAND: Command = Command {
+    name: "wave",
+    usage: "FILE [x0=3 ..] [--from A] [--to B] [--wires W,..] [-o x.vcd | x.svg]",
+    about: "shows how wires go up and down in a run: in the terminal, as VCD for GTKWave, as SVG",
+    more: "Shown are start, finish, the words that are written, and each statement's start and\n\
+        finish, named by its kind and node, as while1.start. --wires chooses some of them, or\n\
+        others by NAME=CELL. Without --to the waves go to the finish, at most 240 instants.",
+    example: "hub wave examples/two_boards.hub x0=1 x1=2 --to 40",
+    options: Options {
+        valued: &["as", "times", "from", "to", "wires", "o"],
+        flags: &[],
+    },
+    run,
+};
+
+/// The most instants that are shown if the last isn't given, and how many
+/// after the finish.
+const MOST: u32 = 240;
+const AFTER: u32 = 2;
+
+fn run(args: &Args) -> Result<Done, Stop> {
+    let Some((file, words)) = args.given.split_first() else {
+        return Err(Fault::usage("FILE is missing").into());
+    };
+    let words = Args::start_words(words)?;
+    let given = Given::read(args, file)?;
+    let circuit = given.circuit()?;
+    let wires = choice::wires(&circuit, &given.bytes, args.value("wires"))?;
+    let from = args.number("from")?.unwrap_or(0);
+    let to = match args.number("to")? {
+        Some(to) => to,
+        None => last(&circuit, &words, from).map_err(|met| given.refused(met))?,
+    };
+    if to < from {
+        return Err(Fault::usage(format!("--to {to} is before --from {from}")).into());
+    }
+    let waves = record::record(&circuit.file, &words, wires, from, to);
+    let waves = waves.map_err(|met| given.refused(met))?;
+    shown(args, &waves)
+}
+
+/// The last instant that is shown.
+fn last(circuit: &Circuit, words: &Words, from: u32) -> Result<u32, crate::types::Refusal> {
+    let most = from.saturating_add(MOST);
+    let end = crate::product::run_netlist(&circuit.file, words, most)?;
+    Ok(match end.ended {
+        true => (end.instant + AFTER).clamp(from + AFTER, most),
+        false => most,
+    })
+}
+
+fn shown(args: &Args, waves: &Waveforms) -> Result<Done, Stop> {
+    if args.flag("json") {
+        return Ok(Done::printing(json(waves).line()));
+    }
+    let out = args.value("o");
+    let text = match out {
+        Some(name) if name.ends_with(".vcd") => vcd::vcd(waves),
+        Some(name) if name.ends_with(".svg") => svg::svg(waves),
+        Some("-") | None => terminal::terminal(waves),
+        Some(name) => {
+            let message = format!("{name}: the name of a file of waves ends with .vcd or .svg");
+            return Err(Fault::usage(message).into());
+        }
+    };
+    output::put(out, text)
+}
+
+fn json(waves: &Waveforms) -> Json {
+    let wires = waves.wires.iter().zip(&waves.values);
+    Json::Object(vec![
+        ("from", Json::number(waves.from)),
+        ("to", Json::number(waves.to)),
+        (
+            "wires",
+            Json::list(wires, |(wire, values)| {
+                Json::Object(vec![
+                    ("name", Json::text(&wire.name)),
+                    ("cell", Json::number(wire.cell)),
+                    ("values", Json::list(values, |value| Json::number(*value))),
+                ])
+            }),
+        ),
+    ])
+}

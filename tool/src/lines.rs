@@ -1,0 +1,49 @@
+//! Texts that people write a line for each thing, lists of cells and outlines:
+//! what is wrong is told with its line.
+
+use crate::files;
+use crate::types::{Fault, Refusal, REFUSED};
+
+/// What is wrong with such a text: the line, counted from 1, and why.
+#[derive(Clone, Debug, PartialEq, Eq)]
+pub struct Wrong {
+    pub line: usize,
+    pub why: String,
+}
+
+impl Wrong {
+    pub fn new(line: usize, why: impl Into<String>) -> Wrong {
+        Wrong {
+            line,
+            why: why.into(),
+        }
+    }
+
+    pub fn fault(self, file: &str) -> Fault {
+        Fault {
+            exit: REFUSED,
+            message: format!("{file}, line {}: {}", self.line, self.why),
+        }
+    }
+}
+
+/// The text of a file, which must be one.
+pub fn read(name: &str) -> Result<String, Fault> {
+    let text = String::from_utf8(files::read(name)?);
+    text.map_err(|_| Fault::usage(format!("{name} is no text; it may be a file of bytes")))
+}
+
+/// The words of a line before its comment.
+pub fn words(line: &str) -> Vec<&str> {
+    let said = line.split('#').next().unwrap_or_default();
+    said.split_whitespace().collect()
+}
+
+/// What the product said of the whole, at the line that its place is about.
+pub fn refused(file: &str, met: Refusal, line: Option<usize>) -> Fault {
+    let at = line.map_or(String::new(), |line| format!(", line {line}"));
+    Fault {
+        exit: REFUSED,
+        message: format!("{file}{at}: {met}"),
+    }
+}

@@ -1,0 +1,103 @@
+//! The wires that are shown: those that have names in every circuit, those of
+//! a program's statements, and those that were asked for.
+
+use super::Wire;
+use crate::input::Circuit;
+use crate::kinds::{is_control, IDLE, NODES};
+use crate::labels::{self, Labels};
+use crate::types::{Fault, Netlist};
+
+/// The wires asked for, or else all that have a name and may change.
+pub fn wires(circuit: &Circuit, text: &[u8], asked: Option<&str>) -> Result<Vec<Wire>, Fault> {
+    let mut named = of_every(&circuit.netlist);
+    named.extend(of_statements(circuit, text)?);
+    match asked {
+        None => Ok(named
+            .into_iter()
+            .filter(|wire| moves(circuit, wire))
+            .collect()),
+        Some(asked) => {
+            let wires = asked
+                .split(',')
+                .map(|word| chosen(&named, &circuit.netlist, word));
+            wires.collect()
+        }
+    }
+}
+
+/// Whether a wire is more than an idle memory.
+fn moves(circuit: &Circuit, wire: &Wire) -> bool {
+    circuit.netlist.cells[usize::from(wire.cell)] != IDLE
+}
+
+/// Start, finish and the memories.
+fn of_every(netlist: &Netlist) -> Vec<Wire> {
+    let mut wires = vec![
+        wire(netlist, "start".to_string(), 0),
+        wire(netlist, "finish".to_string(), netlist.finish),
+    ];
+    let memories = (0..).zip(labels::of_memories(netlist));
+    wires.extend(memories.filter_map(|(cell, name)| Some(wire(netlist, name?, cell))));
+    wires
+}
+
+/// Start and finish of each statement that is more than a sequence.
+fn of_statements(circuit: &Circuit, text: &[u8]) -> Result<Vec<Wire>, Fault> {
+    let Some((program, trace)) = &circuit.program else {
+        return Ok(Vec::new());
+    };
+    let labels = Labels::of(program, text)?;
+    let mut wires = Vec::new();
+    for (node, ends) in trace.ends.iter().enumerate() {
+        let kind = program.nodes[node].kind;
+        let (Some(ends), false) = (ends, kind == SEQUENCE) else {
+            continue;
+        };
+        for (end, cell) in [("start", ends.start), ("finish", ends.finish)] {
+            let name = format!("{}{node}.{end}", word_of(kind));
+            let about = format!("{}, {}", labels.places[node], labels.heads[node]);
+            wires.push(Wire {
+                about,
+                ..wire(&circuit.netlist, name, cell)
+            });
+        }
+    }
+    Ok(wires)
+}
+
+const SEQUENCE: u8 = 19;
+
+/// The word for a kind of node.
+fn word_of(kind: u8) -> &'static str {
+    let own = NODES.kinds.iter().find(|template| template.kind == kind);
+    own.and_then(|template| template.words.split(' ').next())
+        .unwrap_or("node")
+}
+
+fn wire(netlist: &Netlist, name: String, cell: u16) -> Wire {
+    Wire {
+        name,
+        about: String::new(),
+        cell,
+        control: is_control(netlist.cells[usize::from(cell)].kind),
+    }
+}
+
+/// A wire by its name, or any cell as CELL or NAME=CELL.
+fn chosen(named: &[Wire], netlist: &Netlist, word: &str) -> Result<Wire, Fault> {
+    if let Some(wire) = named.iter().find(|wire| wire.name == word) {
+        return Ok(wire.clone());
+    }
+    let (name, cell) = match word.split_once('=') {
+        Some((name, cell)) => (name.to_string(), cell),
+        None => (format!("cell{word}"), word),
+    };
+    match cell.parse::<u16>() {
+        Ok(cell) if usize::from(cell) < netlist.cells.len() => Ok(wire(netlist, name, cell)),
+        _ => {
+            let names: Vec<&str> = named.iter().map(|wire| wire.name.as_str()).collect();
+            let message = format!("no wire is called '{word}'; there are {}", names.join(", "));
+            Err(Fault::usage(message))
+        }
+    }
+}

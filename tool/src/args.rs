@@ -3,6 +3,7 @@
 
 use crate::types::{Fault, Words};
 use std::collections::BTreeMap;
+use std::fmt::Display;
 
 /// The options that a command takes: with a value, and without.
 #[derive(Clone, Copy, Debug)]
@@ -16,30 +17,46 @@ pub struct Args {
     /// The words that are no options.
     pub given: Vec<String>,
     options: BTreeMap<String, String>,
+    usage: String,
 }
 
 impl Args {
-    pub fn parse(options: Options, words: &[String]) -> Result<Args, Fault> {
-        let mut args = Args::default();
+    /// Parses the words after a command, whose usage is told where they don't
+    /// fit.
+    pub fn parse(options: Options, usage: String, words: &[String]) -> Result<Args, Fault> {
+        let mut args = Args {
+            usage,
+            ..Args::default()
+        };
         let mut words = words.iter();
         while let Some(word) = words.next() {
             let Some((name, value)) = option(word) else {
                 args.given.push(word.clone());
                 continue;
             };
-            let value = match (options.takes(name)?, value) {
-                (true, Some(value)) => value.to_string(),
-                (true, None) => words.next().cloned().ok_or_else(|| missing(name))?,
-                (false, None) => String::new(),
-                (false, Some(_)) => {
-                    return Err(Fault::usage(format!("{} takes no value", dashed(name))))
+            let value = match (options.takes(name), value) {
+                (Some(true), Some(value)) => value.to_string(),
+                (Some(true), None) => words.next().cloned().ok_or_else(|| args.missing(name))?,
+                (Some(false), None) => String::new(),
+                (Some(false), Some(_)) => {
+                    return Err(args.fault(format!("{} takes no value", dashed(name))))
                 }
+                (None, _) => return Err(args.fault(format!("{} is no option", dashed(name)))),
             };
             if args.options.insert(name.to_string(), value).is_some() {
-                return Err(Fault::usage(format!("{} stands twice", dashed(name))));
+                return Err(args.fault(format!("{} stands twice", dashed(name))));
             }
         }
         Ok(args)
+    }
+
+    /// A fault of the command line, with the usage.
+    pub fn fault(&self, message: impl Display) -> Fault {
+        Fault::usage(format!("{message}\nusage: {}", self.usage))
+    }
+
+    fn missing(&self, name: &str) -> Fault {
+        self.fault(format!("{} and its value are missing", dashed(name)))
     }
 
     pub fn flag(&self, name: &str) -> bool {
@@ -52,7 +69,7 @@ impl Args {
 
     /// The value of an option that must be given.
     pub fn needed(&self, name: &str) -> Result<&str, Fault> {
-        self.value(name).ok_or_else(|| missing(name))
+        self.value(name).ok_or_else(|| self.missing(name))
     }
 
     /// An option that is a decimal number of four bytes.
@@ -60,54 +77,48 @@ impl Args {
         let Some(value) = self.value(name) else {
             return Ok(None);
         };
-        let number = value
-            .replace(',', "")
-            .parse()
-            .map_err(|_| Fault::usage(format!("{} wants a number, not '{value}'", dashed(name))))?;
-        Ok(Some(number))
+        match value.replace(',', "").parse() {
+            Ok(number) => Ok(Some(number)),
+            Err(_) => Err(self.fault(format!("{} wants a number, not '{value}'", dashed(name)))),
+        }
     }
 
-    /// The start words, from words such as x0=3; those not given are 0.
-    pub fn start_words(words: &[String]) -> Result<Words, Fault> {
-        let mut start = [0; 16];
-        for (k, word) in words.iter().enumerate() {
-            let (variable, value) = start_word(word).ok_or_else(|| {
-                Fault::usage(format!(
-                    "'{word}' is no start word; one is x0=3, with x0 to x15 and -32768 to 65535"
-                ))
-            })?;
-            let name = format!("x{variable}=");
-            if words[..k].iter().any(|earlier| earlier.starts_with(&name)) {
-                return Err(Fault::usage(format!("x{variable} has two start words")));
+    /// A file, and start words such as x0=3 after it; those not given are 0.
+    pub fn file_and_words(&self) -> Result<(&str, Words), Fault> {
+        let Some((file, words)) = self.given.split_first() else {
+            return Err(self.fault("FILE is missing"));
+        };
+        let mut start = [None; 16];
+        for word in words {
+            let Some((variable, value)) = start_word(word) else {
+                let form = "one is x0=3, with x0 to x15 and -32768 to 65535";
+                return Err(self.fault(format!("'{word}' is no start word; {form}")));
+            };
+            if start[variable].replace(value).is_some() {
+                return Err(self.fault(format!("x{variable} has two start words")));
             }
-            start[variable] = value;
         }
-        Ok(start)
+        Ok((file, start.map(Option::unwrap_or_default)))
     }
 
     /// Exactly so many words, each named in the usage.
     pub fn exactly<const N: usize>(&self, names: [&str; N]) -> Result<[&str; N], Fault> {
-        if self.given.len() < N {
-            let name = names[self.given.len()];
-            return Err(Fault::usage(format!("{name} is missing")));
+        if let Some(name) = names.get(self.given.len()) {
+            return Err(self.fault(format!("{name} is missing")));
         }
         if let Some(extra) = self.given.get(N) {
-            return Err(Fault::usage(format!("'{extra}' is one word too many")));
+            return Err(self.fault(format!("'{extra}' is one word too many")));
         }
         Ok(std::array::from_fn(|k| self.given[k].as_str()))
     }
 }
 
 impl Options {
-    /// Whether an option takes a value.
-    fn takes(self, name: &str) -> Result<bool, Fault> {
-        if self.valued.contains(&name) {
-            return Ok(true);
-        }
-        if name == "json" || self.flags.contains(&name) {
-            return Ok(false);
-        }
-        Err(Fault::usage(format!("{} is not an option", dashed(name))))
+    /// Whether an option takes a value, if there is one of this name.
+    fn takes(self, name: &str) -> Option<bool> {
+        let flag = name == "json" || self.flags.contains(&name);
+        let valued = self.valued.contains(&name);
+        (flag || valued).then_some(valued)
     }
 }
 
@@ -126,10 +137,6 @@ fn option(word: &str) -> Option<(&str, Option<&str>)> {
 fn dashed(name: &str) -> String {
     let dashes = if name.len() == 1 { "-" } else { "--" };
     format!("{dashes}{name}")
-}
-
-fn missing(name: &str) -> Fault {
-    Fault::usage(format!("{} and a value are missing", dashed(name)))
 }
 
 fn start_word(word: &str) -> Option<(usize, u16)> {

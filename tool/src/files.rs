@@ -24,7 +24,11 @@ pub fn read(name: &str) -> Result<Vec<u8>, Fault> {
     } else {
         fs::read(name)
     };
-    bytes.map_err(|error| Fault::usage(format!("{} can't be read: {error}", shown(name))))
+    bytes.map_err(|error| {
+        let name = shown(name);
+        let remedy = "give the name of a file that is there, or - for standard input";
+        Fault::usage(format!("{name} can't be read: {error}; {remedy}"))
+    })
 }
 
 /// Writes a file whole: to another file beside it first, which then takes its
@@ -41,15 +45,16 @@ pub fn write(name: &str, bytes: &[u8]) -> Result<(), Fault> {
 /// Prints what a command tells. Whoever reads may have gone, which is no fault.
 pub fn print(bytes: &[u8]) -> Result<(), Fault> {
     match put(io::stdout(), bytes) {
-        Err(error) if error.kind() != ErrorKind::BrokenPipe => {
-            Err(unwritten("standard output", &error))
-        }
+        Err(error) if error.kind() != ErrorKind::BrokenPipe => Err(Fault::usage(format!(
+            "standard output can't be written: {error}"
+        ))),
         _ => Ok(()),
     }
 }
 
 fn unwritten(name: &str, error: &io::Error) -> Fault {
-    Fault::usage(format!("{name} can't be written: {error}"))
+    let remedy = "give a name in a folder that is there and has room, or - for standard output";
+    Fault::usage(format!("{name} can't be written: {error}; {remedy}"))
 }
 
 fn put(mut to: impl Write, bytes: &[u8]) -> io::Result<()> {

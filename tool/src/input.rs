@@ -49,7 +49,9 @@ impl Given {
     /// its name: NAME.prog a program's bytes, NAME.net a netlist, others texts.
     pub fn read(args: &Args, name: &str) -> Result<Given, Fault> {
         let form = match args.value("as") {
-            Some(word) => form_named(word)?,
+            Some(word) => form_named(word).ok_or_else(|| {
+                args.fault(format!("--as takes text, program or netlist, not '{word}'"))
+            })?,
             None => form_of(name),
         };
         let times = match args.value("times") {
@@ -82,7 +84,7 @@ impl Given {
             }
             Form::Netlist => {
                 let name = &self.name;
-                let message = format!("{name} is a netlist, and the program isn't in it");
+                let message = format!("{name} is a netlist, without its program; give the program");
                 Err(Fault::usage(message).into())
             }
         }
@@ -139,14 +141,12 @@ impl Given {
     }
 }
 
-fn form_named(word: &str) -> Result<Form, Fault> {
+fn form_named(word: &str) -> Option<Form> {
     match word {
-        "text" => Ok(Form::Text),
-        "program" => Ok(Form::Program),
-        "netlist" => Ok(Form::Netlist),
-        _ => Err(Fault::usage(format!(
-            "--as takes text, program or netlist, not '{word}'"
-        ))),
+        "text" => Some(Form::Text),
+        "program" => Some(Form::Program),
+        "netlist" => Some(Form::Netlist),
+        _ => None,
     }
 }
 

@@ -38,6 +38,11 @@ pub fn read_netlist(file: &[u8]) -> Result<Netlist, Refusal> {
     Ok(Netlist { cells, finish })
 }
 
+/// Checks a netlist.
+pub fn check_netlist(netlist: &Netlist) -> Result<(), Refusal> {
+    cell_calls::check(&netlist.cells, netlist.finish)
+}
+
 /// The file of a netlist.
 pub fn write_netlist(netlist: &Netlist) -> Result<Vec<u8>, Refusal> {
     let mut file = vec![0; FILE];
@@ -57,6 +62,12 @@ pub fn begin(file: &[u8], words: &Words) -> Result<(Vec<u8>, Answer), Refusal> {
 /// Continues a run by at most `n` instants.
 pub fn go(file: &[u8], state: &mut [u8], n: u32) -> Result<Answer, Refusal> {
     calls::continue_by(file, state, n)
+}
+
+/// A full run of a netlist file.
+pub fn run_netlist(file: &[u8], words: &Words, budget: u32) -> Result<Answer, Refusal> {
+    let mut state = vec![0; state_length(CELLS)];
+    calls::run_netlist(file, &word_bytes(words), budget, &mut state)
 }
 
 /// Whether a netlist file may be run with this budget. A full run looks at the

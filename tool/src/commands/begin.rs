@@ -5,7 +5,7 @@ use crate::args::{Args, Options};
 use crate::files;
 use crate::input::Given;
 use crate::product;
-use crate::types::{Done, Fault, DONE};
+use crate::types::{Done, DONE};
 
 pub const COMMAND: Command = Command {
     name: "begin",
@@ -21,10 +21,7 @@ pub const COMMAND: Command = Command {
 };
 
 fn run(args: &Args) -> Result<Done, Stop> {
-    let Some((file, words)) = args.given.split_first() else {
-        return Err(Fault::usage("FILE is missing").into());
-    };
-    let start = Args::start_words(words)?;
+    let (file, start) = args.file_and_words()?;
     let to = args.needed("o")?;
     let given = Given::read(args, file)?;
     let circuit = given.circuit()?;

@@ -1,7 +1,8 @@
 //! `hub help`: the commands, or one of them with an example.
 
-use super::{named, Command, Stop, COMMANDS};
+use super::{named, usage, Command, Stop, COMMANDS};
 use crate::args::{Args, Options};
+use crate::json::Json;
 use crate::types::Done;
 
 pub const COMMAND: Command = Command {
@@ -18,11 +19,29 @@ pub const COMMAND: Command = Command {
 };
 
 fn run(args: &Args) -> Result<Done, Stop> {
+    let json = args.flag("json");
     if args.given.is_empty() {
-        return Ok(Done::printing(overview() + "\n"));
+        return Ok(Done::printing(match json {
+            true => Json::list(COMMANDS, |command| fields(command)).line(),
+            false => (overview() + "\n").into_bytes(),
+        }));
     }
     let [name] = args.exactly(["COMMAND"])?;
-    Ok(Done::printing(of(named(name)?)))
+    let command = named(name)?;
+    Ok(Done::printing(match json {
+        true => fields(command).line(),
+        false => of(command).into_bytes(),
+    }))
+}
+
+fn fields(command: &Command) -> Json {
+    Json::Object(vec![
+        ("command", Json::text(command.name)),
+        ("usage", Json::text(usage(command))),
+        ("about", Json::text(command.about)),
+        ("more", Json::text(command.more)),
+        ("example", Json::text(command.example)),
+    ])
 }
 
 /// The list of the commands, without the last line's end.
@@ -38,17 +57,15 @@ pub fn overview() -> String {
 /// The page of a command.
 pub fn of(command: &Command) -> String {
     let Command {
-        name,
-        usage,
         about,
         more,
         example,
         ..
     } = command;
-    let more = if more.is_empty() {
-        String::new()
-    } else {
-        format!("\n{more}\n")
+    let usage = usage(command);
+    let more = match *more {
+        "" => String::new(),
+        more => format!("\n{more}\n"),
     };
-    format!("usage: hub {name} {usage}\n\n{about}\n{more}\nexample: {example}\n")
+    format!("usage: {usage}\n\n{about}\n{more}\nexample: {example}\n")
 }

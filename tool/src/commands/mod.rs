@@ -123,7 +123,7 @@ fn chosen(words: &[String]) -> Result<Done, Stop> {
     if words.iter().any(asks) {
         return Ok(Done::printing(help::of(command)));
     }
-    let args = Args::parse(command.options, words).map_err(|fault| with_usage(fault, command))?;
+    let args = Args::parse(command.options, usage(command), words)?;
     (command.run)(&args)
 }
 
@@ -144,9 +144,9 @@ fn named(name: &str) -> Result<&'static Command, Fault> {
         })
 }
 
-fn with_usage(fault: Fault, command: &Command) -> Fault {
-    let Command { name, usage, .. } = command;
-    Fault::usage(format!("{}\nusage: hub {name} {usage}", fault.message))
+/// How a command is called.
+fn usage(command: &Command) -> String {
+    format!("hub {} {}", command.name, command.usage)
 }
 
 /// Writes a command's file and tells it, with a count of what is in it.

@@ -33,10 +33,7 @@ const BUDGET: u32 = 1_000_000;
 const SLICE: u32 = 2_000;
 
 fn run(args: &Args) -> Result<Done, Stop> {
-    let Some((file, words)) = args.given.split_first() else {
-        return Err(Fault::usage("FILE is missing").into());
-    };
-    let start = Args::start_words(words)?;
+    let (file, start) = args.file_and_words()?;
     let budget = args.number("budget")?.unwrap_or(BUDGET);
     let given = Given::read(args, file)?;
     let circuit = given.circuit()?;

@@ -30,10 +30,7 @@ const MOST: u32 = 240;
 const AFTER: u32 = 2;
 
 fn run(args: &Args) -> Result<Done, Stop> {
-    let Some((file, words)) = args.given.split_first() else {
-        return Err(Fault::usage("FILE is missing").into());
-    };
-    let words = Args::start_words(words)?;
+    let (file, words) = args.file_and_words()?;
     let given = Given::read(args, file)?;
     let circuit = given.circuit()?;
     let wires = choice::wires(&circuit, &given.bytes, args.value("wires"))?;

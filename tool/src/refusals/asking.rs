@@ -1,9 +1,9 @@
-//! What a refusal leaves to be found out, by asking the product about programs
-//! and texts that differ a little from the refused one.
+//! What a refusal leaves to be found out, by asking the product about programs,
+//! texts and netlists that differ a little from the refused one.
 
 use crate::origin::subtree_end;
 use crate::product;
-use crate::types::{Node, Refusal, Table};
+use crate::types::{Cell, Netlist, Node, Refusal, Table};
 
 /// The least delay of a node whose program has no other delay that is too
 /// small before it; none where 255 is too small.
@@ -69,6 +69,37 @@ fn with_uses(nodes: &[Node], parallel: usize, middle: usize, kept: [usize; 2]) -
 
 fn asked(table: Table, nodes: &[Node]) -> Result<(), Refusal> {
     product::check(table, &product::program_bytes(nodes))
+}
+
+/// Whether the finish is all that a refused netlist has wrong: with the start
+/// as its finish it is accepted.
+pub fn finish_alone(netlist: &Netlist) -> bool {
+    let started = Netlist {
+        cells: netlist.cells.clone(),
+        finish: 0,
+    };
+    product::check_netlist(&started).is_ok()
+}
+
+/// The field of a refused cell that some other value would do for.
+pub fn wrong_field(netlist: &Netlist, place: usize) -> Option<&'static str> {
+    let fits = |change: &dyn Fn(&mut Cell)| {
+        let mut changed = netlist.clone();
+        change(&mut changed.cells[place]);
+        product::check_netlist(&changed) != Err(Refusal::new(12, place))
+    };
+    let wires = 0..netlist.cells.len() as u16;
+    if (0..=255).any(|delay| fits(&|cell| cell.delay = delay)) {
+        Some("delay")
+    } else if wires.clone().any(|a| fits(&|cell| cell.a = a)) {
+        Some("a")
+    } else if wires.clone().any(|b| fits(&|cell| cell.b = b)) {
+        Some("b")
+    } else if (0..=255).any(|kind| fits(&|cell| cell.kind = kind)) {
+        Some("kind")
+    } else {
+        None
+    }
 }
 
 /// What may stand in a text: words, with an example of each.

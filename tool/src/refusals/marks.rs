@@ -41,8 +41,8 @@ impl Mark {
         }
     }
 
-    /// The line, and the caret under the place.
-    pub fn lines(&self) -> String {
+    /// The line, unless it was shown before, and the caret under the place.
+    pub fn lines(&self, before: Option<&Mark>) -> String {
         let number = self.line.to_string();
         let blank = " ".repeat(number.len());
         let Mark {
@@ -51,8 +51,13 @@ impl Mark {
             caption,
             ..
         } = self;
-        let line = format!("  {blank} | {caret} {caption}");
-        format!("  {number} | {shown}\n{}\n", line.trim_end())
+        let again = before.is_some_and(|mark| mark.line == self.line && mark.shown == *shown);
+        let line = match again {
+            true => String::new(),
+            false => format!("  {number} | {shown}").trim_end().to_string() + "\n",
+        };
+        let under = format!("  {blank} | {caret} {caption}");
+        line + under.trim_end() + "\n"
     }
 
     pub fn json(&self) -> Json {

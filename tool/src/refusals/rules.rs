@@ -97,17 +97,15 @@ pub const RULES: &[Rule] = &[
     rule_of(
         11,
         Counts::Blocks,
-        "this block's header is wrong, or a byte that has no use isn't zero; \
-         or the netlist doesn't have 19 to 1,024 cells with the finish among them",
+        "this block's header is wrong, or a byte without a use isn't zero; \
+         a netlist has 19 to 1,024 cells, and the finish is one of them",
         "make the file again, from the program or the list",
     ),
     rule_of(
         12,
         Counts::Cells,
-        "this cell breaks a rule of netlists: its kind, a field without a use, \
-         or an input that is of the wrong sort or no lower cell; \
-         or there aren't sixteen memories, or the finish is no control wire",
-        "rewire this cell; only a delay's input and a memory's data may name a higher cell",
+        "this cell breaks a rule of netlists",
+        "rewire it",
     ),
     rule_of(
         13,

@@ -50,6 +50,9 @@ impl<'a> Words<'a> {
         let length = match rest {
             [] => return None,
             [b':', b'=', ..] | [b'|', b'|', ..] => 2,
+            [first, ..] if !first.is_ascii() => {
+                rest.iter().take_while(|byte| !byte.is_ascii()).count()
+            }
             [first, ..] if !first.is_ascii_alphanumeric() => 1,
             _ => {
                 let in_word = |byte: &&u8| byte.is_ascii_alphanumeric();

@@ -88,6 +88,9 @@ fn netlists(put: &impl Fn(&str, &[u8])) {
     put("sum.net", &damaged(&file, 30, 77));
     put("header.net", &summed(&damaged(&file, 0, 1)));
     put("cell.net", &summed(&damaged(&file, 8 + 6 * 3 + 1, 0)));
+    put("input.net", &summed(&damaged(&file, 8 + 6 * 3 + 2, 2)));
+    put("kind.net", &summed(&damaged(&file, 8 + 6 * 3, 99)));
+    put("memories.net", &summed(&damaged(&file, 8 + 6 * 4, 41)));
     put("finish.net", &summed(&damaged(&file, 4, 2)));
     put("tick.state", &state);
     put("short.state", &state[..100]);

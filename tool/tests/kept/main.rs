@@ -94,8 +94,7 @@ fn kept_lines() -> Vec<String> {
 #[test]
 fn every_command_is_kept_on_every_example() {
     let lines = kept_lines();
-    let commands = hub::commands::COMMANDS.iter().map(|command| command.name);
-    for command in commands.filter(|name| !["help", "start"].contains(name)) {
+    for command in ["run", "check", "compile", "read", "begin", "go"] {
         let begins = format!("{PROMPT}{command} ");
         for example in files(&top().join("examples"), "hub") {
             let name = example.file_stem().expect("a name").to_string_lossy();

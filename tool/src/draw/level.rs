@@ -2,7 +2,7 @@
 //! each number of cells that a pulse or word has come through.
 
 use super::block::Block;
-use super::{memories, shown, FINISH};
+use super::{memories, shown, with_finish};
 use crate::kinds::{inputs, MEMORY};
 use crate::types::Netlist;
 
@@ -26,9 +26,7 @@ pub fn placed(netlist: &Netlist, all: bool) -> Block {
         .into_iter()
         .map(Block::cell)
         .fold(Block::default(), Block::below);
-    block
-        .beside(Block::cell(FINISH))
-        .beside(words.framed("words".to_string()))
+    with_finish(block, netlist).beside(words.framed("words".to_string()))
 }
 
 /// For each cell how many cells lead to it, memories and loops left out.

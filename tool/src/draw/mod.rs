@@ -104,6 +104,14 @@ fn shown(netlist: &Netlist, all: bool) -> Vec<bool> {
     shown
 }
 
+/// With the end of the finish wire, beside the cell that drives it.
+fn with_finish(block: Block, netlist: &Netlist) -> Block {
+    let drives = |placed: &&block::Placed| placed.cell == netlist.finish;
+    let row = block.cells.iter().find(drives).map_or(0, |placed| placed.row);
+    let column = block.width;
+    block.with(FINISH, column, row)
+}
+
 /// The memories that are drawn, one below the other.
 fn memories(netlist: &Netlist, shown: &[bool]) -> Vec<u16> {
     let memory = |cell: &u16| {

@@ -2,7 +2,7 @@
 //! parts in the order in which the pulse goes through them.
 
 use super::block::Block;
-use super::{memories, shown, FINISH};
+use super::{memories, shown, with_finish};
 use crate::format::Tree;
 use crate::labels::Labels;
 use crate::origin::Trace;
@@ -23,8 +23,7 @@ pub fn placed(netlist: &Netlist, trace: &Trace, labels: &Labels, all: bool) -> B
         }
     }
     let program = first.beside(places.statement(&labels.tree));
-    let program = program.beside(Block::cell(FINISH));
-    program.beside(places.words(netlist, &shown))
+    with_finish(program, netlist).beside(places.words(netlist, &shown))
 }
 
 struct Places<'p> {

@@ -2,6 +2,7 @@
 //! what is wrong is told with its line.
 
 use crate::files;
+use crate::refusals::{self, Report};
 use crate::types::{Fault, Refusal, REFUSED};
 
 /// What is wrong with such a text: the line, counted from 1, and why.
@@ -22,7 +23,7 @@ impl Wrong {
     pub fn fault(self, file: &str) -> Fault {
         Fault {
             exit: REFUSED,
-            message: format!("{file}, line {}: {}", self.line, self.why),
+            message: format!("{}, line {}: {}", files::shown(file), self.line, self.why),
         }
     }
 }
@@ -30,7 +31,7 @@ impl Wrong {
 /// The text of a file, which must be one.
 pub fn read(name: &str) -> Result<String, Fault> {
     let text = String::from_utf8(files::read(name)?);
-    text.map_err(|_| Fault::usage(format!("{name} is no text; it may be a file of bytes")))
+    text.map_err(|_| Fault::usage(format!("{} is no text", files::shown(name))))
 }
 
 /// The words of a line before its comment.
@@ -39,11 +40,14 @@ pub fn words(line: &str) -> Vec<&str> {
     said.split_whitespace().collect()
 }
 
-/// What the product said of the whole, at the line that its place is about.
-pub fn refused(file: &str, met: Refusal, line: Option<usize>) -> Fault {
-    let at = line.map_or(String::new(), |line| format!(", line {line}"));
-    Fault {
-        exit: REFUSED,
-        message: format!("{file}{at}: {met}"),
+/// What the product says of such a text's contents, with the line that its
+/// place is about.
+pub fn refused(file: &str, text: &str, met: Refusal, line: Option<usize>) -> Report {
+    let said = |line: usize| Some((line, text.lines().nth(line - 1)?));
+    Report {
+        at: line
+            .and_then(said)
+            .map(|(line, words)| format!("line {line}: {}", words.trim())),
+        ..refusals::plain(files::shown(file), met)
     }
 }

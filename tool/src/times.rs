@@ -52,6 +52,12 @@ fn assignment(kind: u8, delay: u8) -> Vec<u8> {
     product::program_bytes(&nodes)
 }
 
+/// The operator whose time stands at a byte of a table's file.
+pub fn operator_at(byte: usize) -> Option<&'static str> {
+    let at = |(kind, _): &&(u8, &str)| TIMES + usize::from(*kind) - 1 == byte;
+    OPERATORS.iter().find(at).map(|(_, name)| *name)
+}
+
 /// The file of a table with these times, in the order of the operators.
 pub fn file(times: &[u8]) -> Result<Vec<u8>, Fault> {
     let mut bytes = vec![0; LENGTH];

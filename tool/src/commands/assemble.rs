@@ -26,13 +26,14 @@ fn run(args: &Args) -> Result<Done, Stop> {
     let [name] = args.exactly(["OUTLINE"])?;
     let out = args.needed("o")?;
     let table = args.value("times").map(files::read).transpose()?;
-    let lined = assemble(&lines::read(name)?).map_err(|wrong| wrong.fault(name))?;
+    let text = lines::read(name)?;
+    let lined = assemble(&text).map_err(|wrong| wrong.fault(name))?;
     let nodes: Vec<Node> = lined.iter().map(|(node, _)| *node).collect();
     let program = product::program_bytes(&nodes);
     if !args.flag("unchecked") {
         product::check(table.as_deref(), &program).map_err(|met| {
             let line = lined.get(met.place).map(|(_, line)| *line);
-            lines::refused(name, met, line)
+            lines::refused(name, &text, met, line)
         })?;
     }
     files::write(out, &program)?;

@@ -3,9 +3,9 @@
 use super::{Command, Stop};
 use crate::args::{Args, Options};
 use crate::json::Json;
-use crate::lines;
+use crate::refusals::{self, Report};
 use crate::times::{self, OPERATORS};
-use crate::types::{Done, Fault, Table};
+use crate::types::{Done, Fault, Refusal, Table};
 use crate::{files, product};
 
 pub const COMMAND: Command = Command {
@@ -28,13 +28,13 @@ fn run(args: &Args) -> Result<Done, Stop> {
     }
     match &args.given[..] {
         [] => show(args, None, "the built-in times"),
-        [name] => show(args, Some(&files::read(name)?), name),
+        [name] => show(args, Some(&files::read(name)?), files::shown(name)),
         _ => Err(Fault::usage("-o and the table's name are missing").into()),
     }
 }
 
 fn show(args: &Args, table: Table, name: &str) -> Result<Done, Stop> {
-    let times = times::times(table).map_err(|met| lines::refused(name, met, None))?;
+    let times = times::times(table).map_err(|met| refusals::plain(name, met))?;
     let named = || OPERATORS.iter().map(|(_, name)| *name).zip(&times);
     if args.flag("json") {
         let fields = named().map(|(name, time)| (name, Json::number(*time)));
@@ -54,10 +54,22 @@ fn make(args: &Args, out: &str) -> Result<Done, Stop> {
     let table = times::file(&times)?;
     // Times that are out of range are the product's to refuse.
     if let Err(met) = product::check(Some(&table), &OK) {
-        return Err(lines::refused(out, met, None).into());
+        return Err(refused(&args.given, met).into());
     }
     files::write(out, &table)?;
     show(args, Some(&table), out)
+}
+
+/// Of times that can't stand in a table: the words that ask for them.
+fn refused(given: &[String], met: Refusal) -> Report {
+    let own = times::operator_at(met.place).and_then(|name| {
+        let sets = |word: &&String| word.split('=').next() == Some(name);
+        given.iter().find(sets).cloned()
+    });
+    Report {
+        at: own,
+        ..refusals::plain("the table", met)
+    }
 }
 
 /// A program that every table takes: ok.

@@ -4,9 +4,9 @@ use super::{Command, Stop};
 use crate::args::{Args, Options};
 use crate::input::{Circuit, Given};
 use crate::json::Json;
-use crate::output;
-use crate::types::{Done, Fault, Words};
+use crate::types::{Done, Fault, Refusal, Words};
 use crate::wave::{choice, record, svg, terminal, vcd, Waveforms};
+use crate::{output, product};
 
 pub const COMMAND: Command = Command {
     name: "wave",
@@ -14,7 +14,8 @@ pub const COMMAND: Command = Command {
     about: "shows how wires go up and down in a run: in the terminal, as VCD for GTKWave, as SVG",
     more: "Shown are start, finish, the words that are written, and each statement's start and\n\
         finish, named by its kind and node, as while1.start. --wires chooses some of them, or\n\
-        others by NAME=CELL. Without --to the waves go to the finish, at most 240 instants.",
+        cells by number; NAME=WIRE gives a wire another name. Without --to the waves go to the\n\
+        finish, at most 240 instants.",
     example: "hub wave examples/two_boards.hub x0=1 x1=2 --to 40",
     options: Options {
         valued: &["as", "times", "from", "to", "wires", "o"],
@@ -47,11 +48,14 @@ fn run(args: &Args) -> Result<Done, Stop> {
 }
 
 /// The last instant that is shown.
-fn last(circuit: &Circuit, words: &Words, from: u32) -> Result<u32, crate::types::Refusal> {
+fn last(circuit: &Circuit, words: &Words, from: u32) -> Result<u32, Refusal> {
     let most = from.saturating_add(MOST);
-    let end = crate::product::run_netlist(&circuit.file, words, most)?;
-    Ok(match end.ended {
-        true => (end.instant + AFTER).clamp(from + AFTER, most),
+    let (mut state, mut answer) = product::begin(&circuit.file, words)?;
+    if !answer.ended {
+        answer = product::go(&circuit.file, &mut state, most)?;
+    }
+    Ok(match answer.ended {
+        true => (answer.instant + AFTER).clamp(from + AFTER, most),
         false => most,
     })
 }

@@ -26,10 +26,11 @@ pub const COMMAND: Command = Command {
 fn run(args: &Args) -> Result<Done, Stop> {
     let [name] = args.exactly(["LIST"])?;
     let out = args.needed("o")?;
-    let listed = listing::wired(&lines::read(name)?).map_err(|wrong| wrong.fault(name))?;
+    let text = lines::read(name)?;
+    let listed = listing::wired(&text).map_err(|wrong| wrong.fault(name))?;
     let file = product::write_netlist(&listed.netlist).map_err(|met| {
         let line = listed.lines.get(met.place).copied().flatten();
-        lines::refused(name, met, line)
+        lines::refused(name, &text, met, line)
     })?;
     files::write(out, &file)?;
     let (cells, finish) = (listed.netlist.cells.len(), listed.netlist.finish);

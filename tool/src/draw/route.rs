@@ -103,16 +103,16 @@ pub fn routes(plan: &Plan) -> Routes {
 }
 
 /// The channels that a link takes, with the heights or columns between which.
+/// Heights are such that the channel before row r has 10 r, and that no port
+/// but one that is reached straight has the height of a row's outputs.
 fn ways(link: &Link, taken: &HashSet<(usize, usize)>) -> Vec<(Channel, usize, usize)> {
     let (from, to) = (link.from, link.to);
-    let (leaves, comes) = (
-        height(from.row, 0, 1),
-        height(to.row, link.port, link.ports),
-    );
+    let leaves = 10 * from.row + 5;
+    let comes = 10 * to.row + if link.port == 0 { 3 } else { 7 };
     let ahead = from.column < to.column;
     let free = |column: usize| !taken.contains(&(column, from.row));
     if ahead && (from.column + 1..to.column).all(free) {
-        return match leaves == comes {
+        return match link.ports == 1 && from.row == to.row {
             true => Vec::new(),
             false => vec![(Channel::Up(to.column), leaves, comes)],
         };
@@ -128,15 +128,6 @@ fn ways(link: &Link, taken: &HashSet<(usize, usize)>) -> Vec<(Channel, usize, us
         (Channel::Along(row), from.column + 1, to.column),
         (Channel::Up(to.column), along, comes),
     ]
-}
-
-/// The height of a port in a row, such that a channel before row r has 10 r.
-fn height(row: usize, port: usize, ports: usize) -> usize {
-    match (port, ports) {
-        (_, 1) => 10 * row + 5,
-        (0, _) => 10 * row + 3,
-        _ => 10 * row + 7,
-    }
 }
 
 /// The zone of a channel in which a link stays inside the smallest frame that

@@ -69,12 +69,13 @@ impl<'p> Scale<'p> {
         )
     }
 
-    /// Where a wire comes to a port, from the left.
-    pub fn port(&self, placed: &Placed, port: usize, ports: usize) -> (i32, i32) {
+    /// Where a wire comes to a port, from the left: at the height of outputs
+    /// if it is reached straight.
+    pub fn port(&self, placed: &Placed, port: usize, straight: bool) -> (i32, i32) {
         let (x, y) = self.corner(placed);
-        let down = match (port, ports) {
-            (_, 1) => CELL.1 / 2,
-            (0, _) => CELL.1 / 4,
+        let down = match port {
+            _ if straight => CELL.1 / 2,
+            0 => CELL.1 / 4,
             _ => CELL.1 - CELL.1 / 4,
         };
         (x, y + down)
@@ -84,7 +85,7 @@ impl<'p> Scale<'p> {
     pub fn points(&self, link: &Link) -> Vec<(i32, i32)> {
         let (left, top) = self.corner(&link.from);
         let leaves = (left + CELL.0, top + CELL.1 / 2);
-        let comes = self.port(&link.to, link.port, link.ports);
+        let comes = self.port(&link.to, link.port, link.lanes.is_empty());
         let mut points = vec![leaves];
         let mut y = leaves.1;
         for (k, lane) in link.lanes.iter().enumerate() {

@@ -152,7 +152,7 @@ fn put_cell(out: &mut String, plan: &Plan, placed: &Placed, scale: &Scale) {
     let inputs = plan.inputs(placed.cell);
     for (port, wire) in inputs.iter().enumerate() {
         if let Some(tag) = plan.tag(*wire) {
-            let (x, y) = scale.port(placed, port, inputs.len());
+            let (x, y) = scale.port(placed, port, inputs.len() == 1);
             put_tag(out, tag, x - TAG.0, y, TAG.0);
         }
     }
@@ -165,7 +165,7 @@ fn put_cell(out: &mut String, plan: &Plan, placed: &Placed, scale: &Scale) {
     if placed.cell == FINISH {
         let _ = writeln!(
             out,
-            "<rect x=\"{x}\" y=\"{y}\" width=\"60\" height=\"{height}\" rx=\"18\" \
+            "<rect x=\"{x}\" y=\"{y}\" width=\"60\" height=\"{height}\" rx=\"9\" \
              fill=\"#e8eef8\" {CONTROL}/>\n\
              <text x=\"{}\" y=\"{}\" text-anchor=\"middle\" font-size=\"11\">{title}</text>",
             x + 30,

@@ -83,21 +83,36 @@ fn wire(netlist: &Netlist, name: String, cell: u16) -> Wire {
     }
 }
 
-/// A wire by its name, or any cell as CELL or NAME=CELL.
+/// A wire by its name or its cell, also under a name of its own: NAME=WIRE.
 fn chosen(named: &[Wire], netlist: &Netlist, word: &str) -> Result<Wire, Fault> {
-    if let Some(wire) = named.iter().find(|wire| wire.name == word) {
-        return Ok(wire.clone());
-    }
-    let (name, cell) = match word.split_once('=') {
-        Some((name, cell)) => (name.to_string(), cell),
-        None => (format!("cell{word}"), word),
+    let (own, wire) = match word.split_once('=') {
+        Some((own, wire)) => (Some(own.to_string()), wire),
+        None => (None, word),
     };
-    match cell.parse::<u16>() {
-        Ok(cell) if usize::from(cell) < netlist.cells.len() => Ok(wire(netlist, name, cell)),
-        _ => {
-            let names: Vec<&str> = named.iter().map(|wire| wire.name.as_str()).collect();
-            let message = format!("no wire is called '{word}'; there are {}", names.join(", "));
-            Err(Fault::usage(message))
-        }
-    }
+    let found = match named.iter().find(|known| known.name == wire) {
+        Some(known) => known.clone(),
+        None => of_cell(netlist, wire).ok_or_else(|| unknown(named, wire))?,
+    };
+    Ok(match own {
+        Some(name) => Wire {
+            name,
+            about: String::new(),
+            ..found
+        },
+        None => found,
+    })
+}
+
+fn of_cell(netlist: &Netlist, number: &str) -> Option<Wire> {
+    let cell: u16 = number.parse().ok()?;
+    let there = usize::from(cell) < netlist.cells.len();
+    there.then(|| wire(netlist, format!("cell{cell}"), cell))
+}
+
+fn unknown(named: &[Wire], name: &str) -> Fault {
+    let names: Vec<&str> = named.iter().map(|wire| wire.name.as_str()).collect();
+    let names = names.join(", ");
+    Fault::usage(format!(
+        "no wire is called '{name}'; there are cells by number, and {names}"
+    ))
 }

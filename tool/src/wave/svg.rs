@@ -74,7 +74,7 @@ fn label(wire: &Wire) -> String {
 
 /// The instants that the axis names, and a line down from each.
 fn axis(text: &mut String, waves: &Waveforms, scale: &Scale) {
-    let step = axis_step(36usize.div_ceil(scale.instant));
+    let step = axis_step(28usize.div_ceil(scale.instant));
     for at in (0..=scale.count).filter(|at| (waves.from as usize + at).is_multiple_of(step)) {
         let (x, instant) = (scale.x(at), waves.from as usize + at);
         let _ = writeln!(

@@ -45,7 +45,7 @@ pub fn words(line: &str) -> Vec<&str> {
 pub fn refused(file: &str, text: &str, met: Refusal, line: Option<usize>) -> Report {
     let said = |line: usize| Some((line, text.lines().nth(line - 1)?));
     Report {
-        at: line
+        found: line
             .and_then(said)
             .map(|(line, words)| format!("line {line}: {}", words.trim())),
         ..refusals::plain(files::shown(file), met)

@@ -67,7 +67,7 @@ fn refused(given: &[String], met: Refusal) -> Report {
         given.iter().find(sets).cloned()
     });
     Report {
-        at: own,
+        found: own,
         ..refusals::plain("the table", met)
     }
 }

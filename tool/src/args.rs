@@ -36,7 +36,10 @@ impl Args {
             };
             let value = match (options.takes(name), value) {
                 (Some(true), Some(value)) => value.to_string(),
-                (Some(true), None) => words.next().cloned().ok_or_else(|| args.missing(name))?,
+                (Some(true), None) => match words.next() {
+                    Some(value) if !value.starts_with("--") => value.clone(),
+                    _ => return Err(args.missing(name)),
+                },
                 (Some(false), None) => String::new(),
                 (Some(false), Some(_)) => {
                     return Err(args.fault(format!("{} takes no value", dashed(name))))

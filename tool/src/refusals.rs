@@ -27,9 +27,11 @@ pub struct Report {
     pub marks: Vec<Mark>,
     /// What stands at the place, where it is in no text.
     pub found: Option<String>,
-    /// For 7 the least delay, for 8 the variable.
+    /// For 7 the least delay.
     pub least: Option<u8>,
+    /// For 8 the variable, and the nodes that use it, one on each side.
     pub variable: Option<u16>,
+    pub uses: Option<[usize; 2]>,
 }
 
 /// The report of a refusal of which nothing but its number is known.
@@ -48,6 +50,7 @@ pub fn plain(file: &str, refusal: Refusal) -> Report {
         found: None,
         least: None,
         variable: None,
+        uses: None,
     }
 }
 
@@ -110,6 +113,10 @@ impl Report {
             ("marks", Json::list(&self.marks, Mark::json)),
             ("least", Json::maybe(self.least, Json::number)),
             ("variable", Json::maybe(self.variable, Json::number)),
+            (
+                "uses",
+                Json::maybe(self.uses, |uses| Json::list(uses, Json::number)),
+            ),
         ])
     }
 }

@@ -71,6 +71,7 @@ fn of_clash(report: &mut Report, given: &Given, nodes: &[Node], source: Option<&
     };
     let variable = nodes[uses[0]].n;
     report.variable = Some(variable);
+    report.uses = Some(uses);
     let told = uses.map(|node| format!("x{variable} is {} here", done(nodes[node])));
     report.rule = match uses.map(|node| done(nodes[node])) {
         [left, right] if left == right => {

@@ -4,10 +4,12 @@
 //! files are made anew, to be looked at before they are kept.
 
 mod inputs;
+mod json;
 
 use std::fs;
 use std::path::{Path, PathBuf};
-use std::process::Command;
+use std::process::{Command, Output};
+use std::sync::atomic::{AtomicUsize, Ordering};
 
 /// Stands for a folder that the command lines of a file share.
 const FOLDER: &str = "FOLDER";
@@ -35,21 +37,41 @@ fn kept() -> Vec<PathBuf> {
     )
 }
 
-/// What a command line tells.
-fn told(line: &str, folder: &Path) -> String {
+/// A folder for a kept file's command lines, with what they find in it.
+fn with_folder<T>(file: &Path, work: impl FnOnce(&Path) -> T) -> T {
+    static NEXT: AtomicUsize = AtomicUsize::new(0);
+    let name = file.file_stem().expect("a name").to_string_lossy();
+    let next = NEXT.fetch_add(1, Ordering::Relaxed);
+    let folder = format!("hub-{name}-{}-{next}", std::process::id());
+    let folder = std::env::temp_dir().join(folder);
+    fs::create_dir_all(&folder).expect("a folder");
+    inputs::make(&folder);
+    let result = work(&folder);
+    fs::remove_dir_all(&folder).expect("the folder goes");
+    result
+}
+
+/// Follows a command line, with more words after it.
+fn ran(line: &str, more: &[&str], folder: &Path) -> Output {
     let folder = folder.to_str().expect("a name in letters");
     let words = line[PROMPT.len()..].split_whitespace();
-    let ran = Command::new(env!("CARGO_BIN_EXE_hub"))
+    Command::new(env!("CARGO_BIN_EXE_hub"))
         .args(words.map(|word| word.replace(FOLDER, folder)))
+        .args(more)
         .current_dir(top())
         .output()
-        .expect("the tool runs");
+        .expect("the tool runs")
+}
+
+/// What a command line tells.
+fn told(line: &str, folder: &Path) -> String {
+    let ran = ran(line, &[], folder);
     let mut text = String::from_utf8_lossy(&ran.stdout).into_owned();
     text += &String::from_utf8_lossy(&ran.stderr);
     if !ran.status.success() {
         text += &format!("[exit {}]\n", ran.status.code().unwrap_or(-1));
     }
-    text.replace(folder, FOLDER)
+    text.replace(folder.to_str().expect("a name in letters"), FOLDER)
 }
 
 /// A kept file as its command lines make it now.
@@ -65,18 +87,31 @@ fn remade(text: &str, folder: &Path) -> String {
 #[test]
 fn command_lines_give_what_is_kept() {
     for file in kept() {
-        let name = file.file_stem().expect("a name").to_string_lossy();
-        let folder = std::env::temp_dir().join(format!("hub-{name}-{}", std::process::id()));
-        fs::create_dir_all(&folder).expect("a folder");
-        inputs::make(&folder);
         let text = fs::read_to_string(&file).expect("a kept file");
-        let made = remade(&text, &folder);
-        fs::remove_dir_all(&folder).expect("the folder goes");
+        let made = with_folder(&file, |folder| remade(&text, folder));
         if std::env::var_os("KEEP").is_some() {
             fs::write(&file, &made).expect("a file that can be written");
         } else {
             assert_eq!(made, text, "{}", file.display());
         }
+    }
+}
+
+/// With --json every command line prints one value, and nothing else.
+#[test]
+fn every_command_line_prints_json_if_asked() {
+    for file in kept() {
+        let text = fs::read_to_string(&file).expect("a kept file");
+        let lines = text.lines().filter(|line| line.starts_with(PROMPT));
+        with_folder(&file, |folder| {
+            for line in lines.filter(|line| !line.contains("--json")) {
+                let ran = ran(line, &["--json"], folder);
+                let output = String::from_utf8(ran.stdout).expect("letters");
+                assert!(json::is_json(&output), "{line}\n{output}");
+                assert_eq!(output.lines().count(), 1, "{line}\n{output}");
+                assert_eq!(ran.stderr, b"", "{line}");
+            }
+        });
     }
 }
 

@@ -107,7 +107,11 @@ fn shown(netlist: &Netlist, all: bool) -> Vec<bool> {
 /// With the end of the finish wire, beside the cell that drives it.
 fn with_finish(block: Block, netlist: &Netlist) -> Block {
     let drives = |placed: &&block::Placed| placed.cell == netlist.finish;
-    let row = block.cells.iter().find(drives).map_or(0, |placed| placed.row);
+    let row = block
+        .cells
+        .iter()
+        .find(drives)
+        .map_or(0, |placed| placed.row);
     let column = block.width;
     block.with(FINISH, column, row)
 }

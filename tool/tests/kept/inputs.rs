@@ -28,6 +28,34 @@ const TEXTS: &[(&str, &str)] = &[
     ("open.hub", "while 1 @1 do ok end\n"),
 ];
 
+/// Lists of cells and outlines, by name.
+const LINES: &[(&str, &str)] = &[
+    (
+        "memories.list",
+        "finish start\nstart\nground\nconstant 0\n18 delay 1 of start\n19 constant 1\n",
+    ),
+    (
+        "sort.list",
+        "finish start\nstart\nground\nconstant 0\nwrong: either start 2\nidle memories\n",
+    ),
+    (
+        "finish.list",
+        "finish x3\nstart\nground\nconstant 0\nidle memories\n",
+    ),
+    (
+        "name.list",
+        "finish start\nstart\nground\nconstant 0\ndelay 3 of begin\nidle memories\n",
+    ),
+    (
+        "sides.outline",
+        "parallel\n  assign x1 @1\n    constant 1\n  assign x2 @1\n    variable x1\n",
+    ),
+    (
+        "word.outline",
+        "sequence\n  ok\n  assign x1\n    constant 1\n",
+    ),
+];
+
 /// Programs, node by node: kind, delay, n.
 const PROGRAMS: &[(&str, &[[u8; 3]])] = &[
     ("none.prog", &[]),
@@ -48,7 +76,7 @@ pub fn make(folder: &Path) {
     let put = |name: &str, bytes: &[u8]| {
         fs::write(folder.join(name), bytes).expect("a file in the folder");
     };
-    for (name, text) in TEXTS {
+    for (name, text) in TEXTS.iter().chain(LINES) {
         put(name, text.as_bytes());
     }
     put("long.hub", &[b"ok", b" ".repeat(4_095).as_slice()].concat());

@@ -129,7 +129,8 @@ fn kept_lines() -> Vec<String> {
 #[test]
 fn every_command_is_kept_on_every_example() {
     let lines = kept_lines();
-    for command in ["run", "check", "compile", "read", "begin", "go"] {
+    let commands = hub::commands::COMMANDS.iter().map(|command| command.name);
+    for command in commands.filter(|name| !["help", "start"].contains(name)) {
         let begins = format!("{PROMPT}{command} ");
         for example in files(&top().join("examples"), "hub") {
             let name = example.file_stem().expect("a name").to_string_lossy();

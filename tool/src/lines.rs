@@ -2,8 +2,8 @@
 //! what is wrong is told with its line.
 
 use crate::files;
-use crate::refusals::{self, Report};
-use crate::types::{Fault, Refusal, REFUSED};
+use crate::refusals::Report;
+use crate::types::{Fault, REFUSED};
 
 /// What is wrong with such a text: the line, counted from 1, and why.
 #[derive(Clone, Debug, PartialEq, Eq)]
@@ -40,14 +40,14 @@ pub fn words(line: &str) -> Vec<&str> {
     said.split_whitespace().collect()
 }
 
-/// What the product says of such a text's contents, with the line that its
-/// place is about.
-pub fn refused(file: &str, text: &str, met: Refusal, line: Option<usize>) -> Report {
-    let said = |line: usize| Some((line, text.lines().nth(line - 1)?));
-    Report {
-        found: line
-            .and_then(said)
-            .map(|(line, words)| format!("line {line}: {}", words.trim())),
-        ..refusals::plain(files::shown(file), met)
+/// What is told of a refusal, with the line that its place is about.
+pub fn lined(report: Report, text: &str, line: Option<usize>) -> Report {
+    let said = line.and_then(|line| Some((line, text.lines().nth(line - 1)?)));
+    match said {
+        Some((line, words)) => Report {
+            found: Some(format!("line {line}: {}", words.trim())),
+            ..report
+        },
+        None => report,
     }
 }

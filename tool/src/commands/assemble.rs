@@ -1,12 +1,10 @@
 //! `hub assemble`: an outline back to a program's bytes.
 
-use super::{Command, Stop};
+use super::{written, Command, Stop};
 use crate::args::{Args, Options};
 use crate::assemble::assemble;
-use crate::files;
-use crate::json::Json;
 use crate::types::{Done, Node};
-use crate::{lines, product};
+use crate::{files, lines, product, refusals};
 
 pub const COMMAND: Command = Command {
     name: "assemble",
@@ -33,16 +31,8 @@ fn run(args: &Args) -> Result<Done, Stop> {
     if !args.flag("unchecked") {
         product::check(table.as_deref(), &program).map_err(|met| {
             let line = lined.get(met.place).map(|(_, line)| *line);
-            lines::refused(name, &text, met, line)
+            lines::lined(refusals::plain(files::shown(name), met), &text, line)
         })?;
     }
-    files::write(out, &program)?;
-    if args.flag("json") {
-        let fields = vec![
-            ("file", Json::text(out)),
-            ("nodes", Json::number(nodes.len())),
-        ];
-        return Ok(Done::printing(Json::Object(fields).line()));
-    }
-    Ok(Done::printing(format!("{out}: {} nodes\n", nodes.len())))
+    written(args, out, &program, (nodes.len(), "node"))
 }

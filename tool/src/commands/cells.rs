@@ -28,21 +28,19 @@ fn run(args: &Args) -> Result<Done, Stop> {
     let circuit = given.circuit()?;
     let notes = labels::of_cells(&circuit, &given.bytes)?;
     let all = args.flag("all");
-    if args.flag("json") {
+    let list = listing::list(&circuit.netlist, all, |cell| notes[cell].clone());
+    output::put(args, list, || {
         let shown = |(_, cell): &(usize, &Cell)| all || **cell != IDLE;
         let cells = circuit.netlist.cells.iter().enumerate().filter(shown);
-        let fields = vec![
+        Json::Object(vec![
             ("count", Json::number(circuit.netlist.cells.len())),
             ("finish", Json::number(circuit.netlist.finish)),
             (
                 "cells",
                 Json::list(cells, |(k, cell)| json(k, cell, &notes[k])),
             ),
-        ];
-        return Ok(Done::printing(Json::Object(fields).line()));
-    }
-    let list = listing::list(&circuit.netlist, all, |cell| notes[cell].clone());
-    output::put(args.value("o"), list)
+        ])
+    })
 }
 
 fn json(number: usize, cell: &Cell, note: &Option<String>) -> Json {

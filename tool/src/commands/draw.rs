@@ -37,13 +37,6 @@ fn run(args: &Args) -> Result<Done, Stop> {
     };
     let given = Given::read(args, file)?;
     let circuit = given.circuit()?;
-    let done = output::put(Some(out), drawn(&circuit, &given.bytes, all)?)?;
-    if args.flag("json") {
-        let fields = vec![
-            ("file", Json::text(out)),
-            ("cells", Json::number(circuit.netlist.cells.len())),
-        ];
-        return Ok(Done::printing(Json::Object(fields).line()));
-    }
-    Ok(done)
+    let drawn = drawn(&circuit, &given.bytes, all)?;
+    output::put(args, drawn, || Json::Null)
 }

@@ -32,9 +32,7 @@ fn run(args: &Args) -> Result<Done, Stop> {
         let message = "the text stands for another program than the one that it was made from";
         return Err(Fault::internal(message).into());
     }
-    if args.flag("json") {
-        let fields = vec![("text", Json::text(text))];
-        return Ok(Done::printing(Json::Object(fields).line()));
-    }
-    output::put(args.value("o"), text)
+    output::put(args, text.as_str(), || {
+        Json::Object(vec![("text", Json::text(&text))])
+    })
 }

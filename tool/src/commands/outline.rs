@@ -30,10 +30,7 @@ fn run(args: &Args) -> Result<Done, Stop> {
         Form::Program if bytes_of_nodes => product::nodes(&given.bytes),
         _ => given.program()?.nodes,
     };
-    if args.flag("json") {
-        return Ok(Done::printing(Json::list(&nodes, json).line()));
-    }
-    output::put(args.value("o"), outline::outline(&nodes))
+    output::put(args, outline::outline(&nodes), || Json::list(&nodes, json))
 }
 
 fn json(node: &Node) -> Json {

@@ -61,11 +61,7 @@ fn last(circuit: &Circuit, words: &Words, from: u32) -> Result<u32, Refusal> {
 }
 
 fn shown(args: &Args, waves: &Waveforms) -> Result<Done, Stop> {
-    if args.flag("json") {
-        return Ok(Done::printing(json(waves).line()));
-    }
-    let out = args.value("o");
-    let text = match out {
+    let text = match args.value("o") {
         Some(name) if name.ends_with(".vcd") => vcd::vcd(waves),
         Some(name) if name.ends_with(".svg") => svg::svg(waves),
         Some("-") | None => terminal::terminal(waves),
@@ -74,7 +70,7 @@ fn shown(args: &Args, waves: &Waveforms) -> Result<Done, Stop> {
             return Err(Fault::usage(message).into());
         }
     };
-    output::put(out, text)
+    output::put(args, text, || json(waves))
 }
 
 fn json(waves: &Waveforms) -> Json {

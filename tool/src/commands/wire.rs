@@ -1,11 +1,10 @@
 //! `hub wire`: a list of cells back to a netlist file.
 
-use super::{Command, Stop};
+use super::{written, Command, Stop};
 use crate::args::{Args, Options};
-use crate::json::Json;
 use crate::listing;
 use crate::types::Done;
-use crate::{files, lines, product};
+use crate::{files, lines, product, refusals};
 
 pub const COMMAND: Command = Command {
     name: "wire",
@@ -30,19 +29,8 @@ fn run(args: &Args) -> Result<Done, Stop> {
     let listed = listing::wired(&text).map_err(|wrong| wrong.fault(name))?;
     let file = product::write_netlist(&listed.netlist).map_err(|met| {
         let line = listed.lines.get(met.place).copied().flatten();
-        lines::refused(name, &text, met, line)
+        let report = refusals::of_wired(files::shown(name), &listed.netlist, met);
+        lines::lined(report, &text, line)
     })?;
-    files::write(out, &file)?;
-    let (cells, finish) = (listed.netlist.cells.len(), listed.netlist.finish);
-    if args.flag("json") {
-        let fields = vec![
-            ("file", Json::text(out)),
-            ("count", Json::number(cells)),
-            ("finish", Json::number(finish)),
-        ];
-        return Ok(Done::printing(Json::Object(fields).line()));
-    }
-    Ok(Done::printing(format!(
-        "{out}: {cells} cells, finish {finish}\n"
-    )))
+    written(args, out, &file, (listed.netlist.cells.len(), "cell"))
 }

@@ -100,12 +100,15 @@ fn put_wires(out: &mut String, plan: &Plan, routes: &Routes, scale: &Scale) {
             false => (WORD, WORD_COLOUR),
         };
         let ways: Vec<Vec<(i32, i32)>> = links.iter().map(|link| scale.points(link)).collect();
-        for way in &ways {
+        for (number, way) in ways.iter().enumerate() {
             let mut path = String::new();
             for (k, (x, y)) in way.iter().enumerate() {
                 let _ = write!(path, "{}{x} {y}", if k == 0 { "M" } else { "L" });
             }
-            let _ = writeln!(out, "<path d=\"{path}\" fill=\"none\" {stroke}/>");
+            let _ = writeln!(
+                out,
+                "<path id=\"w{wire}-{number}\" d=\"{path}\" fill=\"none\" {stroke}/>"
+            );
             if let Some((x, y)) = way.last() {
                 let _ = writeln!(out, "<path d=\"M{x} {y}l-7 -3.5v7z\" fill=\"{colour}\"/>");
             }

@@ -3,6 +3,7 @@
 
 use hub::input::{Form, Given};
 use hub::origin::{subtree_end, trace, Ends};
+use hub::source::Place;
 use hub::types::{Node, Refusal, INTERNAL};
 use hub::{product, refusals, source};
 use std::fs;
@@ -108,6 +109,38 @@ fn texts_are_read_as_the_product_reads_them() {
         let read = source::read(text.as_bytes()).expect(text);
         assert_eq!(read.nodes, product::nodes(&bytes), "{text}");
     }
+}
+
+/// Programs of every kind, typed: the places are those of the product's nodes,
+/// each within its parent's.
+#[test]
+fn typed_programs_are_read_as_the_product_reads_them() {
+    let mut typed = 0;
+    for file in programs("compile") {
+        let nodes = product::nodes(&fs::read(&file).expect("a vector"));
+        let tree = hub::format::tree(&nodes).expect("an accepted program");
+        let text = hub::format::format(&tree);
+        let given = Given {
+            form: Form::Text,
+            bytes: text.clone().into_bytes(),
+            ..given(&file)
+        };
+        let Ok(read) = given.program() else {
+            assert!(text.len() > 4_096, "{text}");
+            continue;
+        };
+        assert_eq!(read.nodes, nodes, "{text}");
+        let places = read.places.expect("it came as a text");
+        for (node, place) in places.iter().enumerate() {
+            let below = &places[node..subtree_end(&nodes, node)];
+            let within = |part: &Place| {
+                place.whole.start <= part.whole.start && part.whole.end <= place.whole.end
+            };
+            assert!(below.iter().all(within), "node {node} of {text}");
+        }
+        typed += 1;
+    }
+    assert!(typed > 50);
 }
 
 /// Every beginning and every lack of a word ends in a place, and in no fault.

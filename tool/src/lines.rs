@@ -28,10 +28,11 @@ impl Wrong {
     }
 }
 
-/// The text of a file, which must be one.
+/// The text of a file, which must be one: letters, and no bytes of zero.
 pub fn read(name: &str) -> Result<String, Fault> {
-    let text = String::from_utf8(files::read(name)?);
-    text.map_err(|_| Fault::usage(format!("{} is no text", files::shown(name))))
+    let text = String::from_utf8(files::read(name)?).ok();
+    text.filter(|text| !text.contains('\0'))
+        .ok_or_else(|| Fault::usage(format!("{} is no text", files::shown(name))))
 }
 
 /// The words of a line before its comment.

@@ -58,7 +58,10 @@ pub fn plain(file: &str, refusal: Refusal) -> Report {
 pub fn report(given: &Given, refusal: Refusal) -> Result<Report, Fault> {
     let report = plain(&given.name, refusal);
     Ok(match (refusal.number, given.form) {
-        (19..=21, _) => of_table(report, given),
+        (19..=21, _) => match &given.times {
+            Some((name, bytes)) => of_times(name, bytes, refusal),
+            None => report,
+        },
         (13..=16, _) => report,
         (9..=12, _) => netlists::of_file(report, &given.bytes),
         (17, _) => texts::of_word(report, &given.bytes),
@@ -68,19 +71,18 @@ pub fn report(given: &Given, refusal: Refusal) -> Result<Report, Fault> {
     })
 }
 
-fn of_table(mut report: Report, given: &Given) -> Report {
-    if let Some((name, bytes)) = &given.times {
-        report.file = name.clone();
-        let Refusal { number, place } = report.refusal;
-        report.found = match number {
+/// The report of a refusal that a table of operator times met.
+pub fn of_times(name: &str, bytes: &[u8], refusal: Refusal) -> Report {
+    let Refusal { number, place } = refusal;
+    let byte = bytes.get(place);
+    Report {
+        found: match number {
             19 => Some(format!("{} bytes", bytes.len())),
-            21 => bytes
-                .get(place)
-                .map(|byte| format!("byte {place} is {byte}")),
+            21 => byte.map(|byte| format!("byte {place} is {byte}")),
             _ => None,
-        };
+        },
+        ..plain(name, refusal)
     }
-    report
 }
 
 impl Report {

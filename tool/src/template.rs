@@ -47,14 +47,14 @@ impl Templates {
     fn nearest(&self, given: &[&str]) -> String {
         let first = |template: &Template| template.words.split(' ').next();
         let alike = |template: &&Template| first(template) == given.first().copied();
-        let alike: Vec<&str> = self.kinds.iter().filter(alike).map(|t| t.words).collect();
-        match alike[..] {
-            [] => format!("'{}' is no kind", given.join(" ")),
-            _ => format!(
-                "'{}' isn't whole; write: {}",
-                given.join(" "),
-                alike.join(", or: ")
-            ),
+        let shown = |template: &Template| {
+            put_in(template.words, |letter| letter.to_uppercase().to_string())
+        };
+        let alike: Vec<String> = self.kinds.iter().filter(alike).map(shown).collect();
+        let given = given.join(" ");
+        match alike.is_empty() {
+            true => format!("'{given}' is no kind"),
+            false => format!("'{given}' isn't whole; write: {}", alike.join(", or: ")),
         }
     }
 }

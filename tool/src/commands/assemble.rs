@@ -1,10 +1,12 @@
 //! `hub assemble`: an outline back to a program's bytes.
 
 use super::{written, Command, Stop};
+use crate::answers::counted;
 use crate::args::{Args, Options};
 use crate::assemble::assemble;
+use crate::refusals::{self, Report};
 use crate::types::{Done, Node};
-use crate::{files, lines, product, refusals};
+use crate::{files, lines, product};
 
 pub const COMMAND: Command = Command {
     name: "assemble",
@@ -31,7 +33,11 @@ fn run(args: &Args) -> Result<Done, Stop> {
     if !args.flag("unchecked") {
         product::check(table.as_deref(), &program).map_err(|met| {
             let line = lined.get(met.place).map(|(_, line)| *line);
-            lines::lined(refusals::plain(files::shown(name), met), &text, line)
+            let report = Report {
+                found: Some(counted(nodes.len(), "node")),
+                ..refusals::plain(files::shown(name), met)
+            };
+            lines::lined(report, &text, line)
         })?;
     }
     written(args, out, &program, (nodes.len(), "node"))

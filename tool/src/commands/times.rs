@@ -28,13 +28,17 @@ fn run(args: &Args) -> Result<Done, Stop> {
     }
     match &args.given[..] {
         [] => show(args, None, "the built-in times"),
-        [name] => show(args, Some(&files::read(name)?), files::shown(name)),
-        _ => Err(Fault::usage("-o and the table's name are missing").into()),
+        [name] if !name.contains('=') => {
+            let table = files::read(name)?;
+            show(args, Some(&table), files::shown(name))
+        }
+        _ => Err(Fault::usage("-o and the name of a file for the table are missing").into()),
     }
 }
 
 fn show(args: &Args, table: Table, name: &str) -> Result<Done, Stop> {
-    let times = times::times(table).map_err(|met| refusals::plain(name, met))?;
+    let times = times::times(table)
+        .map_err(|met| refusals::of_times(name, table.unwrap_or_default(), met))?;
     let named = || OPERATORS.iter().map(|(_, name)| *name).zip(&times);
     if args.flag("json") {
         let fields = named().map(|(name, time)| (name, Json::number(*time)));
@@ -68,6 +72,7 @@ fn refused(given: &[String], met: Refusal) -> Report {
     });
     Report {
         found: own,
+        remedy: "give an operator a time from 1 to 200".to_string(),
         ..refusals::plain("the table", met)
     }
 }

@@ -155,7 +155,7 @@ fn names_are_the_cells_numbers() {
 fn wrong_lists_are_told_with_their_line() {
     for (list, line, why) in [
         ("start\n", 1, "which cell is the finish"),
-        ("finish 0\nstart\ndelay 3\n", 3, "write: delay {d} of {a}"),
+        ("finish 0\nstart\ndelay 3\n", 3, "write: delay D of A"),
         ("finish 0\nstart\ndelay 300 of start\n", 3, "below 256"),
         (
             "finish 0\nstart\neither 0 nobody\n",

@@ -104,10 +104,12 @@ impl Report {
     }
 
     pub fn json(&self) -> Json {
+        let counts = rule(self.refusal.number).and_then(|rule| rule.counts.name());
         Json::Object(vec![
             ("outcome", Json::text("refused")),
             ("number", Json::number(self.refusal.number)),
             ("place", Json::number(self.refusal.place)),
+            ("counts", Json::maybe(counts, Json::text)),
             ("file", Json::text(&self.file)),
             ("rule", Json::text(&self.rule)),
             ("remedy", Json::text(&self.remedy)),

@@ -11,6 +11,18 @@ pub enum Counts {
     Bytes,
 }
 
+impl Counts {
+    pub fn name(self) -> Option<&'static str> {
+        match self {
+            Counts::Nothing => None,
+            Counts::Nodes => Some("nodes"),
+            Counts::Blocks => Some("blocks"),
+            Counts::Cells => Some("cells"),
+            Counts::Bytes => Some("bytes"),
+        }
+    }
+}
+
 #[derive(Clone, Copy, Debug, PartialEq, Eq)]
 pub struct Rule {
     pub number: u8,

@@ -56,50 +56,54 @@ struct Run {
 }
 
 pub fn routes(plan: &Plan) -> Routes {
-    let places: HashMap<u16, Placed> = plan.block.cells.iter().map(|p| (p.cell, *p)).collect();
     let taken: HashSet<_> = plan.block.cells.iter().map(|p| (p.column, p.row)).collect();
-    let mut routes = Routes {
-        links: Vec::new(),
-        tracks: BTreeMap::new(),
-    };
+    let mut links = links(plan);
     let mut runs: BTreeMap<(Channel, Zone), Vec<Run>> = BTreeMap::new();
+    for (number, link) in links.iter_mut().enumerate() {
+        for (channel, one, other) in ways(link, &taken) {
+            let zone = zone(&plan.block, link, channel);
+            runs.entry((channel, zone)).or_default().push(Run {
+                link: number,
+                lane: link.lanes.len(),
+                wire: link.from.cell,
+                low: one.min(other),
+                high: one.max(other),
+            });
+            let track = 0;
+            link.lanes.push(Lane {
+                channel,
+                zone,
+                track,
+            });
+        }
+    }
+    let mut tracks = BTreeMap::new();
+    for (place, runs) in runs {
+        tracks.insert(place, assign(&mut links, &runs));
+    }
+    Routes { links, tracks }
+}
+
+/// The wires that are drawn, still without their ways: all but those that have
+/// a name everywhere.
+fn links(plan: &Plan) -> Vec<Link> {
+    let places: HashMap<u16, Placed> = plan.block.cells.iter().map(|p| (p.cell, *p)).collect();
+    let mut links = Vec::new();
     for to in &plan.block.cells {
         let inputs = plan.inputs(to.cell);
         for (port, wire) in inputs.iter().enumerate() {
-            let (None, Some(from)) = (plan.tag(*wire), places.get(wire)) else {
-                continue;
-            };
-            let mut link = Link {
-                from: *from,
-                to: *to,
-                port,
-                ports: inputs.len(),
-                lanes: Vec::new(),
-            };
-            for (channel, low, high) in ways(&link, &taken) {
-                let zone = zone(&plan.block, &link, channel);
-                runs.entry((channel, zone)).or_default().push(Run {
-                    link: routes.links.len(),
-                    lane: link.lanes.len(),
-                    wire: *wire,
-                    low: low.min(high),
-                    high: low.max(high),
-                });
-                let track = 0;
-                link.lanes.push(Lane {
-                    channel,
-                    zone,
-                    track,
+            if let (None, Some(from)) = (plan.tag(*wire), places.get(wire)) {
+                links.push(Link {
+                    from: *from,
+                    to: *to,
+                    port,
+                    ports: inputs.len(),
+                    lanes: Vec::new(),
                 });
             }
-            routes.links.push(link);
         }
     }
-    for (place, runs) in runs {
-        let count = assign(&mut routes.links, &runs);
-        routes.tracks.insert(place, count);
-    }
-    routes
+    links
 }
 
 /// The channels that a link takes, with the heights or columns between which.

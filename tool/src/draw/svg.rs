@@ -151,18 +151,8 @@ fn directions_at((x, y): (i32, i32), from: (i32, i32), to: (i32, i32)) -> Vec<(i
 }
 
 fn put_cell(out: &mut String, plan: &Plan, placed: &Placed, scale: &Scale) {
+    put_flags(out, plan, placed, scale);
     let (x, y) = scale.corner(placed);
-    let inputs = plan.inputs(placed.cell);
-    for (port, wire) in inputs.iter().enumerate() {
-        if let Some(tag) = plan.tag(*wire) {
-            let (x, y) = scale.port(placed, port, inputs.len() == 1);
-            put_tag(out, tag, x - TAG.0, y, TAG.0);
-        }
-    }
-    if outgoing(plan, placed) {
-        let tag = plan.tag(placed.cell).unwrap_or_default();
-        put_tag(out, tag, x + CELL.0, y + CELL.1 / 2, TAG.0);
-    }
     let title = escaped(&plan.title(placed.cell));
     let (width, height) = CELL;
     if placed.cell == FINISH {
@@ -193,8 +183,25 @@ fn put_cell(out: &mut String, plan: &Plan, placed: &Placed, scale: &Scale) {
     );
 }
 
+/// The flags of the words that a cell reads, and of the one that it is.
+fn put_flags(out: &mut String, plan: &Plan, placed: &Placed, scale: &Scale) {
+    let inputs = plan.inputs(placed.cell);
+    for (port, wire) in inputs.iter().enumerate() {
+        if let Some(tag) = plan.tag(*wire) {
+            let (x, y) = scale.port(placed, port, inputs.len() == 1);
+            put_tag(out, tag, x - TAG.0, y);
+        }
+    }
+    if outgoing(plan, placed) {
+        let (x, y) = scale.corner(placed);
+        let tag = plan.tag(placed.cell).unwrap_or_default();
+        put_tag(out, tag, x + CELL.0, y + CELL.1 / 2);
+    }
+}
+
 /// A flag with a wire's name, whose middle is at this height.
-fn put_tag(out: &mut String, tag: &str, x: i32, y: i32, width: i32) {
+fn put_tag(out: &mut String, tag: &str, x: i32, y: i32) {
+    let width = TAG.0;
     let (top, bottom, middle) = (y - TAG.1 / 2, y + TAG.1 / 2, x + width / 2 - 2);
     let _ = writeln!(
         out,

@@ -117,7 +117,9 @@ impl Given {
         let program = self.program()?;
         let compiled = product::compile(self.table(), &program.bytes);
         let file = compiled.map_err(|met| self.refused(met))?;
-        let netlist = product::read_netlist(&file).map_err(|met| self.refused(met))?;
+        let netlist = product::read_netlist(&file).map_err(|met| {
+            Fault::internal(format!("the compiled netlist of {}: {met}", self.name))
+        })?;
         let trace = origin::trace(&program.nodes, &netlist)?;
         Ok(Circuit {
             file,

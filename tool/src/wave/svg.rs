@@ -68,7 +68,7 @@ impl Scale {
 fn label(wire: &Wire) -> String {
     match wire.about.is_empty() {
         true => wire.name.clone(),
-        false => format!("{}  {}", wire.about, wire.name),
+        false => format!("{}: {}", wire.about, wire.name),
     }
 }
 

@@ -7,37 +7,25 @@ use values::{Answer, End, Refusal, Shape, Table};
 
 /// Checks a program.
 pub fn check(table: Table, program: &[u8]) -> Result<(), Refusal> {
-    let told = accepted(|reply| match table {
-        Some(table) => hub_check_timed(table, program, reply),
-        None => hub_check(program, reply),
-    });
+    let told = accepted(|reply| hub_check(table, program, reply));
     told.map(drop)
 }
 
 /// Compiles a program to a netlist file.
 pub fn compile(table: Table, program: &[u8], file: &mut [u8]) -> Result<Shape, Refusal> {
-    let told = accepted(|reply| match table {
-        Some(table) => hub_compile_timed(table, program, file, reply),
-        None => hub_compile(program, file, reply),
-    });
+    let told = accepted(|reply| hub_compile(table, program, file, reply));
     told.map(|told| written(told, file))
 }
 
 /// Reads a text to its program's bytes, and tells how many they are.
 pub fn read_text(table: Table, text: &[u8], program: &mut [u8]) -> Result<usize, Refusal> {
-    let told = accepted(|reply| match table {
-        Some(table) => hub_read_text_timed(table, text, program, reply),
-        None => hub_read_text(text, program, reply),
-    });
+    let told = accepted(|reply| hub_read_text(table, text, program, reply));
     told.map(|told| told.first as usize)
 }
 
 /// Compiles a text to a netlist file.
 pub fn compile_text(table: Table, text: &[u8], file: &mut [u8]) -> Result<Shape, Refusal> {
-    let told = accepted(|reply| match table {
-        Some(table) => hub_compile_text_timed(table, text, file, reply),
-        None => hub_compile_text(text, file, reply),
-    });
+    let told = accepted(|reply| hub_compile_text(table, text, file, reply));
     told.map(|told| written(told, file))
 }
 
@@ -81,10 +69,7 @@ pub fn run_program(
     file: &mut [u8],
     state: &mut [u8],
 ) -> Result<Answer, Refusal> {
-    let told = accepted(|reply| match table {
-        Some(table) => hub_run_program_timed(table, program, words, budget, file, state, reply),
-        None => hub_run_program(program, words, budget, file, state, reply),
-    });
+    let told = accepted(|reply| hub_run_program(table, program, words, budget, file, state, reply));
     told.map(answer)
 }
 
@@ -97,10 +82,7 @@ pub fn run_text(
     file: &mut [u8],
     state: &mut [u8],
 ) -> Result<Answer, Refusal> {
-    let told = accepted(|reply| match table {
-        Some(table) => hub_run_text_timed(table, text, words, budget, file, state, reply),
-        None => hub_run_text(text, words, budget, file, state, reply),
-    });
+    let told = accepted(|reply| hub_run_text(table, text, words, budget, file, state, reply));
     told.map(answer)
 }
 
@@ -111,9 +93,6 @@ pub fn reference_run(
     words: &[u8],
     budget: u32,
 ) -> Result<Option<End>, Refusal> {
-    let told = accepted(|reply| match table {
-        Some(table) => hub_reference_timed(table, program, words, budget, reply),
-        None => hub_reference(program, words, budget, reply),
-    });
+    let told = accepted(|reply| hub_reference(table, program, words, budget, reply));
     told.map(|told| end(told, budget))
 }

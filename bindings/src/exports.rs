@@ -1,7 +1,8 @@
 //! The functions of the proved archive, one row for each, beside the
 //! definition that its contract names. A row is a safe function: no export has
 //! a requires, so the function tests nothing, and declares and calls the one
-//! of the archive, where a slice is a pointer and a number of elements.
+//! of the archive, where a slice is a pointer and a number of elements, and a
+//! slice that need not be given (`?[u8]`) has in front whether it is.
 //!
 //! Nothing checks these rows against the Rattle source but the comparisons
 //! with the second implementation.
@@ -12,15 +13,19 @@ macro_rules! exports {
     ($(
         $(#[$definition:meta])*
         $export:ident($(
-            $given:ident: $(&[$read:ty])? $(&mut [$lent:ty])? $($number:ident)?
+            $given:ident: $(&[$read:ty])? $(&mut [$lent:ty])? $(?[$may:ty])? $($number:ident)?
         ),*);
     )*) => {$(
         $(#[$definition])*
-        pub fn $export($($given: $(&[$read])? $(&mut [$lent])? $($number)?),*) -> bool {
+        #[allow(clippy::too_many_arguments)]
+        pub fn $export(
+            $($given: $(&[$read])? $(&mut [$lent])? $(Option<&[$may]>)? $($number)?),*
+        ) -> bool {
             extern "C" {
                 fn $export($(
                     $($given: *const $read, _: usize,)?
                     $($given: *mut $lent, _: usize,)?
+                    $(_: bool, $given: *const $may, _: usize,)?
                     $($given: $number,)?
                 )*) -> bool;
             }
@@ -29,6 +34,11 @@ macro_rules! exports {
                 $export($(
                     $(<[$read]>::as_ptr($given), $given.len(),)?
                     $(<[$lent]>::as_mut_ptr($given), $given.len(),)?
+                    $(
+                        $given.is_some(),
+                        <[$may]>::as_ptr($given.unwrap_or_default()),
+                        $given.unwrap_or_default().len(),
+                    )?
                     $($given as $number,)?
                 )*)
             }
@@ -37,28 +47,20 @@ macro_rules! exports {
 }
 
 // crates/exports/src/calls.rt; the definitions are those of model/Calls and
-// model/TextCalls. A call under a table of operator times has that table in
-// front.
+// model/TextCalls. A call that checks a program has in front the table of
+// operator times that may be given.
 exports! {
     /// checkCall
-    hub_check(program: &[u8], reply: &mut [u8]);
-    /// checkCall
-    hub_check_timed(table: &[u8], program: &[u8], reply: &mut [u8]);
+    hub_check(table: ?[u8], program: &[u8], reply: &mut [u8]);
 
     /// compileCall
-    hub_compile(program: &[u8], file: &mut [u8], reply: &mut [u8]);
-    /// compileCall
-    hub_compile_timed(table: &[u8], program: &[u8], file: &mut [u8], reply: &mut [u8]);
+    hub_compile(table: ?[u8], program: &[u8], file: &mut [u8], reply: &mut [u8]);
 
     /// readTextCall
-    hub_read_text(text: &[u8], program: &mut [u8], reply: &mut [u8]);
-    /// readTextCall
-    hub_read_text_timed(table: &[u8], text: &[u8], program: &mut [u8], reply: &mut [u8]);
+    hub_read_text(table: ?[u8], text: &[u8], program: &mut [u8], reply: &mut [u8]);
 
     /// compileTextCall
-    hub_compile_text(text: &[u8], file: &mut [u8], reply: &mut [u8]);
-    /// compileTextCall
-    hub_compile_text_timed(table: &[u8], text: &[u8], file: &mut [u8], reply: &mut [u8]);
+    hub_compile_text(table: ?[u8], text: &[u8], file: &mut [u8], reply: &mut [u8]);
 
     /// writeCall
     hub_write(cells: &[u8], finish: u16, file: &mut [u8], reply: &mut [u8]);
@@ -74,23 +76,13 @@ exports! {
 
     /// runProgramCall
     hub_run_program(
-        program: &[u8], words: &[u8], budget: u32,
-        netlist: &mut [u8], state: &mut [u8], reply: &mut [u8]
-    );
-    /// runProgramCall
-    hub_run_program_timed(
-        table: &[u8], program: &[u8], words: &[u8], budget: u32,
+        table: ?[u8], program: &[u8], words: &[u8], budget: u32,
         netlist: &mut [u8], state: &mut [u8], reply: &mut [u8]
     );
 
     /// runTextCall
     hub_run_text(
-        text: &[u8], words: &[u8], budget: u32,
-        netlist: &mut [u8], state: &mut [u8], reply: &mut [u8]
-    );
-    /// runTextCall
-    hub_run_text_timed(
-        table: &[u8], text: &[u8], words: &[u8], budget: u32,
+        table: ?[u8], text: &[u8], words: &[u8], budget: u32,
         netlist: &mut [u8], state: &mut [u8], reply: &mut [u8]
     );
 
@@ -100,11 +92,7 @@ exports! {
     );
 
     /// referenceCall
-    hub_reference(program: &[u8], words: &[u8], budget: u32, reply: &mut [u8]);
-    /// referenceCall
-    hub_reference_timed(
-        table: &[u8], program: &[u8], words: &[u8], budget: u32, reply: &mut [u8]
-    );
+    hub_reference(table: ?[u8], program: &[u8], words: &[u8], budget: u32, reply: &mut [u8]);
 }
 
 // crates/exports/src/lib.rt and moves.rt; the definitions are those of model/CellSlices.

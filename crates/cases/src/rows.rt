@@ -4,7 +4,7 @@ ghost use mathlib.Core.Path.{_≡_};
 ghost use mathlib.Core.Bool.{true};
 ghost use Prim.Native.Nat.{_*_, _≤_, _<_};
 ghost use lib.ListN.{length, replicate};
-ghost use Rattle.model.specs.TimeTables.{builtIn, load};
+ghost use Rattle.model.specs.TimeTables.{defaults};
 ghost use Rattle.model.specs.Calls.{runProgramCall, referenceCall, refusedAnswer};
 ghost use Rattle.model.specs.Cases.{start, endAnswer};
 ghost use Rattle.cases.specs.Rows.{openAnswer, Same, Holds, kindsSet};
@@ -62,21 +62,28 @@ pub fn set_kinds(program: &mut [u8], from: usize, to: usize, kind: u8)
 }
 
 fn by_circuit(program: &[u8], word: u16, budget: u32) -> Answer
-    ensures { λ r. ⌜ r ≡ runProgramCall (load builtIn) (now (program .entry)) (start word) budget (replicate 6656 0) (replicate 40968 0) .answer ⌝ }
+    ensures { λ r. ⌜ r ≡ runProgramCall defaults (now (program .entry)) (start word) budget (replicate 6656 0) (replicate 40968 0) .answer ⌝ }
 {
     let mut words = [0u8; 32];
     word::put16(&mut words, 0, word);
     let mut netlist = [0u8; 6656];
     let mut state = [0u8; 40968];
-    hub::run_program(program, &words, budget, &mut netlist, &mut state)
+    hub::run_program(
+        hub::defaults(),
+        program,
+        &words,
+        budget,
+        &mut netlist,
+        &mut state,
+    )
 }
 
 fn by_rules(program: &[u8], word: u16, budget: u32) -> Answer
-    ensures { λ r. ⌜ r ≡ referenceCall (load builtIn) (now (program .entry)) (start word) budget ⌝ }
+    ensures { λ r. ⌜ r ≡ referenceCall defaults (now (program .entry)) (start word) budget ⌝ }
 {
     let mut words = [0u8; 32];
     word::put16(&mut words, 0, word);
-    hub::reference_run(program, &words, budget)
+    hub::reference_run(hub::defaults(), program, &words, budget)
 }
 
 // Whether two answers are the same.

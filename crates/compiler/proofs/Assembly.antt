@@ -8,7 +8,7 @@ use lib.ListN.{length, length-append}
 use lib.Seq.{sets}
 use Rattle.model.specs.declared.Cell.{Cell}
 use Rattle.model.specs.declared.Checked.the-variants.{Accepted}
-use Rattle.model.specs.declared.Loaded.{Loaded}
+use Rattle.model.specs.declared.Options.{Options}
 use Rattle.model.specs.Program.{Stmt, programOf}
 use Rattle.model.specs.Circuit.{cell}
 use Rattle.model.specs.NetlistFile.{cellBytes, cellsAt, inList}
@@ -45,12 +45,12 @@ record Facts (P : Stmt) : Type 0 where
   len : length (netlist P) ≡ dataAt P + orCountFrom (dataSources P (walkAt P)) 0 16
   most : length (netlist P) ≤ 619
 
-facts : (table : Loaded) (s : List ℕ) → checkCall table s ≡ Accepted → Facts (programOf s)
-facts table s e =
+facts : (options : Options) (s : List ℕ) → checkCall options s ≡ Accepted → Facts (programOf s)
+facts options s e =
     let P = programOf s in
-    let n = few-nodes table s e in
+    let n = few-nodes options s e in
     record {
-      formed = program-fit table s e .formed;
+      formed = program-fit options s e .formed;
       assigned = omega (arith, n, few P);
       delayed = omega (arith, n, few P);
       walked = omega (arith, n, few P);
@@ -80,7 +80,7 @@ module _ {M : ℕ} {P : Stmt} {p e : Place} {before after ms marked : List ℕ} 
 
 module _ {s ends : List ℕ} {n : ℕ} (G : Given s ends n) where
   F : Facts (programOf s)
-  F = facts (G .table) s (G .accepted)
+  F = facts (G .options) s (G .accepted)
 
   -- the first walk
   pub first-ready : Ready 0 (programOf s) (place 0 3 203 0) n
@@ -205,7 +205,7 @@ pub made : {s ends : List ℕ} {n : ℕ} → Given s ends n → {b₁ b₂ b₃ 
     → b₆ ≡ write 2 (cell 1 0 0 0 ∷ []) b₅
     → Made (programOf s) b₆ (record { count = w .count; finish = w .finish })
 made {s} G {b₃ = b₃} l K W e₃ e₄ e₅ e₆ =
-    let f = facts (G .table) s (G .accepted) in
+    let f = facts (G .options) s (G .accepted) in
     let P = programOf s in
     let head : write 2 (cell 1 0 0 0 ∷ []) (write 1 (cell 33 0 0 0 ∷ []) (write 0 (cell 32 0 0 0 ∷ []) b₃)) ≡ write 0 headCells b₃ =
     ap (write 2 (cell 1 0 0 0 ∷ [])) (write-append 0 1 (cell 32 0 0 0 ∷ []) (cell 33 0 0 0 ∷ []) b₃ refl)

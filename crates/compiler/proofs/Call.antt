@@ -7,7 +7,7 @@ use borrow.Author.Tests.{lt-ltb, le-ltb}
 use lib.ListN.{length}
 use lib.Seq.{sets}
 use Rattle.model.specs.declared.Refusal.{Refusal}
-use Rattle.model.specs.declared.Loaded.{Loaded}
+use Rattle.model.specs.declared.Options.{Options}
 use Rattle.model.specs.declared.Checked.{Checked}
 use Rattle.model.specs.declared.Checked.the-variants.{Accepted}
 use Rattle.model.specs.declared.Written.{Written}
@@ -29,8 +29,8 @@ use Rattle.program.specs.Shape.{Scans, scanned-laid}
 use Rattle.compiler.specs.declared.whole.Netlist.{Netlist}
 use Rattle.compiler.specs.Whole.{Given, Made}
 
-pub scanned : (table : Loaded) {s : List ℕ} {r : Scanned} → Scans table s r → checkCall table s ≡ Accepted → Given s (r .ends) 3714
-scanned table {s} {r} S e = record { table = table; accepted = e; laid = scanned-laid table s r S (S .checked ∙ e); size = refl }
+pub scanned : (options : Options) {s : List ℕ} {r : Scanned} → Scans options s r → checkCall options s ≡ Accepted → Given s (r .ends) 3714
+scanned options {s} {r} S e = record { options = options; accepted = e; laid = scanned-laid options s r S (S .checked ∙ e); size = refl }
 
 module _ (s : List ℕ) {cells : List ℕ} {made : Netlist} (m : Made (programOf s) cells made) where
   pub file-size : length (compiledFile s) ≡ 512 * blocksFor (made .count)
@@ -45,26 +45,26 @@ module _ (s : List ℕ) {cells : List ℕ} {made : Netlist} (m : Made (programOf
   written : Done (512 * blocksFor (made .count)) (made .finish) ≡ Done (length (compiledFile s)) (finish (programOf s))
   written = rw (file-size, m .finish)
 
-  module _ (table : Loaded) (e : checkCall table s ≡ Accepted) where
+  module _ (options : Options) (e : checkCall options s ≡ Accepted) where
     pub list-room : length cells ≡ 3714 → Room InList cells (made .count)
     list-room l =
-        let most = fits (programOf s) (few-nodes table s e) .1 in
+        let most = fits (programOf s) (few-nodes options s e) .1 in
         record { few = omega (arith, m .count, most); fits = omega (arith, m .count, most, l) }
 
-    pub compile-short : {lent : List ℕ} → length lent < 512 * blocksFor (made .count) → Tells (refused 14) lent (compileCall table s lent)
+    pub compile-short : {lent : List ℕ} → length lent < 512 * blocksFor (made .count) → Tells (refused 14) lent (compileCall options s lent)
     unfolding compileCall writing checkCall
-    compile-short {lent} h = rw (first-drop 2 (compileChecks table s lent) e, file-size, lt-ltb _ _ h) (refl, refl)
+    compile-short {lent} h = rw (first-drop 2 (compileChecks options s lent) e, file-size, lt-ltb _ _ h) (refl, refl)
 
     pub compile-done : (lent : List ℕ) {after : List ℕ} → 512 * blocksFor (made .count) ≤ length lent
         → after ≡ sets lent 0 (fileOf (cellsAt inList cells 0 (made .count)) (made .finish))
-        → Tells (Done (512 * blocksFor (made .count)) (made .finish)) after (compileCall table s lent)
+        → Tells (Done (512 * blocksFor (made .count)) (made .finish)) after (compileCall options s lent)
     unfolding compileCall writing checkCall
     compile-done lent h q =
         let put = file-put lent h q in
         let answer = written in
-        rw (first-drop 2 (compileChecks table s lent) e, file-size, le-ltb _ _ h) (rw file-size at answer, put)
+        rw (first-drop 2 (compileChecks options s lent) e, file-size, le-ltb _ _ h) (rw file-size at answer, put)
 
-pub compile-refused : (table : Loaded) (s lent : List ℕ) {r : Refusal} → checkCall table s ≡ Checked.Refused r
-    → Tells (Written.Refused r) lent (compileCall table s lent)
+pub compile-refused : (options : Options) (s lent : List ℕ) {r : Refusal} → checkCall options s ≡ Checked.Refused r
+    → Tells (Written.Refused r) lent (compileCall options s lent)
 unfolding compileCall writing checkCall
-compile-refused table s lent e = rw (first-take 2 (compileChecks table s lent) e) (refl, refl)
+compile-refused options s lent e = rw (first-take 2 (compileChecks options s lent) e) (refl, refl)

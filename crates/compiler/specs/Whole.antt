@@ -3,7 +3,7 @@ use mathlib.Core.Path.{_≡_}
 use mathlib.Core.List.{List}
 use Prim.Native.Nat.{ℕ}
 use lib.ListN.{length}
-use Rattle.model.specs.declared.Loaded.{Loaded}
+use Rattle.model.specs.declared.Options.{Options}
 use Rattle.model.specs.declared.Checked.the-variants.{Accepted}
 use Rattle.model.specs.Program.{Stmt}
 use Rattle.model.specs.NetlistFile.{cellsAt, inList}
@@ -18,8 +18,8 @@ use Rattle.compiler.specs.Writes.{write, both}
 
 -- a program that is accepted with some table, its array of subtree ends, and a list of 619 cells
 pub record Given (s ends : List ℕ) (n : ℕ) : Type 0 where
-  pub table : Loaded
-  pub accepted : checkCall table s ≡ Accepted
+  pub options : Options
+  pub accepted : checkCall options s ≡ Accepted
   pub laid : Laid s ends
   pub size : n ≡ 3714
 

@@ -6,7 +6,6 @@ ghost use lib.ListN.{length};
 ghost use Rattle.model.specs.declared.Checked.the-variants.{Accepted};
 ghost use Rattle.model.specs.Program.{programOf};
 ghost use Rattle.model.specs.Numbering.{netlist};
-ghost use Rattle.model.specs.TimeTables.{builtIn, given, load};
 ghost use Rattle.model.specs.Calls.{overwrite, checkCall, compiledFile, compileCall};
 
 mod nodes; // nodes as parts of the tree
@@ -15,16 +14,16 @@ mod ors; // ors and memories
 mod whole; // the whole netlist
 
 use model::Checked;
-use model::Loaded;
+use model::Options;
 use model::Refusal;
 use model::Written;
 
 // How many cells the netlist of an accepted program has; its file takes 512 bytes for every 84 of them.
-pub fn count_cells(table: Loaded, program: &[u8]) -> usize
-    requires { ⌜ checkCall table (now program) ≡ Accepted ⌝ }
+pub fn count_cells(options: Options, program: &[u8]) -> usize
+    requires { ⌜ checkCall options (now program) ≡ Accepted ⌝ }
     ensures { λ r. ⌜ r ≡ length (netlist (programOf (now (program .entry)))) ⌝ }
 {
-    let told = program::scan(table, program);
+    let told = program::scan(options, program);
     let ends = told.ends;
     let mut cells = [0u8; 3714];
     let made = whole::put_netlist(&mut cells, program, &ends);
@@ -32,12 +31,12 @@ pub fn count_cells(table: Loaded, program: &[u8]) -> usize
 }
 
 // Writes the netlist file of an accepted program into a buffer that is long enough; answers its length.
-pub fn compile_accepted(table: Loaded, program: &[u8], netlist: &mut [u8]) -> usize
-    requires { ⌜ (checkCall table (now program) ≡ Accepted) × (length (compiledFile (now program)) ≤ length (now netlist)) ⌝ }
+pub fn compile_accepted(options: Options, program: &[u8], netlist: &mut [u8]) -> usize
+    requires { ⌜ (checkCall options (now program) ≡ Accepted) × (length (compiledFile (now program)) ≤ length (now netlist)) ⌝ }
     ensures length { λ r. ⌜ r ≡ length (compiledFile (now (program .entry))) ⌝ }
     ensures lent { λ _. ⌜ now (netlist .exit) ≡ overwrite (compiledFile (now (program .entry))) (now (netlist .entry)) ⌝ }
 {
-    let told = program::scan(table, program);
+    let told = program::scan(options, program);
     let ends = told.ends;
     let mut cells = [0u8; 3714];
     let made = whole::put_netlist(&mut cells, program, &ends);
@@ -46,12 +45,12 @@ pub fn compile_accepted(table: Loaded, program: &[u8], netlist: &mut [u8]) -> us
     512 * ((n + 83) / 84)
 }
 
-// Compiles a program with a table as it was loaded: refusals 19 to 21, 1 to 8, and 14.
-pub fn compile_by(table: Loaded, program: &[u8], netlist: &mut [u8]) -> Written
-    ensures answer { λ r. ⌜ r ≡ compileCall table (now (program .entry)) (now (netlist .entry)) .answer ⌝ }
-    ensures lent { λ _. ⌜ now (netlist .exit) ≡ compileCall table (now (program .entry)) (now (netlist .entry)) .lent ⌝ }
+// Compiles a program: refusals 19 to 21, 1 to 8, and 14.
+pub fn compile(options: Options, program: &[u8], netlist: &mut [u8]) -> Written
+    ensures answer { λ r. ⌜ r ≡ compileCall options (now (program .entry)) (now (netlist .entry)) .answer ⌝ }
+    ensures lent { λ _. ⌜ now (netlist .exit) ≡ compileCall options (now (program .entry)) (now (netlist .entry)) .lent ⌝ }
 {
-    let told = program::scan(table, program);
+    let told = program::scan(options, program);
     let checked = told.checked;
     if let Checked::Refused(r) = checked {
         return Written::Refused(r);
@@ -70,20 +69,4 @@ pub fn compile_by(table: Loaded, program: &[u8], netlist: &mut [u8]) -> Written
     }
     netlist::blocks::put_file(netlist, &cells, n, finish);
     Written::Done { count, finish }
-}
-
-// With the built-in operator times.
-pub fn compile(program: &[u8], netlist: &mut [u8]) -> Written
-    ensures answer { λ r. ⌜ r ≡ compileCall (load builtIn) (now (program .entry)) (now (netlist .entry)) .answer ⌝ }
-    ensures lent { λ _. ⌜ now (netlist .exit) ≡ compileCall (load builtIn) (now (program .entry)) (now (netlist .entry)) .lent ⌝ }
-{
-    compile_by(program::tables::built_in(), program, netlist)
-}
-
-// With the operator times of a table's file.
-pub fn compile_timed(table: &[u8], program: &[u8], netlist: &mut [u8]) -> Written
-    ensures answer { λ r. ⌜ r ≡ compileCall (load (given (now (table .entry)))) (now (program .entry)) (now (netlist .entry)) .answer ⌝ }
-    ensures lent { λ _. ⌜ now (netlist .exit) ≡ compileCall (load (given (now (table .entry)))) (now (program .entry)) (now (netlist .entry)) .lent ⌝ }
-{
-    compile_by(program::tables::load(table), program, netlist)
 }

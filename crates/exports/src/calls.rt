@@ -1,50 +1,44 @@
 // The calls on bytes: numbers and byte slices in, the answer as 48 bytes in a lent buffer (reply/specs/Replies).
-// Each answers whether there was room for the reply; where there was none it did nothing.
+// Each answers whether there was room for the reply; where there was none it did nothing. A flag tells whether a table of operator times is given.
 ghost use mathlib.Core.Path.{_≡_};
-ghost use Rattle.model.specs.TimeTables.{builtIn, given, load};
+ghost use Rattle.model.specs.TimeTables.{givenIf, load};
 ghost use Rattle.model.specs.Calls.{checkCall, compileCall, writeCall, readCall, beginCall, continueCall, runNetlistCall, runProgramCall, referenceCall};
 ghost use Rattle.model.specs.TextCalls.{readTextCall, compileTextCall, runTextCall};
 ghost use Rattle.reply.specs.Replies.{checkedReply, writtenReply, answerReply, replied, roomFor, ifRoom};
-use crate::replies;
-use program::tables;
 
 #[no_mangle]
-pub extern "C" fn hub_check(program: &[u8], reply: &mut [u8]) -> bool
+pub extern "C" fn hub_check(timed: bool, table: &[u8], program: &[u8], reply: &mut [u8]) -> bool
     ensures done { λ r. ⌜ r ≡ roomFor (now (reply .entry)) ⌝ }
-    ensures reply { λ _. ⌜ now (reply .exit) ≡ ifRoom (now (reply .entry)) (replied (checkedReply (checkCall (load builtIn) (now (program .entry)))) (now (reply .entry))) (now (reply .entry)) ⌝ }
+    ensures reply { λ _. ⌜ now (reply .exit) ≡ ifRoom (now (reply .entry)) (replied (checkedReply (checkCall (load (givenIf timed (now (table .entry)))) (now (program .entry)))) (now (reply .entry))) (now (reply .entry)) ⌝ }
 {
-    replies::check_by(tables::built_in(), program, reply)
+    if reply.len() < 48 {
+        return false;
+    }
+    let options = program::tables::load_if(timed, table);
+    let answer = hub::check(options, program);
+    reply::put(reply, reply::of_checked(answer));
+    true
 }
 
 #[no_mangle]
-pub extern "C" fn hub_check_timed(table: &[u8], program: &[u8], reply: &mut [u8]) -> bool
-    ensures done { λ r. ⌜ r ≡ roomFor (now (reply .entry)) ⌝ }
-    ensures reply { λ _. ⌜ now (reply .exit) ≡ ifRoom (now (reply .entry)) (replied (checkedReply (checkCall (load (given (now (table .entry)))) (now (program .entry)))) (now (reply .entry))) (now (reply .entry)) ⌝ }
-{
-    replies::check_by(tables::load(table), program, reply)
-}
-
-#[no_mangle]
-pub extern "C" fn hub_compile(program: &[u8], file: &mut [u8], reply: &mut [u8]) -> bool
-    ensures done { λ r. ⌜ r ≡ roomFor (now (reply .entry)) ⌝ }
-    ensures file { λ _. ⌜ now (file .exit) ≡ ifRoom (now (reply .entry)) (compileCall (load builtIn) (now (program .entry)) (now (file .entry)) .lent) (now (file .entry)) ⌝ }
-    ensures reply { λ _. ⌜ now (reply .exit) ≡ ifRoom (now (reply .entry)) (replied (writtenReply (compileCall (load builtIn) (now (program .entry)) (now (file .entry)) .answer)) (now (reply .entry))) (now (reply .entry)) ⌝ }
-{
-    replies::compile_by(tables::built_in(), program, file, reply)
-}
-
-#[no_mangle]
-pub extern "C" fn hub_compile_timed(
+pub extern "C" fn hub_compile(
+    timed: bool,
     table: &[u8],
     program: &[u8],
     file: &mut [u8],
     reply: &mut [u8],
 ) -> bool
     ensures done { λ r. ⌜ r ≡ roomFor (now (reply .entry)) ⌝ }
-    ensures file { λ _. ⌜ now (file .exit) ≡ ifRoom (now (reply .entry)) (compileCall (load (given (now (table .entry)))) (now (program .entry)) (now (file .entry)) .lent) (now (file .entry)) ⌝ }
-    ensures reply { λ _. ⌜ now (reply .exit) ≡ ifRoom (now (reply .entry)) (replied (writtenReply (compileCall (load (given (now (table .entry)))) (now (program .entry)) (now (file .entry)) .answer)) (now (reply .entry))) (now (reply .entry)) ⌝ }
+    ensures file { λ _. ⌜ now (file .exit) ≡ ifRoom (now (reply .entry)) (compileCall (load (givenIf timed (now (table .entry)))) (now (program .entry)) (now (file .entry)) .lent) (now (file .entry)) ⌝ }
+    ensures reply { λ _. ⌜ now (reply .exit) ≡ ifRoom (now (reply .entry)) (replied (writtenReply (compileCall (load (givenIf timed (now (table .entry)))) (now (program .entry)) (now (file .entry)) .answer)) (now (reply .entry))) (now (reply .entry)) ⌝ }
 {
-    replies::compile_by(tables::load(table), program, file, reply)
+    if reply.len() < 48 {
+        return false;
+    }
+    let options = program::tables::load_if(timed, table);
+    let answer = hub::compile(options, program, file);
+    reply::put(reply, reply::of_written(answer));
+    true
 }
 
 #[no_mangle]
@@ -130,24 +124,7 @@ pub extern "C" fn hub_run_netlist(
 
 #[no_mangle]
 pub extern "C" fn hub_run_program(
-    program: &[u8],
-    words: &[u8],
-    budget: u32,
-    netlist: &mut [u8],
-    state: &mut [u8],
-    reply: &mut [u8],
-) -> bool
-    ensures done { λ r. ⌜ r ≡ roomFor (now (reply .entry)) ⌝ }
-    ensures netlist { λ _. ⌜ now (netlist .exit) ≡ ifRoom (now (reply .entry)) (runProgramCall (load builtIn) (now (program .entry)) (now (words .entry)) budget (now (netlist .entry)) (now (state .entry)) .netlist) (now (netlist .entry)) ⌝ }
-    ensures state { λ _. ⌜ now (state .exit) ≡ ifRoom (now (reply .entry)) (runProgramCall (load builtIn) (now (program .entry)) (now (words .entry)) budget (now (netlist .entry)) (now (state .entry)) .state) (now (state .entry)) ⌝ }
-    ensures reply { λ _. ⌜ now (reply .exit) ≡ ifRoom (now (reply .entry)) (replied (answerReply (runProgramCall (load builtIn) (now (program .entry)) (now (words .entry)) budget (now (netlist .entry)) (now (state .entry)) .answer)) (now (reply .entry))) (now (reply .entry)) ⌝ }
-{
-    let table = tables::built_in();
-    replies::run_program_by(table, program, words, budget, netlist, state, reply)
-}
-
-#[no_mangle]
-pub extern "C" fn hub_run_program_timed(
+    timed: bool,
     table: &[u8],
     program: &[u8],
     words: &[u8],
@@ -157,24 +134,22 @@ pub extern "C" fn hub_run_program_timed(
     reply: &mut [u8],
 ) -> bool
     ensures done { λ r. ⌜ r ≡ roomFor (now (reply .entry)) ⌝ }
-    ensures netlist { λ _. ⌜ now (netlist .exit) ≡ ifRoom (now (reply .entry)) (runProgramCall (load (given (now (table .entry)))) (now (program .entry)) (now (words .entry)) budget (now (netlist .entry)) (now (state .entry)) .netlist) (now (netlist .entry)) ⌝ }
-    ensures state { λ _. ⌜ now (state .exit) ≡ ifRoom (now (reply .entry)) (runProgramCall (load (given (now (table .entry)))) (now (program .entry)) (now (words .entry)) budget (now (netlist .entry)) (now (state .entry)) .state) (now (state .entry)) ⌝ }
-    ensures reply { λ _. ⌜ now (reply .exit) ≡ ifRoom (now (reply .entry)) (replied (answerReply (runProgramCall (load (given (now (table .entry)))) (now (program .entry)) (now (words .entry)) budget (now (netlist .entry)) (now (state .entry)) .answer)) (now (reply .entry))) (now (reply .entry)) ⌝ }
+    ensures netlist { λ _. ⌜ now (netlist .exit) ≡ ifRoom (now (reply .entry)) (runProgramCall (load (givenIf timed (now (table .entry)))) (now (program .entry)) (now (words .entry)) budget (now (netlist .entry)) (now (state .entry)) .netlist) (now (netlist .entry)) ⌝ }
+    ensures state { λ _. ⌜ now (state .exit) ≡ ifRoom (now (reply .entry)) (runProgramCall (load (givenIf timed (now (table .entry)))) (now (program .entry)) (now (words .entry)) budget (now (netlist .entry)) (now (state .entry)) .state) (now (state .entry)) ⌝ }
+    ensures reply { λ _. ⌜ now (reply .exit) ≡ ifRoom (now (reply .entry)) (replied (answerReply (runProgramCall (load (givenIf timed (now (table .entry)))) (now (program .entry)) (now (words .entry)) budget (now (netlist .entry)) (now (state .entry)) .answer)) (now (reply .entry))) (now (reply .entry)) ⌝ }
 {
-    let loaded = tables::load(table);
-    replies::run_program_by(loaded, program, words, budget, netlist, state, reply)
+    if reply.len() < 48 {
+        return false;
+    }
+    let options = program::tables::load_if(timed, table);
+    let answer = hub::run_program(options, program, words, budget, netlist, state);
+    reply::put(reply, reply::of_answer(answer));
+    true
 }
 
 #[no_mangle]
-pub extern "C" fn hub_reference(program: &[u8], words: &[u8], budget: u32, reply: &mut [u8]) -> bool
-    ensures done { λ r. ⌜ r ≡ roomFor (now (reply .entry)) ⌝ }
-    ensures reply { λ _. ⌜ now (reply .exit) ≡ ifRoom (now (reply .entry)) (replied (answerReply (referenceCall (load builtIn) (now (program .entry)) (now (words .entry)) budget)) (now (reply .entry))) (now (reply .entry)) ⌝ }
-{
-    replies::reference_by(tables::built_in(), program, words, budget, reply)
-}
-
-#[no_mangle]
-pub extern "C" fn hub_reference_timed(
+pub extern "C" fn hub_reference(
+    timed: bool,
     table: &[u8],
     program: &[u8],
     words: &[u8],
@@ -182,77 +157,62 @@ pub extern "C" fn hub_reference_timed(
     reply: &mut [u8],
 ) -> bool
     ensures done { λ r. ⌜ r ≡ roomFor (now (reply .entry)) ⌝ }
-    ensures reply { λ _. ⌜ now (reply .exit) ≡ ifRoom (now (reply .entry)) (replied (answerReply (referenceCall (load (given (now (table .entry)))) (now (program .entry)) (now (words .entry)) budget)) (now (reply .entry))) (now (reply .entry)) ⌝ }
+    ensures reply { λ _. ⌜ now (reply .exit) ≡ ifRoom (now (reply .entry)) (replied (answerReply (referenceCall (load (givenIf timed (now (table .entry)))) (now (program .entry)) (now (words .entry)) budget)) (now (reply .entry))) (now (reply .entry)) ⌝ }
 {
-    replies::reference_by(tables::load(table), program, words, budget, reply)
+    if reply.len() < 48 {
+        return false;
+    }
+    let options = program::tables::load_if(timed, table);
+    let answer = hub::reference_run(options, program, words, budget);
+    reply::put(reply, reply::of_answer(answer));
+    true
 }
 
 #[no_mangle]
-pub extern "C" fn hub_read_text(source: &[u8], program: &mut [u8], reply: &mut [u8]) -> bool
-    ensures done { λ r. ⌜ r ≡ roomFor (now (reply .entry)) ⌝ }
-    ensures program { λ _. ⌜ now (program .exit) ≡ ifRoom (now (reply .entry)) (readTextCall (load builtIn) (now (source .entry)) (now (program .entry)) .lent) (now (program .entry)) ⌝ }
-    ensures reply { λ _. ⌜ now (reply .exit) ≡ ifRoom (now (reply .entry)) (replied (writtenReply (readTextCall (load builtIn) (now (source .entry)) (now (program .entry)) .answer)) (now (reply .entry))) (now (reply .entry)) ⌝ }
-{
-    replies::read_text_by(tables::built_in(), source, program, reply)
-}
-
-#[no_mangle]
-pub extern "C" fn hub_read_text_timed(
+pub extern "C" fn hub_read_text(
+    timed: bool,
     table: &[u8],
     source: &[u8],
     program: &mut [u8],
     reply: &mut [u8],
 ) -> bool
     ensures done { λ r. ⌜ r ≡ roomFor (now (reply .entry)) ⌝ }
-    ensures program { λ _. ⌜ now (program .exit) ≡ ifRoom (now (reply .entry)) (readTextCall (load (given (now (table .entry)))) (now (source .entry)) (now (program .entry)) .lent) (now (program .entry)) ⌝ }
-    ensures reply { λ _. ⌜ now (reply .exit) ≡ ifRoom (now (reply .entry)) (replied (writtenReply (readTextCall (load (given (now (table .entry)))) (now (source .entry)) (now (program .entry)) .answer)) (now (reply .entry))) (now (reply .entry)) ⌝ }
+    ensures program { λ _. ⌜ now (program .exit) ≡ ifRoom (now (reply .entry)) (readTextCall (load (givenIf timed (now (table .entry)))) (now (source .entry)) (now (program .entry)) .lent) (now (program .entry)) ⌝ }
+    ensures reply { λ _. ⌜ now (reply .exit) ≡ ifRoom (now (reply .entry)) (replied (writtenReply (readTextCall (load (givenIf timed (now (table .entry)))) (now (source .entry)) (now (program .entry)) .answer)) (now (reply .entry))) (now (reply .entry)) ⌝ }
 {
-    replies::read_text_by(tables::load(table), source, program, reply)
+    if reply.len() < 48 {
+        return false;
+    }
+    let options = program::tables::load_if(timed, table);
+    let answer = hub::read_text(options, source, program);
+    reply::put(reply, reply::of_written(answer));
+    true
 }
 
 #[no_mangle]
-pub extern "C" fn hub_compile_text(source: &[u8], file: &mut [u8], reply: &mut [u8]) -> bool
-    ensures done { λ r. ⌜ r ≡ roomFor (now (reply .entry)) ⌝ }
-    ensures file { λ _. ⌜ now (file .exit) ≡ ifRoom (now (reply .entry)) (compileTextCall (load builtIn) (now (source .entry)) (now (file .entry)) .lent) (now (file .entry)) ⌝ }
-    ensures reply { λ _. ⌜ now (reply .exit) ≡ ifRoom (now (reply .entry)) (replied (writtenReply (compileTextCall (load builtIn) (now (source .entry)) (now (file .entry)) .answer)) (now (reply .entry))) (now (reply .entry)) ⌝ }
-{
-    replies::compile_text_by(tables::built_in(), source, file, reply)
-}
-
-#[no_mangle]
-pub extern "C" fn hub_compile_text_timed(
+pub extern "C" fn hub_compile_text(
+    timed: bool,
     table: &[u8],
     source: &[u8],
     file: &mut [u8],
     reply: &mut [u8],
 ) -> bool
     ensures done { λ r. ⌜ r ≡ roomFor (now (reply .entry)) ⌝ }
-    ensures file { λ _. ⌜ now (file .exit) ≡ ifRoom (now (reply .entry)) (compileTextCall (load (given (now (table .entry)))) (now (source .entry)) (now (file .entry)) .lent) (now (file .entry)) ⌝ }
-    ensures reply { λ _. ⌜ now (reply .exit) ≡ ifRoom (now (reply .entry)) (replied (writtenReply (compileTextCall (load (given (now (table .entry)))) (now (source .entry)) (now (file .entry)) .answer)) (now (reply .entry))) (now (reply .entry)) ⌝ }
+    ensures file { λ _. ⌜ now (file .exit) ≡ ifRoom (now (reply .entry)) (compileTextCall (load (givenIf timed (now (table .entry)))) (now (source .entry)) (now (file .entry)) .lent) (now (file .entry)) ⌝ }
+    ensures reply { λ _. ⌜ now (reply .exit) ≡ ifRoom (now (reply .entry)) (replied (writtenReply (compileTextCall (load (givenIf timed (now (table .entry)))) (now (source .entry)) (now (file .entry)) .answer)) (now (reply .entry))) (now (reply .entry)) ⌝ }
 {
-    replies::compile_text_by(tables::load(table), source, file, reply)
+    if reply.len() < 48 {
+        return false;
+    }
+    let options = program::tables::load_if(timed, table);
+    let answer = hub::compile_text(options, source, file);
+    reply::put(reply, reply::of_written(answer));
+    true
 }
 
 #[no_mangle]
 pub extern "C" fn hub_run_text(
-    source: &[u8],
-    words: &[u8],
-    budget: u32,
-    netlist: &mut [u8],
-    state: &mut [u8],
-    reply: &mut [u8],
-) -> bool
-    ensures done { λ r. ⌜ r ≡ roomFor (now (reply .entry)) ⌝ }
-    ensures netlist { λ _. ⌜ now (netlist .exit) ≡ ifRoom (now (reply .entry)) (runTextCall (load builtIn) (now (source .entry)) (now (words .entry)) budget (now (netlist .entry)) (now (state .entry)) .netlist) (now (netlist .entry)) ⌝ }
-    ensures state { λ _. ⌜ now (state .exit) ≡ ifRoom (now (reply .entry)) (runTextCall (load builtIn) (now (source .entry)) (now (words .entry)) budget (now (netlist .entry)) (now (state .entry)) .state) (now (state .entry)) ⌝ }
-    ensures reply { λ _. ⌜ now (reply .exit) ≡ ifRoom (now (reply .entry)) (replied (answerReply (runTextCall (load builtIn) (now (source .entry)) (now (words .entry)) budget (now (netlist .entry)) (now (state .entry)) .answer)) (now (reply .entry))) (now (reply .entry)) ⌝ }
-{
-    let table = tables::built_in();
-    replies::run_text_by(table, source, words, budget, netlist, state, reply)
-}
-
-#[no_mangle]
-pub extern "C" fn hub_run_text_timed(
+    timed: bool,
     table: &[u8],
     source: &[u8],
     words: &[u8],
@@ -262,10 +222,15 @@ pub extern "C" fn hub_run_text_timed(
     reply: &mut [u8],
 ) -> bool
     ensures done { λ r. ⌜ r ≡ roomFor (now (reply .entry)) ⌝ }
-    ensures netlist { λ _. ⌜ now (netlist .exit) ≡ ifRoom (now (reply .entry)) (runTextCall (load (given (now (table .entry)))) (now (source .entry)) (now (words .entry)) budget (now (netlist .entry)) (now (state .entry)) .netlist) (now (netlist .entry)) ⌝ }
-    ensures state { λ _. ⌜ now (state .exit) ≡ ifRoom (now (reply .entry)) (runTextCall (load (given (now (table .entry)))) (now (source .entry)) (now (words .entry)) budget (now (netlist .entry)) (now (state .entry)) .state) (now (state .entry)) ⌝ }
-    ensures reply { λ _. ⌜ now (reply .exit) ≡ ifRoom (now (reply .entry)) (replied (answerReply (runTextCall (load (given (now (table .entry)))) (now (source .entry)) (now (words .entry)) budget (now (netlist .entry)) (now (state .entry)) .answer)) (now (reply .entry))) (now (reply .entry)) ⌝ }
+    ensures netlist { λ _. ⌜ now (netlist .exit) ≡ ifRoom (now (reply .entry)) (runTextCall (load (givenIf timed (now (table .entry)))) (now (source .entry)) (now (words .entry)) budget (now (netlist .entry)) (now (state .entry)) .netlist) (now (netlist .entry)) ⌝ }
+    ensures state { λ _. ⌜ now (state .exit) ≡ ifRoom (now (reply .entry)) (runTextCall (load (givenIf timed (now (table .entry)))) (now (source .entry)) (now (words .entry)) budget (now (netlist .entry)) (now (state .entry)) .state) (now (state .entry)) ⌝ }
+    ensures reply { λ _. ⌜ now (reply .exit) ≡ ifRoom (now (reply .entry)) (replied (answerReply (runTextCall (load (givenIf timed (now (table .entry)))) (now (source .entry)) (now (words .entry)) budget (now (netlist .entry)) (now (state .entry)) .answer)) (now (reply .entry))) (now (reply .entry)) ⌝ }
 {
-    let loaded = tables::load(table);
-    replies::run_text_by(loaded, source, words, budget, netlist, state, reply)
+    if reply.len() < 48 {
+        return false;
+    }
+    let options = program::tables::load_if(timed, table);
+    let answer = hub::run_text(options, source, words, budget, netlist, state);
+    reply::put(reply, reply::of_answer(answer));
+    true
 }

@@ -16,7 +16,6 @@ pub mod calls; // the calls on bytes
 mod checking; // what the check tells
 pub mod moves; // one cell moved, and cells of six bytes each
 mod reading; // what reading puts in
-mod replies; // the calls on bytes that go by a table
 mod writing; // what writing puts in
 
 use model::Cell;

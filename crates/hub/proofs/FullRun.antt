@@ -8,7 +8,7 @@ use lib.Dec.{ltb}
 use lib.ListN.{length, take, drop, length-append}
 use lib.Seq.{take-append-seam}
 use Rattle.model.specs.declared.Refusal.{Refusal}
-use Rattle.model.specs.declared.Loaded.{Loaded}
+use Rattle.model.specs.declared.Options.{Options}
 use Rattle.model.specs.declared.Checked.{Checked}
 use Rattle.model.specs.declared.Checked.the-variants.{Accepted, Refused}
 use Rattle.model.specs.Refusals.{refuse, first}
@@ -27,8 +27,8 @@ use Rattle.laws.specs.NetlistFile.Compiled.{compiled-accepted}
 use Rattle.simulator.specs.Fits.{Runs}
 
 -- A netlist has few cells
-pub few-cells : (table : Loaded) (program : List ℕ) → checkCall table program ≡ Accepted → length (netlist (programOf program)) ≤ 619
-few-cells table program e = fits (programOf program) (few-nodes table program e) .1
+pub few-cells : (options : Options) (program : List ℕ) → checkCall options program ≡ Accepted → length (netlist (programOf program)) ≤ 619
+few-cells options program e = fits (programOf program) (few-nodes options program e) .1
 
 -- the part of a list that a result was written over
 pub part-is : (result lent after : List ℕ) (n : ℕ) → n ≡ length result → after ≡ overwrite result lent → take (n - 0) (drop 0 after) ≡ result
@@ -39,20 +39,20 @@ part-is result lent after n e q =
 pub part-fits : (result lent after : List ℕ) (n : ℕ) → n ≡ length result → after ≡ overwrite result lent → n ≤ length after
 part-fits result lent after n e q = omega (arith, e, ap length q, length-append result (drop (length result) lent))
 
-module _ (table : Loaded) (program words : List ℕ) (budget : ℕ) (file state : List ℕ) where
+module _ (options : Options) (program words : List ℕ) (budget : ℕ) (file state : List ℕ) where
   abbrev checks : List Checked
-  checks = runProgramChecks table program words budget file state
+  checks = runProgramChecks options program words budget file state
 
   abbrev verdict : Checked
   verdict = first checks
 
   -- Which comes first --------------------------------------------------------------------------------------------------------------------
 
-  pub at-program : {r : Refusal} → checkCall table program ≡ Refused r → Refused r ≡ verdict
+  pub at-program : {r : Refusal} → checkCall options program ≡ Refused r → Refused r ≡ verdict
   unfolding checkCall
   at-program e = sym (first-take 2 checks e)
 
-  module _ (e : checkCall table program ≡ Accepted) where
+  module _ (e : checkCall options program ≡ Accepted) where
     -- the table and the program are accepted, and what refuses comes after them
     after-program : verdict ≡ first (drop 2 checks)
     unfolding checkCall
@@ -92,7 +92,7 @@ module _ (table : Loaded) (program words : List ℕ) (budget : ℕ) (file state 
   long-enough has needs e = ltb-false has needs (refuse-unless (ltb has needs) 14 0 e)
 
   pub record Ready : Type 0 where
-    pub accepted : checkCall table program ≡ Accepted
+    pub accepted : checkCall options program ≡ Accepted
     pub few : budget ≤ 1000000
     pub start : 32 ≤ length words
     pub fits : length (compiledFile program) ≤ length file
@@ -111,17 +111,17 @@ module _ (table : Loaded) (program words : List ℕ) (budget : ℕ) (file state 
       }
 
   pub runs : Bytes program → Ready → Runs (compiledFile program) state
-  runs bytes r = record { accepted = compiled-accepted table program bytes (r .accepted); room = r .room }
+  runs bytes r = record { accepted = compiled-accepted options program bytes (r .accepted); room = r .room }
 
   -- What the call tells ------------------------------------------------------------------------------------------------------------------
 
-  pub refused-call : {r : Refusal} → verdict ≡ Refused r → runProgramCall table program words budget file state ≡ record { answer = refusedAnswer r; netlist = file; state = state }
+  pub refused-call : {r : Refusal} → verdict ≡ Refused r → runProgramCall options program words budget file state ≡ record { answer = refusedAnswer r; netlist = file; state = state }
   unfolding runProgramCall running writing
   refused-call e = rw e refl
 
   pub accepted-call : verdict ≡ Accepted →
       let f = compiledFile program in
       let s = fullState f words budget state in
-      runProgramCall table program words budget file state ≡ record { answer = shows f s (fullCount f words budget state); netlist = overwrite f file; state = s }
+      runProgramCall options program words budget file state ≡ record { answer = shows f s (fullCount f words budget state); netlist = overwrite f file; state = s }
   unfolding runProgramCall running writing
   accepted-call e = rw e refl

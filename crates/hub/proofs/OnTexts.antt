@@ -5,7 +5,7 @@ use mathlib.Core.List.{List, [], _∷_, _++_}
 use Prim.Native.Nat.{ℕ}
 use lib.ListN.{length}
 use Rattle.model.specs.declared.Refusal.{Refusal}
-use Rattle.model.specs.declared.Loaded.{Loaded}
+use Rattle.model.specs.declared.Options.{Options}
 use Rattle.model.specs.declared.Checked.{Checked}
 use Rattle.model.specs.declared.Checked.the-variants.{Accepted, Refused}
 use Rattle.model.specs.declared.Written.{Written}
@@ -20,41 +20,41 @@ use Rattle.laws.specs.Text.AsProgram.{compile-as-program, run-as-program}
 use Rattle.text.specs.Parsing.{parseChecks}
 use Rattle.text.proofs.Giving.{parse-refuses, parse-accepts}
 
-module _ (table : Loaded) (text lent : List ℕ) where
-  pub compile-unloaded : (r : Refusal) → table .checked ≡ Refused r → compileTextCall table text lent ≡ record { answer = Written.Refused r; lent = lent }
+module _ (options : Options) (text lent : List ℕ) where
+  pub compile-unloaded : (r : Refusal) → options .checked ≡ Refused r → compileTextCall options text lent ≡ record { answer = Written.Refused r; lent = lent }
   unfolding compileTextCall writing
   compile-unloaded r e = rw e refl
 
-  pub compile-refused : table .checked ≡ Accepted → (r : Refusal) → first (parseChecks text) ≡ Refused r
-      → compileTextCall table text lent ≡ record { answer = Written.Refused r; lent = lent }
+  pub compile-refused : options .checked ≡ Accepted → (r : Refusal) → first (parseChecks text) ≡ Refused r
+      → compileTextCall options text lent ≡ record { answer = Written.Refused r; lent = lent }
   unfolding compileTextCall writing
   compile-refused a r e =
       let file = compiledFile (textProgram text) in
-      let first-is : first (compileTextChecks table text lent) ≡ Refused r =
-      rw a (parse-refuses text (table .times) r (short (length lent) (length file) ∷ []) e) in
+      let first-is : first (compileTextChecks options text lent) ≡ Refused r =
+      rw a (parse-refuses text (options .times) r (short (length lent) (length file) ∷ []) e) in
       ap (λ (c : Checked). writing c file (length file) (finish (programOf (textProgram text))) lent) first-is
 
-  pub compile-given : first (parseChecks text) ≡ Accepted → compileTextCall table text lent ≡ compileCall table (textProgram text) lent
-  compile-given e = compile-as-program table text lent (parse-accepts text e)
+  pub compile-given : first (parseChecks text) ≡ Accepted → compileTextCall options text lent ≡ compileCall options (textProgram text) lent
+  compile-given e = compile-as-program options text lent (parse-accepts text e)
 
-module _ (table : Loaded) (text words : List ℕ) (n : ℕ) (forFile lent : List ℕ) where
-  pub run-unloaded : (r : Refusal) → table .checked ≡ Refused r
-      → runTextCall table text words n forFile lent ≡ record { answer = refusedAnswer r; netlist = forFile; state = lent }
+module _ (options : Options) (text words : List ℕ) (n : ℕ) (forFile lent : List ℕ) where
+  pub run-unloaded : (r : Refusal) → options .checked ≡ Refused r
+      → runTextCall options text words n forFile lent ≡ record { answer = refusedAnswer r; netlist = forFile; state = lent }
   unfolding runTextCall writing running
   run-unloaded r e = rw e refl
 
-  pub run-refused : table .checked ≡ Accepted → (r : Refusal) → first (parseChecks text) ≡ Refused r
-      → runTextCall table text words n forFile lent ≡ record { answer = refusedAnswer r; netlist = forFile; state = lent }
+  pub run-refused : options .checked ≡ Accepted → (r : Refusal) → first (parseChecks text) ≡ Refused r
+      → runTextCall options text words n forFile lent ≡ record { answer = refusedAnswer r; netlist = forFile; state = lent }
   unfolding runTextCall writing running
   run-refused a r e =
       let file = compiledFile (textProgram text) in
-      let first-is : first (runTextChecks table text words n forFile lent) ≡ Refused r =
-      rw a (parse-refuses text (table .times) r
+      let first-is : first (runTextChecks options text words n forFile lent) ≡ Refused r =
+      rw a (parse-refuses text (options .times) r
       (overBudget n ∷ short (length words) 32 ∷ short (length forFile) (length file) ∷ short (length lent) (stateSize (cellsOf file)) ∷ []) e) in
       ap (λ (c : Checked).
       let s = running c file (fullState file words n lent) (fullCount file words n lent) lent in
       record { answer = s .answer; netlist = writing c file (length file) 0 forFile .lent; state = s .lent })
       first-is
 
-  pub run-given : first (parseChecks text) ≡ Accepted → runTextCall table text words n forFile lent ≡ runProgramCall table (textProgram text) words n forFile lent
-  run-given e = run-as-program table text words n forFile lent (parse-accepts text e)
+  pub run-given : first (parseChecks text) ≡ Accepted → runTextCall options text words n forFile lent ≡ runProgramCall options (textProgram text) words n forFile lent
+  run-given e = run-as-program options text words n forFile lent (parse-accepts text e)

@@ -5,20 +5,20 @@ ghost use Rattle.model.specs.Refusals.{first};
 ghost use Rattle.model.specs.Calls.{overwrite, compiledFile, shows, fullState, fullCount, runProgramChecks, runProgramCall};
 use model::Answer;
 use model::Checked;
-use model::Loaded;
+use model::Options;
 
 // Refusals 19 to 21, 1 to 8, 13, 14.
 fn check(
-    table: Loaded,
+    options: Options,
     program: &[u8],
     words: &[u8],
     budget: u32,
     netlist: &[u8],
     state: &[u8],
 ) -> Checked
-    ensures { λ r. ⌜ r ≡ first (runProgramChecks table (now (program .entry)) (now (words .entry)) budget (now (netlist .entry)) (now (state .entry))) ⌝ }
+    ensures { λ r. ⌜ r ≡ first (runProgramChecks options (now (program .entry)) (now (words .entry)) budget (now (netlist .entry)) (now (state .entry))) ⌝ }
 {
-    let checked = program::check_by(table, program);
+    let checked = program::check(options, program);
     if let Checked::Refused(r) = checked {
         return Checked::Refused(r);
     }
@@ -28,7 +28,7 @@ fn check(
     if words.len() < 32 {
         return simulator::checks::refuse(14);
     }
-    let n = compiler::count_cells(table, program);
+    let n = compiler::count_cells(options, program);
     if netlist.len() < 512 * ((n + 83) / 84) {
         return simulator::checks::refuse(14);
     }
@@ -39,39 +39,39 @@ fn check(
 }
 
 // The run of a program that was not refused.
-fn run(
-    table: Loaded,
+fn run_accepted(
+    options: Options,
     program: &[u8],
     words: &[u8],
     budget: u32,
     netlist: &mut [u8],
     state: &mut [u8],
 ) -> Answer
-    requires { ⌜ first (runProgramChecks table (now program) (now words) budget (now netlist) (now state)) ≡ Accepted ⌝ }
+    requires { ⌜ first (runProgramChecks options (now program) (now words) budget (now netlist) (now state)) ≡ Accepted ⌝ }
     ensures answer { λ r. ⌜ r ≡ shows (compiledFile (now (program .entry))) (fullState (compiledFile (now (program .entry))) (now (words .entry)) budget (now (state .entry))) (fullCount (compiledFile (now (program .entry))) (now (words .entry)) budget (now (state .entry))) ⌝ }
     ensures netlist { λ _. ⌜ now (netlist .exit) ≡ overwrite (compiledFile (now (program .entry))) (now (netlist .entry)) ⌝ }
     ensures state { λ _. ⌜ now (state .exit) ≡ fullState (compiledFile (now (program .entry))) (now (words .entry)) budget (now (state .entry)) ⌝ }
 {
-    let length = compiler::compile_accepted(table, program, netlist);
+    let length = compiler::compile_accepted(options, program, netlist);
     simulator::runs::full_run(&netlist[0..length], words, budget, state)
 }
 
-// A compiling with a table as it was loaded, and a full run of what it wrote, in two lent buffers.
-pub fn run_by(
-    table: Loaded,
+// A compiling, and a full run of what it wrote, in two lent buffers.
+pub fn run(
+    options: Options,
     program: &[u8],
     words: &[u8],
     budget: u32,
     netlist: &mut [u8],
     state: &mut [u8],
 ) -> Answer
-    ensures answer { λ r. ⌜ r ≡ runProgramCall table (now (program .entry)) (now (words .entry)) budget (now (netlist .entry)) (now (state .entry)) .answer ⌝ }
-    ensures netlist { λ _. ⌜ now (netlist .exit) ≡ runProgramCall table (now (program .entry)) (now (words .entry)) budget (now (netlist .entry)) (now (state .entry)) .netlist ⌝ }
-    ensures state { λ _. ⌜ now (state .exit) ≡ runProgramCall table (now (program .entry)) (now (words .entry)) budget (now (netlist .entry)) (now (state .entry)) .state ⌝ }
+    ensures answer { λ r. ⌜ r ≡ runProgramCall options (now (program .entry)) (now (words .entry)) budget (now (netlist .entry)) (now (state .entry)) .answer ⌝ }
+    ensures netlist { λ _. ⌜ now (netlist .exit) ≡ runProgramCall options (now (program .entry)) (now (words .entry)) budget (now (netlist .entry)) (now (state .entry)) .netlist ⌝ }
+    ensures state { λ _. ⌜ now (state .exit) ≡ runProgramCall options (now (program .entry)) (now (words .entry)) budget (now (netlist .entry)) (now (state .entry)) .state ⌝ }
 {
-    let checked = check(table, program, words, budget, netlist, state);
+    let checked = check(options, program, words, budget, netlist, state);
     if let Checked::Refused(r) = checked {
         return simulator::refused(r);
     }
-    run(table, program, words, budget, netlist, state)
+    run_accepted(options, program, words, budget, netlist, state)
 }

@@ -1,7 +1,7 @@
 // The public calls. None has a requires; each contract is one equation for the answer and one for each lent list at exit, with model/Calls.
-// A call that checks a program goes by the built-in operator times; the call of the same name with `_timed` takes a table's file first.
+// A call that checks a program takes first what is given beside it: `defaults`, or what a file of operator times is loaded as.
 ghost use mathlib.Core.Path.{_≡_};
-ghost use Rattle.model.specs.TimeTables.{builtIn, given, load};
+ghost use Rattle.model.specs.TimeTables.{given, load, defaults};
 ghost use Rattle.model.specs.Calls.{checkCall, compileCall, writeCall, readCall, beginCall, continueCall, runNetlistCall, runProgramCall, referenceCall};
 ghost use Rattle.model.specs.TextCalls.{readTextCall, compileTextCall, runTextCall};
 
@@ -10,33 +10,35 @@ pub mod texts; // compiling and running a text
 
 use model::Answer;
 use model::Checked;
+use model::Options;
 use model::Written;
 
-pub fn check(program: &[u8]) -> Checked
-    ensures { λ r. ⌜ r ≡ checkCall (load builtIn) (now (program .entry)) ⌝ }
+// What stands for 'nothing given' beside a program.
+pub fn defaults() -> Options
+    ensures { λ r. ⌜ r ≡ defaults ⌝ }
 {
-    program::check(program)
+    program::tables::defaults()
 }
 
-pub fn check_timed(table: &[u8], program: &[u8]) -> Checked
-    ensures { λ r. ⌜ r ≡ checkCall (load (given (now (table .entry)))) (now (program .entry)) ⌝ }
+// What a file of operator times is loaded as: refusals 19 to 21, which the calls tell.
+pub fn load(table: &[u8]) -> Options
+    ensures { λ r. ⌜ r ≡ load (given (now (table .entry))) ⌝ }
 {
-    program::check_timed(table, program)
+    program::tables::load(table)
+}
+
+pub fn check(options: Options, program: &[u8]) -> Checked
+    ensures { λ r. ⌜ r ≡ checkCall options (now (program .entry)) ⌝ }
+{
+    program::check(options, program)
 }
 
 // The program's netlist file, into a lent buffer.
-pub fn compile(program: &[u8], file: &mut [u8]) -> Written
-    ensures answer { λ r. ⌜ r ≡ compileCall (load builtIn) (now (program .entry)) (now (file .entry)) .answer ⌝ }
-    ensures lent { λ _. ⌜ now (file .exit) ≡ compileCall (load builtIn) (now (program .entry)) (now (file .entry)) .lent ⌝ }
+pub fn compile(options: Options, program: &[u8], file: &mut [u8]) -> Written
+    ensures answer { λ r. ⌜ r ≡ compileCall options (now (program .entry)) (now (file .entry)) .answer ⌝ }
+    ensures lent { λ _. ⌜ now (file .exit) ≡ compileCall options (now (program .entry)) (now (file .entry)) .lent ⌝ }
 {
-    compiler::compile(program, file)
-}
-
-pub fn compile_timed(table: &[u8], program: &[u8], file: &mut [u8]) -> Written
-    ensures answer { λ r. ⌜ r ≡ compileCall (load (given (now (table .entry)))) (now (program .entry)) (now (file .entry)) .answer ⌝ }
-    ensures lent { λ _. ⌜ now (file .exit) ≡ compileCall (load (given (now (table .entry)))) (now (program .entry)) (now (file .entry)) .lent ⌝ }
-{
-    compiler::compile_timed(table, program, file)
+    compiler::compile(options, program, file)
 }
 
 pub fn write_netlist(cells: &[u8], finish: u16, file: &mut [u8]) -> Written
@@ -79,119 +81,55 @@ pub fn run_netlist(netlist: &[u8], words: &[u8], budget: u32, state: &mut [u8]) 
 
 // A compiling and a full run of what it wrote, in two lent buffers.
 pub fn run_program(
+    options: Options,
     program: &[u8],
     words: &[u8],
     budget: u32,
     netlist: &mut [u8],
     state: &mut [u8],
 ) -> Answer
-    ensures answer { λ r. ⌜ r ≡ runProgramCall (load builtIn) (now (program .entry)) (now (words .entry)) budget (now (netlist .entry)) (now (state .entry)) .answer ⌝ }
-    ensures netlist { λ _. ⌜ now (netlist .exit) ≡ runProgramCall (load builtIn) (now (program .entry)) (now (words .entry)) budget (now (netlist .entry)) (now (state .entry)) .netlist ⌝ }
-    ensures state { λ _. ⌜ now (state .exit) ≡ runProgramCall (load builtIn) (now (program .entry)) (now (words .entry)) budget (now (netlist .entry)) (now (state .entry)) .state ⌝ }
+    ensures answer { λ r. ⌜ r ≡ runProgramCall options (now (program .entry)) (now (words .entry)) budget (now (netlist .entry)) (now (state .entry)) .answer ⌝ }
+    ensures netlist { λ _. ⌜ now (netlist .exit) ≡ runProgramCall options (now (program .entry)) (now (words .entry)) budget (now (netlist .entry)) (now (state .entry)) .netlist ⌝ }
+    ensures state { λ _. ⌜ now (state .exit) ≡ runProgramCall options (now (program .entry)) (now (words .entry)) budget (now (netlist .entry)) (now (state .entry)) .state ⌝ }
 {
-    full::run_by(
-        program::tables::built_in(),
-        program,
-        words,
-        budget,
-        netlist,
-        state,
-    )
-}
-
-pub fn run_program_timed(
-    table: &[u8],
-    program: &[u8],
-    words: &[u8],
-    budget: u32,
-    netlist: &mut [u8],
-    state: &mut [u8],
-) -> Answer
-    ensures answer { λ r. ⌜ r ≡ runProgramCall (load (given (now (table .entry)))) (now (program .entry)) (now (words .entry)) budget (now (netlist .entry)) (now (state .entry)) .answer ⌝ }
-    ensures netlist { λ _. ⌜ now (netlist .exit) ≡ runProgramCall (load (given (now (table .entry)))) (now (program .entry)) (now (words .entry)) budget (now (netlist .entry)) (now (state .entry)) .netlist ⌝ }
-    ensures state { λ _. ⌜ now (state .exit) ≡ runProgramCall (load (given (now (table .entry)))) (now (program .entry)) (now (words .entry)) budget (now (netlist .entry)) (now (state .entry)) .state ⌝ }
-{
-    full::run_by(
-        program::tables::load(table),
-        program,
-        words,
-        budget,
-        netlist,
-        state,
-    )
+    full::run(options, program, words, budget, netlist, state)
 }
 
 // The program by its own rules, without a circuit.
-pub fn reference_run(program: &[u8], words: &[u8], budget: u32) -> Answer
-    ensures { λ r. ⌜ r ≡ referenceCall (load builtIn) (now (program .entry)) (now (words .entry)) budget ⌝ }
+pub fn reference_run(options: Options, program: &[u8], words: &[u8], budget: u32) -> Answer
+    ensures { λ r. ⌜ r ≡ referenceCall options (now (program .entry)) (now (words .entry)) budget ⌝ }
 {
-    rules::reference_run(program, words, budget)
-}
-
-pub fn reference_run_timed(table: &[u8], program: &[u8], words: &[u8], budget: u32) -> Answer
-    ensures { λ r. ⌜ r ≡ referenceCall (load (given (now (table .entry)))) (now (program .entry)) (now (words .entry)) budget ⌝ }
-{
-    rules::reference_run_timed(table, program, words, budget)
+    rules::reference_run(options, program, words, budget)
 }
 
 // The program that a text stands for, into a lent buffer.
-pub fn read_text(source: &[u8], program: &mut [u8]) -> Written
-    ensures answer { λ r. ⌜ r ≡ readTextCall (load builtIn) (now (source .entry)) (now (program .entry)) .answer ⌝ }
-    ensures lent { λ _. ⌜ now (program .exit) ≡ readTextCall (load builtIn) (now (source .entry)) (now (program .entry)) .lent ⌝ }
+pub fn read_text(options: Options, source: &[u8], program: &mut [u8]) -> Written
+    ensures answer { λ r. ⌜ r ≡ readTextCall options (now (source .entry)) (now (program .entry)) .answer ⌝ }
+    ensures lent { λ _. ⌜ now (program .exit) ≡ readTextCall options (now (source .entry)) (now (program .entry)) .lent ⌝ }
 {
-    text::read_text(source, program)
-}
-
-pub fn read_text_timed(table: &[u8], source: &[u8], program: &mut [u8]) -> Written
-    ensures answer { λ r. ⌜ r ≡ readTextCall (load (given (now (table .entry)))) (now (source .entry)) (now (program .entry)) .answer ⌝ }
-    ensures lent { λ _. ⌜ now (program .exit) ≡ readTextCall (load (given (now (table .entry)))) (now (source .entry)) (now (program .entry)) .lent ⌝ }
-{
-    text::read_text_timed(table, source, program)
+    text::read_text(options, source, program)
 }
 
 // The netlist file of a text's program.
-pub fn compile_text(source: &[u8], file: &mut [u8]) -> Written
-    ensures answer { λ r. ⌜ r ≡ compileTextCall (load builtIn) (now (source .entry)) (now (file .entry)) .answer ⌝ }
-    ensures lent { λ _. ⌜ now (file .exit) ≡ compileTextCall (load builtIn) (now (source .entry)) (now (file .entry)) .lent ⌝ }
+pub fn compile_text(options: Options, source: &[u8], file: &mut [u8]) -> Written
+    ensures answer { λ r. ⌜ r ≡ compileTextCall options (now (source .entry)) (now (file .entry)) .answer ⌝ }
+    ensures lent { λ _. ⌜ now (file .exit) ≡ compileTextCall options (now (source .entry)) (now (file .entry)) .lent ⌝ }
 {
-    texts::compile_by(program::tables::built_in(), source, file)
-}
-
-pub fn compile_text_timed(table: &[u8], source: &[u8], file: &mut [u8]) -> Written
-    ensures answer { λ r. ⌜ r ≡ compileTextCall (load (given (now (table .entry)))) (now (source .entry)) (now (file .entry)) .answer ⌝ }
-    ensures lent { λ _. ⌜ now (file .exit) ≡ compileTextCall (load (given (now (table .entry)))) (now (source .entry)) (now (file .entry)) .lent ⌝ }
-{
-    texts::compile_by(program::tables::load(table), source, file)
+    texts::compile(options, source, file)
 }
 
 // A full run of a text's program.
 pub fn run_text(
+    options: Options,
     source: &[u8],
     words: &[u8],
     budget: u32,
     netlist: &mut [u8],
     state: &mut [u8],
 ) -> Answer
-    ensures answer { λ r. ⌜ r ≡ runTextCall (load builtIn) (now (source .entry)) (now (words .entry)) budget (now (netlist .entry)) (now (state .entry)) .answer ⌝ }
-    ensures netlist { λ _. ⌜ now (netlist .exit) ≡ runTextCall (load builtIn) (now (source .entry)) (now (words .entry)) budget (now (netlist .entry)) (now (state .entry)) .netlist ⌝ }
-    ensures state { λ _. ⌜ now (state .exit) ≡ runTextCall (load builtIn) (now (source .entry)) (now (words .entry)) budget (now (netlist .entry)) (now (state .entry)) .state ⌝ }
+    ensures answer { λ r. ⌜ r ≡ runTextCall options (now (source .entry)) (now (words .entry)) budget (now (netlist .entry)) (now (state .entry)) .answer ⌝ }
+    ensures netlist { λ _. ⌜ now (netlist .exit) ≡ runTextCall options (now (source .entry)) (now (words .entry)) budget (now (netlist .entry)) (now (state .entry)) .netlist ⌝ }
+    ensures state { λ _. ⌜ now (state .exit) ≡ runTextCall options (now (source .entry)) (now (words .entry)) budget (now (netlist .entry)) (now (state .entry)) .state ⌝ }
 {
-    let table = program::tables::built_in();
-    texts::run_by(table, source, words, budget, netlist, state)
-}
-
-pub fn run_text_timed(
-    table: &[u8],
-    source: &[u8],
-    words: &[u8],
-    budget: u32,
-    netlist: &mut [u8],
-    state: &mut [u8],
-) -> Answer
-    ensures answer { λ r. ⌜ r ≡ runTextCall (load (given (now (table .entry)))) (now (source .entry)) (now (words .entry)) budget (now (netlist .entry)) (now (state .entry)) .answer ⌝ }
-    ensures netlist { λ _. ⌜ now (netlist .exit) ≡ runTextCall (load (given (now (table .entry)))) (now (source .entry)) (now (words .entry)) budget (now (netlist .entry)) (now (state .entry)) .netlist ⌝ }
-    ensures state { λ _. ⌜ now (state .exit) ≡ runTextCall (load (given (now (table .entry)))) (now (source .entry)) (now (words .entry)) budget (now (netlist .entry)) (now (state .entry)) .state ⌝ }
-{
-    let loaded = program::tables::load(table);
-    texts::run_by(loaded, source, words, budget, netlist, state)
+    texts::run(options, source, words, budget, netlist, state)
 }

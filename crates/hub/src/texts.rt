@@ -1,43 +1,43 @@
-// Compiling and running a text, with a table as it was loaded: its program is read first, and then compiled or run as any program is.
+// Compiling and running a text: its program is read first, and then compiled or run as any program is.
 ghost use mathlib.Core.Path.{_≡_};
 ghost use Rattle.model.specs.TextCalls.{compileTextCall, runTextCall};
 use model::Answer;
 use model::Checked;
-use model::Loaded;
+use model::Options;
 use model::Written;
 
 // Refusals 19 to 21, 17, 18, 1 to 8, 14.
-pub fn compile_by(table: Loaded, source: &[u8], file: &mut [u8]) -> Written
-    ensures answer { λ r. ⌜ r ≡ compileTextCall table (now (source .entry)) (now (file .entry)) .answer ⌝ }
-    ensures lent { λ _. ⌜ now (file .exit) ≡ compileTextCall table (now (source .entry)) (now (file .entry)) .lent ⌝ }
+pub fn compile(options: Options, source: &[u8], file: &mut [u8]) -> Written
+    ensures answer { λ r. ⌜ r ≡ compileTextCall options (now (source .entry)) (now (file .entry)) .answer ⌝ }
+    ensures lent { λ _. ⌜ now (file .exit) ≡ compileTextCall options (now (source .entry)) (now (file .entry)) .lent ⌝ }
 {
-    let loaded = table.checked;
-    if let Checked::Refused(r) = loaded {
+    let beside = options.checked;
+    if let Checked::Refused(r) = beside {
         return Written::Refused(r);
     }
     let mut program = [0u8; 800];
     let told = text::program_of(source, &mut program);
     match told {
         Written::Refused(r) => Written::Refused(r),
-        Written::Done { count, finish: _ } => compiler::compile_by(table, &program[..count], file),
+        Written::Done { count, finish: _ } => compiler::compile(options, &program[..count], file),
     }
 }
 
 // Refusals 19 to 21, 17, 18, 1 to 8, 13, 14.
-pub fn run_by(
-    table: Loaded,
+pub fn run(
+    options: Options,
     source: &[u8],
     words: &[u8],
     budget: u32,
     netlist: &mut [u8],
     state: &mut [u8],
 ) -> Answer
-    ensures answer { λ r. ⌜ r ≡ runTextCall table (now (source .entry)) (now (words .entry)) budget (now (netlist .entry)) (now (state .entry)) .answer ⌝ }
-    ensures netlist { λ _. ⌜ now (netlist .exit) ≡ runTextCall table (now (source .entry)) (now (words .entry)) budget (now (netlist .entry)) (now (state .entry)) .netlist ⌝ }
-    ensures state { λ _. ⌜ now (state .exit) ≡ runTextCall table (now (source .entry)) (now (words .entry)) budget (now (netlist .entry)) (now (state .entry)) .state ⌝ }
+    ensures answer { λ r. ⌜ r ≡ runTextCall options (now (source .entry)) (now (words .entry)) budget (now (netlist .entry)) (now (state .entry)) .answer ⌝ }
+    ensures netlist { λ _. ⌜ now (netlist .exit) ≡ runTextCall options (now (source .entry)) (now (words .entry)) budget (now (netlist .entry)) (now (state .entry)) .netlist ⌝ }
+    ensures state { λ _. ⌜ now (state .exit) ≡ runTextCall options (now (source .entry)) (now (words .entry)) budget (now (netlist .entry)) (now (state .entry)) .state ⌝ }
 {
-    let loaded = table.checked;
-    if let Checked::Refused(r) = loaded {
+    let beside = options.checked;
+    if let Checked::Refused(r) = beside {
         return simulator::refused(r);
     }
     let mut program = [0u8; 800];
@@ -45,7 +45,7 @@ pub fn run_by(
     match told {
         Written::Refused(r) => simulator::refused(r),
         Written::Done { count, finish: _ } => {
-            crate::full::run_by(table, &program[..count], words, budget, netlist, state)
+            crate::full::run(options, &program[..count], words, budget, netlist, state)
         }
     }
 }

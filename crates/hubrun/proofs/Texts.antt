@@ -11,7 +11,7 @@ use lib.Seq.{take-all}
 use borrow.Author.Tests.{lt-ltb, le-ltb, ltb-true, ltb-false}
 use Rattle.model.specs.declared.Answer.{Answer}
 use Rattle.model.specs.Word.{pick, get32}
-use Rattle.model.specs.TimeTables.{builtIn, load}
+use Rattle.model.specs.TimeTables.{load, defaults}
 use Rattle.model.specs.Calls.{refusedAnswer, running, runProgramCall}
 use Rattle.model.specs.Hubrun.{decimal, line, refusedWord, linesOf, textOf, hubrunText}
 use Rattle.laws.specs.Refusals.Laws.{by-bool}
@@ -29,21 +29,21 @@ module _ (input : List ℕ) where
   short-text h = picked _ _ (lt-ltb (length input) 36 h)
 
   pub long-text : 36 ≤ length input
-      → hubrunText input ≡ textOf (runProgramCall (load builtIn) (drop 36 input) (take 32 input) (get32 input 32) (replicate 6656 0) (replicate 40968 0) .answer)
+      → hubrunText input ≡ textOf (runProgramCall defaults (drop 36 input) (take 32 input) (get32 input 32) (replicate 6656 0) (replicate 40968 0) .answer)
   unfolding hubrunText
   long-text h = passed _ _ (le-ltb (length input) 36 h)
 
   -- a run on parts of the input
   pub run-told : (netlist state : List ℕ) {program : List ℕ} {budget : ℕ} {r : Answer} → program ≡ drop 36 input → budget ≡ get32 input 32
-      → r ≡ runProgramCall (load builtIn) program (take 32 input) budget netlist state .answer
-      → r ≡ runProgramCall (load builtIn) (drop 36 input) (take 32 input) (get32 input 32) netlist state .answer
+      → r ≡ runProgramCall defaults program (take 32 input) budget netlist state .answer
+      → r ≡ runProgramCall defaults (drop 36 input) (take 32 input) (get32 input 32) netlist state .answer
   run-told netlist state e f told = rw (← e, ← f) told
 
 -- a program above 800 bytes is refused
 too-long : (program words : List ℕ) (budget : ℕ) (netlist state : List ℕ) → 800 < length program
-    → runProgramCall (load builtIn) program words budget netlist state .answer ≡ refusedAnswer (record { number = 1; place = 0 })
+    → runProgramCall defaults program words budget netlist state .answer ≡ refusedAnswer (record { number = 1; place = 0 })
 unfolding runProgramCall running load
-too-long program words budget netlist state h = rw (long-refused (load builtIn .times) program h) refl
+too-long program words budget netlist state h = rw (long-refused (defaults .times) program h) refl
 
 refused-text : (input : List ℕ) → 836 < length input → hubrunText input ≡ textOf (refusedAnswer (record { number = 1; place = 0 }))
 refused-text input h =

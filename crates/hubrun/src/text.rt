@@ -6,7 +6,7 @@ ghost use Prim.Native.Nat.{_+_, _≤_};
 ghost use lib.ListN.{length, take, drop, replicate};
 ghost use lib.Seq.{sets};
 ghost use Rattle.model.specs.Word.{get32};
-ghost use Rattle.model.specs.TimeTables.{builtIn, load};
+ghost use Rattle.model.specs.TimeTables.{defaults};
 ghost use Rattle.model.specs.Calls.{overwrite, runProgramCall};
 ghost use Rattle.model.specs.Hubrun.{decimal, line, textOf, hubrunText};
 use model::Answer;
@@ -62,12 +62,20 @@ pub fn answer_text(answer: Answer, out: &mut [u8; 512]) -> usize
 // The full run that an input asks for: 32 bytes of start words, a budget of four bytes, a program.
 fn run(input: &[u8]) -> Answer
     requires { ⌜ 36 ≤ length (now input) ⌝ }
-    ensures { λ r. ⌜ r ≡ runProgramCall (load builtIn) (drop 36 (now (input .entry))) (take 32 (now (input .entry))) (get32 (now (input .entry)) 32) (replicate 6656 0) (replicate 40968 0) .answer ⌝ }
+    ensures { λ r. ⌜ r ≡ runProgramCall defaults (drop 36 (now (input .entry))) (take 32 (now (input .entry))) (get32 (now (input .entry)) 32) (replicate 6656 0) (replicate 40968 0) .answer ⌝ }
 {
     let budget = word::get32(input, 32);
     let mut netlist = [0u8; 6656];
     let mut state = [0u8; 40968];
-    hub::run_program(&input[36..], &input[..32], budget, &mut netlist, &mut state)
+    let options = hub::defaults();
+    hub::run_program(
+        options,
+        &input[36..],
+        &input[..32],
+        budget,
+        &mut netlist,
+        &mut state,
+    )
 }
 
 // What hubrun prints for an input.

@@ -9,7 +9,7 @@ use lib.Dec.{ltb}
 use lib.ListN.{length, take, replicate, length-take}
 use lib.Seq.{sets, take-all}
 use borrow.Author.Tests.{lt-ltb, ltb-true, ltb-false}
-use Rattle.model.specs.TimeTables.{builtIn, load}
+use Rattle.model.specs.TimeTables.{load, defaults}
 use Rattle.model.specs.Calls.{overwrite, writing}
 use Rattle.model.specs.Hubrun.{decimal, line, refusedWord}
 use Rattle.model.specs.declared.Refusal.{Refusal}
@@ -38,25 +38,25 @@ abbrev own : List ℕ
 own = replicate 800 0
 
 module _ (text : List ℕ) where
-  done-output : (n f : ℕ) → readTextCall (load builtIn) text own .answer ≡ Done n f → hubtextOutput text ≡ take n (readTextCall (load builtIn) text own .lent)
+  done-output : (n f : ℕ) → readTextCall defaults text own .answer ≡ Done n f → hubtextOutput text ≡ take n (readTextCall defaults text own .lent)
   unfolding hubtextOutput written
-  done-output n f e = ap (λ (a : Written). written a (readTextCall (load builtIn) text own .lent)) e
+  done-output n f e = ap (λ (a : Written). written a (readTextCall defaults text own .lent)) e
 
-  pub refused-output : (r : Refusal) → readTextCall (load builtIn) text own .answer ≡ Refused r
+  pub refused-output : (r : Refusal) → readTextCall defaults text own .answer ≡ Refused r
       → hubtextOutput text ≡ line (refusedWord ∷ decimal (r .number) ∷ decimal (r .place) ∷ [])
   unfolding hubtextOutput written
-  refused-output r e = ap (λ (a : Written). written a (readTextCall (load builtIn) text own .lent)) e
+  refused-output r e = ap (λ (a : Written). written a (readTextCall defaults text own .lent)) e
 
   -- a program that was written has room in the list
-  pub done-fits : (n f : ℕ) → readTextCall (load builtIn) text own .answer ≡ Done n f → n ≤ 800
+  pub done-fits : (n f : ℕ) → readTextCall defaults text own .answer ≡ Done n f → n ≤ 800
   unfolding readTextCall
   done-fits n f e =
-      let w = wrote (first (readTextChecks (load builtIn) text own)) (textProgram text) (length (textProgram text)) 0 own n f e in
+      let w = wrote (first (readTextChecks defaults text own)) (textProgram text) (length (textProgram text)) 0 own n f e in
       let l : length own ≡ 800 = refl in
-      omega (arith, w .count, l, ltb-false (length own) (length (textProgram text)) (refuse-unless _ 14 0 (all-accept (readTextChecks (load builtIn) text own) (w .accepted) 5)))
+      omega (arith, w .count, l, ltb-false (length own) (length (textProgram text)) (refuse-unless _ 14 0 (all-accept (readTextChecks defaults text own) (w .accepted) 5)))
 
   -- and what is put out of the list is what hubtext writes
-  pub done-put : (n f : ℕ) → readTextCall (load builtIn) text own .answer ≡ Done n f → (out : List ℕ) {p out′ : List ℕ} {k : ℕ} → p ≡ readTextCall (load builtIn) text own .lent
+  pub done-put : (n f : ℕ) → readTextCall defaults text own .answer ≡ Done n f → (out : List ℕ) {p out′ : List ℕ} {k : ℕ} → p ≡ readTextCall defaults text own .lent
       → 800 ≤ length out → (k ≡ 0 + length (take n p)) × (out′ ≡ sets out 0 (take n p))
       → (k ≡ length (hubtextOutput text)) × (out′ ≡ overwrite (hubtextOutput text) out)
   done-put n f e out {p} q h put =

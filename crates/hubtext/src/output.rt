@@ -10,7 +10,7 @@ pub fn output(source: &[u8], out: &mut [u8; 1024]) -> usize
     ensures out { λ _. ⌜ now (out .exit) ≡ overwrite (hubtextOutput (now (source .entry))) (now (out .entry)) ⌝ }
 {
     let mut program = [0u8; 800];
-    let told = hub::read_text(source, &mut program);
+    let told = hub::read_text(hub::defaults(), source, &mut program);
     match told {
         Written::Done { count, finish: _ } => word::put_bytes(out, 0, &program[..count]),
         Written::Refused(r) => lines::put_refusal(out, r.number, r.place),

@@ -9,7 +9,7 @@ use Rattle.model.specs.declared.Checked.{Checked}
 use Rattle.model.specs.declared.Checked.the-variants.{Accepted}
 use Rattle.model.specs.Refusals.{refuse, first}
 use Rattle.model.specs.NetlistFile.{cellBytes, fileOf}
-use Rattle.model.specs.TimeTables.{builtIn, load}
+use Rattle.model.specs.TimeTables.{defaults}
 use Rattle.model.specs.Calls.{compileChecks, writeChecks, readChecks, beginChecks, continueChecks, runNetlistChecks, runProgramChecks, referenceChecks}
 use Rattle.model.specs.Netlists.{numbering, front, idle}
 use Rattle.model.specs.ProgramRows.{raw, checkOfProgram}
@@ -36,9 +36,9 @@ stateOf a b c = a ∷ b ∷ c ∷ replicate 765 0
 calls : List (Checked × Checked)
 calls =
     -- compiling: 1 to 8, then 14 for the file
-    (first (compileChecks (load builtIn) okProgram (room 512)), Accepted)
-    ∷ (first (compileChecks (load builtIn) okProgram (room 511)), refuse 14 0)
-    ∷ (first (compileChecks (load builtIn) [] []), refuse 1 0)
+    (first (compileChecks defaults okProgram (room 512)), Accepted)
+    ∷ (first (compileChecks defaults okProgram (room 511)), refuse 14 0)
+    ∷ (first (compileChecks defaults [] []), refuse 1 0)
     -- writing: 11 for a broken cell or a finish that is none, 12, then 14 for the file
     ∷ (first (writeChecks okCells 0 (room 512)), Accepted)
     ∷ (first (writeChecks okCells 0 (room 511)), refuse 14 0)
@@ -73,17 +73,17 @@ calls =
     ∷ (first (runNetlistChecks okFile (room 32) 1000000 (room 767)), refuse 14 0)
     ∷ (first (runNetlistChecks [] (room 32) 1000001 (room 768)), refuse 9 0)
     -- a full run of a program: 1 to 8, 13, then 14 for the words, the file or the state
-    ∷ (first (runProgramChecks (load builtIn) okProgram (room 32) 1000000 (room 512) (room 768)), Accepted)
-    ∷ (first (runProgramChecks (load builtIn) okProgram [] 1000001 [] []), refuse 13 0)
-    ∷ (first (runProgramChecks (load builtIn) okProgram (room 31) 1000000 (room 512) (room 768)), refuse 14 0)
-    ∷ (first (runProgramChecks (load builtIn) okProgram (room 32) 1000000 (room 511) (room 768)), refuse 14 0)
-    ∷ (first (runProgramChecks (load builtIn) okProgram (room 32) 1000000 (room 512) (room 767)), refuse 14 0)
-    ∷ (first (runProgramChecks (load builtIn) [] [] 1000001 [] []), refuse 1 0)
+    ∷ (first (runProgramChecks defaults okProgram (room 32) 1000000 (room 512) (room 768)), Accepted)
+    ∷ (first (runProgramChecks defaults okProgram [] 1000001 [] []), refuse 13 0)
+    ∷ (first (runProgramChecks defaults okProgram (room 31) 1000000 (room 512) (room 768)), refuse 14 0)
+    ∷ (first (runProgramChecks defaults okProgram (room 32) 1000000 (room 511) (room 768)), refuse 14 0)
+    ∷ (first (runProgramChecks defaults okProgram (room 32) 1000000 (room 512) (room 767)), refuse 14 0)
+    ∷ (first (runProgramChecks defaults [] [] 1000001 [] []), refuse 1 0)
     -- a reference run: 1 to 8, 13, then 14 for the words
-    ∷ (first (referenceChecks (load builtIn) okProgram (room 32) 1000000), Accepted)
-    ∷ (first (referenceChecks (load builtIn) okProgram (room 31) 1000001), refuse 13 0)
-    ∷ (first (referenceChecks (load builtIn) okProgram (room 31) 1000000), refuse 14 0)
-    ∷ (first (referenceChecks (load builtIn) [] [] 1000001), refuse 1 0)
+    ∷ (first (referenceChecks defaults okProgram (room 32) 1000000), Accepted)
+    ∷ (first (referenceChecks defaults okProgram (room 31) 1000001), refuse 13 0)
+    ∷ (first (referenceChecks defaults okProgram (room 31) 1000000), refuse 14 0)
+    ∷ (first (referenceChecks defaults [] [] 1000001), refuse 1 0)
     ∷ []
 
 calls-right : map (λ r. r .0) calls ≡ map (λ r. r .1) calls

@@ -8,7 +8,7 @@ use Prim.Native.Nat.{ℕ, zero, suc, _+_, _*_, _/_, _%_}
 use lib.Dec.{ltb}
 use lib.ListN.{length, drop, replicate}
 use Rattle.model.specs.declared.Refusal.{Refusal}
-use Rattle.model.specs.declared.Loaded.{Loaded}
+use Rattle.model.specs.declared.Options.{Options}
 use Rattle.model.specs.declared.Checked.{Checked}
 use Rattle.model.specs.declared.Checked.the-variants.{Accepted}
 use Rattle.model.specs.declared.Outcome.{Outcome}
@@ -54,8 +54,8 @@ short has needs = refuseIf (ltb has needs) 14 0
 -- Programs and netlist files -----------------------------------------------------------------------------------------------------------
 
 -- checking: 19 to 21, 1 to 8
-unfoldable pub checkCall : Loaded → List ℕ → Checked
-checkCall table program = first (table .checked ∷ checkOf (table .times) program ∷ [])
+unfoldable pub checkCall : Options → List ℕ → Checked
+checkCall options program = first (options .checked ∷ checkOf (options .times) program ∷ [])
 
 -- a result of n bytes or cells is written over a lent list, unless a check refuses it
 unfoldable pub writing : Checked → List ℕ → ℕ → ℕ → List ℕ → Returned Written
@@ -69,13 +69,13 @@ compiledFile program = fileOf (netlist (programOf program)) (finish (programOf p
 abbrev pub netlistChecks : List ℕ → List ℕ → List ℕ → List Checked
 netlistChecks times program lent = checkOf times program ∷ short (length lent) (length (compiledFile program)) ∷ []
 
-abbrev pub compileChecks : Loaded → List ℕ → List ℕ → List Checked
-compileChecks table program lent = table .checked ∷ netlistChecks (table .times) program lent
+abbrev pub compileChecks : Options → List ℕ → List ℕ → List Checked
+compileChecks options program lent = options .checked ∷ netlistChecks (options .times) program lent
 
-unfoldable pub compileCall : Loaded → List ℕ → List ℕ → Returned Written
-compileCall table program lent =
+unfoldable pub compileCall : Options → List ℕ → List ℕ → Returned Written
+compileCall options program lent =
     let file = compiledFile program in
-    writing (first (compileChecks table program lent)) file (length file) (finish (programOf program)) lent
+    writing (first (compileChecks options program lent)) file (length file) (finish (programOf program)) lent
 
 -- writing a netlist, from cells of six bytes each and the finish: a broken cell at the end, a number of cells or a finish that no header
 -- could tell rightly is 11; then 12, 14
@@ -190,13 +190,13 @@ fullRunChecks times program words n forFile lent =
     ∷ short (length lent) (stateSize (cellsOf file))
     ∷ []
 
-abbrev pub runProgramChecks : Loaded → List ℕ → List ℕ → ℕ → List ℕ → List ℕ → List Checked
-runProgramChecks table program words n forFile lent = table .checked ∷ fullRunChecks (table .times) program words n forFile lent
+abbrev pub runProgramChecks : Options → List ℕ → List ℕ → ℕ → List ℕ → List ℕ → List Checked
+runProgramChecks options program words n forFile lent = options .checked ∷ fullRunChecks (options .times) program words n forFile lent
 
-unfoldable pub runProgramCall : Loaded → List ℕ → List ℕ → ℕ → List ℕ → List ℕ → ReturnedBoth
-runProgramCall table program words n forFile lent =
+unfoldable pub runProgramCall : Options → List ℕ → List ℕ → ℕ → List ℕ → List ℕ → ReturnedBoth
+runProgramCall options program words n forFile lent =
     let file = compiledFile program in
-    let c = first (runProgramChecks table program words n forFile lent) in
+    let c = first (runProgramChecks options program words n forFile lent) in
     let r = running c file (fullState file words n lent) (fullCount file words n lent) lent in
     record { answer = r .answer; netlist = writing c file (length file) 0 forFile .lent; state = r .lent }
 
@@ -219,9 +219,9 @@ answering Accepted a = a
 answering (Checked.Refused r) a = refusedAnswer r
 
 -- a reference run: 19 to 21, 1 to 8, 13, 14
-abbrev pub referenceChecks : Loaded → List ℕ → List ℕ → ℕ → List Checked
-referenceChecks table program words n = table .checked ∷ checkOf (table .times) program ∷ overBudget n ∷ short (length words) 32 ∷ []
+abbrev pub referenceChecks : Options → List ℕ → List ℕ → ℕ → List Checked
+referenceChecks options program words n = options .checked ∷ checkOf (options .times) program ∷ overBudget n ∷ short (length words) 32 ∷ []
 
-unfoldable pub referenceCall : Loaded → List ℕ → List ℕ → ℕ → Answer
-referenceCall table program words n =
-    answering (first (referenceChecks table program words n)) (referenceAnswer n (run n (programOf program) (wordAt words)))
+unfoldable pub referenceCall : Options → List ℕ → List ℕ → ℕ → Answer
+referenceCall options program words n =
+    answering (first (referenceChecks options program words n)) (referenceAnswer n (run n (programOf program) (wordAt words)))

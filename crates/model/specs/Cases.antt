@@ -19,7 +19,7 @@ use Rattle.model.specs.Program.{programOf}
 use Rattle.model.specs.Rules.{eval, put, over, kept, after, wait, chain, both, whiles, repeats, run}
 use Rattle.model.specs.Numbering.{netlist, finish}
 use Rattle.model.specs.NetlistFile.{blocksFor, cellsOf}
-use Rattle.model.specs.TimeTables.{builtIn, load}
+use Rattle.model.specs.TimeTables.{defaults}
 use Rattle.model.specs.Calls.{writtenVerdict, checkCall, compileCall, runProgramCall, refusedAnswer, listed, referenceAnswer, answering, referenceCall}
 use Rattle.model.specs.Ascii.{ascii}
 use Rattle.model.specs.Hubrun.{digits, line, linesOf, textOf, hubrunText}
@@ -90,13 +90,13 @@ pub data Result : Type 0 where
   checked : Checked → Result
 
 unfoldable pub computed : Case → Result
-computed (ends p v n t w) = ran (checkCall (load builtIn) p) (referenceCall (load builtIn) p (start v) n)
-computed (refuses p k i) = ran (checkCall (load builtIn) p) (referenceCall (load builtIn) p (start 0) 100)
-computed (compiles p n f) = numbered (checkCall (load builtIn) p) (length (netlist (programOf p))) (finish (programOf p))
+computed (ends p v n t w) = ran (checkCall defaults p) (referenceCall defaults p (start v) n)
+computed (refuses p k i) = ran (checkCall defaults p) (referenceCall defaults p (start 0) 100)
+computed (compiles p n f) = numbered (checkCall defaults p) (length (netlist (programOf p))) (finish (programOf p))
 computed (prints p v n text) =
-    let a = referenceCall (load builtIn) p (start v) n in
-    printed (checkCall (load builtIn) p) (a .outcome) (textOf a)
-computed (passes p) = checked (checkCall (load builtIn) p)
+    let a = referenceCall defaults p (start v) n in
+    printed (checkCall defaults p) (a .outcome) (textOf a)
+computed (passes p) = checked (checkCall defaults p)
 
 unfoldable pub wanted : Case → Result
 wanted (ends p v n t w) = ran Accepted (endAnswer t w)
@@ -109,16 +109,16 @@ wanted (passes p) = checked Accepted
 unfoldable pub OnCircuit : Case → Type 0
 OnCircuit (ends p v n t w) =
     (forFile forState : List ℕ) → 6656 ≤ length forFile → 40968 ≤ length forState
-    → runProgramCall (load builtIn) p (start v) n forFile forState .answer ≡ endAnswer t w
+    → runProgramCall defaults p (start v) n forFile forState .answer ≡ endAnswer t w
 OnCircuit (refuses p k i) =
-    (lent : List ℕ) → compileCall (load builtIn) p lent ≡ record { answer = Written.Refused (record { number = k; place = i }); lent = lent }
+    (lent : List ℕ) → compileCall defaults p lent ≡ record { answer = Written.Refused (record { number = k; place = i }); lent = lent }
 OnCircuit (compiles p n f) =
     (lent : List ℕ) → 6656 ≤ length lent →
     let size = 512 * blocksFor n in
-    let r = compileCall (load builtIn) p lent in
+    let r = compileCall defaults p lent in
     (r .answer ≡ Done size f) × (length (cellsOf (take size (r .lent))) ≡ n)
 OnCircuit (prints p v n text) = hubrunText (hubrunInput p v n) ≡ ascii text
-OnCircuit (passes p) = (lent : List ℕ) → 6656 ≤ length lent → writtenVerdict (compileCall (load builtIn) p lent .answer) ≡ Accepted
+OnCircuit (passes p) = (lent : List ℕ) → 6656 ≤ length lent → writtenVerdict (compileCall defaults p lent .answer) ≡ Accepted
 
 -- that every row holds: `cases-hold`
 unfoldable pub Hold : List Case → Type 0

@@ -13,7 +13,7 @@ use Rattle.model.specs.declared.Outcome.the-variants.{Ended, Open, Refus
 use Rattle.model.specs.declared.Answer.{Answer}
 use Rattle.model.specs.Word.{pick, get32}
 use Rattle.model.specs.Ascii.{ascii}
-use Rattle.model.specs.TimeTables.{builtIn, load}
+use Rattle.model.specs.TimeTables.{defaults}
 use Rattle.model.specs.Calls.{refusedAnswer, runProgramCall}
 
 -- the decimal digits of a number of at most m digits, with no zero in front
@@ -53,4 +53,4 @@ textOf a = linesOf (a .outcome) (a .instant) (a .words)
 unfoldable pub hubrunText : List ℕ → List ℕ
 hubrunText input =
     pick (ltb (length input) 36) (textOf (refusedAnswer (record { number = 1; place = 0 })))
-    (textOf (runProgramCall (load builtIn) (drop 36 input) (take 32 input) (get32 input 32) (replicate 6656 0) (replicate 40968 0) .answer))
+    (textOf (runProgramCall defaults (drop 36 input) (take 32 input) (get32 input 32) (replicate 6656 0) (replicate 40968 0) .answer))

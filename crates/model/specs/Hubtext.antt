@@ -7,7 +7,7 @@ use lib.ListN.{take, replicate}
 use Rattle.model.specs.declared.Written.{Written}
 use Rattle.model.specs.declared.Written.the-variants.{Done, Refused}
 use Rattle.model.specs.Hubrun.{decimal, line, refusedWord}
-use Rattle.model.specs.TimeTables.{builtIn, load}
+use Rattle.model.specs.TimeTables.{defaults}
 use Rattle.model.specs.TextCalls.{readTextCall}
 
 unfoldable pub written : Written → List ℕ → List ℕ
@@ -17,5 +17,5 @@ written (Refused r) program = line (refusedWord ∷ decimal (r .number) ∷ deci
 -- Its own buffer has room for every program, and its operator times are the built-in ones.
 unfoldable pub hubtextOutput : List ℕ → List ℕ
 hubtextOutput text =
-    let r = readTextCall (load builtIn) text (replicate 800 0) in
+    let r = readTextCall defaults text (replicate 800 0) in
     written (r .answer) (r .lent)

@@ -14,7 +14,7 @@ use Rattle.model.specs.Word.{bit, get16, bytes16}
 use Rattle.model.specs.Refusals.{refuse, firstFault}
 use Rattle.model.specs.Circuit.{cell, shape, control, memories}
 use Rattle.model.specs.NetlistFile.{runningSum, sumAfter, sumWith, cellBytes, cellFrom, cellsAt, wordSum, restBytes, blockWith, block, blocks, fileOf, cellsOf, fileLengthWrong, sumFault, countWrong, allZero, headerRight, headerFault, controlIn, wordIn, keeps, placed, cellFault, netCheck, fileCheck}
-use Rattle.model.specs.TimeTables.{builtIn, load}
+use Rattle.model.specs.TimeTables.{defaults}
 use Rattle.model.specs.Calls.{Returned, writing, compileCall, readCall, writeCall}
 use Rattle.model.specs.CellSlices.{namesA, namesB, moved, behind, renumberCall}
 use Rattle.model.specs.Netlists.{numbering, front, idle}
@@ -156,7 +156,7 @@ rest = drop 8 small
 -- compiling, reading and writing, and what they leave of a longer list
 fileCalls : List (Returned Written × Returned Written)
 fileCalls =
-    (compileCall (load builtIn) (raw 18 1 0 ++ raw 1 0 5) (replicate 514 7), record { answer = Done 512 4; lent = small ++ (7 ∷ 7 ∷ []) })
+    (compileCall defaults (raw 18 1 0 ++ raw 1 0 5) (replicate 514 7), record { answer = Done 512 4; lent = small ++ (7 ∷ 7 ∷ []) })
     ∷ (readCall small (replicate 140 7), record { answer = Done 23 4; lent = take 138 rest ++ (7 ∷ 7 ∷ []) })
     ∷ (writeCall (take 138 rest) 4 (replicate 513 7), record { answer = Done 512 4; lent = small ++ (7 ∷ []) })
     ∷ []

@@ -9,7 +9,7 @@ use Rattle.model.specs.declared.Checked.the-variants.{Accepted}
 use Rattle.model.specs.Word.{get16, bytes16}
 use Rattle.model.specs.Refusals.{refuse, firstFault}
 use Rattle.model.specs.Program.{nodeAt, nodesFrom, nodeBytes, rowOf, Expr, const, var, compl, op, Stmt, ok, tick, assign, seq, par, ite, while, repeat, asExpr, asStmt, exprOf, stmtOf, treeOf, grow, forest, treesAt, exprAt, stmtAt, preorderE, preorder, time, builtInTimes, least, reads, writes, touches, conflict, conflicts, programLengthWrong, unusedSet, nodeFault, children, reading, delayFault, conflictFault, checkOf}
-use Rattle.model.specs.TimeTables.{builtIn, load}
+use Rattle.model.specs.TimeTables.{load, defaults}
 use Rattle.model.specs.Calls.{checkCall}
 
 -- Notation -----------------------------------------------------------------------------------------------------------------------------
@@ -26,7 +26,7 @@ repeated (suc n) s = s ++ repeated n s
 -- whoever unfolds this unfolds all that a program is checked by
 unfoldable pub checkOfProgram : List ℕ → Checked
 unfolding get16 firstFault nodeAt nodesFrom rowOf asExpr asStmt exprOf stmtOf treeOf grow forest treesAt exprAt stmtAt time builtInTimes least reads writes touches conflict conflicts programLengthWrong unusedSet nodeFault children reading delayFault conflictFault checkOf load checkCall repeated nodeBytes bytes16 preorderE preorder
-checkOfProgram s = checkCall (load builtIn) s
+checkOfProgram s = checkCall defaults s
 
 -- Kinds --------------------------------------------------------------------------------------------------------------------------------
 
@@ -61,8 +61,8 @@ kinds =
     ∷ []
 
 kinds-right :
-    (map (λ r. checkCall (load builtIn) (raw (r .0) 1 0)) kinds ≡ map (λ r. r .1) kinds)
-    × (map (λ r. checkCall (load builtIn) (raw (r .0) 0 1)) kinds ≡ map (λ r. r .2) kinds)
+    (map (λ r. checkCall defaults (raw (r .0) 1 0)) kinds ≡ map (λ r. r .1) kinds)
+    × (map (λ r. checkCall defaults (raw (r .0) 0 1)) kinds ≡ map (λ r. r .2) kinds)
 unfolding kinds checkOfProgram
 kinds-right = (refl, refl)
 
@@ -161,6 +161,6 @@ programs =
     ∷ (bytesOf (par (gets 1 1) (assign 0 1 (const 2))), refuse 7 3)
     ∷ []
 
-programs-right : map (λ r. checkCall (load builtIn) (r .0)) programs ≡ map (λ r. r .1) programs
+programs-right : map (λ r. checkCall defaults (r .0)) programs ≡ map (λ r. r .1) programs
 unfolding programs checkOfProgram
 programs-right = refl

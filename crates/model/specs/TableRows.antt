@@ -10,7 +10,7 @@ use Rattle.model.specs.Word.{bytes16}
 use Rattle.model.specs.Refusals.{refuse, firstFault}
 use Rattle.model.specs.Program.{builtInTimes}
 use Rattle.model.specs.NetlistFile.{wordSum, blockWith}
-use Rattle.model.specs.TimeTables.{byteWrong, tableFault, tableSumWrong, timesIn, builtIn, given, load}
+use Rattle.model.specs.TimeTables.{byteWrong, tableFault, tableSumWrong, timesIn, given, load, defaults}
 use Rattle.model.specs.Calls.{checkCall}
 use Rattle.model.specs.ProgramRows.{raw, checkOfProgram}
 
@@ -22,7 +22,7 @@ builtInFile =
     ∷ 0 ∷ 0 ∷ 1 ∷ 16 ∷ 17 ∷ 1 ∷ 1 ∷ 6 ∷ 17  -- kinds 1 to 9
     ∷ replicate 495 0
 
-built-in-loads : load (given builtInFile) ≡ load builtIn
+built-in-loads : load (given builtInFile) ≡ defaults
 unfolding builtInFile load tableSumWrong tableFault byteWrong wordSum firstFault timesIn builtInTimes
 built-in-loads = refl
 

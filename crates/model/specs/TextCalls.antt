@@ -5,7 +5,7 @@ use mathlib.Core.List.{List, [], _∷_, _++_}
 use Prim.Native.Nat.{ℕ}
 use lib.Dec.{ltb}
 use lib.ListN.{length}
-use Rattle.model.specs.declared.Loaded.{Loaded}
+use Rattle.model.specs.declared.Options.{Options}
 use Rattle.model.specs.declared.Checked.{Checked}
 use Rattle.model.specs.declared.Checked.the-variants.{Accepted}
 use Rattle.model.specs.declared.Written.{Written}
@@ -38,31 +38,31 @@ abbrev pub textChecks : List ℕ → List Checked
 textChecks text = refuseIf (ltb 4096 (length text)) 17 4096 ∷ outside (wordsOf text) ∷ brokenAt (readingOf text) ∷ []
 
 -- text to program: 19 to 21, 17, 18, 1 to 8, 14. A program has no finish cell: it is told as 0.
-abbrev pub readTextChecks : Loaded → List ℕ → List ℕ → List Checked
-readTextChecks table text lent =
-    table .checked ∷ textChecks text ++ (checkOf (table .times) (textProgram text) ∷ short (length lent) (length (textProgram text)) ∷ [])
+abbrev pub readTextChecks : Options → List ℕ → List ℕ → List Checked
+readTextChecks options text lent =
+    options .checked ∷ textChecks text ++ (checkOf (options .times) (textProgram text) ∷ short (length lent) (length (textProgram text)) ∷ [])
 
-unfoldable pub readTextCall : Loaded → List ℕ → List ℕ → Returned Written
-readTextCall table text lent = writing (first (readTextChecks table text lent)) (textProgram text) (length (textProgram text)) 0 lent
+unfoldable pub readTextCall : Options → List ℕ → List ℕ → Returned Written
+readTextCall options text lent = writing (first (readTextChecks options text lent)) (textProgram text) (length (textProgram text)) 0 lent
 
 -- text to netlist: 19 to 21, 17, 18, 1 to 8, 14
-abbrev pub compileTextChecks : Loaded → List ℕ → List ℕ → List Checked
-compileTextChecks table text lent = table .checked ∷ textChecks text ++ netlistChecks (table .times) (textProgram text) lent
+abbrev pub compileTextChecks : Options → List ℕ → List ℕ → List Checked
+compileTextChecks options text lent = options .checked ∷ textChecks text ++ netlistChecks (options .times) (textProgram text) lent
 
-unfoldable pub compileTextCall : Loaded → List ℕ → List ℕ → Returned Written
-compileTextCall table text lent =
+unfoldable pub compileTextCall : Options → List ℕ → List ℕ → Returned Written
+compileTextCall options text lent =
     let program = textProgram text in
     let file = compiledFile program in
-    writing (first (compileTextChecks table text lent)) file (length file) (finish (programOf program)) lent
+    writing (first (compileTextChecks options text lent)) file (length file) (finish (programOf program)) lent
 
 -- a full run of a text: 19 to 21, 17, 18, 1 to 8, 13, 14
-abbrev pub runTextChecks : Loaded → List ℕ → List ℕ → ℕ → List ℕ → List ℕ → List Checked
-runTextChecks table text words n forFile lent =
-    table .checked ∷ textChecks text ++ fullRunChecks (table .times) (textProgram text) words n forFile lent
+abbrev pub runTextChecks : Options → List ℕ → List ℕ → ℕ → List ℕ → List ℕ → List Checked
+runTextChecks options text words n forFile lent =
+    options .checked ∷ textChecks text ++ fullRunChecks (options .times) (textProgram text) words n forFile lent
 
-unfoldable pub runTextCall : Loaded → List ℕ → List ℕ → ℕ → List ℕ → List ℕ → ReturnedBoth
-runTextCall table text words n forFile lent =
+unfoldable pub runTextCall : Options → List ℕ → List ℕ → ℕ → List ℕ → List ℕ → ReturnedBoth
+runTextCall options text words n forFile lent =
     let file = compiledFile (textProgram text) in
-    let c = first (runTextChecks table text words n forFile lent) in
+    let c = first (runTextChecks options text words n forFile lent) in
     let r = running c file (fullState file words n lent) (fullCount file words n lent) lent in
     record { answer = r .answer; netlist = writing c file (length file) 0 forFile .lent; state = r .lent }

@@ -1,12 +1,12 @@
--- Tables of operator times: the file that gives one, refusals 19 to 21, and what a table is loaded as.
+-- Tables of operator times: the file that gives one, refusals 19 to 21, and what is given beside a program when a table is.
 -- "Clubs buy gate parts of different speeds. A one-block file gives the times". "Refusal 7 uses it; without one the built-in serves."
 -- Assumes nothing: definitions.
-use mathlib.Core.Bool.{Bool, false, not, _&&_, _||_}
+use mathlib.Core.Bool.{Bool, true, false, not, _&&_, _||_}
 use mathlib.Core.List.{List, [], _∷_}
 use Prim.Native.Nat.{ℕ, _%_}
 use lib.Dec.{eqb, leb, ltb}
 use lib.ListN.{length, getD}
-use Rattle.model.specs.declared.Loaded.{Loaded}
+use Rattle.model.specs.declared.Options.{Options}
 use Rattle.model.specs.declared.Checked.{Checked}
 use Rattle.model.specs.declared.Checked.the-variants.{Accepted}
 use Rattle.model.specs.Word.{pick}
@@ -59,7 +59,16 @@ pub data TimeTable : Type 0 where
   builtIn : TimeTable
   given : List ℕ → TimeTable
 
+-- where a flag tells whether a file is given, and without it the file is not looked at
+unfoldable pub givenIf : Bool → List ℕ → TimeTable
+givenIf false file = builtIn
+givenIf true file = given file
+
 -- what its check says, and its times
-unfoldable pub load : TimeTable → Loaded
+unfoldable pub load : TimeTable → Options
 load builtIn = record { checked = Accepted; times = builtInTimes }
 load (given file) = record { checked = first (tableChecks file); times = timesIn file }
+
+-- "without one the built-in serves": what stands for 'nothing given'
+abbrev pub defaults : Options
+defaults = load builtIn

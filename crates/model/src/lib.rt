@@ -46,8 +46,8 @@ pub struct Node {
     pub n: u16,
 }
 
-// A table of operator times as it is loaded: what its check says, and the time of each kind from kind 0 on.
-pub struct Loaded {
+// What is given beside a program: what its check says, and the operator times, that of each kind from kind 0 on.
+pub struct Options {
     pub checked: Checked,
     pub times: [u8; 10],
 }

@@ -8,7 +8,7 @@ use lib.ListN.{length, getD, take, drop}
 use lib.Seq.{take-all}
 use borrow.Author.Tests.{eq-eqb, ne-eqb}
 use Rattle.model.specs.declared.Refusal.{Refusal}
-use Rattle.model.specs.declared.Loaded.{Loaded}
+use Rattle.model.specs.declared.Options.{Options}
 use Rattle.model.specs.declared.Checked.{Checked}
 use Rattle.model.specs.declared.Checked.the-variants.{Accepted, Refused}
 use Rattle.model.specs.Refusals.{refuse, first, firstFault}
@@ -44,11 +44,11 @@ module _ (file : List ℕ) where
     at-bytes z q = rw (eq-eqb _ _ l, ← words-are, z) (q ∙ first-one _)
 
 -- A table's refusal comes before those of a program.
-module _ (table : Loaded) (s : List ℕ) where
-  pub table-refuses : {r : Refusal} → table .checked ≡ Refused r → checkCall table s ≡ Refused r
+module _ (options : Options) (s : List ℕ) where
+  pub table-refuses : {r : Refusal} → options .checked ≡ Refused r → checkCall options s ≡ Refused r
   unfolding checkCall
   table-refuses e = rw e refl
 
-  pub table-accepts : table .checked ≡ Accepted → checkCall table s ≡ checkOf (table .times) s
+  pub table-accepts : options .checked ≡ Accepted → checkCall options s ≡ checkOf (options .times) s
   unfolding checkCall
   table-accepts e = rw e (sym (first-one _))

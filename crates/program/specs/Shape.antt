@@ -8,7 +8,7 @@ use native.Mathlib.Decide.{ℕ-discrete}
 use lib.ListN.{length, getD, drop, set}
 use lib.Seq.{getD-set-same, getD-set-other}
 use Rattle.model.specs.declared.Node.{Node}
-use Rattle.model.specs.declared.Loaded.{Loaded}
+use Rattle.model.specs.declared.Options.{Options}
 use Rattle.model.specs.declared.Checked.the-variants.{Accepted}
 use Rattle.model.specs.Refusals.{first}
 use Rattle.model.specs.Program.{nodeAt, nodeCount, arity, exprAt, time, timeIn, programChecks, checkOf}
@@ -33,9 +33,9 @@ pub record ScansBy (operators s : List ℕ) (r : Scanned) : Type 0 where
   pub shaped : checkOf operators s ≡ Accepted → (j : ℕ) → j < nodeCount s → Shaped (timeIn operators) s (r .times) (r .ends) j
 
 -- all refusals, the table's first
-pub record Scans (table : Loaded) (s : List ℕ) (r : Scanned) : Type 0 where
-  pub checked : r .checked ≡ checkCall table s
-  pub shaped : checkCall table s ≡ Accepted → (j : ℕ) → j < nodeCount s → Shaped (timeIn (table .times)) s (r .times) (r .ends) j
+pub record Scans (options : Options) (s : List ℕ) (r : Scanned) : Type 0 where
+  pub checked : r .checked ≡ checkCall options s
+  pub shaped : checkCall options s ≡ Accepted → (j : ℕ) → j < nodeCount s → Shaped (timeIn (options .times)) s (r .times) (r .ends) j
 
 -- the entries of one node more
 pub shaped-more : (τ : ℕ → ℕ) (s times ends : List ℕ) (i : ℕ) → ((j : ℕ) → i + 1 ≤ j → j < nodeCount s → Shaped τ s times ends j)
@@ -50,7 +50,7 @@ shaped-more τ s times ends i S h lt le a ea t et e ee j l m =
     go (no n) = getD-set-other times i j t 0 n ∙ S j (omega arith) m .timed
 
 -- what a scan tells of an accepted program
-pub scanned-laid : (table : Loaded) (s : List ℕ) (r : Scanned) → Scans table s r → r .checked ≡ Accepted → Laid s (r .ends)
-scanned-laid table s r S e =
+pub scanned-laid : (options : Options) (s : List ℕ) (r : Scanned) → Scans options s r → r .checked ≡ Accepted → Laid s (r .ends)
+scanned-laid options s r S e =
     let a = sym (S .checked) ∙ e in
-    record { short = accepted table s a .readable .short; each = λ j l. S .shaped a j l .end }
+    record { short = accepted options s a .readable .short; each = λ j l. S .shaped a j l .end }

@@ -1,4 +1,4 @@
-// The check of a program with a table of operator times: refusals 1 to 8, and the two arrays of 200 that the checks fill.
+// The check of a program with what is given beside it: refusals 1 to 8, and the two arrays of 200 that the checks fill.
 // Contracts are equations with the definitions of model/Program; what the arrays hold is said in specs/Ends and specs/Shape.
 // `operators` is a list of operator times: entry k is that of kind k.
 // `|` and `&` stand between tests where both sides are cheap: they are the model's own `||` and `&&`.
@@ -9,7 +9,6 @@ ghost use Prim.Native.Nat.{ℕ, _+_, _*_, _≤_, _<_, max};
 ghost use lib.ListN.{length, getD, take, drop};
 ghost use Rattle.model.specs.Refusals.{refuse, first, firstFault};
 ghost use Rattle.model.specs.Program.{nodeAt, nodeCount, nodesAt, rowOf, exprAt, stmtAt, time, timeIn, least, writes, touches, programLengthWrong, unusedSet, nodeFault, reading, delayFault, conflictFault, programChecks};
-ghost use Rattle.model.specs.TimeTables.{builtIn, given, load};
 ghost use Rattle.model.specs.Calls.{checkCall};
 ghost use Rattle.program.specs.Ends.{Laid, past, skips};
 ghost use Rattle.laws.specs.Program.Passed.{Readable};
@@ -19,8 +18,8 @@ ghost use Rattle.program.specs.Shape.{Shaped, Measures, ScansBy, Scans};
 pub mod tables; // tables of operator times
 
 use model::Checked;
-use model::Loaded;
 use model::Node;
+use model::Options;
 use model::Refusal;
 use model::kinds::Row;
 
@@ -444,37 +443,24 @@ fn scan_by(operators: &[u8], program: &[u8]) -> Scanned
     }
 }
 
-// All refusals, the table's first, with the arrays that the compiler and the reference run go by.
-pub fn scan(table: Loaded, program: &[u8]) -> Scanned
-    ensures { λ r. ⌜ Scans table (now (program .entry)) r ⌝ }
+// All refusals, those of the options first, with the arrays that the compiler and the reference run go by.
+pub fn scan(options: Options, program: &[u8]) -> Scanned
+    ensures { λ r. ⌜ Scans options (now (program .entry)) r ⌝ }
 {
-    let loaded = table.checked;
-    match loaded {
+    let beside = options.checked;
+    match beside {
         Checked::Refused(r) => unscanned(r),
         Checked::Accepted => {
-            let operators = table.times;
+            let operators = options.times;
             scan_by(&operators, program)
         }
     }
 }
 
-// The check of a program with a table as it was loaded.
-pub fn check_by(table: Loaded, program: &[u8]) -> Checked
-    ensures { λ r. ⌜ r ≡ checkCall table (now (program .entry)) ⌝ }
+// The check of a program.
+pub fn check(options: Options, program: &[u8]) -> Checked
+    ensures { λ r. ⌜ r ≡ checkCall options (now (program .entry)) ⌝ }
 {
-    let told = scan(table, program);
+    let told = scan(options, program);
     told.checked
-}
-
-pub fn check(program: &[u8]) -> Checked
-    ensures { λ r. ⌜ r ≡ checkCall (load builtIn) (now (program .entry)) ⌝ }
-{
-    check_by(tables::built_in(), program)
-}
-
-// The check with the operator times of a table's file.
-pub fn check_timed(table: &[u8], program: &[u8]) -> Checked
-    ensures { λ r. ⌜ r ≡ checkCall (load (given (now (table .entry)))) (now (program .entry)) ⌝ }
-{
-    check_by(tables::load(table), program)
 }

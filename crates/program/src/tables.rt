@@ -1,21 +1,21 @@
-// Tables of operator times: the built-in one, and those that files give, with refusals 19 to 21.
+// What is given beside a program: nothing, or a file of operator times, with refusals 19 to 21.
 // Contracts are equations with the definitions of model/TimeTables.
 ghost use mathlib.Core.Path.{_≡_};
 ghost use lib.ListN.{length, getD};
 ghost use Rattle.model.specs.Refusals.{first, firstFault};
-ghost use Rattle.model.specs.TimeTables.{byteWrong, tableFault, tableChecks, builtIn, given, load};
+ghost use Rattle.model.specs.TimeTables.{byteWrong, tableFault, tableChecks, given, givenIf, load, defaults};
 use crate::refused;
 use model::Checked;
-use model::Loaded;
+use model::Options;
 
 // The paper's operator times: entry k is that of kind k.
 const BUILT_IN: [u8; 10] = [0, 0, 0, 1, 16, 17, 1, 1, 6, 17];
 
-// The built-in table, which serves where no file is given.
-pub fn built_in() -> Loaded
-    ensures { λ r. ⌜ r ≡ load builtIn ⌝ }
+// What stands for 'nothing given': the built-in times.
+pub fn defaults() -> Options
+    ensures { λ r. ⌜ r ≡ defaults ⌝ }
 {
-    Loaded {
+    Options {
         checked: Checked::Accepted,
         times: BUILT_IN,
     }
@@ -71,8 +71,8 @@ fn byte_at(file: &[u8], i: usize) -> u8
     if i < file.len() { file[i] } else { 0 }
 }
 
-// The table that a file gives. Of a refused one the times are of no use.
-pub fn load(file: &[u8]) -> Loaded
+// The times that a file gives. Of a refused one they are of no use.
+pub fn load(file: &[u8]) -> Options
     ensures { λ r. ⌜ r ≡ load (given (now (file .entry))) ⌝ }
 {
     let checked = check_table(file);
@@ -88,5 +88,15 @@ pub fn load(file: &[u8]) -> Loaded
         byte_at(file, 15),
         byte_at(file, 16),
     ];
-    Loaded { checked, times }
+    Options { checked, times }
+}
+
+// With a flag that tells whether a file is given.
+pub fn load_if(timed: bool, file: &[u8]) -> Options
+    ensures { λ r. ⌜ r ≡ load (givenIf timed (now (file .entry))) ⌝ }
+{
+    if timed {
+        return load(file);
+    }
+    defaults()
 }

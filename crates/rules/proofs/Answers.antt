@@ -9,7 +9,7 @@ use lib.Dec.{ltb}
 use lib.ListN.{length, getD, replicate}
 use borrow.Author.Tests.{lt-ltb, le-ltb}
 use Rattle.model.specs.declared.Refusal.{Refusal}
-use Rattle.model.specs.declared.Loaded.{Loaded}
+use Rattle.model.specs.declared.Options.{Options}
 use Rattle.model.specs.declared.Checked.{Checked}
 use Rattle.model.specs.declared.Checked.the-variants.{Accepted, Refused}
 use Rattle.model.specs.declared.Answer.{Answer}
@@ -48,37 +48,37 @@ module _ (n : ℕ) (r : Ran) where
 
 -- Calls --------------------------------------------------------------------------------------------------------------------------------
 
-module _ (table : Loaded) (s bytes : List ℕ) (n : ℕ) where
+module _ (options : Options) (s bytes : List ℕ) (n : ℕ) where
   -- where the check says c, the budget is too large or not, and the start words are too few or not
   abbrev answerBy : Checked → Bool → Bool → Answer
   answerBy c large few =
       answering (first (c ∷ refuseIf large 13 0 ∷ refuseIf few 14 0 ∷ [])) (referenceAnswer n (run n (programOf s) (wordAt bytes)))
 
-  call-by : (c : Checked) → checkCall table s ≡ c → (large few : Bool) → ltb 1000000 n ≡ large → ltb (length bytes) 32 ≡ few
-      → answerBy c large few ≡ referenceCall table s bytes n
+  call-by : (c : Checked) → checkCall options s ≡ c → (large few : Bool) → ltb 1000000 n ≡ large → ltb (length bytes) 32 ≡ few
+      → answerBy c large few ≡ referenceCall options s bytes n
   unfolding referenceCall checkCall
   call-by c ec large few el ef =
-      sym (ap (λ (c : Checked). answering c (referenceAnswer n (run n (programOf s) (wordAt bytes)))) (first-two (table .checked) (checkOf (table .times) s) (overBudget n ∷ short (length bytes) 32 ∷ []))
+      sym (ap (λ (c : Checked). answering c (referenceAnswer n (run n (programOf s) (wordAt bytes)))) (first-two (options .checked) (checkOf (options .times) s) (overBudget n ∷ short (length bytes) 32 ∷ []))
       ∙ ap (λ (c : Checked). answerBy c (ltb 1000000 n) (ltb (length bytes) 32)) ec ∙ ap₂ (answerBy c) el ef)
 
-  pub call-refused : (r : Refusal) → checkCall table s ≡ Refused r → refusedAnswer r ≡ referenceCall table s bytes n
+  pub call-refused : (r : Refusal) → checkCall options s ≡ Refused r → refusedAnswer r ≡ referenceCall options s bytes n
   unfolding answering
   call-refused r e = call-by (Refused r) e _ _ refl refl
 
-  module _ (e : checkCall table s ≡ Accepted) where
-    pub call-over : 1000000 < n → refusedAnswer (record { number = 13; place = 0 }) ≡ referenceCall table s bytes n
+  module _ (e : checkCall options s ≡ Accepted) where
+    pub call-over : 1000000 < n → refusedAnswer (record { number = 13; place = 0 }) ≡ referenceCall options s bytes n
     unfolding answering
     call-over h = call-by Accepted e true _ (lt-ltb _ _ h) refl
 
-    pub call-short : n ≤ 1000000 → length bytes < 32 → refusedAnswer (record { number = 14; place = 0 }) ≡ referenceCall table s bytes n
+    pub call-short : n ≤ 1000000 → length bytes < 32 → refusedAnswer (record { number = 14; place = 0 }) ≡ referenceCall options s bytes n
     unfolding answering
     call-short h l = call-by Accepted e false true (le-ltb _ _ h) (lt-ltb _ _ l)
 
     pub call-runs : n ≤ 1000000 → 32 ≤ length bytes → (ws : List ℕ) → ws ≡ listed (wordAt bytes) 0 16
-        → (r : Ran) → Stands n (run n (programOf s) (storeOf ws)) r → (a : Answer) → a ≡ referenceAnswer n (runOf r) → a ≡ referenceCall table s bytes n
+        → (r : Ran) → Stands n (run n (programOf s) (storeOf ws)) r → (a : Answer) → a ≡ referenceAnswer n (runOf r) → a ≡ referenceCall options s bytes n
     unfolding answering storeOf
     call-runs h l ws ew r R a ea =
         ea ∙ ap (referenceAnswer n) (R .is)
-        ∙ same-answer (programOf s) (program-fit table s e .formed) n (storeOf ws) (wordAt bytes)
+        ∙ same-answer (programOf s) (program-fit options s e .formed) n (storeOf ws) (wordAt bytes)
         (λ x m. ap (λ (ws : List ℕ). getD ws x 0) ew ∙ listed-at (wordAt bytes) 16 0 x m ∙ ap (wordAt bytes) (omega arith))
         ∙ call-by Accepted e false false (le-ltb _ _ h) (le-ltb _ _ l)

@@ -8,13 +8,12 @@ ghost use lib.Dec.{eqb};
 ghost use Rattle.model.specs.Word.{pick};
 ghost use Rattle.model.specs.Program.{exprAt, stmtAt, assign, seq, par, ite, while, repeat};
 ghost use Rattle.model.specs.Rules.{eval, put, ended, still, after, wait, run};
-ghost use Rattle.model.specs.TimeTables.{builtIn, given, load};
 ghost use Rattle.model.specs.Calls.{wordAt, listed, refusedAnswer, referenceAnswer, referenceCall};
 ghost use Rattle.program.specs.Ends.{Laid};
 ghost use Rattle.rules.specs.Ran.{storeOf, runOf, Stands, joins, Ready};
 use model::Answer;
 use model::Checked;
-use model::Loaded;
+use model::Options;
 use model::Outcome;
 use model::Refusal;
 
@@ -378,11 +377,11 @@ fn answer(ran: Ran, budget: u32) -> Answer
     }
 }
 
-// The check with a table as it was loaded, and then the run of the whole program from 32 bytes of start words.
-pub fn reference_by(table: Loaded, program: &[u8], words: &[u8], budget: u32) -> Answer
-    ensures { λ r. ⌜ r ≡ referenceCall table (now (program .entry)) (now (words .entry)) budget ⌝ }
+// The check, and then the run of the whole program from 32 bytes of start words.
+pub fn reference_run(options: Options, program: &[u8], words: &[u8], budget: u32) -> Answer
+    ensures { λ r. ⌜ r ≡ referenceCall options (now (program .entry)) (now (words .entry)) budget ⌝ }
 {
-    let told = program::scan(table, program);
+    let told = program::scan(options, program);
     let checked = told.checked;
     match checked {
         Checked::Refused(r) => refused(r.number, r.place),
@@ -398,18 +397,4 @@ pub fn reference_by(table: Loaded, program: &[u8], words: &[u8], budget: u32) ->
             answer(ran, budget)
         }
     }
-}
-
-// With the built-in operator times.
-pub fn reference_run(program: &[u8], words: &[u8], budget: u32) -> Answer
-    ensures { λ r. ⌜ r ≡ referenceCall (load builtIn) (now (program .entry)) (now (words .entry)) budget ⌝ }
-{
-    reference_by(program::tables::built_in(), program, words, budget)
-}
-
-// With the operator times of a table's file.
-pub fn reference_run_timed(table: &[u8], program: &[u8], words: &[u8], budget: u32) -> Answer
-    ensures { λ r. ⌜ r ≡ referenceCall (load (given (now (table .entry)))) (now (program .entry)) (now (words .entry)) budget ⌝ }
-{
-    reference_by(program::tables::load(table), program, words, budget)
 }

@@ -10,7 +10,7 @@ use lib.ListN.{length, take}
 use borrow.Author.Tests.{lt-ltb, le-ltb, ltb-true, ltb-false}
 use Rattle.model.specs.declared.Node.{Node}
 use Rattle.model.specs.declared.Refusal.{Refusal}
-use Rattle.model.specs.declared.Loaded.{Loaded}
+use Rattle.model.specs.declared.Options.{Options}
 use Rattle.model.specs.declared.Checked.{Checked}
 use Rattle.model.specs.declared.Checked.the-variants.{Accepted, Refused}
 use Rattle.model.specs.declared.Written.{Written}
@@ -78,19 +78,19 @@ module _ (text : List ℕ) (h : length text ≤ 4096) where
 
 -- A program put into a lent list ---------------------------------------------------------------------------------------------------------
 
-module _ (table : Loaded) (program lent : List ℕ) where
-  given-by : {c : Checked} → first (giveChecks table program lent) ≡ c → giveCall table program lent ≡ writing c program (length program) 0 lent
+module _ (options : Options) (program lent : List ℕ) where
+  given-by : {c : Checked} → first (giveChecks options program lent) ≡ c → giveCall options program lent ≡ writing c program (length program) 0 lent
   unfolding giveCall
   given-by e = ap (λ (c : Checked). writing c program (length program) 0 lent) e
 
-  pub give-refused : (r : Refusal) → checkCall table program ≡ Refused r → giveCall table program lent ≡ writing (Refused r) program (length program) 0 lent
+  pub give-refused : (r : Refusal) → checkCall options program ≡ Refused r → giveCall options program lent ≡ writing (Refused r) program (length program) 0 lent
   give-refused r e = given-by (rw e refl)
 
-  module _ (e : checkCall table program ≡ Accepted) where
-    pub give-short : length lent < length program → giveCall table program lent ≡ writing (refuse 14 0) program (length program) 0 lent
+  module _ (e : checkCall options program ≡ Accepted) where
+    pub give-short : length lent < length program → giveCall options program lent ≡ writing (refuse 14 0) program (length program) 0 lent
     give-short h = given-by (rw (e, lt-ltb (length lent) (length program) h) refl)
 
-    pub give-done : length program ≤ length lent → giveCall table program lent ≡ writing Accepted program (length program) 0 lent
+    pub give-done : length program ≤ length lent → giveCall options program lent ≡ writing Accepted program (length program) 0 lent
     give-done h = given-by (rw (e, le-ltb (length lent) (length program) h) refl)
 
 -- A text and the checks of its program ---------------------------------------------------------------------------------------------------
@@ -155,34 +155,34 @@ module _ (text : List ℕ) where
 
 -- Text to program --------------------------------------------------------------------------------------------------------------------------
 
-module _ (table : Loaded) (text lent : List ℕ) where
-  read-by : {c : Checked} → first (readTextChecks table text lent) ≡ c
-      → readTextCall table text lent ≡ writing c (textProgram text) (length (textProgram text)) 0 lent
+module _ (options : Options) (text lent : List ℕ) where
+  read-by : {c : Checked} → first (readTextChecks options text lent) ≡ c
+      → readTextCall options text lent ≡ writing c (textProgram text) (length (textProgram text)) 0 lent
   unfolding readTextCall
   read-by e = ap (λ (c : Checked). writing c (textProgram text) (length (textProgram text)) 0 lent) e
 
   -- a table that is refused comes first
-  pub read-no-table : (r : Refusal) → table .checked ≡ Refused r
-      → readTextCall table text lent ≡ writing (Refused r) (textProgram text) (length (textProgram text)) 0 lent
+  pub read-no-table : (r : Refusal) → options .checked ≡ Refused r
+      → readTextCall options text lent ≡ writing (Refused r) (textProgram text) (length (textProgram text)) 0 lent
   read-no-table r e = read-by (rw e refl)
 
-  module _ (a : table .checked ≡ Accepted) where
+  module _ (a : options .checked ≡ Accepted) where
     abbrev after : List Checked
-    after = checkOf (table .times) (textProgram text) ∷ short (length lent) (length (textProgram text)) ∷ []
+    after = checkOf (options .times) (textProgram text) ∷ short (length lent) (length (textProgram text)) ∷ []
 
-    behind-table : first (readTextChecks table text lent) ≡ first (textChecks text ++ after)
+    behind-table : first (readTextChecks options text lent) ≡ first (textChecks text ++ after)
     behind-table = rw a refl
 
     pub read-refused : (r : Refusal) → first (parseChecks text) ≡ Refused r
-        → readTextCall table text lent ≡ writing (Refused r) (textProgram text) (length (textProgram text)) 0 lent
+        → readTextCall options text lent ≡ writing (Refused r) (textProgram text) (length (textProgram text)) 0 lent
     read-refused r e =
-        read-by (behind-table ∙ parse-refuses text (table .times) r (short (length lent) (length (textProgram text)) ∷ []) e)
+        read-by (behind-table ∙ parse-refuses text (options .times) r (short (length lent) (length (textProgram text)) ∷ []) e)
 
-    told-by-table : checkOf (table .times) (textProgram text) ≡ checkCall table (textProgram text)
+    told-by-table : checkOf (options .times) (textProgram text) ≡ checkCall options (textProgram text)
     unfolding checkCall
     told-by-table = rw a (first-one _)
 
-    pub read-given : first (parseChecks text) ≡ Accepted → readTextCall table text lent ≡ giveCall table (textProgram text) lent
+    pub read-given : first (parseChecks text) ≡ Accepted → readTextCall options text lent ≡ giveCall options (textProgram text) lent
     unfolding giveCall
     read-given e =
         let room = short (length lent) (length (textProgram text)) ∷ [] in

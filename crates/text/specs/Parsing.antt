@@ -7,7 +7,7 @@ use Prim.Native.Nat.{ℕ, _+_, _*_, _<_, _≤_}
 use lib.Dec.{ltb}
 use lib.ListN.{length, take, drop}
 use Rattle.model.specs.declared.Node.{Node}
-use Rattle.model.specs.declared.Loaded.{Loaded}
+use Rattle.model.specs.declared.Options.{Options}
 use Rattle.model.specs.declared.Checked.{Checked}
 use Rattle.model.specs.declared.Checked.the-variants.{Accepted}
 use Rattle.model.specs.declared.Written.{Written}
@@ -61,8 +61,8 @@ unfoldable pub Given : List ℕ → List ℕ → Type 0
 Given text d = first (parseChecks text) ≡ Accepted → take (length (textProgram text)) d ≡ textProgram text
 
 -- a program, checked with a table and put into a lent list: 19 to 21, 1 to 8, 14
-abbrev pub giveChecks : Loaded → List ℕ → List ℕ → List Checked
-giveChecks table program lent = checkCall table program ∷ short (length lent) (length program) ∷ []
+abbrev pub giveChecks : Options → List ℕ → List ℕ → List Checked
+giveChecks options program lent = checkCall options program ∷ short (length lent) (length program) ∷ []
 
-unfoldable pub giveCall : Loaded → List ℕ → List ℕ → Returned Written
-giveCall table program lent = writing (first (giveChecks table program lent)) program (length program) 0 lent
+unfoldable pub giveCall : Options → List ℕ → List ℕ → Returned Written
+giveCall options program lent = writing (first (giveChecks options program lent)) program (length program) 0 lent

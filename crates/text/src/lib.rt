@@ -9,7 +9,6 @@ ghost use lib.ListN.{length};
 ghost use Rattle.model.specs.declared.Checked.the-variants.{Accepted};
 ghost use Rattle.model.specs.declared.Written.{Written};
 ghost use Rattle.model.specs.Refusals.{refuseIf};
-ghost use Rattle.model.specs.TimeTables.{builtIn, given, load};
 ghost use Rattle.model.specs.Calls.{writing};
 ghost use Rattle.model.specs.TextCalls.{readTextCall};
 ghost use Rattle.text.specs.Parsing.{programTold, Given, giveCall};
@@ -21,7 +20,7 @@ mod reader; // what the reader does at a token
 mod parsing; // the reader over all words
 
 use model::Checked;
-use model::Loaded;
+use model::Options;
 use model::Refusal;
 use model::Written;
 use parsing::Parsed;
@@ -65,12 +64,12 @@ pub fn program_of(text: &[u8], program: &mut [u8]) -> Written
     }
 }
 
-// A program, checked with a table and put into a lent list: refusals 19 to 21, 1 to 8, 14.
-fn give(table: Loaded, program: &[u8], lent: &mut [u8]) -> Written
-    ensures answer { λ r. ⌜ r ≡ giveCall table (now (program .entry)) (now (lent .entry)) .answer ⌝ }
-    ensures lent { λ _. ⌜ now (lent .exit) ≡ giveCall table (now (program .entry)) (now (lent .entry)) .lent ⌝ }
+// A program, checked and put into a lent list: refusals 19 to 21, 1 to 8, 14.
+fn give(options: Options, program: &[u8], lent: &mut [u8]) -> Written
+    ensures answer { λ r. ⌜ r ≡ giveCall options (now (program .entry)) (now (lent .entry)) .answer ⌝ }
+    ensures lent { λ _. ⌜ now (lent .exit) ≡ giveCall options (now (program .entry)) (now (lent .entry)) .lent ⌝ }
 {
-    let checked = program::check_by(table, program);
+    let checked = program::check(options, program);
     if let Checked::Refused(r) = checked {
         return Written::Refused(r);
     }
@@ -81,44 +80,28 @@ fn give(table: Loaded, program: &[u8], lent: &mut [u8]) -> Written
     Written::Done { count, finish: 0 }
 }
 
-// Text to program with a table that is not refused: refusals 17, 18, 1 to 8, 14.
-fn read_accepted(table: Loaded, text: &[u8], lent: &mut [u8]) -> Written
-    requires { ⌜ table .checked ≡ Accepted ⌝ }
-    ensures answer { λ r. ⌜ r ≡ readTextCall table (now (text .entry)) (now (lent .entry)) .answer ⌝ }
-    ensures lent { λ _. ⌜ now (lent .exit) ≡ readTextCall table (now (text .entry)) (now (lent .entry)) .lent ⌝ }
+// Text to program with options that are not refused: refusals 17, 18, 1 to 8, 14.
+fn read_accepted(options: Options, text: &[u8], lent: &mut [u8]) -> Written
+    requires { ⌜ options .checked ≡ Accepted ⌝ }
+    ensures answer { λ r. ⌜ r ≡ readTextCall options (now (text .entry)) (now (lent .entry)) .answer ⌝ }
+    ensures lent { λ _. ⌜ now (lent .exit) ≡ readTextCall options (now (text .entry)) (now (lent .entry)) .lent ⌝ }
 {
     let mut program = [0u8; 800];
     let told = program_of(text, &mut program);
     match told {
         Written::Refused(r) => Written::Refused(r),
-        Written::Done { count, finish: _ } => give(table, &program[..count], lent),
+        Written::Done { count, finish: _ } => give(options, &program[..count], lent),
     }
 }
 
-// Text to program with a table as it was loaded: refusals 19 to 21 first.
-pub fn read_by(table: Loaded, text: &[u8], lent: &mut [u8]) -> Written
-    ensures answer { λ r. ⌜ r ≡ readTextCall table (now (text .entry)) (now (lent .entry)) .answer ⌝ }
-    ensures lent { λ _. ⌜ now (lent .exit) ≡ readTextCall table (now (text .entry)) (now (lent .entry)) .lent ⌝ }
+// Text to program: refusals 19 to 21 first.
+pub fn read_text(options: Options, text: &[u8], lent: &mut [u8]) -> Written
+    ensures answer { λ r. ⌜ r ≡ readTextCall options (now (text .entry)) (now (lent .entry)) .answer ⌝ }
+    ensures lent { λ _. ⌜ now (lent .exit) ≡ readTextCall options (now (text .entry)) (now (lent .entry)) .lent ⌝ }
 {
-    let loaded = table.checked;
-    if let Checked::Refused(r) = loaded {
+    let beside = options.checked;
+    if let Checked::Refused(r) = beside {
         return Written::Refused(r);
     }
-    read_accepted(table, text, lent)
-}
-
-// With the built-in operator times.
-pub fn read_text(text: &[u8], lent: &mut [u8]) -> Written
-    ensures answer { λ r. ⌜ r ≡ readTextCall (load builtIn) (now (text .entry)) (now (lent .entry)) .answer ⌝ }
-    ensures lent { λ _. ⌜ now (lent .exit) ≡ readTextCall (load builtIn) (now (text .entry)) (now (lent .entry)) .lent ⌝ }
-{
-    read_by(program::tables::built_in(), text, lent)
-}
-
-// With the operator times of a table's file.
-pub fn read_text_timed(table: &[u8], text: &[u8], lent: &mut [u8]) -> Written
-    ensures answer { λ r. ⌜ r ≡ readTextCall (load (given (now (table .entry)))) (now (text .entry)) (now (lent .entry)) .answer ⌝ }
-    ensures lent { λ _. ⌜ now (lent .exit) ≡ readTextCall (load (given (now (table .entry)))) (now (text .entry)) (now (lent .entry)) .lent ⌝ }
-{
-    read_by(program::tables::load(table), text, lent)
+    read_accepted(options, text, lent)
 }

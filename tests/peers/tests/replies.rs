@@ -76,29 +76,29 @@ type Call = fn(&mut Memory, &mut [u8]) -> bool;
 
 /// The functions that lend nothing but the reply.
 const ANSWERING: &[(&str, Call)] = calls! { m:
-    hub_check(&m.program);
-    hub_check_timed(&m.table, &m.program);
-    hub_reference(&m.program, &m.words, 10);
-    hub_reference_timed(&m.table, &m.program, &m.words, 10);
+    hub_check(None, &m.program);
+    hub_check(Some(&m.table), &m.program);
+    hub_reference(None, &m.program, &m.words, 10);
+    hub_reference(Some(&m.table), &m.program, &m.words, 10);
     hub_check_cells(&m.cells, m.finish);
 };
 
 /// The functions that write to another slice.
 const WRITING: &[(&str, Call)] = calls! { m:
-    hub_compile(&m.program, &mut m.lent_file);
-    hub_compile_timed(&m.table, &m.program, &mut m.lent_file);
-    hub_read_text(TEXT, &mut m.lent_program);
-    hub_read_text_timed(&m.table, TEXT, &mut m.lent_program);
-    hub_compile_text(TEXT, &mut m.lent_file);
-    hub_compile_text_timed(&m.table, TEXT, &mut m.lent_file);
+    hub_compile(None, &m.program, &mut m.lent_file);
+    hub_compile(Some(&m.table), &m.program, &mut m.lent_file);
+    hub_read_text(None, TEXT, &mut m.lent_program);
+    hub_read_text(Some(&m.table), TEXT, &mut m.lent_program);
+    hub_compile_text(None, TEXT, &mut m.lent_file);
+    hub_compile_text(Some(&m.table), TEXT, &mut m.lent_file);
     hub_write(&m.bytes, m.finish, &mut m.lent_file);
     hub_read(&m.netlist, &mut m.lent_bytes);
     hub_begin(&m.netlist, &m.words, &mut m.lent_state);
     hub_continue(&m.netlist, &mut m.lent_state, 1);
-    hub_run_program(&m.program, &m.words, 10, &mut m.lent_file, &mut m.lent_state);
-    hub_run_program_timed(&m.table, &m.program, &m.words, 10, &mut m.lent_file, &mut m.lent_state);
-    hub_run_text(TEXT, &m.words, 10, &mut m.lent_file, &mut m.lent_state);
-    hub_run_text_timed(&m.table, TEXT, &m.words, 10, &mut m.lent_file, &mut m.lent_state);
+    hub_run_program(None, &m.program, &m.words, 10, &mut m.lent_file, &mut m.lent_state);
+    hub_run_program(Some(&m.table), &m.program, &m.words, 10, &mut m.lent_file, &mut m.lent_state);
+    hub_run_text(None, TEXT, &m.words, 10, &mut m.lent_file, &mut m.lent_state);
+    hub_run_text(Some(&m.table), TEXT, &m.words, 10, &mut m.lent_file, &mut m.lent_state);
     hub_run_netlist(&m.netlist, &m.words, 10, &mut m.lent_state);
     hub_write_cells(&m.cells, m.finish, &mut m.lent_file);
     hub_read_cells(&m.netlist, 2, &mut m.lent_cells);

@@ -10,14 +10,14 @@ put-netlist-requires : tie.Need-put-netlist-requires
 put-netlist-requires c κs =
     let scan = c .before .before .before .scan in
     let pre = c .before .before .before .before .before .before .pre in
-    scanned (c .before .before .before .before .before .before .args .table) (scan .ensures) (pre .0)
+    scanned (c .before .before .before .before .before .before .args .options) (scan .ensures) (pre .0)
 
 put-file-requires : tie.Need-put-file-requires
 put-file-requires c κs =
     let put-netlist = c .before .before .before .before .put-netlist in
     let pre = c .before .before .before .before .before .before .before .before .before .before .before .pre in
     let made = put-netlist .ensures in
-    (omega (arith, file-size _ made, pre .1), list-room _ made (c .before .before .before .before .before .before .before .before .before .before .before .args .table) (pre .0) (put-netlist .kept .0))
+    (omega (arith, file-size _ made, pre .1), list-room _ made (c .before .before .before .before .before .before .before .before .before .before .before .args .options) (pre .0) (put-netlist .kept .0))
 
 returns : tie.Need-returns
 returns c =

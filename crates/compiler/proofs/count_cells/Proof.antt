@@ -8,7 +8,7 @@ put-netlist-requires : tie.Need-put-netlist-requires
 put-netlist-requires c κs =
     let scan = c .before .before .before .scan in
     let pre = c .before .before .before .before .before .pre in
-    scanned (c .before .before .before .before .before .args .table) (scan .ensures) pre
+    scanned (c .before .before .before .before .before .args .options) (scan .ensures) pre
 
 pub count-cells-spec : {M : Type 1} → statement M
 count-cells-spec =

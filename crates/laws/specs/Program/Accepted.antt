@@ -11,7 +11,7 @@ use lib.Dec.{ltb, eqb}
 use borrow.Author.Tests.{ltb-true, eqb-true, eqb-false}
 use Rattle.model.specs.declared.Node.{Node}
 use Rattle.model.specs.declared.Checked.the-variants.{Accepted}
-use Rattle.model.specs.declared.Loaded.{Loaded}
+use Rattle.model.specs.declared.Options.{Options}
 use Rattle.model.specs.Word.{pick}
 use Rattle.model.specs.Program.{Expr, Stmt, ok, tick, assign, seq, par, ite, while, repeat, Tree, expr, stmt, asExpr, asStmt, exprOf, stmtOf, treeOf, stmtAt, nodeAt, rowOf, programOf, timeIn, least, writes, touches, conflict, conflicts, nodeFault}
 use Rattle.model.specs.Calls.{checkCall}
@@ -159,5 +159,5 @@ tree-fit τ s p =
     (root-has FitT tt s
     (λ i l x y z t u v w. fit-tree τ (nodeAt s i) (p .readable .faultless i l) x y z u v w (rw t at (p .slowless i l)) (rw t at (p .clashless i l))))
 
-pub program-fit : (table : Loaded) (s : List ℕ) → checkCall table s ≡ Accepted → Fit (programOf s)
-program-fit table s e = tree-fit (timeIn (table .times)) s (accepted table s e)
+pub program-fit : (options : Options) (s : List ℕ) → checkCall options s ≡ Accepted → Fit (programOf s)
+program-fit options s e = tree-fit (timeIn (options .times)) s (accepted options s e)

@@ -10,7 +10,7 @@ use lib.ListN.{length, getD, take, drop}
 use lib.Dec.{ltb, eqb}
 use borrow.Author.Tests.{lt-ltb, ltb-false}
 use Rattle.model.specs.declared.Checked.the-variants.{Accepted}
-use Rattle.model.specs.declared.Loaded.{Loaded}
+use Rattle.model.specs.declared.Options.{Options}
 use Rattle.model.specs.Refusals.{refuse, first}
 use Rattle.model.specs.Program.{Tree, stmt, nodeAt, nodeCount, nodesAt, rowOf, none, asStmt, treesAt, stmtAt, programOf, timeIn, least, conflicts, programLengthWrong, nodeFault, children, reading, delayFault, conflictFault, programChecks, checkOf, preorder}
 use Rattle.model.specs.Calls.{checkCall}
@@ -62,9 +62,9 @@ module _ (τ : ℕ → ℕ) (s : List ℕ) where
       }
 
 -- of a program that is accepted with some table, under that table's times
-pub accepted : (table : Loaded) (s : List ℕ) → checkCall table s ≡ Accepted → Passed (timeIn (table .times)) s
+pub accepted : (options : Options) (s : List ℕ) → checkCall options s ≡ Accepted → Passed (timeIn (options .times)) s
 unfolding checkCall checkOf
-accepted table s e = passed (timeIn (table .times)) s (all-accept (table .checked ∷ checkOf (table .times) s ∷ []) e 1)
+accepted options s e = passed (timeIn (options .times)) s (all-accept (options .checked ∷ checkOf (options .times) s ∷ []) e 1)
 
 -- Trees and ranges of nodes ------------------------------------------------------------------------------------------------------------
 

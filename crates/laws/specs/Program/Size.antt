@@ -8,7 +8,7 @@ use lib.Dec.{ltb, eqb}
 use lib.ListN.{length, length-append}
 use Rattle.model.specs.declared.Node.{Node}
 use Rattle.model.specs.declared.Checked.the-variants.{Accepted}
-use Rattle.model.specs.declared.Loaded.{Loaded}
+use Rattle.model.specs.declared.Options.{Options}
 use Rattle.model.specs.Program.{Expr, const, var, compl, op, Stmt, ok, tick, assign, seq, par, ite, while, repeat, Tree, asExpr, asStmt, stmtOf, treeOf, stmtAt, nodeCount, nodeAt, programOf, preorderE, preorder}
 use Rattle.model.specs.Calls.{checkCall}
 use Rattle.model.specs.Promises.{Bytes}
@@ -38,12 +38,12 @@ stmt-nodes (ite d e P Q) = simp length-append (omega (arith, expr-nodes e, stmt-
 stmt-nodes (while d e P) = simp length-append (omega (arith, expr-nodes e, stmt-nodes P))
 stmt-nodes (repeat d e P) = simp length-append (omega (arith, expr-nodes e, stmt-nodes P))
 
-pub all-nodes : (table : Loaded) (s : List ℕ) → checkCall table s ≡ Accepted → nodes (programOf s) ≡ nodeCount s
-all-nodes table s e =
-    sym (stmt-nodes (programOf s)) ∙ ap length (program-nodes s (accepted table s e .readable)) ∙ length-nodes s 0 (nodeCount s - 0) ∙ omega arith
+pub all-nodes : (options : Options) (s : List ℕ) → checkCall options s ≡ Accepted → nodes (programOf s) ≡ nodeCount s
+all-nodes options s e =
+    sym (stmt-nodes (programOf s)) ∙ ap length (program-nodes s (accepted options s e .readable)) ∙ length-nodes s 0 (nodeCount s - 0) ∙ omega arith
 
-pub few-nodes : (table : Loaded) (s : List ℕ) → checkCall table s ≡ Accepted → nodes (programOf s) ≤ 200
-few-nodes table s e = omega (arith, all-nodes table s e, accepted table s e .readable .short)
+pub few-nodes : (options : Options) (s : List ℕ) → checkCall options s ≡ Accepted → nodes (programOf s) ≤ 200
+few-nodes options s e = omega (arith, all-nodes options s e, accepted options s e .readable .short)
 
 -- Delays are bytes --------------------------------------------------------------------------------------------------------------------------------------
 
@@ -83,9 +83,9 @@ low-of (ite d e P Q) t h = (h .0, low-of P (t .0) (h .1), low-of Q (t .1) (h .2)
 low-of (while d e P) t h = (t .0, h .0, low-of P (t .1) (h .1))
 low-of (repeat d e P) t h = (t .0, h .0, low-of P (t .1) (h .1))
 
-pub program-low : (table : Loaded) (s : List ℕ) → Bytes s → checkCall table s ≡ Accepted → Low (programOf s)
+pub program-low : (options : Options) (s : List ℕ) → Bytes s → checkCall options s ≡ Accepted → Low (programOf s)
 unfolding stmtAt asStmt Short nodeAt
-program-low table s bytes e =
+program-low options s bytes e =
     let short = root-has (λ (t : Tree). Short (asStmt t)) tt s
     (λ i l x y z t. short-tree (nodeAt s i) x y z (let z = bytes (4 * i + 1) in omega arith)) in
-    low-of (programOf s) (program-fit table s e .timed) short
+    low-of (programOf s) (program-fit options s e .timed) short

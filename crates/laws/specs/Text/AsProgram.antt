@@ -5,7 +5,7 @@ use mathlib.Core.List.{List, _∷_, _++_}
 use Prim.Native.Nat.{ℕ}
 use lib.ListN.{length, take, drop}
 use lib.Seq.{take-append-seam}
-use Rattle.model.specs.declared.Loaded.{Loaded}
+use Rattle.model.specs.declared.Options.{Options}
 use Rattle.model.specs.declared.Checked.{Checked}
 use Rattle.model.specs.declared.Checked.the-variants.{Accepted}
 use Rattle.model.specs.declared.Written.{Written}
@@ -19,41 +19,41 @@ use Rattle.laws.specs.Refusals.Laws.{first-append, first-behind, first-d
 use Rattle.laws.specs.NetlistFile.ReadWrite.{Wrote, wrote}
 
 -- whatever the table is, and whether or not it is refused
-pub compile-as-program : (table : Loaded) (text lent : List ℕ) → first (textChecks text) ≡ Accepted
-    → compileTextCall table text lent ≡ compileCall table (textProgram text) lent
+pub compile-as-program : (options : Options) (text lent : List ℕ) → first (textChecks text) ≡ Accepted
+    → compileTextCall options text lent ≡ compileCall options (textProgram text) lent
 unfolding compileTextCall compileCall
-compile-as-program table text lent e =
+compile-as-program options text lent e =
     let program = textProgram text in
     let file = compiledFile program in
-    let checks = netlistChecks (table .times) program lent in
+    let checks = netlistChecks (options .times) program lent in
     ap (λ (c : Checked). writing c file (length file) (finish (programOf program)) lent)
-    (first-behind (table .checked) (textChecks text ++ checks) checks (first-append (textChecks text) checks e))
+    (first-behind (options .checked) (textChecks text ++ checks) checks (first-append (textChecks text) checks e))
 
-pub run-as-program : (table : Loaded) (text words : List ℕ) (n : ℕ) (forFile lent : List ℕ) → first (textChecks text) ≡ Accepted
-    → runTextCall table text words n forFile lent ≡ runProgramCall table (textProgram text) words n forFile lent
+pub run-as-program : (options : Options) (text words : List ℕ) (n : ℕ) (forFile lent : List ℕ) → first (textChecks text) ≡ Accepted
+    → runTextCall options text words n forFile lent ≡ runProgramCall options (textProgram text) words n forFile lent
 unfolding runTextCall runProgramCall
-run-as-program table text words n forFile lent e =
+run-as-program options text words n forFile lent e =
     let program = textProgram text in
     let file = compiledFile program in
-    let checks = fullRunChecks (table .times) program words n forFile lent in
+    let checks = fullRunChecks (options .times) program words n forFile lent in
     ap (λ (c : Checked).
     let r = running c file (fullState file words n lent) (fullCount file words n lent) lent in
     record { answer = r .answer; netlist = writing c file (length file) 0 forFile .lent; state = r .lent })
-    (first-behind (table .checked) (textChecks text ++ checks) checks (first-append (textChecks text) checks e))
+    (first-behind (options .checked) (textChecks text ++ checks) checks (first-append (textChecks text) checks e))
 
 -- what reading wrote
-module _ (table : Loaded) (text lent : List ℕ) (n f : ℕ) (done : readTextCall table text lent .answer ≡ Done n f) where
-  read : Wrote (first (readTextChecks table text lent)) (textProgram text) (length (textProgram text)) 0 lent n f
+module _ (options : Options) (text lent : List ℕ) (n f : ℕ) (done : readTextCall options text lent .answer ≡ Done n f) where
+  read : Wrote (first (readTextChecks options text lent)) (textProgram text) (length (textProgram text)) 0 lent n f
   unfolding readTextCall
-  read = wrote (first (readTextChecks table text lent)) (textProgram text) (length (textProgram text)) 0 lent n f done
+  read = wrote (first (readTextChecks options text lent)) (textProgram text) (length (textProgram text)) 0 lent n f done
 
   pub text-accepted : first (textChecks text) ≡ Accepted
   text-accepted =
-      let checks = table .checked ∷ textChecks text in
-      let e = accept-take 4 (readTextChecks table text lent) (read .accepted) in
+      let checks = options .checked ∷ textChecks text in
+      let e = accept-take 4 (readTextChecks options text lent) (read .accepted) in
       sym (first-drop 1 checks (accept-take 1 checks e)) ∙ e
 
-  pub program-made : take n (readTextCall table text lent .lent) ≡ textProgram text
+  pub program-made : take n (readTextCall options text lent .lent) ≡ textProgram text
   unfolding readTextCall
   program-made =
       ap₂ (λ (k : ℕ) (r : Returned Written). take k (r .lent)) (read .count) (read .told)

@@ -1,14 +1,10 @@
--- The check with the built-in times.
-use mathlib.Core.Path.{_∙_, ap}
-use denote.Ref.{now}
-use Rattle.model.specs.declared.Loaded.{Loaded}
-use Rattle.model.specs.Calls.{checkCall}
+-- The check is what a scan tells.
 use borrow.Author.Needs.{needs}
 use Rattle.program.proofs.check.Statement.{statement}
 use Rattle.program.proofs.check.Tie as tie
 
 returns : tie.Need-returns
-returns c = c .check-by .ensures ∙ ap (λ (table : Loaded). checkCall table (now (c .before .before .before .args .program))) (c .before .built-in .ensures)
+returns c = c .scan .ensures .checked
 
 pub check-spec : {M : Type 1} → statement M
-check-spec = tie.close (tie.spec (λ c κs. search needs) (λ c κs. search needs) returns)
+check-spec = tie.close (tie.spec (λ c κs. search needs) returns)

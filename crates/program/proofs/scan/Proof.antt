@@ -1,4 +1,4 @@
--- The table's refusal, and then those of the program.
+-- The refusal of what is given beside the program, and then its own.
 use mathlib.Core.Path.{sym, _∙_}
 use denote.Ref.{now}
 use Rattle.laws.specs.Refusals.Laws.{not-refused}
@@ -10,13 +10,13 @@ use Rattle.program.proofs.scan.Tie as tie
 returns : tie.Need-returns
 returns c =
     let start = c .before .before .before .before .before in
-    let e = table-refuses (start .args .table) (now (start .args .program)) (c .before .before .loaded .given .1) in
+    let e = table-refuses (start .args .options) (now (start .args .program)) (c .before .before .beside .given .1) in
     record { checked = c .unscanned .ensures ∙ sym e; shaped = λ a. not-refused (sym e ∙ a) }
 
 returns-2 : tie.Need-returns-2
 returns-2 c =
     let start = c .before .before .before .before .before .before in
-    let e = table-accepts (start .args .table) (now (start .args .program)) (c .before .before .before .enum-told .given .1) in
+    let e = table-accepts (start .args .options) (now (start .args .program)) (c .before .before .before .enum-told .given .1) in
     let told = c .scan-by .ensures in
     record { checked = told .checked ∙ sym e; shaped = λ a. told .shaped (sym e ∙ a) }
 

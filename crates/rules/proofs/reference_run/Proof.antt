@@ -1,16 +1,67 @@
--- The reference run with the built-in times.
-use mathlib.Core.Path.{_∙_, ap}
-use denote.Ref.{now}
-use Rattle.model.specs.declared.Loaded.{Loaded}
-use Rattle.model.specs.Calls.{referenceCall}
+-- The check's refusals, the two of the call, and the run.
+use mathlib.Core.Path.{sym, _∙_}
 use borrow.Author.Needs.{needs}
+use Rattle.laws.specs.Program.Accepted.{program-fit}
+use Rattle.program.specs.Shape.{scanned-laid}
+use Rattle.rules.proofs.Answers.{call-refused, call-over, call-short, call-runs}
 use Rattle.rules.proofs.reference_run.Statement.{statement}
 use Rattle.rules.proofs.reference_run.Tie as tie
 
+enum-told : tie.Need-enum-told
+enum-told c = search needs
+
 returns : tie.Need-returns
 returns c =
-    let args = c .before .before .before .before .args in
-    c .reference-by .ensures ∙ ap (λ (table : Loaded). referenceCall table (now (args .program)) (now (args .words)) (args .budget)) (c .before .built-in .ensures)
+    let scan = c .before .before .before .before .scan in
+    let enum-told = c .before .before .enum-told in
+    let accepted = sym (scan .ensures .checked) ∙ enum-told .given .1 in
+    c .refused2 .ensures ∙ call-over (c .before .before .before .before .before .before .before .args .options) _ _ _ accepted (c .before .if1 .taken)
+
+returns-2 : tie.Need-returns-2
+returns-2 c =
+    let scan = c .before .before .before .before .before .scan in
+    let enum-told = c .before .before .before .enum-told in
+    let if1 = c .before .before .if1 in
+    let accepted = sym (scan .ensures .checked) ∙ enum-told .given .1 in
+    c .refused3 .ensures ∙ call-short (c .before .before .before .before .before .before .before .before .args .options) _ _ _ accepted (if1 .left) (c .before .if2 .taken)
+
+run-at-requires : tie.Need-run-at-requires
+run-at-requires c κs =
+    let enum-told = c .before .before .before .before .before .enum-told in
+    let scan = c .before .before .before .before .before .before .before .scan in
+    let told = enum-told .given .1 in
+    record { laid = scanned-laid (c .before .before .before .before .before .before .before .before .before .before .args .options) _ _ (scan .ensures) told; fit = program-fit (c .before .before .before .before .before .before .before .before .before .before .args .options) _ (sym (scan .ensures .checked) ∙ told) }
+
+returns-3 : tie.Need-returns-3
+returns-3 c =
+    let scan = c .before .before .before .before .scan in
+    let checked = c .before .before .checked in
+    c .refused .ensures ∙ call-refused (c .before .before .before .before .before .before .before .args .options) _ _ _ _ (sym (scan .ensures .checked) ∙ checked .given .1)
+
+returns-4 : tie.Need-returns-4
+returns-4 c =
+    let scan = c .before .before .before .before .before .before .before .before .before .scan in
+    let enum-told = c .before .before .before .before .before .before .before .enum-told in
+    let if1 = c .before .before .before .before .before .before .if1 in
+    let if2 = c .before .before .before .before .before .if2 in
+    let start-words = c .before .before .start-words in
+    let accepted = sym (scan .ensures .checked) ∙ enum-told .given .1 in
+    call-runs (c .before .before .before .before .before .before .before .before .before .before .before .before .args .options) _ _ _ accepted (if1 .left) (if2 .left) _ (start-words .ensures) _ (c .before .run-at .ensures) _ (c .answer .ensures)
 
 pub reference-run-spec : {M : Type 1} → statement M
-reference-run-spec = tie.close (tie.spec (λ c κs. search needs) (λ c κs. search needs) returns)
+reference-run-spec =
+    tie.close
+    (tie.spec
+    (λ c κs. search needs)
+    (λ c. search needs)
+    (λ c κs. search needs)
+    enum-told
+    (λ c κs. search needs)
+    returns
+    (λ c κs. search needs)
+    returns-2
+    (λ c κs. search needs)
+    run-at-requires
+    (λ c κs. search needs)
+    returns-3
+    returns-4)

@@ -22,15 +22,15 @@ returns : tie.Need-returns
 unfolding writing
 returns c =
     let args = c .before .before .before .before .before .before .args in
-    let e = give-refused (args .table) (args .program .now) (args .lent .now) _ (sym (c .before .before .before .check-by .ensures) ∙ c .before .checked .given .1) in
+    let e = give-refused (args .options) (args .program .now) (args .lent .now) _ (sym (c .before .before .before .check .ensures) ∙ c .before .checked .given .1) in
     (answer-is e, lent-is e)
 
 returns-2 : tie.Need-returns-2
 unfolding writing
 returns-2 c =
     let args = c .before .before .before .before .before .before .before .args in
-    let accepted = sym (c .before .before .before .before .check-by .ensures) ∙ c .before .before .enum-told .given .1 in
-    let e = give-short (args .table) (args .program .now) (args .lent .now) accepted (c .before .if1 .taken) in
+    let accepted = sym (c .before .before .before .before .check .ensures) ∙ c .before .before .enum-told .given .1 in
+    let e = give-short (args .options) (args .program .now) (args .lent .now) accepted (c .before .if1 .taken) in
     (c .refused .ensures ∙ answer-is e, lent-is e)
 
 returns-3 : tie.Need-returns-3
@@ -38,10 +38,10 @@ unfolding writing
 returns-3 c =
     let args = c .before .before .before .before .before .before .before .before .before .before .args in
     let program = args .program .now in
-    let accepted = sym (c .before .before .before .before .before .before .before .check-by .ensures) ∙ c .before .before .before .before .before .enum-told .given .1 in
+    let accepted = sym (c .before .before .before .before .before .before .before .check .ensures) ∙ c .before .before .before .before .before .enum-told .given .1 in
     let room = c .before .before .before .before .if1 .left in
     let put = c .before .before .put-bytes .ensures in
-    let e = give-done (args .table) program (args .lent .now) accepted room in
+    let e = give-done (args .options) program (args .lent .now) accepted room in
     let n : c .before .before .put-bytes .result ≡ length program = omega (arith, put .0) in
     (ap (λ k. Done k 0) n ∙ answer-is e, put .1 ∙ sym (overwrite-sets program (args .lent .now) room) ∙ lent-is e)
 

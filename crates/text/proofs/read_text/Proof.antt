@@ -1,20 +1,20 @@
--- A text read with the built-in times. Assumes nothing.
-use mathlib.Core.Path.{_∙_, ap}
-use denote.Ref.{now}
-use Rattle.model.specs.declared.Loaded.{Loaded}
-use Rattle.model.specs.TextCalls.{readTextCall}
+-- The refusal of what is given beside it, and then those of the text. Assumes nothing.
+use mathlib.Core.Path.{sym, ap}
+use Rattle.model.specs.declared.Written.{Written}
+use Rattle.model.specs.Calls.{Returned, writing}
+use Rattle.text.proofs.Giving.{read-no-table}
 use borrow.Author.Needs.{needs}
 use Rattle.text.proofs.read_text.Statement.{statement}
 use Rattle.text.proofs.read_text.Tie as tie
 
 returns : tie.Need-returns
+unfolding writing
 returns c =
-    let args = c .before .before .before .before .before .before .before .args in
-    let told = c .before .before .read-by .ensures in
-    let loaded = c .before .before .before .before .built-in .ensures in (
-      told .0 ∙ ap (λ (table : Loaded). readTextCall table (now (args .text)) (now (args .lent)) .answer) loaded,
-      told .1 ∙ ap (λ (table : Loaded). readTextCall table (now (args .text)) (now (args .lent)) .lent) loaded,
-    )
+    let args = c .before .before .before .before .before .args in
+    let e = read-no-table (args .options) (args .text .now) (args .lent .now) _ (c .before .beside .given .1) in
+    (sym (ap (λ (t : Returned Written). t .answer) e), sym (ap (λ (t : Returned Written). t .lent) e))
 
 pub read-text-spec : {M : Type 1} → statement M
-read-text-spec = tie.close (tie.spec (λ c κs. search needs) (λ c κs. search needs) (λ c. search needs) returns)
+read-text-spec =
+    tie.close
+    (tie.spec (λ c. search needs) returns (λ c. search needs) (λ c κs. search needs) (λ c. search needs) (λ c. search needs))

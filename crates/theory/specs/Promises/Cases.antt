@@ -8,7 +8,7 @@ use native.Mathlib.Omega.{arith}
 use lib.Dec.{eqb, ltb}
 use lib.ListN.{length, replicate}
 use borrow.Author.Tests.{ltb-true, ltb-false, le-ltb}
-use Rattle.model.specs.declared.Loaded.{Loaded}
+use Rattle.model.specs.declared.Options.{Options}
 use Rattle.model.specs.declared.Checked.{Checked}
 use Rattle.model.specs.declared.Checked.the-variants.{Accepted}
 use Rattle.model.specs.declared.Outcome.{Outcome}
@@ -20,7 +20,7 @@ use Rattle.model.specs.Refusals.{first, refuse}
 use Rattle.model.specs.Program.{programOf}
 use Rattle.model.specs.NetlistFile.{blocksFor, fileCheck, cellsOf, fileLengthWrong}
 use Rattle.model.specs.Numbering.{netlist, finish}
-use Rattle.model.specs.TimeTables.{builtIn, load}
+use Rattle.model.specs.TimeTables.{builtIn, defaults}
 use Rattle.model.specs.State.{stateSize}
 use Rattle.model.specs.Calls.{writtenVerdict, checkCall, writing, compiledFile, compileChecks, compileCall, runProgramCall, referenceCall, runProgramChecks}
 use Rattle.model.specs.Hubrun.{textOf, hubrunText}
@@ -36,9 +36,9 @@ use Rattle.theory.specs.Promises.Reference.{same-answers}
 
 -- Compiling with room ------------------------------------------------------------------------------------------------------------------
 
-module _ (table : Loaded) (program : List ℕ) (bytes : Bytes program) (accepted : checkCall table program ≡ Accepted) where
+module _ (options : Options) (program : List ℕ) (bytes : Bytes program) (accepted : checkCall options program ≡ Accepted) where
   file-read : fileCheck (compiledFile program) ≡ Accepted
-  file-read = compiled-accepted table program bytes accepted
+  file-read = compiled-accepted options program bytes accepted
 
   file-room : length (compiledFile program) ≤ 6656
   unfolding fileLengthWrong
@@ -48,40 +48,40 @@ module _ (table : Loaded) (program : List ℕ) (bytes : Bytes program) (accepted
       ltb-false 6656 n (o .0)
 
   compile-is : (lent : List ℕ) → 6656 ≤ length lent
-      → compileCall table program lent .answer ≡ Done (length (compiledFile program)) (finish (programOf program))
+      → compileCall options program lent .answer ≡ Done (length (compiledFile program)) (finish (programOf program))
   unfolding compileCall writing checkCall
   compile-is lent room =
-      rw (first-drop 2 (compileChecks table program lent) accepted, le-ltb (length lent) (length (compiledFile program)) (omega (arith, file-room)))
+      rw (first-drop 2 (compileChecks options program lent) accepted, le-ltb (length lent) (length (compiledFile program)) (omega (arith, file-room)))
 
 -- A full run with room -----------------------------------------------------------------------------------------------------------------
 
-module _ (table : Loaded) (program words forFile forState : List ℕ) (n : ℕ) (bytes : Bytes program) (accepted : checkCall table program ≡ Accepted)
+module _ (options : Options) (program words forFile forState : List ℕ) (n : ℕ) (bytes : Bytes program) (accepted : checkCall options program ≡ Accepted)
     (some : 32 ≤ length words) (f : 6656 ≤ length forFile) (s : 40968 ≤ length forState) (l : n ≤ 1000000) where
   abbrev file : List ℕ
   file = compiledFile program
 
   abbrev read : fileCheck file ≡ Accepted
-  read = file-read table program bytes accepted
+  read = file-read options program bytes accepted
 
   state-room : stateSize (cellsOf file) ≤ length forState
   state-room = omega (arith, count-range _ _ _ (file-passed file read .count) .1, count-cells file)
 
-  checks : first (runProgramChecks table program words n forFile forState) ≡ Accepted
+  checks : first (runProgramChecks options program words n forFile forState) ≡ Accepted
   unfolding checkCall
   checks =
       rw (
-        first-drop 2 (runProgramChecks table program words n forFile forState) accepted,
+        first-drop 2 (runProgramChecks options program words n forFile forState) accepted,
         le-ltb 1000000 n l,
         le-ltb (length words) 32 some,
-        le-ltb (length forFile) (length file) (omega (arith, file-room table program bytes accepted)),
+        le-ltb (length forFile) (length file) (omega (arith, file-room options program bytes accepted)),
         le-ltb (length forState) (stateSize (cellsOf file)) state-room,
       )
 
   -- where the reference run says that it ended, the two answer the same
-  full-run-ended : referenceCall table program words n .outcome ≡ Ended
-      → runProgramCall table program words n forFile forState .answer ≡ referenceCall table program words n
+  full-run-ended : referenceCall options program words n .outcome ≡ Ended
+      → runProgramCall options program words n forFile forState .answer ≡ referenceCall options program words n
   full-run-ended h =
-      let a = same-answers table program words n forFile forState bytes checks in
+      let a = same-answers options program words n forFile forState bytes checks in
       a .1 (ap (λ (s : Seen). s .outcome) (a .0) ∙ h)
 
 -- The rows -----------------------------------------------------------------------------------------------------------------------------
@@ -140,7 +140,7 @@ all-fair = refl
 
 -- what hubrun prints of a program's bytes behind 32 of words and a budget
 hubrun-is : (p : List ℕ) (v n : ℕ)
-    → hubrunText (hubrunInput p v n) ≡ textOf (runProgramCall (load builtIn) p (start v) n (replicate 6656 0) (replicate 40968 0) .answer)
+    → hubrunText (hubrunInput p v n) ≡ textOf (runProgramCall defaults p (start v) n (replicate 6656 0) (replicate 40968 0) .answer)
 unfolding hubrunText get32 get16
 hubrun-is p v n =
     let e : n % 256 + 256 * (n / 256) + 65536 * (0 + 256 * 0) ≡ n = omega arith in
@@ -150,27 +150,27 @@ on-circuit : (c : Case) → computed c ≡ wanted c → fair c ≡ true → OnCi
 unfolding computed wanted OnCircuit fair checked-of answer-of numbers-of text-of compileCall writing checkCall writtenVerdict
 on-circuit (ends p v n t w) e g = λ forFile forState f s.
     let b = and-true (bytesOnly p) (ltb n 1000000) g in
-    let r : referenceCall (load builtIn) p (start v) n ≡ endAnswer t w = ap (answer-of (endAnswer t w)) e in
-    full-run-ended (load builtIn) p (start v) forFile forState n (bytes-of p (b .0)) (ap checked-of e) (omega arith) f s
+    let r : referenceCall defaults p (start v) n ≡ endAnswer t w = ap (answer-of (endAnswer t w)) e in
+    full-run-ended defaults p (start v) forFile forState n (bytes-of p (b .0)) (ap checked-of e) (omega arith) f s
     (omega (arith, ltb-true n 1000000 (b .1))) (ap (λ (a : Answer). a .outcome) r) ∙ r
 on-circuit (refuses p k i) e g = λ lent.
-    let c : checkCall (load builtIn) p ≡ refuse k i = ap checked-of e in
-    rw (first-take 2 (compileChecks (load builtIn) p lent) c)
+    let c : checkCall defaults p ≡ refuse k i = ap checked-of e in
+    rw (first-take 2 (compileChecks defaults p lent) c)
 on-circuit (compiles p n f) e g = λ lent room.
     let y = bytes-of p g in
     let cells : length (netlist (programOf p)) ≡ n = ap (λ r. numbers-of r .0) e in
     let end : finish (programOf p) ≡ f = ap (λ r. numbers-of r .1) e in
     let size = file-length (netlist (programOf p)) (finish (programOf p)) ∙ ap (λ k. 512 * blocksFor k) cells in
-    let told = compile-is (load builtIn) p y (ap checked-of e) lent room ∙ ap₂ Done size end in
+    let told = compile-is defaults p y (ap checked-of e) lent room ∙ ap₂ Done size end in
     (told, ap length (demand2 .compiled builtIn p lent (512 * blocksFor n) f y told .cells) ∙ cells)
 on-circuit (prints p v n text) e g =
     let b = and-true (bytesOnly p) (ltb n 65536) g in
     hubrun-is p v n
     ∙ ap textOf
-    (full-run-ended (load builtIn) p (start v) (replicate 6656 0) (replicate 40968 0) n (bytes-of p (b .0)) (ap checked-of e) (omega arith) (omega arith) (omega arith)
+    (full-run-ended defaults p (start v) (replicate 6656 0) (replicate 40968 0) n (bytes-of p (b .0)) (ap checked-of e) (omega arith) (omega arith) (omega arith)
     (omega (arith, ltb-true n 65536 (b .1))) (ap (λ r. text-of r .0) e))
     ∙ ap (λ r. text-of r .1) e
-on-circuit (passes p) e g = λ lent room. ap writtenVerdict (compile-is (load builtIn) p (bytes-of p g) (ap checked-of e) lent room)
+on-circuit (passes p) e g = λ lent room. ap writtenVerdict (compile-is defaults p (bytes-of p g) (ap checked-of e) lent room)
 
 -- equal rows of two lists
 head-same : {A : Type 0} (x y : A) (xs ys : List A) → _≡_ {A = List A} (x ∷ xs) (y ∷ ys) → x ≡ y

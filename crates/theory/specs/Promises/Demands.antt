@@ -6,7 +6,7 @@ use Prim.Native.Nat.{ℕ, _+_, _*_, _<_}
 use native.Mathlib.Omega.{arith}
 use lib.ListN.{length, take}
 use Rattle.laws.specs.NetlistFile.Compiled.{compiled-accepted}
-use Rattle.model.specs.declared.Loaded.{Loaded}
+use Rattle.model.specs.declared.Options.{Options}
 use Rattle.model.specs.declared.Written.the-variants.{Done}
 use Rattle.model.specs.Word.{get16}
 use Rattle.model.specs.Program.{programOf}
@@ -27,15 +27,15 @@ use Rattle.theory.specs.Promises.Kept.{compiled, program-accepted, file-
 pub demand1 : Demand1
 demand1 = demand-1
 
-published : (table : Loaded) (program lent : List ℕ) (n f : ℕ) → Bytes program → compileCall table program lent .answer ≡ Done n f
-    → Published program (take n (compileCall table program lent .lent)) f
-published table program lent n f bytes e =
+published : (options : Options) (program lent : List ℕ) (n f : ℕ) → Bytes program → compileCall options program lent .answer ≡ Done n f
+    → Published program (take n (compileCall options program lent .lent)) f
+published options program lent n f bytes e =
     let P = programOf program in
-    let file = file-made table program lent n f e in
+    let file = file-made options program lent n f e in
     let some : 0 < length (netlist P) = omega (arith, net-length P) in
-    let g = compiled table program lent n f e .finish in
+    let g = compiled options program lent n f e .finish in
     record {
-      accepted = ap fileCheck file ∙ compiled-accepted table program bytes (program-accepted table program lent n f e);
+      accepted = ap fileCheck file ∙ compiled-accepted options program bytes (program-accepted options program lent n f e);
       cells = ap cellsOf file ∙ cells-written (netlist P) (finish P) some;
       finishes = (g, ap finishOf file ∙ finish-written (netlist P) (finish P) some ∙ sym g);
     }

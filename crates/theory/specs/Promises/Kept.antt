@@ -13,7 +13,7 @@ use lib.Seq.{take-append-seam}
 use borrow.Author.Tests.{ltb-false, le-ltb, eq-eqb, ne-eqb}
 use Rattle.model.specs.declared.Refusal.{Refusal}
 use Rattle.model.specs.declared.Cell.{Cell}
-use Rattle.model.specs.declared.Loaded.{Loaded}
+use Rattle.model.specs.declared.Options.{Options}
 use Rattle.model.specs.declared.Checked.{Checked}
 use Rattle.model.specs.declared.Checked.the-variants.{Accepted}
 use Rattle.model.specs.declared.Outcome.{Outcome}
@@ -57,20 +57,20 @@ ran Accepted file s n lent e = refl
 ran (Checked.Refused r) file s n lent e = e
 
 -- what compiling wrote
-module _ (table : Loaded) (program forFile : List ℕ) (n f : ℕ) (done : compileCall table program forFile .answer ≡ Done n f) where
-  pub compiled : Wrote (first (compileChecks table program forFile)) (compiledFile program) (length (compiledFile program)) (finish (programOf program)) forFile n f
+module _ (options : Options) (program forFile : List ℕ) (n f : ℕ) (done : compileCall options program forFile .answer ≡ Done n f) where
+  pub compiled : Wrote (first (compileChecks options program forFile)) (compiledFile program) (length (compiledFile program)) (finish (programOf program)) forFile n f
   unfolding compileCall
   compiled =
-      wrote (first (compileChecks table program forFile)) (compiledFile program) (length (compiledFile program)) (finish (programOf program)) forFile n f done
+      wrote (first (compileChecks options program forFile)) (compiledFile program) (length (compiledFile program)) (finish (programOf program)) forFile n f done
 
-  pub program-accepted : checkCall table program ≡ Accepted
+  pub program-accepted : checkCall options program ≡ Accepted
   unfolding checkCall
-  program-accepted = accept-take 2 (compileChecks table program forFile) (compiled .accepted)
+  program-accepted = accept-take 2 (compileChecks options program forFile) (compiled .accepted)
 
   pub file-fits : ltb (length forFile) (length (compiledFile program)) ≡ false
-  file-fits = refuse-unless _ 14 0 (all-accept (compileChecks table program forFile) (compiled .accepted) 2)
+  file-fits = refuse-unless _ 14 0 (all-accept (compileChecks options program forFile) (compiled .accepted) 2)
 
-  pub file-made : take n (compileCall table program forFile .lent) ≡ compiledFile program
+  pub file-made : take n (compileCall options program forFile .lent) ≡ compiledFile program
   unfolding compileCall
   file-made =
       ap₂ (λ (k : ℕ) (r : Returned Written). take k (r .lent)) (compiled .count) (compiled .told)
@@ -110,7 +110,7 @@ stops-never F (suc n) a h =
 
 -- The promise --------------------------------------------------------------------------------------------------------------------------
 
-module _ (table : Loaded) (program file words lent : List ℕ) (accepted : checkCall table program ≡ Accepted) (e : file ≡ compiledFile program)
+module _ (options : Options) (program file words lent : List ℕ) (accepted : checkCall options program ≡ Accepted) (e : file ≡ compiledFile program)
     (begun : verdict (beginCall file words lent .answer .outcome) ≡ Accepted) where
   abbrev P : Stmt
   P = programOf program
@@ -125,7 +125,7 @@ module _ (table : Loaded) (program file words lent : List ℕ) (accepted : check
   net = cellsOf file
 
   fit : Fit P
-  fit = program-fit table program accepted
+  fit = program-fit options program accepted
 
   some : 0 < length (netlist P)
   some = omega (arith, net-length P)
@@ -274,10 +274,10 @@ module _ (table : Loaded) (program file words lent : List ℕ) (accepted : check
   last-is n l = rw (begin-is, continued n l) (by-bool (high (nowAt state F)) (λ z. rw (z, z) refl) (λ z. rw z refl))
 
   pub program-run : (forFile : List ℕ) → ltb (length forFile) (length (compiledFile program)) ≡ false → (n : ℕ) → n ≤ 1000000
-      → runProgramCall table program words n forFile lent .answer ≡ whole-run n
+      → runProgramCall options program words n forFile lent .answer ≡ whole-run n
   unfolding runProgramCall running whole-run checkCall
   program-run forFile fits n l =
-      rw (first-drop 2 (runProgramChecks table program words n forFile lent) accepted, ← e, le-ltb 1000000 n l, words-fit, fits, rw e at state-fits)
+      rw (first-drop 2 (runProgramChecks options program words n forFile lent) accepted, ← e, le-ltb 1000000 n l, words-fit, fits, rw e at state-fits)
 
   netlist-run : (n : ℕ) → n ≤ 1000000 → runNetlistCall file words n lent .answer ≡ whole-run n
   unfolding runNetlistCall running whole-run
@@ -291,7 +291,7 @@ module _ (table : Loaded) (program file words lent : List ℕ) (accepted : check
 
   -- the whole promise
   pub keeps : (forFile : List ℕ) → ltb (length forFile) (length (compiledFile program)) ≡ false → (calls : List Call)
-      → Keeps P σ file (beginCall file words lent) calls (λ k. runProgramCall table program words k forFile lent .answer)
+      → Keeps P σ file (beginCall file words lent) calls (λ k. runProgramCall options program words k forFile lent .answer)
       (λ k. runNetlistCall file words k lent .answer)
   keeps forFile fits calls =
       record {

@@ -7,7 +7,7 @@ use Prim.Native.Nat.{ℕ, _≤_}
 use lib.Dec.{ltb}
 use lib.ListN.{length}
 use borrow.Author.Tests.{ltb-false}
-use Rattle.model.specs.declared.Loaded.{Loaded}
+use Rattle.model.specs.declared.Options.{Options}
 use Rattle.model.specs.declared.Checked.{Checked}
 use Rattle.model.specs.declared.Checked.the-variants.{Accepted}
 use Rattle.model.specs.declared.Outcome.the-variants.{Ended, Open}
@@ -39,33 +39,33 @@ unfolding answering verdict
 answered Accepted a e = (refl, refl)
 answered (Checked.Refused r) a e = not-refused e
 
-module _ (table : Loaded) (program words : List ℕ) (n : ℕ) (answered-so : verdict (referenceCall table program words n .outcome) ≡ Accepted) where
+module _ (options : Options) (program words : List ℕ) (n : ℕ) (answered-so : verdict (referenceCall options program words n .outcome) ≡ Accepted) where
   abbrev P : Stmt
   P = programOf program
 
   abbrev σ : Store
   σ = wordAt words
 
-  called : (first (referenceChecks table program words n) ≡ Accepted) × (referenceCall table program words n ≡ referenceAnswer n (run n P σ))
+  called : (first (referenceChecks options program words n) ≡ Accepted) × (referenceCall options program words n ≡ referenceAnswer n (run n P σ))
   unfolding referenceCall
-  called = answered (first (referenceChecks table program words n)) (referenceAnswer n (run n P σ)) answered-so
+  called = answered (first (referenceChecks options program words n)) (referenceAnswer n (run n P σ)) answered-so
 
-  passes : checkCall table program ≡ Accepted
+  passes : checkCall options program ≡ Accepted
   unfolding checkCall
-  passes = accept-take 2 (referenceChecks table program words n) (called .0)
+  passes = accept-take 2 (referenceChecks options program words n) (called .0)
 
-  pub reference-ends : (t : ℕ) (σ′ : Store) → Ends P σ t σ′ → t ≤ n → referenceCall table program words n ≡ endedAnswer t σ′
+  pub reference-ends : (t : ℕ) (σ′ : Store) → Ends P σ t σ′ → t ≤ n → referenceCall options program words n ≡ endedAnswer t σ′
   unfolding referenceAnswer
-  reference-ends t σ′ E l = called .1 ∙ ap (referenceAnswer n) (ends-run P (program-fit table program passes .timed) σ t σ′ E n l)
+  reference-ends t σ′ E l = called .1 ∙ ap (referenceAnswer n) (ends-run P (program-fit options program passes .timed) σ t σ′ E n l)
 
-  pub reference-ended : referenceCall table program words n .outcome ≡ Ended → (t : ℕ) × (σ′ : Store) × (t ≤ n) × Ends P σ t σ′
+  pub reference-ended : referenceCall options program words n .outcome ≡ Ended → (t : ℕ) × (σ′ : Store) × (t ≤ n) × Ends P σ t σ′
   unfolding referenceAnswer
   reference-ended e =
-      by-run (run n P σ) (λ t σ′ p. (t, σ′, steady P (program-fit table program passes .timed) σ n t σ′ p .0, run-ends P n σ t σ′ p))
+      by-run (run n P σ) (λ t σ′ p. (t, σ′, steady P (program-fit options program passes .timed) σ n t σ′ p .0, run-ends P n σ t σ′ p))
       (λ p. absurd (open-no-end (sym (ap (λ (a : Answer). a .outcome) (called .1 ∙ ap (referenceAnswer n) p)) ∙ e)))
 
-  pub reference-open : referenceCall table program words n .outcome ≡ Open
-      → (referenceCall table program words n ≡ openAnswer n) × ((t : ℕ) (σ′ : Store) → Ends P σ t σ′ → t ≤ n → ⊥)
+  pub reference-open : referenceCall options program words n .outcome ≡ Open
+      → (referenceCall options program words n ≡ openAnswer n) × ((t : ℕ) (σ′ : Store) → Ends P σ t σ′ → t ≤ n → ⊥)
   unfolding referenceAnswer
   reference-open e = (
     by-run (run n P σ) (λ t σ′ p. absurd (open-no-end (sym e ∙ ap (λ (a : Answer). a .outcome) (called .1 ∙ ap (referenceAnswer n) p))))
@@ -75,44 +75,44 @@ module _ (table : Loaded) (program words : List ℕ) (n : ℕ) (answered-so : ve
 
 -- A full run and a reference run -------------------------------------------------------------------------------------------------------
 
-module _ (table : Loaded) (program words : List ℕ) (n : ℕ) (forFile lent : List ℕ) (bytes : Bytes program)
-    (checks : first (runProgramChecks table program words n forFile lent) ≡ Accepted) where
+module _ (options : Options) (program words : List ℕ) (n : ℕ) (forFile lent : List ℕ) (bytes : Bytes program)
+    (checks : first (runProgramChecks options program words n forFile lent) ≡ Accepted) where
   abbrev file : List ℕ
   file = compiledFile program
 
-  accepts : checkCall table program ≡ Accepted
+  accepts : checkCall options program ≡ Accepted
   unfolding checkCall
-  accepts = accept-take 2 (runProgramChecks table program words n forFile lent) checks
+  accepts = accept-take 2 (runProgramChecks options program words n forFile lent) checks
 
   budget : ltb 1000000 n ≡ false
-  budget = refuse-unless _ 13 0 (all-accept (runProgramChecks table program words n forFile lent) checks 2)
+  budget = refuse-unless _ 13 0 (all-accept (runProgramChecks options program words n forFile lent) checks 2)
 
   words-fit : ltb (length words) 32 ≡ false
-  words-fit = refuse-unless _ 14 0 (all-accept (runProgramChecks table program words n forFile lent) checks 3)
+  words-fit = refuse-unless _ 14 0 (all-accept (runProgramChecks options program words n forFile lent) checks 3)
 
   state-fits : ltb (length lent) (stateSize (cellsOf file)) ≡ false
-  state-fits = refuse-unless _ 14 0 (all-accept (runProgramChecks table program words n forFile lent) checks 5)
+  state-fits = refuse-unless _ 14 0 (all-accept (runProgramChecks options program words n forFile lent) checks 5)
 
   begins : verdict (beginCall file words lent .answer .outcome) ≡ Accepted
   unfolding beginCall running shows
   begins =
-      rw (compiled-accepted table program bytes accepts, words-fit, state-fits)
+      rw (compiled-accepted options program bytes accepts, words-fit, state-fits)
       (no-refusal (high (nowAt (beginState (cellsOf file) (wordAt words) lent) (finishOf file))))
 
   abbrev full : Answer
-  full = runProgramCall table program words n forFile lent .answer
+  full = runProgramCall options program words n forFile lent .answer
 
   abbrev reference : Answer
-  reference = referenceCall table program words n
+  reference = referenceCall options program words n
 
-  full-is : full ≡ whole-run table program file words lent accepts refl begins n
+  full-is : full ≡ whole-run options program file words lent accepts refl begins n
   full-is =
-      program-run table program file words lent accepts refl begins forFile
-      (refuse-unless _ 14 0 (all-accept (runProgramChecks table program words n forFile lent) checks 4)) n (ltb-false 1000000 n budget)
+      program-run options program file words lent accepts refl begins forFile
+      (refuse-unless _ 14 0 (all-accept (runProgramChecks options program words n forFile lent) checks 4)) n (ltb-false 1000000 n budget)
 
   reference-is : reference ≡ referenceAnswer n (run n (programOf program) (wordAt words))
   unfolding referenceCall answering checkCall
-  reference-is = rw (first-drop 2 (referenceChecks table program words n) accepts, budget, words-fit)
+  reference-is = rw (first-drop 2 (referenceChecks options program words n) accepts, budget, words-fit)
 
   pub same-answers : (seenIn full ≡ seenIn reference) × (full .outcome ≡ Ended → full ≡ reference)
   unfolding referenceAnswer
@@ -120,10 +120,10 @@ module _ (table : Loaded) (program words : List ℕ) (n : ℕ) (forFile lent : L
       by-run (run n (programOf program) (wordAt words))
       (λ t σ′ p.
       let e : full ≡ reference =
-      full-is ∙ agrees table program file words lent accepts refl begins n t (ltb-false 1000000 n budget) σ′ p ∙ sym (reference-is ∙ ap (referenceAnswer n) p) in
+      full-is ∙ agrees options program file words lent accepts refl begins n t (ltb-false 1000000 n budget) σ′ p ∙ sym (reference-is ∙ ap (referenceAnswer n) p) in
       (ap seenIn e, λ z. e))
       (λ p.
-      let o = ap seenIn full-is ∙ stays-open table program file words lent accepts refl begins n (ltb-false 1000000 n budget) p in
+      let o = ap seenIn full-is ∙ stays-open options program file words lent accepts refl begins n (ltb-false 1000000 n budget) p in
       (o ∙ sym (ap seenIn (reference-is ∙ ap (referenceAnswer n) p)), λ z. absurd (open-no-end (sym (ap (λ (s : Seen). s .outcome) o) ∙ z))))
 
 -- The promise --------------------------------------------------------------------------------------------------------------------------

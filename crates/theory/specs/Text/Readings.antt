@@ -4,7 +4,7 @@ use mathlib.Core.Path.{_≡_, refl, sym, _∙_, ap, subst}
 use mathlib.Core.List.{List}
 use Prim.Native.Nat.{ℕ}
 use lib.ListN.{length, take}
-use Rattle.model.specs.declared.Loaded.{Loaded}
+use Rattle.model.specs.declared.Options.{Options}
 use Rattle.model.specs.declared.Node.{Node}
 use Rattle.model.specs.declared.Checked.the-variants.{Accepted}
 use Rattle.model.specs.declared.Written.the-variants.{Done}
@@ -55,12 +55,12 @@ module _ (text : List ℕ) where
       go (good ns) e a = let q = read ns e in (q .0, q .1, ap nodeBytes (q .2))
       go (bad p) e a = not-refused a
 
-program : (table : Loaded) (text lent : List ℕ) (n f : ℕ) → readTextCall table text lent .answer ≡ Done n f →
-    let bytes = take n (readTextCall table text lent .lent) in
+program : (options : Options) (text lent : List ℕ) (n f : ℕ) → readTextCall options text lent .answer ≡ Done n f →
+    let bytes = take n (readTextCall options text lent .lent) in
     (P : Stmt) × Means (tokens (wordsOf text)) P × (bytes ≡ nodeBytes (preorder P)) × (programOf bytes ≡ P)
-program table text lent n f done =
-    let q = meant text (all-accept (textChecks text) (text-accepted table text lent n f done) 2) in
-    let e = program-made table text lent n f done ∙ q .2 in
+program options text lent n f done =
+    let q = meant text (all-accept (textChecks text) (text-accepted options text lent n f done) 2) in
+    let e = program-made options text lent n f done ∙ q .2 in
     (q .0, q .1, e, ap programOf e ∙ program-back (q .1))
 
 pub texts : Texts

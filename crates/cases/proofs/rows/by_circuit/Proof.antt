@@ -7,16 +7,18 @@ use Rattle.cases.proofs.rows.by_circuit.Tie as tie
 
 returns : tie.Need-returns
 returns c =
-    let put = c .before .before .before .before .before .before .before .put16 in
-    let args = c .before .before .before .before .before .before .before .before .before .before .args in
-    run-from (args .program .now) (args .word) (args .budget) (replicate 6656 0) (replicate 40968 0) (start-put (args .word) (put .ensures))
-    (c .before .before .run-program .ensures .0)
+    let call = c .before .before in
+    let put = call .before .before .before .before .before .before .put16 in
+    let args = call .before .before .before .before .before .before .before .before .before .args in
+    let told = rw (call .before .before .before .before .defaults .ensures) at (call .run-program .ensures .0) in
+    run-from (args .program .now) (args .word) (args .budget) (replicate 6656 0) (replicate 40968 0) (start-put (args .word) (put .ensures)) told
 
 pub by-circuit-spec : {M : Type 1} → statement M
 by-circuit-spec =
     tie.close
     (tie.spec
     (λ c. search needs)
+    (λ c κs. search needs)
     (λ c κs. search needs)
     (λ c. search needs)
     (λ c. search needs)

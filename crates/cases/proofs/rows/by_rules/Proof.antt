@@ -2,7 +2,7 @@
 use mathlib.Core.Path.{_∙_, ap}
 use mathlib.Core.List.{List}
 use Prim.Native.Nat.{ℕ}
-use Rattle.model.specs.TimeTables.{builtIn, load}
+use Rattle.model.specs.TimeTables.{defaults}
 use Rattle.model.specs.Calls.{referenceCall}
 use Rattle.cases.proofs.Laws.{start-put}
 use borrow.Author.Needs.{needs}
@@ -11,15 +11,17 @@ use Rattle.cases.proofs.rows.by_rules.Tie as tie
 
 returns : tie.Need-returns
 returns c =
-    let put = c .before .before .before .put16 in
-    let args = c .before .before .before .before .before .before .args in
-    c .reference-run .ensures ∙ ap (λ (words : List ℕ). referenceCall (load builtIn) (args .program .now) words (args .budget)) (start-put (args .word) (put .ensures))
+    let put = c .before .before .before .before .put16 in
+    let args = c .before .before .before .before .before .before .before .args in
+    let told = rw (c .before .before .defaults .ensures) at (c .reference-run .ensures) in
+    told ∙ ap (λ (words : List ℕ). referenceCall defaults (args .program .now) words (args .budget)) (start-put (args .word) (put .ensures))
 
 pub by-rules-spec : {M : Type 1} → statement M
 by-rules-spec =
     tie.close
     (tie.spec
     (λ c. search needs)
+    (λ c κs. search needs)
     (λ c κs. search needs)
     (λ c. search needs)
     (λ c κs. search needs)

@@ -6,8 +6,8 @@ use borrow.Author.Needs.{needs}
 use Rattle.hub.proofs.full.check.Statement.{statement}
 use Rattle.hub.proofs.full.check.Tie as tie
 
-check-by-requires : tie.Need-check-by-requires
-check-by-requires c κs = search needs
+check-requires : tie.Need-check-requires
+check-requires c κs = search needs
 
 enum-known-checked : tie.Need-enum-known-checked
 enum-known-checked c = search needs
@@ -15,7 +15,7 @@ enum-known-checked c = search needs
 returns : tie.Need-returns
 returns c =
     let args = c .before .before .before .before .before .before .before .before .args in
-    at-program (args .table) (args .program .now) (args .words .now) (args .budget) (args .netlist .now) (args .state .now) ((sym (c .before .before .before .check-by .ensures) ∙ c .before .checked .given .1))
+    at-program (args .options) (args .program .now) (args .words .now) (args .budget) (args .netlist .now) (args .state .now) ((sym (c .before .before .before .check .ensures) ∙ c .before .checked .given .1))
 
 enum-told : tie.Need-enum-told
 enum-told c = search needs
@@ -27,8 +27,8 @@ returns-2 : tie.Need-returns-2
 returns-2 c =
     let told = c .before .before in
     let args = told .before .before .before .before .before .before .before .args in
-    let accepted = (sym (told .before .before .check-by .ensures) ∙ told .enum-told .given .1) in
-    c .refuse .ensures ∙ at-budget (args .table) (args .program .now) (args .words .now) (args .budget) (args .netlist .now) (args .state .now) accepted (omega (arith, c .before .if1 .taken))
+    let accepted = (sym (told .before .before .check .ensures) ∙ told .enum-told .given .1) in
+    c .refuse .ensures ∙ at-budget (args .options) (args .program .now) (args .words .now) (args .budget) (args .netlist .now) (args .state .now) accepted (omega (arith, c .before .if1 .taken))
 
 refuse-requires-2 : tie.Need-refuse-requires-2
 refuse-requires-2 c κs = search needs
@@ -37,21 +37,21 @@ returns-3 : tie.Need-returns-3
 returns-3 c =
     let told = c .before .before .before in
     let args = told .before .before .before .before .before .before .before .args in
-    let accepted = (sym (told .before .before .check-by .ensures) ∙ told .enum-told .given .1) in
-    c .refuse2 .ensures ∙ at-words (args .table) (args .program .now) (args .words .now) (args .budget) (args .netlist .now) (args .state .now) accepted (c .before .before .if1 .left) (c .before .if2 .taken)
+    let accepted = (sym (told .before .before .check .ensures) ∙ told .enum-told .given .1) in
+    c .refuse2 .ensures ∙ at-words (args .options) (args .program .now) (args .words .now) (args .budget) (args .netlist .now) (args .state .now) accepted (c .before .before .if1 .left) (c .before .if2 .taken)
 
 count-cells-requires : tie.Need-count-cells-requires
-count-cells-requires c κs = let told = c .before .before in (sym (told .before .before .check-by .ensures) ∙ told .enum-told .given .1)
+count-cells-requires c κs = let told = c .before .before in (sym (told .before .before .check .ensures) ∙ told .enum-told .given .1)
 
 add-if3 : tie.Need-add-if3
 add-if3 c =
     let told = c .before .before .before in
-    omega (arith, c .count-cells .ensures, few-cells (c .before .before .before .before .before .before .before .before .before .before .args .table) _ ((sym (told .before .before .check-by .ensures) ∙ told .enum-told .given .1)))
+    omega (arith, c .count-cells .ensures, few-cells (c .before .before .before .before .before .before .before .before .before .before .args .options) _ ((sym (told .before .before .check .ensures) ∙ told .enum-told .given .1)))
 
 mul-if3 : tie.Need-mul-if3
 mul-if3 c =
     let told = c .before .before .before in
-    omega (arith, c .count-cells .ensures, few-cells (c .before .before .before .before .before .before .before .before .before .before .args .table) _ ((sym (told .before .before .check-by .ensures) ∙ told .enum-told .given .1)))
+    omega (arith, c .count-cells .ensures, few-cells (c .before .before .before .before .before .before .before .before .before .before .args .options) _ ((sym (told .before .before .check .ensures) ∙ told .enum-told .given .1)))
 
 refuse-requires-3 : tie.Need-refuse-requires-3
 refuse-requires-3 c κs = search needs
@@ -60,19 +60,19 @@ returns-4 : tie.Need-returns-4
 returns-4 c =
     let told = c .before .before .before .before .before in
     let args = told .before .before .before .before .before .before .before .args in
-    let accepted = (sym (told .before .before .check-by .ensures) ∙ told .enum-told .given .1) in
+    let accepted = (sym (told .before .before .check .ensures) ∙ told .enum-told .given .1) in
     c .refuse3 .ensures
-    ∙ at-file (args .table) (args .program .now) (args .words .now) (args .budget) (args .netlist .now) (args .state .now) accepted (c .before .before .before .before .if1 .left) (c .before .before .before .if2 .left) (c .before .before .count-cells .ensures) (c .before .if3 .taken)
+    ∙ at-file (args .options) (args .program .now) (args .words .now) (args .budget) (args .netlist .now) (args .state .now) accepted (c .before .before .before .before .if1 .left) (c .before .before .before .if2 .left) (c .before .before .count-cells .ensures) (c .before .if3 .taken)
 
 mul-if4 : tie.Need-mul-if4
 mul-if4 c =
     let told = c .before .before .before .before in
-    omega (arith, c .before .count-cells .ensures, few-cells (c .before .before .before .before .before .before .before .before .before .before .before .args .table) _ ((sym (told .before .before .check-by .ensures) ∙ told .enum-told .given .1)))
+    omega (arith, c .before .count-cells .ensures, few-cells (c .before .before .before .before .before .before .before .before .before .before .before .args .options) _ ((sym (told .before .before .check .ensures) ∙ told .enum-told .given .1)))
 
 add-if4 : tie.Need-add-if4
 add-if4 c =
     let told = c .before .before .before .before in
-    omega (arith, c .before .count-cells .ensures, few-cells (c .before .before .before .before .before .before .before .before .before .before .before .args .table) _ ((sym (told .before .before .check-by .ensures) ∙ told .enum-told .given .1)))
+    omega (arith, c .before .count-cells .ensures, few-cells (c .before .before .before .before .before .before .before .before .before .before .before .args .options) _ ((sym (told .before .before .check .ensures) ∙ told .enum-told .given .1)))
 
 refuse-requires-4 : tie.Need-refuse-requires-4
 refuse-requires-4 c κs = search needs
@@ -81,22 +81,22 @@ returns-5 : tie.Need-returns-5
 returns-5 c =
     let told = c .before .before .before .before .before .before in
     let args = told .before .before .before .before .before .before .before .args in
-    let accepted = (sym (told .before .before .check-by .ensures) ∙ told .enum-told .given .1) in
+    let accepted = (sym (told .before .before .check .ensures) ∙ told .enum-told .given .1) in
     c .refuse4 .ensures
-    ∙ at-state (args .table) (args .program .now) (args .words .now) (args .budget) (args .netlist .now) (args .state .now) accepted (c .before .before .before .before .before .if1 .left) (c .before .before .before .before .if2 .left) (c .before .before .before .count-cells .ensures) (c .before .before .if3 .left) (omega (arith, c .before .if4 .taken))
+    ∙ at-state (args .options) (args .program .now) (args .words .now) (args .budget) (args .netlist .now) (args .state .now) accepted (c .before .before .before .before .before .if1 .left) (c .before .before .before .before .if2 .left) (c .before .before .before .count-cells .ensures) (c .before .before .if3 .left) (omega (arith, c .before .if4 .taken))
 
 returns-6 : tie.Need-returns-6
 returns-6 c =
     let told = c .before .before .before .before .before in
     let args = told .before .before .before .before .before .before .before .args in
-    let accepted = (sym (told .before .before .check-by .ensures) ∙ told .enum-told .given .1) in
-    at-none (args .table) (args .program .now) (args .words .now) (args .budget) (args .netlist .now) (args .state .now) accepted (c .before .before .before .before .if1 .left) (c .before .before .before .if2 .left) (c .before .before .count-cells .ensures) (c .before .if3 .left) (c .if4 .left)
+    let accepted = (sym (told .before .before .check .ensures) ∙ told .enum-told .given .1) in
+    at-none (args .options) (args .program .now) (args .words .now) (args .budget) (args .netlist .now) (args .state .now) accepted (c .before .before .before .before .if1 .left) (c .before .before .before .if2 .left) (c .before .before .count-cells .ensures) (c .before .if3 .left) (c .if4 .left)
 
 pub check-spec : {M : Type 1} → statement M
 check-spec =
     tie.close
     (tie.spec
-    check-by-requires
+    check-requires
     enum-known-checked
     returns
     enum-told

@@ -10,19 +10,22 @@ use Rattle.hubrun.proofs.text.run.Statement.{statement}
 use Rattle.hubrun.proofs.text.run.Tie as tie
 
 slice-aggregate-run-program : tie.Need-slice-aggregate-run-program
-slice-aggregate-run-program c = simp length-take (omega (arith, c .before .before .before .before .pre))
+slice-aggregate-run-program c = simp length-take (omega (arith, c .before .before .before .before .before .pre))
 
 returns : tie.Need-returns
 returns c =
-    let start = c .before .before .before .before .before .before .before .before .before in
+    let call = c .before .before in
+    let start = call .before .before .before .before .before .before .before .before in
     let input = start .args .input .now in
     let e : take (length input - 36) (drop 36 input) ≡ drop 36 input = take-all (length input - 36) (drop 36 input) (simp length-drop (omega arith)) in
-    run-told input (replicate 6656 0) (replicate 40968 0) e (c .before .before .before .before .before .before .before .get32 .ensures) (c .before .before .run-program .ensures .0)
+    let told = rw (call .before .before .before .before .before .defaults .ensures) at (call .run-program .ensures .0) in
+    run-told input (replicate 6656 0) (replicate 40968 0) e (call .before .before .before .before .before .before .get32 .ensures) told
 
 pub run-spec : {M : Type 1} → statement M
 run-spec =
     tie.close
     (tie.spec
+    (λ c κs. search needs)
     (λ c κs. search needs)
     (λ c. search needs)
     (λ c. search needs)

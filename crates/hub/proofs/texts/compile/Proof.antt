@@ -7,16 +7,16 @@ use Rattle.model.specs.Calls.{Returned, compileCall}
 use Rattle.text.proofs.Giving.{told-refused, told-accepted, told-fits, told-program}
 use Rattle.hub.proofs.OnTexts.{compile-unloaded, compile-refused, compile-given}
 use borrow.Author.Needs.{needs}
-use Rattle.hub.proofs.texts.compile_by.Statement.{statement}
-use Rattle.hub.proofs.texts.compile_by.Tie as tie
+use Rattle.hub.proofs.texts.compile.Statement.{statement}
+use Rattle.hub.proofs.texts.compile.Tie as tie
 
-enum-known-loaded : tie.Need-enum-known-loaded
-enum-known-loaded c = search needs
+enum-known-beside : tie.Need-enum-known-beside
+enum-known-beside c = search needs
 
 returns : tie.Need-returns
 returns c =
     let args = c .before .before .before .before .before .args in
-    let r = compile-unloaded (args .table) (args .source .now) (args .file .now) _ (c .before .loaded .given .1) in
+    let r = compile-unloaded (args .options) (args .source .now) (args .file .now) _ (c .before .beside .given .1) in
     (sym (ap (λ (t : Returned Written). t .answer) r), sym (ap (λ (t : Returned Written). t .lent) r))
 
 enum-told : tie.Need-enum-told
@@ -39,19 +39,19 @@ array-share-prefix-program c =
     let of = c .before .before .before .before .program-of in
     omega (arith, told-fits (c .before .before .before .before .before .before .before .before .before .before .args .source .now) _ _ (sym (of .ensures .0) ∙ c .before .told2 .given .1), of .kept .1 .0)
 
-slice-aggregate-compile-by : tie.Need-slice-aggregate-compile-by
-slice-aggregate-compile-by c =
+slice-aggregate-compile : tie.Need-slice-aggregate-compile
+slice-aggregate-compile c =
     let of = c .before .before .before .before .before .program-of in
     simp length-take (omega (arith, told-fits (c .before .before .before .before .before .before .before .before .before .before .before .args .source .now) _ _ (sym (of .ensures .0) ∙ c .before .before .told2 .given .1), of .kept .1 .0))
 
-compile-by-requires : tie.Need-compile-by-requires
-compile-by-requires c κs = search needs
+compile-requires : tie.Need-compile-requires
+compile-requires c κs = search needs
 
 returns-2 : tie.Need-returns-2
 returns-2 c =
     let args = c .before .before .before .before .before .before .before .before .before .before .args in
     let e = sym (c .before .before .before .before .program-of .ensures .0) ∙ c .before .told .given .1 in
-    let r = compile-refused (args .table) (args .source .now) (args .file .now) (c .before .before .before .before .before .before .enum-told .given .1) _ (told-refused (args .source .now) _ e) in
+    let r = compile-refused (args .options) (args .source .now) (args .file .now) (c .before .before .before .before .before .before .enum-told .given .1) _ (told-refused (args .source .now) _ e) in
     (sym (ap (λ (t : Returned Written). t .answer) r), sym (ap (λ (t : Returned Written). t .lent) r))
 
 same-length : tie.Need-same-length
@@ -63,16 +63,16 @@ returns-3 c =
     let text = args .source .now in
     let of = c .before .before .before .before .before .before .before .before .before .program-of in
     let e = sym (of .ensures .0) ∙ c .before .before .before .before .before .before .told2 .given .1 in
-    let compiled = c .before .before .compile-by .ensures in
+    let compiled = c .before .before .compile .ensures in
     let p = told-program text _ _ e _ (of .ensures .1) in
-    let g = ap (λ l. compileCall (args .table) l (args .file .now)) p ∙ sym (compile-given (args .table) text (args .file .now) (told-accepted text _ _ e)) in
+    let g = ap (λ l. compileCall (args .options) l (args .file .now)) p ∙ sym (compile-given (args .options) text (args .file .now) (told-accepted text _ _ e)) in
     (compiled .0 ∙ ap (λ (t : Returned Written). t .answer) g, compiled .1 ∙ ap (λ (t : Returned Written). t .lent) g)
 
-pub compile-by-spec : {M : Type 1} → statement M
-compile-by-spec =
+pub compile-spec : {M : Type 1} → statement M
+compile-spec =
     tie.close
     (tie.spec
-    enum-known-loaded
+    enum-known-beside
     returns
     enum-told
     slice-aggregate-program-of
@@ -80,8 +80,8 @@ compile-by-spec =
     enum-known-told
     enum-known-told-2
     array-share-prefix-program
-    slice-aggregate-compile-by
-    compile-by-requires
+    slice-aggregate-compile
+    compile-requires
     returns-2
     same-length
     returns-3)

@@ -6,11 +6,11 @@ use Rattle.model.specs.Calls.{ReturnedBoth, runProgramCall}
 use Rattle.text.proofs.Giving.{told-refused, told-accepted, told-fits, told-program}
 use Rattle.hub.proofs.OnTexts.{run-unloaded, run-refused, run-given}
 use borrow.Author.Needs.{needs}
-use Rattle.hub.proofs.texts.run_by.Statement.{statement}
-use Rattle.hub.proofs.texts.run_by.Tie as tie
+use Rattle.hub.proofs.texts.run.Statement.{statement}
+use Rattle.hub.proofs.texts.run.Tie as tie
 
-enum-known-loaded : tie.Need-enum-known-loaded
-enum-known-loaded c = search needs
+enum-known-beside : tie.Need-enum-known-beside
+enum-known-beside c = search needs
 
 refused-requires : tie.Need-refused-requires
 refused-requires c κs = search needs
@@ -18,7 +18,7 @@ refused-requires c κs = search needs
 returns : tie.Need-returns
 returns c =
     let args = c .before .before .before .before .before .before .before .before .args in
-    let r = run-unloaded (args .table) (args .source .now) (args .words .now) (args .budget) (args .netlist .now) (args .state .now) _ (c .before .before .loaded .given .1) in
+    let r = run-unloaded (args .options) (args .source .now) (args .words .now) (args .budget) (args .netlist .now) (args .state .now) _ (c .before .before .beside .given .1) in
     (c .refused .ensures ∙ sym (ap (λ (t : ReturnedBoth). t .answer) r), (sym (ap (λ (t : ReturnedBoth). t .netlist) r), sym (ap (λ (t : ReturnedBoth). t .state) r)))
 
 enum-told : tie.Need-enum-told
@@ -44,19 +44,19 @@ array-share-prefix-program c =
     let of = c .before .before .before .before .program-of in
     omega (arith, told-fits (c .before .before .before .before .before .before .before .before .before .before .before .before .args .source .now) _ _ (sym (of .ensures .0) ∙ c .before .told2 .given .1), of .kept .1 .0)
 
-slice-aggregate-run-by : tie.Need-slice-aggregate-run-by
-slice-aggregate-run-by c =
+slice-aggregate-run : tie.Need-slice-aggregate-run
+slice-aggregate-run c =
     let of = c .before .before .before .before .before .program-of in
     simp length-take (omega (arith, told-fits (c .before .before .before .before .before .before .before .before .before .before .before .before .before .args .source .now) _ _ (sym (of .ensures .0) ∙ c .before .before .told2 .given .1), of .kept .1 .0))
 
-run-by-requires : tie.Need-run-by-requires
-run-by-requires c κs = search needs
+run-requires : tie.Need-run-requires
+run-requires c κs = search needs
 
 returns-2 : tie.Need-returns-2
 returns-2 c =
     let args = c .before .before .before .before .before .before .before .before .before .before .before .before .before .args in
     let e = sym (c .before .before .before .before .before .program-of .ensures .0) ∙ c .before .before .told .given .1 in
-    let r = run-refused (args .table) (args .source .now) (args .words .now) (args .budget) (args .netlist .now) (args .state .now) (c .before .before .before .before .before .before .before .enum-told .given .1) _ (told-refused (args .source .now) _ e) in
+    let r = run-refused (args .options) (args .source .now) (args .words .now) (args .budget) (args .netlist .now) (args .state .now) (c .before .before .before .before .before .before .before .enum-told .given .1) _ (told-refused (args .source .now) _ e) in
     (c .refused2 .ensures ∙ sym (ap (λ (t : ReturnedBoth). t .answer) r), (sym (ap (λ (t : ReturnedBoth). t .netlist) r), sym (ap (λ (t : ReturnedBoth). t .state) r)))
 
 same-length : tie.Need-same-length
@@ -71,17 +71,17 @@ returns-3 c =
     let text = args .source .now in
     let of = c .before .before .before .before .before .before .before .before .before .before .before .before .program-of in
     let e = sym (of .ensures .0) ∙ c .before .before .before .before .before .before .before .before .before .told2 .given .1 in
-    let run = c .before .before .before .before .run-by .ensures in
+    let run = c .before .before .before .before .run .ensures in
     let p = told-program text _ _ e _ (of .ensures .1) in
-    let call = runProgramCall (args .table) in
-    let g = ap (λ l. call l (args .words .now) (args .budget) (args .netlist .now) (args .state .now)) p ∙ sym (run-given (args .table) text (args .words .now) (args .budget) (args .netlist .now) (args .state .now) (told-accepted text _ _ e)) in
+    let call = runProgramCall (args .options) in
+    let g = ap (λ l. call l (args .words .now) (args .budget) (args .netlist .now) (args .state .now)) p ∙ sym (run-given (args .options) text (args .words .now) (args .budget) (args .netlist .now) (args .state .now) (told-accepted text _ _ e)) in
     (run .0 ∙ ap (λ (t : ReturnedBoth). t .answer) g, (run .1 .0 ∙ ap (λ (t : ReturnedBoth). t .netlist) g, run .1 .1 ∙ ap (λ (t : ReturnedBoth). t .state) g))
 
-pub run-by-spec : {M : Type 1} → statement M
-run-by-spec =
+pub run-spec : {M : Type 1} → statement M
+run-spec =
     tie.close
     (tie.spec
-    enum-known-loaded
+    enum-known-beside
     refused-requires
     returns
     enum-told
@@ -91,8 +91,8 @@ run-by-spec =
     refused-requires-2
     enum-known-told-2
     array-share-prefix-program
-    slice-aggregate-run-by
-    run-by-requires
+    slice-aggregate-run
+    run-requires
     returns-2
     same-length
     same-length-2

@@ -1,0 +1,63 @@
+-- The run of a program that was not refused: what compiling wrote is the file that is run. Assumes nothing.
+use native.Mathlib.Omega.{arith}
+use Rattle.model.specs.Calls.{compiledFile}
+use Rattle.hub.proofs.FullRun.{ready, runs, part-is, part-fits}
+use borrow.Author.Needs.{needs}
+use Rattle.hub.proofs.full.run_accepted.Statement.{statement}
+use Rattle.hub.proofs.full.run_accepted.Tie as tie
+
+compile-accepted-requires : tie.Need-compile-accepted-requires
+compile-accepted-requires c κs =
+    let start = c .before .before .before .before .before in
+    let args = start .args in
+    let r = ready (args .options) (args .program .now) (args .words .now) (args .budget) (args .netlist .now) (args .state .now) (start .pre) in
+    (r .accepted, r .fits)
+
+sub-full-run : tie.Need-sub-full-run
+sub-full-run c = search needs
+
+part-full-run-start : tie.Need-part-full-run-start
+part-full-run-start c = search needs
+
+part-full-run-end : tie.Need-part-full-run-end
+part-full-run-end c =
+    let compile = c .before .before .before .compile-accepted in
+    let args = c .before .before .before .before .before .before .before .before .before .args in
+    part-fits (compiledFile (args .program .now)) (args .netlist .now) _ _ (compile .ensures .0) (compile .ensures .1)
+
+full-run-requires : tie.Need-full-run-requires
+full-run-requires c κs =
+    let compile = c .before .before .before .before .before .compile-accepted in
+    let start = c .before .before .before .before .before .before .before .before .before .before .before in
+    let args = start .args in
+    let r = ready (args .options) (args .program .now) (args .words .now) (args .budget) (args .netlist .now) (args .state .now) (start .pre) in
+    let known = c .before .before .before .before .before .before .before .before .before .before .shared-slice-known .given in
+    let same = part-is (compiledFile (args .program .now)) (args .netlist .now) _ _ (compile .ensures .0) (compile .ensures .1) in
+    rw same (runs (args .options) (args .program .now) (args .words .now) (args .budget) (args .netlist .now) (args .state .now) (λ i. omega (arith, known i)) r, r .start, omega (arith, r .few))
+
+same-length : tie.Need-same-length
+same-length c = search needs
+
+same-length-2 : tie.Need-same-length-2
+same-length-2 c = search needs
+
+returns : tie.Need-returns
+returns c =
+    let compile = c .before .before .before .before .before .before .before .before .compile-accepted in
+    let run = c .before .before .full-run .ensures in
+    let args = c .before .before .before .before .before .before .before .before .before .before .before .before .before .before .args in
+    let same = part-is (compiledFile (args .program .now)) (args .netlist .now) _ _ (compile .ensures .0) (compile .ensures .1) in
+    (rw same at run .1, (compile .ensures .1, rw same at run .0))
+
+pub run-accepted-spec : {M : Type 1} → statement M
+run-accepted-spec =
+    tie.close
+    (tie.spec
+    compile-accepted-requires
+    sub-full-run
+    part-full-run-start
+    part-full-run-end
+    full-run-requires
+    same-length
+    same-length-2
+    returns)

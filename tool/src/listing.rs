@@ -5,7 +5,7 @@ use crate::kinds::{CELLS, IDLE};
 use crate::lines::{self, Wrong};
 use crate::template::{byte, word};
 use crate::types::{Cell, Netlist};
-use std::collections::HashMap;
+use std::collections::{HashMap, HashSet};
 
 const MEMORIES: usize = 16;
 const MOST_CELLS: usize = 1_024;
@@ -53,12 +53,12 @@ pub fn wired(text: &str) -> Result<Listed, Wrong> {
     let entries = entries(text)?;
     let header = header(&entries)?;
     let placed = placed(&entries, header.count)?;
-    let names = Names::of(&placed);
+    let names = Names::of(&placed)?;
     let mut netlist = Netlist {
         cells: Vec::new(),
         finish: names
-            .number(&header.finish)
-            .ok_or_else(|| Wrong::new(header.line, no_wire(&header.finish)))?,
+            .number(header.finish)
+            .ok_or_else(|| Wrong::new(header.line, no_wire(header.finish)))?,
     };
     for entry in &placed {
         netlist.cells.push(match entry {
@@ -86,8 +86,8 @@ fn entries(text: &str) -> Result<Vec<Entry<'_>>, Wrong> {
         let Some(&first) = words.first() else {
             continue;
         };
-        let number = first.parse().ok();
-        let name = first.strip_suffix(':');
+        let number = first.trim_end_matches(':').parse().ok();
+        let name = first.strip_suffix(':').filter(|_| number.is_none());
         let counts = words.get(1).is_some_and(|word| word.starts_with("cells"));
         if (number.is_some() && !counts) || name.is_some() {
             words.remove(0);
@@ -105,39 +105,34 @@ fn entries(text: &str) -> Result<Vec<Entry<'_>>, Wrong> {
     Ok(entries)
 }
 
-struct Header {
+struct Header<'t> {
     line: usize,
     count: Option<usize>,
-    finish: String,
+    finish: &'t str,
 }
 
 /// The one line that tells the finish, and how many cells there are.
-fn header(entries: &[Entry]) -> Result<Header, Wrong> {
-    let mut headers = entries.iter().filter_map(|entry| {
-        let (count, finish) = match entry.words[..] {
-            [count, "cells,", "finish", finish] => (count.parse().ok(), finish),
-            ["finish", finish] => (None, finish),
-            _ => return None,
-        };
-        Some(Header {
-            line: entry.line,
-            count,
-            finish: finish.to_string(),
-        })
-    });
+fn header<'t>(entries: &[Entry<'t>]) -> Result<Header<'t>, Wrong> {
+    let mut headers = entries.iter().filter(|entry| is_header(entry));
     let Some(header) = headers.next() else {
-        return Err(Wrong::new(
-            1,
-            "no line says which cell is the finish; write: finish CELL",
-        ));
+        let why = "no line says which cell is the finish; write: finish CELL";
+        return Err(Wrong::new(1, why));
     };
-    match headers.next() {
-        Some(second) => Err(Wrong::new(second.line, "a second line about the finish")),
-        None if header.count.is_some_and(|count| count > MOST_CELLS) => {
-            Err(Wrong::new(header.line, "more than 1024 cells"))
-        }
-        None => Ok(header),
+    if let Some(second) = headers.next() {
+        return Err(Wrong::new(second.line, "a second line about the finish"));
     }
+    let count = match header.words[..] {
+        [count, "cells,", ..] => Some(count.parse().unwrap_or(usize::MAX)),
+        _ => None,
+    };
+    if count.is_some_and(|count| count > MOST_CELLS) {
+        return Err(Wrong::new(header.line, "a netlist has at most 1024 cells"));
+    }
+    Ok(Header {
+        line: header.line,
+        count,
+        finish: header.words.last().copied().unwrap_or_default(),
+    })
 }
 
 fn is_header(entry: &Entry) -> bool {
@@ -177,19 +172,25 @@ struct Names {
 }
 
 impl Names {
-    fn of(placed: &[Option<&Entry>]) -> Names {
+    fn of(placed: &[Option<&Entry>]) -> Result<Names, Wrong> {
         let mut numbers = HashMap::from([("start".to_string(), 0), ("ground".to_string(), 1)]);
         let memory = |e: &Option<&Entry>| e.is_none_or(|entry| entry.words[0] == "memory");
         let memories = (0u16..).zip(placed).filter(|(_, entry)| memory(entry));
         for (variable, (number, _)) in memories.enumerate() {
             numbers.insert(format!("x{variable}"), number);
         }
+        let mut given = HashSet::new();
         for (number, entry) in (0u16..).zip(placed) {
-            if let Some(name) = entry.and_then(|entry| entry.name) {
-                numbers.insert(name.to_string(), number);
+            let Some((entry, name)) = entry.and_then(|entry| Some((entry, entry.name?))) else {
+                continue;
+            };
+            if !given.insert(name) {
+                let why = format!("a second cell is called {name}");
+                return Err(Wrong::new(entry.line, why));
             }
+            numbers.insert(name.to_string(), number);
         }
-        Names { numbers }
+        Ok(Names { numbers })
     }
 
     fn number(&self, name: &str) -> Option<u16> {

@@ -1,4 +1,4 @@
-//! The pages of docs/ that show the tool: each command line in them is run, in
+//! The pages that show the tool: each command line in them is run, in
 //! a folder with the examples and the course's files, and tells what the page
 //! shows; each picture of the course is made again. With KEEP=1 pages and
 //! pictures are made anew, to be looked at before they are kept.
@@ -8,7 +8,12 @@ use std::os::unix::fs::symlink;
 use std::path::{Path, PathBuf};
 use std::process::Command;
 
-const PAGES: [&str; 3] = ["docs/LANGUAGE.md", "docs/COURSE.md", "README.md"];
+const PAGES: [&str; 4] = [
+    "docs/LANGUAGE.md",
+    "docs/COURSE.md",
+    "README.md",
+    "examples/README.md",
+];
 const PROMPT: &str = "$ ";
 const FENCE: &str = "```console";
 /// What a command line is followed by where its exit status isn't 0.

@@ -6,7 +6,7 @@ use crate::draw::{dot, svg};
 use crate::input::Given;
 use crate::json::Json;
 use crate::output;
-use crate::types::{Done, Fault};
+use crate::types::Done;
 
 pub const COMMAND: Command = Command {
     name: "draw",
@@ -33,7 +33,7 @@ fn run(args: &Args) -> Result<Done, Stop> {
         dot::dot
     } else {
         let message = format!("{out}: the name of a picture ends with .svg or .dot");
-        return Err(Fault::usage(message).into());
+        return Err(args.fault(message).into());
     };
     let given = Given::read(args, file)?;
     let circuit = given.circuit()?;

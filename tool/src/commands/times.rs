@@ -32,7 +32,9 @@ fn run(args: &Args) -> Result<Done, Stop> {
             let table = files::read(name)?;
             show(args, Some(&table), files::shown(name))
         }
-        _ => Err(Fault::usage("-o and the name of a file for the table are missing").into()),
+        _ => Err(args
+            .fault("-o and the name of a file for the table are missing")
+            .into()),
     }
 }
 
@@ -52,7 +54,7 @@ fn make(args: &Args, out: &str) -> Result<Done, Stop> {
     let builtin = times::times(None);
     let mut times = builtin.map_err(|_| Fault::internal("an operator without a time"))?;
     for word in &args.given {
-        let (operator, time) = setting(word)?;
+        let (operator, time) = setting(word).map_err(|wrong| args.fault(wrong))?;
         times[operator] = time;
     }
     let table = times::file(&times)?;
@@ -81,18 +83,14 @@ fn refused(given: &[String], met: Refusal) -> Report {
 const OK: [u8; 4] = [16, 0, 0, 0];
 
 /// An operator, by its place, and the time that it is to have.
-fn setting(word: &str) -> Result<(usize, u8), Fault> {
+fn setting(word: &str) -> Result<(usize, u8), String> {
     let wrong = || {
         let names: Vec<&str> = OPERATORS.iter().map(|(_, name)| *name).collect();
         let names = names.join(", ");
-        Fault::usage(format!(
-            "'{word}' isn't OPERATOR=TIME with a time below 256; operators: {names}"
-        ))
+        format!("'{word}' isn't OPERATOR=TIME with a time below 256; operators: {names}")
     };
     let (name, time) = word.split_once('=').ok_or_else(wrong)?;
     let operator = OPERATORS.iter().position(|(_, known)| *known == name);
-    Ok((
-        operator.ok_or_else(wrong)?,
-        time.parse().map_err(|_| wrong())?,
-    ))
+    let time = time.parse().map_err(|_| wrong())?;
+    Ok((operator.ok_or_else(wrong)?, time))
 }

@@ -18,6 +18,16 @@ pub struct Frame {
     pub rows: Range<usize>,
 }
 
+impl Frame {
+    /// Whether another frame is inside this one.
+    pub fn holds(&self, inner: &Frame) -> bool {
+        let holds = |outer: &Range<usize>, inner: &Range<usize>| {
+            outer.start <= inner.start && inner.end <= outer.end
+        };
+        self != inner && holds(&self.columns, &inner.columns) && holds(&self.rows, &inner.rows)
+    }
+}
+
 /// Part of a picture, from column 0 and row 0.
 #[derive(Clone, Debug, Default)]
 pub struct Block {

@@ -25,14 +25,8 @@ fn put_clusters(out: &mut String, block: &Block, plan: &Plan) {
     let mut open: Vec<usize> = Vec::new();
     put_cells(out, block, plan, None);
     for (number, frame) in block.frames.iter().enumerate() {
-        let inside = |outer: usize| {
-            let outer = &block.frames[outer];
-            outer.columns.start <= frame.columns.start
-                && frame.columns.end <= outer.columns.end
-                && outer.rows.start <= frame.rows.start
-                && frame.rows.end <= outer.rows.end
-        };
-        while open.last().is_some_and(|outer| !inside(*outer)) {
+        let inside = |outer: &usize| block.frames[*outer].holds(frame);
+        while open.last().is_some_and(|outer| !inside(outer)) {
             open.pop();
             *out += "  }\n";
         }

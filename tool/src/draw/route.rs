@@ -174,14 +174,14 @@ impl<'b> Borders<'b> {
     /// How many frames around this one begin in the same channel.
     pub fn begins(&self, frame: &Frame) -> usize {
         let start = self.range(frame).0.start;
-        let around = |other: &&Frame| within(frame, other) && self.range(other).0.start == start;
+        let around = |other: &&Frame| other.holds(frame) && self.range(other).0.start == start;
         self.block.frames.iter().filter(around).count()
     }
 
     /// How deep the frames in this one that end in the same channel are.
     pub fn ends(&self, frame: &Frame) -> usize {
         let end = self.range(frame).0.end;
-        let inside = |other: &&Frame| within(other, frame) && self.range(other).0.end == end;
+        let inside = |other: &&Frame| frame.holds(other) && self.range(other).0.end == end;
         let inside = self.block.frames.iter().filter(inside);
         inside.map(|other| 1 + self.ends(other)).max().unwrap_or(0)
     }
@@ -199,22 +199,6 @@ impl<'b> Borders<'b> {
         let here = self.block.frames.iter().filter(here);
         here.map(|frame| 1 + self.ends(frame)).max().unwrap_or(0)
     }
-}
-
-/// Whether a frame is inside another, or comes after it with the same extent.
-fn within(inner: &Frame, outer: &Frame) -> bool {
-    let inside = |inner: &std::ops::Range<usize>, outer: &std::ops::Range<usize>| {
-        outer.start <= inner.start && inner.end <= outer.end
-    };
-    !std::ptr::eq(inner, outer)
-        && inside(&inner.columns, &outer.columns)
-        && inside(&inner.rows, &outer.rows)
-        && (inner.columns != outer.columns || inner.rows != outer.rows || after(inner, outer))
-}
-
-/// Whether a frame stands after another in the block that holds both.
-fn after(inner: &Frame, outer: &Frame) -> bool {
-    std::ptr::from_ref(inner) > std::ptr::from_ref(outer)
 }
 
 /// Gives each wire of a zone a track in which no other wire overlaps it, and

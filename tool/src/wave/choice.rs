@@ -7,14 +7,20 @@ use crate::kinds::{is_control, IDLE, NODES};
 use crate::labels::{self, Labels};
 use crate::types::{Fault, Netlist};
 
-/// The wires asked for, or else all that have a name and may change.
-pub fn wires(circuit: &Circuit, text: &[u8], asked: Option<&str>) -> Result<Vec<Wire>, Fault> {
+/// The wires asked for, or else those that have a name: all, or all but memories
+/// that nothing writes to.
+pub fn wires(
+    circuit: &Circuit,
+    text: &[u8],
+    asked: Option<&str>,
+    all: bool,
+) -> Result<Vec<Wire>, Fault> {
     let mut named = of_every(&circuit.netlist);
     named.extend(of_statements(circuit, text)?);
     match asked {
         None => Ok(named
             .into_iter()
-            .filter(|wire| moves(circuit, wire))
+            .filter(|wire| all || moves(circuit, wire))
             .collect()),
         Some(asked) => {
             let wires = asked
@@ -86,7 +92,7 @@ fn wire(netlist: &Netlist, name: String, cell: u16) -> Wire {
 /// A wire by its name or its cell, also under a name of its own: NAME=WIRE.
 fn chosen(named: &[Wire], netlist: &Netlist, word: &str) -> Result<Wire, Fault> {
     let (own, wire) = match word.split_once('=') {
-        Some((own, wire)) => (Some(own.to_string()), wire),
+        Some((own, wire)) => (Some(name_of(own)?), wire),
         None => (None, word),
     };
     let found = match named.iter().find(|known| known.name == wire) {
@@ -101,6 +107,18 @@ fn chosen(named: &[Wire], netlist: &Netlist, word: &str) -> Result<Wire, Fault> 
         },
         None => found,
     })
+}
+
+/// A name that a dump can have, too.
+fn name_of(word: &str) -> Result<String, Fault> {
+    let fits = |letter: char| letter.is_ascii_alphanumeric() || "_.".contains(letter);
+    match !word.is_empty() && word.chars().all(fits) {
+        true => Ok(word.to_string()),
+        false => {
+            let message = format!("'{word}' is no name for a wire: letters, digits, _ and . are");
+            Err(Fault::usage(message))
+        }
+    }
 }
 
 fn of_cell(netlist: &Netlist, number: &str) -> Option<Wire> {

@@ -48,7 +48,7 @@ pub fn svg(waves: &Waveforms) -> String {
         let label = escaped(&label(wire));
         let _ = writeln!(
             text,
-            "<text x=\"{x}\" y=\"{y}\" text-anchor=\"end\">{label}</text>"
+            "<text x=\"{x}\" y=\"{y}\" text-anchor=\"end\" font-size=\"12\">{label}</text>"
         );
         match wire.control {
             true => control(&mut text, values, top, &scale),
@@ -68,13 +68,14 @@ impl Scale {
 fn label(wire: &Wire) -> String {
     match wire.about.is_empty() {
         true => wire.name.clone(),
-        false => format!("{}  {}", wire.about, wire.name),
+        false => format!("{}: {}", wire.about, wire.name),
     }
 }
 
 /// The instants that the axis names, and a line down from each.
 fn axis(text: &mut String, waves: &Waveforms, scale: &Scale) {
-    let step = axis_step(28usize.div_ceil(scale.instant));
+    let room = LETTER * waves.to.to_string().len() + 14;
+    let step = axis_step(room.div_ceil(scale.instant));
     for at in (0..=scale.count).filter(|at| (waves.from as usize + at).is_multiple_of(step)) {
         let (x, instant) = (scale.x(at), waves.from as usize + at);
         let _ = writeln!(

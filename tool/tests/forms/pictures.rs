@@ -63,6 +63,7 @@ fn texts(picture: &str) -> Vec<Box> {
         );
         let left = match attribute(line, "text-anchor") {
             Some("middle") => x - width / 2,
+            Some("end") => x - width,
             _ => x,
         };
         [left, y - size * 7 / 10, left + width, y]
@@ -109,14 +110,18 @@ fn together(one: &Box, other: &Box) -> bool {
             && other[1] < one[3])
 }
 
-fn assert_clear(picture: &str) {
-    let (cells, texts, wires) = (cells(picture), texts(picture), wires(picture));
+/// No text lies on another.
+pub fn assert_legible(picture: &str) {
+    let texts = texts(picture);
     for (k, text) in texts.iter().enumerate() {
-        assert!(
-            !texts[..k].iter().any(|other| overlap(text, other)),
-            "{text:?}\n{picture}"
-        );
+        let on = |other: &Box| overlap(text, other);
+        assert!(!texts[..k].iter().any(on), "{text:?}\n{picture}");
     }
+}
+
+fn assert_clear(picture: &str) {
+    assert_legible(picture);
+    let (cells, wires) = (cells(picture), wires(picture));
     for (k, cell) in cells.iter().enumerate() {
         assert!(
             !cells[..k].iter().any(|other| overlap(cell, other)),
@@ -233,7 +238,7 @@ fn pictures_of_the_examples_are_kept() {
     for (name, text) in examples() {
         let circuit = circuits::of_text(&text);
         let bytes = text.as_bytes();
-        let wires = choice::wires(&circuit, bytes, None).expect("wires");
+        let wires = choice::wires(&circuit, bytes, None, false).expect("wires");
         let words = std::array::from_fn(|k| 3 + k as u16);
         let waves = record::record(&circuit.file, &words, wires, 0, 60).expect("a run");
         for (ending, made) in [

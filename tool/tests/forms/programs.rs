@@ -21,6 +21,7 @@ pub fn examples() -> Vec<(String, String)> {
     let mut files: Vec<_> = entries
         .map(|entry| entry.expect("an entry").path())
         .collect();
+    files.retain(|file| file.extension().is_some_and(|ending| ending == "hub"));
     files.sort();
     let name = |file: &PathBuf| {
         file.file_stem()

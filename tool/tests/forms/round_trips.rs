@@ -170,7 +170,13 @@ fn wrong_lists_are_told_with_their_line() {
         ("finish 0\nfinish 1\n", 2, "a second line"),
         ("finish 0\nlamp 3\n", 2, "is no kind"),
         ("finish 0\nname:\n", 2, "no cell after it"),
-        ("2000 cells, finish 0\n", 1, "more than 1024"),
+        ("2000 cells, finish 0\n", 1, "at most 1024"),
+        ("99999999999999999999 cells, finish 0\n", 1, "at most 1024"),
+        (
+            "finish 0\na: start\na: ground\n",
+            3,
+            "a second cell is called a",
+        ),
         ("finish 0\n1024 start\n", 2, "cell 1024"),
     ] {
         let wrong = listing::wired(list).expect_err("a wrong list");

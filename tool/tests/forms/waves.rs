@@ -1,6 +1,7 @@
 //! Waveforms: what they show is the run, and what is written of them can be
 //! read by others.
 
+use crate::pictures::assert_legible;
 use crate::programs::{examples, programs};
 use crate::vcd::{read, values, Changes};
 use crate::{circuits, programs};
@@ -13,7 +14,7 @@ const WORDS: [u16; 16] = [3, 1, 2, 4, 0, 1, 1, 9, 65_535, 2, 0, 0, 1, 7, 7, 7];
 
 fn waves(program: &[u8], from: u32, to: u32) -> Waveforms {
     let circuit = circuits::of_program(program);
-    let wires = choice::wires(&circuit, &[], None).expect("wires");
+    let wires = choice::wires(&circuit, &[], None, false).expect("wires");
     record::record(&circuit.file, &WORDS, wires, from, to).expect("a run")
 }
 
@@ -149,12 +150,25 @@ fn pictures_of_waves_name_every_wire() {
     }
 }
 
+/// No text of such a picture lies on another, however large the instants.
+#[test]
+fn pictures_of_waves_are_legible() {
+    for (program, last) in programs()
+        .into_iter()
+        .zip([7, 40, 99, 240, 300].into_iter().cycle())
+    {
+        assert_legible(&svg::svg(&waves(&program, 0, last)));
+    }
+    let late = waves(&programs()[0], 999_700, 1_000_000);
+    assert_legible(&svg::svg(&late));
+}
+
 /// A text's wires are named with its lines.
 #[test]
 fn wires_of_a_text_tell_their_line() {
     let (_, text) = &examples()[programs::examples().len() - 1];
     let circuit = circuits::of_text(text);
-    let wires = choice::wires(&circuit, text.as_bytes(), None).expect("wires");
+    let wires = choice::wires(&circuit, text.as_bytes(), None, false).expect("wires");
     let loops: Vec<&str> = wires
         .iter()
         .filter(|wire| wire.name.starts_with("while") && wire.name.ends_with("start"))

@@ -4,8 +4,8 @@
 use crate::engine::{Engine, Measured, Row};
 use crate::tool::{folder, measured, output};
 use crate::workload::Workload;
-use proved::exports::hub_run_netlist;
-use proved::replied;
+use bindings::exports::hub_run_netlist;
+use bindings::replied;
 use std::fs;
 use std::path::Path;
 use std::process::Command;

@@ -2,8 +2,8 @@
 
 use crate::engine::{Engine, Measured, Row};
 use crate::workload::Workload;
-use proved::exports::hub_run_netlist;
-use proved::{replied, Kind};
+use bindings::exports::hub_run_netlist;
+use bindings::{replied, Kind};
 use std::time::Instant;
 
 const INSTANTS: u32 = 1_000_000;

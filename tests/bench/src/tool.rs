@@ -15,7 +15,7 @@ pub fn is_on_path(program: &str) -> bool {
 
 /// The folder for the files of one tool and workload, among cargo's own.
 pub fn folder(tool: &str, workload: &str) -> PathBuf {
-    let target = Path::new(env!("CARGO_MANIFEST_DIR")).join("../target");
+    let target = Path::new(env!("CARGO_MANIFEST_DIR")).join("../../target");
     let folder = target.join("bench").join(format!("{tool}-{workload}"));
     fs::create_dir_all(&folder).unwrap_or_else(|error| panic!("{}: {error}", folder.display()));
     folder

@@ -1,8 +1,8 @@
 //! The reply of every exported function that has one: without room for 48 bytes
 //! nothing is done, and bytes past them are kept.
 
+use bindings::exports::*;
 use peers::SECOND;
-use proved::exports::*;
 use second::table::BUILT_IN;
 use values::Cell;
 

@@ -1,0 +1,98 @@
+//! The calls on lent bytes and numbers. A call that checks a program may be
+//! given a table of operator times; without one the built-in serves.
+
+use crate::exports::*;
+use crate::reply::{accepted, answer, end, shape, written};
+use values::{Answer, End, Refusal, Shape, Table};
+
+/// Checks a program.
+pub fn check(table: Table, program: &[u8]) -> Result<(), Refusal> {
+    let told = accepted(|reply| hub_check(table, program, reply));
+    told.map(drop)
+}
+
+/// Compiles a program to a netlist file.
+pub fn compile(table: Table, program: &[u8], file: &mut [u8]) -> Result<Shape, Refusal> {
+    let told = accepted(|reply| hub_compile(table, program, file, reply));
+    told.map(|told| written(told, file))
+}
+
+/// Reads a text to its program's bytes, and tells how many they are.
+pub fn read_text(table: Table, text: &[u8], program: &mut [u8]) -> Result<usize, Refusal> {
+    let told = accepted(|reply| hub_read_text(table, text, program, reply));
+    told.map(|told| told.first as usize)
+}
+
+/// Compiles a text to a netlist file.
+pub fn compile_text(table: Table, text: &[u8], file: &mut [u8]) -> Result<Shape, Refusal> {
+    let told = accepted(|reply| hub_compile_text(table, text, file, reply));
+    told.map(|told| written(told, file))
+}
+
+/// Writes cells of six bytes to a netlist file.
+pub fn write_netlist(cells: &[u8], finish: u16, file: &mut [u8]) -> Result<Shape, Refusal> {
+    let told = accepted(|reply| hub_write(cells, finish, file, reply));
+    told.map(|told| written(told, file))
+}
+
+/// Reads a netlist file to cells of six bytes.
+pub fn read_netlist(file: &[u8], cells: &mut [u8]) -> Result<Shape, Refusal> {
+    accepted(|reply| hub_read(file, cells, reply)).map(shape)
+}
+
+/// Begins a run.
+pub fn begin(file: &[u8], words: &[u8], state: &mut [u8]) -> Result<Answer, Refusal> {
+    accepted(|reply| hub_begin(file, words, state, reply)).map(answer)
+}
+
+/// Continues a run by at most `n` instants.
+pub fn continue_by(file: &[u8], state: &mut [u8], n: u32) -> Result<Answer, Refusal> {
+    accepted(|reply| hub_continue(file, state, n, reply)).map(answer)
+}
+
+/// A full run of a netlist.
+pub fn run_netlist(
+    file: &[u8],
+    words: &[u8],
+    budget: u32,
+    state: &mut [u8],
+) -> Result<Answer, Refusal> {
+    accepted(|reply| hub_run_netlist(file, words, budget, state, reply)).map(answer)
+}
+
+/// A full run of a program; its netlist file and its last state are lent.
+pub fn run_program(
+    table: Table,
+    program: &[u8],
+    words: &[u8],
+    budget: u32,
+    file: &mut [u8],
+    state: &mut [u8],
+) -> Result<Answer, Refusal> {
+    let told = accepted(|reply| hub_run_program(table, program, words, budget, file, state, reply));
+    told.map(answer)
+}
+
+/// A full run of a text.
+pub fn run_text(
+    table: Table,
+    text: &[u8],
+    words: &[u8],
+    budget: u32,
+    file: &mut [u8],
+    state: &mut [u8],
+) -> Result<Answer, Refusal> {
+    let told = accepted(|reply| hub_run_text(table, text, words, budget, file, state, reply));
+    told.map(answer)
+}
+
+/// The end of a program by its own rules, if within the budget.
+pub fn reference_run(
+    table: Table,
+    program: &[u8],
+    words: &[u8],
+    budget: u32,
+) -> Result<Option<End>, Refusal> {
+    let told = accepted(|reply| hub_reference(table, program, words, budget, reply));
+    told.map(|told| end(told, budget))
+}

@@ -1,0 +1,152 @@
+//! The words after a command: files and such in order, `--name value`, `-o
+//! value`, and flags.
+
+use crate::types::{Fault, Words};
+use std::collections::BTreeMap;
+use std::fmt::Display;
+
+/// The options that a command takes: with a value, and without.
+#[derive(Clone, Copy, Debug)]
+pub struct Options {
+    pub valued: &'static [&'static str],
+    pub flags: &'static [&'static str],
+}
+
+#[derive(Clone, Debug, Default)]
+pub struct Args {
+    /// The words that are no options.
+    pub given: Vec<String>,
+    options: BTreeMap<String, String>,
+    usage: String,
+}
+
+impl Args {
+    /// Parses the words after a command, whose usage is told where they don't
+    /// fit.
+    pub fn parse(options: Options, usage: String, words: &[String]) -> Result<Args, Fault> {
+        let mut args = Args {
+            usage,
+            ..Args::default()
+        };
+        let mut words = words.iter();
+        while let Some(word) = words.next() {
+            let Some((name, value)) = option(word) else {
+                args.given.push(word.clone());
+                continue;
+            };
+            let value = match (options.takes(name), value) {
+                (Some(true), Some(value)) => value.to_string(),
+                (Some(true), None) => match words.next() {
+                    Some(value) if !value.starts_with("--") => value.clone(),
+                    _ => return Err(args.missing(name)),
+                },
+                (Some(false), None) => String::new(),
+                (Some(false), Some(_)) => {
+                    return Err(args.fault(format!("{} takes no value", dashed(name))))
+                }
+                (None, _) => return Err(args.fault(format!("{} is no option", dashed(name)))),
+            };
+            if args.options.insert(name.to_string(), value).is_some() {
+                return Err(args.fault(format!("{} stands twice", dashed(name))));
+            }
+        }
+        Ok(args)
+    }
+
+    /// A fault of the command line, with the usage.
+    pub fn fault(&self, message: impl Display) -> Fault {
+        Fault::usage(format!("{message}\nusage: {}", self.usage))
+    }
+
+    fn missing(&self, name: &str) -> Fault {
+        self.fault(format!("{} and its value are missing", dashed(name)))
+    }
+
+    pub fn flag(&self, name: &str) -> bool {
+        self.options.contains_key(name)
+    }
+
+    pub fn value(&self, name: &str) -> Option<&str> {
+        self.options.get(name).map(String::as_str)
+    }
+
+    /// The value of an option that must be given.
+    pub fn needed(&self, name: &str) -> Result<&str, Fault> {
+        self.value(name).ok_or_else(|| self.missing(name))
+    }
+
+    /// An option that is a decimal number of four bytes.
+    pub fn number(&self, name: &str) -> Result<Option<u32>, Fault> {
+        let Some(value) = self.value(name) else {
+            return Ok(None);
+        };
+        match value.replace(',', "").parse() {
+            Ok(number) => Ok(Some(number)),
+            Err(_) => Err(self.fault(format!("{} wants a number, not '{value}'", dashed(name)))),
+        }
+    }
+
+    /// A file, and start words such as x0=3 after it; those not given are 0.
+    pub fn file_and_words(&self) -> Result<(&str, Words), Fault> {
+        let Some((file, words)) = self.given.split_first() else {
+            return Err(self.fault("FILE is missing"));
+        };
+        let mut start = [None; 16];
+        for word in words {
+            let Some((variable, value)) = start_word(word) else {
+                let form = "one is x0=3, with x0 to x15 and -32768 to 65535";
+                return Err(self.fault(format!("'{word}' is no start word; {form}")));
+            };
+            if start[variable].replace(value).is_some() {
+                return Err(self.fault(format!("x{variable} has two start words")));
+            }
+        }
+        Ok((file, start.map(Option::unwrap_or_default)))
+    }
+
+    /// Exactly so many words, each named in the usage.
+    pub fn exactly<const N: usize>(&self, names: [&str; N]) -> Result<[&str; N], Fault> {
+        if let Some(name) = names.get(self.given.len()) {
+            return Err(self.fault(format!("{name} is missing")));
+        }
+        if let Some(extra) = self.given.get(N) {
+            return Err(self.fault(format!("'{extra}' is one word too many")));
+        }
+        Ok(std::array::from_fn(|k| self.given[k].as_str()))
+    }
+}
+
+impl Options {
+    /// Whether an option takes a value, if there is one of this name.
+    fn takes(self, name: &str) -> Option<bool> {
+        let flag = name == "json" || self.flags.contains(&name);
+        let valued = self.valued.contains(&name);
+        (flag || valued).then_some(valued)
+    }
+}
+
+/// The name of an option, and the value after its '='.
+fn option(word: &str) -> Option<(&str, Option<&str>)> {
+    if word == "-o" {
+        return Some(("o", None));
+    }
+    let name = word.strip_prefix("--")?;
+    Some(match name.split_once('=') {
+        Some((name, value)) => (name, Some(value)),
+        None => (name, None),
+    })
+}
+
+fn dashed(name: &str) -> String {
+    let dashes = if name.len() == 1 { "-" } else { "--" };
+    format!("{dashes}{name}")
+}
+
+fn start_word(word: &str) -> Option<(usize, u16)> {
+    let (name, value) = word.split_once('=')?;
+    let variable: usize = name.strip_prefix('x')?.parse().ok()?;
+    let value: i32 = value.parse().ok()?;
+    let fits =
+        name == format!("x{variable}") && variable < 16 && (-32_768..=65_535).contains(&value);
+    fits.then_some((variable, value as u16))
+}

@@ -1,0 +1,35 @@
+//! `hub begin`: the state of a circuit at instant 0.
+
+use super::{answered, Command, Stop};
+use crate::args::{Args, Options};
+use crate::files;
+use crate::input::Given;
+use crate::product;
+use crate::types::{Done, DONE};
+
+pub const COMMAND: Command = Command {
+    name: "begin",
+    usage: "FILE [xK=N ..] -o STATE [--times T] [--as FORM]",
+    about: "begins a run, and writes its state to go on from",
+    more: "FILE is a netlist, NAME.net, or a program that is compiled first. The exit status is 0.",
+    example: "hub begin two_boards.net x0=3 x1=5 -o two_boards.state",
+    options: Options {
+        valued: &["o", "times", "as"],
+        flags: &["all"],
+    },
+    run,
+};
+
+fn run(args: &Args) -> Result<Done, Stop> {
+    let (file, start) = args.file_and_words()?;
+    let to = args.needed("o")?;
+    let given = Given::read(args, file)?;
+    let circuit = given.circuit()?;
+    let begun = product::begin(&circuit.file, &start);
+    let (state, answer) = begun.map_err(|met| given.refused(met))?;
+    files::write(to, &state)?;
+    Ok(Done {
+        exit: DONE,
+        ..answered(args, &start, &answer)
+    })
+}

@@ -1,0 +1,56 @@
+//! `hub cells`: the netlist as a list.
+
+use super::{Command, Stop};
+use crate::args::{Args, Options};
+use crate::input::Given;
+use crate::json::Json;
+use crate::kinds::IDLE;
+use crate::types::{Cell, Done};
+use crate::{labels, listing, output};
+
+pub const COMMAND: Command = Command {
+    name: "cells",
+    usage: "FILE [--all] [-o LIST]",
+    about: "lists the cells of a program's circuit or of a netlist, with the lines they come from",
+    more: "Memories that nothing writes to are left out; --all lists them too.\n\
+        What stands after # is for the reader: 'hub wire' takes the list back.",
+    example: "hub cells examples/two_boards.hub",
+    options: Options {
+        valued: &["as", "times", "o"],
+        flags: &["all"],
+    },
+    run,
+};
+
+fn run(args: &Args) -> Result<Done, Stop> {
+    let [file] = args.exactly(["FILE"])?;
+    let given = Given::read(args, file)?;
+    let circuit = given.circuit()?;
+    let notes = labels::of_cells(&circuit, &given.bytes)?;
+    let all = args.flag("all");
+    let list = listing::list(&circuit.netlist, all, |cell| notes[cell].clone());
+    output::put(args, list, || {
+        let shown = |(_, cell): &(usize, &Cell)| all || **cell != IDLE;
+        let cells = circuit.netlist.cells.iter().enumerate().filter(shown);
+        Json::Object(vec![
+            ("count", Json::number(circuit.netlist.cells.len())),
+            ("finish", Json::number(circuit.netlist.finish)),
+            (
+                "cells",
+                Json::list(cells, |(k, cell)| json(k, cell, &notes[k])),
+            ),
+        ])
+    })
+}
+
+fn json(number: usize, cell: &Cell, note: &Option<String>) -> Json {
+    Json::Object(vec![
+        ("number", Json::number(number)),
+        ("kind", Json::number(cell.kind)),
+        ("delay", Json::number(cell.delay)),
+        ("a", Json::number(cell.a)),
+        ("b", Json::number(cell.b)),
+        ("words", Json::text(listing::words_of(cell))),
+        ("from", Json::maybe(note.clone(), Json::text)),
+    ])
+}

@@ -1,0 +1,28 @@
+//! `hub compile`: a program to its netlist file.
+
+use super::{written, Command, Stop};
+use crate::args::{Args, Options};
+use crate::input::Given;
+use crate::types::Done;
+
+pub const COMMAND: Command = Command {
+    name: "compile",
+    usage: "FILE -o NET [--times T] [--as FORM]",
+    about: "writes the netlist file of a program",
+    more: "FILE is a text, NAME.prog a program's bytes, or --as says it (text, program).",
+    example: "hub compile examples/two_boards.hub -o two_boards.net",
+    options: Options {
+        valued: &["o", "times", "as"],
+        flags: &[],
+    },
+    run,
+};
+
+fn run(args: &Args) -> Result<Done, Stop> {
+    let [file] = args.exactly(["FILE"])?;
+    let to = args.needed("o")?;
+    let given = Given::read(args, file)?;
+    let circuit = given.circuit()?;
+    let cells = circuit.netlist.cells.len();
+    written(args, to, &circuit.file, (cells, "cell"))
+}

@@ -1,0 +1,42 @@
+//! `hub draw`: the circuit as a picture.
+
+use super::{Command, Stop};
+use crate::args::{Args, Options};
+use crate::draw::{dot, svg};
+use crate::input::Given;
+use crate::json::Json;
+use crate::output;
+use crate::types::Done;
+
+pub const COMMAND: Command = Command {
+    name: "draw",
+    usage: "FILE -o x.svg | x.dot [--all]",
+    about: "draws a program's circuit, or a netlist, as a picture: SVG, or DOT for Graphviz",
+    more: "Each statement has a frame. Control wires are thin and dark, word wires wide and\n\
+        lighter; a word that is read is a flag with its name. Memories that nothing writes to\n\
+        are left out; --all draws them too.",
+    example: "hub draw examples/two_boards.hub -o two_boards.svg",
+    options: Options {
+        valued: &["as", "times", "o"],
+        flags: &["all"],
+    },
+    run,
+};
+
+fn run(args: &Args) -> Result<Done, Stop> {
+    let [file] = args.exactly(["FILE"])?;
+    let out = args.needed("o")?;
+    let all = args.flag("all");
+    let drawn = if out.ends_with(".svg") {
+        svg::svg
+    } else if out.ends_with(".dot") {
+        dot::dot
+    } else {
+        let message = format!("{out}: the name of a picture ends with .svg or .dot");
+        return Err(args.fault(message).into());
+    };
+    let given = Given::read(args, file)?;
+    let circuit = given.circuit()?;
+    let drawn = drawn(&circuit, &given.bytes, all)?;
+    output::put(args, drawn, || Json::Null)
+}

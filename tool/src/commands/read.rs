@@ -1,0 +1,28 @@
+//! `hub read`: a text to its program's bytes.
+
+use super::{written, Command, Stop};
+use crate::args::{Args, Options};
+use crate::input::Given;
+use crate::types::Done;
+
+pub const COMMAND: Command = Command {
+    name: "read",
+    usage: "FILE -o PROG [--times T]",
+    about: "writes the bytes of a text's program",
+    more: "The bytes are those that hubtext writes and hubrun reads; a refused text writes none.",
+    example: "hub read examples/two_boards.hub -o two_boards.prog",
+    options: Options {
+        valued: &["o", "times", "as"],
+        flags: &[],
+    },
+    run,
+};
+
+fn run(args: &Args) -> Result<Done, Stop> {
+    let [file] = args.exactly(["FILE"])?;
+    let to = args.needed("o")?;
+    let given = Given::read(args, file)?;
+    let program = given.program()?;
+    let nodes = program.nodes.len();
+    written(args, to, &program.bytes, (nodes, "node"))
+}

@@ -1,0 +1,36 @@
+//! `hub wire`: a list of cells back to a netlist file.
+
+use super::{written, Command, Stop};
+use crate::args::{Args, Options};
+use crate::listing;
+use crate::types::Done;
+use crate::{files, lines, product, refusals};
+
+pub const COMMAND: Command = Command {
+    name: "wire",
+    usage: "LIST -o NET",
+    about: "makes a netlist file of a list of cells, as 'hub cells' prints it or wired by hand",
+    more: "A line is a cell, with its number or 'NAME:' in front or neither; inputs are numbers\n\
+        or names, start, ground, x0 to x15 among them. 'finish CELL' names the finish wire.\n\
+        Numbers that are left out, and the line 'idle memories', are memories that nothing\n\
+        writes to. Text after # is passed over.",
+    example: "hub cells examples/two_boards.hub | hub wire - -o two_boards.net",
+    options: Options {
+        valued: &["o"],
+        flags: &[],
+    },
+    run,
+};
+
+fn run(args: &Args) -> Result<Done, Stop> {
+    let [name] = args.exactly(["LIST"])?;
+    let out = args.needed("o")?;
+    let text = lines::read(name)?;
+    let listed = listing::wired(&text).map_err(|wrong| wrong.fault(name))?;
+    let file = product::write_netlist(&listed.netlist).map_err(|met| {
+        let line = listed.lines.get(met.place).copied().flatten();
+        let report = refusals::of_wired(files::shown(name), &listed.netlist, met);
+        lines::lined(report, &text, line)
+    })?;
+    written(args, out, &file, (listed.netlist.cells.len(), "cell"))
+}

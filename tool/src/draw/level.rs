@@ -1,0 +1,61 @@
+//! The places of a netlist's cells where no program is known: a column for
+//! each number of cells that a pulse or word has come through.
+
+use super::block::Block;
+use super::{memories, shown, with_finish};
+use crate::kinds::{inputs, MEMORY};
+use crate::types::Netlist;
+
+pub fn placed(netlist: &Netlist, all: bool) -> Block {
+    let shown = shown(netlist, all);
+    let levels = levels(netlist);
+    let mut rows: Vec<usize> = Vec::new();
+    let mut block = Block::default();
+    for cell in 0..netlist.cells.len() as u16 {
+        let at = usize::from(cell);
+        if !shown[at] || netlist.cells[at].kind == MEMORY {
+            continue;
+        }
+        let column = levels[at];
+        rows.resize(rows.len().max(column + 1), 0);
+        block = block.with(cell, column, rows[column]);
+        rows[column] += 1;
+    }
+    let words = memories(netlist, &shown);
+    let words = words
+        .into_iter()
+        .map(Block::cell)
+        .fold(Block::default(), Block::below);
+    with_finish(block, netlist).beside(words.framed("words".to_string()))
+}
+
+/// For each cell how many cells lead to it, memories and loops left out.
+fn levels(netlist: &Netlist) -> Vec<usize> {
+    let mut levels = vec![None; netlist.cells.len()];
+    for cell in 0..netlist.cells.len() {
+        level(netlist, cell, &mut levels, &mut Vec::new());
+    }
+    levels.into_iter().map(|level| level.unwrap_or(0)).collect()
+}
+
+fn level(
+    netlist: &Netlist,
+    cell: usize,
+    levels: &mut [Option<usize>],
+    above: &mut Vec<usize>,
+) -> usize {
+    if let Some(known) = levels[cell] {
+        return known;
+    }
+    above.push(cell);
+    let mut own = 0;
+    for input in inputs(&netlist.cells[cell]) {
+        let input = usize::from(input);
+        if netlist.cells[input].kind != MEMORY && !above.contains(&input) {
+            own = own.max(1 + level(netlist, input, levels, above));
+        }
+    }
+    above.pop();
+    levels[cell] = Some(own);
+    own
+}

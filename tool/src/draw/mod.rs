@@ -1,0 +1,126 @@
+//! A circuit as a picture: cells are placed on a grid (`place`, and `level`
+//! where there is no program), wires are laid in the channels between its
+//! columns and rows (`route`), and both are drawn (`svg`). `dot` leaves all of
+//! this to Graphviz.
+
+mod block;
+pub mod dot;
+mod level;
+mod place;
+mod route;
+mod scale;
+pub mod svg;
+
+use crate::input::Circuit;
+use crate::kinds::{inputs, is_control, IDLE, MEMORY};
+use crate::labels;
+use crate::listing::words_of;
+use crate::types::{Fault, Netlist};
+use block::Block;
+
+/// Stands among the cells for the end of the finish wire.
+const FINISH: u16 = u16::MAX;
+
+/// What is drawn, with its places on the grid.
+struct Plan<'c> {
+    netlist: &'c Netlist,
+    /// The variables of the memories, at their cells.
+    variables: Vec<Option<String>>,
+    block: Block,
+}
+
+impl<'c> Plan<'c> {
+    fn of(circuit: &'c Circuit, text: &[u8], all: bool) -> Result<Plan<'c>, Fault> {
+        let netlist = &circuit.netlist;
+        let block = match &circuit.program {
+            Some((program, trace)) => {
+                let labels = labels::Labels::of(program, text)?;
+                place::placed(netlist, trace, &labels, all)
+            }
+            None => level::placed(netlist, all),
+        };
+        Ok(Plan {
+            netlist,
+            variables: labels::of_memories(netlist),
+            block,
+        })
+    }
+
+    /// The wires that a cell takes in, in the order of its ports.
+    fn inputs(&self, cell: u16) -> Vec<u16> {
+        match cell {
+            FINISH => vec![self.netlist.finish],
+            cell => inputs(&self.netlist.cells[usize::from(cell)]),
+        }
+    }
+
+    /// What stands in a cell's box.
+    fn title(&self, cell: u16) -> String {
+        if cell == FINISH {
+            return "finish".to_string();
+        }
+        let at = usize::from(cell);
+        match &self.variables[at] {
+            Some(variable) => format!("memory {variable}"),
+            None => title(&words_of(&self.netlist.cells[at]), self.inputs(cell).len()),
+        }
+    }
+
+    fn is_control(&self, cell: u16) -> bool {
+        is_control(self.netlist.cells[usize::from(cell)].kind)
+    }
+
+    /// The name by which a wire is known everywhere: that of a memory.
+    fn tag(&self, wire: u16) -> Option<&str> {
+        self.variables[usize::from(wire)].as_deref()
+    }
+}
+
+/// The words of a cell without its inputs.
+fn title(words: &str, inputs: usize) -> String {
+    let words: Vec<&str> = words.split(' ').collect();
+    match words[..] {
+        ["delay", time, ..] => format!("delay {time}"),
+        ["when", truth, ..] => format!("when {truth}"),
+        _ if inputs == 0 => words.join(" "),
+        _ => words[0].to_string(),
+    }
+}
+
+/// The cells that are drawn if not all are: no idle memories, and of those
+/// that every netlist has only what something drawn takes in.
+fn shown(netlist: &Netlist, all: bool) -> Vec<bool> {
+    let mut shown: Vec<bool> = netlist
+        .cells
+        .iter()
+        .map(|cell| all || *cell != IDLE)
+        .collect();
+    for fixed in [1, 2] {
+        let takes =
+            |(cell, shown): (&crate::types::Cell, &bool)| *shown && inputs(cell).contains(&fixed);
+        let taken = netlist.cells.iter().zip(&shown).any(takes);
+        shown[usize::from(fixed)] = all || taken;
+    }
+    shown
+}
+
+/// With the end of the finish wire, beside the cell that drives it.
+fn with_finish(block: Block, netlist: &Netlist) -> Block {
+    let drives = |placed: &&block::Placed| placed.cell == netlist.finish;
+    let row = block
+        .cells
+        .iter()
+        .find(drives)
+        .map_or(0, |placed| placed.row);
+    let column = block.width;
+    block.with(FINISH, column, row)
+}
+
+/// The memories that are drawn, one below the other.
+fn memories(netlist: &Netlist, shown: &[bool]) -> Vec<u16> {
+    let memory = |cell: &u16| {
+        let at = usize::from(*cell);
+        netlist.cells[at].kind == MEMORY && shown[at]
+    };
+    (0..netlist.cells.len() as u16).filter(memory).collect()
+}

@@ -1,0 +1,163 @@
+//! The file that a command is about: a text, a program's bytes or a netlist
+//! file, with a table of operator times where one is given.
+
+use crate::args::Args;
+use crate::commands::Stop;
+use crate::files;
+use crate::origin::{self, Trace};
+use crate::product;
+use crate::refusals;
+use crate::source::{self, Place};
+use crate::types::{Fault, Netlist, Node, Refusal, Table};
+
+#[derive(Clone, Copy, Debug, PartialEq, Eq)]
+pub enum Form {
+    Text,
+    Program,
+    Netlist,
+}
+
+/// A file as it was given.
+#[derive(Clone, Debug)]
+pub struct Given {
+    pub name: String,
+    pub form: Form,
+    pub bytes: Vec<u8>,
+    /// The name and bytes of a table of operator times.
+    pub times: Option<(String, Vec<u8>)>,
+}
+
+/// An accepted program. Its nodes have places if it came as a text.
+#[derive(Clone, Debug)]
+pub struct Program {
+    pub bytes: Vec<u8>,
+    pub nodes: Vec<Node>,
+    pub places: Option<Vec<Place>>,
+}
+
+/// An accepted netlist, with the program that it was compiled from and the
+/// origins of its cells, unless it came as a netlist file.
+#[derive(Clone, Debug)]
+pub struct Circuit {
+    pub file: Vec<u8>,
+    pub netlist: Netlist,
+    pub program: Option<(Program, Trace)>,
+}
+
+impl Given {
+    /// Reads FILE, and the file of --times; --as says what FILE is, or else
+    /// its name: NAME.prog a program's bytes, NAME.net a netlist, others texts.
+    pub fn read(args: &Args, name: &str) -> Result<Given, Fault> {
+        let form = match args.value("as") {
+            Some(word) => form_named(word).ok_or_else(|| {
+                args.fault(format!("--as takes text, program or netlist, not '{word}'"))
+            })?,
+            None => form_of(name),
+        };
+        let times = match args.value("times") {
+            Some(table) => Some((table.to_string(), files::read(table)?)),
+            None => None,
+        };
+        Ok(Given {
+            name: files::shown(name).to_string(),
+            form,
+            bytes: files::read(name)?,
+            times,
+        })
+    }
+
+    pub fn table(&self) -> Table<'_> {
+        self.times.as_ref().map(|(_, bytes)| bytes.as_slice())
+    }
+
+    /// The program, accepted by the product.
+    pub fn program(&self) -> Result<Program, Stop> {
+        match self.form {
+            Form::Text => self.program_of_text(),
+            Form::Program => {
+                product::check(self.table(), &self.bytes).map_err(|met| self.refused(met))?;
+                Ok(Program {
+                    bytes: self.bytes.clone(),
+                    nodes: product::nodes(&self.bytes),
+                    places: None,
+                })
+            }
+            Form::Netlist => {
+                let name = &self.name;
+                let message = format!("{name} is a netlist, without its program; give the program");
+                Err(Fault::usage(message).into())
+            }
+        }
+    }
+
+    fn program_of_text(&self) -> Result<Program, Stop> {
+        let read = product::read_text(self.table(), &self.bytes);
+        let bytes = read.map_err(|met| self.refused(met))?;
+        let nodes = product::nodes(&bytes);
+        match source::read(&self.bytes) {
+            Ok(source) if source.nodes == nodes => Ok(Program {
+                bytes,
+                nodes,
+                places: Some(source.places),
+            }),
+            _ => Err(self.misread().into()),
+        }
+    }
+
+    /// The netlist, accepted or compiled by the product.
+    pub fn circuit(&self) -> Result<Circuit, Stop> {
+        if self.form == Form::Netlist {
+            let netlist = product::read_netlist(&self.bytes).map_err(|met| self.refused(met))?;
+            return Ok(Circuit {
+                file: self.bytes.clone(),
+                netlist,
+                program: None,
+            });
+        }
+        let program = self.program()?;
+        let compiled = product::compile(self.table(), &program.bytes);
+        let file = compiled.map_err(|met| self.refused(met))?;
+        let netlist = product::read_netlist(&file).map_err(|met| {
+            Fault::internal(format!("the compiled netlist of {}: {met}", self.name))
+        })?;
+        let trace = origin::trace(&program.nodes, &netlist)?;
+        Ok(Circuit {
+            file,
+            netlist,
+            program: Some((program, trace)),
+        })
+    }
+
+    /// Why a command stops at a refusal that this file met.
+    pub fn refused(&self, refusal: Refusal) -> Stop {
+        match refusals::report(self, refusal) {
+            Ok(report) => report.into(),
+            Err(fault) => fault.into(),
+        }
+    }
+
+    /// The tool's own reading isn't the product's.
+    pub fn misread(&self) -> Fault {
+        let name = &self.name;
+        Fault::internal(format!("the tool reads {name} otherwise than the product"))
+    }
+}
+
+fn form_named(word: &str) -> Option<Form> {
+    match word {
+        "text" => Some(Form::Text),
+        "program" => Some(Form::Program),
+        "netlist" => Some(Form::Netlist),
+        _ => None,
+    }
+}
+
+fn form_of(name: &str) -> Form {
+    if name.ends_with(".prog") {
+        Form::Program
+    } else if name.ends_with(".net") {
+        Form::Netlist
+    } else {
+        Form::Text
+    }
+}

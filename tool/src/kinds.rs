@@ -1,0 +1,83 @@
+//! The kinds of nodes and cells by name, as outlines, lists and pictures show
+//! them. What a kind means is the product's alone.
+
+use crate::template::{Template, Templates};
+use crate::types::Cell;
+
+/// Fields: k the kind, d the delay, n the number.
+pub const NODES: Templates = Templates {
+    kinds: &[
+        kind(1, "constant {n}"),
+        kind(2, "variable x{n}"),
+        kind(3, "complement"),
+        kind(4, "sum"),
+        kind(5, "difference"),
+        kind(6, "and"),
+        kind(7, "or"),
+        kind(8, "equal"),
+        kind(9, "less"),
+        kind(16, "ok"),
+        kind(17, "tick @{d}"),
+        kind(18, "assign x{n} @{d}"),
+        kind(19, "sequence"),
+        kind(20, "parallel"),
+        kind(21, "if @{d}"),
+        kind(22, "while @{d}"),
+        kind(23, "repeat @{d}"),
+    ],
+    any: kind(0, "kind {k} delay {d} n {n}"),
+};
+
+/// Fields: k the kind, d the delay, a and b the inputs, n and m numbers in
+/// their place.
+pub const CELLS: Templates = Templates {
+    kinds: &[
+        kind(1, "constant {n}"),
+        kind(3, "complement {a}"),
+        kind(4, "sum {a} {b}"),
+        kind(5, "difference {a} {b}"),
+        kind(6, "and {a} {b}"),
+        kind(7, "or {a} {b}"),
+        kind(8, "equal {a} {b}"),
+        kind(9, "less {a} {b}"),
+        kind(32, "start"),
+        kind(33, "ground"),
+        kind(34, "delay {d} of {a}"),
+        kind(35, "either {a} {b}"),
+        kind(36, "when true {a} by {b}"),
+        kind(37, "when false {a} by {b}"),
+        kind(38, "merge {a} {b}"),
+        kind(40, "memory clock {a} data {b}"),
+        kind(41, "gated {b} by {a}"),
+    ],
+    any: kind(0, "kind {k} delay {d} a {n} b {m}"),
+};
+
+pub const DELAY: u8 = 34;
+pub const MEMORY: u8 = 40;
+
+/// A memory that nothing writes to: its clock is ground, its data the zero.
+pub const IDLE: Cell = Cell {
+    kind: MEMORY,
+    delay: 0,
+    a: 1,
+    b: 2,
+};
+
+const fn kind(kind: u8, words: &'static str) -> Template {
+    Template { kind, words }
+}
+
+/// The wires that a cell takes in.
+pub fn inputs(cell: &Cell) -> Vec<u16> {
+    let own = CELLS.kinds.iter().find(|t| t.kind == cell.kind);
+    let words = own.map_or("", |template| template.words);
+    let fields = [("{a}", cell.a), ("{b}", cell.b)];
+    let named = fields.iter().filter(|(field, _)| words.contains(field));
+    named.map(|(_, wire)| *wire).collect()
+}
+
+/// Whether a cell of this kind drives a control wire.
+pub fn is_control(kind: u8) -> bool {
+    (32..=38).contains(&kind)
+}

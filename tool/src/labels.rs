@@ -1,0 +1,97 @@
+//! How the nodes of a program and the cells of its circuit are called: where
+//! they stand and what stands there.
+
+use crate::format::{self, Tree};
+use crate::input::{Circuit, Program};
+use crate::kinds::MEMORY;
+use crate::origin::Trace;
+use crate::types::{Fault, Netlist};
+
+/// Of each node, in node order.
+#[derive(Clone, Debug)]
+pub struct Labels {
+    /// The line of a text, or else the node.
+    pub places: Vec<String>,
+    /// The node as text, without the statements in it.
+    pub heads: Vec<String>,
+    pub tree: Tree,
+}
+
+impl Labels {
+    /// Of a program that came with this text, or with none.
+    pub fn of(program: &Program, text: &[u8]) -> Result<Labels, Fault> {
+        let tree = format::tree(&program.nodes)
+            .ok_or_else(|| Fault::internal("an accepted program that is no tree"))?;
+        let mut heads = vec![String::new(); program.nodes.len()];
+        put_heads(&tree, &mut heads);
+        let place = |node: usize| match &program.places {
+            Some(places) => format!("line {}", line_of(text, places[node].mark.start)),
+            None => format!("node {node}"),
+        };
+        Ok(Labels {
+            places: (0..heads.len()).map(place).collect(),
+            heads,
+            tree,
+        })
+    }
+}
+
+/// Its head stands behind the statement in it.
+const REPEAT: u8 = 23;
+
+fn put_heads(tree: &Tree, heads: &mut [String]) {
+    heads[tree.at] = match tree.node.kind {
+        REPEAT => format!("repeat {}", format::head(tree)),
+        _ => format::head(tree),
+    };
+    for part in &tree.parts {
+        put_heads(part, heads);
+    }
+}
+
+/// The line of a byte, counted from 1.
+fn line_of(text: &[u8], at: usize) -> usize {
+    1 + text[..at].iter().filter(|byte| **byte == b'\n').count()
+}
+
+/// What is said of each cell; nothing of those that every netlist has, but
+/// for memories, which have the names of their variables.
+pub fn of_cells(circuit: &Circuit, text: &[u8]) -> Result<Vec<Option<String>>, Fault> {
+    let mut notes = of_memories(&circuit.netlist);
+    if let Some((program, trace)) = &circuit.program {
+        let labels = Labels::of(program, text)?;
+        for (note, said) in notes.iter_mut().zip(of_origins(&labels, trace)) {
+            *note = note.take().or(said);
+        }
+    }
+    Ok(notes)
+}
+
+/// The names of the memories, at their cells.
+pub fn of_memories(netlist: &Netlist) -> Vec<Option<String>> {
+    let mut variables = 0..;
+    let name = |kind: u8| {
+        let variable = (kind == MEMORY).then(|| variables.next()).flatten();
+        variable.map(|k| format!("x{k}"))
+    };
+    netlist
+        .cells
+        .iter()
+        .map(|cell| cell.kind)
+        .map(name)
+        .collect()
+}
+
+fn of_origins(labels: &Labels, trace: &Trace) -> Vec<Option<String>> {
+    let said = |node: usize, role: &str| {
+        let (place, head) = (&labels.places[node], &labels.heads[node]);
+        match role {
+            "value" => format!("{place}, {head}"),
+            _ => format!("{place}, {head}: {role}"),
+        }
+    };
+    let origins = trace.origins.iter();
+    origins
+        .map(|origin| origin.node.map(|node| said(node, origin.role)))
+        .collect()
+}

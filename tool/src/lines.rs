@@ -1,0 +1,54 @@
+//! Texts that people write a line for each thing, lists of cells and outlines:
+//! what is wrong is told with its line.
+
+use crate::files;
+use crate::refusals::Report;
+use crate::types::{Fault, REFUSED};
+
+/// What is wrong with such a text: the line, counted from 1, and why.
+#[derive(Clone, Debug, PartialEq, Eq)]
+pub struct Wrong {
+    pub line: usize,
+    pub why: String,
+}
+
+impl Wrong {
+    pub fn new(line: usize, why: impl Into<String>) -> Wrong {
+        Wrong {
+            line,
+            why: why.into(),
+        }
+    }
+
+    pub fn fault(self, file: &str) -> Fault {
+        Fault {
+            exit: REFUSED,
+            message: format!("{}, line {}: {}", files::shown(file), self.line, self.why),
+        }
+    }
+}
+
+/// The text of a file, which must be one: letters, and no bytes of zero.
+pub fn read(name: &str) -> Result<String, Fault> {
+    let text = String::from_utf8(files::read(name)?).ok();
+    text.filter(|text| !text.contains('\0'))
+        .ok_or_else(|| Fault::usage(format!("{} is no text", files::shown(name))))
+}
+
+/// The words of a line before its comment.
+pub fn words(line: &str) -> Vec<&str> {
+    let said = line.split('#').next().unwrap_or_default();
+    said.split_whitespace().collect()
+}
+
+/// What is told of a refusal, with the line that its place is about.
+pub fn lined(report: Report, text: &str, line: Option<usize>) -> Report {
+    let said = line.and_then(|line| Some((line, text.lines().nth(line - 1)?)));
+    match said {
+        Some((line, words)) => Report {
+            found: Some(format!("line {line}: {}", words.trim())),
+            ..report
+        },
+        None => report,
+    }
+}

@@ -1,0 +1,231 @@
+//! A netlist as a list, a line for each cell, and back. A list that people
+//! write may name its cells; a number that is left out is an idle memory.
+
+use crate::kinds::{CELLS, IDLE};
+use crate::lines::{self, Wrong};
+use crate::template::{byte, word};
+use crate::types::{Cell, Netlist};
+use std::collections::{HashMap, HashSet};
+
+const MEMORIES: usize = 16;
+const MOST_CELLS: usize = 1_024;
+
+/// A netlist from a list, with the line of each cell.
+#[derive(Debug)]
+pub struct Listed {
+    pub netlist: Netlist,
+    /// For each cell its line; an idle memory that was left out has none.
+    pub lines: Vec<Option<usize>>,
+}
+
+/// A cell in words.
+pub fn words_of(cell: &Cell) -> String {
+    let field = |letter| match letter {
+        'k' => cell.kind.to_string(),
+        'd' => cell.delay.to_string(),
+        'a' | 'n' => cell.a.to_string(),
+        _ => cell.b.to_string(),
+    };
+    CELLS.write(cell.kind, field, |words| {
+        cell_by(words, |_| None) == Ok(*cell)
+    })
+}
+
+/// The list of a netlist. `note` is what is said of a cell, on its line.
+pub fn list(netlist: &Netlist, all: bool, note: impl Fn(usize) -> Option<String>) -> String {
+    let count = netlist.cells.len();
+    let mut lines = vec![format!("{count} cells, finish {}", netlist.finish)];
+    for (number, cell) in netlist.cells.iter().enumerate() {
+        if *cell == IDLE && !all {
+            continue;
+        }
+        let words = words_of(cell);
+        lines.push(match note(number) {
+            Some(note) => format!("{number:4}  {words:<28}  # {note}"),
+            None => format!("{number:4}  {words}"),
+        });
+    }
+    lines.join("\n") + "\n"
+}
+
+/// The netlist of a list.
+pub fn wired(text: &str) -> Result<Listed, Wrong> {
+    let entries = entries(text)?;
+    let header = header(&entries)?;
+    let placed = placed(&entries, header.count)?;
+    let names = Names::of(&placed)?;
+    let mut netlist = Netlist {
+        cells: Vec::new(),
+        finish: names
+            .number(header.finish)
+            .ok_or_else(|| Wrong::new(header.line, no_wire(header.finish)))?,
+    };
+    for entry in &placed {
+        netlist.cells.push(match entry {
+            Some(entry) => cell_by(&entry.words, |name| names.number(name))
+                .map_err(|why| Wrong::new(entry.line, why))?,
+            None => IDLE,
+        });
+    }
+    let lines = placed.iter().map(|e| e.map(|entry| entry.line)).collect();
+    Ok(Listed { netlist, lines })
+}
+
+/// A line of a list that isn't empty.
+struct Entry<'t> {
+    line: usize,
+    number: Option<usize>,
+    name: Option<&'t str>,
+    words: Vec<&'t str>,
+}
+
+fn entries(text: &str) -> Result<Vec<Entry<'_>>, Wrong> {
+    let mut entries = Vec::new();
+    for (at, line) in text.lines().enumerate() {
+        let mut words = lines::words(line);
+        let Some(&first) = words.first() else {
+            continue;
+        };
+        let number = first.trim_end_matches(':').parse().ok();
+        let name = first.strip_suffix(':').filter(|_| number.is_none());
+        let counts = words.get(1).is_some_and(|word| word.starts_with("cells"));
+        if (number.is_some() && !counts) || name.is_some() {
+            words.remove(0);
+        }
+        if words.is_empty() {
+            return Err(Wrong::new(at + 1, "a number or name with no cell after it"));
+        }
+        entries.push(Entry {
+            line: at + 1,
+            number: number.filter(|_| !counts),
+            name,
+            words,
+        });
+    }
+    Ok(entries)
+}
+
+struct Header<'t> {
+    line: usize,
+    count: Option<usize>,
+    finish: &'t str,
+}
+
+/// The one line that tells the finish, and how many cells there are.
+fn header<'t>(entries: &[Entry<'t>]) -> Result<Header<'t>, Wrong> {
+    let mut headers = entries.iter().filter(|entry| is_header(entry));
+    let Some(header) = headers.next() else {
+        let why = "no line says which cell is the finish; write: finish CELL";
+        return Err(Wrong::new(1, why));
+    };
+    if let Some(second) = headers.next() {
+        return Err(Wrong::new(second.line, "a second line about the finish"));
+    }
+    let count = match header.words[..] {
+        [count, "cells,", ..] => Some(count.parse().unwrap_or(usize::MAX)),
+        _ => None,
+    };
+    if count.is_some_and(|count| count > MOST_CELLS) {
+        return Err(Wrong::new(header.line, "a netlist has at most 1024 cells"));
+    }
+    Ok(Header {
+        line: header.line,
+        count,
+        finish: header.words.last().copied().unwrap_or_default(),
+    })
+}
+
+fn is_header(entry: &Entry) -> bool {
+    matches!(entry.words[..], [_, "cells,", "finish", _] | ["finish", _])
+}
+
+/// Each cell at its number; `None` is an idle memory.
+fn placed<'e, 't>(
+    entries: &'e [Entry<'t>],
+    count: Option<usize>,
+) -> Result<Vec<Option<&'e Entry<'t>>>, Wrong> {
+    let memories = entries.iter().filter(|e| e.words[0] == "memory").count();
+    let mut cells = Vec::new();
+    for entry in entries.iter().filter(|entry| !is_header(entry)) {
+        let number = entry.number.unwrap_or(cells.len());
+        if number < cells.len() || number >= MOST_CELLS {
+            let why = format!("cell {number} stands after cell {}", cells.len() as i64 - 1);
+            return Err(Wrong::new(entry.line, why));
+        }
+        cells.resize(number, None);
+        match entry.words[..] {
+            ["idle", "memories"] => {
+                cells.resize(number + MEMORIES.saturating_sub(memories), None);
+            }
+            _ => cells.push(Some(entry)),
+        }
+    }
+    let count = count.unwrap_or(cells.len()).max(cells.len());
+    cells.resize(count, None);
+    Ok(cells)
+}
+
+/// The numbers of names: those that the list gives, `start`, `ground` and the
+/// memories' own, `x0` to `x15`.
+struct Names {
+    numbers: HashMap<String, u16>,
+}
+
+impl Names {
+    fn of(placed: &[Option<&Entry>]) -> Result<Names, Wrong> {
+        let mut numbers = HashMap::from([("start".to_string(), 0), ("ground".to_string(), 1)]);
+        let memory = |e: &Option<&Entry>| e.is_none_or(|entry| entry.words[0] == "memory");
+        let memories = (0u16..).zip(placed).filter(|(_, entry)| memory(entry));
+        for (variable, (number, _)) in memories.enumerate() {
+            numbers.insert(format!("x{variable}"), number);
+        }
+        let mut given = HashSet::new();
+        for (number, entry) in (0u16..).zip(placed) {
+            let Some((entry, name)) = entry.and_then(|entry| Some((entry, entry.name?))) else {
+                continue;
+            };
+            if !given.insert(name) {
+                let why = format!("a second cell is called {name}");
+                return Err(Wrong::new(entry.line, why));
+            }
+            numbers.insert(name.to_string(), number);
+        }
+        Ok(Names { numbers })
+    }
+
+    fn number(&self, name: &str) -> Option<u16> {
+        name.parse()
+            .ok()
+            .or_else(|| self.numbers.get(name).copied())
+    }
+}
+
+/// The cell that words stand for, names among them.
+fn cell_by(words: &[&str], number: impl Fn(&str) -> Option<u16>) -> Result<Cell, String> {
+    let (kind, fields) = CELLS.read(words)?;
+    let mut cell = Cell {
+        kind,
+        delay: 0,
+        a: 0,
+        b: 0,
+    };
+    let wire = |name: &str| match name.parse() {
+        Ok(wire) => Ok(wire),
+        Err(_) => number(name).ok_or_else(|| no_wire(name)),
+    };
+    for (letter, value) in fields {
+        match letter {
+            'k' => cell.kind = byte(value)?,
+            'd' => cell.delay = byte(value)?,
+            'n' => cell.a = word(value)?,
+            'm' => cell.b = word(value)?,
+            'a' => cell.a = wire(value)?,
+            _ => cell.b = wire(value)?,
+        }
+    }
+    Ok(cell)
+}
+
+fn no_wire(name: &str) -> String {
+    format!("no cell is called '{name}'; a wire is a cell's number, its name, start, ground or x0 to x15")
+}

@@ -1,0 +1,223 @@
+//! The layout of a program's cells, with the node and the role of each.
+
+use super::{subtree_end, Ends, Trace};
+use crate::types::{Cell, Netlist, Node, Origin};
+
+/// For each variable, the wires that its assignments contribute, with the
+/// assignment.
+type Contributions = [Vec<(u16, usize)>; 16];
+
+/// The netlist of an accepted program's nodes, and where its cells come from.
+pub fn lay_out(nodes: &[Node]) -> (Netlist, Trace) {
+    let mut walk = Walk::new(nodes);
+    walk.put(Cell::new(32, 0, 0, 0), None, "start");
+    walk.put(Cell::new(33, 0, 0, 0), None, "ground");
+    walk.put(Cell::new(1, 0, 0, 0), None, "zero");
+    let clocks = walk.delays();
+    let clocks = walk.joined(35, &clocks, 1, "clock");
+    walk.first_memory = walk.cells.len() as u16;
+    for clock in clocks {
+        walk.put(Cell::new(40, 0, clock, 0), None, "memory");
+    }
+    walk.next_delay = 3;
+    let finish = walk.statement(0, 0);
+    let gates = std::mem::take(&mut walk.gates);
+    let data = walk.joined(7, &gates, 2, "data");
+    for (memory, data) in (usize::from(walk.first_memory)..).zip(data) {
+        walk.cells[memory].b = data;
+    }
+    walk.found(finish)
+}
+
+struct Walk<'a> {
+    nodes: &'a [Node],
+    cells: Vec<Cell>,
+    origins: Vec<Origin>,
+    ends: Vec<Option<Ends>>,
+    values: Vec<Option<u16>>,
+    gates: Contributions,
+    first_memory: u16,
+    /// The delay cell of the next statement that has one: they were put in
+    /// node order, and the walk comes to each when it is next.
+    next_delay: u16,
+}
+
+impl<'a> Walk<'a> {
+    fn new(nodes: &'a [Node]) -> Walk<'a> {
+        Walk {
+            nodes,
+            cells: Vec::new(),
+            origins: Vec::new(),
+            ends: vec![None; nodes.len()],
+            values: vec![None; nodes.len()],
+            gates: Contributions::default(),
+            first_memory: 0,
+            next_delay: 0,
+        }
+    }
+
+    fn found(self, finish: u16) -> (Netlist, Trace) {
+        let netlist = Netlist {
+            cells: self.cells,
+            finish,
+        };
+        let trace = Trace {
+            origins: self.origins,
+            ends: self.ends,
+            values: self.values,
+            first_memory: self.first_memory,
+        };
+        (netlist, trace)
+    }
+
+    fn put(&mut self, cell: Cell, node: Option<usize>, role: &'static str) -> u16 {
+        self.cells.push(cell);
+        self.origins.push(Origin { node, role });
+        (self.cells.len() - 1) as u16
+    }
+
+    /// A cell of a node, without a delay.
+    fn cell(&mut self, kind: u8, [a, b]: [u16; 2], node: usize, role: &'static str) -> u16 {
+        self.put(Cell::new(kind, 0, a, b), Some(node), role)
+    }
+
+    /// The delay cells in node order; gives the first delays of assignments.
+    fn delays(&mut self) -> Contributions {
+        let mut clocks = Contributions::default();
+        for (k, node) in self.nodes.iter().enumerate() {
+            if node.delay == 0 {
+                continue;
+            }
+            let first = self.put(Cell::new(34, node.delay, 0, 0), Some(k), "delay");
+            if node.kind == 18 {
+                self.put(Cell::new(34, 1, first, 0), Some(k), "finish");
+                clocks[usize::from(node.n)].push((first, k));
+            }
+        }
+        clocks
+    }
+
+    /// The wire that joins each variable's wires; `none` where there are none.
+    fn joined(
+        &mut self,
+        or: u8,
+        contributions: &Contributions,
+        none: u16,
+        role: &'static str,
+    ) -> [u16; 16] {
+        std::array::from_fn(|variable| {
+            let mut so_far = None;
+            for (wire, node) in &contributions[variable] {
+                so_far = Some(match so_far {
+                    None => *wire,
+                    Some(before) => self.cell(or, [before, *wire], *node, role),
+                });
+            }
+            so_far.unwrap_or(none)
+        })
+    }
+
+    fn take_delay(&mut self) -> u16 {
+        self.next_delay += 1;
+        self.next_delay - 1
+    }
+
+    /// The delay cell of a node that is fed by its start.
+    fn delayed(&mut self, start: u16) -> u16 {
+        let delay = self.take_delay();
+        self.feed(delay, start);
+        delay
+    }
+
+    fn feed(&mut self, delay: u16, from: u16) {
+        self.cells[usize::from(delay)].a = from;
+    }
+
+    /// The wire of an expression.
+    fn expression(&mut self, at: usize) -> u16 {
+        let Node { kind, n, .. } = self.nodes[at];
+        let wire = match kind {
+            1 => self.cell(1, [n, 0], at, "value"),
+            2 => self.first_memory + n,
+            3 => {
+                let a = self.expression(at + 1);
+                self.cell(3, [a, 0], at, "value")
+            }
+            _ => {
+                let a = self.expression(at + 1);
+                let b = self.expression(subtree_end(self.nodes, at + 1));
+                self.cell(kind, [a, b], at, "value")
+            }
+        };
+        self.values[at] = Some(wire);
+        wire
+    }
+
+    /// The finish wire of a statement with this start wire.
+    fn statement(&mut self, at: usize, start: u16) -> u16 {
+        let finish = match self.nodes[at].kind {
+            16 => start,
+            17 => self.delayed(start),
+            18 => self.assignment(at, start),
+            19 => {
+                let middle = self.statement(at + 1, start);
+                self.statement(subtree_end(self.nodes, at + 1), middle)
+            }
+            20 => {
+                let p = self.statement(at + 1, start);
+                let q = self.statement(subtree_end(self.nodes, at + 1), start);
+                self.cell(38, [p, q], at, "finish")
+            }
+            21 => self.choice(at, start),
+            22 => self.while_loop(at, start),
+            _ => self.repeat_loop(at, start),
+        };
+        self.ends[at] = Some(Ends { start, finish });
+        finish
+    }
+
+    fn assignment(&mut self, at: usize, start: u16) -> u16 {
+        let first = self.delayed(start);
+        let second = self.take_delay();
+        let value = self.expression(at + 1);
+        let gate = self.cell(41, [first, value], at, "gate");
+        self.gates[usize::from(self.nodes[at].n)].push((gate, at));
+        second
+    }
+
+    fn choice(&mut self, at: usize, start: u16) -> u16 {
+        let pulse = match self.nodes[at].delay {
+            0 => start,
+            _ => self.delayed(start),
+        };
+        let condition = self.expression(at + 1);
+        let p_start = self.cell(36, [pulse, condition], at, "then");
+        let q_start = self.cell(37, [pulse, condition], at, "else");
+        let p = subtree_end(self.nodes, at + 1);
+        let p_finish = self.statement(p, p_start);
+        let q_finish = self.statement(subtree_end(self.nodes, p), q_start);
+        self.cell(35, [p_finish, q_finish], at, "finish")
+    }
+
+    fn while_loop(&mut self, at: usize, start: u16) -> u16 {
+        let delay = self.take_delay();
+        let condition = self.expression(at + 1);
+        let p_start = self.cell(36, [delay, condition], at, "body");
+        let finish = self.cell(37, [delay, condition], at, "finish");
+        let p_finish = self.statement(subtree_end(self.nodes, at + 1), p_start);
+        let test = self.cell(35, [start, p_finish], at, "test");
+        self.feed(delay, test);
+        finish
+    }
+
+    fn repeat_loop(&mut self, at: usize, start: u16) -> u16 {
+        let delay = self.take_delay();
+        let condition = self.expression(at + 1);
+        let finish = self.cell(36, [delay, condition], at, "finish");
+        let again = self.cell(37, [delay, condition], at, "again");
+        let p_start = self.cell(35, [start, again], at, "body");
+        let p_finish = self.statement(subtree_end(self.nodes, at + 1), p_start);
+        self.feed(delay, p_finish);
+        finish
+    }
+}

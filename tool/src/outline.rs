@@ -1,0 +1,59 @@
+//! A program's nodes as an outline: a line for each, indented below its parent.
+//! Every kind has words, also in a program that the product refuses.
+
+use crate::kinds::NODES;
+use crate::origin::children;
+use crate::template::{byte, word};
+use crate::types::Node;
+
+/// The outline of nodes in preorder.
+pub fn outline(nodes: &[Node]) -> String {
+    let mut owed: Vec<usize> = Vec::new();
+    let mut lines = String::new();
+    for node in nodes {
+        lines += &"  ".repeat(owed.len());
+        lines += &words_of(node);
+        lines.push('\n');
+        owed.push(children(node.kind));
+        close(&mut owed);
+    }
+    lines
+}
+
+/// Leaves the nodes that have all their children.
+fn close(owed: &mut Vec<usize>) {
+    while owed.last() == Some(&0) {
+        owed.pop();
+        if let Some(parent) = owed.last_mut() {
+            *parent -= 1;
+        }
+    }
+}
+
+/// A node in words.
+pub fn words_of(node: &Node) -> String {
+    let field = |letter| match letter {
+        'k' => node.kind.to_string(),
+        'd' => node.delay.to_string(),
+        _ => node.n.to_string(),
+    };
+    NODES.write(node.kind, field, |words| node_of(words) == Ok(*node))
+}
+
+/// The node that words stand for.
+pub fn node_of(words: &[&str]) -> Result<Node, String> {
+    let (kind, fields) = NODES.read(words)?;
+    let mut node = Node {
+        kind,
+        delay: 0,
+        n: 0,
+    };
+    for (letter, value) in fields {
+        match letter {
+            'k' => node.kind = byte(value)?,
+            'd' => node.delay = byte(value)?,
+            _ => node.n = word(value)?,
+        }
+    }
+    Ok(node)
+}

@@ -1,0 +1,123 @@
+//! The product's calls, with buffers of the size that each result needs.
+
+use crate::types::{Answer, Cell, End, Netlist, Node, Refusal, Table, Words};
+use bindings::{calls, cell_calls};
+
+/// The most bytes that a program, a netlist file and a netlist's cells have.
+const PROGRAM: usize = 800;
+const FILE: usize = 6_656;
+const CELLS: usize = 1_024;
+
+/// Checks a program.
+pub fn check(table: Table, program: &[u8]) -> Result<(), Refusal> {
+    calls::check(table, program)
+}
+
+/// The bytes of an accepted text's program.
+pub fn read_text(table: Table, text: &[u8]) -> Result<Vec<u8>, Refusal> {
+    let mut program = vec![0; PROGRAM];
+    let length = calls::read_text(table, text, &mut program)?;
+    program.truncate(length);
+    Ok(program)
+}
+
+/// The netlist file of a program.
+pub fn compile(table: Table, program: &[u8]) -> Result<Vec<u8>, Refusal> {
+    let mut file = vec![0; FILE];
+    let shape = calls::compile(table, program, &mut file)?;
+    file.truncate(file_length(shape.cells));
+    Ok(file)
+}
+
+/// The netlist in a file.
+pub fn read_netlist(file: &[u8]) -> Result<Netlist, Refusal> {
+    let mut cells = vec![Cell::new(0, 0, 0, 0); CELLS];
+    let shape = cell_calls::read(file, 0, &mut cells)?;
+    cells.truncate(usize::from(shape.cells));
+    let finish = shape.finish;
+    Ok(Netlist { cells, finish })
+}
+
+/// Checks a netlist.
+pub fn check_netlist(netlist: &Netlist) -> Result<(), Refusal> {
+    cell_calls::check(&netlist.cells, netlist.finish)
+}
+
+/// The file of a netlist.
+pub fn write_netlist(netlist: &Netlist) -> Result<Vec<u8>, Refusal> {
+    let mut file = vec![0; FILE];
+    let shape = cell_calls::write(&netlist.cells, netlist.finish, &mut file)?;
+    file.truncate(file_length(shape.cells));
+    Ok(file)
+}
+
+/// Begins a run of a netlist file: its state at instant 0.
+pub fn begin(file: &[u8], words: &Words) -> Result<(Vec<u8>, Answer), Refusal> {
+    let mut state = vec![0; state_length(CELLS)];
+    let answer = calls::begin(file, &word_bytes(words), &mut state)?;
+    state.truncate(state_length(read_netlist(file)?.cells.len()));
+    Ok((state, answer))
+}
+
+/// Continues a run by at most `n` instants.
+pub fn go(file: &[u8], state: &mut [u8], n: u32) -> Result<Answer, Refusal> {
+    calls::continue_by(file, state, n)
+}
+
+/// A full run of a netlist file.
+pub fn run_netlist(file: &[u8], words: &Words, budget: u32) -> Result<Answer, Refusal> {
+    let mut state = vec![0; state_length(CELLS)];
+    calls::run_netlist(file, &word_bytes(words), budget, &mut state)
+}
+
+/// Whether a netlist file may be run with this budget. A full run looks at the
+/// budget before it looks at the room for its state, and here there is none.
+pub fn check_budget(file: &[u8], budget: u32) -> Result<(), Refusal> {
+    match calls::run_netlist(file, &word_bytes(&[0; 16]), budget, &mut []) {
+        Err(refusal) if refusal.number != 14 => Err(refusal),
+        _ => Ok(()),
+    }
+}
+
+/// The end of a program by its own rules, if within the budget.
+pub fn reference(
+    table: Table,
+    program: &[u8],
+    words: &Words,
+    budget: u32,
+) -> Result<Option<End>, Refusal> {
+    calls::reference_run(table, program, &word_bytes(words), budget)
+}
+
+/// The nodes that stand in a program's bytes, four for each.
+pub fn nodes(program: &[u8]) -> Vec<Node> {
+    let node = |bytes: &[u8]| Node {
+        kind: bytes[0],
+        delay: bytes[1],
+        n: u16::from_le_bytes([bytes[2], bytes[3]]),
+    };
+    program.chunks_exact(4).map(node).collect()
+}
+
+/// The bytes of a program's nodes.
+pub fn program_bytes(nodes: &[Node]) -> Vec<u8> {
+    let bytes = |node: &Node| {
+        let [low, high] = node.n.to_le_bytes();
+        [node.kind, node.delay, low, high]
+    };
+    nodes.iter().flat_map(bytes).collect()
+}
+
+fn word_bytes(words: &Words) -> Vec<u8> {
+    words.iter().flat_map(|word| word.to_le_bytes()).collect()
+}
+
+/// The bytes of a netlist file with so many cells.
+fn file_length(cells: u16) -> usize {
+    512 * usize::from(cells).div_ceil(84)
+}
+
+/// The bytes of a state of so many cells.
+fn state_length(cells: usize) -> usize {
+    8 + 40 * cells
+}

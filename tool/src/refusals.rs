@@ -1,0 +1,126 @@
+//! What is told of a refusal: the place, the rule in plain words, what to do.
+
+mod asking;
+mod marks;
+mod netlists;
+mod programs;
+mod rules;
+mod texts;
+
+pub use asking::{has_delay, least_delay};
+pub use marks::Mark;
+pub use netlists::of_wired;
+pub use rules::{rule, Counts, Rule, RULES};
+
+use crate::input::{Form, Given};
+use crate::json::Json;
+use crate::types::{Fault, Refusal};
+
+#[derive(Clone, Debug)]
+pub struct Report {
+    pub refusal: Refusal,
+    /// The file, or the option, that is refused.
+    pub file: String,
+    pub rule: String,
+    pub remedy: String,
+    /// Places in the text, the refusal's own first.
+    pub marks: Vec<Mark>,
+    /// What stands at the place, where it is in no text.
+    pub found: Option<String>,
+    /// For 7 the least delay.
+    pub least: Option<u8>,
+    /// For 8 the variable, and the nodes that use it, one on each side.
+    pub variable: Option<u16>,
+    pub uses: Option<[usize; 2]>,
+}
+
+/// The report of a refusal of which nothing but its number is known.
+pub fn plain(file: &str, refusal: Refusal) -> Report {
+    let rule = rule(refusal.number);
+    Report {
+        refusal,
+        file: file.to_string(),
+        rule: rule
+            .map_or("a rule that the tool doesn't know", |rule| rule.broken)
+            .to_string(),
+        remedy: rule
+            .map_or("ask the makers", |rule| rule.remedy)
+            .to_string(),
+        marks: Vec::new(),
+        found: None,
+        least: None,
+        variable: None,
+        uses: None,
+    }
+}
+
+/// The report of a refusal that a text, a program or a netlist met.
+pub fn report(given: &Given, refusal: Refusal) -> Result<Report, Fault> {
+    let report = plain(&given.name, refusal);
+    Ok(match (refusal.number, given.form) {
+        (19..=21, _) => match &given.times {
+            Some((name, bytes)) => of_times(name, bytes, refusal),
+            None => report,
+        },
+        (13..=16, _) => report,
+        (9..=12, _) => netlists::of_file(report, &given.bytes),
+        (17, _) => texts::of_word(report, &given.bytes),
+        (18, _) => texts::of_grammar(report, given),
+        (_, Form::Text) => programs::of_text(report, given)?,
+        _ => programs::of_bytes(report, given),
+    })
+}
+
+/// The report of a refusal that a table of operator times met.
+pub fn of_times(name: &str, bytes: &[u8], refusal: Refusal) -> Report {
+    let Refusal { number, place } = refusal;
+    let byte = bytes.get(place);
+    Report {
+        found: match number {
+            19 => Some(format!("{} bytes", bytes.len())),
+            21 => byte.map(|byte| format!("byte {place} is {byte}")),
+            _ => None,
+        },
+        ..plain(name, refusal)
+    }
+}
+
+impl Report {
+    /// As it is told to a reader.
+    pub fn text(&self) -> String {
+        let Refusal { number, .. } = self.refusal;
+        let place = match self.marks.first() {
+            Some(mark) => format!("{}:{}:{}", self.file, mark.line, mark.column),
+            None => self.file.clone(),
+        };
+        let mut text = format!("{place}: refused {number}: {}\n", self.rule);
+        for (k, mark) in self.marks.iter().enumerate() {
+            text += &mark.lines(k.checked_sub(1).map(|before| &self.marks[before]));
+        }
+        if let Some(found) = &self.found {
+            text += &format!("  found: {found}\n");
+        }
+        text + &format!("  to do: {}\n", self.remedy)
+    }
+
+    pub fn json(&self) -> Json {
+        let counts = rule(self.refusal.number).and_then(|rule| rule.counts.name());
+        Json::Object(vec![
+            ("outcome", Json::text("refused")),
+            ("number", Json::number(self.refusal.number)),
+            ("place", Json::number(self.refusal.place)),
+            ("counts", Json::maybe(counts, Json::text)),
+            ("file", Json::text(&self.file)),
+            ("rule", Json::text(&self.rule)),
+            ("remedy", Json::text(&self.remedy)),
+            ("found", Json::maybe(self.found.clone(), Json::Text)),
+            ("marks", Json::list(&self.marks, Mark::json)),
+            ("least", Json::maybe(self.least, Json::number)),
+            ("variable", Json::maybe(self.variable, Json::number)),
+            (
+                "uses",
+                Json::maybe(self.uses, |uses| Json::list(uses, Json::number)),
+            ),
+        ])
+    }
+}

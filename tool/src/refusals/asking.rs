@@ -1,0 +1,151 @@
+//! What a refusal leaves to be found out, by asking the product about programs,
+//! texts and netlists that differ a little from the refused one.
+
+use crate::origin::subtree_end;
+use crate::product;
+use crate::types::{Cell, Netlist, Node, Refusal, Table};
+
+/// The least delay of a node whose program has no other delay that is too
+/// small before it; none where 255 is too small.
+pub fn least_delay(table: Table, nodes: &[Node], node: usize) -> Option<u8> {
+    let too_small = |delay: &u8| {
+        let mut nodes = nodes.to_vec();
+        nodes[node].delay = *delay;
+        asked(table, &nodes) == Err(Refusal::new(7, node))
+    };
+    let delays: Vec<u8> = (0..=255).collect();
+    delays.get(delays.partition_point(too_small)).copied()
+}
+
+/// Whether a node of an accepted program has a use for its delay.
+pub fn has_delay(table: Table, nodes: &[Node], node: usize) -> bool {
+    let mut nodes = nodes.to_vec();
+    nodes[node].delay = 255;
+    asked(table, &nodes) != Err(Refusal::new(3, node))
+}
+
+/// The first uses, one on each side, for which a parallel node is refused. The
+/// product is asked about the parallel node with these two uses alone: other
+/// reads become constants, and other writes go to variables of each side's own.
+pub fn clash(table: Table, nodes: &[Node], parallel: usize) -> Option<[usize; 2]> {
+    let middle = subtree_end(nodes, parallel + 1);
+    let end = subtree_end(nodes, middle);
+    let uses = |from: usize, to: usize| (from..to).filter(|k| matches!(nodes[*k].kind, 2 | 18));
+    for left in uses(parallel + 1, middle) {
+        for right in uses(middle, end) {
+            let alone = with_uses(&nodes[..end], parallel, middle, [left, right]);
+            if asked(table, &alone) == Err(Refusal::new(8, 0)) {
+                return Some([left, right]);
+            }
+        }
+    }
+    None
+}
+
+/// A parallel node as a program, with two uses of variables as they are.
+fn with_uses(nodes: &[Node], parallel: usize, middle: usize, kept: [usize; 2]) -> Vec<Node> {
+    let taken = kept.map(|k| nodes[k].n);
+    let mut free = (0..16).filter(|variable| !taken.contains(variable));
+    let [left, right] = [free.next(), free.next()].map(|variable| variable.unwrap_or(0));
+    let changed = |(k, node): (usize, &Node)| match node.kind {
+        2 if !kept.contains(&k) => Node {
+            kind: 1,
+            delay: 0,
+            n: 0,
+        },
+        18 if !kept.contains(&k) => Node {
+            n: if k < middle { left } else { right },
+            ..*node
+        },
+        _ => *node,
+    };
+    nodes
+        .iter()
+        .enumerate()
+        .skip(parallel)
+        .map(changed)
+        .collect()
+}
+
+fn asked(table: Table, nodes: &[Node]) -> Result<(), Refusal> {
+    product::check(table, &product::program_bytes(nodes))
+}
+
+/// Whether the finish is all that a refused netlist has wrong: with the start
+/// as its finish it is accepted.
+pub fn finish_alone(netlist: &Netlist) -> bool {
+    let started = Netlist {
+        cells: netlist.cells.clone(),
+        finish: 0,
+    };
+    product::check_netlist(&started).is_ok()
+}
+
+/// The field of a refused cell that some other value would do for.
+pub fn wrong_field(netlist: &Netlist, place: usize) -> Option<&'static str> {
+    let fits = |change: &dyn Fn(&mut Cell)| {
+        let mut changed = netlist.clone();
+        change(&mut changed.cells[place]);
+        product::check_netlist(&changed) != Err(Refusal::new(12, place))
+    };
+    let wires = 0..netlist.cells.len() as u16;
+    if (0..=255).any(|delay| fits(&|cell| cell.delay = delay)) {
+        Some("delay")
+    } else if wires.clone().any(|a| fits(&|cell| cell.a = a)) {
+        Some("a")
+    } else if wires.clone().any(|b| fits(&|cell| cell.b = b)) {
+        Some("b")
+    } else if (0..=255).any(|kind| fits(&|cell| cell.kind = kind)) {
+        Some("kind")
+    } else {
+        None
+    }
+}
+
+/// What may stand in a text: words, with an example of each.
+const WORDS: &[(&str, &str)] = &[
+    ("ok", "ok"),
+    ("tick", "tick"),
+    ("if", "if"),
+    ("then", "then"),
+    ("else", "else"),
+    ("while", "while"),
+    ("do", "do"),
+    ("repeat", "repeat"),
+    ("until", "until"),
+    ("end", "end"),
+    ("x0", "a variable"),
+    ("0", "a number"),
+    (":=", ":="),
+    ("@", "@"),
+    (";", ";"),
+    ("||", "||"),
+    ("{", "{"),
+    ("}", "}"),
+    ("(", "("),
+    (")", ")"),
+    ("!", "!"),
+    ("+", "+"),
+    ("-", "-"),
+    ("=", "="),
+    ("<", "<"),
+    ("&", "&"),
+    ("|", "|"),
+];
+
+/// The words with which the beginning of a text can go on.
+pub fn words_that_fit(table: Table, begun: &[u8]) -> Vec<&'static str> {
+    let fits = |word: &str| {
+        let text = [begun, b" ", word.as_bytes()].concat();
+        let broken = Refusal::new(18, begun.len() + 1);
+        let met = product::read_text(table, &text).err();
+        met.is_none_or(|met| met != broken && met.number != 17)
+    };
+    let words = WORDS.iter().filter(|(word, _)| fits(word));
+    let mut named: Vec<&str> = words.map(|(_, name)| *name).collect();
+    let whole = Err(Refusal::new(18, begun.len()));
+    if product::read_text(table, begun) != whole {
+        named.push("the end of the text");
+    }
+    named
+}

@@ -1,0 +1,178 @@
+//! The refusals that the product has: the rule that is broken, in plain words,
+//! what to do, and what the place counts.
+
+/// What a refusal's place counts.
+#[derive(Clone, Copy, Debug, PartialEq, Eq)]
+pub enum Counts {
+    Nothing,
+    Nodes,
+    Blocks,
+    Cells,
+    Bytes,
+}
+
+impl Counts {
+    pub fn name(self) -> Option<&'static str> {
+        match self {
+            Counts::Nothing => None,
+            Counts::Nodes => Some("nodes"),
+            Counts::Blocks => Some("blocks"),
+            Counts::Cells => Some("cells"),
+            Counts::Bytes => Some("bytes"),
+        }
+    }
+}
+
+#[derive(Clone, Copy, Debug, PartialEq, Eq)]
+pub struct Rule {
+    pub number: u8,
+    pub broken: &'static str,
+    pub remedy: &'static str,
+    pub counts: Counts,
+}
+
+/// The rule of a refusal.
+pub fn rule(number: u8) -> Option<&'static Rule> {
+    RULES.iter().find(|rule| rule.number == number)
+}
+
+const fn rule_of(number: u8, counts: Counts, broken: &'static str, remedy: &'static str) -> Rule {
+    Rule {
+        number,
+        broken,
+        remedy,
+        counts,
+    }
+}
+
+pub const RULES: &[Rule] = &[
+    rule_of(
+        1,
+        Counts::Nothing,
+        "a program has 1 to 200 nodes of four bytes each",
+        "make the program shorter, or give the file of whole nodes that it is",
+    ),
+    rule_of(
+        2,
+        Counts::Nodes,
+        "this node has a kind that no node has",
+        "use a kind from 1 to 9 or from 16 to 23",
+    ),
+    rule_of(
+        3,
+        Counts::Nodes,
+        "this node has a delay or a number that its kind has no use for",
+        "set that field to 0",
+    ),
+    rule_of(
+        4,
+        Counts::Nodes,
+        "this node names a variable above x15",
+        "use x0 to x15",
+    ),
+    rule_of(
+        5,
+        Counts::Nodes,
+        "a statement stands here where an expression belongs, or the reverse",
+        "put each node's children after it, in their order",
+    ),
+    rule_of(
+        6,
+        Counts::Nodes,
+        "the nodes run out before the program is whole, or some are left after it",
+        "put each node's children after it, and nothing after the program",
+    ),
+    rule_of(
+        7,
+        Counts::Nodes,
+        "this delay is too small for what has to settle in it",
+        "give a bigger delay",
+    ),
+    rule_of(
+        8,
+        Counts::Nodes,
+        "the two sides of a parallel statement share a variable that one of them writes",
+        "use another variable on one side, or put the sides one after the other with ';'",
+    ),
+    rule_of(
+        9,
+        Counts::Nothing,
+        "a netlist file has 1 to 13 blocks of 512 bytes each",
+        "give a netlist file as 'hub compile' or 'hub wire' writes it",
+    ),
+    rule_of(
+        10,
+        Counts::Blocks,
+        "this block's check is wrong: its words don't sum to 0, so that its bytes have changed",
+        "make the file again, from the program or the list",
+    ),
+    rule_of(
+        11,
+        Counts::Blocks,
+        "this block's header is wrong, or a byte without a use isn't zero; \
+         a netlist has 19 to 1,024 cells, and the finish is one of them",
+        "make the file again, from the program or the list",
+    ),
+    rule_of(
+        12,
+        Counts::Cells,
+        "this cell breaks a rule of netlists",
+        "rewire it",
+    ),
+    rule_of(
+        13,
+        Counts::Nothing,
+        "the budget of a run is at most 1,000,000 instants",
+        "give a smaller --budget",
+    ),
+    rule_of(
+        14,
+        Counts::Nothing,
+        "this state is shorter than a state of the netlist is",
+        "give the state that 'hub begin' or 'hub go' wrote for this netlist",
+    ),
+    rule_of(
+        15,
+        Counts::Nothing,
+        "no run of the netlist could leave this state: \
+         a control wire is neither 0 nor 1, or bits are set where the cell holds none",
+        "give the state that 'hub begin' or 'hub go' wrote for this netlist",
+    ),
+    rule_of(
+        16,
+        Counts::Nothing,
+        "the run would come to an instant above 1,000,000",
+        "go on by fewer instants, or begin again from the present words",
+    ),
+    rule_of(
+        17,
+        Counts::Bytes,
+        "this is no word of the language",
+        "use the words and signs of the language",
+    ),
+    rule_of(
+        18,
+        Counts::Bytes,
+        "the text can't go on like this",
+        "change this word, or what stands before it",
+    ),
+    rule_of(
+        19,
+        Counts::Nothing,
+        "a table of operator times has 512 bytes",
+        "give a table as 'hub times' writes it",
+    ),
+    rule_of(
+        20,
+        Counts::Nothing,
+        "the table's check is wrong: its words don't sum to 0, so that its bytes have changed",
+        "make the table again with 'hub times'",
+    ),
+    rule_of(
+        21,
+        Counts::Bytes,
+        "this byte of the table is wrong: constants and variables take 0, operators 1 to 200, \
+         and all other bytes are fixed",
+        "make the table again with 'hub times'",
+    ),
+];

@@ -1,0 +1,136 @@
+//! The wires that are shown: those that have names in every circuit, those of
+//! a program's statements, and those that were asked for.
+
+use super::Wire;
+use crate::input::Circuit;
+use crate::kinds::{is_control, IDLE, NODES};
+use crate::labels::{self, Labels};
+use crate::types::{Fault, Netlist};
+
+/// The wires asked for, or else those that have a name: all, or all but memories
+/// that nothing writes to.
+pub fn wires(
+    circuit: &Circuit,
+    text: &[u8],
+    asked: Option<&str>,
+    all: bool,
+) -> Result<Vec<Wire>, Fault> {
+    let mut named = of_every(&circuit.netlist);
+    named.extend(of_statements(circuit, text)?);
+    match asked {
+        None => Ok(named
+            .into_iter()
+            .filter(|wire| all || moves(circuit, wire))
+            .collect()),
+        Some(asked) => {
+            let wires = asked
+                .split(',')
+                .map(|word| chosen(&named, &circuit.netlist, word));
+            wires.collect()
+        }
+    }
+}
+
+/// Whether a wire is more than an idle memory.
+fn moves(circuit: &Circuit, wire: &Wire) -> bool {
+    circuit.netlist.cells[usize::from(wire.cell)] != IDLE
+}
+
+/// Start, finish and the memories.
+fn of_every(netlist: &Netlist) -> Vec<Wire> {
+    let mut wires = vec![
+        wire(netlist, "start".to_string(), 0),
+        wire(netlist, "finish".to_string(), netlist.finish),
+    ];
+    let memories = (0..).zip(labels::of_memories(netlist));
+    wires.extend(memories.filter_map(|(cell, name)| Some(wire(netlist, name?, cell))));
+    wires
+}
+
+/// Start and finish of each statement that is more than a sequence.
+fn of_statements(circuit: &Circuit, text: &[u8]) -> Result<Vec<Wire>, Fault> {
+    let Some((program, trace)) = &circuit.program else {
+        return Ok(Vec::new());
+    };
+    let labels = Labels::of(program, text)?;
+    let mut wires = Vec::new();
+    for (node, ends) in trace.ends.iter().enumerate() {
+        let kind = program.nodes[node].kind;
+        let (Some(ends), false) = (ends, kind == SEQUENCE) else {
+            continue;
+        };
+        for (end, cell) in [("start", ends.start), ("finish", ends.finish)] {
+            let name = format!("{}{node}.{end}", word_of(kind));
+            let about = format!("{}, {}", labels.places[node], labels.heads[node]);
+            wires.push(Wire {
+                about,
+                ..wire(&circuit.netlist, name, cell)
+            });
+        }
+    }
+    Ok(wires)
+}
+
+const SEQUENCE: u8 = 19;
+
+/// The word for a kind of node.
+fn word_of(kind: u8) -> &'static str {
+    let own = NODES.kinds.iter().find(|template| template.kind == kind);
+    own.and_then(|template| template.words.split(' ').next())
+        .unwrap_or("node")
+}
+
+fn wire(netlist: &Netlist, name: String, cell: u16) -> Wire {
+    Wire {
+        name,
+        about: String::new(),
+        cell,
+        control: is_control(netlist.cells[usize::from(cell)].kind),
+    }
+}
+
+/// A wire by its name or its cell, also under a name of its own: NAME=WIRE.
+fn chosen(named: &[Wire], netlist: &Netlist, word: &str) -> Result<Wire, Fault> {
+    let (own, wire) = match word.split_once('=') {
+        Some((own, wire)) => (Some(name_of(own)?), wire),
+        None => (None, word),
+    };
+    let found = match named.iter().find(|known| known.name == wire) {
+        Some(known) => known.clone(),
+        None => of_cell(netlist, wire).ok_or_else(|| unknown(named, wire))?,
+    };
+    Ok(match own {
+        Some(name) => Wire {
+            name,
+            about: String::new(),
+            ..found
+        },
+        None => found,
+    })
+}
+
+/// A name that a dump can have, too.
+fn name_of(word: &str) -> Result<String, Fault> {
+    let fits = |letter: char| letter.is_ascii_alphanumeric() || "_.".contains(letter);
+    match !word.is_empty() && word.chars().all(fits) {
+        true => Ok(word.to_string()),
+        false => {
+            let message = format!("'{word}' is no name for a wire: letters, digits, _ and . are");
+            Err(Fault::usage(message))
+        }
+    }
+}
+
+fn of_cell(netlist: &Netlist, number: &str) -> Option<Wire> {
+    let cell: u16 = number.parse().ok()?;
+    let there = usize::from(cell) < netlist.cells.len();
+    there.then(|| wire(netlist, format!("cell{cell}"), cell))
+}
+
+fn unknown(named: &[Wire], name: &str) -> Fault {
+    let names: Vec<&str> = named.iter().map(|wire| wire.name.as_str()).collect();
+    let names = names.join(", ");
+    Fault::usage(format!(
+        "no wire is called '{name}'; there are cells by number, and {names}"
+    ))
+}

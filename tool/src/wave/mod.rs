@@ -1,0 +1,53 @@
+//! Waveforms: the values of named wires over a stretch of a run (`record`), as
+//! VCD (`vcd`), as a picture (`svg`) or as characters (`terminal`).
+
+pub mod choice;
+pub mod record;
+pub mod svg;
+pub mod terminal;
+pub mod vcd;
+
+/// A wire that is shown.
+#[derive(Clone, Debug, PartialEq, Eq)]
+pub struct Wire {
+    /// As `start`, `x0`, or for a statement `while1.start`.
+    pub name: String,
+    /// What it belongs to, in words; may be empty.
+    pub about: String,
+    pub cell: u16,
+    pub control: bool,
+}
+
+/// The values of wires from one instant up to another, that one too.
+#[derive(Clone, Debug, PartialEq, Eq)]
+pub struct Waveforms {
+    pub from: u32,
+    pub to: u32,
+    pub wires: Vec<Wire>,
+    /// For each wire, a value for each instant.
+    pub values: Vec<Vec<u16>>,
+}
+
+/// A stretch of instants in which a wire keeps a value: from, up to, value;
+/// both ends count from the first instant.
+pub type Stretch = (usize, usize, u16);
+
+/// The stretches of a wire's values.
+pub fn stretches(values: &[u16]) -> Vec<Stretch> {
+    let mut all: Vec<Stretch> = Vec::new();
+    for (at, &value) in values.iter().enumerate() {
+        match all.last_mut() {
+            Some(last) if last.2 == value => last.1 = at + 1,
+            _ => all.push((at, at + 1, value)),
+        }
+    }
+    all
+}
+
+/// The distance of the instants that an axis names: 1, 2 or 5 times a power of
+/// ten, at least so much.
+pub fn axis_step(least: usize) -> usize {
+    let powers = (0..7).map(|k| 10usize.pow(k));
+    let mut steps = powers.flat_map(|power| [power, 2 * power, 5 * power]);
+    steps.find(|step| *step >= least).unwrap_or(least)
+}

@@ -1,0 +1,160 @@
+//! Files: read from a name or standard input, and written whole or not at all.
+
+use std::fs;
+use std::io::Write;
+use std::os::unix::fs::{symlink, PermissionsExt};
+use std::path::{Path, PathBuf};
+use std::process::{Command, Output, Stdio};
+
+const GOOD: &str = "x0 := 5 @1";
+const REFUSED: &str = "x0 := 5 @0";
+
+/// A folder that goes with the test.
+struct Folder(PathBuf);
+
+impl Folder {
+    fn new(name: &str) -> Folder {
+        let folder = std::env::temp_dir().join(format!("hub-{name}-{}", std::process::id()));
+        fs::create_dir_all(&folder).expect("a folder");
+        Folder(folder)
+    }
+
+    fn at(&self, name: &str) -> PathBuf {
+        self.0.join(name)
+    }
+
+    fn names(&self) -> Vec<String> {
+        let entries = fs::read_dir(&self.0).expect("a folder");
+        let name = |entry: fs::DirEntry| entry.file_name().to_string_lossy().into_owned();
+        let mut names: Vec<String> = entries
+            .map(|entry| name(entry.expect("an entry")))
+            .collect();
+        names.sort();
+        names
+    }
+}
+
+impl Drop for Folder {
+    fn drop(&mut self) {
+        let _ = fs::remove_dir_all(&self.0);
+    }
+}
+
+/// Runs the tool with a text as its standard input.
+fn hub(words: &[&str], input: &str) -> Output {
+    let mut process = Command::new(env!("CARGO_BIN_EXE_hub"))
+        .args(words)
+        .stdin(Stdio::piped())
+        .stdout(Stdio::piped())
+        .stderr(Stdio::piped())
+        .spawn()
+        .expect("the tool runs");
+    let mut pipe = process.stdin.take().expect("a pipe");
+    // A command line that is refused reads nothing.
+    let _ = pipe.write_all(input.as_bytes());
+    drop(pipe);
+    process.wait_with_output().expect("it ends")
+}
+
+fn compile(text: &str, to: &Path) -> Option<i32> {
+    let to = to.to_str().expect("a name in letters");
+    hub(&["compile", "-", "-o", to], text).status.code()
+}
+
+#[test]
+fn a_refused_program_leaves_a_file_as_it_was() {
+    let folder = Folder::new("refused");
+    let file = folder.at("a.net");
+    assert_eq!(compile(REFUSED, &file), Some(1));
+    assert_eq!(folder.names(), [""; 0]);
+    fs::write(&file, "before").expect("a file");
+    assert_eq!(compile(REFUSED, &file), Some(1));
+    assert_eq!(fs::read(&file).expect("it is there"), b"before");
+    assert_eq!(folder.names(), ["a.net"]);
+}
+
+#[test]
+fn a_written_file_is_whole_and_alone() {
+    let folder = Folder::new("whole");
+    let file = folder.at("a.net");
+    fs::write(&file, vec![7; 9_999]).expect("a file");
+    assert_eq!(compile(GOOD, &file), Some(0));
+    assert_eq!(fs::read(&file).expect("it is there").len(), 512);
+    assert_eq!(folder.names(), ["a.net"]);
+}
+
+#[test]
+fn a_file_keeps_its_permissions_and_a_link_stays_one() {
+    let folder = Folder::new("link");
+    let (file, link) = (folder.at("a.net"), folder.at("link.net"));
+    fs::write(&file, "before").expect("a file");
+    fs::set_permissions(&file, fs::Permissions::from_mode(0o640)).expect("it is ours");
+    symlink(&file, &link).expect("a link");
+    assert_eq!(compile(GOOD, &link), Some(0));
+    assert_eq!(fs::read(&file).expect("it is there").len(), 512);
+    let mode = fs::metadata(&file)
+        .expect("it is there")
+        .permissions()
+        .mode();
+    assert_eq!(mode & 0o777, 0o640);
+    assert!(link.is_symlink());
+}
+
+#[test]
+fn a_state_that_is_refused_is_left_as_it_was() {
+    let folder = Folder::new("state");
+    let (file, state) = (folder.at("a.net"), folder.at("a.state"));
+    assert_eq!(compile(GOOD, &file), Some(0));
+    fs::write(&state, vec![9; 2_000]).expect("a file");
+    let [file, name] = [&file, &state].map(|path| path.to_str().expect("a name in letters"));
+    let told = hub(&["go", file, name, "--by", "1"], "");
+    assert_eq!(told.status.code(), Some(1));
+    assert_eq!(fs::read(&state).expect("it is there"), vec![9; 2_000]);
+}
+
+#[test]
+fn standard_input_and_output_are_files_too() {
+    let folder = Folder::new("standard");
+    let file = folder.at("a.net");
+    assert_eq!(compile(GOOD, &file), Some(0));
+    let told = hub(&["compile", "-", "-o", "-"], GOOD);
+    assert_eq!(told.stdout, fs::read(&file).expect("it is there"));
+    let told = hub(&["read", "-", "-o", "-"], GOOD);
+    assert_eq!(told.stdout, [18, 1, 0, 0, 1, 0, 5, 0]);
+    let told = hub(&["check", "-"], REFUSED);
+    let error = String::from_utf8_lossy(&told.stderr);
+    assert!(
+        error.starts_with("standard input:1:9: refused 7: "),
+        "{error}"
+    );
+}
+
+/// A full device is told; a reader that has gone is nobody's fault.
+#[test]
+fn standard_output_may_fail() {
+    let full = fs::File::options()
+        .write(true)
+        .open("/dev/full")
+        .expect("a device");
+    let mut help = Command::new(env!("CARGO_BIN_EXE_hub"));
+    let told = help
+        .arg("help")
+        .stdout(full)
+        .output()
+        .expect("the tool runs");
+    assert_eq!(told.status.code(), Some(64));
+    let error = String::from_utf8_lossy(&told.stderr);
+    assert!(
+        error.starts_with("hub: standard output can't be written: "),
+        "{error}"
+    );
+
+    let (reader, writer) = std::io::pipe().expect("a pipe");
+    drop(reader);
+    let told = help
+        .arg("run")
+        .stdout(writer)
+        .output()
+        .expect("the tool runs");
+    assert_eq!((told.status.code(), told.stderr.len()), (Some(0), 0));
+}

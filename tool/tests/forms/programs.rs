@@ -1,0 +1,174 @@
+//! Programs to try the tool on: the examples, and accepted ones that are
+//! generated from a number, so that a failure can be tried again.
+
+use hub::product;
+use hub::types::Node;
+use std::fs;
+use std::path::{Path, PathBuf};
+
+/// How many programs are generated for a test.
+const COUNT: u64 = 300;
+/// The most nodes of a program.
+const MOST: usize = 200;
+
+pub fn top() -> PathBuf {
+    Path::new(env!("CARGO_MANIFEST_DIR")).join("..")
+}
+
+/// The examples: name and text, in order.
+pub fn examples() -> Vec<(String, String)> {
+    let entries = fs::read_dir(top().join("examples")).expect("the examples");
+    let mut files: Vec<_> = entries
+        .map(|entry| entry.expect("an entry").path())
+        .collect();
+    files.retain(|file| file.extension().is_some_and(|ending| ending == "hub"));
+    files.sort();
+    let name = |file: &PathBuf| {
+        file.file_stem()
+            .expect("a name")
+            .to_string_lossy()
+            .into_owned()
+    };
+    let text = |file: &PathBuf| fs::read_to_string(file).expect("a text");
+    files.iter().map(|file| (name(file), text(file))).collect()
+}
+
+/// The programs of the examples, and generated ones, accepted by the product.
+pub fn programs() -> Vec<Vec<u8>> {
+    let examples = examples().into_iter().map(|(name, text)| {
+        product::read_text(None, text.as_bytes()).unwrap_or_else(|met| panic!("{name}: {met}"))
+    });
+    examples.chain((0..COUNT).map(generated)).collect()
+}
+
+/// A program that a number stands for.
+fn generated(seed: u64) -> Vec<u8> {
+    let mut source = Source {
+        chance: Chance(seed * 2 + 1),
+        nodes: Vec::new(),
+    };
+    let size = 1 + source.chance.below(40);
+    let variables: Vec<u16> = (0..16).collect();
+    source.statement(size, &variables);
+    source.nodes.truncate(MOST);
+    let program = product::program_bytes(&source.nodes);
+    product::check(None, &program).unwrap_or_else(|met| panic!("program {seed}: {met}"));
+    program
+}
+
+/// Numbers that look as if by chance (Knuth's linear congruential generator).
+pub struct Chance(pub u64);
+
+impl Chance {
+    pub fn below(&mut self, limit: usize) -> usize {
+        self.0 = self
+            .0
+            .wrapping_mul(6_364_136_223_846_793_005)
+            .wrapping_add(1_442_695_040_888_963_407);
+        (self.0 >> 33) as usize % limit
+    }
+}
+
+struct Source {
+    chance: Chance,
+    nodes: Vec<Node>,
+}
+
+impl Source {
+    fn put(&mut self, kind: u8, delay: u8, n: u16) {
+        self.nodes.push(Node { kind, delay, n });
+    }
+
+    /// A statement of about so many statements, in these variables.
+    fn statement(&mut self, size: usize, variables: &[u16]) {
+        if size <= 1 || variables.len() < 2 || self.nodes.len() > MOST / 2 {
+            return self.single(variables);
+        }
+        let part = 1 + self.chance.below(size - 1);
+        match self.chance.below(6) {
+            0 | 1 => {
+                self.put(19, 0, 0);
+                self.statement(part, variables);
+                self.statement(size - part, variables);
+            }
+            2 => {
+                self.put(20, 0, 0);
+                let (left, right) = variables.split_at(variables.len() / 2);
+                self.statement(part, left);
+                self.statement(size - part, right);
+            }
+            3 => {
+                self.delayed(21, 0, variables);
+                self.statement(part, variables);
+                self.statement(size - part, variables);
+            }
+            kind => {
+                self.delayed(18 + kind as u8, 0, variables);
+                self.statement(size - 1, variables);
+            }
+        }
+    }
+
+    fn single(&mut self, variables: &[u16]) {
+        match self.chance.below(4) {
+            0 => self.put(16, 0, 0),
+            1 => {
+                let delay = 1 + self.chance.below(255);
+                self.put(17, delay as u8, 0);
+            }
+            _ => {
+                let variable = variables[self.chance.below(variables.len())];
+                self.delayed(18, variable, variables);
+            }
+        }
+    }
+
+    /// A node with a delay and its expression.
+    fn delayed(&mut self, kind: u8, n: u16, variables: &[u16]) {
+        let at = self.nodes.len();
+        self.put(kind, 255, n);
+        let time = self.expression(3, variables);
+        let more = self.chance.below(4);
+        let least = time.max(usize::from(kind != 21));
+        self.nodes[at].delay = (least + more) as u8;
+    }
+
+    /// An expression of at most this depth, and its time.
+    fn expression(&mut self, depth: usize, variables: &[u16]) -> usize {
+        let kind = if depth == 0 { 0 } else { self.chance.below(9) };
+        match kind {
+            0 => {
+                let constant = [0, 1, 7, 255, 32_768, 65_535][self.chance.below(6)];
+                self.put(1, 0, constant);
+                0
+            }
+            1 => {
+                let variable = variables[self.chance.below(variables.len())];
+                self.put(2, 0, variable);
+                0
+            }
+            2 => {
+                self.put(3, 0, 0);
+                1 + self.expression(depth - 1, variables)
+            }
+            operator => {
+                let times = [16, 17, 1, 1, 6, 17];
+                self.put(1 + operator as u8, 0, 0);
+                let left = self.expression(depth - 1, variables);
+                let right = self.expression(depth - 1, variables);
+                times[operator - 3] + left.max(right)
+            }
+        }
+    }
+}
+
+/// The programs are of every kind, and some are large.
+#[test]
+fn every_kind_is_among_the_programs() {
+    let programs = programs();
+    for kind in (1..=9).chain(16..=23) {
+        let has = |program: &&Vec<u8>| product::nodes(program).iter().any(|n| n.kind == kind);
+        assert!(programs.iter().filter(has).count() > 20, "kind {kind}");
+    }
+    assert!(programs.iter().any(|program| program.len() > 4 * 100));
+}

@@ -1,0 +1,186 @@
+//! What the tool writes it takes back, to the byte.
+
+use crate::programs::{programs, Chance};
+use crate::{circuits, programs};
+use hub::types::{Cell, Netlist, Node};
+use hub::{assemble, format, labels, listing, outline, product};
+
+#[test]
+fn outlines_give_the_program_back() {
+    for program in programs() {
+        let outline = outline::outline(&product::nodes(&program));
+        assert_eq!(assembled(&outline), program, "{outline}");
+    }
+}
+
+/// Bytes that are no program have an outline too, and it gives them back.
+#[test]
+fn outlines_give_any_nodes_back() {
+    let mut chance = Chance(5);
+    for _ in 0..300 {
+        let mut byte = || chance.below(256) as u8;
+        let nodes: Vec<Node> = (0..10)
+            .map(|_| Node {
+                kind: byte() % 32,
+                delay: byte() % 3,
+                n: u16::from(byte() % 20) * 13,
+            })
+            .collect();
+        let outline = outline::outline(&nodes);
+        assert_eq!(
+            assembled(&outline),
+            product::program_bytes(&nodes),
+            "{outline}"
+        );
+    }
+}
+
+fn assembled(outline: &str) -> Vec<u8> {
+    let nodes = assemble::assemble(outline).expect("an outline");
+    let nodes: Vec<Node> = nodes.into_iter().map(|(node, _)| node).collect();
+    product::program_bytes(&nodes)
+}
+
+#[test]
+fn texts_give_the_program_back() {
+    for program in programs() {
+        let text = formatted(&program);
+        assert_eq!(
+            product::read_text(None, text.as_bytes()),
+            Ok(program),
+            "{text}"
+        );
+    }
+}
+
+fn formatted(program: &[u8]) -> String {
+    let tree = format::tree(&product::nodes(program)).expect("a tree");
+    format::format(&tree)
+}
+
+/// No pair of brackets can be left out: without it the text is another program
+/// or none.
+#[test]
+fn texts_have_the_fewest_brackets() {
+    let mut pairs = 0;
+    for program in programs() {
+        let text = formatted(&program);
+        for (open, close) in brackets(&text) {
+            let mut less = text.clone().into_bytes();
+            less[open] = b' ';
+            less[close] = b' ';
+            assert_ne!(
+                product::read_text(None, &less).as_ref(),
+                Ok(&program),
+                "{text}"
+            );
+            pairs += 1;
+        }
+    }
+    assert!(pairs > 300, "{pairs} pairs of brackets were tried");
+}
+
+/// The places of each bracket and of the one that closes it.
+fn brackets(text: &str) -> Vec<(usize, usize)> {
+    let (mut open, mut pairs) = (Vec::new(), Vec::new());
+    for (at, byte) in text.bytes().enumerate() {
+        match byte {
+            b'(' | b'{' => open.push(at),
+            b')' | b'}' => pairs.push((open.pop().expect("an open bracket"), at)),
+            _ => {}
+        }
+    }
+    pairs
+}
+
+/// Lines are no wider than they need be: only what can't be broken is wide.
+#[test]
+fn texts_are_short_enough_to_be_read() {
+    for (name, text) in programs::examples() {
+        let program = product::read_text(None, text.as_bytes()).expect("a program");
+        let wide = formatted(&program).lines().any(|line| line.len() > 80);
+        assert!(!wide, "{name}");
+    }
+}
+
+#[test]
+fn lists_give_the_netlist_file_back() {
+    for program in programs() {
+        let circuit = circuits::of_program(&program);
+        let notes = labels::of_cells(&circuit, &[]).expect("notes");
+        for all in [false, true] {
+            let list = listing::list(&circuit.netlist, all, |cell| notes[cell].clone());
+            let listed = listing::wired(&list).unwrap_or_else(|wrong| panic!("{wrong:?}\n{list}"));
+            let file = product::write_netlist(&listed.netlist);
+            assert_eq!(file.as_ref(), Ok(&circuit.file), "{list}");
+        }
+    }
+}
+
+/// Cells that no netlist may have stand in a list too.
+#[test]
+fn lists_give_any_cells_back() {
+    let mut chance = Chance(6);
+    for _ in 0..300 {
+        let cells: Vec<Cell> = (0..20)
+            .map(|_| {
+                let [kind, delay, a, b] = [44, 3, 25, 25].map(|limit| chance.below(limit));
+                Cell::new(kind as u8, delay as u8, a as u16, b as u16)
+            })
+            .collect();
+        let netlist = Netlist { cells, finish: 3 };
+        let list = listing::list(&netlist, true, |_| None);
+        let listed = listing::wired(&list).unwrap_or_else(|wrong| panic!("{wrong:?}\n{list}"));
+        assert_eq!(listed.netlist, netlist, "{list}");
+    }
+}
+
+/// Names stand for the cells that they are given to, in any order.
+#[test]
+fn names_are_the_cells_numbers() {
+    let list = "finish last\nstart\nground\nconstant 0\nlast: delay 7 of middle\n\
+        middle: either start last\nx0: memory clock last data x1\nidle memories\n";
+    let listed = listing::wired(list).expect("a list");
+    let cells = &listed.netlist.cells;
+    assert_eq!(listed.netlist.finish, 3);
+    assert_eq!(cells[3], Cell::new(34, 7, 4, 0));
+    assert_eq!(cells[4], Cell::new(35, 0, 0, 3));
+    assert_eq!(cells[5], Cell::new(40, 0, 3, 6));
+    assert_eq!(cells.len(), 21);
+    assert_eq!(listed.lines[4], Some(6));
+}
+
+/// What is wrong with a list is told with its line.
+#[test]
+fn wrong_lists_are_told_with_their_line() {
+    for (list, line, why) in [
+        ("start\n", 1, "which cell is the finish"),
+        ("finish 0\nstart\ndelay 3\n", 3, "write: delay D of A"),
+        ("finish 0\nstart\ndelay 300 of start\n", 3, "below 256"),
+        (
+            "finish 0\nstart\neither 0 nobody\n",
+            3,
+            "no cell is called 'nobody'",
+        ),
+        (
+            "finish 0\n5 start\n3 ground\n",
+            3,
+            "cell 3 stands after cell 5",
+        ),
+        ("finish 0\nfinish 1\n", 2, "a second line"),
+        ("finish 0\nlamp 3\n", 2, "is no kind"),
+        ("finish 0\nname:\n", 2, "no cell after it"),
+        ("2000 cells, finish 0\n", 1, "at most 1024"),
+        ("99999999999999999999 cells, finish 0\n", 1, "at most 1024"),
+        (
+            "finish 0\na: start\na: ground\n",
+            3,
+            "a second cell is called a",
+        ),
+        ("finish 0\n1024 start\n", 2, "cell 1024"),
+    ] {
+        let wrong = listing::wired(list).expect_err("a wrong list");
+        assert_eq!(wrong.line, line, "{list}{wrong:?}");
+        assert!(wrong.why.contains(why), "{list}{wrong:?}");
+    }
+}

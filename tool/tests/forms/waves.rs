@@ -1,0 +1,178 @@
+//! Waveforms: what they show is the run, and what is written of them can be
+//! read by others.
+
+use crate::pictures::assert_legible;
+use crate::programs::{examples, programs};
+use crate::vcd::{read, values, Changes};
+use crate::{circuits, programs};
+use hub::product;
+use hub::wave::{choice, record, svg, terminal, vcd, Waveforms};
+use std::fs;
+use std::process::Command;
+
+const WORDS: [u16; 16] = [3, 1, 2, 4, 0, 1, 1, 9, 65_535, 2, 0, 0, 1, 7, 7, 7];
+
+fn waves(program: &[u8], from: u32, to: u32) -> Waveforms {
+    let circuit = circuits::of_program(program);
+    let wires = choice::wires(&circuit, &[], None, false).expect("wires");
+    record::record(&circuit.file, &WORDS, wires, from, to).expect("a run")
+}
+
+fn all_waves() -> impl Iterator<Item = Waveforms> {
+    let stretches = [(0, 70), (5, 5), (13, 90)].into_iter().cycle();
+    programs()
+        .into_iter()
+        .zip(stretches)
+        .map(|(program, (from, to))| waves(&program, from, to))
+}
+
+/// A wire's values in a dump are those of the run.
+fn assert_same(waves: &Waveforms, changes: &Changes, names: impl Fn(&str) -> String) {
+    assert_eq!(changes.len(), waves.wires.len());
+    for (wire, own) in waves.wires.iter().zip(&waves.values) {
+        let changes = &changes[&names(&wire.name)];
+        let read = values(changes, waves.from.into(), waves.to.into());
+        assert_eq!(read, *own, "{}", wire.name);
+    }
+}
+
+#[test]
+fn dumps_hold_the_values() {
+    for waves in all_waves() {
+        let (changes, last) = read(&vcd::vcd(&waves));
+        assert_same(&waves, &changes, |name| format!("hub.{name}"));
+        assert_eq!(last, u64::from(waves.to) + 1);
+        for changes in changes.values() {
+            let change = |pair: &[(u64, u64)]| pair[0].0 < pair[1].0 && pair[0].1 != pair[1].1;
+            assert!(changes.windows(2).all(change), "only changes are written");
+        }
+    }
+}
+
+/// GTKWave's own converter takes each example's dump, and what it makes of it
+/// holds the same values. Where it isn't installed nothing is tried.
+#[test]
+fn gtkwave_takes_the_dumps() {
+    if Command::new("vcd2fst").arg("--help").output().is_err() {
+        eprintln!("vcd2fst isn't installed");
+        return;
+    }
+    let folder = std::env::temp_dir().join(format!("hub-gtkwave-{}", std::process::id()));
+    fs::create_dir_all(&folder).expect("a folder");
+    let [dump, other] = ["x.vcd", "x.fst"].map(|name| folder.join(name));
+    for program in programs().into_iter().take(20) {
+        let waves = waves(&program, 0, 120);
+        fs::write(&dump, vcd::vcd(&waves)).expect("a dump");
+        let made = Command::new("vcd2fst")
+            .arg(&dump)
+            .arg(&other)
+            .output()
+            .expect("it runs");
+        assert!(
+            made.status.success(),
+            "{}",
+            String::from_utf8_lossy(&made.stderr)
+        );
+        let back = Command::new("fst2vcd")
+            .arg(&other)
+            .output()
+            .expect("it runs");
+        let back = String::from_utf8(back.stdout).expect("a dump");
+        assert_same(&waves, &read(&back).0, |name| format!("hub.{name}"));
+    }
+    fs::remove_dir_all(&folder).expect("the folder goes");
+}
+
+/// The waves of start, finish and the words are what the answers of a run say.
+#[test]
+fn waves_agree_with_the_answers() {
+    for program in programs() {
+        let waves = waves(&program, 0, 80);
+        let value = |name: &str, at: usize| {
+            let wire = waves.wires.iter().position(|wire| wire.name == name);
+            wire.map(|wire| waves.values[wire][at])
+        };
+        let file = product::compile(None, &program).expect("a netlist");
+        let (mut state, mut answer) = product::begin(&file, &WORDS).expect("a run");
+        for at in 0..=80 {
+            assert_eq!(value("start", at), Some(u16::from(at == 0)));
+            assert_eq!(value("finish", at), Some(u16::from(answer.ended)));
+            for (variable, word) in answer.words.iter().enumerate() {
+                let shown = value(&format!("x{variable}"), at);
+                assert_eq!(shown.unwrap_or(*word), *word);
+            }
+            answer = product::go(&file, &mut state, 1).expect("an instant");
+        }
+    }
+}
+
+/// A terminal's lines are one character for each instant, high where the wire
+/// is.
+#[test]
+fn terminals_show_each_instant() {
+    for waves in all_waves() {
+        let text = terminal::terminal(&waves);
+        for (wire, values) in waves
+            .wires
+            .iter()
+            .zip(&waves.values)
+            .filter(|(w, _)| w.control)
+        {
+            let begins = format!("{} ", wire.name);
+            let lines = text.lines().filter(|line| line.starts_with(&begins));
+            let drawn: String = lines
+                .map(|line| line[begins.len()..].trim_start())
+                .collect();
+            let level = |value: &u16| if *value == 0 { '▁' } else { '█' };
+            assert_eq!(
+                drawn,
+                values.iter().map(level).collect::<String>(),
+                "{}",
+                wire.name
+            );
+        }
+    }
+}
+
+/// Every wire has its name in the picture, and every instant of a pulse is in
+/// its path.
+#[test]
+fn pictures_of_waves_name_every_wire() {
+    for waves in all_waves() {
+        let text = svg::svg(&waves);
+        let labels = text.matches("text-anchor=\"end\"").count();
+        let paths = text.matches("<path ").count();
+        assert_eq!(labels, waves.wires.len());
+        assert_eq!(
+            paths,
+            waves.wires.iter().filter(|wire| wire.control).count()
+        );
+    }
+}
+
+/// No text of such a picture lies on another, however large the instants.
+#[test]
+fn pictures_of_waves_are_legible() {
+    for (program, last) in programs()
+        .into_iter()
+        .zip([7, 40, 99, 240, 300].into_iter().cycle())
+    {
+        assert_legible(&svg::svg(&waves(&program, 0, last)));
+    }
+    let late = waves(&programs()[0], 999_700, 1_000_000);
+    assert_legible(&svg::svg(&late));
+}
+
+/// A text's wires are named with its lines.
+#[test]
+fn wires_of_a_text_tell_their_line() {
+    let (_, text) = &examples()[programs::examples().len() - 1];
+    let circuit = circuits::of_text(text);
+    let wires = choice::wires(&circuit, text.as_bytes(), None, false).expect("wires");
+    let loops: Vec<&str> = wires
+        .iter()
+        .filter(|wire| wire.name.starts_with("while") && wire.name.ends_with("start"))
+        .map(|wire| wire.about.as_str())
+        .collect();
+    assert_eq!(loops, ["line 1, while x0 @1", "line 2, while x1 @1"]);
+}

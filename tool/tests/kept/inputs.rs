@@ -1,0 +1,144 @@
+//! The files that the kept command lines find in their folder: for every
+//! refusal a text, a program, a netlist, a state or a table that meets it.
+
+use hub::product;
+use std::fs;
+use std::path::Path;
+
+/// Texts, by name.
+const TEXTS: &[(&str, &str)] = &[
+    ("ok.hub", "ok\n"),
+    ("tick.hub", "tick 0\n"),
+    ("small.hub", "ok;\n  x2 := x1 + 3 @15\n"),
+    ("never.hub", "x0 := x1 + x1 + x1 + x1 + x1 + x1 + x1 + x1 + x1 + x1 + x1 + x1 + x1 + x1 + x1 + x1 + x1 @255\n"),
+    ("sides.hub", "tick 3;\n{ x1 := 1 @1; ok\n|| x2 := 7 @1; if x2 @0\n  then x3 := x1 + 1 @16 else ok end }\n"),
+    ("both.hub", "x5 := 1 @1 || x4 := 1 @1 || x5 := 2 @1\n"),
+    ("variable.hub", "x0 := 1 @1;\nx16 := 2 @1\n"),
+    ("number.hub", "x0 := 65536 @1\n"),
+    ("zeros.hub", "tick 007\n"),
+    ("late.hub", "tick 256\n"),
+    ("word.hub", "x0 := 1 @1;\nwait 3\n"),
+    ("tab.hub", "while x0 @1\tdo ok end\n"),
+    ("sign.hub", "x0 := 3 * x1 @99\n"),
+    ("accent.hub", "x0 := é @1\n"),
+    ("chain.hub", "x0 := x1 = 2 < 3 @23\n"),
+    ("early.hub", "while x0 @1 do\n  x0 := x0 - 1 @17\n"),
+    ("twice.hub", "if x0 @1 then ok else ok end\nok\n"),
+    ("empty.hub", ""),
+    ("open.hub", "while 1 @1 do ok end\n"),
+];
+
+/// Lists of cells and outlines, by name.
+const LINES: &[(&str, &str)] = &[
+    (
+        "memories.list",
+        "finish start\nstart\nground\nconstant 0\n18 delay 1 of start\n19 constant 1\n",
+    ),
+    (
+        "sort.list",
+        "finish start\nstart\nground\nconstant 0\nwrong: either start 2\nidle memories\n",
+    ),
+    (
+        "finish.list",
+        "finish x3\nstart\nground\nconstant 0\nidle memories\n",
+    ),
+    (
+        "name.list",
+        "finish start\nstart\nground\nconstant 0\ndelay 3 of begin\nidle memories\n",
+    ),
+    (
+        "sides.outline",
+        "parallel\n  assign x1 @1\n    constant 1\n  assign x2 @1\n    variable x1\n",
+    ),
+    (
+        "word.outline",
+        "sequence\n  ok\n  assign x1\n    constant 1\n",
+    ),
+];
+
+/// Programs, node by node: kind, delay, n.
+const PROGRAMS: &[(&str, &[[u8; 3]])] = &[
+    ("none.prog", &[]),
+    ("kind.prog", &[[99, 0, 0]]),
+    ("field.prog", &[[16, 1, 0]]),
+    ("variable.prog", &[[18, 1, 16], [1, 0, 0]]),
+    ("sort.prog", &[[19, 0, 0], [16, 0, 0], [1, 0, 5]]),
+    ("short.prog", &[[19, 0, 0], [16, 0, 0]]),
+    ("left.prog", &[[16, 0, 0], [16, 0, 0]]),
+    ("small.prog", &[[22, 0, 0], [1, 0, 1], [16, 0, 0]]),
+    (
+        "sides.prog",
+        &[[20, 0, 0], [18, 1, 1], [1, 0, 1], [18, 1, 2], [2, 0, 1]],
+    ),
+];
+
+pub fn make(folder: &Path) {
+    let put = |name: &str, bytes: &[u8]| {
+        fs::write(folder.join(name), bytes).expect("a file in the folder");
+    };
+    for (name, text) in TEXTS.iter().chain(LINES) {
+        put(name, text.as_bytes());
+    }
+    put("long.hub", &[b"ok", b" ".repeat(4_095).as_slice()].concat());
+    put(
+        "many.hub",
+        "ok;"
+            .repeat(100)
+            .as_bytes()
+            .strip_suffix(b";")
+            .expect("it ends so"),
+    );
+    put("all.hub", ["ok"; 101].join(";").as_bytes());
+    put(
+        "folded.hub",
+        format!("x0 := {} @1\n", "x0 & ".repeat(40) + "x17").as_bytes(),
+    );
+    for (name, nodes) in PROGRAMS {
+        let bytes: Vec<u8> = nodes
+            .iter()
+            .flat_map(|[kind, delay, n]| [*kind, *delay, *n, 0])
+            .collect();
+        put(name, &bytes);
+    }
+    put("part.prog", &[16, 0, 0, 0, 16]);
+    netlists(&put);
+    put("length.times", &[0; 10]);
+    put("sum.times", &damaged(&[0; 512], 100, 1));
+    put("byte.times", &[0; 512]);
+}
+
+/// Netlists and states of the program `tick 2`.
+fn netlists(put: &impl Fn(&str, &[u8])) {
+    let file = product::compile(None, &[17, 2, 0, 0]).expect("an accepted program");
+    let (state, _) = product::begin(&file, &[0; 16]).expect("an accepted netlist");
+    put("tick.net", &file);
+    put("length.net", &file[..100]);
+    put("sum.net", &damaged(&file, 30, 77));
+    put("header.net", &summed(&damaged(&file, 0, 1)));
+    put("cell.net", &summed(&damaged(&file, 8 + 6 * 3 + 1, 0)));
+    put("input.net", &summed(&damaged(&file, 8 + 6 * 3 + 2, 2)));
+    put("kind.net", &summed(&damaged(&file, 8 + 6 * 3, 99)));
+    put("memories.net", &summed(&damaged(&file, 8 + 6 * 4, 41)));
+    put("finish.net", &summed(&damaged(&file, 4, 2)));
+    put("tick.state", &state);
+    put("short.state", &state[..100]);
+    put("held.state", &damaged(&state, 8 + 4, 1));
+}
+
+fn damaged(bytes: &[u8], at: usize, byte: u8) -> Vec<u8> {
+    let mut bytes = bytes.to_vec();
+    bytes[at] = byte;
+    bytes
+}
+
+/// A block with the check that makes its words sum to 0.
+fn summed(block: &[u8]) -> Vec<u8> {
+    let mut block = block.to_vec();
+    block[6..8].fill(0);
+    let words = block
+        .chunks(2)
+        .map(|pair| u16::from_le_bytes([pair[0], pair[1]]));
+    let sum = words.fold(0, u16::wrapping_add);
+    block[6..8].copy_from_slice(&0_u16.wrapping_sub(sum).to_le_bytes());
+    block
+}

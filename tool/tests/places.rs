@@ -1,0 +1,199 @@
+//! Where nodes stand in a text, where cells come from, and what is found out by
+//! asking: held against the product on the vectors of tests/vectors.
+
+use hub::input::{Form, Given};
+use hub::origin::{subtree_end, trace, Ends};
+use hub::source::Place;
+use hub::types::{Node, Refusal, INTERNAL};
+use hub::{product, refusals, source};
+use std::fs;
+use std::path::{Path, PathBuf};
+
+/// The programs of a folder of the vectors.
+fn programs(folder: &str) -> Vec<PathBuf> {
+    let vectors = Path::new(env!("CARGO_MANIFEST_DIR")).join("../tests/vectors");
+    let entries = fs::read_dir(vectors.join(folder)).expect("the vectors");
+    let mut files: Vec<PathBuf> = entries
+        .map(|entry| entry.expect("an entry").path())
+        .collect();
+    files.retain(|file| file.extension().is_some_and(|ending| ending == "prog"));
+    assert!(files.len() > 50, "{folder} has programs");
+    files
+}
+
+fn given(name: &Path) -> Given {
+    Given {
+        name: name.display().to_string(),
+        form: Form::Program,
+        bytes: fs::read(name).expect("a vector"),
+        times: None,
+    }
+}
+
+#[test]
+fn cells_come_from_the_nodes_of_their_program() {
+    for file in programs("compile") {
+        let bytes = fs::read(&file).expect("a vector");
+        let nodes = product::nodes(&bytes);
+        let compiled = product::compile(None, &bytes).expect("an accepted program");
+        let netlist = product::read_netlist(&compiled).expect("an accepted netlist");
+        let trace = trace(&nodes, &netlist).expect("the product's cells");
+        assert_eq!(trace.origins.len(), netlist.cells.len());
+        let finish = netlist.finish;
+        assert_eq!(trace.ends[0], Some(Ends { start: 0, finish }));
+        for (node, found) in nodes.iter().enumerate() {
+            let statement = found.kind >= 16;
+            assert_eq!(trace.ends[node].is_some(), statement, "node {node}");
+            assert_eq!(trace.values[node].is_some(), !statement, "node {node}");
+        }
+    }
+}
+
+#[test]
+fn other_cells_than_the_products_are_an_internal_error() {
+    let program = [17, 2, 0, 0];
+    let file = product::compile(None, &program).expect("an accepted program");
+    let mut netlist = product::read_netlist(&file).expect("an accepted netlist");
+    netlist.cells[3].delay = 3;
+    let fault = trace(&product::nodes(&program), &netlist).expect_err("another delay");
+    assert_eq!(fault.exit, INTERNAL);
+}
+
+/// Of each node: all of it, the word or sign that names it, and its delay.
+#[test]
+fn nodes_stand_in_their_text() {
+    let text = "while (x0 | !x1) = 2 @9 do { x0 := x0 - 1 - 2 @34; tick 3 } end || ok";
+    let expected = [
+        (20, text, "||", None),
+        (22, &text[..text.len() - 6], "while", Some("@9")),
+        (8, "(x0 | !x1) = 2", "=", None),
+        (7, "(x0 | !x1)", "|", None),
+        (2, "x0", "x0", None),
+        (3, "!x1", "!", None),
+        (2, "x1", "x1", None),
+        (1, "2", "2", None),
+        (19, "{ x0 := x0 - 1 - 2 @34; tick 3 }", ";", None),
+        (18, "x0 := x0 - 1 - 2 @34", "x0", Some("@34")),
+        (5, "x0 - 1 - 2", "-", None),
+        (5, "x0 - 1", "-", None),
+        (2, "x0", "x0", None),
+        (1, "1", "1", None),
+        (1, "2", "2", None),
+        (17, "tick 3", "tick", Some("3")),
+        (16, "ok", "ok", None),
+    ];
+    let found = source::read(text.as_bytes()).expect("a text");
+    let shown = |span: hub::types::Span| &text[span.start..span.end];
+    let places = found.nodes.iter().zip(&found.places).map(|(node, place)| {
+        let delay = place.delay.map(shown);
+        (node.kind, shown(place.whole), shown(place.mark), delay)
+    });
+    assert_eq!(places.collect::<Vec<_>>(), expected);
+}
+
+/// Texts of every form, each read as the product reads it.
+#[test]
+fn texts_are_read_as_the_product_reads_them() {
+    let texts = [
+        "ok",
+        "{ok}",
+        "ok;ok;ok||ok||ok;ok",
+        "{ok||ok};{ok||{ok;ok}};ok",
+        "if x0 & 1 | x2 < 3 & !!x3 = 4 @40 then ok else tick 1 || tick 2 end",
+        "repeat x3 := 65535 - x3 + 1 @33; ok until x3 = 0 | x15 < 7 @18 end",
+        "while((x1+(x2-x3)))@33 do\n\nok;{tick 255}\nend",
+        "x0:=!(x0=x1)&(x2|x3)&x4@9;x1:=(x1<x2)=x3@23",
+    ];
+    for text in texts {
+        let bytes = product::read_text(None, text.as_bytes()).expect(text);
+        let read = source::read(text.as_bytes()).expect(text);
+        assert_eq!(read.nodes, product::nodes(&bytes), "{text}");
+    }
+}
+
+/// Programs of every kind, typed: the places are those of the product's nodes,
+/// each within its parent's.
+#[test]
+fn typed_programs_are_read_as_the_product_reads_them() {
+    let mut typed = 0;
+    for file in programs("compile") {
+        let nodes = product::nodes(&fs::read(&file).expect("a vector"));
+        let tree = hub::format::tree(&nodes).expect("an accepted program");
+        let text = hub::format::format(&tree);
+        let given = Given {
+            form: Form::Text,
+            bytes: text.clone().into_bytes(),
+            ..given(&file)
+        };
+        let Ok(read) = given.program() else {
+            assert!(text.len() > 4_096, "{text}");
+            continue;
+        };
+        assert_eq!(read.nodes, nodes, "{text}");
+        let places = read.places.expect("it came as a text");
+        for (node, place) in places.iter().enumerate() {
+            let below = &places[node..subtree_end(&nodes, node)];
+            let within = |part: &Place| {
+                place.whole.start <= part.whole.start && part.whole.end <= place.whole.end
+            };
+            assert!(below.iter().all(within), "node {node} of {text}");
+        }
+        typed += 1;
+    }
+    assert!(typed > 50);
+}
+
+/// Every beginning and every lack of a word ends in a place, and in no fault.
+#[test]
+fn broken_texts_are_met_with_a_place() {
+    let text = "while x0 @1 do { x0 := (x0 - 1) & 3 @18 || ok } end";
+    for end in 0..text.len() {
+        if let Err(place) = source::read(&text.as_bytes()[..end]) {
+            assert!(place <= end, "{end}");
+        }
+    }
+}
+
+#[test]
+fn a_clash_has_a_use_on_each_side() {
+    let mut clashes = 0;
+    for file in programs("program") {
+        let given = given(&file);
+        let Err(met @ Refusal { number: 8, place }) = product::check(None, &given.bytes) else {
+            continue;
+        };
+        let nodes = product::nodes(&given.bytes);
+        let report = refusals::report(&given, met).expect("a report");
+        let [left, right] = report.uses.expect("both uses");
+        let middle = subtree_end(&nodes, place + 1);
+        assert!((place + 1..middle).contains(&left));
+        assert!((middle..subtree_end(&nodes, middle)).contains(&right));
+        let uses = [nodes[left], nodes[right]];
+        assert!(uses
+            .iter()
+            .all(|node: &Node| report.variable == Some(node.n)));
+        assert!(uses.iter().any(|node| node.kind == 18));
+        clashes += 1;
+    }
+    assert!(clashes > 2);
+}
+
+#[test]
+fn the_least_delay_is_the_first_that_passes() {
+    let mut small = 0;
+    for file in programs("program") {
+        let given = given(&file);
+        let Err(met @ Refusal { number: 7, place }) = product::check(None, &given.bytes) else {
+            continue;
+        };
+        let report = refusals::report(&given, met).expect("a report");
+        let passes = |delay: &u8| {
+            let mut bytes = given.bytes.clone();
+            bytes[4 * place + 1] = *delay;
+            product::check(None, &bytes) != Err(met)
+        };
+        assert_eq!(report.least, (0..=255).find(passes), "{}", given.name);
+        small += 1;
+    }
+    assert!(small > 5);
+}

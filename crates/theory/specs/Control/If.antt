@@ -21,8 +21,8 @@ use Rattle.theory.specs.Control.Calm.{Calm, calmly, Sofar, lately, calm-
 use Rattle.theory.specs.Control.Rest.{Rests, rest}
 use Rattle.theory.specs.Control.Surge.{surge, gated-firm, test-same}
 use Rattle.theory.specs.Control.Bodies.{Owned, Owns, owns-both, pause-sofar}
-use Rattle.theory.specs.Control.Runs.{Begins, Going, Does, RunOf, ShortOf, done-as, going-as}
-use Rattle.theory.specs.Control.Tests.{Waits, waited-settled, waited-words, test-words, test-is}
+use Rattle.theory.specs.Control.Runs.{Begins, free, Going, Does, RunOf, ShortOf, done-as, going-as}
+use Rattle.theory.specs.Control.Tests.{Waits, waited, test-words, test-is}
 use Rattle.theory.specs.Control.Sides.{Branch, branch}
 
 module _ (W : World) (d : ℕ) (e : Expr) (P Q : Stmt) (timedP : Paced W P) (timedQ : Paced W Q) (doesP : RunOf W P) (doesQ : RunOf W Q)
@@ -118,11 +118,7 @@ module _ (W : World) (d : ℕ) (e : Expr) (P Q : Stmt) (timedP : Paced W P) (tim
           record {
             room = omega arith;
             last = o′;
-            settled = B .ready .settled;
-            words = B .ready .words;
-            follow = B .follow;
-            silent = B .silent;
-            hold = B .hold;
+            free = free B;
             low = λ x t l k. n .joined .clocks x t ∙ ap₂ _||_ (rest₁ .clocks x t l (omega arith)) (rest₂ .clocks x t l (omega arith));
             uncalled = λ q t l k k′. ite-uncalled q t (omega arith) k;
             firm = λ k l l₁ l₂ q x.
@@ -170,7 +166,7 @@ module _ (W : World) (d : ℕ) (e : Expr) (P Q : Stmt) (timedP : Paced W P) (tim
           })
           (ite-off (n .s₂) ite-off₂
           (λ t l k k′. n .no₂ t ∙ ap₂ (λ (p q : Bool). p && q) (ite-pulse .high t l k (omega arith)) (test-is ite-waits e (ite-uses .0) t l k k′ ∙ z)))
-          (ite-owns .0) (waited-settled ite-waits) (waited-words ite-waits (a + d) (omega arith) (omega arith)) (B .follow) (B .silent) (B .hold)
+          (ite-owns .0) (waited ite-waits)
 
       else-branch : isZero (eval e σ) ≡ true → Branch W Q U σ (λ t. K₂ t × K₁ t) (λ t. L₂ t × L₁ t) f g a c j u d
       else-branch z =
@@ -184,7 +180,7 @@ module _ (W : World) (d : ℕ) (e : Expr) (P Q : Stmt) (timedP : Paced W P) (tim
           })
           (ite-off (n .s₁) ite-off₁
           (λ t l k k′. n .yes₁ t ∙ ap₂ (λ (p q : Bool). p && not q) (ite-pulse .high t l k (omega arith)) (test-is ite-waits e (ite-uses .0) t l k k′ ∙ z)))
-          (ite-owns .1) (waited-settled ite-waits) (waited-words ite-waits (a + d) (omega arith) (omega arith)) (B .follow) (B .silent) (B .hold)
+          (ite-owns .1) (waited ite-waits)
 
     ite-does : Does W U (goes W u (ite d e P Q) σ) K L f g a c j u
     unfolding widened

@@ -53,16 +53,27 @@ merged-one f g t = ap (λ (m : Merge). mergeStep m (f t) (g t) .out) (held-one f
 swapped : Merged → Merged
 swapped s = after (s .held .b) (s .held .a) (s .out)
 
--- p and q are the inputs, each with its held bit
 swap-one : (m : Merge) (x y : Bool) → mergeStep (bits (m .b) (m .a)) y x ≡ swapped (mergeStep m x y)
 unfolding mergeStep swapped
-swap-one m x y = go (x || m .a) (y || m .b)
+swap-one m x y = go (m .a) (m .b) x y
   where
-    go : (p q : Bool) → after (q && not (q && p)) (p && not (q && p)) (q && p) ≡ after (q && not (p && q)) (p && not (p && q)) (p && q)
-    go true true = refl
-    go true false = refl
-    go false true = refl
-    go false false = refl
+    go : (p q x y : Bool) → mergeStep (bits q p) y x ≡ swapped (mergeStep (bits p q) x y)
+    go true true true true = refl
+    go true true true false = refl
+    go true true false true = refl
+    go true true false false = refl
+    go true false true true = refl
+    go true false true false = refl
+    go true false false true = refl
+    go true false false false = refl
+    go false true true true = refl
+    go false true true false = refl
+    go false true false true = refl
+    go false true false false = refl
+    go false false true true = refl
+    go false false true false = refl
+    go false false false true = refl
+    go false false false false = refl
 
 swap-wide : (was : Bool) (m : Merge) (x y : Bool) → wideStep was (bits (m .b) (m .a)) y x ≡ swapped (wideStep was m x y)
 unfolding wideStep swapped

@@ -21,7 +21,7 @@ use Rattle.theory.specs.Control.World.{World, Built, means, Paced, goes}
 use Rattle.theory.specs.Control.Memories.{joined-swap}
 use Rattle.theory.specs.Control.Calm.{Calm, Sofar, is-inside}
 use Rattle.theory.specs.Control.Bodies.{Owned, Owns, owns-both, Settled}
-use Rattle.theory.specs.Control.Runs.{Words, Begins, Done, Does, RunOf, ShortOf, in-way}
+use Rattle.theory.specs.Control.Runs.{Words, Begins, free, Done, Does, RunOf, ShortOf, in-way}
 use Rattle.theory.specs.Control.Sides.{Own, Side, side}
 
 module _ (P Q : Stmt) (σ σ₁ σ₂ : Store) (x : ℕ) where
@@ -70,12 +70,12 @@ module _ (W : World) (P Q : Stmt) (timedP : Paced W P) (timedQ : Paced W Q) (apa
       side₁ : Side W P Q U σ K₁ L₁ (n .f₁) (n .g₁) a c e u
       side₁ =
           side W P Q timedP doesP apartQP U σ s g (n .f₁) (n .g₁) (n .left) (n .f₂) (n .g₂) (n .right) (n .joined) a c e u h o (B .ready .calm .1)
-          (B .pulse) (par-owns .0) (B .ready .settled) (B .ready .words) (B .follow) (B .silent) (B .hold)
+          (B .pulse) (par-owns .0) (free B)
 
       side₂ : Side W Q P U σ K₂ L₂ (n .f₂) (n .g₂) a c e u
       side₂ =
           side W Q P timedQ doesQ apartPQ U σ s g (n .f₂) (n .g₂) (n .right) (n .f₁) (n .g₁) (n .left) (joined-swap (n .g₁) (n .g₂) g (n .joined))
-          a c e u h o (B .ready .calm .2) (B .pulse) (par-owns .1) (B .ready .settled) (B .ready .words) (B .follow) (B .silent) (B .hold)
+          a c e u h o (B .ready .calm .2) (B .pulse) (par-owns .1) (free B)
 
       module _ (t₁ : ℕ) (σ₁ : Store) (t₂ : ℕ) (σ₂ : Store) (y : u ≡ max t₁ t₂) (p₁ : goes W u P σ ≡ ended t₁ σ₁) (p₂ : goes W u Q σ ≡ ended t₂ σ₂) where
         E₁ : Done atEnd W (Own W U Q) σ₁ K₁ L₁ (n .f₁) (n .g₁) a (a + t₁) e

@@ -15,7 +15,7 @@ use Rattle.theory.specs.Control.Wiring.{ideal, Gives, Repeat, Circuit, T
 use Rattle.theory.specs.Control.World.{World, Built, means, Paced, goes, each-of}
 use Rattle.theory.specs.Control.Calm.{Calm, calmly, Sofar, lately}
 use Rattle.theory.specs.Control.Bodies.{Owned}
-use Rattle.theory.specs.Control.Runs.{Begins, Does, RunOf, ShortOf}
+use Rattle.theory.specs.Control.Runs.{Begins, free, Does, RunOf, ShortOf}
 use Rattle.theory.specs.Control.Rounds.{Starts}
 use Rattle.theory.specs.Control.Turns.{Loop, Laps, Turned, starts-does}
 
@@ -64,11 +64,7 @@ module _ (W : World) (d : ℕ) (e : Expr) (P : Stmt) (long : gap (W .w) ≤ d) (
           line = B .ready .calm .0 .1;
           calm = B .ready .calm .1;
           after = B .pulse .low;
-          settled = B .ready .settled;
-          follow = B .follow;
-          silent = B .silent;
-          hold = B .hold;
-          words = B .ready .words;
+          free = free B;
         }
 
     repeat-turned : Turned W d e f (n .f₁) a j

@@ -16,7 +16,7 @@ use Rattle.theory.specs.Control.World.{World, Built, means, Paced, goes,
 use Rattle.theory.specs.Control.Calm.{Calm, calmly, Sofar, lately, calm-sofar, sofar-less}
 use Rattle.theory.specs.Control.Rest.{Rests, rest}
 use Rattle.theory.specs.Control.Bodies.{Owned}
-use Rattle.theory.specs.Control.Runs.{Begins, Does, RunOf, ShortOf}
+use Rattle.theory.specs.Control.Runs.{Begins, free, Does, RunOf, ShortOf}
 use Rattle.theory.specs.Control.Rounds.{Enters}
 use Rattle.theory.specs.Control.Turns.{Loop, Laps, Turned, enters-does}
 
@@ -89,11 +89,7 @@ module _ (W : World) (d : ℕ) (e : Expr) (P : Stmt) (long : gap (W .w) ≤ d) (
               (calm-sofar W P (n .s₁) (n .f₁) g (n .body) (a + gap (W .w)) (r .calm));
           calm = λ k. r .calm;
           after = B .pulse .low;
-          settled = B .ready .settled;
-          follow = B .follow;
-          silent = B .silent;
-          hold = B .hold;
-          words = B .ready .words;
+          free = free B;
         }
 
     while-turned : Turned W d e f X a j

@@ -10,7 +10,7 @@ use Rattle.theory.specs.Control.Widths.{gap}
 use Rattle.theory.specs.Control.Signal.{Quiet}
 use Rattle.model.specs.Program.{Stmt, touches}
 use Rattle.theory.specs.Control.Wiring.{Gives, Joined, latch, Mem}
-use Rattle.theory.specs.Control.World.{World, means}
+use Rattle.theory.specs.Control.World.{World, means, each-of}
 use Rattle.theory.specs.Control.Memories.{Dull, Latches, Follow, keep}
 use Rattle.theory.specs.Control.Calm.{Calm, Sofar, calm-sofar}
 use Rattle.theory.specs.Control.Rest.{Rests, rest}
@@ -28,6 +28,14 @@ reaches P q = false
 pub record Owns (W : World) (P : Stmt) (U : Owned) : Type 0 where
   pub mine : (x : ℕ) → touches (means W P) x ≡ true → U .vars x
   pub reach : (q : ℕ) → reaches P q ≡ true → U .procs q
+
+-- what two parts use together
+pub owns-both : (W : World) (P Q : Stmt) (U : Owned) → ((x : ℕ) → (touches (means W P) x || touches (means W Q) x) ≡ true → U .vars x)
+    → ((q : ℕ) → (reaches P q || reaches Q q) ≡ true → U .procs q) → Owns W P U × Owns W Q U
+owns-both W P Q U mine reach =
+    let v = each-of (touches (means W P)) (touches (means W Q)) mine in
+    let r = each-of (reaches P) (reaches Q) reach in
+    (record { mine = v .0; reach = r .0 }, record { mine = v .1; reach = r .1 })
 
 -- Bodies --------------------------------------------------------------------------------------------------------------------------------
 

@@ -1,7 +1,7 @@
 -- What the circuit of an if does. Its condition is read w times, and its words stay meanwhile. Assumes nothing.
 use Prim.Native.Nat.{ℕ, suc, _+_, _≤_, _<_}
 use mathlib.Core.Path.{_≡_, sym, _∙_, ap, ap₂}
-use mathlib.Core.Bool.{Bool, true, false, not, _&&_, _||_, or-true, or-comm}
+use mathlib.Core.Bool.{Bool, true, false, not, _&&_, _||_, or-comm}
 use native.Mathlib.Omega.{arith}
 use Rattle.model.specs.Word.{isZero}
 use Rattle.model.specs.Program.{Expr, Stmt, ite, reads, touches}
@@ -15,14 +15,14 @@ use Rattle.theory.specs.Control.Signal.{Quiet, delayed-quiet}
 use Rattle.theory.specs.Control.Pulses.{Pulse, Firm, pulse-less, pulse-delayed, pulse-firm, either-firm}
 use Rattle.theory.specs.Control.History.{Stable, stable-off, stable-on, Spaced, spaced-on}
 use Rattle.theory.specs.Control.Wiring.{ideal, Gives, Ite, Circuit, Test, Each}
-use Rattle.theory.specs.Control.World.{World, Built, means, Paced, goes}
+use Rattle.theory.specs.Control.World.{World, Built, means, Paced, goes, each-of}
 use Rattle.theory.specs.Control.Memories.{joined-swap}
 use Rattle.theory.specs.Control.Calm.{Calm, calmly, Sofar, lately, calm-sofar, hush}
 use Rattle.theory.specs.Control.Rest.{Rests, rest}
 use Rattle.theory.specs.Control.Surge.{surge, gated-firm, test-same}
-use Rattle.theory.specs.Control.Bodies.{Owned, Owns, pause-sofar}
-use Rattle.theory.specs.Control.Runs.{Begins, Going, Does, RunOf, ShortOf, done-as, going-as}
-use Rattle.theory.specs.Control.Tests.{Waits, waited-settled, waited-words, test-words, test-is}
+use Rattle.theory.specs.Control.Bodies.{Owned, Owns, owns-both, pause-sofar}
+use Rattle.theory.specs.Control.Runs.{Begins, free, Going, Does, RunOf, ShortOf, done-as, going-as}
+use Rattle.theory.specs.Control.Tests.{Waits, waited, test-words, test-is}
 use Rattle.theory.specs.Control.Sides.{Branch, branch}
 
 module _ (W : World) (d : ℕ) (e : Expr) (P Q : Stmt) (timedP : Paced W P) (timedQ : Paced W Q) (doesP : RunOf W P) (doesQ : RunOf W Q)
@@ -89,27 +89,12 @@ module _ (W : World) (d : ℕ) (e : Expr) (P Q : Stmt) (timedP : Paced W P) (tim
         }
 
     -- what the condition reads, and what a branch uses, the if uses
-    ite-reads : (x : ℕ) → reads e x ≡ true → U .vars x
+    ite-uses : ((x : ℕ) → reads e x ≡ true → U .vars x) × ((x : ℕ) → (touches (means W P) x || touches (means W Q) x) ≡ true → U .vars x)
     unfolding touches widened
-    ite-reads x r = B .ready .owns .mine x (ap (λ (c : Bool). c || (touches (means W P) x || touches (means W Q) x)) r)
+    ite-uses = each-of (reads e) (λ x. touches (means W P) x || touches (means W Q) x) (B .ready .owns .mine)
 
-    then-owns : Owns W P U
-    unfolding touches widened
-    then-owns =
-        record {
-          mine = λ x t. B .ready .owns .mine x (ap (λ (c : Bool). reads e x || (c || touches (means W Q) x)) t ∙ or-true (reads e x));
-          reach = B .ready .owns .reach;
-        }
-
-    else-owns : Owns W Q U
-    unfolding touches widened
-    else-owns =
-        record {
-          mine = λ x t.
-              B .ready .owns .mine x
-              (ap (λ (c : Bool). reads e x || c) (ap (λ (c : Bool). touches (means W P) x || c) t ∙ or-true (touches (means W P) x)) ∙ or-true (reads e x));
-          reach = B .ready .owns .reach;
-        }
+    ite-owns : Owns W P U × Owns W Q U
+    ite-owns = owns-both W P Q U (ite-uses .1) (B .ready .owns .reach)
 
     module _ (o : d ≤ u) where
       rest₁ : Rests (n .f₁) (n .g₁) K₁ a (a + d)
@@ -133,31 +118,27 @@ module _ (W : World) (d : ℕ) (e : Expr) (P Q : Stmt) (timedP : Paced W P) (tim
           record {
             room = omega arith;
             last = o′;
-            settled = B .ready .settled;
-            words = B .ready .words;
-            follow = B .follow;
-            silent = B .silent;
-            hold = B .hold;
+            free = free B;
             low = λ x t l k. n .joined .clocks x t ∙ ap₂ _||_ (rest₁ .clocks x t l (omega arith)) (rest₂ .clocks x t l (omega arith));
             uncalled = λ q t l k k′. ite-uncalled q t (omega arith) k;
             firm = λ k l l₁ l₂ q x.
                 let D : Firm (delayed d s) (a + d) k = pulse-firm k (omega arith) (omega arith) ite-pulse in
-                let z = test-same W e (U .vars) (a + d) k ite-reads q in
+                let z = test-same W e (U .vars) (a + d) k (ite-uses .0) q in
                 let r =
                 surge W P timedP (n .s₁) (n .f₁) (n .g₁) (n .left) (a + d) k (rest₁ .calm) l (omega arith)
                 (gated-firm (delayed d s) (n .s₁) (λ t. not (isZero (eval e (W .m t)))) (a + d) k (λ t l h. n .yes₁ t) D (λ t l h. ap not (z t l h)))
-                (λ y r. q y (then-owns .mine y r)) in
+                (λ y r. q y (ite-owns .0 .mine y r)) in
                 let r′ =
                 surge W Q timedQ (n .s₂) (n .f₂) (n .g₂) (n .right) (a + d) k (rest₂ .calm) l (omega arith)
                 (gated-firm (delayed d s) (n .s₂) (λ t. isZero (eval e (W .m t))) (a + d) k (λ t l h. n .no₂ t) D z)
-                (λ y r. q y (else-owns .mine y r)) in
+                (λ y r. q y (ite-owns .1 .mine y r)) in
                 either-firm (n .g₁ .clk x) (n .g₂ .clk x) (g .clk x) (a + d) (suc k) (n .joined .clocks x) (r .clocks x) (r′ .clocks x);
           }
 
       ite-used : (b : ℕ) → b ≤ j → Stable (W .m) d e s b
       ite-used b o₁ =
           stable-on (W .w) (W .m) d e s a b σ (B .ready .calm .0 .2) (B .ready .calm .0 .0) (pulse-less o₁ (B .pulse))
-          (λ k x r v l k₁ k₂. test-words ite-waits e ite-reads x r v l k₁ (omega arith))
+          (λ k x r v l k₁ k₂. test-words ite-waits e (ite-uses .0) x r v l k₁ (omega arith))
 
       -- what is known of the delay, at the end and so far
       ite-calm : c + gap (W .w) ≤ j → Test (calmly (W .w) (W .m) j) d e s
@@ -180,12 +161,12 @@ module _ (W : World) (d : ℕ) (e : Expr) (P Q : Stmt) (timedP : Paced W P) (tim
           a c j u d h o o′ (B .ready .calm .1) (B .ready .calm .2) (λ t l k. ite-off₁ t (ite-before t l k))
           (record {
             high = λ t l k k′.
-                n .yes₁ t ∙ ap₂ (λ (p q : Bool). p && not q) (ite-pulse .high t l k (omega arith)) (test-is ite-waits e ite-reads t l k k′ ∙ z);
+                n .yes₁ t ∙ ap₂ (λ (p q : Bool). p && not q) (ite-pulse .high t l k (omega arith)) (test-is ite-waits e (ite-uses .0) t l k k′ ∙ z);
             low = λ t l k. ite-off₁ t (ite-pulse .low t l (omega arith));
           })
           (ite-off (n .s₂) ite-off₂
-          (λ t l k k′. n .no₂ t ∙ ap₂ (λ (p q : Bool). p && q) (ite-pulse .high t l k (omega arith)) (test-is ite-waits e ite-reads t l k k′ ∙ z)))
-          then-owns (waited-settled ite-waits) (waited-words ite-waits (a + d) (omega arith) (omega arith)) (B .follow) (B .silent) (B .hold)
+          (λ t l k k′. n .no₂ t ∙ ap₂ (λ (p q : Bool). p && q) (ite-pulse .high t l k (omega arith)) (test-is ite-waits e (ite-uses .0) t l k k′ ∙ z)))
+          (ite-owns .0) (waited ite-waits)
 
       else-branch : isZero (eval e σ) ≡ true → Branch W Q U σ (λ t. K₂ t × K₁ t) (λ t. L₂ t × L₁ t) f g a c j u d
       else-branch z =
@@ -194,12 +175,12 @@ module _ (W : World) (d : ℕ) (e : Expr) (P Q : Stmt) (timedP : Paced W P) (tim
           a c j u d h o o′ (B .ready .calm .2) (B .ready .calm .1) (λ t l k. ite-off₂ t (ite-before t l k))
           (record {
             high = λ t l k k′.
-                n .no₂ t ∙ ap₂ (λ (p q : Bool). p && q) (ite-pulse .high t l k (omega arith)) (test-is ite-waits e ite-reads t l k k′ ∙ z);
+                n .no₂ t ∙ ap₂ (λ (p q : Bool). p && q) (ite-pulse .high t l k (omega arith)) (test-is ite-waits e (ite-uses .0) t l k k′ ∙ z);
             low = λ t l k. ite-off₂ t (ite-pulse .low t l (omega arith));
           })
           (ite-off (n .s₁) ite-off₁
-          (λ t l k k′. n .yes₁ t ∙ ap₂ (λ (p q : Bool). p && not q) (ite-pulse .high t l k (omega arith)) (test-is ite-waits e ite-reads t l k k′ ∙ z)))
-          else-owns (waited-settled ite-waits) (waited-words ite-waits (a + d) (omega arith) (omega arith)) (B .follow) (B .silent) (B .hold)
+          (λ t l k k′. n .yes₁ t ∙ ap₂ (λ (p q : Bool). p && not q) (ite-pulse .high t l k (omega arith)) (test-is ite-waits e (ite-uses .0) t l k k′ ∙ z)))
+          (ite-owns .1) (waited ite-waits)
 
     ite-does : Does W U (goes W u (ite d e P Q) σ) K L f g a c j u
     unfolding widened

@@ -7,12 +7,12 @@ use lib.Dec.{eqb}
 use borrow.Author.Tests.{eq-eqb, ne-eqb}
 use Rattle.model.specs.declared.Merge.{Merge}
 use Rattle.model.specs.declared.Merged.{Merged}
-use Rattle.model.specs.Circuit.{Sig}
+use Rattle.model.specs.Circuit.{Sig, mergeStep}
 use Rattle.laws.specs.Refusals.Laws.{by-le, not-both, and-true}
 use Rattle.theory.specs.Control.Widths.{gap, gap-one, gap-wide}
 use Rattle.theory.specs.Control.Signal.{Quiet}
 use Rattle.theory.specs.Control.Pulses.{Pulse, Firm, at}
-use Rattle.theory.specs.Control.Merge.{bits, after, stepOf, before, merged, merged-swap, Holds, Empty, low-n, holds-none, holds-at, empty-swap, next-first, fixed-n, merged-right, stays-empty}
+use Rattle.theory.specs.Control.Merge.{bits, after, wideStep, stepOf, before, merged, merged-swap, Holds, Empty, low-n, holds-none, holds-at, empty-swap, next-first, fixed-n, merged-right, stays-empty}
 
 -- Where the inputs meet ----------------------------------------------------------------------------------------------------------------
 
@@ -41,22 +41,22 @@ ready w f g a c₁ c o₁ o₂ e x₁ x y =
 
 -- the steps of the pulse, from both bits on
 step-meet-one : (was p x : Bool) → (x || p) ≡ true → stepOf true was (bits p false) x true ≡ after false false true
-unfolding stepOf
+unfolding stepOf mergeStep
 step-meet-one was p x z = rw z refl
 
 step-meet : (p x : Bool) → (x || p) ≡ true → stepOf false false (bits p false) x true ≡ after true true true
-unfolding stepOf
+unfolding stepOf wideStep
 step-meet p true z = refl
 step-meet true false z = refl
 step-meet false false z = not-both z refl
 
 step-on : (x : Bool) → stepOf false true (bits true true) x true ≡ after true true true
-unfolding stepOf
+unfolding stepOf wideStep
 step-on true = refl
 step-on false = refl
 
 step-off : stepOf false true (bits true true) false false ≡ after false false false
-unfolding stepOf
+unfolding stepOf wideStep
 step-off = refl
 
 module _ (w : ℕ) (f g : Sig) where
@@ -157,7 +157,7 @@ meets-swap w f g a c e h =
 -- Inputs that do not fall ----------------------------------------------------------------------------------------------------------------
 
 step-firm : (p q x y : Bool) → (p ≡ true → x ≡ true) → (q ≡ true → y ≡ true) → stepOf false (p && q) (bits p q) x y ≡ after x y (x && y)
-unfolding stepOf
+unfolding stepOf wideStep
 step-firm true true true true h k = refl
 step-firm true true true false h k = not-both (k refl) refl
 step-firm true true false true h k = not-both (h refl) refl

@@ -1,7 +1,7 @@
 -- The merge of pulses of w instants: what it holds and puts out while an input has not come. With w 1 it is the paper's. Assumes nothing.
 use Prim.Native.Nat.{ℕ, zero, suc, _+_, _-_, _≤_, _<_}
 use mathlib.Core.Path.{_≡_, refl, sym, _∙_, ap, ap₂, subst}
-use mathlib.Core.Bool.{Bool, true, false, not, _&&_, _||_}
+use mathlib.Core.Bool.{Bool, true, false, not, _&&_, _||_, or-comm as ||-comm}
 use native.Mathlib.Omega.{arith}
 use lib.Dec.{eqb}
 use Rattle.model.specs.declared.Merge.{Merge}
@@ -17,15 +17,18 @@ bits p q = record { a = p; b = q }
 abbrev pub after : Bool → Bool → Bool → Merged
 after p q o = record { held = bits p q; out = o }
 
--- one: the pulse length is 1. was: the output an instant ago. With longer pulses an input must be high for the output, and the held bits stay until
--- the output falls
-unfoldable pub stepOf : Bool → Bool → Merge → Bool → Bool → Merged
-stepOf one was m a b =
+-- With longer pulses an input must be high for the output, and the held bits stay until the output falls. was: the output an instant ago
+unfoldable pub wideStep : Bool → Merge → Bool → Bool → Merged
+wideStep was m a b =
     let A = a || m .a in
     let B = b || m .b in
-    let out = pick one (A && B) ((A && B) && (a || b)) in
-    let gone = pick one out (was && not out) in
+    let out = (A && B) && (a || b) in
+    let gone = was && not out in
     record { held = record { a = A && not gone; b = B && not gone }; out = out }
+
+-- one: the pulse length is 1
+unfoldable pub stepOf : Bool → Bool → Merge → Bool → Bool → Merged
+stepOf one was m a b = pick one (mergeStep m a b) (wideStep was m a b)
 
 -- what a merge of a and b held, and put out, just before instant t
 unfoldable pub before : ℕ → Sig → Sig → ℕ → Merged
@@ -36,33 +39,25 @@ unfoldable pub merged : ℕ → Sig → Sig → Sig
 merged w a b t = before w a b (suc t) .out
 
 -- with pulses of 1, the paper's merge
-step-one : (was : Bool) (m : Merge) (x y : Bool) → stepOf true was m x y ≡ mergeStep m x y
-unfolding stepOf mergeStep
-step-one was m x y = refl
-
 held-one : (f g : Sig) (t : ℕ) → before 1 f g t .held ≡ heldBefore f g t
-unfolding before heldBefore
+unfolding before heldBefore stepOf
 held-one f g zero = refl
-held-one f g (suc t) =
-    ap (λ (s : Merged). s .held) (step-one (before 1 f g t .out) (before 1 f g t .held) (f t) (g t))
-    ∙ ap (λ (m : Merge). mergeStep m (f t) (g t) .held) (held-one f g t)
+held-one f g (suc t) = ap (λ (m : Merge). mergeStep m (f t) (g t) .held) (held-one f g t)
 
 pub merged-one : (f g : Sig) (t : ℕ) → merged 1 f g t ≡ merged₁ f g t
-unfolding merged merged₁ before
-merged-one f g t =
-    ap (λ (s : Merged). s .out) (step-one (before 1 f g t .out) (before 1 f g t .held) (f t) (g t))
-    ∙ ap (λ (m : Merge). mergeStep m (f t) (g t) .out) (held-one f g t)
+unfolding merged merged₁ before stepOf
+merged-one f g t = ap (λ (m : Merge). mergeStep m (f t) (g t) .out) (held-one f g t)
 
 -- Its inputs swapped -------------------------------------------------------------------------------------------------------------------
 
 swapped : Merged → Merged
 swapped s = after (s .held .b) (s .held .a) (s .out)
 
-step-swap : (one was : Bool) (m : Merge) (x y : Bool) → stepOf one was (bits (m .b) (m .a)) y x ≡ swapped (stepOf one was m x y)
-unfolding stepOf swapped
-step-swap one was m x y = go (m .a) (m .b) x y
+swap-one : (m : Merge) (x y : Bool) → mergeStep (bits (m .b) (m .a)) y x ≡ swapped (mergeStep m x y)
+unfolding mergeStep swapped
+swap-one m x y = go (m .a) (m .b) x y
   where
-    go : (p q x y : Bool) → stepOf one was (bits q p) y x ≡ swapped (stepOf one was (bits p q) x y)
+    go : (p q x y : Bool) → mergeStep (bits q p) y x ≡ swapped (mergeStep (bits p q) x y)
     go true true true true = refl
     go true true true false = refl
     go true true false true = refl
@@ -79,6 +74,24 @@ step-swap one was m x y = go (m .a) (m .b) x y
     go false false true false = refl
     go false false false true = refl
     go false false false false = refl
+
+swap-wide : (was : Bool) (m : Merge) (x y : Bool) → wideStep was (bits (m .b) (m .a)) y x ≡ swapped (wideStep was m x y)
+unfolding wideStep swapped
+swap-wide was m x y = go (x || m .a) (y || m .b) (||-comm y x)
+  where
+    held : Bool → Bool → Bool → Merged
+    held p q o = after (q && not (was && not o)) (p && not (was && not o)) o
+
+    go : (p q : Bool) → (y || x) ≡ (x || y) → held p q ((q && p) && (y || x)) ≡ held p q ((p && q) && (x || y))
+    go true true e = ap (λ (c : Bool). held true true c) e
+    go true false e = refl
+    go false true e = refl
+    go false false e = refl
+
+step-swap : (one was : Bool) (m : Merge) (x y : Bool) → stepOf one was (bits (m .b) (m .a)) y x ≡ swapped (stepOf one was m x y)
+unfolding stepOf
+step-swap true was m x y = swap-one m x y
+step-swap false was m x y = swap-wide was m x y
 
 swap : (w : ℕ) (f g : Sig) (t : ℕ) → before w g f t ≡ swapped (before w f g t)
 unfolding before swapped
@@ -107,42 +120,15 @@ empty-zero w f g = refl
 
 -- with longer pulses a merge that holds nothing has just put out nothing
 step-empty : (was : Bool) (m : Merge) (x y : Bool) → stepOf false was m x y .held ≡ bits false false → stepOf false was m x y .out ≡ false
-unfolding stepOf
-step-empty was m x y e = go was (m .a) (m .b) x y e
+unfolding stepOf wideStep
+step-empty was m x y e = go was (x || m .a) (y || m .b) (x || y) (ap (λ (m : Merge). m .a) e)
   where
-    go : (was p q x y : Bool) → stepOf false was (bits p q) x y .held ≡ bits false false → stepOf false was (bits p q) x y .out ≡ false
-    go true true true true true e = ap (λ (m : Merge). m .a) e
-    go true true true true false e = ap (λ (m : Merge). m .a) e
-    go true true true false true e = ap (λ (m : Merge). m .a) e
-    go true true true false false e = refl
-    go true true false true true e = ap (λ (m : Merge). m .a) e
-    go true true false true false e = refl
-    go true true false false true e = ap (λ (m : Merge). m .a) e
-    go true true false false false e = refl
-    go true false true true true e = ap (λ (m : Merge). m .a) e
-    go true false true true false e = ap (λ (m : Merge). m .a) e
-    go true false true false true e = refl
-    go true false true false false e = refl
-    go true false false true true e = ap (λ (m : Merge). m .a) e
-    go true false false true false e = refl
-    go true false false false true e = refl
-    go true false false false false e = refl
-    go false true true true true e = ap (λ (m : Merge). m .a) e
-    go false true true true false e = ap (λ (m : Merge). m .a) e
-    go false true true false true e = ap (λ (m : Merge). m .a) e
-    go false true true false false e = refl
-    go false true false true true e = ap (λ (m : Merge). m .a) e
-    go false true false true false e = refl
-    go false true false false true e = ap (λ (m : Merge). m .a) e
-    go false true false false false e = refl
-    go false false true true true e = ap (λ (m : Merge). m .a) e
-    go false false true true false e = ap (λ (m : Merge). m .a) e
-    go false false true false true e = refl
-    go false false true false false e = refl
-    go false false false true true e = ap (λ (m : Merge). m .a) e
-    go false false false true false e = refl
-    go false false false false true e = refl
-    go false false false false false e = refl
+    go : (was p q c : Bool) → (p && not (was && not ((p && q) && c))) ≡ false → ((p && q) && c) ≡ false
+    go true true true true e = e
+    go false true true true e = e
+    go was true true false e = refl
+    go was true false c e = refl
+    go was false q c e = refl
 
 pub low-n : (w : ℕ) (f g : Sig) (t : ℕ) → eqb w 1 ≡ false → Empty w f g t → before w f g t .out ≡ false
 unfolding before
@@ -162,7 +148,7 @@ empty-swap w f g t e = ap (λ (s : Merged). s .held) (swap w f g t) ∙ ap (λ (
 
 -- the second input has not come
 step-first : (one was p x : Bool) → (one ≡ false → was ≡ false) → stepOf one was (bits p false) x false ≡ after (x || p) false false
-unfolding stepOf
+unfolding stepOf wideStep mergeStep
 step-first true was true true h = refl
 step-first true was true false h = refl
 step-first true was false true h = refl

@@ -1,7 +1,7 @@
 -- What the circuit of a parallel does. Assumes nothing.
 use Prim.Native.Nat.{ℕ, suc, _+_, _≤_, _<_, max}
 use mathlib.Core.Path.{_≡_, refl, sym, _∙_, ap, ap₂, subst}
-use mathlib.Core.Bool.{Bool, true, false, _||_, or-true}
+use mathlib.Core.Bool.{Bool, true, false, _||_}
 use native.Mathlib.Omega.{arith}
 use Rattle.model.specs.Word.{pick}
 use Rattle.model.specs.Program.{Stmt, par, writes, touches}
@@ -20,8 +20,8 @@ use Rattle.theory.specs.Control.Wiring.{Gives, Par, Circuit, Each}
 use Rattle.theory.specs.Control.World.{World, Built, means, Paced, goes}
 use Rattle.theory.specs.Control.Memories.{joined-swap}
 use Rattle.theory.specs.Control.Calm.{Calm, Sofar, is-inside}
-use Rattle.theory.specs.Control.Bodies.{Owned, Owns, Settled}
-use Rattle.theory.specs.Control.Runs.{Words, Begins, Done, Does, RunOf, ShortOf, in-way}
+use Rattle.theory.specs.Control.Bodies.{Owned, Owns, owns-both, Settled}
+use Rattle.theory.specs.Control.Runs.{Words, Begins, free, Done, Does, RunOf, ShortOf, in-way}
 use Rattle.theory.specs.Control.Sides.{Own, Side, side}
 
 module _ (P Q : Stmt) (σ σ₁ σ₂ : Store) (x : ℕ) where
@@ -63,28 +63,19 @@ module _ (W : World) (P Q : Stmt) (timedP : Paced W P) (timedQ : Paced W Q) (apa
     par-in t = n .joined .out t ∙ ap₂ _||_ (is-inside W P s (n .f₁) (n .g₁) (n .left) t) (is-inside W Q s (n .f₂) (n .g₂) (n .right) t)
 
     module _ (a c e u : ℕ) (h : a + u ≡ c) (o : c < e) (short : e ≤ c + gap (W .w)) (B : Begins W (par P Q) U σ K s g a c e) where
-      par-owns₁ : Owns W P U
+      par-owns : Owns W P U × Owns W Q U
       unfolding touches widened
-      par-owns₁ =
-          record { mine = λ x t. B .ready .owns .mine x (ap (λ (c : Bool). c || touches (means W Q) x) t); reach = B .ready .owns .reach }
-
-      par-owns₂ : Owns W Q U
-      unfolding touches widened
-      par-owns₂ =
-          record {
-            mine = λ x t. B .ready .owns .mine x (ap (λ (c : Bool). touches (means W P) x || c) t ∙ or-true (touches (means W P) x));
-            reach = B .ready .owns .reach;
-          }
+      par-owns = owns-both W P Q U (B .ready .owns .mine) (B .ready .owns .reach)
 
       side₁ : Side W P Q U σ K₁ L₁ (n .f₁) (n .g₁) a c e u
       side₁ =
           side W P Q timedP doesP apartQP U σ s g (n .f₁) (n .g₁) (n .left) (n .f₂) (n .g₂) (n .right) (n .joined) a c e u h o (B .ready .calm .1)
-          (B .pulse) par-owns₁ (B .ready .settled) (B .ready .words) (B .follow) (B .silent) (B .hold)
+          (B .pulse) (par-owns .0) (free B)
 
       side₂ : Side W Q P U σ K₂ L₂ (n .f₂) (n .g₂) a c e u
       side₂ =
           side W Q P timedQ doesQ apartPQ U σ s g (n .f₂) (n .g₂) (n .right) (n .f₁) (n .g₁) (n .left) (joined-swap (n .g₁) (n .g₂) g (n .joined))
-          a c e u h o (B .ready .calm .2) (B .pulse) par-owns₂ (B .ready .settled) (B .ready .words) (B .follow) (B .silent) (B .hold)
+          a c e u h o (B .ready .calm .2) (B .pulse) (par-owns .1) (free B)
 
       module _ (t₁ : ℕ) (σ₁ : Store) (t₂ : ℕ) (σ₂ : Store) (y : u ≡ max t₁ t₂) (p₁ : goes W u P σ ≡ ended t₁ σ₁) (p₂ : goes W u Q σ ≡ ended t₂ σ₂) where
         E₁ : Done atEnd W (Own W U Q) σ₁ K₁ L₁ (n .f₁) (n .g₁) a (a + t₁) e

@@ -1,7 +1,7 @@
 -- What the circuit of a repeat does: it starts with its body. Assumes nothing.
 use Prim.Native.Nat.{ℕ, suc, _+_, _≤_, _<_}
 use mathlib.Core.Path.{_≡_, refl, _∙_, ap, ap₂}
-use mathlib.Core.Bool.{Bool, not, _&&_, _||_, or-true}
+use mathlib.Core.Bool.{Bool, not, _&&_, _||_}
 use native.Mathlib.Omega.{arith}
 use Rattle.model.specs.Word.{isZero}
 use Rattle.model.specs.Program.{Expr, Stmt, repeat, reads, touches}
@@ -12,10 +12,10 @@ use Rattle.theory.specs.Control.Widths.{gap, widened}
 use Rattle.theory.specs.Control.Signal.{Quiet, delayed-quiet}
 use Rattle.theory.specs.Control.History.{stable-off}
 use Rattle.theory.specs.Control.Wiring.{ideal, Gives, Repeat, Circuit, Test, Each}
-use Rattle.theory.specs.Control.World.{World, Built, means, Paced, goes}
+use Rattle.theory.specs.Control.World.{World, Built, means, Paced, goes, each-of}
 use Rattle.theory.specs.Control.Calm.{Calm, calmly, Sofar, lately}
 use Rattle.theory.specs.Control.Bodies.{Owned}
-use Rattle.theory.specs.Control.Runs.{Begins, Does, RunOf, ShortOf}
+use Rattle.theory.specs.Control.Runs.{Begins, free, Does, RunOf, ShortOf}
 use Rattle.theory.specs.Control.Rounds.{Starts}
 use Rattle.theory.specs.Control.Turns.{Loop, Laps, Turned, starts-does}
 
@@ -40,19 +40,17 @@ module _ (W : World) (d : ℕ) (e : Expr) (P : Stmt) (long : gap (W .w) ≤ d) (
     repeat-loop : Loop W P U d e (λ z. z) s f (n .f₁) (n .s₁) (n .f₁) g
     unfolding touches widened
     repeat-loop =
+        let uses = each-of (reads e) (touches (means W P)) (B .ready .owns .mine) in
         record {
           body = record {
             built = n .body;
             long = long;
             timed = timed;
             does = does;
-            owns = record {
-              mine = λ x t. B .ready .owns .mine x (ap (λ (c : Bool). reads e x || c) t ∙ or-true (reads e x));
-              reach = B .ready .owns .reach;
-            };
+            owns = record { mine = uses .1; reach = B .ready .owns .reach };
             off = λ t p q. n .begin t ∙ ap₂ (λ (c c′ : Bool). c || (c′ && isZero (eval e (W .m t)))) p q;
           };
-          reading = λ x t. B .ready .owns .mine x (ap (λ (c : Bool). c || touches (means W P) x) t);
+          reading = uses .0;
           begin = λ t p. n .begin t ∙ ap (λ (c : Bool). c || (delayed d (n .f₁) t && isZero (eval e (W .m t)))) p;
           fin = n .fin;
         }
@@ -66,11 +64,7 @@ module _ (W : World) (d : ℕ) (e : Expr) (P : Stmt) (long : gap (W .w) ≤ d) (
           line = B .ready .calm .0 .1;
           calm = B .ready .calm .1;
           after = B .pulse .low;
-          settled = B .ready .settled;
-          follow = B .follow;
-          silent = B .silent;
-          hold = B .hold;
-          words = B .ready .words;
+          free = free B;
         }
 
     repeat-turned : Turned W d e f (n .f₁) a j

@@ -150,28 +150,23 @@ module _ (W : World) (P : Stmt) (hP : RestOf W P) (d : ℕ) (pos : 1 ≤ d) (X s
       (λ v h x. hP s₁ f₁ g n a (suc (a + v)) k (omega arith) (starts (a + v) h x) .fin (a + v) (omega arith) (omega arith))
 
   -- nothing enters the delay, and nothing comes out
-  input-quiet : Quiet X a b
-  input-quiet = feeds b (omega arith) body-quiet
-
-  output-quiet : Quiet (delayed d X) a b
-  output-quiet t l h = delayed-quiet d X a b clear input-quiet t l (omega arith)
-
-  body-rests : Rests f₁ g (Calm W P s₁ f₁ g n) a b
-  body-rests = hP s₁ f₁ g n a b k o (λ t l h. off t (q t l h) (output-quiet t l h))
+  loop-rests : Rests f₁ g (Calm W P s₁ f₁ g n) a b × Quiet X a b × Quiet (delayed d X) a b
+  loop-rests =
+      let i : Quiet X a b = feeds b (omega arith) body-quiet in
+      let z : Quiet (delayed d X) a b = λ t l h. delayed-quiet d X a b clear i t l (omega arith) in
+      (hP s₁ f₁ g n a b k o (λ t l h. off t (q t l h) (z t l h)), i, z)
 
 rest-while : (W : World) (d : ℕ) (e : Expr) (P : Stmt) → 1 ≤ d → RestOf W P → RestOf W (while d e P)
 unfolding Circuit Each
 rest-while W d e P pos hP s f g n a b k o q =
     let X : Sig = either s (n .f₁) in
-    let fed : (t : ℕ) → s t ≡ false → n .f₁ t ≡ false → X t ≡ false = λ t x y. ap₂ _||_ x y in
-    let off : (t : ℕ) → s t ≡ false → delayed d X t ≡ false → n .s₁ t ≡ false =
-    λ t x y. n .begin t ∙ ap (λ (c : Bool). c && not (isZero (eval e (W .m t)))) y in
-    let r = body-rests W P hP d pos X s (n .s₁) (n .f₁) g (n .body) fed off a b (k .1) (k .0 .0) o q in
-    let i = input-quiet W P hP d pos X s (n .s₁) (n .f₁) g (n .body) fed off a b (k .1) (k .0 .0) o q in
-    let z = output-quiet W P hP d pos X s (n .s₁) (n .f₁) g (n .body) fed off a b (k .1) (k .0 .0) o q in
+    let v =
+    loop-rests W P hP d pos X s (n .s₁) (n .f₁) g (n .body) (λ t x y. ap₂ _||_ x y)
+    (λ t x y. n .begin t ∙ ap (λ (c : Bool). c && not (isZero (eval e (W .m t)))) y) a b (k .1) (k .0 .0) o q in
+    let r = v .0 in
     record {
-      calm = (test-rests W d X a b o i e (k .0), r .calm);
-      fin = λ t l h. n .fin t ∙ ap (λ (c : Bool). c && isZero (eval e (W .m t))) (z t l h);
+      calm = (test-rests W d X a b o (v .1) e (k .0), r .calm);
+      fin = λ t l h. n .fin t ∙ ap (λ (c : Bool). c && isZero (eval e (W .m t))) (v .2 t l h);
       out = r .out;
       clocks = r .clocks;
       called = r .called;
@@ -180,15 +175,13 @@ rest-while W d e P pos hP s f g n a b k o q =
 rest-repeat : (W : World) (d : ℕ) (e : Expr) (P : Stmt) → 1 ≤ d → RestOf W P → RestOf W (repeat d e P)
 unfolding Circuit Each
 rest-repeat W d e P pos hP s f g n a b k o q =
-    let fed : (t : ℕ) → s t ≡ false → n .f₁ t ≡ false → n .f₁ t ≡ false = λ t x y. y in
-    let off : (t : ℕ) → s t ≡ false → delayed d (n .f₁) t ≡ false → n .s₁ t ≡ false =
-    λ t x y. n .begin t ∙ ap₂ (λ (p c : Bool). p || (c && isZero (eval e (W .m t)))) x y in
-    let r = body-rests W P hP d pos (n .f₁) s (n .s₁) (n .f₁) g (n .body) fed off a b (k .1) (k .0 .0) o q in
-    let i = input-quiet W P hP d pos (n .f₁) s (n .s₁) (n .f₁) g (n .body) fed off a b (k .1) (k .0 .0) o q in
-    let z = output-quiet W P hP d pos (n .f₁) s (n .s₁) (n .f₁) g (n .body) fed off a b (k .1) (k .0 .0) o q in
+    let v =
+    loop-rests W P hP d pos (n .f₁) s (n .s₁) (n .f₁) g (n .body) (λ t x y. y)
+    (λ t x y. n .begin t ∙ ap₂ (λ (p c : Bool). p || (c && isZero (eval e (W .m t)))) x y) a b (k .1) (k .0 .0) o q in
+    let r = v .0 in
     record {
-      calm = (test-rests W d (n .f₁) a b o i e (k .0), r .calm);
-      fin = λ t l h. n .fin t ∙ ap (λ (c : Bool). c && not (isZero (eval e (W .m t)))) (z t l h);
+      calm = (test-rests W d (n .f₁) a b o (v .1) e (k .0), r .calm);
+      fin = λ t l h. n .fin t ∙ ap (λ (c : Bool). c && not (isZero (eval e (W .m t)))) (v .2 t l h);
       out = r .out;
       clocks = r .clocks;
       called = r .called;

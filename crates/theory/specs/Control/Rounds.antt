@@ -17,8 +17,8 @@ use Rattle.theory.specs.Control.Wiring.{Gives}
 use Rattle.theory.specs.Control.World.{World, Built, Paced, goes}
 use Rattle.theory.specs.Control.Calm.{Calm, Sofar, calm-sofar, sofar-less, hush}
 use Rattle.theory.specs.Control.Rest.{Rests, rest}
-use Rattle.theory.specs.Control.Bodies.{Owned, BodySofar, Owns, Follows, within, Settled, pause-sofar}
-use Rattle.theory.specs.Control.Runs.{Words, Hold, Silent, Done, RunOf, Launched, launch, words-last}
+use Rattle.theory.specs.Control.Bodies.{Owned, BodySofar, Owns, within, Settled, pause-sofar}
+use Rattle.theory.specs.Control.Runs.{Free, free-later, Done, RunOf, Launched, launch, words-last}
 
 -- a loop's body, P, and how it is started: not where neither the loop's start nor the delay's end is high
 pub record Body (W : World) (P : Stmt) (U : Owned) (d : ℕ) (s X s₁ f₁ : Sig) (g : Gives) : Type 1 where
@@ -37,11 +37,7 @@ pub record Starts (W : World) (U : Owned) (d : ℕ) (σ : Store) (K : ℕ → Ty
   pub line : Spaced (W .w) d X a
   pub calm : K a
   pub after : (t : ℕ) → a + W .w ≤ t → t < j → s t ≡ false
-  pub settled : Settled W (U .procs) a j
-  pub follow : Follows W U g a c
-  pub silent : Silent W U g a c j
-  pub hold : Hold W U c j
-  pub words : Words W U σ a
+  pub free : Free W U g σ a c j
 
 -- A pulse enters the delay at a; the body may still be leaving, and is calm a gap later
 pub record Enters (W : World) (U : Owned) (d : ℕ) (σ : Store) (K L : ℕ → Type 0) (s X f₁ : Sig) (g : Gives) (a c j : ℕ) : Type 0 where
@@ -56,11 +52,7 @@ pub record Enters (W : World) (U : Owned) (d : ℕ) (σ : Store) (K L : ℕ → 
   pub sofar : (t : ℕ) → t ≤ a + gap (W .w) → t ≤ j → L t
   pub calm : a + gap (W .w) ≤ j → K (a + gap (W .w))
   pub after : (t : ℕ) → a + W .w ≤ t → t < j → s t ≡ false
-  pub settled : Settled W (U .procs) a j
-  pub follow : Follows W U g a c
-  pub silent : Silent W U g a c j
-  pub hold : Hold W U c j
-  pub words : Words W U σ a
+  pub free : Free W U g σ a c j
 
 module _ {W : World} {P : Stmt} {U : Owned} {d : ℕ} {s X s₁ f₁ : Sig} {g : Gives} (B : Body W P U d s X s₁ f₁ g) where
   abbrev K : ℕ → Type 0
@@ -91,11 +83,11 @@ module _ {W : World} {P : Stmt} {U : Owned} {d : ℕ} {s X s₁ f₁ : Sig} {g :
     pub round-body : Launched W P U σ K L s₁ f₁ g a j u
     round-body =
         launch W P (B .timed) (B .does) U σ s₁ f₁ g (B .built) a j u (omega arith)
-        (record { owns = B .owns; calm = T .calm; settled = T .settled; words = T .words })
+        (record { owns = B .owns; calm = T .calm; settled = T .free .settled; words = T .free .words })
         (λ v o q. (
           round-start (a + v) (suc (a + v)) (omega arith) (omega arith) (omega arith) q,
-          within W U g a c a (a + v) (omega arith) (omega arith) (T .follow),
-          λ t l k. T .silent t l (omega arith) (omega arith),
+          within W U g a c a (a + v) (omega arith) (omega arith) (T .free .follow),
+          λ t l k. T .free .silent t l (omega arith) (omega arith),
         ))
 
     pub round-done : (way : Way) (t₁ : ℕ) (σ₁ : Store) → t₁ ≤ u → Comes (goes W u P σ) way t₁ σ₁
@@ -104,9 +96,9 @@ module _ {W : World} {P : Stmt} {U : Owned} {d : ℕ} {s X s₁ f₁ : Sig} {g :
         round-body .ends way t₁ σ₁ p₁ j′ o₂ o₃
         (λ e′ l k E. (
           round-start (a + t₁) (suc e′) (omega arith) (omega arith) (omega arith) (E .fin .quiet),
-          words-last E c j (omega arith) (omega arith) (omega arith) (within W U g a c (a + t₁) c (omega arith) (omega arith) (T .follow))
-              (λ t l k k′. T .silent t (omega arith) (omega arith) k′) (T .hold),
-          λ l₁ l₂. T .silent e′ (omega arith) (omega arith) (omega arith),
+          words-last E c j (omega arith) (omega arith) (omega arith) (within W U g a c (a + t₁) c (omega arith) (omega arith) (T .free .follow))
+              (λ t l k k′. T .free .silent t (omega arith) (omega arith) k′) (T .free .hold),
+          λ l₁ l₂. T .free .silent e′ (omega arith) (omega arith) (omega arith),
         ))
 
     module _ (t₁ : ℕ) (σ₁ : Store) (o : t₁ ≤ u) (p₁ : goes W u P σ ≡ ended t₁ σ₁) where
@@ -152,11 +144,7 @@ module _ {W : World} {P : Stmt} {U : Owned} {d : ℕ} {s X s₁ f₁ : Sig} {g :
                 (λ y₀. ended-to t (omega arith) k l .sofar);
             calm = λ k. ended-to (a + t₁ + gap (W .w)) (omega arith) k (omega arith) .calm (omega arith);
             after = λ t l k. T .after t (omega arith) k;
-            settled = round-settled;
-            follow = within W U g a c (a + t₁) c (omega arith) (omega arith) (T .follow);
-            silent = λ t l k k′. T .silent t (omega arith) k k′;
-            hold = T .hold;
-            words = first .words;
+            free = free-later (a + t₁) σ₁ (omega arith) round-settled (first .words) (T .free);
           }
 
   -- Where a pulse enters the delay ----------------------------------------------------------------------------------------------------
@@ -201,7 +189,7 @@ module _ {W : World} {P : Stmt} {U : Owned} {d : ℕ} {s X s₁ f₁ : Sig} {g :
 
       pub waits-bodies : b ≤ suc c → (q : ℕ) → U .procs q → BodySofar W q b
       waits-bodies o₂ =
-          pause-sofar W U g a b j o₁ (T .settled) (λ t l k. T .silent t l (omega arith) (omega arith))
+          pause-sofar W U g a b j o₁ (T .free .settled) (λ t l k. T .free .silent t l (omega arith) (omega arith))
           (λ q t l k.
           by-le (a + gap (W .w)) t (λ y₀. waits-rests (omega arith) .called q t y₀ (omega arith)) (λ y₀. T .called q t l (omega arith) (omega arith)))
 
@@ -229,9 +217,9 @@ module _ {W : World} {P : Stmt} {U : Owned} {d : ℕ} {s X s₁ f₁ : Sig} {g :
           by-le (a + gap (W .w)) t (λ y₁. waits-rest .called q t y₁ (omega arith)) (λ y₁. T .called q t l (omega arith) (omega arith)))
 
       -- and where it comes out the body may be started again
-      pub delay-again : Settled W (U .procs) (a + d) j → Words W U σ (a + d)
-          → ((t : ℕ) → a + d ≤ t → t < a + d + W .w → t < j → s₁ t ≡ true) → Starts W U d σ K s X s₁ f₁ g (a + d) c j
-      delay-again settled words on =
+      pub delay-again : Free W U g σ (a + d) c j → ((t : ℕ) → a + d ≤ t → t < a + d + W .w → t < j → s₁ t ≡ true)
+          → Starts W U d σ K s X s₁ f₁ g (a + d) c j
+      delay-again F on =
           record {
             before = λ t l k. waits-fed (a + d) (omega arith) (omega arith) t (omega arith) l;
             fed = λ t l k. T .fed t (omega arith) k;
@@ -239,9 +227,5 @@ module _ {W : World} {P : Stmt} {U : Owned} {d : ℕ} {s X s₁ f₁ : Sig} {g :
             line = delay-line (a + d) (waits-fed (a + d) (omega arith) (omega arith));
             calm = waits-rest .calm;
             after = λ t l k. T .after t (omega arith) k;
-            settled = settled;
-            follow = within W U g a c (a + d) c (omega arith) (omega arith) (T .follow);
-            silent = λ t l k k′. T .silent t (omega arith) k k′;
-            hold = T .hold;
-            words = words;
+            free = F;
           }

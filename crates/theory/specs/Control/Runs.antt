@@ -54,6 +54,30 @@ pub record Begins (W : World) (P : Stmt) (U : Owned) (σ : Store) (K : ℕ → T
   pub silent : Silent W U g a c e
   pub hold : Hold W U c e
 
+-- what its surroundings leave to a part from a on
+pub record Free (W : World) (U : Owned) (g : Gives) (σ : Store) (a c e : ℕ) : Type 0 where
+  pub settled : Settled W (U .procs) a e
+  pub words : Words W U σ a
+  pub follow : Follows W U g a c
+  pub silent : Silent W U g a c e
+  pub hold : Hold W U c e
+
+pub free : {W : World} {P : Stmt} {U : Owned} {σ : Store} {K : ℕ → Type 0} {s : Sig} {g : Gives} {a c e : ℕ} → Begins W P U σ K s g a c e
+    → Free W U g σ a c e
+free B = record { settled = B .ready .settled; words = B .ready .words; follow = B .follow; silent = B .silent; hold = B .hold }
+
+-- the same from a later instant on, where its bodies are settled and its words are σ′
+pub free-later : {W : World} {U : Owned} {g : Gives} {σ : Store} {a c e : ℕ} (a′ : ℕ) (σ′ : Store) → a ≤ a′ → Settled W (U .procs) a′ e → Words W U σ′ a′
+    → Free W U g σ a c e → Free W U g σ′ a′ c e
+free-later {W = W} {U = U} {g = g} {a = a} {c = c} a′ σ′ o S v F =
+    record {
+      settled = S;
+      words = v;
+      follow = within W U g a c a′ c o (omega arith) (F .follow);
+      silent = λ t l k k′. F .silent t (omega arith) k k′;
+      hold = F .hold;
+    }
+
 -- what the finish and the exit signal show when P is done in this way
 abbrev pub atFinish : Way → Bool
 atFinish atEnd = true

@@ -1,7 +1,7 @@
 -- What the circuit of a sequence does. The second part begins while the first is still leaving. Assumes nothing.
 use Prim.Native.Nat.{ℕ, suc, _+_, _-_, _≤_, _<_}
-use mathlib.Core.Path.{_≡_, sym, _∙_, ap, ap₂, subst}
-use mathlib.Core.Bool.{Bool, _||_, or-true}
+use mathlib.Core.Path.{_≡_, sym, _∙_, ap₂, subst}
+use mathlib.Core.Bool.{_||_}
 use native.Mathlib.Omega.{arith}
 use Rattle.model.specs.Program.{Stmt, seq, touches}
 use Rattle.model.specs.Circuit.{Sig}
@@ -12,12 +12,12 @@ use Rattle.theory.specs.Control.Ways.{Way, atEnd, atExit, Comes, comes-e
 use Rattle.theory.specs.Control.Signal.{Quiet, glue}
 use Rattle.theory.specs.Control.Pulses.{pulse-less, pulse-firm, shows-pulse, shows-none, shows-off, shows-from, shows-is}
 use Rattle.theory.specs.Control.Wiring.{Gives, Seq, Circuit, Each}
-use Rattle.theory.specs.Control.World.{World, Built, means, Paced, goes, steadily}
+use Rattle.theory.specs.Control.World.{World, Built, Paced, goes, steadily}
 use Rattle.theory.specs.Control.Memories.{Same, joined-swap, out-left, stays}
 use Rattle.theory.specs.Control.Calm.{Calm, Sofar, calm-sofar, sofar-less, is-dull, hush}
 use Rattle.theory.specs.Control.Rest.{Rests, rest}
 use Rattle.theory.specs.Control.Surge.{surge}
-use Rattle.theory.specs.Control.Bodies.{Owned, Owns, SilentAt, Follows, within, alone, silent-beside, follows-beside}
+use Rattle.theory.specs.Control.Bodies.{Owned, Owns, owns-both, SilentAt, Follows, within, alone, silent-beside, follows-beside}
 use Rattle.theory.specs.Control.Runs.{Begins, Done, Going, going-at, Does, RunOf, ShortOf, Launched, launch, in-way}
 
 module _ (W : World) (P Q : Stmt) (timedP : Paced W P) (timedQ : Paced W Q) (doesP : RunOf W P) (doesQ : RunOf W Q)
@@ -41,18 +41,9 @@ module _ (W : World) (P Q : Stmt) (timedP : Paced W P) (timedQ : Paced W Q) (doe
   L t = L₁ t × L₂ t
 
   module _ (a c e u : ℕ) (h : a + u ≡ c) (o : c < e) (B : Begins W (seq P Q) U σ K s g a c e) where
-    seq-owns₁ : Owns W P U
+    seq-owns : Owns W P U × Owns W Q U
     unfolding touches widened
-    seq-owns₁ =
-        record { mine = λ x t. B .ready .owns .mine x (ap (λ (c : Bool). c || touches (means W Q) x) t); reach = B .ready .owns .reach }
-
-    seq-owns₂ : Owns W Q U
-    unfolding touches widened
-    seq-owns₂ =
-        record {
-          mine = λ x t. B .ready .owns .mine x (ap (λ (c : Bool). touches (means W P) x || c) t ∙ or-true (touches (means W P) x));
-          reach = B .ready .owns .reach;
-        }
+    seq-owns = owns-both W P Q U (B .ready .owns .mine) (B .ready .owns .reach)
 
     -- the second part waits for the first
     seq-waits : (b : ℕ) → a ≤ b → Quiet (n .mid) a b → Rests f (n .g₂) K₂ a b
@@ -66,7 +57,7 @@ module _ (W : World) (P Q : Stmt) (timedP : Paced W P) (timedQ : Paced W Q) (doe
     seq-first : Launched W P U σ K₁ L₁ s (n .mid) (n .g₁) a e u
     seq-first =
         launch W P timedP doesP U σ s (n .mid) (n .g₁) (n .left) a e u (omega arith)
-        (record { owns = seq-owns₁; calm = B .ready .calm .0; settled = B .ready .settled; words = B .ready .words })
+        (record { owns = seq-owns .0; calm = B .ready .calm .0; settled = B .ready .settled; words = B .ready .words })
         (λ v o′ q. (
           pulse-less (omega arith) (B .pulse),
           follows-beside W U (n .g₁) (n .g₂) g a (a + v) (n .joined) (is-dull W Q (n .mid) f (n .g₂) (n .right))
@@ -112,7 +103,7 @@ module _ (W : World) (P Q : Stmt) (timedP : Paced W P) (timedQ : Paced W Q) (doe
           (alone W U (n .g₂) (a + t₁) b (seq-follow e′ E b o₃ o₄) (λ q v x t l k. E .settled .low q v x t l (omega arith) (omega arith)))
           (λ k l l′ q x i.
           surge W Q timedQ (n .mid) f (n .g₂) (n .right) (a + t₁) k (seq-waits (a + t₁) (omega arith) (E .fin .quiet) .calm) l (omega arith)
-          (pulse-firm k (omega arith) (omega arith) (shows-pulse (E .fin))) (λ y r. q y (seq-owns₂ .mine y r)) .clocks x)
+          (pulse-firm k (omega arith) (omega arith) (shows-pulse (E .fin))) (λ y r. q y (seq-owns .1 .mine y r)) .clocks x)
 
       seq-left : Done atEnd W U σ₁ K₁ L₁ (n .mid) (n .g₁) a (a + t₁) e
       seq-left =
@@ -142,7 +133,7 @@ module _ (W : World) (P Q : Stmt) (timedP : Paced W P) (timedQ : Paced W Q) (doe
       seq-second =
           doesQ U σ₁ (n .mid) f (n .g₂) (n .right) (a + t₁) c e (u - t₁) (omega arith) o
           (record {
-            ready = record { owns = seq-owns₂; calm = seq-before .calm; settled = seq-left .settled; words = seq-left .words };
+            ready = record { owns = seq-owns .1; calm = seq-before .calm; settled = seq-left .settled; words = seq-left .words };
             pulse = shows-pulse (seq-left .fin);
             follow = seq-follow e seq-left c (omega arith) (omega arith);
             silent = λ t l k k′.

@@ -18,7 +18,7 @@ use Rattle.theory.specs.Control.Memories.{out-left}
 use Rattle.theory.specs.Control.Calm.{Calm, Sofar, calm-sofar, sofar-less, is-dull, is-unwritten, is-uncalled}
 use Rattle.theory.specs.Control.Rest.{Rests, rest}
 use Rattle.theory.specs.Control.Bodies.{Owned, BodySofar, Owns, reaches, Follows, within, silent-left, follows-left, silent-beside, follows-beside, Settled, pause, pause-sofar}
-use Rattle.theory.specs.Control.Runs.{Words, Hold, Silent, Done, Going, going-at, Does, RunOf, Launched, launch, words-stay, words-last}
+use Rattle.theory.specs.Control.Runs.{Words, Silent, Free, Done, Going, going-at, Does, RunOf, Launched, launch, words-stay, words-last}
 
 -- A branch -----------------------------------------------------------------------------------------------------------------------------
 
@@ -32,8 +32,7 @@ module _ (W : World) (R O : Stmt) (timedR : Paced W R) (timedO : Paced W O) (doe
     (sR fR : Sig) (gR : Gives) (nR : Built W R sR fR gR) (sO fO : Sig) (gO : Gives) (nO : Built W O sO fO gO)
     (joined : Joined gR gO g) (fin : f ≈ either fR fO) (a c e u d : ℕ) (h : a + u ≡ c) (o : d ≤ u) (o′ : c < e)
     (calmR : Calm W R sR fR gR nR a) (calmO : Calm W O sO fO gO nO a) (before : Quiet sR a (a + d)) (on : Pulse (W .w) sR (a + d) e) (off : Quiet sO a e)
-    (owns : Owns W R U) (settled : Settled W (U .procs) (a + d) e) (words : Words W U σ (a + d)) (follow : Follows W U g a c)
-    (silent : Silent W U g a c e) (hold : Hold W U c e) where
+    (owns : Owns W R U) (F : Free W U g σ (a + d) c e) where
   waits : Rests fR gR (Calm W R sR fR gR nR) a (a + d)
   waits = rest W R timedR sR fR gR nR a (a + d) calmR (omega arith) before
 
@@ -47,13 +46,12 @@ module _ (W : World) (R O : Stmt) (timedR : Paced W R) (timedO : Paced W O) (doe
   taken =
       doesR U σ sR fR gR nR (a + d) c e (u - d) (omega arith) o′
       (record {
-        ready = record { owns = owns; calm = waits .calm; settled = settled; words = words };
+        ready = record { owns = owns; calm = waits .calm; settled = F .settled; words = F .words };
         pulse = on;
         follow = follows-beside W U gR gO g (a + d) c joined (is-dull W O sO fO gO nO)
-            (λ x t l k. other .clocks x t (omega arith) (omega arith)) (within W U g a c (a + d) c (omega arith) (omega arith) follow);
-        silent = λ t l k k′.
-            silent-beside W U gR gO g t joined (λ x. other .called x t (omega arith) (omega arith)) (silent t (omega arith) k k′);
-        hold = hold;
+            (λ x t l k. other .clocks x t (omega arith) (omega arith)) (F .follow);
+        silent = λ t l k k′. silent-beside W U gR gO g t joined (λ x. other .called x t (omega arith) (omega arith)) (F .silent t l k k′);
+        hold = F .hold;
       })
 
   -- what the other branch adds
@@ -109,16 +107,15 @@ pub record Side (W : World) (R O : Stmt) (U : Owned) (σ : Store) (K L : ℕ →
 module _ (W : World) (R O : Stmt) (timedR : Paced W R) (doesR : RunOf W R) (apart : Apart (means W O) (means W R)) (U : Owned) (σ : Store) (s : Sig) (g : Gives)
     (fR : Sig) (gR : Gives) (nR : Built W R s fR gR) (fO : Sig) (gO : Gives) (nO : Built W O s fO gO) (joined : Joined gR gO g)
     (a c e u : ℕ) (h : a + u ≡ c) (o : c < e) (calmR : Calm W R s fR gR nR a) (pulse : Pulse (W .w) s a e)
-    (owns : Owns W R U) (settled : Settled W (U .procs) a e) (words : Words W U σ a) (follow : Follows W U g a c)
-    (silent : Silent W U g a c e) (hold : Hold W U c e) where
+    (owns : Owns W R U) (F : Free W U g σ a c e) where
   own-follow : Follows W (Own W U O) gR a c
   own-follow =
       follows-left W U (Own W U O) gR gO g joined (λ q i. i .0) a c (is-dull W O s fO gO nO) (λ x i. i .0)
-      (λ x i t l k. is-unwritten W O s fO gO nO x (i .1) t) (λ x i t r v z. z (v, refl)) follow
+      (λ x i t l k. is-unwritten W O s fO gO nO x (i .1) t) (λ x i t r v z. z (v, refl)) (F .follow)
 
   own-silent : Silent W (Own W U O) gR a c e
   own-silent t l k k′ =
-      silent-left W U (Own W U O) gR gO g joined (λ q i. i .0) t (λ q i. is-uncalled W O s fO gO nO q t) (λ q i r v z. z (v, refl)) (silent t l k k′)
+      silent-left W U (Own W U O) gR gO g joined (λ q i. i .0) t (λ q i. is-uncalled W O s fO gO nO q t) (λ q i r v z. z (v, refl)) (F .silent t l k k′)
 
   side-launched : Launched W R (Own W U O) σ (Calm W R s fR gR nR) (Sofar W R s fR gR nR) s fR gR a e u
   side-launched =
@@ -127,11 +124,11 @@ module _ (W : World) (R O : Stmt) (timedR : Paced W R) (doesR : RunOf W R) (apar
         owns = record { mine = λ x t. (owns .mine x t, apart-unwritten (means W O) (means W R) apart x t); reach = λ q t. (owns .reach q t, refl) };
         calm = calmR;
         settled = record {
-          idle = λ q i. settled .idle q (i .0);
-          low = λ q i. settled .low q (i .0);
-          sofar = λ q i. settled .sofar q (i .0);
+          idle = λ q i. F .settled .idle q (i .0);
+          low = λ q i. F .settled .low q (i .0);
+          sofar = λ q i. F .settled .sofar q (i .0);
         };
-        words = λ x i. words x (i .0);
+        words = λ x i. F .words x (i .0);
       })
       (λ v o₁ q. (
         pulse-less (omega arith) pulse,
@@ -146,7 +143,7 @@ module _ (W : World) (R O : Stmt) (timedR : Paced W R) (doesR : RunOf W R) (apar
         (λ e′ l k E. (
           pulse-less (omega arith) pulse,
           words-last E c e (omega arith) (omega arith) k (within W (Own W U O) gR a c (a + t₁) c (omega arith) (omega arith) own-follow)
-              (λ t l k k′. own-silent t (omega arith) (omega arith) k′) (λ x i. hold x (i .0)),
+              (λ t l k k′. own-silent t (omega arith) (omega arith) k′) (λ x i. F .hold x (i .0)),
           λ l₁ l₂. own-silent e′ l₁ (omega arith) k,
         ))
 

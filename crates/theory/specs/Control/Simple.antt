@@ -1,7 +1,7 @@
 -- What the circuits of ok, tick and assignment do. Assumes nothing.
 use Prim.Native.Nat.{ℕ, suc, _+_, _-_, _≤_, _<_}
 use mathlib.Core.Path.{_≡_, sym, _∙_, ap, ap₂, subst}
-use mathlib.Core.Bool.{Bool, true, false, _||_, or-true}
+use mathlib.Core.Bool.{Bool, true, false}
 use native.Mathlib.Omega.{arith}
 use lib.Dec.{eqb}
 use Rattle.model.specs.Word.{pick}
@@ -17,7 +17,7 @@ use Rattle.theory.specs.Control.Ways.{atEnd, end-comes, wait-comes}
 use Rattle.theory.specs.Control.Pulses.{Pulse, Firm, pulse-less, pulse-delayed, pulse-is, pulse-at, pulse-firm, quiet-firm, delayed-firm, shows-on, shows-off}
 use Rattle.theory.specs.Control.History.{stable-on, Spaced, spaced-off, spaced-turn, spaced-on}
 use Rattle.theory.specs.Control.Wiring.{ideal, Gives, Assigned, Circuit, Timer, Test, Each, latch}
-use Rattle.theory.specs.Control.World.{World, goes}
+use Rattle.theory.specs.Control.World.{World, goes, each-of}
 use Rattle.theory.specs.Control.Memories.{Follow, keep, keep-firm}
 use Rattle.theory.specs.Control.Calm.{calmly, lately}
 use Rattle.theory.specs.Control.Bodies.{Owned, settled-at, within, pause, pause-sofar, pause-words}
@@ -118,7 +118,7 @@ module _ (W : World) (d y : ℕ) (e : Expr) (pos : 1 ≤ d) (U : Owned) (σ : St
     module _ (a c j u : ℕ) (h : a + u ≡ c) (o : c < j) (short : j ≤ c + gap (W .w)) (B : Begins W (assign d y e) U σ K s g a c j) where
       assign-owns : (x : ℕ) → reads e x ≡ true → U .vars x
       unfolding touches widened
-      assign-owns x r = B .ready .owns .mine x (ap (λ (c : Bool). eqb x y || c) r ∙ or-true (eqb x y))
+      assign-owns = each-of (λ x. eqb x y) (reads e) (B .ready .owns .mine) .1
 
       -- the pulse between the two delays, and the finish until it comes out
       assign-quiet : Quiet D a (a + d)

@@ -2,7 +2,7 @@
 -- the words that are read have stayed. Assumes nothing.
 use Prim.Native.Nat.{ℕ, suc, _+_, _≤_, _<_}
 use mathlib.Core.Path.{_≡_, sym, _∙_, ap, ap₂}
-use mathlib.Core.Bool.{Bool, true, false, not, _&&_, _||_, or-true, or-false}
+use mathlib.Core.Bool.{Bool, true, false, not, _&&_, _||_, or-false}
 use native.Mathlib.Omega.{arith}
 use lib.Dec.{eqb}
 use Rattle.model.specs.Word.{pick, isZero}
@@ -16,7 +16,7 @@ use Rattle.theory.specs.Control.Signal.{Quiet, delayed-quiet}
 use Rattle.theory.specs.Control.Pulses.{Firm, quiet-firm, delayed-firm, either-firm}
 use Rattle.theory.specs.Control.Meets.{merged-firm}
 use Rattle.theory.specs.Control.Wiring.{either, Gives, Joined, Circuit, Each}
-use Rattle.theory.specs.Control.World.{World, Built, means, Paced}
+use Rattle.theory.specs.Control.World.{World, Built, means, Paced, each-of}
 use Rattle.theory.specs.Control.Memories.{Same}
 use Rattle.theory.specs.Control.Calm.{Calm}
 use Rattle.theory.specs.Control.Rest.{rest}
@@ -75,17 +75,18 @@ surge-assign W d y e pos s f g n a b calm o o′ q k =
 surge-seq : (W : World) (P Q : Stmt) → SurgeOf W P → SurgeOf W Q → SurgeOf W (seq P Q)
 unfolding Circuit Each touches widened
 surge-seq W P Q hP hQ s f g n a b calm o o′ q k =
-    let r = hP s (n .mid) (n .g₁) (n .left) a b (calm .0) o o′ q (λ x i. k x (ap (λ (c : Bool). c || touches (means W Q) x) i)) in
-    let r′ =
-    hQ (n .mid) f (n .g₂) (n .right) a b (calm .1) o o′ (r .fin) (λ x i. k x (ap (λ (c : Bool). touches (means W P) x || c) i ∙ or-true (touches (means W P) x))) in
+    let v = each-of (touches (means W P)) (touches (means W Q)) k in
+    let r = hP s (n .mid) (n .g₁) (n .left) a b (calm .0) o o′ q (v .0) in
+    let r′ = hQ (n .mid) f (n .g₂) (n .right) a b (calm .1) o o′ (r .fin) (v .1) in
     let j = swells (n .mid) (n .g₁) f (n .g₂) g a b (n .joined) r r′ in
     record { fin = r′ .fin; out = j .out; clocks = j .clocks }
 
 surge-par : (W : World) (P Q : Stmt) → SurgeOf W P → SurgeOf W Q → SurgeOf W (par P Q)
 unfolding Circuit Each touches widened
 surge-par W P Q hP hQ s f g n a b calm o o′ q k =
-    let r = hP s (n .f₁) (n .g₁) (n .left) a b (calm .1) o o′ q (λ x i. k x (ap (λ (c : Bool). c || touches (means W Q) x) i)) in
-    let r′ = hQ s (n .f₂) (n .g₂) (n .right) a b (calm .2) o o′ q (λ x i. k x (ap (λ (c : Bool). touches (means W P) x || c) i ∙ or-true (touches (means W P) x))) in
+    let v = each-of (touches (means W P)) (touches (means W Q)) k in
+    let r = hP s (n .f₁) (n .g₁) (n .left) a b (calm .1) o o′ q (v .0) in
+    let r′ = hQ s (n .f₂) (n .g₂) (n .right) a b (calm .2) o o′ q (v .1) in
     let j = swells (n .f₁) (n .g₁) (n .f₂) (n .g₂) g a b (n .joined) r r′ in
     record {
       fin = λ t l h z. n .fin (suc t) ∙ merged-firm (W .w) (n .f₁) (n .f₂) a b o′ (calm .0) (r .fin) (r′ .fin) t l h (sym (n .fin t) ∙ z);
@@ -101,17 +102,19 @@ test-same W e U a b u k t l h = ap isZero (eval-same e (W .m t) (W .m a) (λ x r
 surge-ite : (W : World) (d : ℕ) (e : Expr) (P Q : Stmt) → SurgeOf W P → SurgeOf W Q → SurgeOf W (ite d e P Q)
 unfolding Circuit Each touches widened
 surge-ite W d e P Q hP hQ s f g n a b calm o o′ q k =
+    let v = each-of (reads e) (λ x. touches (means W P) x || touches (means W Q) x) k in
+    let v′ = each-of (touches (means W P)) (touches (means W Q)) (v .1) in
     let D : Firm (delayed d s) a b = λ t l h. delayed-firm d s a b (calm .0 .0) q t l (omega arith) in
     let c : (t : ℕ) → a ≤ t → t < b → isZero (eval e (W .m t)) ≡ isZero (eval e (W .m a)) =
-    test-same W e (Touched W (ite d e P Q)) a b (λ x r. ap (λ (c : Bool). c || (touches (means W P) x || touches (means W Q) x)) r) k in
+    test-same W e (λ x. reads e x ≡ true) a b (λ x r. r) (v .0) in
     let r =
     hP (n .s₁) (n .f₁) (n .g₁) (n .left) a b (calm .1) o o′
     (gated-firm (delayed d s) (n .s₁) (λ t. not (isZero (eval e (W .m t)))) a b (λ t l h. n .yes₁ t) D (λ t l h. ap not (c t l h)))
-    (λ x i. k x (ap (λ (c : Bool). reads e x || (c || touches (means W Q) x)) i ∙ or-true (reads e x))) in
+    (v′ .0) in
     let r′ =
     hQ (n .s₂) (n .f₂) (n .g₂) (n .right) a b (calm .2) o o′
     (gated-firm (delayed d s) (n .s₂) (λ t. isZero (eval e (W .m t))) a b (λ t l h. n .no₂ t) D c)
-    (λ x i. k x (ap (λ (c : Bool). reads e x || c) (ap (λ (c : Bool). touches (means W P) x || c) i ∙ or-true (touches (means W P) x)) ∙ or-true (reads e x))) in
+    (v′ .1) in
     let j = swells (n .f₁) (n .g₁) (n .f₂) (n .g₂) g a b (n .joined) r r′ in
     record { fin = either-firm (n .f₁) (n .f₂) f a b (n .fin) (r .fin) (r′ .fin); out = j .out; clocks = j .clocks }
 
@@ -140,7 +143,7 @@ surge-repeat W d e P long hP s f g n a b calm o o′ q k =
     hP (n .s₁) (n .f₁) g (n .body) a b (calm .1) o o′
     (firm-is s (n .s₁) a b
     (λ t l h. n .begin t ∙ ap (λ (c : Bool). s t || (c && isZero (eval e (W .m t)))) (D t l h) ∙ or-false (s t)) q)
-    (λ x i. k x (ap (λ (c : Bool). reads e x || c) i ∙ or-true (reads e x))) in
+    (each-of (reads e) (touches (means W P)) k .1) in
     record {
       fin = quiet-firm f a b (λ t l h. n .fin t ∙ ap (λ (c : Bool). c && not (isZero (eval e (W .m t)))) (D t l h));
       out = r .out;

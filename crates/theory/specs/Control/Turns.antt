@@ -21,7 +21,7 @@ use Rattle.theory.specs.Control.Calm.{Calm, calmly, Sofar, lately, calm-
 use Rattle.theory.specs.Control.Surge.{surge, gated-firm, test-same}
 use Rattle.theory.specs.Control.Bodies.{Owned, settled-at}
 use Rattle.theory.specs.Control.Runs.{Done, Going, going-at, done-from, going-from, Does, in-way}
-use Rattle.theory.specs.Control.Tests.{Waits, waited-settled, waited-words, test-words, test-is}
+use Rattle.theory.specs.Control.Tests.{Waits, waited, test-words, test-is}
 use Rattle.theory.specs.Control.Rounds.{Body, Starts, Enters, round-fed, round-later, round-body, round-done, round-quiet, round-in, round-enters, delay-before, delay-rests, delay-off, delay-fed, delay-line, delay-in, waits-fed, waits-in, waits-sofar, waits-bodies, waits-rest, delay-out, delay-gone, delay-clocks, delay-uncalled, delay-again}
 
 -- a loop: its body and its condition
@@ -155,11 +155,7 @@ module _ {W : World} {P : Stmt} {U : Owned} {d : ℕ} {e : Expr} {more : Bool �
           record {
             room = o;
             last = o′;
-            settled = T .settled;
-            words = T .words;
-            follow = T .follow;
-            silent = T .silent;
-            hold = T .hold;
+            free = T .free;
             low = delay-clocks B o′ T o;
             uncalled = delay-uncalled B o′ T o;
             firm = λ k l l₁ l₂ q.
@@ -205,17 +201,17 @@ module _ {W : World} {P : Stmt} {U : Owned} {d : ℕ} {e : Expr} {more : Bool �
             out = shows-off (omega arith) (omega arith) (delay-in B o′ T j (omega arith) (r .out));
             low = λ x t l k. r .clocks x t (omega arith) k;
             called = λ x t l k. r .called x t (omega arith) k;
-            words = λ x i. ap (λ (t : ℕ). W .m t x) (sym q) ∙ waited-words waits (a + d) (omega arith) (omega arith) x i;
+            words = λ x i. ap (λ (t : ℕ). W .m t x) (sym q) ∙ waited waits .words x i;
             sofar = ((tt, line, used), calm-sofar W P s₁ f₁ g (B .built) j (r .calm));
             calm = λ k. ((λ t l k′. fed t (omega arith) l, line, used), r .calm);
-            settled = settled-at W (U .procs) (a + d) c j q (waited-settled waits);
+            settled = settled-at W (U .procs) (a + d) c j q (waited waits .settled);
           }
 
       -- it says go round: the body is started again
       module _ (z : more (isZero (eval e σ)) ≡ true) where
         starts : Starts W U d σ K₁ s X s₁ f₁ g (a + d) c j
         starts =
-            delay-again B o′ T o (waited-settled waits) (waited-words waits (a + d) (omega arith) (omega arith))
+            delay-again B o′ T o (waited waits)
             (λ t l k k′. I .begin t (T .after t (omega arith) k′) ∙ ap₂ _&&_ (delay-out B o′ T o t l k k′) (test t l k k′ ∙ z))
 
         turns : Turned W d e f X (a + d) j

@@ -1,7 +1,7 @@
 -- What the circuit of a while does: it starts with its delay. Assumes nothing.
 use Prim.Native.Nat.{ℕ, suc, _+_, _-_, _≤_, _<_}
 use mathlib.Core.Path.{_≡_, refl, _∙_, ap}
-use mathlib.Core.Bool.{Bool, true, false, not, _&&_, _||_, or-true}
+use mathlib.Core.Bool.{Bool, true, false, not, _&&_, _||_}
 use native.Mathlib.Omega.{arith}
 use Rattle.model.specs.Word.{isZero}
 use Rattle.model.specs.Program.{Expr, Stmt, while, reads, touches}
@@ -12,11 +12,11 @@ use Rattle.theory.specs.Control.Widths.{gap, widened}
 use Rattle.theory.specs.Control.Signal.{Quiet, delayed-quiet}
 use Rattle.theory.specs.Control.History.{stable-off}
 use Rattle.theory.specs.Control.Wiring.{either, ideal, Gives, While, Circuit, Test, Each}
-use Rattle.theory.specs.Control.World.{World, Built, means, Paced, goes}
+use Rattle.theory.specs.Control.World.{World, Built, means, Paced, goes, each-of}
 use Rattle.theory.specs.Control.Calm.{Calm, calmly, Sofar, lately, calm-sofar, sofar-less}
 use Rattle.theory.specs.Control.Rest.{Rests, rest}
 use Rattle.theory.specs.Control.Bodies.{Owned}
-use Rattle.theory.specs.Control.Runs.{Begins, Does, RunOf, ShortOf}
+use Rattle.theory.specs.Control.Runs.{Begins, free, Does, RunOf, ShortOf}
 use Rattle.theory.specs.Control.Rounds.{Enters}
 use Rattle.theory.specs.Control.Turns.{Loop, Laps, Turned, enters-does}
 
@@ -52,19 +52,17 @@ module _ (W : World) (d : ℕ) (e : Expr) (P : Stmt) (long : gap (W .w) ≤ d) (
     while-loop : Loop W P U d e not s f X (n .s₁) (n .f₁) g
     unfolding touches widened
     while-loop =
+        let uses = each-of (reads e) (touches (means W P)) (B .ready .owns .mine) in
         record {
           body = record {
             built = n .body;
             long = long;
             timed = timed;
             does = does;
-            owns = record {
-              mine = λ x t. B .ready .owns .mine x (ap (λ (c : Bool). reads e x || c) t ∙ or-true (reads e x));
-              reach = B .ready .owns .reach;
-            };
+            owns = record { mine = uses .1; reach = B .ready .owns .reach };
             off = λ t p q. n .begin t ∙ ap (λ (c : Bool). c && not (isZero (eval e (W .m t)))) q;
           };
-          reading = λ x t. B .ready .owns .mine x (ap (λ (c : Bool). c || touches (means W P) x) t);
+          reading = uses .0;
           begin = λ t p. n .begin t;
           fin = λ t. n .fin t ∙ ap (λ (c : Bool). delayed d X t && c) (not-not (isZero (eval e (W .m t))));
         }
@@ -91,11 +89,7 @@ module _ (W : World) (d : ℕ) (e : Expr) (P : Stmt) (long : gap (W .w) ≤ d) (
               (calm-sofar W P (n .s₁) (n .f₁) g (n .body) (a + gap (W .w)) (r .calm));
           calm = λ k. r .calm;
           after = B .pulse .low;
-          settled = B .ready .settled;
-          follow = B .follow;
-          silent = B .silent;
-          hold = B .hold;
-          words = B .ready .words;
+          free = free B;
         }
 
     while-turned : Turned W d e f X a j

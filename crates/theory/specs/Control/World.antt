@@ -1,5 +1,7 @@
 -- What every part of a circuit can see, and the run of a part in it. Assumes nothing.
 use Prim.Native.Nat.{ℕ, _≤_}
+use mathlib.Core.Path.{_≡_, _∙_, ap}
+use mathlib.Core.Bool.{Bool, true, _||_, or-true}
 use Rattle.model.specs.Program.{Stmt}
 use Rattle.model.specs.Rules.{Store, Run, run}
 use Rattle.model.specs.Circuit.{Sig}
@@ -41,3 +43,7 @@ goes W k P σ = run k (means W P) σ
 
 pub steadily : (W : World) (P : Stmt) → Paced W P → (σ : Store) → Steady (λ k. goes W k P σ)
 steadily W P timed σ = steady (means W P) (widened-timed (W .w) P (W .pos) timed) σ
+
+-- what is true of all that one of two tests names is true of what each names
+pub each-of : {A : ℕ → Type 0} (p q : ℕ → Bool) → ((x : ℕ) → (p x || q x) ≡ true → A x) → ((x : ℕ) → p x ≡ true → A x) × ((x : ℕ) → q x ≡ true → A x)
+each-of p q h = (λ x t. h x (ap (λ (c : Bool). c || q x) t), λ x t. h x (ap (λ (c : Bool). p x || c) t ∙ or-true (p x)))

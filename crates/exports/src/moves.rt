@@ -44,7 +44,7 @@ fn renumber_bytes(cells: &mut [u8], from: usize, end: usize, k: u16)
     while i < end {
         let c = netlist::cells::cell_at(cells, Layout::InList, i);
         let next = moved(c, k);
-        netlist::cells::put_cell(cells, 6 * i, next, 0);
+        netlist::cells::put_cell(cells, netlist::cells::CELL_BYTES * i, next, 0);
         i += 1;
     }
 }
@@ -56,10 +56,10 @@ pub extern "C" fn hub_renumber(cells: &mut [u8], from: usize, end: usize, k: u16
     ensures done { λ r. ⌜ r ≡ hasCells end (now (cells .entry)) ⌝ }
     ensures cells { λ _. ⌜ now (cells .exit) ≡ renumberCall k from end (now (cells .entry)) ⌝ }
 {
-    if 1024 < end {
+    if netlist::cells::MOST_CELLS < end {
         return false;
     }
-    if cells.len() < 6 * end {
+    if cells.len() < netlist::cells::CELL_BYTES * end {
         return false;
     }
     renumber_bytes(cells, from, end, k);

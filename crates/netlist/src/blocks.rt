@@ -13,7 +13,13 @@ ghost use Rattle.model.specs.Refusals.{firstFault};
 ghost use Rattle.model.specs.NetlistFile.{cellsAt, inList, runningSum, checkFor, blocksFor, fileOf, countOf, finishOf, blockAt, sumFault, countWrong, allZero, headerRight, headerFault};
 ghost use Rattle.netlist.specs.Offsets.{Room};
 ghost use Rattle.netlist.specs.Blocks.{headerBytes, Filled};
+use crate::cells::BLOCK_BYTES;
+use crate::cells::BLOCK_CELLS;
+use crate::cells::CELL_BYTES;
+use crate::cells::HEADER_BYTES;
+use crate::cells::LAST_CELL;
 use crate::cells::Layout;
+use crate::cells::MOST_CELLS;
 use model::Cell;
 use model::Checked;
 use model::Refusal;
@@ -34,7 +40,7 @@ pub fn check_sums(s: &[u8], m: usize) -> Checked
 {
     let mut b: usize = 0;
     while b < m {
-        if word::sum16(s, 512 * b, 256) != 0 {
+        if word::sum16(s, BLOCK_BYTES * b, 256) != 0 {
             return Checked::Refused(Refusal {
                 number: 10,
                 place: b,
@@ -49,7 +55,8 @@ pub fn count_wrong(m: usize, count: usize, finish: usize) -> bool
     requires { ⌜ count + 83 < 2 ^ 64 ⌝ }
     ensures { λ r. ⌜ r ≡ countWrong m count finish ⌝ }
 {
-    !((19 <= count) & ((count <= 1024) & ((m == (count + 83) / 84) & (finish < count))))
+    !((19 <= count)
+        & ((count <= MOST_CELLS) & ((m == (count + LAST_CELL) / BLOCK_CELLS) & (finish < count))))
 }
 
 // Whether block b has nothing but zeros from its byte j on.
@@ -58,8 +65,8 @@ fn zero_from(s: &[u8], b: usize, j: usize) -> bool
     ensures { λ r. ⌜ r ≡ allZero (drop j (blockAt (now (s .entry)) b)) ⌝ }
 {
     let mut k = j;
-    while k < 512 {
-        if s[512 * b + k] != 0 {
+    while k < BLOCK_BYTES {
+        if s[BLOCK_BYTES * b + k] != 0 {
             return false;
         }
         k += 1;
@@ -72,11 +79,11 @@ fn is_headed(s: &[u8], b: usize, count: usize, finish: usize) -> bool
     requires { ⌜ (512 * b + 512 ≤ length (now s)) × (84 * b < count) × (count ≤ 1024) ⌝ }
     ensures { λ r. ⌜ r ≡ headerRight count finish b (blockAt (now (s .entry)) b) ⌝ }
 {
-    let i = 512 * b;
+    let i = BLOCK_BYTES * b;
     let number = word::get16(s, i) as usize;
     let its_count = word::get16(s, i + 2) as usize;
     let its_finish = word::get16(s, i + 4) as usize;
-    let unused = zero_from(s, b, 8 + 6 * (count - 84 * b));
+    let unused = zero_from(s, b, HEADER_BYTES + CELL_BYTES * (count - BLOCK_CELLS * b));
     (number == b) & ((its_count == count) & ((its_finish == finish) & unused))
 }
 
@@ -146,7 +153,7 @@ fn close_block(d: &mut [u8], i: usize, h: Header, n: usize, sum: u16)
     requires { ⌜ (i + 512 ≤ length (now d)) × (n ≤ 84) ⌝ }
     ensures { λ _. ⌜ now (d .exit) ≡ sets (sets (now (d .entry)) (i + 8 + 6 * n) (replicate (504 - 6 * n) 0)) i (headerBytes h ++ bytes16 (checkFor sum)) ⌝ }
 {
-    clear(d, i + 8 + 6 * n, i + 512);
+    clear(d, i + HEADER_BYTES + CELL_BYTES * n, i + BLOCK_BYTES);
     put_header(d, i, h, sum);
 }
 
@@ -155,17 +162,22 @@ pub fn put_next(d: &mut [u8], k: usize, n: usize, finish: u16, c: Cell, sum: u16
     requires { ⌜ (k < n) × (n ≤ 1024) × (512 * blocksFor n ≤ length (now d)) ⌝ }
     ensures { λ r. ⌜ ((net : List Cell) (was : List ℕ) → length net ≡ n → cellAt net k ≡ c → Filled net finish was k sum (now (d .entry)) → Filled net finish was (k + 1) r (now (d .exit))) ⌝ }
 {
-    let b = k / 84;
-    let j = k % 84;
+    let b = k / BLOCK_CELLS;
+    let j = k % BLOCK_CELLS;
     let h = Header {
         number: b as u16,
         count: n as u16,
         finish,
     };
     let before = sum_before(h, j, sum);
-    let total = crate::cells::put_cell(d, 512 * b + 8 + 6 * j, c, before);
-    if (j == 83) | (k + 1 == n) {
-        close_block(d, 512 * b, h, j + 1, total);
+    let total = crate::cells::put_cell(
+        d,
+        BLOCK_BYTES * b + HEADER_BYTES + CELL_BYTES * j,
+        c,
+        before,
+    );
+    if (j == LAST_CELL) | (k + 1 == n) {
+        close_block(d, BLOCK_BYTES * b, h, j + 1, total);
         return total;
     }
     total

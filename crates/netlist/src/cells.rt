@@ -9,6 +9,20 @@ ghost use Rattle.model.specs.NetlistFile.{cellBytes, cellFrom, cellsAt, sumWith
 ghost use Rattle.netlist.specs.Offsets.{offset, Room};
 use model::Cell;
 
+// In bytes: a cell, a block of a file, and its header.
+pub const CELL_BYTES: usize = 6;
+
+pub const BLOCK_BYTES: usize = 512;
+
+pub const HEADER_BYTES: usize = 8;
+
+// How many cells a block has, the number of the last one there, and the most cells of a netlist.
+pub const BLOCK_CELLS: usize = 84;
+
+pub const LAST_CELL: usize = 83;
+
+pub const MOST_CELLS: usize = 1024;
+
 // Cells one after another, or in the blocks of a file.
 pub enum Layout {
     InList,
@@ -21,8 +35,9 @@ pub fn offset(layout: Layout, k: usize) -> usize
     ensures { λ r. ⌜ r ≡ offset layout k ⌝ }
 {
     match layout {
-        Layout::InList => 6 * k,
-        Layout::InFile => 512 * (k / 84) + (8 + 6 * (k % 84)),
+        Layout::InList => CELL_BYTES * k,
+        Layout::InFile => BLOCK_BYTES * (k / BLOCK_CELLS)
+            + (HEADER_BYTES + CELL_BYTES * (k % BLOCK_CELLS)),
     }
 }
 
@@ -65,7 +80,7 @@ pub fn put_cells(d: &mut [u8], i: usize, s: &[u8], layout: Layout, k: usize, n: 
     while 0 < left {
         let c = cell_at(s, layout, from);
         put_cell(d, to, c, 0);
-        to += 6;
+        to += CELL_BYTES;
         from += 1;
         left -= 1;
     }

@@ -19,13 +19,13 @@ pub fn check_file(file: &[u8]) -> Checked
     ensures { λ r. ⌜ r ≡ fileCheck (now (file .entry)) ⌝ }
 {
     let size = file.len();
-    if (size == 0) | ((6656 < size) | (0 < size % 512)) {
+    if (size == 0) | ((6656 < size) | (0 < size % cells::BLOCK_BYTES)) {
         return Checked::Refused(Refusal {
             number: 9,
             place: 0,
         });
     }
-    let m = size / 512;
+    let m = size / cells::BLOCK_BYTES;
     let sums = blocks::check_sums(file, m);
     if let Checked::Refused(r) = sums {
         return Checked::Refused(r);
@@ -50,10 +50,10 @@ pub fn write_netlist(cells: &[u8], finish: u16, file: &mut [u8]) -> Written
     ensures answer { λ r. ⌜ r ≡ writeCall (now (cells .entry)) finish (now (file .entry)) .answer ⌝ }
     ensures lent { λ _. ⌜ now (file .exit) ≡ writeCall (now (cells .entry)) finish (now (file .entry)) .lent ⌝ }
 {
-    let n = cells.len() / 6;
-    let m = (n + 83) / 84;
+    let n = cells.len() / cells::CELL_BYTES;
+    let m = (n + cells::LAST_CELL) / cells::BLOCK_CELLS;
     let f = finish as usize;
-    if (0 < cells.len() % 6) | blocks::count_wrong(m, n, f) {
+    if (0 < cells.len() % cells::CELL_BYTES) | blocks::count_wrong(m, n, f) {
         return Written::Refused(Refusal {
             number: 11,
             place: 0,
@@ -63,7 +63,7 @@ pub fn write_netlist(cells: &[u8], finish: u16, file: &mut [u8]) -> Written
     if let Checked::Refused(r) = checked {
         return Written::Refused(r);
     }
-    let count = 512 * m;
+    let count = cells::BLOCK_BYTES * m;
     if file.len() < count {
         return Written::Refused(Refusal {
             number: 14,
@@ -85,7 +85,7 @@ pub fn read_netlist(file: &[u8], cells: &mut [u8]) -> Written
     }
     let count = word::get16(file, 2) as usize;
     let finish = word::get16(file, 4);
-    if cells.len() < 6 * count {
+    if cells.len() < cells::CELL_BYTES * count {
         return Written::Refused(Refusal {
             number: 14,
             place: 0,

@@ -8,6 +8,7 @@ ghost use Rattle.model.specs.NetlistFile.{fileCheck, cellsOf};
 ghost use Rattle.model.specs.State.{stateSize};
 ghost use Rattle.model.specs.Calls.{short, beginChecks, continueChecks, runNetlistChecks};
 use crate::sound;
+use crate::wires;
 use model::Checked;
 use model::Refusal;
 
@@ -23,7 +24,7 @@ fn check_room(file: &[u8], state: &[u8]) -> Checked
     ensures { λ r. ⌜ r ≡ short (length (now (state .entry))) (stateSize (cellsOf (now (file .entry)))) ⌝ }
 {
     let n = word::get16(file, 2) as usize;
-    if state.len() < 8 + 40 * n {
+    if state.len() < wires::HEADER_BYTES + wires::CELL_BYTES * n {
         return refuse(14);
     }
     Checked::Accepted

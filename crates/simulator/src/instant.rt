@@ -84,7 +84,7 @@ fn age_all(state: &mut [u8], n: usize)
     let mut k: usize = 0;
     while k < n {
         let v = wires::now_at(state, k);
-        word::put16(state, 8 + 40 * k + 2, v);
+        word::put16(state, wires::HEADER_BYTES + wires::CELL_BYTES * k + 2, v);
         k += 1;
     }
 }
@@ -98,7 +98,7 @@ fn show_all(cells: &[u8], n: usize, state: &mut [u8])
     while k < n {
         let c = netlist::cells::cell_at(cells, Layout::InList, k);
         let v = next_value(c, state, k);
-        word::put16(state, 8 + 40 * k, v);
+        word::put16(state, wires::HEADER_BYTES + wires::CELL_BYTES * k, v);
         k += 1;
     }
 }

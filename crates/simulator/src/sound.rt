@@ -33,14 +33,14 @@ fn cell_sound(c: Cell, s: &[u8], k: usize) -> bool
     ensures { λ r. ⌜ r ≡ cellSound c (now (s .entry)) k ⌝ }
 {
     let kind = c.kind;
-    let at = 8 + 40 * k;
+    let at = wires::HEADER_BYTES + wires::CELL_BYTES * k;
     let most = word::bit(kind == 38);
     let now = wires::now_at(s, k);
     let ago = wires::before_at(s, k);
     let values = !netlist::kinds::is_control(kind) | ((now <= 1) & (ago <= 1));
     let held = ((s[at + 4] as u16) <= most) & ((s[at + 5] as u16) <= most);
     let zeros = all_zero(s, at + 6, 2);
-    let line = all_zero(s, at + 8, 32);
+    let line = all_zero(s, at + wires::LINE_AT, 32);
     values & (held & (zeros & ((kind == 34) | line)))
 }
 

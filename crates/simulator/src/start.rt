@@ -10,6 +10,7 @@ ghost use Rattle.model.specs.State.{firstValue, upTo, shown, beginState};
 ghost use Rattle.model.specs.Calls.{wordAt};
 ghost use Rattle.simulator.specs.Fits.{Stands, Sees, netOf, Fits};
 use crate::instant;
+use crate::wires;
 use model::Cell;
 use netlist::cells::Layout;
 
@@ -50,7 +51,7 @@ fn show_first(cells: &[u8], n: usize, words: &[u8], state: &mut [u8])
     while k < n {
         let c = netlist::cells::cell_at(cells, Layout::InList, k);
         let v = first_value(c, words, state, k, j);
-        word::put16(state, 8 + 40 * k, v);
+        word::put16(state, wires::HEADER_BYTES + wires::CELL_BYTES * k, v);
         j += word::bit(c.kind == 40) as usize;
         k += 1;
     }
@@ -61,7 +62,7 @@ pub fn begin_state(cells: &[u8], n: usize, words: &[u8], state: &mut [u8])
     requires { ⌜ Fits (now cells) n (now state) × (32 ≤ length (now words)) × (memories (netOf (now cells) n) ≡ 16) ⌝ }
     ensures { λ _. ⌜ now (state .exit) ≡ beginState (netOf (now (cells .entry)) n) (wordAt (now (words .entry))) (now (state .entry)) ⌝ }
 {
-    clear(state, 8 + 40 * n);
+    clear(state, wires::HEADER_BYTES + wires::CELL_BYTES * n);
     show_first(cells, n, words, state);
     instant::settle_all(cells, n, state);
 }

@@ -9,18 +9,25 @@ ghost use Rattle.model.specs.State.{base, nowAt, beforeAt, heldAt, lineBit, shi
 ghost use Rattle.simulator.specs.Fits.{Stands};
 use model::Merge;
 
+// In bytes: a state's header, what it has of each cell, and where in that a line begins.
+pub const HEADER_BYTES: usize = 8;
+
+pub const CELL_BYTES: usize = 40;
+
+pub const LINE_AT: usize = 8;
+
 pub fn now_at(state: &[u8], k: usize) -> u16
     requires { ⌜ Stands (now state) k ⌝ }
     ensures { λ r. ⌜ r ≡ nowAt (now (state .entry)) k ⌝ }
 {
-    word::get16(state, 8 + 40 * k)
+    word::get16(state, HEADER_BYTES + CELL_BYTES * k)
 }
 
 pub fn before_at(state: &[u8], k: usize) -> u16
     requires { ⌜ Stands (now state) k ⌝ }
     ensures { λ r. ⌜ r ≡ beforeAt (now (state .entry)) k ⌝ }
 {
-    word::get16(state, 8 + 40 * k + 2)
+    word::get16(state, HEADER_BYTES + CELL_BYTES * k + 2)
 }
 
 pub fn is_high(state: &[u8], k: usize) -> bool
@@ -43,7 +50,7 @@ pub fn held_at(state: &[u8], k: usize) -> Merge
     requires { ⌜ Stands (now state) k ⌝ }
     ensures { λ r. ⌜ r ≡ heldAt (now (state .entry)) k ⌝ }
 {
-    let at = 8 + 40 * k;
+    let at = HEADER_BYTES + CELL_BYTES * k;
     let a = state[at + 4] == 1;
     let b = state[at + 5] == 1;
     Merge { a, b }
@@ -63,7 +70,7 @@ pub fn hold(state: &mut [u8], k: usize, m: Merge)
     requires { ⌜ Stands (now state) k ⌝ }
     ensures { λ _. ⌜ now (state .exit) ≡ holding (now (state .entry)) k m ⌝ }
 {
-    let at = 8 + 40 * k;
+    let at = HEADER_BYTES + CELL_BYTES * k;
     state[at + 4] = word::bit(m.a) as u8;
     state[at + 5] = word::bit(m.b) as u8;
 }
@@ -73,7 +80,7 @@ pub fn line_bit(state: &[u8], k: usize, i: usize) -> u16
     requires { ⌜ Stands (now state) k × (i < 256) ⌝ }
     ensures { λ r. ⌜ r ≡ lineBit (now (state .entry)) k i ⌝ }
 {
-    let at = 8 + 40 * k + 8 + i / 8;
+    let at = HEADER_BYTES + CELL_BYTES * k + LINE_AT + i / 8;
     let byte = state[at] as u16;
     (byte >> (i % 8)) % 2
 }
@@ -83,7 +90,7 @@ pub fn shift_line(state: &mut [u8], k: usize, input: bool)
     requires { ⌜ Stands (now state) k ⌝ }
     ensures { λ _. ⌜ now (state .exit) ≡ shiftedIn 32 (now (state .entry)) (base k + 8) (bit input) ⌝ }
 {
-    let mut i = 8 + 40 * k + 8;
+    let mut i = HEADER_BYTES + CELL_BYTES * k + LINE_AT;
     let mut left: usize = 32;
     let mut carry = word::bit(input);
     while 0 < left {

@@ -1,7 +1,7 @@
 -- Passes over the cells and over the bytes of a line: their turns, and the passes of an instant together. Assumes nothing.
 use mathlib.Core.List.{List, _++_}
 use mathlib.Core.Path.{_≡_, refl, sym, _∙_, ap}
-use Prim.Native.Nat.{ℕ, zero, suc, _+_, _-_, _*_, _/_, _%_, _<_}
+use Prim.Native.Nat.{ℕ, zero, suc, _+_, _-_, _*_, _/_, _%_, _<_, _≤_}
 use native.Mathlib.Omega.{arith}
 use native.Mathlib.Numerals.{add-one, sub-one}
 use lib.ListN.{length, getD, set, drop, replicate}
@@ -13,13 +13,25 @@ upTo-more : (f : List ℕ → ℕ → List ℕ) (n : ℕ) (s : List ℕ) → upT
 unfolding upTo
 upTo-more f n s = rw add-one
 
--- a pass that has come to cell k, and cell k
-pub upTo-next : (f : List ℕ → ℕ → List ℕ) (k : ℕ) (s t u : List ℕ) → t ≡ upTo f k s → u ≡ f t k → u ≡ upTo f (k + 1) s
-upTo-next f k s t u e h = h ∙ ap (λ (r : List ℕ). f r k) e ∙ sym (upTo-more f k s)
+-- a pass over n cells that has come to cell k, and left t of s
+pub record Passed (f : List ℕ → ℕ → List ℕ) (n : ℕ) (s t : List ℕ) (k : ℕ) : Type 0 where
+  pub few : k ≤ n
+  pub long : length t ≡ length s
+  pub state : t ≡ upTo f k s
 
-pub upTo-none : (f : List ℕ → ℕ → List ℕ) (s : List ℕ) → upTo f 0 s ≡ s
-unfolding upTo
-upTo-none f s = refl
+-- its beginning, its turns and its end
+module _ {f : List ℕ → ℕ → List ℕ} {n : ℕ} {s : List ℕ} where
+  pub passed-none : Passed f n s s 0
+  unfolding upTo
+  passed-none = record { few = omega arith; long = refl; state = refl }
+
+  module _ {t : List ℕ} {k : ℕ} (p : Passed f n s t k) where
+    pub passed-more : {u : List ℕ} → k < n → length u ≡ length t → u ≡ f t k → Passed f n s u (k + 1)
+    passed-more h l e =
+        record { few = omega arith; long = l ∙ p .long; state = e ∙ ap (λ (r : List ℕ). f r k) (p .state) ∙ sym (upTo-more f k s) }
+
+    pub passed-all : n ≤ k → t ≡ upTo f n s
+    passed-all h = let e : k ≡ n = omega (arith, h, p .few) in p .state ∙ ap (λ (j : ℕ). upTo f j s) e
 
 -- the passes of one further instant, and of instant 0
 module _ (net : List Cell) (n : ℕ) (e : length net ≡ n) (s : List ℕ) where

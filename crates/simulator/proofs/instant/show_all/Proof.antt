@@ -1,23 +1,21 @@
 -- `show_all` meets its contract: the state so far is the pass up to cell k. Assumes nothing.
-use mathlib.Core.Path.{_≡_, refl, sym, _∙_, ap}
-use Prim.Native.Nat.{ℕ, _-_, _≤_}
+use Prim.Native.Nat.{_-_}
 use native.Mathlib.Omega.{arith}
-use lib.ListN.{length}
-use Rattle.model.specs.State.{value, upTo, shown}
+use Rattle.model.specs.State.{value, shown}
 use Rattle.simulator.specs.Fits.{netOf}
 use Rattle.simulator.proofs.Cells.{net-value, fits-at}
-use Rattle.simulator.proofs.Passes.{upTo-next, upTo-none}
+use Rattle.simulator.proofs.Passes.{Passed, passed-none, passed-more, passed-all}
 use Rattle.simulator.proofs.instant.show_all.Statement.{statement}
 use Rattle.simulator.proofs.instant.show_all.Tie as tie
 
 abbrev Inv-loop : tie.InvT-loop
-Inv-loop cells n state₀ k₀ state k = (k ≤ n) × (length state ≡ length state₀) × (state ≡ upTo (shown (value (netOf cells n))) k state₀)
+Inv-loop cells n state₀ k₀ state k = Passed (shown (value (netOf cells n))) n state₀ state k
 
 abbrev μ-loop : tie.MeasureT-loop
 μ-loop cells n state₀ k₀ state k = n - k
 
 loop-holds : tie.Need-loop-holds Inv-loop μ-loop
-loop-holds c = (omega arith, refl, sym (upTo-none _ _))
+loop-holds c = passed-none
 
 cell-at-requires : tie.Need-cell-at-requires Inv-loop μ-loop
 cell-at-requires c κs =
@@ -28,7 +26,7 @@ next-value-requires : tie.Need-next-value-requires Inv-loop μ-loop
 next-value-requires c κs =
     let pre = c .before .before .before .before .before .before .pre in
     let loop = c .before .before .before .loop in
-    fits-at pre (loop .state) (loop .inv .1) (loop .k) (c .before .before .loop-test .taken) _ (c .before .cell-at .ensures)
+    fits-at pre (loop .state) (loop .inv .long) (loop .k) (c .before .before .loop-test .taken) _ (c .before .cell-at .ensures)
 
 put16-requires : tie.Need-put16-requires Inv-loop μ-loop
 put16-requires c κs =
@@ -38,24 +36,17 @@ put16-requires c κs =
 loop-again : tie.Need-loop-again Inv-loop μ-loop
 unfolding shown
 loop-again c =
-    let loop = c .before .before .before .before .before .before .before .before .loop in
-    let args = c .before .before .before .before .before .before .before .before .before .before .before .args in
-    let loop-test = c .before .before .before .before .before .before .before .loop-test in (
-      omega arith,
-      c .before .before .put16 .kept .0 ∙ loop .inv .1,
-      upTo-next (shown (value (netOf (args .cells .now) (args .n)))) (loop .k) _ _ _ (loop .inv .2)
-          (cc (net-value (args .cells .now) (args .n) (loop .k) (loop-test .taken) (loop .state))),
-    )
+    let test = c .before .before .before .before .before .before .before in
+    let loop = test .before .loop in
+    let args = test .before .before .before .before .args in
+    passed-more (loop .inv) (test .loop-test .taken) (c .before .before .put16 .kept .0)
+    (cc (net-value (args .cells .now) (args .n) (loop .k) (test .loop-test .taken) (loop .state)))
 
 same-length : tie.Need-same-length Inv-loop μ-loop
-same-length c = c .before .loop .inv .1
+same-length c = c .before .loop .inv .long
 
 returns : tie.Need-returns Inv-loop μ-loop
-returns c =
-    let loop = c .before .loop in
-    let args = c .before .before .before .before .args in
-    let e : loop .k ≡ args .n = omega arith in
-    loop .inv .2 ∙ ap (λ (k : ℕ). upTo (shown (value (netOf (args .cells .now) (args .n)))) k (args .state .now)) e
+returns c = passed-all (c .before .loop .inv) (c .loop-test .left)
 
 pub show-all-spec : {M : Type 1} → statement M
 show-all-spec =

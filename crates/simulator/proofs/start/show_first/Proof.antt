@@ -1,34 +1,33 @@
 -- `show_first` meets its contract: the state so far is the pass up to cell k, and j memories stand below it. Assumes nothing.
 use mathlib.Core.Path.{_≡_, refl, sym, _∙_, ap}
-use Prim.Native.Nat.{ℕ, _-_, _<_, _≤_}
+use Prim.Native.Nat.{ℕ, _-_, _<_}
 use native.Mathlib.Omega.{arith}
 use lib.Dec.{eqb}
 use lib.ListN.{length, take}
 use borrow.Author.Needs.{needs}
 use Rattle.model.specs.Calls.{wordAt}
 use Rattle.model.specs.Circuit.{cellAt, memories}
-use Rattle.model.specs.State.{base, firstValue, upTo, shown}
+use Rattle.model.specs.State.{base, firstValue, shown}
 use Rattle.model.specs.Word.{bit, put16}
 use Rattle.model.specs.declared.Cell.{Cell}
 use Rattle.laws.specs.State.Passes.{bit-lt}
 use Rattle.simulator.specs.Fits.{netOf}
 use Rattle.simulator.proofs.Cells.{net-cell, net-length, fits-at}
 use Rattle.simulator.proofs.Memories.{below-more, below-lt, below-le}
-use Rattle.simulator.proofs.Passes.{upTo-next, upTo-none}
+use Rattle.simulator.proofs.Passes.{Passed, passed-none, passed-more, passed-all}
 use Rattle.simulator.proofs.start.show_first.Statement.{statement}
 use Rattle.simulator.proofs.start.show_first.Tie as tie
 
 abbrev Inv-loop : tie.InvT-loop
 Inv-loop cells n words state₀ j₀ k₀ state j k =
-    (k ≤ n) × (length state ≡ length state₀) × (j ≡ memories (take k (netOf cells n)))
-    × (state ≡ upTo (shown (firstValue (netOf cells n) (wordAt words))) k state₀)
+    Passed (shown (firstValue (netOf cells n) (wordAt words))) n state₀ state k × (j ≡ memories (take k (netOf cells n)))
 
 abbrev μ-loop : tie.MeasureT-loop
 μ-loop cells n words state₀ j₀ k₀ state j k = n - k
 
 loop-holds : tie.Need-loop-holds Inv-loop μ-loop
 unfolding memories
-loop-holds c = (omega arith, refl, refl, sym (upTo-none _ _))
+loop-holds c = (passed-none, refl)
 
 cell-at-requires : tie.Need-cell-at-requires Inv-loop μ-loop
 cell-at-requires c κs =
@@ -42,14 +41,14 @@ first-value-requires c κs =
     let loop-test = c .before .before .loop-test in
     let cell-at = c .before .cell-at in
     let args = c .before .before .before .before .before .before .before .args in
-    let z = fits-at (pre .0) (loop .state) (loop .inv .1) (loop .k) (loop-test .taken) _ (cell-at .ensures) in
+    let z = fits-at (pre .0) (loop .state) (loop .inv .0 .long) (loop .k) (loop-test .taken) _ (cell-at .ensures) in
     let net = netOf (args .cells .now) (args .n) in
     let e : cellAt net (loop .k) ≡ cell-at .result = net-cell (args .cells .now) (args .n) (loop .k) (loop-test .taken) ∙ sym (cell-at .ensures) in
     let l : loop .k < length net = rw (net-length (args .cells .now) (args .n)) (loop-test .taken) in (
       z .0,
       z .1,
       pre .1,
-      λ q. omega (arith, loop .inv .2, pre .2, below-lt net (loop .k) l (ap (λ (d : Cell). d .kind) e ∙ q)),
+      λ q. omega (arith, loop .inv .1, pre .2, below-lt net (loop .k) l (ap (λ (d : Cell). d .kind) e ∙ q)),
     )
 
 put16-requires : tie.Need-put16-requires Inv-loop μ-loop
@@ -68,7 +67,7 @@ add-j c =
     let pre = c .before .before .before .before .before .before .before .before .before .before .before .before .before .before .pre in
     let args = c .before .before .before .before .before .before .before .before .before .before .before .before .before .before .args in
     let cell-at = c .before .before .before .before .before .before .before .before .cell-at in
-    omega (arith, loop .inv .2, pre .2, below-le (netOf (args .cells .now) (args .n)) (loop .k), c .bit .ensures, bit-lt (eqb (cell-at .result .kind) 40))
+    omega (arith, loop .inv .1, pre .2, below-le (netOf (args .cells .now) (args .n)) (loop .k), c .bit .ensures, bit-lt (eqb (cell-at .result .kind) 40))
 
 loop-again : tie.Need-loop-again Inv-loop μ-loop
 unfolding shown
@@ -82,22 +81,16 @@ loop-again c =
     let net = netOf (args .cells .now) (args .n) in
     let e : cellAt net (loop .k) ≡ cell-at .result = net-cell (args .cells .now) (args .n) (loop .k) (loop-test .taken) ∙ sym (cell-at .ensures) in
     let l : loop .k < length net = rw (net-length (args .cells .now) (args .n)) (loop-test .taken) in (
-      omega arith,
-      put16-call .kept .0 ∙ loop .inv .1,
-      omega (arith, loop .inv .2, below-more net (loop .k) l, ap (λ (d : Cell). bit (eqb (d .kind) 40)) e, c .bit .ensures),
-      upTo-next (shown (firstValue net (wordAt (args .words .now)))) (loop .k) _ _ _ (loop .inv .3)
-          (put16-call .ensures ∙ ap (put16 (loop .state) (base (loop .k))) (first-value .ensures net e (sym (loop .inv .2)))),
+      passed-more (loop .inv .0) (loop-test .taken) (put16-call .kept .0)
+          (put16-call .ensures ∙ ap (put16 (loop .state) (base (loop .k))) (first-value .ensures net e (sym (loop .inv .1)))),
+      omega (arith, loop .inv .1, below-more net (loop .k) l, ap (λ (d : Cell). bit (eqb (d .kind) 40)) e, c .bit .ensures),
     )
 
 same-length : tie.Need-same-length Inv-loop μ-loop
-same-length c = c .before .loop .inv .1
+same-length c = c .before .loop .inv .0 .long
 
 returns : tie.Need-returns Inv-loop μ-loop
-returns c =
-    let loop = c .before .loop in
-    let args = c .before .before .before .before .before .args in
-    let e : loop .k ≡ args .n = omega arith in
-    loop .inv .3 ∙ ap (λ (k : ℕ). upTo (shown (firstValue (netOf (args .cells .now) (args .n)) (wordAt (args .words .now)))) k (args .state .now)) e
+returns c = passed-all (c .before .loop .inv .0) (c .loop-test .left)
 
 pub show-first-spec : {M : Type 1} → statement M
 show-first-spec =

@@ -61,7 +61,7 @@ pub extern "C" fn hub_renumber(cells: &mut [u8], from: usize, end: usize, k: u16
     if MOST_CELLS < end {
         return false;
     }
-    if cells.len() < netlist::cells::CELL_BYTES * end {
+    if cells.len() < 6 * end {
         return false;
     }
     renumber_bytes(cells, from, end, k);

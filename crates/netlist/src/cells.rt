@@ -13,20 +13,6 @@ use model::sizes::BLOCK_CELLS;
 use model::sizes::BLOCK_HEADER;
 use model::sizes::CELL;
 
-// In bytes: a cell, a block of a file, and its header.
-pub const CELL_BYTES: usize = 6;
-
-pub const BLOCK_BYTES: usize = 512;
-
-pub const HEADER_BYTES: usize = 8;
-
-// How many cells a block has, the number of the last one there, and the most cells of a netlist.
-pub const BLOCK_CELLS: usize = 84;
-
-pub const LAST_CELL: usize = 83;
-
-pub const MOST_CELLS: usize = 1024;
-
 // Cells one after another, or in the blocks of a file.
 pub enum Layout {
     InList,
@@ -83,7 +69,7 @@ pub fn put_cells(d: &mut [u8], i: usize, s: &[u8], layout: Layout, k: usize, n: 
     while 0 < left {
         let c = cell_at(s, layout, from);
         put_cell(d, to, c, 0);
-        to += CELL_BYTES;
+        to += 6;
         from += 1;
         left -= 1;
     }

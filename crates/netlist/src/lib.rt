@@ -57,7 +57,7 @@ pub fn write_netlist(cells: &[u8], finish: u16, file: &mut [u8]) -> Written
     let n = cells.len() / 6;
     let m = (n + BLOCK_LAST) / BLOCK_CELLS;
     let f = finish as usize;
-    if (0 < cells.len() % cells::CELL_BYTES) | blocks::count_wrong(m, n, f) {
+    if (0 < cells.len() % 6) | blocks::count_wrong(m, n, f) {
         return Written::Refused(Refusal {
             number: 11,
             place: 0,
@@ -89,7 +89,7 @@ pub fn read_netlist(file: &[u8], cells: &mut [u8]) -> Written
     }
     let count = word::get16(file, 2) as usize;
     let finish = word::get16(file, 4);
-    if cells.len() < cells::CELL_BYTES * count {
+    if cells.len() < 6 * count {
         return Written::Refused(Refusal {
             number: 14,
             place: 0,

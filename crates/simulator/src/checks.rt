@@ -8,7 +8,6 @@ ghost use Rattle.model.specs.NetlistFile.{fileCheck, cellsOf};
 ghost use Rattle.model.specs.State.{stateSize};
 ghost use Rattle.model.specs.Calls.{short, beginChecks, continueChecks, runNetlistChecks};
 use crate::sound;
-use crate::wires;
 use model::Checked;
 use model::Refusal;
 use model::sizes::LAST_INSTANT;

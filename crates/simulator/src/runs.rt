@@ -15,9 +15,6 @@ use model::Answer;
 use model::Outcome;
 use netlist::cells::Layout;
 
-// The bytes of a list of the most cells.
-const LIST_BYTES: usize = 6144;
-
 // Copies the cells of a file, six bytes each; answers how many there are.
 fn load(cells: &mut [u8], file: &[u8]) -> usize
     requires { ⌜ (6144 ≤ length (now cells)) × (fileCheck (now file) ≡ Accepted) ⌝ }
@@ -97,7 +94,7 @@ pub fn begin(file: &[u8], words: &[u8], state: &mut [u8]) -> Answer
     ensures state { λ _. ⌜ now (state .exit) ≡ beginState (cellsOf (now (file .entry))) (wordAt (now (words .entry))) (now (state .entry)) ⌝ }
     ensures answer { λ r. ⌜ r ≡ shows (now (file .entry)) (beginState (cellsOf (now (file .entry))) (wordAt (now (words .entry))) (now (state .entry))) 1 ⌝ }
 {
-    let mut cells = [0u8; LIST_BYTES];
+    let mut cells = [0u8; 6144];
     let n = load(&mut cells, file);
     start::begin_state(&cells, n, words, state);
     shows(file, state, 1)
@@ -109,7 +106,7 @@ pub fn continue_by(file: &[u8], state: &mut [u8], budget: u32) -> Answer
     ensures answer { λ r. ⌜ r ≡ shows (now (file .entry)) (lastState (cellsOf (now (file .entry))) (finishOf (now (file .entry))) budget (now (state .entry))) (evaluated (cellsOf (now (file .entry))) (finishOf (now (file .entry))) budget (now (state .entry))) ⌝ }
 {
     let finish = word::get16(file, 4) as usize;
-    let mut cells = [0u8; LIST_BYTES];
+    let mut cells = [0u8; 6144];
     let n = load(&mut cells, file);
     let count = continue_state(&cells, n, finish, state, budget);
     shows(file, state, count)
@@ -122,7 +119,7 @@ pub fn full_run(file: &[u8], words: &[u8], budget: u32, state: &mut [u8]) -> Ans
     ensures answer { λ r. ⌜ r ≡ shows (now (file .entry)) (fullState (now (file .entry)) (now (words .entry)) budget (now (state .entry))) (fullCount (now (file .entry)) (now (words .entry)) budget (now (state .entry))) ⌝ }
 {
     let finish = word::get16(file, 4) as usize;
-    let mut cells = [0u8; LIST_BYTES];
+    let mut cells = [0u8; 6144];
     let n = load(&mut cells, file);
     start::begin_state(&cells, n, words, state);
     if wires::is_high(state, finish) {

@@ -10,7 +10,6 @@ ghost use Rattle.model.specs.State.{firstValue, upTo, shown, beginState};
 ghost use Rattle.model.specs.Calls.{wordAt};
 ghost use Rattle.simulator.specs.Fits.{Stands, Sees, netOf, Fits};
 use crate::instant;
-use crate::wires;
 use model::Cell;
 use model::sizes::STATE_CELL;
 use model::sizes::STATE_HEADER;

@@ -13,13 +13,6 @@ use model::sizes::STATE_CELL;
 use model::sizes::STATE_HEADER;
 use model::sizes::STATE_LINE;
 
-// In bytes: a state's header, what it has of each cell, and where in that a line begins.
-pub const HEADER_BYTES: usize = 8;
-
-pub const CELL_BYTES: usize = 40;
-
-pub const LINE_AT: usize = 8;
-
 pub fn now_at(state: &[u8], k: usize) -> u16
     requires { ⌜ Stands (now state) k ⌝ }
     ensures { λ r. ⌜ r ≡ nowAt (now (state .entry)) k ⌝ }

@@ -3,6 +3,7 @@
 mod rows;
 mod show;
 
+use model::sizes::PROGRAM_MOST;
 use rows::ends;
 use rows::refuses;
 use rows::stays_open;
@@ -71,7 +72,7 @@ fn lengths() {
     let mut many = [0u8; 804];
     rows::set_kinds(&mut many, 0, 201, 16);
     row(b"201 nodes", &many, 0, 100, refuses(1, 0));
-    let mut most = [0u8; 800];
+    let mut most = [0u8; PROGRAM_MOST];
     most[396] = 18;
     most[397] = 1;
     most[400] = 1;

@@ -11,6 +11,8 @@ ghost use Rattle.cases.specs.Rows.{openAnswer, Same, Holds, kindsSet};
 use model::Answer;
 use model::Outcome;
 use model::Refusal;
+use model::sizes::FILE_MOST;
+use model::sizes::STATE_MOST;
 
 pub fn ends(instant: u32, word: u16) -> Answer
     requires { ⌜ instant < 1000000 ⌝ }
@@ -66,8 +68,8 @@ fn by_circuit(program: &[u8], word: u16, budget: u32) -> Answer
 {
     let mut words = [0u8; 32];
     word::put16(&mut words, 0, word);
-    let mut netlist = [0u8; 6656];
-    let mut state = [0u8; 40968];
+    let mut netlist = [0u8; FILE_MOST];
+    let mut state = [0u8; STATE_MOST];
     hub::run_program(
         hub::defaults(),
         program,

@@ -20,6 +20,7 @@ use model::Written;
 use model::sizes::BLOCK;
 use model::sizes::BLOCK_CELLS;
 use model::sizes::BLOCK_LAST;
+use model::sizes::COMPILED_MOST;
 
 // How many cells the netlist of an accepted program has; its file takes 512 bytes for every 84 of them.
 pub fn count_cells(options: Options, program: &[u8]) -> usize
@@ -28,7 +29,7 @@ pub fn count_cells(options: Options, program: &[u8]) -> usize
 {
     let told = program::scan(options, program);
     let ends = told.ends;
-    let mut cells = [0u8; 3714];
+    let mut cells = [0u8; COMPILED_MOST];
     let made = whole::put_netlist(&mut cells, program, &ends);
     made.count as usize
 }
@@ -41,7 +42,7 @@ pub fn compile_accepted(options: Options, program: &[u8], netlist: &mut [u8]) ->
 {
     let told = program::scan(options, program);
     let ends = told.ends;
-    let mut cells = [0u8; 3714];
+    let mut cells = [0u8; COMPILED_MOST];
     let made = whole::put_netlist(&mut cells, program, &ends);
     let n = made.count as usize;
     netlist::blocks::put_file(netlist, &cells, n, made.finish);
@@ -59,7 +60,7 @@ pub fn compile(options: Options, program: &[u8], netlist: &mut [u8]) -> Written
         return Written::Refused(r);
     }
     let ends = told.ends;
-    let mut cells = [0u8; 3714];
+    let mut cells = [0u8; COMPILED_MOST];
     let made = whole::put_netlist(&mut cells, program, &ends);
     let n = made.count as usize;
     let finish = made.finish;

@@ -5,6 +5,7 @@ use model::Answer;
 use model::Checked;
 use model::Options;
 use model::Written;
+use model::sizes::PROGRAM_MOST;
 
 // Refusals 19 to 21, 17, 18, 1 to 8, 14.
 pub fn compile(options: Options, source: &[u8], file: &mut [u8]) -> Written
@@ -15,7 +16,7 @@ pub fn compile(options: Options, source: &[u8], file: &mut [u8]) -> Written
     if let Checked::Refused(r) = beside {
         return Written::Refused(r);
     }
-    let mut program = [0u8; 800];
+    let mut program = [0u8; PROGRAM_MOST];
     let told = text::program_of(source, &mut program);
     match told {
         Written::Refused(r) => Written::Refused(r),
@@ -40,7 +41,7 @@ pub fn run(
     if let Checked::Refused(r) = beside {
         return simulator::refused(r);
     }
-    let mut program = [0u8; 800];
+    let mut program = [0u8; PROGRAM_MOST];
     let told = text::program_of(source, &mut program);
     match told {
         Written::Refused(r) => simulator::refused(r),

@@ -11,6 +11,8 @@ ghost use Rattle.model.specs.Calls.{overwrite, runProgramCall};
 ghost use Rattle.model.specs.Hubrun.{decimal, line, textOf, hubrunText};
 use model::Answer;
 use model::Outcome;
+use model::sizes::FILE_MOST;
+use model::sizes::STATE_MOST;
 
 // A word as a number: a cast of an element, apart from its index.
 fn wide(word: u16) -> usize
@@ -65,8 +67,8 @@ fn run(input: &[u8]) -> Answer
     ensures { λ r. ⌜ r ≡ runProgramCall defaults (drop 36 (now (input .entry))) (take 32 (now (input .entry))) (get32 (now (input .entry)) 32) (replicate 6656 0) (replicate 40968 0) .answer ⌝ }
 {
     let budget = word::get32(input, 32);
-    let mut netlist = [0u8; 6656];
-    let mut state = [0u8; 40968];
+    let mut netlist = [0u8; FILE_MOST];
+    let mut state = [0u8; STATE_MOST];
     let options = hub::defaults();
     hub::run_program(
         options,

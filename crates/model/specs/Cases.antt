@@ -3,7 +3,7 @@
 -- because a state of forty bytes for each cell is too long to be computed here. Assumes nothing.
 use mathlib.Core.Path.{_≡_, refl}
 use mathlib.Core.List.{List, [], _∷_, _++_, map}
-use Prim.Native.Nat.{ℕ, _+_, _*_, _/_, _%_, _≤_}
+use Prim.Native.Nat.{ℕ, zero, suc, _+_, _*_, _/_, _%_, _≤_}
 use Prim.Native.String.{String}
 use lib.ListN.{length, take, replicate}
 use Rattle.model.specs.declared.Checked.{Checked}
@@ -13,20 +13,33 @@ use Rattle.model.specs.declared.Outcome.the-variants.{Ended}
 use Rattle.model.specs.declared.Written.{Written}
 use Rattle.model.specs.declared.Written.the-variants.{Done}
 use Rattle.model.specs.declared.Answer.{Answer}
-use Rattle.model.specs.Word.{bit, operate}
-use Rattle.model.specs.Refusals.{refuse}
-use Rattle.model.specs.Program.{programOf}
+use Rattle.model.specs.Word.{bit, operate, get16, bytes16}
+use Rattle.model.specs.Refusals.{refuse, firstFault}
+use Rattle.model.specs.Program.{programOf, nodeAt, nodesFrom, nodeBytes, rowOf, asExpr, asStmt, exprOf, stmtOf, treeOf, grow, forest, treesAt, exprAt, stmtAt, preorderE, preorder, time, builtInTimes, least, reads, writes, touches, conflict, conflicts, programLengthWrong, unusedSet, nodeFault, children, reading, delayFault, conflictFault, checkOf}
 use Rattle.model.specs.Rules.{eval, put, over, kept, after, wait, chain, both, whiles, repeats, run}
 use Rattle.model.specs.Numbering.{netlist, finish}
 use Rattle.model.specs.NetlistFile.{blocksFor, cellsOf}
-use Rattle.model.specs.TimeTables.{defaults}
+use Rattle.model.specs.TimeTables.{load, defaults}
 use Rattle.model.specs.Calls.{writtenVerdict, checkCall, compileCall, runProgramCall, refusedAnswer, listed, referenceAnswer, answering, referenceCall}
 use Rattle.model.specs.Ascii.{ascii}
 use Rattle.model.specs.Hubrun.{digits, line, linesOf, textOf, hubrunText}
 use Rattle.model.specs.Netlists.{numbering}
-use Rattle.model.specs.ProgramRows.{raw, repeated, checkOfProgram}
 
 -- Programs -----------------------------------------------------------------------------------------------------------------------------
+
+-- a node's four bytes; n below 256
+abbrev pub raw : ℕ → ℕ → ℕ → List ℕ
+raw k d n = k ∷ d ∷ n ∷ 0 ∷ []
+
+-- so many times
+unfoldable pub repeated : ℕ → List ℕ → List ℕ
+repeated zero s = []
+repeated (suc n) s = s ++ repeated n s
+
+-- whoever unfolds this unfolds all that a program is checked by
+unfoldable pub checkOfProgram : List ℕ → Checked
+unfolding get16 firstFault nodeAt nodesFrom rowOf asExpr asStmt exprOf stmtOf treeOf grow forest treesAt exprAt stmtAt time builtInTimes least reads writes touches conflict conflicts programLengthWrong unusedSet nodeFault children reading delayFault conflictFault checkOf load checkCall repeated nodeBytes bytes16 preorderE preorder
+checkOfProgram s = checkCall defaults s
 
 -- x0 := x0 + n, and x0 := x0 − 1 with d 17
 abbrev adding : ℕ → ℕ → List ℕ

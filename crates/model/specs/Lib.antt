@@ -21,12 +21,5 @@ pub mod TablePromises
 pub mod ProgramPromises
 pub mod CellPromises
 pub mod TextPromises
-pub mod OperatorRows
-pub mod ProgramRows
-pub mod TableRows
 pub mod Netlists
-pub mod NetlistRows
-pub mod StateRows
-pub mod CallRows
 pub mod Cases
-pub mod Texts

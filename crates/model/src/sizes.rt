@@ -15,6 +15,11 @@ pub const MOST_CELLS: usize = 1024;
 
 pub const FILE_MOST: usize = 6656;
 
+// A list of cells, of any netlist and of a compiled one.
+pub const LIST_MOST: usize = 6144;
+
+pub const COMPILED_MOST: usize = 3714;
+
 // A state: a header, and for each cell its values, held bits and line.
 pub const STATE_HEADER: usize = 8;
 
@@ -23,6 +28,8 @@ pub const STATE_CELL: usize = 40;
 pub const STATE_LINE: usize = 8;
 
 pub const LINE: usize = 32;
+
+pub const STATE_MOST: usize = 40968;
 
 // A program, a text, the start words, a run.
 pub const NODE: usize = 4;

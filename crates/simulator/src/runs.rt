@@ -13,6 +13,7 @@ use crate::start;
 use crate::wires;
 use model::Answer;
 use model::Outcome;
+use model::sizes::LIST_MOST;
 use netlist::cells::Layout;
 
 // Copies the cells of a file, six bytes each; answers how many there are.
@@ -94,7 +95,7 @@ pub fn begin(file: &[u8], words: &[u8], state: &mut [u8]) -> Answer
     ensures state { λ _. ⌜ now (state .exit) ≡ beginState (cellsOf (now (file .entry))) (wordAt (now (words .entry))) (now (state .entry)) ⌝ }
     ensures answer { λ r. ⌜ r ≡ shows (now (file .entry)) (beginState (cellsOf (now (file .entry))) (wordAt (now (words .entry))) (now (state .entry))) 1 ⌝ }
 {
-    let mut cells = [0u8; 6144];
+    let mut cells = [0u8; LIST_MOST];
     let n = load(&mut cells, file);
     start::begin_state(&cells, n, words, state);
     shows(file, state, 1)
@@ -106,7 +107,7 @@ pub fn continue_by(file: &[u8], state: &mut [u8], budget: u32) -> Answer
     ensures answer { λ r. ⌜ r ≡ shows (now (file .entry)) (lastState (cellsOf (now (file .entry))) (finishOf (now (file .entry))) budget (now (state .entry))) (evaluated (cellsOf (now (file .entry))) (finishOf (now (file .entry))) budget (now (state .entry))) ⌝ }
 {
     let finish = word::get16(file, 4) as usize;
-    let mut cells = [0u8; 6144];
+    let mut cells = [0u8; LIST_MOST];
     let n = load(&mut cells, file);
     let count = continue_state(&cells, n, finish, state, budget);
     shows(file, state, count)
@@ -119,7 +120,7 @@ pub fn full_run(file: &[u8], words: &[u8], budget: u32, state: &mut [u8]) -> Ans
     ensures answer { λ r. ⌜ r ≡ shows (now (file .entry)) (fullState (now (file .entry)) (now (words .entry)) budget (now (state .entry))) (fullCount (now (file .entry)) (now (words .entry)) budget (now (state .entry))) ⌝ }
 {
     let finish = word::get16(file, 4) as usize;
-    let mut cells = [0u8; 6144];
+    let mut cells = [0u8; LIST_MOST];
     let n = load(&mut cells, file);
     start::begin_state(&cells, n, words, state);
     if wires::is_high(state, finish) {

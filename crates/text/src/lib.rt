@@ -24,6 +24,7 @@ use model::Options;
 use model::Refusal;
 use model::Written;
 use model::sizes::MOST_NODES;
+use model::sizes::PROGRAM_MOST;
 use model::sizes::TEXT_MOST;
 use parsing::Parsed;
 
@@ -88,7 +89,7 @@ fn read_accepted(options: Options, text: &[u8], lent: &mut [u8]) -> Written
     ensures answer { λ r. ⌜ r ≡ readTextCall options (now (text .entry)) (now (lent .entry)) .answer ⌝ }
     ensures lent { λ _. ⌜ now (lent .exit) ≡ readTextCall options (now (text .entry)) (now (lent .entry)) .lent ⌝ }
 {
-    let mut program = [0u8; 800];
+    let mut program = [0u8; PROGRAM_MOST];
     let told = program_of(text, &mut program);
     match told {
         Written::Refused(r) => Written::Refused(r),

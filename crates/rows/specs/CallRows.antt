@@ -5,15 +5,15 @@ use mathlib.Core.Path.{_≡_, refl}
 use mathlib.Core.List.{List, [], _∷_, _++_, map}
 use Prim.Native.Nat.{ℕ}
 use lib.ListN.{set, replicate}
 use Rattle.model.specs.declared.Checked.{Checked}
 use Rattle.model.specs.declared.Checked.the-variants.{Accepted}
 use Rattle.model.specs.Refusals.{refuse, first}
 use Rattle.model.specs.NetlistFile.{cellBytes, fileOf}
 use Rattle.model.specs.TimeTables.{defaults}
 use Rattle.model.specs.Calls.{compileChecks, writeChecks, readChecks, beginChecks, continueChecks, runNetlistChecks, runProgramChecks, referenceChecks}
 use Rattle.model.specs.Netlists.{numbering, front, idle}
-use Rattle.model.specs.ProgramRows.{raw, checkOfProgram}
-use Rattle.model.specs.StateRows.{stateOfCells}
+use Rattle.model.specs.Cases.{raw, checkOfProgram}
+use Rattle.rows.specs.StateRows.{stateOfCells}
 
 -- ok, and its file of 19 cells, whose state is 8 + 40 * 19 = 768 bytes
 abbrev okProgram : List ℕ

@@ -6,12 +6,12 @@ use mathlib.Core.Bool.{Bool, true, false}
 use mathlib.Core.List.{List, [], _∷_, _++_, map}
 use Prim.Native.Nat.{ℕ, _+_, _*_}
 use lib.ListN.{set, replicate}
 use Rattle.model.specs.declared.Cell.{Cell}
 use Rattle.model.specs.Word.{operate, put16, get32, put32}
 use Rattle.model.specs.Circuit.{memoryWords, cell, mergeStep}
 use Rattle.model.specs.State.{heldAt, lineBit, nextValue, upTo, aged, shown, shiftedIn, holding, settle, beginState, stepState, lastState, evaluated, wordsIn, cellSound, cellsSound, sound}
 use Rattle.model.specs.Calls.{wordAt}
-use Rattle.model.specs.NetlistRows.{checkOfFile}
+use Rattle.rows.specs.NetlistRows.{checkOfFile}
 
 -- A run --------------------------------------------------------------------------------------------------------------------------------
 

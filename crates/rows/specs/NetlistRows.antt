@@ -5,20 +5,20 @@ use mathlib.Core.Path.{_≡_, refl}
 use mathlib.Core.List.{List, [], _∷_, _++_, map}
 use Prim.Native.Nat.{ℕ}
 use lib.ListN.{take, drop, set, replicate}
 use Rattle.model.specs.declared.Cell.{Cell}
 use Rattle.model.specs.declared.Checked.{Checked}
 use Rattle.model.specs.declared.Checked.the-variants.{Accepted}
 use Rattle.model.specs.declared.Written.{Written}
 use Rattle.model.specs.declared.Written.the-variants.{Done}
 use Rattle.model.specs.Word.{bit, get16, bytes16}
 use Rattle.model.specs.Refusals.{refuse, firstFault}
 use Rattle.model.specs.Circuit.{cell, shape, control, names, memories}
 use Rattle.model.specs.NetlistFile.{runningSum, sumAfter, sumWith, cellBytes, cellFrom, cellsAt, wordSum, restBytes, blockWith, block, blocks, fileOf, cellsOf, fileLengthWrong, sumFault, countWrong, allZero, headerRight, headerFault, controlIn, wordIn, kept, keeps, stands, placed, cellFault, netCheck, fileCheck}
 use Rattle.model.specs.TimeTables.{defaults}
 use Rattle.model.specs.Calls.{Returned, writing, compileCall, readCall, writeCall}
 use Rattle.model.specs.CellSlices.{moved, behind, renumberCall}
 use Rattle.model.specs.Netlists.{numbering, front, idle}
-use Rattle.model.specs.ProgramRows.{raw, repeated, checkOfProgram}
+use Rattle.model.specs.Cases.{raw, repeated, checkOfProgram}
 
 -- whoever unfolds this unfolds all that a netlist file is written and checked by
 unfoldable pub checkOfFile : List ℕ → Checked

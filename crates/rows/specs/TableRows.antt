@@ -4,15 +4,15 @@ use mathlib.Core.Path.{_≡_, refl}
 use mathlib.Core.List.{List, [], _∷_, _++_, map}
 use Prim.Native.Nat.{ℕ}
 use lib.ListN.{set, replicate}
 use Rattle.model.specs.declared.Checked.{Checked}
 use Rattle.model.specs.declared.Checked.the-variants.{Accepted}
 use Rattle.model.specs.Word.{bytes16}
 use Rattle.model.specs.Refusals.{refuse, firstFault}
 use Rattle.model.specs.Program.{builtInTimes}
 use Rattle.model.specs.NetlistFile.{wordSum, blockWith}
 use Rattle.model.specs.TimeTables.{byteWrong, tableFault, tableSumWrong, timesIn, given, load, defaults}
 use Rattle.model.specs.Calls.{checkCall}
-use Rattle.model.specs.ProgramRows.{raw, checkOfProgram}
+use Rattle.model.specs.Cases.{raw, checkOfProgram}
 
 -- The built-in times as a file. Its words, but for the check, sum to 9 + (1 + 256 * 16) + (17 + 256) + (1 + 256 * 6) + 17 = 5933, and
 -- 65536 − 5933 = 59603 = 211 + 256 * 232.

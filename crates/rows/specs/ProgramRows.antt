@@ -3,30 +3,14 @@
 -- Assumes nothing.
 use mathlib.Core.Path.{_≡_, refl}
 use mathlib.Core.List.{List, [], _∷_, _++_, map}
-use Prim.Native.Nat.{ℕ, zero, suc}
+use Prim.Native.Nat.{ℕ}
 use Rattle.model.specs.declared.Checked.{Checked}
 use Rattle.model.specs.declared.Checked.the-variants.{Accepted}
-use Rattle.model.specs.Word.{get16, bytes16}
-use Rattle.model.specs.Refusals.{refuse, firstFault}
-use Rattle.model.specs.Program.{nodeAt, nodesFrom, nodeBytes, rowOf, Expr, const, var, compl, op, Stmt, ok, tick, assign, seq, par, ite, while, repeat, asExpr, asStmt, exprOf, stmtOf, treeOf, grow, forest, treesAt, exprAt, stmtAt, preorderE, preorder, time, builtInTimes, least, reads, writes, touches, conflict, conflicts, programLengthWrong, unusedSet, nodeFault, children, reading, delayFault, conflictFault, checkOf}
-use Rattle.model.specs.TimeTables.{load, defaults}
+use Rattle.model.specs.Refusals.{refuse}
+use Rattle.model.specs.Program.{nodeBytes, Expr, const, var, compl, op, Stmt, ok, tick, assign, seq, par, ite, while, repeat, preorder}
+use Rattle.model.specs.TimeTables.{defaults}
 use Rattle.model.specs.Calls.{checkCall}
-
--- Notation -----------------------------------------------------------------------------------------------------------------------------
-
--- a node's four bytes; n below 256
-abbrev pub raw : ℕ → ℕ → ℕ → List ℕ
-raw k d n = k ∷ d ∷ n ∷ 0 ∷ []
-
--- so many times
-unfoldable pub repeated : ℕ → List ℕ → List ℕ
-repeated zero s = []
-repeated (suc n) s = s ++ repeated n s
-
--- whoever unfolds this unfolds all that a program is checked by
-unfoldable pub checkOfProgram : List ℕ → Checked
-unfolding get16 firstFault nodeAt nodesFrom rowOf asExpr asStmt exprOf stmtOf treeOf grow forest treesAt exprAt stmtAt time builtInTimes least reads writes touches conflict conflicts programLengthWrong unusedSet nodeFault children reading delayFault conflictFault checkOf load checkCall repeated nodeBytes bytes16 preorderE preorder
-checkOfProgram s = checkCall defaults s
+use Rattle.model.specs.Cases.{raw, repeated, checkOfProgram}
 
 -- Kinds --------------------------------------------------------------------------------------------------------------------------------
 

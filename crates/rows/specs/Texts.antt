@@ -7,20 +7,20 @@ use Prim.Native.Nat.{ℕ}
 use Prim.Native.Char.{code}
 use Prim.Native.String.{String}
 use lib.ListN.{replicate}
 use Rattle.model.specs.declared.Checked.{Checked}
 use Rattle.model.specs.declared.Checked.the-variants.{Accepted}
 use Rattle.model.specs.declared.Outcome.the-variants.{Ended, Open}
 use Rattle.model.specs.declared.Answer.{Answer}
 use Rattle.model.specs.Refusals.{refuse, first}
 use Rattle.model.specs.Program.{const, var, compl, op, Stmt, ok, tick, assign, seq, par, ite, while, repeat, preorderE, preorder}
 use Rattle.model.specs.Ascii.{ascii}
 use Rattle.model.specs.Text.{blank, digit, letter, runLength, allDigits, valueFrom, isNumber, isName, same, wordCode, twoCode, oneCode, limitAfter, runToken, tokenAt, sizeAt, wordsFrom, outside}
 use Rattle.model.specs.Reader.{Reading, good, holdOf, reachOf, pop, topCode, topStart, leaf, opened, openedNode, between, closed, turned, reduced, withDelay, onStatement, onOperand, onAfterOperand, onAfterStatement, onDelay, onBody, stepOf, isBroken, complete, readFrom}
 use Rattle.model.specs.Calls.{writing, refusedAnswer}
 use Rattle.model.specs.Hubrun.{digits, line, linesOf, textOf, hubrunText}
 use Rattle.model.specs.TextCalls.{readingOf, brokenAt, bytesRead, textChecks, readTextCall}
 use Rattle.model.specs.Hubtext.{written, hubtextOutput}
-use Rattle.model.specs.ProgramRows.{checkOfProgram}
+use Rattle.model.specs.Cases.{checkOfProgram}
 
 -- whoever unfolds this unfolds all that a text is read by
 unfoldable readingOfText : String → Reading

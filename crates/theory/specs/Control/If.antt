@@ -1,5 +1,5 @@
 -- What the circuit of an if does. Its condition is read w times, and its words stay meanwhile. Assumes nothing.
-use Prim.Native.Nat.{ℕ, suc, _+_, _≤_, _<_}
+use Prim.Native.Nat.{ℕ, suc, _+_, _-_, _≤_, _<_}
 use mathlib.Core.Path.{_≡_, sym, _∙_, ap, ap₂}
 use mathlib.Core.Bool.{Bool, true, false, not, _&&_, _||_, or-comm}
 use native.Mathlib.Omega.{arith}
@@ -10,7 +10,7 @@ use Rattle.model.specs.Circuit.{Sig, delayed}
 use Rattle.laws.specs.Refusals.Laws.{by-bool, by-le, not-both}
 use Rattle.laws.specs.Rules.Laws.{wait-still, ite-then, ite-else}
 use Rattle.theory.specs.Control.Widths.{gap, widened}
-use Rattle.theory.specs.Control.Ways.{comes-is, wait-comes}
+use Rattle.theory.specs.Control.Ways.{comes-is, comes-at, wait-comes}
 use Rattle.theory.specs.Control.Signal.{Quiet, delayed-quiet}
 use Rattle.theory.specs.Control.Pulses.{Pulse, Firm, pulse-less, pulse-delayed, pulse-firm, either-firm}
 use Rattle.theory.specs.Control.History.{Stable, stable-off, stable-on, Spaced, spaced-on}
@@ -23,7 +23,7 @@ use Rattle.theory.specs.Control.Surge.{surge, gated-firm, test-same}
 use Rattle.theory.specs.Control.Bodies.{Owned, Owns, owns-both, pause-sofar}
 use Rattle.theory.specs.Control.Runs.{Begins, free, Going, Does, RunOf, ShortOf, done-as, going-as}
 use Rattle.theory.specs.Control.Tests.{Waits, waited, test-words, test-is}
-use Rattle.theory.specs.Control.Sides.{Branch, branch}
+use Rattle.theory.specs.Control.Sides.{branch}
 
 module _ (W : World) (d : ℕ) (e : Expr) (P Q : Stmt) (timedP : Paced W P) (timedQ : Paced W Q) (doesP : RunOf W P) (doesQ : RunOf W Q)
     (U : Owned) (σ : Store) (s f : Sig) (g : Gives) (n : Ite (ideal (W .m)) d e (Built W P) (Built W Q) s f g) where
@@ -155,7 +155,7 @@ module _ (W : World) (d : ℕ) (e : Expr) (P Q : Stmt) (timedP : Paced W P) (tim
           (λ y₀. by-le (a + d + W .w) t (λ y₁. p t (ite-pulse .low t y₁ (omega arith))) (λ y₁. q t y₀ y₁ k))
           (λ y₀. p t (ite-before t l y₀))
 
-      then-branch : isZero (eval e σ) ≡ false → Branch W P U σ (λ t. K₁ t × K₂ t) (λ t. L₁ t × L₂ t) f g a c j u d
+      then-branch : isZero (eval e σ) ≡ false → Does W U (goes W (u - d) P σ) (λ t. K₁ t × K₂ t) (λ t. L₁ t × L₂ t) f g a c j (u - d)
       then-branch z =
           branch W P Q timedP timedQ doesP U σ f g (n .s₁) (n .f₁) (n .g₁) (n .left) (n .s₂) (n .f₂) (n .g₂) (n .right) (n .joined) (n .fin)
           a c j u d h o o′ (B .ready .calm .1) (B .ready .calm .2) (λ t l k. ite-off₁ t (ite-before t l k))
@@ -168,7 +168,7 @@ module _ (W : World) (d : ℕ) (e : Expr) (P Q : Stmt) (timedP : Paced W P) (tim
           (λ t l k k′. n .no₂ t ∙ ap₂ (λ (p q : Bool). p && q) (ite-pulse .high t l k (omega arith)) (test-is ite-waits e (ite-uses .0) t l k k′ ∙ z)))
           (ite-owns .0) (waited ite-waits)
 
-      else-branch : isZero (eval e σ) ≡ true → Branch W Q U σ (λ t. K₂ t × K₁ t) (λ t. L₂ t × L₁ t) f g a c j u d
+      else-branch : isZero (eval e σ) ≡ true → Does W U (goes W (u - d) Q σ) (λ t. K₂ t × K₁ t) (λ t. L₂ t × L₁ t) f g a c j (u - d)
       else-branch z =
           branch W Q P timedQ timedP doesQ U σ f g (n .s₂) (n .f₂) (n .g₂) (n .right) (n .s₁) (n .f₁) (n .g₁) (n .left)
           (joined-swap (n .g₁) (n .g₂) g (n .joined)) (λ t. n .fin t ∙ or-comm (n .f₁ t) (n .f₂ t))
@@ -201,12 +201,14 @@ module _ (W : World) (d : ℕ) (e : Expr) (P Q : Stmt) (timedP : Paced W P) (tim
               by-bool (isZero (eval e σ))
               (λ z.
               let v = wait-comes d u (λ k. goes W k Q σ) (comes-is (ite-else u d e (means W P) (means W Q) σ z) p) in
+              let q : v .0 ≡ u - d = omega (arith, v .3) in
               done-as K L (λ o k. (ite-calm (v .1) o, k .1, k .0)) (λ l. (ite-sofar (v .1) j (omega arith), l .1, l .0))
-              (else-branch (v .1) z .ends way (v .0) σ′ (sym (v .3)) (v .2)))
+              (else-branch (v .1) z .ends way σ′ (comes-at (goes W (u - d) Q σ) q (v .2))))
               (λ z.
               let v = wait-comes d u (λ k. goes W k P σ) (comes-is (ite-then u d e (means W P) (means W Q) σ z) p) in
+              let q : v .0 ≡ u - d = omega (arith, v .3) in
               done-as K L (λ o k. (ite-calm (v .1) o, k .0, k .1)) (λ l. (ite-sofar (v .1) j (omega arith), l .0, l .1))
-              (then-branch (v .1) z .ends way (v .0) σ′ (sym (v .3)) (v .2)));
+              (then-branch (v .1) z .ends way σ′ (comes-at (goes W (u - d) P σ) q (v .2))));
         }
 
 pub run-ite : (W : World) (d : ℕ) (e : Expr) (P Q : Stmt) → Paced W P → Paced W Q → RunOf W P → RunOf W Q → ShortOf W (ite d e P Q)

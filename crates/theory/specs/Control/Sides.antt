@@ -9,7 +9,7 @@ use Rattle.model.specs.Circuit.{Sig}
 use Rattle.model.specs.Rules.{Store, ended, still}
 use Rattle.laws.specs.Program.Fit.{Apart}
 use Rattle.laws.specs.Rules.Uses.{apart-unwritten}
-use Rattle.theory.specs.Control.Ways.{Way, atEnd, Comes, comes-end, comes-at, by-way, comes-steady}
+use Rattle.theory.specs.Control.Ways.{Way, atEnd, Comes, comes-end, by-way, comes-steady}
 use Rattle.theory.specs.Control.Signal.{Quiet, glue}
 use Rattle.theory.specs.Control.Pulses.{Pulse, pulse-less, shows-from, shows-is}
 use Rattle.theory.specs.Control.Wiring.{_≈_, either, Gives, Joined}
@@ -21,11 +21,6 @@ use Rattle.theory.specs.Control.Bodies.{Owned, BodySofar, Owns, reaches,
 use Rattle.theory.specs.Control.Runs.{Words, Silent, Free, Done, Going, going-at, Does, RunOf, Launched, launch, words-stay, words-last}
 
 -- A branch -----------------------------------------------------------------------------------------------------------------------------
-
--- what an if comes to where its branch R is taken at a + d: K and L are of both branches' cells
-pub record Branch (W : World) (R : Stmt) (U : Owned) (σ : Store) (K L : ℕ → Type 0) (f : Sig) (g : Gives) (a c e u d : ℕ) : Type 0 where
-  pub goes-on : goes W (u - d) R σ ≡ still → Going W U K L f g a c
-  pub ends : (way : Way) (t₁ : ℕ) (σ′ : Store) → d + t₁ ≡ u → Comes (goes W (u - d) R σ) way t₁ σ′ → Done way W U σ′ K L f g a c e
 
 -- R gets its pulse at a + d, and O gets none
 module _ (W : World) (R O : Stmt) (timedR : Paced W R) (timedO : Paced W O) (doesR : RunOf W R) (U : Owned) (σ : Store) (f : Sig) (g : Gives)
@@ -61,7 +56,9 @@ module _ (W : World) (R O : Stmt) (timedR : Paced W R) (timedO : Paced W O) (doe
   out-is : (t : ℕ) → a ≤ t → t < e → g .out t ≡ gR .out t
   out-is t l k = out-left gR gO g joined t (other .out t l k)
 
-  pub branch : Branch W R U σ (λ t. Calm W R sR fR gR nR t × Calm W O sO fO gO nO t) (λ t. Sofar W R sR fR gR nR t × Sofar W O sO fO gO nO t) f g a c e u d
+  -- so an if does what its branch does, a delay later: of both branches' cells
+  pub branch : Does W U (goes W (u - d) R σ) (λ t. Calm W R sR fR gR nR t × Calm W O sO fO gO nO t) (λ t. Sofar W R sR fR gR nR t × Sofar W O sO fO gO nO t)
+      f g a c e (u - d)
   branch =
       record {
         goes-on = λ p.
@@ -73,9 +70,8 @@ module _ (W : World) (R O : Stmt) (timedR : Paced W R) (timedO : Paced W O) (doe
               alive = λ k. G .alive (k .0);
               bodies = G .bodies;
             };
-        ends = λ way t₁ σ′ y p.
-            let q : t₁ ≡ u - d = omega arith in
-            let E = taken .ends way σ′ (comes-at (goes W (u - d) R σ) q p) in
+        ends = λ way σ′ p.
+            let E = taken .ends way σ′ p in
             record {
               fin = shows-is (omega arith) (omega arith) fin-is (shows-from (waits .fin) (E .fin));
               out = shows-is (omega arith) (omega arith) out-is (shows-from (waits .out) (E .out));

@@ -1,13 +1,12 @@
 //! A program as text with the fewest brackets: on a line where it fits, else
 //! broken over lines, each part indented below what it belongs to.
 
+use crate::layout::TEXT;
 use crate::origin::children;
 use crate::types::Node;
 
 /// How wide a line may be before a statement is broken over several.
 const WIDTH: usize = 80;
-/// The most bytes that a text may have.
-const MOST_BYTES: usize = 4_096;
 
 /// A node with its children, by the program's order.
 #[derive(Clone, Debug)]
@@ -37,7 +36,7 @@ fn tree_from(nodes: &[Node], next: &mut usize) -> Option<Tree> {
 /// be, it stands on one line.
 pub fn format(tree: &Tree) -> String {
     let broken = lines(tree, 0, Binds::Parallel) + "\n";
-    if broken.len() <= MOST_BYTES {
+    if broken.len() <= TEXT {
         return broken;
     }
     on_a_line(tree, Binds::Parallel) + "\n"

@@ -12,6 +12,7 @@ pub mod input;
 pub mod json;
 pub mod kinds;
 pub mod labels;
+pub mod layout;
 pub mod lines;
 pub mod listing;
 pub mod origin;

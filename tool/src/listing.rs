@@ -2,13 +2,13 @@
 //! write may name its cells; a number that is left out is an idle memory.
 
 use crate::kinds::{CELLS, IDLE};
+use crate::layout;
 use crate::lines::{self, Wrong};
 use crate::template::{byte, word};
 use crate::types::{Cell, Netlist};
 use std::collections::{HashMap, HashSet};
 
 const MEMORIES: usize = 16;
-const MOST_CELLS: usize = 1_024;
 
 /// A netlist from a list, with the line of each cell.
 #[derive(Debug)]
@@ -125,7 +125,7 @@ fn header<'t>(entries: &[Entry<'t>]) -> Result<Header<'t>, Wrong> {
         [count, "cells,", ..] => Some(count.parse().unwrap_or(usize::MAX)),
         _ => None,
     };
-    if count.is_some_and(|count| count > MOST_CELLS) {
+    if count.is_some_and(|count| count > layout::CELLS) {
         return Err(Wrong::new(header.line, "a netlist has at most 1024 cells"));
     }
     Ok(Header {
@@ -148,7 +148,7 @@ fn placed<'e, 't>(
     let mut cells = Vec::new();
     for entry in entries.iter().filter(|entry| !is_header(entry)) {
         let number = entry.number.unwrap_or(cells.len());
-        if number < cells.len() || number >= MOST_CELLS {
+        if number < cells.len() || number >= layout::CELLS {
             let why = format!("cell {number} stands after cell {}", cells.len() as i64 - 1);
             return Err(Wrong::new(entry.line, why));
         }

@@ -1,12 +1,8 @@
 //! The product's calls, with buffers of the size that each result needs.
 
+use crate::layout::{file_length, state_length, CELLS, FILE, PROGRAM};
 use crate::types::{Answer, Cell, End, Netlist, Node, Refusal, Table, Words};
 use bindings::{calls, cell_calls};
-
-/// The most bytes that a program, a netlist file and a netlist's cells have.
-const PROGRAM: usize = 800;
-const FILE: usize = 6_656;
-const CELLS: usize = 1_024;
 
 /// Checks a program.
 pub fn check(table: Table, program: &[u8]) -> Result<(), Refusal> {
@@ -110,14 +106,4 @@ pub fn program_bytes(nodes: &[Node]) -> Vec<u8> {
 
 fn word_bytes(words: &Words) -> Vec<u8> {
     words.iter().flat_map(|word| word.to_le_bytes()).collect()
-}
-
-/// The bytes of a netlist file with so many cells.
-fn file_length(cells: u16) -> usize {
-    512 * usize::from(cells).div_ceil(84)
-}
-
-/// The bytes of a state of so many cells.
-fn state_length(cells: usize) -> usize {
-    8 + 40 * cells
 }

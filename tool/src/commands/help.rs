@@ -27,11 +27,15 @@ fn run(args: &Args) -> Result<Done, Stop> {
         }));
     }
     let [name] = args.exactly(["COMMAND"])?;
-    let command = named(name)?;
-    Ok(Done::printing(match json {
+    Ok(page(named(name)?, json))
+}
+
+/// The page of a command, for a reader or for scripts.
+pub fn page(command: &Command, json: bool) -> Done {
+    Done::printing(match json {
         true => fields(command).line(),
         false => of(command).into_bytes(),
-    }))
+    })
 }
 
 fn fields(command: &Command) -> Json {
@@ -54,8 +58,7 @@ pub fn overview() -> String {
         Exit status: 0 ended or done, 1 refused, 2 open, 64 wrong usage."
 }
 
-/// The page of a command.
-pub fn of(command: &Command) -> String {
+fn of(command: &Command) -> String {
     let Command {
         about,
         more,

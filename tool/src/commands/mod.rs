@@ -42,15 +42,15 @@ pub struct Command {
 pub const COMMANDS: &[&Command] = &[
     &run::COMMAND,
     &check::COMMAND,
+    &cells::COMMAND,
+    &wire::COMMAND,
+    &draw::COMMAND,
+    &wave::COMMAND,
     &compile::COMMAND,
     &read::COMMAND,
     &begin::COMMAND,
     &go::COMMAND,
     &start::COMMAND,
-    &cells::COMMAND,
-    &wire::COMMAND,
-    &draw::COMMAND,
-    &wave::COMMAND,
     &outline::COMMAND,
     &assemble::COMMAND,
     &format::COMMAND,
@@ -119,9 +119,9 @@ fn chosen(words: &[String]) -> Result<Done, Stop> {
         return Err(Fault::usage(help::overview()).into());
     };
     let command = named(name)?;
-    let asks = |word: &String| word == "--help" || word == "-h";
-    if words.iter().any(asks) {
-        return Ok(Done::printing(help::of(command)));
+    let has = |option: &str| words.iter().any(|word| word == option);
+    if has("--help") || has("-h") {
+        return Ok(help::page(command, has("--json")));
     }
     let args = Args::parse(command.options, usage(command), words)?;
     (command.run)(&args)

@@ -1,6 +1,7 @@
 //! Refusals 9 to 12, of netlists.
 
 use super::{asking, plain, Report};
+use crate::layout::netlist_in;
 use crate::types::{Cell, Netlist, Refusal};
 
 /// The report of a refusal that cells met which were wired by hand.
@@ -20,17 +21,6 @@ pub fn of_file(mut report: Report, file: &[u8]) -> Report {
         _ => report.found = Some(format!("block {place}")),
     }
     report
-}
-
-/// The netlist in a file whose blocks the product has accepted.
-fn netlist_in(file: &[u8]) -> Netlist {
-    let header = |at: usize| u16::from_le_bytes([file[at], file[at + 1]]);
-    let blocks = file.chunks(512).flat_map(|block| &block[8..]);
-    let bytes: Vec<u8> = blocks.copied().collect();
-    let mut cells = Cell::all_of(&bytes);
-    cells.truncate(usize::from(header(2)));
-    let finish = header(4);
-    Netlist { cells, finish }
 }
 
 /// Refusal 12: a cell, the number of memories, or the finish.

@@ -2,6 +2,7 @@
 
 use super::{asking, Mark, Report};
 use crate::input::Given;
+use crate::layout::TEXT;
 use crate::source;
 use crate::types::Span;
 
@@ -9,7 +10,7 @@ use crate::types::Span;
 pub fn of_word(mut report: Report, text: &[u8]) -> Report {
     let place = report.refusal.place;
     // The place of a text that is too long is the most that one may have.
-    let long = text.len() > place && place == 4_096;
+    let long = text.len() > place && place == TEXT;
     let (rule, remedy) = match text.get(place).copied() {
         _ if long => ("a text has at most 4,096 bytes", "make it shorter"),
         Some(b'x') => ("this is no variable", "use x0 to x15"),

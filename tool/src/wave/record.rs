@@ -1,12 +1,9 @@
 //! A run, one instant at a time, and what wires show in it.
 
 use super::{Waveforms, Wire};
+use crate::layout::value_in;
 use crate::product;
 use crate::types::{Refusal, Words};
-
-/// Bytes of a state before its cells, and of each cell in it.
-const HEADER: usize = 8;
-const CELL: usize = 40;
 
 /// The values of these wires from one instant up to another.
 pub fn record(
@@ -21,7 +18,7 @@ pub fn record(
     let mut values = vec![Vec::new(); wires.len()];
     for instant in from..=to {
         for (wire, values) in wires.iter().zip(&mut values) {
-            values.push(value(&state, wire.cell));
+            values.push(value_in(&state, wire.cell));
         }
         if instant < to {
             product::go(file, &mut state, 1)?;
@@ -42,10 +39,4 @@ fn reach(file: &[u8], state: &mut [u8], instant: u32) -> Result<(), Refusal> {
         at = product::go(file, state, instant - at)?.instant;
     }
     Ok(())
-}
-
-/// What a cell shows in a state.
-fn value(state: &[u8], cell: u16) -> u16 {
-    let at = HEADER + CELL * usize::from(cell);
-    u16::from_le_bytes([state[at], state[at + 1]])
 }

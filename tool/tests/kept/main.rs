@@ -159,3 +159,16 @@ fn every_refusal_is_kept() {
         );
     }
 }
+
+/// The help of every command is kept, with an example of that command.
+#[test]
+fn every_command_has_an_example() {
+    let lines = kept_lines();
+    for command in hub::commands::COMMANDS {
+        let name = command.name;
+        let words = format!("hub {name} ");
+        assert!(command.example.contains(&words), "{}", command.example);
+        let page = format!("{PROMPT}help {name}");
+        assert!(lines.contains(&page), "no kept help of {name}");
+    }
+}

@@ -25,8 +25,7 @@ use Rattle.model.specs.State.{stateSize}
 use Rattle.model.specs.Calls.{writtenVerdict, checkCall, writing, compiledFile, compileChecks, compileCall, runProgramCall, referenceCall, runProgramChecks}
 use Rattle.model.specs.Hubrun.{textOf, hubrunText}
 use Rattle.model.specs.Promises.{Bytes, Seen}
-use Rattle.model.specs.Cases.{Case, ends, refuses, compiles, prints, passes, cases, start, hubrunInput, endAnswer, Result, ran, numbered, printed, checked, computed, wanted, OnCircuit, Hold, cases-by-rules}
-use Rattle.model.specs.ProgramRows.{repeated}
+use Rattle.model.specs.Cases.{repeated, Case, ends, refuses, compiles, prints, passes, cases, start, hubrunInput, endAnswer, Result, ran, numbered, printed, checked, computed, wanted, OnCircuit, Hold, cases-by-rules}
 use Rattle.laws.specs.Refusals.Laws.{and-true, or-false, first-take, first-drop}
 use Rattle.laws.specs.NetlistFile.Passed.{file-passed, count-range, count-cells}
 use Rattle.laws.specs.NetlistFile.Files.{file-length}

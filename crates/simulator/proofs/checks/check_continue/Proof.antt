@@ -1,12 +1,13 @@
 -- `check_continue` meets its contract. Assumes nothing.
 use mathlib.Core.Path.{sym, _∙_}
 use native.Mathlib.Omega.{arith}
-use lib.ListN.{length}
+use lib.ListN.{length, drop}
 use borrow.Author.Needs.{needs}
 use borrow.Author.Tests.{not-false, not-true}
 use Rattle.model.specs.NetlistFile.{cellsOf}
 use Rattle.model.specs.State.{stateSize}
-use Rattle.simulator.proofs.Refusing.{continue-file, continue-room, continue-unsound, continue-late, continue-right, long-enough}
+use Rattle.model.specs.Calls.{continueChecks}
+use Rattle.simulator.proofs.Refusing.{refuses, continue-room, continue-unsound, continue-late, continue-right, long-enough}
 use Rattle.simulator.proofs.checks.check_continue.Statement.{statement}
 use Rattle.simulator.proofs.checks.check_continue.Tie as tie
 
@@ -14,7 +15,7 @@ returns : tie.Need-returns
 returns c =
     let args = c .before .before .before .before .before .before .args in
     let check-file = c .before .before .before .check-file in
-    continue-file (args .file .now) (args .n) (args .state .now) _ (sym (check-file .ensures) ∙ c .before .checked .given .1)
+    refuses (drop 1 (continueChecks (args .file .now) (args .n) (args .state .now))) (sym (check-file .ensures) ∙ c .before .checked .given .1)
 
 enum-told : tie.Need-enum-told
 enum-told c = search needs

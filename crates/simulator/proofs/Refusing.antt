@@ -4,7 +4,7 @@ use mathlib.Core.List.{List, [], _∷_}
 use mathlib.Core.Path.{_≡_, refl}
 use Prim.Native.Nat.{ℕ, _+_, _<_, _≤_}
 use lib.Dec.{ltb}
-use lib.ListN.{length}
+use lib.ListN.{length, drop}
 use borrow.Author.Tests.{lt-ltb, le-ltb, ltb-false}
 use Rattle.model.specs.declared.Refusal.{Refusal}
 use Rattle.model.specs.declared.Answer.{Answer}
@@ -14,18 +14,10 @@ use Rattle.model.specs.Refusals.{refuse, first}
 use Rattle.model.specs.NetlistFile.{fileCheck, cellsOf}
 use Rattle.model.specs.State.{stateSize, instantOf, sound}
 use Rattle.model.specs.Calls.{Returned, short, refusedAnswer, shows, running, beginChecks, continueChecks, runNetlistChecks}
-use Rattle.laws.specs.Refusals.Laws.{all-accept, refuse-unless}
+use Rattle.laws.specs.Refusals.Laws.{first-one, all-accept, refuse-unless}
 use Rattle.simulator.specs.Fits.{Runs}
 
 -- Which is found first -----------------------------------------------------------------------------------------------------------------
-
--- the file's own refusal, whatever the call asks then
-pub first-refuses : (c : Checked) (rest : List Checked) (r : Refusal) → c ≡ Refused r → Refused r ≡ first (c ∷ rest)
-first-refuses c rest r e = rw e refl
-
-last-check : (c : Checked) → c ≡ first (c ∷ [])
-last-check Accepted = refl
-last-check (Refused r) = refl
 
 pub is-short : (has needs : ℕ) → has < needs → refuse 14 0 ≡ short has needs
 is-short has needs l = rw (lt-ltb has needs l) refl
@@ -33,38 +25,41 @@ is-short has needs l = rw (lt-ltb has needs l) refl
 pub is-long : (has needs : ℕ) → needs ≤ has → Accepted ≡ short has needs
 is-long has needs l = rw (le-ltb has needs l) refl
 
-module _ (file words lent : List ℕ) where
-  pub begin-words : fileCheck file ≡ Accepted → length words < 32 → refuse 14 0 ≡ first (beginChecks file words lent)
-  begin-words e l = rw (e, lt-ltb (length words) 32 l) refl
+-- a check that refuses, in front of others, and one that accepts
+module _ (rest : List Checked) {c : Checked} where
+  pub refuses : {r : Refusal} → c ≡ Refused r → Refused r ≡ first (c ∷ rest)
+  refuses e = rw e refl
 
-  pub begin-room : fileCheck file ≡ Accepted → 32 ≤ length words → short (length lent) (stateSize (cellsOf file)) ≡ first (beginChecks file words lent)
-  begin-room e l = rw (e, le-ltb (length words) 32 l) (last-check _)
+  pub accepts : {d : Checked} → c ≡ Accepted → d ≡ first rest → d ≡ first (c ∷ rest)
+  accepts e f = rw e f
 
-module _ (file : List ℕ) (n : ℕ) (lent : List ℕ) where
-  module _ (e : fileCheck file ≡ Accepted) where
-    pub continue-room : (r : Refusal) → short (length lent) (stateSize (cellsOf file)) ≡ Refused r → Refused r ≡ first (continueChecks file n lent)
-    continue-room r l = rw (e, l) refl
+module _ (words : List ℕ) (room : Checked) where
+  pub short-words : length words < 32 → refuse 14 0 ≡ first (short (length words) 32 ∷ room ∷ [])
+  short-words l = rw (lt-ltb (length words) 32 l) refl
 
-    module _ (l : short (length lent) (stateSize (cellsOf file)) ≡ Accepted) where
-      pub continue-unsound : sound (cellsOf file) lent ≡ false → refuse 15 0 ≡ first (continueChecks file n lent)
-      continue-unsound s = rw (e, l, s) refl
+  pub long-words : 32 ≤ length words → room ≡ first (short (length words) 32 ∷ room ∷ [])
+  long-words l = rw (le-ltb (length words) 32 l) (first-one room)
 
-      pub continue-late : sound (cellsOf file) lent ≡ true → 1000000 < instantOf lent + n → refuse 16 0 ≡ first (continueChecks file n lent)
-      continue-late s t = rw (e, l, s, lt-ltb 1000000 (instantOf lent + n) t) refl
+module _ (file : List ℕ) (n : ℕ) (lent : List ℕ) (e : fileCheck file ≡ Accepted) where
+  pub continue-room : (r : Refusal) → short (length lent) (stateSize (cellsOf file)) ≡ Refused r → Refused r ≡ first (continueChecks file n lent)
+  continue-room r l = rw (e, l) refl
 
-      pub continue-right : sound (cellsOf file) lent ≡ true → instantOf lent + n ≤ 1000000 → Accepted ≡ first (continueChecks file n lent)
-      continue-right s t = rw (e, l, s, le-ltb 1000000 (instantOf lent + n) t) refl
+  module _ (l : short (length lent) (stateSize (cellsOf file)) ≡ Accepted) where
+    pub continue-unsound : sound (cellsOf file) lent ≡ false → refuse 15 0 ≡ first (continueChecks file n lent)
+    continue-unsound s = rw (e, l, s) refl
 
-module _ (file words : List ℕ) (n : ℕ) (lent : List ℕ) where
-  module _ (e : fileCheck file ≡ Accepted) where
-    pub run-budget : 1000000 < n → refuse 13 0 ≡ first (runNetlistChecks file words n lent)
-    run-budget b = rw (e, lt-ltb 1000000 n b) refl
+    pub continue-late : sound (cellsOf file) lent ≡ true → 1000000 < instantOf lent + n → refuse 16 0 ≡ first (continueChecks file n lent)
+    continue-late s t = rw (e, l, s, lt-ltb 1000000 (instantOf lent + n) t) refl
 
-    pub run-words : n ≤ 1000000 → length words < 32 → refuse 14 0 ≡ first (runNetlistChecks file words n lent)
-    run-words b l = rw (e, le-ltb 1000000 n b, lt-ltb (length words) 32 l) refl
+    pub continue-right : sound (cellsOf file) lent ≡ true → instantOf lent + n ≤ 1000000 → Accepted ≡ first (continueChecks file n lent)
+    continue-right s t = rw (e, l, s, le-ltb 1000000 (instantOf lent + n) t) refl
 
-    pub run-room : n ≤ 1000000 → 32 ≤ length words → short (length lent) (stateSize (cellsOf file)) ≡ first (runNetlistChecks file words n lent)
-    run-room b l = rw (e, le-ltb 1000000 n b, le-ltb (length words) 32 l) (last-check _)
+module _ (file words : List ℕ) (n : ℕ) (lent : List ℕ) (e : fileCheck file ≡ Accepted) where
+  pub run-budget : 1000000 < n → refuse 13 0 ≡ first (runNetlistChecks file words n lent)
+  run-budget b = rw (e, lt-ltb 1000000 n b) refl
+
+  pub run-lent : n ≤ 1000000 → first (drop 2 (runNetlistChecks file words n lent)) ≡ first (runNetlistChecks file words n lent)
+  run-lent b = rw (e, le-ltb 1000000 n b) refl
 
 -- What is known when none is -----------------------------------------------------------------------------------------------------------
 

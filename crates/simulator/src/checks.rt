@@ -1,6 +1,7 @@
 // The checks of the three calls: refusals 9 to 16 in their order, with nothing written.
 // Each contract is `first` of the list of checks in model/Calls.
 ghost use mathlib.Core.Path.{_≡_};
+ghost use mathlib.Core.List.{[], _∷_};
 ghost use lib.ListN.{length};
 ghost use Rattle.model.specs.declared.Checked.the-variants.{Accepted};
 ghost use Rattle.model.specs.Refusals.{refuse, first};
@@ -33,6 +34,17 @@ fn check_room(file: &[u8], state: &[u8]) -> Checked
     Checked::Accepted
 }
 
+// Refusal 14 of start words and of a state.
+fn check_lent(file: &[u8], words: &[u8], state: &[u8]) -> Checked
+    requires { ⌜ fileCheck (now file) ≡ Accepted ⌝ }
+    ensures { λ r. ⌜ r ≡ first (short (length (now (words .entry))) 32 ∷ short (length (now (state .entry))) (stateSize (cellsOf (now (file .entry)))) ∷ []) ⌝ }
+{
+    if words.len() < START_WORDS {
+        return refuse(14);
+    }
+    check_room(file, state)
+}
+
 pub fn check_begin(file: &[u8], words: &[u8], state: &[u8]) -> Checked
     ensures { λ r. ⌜ r ≡ first (beginChecks (now (file .entry)) (now (words .entry)) (now (state .entry))) ⌝ }
 {
@@ -40,10 +52,7 @@ pub fn check_begin(file: &[u8], words: &[u8], state: &[u8]) -> Checked
     if let Checked::Refused(r) = checked {
         return Checked::Refused(r);
     }
-    if words.len() < START_WORDS {
-        return refuse(14);
-    }
-    check_room(file, state)
+    check_lent(file, words, state)
 }
 
 // Refusal 16 takes the sum without wrapping.
@@ -78,8 +87,5 @@ pub fn check_run(file: &[u8], words: &[u8], budget: u32, state: &[u8]) -> Checke
     if LAST_INSTANT < budget {
         return refuse(13);
     }
-    if words.len() < START_WORDS {
-        return refuse(14);
-    }
-    check_room(file, state)
+    check_lent(file, words, state)
 }

@@ -7,7 +7,7 @@ use borrow.Author.Tests.{not-false, not-true}
 use Rattle.model.specs.NetlistFile.{cellsOf}
 use Rattle.model.specs.State.{stateSize}
 use Rattle.model.specs.Calls.{continueChecks}
-use Rattle.simulator.proofs.Refusing.{first-refuses, continue-room, continue-unsound, continue-late, continue-right, long-enough}
+use Rattle.simulator.proofs.Refusing.{refuses, continue-room, continue-unsound, continue-late, continue-right, long-enough}
 use Rattle.simulator.proofs.checks.check_continue.Statement.{statement}
 use Rattle.simulator.proofs.checks.check_continue.Tie as tie
 
@@ -15,7 +15,10 @@ returns : tie.Need-returns
 returns c =
     let args = c .before .before .before .before .before .before .args in
     let check-file = c .before .before .before .check-file in
-    first-refuses _ (drop 1 (continueChecks (args .file .now) (args .n) (args .state .now))) _ (sym (check-file .ensures) ∙ c .before .checked .given .1)
+    refuses (drop 1 (continueChecks (args .file .now) (args .n) (args .state .now))) (sym (check-file .ensures) ∙ c .before .checked .given .1)
+
+enum-told : tie.Need-enum-told
+enum-told c = search needs
 
 check-room-requires : tie.Need-check-room-requires
 check-room-requires c κs = sym (c .before .before .check-file .ensures) ∙ c .enum-told .given .1
@@ -86,7 +89,7 @@ check-continue-spec =
     (λ c κs. search needs)
     (λ c. search needs)
     returns
-    (λ c. search needs)
+    enum-told
     check-room-requires
     (λ c. search needs)
     returns-2

@@ -8,16 +8,18 @@ use Rattle.compiler.proofs.compile_accepted.Tie as tie
 
 put-netlist-requires : tie.Need-put-netlist-requires
 put-netlist-requires c κs =
+    let start = c .before .before .before .before .before .before in
     let scan = c .before .before .before .scan in
-    let pre = c .before .before .before .before .before .before .pre in
-    scanned (c .before .before .before .before .before .before .args .options) (scan .ensures) (pre .0)
+    let pre = start .pre in
+    scanned (start .args .options) (scan .ensures) (pre .0)
 
 put-file-requires : tie.Need-put-file-requires
 put-file-requires c κs =
+    let start = c .before .before .before .before .before .before .before .before .before .before .before in
     let put-netlist = c .before .before .before .before .put-netlist in
-    let pre = c .before .before .before .before .before .before .before .before .before .before .before .pre in
+    let pre = start .pre in
     let made = put-netlist .ensures in
-    (omega (arith, file-size _ made, pre .1), list-room _ made (c .before .before .before .before .before .before .before .before .before .before .before .args .options) (pre .0) (put-netlist .kept .0))
+    (omega (arith, file-size _ made, pre .1), list-room _ made (start .args .options) (pre .0) (put-netlist .kept .0))
 
 returns : tie.Need-returns
 returns c =

@@ -6,9 +6,10 @@ use Rattle.compiler.proofs.count_cells.Tie as tie
 
 put-netlist-requires : tie.Need-put-netlist-requires
 put-netlist-requires c κs =
+    let start = c .before .before .before .before .before in
     let scan = c .before .before .before .scan in
-    let pre = c .before .before .before .before .before .pre in
-    scanned (c .before .before .before .before .before .args .options) (scan .ensures) pre
+    let pre = start .pre in
+    scanned (start .args .options) (scan .ensures) pre
 
 pub count-cells-spec : {M : Type 1} → statement M
 count-cells-spec =

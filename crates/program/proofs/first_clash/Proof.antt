@@ -60,14 +60,15 @@ loop-again c =
 
 nodes-again : tie.Need-nodes-again Inv-loop μ-loop Inv-nodes μ-nodes
 nodes-again c =
+    let start = c .before .before .before .before .before .before .before .before .before in
     let loop = c .before .loop in
-    let args = c .before .before .before .before .before .before .before .before .before .args in
+    let args = start .args in
     let nodes = c .before .before .before .before .before .before .before .nodes in
     let nodes-test = c .before .before .before .before .before .before .nodes-test in
     let read-node = c .before .before .before .before .before .read-node in
     let if1 = c .before .before .before .if1 in
     let next = c .before .before .next in
-    let pre = c .before .before .before .before .before .before .before .before .before .pre in
+    let pre = start .pre in
     let e : loop .x ≡ 16 = omega (arith, loop .inv .0, c .loop-test .left) in
     let s = now (args .program) in
     fault-next (nodes .inv) (nodes-test .taken)

@@ -15,35 +15,40 @@ returns c =
 
 returns-2 : tie.Need-returns-2
 returns-2 c =
-    let pre = c .before .before .before .before .before .pre in
-    let τ = timeIn (now (c .before .before .before .before .before .args .operators)) in
+    let start = c .before .before .before .before .before in
+    let pre = start .pre in
+    let τ = timeIn (now (start .args .operators)) in
     least-tick τ _ _ (pre .1) _ (c .before .before .read-node .ensures) (c .if2 .taken)
 
 returns-3 : tie.Need-returns-3
 returns-3 c =
-    let pre = c .before .before .before .before .before .before .pre in
-    let τ = timeIn (now (c .before .before .before .before .before .before .args .operators)) in
+    let start = c .before .before .before .before .before .before in
+    let pre = start .pre in
+    let τ = timeIn (now (start .args .operators)) in
     let read-node = c .before .before .before .read-node in
     least-seq τ _ _ (pre .1) _ (read-node .ensures) (c .if3 .taken)
 
 returns-4 : tie.Need-returns-4
 returns-4 c =
-    let pre = c .before .before .before .before .before .before .before .pre in
-    let τ = timeIn (now (c .before .before .before .before .before .before .before .args .operators)) in
+    let start = c .before .before .before .before .before .before .before in
+    let pre = start .pre in
+    let τ = timeIn (now (start .args .operators)) in
     let read-node = c .before .before .before .before .read-node in
     least-par τ _ _ (pre .1) _ (read-node .ensures) (c .if4 .taken)
 
 returns-5 : tie.Need-returns-5
 returns-5 c =
-    let pre = c .before .before .before .before .before .before .before .before .before .pre in
-    let τ = timeIn (now (c .before .before .before .before .before .before .before .before .before .args .operators)) in
+    let start = c .before .before .before .before .before .before .before .before .before in
+    let pre = start .pre in
+    let τ = timeIn (now (start .args .operators)) in
     let read-node = c .before .before .before .before .before .before .read-node in
     least-if τ _ _ (pre .1) _ (read-node .ensures) _ (c .before .known-time .ensures) (c .if5 .taken)
 
 returns-6 : tie.Need-returns-6
 returns-6 c =
-    let pre = c .before .before .before .before .before .before .before .before .before .before .pre in
-    let τ = timeIn (now (c .before .before .before .before .before .before .before .before .before .before .args .operators)) in
+    let start = c .before .before .before .before .before .before .before .before .before .before in
+    let pre = start .pre in
+    let τ = timeIn (now (start .args .operators)) in
     let read-node = c .before .before .before .before .before .before .before .read-node in
     let if1 = c .before .before .before .before .before .before .if1 in
     let if2 = c .before .before .before .before .before .if2 in

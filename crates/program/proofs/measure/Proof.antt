@@ -47,11 +47,12 @@ array-write-ends c =
 
 loop-again : tie.Need-loop-again Inv-loop μ-loop
 loop-again c =
-    let args = c .before .before .before .before .before .before .before .before .before .before .before .before .before .args in
+    let start = c .before .before .before .before .before .before .before .before .before .before .before .before .before in
+    let args = start .args in
     let loop = c .before .before .before .before .before .before .before .before .before .before .loop in
     let loop-test = c .before .before .before .before .before .before .before .before .before .loop-test in
-    let pre = c .before .before .before .before .before .before .before .before .before .before .before .before .before .pre in
-    let τ = timeIn (now (c .before .before .before .before .before .before .before .before .before .before .before .before .before .args .operators)) in
+    let pre = start .pre in
+    let τ = timeIn (now (start .args .operators)) in
     let kind-row = c .before .before .before .before .before .before .before .kind-row in
     let read-node = c .before .before .before .before .before .before .before .before .read-node in
     let time-at = c .before .before .before .before .time-at in

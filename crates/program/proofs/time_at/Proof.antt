@@ -62,9 +62,10 @@ add-result-2 c =
 
 returns-5 : tie.Need-returns-5
 returns-5 c =
+    let at-operator = c .before .before .before .before .before .before .before in
     let start = c .before .before .before .before .before .before .before .before .before .before .before .before in
-    ap (λ (m : ℕ). c .before .before .before .before .before .before .before .operator-time2 .result + m) (c .larger .ensures)
-    ∙ time-op (timeIn (now (start .args .operators))) _ _ (start .pre .1) _ (c .before .before .before .before .before .before .before .before .before .read-node .ensures) _ (c .before .before .before .before .before .before .before .operator-time2 .ensures) _ (c .before .before .before .before .known-time .ensures)
+    ap (λ (m : ℕ). at-operator .operator-time2 .result + m) (c .larger .ensures)
+    ∙ time-op (timeIn (now (start .args .operators))) _ _ (start .pre .1) _ (c .before .before .before .before .before .before .before .before .before .read-node .ensures) _ (at-operator .operator-time2 .ensures) _ (c .before .before .before .before .known-time .ensures)
     (c .before .before .before .before .before .before .before .before .if1 .left) (c .before .before .before .before .before .before .if2 .left) (c .before .before .before .before .before .if3 .left) (c .before .before .before .if4 .left) _
     (past-trees _ _ _ (λ l. start .pre .2 _ (omega arith) l .end) _ (c .before .before .next .ensures)) _ (c .before .known-time2 .ensures)
 

@@ -24,10 +24,11 @@ returns-2 c =
 
 run-at-requires : tie.Need-run-at-requires
 run-at-requires c κs =
+    let start = c .before .before .before .before .before .before .before .before .before .before in
     let enum-told = c .before .before .before .before .before .enum-told in
     let scan = c .before .before .before .before .before .before .before .scan in
     let told = enum-told .given .1 in
-    record { laid = scanned-laid (c .before .before .before .before .before .before .before .before .before .before .args .options) _ _ (scan .ensures) told; fit = program-fit (c .before .before .before .before .before .before .before .before .before .before .args .options) _ (sym (scan .ensures .checked) ∙ told) }
+    record { laid = scanned-laid (start .args .options) _ _ (scan .ensures) told; fit = program-fit (start .args .options) _ (sym (scan .ensures .checked) ∙ told) }
 
 returns-3 : tie.Need-returns-3
 returns-3 c =

@@ -23,19 +23,21 @@ slice-aggregate-give c =
 returns : tie.Need-returns
 unfolding writing
 returns c =
-    let args = c .before .before .before .before .before .before .before .before .args in
+    let start = c .before .before .before .before .before .before .before .before in
+    let args = start .args in
     let e = sym (c .before .before .before .before .program-of .ensures .0) ∙ c .before .told .given .1 in
-    let r = read-refused (args .options) (args .text .now) (args .lent .now) (c .before .before .before .before .before .before .before .before .pre) _ (told-refused (args .text .now) _ e) in
+    let r = read-refused (args .options) (args .text .now) (args .lent .now) (start .pre) _ (told-refused (args .text .now) _ e) in
     (sym (ap (λ (t : Returned Written). t .answer) r), sym (ap (λ (t : Returned Written). t .lent) r))
 
 returns-2 : tie.Need-returns-2
 returns-2 c =
-    let args = c .before .before .before .before .before .before .before .before .before .before .before .before .before .args in
+    let start = c .before .before .before .before .before .before .before .before .before .before .before .before .before in
+    let args = start .args in
     let text = args .text .now in
     let of = c .before .before .before .before .before .before .before .before .before .program-of in
     let e = sym (of .ensures .0) ∙ c .before .before .before .before .before .before .told2 .given .1 in
     let give = c .before .before .give .ensures in
-    let r = read-given (args .options) text (args .lent .now) (c .before .before .before .before .before .before .before .before .before .before .before .before .before .pre) (told-accepted text _ _ e) in
+    let r = read-given (args .options) text (args .lent .now) (start .pre) (told-accepted text _ _ e) in
     let p = told-program text _ _ e _ (of .ensures .1) in
     let g = ap (λ l. giveCall (args .options) l (args .lent .now)) p ∙ sym r in
     (give .0 ∙ ap (λ (t : Returned Written). t .answer) g, give .1 ∙ ap (λ (t : Returned Written). t .lent) g)

@@ -20,8 +20,9 @@ loop-holds c = searched-none (headerFault (c .before .args .s .now)) (c .before 
 
 returns : tie.Need-returns Inv-loop μ-loop
 returns c =
-    let args = c .before .before .before .before .before .args in
-    let pre = c .before .before .before .before .before .pre in
+    let start = c .before .before .before .before .before in
+    let args = start .args in
+    let pre = start .pre in
     let loop = c .before .before .before .loop in
     let unheaded = sym (c .before .is-headed .ensures) ∙ not-true (c .before .is-headed .result) (c .if1 .taken) in
     fault-here (loop .inv) 11 (c .before .before .loop-test .taken) (omega arith)
@@ -29,8 +30,9 @@ returns c =
 
 loop-again : tie.Need-loop-again Inv-loop μ-loop
 loop-again c =
-    let args = c .before .before .before .before .before .args in
-    let pre = c .before .before .before .before .before .pre in
+    let start = c .before .before .before .before .before in
+    let args = start .args in
+    let pre = start .pre in
     let loop = c .before .before .before .loop in
     let headed = sym (c .before .is-headed .ensures) ∙ not-false (c .before .is-headed .result) (c .if1 .left) in
     fault-next (loop .inv) (c .before .before .loop-test .taken) (header-right (args .s .now) (loop .b) (pre .3) (pre .4) headed)

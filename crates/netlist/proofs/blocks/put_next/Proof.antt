@@ -8,8 +8,9 @@ use Rattle.netlist.proofs.blocks.put_next.Tie as tie
 
 returns : tie.Need-returns
 returns c =
-    let args = c .before .before .before .before .before .before .before .before .before .before .before .args in
-    let low = c .before .before .before .before .before .before .before .before .before .before .before .pre .0 in
+    let start = c .before .before .before .before .before .before .before .before .before .before .before in
+    let args = start .args in
+    let low = start .pre .0 in
     let put = c .before .before .before .before .before .before .before .put-cell .ensures in
     λ net was l e p.
     put-last net (args .finish) was (args .k) (omega (arith, l, low)) e (rw l refl) p
@@ -18,8 +19,9 @@ returns c =
 
 returns-2 : tie.Need-returns-2
 returns-2 c =
-    let args = c .before .before .before .before .before .before .before .args in
-    let low = c .before .before .before .before .before .before .before .pre .0 in
+    let start = c .before .before .before .before .before .before .before in
+    let args = start .args in
+    let low = start .pre .0 in
     let put = c .before .before .before .put-cell .ensures in
     λ net was l e p.
     put-inside net (args .finish) was (args .k) (omega (arith, l, low)) e (rw l refl) p

@@ -15,8 +15,9 @@ add-t13 c =
 
 returns : tie.Need-returns
 returns c =
-    let args = c .before .before .before .before .before .before .before .before .before .before .before .before .before .args in
-    let pre = c .before .before .before .before .before .before .before .before .before .before .before .before .before .pre in
+    let start = c .before .before .before .before .before .before .before .before .before .before .before .before .before in
+    let args = start .args in
+    let pre = start .pre in
     let control-a = c .before .before .before .before .before .before .before .before .before .before .before .is-control .ensures in
     let control-b = c .before .before .before .before .before .before .before .before .before .is-control2 .ensures in
     let keeps = c .before .before .before .before .before .before .before .before .keeps-rule .ensures in

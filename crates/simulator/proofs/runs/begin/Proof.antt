@@ -14,8 +14,9 @@ use Rattle.simulator.proofs.runs.begin.Tie as tie
 
 begin-state-requires : tie.Need-begin-state-requires
 begin-state-requires c κs =
-    let args = c .before .before .before .before .before .before .before .before .args in
-    let pre = c .before .before .before .before .before .before .before .before .pre in
+    let start = c .before .before .before .before .before .before .before .before in
+    let args = start .args in
+    let pre = start .pre in
     let load = c .before .before .before .load in
     let file : List ℕ = args .file .now in
     let state : List ℕ = args .state .now in (

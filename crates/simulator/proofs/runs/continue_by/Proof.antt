@@ -19,8 +19,9 @@ get16-requires c κs =
 
 continue-state-requires : tie.Need-continue-state-requires
 continue-state-requires c κs =
-    let args = c .before .before .before .before .before .before .before .before .args in
-    let pre = c .before .before .before .before .before .before .before .before .pre in
+    let start = c .before .before .before .before .before .before .before .before in
+    let args = start .args in
+    let pre = start .pre in
     let load = c .before .before .before .load in
     let get16-call = c .before .before .before .before .before .get16 in
     let file : List ℕ = args .file .now in

@@ -61,11 +61,12 @@ returns c =
 
 loop-again : tie.Need-loop-again Inv-loop μ-loop
 loop-again c =
-    let args = c .before .before .before .before .before .before .before .before .before .before .before .args in
+    let start = c .before .before .before .before .before .before .before .before .before .before .before in
+    let args = start .args in
     let loop = c .before .before .before .before .before .before .before .before .loop in
     let loop-test = c .before .before .before .before .before .before .before .loop-test in
     let step = c .before .before .before .before .before .step in
-    let pre = c .before .before .before .before .before .before .before .before .before .before .before .pre in
+    let pre = start .pre in
     let net = netOf (args .cells .now) (args .n) in
     let z = goes-on net (args .finish) (args .budget) (loop .count) (loop .state) _ (omega (arith, loop-test .taken)) (step .ensures) (sym (c .before .is-high .ensures) ∙ c .if1 .left) in (
       omega arith,

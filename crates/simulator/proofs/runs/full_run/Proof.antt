@@ -23,8 +23,9 @@ get16-requires c κs =
 
 begin-state-requires : tie.Need-begin-state-requires
 begin-state-requires c κs =
-    let args = c .before .before .before .before .before .before .before .before .before .args in
-    let pre = c .before .before .before .before .before .before .before .before .before .pre in
+    let start = c .before .before .before .before .before .before .before .before .before in
+    let args = start .args in
+    let pre = start .pre in
     let load = c .before .before .before .load in
     let file : List ℕ = args .file .now in
     let state : List ℕ = args .state .now in (
@@ -35,8 +36,9 @@ begin-state-requires c κs =
 
 is-high-requires : tie.Need-is-high-requires
 is-high-requires c κs =
-    let args = c .before .before .before .before .before .before .before .before .before .before .before .before .before .args in
-    let pre = c .before .before .before .before .before .before .before .before .before .before .before .before .before .pre in
+    let start = c .before .before .before .before .before .before .before .before .before .before .before .before .before in
+    let args = start .args in
+    let pre = start .pre in
     let get16-call = c .before .before .before .before .before .before .before .before .before .get16 in
     let begin-state = c .before .before .before .begin-state in
     let file : List ℕ = args .file .now in
@@ -58,9 +60,10 @@ returns c =
 
 continue-state-requires : tie.Need-continue-state-requires
 continue-state-requires c κs =
-    let args = c .before .before .before .before .before .before .before .before .before .before .before .before .before .before .before .before .before .args in
+    let start = c .before .before .before .before .before .before .before .before .before .before .before .before .before .before .before .before .before in
+    let args = start .args in
     let load = c .before .before .before .before .before .before .before .before .before .before .before .load in
-    let pre = c .before .before .before .before .before .before .before .before .before .before .before .before .before .before .before .before .before .pre in
+    let pre = start .pre in
     let begin-state = c .before .before .before .before .before .before .before .begin-state in
     let get16-call = c .before .before .before .before .before .before .before .before .before .before .before .before .before .get16 in
     let file : List ℕ = args .file .now in
@@ -74,12 +77,13 @@ continue-state-requires c κs =
 
 add-shows : tie.Need-add-shows
 add-shows c =
+    let start = c .before .before .before .before .before .before .before .before .before .before .before .before .before .before .before .before .before .before .before .before .before in
     let continue-state = c .before .before .before .continue-state in
     let load = c .before .before .before .before .before .before .before .before .before .before .before .before .before .before .before .load in
     let get16-call = c .before .before .before .before .before .before .before .before .before .before .before .before .before .before .before .before .before .get16 in
-    let args = c .before .before .before .before .before .before .before .before .before .before .before .before .before .before .before .before .before .before .before .before .before .args in
+    let args = start .args in
     let begin-state = c .before .before .before .before .before .before .before .before .before .before .before .begin-state in
-    let pre = c .before .before .before .before .before .before .before .before .before .before .before .before .before .before .before .before .before .before .before .before .before .pre in
+    let pre = start .pre in
     omega (arith, continue-state .ensures .1, evaluated-le (netOf (load .last .0) (load .result)) (get16-call .result) (args .budget) (begin-state .last .1 .1 .1 .0), pre .2)
 
 returns-2 : tie.Need-returns-2

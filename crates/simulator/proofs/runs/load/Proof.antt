@@ -21,10 +21,11 @@ put-cells-requires c κs =
 
 returns : tie.Need-returns
 returns c =
+    let start = c .before .before .before .before .before .before .before in
     let get16-call = c .before .before .before .before .get16 in
-    let args = c .before .before .before .before .before .before .before .args in
+    let args = start .args in
     let put-cells = c .before .before .put-cells in
-    let pre = c .before .before .before .before .before .before .before .pre in (
+    let pre = start .pre in (
       get16-call .ensures,
       loaded (args .file .now) (args .cells .now) (put-cells .last .0) (get16-call .result) (pre .1) (pre .0) (get16-call .ensures) (put-cells .ensures),
     )

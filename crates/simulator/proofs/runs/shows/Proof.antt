@@ -26,8 +26,9 @@ get32-requires c κs =
 
 is-high-requires : tie.Need-is-high-requires
 is-high-requires c κs =
-    let args = c .before .before .before .before .before .args in
-    let pre = c .before .before .before .before .before .pre in
+    let start = c .before .before .before .before .before in
+    let args = start .args in
+    let pre = start .pre in
     let get16-call = c .before .get16 in
     let z = file-sized (args .file .now) (args .state .now) pre in
     let y = file-room (args .file .now) (args .state .now) pre in

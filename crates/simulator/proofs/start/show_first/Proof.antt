@@ -36,11 +36,12 @@ cell-at-requires c κs =
 
 first-value-requires : tie.Need-first-value-requires Inv-loop μ-loop
 first-value-requires c κs =
-    let pre = c .before .before .before .before .before .before .before .pre in
+    let start = c .before .before .before .before .before .before .before in
+    let pre = start .pre in
     let loop = c .before .before .before .loop in
     let loop-test = c .before .before .loop-test in
     let cell-at = c .before .cell-at in
-    let args = c .before .before .before .before .before .before .before .args in
+    let args = start .args in
     let z = fits-at (pre .0) (loop .state) (loop .inv .0 .long) (loop .k) (loop-test .taken) _ (cell-at .ensures) in
     let net = netOf (args .cells .now) (args .n) in
     let e : cellAt net (loop .k) ≡ cell-at .result = net-cell (args .cells .now) (args .n) (loop .k) (loop-test .taken) ∙ sym (cell-at .ensures) in
@@ -63,9 +64,10 @@ cast-j c =
 
 add-j : tie.Need-add-j Inv-loop μ-loop
 add-j c =
+    let start = c .before .before .before .before .before .before .before .before .before .before .before .before .before .before in
     let loop = c .before .before .before .before .before .before .before .before .before .before .loop in
-    let pre = c .before .before .before .before .before .before .before .before .before .before .before .before .before .before .pre in
-    let args = c .before .before .before .before .before .before .before .before .before .before .before .before .before .before .args in
+    let pre = start .pre in
+    let args = start .args in
     let cell-at = c .before .before .before .before .before .before .before .before .cell-at in
     omega (arith, loop .inv .1, pre .2, below-le (netOf (args .cells .now) (args .n)) (loop .k), c .bit .ensures, bit-lt (eqb (cell-at .result .kind) 40))
 

@@ -23,8 +23,9 @@ same-length c = c .before .before .put16 .kept .0 ∙ simp length-set (c .before
 
 returns-2 : tie.Need-returns-2
 returns-2 c =
-    let args = c .before .before .before .before .before .before .before .before .before .before .before .args in
-    let pre = c .before .before .before .before .before .before .before .before .before .before .before .pre in
+    let start = c .before .before .before .before .before .before .before .before .before .before .before in
+    let args = start .args in
+    let pre = start .pre in
     let smaller = c .before .before .before .before .before .before .before .before .smaller in
     let shift = c .before .before .before .before .before .before .shift in
     λ ns e k.

@@ -40,9 +40,10 @@ step-requires c κs =
 returns : tie.Need-returns Inv-loop μ-loop
 unfolding Parses
 returns c =
+    let start = c .before .before .before .before .before .before .before .before .before .before .before .before .before .before .before .before in
     let loop = c .before .before .before .before .before .before .before .before .before .before .before .loop in
-    let text = c .before .before .before .before .before .before .before .before .before .before .before .before .before .before .before .before .args .text .now in
-    going-breaks text (loop .inv) (c .before .before .before .before .before .before .before .before .before .before .loop-test .taken) (c .before .before .before .before .before .before .before .before .before .before .before .before .before .before .before .before .pre .0) (c .before .before .before .before .before .before .step .ensures .1) (sym (c .before .is-broken .ensures) ∙ c .if1 .taken)
+    let text = start .args .text .now in
+    going-breaks text (loop .inv) (c .before .before .before .before .before .before .before .before .before .before .loop-test .taken) (start .pre .0) (c .before .before .before .before .before .before .step .ensures .1) (sym (c .before .is-broken .ensures) ∙ c .if1 .taken)
 
 loop-less : tie.Need-loop-less Inv-loop μ-loop
 loop-less c =
@@ -54,11 +55,13 @@ loop-less c =
 
 loop-again : tie.Need-loop-again Inv-loop μ-loop
 loop-again c =
+    let at-operator = c .before .before .before .before .before .before .before in
+    let start = at-operator .before .before .before .before .before .before .before .before .before .before in
     let loop = c .before .before .before .before .before .before .before .before .before .before .before .before .loop in
-    let text = c .before .before .before .before .before .before .before .before .before .before .before .before .before .before .before .before .before .args .text .now in
+    let text = start .args .text .now in
     let room = loop .inv .room in
-    let kept = c .before .before .before .before .before .before .before .step .kept in
-    going-next text (loop .inv) (c .before .before .before .before .before .before .before .before .before .before .before .loop-test .taken) (c .before .before .before .before .before .before .before .before .before .before .before .before .before .before .before .before .before .pre .0) (c .before .before .before .before .before .before .before .step .ensures .1) (sym (c .before .before .is-broken .ensures) ∙ c .before .if1 .left) (c .before .before .before .before .before .before .before .step .ensures .0)
+    let kept = at-operator .step .kept in
+    going-next text (loop .inv) (c .before .before .before .before .before .before .before .before .before .before .before .loop-test .taken) (start .pre .0) (at-operator .step .ensures .1) (sym (c .before .before .is-broken .ensures) ∙ c .before .if1 .left) (at-operator .step .ensures .0)
     (omega (arith, kept .0, room .0), omega (arith, kept .1 .0, room .1), omega (arith, kept .1 .1 .0, room .2)) (c .next-word2 .ensures)
 
 slice-aggregate-is-complete : tie.Need-slice-aggregate-is-complete Inv-loop μ-loop

@@ -11,8 +11,9 @@ use Rattle.text.proofs.reader.step.Tie as tie
 on-ticks-requires : tie.Need-on-ticks-requires
 unfolding limitOf
 on-ticks-requires c κs =
-    let args = c .before .before .before .before .before .before .args in
-    let pre = c .before .before .before .before .before .before .pre in
+    let start = c .before .before .before .before .before .before in
+    let args = start .args in
+    let pre = start .pre in
     let enum-told6 = c .before .enum-told6 in
     let few : args .t .value ≤ 255 = rw (enum-told6 .given .1) at (pre .1) in
     (pre .0 .nodes, few)
@@ -20,8 +21,9 @@ on-ticks-requires c κs =
 on-delay-requires : tie.Need-on-delay-requires
 unfolding limitOf
 on-delay-requires c κs =
-    let args = c .before .before .before .before .before .before .before .before .args in
-    let pre = c .before .before .before .before .before .before .before .before .pre in
+    let start = c .before .before .before .before .before .before .before .before in
+    let args = start .args in
+    let pre = start .pre in
     let enum-told7 = c .before .before .before .enum-told7 in
     let few : args .t .value ≤ 255 = rw (enum-told7 .given .1) at (pre .1) in
     (omega (arith, pre .0 .codes, pre .0 .height), omega (arith, pre .0 .starts, pre .0 .height), pre .0 .nodes, few)

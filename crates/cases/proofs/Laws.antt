@@ -13,7 +13,7 @@ use Rattle.reply.specs.declared.Reply.{Reply}
 use Rattle.reply.specs.Replies.{answerReply, replied}
 use Rattle.cases.specs.Rows.{bytesOf, Same, kindsFrom}
 
-pub start-put : (v : ℕ) {words : List ℕ} → words ≡ put16 (replicate 32 0) 0 v → words ≡ start v
+pub start-put : (v : ℕ) {words : List ℕ} → words ≡ put16 (replicate 544 0) 0 v → words ≡ start v
 unfolding put16
 start-put v e = e
 

@@ -24,7 +24,7 @@ pub record Same (a b : Answer) : Type 0 where
   pub all : (getD (bytesOf a) 0 0 ≡ 2 → ⊥) → bytesOf a ≡ bytesOf b
 
 pub record Holds (program : List ℕ) (word budget : ℕ) (wanted : Answer) : Type 0 where
-  pub circuit : Same (runProgramCall defaults program (start word) budget (replicate 6656 0) (replicate 40968 0) .answer) wanted
+  pub circuit : Same (runProgramCall defaults program (start word) budget (replicate 6656 0) (replicate 41480 0) .answer) wanted
   pub rules : Same (referenceCall defaults program (start word) budget) wanted
 
 -- a program's bytes with n nodes from i on made of one kind

@@ -13,6 +13,7 @@ fn main() {
     cases_1_to_4();
     cases_5_to_8();
     cases_9_to_12();
+    arrays();
     open_runs();
     lengths();
 }
@@ -55,6 +56,20 @@ fn cases_9_to_12() {
     let beside_tick =
         b"\x16\x01\0\0\x02\0\0\0\x14\0\0\0\x12\x11\0\0\x05\0\0\0\x02\0\0\0\x01\0\x01\0\x11\x02\0\0";
     row(b"case 12", beside_tick, 2, 100, ends(39, 0));
+}
+
+// Element 3 of array 1 is written by one index and read by another; array 4 is none; an element takes 4; an array is one variable.
+fn arrays() {
+    let through =
+        b"\x13\0\0\0\x18\x01\x01\0\x02\0\0\0\x01\0\x07\0\x12\x04\0\0\x0a\0\x01\0\x01\0\x43\0";
+    row(b"array 1 by 3 and 67", through, 3, 100, ends(7, 7));
+    let fifth = b"\x18\x01\x04\0\x01\0\0\0\x01\0\0\0";
+    row(b"array 4", fifth, 0, 100, refuses(4, 0));
+    let hasty = b"\x18\x03\0\0\x01\0\0\0\x0a\0\0\0\x01\0\0\0";
+    row(b"element with 3", hasty, 0, 100, refuses(7, 0));
+    let crossing =
+        b"\x14\0\0\0\x18\x01\0\0\x01\0\0\0\x01\0\x01\0\x12\x04\0\0\x0a\0\0\0\x01\0\x01\0";
+    row(b"elements 0 and 1", crossing, 0, 100, refuses(8, 0));
 }
 
 // The two runs that stay open.

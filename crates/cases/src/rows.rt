@@ -12,6 +12,7 @@ use model::Answer;
 use model::Outcome;
 use model::Refusal;
 use model::sizes::FILE_MOST;
+use model::sizes::START_WORDS;
 use model::sizes::STATE_MOST;
 
 pub fn ends(instant: u32, word: u16) -> Answer
@@ -64,9 +65,9 @@ pub fn set_kinds(program: &mut [u8], from: usize, to: usize, kind: u8)
 }
 
 fn by_circuit(program: &[u8], word: u16, budget: u32) -> Answer
-    ensures { λ r. ⌜ r ≡ runProgramCall defaults (now (program .entry)) (start word) budget (replicate 6656 0) (replicate 40968 0) .answer ⌝ }
+    ensures { λ r. ⌜ r ≡ runProgramCall defaults (now (program .entry)) (start word) budget (replicate 6656 0) (replicate 41480 0) .answer ⌝ }
 {
-    let mut words = [0u8; 32];
+    let mut words = [0u8; START_WORDS];
     word::put16(&mut words, 0, word);
     let mut netlist = [0u8; FILE_MOST];
     let mut state = [0u8; STATE_MOST];
@@ -83,7 +84,7 @@ fn by_circuit(program: &[u8], word: u16, budget: u32) -> Answer
 fn by_rules(program: &[u8], word: u16, budget: u32) -> Answer
     ensures { λ r. ⌜ r ≡ referenceCall defaults (now (program .entry)) (start word) budget ⌝ }
 {
-    let mut words = [0u8; 32];
+    let mut words = [0u8; START_WORDS];
     word::put16(&mut words, 0, word);
     hub::reference_run(hub::defaults(), program, &words, budget)
 }

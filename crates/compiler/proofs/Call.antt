@@ -29,7 +29,7 @@ use Rattle.program.specs.Shape.{Scans, scanned-laid}
 use Rattle.compiler.specs.declared.whole.Netlist.{Netlist}
 use Rattle.compiler.specs.Whole.{Given, Made}
 
-pub scanned : (options : Options) {s : List ℕ} {r : Scanned} → Scans options s r → checkCall options s ≡ Accepted → Given s (r .ends) 3714
+pub scanned : (options : Options) {s : List ℕ} {r : Scanned} → Scans options s r → checkCall options s ≡ Accepted → Given s (r .ends) 3762
 scanned options {s} {r} S e = record { options = options; accepted = e; laid = scanned-laid options s r S (S .checked ∙ e); size = refl }
 
 module _ (s : List ℕ) {cells : List ℕ} {made : Netlist} (m : Made (programOf s) cells made) where
@@ -46,7 +46,7 @@ module _ (s : List ℕ) {cells : List ℕ} {made : Netlist} (m : Made (programOf
   written = rw (file-size, m .finish)
 
   module _ (options : Options) (e : checkCall options s ≡ Accepted) where
-    pub list-room : length cells ≡ 3714 → Room InList cells (made .count)
+    pub list-room : length cells ≡ 3762 → Room InList cells (made .count)
     list-room l =
         let most = fits (programOf s) (few-nodes options s e) .1 in
         record { few = omega (arith, m .count, most); fits = omega (arith, m .count, most, l) }

@@ -4,20 +4,18 @@ use mathlib.Core.Path.{_≡_, refl, sym, _∙_, ap}
 use mathlib.Core.List.{List, [], _∷_, _++_}
 use Prim.Native.Nat.{ℕ, _+_, _*_, _≤_}
 use native.Mathlib.Omega.{arith}
-use lib.ListN.{length, length-append}
+use native.Mathlib.Numerals.{towards-suc}
+use lib.ListN.{length, set, length-append}
 use lib.Seq.{sets}
 use Rattle.model.specs.declared.Cell.{Cell}
-use Rattle.model.specs.Program.{Stmt, ok, tick, assign, seq, par, ite, while, repeat}
+use Rattle.model.specs.Program.{Stmt, ok, tick, assign, assignElem, seq, par, ite, while, repeat}
 use Rattle.model.specs.Numbering.{ifDelayCount, pastSwitches, delayCount, walkCount, finishWire, delays, walk}
 use Rattle.laws.specs.Numbering.Lengths.{d-len, w-len}
 use Rattle.laws.specs.Lists.Writes.{sets-append}
 use Rattle.compiler.specs.declared.walk.Place.{Place}
 use Rattle.compiler.specs.Writes.{write, both}
-use Rattle.compiler.specs.Walk.{assignments, marksOf, Done}
+use Rattle.compiler.specs.Walk.{place, assignments, marksOf, Done}
 use Rattle.compiler.proofs.Writes.{behind, write-none, both-walk, both-delay, both-front}
-
-abbrev pub place : ℕ → ℕ → ℕ → ℕ → Place
-place w d c k = record { wire = w; delay = d; cell = c; mark = k }
 
 same-place : {w w′ d d′ c c′ k k′ : ℕ} → w ≡ w′ → d ≡ d′ → c ≡ c′ → k ≡ k′ → place w d c k ≡ place w′ d′ c′ k′
 same-place a b c d = rw (a, b, c, d)
@@ -25,16 +23,17 @@ same-place a b c d = rw (a, b, c, d)
 -- the place at which a statement that is entered at p is left
 abbrev pub leave : Stmt → Place → Place
 leave P p =
-    place (finishWire P (p .wire) (p .delay) (p .cell)) (p .delay + delayCount P) (p .cell + walkCount P) (p .mark + 3 * assignments P)
+    place (finishWire P (p .wire) (p .delay) (p .cell)) (p .delay + delayCount P) (p .cell + walkCount P) (p .mark + 4 * assignments P)
 
 pub left : {M : ℕ} {P : Stmt} {p r : Place} {b a k l : List ℕ} → Done M P p b a k l r → r ≡ leave P p
 left u = same-place (u .wire) (u .delay) (u .cell) (u .mark)
 
-pub marks-length : (P : Stmt) (d c : ℕ) → length (marksOf P d c) ≡ 3 * assignments P
+pub marks-length : (P : Stmt) (d c : ℕ) → length (marksOf P d c) ≡ 4 * assignments P
 unfolding marksOf assignments
 marks-length ok d c = refl
 marks-length (tick δ) d c = refl
 marks-length (assign δ x e) d c = refl
+marks-length (assignElem δ k i e) d c = refl
 marks-length (seq P Q) d c = simp (length-append, marks-length P d c, marks-length Q (d + delayCount P) (c + walkCount P)) (omega arith)
 marks-length (par P Q) d c = simp (length-append, marks-length P d c, marks-length Q (d + delayCount P) (c + walkCount P)) (omega arith)
 marks-length (ite δ e P Q) d c =
@@ -46,6 +45,10 @@ marks-length (ite δ e P Q) d c =
     (omega arith)
 marks-length (while δ e P) d c = marks-length P (d + 1) (pastSwitches e c)
 marks-length (repeat δ e P) d c = marks-length P (d + 1) (pastSwitches e c + 1)
+
+-- four marks put in one by one
+pub four-marks : (l : List ℕ) (k a b c d : ℕ) → set (set (set (set l k a) (k + 1) b) (k + 2) c) (k + 3) d ≡ sets l k (a ∷ b ∷ c ∷ d ∷ [])
+four-marks l k a b c d = simp towards-suc
 
 -- Steps --------------------------------------------------------------------------------------------------------------------------------
 
@@ -109,7 +112,7 @@ module _ {d c k d′ c′ k′ : ℕ} {before marked after remarked : List ℕ} 
   pub grow-part : {M w : ℕ} {Q : Stmt} {r : Place} {end marks : List ℕ} → Grown d c k before marked D W K after remarked d′ c′ k′
       → d′ + delayCount Q ≤ c → Done M Q (place w d′ c′ k′) after end remarked marks r
       → Grown d c k before marked (D ++ delays Q w d′ c′) (W ++ walk M Q w d′ c′) (K ++ marksOf Q d′ c′) end marks
-      (d′ + delayCount Q) (c′ + walkCount Q) (k′ + 3 * assignments Q)
+      (d′ + delayCount Q) (c′ + walkCount Q) (k′ + 4 * assignments Q)
   unfolding both
   grow-part {M} {w} {Q} g h u =
       let x = grow-delay g (delays Q w d′ c′) (behind d′ (d-len Q w d′ c′)) h refl in

@@ -1,29 +1,30 @@
 -- What the walk asks of the parts of a statement, from what the statement was given. Assumes nothing.
+use mathlib.Core.Path.{_≡_}
 use mathlib.Core.List.{List}
 use Prim.Native.Nat.{ℕ, _+_, _*_, _≤_}
 use native.Mathlib.Omega.{arith}
-use Rattle.model.specs.Program.{Expr, Stmt, assign, seq, par, ite, while, repeat}
+use Rattle.model.specs.Program.{Expr, Stmt, assign, assignElem, seq, par, ite, while, repeat}
 use Rattle.model.specs.Numbering.{exprCount, pastSwitches, delayCount, walkCount}
 use Rattle.laws.specs.Program.Fit.{FormedExpr, Formed}
 use Rattle.compiler.specs.declared.walk.Word.{Word}
 use Rattle.compiler.specs.declared.walk.Place.{Place}
 use Rattle.compiler.specs.declared.walk.Pulse.{Pulse}
-use Rattle.compiler.specs.Walk.{ExprReady, ExprDone, SwitchReady, Switched, assignments, Owned, Ready, Done}
-use Rattle.compiler.proofs.Growth.{place, left}
+use Rattle.compiler.specs.Walk.{place, ExprReady, ExprDone, SwitchReady, Switched, assignments, Owned, Ready, Done}
+use Rattle.compiler.proofs.Growth.{left}
 
 -- the switches' cells have small numbers
-pub switch-low : {M n c g t : ℕ} {E : Expr} {b a : List ℕ} → SwitchReady M E c n → Switched M E c g b a t → t + 2 ≤ 619
+pub switch-low : {M n c g t : ℕ} {E : Expr} {b a : List ℕ} → SwitchReady M E c n → Switched M E c g b a t → t + 2 ≤ 627
 switch-low r sw = omega (arith, r .room, r .expr .small, sw .switch)
 
 module _ {M n : ℕ} {p : Place} where
   -- a part is ready where it stays within the whole
   module _ {S : Stmt} (r : Ready M S p n) where
     part : {P : Stmt} {q : Place} → Formed P → q .delay + delayCount P ≤ q .cell → q .cell + walkCount P ≤ p .cell + walkCount S
-        → q .mark + 3 * assignments P ≤ p .mark + 3 * assignments S → Ready M P q n
+        → q .mark + 4 * assignments P ≤ p .mark + 4 * assignments S → Ready M P q n
     part w a b k =
         record { formed = w; memory = r .memory; apart = a; room = omega (arith, b, r .room); small = r .small; marks = omega (arith, k, r .marks) }
 
-    expr-part : {E : Expr} → FormedExpr E → p .cell + exprCount E ≤ p .cell + walkCount S → ExprReady M E (p .cell) n
+    expr-part : {E : Expr} {c : ℕ} → FormedExpr E → c + exprCount E ≤ p .cell + walkCount S → ExprReady M E c n
     expr-part w b = record { formed = w; memory = r .memory; room = omega (arith, b, r .room); small = r .small }
 
     switch-part : {E : Expr} → FormedExpr E → pastSwitches E (p .cell) ≤ p .cell + walkCount S → SwitchReady M E (p .cell) n
@@ -32,6 +33,10 @@ module _ {M n : ℕ} {p : Place} where
     -- its delay cells lie within the list
     pub delays-fit : 6 * (p .delay + delayCount S) ≤ n
     delays-fit = omega (arith, r .apart, r .room)
+
+    -- and so do an assignment's marks within theirs
+    pub own-fits : delayCount S ≡ 2 → assignments S ≡ 1 → (6 * (p .delay + 2) ≤ n) × (n ≤ 3762) × (p .mark + 4 ≤ 800)
+    own-fits d a = (omega (arith, d, delays-fit), r .small, omega (arith, a, r .marks))
 
   pub assign-expr : {δ x : ℕ} {E : Expr} → Ready M (assign δ x E) p n → ExprReady M E (p .cell) n
   unfolding walkCount
@@ -42,6 +47,21 @@ module _ {M n : ℕ} {p : Place} where
       → 6 * e .cell + 6 ≤ n
   unfolding walkCount
   assign-cell r u = omega (arith, r .room, u .cell)
+
+  module _ {δ v : ℕ} {I E : Expr} (r : Ready M (assignElem δ v I E) p n) where
+    pub element-index : ExprReady M I (p .cell) n
+    unfolding walkCount
+    element-index = expr-part r (r .formed .2) (omega arith)
+
+    module _ {b a : List ℕ} {i : Word} (u : ExprDone M I (p .cell) b a i) where
+      pub element-value : ExprReady M E (i .cell) n
+      unfolding walkCount
+      element-value = expr-part r (r .formed .3) (omega (arith, u .cell))
+
+      -- its kind 41 cells lie within the list
+      pub element-cells : {b₂ a₂ : List ℕ} {e : Word} → ExprDone M E (i .cell) b₂ a₂ e → 6 * (e .cell + 2) ≤ n
+      unfolding walkCount
+      element-cells w = omega (arith, r .room, u .cell, w .cell)
 
   module _ {P Q : Stmt} where
     pub seq-first : Ready M (seq P Q) p n → Ready M P p n

@@ -3,9 +3,9 @@ use mathlib.Core.Path.{_≡_, refl, sym, _∙_, ap}
 use mathlib.Core.List.{List, [], _∷_, append-assoc}
 use Prim.Native.Nat.{ℕ, zero, suc, _+_, _≤_}
 use native.Mathlib.Omega.{arith}
-use native.Mathlib.Numerals.{towards-suc}
-use lib.ListN.{length, set, length-append}
-use Rattle.model.specs.Program.{Expr, Stmt, ok, tick, assign, seq, par, ite, while, repeat}
+use lib.ListN.{length, length-append}
+use lib.Seq.{sets}
+use Rattle.model.specs.Program.{Expr, Stmt, ok, tick, assign, assignElem, seq, par, ite, while, repeat, arrayVar}
 use Rattle.model.specs.Circuit.{cell}
 use Rattle.model.specs.Numbering.{exprCount, exprWire, exprCells, pastSwitches, switches, ifDelayCount, ifDelayCells, ifPulse, delayCount, finishWire, delays, walk}
 use Rattle.laws.specs.Numbering.Lengths.{e-len, own-len}
@@ -13,9 +13,9 @@ use Rattle.compiler.specs.declared.walk.Word.{Word}
 use Rattle.compiler.specs.declared.walk.Place.{Place}
 use Rattle.compiler.specs.declared.walk.Pulse.{Pulse}
 use Rattle.compiler.specs.Writes.{write}
-use Rattle.compiler.specs.Walk.{ExprDone, Switched, marksOf, Owned, Done}
+use Rattle.compiler.specs.Walk.{place, ExprDone, Switched, marksOf, Owned, Done}
 use Rattle.compiler.proofs.Writes.{behind, write-none, write-append}
-use Rattle.compiler.proofs.Growth.{place, left, grown-none, grow-delay, grow-walk, grow-marks, grow-part, grow-front, closed}
+use Rattle.compiler.proofs.Growth.{left, grown-none, grow-delay, grow-walk, grow-marks, grow-part, grow-front, closed}
 
 -- Statements without parts -------------------------------------------------------------------------------------------------------------
 
@@ -29,21 +29,41 @@ module _ {M : ℕ} {p : Place} {before marked : List ℕ} where
   unfolding delays walk marksOf finishWire delayCount
   tick-done h w = closed (grow-delay grown-none _ refl h w) refl refl refl refl
 
-  pub assign-done : {δ x : ℕ} {E : Expr} {m₁ m₂ m₃ end remarked : List ℕ} {e : Word} → p .delay + delayCount (assign δ x E) ≤ p .cell
+  pub assign-done : {δ x : ℕ} {E : Expr} {m₁ m₂ end remarked : List ℕ} {e : Word} {r : Place} → p .delay + delayCount (assign δ x E) ≤ p .cell
       → ExprDone M E (p .cell) before m₁ e
       → m₂ ≡ write (e .cell) (cell 41 0 (p .delay) (e .wire) ∷ []) m₁
-      → m₃ ≡ write (p .delay) (cell 34 δ (p .wire) 0 ∷ []) m₂
-      → end ≡ write (p .delay + 1) (cell 34 1 (p .delay) 0 ∷ []) m₃
-      → remarked ≡ set (set (set marked (p .mark) x) (p .mark + 1) (p .delay)) (p .mark + 2) (e .cell)
-      → Done M (assign δ x E) p before end marked remarked (place (p .delay + 1) (p .delay + 2) (e .cell + 1) (p .mark + 3))
+      → end ≡ write (p .delay) (cell 34 δ (p .wire) 0 ∷ cell 34 1 (p .delay) 0 ∷ []) m₂
+      → remarked ≡ sets marked (p .mark) (x ∷ p .delay ∷ e .cell ∷ 0 ∷ [])
+      → r ≡ place (p .delay + 1) (p .delay + 2) (e .cell + 1) (p .mark + 4)
+      → Done M (assign δ x E) p before end marked remarked r
   unfolding delays walk marksOf finishWire delayCount
-  assign-done {δ} {x} {E} h u a b₁ b₂ k =
+  assign-done {δ} {x} {E} h u a b k l =
       let c = p .cell in
       let z = grown-none {d = p .delay} {c = c} {k = p .mark} {before = before} {marked = marked} in
       let e = grow-walk (grow-walk z _ (behind c (e-len M E c)) (u .cells)) _ refl (rw (u .cell, u .wire) at a) in
-      let f = grow-delay (grow-delay e _ refl (omega arith) b₁) _ (omega arith) h b₂ in
-      let m = grow-marks f (x ∷ p .delay ∷ (c + exprCount E) ∷ []) refl (rw (u .cell) at k ∙ simp towards-suc) in
-      closed m refl refl refl (rw (u .cell) refl)
+      let m = grow-marks (grow-delay e _ refl h b) (x ∷ p .delay ∷ (c + exprCount E) ∷ 0 ∷ []) refl (rw (u .cell) at k) in
+      closed m refl refl refl (rw (u .cell) at l)
+
+  pub element-done : {δ v : ℕ} {I E : Expr} {m₁ m₂ m₃ m₄ end remarked : List ℕ} {i e : Word} {r : Place}
+      → p .delay + delayCount (assignElem δ v I E) ≤ p .cell
+      → ExprDone M I (p .cell) before m₁ i
+      → ExprDone M E (i .cell) m₁ m₂ e
+      → m₃ ≡ write (e .cell) (cell 41 0 (p .delay) (e .wire) ∷ []) m₂
+      → m₄ ≡ write (e .cell + 1) (cell 41 0 (p .delay) (i .wire) ∷ []) m₃
+      → end ≡ write (p .delay) (cell 34 δ (p .wire) 0 ∷ cell 34 1 (p .delay) 0 ∷ []) m₄
+      → remarked ≡ sets marked (p .mark) (arrayVar v ∷ p .delay ∷ e .cell ∷ (e .cell + 1) ∷ [])
+      → r ≡ place (p .delay + 1) (p .delay + 2) (e .cell + 1 + 1) (p .mark + 4)
+      → Done M (assignElem δ v I E) p before end marked remarked r
+  unfolding delays walk marksOf finishWire delayCount
+  element-done {δ} {v} {I} {E} h u w₀ a₁ a₂ b k l =
+      let c = p .cell in
+      let c₂ = c + exprCount I in
+      let w = rw (u .cell) at w₀ in
+      let z = grown-none {d = p .delay} {c = c} {k = p .mark} {before = before} {marked = marked} in
+      let e = grow-walk (grow-walk z _ (behind c (e-len M I c)) (u .cells)) _ (behind c₂ (e-len M E c₂)) (w .cells) in
+      let f = grow-walk (grow-walk e _ refl (rw (w .cell, w .wire) at a₁)) _ refl (rw (w .cell, u .wire) at a₂) in
+      let m = grow-marks (grow-delay f _ refl h b) (arrayVar v ∷ p .delay ∷ (c₂ + exprCount E) ∷ (c₂ + exprCount E + 1) ∷ []) refl (rw (w .cell) at k) in
+      closed m refl (simp append-assoc) refl (rw (w .cell) at l)
 
 -- an if's own delay cell
 module _ {s d : ℕ} {before : List ℕ} where

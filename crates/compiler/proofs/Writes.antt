@@ -1,5 +1,5 @@
 -- Runs of cells in a list of bytes: one after another, and two that do not meet. Assumes nothing.
-use mathlib.Core.List.{List, [], _++_}
+use mathlib.Core.List.{List, [], _∷_, _++_}
 use mathlib.Core.Path.{_≡_, refl, sym, _∙_, ap}
 use Prim.Native.Nat.{ℕ, _+_, _*_, _≤_}
 use native.Mathlib.Omega.{arith}
@@ -36,6 +36,11 @@ write-swap k j xs ys s h = sets-swap s (6 * k) (cellBytes xs) (6 * j) (cellBytes
 -- a run put in before another
 pub write-before : (k m : ℕ) (xs ys : List Cell) (s : List ℕ) → m ≡ k + length xs → write k xs (write m ys s) ≡ write k (xs ++ ys) s
 write-before k m xs ys s e = write-swap k m xs ys s (omega arith) ∙ write-append k m xs ys s e
+
+-- a cell and the next
+pub write-two : (k : ℕ) (x y : Cell) (s : List ℕ) {mid end : List ℕ} → mid ≡ write k (x ∷ []) s → end ≡ write (k + 1) (y ∷ []) mid
+    → end ≡ write k (x ∷ y ∷ []) s
+write-two k x y s a b = b ∙ ap (write (k + 1) (y ∷ [])) a ∙ write-append k (k + 1) (x ∷ []) (y ∷ []) s refl
 
 -- Delay cells and walk cells -----------------------------------------------------------------------------------------------------------
 

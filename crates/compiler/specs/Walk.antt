@@ -3,7 +3,7 @@ use mathlib.Core.Path.{_≡_}
 use mathlib.Core.List.{List, [], _∷_, _++_}
 use Prim.Native.Nat.{ℕ, _+_, _*_, _≤_}
 use lib.Seq.{sets}
-use Rattle.model.specs.Program.{Expr, Stmt, ok, tick, assign, seq, par, ite, while, repeat}
+use Rattle.model.specs.Program.{Expr, Stmt, ok, tick, assign, assignElem, seq, par, ite, while, repeat, arrayVar}
 use Rattle.model.specs.Numbering.{exprCount, exprWire, exprCells, onTrue, pastSwitches, switches, ifDelayCount, ifDelayCells, ifPulse, delayCount, walkCount, finishWire, delays, walk}
 use Rattle.laws.specs.Program.Fit.{FormedExpr, Formed}
 use Rattle.compiler.specs.declared.walk.Word.{Word}
@@ -19,9 +19,9 @@ word w c = record { wire = w; cell = c }
 -- e goes to cell c of a list of n bytes; the first memory is cell M
 pub record ExprReady (M : ℕ) (e : Expr) (c n : ℕ) : Type 0 where
   pub formed : FormedExpr e
-  pub memory : M + 16 ≤ 619
+  pub memory : M + 24 ≤ 627
   pub room : 6 * (c + exprCount e) ≤ n
-  pub small : n ≤ 3714
+  pub small : n ≤ 3762
 
 pub record ExprDone (M : ℕ) (e : Expr) (c : ℕ) (before after : List ℕ) (r : Word) : Type 0 where
   pub cells : after ≡ write c (exprCells M e c) before
@@ -39,22 +39,27 @@ pub record Switched (M : ℕ) (e : Expr) (c ifPulse : ℕ) (before after : List 
 
 -- Statements ---------------------------------------------------------------------------------------------------------------------------
 
+abbrev pub place : ℕ → ℕ → ℕ → ℕ → Place
+place w d c k = record { wire = w; delay = d; cell = c; mark = k }
+
 -- how many assignments a statement has
 unfoldable pub assignments : Stmt → ℕ
 assignments ok = 0
 assignments (tick δ) = 0
 assignments (assign δ x e) = 1
+assignments (assignElem δ k i e) = 1
 assignments (seq P Q) = assignments P + assignments Q
 assignments (par P Q) = assignments P + assignments Q
 assignments (ite δ e P Q) = assignments P + assignments Q
 assignments (while δ e P) = assignments P
 assignments (repeat δ e P) = assignments P
 
--- their marks, in node order: variable, first delay cell, kind 41 cell
+-- their marks, in node order: variable, first delay cell, kind 41 cells of the value and of the index
 unfoldable pub marksOf : Stmt → ℕ → ℕ → List ℕ
 marksOf ok d c = []
 marksOf (tick δ) d c = []
-marksOf (assign δ x e) d c = x ∷ d ∷ (c + exprCount e) ∷ []
+marksOf (assign δ x e) d c = x ∷ d ∷ (c + exprCount e) ∷ 0 ∷ []
+marksOf (assignElem δ k i e) d c = arrayVar k ∷ d ∷ (c + exprCount i + exprCount e) ∷ (c + exprCount i + exprCount e + 1) ∷ []
 marksOf (seq P Q) d c = marksOf P d c ++ marksOf Q (d + delayCount P) (c + walkCount P)
 marksOf (par P Q) d c = marksOf P d c ++ marksOf Q (d + delayCount P) (c + walkCount P)
 marksOf (ite δ e P Q) d c = marksOf P (d + ifDelayCount δ) (pastSwitches e c) ++ marksOf Q (d + ifDelayCount δ + delayCount P) (pastSwitches e c + walkCount P)
@@ -70,11 +75,11 @@ pub record Owned (δ start d : ℕ) (before after : List ℕ) (r : Pulse) : Type
 -- P goes to place p of a list of n bytes; its delay cells end below its walk cells
 pub record Ready (M : ℕ) (P : Stmt) (p : Place) (n : ℕ) : Type 0 where
   pub formed : Formed P
-  pub memory : M + 16 ≤ 619
+  pub memory : M + 24 ≤ 627
   pub apart : p .delay + delayCount P ≤ p .cell
   pub room : 6 * (p .cell + walkCount P) ≤ n
-  pub small : n ≤ 3714
-  pub marks : p .mark + 3 * assignments P ≤ 600
+  pub small : n ≤ 3762
+  pub marks : p .mark + 4 * assignments P ≤ 800
 
 pub record Done (M : ℕ) (P : Stmt) (p : Place) (before after : List ℕ) (marked remarked : List ℕ) (r : Place) : Type 0 where
   pub cells :
@@ -83,4 +88,4 @@ pub record Done (M : ℕ) (P : Stmt) (p : Place) (before after : List ℕ) (mark
   pub wire : r .wire ≡ finishWire P (p .wire) (p .delay) (p .cell)
   pub delay : r .delay ≡ p .delay + delayCount P
   pub cell : r .cell ≡ p .cell + walkCount P
-  pub mark : r .mark ≡ p .mark + 3 * assignments P
+  pub mark : r .mark ≡ p .mark + 4 * assignments P

@@ -5,11 +5,12 @@ ghost use mathlib.Core.Path.{_≡_};
 ghost use mathlib.Core.List.{[], _∷_};
 ghost use Prim.Native.Nat.{_+_, _*_, _<_, _≤_};
 ghost use lib.ListN.{length};
+ghost use lib.Seq.{sets};
 ghost use Rattle.model.specs.Circuit.{cell};
-ghost use Rattle.model.specs.Program.{exprAt, stmtAt, assign, seq, par, ite, while, repeat};
+ghost use Rattle.model.specs.Program.{exprAt, stmtAt, assign, assignElem, seq, par, ite, while, repeat};
 ghost use Rattle.program.specs.Ends.{Laid};
 ghost use Rattle.compiler.specs.Writes.{write};
-ghost use Rattle.compiler.specs.Walk.{word, ExprReady, ExprDone, Owned, SwitchReady, Switched, Ready, Done};
+ghost use Rattle.compiler.specs.Walk.{word, place, ExprReady, ExprDone, Owned, SwitchReady, Switched, Ready, Done};
 use model::Cell;
 use model::Node;
 
@@ -20,7 +21,7 @@ pub struct Word {
 }
 
 // Where the walk is: the wire that starts a statement or has just finished one, the next delay cell, the next walk cell, and the next free
-// entry of the marks. An assignment has three marks: its variable, its first delay cell, its kind 41 cell.
+// entry of the marks.
 pub struct Place {
     pub wire: u16,
     pub delay: u16,
@@ -34,6 +35,14 @@ pub struct Pulse {
     pub delay: u16,
 }
 
+// What an assignment's ors join: its variable, an array being one of 16 to 19, and its kind 41 cells, of the value and of an element's index.
+// With its first delay cell, which comes second, these are its four marks.
+pub struct Assigned {
+    pub variable: u16,
+    pub data: u16,
+    pub address: u16,
+}
+
 // Puts cell k in.
 pub fn put(cells: &mut [u8], k: u16, kind: u8, delay: u8, a: u16, b: u16)
     requires { ⌜ 6 * k + 6 ≤ length (now cells) ⌝ }
@@ -45,7 +54,7 @@ pub fn put(cells: &mut [u8], k: u16, kind: u8, delay: u8, a: u16, b: u16)
 
 // Puts a word's cell in at k; it is the word's wire.
 fn put_word(cells: &mut [u8], k: u16, kind: u8, a: u16, b: u16) -> Word
-    requires { ⌜ (k < 619) × (6 * k + 6 ≤ length (now cells)) ⌝ }
+    requires { ⌜ (k < 627) × (6 * k + 6 ≤ length (now cells)) ⌝ }
     ensures cells { λ _. ⌜ now (cells .exit) ≡ write k (cell kind 0 a b ∷ []) (now (cells .entry)) ⌝ }
     ensures word { λ r. ⌜ r ≡ word k (k + 1) ⌝ }
 {
@@ -56,7 +65,8 @@ fn put_word(cells: &mut [u8], k: u16, kind: u8, a: u16, b: u16) -> Word
     }
 }
 
-// The cells of the expression at node i, from cell c on: children, then its cell; a variable is its memory cell.
+// The cells of the expression at node i, from cell c on: children, then its cell; a variable is its memory cell. An element's a is its array's
+// kind 42, which stands behind the sixteenth memory.
 fn put_expr(
     cells: &mut [u8],
     program: &[u8],
@@ -84,6 +94,10 @@ fn put_expr(
         let e = put_expr(cells, program, ends, memory, first, c);
         return put_word(cells, e.cell, 3, e.wire, 0);
     }
+    if kind == 10 {
+        let e = put_expr(cells, program, ends, memory, first, c);
+        return put_word(cells, e.cell, 44, memory + 16 + 2 * node.n, e.wire);
+    }
     let second = program::next(ends, program.len() / 4, first);
     let e = put_expr(cells, program, ends, memory, first, c);
     let f = put_expr(cells, program, ends, memory, second, e.cell);
@@ -92,7 +106,7 @@ fn put_expr(
 
 // An if's own delay cell, unless its delay is 0.
 fn put_own(cells: &mut [u8], delay: u8, start: u16, d: u16) -> Pulse
-    requires { ⌜ (d < 619) × (6 * d + 6 ≤ length (now cells)) ⌝ }
+    requires { ⌜ (d < 627) × (6 * d + 6 ≤ length (now cells)) ⌝ }
     ensures { λ r. ⌜ Owned delay start d (now (cells .entry)) (now (cells .exit)) r ⌝ }
 {
     if delay == 0 {
@@ -127,10 +141,39 @@ fn put_switches(
     e.cell
 }
 
-// Expression, kind 41 on the first delay. The second delay is fed by the first.
+// An assignment's delay cells, the second fed by the first, and its marks; its walk ends below a cell.
+fn put_delays(
+    cells: &mut [u8],
+    marks: &mut [u16; 800],
+    at: Place,
+    delay: u8,
+    own: Assigned,
+    next: u16,
+) -> Place
+    requires { ⌜ (6 * (at .delay + 2) ≤ length (now cells)) × (length (now cells) ≤ 3762) × (at .mark + 4 ≤ 800) ⌝ }
+    ensures cells { λ _. ⌜ now (cells .exit) ≡ write (at .delay) (cell 34 delay (at .wire) 0 ∷ cell 34 1 (at .delay) 0 ∷ []) (now (cells .entry)) ⌝ }
+    ensures marks { λ _. ⌜ now (marks .exit) ≡ sets (now (marks .entry)) (at .mark) (own .variable ∷ at .delay ∷ own .data ∷ own .address ∷ []) ⌝ }
+    ensures place { λ r. ⌜ r ≡ place (at .delay + 1) (at .delay + 2) next (at .mark + 4) ⌝ }
+{
+    put(cells, at.delay, 34, delay, at.wire, 0);
+    put(cells, at.delay + 1, 34, 1, at.delay, 0);
+    let k = at.mark;
+    marks[k] = own.variable;
+    marks[k + 1] = at.delay;
+    marks[k + 2] = own.data;
+    marks[k + 3] = own.address;
+    Place {
+        wire: at.delay + 1,
+        delay: at.delay + 2,
+        cell: next,
+        mark: k + 4,
+    }
+}
+
+// Expression, kind 41 on the first delay. A variable has no address: its mark is 0, and never read.
 fn put_assign(
     cells: &mut [u8],
-    marks: &mut [u16; 600],
+    marks: &mut [u16; 800],
     program: &[u8],
     ends: &[usize; 200],
     memory: u16,
@@ -143,24 +186,46 @@ fn put_assign(
 {
     let e = put_expr(cells, program, ends, memory, first, at.cell);
     put(cells, e.cell, 41, 0, at.delay, e.wire);
-    put(cells, at.delay, 34, node.delay, at.wire, 0);
-    put(cells, at.delay + 1, 34, 1, at.delay, 0);
-    let k = at.mark;
-    marks[k] = node.n;
-    marks[k + 1] = at.delay;
-    marks[k + 2] = e.cell;
-    Place {
-        wire: at.delay + 1,
-        delay: at.delay + 2,
-        cell: e.cell + 1,
-        mark: k + 3,
-    }
+    let own = Assigned {
+        variable: node.n,
+        data: e.cell,
+        address: 0,
+    };
+    put_delays(cells, marks, at, node.delay, own, e.cell + 1)
+}
+
+// Index, value, then kind 41 of the value and of the index.
+fn put_element(
+    cells: &mut [u8],
+    marks: &mut [u16; 800],
+    program: &[u8],
+    ends: &[usize; 200],
+    memory: u16,
+    first: usize,
+    second: usize,
+    at: Place,
+    node: Node,
+) -> Place
+    requires { ⌜ Laid (now program) (now ends) × Ready memory (assignElem (node .delay) (node .n) (exprAt (now program) first) (exprAt (now program) second)) at (length (now cells)) ⌝ }
+    ensures { λ r. ⌜ Done memory (assignElem (node .delay) (node .n) (exprAt (now (program .entry)) first) (exprAt (now (program .entry)) second)) at (now (cells .entry)) (now (cells .exit)) (now (marks .entry)) (now (marks .exit)) r ⌝ }
+{
+    let index = put_expr(cells, program, ends, memory, first, at.cell);
+    let value = put_expr(cells, program, ends, memory, second, index.cell);
+    let address = value.cell + 1;
+    put(cells, value.cell, 41, 0, at.delay, value.wire);
+    put(cells, address, 41, 0, at.delay, index.wire);
+    let own = Assigned {
+        variable: 16 + node.n,
+        data: value.cell,
+        address,
+    };
+    put_delays(cells, marks, at, node.delay, own, address + 1)
 }
 
 // The cells of the statement at node i, from a place on; answers the place after it, with the wire of its finish.
 pub fn put_stmt(
     cells: &mut [u8],
-    marks: &mut [u16; 600],
+    marks: &mut [u16; 800],
     program: &[u8],
     ends: &[usize; 200],
     memory: u16,
@@ -208,6 +273,7 @@ pub fn put_stmt(
             )
         }
         22 => put_while(cells, marks, program, ends, memory, first, second, at, d),
+        24 => put_element(cells, marks, program, ends, memory, first, second, at, node),
         _ => put_repeat(cells, marks, program, ends, memory, first, second, at, d),
     }
 }
@@ -215,7 +281,7 @@ pub fn put_stmt(
 // Q starts with P's finish.
 fn put_seq(
     cells: &mut [u8],
-    marks: &mut [u16; 600],
+    marks: &mut [u16; 800],
     program: &[u8],
     ends: &[usize; 200],
     memory: u16,
@@ -233,7 +299,7 @@ fn put_seq(
 // P, Q, 38.
 fn put_par(
     cells: &mut [u8],
-    marks: &mut [u16; 600],
+    marks: &mut [u16; 800],
     program: &[u8],
     ends: &[usize; 200],
     memory: u16,
@@ -264,7 +330,7 @@ fn put_par(
 // Expression, 36, 37, P, Q, 35 of the two finishes.
 fn put_if(
     cells: &mut [u8],
-    marks: &mut [u16; 600],
+    marks: &mut [u16; 800],
     program: &[u8],
     ends: &[usize; 200],
     memory: u16,
@@ -305,7 +371,7 @@ fn put_if(
 // Expression, 36 (starts P), 37 (finish), P, 35 of start and P's finish, which feeds the delay.
 fn put_while(
     cells: &mut [u8],
-    marks: &mut [u16; 600],
+    marks: &mut [u16; 800],
     program: &[u8],
     ends: &[usize; 200],
     memory: u16,
@@ -338,7 +404,7 @@ fn put_while(
 // Expression, 36 (finish), 37, 35 of start and that 37 (starts P), P, whose finish feeds the delay.
 fn put_repeat(
     cells: &mut [u8],
-    marks: &mut [u16; 600],
+    marks: &mut [u16; 800],
     program: &[u8],
     ends: &[usize; 200],
     memory: u16,

@@ -27,7 +27,7 @@ use Rattle.laws.specs.NetlistFile.Compiled.{compiled-accepted}
 use Rattle.simulator.specs.Fits.{Runs}
 
 -- A netlist has few cells
-pub few-cells : (options : Options) (program : List ℕ) → checkCall options program ≡ Accepted → length (netlist (programOf program)) ≤ 619
+pub few-cells : (options : Options) (program : List ℕ) → checkCall options program ≡ Accepted → length (netlist (programOf program)) ≤ 627
 few-cells options program e = fits (programOf program) (few-nodes options program e) .1
 
 -- the part of a list that a result was written over
@@ -62,29 +62,29 @@ module _ (options : Options) (program words : List ℕ) (budget : ℕ) (file sta
     at-budget b = rw (after-program, lt-ltb 1000000 budget b) refl
 
     module _ (b : budget ≤ 1000000) where
-      pub at-words : length words < 32 → refuse 14 0 ≡ verdict
-      at-words l = rw (after-program, le-ltb 1000000 budget b, lt-ltb (length words) 32 l) refl
+      pub at-words : length words < 544 → refuse 14 0 ≡ verdict
+      at-words l = rw (after-program, le-ltb 1000000 budget b, lt-ltb (length words) 544 l) refl
 
-      module _ (l : 32 ≤ length words) {n : ℕ} (count : n ≡ length (netlist (programOf program))) where
+      module _ (l : 544 ≤ length words) {n : ℕ} (count : n ≡ length (netlist (programOf program))) where
         file-size : length (compiledFile program) ≡ 512 * ((n + 83) / 84)
         file-size = file-length (netlist (programOf program)) (finish (programOf program)) ∙ ap (λ (n : ℕ). 512 * ((n + 83) / 84)) (sym count)
 
-        state-size : stateSize (cellsOf (compiledFile program)) ≡ 8 + 40 * n
+        state-size : stateSize (cellsOf (compiledFile program)) ≡ 8 + 40 * n + 512
         state-size =
             ap stateSize (cells-written (netlist (programOf program)) (finish (programOf program)) (omega (arith, net-length (programOf program))))
-            ∙ ap (λ (n : ℕ). 8 + 40 * n) (sym count)
+            ∙ ap (λ (n : ℕ). 8 + 40 * n + 512) (sym count)
 
         pub at-file : length file < 512 * ((n + 83) / 84) → refuse 14 0 ≡ verdict
-        at-file s = rw (after-program, le-ltb 1000000 budget b, le-ltb (length words) 32 l, file-size, lt-ltb (length file) _ s) refl
+        at-file s = rw (after-program, le-ltb 1000000 budget b, le-ltb (length words) 544 l, file-size, lt-ltb (length file) _ s) refl
 
         module _ (s : 512 * ((n + 83) / 84) ≤ length file) where
-          pub at-state : length state < 8 + 40 * n → refuse 14 0 ≡ verdict
+          pub at-state : length state < 8 + 40 * n + 512 → refuse 14 0 ≡ verdict
           at-state t =
-              rw (after-program, le-ltb 1000000 budget b, le-ltb (length words) 32 l, file-size, le-ltb (length file) _ s, state-size, lt-ltb (length state) _ t) refl
+              rw (after-program, le-ltb 1000000 budget b, le-ltb (length words) 544 l, file-size, le-ltb (length file) _ s, state-size, lt-ltb (length state) _ t) refl
 
-          pub at-none : 8 + 40 * n ≤ length state → Accepted ≡ verdict
+          pub at-none : 8 + 40 * n + 512 ≤ length state → Accepted ≡ verdict
           at-none t =
-              rw (after-program, le-ltb 1000000 budget b, le-ltb (length words) 32 l, file-size, le-ltb (length file) _ s, state-size, le-ltb (length state) _ t) refl
+              rw (after-program, le-ltb 1000000 budget b, le-ltb (length words) 544 l, file-size, le-ltb (length file) _ s, state-size, le-ltb (length state) _ t) refl
 
   -- A run that is not refused ------------------------------------------------------------------------------------------------------------
 
@@ -94,7 +94,7 @@ module _ (options : Options) (program words : List ℕ) (budget : ℕ) (file sta
   pub record Ready : Type 0 where
     pub accepted : checkCall options program ≡ Accepted
     pub few : budget ≤ 1000000
-    pub start : 32 ≤ length words
+    pub start : 544 ≤ length words
     pub fits : length (compiledFile program) ≤ length file
     pub room : stateSize (cellsOf (compiledFile program)) ≤ length state
 
@@ -105,7 +105,7 @@ module _ (options : Options) (program words : List ℕ) (budget : ℕ) (file sta
       record {
         accepted = accept-take 2 checks e;
         few = ltb-false 1000000 budget (refuse-unless (ltb 1000000 budget) 13 0 (a 2));
-        start = long-enough (length words) 32 (a 3);
+        start = long-enough (length words) 544 (a 3);
         fits = long-enough (length file) (length (compiledFile program)) (a 4);
         room = long-enough (length state) (stateSize (cellsOf (compiledFile program))) (a 5);
       }

@@ -50,7 +50,7 @@ module _ (options : Options) (text words : List ℕ) (n : ℕ) (forFile lent : L
       let file = compiledFile (textProgram text) in
       let first-is : first (runTextChecks options text words n forFile lent) ≡ Refused r =
       rw a (parse-refuses text (options .times) r
-      (overBudget n ∷ short (length words) 32 ∷ short (length forFile) (length file) ∷ short (length lent) (stateSize (cellsOf file)) ∷ []) e) in
+      (overBudget n ∷ short (length words) 544 ∷ short (length forFile) (length file) ∷ short (length lent) (stateSize (cellsOf file)) ∷ []) e) in
       ap (λ (c : Checked).
       let s = running c file (fullState file words n lent) (fullCount file words n lent) lent in
       record { answer = s .answer; netlist = writing c file (length file) 0 forFile .lent; state = s .lent })

@@ -9,6 +9,7 @@ use model::Options;
 use model::sizes::BLOCK;
 use model::sizes::BLOCK_CELLS;
 use model::sizes::BLOCK_LAST;
+use model::sizes::ELEMENTS;
 use model::sizes::LAST_INSTANT;
 use model::sizes::START_WORDS;
 use model::sizes::STATE_CELL;
@@ -39,7 +40,7 @@ fn check(
     if netlist.len() < BLOCK * ((n + BLOCK_LAST) / BLOCK_CELLS) {
         return simulator::checks::refuse(14);
     }
-    if state.len() < STATE_HEADER + STATE_CELL * n {
+    if state.len() < STATE_HEADER + STATE_CELL * n + ELEMENTS {
         return simulator::checks::refuse(14);
     }
     Checked::Accepted

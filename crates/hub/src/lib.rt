@@ -55,7 +55,7 @@ pub fn read_netlist(file: &[u8], cells: &mut [u8]) -> Written
     netlist::read_netlist(file, cells)
 }
 
-// The netlist's instant 0, from 32 bytes of start words.
+// The netlist's instant 0, from 544 bytes of start words.
 pub fn begin(netlist: &[u8], words: &[u8], state: &mut [u8]) -> Answer
     ensures answer { λ r. ⌜ r ≡ beginCall (now (netlist .entry)) (now (words .entry)) (now (state .entry)) .answer ⌝ }
     ensures lent { λ _. ⌜ now (state .exit) ≡ beginCall (now (netlist .entry)) (now (words .entry)) (now (state .entry)) .lent ⌝ }

@@ -12,7 +12,9 @@ ghost use Rattle.model.specs.Hubrun.{decimal, line, textOf, hubrunText};
 use model::Answer;
 use model::Outcome;
 use model::sizes::FILE_MOST;
+use model::sizes::START_WORDS;
 use model::sizes::STATE_MOST;
+use model::sizes::VARIABLES;
 
 // A word as a number: a cast of an element, apart from its index.
 fn wide(word: u16) -> usize
@@ -61,19 +63,30 @@ pub fn answer_text(answer: Answer, out: &mut [u8; 512]) -> usize
     }
 }
 
+// The 272 start words: those of the sixteen variables are given, the elements start at 0.
+fn start_words(given: &[u8]) -> [u8; 544]
+    requires { ⌜ length (now given) ≡ 32 ⌝ }
+    ensures { λ r. ⌜ r ≡ now (given .entry) ++ replicate 512 0 ⌝ }
+{
+    let mut words = [0u8; START_WORDS];
+    word::put_bytes(&mut words, 0, given);
+    words
+}
+
 // The full run that an input asks for: 32 bytes of start words, a budget of four bytes, a program.
 fn run(input: &[u8]) -> Answer
     requires { ⌜ 36 ≤ length (now input) ⌝ }
-    ensures { λ r. ⌜ r ≡ runProgramCall defaults (drop 36 (now (input .entry))) (take 32 (now (input .entry))) (get32 (now (input .entry)) 32) (replicate 6656 0) (replicate 40968 0) .answer ⌝ }
+    ensures { λ r. ⌜ r ≡ runProgramCall defaults (drop 36 (now (input .entry))) (take 32 (now (input .entry)) ++ replicate 512 0) (get32 (now (input .entry)) 32) (replicate 6656 0) (replicate 41480 0) .answer ⌝ }
 {
-    let budget = word::get32(input, 32);
+    let budget = word::get32(input, VARIABLES);
+    let words = start_words(&input[..VARIABLES]);
     let mut netlist = [0u8; FILE_MOST];
     let mut state = [0u8; STATE_MOST];
     let options = hub::defaults();
     hub::run_program(
         options,
         &input[36..],
-        &input[..32],
+        &words,
         budget,
         &mut netlist,
         &mut state,

@@ -1,6 +1,7 @@
 -- Netlist files are read as they were written.
 pub mod Uses
 pub mod Passed
+pub mod Arrays
 pub mod CellBytes
 pub mod RunningSum
 pub mod Blocks

@@ -3,6 +3,7 @@ pub mod Cells
 pub mod Lengths
 pub mod Memories
 pub mod Parts
+pub mod Arrays
 pub mod Count
 pub mod Valid
 pub mod Compiled

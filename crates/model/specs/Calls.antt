@@ -104,7 +104,7 @@ readCall file lent = writing (first (readChecks file lent)) (cellBytes (cellsOf 
 
 -- Runs on a netlist --------------------------------------------------------------------------------------------------------------------
 
--- the start words, in 32 bytes
+-- the start words, in 544 bytes: "The 256 follow the sixteen start words"
 abbrev pub wordAt : List ℕ → Store
 wordAt words x = get16 words (2 * x)
 
@@ -130,7 +130,7 @@ running (Checked.Refused r) file s n lent = record { answer = refusedAnswer r; l
 
 -- beginning: 9 to 12, 14
 abbrev pub beginChecks : List ℕ → List ℕ → List ℕ → List Checked
-beginChecks file words lent = fileCheck file ∷ short (length words) 32 ∷ short (length lent) (stateSize (cellsOf file)) ∷ []
+beginChecks file words lent = fileCheck file ∷ short (length words) 544 ∷ short (length lent) (stateSize (cellsOf file)) ∷ []
 
 unfoldable pub beginCall : List ℕ → List ℕ → List ℕ → Returned Answer
 beginCall file words lent = running (first (beginChecks file words lent)) file (beginState (cellsOf file) (wordAt words) lent) 1 lent
@@ -168,7 +168,7 @@ overBudget n = refuseIf (ltb 1000000 n) 13 0
 -- a full run of a netlist: 9 to 12, 13, 14
 abbrev pub runNetlistChecks : List ℕ → List ℕ → ℕ → List ℕ → List Checked
 runNetlistChecks file words n lent =
-    fileCheck file ∷ overBudget n ∷ short (length words) 32 ∷ short (length lent) (stateSize (cellsOf file)) ∷ []
+    fileCheck file ∷ overBudget n ∷ short (length words) 544 ∷ short (length lent) (stateSize (cellsOf file)) ∷ []
 
 unfoldable pub runNetlistCall : List ℕ → List ℕ → ℕ → List ℕ → Returned Answer
 runNetlistCall file words n lent =
@@ -185,7 +185,7 @@ fullRunChecks times program words n forFile lent =
     let file = compiledFile program in
     checkOf times program
     ∷ overBudget n
-    ∷ short (length words) 32
+    ∷ short (length words) 544
     ∷ short (length forFile) (length file)
     ∷ short (length lent) (stateSize (cellsOf file))
     ∷ []
@@ -220,7 +220,7 @@ answering (Checked.Refused r) a = refusedAnswer r
 
 -- a reference run: 19 to 21, 1 to 8, 13, 14
 abbrev pub referenceChecks : Options → List ℕ → List ℕ → ℕ → List Checked
-referenceChecks options program words n = options .checked ∷ checkOf (options .times) program ∷ overBudget n ∷ short (length words) 32 ∷ []
+referenceChecks options program words n = options .checked ∷ checkOf (options .times) program ∷ overBudget n ∷ short (length words) 544 ∷ []
 
 unfoldable pub referenceCall : Options → List ℕ → List ℕ → ℕ → Answer
 referenceCall options program words n =

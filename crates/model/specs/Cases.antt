@@ -1,6 +1,6 @@
--- The paper's cases 1 to 12, but for the two runs that stay open: rows of one table. The rows by the rules alone are proved here, by
--- computation; that every row holds on the circuit too is `cases-hold` in theory/Promises/Cases, through the theorem that full run and rules agree,
--- because a state of forty bytes for each cell is too long to be computed here. Assumes nothing.
+-- The paper's cases 1 to 12, but for the two runs that stay open, and rows of our own on arrays: rows of one table. The rows by the rules
+-- alone are proved here, by computation; that every row holds on the circuit too is `cases-hold` in theory/Promises/Cases, through the theorem
+-- that full run and rules agree, because a state of forty bytes for each cell is too long to be computed here. Assumes nothing.
 use mathlib.Core.Path.{_≡_, refl}
 use mathlib.Core.List.{List, [], _∷_, _++_, map}
 use Prim.Native.Nat.{ℕ, zero, suc, _+_, _*_, _/_, _%_, _≤_}
@@ -13,10 +13,10 @@ use Rattle.model.specs.declared.Outcome.the-variants.{Ended}
 use Rattle.model.specs.declared.Written.{Written}
 use Rattle.model.specs.declared.Written.the-variants.{Done}
 use Rattle.model.specs.declared.Answer.{Answer}
-use Rattle.model.specs.Word.{bit, operate, get16, bytes16}
+use Rattle.model.specs.Word.{bit, operate, elementWord, get16, bytes16}
 use Rattle.model.specs.Refusals.{refuse, firstFault}
-use Rattle.model.specs.Program.{programOf, nodeAt, nodesFrom, nodeBytes, rowOf, asExpr, asStmt, exprOf, stmtOf, treeOf, grow, forest, treesAt, exprAt, stmtAt, preorderE, preorder, time, builtInTimes, least, reads, writes, touches, conflict, conflicts, programLengthWrong, unusedSet, nodeFault, children, reading, delayFault, conflictFault, checkOf}
-use Rattle.model.specs.Rules.{eval, put, over, kept, after, wait, chain, both, whiles, repeats, run}
+use Rattle.model.specs.Program.{programOf, nodeAt, nodesFrom, nodeBytes, rowOf, asExpr, asStmt, exprOf, stmtOf, treeOf, grow, forest, treesAt, exprAt, stmtAt, preorderE, preorder, time, builtInTimes, least, reads, writes, touches, conflict, conflicts, programLengthWrong, unusedSet, absent, nodeFault, children, reading, delayFault, conflictFault, checkOf}
+use Rattle.model.specs.Rules.{owner, eval, put, over, kept, after, wait, chain, both, whiles, repeats, run}
 use Rattle.model.specs.Numbering.{netlist, finish}
 use Rattle.model.specs.NetlistFile.{blocksFor, cellsOf}
 use Rattle.model.specs.TimeTables.{load, defaults}
@@ -38,7 +38,7 @@ repeated (suc n) s = s ++ repeated n s
 
 -- whoever unfolds this unfolds all that a program is checked by
 unfoldable pub checkOfProgram : List ℕ → Checked
-unfolding get16 firstFault nodeAt nodesFrom rowOf asExpr asStmt exprOf stmtOf treeOf grow forest treesAt exprAt stmtAt time builtInTimes least reads writes touches conflict conflicts programLengthWrong unusedSet nodeFault children reading delayFault conflictFault checkOf load checkCall repeated nodeBytes bytes16 preorderE preorder
+unfolding get16 firstFault nodeAt nodesFrom rowOf asExpr asStmt exprOf stmtOf treeOf grow forest treesAt exprAt stmtAt time builtInTimes least reads writes touches conflict conflicts programLengthWrong unusedSet absent nodeFault children reading delayFault conflictFault checkOf load checkCall repeated nodeBytes bytes16 preorderE preorder
 checkOfProgram s = checkCall defaults s
 
 -- x0 := x0 + n, and x0 := x0 − 1 with d 17
@@ -66,7 +66,7 @@ unfoldable pub cases : List Case
 cases =
     ends (raw 16 0 0) 0 10 0 0  -- 1
     ∷ ends (raw 18 1 0 ++ raw 1 0 5) 0 10 2 5  -- 2
-    ∷ compiles (raw 18 1 0 ++ raw 1 0 5) 23 4
+    ∷ compiles (raw 18 1 0 ++ raw 1 0 5) 31 4
     ∷ prints (raw 18 1 0 ++ raw 1 0 5) 0 10 "end 2\n5 0 0 0 0 0 0 0 0 0 0 0 0 0 0 0\n"
     ∷ ends (raw 19 0 0 ++ adding 16 3 ++ adding 16 4) 0 100 34 7  -- 3
     ∷ refuses (raw 19 0 0 ++ adding 16 3 ++ adding 15 4) 7 5
@@ -83,14 +83,22 @@ cases =
     ∷ refuses [] 1 0
     ∷ refuses (repeated 201 (raw 16 0 0)) 1 0
     ∷ passes (repeated 99 (raw 19 0 0) ++ raw 18 1 0 ++ raw 1 0 0 ++ repeated 99 (raw 16 0 0))
+    -- arrays: a1[x0] := 7; x0 := a1[67], from 3
+    ∷ ends (raw 19 0 0 ++ raw 24 1 1 ++ raw 2 0 0 ++ raw 1 0 7 ++ raw 18 4 0 ++ raw 10 0 1 ++ raw 1 0 67) 3 100 7 7
+    ∷ refuses (raw 24 1 4 ++ raw 1 0 0 ++ raw 1 0 0) 4 0  -- array 4
+    ∷ refuses (raw 24 3 0 ++ raw 1 0 0 ++ raw 10 0 0 ++ raw 1 0 0) 7 0  -- a0[0] := a0[0], d 3
+    ∷ refuses (raw 20 0 0 ++ raw 24 1 0 ++ raw 1 0 0 ++ raw 1 0 1 ++ raw 18 4 0 ++ raw 10 0 0 ++ raw 1 0 1) 8 0  -- a0[0] := 1 || x0 := a0[1]
     ∷ []
 
--- 32 bytes of start words with word 0 given, hubrun's input, and what a run that ends answers
+-- the sixteen start words with word 0 given, all 272, hubrun's input, and what a run that ends answers
+abbrev pub sixteen : ℕ → List ℕ
+sixteen v = v % 256 ∷ v / 256 ∷ replicate 30 0
+
 abbrev pub start : ℕ → List ℕ
-start v = v % 256 ∷ v / 256 ∷ replicate 30 0
+start v = sixteen v ++ replicate 512 0
 
 abbrev pub hubrunInput : List ℕ → ℕ → ℕ → List ℕ
-hubrunInput p v n = start v ++ (n % 256 ∷ n / 256 ∷ 0 ∷ 0 ∷ p)
+hubrunInput p v n = sixteen v ++ (n % 256 ∷ n / 256 ∷ 0 ∷ 0 ∷ p)
 
 abbrev pub endAnswer : ℕ → ℕ → Answer
 endAnswer t w = record { outcome = Ended; instant = t; count = t + 1; words = w ∷ replicate 15 0 }
@@ -121,7 +129,7 @@ wanted (passes p) = checked Accepted
 -- what the calls that go through the circuit give, with whatever is lent; and hubrun, which has buffers of its own
 unfoldable pub OnCircuit : Case → Type 0
 OnCircuit (ends p v n t w) =
-    (forFile forState : List ℕ) → 6656 ≤ length forFile → 40968 ≤ length forState
+    (forFile forState : List ℕ) → 6656 ≤ length forFile → 41480 ≤ length forState
     → runProgramCall defaults p (start v) n forFile forState .answer ≡ endAnswer t w
 OnCircuit (refuses p k i) =
     (lent : List ℕ) → compileCall defaults p lent ≡ record { answer = Written.Refused (record { number = k; place = i }); lent = lent }
@@ -139,5 +147,5 @@ Hold [] = Unit {0}
 Hold (c ∷ cs) = (computed c ≡ wanted c) × OnCircuit c × Hold cs
 
 pub cases-by-rules : map computed cases ≡ map wanted cases
-unfolding cases computed wanted checkOfProgram numbering bit operate eval put over kept after wait chain both whiles repeats run listed referenceAnswer answering referenceCall digits line linesOf
+unfolding cases computed wanted checkOfProgram numbering bit operate elementWord owner eval put over kept after wait chain both whiles repeats run listed referenceAnswer answering referenceCall digits line linesOf
 cases-by-rules = refl

@@ -2,16 +2,16 @@
 use mathlib.Core.Path.{_≡_}
 use mathlib.Core.Bool.{Bool, true, false, _&&_, _||_, not}
 use mathlib.Core.List.{List, [], _∷_}
-use Prim.Native.Nat.{ℕ, zero, suc, _+_, _-_, _<_}
+use Prim.Native.Nat.{ℕ, zero, suc, _+_, _-_, _*_, _<_}
 use lib.Dec.{eqb, leb}
 use lib.ListN.{length, getD, take}
 use Rattle.model.specs.declared.Cell.{Cell}
 use Rattle.model.specs.declared.kinds.CellRow.{CellRow}
 use Rattle.model.specs.declared.kinds.Use.{Use}
-use Rattle.model.specs.declared.kinds.Use.the-variants.{Unknown, Unused, Value, Positive, ControlBelow, ControlAny, WordBelow, WordAny}
+use Rattle.model.specs.declared.kinds.Use.the-variants.{Unknown, Unused, Value, Positive, ControlBelow, ControlAny, WordBelow, WordAny, ArrayBelow}
 use Rattle.model.specs.declared.Merge.{Merge}
 use Rattle.model.specs.declared.Merged.{Merged}
-use Rattle.model.specs.Word.{pick, bit, isZero, operate}
+use Rattle.model.specs.Word.{pick, bit, isZero, operate, index, elementWord}
 
 -- "Cells have 6 bytes: kind, delay, two-byte a, two-byte b"
 abbrev pub cell : ℕ → ℕ → ℕ → ℕ → Cell
@@ -28,7 +28,7 @@ cellAt net k = getD net k noCell
 
 -- what a kind's number makes a cell do; kUnknown is for the numbers that are no kind
 pub data Shape : Type 0 where
-  kConstant kComplement kOperator kStart kGround kDelay kOr kWhenTrue kWhenFalse kMerge kMemory kGated kUnknown : Shape
+  kConstant kComplement kOperator kStart kGround kDelay kOr kWhenTrue kWhenFalse kMerge kMemory kGated kArray kAddress kRead kUnknown : Shape
 
 -- the kinds of a shape, from the first number to the last, and their row
 pub record CellKinds : Type 0 where
@@ -44,7 +44,8 @@ line first last r = record { first = first; last = last; row = r }
 
 -- the numbers of the kinds, whether they are control wires, and what delay, a and b are. "Kinds 32 to 38 are control wires (0 or 1), the others
 -- word wires." "fields without a use are zero". "34 delay, d from 1 to 255". "All inputs name lower cells, except a delay's a and a memory's b,
--- which may name any cell of the right sort." kUnknown has no numbers.
+-- which may name any cell of the right sort." "b of 42 and a of 43 may name any cell of the right sort". "Every read is a kind 44 (a the 42, b the
+-- index)". Which array a 42's delay is goes by its place. kUnknown has no numbers.
 unfoldable pub cellTable : Shape → CellKinds
 cellTable kConstant = line 1 1 (row false Unused Value Unused)
 cellTable kComplement = line 3 3 (row false Unused WordBelow Unused)
@@ -58,11 +59,15 @@ cellTable kWhenFalse = line 37 37 (row true Unused ControlBelow WordBelow)
 cellTable kMerge = line 38 38 (row true Unused ControlBelow ControlBelow)
 cellTable kMemory = line 40 40 (row false Unused ControlBelow WordAny)
 cellTable kGated = line 41 41 (row false Unused ControlBelow WordBelow)
+cellTable kArray = line 42 42 (row false Value ControlBelow WordAny)
+cellTable kAddress = line 43 43 (row false Unused WordAny Unused)
+cellTable kRead = line 44 44 (row false Unused ArrayBelow WordBelow)
 cellTable kUnknown = line 1 0 (row false Unknown Unknown Unknown)
 
 abbrev pub shapes : List Shape
 shapes =
-    kConstant ∷ kComplement ∷ kOperator ∷ kStart ∷ kGround ∷ kDelay ∷ kOr ∷ kWhenTrue ∷ kWhenFalse ∷ kMerge ∷ kMemory ∷ kGated ∷ []
+    kConstant ∷ kComplement ∷ kOperator ∷ kStart ∷ kGround ∷ kDelay ∷ kOr ∷ kWhenTrue ∷ kWhenFalse ∷ kMerge ∷ kMemory ∷ kGated
+    ∷ kArray ∷ kAddress ∷ kRead ∷ []
 
 abbrev pub hasKind : Shape → ℕ → Bool
 hasKind sh k = leb (cellTable sh .first) k && leb k (cellTable sh .last)
@@ -96,6 +101,7 @@ names ControlBelow = true
 names ControlAny = true
 names WordBelow = true
 names WordAny = true
+names ArrayBelow = true
 
 -- Signals ----------------------------------------------------------------------------------------------------------------------------
 
@@ -147,23 +153,40 @@ unfoldable pub memory : ℕ → Values → ℕ → Cell → ℕ → ℕ
 memory word₀ W k c zero = word₀
 memory word₀ W k c (suc t) = pick (falls W (c .a) t) (W (c .b) t) (W k t)
 
--- what cell k, which is c, shows at instant t; word₀ is its start word, if it is a memory. "32 start: 1 at instant 0, then 0. 33 ground: 0.
+-- E j i t is word i, at instant t, of the array whose kind 42 is cell j
+abbrev pub Elements : Type 0
+Elements = ℕ → ℕ → ℕ → ℕ
+
+-- "A write uses address and data of the instant before the clock falls.": word i of the array whose kind 42 is cell j, with its clock and data,
+-- and next to it kind 43 with its address. At instant 0, the start word.
+unfoldable pub element : List Cell → (ℕ → ℕ) → Values → Elements
+element net words W j i zero = words (elementWord (cellAt net j .delay) i)
+element net words W j i (suc t) =
+    let c = cellAt net j in
+    let address = cellAt net (j + 1) .a in
+    pick (falls W (c .a) t && eqb i (index (W address t))) (W (c .b) t) (element net words W j i t)
+
+-- what cell k, which is c, shows at instant t; word₀ is its start word, if it is a memory, and E tells the words of arrays. "32 start: 1 at instant 0, then 0. 33 ground: 0.
 -- 1: constant a." "3 to 9: the operators on words a, and b where there are two." "35: control a or control b." "36: 1 when control a is 1 and
--- word b isn't zero. 37: when a is 1 and b is zero." "41: word b when control a is 1, else 0."
-unfoldable pub equation : Shape → ℕ → Values → ℕ → Cell → ℕ → ℕ
-equation kConstant word₀ W k c t = c .a
-equation kComplement word₀ W k c t = operate 3 (W (c .a) t) 0
-equation kOperator word₀ W k c t = operate (c .kind) (W (c .a) t) (W (c .b) t)
-equation kStart word₀ W k c t = bit (eqb t 0)
-equation kGround word₀ W k c t = 0
-equation kDelay word₀ W k c t = bit (delayed (c .delay) (level W (c .a)) t)
-equation kOr word₀ W k c t = bit (level W (c .a) t || level W (c .b) t)
-equation kWhenTrue word₀ W k c t = bit (level W (c .a) t && not (isZero (W (c .b) t)))
-equation kWhenFalse word₀ W k c t = bit (level W (c .a) t && isZero (W (c .b) t))
-equation kMerge word₀ W k c t = bit (merged (level W (c .a)) (level W (c .b)) t)
-equation kMemory word₀ W k c t = memory word₀ W k c t
-equation kGated word₀ W k c t = pick (level W (c .a) t) (W (c .b) t) 0
-equation kUnknown word₀ W k c t = 0
+-- word b isn't zero. 37: when a is 1 and b is zero." "41: word b when control a is 1, else 0." 42 and 43: "both kinds show 0". "Every read is a
+-- kind 44 (a the 42, b the index)".
+unfoldable pub equation : Shape → ℕ → Elements → Values → ℕ → Cell → ℕ → ℕ
+equation kConstant word₀ E W k c t = c .a
+equation kComplement word₀ E W k c t = operate 3 (W (c .a) t) 0
+equation kOperator word₀ E W k c t = operate (c .kind) (W (c .a) t) (W (c .b) t)
+equation kStart word₀ E W k c t = bit (eqb t 0)
+equation kGround word₀ E W k c t = 0
+equation kDelay word₀ E W k c t = bit (delayed (c .delay) (level W (c .a)) t)
+equation kOr word₀ E W k c t = bit (level W (c .a) t || level W (c .b) t)
+equation kWhenTrue word₀ E W k c t = bit (level W (c .a) t && not (isZero (W (c .b) t)))
+equation kWhenFalse word₀ E W k c t = bit (level W (c .a) t && isZero (W (c .b) t))
+equation kMerge word₀ E W k c t = bit (merged (level W (c .a)) (level W (c .b)) t)
+equation kMemory word₀ E W k c t = memory word₀ W k c t
+equation kGated word₀ E W k c t = pick (level W (c .a) t) (W (c .b) t) 0
+equation kArray word₀ E W k c t = 0
+equation kAddress word₀ E W k c t = 0
+equation kRead word₀ E W k c t = E (c .a) (index (W (c .b) t)) t
+equation kUnknown word₀ E W k c t = 0
 
 -- "exactly sixteen are memories, in variable order": how many memories a list of cells has
 unfoldable pub memories : List Cell → ℕ
@@ -175,6 +198,16 @@ unfoldable pub memoryWords : List Cell → ℕ → (ℕ → ℕ) → List ℕ
 memoryWords [] k v = []
 memoryWords (c ∷ cs) k v = pick (eqb (c .kind) 40) (v k ∷ memoryWords cs (k + 1) v) (memoryWords cs (k + 1) v)
 
+-- "Right after the sixteenth memory": where the cells after n memories begin, which is the end of the list if there are fewer
+unfoldable pub pastMemories : List Cell → ℕ → ℕ
+pastMemories [] n = 0
+pastMemories (c ∷ cs) zero = 0
+pastMemories (c ∷ cs) (suc n) = suc (pastMemories cs (pick (eqb (c .kind) 40) n (suc n)))
+
+-- the kind 42 of array k, if the netlist keeps the rules
+abbrev pub arrayAt : List Cell → ℕ → ℕ
+arrayAt net k = pastMemories net 16 + 2 * k
+
 -- the start word of cell k, if it is a memory: that of the variable whose number is how many memories stand below k
 abbrev pub startWord : List Cell → (ℕ → ℕ) → ℕ → ℕ
 startWord net words k = words (memories (take k net))
@@ -182,4 +215,5 @@ startWord net words k = words (memories (take k net))
 -- W is what the cells show when they are run from these start words
 unfoldable pub Obeys : List Cell → (ℕ → ℕ) → Values → Type 0
 Obeys net words W =
-    (k : ℕ) → k < length net → (t : ℕ) → W k t ≡ equation (shape (cellAt net k .kind)) (startWord net words k) W k (cellAt net k) t
+    (k : ℕ) → k < length net → (t : ℕ)
+    → W k t ≡ equation (shape (cellAt net k .kind)) (startWord net words k) (element net words W) W k (cellAt net k) t

@@ -49,8 +49,9 @@ abbrev pub textOf : Answer → List ℕ
 textOf a = linesOf (a .outcome) (a .instant) (a .words)
 
 -- "reads 32 bytes of start words, a four-byte budget and a program"; "Input under 36 bytes is refusal 1, place 0." Its own buffers have
--- room for every netlist and state, and its operator times are the built-in ones.
+-- room for every netlist and state, and its operator times are the built-in ones. It starts the elements "at 0, unprinted".
 unfoldable pub hubrunText : List ℕ → List ℕ
 hubrunText input =
     pick (ltb (length input) 36) (textOf (refusedAnswer (record { number = 1; place = 0 })))
-    (textOf (runProgramCall defaults (drop 36 input) (take 32 input) (get32 input 32) (replicate 6656 0) (replicate 40968 0) .answer))
+    (textOf
+    (runProgramCall defaults (drop 36 input) (take 32 input ++ replicate 512 0) (get32 input 32) (replicate 6656 0) (replicate 41480 0) .answer))

@@ -10,10 +10,10 @@ use lib.ListN.{length, getD, take, drop, replicate}
 use Rattle.model.specs.declared.Cell.{Cell}
 use Rattle.model.specs.declared.Checked.{Checked}
 use Rattle.model.specs.declared.kinds.Use.{Use}
-use Rattle.model.specs.declared.kinds.Use.the-variants.{Unknown, Unused, Value, Positive, ControlBelow, ControlAny, WordBelow, WordAny}
+use Rattle.model.specs.declared.kinds.Use.the-variants.{Unknown, Unused, Value, Positive, ControlBelow, ControlAny, WordBelow, WordAny, ArrayBelow}
 use Rattle.model.specs.Word.{pick, get16, bytes16}
 use Rattle.model.specs.Refusals.{refuseIf, first, firstFault, faultIf}
-use Rattle.model.specs.Circuit.{cell, cellAt, cellRow, control, memories}
+use Rattle.model.specs.Circuit.{cell, cellAt, cellRow, control, memories, pastMemories}
 
 -- Cells in bytes -----------------------------------------------------------------------------------------------------------------------
 
@@ -46,7 +46,7 @@ wordSum [] = 0
 wordSum (x ∷ []) = x
 wordSum (x ∷ (y ∷ s)) = x + 256 * y + wordSum s
 
--- "Bytes 0–1 block number from 0; 2–3 the netlist's number of cells (19 to 1,024); 4–5 its finish cell, both the same in every block"
+-- "Bytes 0–1 block number from 0; 2–3 the netlist's number of cells (27 to 1,024); 4–5 its finish cell, both the same in every block"
 abbrev pub headBytes : ℕ → ℕ → ℕ → List ℕ
 headBytes number count finish = bytes16 number ++ (bytes16 count ++ bytes16 finish)
 
@@ -128,9 +128,9 @@ fileLengthWrong s = eqb (length s) 0 || (ltb 6656 (length s) || ltb 0 (length s 
 unfoldable pub sumFault : List ℕ → ℕ → ℕ
 sumFault s b = faultIf (not (eqb (wordSum (blockAt s b) % 65536) 0)) 10
 
--- "a wrong number of blocks for block 0's cell count, or a finish not below it: block 0"; the count is "19 to 1,024"
+-- "a wrong number of blocks for block 0's cell count, or a finish not below it: block 0"; the count is 27 to 1,024
 unfoldable pub countWrong : ℕ → ℕ → ℕ → Bool
-countWrong m count finish = not (leb 19 count && (leb count 1024 && (eqb m (blocksFor count) && ltb finish count)))
+countWrong m count finish = not (leb 27 count && (leb count 1024 && (eqb m (blocksFor count) && ltb finish count)))
 
 unfoldable pub allZero : List ℕ → Bool
 allZero [] = true
@@ -151,8 +151,15 @@ headerFault s b = faultIf (not (headerRight (countOf s) (finishOf s) b (blockAt 
 unfoldable pub controlIn : List Cell → ℕ → ℕ → Bool
 controlIn net lim j = ltb j lim && control (cellAt net j .kind)
 
+-- "nothing else names a 42 or 43": a cell that is one of an array's two
+unfoldable pub ofArray : ℕ → Bool
+ofArray k = eqb k 42 || eqb k 43
+
 unfoldable pub wordIn : List Cell → ℕ → ℕ → Bool
-wordIn net lim j = ltb j lim && not (control (cellAt net j .kind))
+wordIn net lim j = ltb j lim && not (control (cellAt net j .kind) || ofArray (cellAt net j .kind))
+
+unfoldable pub arrayIn : List Cell → ℕ → ℕ → Bool
+arrayIn net lim j = ltb j lim && eqb (cellAt net j .kind) 42
 
 -- whether v is what its use asks for, in cell k
 unfoldable pub kept : Use → List Cell → ℕ → ℕ → Bool
@@ -164,6 +171,7 @@ kept ControlBelow net k v = controlIn net k v
 kept ControlAny net k v = controlIn net (length net) v
 kept WordBelow net k v = wordIn net k v
 kept WordAny net k v = wordIn net (length net) v
+kept ArrayBelow net k v = arrayIn net k v
 
 -- whether cell k may have that kind: kinds 32 and 33 "stand nowhere else"
 unfoldable pub stands : ℕ → ℕ → Bool
@@ -182,17 +190,26 @@ placed k c =
     (pick (eqb k 1) (eqb (c .kind) 33)
     (pick (eqb k 2) (eqb (c .kind) 1 && eqb (c .a) 0) true))
 
+-- "Right after the sixteenth memory stand, in every netlist ... and nowhere else, array by array, kind 42 (delay the array ...) and next to it
+-- kind 43": cell k, where these cells begin at m
+unfoldable pub arrayPlaced : ℕ → ℕ → Cell → Bool
+arrayPlaced m k c =
+    pick (leb m k && ltb k (m + 8))
+    (pick (eqb ((k - m) % 2) 0) (eqb (c .kind) 42 && eqb (c .delay) ((k - m) / 2)) (eqb (c .kind) 43))
+    (not (ofArray (c .kind)))
+
 -- "12. Then a cell breaks a rule above (first cell"
 unfoldable pub cellFault : List Cell → ℕ → ℕ
 cellFault net k =
     let c = cellAt net k in
-    faultIf (not (placed k c && keeps net k c)) 12
+    faultIf (not (placed k c && (arrayPlaced (pastMemories net 16) k c && keeps net k c))) 12
 
--- "a wrong number of memories: the cell count; a finish on a word wire: that cell, last)"
+-- "a wrong number of memories: the cell count; a finish on a word wire: that cell, last)"; arrays that the end cuts off: "or the cell count"
 abbrev pub netChecks : List Cell → ℕ → List Checked
 netChecks net finish =
     firstFault (cellFault net) 0 (length net)
     ∷ refuseIf (not (eqb (memories net) 16)) 12 (length net)
+    ∷ refuseIf (ltb (length net) (pastMemories net 16 + 8)) 12 (length net)
     ∷ refuseIf (not (control (cellAt net finish .kind))) 12 finish
     ∷ []
 

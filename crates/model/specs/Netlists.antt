@@ -1,17 +1,18 @@
--- Netlists written out by hand from the paper's text, each with its finish: rows of one table, and one theorem that the numbering gives them.
--- Every kind of statement, an if with delay 0, a variable with three assignments, two variables with ors, complement.
+-- Netlists written out by hand from the papers' text, each with its finish: rows of one table, and one theorem that the numbering gives them.
+-- Every kind of statement, an if with delay 0, a variable with three assignments, two variables with ors, complement;
+-- an array with two element assignments.
 -- Assumes nothing.
 use mathlib.Core.Path.{_≡_, refl}
 use mathlib.Core.List.{List, [], _∷_, map}
-use Prim.Native.Nat.{ℕ, zero, suc}
+use Prim.Native.Nat.{ℕ, zero, suc, _+_}
 use Rattle.model.specs.declared.Cell.{Cell}
-use Rattle.model.specs.Program.{const, var, compl, op, Stmt, ok, tick, assign, seq, par, ite, while, repeat}
+use Rattle.model.specs.Program.{const, var, compl, op, elem, Stmt, ok, tick, assign, assignElem, seq, par, ite, while, repeat}
 use Rattle.model.specs.Circuit.{cell}
-use Rattle.model.specs.Numbering.{netlist, finish, exprCount, exprWire, exprCells, ifDelayCount, ifPulse, ifDelayCells, delayCount, walkCount, finishWire, delays, walk, clockSources, dataSources, wiresOf, orChain, orChainOut, ors, orsOut, orCount, orsFrom, outsFrom, orCountFrom, memoriesOf}
+use Rattle.model.specs.Numbering.{netlist, finish, exprCount, exprWire, exprCells, ifDelayCount, ifPulse, ifDelayCells, delayCount, walkCount, finishWire, delays, walk, clockSources, dataSources, addressSources, wiresOf, orChain, orChainOut, ors, orsOut, orCount, orsFrom, outsFrom, orCountFrom, memoriesOf, arraysOf}
 
 -- whoever unfolds this unfolds all that a netlist is made by
 unfoldable pub numbering : Stmt → List Cell
-unfolding netlist finish exprCount exprWire exprCells ifDelayCount ifPulse ifDelayCells delayCount walkCount finishWire delays walk clockSources dataSources wiresOf orChain orChainOut ors orsOut orCount orsFrom outsFrom orCountFrom memoriesOf
+unfolding netlist finish exprCount exprWire exprCells ifDelayCount ifPulse ifDelayCells delayCount walkCount finishWire delays walk clockSources dataSources addressSources wiresOf orChain orChainOut ors orsOut orCount orsFrom outsFrom orCountFrom memoriesOf arraysOf
 numbering P = netlist P
 
 -- a statement, and its netlist and finish drawn by hand
@@ -20,7 +21,7 @@ record Drawn : Type 0 where
   cells : List Cell
   end : ℕ
 
--- cells 0 to 2, and n memories of variables never assigned
+-- cells 0 to 2, n memories of variables never assigned, and the four arrays, never assigned
 abbrev pub front : List Cell → List Cell
 front l = cell 32 0 0 0 ∷ cell 33 0 0 0 ∷ cell 1 0 0 0 ∷ l
 
@@ -28,21 +29,33 @@ abbrev pub idle : ℕ → List Cell → List Cell
 idle zero l = l
 idle (suc n) l = cell 40 0 1 2 ∷ idle n l
 
--- Case 1, ok: the 19 cells that every netlist has; the finish is the start.
-case1 : Drawn
-case1 = record { program = ok; cells = front (idle 16 []); end = 0 }
+-- the two cells of array k, with its clock c, data d and address j
+abbrev pub array : ℕ → ℕ → ℕ → ℕ → List Cell → List Cell
+array k c d j l = cell 42 k c d ∷ cell 43 0 j 0 ∷ l
 
--- Case 2, x0 := 5, d 1. Delays 3 and 4; memories 5 to 20; 21 constant 5, 22 the 41 on 3.
+-- n arrays from k on, and all four, never assigned
+abbrev pub idleArrays : ℕ → ℕ → List Cell → List Cell
+idleArrays k zero l = l
+idleArrays k (suc n) l = array k 1 2 2 (idleArrays (k + 1) n l)
+
+abbrev pub arrays : List Cell → List Cell
+arrays l = idleArrays 0 4 l
+
+-- Case 1, ok: the 27 cells that every netlist has; the finish is the start.
+case1 : Drawn
+case1 = record { program = ok; cells = front (idle 16 (arrays [])); end = 0 }
+
+-- Case 2, x0 := 5, d 1. Delays 3 and 4; memories 5 to 20; 29 constant 5, 30 the 41 on 3.
 case2 : Drawn
 case2 =
     record {
       program = assign 1 0 (const 5);
-      cells = front (cell 34 1 0 0 ∷ cell 34 1 3 0 ∷ cell 40 0 3 22 ∷ idle 15 (cell 1 0 5 0 ∷ cell 41 0 3 21 ∷ []));
+      cells = front (cell 34 1 0 0 ∷ cell 34 1 3 0 ∷ cell 40 0 3 30 ∷ idle 15 (arrays (cell 1 0 5 0 ∷ cell 41 0 3 29 ∷ [])));
       end = 4;
     }
 
 -- Case 3, x0 := x0 + 3; x0 := x0 + 4, d 16 each. Delays 3 4, 5 6; clock or 7 of 3 and 5; memories 8 to 23.
--- Walk: 24 constant 3, 25 sum of 8 and 24, 26 the 41 on 3; 27 constant 4, 28 sum, 29 the 41 on 5. Data or 30 of 26 and 29.
+-- Walk: 32 constant 3, 33 sum of 8 and 32, 34 the 41 on 3; 35 constant 4, 36 sum, 37 the 41 on 5. Data or 38 of 34 and 37.
 case3 : Drawn
 case3 =
     record {
@@ -51,24 +64,24 @@ case3 =
           front
           (cell 34 16 0 0 ∷ cell 34 1 3 0 ∷ cell 34 16 4 0 ∷ cell 34 1 5 0
           ∷ cell 35 0 3 5
-          ∷ cell 40 0 7 30 ∷ idle 15
-          (cell 1 0 3 0 ∷ cell 4 0 8 24 ∷ cell 41 0 3 25
-          ∷ cell 1 0 4 0 ∷ cell 4 0 8 27 ∷ cell 41 0 5 28
-          ∷ cell 7 0 26 29 ∷ []));
+          ∷ cell 40 0 7 38 ∷ idle 15
+          (arrays (cell 1 0 3 0 ∷ cell 4 0 8 32 ∷ cell 41 0 3 33
+          ∷ cell 1 0 4 0 ∷ cell 4 0 8 35 ∷ cell 41 0 5 36
+          ∷ cell 7 0 34 37 ∷ [])));
       end = 6;
     }
 
--- Case 4, tick 3 parallel tick 5. Delays 3 and 4; memories 5 to 20; merge 21, the finish.
+-- Case 4, tick 3 parallel tick 5. Delays 3 and 4; memories 5 to 20; merge 29, the finish.
 case4 : Drawn
 case4 =
     record {
       program = par (tick 3) (tick 5);
-      cells = front (cell 34 3 0 0 ∷ cell 34 5 0 0 ∷ idle 16 (cell 38 0 3 4 ∷ []));
-      end = 21;
+      cells = front (cell 34 3 0 0 ∷ cell 34 5 0 0 ∷ idle 16 (arrays (cell 38 0 3 4 ∷ [])));
+      end = 29;
     }
 
 -- Case 6, while x0 (d 1) do x0 := x0 − 1 (d 17). Delay 3 of the while, 4 5 of the assignment; memories 6 to 21.
--- Walk: 22 the 36 of 3 and x0 (6), 23 the 37, the finish; 24 constant 1, 25 difference of 6 and 24, 26 the 41 on 4; 27 the 35 of the start
+-- Walk: 30 the 36 of 3 and x0 (6), 31 the 37, the finish; 32 constant 1, 33 difference of 6 and 32, 34 the 41 on 4; 35 the 35 of the start
 -- and 5, which feeds 3.
 case6 : Drawn
 case6 =
@@ -76,65 +89,65 @@ case6 =
       program = while 1 (var 0) (assign 17 0 (op 5 (var 0) (const 1)));
       cells =
           front
-          (cell 34 1 27 0 ∷ cell 34 17 22 0 ∷ cell 34 1 4 0
-          ∷ cell 40 0 4 26 ∷ idle 15
-          (cell 36 0 3 6 ∷ cell 37 0 3 6
-          ∷ cell 1 0 1 0 ∷ cell 5 0 6 24 ∷ cell 41 0 4 25
-          ∷ cell 35 0 0 5 ∷ []));
-      end = 23;
+          (cell 34 1 35 0 ∷ cell 34 17 30 0 ∷ cell 34 1 4 0
+          ∷ cell 40 0 4 34 ∷ idle 15
+          (arrays (cell 36 0 3 6 ∷ cell 37 0 3 6
+          ∷ cell 1 0 1 0 ∷ cell 5 0 6 32 ∷ cell 41 0 4 33
+          ∷ cell 35 0 0 5 ∷ [])));
+      end = 31;
     }
 
 -- Case 7, repeat x0 := x0 − 1 (d 17) until x0 = 0 (d 6). Delay 3 of the repeat, fed by 5; 4 5 of the assignment; memories 6 to 21.
--- Walk: 22 constant 0, 23 equal of 6 and 22, 24 the 36 on 3, the finish, 25 the 37, 26 the 35 of the start and 25, which starts P;
--- 27 constant 1, 28 difference of 6 and 27, 29 the 41 on 4.
+-- Walk: 30 constant 0, 31 equal of 6 and 30, 32 the 36 on 3, the finish, 33 the 37, 34 the 35 of the start and 33, which starts P;
+-- 35 constant 1, 36 difference of 6 and 35, 37 the 41 on 4.
 case7 : Drawn
 case7 =
     record {
       program = repeat 6 (op 8 (var 0) (const 0)) (assign 17 0 (op 5 (var 0) (const 1)));
       cells =
           front
-          (cell 34 6 5 0 ∷ cell 34 17 26 0 ∷ cell 34 1 4 0
-          ∷ cell 40 0 4 29 ∷ idle 15
-          (cell 1 0 0 0 ∷ cell 8 0 6 22
-          ∷ cell 36 0 3 23 ∷ cell 37 0 3 23 ∷ cell 35 0 0 25
-          ∷ cell 1 0 1 0 ∷ cell 5 0 6 27 ∷ cell 41 0 4 28 ∷ []));
-      end = 24;
+          (cell 34 6 5 0 ∷ cell 34 17 34 0 ∷ cell 34 1 4 0
+          ∷ cell 40 0 4 37 ∷ idle 15
+          (arrays (cell 1 0 0 0 ∷ cell 8 0 6 30
+          ∷ cell 36 0 3 31 ∷ cell 37 0 3 31 ∷ cell 35 0 0 33
+          ∷ cell 1 0 1 0 ∷ cell 5 0 6 35 ∷ cell 41 0 4 36 ∷ [])));
+      end = 32;
     }
 
 -- Case 8, if x0 (d 0) then tick 1 else tick 9. No delay cell of its own: 3 fed by the 36, 4 by the 37; memories 5 to 20.
--- Walk: 21 the 36 of the start and x0 (5), 22 the 37, 23 the 35 of the finishes.
+-- Walk: 29 the 36 of the start and x0 (5), 30 the 37, 31 the 35 of the finishes.
 case8 : Drawn
 case8 =
     record {
       program = ite 0 (var 0) (tick 1) (tick 9);
-      cells = front (cell 34 1 21 0 ∷ cell 34 9 22 0 ∷ idle 16 (cell 36 0 0 5 ∷ cell 37 0 0 5 ∷ cell 35 0 3 4 ∷ []));
-      end = 23;
+      cells = front (cell 34 1 29 0 ∷ cell 34 9 30 0 ∷ idle 16 (arrays (cell 36 0 0 5 ∷ cell 37 0 0 5 ∷ cell 35 0 3 4 ∷ [])));
+      end = 31;
     }
 
 -- Case 12, while x0 (d 1) do (x0 := x0 − 1, d 17, parallel tick 2). Delays 3 of the while, 4 5 of the assignment, 6 of the tick; memories 7
--- to 22. Walk: 23 the 36 of 3 and x0 (7), 24 the 37, the finish; 25 constant 1, 26 difference of 7 and 25, 27 the 41 on 4; 28 the merge of
--- 5 and 6; 29 the 35 of the start and 28, which feeds 3.
+-- to 22. Walk: 31 the 36 of 3 and x0 (7), 32 the 37, the finish; 33 constant 1, 34 difference of 7 and 33, 35 the 41 on 4; 36 the merge of
+-- 5 and 6; 37 the 35 of the start and 36, which feeds 3.
 case12 : Drawn
 case12 =
     record {
       program = while 1 (var 0) (par (assign 17 0 (op 5 (var 0) (const 1))) (tick 2));
       cells =
           front
-          (cell 34 1 29 0 ∷ cell 34 17 23 0 ∷ cell 34 1 4 0 ∷ cell 34 2 23 0
-          ∷ cell 40 0 4 27 ∷ idle 15
-          (cell 36 0 3 7 ∷ cell 37 0 3 7
-          ∷ cell 1 0 1 0 ∷ cell 5 0 7 25 ∷ cell 41 0 4 26
+          (cell 34 1 37 0 ∷ cell 34 17 31 0 ∷ cell 34 1 4 0 ∷ cell 34 2 31 0
+          ∷ cell 40 0 4 35 ∷ idle 15
+          (arrays (cell 36 0 3 7 ∷ cell 37 0 3 7
+          ∷ cell 1 0 1 0 ∷ cell 5 0 7 33 ∷ cell 41 0 4 34
           ∷ cell 38 0 5 6
-          ∷ cell 35 0 0 28 ∷ []));
-      end = 24;
+          ∷ cell 35 0 0 36 ∷ [])));
+      end = 32;
     }
 
 -- Three assignments to x1, two to x3, and an if with a delay; assignments have d 2:
 -- x1 := 7; (if ~x2 (d 4) then x3 := 8 else x1 := 9); x1 := 10; x3 := 11.
 -- Delays: 3 4 x1; 5 if; 6 7 x3; 8 9 x1; 10 11 x1; 12 13 x3. Clock ors: 14 = 3|8, 15 = 14|10 (x1); 16 = 6|12 (x3). Memories 17 to 32.
--- Walk: 33 constant 7, 34 the 41 on 3; 35 complement of x2 (19), 36 the 36 on 5, 37 the 37 on 5; 38 constant 8, 39 the 41 on 6;
--- 40 constant 9, 41 the 41 on 8; 42 the 35 of 7 and 9; 43 constant 10, 44 the 41 on 10; 45 constant 11, 46 the 41 on 12.
--- Data ors: 47 = 34|41, 48 = 47|44 (x1); 49 = 39|46 (x3).
+-- Walk: 41 constant 7, 42 the 41 on 3; 43 complement of x2 (19), 44 the 36 on 5, 45 the 37 on 5; 46 constant 8, 47 the 41 on 6;
+-- 48 constant 9, 49 the 41 on 8; 50 the 35 of 7 and 9; 51 constant 10, 52 the 41 on 10; 53 constant 11, 54 the 41 on 12.
+-- Data ors: 55 = 42|49, 56 = 55|52 (x1); 57 = 47|54 (x3).
 mixed : Drawn
 mixed =
     record {
@@ -146,25 +159,47 @@ mixed =
           front
           (cell 34 2 0 0 ∷ cell 34 1 3 0
           ∷ cell 34 4 4 0
-          ∷ cell 34 2 36 0 ∷ cell 34 1 6 0
-          ∷ cell 34 2 37 0 ∷ cell 34 1 8 0
-          ∷ cell 34 2 42 0 ∷ cell 34 1 10 0
+          ∷ cell 34 2 44 0 ∷ cell 34 1 6 0
+          ∷ cell 34 2 45 0 ∷ cell 34 1 8 0
+          ∷ cell 34 2 50 0 ∷ cell 34 1 10 0
           ∷ cell 34 2 11 0 ∷ cell 34 1 12 0
           ∷ cell 35 0 3 8 ∷ cell 35 0 14 10 ∷ cell 35 0 6 12
-          ∷ cell 40 0 1 2 ∷ cell 40 0 15 48 ∷ cell 40 0 1 2 ∷ cell 40 0 16 49 ∷ idle 12
-          (cell 1 0 7 0 ∷ cell 41 0 3 33
-          ∷ cell 3 0 19 0 ∷ cell 36 0 5 35 ∷ cell 37 0 5 35
-          ∷ cell 1 0 8 0 ∷ cell 41 0 6 38
-          ∷ cell 1 0 9 0 ∷ cell 41 0 8 40
+          ∷ cell 40 0 1 2 ∷ cell 40 0 15 56 ∷ cell 40 0 1 2 ∷ cell 40 0 16 57 ∷ idle 12
+          (arrays (cell 1 0 7 0 ∷ cell 41 0 3 41
+          ∷ cell 3 0 19 0 ∷ cell 36 0 5 43 ∷ cell 37 0 5 43
+          ∷ cell 1 0 8 0 ∷ cell 41 0 6 46
+          ∷ cell 1 0 9 0 ∷ cell 41 0 8 48
           ∷ cell 35 0 7 9
-          ∷ cell 1 0 10 0 ∷ cell 41 0 10 43
-          ∷ cell 1 0 11 0 ∷ cell 41 0 12 45
-          ∷ cell 7 0 34 41 ∷ cell 7 0 47 44 ∷ cell 7 0 39 46 ∷ []));
+          ∷ cell 1 0 10 0 ∷ cell 41 0 10 51
+          ∷ cell 1 0 11 0 ∷ cell 41 0 12 53
+          ∷ cell 7 0 42 49 ∷ cell 7 0 55 52 ∷ cell 7 0 47 54 ∷ [])));
       end = 13;
     }
 
+-- Array 2 read once and assigned twice, array 0 read: x1 := a2[x0] (d 4); a2[x1] := 7 (d 1); a2[5] := a0[x1] (d 4).
+-- Delays: 3 4 x1; 5 6 and 7 8 a2. Clock or 9 = 5|7 (a2). Memories 10 to 25. Arrays 26 27, 28 29, 30 31, 32 33.
+-- Walk: 34 the 44 of 30 and x0 (10), 35 the 41 on 3; the index is x1 (11), 36 constant 7, 37 the 41 on 5 of 36, 38 that of 11;
+-- 39 constant 5, 40 the 44 of 26 and 11, 41 the 41 on 7 of 40, 42 that of 39. Data or 43 = 37|41, address or 44 = 38|42 (a2).
+elements : Drawn
+elements =
+    record {
+      program =
+          seq (assign 4 1 (elem 2 (var 0))) (seq (assignElem 1 2 (var 1) (const 7)) (assignElem 4 2 (const 5) (elem 0 (var 1))));
+      cells =
+          front
+          (cell 34 4 0 0 ∷ cell 34 1 3 0 ∷ cell 34 1 4 0 ∷ cell 34 1 5 0 ∷ cell 34 4 6 0 ∷ cell 34 1 7 0
+          ∷ cell 35 0 5 7
+          ∷ cell 40 0 1 2 ∷ cell 40 0 3 35 ∷ idle 14
+          (idleArrays 0 2 (array 2 9 43 44 (idleArrays 3 1
+          (cell 44 0 30 10 ∷ cell 41 0 3 34
+          ∷ cell 1 0 7 0 ∷ cell 41 0 5 36 ∷ cell 41 0 5 11
+          ∷ cell 1 0 5 0 ∷ cell 44 0 26 11 ∷ cell 41 0 7 40 ∷ cell 41 0 7 39
+          ∷ cell 7 0 37 41 ∷ cell 7 0 38 42 ∷ [])))));
+      end = 8;
+    }
+
 drawings : List Drawn
-drawings = case1 ∷ case2 ∷ case3 ∷ case4 ∷ case6 ∷ case7 ∷ case8 ∷ case12 ∷ mixed ∷ []
+drawings = case1 ∷ case2 ∷ case3 ∷ case4 ∷ case6 ∷ case7 ∷ case8 ∷ case12 ∷ mixed ∷ elements ∷ []
 
 abbrev given : Drawn → List Cell × ℕ
 given d = (netlist (d .program), finish (d .program))
@@ -173,5 +208,5 @@ abbrev drawing : Drawn → List Cell × ℕ
 drawing d = (d .cells, d .end)
 
 drawings-right : map given drawings ≡ map drawing drawings
-unfolding drawings case1 case2 case3 case4 case6 case7 case8 case12 mixed numbering
+unfolding drawings case1 case2 case3 case4 case6 case7 case8 case12 mixed elements numbering
 drawings-right = refl

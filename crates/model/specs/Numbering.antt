@@ -2,17 +2,21 @@
 -- Counts, finish wires, delay cells, walk cells and the assignments are recursions of their own, with the kinds in one order, so that a wire
 -- that is fed by a cell that comes later needs no knot. Assumes nothing: definitions.
 use mathlib.Core.List.{List, [], _∷_, _++_}
-use Prim.Native.Nat.{ℕ, zero, suc, _+_}
+use Prim.Native.Nat.{ℕ, zero, suc, _+_, _*_}
 use lib.Dec.{eqb}
-use lib.ListN.{length}
+use lib.ListN.{length, getD}
 use Rattle.model.specs.declared.Cell.{Cell}
 use Rattle.model.specs.Word.{pick}
-use Rattle.model.specs.Program.{Expr, const, var, compl, op, Stmt, ok, tick, assign, seq, par, ite, while, repeat}
+use Rattle.model.specs.Program.{Expr, const, var, compl, op, elem, Stmt, ok, tick, assign, assignElem, seq, par, ite, while, repeat, arrayVar}
 use Rattle.model.specs.Circuit.{cell}
 
 -- Expressions -------------------------------------------------------------------------------------------------------------------------
--- "An expression: children, then its cell; a variable is its memory cell."
+-- "An expression: children, then its cell; a variable is its memory cell." "Every read is a kind 44 (a the 42, b the index)".
 -- M is the number of the first memory, c the number of the next walk cell.
+
+-- the kind 42 of array k: "Right after the sixteenth memory stand ... array by array"
+abbrev pub arrayCell : ℕ → ℕ → ℕ
+arrayCell M k = M + 16 + 2 * k
 
 -- how many cells it has
 unfoldable pub exprCount : Expr → ℕ
@@ -20,6 +24,7 @@ exprCount (const n) = 1
 exprCount (var x) = 0
 exprCount (compl e) = exprCount e + 1
 exprCount (op k e f) = exprCount e + exprCount f + 1
+exprCount (elem k e) = exprCount e + 1
 
 -- the wire that has the expression's word
 unfoldable pub exprWire : ℕ → Expr → ℕ → ℕ
@@ -27,6 +32,7 @@ exprWire M (const n) c = c
 exprWire M (var x) c = M + x
 exprWire M (compl e) c = c + exprCount e
 exprWire M (op k e f) c = c + exprCount e + exprCount f
+exprWire M (elem k e) c = c + exprCount e
 
 unfoldable pub exprCells : ℕ → Expr → ℕ → List Cell
 exprCells M (const n) c = cell 1 0 n 0 ∷ []
@@ -34,6 +40,7 @@ exprCells M (var x) c = []
 exprCells M (compl e) c = exprCells M e c ++ (cell 3 0 (exprWire M e c) 0 ∷ [])
 exprCells M (op k e f) c =
     exprCells M e c ++ (exprCells M f (c + exprCount e) ++ (cell k 0 (exprWire M e c) (exprWire M f (c + exprCount e)) ∷ []))
+exprCells M (elem k e) c = exprCells M e c ++ (cell 44 0 (arrayCell M k) (exprWire M e c) ∷ [])
 
 -- Statements --------------------------------------------------------------------------------------------------------------------------
 -- s is the start wire, d the number of the next delay cell, c that of the next walk cell, δ the node's delay.
@@ -72,6 +79,7 @@ unfoldable pub delayCount : Stmt → ℕ
 delayCount ok = 0
 delayCount (tick δ) = 1
 delayCount (assign δ x e) = 2
+delayCount (assignElem δ k i e) = 2
 delayCount (seq P Q) = delayCount P + delayCount Q
 delayCount (par P Q) = delayCount P + delayCount Q
 delayCount (ite δ e P Q) = ifDelayCount δ + (delayCount P + delayCount Q)
@@ -83,6 +91,7 @@ unfoldable pub walkCount : Stmt → ℕ
 walkCount ok = 0
 walkCount (tick δ) = 0
 walkCount (assign δ x e) = exprCount e + 1
+walkCount (assignElem δ k i e) = exprCount i + (exprCount e + 2)
 walkCount (seq P Q) = walkCount P + walkCount Q
 walkCount (par P Q) = walkCount P + (walkCount Q + 1)
 walkCount (ite δ e P Q) = exprCount e + (2 + (walkCount P + (walkCount Q + 1)))
@@ -105,6 +114,7 @@ unfoldable pub finishWire : Stmt → ℕ → ℕ → ℕ → ℕ
 finishWire ok s d c = s
 finishWire (tick δ) s d c = d
 finishWire (assign δ x e) s d c = d + 1
+finishWire (assignElem δ k i e) s d c = d + 1
 finishWire (seq P Q) s d c = finishWire Q (finishWire P s d c) (d + delayCount P) (c + walkCount P)
 finishWire (par P Q) s d c = c + walkCount P + walkCount Q
 finishWire (ite δ e P Q) s d c = elseCells e P c + walkCount Q
@@ -124,6 +134,7 @@ unfoldable pub delays : Stmt → ℕ → ℕ → ℕ → List Cell
 delays ok s d c = []
 delays (tick δ) s d c = cell 34 δ s 0 ∷ []
 delays (assign δ x e) s d c = cell 34 δ s 0 ∷ (cell 34 1 d 0 ∷ [])
+delays (assignElem δ k i e) s d c = cell 34 δ s 0 ∷ (cell 34 1 d 0 ∷ [])
 delays (seq P Q) s d c = delays P s d c ++ delays Q (finishWire P s d c) (d + delayCount P) (c + walkCount P)
 delays (par P Q) s d c = delays P s d c ++ delays Q s (d + delayCount P) (c + walkCount P)
 delays (ite δ e P Q) s d c =
@@ -136,6 +147,7 @@ delays (repeat δ e P) s d c =
 
 -- The walk, kind by kind:
 --   "Assignment: expression, kind 41 on its first delay."
+--   "An element assignment's walk is index, value, then kind 41 of the value and of the index."
 --   "Q of a sequence starts with P's finish."
 --   "Parallel: P, Q, 38."
 --   "If: expression, 36, 37, P, Q, 35 of the two finishes."
@@ -146,6 +158,10 @@ unfoldable pub walk : ℕ → Stmt → ℕ → ℕ → ℕ → List Cell
 walk M ok s d c = []
 walk M (tick δ) s d c = []
 walk M (assign δ x e) s d c = exprCells M e c ++ (cell 41 0 d (exprWire M e c) ∷ [])
+walk M (assignElem δ k i e) s d c =
+    exprCells M i c
+    ++ (exprCells M e (c + exprCount i)
+    ++ (cell 41 0 d (exprWire M e (c + exprCount i)) ∷ (cell 41 0 d (exprWire M i c) ∷ [])))
 walk M (seq P Q) s d c = walk M P s d c ++ walk M Q (finishWire P s d c) (d + delayCount P) (c + walkCount P)
 walk M (par P Q) s d c =
     walk M P s d c
@@ -162,9 +178,9 @@ walk M (while δ e P) s d c =
 walk M (repeat δ e P) s d c =
     switches M e d c (cell 35 0 s (onFalse e c) ∷ walk M P (pastSwitches e c) (d + 1) (pastSwitches e c + 1))
 
--- Ors and memories ---------------------------------------------------------------------------------------------------------------------
+-- Ors, memories and arrays -------------------------------------------------------------------------------------------------------------
 
--- an assignment's variable, with a wire of that assignment
+-- an assignment's variable, with a wire of that assignment; of an element assignment it is the array as a variable
 abbrev pub Source : Type 0
 Source = ℕ × ℕ
 
@@ -173,22 +189,36 @@ unfoldable pub clockSources : Stmt → ℕ → List Source
 clockSources ok d = []
 clockSources (tick δ) d = []
 clockSources (assign δ x e) d = (x, d) ∷ []
+clockSources (assignElem δ k i e) d = (arrayVar k, d) ∷ []
 clockSources (seq P Q) d = clockSources P d ++ clockSources Q (d + delayCount P)
 clockSources (par P Q) d = clockSources P d ++ clockSources Q (d + delayCount P)
 clockSources (ite δ e P Q) d = clockSources P (thenDelays δ d) ++ clockSources Q (elseDelays δ P d)
 clockSources (while δ e P) d = clockSources P (d + 1)
 clockSources (repeat δ e P) d = clockSources P (d + 1)
 
--- and each with its kind 41 cell
+-- and each with its kind 41 cell, of the value
 unfoldable pub dataSources : Stmt → ℕ → List Source
 dataSources ok c = []
 dataSources (tick δ) c = []
 dataSources (assign δ x e) c = (x, c + exprCount e) ∷ []
+dataSources (assignElem δ k i e) c = (arrayVar k, c + exprCount i + exprCount e) ∷ []
 dataSources (seq P Q) c = dataSources P c ++ dataSources Q (c + walkCount P)
 dataSources (par P Q) c = dataSources P c ++ dataSources Q (c + walkCount P)
 dataSources (ite δ e P Q) c = dataSources P (pastSwitches e c) ++ dataSources Q (elseCells e P c)
 dataSources (while δ e P) c = dataSources P (pastSwitches e c)
 dataSources (repeat δ e P) c = dataSources P (pastSwitches e c + 1)
+
+-- and the element assignments, each with its kind 41 cell of the index
+unfoldable pub addressSources : Stmt → ℕ → List Source
+addressSources ok c = []
+addressSources (tick δ) c = []
+addressSources (assign δ x e) c = []
+addressSources (assignElem δ k i e) c = (arrayVar k, c + exprCount i + exprCount e + 1) ∷ []
+addressSources (seq P Q) c = addressSources P c ++ addressSources Q (c + walkCount P)
+addressSources (par P Q) c = addressSources P c ++ addressSources Q (c + walkCount P)
+addressSources (ite δ e P Q) c = addressSources P (pastSwitches e c) ++ addressSources Q (elseCells e P c)
+addressSources (while δ e P) c = addressSources P (pastSwitches e c)
+addressSources (repeat δ e P) c = addressSources P (pastSwitches e c + 1)
 
 -- the wires of one variable
 unfoldable pub wiresOf : ℕ → List Source → List ℕ
@@ -233,35 +263,51 @@ unfoldable pub orCountFrom : List Source → ℕ → ℕ → ℕ
 orCountFrom ws x zero = 0
 orCountFrom ws x (suc j) = orCount (wiresOf x ws) + orCountFrom ws (x + 1) j
 
--- memories, from their clock wires and data wires
-unfoldable pub memoriesOf : List ℕ → List ℕ → List Cell
-memoriesOf [] ds = []
-memoriesOf (k ∷ ks) [] = []
-memoriesOf (k ∷ ks) (d ∷ ds) = cell 40 0 k d ∷ memoriesOf ks ds
+-- the memories of n variables from x on, from the clock wires and data wires of all variables
+unfoldable pub memoriesOf : List ℕ → List ℕ → ℕ → ℕ → List Cell
+memoriesOf ks ds x zero = []
+memoriesOf ks ds x (suc n) = cell 40 0 (getD ks x 0) (getD ds x 0) ∷ memoriesOf ks ds (x + 1) n
+
+-- "array by array, kind 42 (delay the array, a its clock, b its data) and next to it kind 43 (a its address": of n arrays from k on, with the
+-- arrays' address wires
+unfoldable pub arraysOf : List ℕ → List ℕ → List ℕ → ℕ → ℕ → List Cell
+arraysOf ks ds js k zero = []
+arraysOf ks ds js k (suc n) =
+    cell 42 k (getD ks (arrayVar k) 0) (getD ds (arrayVar k) 0) ∷ (cell 43 0 (getD js k 0) 0 ∷ arraysOf ks ds js (k + 1) n)
 
 -- The netlist --------------------------------------------------------------------------------------------------------------------------
 
--- where the clock ors, the memories, the walk and the data ors begin
+-- where the clock ors, the memories, the arrays' cells, the walk, the data ors and the address ors begin. Arrays follow the variables: "clocks
+-- follow the variables' clock ors, all data ors their data ors, then all address ors"
 abbrev pub clockAt : Stmt → ℕ
 clockAt P = 3 + delayCount P
 
 abbrev pub memoryAt : Stmt → ℕ
-memoryAt P = 3 + delayCount P + orCountFrom (clockSources P 3) 0 16
+memoryAt P = 3 + delayCount P + orCountFrom (clockSources P 3) 0 20
+
+abbrev pub arraysAt : Stmt → ℕ
+arraysAt P = memoryAt P + 16
 
 abbrev pub walkAt : Stmt → ℕ
-walkAt P = memoryAt P + 16
+walkAt P = arraysAt P + 8
 
 abbrev pub dataAt : Stmt → ℕ
 dataAt P = walkAt P + walkCount P
 
+abbrev pub addressAt : Stmt → ℕ
+addressAt P = dataAt P + orCountFrom (dataSources P (walkAt P)) 0 20
+
 abbrev pub clockWires : Stmt → List ℕ
-clockWires P = outsFrom 1 (clockSources P 3) (clockAt P) 0 16
+clockWires P = outsFrom 1 (clockSources P 3) (clockAt P) 0 20
 
 abbrev pub dataWires : Stmt → List ℕ
-dataWires P = outsFrom 2 (dataSources P (walkAt P)) (dataAt P) 0 16
+dataWires P = outsFrom 2 (dataSources P (walkAt P)) (dataAt P) 0 20
+
+abbrev pub addressWires : Stmt → List ℕ
+addressWires P = outsFrom 2 (addressSources P (walkAt P)) (addressAt P) 16 4
 
 -- "Cell 0 is start, 1 ground, 2 constant 0. Then delay cells ... Then for variables 0 to 15 the clock ors ... Then sixteen memories. Then
--- the walk; then the data ors (kind 7)"
+-- the walk; then the data ors (kind 7)"; the arrays' cells stand "Right after the sixteenth memory"
 abbrev pub headCells : List Cell
 headCells = cell 32 0 0 0 ∷ (cell 33 0 0 0 ∷ (cell 1 0 0 0 ∷ []))
 
@@ -269,10 +315,12 @@ unfoldable pub netlist : Stmt → List Cell
 netlist P =
     headCells
     ++ (delays P 0 3 (walkAt P)
-    ++ (orsFrom 35 (clockSources P 3) (clockAt P) 0 16
-    ++ (memoriesOf (clockWires P) (dataWires P)
+    ++ (orsFrom 35 (clockSources P 3) (clockAt P) 0 20
+    ++ (memoriesOf (clockWires P) (dataWires P) 0 16
+    ++ (arraysOf (clockWires P) (dataWires P) (addressWires P) 0 4
     ++ (walk (memoryAt P) P 0 3 (walkAt P)
-    ++ orsFrom 7 (dataSources P (walkAt P)) (dataAt P) 0 16))))
+    ++ (orsFrom 7 (dataSources P (walkAt P)) (dataAt P) 0 20
+    ++ orsFrom 7 (addressSources P (walkAt P)) (addressAt P) 16 4))))))
 
 unfoldable pub finish : Stmt → ℕ
 finish P = finishWire P 0 3 (walkAt P)

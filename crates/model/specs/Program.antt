@@ -41,7 +41,7 @@ nodeBytes (a ∷ rest) = a .kind ∷ a .delay ∷ (bytes16 (a .n) ++ nodeBytes r
 
 -- The table --------------------------------------------------------------------------------------------------------------------------
 
--- sort: 0 unknown, 1 an expression, 2 a statement. delay: used or not. number: 0 no use, 1 a constant, 2 a variable.
+-- sort: 0 unknown, 1 an expression, 2 a statement. delay: used or not. number: 0 no use, 1 a constant, 2 a variable, 3 an array.
 -- exprs, stmts: so many expressions and then so many statements are its children.
 abbrev row : ℕ → ℕ → ℕ → ℕ → ℕ → Row
 row s d n e p = record { sort = s; delay = d; number = n; exprs = e; stmts = p }
@@ -62,7 +62,8 @@ kindTable =
     ∷ row 1 0 0 2 0  -- 7 bitwise or
     ∷ row 1 0 0 2 0  -- 8 equal
     ∷ row 1 0 0 2 0  -- 9 less
-    ∷ unknown ∷ unknown ∷ unknown ∷ unknown ∷ unknown ∷ unknown
+    ∷ row 1 0 3 1 0  -- 10 element of array n
+    ∷ unknown ∷ unknown ∷ unknown ∷ unknown ∷ unknown
     ∷ row 2 0 0 0 0  -- 16 ok
     ∷ row 2 1 0 0 0  -- 17 tick
     ∷ row 2 1 2 1 0  -- 18 variable n := e
@@ -71,6 +72,7 @@ kindTable =
     ∷ row 2 1 0 1 2  -- 21 if e then P else Q
     ∷ row 2 1 0 1 1  -- 22 while e do P
     ∷ row 2 1 0 1 1  -- 23 repeat P until e
+    ∷ row 2 1 3 2 0  -- 24 element of array n := e
     ∷ []
 
 unfoldable pub rowOf : ℕ → Row
@@ -78,18 +80,20 @@ rowOf k = getD kindTable k unknown
 
 -- The tree ---------------------------------------------------------------------------------------------------------------------------
 
--- op k a b: the operator of kind k, 4 to 9
+-- op k a b: the operator of kind k, 4 to 9; elem k e: the element of array k with index e
 pub data Expr : Type 0 where
   const : ℕ → Expr
   var : ℕ → Expr
   compl : Expr → Expr
   op : ℕ → Expr → Expr → Expr
+  elem : ℕ → Expr → Expr
 
--- a number in front is the node's delay
+-- a number in front is the node's delay; assignElem d k i e: the element of array k with index i gets e
 pub data Stmt : Type 0 where
   ok : Stmt
   tick : ℕ → Stmt
   assign : ℕ → ℕ → Expr → Stmt
+  assignElem : ℕ → ℕ → Expr → Expr → Stmt
   seq : Stmt → Stmt → Stmt
   par : Stmt → Stmt → Stmt
   ite : ℕ → Expr → Stmt → Stmt → Stmt
@@ -117,11 +121,12 @@ exprOf a e f =
     pick (eqb (a .kind) 1) (const (a .n))
     (pick (eqb (a .kind) 2) (var (a .n))
     (pick (eqb (a .kind) 3) (compl e)
-    (op (a .kind) e f)))
+    (pick (eqb (a .kind) 10) (elem (a .n) e)
+    (op (a .kind) e f))))
 
--- of kinds 19 and 20 the children are O and P, of the others e, P and Q
-unfoldable pub stmtOf : Node → Expr → Stmt → Stmt → Stmt → Stmt
-stmtOf a e O P Q =
+-- of kinds 19 and 20 the children are O and P, of kind 24 e and f, of the others e, P and Q
+unfoldable pub stmtOf : Node → Expr → Expr → Stmt → Stmt → Stmt → Stmt
+stmtOf a e f O P Q =
     pick (eqb (a .kind) 16) ok
     (pick (eqb (a .kind) 17) (tick (a .delay))
     (pick (eqb (a .kind) 18) (assign (a .delay) (a .n) e)
@@ -129,13 +134,14 @@ stmtOf a e O P Q =
     (pick (eqb (a .kind) 20) (par O P)
     (pick (eqb (a .kind) 21) (ite (a .delay) e P Q)
     (pick (eqb (a .kind) 22) (while (a .delay) e P)
-    (repeat (a .delay) e P)))))))
+    (pick (eqb (a .kind) 24) (assignElem (a .delay) (a .n) e f)
+    (repeat (a .delay) e P))))))))
 
 unfoldable pub treeOf : Node → Tree → Tree → Tree → Tree
 treeOf a x y z =
     pick (ltb (a .kind) 16)
     (expr (exprOf a (asExpr x) (asExpr y)))
-    (stmt (stmtOf a (asExpr x) (asStmt x) (asStmt y) (asStmt z)))
+    (stmt (stmtOf a (asExpr x) (asExpr y) (asStmt x) (asStmt y) (asStmt z)))
 
 abbrev pub arity : ℕ → ℕ
 arity k = rowOf k .exprs + rowOf k .stmts
@@ -169,11 +175,13 @@ preorderE (const n) = node 1 0 n ∷ []
 preorderE (var n) = node 2 0 n ∷ []
 preorderE (compl e) = node 3 0 0 ∷ preorderE e
 preorderE (op k a b) = node k 0 0 ∷ preorderE a ++ preorderE b
+preorderE (elem k e) = node 10 0 k ∷ preorderE e
 
 unfoldable pub preorder : Stmt → List Node
 preorder ok = node 16 0 0 ∷ []
 preorder (tick d) = node 17 d 0 ∷ []
 preorder (assign d x e) = node 18 d x ∷ preorderE e
+preorder (assignElem d k i e) = node 24 d k ∷ preorderE i ++ preorderE e
 preorder (seq P Q) = node 19 0 0 ∷ preorder P ++ preorder Q
 preorder (par P Q) = node 20 0 0 ∷ preorder P ++ preorder Q
 preorder (ite d e P Q) = node 21 d 0 ∷ preorderE e ++ (preorder P ++ preorder Q)
@@ -188,6 +196,7 @@ time τ (const n) = τ 1
 time τ (var n) = τ 2
 time τ (compl e) = τ 3 + time τ e
 time τ (op k a b) = τ k + max (time τ a) (time τ b)
+time τ (elem k e) = τ 10 + time τ e
 
 -- the time of kind k in a list of operator times
 abbrev pub timeIn : List ℕ → ℕ → ℕ
@@ -206,18 +215,25 @@ builtInTimes =
     ∷ 1  -- 7 bitwise or
     ∷ 6  -- 8 equal
     ∷ 17  -- 9 less
+    ∷ 4  -- 10 element of array n
     ∷ []
 
 -- "A node's delay d is at least its expression's time, and at least 1 for kinds 17, 18, 22 and 23. If may have 0."
+-- "An element's delay covers both children's times and is at least 1."
 unfoldable pub least : (ℕ → ℕ) → Stmt → ℕ
 least τ ok = 0
 least τ (tick d) = 1
 least τ (assign d x e) = max 1 (time τ e)
+least τ (assignElem d k i e) = max 1 (max (time τ i) (time τ e))
 least τ (seq P Q) = 0
 least τ (par P Q) = 0
 least τ (ite d e P Q) = time τ e
 least τ (while d e P) = max 1 (time τ e)
 least τ (repeat d e P) = max 1 (time τ e)
+
+-- "For refusals 4 and 8 an array is one variable": array k is variable 16 + k
+abbrev pub arrayVar : ℕ → ℕ
+arrayVar k = 16 + k
 
 -- variable x is read in e
 unfoldable pub reads : Expr → ℕ → Bool
@@ -225,12 +241,14 @@ reads (const n) x = false
 reads (var n) x = eqb x n
 reads (compl e) x = reads e x
 reads (op k a b) x = reads a x || reads b x
+reads (elem k e) x = eqb x (arrayVar k) || reads e x
 
 -- it is written in P
 unfoldable pub writes : Stmt → ℕ → Bool
 writes ok x = false
 writes (tick d) x = false
 writes (assign d y e) x = eqb x y
+writes (assignElem d k i e) x = eqb x (arrayVar k)
 writes (seq P Q) x = writes P x || writes Q x
 writes (par P Q) x = writes P x || writes Q x
 writes (ite d e P Q) x = writes P x || writes Q x
@@ -242,6 +260,7 @@ unfoldable pub touches : Stmt → ℕ → Bool
 touches ok x = false
 touches (tick d) x = false
 touches (assign d y e) x = eqb x y || reads e x
+touches (assignElem d k i e) x = eqb x (arrayVar k) || (reads i x || reads e x)
 touches (seq P Q) x = touches P x || touches Q x
 touches (par P Q) x = touches P x || touches Q x
 touches (ite d e P Q) x = reads e x || (touches P x || touches Q x)
@@ -257,8 +276,9 @@ unfoldable pub conflicts : Stmt → Bool
 conflicts ok = false
 conflicts (tick d) = false
 conflicts (assign d x e) = false
+conflicts (assignElem d k i e) = false
 conflicts (seq P Q) = false
-conflicts (par P Q) = conflict 16 P Q
+conflicts (par P Q) = conflict 20 P Q
 conflicts (ite d e P Q) = false
 conflicts (while d e P) = false
 conflicts (repeat d e P) = false
@@ -273,13 +293,17 @@ programLengthWrong s = eqb (length s) 0 || (ltb 800 (length s) || ltb 0 (length 
 unfoldable pub unusedSet : ℕ → ℕ → Bool
 unusedSet used v = pick (eqb used 0) (ltb 0 v) false
 
+-- "4. variable above 15": n, where used says what it is; an array has "numbers 0 to 3"
+unfoldable pub absent : ℕ → ℕ → Bool
+absent used n = (eqb used 2 && ltb 15 n) || (eqb used 3 && ltb 3 n)
+
 -- "2. Unknown kind; 3. a field without a use not zero; 4. variable above 15. Node by node, in this order (node)."
 unfoldable pub nodeFault : Node → ℕ
 nodeFault a =
     let row = rowOf (a .kind) in
     pick (eqb (row .sort) 0) 2
     (pick (unusedSet (row .delay) (a .delay) || unusedSet (row .number) (a .n)) 3
-    (faultIf (eqb (row .number) 2 && ltb 15 (a .n)) 4))
+    (faultIf (absent (row .number) (a .n)) 4))
 
 -- the sorts of a node's children, in order
 unfoldable pub children : ℕ → List ℕ

@@ -15,15 +15,15 @@ use Rattle.model.specs.declared.Outcome.{Outcome}
 use Rattle.model.specs.declared.Outcome.the-variants.{Ended, Open}
 use Rattle.model.specs.declared.Written.the-variants.{Done}
 use Rattle.model.specs.declared.Answer.{Answer}
-use Rattle.model.specs.Word.{pick, bit}
+use Rattle.model.specs.Word.{pick, bit, elementWord}
 use Rattle.model.specs.Refusals.{numberOf, placeOf, firstFault}
 use Rattle.model.specs.Program.{Stmt, timeIn, programChecks, programOf}
 use Rattle.model.specs.Rules.{Store, Ends}
-use Rattle.model.specs.Circuit.{cellAt, control, memoryWords, Values, level, Obeys, delayed, heldBefore, shape, kDelay, kMerge}
+use Rattle.model.specs.Circuit.{cellAt, control, memoryWords, Values, level, element, arrayAt, Obeys, delayed, heldBefore, shape, kDelay, kMerge}
 use Rattle.model.specs.Numbering.{netlist, finish}
 use Rattle.model.specs.NetlistFile.{fileChecks, fileCheck, cellsOf, finishOf}
 use Rattle.model.specs.TimeTables.{tableChecks, TimeTable, given, load}
-use Rattle.model.specs.State.{stateSize, instantOf, nowAt, beforeAt, heldAt, lineBit, beginState, stepState, lastState, evaluated, wordsIn, sound}
+use Rattle.model.specs.State.{stateSize, instantOf, nowAt, beforeAt, heldAt, lineBit, elementNow, beginState, stepState, lastState, evaluated, wordsIn, sound}
 use Rattle.model.specs.Calls.{Returned, verdict, writtenVerdict, overwrite, checkCall, compileChecks, compileCall, writeChecks, writeCall, readChecks, readCall, wordAt, beginChecks, beginCall, continueChecks, continueCall, runNetlistChecks, runNetlistCall, runProgramChecks, runProgramCall, referenceChecks, referenceCall, listed}
 use Rattle.model.specs.CellSlices.{hasCells, renumberCall, checkCellsChecks, checkCellsCall, writeCellsChecks, writeCellsCall, readCellsChecks, readCellsCall}
 
@@ -143,8 +143,8 @@ unfoldable pub earlier : Values → ℕ → ℕ → ℕ
 earlier W k zero = 0
 earlier W k (suc t) = W k t
 
--- state s holds, of the values W, those of instant t
-pub record Holds (net : List Cell) (W : Values) (t : ℕ) (s : List ℕ) : Type 0 where
+-- state s holds, of the values W from these start words, those of instant t
+pub record Holds (net : List Cell) (words : Store) (W : Values) (t : ℕ) (s : List ℕ) : Type 0 where
   pub instant : t ≤ 1000000 → instantOf s ≡ t
   pub present : (k : ℕ) → k < length net → nowAt s k ≡ W k t
   pub past : (k : ℕ) → k < length net → beforeAt s k ≡ earlier W k t
@@ -152,6 +152,7 @@ pub record Holds (net : List Cell) (W : Values) (t : ℕ) (s : List ℕ) : Type 
       → heldAt s k ≡ heldBefore (level W (cellAt net k .a)) (level W (cellAt net k .b)) (suc t)
   pub lines : (k : ℕ) → k < length net → shape (cellAt net k .kind) ≡ kDelay
       → (i : ℕ) → i < 256 → lineBit s k i ≡ bit (delayed i (level W (cellAt net k .a)) t)
+  pub elements : (k i : ℕ) → k < 4 → i < 64 → elementNow net s (64 * k + i) ≡ element net words W (arrayAt net k) i t
   pub proper : sound net s ≡ true
 
 -- "A continuing by N from instant t stops at s, the first instant after t and not above t + N where a finish is due, or at t + N if there
@@ -165,7 +166,7 @@ pub record OneRun (net : List Cell) (words : Store) : Type 0 where
   pub values : Values
   pub obeys : Obeys net words values
   pub only : (W : Values) → Obeys net words W → (k : ℕ) → k < length net → (t : ℕ) → W k t ≡ values k t
-  pub states : (lent : List ℕ) → stateSize net ≤ length lent → (t : ℕ) → Holds net values t (stateAt net words lent t)
+  pub states : (lent : List ℕ) → stateSize net ≤ length lent → (t : ℕ) → Holds net words values t (stateAt net words lent t)
   -- "Lent bytes past a result keep their values."
   pub past : (lent : List ℕ) (t : ℕ) → drop (stateSize net) (stateAt net words lent t) ≡ drop (stateSize net) lent
   pub continuing : (lent : List ℕ) → stateSize net ≤ length lent → (f : ℕ) → f < length net → (n t : ℕ)
@@ -247,11 +248,13 @@ abbrev pub Along : (ℕ → Returned Answer → Type 0) → ℕ → List (Return
 Along R t [] = Unit {0}
 Along R t (r ∷ rs) = R (instantAfter t r) r × Along R (instantAfter t r) rs
 
--- where a call was not refused and its instant is not below t₀, the answer and the memories of the buffer show the words σ′
+-- where a call was not refused and its instant is not below t₀, the answer and the memories of the buffer show the words σ′, and so do its
+-- elements: "last contents, in demand 3 too, include them, as the state shows them"
 abbrev pub Shown : List ℕ → ℕ → Store → Returned Answer → Type 0
 Shown file t₀ σ′ r =
     verdict (r .answer .outcome) ≡ Accepted → t₀ ≤ r .answer .instant
     → (r .answer .words ≡ listed σ′ 0 16) × (wordsIn (cellsOf file) 0 (r .lent) ≡ listed σ′ 0 16)
+    × (listed (elementNow (cellsOf file) (r .lent)) 0 256 ≡ listed σ′ 16 256)
 
 -- where a call was refused, the buffer is as it was before
 abbrev pub Unchanged : List ℕ → List (Returned Answer) → Type 0
@@ -276,9 +279,11 @@ pub record Keeps (P : Stmt) (σ : Store) (file : List ℕ) (begun : Returned Ans
   pub once : (t₁ t₂ : ℕ) (σ₁ σ₂ : Store) → Ends P σ t₁ σ₁ → Ends P σ t₂ σ₂ → (t₁ ≡ t₂) × (σ₁ ≡ σ₂)
   -- the finish wire is high exactly then
   pub finishes : (W : Values) → Obeys (cellsOf file) σ W → (t : ℕ) → level W (finishOf file) t ≡ due t
-  -- from then on the words are its last ones: what the memories show at every instant, and what the answers and the buffers do
+  -- from then on the words are its last ones: what memories and elements are at every instant, and what the answers and the buffers show
   pub memories : (W : Values) → Obeys (cellsOf file) σ W → (t₀ : ℕ) (σ′ : Store) → Ends P σ t₀ σ′
       → (t : ℕ) → t₀ ≤ t → memoryWords (cellsOf file) 0 (λ k. W k t) ≡ listed σ′ 0 16
+  pub elements : (W : Values) → Obeys (cellsOf file) σ W → (t₀ : ℕ) (σ′ : Store) → Ends P σ t₀ σ′
+      → (t : ℕ) → t₀ ≤ t → (k i : ℕ) → k < 4 → i < 64 → element (cellsOf file) σ W (arrayAt (cellsOf file) k) i t ≡ σ′ (elementWord k i)
   pub words : (t₀ : ℕ) (σ′ : Store) → Ends P σ t₀ σ′ → Along (λ t. Shown file t₀ σ′) 0 (begun ∷ replay file (begun .lent) calls)
   -- each answer follows from that end and the numbers asked for
   pub outcomes : map seenOf (begun ∷ replay file (begun .lent) calls)
@@ -289,7 +294,7 @@ pub record Keeps (P : Stmt) (σ : Store) (file : List ℕ) (begun : Returned Ans
       × Along (λ t r. r .answer .outcome ≡ Ended → ⊥) 0 (begun ∷ replay file (begun .lent) calls)
   -- each buffer holds the circuit's values at the instant at which it stands; a refused call leaves it as it was
   pub buffers : (W : Values) → Obeys (cellsOf file) σ W
-      → Along (λ t r. Holds (cellsOf file) W t (r .lent)) 0 (begun ∷ replay file (begun .lent) calls)
+      → Along (λ t r. Holds (cellsOf file) σ W t (r .lent)) 0 (begun ∷ replay file (begun .lent) calls)
   pub unchanged : Unchanged (begun .lent) (replay file (begun .lent) calls)
   -- "A full run answers as its last call does, its calls' counts added."
   pub programRuns : (n : ℕ) → n ≤ 1000000

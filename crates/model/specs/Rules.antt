@@ -1,31 +1,36 @@
 -- The program's own rules: as a relation, one clause for each sentence, and as a function that computes it within a budget.
 -- "Nothing but the program and these words goes in, and nothing from a circuit; the rules keep the words and an instant".
 -- Assumes nothing: definitions.
-use Prim.Native.Nat.{ℕ, zero, suc, _+_, _-_, max}
+use Prim.Native.Nat.{ℕ, zero, suc, _+_, _-_, _/_, max}
 use mathlib.Core.Path.{_≡_}
 use mathlib.Core.Bool.{Bool, true, false}
-use lib.Dec.{leb, eqb}
-use Rattle.model.specs.Word.{pick, isZero, operate}
-use Rattle.model.specs.Program.{Expr, const, var, compl, op, Stmt, ok, tick, assign, seq, par, ite, while, repeat, writes}
+use lib.Dec.{leb, ltb, eqb}
+use Rattle.model.specs.Word.{pick, isZero, operate, elementWord}
+use Rattle.model.specs.Program.{Expr, const, var, compl, op, elem, Stmt, ok, tick, assign, assignElem, seq, par, ite, while, repeat, arrayVar, writes}
 
 -- Words --------------------------------------------------------------------------------------------------------------------------------
 
--- the word of each variable
+-- the words: of the sixteen variables, and from 16 on of the elements, array by array
 abbrev pub Store : Type 0
 Store = ℕ → ℕ
+
+-- the variable, or the array as a variable, that word x belongs to
+unfoldable pub owner : ℕ → ℕ
+owner x = pick (ltb x 16) x (arrayVar ((x - 16) / 64))
 
 unfoldable pub eval : Expr → Store → ℕ
 eval (const n) σ = n
 eval (var n) σ = σ n
 eval (compl e) σ = operate 3 (eval e σ) 0
 eval (op k a b) σ = operate k (eval a σ) (eval b σ)
+eval (elem k e) σ = σ (elementWord k (eval e σ))
 
 unfoldable pub put : Store → ℕ → ℕ → Store
 put σ x v y = pick (eqb y x) v (σ y)
 
 -- the words τ, with those that P writes taken from σ
 unfoldable pub over : Stmt → Store → Store → Store
-over P σ τ x = pick (writes P x) (σ x) (τ x)
+over P σ τ x = pick (writes P (owner x)) (σ x) (τ x)
 
 -- "each side's written words are kept": of P and Q that began with σ and ended with σ₁ and σ₂
 unfoldable pub kept : Stmt → Stmt → Store → Store → Store → Store
@@ -62,6 +67,7 @@ Ends ok σ t σ′ = (t ≡ 0) × (σ′ ≡ σ)
 Ends (tick d) σ t σ′ = (t ≡ d) × (σ′ ≡ σ)
 -- "An assignment takes d + 1 and changes one word."
 Ends (assign d x e) σ t σ′ = (t ≡ d + 1) × (σ′ ≡ put σ x (eval e σ))
+Ends (assignElem d k i e) σ t σ′ = (t ≡ d + 1) × (σ′ ≡ put σ (elementWord k (eval i σ)) (eval e σ))
 -- "A sequence adds times, and Q runs from P's last words."
 Ends (seq P Q) σ t σ′ = (t₁ : ℕ) × (σ₁ : Store) × (t₂ : ℕ) × Ends P σ t₁ σ₁ × Ends Q σ₁ t₂ σ′ × (t ≡ t₁ + t₂)
 -- "In parallel both sides run from the same words; the time is the larger one; each side's written words are kept."
@@ -123,6 +129,7 @@ unfoldable pub run : ℕ → Stmt → Store → Run
 run k ok σ = ended 0 σ
 run k (tick d) σ = wait d k (λ k₁. ended 0 σ)
 run k (assign d x e) σ = wait (suc d) k (λ k₁. ended 0 (put σ x (eval e σ)))
+run k (assignElem d j i e) σ = wait (suc d) k (λ k₁. ended 0 (put σ (elementWord j (eval i σ)) (eval e σ)))
 run k (seq P Q) σ = chain (run k P σ) (λ t σ₁. run (k - t) Q σ₁)
 run k (par P Q) σ = both (kept P Q σ) (run k P σ) (run k Q σ)
 run k (ite d e P Q) σ = wait d k (λ k₁. elim (isZero (eval e σ)) [ true ↦ run k₁ Q σ | false ↦ run k₁ P σ ])

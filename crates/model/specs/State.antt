@@ -6,21 +6,28 @@ use lib.ListN.{length, getD, set, take, drop, replicate}
 use lib.Dec.{eqb, leb}
 use Rattle.model.specs.declared.Cell.{Cell}
 use Rattle.model.specs.declared.Merge.{Merge}
-use Rattle.model.specs.Word.{pick, bit, isZero, operate, get16, put16, get32, put32}
-use Rattle.model.specs.Circuit.{cellAt, control, high, mergeStep, memoryWords, startWord, Shape, shape, kConstant, kComplement, kOperator, kStart, kGround, kDelay, kOr, kWhenTrue, kWhenFalse, kMerge, kMemory, kGated, kUnknown}
+use Rattle.model.specs.Word.{pick, bit, isZero, operate, elementOf, get16, put16, get32, put32, bytes16}
+use Rattle.model.specs.Circuit.{cellAt, control, high, mergeStep, memoryWords, startWord, Shape, shape, kConstant, kComplement, kOperator, kStart, kGround, kDelay, kOr, kWhenTrue, kWhenFalse, kMerge, kMemory, kGated, kArray, kAddress, kRead, kUnknown}
 use Rattle.model.specs.NetlistFile.{allZero}
 
 -- The bytes ----------------------------------------------------------------------------------------------------------------------------
 
 -- "State is 8 bytes (four-byte instant, four zero) and 40 per cell: value now and value an instant ago (two bytes each, the latter 0 at
 -- instant 0), held a, held b (a byte each), two zero bytes, and 32 bytes with the last 256 inputs of a delay, newest in the lowest bit of
--- the first byte."
+-- the first byte." "The 256 words stand after the state's cells."
 abbrev pub stateSize : List Cell → ℕ
-stateSize net = 8 + 40 * length net
+stateSize net = 8 + 40 * length net + 512
 
 -- where cell k's 40 bytes begin
 abbrev pub base : ℕ → ℕ
 base k = 8 + 40 * k
+
+-- where the word of element n begins
+abbrev pub elementBase : List Cell → ℕ → ℕ
+elementBase net n = 8 + 40 * length net + 2 * n
+
+abbrev pub elementNow : List Cell → List ℕ → ℕ → ℕ
+elementNow net s n = get16 s (elementBase net n)
 
 abbrev pub instantOf : List ℕ → ℕ
 instantOf s = get32 s 0
@@ -31,6 +38,10 @@ nowAt s k = get16 s (base k)
 abbrev pub beforeAt : List ℕ → ℕ → ℕ
 beforeAt s k = get16 s (base k + 2)
 
+-- the falling edge of a clock: it "is 0 and was 1 an instant ago"
+abbrev pub fallen : List ℕ → ℕ → Bool
+fallen s k = high (beforeAt s k) && not (high (nowAt s k))
+
 unfoldable pub heldAt : List ℕ → ℕ → Merge
 heldAt s k = record { a = high (getD s (base k + 4) 0); b = high (getD s (base k + 5) 0) }
 
@@ -40,25 +51,28 @@ lineBit s k i = getD s (base k + 8 + i / 8) 0 / 2 ^ (i % 8) % 2
 
 -- One instant --------------------------------------------------------------------------------------------------------------------------
 
--- What cell k, which is c, shows after instant 0. In s, lower cells have their values now already, all cells theirs an instant ago, and
--- held bits and lines are still those of an instant ago.
-unfoldable pub nextValue : Shape → List ℕ → ℕ → Cell → ℕ
-nextValue kConstant s k c = c .a
-nextValue kComplement s k c = operate 3 (nowAt s (c .a)) 0
-nextValue kOperator s k c = operate (c .kind) (nowAt s (c .a)) (nowAt s (c .b))
-nextValue kStart s k c = 0
-nextValue kGround s k c = 0
-nextValue kDelay s k c = lineBit s k (c .delay - 1)
-nextValue kOr s k c = bit (high (nowAt s (c .a)) || high (nowAt s (c .b)))
-nextValue kWhenTrue s k c = bit (high (nowAt s (c .a)) && not (isZero (nowAt s (c .b))))
-nextValue kWhenFalse s k c = bit (high (nowAt s (c .a)) && isZero (nowAt s (c .b)))
-nextValue kMerge s k c = bit (mergeStep (heldAt s k) (high (nowAt s (c .a))) (high (nowAt s (c .b))) .out)
-nextValue kMemory s k c = pick (high (beforeAt s (c .a)) && not (high (nowAt s (c .a)))) (beforeAt s (c .b)) (beforeAt s k)
-nextValue kGated s k c = pick (high (nowAt s (c .a))) (nowAt s (c .b)) 0
-nextValue kUnknown s k c = 0
+-- What cell k, which is c, shows after instant 0. In s, lower cells have their values now already, and the arrays of lower cells their words;
+-- all cells have their values an instant ago, and held bits and lines are still those of an instant ago.
+unfoldable pub nextValue : Shape → List Cell → List ℕ → ℕ → Cell → ℕ
+nextValue kConstant net s k c = c .a
+nextValue kComplement net s k c = operate 3 (nowAt s (c .a)) 0
+nextValue kOperator net s k c = operate (c .kind) (nowAt s (c .a)) (nowAt s (c .b))
+nextValue kStart net s k c = 0
+nextValue kGround net s k c = 0
+nextValue kDelay net s k c = lineBit s k (c .delay - 1)
+nextValue kOr net s k c = bit (high (nowAt s (c .a)) || high (nowAt s (c .b)))
+nextValue kWhenTrue net s k c = bit (high (nowAt s (c .a)) && not (isZero (nowAt s (c .b))))
+nextValue kWhenFalse net s k c = bit (high (nowAt s (c .a)) && isZero (nowAt s (c .b)))
+nextValue kMerge net s k c = bit (mergeStep (heldAt s k) (high (nowAt s (c .a))) (high (nowAt s (c .b))) .out)
+nextValue kMemory net s k c = pick (fallen s (c .a)) (beforeAt s (c .b)) (beforeAt s k)
+nextValue kGated net s k c = pick (high (nowAt s (c .a))) (nowAt s (c .b)) 0
+nextValue kArray net s k c = 0
+nextValue kAddress net s k c = 0
+nextValue kRead net s k c = elementNow net s (elementOf (cellAt net (c .a) .delay) (nowAt s (c .b)))
+nextValue kUnknown net s k c = 0
 
 abbrev pub value : List Cell → List ℕ → ℕ → ℕ
-value net s k = nextValue (shape (cellAt net k .kind)) s k (cellAt net k)
+value net s k = nextValue (shape (cellAt net k .kind)) net s k (cellAt net k)
 
 -- at instant 0 a start is 1 and a memory has its start word; the others, all bytes being 0, show what they show later
 abbrev pub firstValue : List Cell → (ℕ → ℕ) → List ℕ → ℕ → ℕ
@@ -76,9 +90,17 @@ upTo f (suc n) s = f (upTo f n s) n
 unfoldable pub aged : List ℕ → ℕ → List ℕ
 aged s k = put16 s (base k + 2) (nowAt s k)
 
+-- "A write uses address and data of the instant before the clock falls.": where cell k is a kind 42 whose clock falls, its array takes a word in
+unfoldable pub stored : List Cell → List ℕ → ℕ → List ℕ
+stored net s k =
+    let c = cellAt net k in
+    let address = cellAt net (k + 1) .a in
+    pick (eqb (c .kind) 42 && fallen s (c .a))
+    (put16 s (elementBase net (elementOf (c .delay) (beforeAt s address))) (beforeAt s (c .b))) s
+
 -- cell k shows the value that v makes of the state so far
-unfoldable pub shown : (List ℕ → ℕ → ℕ) → List ℕ → ℕ → List ℕ
-shown v s k = put16 s (base k) (v s k)
+unfoldable pub shown : List Cell → (List ℕ → ℕ → ℕ) → List ℕ → ℕ → List ℕ
+shown net v s k = put16 (stored net s k) (base k) (v s k)
 
 -- m bytes from i on, moved by a bit, x coming in lowest
 unfoldable pub shiftedIn : ℕ → List ℕ → ℕ → ℕ → List ℕ
@@ -102,16 +124,27 @@ settle kWhenFalse s k c = s
 settle kMerge s k c = holding s k (mergeStep (heldAt s k) (high (nowAt s (c .a))) (high (nowAt s (c .b))) .held)
 settle kMemory s k c = s
 settle kGated s k c = s
+settle kArray s k c = s
+settle kAddress s k c = s
+settle kRead s k c = s
 settle kUnknown s k c = s
 
 abbrev pub settled : List Cell → List ℕ → ℕ → List ℕ
 settled net s k = settle (shape (cellAt net k .kind)) s k (cellAt net k)
 
+-- the bytes of n words from x on
+unfoldable pub wordBytes : (ℕ → ℕ) → ℕ → ℕ → List ℕ
+wordBytes words x zero = []
+wordBytes words x (suc n) = bytes16 (words x) ++ wordBytes words (x + 1) n
+
+-- what beginning starts from: nothing in any cell, and the elements' start words, which "follow the sixteen"
+abbrev pub blank : List Cell → (ℕ → ℕ) → List ℕ → List ℕ
+blank net words s = replicate (8 + 40 * length net) 0 ++ (wordBytes words 16 256 ++ drop (stateSize net) s)
+
 -- "Beginning evaluates instant 0." "Lent bytes past a result keep their values."
 unfoldable pub beginState : List Cell → (ℕ → ℕ) → List ℕ → List ℕ
 beginState net words s =
-    let cleared = replicate (stateSize net) 0 ++ drop (stateSize net) s in
-    let valued = upTo (shown (firstValue net words)) (length net) cleared in
+    let valued = upTo (shown net (firstValue net words)) (length net) (blank net words s) in
     upTo (settled net) (length net) valued
 
 -- one further instant
@@ -119,7 +152,7 @@ unfoldable pub stepState : List Cell → List ℕ → List ℕ
 stepState net s =
     let counted = put32 s 0 (instantOf s + 1) in
     let past = upTo aged (length net) counted in
-    let valued = upTo (shown (value net)) (length net) past in
+    let valued = upTo (shown net (value net)) (length net) past in
     upTo (settled net) (length net) valued
 
 -- "Continuing by N evaluates later instants until the finish wire is high or N are done; a state whose finish is already high is continued

@@ -11,14 +11,15 @@ use Rattle.model.specs.TimeTables.{given, load}
 use Rattle.model.specs.Calls.{listed}
 use Rattle.model.specs.Promises.{Bytes}
 
--- the file of the times τ: "block number 0, 9 in bytes 2–3, zero in 4–5, the usual check, then nine bytes for kinds 1 to 9, the rest zero"
+-- the file of the times τ: "block number 0, 9 in bytes 2–3, zero in 4–5, the usual check, then nine bytes for kinds 1 to 9, the rest zero",
+-- with "a tenth byte, and 10 in bytes 2–3"
 unfoldable pub tableFile : (ℕ → ℕ) → List ℕ
-tableFile τ = blockWith 0 9 0 (listed τ 1 9 ++ replicate 495 0)
+tableFile τ = blockWith 0 10 0 (listed τ 1 10 ++ replicate 494 0)
 
 -- "Constant and variable are 0, the others 1 to 200."
 abbrev pub InRange : (ℕ → ℕ) → Type 0
-InRange τ = (τ 1 ≡ 0) × (τ 2 ≡ 0) × ((k : ℕ) → 3 ≤ k → k ≤ 9 → (1 ≤ τ k) × (τ k ≤ 200))
+InRange τ = (τ 1 ≡ 0) × (τ 2 ≡ 0) × ((k : ℕ) → 3 ≤ k → k ≤ 10 → (1 ≤ τ k) × (τ k ≤ 200))
 
 pub record Tables : Type 0 where
-  pub loads : (τ : ℕ → ℕ) → InRange τ → load (given (tableFile τ)) ≡ record { checked = Accepted; times = 0 ∷ listed τ 1 9 }
+  pub loads : (τ : ℕ → ℕ) → InRange τ → load (given (tableFile τ)) ≡ record { checked = Accepted; times = 0 ∷ listed τ 1 10 }
   pub only : (file : List ℕ) → Bytes file → load (given file) .checked ≡ Accepted → (τ : ℕ → ℕ) × InRange τ × (file ≡ tableFile τ)

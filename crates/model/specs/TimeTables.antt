@@ -15,12 +15,12 @@ use Rattle.model.specs.Program.{builtInTimes}
 use Rattle.model.specs.NetlistFile.{wordSum}
 
 -- byte i of a table may not be b: "block number 0, 9 in bytes 2–3, zero in 4–5, the usual check, then nine bytes for kinds 1 to 9, the rest
--- zero. Constant and variable are 0, the others 1 to 200."
+-- zero. Constant and variable are 0, the others 1 to 200." "The table of S-4 has a tenth byte, and 10 in bytes 2–3."
 unfoldable pub byteWrong : ℕ → ℕ → Bool
 byteWrong i b =
-    pick (eqb i 2) (not (eqb b 9))
+    pick (eqb i 2) (not (eqb b 10))
     (pick (eqb i 6 || eqb i 7) false
-    (pick (leb 10 i && leb i 16) (eqb b 0 || ltb 200 b)
+    (pick (leb 10 i && leb i 17) (eqb b 0 || ltb 200 b)
     (not (eqb b 0))))
 
 -- "21: another rule of the table broken, place the first wrong byte"
@@ -39,7 +39,7 @@ tableChecks file =
     ∷ firstFault (tableFault file) 0 512
     ∷ []
 
--- "nine bytes for kinds 1 to 9": entry k is the time of kind k, and no kind is 0
+-- ten bytes for kinds 1 to 10: entry k is the time of kind k, and no kind is 0
 unfoldable pub timesIn : List ℕ → List ℕ
 timesIn file =
     0
@@ -52,6 +52,7 @@ timesIn file =
     ∷ getD file 14 0
     ∷ getD file 15 0
     ∷ getD file 16 0
+    ∷ getD file 17 0
     ∷ []
 
 -- the built-in table, or one that a file gives

@@ -42,6 +42,18 @@ operate k x y =
     (pick (eqb k 8) (bit (eqb x y))
     (bit (ltb (biased x) (biased y))))))))
 
+-- "Only the low six bits of an index count."
+abbrev pub index : ℕ → ℕ
+index w = w % 64
+
+-- the element of array k with index w, the elements being numbered array by array
+abbrev pub elementOf : ℕ → ℕ → ℕ
+elementOf k w = 64 * k + index w
+
+-- and its word among all words of a program: "The 256 follow the sixteen"
+unfoldable pub elementWord : ℕ → ℕ → ℕ
+elementWord k w = 16 + elementOf k w
+
 -- Numbers in bytes ---------------------------------------------------------------------------------------------------------------------
 
 -- the number of two bytes at i, and a number put there

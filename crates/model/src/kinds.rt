@@ -11,7 +11,7 @@ pub struct Row {
 }
 
 // What a cell's delay, a or b is: of an unknown kind; unused, so zero; any value; a value from 1 to 255; or the number of a cell. That is
-// a control wire or a word wire, and stands below the cell that names it, or anywhere.
+// a control wire or a word wire, and stands below the cell that names it, or anywhere; or it is an array, and stands below.
 pub enum Use {
     Unknown,
     Unused,
@@ -21,6 +21,7 @@ pub enum Use {
     ControlAny,
     WordBelow,
     WordAny,
+    ArrayBelow,
 }
 
 // A kind's row of the table of cells: whether it is a control wire, and what its fields are.

@@ -50,7 +50,7 @@ pub struct Node {
 // What is given beside a program: what its check says, and the operator times, that of each kind from kind 0 on.
 pub struct Options {
     pub checked: Checked,
-    pub times: [u8; 10],
+    pub times: [u8; 11],
 }
 
 // A cell of a netlist, six bytes; callers in other languages lend slices of them.

@@ -18,9 +18,9 @@ pub const FILE_MOST: usize = 6656;
 // A list of cells, of any netlist and of a compiled one.
 pub const LIST_MOST: usize = 6144;
 
-pub const COMPILED_MOST: usize = 3714;
+pub const COMPILED_MOST: usize = 3762;
 
-// A state: a header, and for each cell its values, held bits and line.
+// A state: a header, for each cell its values, held bits and line, and then the elements.
 pub const STATE_HEADER: usize = 8;
 
 pub const STATE_CELL: usize = 40;
@@ -29,7 +29,9 @@ pub const STATE_LINE: usize = 8;
 
 pub const LINE: usize = 32;
 
-pub const STATE_MOST: usize = 40968;
+pub const ELEMENTS: usize = 512;
+
+pub const STATE_MOST: usize = 41480;
 
 // A program, a text, the start words, a run.
 pub const NODE: usize = 4;
@@ -40,6 +42,8 @@ pub const PROGRAM_MOST: usize = 800;
 
 pub const TEXT_MOST: usize = 4096;
 
-pub const START_WORDS: usize = 32;
+pub const START_WORDS: usize = 544;
+
+pub const VARIABLES: usize = 32;
 
 pub const LAST_INSTANT: u32 = 1000000;

@@ -5,18 +5,19 @@ use mathlib.Core.Path.{_≡_, refl, sym, _∙_}
 use Prim.Native.Nat.{ℕ, _+_, _<_, _≤_}
 use native.Mathlib.Omega.{arith}
 use native.Mathlib.Numerals.{add-one}
-use borrow.Author.Tests.{eqb-true, eqb-false, ltb-true, ltb-false, lt-ltb, le-ltb, ne-eqb}
-use lib.Dec.{eqb, ltb}
+use borrow.Author.Tests.{eqb-true, eqb-false, ltb-true, ltb-false, lt-ltb, le-ltb, le-leb, lt-leb, ne-eqb}
+use lib.Dec.{eqb, leb, ltb}
 use lib.ListN.{length, take, List·getD-eq-default}
 use lib.Seq.{take-suc, take-all}
 use Rattle.model.specs.declared.Cell.{Cell}
 use Rattle.model.specs.declared.Checked.the-variants.{Accepted}
 use Rattle.model.specs.Word.{pick, bit}
-use Rattle.model.specs.Refusals.{refuse, firstFault, faultIf}
-use Rattle.model.specs.Circuit.{cellAt, noCell, control, memories}
-use Rattle.model.specs.NetlistFile.{keeps, placed, cellFault, netCheck}
-use Rattle.laws.specs.Refusals.Laws.{by-bool}
+use Rattle.model.specs.Refusals.{refuse, refuseIf, first, firstFault, faultIf}
+use Rattle.model.specs.Circuit.{cellAt, noCell, control, memories, pastMemories}
+use Rattle.model.specs.NetlistFile.{keeps, placed, arrayPlaced, cellFault, netCheck}
+use Rattle.laws.specs.Refusals.Laws.{by-bool, by-le}
 use Rattle.laws.specs.Refusals.Search.{searched-none, fault-here, fault-next, faults-end}
+use Rattle.laws.specs.NetlistFile.Arrays.{past-end, past-from, past-until}
 use Rattle.laws.specs.Numbering.Memories.{memories-append}
 use Rattle.netlist.specs.declared.rules.Scan.{Scan}
 use Rattle.netlist.specs.Inputs.{Inputs}
@@ -27,31 +28,29 @@ unfolding bit
 bit-small true = omega arith
 bit-small false = omega arith
 
-pub cell-fault : (net : List Cell) (k : ℕ) (c : Cell) {p q : Bool} → cellAt net k ≡ c → p ≡ placed k c → q ≡ keeps net k c
-    → cellFault net k ≡ faultIf (not (p && q)) 12
+pub cell-fault : (net : List Cell) (k : ℕ) (c : Cell) {p r q : Bool} → cellAt net k ≡ c → p ≡ placed k c → r ≡ arrayPlaced (pastMemories net 16) k c
+    → q ≡ keeps net k c → cellFault net k ≡ faultIf (not (p && (r && q))) 12
 unfolding cellFault
-cell-fault net k c e f g = rw (e, ← f, ← g) refl
+cell-fault net k c e f a g = rw (e, ← f, ← a, ← g) refl
 
--- whether cell j is a control wire, if a is its kind where there is such a cell
-sort-of : (net : List Cell) (j : ℕ) {a : ℕ} → (j < length net → a ≡ cellAt net j .kind)
-    → (ltb j (length net) && control a) ≡ control (cellAt net j .kind)
-unfolding control
-sort-of net j e =
-    by-bool (ltb j (length net)) (λ t. rw (t, e (ltb-true j (length net) t)) refl)
+-- the kind of cell j, if a is its kind where there is such a cell
+kind-of : (net : List Cell) (j : ℕ) {a : ℕ} → (j < length net → a ≡ cellAt net j .kind) → pick (ltb j (length net)) a 0 ≡ cellAt net j .kind
+kind-of net j e =
+    by-bool (ltb j (length net)) (λ t. rw t (e (ltb-true j (length net) t)))
     (λ t. rw (t, List·getD-eq-default net noCell {n = j} (ltb-false j (length net) t)) refl)
 
-pub stands-inputs : {net : List Cell} {k n a b : ℕ} {c : Cell} {ca cb : Bool} → n ≡ length net → Stands net k c a b → ca ≡ control a
-    → cb ≡ control b → Inputs net n c (ltb (c .a) n && ca) (ltb (c .b) n && cb)
+pub stands-inputs : {net : List Cell} {k n a b x y : ℕ} {c : Cell} → n ≡ length net → Stands net k c a b → x ≡ pick (ltb (c .a) n) a 0
+    → y ≡ pick (ltb (c .b) n) b 0 → Inputs net n c x y
 stands-inputs {net} {c = c} l s e f = record {
   count = sym l;
-  a = rw (l, e) (sort-of net (c .a) (s .first));
-  b = rw (l, f) (sort-of net (c .b) (s .second));
+  first = rw (e, l) (kind-of net (c .a) (s .first));
+  second = rw (f, l) (kind-of net (c .b) (s .second));
 }
 
 -- A scan with one cell more ------------------------------------------------------------------------------------------------------------
 
 pub scan-none : (net : List Cell) (finish : ℕ) {n : ℕ} → length net ≡ n
-    → Scanned net finish 0 (record { n = n; finish = finish; kept = 0; memories = 0; control = false })
+    → Scanned net finish 0 (record { n = n; finish = finish; kept = 0; memories = 0; arrays = 0; control = false })
 unfolding memories
 scan-none net finish e = record {
   count = sym e;
@@ -59,6 +58,7 @@ scan-none net finish e = record {
   rules = record { low = omega arith; right = λ _. searched-none (cellFault net) (length net); wrong = λ h. absurd (omega (arith, h)) };
   few = omega arith;
   counted = refl;
+  past = by-le (pastMemories net 16) 0 (λ h. rw (le-leb _ _ h) (omega (arith, h))) (λ h. rw (lt-leb _ _ h) refl);
   sort = rw (le-ltb finish 0 (omega arith)) refl;
 }
 
@@ -94,6 +94,30 @@ module _ {net : List Cell} {finish k : ℕ} {s : Scan} (h : k < length net) (p :
   unfolding memories
   memories-more = rw (add-one k, take-suc net k noCell h) (memories-append (take k net) (cellAt net k ∷ []) ∙ omega arith)
 
+  -- where the arrays' cells begin, as far as cell k tells
+  past-more : {m : ℕ} → m ≡ pick (ltb (s .memories) 16) (k + 1) (s .arrays)
+      → m ≡ pick (leb (pastMemories net 16) (k + 1)) (pastMemories net 16) (k + 1)
+  past-more e =
+      let q = pastMemories net 16 in
+      by-le 16 (s .memories)
+      (λ l. let u : q ≤ k = past-from net 16 k h (omega (arith, l, p .counted)) in
+      e ∙ rw (le-ltb _ _ l, p .past, le-leb q k u, le-leb q (k + 1) (omega (arith, u))) refl)
+      (λ l. by-le q (k + 1)
+      (λ u. let v : k < q = by-le q k (λ w. absurd (omega (arith, l, p .counted, past-until net 16 k h w))) (λ w. w) in
+      e ∙ rw (lt-ltb _ _ l, le-leb q (k + 1) u) (omega (arith, u, v)))
+      (λ u. e ∙ rw (lt-ltb _ _ l, lt-leb q (k + 1) u) refl))
+
+  -- and the rule of their place needs no more
+  pub placed-more : (c : Cell) (m : ℕ) → m ≡ pick (ltb (s .memories) 16) (k + 1) (s .arrays)
+      → arrayPlaced m k c ≡ arrayPlaced (pastMemories net 16) k c
+  unfolding arrayPlaced
+  placed-more c m e =
+      let q = pastMemories net 16 in
+      by-le q (k + 1)
+      (λ u. let z : m ≡ q = rw (le-leb q (k + 1) u) at (past-more e) in rw z refl)
+      (λ u. let z : m ≡ k + 1 = rw (lt-leb q (k + 1) u) at (past-more e) in
+      rw (z, lt-leb (k + 1) k (omega arith), lt-leb q k (omega (arith, u))) refl)
+
   sort-more : (s .control || (eqb (s .finish) k && control (cellAt net k .kind)))
       ≡ (ltb finish (k + 1) && control (cellAt net finish .kind))
   sort-more =
@@ -105,22 +129,25 @@ module _ {net : List Cell} {finish k : ℕ} {s : Scan} (h : k < length net) (p :
       by-bool (eqb finish k) (λ u. let e = eqb-true finish k u in rw (t, u, e, lt-ltb k (k + 1) (omega arith)) refl)
       (λ u. rw (t, u, le-ltb finish (k + 1) (omega (arith, l, eqb-false finish k u))) refl)))
 
-  pub scan-more : {c : Cell} {kept m : ℕ} {w : Bool} (q : Bool) → cellAt net k ≡ c → cellFault net k ≡ faultIf (not q) 12
-      → kept ≡ pick (eqb (s .kept) k && q) (k + 1) (s .kept) → m ≡ bit (eqb (c .kind) 40) → w ≡ control (c .kind)
+  pub scan-more : {c : Cell} {kept m v : ℕ} {w : Bool} (q : Bool) → cellAt net k ≡ c → cellFault net k ≡ faultIf (not q) 12
+      → kept ≡ pick (eqb (s .kept) k && q) (k + 1) (s .kept) → v ≡ pick (ltb (s .memories) 16) (k + 1) (s .arrays)
+      → m ≡ bit (eqb (c .kind) 40) → w ≡ control (c .kind)
       → Scanned net finish (k + 1) (record {
         n = s .n;
         finish = s .finish;
         kept = kept;
         memories = s .memories + m;
+        arrays = v;
         control = s .control || (eqb (s .finish) k && w);
       })
-  scan-more {c} {m = m} q e f g i j =
+  scan-more {c} {m = m} q e f g a i j =
       record {
         count = p .count;
         end = p .end;
         rules = kept-more q f g;
         few = omega (arith, p .few, i, bit-small (eqb (c .kind) 40));
         counted = rw (i, ← e, p .counted) (sym memories-more);
+        past = past-more a;
         sort = rw (j, ← e) sort-more;
       }
 
@@ -138,18 +165,30 @@ module _ {net : List Cell} {finish : ℕ} {s : Scan} (p : Scanned net finish (le
     all-counted : memories net ≡ s .memories
     all-counted = rw (take-all (length net) net (omega arith)) at (sym (p .counted))
 
-    pub memories-wrong : (s .memories ≡ 16 → ⊥) → refuse 12 (s .n) ≡ netCheck net finish
-    unfolding netCheck
-    memories-wrong m = rw (all-kept, all-counted, ne-eqb _ _ m, p .count) refl
+    arrays-begin : s .arrays ≡ pastMemories net 16
+    arrays-begin = rw (le-leb (pastMemories net 16) (length net) (past-end net 16)) at (p .past)
 
-    module _ (m : s .memories ≡ 16) where
+    abbrev wrong : Bool
+    wrong = not (eqb (s .memories) 16) || ltb (s .n) (s .arrays + 8)
+
+    count-checks : netCheck net finish ≡ first (refuseIf wrong 12 (s .n) ∷ refuseIf (not (control (cellAt net finish .kind))) 12 finish ∷ [])
+    unfolding netCheck
+    count-checks =
+        rw (all-kept, all-counted, ← arrays-begin, ← p .count)
+        (by-bool (eqb (s .memories) 16) (λ t. rw t refl) (λ t. rw t refl))
+
+    pub count-wrong : wrong ≡ true → refuse 12 (s .n) ≡ netCheck net finish
+    count-wrong e = rw (count-checks, e) refl
+
+    module _ (e : wrong ≡ false) where
       finish-sort : s .control ≡ control (cellAt net finish .kind)
-      finish-sort = p .sort ∙ sort-of net finish (λ _. refl)
+      unfolding control
+      finish-sort =
+          p .sort ∙ by-bool (ltb finish (length net)) (λ t. rw t refl)
+          (λ t. rw (t, List·getD-eq-default net noCell {n = finish} (ltb-false finish (length net) t)) refl)
 
       pub finish-right : s .control ≡ true → Accepted ≡ netCheck net finish
-      unfolding netCheck
-      finish-right f = rw (all-kept, all-counted, m, ← finish-sort, f) refl
+      finish-right f = rw (count-checks, e, ← finish-sort, f) refl
 
       pub finish-wrong : s .control ≡ false → refuse 12 (s .finish) ≡ netCheck net finish
-      unfolding netCheck
-      finish-wrong f = rw (all-kept, all-counted, m, ← finish-sort, f, p .end) refl
+      finish-wrong f = rw (count-checks, e, ← finish-sort, f, p .end) refl

@@ -58,7 +58,7 @@ pub record Whole (s : List ℕ) : Type 0 where
 
 -- a number of cells that fits the number of blocks, and a finish among them
 pub record Counted (m count finish : ℕ) : Type 0 where
-  pub low : 19 ≤ count
+  pub low : 27 ≤ count
   pub high : count ≤ 1024
   pub blocks : m ≡ blocksFor count
   pub among : finish < count
@@ -87,7 +87,7 @@ counted m count finish e =
     let (a, f) = both _ _ (not-false _ e) in
     let (b, g) = both _ _ f in
     let (c, d) = both _ _ g in
-    record { low = leb-true 19 count a; high = leb-true count 1024 b; blocks = eqb-true m (blocksFor count) c; among = ltb-true finish count d }
+    record { low = leb-true 27 count a; high = leb-true count 1024 b; blocks = eqb-true m (blocksFor count) c; among = ltb-true finish count d }
 
 pub counted-room : {s : List ℕ} {count finish : ℕ} → Whole s → Counted (length s / 512) count finish → Room InFile s count
 counted-room w c = record { few = c .high; fits = omega (arith, w .whole, c .blocks) }

@@ -55,7 +55,7 @@ pub fn count_wrong(m: usize, count: usize, finish: usize) -> bool
     requires { ⌜ count + 83 < 2 ^ 64 ⌝ }
     ensures { λ r. ⌜ r ≡ countWrong m count finish ⌝ }
 {
-    !((19 <= count)
+    !((27 <= count)
         & ((count <= MOST_CELLS) & ((m == (count + BLOCK_LAST) / BLOCK_CELLS) & (finish < count))))
 }
 

@@ -1,7 +1,9 @@
 // The table of cell kinds in code, and what it tells of a kind and of a use.
-// Each contract is an equation with model/Circuit.
+// Each contract is an equation with model/Circuit and model/NetlistFile.
 ghost use mathlib.Core.Path.{_≡_};
+ghost use mathlib.Core.Bool.{_||_, not};
 ghost use Rattle.model.specs.Circuit.{row, cellRow, control, names};
+ghost use Rattle.model.specs.NetlistFile.{ofArray};
 use model::kinds::CellRow;
 use model::kinds::Use;
 
@@ -34,6 +36,9 @@ pub fn cell_row(kind: u8) -> CellRow
         38 => row(true, Use::Unused, Use::ControlBelow, Use::ControlBelow),
         40 => row(false, Use::Unused, Use::ControlBelow, Use::WordAny),
         41 => row(false, Use::Unused, Use::ControlBelow, Use::WordBelow),
+        42 => row(false, Use::Value, Use::ControlBelow, Use::WordAny),
+        43 => row(false, Use::Unused, Use::WordAny, Use::Unused),
+        44 => row(false, Use::Unused, Use::ArrayBelow, Use::WordBelow),
         _ => row(false, Use::Unknown, Use::Unknown, Use::Unknown),
     }
 }
@@ -43,6 +48,20 @@ pub fn is_control(kind: u8) -> bool
 {
     let row = cell_row(kind);
     row.control
+}
+
+// Whether a cell of this kind is one of an array's two.
+pub fn of_array(kind: u8) -> bool
+    ensures { λ r. ⌜ r ≡ ofArray kind ⌝ }
+{
+    (kind == 42) | (kind == 43)
+}
+
+// Whether a cell of this kind is a word wire that any cell may name.
+pub fn is_word(kind: u8) -> bool
+    ensures { λ r. ⌜ r ≡ not (control kind || ofArray kind) ⌝ }
+{
+    !(is_control(kind) | of_array(kind))
 }
 
 // Whether a field of this use is the number of a cell.
@@ -58,5 +77,6 @@ pub fn names(u: Use) -> bool
         Use::ControlAny => true,
         Use::WordBelow => true,
         Use::WordAny => true,
+        Use::ArrayBelow => true,
     }
 }

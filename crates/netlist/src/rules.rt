@@ -8,8 +8,8 @@ ghost use lib.Dec.{ltb, eqb};
 ghost use lib.ListN.{length};
 ghost use Rattle.model.specs.declared.Cell.{Cell};
 ghost use Rattle.model.specs.Word.{pick};
-ghost use Rattle.model.specs.Circuit.{cellAt, control, names};
-ghost use Rattle.model.specs.NetlistFile.{cellsAt, kept, stands, keeps, placed, netCheck};
+ghost use Rattle.model.specs.Circuit.{cellAt, names};
+ghost use Rattle.model.specs.NetlistFile.{cellsAt, kept, stands, keeps, placed, arrayPlaced, netCheck};
 ghost use Rattle.netlist.specs.Offsets.{offset, Room};
 ghost use Rattle.netlist.specs.Inputs.{Inputs};
 ghost use Rattle.netlist.specs.Scans.{Stands, Scanned};
@@ -20,13 +20,17 @@ use model::Checked;
 use model::Refusal;
 use model::kinds::Use;
 
-// A netlist of n cells, and what is found of its first ones: how many of them keep the rules, how many are memories, and whether the
-// finish is among them and is a control wire.
+// The cells of the four arrays.
+const ARRAY_CELLS: usize = 8;
+
+// A netlist of n cells, and what is found of its first ones: how many of them keep the rules, how many are memories, where the
+// arrays' cells begin, and whether the finish is among them and is a control wire.
 pub struct Scan {
     pub n: usize,
     pub finish: usize,
     pub kept: usize,
     pub memories: usize,
+    pub arrays: usize,
     pub control: bool,
 }
 
@@ -65,33 +69,51 @@ fn stands(kind: u8, k: usize) -> bool
     }
 }
 
-// Whether v, in cell k of n, is what its use asks for; `sort` tells whether cell v is a control wire, if v names a cell.
-fn keeps_use(u: Use, n: usize, k: usize, v: usize, sort: bool) -> bool
-    ensures { λ r. ⌜ ((net : List Cell) → length net ≡ n → (names u ≡ true → sort ≡ control (cellAt net v .kind)) → r ≡ kept u net k v) ⌝ }
+// Whether cell k may be c, where the arrays' cells begin at m: a 42 and a 43 for each array, and nowhere else.
+fn arrays_placed(m: usize, k: usize, c: Cell) -> bool
+    ensures { λ r. ⌜ r ≡ arrayPlaced m k c ⌝ }
+{
+    if k < m {
+        return !kinds::of_array(c.kind);
+    }
+    let j = k - m;
+    if ARRAY_CELLS <= j {
+        return !kinds::of_array(c.kind);
+    }
+    if j % 2 == 0 {
+        return (c.kind == 42) & ((c.delay as usize) == j / 2);
+    }
+    c.kind == 43
+}
+
+// Whether v, in cell k of n, is what its use asks for; `kind` is that of cell v, if v names a cell.
+fn keeps_use(u: Use, n: usize, k: usize, v: usize, kind: u8) -> bool
+    ensures { λ r. ⌜ ((net : List Cell) → length net ≡ n → (names u ≡ true → kind ≡ cellAt net v .kind) → r ≡ kept u net k v) ⌝ }
 {
     match u {
         Use::Unknown => false,
         Use::Unused => v == 0,
         Use::Value => true,
         Use::Positive => (1 <= v) & (v <= 255),
-        Use::ControlBelow => (v < k) & sort,
-        Use::ControlAny => (v < n) & sort,
-        Use::WordBelow => (v < k) & !sort,
-        Use::WordAny => (v < n) & !sort,
+        Use::ControlBelow => (v < k) & kinds::is_control(kind),
+        Use::ControlAny => (v < n) & kinds::is_control(kind),
+        Use::WordBelow => (v < k) & kinds::is_word(kind),
+        Use::WordAny => (v < n) & kinds::is_word(kind),
+        Use::ArrayBelow => (v < k) & (kind == 42),
     }
 }
 
-// Whether cell k of n, which is c, keeps the rules of its kind; ca and cb tell whether its inputs are control wires.
-fn keeps_rule(n: usize, k: usize, c: Cell, ca: bool, cb: bool) -> bool
-    ensures { λ r. ⌜ ((net : List Cell) → Inputs net n c ca cb → r ≡ keeps net k c) ⌝ }
+// Whether cell k of n, which is c, keeps the rules of its kind; a and b are the kinds of its inputs.
+fn keeps_rule(n: usize, k: usize, c: Cell, a: u8, b: u8) -> bool
+    ensures { λ r. ⌜ ((net : List Cell) → Inputs net n c a b → r ≡ keeps net k c) ⌝ }
 {
     let row = kinds::cell_row(c.kind);
-    let delay = row.delay;
-    let a = row.a;
-    let b = row.b;
-    let right_delay = keeps_use(delay, n, k, c.delay as usize, false);
-    let right_a = keeps_use(a, n, k, c.a as usize, ca);
-    let right_b = keeps_use(b, n, k, c.b as usize, cb);
+    let use_delay = row.delay;
+    let use_a = row.a;
+    let use_b = row.b;
+    let right_delay = keeps_use(use_delay, n, k, c.delay as usize, 0);
+    let right_a = keeps_use(use_a, n, k, c.a as usize, a);
+    let right_b = keeps_use(use_b, n, k, c.b as usize, b);
     stands(c.kind, k) & (right_delay & (right_a & right_b))
 }
 
@@ -106,6 +128,17 @@ fn with_next(kept: usize, k: usize, right: bool) -> usize
     kept
 }
 
+// Where the arrays' cells begin: behind the sixteenth memory, or, while there are fewer, behind cell k.
+fn past_memories(memories: usize, k: usize, before: usize) -> usize
+    requires { ⌜ k + 1 < 2 ^ 64 ⌝ }
+    ensures { λ r. ⌜ r ≡ pick (ltb memories 16) (k + 1) before ⌝ }
+{
+    if memories < 16 {
+        return k + 1;
+    }
+    before
+}
+
 pub fn begin(n: usize, finish: usize) -> Scan
     ensures { λ r. ⌜ ((net : List Cell) → length net ≡ n → Scanned net finish 0 r) ⌝ }
 {
@@ -114,6 +147,7 @@ pub fn begin(n: usize, finish: usize) -> Scan
         finish,
         kept: 0,
         memories: 0,
+        arrays: 0,
         control: false,
     }
 }
@@ -129,16 +163,28 @@ pub fn input(n: usize, k: usize, j: u16) -> usize
     k
 }
 
+// The kind of cell j of n, 0 past the last.
+fn known(n: usize, j: u16, kind: u8) -> u8
+    ensures { λ r. ⌜ r ≡ pick (ltb j n) kind 0 ⌝ }
+{
+    if (j as usize) < n {
+        return kind;
+    }
+    0
+}
+
 // The scan with cell k, which is c; a and b are the kinds of the cells that its inputs name.
 pub fn step(s: Scan, k: usize, c: Cell, a: u8, b: u8) -> Scan
     requires { ⌜ (k < s .n) × (s .memories ≤ k) ⌝ }
     ensures { λ r. ⌜ ((net : List Cell) (finish : ℕ) → Stands net k c a b → Scanned net finish k s → Scanned net finish (k + 1) r) ⌝ }
 {
     let n = s.n;
-    let ca = ((c.a as usize) < n) & kinds::is_control(a);
-    let cb = ((c.b as usize) < n) & kinds::is_control(b);
-    let keeps = keeps_rule(n, k, c, ca, cb);
-    let kept = with_next(s.kept, k, is_placed(k, c) & keeps);
+    let kind_a = known(n, c.a, a);
+    let kind_b = known(n, c.b, b);
+    let keeps = keeps_rule(n, k, c, kind_a, kind_b);
+    let arrays = past_memories(s.memories, k, s.arrays);
+    let right = is_placed(k, c) & (arrays_placed(arrays, k, c) & keeps);
+    let kept = with_next(s.kept, k, right);
     let memory = word::bit(c.kind == 40) as usize;
     let found = (s.finish == k) & kinds::is_control(c.kind);
     Scan {
@@ -146,8 +192,19 @@ pub fn step(s: Scan, k: usize, c: Cell, a: u8, b: u8) -> Scan
         finish: s.finish,
         kept,
         memories: s.memories + memory,
+        arrays,
         control: s.control | found,
     }
+}
+
+// Whether the end of n cells cuts the arrays' cells off, which begin at m.
+fn cut_off(n: usize, m: usize) -> bool
+    ensures { λ r. ⌜ r ≡ ltb n (m + 8) ⌝ }
+{
+    if n < ARRAY_CELLS {
+        return true;
+    }
+    n - ARRAY_CELLS < m
 }
 
 // Refusal 12, when every cell is looked at.
@@ -160,7 +217,7 @@ pub fn told(s: Scan) -> Checked
             place: s.kept,
         });
     }
-    if s.memories != 16 {
+    if (s.memories != 16) | cut_off(s.n, s.arrays) {
         return Checked::Refused(Refusal {
             number: 12,
             place: s.n,

@@ -55,7 +55,8 @@ other-clashes a x y z n =
     (by-pick Free (eqb k 19) _ _ refl
     (rw (ne-eqb k 20 n)
     (by-pick Free (eqb k 21) _ _ refl
-    (by-pick Free (eqb k 22) _ _ refl refl)))))))
+    (by-pick Free (eqb k 22) _ _ refl
+    (by-pick Free (eqb k 24) _ _ refl refl))))))))
   where
     k : ℕ
     k = a .kind
@@ -65,7 +66,7 @@ other-clashes a x y z n =
 
 module _ (s : List ℕ) (i : ℕ) (h : i < nodeCount s) (a : Node) (ea : a ≡ nodeAt s i) where
   -- of a parallel node, whose second side is the tree of node j
-  pub clash-par : a .kind ≡ 20 → (j : ℕ) → treesAt s j ≡ drop 1 (treesAt s (i + 1)) → (b : Bool) → conflict 16 (stmtAt s (i + 1)) (stmtAt s j) ≡ b
+  pub clash-par : a .kind ≡ 20 → (j : ℕ) → treesAt s j ≡ drop 1 (treesAt s (i + 1)) → (b : Bool) → conflict 20 (stmtAt s (i + 1)) (stmtAt s j) ≡ b
       → conflictFault s i ≡ faultIf b 8
   unfolding conflictFault conflicts
   clash-par k j ej b e = ap (λ (P : Stmt). faultIf (conflicts P) 8) (at-par s i h a ea j ej k) ∙ ap (λ (b : Bool). faultIf b 8) e

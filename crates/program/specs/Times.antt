@@ -9,12 +9,11 @@ use native.Mathlib.Decide.{decLt}
 use lib.ListN.{length, getD, drop}
 use lib.Seq.{getD-drop}
 use lib.Dec.{T, ltb, eqb}
-use borrow.Author.Tests.{lt-ltb, le-ltb}
+use borrow.Author.Tests.{lt-ltb, le-ltb, ne-eqb}
 use Rattle.model.specs.declared.Node.{Node}
 use Rattle.model.specs.Word.{pick}
 use Rattle.model.specs.Program.{Expr, while, repeat, Tree, nodeAt, nodeCount, nodesAt, none, asExpr, asStmt, exprOf, stmtOf, treeOf, arity, grow, forest, treesAt, exprAt, stmtAt, time, least, delayFault, node}
-use Rattle.laws.specs.Program.Passed.{Passed}
-use Rattle.laws.specs.Program.Trees.{length-nodes, expr-none, by-pick, other-kind, treeAt, tree-is, tree-of, no-expr, no-stmt, at-const, at-var, at-compl, at-op, at-ok}
+use Rattle.laws.specs.Program.Trees.{length-nodes, expr-none, by-pick, other-kind, treeAt, tree-is, tree-of, no-expr, no-stmt, at-const, at-var, at-compl, at-elem, at-op, at-ok, at-assign-elem}
 
 -- Times --------------------------------------------------------------------------------------------------------------------------------
 
@@ -43,17 +42,21 @@ module _ (τ : ℕ → ℕ) (s : List ℕ) (i : ℕ) (h : i < nodeCount s) (a : 
       unfolding time
       time-compl e = ap₂ _+_ (eo ∙ ap τ e) et ∙ sym (ap (time τ) (at-compl s i h a ea e))
 
-      pub time-op : a .kind < 16 → (a .kind ≡ 1 → ⊥) → (a .kind ≡ 2 → ⊥) → (a .kind ≡ 3 → ⊥) → (j : ℕ) → treesAt s j ≡ drop 1 (treesAt s (i + 1))
+      pub time-elem : a .kind ≡ 10 → o + t ≡ time τ (exprAt s i)
+      unfolding time
+      time-elem e = ap₂ _+_ (eo ∙ ap τ e) et ∙ sym (ap (time τ) (at-elem s i h a ea e))
+
+      pub time-op : a .kind < 16 → (a .kind ≡ 1 → ⊥) → (a .kind ≡ 2 → ⊥) → (a .kind ≡ 3 → ⊥) → (a .kind ≡ 10 → ⊥) → (j : ℕ) → treesAt s j ≡ drop 1 (treesAt s (i + 1))
           → (u : ℕ) → u ≡ time τ (exprAt s j) → o + max t u ≡ time τ (exprAt s i)
       unfolding time
-      time-op l p q r j ej u eu = ap₂ _+_ eo (ap₂ max et eu) ∙ sym (ap (time τ) (at-op s i h a ea j ej l p q r))
+      time-op l p q r w j ej u eu = ap₂ _+_ eo (ap₂ max et eu) ∙ sym (ap (time τ) (at-op s i h a ea j ej l p q r w))
 
 -- Least delays -------------------------------------------------------------------------------------------------------------------------
 
 -- while and repeat have the same
-loop-least : (τ : ℕ → ℕ) (a : Node) (x y z : Tree) → 22 ≤ a .kind → least τ (asStmt (treeOf a x y z)) ≡ max 1 (time τ (asExpr x))
+loop-least : (τ : ℕ → ℕ) (a : Node) (x y z : Tree) → 22 ≤ a .kind → (a .kind ≡ 24 → ⊥) → least τ (asStmt (treeOf a x y z)) ≡ max 1 (time τ (asExpr x))
 unfolding treeOf stmtOf asStmt least
-loop-least τ a x y z l = rw (le-ltb _ _ high, no 16 tt, no 17 tt, no 18 tt, no 19 tt, no 20 tt, no 21 tt) (either (eqb (a .kind) 22))
+loop-least τ a x y z l n = rw (le-ltb _ _ high, no 16 tt, no 17 tt, no 18 tt, no 19 tt, no 20 tt, no 21 tt, ne-eqb _ _ n) (either (eqb (a .kind) 22))
   where
     high : 16 ≤ a .kind
     high = omega arith
@@ -97,19 +100,25 @@ module _ (τ : ℕ → ℕ) (s : List ℕ) (i : ℕ) (h : i < nodeCount s) (a : 
     unfolding treeOf stmtOf asStmt least exprAt
     least-if e = et ∙ sym (of-kind 21 e)
 
-    least-loop : 22 ≤ a .kind → least τ (stmtAt s i) ≡ max 1 (time τ (exprAt s (i + 1)))
+    least-loop : 22 ≤ a .kind → (a .kind ≡ 24 → ⊥) → least τ (stmtAt s i) ≡ max 1 (time τ (exprAt s (i + 1)))
     unfolding stmtAt exprAt
-    least-loop l = ap (λ (t : Tree). least τ (asStmt t)) (tree-is s i h a ea) ∙ loop-least τ a _ _ _ l
+    least-loop l n = ap (λ (t : Tree). least τ (asStmt t)) (tree-is s i h a ea) ∙ loop-least τ a _ _ _ l n
 
-    -- assignments and loops
-    pub least-other : 16 < a .kind → (a .kind ≡ 17 → ⊥) → (a .kind ≡ 19 → ⊥) → (a .kind ≡ 20 → ⊥) → (a .kind ≡ 21 → ⊥)
+    -- an element assignment's second child is the tree of node j
+    pub least-elem : a .kind ≡ 24 → (j : ℕ) → treesAt s j ≡ drop 1 (treesAt s (i + 1)) → (u : ℕ) → u ≡ time τ (exprAt s j)
+        → max 1 (max t u) ≡ least τ (stmtAt s i)
+    unfolding least
+    least-elem e j ej u eu = ap (max 1) (ap₂ max et eu) ∙ sym (ap (least τ) (at-assign-elem s i h a ea j ej e))
+
+    -- assignments to variables, and loops
+    pub least-other : 16 < a .kind → (a .kind ≡ 17 → ⊥) → (a .kind ≡ 19 → ⊥) → (a .kind ≡ 20 → ⊥) → (a .kind ≡ 21 → ⊥) → (a .kind ≡ 24 → ⊥)
         → max 1 t ≡ least τ (stmtAt s i)
     unfolding treeOf stmtOf asStmt least exprAt stmtAt
-    least-other l n p q r = ap (max 1) et ∙ sym (go (decLt (a .kind) 22))
+    least-other l n p q r w = ap (max 1) et ∙ sym (go (decLt (a .kind) 22))
       where
         go : Dec (a .kind < 22) → least τ (stmtAt s i) ≡ max 1 (time τ (exprAt s (i + 1)))
         go (yes m) = let e : a .kind ≡ 18 = omega arith in of-kind 18 e
-        go (no n) = let m : 22 ≤ a .kind = omega arith in least-loop m
+        go (no n) = let m : 22 ≤ a .kind = omega arith in least-loop m w
 
 -- a delay, and the least that it may be
 module _ (τ : ℕ → ℕ) (s : List ℕ) (i : ℕ) (a : Node) (ea : a ≡ nodeAt s i) (l : ℕ) (el : l ≡ least τ (stmtAt s i)) where
@@ -131,11 +140,13 @@ module _ (τ : ℕ → ℕ) (low : (k : ℕ) → τ k ≤ 255) where
       let l1 = low 1 in
       let l2 = low 2 in
       let l3 = low 3 in
+      let l10 = low 10 in
       let lk = low (a .kind) in
       by-pick (λ (t : Tree). time τ (asExpr t) ≤ 255 + m) (ltb (a .kind) 16) _ _
       (by-pick (λ (e : Expr). time τ e ≤ 255 + m) (eqb (a .kind) 1) _ _ (omega arith)
       (by-pick (λ (e : Expr). time τ e ≤ 255 + m) (eqb (a .kind) 2) _ _ (omega arith)
-      (by-pick (λ (e : Expr). time τ e ≤ 255 + m) (eqb (a .kind) 3) _ _ (omega arith) (omega arith))))
+      (by-pick (λ (e : Expr). time τ e ≤ 255 + m) (eqb (a .kind) 3) _ _ (omega arith)
+      (by-pick (λ (e : Expr). time τ e ≤ 255 + m) (eqb (a .kind) 10) _ _ (omega arith) (omega arith)))))
       (omega arith)
 
   forest-time : (ns : List Node) (k : ℕ) → time τ (asExpr (getD (forest ns) k none)) ≤ 255 * length ns + 255
@@ -155,17 +166,3 @@ module _ (τ : ℕ → ℕ) (low : (k : ℕ) → τ k ≤ 255) where
   -- with an operator's time it fits sixteen bits
   pub time-fits : (s : List ℕ) → length s ≤ 800 → (i : ℕ) → 1 ≤ i → (o t k : ℕ) → o ≡ τ k → t ≡ time τ (exprAt s i) → o + t < 65536
   time-fits s short i l o t k eo et = omega (arith, time-low s i, low k)
-
--- Of a program that passed ------------------------------------------------------------------------------------------------------------
-
-module _ (τ : ℕ → ℕ) (s : List ℕ) where
-  -- ticks, assignments and loops take at least an instant
-  pub some-delay : Passed τ s → (j : ℕ) → j < nodeCount s → 17 ≤ nodeAt s j .kind
-      → (nodeAt s j .kind ≡ 19 → ⊥) → (nodeAt s j .kind ≡ 20 → ⊥) → (nodeAt s j .kind ≡ 21 → ⊥) → 1 ≤ nodeAt s j .delay
-  some-delay P j h l p q r = go (decLt 17 (nodeAt s j .kind))
-    where
-      go : Dec (17 < nodeAt s j .kind) → 1 ≤ nodeAt s j .delay
-      go (yes m) = omega (arith, P .slowless j h, least-other τ s j h (nodeAt s j) refl _ refl l (λ e. omega (arith, e, m)) p q r)
-      go (no n) =
-          let e : nodeAt s j .kind ≡ 17 = omega arith in
-          omega (arith, P .slowless j h, least-tick τ s j h (nodeAt s j) refl e)

@@ -11,7 +11,7 @@ use lib.Dec.{eqb}
 use borrow.Author.Tests.{lt-ltb, ne-eqb}
 use Rattle.model.specs.declared.Node.{Node}
 use Rattle.model.specs.Word.{pick}
-use Rattle.model.specs.Program.{Expr, const, var, compl, op, Stmt, ok, tick, assign, seq, par, ite, while, repeat, Tree, stmt, nodeAt, nodeCount, nodesFrom, none, stmtAt, reads, writes, touches, preorderE, preorder, node}
+use Rattle.model.specs.Program.{Expr, const, var, compl, op, elem, Stmt, ok, tick, assign, assignElem, seq, par, ite, while, repeat, Tree, stmt, nodeAt, nodeCount, nodesFrom, none, stmtAt, arrayVar, reads, writes, touches, preorderE, preorder, node}
 use Rattle.laws.specs.Program.Trees.{nodes-step, nodes-none, treeAt, trees-none}
 use Rattle.program.specs.Ends.{Laid, past, past-trees, past-within}
 use Rattle.laws.specs.Program.Preorder.{nodesOf, KnownT}
@@ -19,9 +19,11 @@ use Rattle.laws.specs.Program.Fit.{KnownE, Known}
 use Rattle.laws.specs.Program.Passed.{Readable, known-at, par-sides}
 use Rattle.program.specs.Ranges.{subtree}
 
--- a node assigns to x or, where the flag is set, reads it
+-- a node assigns to x or, where the flag is set, reads it; of kinds 24 and 10 that is the array
 unfoldable pub names : Bool → ℕ → Node → Bool
-names touch x a = (eqb (a .kind) 18 || (eqb (a .kind) 2 && touch)) && eqb x (a .n)
+names touch x a =
+    ((eqb (a .kind) 18 || (eqb (a .kind) 2 && touch)) && eqb x (a .n))
+    || ((eqb (a .kind) 24 || (eqb (a .kind) 10 && touch)) && eqb x (arrayVar (a .n)))
 
 -- one of these nodes does
 unfoldable pub named : Bool → ℕ → List Node → Bool
@@ -101,22 +103,28 @@ module _ (touch : Bool) (x : ℕ) where
 
   operator-names : (k : ℕ) → 4 ≤ k → k ≤ 9 → names touch x (node k 0 0) ≡ false
   unfolding names
-  operator-names k l h = rw (ne-eqb k 18 (λ e. omega (arith, e)), ne-eqb k 2 (λ e. omega (arith, e)))
+  operator-names k l h =
+      rw (ne-eqb k 18 (λ e. omega (arith, e)), ne-eqb k 2 (λ e. omega (arith, e)), ne-eqb k 24 (λ e. omega (arith, e)), ne-eqb k 10 (λ e. omega (arith, e)))
 
   named-reads : (e : Expr) → KnownE e → named touch x (preorderE e) ≡ (touch && reads e x)
   unfolding preorderE reads named names
   named-reads (const n) g = and-false touch
-  named-reads (var n) g = or-false (touch && eqb x n)
+  named-reads (var n) g = or-false ((touch && eqb x n) || false) ∙ or-false (touch && eqb x n)
   named-reads (compl e) g = named-reads e g
   named-reads (op k a b) g =
       ap (λ (c : Bool). c || named touch x (preorderE a ++ preorderE b)) (operator-names k (g .0) (g .1))
       ∙ named-two (preorderE a) (preorderE b) _ _ (named-reads a (g .2)) (named-reads b (g .3)) ∙ and-or touch (reads a x) (reads b x)
+  named-reads (elem k e) g = ap (λ (b : Bool). (touch && eqb x (arrayVar k)) || b) (named-reads e g) ∙ and-or touch (eqb x (arrayVar k)) (reads e x)
 
   pub named-uses : (P : Stmt) → Known P → named touch x (preorder P) ≡ uses touch P x
   unfolding preorder touches writes named names
   named-uses ok g = uses-none touch
   named-uses (tick d) g = uses-none touch
-  named-uses (assign d y e) g = ap (λ (b : Bool). eqb x y || b) (named-reads e (g .2)) ∙ uses-assign touch (eqb x y) (reads e x)
+  named-uses (assign d y e) g = ap₂ _||_ (or-false (eqb x y)) (named-reads e (g .2)) ∙ uses-assign touch (eqb x y) (reads e x)
+  named-uses (assignElem d k i e) g =
+      ap (λ (b : Bool). eqb x (arrayVar k) || b)
+      (named-two (preorderE i) (preorderE e) _ _ (named-reads i (g .2)) (named-reads e (g .3)) ∙ and-or touch (reads i x) (reads e x))
+      ∙ uses-assign touch (eqb x (arrayVar k)) (reads i x || reads e x)
   named-uses (seq P Q) g = named-two (preorder P) (preorder Q) _ _ (named-uses P (g .0)) (named-uses Q (g .1)) ∙ uses-two touch _ _ _ _
   named-uses (par P Q) g = named-two (preorder P) (preorder Q) _ _ (named-uses P (g .0)) (named-uses Q (g .1)) ∙ uses-two touch _ _ _ _
   named-uses (ite d e P Q) g =

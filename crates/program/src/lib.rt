@@ -8,7 +8,7 @@ ghost use mathlib.Core.List.{[], _∷_};
 ghost use Prim.Native.Nat.{ℕ, _+_, _*_, _≤_, _<_, max};
 ghost use lib.ListN.{length, getD, take, drop};
 ghost use Rattle.model.specs.Refusals.{refuse, first, firstFault};
-ghost use Rattle.model.specs.Program.{nodeAt, nodeCount, nodesAt, rowOf, exprAt, stmtAt, time, timeIn, least, writes, touches, programLengthWrong, unusedSet, nodeFault, reading, delayFault, conflictFault, programChecks};
+ghost use Rattle.model.specs.Program.{nodeAt, nodeCount, nodesAt, rowOf, exprAt, stmtAt, time, timeIn, least, writes, touches, programLengthWrong, unusedSet, absent, nodeFault, reading, delayFault, conflictFault, programChecks};
 ghost use Rattle.model.specs.Calls.{checkCall};
 ghost use Rattle.program.specs.Ends.{Laid, past, skips};
 ghost use Rattle.laws.specs.Program.Passed.{Readable};
@@ -36,7 +36,7 @@ pub struct Scanned {
 struct Line(u8, u8, u8, u8, u8);
 
 // The paper's table, but for its times: entry k is the row of kind k.
-const TABLE: [Line; 24] = [
+const TABLE: [Line; 25] = [
     Line(0, 0, 0, 0, 0), // 0 unknown
     Line(1, 0, 1, 0, 0), // 1 constant n
     Line(1, 0, 2, 0, 0), // 2 variable n
@@ -47,7 +47,7 @@ const TABLE: [Line; 24] = [
     Line(1, 0, 0, 2, 0), // 7 bitwise or
     Line(1, 0, 0, 2, 0), // 8 equal
     Line(1, 0, 0, 2, 0), // 9 less
-    Line(0, 0, 0, 0, 0), // 10
+    Line(1, 0, 3, 1, 0), // 10 element of array n
     Line(0, 0, 0, 0, 0), // 11
     Line(0, 0, 0, 0, 0), // 12
     Line(0, 0, 0, 0, 0), // 13
@@ -61,13 +61,14 @@ const TABLE: [Line; 24] = [
     Line(2, 1, 0, 1, 2), // 21 if e then P else Q
     Line(2, 1, 0, 1, 1), // 22 while e do P
     Line(2, 1, 0, 1, 1), // 23 repeat P until e
+    Line(2, 1, 3, 2, 0), // 24 element of array n := e
 ];
 
 // Of a kind that the table does not have, the row is that of kind 0.
 pub fn kind_row(kind: u8) -> Row
     ensures { λ r. ⌜ r ≡ rowOf kind ⌝ }
 {
-    let k = if kind < 24 { kind as usize } else { 0 };
+    let k = if kind < 25 { kind as usize } else { 0 };
     let line = TABLE[k];
     Row {
         sort: line.0,
@@ -103,6 +104,13 @@ fn spare(used: u8, value: u16) -> bool
     if used == 0 { 0 < value } else { false }
 }
 
+// A variable above 15, or an array above 3.
+fn absent(used: u8, n: u16) -> bool
+    ensures { λ r. ⌜ r ≡ absent used n ⌝ }
+{
+    ((used == 2) & (15 < n)) | ((used == 3) & (3 < n))
+}
+
 // Refusals 2 to 4 of one node, or 0.
 fn fault_of(node: Node) -> u8
     ensures { λ r. ⌜ r ≡ nodeFault node ⌝ }
@@ -114,11 +122,7 @@ fn fault_of(node: Node) -> u8
     if spare(row.delay, node.delay as u16) | spare(row.number, node.n) {
         return 3;
     }
-    if (row.number == 2) & (15 < node.n) {
-        4
-    } else {
-        0
-    }
+    if absent(row.number, node.n) { 4 } else { 0 }
 }
 
 // Refusal 1.
@@ -274,14 +278,23 @@ fn time_at(
     if kind == 3 {
         return operator + first;
     }
+    if kind == 10 {
+        return operator + first;
+    }
     let count = program.len() / NODE;
     let second = known_time(operators, program, times, next(ends, count, i + 1));
     operator + larger(first, second)
 }
 
 // The least delay that node i may have.
-fn least_at(operators: &[u8], program: &[u8], times: &[u16; 200], i: usize) -> u16
-    requires { ⌜ (length (now program) ≤ 800) × (i < nodeCount (now program)) × (i + 1 < nodeCount (now program) → getD (now times) (i + 1) 0 ≡ time (timeIn (now operators)) (exprAt (now program) (i + 1))) ⌝ }
+fn least_at(
+    operators: &[u8],
+    program: &[u8],
+    times: &[u16; 200],
+    ends: &[usize; 200],
+    i: usize,
+) -> u16
+    requires { ⌜ (length (now program) ≤ 800) × (i < nodeCount (now program)) × ((j : ℕ) → j < nodeCount (now program) → Shaped (timeIn (now operators)) (now program) (now times) (now ends) j) ⌝ }
     ensures { λ r. ⌜ r ≡ least (timeIn (now (operators .entry))) (stmtAt (now (program .entry)) i) ⌝ }
 {
     let node = read_node(program, i);
@@ -302,19 +315,24 @@ fn least_at(operators: &[u8], program: &[u8], times: &[u16; 200], i: usize) -> u
     if kind == 21 {
         return time;
     }
+    if kind == 24 {
+        let count = program.len() / NODE;
+        let second = known_time(operators, program, times, next(ends, count, i + 1));
+        return larger(1, larger(time, second));
+    }
     larger(1, time)
 }
 
 // Refusal 7: the first node whose delay is too small.
-fn first_slow(operators: &[u8], program: &[u8], times: &[u16; 200]) -> Checked
-    requires { ⌜ (length (now program) ≤ 800) × ((j : ℕ) → j < nodeCount (now program) → getD (now times) j 0 ≡ time (timeIn (now operators)) (exprAt (now program) j)) ⌝ }
+fn first_slow(operators: &[u8], program: &[u8], times: &[u16; 200], ends: &[usize; 200]) -> Checked
+    requires { ⌜ (length (now program) ≤ 800) × ((j : ℕ) → j < nodeCount (now program) → Shaped (timeIn (now operators)) (now program) (now times) (now ends) j) ⌝ }
     ensures { λ r. ⌜ r ≡ firstFault (delayFault (timeIn (now (operators .entry))) (now (program .entry))) 0 (nodeCount (now (program .entry))) ⌝ }
 {
     let count = program.len() / NODE;
     let mut i: usize = 0;
     while i < count {
         let node = read_node(program, i);
-        if (node.delay as u16) < least_at(operators, program, times, i) {
+        if (node.delay as u16) < least_at(operators, program, times, ends, i) {
             return refused(7, i);
         }
         i += 1;
@@ -322,11 +340,13 @@ fn first_slow(operators: &[u8], program: &[u8], times: &[u16; 200]) -> Checked
     Checked::Accepted
 }
 
-// The node assigns to x or, where the flag is set, reads it.
+// The node assigns to x or, where the flag is set, reads it; array n is variable 16 + n.
 fn names(node: Node, x: u16, touch: bool) -> bool
     ensures { λ r. ⌜ r ≡ names touch x node ⌝ }
 {
-    ((node.kind == 18) | ((node.kind == 2) & touch)) & (x == node.n)
+    let variable = ((node.kind == 18) | ((node.kind == 2) & touch)) & (x == node.n);
+    let array = (node.kind == 24) | ((node.kind == 10) & touch);
+    variable | (array & (x as u32 == 16 + node.n as u32))
 }
 
 // The statement at node i writes x or, where the flag is set, reads or writes it.
@@ -354,7 +374,7 @@ fn crosses(program: &[u8], ends: &[usize; 200], p: usize, q: usize, x: u16) -> b
     uses(program, ends, p, x, false) && uses(program, ends, q, x, true)
 }
 
-// Refusal 8: parallel nodes in node order, and for each the variables.
+// Refusal 8: parallel nodes in node order, and for each the variables and arrays.
 fn first_clash(program: &[u8], ends: &[usize; 200]) -> Checked
     requires { ⌜ Readable (now program) × Laid (now program) (now ends) ⌝ }
     ensures { λ r. ⌜ r ≡ firstFault (conflictFault (now (program .entry))) 0 (nodeCount (now (program .entry))) ⌝ }
@@ -366,7 +386,7 @@ fn first_clash(program: &[u8], ends: &[usize; 200]) -> Checked
         if node.kind == 20 {
             let second = next(ends, count, i + 1);
             let mut x: u16 = 0;
-            while x < 16 {
+            while x < 20 {
                 if crosses(program, ends, i + 1, second, x)
                     | crosses(program, ends, second, i + 1, x)
                 {
@@ -390,7 +410,7 @@ fn late_check(operators: &[u8], program: &[u8], times: &[u16; 200], ends: &[usiz
     requires { ⌜ Readable (now program) × ((j : ℕ) → j < nodeCount (now program) → Shaped (timeIn (now operators)) (now program) (now times) (now ends) j) ⌝ }
     ensures { λ r. ⌜ r ≡ first (drop 3 (programChecks (timeIn (now (operators .entry))) (now (program .entry)))) ⌝ }
 {
-    let slow = first_slow(operators, program, times);
+    let slow = first_slow(operators, program, times, ends);
     match slow {
         Checked::Refused(r) => Checked::Refused(r),
         Checked::Accepted => first_clash(program, ends),

@@ -10,7 +10,7 @@ use model::Options;
 use model::sizes::BLOCK;
 
 // The paper's operator times: entry k is that of kind k.
-const BUILT_IN: [u8; 10] = [0, 0, 0, 1, 16, 17, 1, 1, 6, 17];
+const BUILT_IN: [u8; 11] = [0, 0, 0, 1, 16, 17, 1, 1, 6, 17, 4];
 
 // What stands for 'nothing given': the built-in times.
 pub fn defaults() -> Options
@@ -27,12 +27,12 @@ fn byte_wrong(i: usize, b: u8) -> bool
     ensures { λ r. ⌜ r ≡ byteWrong i b ⌝ }
 {
     if i == 2 {
-        return b != 9;
+        return b != 10;
     }
     if (i == 6) | (i == 7) {
         return false;
     }
-    if (10 <= i) & (i <= 16) {
+    if (10 <= i) & (i <= 17) {
         return (b == 0) | (200 < b);
     }
     b != 0
@@ -88,6 +88,7 @@ pub fn load(file: &[u8]) -> Options
         byte_at(file, 14),
         byte_at(file, 15),
         byte_at(file, 16),
+        byte_at(file, 17),
     ];
     Options { checked, times }
 }

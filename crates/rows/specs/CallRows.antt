@@ -11,26 +11,26 @@ use Rattle.model.specs.Refusals.{refuse, first}
 use Rattle.model.specs.NetlistFile.{cellBytes, fileOf}
 use Rattle.model.specs.TimeTables.{defaults}
 use Rattle.model.specs.Calls.{compileChecks, writeChecks, readChecks, beginChecks, continueChecks, runNetlistChecks, runProgramChecks, referenceChecks}
-use Rattle.model.specs.Netlists.{numbering, front, idle}
+use Rattle.model.specs.Netlists.{numbering, front, idle, arrays}
 use Rattle.model.specs.Cases.{raw, checkOfProgram}
 use Rattle.rows.specs.StateRows.{stateOfCells}
 
--- ok, and its file of 19 cells, whose state is 8 + 40 * 19 = 768 bytes
+-- ok, and its file of 27 cells, whose state is 8 + 40 * 27 + 512 = 1600 bytes; the start words are 544
 abbrev okProgram : List ℕ
 okProgram = raw 16 0 0
 
 abbrev okCells : List ℕ
-okCells = cellBytes (front (idle 16 []))
+okCells = cellBytes (front (idle 16 (arrays [])))
 
 abbrev okFile : List ℕ
-okFile = fileOf (front (idle 16 [])) 0
+okFile = fileOf (front (idle 16 (arrays []))) 0
 
 -- n bytes of 0; and a state of ok at an instant of three bytes
 abbrev room : ℕ → List ℕ
 room n = replicate n 0
 
 abbrev stateOf : ℕ → ℕ → ℕ → List ℕ
-stateOf a b c = a ∷ b ∷ c ∷ replicate 765 0
+stateOf a b c = a ∷ b ∷ c ∷ replicate 1597 0
 
 -- the first that a call's checks find, and what the paper says
 calls : List (Checked × Checked)
@@ -43,16 +43,16 @@ calls =
     ∷ (first (writeChecks okCells 0 (room 512)), Accepted)
     ∷ (first (writeChecks okCells 0 (room 511)), refuse 14 0)
     ∷ (first (writeChecks okCells 2 []), refuse 12 2)
-    ∷ (first (writeChecks okCells 19 []), refuse 11 0)
+    ∷ (first (writeChecks okCells 27 []), refuse 11 0)
     ∷ (first (writeChecks (okCells ++ (1 ∷ [])) 0 []), refuse 11 0)
-    -- reading: 9 to 12, then 14 for 19 cells of 6 bytes
-    ∷ (first (readChecks okFile (room 114)), Accepted)
-    ∷ (first (readChecks okFile (room 113)), refuse 14 0)
+    -- reading: 9 to 12, then 14 for 27 cells of 6 bytes
+    ∷ (first (readChecks okFile (room 162)), Accepted)
+    ∷ (first (readChecks okFile (room 161)), refuse 14 0)
     ∷ (first (readChecks [] []), refuse 9 0)
     -- beginning: 9 to 12, then 14 for the words or the state
-    ∷ (first (beginChecks okFile (room 32) (room 768)), Accepted)
-    ∷ (first (beginChecks okFile (room 31) (room 768)), refuse 14 0)
-    ∷ (first (beginChecks okFile (room 32) (room 767)), refuse 14 0)
+    ∷ (first (beginChecks okFile (room 544) (room 1600)), Accepted)
+    ∷ (first (beginChecks okFile (room 543) (room 1600)), refuse 14 0)
+    ∷ (first (beginChecks okFile (room 544) (room 1599)), refuse 14 0)
     ∷ (first (beginChecks (set okFile 0 1) [] []), refuse 10 0)
     -- continuing: 9 to 12, 14, 15, 16. 1,000,000 is 64 + 256 * (66 + 256 * 15)
     ∷ (first (continueChecks okFile 1000000 (stateOf 0 0 0)), Accepted)
@@ -64,25 +64,25 @@ calls =
     ∷ (first (continueChecks okFile 0 (set (stateOf 65 66 15) 4 1)), refuse 15 0)
     -- the start, a control wire, shows 2
     ∷ (first (continueChecks okFile 1 (set (stateOf 0 0 0) 8 2)), refuse 15 0)
-    ∷ (first (continueChecks okFile 1000001 (set (room 767) 4 1)), refuse 14 0)
+    ∷ (first (continueChecks okFile 1000001 (set (room 1599) 4 1)), refuse 14 0)
     ∷ (first (continueChecks (set okFile 0 1) 0 []), refuse 10 0)
     -- a full run of a netlist: 9 to 12, 13, 14
-    ∷ (first (runNetlistChecks okFile (room 32) 1000000 (room 768)), Accepted)
-    ∷ (first (runNetlistChecks okFile (room 31) 1000001 (room 767)), refuse 13 0)
-    ∷ (first (runNetlistChecks okFile (room 31) 1000000 (room 768)), refuse 14 0)
-    ∷ (first (runNetlistChecks okFile (room 32) 1000000 (room 767)), refuse 14 0)
-    ∷ (first (runNetlistChecks [] (room 32) 1000001 (room 768)), refuse 9 0)
+    ∷ (first (runNetlistChecks okFile (room 544) 1000000 (room 1600)), Accepted)
+    ∷ (first (runNetlistChecks okFile (room 543) 1000001 (room 1599)), refuse 13 0)
+    ∷ (first (runNetlistChecks okFile (room 543) 1000000 (room 1600)), refuse 14 0)
+    ∷ (first (runNetlistChecks okFile (room 544) 1000000 (room 1599)), refuse 14 0)
+    ∷ (first (runNetlistChecks [] (room 544) 1000001 (room 1600)), refuse 9 0)
     -- a full run of a program: 1 to 8, 13, then 14 for the words, the file or the state
-    ∷ (first (runProgramChecks defaults okProgram (room 32) 1000000 (room 512) (room 768)), Accepted)
+    ∷ (first (runProgramChecks defaults okProgram (room 544) 1000000 (room 512) (room 1600)), Accepted)
     ∷ (first (runProgramChecks defaults okProgram [] 1000001 [] []), refuse 13 0)
-    ∷ (first (runProgramChecks defaults okProgram (room 31) 1000000 (room 512) (room 768)), refuse 14 0)
-    ∷ (first (runProgramChecks defaults okProgram (room 32) 1000000 (room 511) (room 768)), refuse 14 0)
-    ∷ (first (runProgramChecks defaults okProgram (room 32) 1000000 (room 512) (room 767)), refuse 14 0)
+    ∷ (first (runProgramChecks defaults okProgram (room 543) 1000000 (room 512) (room 1600)), refuse 14 0)
+    ∷ (first (runProgramChecks defaults okProgram (room 544) 1000000 (room 511) (room 1600)), refuse 14 0)
+    ∷ (first (runProgramChecks defaults okProgram (room 544) 1000000 (room 512) (room 1599)), refuse 14 0)
     ∷ (first (runProgramChecks defaults [] [] 1000001 [] []), refuse 1 0)
     -- a reference run: 1 to 8, 13, then 14 for the words
-    ∷ (first (referenceChecks defaults okProgram (room 32) 1000000), Accepted)
-    ∷ (first (referenceChecks defaults okProgram (room 31) 1000001), refuse 13 0)
-    ∷ (first (referenceChecks defaults okProgram (room 31) 1000000), refuse 14 0)
+    ∷ (first (referenceChecks defaults okProgram (room 544) 1000000), Accepted)
+    ∷ (first (referenceChecks defaults okProgram (room 543) 1000001), refuse 13 0)
+    ∷ (first (referenceChecks defaults okProgram (room 543) 1000000), refuse 14 0)
     ∷ (first (referenceChecks defaults [] [] 1000001), refuse 1 0)
     ∷ []
 

@@ -1,11 +1,13 @@
 -- Operators, worked out by hand from the papers: what each gives on words at the edges, how long nested ones take, and the least delay of every
--- kind of statement around them. Circuit and rules use the same ones, and so leave them free.
+-- kind of statement around them; and to which word an index leads, and to which variable a word belongs. Circuit and rules use the same ones, and
+-- so leave them free.
 -- Assumes nothing.
 use mathlib.Core.Path.{_≡_, refl}
 use mathlib.Core.List.{List, [], _∷_, map}
 use Prim.Native.Nat.{ℕ}
-use Rattle.model.specs.Word.{bit, biased, operate}
-use Rattle.model.specs.Program.{Expr, const, var, compl, op, Stmt, ok, tick, assign, seq, par, ite, while, repeat, time, least, builtInTimes, timeIn}
+use Rattle.model.specs.Word.{bit, biased, operate, elementWord}
+use Rattle.model.specs.Program.{Expr, const, var, compl, op, elem, Stmt, ok, tick, assign, assignElem, seq, par, ite, while, repeat, time, least, builtInTimes, timeIn}
+use Rattle.model.specs.Rules.{owner}
 
 -- an operator's kind, its two words, and what it gives
 results : List (ℕ × ℕ × ℕ × ℕ)
@@ -68,11 +70,27 @@ results-right : map (λ r. operate (r .0) (r .1) (r .2)) results ≡ map (λ r. 
 unfolding results operate biased bit
 results-right = refl
 
+-- an array, an index, and the element's word: 16 + 64 k + the low six bits of the index
+elementWords : List (ℕ × ℕ × ℕ)
+elementWords = (0, 0, 16) ∷ (0, 63, 79) ∷ (0, 64, 16) ∷ (1, 67, 83) ∷ (2, 127, 207) ∷ (3, 65535, 271) ∷ []
+
+words-right : map (λ r. elementWord (r .0) (r .1)) elementWords ≡ map (λ r. r .2) elementWords
+unfolding elementWords elementWord
+words-right = refl
+
+-- a word, and the variable that it belongs to: arrays are variables 16 to 19
+owners : List (ℕ × ℕ)
+owners = (0, 0) ∷ (15, 15) ∷ (16, 16) ∷ (79, 16) ∷ (80, 17) ∷ (207, 18) ∷ (208, 19) ∷ (271, 19) ∷ []
+
+owners-right : map (λ r. owner (r .0)) owners ≡ map (λ r. r .1) owners
+unfolding owners owner
+owners-right = refl
+
 -- x0 + 1 < !x1: less takes 17 after plus's 16, which is the larger beside complement's 1
 abbrev nested : Expr
 nested = op 9 (op 4 (var 0) (const 1)) (compl (var 1))
 
--- an expression, and its time: 0 for a constant and a variable; 1 for !, & and |, 16 for +, 17 for - and <, 6 for =
+-- an expression, and its time: 0 for a constant and a variable; 1 for !, & and |, 16 for +, 17 for - and <, 6 for =, 4 for an element
 expressionTimes : List (Expr × ℕ)
 expressionTimes =
     (const 7, 0)
@@ -90,19 +108,28 @@ expressionTimes =
     ∷ (nested, 33)
     -- the larger child may be the second
     ∷ (op 7 (const 1) nested, 34)
+    -- an element is 4 after its index
+    ∷ (elem 3 (const 70), 4)
+    ∷ (elem 0 (elem 0 (var 0)), 8)
+    ∷ (op 5 (elem 1 nested) (const 1), 54)
     ∷ []
 
 times-right : map (λ r. time (timeIn builtInTimes) (r .0)) expressionTimes ≡ map (λ r. r .1) expressionTimes
 unfolding expressionTimes time builtInTimes
 times-right = refl
 
--- a statement, and its least delay: "at least its expression's time, and at least 1 for kinds 17, 18, 22 and 23. If may have 0."
+-- a statement, and its least delay: "at least its expression's time, and at least 1 for kinds 17, 18, 22 and 23. If may have 0." "An element's
+-- delay covers both children's times and is at least 1."
 leastDelays : List (Stmt × ℕ)
 leastDelays =
     (ok, 0)
     ∷ (tick 0, 1)
     ∷ (assign 0 0 (const 7), 1)
     ∷ (assign 0 0 nested, 33)
+    ∷ (assignElem 0 2 (var 0) (const 7), 1)
+    ∷ (assignElem 0 2 nested (const 7), 33)
+    ∷ (assignElem 0 2 (const 7) nested, 33)
+    ∷ (assignElem 0 2 (elem 1 (var 0)) (op 8 (var 0) (const 1)), 6)
     ∷ (seq (tick 3) (tick 4), 0)
     ∷ (par (tick 3) (tick 4), 0)
     ∷ (ite 0 (var 0) ok ok, 0)

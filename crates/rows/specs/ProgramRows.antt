@@ -7,7 +7,7 @@ use Prim.Native.Nat.{ℕ}
 use Rattle.model.specs.declared.Checked.{Checked}
 use Rattle.model.specs.declared.Checked.the-variants.{Accepted}
 use Rattle.model.specs.Refusals.{refuse}
-use Rattle.model.specs.Program.{nodeBytes, Expr, const, var, compl, op, Stmt, ok, tick, assign, seq, par, ite, while, repeat, preorder}
+use Rattle.model.specs.Program.{nodeBytes, Expr, const, var, compl, op, elem, Stmt, ok, tick, assign, assignElem, seq, par, ite, while, repeat, preorder}
 use Rattle.model.specs.TimeTables.{defaults}
 use Rattle.model.specs.Calls.{checkCall}
 use Rattle.model.specs.Cases.{raw, repeated, checkOfProgram}
@@ -28,7 +28,8 @@ kinds =
     ∷ (7, refuse 3 0, refuse 3 0)
     ∷ (8, refuse 3 0, refuse 3 0)
     ∷ (9, refuse 3 0, refuse 3 0)
-    ∷ (10, refuse 2 0, refuse 2 0)
+    ∷ (10, refuse 3 0, refuse 5 0)
+    ∷ (11, refuse 2 0, refuse 2 0)
     ∷ (15, refuse 2 0, refuse 2 0)
     ∷ (16, refuse 3 0, refuse 3 0)
     ∷ (17, Accepted, refuse 3 0)
@@ -38,7 +39,8 @@ kinds =
     ∷ (21, refuse 6 1, refuse 3 0)
     ∷ (22, refuse 6 1, refuse 3 0)
     ∷ (23, refuse 6 1, refuse 3 0)
-    ∷ (24, refuse 2 0, refuse 2 0)
+    ∷ (24, refuse 6 1, refuse 6 1)
+    ∷ (25, refuse 2 0, refuse 2 0)
     -- a cell's kind
     ∷ (32, refuse 2 0, refuse 2 0)
     ∷ (255, refuse 2 0, refuse 2 0)
@@ -63,6 +65,10 @@ gets x n = assign 1 x (const n)
 abbrev copies : ℕ → ℕ → Stmt
 copies x y = assign 1 x (var y)
 
+-- element n of array k := 1 with d 1
+abbrev sets : ℕ → ℕ → Stmt
+sets k n = assignElem 1 k (const n) (const 1)
+
 -- x0 = 0, of time 6
 abbrev isNought : Expr
 isNought = op 8 (var 0) (const 0)
@@ -75,7 +81,7 @@ programs =
     ∷ (raw 16 0 0 ++ (0 ∷ []), refuse 1 0)
     ∷ (repeated 200 (raw 16 0 0) ++ (0 ∷ []), refuse 1 0)
     -- 2: at its node, before the nodes are read as a tree
-    ∷ (raw 19 0 0 ++ raw 16 0 0 ++ raw 24 0 0, refuse 2 2)
+    ∷ (raw 19 0 0 ++ raw 16 0 0 ++ raw 25 0 0, refuse 2 2)
     ∷ (raw 16 0 0 ++ raw 0 0 0, refuse 2 1)
     -- 3: at its node; the high byte of a number counts
     ∷ (raw 18 1 0 ++ raw 1 1 5, refuse 3 1)
@@ -87,9 +93,15 @@ programs =
     ∷ (raw 18 1 0 ++ raw 2 0 16, refuse 4 1)
     ∷ (raw 18 1 0 ++ (2 ∷ 0 ∷ 0 ∷ 1 ∷ []), refuse 4 1)
     ∷ (raw 18 1 0 ++ (1 ∷ 0 ∷ 255 ∷ 255 ∷ []), Accepted)
+    -- arrays are 0 to 3, written or read
+    ∷ (raw 24 4 3 ++ raw 10 0 3 ++ raw 1 0 0 ++ raw 1 0 0, Accepted)
+    ∷ (raw 24 1 4 ++ raw 1 0 0 ++ raw 1 0 0, refuse 4 0)
+    ∷ (24 ∷ 1 ∷ 0 ∷ 1 ∷ raw 1 0 0 ++ raw 1 0 0, refuse 4 0)
+    ∷ (raw 18 4 0 ++ raw 10 0 4 ++ raw 1 0 0, refuse 4 1)
     -- 2, 3 and 4 node by node; at one node 3 before 4
     ∷ (raw 18 1 16 ++ raw 0 0 0, refuse 4 0)
     ∷ (raw 18 1 0 ++ raw 2 1 16, refuse 3 1)
+    ∷ (raw 18 4 0 ++ raw 10 1 4 ++ raw 1 0 0, refuse 3 1)
     -- 5: a statement where an expression belongs, or the reverse; the root is a statement
     ∷ (raw 1 0 5, refuse 5 0)
     ∷ (raw 18 1 0 ++ raw 16 0 0, refuse 5 1)
@@ -97,12 +109,16 @@ programs =
     ∷ (raw 19 0 0 ++ raw 16 0 0 ++ raw 1 0 5, refuse 5 2)
     ∷ (raw 21 0 0 ++ raw 2 0 0 ++ raw 16 0 0 ++ raw 2 0 0, refuse 5 3)
     ∷ (raw 22 1 0 ++ raw 16 0 0 ++ raw 16 0 0, refuse 5 1)
+    -- an element assignment has two expressions
+    ∷ (raw 24 1 0 ++ raw 1 0 0 ++ raw 16 0 0, refuse 5 2)
     -- a repeat has its expression first
     ∷ (raw 23 1 0 ++ raw 16 0 0 ++ raw 2 0 0, refuse 5 1)
     -- 6: nodes run out, place the node count; or are left, place the first
     ∷ (raw 19 0 0 ++ raw 16 0 0, refuse 6 2)
     ∷ (raw 18 16 0 ++ raw 4 0 0 ++ raw 2 0 0, refuse 6 3)
     ∷ (raw 21 0 0 ++ raw 2 0 0 ++ raw 16 0 0, refuse 6 3)
+    ∷ (raw 24 1 0 ++ raw 1 0 0, refuse 6 2)
+    ∷ (raw 24 1 0 ++ raw 1 0 0 ++ raw 1 0 0 ++ raw 1 0 0, refuse 6 3)
     ∷ (raw 16 0 0 ++ raw 16 0 0 ++ raw 16 0 0, refuse 6 1)
     ∷ (raw 18 1 0 ++ raw 2 0 0 ++ raw 2 0 1, refuse 6 2)
     -- whichever reading meets first: the sequence lacks a node too; a node that is left is not 5
@@ -117,6 +133,12 @@ programs =
     ∷ (bytesOf (seq ok (while 5 isNought ok)), refuse 7 2)
     ∷ (bytesOf (repeat 5 isNought ok), refuse 7 0)
     ∷ (bytesOf (repeat 6 isNought ok), Accepted)
+    -- an element assignment's covers the larger of index and value
+    ∷ (bytesOf (assignElem 0 0 (const 5) (const 5)), refuse 7 0)
+    ∷ (bytesOf (assignElem 5 0 isNought (elem 0 (var 1))), refuse 7 0)
+    ∷ (bytesOf (assignElem 6 0 isNought (elem 0 (var 1))), Accepted)
+    ∷ (bytesOf (assignElem 5 0 (elem 0 (var 1)) isNought), refuse 7 0)
+    ∷ (bytesOf (assignElem 6 0 (elem 0 (var 1)) isNought), Accepted)
     -- sixteen sums one in the other take 256, more than any delay; fifteen take 240
     ∷ (raw 18 255 0 ++ repeated 16 (raw 4 0 0) ++ repeated 17 (raw 1 0 1), refuse 7 0)
     ∷ (raw 18 240 0 ++ repeated 15 (raw 4 0 0) ++ repeated 16 (raw 1 0 1), Accepted)
@@ -130,6 +152,15 @@ programs =
     ∷ (bytesOf (par (copies 1 0) (copies 2 0)), Accepted)
     ∷ (bytesOf (par (copies 1 1) (copies 2 2)), Accepted)
     ∷ (bytesOf (seq (gets 1 1) (gets 1 2)), Accepted)
+    -- an array is one variable, whatever the element, and none of x0 to x15; its index is read
+    ∷ (bytesOf (par (sets 0 1) (sets 0 2)), refuse 8 0)
+    ∷ (bytesOf (par (sets 3 1) (assign 4 2 (elem 3 (const 2)))), refuse 8 0)
+    ∷ (bytesOf (par (assign 4 2 (elem 3 (const 2))) (sets 3 1)), refuse 8 0)
+    ∷ (bytesOf (par (gets 1 1) (assignElem 1 0 (var 1) (const 1))), refuse 8 0)
+    ∷ (bytesOf (par (gets 1 1) (assign 4 2 (elem 0 (var 1)))), refuse 8 0)
+    ∷ (bytesOf (par (sets 0 1) (sets 1 1)), Accepted)
+    ∷ (bytesOf (par (sets 0 1) (gets 0 1)), Accepted)
+    ∷ (bytesOf (par (assign 4 1 (elem 0 (const 1))) (assign 4 2 (elem 0 (const 1)))), Accepted)
     -- a condition's variables are read; what stands inside a statement counts
     ∷ (bytesOf (par (gets 3 1) (ite 0 (var 3) ok ok)), refuse 8 0)
     ∷ (bytesOf (par (while 1 (var 3) ok) (gets 3 1)), refuse 8 0)

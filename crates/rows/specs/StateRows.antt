@@ -7,21 +7,28 @@ use mathlib.Core.List.{List, [], _∷_, _++_, map}
 use Prim.Native.Nat.{ℕ, _+_, _*_}
 use lib.ListN.{set, replicate}
 use Rattle.model.specs.declared.Cell.{Cell}
-use Rattle.model.specs.Word.{operate, put16, get32, put32}
+use Rattle.model.specs.Word.{operate, put16, get32, put32, bytes16}
 use Rattle.model.specs.Circuit.{memoryWords, cell, mergeStep}
-use Rattle.model.specs.State.{heldAt, lineBit, nextValue, upTo, aged, shown, shiftedIn, holding, settle, beginState, stepState, lastState, evaluated, wordsIn, cellSound, cellsSound, sound}
+use Rattle.model.specs.State.{heldAt, lineBit, nextValue, upTo, aged, stored, shown, shiftedIn, holding, settle, wordBytes, beginState, stepState, lastState, evaluated, wordsIn, cellSound, cellsSound, sound}
 use Rattle.model.specs.Calls.{wordAt}
 use Rattle.rows.specs.NetlistRows.{checkOfFile}
 
 -- A run --------------------------------------------------------------------------------------------------------------------------------
 
--- Seven cells are enough to show every byte: start, ground, constant 5, a delay of the start by 9, two memories whose data is the constant and
--- whose clocks are start and ground, and a merge of the start and the delay, which is the finish.
+-- Twelve cells are enough to show every byte: start, ground, constant 5, a delay of the start by 9, two memories whose data is the constant and
+-- whose clocks are start and ground, and a merge of the start and the delay, which is the finish. Then array 1, whose clock is the start, data the
+-- constant and address the first memory; a read of it by the constant 5, and, behind a constant 65, one by that.
 abbrev net : List Cell
-net = cell 32 0 0 0 ∷ cell 33 0 0 0 ∷ cell 1 0 5 0 ∷ cell 34 9 0 0 ∷ cell 40 0 0 2 ∷ cell 40 0 1 2 ∷ cell 38 0 0 3 ∷ []
+net =
+    cell 32 0 0 0 ∷ cell 33 0 0 0 ∷ cell 1 0 5 0 ∷ cell 34 9 0 0 ∷ cell 40 0 0 2 ∷ cell 40 0 1 2 ∷ cell 38 0 0 3
+    ∷ cell 42 1 0 2 ∷ cell 43 0 4 0 ∷ cell 44 0 7 2 ∷ cell 1 0 65 0 ∷ cell 44 0 7 10 ∷ []
 
--- Instant 0: the start is 1, and stands newest in the delay's line; the memories have their start words, 1 + 256 * 2 and 3 + 256 * 4; the merge
--- holds a.
+-- the start words of x0 and x1, 1 + 256 * 2 and 3 + 256 * 4, and of element 64 * 1 + 5, 6 + 256 * 7; the others are 0
+abbrev startBytes : List ℕ
+startBytes = (1 ∷ 2 ∷ 3 ∷ 4 ∷ replicate 28 0) ++ replicate 138 0 ++ (6 ∷ 7 ∷ [])
+
+-- Instant 0: the start is 1, and stands newest in the delay's line; the memories have their start words; the merge holds a; the first read shows
+-- element 5. The elements have their start words.
 state0 : List ℕ
 state0 =
     replicate 8 0
@@ -32,8 +39,14 @@ state0 =
     ++ (1 ∷ 2 ∷ replicate 38 0)  -- memory of x0
     ++ (3 ∷ 4 ∷ replicate 38 0)  -- memory of x1
     ++ replicate 4 0 ++ (1 ∷ replicate 35 0)  -- merge
+    ++ replicate 80 0  -- array 1
+    ++ (6 ∷ 7 ∷ replicate 38 0)  -- read of element 5
+    ++ (65 ∷ replicate 39 0)  -- constant
+    ++ replicate 40 0  -- read of element 1
+    ++ replicate 138 0 ++ (6 ∷ 7 ∷ replicate 372 0)  -- elements
 
--- Instant 1: what was now is an instant ago; the line has moved by a bit; the first memory's clock has fallen.
+-- Instant 1: what was now is an instant ago; the line has moved by a bit; the clock of the first memory and of array 1 has fallen. The address an
+-- instant ago was 513, whose low six bits are 1, so element 64 * 1 + 1 takes the 5 in, which the second read shows at once.
 state1 : List ℕ
 state1 =
     (1 ∷ replicate 7 0)
@@ -44,6 +57,11 @@ state1 =
     ++ (5 ∷ 0 ∷ 1 ∷ 2 ∷ replicate 36 0)
     ++ (3 ∷ 4 ∷ 3 ∷ 4 ∷ replicate 36 0)
     ++ replicate 4 0 ++ (1 ∷ replicate 35 0)
+    ++ replicate 80 0
+    ++ (6 ∷ 7 ∷ 6 ∷ 7 ∷ replicate 36 0)
+    ++ (65 ∷ 0 ∷ 65 ∷ replicate 37 0)
+    ++ (5 ∷ replicate 39 0)
+    ++ replicate 130 0 ++ (5 ∷ replicate 7 0) ++ (6 ∷ 7 ∷ replicate 372 0)
 
 -- Instant 9: the delay puts out what came in nine instants ago, which is bit 9 of its line now, bit 1 of the second byte; the merge has both
 -- its inputs, is 1 and holds nothing.
@@ -57,14 +75,19 @@ state9 =
     ++ (5 ∷ 0 ∷ 5 ∷ replicate 37 0)
     ++ (3 ∷ 4 ∷ 3 ∷ 4 ∷ replicate 36 0)
     ++ (1 ∷ replicate 39 0)
+    ++ replicate 80 0
+    ++ (6 ∷ 7 ∷ 6 ∷ 7 ∷ replicate 36 0)
+    ++ (65 ∷ 0 ∷ 65 ∷ replicate 37 0)
+    ++ (5 ∷ 0 ∷ 5 ∷ replicate 37 0)
+    ++ replicate 130 0 ++ (5 ∷ replicate 7 0) ++ (6 ∷ 7 ∷ replicate 372 0)
 
 -- whoever unfolds this unfolds all that a state is made by
 unfoldable pub stateOfCells : List Cell → ℕ → ℕ → List ℕ → List ℕ
-unfolding state0 state1 state9 checkOfFile operate put16 get32 put32 mergeStep heldAt lineBit nextValue upTo aged shown shiftedIn holding settle beginState stepState lastState evaluated memoryWords cellSound cellsSound sound
+unfolding state0 state1 state9 checkOfFile operate put16 get32 put32 mergeStep heldAt lineBit nextValue upTo aged stored shown shiftedIn holding settle wordBytes beginState stepState lastState evaluated memoryWords cellSound cellsSound sound
 stateOfCells cells finish n s = lastState cells finish n s
 
 -- "Lent bytes past a result keep their values."
-begin-right : beginState net (wordAt (1 ∷ 2 ∷ 3 ∷ 4 ∷ [])) (replicate 288 9 ++ (7 ∷ 7 ∷ [])) ≡ state0 ++ (7 ∷ 7 ∷ [])
+begin-right : beginState net (wordAt startBytes) (replicate 1000 9 ++ (7 ∷ 7 ∷ [])) ≡ state0 ++ (7 ∷ 7 ∷ [])
 unfolding stateOfCells
 begin-right = refl
 
@@ -95,7 +118,7 @@ words-right = refl
 abbrev at : ℕ → ℕ → ℕ
 at k j = 8 + 40 * k + j
 
--- of the seven cells above: a byte of the state, a value for it, and whether the state is good if all its other bytes are 0
+-- of the twelve cells above: a byte of the state, a value for it, and whether the state is good if all its other bytes are 0
 bytes : List (ℕ × ℕ × Bool)
 bytes =
     -- a control's value now, and an instant ago: 0 or 1, both bytes; a word's may be any
@@ -126,6 +149,16 @@ bytes =
     ∷ (at 3 39, 255, true)
     ∷ (at 6 8, 1, false)
     ∷ (at 4 39, 1, false)
+    -- an array's cells and a read hold nothing and have no line; what they show is looked at no more than any word, and so are the elements
+    ∷ (at 7 0, 5, true)
+    ∷ (at 8 3, 5, true)
+    ∷ (at 7 4, 1, false)
+    ∷ (at 9 5, 1, false)
+    ∷ (at 8 6, 1, false)
+    ∷ (at 7 8, 1, false)
+    ∷ (at 9 39, 1, false)
+    ∷ (at 12 0, 255, true)
+    ∷ (999, 255, true)
     -- the header: four bytes of an instant, four of zero
     ∷ (0, 255, true)
     ∷ (3, 255, true)
@@ -133,6 +166,6 @@ bytes =
     ∷ (7, 1, false)
     ∷ []
 
-bytes-right : map (λ r. sound net (set (replicate 288 0) (r .0) (r .1))) bytes ≡ map (λ r. r .2) bytes
+bytes-right : map (λ r. sound net (set (replicate 1000 0) (r .0) (r .1))) bytes ≡ map (λ r. r .2) bytes
 unfolding bytes stateOfCells
 bytes-right = refl

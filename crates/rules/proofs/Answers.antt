@@ -22,18 +22,16 @@ use Rattle.laws.specs.Refusals.Laws.{first-two}
 use Rattle.laws.specs.Program.Accepted.{program-fit}
 use Rattle.rules.specs.declared.Ran.{Ran}
 use Rattle.rules.specs.Ran.{storeOf, runOf, Stands}
-use Rattle.rules.proofs.Words.{filled-listed, listed-at}
-use Rattle.rules.proofs.Sixteen.{same-answer}
+use Rattle.rules.proofs.Words.{listed-at}
+use Rattle.rules.proofs.Agree.{same-answer}
 use Rattle.rules.proofs.Runs.{run-ended, run-still}
 
 -- Runs ---------------------------------------------------------------------------------------------------------------------------------
 
-pub answer-words : (t : ℕ) (ws : List ℕ) → length ws ≡ 16
-    → record { outcome = Ended; instant = t; count = t + 1; words = ws } ≡ referenceAnswer t (ended t (storeOf ws))
-unfolding referenceAnswer storeOf
-answer-words t ws l =
-    let e : ws ≡ listed (storeOf ws) 0 16 = filled-listed ws _ (l, omega arith, λ x h. refl) in
-    ap (λ (ws : List ℕ). record { outcome = Ended; instant = t; count = t + 1; words = ws }) e
+pub answer-words : (t : ℕ) (ws held : List ℕ) → held ≡ listed (storeOf ws) 0 16
+    → record { outcome = Ended; instant = t; count = t + 1; words = held } ≡ referenceAnswer t (ended t (storeOf ws))
+unfolding referenceAnswer
+answer-words t ws held e = ap (λ (ws : List ℕ). record { outcome = Ended; instant = t; count = t + 1; words = ws }) e
 
 module _ (n : ℕ) (r : Ran) where
   pub answer-ended : (a : Answer) → a ≡ referenceAnswer (r .time) (ended (r .time) (storeOf (r .words))) → r .ended ≡ true
@@ -54,12 +52,12 @@ module _ (options : Options) (s bytes : List ℕ) (n : ℕ) where
   answerBy c large few =
       answering (first (c ∷ refuseIf large 13 0 ∷ refuseIf few 14 0 ∷ [])) (referenceAnswer n (run n (programOf s) (wordAt bytes)))
 
-  call-by : (c : Checked) → checkCall options s ≡ c → (large few : Bool) → ltb 1000000 n ≡ large → ltb (length bytes) 32 ≡ few
+  call-by : (c : Checked) → checkCall options s ≡ c → (large few : Bool) → ltb 1000000 n ≡ large → ltb (length bytes) 544 ≡ few
       → answerBy c large few ≡ referenceCall options s bytes n
   unfolding referenceCall checkCall
   call-by c ec large few el ef =
-      sym (ap (λ (c : Checked). answering c (referenceAnswer n (run n (programOf s) (wordAt bytes)))) (first-two (options .checked) (checkOf (options .times) s) (overBudget n ∷ short (length bytes) 32 ∷ []))
-      ∙ ap (λ (c : Checked). answerBy c (ltb 1000000 n) (ltb (length bytes) 32)) ec ∙ ap₂ (answerBy c) el ef)
+      sym (ap (λ (c : Checked). answering c (referenceAnswer n (run n (programOf s) (wordAt bytes)))) (first-two (options .checked) (checkOf (options .times) s) (overBudget n ∷ short (length bytes) 544 ∷ []))
+      ∙ ap (λ (c : Checked). answerBy c (ltb 1000000 n) (ltb (length bytes) 544)) ec ∙ ap₂ (answerBy c) el ef)
 
   pub call-refused : (r : Refusal) → checkCall options s ≡ Refused r → refusedAnswer r ≡ referenceCall options s bytes n
   unfolding answering
@@ -70,15 +68,15 @@ module _ (options : Options) (s bytes : List ℕ) (n : ℕ) where
     unfolding answering
     call-over h = call-by Accepted e true _ (lt-ltb _ _ h) refl
 
-    pub call-short : n ≤ 1000000 → length bytes < 32 → refusedAnswer (record { number = 14; place = 0 }) ≡ referenceCall options s bytes n
+    pub call-short : n ≤ 1000000 → length bytes < 544 → refusedAnswer (record { number = 14; place = 0 }) ≡ referenceCall options s bytes n
     unfolding answering
     call-short h l = call-by Accepted e false true (le-ltb _ _ h) (lt-ltb _ _ l)
 
-    pub call-runs : n ≤ 1000000 → 32 ≤ length bytes → (ws : List ℕ) → ws ≡ listed (wordAt bytes) 0 16
+    pub call-runs : n ≤ 1000000 → 544 ≤ length bytes → (ws : List ℕ) → ws ≡ listed (wordAt bytes) 0 272
         → (r : Ran) → Stands n (run n (programOf s) (storeOf ws)) r → (a : Answer) → a ≡ referenceAnswer n (runOf r) → a ≡ referenceCall options s bytes n
     unfolding answering storeOf
     call-runs h l ws ew r R a ea =
         ea ∙ ap (referenceAnswer n) (R .is)
         ∙ same-answer (programOf s) (program-fit options s e .formed) n (storeOf ws) (wordAt bytes)
-        (λ x m. ap (λ (ws : List ℕ). getD ws x 0) ew ∙ listed-at (wordAt bytes) 16 0 x m ∙ ap (wordAt bytes) (omega arith))
+        (λ x m. ap (λ (ws : List ℕ). getD ws x 0) ew ∙ listed-at (wordAt bytes) 272 0 x m ∙ ap (wordAt bytes) (omega arith))
         ∙ call-by Accepted e false false (le-ltb _ _ h) (le-ltb _ _ l)

@@ -1,6 +1,6 @@
 -- What the proofs of several functions use.
 pub mod Words
-pub mod Sixteen
+pub mod Agree
 pub mod Nodes
 pub mod Parts
 pub mod Runs

@@ -5,10 +5,10 @@ use Prim.Native.Nat.{ℕ, _+_, _≤_, _<_}
 use native.Mathlib.Omega.{arith}
 use native.Mathlib.Decide.{decLt}
 use Rattle.model.specs.declared.Node.{Node}
-use Rattle.model.specs.Word.{operate}
+use Rattle.model.specs.Word.{operate, elementWord}
 use Rattle.model.specs.Program.{Expr, ok, nodeAt, nodeCount, exprAt, stmtAt}
 use Rattle.model.specs.Rules.{Store, eval}
-use Rattle.laws.specs.Program.Trees.{expr-none, at-const, at-var, at-compl, no-expr, no-stmt, at-ok}
+use Rattle.laws.specs.Program.Trees.{expr-none, at-const, at-var, at-compl, at-elem, no-expr, no-stmt, at-ok}
 use Rattle.program.proofs.Children.{Inner, op-read}
 
 -- Statements ---------------------------------------------------------------------------------------------------------------------------
@@ -47,8 +47,12 @@ module _ (s : List ℕ) (i : ℕ) (σ : Store) where
     unfolding eval
     eval-compl k v x ex e = e ∙ ap (λ (x : ℕ). operate 3 x 0) ex ∙ is (at-compl s i h a ea k)
 
+    pub eval-elem : a .kind ≡ 10 → (v w x : ℕ) → x ≡ eval (exprAt s (i + 1)) σ → w ≡ elementWord (a .n) x → v ≡ σ w → v ≡ eval (exprAt s i) σ
+    unfolding eval
+    eval-elem k v w x ex ew e = e ∙ ap σ (ew ∙ ap (elementWord (a .n)) ex) ∙ is (at-elem s i h a ea k)
+
   pub eval-op : {a : Node} {ends : List ℕ} {j : ℕ} → Inner s ends i a j
-      → a .kind < 16 → (a .kind ≡ 1 → ⊥) → (a .kind ≡ 2 → ⊥) → (a .kind ≡ 3 → ⊥)
+      → a .kind < 16 → (a .kind ≡ 1 → ⊥) → (a .kind ≡ 2 → ⊥) → (a .kind ≡ 3 → ⊥) → (a .kind ≡ 10 → ⊥)
       → (v x y : ℕ) → x ≡ eval (exprAt s (i + 1)) σ → y ≡ eval (exprAt s j) σ → v ≡ operate (a .kind) x y → v ≡ eval (exprAt s i) σ
   unfolding eval
-  eval-op {a} n l p q r v x y ex ey e = e ∙ ap₂ (operate (a .kind)) ex ey ∙ is (op-read n l p q r)
+  eval-op {a} n l p q r w v x y ex ey e = e ∙ ap₂ (operate (a .kind)) ex ey ∙ is (op-read n l p q r w)

@@ -3,7 +3,7 @@
 use mathlib.Core.Path.{_≡_, subst}
 use mathlib.Core.List.{List}
 use Prim.Native.Nat.{ℕ, _≤_, _<_}
-use Rattle.model.specs.Program.{Expr, Stmt, assign, seq, par, ite, while, repeat}
+use Rattle.model.specs.Program.{Expr, Stmt, assign, assignElem, seq, par, ite, while, repeat}
 use Rattle.rules.specs.Ran.{Ready}
 
 module _ {s ends : List ℕ} where
@@ -13,6 +13,9 @@ module _ {s ends : List ℕ} where
 
   pub assign-low : {d x : ℕ} {e : Expr} → Ready s ends (assign d x e) → x < 16
   assign-low R = R .fit .formed .1
+
+  pub array-low : {d k : ℕ} {i e : Expr} → Ready s ends (assignElem d k i e) → k < 4
+  array-low R = R .fit .formed .1
 
   module _ {P Q : Stmt} where
     pub seq-first : Ready s ends (seq P Q) → Ready s ends P

@@ -1,5 +1,5 @@
 -- The run of each kind of statement but loops, in the form in which the code takes it.
--- Assumes of a parallel that its sides are apart (`Separate`).
+-- Assumes of a parallel that its sides are apart (`Separate`), and variables below 16 (`Formed`).
 use mathlib.Core.Path.{_≡_, refl, sym, _∙_, ap, ap₂, fun-ext}
 use mathlib.Core.Bool.{Bool, true, false}
 use mathlib.Core.List.{List}
@@ -10,10 +10,10 @@ use native.Mathlib.Nat.{add-zero}
 use native.Mathlib.Decide.{ℕ-discrete}
 use lib.Dec.{eqb}
 use borrow.Author.Tests.{eq-eqb, ne-eqb}
-use Rattle.model.specs.Word.{pick}
-use Rattle.model.specs.Program.{Expr, Stmt, ok, assign, seq, par, ite, writes}
-use Rattle.model.specs.Rules.{Store, Run, ended, still, eval, put, over, kept, after, wait, chain, both, run}
-use Rattle.laws.specs.Program.Fit.{Separate}
+use Rattle.model.specs.Word.{pick, elementWord}
+use Rattle.model.specs.Program.{Expr, Stmt, ok, assign, assignElem, seq, par, ite, writes}
+use Rattle.model.specs.Rules.{Store, Run, ended, still, owner, eval, put, over, kept, after, wait, chain, both, run}
+use Rattle.laws.specs.Program.Fit.{Formed, Separate}
 use Rattle.laws.specs.Rules.Uses.{leaves, writes-touches, apart-unwritten}
 use Rattle.laws.specs.Refusals.Laws.{by-bool}
 use Rattle.laws.specs.Rules.Laws.{wait-is, wait-short, both-of, ite-then, ite-else}
@@ -63,6 +63,13 @@ module _ (k : ℕ) (σ : Store) (r : Ran) where
       let f : τ ≡ put σ x (eval e σ) = et ∙ ap (put σ x) ev in
       record { is = S .is ∙ ap₂ (λ (d : ℕ) (τ : Store). wait d k (λ k₁. ended 0 τ)) (add-one d) f; within = S .within }
 
+  pub run-assign-elem : (d j : ℕ) (i e : Expr) (w x v : ℕ) (τ : Store) → w ≡ eval i σ → x ≡ elementWord j w → v ≡ eval e σ → τ ≡ put σ x v
+      → Stands k (wait (d + 1) k (λ k₁. ended 0 τ)) r → Stands k (run k (assignElem d j i e) σ) r
+  unfolding run
+  run-assign-elem d j i e w x v τ ew ex ev et S =
+      let f : τ ≡ put σ (elementWord j (eval i σ)) (eval e σ) = et ∙ ap₂ (put σ) (ex ∙ ap (elementWord j) ew) ev in
+      record { is = S .is ∙ ap₂ (λ (d : ℕ) (τ : Store). wait d k (λ k₁. ended 0 τ)) (add-one d) f; within = S .within }
+
 -- Sequence -----------------------------------------------------------------------------------------------------------------------------
 
 module _ (P Q : Stmt) (k : ℕ) (σ : Store) (f r : Ran) (F : Stands k (run k P σ) f) where
@@ -84,28 +91,28 @@ module _ (P Q : Stmt) (k : ℕ) (σ : Store) (f r : Ran) (F : Stands k (run k P 
 -- Parallel -----------------------------------------------------------------------------------------------------------------------------
 
 -- what the first side wrote, the second left alone; and what the first left alone is the second's, written or not
-joins-kept : (P Q : Stmt) → Separate (par P Q) → (k t u : ℕ) (σ σ₁ σ₂ : Store) → run k P σ ≡ ended t σ₁ → run k Q σ ≡ ended u σ₂
+joins-kept : (P Q : Stmt) → Formed (par P Q) → Separate (par P Q) → (k t u : ℕ) (σ σ₁ σ₂ : Store) → run k P σ ≡ ended t σ₁ → run k Q σ ≡ ended u σ₂
     → joins σ σ₁ σ₂ ≡ kept P Q σ σ₁ σ₂
 unfolding joins kept over
-joins-kept P Q apart k t u σ σ₁ σ₂ p q = fun-ext (λ x. by-bool (writes P x) (written x) (unwritten x))
+joins-kept P Q w apart k t u σ σ₁ σ₂ p q = fun-ext (λ x. by-bool (writes P (owner x)) (written x) (unwritten x))
   where
     Joined : ℕ → Type 0
-    Joined x = pick (eqb (σ₁ x) (σ x)) (σ₂ x) (σ₁ x) ≡ pick (writes P x) (σ₁ x) (pick (writes Q x) (σ₂ x) (σ x))
+    Joined x = pick (eqb (σ₁ x) (σ x)) (σ₂ x) (σ₁ x) ≡ pick (writes P (owner x)) (σ₁ x) (pick (writes Q (owner x)) (σ₂ x) (σ x))
 
-    written : (x : ℕ) → writes P x ≡ true → Joined x
-    written x w = rw w (go (ℕ-discrete (σ₁ x) (σ x)))
+    written : (x : ℕ) → writes P (owner x) ≡ true → Joined x
+    written x b = rw b (go (ℕ-discrete (σ₁ x) (σ x)))
       where
         alone : σ₂ x ≡ σ x
-        alone = leaves Q x (apart-unwritten Q P (apart .2 .1) x (writes-touches P x w)) k u σ σ₂ q
+        alone = leaves Q (w .1) x (apart-unwritten Q P (apart .2 .1) (owner x) (writes-touches P (owner x) b)) k u σ σ₂ q
 
         go : Dec (σ₁ x ≡ σ x) → pick (eqb (σ₁ x) (σ x)) (σ₂ x) (σ₁ x) ≡ σ₁ x
         go (yes e) = rw (eq-eqb _ _ e) (alone ∙ sym e)
         go (no n) = rw (ne-eqb _ _ n) refl
 
-    unwritten : (x : ℕ) → writes P x ≡ false → Joined x
-    unwritten x w =
-        rw (w, eq-eqb (σ₁ x) (σ x) (leaves P x w k t σ σ₁ p))
-        (by-bool (writes Q x) (λ v. rw v refl) (λ v. rw v (leaves Q x v k u σ σ₂ q)))
+    unwritten : (x : ℕ) → writes P (owner x) ≡ false → Joined x
+    unwritten x b =
+        rw (b, eq-eqb (σ₁ x) (σ x) (leaves P (w .0) x b k t σ σ₁ p))
+        (by-bool (writes Q (owner x)) (λ v. rw v refl) (λ v. rw v (leaves Q (w .1) x v k u σ σ₂ q)))
 
 module _ (P Q : Stmt) (k : ℕ) (σ : Store) (f : Ran) (F : Stands k (run k P σ) f) where
   pub par-still : f .ended ≡ false → (r : Ran) → Stands 0 still r → Stands k (run k (par P Q) σ) r
@@ -122,15 +129,15 @@ module _ (P Q : Stmt) (k : ℕ) (σ : Store) (f : Ran) (F : Stands k (run k P σ
     unfolding run both
     par-second-still e′ r S = stands-still S (ap₂ (both (kept P Q σ)) (sym (F .is) ∙ run-ended f e) (sym (G .is) ∙ run-still g e′))
 
-    pub par-ends : Separate (par P Q) → g .ended ≡ true → (t : ℕ) → t ≡ max (f .time) (g .time) → (w : List ℕ)
+    pub par-ends : Formed (par P Q) → Separate (par P Q) → g .ended ≡ true → (t : ℕ) → t ≡ max (f .time) (g .time) → (w : List ℕ)
         → storeOf w ≡ joins σ (storeOf (f .words)) (storeOf (g .words))
         → Stands k (run k (par P Q) σ) (record { words = w; ended = true; time = t })
     unfolding run runOf
-    par-ends apart e′ t et w ew =
+    par-ends formed apart e′ t et w ew =
         let p = sym (F .is) ∙ run-ended f e in
         let q = sym (G .is) ∙ run-ended g e′ in
         record {
-          is = ap₂ ended et (ew ∙ joins-kept P Q apart k _ _ σ _ _ p q) ∙ sym (both-of (kept P Q σ) _ _ p q);
+          is = ap₂ ended et (ew ∙ joins-kept P Q formed apart k _ _ σ _ _ p q) ∙ sym (both-of (kept P Q σ) _ _ p q);
           within = omega (arith, F .within, G .within);
         }
 

@@ -1,4 +1,4 @@
--- Arrays of words as stores: one word put, sixteen written one by one, two sides joined.
+-- Arrays of words as stores: one word put, all written one by one, two sides joined.
 -- Assumes nothing.
 use mathlib.Core.Path.{_≡_, refl, sym, _∙_, ap, fun-ext}
 use mathlib.Core.List.{List}
@@ -24,14 +24,14 @@ store-set w x v h = fun-ext (λ y. go y (ℕ-discrete y x))
     go y (yes e) = rw (eq-eqb y x e, e) (getD-set-same w x v 0 h)
     go y (no n) = rw (ne-eqb y x n) (getD-set-other w x y v 0 n)
 
--- Sixteen words, written one by one ----------------------------------------------------------------------------------------------------
+-- Words, written one by one ------------------------------------------------------------------------------------------------------------
 
--- the first n of sixteen words are those of σ
-abbrev pub Filled : List ℕ → Store → ℕ → Type 0
-Filled w σ n = (length w ≡ 16) × (n ≤ 16) × ((x : ℕ) → x < n → getD w x 0 ≡ σ x)
+-- of m words the first n are those of σ
+abbrev pub Filled : ℕ → List ℕ → Store → ℕ → Type 0
+Filled m w σ n = (length w ≡ m) × (n ≤ m) × ((x : ℕ) → x < n → getD w x 0 ≡ σ x)
 
-pub filled-more : (w : List ℕ) (σ : Store) (n v : ℕ) → Filled w σ n → n < 16 → v ≡ σ n → Filled (set w n v) σ (n + 1)
-filled-more w σ n v F h e = (simp length-set (F .0), omega arith, λ x l. go x l (ℕ-discrete x n))
+pub filled-more : (m : ℕ) (w : List ℕ) (σ : Store) (n v : ℕ) → Filled m w σ n → n < m → v ≡ σ n → Filled m (set w n v) σ (n + 1)
+filled-more m w σ n v F h e = (simp length-set (F .0), omega arith, λ x l. go x l (ℕ-discrete x n))
   where
     go : (x : ℕ) → x < n + 1 → Dec (x ≡ n) → getD (set w n v) x 0 ≡ σ x
     go x l (yes q) = rw q (getD-set-same w n v 0 (omega (arith, F .0)) ∙ e)
@@ -48,12 +48,12 @@ listed-at σ zero x i h = absurd (omega arith)
 listed-at σ (suc n) x zero h = ap σ (omega arith)
 listed-at σ (suc n) x (suc i) h = listed-at σ n (x + 1) i (omega arith) ∙ ap σ (omega arith)
 
-pub filled-listed : (w : List ℕ) (σ : Store) → Filled w σ 16 → w ≡ listed σ 0 16
-filled-listed w σ F =
-    ext-getD 0 w (listed σ 0 16) (F .0 ∙ sym (length-listed σ 0 16))
+pub filled-listed : (m : ℕ) (w : List ℕ) (σ : Store) → Filled m w σ m → w ≡ listed σ 0 m
+filled-listed m w σ F =
+    ext-getD 0 w (listed σ 0 m) (F .0 ∙ sym (length-listed σ 0 m))
     (λ i h.
-    let l : i < 16 = omega (arith, F .0) in
-    F .2 i l ∙ ap σ (omega arith) ∙ sym (listed-at σ 16 0 i l))
+    let l : i < m = omega (arith, F .0) in
+    F .2 i l ∙ ap σ (omega arith) ∙ sym (listed-at σ m 0 i l))
 
 -- Two sides ----------------------------------------------------------------------------------------------------------------------------
 
@@ -62,13 +62,13 @@ pub joins-at : (u v w : List ℕ) (x y : ℕ) → y ≡ pick (eqb (getD v x 0) (
 unfolding joins storeOf
 joins-at u v w x y e = e
 
-pub filled-joins : (u v w r : List ℕ) → length u ≡ 16 → length v ≡ 16 → length w ≡ 16
-    → Filled r (joins (storeOf u) (storeOf v) (storeOf w)) 16 → storeOf r ≡ joins (storeOf u) (storeOf v) (storeOf w)
+pub filled-joins : (m : ℕ) (u v w r : List ℕ) → length u ≡ m → length v ≡ m → length w ≡ m
+    → Filled m r (joins (storeOf u) (storeOf v) (storeOf w)) m → storeOf r ≡ joins (storeOf u) (storeOf v) (storeOf w)
 unfolding joins storeOf
-filled-joins u v w r a b c F = fun-ext (λ x. go x (decLt x 16))
+filled-joins m u v w r a b c F = fun-ext (λ x. go x (decLt x m))
   where
-    go : (x : ℕ) → Dec (x < 16) → getD r x 0 ≡ pick (eqb (getD v x 0) (getD u x 0)) (getD w x 0) (getD v x 0)
+    go : (x : ℕ) → Dec (x < m) → getD r x 0 ≡ pick (eqb (getD v x 0) (getD u x 0)) (getD w x 0) (getD v x 0)
     go x (yes h) = F .2 x h
     go x (no n) =
-        let past : (l : List ℕ) → length l ≡ 16 → getD l x 0 ≡ 0 = λ l e. List·getD-eq-default l 0 (omega arith) in
+        let past : (l : List ℕ) → length l ≡ m → getD l x 0 ≡ 0 = λ l e. List·getD-eq-default l 0 (omega arith) in
         rw (past r (F .0), past u a, past v b, past w c) refl

@@ -12,7 +12,7 @@ use Rattle.laws.specs.Program.Fit.{Fit}
 use Rattle.program.specs.Ends.{Laid}
 use Rattle.rules.specs.declared.Ran.{Ran}
 
--- sixteen words as the rules keep them
+-- an array of words as the rules keep them
 unfoldable pub storeOf : List ℕ → Store
 storeOf words x = getD words x 0
 

@@ -5,8 +5,8 @@ ghost use mathlib.Core.Path.{_≡_};
 ghost use Prim.Native.Nat.{_+_, _≤_, _<_, max};
 ghost use lib.ListN.{length};
 ghost use lib.Dec.{eqb};
-ghost use Rattle.model.specs.Word.{pick};
-ghost use Rattle.model.specs.Program.{exprAt, stmtAt, assign, seq, par, ite, while, repeat};
+ghost use Rattle.model.specs.Word.{pick, elementWord};
+ghost use Rattle.model.specs.Program.{exprAt, stmtAt, assign, assignElem, seq, par, ite, while, repeat};
 ghost use Rattle.model.specs.Rules.{eval, put, ended, still, after, wait, run};
 ghost use Rattle.model.specs.Calls.{wordAt, listed, refusedAnswer, referenceAnswer, referenceCall};
 ghost use Rattle.program.specs.Ends.{Laid};
@@ -19,30 +19,38 @@ use model::Refusal;
 use model::sizes::LAST_INSTANT;
 use model::sizes::START_WORDS;
 
-// How a statement ran within a budget: it ended after `time` instants with these words, or it has not ended.
+// How a statement ran within a budget: it ended after `time` instants with these words, or it has not ended. Of the words sixteen are the
+// variables', and 64 each array's.
 struct Ran {
-    words: [u16; 16],
+    words: [u16; 272],
     ended: bool,
     time: u32,
 }
 
-fn word_of(words: [u16; 16], x: u16) -> u16
+fn word_of(words: [u16; 272], x: usize) -> u16
     ensures { λ r. ⌜ r ≡ storeOf words x ⌝ }
 {
-    if x < 16 { words[x as usize] } else { 0 }
+    if x < 272 { words[x] } else { 0 }
 }
 
-fn with_word(words: [u16; 16], x: u16, value: u16) -> [u16; 16]
-    requires { ⌜ x < 16 ⌝ }
+fn with_word(words: [u16; 272], x: usize, value: u16) -> [u16; 272]
+    requires { ⌜ x < 272 ⌝ }
     ensures { λ r. ⌜ storeOf r ≡ put (storeOf words) x value ⌝ }
 {
     let mut changed = words;
-    changed[x as usize] = value;
+    changed[x] = value;
     changed
 }
 
+// Which word an element is. "Only the low six bits of an index count."
+fn element_word(array: u16, index: u16) -> usize
+    ensures { λ r. ⌜ r ≡ elementWord array index ⌝ }
+{
+    16 + (64 * array as usize + index as usize % 64)
+}
+
 // The expression at node i, on these words.
-fn eval_at(program: &[u8], ends: &[usize; 200], i: usize, words: [u16; 16]) -> u16
+fn eval_at(program: &[u8], ends: &[usize; 200], i: usize, words: [u16; 272]) -> u16
     requires { ⌜ Laid (now program) (now ends) ⌝ }
     ensures { λ r. ⌜ r ≡ eval (exprAt (now (program .entry)) i) (storeOf words) ⌝ }
 {
@@ -59,18 +67,21 @@ fn eval_at(program: &[u8], ends: &[usize; 200], i: usize, words: [u16; 16]) -> u
         return node.n;
     }
     if kind == 2 {
-        return word_of(words, node.n);
+        return word_of(words, node.n as usize);
     }
     let first = eval_at(program, ends, i + 1, words);
     if kind == 3 {
         return word::operate(3, first, 0);
+    }
+    if kind == 10 {
+        return word_of(words, element_word(node.n, first));
     }
     let second = eval_at(program, ends, program::next(ends, count, i + 1), words);
     word::operate(kind, first, second)
 }
 
 // A run that has not ended; its words and time say nothing.
-fn unfinished(words: [u16; 16]) -> Ran
+fn unfinished(words: [u16; 272]) -> Ran
     ensures { λ r. ⌜ Stands 0 still r ⌝ }
 {
     Ran {
@@ -81,7 +92,7 @@ fn unfinished(words: [u16; 16]) -> Ran
 }
 
 // d instants, and then these words.
-fn pause(words: [u16; 16], d: u32, budget: u32) -> Ran
+fn pause(words: [u16; 272], d: u32, budget: u32) -> Ran
     ensures { λ r. ⌜ Stands budget (wait d budget (λ k. ended 0 (storeOf words))) r ⌝ }
 {
     if d <= budget {
@@ -121,12 +132,12 @@ fn word_joined(start: u16, a: u16, b: u16) -> u16
 }
 
 // The words after two sides. No word is written on both (refusal 8), so a changed one is the only one written.
-fn joined(start: [u16; 16], a: [u16; 16], b: [u16; 16]) -> [u16; 16]
+fn joined(start: [u16; 272], a: [u16; 272], b: [u16; 272]) -> [u16; 272]
     ensures { λ r. ⌜ storeOf r ≡ joins (storeOf start) (storeOf a) (storeOf b) ⌝ }
 {
-    let mut words = [0u16; 16];
+    let mut words = [0u16; 272];
     let mut x: usize = 0;
-    while x < 16 {
+    while x < 272 {
         words[x] = word_joined(start[x], a[x], b[x]);
         x += 1;
     }
@@ -140,14 +151,34 @@ fn assign_at(
     e: usize,
     x: u16,
     d: u32,
-    words: [u16; 16],
+    words: [u16; 272],
     budget: u32,
 ) -> Ran
     requires { ⌜ Ready (now program) (now ends) (assign d x (exprAt (now program) e)) × (d < 256) ⌝ }
     ensures { λ r. ⌜ Stands budget (run budget (assign d x (exprAt (now (program .entry)) e)) (storeOf words)) r ⌝ }
 {
     let value = eval_at(program, ends, e, words);
-    pause(with_word(words, x, value), d + 1, budget)
+    pause(with_word(words, x as usize, value), d + 1, budget)
+}
+
+// The element of an array, whose index is the expression at node e, gets the expression at node f.
+fn assign_elem_at(
+    program: &[u8],
+    ends: &[usize; 200],
+    e: usize,
+    f: usize,
+    array: u16,
+    d: u32,
+    words: [u16; 272],
+    budget: u32,
+) -> Ran
+    requires { ⌜ Ready (now program) (now ends) (assignElem d array (exprAt (now program) e) (exprAt (now program) f)) × (d < 256) ⌝ }
+    ensures { λ r. ⌜ Stands budget (run budget (assignElem d array (exprAt (now (program .entry)) e) (exprAt (now (program .entry)) f)) (storeOf words)) r ⌝ }
+{
+    let index = eval_at(program, ends, e, words);
+    let value = eval_at(program, ends, f, words);
+    let changed = with_word(words, element_word(array, index), value);
+    pause(changed, d + 1, budget)
 }
 
 // The statement at node p, and then that at node q.
@@ -156,7 +187,7 @@ fn seq_at(
     ends: &[usize; 200],
     p: usize,
     q: usize,
-    words: [u16; 16],
+    words: [u16; 272],
     budget: u32,
 ) -> Ran
     requires { ⌜ Ready (now program) (now ends) (seq (stmtAt (now program) p) (stmtAt (now program) q)) × (p ≤ q) ⌝ }
@@ -177,7 +208,7 @@ fn par_at(
     ends: &[usize; 200],
     p: usize,
     q: usize,
-    words: [u16; 16],
+    words: [u16; 272],
     budget: u32,
 ) -> Ran
     requires { ⌜ Ready (now program) (now ends) (par (stmtAt (now program) p) (stmtAt (now program) q)) × (p ≤ q) ⌝ }
@@ -208,7 +239,7 @@ fn if_at(
     p: usize,
     q: usize,
     d: u32,
-    words: [u16; 16],
+    words: [u16; 272],
     budget: u32,
 ) -> Ran
     requires { ⌜ Ready (now program) (now ends) (ite d (exprAt (now program) e) (stmtAt (now program) p) (stmtAt (now program) q)) × (p ≤ q) ⌝ }
@@ -230,7 +261,7 @@ fn while_at(
     e: usize,
     p: usize,
     d: u32,
-    words: [u16; 16],
+    words: [u16; 272],
     budget: u32,
 ) -> Ran
     requires { ⌜ Ready (now program) (now ends) (while d (exprAt (now program) e) (stmtAt (now program) p)) ⌝ }
@@ -265,7 +296,7 @@ fn repeat_at(
     e: usize,
     p: usize,
     d: u32,
-    words: [u16; 16],
+    words: [u16; 272],
     budget: u32,
 ) -> Ran
     requires { ⌜ Ready (now program) (now ends) (repeat d (exprAt (now program) e) (stmtAt (now program) p)) ⌝ }
@@ -296,7 +327,7 @@ fn repeat_at(
 }
 
 // The statement at node i, from these words.
-fn run_at(program: &[u8], ends: &[usize; 200], i: usize, words: [u16; 16], budget: u32) -> Ran
+fn run_at(program: &[u8], ends: &[usize; 200], i: usize, words: [u16; 272], budget: u32) -> Ran
     requires { ⌜ Ready (now program) (now ends) (stmtAt (now program) i) ⌝ }
     ensures { λ r. ⌜ Stands budget (run budget (stmtAt (now (program .entry)) i) (storeOf words)) r ⌝ }
 {
@@ -321,18 +352,19 @@ fn run_at(program: &[u8], ends: &[usize; 200], i: usize, words: [u16; 16], budge
             if_at(program, ends, i + 1, second, third, d, words, budget)
         }
         22 => while_at(program, ends, i + 1, second, d, words, budget),
+        24 => assign_elem_at(program, ends, i + 1, second, node.n, d, words, budget),
         _ => repeat_at(program, ends, i + 1, second, d, words, budget),
     }
 }
 
-// The start words, from 32 bytes; what lies past them is not looked at.
-fn start_words(bytes: &[u8]) -> [u16; 16]
-    requires { ⌜ 32 ≤ length (now bytes) ⌝ }
-    ensures { λ r. ⌜ r ≡ listed (wordAt (now (bytes .entry))) 0 16 ⌝ }
+// The start words, from 544 bytes; what lies past them is not looked at.
+fn start_words(bytes: &[u8]) -> [u16; 272]
+    requires { ⌜ 544 ≤ length (now bytes) ⌝ }
+    ensures { λ r. ⌜ r ≡ listed (wordAt (now (bytes .entry))) 0 272 ⌝ }
 {
-    let mut words = [0u16; 16];
+    let mut words = [0u16; 272];
     let mut x: usize = 0;
-    while x < 16 {
+    while x < 272 {
         words[x] = word::get16(bytes, 2 * x);
         x += 1;
     }
@@ -350,7 +382,20 @@ fn refused(number: u8, place: usize) -> Answer
     }
 }
 
-fn ended_at(time: u32, words: [u16; 16]) -> Answer
+// The words of the variables, which are the first sixteen.
+fn variables(words: [u16; 272]) -> [u16; 16]
+    ensures { λ r. ⌜ r ≡ listed (storeOf words) 0 16 ⌝ }
+{
+    let mut held = [0u16; 16];
+    let mut x: usize = 0;
+    while x < 16 {
+        held[x] = words[x];
+        x += 1;
+    }
+    held
+}
+
+fn ended_at(time: u32, words: [u16; 272]) -> Answer
     requires { ⌜ time ≤ 1000000 ⌝ }
     ensures { λ r. ⌜ r ≡ referenceAnswer time (ended time (storeOf words)) ⌝ }
 {
@@ -358,7 +403,7 @@ fn ended_at(time: u32, words: [u16; 16]) -> Answer
         outcome: Outcome::Ended,
         instant: time,
         count: time + 1,
-        words,
+        words: variables(words),
     }
 }
 
@@ -379,7 +424,7 @@ fn answer(ran: Ran, budget: u32) -> Answer
     }
 }
 
-// The check, and then the run of the whole program from 32 bytes of start words.
+// The check, and then the run of the whole program from 544 bytes of start words.
 pub fn reference_run(options: Options, program: &[u8], words: &[u8], budget: u32) -> Answer
     ensures { λ r. ⌜ r ≡ referenceCall options (now (program .entry)) (now (words .entry)) budget ⌝ }
 {

@@ -13,7 +13,7 @@ use borrow.Author.Tests.{eqb-true, ltb-false}
 use Rattle.model.specs.declared.Cell.{Cell}
 use Rattle.model.specs.declared.Checked.the-variants.{Accepted}
 use Rattle.model.specs.declared.kinds.Use.{Use}
-use Rattle.model.specs.declared.kinds.Use.the-variants.{Unknown, Unused, Value, Positive, ControlBelow, ControlAny, WordBelow, WordAny}
+use Rattle.model.specs.declared.kinds.Use.the-variants.{Unknown, Unused, Value, Positive, ControlBelow, ControlAny, WordBelow, WordAny, ArrayBelow}
 use Rattle.model.specs.Circuit.{cellAt, memories, cellTable, shape, cellRow}
 use Rattle.model.specs.NetlistFile.{cellBytes, cellFrom, cellsAt, inList, inFile, blocksFor, countOf, finishOf, cellsOf, fileLengthWrong, keeps, fileCheck}
 use Rattle.model.specs.State.{stateSize, instantOf, beginState}
@@ -22,7 +22,7 @@ use Rattle.laws.specs.Refusals.Laws.{by-bool, and-true, or-false, not-both}
 use Rattle.laws.specs.Circuit.Ordered.{Meets, Looks, kinds}
 use Rattle.laws.specs.Circuit.Shapes.{only-kind, allLines, every-line}
 use Rattle.laws.specs.NetlistFile.Uses.{keeps-looks}
-use Rattle.laws.specs.NetlistFile.Passed.{net-passed, file-passed, count-range, count-cells}
+use Rattle.laws.specs.NetlistFile.Passed.{net-passed, net-ordered, file-passed, count-range, count-cells}
 use Rattle.laws.specs.NetlistFile.CellBytes.{from-bytes, bytes-length, cells-are, cell-of}
 use Rattle.laws.specs.State.Passes.{begin-instant as begun-instant}
 use Rattle.simulator.specs.Fits.{Stands, Sees, netOf, Fits, Runs}
@@ -31,7 +31,7 @@ use Rattle.simulator.proofs.Cells.{net-cell}
 -- Sizes --------------------------------------------------------------------------------------------------------------------------------
 
 pub record Sized (file : List ℕ) : Type 0 where
-  pub some : 19 ≤ countOf file
+  pub some : 27 ≤ countOf file
   pub few : countOf file ≤ 1024
   pub finish : finishOf file < countOf file
   pub long : length file ≡ 512 * blocksFor (countOf file)
@@ -57,6 +57,7 @@ bounded ControlBelow = true
 bounded ControlAny = true
 bounded WordBelow = true
 bounded WordAny = true
+bounded ArrayBelow = true
 
 -- a constant's a alone is not, and no b
 a-bounded : (k : ℕ) → (k ≡ 1 → ⊥) → bounded (cellRow k .a) ≡ true
@@ -83,6 +84,7 @@ module _ (net : List Cell) (k : ℕ) (h : k < length net) (c : Cell) (e : keeps 
   within ControlAny v b m = m .0
   within WordBelow v b m = omega (arith, m .0)
   within WordAny v b m = m .0
+  within ArrayBelow v b m = omega (arith, m .0)
 
   sees : Looks (cellRow (c .kind)) (kinds net) (length net) k c
   sees = keeps-looks net k c e
@@ -129,7 +131,7 @@ module _ (file s : List ℕ) (r : Runs file s) where
   pub file-sized : Sized file
   file-sized = sized file (r .accepted)
 
-  pub file-room : 8 + 40 * countOf file ≤ length s
+  pub file-room : 8 + 40 * countOf file + 512 ≤ length s
   file-room = rw (count-cells file) at (r .room)
 
   pub file-sixteen : memories (cellsOf file) ≡ 16
@@ -151,6 +153,7 @@ module _ (file s : List ℕ) (r : Runs file s) where
         sees = λ k l.
             let y : cellAt (cellsOf file) k ≡ cellFrom cells (6 * k) = ap (λ (net : List Cell). cellAt net k) (sym e) ∙ net-cell cells n k l in
             rw y at (file-sees k (rw z at l));
+        ordered = rw e (net-ordered (cellsOf file) (finishOf file) (file-passed file (r .accepted) .cells));
       }
 
   pub begin-instant : (net : List Cell) (words : ℕ → ℕ) (b : List ℕ) → net ≡ cellsOf file → b ≡ beginState net words s → instantOf b ≡ 0

@@ -1,19 +1,21 @@
 -- Cells in a list of six bytes each, and the state that they fit. Assumes nothing.
 use mathlib.Core.List.{List, _∷_}
-use mathlib.Core.Path.{_≡_, _∙_, ap}
+use mathlib.Core.Path.{_≡_, refl, sym, _∙_, ap}
 use Prim.Native.Nat.{ℕ, _+_, _*_, _<_, _≤_}
 use native.Mathlib.Omega.{arith}
 use native.Mathlib.Numerals.{add-one}
 use native.Mathlib.Nat.{zero-add}
+use borrow.Author.Tests.{eqb-true}
 use lib.ListN.{length, drop}
 use lib.Seq.{drop-cons}
 use Rattle.model.specs.declared.Cell.{Cell}
-use Rattle.model.specs.Circuit.{noCell, cellAt, shape}
+use Rattle.model.specs.Circuit.{noCell, cellAt, arrayAt, cellTable, shape, cellRow}
 use Rattle.model.specs.NetlistFile.{cellFrom, inList}
 use Rattle.model.specs.State.{nextValue, value, settle, settled}
+use Rattle.laws.specs.Circuit.Ordered.{In, Looks, array, kinds}
 use Rattle.laws.specs.NetlistFile.Passed.{length-cells}
 use Rattle.laws.specs.NetlistFile.CellBytes.{cell-of}
-use Rattle.simulator.specs.Fits.{Stands, Sees, netOf, Fits}
+use Rattle.simulator.specs.Fits.{Stands, Sees, netOf, Fits, Holds}
 
 -- a list of cells from cell k on
 pub cells-from : (net : List Cell) (k : ℕ) → k < length net → drop k net ≡ cellAt net k ∷ drop (k + 1) net
@@ -23,8 +25,8 @@ module _ (cells : List ℕ) (n k : ℕ) (h : k < n) where
   pub net-cell : cellAt (netOf cells n) k ≡ cellFrom cells (6 * k)
   net-cell = cell-of inList cells 0 n k h ∙ ap (λ (j : ℕ). cellFrom cells (6 * j)) (zero-add k)
 
-  pub net-value : (s : List ℕ) → value (netOf cells n) s k ≡ nextValue (shape (cellFrom cells (6 * k) .kind)) s k (cellFrom cells (6 * k))
-  net-value s = ap (λ (c : Cell). nextValue (shape (c .kind)) s k c) net-cell
+  pub net-value : (s : List ℕ) → value (netOf cells n) s k ≡ nextValue (shape (cellFrom cells (6 * k) .kind)) (netOf cells n) s k (cellFrom cells (6 * k))
+  net-value s = ap (λ (c : Cell). nextValue (shape (c .kind)) (netOf cells n) s k c) net-cell
 
   pub net-settled : (s : List ℕ) → settled (netOf cells n) s k ≡ settle (shape (cellFrom cells (6 * k) .kind)) s k (cellFrom cells (6 * k))
   net-settled s = ap (λ (c : Cell). settle (shape (c .kind)) s k c) net-cell
@@ -32,9 +34,9 @@ module _ (cells : List ℕ) (n k : ℕ) (h : k < n) where
 pub net-length : (cells : List ℕ) (n : ℕ) → length (netOf cells n) ≡ n
 net-length cells n = length-cells inList cells 0 n
 
--- m of the cells fit a state that is as long
-pub refits : {cells : List ℕ} {m n : ℕ} {s t : List ℕ} → Fits cells n s → m ≤ n → length t ≡ length s → Fits cells m t
-refits f l e =
+-- the cells fit a state that is as long
+pub refits : {cells : List ℕ} {m n : ℕ} {s t : List ℕ} → Fits cells n s → n ≡ m → length t ≡ length s → Fits cells m t
+refits {cells} f l e =
     record {
       few = omega (arith, f .few);
       list = omega (arith, f .list);
@@ -46,6 +48,7 @@ refits f l e =
             b = record { few = z .b .few; room = rw e (z .b .room) };
             delay = z .delay;
           };
+      ordered = rw l at (f .ordered);
     }
 
 -- cell k and the cells that it looks at stand there
@@ -54,3 +57,42 @@ pub fits-at : {cells : List ℕ} {n : ℕ} {s : List ℕ} → Fits cells n s →
 fits-at {cells} {n} f t e k h c z =
     let g : Fits cells n t = refits f (omega arith) e in
     (record { few = omega (arith, f .few); room = omega (arith, g .room) }, rw z (g .sees k h))
+
+pub holds : {cells : List ℕ} {n : ℕ} {s : List ℕ} → Fits cells n s → (t : List ℕ) → length t ≡ length s → (k : ℕ) → k < n
+    → (c : Cell) → c ≡ cellFrom cells (6 * k) → Holds cells n t k c
+holds f t e k h c z =
+    let at = fits-at f t e k h c z in
+    record { fits = refits f (omega arith) e; below = h; here = z; stands = at .0; sees = at .1 }
+
+-- what cell k asks
+module _ {cells : List ℕ} {n : ℕ} {s : List ℕ} {k : ℕ} {c : Cell} (p : Holds cells n s k c) where
+  pub holds-cell : cellAt (netOf cells n) k ≡ c
+  holds-cell = net-cell cells n k (p .below) ∙ sym (p .here)
+
+  -- a read's a is an array
+  pub read-array : c .kind ≡ 44 → (c .a < n) × (cellAt (netOf cells n) (c .a) .delay < 4)
+  unfolding shape cellTable
+  read-array z =
+      let net = netOf cells n in
+      let o = p .fits .ordered in
+      let long = net-length cells n in
+      let h : k < length net = omega (arith, long, p .below) in
+      let looks : Looks (cellRow (c .kind)) (kinds net) (length net) k c =
+      rw holds-cell at (o .looks k h) in
+      let m : In array (kinds net) k (c .a) = rw z at (looks .1) in
+      let l : c .a < length net = omega (arith, m .0, h) in
+      (omega (arith, l, long), o .stands (c .a) l (eqb-true _ _ (m .1)) .0)
+
+  -- behind an array stands its address, which names a cell of the state
+  pub array-address : c .kind ≡ 42 → (c .delay < 4) × (k + 1 < n) × Stands s (cellFrom cells (6 * (k + 1)) .a)
+  array-address z =
+      let net = netOf cells n in
+      let o = p .fits .ordered in
+      let long = net-length cells n in
+      let h : k < length net = omega (arith, long, p .below) in
+      let st : (c .delay < 4) × (k ≡ arrayAt net (c .delay)) = rw holds-cell at (o .stands k h (ap (λ (d : Cell). d .kind) holds-cell ∙ z)) in
+      let q = o .arrays (c .delay) (st .0) in
+      let r : (k + 1 < length net) × (cellAt net k .kind ≡ 42) × (cellAt net k .delay ≡ c .delay) × (cellAt net (k + 1) .kind ≡ 43) = rw (← st .1) at q in
+      let l : k + 1 < n = omega (arith, r .0, long) in
+      let e : cellFrom cells (6 * (k + 1)) .kind ≡ 43 = rw (net-cell cells n (k + 1) l) at (r .3) in
+      (st .0, l, p .fits .sees (k + 1) l .a (λ y. omega (arith, e, y)))

@@ -1,6 +1,7 @@
 pub mod Cells
 pub mod Passes
 pub mod ByKind
+pub mod Arrays
 pub mod Memories
 pub mod Continuing
 pub mod AcceptedFile

@@ -1,13 +1,14 @@
--- Passes over the cells and over the bytes of a line: their turns, and the passes of an instant together. Assumes nothing.
-use mathlib.Core.List.{List, _++_}
+-- Passes over the cells, over the elements' start words and over the bytes of a line: their turns, and the passes of an instant together. Assumes nothing.
+use mathlib.Core.List.{List, _++_, append-assoc}
 use mathlib.Core.Path.{_≡_, refl, sym, _∙_, ap}
 use Prim.Native.Nat.{ℕ, zero, suc, _+_, _-_, _*_, _/_, _%_, _<_, _≤_}
 use native.Mathlib.Omega.{arith}
 use native.Mathlib.Numerals.{add-one, sub-one}
-use lib.ListN.{length, getD, set, drop, replicate}
+use lib.ListN.{length, getD, set, take, drop, replicate, length-take}
+use lib.Seq.{sets, sets-eq, drop-at}
 use Rattle.model.specs.declared.Cell.{Cell}
-use Rattle.model.specs.Word.{put32}
-use Rattle.model.specs.State.{instantOf, value, firstValue, upTo, aged, shown, shiftedIn, settled, beginState, stepState}
+use Rattle.model.specs.Word.{bytes16, put16, put32}
+use Rattle.model.specs.State.{instantOf, value, firstValue, upTo, aged, shown, shiftedIn, settled, wordBytes, blank, beginState, stepState}
 
 upTo-more : (f : List ℕ → ℕ → List ℕ) (n : ℕ) (s : List ℕ) → upTo f (n + 1) s ≡ f (upTo f n s) n
 unfolding upTo
@@ -33,18 +34,51 @@ module _ {f : List ℕ → ℕ → List ℕ} {n : ℕ} {s : List ℕ} where
     pub passed-all : n ≤ k → t ≡ upTo f n s
     passed-all h = let e : k ≡ n = omega (arith, h, p .few) in p .state ∙ ap (λ (j : ℕ). upTo f j s) e
 
+-- Elements -----------------------------------------------------------------------------------------------------------------------------
+
+length-words : (words : ℕ → ℕ) (x n : ℕ) → length (wordBytes words x n) ≡ 2 * n
+unfolding wordBytes bytes16
+length-words words x zero = refl
+length-words words x (suc n) = omega (arith, length-words words (x + 1) n)
+
+-- words that are put in one after another, up to word n
+module _ (words : ℕ → ℕ) (d : List ℕ) (i x n : ℕ) where
+  pub words-more : x < n → sets d i (wordBytes words x (n - x)) ≡ sets (put16 d i (words x)) (i + 2) (wordBytes words (x + 1) (n - (x + 1)))
+  unfolding wordBytes bytes16 put16
+  words-more h =
+      let e : n - x ≡ suc (n - (x + 1)) = omega arith in
+      let f : i + 2 ≡ suc (suc i) = omega arith in
+      rw (e, f, add-one i) refl
+
+  pub words-done : n ≤ x → sets d i (wordBytes words x (n - x)) ≡ d
+  unfolding wordBytes
+  words-done h = let e : n - x ≡ 0 = omega arith in rw e refl
+
 -- the passes of one further instant, and of instant 0
 module _ (net : List Cell) (n : ℕ) (e : length net ≡ n) (s : List ℕ) where
-  pub stepped : (t u v w : List ℕ) → t ≡ put32 s 0 (instantOf s + 1) → u ≡ upTo aged n t → v ≡ upTo (shown (value net)) n u
+  pub stepped : (t u v w : List ℕ) → t ≡ put32 s 0 (instantOf s + 1) → u ≡ upTo aged n t → v ≡ upTo (shown net (value net)) n u
       → w ≡ upTo (settled net) n v → w ≡ stepState net s
   unfolding stepState
   stepped t u v w a b c d =
-      d ∙ ap (upTo (settled net) n) (c ∙ ap (upTo (shown (value net)) n) (b ∙ ap (upTo aged n) a)) ∙ rw e refl
+      d ∙ ap (upTo (settled net) n) (c ∙ ap (upTo (shown net (value net)) n) (b ∙ ap (upTo aged n) a)) ∙ rw e refl
 
-  pub begun : (words : ℕ → ℕ) (t u v : List ℕ) → t ≡ replicate (8 + 40 * n) 0 ++ drop (8 + 40 * n) s
-      → u ≡ upTo (shown (firstValue net words)) n t → v ≡ upTo (settled net) n u → v ≡ beginState net words s
+  -- the elements' start words, then zeros before them
+  blank-is : (words : ℕ → ℕ) (r t : List ℕ) → 8 + 40 * n + 512 ≤ length s → r ≡ sets s (8 + 40 * n) (wordBytes words 16 256)
+      → t ≡ replicate (8 + 40 * n) 0 ++ drop (8 + 40 * n) r → t ≡ blank net words s
+  blank-is words r t l a b =
+      let m = 8 + 40 * n in
+      let ws = wordBytes words 16 256 in
+      let k : length ws ≡ 512 = length-words words 16 256 in
+      let z : r ≡ (take m s ++ ws) ++ drop (m + length ws) s = a ∙ sets-eq ws s m (omega (arith, k)) in
+      let y : drop m r ≡ ws ++ drop (m + length ws) s = rw (z, append-assoc (take m s) ws) (drop-at (take m s) _ m (simp length-take (omega arith))) in
+      rw (e, ← k) (b ∙ ap (λ (q : List ℕ). replicate m 0 ++ q) y)
+
+  pub begun : (words : ℕ → ℕ) (r t u v : List ℕ) → 8 + 40 * n + 512 ≤ length s → r ≡ sets s (8 + 40 * n) (wordBytes words 16 256)
+      → t ≡ replicate (8 + 40 * n) 0 ++ drop (8 + 40 * n) r → u ≡ upTo (shown net (firstValue net words)) n t → v ≡ upTo (settled net) n u
+      → v ≡ beginState net words s
   unfolding beginState
-  begun words t u v a b c = c ∙ ap (upTo (settled net) n) (b ∙ ap (upTo (shown (firstValue net words)) n) a) ∙ rw e refl
+  begun words r t u v l z a b c =
+      c ∙ ap (upTo (settled net) n) (b ∙ ap (upTo (shown net (firstValue net words)) n) (blank-is words r t l z a)) ∙ rw e refl
 
 -- Lines --------------------------------------------------------------------------------------------------------------------------------
 

@@ -34,11 +34,11 @@ module _ (rest : List Checked) {c : Checked} where
   accepts e f = rw e f
 
 module _ (words : List ℕ) (room : Checked) where
-  pub short-words : length words < 32 → refuse 14 0 ≡ first (short (length words) 32 ∷ room ∷ [])
-  short-words l = rw (lt-ltb (length words) 32 l) refl
+  pub short-words : length words < 544 → refuse 14 0 ≡ first (short (length words) 544 ∷ room ∷ [])
+  short-words l = rw (lt-ltb (length words) 544 l) refl
 
-  pub long-words : 32 ≤ length words → room ≡ first (short (length words) 32 ∷ room ∷ [])
-  long-words l = rw (le-ltb (length words) 32 l) (first-one room)
+  pub long-words : 544 ≤ length words → room ≡ first (short (length words) 544 ∷ room ∷ [])
+  long-words l = rw (le-ltb (length words) 544 l) (first-one room)
 
 module _ (file : List ℕ) (n : ℕ) (lent : List ℕ) (e : fileCheck file ≡ Accepted) where
   pub continue-room : (r : Refusal) → short (length lent) (stateSize (cellsOf file)) ≡ Refused r → Refused r ≡ first (continueChecks file n lent)
@@ -66,10 +66,10 @@ module _ (file words : List ℕ) (n : ℕ) (lent : List ℕ) (e : fileCheck file
 pub long-enough : (has needs : ℕ) → short has needs ≡ Accepted → needs ≤ has
 long-enough has needs e = ltb-false has needs (refuse-unless (ltb has needs) 14 0 e)
 
-pub begin-accepted : (file words lent : List ℕ) → first (beginChecks file words lent) ≡ Accepted → Runs file lent × (32 ≤ length words)
+pub begin-accepted : (file words lent : List ℕ) → first (beginChecks file words lent) ≡ Accepted → Runs file lent × (544 ≤ length words)
 begin-accepted file words lent e =
     let a = all-accept (beginChecks file words lent) e in
-    (record { accepted = a 0; room = long-enough (length lent) (stateSize (cellsOf file)) (a 2) }, long-enough (length words) 32 (a 1))
+    (record { accepted = a 0; room = long-enough (length lent) (stateSize (cellsOf file)) (a 2) }, long-enough (length words) 544 (a 1))
 
 pub continue-accepted : (file : List ℕ) (n : ℕ) (lent : List ℕ) → first (continueChecks file n lent) ≡ Accepted
     → Runs file lent × (instantOf lent + n ≤ 1000000)
@@ -80,11 +80,11 @@ continue-accepted file n lent e =
     )
 
 pub run-accepted : (file words : List ℕ) (n : ℕ) (lent : List ℕ) → first (runNetlistChecks file words n lent) ≡ Accepted
-    → Runs file lent × (32 ≤ length words) × (n ≤ 1000000)
+    → Runs file lent × (544 ≤ length words) × (n ≤ 1000000)
 run-accepted file words n lent e =
     let a = all-accept (runNetlistChecks file words n lent) e in (
       record { accepted = a 0; room = long-enough (length lent) (stateSize (cellsOf file)) (a 3) },
-      long-enough (length words) 32 (a 2),
+      long-enough (length words) 544 (a 2),
       ltb-false 1000000 n (refuse-unless (ltb 1000000 n) 13 0 (a 1)),
     )
 

@@ -11,6 +11,7 @@ ghost use Rattle.model.specs.Calls.{short, beginChecks, continueChecks, runNetl
 use crate::sound;
 use model::Checked;
 use model::Refusal;
+use model::sizes::ELEMENTS;
 use model::sizes::LAST_INSTANT;
 use model::sizes::START_WORDS;
 use model::sizes::STATE_CELL;
@@ -28,7 +29,7 @@ fn check_room(file: &[u8], state: &[u8]) -> Checked
     ensures { λ r. ⌜ r ≡ short (length (now (state .entry))) (stateSize (cellsOf (now (file .entry)))) ⌝ }
 {
     let n = word::get16(file, 2) as usize;
-    if state.len() < STATE_HEADER + STATE_CELL * n {
+    if state.len() < STATE_HEADER + STATE_CELL * n + ELEMENTS {
         return refuse(14);
     }
     Checked::Accepted
@@ -37,7 +38,7 @@ fn check_room(file: &[u8], state: &[u8]) -> Checked
 // Refusal 14 of start words and of a state.
 fn check_lent(file: &[u8], words: &[u8], state: &[u8]) -> Checked
     requires { ⌜ fileCheck (now file) ≡ Accepted ⌝ }
-    ensures { λ r. ⌜ r ≡ first (short (length (now (words .entry))) 32 ∷ short (length (now (state .entry))) (stateSize (cellsOf (now (file .entry)))) ∷ []) ⌝ }
+    ensures { λ r. ⌜ r ≡ first (short (length (now (words .entry))) 544 ∷ short (length (now (state .entry))) (stateSize (cellsOf (now (file .entry)))) ∷ []) ⌝ }
 {
     if words.len() < START_WORDS {
         return refuse(14);

@@ -4,19 +4,30 @@ ghost use mathlib.Core.Path.{_≡_};
 ghost use Prim.Native.Nat.{_+_, _*_, _<_, _≤_};
 ghost use lib.ListN.{length};
 ghost use Rattle.model.specs.Word.{put32};
-ghost use Rattle.model.specs.Circuit.{shape};
-ghost use Rattle.model.specs.State.{instantOf, nextValue, value, upTo, aged, shown, settle, settled, stepState};
-ghost use Rattle.simulator.specs.Fits.{Stands, Sees, netOf, Fits};
+ghost use Rattle.model.specs.Word.{elementOf};
+ghost use Rattle.model.specs.Circuit.{cellAt, shape};
+ghost use Rattle.model.specs.State.{elementNow, instantOf, nextValue, value, upTo, aged, stored, shown, settle, settled, stepState};
+ghost use Rattle.simulator.specs.Fits.{Stands, Sees, netOf, Fits, Holds};
 use crate::wires;
 use model::Cell;
+use model::sizes::CELL;
 use model::sizes::STATE_CELL;
 use model::sizes::STATE_HEADER;
 use netlist::cells::Layout;
 
+// The element with index w, as it is now, of the array whose 42 is cell a.
+fn element_now(cells: &[u8], n: usize, a: usize, w: u16, state: &[u8]) -> u16
+    requires { ⌜ Fits (now cells) n (now state) × (a < n) × (cellAt (netOf (now cells) n) a .delay < 4) ⌝ }
+    ensures { λ r. ⌜ r ≡ elementNow (netOf (now (cells .entry)) n) (now (state .entry)) (elementOf (cellAt (netOf (now (cells .entry)) n) a .delay) w) ⌝ }
+{
+    let array = cells[CELL * a + 1] as usize;
+    word::get16(state, wires::element_place(n, array, w))
+}
+
 // What cell k, which is c, shows after instant 0.
-pub fn next_value(c: Cell, state: &[u8], k: usize) -> u16
-    requires { ⌜ Stands (now state) k × Sees (now state) c ⌝ }
-    ensures { λ r. ⌜ r ≡ nextValue (shape (c .kind)) (now (state .entry)) k c ⌝ }
+pub fn next_value(cells: &[u8], n: usize, c: Cell, state: &[u8], k: usize) -> u16
+    requires { ⌜ Holds (now cells) n (now state) k c ⌝ }
+    ensures { λ r. ⌜ r ≡ nextValue (shape (c .kind)) (netOf (now (cells .entry)) n) (now (state .entry)) k c ⌝ }
 {
     let kind = c.kind;
     if kind == 1 {
@@ -42,7 +53,25 @@ pub fn next_value(c: Cell, state: &[u8], k: usize) -> u16
         37 => word::bit((x == 1) & (y == 0)),
         38 => wires::merged(state, k, x == 1, y == 1),
         41 => if x == 1 { y } else { 0 },
+        44 => element_now(cells, n, a, y, state),
         _ => 0,
+    }
+}
+
+// A 42 whose clock falls takes a word in, from the data and the address of an instant ago.
+pub fn store(cells: &[u8], n: usize, c: Cell, state: &mut [u8], k: usize)
+    requires { ⌜ Holds (now cells) n (now state) k c ⌝ }
+    ensures { λ _. ⌜ now (state .exit) ≡ stored (netOf (now (cells .entry)) n) (now (state .entry)) k ⌝ }
+{
+    let kind = c.kind;
+    if kind == 42 {
+        if wires::has_fallen(state, c.a as usize) {
+            let next = netlist::cells::cell_at(cells, Layout::InList, k + 1);
+            let w = wires::before_at(state, next.a as usize);
+            let v = wires::before_at(state, c.b as usize);
+            let at = wires::element_place(n, c.delay as usize, w);
+            word::put16(state, at, v);
+        }
     }
 }
 
@@ -91,15 +120,16 @@ fn age_all(state: &mut [u8], n: usize)
     }
 }
 
-// In rising order, since cells look at what lower ones are now.
+// In rising order, since cells look at what lower ones are now, and a read at what its array has taken in.
 fn show_all(cells: &[u8], n: usize, state: &mut [u8])
     requires { ⌜ Fits (now cells) n (now state) ⌝ }
-    ensures { λ _. ⌜ now (state .exit) ≡ upTo (shown (value (netOf (now (cells .entry)) n))) n (now (state .entry)) ⌝ }
+    ensures { λ _. ⌜ now (state .exit) ≡ upTo (shown (netOf (now (cells .entry)) n) (value (netOf (now (cells .entry)) n))) n (now (state .entry)) ⌝ }
 {
     let mut k: usize = 0;
     while k < n {
         let c = netlist::cells::cell_at(cells, Layout::InList, k);
-        let v = next_value(c, state, k);
+        let v = next_value(cells, n, c, state, k);
+        store(cells, n, c, state, k);
         word::put16(state, STATE_HEADER + STATE_CELL * k, v);
         k += 1;
     }

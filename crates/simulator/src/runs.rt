@@ -91,7 +91,7 @@ fn shows(file: &[u8], state: &[u8], count: u32) -> Answer
 // Runs -----------------------------------------------------------------------------------------------------------------------------------
 
 pub fn begin(file: &[u8], words: &[u8], state: &mut [u8]) -> Answer
-    requires { ⌜ Runs (now file) (now state) × (32 ≤ length (now words)) ⌝ }
+    requires { ⌜ Runs (now file) (now state) × (544 ≤ length (now words)) ⌝ }
     ensures state { λ _. ⌜ now (state .exit) ≡ beginState (cellsOf (now (file .entry))) (wordAt (now (words .entry))) (now (state .entry)) ⌝ }
     ensures answer { λ r. ⌜ r ≡ shows (now (file .entry)) (beginState (cellsOf (now (file .entry))) (wordAt (now (words .entry))) (now (state .entry))) 1 ⌝ }
 {
@@ -115,7 +115,7 @@ pub fn continue_by(file: &[u8], state: &mut [u8], budget: u32) -> Answer
 
 // A beginning, and a continuing by the budget unless the finish was high.
 pub fn full_run(file: &[u8], words: &[u8], budget: u32, state: &mut [u8]) -> Answer
-    requires { ⌜ Runs (now file) (now state) × (32 ≤ length (now words)) × (budget ≤ 1000000) ⌝ }
+    requires { ⌜ Runs (now file) (now state) × (544 ≤ length (now words)) × (budget ≤ 1000000) ⌝ }
     ensures state { λ _. ⌜ now (state .exit) ≡ fullState (now (file .entry)) (now (words .entry)) budget (now (state .entry)) ⌝ }
     ensures answer { λ r. ⌜ r ≡ shows (now (file .entry)) (fullState (now (file .entry)) (now (words .entry)) budget (now (state .entry))) (fullCount (now (file .entry)) (now (words .entry)) budget (now (state .entry))) ⌝ }
 {

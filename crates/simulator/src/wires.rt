@@ -1,9 +1,9 @@
-// One cell's bytes in a state: its values, its held bits, its line.
+// One cell's bytes in a state: its values, its held bits, its line; and where an element's word stands.
 // Each contract is an equation with model/State; the cell stands in the state.
 ghost use mathlib.Core.Path.{_≡_};
 ghost use mathlib.Core.Bool.{not, _&&_};
-ghost use Prim.Native.Nat.{_+_, _<_};
-ghost use Rattle.model.specs.Word.{bit};
+ghost use Prim.Native.Nat.{_+_, _*_, _<_, _≤_};
+ghost use Rattle.model.specs.Word.{bit, elementOf};
 ghost use Rattle.model.specs.Circuit.{high, mergeStep};
 ghost use Rattle.model.specs.State.{base, nowAt, beforeAt, heldAt, lineBit, shiftedIn, holding};
 ghost use Rattle.simulator.specs.Fits.{Stands};
@@ -41,6 +41,14 @@ pub fn has_fallen(state: &[u8], k: usize) -> bool
 {
     let now = is_high(state, k);
     (before_at(state, k) == 1) & !now
+}
+
+// The byte at which the word of an array's element begins, behind n cells; the low six bits of the index count.
+pub fn element_place(n: usize, array: usize, w: u16) -> usize
+    requires { ⌜ (n ≤ 1024) × (array < 4) ⌝ }
+    ensures { λ r. ⌜ r ≡ 8 + 40 * n + 2 * elementOf array w ⌝ }
+{
+    STATE_HEADER + STATE_CELL * n + 2 * (64 * array + (w % 64) as usize)
 }
 
 pub fn held_at(state: &[u8], k: usize) -> Merge

@@ -1,4 +1,5 @@
 -- The bytes of a state hold that solution.
+pub mod Arrays
 pub mod States
 pub mod Sound
 pub mod Running

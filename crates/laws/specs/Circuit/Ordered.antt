@@ -1,20 +1,26 @@
--- The rules of a cell as facts: what its fields may be by their uses, and so what it may look at, which is lower cells and the past.
+-- The rules of a cell as facts: what its fields may be by their uses, and so what it may look at, which is lower cells and the past; and where
+-- the arrays' cells stand.
 -- Assumes nothing: definitions.
-use mathlib.Core.Bool.{Bool, true, not}
+use mathlib.Core.Bool.{Bool, true, not, _||_}
 use mathlib.Core.List.{List}
 use mathlib.Core.Path.{_≡_}
-use Prim.Native.Nat.{ℕ, _<_, _≤_}
+use Prim.Native.Nat.{ℕ, _+_, _<_, _≤_}
+use lib.Dec.{eqb}
 use lib.ListN.{length, getD}
 use Rattle.model.specs.declared.Cell.{Cell}
 use Rattle.model.specs.declared.kinds.CellRow.{CellRow}
 use Rattle.model.specs.declared.kinds.Use.{Use}
-use Rattle.model.specs.declared.kinds.Use.the-variants.{Unknown, Unused, Value, Positive, ControlBelow, ControlAny, WordBelow, WordAny}
-use Rattle.model.specs.Circuit.{noCell, control, cellRow}
+use Rattle.model.specs.declared.kinds.Use.the-variants.{Unknown, Unused, Value, Positive, ControlBelow, ControlAny, WordBelow, WordAny, ArrayBelow}
+use Rattle.model.specs.Circuit.{noCell, cellAt, control, cellRow, arrayAt}
+use Rattle.model.specs.NetlistFile.{ofArray}
 
--- a word wire, by kind
+-- a word wire that shows one, by kind, and an array
 unfoldable pub word : ℕ → Bool
 unfolding control
-word k = not (control k)
+word k = not (control k || ofArray k)
+
+abbrev pub array : ℕ → Bool
+array k = eqb k 42
 
 -- an input names a wire below lim, of the right sort; K j is the kind of cell j
 abbrev pub In : (ℕ → Bool) → (ℕ → ℕ) → ℕ → ℕ → Type 0
@@ -30,6 +36,7 @@ Meets ControlBelow K n k v = In control K k v
 Meets ControlAny K n k v = In control K n v
 Meets WordBelow K n k v = In word K k v
 Meets WordAny K n k v = In word K n v
+Meets ArrayBelow K n k v = In array K k v
 
 -- delay, a and b of cell k of n, which is c, by its row
 abbrev pub Looks : CellRow → (ℕ → ℕ) → ℕ → ℕ → Cell → Type 0
@@ -38,5 +45,11 @@ Looks row K n k c = Meets (row .delay) K n k (c .delay) × Meets (row .a) K n k 
 abbrev pub kinds : List Cell → ℕ → ℕ
 kinds net k = getD net k noCell .kind
 
-unfoldable pub Ordered : List Cell → Type 0
-Ordered net = (k : ℕ) → k < length net → Looks (cellRow (getD net k noCell .kind)) (kinds net) (length net) k (getD net k noCell)
+pub record Ordered (net : List Cell) : Type 0 where
+  pub looks : (k : ℕ) → k < length net → Looks (cellRow (cellAt net k .kind)) (kinds net) (length net) k (cellAt net k)
+  -- array v has a 42 in its place, and next to it a 43
+  pub arrays : (v : ℕ) → v < 4
+      → (arrayAt net v + 1 < length net) × (cellAt net (arrayAt net v) .kind ≡ 42) × (cellAt net (arrayAt net v) .delay ≡ v)
+      × (cellAt net (arrayAt net v + 1) .kind ≡ 43)
+  -- and there are no others
+  pub stands : (k : ℕ) → k < length net → cellAt net k .kind ≡ 42 → (cellAt net k .delay < 4) × (k ≡ arrayAt net (cellAt net k .delay))

@@ -10,7 +10,7 @@ use lib.ListN.{length}
 use borrow.Author.Tests.{leb-true, le-leb, lt-leb}
 use Rattle.model.specs.declared.Cell.{Cell}
 use Rattle.model.specs.Word.{pick, bit, isZero}
-use Rattle.model.specs.Circuit.{cellAt, Values, level, delayed, merged, control, equation, startWord, Obeys, Shape, CellKinds, cellTable, shapes, hasKind, shapeIn, shape, kConstant, kComplement, kOperator, kStart, kGround, kDelay, kOr, kWhenTrue, kWhenFalse, kMerge, kMemory, kGated, kUnknown}
+use Rattle.model.specs.Circuit.{cellAt, Values, Elements, element, level, delayed, merged, control, equation, startWord, Obeys, Shape, CellKinds, cellTable, shapes, hasKind, shapeIn, shape, kConstant, kComplement, kOperator, kStart, kGround, kDelay, kOr, kWhenTrue, kWhenFalse, kMerge, kMemory, kGated, kArray, kAddress, kRead, kUnknown}
 use Rattle.laws.specs.Refusals.Laws.{and-true, by-le, not-both}
 
 -- a kind is one of its shape's, but for the shape of no kinds
@@ -49,6 +49,10 @@ merge-kind k e = kind-of k 38 kMerge refl refl e
 pub memory-kind : (k : ℕ) → shape k ≡ kMemory → k ≡ 40
 unfolding cellTable
 memory-kind k e = kind-of k 40 kMemory refl refl e
+
+pub array-kind : (k : ℕ) → shape k ≡ kArray → k ≡ 42
+unfolding cellTable
+array-kind k e = kind-of k 42 kArray refl refl e
 
 pub operator-shape : (k : ℕ) → 4 ≤ k → k ≤ 9 → shape k ≡ kOperator
 unfolding shape
@@ -89,23 +93,28 @@ unfolding bit
 bit-le true = omega arith
 bit-le false = omega arith
 
-shape-level : (s : Shape) (first : ℕ) (W : Values) (k : ℕ) (c : Cell) (t : ℕ) → cellTable s .row .control ≡ true → equation s first W k c t ≤ 1
+shape-level : (s : Shape) (first : ℕ) (E : Elements) (W : Values) (k : ℕ) (c : Cell) (t : ℕ) → cellTable s .row .control ≡ true
+    → equation s first E W k c t ≤ 1
 unfolding equation cellTable
-shape-level kConstant first W k c t e = not-both e refl
-shape-level kComplement first W k c t e = not-both e refl
-shape-level kOperator first W k c t e = not-both e refl
-shape-level kStart first W k c t e = bit-le (eqb t 0)
-shape-level kGround first W k c t e = omega arith
-shape-level kDelay first W k c t e = bit-le (delayed (c .delay) (level W (c .a)) t)
-shape-level kOr first W k c t e = bit-le (level W (c .a) t || level W (c .b) t)
-shape-level kWhenTrue first W k c t e = bit-le (level W (c .a) t && not (isZero (W (c .b) t)))
-shape-level kWhenFalse first W k c t e = bit-le (level W (c .a) t && isZero (W (c .b) t))
-shape-level kMerge first W k c t e = bit-le (merged (level W (c .a)) (level W (c .b)) t)
-shape-level kMemory first W k c t e = not-both e refl
-shape-level kGated first W k c t e = not-both e refl
-shape-level kUnknown first W k c t e = not-both e refl
+shape-level kConstant first E W k c t e = not-both e refl
+shape-level kComplement first E W k c t e = not-both e refl
+shape-level kOperator first E W k c t e = not-both e refl
+shape-level kStart first E W k c t e = bit-le (eqb t 0)
+shape-level kGround first E W k c t e = omega arith
+shape-level kDelay first E W k c t e = bit-le (delayed (c .delay) (level W (c .a)) t)
+shape-level kOr first E W k c t e = bit-le (level W (c .a) t || level W (c .b) t)
+shape-level kWhenTrue first E W k c t e = bit-le (level W (c .a) t && not (isZero (W (c .b) t)))
+shape-level kWhenFalse first E W k c t e = bit-le (level W (c .a) t && isZero (W (c .b) t))
+shape-level kMerge first E W k c t e = bit-le (merged (level W (c .a)) (level W (c .b)) t)
+shape-level kMemory first E W k c t e = not-both e refl
+shape-level kGated first E W k c t e = not-both e refl
+shape-level kArray first E W k c t e = not-both e refl
+shape-level kAddress first E W k c t e = not-both e refl
+shape-level kRead first E W k c t e = not-both e refl
+shape-level kUnknown first E W k c t e = not-both e refl
 
 pub level-bound : (net : List Cell) (words : ℕ → ℕ) (W : Values) → Obeys net words W
     → (k : ℕ) → k < length net → control (cellAt net k .kind) ≡ true → (t : ℕ) → W k t ≤ 1
 unfolding Obeys control
-level-bound net words W h k l e t = rw (h k l t) (shape-level (shape (cellAt net k .kind)) (startWord net words k) W k (cellAt net k) t e)
+level-bound net words W h k l e t = rw (h k l t)
+    (shape-level (shape (cellAt net k .kind)) (startWord net words k) (element net words W) W k (cellAt net k) t e)

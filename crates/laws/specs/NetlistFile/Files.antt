@@ -129,7 +129,7 @@ module _ (s : List ℕ) (bytes : Bytes s) (e : fileCheck s ≡ Accepted) where
   p : FilePassed s
   p = file-passed s e
 
-  range : (19 ≤ countOf s) × (countOf s ≤ 1024) × (length s / 512 ≡ blocksFor (countOf s)) × (finishOf s < countOf s)
+  range : (27 ≤ countOf s) × (countOf s ≤ 1024) × (length s / 512 ≡ blocksFor (countOf s)) × (finishOf s < countOf s)
   range = count-range _ _ _ (p .count)
 
   whole-blocks : length s ≡ 512 * (length s / 512)

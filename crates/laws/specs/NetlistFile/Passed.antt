@@ -4,16 +4,17 @@
 use mathlib.Core.Path.{_≡_, refl, ap}
 use mathlib.Core.Bool.{Bool, true, false, not, _&&_}
 use mathlib.Core.List.{List}
-use Prim.Native.Nat.{ℕ, zero, suc, _+_, _/_, _%_, _<_, _≤_}
+use Prim.Native.Nat.{ℕ, zero, suc, _+_, _-_, _*_, _/_, _%_, _<_, _≤_}
 use native.Mathlib.Omega.{arith}
 use lib.Dec.{eqb, leb, ltb}
 use lib.ListN.{length}
-use borrow.Author.Tests.{ltb-true, leb-true, eqb-true}
+use borrow.Author.Tests.{ltb-true, ltb-false, leb-true, eqb-true, le-leb, lt-ltb, eq-eqb, ne-eqb}
 use Rattle.model.specs.declared.Cell.{Cell}
 use Rattle.model.specs.declared.Checked.the-variants.{Accepted}
-use Rattle.model.specs.Circuit.{cellAt, control, memories}
-use Rattle.model.specs.NetlistFile.{wordSum, blockAt, blocksFor, countOf, finishOf, cellsAt, inFile, cellsOf, fileLengthWrong, sumFault, countWrong, headerRight, headerFault, keeps, placed, cellFault, netChecks, netCheck, fileChecks, fileCheck}
-use Rattle.laws.specs.Refusals.Laws.{and-true, not-false, all-accept, refuse-unless, fault-unless, no-fault}
+use Rattle.model.specs.Word.{pick}
+use Rattle.model.specs.Circuit.{cellAt, control, memories, pastMemories, arrayAt}
+use Rattle.model.specs.NetlistFile.{wordSum, blockAt, blocksFor, countOf, finishOf, cellsAt, inFile, cellsOf, fileLengthWrong, sumFault, countWrong, headerRight, headerFault, ofArray, keeps, placed, arrayPlaced, cellFault, netChecks, netCheck, fileChecks, fileCheck}
+use Rattle.laws.specs.Refusals.Laws.{not-both, and-true, not-false, all-accept, refuse-unless, fault-unless, no-fault}
 use Rattle.laws.specs.Circuit.Ordered.{Ordered}
 use Rattle.laws.specs.NetlistFile.Uses.{keeps-looks}
 
@@ -21,25 +22,74 @@ use Rattle.laws.specs.NetlistFile.Uses.{keeps-looks}
 
 pub record NetPassed (net : List Cell) (f : ℕ) : Type 0 where
   pub kept : (k : ℕ) → k < length net → keeps net k (cellAt net k) ≡ true
+  pub arrayed : (k : ℕ) → k < length net → arrayPlaced (pastMemories net 16) k (cellAt net k) ≡ true
   pub sixteen : memories net ≡ 16
+  pub whole : pastMemories net 16 + 8 ≤ length net
   pub finish : control (cellAt net f .kind) ≡ true
 
 pub net-passed : (net : List Cell) (f : ℕ) → netCheck net f ≡ Accepted → NetPassed net f
 unfolding netCheck cellFault
 net-passed net f e =
     let a = all-accept (netChecks net f) e in
+    let m = pastMemories net 16 in
+    let right : (k : ℕ) → k < length net → (arrayPlaced m k (cellAt net k) && keeps net k (cellAt net k)) ≡ true =
+    λ k l.
+    let c = cellAt net k in
+    let all = placed k c && (arrayPlaced m k c && keeps net k c) in
+    and-true (placed k c) _ (not-false all (fault-unless (not all) 12 (omega arith) (no-fault (cellFault net) (length net) (a 0) k l))) .1 in
     record {
-      kept = λ k l.
-          let c = cellAt net k in
-          let right = placed k c && keeps net k c in
-          and-true (placed k c) _ (not-false right (fault-unless (not right) 12 (omega arith) (no-fault (cellFault net) (length net) (a 0) k l))) .1;
+      kept = λ k l. and-true (arrayPlaced m k (cellAt net k)) _ (right k l) .1;
+      arrayed = λ k l. and-true (arrayPlaced m k (cellAt net k)) _ (right k l) .0;
       sixteen = eqb-true _ _ (not-false (eqb (memories net) 16) (refuse-unless (not (eqb (memories net) 16)) 12 (length net) (a 1)));
-      finish = not-false (control (cellAt net f .kind)) (refuse-unless (not (control (cellAt net f .kind))) 12 f (a 2));
+      whole = ltb-false (length net) (m + 8) (refuse-unless (ltb (length net) (m + 8)) 12 (length net) (a 2));
+      finish = not-false (control (cellAt net f .kind)) (refuse-unless (not (control (cellAt net f .kind))) 12 f (a 3));
     }
 
+-- The arrays' cells, which begin at m
+module _ (m k : ℕ) (c : Cell) (e : arrayPlaced m k c ≡ true) where
+  -- a kind 42 stands among them, in its array's place
+  array-stands : c .kind ≡ 42 → (c .delay < 4) × (k ≡ m + 2 * c .delay)
+  unfolding arrayPlaced ofArray
+  array-stands q = go (leb m k && ltb k (m + 8)) (eqb ((k - m) % 2) 0) refl refl (rw q at e)
+    where
+      go : (b p : Bool) → (leb m k && ltb k (m + 8)) ≡ b → eqb ((k - m) % 2) 0 ≡ p
+          → pick (leb m k && ltb k (m + 8)) (pick (eqb ((k - m) % 2) 0) (eqb (c .delay) ((k - m) / 2)) false) false ≡ true
+          → (c .delay < 4) × (k ≡ m + 2 * c .delay)
+      go true true x y h =
+          let l = and-true (leb m k) (ltb k (m + 8)) x in
+          let d : c .delay ≡ (k - m) / 2 = eqb-true _ _ (rw (x, y) at h) in
+          omega (arith, leb-true m k (l .0), ltb-true k (m + 8) (l .1), eqb-true ((k - m) % 2) 0 y, d)
+      go true false x y h = not-both (rw (x, y) at h) refl
+      go false p x y h = not-both (rw x at h) refl
+
+  -- in an array's place stands its kind 42
+  array-here : (v : ℕ) → v < 4 → k ≡ m + 2 * v → (c .kind ≡ 42) × (c .delay ≡ v)
+  unfolding arrayPlaced
+  array-here v l q =
+      let h : (eqb (c .kind) 42 && eqb (c .delay) ((k - m) / 2)) ≡ true =
+      rw (le-leb m k (omega arith), lt-ltb k (m + 8) (omega arith), eq-eqb ((k - m) % 2) 0 (omega arith)) at e in
+      let r = and-true (eqb (c .kind) 42) _ h in
+      (eqb-true _ _ (r .0), omega (arith, eqb-true (c .delay) ((k - m) / 2) (r .1)))
+
+  -- and next to it a kind 43
+  address-here : (v : ℕ) → v < 4 → k ≡ m + 2 * v + 1 → c .kind ≡ 43
+  unfolding arrayPlaced
+  address-here v l q =
+      eqb-true _ _ (rw (le-leb m k (omega arith), lt-ltb k (m + 8) (omega arith), ne-eqb ((k - m) % 2) 0 (λ z. omega arith)) at e)
+
 pub net-ordered : (net : List Cell) (f : ℕ) → netCheck net f ≡ Accepted → Ordered net
-unfolding Ordered
-net-ordered net f e k l = keeps-looks net k (cellAt net k) (net-passed net f e .kept k l)
+net-ordered net f e =
+    let p = net-passed net f e in
+    let m = pastMemories net 16 in
+    record {
+      looks = λ k l. keeps-looks net k (cellAt net k) (p .kept k l);
+      arrays = λ v l.
+          let j = arrayAt net v in
+          let here : j + 1 < length net = omega (arith, p .whole, l) in
+          let s = array-here m j (cellAt net j) (p .arrayed j (omega (arith, here))) v l refl in
+          (here, s .0, s .1, address-here m (j + 1) (cellAt net (j + 1)) (p .arrayed (j + 1) here) v l refl);
+      stands = λ k l q. array-stands m k (cellAt net k) (p .arrayed k l) q;
+    }
 
 -- Files --------------------------------------------------------------------------------------------------------------------------------
 
@@ -68,13 +118,13 @@ file-passed s e =
     }
 
 -- how many cells, in how many blocks, and the finish among them
-pub count-range : (m n f : ℕ) → countWrong m n f ≡ false → (19 ≤ n) × (n ≤ 1024) × (m ≡ blocksFor n) × (f < n)
+pub count-range : (m n f : ℕ) → countWrong m n f ≡ false → (27 ≤ n) × (n ≤ 1024) × (m ≡ blocksFor n) × (f < n)
 unfolding countWrong
 count-range m n f e =
-    let p = and-true (leb 19 n) _ (not-false _ e) in
+    let p = and-true (leb 27 n) _ (not-false _ e) in
     let q = and-true (leb n 1024) _ (p .1) in
     let r = and-true (eqb m (blocksFor n)) _ (q .1) in
-    (leb-true 19 n (p .0), leb-true n 1024 (q .0), eqb-true _ _ (r .0), ltb-true f n (r .1))
+    (leb-true 27 n (p .0), leb-true n 1024 (q .0), eqb-true _ _ (r .0), ltb-true f n (r .1))
 
 pub length-cells : (at : ℕ → ℕ) (s : List ℕ) (k n : ℕ) → length (cellsAt at s k n) ≡ n
 unfolding cellsAt

@@ -8,11 +8,11 @@ use lib.ListN.{length}
 use borrow.Author.Tests.{eqb-true, leb-true, ltb-true, eq-eqb, le-leb, lt-ltb}
 use Rattle.model.specs.declared.Cell.{Cell}
 use Rattle.model.specs.declared.kinds.Use.{Use}
-use Rattle.model.specs.declared.kinds.Use.the-variants.{Unknown, Unused, Value, Positive, ControlBelow, ControlAny, WordBelow, WordAny}
+use Rattle.model.specs.declared.kinds.Use.the-variants.{Unknown, Unused, Value, Positive, ControlBelow, ControlAny, WordBelow, WordAny, ArrayBelow}
 use Rattle.model.specs.Circuit.{control, cellRow}
-use Rattle.model.specs.NetlistFile.{controlIn, wordIn, kept, stands, keeps}
+use Rattle.model.specs.NetlistFile.{controlIn, wordIn, arrayIn, kept, stands, keeps}
 use Rattle.laws.specs.Refusals.Laws.{and-true, and-of, not-both}
-use Rattle.laws.specs.Circuit.Ordered.{word, In, Meets, Looks, kinds}
+use Rattle.laws.specs.Circuit.Ordered.{word, array, In, Meets, Looks, kinds}
 
 module _ (net : List Cell) (lim j : ℕ) where
   control-in : controlIn net lim j ≡ true → In control (kinds net) lim j
@@ -23,6 +23,10 @@ module _ (net : List Cell) (lim j : ℕ) where
   unfolding wordIn word
   word-in e = let p = and-true (ltb j lim) _ e in (ltb-true j lim (p .0), p .1)
 
+  array-in : arrayIn net lim j ≡ true → In array (kinds net) lim j
+  unfolding arrayIn
+  array-in e = let p = and-true (ltb j lim) _ e in (ltb-true j lim (p .0), p .1)
+
   in-control : In control (kinds net) lim j → controlIn net lim j ≡ true
   unfolding controlIn
   in-control h = and-of (lt-ltb j lim (h .0)) (h .1)
@@ -30,6 +34,10 @@ module _ (net : List Cell) (lim j : ℕ) where
   in-word : In word (kinds net) lim j → wordIn net lim j ≡ true
   unfolding wordIn word
   in-word h = and-of (lt-ltb j lim (h .0)) (h .1)
+
+  in-array : In array (kinds net) lim j → arrayIn net lim j ≡ true
+  unfolding arrayIn
+  in-array h = and-of (lt-ltb j lim (h .0)) (h .1)
 
 module _ (net : List Cell) (k : ℕ) where
   kept-meets : (u : Use) (v : ℕ) → kept u net k v ≡ true → Meets u (kinds net) (length net) k v
@@ -42,6 +50,7 @@ module _ (net : List Cell) (k : ℕ) where
   kept-meets ControlAny v e = control-in net (length net) v e
   kept-meets WordBelow v e = word-in net k v e
   kept-meets WordAny v e = word-in net (length net) v e
+  kept-meets ArrayBelow v e = array-in net k v e
 
   meets-kept : (u : Use) (v : ℕ) → Meets u (kinds net) (length net) k v → kept u net k v ≡ true
   unfolding kept
@@ -53,6 +62,7 @@ module _ (net : List Cell) (k : ℕ) where
   meets-kept ControlAny v h = in-control net (length net) v h
   meets-kept WordBelow v h = in-word net k v h
   meets-kept WordAny v h = in-word net (length net) v h
+  meets-kept ArrayBelow v h = in-array net k v h
 
   module _ (c : Cell) where
     pub keeps-looks : keeps net k c ≡ true → Looks (cellRow (c .kind)) (kinds net) (length net) k c

@@ -1,4 +1,4 @@
--- A program of n nodes has at most 19 + 3 n cells.
+-- A program of n nodes has at most 27 + 3 n cells.
 use mathlib.Core.Path.{_≡_, refl}
 use mathlib.Core.Bool.{Bool, true, false}
 use mathlib.Core.List.{List, [], _∷_}
@@ -8,8 +8,8 @@ use native.Mathlib.Omega.{arith}
 use lib.Dec.{eqb, eqb→eq}
 use lib.ListN.{length, length-append}
 use Rattle.model.specs.Word.{pick}
-use Rattle.model.specs.Program.{Expr, const, var, compl, op, Stmt, ok, tick, assign, seq, par, ite, while, repeat}
-use Rattle.model.specs.Numbering.{exprCount, ifDelayCount, delayCount, walkCount, clockSources, dataSources, Source, wiresOf, orCount, orCountFrom, netlist}
+use Rattle.model.specs.Program.{Expr, const, var, compl, op, elem, Stmt, ok, tick, assign, assignElem, seq, par, ite, while, repeat}
+use Rattle.model.specs.Numbering.{exprCount, ifDelayCount, delayCount, walkCount, clockSources, dataSources, addressSources, Source, wiresOf, orCount, orCountFrom, netlist}
 use Rattle.model.specs.Numbering.{walkAt}
 use Rattle.laws.specs.Refusals.Laws.{is-false}
 use Rattle.laws.specs.Numbering.Parts.{net-length}
@@ -19,11 +19,13 @@ eNodes (const n) = 1
 eNodes (var x) = 1
 eNodes (compl e) = 1 + eNodes e
 eNodes (op k e f) = 1 + eNodes e + eNodes f
+eNodes (elem k e) = 1 + eNodes e
 
 unfoldable pub nodes : Stmt → ℕ
 nodes ok = 1
 nodes (tick δ) = 1
 nodes (assign δ x e) = 1 + eNodes e
+nodes (assignElem δ k i e) = 1 + eNodes i + eNodes e
 nodes (seq P Q) = 1 + nodes P + nodes Q
 nodes (par P Q) = 1 + nodes P + nodes Q
 nodes (ite δ e P Q) = 1 + eNodes e + nodes P + nodes Q
@@ -36,6 +38,7 @@ e-count (const n) = omega arith
 e-count (var x) = omega arith
 e-count (compl e) = let h = e-count e in omega arith
 e-count (op k e f) = let h = e-count e in let h′ = e-count f in omega arith
+e-count (elem k e) = let h = e-count e in omega arith
 
 own-count : (δ : ℕ) → ifDelayCount δ ≤ 1
 unfolding ifDelayCount
@@ -43,11 +46,13 @@ own-count zero = omega arith
 own-count (suc δ) = omega arith
 
 -- delay cells, walk cells and an or of each sort for each assignment
-count : (P : Stmt) (d c : ℕ) → delayCount P + walkCount P + length (clockSources P d) + length (dataSources P c) ≤ 3 * nodes P
-unfolding delayCount walkCount clockSources dataSources nodes
+count : (P : Stmt) (d c : ℕ)
+    → delayCount P + walkCount P + length (clockSources P d) + length (dataSources P c) + length (addressSources P c) ≤ 3 * nodes P
+unfolding delayCount walkCount clockSources dataSources addressSources nodes
 count ok d c = omega arith
 count (tick δ) d c = omega arith
 count (assign δ x e) d c = let h = e-count e in omega arith
+count (assignElem δ k i e) d c = let h = e-count i in let h′ = e-count e in omega arith
 count (seq P Q) d c = simp length-append (let h = count P d c in let h′ = count Q (d + delayCount P) (c + walkCount P) in omega arith)
 count (par P Q) d c = simp length-append (let h = count P d c in let h′ = count Q (d + delayCount P) (c + walkCount P) in omega arith)
 count (ite δ e P Q) d c =
@@ -108,10 +113,20 @@ wires-le : (ws : List Source) (x j : ℕ) → wires ws x j ≤ length ws
 wires-le [] x j = rw wires-nil (omega arith)
 wires-le (w ∷ ws) x j = let h = wires-le ws x j in let h′ = add-one-wire w ws x j in omega arith
 
-pub size : (P : Stmt) → length (netlist P) ≤ 19 + 3 * nodes P
+pub size : (P : Stmt) → length (netlist P) ≤ 27 + 3 * nodes P
 size P =
     let c = count P 3 (walkAt P) in
-    omega (arith, net-length P, ors-wires (clockSources P 3) 0 16, wires-le (clockSources P 3) 0 16, ors-wires (dataSources P (walkAt P)) 0 16, wires-le (dataSources P (walkAt P)) 0 16)
+    let a = addressSources P (walkAt P) in
+    omega (
+      arith,
+      net-length P,
+      ors-wires (clockSources P 3) 0 20,
+      wires-le (clockSources P 3) 0 20,
+      ors-wires (dataSources P (walkAt P)) 0 20,
+      wires-le (dataSources P (walkAt P)) 0 20,
+      ors-wires a 16 4,
+      wires-le a 16 4,
+    )
 
-pub fits : (P : Stmt) → nodes P ≤ 200 → (19 ≤ length (netlist P)) × (length (netlist P) ≤ 619)
+pub fits : (P : Stmt) → nodes P ≤ 200 → (27 ≤ length (netlist P)) × (length (netlist P) ≤ 627)
 fits P h = let s = size P in omega (arith, net-length P)

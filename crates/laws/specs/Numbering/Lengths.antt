@@ -4,7 +4,7 @@ use mathlib.Core.Path.{_≡_, refl}
 use Prim.Native.Nat.{ℕ, zero, suc, _+_}
 use native.Mathlib.Omega.{arith}
 use lib.ListN.{length, length-append}
-use Rattle.model.specs.Program.{Expr, const, var, compl, op, Stmt, ok, tick, assign, seq, par, ite, while, repeat}
+use Rattle.model.specs.Program.{Expr, const, var, compl, op, elem, Stmt, ok, tick, assign, assignElem, seq, par, ite, while, repeat}
 use Rattle.model.specs.Numbering.{exprCount, exprCells, ifDelayCount, ifDelayCells, delayCount, walkCount, finishWire, delays, walk}
 
 pub e-len : (M : ℕ) (e : Expr) (c : ℕ) → length (exprCells M e c) ≡ exprCount e
@@ -13,6 +13,7 @@ e-len M (const n) c = refl
 e-len M (var x) c = refl
 e-len M (compl e) c = simp (length-append, e-len M e c) (omega arith)
 e-len M (op k e f) c = simp (length-append, e-len M e c, e-len M f (c + exprCount e)) (omega arith)
+e-len M (elem k e) c = simp (length-append, e-len M e c) (omega arith)
 
 pub own-len : (δ s : ℕ) → length (ifDelayCells δ s) ≡ ifDelayCount δ
 unfolding ifDelayCells ifDelayCount
@@ -24,6 +25,7 @@ unfolding delays delayCount
 d-len ok s d c = refl
 d-len (tick δ) s d c = refl
 d-len (assign δ x e) s d c = refl
+d-len (assignElem δ k i e) s d c = refl
 d-len (seq P Q) s d c = simp (length-append, d-len P s d c, d-len Q (finishWire P s d c) (d + delayCount P) (c + walkCount P))
 d-len (par P Q) s d c = simp (length-append, d-len P s d c, d-len Q s (d + delayCount P) (c + walkCount P))
 d-len (ite δ e P Q) s d c =
@@ -41,6 +43,7 @@ unfolding walk walkCount
 w-len M ok s d c = refl
 w-len M (tick δ) s d c = refl
 w-len M (assign δ x e) s d c = simp (length-append, e-len)
+w-len M (assignElem δ k i e) s d c = simp (length-append, e-len)
 w-len M (seq P Q) s d c = simp (length-append, w-len M P s d c, w-len M Q (finishWire P s d c) (d + delayCount P) (c + walkCount P))
 w-len M (par P Q) s d c = simp (length-append, w-len M P s d c, w-len M Q s (d + delayCount P) (c + walkCount P))
 w-len M (ite δ e P Q) s d c =

@@ -1,56 +1,132 @@
--- How many memories lists of cells have: delays and ors have none.
+-- Which cells are memories or an array's: the delays, the ors and the walk have neither.
 -- Assumes nothing.
-use mathlib.Core.Path.{_≡_, refl}
-use mathlib.Core.Bool.{false}
+use mathlib.Core.Path.{_≡_, refl, sym}
+use mathlib.Core.Bool.{Bool, true, false, not, _&&_, _||_, and-assoc}
 use mathlib.Core.List.{List, [], _∷_, _++_}
-use Prim.Native.Nat.{ℕ, zero, suc, _+_}
+use Prim.Native.Nat.{ℕ, zero, suc, _+_, _≤_}
 use native.Mathlib.Omega.{arith}
 use lib.Dec.{eqb}
+use borrow.Author.Tests.{ne-eqb, not-true}
 use Rattle.model.specs.declared.Cell.{Cell}
 use Rattle.model.specs.Word.{bit}
-use Rattle.model.specs.Program.{Stmt, ok, tick, assign, seq, par, ite, while, repeat}
+use Rattle.model.specs.Program.{Expr, const, var, compl, op, elem, Stmt, ok, tick, assign, assignElem, seq, par, ite, while, repeat}
 use Rattle.model.specs.Circuit.{memories}
-use Rattle.model.specs.Numbering.{exprCount, ifDelayCount, ifDelayCells, delayCount, walkCount, finishWire, delays, Source, wiresOf, orChain, ors, orCount, orsFrom}
+use Rattle.model.specs.NetlistFile.{ofArray}
+use Rattle.model.specs.Numbering.{exprCount, exprCells, ifDelayCount, ifDelayCells, delayCount, walkCount, finishWire, delays, walk, Source, wiresOf}
+use Rattle.model.specs.Numbering.{orChain, ors, orCount, orsFrom, memoriesOf}
+use Rattle.laws.specs.Refusals.Laws.{and-true, or-false}
+use Rattle.laws.specs.Program.Fit.{FormedExpr, Formed}
 
 pub memories-append : (xs ys : List Cell) → memories (xs ++ ys) ≡ memories xs + memories ys
 unfolding memories
 memories-append [] ys = omega arith
 memories-append (c ∷ xs) ys = rw (memories-append xs ys) (omega arith)
 
-own-free : (δ s : ℕ) → memories (ifDelayCells δ s) ≡ 0
-unfolding memories ifDelayCells bit
-own-free zero s = refl
-own-free (suc δ) s = refl
+-- a kind of neither, and cells of such kinds
+unfoldable pub plainKind : ℕ → Bool
+unfolding ofArray
+plainKind k = not (eqb k 40 || ofArray k)
 
-pub delays-free : (P : Stmt) (s d c : ℕ) → memories (delays P s d c) ≡ 0
-unfolding memories delays bit
-delays-free ok s d c = refl
-delays-free (tick δ) s d c = refl
-delays-free (assign δ x e) s d c = refl
-delays-free (seq P Q) s d c = simp (memories-append, delays-free P s d c, delays-free Q (finishWire P s d c) (d + delayCount P) (c + walkCount P))
-delays-free (par P Q) s d c = simp (memories-append, delays-free P s d c, delays-free Q s (d + delayCount P) (c + walkCount P))
-delays-free (ite δ e P Q) s d c =
+unfoldable pub plain : List Cell → Bool
+unfolding plainKind
+plain [] = true
+plain (c ∷ cs) = plainKind (c .kind) && plain cs
+
+pub plain-kind : (k : ℕ) → plainKind k ≡ true → (eqb k 40 ≡ false) × (ofArray k ≡ false)
+unfolding plainKind
+plain-kind k e = or-false (eqb k 40) (ofArray k) (not-true _ e)
+
+pub plain-append : (xs ys : List Cell) → plain (xs ++ ys) ≡ (plain xs && plain ys)
+unfolding plain
+plain-append [] ys = refl
+plain-append (c ∷ xs) ys = rw (plain-append xs ys) (sym (and-assoc (plainKind (c .kind)) (plain xs) (plain ys)))
+
+pub plain-free : (cs : List Cell) → plain cs ≡ true → memories cs ≡ 0
+unfolding memories plain bit
+plain-free [] e = refl
+plain-free (c ∷ cs) e =
+    let p = and-true (plainKind (c .kind)) (plain cs) e in
+    rw (plain-kind (c .kind) (p .0) .0, plain-free cs (p .1))
+
+-- ---- delays and ors
+
+own-plain : (δ s : ℕ) → plain (ifDelayCells δ s) ≡ true
+unfolding plain ifDelayCells
+own-plain zero s = refl
+own-plain (suc δ) s = refl
+
+pub delays-plain : (P : Stmt) (s d c : ℕ) → plain (delays P s d c) ≡ true
+unfolding plain delays
+delays-plain ok s d c = refl
+delays-plain (tick δ) s d c = refl
+delays-plain (assign δ x e) s d c = refl
+delays-plain (assignElem δ k i e) s d c = refl
+delays-plain (seq P Q) s d c = simp (plain-append, delays-plain P s d c, delays-plain Q (finishWire P s d c) (d + delayCount P) (c + walkCount P))
+delays-plain (par P Q) s d c = simp (plain-append, delays-plain P s d c, delays-plain Q s (d + delayCount P) (c + walkCount P))
+delays-plain (ite δ e P Q) s d c =
     simp (
-      memories-append,
-      own-free,
-      delays-free P (c + exprCount e) (d + ifDelayCount δ) (c + exprCount e + 1 + 1),
-      delays-free Q (c + exprCount e + 1) (d + ifDelayCount δ + delayCount P) (c + exprCount e + 1 + 1 + walkCount P),
+      plain-append,
+      own-plain,
+      delays-plain P (c + exprCount e) (d + ifDelayCount δ) (c + exprCount e + 1 + 1),
+      delays-plain Q (c + exprCount e + 1) (d + ifDelayCount δ + delayCount P) (c + exprCount e + 1 + 1 + walkCount P),
     )
-delays-free (while δ e P) s d c = rw (delays-free P (c + exprCount e) (d + 1) (c + exprCount e + 1 + 1))
-delays-free (repeat δ e P) s d c = rw (delays-free P (c + exprCount e + 1 + 1) (d + 1) (c + exprCount e + 1 + 1 + 1))
+delays-plain (while δ e P) s d c = rw (delays-plain P (c + exprCount e) (d + 1) (c + exprCount e + 1 + 1))
+delays-plain (repeat δ e P) s d c = rw (delays-plain P (c + exprCount e + 1 + 1) (d + 1) (c + exprCount e + 1 + 1 + 1))
 
-module _ (kind : ℕ) (other : eqb kind 40 ≡ false) where
-  chain-free : (acc n : ℕ) (ws : List ℕ) → memories (orChain kind acc n ws) ≡ 0
-  unfolding memories orChain bit
-  chain-free acc n [] = refl
-  chain-free acc n (w ∷ ws) = rw (other, chain-free n (n + 1) ws)
+module _ (kind : ℕ) (other : plainKind kind ≡ true) where
+  chain-plain : (acc n : ℕ) (ws : List ℕ) → plain (orChain kind acc n ws) ≡ true
+  unfolding plain orChain
+  chain-plain acc n [] = refl
+  chain-plain acc n (w ∷ ws) = rw (other, chain-plain n (n + 1) ws)
 
-  ors-free : (n : ℕ) (ws : List ℕ) → memories (ors kind n ws) ≡ 0
-  unfolding memories ors
-  ors-free n [] = refl
-  ors-free n (w ∷ ws) = chain-free w n ws
+  ors-plain : (n : ℕ) (ws : List ℕ) → plain (ors kind n ws) ≡ true
+  unfolding plain ors
+  ors-plain n [] = refl
+  ors-plain n (w ∷ ws) = chain-plain w n ws
 
-  pub orsFrom-free : (ws : List Source) (n x j : ℕ) → memories (orsFrom kind ws n x j) ≡ 0
-  unfolding memories orsFrom
-  orsFrom-free ws n x zero = refl
-  orsFrom-free ws n x (suc j) = simp (memories-append, ors-free, orsFrom-free ws (n + orCount (wiresOf x ws)) (x + 1) j)
+  pub orsFrom-plain : (ws : List Source) (n x j : ℕ) → plain (orsFrom kind ws n x j) ≡ true
+  unfolding plain orsFrom
+  orsFrom-plain ws n x zero = refl
+  orsFrom-plain ws n x (suc j) = simp (plain-append, ors-plain, orsFrom-plain ws (n + orCount (wiresOf x ws)) (x + 1) j)
+
+-- ---- the walk
+
+op-plain : (k : ℕ) → 4 ≤ k → k ≤ 9 → plainKind k ≡ true
+unfolding plainKind
+op-plain k h h′ = rw (ne-eqb k 40 (λ e. omega arith), ne-eqb k 42 (λ e. omega arith), ne-eqb k 43 (λ e. omega arith))
+
+e-plain : (M : ℕ) (e : Expr) → FormedExpr e → (c : ℕ) → plain (exprCells M e c) ≡ true
+unfolding plain exprCells
+e-plain M (const v) w c = refl
+e-plain M (var x) w c = refl
+e-plain M (compl e) w c = simp (plain-append, e-plain M e w c)
+e-plain M (op k e f) w c = simp (plain-append, e-plain M e (w .2) c, e-plain M f (w .3) (c + exprCount e), op-plain k (w .0) (w .1))
+e-plain M (elem k e) w c = simp (plain-append, e-plain M e (w .1) c)
+
+pub walk-plain : (M : ℕ) (P : Stmt) → Formed P → (s d c : ℕ) → plain (walk M P s d c) ≡ true
+unfolding plain walk
+walk-plain M ok w s d c = refl
+walk-plain M (tick δ) w s d c = refl
+walk-plain M (assign δ x e) w s d c = simp (plain-append, e-plain M e (w .2) c)
+walk-plain M (assignElem δ k i e) w s d c = simp (plain-append, e-plain M i (w .2) c, e-plain M e (w .3) (c + exprCount i))
+walk-plain M (seq P Q) w s d c =
+    simp (plain-append, walk-plain M P (w .0) s d c, walk-plain M Q (w .1) (finishWire P s d c) (d + delayCount P) (c + walkCount P))
+walk-plain M (par P Q) w s d c = simp (plain-append, walk-plain M P (w .0) s d c, walk-plain M Q (w .1) s (d + delayCount P) (c + walkCount P))
+walk-plain M (ite δ e P Q) w s d c =
+    simp (
+      plain-append,
+      e-plain M e (w .1) c,
+      walk-plain M P (w .2) (c + exprCount e) (d + ifDelayCount δ) (c + exprCount e + 1 + 1),
+      walk-plain M Q (w .3) (c + exprCount e + 1) (d + ifDelayCount δ + delayCount P) (c + exprCount e + 1 + 1 + walkCount P),
+    )
+walk-plain M (while δ e P) w s d c =
+    simp (plain-append, e-plain M e (w .1) c, walk-plain M P (w .2) (c + exprCount e) (d + 1) (c + exprCount e + 1 + 1))
+walk-plain M (repeat δ e P) w s d c =
+    simp (plain-append, e-plain M e (w .1) c, walk-plain M P (w .2) (c + exprCount e + 1 + 1) (d + 1) (c + exprCount e + 1 + 1 + 1))
+
+-- ---- memories
+
+pub mems-all : (ks ds : List ℕ) (x n : ℕ) → memories (memoriesOf ks ds x n) ≡ n
+unfolding memories memoriesOf bit
+mems-all ks ds x zero = refl
+mems-all ks ds x (suc n) = rw (mems-all ks ds (x + 1) n) (omega arith)

@@ -1,18 +1,16 @@
 -- The rules of a cell, sorts of wires included, and that each cell of a compiled netlist keeps them.
 use mathlib.Core.Path.{_≡_, refl, ap}
 use borrow.Author.Tests.{ne-eqb}
-use mathlib.Core.Bool.{Bool, true, not}
-use mathlib.Core.List.{List, [], _∷_, _++_}
+use mathlib.Core.Bool.{true, false}
+use mathlib.Core.List.{[], _∷_, _++_}
 use Prim.Native.Nat.{ℕ, zero, suc, _+_, _<_, _≤_}
 use native.Mathlib.Omega.{arith}
-use lib.Dec.{leb, le→leb}
-use lib.ListN.{length, getD}
-use Rattle.model.specs.Program.{Expr, const, var, compl, op, Stmt, ok, tick, assign, seq, par, ite, while, repeat}
+use Rattle.model.specs.Program.{Expr, const, var, compl, op, elem, Stmt, ok, tick, assign, assignElem, seq, par, ite, while, repeat}
 use Rattle.model.specs.declared.Cell.{Cell}
 use Rattle.model.specs.Circuit.{cell}
-use Rattle.model.specs.Numbering.{exprCount, exprWire, exprCells, ifDelayCount, ifPulse, ifDelayCells, delayCount, walkCount, finishWire, delays, walk}
+use Rattle.model.specs.Numbering.{arrayCell, exprCount, exprWire, exprCells, ifDelayCount, ifPulse, ifDelayCells, delayCount, walkCount, finishWire, delays, walk}
 use Rattle.model.specs.Circuit.{control, Shape, cellTable, shape, cellRow}
-use Rattle.model.specs.NetlistFile.{stands}
+use Rattle.model.specs.NetlistFile.{ofArray, stands}
 use Rattle.laws.specs.Numbering.Cells.{All, split, join}
 use Rattle.laws.specs.Circuit.Ordered.{word, In, Looks}
 use Rattle.laws.specs.Circuit.Shapes.{operator-shape}
@@ -28,19 +26,21 @@ abbrev pub HasKind : (ℕ → ℕ) → ℕ → Cell → Type 0
 HasKind K k c = K k ≡ c .kind
 
 op-word : (k : ℕ) → 4 ≤ k → k ≤ 9 → word k ≡ true
-unfolding word cellTable
-op-word k h h′ = ap (λ (sh : Shape). not (cellTable sh .row .control)) (operator-shape k h h′)
+unfolding word ofArray cellTable
+op-word k h h′ =
+    let c : cellRow k .control ≡ false = ap (λ (sh : Shape). cellTable sh .row .control) (operator-shape k h h′) in
+    rw (c, ne-eqb k 42 (λ e. omega arith), ne-eqb k 43 (λ e. omega arith)) refl
 
 op-ok : (K : ℕ → ℕ) (n k i a b : ℕ) → 4 ≤ k → k ≤ 9 → In word K i a → In word K i b → Ok K n i (cell k 0 a b)
 unfolding stands cellTable
 op-ok K n k i a b h h′ p q =
     (rw (ne-eqb k 32 (λ e. omega arith), ne-eqb k 33 (λ e. omega arith)) refl, rw (cellRow, operator-shape k h h′) (refl, p, q))
 
-module _ (K : ℕ → ℕ) (n M : ℕ) (mem : (x : ℕ) → x < 16 → K (M + x) ≡ 40) where
+module _ (K : ℕ → ℕ) (n M : ℕ) (mem : (x : ℕ) → x < 16 → K (M + x) ≡ 40) (arr : (k : ℕ) → k < 4 → K (arrayCell M k) ≡ 42) where
   -- an expression's cells, and its wire
-  e-ok : (e : Expr) → FormedExpr e → (c : ℕ) → M + 16 ≤ c → All (HasKind K) c (exprCells M e c)
+  e-ok : (e : Expr) → FormedExpr e → (c : ℕ) → M + 24 ≤ c → All (HasKind K) c (exprCells M e c)
       → All (Ok K n) c (exprCells M e c) × In word K (c + exprCount e) (exprWire M e c)
-  unfolding exprCells exprWire exprCount shape cellTable stands word
+  unfolding exprCells exprWire exprCount shape cellTable stands word ofArray
   e-ok (const v) w c l h = (((refl, (refl, tt, refl)), tt), (omega arith, rw (h .0)))
   e-ok (var x) w c l h = (tt, (omega arith, rw (mem x w)))
   e-ok (compl e) w c l h =
@@ -61,6 +61,13 @@ module _ (K : ℕ → ℕ) (n M : ℕ) (mem : (x : ℕ) → x < 16 → K (M + x)
             (join (Ok K n) cf (exprCount f) (exprCells M f cf) (o ∷ []) (e-len M f cf) (j .0) (this, tt)),
         (omega arith, rw (q .1 .0) (op-word k (w .0) (w .1))),
       )
+  e-ok (elem k e) w c l h =
+      let o = cell 44 0 (arrayCell M k) (exprWire M e c) in
+      let r = split (HasKind K) c (exprCount e) (exprCells M e c) (o ∷ []) (e-len M e c) h in
+      let i = e-ok e (w .1) c l (r .0) in (
+        join (Ok K n) c (exprCount e) (exprCells M e c) (o ∷ []) (e-len M e c) (i .0) ((refl, (refl, (omega (arith, w .0), rw (arr k (w .0))), i .1)), tt),
+        (omega arith, rw (r .1 .0)),
+      )
 
   pulse-ok : (δ s d c : ℕ) → δ ≤ 255 → In control K c s → d + ifDelayCount δ ≤ c → c ≤ n → All (HasKind K) d (ifDelayCells δ s)
       → All (Ok K n) d (ifDelayCells δ s) × In control K c (ifPulse δ s d)
@@ -69,7 +76,7 @@ module _ (K : ℕ → ℕ) (n M : ℕ) (mem : (x : ℕ) → x < 16 → K (M + x)
   pulse-ok (suc δ) s d c z i l l′ h = (((refl, ((omega arith, z), (omega arith, i .1), refl)), tt), (omega arith, rw (h .0)))
 
   -- a statement's cells and its finish
-  pub p-ok : (P : Stmt) → Formed P → Low P → (s d c : ℕ) → In control K c s → M + 16 ≤ c → d + delayCount P ≤ c → c + walkCount P ≤ n
+  pub p-ok : (P : Stmt) → Formed P → Low P → (s d c : ℕ) → In control K c s → M + 24 ≤ c → d + delayCount P ≤ c → c + walkCount P ≤ n
       → All (HasKind K) d (delays P s d c) → All (HasKind K) c (walk M P s d c)
       → All (Ok K n) d (delays P s d c) × All (Ok K n) c (walk M P s d c) × In control K (c + walkCount P) (finishWire P s d c)
   unfolding delays walk finishWire delayCount walkCount shape cellTable stands control
@@ -81,6 +88,22 @@ module _ (K : ℕ → ℕ) (n M : ℕ) (mem : (x : ℕ) → x < 16 → K (M + x)
       let ie = e-ok e (w .2) c lM (r .0) in (
         ((refl, ((z .0 .0, z .0 .1), (omega arith, i .1), refl)), ((refl, ((omega arith, omega arith), (omega arith, rw (hd .0)), refl)), tt)),
         join (Ok K n) c (exprCount e) (exprCells M e c) (o ∷ []) (e-len M e c) (ie .0) ((refl, (refl, (omega arith, rw (hd .0)), ie .1)), tt),
+        (omega arith, rw (hd .1 .0)),
+      )
+  p-ok (assignElem δ k u e) w z s d c i lM ld lc hd hw =
+      let ce = c + exprCount u in
+      let o = cell 41 0 d (exprWire M e ce) in
+      let o′ = cell 41 0 d (exprWire M u c) in
+      let ru = split (HasKind K) c (exprCount u) (exprCells M u c) (exprCells M e ce ++ (o ∷ (o′ ∷ []))) (e-len M u c) hw in
+      let re = split (HasKind K) ce (exprCount e) (exprCells M e ce) (o ∷ (o′ ∷ [])) (e-len M e ce) (ru .1) in
+      let iu = e-ok u (w .2) c lM (ru .0) in
+      let ie = e-ok e (w .3) ce (omega arith) (re .0) in (
+        ((refl, ((z .0 .0, z .0 .1), (omega arith, i .1), refl)), ((refl, ((omega arith, omega arith), (omega arith, rw (hd .0)), refl)), tt)),
+        join (Ok K n) c (exprCount u) (exprCells M u c) (exprCells M e ce ++ (o ∷ (o′ ∷ []))) (e-len M u c) (iu .0)
+            (join (Ok K n) ce (exprCount e) (exprCells M e ce) (o ∷ (o′ ∷ [])) (e-len M e ce) (ie .0) (
+              (refl, (refl, (omega arith, rw (hd .0)), ie .1)),
+              ((refl, (refl, (omega arith, rw (hd .0)), (omega arith, iu .1 .1))), tt),
+            )),
         (omega arith, rw (hd .1 .0)),
       )
   p-ok (seq P Q) w z s d c i lM ld lc hd hw =

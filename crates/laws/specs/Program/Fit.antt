@@ -3,14 +3,15 @@
 use mathlib.Core.Path.{_≡_}
 use mathlib.Core.Bool.{true, false}
 use Prim.Native.Nat.{ℕ, _<_, _≤_}
-use Rattle.model.specs.Program.{Expr, const, var, compl, op, Stmt, ok, tick, assign, seq, par, ite, while, repeat, writes, touches}
+use Rattle.model.specs.Program.{Expr, const, var, compl, op, elem, Stmt, ok, tick, assign, assignElem, seq, par, ite, while, repeat, writes, touches}
 
--- what is asked of the delays, variables and expressions in a statement, and of the sides of a parallel
+-- what is asked of the delays, variables, arrays and expressions in a statement, and of the sides of a parallel
 pub record Asks : Type 1 where
   pub delay : ℕ → Type 0
   pub ifDelay : ℕ → Type 0
   pub loopDelay : ℕ → Type 0
   pub variable : ℕ → Type 0
+  pub array : ℕ → Type 0
   pub expr : Expr → Type 0
   pub sides : Stmt → Stmt → Type 0
 
@@ -19,6 +20,7 @@ abbrev pub Everywhere : Asks → Stmt → Type 0
 Everywhere a ok = Unit {0}
 Everywhere a (tick d) = a .delay d
 Everywhere a (assign d x e) = a .delay d × a .variable x × a .expr e
+Everywhere a (assignElem d k i e) = a .delay d × a .array k × a .expr i × a .expr e
 Everywhere a (seq P Q) = Everywhere a P × Everywhere a Q
 Everywhere a (par P Q) = Everywhere a P × Everywhere a Q × a .sides P Q
 Everywhere a (ite d e P Q) = a .ifDelay d × a .expr e × Everywhere a P × Everywhere a Q
@@ -35,31 +37,33 @@ KnownE (const n) = Unit {0}
 KnownE (var n) = Unit {0}
 KnownE (compl e) = KnownE e
 KnownE (op k e f) = (4 ≤ k) × (k ≤ 9) × KnownE e × KnownE f
+KnownE (elem k e) = KnownE e
 
 abbrev pub Known : Stmt → Type 0
-Known = Everywhere (record { delay = free; ifDelay = free; loopDelay = free; variable = free; expr = KnownE; sides = λ P Q. Unit {0} })
+Known = Everywhere (record { delay = free; ifDelay = free; loopDelay = free; variable = free; array = free; expr = KnownE; sides = λ P Q. Unit {0} })
 
--- and variables below 16
+-- and variables below 16, arrays below 4
 abbrev pub FormedExpr : Expr → Type 0
 FormedExpr (const n) = Unit {0}
 FormedExpr (var x) = x < 16
 FormedExpr (compl e) = FormedExpr e
 FormedExpr (op k e f) = (4 ≤ k) × (k ≤ 9) × FormedExpr e × FormedExpr f
+FormedExpr (elem k e) = (k < 4) × FormedExpr e
 
 abbrev pub Formed : Stmt → Type 0
-Formed = Everywhere (record { delay = free; ifDelay = free; loopDelay = free; variable = λ x. x < 16; expr = FormedExpr; sides = λ P Q. Unit {0} })
+Formed = Everywhere (record { delay = free; ifDelay = free; loopDelay = free; variable = λ x. x < 16; array = λ k. k < 4; expr = FormedExpr; sides = λ P Q. Unit {0} })
 
 -- delays of at least 1, but for an if's
 abbrev pub Timed : Stmt → Type 0
-Timed = Everywhere (record { delay = λ d. 1 ≤ d; ifDelay = free; loopDelay = λ d. 1 ≤ d; variable = free; expr = free; sides = λ P Q. Unit {0} })
+Timed = Everywhere (record { delay = λ d. 1 ≤ d; ifDelay = free; loopDelay = λ d. 1 ≤ d; variable = free; array = free; expr = free; sides = λ P Q. Unit {0} })
 
 -- delays that are bytes
 abbrev pub Short : Stmt → Type 0
-Short = Everywhere (record { delay = λ d. d ≤ 255; ifDelay = λ d. d ≤ 255; loopDelay = λ d. d ≤ 255; variable = free; expr = free; sides = λ P Q. Unit {0} })
+Short = Everywhere (record { delay = λ d. d ≤ 255; ifDelay = λ d. d ≤ 255; loopDelay = λ d. d ≤ 255; variable = free; array = free; expr = free; sides = λ P Q. Unit {0} })
 
 -- delays of 1 to 255, or 0 at an if
 abbrev pub Low : Stmt → Type 0
-Low = Everywhere (record { delay = λ d. (1 ≤ d) × (d ≤ 255); ifDelay = λ d. d ≤ 255; loopDelay = λ d. (1 ≤ d) × (d ≤ 255); variable = free; expr = free; sides = λ P Q. Unit {0} })
+Low = Everywhere (record { delay = λ d. (1 ≤ d) × (d ≤ 255); ifDelay = λ d. d ≤ 255; loopDelay = λ d. (1 ≤ d) × (d ≤ 255); variable = free; array = free; expr = free; sides = λ P Q. Unit {0} })
 
 -- what P writes, Q does not touch
 unfoldable pub Apart : Stmt → Stmt → Type 0
@@ -67,7 +71,7 @@ Apart P Q = (x : ℕ) → writes P x ≡ true → touches Q x ≡ false
 
 -- sides of a parallel that are apart, either way
 abbrev pub Separate : Stmt → Type 0
-Separate = Everywhere (record { delay = free; ifDelay = free; loopDelay = free; variable = free; expr = free; sides = λ P Q. Apart P Q × Apart Q P })
+Separate = Everywhere (record { delay = free; ifDelay = free; loopDelay = free; variable = free; array = free; expr = free; sides = λ P Q. Apart P Q × Apart Q P })
 
 pub record Fit (P : Stmt) : Type 0 where
   pub formed : Formed P

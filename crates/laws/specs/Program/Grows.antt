@@ -1,7 +1,7 @@
 -- One node more before some trees: its tree has its sort and its nodes, where the trees have the sorts that its kind wants.
 -- Assumes that the node is without a fault. One line for each kind, in the order of the table.
 use mathlib.Core.Path.{_≡_, refl, sym, _∙_, ap, ap₂, subst}
-use mathlib.Core.Bool.{Bool, true, false, _&&_, _||_}
+use mathlib.Core.Bool.{Bool, true, false, _||_}
 use mathlib.Core.List.{List, [], _∷_, _++_, append-assoc, append-nil}
 use Prim.Native.Nat.{ℕ, zero, suc, _+_, _≤_, _<_}
 use native.Mathlib.Omega.{arith}
@@ -14,7 +14,7 @@ use Rattle.model.specs.declared.Node.{Node}
 use Rattle.model.specs.declared.kinds.Row.{Row}
 use Rattle.model.specs.Word.{pick}
 use Rattle.model.specs.Refusals.{faultIf}
-use Rattle.model.specs.Program.{Expr, const, var, compl, op, Stmt, ok, tick, assign, seq, par, ite, while, repeat, Tree, expr, stmt, kindTable, rowOf, asExpr, asStmt, exprOf, stmtOf, treeOf, grow, unusedSet, nodeFault, children, preorderE, preorder, node}
+use Rattle.model.specs.Program.{Expr, const, var, compl, op, elem, Stmt, ok, tick, assign, assignElem, seq, par, ite, while, repeat, Tree, expr, stmt, kindTable, rowOf, asExpr, asStmt, exprOf, stmtOf, treeOf, grow, unusedSet, absent, nodeFault, children, preorderE, preorder, node}
 use Rattle.laws.specs.Refusals.Laws.{or-false, fault-unless}
 use Rattle.laws.specs.Program.Preorder.{nodesOf, allNodes, sortOf, sortsOf, KnownT, AllKnown}
 
@@ -70,14 +70,18 @@ module _ (a : Node) (f : nodeFault a ≡ 0) where
   row : Row
   row = rowOf (a .kind)
 
-  tests : ((unusedSet (row .delay) (a .delay) || unusedSet (row .number) (a .n)) ≡ false) × ((eqb (row .number) 2 && ltb 15 (a .n)) ≡ false)
+  tests : ((unusedSet (row .delay) (a .delay) || unusedSet (row .number) (a .n)) ≡ false) × (absent (row .number) (a .n) ≡ false)
   unfolding nodeFault row
-  tests = fault-tests (eqb (row .sort) 0) (unusedSet (row .delay) (a .delay) || unusedSet (row .number) (a .n)) (eqb (row .number) 2 && ltb 15 (a .n)) f
+  tests = fault-tests (eqb (row .sort) 0) (unusedSet (row .delay) (a .delay) || unusedSet (row .number) (a .n)) (absent (row .number) (a .n)) f
 
-  -- a variable is below 16
+  -- a variable is below 16, and an array below 4
   pub low-variable : rowOf (a .kind) .number ≡ 2 → a .n < 16
-  unfolding row
-  low-variable e = omega (arith, ltb-false 15 (a .n) (rw (eq-eqb (row .number) 2 e) at (tests .1)))
+  unfolding row absent
+  low-variable e = omega (arith, ltb-false 15 (a .n) (or-false (ltb 15 (a .n)) _ (rw (eq-eqb (row .number) 2 e) at (tests .1)) .0))
+
+  pub low-array : rowOf (a .kind) .number ≡ 3 → a .n < 4
+  unfolding row absent
+  low-array e = omega (arith, ltb-false 3 (a .n) (rw e at (tests .1)))
 
   cleared : node (a .kind) (used (rowOf (a .kind) .delay) (a .delay)) (used (rowOf (a .kind) .number) (a .n)) ≡ a
   unfolding row unusedSet
@@ -134,7 +138,7 @@ below R (suc n) (b then r) k h = go (below R n b k) (decLt k n)
         let e : n ≡ k = omega arith in
         subst R e r
 
-kinds-grow : Below Grows 24
+kinds-grow : Below Grows 25
 unfolding rowOf children grow treeOf exprOf stmtOf asExpr asStmt preorderE preorder
 kinds-grow =
     start then none 0 refl
@@ -147,7 +151,8 @@ kinds-grow =
     then (λ u d n e f us. grown (expr (op 7 e f)) (expr e ∷ expr f ∷ []) us refl refl (rw append-nil refl) (λ k. (omega arith, omega arith, k .0, k .1 .0)))
     then (λ u d n e f us. grown (expr (op 8 e f)) (expr e ∷ expr f ∷ []) us refl refl (rw append-nil refl) (λ k. (omega arith, omega arith, k .0, k .1 .0)))
     then (λ u d n e f us. grown (expr (op 9 e f)) (expr e ∷ expr f ∷ []) us refl refl (rw append-nil refl) (λ k. (omega arith, omega arith, k .0, k .1 .0)))
-    then none 10 refl then none 11 refl then none 12 refl then none 13 refl then none 14 refl then none 15 refl
+    then (λ u d n e us. grown (expr (elem n e)) (expr e ∷ []) us refl refl (rw append-nil refl) (λ k. k .0))
+    then none 11 refl then none 12 refl then none 13 refl then none 14 refl then none 15 refl
     then (λ u d n us. grown (stmt ok) [] us refl refl refl (λ k. tt))
     then (λ u d n us. grown (stmt (tick d)) [] us refl refl refl (λ k. tt))
     then (λ u d n e us. grown (stmt (assign d n e)) (expr e ∷ []) us refl refl (rw append-nil refl) (λ k. (tt, tt, k .0)))
@@ -156,16 +161,17 @@ kinds-grow =
     then (λ u d n e P Q us. grown (stmt (ite d e P Q)) (expr e ∷ stmt P ∷ stmt Q ∷ []) us refl refl (rw append-nil refl) (λ k. (tt, k .0, k .1 .0, k .1 .1 .0)))
     then (λ u d n e P us. grown (stmt (while d e P)) (expr e ∷ stmt P ∷ []) us refl refl (rw append-nil refl) (λ k. (tt, k .0, k .1 .0)))
     then (λ u d n e P us. grown (stmt (repeat d e P)) (expr e ∷ stmt P ∷ []) us refl refl (rw append-nil refl) (λ k. (tt, k .0, k .1 .0)))
+    then (λ u d n i e us. grown (stmt (assignElem d n i e)) (expr i ∷ expr e ∷ []) us refl refl (rw append-nil refl) (λ k. (tt, tt, k .0, k .1 .0)))
 
-past-table : (k : ℕ) → 24 ≤ k → rowOf k .sort ≡ 0
+past-table : (k : ℕ) → 25 ≤ k → rowOf k .sort ≡ 0
 unfolding rowOf
 past-table k l = ap (λ (r : Row). r .sort) (List·getD-eq-default kindTable _ l)
 
 pub grows : (a : Node) (ts : List Tree) (ws : List ℕ) → sortsOf ts ≡ children (a .kind) ++ ws → nodeFault a ≡ 0 → Grown a ts ws
-grows a ts ws h f = go (decLt (a .kind) 24)
+grows a ts ws h f = go (decLt (a .kind) 25)
   where
-    go : Dec (a .kind < 24) → Grown a ts ws
+    go : Dec (a .kind < 25) → Grown a ts ws
     go (yes l) =
         subst (λ (b : Node). Grown b ts ws) (cleared a f)
-        (sorted (children (a .kind)) _ (below Grows 24 kinds-grow (a .kind) l (known-kind a f) (a .delay) (a .n)) ts ws h)
+        (sorted (children (a .kind)) _ (below Grows 25 kinds-grow (a .kind) l (known-kind a f) (a .delay) (a .n)) ts ws h)
     go (no m) = absurd (known-kind a f (past-table (a .kind) (omega arith)))

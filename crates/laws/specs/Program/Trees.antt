@@ -12,7 +12,7 @@ use lib.Dec.{T, ltb, eqb, ltb→lt}
 use borrow.Author.Tests.{lt-ltb, le-ltb, ne-eqb}
 use Rattle.model.specs.declared.Node.{Node}
 use Rattle.model.specs.Word.{pick}
-use Rattle.model.specs.Program.{const, var, compl, op, ok, tick, assign, seq, par, ite, while, repeat, Tree, node, nodeAt, nodeCount, nodesFrom, none, asExpr, asStmt, exprOf, stmtOf, treeOf, arity, grow, forest, treesAt, exprAt, stmtAt}
+use Rattle.model.specs.Program.{const, var, compl, op, elem, ok, tick, assign, assignElem, seq, par, ite, while, repeat, Tree, node, nodeAt, nodeCount, nodesFrom, none, asExpr, asStmt, exprOf, stmtOf, treeOf, arity, grow, forest, treesAt, exprAt, stmtAt}
 
 -- Nodes --------------------------------------------------------------------------------------------------------------------------------
 
@@ -121,6 +121,10 @@ module _ (s : List ℕ) (i : ℕ) (h : i < nodeCount s) (a : Node) (ea : a ≡ n
   unfolding exprAt asExpr treeOf exprOf
   at-compl e = ap asExpr (tree-of 3 e)
 
+  pub at-elem : a .kind ≡ 10 → exprAt s i ≡ elem (a .n) (exprAt s (i + 1))
+  unfolding exprAt asExpr treeOf exprOf
+  at-elem e = ap asExpr (tree-of 10 e)
+
   pub no-expr : 16 ≤ a .kind → exprAt s i ≡ const 0
   unfolding exprAt asExpr treeOf
   no-expr l = ap asExpr tree-is ∙ rw (le-ltb _ _ l) refl
@@ -146,9 +150,13 @@ module _ (s : List ℕ) (i : ℕ) (h : i < nodeCount s) (a : Node) (ea : a ≡ n
     second-is : treeAt s j ≡ getD (treesAt s (i + 1)) 1 none
     second-is = ap (λ (ts : List Tree). getD ts 0 none) ej ∙ getD-drop 1 (treesAt s (i + 1)) 0 none
 
-    pub at-op : a .kind < 16 → (a .kind ≡ 1 → ⊥) → (a .kind ≡ 2 → ⊥) → (a .kind ≡ 3 → ⊥) → exprAt s i ≡ op (a .kind) (exprAt s (i + 1)) (exprAt s j)
+    pub at-op : a .kind < 16 → (a .kind ≡ 1 → ⊥) → (a .kind ≡ 2 → ⊥) → (a .kind ≡ 3 → ⊥) → (a .kind ≡ 10 → ⊥) → exprAt s i ≡ op (a .kind) (exprAt s (i + 1)) (exprAt s j)
     unfolding exprAt asExpr treeOf exprOf
-    at-op l p q r = ap asExpr tree-is ∙ rw (lt-ltb _ _ l, ne-eqb _ _ p, ne-eqb _ _ q, ne-eqb _ _ r, second-is) refl
+    at-op l p q r w = ap asExpr tree-is ∙ rw (lt-ltb _ _ l, ne-eqb _ _ p, ne-eqb _ _ q, ne-eqb _ _ r, ne-eqb _ _ w, second-is) refl
+
+    pub at-assign-elem : a .kind ≡ 24 → stmtAt s i ≡ assignElem (a .delay) (a .n) (exprAt s (i + 1)) (exprAt s j)
+    unfolding stmtAt asStmt treeOf stmtOf exprAt
+    at-assign-elem e = ap asStmt (tree-of 24 e) ∙ rw second-is refl
 
     pub at-seq : a .kind ≡ 19 → stmtAt s i ≡ seq (stmtAt s (i + 1)) (stmtAt s j)
     unfolding stmtAt asStmt treeOf stmtOf
@@ -162,9 +170,9 @@ module _ (s : List ℕ) (i : ℕ) (h : i < nodeCount s) (a : Node) (ea : a ≡ n
     unfolding stmtAt asStmt treeOf stmtOf exprAt
     at-while e = ap asStmt (tree-of 22 e) ∙ rw second-is refl
 
-    pub at-repeat : 23 ≤ a .kind → stmtAt s i ≡ repeat (a .delay) (exprAt s (i + 1)) (stmtAt s j)
+    pub at-repeat : 23 ≤ a .kind → (a .kind ≡ 24 → ⊥) → stmtAt s i ≡ repeat (a .delay) (exprAt s (i + 1)) (stmtAt s j)
     unfolding stmtAt asStmt treeOf stmtOf exprAt
-    at-repeat l = ap asStmt tree-is ∙ rw (le-ltb _ _ high, no 16 tt, no 17 tt, no 18 tt, no 19 tt, no 20 tt, no 21 tt, no 22 tt, second-is) refl
+    at-repeat l n = ap asStmt tree-is ∙ rw (le-ltb _ _ high, no 16 tt, no 17 tt, no 18 tt, no 19 tt, no 20 tt, no 21 tt, no 22 tt, ne-eqb _ _ n, second-is) refl
       where
         high : 16 ≤ a .kind
         high = omega arith

@@ -4,8 +4,8 @@ use mathlib.Core.Path.{_≡_, refl, sym, _∙_, ap, ap₂, subst}
 use mathlib.Core.Bool.{Bool, true, false}
 use native.Mathlib.Omega.{arith}
 use borrow.Author.Tests.{le-leb, lt-leb}
-use Rattle.model.specs.Word.{isZero}
-use Rattle.model.specs.Program.{Expr, Stmt, ok, tick, assign, seq, par, ite, while, repeat}
+use Rattle.model.specs.Word.{isZero, elementWord}
+use Rattle.model.specs.Program.{Expr, Stmt, ok, tick, assign, assignElem, seq, par, ite, while, repeat}
 use Rattle.model.specs.Rules.{Store, Run, ended, still, after, wait, chain, both, kept, whiles, repeats, run, eval, put}
 use Rattle.laws.specs.Refusals.Laws.{by-bool, by-le}
 use Rattle.laws.specs.Program.Fit.{Timed}
@@ -309,6 +309,9 @@ unfolding run
 steady ok h σ = steady-end σ
 steady (tick d) h σ = steady-wait d (λ k. ended 0 σ) (steady-end σ)
 steady (assign d x e) h σ = steady-wait (suc d) (λ k. ended 0 (put σ x (eval e σ))) (steady-end (put σ x (eval e σ)))
+steady (assignElem d j i e) h σ =
+    let σ′ = put σ (elementWord j (eval i σ)) (eval e σ) in
+    steady-wait (suc d) (λ k. ended 0 σ′) (steady-end σ′)
 steady (seq P Q) h σ = steady-chain (λ k. run k P σ) (λ k σ. run k Q σ) (steady P (h .0) σ) (steady Q (h .1))
 steady (par P Q) h σ = steady-both (kept P Q σ) (λ k. run k P σ) (λ k. run k Q σ) (steady P (h .0) σ) (steady Q (h .1) σ)
 steady (ite d e P Q) h σ = steady-ite d e P Q σ (steady P (h .2) σ) (steady Q (h .3) σ)

@@ -2,23 +2,30 @@
 use Prim.Native.Nat.{ℕ, zero, suc, _-_}
 use mathlib.Core.Path.{_≡_, refl, sym, _∙_, ap, ap₂}
 use mathlib.Core.Bool.{Bool, true, false, _||_, or-true}
+use lib.Dec.{eqb}
 use borrow.Author.Tests.{eq-eqb}
-use Rattle.model.specs.Word.{pick, operate, isZero}
-use Rattle.model.specs.Program.{Expr, const, var, compl, op, Stmt, ok, tick, assign, seq, par, ite, while, repeat, reads, writes, touches}
-use Rattle.model.specs.Rules.{Store, Run, ended, chain, over, kept, whiles, repeats, run, eval, put}
-use Rattle.laws.specs.Program.Fit.{Apart}
+use Rattle.model.specs.Word.{pick, operate, isZero, elementWord}
+use Rattle.model.specs.Program.{Expr, const, var, compl, op, elem, Stmt, ok, tick, assign, assignElem, seq, par, ite, while, repeat, arrayVar, reads, writes, touches}
+use Rattle.model.specs.Rules.{Store, Run, ended, chain, over, kept, whiles, repeats, run, owner, eval, put}
+use Rattle.laws.specs.Program.Fit.{FormedExpr, Formed, Apart}
 use Rattle.laws.specs.Refusals.Laws.{by-bool, or-false}
+use Rattle.laws.specs.Rules.Words.{owner-variable, owner-element, other-variable, other-element}
 use Rattle.laws.specs.Rules.Laws.{Body, ended-words, ended-still, wait-ended, chain-ended, both-ended, whiles-stop, whiles-more, again, repeats-is, again-more, again-stop, ite-then, ite-else}
 
 -- An expression's value depends on what it reads
-pub eval-same : (e : Expr) (σ τ : Store) → ((x : ℕ) → reads e x ≡ true → σ x ≡ τ x) → eval e σ ≡ eval e τ
+pub eval-same : (e : Expr) → FormedExpr e → (σ τ : Store) → ((x : ℕ) → reads e (owner x) ≡ true → σ x ≡ τ x) → eval e σ ≡ eval e τ
 unfolding eval reads
-eval-same (const n) σ τ h = refl
-eval-same (var n) σ τ h = h n (eq-eqb n n refl)
-eval-same (compl e) σ τ h = ap (λ (v : ℕ). operate 3 v 0) (eval-same e σ τ h)
-eval-same (op k a b) σ τ h =
-    ap₂ (operate k) (eval-same a σ τ (λ x r. h x (ap (λ (z : Bool). z || reads b x) r)))
-    (eval-same b σ τ (λ x r. h x (ap (λ (z : Bool). reads a x || z) r ∙ or-true (reads a x))))
+eval-same (const n) w σ τ h = refl
+eval-same (var n) w σ τ h = h n (eq-eqb (owner n) n (owner-variable n w))
+eval-same (compl e) w σ τ h = ap (λ (v : ℕ). operate 3 v 0) (eval-same e w σ τ h)
+eval-same (op k a b) w σ τ h =
+    ap₂ (operate k) (eval-same a (w .2) σ τ (λ x r. h x (ap (λ (z : Bool). z || reads b (owner x)) r)))
+    (eval-same b (w .3) σ τ (λ x r. h x (ap (λ (z : Bool). reads a (owner x) || z) r ∙ or-true (reads a (owner x)))))
+eval-same (elem k e) w σ τ h =
+    let i = eval-same e (w .1) σ τ (λ x r. h x (ap (λ (z : Bool). eqb (owner x) (arrayVar k) || z) r ∙ or-true (eqb (owner x) (arrayVar k)))) in
+    let x = elementWord k (eval e σ) in
+    h x (ap (λ (z : Bool). z || reads e (owner x)) (eq-eqb (owner x) (arrayVar k) (owner-element k (eval e σ))))
+    ∙ ap (λ (v : ℕ). τ (elementWord k v)) i
 
 -- c leaves x alone, from σ
 abbrev Leaves : ℕ → (ℕ → Store → Run) → Type 0
@@ -60,29 +67,33 @@ ite-leaves x d e P Q h g k t σ σ′ p =
     (λ z. let w = wait-ended d k (λ k₁. run k₁ Q σ) (sym (ite-else k d e P Q σ z) ∙ p) in g (k - d) (w .0) σ σ′ (w .2))
     (λ z. let w = wait-ended d k (λ k₁. run k₁ P σ) (sym (ite-then k d e P Q σ z) ∙ p) in h (k - d) (w .0) σ σ′ (w .2))
 
-kept-leaves : (P Q : Stmt) (σ σ₁ σ₂ : Store) (x : ℕ) → writes P x ≡ false → writes Q x ≡ false → kept P Q σ σ₁ σ₂ x ≡ σ x
+kept-leaves : (P Q : Stmt) (σ σ₁ σ₂ : Store) (x : ℕ) → writes P (owner x) ≡ false → writes Q (owner x) ≡ false → kept P Q σ σ₁ σ₂ x ≡ σ x
 unfolding kept over
 kept-leaves P Q σ σ₁ σ₂ x p q = ap₂ (λ (b c : Bool). pick b (σ₁ x) (pick c (σ₂ x) (σ x))) p q
 
 -- A word that is not written stays
-pub leaves : (P : Stmt) (x : ℕ) → writes P x ≡ false → Leaves x (λ k σ. run k P σ)
+pub leaves : (P : Stmt) → Formed P → (x : ℕ) → writes P (owner x) ≡ false → Leaves x (λ k σ. run k P σ)
 unfolding run writes put
-leaves ok x w = λ k t σ σ′ p. at-word x p
-leaves (tick d) x w = λ k t σ σ′ p. at-word x (wait-ended d k (λ k₁. ended 0 σ) p .2)
-leaves (assign d y e) x w = λ k t σ σ′ p.
-    at-word x (wait-ended (suc d) k (λ k₁. ended 0 (put σ y (eval e σ))) p .2) ∙ ap (λ (b : Bool). pick b (eval e σ) (σ x)) w
-leaves (seq P Q) x w = λ k t σ σ′ p.
+leaves ok f x w = λ k t σ σ′ p. at-word x p
+leaves (tick d) f x w = λ k t σ σ′ p. at-word x (wait-ended d k (λ k₁. ended 0 σ) p .2)
+leaves (assign d y e) f x w = λ k t σ σ′ p.
+    at-word x (wait-ended (suc d) k (λ k₁. ended 0 (put σ y (eval e σ))) p .2)
+    ∙ ap (λ (b : Bool). pick b (eval e σ) (σ x)) (other-variable x y (f .1) w)
+leaves (assignElem d j i e) f x w = λ k t σ σ′ p.
+    at-word x (wait-ended (suc d) k (λ k₁. ended 0 (put σ (elementWord j (eval i σ)) (eval e σ))) p .2)
+    ∙ ap (λ (b : Bool). pick b (eval e σ) (σ x)) (other-element x j (eval i σ) w)
+leaves (seq P Q) f x w = λ k t σ σ′ p.
     let v = chain-ended (run k P σ) (λ t σ₁. run (k - t) Q σ₁) p in
-    leaves Q x (or-false (writes P x) (writes Q x) w .1) (k - v .0) (v .2) (v .1) σ′ (v .4)
-    ∙ leaves P x (or-false (writes P x) (writes Q x) w .0) k (v .0) σ (v .1) (v .3)
-leaves (par P Q) x w = λ k t σ σ′ p.
+    leaves Q (f .1) x (or-false (writes P (owner x)) (writes Q (owner x)) w .1) (k - v .0) (v .2) (v .1) σ′ (v .4)
+    ∙ leaves P (f .0) x (or-false (writes P (owner x)) (writes Q (owner x)) w .0) k (v .0) σ (v .1) (v .3)
+leaves (par P Q) f x w = λ k t σ σ′ p.
     let v = both-ended (kept P Q σ) (run k P σ) (run k Q σ) p in
     ap (λ (τ : Store). τ x) (v .7)
-    ∙ kept-leaves P Q σ (v .1) (v .3) x (or-false (writes P x) (writes Q x) w .0) (or-false (writes P x) (writes Q x) w .1)
-leaves (ite d e P Q) x w =
-    ite-leaves x d e P Q (leaves P x (or-false (writes P x) (writes Q x) w .0)) (leaves Q x (or-false (writes P x) (writes Q x) w .1))
-leaves (while d e P) x w = λ k. whiles-leaves x (λ k σ. run k P σ) d e (leaves P x w) (suc k) k
-leaves (repeat d e P) x w = λ k. repeats-leaves x (λ k σ. run k P σ) d e (leaves P x w) (suc k) k
+    ∙ kept-leaves P Q σ (v .1) (v .3) x (or-false (writes P (owner x)) (writes Q (owner x)) w .0) (or-false (writes P (owner x)) (writes Q (owner x)) w .1)
+leaves (ite d e P Q) f x w =
+    ite-leaves x d e P Q (leaves P (f .2) x (or-false (writes P (owner x)) (writes Q (owner x)) w .0)) (leaves Q (f .3) x (or-false (writes P (owner x)) (writes Q (owner x)) w .1))
+leaves (while d e P) f x w = λ k. whiles-leaves x (λ k σ. run k P σ) d e (leaves P (f .2) x w) (suc k) k
+leaves (repeat d e P) f x w = λ k. repeats-leaves x (λ k σ. run k P σ) d e (leaves P (f .2) x w) (suc k) k
 
 or-map : (a b c d : Bool) → (a ≡ true → c ≡ true) → (b ≡ true → d ≡ true) → (a || b) ≡ true → (c || d) ≡ true
 or-map true b c d p q w = ap (λ (z : Bool). z || d) (p refl)
@@ -94,6 +105,7 @@ unfolding writes touches
 writes-touches ok x w = w
 writes-touches (tick d) x w = w
 writes-touches (assign d y e) x w = ap (λ (c : Bool). c || reads e x) w
+writes-touches (assignElem d k i e) x w = ap (λ (c : Bool). c || (reads i x || reads e x)) w
 writes-touches (seq P Q) x w = or-map (writes P x) (writes Q x) (touches P x) (touches Q x) (writes-touches P x) (writes-touches Q x) w
 writes-touches (par P Q) x w = or-map (writes P x) (writes Q x) (touches P x) (touches Q x) (writes-touches P x) (writes-touches Q x) w
 writes-touches (ite d e P Q) x w =

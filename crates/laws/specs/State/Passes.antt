@@ -1,5 +1,5 @@
 -- The three passes of an instant, on the bytes of a state: what each leaves as it was, and what it makes of each cell.
-use mathlib.Core.Bool.{Bool, true, false}
+use mathlib.Core.Bool.{Bool, true, false, not, _&&_}
 use mathlib.Core.List.{List, _++_}
 use mathlib.Core.Logic.{_⊎_, inl, inr, ⊎-elim}
 use mathlib.Core.Path.{_≡_, refl, sym, _∙_, ap}
@@ -7,13 +7,14 @@ use Prim.Native.Nat.{ℕ, zero, suc, _+_, _-_, _*_, _/_, _%_, _^_, _<_, _≤_}
 use native.Mathlib.Omega.{arith}
 use native.Mathlib.Nat.{add-zero}
 use native.Mathlib.Decide.{ℕ-discrete, decLt}
+use lib.Dec.{eqb}
 use lib.ListN.{getD, set, length, length-set, replicate, drop, List·getD-append, length-replicate, getD-replicate}
 use lib.Seq.{getD-set-same, getD-set-other}
 use Rattle.model.specs.declared.Cell.{Cell}
 use Rattle.model.specs.declared.Merge.{Merge}
-use Rattle.model.specs.Word.{bit, get16, put16, get32, put32}
-use Rattle.model.specs.Circuit.{cellAt, high, mergeStep, Shape, shape, kConstant, kComplement, kOperator, kStart, kGround, kDelay, kOr, kWhenTrue, kWhenFalse, kMerge, kMemory, kGated, kUnknown}
-use Rattle.model.specs.State.{base, nowAt, beforeAt, heldAt, lineBit, value, upTo, aged, shown, shiftedIn, holding, settle, settled, stepState, beginState, instantOf, firstValue}
+use Rattle.model.specs.Word.{pick, bit, elementOf, get16, put16, get32, put32}
+use Rattle.model.specs.Circuit.{cellAt, high, mergeStep, Shape, shape, kConstant, kComplement, kOperator, kStart, kGround, kDelay, kOr, kWhenTrue, kWhenFalse, kMerge, kMemory, kGated, kArray, kAddress, kRead, kUnknown}
+use Rattle.model.specs.State.{base, elementBase, nowAt, beforeAt, heldAt, lineBit, value, upTo, aged, stored, shown, shiftedIn, holding, settle, settled, stepState, beginState, instantOf, firstValue}
 
 abbrev pub shapeAt : List Cell → ℕ → Shape
 shapeAt c k = shape (cellAt c k .kind)
@@ -64,10 +65,34 @@ unfolding aged
 aged-frame t k j (inl h) = put16-other t _ _ j (λ e. omega arith) (λ e. omega arith)
 aged-frame t k j (inr h) = put16-other t _ _ j (λ e. omega arith) (λ e. omega arith)
 
-pub shown-frame : (v : List ℕ → ℕ → ℕ) (t : List ℕ) (k j : ℕ) → (j < base k) ⊎ (base k + 2 ≤ j) → getD (shown v t k) j 0 ≡ getD t j 0
+-- an array's word stands behind all cells
+pub stored-frame : (c : List Cell) (t : List ℕ) (k j : ℕ) → j < 8 + 40 * length c → getD (stored c t k) j 0 ≡ getD t j 0
+unfolding stored
+stored-frame c t k j l = go (eqb (cellAt c k .kind) 42 && (high (beforeAt t (cellAt c k .a)) && not (high (nowAt t (cellAt c k .a)))))
+  where
+    go : (b : Bool)
+        → getD (pick b (put16 t (elementBase c (elementOf (cellAt c k .delay) (beforeAt t (cellAt c (k + 1) .a)))) (beforeAt t (cellAt c k .b))) t) j 0 ≡ getD t j 0
+    go true = put16-other t _ _ j (λ e. omega arith) (λ e. omega arith)
+    go false = refl
+
+pub length-stored : (c : List Cell) (t : List ℕ) (k : ℕ) → length (stored c t k) ≡ length t
+unfolding stored
+length-stored c t k = go (eqb (cellAt c k .kind) 42 && (high (beforeAt t (cellAt c k .a)) && not (high (nowAt t (cellAt c k .a)))))
+  where
+    go : (b : Bool)
+        → length (pick b (put16 t (elementBase c (elementOf (cellAt c k .delay) (beforeAt t (cellAt c (k + 1) .a)))) (beforeAt t (cellAt c k .b))) t) ≡ length t
+    go true = length-put16 t _ _
+    go false = refl
+
+-- cell k shows its value
+pub shown-put : (c : List Cell) (v : List ℕ → ℕ → ℕ) (t : List ℕ) (k j : ℕ) → (j < base k) ⊎ (base k + 2 ≤ j) → getD (shown c v t k) j 0 ≡ getD (stored c t k) j 0
 unfolding shown
-shown-frame v t k j (inl h) = put16-other t _ _ j (λ e. omega arith) (λ e. omega arith)
-shown-frame v t k j (inr h) = put16-other t _ _ j (λ e. omega arith) (λ e. omega arith)
+shown-put c v t k j (inl h) = put16-other (stored c t k) _ _ j (λ e. omega arith) (λ e. omega arith)
+shown-put c v t k j (inr h) = put16-other (stored c t k) _ _ j (λ e. omega arith) (λ e. omega arith)
+
+pub shown-frame : (c : List Cell) (v : List ℕ → ℕ → ℕ) (t : List ℕ) (k j : ℕ) → j < 8 + 40 * length c → (j < base k) ⊎ (base k + 2 ≤ j)
+    → getD (shown c v t k) j 0 ≡ getD t j 0
+shown-frame c v t k j l h = shown-put c v t k j h ∙ stored-frame c t k j l
 
 pub shifted-frame : (m : ℕ) (s : List ℕ) (i x j : ℕ) → (j < i) ⊎ (i + m ≤ j) → getD (shiftedIn m s i x) j 0 ≡ getD s j 0
 unfolding shiftedIn
@@ -102,6 +127,9 @@ settle-frame kWhenFalse t k c j h = refl
 settle-frame kMerge t k c j h = holding-frame t k _ j (⊎-elim (λ x. inl x) (λ x. inr (omega arith)) h)
 settle-frame kMemory t k c j h = refl
 settle-frame kGated t k c j h = refl
+settle-frame kArray t k c j h = refl
+settle-frame kAddress t k c j h = refl
+settle-frame kRead t k c j h = refl
 settle-frame kUnknown t k c j h = refl
 
 pub settled-frame : (c : List Cell) (t : List ℕ) (k j : ℕ) → (j < base k + 4) ⊎ (base k + 40 ≤ j) → getD (settled c t k) j 0 ≡ getD t j 0
@@ -125,6 +153,9 @@ length-settle kWhenFalse t k c = refl
 length-settle kMerge t k c = length-holding t k _
 length-settle kMemory t k c = refl
 length-settle kGated t k c = refl
+length-settle kArray t k c = refl
+length-settle kAddress t k c = refl
+length-settle kRead t k c = refl
 length-settle kUnknown t k c = refl
 
 pub length-settled : (c : List Cell) (t : List ℕ) (k : ℕ) → length (settled c t k) ≡ length t
@@ -136,7 +167,7 @@ module _ (c : List Cell) (s : List ℕ) where
   unfolding stepState ticked
   header i h =
       upTo-frame (settled c) i _ _ (λ t k g. settled-frame c t k i (inl (omega arith)))
-      ∙ upTo-frame (shown (value c)) i _ _ (λ t k g. shown-frame (value c) t k i (inl (omega arith)))
+      ∙ upTo-frame (shown c (value c)) i _ _ (λ t k g. shown-frame c (value c) t k i (omega arith) (inl (omega arith)))
       ∙ upTo-frame aged i _ _ (λ t k g. aged-frame t k i (inl (omega arith)))
 
   pub count-now : 3 < length s → get32 s 0 < 1000000 → get32 (stepState c s) 0 ≡ get32 s 0 + 1
@@ -177,24 +208,25 @@ apart k m j h g n = go (decLt m k)
     go (no x) = inl (omega arith)
 
 -- where only cell k changes byte j, a pass leaves it as cell k made it
-module _ (f : List ℕ → ℕ → List ℕ) (j k : ℕ) (other : (t : List ℕ) (m : ℕ) → (m ≡ k → ⊥) → getD (f t m) j 0 ≡ getD t j 0) where
-  pub upTo-at : (n : ℕ) (s : List ℕ) → k < n → getD (upTo f n s) j 0 ≡ getD (f (upTo f k s) k) j 0
+module _ (f : List ℕ → ℕ → List ℕ) (j k : ℕ) where
+  pub upTo-at : (n : ℕ) (s : List ℕ) → ((t : List ℕ) (m : ℕ) → m < n → (m ≡ k → ⊥) → getD (f t m) j 0 ≡ getD t j 0) → k < n
+      → getD (upTo f n s) j 0 ≡ getD (f (upTo f k s) k) j 0
   unfolding upTo
-  upTo-at zero s h = absurd (omega arith)
-  upTo-at (suc n) s h = go (ℕ-discrete n k) (upTo-at n s)
+  upTo-at zero s other h = absurd (omega arith)
+  upTo-at (suc n) s other h = go (ℕ-discrete n k) (upTo-at n s (λ t m l. other t m (omega arith)))
     where
       go : Dec (n ≡ k) → (k < n → getD (upTo f n s) j 0 ≡ getD (f (upTo f k s) k) j 0)
           → getD (f (upTo f n s) n) j 0 ≡ getD (f (upTo f k s) k) j 0
       go (yes e) r = rw e
-      go (no x) r = other (upTo f n s) n x ∙ r (omega (arith, x))
+      go (no x) r = other (upTo f n s) n (omega arith) x ∙ r (omega (arith, x))
 
 length-aged : (t : List ℕ) (k : ℕ) → length (aged t k) ≡ length t
 unfolding aged
 length-aged t k = length-put16 t _ _
 
-length-shown : (v : List ℕ → ℕ → ℕ) (t : List ℕ) (k : ℕ) → length (shown v t k) ≡ length t
+length-shown : (c : List Cell) (v : List ℕ → ℕ → ℕ) (t : List ℕ) (k : ℕ) → length (shown c v t k) ≡ length t
 unfolding shown
-length-shown v t k = length-put16 t _ _
+length-shown c v t k = length-put16 (stored c t k) _ _ ∙ length-stored c t k
 
 ticked-frame : (s : List ℕ) (j : ℕ) → 4 ≤ j → getD (ticked s) j 0 ≡ getD s j 0
 unfolding ticked put32
@@ -243,50 +275,55 @@ module _ (s : List ℕ) where
       ∙ now-one k k
     where
       at : (j : ℕ) → base k + 2 ≤ j → j < base k + 4 → getD (one s n) j 0 ≡ getD (aged (one s k) k) j 0
-      at j x y = upTo-at aged j k (λ t m e. aged-frame t m j (⊎-elim (λ z. inl (omega arith)) (λ z. inr (omega arith)) (apart k m j (omega arith) (omega arith) e))) n (ticked s) h
+      at j x y = upTo-at aged j k n (ticked s) (λ t m b e. aged-frame t m j (⊎-elim (λ z. inl (omega arith)) (λ z. inr (omega arith)) (apart k m j (omega arith) (omega arith) e))) h
+
+  -- what stands behind the n cells stays
+  pub one-behind : (n j : ℕ) → 8 + 40 * n ≤ j → getD (one s n) j 0 ≡ getD s j 0
+  unfolding one
+  one-behind n j h = upTo-frame aged j n (ticked s) (λ t m x. aged-frame t m j (inr (omega arith))) ∙ ticked-frame s j (omega arith)
 
 -- ---- the second pass, from u on, with v for the cells' values
 
-unfoldable pub two : (List ℕ → ℕ → ℕ) → List ℕ → ℕ → List ℕ
-two v u n = upTo (shown v) n u
+unfoldable pub two : List Cell → (List ℕ → ℕ → ℕ) → List ℕ → ℕ → List ℕ
+two c v u n = upTo (shown c v) n u
 
-module _ (v : List ℕ → ℕ → ℕ) (u : List ℕ) where
-  pub length-two : (n : ℕ) → length (two v u n) ≡ length u
+module _ (c : List Cell) (v : List ℕ → ℕ → ℕ) (u : List ℕ) where
+  pub length-two : (n : ℕ) → length (two c v u n) ≡ length u
   unfolding two
-  length-two n = upTo-length (shown v) (length-shown v) n u
+  length-two n = upTo-length (shown c v) (length-shown c v) n u
 
-  pub two-high : (n k j : ℕ) → base k + 2 ≤ j → j < base k + 40 → getD (two v u n) j 0 ≡ getD u j 0
+  pub two-high : (n k j : ℕ) → k < length c → base k + 2 ≤ j → j < base k + 40 → getD (two c v u n) j 0 ≡ getD u j 0
   unfolding two
-  two-high n k j h g = upTo-frame (shown v) j n u (λ t m x. shown-frame v t m j (go m (decLt k m)))
+  two-high n k j l h g = upTo-frame (shown c v) j n u (λ t m x. shown-frame c v t m j (omega arith) (go m (decLt k m)))
     where
       go : (m : ℕ) → Dec (k < m) → (j < base m) ⊎ (base m + 2 ≤ j)
       go m (yes x) = inl (omega arith)
       go m (no x) = inr (omega arith)
 
-  now-two : (n k : ℕ) → k < n → base k + 40 ≤ length u → nowAt (two v u n) k ≡ v (two v u k) k
+  pub now-two : (n k : ℕ) → k < n → k < length c → base k + 40 ≤ length u → nowAt (two c v u n) k ≡ v (two c v u k) k
   unfolding two shown
-  now-two n k h r =
-      get16-same (shown v (two v u k) k) (two v u n) (base k) (at (base k) (omega arith) (omega arith)) (at (base k + 1) (omega arith) (omega arith))
-      ∙ put16-same (two v u k) (base k) (v (two v u k) k) (rw (length-two k) (omega arith))
+  now-two n k h l r =
+      get16-same (shown c v (two c v u k) k) (two c v u n) (base k) (at (base k) (omega arith) (omega arith)) (at (base k + 1) (omega arith) (omega arith))
+      ∙ put16-same (stored c (two c v u k) k) (base k) (v (two c v u k) k) (rw (length-stored c (two c v u k) k, length-two k) (omega arith))
     where
-      at : (j : ℕ) → base k ≤ j → j < base k + 2 → getD (two v u n) j 0 ≡ getD (shown v (two v u k) k) j 0
-      at j x y = upTo-at (shown v) j k (λ t m e. shown-frame v t m j (⊎-elim (λ z. inl z) (λ z. inr (omega arith)) (apart k m j x (omega arith) e))) n u h
+      at : (j : ℕ) → base k ≤ j → j < base k + 2 → getD (two c v u n) j 0 ≡ getD (shown c v (two c v u k) k) j 0
+      at j x y = upTo-at (shown c v) j k n u (λ t m b e. shown-frame c v t m j (omega arith) (⊎-elim (λ z. inl z) (λ z. inr (omega arith)) (apart k m j x (omega arith) e))) h
 
-  pub seen-before : (n a : ℕ) → beforeAt (two v u n) a ≡ beforeAt u a
-  seen-before n a = get16-same u (two v u n) (base a + 2) (two-high n a (base a + 2) (omega arith) (omega arith)) (two-high n a (base a + 2 + 1) (omega arith) (omega arith))
+  pub seen-before : (n a : ℕ) → a < length c → beforeAt (two c v u n) a ≡ beforeAt u a
+  seen-before n a l = get16-same u (two c v u n) (base a + 2) (two-high n a (base a + 2) l (omega arith) (omega arith)) (two-high n a (base a + 2 + 1) l (omega arith) (omega arith))
 
-  pub seen-held : (n k : ℕ) → heldAt (two v u n) k ≡ heldAt u k
+  pub seen-held : (n k : ℕ) → k < length c → heldAt (two c v u n) k ≡ heldAt u k
   unfolding heldAt
-  seen-held n k = cc (two-high n k (base k + 4) (omega arith) (omega arith), two-high n k (base k + 5) (omega arith) (omega arith))
+  seen-held n k l = cc (two-high n k (base k + 4) l (omega arith) (omega arith), two-high n k (base k + 5) l (omega arith) (omega arith))
 
-  pub seen-line : (n k i : ℕ) → i < 256 → lineBit (two v u n) k i ≡ lineBit u k i
+  pub seen-line : (n k i : ℕ) → k < length c → i < 256 → lineBit (two c v u n) k i ≡ lineBit u k i
   unfolding lineBit
-  seen-line n k i h = rw (two-high n k (base k + 8 + i / 8) (omega arith) (omega arith))
+  seen-line n k i l h = rw (two-high n k (base k + 8 + i / 8) l (omega arith) (omega arith))
 
 -- ---- the third pass
 
 unfoldable pub three : List Cell → (List ℕ → ℕ → ℕ) → List ℕ → ℕ → List ℕ
-three c v u n = upTo (settled c) n (two v u (length c))
+three c v u n = upTo (settled c) n (two c v u (length c))
 
 same-held : (k : ℕ) (t u : List ℕ) → getD t (base k + 4) 0 ≡ getD u (base k + 4) 0 → getD t (base k + 5) 0 ≡ getD u (base k + 5) 0 → heldAt t k ≡ heldAt u k
 unfolding heldAt
@@ -314,42 +351,47 @@ module _ (c : List Cell) (v : List ℕ → ℕ → ℕ) (u : List ℕ) where
 
   pub length-three : (n : ℕ) → length (three c v u n) ≡ length u
   unfolding three
-  length-three n = upTo-length (settled c) (length-settled c) n (two v u (length c)) ∙ length-two v u (length c)
+  length-three n = upTo-length (settled c) (length-settled c) n (two c v u (length c)) ∙ length-two c v u (length c)
 
-  three-low : (n k j : ℕ) → base k ≤ j → j < base k + 4 → getD (three c v u n) j 0 ≡ getD (two v u (length c)) j 0
+  three-low : (n k j : ℕ) → base k ≤ j → j < base k + 4 → getD (three c v u n) j 0 ≡ getD (two c v u (length c)) j 0
   unfolding three
-  three-low n k j h g = upTo-frame (settled c) j n (two v u (length c)) (λ t m x. settled-frame c t m j (go m (decLt m k)))
+  three-low n k j h g = upTo-frame (settled c) j n (two c v u (length c)) (λ t m x. settled-frame c t m j (go m (decLt m k)))
     where
       go : (m : ℕ) → Dec (m < k) → (j < base m + 4) ⊎ (base m + 40 ≤ j)
       go m (yes x) = inr (omega arith)
       go m (no x) = inl (omega arith)
 
-  now-three : (n k : ℕ) → nowAt (three c v u n) k ≡ nowAt (two v u (length c)) k
-  now-three n k = get16-same (two v u (length c)) (three c v u n) (base k) (three-low n k (base k) (omega arith) (omega arith)) (three-low n k (base k + 1) (omega arith) (omega arith))
+  now-three : (n k : ℕ) → nowAt (three c v u n) k ≡ nowAt (two c v u (length c)) k
+  now-three n k = get16-same (two c v u (length c)) (three c v u n) (base k) (three-low n k (base k) (omega arith) (omega arith)) (three-low n k (base k + 1) (omega arith) (omega arith))
 
-  pub before-after : (k : ℕ) → beforeAt after k ≡ beforeAt u k
-  before-after k =
-      get16-same (two v u (length c)) after (base k + 2) (three-low (length c) k (base k + 2) (omega arith) (omega arith)) (three-low (length c) k (base k + 2 + 1) (omega arith) (omega arith))
-      ∙ seen-before v u (length c) k
+  pub before-after : (k : ℕ) → k < length c → beforeAt after k ≡ beforeAt u k
+  before-after k l =
+      get16-same (two c v u (length c)) after (base k + 2) (three-low (length c) k (base k + 2) (omega arith) (omega arith)) (three-low (length c) k (base k + 2 + 1) (omega arith) (omega arith))
+      ∙ seen-before c v u (length c) k l
 
   -- before cell k, its own bytes are as they were before the second pass; after it they are as it made them
-  pub third-own : (k j : ℕ) → base k + 2 ≤ j → j < base k + 40 → getD (three c v u k) j 0 ≡ getD u j 0
+  pub third-own : (k j : ℕ) → k < length c → base k + 2 ≤ j → j < base k + 40 → getD (three c v u k) j 0 ≡ getD u j 0
   unfolding three
-  third-own k j h g =
-      upTo-frame (settled c) j k (two v u (length c)) (λ t m x. settled-frame c t m j (inr (omega arith)))
-      ∙ two-high v u (length c) k j h g
+  third-own k j l h g =
+      upTo-frame (settled c) j k (two c v u (length c)) (λ t m x. settled-frame c t m j (inr (omega arith)))
+      ∙ two-high c v u (length c) k j l h g
 
   pub third-at : (k j : ℕ) → k < length c → base k ≤ j → j < base k + 40 → getD after j 0 ≡ getD (settled c (three c v u k) k) j 0
   unfolding three
-  third-at k j g x y = upTo-at (settled c) j k (λ t m e. settled-frame c t m j (⊎-elim (λ z. inl (omega arith)) inr (apart k m j x y e))) (length c) (two v u (length c)) g
+  third-at k j g x y = upTo-at (settled c) j k (length c) (two c v u (length c)) (λ t m b e. settled-frame c t m j (⊎-elim (λ z. inl (omega arith)) inr (apart k m j x y e))) g
+
+  -- what stands behind all cells stays
+  pub after-behind : (j : ℕ) → 8 + 40 * length c ≤ j → getD after j 0 ≡ getD (two c v u (length c)) j 0
+  unfolding three
+  after-behind j h = upTo-frame (settled c) j (length c) (two c v u (length c)) (λ t m x. settled-frame c t m j (inr (omega arith)))
 
   module _ (room : 8 + 40 * (length c) ≤ length u) where
-    pub now-after : (k : ℕ) → k < length c → nowAt after k ≡ v (two v u k) k
-    now-after k h = now-three (length c) k ∙ now-two v u (length c) k h (omega arith)
+    pub now-after : (k : ℕ) → k < length c → nowAt after k ≡ v (two c v u k) k
+    now-after k h = now-three (length c) k ∙ now-two c v u (length c) k h h (omega arith)
 
     -- a lower cell is seen as it is after
-    pub seen-now : (k a : ℕ) → k < length c → a < k → nowAt (two v u k) a ≡ nowAt after a
-    seen-now k a g h = now-two v u k a h (omega arith) ∙ sym (now-after a (omega arith))
+    pub seen-now : (k a : ℕ) → k < length c → a < k → nowAt (two c v u k) a ≡ nowAt after a
+    seen-now k a g h = now-two c v u k a h (omega arith) (omega arith) ∙ sym (now-after a (omega arith))
 
     -- what a merge holds
     pub held-after : (k : ℕ) → k < length c → shapeAt c k ≡ kMerge
@@ -359,7 +401,7 @@ module _ (c : List Cell) (v : List ℕ → ℕ → ℕ) (u : List ℕ) where
         ∙ ap (λ (t : List ℕ). heldAt t k) (settled-merge c (three c v u k) k e)
         ∙ held-holding (three c v u k) k _ (rw (length-three k) (omega arith))
         ∙ rw (
-          same-held k (three c v u k) u (third-own k (base k + 4) (omega arith) (omega arith)) (third-own k (base k + 5) (omega arith) (omega arith)),
+          same-held k (three c v u k) u (third-own k (base k + 4) h (omega arith) (omega arith)) (third-own k (base k + 5) h (omega arith) (omega arith)),
           now-three k (cellAt c k .a),
           now-three k (cellAt c k .b),
           now-three (length c) (cellAt c k .a),
@@ -464,7 +506,7 @@ Line s k = (j : ℕ) → base k + 8 ≤ j → j < base k + 8 + 32 → getD s j 0
 module _ (c : List Cell) (v : List ℕ → ℕ → ℕ) (u : List ℕ) (room : 8 + 40 * (length c) ≤ length u)
     (k : ℕ) (h : k < length c) (e : shapeAt c k ≡ kDelay) (bytes : Line u k) where
   own : (j : ℕ) → base k + 8 ≤ j → j < base k + 8 + 32 → getD (three c v u k) j 0 ≡ getD u j 0
-  own j x y = third-own c v u k j (omega arith) (omega arith)
+  own j x y = third-own c v u k j h (omega arith) (omega arith)
 
   input : ℕ
   input = bit (high (nowAt (after c v u) (cellAt c k .a)))
@@ -523,16 +565,16 @@ header-kept c s j x y = header c s j y ∙ ticked-frame s j x
 
 -- Beginning ----------------------------------------------------------------------------------------------------------------------------
 
-pub cleared-zero : (m : ℕ) (s : List ℕ) (j : ℕ) → j < m → getD (replicate m 0 ++ drop m s) j 0 ≡ 0
-cleared-zero m s j g = List·getD-append (replicate m 0) (drop m s) 0 j (rw (length-replicate {A = ℕ} m 0) g) ∙ getD-replicate {A = ℕ} m j 0 0 g
+pub cleared-zero : (m : ℕ) (rest : List ℕ) (j : ℕ) → j < m → getD (replicate m 0 ++ rest) j 0 ≡ 0
+cleared-zero m rest j g = List·getD-append (replicate m 0) rest 0 j (rw (length-replicate {A = ℕ} m 0) g) ∙ getD-replicate {A = ℕ} m j 0 0 g
 
 module _ (net : List Cell) (words : ℕ → ℕ) (s : List ℕ) where
   pub begin-header : (j : ℕ) → j < 8 → getD (beginState net words s) j 0 ≡ 0
   unfolding beginState
   begin-header j h =
       upTo-frame (settled net) j _ _ (λ t k g. settled-frame net t k j (inl (omega arith)))
-      ∙ upTo-frame (shown (firstValue net words)) j _ _ (λ t k g. shown-frame (firstValue net words) t k j (inl (omega arith)))
-      ∙ cleared-zero (8 + 40 * length net) s j (omega arith)
+      ∙ upTo-frame (shown net (firstValue net words)) j _ _ (λ t k g. shown-frame net (firstValue net words) t k j (omega arith) (inl (omega arith)))
+      ∙ cleared-zero (8 + 40 * length net) _ j (omega arith)
 
   pub begin-instant : instantOf (beginState net words s) ≡ 0
   unfolding get32 get16

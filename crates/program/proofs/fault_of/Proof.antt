@@ -1,8 +1,5 @@
 -- Refusals 2 to 4 of one node, test by test.
-use mathlib.Core.Path.{sym, ap}
-use mathlib.Core.Bool.{Bool}
 use borrow.Author.Tests.{eq-eqb, ne-eqb}
-use Rattle.model.specs.Refusals.{faultIf}
 use Rattle.model.specs.Program.{nodeFault}
 use borrow.Author.Needs.{needs}
 use Rattle.program.proofs.fault_of.Statement.{statement}
@@ -22,24 +19,20 @@ returns-2 c =
 returns-3 : tie.Need-returns-3
 unfolding nodeFault
 returns-3 c =
-    let kind-row = c .before .before .before .before .before .before .before .before .before .kind-row in
-    let if1 = c .before .before .before .before .before .before .before .if1 in
-    let spare = c .before .before .before .before .before .spare in
-    let spare2 = c .before .before .before .before .spare2 in
-    let if2 = c .before .before .before .if2 in
-    rw (← kind-row .ensures, ne-eqb _ _ (if1 .left), ← spare .ensures, ← spare2 .ensures, if2 .left)
-    (ap (λ (b : Bool). faultIf b 4) (sym (c .if3 .taken)))
+    let kind-row = c .before .before .before .before .before .before .before .before .kind-row in
+    let if1 = c .before .before .before .before .before .before .if1 in
+    let spare = c .before .before .before .before .spare in
+    let spare2 = c .before .before .before .spare2 in
+    rw (← kind-row .ensures, ne-eqb _ _ (if1 .left), ← spare .ensures, ← spare2 .ensures, c .before .before .if2 .left, ← c .before .absent .ensures, c .if3 .taken)
 
 returns-4 : tie.Need-returns-4
 unfolding nodeFault
 returns-4 c =
-    let kind-row = c .before .before .before .before .before .before .before .before .before .kind-row in
-    let if1 = c .before .before .before .before .before .before .before .if1 in
-    let spare = c .before .before .before .before .before .spare in
-    let spare2 = c .before .before .before .before .spare2 in
-    let if2 = c .before .before .before .if2 in
-    rw (← kind-row .ensures, ne-eqb _ _ (if1 .left), ← spare .ensures, ← spare2 .ensures, if2 .left)
-    (ap (λ (b : Bool). faultIf b 4) (sym (c .if3 .left)))
+    let kind-row = c .before .before .before .before .before .before .before .before .kind-row in
+    let if1 = c .before .before .before .before .before .before .if1 in
+    let spare = c .before .before .before .before .spare in
+    let spare2 = c .before .before .before .spare2 in
+    rw (← kind-row .ensures, ne-eqb _ _ (if1 .left), ← spare .ensures, ← spare2 .ensures, c .before .before .if2 .left, ← c .before .absent .ensures, c .if3 .left)
 
 pub fault-of-spec : {M : Type 1} → statement M
 fault-of-spec =
@@ -51,5 +44,6 @@ fault-of-spec =
     (λ c κs. search needs)
     (λ c κs. search needs)
     returns-2
+    (λ c κs. search needs)
     returns-3
     returns-4)

@@ -14,10 +14,10 @@ use Rattle.program.proofs.first_clash.Statement.{statement}
 use Rattle.program.proofs.first_clash.Tie as tie
 
 abbrev Inv-loop : tie.InvT-loop
-Inv-loop program ends count i second x₀ x = (x ≤ 16) × (conflict x (stmtAt program (i + 1)) (stmtAt program second) ≡ false)
+Inv-loop program ends count i second x₀ x = (x ≤ 20) × (conflict x (stmtAt program (i + 1)) (stmtAt program second) ≡ false)
 
 abbrev μ-loop : tie.MeasureT-loop
-μ-loop program ends count i second x₀ x = 16 - x
+μ-loop program ends count i second x₀ x = 20 - x
 
 abbrev Inv-nodes : tie.InvT-nodes
 Inv-nodes program ends count i₀ i = Searched (conflictFault program) (nodeCount program) i
@@ -69,7 +69,7 @@ nodes-again c =
     let if1 = c .before .before .before .if1 in
     let next = c .before .before .next in
     let pre = start .pre in
-    let e : loop .x ≡ 16 = omega (arith, loop .inv .0, c .loop-test .left) in
+    let e : loop .x ≡ 20 = omega (arith, loop .inv .0, c .loop-test .left) in
     let s = now (args .program) in
     fault-next (nodes .inv) (nodes-test .taken)
     (clash-par _ _ (nodes-test .taken) _ (read-node .ensures) (if1 .taken) _
@@ -94,7 +94,7 @@ returns c =
     c .refused .ensures
     ∙ fault-here (nodes .inv) 8 (w .0 .taken) (omega arith)
     (clash-par _ _ (w .0 .taken) _ (w .1 .ensures) (w .3 .taken) _ (past-trees _ _ _ (pre .1 .each _) _ (w .4 .ensures)) true
-    (clash-here _ _ 16 _ (w .6 .taken) (sym (ap₂ _||_ (w .7 .ensures) (w .8 .ensures)) ∙ w .9 .taken))))
+    (clash-here _ _ 20 _ (w .6 .taken) (sym (ap₂ _||_ (w .7 .ensures) (w .8 .ensures)) ∙ w .9 .taken))))
     (c .before .before .nodes-test .came)
 
 returns-2 : tie.Need-returns-2 Inv-loop μ-loop Inv-nodes μ-nodes

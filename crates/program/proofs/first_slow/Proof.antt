@@ -10,10 +10,10 @@ use Rattle.program.proofs.first_slow.Statement.{statement}
 use Rattle.program.proofs.first_slow.Tie as tie
 
 abbrev Inv-loop : tie.InvT-loop
-Inv-loop operators program times count i₀ i = Searched (delayFault (timeIn operators) program) (nodeCount program) i
+Inv-loop operators program times ends count i₀ i = Searched (delayFault (timeIn operators) program) (nodeCount program) i
 
 abbrev μ-loop : tie.MeasureT-loop
-μ-loop operators program times count i₀ i = count - i
+μ-loop operators program times ends count i₀ i = count - i
 
 loop-holds : tie.Need-loop-holds Inv-loop μ-loop
 loop-holds c = searched-none _ _
@@ -21,7 +21,7 @@ loop-holds c = searched-none _ _
 least-at-requires : tie.Need-least-at-requires Inv-loop μ-loop
 least-at-requires c κs =
     let pre = c .before .before .before .before .before .before .pre in
-    (pre .0, c .before .before .loop-test .taken, λ l. pre .1 _ l)
+    (pre .0, c .before .before .loop-test .taken, pre .1)
 
 refused-requires : tie.Need-refused-requires Inv-loop μ-loop
 refused-requires c κs = tt

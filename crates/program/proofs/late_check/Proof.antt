@@ -8,7 +8,7 @@ use Rattle.program.proofs.late_check.Tie as tie
 first-slow-requires : tie.Need-first-slow-requires
 first-slow-requires c κs =
     let pre = c .before .before .pre in
-    (pre .0 .short, λ j l. pre .1 j l .timed)
+    (pre .0 .short, pre .1)
 
 first-clash-requires : tie.Need-first-clash-requires
 first-clash-requires c κs =

@@ -5,11 +5,12 @@ use borrow.Fn.Kinds.{In}
 use borrow.Fn.PlainCycle.{Measures, is, falls, and}
 use Rattle.model.specs.Program.{nodeCount}
 use Rattle.program.specs.Ends.{past-later}
-use Rattle.rules.proofs.Nodes.{eval-none, eval-stmt, eval-const, eval-var, eval-compl, eval-op}
+use Rattle.rules.proofs.Nodes.{eval-none, eval-stmt, eval-const, eval-var, eval-compl, eval-elem, eval-op}
 use Rattle.rules.proofs.eval_at.Reads as eval-reads
 use Rattle.rules.proofs.eval_at.Kinds as eval-kinds
 use Rattle.program.proofs.next.Reads as next
 use Rattle.program.proofs.read_node.Reads as read-node
+use Rattle.rules.proofs.element_word.Reads as element-word
 use Rattle.rules.proofs.word_of.Reads as word-of
 use Rattle.word.proofs.operate.Reads as operate
 use Rattle.rules.proofs.+eval_at.Lts-eval_at as lts
@@ -36,6 +37,8 @@ module _ (t : ℕ) where
     eval-reads.Post,
     operate.Asked,
     operate.Learnt,
+    element-word.Asked,
+    element-word.Learnt,
     next.Asked,
     next.Learnt,
   )
@@ -57,14 +60,17 @@ module _ (t : ℕ) where
       let read-node = c .before .before .read-node in
       eval-const _ _ _ (if1 .left) _ (read-node .ensures) (c .if3 .taken)
 
+  cast-word-of : lts.Need-cast-word-of calls (eval-here t) eval-reads.Post
+  cast-word-of c = omega arith
+
   word-of-requires : lts.Need-word-of-requires calls (eval-here t) eval-reads.Post
   word-of-requires c κs = tt
 
   returns-4 : lts.Need-returns-4 calls (eval-here t) eval-reads.Post
   returns-4 c =
-      let if1 = c .before .before .before .before .before .if1 in
-      let read-node = c .before .before .before .before .read-node in
-      eval-var _ _ _ (if1 .left) _ (read-node .ensures) (c .before .if4 .taken) _ (c .word-of .ensures)
+      let if1 = c .before .before .before .before .before .before .if1 in
+      let read-node = c .before .before .before .before .before .read-node in
+      eval-var _ _ _ (if1 .left) _ (read-node .ensures) (c .before .before .if4 .taken) _ (c .word-of .ensures)
 
   add-eval-at : lts.Need-add-eval-at calls (eval-here t) eval-reads.Post
   add-eval-at c = omega arith
@@ -84,40 +90,55 @@ module _ (t : ℕ) where
       let eval-at = c .before .before .eval-at in
       eval-compl _ _ _ (if1 .left) _ (read-node .ensures) (c .before .if5 .taken) _ _ (eval-at .ensures) (c .operate .ensures)
 
-  add-next : lts.Need-add-next calls (eval-here t) eval-reads.Post
-  add-next c = omega arith
+  element-word-requires : lts.Need-element-word-requires calls (eval-here t) eval-reads.Post
+  element-word-requires c κs = tt
 
-  next-requires : lts.Need-next-requires calls (eval-here t) eval-reads.Post
-  next-requires c κs =
-      let pre = c .before .before .before .before .before .before .before .before .pre in
-      omega (arith, pre .1 .short)
-
-  eval-at-requires-2 : lts.Need-eval-at-requires-2 calls (eval-here t) eval-reads.Post
-  eval-at-requires-2 c κs =
-      let pre = c .before .before .before .before .before .before .before .before .before .pre in
-      (omega (arith, pre .0, past-later _ _ _ (pre .1 .each _) _ (c .next .ensures)), pre .1)
-
-  operate-requires-2 : lts.Need-operate-requires-2 calls (eval-here t) eval-reads.Post
-  operate-requires-2 c κs = tt
+  word-of-requires-2 : lts.Need-word-of-requires-2 calls (eval-here t) eval-reads.Post
+  word-of-requires-2 c κs = tt
 
   returns-6 : lts.Need-returns-6 calls (eval-here t) eval-reads.Post
   returns-6 c =
       let if1 = c .before .before .before .before .before .before .before .before .before .if1 in
       let read-node = c .before .before .before .before .before .before .before .before .read-node in
       let eval-at = c .before .before .before .before .eval-at in
-      let pre = c .before .before .before .before .before .before .before .before .before .before .before .pre in
-      let if3 = c .before .before .before .before .before .before .if3 in
-      let if4 = c .before .before .before .before .before .if4 in
-      let if5 = c .before .before .before .if5 in
+      let if6 = c .before .before .if6 in
+      eval-elem _ _ _ (if1 .left) _ (read-node .ensures) (if6 .taken) _ _ _ (eval-at .ensures) (c .before .element-word .ensures) (c .word-of2 .ensures)
+
+  add-next : lts.Need-add-next calls (eval-here t) eval-reads.Post
+  add-next c = omega arith
+
+  next-requires : lts.Need-next-requires calls (eval-here t) eval-reads.Post
+  next-requires c κs =
+      let pre = c .before .before .before .before .before .before .before .before .before .pre in
+      omega (arith, pre .1 .short)
+
+  eval-at-requires-2 : lts.Need-eval-at-requires-2 calls (eval-here t) eval-reads.Post
+  eval-at-requires-2 c κs =
+      let pre = c .before .before .before .before .before .before .before .before .before .before .pre in
+      (omega (arith, pre .0, past-later _ _ _ (pre .1 .each _) _ (c .next .ensures)), pre .1)
+
+  operate-requires-2 : lts.Need-operate-requires-2 calls (eval-here t) eval-reads.Post
+  operate-requires-2 c κs = tt
+
+  returns-7 : lts.Need-returns-7 calls (eval-here t) eval-reads.Post
+  returns-7 c =
+      let if1 = c .before .before .before .before .before .before .before .before .before .before .if1 in
+      let read-node = c .before .before .before .before .before .before .before .before .before .read-node in
+      let eval-at = c .before .before .before .before .before .eval-at in
+      let pre = c .before .before .before .before .before .before .before .before .before .before .before .before .pre in
+      let if3 = c .before .before .before .before .before .before .before .if3 in
+      let if4 = c .before .before .before .before .before .before .if4 in
+      let if5 = c .before .before .before .before .if5 in
+      let if6 = c .before .before .before .if6 in
       let next = c .before .before .next in
       eval-op _ _ _ (record { laid = pre .1; here = if1 .left; node = read-node .ensures; next = next .ensures })
-      (omega arith) (if3 .left) (if4 .left) (if5 .left) _ _ _ (eval-at .ensures) (c .before .eval-at2 .ensures) (c .operate2 .ensures)
+      (omega arith) (if3 .left) (if4 .left) (if5 .left) (if6 .left) _ _ _ (eval-at .ensures) (c .before .eval-at2 .ensures) (c .operate2 .ensures)
 
   eval-closed : {M : Type 1} → lts.Closed calls (eval-here t) eval-reads.Post M
   eval-closed =
       lts.spec calls (eval-here t) eval-reads.Post
-      returns read-node-requires returns-2 returns-3 word-of-requires returns-4 add-eval-at eval-at-requires operate-requires returns-5
-      add-next next-requires eval-at-requires-2 operate-requires-2 returns-6
+      returns read-node-requires returns-2 returns-3 cast-word-of word-of-requires returns-4 add-eval-at eval-at-requires operate-requires
+      returns-5 element-word-requires word-of-requires-2 returns-6 add-next next-requires eval-at-requires-2 operate-requires-2 returns-7
 
 pub +eval-at-spec : {M : Type 1} → statement M
 +eval-at-spec = close eval-falls (λ t. eval-closed t)

@@ -1,4 +1,5 @@
 -- An assignment: the value, the word put, and d + 1 instants.
+use native.Mathlib.Omega.{arith}
 use borrow.Author.Needs.{needs}
 use Rattle.rules.proofs.Parts.{assign-low}
 use Rattle.rules.proofs.Runs.{run-assign}
@@ -9,7 +10,7 @@ eval-at-requires : tie.Need-eval-at-requires
 eval-at-requires c κs = c .before .pre .0 .laid
 
 with-word-requires : tie.Need-with-word-requires
-with-word-requires c κs = assign-low (c .before .before .pre .0)
+with-word-requires c κs = omega (arith, assign-low (c .before .before .pre .0))
 
 returns : tie.Need-returns
 returns c = run-assign _ _ _ _ _ _ _ _ (c .before .before .eval-at .ensures) (c .before .with-word .ensures) (c .pause .ensures)

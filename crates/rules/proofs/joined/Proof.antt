@@ -8,10 +8,10 @@ use Rattle.rules.proofs.joined.Statement.{statement}
 use Rattle.rules.proofs.joined.Tie as tie
 
 abbrev Inv-loop : tie.InvT-loop
-Inv-loop start a b words₀ x₀ words x = Filled words (joins (storeOf start) (storeOf a) (storeOf b)) x
+Inv-loop start a b words₀ x₀ words x = Filled 272 words (joins (storeOf start) (storeOf a) (storeOf b)) x
 
 abbrev μ-loop : tie.MeasureT-loop
-μ-loop start a b words₀ x₀ words x = 16 - x
+μ-loop start a b words₀ x₀ words x = 272 - x
 
 loop-holds : tie.Need-loop-holds Inv-loop μ-loop
 loop-holds c = (refl, omega arith, λ x l. absurd (omega arith))
@@ -22,13 +22,13 @@ word-joined-requires c κs = tt
 loop-again : tie.Need-loop-again Inv-loop μ-loop
 loop-again c =
     let loop = c .before .before .loop in
-    filled-more (loop .words) _ _ _ (loop .inv) (c .before .loop-test .taken) (joins-at _ _ _ _ _ (c .word-joined .ensures))
+    filled-more 272 (loop .words) _ _ _ (loop .inv) (c .before .loop-test .taken) (joins-at _ _ _ _ _ (c .word-joined .ensures))
 
 returns : tie.Need-returns Inv-loop μ-loop
 returns c =
     let loop = c .before .loop in
-    let e : loop .x ≡ 16 = omega arith in
-    filled-joins _ _ _ _ (omega arith) (omega arith) (omega arith) (rw e at (loop .inv))
+    let e : loop .x ≡ 272 = omega arith in
+    filled-joins 272 _ _ _ _ (omega arith) (omega arith) (omega arith) (rw e at (loop .inv))
 
 pub joined-spec : {M : Type 1} → statement M
 joined-spec =

@@ -8,14 +8,14 @@ use Prim.Native.Nat.{ℕ, zero, suc, _<_}
 use native.Mathlib.Nat.{not-suc-le-zero, le-of-suc-le-suc, eq-or-lt-of-le}
 use native.Mathlib.Omega.{arith}
 use lib.Dec.{eqb, eqb→eq, eqb-refl}
-use lib.ListN.{length, getD}
+use lib.ListN.{length}
 use Rattle.model.specs.Word.{pick}
 use Rattle.model.specs.declared.Cell.{Cell}
-use Rattle.model.specs.Circuit.{Values, startWord, noCell, Obeys}
+use Rattle.model.specs.Circuit.{Values, cellAt, element, startWord, Obeys}
 use Rattle.laws.specs.Numbering.Cells.{cellVal}
 use Rattle.laws.specs.Refusals.Laws.{is-true, is-false}
-use Rattle.theory.specs.Circuit.Unique.{Before, cell-cong}
-use Rattle.laws.specs.Circuit.Ordered.{kinds, Ordered}
+use Rattle.theory.specs.Circuit.Unique.{feeds, Before, cell-cong}
+use Rattle.laws.specs.Circuit.Ordered.{Ordered}
 
 -- the values, with v for that of cell k at instant t
 put : Values → ℕ → ℕ → ℕ → Values
@@ -39,7 +39,7 @@ module _ (net : List Cell) (words : ℕ → ℕ) where
   fill W t zero = W
   fill W t (suc j) =
       let r = fill W t j in
-      put r j t (cellVal (startWord net words j) r j (getD net j noCell) t)
+      put r j t (cellVal (startWord net words j) (element net words r) r j (cellAt net j) t)
 
   -- the instants below t worked out
   table : ℕ → Values
@@ -53,14 +53,14 @@ module _ (net : List Cell) (words : ℕ → ℕ) where
   fill-time : (W : Values) (t j k u : ℕ) → u ≢ t → fill W t j k u ≡ W k u
   unfolding fill
   fill-time W t zero k u n = refl
-  fill-time W t (suc j) k u n = put-time (fill W t j) j t (cellVal (startWord net words j) (fill W t j) j (getD net j noCell) t) k u n ∙ fill-time W t j k u n
+  fill-time W t (suc j) k u n = put-time (fill W t j) j t (cellVal (startWord net words j) (element net words (fill W t j)) (fill W t j) j (cellAt net j) t) k u n ∙ fill-time W t j k u n
 
   fill-cell : (W : Values) (t j k : ℕ) → k < j
-      → fill W t j k t ≡ cellVal (startWord net words k) (fill W t k) k (getD net k noCell) t
+      → fill W t j k t ≡ cellVal (startWord net words k) (element net words (fill W t k)) (fill W t k) k (cellAt net k) t
   unfolding fill
   fill-cell W t zero k l = absurd (not-suc-le-zero l)
   fill-cell W t (suc j) k l =
-      let v = cellVal (startWord net words j) (fill W t j) j (getD net j noCell) t in
+      let v = cellVal (startWord net words j) (element net words (fill W t j)) (fill W t j) j (cellAt net j) t in
       ⊎-elim (λ (e : k ≡ j). rw e (put-same (fill W t j) j t v))
       (λ (lt : k < j). put-cell (fill W t j) j t v k (omega arith) ∙ fill-cell W t j k lt) (eq-or-lt-of-le (le-of-suc-le-suc l))
 
@@ -72,7 +72,7 @@ module _ (net : List Cell) (words : ℕ → ℕ) where
       (λ (lt : u < t). fill-time (table t) t (length net) k u (omega arith) ∙ table-time t k u lt) (eq-or-lt-of-le (le-of-suc-le-suc l))
 
   -- the cells below k at instant t, with all before, are those of the solution
-  so-far : (t k : ℕ) → k < length net → Before (length net) (fill (table t) t k) solution t k
+  so-far : (t k : ℕ) → k < length net → Before net words (fill (table t) t k) solution t k
   unfolding solution
   so-far t k l = (
     (λ u lu j lj. fill-time (table t) t k j u (omega arith) ∙ table-time t j u lu),
@@ -80,7 +80,7 @@ module _ (net : List Cell) (words : ℕ → ℕ) where
   )
 
   pub solution-obeys : Ordered net → Obeys net words solution
-  unfolding Obeys Ordered solution table cellVal
+  unfolding Obeys solution table cellVal
   solution-obeys o k l t =
       fill-cell (table t) t (length net) k l
-      ∙ cell-cong (length net) (fill (table t) t k) solution (kinds net) (startWord net words k) k (getD net k noCell) t l (o k l) (so-far t k l)
+      ∙ cell-cong net words (fill (table t) t k) solution (feeds net o) (startWord net words k) k (cellAt net k) t l (o .looks k l) (so-far t k l)

@@ -1,31 +1,56 @@
--- Two sets of values that obey one netlist are equal, if its cells look only at lower cells and at the past.
+-- Two sets of values that obey one netlist are equal, and so are their arrays' words, if its cells look only at lower cells and at the past.
 use mathlib.Core.Path.{_≡_, refl, sym, ap, ap₂, _∙_}
 use mathlib.Core.Bool.{Bool, true, false, _&&_, _||_, not}
 use mathlib.Core.List.{List}
 use mathlib.Core.Logic.{⊎-elim}
-use Prim.Native.Nat.{ℕ, zero, suc, _-_, _<_, _≤_}
+use Prim.Native.Nat.{ℕ, zero, suc, _+_, _-_, _<_, _≤_}
 use native.Mathlib.Nat.{not-suc-le-zero, le-of-suc-le-suc, eq-or-lt-of-le, le-refl}
 use native.Mathlib.Omega.{arith}
 use lib.Dec.{eqb, leb, leb→le}
-use lib.ListN.{length, getD}
+use lib.ListN.{length}
+use borrow.Author.Tests.{eqb-true}
 use Rattle.laws.specs.Circuit.Ordered.{Looks, kinds, Ordered}
-use Rattle.model.specs.Word.{pick}
-use Rattle.model.specs.Circuit.{delayed, merged}
-use Rattle.model.specs.Circuit.{mergeStep, heldBefore}
-use Rattle.model.specs.Word.{operate}
+use Rattle.model.specs.Word.{pick, bit, operate, index}
 use Rattle.model.specs.declared.Cell.{Cell}
-use Rattle.model.specs.Circuit.{Values, level, memory, Shape, cellTable, shape, cellRow, equation, startWord, noCell, Obeys}
-use Rattle.model.specs.Word.{bit}
+use Rattle.model.specs.Circuit.{cellAt, arrayAt, delayed, merged, mergeStep, heldBefore, Values, level, memory, element, Shape, cellTable, shape, cellRow, equation, startWord, Obeys}
 use Rattle.laws.specs.Numbering.Cells.{cellVal}
-use Rattle.model.specs.Circuit.{kConstant, kComplement, kOperator, kStart, kGround, kDelay, kOr, kWhenTrue, kWhenFalse, kMerge, kMemory, kGated, kUnknown}
+use Rattle.model.specs.Circuit.{kConstant, kComplement, kOperator, kStart, kGround, kDelay, kOr, kWhenTrue, kWhenFalse, kMerge, kMemory, kGated, kArray, kAddress, kRead, kUnknown}
 
-module _ (n : ℕ) (U W : Values) where
+-- what the words of an array look at, if its kind 42 is cell j: clock, data and address
+abbrev pub Feeds : List Cell → ℕ → Type 0
+Feeds net j = (cellAt net j .a < j) × (cellAt net j .b < length net) × (cellAt net (j + 1) .a < length net)
+
+-- the inputs of a 42 and of a 43, by their rows
+module _ (K : ℕ → ℕ) (n j : ℕ) (c : Cell) (kind : ℕ) where
+  array-inputs : kind ≡ 42 → Looks (cellRow kind) K n j c → (c .a < j) × (c .b < n)
+  unfolding shape cellTable
+  array-inputs q o =
+      let h : Looks (cellRow 42) K n j c = rw q at o in
+      (h .1 .0, h .2 .0)
+
+  address-input : kind ≡ 43 → Looks (cellRow kind) K n j c → c .a < n
+  unfolding shape cellTable
+  address-input q o =
+      let h : Looks (cellRow 43) K n j c = rw q at o in
+      h .1 .0
+
+pub feeds : (net : List Cell) → Ordered net → (j : ℕ) → j < length net → cellAt net j .kind ≡ 42 → Feeds net j
+feeds net o j l q =
+    let r = array-inputs (kinds net) (length net) j (cellAt net j) (cellAt net j .kind) q (o .looks j l) in
+    let s = o .stands j l q in
+    let p = o .arrays (cellAt net j .delay) (s .0) in
+    let e : arrayAt net (cellAt net j .delay) + 1 ≡ j + 1 = ap (λ (m : ℕ). m + 1) (sym (s .1)) in
+    let b : j + 1 < length net = rw e at (p .0) in
+    let k : cellAt net (j + 1) .kind ≡ 43 = rw e at (p .3) in
+    (r .0, r .1, address-input (kinds net) (length net) (j + 1) (cellAt net (j + 1)) (cellAt net (j + 1) .kind) k (o .looks (j + 1) b))
+
+module _ (net : List Cell) (words : ℕ → ℕ) (U W : Values) where
   -- equal at every cell before instant t, and at the cells below k at t
   abbrev pub Before : ℕ → ℕ → Type 0
-  Before t k = ((u : ℕ) → u < t → (j : ℕ) → j < n → U j u ≡ W j u) × ((j : ℕ) → j < k → U j t ≡ W j t)
+  Before t k = ((u : ℕ) → u < t → (j : ℕ) → j < length net → U j u ≡ W j u) × ((j : ℕ) → j < k → U j t ≡ W j t)
 
   -- a cell below k that is equal up to and with instant t
-  upto : (t k : ℕ) → k < n → Before t k → (j : ℕ) → j < k → (u : ℕ) → u ≤ t → U j u ≡ W j u
+  upto : (t k : ℕ) → k < length net → Before t k → (j : ℕ) → j < k → (u : ℕ) → u ≤ t → U j u ≡ W j u
   upto t k l h j lj u lu =
       ⊎-elim (λ (e : u ≡ t). rw e (h .1 j lj)) (λ (lt : u < t). h .0 u lt j (omega arith)) (eq-or-lt-of-le lu)
 
@@ -58,7 +83,7 @@ module _ (n : ℕ) (U W : Values) where
           ap (λ (v : ℕ). pick (leb d t) (eqb v 1) false) (h (t - d) (omega arith))
       go false e = rw e
 
-  mem-cong : (first t k : ℕ) (c : Cell) → k < n → c .a < k → c .b < n → Before t k → memory first U k c t ≡ memory first W k c t
+  mem-cong : (first t k : ℕ) (c : Cell) → k < length net → c .a < k → c .b < length net → Before t k → memory first U k c t ≡ memory first W k c t
   unfolding memory
   mem-cong first zero k c l la lb h = refl
   mem-cong first (suc t) k c l la lb h =
@@ -68,39 +93,61 @@ module _ (n : ℕ) (U W : Values) where
       let e₄ : U k t ≡ W k t = h .0 t (le-refl (suc t)) k l in
       rw (e₁, e₂, e₃, e₄)
 
-  pub shape-cong : (K : ℕ → ℕ) (s : Shape) (first k : ℕ) (c : Cell) (t : ℕ) → k < n → Looks (cellTable s .row) K n k c → Before t k
-      → equation s first U k c t ≡ equation s first W k c t
-  unfolding equation cellTable
-  shape-cong K kConstant first k c t l o h = refl
-  shape-cong K kComplement first k c t l o h = ap (λ (x : ℕ). operate 3 x 0) (h .1 (c .a) (o .1 .0))
-  shape-cong K kOperator first k c t l o h = ap₂ (λ (x y : ℕ). operate (c .kind) x y) (h .1 (c .a) (o .1 .0)) (h .1 (c .b) (o .2 .0))
-  shape-cong K kStart first k c t l o h = refl
-  shape-cong K kGround first k c t l o h = refl
-  shape-cong K kDelay first k c t l o h = ap bit (delayed-here (c .delay) (c .a) t (o .0 .0) (λ u lu. h .0 u lu (c .a) (o .1 .0)))
-  shape-cong K kOr first k c t l o h = ap₂ (λ (x y : ℕ). bit (eqb x 1 || eqb y 1)) (h .1 (c .a) (o .1 .0)) (h .1 (c .b) (o .2 .0))
-  shape-cong K kWhenTrue first k c t l o h = ap₂ (λ (x y : ℕ). bit (eqb x 1 && not (eqb y 0))) (h .1 (c .a) (o .1 .0)) (h .1 (c .b) (o .2 .0))
-  shape-cong K kWhenFalse first k c t l o h = ap₂ (λ (x y : ℕ). bit (eqb x 1 && eqb y 0)) (h .1 (c .a) (o .1 .0)) (h .1 (c .b) (o .2 .0))
-  shape-cong K kMerge first k c t l o h =
-      ap bit (merged-cong (c .a) (c .b) t (upto t k l h (c .a) (o .1 .0)) (upto t k l h (c .b) (o .2 .0)))
-  shape-cong K kMemory first k c t l o h = mem-cong first t k c l (o .1 .0) (o .2 .0) h
-  shape-cong K kGated first k c t l o h = ap₂ (λ (x y : ℕ). pick (eqb x 1) y 0) (h .1 (c .a) (o .1 .0)) (h .1 (c .b) (o .2 .0))
-  shape-cong K kUnknown first k c t l o h = refl
+  element-cong : (j i t : ℕ) → Feeds net j → j ≤ length net → ((u : ℕ) → u < t → (m : ℕ) → m < length net → U m u ≡ W m u)
+      → ((m : ℕ) → m < j → U m t ≡ W m t) → element net words U j i t ≡ element net words W j i t
+  unfolding element
+  element-cong j i zero f l past below = refl
+  element-cong j i (suc t) f l past below =
+      let e : (m : ℕ) → m < length net → U m t ≡ W m t = past t (le-refl (suc t)) in
+      rw (
+        e (cellAt net j .a) (omega (arith, f .0)),
+        below (cellAt net j .a) (f .0),
+        e (cellAt net j .b) (f .1),
+        e (cellAt net (j + 1) .a) (f .2),
+        element-cong j i t f l (λ u lu. past u (omega arith)) (λ m lm. e m (omega arith)),
+      )
 
-  pub cell-cong : (K : ℕ → ℕ) (first k : ℕ) (c : Cell) (t : ℕ) → k < n → Looks (cellRow (c .kind)) K n k c → Before t k
-      → cellVal first U k c t ≡ cellVal first W k c t
-  unfolding cellVal
-  cell-cong K first k c t l o h = shape-cong K (shape (c .kind)) first k c t l o h
+  module _ (fed : (j : ℕ) → j < length net → cellAt net j .kind ≡ 42 → Feeds net j) where
+    pub shape-cong : (s : Shape) (first k : ℕ) (c : Cell) (t : ℕ) → k < length net → Looks (cellTable s .row) (kinds net) (length net) k c → Before t k
+        → equation s first (element net words U) U k c t ≡ equation s first (element net words W) W k c t
+    unfolding equation cellTable
+    shape-cong kConstant first k c t l o h = refl
+    shape-cong kComplement first k c t l o h = ap (λ (x : ℕ). operate 3 x 0) (h .1 (c .a) (o .1 .0))
+    shape-cong kOperator first k c t l o h = ap₂ (λ (x y : ℕ). operate (c .kind) x y) (h .1 (c .a) (o .1 .0)) (h .1 (c .b) (o .2 .0))
+    shape-cong kStart first k c t l o h = refl
+    shape-cong kGround first k c t l o h = refl
+    shape-cong kDelay first k c t l o h = ap bit (delayed-here (c .delay) (c .a) t (o .0 .0) (λ u lu. h .0 u lu (c .a) (o .1 .0)))
+    shape-cong kOr first k c t l o h = ap₂ (λ (x y : ℕ). bit (eqb x 1 || eqb y 1)) (h .1 (c .a) (o .1 .0)) (h .1 (c .b) (o .2 .0))
+    shape-cong kWhenTrue first k c t l o h = ap₂ (λ (x y : ℕ). bit (eqb x 1 && not (eqb y 0))) (h .1 (c .a) (o .1 .0)) (h .1 (c .b) (o .2 .0))
+    shape-cong kWhenFalse first k c t l o h = ap₂ (λ (x y : ℕ). bit (eqb x 1 && eqb y 0)) (h .1 (c .a) (o .1 .0)) (h .1 (c .b) (o .2 .0))
+    shape-cong kMerge first k c t l o h =
+        ap bit (merged-cong (c .a) (c .b) t (upto t k l h (c .a) (o .1 .0)) (upto t k l h (c .b) (o .2 .0)))
+    shape-cong kMemory first k c t l o h = mem-cong first t k c l (o .1 .0) (o .2 .0) h
+    shape-cong kGated first k c t l o h = ap₂ (λ (x y : ℕ). pick (eqb x 1) y 0) (h .1 (c .a) (o .1 .0)) (h .1 (c .b) (o .2 .0))
+    shape-cong kArray first k c t l o h = refl
+    shape-cong kAddress first k c t l o h = refl
+    shape-cong kRead first k c t l o h =
+        let below : c .a < k = o .1 .0 in
+        ap (λ (x : ℕ). element net words U (c .a) (index x) t) (h .1 (c .b) (o .2 .0))
+        ∙ element-cong (c .a) (index (W (c .b) t)) t (fed (c .a) (omega arith) (eqb-true _ _ (o .1 .1))) (omega arith) (h .0)
+        (λ m lm. h .1 m (omega arith))
+    shape-cong kUnknown first k c t l o h = refl
+
+    pub cell-cong : (first k : ℕ) (c : Cell) (t : ℕ) → k < length net → Looks (cellRow (c .kind)) (kinds net) (length net) k c → Before t k
+        → cellVal first (element net words U) U k c t ≡ cellVal first (element net words W) W k c t
+    unfolding cellVal
+    cell-cong first k c t l o h = shape-cong (shape (c .kind)) first k c t l o h
 
 module _ (net : List Cell) (o : Ordered net) (words : ℕ → ℕ) (U W : Values) (hV : Obeys net words U) (hW : Obeys net words W) where
   -- at instant t, if they are equal before
   row : (t : ℕ) → ((u : ℕ) → u < t → (j : ℕ) → j < length net → U j u ≡ W j u) → (k : ℕ) → k ≤ length net → (j : ℕ) → j < k → U j t ≡ W j t
-  unfolding Obeys Ordered cellVal
+  unfolding Obeys cellVal
   row t h zero l j lj = absurd (not-suc-le-zero lj)
   row t h (suc k) l j lj =
       let ih = row t h k (omega arith) in
       ⊎-elim (λ (e : j ≡ k).
       rw e
-      (hV k l t ∙ cell-cong (length net) U W (kinds net) (startWord net words k) k (getD net k noCell) t l (o k l) (h, ih) ∙ sym (hW k l t)))
+      (hV k l t ∙ cell-cong net words U W (feeds net o) (startWord net words k) k (cellAt net k) t l (o .looks k l) (h, ih) ∙ sym (hW k l t)))
       (λ (lt : j < k). ih j lt) (eq-or-lt-of-le (le-of-suc-le-suc lj))
 
   rows : (t : ℕ) (u : ℕ) → u < t → (j : ℕ) → j < length net → U j u ≡ W j u
@@ -111,3 +158,8 @@ module _ (net : List Cell) (o : Ordered net) (words : ℕ → ℕ) (U W : Values
 
   pub unique : (k : ℕ) → k < length net → (t : ℕ) → U k t ≡ W k t
   unique k l t = rows (suc t) t (le-refl (suc t)) k l
+
+  -- and so are the words of an array, whose kind 42 is cell j
+  pub unique-elements : (j i t : ℕ) → j < length net → cellAt net j .kind ≡ 42 → element net words U j i t ≡ element net words W j i t
+  unique-elements j i t l q =
+      element-cong net words U W j i t (feeds net o j l q) (omega arith) (λ u lu m lm. unique m lm u) (λ m lm. unique m (omega arith) t)

@@ -1,5 +1,5 @@
--- What a part owns: its variables, and the bodies that it reaches; when these bodies are at rest, and what it is that a part's own follows only what the
--- part and its bodies give. Assumes nothing.
+-- What a part owns: its variables, arrays among them, and the bodies that it reaches; when these bodies are at rest, and what it is that a part's own
+-- follows only what the part and its bodies give. Assumes nothing.
 use Prim.Native.Nat.{ℕ, zero, suc, _+_, _-_, _≤_, _<_}
 use mathlib.Core.Path.{_≡_, sym, _∙_, ap, subst}
 use mathlib.Core.Bool.{Bool, true, false, _||_, or-false}
@@ -9,9 +9,10 @@ use Rattle.laws.specs.Refusals.Laws.{by-bool, by-le}
 use Rattle.theory.specs.Control.Widths.{gap}
 use Rattle.theory.specs.Control.Signal.{Quiet}
 use Rattle.model.specs.Program.{Stmt, touches}
-use Rattle.theory.specs.Control.Wiring.{Gives, Joined, latch, Mem}
+use Rattle.model.specs.Rules.{owner}
+use Rattle.theory.specs.Control.Wiring.{Gives, Joined, hits, latch, Latches, Mem}
 use Rattle.theory.specs.Control.World.{World, means, each-of}
-use Rattle.theory.specs.Control.Memories.{Dull, Latches, Follow, keep}
+use Rattle.theory.specs.Control.Memories.{Dull, Follow, keep}
 use Rattle.theory.specs.Control.Calm.{Calm, Sofar, calm-sofar}
 use Rattle.theory.specs.Control.Rest.{Rests, rest}
 
@@ -79,9 +80,9 @@ pub record Follows (W : World) (U : Owned) (g : Gives) (a b : ℕ) : Type 0 wher
   -- no clock from these: no clock
   pub low : (x : ℕ) → U .vars x → (t : ℕ) → a ≤ t → t ≤ b → g .clk x t ≡ false → ((r : ℕ) → U .procs r → W .each r .clk x t ≡ false)
       → W .all .clk x t ≡ false
-  -- a clock from the part alone is the clock, and brings its word
+  -- a clock from the part alone is the clock, and brings its word and address
   pub own : (x : ℕ) → U .vars x → (t : ℕ) → a ≤ t → t ≤ b → g .clk x t ≡ true → ((r : ℕ) → U .procs r → W .each r .clk x t ≡ false)
-      → (W .all .clk x t ≡ true) × (W .all .dat x t ≡ g .dat x t)
+      → (W .all .clk x t ≡ true) × (W .all .dat x t ≡ g .dat x t) × (W .all .adr x t ≡ g .adr x t)
 
 -- on a part of the interval
 pub within : (W : World) (U : Owned) (g : Gives) (a b a′ b′ : ℕ) → a ≤ a′ → b′ ≤ b → Follows W U g a b → Follows W U g a′ b′
@@ -91,26 +92,28 @@ within W U g a b a′ b′ o o′ F =
       own = λ x u t l h. F .own x u t (omega arith) (omega arith);
     }
 
--- where U's bodies clock nothing, the variables follow the part alone
+-- where U's bodies clock nothing, the words of its variables follow the part alone
 pub alone : (W : World) (U : Owned) (g : Gives) (a b : ℕ) → Follows W U g a b
     → ((q : ℕ) → U .procs q → (x t : ℕ) → a ≤ t → t ≤ b → W .each q .clk x t ≡ false) → Follow W (U .vars) g a b
 unfolding Mem latch
 alone W U g a b F z x i t l h =
-    let k : Latches W (W .all) x t = W .mem t x in
-    let now : W .all .clk x (suc t) ≡ g .clk x (suc t) =
-    by-bool (g .clk x (suc t))
-    (λ y. F .own x i (suc t) (omega arith) (omega arith) y (λ r v. z r v x (suc t) (omega arith) (omega arith)) .0 ∙ sym y)
-    (λ y. F .low x i (suc t) (omega arith) (omega arith) y (λ r v. z r v x (suc t) (omega arith) (omega arith)) ∙ sym y) in
-    by-bool (g .clk x t)
+    let k : Latches (W .m) (W .all) x t = W .mem t x in
+    let v = owner x in
+    let now : W .all .clk v (suc t) ≡ g .clk v (suc t) =
+    by-bool (g .clk v (suc t))
+    (λ y. F .own v i (suc t) (omega arith) (omega arith) y (λ r u. z r u v (suc t) (omega arith) (omega arith)) .0 ∙ sym y)
+    (λ y. F .low v i (suc t) (omega arith) (omega arith) y (λ r u. z r u v (suc t) (omega arith) (omega arith)) ∙ sym y) in
+    by-bool (g .clk v t)
     (λ y.
-    let c = F .own x i t l (omega arith) y (λ r v. z r v x t l (omega arith)) in
-    let e : W .all .clk x t ≡ g .clk x t = c .0 ∙ sym y in
+    let c = F .own v i t l (omega arith) y (λ r u. z r u v t l (omega arith)) in
+    let e : W .all .clk v t ≡ g .clk v t = c .0 ∙ sym y in
     let d = c .1 in
+    let a = c .2 in
     cc)
     (λ y.
-    let e : W .all .clk x t ≡ false = F .low x i t l (omega arith) y (λ r v. z r v x t l (omega arith)) in
-    k ∙ ap (λ (p : Bool). latch p (W .all .clk x (suc t)) (W .all .dat x t) (W .m t x)) e
-    ∙ sym (ap (λ (p : Bool). latch p (g .clk x (suc t)) (g .dat x t) (W .m t x)) y))
+    let e : W .all .clk v t ≡ false = F .low v i t l (omega arith) y (λ r u. z r u v t l (omega arith)) in
+    k ∙ ap (λ (p : Bool). latch p (W .all .clk v (suc t)) (hits x (W .all .adr v t)) (W .all .dat v t) (W .m t x)) e
+    ∙ sym (ap (λ (p : Bool). latch p (g .clk v (suc t)) (hits x (g .adr v t)) (g .dat v t) (W .m t x)) y))
 
 -- The half of a joined pair whose other half is quiet where it matters; the bodies of U that are not of U′ are mute there
 module _ (W : World) (U U′ : Owned) (g₁ g₂ g : Gives) (j : Joined g₁ g₂ g) (inY : (q : ℕ) → U′ .procs q → U .procs q) where
@@ -127,7 +130,10 @@ module _ (W : World) (U U′ : Owned) (g₁ g₂ g : Gives) (j : Joined g₁ g�
     half-clk x u t l h = j .clocks x t ∙ ap (λ (c : Bool). g₁ .clk x t || c) (off x u t l (omega arith)) ∙ or-false _
 
     half-dat : (x : ℕ) → U′ .vars x → (t : ℕ) → a ≤ t → t ≤ b → g .dat x t ≡ g₁ .dat x t
-    half-dat x u t l h = j .words x t ∙ ap (λ (n : ℕ). bitOr (g₁ .dat x t) n) (dull x t (off x u t l (omega arith))) ∙ or-zero-r _
+    half-dat x u t l h = j .words x t ∙ ap (λ (n : ℕ). bitOr (g₁ .dat x t) n) (dull x t (off x u t l (omega arith)) .0) ∙ or-zero-r _
+
+    half-adr : (x : ℕ) → U′ .vars x → (t : ℕ) → a ≤ t → t ≤ b → g .adr x t ≡ g₁ .adr x t
+    half-adr x u t l h = j .addresses x t ∙ ap (λ (n : ℕ). bitOr (g₁ .adr x t) n) (dull x t (off x u t l (omega arith)) .1) ∙ or-zero-r _
 
     pub follows-left : Follows W U′ g₁ a b
     follows-left =
@@ -135,7 +141,7 @@ module _ (W : World) (U U′ : Owned) (g₁ g₂ g : Gives) (j : Joined g₁ g�
           low = λ x u t l h e z. F .low x (inU x u) t l h (half-clk x u t l h ∙ e) (λ r i. mute x u t r i (λ i′. z r i′));
           own = λ x u t l h e z.
               let k = F .own x (inU x u) t l h (half-clk x u t l h ∙ e) (λ r i. mute x u t r i (λ i′. z r i′)) in
-              (k .0, k .1 ∙ half-dat x u t l h);
+              (k .0, k .1 ∙ half-dat x u t l h, k .2 ∙ half-adr x u t l h);
         }
 
 -- the same, with the same own
@@ -191,13 +197,13 @@ module _ (W : World) (U : Owned) (g : Gives) (a b e : ℕ) (o : b ≤ e) (S : Se
       (λ z. calm-sofar W (W .bodies q) (W .all .calls q) (W .ret q) (W .each q) (W .built q) b (pause-rests z q v .calm))
       (λ z. S .sofar q v b (omega arith) o)
 
-  -- and its variables follow the part alone
+  -- and its variables' words follow the part alone
   pub pause-follow : Follows W U g a b → Follow W (U .vars) g a b
   pause-follow F = alone W U g a b F (λ q v x t l h. pause-low q v x t l h)
 
   -- so that its words stay if it clocks nothing either
-  pub pause-words : a ≤ b → Follows W U g a b → ((x : ℕ) → Quiet (g .clk x) a b) → (x : ℕ) → U .vars x → W .m b x ≡ W .m a x
-  pause-words l F z x i = keep W (U .vars) g a b l (pause-follow F) x i (z x)
+  pub pause-words : a ≤ b → Follows W U g a b → ((x : ℕ) → Quiet (g .clk x) a b) → (x : ℕ) → U .vars (owner x) → W .m b x ≡ W .m a x
+  pause-words l F z x i = keep W (U .vars) g a b l (pause-follow F) x i (z (owner x))
 
 -- and if it goes on to call nothing until a gap after c, they are settled at c
 pub pause : (W : World) (U : Owned) (g : Gives) (a c e : ℕ) → a ≤ c → Settled W (U .procs) a e

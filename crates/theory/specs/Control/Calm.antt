@@ -7,14 +7,14 @@ use native.Mathlib.Omega.{arith}
 use lib.Dec.{eqb}
 use lib.Bits.{bitOr}
 use Rattle.model.specs.Word.{pick}
-use Rattle.model.specs.Program.{Expr, Stmt, ok, tick, assign, seq, par, ite, while, repeat, writes}
+use Rattle.model.specs.Program.{Expr, Stmt, ok, tick, assign, assignElem, seq, par, ite, while, repeat, arrayVar, writes}
 use Rattle.model.specs.Circuit.{Sig, delayed}
 use Rattle.laws.specs.Refusals.Laws.{or-false}
 use Rattle.theory.specs.Control.Widths.{gap, widened}
 use Rattle.theory.specs.Control.Signal.{Quiet, Clear}
 use Rattle.theory.specs.Control.Merge.{Empty, empty-zero}
 use Rattle.theory.specs.Control.History.{Stable, Spaced}
-use Rattle.theory.specs.Control.Wiring.{Memory, either, Reading, ideal, Gives, Joined, Assigned, Circuit, Known, Test, Each}
+use Rattle.theory.specs.Control.Wiring.{Memory, either, Reading, ideal, Gives, Joined, Assigned, Circuit, Known, Test, Delays, Each}
 use Rattle.theory.specs.Control.World.{World, Built, means}
 use Rattle.theory.specs.Control.Memories.{Dull}
 
@@ -60,12 +60,15 @@ module _ (K K′ : Known) (h : Gains K K′) (w : ℕ) (R : Reading) where
   test-map : (d : ℕ) (e : Expr) (s : Sig) → Test K d e s → Test K′ d e s
   test-map d e s p = (h .delay d s (p .0), h .line d s (p .1), h .word d e s (p .2))
 
+  delays-map : (d : ℕ) (e : Expr) (s : Sig) → Delays K w d e s → Delays K′ w d e s
+  delays-map d e s p = (test-map d e s (p .0), (h .delay w (delayed d s) (p .1 .0), h .line w (delayed d s) (p .1 .1)))
+
   each-map : (P : Stmt) (s f : Sig) (g : Gives) (n : Circuit w R P s f g) → Each K w R P s f g n → Each K′ w R P s f g n
   unfolding Circuit Each
   each-map ok s f g n p = tt
   each-map (tick d) s f g n p = (h .delay d s (p .0), h .line d s (p .1))
-  each-map (assign d x e) s f g n p =
-      (test-map d e s (p .0), (h .delay w (delayed d s) (p .1 .0), h .line w (delayed d s) (p .1 .1)))
+  each-map (assign d x e) s f g n p = delays-map d e s p
+  each-map (assignElem d k i e) s f g n p = (delays-map d e s (p .0), h .word d i s (p .1))
   each-map (seq P Q) s f g n p = (each-map P s (n .mid) (n .g₁) (n .left) (p .0), each-map Q (n .mid) f (n .g₂) (n .right) (p .1))
   each-map (par P Q) s f g n p =
       (h .merge (n .f₁) (n .f₂) (p .0), each-map P s (n .f₁) (n .g₁) (n .left) (p .1), each-map Q s (n .f₂) (n .g₂) (n .right) (p .2))
@@ -84,6 +87,7 @@ unfolding Circuit Each
 each-nothing w R ok s f g n = tt
 each-nothing w R (tick d) s f g n = (tt, tt)
 each-nothing w R (assign d x e) s f g n = ((tt, tt, tt), (tt, tt))
+each-nothing w R (assignElem d k i e) s f g n = (((tt, tt, tt), (tt, tt)), tt)
 each-nothing w R (seq P Q) s f g n = (each-nothing w R P s (n .mid) (n .g₁) (n .left), each-nothing w R Q (n .mid) f (n .g₂) (n .right))
 each-nothing w R (par P Q) s f g n = (tt, each-nothing w R P s (n .f₁) (n .g₁) (n .left), each-nothing w R Q s (n .f₂) (n .g₂) (n .right))
 each-nothing w R (ite d e P Q) s f g n =
@@ -124,16 +128,21 @@ sofar-less W P s f g n c c′ o p =
 joined-dull : (g₁ g₂ g : Gives) → Joined g₁ g₂ g → Dull g₁ → Dull g₂ → Dull g
 joined-dull g₁ g₂ g j p q x t e =
     let k = or-false (g₁ .clk x t) (g₂ .clk x t) (sym (j .clocks x t) ∙ e) in
-    j .words x t ∙ ap₂ bitOr (p x t (k .0)) (q x t (k .1))
+    let a = p x t (k .0) in
+    let b = q x t (k .1) in
+    (j .words x t ∙ ap₂ bitOr (a .0) (b .0), j .addresses x t ∙ ap₂ bitOr (a .1) (b .1))
 
-assigned-dull : (w : ℕ) (R : Reading) (d y : ℕ) (e : Expr) (s f : Sig) (g : Gives) → Assigned w R d y e s f g → Dull g
-assigned-dull w R d y e s f g n x t z = go (eqb x y) (delayed d s t) (n .clocks x t) (n .words x t)
+assigned-dull : (w : ℕ) (R : Reading) (d y : ℕ) (a : ℕ → ℕ) (e : Expr) (s f : Sig) (g : Gives) → Assigned w R d y a e s f g → Dull g
+assigned-dull w R d y a e s f g n x t z = (
+  go (g .dat x t) (R e t) (eqb x y) (delayed d s t) (n .clocks x t) (n .words x t),
+  go (g .adr x t) (a t) (eqb x y) (delayed d s t) (n .clocks x t) (n .addresses x t),
+)
   where
-    go : (p q : Bool) → g .clk x t ≡ pick p q false → g .dat x t ≡ pick p (pick q (R e t) 0) 0 → g .dat x t ≡ 0
-    go true true k v = cc
-    go true false k v = v
-    go false true k v = v
-    go false false k v = v
+    go : (u v : ℕ) (p q : Bool) → g .clk x t ≡ pick p q false → u ≡ pick p (pick q v 0) 0 → u ≡ 0
+    go u v true true k h = cc
+    go u v true false k h = h
+    go u v false true k h = h
+    go u v false false k h = h
 
 -- two clocks joined, where two variables' tests joined are false
 both-low : {a b c p q : Bool} → c ≡ (a || b) → (p ≡ false → a ≡ false) → (q ≡ false → b ≡ false) → (p || q) ≡ false → c ≡ false
@@ -151,12 +160,13 @@ joined-keeps g₁ g₂ g j p q =
     record { inside = λ t. j .out t ∙ ap₂ _||_ (p .inside t) (q .inside t); uncalled = λ x t. j .called x t ∙ ap₂ _||_ (p .uncalled x t) (q .uncalled x t) }
 
 module _ (w : ℕ) (R : Reading) where
-  -- a word is 0 where its clock is low
+  -- data and address are 0 where the clock is low
   dull : (P : Stmt) (s f : Sig) (g : Gives) → Circuit w R P s f g → Dull g
   unfolding Circuit
-  dull ok s f g n = λ x t e. n .words x t
-  dull (tick d) s f g n = λ x t e. n .words x t
-  dull (assign d y e) s f g n = assigned-dull w R d y e s f g n
+  dull ok s f g n = λ x t e. (n .words x t, n .addresses x t)
+  dull (tick d) s f g n = λ x t e. (n .words x t, n .addresses x t)
+  dull (assign d y e) s f g n = assigned-dull w R d y (λ t. 0) e s f g n
+  dull (assignElem d k i e) s f g n = assigned-dull w R d (arrayVar k) (R i) e s f g n
   dull (seq P Q) s f g n = joined-dull (n .g₁) (n .g₂) g (n .joined) (dull P s (n .mid) (n .g₁) (n .left)) (dull Q (n .mid) f (n .g₂) (n .right))
   dull (par P Q) s f g n = joined-dull (n .g₁) (n .g₂) g (n .joined) (dull P s (n .f₁) (n .g₁) (n .left)) (dull Q s (n .f₂) (n .g₂) (n .right))
   dull (ite d e P Q) s f g n =
@@ -169,6 +179,7 @@ module _ (w : ℕ) (R : Reading) where
   keeps ok s f g n = record { inside = n .out; uncalled = n .called }
   keeps (tick d) s f g n = record { inside = n .out; uncalled = n .called }
   keeps (assign d y e) s f g n = record { inside = n .out; uncalled = n .called }
+  keeps (assignElem d k i e) s f g n = record { inside = n .out; uncalled = n .called }
   keeps (seq P Q) s f g n = joined-keeps (n .g₁) (n .g₂) g (n .joined) (keeps P s (n .mid) (n .g₁) (n .left)) (keeps Q (n .mid) f (n .g₂) (n .right))
   keeps (par P Q) s f g n = joined-keeps (n .g₁) (n .g₂) g (n .joined) (keeps P s (n .f₁) (n .g₁) (n .left)) (keeps Q s (n .f₂) (n .g₂) (n .right))
   keeps (ite d e P Q) s f g n =
@@ -182,6 +193,7 @@ module _ (w : ℕ) (R : Reading) where
   unwritten k ok s f g n x z t = n .clocks x t
   unwritten k (tick d) s f g n x z t = n .clocks x t
   unwritten k (assign d y e) s f g n x z t = n .clocks x t ∙ ap (λ (b : Bool). pick b (delayed d s t) false) z
+  unwritten k (assignElem d j i e) s f g n x z t = n .clocks x t ∙ ap (λ (b : Bool). pick b (delayed d s t) false) z
   unwritten k (seq P Q) s f g n x z t =
       both-low (n .joined .clocks x t) (λ p. unwritten k P s (n .mid) (n .g₁) (n .left) x p t)
       (λ q. unwritten k Q (n .mid) f (n .g₂) (n .right) x q t) z

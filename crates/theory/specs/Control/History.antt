@@ -5,6 +5,7 @@ use mathlib.Core.Path.{_≡_, sym, _∙_}
 use mathlib.Core.Bool.{true, false}
 use native.Mathlib.Omega.{arith}
 use Rattle.model.specs.Program.{Expr, reads}
+use Rattle.model.specs.Rules.{owner}
 use Rattle.model.specs.Circuit.{Sig, delayed}
 use Rattle.laws.specs.Refusals.Laws.{by-le, not-both}
 use Rattle.theory.specs.Control.Wiring.{Memory}
@@ -15,7 +16,7 @@ use Rattle.theory.specs.Control.Pulses.{Pulse}
 
 -- the words that e reads are the same on all of [u, t]
 abbrev pub Held : Memory → Expr → ℕ → ℕ → Type 0
-Held m e u t = (x : ℕ) → reads e x ≡ true → (v : ℕ) → u ≤ v → v ≤ t → m v x ≡ m t x
+Held m e u t = (x : ℕ) → reads e (owner x) ≡ true → (v : ℕ) → u ≤ v → v ≤ t → m v x ≡ m t x
 
 -- "the whole of [start, start + d]": each pulse that has left a delay of d before instant c found the words that e reads held since it entered
 abbrev pub Stable : Memory → ℕ → Expr → Sig → ℕ → Type 0
@@ -29,7 +30,7 @@ stable-off m d e p a c h q u t o k y =
 -- a pulse that enters from a on: what entered before has left by a + w, and the words stay until the pulse has left
 pub stable-turn : (w : ℕ) (m : Memory) (d : ℕ) (e : Expr) (p : Sig) (a b : ℕ) (σ : ℕ → ℕ) → ((b′ : ℕ) → b′ ≤ a + w → b′ ≤ b → Stable m d e p b′)
     → ((t : ℕ) → t < a → a + w ≤ t + d → p t ≡ false) → ((t : ℕ) → a + w ≤ t → t + d < b → p t ≡ false)
-    → (a + d < b → (x : ℕ) → reads e x ≡ true → (v : ℕ) → a ≤ v → v < a + d + w → v < b → m v x ≡ σ x) → Stable m d e p b
+    → (a + d < b → (x : ℕ) → reads e (owner x) ≡ true → (v : ℕ) → a ≤ v → v < a + d + w → v < b → m v x ≡ σ x) → Stable m d e p b
 stable-turn w m d e p a b σ old before after words u t o k y =
     by-le (a + w) t
     (λ l.
@@ -66,7 +67,7 @@ pub spaced-on : (w d : ℕ) (s : Sig) (a e : ℕ) → Spaced w d s a → Clear d
 spaced-on w d s a e h c p = spaced-turn w d s a e h (λ t l k. c t l (omega arith)) (p .low)
 
 pub stable-on : (w : ℕ) (m : Memory) (d : ℕ) (e : Expr) (s : Sig) (a b : ℕ) (σ : ℕ → ℕ) → Stable m d e s a → Clear d s a → Pulse w s a b
-    → (a + d < b → (x : ℕ) → reads e x ≡ true → (v : ℕ) → a ≤ v → v < a + d + w → v < b → m v x ≡ σ x) → Stable m d e s b
+    → (a + d < b → (x : ℕ) → reads e (owner x) ≡ true → (v : ℕ) → a ≤ v → v < a + d + w → v < b → m v x ≡ σ x) → Stable m d e s b
 stable-on w m d e s a b σ h c p words u t o k y =
     by-le a u
     (λ i.

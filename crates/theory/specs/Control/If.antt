@@ -5,9 +5,10 @@ use mathlib.Core.Bool.{Bool, true, false, not, _&&_, _||_, or-comm}
 use native.Mathlib.Omega.{arith}
 use Rattle.model.specs.Word.{isZero}
 use Rattle.model.specs.Program.{Expr, Stmt, ite, reads, touches}
-use Rattle.model.specs.Rules.{Store, eval}
+use Rattle.model.specs.Rules.{Store, owner, eval}
 use Rattle.model.specs.Circuit.{Sig, delayed}
 use Rattle.laws.specs.Refusals.Laws.{by-bool, by-le, not-both}
+use Rattle.laws.specs.Program.Fit.{FormedExpr}
 use Rattle.laws.specs.Rules.Laws.{wait-still, ite-then, ite-else}
 use Rattle.theory.specs.Control.Widths.{gap, widened}
 use Rattle.theory.specs.Control.Ways.{comes-is, comes-at, wait-comes}
@@ -25,8 +26,9 @@ use Rattle.theory.specs.Control.Runs.{Begins, free, Going, Does, RunOf, 
 use Rattle.theory.specs.Control.Tests.{Waits, waited, test-words, test-is}
 use Rattle.theory.specs.Control.Sides.{branch}
 
-module _ (W : World) (d : ℕ) (e : Expr) (P Q : Stmt) (timedP : Paced W P) (timedQ : Paced W Q) (doesP : RunOf W P) (doesQ : RunOf W Q)
-    (U : Owned) (σ : Store) (s f : Sig) (g : Gives) (n : Ite (ideal (W .m)) d e (Built W P) (Built W Q) s f g) where
+module _ (W : World) (d : ℕ) (e : Expr) (formed : FormedExpr e) (P Q : Stmt) (timedP : Paced W P) (timedQ : Paced W Q)
+    (doesP : RunOf W P) (doesQ : RunOf W Q) (U : Owned) (σ : Store) (s f : Sig) (g : Gives)
+    (n : Ite (ideal (W .m)) d e (Built W P) (Built W Q) s f g) where
   abbrev K₁ : ℕ → Type 0
   K₁ = Calm W P (n .s₁) (n .f₁) (n .g₁) (n .left)
 
@@ -123,22 +125,25 @@ module _ (W : World) (d : ℕ) (e : Expr) (P Q : Stmt) (timedP : Paced W P) (tim
             uncalled = λ q t l k k′. ite-uncalled q t (omega arith) k;
             firm = λ k l l₁ l₂ q x.
                 let D : Firm (delayed d s) (a + d) k = pulse-firm k (omega arith) (omega arith) ite-pulse in
-                let z = test-same W e (U .vars) (a + d) k (ite-uses .0) q in
+                let z = test-same W e formed (U .vars) (a + d) k (ite-uses .0) q in
                 let r =
                 surge W P timedP (n .s₁) (n .f₁) (n .g₁) (n .left) (a + d) k (rest₁ .calm) l (omega arith)
                 (gated-firm (delayed d s) (n .s₁) (λ t. not (isZero (eval e (W .m t)))) (a + d) k (λ t l h. n .yes₁ t) D (λ t l h. ap not (z t l h)))
-                (λ y r. q y (ite-owns .0 .mine y r)) in
+                (λ y r. q y (ite-owns .0 .mine (owner y) r)) in
                 let r′ =
                 surge W Q timedQ (n .s₂) (n .f₂) (n .g₂) (n .right) (a + d) k (rest₂ .calm) l (omega arith)
                 (gated-firm (delayed d s) (n .s₂) (λ t. isZero (eval e (W .m t))) (a + d) k (λ t l h. n .no₂ t) D z)
-                (λ y r. q y (ite-owns .1 .mine y r)) in
+                (λ y r. q y (ite-owns .1 .mine (owner y) r)) in
                 either-firm (n .g₁ .clk x) (n .g₂ .clk x) (g .clk x) (a + d) (suc k) (n .joined .clocks x) (r .clocks x) (r′ .clocks x);
           }
+
+      ite-test : (t : ℕ) → a + d ≤ t → t < a + d + W .w → t < j → isZero (eval e (W .m t)) ≡ isZero (eval e σ)
+      ite-test = test-is ite-waits e formed (ite-uses .0)
 
       ite-used : (b : ℕ) → b ≤ j → Stable (W .m) d e s b
       ite-used b o₁ =
           stable-on (W .w) (W .m) d e s a b σ (B .ready .calm .0 .2) (B .ready .calm .0 .0) (pulse-less o₁ (B .pulse))
-          (λ k x r v l k₁ k₂. test-words ite-waits e (ite-uses .0) x r v l k₁ (omega arith))
+          (λ k x r v l k₁ k₂. test-words ite-waits e formed (ite-uses .0) x r v l k₁ (omega arith))
 
       -- what is known of the delay, at the end and so far
       ite-calm : c + gap (W .w) ≤ j → Test (calmly (W .w) (W .m) j) d e s
@@ -161,11 +166,11 @@ module _ (W : World) (d : ℕ) (e : Expr) (P Q : Stmt) (timedP : Paced W P) (tim
           a c j u d h o o′ (B .ready .calm .1) (B .ready .calm .2) (λ t l k. ite-off₁ t (ite-before t l k))
           (record {
             high = λ t l k k′.
-                n .yes₁ t ∙ ap₂ (λ (p q : Bool). p && not q) (ite-pulse .high t l k (omega arith)) (test-is ite-waits e (ite-uses .0) t l k k′ ∙ z);
+                n .yes₁ t ∙ ap₂ (λ (p q : Bool). p && not q) (ite-pulse .high t l k (omega arith)) (ite-test t l k k′ ∙ z);
             low = λ t l k. ite-off₁ t (ite-pulse .low t l (omega arith));
           })
           (ite-off (n .s₂) ite-off₂
-          (λ t l k k′. n .no₂ t ∙ ap₂ (λ (p q : Bool). p && q) (ite-pulse .high t l k (omega arith)) (test-is ite-waits e (ite-uses .0) t l k k′ ∙ z)))
+          (λ t l k k′. n .no₂ t ∙ ap₂ (λ (p q : Bool). p && q) (ite-pulse .high t l k (omega arith)) (ite-test t l k k′ ∙ z)))
           (ite-owns .0) (waited ite-waits)
 
       else-branch : isZero (eval e σ) ≡ true → Does W U (goes W (u - d) Q σ) (λ t. K₂ t × K₁ t) (λ t. L₂ t × L₁ t) f g a c j (u - d)
@@ -175,11 +180,11 @@ module _ (W : World) (d : ℕ) (e : Expr) (P Q : Stmt) (timedP : Paced W P) (tim
           a c j u d h o o′ (B .ready .calm .2) (B .ready .calm .1) (λ t l k. ite-off₂ t (ite-before t l k))
           (record {
             high = λ t l k k′.
-                n .no₂ t ∙ ap₂ (λ (p q : Bool). p && q) (ite-pulse .high t l k (omega arith)) (test-is ite-waits e (ite-uses .0) t l k k′ ∙ z);
+                n .no₂ t ∙ ap₂ (λ (p q : Bool). p && q) (ite-pulse .high t l k (omega arith)) (ite-test t l k k′ ∙ z);
             low = λ t l k. ite-off₂ t (ite-pulse .low t l (omega arith));
           })
           (ite-off (n .s₁) ite-off₁
-          (λ t l k k′. n .yes₁ t ∙ ap₂ (λ (p q : Bool). p && not q) (ite-pulse .high t l k (omega arith)) (test-is ite-waits e (ite-uses .0) t l k k′ ∙ z)))
+          (λ t l k k′. n .yes₁ t ∙ ap₂ (λ (p q : Bool). p && not q) (ite-pulse .high t l k (omega arith)) (ite-test t l k k′ ∙ z)))
           (ite-owns .1) (waited ite-waits)
 
     ite-does : Does W U (goes W u (ite d e P Q) σ) K L f g a c j u
@@ -211,6 +216,7 @@ module _ (W : World) (d : ℕ) (e : Expr) (P Q : Stmt) (timedP : Paced W P) (tim
               (then-branch (v .1) z .ends way σ′ (comes-at (goes W (u - d) P σ) q (v .2))));
         }
 
-pub run-ite : (W : World) (d : ℕ) (e : Expr) (P Q : Stmt) → Paced W P → Paced W Q → RunOf W P → RunOf W Q → ShortOf W (ite d e P Q)
+pub run-ite : (W : World) (d : ℕ) (e : Expr) → FormedExpr e → (P Q : Stmt) → Paced W P → Paced W Q → RunOf W P → RunOf W Q → ShortOf W (ite d e P Q)
 unfolding Circuit Each
-run-ite W d e P Q timedP timedQ doesP doesQ U σ s f g n a c j u h o k B = ite-does W d e P Q timedP timedQ doesP doesQ U σ s f g n a c j u h o B
+run-ite W d e formed P Q timedP timedQ doesP doesQ U σ s f g n a c j u h o k B =
+    ite-does W d e formed P Q timedP timedQ doesP doesQ U σ s f g n a c j u h o B

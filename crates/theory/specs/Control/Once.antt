@@ -1,4 +1,4 @@
--- The timing theorem for a program of today's: pulses of one instant, one start pulse, at instant 0, all variables, and no bodies to call.
+-- The timing theorem for a program of today's: pulses of one instant, one start pulse, at instant 0, all variables and arrays, and no bodies to call.
 -- Assumes nothing.
 use Prim.Native.Nat.{ℕ, suc, _+_, _≤_, _<_}
 use mathlib.Core.Path.{_≡_, refl, sym, _∙_, ap, subst}
@@ -10,7 +10,7 @@ use Rattle.model.specs.Program.{Stmt, ok}
 use Rattle.model.specs.Circuit.{Sig}
 use Rattle.model.specs.Rules.{Store, ended, run, endsAt}
 use Rattle.laws.specs.Refusals.Laws.{by-le, not-both}
-use Rattle.laws.specs.Program.Fit.{Timed, Separate}
+use Rattle.laws.specs.Program.Fit.{Formed, Timed, Separate}
 use Rattle.laws.specs.Rules.Laws.{by-run, steady}
 use Rattle.theory.specs.Control.Widths.{gap-least, timely-one, widened-one}
 use Rattle.theory.specs.Control.Ways.{atEnd, comes-end}
@@ -24,14 +24,14 @@ use Rattle.theory.specs.Control.Timing.{showsAt, finish-at, words-after}
 
 -- what a body gives that is never called
 abbrev none : Gives
-none = record { clk = λ x. ground; dat = λ x t. 0; calls = λ r. ground; out = ground }
+none = record { clk = λ x. ground; dat = λ x t. 0; adr = λ x t. 0; calls = λ r. ground; out = ground }
 
 ok-built : (R : Reading) (s : Sig) → Circuit 1 R ok s s none
 unfolding Circuit
-ok-built R s = record { fin = λ t. refl; clocks = λ x t. refl; words = λ x t. refl; called = λ r t. refl; out = λ t. refl }
+ok-built R s = record { fin = λ t. refl; clocks = λ x t. refl; words = λ x t. refl; addresses = λ x t. refl; called = λ r t. refl; out = λ t. refl }
 
 -- what a program gives is all that is given
-abbrev once : (m : Memory) (g : Gives) → Mem m (g .clk) (g .dat) → World
+abbrev once : (m : Memory) (g : Gives) → Mem m g → World
 once m g mem =
     record {
       w = 1;
@@ -67,8 +67,9 @@ pub record TimingOf (P : Stmt) (m : Memory) (f : Sig) (σ : Store) : Type 0 wher
 abbrev everything : Owned
 everything = record { vars = λ x. Unit {0}; procs = λ q. ⊥ }
 
-module _ (P : Stmt) (timed : Timed P) (separate : Separate P) (m : Memory) (s f : Sig) (g : Gives) (circuit : Circuit 1 (ideal m) P s f g)
-    (mem : Mem m (g .clk) (g .dat)) (pulse : s 0 ≡ true) (after : (t : ℕ) → 0 < t → s t ≡ false) (σ : Store) (words : (x : ℕ) → m 0 x ≡ σ x) where
+module _ (P : Stmt) (formed : Formed P) (timed : Timed P) (separate : Separate P) (m : Memory) (s f : Sig) (g : Gives)
+    (circuit : Circuit 1 (ideal m) P s f g) (mem : Mem m g) (pulse : s 0 ≡ true) (after : (t : ℕ) → 0 < t → s t ≡ false)
+    (σ : Store) (words : (x : ℕ) → m 0 x ≡ σ x) where
   abbrev W : World
   W = once m g mem
 
@@ -89,24 +90,25 @@ module _ (P : Stmt) (timed : Timed P) (separate : Separate P) (m : Memory) (s f 
       }
 
   follows : (e : ℕ) → Follows W everything g 0 e
-  follows e = record { low = λ x i t l h z v. z; own = λ x i t l h z v. (z, refl) }
+  follows e = record { low = λ x i t l h z v. z; own = λ x i t l h z v. (z, refl, refl) }
 
   same : (t : ℕ) → goes W t P σ ≡ run t P σ
   same t = ap (λ (Q : Stmt). run t Q σ) (widened-one P)
 
   pub timing : TimingOf P m f σ
   timing =
+      let paced = timely-one P formed timed in
       let separate₁ = subst Separate (sym (widened-one P)) separate in
       record {
         finish = λ t.
             let e = suc t in
             rw zero-add at
-            (finish-at W P (timely-one P timed) separate₁ everything σ s f g circuit 0 e (ready e) (begins e) (follows e) (λ t l h q v. absurd v) t
+            (finish-at W P paced separate₁ everything σ s f g circuit 0 e (ready e) (begins e) (follows e) (λ t l h q v. absurd v) t
             (omega arith))
             ∙ ap (showsAt 1 t) (same t) ∙ shows-one P timed σ t;
         words = λ t₀ σ′ p t x o.
             let e = suc t in
             rw zero-add at
-            (words-after W P (timely-one P timed) separate₁ everything σ s f g circuit 0 e (ready e) (begins e) (follows e) (λ t l h q v. absurd v) atEnd
+            (words-after W P paced separate₁ everything σ s f g circuit 0 e (ready e) (begins e) (follows e) (λ t l h q v. absurd v) atEnd
             t₀ σ′ (comes-end (same t₀ ∙ p)) t x o (omega arith) tt);
       }

@@ -5,13 +5,13 @@ use mathlib.Core.Bool.{Bool, true, false, _||_}
 use native.Mathlib.Omega.{arith}
 use Rattle.model.specs.Word.{pick}
 use Rattle.model.specs.Program.{Stmt, par, writes, touches}
-use Rattle.model.specs.Rules.{Store, over, kept, ended, run}
+use Rattle.model.specs.Rules.{Store, owner, over, kept, ended, run}
 use Rattle.model.specs.Circuit.{Sig}
 use Rattle.laws.specs.Refusals.Laws.{by-bool, by-le}
 use Rattle.laws.specs.Program.Fit.{Apart}
 use Rattle.laws.specs.Rules.Laws.{both-still}
 use Rattle.laws.specs.Rules.Uses.{leaves, writes-touches, apart-unwritten}
-use Rattle.theory.specs.Control.Widths.{gap, widened}
+use Rattle.theory.specs.Control.Widths.{gap, widened, widened-formed}
 use Rattle.theory.specs.Control.Ways.{atEnd, both-comes}
 use Rattle.theory.specs.Control.Pulses.{pulse-is, pulse-at, shows-pulse, shows-on, shows-off}
 use Rattle.theory.specs.Control.Merge.{Empty, empty-swap, merged-left, merged-right}
@@ -25,15 +25,15 @@ use Rattle.theory.specs.Control.Runs.{Words, Begins, free, Done, Does, R
 use Rattle.theory.specs.Control.Sides.{Own, Side, side}
 
 module _ (P Q : Stmt) (σ σ₁ σ₂ : Store) (x : ℕ) where
-  kept-left : writes P x ≡ true → kept P Q σ σ₁ σ₂ x ≡ σ₁ x
+  kept-left : writes P (owner x) ≡ true → kept P Q σ σ₁ σ₂ x ≡ σ₁ x
   unfolding kept over
-  kept-left p = ap (λ (b : Bool). pick b (σ₁ x) (pick (writes Q x) (σ₂ x) (σ x))) p
+  kept-left p = ap (λ (b : Bool). pick b (σ₁ x) (pick (writes Q (owner x)) (σ₂ x) (σ x))) p
 
-  kept-right : writes P x ≡ false → writes Q x ≡ true → kept P Q σ σ₁ σ₂ x ≡ σ₂ x
+  kept-right : writes P (owner x) ≡ false → writes Q (owner x) ≡ true → kept P Q σ σ₁ σ₂ x ≡ σ₂ x
   unfolding kept over
   kept-right p q = ap₂ (λ (b c : Bool). pick b (σ₁ x) (pick c (σ₂ x) (σ x))) p q
 
-  kept-neither : writes P x ≡ false → writes Q x ≡ false → kept P Q σ σ₁ σ₂ x ≡ σ x
+  kept-neither : writes P (owner x) ≡ false → writes Q (owner x) ≡ false → kept P Q σ σ₁ σ₂ x ≡ σ x
   unfolding kept over
   kept-neither p q = ap₂ (λ (b c : Bool). pick b (σ₁ x) (pick c (σ₂ x) (σ x))) p q
 
@@ -86,14 +86,15 @@ module _ (W : World) (P Q : Stmt) (timedP : Paced W P) (timedQ : Paced W Q) (apa
 
         par-words : Words W U (kept (means W P) (means W Q) σ σ₁ σ₂) c
         par-words x i =
-            by-bool (writes (means W Q) x)
+            by-bool (writes (means W Q) (owner x))
             (λ z.
-            let z′ : writes (means W P) x ≡ false = apart-unwritten (means W P) (means W Q) apartPQ x (writes-touches (means W Q) x z) in
+            let v = owner x in
+            let z′ : writes (means W P) v ≡ false = apart-unwritten (means W P) (means W Q) apartPQ v (writes-touches (means W Q) v z) in
             side₂ .last t₂ σ₂ (omega arith) p₂ .0 x (i, z′) ∙ sym (kept-right (means W P) (means W Q) σ σ₁ σ₂ x z′ z))
             (λ z.
             side₁ .last t₁ σ₁ (omega arith) p₁ .0 x (i, z)
-            ∙ by-bool (writes (means W P) x) (λ z′. sym (kept-left (means W P) (means W Q) σ σ₁ σ₂ x z′))
-            (λ z′. leaves (means W P) x z′ u t₁ σ σ₁ p₁ ∙ sym (kept-neither (means W P) (means W Q) σ σ₁ σ₂ x z′ z)))
+            ∙ by-bool (writes (means W P) (owner x)) (λ z′. sym (kept-left (means W P) (means W Q) σ σ₁ σ₂ x z′))
+            (λ z′. leaves (means W P) (widened-formed (W .w) P timedP) x z′ u t₁ σ σ₁ p₁ ∙ sym (kept-neither (means W P) (means W Q) σ σ₁ σ₂ x z′ z)))
 
         par-meets : Meets (W .w) (n .f₁) (n .f₂) a c e
         par-meets =

@@ -7,6 +7,7 @@ use Rattle.model.specs.Word.{isZero}
 use Rattle.model.specs.Program.{Expr, Stmt, repeat, reads, touches}
 use Rattle.model.specs.Circuit.{Sig, delayed}
 use Rattle.model.specs.Rules.{Store, run, repeats, eval}
+use Rattle.laws.specs.Program.Fit.{FormedExpr}
 use Rattle.laws.specs.Rules.Laws.{again, repeats-is, again-more, again-stop}
 use Rattle.theory.specs.Control.Widths.{gap, widened}
 use Rattle.theory.specs.Control.Signal.{Quiet, delayed-quiet}
@@ -20,8 +21,8 @@ use Rattle.theory.specs.Control.Rounds.{Starts}
 use Rattle.theory.specs.Control.Turns.{Loop, Laps, Turned, starts-does}
 
 -- a repeat goes round while its condition's word is zero
-module _ (W : World) (d : ℕ) (e : Expr) (P : Stmt) (long : gap (W .w) ≤ d) (timed : Paced W P) (does : RunOf W P) (U : Owned) (σ : Store)
-    (s f : Sig) (g : Gives) (n : Repeat (ideal (W .m)) d e (Built W P) s f g) where
+module _ (W : World) (d : ℕ) (e : Expr) (formed : FormedExpr e) (P : Stmt) (long : gap (W .w) ≤ d) (timed : Paced W P)
+    (does : RunOf W P) (U : Owned) (σ : Store) (s f : Sig) (g : Gives) (n : Repeat (ideal (W .m)) d e (Built W P) s f g) where
   abbrev K : ℕ → Type 0
   K t = Test (calmly (W .w) (W .m) t) d e (n .f₁) × Calm W P (n .s₁) (n .f₁) g (n .body) t
 
@@ -50,6 +51,7 @@ module _ (W : World) (d : ℕ) (e : Expr) (P : Stmt) (long : gap (W .w) ≤ d) (
             owns = record { mine = uses .1; reach = B .ready .owns .reach };
             off = λ t p q. n .begin t ∙ ap₂ (λ (c c′ : Bool). c || (c′ && isZero (eval e (W .m t)))) p q;
           };
+          formed = formed;
           reading = uses .0;
           begin = λ t p. n .begin t ∙ ap (λ (c : Bool). c || (delayed d (n .f₁) t && isZero (eval e (W .m t)))) p;
           fin = n .fin;
@@ -79,6 +81,6 @@ module _ (W : World) (d : ℕ) (e : Expr) (P : Stmt) (long : gap (W .w) ≤ d) (
     unfolding run widened repeat-loop
     repeat-does = starts-does repeat-loop repeat-laps (suc u) σ a c j u (omega arith) h o short repeat-starts repeat-turned
 
-pub run-repeat : (W : World) (d : ℕ) (e : Expr) (P : Stmt) → gap (W .w) ≤ d → Paced W P → RunOf W P → ShortOf W (repeat d e P)
+pub run-repeat : (W : World) (d : ℕ) (e : Expr) → FormedExpr e → (P : Stmt) → gap (W .w) ≤ d → Paced W P → RunOf W P → ShortOf W (repeat d e P)
 unfolding Circuit Each
-run-repeat W d e P long timed does U σ s f g n a c j u h o k B = repeat-does W d e P long timed does U σ s f g n a c j u h o k B
+run-repeat W d e formed P long timed does U σ s f g n a c j u h o k B = repeat-does W d e formed P long timed does U σ s f g n a c j u h o k B

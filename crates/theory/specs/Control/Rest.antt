@@ -5,14 +5,14 @@ use mathlib.Core.Bool.{Bool, true, false, not, _&&_, _||_}
 use native.Mathlib.Omega.{arith}
 use lib.Dec.{eqb}
 use Rattle.model.specs.Word.{pick, isZero}
-use Rattle.model.specs.Program.{Expr, Stmt, ok, tick, assign, seq, par, ite, while, repeat}
+use Rattle.model.specs.Program.{Expr, Stmt, ok, tick, assign, assignElem, seq, par, ite, while, repeat, arrayVar}
 use Rattle.model.specs.Circuit.{Sig, delayed}
 use Rattle.model.specs.Rules.{eval}
 use Rattle.theory.specs.Control.Widths.{turn-least}
 use Rattle.theory.specs.Control.Signal.{Quiet, Clear, creep, delayed-quiet, clear-later}
 use Rattle.theory.specs.Control.Merge.{merged-left, stays-empty}
 use Rattle.theory.specs.Control.History.{stable-off, spaced-off}
-use Rattle.theory.specs.Control.Wiring.{either, Gives, Joined, Circuit, Timer, Test, Each}
+use Rattle.theory.specs.Control.Wiring.{either, ideal, Gives, Assigned, Joined, Circuit, Timer, Test, Delays, Each}
 use Rattle.theory.specs.Control.World.{World, Built, Paced}
 use Rattle.theory.specs.Control.Calm.{Calm, calmly}
 
@@ -72,9 +72,11 @@ rest-tick W d s f g n a b k o q =
       called = λ x t l h. n .called x t;
     }
 
-rest-assign : (W : World) (d y : ℕ) (e : Expr) → 1 ≤ d → RestOf W (assign d y e)
-unfolding Circuit Each
-rest-assign W d y e pos s f g n a b k o q =
+-- an assignment of either kind
+rest-assigned : (W : World) (d y : ℕ) (r : ℕ → ℕ) (e : Expr) → 1 ≤ d → (s f : Sig) (g : Gives)
+    → Assigned (W .w) (ideal (W .m)) d y r e s f g → (a b : ℕ) → Delays (calmly (W .w) (W .m) a) (W .w) d e s → a ≤ b → Quiet s a b
+    → Rests f g (λ t. Delays (calmly (W .w) (W .m) t) (W .w) d e s) a b
+rest-assigned W d y r e pos s f g n a b k o q =
     let z : Quiet (delayed d s) a (b + d) = delayed-quiet d s a b (k .0 .0) q in
     let z′ : Quiet (delayed d s) a b = λ t l h. z t l (omega arith) in
     record {
@@ -88,6 +90,13 @@ rest-assign W d y e pos s f g n a b k o q =
     off : {c : Bool} (p q : Bool) → c ≡ pick p q false → q ≡ false → c ≡ false
     off true q k v = k ∙ v
     off false q k v = k
+
+rest-elem : (W : World) (d k : ℕ) (i e : Expr) → 1 ≤ d → RestOf W (assignElem d k i e)
+unfolding Circuit Each
+rest-elem W d k i e pos s f g n a b c o q =
+    let r = rest-assigned W d (arrayVar k) (ideal (W .m) i) e pos s f g n a b (c .0) o q in
+    let used = stable-off (W .m) d i s a b (c .1) (λ t l h. delayed-quiet d s a b (c .0 .0 .0) q t l (omega arith)) in
+    record { calm = (r .calm, used); fin = r .fin; out = r .out; clocks = r .clocks; called = r .called }
 
 rest-seq : (W : World) (P Q : Stmt) → RestOf W P → RestOf W Q → RestOf W (seq P Q)
 unfolding Circuit Each
@@ -188,9 +197,11 @@ rest-repeat W d e P pos hP s f g n a b k o q =
     }
 
 pub rest : (W : World) (P : Stmt) → Paced W P → RestOf W P
+unfolding Circuit Each
 rest W ok h = rest-ok W
 rest W (tick d) h = rest-tick W d
-rest W (assign d x e) h = rest-assign W d x e (h .0)
+rest W (assign d x e) h = rest-assigned W d x (λ t. 0) e (h .0)
+rest W (assignElem d k i e) h = rest-elem W d k i e (h .0)
 rest W (seq P Q) h = rest-seq W P Q (rest W P (h .0)) (rest W Q (h .1))
 rest W (par P Q) h = rest-par W P Q (rest W P (h .0)) (rest W Q (h .1))
 rest W (ite d e P Q) h = rest-ite W d e P Q (rest W P (h .2)) (rest W Q (h .3))

@@ -5,7 +5,7 @@ use mathlib.Core.Path.{_≡_, refl, _∙_, ap, subst}
 use mathlib.Core.Bool.{Bool, true, false}
 use native.Mathlib.Omega.{arith}
 use Rattle.model.specs.Program.{Stmt}
-use Rattle.model.specs.Rules.{Store, Run, still}
+use Rattle.model.specs.Rules.{Store, owner, Run, still}
 use Rattle.model.specs.Circuit.{Sig}
 use Rattle.laws.specs.Refusals.Laws.{by-le}
 use Rattle.theory.specs.Control.Signal.{Quiet, glue, creep}
@@ -22,13 +22,13 @@ use Rattle.theory.specs.Control.Bodies.{Owned, BodySofar, Owns, SilentAt
 
 -- The statement -------------------------------------------------------------------------------------------------------------------------
 
--- at a U's variables have the words σ
+-- at a U's variables, and the elements of its arrays, have the words σ
 abbrev pub Words : World → Owned → Store → ℕ → Type 0
-Words W U σ a = (x : ℕ) → U .vars x → W .m a x ≡ σ x
+Words W U σ a = (x : ℕ) → U .vars (owner x) → W .m a x ≡ σ x
 
--- in the w instants from c on, before e, U's variables stay
+-- in the w instants from c on, before e, their words stay
 abbrev pub Hold : World → Owned → ℕ → ℕ → Type 0
-Hold W U c e = (x : ℕ) → U .vars x → (t : ℕ) → c ≤ t → t < c + W .w → t < e → W .m t x ≡ W .m c x
+Hold W U c e = (x : ℕ) → U .vars (owner x) → (t : ℕ) → c ≤ t → t < c + W .w → t < e → W .m t x ≡ W .m c x
 
 -- from w instants after a to a gap after c, before e, only the part and U's bodies start U's bodies
 abbrev pub Silent : World → Owned → Gives → ℕ → ℕ → ℕ → Type 0
@@ -217,23 +217,24 @@ going-from {f = f} {g = g} {a = a} {a′ = a′} {c = c} p q G =
       bodies = G .bodies;
     }
 
--- While a part that has begun calls nothing, up to b, its variables follow it alone
-pub follow-to : {W : World} {P : Stmt} {U : Owned} {σ : Store} {K : ℕ → Type 0} {g : Gives} {a e : ℕ} (b c : ℕ) → b ≤ e → b ≤ c + gap (W .w)
-    → Ready W P U σ K a e → Silent W U g a c e → ((q : ℕ) → Quiet (g .calls q) (a + W .w) b) → Follows W U g a b → Follow W (U .vars) g a b
-follow-to {W = W} {U = U} {g = g} {a = a} {e = e} b c o o′ R S off F =
-    pause-follow W U g a b e o (R .settled) (λ t l k. S t l (omega arith) (omega arith)) off F
+-- While a part that has begun calls nothing, up to b, its words follow it alone
+pub follow-to : {W : World} {U : Owned} {g : Gives} {σ : Store} {a c e : ℕ} (b : ℕ) → b ≤ c → c < e → Free W U g σ a c e
+    → ((q : ℕ) → Quiet (g .calls q) (a + W .w) b) → Follow W (U .vars) g a b
+follow-to {W = W} {U = U} {g = g} {a = a} {c = c} {e = e} b o o′ F off =
+    pause-follow W U g a b e (omega arith) (F .settled) (λ t l k. F .silent t l (omega arith) (omega arith)) off
+    (within W U g a c a b (omega arith) o (F .follow))
 
 -- A part that is done at c and is seen to leave up to e: its words stay as far as what it owns follows it alone
 pub words-stay : {way : Way} {W : World} {U : Owned} {σ : Store} {K L : ℕ → Type 0} {f : Sig} {g : Gives} {a c e : ℕ} → Done way W U σ K L f g a c e
     → (b : ℕ) → c ≤ b → b ≤ e → Follows W U g c b → ((t : ℕ) → c + W .w ≤ t → t < b → SilentAt W (U .procs) g t)
-    → (x : ℕ) → U .vars x → W .m b x ≡ W .m c x
+    → (x : ℕ) → U .vars (owner x) → W .m b x ≡ W .m c x
 words-stay {W = W} {U = U} {g = g} {c = c} {e = e} E b o o′ F silent x i =
     pause-words W U g c b e o′ (E .settled) silent (λ q t l k. E .called q t l (omega arith)) o F (λ x t l k. E .low x t l (omega arith)) x i
 
 -- and on to e, if they stay in the w instants from b on
 pub words-last : {way : Way} {W : World} {U : Owned} {σ : Store} {K L : ℕ → Type 0} {f : Sig} {g : Gives} {a c e : ℕ} → Done way W U σ K L f g a c e
     → (b j : ℕ) → c ≤ b → c ≤ e → e < j → Follows W U g c b → ((t : ℕ) → c + W .w ≤ t → t < b → t < j → SilentAt W (U .procs) g t) → Hold W U b j
-    → (x : ℕ) → U .vars x → e < c + W .w → W .m e x ≡ W .m c x
+    → (x : ℕ) → U .vars (owner x) → e < c + W .w → W .m e x ≡ W .m c x
 words-last {W = W} {U = U} {g = g} {c = c} {e = e} E b j o o₁ o′ F silent hold x i k =
     by-le e b
     (λ q. words-stay E e o₁ (omega arith) (within W U g c b c e (omega arith) q F) (λ t l h. silent t l (omega arith) (omega arith)) x i)
@@ -244,7 +245,7 @@ words-last {W = W} {U = U} {g = g} {c = c} {e = e} E b j o o₁ o′ F silent ho
 -- P, which has been seen to leave up to e: up to there its start has no other pulse, its words stay, and its bodies are not started from outside
 abbrev pub Stays : World → Owned → Sig → Gives → ℕ → ℕ → ℕ → Type 0
 Stays W U s g a c e =
-    Pulse (W .w) s a (suc e) × ((x : ℕ) → U .vars x → e < c + W .w → W .m e x ≡ W .m c x)
+    Pulse (W .w) s a (suc e) × ((x : ℕ) → U .vars (owner x) → e < c + W .w → W .m e x ≡ W .m c x)
     × (a + W .w ≤ e → e < c + gap (W .w) → SilentAt W (U .procs) g e)
 
 -- j is the last horizon

@@ -5,7 +5,7 @@ use mathlib.Core.Bool.{_||_}
 use native.Mathlib.Omega.{arith}
 use Rattle.model.specs.Program.{Stmt, seq, touches}
 use Rattle.model.specs.Circuit.{Sig}
-use Rattle.model.specs.Rules.{Store, ended, still, run}
+use Rattle.model.specs.Rules.{Store, owner, ended, still, run}
 use Rattle.laws.specs.Refusals.Laws.{by-le}
 use Rattle.theory.specs.Control.Widths.{gap, widened}
 use Rattle.theory.specs.Control.Ways.{Way, atEnd, atExit, Comes, comes-end, comes-at, chain-comes, chain-going}
@@ -103,7 +103,7 @@ module _ (W : World) (P Q : Stmt) (timedP : Paced W P) (timedQ : Paced W Q) (doe
           (alone W U (n .g₂) (a + t₁) b (seq-follow e′ E b o₃ o₄) (λ q v x t l k. E .settled .low q v x t l (omega arith) (omega arith)))
           (λ k l l′ q x i.
           surge W Q timedQ (n .mid) f (n .g₂) (n .right) (a + t₁) k (seq-waits (a + t₁) (omega arith) (E .fin .quiet) .calm) l (omega arith)
-          (pulse-firm k (omega arith) (omega arith) (shows-pulse (E .fin))) (λ y r. q y (seq-owns .1 .mine y r)) .clocks x)
+          (pulse-firm k (omega arith) (omega arith) (shows-pulse (E .fin))) (λ y r. q y (seq-owns .1 .mine (owner y) r)) .clocks x)
 
       seq-left : Done atEnd W U σ₁ K₁ L₁ (n .mid) (n .g₁) a (a + t₁) e
       seq-left =

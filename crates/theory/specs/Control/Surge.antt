@@ -6,19 +6,20 @@ use mathlib.Core.Bool.{Bool, true, false, not, _&&_, _||_, or-false}
 use native.Mathlib.Omega.{arith}
 use lib.Dec.{eqb}
 use Rattle.model.specs.Word.{pick, isZero}
-use Rattle.model.specs.Program.{Expr, Stmt, ok, tick, assign, seq, par, ite, while, repeat, reads, touches}
+use Rattle.model.specs.Program.{Expr, Stmt, ok, tick, assign, assignElem, seq, par, ite, while, repeat, arrayVar, reads, touches}
 use Rattle.model.specs.Circuit.{Sig, delayed}
-use Rattle.model.specs.Rules.{eval}
+use Rattle.model.specs.Rules.{owner, eval}
 use Rattle.laws.specs.Refusals.Laws.{by-bool, and-true}
+use Rattle.laws.specs.Program.Fit.{FormedExpr}
 use Rattle.laws.specs.Rules.Uses.{eval-same}
 use Rattle.theory.specs.Control.Widths.{gap, widened}
 use Rattle.theory.specs.Control.Signal.{Quiet, delayed-quiet}
 use Rattle.theory.specs.Control.Pulses.{Firm, quiet-firm, delayed-firm, either-firm}
 use Rattle.theory.specs.Control.Meets.{merged-firm}
-use Rattle.theory.specs.Control.Wiring.{either, Gives, Joined, Circuit, Each}
+use Rattle.theory.specs.Control.Wiring.{either, ideal, Gives, Assigned, Joined, Circuit, Delays, Each}
 use Rattle.theory.specs.Control.World.{World, Built, means, Paced, each-of}
 use Rattle.theory.specs.Control.Memories.{Same}
-use Rattle.theory.specs.Control.Calm.{Calm}
+use Rattle.theory.specs.Control.Calm.{Calm, calmly}
 use Rattle.theory.specs.Control.Rest.{rest}
 
 pub record Surges (f : Sig) (g : Gives) (a b : ℕ) : Type 0 where
@@ -54,9 +55,10 @@ swells f₁ g₁ f₂ g₂ g a b j p q =
       clocks = λ x. either-firm (g₁ .clk x) (g₂ .clk x) (g .clk x) a (suc b) (j .clocks x) (p .clocks x) (q .clocks x);
     }
 
-surge-assign : (W : World) (d y : ℕ) (e : Expr) → 1 ≤ d → SurgeOf W (assign d y e)
-unfolding Circuit Each
-surge-assign W d y e pos s f g n a b calm o o′ q k =
+-- an assignment of either kind
+surge-assigned : (W : World) (d y : ℕ) (r : ℕ → ℕ) (e : Expr) → 1 ≤ d → (s f : Sig) (g : Gives)
+    → Assigned (W .w) (ideal (W .m)) d y r e s f g → (a b : ℕ) → Delays (calmly (W .w) (W .m) a) (W .w) d e s → Firm s a b → Surges f g a b
+surge-assigned W d y r e pos s f g n a b calm q =
     let D : Firm (delayed d s) a (b + d) = delayed-firm d s a b (calm .0 .0) q in
     record {
       fin =
@@ -75,7 +77,7 @@ surge-assign W d y e pos s f g n a b calm o o′ q k =
 surge-seq : (W : World) (P Q : Stmt) → SurgeOf W P → SurgeOf W Q → SurgeOf W (seq P Q)
 unfolding Circuit Each touches widened
 surge-seq W P Q hP hQ s f g n a b calm o o′ q k =
-    let v = each-of (touches (means W P)) (touches (means W Q)) k in
+    let v = each-of (λ x. touches (means W P) (owner x)) (λ x. touches (means W Q) (owner x)) k in
     let r = hP s (n .mid) (n .g₁) (n .left) a b (calm .0) o o′ q (v .0) in
     let r′ = hQ (n .mid) f (n .g₂) (n .right) a b (calm .1) o o′ (r .fin) (v .1) in
     let j = swells (n .mid) (n .g₁) f (n .g₂) g a b (n .joined) r r′ in
@@ -84,7 +86,7 @@ surge-seq W P Q hP hQ s f g n a b calm o o′ q k =
 surge-par : (W : World) (P Q : Stmt) → SurgeOf W P → SurgeOf W Q → SurgeOf W (par P Q)
 unfolding Circuit Each touches widened
 surge-par W P Q hP hQ s f g n a b calm o o′ q k =
-    let v = each-of (touches (means W P)) (touches (means W Q)) k in
+    let v = each-of (λ x. touches (means W P) (owner x)) (λ x. touches (means W Q) (owner x)) k in
     let r = hP s (n .f₁) (n .g₁) (n .left) a b (calm .1) o o′ q (v .0) in
     let r′ = hQ s (n .f₂) (n .g₂) (n .right) a b (calm .2) o o′ q (v .1) in
     let j = swells (n .f₁) (n .g₁) (n .f₂) (n .g₂) g a b (n .joined) r r′ in
@@ -95,18 +97,18 @@ surge-par W P Q hP hQ s f g n a b calm o o′ q k =
     }
 
 -- a condition whose words have stayed
-pub test-same : (W : World) (e : Expr) (U : ℕ → Type 0) (a b : ℕ) → ((x : ℕ) → reads e x ≡ true → U x) → Same W U a b
+pub test-same : (W : World) (e : Expr) → FormedExpr e → (U : ℕ → Type 0) (a b : ℕ) → ((x : ℕ) → reads e x ≡ true → U x) → Same W U a b
     → (t : ℕ) → a ≤ t → t < b → isZero (eval e (W .m t)) ≡ isZero (eval e (W .m a))
-test-same W e U a b u k t l h = ap isZero (eval-same e (W .m t) (W .m a) (λ x r. k x (u x r) t l h))
+test-same W e formed U a b u k t l h = ap isZero (eval-same e formed (W .m t) (W .m a) (λ x r. k x (u (owner x) r) t l h))
 
-surge-ite : (W : World) (d : ℕ) (e : Expr) (P Q : Stmt) → SurgeOf W P → SurgeOf W Q → SurgeOf W (ite d e P Q)
+surge-ite : (W : World) (d : ℕ) (e : Expr) (P Q : Stmt) → FormedExpr e → SurgeOf W P → SurgeOf W Q → SurgeOf W (ite d e P Q)
 unfolding Circuit Each touches widened
-surge-ite W d e P Q hP hQ s f g n a b calm o o′ q k =
-    let v = each-of (reads e) (λ x. touches (means W P) x || touches (means W Q) x) k in
-    let v′ = each-of (touches (means W P)) (touches (means W Q)) (v .1) in
+surge-ite W d e P Q formed hP hQ s f g n a b calm o o′ q k =
+    let v = each-of (λ x. reads e (owner x)) (λ x. touches (means W P) (owner x) || touches (means W Q) (owner x)) k in
+    let v′ = each-of (λ x. touches (means W P) (owner x)) (λ x. touches (means W Q) (owner x)) (v .1) in
     let D : Firm (delayed d s) a b = λ t l h. delayed-firm d s a b (calm .0 .0) q t l (omega arith) in
     let c : (t : ℕ) → a ≤ t → t < b → isZero (eval e (W .m t)) ≡ isZero (eval e (W .m a)) =
-    test-same W e (λ x. reads e x ≡ true) a b (λ x r. r) (v .0) in
+    test-same W e formed (λ x. reads e x ≡ true) a b (λ x r. r) (v .0) in
     let r =
     hP (n .s₁) (n .f₁) (n .g₁) (n .left) a b (calm .1) o o′
     (gated-firm (delayed d s) (n .s₁) (λ t. not (isZero (eval e (W .m t)))) a b (λ t l h. n .yes₁ t) D (λ t l h. ap not (c t l h)))
@@ -143,7 +145,7 @@ surge-repeat W d e P long hP s f g n a b calm o o′ q k =
     hP (n .s₁) (n .f₁) g (n .body) a b (calm .1) o o′
     (firm-is s (n .s₁) a b
     (λ t l h. n .begin t ∙ ap (λ (c : Bool). s t || (c && isZero (eval e (W .m t)))) (D t l h) ∙ or-false (s t)) q)
-    (each-of (reads e) (touches (means W P)) k .1) in
+    (each-of (λ x. reads e (owner x)) (λ x. touches (means W P) (owner x)) k .1) in
     record {
       fin = quiet-firm f a b (λ t l h. n .fin t ∙ ap (λ (c : Bool). c && not (isZero (eval e (W .m t)))) (D t l h));
       out = r .out;
@@ -164,9 +166,10 @@ surge W (tick d) h = λ s f g n a b calm o o′ q k.
       out = quiet-firm (g .out) a b (λ t l h. n .out t);
       clocks = λ x. quiet-firm (g .clk x) a (suc b) (λ t l h. n .clocks x t);
     }
-surge W (assign d y e) h = surge-assign W d y e (h .0)
+surge W (assign d y e) h = λ s f g n a b calm o o′ q k. surge-assigned W d y (λ t. 0) e (h .0) s f g n a b calm q
+surge W (assignElem d j i e) h = λ s f g n a b calm o o′ q k. surge-assigned W d (arrayVar j) (ideal (W .m) i) e (h .0) s f g n a b (calm .0) q
 surge W (seq P Q) h = surge-seq W P Q (surge W P (h .0)) (surge W Q (h .1))
 surge W (par P Q) h = surge-par W P Q (surge W P (h .0)) (surge W Q (h .1))
-surge W (ite d e P Q) h = surge-ite W d e P Q (surge W P (h .2)) (surge W Q (h .3))
+surge W (ite d e P Q) h = surge-ite W d e P Q (h .1) (surge W P (h .2)) (surge W Q (h .3))
 surge W (while d e P) h = surge-while W d e P (h .0) (h .2)
 surge W (repeat d e P) h = surge-repeat W d e P (h .0) (surge W P (h .2))

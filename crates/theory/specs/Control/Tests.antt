@@ -6,8 +6,9 @@ use mathlib.Core.Bool.{true, false}
 use native.Mathlib.Omega.{arith}
 use Rattle.model.specs.Word.{isZero}
 use Rattle.model.specs.Program.{Expr, reads}
-use Rattle.model.specs.Rules.{Store, eval}
+use Rattle.model.specs.Rules.{Store, owner, eval}
 use Rattle.laws.specs.Refusals.Laws.{by-le}
+use Rattle.laws.specs.Program.Fit.{FormedExpr}
 use Rattle.laws.specs.Rules.Uses.{eval-same}
 use Rattle.theory.specs.Control.Widths.{gap}
 use Rattle.theory.specs.Control.Signal.{Quiet}
@@ -51,17 +52,17 @@ module _ {W : World} {U : Owned} {g : Gives} {d : ℕ} {σ : Store} {a c j : ℕ
       (λ q v x t l k. waited .settled .low q v x t l (omega arith) (omega arith)))
       (λ k l l′ q x i. R .firm k l (omega arith) (omega arith) q x)
 
-  held : (x : ℕ) → U .vars x → (t : ℕ) → a + d ≤ t → t < a + d + W .w → t < j → W .m t x ≡ W .m (a + d) x
+  held : (x : ℕ) → U .vars (owner x) → (t : ℕ) → a + d ≤ t → t < a + d + W .w → t < j → W .m t x ≡ W .m (a + d) x
   held x i t l k k′ =
       by-le t c (λ q. early t l q (omega arith) x i t l (omega arith))
       (λ q. R .free .hold x i t (omega arith) (omega arith) k′ ∙ early c (omega arith) (omega arith) (omega arith) x i c (omega arith) (omega arith))
 
-  module _ (e : Expr) (reading : (x : ℕ) → reads e x ≡ true → U .vars x) where
+  module _ (e : Expr) (formed : FormedExpr e) (reading : (x : ℕ) → reads e x ≡ true → U .vars x) where
     -- the words that are read, from the pulse's entering on
-    pub test-words : (x : ℕ) → reads e x ≡ true → (v : ℕ) → a ≤ v → v < a + d + W .w → v < j → W .m v x ≡ σ x
+    pub test-words : (x : ℕ) → reads e (owner x) ≡ true → (v : ℕ) → a ≤ v → v < a + d + W .w → v < j → W .m v x ≡ σ x
     test-words x r v l k k′ =
-        by-le (a + d) v (λ q. held x (reading x r) v q k k′ ∙ waited .words x (reading x r))
-        (λ q. waited-words v l (omega arith) x (reading x r))
+        by-le (a + d) v (λ q. held x (reading (owner x) r) v q k k′ ∙ waited .words x (reading (owner x) r))
+        (λ q. waited-words v l (omega arith) x (reading (owner x) r))
 
     pub test-is : (t : ℕ) → a + d ≤ t → t < a + d + W .w → t < j → isZero (eval e (W .m t)) ≡ isZero (eval e σ)
-    test-is t l k k′ = ap isZero (eval-same e (W .m t) σ (λ x r. test-words x r t (omega arith) k k′))
+    test-is t l k k′ = ap isZero (eval-same e formed (W .m t) σ (λ x r. test-words x r t (omega arith) k k′))

@@ -7,9 +7,9 @@ use mathlib.Core.Bool.{Bool, false}
 use native.Mathlib.Omega.{arith}
 use lib.Dec.{ltb}
 use borrow.Author.Tests.{lt-ltb, le-ltb}
-use Rattle.model.specs.Program.{Stmt, ok, tick, assign, seq, par, ite, while, repeat}
+use Rattle.model.specs.Program.{Stmt, ok, tick, assign, assignElem, seq, par, ite, while, repeat}
 use Rattle.model.specs.Circuit.{Sig}
-use Rattle.model.specs.Rules.{Store, Run, ended, still}
+use Rattle.model.specs.Rules.{Store, owner, Run, ended, still}
 use Rattle.laws.specs.Refusals.Laws.{by-le}
 use Rattle.laws.specs.Program.Fit.{Separate}
 use Rattle.laws.specs.Rules.Laws.{by-run}
@@ -21,7 +21,7 @@ use Rattle.theory.specs.Control.World.{World, Built, means, Paced, goes,
 use Rattle.theory.specs.Control.Calm.{Calm, Sofar, sofar-less}
 use Rattle.theory.specs.Control.Bodies.{Owned, Idle, BodySofar, SilentAt, Follows, within, pause-rests, pause-sofar}
 use Rattle.theory.specs.Control.Runs.{Ready, Done, RunOf, Launched, launch, onward, words-stay}
-use Rattle.theory.specs.Control.Simple.{run-ok, run-tick, run-assign}
+use Rattle.theory.specs.Control.Simple.{run-ok, run-tick, run-assign, run-elem}
 use Rattle.theory.specs.Control.Sequence.{run-seq}
 use Rattle.theory.specs.Control.If.{run-ite}
 use Rattle.theory.specs.Control.Parallel.{run-par}
@@ -33,13 +33,14 @@ pub does : (W : World) (P : Stmt) → Paced W P → Separate (means W P) → Run
 unfolding widened
 does W ok h k = onward W ok h (run-ok W)
 does W (tick d) h k = onward W (tick d) h (run-tick W d)
-does W (assign d x e) h k = onward W (assign d x e) h (run-assign W d x e (h .0))
+does W (assign d x e) h k = onward W (assign d x e) h (run-assign W d x e (h .0) (h .1) (h .2))
+does W (assignElem d j i e) h k = onward W (assignElem d j i e) h (run-elem W d j i e (h .0) (h .2) (h .3))
 does W (seq P Q) h k = onward W (seq P Q) h (run-seq W P Q (h .0) (h .1) (does W P (h .0) (k .0)) (does W Q (h .1) (k .1)))
 does W (par P Q) h k =
     onward W (par P Q) h (run-par W P Q (h .0) (h .1) (k .2 .0) (k .2 .1) (does W P (h .0) (k .0)) (does W Q (h .1) (k .1)))
-does W (ite d e P Q) h k = onward W (ite d e P Q) h (run-ite W d e P Q (h .2) (h .3) (does W P (h .2) (k .2)) (does W Q (h .3) (k .3)))
-does W (while d e P) h k = onward W (while d e P) h (run-while W d e P (h .0) (h .2) (does W P (h .2) (k .2)))
-does W (repeat d e P) h k = onward W (repeat d e P) h (run-repeat W d e P (h .0) (h .2) (does W P (h .2) (k .2)))
+does W (ite d e P Q) h k = onward W (ite d e P Q) h (run-ite W d e (h .1) P Q (h .2) (h .3) (does W P (h .2) (k .2)) (does W Q (h .3) (k .3)))
+does W (while d e P) h k = onward W (while d e P) h (run-while W d e (h .1) P (h .0) (h .2) (does W P (h .2) (k .2)))
+does W (repeat d e P) h k = onward W (repeat d e P) h (run-repeat W d e (h .1) P (h .0) (h .2) (does W P (h .2) (k .2)))
 
 -- whether a finish shows at u a run that has ended: for w instants from its end on
 unfoldable pub showsAt : ℕ → ℕ → Run → Bool
@@ -87,7 +88,8 @@ module _ (W : World) (P : Stmt) (timed : Paced W P) (separate : Separate (means 
       (λ p. launched u l .goes-on p .fin (a + u) (omega arith) (omega arith) ∙ sym (ap (showsAt (W .w) u) p))
 
   -- from the end on the words are the last ones
-  pub words-after : (way : Way) (t : ℕ) (σ′ : Store) → Comes (goes W t P σ) way t σ′ → (u x : ℕ) → t ≤ u → a + u < e → U .vars x → W .m (a + u) x ≡ σ′ x
+  pub words-after : (way : Way) (t : ℕ) (σ′ : Store) → Comes (goes W t P σ) way t σ′ → (u x : ℕ) → t ≤ u → a + u < e → U .vars (owner x)
+      → W .m (a + u) x ≡ σ′ x
   words-after way t σ′ p u x o l i =
       let E = done-at way t σ′ p (omega arith) in
       words-stay E (a + u) (omega arith) (omega arith) (within W U g a e (a + t) (a + u) (omega arith) (omega arith) follow)

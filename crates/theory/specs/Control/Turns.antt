@@ -7,8 +7,9 @@ use native.Mathlib.Omega.{arith}
 use Rattle.model.specs.Word.{isZero}
 use Rattle.model.specs.Program.{Expr, Stmt, reads}
 use Rattle.model.specs.Circuit.{Sig, delayed}
-use Rattle.model.specs.Rules.{Store, Run, ended, still, wait, chain, eval}
+use Rattle.model.specs.Rules.{Store, owner, Run, ended, still, wait, chain, eval}
 use Rattle.laws.specs.Refusals.Laws.{by-bool, by-le, not-both}
+use Rattle.laws.specs.Program.Fit.{FormedExpr}
 use Rattle.laws.specs.Rules.Laws.{ended-still, wait-still}
 use Rattle.theory.specs.Control.Widths.{gap}
 use Rattle.theory.specs.Control.Ways.{atEnd, atExit, Comes, comes-is, comes-at, end-comes, wait-comes, chain-comes, chain-going}
@@ -27,6 +28,7 @@ use Rattle.theory.specs.Control.Rounds.{Body, Starts, Enters, round-fed,
 -- a loop: its body and its condition
 pub record Loop (W : World) (P : Stmt) (U : Owned) (d : ℕ) (e : Expr) (more : Bool → Bool) (s f X s₁ f₁ : Sig) (g : Gives) : Type 1 where
   pub body : Body W P U d s X s₁ f₁ g
+  pub formed : FormedExpr e
   pub reading : (x : ℕ) → reads e x ≡ true → U .vars x
   pub begin : (t : ℕ) → s t ≡ false → s₁ t ≡ (delayed d X t && more (isZero (eval e (W .m t))))
   pub fin : (t : ℕ) → f t ≡ (delayed d X t && not (more (isZero (eval e (W .m t)))))
@@ -163,17 +165,17 @@ module _ {W : World} {P : Stmt} {U : Owned} {d : ℕ} {e : Expr} {more : Bool �
                 (gated-firm (delayed d X) s₁ (λ t. more (isZero (eval e (W .m t)))) (a + d) k
                 (λ t l r. I .begin t (T .after t (omega arith) (omega arith)))
                 (λ t l r z. delay-out B o′ T o (suc t) (omega arith) (omega arith) (omega arith))
-                (λ t l r. ap more (test-same W e (U .vars) (a + d) k (I .reading) q t l r)))
-                (λ y r. q y (B .owns .mine y r)) .clocks;
+                (λ t l r. ap more (test-same W e (I .formed) (U .vars) (a + d) k (I .reading) q t l r)))
+                (λ y r. q y (B .owns .mine (owner y) r)) .clocks;
           }
 
       test : (t : ℕ) → a + d ≤ t → t < a + d + W .w → t < j → more (isZero (eval e (W .m t))) ≡ more (isZero (eval e σ))
-      test t l k k′ = ap more (test-is waits e (I .reading) t l k k′)
+      test t l k k′ = ap more (test-is waits e (I .formed) (I .reading) t l k k′)
 
       used-at : (b : ℕ) → b ≤ j → ((t : ℕ) → a + W .w ≤ t → t + d < b → X t ≡ false) → Stable (W .m) d e X b
       used-at b o₁ q =
           stable-turn (W .w) (W .m) d e X a b σ (λ b′ l k. turned .used b′ l (omega arith)) (T .before) q
-          (λ k x r v l k₁ k₂. test-words waits e (I .reading) x r v l k₁ (omega arith))
+          (λ k x r v l k₁ k₂. test-words waits e (I .formed) (I .reading) x r v l k₁ (omega arith))
 
       -- the condition says stop: the loop ends
       stops : more (isZero (eval e σ)) ≡ false → a + d ≡ c → j ≤ c + gap (W .w) → Done atEnd W U σ K L f g a c j

@@ -7,6 +7,7 @@ use Rattle.model.specs.Word.{isZero}
 use Rattle.model.specs.Program.{Expr, Stmt, while, reads, touches}
 use Rattle.model.specs.Circuit.{Sig, delayed}
 use Rattle.model.specs.Rules.{Store, Run, run, chain, whiles, eval}
+use Rattle.laws.specs.Program.Fit.{FormedExpr}
 use Rattle.laws.specs.Rules.Laws.{whiles-stop, whiles-more}
 use Rattle.theory.specs.Control.Widths.{gap, widened}
 use Rattle.theory.specs.Control.Signal.{Quiet, delayed-quiet}
@@ -25,8 +26,8 @@ not-not true = refl
 not-not false = refl
 
 -- a while goes round while its condition's word is not zero
-module _ (W : World) (d : ℕ) (e : Expr) (P : Stmt) (long : gap (W .w) ≤ d) (timed : Paced W P) (does : RunOf W P) (U : Owned) (σ : Store)
-    (s f : Sig) (g : Gives) (n : While (ideal (W .m)) d e (Built W P) s f g) where
+module _ (W : World) (d : ℕ) (e : Expr) (formed : FormedExpr e) (P : Stmt) (long : gap (W .w) ≤ d) (timed : Paced W P)
+    (does : RunOf W P) (U : Owned) (σ : Store) (s f : Sig) (g : Gives) (n : While (ideal (W .m)) d e (Built W P) s f g) where
   abbrev X : Sig
   X = either s (n .f₁)
 
@@ -62,6 +63,7 @@ module _ (W : World) (d : ℕ) (e : Expr) (P : Stmt) (long : gap (W .w) ≤ d) (
             owns = record { mine = uses .1; reach = B .ready .owns .reach };
             off = λ t p q. n .begin t ∙ ap (λ (c : Bool). c && not (isZero (eval e (W .m t)))) q;
           };
+          formed = formed;
           reading = uses .0;
           begin = λ t p. n .begin t;
           fin = λ t. n .fin t ∙ ap (λ (c : Bool). delayed d X t && c) (not-not (isZero (eval e (W .m t))));
@@ -103,6 +105,6 @@ module _ (W : World) (d : ℕ) (e : Expr) (P : Stmt) (long : gap (W .w) ≤ d) (
     unfolding run widened while-loop
     while-does = enters-does while-loop while-laps u σ a c j u (omega arith) h o short while-enters while-turned
 
-pub run-while : (W : World) (d : ℕ) (e : Expr) (P : Stmt) → gap (W .w) ≤ d → Paced W P → RunOf W P → ShortOf W (while d e P)
+pub run-while : (W : World) (d : ℕ) (e : Expr) → FormedExpr e → (P : Stmt) → gap (W .w) ≤ d → Paced W P → RunOf W P → ShortOf W (while d e P)
 unfolding Circuit Each
-run-while W d e P long timed does U σ s f g n a c j u h o k B = while-does W d e P long timed does U σ s f g n a c j u h o k B
+run-while W d e formed P long timed does U σ s f g n a c j u h o k B = while-does W d e formed P long timed does U σ s f g n a c j u h o k B

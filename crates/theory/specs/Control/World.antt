@@ -17,7 +17,7 @@ pub record World : Type 0 where
   -- the words, and all that is given, by the program and by the bodies that it calls
   pub m : Memory
   pub all : Gives
-  pub mem : Mem m (all .clk) (all .dat)
+  pub mem : Mem m all
   -- the bodies that can be called, each with its finish and what it gives; its start is all that calls it. No kind of today's calls
   pub bodies : ℕ → Stmt
   pub timely : (q : ℕ) → Timely w (bodies q)
@@ -29,7 +29,7 @@ pub record World : Type 0 where
 abbrev pub Built : World → Stmt → Sig → Sig → Gives → Type 0
 Built W P s f g = Circuit (W .w) (ideal (W .m)) P s f g
 
--- delays that are long enough
+-- delays that are long enough, and variables and arrays that exist
 abbrev pub Paced : World → Stmt → Type 0
 Paced W P = Timely (W .w) P
 

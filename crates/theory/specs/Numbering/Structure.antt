@@ -9,47 +9,51 @@ use lib.Bits.{or-zero-r}
 use Rattle.laws.specs.Numbering.Lengths.{e-len, own-len, d-len, w-len}
 use Rattle.laws.specs.Circuit.Shapes.{operator-shape}
 use Rattle.model.specs.Word.{pick}
-use Rattle.model.specs.Program.{Expr, const, var, compl, op, Stmt, ok, tick, assign, seq, par, ite, while, repeat}
+use Rattle.model.specs.Program.{Expr, const, var, compl, op, elem, Stmt, ok, tick, assign, assignElem, seq, par, ite, while, repeat, arrayVar}
 use Rattle.model.specs.Circuit.{delayed, merged}
 use Rattle.theory.specs.Control.Merge.{merged-one}
 use Rattle.theory.specs.Control.Wiring.{ideal, Circuit}
 use Rattle.laws.specs.Program.Fit.{FormedExpr, Formed}
 use Rattle.model.specs.Rules.{eval}
-use Rattle.model.specs.Word.{operate, isZero}
+use Rattle.model.specs.Word.{operate, isZero, index, elementWord}
 use Rattle.model.specs.Circuit.{cell}
-use Rattle.model.specs.Numbering.{exprCount, exprWire, exprCells, ifDelayCount, ifPulse, ifDelayCells, delayCount, walkCount, finishWire, delays, walk, clockSources, dataSources, wiresOf}
-use Rattle.model.specs.Circuit.{Values, level, Shape, equation}
+use Rattle.model.specs.Numbering.{arrayCell, exprCount, exprWire, exprCells, ifDelayCount, ifPulse, ifDelayCells, delayCount, walkCount, finishWire, delays, walk, clockSources, dataSources, addressSources, wiresOf}
+use Rattle.model.specs.Circuit.{Values, Elements, level, Shape, equation}
 use Rattle.model.specs.Word.{bit}
 use Rattle.laws.specs.Numbering.Cells.{cellVal, Rule, Obeyed, split}
 use Rattle.theory.specs.Numbering.Levels.{level-of, delayed-cong, delayed-zero, anyHigh, allOr, clkOf, datOf, givesOf, joined, ||-false}
 
-op-rule : (first : ℕ) (W : Values) (p k x y t : ℕ) → 4 ≤ k → k ≤ 9 → cellVal first W p (cell k 0 x y) t ≡ operate k (W x t) (W y t)
+op-rule : (first : ℕ) (E : Elements) (W : Values) (p k x y t : ℕ) → 4 ≤ k → k ≤ 9 → cellVal first E W p (cell k 0 x y) t ≡ operate k (W x t) (W y t)
 unfolding cellVal
-op-rule first W p k x y t h h′ = ap (λ (sh : Shape). equation sh first W p (cell k 0 x y) t) (operator-shape k h h′)
+op-rule first E W p k x y t h h′ = ap (λ (sh : Shape). equation sh first E W p (cell k 0 x y) t) (operator-shape k h h′)
 
-module _ (first : ℕ → ℕ) (W : Values) (M : ℕ) (m : ℕ → ℕ → ℕ) (shows : (x t : ℕ) → x < 16 → m t x ≡ W (M + x) t) where
-  pub expr : (e : Expr) → FormedExpr e → (c : ℕ) → Obeyed first W c (exprCells M e c) → (t : ℕ) → W (exprWire M e c) t ≡ eval e (m t)
+module _ (first : ℕ → ℕ) (E : Elements) (W : Values) (M : ℕ) (m : ℕ → ℕ → ℕ) (shows : (x t : ℕ) → x < 16 → m t x ≡ W (M + x) t)
+    (elements : (k w t : ℕ) → k < 4 → m t (elementWord k w) ≡ E (arrayCell M k) (index w) t) where
+  pub expr : (e : Expr) → FormedExpr e → (c : ℕ) → Obeyed first E W c (exprCells M e c) → (t : ℕ) → W (exprWire M e c) t ≡ eval e (m t)
   unfolding exprCells exprWire exprCount eval cellVal
   expr (const n) w c h t = h .0 t
   expr (var x) w c h t = sym (shows x t w)
   expr (compl e) w c h t =
-      let r = split (Rule first W) c (exprCount e) (exprCells M e c) (cell 3 0 (exprWire M e c) 0 ∷ []) (e-len M e c) h in
+      let r = split (Rule first E W) c (exprCount e) (exprCells M e c) (cell 3 0 (exprWire M e c) 0 ∷ []) (e-len M e c) h in
       r .1 .0 t ∙ ap (λ (x : ℕ). operate 3 x 0) (expr e w c (r .0) t)
   expr (op k e f) w c h t =
-      let r = split (Rule first W) c (exprCount e) (exprCells M e c) (exprCells M f (c + exprCount e) ++ (cell k 0 (exprWire M e c) (exprWire M f (c + exprCount e)) ∷ [])) (e-len M e c) h in
-      let q = split (Rule first W) (c + exprCount e) (exprCount f) (exprCells M f (c + exprCount e)) (cell k 0 (exprWire M e c) (exprWire M f (c + exprCount e)) ∷ []) (e-len M f (c + exprCount e)) (r .1) in
+      let r = split (Rule first E W) c (exprCount e) (exprCells M e c) (exprCells M f (c + exprCount e) ++ (cell k 0 (exprWire M e c) (exprWire M f (c + exprCount e)) ∷ [])) (e-len M e c) h in
+      let q = split (Rule first E W) (c + exprCount e) (exprCount f) (exprCells M f (c + exprCount e)) (cell k 0 (exprWire M e c) (exprWire M f (c + exprCount e)) ∷ []) (e-len M f (c + exprCount e)) (r .1) in
       q .1 .0 t
-      ∙ op-rule (first (c + exprCount e + exprCount f)) W (c + exprCount e + exprCount f) k (exprWire M e c) (exprWire M f (c + exprCount e)) t (w .0) (w .1)
+      ∙ op-rule (first (c + exprCount e + exprCount f)) E W (c + exprCount e + exprCount f) k (exprWire M e c) (exprWire M f (c + exprCount e)) t (w .0) (w .1)
       ∙ ap₂ (λ (x y : ℕ). operate k x y) (expr e (w .2) c (r .0) t) (expr f (w .3) (c + exprCount e) (q .0) t)
+  expr (elem k e) w c h t =
+      let r = split (Rule first E W) c (exprCount e) (exprCells M e c) (cell 44 0 (arrayCell M k) (exprWire M e c) ∷ []) (e-len M e c) h in
+      r .1 .0 t ∙ ap (λ (x : ℕ). E (arrayCell M k) (index x) t) (expr e (w .1) c (r .0) t) ∙ sym (elements k (eval e (m t)) t (w .0))
 
-  pulse-is : (δ s d : ℕ) → Obeyed first W d (ifDelayCells δ s) → (t : ℕ) → level W (ifPulse δ s d) t ≡ delayed δ (level W s) t
+  pulse-is : (δ s d : ℕ) → Obeyed first E W d (ifDelayCells δ s) → (t : ℕ) → level W (ifPulse δ s d) t ≡ delayed δ (level W s) t
   unfolding ifDelayCells ifPulse cellVal
   pulse-is zero s d h t = sym (delayed-zero (level W s) t)
   pulse-is (suc δ) s d h t = level-of (delayed (suc δ) (level W s) t) (h .0 t)
 
   -- the statement's circuit from its start s, if its delay cells stand at d and its walk cells at c
   abbrev pub Cells : Stmt → ℕ → ℕ → ℕ → Type 0
-  Cells P s d c = Circuit 1 (ideal m) P (level W s) (level W (finishWire P s d c)) (givesOf W (clockSources P d) (dataSources P c))
+  Cells P s d c = Circuit 1 (ideal m) P (level W s) (level W (finishWire P s d c)) (givesOf W (clockSources P d) (dataSources P c) (addressSources P c))
 
   -- the two switches
   yes-is : (k a b t : ℕ) {v : ℕ} {D : Bool} → W k t ≡ bit (level W a t && not (eqb (W b t) 0)) → level W a t ≡ D → W b t ≡ v → level W k t ≡ D && not (isZero v)
@@ -75,58 +79,88 @@ module _ (first : ℕ → ℕ) (W : Values) (M : ℕ) (m : ℕ → ℕ → ℕ) 
       go true e = rw (e, eq-eqb y x (sym (eqb-true x y e))) (or-zero-r (W g t))
       go false e = rw (e, ne-eqb y x (λ z. eqb-false x y e (sym z)))
 
+  -- a kind 41 on an assignment's first delay
+  gated-is : (x g d k y t : ℕ) (D : Bool) (v : ℕ) → W g t ≡ pick (level W d t) (W k t) 0 → level W d t ≡ D → W k t ≡ v
+      → datOf W ((x, g) ∷ []) y t ≡ pick (eqb y x) (pick D v 0) 0
+  gated-is x g d k y t D v h p q =
+      own-data x g y t ∙ ap (λ (z : ℕ). pick (eqb y x) z 0) (h ∙ ap₂ (λ (b : Bool) (z : ℕ). pick b z 0) p q)
+
+  no-address : (p q : Bool) → _≡_ {A = ℕ} 0 (pick p (pick q 0 0) 0)
+  no-address true true = refl
+  no-address true false = refl
+  no-address false q = refl
+
   pub struct : (P : Stmt) → Formed P → (s d c : ℕ)
-      → Obeyed first W d (delays P s d c) → Obeyed first W c (walk M P s d c)
+      → Obeyed first E W d (delays P s d c) → Obeyed first E W c (walk M P s d c)
       → Cells P s d c
-  unfolding Circuit delays walk finishWire clockSources dataSources cellVal delayCount walkCount anyHigh allOr wiresOf
+  unfolding Circuit delays walk finishWire clockSources dataSources addressSources cellVal delayCount walkCount anyHigh allOr wiresOf
   struct ok w s d c hd hw =
-      record { fin = λ t. refl; clocks = λ y t. refl; words = λ y t. refl; called = λ q t. refl; out = λ t. refl }
+      record { fin = λ t. refl; clocks = λ y t. refl; words = λ y t. refl; addresses = λ y t. refl; called = λ q t. refl; out = λ t. refl }
   struct (tick δ) w s d c hd hw =
       record {
         fin = λ t. level-of (delayed δ (level W s) t) (hd .0 t);
         clocks = λ y t. refl;
         words = λ y t. refl;
+        addresses = λ y t. refl;
         called = λ q t. refl;
         out = λ t. refl;
       }
   struct (assign δ x e) w s d c hd hw =
-      let r = split (Rule first W) c (exprCount e) (exprCells M e c) (cell 41 0 d (exprWire M e c) ∷ []) (e-len M e c) hw in
+      let r = split (Rule first E W) c (exprCount e) (exprCells M e c) (cell 41 0 d (exprWire M e c) ∷ []) (e-len M e c) hw in
       let D : (t : ℕ) → level W d t ≡ delayed δ (level W s) t = λ t. level-of (delayed δ (level W s) t) (hd .0 t) in
       record {
         fin = λ t. level-of (delayed 1 (level W d) t) (hd .1 .0 t) ∙ delayed-cong 1 D t;
         clocks = λ y t. own-clock x d y t ∙ ap (λ (b : Bool). pick (eqb y x) b false) (D t);
-        words = λ y t.
-            own-data x (c + exprCount e) y t
-            ∙ ap (λ (v : ℕ). pick (eqb y x) v 0) (r .1 .0 t ∙ ap₂ (λ (p : Bool) (v : ℕ). pick p v 0) (D t) (expr e (w .2) c (r .0) t));
+        words = λ y t. gated-is x (c + exprCount e) d (exprWire M e c) y t _ _ (r .1 .0 t) (D t) (expr e (w .2) c (r .0) t);
+        addresses = λ y t. no-address (eqb y x) (delayed δ (level W s) t);
+        called = λ q t. refl;
+        out = λ t. refl;
+      }
+  struct (assignElem δ k i e) w s d c hd hw =
+      let x = arrayVar k in
+      let ce = c + exprCount i in
+      let cg = ce + exprCount e in
+      let o = cell 41 0 d (exprWire M e ce) in
+      let o′ = cell 41 0 d (exprWire M i c) in
+      let ri = split (Rule first E W) c (exprCount i) (exprCells M i c) (exprCells M e ce ++ (o ∷ (o′ ∷ []))) (e-len M i c) hw in
+      let re = split (Rule first E W) ce (exprCount e) (exprCells M e ce) (o ∷ (o′ ∷ [])) (e-len M e ce) (ri .1) in
+      let D : (t : ℕ) → level W d t ≡ delayed δ (level W s) t = λ t. level-of (delayed δ (level W s) t) (hd .0 t) in
+      record {
+        fin = λ t. level-of (delayed 1 (level W d) t) (hd .1 .0 t) ∙ delayed-cong 1 D t;
+        clocks = λ y t. own-clock x d y t ∙ ap (λ (b : Bool). pick (eqb y x) b false) (D t);
+        words = λ y t. gated-is x cg d (exprWire M e ce) y t _ _ (re .1 .0 t) (D t) (expr e (w .3) ce (re .0) t);
+        addresses = λ y t. gated-is x (cg + 1) d (exprWire M i c) y t _ _ (re .1 .1 .0 t) (D t) (expr i (w .2) c (ri .0) t);
         called = λ q t. refl;
         out = λ t. refl;
       }
   struct (seq P Q) w s d c hd hw =
       let g = finishWire P s d c in
-      let rd = split (Rule first W) d (delayCount P) (delays P s d c) (delays Q g (d + delayCount P) (c + walkCount P)) (d-len P s d c) hd in
-      let rc = split (Rule first W) c (walkCount P) (walk M P s d c) (walk M Q g (d + delayCount P) (c + walkCount P)) (w-len M P s d c) hw in
+      let rd = split (Rule first E W) d (delayCount P) (delays P s d c) (delays Q g (d + delayCount P) (c + walkCount P)) (d-len P s d c) hd in
+      let rc = split (Rule first E W) c (walkCount P) (walk M P s d c) (walk M Q g (d + delayCount P) (c + walkCount P)) (w-len M P s d c) hw in
       record {
         mid = level W g;
-        g₁ = givesOf W (clockSources P d) (dataSources P c);
-        g₂ = givesOf W (clockSources Q (d + delayCount P)) (dataSources Q (c + walkCount P));
+        g₁ = givesOf W (clockSources P d) (dataSources P c) (addressSources P c);
+        g₂ = givesOf W (clockSources Q (d + delayCount P)) (dataSources Q (c + walkCount P)) (addressSources Q (c + walkCount P));
         left = struct P (w .0) s d c (rd .0) (rc .0);
         right = struct Q (w .1) g (d + delayCount P) (c + walkCount P) (rd .1) (rc .1);
-        joined = joined W (clockSources P d) (clockSources Q (d + delayCount P)) (dataSources P c) (dataSources Q (c + walkCount P));
+        joined = joined W (clockSources P d) (clockSources Q (d + delayCount P)) (dataSources P c) (dataSources Q (c + walkCount P))
+            (addressSources P c) (addressSources Q (c + walkCount P));
       }
   struct (par P Q) w s d c hd hw =
       let f = finishWire P s d c in
       let g = finishWire Q s (d + delayCount P) (c + walkCount P) in
-      let rd = split (Rule first W) d (delayCount P) (delays P s d c) (delays Q s (d + delayCount P) (c + walkCount P)) (d-len P s d c) hd in
-      let rc = split (Rule first W) c (walkCount P) (walk M P s d c) (walk M Q s (d + delayCount P) (c + walkCount P) ++ (cell 38 0 f g ∷ [])) (w-len M P s d c) hw in
-      let rm = split (Rule first W) (c + walkCount P) (walkCount Q) (walk M Q s (d + delayCount P) (c + walkCount P)) (cell 38 0 f g ∷ []) (w-len M Q s (d + delayCount P) (c + walkCount P)) (rc .1) in
+      let rd = split (Rule first E W) d (delayCount P) (delays P s d c) (delays Q s (d + delayCount P) (c + walkCount P)) (d-len P s d c) hd in
+      let rc = split (Rule first E W) c (walkCount P) (walk M P s d c) (walk M Q s (d + delayCount P) (c + walkCount P) ++ (cell 38 0 f g ∷ [])) (w-len M P s d c) hw in
+      let rm = split (Rule first E W) (c + walkCount P) (walkCount Q) (walk M Q s (d + delayCount P) (c + walkCount P)) (cell 38 0 f g ∷ []) (w-len M Q s (d + delayCount P) (c + walkCount P)) (rc .1) in
       record {
         f₁ = level W f;
-        g₁ = givesOf W (clockSources P d) (dataSources P c);
+        g₁ = givesOf W (clockSources P d) (dataSources P c) (addressSources P c);
         f₂ = level W g;
-        g₂ = givesOf W (clockSources Q (d + delayCount P)) (dataSources Q (c + walkCount P));
+        g₂ = givesOf W (clockSources Q (d + delayCount P)) (dataSources Q (c + walkCount P)) (addressSources Q (c + walkCount P));
         left = struct P (w .0) s d c (rd .0) (rc .0);
         right = struct Q (w .1) s (d + delayCount P) (c + walkCount P) (rd .1) (rm .0);
-        joined = joined W (clockSources P d) (clockSources Q (d + delayCount P)) (dataSources P c) (dataSources Q (c + walkCount P));
+        joined = joined W (clockSources P d) (clockSources Q (d + delayCount P)) (dataSources P c) (dataSources Q (c + walkCount P))
+            (addressSources P c) (addressSources Q (c + walkCount P));
         fin = λ t. level-of (merged (level W f) (level W g) t) (rm .1 .0 t) ∙ sym (merged-one (level W f) (level W g) t);
       }
   struct (ite δ e P Q) w s d c hd hw =
@@ -135,57 +169,58 @@ module _ (first : ℕ → ℕ) (W : Values) (M : ℕ) (m : ℕ → ℕ → ℕ) 
       let cP = p + 1 + 1 in
       let f = finishWire P p dP cP in
       let g = finishWire Q (p + 1) (dP + delayCount P) (cP + walkCount P) in
-      let ro = split (Rule first W) d (ifDelayCount δ) (ifDelayCells δ s) (delays P p dP cP ++ delays Q (p + 1) (dP + delayCount P) (cP + walkCount P)) (own-len δ s) hd in
-      let rd = split (Rule first W) dP (delayCount P) (delays P p dP cP) (delays Q (p + 1) (dP + delayCount P) (cP + walkCount P)) (d-len P p dP cP) (ro .1) in
+      let ro = split (Rule first E W) d (ifDelayCount δ) (ifDelayCells δ s) (delays P p dP cP ++ delays Q (p + 1) (dP + delayCount P) (cP + walkCount P)) (own-len δ s) hd in
+      let rd = split (Rule first E W) dP (delayCount P) (delays P p dP cP) (delays Q (p + 1) (dP + delayCount P) (cP + walkCount P)) (d-len P p dP cP) (ro .1) in
       let o6 = cell 36 0 (ifPulse δ s d) (exprWire M e c) in
       let o7 = cell 37 0 (ifPulse δ s d) (exprWire M e c) in
       let tail = walk M Q (p + 1) (dP + delayCount P) (cP + walkCount P) ++ (cell 35 0 f g ∷ []) in
-      let re = split (Rule first W) c (exprCount e) (exprCells M e c) (o6 ∷ (o7 ∷ (walk M P p dP cP ++ tail))) (e-len M e c) hw in
-      let rP = split (Rule first W) cP (walkCount P) (walk M P p dP cP) tail (w-len M P p dP cP) (re .1 .1 .1) in
-      let rQ = split (Rule first W) (cP + walkCount P) (walkCount Q) (walk M Q (p + 1) (dP + delayCount P) (cP + walkCount P)) (cell 35 0 f g ∷ []) (w-len M Q (p + 1) (dP + delayCount P) (cP + walkCount P)) (rP .1) in
+      let re = split (Rule first E W) c (exprCount e) (exprCells M e c) (o6 ∷ (o7 ∷ (walk M P p dP cP ++ tail))) (e-len M e c) hw in
+      let rP = split (Rule first E W) cP (walkCount P) (walk M P p dP cP) tail (w-len M P p dP cP) (re .1 .1 .1) in
+      let rQ = split (Rule first E W) (cP + walkCount P) (walkCount Q) (walk M Q (p + 1) (dP + delayCount P) (cP + walkCount P)) (cell 35 0 f g ∷ []) (w-len M Q (p + 1) (dP + delayCount P) (cP + walkCount P)) (rP .1) in
       let D : (t : ℕ) → level W (ifPulse δ s d) t ≡ delayed δ (level W s) t = pulse-is δ s d (ro .0) in
-      let E : (t : ℕ) → W (exprWire M e c) t ≡ eval e (m t) = expr e (w .1) c (re .0) in
+      let shown : (t : ℕ) → W (exprWire M e c) t ≡ eval e (m t) = expr e (w .1) c (re .0) in
       record {
         s₁ = level W p;
         f₁ = level W f;
-        g₁ = givesOf W (clockSources P dP) (dataSources P cP);
+        g₁ = givesOf W (clockSources P dP) (dataSources P cP) (addressSources P cP);
         s₂ = level W (p + 1);
         f₂ = level W g;
-        g₂ = givesOf W (clockSources Q (dP + delayCount P)) (dataSources Q (cP + walkCount P));
+        g₂ = givesOf W (clockSources Q (dP + delayCount P)) (dataSources Q (cP + walkCount P)) (addressSources Q (cP + walkCount P));
         left = struct P (w .2) p dP cP (rd .0) (rP .0);
         right = struct Q (w .3) (p + 1) (dP + delayCount P) (cP + walkCount P) (rd .1) (rQ .0);
-        joined = joined W (clockSources P dP) (clockSources Q (dP + delayCount P)) (dataSources P cP) (dataSources Q (cP + walkCount P));
-        yes₁ = λ t. yes-is p (ifPulse δ s d) (exprWire M e c) t (re .1 .0 t) (D t) (E t);
-        no₂ = λ t. no-is (p + 1) (ifPulse δ s d) (exprWire M e c) t (re .1 .1 .0 t) (D t) (E t);
+        joined = joined W (clockSources P dP) (clockSources Q (dP + delayCount P)) (dataSources P cP) (dataSources Q (cP + walkCount P))
+            (addressSources P cP) (addressSources Q (cP + walkCount P));
+        yes₁ = λ t. yes-is p (ifPulse δ s d) (exprWire M e c) t (re .1 .0 t) (D t) (shown t);
+        no₂ = λ t. no-is (p + 1) (ifPulse δ s d) (exprWire M e c) t (re .1 .1 .0 t) (D t) (shown t);
         fin = λ t. level-of (level W f t || level W g t) (rQ .1 .0 t);
       }
   struct (while δ e P) w s d c hd hw =
       let p = c + exprCount e in
       let cP = p + 1 + 1 in
       let f = finishWire P p (d + 1) cP in
-      let re = split (Rule first W) c (exprCount e) (exprCells M e c) _ (e-len M e c) hw in
-      let rP = split (Rule first W) cP (walkCount P) (walk M P p (d + 1) cP) (cell 35 0 s f ∷ []) (w-len M P p (d + 1) cP) (re .1 .1 .1) in
+      let re = split (Rule first E W) c (exprCount e) (exprCells M e c) _ (e-len M e c) hw in
+      let rP = split (Rule first E W) cP (walkCount P) (walk M P p (d + 1) cP) (cell 35 0 s f ∷ []) (w-len M P p (d + 1) cP) (re .1 .1 .1) in
       let D : (t : ℕ) → level W d t ≡ delayed δ (λ u. level W s u || level W f u) t =
       λ t. level-of (delayed δ (level W (cP + walkCount P)) t) (hd .0 t) ∙ delayed-cong δ (λ u. level-of (level W s u || level W f u) (rP .1 .0 u)) t in
-      let E : (t : ℕ) → W (exprWire M e c) t ≡ eval e (m t) = expr e (w .1) c (re .0) in
+      let shown : (t : ℕ) → W (exprWire M e c) t ≡ eval e (m t) = expr e (w .1) c (re .0) in
       record {
         s₁ = level W p;
         f₁ = level W f;
         body = struct P (w .2) p (d + 1) cP (hd .1) (rP .0);
-        begin = λ t. yes-is p d (exprWire M e c) t (re .1 .0 t) (D t) (E t);
-        fin = λ t. no-is (p + 1) d (exprWire M e c) t (re .1 .1 .0 t) (D t) (E t);
+        begin = λ t. yes-is p d (exprWire M e c) t (re .1 .0 t) (D t) (shown t);
+        fin = λ t. no-is (p + 1) d (exprWire M e c) t (re .1 .1 .0 t) (D t) (shown t);
       }
   struct (repeat δ e P) w s d c hd hw =
       let p = c + exprCount e in
       let cP = p + 1 + 1 + 1 in
       let f = finishWire P (p + 1 + 1) (d + 1) cP in
-      let re = split (Rule first W) c (exprCount e) (exprCells M e c) _ (e-len M e c) hw in
+      let re = split (Rule first E W) c (exprCount e) (exprCells M e c) _ (e-len M e c) hw in
       let D : (t : ℕ) → level W d t ≡ delayed δ (level W f) t = λ t. level-of (delayed δ (level W f) t) (hd .0 t) in
-      let E : (t : ℕ) → W (exprWire M e c) t ≡ eval e (m t) = expr e (w .1) c (re .0) in
+      let shown : (t : ℕ) → W (exprWire M e c) t ≡ eval e (m t) = expr e (w .1) c (re .0) in
       record {
         s₁ = level W (p + 1 + 1);
         f₁ = level W f;
         body = struct P (w .2) (p + 1 + 1) (d + 1) cP (hd .1) (re .1 .1 .1 .1);
-        begin = λ t. level-of (level W s t || level W (p + 1) t) (re .1 .1 .1 .0 t) ∙ ap (λ (b : Bool). level W s t || b) (no-is (p + 1) d (exprWire M e c) t (re .1 .1 .0 t) (D t) (E t));
-        fin = λ t. yes-is p d (exprWire M e c) t (re .1 .0 t) (D t) (E t);
+        begin = λ t. level-of (level W s t || level W (p + 1) t) (re .1 .1 .1 .0 t) ∙ ap (λ (b : Bool). level W s t || b) (no-is (p + 1) d (exprWire M e c) t (re .1 .1 .0 t) (D t) (shown t));
+        fin = λ t. yes-is p d (exprWire M e c) t (re .1 .0 t) (D t) (shown t);
       }

@@ -12,11 +12,11 @@ use Rattle.model.specs.Word.{pick, bit}
 use Rattle.model.specs.Program.{Stmt}
 use Rattle.model.specs.Rules.{Store}
 use Rattle.model.specs.Circuit.{memoryWords, memories}
-use Rattle.model.specs.Numbering.{netlist, memoriesOf, clockSources, dataSources, clockAt, walkAt, dataAt, memoryAt, clockWires, dataWires, walk, orsFrom}
+use Rattle.model.specs.Numbering.{netlist, memoriesOf, memoryAt, clockWires, dataWires}
 use Rattle.model.specs.Calls.{listed}
-use Rattle.laws.specs.Numbering.Parts.{outs-len}
-use Rattle.theory.specs.Numbering.Whole.{below, above, parts, below-len, below-free}
-use Rattle.laws.specs.Numbering.Memories.{memories-append}
+use Rattle.laws.specs.Numbering.Parts.{fromArrays, fromMemories, memoryCells}
+use Rattle.laws.specs.Numbering.Arrays.{below, parts, below-len, below-free}
+use Rattle.laws.specs.Numbering.Memories.{memories-append, mems-all}
 
 module _ (v : ℕ → ℕ) where
   words-append : (xs ys : List Cell) (k : ℕ) → memoryWords (xs ++ ys) k v ≡ memoryWords xs k v ++ memoryWords ys (k + length xs) v
@@ -40,22 +40,12 @@ module _ (v : ℕ → ℕ) where
       go true z h = absurd (omega arith)
       go false z h = h (omega arith)
 
-  words-mems : (n M x : ℕ) (ks ds : List ℕ) → length ks ≡ n → length ds ≡ n → memoryWords (memoriesOf ks ds) (M + x) v ≡ listed (λ y. v (M + y)) x n
+  words-mems : (M : ℕ) (ks ds : List ℕ) (x n : ℕ) → memoryWords (memoriesOf ks ds x n) (M + x) v ≡ listed (λ y. v (M + y)) x n
   unfolding memoriesOf memoryWords listed
-  words-mems zero M x [] ds e d = refl
-  words-mems zero M x (a ∷ ks) ds e d = absurd (omega arith)
-  words-mems (suc n) M x [] ds e d = absurd (omega arith)
-  words-mems (suc n) M x (a ∷ ks) [] e d = absurd (omega arith)
-  words-mems (suc n) M x (a ∷ ks) (b ∷ ds) e d =
+  words-mems M ks ds x zero = refl
+  words-mems M ks ds x (suc n) =
       let z : M + x + 1 ≡ M + (x + 1) = omega arith in
-      ap (λ (l : List ℕ). v (M + x) ∷ l) (ap (λ (j : ℕ). memoryWords (memoriesOf ks ds) j v) z ∙ words-mems n M (x + 1) ks ds (omega arith) (omega arith))
-
-mems-count : (n : ℕ) (ks ds : List ℕ) → length ks ≡ n → length ds ≡ n → memories (memoriesOf ks ds) ≡ n
-unfolding memories memoriesOf bit
-mems-count n [] ds e e′ = e
-mems-count n (a ∷ ks) [] e e′ = e′
-mems-count zero (a ∷ ks) (b ∷ ds) e e′ = absurd (omega arith)
-mems-count (suc n) (a ∷ ks) (b ∷ ds) e e′ = rw (mems-count n ks ds (omega arith) (omega arith)) (omega arith)
+      ap (λ (l : List ℕ). v (M + x) ∷ l) (ap (λ (j : ℕ). memoryWords (memoriesOf ks ds (x + 1) n) j v) z ∙ words-mems M ks ds (x + 1) n)
 
 pub listed-same : (σ τ : Store) (x n : ℕ) → ((y : ℕ) → x ≤ y → y < x + n → σ y ≡ τ y) → listed σ x n ≡ listed τ x n
 unfolding listed
@@ -63,46 +53,34 @@ listed-same σ τ x zero h = refl
 listed-same σ τ x (suc n) h =
     ap₂ (λ (v : ℕ) (l : List ℕ). v ∷ l) (h x (omega arith) (omega arith)) (listed-same σ τ (x + 1) n (λ y a b. h y (omega arith) (omega arith)))
 
+-- words that stand d places further on
+pub listed-further : (σ τ : Store) (d x n : ℕ) → ((y : ℕ) → x ≤ y → y < x + n → σ y ≡ τ (d + y)) → listed σ x n ≡ listed τ (d + x) n
+unfolding listed
+listed-further σ τ d x zero h = refl
+listed-further σ τ d x (suc n) h =
+    let z : d + (x + 1) ≡ d + x + 1 = omega arith in
+    ap₂ (λ (v : ℕ) (l : List ℕ). v ∷ l) (h x (omega arith) (omega arith))
+    (listed-further σ τ d (x + 1) n (λ y a b. h y (omega arith) (omega arith)) ∙ ap (λ (k : ℕ). listed τ k n) z)
+
 -- the sixteen words of a compiled netlist
 module _ (P : Stmt) (sixteen : memories (netlist P) ≡ 16) (v : ℕ → ℕ) where
-  ks : List ℕ
-  ks = clockWires P
-
-  ds : List ℕ
-  ds = dataWires P
-
-  rest : List Cell
-  rest = walk (memoryAt P) P 0 3 (walkAt P) ++ orsFrom 7 (dataSources P (walkAt P)) (dataAt P) 0 16
-
-  above-is : above P ≡ memoriesOf ks ds ++ rest
-  unfolding above ks ds rest
-  above-is = refl
-
-  ks-len : length ks ≡ 16
-  unfolding ks
-  ks-len = outs-len 1 (clockSources P 3) (clockAt P) 0 16
-
-  ds-len : length ds ≡ 16
-  unfolding ds
-  ds-len = outs-len 2 (dataSources P (walkAt P)) (dataAt P) 0 16
-
-  rest-free : memories rest ≡ 0
+  rest-free : memories (fromArrays P) ≡ 0
   rest-free =
       omega (
         arith,
         sym sixteen ∙ ap memories (parts P),
-        memories-append (below P) (above P),
+        memories-append (below P) (fromMemories P),
         below-free P,
-        ap memories above-is,
-        memories-append (memoriesOf ks ds) rest,
-        mems-count 16 ks ds ks-len ds-len,
+        memories-append (memoryCells P) (fromArrays P),
+        mems-all (clockWires P) (dataWires P) 0 16,
       )
 
   pub memory-words : memoryWords (netlist P) 0 v ≡ listed (λ x. v (memoryAt P + x)) 0 16
   memory-words =
       let e : 0 + length (below P) ≡ memoryAt P + 0 = omega (arith, below-len P) in
       ap (λ (net : List Cell). memoryWords net 0 v) (parts P)
-      ∙ words-append v (below P) (above P) 0
-      ∙ rw (words-none v (below P) 0 (below-free P), e, above-is)
-      (words-append v (memoriesOf ks ds) rest (memoryAt P + 0)
-      ∙ rw (words-none v rest (memoryAt P + 0 + length (memoriesOf ks ds)) rest-free, words-mems v 16 (memoryAt P) 0 ks ds ks-len ds-len) (append-nil (listed (λ y. v (memoryAt P + y)) 0 16)))
+      ∙ words-append v (below P) (fromMemories P) 0
+      ∙ rw (words-none v (below P) 0 (below-free P), e)
+      (words-append v (memoryCells P) (fromArrays P) (memoryAt P + 0)
+      ∙ rw (words-none v (fromArrays P) (memoryAt P + 0 + length (memoryCells P)) rest-free, words-mems v (memoryAt P) (clockWires P) (dataWires P) 0 16)
+      (append-nil (listed (λ y. v (memoryAt P + y)) 0 16)))

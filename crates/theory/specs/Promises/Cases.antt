@@ -55,7 +55,7 @@ module _ (options : Options) (program : List ℕ) (bytes : Bytes program) (accep
 -- A full run with room -----------------------------------------------------------------------------------------------------------------
 
 module _ (options : Options) (program words forFile forState : List ℕ) (n : ℕ) (bytes : Bytes program) (accepted : checkCall options program ≡ Accepted)
-    (some : 32 ≤ length words) (f : 6656 ≤ length forFile) (s : 40968 ≤ length forState) (l : n ≤ 1000000) where
+    (some : 544 ≤ length words) (f : 6656 ≤ length forFile) (s : 41480 ≤ length forState) (l : n ≤ 1000000) where
   abbrev file : List ℕ
   file = compiledFile program
 
@@ -71,7 +71,7 @@ module _ (options : Options) (program words forFile forState : List ℕ) (n : �
       rw (
         first-drop 2 (runProgramChecks options program words n forFile forState) accepted,
         le-ltb 1000000 n l,
-        le-ltb (length words) 32 some,
+        le-ltb (length words) 544 some,
         le-ltb (length forFile) (length file) (omega (arith, file-room options program bytes accepted)),
         le-ltb (length forState) (stateSize (cellsOf file)) state-room,
       )
@@ -139,7 +139,7 @@ all-fair = refl
 
 -- what hubrun prints of a program's bytes behind 32 of words and a budget
 hubrun-is : (p : List ℕ) (v n : ℕ)
-    → hubrunText (hubrunInput p v n) ≡ textOf (runProgramCall defaults p (start v) n (replicate 6656 0) (replicate 40968 0) .answer)
+    → hubrunText (hubrunInput p v n) ≡ textOf (runProgramCall defaults p (start v) n (replicate 6656 0) (replicate 41480 0) .answer)
 unfolding hubrunText get32 get16
 hubrun-is p v n =
     let e : n % 256 + 256 * (n / 256) + 65536 * (0 + 256 * 0) ≡ n = omega arith in
@@ -166,7 +166,7 @@ on-circuit (prints p v n text) e g =
     let b = and-true (bytesOnly p) (ltb n 65536) g in
     hubrun-is p v n
     ∙ ap textOf
-    (full-run-ended defaults p (start v) (replicate 6656 0) (replicate 40968 0) n (bytes-of p (b .0)) (ap checked-of e) (omega arith) (omega arith) (omega arith)
+    (full-run-ended defaults p (start v) (replicate 6656 0) (replicate 41480 0) n (bytes-of p (b .0)) (ap checked-of e) (omega arith) (omega arith) (omega arith)
     (omega (arith, ltb-true n 65536 (b .1))) (ap (λ r. text-of r .0) e))
     ∙ ap (λ r. text-of r .1) e
 on-circuit (passes p) e g = λ lent room. ap writtenVerdict (compile-is defaults p (bytes-of p g) (ap checked-of e) lent room)

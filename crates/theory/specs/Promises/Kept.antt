@@ -4,7 +4,7 @@
 use mathlib.Core.Path.{_≡_, refl, sym, _∙_, ap, ap₂}
 use mathlib.Core.Bool.{Bool, true, false}
 use mathlib.Core.List.{List, _∷_, map}
-use Prim.Native.Nat.{ℕ, zero, suc, _+_, _<_, _≤_}
+use Prim.Native.Nat.{ℕ, zero, suc, _+_, _*_, _/_, _%_, _<_, _≤_}
 use native.Mathlib.Omega.{arith}
 use native.Mathlib.Decide.{ℕ-discrete, decLt}
 use lib.Dec.{eqb, ltb}
@@ -22,12 +22,13 @@ use Rattle.model.specs.declared.Written.{Written}
 use Rattle.model.specs.declared.Written.the-variants.{Done}
 use Rattle.model.specs.declared.Answer.{Answer}
 use Rattle.model.specs.Refusals.{first}
+use Rattle.model.specs.Word.{index, elementWord}
 use Rattle.model.specs.Program.{Stmt, programOf}
 use Rattle.model.specs.Rules.{Store, Ends, ended, still, run, endsAt, due}
-use Rattle.model.specs.Circuit.{Values, high, level, Obeys, memories, memoryWords}
-use Rattle.model.specs.Numbering.{netlist, finish, memoryAt}
+use Rattle.model.specs.Circuit.{Values, high, level, element, arrayAt, Obeys, memories, memoryWords}
+use Rattle.model.specs.Numbering.{netlist, finish, arrayCell, memoryAt}
 use Rattle.model.specs.NetlistFile.{fileCheck, cellsOf, finishOf}
-use Rattle.model.specs.State.{stateSize, instantOf, nowAt, beginState, lastState, evaluated, wordsIn}
+use Rattle.model.specs.State.{stateSize, instantOf, nowAt, elementNow, beginState, lastState, evaluated, wordsIn}
 use Rattle.model.specs.Calls.{Returned, verdict, checkCall, compiledFile, compileChecks, compileCall, wordAt, refusedAnswer, shows, running, beginChecks, beginCall, continueCall, fullState, fullCount, runNetlistCall, runProgramChecks, runProgramCall, listed, referenceAnswer}
 use Rattle.model.specs.Promises.{Call, replay, Seen, seen, seenOf, endedIf, expected, Holds, Along, Shown, Unchanged, lastOf, stopsAt, Keeps}
 use Rattle.laws.specs.Refusals.Laws.{by-bool, not-refused, all-accept, refuse-unless, accept-take, first-drop}
@@ -36,7 +37,8 @@ use Rattle.laws.specs.Program.Fit.{Fit}
 use Rattle.laws.specs.Rules.Laws.{steady, still-before, still-below}
 use Rattle.theory.specs.Rules.Relation.{ends-run, ends-once, due-ends, ends-due}
 use Rattle.laws.specs.Numbering.Parts.{net-length}
-use Rattle.theory.specs.Promises.Due.{finish-due, last-words}
+use Rattle.laws.specs.Numbering.Arrays.{past-is}
+use Rattle.theory.specs.Promises.Due.{finish-due, last-words, last-elements}
 use Rattle.laws.specs.Circuit.Ordered.{Ordered}
 use Rattle.theory.specs.Circuit.Exists.{solution, solution-obeys}
 use Rattle.laws.specs.NetlistFile.Passed.{net-ordered, net-passed, file-passed, finish-within}
@@ -45,7 +47,7 @@ use Rattle.theory.specs.State.Sound.{sound-held, holds}
 use Rattle.theory.specs.State.Running.{continues, stops-high, stops-low}
 use Rattle.laws.specs.NetlistFile.Files.{cells-written, finish-written}
 use Rattle.laws.specs.NetlistFile.ReadWrite.{Wrote, wrote}
-use Rattle.theory.specs.Promises.Answers.{memory-words, listed-same}
+use Rattle.theory.specs.Promises.Answers.{memory-words, listed-same, listed-further}
 use Rattle.theory.specs.Promises.Replay.{at0, Good, stands, good, answer-seen, checked, run-call}
 
 -- Calls that are not refused -----------------------------------------------------------------------------------------------------------
@@ -143,7 +145,7 @@ module _ (options : Options) (program file words lent : List ℕ) (accepted : ch
   read : fileCheck file ≡ Accepted
   read = all-accept (beginChecks file words lent) checks 0
 
-  words-fit : ltb (length words) 32 ≡ false
+  words-fit : ltb (length words) 544 ≡ false
   words-fit = refuse-unless _ 14 0 (all-accept (beginChecks file words lent) checks 1)
 
   state-fits : ltb (length lent) (stateSize net) ≡ false
@@ -186,13 +188,37 @@ module _ (options : Options) (program file words lent : List ℕ) (accepted : ch
       ∙ listed-same (λ x. W (memoryAt P + x) t) σ′ 0 16 (λ y a b. last-words P fit σ W (to-netlist W o) t₀ σ′ p t y l (omega arith))
 
   -- and so does a state
-  last : (t₀ : ℕ) (σ′ : Store) → run t₀ P σ ≡ ended t₀ σ′ → (t : ℕ) (s : List ℕ) → t₀ ≤ t → Holding net W t s → wordsIn net 0 s ≡ listed σ′ 0 16
+  last : (t₀ : ℕ) (σ′ : Store) → run t₀ P σ ≡ ended t₀ σ′ → (t : ℕ) (s : List ℕ) → t₀ ≤ t → Holding net σ W t s → wordsIn net 0 s ≡ listed σ′ 0 16
   last t₀ σ′ p t s l H =
       ap (λ (net : List Cell). wordsIn net 0 s) cells-are ∙ memory-words P sixteen (nowAt s)
       ∙ listed-same (λ x. nowAt s (memoryAt P + x)) σ′ 0 16
       (λ y a b.
       H .present (memoryAt P + y) (rw cells-are (omega (arith, net-length P)))
       ∙ last-words P fit σ W (to-netlist W obeys) t₀ σ′ p t y l (omega arith))
+
+  -- and so do the arrays
+  lasting-elements : (W : Values) → Obeys net σ W → (t₀ : ℕ) (σ′ : Store) → run t₀ P σ ≡ ended t₀ σ′ → (t : ℕ) → t₀ ≤ t
+      → (k i : ℕ) → k < 4 → i < 64 → element net σ W (arrayAt net k) i t ≡ σ′ (elementWord k i)
+  lasting-elements W o t₀ σ′ p t l k i a b =
+      let r : index i ≡ i = omega arith in
+      let m : arrayAt net k ≡ arrayCell (memoryAt P) k = ap (λ (net : List Cell). arrayAt net k) cells-are ∙ ap (λ (j : ℕ). j + 2 * k) (past-is P) in
+      ap₂ (λ (net : List Cell) (j : ℕ). element net σ W j i t) cells-are m
+      ∙ ap (λ (w : ℕ). element (netlist P) σ W (arrayCell (memoryAt P) k) w t) (sym r)
+      ∙ last-elements P fit σ W (to-netlist W o) t₀ σ′ p t k i l a
+
+  last-array : (t₀ : ℕ) (σ′ : Store) → run t₀ P σ ≡ ended t₀ σ′ → (t : ℕ) (s : List ℕ) → t₀ ≤ t → Holding net σ W t s
+      → listed (elementNow net s) 0 256 ≡ listed σ′ 16 256
+  unfolding elementWord
+  last-array t₀ σ′ p t s l H =
+      listed-further (elementNow net s) σ′ 16 0 256
+      (λ y a b.
+      let k = y / 64 in
+      let i = y % 64 in
+      let q : y ≡ 64 * k + i = omega arith in
+      ap (elementNow net s) q
+      ∙ H .elements k i (omega arith) (omega arith)
+      ∙ lasting-elements W obeys t₀ σ′ p t l k i (omega arith) (omega arith)
+      ∙ ap σ′ (omega arith))
 
   abbrev state : List ℕ
   state = beginState net σ lent
@@ -201,10 +227,10 @@ module _ (options : Options) (program file words lent : List ℕ) (accepted : ch
   unfolding beginCall running
   begin-is = ap (λ (c : Checked). running c file state 1 lent) checks
 
-  holds-first : (W : Values) → Obeys net σ W → Holding net W 0 state
+  holds-first : (W : Values) → Obeys net σ W → Holding net σ W 0 state
   holds-first W o = begin-holds net ordered σ W o lent room
 
-  holding : Holding net W 0 state
+  holding : Holding net σ W 0 state
   holding = holds-first W obeys
 
   long : stateSize net ≤ length state
@@ -213,8 +239,8 @@ module _ (options : Options) (program file words lent : List ℕ) (accepted : ch
   -- the list of calls, with the beginning: what is true of every state that holds W, and of every refusal that leaves one, is true along the list
   module _ (calls : List Call) where
     along : (W : Values) (o : Obeys net σ W) (Q : ℕ → Returned Answer → Type 0)
-        → ((t k : ℕ) (b : List ℕ) → Holding net W t b → Q t (record { answer = refusedAnswer (at0 k); lent = b }))
-        → ((t : ℕ) (s b : List ℕ) (n : ℕ) → t ≤ 1000000 → Holding net W t s → Holding net W t b → Q t (record { answer = shows file s n; lent = b }))
+        → ((t k : ℕ) (b : List ℕ) → Holding net σ W t b → Q t (record { answer = refusedAnswer (at0 k); lent = b }))
+        → ((t : ℕ) (s b : List ℕ) (n : ℕ) → t ≤ 1000000 → Holding net σ W t s → Holding net σ W t b → Q t (record { answer = shows file s n; lent = b }))
         → Along Q 0 (beginCall file words lent ∷ replay file (beginCall file words lent .lent) calls)
     along W o Q refuses answers =
         let H = holds-first W o in
@@ -239,23 +265,23 @@ module _ (options : Options) (program file words lent : List ℕ) (accepted : ch
         → Along (λ t. Shown file t₀ σ′) 0 (beginCall file words lent ∷ replay file (beginCall file words lent .lent) calls)
     words-shown t₀ σ′ p = along W obeys (λ t. Shown file t₀ σ′) (λ t k b H z h. unfold verdict in not-refused z) answers
       where
-        answers : (t : ℕ) (s b : List ℕ) (n : ℕ) → t ≤ 1000000 → Holding net W t s → Holding net W t b
+        answers : (t : ℕ) (s b : List ℕ) (n : ℕ) → t ≤ 1000000 → Holding net σ W t s → Holding net σ W t b
             → Shown file t₀ σ′ (record { answer = shows file s n; lent = b })
         answers t s b n l H K z h = unfold shows in
             let g : t₀ ≤ t = rw (H .instant l) at h in
-            (last t₀ σ′ p t s g H, last t₀ σ′ p t b g K)
+            (last t₀ σ′ p t s g H, last t₀ σ′ p t b g K, last-array t₀ σ′ p t b g K)
 
     -- where no finish is due, none is answered
     none-ended : ((t : ℕ) → due P σ t ≡ false)
         → Along (λ t r. r .answer .outcome ≡ Ended → ⊥) 0 (beginCall file words lent ∷ replay file (beginCall file words lent .lent) calls)
     none-ended never = along W obeys (λ t r. r .answer .outcome ≡ Ended → ⊥) (λ t k b H. refused-no-end) answers
       where
-        answers : (t : ℕ) (s b : List ℕ) (n : ℕ) → t ≤ 1000000 → Holding net W t s → Holding net W t b → shows file s n .outcome ≡ Ended → ⊥
+        answers : (t : ℕ) (s b : List ℕ) (n : ℕ) → t ≤ 1000000 → Holding net σ W t s → Holding net σ W t b → shows file s n .outcome ≡ Ended → ⊥
         answers t s b n l H K = unfold shows in rw (H .present F wire, finishes W obeys t, never t) open-no-end
 
     held : (W : Values) → Obeys net σ W
-        → Along (λ t r. Holds net W t (r .lent)) 0 (beginCall file words lent ∷ replay file (beginCall file words lent .lent) calls)
-    held W o = along W o (λ t r. Holds net W t (r .lent)) (λ t k b H. holds net σ W o t b H) (λ t s b n l H K. holds net σ W o t b K)
+        → Along (λ t r. Holds net σ W t (r .lent)) 0 (beginCall file words lent ∷ replay file (beginCall file words lent .lent) calls)
+    held W o = along W o (λ t r. Holds net σ W t (r .lent)) (λ t k b H. holds net σ W o t b H) (λ t s b n l H K. holds net σ W o t b K)
 
   -- a full run
   pub whole-run : ℕ → Answer
@@ -300,6 +326,7 @@ module _ (options : Options) (program file words lent : List ℕ) (accepted : ch
         once = ends-once P (fit .timed) σ;
         finishes = finishes;
         memories = λ W o t₀ σ′ h. lasting W o t₀ σ′ (at-end t₀ σ′ h);
+        elements = λ W o t₀ σ′ h. lasting-elements W o t₀ σ′ (at-end t₀ σ′ h);
         words = λ t₀ σ′ h. words-shown calls t₀ σ′ (at-end t₀ σ′ h);
         outcomes = outcomes calls;
         endless = λ h. (λ W o t. finishes W o t ∙ never-due h t, none-ended calls (never-due h));
@@ -328,7 +355,7 @@ module _ (options : Options) (program file words lent : List ℕ) (accepted : ch
     wire-at u = finishes W obeys u ∙ due-at u
 
     -- the answer of a state at the end
-    told-end : (s : List ℕ) (m : ℕ) → Holding net W t s → m ≡ t + 1 → shows file s m ≡ referenceAnswer n (ended t σ′)
+    told-end : (s : List ℕ) (m : ℕ) → Holding net σ W t s → m ≡ t + 1 → shows file s m ≡ referenceAnswer n (ended t σ′)
     unfolding shows referenceAnswer
     told-end s m H e =
         rw (e, last t σ′ (steadily .1 t (omega arith)) t s (omega arith) H, H .instant (omega (arith, steadily .0)), H .present F wire, wire-at t, eq-eqb t t refl)
@@ -358,7 +385,7 @@ module _ (options : Options) (program file words lent : List ℕ) (accepted : ch
     stays-open =
         let C = continues net ordered σ W obeys F wire n 0 state holding long in
         let z : stopsAt (level W F) 0 n ≡ n = stops-never (level W F) n 0 (λ u a b. low u (omega arith)) ∙ omega arith in
-        let H : Holding net W n (lastState net F n state) = rw z at (C .holding) in
+        let H : Holding net σ W n (lastState net F n state) = rw z at (C .holding) in
         let begins : high (nowAt state F) ≡ false = ap high (holding .present F wire) ∙ low 0 (omega arith) in
         let e : 1 + evaluated net F n state ≡ n + 1 = omega (arith, C .count, z) in
         rw (begins, e, H .instant l, H .present F wire, low n (omega arith))

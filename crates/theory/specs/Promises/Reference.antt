@@ -87,7 +87,7 @@ module _ (options : Options) (program words : List ℕ) (n : ℕ) (forFile lent 
   budget : ltb 1000000 n ≡ false
   budget = refuse-unless _ 13 0 (all-accept (runProgramChecks options program words n forFile lent) checks 2)
 
-  words-fit : ltb (length words) 32 ≡ false
+  words-fit : ltb (length words) 544 ≡ false
   words-fit = refuse-unless _ 14 0 (all-accept (runProgramChecks options program words n forFile lent) checks 3)
 
   state-fits : ltb (length lent) (stateSize (cellsOf file)) ≡ false

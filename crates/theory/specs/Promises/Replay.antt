@@ -96,8 +96,8 @@ replay-is file s c cs r e =
 module _ (file : List ℕ) (accepted : fileCheck file ≡ Accepted) (ordered : Ordered (cellsOf file)) (σ : ℕ → ℕ) (W : Values)
     (obeys : Obeys (cellsOf file) σ W) (wire : finishOf file < length (cellsOf file))
     (Q : ℕ → Returned Answer → Type 0)
-    (refuses : (t k : ℕ) (b : List ℕ) → Holding (cellsOf file) W t b → Q t (record { answer = refusedAnswer (at0 k); lent = b }))
-    (answers : (t : ℕ) (s b : List ℕ) (n : ℕ) → t ≤ 1000000 → Holding (cellsOf file) W t s → Holding (cellsOf file) W t b
+    (refuses : (t k : ℕ) (b : List ℕ) → Holding (cellsOf file) σ W t b → Q t (record { answer = refusedAnswer (at0 k); lent = b }))
+    (answers : (t : ℕ) (s b : List ℕ) (n : ℕ) → t ≤ 1000000 → Holding (cellsOf file) σ W t s → Holding (cellsOf file) σ W t b
     → Q t (record { answer = shows file s n; lent = b })) where
   abbrev F : ℕ → Bool
   F = level W (finishOf file)
@@ -112,18 +112,18 @@ module _ (file : List ℕ) (accepted : fileCheck file ≡ Accepted) (ordered : O
     pub unchanged : Unchanged s steps
 
   -- a state's answer
-  pub answer-seen : (t : ℕ) (s b : List ℕ) (n : ℕ) → t ≤ 1000000 → Holding net W t s
+  pub answer-seen : (t : ℕ) (s b : List ℕ) (n : ℕ) → t ≤ 1000000 → Holding net σ W t s
       → seenOf (record { answer = shows file s n; lent = b }) ≡ seen (endedIf (F t)) t n
   unfolding shows
   answer-seen t s b n l H =
       rw (H .instant l, H .present (finishOf file) wire)
 
   -- after an answer that a state gives, the buffer stands at its instant
-  pub stands : (t₀ t : ℕ) (s b : List ℕ) (n : ℕ) → t ≤ 1000000 → Holding net W t s → instantAfter t₀ (record { answer = shows file s n; lent = b }) ≡ t
+  pub stands : (t₀ t : ℕ) (s b : List ℕ) (n : ℕ) → t ≤ 1000000 → Holding net σ W t s → instantAfter t₀ (record { answer = shows file s n; lent = b }) ≡ t
   unfolding shows
   stands t₀ t s b n l H = stood (high (nowAt s (finishOf file))) t₀ (instantOf s) ∙ H .instant l
 
-  module _ (t : ℕ) (s : List ℕ) (H : Holding net W t s) (room : stateSize net ≤ length s) (l : t ≤ 1000000) (c : Call) (cs : List Call) where
+  module _ (t : ℕ) (s : List ℕ) (H : Holding net σ W t s) (room : stateSize net ≤ length s) (l : t ≤ 1000000) (c : Call) (cs : List Call) where
     L : List ℕ
     L = take (c .lent) s
 
@@ -148,9 +148,9 @@ module _ (file : List ℕ) (accepted : fileCheck file ≡ Accepted) (ordered : O
         })
 
     -- the lent part holds what the buffer holds
-    lent-holds : stateSize net ≤ c .lent → Holding net W t L
+    lent-holds : stateSize net ≤ c .lent → Holding net σ W t L
     unfolding L
-    lent-holds h = same-holds net s (take (c .lent) s) (λ j x. getD-take (c .lent) s j 0 (omega arith)) W t H
+    lent-holds h = same-holds net s (take (c .lent) s) (λ j x. getD-take (c .lent) s j 0 (omega arith)) σ W t H
 
     lent-length : length L ≡ min (c .lent) (length s)
     unfolding L
@@ -173,7 +173,7 @@ module _ (file : List ℕ) (accepted : fileCheck file ≡ Accepted) (ordered : O
         (expected-is F (stateSize net) t c cs false true (le-ltb _ _ h) (lt-ltb _ _ m)) G
 
     runs : stateSize net ≤ c .lent → t + c .n ≤ 1000000
-        → ((t′ : ℕ) (b : List ℕ) → Holding net W t′ b → stateSize net ≤ length b → t′ ≤ 1000000 → Good t′ b cs (replay file b cs))
+        → ((t′ : ℕ) (b : List ℕ) → Holding net σ W t′ b → stateSize net ≤ length b → t′ ≤ 1000000 → Good t′ b cs (replay file b cs))
         → Good t s (c ∷ cs) (replay file s (c ∷ cs))
     unfolding choose L S shows
     runs h m go =
@@ -184,7 +184,7 @@ module _ (file : List ℕ) (accepted : fileCheck file ≡ Accepted) (ordered : O
         let s₁ = lastState net f (c .n) L in
         let b = s₁ ++ drop (c .lent) s in
         let k : t′ ≤ 1000000 = omega (arith, C .top) in
-        let X = same-holds net s₁ b (λ j x. List·getD-append s₁ (drop (c .lent) s) 0 j (omega (arith, C .long, lent-length))) W t′ (C .holding) in
+        let X = same-holds net s₁ b (λ j x. List·getD-append s₁ (drop (c .lent) s) 0 j (omega (arith, C .long, lent-length))) σ W t′ (C .holding) in
         let G = go t′ b X (rw (length-append s₁ (drop (c .lent) s)) (omega (arith, C .long, lent-length))) k in
         let e = checked file accepted (c .n) L false true false (le-ltb (length L) (stateSize net) (omega (arith, lent-length))) (sound-held net σ W obeys t L K)
         (le-ltb 1000000 (instantOf L + c .n) (rw (K .instant l) m)) in
@@ -199,13 +199,13 @@ module _ (file : List ℕ) (accepted : fileCheck file ≡ Accepted) (ordered : O
           unchanged = ((λ h. absurd (omega (arith, h, ap numberOf (no-refusal (high (nowAt s₁ f)))))), G .unchanged);
         })
 
-  pub good : (calls : List Call) (t : ℕ) (s : List ℕ) → Holding net W t s → stateSize net ≤ length s → t ≤ 1000000 → Good t s calls (replay file s calls)
+  pub good : (calls : List Call) (t : ℕ) (s : List ℕ) → Holding net σ W t s → stateSize net ≤ length s → t ≤ 1000000 → Good t s calls (replay file s calls)
   unfolding replay expected
   good [] t s H room l = record { outcomes = refl; every = tt; unchanged = tt }
   good (c ∷ cs) t s H room l = by (decLt (c .lent) (stateSize net)) (decLt 1000000 (t + c .n)) (good cs t s H room l) (good cs)
     where
       by : Dec (c .lent < stateSize net) → Dec (1000000 < t + c .n) → Good t s cs (replay file s cs)
-          → ((t′ : ℕ) (b : List ℕ) → Holding net W t′ b → stateSize net ≤ length b → t′ ≤ 1000000 → Good t′ b cs (replay file b cs))
+          → ((t′ : ℕ) (b : List ℕ) → Holding net σ W t′ b → stateSize net ≤ length b → t′ ≤ 1000000 → Good t′ b cs (replay file b cs))
           → Good t s (c ∷ cs) (replay file s (c ∷ cs))
       by (yes x) y G go = short t s H room l c cs x G
       by (no x) (yes y) G go = late t s H room l c cs (omega arith) y G

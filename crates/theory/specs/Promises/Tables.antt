@@ -23,28 +23,28 @@ use Rattle.laws.specs.NetlistFile.Blocks.{block-sum, block-of, zero-tail, zeros
 
 -- The rules of a byte ------------------------------------------------------------------------------------------------------------------
 
-time-byte : (i b : ℕ) → 10 ≤ i → i ≤ 16 → byteWrong i b ≡ false → (1 ≤ b) × (b ≤ 200)
+time-byte : (i b : ℕ) → 10 ≤ i → i ≤ 17 → byteWrong i b ≡ false → (1 ≤ b) × (b ≤ 200)
 unfolding byteWrong
 time-byte i b l h e =
     let o : (eqb b 0 ≡ false) × (ltb 200 b ≡ false) =
-    or-false _ _ (rw (ne-eqb i 2 (λ e. omega arith), ne-eqb i 6 (λ e. omega arith), ne-eqb i 7 (λ e. omega arith), le-leb 10 i l, le-leb i 16 h) at e) in
+    or-false _ _ (rw (ne-eqb i 2 (λ e. omega arith), ne-eqb i 6 (λ e. omega arith), ne-eqb i 7 (λ e. omega arith), le-leb 10 i l, le-leb i 17 h) at e) in
     let n = eqb-false b 0 (o .0) in
     (omega (arith, n), ltb-false 200 b (o .1))
 
-late-byte : (i b : ℕ) → 17 ≤ i → byteWrong i b ≡ not (eqb b 0)
+late-byte : (i b : ℕ) → 18 ≤ i → byteWrong i b ≡ not (eqb b 0)
 unfolding byteWrong
 late-byte i b l =
-    rw (ne-eqb i 2 (λ e. omega arith), ne-eqb i 6 (λ e. omega arith), ne-eqb i 7 (λ e. omega arith), le-leb 10 i (omega arith), lt-leb i 16 l)
+    rw (ne-eqb i 2 (λ e. omega arith), ne-eqb i 6 (λ e. omega arith), ne-eqb i 7 (λ e. omega arith), le-leb 10 i (omega arith), lt-leb i 17 l)
 
 -- The file of times in range -----------------------------------------------------------------------------------------------------------
 
 module _ (τ : ℕ → ℕ) (range : InRange τ) where
-  time-right : (k : ℕ) → 3 ≤ k → k ≤ 9 → (eqb (τ k) 0 || ltb 200 (τ k)) ≡ false
+  time-right : (k : ℕ) → 3 ≤ k → k ≤ 10 → (eqb (τ k) 0 || ltb 200 (τ k)) ≡ false
   time-right k l h =
       let r = range .2 k l h in
       rw (ne-eqb (τ k) 0 (λ e. omega arith), le-ltb 200 (τ k) (r .1))
 
-  front-right : firstFault (tableFault (tableFile τ)) 0 17 ≡ Accepted
+  front-right : firstFault (tableFault (tableFile τ)) 0 18 ≡ Accepted
   unfolding firstFault tableFault byteWrong tableFile bytes16 listed
   front-right =
       rw (
@@ -57,36 +57,37 @@ module _ (τ : ℕ → ℕ) (range : InRange τ) where
         time-right 7 (omega arith) (omega arith),
         time-right 8 (omega arith) (omega arith),
         time-right 9 (omega arith) (omega arith),
+        time-right 10 (omega arith) (omega arith),
       )
 
-  late-zero : (i : ℕ) → 17 ≤ i → getD (tableFile τ) i 0 ≡ 0
+  late-zero : (i : ℕ) → 18 ≤ i → getD (tableFile τ) i 0 ≡ 0
   unfolding tableFile bytes16 listed
   late-zero i l =
-      let z : 17 + (i - 17) ≡ i = omega arith in
-      ap (λ (j : ℕ). getD (tableFile τ) j 0) (sym z) ∙ sym (getD-drop 17 (tableFile τ) (i - 17) 0) ∙ zero-tail 495 (i - 17)
+      let z : 18 + (i - 18) ≡ i = omega arith in
+      ap (λ (j : ℕ). getD (tableFile τ) j 0) (sym z) ∙ sym (getD-drop 18 (tableFile τ) (i - 18) 0) ∙ zero-tail 494 (i - 18)
 
   byte-right : (i : ℕ) → tableFault (tableFile τ) i ≡ 0
   unfolding tableFault
   byte-right i =
-      by-le 17 i (λ l. rw (late-byte i (getD (tableFile τ) i 0) l, late-zero i l)) (λ l. no-fault (tableFault (tableFile τ)) 17 front-right i l)
+      by-le 18 i (λ l. rw (late-byte i (getD (tableFile τ) i 0) l, late-zero i l)) (λ l. no-fault (tableFault (tableFile τ)) 18 front-right i l)
 
   file-length : length (tableFile τ) ≡ 512
   unfolding tableFile bytes16 listed
-  file-length = omega (arith, length-replicate {A = ℕ} 495 0)
+  file-length = omega (arith, length-replicate {A = ℕ} 494 0)
 
   file-sum : wordSum (tableFile τ) % 65536 ≡ 0
   unfolding tableFile
-  file-sum = block-sum 0 9 0 (listed τ 1 9 ++ replicate 495 0)
+  file-sum = block-sum 0 10 0 (listed τ 1 10 ++ replicate 494 0)
 
   file-checked : load (given (tableFile τ)) .checked ≡ Accepted
   unfolding load tableSumWrong
   file-checked = rw (file-length, file-sum, faultless (tableFault (tableFile τ)) 0 512 (λ i l h. byte-right i))
 
-  file-times : load (given (tableFile τ)) .times ≡ 0 ∷ listed τ 1 9
+  file-times : load (given (tableFile τ)) .times ≡ 0 ∷ listed τ 1 10
   unfolding load timesIn tableFile bytes16 listed
   file-times = refl
 
-  file-loads : load (given (tableFile τ)) ≡ record { checked = Accepted; times = 0 ∷ listed τ 1 9 }
+  file-loads : load (given (tableFile τ)) ≡ record { checked = Accepted; times = 0 ∷ listed τ 1 10 }
   unfolding load
   file-loads = ap₂ (λ (c : Checked) (times : List ℕ). record { checked = c; times = times }) file-checked file-times
 
@@ -123,10 +124,10 @@ module _ (file : List ℕ) (bytes : Bytes file) (accepted : load (given file) .c
   byte-is : (i v : ℕ) → i < 512 → byteWrong i (byteAt i) ≡ not (eqb (byteAt i) v) → byteAt i ≡ v
   byte-is i v l e = eqb-true _ _ (not-false (eqb (byteAt i) v) (sym e ∙ right i l))
 
-  late-bytes : drop 17 file ≡ replicate 495 0
-  late-bytes = zeros-back 495 (drop 17 file) (rw (length-drop 17 file, whole)) (λ i. getD-drop 17 file i 0 ∙ late (17 + i) (omega arith))
+  late-bytes : drop 18 file ≡ replicate 494 0
+  late-bytes = zeros-back 494 (drop 18 file) (rw (length-drop 18 file, whole)) (λ i. getD-drop 18 file i 0 ∙ late (18 + i) (omega arith))
     where
-      late : (i : ℕ) → 17 ≤ i → byteAt i ≡ 0
+      late : (i : ℕ) → 18 ≤ i → byteAt i ≡ 0
       late i l = by-le 512 i (λ h. List·getD-eq-default file 0 {n = i} (omega (arith, whole))) (λ h. byte-is i 0 h (late-byte i (byteAt i) l))
 
   -- the times that it has
@@ -141,15 +142,15 @@ module _ (file : List ℕ) (bytes : Bytes file) (accepted : load (given file) .c
     λ k l h. time-byte (7 + k) (timeOf k) (omega arith) (omega arith) (right (7 + k) (omega arith)),
   )
 
-  byte-by-byte : file ≡ 0 ∷ 0 ∷ 9 ∷ 0 ∷ 0 ∷ 0 ∷ byteAt 6 ∷ byteAt 7 ∷ (listed timeOf 1 9 ++ replicate 495 0)
+  byte-by-byte : file ≡ 0 ∷ 0 ∷ 10 ∷ 0 ∷ 0 ∷ 0 ∷ byteAt 6 ∷ byteAt 7 ∷ (listed timeOf 1 10 ++ replicate 494 0)
   unfolding byteWrong listed
   byte-by-byte =
-      listed-bytes file 17 0 (omega (arith, whole))
+      listed-bytes file 18 0 (omega (arith, whole))
       ∙ rw (
         late-bytes,
         byte-is 0 0 (omega arith) refl,
         byte-is 1 0 (omega arith) refl,
-        byte-is 2 9 (omega arith) refl,
+        byte-is 2 10 (omega arith) refl,
         byte-is 3 0 (omega arith) refl,
         byte-is 4 0 (omega arith) refl,
         byte-is 5 0 (omega arith) refl,
@@ -159,7 +160,7 @@ module _ (file : List ℕ) (bytes : Bytes file) (accepted : load (given file) .c
   unfolding tableFile
   file-back =
       byte-by-byte
-      ∙ sym (block-of 0 9 0 0 0 9 0 0 0 (byteAt 6) (byteAt 7) _ (omega arith) (omega arith) (omega arith) (bytes 6) (bytes 7) refl refl refl (rw (sym byte-by-byte) sum))
+      ∙ sym (block-of 0 10 0 0 0 10 0 0 0 (byteAt 6) (byteAt 7) _ (omega arith) (omega arith) (omega arith) (bytes 6) (bytes 7) refl refl refl (rw (sym byte-by-byte) sum))
 
 pub tables : Tables
 tables =

@@ -17,11 +17,11 @@ use Rattle.model.specs.declared.Checked.the-variants.{Accepted, Refused}
 use Rattle.model.specs.declared.Answer.{Answer}
 use Rattle.model.specs.Word.{pick}
 use Rattle.model.specs.Refusals.{refuse, refuseIf, first, firstFault, faultIf}
-use Rattle.model.specs.Program.{timeIn, nodeAt, nodesAt, nodeCount, rowOf, unusedSet, nodeFault, children, reading, delayFault, conflictFault, conflicts, stmtAt, least, programLengthWrong, programChecks, checkOf, programOf}
+use Rattle.model.specs.Program.{timeIn, nodeAt, nodesAt, nodeCount, rowOf, unusedSet, absent, nodeFault, children, reading, delayFault, conflictFault, conflicts, stmtAt, least, programLengthWrong, programChecks, checkOf, programOf}
 use Rattle.model.specs.Rules.{Run, ended, still, run}
-use Rattle.model.specs.Circuit.{high, cellAt, control, memories}
+use Rattle.model.specs.Circuit.{high, cellAt, control, memories, pastMemories}
 use Rattle.model.specs.Numbering.{finish}
-use Rattle.model.specs.NetlistFile.{wordSum, blockAt, headerRight, placed, keeps, fileLengthWrong, sumFault, countWrong, headerFault, cellFault, netChecks, netCheck, fileChecks, fileCheck, blocksFor, fileOf, cellBytes, cellsOf, countOf, finishOf}
+use Rattle.model.specs.NetlistFile.{wordSum, blockAt, headerRight, placed, arrayPlaced, keeps, fileLengthWrong, sumFault, countWrong, headerFault, cellFault, netChecks, netCheck, fileChecks, fileCheck, blocksFor, fileOf, cellBytes, cellsOf, countOf, finishOf}
 use Rattle.model.specs.TimeTables.{byteWrong, tableFault, tableSumWrong, tableChecks, TimeTable, builtIn, given, load}
 use Rattle.model.specs.State.{stateSize, instantOf, nowAt, sound, beginState, lastState, evaluated}
 use Rattle.model.specs.Calls.{verdict, writtenVerdict, short, checkCall, writing, compiledFile, netlistChecks, compileChecks, compileCall, cellsIn, writeChecks, writeCall, readChecks, readCall, wordAt, shows, running, beginChecks, beginCall, continueChecks, continueCall, fullState, fullCount, overBudget, runNetlistChecks, runNetlistCall, fullRunChecks, runProgramChecks, runProgramCall, referenceAnswer, answering, referenceChecks, referenceCall}
@@ -67,7 +67,7 @@ faulty-if false k l = absurd (omega arith)
 node-faulty : (a : Node) → Faulty 2 4 (nodeFault a)
 unfolding nodeFault
 node-faulty a =
-    go (eqb (rowOf (a .kind) .sort) 0) (unusedSet (rowOf (a .kind) .delay) (a .delay) || unusedSet (rowOf (a .kind) .number) (a .n)) (eqb (rowOf (a .kind) .number) 2 && ltb 15 (a .n))
+    go (eqb (rowOf (a .kind) .sort) 0) (unusedSet (rowOf (a .kind) .delay) (a .delay) || unusedSet (rowOf (a .kind) .number) (a .n)) (absent (rowOf (a .kind) .number) (a .n))
   where
     go : (p q r : Bool) → Faulty 2 4 (pick p 2 (pick q 3 (faultIf r 4)))
     go true q r l = (omega arith, omega arith)
@@ -139,10 +139,13 @@ table-gives (given file) = gives-first 19 21 ((19, 19) ∷ (20, 20) ∷ (21, 21)
 net-gives : (net : List Cell) (f : ℕ) → Gives (12, 12) (netCheck net f)
 unfolding netCheck cellFault
 net-gives net f =
-    gives-first 12 12 ((12, 12) ∷ (12, 12) ∷ (12, 12) ∷ []) (netChecks net f) refl (
+    gives-first 12 12 ((12, 12) ∷ (12, 12) ∷ (12, 12) ∷ (12, 12) ∷ []) (netChecks net f) refl (
       gives-fault 12 12 (cellFault net) (length net)
-          (λ i. let c = cellAt net i in faulty-if (not (placed i c && keeps net i c)) 12),
-      (gives-if (not (eqb (memories net) 16)) 12 (length net), (gives-if (not (control (cellAt net f .kind))) 12 f, tt)),
+          (λ i. let c = cellAt net i in faulty-if (not (placed i c && (arrayPlaced (pastMemories net 16) i c && keeps net i c))) 12),
+      (
+        gives-if (not (eqb (memories net) 16)) 12 (length net),
+        (gives-if (ltb (length net) (pastMemories net 16 + 8)) 12 (length net), (gives-if (not (control (cellAt net f .kind))) 12 f, tt)),
+      ),
     )
 
 miscount-gives : (cs : List Cell) (f : ℕ) → Gives (11, 11) (miscounted cs f)
@@ -244,7 +247,7 @@ pub run-order : (times program words : List ℕ) (n : ℕ) (forFile lent : List 
     → InOrder ((1, 8) ∷ (13, 13) ∷ (14, 14) ∷ (14, 14) ∷ (14, 14) ∷ []) (fullRunChecks times program words n forFile lent)
 run-order times program words n forFile lent =
     let file = compiledFile program in
-    (check-gives times program, (budget-gives n, (short-gives (length words) 32, (short-gives (length forFile) (length file), (short-gives (length lent) (stateSize (cellsOf file)), tt)))))
+    (check-gives times program, (budget-gives n, (short-gives (length words) 544, (short-gives (length forFile) (length file), (short-gives (length lent) (stateSize (cellsOf file)), tt)))))
 
 -- a full run of a program, after whatever checks
 pub run-both-refuses : (ns : List (ℕ × ℕ)) (cs : List Checked) → positive ns ≡ true → InOrder ns cs → (file s : List ℕ) (n : ℕ) (forFile lent : List ℕ) →
@@ -292,7 +295,7 @@ demand-1 =
           (finishOf file) lent;
       beginning = λ file words lent.
           run-refuses _ (beginChecks file words lent) refl
-          (file-gives file, (short-gives (length words) 32, (short-gives (length lent) (stateSize (cellsOf file)), tt))) file
+          (file-gives file, (short-gives (length words) 544, (short-gives (length lent) (stateSize (cellsOf file)), tt))) file
           (beginState (cellsOf file) (wordAt words) lent) 1 lent;
       continuing = λ file n lent.
           run-refuses _ (continueChecks file n lent) refl (
@@ -305,12 +308,12 @@ demand-1 =
           file (lastState (cellsOf file) (finishOf file) n lent) (evaluated (cellsOf file) (finishOf file) n lent) lent;
       netlistRuns = λ file words n lent.
           run-refuses _ (runNetlistChecks file words n lent) refl
-          (file-gives file, (budget-gives n, (short-gives (length words) 32, (short-gives (length lent) (stateSize (cellsOf file)), tt)))) file
+          (file-gives file, (budget-gives n, (short-gives (length words) 544, (short-gives (length lent) (stateSize (cellsOf file)), tt)))) file
           (fullState file words n lent) (fullCount file words n lent) lent;
       programRuns = program-runs;
       references = λ T program words n.
           rw (answering-verdict (first (referenceChecks (load T) program words n)) (referenceAnswer n (run n (programOf program) (wordAt words))) (reference-runs n program words))
-          (refuses _ (referenceChecks (load T) program words n) refl (table-gives T, (check-gives (load T .times) program, (budget-gives n, (short-gives (length words) 32, tt)))));
+          (refuses _ (referenceChecks (load T) program words n) refl (table-gives T, (check-gives (load T .times) program, (budget-gives n, (short-gives (length words) 544, tt)))));
       cellsChecked = λ cs f. unfold checkCellsCall in refuses _ (checkCellsChecks cs f) refl (miscount-gives cs f, (net-gives cs f, tt));
       cellsWritten = λ cs f lent. unfold writeCellsCall in
           write-refuses _ (writeCellsChecks cs f lent) refl (miscount-gives cs f, (net-gives cs f, (short-gives (length lent) (length (fileOf cs f)), tt)))

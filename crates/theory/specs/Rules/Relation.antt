@@ -7,8 +7,8 @@ use mathlib.Core.Bool.{Bool, true, false, true≢false}
 use native.Mathlib.Omega.{arith}
 use lib.Dec.{eqb}
 use borrow.Author.Tests.{eqb-true, eq-eqb}
-use Rattle.model.specs.Word.{isZero}
-use Rattle.model.specs.Program.{Expr, Stmt, ok, tick, assign, seq, par, ite, while, repeat}
+use Rattle.model.specs.Word.{isZero, elementWord}
+use Rattle.model.specs.Program.{Expr, Stmt, ok, tick, assign, assignElem, seq, par, ite, while, repeat}
 use Rattle.model.specs.Rules.{Store, eval, put, kept, WhileEnds, RepeatEnds, Ends, Run, ended, wait, chain, whiles, repeats, run, endsAt, due}
 use Rattle.laws.specs.Program.Fit.{Timed}
 use Rattle.laws.specs.Refusals.Laws.{by-bool}
@@ -59,6 +59,7 @@ unfolding run Ends
 run-ends ok k σ t σ′ p = (sym (ended-time p), sym (ended-words p))
 run-ends (tick d) k σ t σ′ p = wait-end d k p
 run-ends (assign d x e) k σ t σ′ p = let w = wait-end (suc d) k p in (omega (arith, w .0), w .1)
+run-ends (assignElem d j i e) k σ t σ′ p = let w = wait-end (suc d) k p in (omega (arith, w .0), w .1)
 run-ends (seq P Q) k σ t σ′ p =
     let v = chain-ended (run k P σ) (λ t σ₁. run (k - t) Q σ₁) p in
     (v .0, v .1, v .2, run-ends P k σ (v .0) (v .1) (v .3), run-ends Q (k - v .0) (v .1) (v .2) σ′ (v .4), v .5)
@@ -121,6 +122,9 @@ ends-run (tick d) h σ t σ′ E k l = rw (E .0, E .1) (wait-all d k σ (omega (
 ends-run (assign d x e) h σ t σ′ E k l =
     let q : t ≡ suc d = omega (arith, E .0) in
     rw (q, E .1) (wait-all (suc d) k (put σ x (eval e σ)) (omega arith))
+ends-run (assignElem d j i e) h σ t σ′ E k l =
+    let q : t ≡ suc d = omega (arith, E .0) in
+    rw (q, E .1) (wait-all (suc d) k (put σ (elementWord j (eval i σ)) (eval e σ)) (omega arith))
 ends-run (seq P Q) h σ t σ′ E k l =
     rw (E .5)
     (chain-of (run k P σ) (λ t σ₁. run (k - t) Q σ₁) (ends-run P (h .0) σ (E .0) (E .1) (E .3) k (omega (arith, E .5)))

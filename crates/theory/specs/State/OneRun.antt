@@ -40,7 +40,7 @@ module _ (net : List Cell) (o : Ordered net) (words : ℕ → ℕ) where
         obeys = obeyed;
         only = λ U h. unique net o words U W h obeyed;
         states = λ lent room. states net o words W obeyed lent room;
-        past = past-state net words;
+        past = past-state net o words;
         continuing = going;
         controls = level-bound net words W obeyed;
       }

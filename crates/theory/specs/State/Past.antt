@@ -1,17 +1,23 @@
 -- Bytes past a state keep their values: beginning and each further instant write below the state's size only.
 -- Assumes nothing.
 use mathlib.Core.Path.{_≡_, refl, _∙_}
-use mathlib.Core.List.{List}
+use mathlib.Core.Bool.{Bool, true, false, not, _&&_}
+use mathlib.Core.List.{List, _++_, append-assoc}
 use Prim.Native.Nat.{ℕ, zero, suc, _+_, _*_, _/_, _%_, _<_, _≤_}
 use native.Mathlib.Omega.{arith}
-use lib.ListN.{length, set, drop, replicate, length-replicate}
+use lib.Dec.{eqb}
+use lib.ListN.{length, set, drop, replicate, length-append, length-replicate}
+use borrow.Author.Tests.{eqb-true}
 use lib.Seq.{drop-at, drop-set-lt}
 use Rattle.model.specs.declared.Cell.{Cell}
 use Rattle.model.specs.declared.Merge.{Merge}
-use Rattle.model.specs.Word.{bit, put16, put32}
-use Rattle.model.specs.Circuit.{cellAt, Shape, shape, kConstant, kComplement, kOperator, kStart, kGround, kDelay, kOr, kWhenTrue, kWhenFalse, kMerge, kMemory, kGated, kUnknown}
-use Rattle.model.specs.State.{stateSize, base, instantOf, value, firstValue, upTo, aged, shown, shiftedIn, holding, settle, settled, beginState, stepState}
+use Rattle.model.specs.Word.{pick, bit, elementOf, put16, put32}
+use Rattle.model.specs.Circuit.{cellAt, high, Shape, shape, kConstant, kComplement, kOperator, kStart, kGround, kDelay, kOr, kWhenTrue, kWhenFalse, kMerge, kMemory, kGated, kArray, kAddress, kRead, kUnknown}
+use Rattle.model.specs.State.{stateSize, base, elementBase, instantOf, nowAt, beforeAt, value, firstValue, upTo, aged, stored, shown, shiftedIn, holding, settle, settled, wordBytes, blank, beginState, stepState}
 use Rattle.model.specs.Promises.{stateAt}
+use Rattle.laws.specs.Refusals.Laws.{and-true}
+use Rattle.laws.specs.Circuit.Ordered.{Ordered}
+use Rattle.theory.specs.State.States.{length-words}
 
 -- t has the bytes of s from n on
 abbrev Past : ℕ → List ℕ → List ℕ → Type 0
@@ -52,40 +58,66 @@ past-settle n kWhenFalse s k c l = refl
 past-settle n kMerge s k c l = past-holding n s k _ l
 past-settle n kMemory s k c l = refl
 past-settle n kGated s k c l = refl
+past-settle n kArray s k c l = refl
+past-settle n kAddress s k c l = refl
+past-settle n kRead s k c l = refl
 past-settle n kUnknown s k c l = refl
 
 -- a pass over m cells
-past-pass : (n : ℕ) (f : List ℕ → ℕ → List ℕ) → ((s : List ℕ) (k : ℕ) → base k + 40 ≤ n → Past n s (f s k)) → (m : ℕ) → 8 + 40 * m ≤ n → (s : List ℕ)
-    → Past n s (upTo f m s)
+past-pass : (n : ℕ) (f : List ℕ → ℕ → List ℕ) (m : ℕ) → ((s : List ℕ) (k : ℕ) → k < m → Past n s (f s k)) → (s : List ℕ) → Past n s (upTo f m s)
 unfolding upTo
-past-pass n f h zero l s = refl
-past-pass n f h (suc m) l s = h (upTo f m s) m (omega arith) ∙ past-pass n f h m (omega arith) s
+past-pass n f zero h s = refl
+past-pass n f (suc m) h s = h (upTo f m s) m (omega arith) ∙ past-pass n f m (λ s k l. h s k (omega arith)) s
 
-module _ (net : List Cell) where
-  past-settled : (s : List ℕ) (k : ℕ) → base k + 40 ≤ stateSize net → Past (stateSize net) s (settled net s k)
-  past-settled s k l = past-settle (stateSize net) (shape (cellAt net k .kind)) s k (cellAt net k) l
+module _ (net : List Cell) (ordered : Ordered net) where
+  past-settled : (s : List ℕ) (k : ℕ) → k < length net → Past (stateSize net) s (settled net s k)
+  past-settled s k l = past-settle (stateSize net) (shape (cellAt net k .kind)) s k (cellAt net k) (omega arith)
 
-  past-shown : (v : List ℕ → ℕ → ℕ) (s : List ℕ) (k : ℕ) → base k + 40 ≤ stateSize net → Past (stateSize net) s (shown v s k)
+  -- an array's word is among the 256
+  past-stored : (s : List ℕ) (k : ℕ) → k < length net → Past (stateSize net) s (stored net s k)
+  unfolding stored
+  past-stored s k l = go (eqb (cellAt net k .kind) 42 && falls) refl
+    where
+      falls : Bool
+      falls = high (beforeAt s (cellAt net k .a)) && not (high (nowAt s (cellAt net k .a)))
+
+      w : ℕ
+      w = beforeAt s (cellAt net (k + 1) .a)
+
+      go : (q : Bool) → (eqb (cellAt net k .kind) 42 && falls) ≡ q
+          → Past (stateSize net) s (pick q (put16 s (elementBase net (elementOf (cellAt net k .delay) w)) (beforeAt s (cellAt net k .b))) s)
+      go false e = refl
+      go true e =
+          let o = ordered .stands k l (eqb-true _ _ (and-true (eqb (cellAt net k .kind) 42) falls e .0)) in
+          past-put16 (stateSize net) s _ _ (omega (arith, o .0))
+
+  past-shown : (v : List ℕ → ℕ → ℕ) (s : List ℕ) (k : ℕ) → k < length net → Past (stateSize net) s (shown net v s k)
   unfolding shown
-  past-shown v s k l = past-put16 (stateSize net) s (base k) (v s k) (omega arith)
+  past-shown v s k l = past-put16 (stateSize net) (stored net s k) (base k) (v s k) (omega arith) ∙ past-stored s k l
 
-  past-aged : (s : List ℕ) (k : ℕ) → base k + 40 ≤ stateSize net → Past (stateSize net) s (aged s k)
+  past-aged : (s : List ℕ) (k : ℕ) → k < length net → Past (stateSize net) s (aged s k)
   unfolding aged
   past-aged s k l = past-put16 (stateSize net) s (base k + 2) _ (omega arith)
+
+  past-blank : (words : ℕ → ℕ) (lent : List ℕ) → Past (stateSize net) lent (blank net words lent)
+  past-blank words lent =
+      rw (← append-assoc (replicate (8 + 40 * length net) 0) (wordBytes words 16 256) (drop (stateSize net) lent))
+      (drop-at (replicate (8 + 40 * length net) 0 ++ wordBytes words 16 256) (drop (stateSize net) lent) (stateSize net)
+      (simp (length-append, length-replicate) (omega (arith, length-words words 16 256))))
 
   past-begin : (words : ℕ → ℕ) (lent : List ℕ) → Past (stateSize net) lent (beginState net words lent)
   unfolding beginState
   past-begin words lent =
-      past-pass (stateSize net) (settled net) past-settled (length net) (omega arith) _
-      ∙ past-pass (stateSize net) (shown (firstValue net words)) (past-shown (firstValue net words)) (length net) (omega arith) _
-      ∙ drop-at (replicate (stateSize net) 0) (drop (stateSize net) lent) (stateSize net) (length-replicate {A = ℕ} (stateSize net) 0)
+      past-pass (stateSize net) (settled net) (length net) past-settled _
+      ∙ past-pass (stateSize net) (shown net (firstValue net words)) (length net) (past-shown (firstValue net words)) _
+      ∙ past-blank words lent
 
   past-step : (s : List ℕ) → Past (stateSize net) s (stepState net s)
   unfolding stepState
   past-step s =
-      past-pass (stateSize net) (settled net) past-settled (length net) (omega arith) _
-      ∙ past-pass (stateSize net) (shown (value net)) (past-shown (value net)) (length net) (omega arith) _
-      ∙ past-pass (stateSize net) aged past-aged (length net) (omega arith) _
+      past-pass (stateSize net) (settled net) (length net) past-settled _
+      ∙ past-pass (stateSize net) (shown net (value net)) (length net) (past-shown (value net)) _
+      ∙ past-pass (stateSize net) aged (length net) past-aged _
       ∙ past-put32 (stateSize net) s (instantOf s + 1) (omega arith)
 
   pub past-state : (words : ℕ → ℕ) (lent : List ℕ) (t : ℕ) → drop (stateSize net) (stateAt net words lent t) ≡ drop (stateSize net) lent

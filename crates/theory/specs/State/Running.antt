@@ -8,7 +8,7 @@ use lib.ListN.{length, getD}
 use Rattle.model.specs.declared.Cell.{Cell}
 use Rattle.model.specs.Word.{get32}
 use Rattle.model.specs.Circuit.{Values, high, level, Obeys}
-use Rattle.model.specs.State.{stateSize, base, instantOf, nowAt, beforeAt, heldAt, lineBit, stepState, lastState, evaluated}
+use Rattle.model.specs.State.{stateSize, base, elementBase, elementNow, instantOf, nowAt, beforeAt, heldAt, lineBit, stepState, lastState, evaluated}
 use Rattle.model.specs.Promises.{stopsAt}
 use Rattle.laws.specs.Refusals.Laws.{by-bool}
 use Rattle.laws.specs.Circuit.Ordered.{Ordered}
@@ -40,13 +40,16 @@ module _ (net : List Cell) (s u : List ℕ) (same : (j : ℕ) → j < stateSize 
   unfolding Line
   same-bytes k h l j x y = rw (same j (omega arith)) (l j x y)
 
+  same-element : (n : ℕ) → n < 256 → elementNow net u n ≡ elementNow net s n
+  same-element n l = get16-same s u (elementBase net n) (same (elementBase net n) (omega arith)) (same (elementBase net n + 1) (omega arith))
+
   same-instant : instantOf u ≡ instantOf s
   unfolding get32
   same-instant =
       ap₂ (λ (x y : ℕ). x + 65536 * y) (get16-same s u 0 (same 0 (omega arith)) (same 1 (omega arith))) (get16-same s u 2 (same 2 (omega arith)) (same 3 (omega arith)))
 
-  pub same-holds : (W : Values) (t : ℕ) → Holding net W t s → Holding net W t u
-  same-holds W t H =
+  pub same-holds : (words : ℕ → ℕ) (W : Values) (t : ℕ) → Holding net words W t s → Holding net words W t u
+  same-holds words W t H =
       record {
         instant = λ l. same-instant ∙ H .instant l;
         zeros = λ j x y. same j (omega arith) ∙ H .zeros j x y;
@@ -54,6 +57,7 @@ module _ (net : List Cell) (s u : List ℕ) (same : (j : ℕ) → j < stateSize 
         past = λ k h. same-before k h ∙ H .past k h;
         held = λ k h e. same-held k h ∙ H .held k h e;
         lines = λ k h e i g. same-line k h i g ∙ H .lines k h e i g;
+        elements = λ a i la li. same-element (64 * a + i) (omega arith) ∙ H .elements a i la li;
         bytes = λ k h e. same-bytes k h (H .bytes k h e);
         clean = λ k h. same-clean k h (H .clean k h);
       }
@@ -88,21 +92,21 @@ module _ (finishes : ℕ → Bool) (t n : ℕ) where
 
 -- Continuing -------------------------------------------------------------------------------------------------------------------------------------------------
 
-pub record Continued (net : List Cell) (W : Values) (f t n : ℕ) (s : List ℕ) : Type 0 where
+pub record Continued (net : List Cell) (words : ℕ → ℕ) (W : Values) (f t n : ℕ) (s : List ℕ) : Type 0 where
   pub low : t ≤ stopsAt (level W f) t n
   pub top : stopsAt (level W f) t n ≤ t + n
   pub count : evaluated net f n s ≡ stopsAt (level W f) t n - t
   pub long : length (lastState net f n s) ≡ length s
-  pub holding : Holding net W (stopsAt (level W f) t n) (lastState net f n s)
+  pub holding : Holding net words W (stopsAt (level W f) t n) (lastState net f n s)
 
 module _ (net : List Cell) (ordered : Ordered net) (words : ℕ → ℕ) (W : Values) (obeys : Obeys net words W) (f : ℕ) (wire : f < length net) where
-  pub continues : (n t : ℕ) (s : List ℕ) → Holding net W t s → stateSize net ≤ length s → Continued net W f t n s
+  pub continues : (n t : ℕ) (s : List ℕ) → Holding net words W t s → stateSize net ≤ length s → Continued net words W f t n s
   unfolding lastState evaluated stopsAt
   continues zero t s H room = record { low = omega arith; top = omega arith; count = omega arith; long = refl; holding = H }
   continues (suc n) t s H room =
       by-bool (level W f (suc t)) (λ e. stop e) (λ e. on e (continues n (suc t) (stepState net s) next (omega (arith, len))))
     where
-      next : Holding net W (suc t) (stepState net s)
+      next : Holding net words W (suc t) (stepState net s)
       next = step-holds net ordered words W obeys t s H room
 
       len : length (stepState net s) ≡ length s
@@ -111,7 +115,7 @@ module _ (net : List Cell) (ordered : Ordered net) (words : ℕ → ℕ) (W : Va
       wire-is : (b : Bool) → level W f (suc t) ≡ b → high (nowAt (stepState net s) f) ≡ b
       wire-is b e = ap high (next .present f wire) ∙ e
 
-      stop : level W f (suc t) ≡ true → Continued net W f t (suc n) s
+      stop : level W f (suc t) ≡ true → Continued net words W f t (suc n) s
       stop e =
           let z = stops-high (level W f) t n e in
           let x = last-high net f n s (wire-is true e) in
@@ -123,7 +127,7 @@ module _ (net : List Cell) (ordered : Ordered net) (words : ℕ → ℕ) (W : Va
             holding = rw (z, x) next;
           }
 
-      on : level W f (suc t) ≡ false → Continued net W f (suc t) n (stepState net s) → Continued net W f t (suc n) s
+      on : level W f (suc t) ≡ false → Continued net words W f (suc t) n (stepState net s) → Continued net words W f t (suc n) s
       on e r =
           let z = stops-low (level W f) t n e in
           let x = last-low net f n s (wire-is false e) in

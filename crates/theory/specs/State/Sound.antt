@@ -2,7 +2,7 @@
 use mathlib.Core.Bool.{Bool, true, false, not, _||_}
 use mathlib.Core.List.{List, [], _∷_}
 use mathlib.Core.Path.{_≡_, refl, _∙_}
-use Prim.Native.Nat.{ℕ, zero, suc, _+_, _*_, _<_, _≤_, suc-le-suc}
+use Prim.Native.Nat.{ℕ, zero, suc, _+_, _<_, _≤_, suc-le-suc}
 use native.Mathlib.Nat.{add-zero}
 use native.Mathlib.Omega.{arith}
 use lib.ListN.{getD, length, take, drop}
@@ -30,7 +30,7 @@ unless : (a b : Bool) → (a ≡ false → b ≡ true) → (a || b) ≡ true
 unless true b h = refl
 unless false b h = h refl
 
-module _ (net : List Cell) (words : ℕ → ℕ) (W : Values) (obeys : Obeys net words W) (t : ℕ) (s : List ℕ) (H : Holding net W t s) where
+module _ (net : List Cell) (words : ℕ → ℕ) (W : Values) (obeys : Obeys net words W) (t : ℕ) (s : List ℕ) (H : Holding net words W t s) where
   earlier-le : (k : ℕ) → k < length net → control (cellAt net k .kind) ≡ true → (t : ℕ) → earlier W k t ≤ 1
   unfolding earlier
   earlier-le k h e zero = omega arith
@@ -72,7 +72,7 @@ module _ (net : List Cell) (words : ℕ → ℕ) (W : Values) (obeys : Obeys net
       let e : 0 + i ≡ i = omega arith in
       rw e (sound-at i l)))
 
-  pub holds : Holds net W t s
+  pub holds : Holds net words W t s
   holds =
       record {
         instant = H .instant;
@@ -80,19 +80,20 @@ module _ (net : List Cell) (words : ℕ → ℕ) (W : Values) (obeys : Obeys net
         past = H .past;
         held = H .held;
         lines = H .lines;
+        elements = H .elements;
         proper = sound-held;
       }
 
 -- every state of a run
 module _ (net : List Cell) (ordered : Ordered net) (words : ℕ → ℕ) (W : Values) (obeys : Obeys net words W) (lent : List ℕ) (room : stateSize net ≤ length lent) where
-  run-holds : (t : ℕ) → Holding net W t (stateAt net words lent t) × (length (stateAt net words lent t) ≡ length lent)
+  run-holds : (t : ℕ) → Holding net words W t (stateAt net words lent t) × (length (stateAt net words lent t) ≡ length lent)
   unfolding stateAt
   run-holds zero = (begin-holds net ordered words W obeys lent room, begin-length net ordered words W obeys lent room)
   run-holds (suc t) =
       let r = run-holds t in
       let s = stateAt net words lent t in
-      let m : 8 + 40 * length net ≤ length s = omega (arith, r .1) in
+      let m : stateSize net ≤ length s = omega (arith, r .1) in
       (step-holds net ordered words W obeys t s (r .0) m, step-length net ordered words W obeys t s (r .0) m ∙ r .1)
 
-  pub states : (t : ℕ) → Holds net W t (stateAt net words lent t)
+  pub states : (t : ℕ) → Holds net words W t (stateAt net words lent t)
   states t = holds net words W obeys t (stateAt net words lent t) (run-holds t .0)

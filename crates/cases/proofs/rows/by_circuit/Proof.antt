@@ -11,7 +11,7 @@ returns c =
     let put = call .before .before .before .before .before .before .put16 in
     let args = call .before .before .before .before .before .before .before .before .before .args in
     let told = rw (call .before .before .before .before .defaults .ensures) at (call .run-program .ensures .0) in
-    run-from (args .program .now) (args .word) (args .budget) (replicate 6656 0) (replicate 40968 0) (start-put (args .word) (put .ensures)) told
+    run-from (args .program .now) (args .word) (args .budget) (replicate 6656 0) (replicate 41480 0) (start-put (args .word) (put .ensures)) told
 
 pub by-circuit-spec : {M : Type 1} → statement M
 by-circuit-spec =

@@ -2,7 +2,7 @@
 use mathlib.Core.Path.{_≡_, refl, sym, _∙_}
 use Prim.Native.Nat.{_+_, _-_, _≤_}
 use native.Mathlib.Omega.{arith}
-use lib.ListN.{length, drop}
+use lib.ListN.{length}
 use Rattle.model.specs.Numbering.{memoriesOf}
 use Rattle.compiler.specs.Writes.{write}
 use Rattle.compiler.proofs.Joining.{memories-more, memories-end}
@@ -11,7 +11,7 @@ use Rattle.compiler.proofs.ors.put_memories.Tie as tie
 
 abbrev Inv-loop : tie.InvT-loop
 Inv-loop cells₀ clocks datas memory x₀ cells x =
-    (write (memory + x) (memoriesOf (drop x clocks) (drop x datas)) cells ≡ write memory (memoriesOf clocks datas) cells₀)
+    (write (memory + x) (memoriesOf clocks datas x (16 - x)) cells ≡ write memory (memoriesOf clocks datas 0 16) cells₀)
     × (length cells ≡ length cells₀)
     × (x ≤ 16)
 
@@ -67,11 +67,10 @@ loop-less c =
 loop-again : tie.Need-loop-again Inv-loop μ-loop
 loop-again c =
     let loop-test = c .before .before .before .before .before .before .loop-test in
-    let pre = c .before .before .before .before .before .before .before .before .before .pre in
     let put = c .before .before .put in
     let loop = c .before .before .before .before .before .before .before .loop in
     let more = loop-test .taken in (
-      sym (memories-more _ _ _ _ _ (omega (arith, more, pre .2)) (omega (arith, more, pre .3)) (put .ensures)) ∙ loop .inv .0,
+      sym (memories-more _ _ _ _ _ more (put .ensures)) ∙ loop .inv .0,
       put .kept .0 ∙ loop .inv .1,
       omega (arith, more),
     )
@@ -81,10 +80,9 @@ same-length c = c .before .loop .inv .1
 
 returns : tie.Need-returns Inv-loop μ-loop
 returns c =
-    let pre = c .before .before .before .pre in
     let args = c .before .before .before .args in
     let loop = c .before .loop in
-    sym (memories-end (args .clocks .now) (args .datas .now) (args .memory) (loop .x) (loop .cells) (omega (arith, pre .2, c .loop-test .left))) ∙ loop .inv .0
+    sym (memories-end (args .clocks .now) (args .datas .now) (args .memory) (loop .x) (loop .cells) (c .loop-test .left)) ∙ loop .inv .0
 
 pub put-memories-spec : {M : Type 1} → statement M
 put-memories-spec =

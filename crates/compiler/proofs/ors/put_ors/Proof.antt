@@ -11,10 +11,10 @@ abbrev Inv-loop : tie.InvT-loop
 Inv-loop cells₀ marks count joint n wires₀ next₀ x₀ cells wires next x = Joining joint (sourcesFrom (joint .mark) marks 0 count) n cells₀ cells wires next x
 
 abbrev μ-loop : tie.MeasureT-loop
-μ-loop cells₀ marks count joint n wires₀ next₀ x₀ cells wires next x = 16 - x
+μ-loop cells₀ marks count joint n wires₀ next₀ x₀ cells wires next x = 20 - x
 
 loop-holds : tie.Need-loop-holds Inv-loop μ-loop
-loop-holds c = joining-start _ _ _ _ _ refl
+loop-holds c = joining-start _ _ _ _ _ refl (c .before .pre .first)
 
 put-chain-requires : tie.Need-put-chain-requires Inv-loop μ-loop
 put-chain-requires c κs =
@@ -24,6 +24,7 @@ put-chain-requires c κs =
     record {
       few = pre .few;
       mark = pre .mark;
+      first = pre .first;
       room = omega (arith, room, pre .room, loop .inv .same);
       small = omega (arith, pre .small, loop .inv .same);
     }

@@ -1,7 +1,8 @@
 -- `whole::put_netlist` meets its contract. Assumes nothing.
+use mathlib.Core.Path.{_∙_}
 use native.Mathlib.Omega.{arith}
 use borrow.Author.Needs.{needs}
-use Rattle.compiler.proofs.Assembly.{walk-low, clock-sixteen, data-sixteen, made}
+use Rattle.compiler.proofs.Assembly.{walk-low, clock-twenty, data-twenty, address-twenty, made}
 use Rattle.compiler.proofs.whole.put_netlist.Statement.{statement}
 use Rattle.compiler.proofs.whole.put_netlist.Tie as tie
 
@@ -13,57 +14,87 @@ put-walk-requires c κs =
 
 put-memories-requires : tie.Need-put-memories-requires
 put-memories-requires c κs =
-    let put-clocks = c .before .before .before .before .before .before .before .before .before .before .before .put-clocks in
-    let put-walk = c .before .before .before .before .before .before .before .put-walk in
-    let given = c .before .before .before .before .before .before .before .before .before .before .before .before .before .before .before .pre in
-    let low = walk-low given (put-clocks .ensures .next) in (
+    let walk = c .before .before .before .before .before .before .before .before in
+    let clocks = walk .before .before .before .before in
+    let given = clocks .before .before .before .before .pre in
+    let low = walk-low given (clocks .put-clocks .ensures .next) in (
       omega (arith, low),
-      omega (arith, low, given .size, put-clocks .kept .0, put-walk .kept .0),
-      clock-sixteen (put-clocks .ensures),
-      data-sixteen (put-walk .ensures),
+      omega (arith, low, given .size, clocks .put-clocks .kept .0, walk .put-walk .kept .0),
+      clock-twenty (clocks .put-clocks .ensures),
+      data-twenty (walk .put-walk .ensures),
+    )
+
+add-put-arrays : tie.Need-add-put-arrays
+add-put-arrays c =
+    let clocks = c .before .before .before .before .before .before .before .before .before .before .before .before .before .before .before .before .before .before .before in
+    omega (arith, walk-low (clocks .before .before .before .before .pre) (clocks .put-clocks .ensures .next))
+
+put-arrays-requires : tie.Need-put-arrays-requires
+put-arrays-requires c κs =
+    let memories = c .before .before .before .before .before .before in
+    let walk = memories .before .before .before .before .before .before .before .before .before in
+    let clocks = walk .before .before .before .before in
+    let given = clocks .before .before .before .before .pre in
+    let low = walk-low given (clocks .put-clocks .ensures .next) in (
+      omega (arith, low),
+      omega (arith, low, given .size, clocks .put-clocks .kept .0, walk .put-walk .kept .0, memories .put-memories .kept .0),
+      clock-twenty (clocks .put-clocks .ensures),
+      data-twenty (walk .put-walk .ensures),
+      address-twenty (walk .put-walk .ensures),
     )
 
 put-requires : tie.Need-put-requires
 put-requires c κs =
-    let pre = c .before .before .before .before .before .before .before .before .before .before .before .before .before .before .before .before .before .before .before .pre in
-    let put-clocks = c .before .before .before .before .before .before .before .before .before .before .before .before .before .before .before .put-clocks in
-    let put-walk = c .before .before .before .before .before .before .before .before .before .before .before .put-walk in
-    let put-memories = c .before .before .before .put-memories in
-    omega (arith, pre .size, put-clocks .kept .0, put-walk .kept .0, put-memories .kept .0)
+    let arrays = c .before .before .before in
+    let memories = arrays .before .before .before .before .before .before .before in
+    let walk = memories .before .before .before .before .before .before .before .before .before in
+    let clocks = walk .before .before .before .before in
+    omega (arith, clocks .before .before .before .before .pre .size, arrays .put-arrays .kept .0, memories .put-memories .kept .0, walk .put-walk .kept .0, clocks .put-clocks .kept .0)
 
 put-requires-2 : tie.Need-put-requires-2
 put-requires-2 c κs =
-    let pre = c .before .before .before .before .before .before .before .before .before .before .before .before .before .before .before .before .before .before .before .before .before .before .before .pre in
-    let put-clocks = c .before .before .before .before .before .before .before .before .before .before .before .before .before .before .before .before .before .before .before .put-clocks in
-    let put-walk = c .before .before .before .before .before .before .before .before .before .before .before .before .before .before .before .put-walk in
-    let put-memories = c .before .before .before .before .before .before .before .put-memories in
-    let put = c .before .before .before .put in
-    omega (arith, pre .size, put-clocks .kept .0, put-walk .kept .0, put-memories .kept .0, put .kept .0)
+    let at1 = c .before .before .before in
+    let arrays = at1 .before .before .before .before in
+    let memories = arrays .before .before .before .before .before .before .before in
+    let walk = memories .before .before .before .before .before .before .before .before .before in
+    let clocks = walk .before .before .before .before in
+    omega (arith, clocks .before .before .before .before .pre .size, at1 .put .kept .0, arrays .put-arrays .kept .0, memories .put-memories .kept .0, walk .put-walk .kept .0, clocks .put-clocks .kept .0)
 
 put-requires-3 : tie.Need-put-requires-3
 put-requires-3 c κs =
-    let pre = c .before .before .before .before .before .before .before .before .before .before .before .before .before .before .before .before .before .before .before .before .before .before .before .before .before .before .before .pre in
-    let put-clocks = c .before .before .before .before .before .before .before .before .before .before .before .before .before .before .before .before .before .before .before .before .before .before .before .put-clocks in
-    let put-walk = c .before .before .before .before .before .before .before .before .before .before .before .before .before .before .before .before .before .before .before .put-walk in
-    let put-memories = c .before .before .before .before .before .before .before .before .before .before .before .put-memories in
-    let put = c .before .before .before .before .before .before .before .put in
-    let put2 = c .before .before .before .put2 in
-    omega (arith, pre .size, put-clocks .kept .0, put-walk .kept .0, put-memories .kept .0, put .kept .0, put2 .kept .0)
+    let at2 = c .before .before .before in
+    let at1 = at2 .before .before .before .before in
+    let arrays = at1 .before .before .before .before in
+    let memories = arrays .before .before .before .before .before .before .before in
+    let walk = memories .before .before .before .before .before .before .before .before .before in
+    let clocks = walk .before .before .before .before in
+    omega (arith, clocks .before .before .before .before .pre .size, at2 .put2 .kept .0, at1 .put .kept .0, arrays .put-arrays .kept .0, memories .put-memories .kept .0, walk .put-walk .kept .0, clocks .put-clocks .kept .0)
+
+same-length : tie.Need-same-length
+same-length c =
+    let at3 = c .before .before in
+    let at2 = at3 .before .before .before .before in
+    let at1 = at2 .before .before .before .before in
+    let arrays = at1 .before .before .before .before in
+    let memories = arrays .before .before .before .before .before .before .before in
+    let walk = memories .before .before .before .before .before .before .before .before .before in
+    let clocks = walk .before .before .before .before in
+    at3 .put3 .kept .0 ∙ at2 .put2 .kept .0 ∙ at1 .put .kept .0 ∙ arrays .put-arrays .kept .0 ∙ memories .put-memories .kept .0 ∙ walk .put-walk .kept .0 ∙ clocks .put-clocks .kept .0
 
 returns : tie.Need-returns
 returns c =
-    let pre = c .before .before .before .before .before .before .before .before .before .before .before .before .before .before .before .before .before .before .before .before .before .before .before .before .before .before .before .before .before .before .pre in
-    let put-clocks = c .before .before .before .before .before .before .before .before .before .before .before .before .before .before .before .before .before .before .before .before .before .before .before .before .before .before .put-clocks in
-    let put-walk = c .before .before .before .before .before .before .before .before .before .before .before .before .before .before .before .before .before .before .before .before .before .before .put-walk in
-    let put-memories = c .before .before .before .before .before .before .before .before .before .before .before .before .before .before .put-memories in
-    let put = c .before .before .before .before .before .before .before .before .before .before .put in
-    let put2 = c .before .before .before .before .before .before .put2 in
-    let put3 = c .before .before .put3 in
-    made pre (put-clocks .kept .0) (put-clocks .ensures) (put-walk .ensures) (put-memories .ensures)
-    (put .ensures) (put2 .ensures) (put3 .ensures)
+    let at3 = c .before .before in
+    let at2 = at3 .before .before .before .before in
+    let at1 = at2 .before .before .before .before in
+    let arrays = at1 .before .before .before .before in
+    let memories = arrays .before .before .before .before .before .before .before in
+    let walk = memories .before .before .before .before .before .before .before .before .before in
+    let clocks = walk .before .before .before .before in
+    made (clocks .before .before .before .before .pre) (clocks .put-clocks .kept .0) (clocks .put-clocks .ensures) (walk .put-walk .ensures) (memories .put-memories .ensures)
+    (arrays .put-arrays .ensures) (at1 .put .ensures) (at2 .put2 .ensures) (at3 .put3 .ensures)
 
 pub put-netlist-spec : {M : Type 1} → statement M
 put-netlist-spec =
     tie.close
-    (tie.spec (λ c κs. search needs) put-walk-requires put-memories-requires put-requires put-requires-2 put-requires-3 (λ c. search needs)
-    returns)
+    (tie.spec (λ c κs. search needs) put-walk-requires put-memories-requires add-put-arrays put-arrays-requires put-requires put-requires-2
+    put-requires-3 same-length returns)

@@ -56,6 +56,11 @@ add-if4 c =
     let told = c .before .before .before .before in
     omega (arith, c .before .count-cells .ensures, few-cells (c .before .before .before .before .before .before .before .before .before .before .before .args .options) _ ((sym (told .before .before .check .ensures) ∙ told .enum-told .given .1)))
 
+add-if4-2 : tie.Need-add-if4-2
+add-if4-2 c =
+    let told = c .before .before .before .before in
+    omega (arith, c .before .count-cells .ensures, few-cells (c .before .before .before .before .before .before .before .before .before .before .before .args .options) _ ((sym (told .before .before .check .ensures) ∙ told .enum-told .given .1)))
+
 returns-5 : tie.Need-returns-5
 returns-5 c =
     let told = c .before .before .before .before .before .before in
@@ -90,6 +95,7 @@ check-spec =
     returns-4
     mul-if4
     add-if4
+    add-if4-2
     (λ c κs. search needs)
     returns-5
     returns-6)

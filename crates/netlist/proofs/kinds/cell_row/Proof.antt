@@ -9,9 +9,9 @@ use Rattle.laws.specs.Circuit.Shapes.{operator-shape, outside, apart}
 use Rattle.netlist.proofs.kinds.cell_row.Statement.{statement}
 use Rattle.netlist.proofs.kinds.cell_row.Tie as tie
 
-unlisted : (k : ℕ) → (k < 4) ⊎ (9 < k) → (k ≡ 1 → ⊥) → (k ≡ 3 → ⊥) → (k ≡ 32 → ⊥) → (k ≡ 33 → ⊥) → (k ≡ 34 → ⊥) → (k ≡ 35 → ⊥) → (k ≡ 36 → ⊥) → (k ≡ 37 → ⊥) → (k ≡ 38 → ⊥) → (k ≡ 40 → ⊥) → (k ≡ 41 → ⊥) → shape k ≡ kUnknown
+unlisted : (k : ℕ) → (k < 4) ⊎ (9 < k) → (k ≡ 1 → ⊥) → (k ≡ 3 → ⊥) → (k ≡ 32 → ⊥) → (k ≡ 33 → ⊥) → (k ≡ 34 → ⊥) → (k ≡ 35 → ⊥) → (k ≡ 36 → ⊥) → (k ≡ 37 → ⊥) → (k ≡ 38 → ⊥) → (k ≡ 40 → ⊥) → (k ≡ 41 → ⊥) → (k ≡ 42 → ⊥) → (k ≡ 43 → ⊥) → (k ≡ 44 → ⊥) → shape k ≡ kUnknown
 unfolding shape cellTable
-unlisted k o n1 n3 n32 n33 n34 n35 n36 n37 n38 n40 n41 =
+unlisted k o n1 n3 n32 n33 n34 n35 n36 n37 n38 n40 n41 n42 n43 n44 =
     rw (
       apart k 1 n1,
       apart k 3 n3,
@@ -25,6 +25,9 @@ unlisted k o n1 n3 n32 n33 n34 n35 n36 n37 n38 n40 n41 =
       apart k 38 n38,
       apart k 40 n40,
       apart k 41 n41,
+      apart k 42 n42,
+      apart k 43 n43,
+      apart k 44 n44,
     )
     refl
 
@@ -73,24 +76,39 @@ unfolding shape cellTable
 returns-11 c = rw (c .row11 .ensures, c .before .match .keys11) refl
 
 returns-12 : tie.Need-returns-12
-unfolding cellTable
-returns-12 c =
-    let kind = c .before .before .before .before .args .kind in
-    let three = c .before .before .before .match .rest .0 .0 .0 .0 .0 .0 .0 .0 .0 .1 in
-    rw (c .row12 .ensures, cellRow, operator-shape kind (omega (arith, c .before .before .if1 .left, three)) (omega (arith, c .before .if2 .taken))) refl
+unfolding shape cellTable
+returns-12 c = rw (c .row12 .ensures, c .before .match .keys12) refl
 
 returns-13 : tie.Need-returns-13
+unfolding shape cellTable
+returns-13 c = rw (c .row13 .ensures, c .before .match .keys13) refl
+
+returns-14 : tie.Need-returns-14
+unfolding shape cellTable
+returns-14 c = rw (c .row14 .ensures, c .before .match .keys14) refl
+
+returns-15 : tie.Need-returns-15
 unfolding cellTable
-returns-13 c =
+returns-15 c =
+    let kind = c .before .before .before .before .args .kind in
+    let three = c .before .before .before .match .rest .0 .0 .0 .0 .0 .0 .0 .0 .0 .0 .0 .0 .1 in
+    rw (c .row15 .ensures, cellRow, operator-shape kind (omega (arith, c .before .before .if1 .left, three)) (omega (arith, c .before .if2 .taken))) refl
+
+returns-16 : tie.Need-returns-16
+unfolding cellTable
+returns-16 c =
     let rest = c .before .before .match .rest in
     let none = unlisted _ (⊎-elim (λ w. inl (omega arith)) (λ w. inr (omega arith)) (c .before .if1 .came))
-    (rest .0 .0 .0 .0 .0 .0 .0 .0 .0 .0 .1) (rest .0 .0 .0 .0 .0 .0 .0 .0 .0 .1) (rest .0 .0 .0 .0 .0 .0 .0 .0 .1) (rest .0 .0 .0 .0 .0 .0 .0 .1) (rest .0 .0 .0 .0 .0 .0 .1) (rest .0 .0 .0 .0 .0 .1) (rest .0 .0 .0 .0 .1) (rest .0 .0 .0 .1) (rest .0 .0 .1) (rest .0 .1) (rest .1) in
-    rw (c .row13 .ensures, cellRow, none) refl
+    (rest .0 .0 .0 .0 .0 .0 .0 .0 .0 .0 .0 .0 .0 .1) (rest .0 .0 .0 .0 .0 .0 .0 .0 .0 .0 .0 .0 .1) (rest .0 .0 .0 .0 .0 .0 .0 .0 .0 .0 .0 .1) (rest .0 .0 .0 .0 .0 .0 .0 .0 .0 .0 .1) (rest .0 .0 .0 .0 .0 .0 .0 .0 .0 .1) (rest .0 .0 .0 .0 .0 .0 .0 .0 .1) (rest .0 .0 .0 .0 .0 .0 .0 .1) (rest .0 .0 .0 .0 .0 .0 .1) (rest .0 .0 .0 .0 .0 .1) (rest .0 .0 .0 .0 .1) (rest .0 .0 .0 .1) (rest .0 .0 .1) (rest .0 .1) (rest .1) in
+    rw (c .row16 .ensures, cellRow, none) refl
 
 pub cell-row-spec : {M : Type 1} → statement M
 cell-row-spec =
     tie.close
     (tie.spec
+    (λ c κs. search needs)
+    (λ c κs. search needs)
+    (λ c κs. search needs)
     (λ c κs. search needs)
     (λ c κs. search needs)
     (λ c κs. search needs)
@@ -116,4 +134,7 @@ cell-row-spec =
     returns-10
     returns-11
     returns-12
-    returns-13)
+    returns-13
+    returns-14
+    returns-15
+    returns-16)

@@ -37,10 +37,15 @@ returns-8 : tie.Need-returns-8
 unfolding names
 returns-8 c = rw (c .enum-told8 .given .1) refl
 
+returns-9 : tie.Need-returns-9
+unfolding names
+returns-9 c = rw (c .enum-told9 .given .1) refl
+
 pub names-spec : {M : Type 1} → statement M
 names-spec =
     tie.close
     (tie.spec
+    (λ c. search needs)
     (λ c. search needs)
     (λ c. search needs)
     (λ c. search needs)
@@ -56,4 +61,5 @@ names-spec =
     returns-5
     returns-6
     returns-7
-    returns-8)
+    returns-8
+    returns-9)

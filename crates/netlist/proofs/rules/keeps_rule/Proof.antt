@@ -27,8 +27,8 @@ returns c =
     λ net i. rw (
       c .stands .ensures,
       delay net (i .count) (plain-delay _ row),
-      a net (i .count) (λ _. i .a),
-      b net (i .count) (λ _. i .b),
+      a net (i .count) (λ _. i .first),
+      b net (i .count) (λ _. i .second),
       row,
     ) refl
 

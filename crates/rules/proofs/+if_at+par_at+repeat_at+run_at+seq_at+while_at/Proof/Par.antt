@@ -39,7 +39,7 @@ module _ (t : ℕ) where
       let pre = c .before .before .before .before .before .before .before .before .before .pre in
       let if2 = c .before .before .before .before .if2 in
       let second = run-at2 .ensures in
-      par-ends _ _ _ _ _ (run-at .ensures) (if1 .taken) _ second (pre .1 .0 .fit .separate) (if2 .taken) _ (c .larger .ensures) _ (c .before .joined .ensures)
+      par-ends _ _ _ _ _ (run-at .ensures) (if1 .taken) _ second (pre .1 .0 .fit .formed) (pre .1 .0 .fit .separate) (if2 .taken) _ (c .larger .ensures) _ (c .before .joined .ensures)
 
   unfinished-requires : lts.Need-unfinished-requires calls (par-here t) par-reads.Post
   unfinished-requires c κs = tt

@@ -5,13 +5,14 @@ use denote.Ref.{now}
 use Rattle.model.specs.Rules.{run}
 use Rattle.laws.specs.Program.Trees.{stmt-none, at-tick}
 use Rattle.program.specs.Ends.{past-later}
-use Rattle.program.proofs.Children.{Inner, last-kind, second-later, assign-read, seq-read, par-read, ite-read, while-read, repeat-read}
+use Rattle.program.proofs.Children.{Inner, last-kind, second-later, assign-read, assign-elem-read, seq-read, par-read, ite-read, while-read, repeat-read}
 use Rattle.rules.proofs.Nodes.{low-ok}
 use Rattle.rules.proofs.Parts.{ready-as}
 use Rattle.rules.proofs.Runs.{stands-as, run-ok}
 use Rattle.program.proofs.next.Reads as next
 use Rattle.program.proofs.read_node.Reads as read-node
 use Rattle.rules.proofs.assign_at.Reads as assign-at
+use Rattle.rules.proofs.assign_elem_at.Reads as assign-elem-at
 use Rattle.rules.proofs.if_at.Reads as if-reads
 use Rattle.rules.proofs.par_at.Reads as par-reads
 use Rattle.rules.proofs.pause.Reads as pause
@@ -41,6 +42,8 @@ module _ (t : ℕ) where
     if-reads.Post,
     while-below t,
     while-reads.Post,
+    assign-elem-at.Asked,
+    assign-elem-at.Learnt,
     repeat-below t,
     repeat-reads.Post,
   )
@@ -53,7 +56,7 @@ module _ (t : ℕ) where
       record { laid = start .before .before .pre .1 .laid; here = start .if1 .left; node = w .before .before .before .read-node .ensures; next = w .next .ensures }
 
   last-of : (w : lts.At-match-rest calls (run-here t) run-reads.Post) → 23 ≤ w .before .before .before .before .read-node .result .kind
-  last-of w = last-kind (omega (arith, w .before .before .before .if2 .left, w .match .rest .0 .0 .0 .0 .0 .1)) (w .match .rest)
+  last-of w = last-kind (omega (arith, w .before .before .before .if2 .left, w .match .rest .0 .0 .0 .0 .0 .0 .1)) (w .match .rest .0)
 
   pause-requires : lts.Need-pause-requires calls (run-here t) run-reads.Post
   pause-requires c κs = tt
@@ -139,6 +142,15 @@ module _ (t : ℕ) where
       let pre = c .before .before .before .before .before .before .before .pre in
       (omega (arith, pre .0, n .here, second-later n), ready-as (while-read n (c .match .keys6)) (pre .1))
 
+  add-assign-elem-at : lts.Need-add-assign-elem-at calls (run-here t) run-reads.Post
+  add-assign-elem-at c = omega arith
+
+  assign-elem-at-requires : lts.Need-assign-elem-at-requires calls (run-here t) run-reads.Post
+  assign-elem-at-requires c κs =
+      let n = inner-of (c .before) in
+      let pre = c .before .before .before .before .before .before .before .pre in
+      (ready-as (assign-elem-read n (c .match .keys7)) (pre .1), omega arith)
+
   add-repeat-at : lts.Need-add-repeat-at calls (run-here t) run-reads.Post
   add-repeat-at c = omega arith
 
@@ -146,7 +158,7 @@ module _ (t : ℕ) where
   repeat-at-requires c κs =
       let n = inner-of (c .before) in
       let pre = c .before .before .before .before .before .before .before .pre in
-      (omega (arith, pre .0, n .here, second-later n), ready-as (repeat-read n (last-of c)) (pre .1))
+      (omega (arith, pre .0, n .here, second-later n), ready-as (repeat-read n (last-of c) (c .match .rest .1)) (pre .1))
 
   returns-3 : lts.Need-returns-3 calls (run-here t) run-reads.Post
   unfolding run
@@ -170,11 +182,16 @@ module _ (t : ℕ) where
   returns-8 c = stands-as _ _ _ (while-read (inner-of (c .before .before)) (c .before .match .keys6)) (c .while-at .ensures)
 
   returns-9 : lts.Need-returns-9 calls (run-here t) run-reads.Post
-  returns-9 c = stands-as _ _ _ (repeat-read (inner-of (c .before .before)) (last-of (c .before))) (c .repeat-at .ensures)
+  returns-9 c = stands-as _ _ _ (assign-elem-read (inner-of (c .before .before)) (c .before .match .keys7)) (c .assign-elem-at .ensures)
+
+  returns-10 : lts.Need-returns-10 calls (run-here t) run-reads.Post
+  returns-10 c =
+      stands-as _ _ _ (repeat-read (inner-of (c .before .before)) (last-of (c .before)) (c .before .match .rest .1)) (c .repeat-at .ensures)
 
   pub run-closed : {M : Type 1} → lts.Closed calls (run-here t) run-reads.Post M
   run-closed =
       lts.spec calls (run-here t) run-reads.Post
       pause-requires returns read-node-requires pause-requires-2 returns-2 cast-d add-next next-requires pause-requires-3 add-assign-at
       assign-at-requires add-seq-at seq-at-requires add-par-at par-at-requires next-requires-2 add-if-at if-at-requires add-while-at
-      while-at-requires add-repeat-at repeat-at-requires returns-3 returns-4 returns-5 returns-6 returns-7 returns-8 returns-9
+      while-at-requires add-assign-elem-at assign-elem-at-requires add-repeat-at repeat-at-requires returns-3 returns-4 returns-5
+      returns-6 returns-7 returns-8 returns-9 returns-10

@@ -28,4 +28,4 @@ returns-2 c =
 
 pub check-room-spec : {M : Type 1} → statement M
 check-room-spec =
-    tie.close (tie.spec get16-requires (λ c. search needs) (λ c. search needs) (λ c. search needs) (λ c κs. search needs) returns returns-2)
+    tie.close (tie.spec get16-requires (λ c. search needs) (λ c. search needs) (λ c. search needs) (λ c. search needs) (λ c κs. search needs) returns returns-2)

@@ -1,15 +1,16 @@
 -- `show_all` meets its contract: the state so far is the pass up to cell k. Assumes nothing.
+use mathlib.Core.Path.{_∙_}
 use Prim.Native.Nat.{_-_}
 use native.Mathlib.Omega.{arith}
 use Rattle.model.specs.State.{value, shown}
 use Rattle.simulator.specs.Fits.{netOf}
-use Rattle.simulator.proofs.Cells.{net-value, fits-at}
+use Rattle.simulator.proofs.Cells.{net-value, holds}
 use Rattle.simulator.proofs.Passes.{Passed, passed-none, passed-more, passed-all}
 use Rattle.simulator.proofs.instant.show_all.Statement.{statement}
 use Rattle.simulator.proofs.instant.show_all.Tie as tie
 
 abbrev Inv-loop : tie.InvT-loop
-Inv-loop cells n state₀ k₀ state k = Passed (shown (value (netOf cells n))) n state₀ state k
+Inv-loop cells n state₀ k₀ state k = Passed (shown (netOf cells n) (value (netOf cells n))) n state₀ state k
 
 abbrev μ-loop : tie.MeasureT-loop
 μ-loop cells n state₀ k₀ state k = n - k
@@ -24,22 +25,24 @@ cell-at-requires c κs =
 
 next-value-requires : tie.Need-next-value-requires Inv-loop μ-loop
 next-value-requires c κs =
-    let pre = c .before .before .before .before .before .before .pre in
     let loop = c .before .before .before .loop in
-    fits-at pre (loop .state) (loop .inv .long) (loop .k) (c .before .before .loop-test .taken) _ (c .before .cell-at .ensures)
+    holds (c .before .before .before .before .before .before .pre) (loop .state) (loop .inv .long) (loop .k) (c .before .before .loop-test .taken) _ (c .before .cell-at .ensures)
+
+store-requires : tie.Need-store-requires Inv-loop μ-loop
+store-requires c κs =
+    let loop = c .before .before .before .before .before .loop in
+    holds (c .before .before .before .before .before .before .before .before .pre) (loop .state) (loop .inv .long) (loop .k) (c .before .before .before .before .loop-test .taken) _ (c .before .before .before .cell-at .ensures)
 
 put16-requires : tie.Need-put16-requires Inv-loop μ-loop
-put16-requires c κs =
-    let pre = c .before .before .before .before .before .before .before .before .pre in
-    omega (arith, pre .room)
+put16-requires c κs = omega (arith, c .before .before .before .before .before .before .before .before .before .before .before .before .pre .room, c .before .before .before .store .kept .1 .1 .1 .0)
 
 loop-again : tie.Need-loop-again Inv-loop μ-loop
 unfolding shown
 loop-again c =
-    let test = c .before .before .before .before .before .before .before in
+    let test = c .before .before .before .before .before .before .before .before .before .before .before in
     let loop = test .before .loop in
     let args = test .before .before .before .before .args in
-    passed-more (loop .inv) (test .loop-test .taken) (c .before .before .put16 .kept .0)
+    passed-more (loop .inv) (test .loop-test .taken) (c .before .before .put16 .kept .0 ∙ c .before .before .before .before .before .before .store .kept .1 .1 .1 .0)
     (cc (net-value (args .cells .now) (args .n) (loop .k) (test .loop-test .taken) (loop .state)))
 
 same-length : tie.Need-same-length Inv-loop μ-loop
@@ -57,6 +60,7 @@ show-all-spec =
     loop-holds
     cell-at-requires
     next-value-requires
+    store-requires
     (λ c. omega arith)
     (λ c. omega arith)
     put16-requires

@@ -8,25 +8,28 @@ use Rattle.simulator.proofs.Passes.{begun}
 use Rattle.simulator.proofs.start.begin_state.Statement.{statement}
 use Rattle.simulator.proofs.start.begin_state.Tie as tie
 
+put-elements-requires : tie.Need-put-elements-requires
+put-elements-requires c κs = let pre = c .before .before .before .before .pre in (pre .0 .room, pre .1)
+
+clear-requires : tie.Need-clear-requires
+clear-requires c κs = omega (arith, c .before .before .before .before .before .before .before .before .pre .0 .room, c .before .before .before .put-elements .kept .0)
+
 show-first-requires : tie.Need-show-first-requires
 show-first-requires c κs =
-    let pre = c .before .before .before .before .before .before .before .before .pre in
-    let clear = c .before .before .before .clear in
-    (refits (pre .0) (omega arith) (clear .kept .0), pre .1, pre .2)
+    let pre = c .before .before .before .before .before .before .before .before .before .before .before .before .pre in
+    (refits (pre .0) (omega arith) (c .before .before .before .clear .kept .0 ∙ c .before .before .before .before .before .before .before .put-elements .kept .0), pre .1, pre .2)
 
 settle-all-requires : tie.Need-settle-all-requires
 settle-all-requires c κs =
-    let pre = c .before .before .before .before .before .before .before .before .before .before .before .before .pre in
-    let show-first = c .before .before .before .show-first in
-    let clear = c .before .before .before .before .before .before .before .clear in
-    refits (pre .0) (omega arith) (show-first .kept .1 .1 .1 .0 ∙ clear .kept .0)
+    let pre = c .before .before .before .before .before .before .before .before .before .before .before .before .before .before .before .before .pre in
+    refits (pre .0) (omega arith) (c .before .before .before .show-first .kept .1 .1 .1 .0 ∙ c .before .before .before .before .before .before .before .clear .kept .0 ∙ c .before .before .before .before .before .before .before .before .before .before .before .put-elements .kept .0)
 
 returns : tie.Need-returns
 returns c =
-    let args = c .before .before .before .before .before .before .before .before .before .before .before .before .before .before .before .args in
-    let clear = c .before .before .before .before .before .before .before .before .before .before .clear in
-    let show-first = c .before .before .before .before .before .before .show-first in
-    begun _ _ (net-length (args .cells .now) (args .n)) _ (wordAt (args .words .now)) _ _ _ (clear .ensures) (show-first .ensures) (c .before .before .settle-all .ensures)
+    let start = c .before .before .before .before .before .before .before .before .before .before .before .before .before .before .before .before .before .before .before in
+    let args = start .args in
+    begun _ _ (net-length (args .cells .now) (args .n)) _ (wordAt (args .words .now)) _ _ _ _ (start .pre .0 .room)
+    (c .before .before .before .before .before .before .before .before .before .before .before .before .before .before .put-elements .ensures) (c .before .before .before .before .before .before .before .before .before .before .clear .ensures) (c .before .before .before .before .before .before .show-first .ensures) (c .before .before .settle-all .ensures)
 
 pub begin-state-spec : {M : Type 1} → statement M
 begin-state-spec =
@@ -34,7 +37,10 @@ begin-state-spec =
     (tie.spec
     (λ c. search needs)
     (λ c. search needs)
-    (λ c κs. search needs)
+    put-elements-requires
+    (λ c. search needs)
+    (λ c. search needs)
+    clear-requires
     show-first-requires
     settle-all-requires
     (λ c. search needs)

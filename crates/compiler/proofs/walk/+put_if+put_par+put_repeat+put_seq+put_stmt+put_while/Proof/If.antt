@@ -26,7 +26,7 @@ module _ (t : ℕ) where
     put-reads.Learnt,
   )
 
-  low : (w : lts.After-put-switches calls (if-here t) if-reads.Post) → w .put-switches .result + 2 ≤ 619
+  low : (w : lts.After-put-switches calls (if-here t) if-reads.Post) → w .put-switches .result + 2 ≤ 627
   low w = switch-low (if-switches (w .before .before .before .before .before .before .before .before .pre .1 .1)) (w .put-switches .ensures)
 
   put-own-requires : lts.Need-put-own-requires calls (if-here t) if-reads.Post

@@ -8,13 +8,14 @@ use Rattle.model.specs.Program.{tick, nodeAt, nodeCount, stmtAt}
 use Rattle.model.specs.Numbering.{delayCount}
 use Rattle.laws.specs.Program.Trees.{at-tick}
 use Rattle.program.specs.Ends.{past-later}
-use Rattle.program.proofs.Children.{Inner, last-kind, second-later, assign-read, seq-read, par-read, ite-read, while-read, repeat-read}
+use Rattle.program.proofs.Children.{Inner, last-kind, second-later, assign-read, assign-elem-read, seq-read, par-read, ite-read, while-read, repeat-read}
 use Rattle.compiler.proofs.Stmts.{ok-done, tick-done}
 use Rattle.compiler.proofs.Parts.{delays-fit}
 use Rattle.program.proofs.next.Reads as next-reads
 use Rattle.compiler.proofs.nodes.stmt_node.Reads as stmt-node-reads
 use Rattle.compiler.proofs.walk.put.Reads as put-reads
 use Rattle.compiler.proofs.walk.put_assign.Reads as assign-reads
+use Rattle.compiler.proofs.walk.put_element.Reads as element-reads
 use Rattle.compiler.proofs.walk.put_seq.Reads as seq-reads
 use Rattle.compiler.proofs.walk.put_par.Reads as par-reads
 use Rattle.compiler.proofs.walk.put_if.Reads as if-reads
@@ -43,6 +44,8 @@ module _ (t : ℕ) where
     if-reads.Post,
     while-below t,
     while-reads.Post,
+    element-reads.Asked,
+    element-reads.Learnt,
     repeat-below t,
     repeat-reads.Post,
   )
@@ -69,7 +72,7 @@ module _ (t : ℕ) where
       record { laid = w .before .before .before .before .before .before .pre .1 .0; here = here .0; node = here .2; next = w .next .ensures }
 
   last-of : (w : lts.At-match-rest calls (stmt-here t) stmt-reads.Post) → 23 ≤ w .before .before .before .before .stmt-node .result .kind
-  last-of w = last-kind (omega (arith, here-of (w .before .before .before) .1, w .before .before .if2 .left)) (w .match .rest)
+  last-of w = last-kind (omega (arith, here-of (w .before .before .before) .1, w .before .before .if2 .left)) (w .match .rest .0)
 
   stmt-node-requires : lts.Need-stmt-node-requires calls (stmt-here t) stmt-reads.Post
   stmt-node-requires c κs = tt
@@ -140,12 +143,19 @@ module _ (t : ℕ) where
       let pre = m .before .before .before .before .before .before .before .pre in
       (omega (arith, pre .0, n .here, second-later n), (pre .1 .0, rw (while-read n (m .match .keys5)) at (pre .1 .1)))
 
+  put-element-requires : lts.Need-put-element-requires calls (stmt-here t) stmt-reads.Post
+  put-element-requires c κs =
+      let m = c .before .before in
+      let n = inner-of (m .before) in
+      let pre = m .before .before .before .before .before .before .before .pre in
+      (pre .1 .0, rw (assign-elem-read n (m .match .keys6)) at (pre .1 .1))
+
   put-repeat-requires : lts.Need-put-repeat-requires calls (stmt-here t) stmt-reads.Post
   put-repeat-requires c κs =
       let m = c .before .before in
       let n = inner-of (m .before) in
       let pre = m .before .before .before .before .before .before .before .pre in
-      (omega (arith, pre .0, n .here, second-later n), (pre .1 .0, rw (repeat-read n (last-of m)) at (pre .1 .1)))
+      (omega (arith, pre .0, n .here, second-later n), (pre .1 .0, rw (repeat-read n (last-of m) (m .match .rest .1)) at (pre .1 .1)))
 
   same-length-2 : lts.Need-same-length-2 calls (stmt-here t) stmt-reads.Post
   same-length-2 c = search needs
@@ -200,12 +210,21 @@ module _ (t : ℕ) where
   returns-8 c =
       let m = c .before .before .before .before .before in
       let n = inner-of (m .before) in
-      rw (repeat-read n (last-of m)) (c .before .before .put-repeat .ensures)
+      rw (assign-elem-read n (m .match .keys6)) (c .before .before .put-element .ensures)
+
+  same-length-8 : lts.Need-same-length-8 calls (stmt-here t) stmt-reads.Post
+  same-length-8 c = search needs
+
+  returns-9 : lts.Need-returns-9 calls (stmt-here t) stmt-reads.Post
+  returns-9 c =
+      let m = c .before .before .before .before .before in
+      let n = inner-of (m .before) in
+      rw (repeat-read n (last-of m) (m .match .rest .1)) (c .before .before .put-repeat .ensures)
 
   pub stmt-closed : {M : Type 1} → lts.Closed calls (stmt-here t) stmt-reads.Post M
   stmt-closed =
       lts.spec calls (stmt-here t) stmt-reads.Post
       stmt-node-requires returns put-requires add-t19 same-length returns-2 add-first next-requires put-assign-requires
-      put-seq-requires put-par-requires next-requires-2 put-if-requires put-while-requires put-repeat-requires same-length-2
+      put-seq-requires put-par-requires next-requires-2 put-if-requires put-while-requires put-element-requires put-repeat-requires same-length-2
       returns-3 same-length-3 returns-4 same-length-4 returns-5 same-length-5 returns-6 same-length-6 returns-7 same-length-7
-      returns-8
+      returns-8 same-length-8 returns-9

@@ -16,7 +16,7 @@ module _ (t : ℕ) where
   abbrev calls : lts.Claims
   calls = (switches-reads.Asked, switches-reads.Learnt, stmt-below t, stmt-reads.Post, put-reads.Asked, put-reads.Learnt)
 
-  low : (w : lts.After-put-switches calls (while-here t) while-reads.Post) → w .put-switches .result + 2 ≤ 619
+  low : (w : lts.After-put-switches calls (while-here t) while-reads.Post) → w .put-switches .result + 2 ≤ 627
   low w = switch-low (while-switches (w .before .before .before .before .pre .1 .1)) (w .put-switches .ensures)
 
   put-switches-requires : lts.Need-put-switches-requires calls (while-here t) while-reads.Post

@@ -1,21 +1,21 @@
--- The rules look at no word but the first sixteen: from stores that agree on these, a run ends at the same time, with words that agree.
--- Assumes that the statement's variables are below 16 (`Formed`).
-use mathlib.Core.Path.{_≡_, refl, ap, ap₂}
+-- The rules look at no word but the first 272: from stores that agree on these, a run ends at the same time, with words that agree.
+-- Assumes that the statement's variables are below 16 and its arrays below 4 (`Formed`).
+use mathlib.Core.Path.{_≡_, refl, _∙_, ap, ap₂}
 use mathlib.Core.Bool.{Bool, true, false}
 use mathlib.Core.List.{List, _∷_}
-use Prim.Native.Nat.{ℕ, zero, suc, _+_, _-_, _≤_, _<_, max}
+use Prim.Native.Nat.{ℕ, zero, suc, _+_, _-_, _*_, _≤_, _<_, max}
 use native.Mathlib.Omega.{arith}
 use lib.Dec.{leb, eqb}
 use Rattle.model.specs.declared.Outcome.the-variants.{Ended}
-use Rattle.model.specs.Word.{pick, isZero, operate}
-use Rattle.model.specs.Program.{Expr, const, var, compl, op, Stmt, ok, tick, assign, seq, par, ite, while, repeat, writes}
-use Rattle.model.specs.Rules.{Store, Run, ended, still, eval, put, over, kept, after, wait, chain, both, whiles, repeats, run}
+use Rattle.model.specs.Word.{pick, isZero, operate, index, elementWord}
+use Rattle.model.specs.Program.{Expr, const, var, compl, op, elem, Stmt, ok, tick, assign, assignElem, seq, par, ite, while, repeat, writes}
+use Rattle.model.specs.Rules.{Store, Run, ended, still, owner, eval, put, over, kept, after, wait, chain, both, whiles, repeats, run}
 use Rattle.model.specs.Calls.{listed, referenceAnswer}
 use Rattle.laws.specs.Program.Fit.{FormedExpr, Formed}
 use Rattle.laws.specs.Rules.Laws.{Body}
 
 abbrev pub Agree : Store → Store → Type 0
-Agree σ τ = (x : ℕ) → x < 16 → σ x ≡ τ x
+Agree σ τ = (x : ℕ) → x < 272 → σ x ≡ τ x
 
 abbrev Alike : Run → Run → Type 0
 Alike (ended t σ) (ended u τ) = (t ≡ u) × Agree σ τ
@@ -25,21 +25,28 @@ Alike still still = Unit {0}
 
 -- Words --------------------------------------------------------------------------------------------------------------------------------
 
+pub element-low : (k w : ℕ) → k < 4 → elementWord k w < 272
+unfolding elementWord
+element-low k w l = omega arith
+
 eval-agree : (e : Expr) → FormedExpr e → (σ τ : Store) → Agree σ τ → eval e σ ≡ eval e τ
 unfolding eval
 eval-agree (const n) w σ τ h = refl
-eval-agree (var n) w σ τ h = h n w
+eval-agree (var n) w σ τ h = h n (omega arith)
 eval-agree (compl e) w σ τ h = ap (λ (v : ℕ). operate 3 v 0) (eval-agree e w σ τ h)
 eval-agree (op k a b) w σ τ h = ap₂ (operate k) (eval-agree a (w .2) σ τ h) (eval-agree b (w .3) σ τ h)
+eval-agree (elem k e) w σ τ h =
+    h (elementWord k (eval e σ)) (element-low k (eval e σ) (w .0)) ∙ ap (λ (v : ℕ). τ (elementWord k v)) (eval-agree e (w .1) σ τ h)
 
-put-agree : (σ τ : Store) (x v u : ℕ) → Agree σ τ → v ≡ u → Agree (put σ x v) (put τ x u)
+put-agree : (σ τ : Store) (x y v u : ℕ) → Agree σ τ → x ≡ y → v ≡ u → Agree (put σ x v) (put τ y u)
 unfolding put
-put-agree σ τ x v u h e y l = ap₂ (pick (eqb y x)) e (h y l)
+put-agree σ τ x y v u h q e z l = ap₂ (pick (eqb z x)) e (h z l) ∙ ap (λ (x : ℕ). pick (eqb z x) u (τ z)) q
 
 kept-agree : (P Q : Stmt) (σ τ σ₁ τ₁ σ₂ τ₂ : Store) → Agree σ τ → Agree σ₁ τ₁ → Agree σ₂ τ₂
     → Agree (kept P Q σ σ₁ σ₂) (kept P Q τ τ₁ τ₂)
 unfolding kept over
-kept-agree P Q σ τ σ₁ τ₁ σ₂ τ₂ h h₁ h₂ x l = ap₂ (pick (writes P x)) (h₁ x l) (ap₂ (pick (writes Q x)) (h₂ x l) (h x l))
+kept-agree P Q σ τ σ₁ τ₁ σ₂ τ₂ h h₁ h₂ x l =
+    ap₂ (pick (writes P (owner x))) (h₁ x l) (ap₂ (pick (writes Q (owner x))) (h₂ x l) (h x l))
 
 -- Parts of a run -----------------------------------------------------------------------------------------------------------------------
 
@@ -124,7 +131,10 @@ run-alike : (P : Stmt) → Formed P → AlikeOn (λ k σ. run k P σ) (λ k σ. 
 unfolding run
 run-alike ok w = λ k σ τ h. (refl, h)
 run-alike (tick d) w = λ k σ τ h. wait-alike d k _ _ (λ k₁. (refl, h))
-run-alike (assign d x e) w = λ k σ τ h. wait-alike (suc d) k _ _ (λ k₁. (refl, put-agree σ τ x _ _ h (eval-agree e (w .2) σ τ h)))
+run-alike (assign d x e) w = λ k σ τ h. wait-alike (suc d) k _ _ (λ k₁. (refl, put-agree σ τ x x _ _ h refl (eval-agree e (w .2) σ τ h)))
+run-alike (assignElem d j i e) w = λ k σ τ h.
+    wait-alike (suc d) k _ _
+    (λ k₁. (refl, put-agree σ τ _ _ _ _ h (ap (elementWord j) (eval-agree i (w .2) σ τ h)) (eval-agree e (w .3) σ τ h)))
 run-alike (seq P Q) w = λ k σ τ h.
     chain-alike (run k P σ) (run k P τ) _ _ (run-alike P (w .0) k σ τ h) (λ t σ₁ τ₁ b. run-alike Q (w .1) (k - t) σ₁ τ₁ b)
 run-alike (par P Q) w = λ k σ τ h.
@@ -138,7 +148,7 @@ run-alike (repeat d e P) w = λ k. repeats-alike (λ k₁ σ. run k₁ P σ) d e
 
 -- Answers ------------------------------------------------------------------------------------------------------------------------------
 
-listed-agree : (σ τ : Store) (n x : ℕ) → x + n ≤ 16 → Agree σ τ → listed σ x n ≡ listed τ x n
+listed-agree : (σ τ : Store) (n x : ℕ) → x + n ≤ 272 → Agree σ τ → listed σ x n ≡ listed τ x n
 unfolding listed
 listed-agree σ τ zero x l h = refl
 listed-agree σ τ (suc n) x l h = ap₂ _∷_ (h x (omega arith)) (listed-agree σ τ n (x + 1) (omega arith) h)

@@ -1,0 +1,12 @@
+-- A variable or array that is not there, by computation.
+use mathlib.Core.Path.{refl}
+use Rattle.model.specs.Program.{absent}
+use Rattle.program.proofs.absent.Statement.{statement}
+use Rattle.program.proofs.absent.Tie as tie
+
+returns : tie.Need-returns
+unfolding absent
+returns c = refl
+
+pub absent-spec : {M : Type 1} → statement M
+absent-spec = tie.close (tie.spec returns)

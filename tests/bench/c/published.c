@@ -7,7 +7,7 @@
 #include <string.h>
 #include <time.h>
 
-static uint8_t file[6656], cells[6 * 1024], state[8 + 40 * 1024];
+static uint8_t file[6656], cells[6 * 1024], state[8 + 40 * 1024 + 512];
 static int count, finish;
 
 static unsigned get16(const uint8_t *p) { return p[0] | p[1] << 8; }
@@ -15,6 +15,10 @@ static void put16(uint8_t *p, unsigned v) { p[0] = (uint8_t)v; p[1] = (uint8_t)(
 static uint8_t *record(unsigned k) { return state + 8 + 40 * k; }
 static unsigned now(unsigned k) { return get16(record(k)); }
 static unsigned before(unsigned k) { return get16(record(k) + 2); }
+static int falls(unsigned clock) { return before(clock) == 1 && now(clock) != 1; }
+
+/* The element at an index of the array that cell c is; the words of the arrays stand after the cells. */
+static uint8_t *element(const uint8_t *c, unsigned index) { return record(count) + 128 * c[1] + 2 * (index % 64); }
 
 static void read_netlist(const char *name) {
     FILE *in = fopen(name, "rb");
@@ -25,15 +29,22 @@ static void read_netlist(const char *name) {
     for (int k = 0; k < count; k++) memcpy(cells + 6 * k, file + 512 * (k / 84) + 8 + 6 * (k % 84), 6);
 }
 
-/* What cell k shows, from the cells below it and what the state keeps. */
+/* At the fall of its clock an array takes the data of the instant before, at the address of that instant, which the next cell names. */
+static void store(const uint8_t *c) {
+    if (falls(get16(c + 2))) put16(element(c, before(get16(c + 6 + 2))), before(get16(c + 4)));
+}
+
+/* What cell k shows, from the cells below it and what the state keeps; an array, which shows 0, stores its word first. */
 static unsigned shown(unsigned k, const uint8_t *c) {
     unsigned kind = c[0], a = get16(c + 2), b = get16(c + 4), d = c[1];
     const uint8_t *r = record(k);
     switch (kind) {
     case 1: return a;
     case 34: return r[8 + (d - 1) / 8] >> (d - 1) % 8 & 1;
-    case 40: return before(a) == 1 && now(a) != 1 ? before(b) : before(k);
-    case 32: case 33: return 0;
+    case 40: return falls(a) ? before(b) : before(k);
+    case 42: store(c); return 0;
+    case 44: return get16(element(cells + 6 * a, now(b)));
+    case 32: case 33: case 43: return 0;
     }
     unsigned x = now(a), y = now(b);
     switch (kind) {
@@ -97,7 +108,8 @@ static void instant(void) {
 
 static void write_state(const char *name) {
     FILE *out = fopen(name, "wb");
-    if (!out || fwrite(state, 1, 8 + 40 * count, out) != (size_t)(8 + 40 * count)) exit(1);
+    size_t length = 8 + 40 * count + 512;
+    if (!out || fwrite(state, 1, length, out) != length) exit(1);
     fclose(out);
 }
 

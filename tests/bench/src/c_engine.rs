@@ -3,7 +3,7 @@
 
 use crate::engine::{Engine, Measured, Row};
 use crate::tool::{folder, measured, output};
-use crate::workload::Workload;
+use crate::workload::{Workload, START};
 use bindings::exports::hub_run_netlist;
 use bindings::replied;
 use std::fs;
@@ -49,8 +49,7 @@ fn run(folder: &Path, instants: u32) -> Measured {
 }
 
 fn proved_state(workload: &Workload) -> Vec<u8> {
-    let mut state = vec![0; 8 + 40 * workload.netlist.cells.len()];
-    let (file, words) = (&workload.file, &[0; 32]);
-    replied(|reply| hub_run_netlist(file, words, COMPARED, &mut state, reply));
+    let mut state = workload.state();
+    replied(|reply| hub_run_netlist(&workload.file, &START, COMPARED, &mut state, reply));
     state
 }

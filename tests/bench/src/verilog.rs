@@ -2,7 +2,8 @@
 //!
 //! What a cell keeps between instants becomes a register, and every edge,
 //! rising or falling, moves all registers on. Before the first edge the
-//! wires have their values of instant 0.
+//! wires have their values of instant 0. No workload reads an array, so that
+//! the words of arrays are left out.
 
 use second::cells::*;
 use second::operator::Operator;
@@ -35,7 +36,7 @@ pub fn module(netlist: &Netlist) -> String {
 fn declaration(number: usize, cell: Cell) -> String {
     let range = match sort(cell.kind) {
         Sort::Control => "",
-        Sort::Word => "[15:0] ",
+        Sort::Word | Sort::Array | Sort::Address => "[15:0] ",
     };
     format!("wire {range}w{number};\n")
 }
@@ -67,6 +68,8 @@ fn value(number: usize, cell: Cell) -> String {
         MERGE => format!("(w{a} | held_a{number}) & (w{b} | held_b{number})"),
         MEMORY => format!("(~w{a} & clock{number}) ? data{number} : kept{number}"),
         GATE => format!("w{a} ? w{b} : 16'd0"),
+        ARRAY | ADDRESS => "16'd0".to_string(),
+        READ => panic!("a workload reads an array"),
         _ => operation(kind, a, b),
     };
     format!("assign w{number} = {right};\n")

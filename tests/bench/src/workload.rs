@@ -1,9 +1,13 @@
 //! The three workloads of tests/vectors/speed, from zero start words.
 
 use second::cells::Netlist;
-use second::netfile;
+use second::contents::CONTENTS_LENGTH;
+use second::{netfile, state};
 use std::fs;
 use std::path::Path;
+
+/// The start words of every workload.
+pub const START: [u8; CONTENTS_LENGTH] = [0; CONTENTS_LENGTH];
 
 pub struct Workload {
     pub name: &'static str,
@@ -12,6 +16,11 @@ pub struct Workload {
 }
 
 impl Workload {
+    /// A buffer for its state.
+    pub fn state(&self) -> Vec<u8> {
+        vec![0; state::length(self.netlist.cells.len())]
+    }
+
     /// Reads the workload of this name; the vectors are good netlists.
     pub fn read(name: &'static str) -> Workload {
         let folder = Path::new(env!("CARGO_MANIFEST_DIR")).join("../vectors/speed");

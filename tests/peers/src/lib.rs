@@ -3,10 +3,14 @@
 
 mod both;
 mod peer;
+#[cfg(feature = "proved")]
 mod proved;
 mod second;
 
 pub use both::BOTH;
 pub use peer::{Bytes, Peer, Reply};
+#[cfg(feature = "proved")]
 pub use proved::PROVED;
+#[cfg(not(feature = "proved"))]
+pub use second::SECOND as PROVED;
 pub use second::SECOND;

@@ -43,11 +43,11 @@ impl Memory {
         let lent_cell = Cell::new(LENT_BYTE, LENT_BYTE, 0, 0);
         let count = usize::from(shape.cells);
         let read = (SECOND.read_cells)(&netlist, 0, &vec![lent_cell; count]);
-        let begun = (SECOND.begin)(&netlist, &[0; 32], &[LENT_BYTE; 1_000]);
+        let begun = (SECOND.begin)(&netlist, &[0; 544], &[LENT_BYTE; 2_000]);
         Memory {
             program: PROGRAM.to_vec(),
             table: BUILT_IN.file().to_vec(),
-            words: vec![1; 32],
+            words: vec![1; 544],
             bytes: Cell::all_bytes(&read.lent[0]),
             cells: read.lent[0].clone(),
             finish: shape.finish,

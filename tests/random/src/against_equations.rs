@@ -6,7 +6,7 @@
 //! are equations that the state must obey, and no second way to compute it.
 
 use crate::damage;
-use crate::lend::{lent, state_length};
+use crate::lend::{lent, state_length, ARRAYS, WORDS};
 use crate::xorshift::Random;
 use peers::Peer;
 use second::cells::*;
@@ -96,7 +96,8 @@ impl Run<'_> {
     /// Checks every byte of the state of an instant.
     fn check(&self, before: &[u8], after: &[u8], instant: u32) -> Result<(), String> {
         let step = Step {
-            run: self,
+            netlist: self.netlist,
+            words: self.words,
             before,
             after,
             instant,
@@ -113,11 +114,15 @@ impl Run<'_> {
                 ));
             }
         }
-        Ok(())
+        let (found, expected) = (elements_of(after), step.elements());
+        match (0..ARRAYS).find(|&place| found[place] != expected[place]) {
+            Some(place) => Err(format!("instant {instant}: byte {place} of the arrays")),
+            None => Ok(()),
+        }
     }
 }
 
-fn instant_of(state: &[u8]) -> u32 {
+pub fn instant_of(state: &[u8]) -> u32 {
     u32::from_le_bytes([state[0], state[1], state[2], state[3]])
 }
 
@@ -126,31 +131,43 @@ fn bytes_of(state: &[u8], cell: usize) -> &[u8] {
     &state[8 + 40 * cell..][..40]
 }
 
+/// The bytes of the arrays, which stand last.
+fn elements_of(state: &[u8]) -> &[u8] {
+    &state[state.len() - ARRAYS..]
+}
+
+/// The place of an element in these bytes.
+pub fn element_place(array: u8, index: u16) -> usize {
+    128 * usize::from(array) + 2 * usize::from(index % 64)
+}
+
 /// The value of a wire in a state.
-fn wire_of(state: &[u8], wire: u16) -> u16 {
+pub fn wire_of(state: &[u8], wire: u16) -> u16 {
     let bytes = bytes_of(state, usize::from(wire));
     u16::from_le_bytes([bytes[0], bytes[1]])
 }
 
 /// Two states, the second an instant after the first.
-struct Step<'a> {
-    run: &'a Run<'a>,
-    before: &'a [u8],
-    after: &'a [u8],
-    instant: u32,
+pub struct Step<'a> {
+    pub netlist: &'a Netlist,
+    /// Of these only instant 0 asks.
+    pub words: &'a [u8],
+    pub before: &'a [u8],
+    pub after: &'a [u8],
+    pub instant: u32,
 }
 
 impl Step<'_> {
-    fn now(&self, wire: u16) -> u16 {
+    pub fn now(&self, wire: u16) -> u16 {
         wire_of(self.after, wire)
     }
 
-    fn ago(&self, wire: u16) -> u16 {
+    pub fn ago(&self, wire: u16) -> u16 {
         wire_of(self.before, wire)
     }
 
     /// The bytes that a cell must have in the later state.
-    fn expected(&self, cell: usize) -> Vec<u8> {
+    pub fn expected(&self, cell: usize) -> Vec<u8> {
         let (held_a, held_b) = self.held(cell);
         let mut bytes = vec![];
         bytes.extend(self.value(cell).to_le_bytes());
@@ -161,8 +178,8 @@ impl Step<'_> {
     }
 
     /// The value that a cell's equation gives it.
-    fn value(&self, number: usize) -> u16 {
-        let Cell { kind, delay, a, b } = self.run.netlist.cells[number];
+    pub fn value(&self, number: usize) -> u16 {
+        let Cell { kind, delay, a, b } = self.netlist.cells[number];
         let now = |wire: u16| self.now(wire);
         match kind {
             START => u16::from(self.instant == 0),
@@ -175,6 +192,8 @@ impl Step<'_> {
             MERGE => u16::from(self.merged(number) == (true, true)),
             MEMORY => self.memory(number, a, b),
             GATE => now(a) * now(b),
+            ARRAY | ADDRESS => 0,
+            READ => self.element(self.netlist.cells[usize::from(a)].delay, now(b)),
             _ => Operator::of_kind(kind).map_or(0, |operator| operator.apply(now(a), now(b))),
         }
     }
@@ -190,21 +209,56 @@ impl Step<'_> {
         if self.instant == 0 {
             return self.start_word(number);
         }
-        let falls = self.now(clock) == 0 && self.ago(clock) == 1;
-        self.ago(if falls { data } else { number as u16 })
+        self.ago(if self.falls(clock) {
+            data
+        } else {
+            number as u16
+        })
+    }
+
+    fn falls(&self, clock: u16) -> bool {
+        self.now(clock) == 0 && self.ago(clock) == 1
+    }
+
+    /// An element in the later state.
+    fn element(&self, array: u8, index: u16) -> u16 {
+        let bytes = &elements_of(self.after)[element_place(array, index)..];
+        u16::from_le_bytes([bytes[0], bytes[1]])
+    }
+
+    /// The bytes that the arrays must have in the later state.
+    fn elements(&self) -> Vec<u8> {
+        if self.instant == 0 {
+            return self.words[WORDS - ARRAYS..WORDS].to_vec();
+        }
+        self.written(|array, address| element_place(array, self.ago(address)))
+    }
+
+    /// The bytes of the arrays after the writes of this instant, each to the
+    /// place that is told for its array and the wire of its address.
+    pub fn written(&self, place: impl Fn(u8, u16) -> usize) -> Vec<u8> {
+        let mut bytes = elements_of(self.before).to_vec();
+        for pair in self.netlist.cells.windows(2) {
+            let [cell, address] = [pair[0], pair[1]];
+            if cell.kind == ARRAY && self.falls(cell.a) {
+                let place = place(cell.delay, address.a);
+                bytes[place..place + 2].copy_from_slice(&self.ago(cell.b).to_le_bytes());
+            }
+        }
+        bytes
     }
 
     /// The start word of a memory: the k-th by number is variable k.
     fn start_word(&self, number: usize) -> u16 {
-        let lower = &self.run.netlist.cells[..number];
+        let lower = &self.netlist.cells[..number];
         let variable = lower.iter().filter(|cell| cell.kind == MEMORY).count();
-        let words = &self.run.words[2 * variable..];
+        let words = &self.words[2 * variable..];
         u16::from_le_bytes([words[0], words[1]])
     }
 
     /// A and B of the paper: each input of a merge, or its held bit.
     fn merged(&self, number: usize) -> (bool, bool) {
-        let Cell { a, b, .. } = self.run.netlist.cells[number];
+        let Cell { a, b, .. } = self.netlist.cells[number];
         let held = bytes_of(self.before, number);
         (
             self.now(a) == 1 || held[4] == 1,
@@ -214,7 +268,7 @@ impl Step<'_> {
 
     /// The bits held afterwards; cells other than merges hold none.
     fn held(&self, number: usize) -> (bool, bool) {
-        if self.run.netlist.cells[number].kind != MERGE {
+        if self.netlist.cells[number].kind != MERGE {
             return (false, false);
         }
         match self.merged(number) {
@@ -225,7 +279,7 @@ impl Step<'_> {
 
     /// The last 256 inputs of a delay; other cells have none.
     fn line(&self, number: usize) -> [u8; 32] {
-        let cell = self.run.netlist.cells[number];
+        let cell = self.netlist.cells[number];
         let mut line = [0; 32];
         if cell.kind == DELAY {
             line[0] = self.now(cell.a) as u8;

@@ -92,7 +92,7 @@ impl Pair<'_> {
                 (peer.write_netlist)(&cells, shape.finish, &file_room)
             })?;
             let place = random.below(cells.len());
-            cells[place] = random.below(44) as u8;
+            cells[place] = random.below(46) as u8;
         }
         Ok(Some(shape))
     }
@@ -133,7 +133,8 @@ impl Pair<'_> {
 
     /// The text of hubrun; it lends nothing and refuses in words.
     fn same_text(&self, job: &Job) -> Result<(), String> {
-        let input = [&job.words[..], &job.budget.to_le_bytes(), &job.program].concat();
+        let words = &job.words[..job.words.len().min(WORDS - ARRAYS)];
+        let input = [words, &job.budget.to_le_bytes(), &job.program].concat();
         self.same::<_, u8>("hubrun", &[], |peer| Reply {
             result: Ok(String::from_utf8((peer.hubrun_text)(&input))),
             lent: vec![],

@@ -2,11 +2,14 @@
 //! under the job's table.
 //!
 //! From the program's end alone it follows what a beginning and every
-//! continuing must answer, and which of them are refused.
+//! continuing must answer, and which of them are refused. The last words of
+//! the arrays, which no answer shows, are those of the second's rules.
 
 use crate::job::{Job, MOST_INSTANT};
-use crate::lend::{file_length, lent, lent_with, state_length, MOST_FILE, MOST_STATE};
+use crate::lend::*;
 use peers::{Peer, Reply};
+use second::calls;
+use second::rules::Moment;
 use std::fmt::Debug;
 use values::{Answer, End, Refusal};
 
@@ -23,7 +26,7 @@ pub fn compare(peer: &Peer, job: &Job) -> Result<Outcome, String> {
     let checked = (peer.check)(job.table(), &job.program).result;
     let compiled = (peer.compile)(job.table(), &job.program, &lent(MOST_FILE));
     expect("compile", compiled.result.map(drop), checked)?;
-    let (Ok(shape), Some(words)) = (compiled.result, job.words.get(..32)) else {
+    let (Ok(shape), Some(words)) = (compiled.result, job.words.get(..WORDS)) else {
         return Ok(Outcome::Refused);
     };
     let end = end_within(peer, job, words)?;
@@ -42,15 +45,20 @@ pub fn compare(peer: &Peer, job: &Job) -> Result<Outcome, String> {
 }
 
 /// The program's end by the rules, as far as the job's calls can come.
-fn end_within(peer: &Peer, job: &Job, words: &[u8]) -> Result<Option<End>, String> {
+fn end_within(peer: &Peer, job: &Job, words: &[u8]) -> Result<Option<Moment>, String> {
     let possible = |n: &u32| *n <= MOST_INSTANT;
     let asked: u32 = job.calls.iter().map(|call| call.n).filter(possible).sum();
     let budget = Some(job.budget).filter(possible).unwrap_or(0);
     let reach = asked.max(budget).min(MOST_INSTANT);
-    let reply = (peer.reference_run)(job.table(), &job.program, words, reach);
-    reply
-        .result
-        .map_err(|refused| format!("the rules refuse what the check accepts: {refused:?}"))
+    let (table, program) = (job.table(), &job.program);
+    let moment = calls::last_moment(table, program, words, reach);
+    let end = |moment: Moment| End {
+        instant: moment.instant,
+        words: moment.contents.words,
+    };
+    let found = (peer.reference_run)(table, program, words, reach).result;
+    expect("the rules", found, moment.map(|moment| moment.map(end)))?;
+    moment.map_err(|refused| format!("the rules refuse what the check accepts: {refused:?}"))
 }
 
 /// A run of one compiled program whose end is known.
@@ -59,7 +67,7 @@ struct Run<'a> {
     file: &'a [u8],
     /// The length of the state.
     length: usize,
-    end: Option<End>,
+    end: Option<Moment>,
 }
 
 impl Run<'_> {
@@ -103,7 +111,8 @@ impl Run<'_> {
         }
     }
 
-    /// A full run, by the call and, where there is no table, as hubrun prints it.
+    /// A full run, by the call and, where there is no table, as hubrun prints one
+    /// in which every element is 0 at first.
     fn check_full_run(&self, job: &Job, words: &[u8]) -> Result<(), String> {
         let (program, budget) = (&job.program, job.budget);
         let (file, state) = (lent(MOST_FILE), lent(MOST_STATE));
@@ -117,9 +126,12 @@ impl Run<'_> {
         if job.table.is_some() {
             return Ok(());
         }
+        let words = &words[..WORDS - ARRAYS];
         let input = [words, &budget.to_le_bytes(), program].concat();
         let text = String::from_utf8((self.peer.hubrun_text)(&input));
-        expect("hubrun", text, Ok(hubrun_lines(reply.result)))
+        let start = [words, &[0; ARRAYS]].concat();
+        let ran = (self.peer.run_program)(None, program, &start, budget, &file, &state);
+        expect("hubrun", text, Ok(hubrun_lines(ran.result)))
     }
 
     /// Where a full run stops: at 0 if the finish is high there.
@@ -142,7 +154,7 @@ impl Run<'_> {
     }
 
     /// Compares an answer with what is due; from the end on the words are the
-    /// program's last ones.
+    /// program's last ones, in the state, which is lent last, too.
     fn check_answer(
         &self,
         name: &str,
@@ -156,7 +168,15 @@ impl Run<'_> {
         expect(name, found, Ok((ended, instant, count)))?;
         match (self.end, reply.result) {
             (Some(end), Ok(answer)) if end.instant <= instant => {
-                expect(&format!("words after {name}"), answer.words, end.words)
+                let last = end.contents;
+                expect(&format!("words after {name}"), answer.words, last.words)?;
+                let state = &reply.lent[reply.lent.len() - 1][..self.length];
+                let elements = &state[self.length - ARRAYS..];
+                expect(
+                    &format!("elements after {name}"),
+                    elements,
+                    &last.arrays.bytes(),
+                )
             }
             _ => Ok(()),
         }

@@ -8,7 +8,7 @@ use second::table::Times;
 use values::Refusal;
 
 /// The table that accepts whatever any table accepts.
-const FASTEST: Times = Times([0, 0, 1, 1, 1, 1, 1, 1, 1]);
+const FASTEST: Times = Times([0, 0, 1, 1, 1, 1, 1, 1, 1, 1]);
 
 /// Compares; a job without a table has nothing to compare.
 pub fn compare(peer: &Peer, job: &Job) -> Result<(), String> {

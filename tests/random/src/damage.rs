@@ -1,6 +1,7 @@
 //! Slight damage to programs, netlist files, cells and states: some of it is
 //! refused, some makes another good input.
 
+use crate::lend::ARRAYS;
 use crate::xorshift::Random;
 use second::cells::{sort, Sort, DELAY, MERGE};
 use values::Cell;
@@ -11,10 +12,12 @@ const STATE_HEADER: usize = 8;
 const STATE_CELL: usize = 40;
 
 /// Kinds at and beyond the ends of the known ranges.
-const KINDS: [u8; 12] = [0, 1, 2, 9, 10, 15, 16, 18, 20, 23, 24, 32];
+const KINDS: [u8; 14] = [0, 1, 2, 9, 10, 11, 15, 16, 18, 20, 23, 24, 25, 32];
 
 /// The same of cells.
-const CELL_KINDS: [u8; 15] = [1, 2, 3, 7, 10, 32, 33, 34, 35, 36, 38, 39, 40, 41, 42];
+const CELL_KINDS: [u8; 18] = [
+    1, 2, 3, 7, 10, 32, 33, 34, 35, 36, 38, 39, 40, 41, 42, 43, 44, 45,
+];
 
 /// A program with one to three faults.
 pub fn program(bytes: &[u8], random: &mut Random) -> Vec<u8> {
@@ -135,13 +138,15 @@ pub fn mend_checks(file: &mut [u8]) {
 /// such as refusal 15 lets pass: wires and lines that contradict each other.
 pub fn state(file: &[u8], state: &[u8], random: &mut Random) -> Vec<u8> {
     let mut state = state.to_vec();
-    let cells = (state.len() - STATE_HEADER) / STATE_CELL;
+    let arrays = state.len() - ARRAYS;
+    let cells = (arrays - STATE_HEADER) / STATE_CELL;
     for _ in 0..random.between(1, 4) {
         let cell = random.below(cells);
         let place = STATE_HEADER + STATE_CELL * cell;
         match random.below(12) {
             0 => set_random_byte(&mut state[..STATE_HEADER], random),
             1 => set_random_byte(&mut state[place..place + STATE_CELL], random),
+            2 => set_random_byte(&mut state[arrays..], random),
             _ => contradict(
                 kind_of(file, cell),
                 &mut state[place..place + STATE_CELL],
@@ -161,12 +166,12 @@ fn kind_of(file: &[u8], cell: usize) -> u8 {
 fn contradict(kind: u8, cell: &mut [u8], random: &mut Random) {
     let value = random.pick(&[0, 2]);
     match (sort(kind), kind) {
-        (Sort::Word, _) => set_random_byte(&mut cell[value..value + 2], random),
         // The newest inputs matter more than the rest of the line.
-        (_, DELAY) if random.once_in(2) => cell[8] ^= 1 << random.below(2),
-        (_, DELAY) => cell[random.between(8, 39)] ^= 1 << random.below(8),
-        (_, MERGE) => cell[random.pick(&[value, 4, 5])] ^= 1,
-        _ => cell[value] ^= 1,
+        (Sort::Control, DELAY) if random.once_in(2) => cell[8] ^= 1 << random.below(2),
+        (Sort::Control, DELAY) => cell[random.between(8, 39)] ^= 1 << random.below(8),
+        (Sort::Control, MERGE) => cell[random.pick(&[value, 4, 5])] ^= 1,
+        (Sort::Control, _) => cell[value] ^= 1,
+        _ => set_random_byte(&mut cell[value..value + 2], random),
     }
 }
 
@@ -174,7 +179,7 @@ fn contradict(kind: u8, cell: &mut [u8], random: &mut Random) {
 mod tests {
     use super::*;
     use crate::generate;
-    use crate::lend::{file_length, lent, state_length, MOST_FILE};
+    use crate::lend::{file_length, lent, state_length, MOST_FILE, WORDS};
     use second::table::BUILT_IN;
     use second::{calls, netfile};
     use std::collections::BTreeSet;
@@ -196,7 +201,7 @@ mod tests {
         let shape = calls::compile(None, good, &mut file).expect("a good program");
         file.truncate(file_length(shape.cells.into()));
         let mut state = lent(state_length(shape.cells.into()));
-        calls::begin(&file, &[0; 32], &mut state).expect("a good netlist");
+        calls::begin(&file, &[0; WORDS], &mut state).expect("a good netlist");
         (file, state)
     }
 

@@ -1,8 +1,10 @@
 //! Peers that go wrong in the ways the paper wants rejected, and the proof
 //! that the comparisons tell them from a good one.
 
+use crate::minimise::subtree_end;
+use crate::texts::is_of_array;
 use peers::{Peer, Reply, SECOND};
-use values::{Cell, End, Refusal, Shape};
+use values::{Cell, End, Refusal, Shape, Table};
 
 /// Its rules take an instant too many for a program with a parallel node.
 pub const SLOW_PARALLEL: Peer = Peer {
@@ -232,6 +234,38 @@ const ABSENT_FINISH: Peer = Peer {
     ..SECOND
 };
 
+/// Takes an array on the two sides of a parallel node for two arrays.
+const ARRAYS_APART: Peer = Peer {
+    name: "arrays apart",
+    check: |table, program| {
+        let mut reply = (SECOND.check)(table, program);
+        if let Err(Refusal { number: 8, place }) = reply.result {
+            if passes_apart(table, program, place) {
+                reply.result = Ok(());
+            }
+        }
+        reply
+    },
+    ..SECOND
+};
+
+/// Whether a program passes if the second side of a parallel node has other
+/// arrays in place of its own.
+fn passes_apart(table: Table, program: &[u8], parallel: usize) -> bool {
+    let nodes: Vec<&[u8]> = program.chunks_exact(4).collect();
+    let second = subtree_end(&nodes, parallel + 1);
+    let side = 4 * second..4 * subtree_end(&nodes, second);
+    (1..4).any(|turn| {
+        let mut apart = program.to_vec();
+        for node in apart[side.clone()].chunks_exact_mut(4) {
+            if is_of_array(node) {
+                node[2] = (node[2] + turn) % 4;
+            }
+        }
+        (SECOND.check)(table, &apart).result.is_ok()
+    })
+}
+
 /// Reads cells and then changes those that it has put in.
 fn reread(
     file: &[u8],
@@ -252,7 +286,8 @@ const NO: Refusal = Refusal::new(1, 0);
 mod tests {
     use super::*;
     use crate::against_peer::Pair;
-    use crate::job::Job;
+    use crate::faulty_arrays::*;
+    use crate::job::{self, Job};
     use crate::xorshift::Random;
     use crate::{against_equations, against_rules, against_tables, against_text};
     use crate::{generate, netlists};
@@ -263,10 +298,21 @@ mod tests {
         (0..JOBS).any(|seed| against_rules::compare(peer, &Job::of_seed(seed)).is_err())
     }
 
+    /// Whether a comparison on random netlists, from random words, fails.
+    fn disagrees_on_netlists(
+        compare: impl Fn(&[u8], &[u8], &mut Random) -> Result<(), String>,
+    ) -> bool {
+        (0..JOBS).any(|seed| {
+            let random = &mut Random::new(seed);
+            let (file, words) = (netlists::netlist(random), generate::start_words(random));
+            compare(&file, &words, random).is_err()
+        })
+    }
+
     fn disagrees_with_equations(peer: &Peer) -> bool {
-        let random = &mut Random::new(3);
-        let (file, words) = (netlists::netlist(random), generate::start_words(random));
-        against_equations::compare(peer, &file, &words, 1).is_err()
+        disagrees_on_netlists(|file, words, random| {
+            against_equations::compare(peer, file, words, random.bits())
+        })
     }
 
     fn disagrees_with_tables(peer: &Peer) -> bool {
@@ -279,12 +325,24 @@ mod tests {
         (0..10 * JOBS).any(|seed| against_text::compare(peer, &Job::of_seed(seed)).is_err())
     }
 
-    fn disagrees_with_second(peer: &Peer) -> bool {
-        let pair = Pair {
+    fn with_second(peer: &Peer) -> Pair<'_> {
+        Pair {
             left: &SECOND,
             right: peer,
-        };
-        (0..JOBS).any(|seed| pair.compare(&Job::of_seed(seed)).is_err())
+        }
+    }
+
+    fn disagrees_with_second(peer: &Peer) -> bool {
+        let pair = with_second(peer);
+        // Reading behind so many cells that numbers wrap is rare.
+        (0..4 * JOBS).any(|seed| pair.compare(&Job::of_seed(seed)).is_err())
+    }
+
+    fn disagrees_with_second_on_netlists(peer: &Peer) -> bool {
+        let pair = with_second(peer);
+        disagrees_on_netlists(|file, words, random| {
+            pair.compare_netlist(file, words, &job::calls(random), random.bits())
+        })
     }
 
     /// A comparison accepts a good peer and tells each of these.
@@ -299,6 +357,34 @@ mod tests {
     fn rules_tell_faulty_circuits() {
         let faulty = [SLOW_PARALLEL, EARLY_OPEN, COPYING, STOCK_NETLIST];
         assert_tells(disagrees_with_rules, &faulty);
+    }
+
+    /// Of a compiled program no word is taken at the instant of a write, so that
+    /// a stale read shows on its wire alone.
+    #[test]
+    fn rules_tell_faulty_arrays() {
+        assert!(!disagrees_with_rules(&WALKING));
+        assert_tells(disagrees_with_rules, &[ADDRESS_OF_THE_FALL, SEVEN_BITS]);
+    }
+
+    #[test]
+    fn equations_and_a_good_peer_tell_faulty_arrays() {
+        for disagrees in [disagrees_with_equations, disagrees_with_second_on_netlists] {
+            assert!(!disagrees(&WALKING));
+            assert_tells(disagrees, &[ADDRESS_OF_THE_FALL, SEVEN_BITS, STALE_READ]);
+        }
+    }
+
+    /// Of the calls that are compared only the check: a clash of arrays is rare.
+    #[test]
+    fn a_good_peer_tells_a_missed_clash() {
+        let disagrees = |peer: &Peer| {
+            (0..30 * JOBS).map(Job::of_seed).any(|job| {
+                let check = |peer: &Peer| (peer.check)(job.table(), &job.program);
+                with_second(peer).same("check", &[], check).is_err()
+            })
+        };
+        assert_tells(disagrees, &[ARRAYS_APART]);
     }
 
     #[test]

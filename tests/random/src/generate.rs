@@ -12,15 +12,21 @@ use second::table::Times;
 const MOST_NODES: usize = 200;
 const MOST_DELAY: u32 = 255;
 
-/// Sets of variables, as masks.
+/// A set of variables and arrays, as a mask: bit k stands for variable k, and
+/// bit 16 + k for array k.
+type Set = u32;
+
+const VARIABLES: Set = 0xffff;
+const FIRST_ARRAY: u16 = 16;
+
 #[derive(Clone, Copy)]
 struct Scope {
-    reads: u16,
-    writes: u16,
+    reads: Set,
+    writes: Set,
 }
 
 impl Scope {
-    fn new(reads: u16, writes: u16) -> Scope {
+    fn new(reads: Set, writes: Set) -> Scope {
         Scope { reads, writes }
     }
 
@@ -37,6 +43,7 @@ enum Form {
     Ok,
     Tick,
     Assign,
+    AssignElement,
     Sequence,
     Parallel,
     If,
@@ -48,10 +55,11 @@ enum Form {
 }
 
 /// The forms, with the least room of each and how often it is to be chosen.
-const FORMS: [(Form, usize, usize); 10] = [
+const FORMS: [(Form, usize, usize); 11] = [
     (Form::Ok, 1, 1),
     (Form::Tick, 1, 2),
     (Form::Assign, 2, 4),
+    (Form::AssignElement, 3, 5),
     (Form::Sequence, 3, 12),
     (Form::Parallel, 3, 8),
     (Form::If, 4, 6),
@@ -73,36 +81,50 @@ const OPERATORS: [Operator; 7] = [
 
 /// A program of up to 200 nodes, whose delays are long enough for these times.
 pub fn program(random: &mut Random, times: &Times) -> Vec<u8> {
+    written(random, times, true)
+}
+
+/// The same, of which the sides of a parallel node may clash.
+pub fn clashing_program(random: &mut Random, times: &Times) -> Vec<u8> {
+    written(random, times, false)
+}
+
+fn written(random: &mut Random, times: &Times, apart: bool) -> Vec<u8> {
     let limit = match random.below(10) {
         0..=3 => random.between(1, 12),
         4..=7 => random.between(13, 60),
         _ => random.between(61, MOST_NODES),
     };
-    // Few variables meet more often than sixteen do.
-    let variables = random.between(1, 16);
-    let all = ((1u32 << variables) - 1) as u16;
+    // Few variables meet more often than sixteen do. Half of the programs have
+    // no arrays, since those alone have a text.
+    let variables = (1 << random.between(1, 16)) - 1;
+    let arrays = random.pick(&[0, 1]) * random.between(1, 15) as Set;
+    let all = variables | arrays << FIRST_ARRAY;
     let mut author = Author {
         random,
         times,
+        apart,
         bytes: Vec::new(),
     };
     author.statement(limit, Scope::new(all, all));
     author.bytes
 }
 
-/// The 32 bytes of sixteen start words, small ones more often than not.
+/// The 544 bytes of 272 start words, small ones more often than not.
 pub fn start_words(random: &mut Random) -> Vec<u8> {
     let mut word = || match random.below(10) {
         0..=6 => random.below(6) as u16,
         7 => 0,
         _ => random.word(),
     };
-    (0..16).flat_map(|_| word().to_le_bytes()).collect()
+    (0..272).flat_map(|_| word().to_le_bytes()).collect()
 }
 
 struct Author<'a> {
     random: &'a mut Random,
     times: &'a Times,
+    /// Whether the sides of parallel nodes are kept apart.
+    apart: bool,
     bytes: Vec<u8>,
 }
 
@@ -130,6 +152,7 @@ impl Author<'_> {
                 self.set_delay(place, 1);
             }
             Form::Assign => self.assignment(limit, scope),
+            Form::AssignElement => self.element_assignment(limit, scope),
             Form::Sequence => {
                 self.node(19, 0);
                 self.two_statements(limit, scope, scope);
@@ -145,11 +168,15 @@ impl Author<'_> {
 
     /// A form that fits, by weight; where room is large, none without parts.
     fn form(&mut self, room: usize, scope: Scope) -> Form {
-        let needs_variable = [Form::Assign, Form::WhileCounting, Form::RepeatCounting];
         let wanted = if room > 10 { 3..=room } else { 1..=room };
-        let fits = |form: Form, least: usize| {
-            wanted.contains(&least) && (scope.writes != 0 || !needs_variable.contains(&form))
+        let writable = |form: Form| match form {
+            Form::Assign | Form::WhileCounting | Form::RepeatCounting => {
+                scope.writes & VARIABLES != 0
+            }
+            Form::AssignElement => scope.writes & !VARIABLES != 0,
+            _ => true,
         };
+        let fits = |form: Form, least: usize| wanted.contains(&least) && writable(form);
         let chosen: Vec<Form> = FORMS
             .iter()
             .filter(|&&(form, least, _)| fits(form, least))
@@ -172,10 +199,22 @@ impl Author<'_> {
         self.set_delay(place, time.max(1));
     }
 
+    fn element_assignment(&mut self, limit: usize, scope: Scope) {
+        let array = self.array(scope.writes);
+        let place = self.node(24, array);
+        let index_limit = limit.min(self.count() + 8) - 1;
+        let index = self.index(index_limit, MOST_DELAY, scope.reads);
+        let value = self.own_expression(limit, scope);
+        self.set_delay(place, index.max(value).max(1));
+    }
+
     /// Each side may read what the other doesn't write.
     fn parallel(&mut self, limit: usize, scope: Scope) {
         self.node(20, 0);
-        let share = self.random.word();
+        if !self.apart {
+            return self.two_statements(limit, scope, scope);
+        }
+        let share = self.random.bits() as Set;
         let (p_writes, q_writes) = (scope.writes & share, scope.writes & !share);
         let p_scope = Scope::new(scope.reads & !q_writes, p_writes);
         let q_scope = Scope::new(scope.reads & !p_writes, q_writes);
@@ -238,9 +277,15 @@ impl Author<'_> {
     }
 
     /// Writes an expression within a limit and a time; gives its time.
-    fn expression(&mut self, limit: usize, time: u32, reads: u16) -> u32 {
+    fn expression(&mut self, limit: usize, time: u32, reads: Set) -> u32 {
         let room = limit - self.count();
         let times = self.times;
+        let readable = reads & !VARIABLES != 0 && times.of_element() <= time && room >= 2;
+        if readable && self.random.once_in(3) {
+            let array = self.array(reads);
+            self.node(10, array);
+            return times.of_element() + self.index(limit, time - times.of_element(), reads);
+        }
         let fits = |operator: &Operator| times.of(*operator) <= time && inputs(*operator) < room;
         let operators: Vec<Operator> = OPERATORS.into_iter().filter(fits).collect();
         // Where a complement alone fits, a leaf is mostly the better choice.
@@ -260,8 +305,19 @@ impl Author<'_> {
         times.of(operator) + children.max(self.expression(limit, left, reads))
     }
 
-    fn leaf(&mut self, reads: u16) {
-        if reads != 0 && !self.random.once_in(3) {
+    /// Writes an index; gives its time. Few elements meet more often than 64 do,
+    /// and one index in three is above 63.
+    fn index(&mut self, limit: usize, time: u32, reads: Set) -> u32 {
+        if !self.random.once_in(3) {
+            return self.expression(limit, time, reads);
+        }
+        let n = 64 * self.random.below(1_024) + self.random.below(6);
+        self.node(1, n as u16);
+        0
+    }
+
+    fn leaf(&mut self, reads: Set) {
+        if reads & VARIABLES != 0 && !self.random.once_in(3) {
             let variable = self.variable(reads);
             self.node(2, variable);
         } else {
@@ -272,10 +328,19 @@ impl Author<'_> {
         }
     }
 
-    /// One of the variables of a set that isn't empty.
-    fn variable(&mut self, set: u16) -> u16 {
-        let is_member = |variable: &u16| set >> variable & 1 == 1;
-        let members: Vec<u16> = (0..16).filter(is_member).collect();
+    /// One of the variables of a set that has some.
+    fn variable(&mut self, set: Set) -> u16 {
+        self.member(set & VARIABLES)
+    }
+
+    /// One of the arrays of a set that has some.
+    fn array(&mut self, set: Set) -> u16 {
+        self.member(set & !VARIABLES) - FIRST_ARRAY
+    }
+
+    fn member(&mut self, set: Set) -> u16 {
+        let is_member = |member: &u16| set >> member & 1 == 1;
+        let members: Vec<u16> = (0..32).filter(is_member).collect();
         self.random.pick(&members)
     }
 
@@ -305,8 +370,8 @@ mod tests {
 
     #[test]
     fn every_program_is_accepted_and_every_kind_occurs() {
-        let least = Times([0, 0, 1, 1, 1, 1, 1, 1, 1]);
-        let most = Times([0, 0, 200, 200, 200, 200, 200, 200, 200]);
+        let least = Times([0, 0, 1, 1, 1, 1, 1, 1, 1, 1]);
+        let most = Times([0, 0, 200, 200, 200, 200, 200, 200, 200, 200]);
         for times in [BUILT_IN, least, most] {
             accepted_and_every_kind_occurs(&times);
         }

@@ -2,6 +2,7 @@
 
 use crate::damage;
 use crate::generate;
+use crate::lend::WORDS;
 use crate::tables::{self, Table};
 use crate::xorshift::Random;
 use second::table::BUILT_IN;
@@ -49,12 +50,17 @@ pub struct Job {
 }
 
 impl Job {
-    /// The job of a seed; one program in eight is slightly damaged. Every other
-    /// one has a table, and one table in twelve is damaged.
+    /// The job of a seed; one program in eight is slightly damaged, and in one of
+    /// sixteen parallel sides may clash. Every other one has a table, and one
+    /// table in twelve is damaged.
     pub fn of_seed(seed: u64) -> Job {
         let random = &mut Random::new(seed);
         let times = random.once_in(2).then(|| tables::times(random));
-        let mut program = generate::program(random, times.as_ref().unwrap_or(&BUILT_IN));
+        let program_of = match random.once_in(16) {
+            true => generate::clashing_program,
+            false => generate::program,
+        };
+        let mut program = program_of(random, times.as_ref().unwrap_or(&BUILT_IN));
         if random.once_in(8) {
             program = damage::program(&program, random);
         }
@@ -68,7 +74,7 @@ impl Job {
             words: lent_words(random),
             budget: budget(random),
             file_length: random.pick(&[0, 511, 512, 1024, 2048, 3584, 6656, 7000]),
-            state_length: random.pick(&[0, 7, 768, 2000, 10_000, 22_688, 40_968, 41_000]),
+            state_length: random.pick(&[0, 7, 1_600, 3_000, 10_000, 25_600, 41_480, 42_000]),
             calls: calls(random),
             damage: random.bits(),
         }
@@ -84,8 +90,9 @@ impl Job {
 fn lent_words(random: &mut Random) -> Vec<u8> {
     let mut words = generate::start_words(random);
     match random.below(40) {
-        0 => words.truncate(random.below(32)),
-        1 => words.extend([0xa5; 5]),
+        0 => words.truncate(random.below(36)),
+        1 => words.truncate(random.below(WORDS)),
+        2 => words.extend([0xa5; 5]),
         _ => {}
     }
     words

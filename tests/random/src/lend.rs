@@ -9,7 +9,12 @@ pub const MOST_FILE: usize = 6656;
 pub const MOST_CELLS: usize = 6144;
 
 /// The longest state, of 1,024 cells.
-pub const MOST_STATE: usize = 8 + 40 * 1024;
+pub const MOST_STATE: usize = state_length(1_024);
+
+/// The bytes of start words, and those among them of the arrays, which stand
+/// last, as in a state.
+pub const WORDS: usize = 544;
+pub const ARRAYS: usize = 512;
 
 const LENT_BYTE: u8 = 0xa5;
 
@@ -36,6 +41,6 @@ pub fn file_length(cells: usize) -> usize {
 }
 
 /// The bytes of the state of this many cells.
-pub fn state_length(cells: usize) -> usize {
-    8 + 40 * cells
+pub const fn state_length(cells: usize) -> usize {
+    8 + 40 * cells + ARRAYS
 }

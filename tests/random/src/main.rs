@@ -14,6 +14,8 @@ mod against_text;
 mod damage;
 #[cfg(test)]
 mod faulty;
+#[cfg(test)]
+mod faulty_arrays;
 mod generate;
 mod job;
 mod lend;

@@ -7,6 +7,7 @@
 
 use crate::job::Job;
 use second::kinds::{row, Sort};
+use std::ops::Range;
 
 const NODE: usize = 4;
 const OK: [u8; NODE] = [16, 0, 0, 0];
@@ -83,7 +84,7 @@ fn children(nodes: &[&[u8]], node: usize) -> Vec<usize> {
 }
 
 /// The first node after the subtree at `node`: the one where nothing is owed.
-fn subtree_end(nodes: &[&[u8]], node: usize) -> usize {
+pub fn subtree_end(nodes: &[&[u8]], node: usize) -> usize {
     let (mut next, mut owed) = (node, 1);
     while owed > 0 && next < nodes.len() {
         owed = owed - 1 + child_count(nodes[next]);
@@ -131,15 +132,20 @@ fn fewer_calls(job: &Job) -> Vec<Job> {
     (0..job.calls.len()).map(without).collect()
 }
 
-/// The job with one byte of a start word cleared.
+/// The job with one byte of a start word cleared, or with every byte.
 fn cleared_words(job: &Job) -> Vec<Job> {
-    let set = (0..job.words.len()).filter(|&place| job.words[place] != 0);
-    let cleared = |place: usize| {
+    let length = job.words.len();
+    let set = (0..length).filter(|&place| job.words[place] != 0);
+    let cleared = |places: Range<usize>| {
         let mut cleared = job.clone();
-        cleared.words[place] = 0;
+        cleared.words[places].fill(0);
         cleared
     };
-    set.map(cleared).collect()
+    let all = set.clone().next().map(|_| 0..length);
+    all.into_iter()
+        .chain(set.map(|place| place..place + 1))
+        .map(cleared)
+        .collect()
 }
 
 #[cfg(test)]

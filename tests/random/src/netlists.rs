@@ -3,6 +3,7 @@
 
 use crate::xorshift::Random;
 use second::cells::*;
+use second::contents::ARRAYS;
 use second::netfile;
 use values::Cell;
 
@@ -10,7 +11,7 @@ const FIXED: [u8; 3] = [START, GROUND, CONSTANT];
 
 /// The kinds of the cells that are neither fixed nor memories, by weight: with
 /// fewer ors and delays, pulses would soon die out.
-const KINDS: [(u8, usize); 14] = [
+const KINDS: [(u8, usize); 15] = [
     (CONSTANT, 1),
     (3, 1),
     (4, 1),
@@ -25,13 +26,14 @@ const KINDS: [(u8, usize); 14] = [
     (UNLESS, 2),
     (MERGE, 2),
     (GATE, 2),
+    (READ, 4),
 ];
 
 /// The file of a netlist with mostly few and now and then 1,024 cells.
 pub fn netlist(random: &mut Random) -> Vec<u8> {
     let free = match random.below(20) {
-        0 => random.between(200, 1005),
-        1 => 1005,
+        0 => random.between(200, 997),
+        1 => 997,
         _ => random.between(0, 110),
     };
     let kinds = kinds(free, random);
@@ -42,23 +44,32 @@ pub fn netlist(random: &mut Random) -> Vec<u8> {
     netfile::write(&Netlist { cells, finish })
 }
 
-/// The fixed kinds, then memories and free cells in any order.
+/// The fixed kinds, then memories and some of the free cells in any order, the
+/// last of these a memory, then the arrays and the other free cells.
 fn kinds(free: usize, random: &mut Random) -> Vec<u8> {
     let weighted: Vec<u8> = KINDS
         .iter()
         .flat_map(|&(kind, weight)| vec![kind; weight])
         .collect();
     let mut kinds = FIXED.to_vec();
-    let (mut memories, mut free) = (MEMORIES, free);
-    while memories + free > 0 {
-        if random.below(memories + free) < memories {
+    let (mut memories, mut early) = (MEMORIES, random.between(free / 3, free));
+    let late = free - early;
+    while memories + early > 0 {
+        if early == 0 || (memories > 1 && random.below(memories + early) < memories) {
             kinds.push(MEMORY);
             memories -= 1;
         } else {
-            kinds.push(random.pick(&weighted));
-            free -= 1;
+            // No array stands below, so that there is nothing to read.
+            kinds.push(
+                Some(random.pick(&weighted))
+                    .filter(|&kind| kind != READ)
+                    .unwrap_or(OR),
+            );
+            early -= 1;
         }
     }
+    kinds.extend([ARRAY, ADDRESS].repeat(ARRAYS));
+    kinds.extend((0..late).map(|_| random.pick(&weighted)));
     kinds
 }
 
@@ -67,6 +78,10 @@ fn cell(kinds: &[u8], number: usize, random: &mut Random) -> Cell {
     let (a, b) = fields(kind).expect("a kind of the list");
     let delay = match kind {
         DELAY => random.pick(&[1, 1, 2, 3, 7, 64, 65, 200, 254, 255]),
+        ARRAY => kinds[..number]
+            .iter()
+            .filter(|&&lower| lower == ARRAY)
+            .count() as u8,
         _ => 0,
     };
     let a = field(kinds, number, a, random);
@@ -78,7 +93,7 @@ fn field(kinds: &[u8], number: usize, field: Field, random: &mut Random) -> u16 
     match field {
         Field::Unused => 0,
         Field::Number if number < FIXED.len() => 0,
-        Field::Number => random.pick(&[0, 1, 2, 0xffff, 0x8000]),
+        Field::Number => random.pick(&[0, 1, 2, 65, 0xffff, 0x8000]),
         Field::Now(sort) => wire(kinds, number, sort, random),
         Field::Earlier(sort) => wire(kinds, kinds.len(), sort, random),
     }
@@ -105,25 +120,42 @@ fn wire(kinds: &[u8], limit: usize, wanted: Sort, random: &mut Random) -> u16 {
 #[cfg(test)]
 mod tests {
     use super::*;
+    use crate::lend::{lent, state_length, WORDS};
     use second::calls;
 
     #[test]
     fn every_netlist_is_good_and_many_stay_lively() {
-        let late_change = |&seed: &u64| changes_late(&netlist(&mut Random::new(seed)));
-        let count = (0..200).filter(late_change).count();
-        assert!(count > 50, "{count} of 200 netlists");
+        let seen: Vec<(bool, bool)> = (0..200)
+            .map(|seed| late_changes(&netlist(&mut Random::new(seed))))
+            .collect();
+        let lively = seen.iter().filter(|(line, _)| *line).count();
+        let written = seen.iter().filter(|(_, element)| *element).count();
+        assert!(lively > 50, "{lively} of 200 netlists");
+        assert!(written > 25, "{written} of 200 netlists assign to elements");
     }
 
     /// Whether the input of a delay has changed within the last 256 of 600
-    /// instants.
-    fn changes_late(file: &[u8]) -> bool {
-        let mut state = vec![0; 8 + 40 * 1024];
-        let mut answer = calls::begin(file, &[1; 32], &mut state).expect("a good netlist");
-        while answer.instant < 600 {
-            let left = 600 - answer.instant;
-            answer = calls::continue_by(file, &mut state, left).expect("a good state");
+    /// instants, and whether an element has changed in the last 500.
+    fn late_changes(file: &[u8]) -> (bool, bool) {
+        let cells = netfile::read(file).expect("a good netlist").cells.len();
+        let mut state = lent(state_length(cells));
+        calls::begin(file, &[1; WORDS], &mut state).expect("a good netlist");
+        let early = state_at(file, &mut state, 100);
+        let late = state_at(file, &mut state, 600);
+        let (records, elements) = late[8..].split_at(40 * cells);
+        let mut lines = records.chunks_exact(40).map(|cell| &cell[8..]);
+        let lively = lines.any(|line| line != [0; 32] && line != [255; 32]);
+        (lively, !early.ends_with(elements))
+    }
+
+    /// The state at an instant that isn't past.
+    fn state_at(file: &[u8], state: &mut [u8], instant: u32) -> Vec<u8> {
+        let mut left = instant - second::state::instant(state);
+        while left > 0 {
+            left -= calls::continue_by(file, state, left)
+                .expect("a good state")
+                .count;
         }
-        let mut lines = state[8..].chunks_exact(40).map(|cell| &cell[8..]);
-        lines.any(|line| line != [0; 32] && line != [255; 32])
+        state.to_vec()
     }
 }

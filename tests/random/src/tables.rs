@@ -8,11 +8,12 @@ use values::Refusal;
 
 const LENGTH: usize = 512;
 
-/// The places of the operators' times; those of the other kinds are 0.
-const OPERATORS: RangeInclusive<usize> = 10..=16;
+/// The places of the times of operators and elements; those of the other kinds
+/// are 0.
+const OPERATORS: RangeInclusive<usize> = 10..=17;
 
 /// The first place after the times.
-const REST: usize = 17;
+const REST: usize = 18;
 
 /// A table and the refusal that it meets.
 #[derive(Clone, Debug)]
@@ -91,7 +92,7 @@ fn place(random: &mut Random) -> usize {
 fn wrong_byte(place: usize, random: &mut Random) -> u8 {
     let byte = random.between(1, 255) as u8;
     match place {
-        2 if byte == 9 => 0,
+        2 if byte == 10 => 0,
         place if OPERATORS.contains(&place) => random.pick(&[0, 201, 255]),
         _ => byte,
     }
@@ -127,7 +128,7 @@ mod tests {
             let refused = table.refused.expect("a damaged table");
             *seen.entry((refused.number, refused.place)).or_default() += 1;
         }
-        let header_and_times = (0..=16).filter(|place| ![6, 7].contains(place));
+        let header_and_times = (0..=17).filter(|place| ![6, 7].contains(place));
         let wrong = header_and_times.map(|place| (21, place));
         for refused in [(19, 0), (20, 0)].into_iter().chain(wrong) {
             assert!(seen.contains_key(&refused), "{refused:?} of {seen:?}");

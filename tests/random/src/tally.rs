@@ -2,6 +2,7 @@
 
 use crate::against_rules::Outcome;
 use crate::job::Job;
+use crate::texts::has_arrays;
 use std::fmt::{Display, Formatter, Result};
 
 #[derive(Default)]
@@ -12,6 +13,7 @@ pub struct Tally {
     pub nodes: usize,
     /// Programs under a table of their own.
     pub tables: u64,
+    pub arrays: u64,
     pub netlists: u64,
 }
 
@@ -20,6 +22,7 @@ impl Tally {
     pub fn add(&mut self, job: &Job, outcome: Outcome) {
         self.nodes += job.program.len() / 4;
         self.tables += u64::from(job.table.is_some());
+        self.arrays += u64::from(has_arrays(&job.program));
         match outcome {
             Outcome::Ended => self.ended += 1,
             Outcome::Open => self.open += 1,
@@ -36,12 +39,13 @@ impl Display for Tally {
             refused,
             nodes,
             tables,
+            arrays,
             netlists,
         } = self;
         let programs = ended + open + refused;
         write!(text, "{programs} programs, {nodes} nodes in all, agree: ")?;
         write!(text, "{ended} ended, {open} open, {refused} refused, ")?;
-        write!(text, "{tables} under a table; ")?;
+        write!(text, "{tables} under a table, {arrays} with arrays; ")?;
         write!(text, "{netlists} netlists agree")
     }
 }

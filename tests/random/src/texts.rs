@@ -39,10 +39,11 @@ pub enum Known {
     Nothing,
 }
 
-/// The texts of a program; bytes that are no tree have random words alone.
+/// The texts of a program; bytes that are no tree, and programs with arrays,
+/// which have no text, have random words alone.
 pub fn texts(program: &[u8], random: &mut Random) -> Vec<Text> {
     let soup = unknown(soup(random));
-    if !is_tree(program) {
+    if !is_tree(program) || has_arrays(program) {
         return vec![soup];
     }
     let program = match random.once_in(16) {
@@ -69,6 +70,15 @@ pub fn texts(program: &[u8], random: &mut Random) -> Vec<Text> {
 /// Whether refusals 1 to 6 let a program pass.
 fn is_tree(program: &[u8]) -> bool {
     calls::check(None, program).map_or_else(|refusal| refusal.number > 6, |()| true)
+}
+
+/// Whether a program has an element or assigns to one.
+pub fn has_arrays(program: &[u8]) -> bool {
+    program.chunks_exact(4).any(is_of_array)
+}
+
+pub fn is_of_array(node: &[u8]) -> bool {
+    [10, 24].contains(&node[0])
 }
 
 fn unknown(bytes: Vec<u8>) -> Text {

@@ -198,6 +198,7 @@ impl Typist<'_> {
             Kind::Expression(ExpressionKind::Constant) => self.word(&tree.n.to_string()),
             Kind::Expression(ExpressionKind::Variable) => self.word(&format!("x{}", tree.n)),
             Kind::Expression(ExpressionKind::Operation(operator)) => self.operation(operator, tree),
+            Kind::Expression(ExpressionKind::Element) => panic!("an element has no text"),
             Kind::Statement(_) => panic!("a statement where an expression stands"),
         }
     }

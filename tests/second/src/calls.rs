@@ -9,15 +9,15 @@
 use crate::cells::Netlist;
 use crate::check;
 use crate::compile;
+use crate::contents::{Contents, CONTENTS_LENGTH};
 use crate::netfile;
 use crate::program::Statement;
-use crate::rules;
+use crate::rules::{self, Moment};
 use crate::simulate::Simulator;
 use crate::state;
 use crate::table::{self, Times, BUILT_IN};
 use crate::text;
-use crate::word::{words_of, WORDS_LENGTH};
-use values::{Answer, Cell, End, Refusal, Shape, Table, Words};
+use values::{Answer, Cell, End, Refusal, Shape, Table};
 
 /// The last instant that a run may come to.
 const MOST_INSTANT: u32 = 1_000_000;
@@ -73,9 +73,9 @@ pub fn read_netlist(file: &[u8], cells: &mut [u8]) -> Result<Shape, Refusal> {
 /// Begins a run: refusals 9 to 12, 14.
 pub fn begin(file: &[u8], words: &[u8], state: &mut [u8]) -> Result<Answer, Refusal> {
     let netlist = netfile::read(file)?;
-    let words = start_words(words)?;
-    let state = room(state, state::length(&netlist))?;
-    let simulator = Simulator::begin(&netlist, words);
+    let contents = start_contents(words)?;
+    let state = state_room(state, &netlist)?;
+    let simulator = Simulator::begin(&netlist, contents);
     state::store(&simulator, state);
     Ok(answer(&simulator, 1))
 }
@@ -83,7 +83,7 @@ pub fn begin(file: &[u8], words: &[u8], state: &mut [u8]) -> Result<Answer, Refu
 /// Continues a run by at most `n` instants: refusals 9 to 12, 14, 15, 16.
 pub fn continue_by(file: &[u8], state: &mut [u8], n: u32) -> Result<Answer, Refusal> {
     let netlist = netfile::read(file)?;
-    let state = room(state, state::length(&netlist))?;
+    let state = state_room(state, &netlist)?;
     state::check(&netlist, state)?;
     check_reach(state::instant(state), n)?;
     let mut simulator = state::load(&netlist, state);
@@ -101,9 +101,9 @@ pub fn run_netlist(
 ) -> Result<Answer, Refusal> {
     let netlist = netfile::read(file)?;
     check_budget(budget)?;
-    let words = start_words(words)?;
-    let state = room(state, state::length(&netlist))?;
-    Ok(full_run(&netlist, words, budget, state))
+    let contents = start_contents(words)?;
+    let state = state_room(state, &netlist)?;
+    Ok(full_run(&netlist, contents, budget, state))
 }
 
 /// A full run of a program: refusals 1 to 8, 13, 14. Its netlist file and its
@@ -118,10 +118,10 @@ pub fn run_program(
 ) -> Result<Answer, Refusal> {
     let netlist = compile::compile(&checked(table, program)?);
     check_budget(budget)?;
-    let words = start_words(words)?;
-    let state = room(state, state::length(&netlist))?;
+    let contents = start_contents(words)?;
+    let state = state_room(state, &netlist)?;
     put(&netfile::write(&netlist), file)?;
-    Ok(full_run(&netlist, words, budget, state))
+    Ok(full_run(&netlist, contents, budget, state))
 }
 
 /// A full run of a text: refusals 17, 18, and those of its program's run.
@@ -145,9 +145,23 @@ pub fn reference_run(
     words: &[u8],
     budget: u32,
 ) -> Result<Option<End>, Refusal> {
+    let end = last_moment(table, program, words, budget)?;
+    Ok(end.map(|end| End {
+        instant: end.instant,
+        words: end.contents.words,
+    }))
+}
+
+/// The same with the last words of the arrays, which no answer shows.
+pub fn last_moment(
+    table: Table,
+    program: &[u8],
+    words: &[u8],
+    budget: u32,
+) -> Result<Option<Moment>, Refusal> {
     let program = checked(table, program)?;
     check_budget(budget)?;
-    Ok(rules::run(&program, start_words(words)?, budget))
+    Ok(rules::run(&program, start_contents(words)?, budget))
 }
 
 /// A program that passes its checks under a table that passes its own.
@@ -166,8 +180,8 @@ fn times(table: Table) -> Result<Times, Refusal> {
 }
 
 /// A beginning, and a continuing unless the finish was high.
-fn full_run(netlist: &Netlist, words: Words, budget: u32, state: &mut [u8]) -> Answer {
-    let mut simulator = Simulator::begin(netlist, words);
+fn full_run(netlist: &Netlist, contents: Contents, budget: u32, state: &mut [u8]) -> Answer {
+    let mut simulator = Simulator::begin(netlist, contents);
     let mut count = 1;
     if !simulator.finished() {
         count += simulator.advance(budget);
@@ -201,6 +215,11 @@ fn check_reach(instant: u32, n: u32) -> Result<(), Refusal> {
     Ok(())
 }
 
+/// The part of a lent buffer that a netlist's state takes; refusal 14.
+fn state_room<'a>(state: &'a mut [u8], netlist: &Netlist) -> Result<&'a mut [u8], Refusal> {
+    room(state, state::length(netlist.cells.len()))
+}
+
 /// The part of a lent buffer that a result takes; refusal 14.
 fn room(buffer: &mut [u8], length: usize) -> Result<&mut [u8], Refusal> {
     buffer.get_mut(..length).ok_or(Refusal::new(14, 0))
@@ -213,7 +232,7 @@ pub(crate) fn put(result: &[u8], buffer: &mut [u8]) -> Result<(), Refusal> {
 }
 
 /// The lent start words; refusal 14.
-fn start_words(bytes: &[u8]) -> Result<Words, Refusal> {
-    let bytes = bytes.get(..WORDS_LENGTH).ok_or(Refusal::new(14, 0))?;
-    Ok(words_of(bytes))
+fn start_contents(bytes: &[u8]) -> Result<Contents, Refusal> {
+    let bytes = bytes.get(..CONTENTS_LENGTH).ok_or(Refusal::new(14, 0))?;
+    Ok(Contents::of_bytes(bytes))
 }

@@ -1,6 +1,7 @@
 //! Cells, the uses of their fields, and the rules that a netlist keeps
 //! (refusal 12).
 
+use crate::contents::ARRAYS;
 use crate::operator::Operator;
 use values::{Cell, Refusal};
 
@@ -18,6 +19,12 @@ pub const MERGE: u8 = 38;
 pub const MEMORY: u8 = 40;
 /// A word goes through while the control wire is high.
 pub const GATE: u8 = 41;
+/// An array: its clock and its data. It shows 0.
+pub const ARRAY: u8 = 42;
+/// The address of the array before it. It shows 0.
+pub const ADDRESS: u8 = 43;
+/// The element of an array at an index.
+pub const READ: u8 = 44;
 
 pub const MEMORIES: usize = 16;
 
@@ -41,12 +48,18 @@ impl Netlist {
 pub enum Sort {
     Control,
     Word,
+    /// Of an array, which reads alone name.
+    Array,
+    /// Of an address, which nothing names.
+    Address,
 }
 
 /// The sort of a wire goes by its cell's kind alone.
 pub fn sort(kind: u8) -> Sort {
     match kind {
         START..=MERGE => Sort::Control,
+        ARRAY => Sort::Array,
+        ADDRESS => Sort::Address,
         _ => Sort::Word,
     }
 }
@@ -83,7 +96,9 @@ pub fn fields(kind: u8) -> Option<(Field, Field)> {
         DELAY => Some((Earlier(Sort::Control), Unused)),
         OR | MERGE => Some((control, control)),
         WHEN | UNLESS | GATE => Some((control, word)),
-        MEMORY => Some((control, Earlier(Sort::Word))),
+        MEMORY | ARRAY => Some((control, Earlier(Sort::Word))),
+        ADDRESS => Some((Earlier(Sort::Word), Unused)),
+        READ => Some((Now(Sort::Array), word)),
         _ => match Operator::of_kind(kind)? {
             Operator::Complement => Some((word, Unused)),
             _ => Some((word, word)),
@@ -101,15 +116,19 @@ pub fn moved(cell: Cell, by: u16) -> Cell {
     }
 }
 
-/// Refusal 12: the first bad cell, then the number of memories, then a finish
-/// on a word wire.
+/// Refusal 12: the first bad cell, then the number of memories, then arrays
+/// that the end cuts off, then a finish on a word wire.
 pub fn check(netlist: &Netlist) -> Result<(), Refusal> {
     let cells = &netlist.cells;
-    let bad = (0..cells.len()).find(|&number| !is_good(cells, number));
+    let memories = netlist.memories();
+    let arrays = memories.get(MEMORIES - 1).map(|last| last + 1);
+    let bad = (0..cells.len())
+        .find(|&number| !is_good(cells, number) || !is_placed(cells[number], number, arrays));
     if let Some(number) = bad {
         return Err(Refusal::new(12, number));
     }
-    if netlist.memories().len() != MEMORIES {
+    let whole = arrays.is_some_and(|first| first + 2 * ARRAYS <= cells.len());
+    if memories.len() != MEMORIES || !whole {
         return Err(Refusal::new(12, cells.len()));
     }
     let finish = usize::from(netlist.finish);
@@ -125,7 +144,7 @@ fn is_good(cells: &[Cell], number: usize) -> bool {
         return false;
     };
     stands_well(cell, number)
-        && (cell.delay != 0) == (cell.kind == DELAY)
+        && (cell.kind == ARRAY || (cell.delay != 0) == (cell.kind == DELAY))
         && field_is_good(cells, number, a, cell.a)
         && field_is_good(cells, number, b, cell.b)
 }
@@ -137,6 +156,17 @@ fn stands_well(cell: Cell, number: usize) -> bool {
         1 => cell.kind == GROUND,
         2 => cell.kind == CONSTANT && cell.a == 0,
         _ => cell.kind != START && cell.kind != GROUND,
+    }
+}
+
+/// Each array and its address stand, array by array, from the first cell after
+/// the sixteenth memory on, and nowhere else.
+fn is_placed(cell: Cell, number: usize, arrays: Option<usize>) -> bool {
+    let place = arrays.and_then(|first| number.checked_sub(first));
+    match place.filter(|&place| place < 2 * ARRAYS) {
+        Some(place) if place % 2 == 0 => cell.kind == ARRAY && usize::from(cell.delay) == place / 2,
+        Some(_) => cell.kind == ADDRESS,
+        None => cell.kind != ARRAY && cell.kind != ADDRESS,
     }
 }
 

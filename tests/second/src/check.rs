@@ -47,7 +47,7 @@ fn node(bytes: &[u8]) -> Result<Node, u8> {
     if (!row.uses_delay && delay != 0) || (!row.uses_n && n != 0) {
         return Err(3);
     }
-    if row.names_variable() && n > 15 {
+    if n > row.most_n() {
         return Err(4);
     }
     Ok(Node { row, delay, n })
@@ -85,6 +85,9 @@ impl<'a> Reader<'a> {
         Ok(match kind {
             ExpressionKind::Constant => Expression::Constant(node.n),
             ExpressionKind::Variable => Expression::Variable(usize::from(node.n)),
+            ExpressionKind::Element => {
+                Expression::Element(usize::from(node.n), Box::new(self.expression()?))
+            }
             ExpressionKind::Operation(operator) => {
                 let first = Box::new(self.expression()?);
                 match node.row.children.len() {
@@ -118,6 +121,9 @@ impl<'a> Reader<'a> {
             StatementKind::If => Form::If(self.expression()?, self.part()?, self.part()?),
             StatementKind::While => Form::While(self.expression()?, self.part()?),
             StatementKind::Repeat => Form::Repeat(self.expression()?, self.part()?),
+            StatementKind::AssignElement => {
+                Form::AssignElement(usize::from(n), self.expression()?, self.expression()?)
+            }
         })
     }
 
@@ -133,14 +139,14 @@ fn check_delays(program: &Statement, times: &Times) -> Result<(), Refusal> {
     })
 }
 
-/// The least delay of a statement: its kind's, and its expression's time.
+/// The least delay of a statement: its kind's, and each expression's time.
 fn least_delay(statement: &Statement, times: &Times) -> u32 {
     let kind_needs = match statement.form {
-        Form::Tick | Form::Assign(..) | Form::While(..) | Form::Repeat(..) => 1,
         Form::Ok | Form::Sequence(..) | Form::Parallel(..) | Form::If(..) => 0,
+        _ => 1,
     };
-    let time = statement.expression().map_or(0, |e| e.time(times));
-    time.max(kind_needs)
+    let expressions = statement.expressions().into_iter();
+    expressions.fold(kind_needs, |least, e| least.max(e.time(times)))
 }
 
 /// Refusal 8, at the first parallel statement whose sides clash.

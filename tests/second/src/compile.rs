@@ -1,10 +1,12 @@
 //! Compiling: the published numbering of a program's circuit.
 //!
 //! The cells come in the paper's order: three fixed ones, the delays, the
-//! clock ors, the memories, the walk, the data ors. A delay's feed and a
-//! memory's data are known only later, and are filled in then.
+//! clock ors, the memories, the arrays, the walk, the data ors, the address
+//! ors. A delay's feed, the data of memories and arrays, and the addresses are
+//! known only later, and are filled in then.
 
 use crate::cells::*;
+use crate::contents::ARRAYS;
 use crate::operator::Operator;
 use crate::program::{Expression, Form, Statement};
 use values::Cell;
@@ -16,8 +18,11 @@ const START_WIRE: Wire = 0;
 const GROUND_WIRE: Wire = 1;
 const ZERO_WIRE: Wire = 2;
 
-/// For each variable, the wires that its assignments contribute.
-type Contributions = [Vec<Wire>; MEMORIES];
+/// What is assigned to: the variables, then the arrays.
+const TARGETS: usize = MEMORIES + ARRAYS;
+
+/// For each target, the wires that its assignments contribute.
+type Contributions = [Vec<Wire>; TARGETS];
 
 /// The netlist of a checked program.
 pub fn compile(program: &Statement) -> Netlist {
@@ -30,22 +35,31 @@ pub fn compile(program: &Statement) -> Netlist {
     let clocks = place_delays(program, &mut cells);
     let clocks = join_all(&mut cells, OR, &clocks, GROUND_WIRE);
     let first_memory = cells.len() as Wire;
-    cells.extend(clocks.map(|clock| Cell::new(MEMORY, 0, clock, 0)));
+    for (target, clock) in clocks.into_iter().enumerate() {
+        place_target(&mut cells, target, clock);
+    }
     let mut walk = Walk {
         cells,
         next_delay: first_delay,
         first_memory,
-        gates: Contributions::default(),
+        data: Contributions::default(),
+        addresses: Contributions::default(),
     };
     let finish = walk.statement(program, START_WIRE);
-    let Walk {
-        mut cells, gates, ..
-    } = walk;
-    let data = join_all(&mut cells, Operator::Or.kind(), &gates, ZERO_WIRE);
-    for (memory, data) in (usize::from(first_memory)..).zip(data) {
-        cells[memory].b = data;
-    }
+    walk.join_gates();
+    let cells = walk.cells;
     Netlist { cells, finish }
+}
+
+/// Appends a memory, or the two cells of an array; data and address come later.
+fn place_target(cells: &mut Vec<Cell>, target: usize, clock: Wire) {
+    match target.checked_sub(MEMORIES) {
+        None => cells.push(Cell::new(MEMORY, 0, clock, 0)),
+        Some(array) => {
+            cells.push(Cell::new(ARRAY, array as u8, clock, 0));
+            cells.push(Cell::new(ADDRESS, 0, 0, 0));
+        }
+    }
 }
 
 /// Appends a cell.
@@ -54,35 +68,42 @@ fn push(cells: &mut Vec<Cell>, cell: Cell) -> Wire {
     (cells.len() - 1) as Wire
 }
 
-/// The delay cells in node order; gives each variable's first delays, which
-/// are its clock pulses.
+/// The delay cells in node order; gives each target's first delays, which are
+/// its clock pulses.
 fn place_delays(program: &Statement, cells: &mut Vec<Cell>) -> Contributions {
     let mut clocks = Contributions::default();
     for statement in program.in_node_order() {
-        let own = Cell::new(DELAY, statement.delay, 0, 0);
-        match statement.form {
-            Form::Assign(variable, _) => {
-                let first = push(cells, own);
-                push(cells, Cell::new(DELAY, 1, first, 0));
-                clocks[variable].push(first);
-            }
-            // Of the others, those without a use for a delay have 0, as some ifs.
-            _ if statement.delay > 0 => drop(push(cells, own)),
-            _ => {}
+        // Statements without a use for a delay have 0, as some ifs.
+        if statement.delay == 0 {
+            continue;
+        }
+        let first = push(cells, Cell::new(DELAY, statement.delay, 0, 0));
+        if let Some(target) = target(statement) {
+            push(cells, Cell::new(DELAY, 1, first, 0));
+            clocks[target].push(first);
         }
     }
     clocks
 }
 
-/// Joins each variable's wires by or cells; a variable without any has `none`.
+/// What a statement assigns to.
+fn target(statement: &Statement) -> Option<usize> {
+    match statement.form {
+        Form::Assign(variable, _) => Some(variable),
+        Form::AssignElement(array, ..) => Some(MEMORIES + array),
+        _ => None,
+    }
+}
+
+/// Joins each target's wires by or cells; one without any has `none`.
 fn join_all(
     cells: &mut Vec<Cell>,
     or: u8,
     contributions: &Contributions,
     none: Wire,
-) -> [Wire; MEMORIES] {
-    std::array::from_fn(|variable| {
-        let joined = contributions[variable]
+) -> [Wire; TARGETS] {
+    std::array::from_fn(|target| {
+        let joined = contributions[target]
             .iter()
             .copied()
             .reduce(|so_far, next| push(cells, Cell::new(or, 0, so_far, next)));
@@ -96,7 +117,8 @@ struct Walk {
     cells: Vec<Cell>,
     next_delay: Wire,
     first_memory: Wire,
-    gates: Contributions,
+    data: Contributions,
+    addresses: Contributions,
 }
 
 impl Walk {
@@ -114,6 +136,27 @@ impl Walk {
         self.cells[usize::from(delay)].a = from;
     }
 
+    /// The cell of an array, behind the memories; that of its address is next.
+    fn array(&self, array: usize) -> Wire {
+        self.first_memory + (MEMORIES + 2 * array) as Wire
+    }
+
+    /// The data ors, then the address ors, and what they are for.
+    fn join_gates(&mut self) {
+        let or = Operator::Or.kind();
+        let data = join_all(&mut self.cells, or, &self.data, ZERO_WIRE);
+        let addresses = join_all(&mut self.cells, or, &self.addresses, ZERO_WIRE);
+        let first_memory = usize::from(self.first_memory);
+        for (memory, data) in (first_memory..).zip(&data[..MEMORIES]) {
+            self.cells[memory].b = *data;
+        }
+        for array in 0..ARRAYS {
+            let cell = usize::from(self.array(array));
+            self.cells[cell].b = data[MEMORIES + array];
+            self.cells[cell + 1].a = addresses[MEMORIES + array];
+        }
+    }
+
     /// The wire of an expression.
     fn expression(&mut self, e: &Expression) -> Wire {
         match e {
@@ -128,6 +171,10 @@ impl Walk {
                 let b = self.expression(f);
                 self.cell(operator.kind(), a, b)
             }
+            Expression::Element(array, index) => {
+                let index = self.expression(index);
+                self.cell(READ, self.array(*array), index)
+            }
         }
     }
 
@@ -140,7 +187,16 @@ impl Walk {
                 self.feed(delay, start);
                 delay
             }
-            Form::Assign(variable, e) => self.assignment(*variable, e, start),
+            Form::Assign(variable, e) => {
+                let (clock, finish) = self.two_delays(start);
+                let value = self.expression(e);
+                let gate = self.cell(GATE, clock, value);
+                self.data[*variable].push(gate);
+                finish
+            }
+            Form::AssignElement(array, index, value) => {
+                self.assign_element(MEMORIES + array, index, value, start)
+            }
             Form::Sequence(p, q) => {
                 let middle = self.statement(p, start);
                 self.statement(q, middle)
@@ -159,14 +215,29 @@ impl Walk {
         }
     }
 
-    fn assignment(&mut self, variable: usize, e: &Expression, start: Wire) -> Wire {
+    /// The delays of an assignment: the first is its clock, the second its finish.
+    fn two_delays(&mut self, start: Wire) -> (Wire, Wire) {
         let first = self.take_delay();
         let second = self.take_delay();
         self.feed(first, start);
-        let value = self.expression(e);
-        let gate = self.cell(GATE, first, value);
-        self.gates[variable].push(gate);
-        second
+        (first, second)
+    }
+
+    fn assign_element(
+        &mut self,
+        target: usize,
+        index: &Expression,
+        value: &Expression,
+        start: Wire,
+    ) -> Wire {
+        let (clock, finish) = self.two_delays(start);
+        let index = self.expression(index);
+        let value = self.expression(value);
+        let data = self.cell(GATE, clock, value);
+        let address = self.cell(GATE, clock, index);
+        self.data[target].push(data);
+        self.addresses[target].push(address);
+        finish
     }
 
     /// The pulse that an if's switches take: with a delay of 0, its start.

@@ -10,8 +10,9 @@ pub struct Fanout {
 }
 
 impl Fanout {
-    /// The fan-out in a netlist that refusal 12 has passed. A memory's data
-    /// stands in neither list: the fall of its clock alone makes it look.
+    /// The fan-out in a netlist that refusal 12 has passed. The data of memories
+    /// and arrays, and addresses, stand in neither list: the fall of the clock
+    /// alone makes them look.
     pub fn of(netlist: &Netlist) -> Fanout {
         let none = vec![Vec::new(); netlist.cells.len()];
         let (mut readers, mut delays) = (none.clone(), none);
@@ -21,7 +22,7 @@ impl Fanout {
                 match field {
                     Field::Now(_) => readers[wire].push(number),
                     Field::Earlier(Sort::Control) => delays[wire].push(number),
-                    Field::Earlier(Sort::Word) | Field::Number | Field::Unused => {}
+                    Field::Earlier(_) | Field::Number | Field::Unused => {}
                 }
             }
         }

@@ -1,14 +1,16 @@
 //! The text that `hubrun` prints for its input.
 
 use crate::calls;
-use crate::word::{number4, WORDS_LENGTH};
+use crate::contents::{CONTENTS_LENGTH, WORDS_LENGTH};
+use crate::netfile::MOST_CELLS;
+use crate::state;
+use crate::word::number4;
 use values::{Answer, Refusal};
 
 const BUDGET_LENGTH: usize = 4;
 
-/// Buffers that no accepted program outgrows.
+/// No accepted program outgrows it.
 const NETLIST_ROOM: usize = 6656;
-const STATE_ROOM: usize = 8 + 40 * 1024;
 
 /// The lines for an input of start words, budget and program.
 pub fn text(input: &[u8]) -> String {
@@ -23,10 +25,17 @@ fn run(input: &[u8]) -> Result<Answer, Refusal> {
     let Some(program) = input.get(header..) else {
         return Err(Refusal::new(1, 0));
     };
-    let words = &input[..WORDS_LENGTH];
     let budget = number4(input, WORDS_LENGTH);
-    let (mut netlist, mut state) = (vec![0; NETLIST_ROOM], vec![0; STATE_ROOM]);
-    calls::run_program(None, program, words, budget, &mut netlist, &mut state)
+    let (mut netlist, mut state) = (vec![0; NETLIST_ROOM], vec![0; state::length(MOST_CELLS)]);
+    let words = with_elements(&input[..WORDS_LENGTH]);
+    calls::run_program(None, program, &words, budget, &mut netlist, &mut state)
+}
+
+/// The sixteen start words, and 0 for every element.
+fn with_elements(words: &[u8]) -> Vec<u8> {
+    let mut contents = words.to_vec();
+    contents.resize(CONTENTS_LENGTH, 0);
+    contents
 }
 
 fn answer_text(answer: Answer) -> String {

@@ -13,6 +13,7 @@ pub enum ExpressionKind {
     Constant,
     Variable,
     Operation(Operator),
+    Element,
 }
 
 #[derive(Clone, Copy, Debug, PartialEq, Eq)]
@@ -25,6 +26,7 @@ pub enum StatementKind {
     If,
     While,
     Repeat,
+    AssignElement,
 }
 
 /// What may stand at a child's place.
@@ -52,22 +54,29 @@ impl Row {
         }
     }
 
-    /// Whether n is the number of a variable.
-    pub fn names_variable(&self) -> bool {
-        matches!(
-            self.kind,
-            Kind::Expression(ExpressionKind::Variable) | Kind::Statement(StatementKind::Assign)
-        )
+    /// The highest n: the last variable's number, the last array's, or any.
+    pub fn most_n(&self) -> u16 {
+        use {ExpressionKind::*, Kind::*, StatementKind::*};
+        match self.kind {
+            Expression(Variable) | Statement(Assign) => 15,
+            Expression(Element) | Statement(AssignElement) => 3,
+            _ => u16::MAX,
+        }
     }
 }
 
-/// A constant or a variable: no children, and n in use.
-const fn leaf(number: u8, name: &'static str, kind: ExpressionKind) -> Row {
+/// A constant, a variable or an element: n in use, and no delay.
+const fn named(
+    number: u8,
+    name: &'static str,
+    kind: ExpressionKind,
+    children: &'static [Sort],
+) -> Row {
     Row {
         number,
         name,
         kind: Kind::Expression(kind),
-        children: &[],
+        children,
         uses_delay: false,
         uses_n: true,
     }
@@ -90,7 +99,7 @@ const fn operation(
     }
 }
 
-/// A statement; of these an assignment alone has a use for n.
+/// A statement; of these the assignments alone have a use for n.
 const fn statement(
     number: u8,
     name: &'static str,
@@ -104,16 +113,16 @@ const fn statement(
         kind: Kind::Statement(kind),
         children,
         uses_delay,
-        uses_n: matches!(kind, StatementKind::Assign),
+        uses_n: matches!(kind, StatementKind::Assign | StatementKind::AssignElement),
     }
 }
 
 const E: Sort = Sort::Expression;
 const S: Sort = Sort::Statement;
 
-pub const TABLE: [Row; 17] = [
-    leaf(1, "constant", ExpressionKind::Constant),
-    leaf(2, "variable", ExpressionKind::Variable),
+pub const TABLE: [Row; 19] = [
+    named(1, "constant", ExpressionKind::Constant, &[]),
+    named(2, "variable", ExpressionKind::Variable, &[]),
     operation(3, "complement", Operator::Complement, &[E]),
     operation(4, "sum", Operator::Sum, &[E, E]),
     operation(5, "difference", Operator::Difference, &[E, E]),
@@ -121,6 +130,7 @@ pub const TABLE: [Row; 17] = [
     operation(7, "or", Operator::Or, &[E, E]),
     operation(8, "equal", Operator::Equal, &[E, E]),
     operation(9, "less", Operator::Less, &[E, E]),
+    named(10, "element", ExpressionKind::Element, &[E]),
     statement(16, "ok", StatementKind::Ok, &[], false),
     statement(17, "tick", StatementKind::Tick, &[], true),
     statement(18, "assign", StatementKind::Assign, &[E], true),
@@ -129,6 +139,13 @@ pub const TABLE: [Row; 17] = [
     statement(21, "if", StatementKind::If, &[E, S, S], true),
     statement(22, "while", StatementKind::While, &[E, S], true),
     statement(23, "repeat", StatementKind::Repeat, &[E, S], true),
+    statement(
+        24,
+        "assign element",
+        StatementKind::AssignElement,
+        &[E, E],
+        true,
+    ),
 ];
 
 /// The row of a kind's number, if it is known.

@@ -12,6 +12,7 @@ pub mod cell_calls;
 pub mod cells;
 pub mod check;
 pub mod compile;
+pub mod contents;
 pub mod fanout;
 pub mod hubrun;
 pub mod hubtext;

@@ -7,7 +7,7 @@ use values::{Cell, Refusal};
 
 const MOST_BLOCKS: usize = 13;
 const CELLS_IN_BLOCK: usize = (BLOCK - HEADER) / Cell::LENGTH;
-const LEAST_CELLS: usize = 19;
+const LEAST_CELLS: usize = 27;
 pub const MOST_CELLS: usize = 1024;
 
 /// The bytes of the file of a netlist with this many cells.

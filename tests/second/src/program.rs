@@ -1,17 +1,32 @@
 //! A program as a tree, and what can be told of it without running it.
 //!
 //! Every statement keeps its node number, because refusals name it. Sets of
-//! variables are masks: bit k stands for variable k.
+//! variables are masks: bit k stands for variable k, and the bits above those
+//! for the arrays, of which each is one variable.
 
+use crate::contents::Contents;
 use crate::operator::Operator;
 use crate::table::Times;
-use values::Words;
+
+pub type Set = u32;
+
+/// The set of one variable.
+pub fn variable_set(variable: usize) -> Set {
+    1 << variable
+}
+
+/// The set of one array.
+pub fn array_set(array: usize) -> Set {
+    1 << (16 + array)
+}
 
 pub enum Expression {
     Constant(u16),
     Variable(usize),
     Unary(Operator, Box<Expression>),
     Binary(Operator, Box<Expression>, Box<Expression>),
+    /// An array and the index.
+    Element(usize, Box<Expression>),
 }
 
 pub struct Statement {
@@ -30,16 +45,19 @@ pub enum Form {
     If(Expression, Box<Statement>, Box<Statement>),
     While(Expression, Box<Statement>),
     Repeat(Expression, Box<Statement>),
+    /// An array, the index and the value.
+    AssignElement(usize, Expression, Expression),
 }
 
 impl Expression {
     /// Its value on these words.
-    pub fn value(&self, words: &Words) -> u16 {
+    pub fn value(&self, now: &Contents) -> u16 {
         match self {
             Expression::Constant(n) => *n,
-            Expression::Variable(variable) => words[*variable],
-            Expression::Unary(operator, e) => operator.apply(e.value(words), 0),
-            Expression::Binary(operator, e, f) => operator.apply(e.value(words), f.value(words)),
+            Expression::Variable(variable) => now.words[*variable],
+            Expression::Unary(operator, e) => operator.apply(e.value(now), 0),
+            Expression::Binary(operator, e, f) => operator.apply(e.value(now), f.value(now)),
+            Expression::Element(array, e) => now.arrays.element(*array, e.value(now)),
         }
     }
 
@@ -51,35 +69,38 @@ impl Expression {
             Expression::Binary(operator, e, f) => {
                 times.of(*operator) + e.time(times).max(f.time(times))
             }
+            Expression::Element(_, e) => times.of_element() + e.time(times),
         }
     }
 
     /// The variables it reads.
-    pub fn reads(&self) -> u16 {
+    pub fn reads(&self) -> Set {
         match self {
             Expression::Constant(_) => 0,
-            Expression::Variable(variable) => 1 << variable,
+            Expression::Variable(variable) => variable_set(*variable),
             Expression::Unary(_, e) => e.reads(),
             Expression::Binary(_, e, f) => e.reads() | f.reads(),
+            Expression::Element(array, e) => array_set(*array) | e.reads(),
         }
     }
 }
 
 impl Statement {
-    /// The expression that is this statement's own child.
-    pub fn expression(&self) -> Option<&Expression> {
+    /// The expressions that are this statement's own children.
+    pub fn expressions(&self) -> Vec<&Expression> {
         match &self.form {
             Form::Assign(_, e) | Form::If(e, _, _) | Form::While(e, _) | Form::Repeat(e, _) => {
-                Some(e)
+                vec![e]
             }
-            Form::Ok | Form::Tick | Form::Sequence(..) | Form::Parallel(..) => None,
+            Form::AssignElement(_, index, value) => vec![index, value],
+            Form::Ok | Form::Tick | Form::Sequence(..) | Form::Parallel(..) => Vec::new(),
         }
     }
 
     /// The statements that are its children, in node order.
     pub fn parts(&self) -> Vec<&Statement> {
         match &self.form {
-            Form::Ok | Form::Tick | Form::Assign(..) => Vec::new(),
+            Form::Ok | Form::Tick | Form::Assign(..) | Form::AssignElement(..) => Vec::new(),
             Form::Sequence(p, q) | Form::Parallel(p, q) | Form::If(_, p, q) => vec![p, q],
             Form::While(_, p) | Form::Repeat(_, p) => vec![p],
         }
@@ -100,21 +121,25 @@ impl Statement {
     }
 
     /// The variables that it or a statement below it reads.
-    pub fn reads(&self) -> u16 {
-        let own = |statement: &Statement| statement.expression().map_or(0, Expression::reads);
-        self.union(own)
+    pub fn reads(&self) -> Set {
+        self.union(|statement| union(statement.expressions(), Expression::reads))
     }
 
     /// The variables that it or a statement below it assigns.
-    pub fn writes(&self) -> u16 {
+    pub fn writes(&self) -> Set {
         self.union(|statement| match statement.form {
-            Form::Assign(variable, _) => 1 << variable,
+            Form::Assign(variable, _) => variable_set(variable),
+            Form::AssignElement(array, ..) => array_set(array),
             _ => 0,
         })
     }
 
-    fn union(&self, own: impl Fn(&Statement) -> u16) -> u16 {
-        let sets = self.in_node_order().into_iter().map(own);
-        sets.fold(0, |all, set| all | set)
+    fn union(&self, own: impl Fn(&Statement) -> Set) -> Set {
+        union(self.in_node_order(), own)
     }
+}
+
+/// All members of the sets that these parts have.
+fn union<Part>(parts: Vec<Part>, set: impl Fn(Part) -> Set) -> Set {
+    parts.into_iter().map(set).fold(0, |all, set| all | set)
 }

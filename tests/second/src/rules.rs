@@ -1,20 +1,22 @@
 //! The program's own rules, run on its tree; nothing here knows of a circuit.
 
-use crate::program::{Expression, Form, Statement};
-use values::{End, Words};
+use crate::contents::{Arrays, Contents};
+use crate::program::{array_set, variable_set, Expression, Form, Set, Statement};
 
 /// The end of a program run from these words, if it is no later than `budget`.
-pub fn run(program: &Statement, words: Words, budget: u32) -> Option<End> {
-    let begin = Moment { instant: 0, words };
-    let Moment { instant, words } = (Rules { budget }).end(program, begin)?;
-    Some(End { instant, words })
+pub fn run(program: &Statement, contents: Contents, budget: u32) -> Option<Moment> {
+    let begin = Moment {
+        instant: 0,
+        contents,
+    };
+    (Rules { budget }).end(program, begin)
 }
 
 /// All that the rules keep: an instant and the words.
-#[derive(Clone, Copy)]
-struct Moment {
-    instant: u32,
-    words: Words,
+#[derive(Clone, Copy, Debug, PartialEq, Eq)]
+pub struct Moment {
+    pub instant: u32,
+    pub contents: Contents,
 }
 
 struct Rules {
@@ -28,7 +30,11 @@ impl Rules {
         match &statement.form {
             Form::Ok => Some(now),
             Form::Tick => self.wait(now, d),
-            Form::Assign(variable, e) => self.end_of_assignment(*variable, e, d, now),
+            Form::Assign(variable, e) => {
+                let mut end = self.wait(now, d + 1)?;
+                end.contents.words[*variable] = e.value(&now.contents);
+                Some(end)
+            }
             Form::Sequence(p, q) => self.end(q, self.end(p, now)?),
             Form::Parallel(p, q) => self.end_of_parallel(p, q, now),
             Form::If(e, p, q) => {
@@ -37,6 +43,12 @@ impl Rules {
             }
             Form::While(e, p) => self.end_of_while(e, p, d, now),
             Form::Repeat(e, p) => self.end_of_repeat(e, p, d, now),
+            Form::AssignElement(array, index, value) => {
+                let [index, value] = [index, value].map(|e| e.value(&now.contents));
+                let mut end = self.wait(now, d + 1)?;
+                end.contents.arrays.put(*array, index, value);
+                Some(end)
+            }
         }
     }
 
@@ -46,29 +58,22 @@ impl Rules {
         (instant <= self.budget).then_some(Moment { instant, ..now })
     }
 
-    fn end_of_assignment(
-        &self,
-        variable: usize,
-        e: &Expression,
-        d: u32,
-        now: Moment,
-    ) -> Option<Moment> {
-        let mut end = self.wait(now, d + 1)?;
-        end.words[variable] = e.value(&now.words);
-        Some(end)
-    }
-
     fn end_of_parallel(&self, p: &Statement, q: &Statement, now: Moment) -> Option<Moment> {
         let (p_end, q_end) = (self.end(p, now)?, self.end(q, now)?);
         let (p_writes, q_writes) = (p.writes(), q.writes());
-        let kept = |variable: usize| match 1 << variable {
-            bit if p_writes & bit != 0 => p_end.words[variable],
-            bit if q_writes & bit != 0 => q_end.words[variable],
-            _ => now.words[variable],
+        let kept = |one: Set| match one {
+            _ if p_writes & one != 0 => &p_end.contents,
+            _ if q_writes & one != 0 => &q_end.contents,
+            _ => &now.contents,
         };
+        let word = |variable| kept(variable_set(variable)).words[variable];
+        let array = |array| kept(array_set(array)).arrays.0[array];
         Some(Moment {
             instant: p_end.instant.max(q_end.instant),
-            words: std::array::from_fn(kept),
+            contents: Contents {
+                words: std::array::from_fn(word),
+                arrays: Arrays(std::array::from_fn(array)),
+            },
         })
     }
 
@@ -109,5 +114,5 @@ impl Rules {
 
 /// Whether a condition holds on the words of this moment.
 fn holds(e: &Expression, now: Moment) -> bool {
-    e.value(&now.words) != 0
+    e.value(&now.contents) != 0
 }

@@ -2,12 +2,13 @@
 //!
 //! It doesn't evaluate every cell at every instant. A cell is woken when
 //! something that its equation names has changed: an input at the same
-//! instant, the input of a delay d instants ago, the held bits of a merge. A
-//! cell that isn't woken has the value that it had. Within an instant cells
-//! are taken in rising order, and inputs of the same instant are lower, so
-//! each is evaluated once.
+//! instant, the input of a delay d instants ago, the held bits of a merge, a
+//! word of the array that it reads. A cell that isn't woken has the value that
+//! it had. Within an instant cells are taken in rising order, and inputs of the
+//! same instant are lower, so each is evaluated once.
 
 use crate::cells::*;
+use crate::contents::{Arrays, Contents};
 use crate::fanout::Fanout;
 use crate::line::{Instant, Line, LineBytes};
 use crate::operator::Operator;
@@ -56,6 +57,7 @@ pub struct Simulator<'a> {
     wires: Vec<Wire>,
     held: Vec<Merge>,
     lines: Vec<Line>,
+    arrays: Arrays,
     wheel: Wheel,
     fanout: Fanout,
     /// At the first instant evaluated nothing is known to be unchanged.
@@ -64,19 +66,24 @@ pub struct Simulator<'a> {
 
 impl<'a> Simulator<'a> {
     /// A beginning: evaluates instant 0 from these words.
-    pub fn begin(netlist: &'a Netlist, words: Words) -> Simulator<'a> {
-        let mut simulator = Simulator::still(netlist, -1);
-        for (memory, word) in netlist.memories().into_iter().zip(words) {
+    pub fn begin(netlist: &'a Netlist, contents: Contents) -> Simulator<'a> {
+        let mut simulator = Simulator::still(netlist, -1, contents.arrays);
+        for (memory, word) in netlist.memories().into_iter().zip(contents.words) {
             simulator.set(memory, word, 0);
         }
         simulator.step();
         simulator
     }
 
-    /// Takes up a run in the state that these cells tell of.
-    pub fn resume(netlist: &'a Netlist, instant: u32, cells: &[CellState]) -> Simulator<'a> {
+    /// Takes up a run in the state that these cells and arrays tell of.
+    pub fn resume(
+        netlist: &'a Netlist,
+        instant: u32,
+        cells: &[CellState],
+        arrays: Arrays,
+    ) -> Simulator<'a> {
         let instant = instant as Instant;
-        let mut simulator = Simulator::still(netlist, instant);
+        let mut simulator = Simulator::still(netlist, instant, arrays);
         for (number, cell) in cells.iter().enumerate() {
             simulator.wires[number] = Wire {
                 now: cell.now,
@@ -92,7 +99,7 @@ impl<'a> Simulator<'a> {
     }
 
     /// All wires low and nothing held, every cell woken for the next instant.
-    fn still(netlist: &'a Netlist, instant: Instant) -> Simulator<'a> {
+    fn still(netlist: &'a Netlist, instant: Instant, arrays: Arrays) -> Simulator<'a> {
         let count = netlist.cells.len();
         let mut wheel = Wheel::new(count);
         for cell in 0..count {
@@ -104,6 +111,7 @@ impl<'a> Simulator<'a> {
             wires: vec![Wire::default(); count],
             held: vec![Merge::default(); count],
             lines: (0..count).map(|_| Line::default()).collect(),
+            arrays,
             wheel,
             fanout: Fanout::of(netlist),
             first: true,
@@ -149,6 +157,11 @@ impl<'a> Simulator<'a> {
         std::array::from_fn(|variable| self.wires[memories[variable]].now)
     }
 
+    /// The words of the arrays.
+    pub fn arrays(&self) -> &Arrays {
+        &self.arrays
+    }
+
     /// What cell `number` shows of itself.
     pub fn cell_state(&self, number: usize) -> CellState {
         let line = match self.netlist.cells[number].kind {
@@ -189,15 +202,19 @@ impl<'a> Simulator<'a> {
 
     /// Wakes whatever depends on this cell's wire.
     fn announce(&mut self, cell: usize) {
-        for &reader in &self.fanout.readers[cell] {
-            self.wheel.wake(reader, self.instant);
-        }
+        self.wake_readers(cell);
         let level = self.wires[cell].now == 1;
         for &delay in &self.fanout.delays[cell] {
             if self.lines[delay].record(self.instant, level) {
                 let d = Instant::from(self.netlist.cells[delay].delay);
                 self.wheel.wake(delay, self.instant + d);
             }
+        }
+    }
+
+    fn wake_readers(&mut self, cell: usize) {
+        for &reader in &self.fanout.readers[cell] {
+            self.wheel.wake(reader, self.instant);
         }
     }
 
@@ -216,6 +233,9 @@ impl<'a> Simulator<'a> {
             MEMORY => self.latch(cell, a, b),
             GATE if self.now(a) == 1 => self.now(b),
             GATE => 0,
+            ARRAY => self.write(cell, a, b),
+            ADDRESS => 0,
+            READ => self.arrays.element(self.array_of(a), self.now(b)),
             _ => {
                 let operator = Operator::of_kind(kind).expect("refusal 12 keeps other kinds out");
                 operator.apply(self.now(a), self.now(b))
@@ -244,12 +264,34 @@ impl<'a> Simulator<'a> {
 
     /// Memory: at a fall of the clock, the data of the instant before.
     fn latch(&self, cell: usize, clock: u16, data: u16) -> u16 {
-        let falls = self.now(clock) == 0 && self.ago(clock) == 1;
-        if falls {
+        if self.falls(clock) {
             self.ago(data)
         } else {
             self.wires[cell].now
         }
+    }
+
+    /// Array: at a fall of the clock, the data of the instant before goes where
+    /// the address of that instant says; a new word wakes the reads.
+    fn write(&mut self, cell: usize, clock: u16, data: u16) -> u16 {
+        if self.falls(clock) {
+            let address = self.netlist.cells[cell + 1].a;
+            let (index, word) = (self.ago(address), self.ago(data));
+            let array = self.array_of(cell as u16);
+            if self.arrays.put(array, index, word) {
+                self.wake_readers(cell);
+            }
+        }
+        0
+    }
+
+    /// The number of the array that a cell is.
+    fn array_of(&self, cell: u16) -> usize {
+        usize::from(self.netlist.cells[usize::from(cell)].delay)
+    }
+
+    fn falls(&self, clock: u16) -> bool {
+        self.now(clock) == 0 && self.ago(clock) == 1
     }
 
     fn now(&self, wire: u16) -> u16 {

@@ -1,6 +1,7 @@
 //! The published state bytes: their layout, and refusal 15.
 
 use crate::cells::{self, Netlist, Sort, DELAY, MERGE};
+use crate::contents::{Arrays, ARRAYS_LENGTH};
 use crate::line::LineBytes;
 use crate::simulate::{CellState, Merge, Simulator};
 use crate::word::{number2, number4, put2, put4};
@@ -9,9 +10,10 @@ use values::Refusal;
 const HEADER: usize = 8;
 const CELL: usize = 40;
 
-/// The bytes of the state of a netlist.
-pub fn length(netlist: &Netlist) -> usize {
-    HEADER + CELL * netlist.cells.len()
+/// The bytes of the state of a netlist with this many cells: the header, the
+/// cells, the arrays.
+pub fn length(cells: usize) -> usize {
+    HEADER + CELL * cells + ARRAYS_LENGTH
 }
 
 /// The instant of a state.
@@ -19,13 +21,15 @@ pub fn instant(state: &[u8]) -> u32 {
     number4(state, 0)
 }
 
-/// Writes the simulator's present state.
+/// Writes the simulator's present state, which has exactly these bytes.
 pub fn store(simulator: &Simulator, state: &mut [u8]) {
     put4(state, 0, simulator.instant());
     put4(state, 4, 0);
-    for (number, bytes) in state[HEADER..].chunks_exact_mut(CELL).enumerate() {
+    let (cells, arrays) = state.split_at_mut(state.len() - ARRAYS_LENGTH);
+    for (number, bytes) in cells[HEADER..].chunks_exact_mut(CELL).enumerate() {
         store_cell(simulator.cell_state(number), bytes);
     }
+    arrays.copy_from_slice(&simulator.arrays().bytes());
 }
 
 fn store_cell(cell: CellState, bytes: &mut [u8]) {
@@ -40,7 +44,7 @@ fn store_cell(cell: CellState, bytes: &mut [u8]) {
 /// Refusal 15.
 pub fn check(netlist: &Netlist, state: &[u8]) -> Result<(), Refusal> {
     let kinds = netlist.cells.iter().map(|cell| cell.kind);
-    let mut cells = kinds.zip(state[HEADER..].chunks_exact(CELL));
+    let mut cells = kinds.zip(split(state).0.chunks_exact(CELL));
     let lawful = state[4..HEADER] == [0; 4] && cells.all(|(kind, bytes)| is_lawful(kind, bytes));
     if !lawful {
         return Err(Refusal::new(15, 0));
@@ -50,8 +54,14 @@ pub fn check(netlist: &Netlist, state: &[u8]) -> Result<(), Refusal> {
 
 /// Takes up the run whose lawful state this is.
 pub fn load<'a>(netlist: &'a Netlist, state: &[u8]) -> Simulator<'a> {
-    let cells = state[HEADER..].chunks_exact(CELL).map(load_cell);
-    Simulator::resume(netlist, instant(state), &cells.collect::<Vec<_>>())
+    let (cells, arrays) = split(state);
+    let cells: Vec<CellState> = cells.chunks_exact(CELL).map(load_cell).collect();
+    Simulator::resume(netlist, instant(state), &cells, Arrays::of_bytes(arrays))
+}
+
+/// The bytes of the cells, and those of the arrays.
+fn split(state: &[u8]) -> (&[u8], &[u8]) {
+    state[HEADER..].split_at(state.len() - HEADER - ARRAYS_LENGTH)
 }
 
 /// Whether a cell of this kind may have these bytes. Nothing is asked of them
@@ -59,7 +69,7 @@ pub fn load<'a>(netlist: &'a Netlist, state: &[u8]) -> Simulator<'a> {
 fn is_lawful(kind: u8, bytes: &[u8]) -> bool {
     let most_value = match cells::sort(kind) {
         Sort::Control => 1,
-        Sort::Word => u16::MAX,
+        Sort::Word | Sort::Array | Sort::Address => u16::MAX,
     };
     let most_held = u8::from(kind == MERGE);
     number2(bytes, 0) <= most_value

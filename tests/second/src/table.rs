@@ -6,10 +6,13 @@ use crate::word::put2;
 use std::ops::RangeInclusive;
 use values::Refusal;
 
-/// The kinds of expressions, 1 to 9.
-const KINDS: usize = 9;
+/// The kinds of expressions, 1 to 10.
+const KINDS: usize = 10;
 
-/// The kinds below the operators, constant and variable, take no time.
+/// The last of them, the element.
+const ELEMENT: u8 = 10;
+
+/// The lowest kinds, constant and variable, take no time.
 const TIMELESS: usize = 2;
 
 const OPERATOR_TIMES: RangeInclusive<u8> = 1..=200;
@@ -19,11 +22,19 @@ const OPERATOR_TIMES: RangeInclusive<u8> = 1..=200;
 pub struct Times(pub [u8; KINDS]);
 
 /// The times of the paper's own table, for calls that are given none.
-pub const BUILT_IN: Times = Times([0, 0, 1, 16, 17, 1, 1, 6, 17]);
+pub const BUILT_IN: Times = Times([0, 0, 1, 16, 17, 1, 1, 6, 17, 4]);
 
 impl Times {
     pub fn of(&self, operator: Operator) -> u32 {
-        u32::from(self.0[usize::from(operator.kind()) - 1])
+        self.of_kind(operator.kind())
+    }
+
+    pub fn of_element(&self) -> u32 {
+        self.of_kind(ELEMENT)
+    }
+
+    fn of_kind(&self, kind: u8) -> u32 {
+        u32::from(self.0[usize::from(kind) - 1])
     }
 
     /// The file that gives these times.

@@ -1,9 +1,4 @@
-//! Words, and numbers in bytes with the low byte first.
-
-use values::Words;
-
-/// The bytes that sixteen words take.
-pub const WORDS_LENGTH: usize = 32;
+//! Numbers in bytes, with the low byte first.
 
 /// The two-byte number that stands at `at`.
 pub fn number2(bytes: &[u8], at: usize) -> u16 {
@@ -25,7 +20,7 @@ pub fn put4(bytes: &mut [u8], at: usize, number: u32) {
     bytes[at..at + 4].copy_from_slice(&number.to_le_bytes());
 }
 
-/// The sixteen words in the first 32 of `bytes`.
-pub fn words_of(bytes: &[u8]) -> Words {
-    std::array::from_fn(|variable| number2(bytes, 2 * variable))
+/// The two-byte numbers that these bytes begin with.
+pub fn numbers<const COUNT: usize>(bytes: &[u8]) -> [u16; COUNT] {
+    std::array::from_fn(|place| number2(bytes, 2 * place))
 }

@@ -2,9 +2,10 @@
 //! and an end beyond the last instant of a run. All that calls show is tested
 //! beside the proved implementation, in peers/tests.
 
+use second::contents::{Contents, CONTENTS_LENGTH};
+use second::rules::{self, Moment};
 use second::table::BUILT_IN;
-use second::{check, rules, text};
-use values::End;
+use second::{check, text};
 
 /// A text with a part repeated so often before and after another.
 fn nested([before, open, inside, close, after]: [&str; 5], times: usize) -> String {
@@ -62,19 +63,21 @@ fn an_open_run_may_end_later() {
     let text = b"repeat x0 := x0 - 1 @17 until x0 = 0 @6 end";
     let program = text::program(text).expect("case 7 is read");
     let rounds = check::check(&program, &BUILT_IN).expect("case 7 is accepted");
-    let end = End {
+    let contents = Contents::of_bytes(&[0; CONTENTS_LENGTH]);
+    let end = rules::run(&rounds, contents, 2_000_000);
+    let expected = Moment {
         instant: 1_572_864,
-        words: [0; 16],
+        contents,
     };
-    assert_eq!(rules::run(&rounds, [0; 16], 2_000_000), Some(end));
+    assert_eq!(end, Some(expected));
 }
 
 /// The file that gives the built-in times: the number of kinds, the check and
-/// the nine times, zero elsewhere.
+/// the ten times, zero elsewhere.
 #[test]
 fn the_built_in_times_have_a_file() {
     let mut expected = [0; 512];
-    expected[2] = 9;
-    expected[6..17].copy_from_slice(&[211, 232, 0, 0, 1, 16, 17, 1, 1, 6, 17]);
+    expected[2] = 10;
+    expected[6..18].copy_from_slice(&[210, 228, 0, 0, 1, 16, 17, 1, 1, 6, 17, 4]);
     assert_eq!(BUILT_IN.file(), expected);
 }

@@ -3,6 +3,7 @@
 //! The two runs that stay open have the full budget of 1,000,000 instants.
 
 use crate::expect::{read, refused, start_with, words_with};
+use crate::nodes::*;
 use peers::BOTH;
 use values::{Answer, End, Shape};
 
@@ -17,67 +18,6 @@ enum Told {
 }
 
 use Told::*;
-
-fn node(kind: u8, delay: u8, n: u16) -> Vec<u8> {
-    let [low, high] = n.to_le_bytes();
-    vec![kind, delay, low, high]
-}
-
-fn constant(n: u16) -> Vec<u8> {
-    node(1, 0, n)
-}
-
-fn variable(n: u16) -> Vec<u8> {
-    node(2, 0, n)
-}
-
-fn operation(kind: u8, e: Vec<u8>, f: Vec<u8>) -> Vec<u8> {
-    [node(kind, 0, 0), e, f].concat()
-}
-
-fn sum(e: Vec<u8>, f: Vec<u8>) -> Vec<u8> {
-    operation(4, e, f)
-}
-
-fn difference(e: Vec<u8>, f: Vec<u8>) -> Vec<u8> {
-    operation(5, e, f)
-}
-
-fn equal(e: Vec<u8>, f: Vec<u8>) -> Vec<u8> {
-    operation(8, e, f)
-}
-
-fn ok() -> Vec<u8> {
-    node(16, 0, 0)
-}
-
-fn tick(d: u8) -> Vec<u8> {
-    node(17, d, 0)
-}
-
-fn assign(n: u16, e: Vec<u8>, d: u8) -> Vec<u8> {
-    [node(18, d, n), e].concat()
-}
-
-fn sequence(p: Vec<u8>, q: Vec<u8>) -> Vec<u8> {
-    [node(19, 0, 0), p, q].concat()
-}
-
-fn parallel(p: Vec<u8>, q: Vec<u8>) -> Vec<u8> {
-    [node(20, 0, 0), p, q].concat()
-}
-
-fn if_then_else(e: Vec<u8>, d: u8, p: Vec<u8>, q: Vec<u8>) -> Vec<u8> {
-    [node(21, d, 0), e, p, q].concat()
-}
-
-fn while_do(e: Vec<u8>, d: u8, p: Vec<u8>) -> Vec<u8> {
-    [node(22, d, 0), e, p].concat()
-}
-
-fn repeat_until(p: Vec<u8>, e: Vec<u8>, d: u8) -> Vec<u8> {
-    [node(23, d, 0), e, p].concat()
-}
 
 /// x0 := x0 + n
 fn add(n: u16, d: u8) -> Vec<u8> {
@@ -260,10 +200,10 @@ fn no_nodes_are_refusal_1() {
 }
 
 #[test]
-fn case_2_has_23_cells_and_finish_4() {
+fn case_2_has_31_cells_and_finish_4() {
     let compiled = (BOTH.compile)(None, &assign(0, constant(5), 1), &[0; 512]);
     let expected = Shape {
-        cells: 23,
+        cells: 31,
         finish: 4,
     };
     assert_eq!(compiled.result, Ok(expected));
@@ -274,6 +214,7 @@ fn a_delay_of_0_is_too_small_except_in_an_if() {
     let too_small = [
         tick(0),
         assign(0, constant(0), 0),
+        assign_element(0, constant(0), constant(0), 0),
         while_do(constant(0), 0, ok()),
         repeat_until(ok(), constant(1), 0),
     ];

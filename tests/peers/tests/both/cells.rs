@@ -2,7 +2,7 @@
 //! of the three calls but for 12, which has tests of its own, and renumbering.
 
 use crate::expect::refused;
-use crate::netlist::{every_kind, file, FINISH};
+use crate::netlist::{every_kind, file, COUNT, FINISH};
 use peers::BOTH;
 use values::{Cell, Shape};
 
@@ -13,17 +13,17 @@ const LENT: Cell = Cell::new(0xa5, 0xa5, 0xa5a5, 0xa5a5);
 static LENT_FILE: [u8; 7_000] = [0xa5; 7_000];
 
 const SHAPE: Shape = Shape {
-    cells: 35,
-    finish: 31,
+    cells: COUNT as u16,
+    finish: FINISH,
 };
 
 /// Of each cell of the netlist: the inputs when it is read in front, behind one
 /// cell, behind 7 and behind 65,530, which is six short of no move at all.
-const MOVED: [[(u16, u16); 4]; 35] = [
+const MOVED: [[(u16, u16); 4]; COUNT] = [
     [(0, 0), (0, 0), (0, 0), (0, 0)],
     [(0, 0), (0, 0), (0, 0), (0, 0)],
     [(0, 0), (0, 0), (0, 0), (0, 0)],
-    [(1, 26), (2, 27), (8, 33), (65_531, 20)],
+    [(1, 34), (2, 35), (8, 41), (65_531, 28)],
     IDLE,
     IDLE,
     IDLE,
@@ -39,25 +39,34 @@ const MOVED: [[(u16, u16); 4]; 35] = [
     IDLE,
     IDLE,
     IDLE,
+    [(0, 28), (1, 29), (7, 35), (65_530, 22)],
+    [(29, 0), (30, 0), (36, 0), (23, 0)],
+    IDLE,
+    [(2, 0), (3, 0), (9, 0), (65_532, 0)],
+    IDLE,
+    [(2, 0), (3, 0), (9, 0), (65_532, 0)],
+    [(1, 3), (2, 4), (8, 10), (65_531, 65_533)],
+    [(3, 0), (4, 0), (10, 0), (65_533, 0)],
     [(65_533, 0), (65_533, 0), (65_533, 0), (65_533, 0)],
-    [(19, 0), (20, 0), (26, 0), (13, 0)],
-    [(19, 20), (20, 21), (26, 27), (13, 14)],
-    [(20, 21), (21, 22), (27, 28), (14, 15)],
-    [(21, 2), (22, 3), (28, 9), (15, 65_532)],
-    [(22, 23), (23, 24), (29, 30), (16, 17)],
-    [(23, 24), (24, 25), (30, 31), (17, 18)],
-    [(24, 25), (25, 26), (31, 32), (18, 19)],
-    [(31, 0), (32, 0), (38, 0), (25, 0)],
-    [(27, 0), (28, 1), (34, 7), (21, 65_530)],
-    [(28, 26), (29, 27), (35, 33), (22, 20)],
-    [(28, 3), (29, 4), (35, 10), (22, 65_533)],
-    [(29, 30), (30, 31), (36, 37), (23, 24)],
-    [(31, 26), (32, 27), (38, 33), (25, 20)],
+    [(27, 0), (28, 0), (34, 0), (21, 0)],
+    [(27, 28), (28, 29), (34, 35), (21, 22)],
+    [(28, 29), (29, 30), (35, 36), (22, 23)],
+    [(29, 2), (30, 3), (36, 9), (23, 65_532)],
+    [(30, 31), (31, 32), (37, 38), (24, 25)],
+    [(31, 32), (32, 33), (38, 39), (25, 26)],
+    [(32, 33), (33, 34), (39, 40), (26, 27)],
+    [(39, 0), (40, 0), (46, 0), (33, 0)],
+    [(35, 0), (36, 1), (42, 7), (29, 65_530)],
+    [(36, 34), (37, 35), (43, 41), (30, 28)],
+    [(36, 3), (37, 4), (43, 10), (30, 65_533)],
+    [(37, 38), (38, 39), (44, 45), (31, 32)],
+    [(25, 34), (26, 35), (32, 41), (19, 28)],
+    [(39, 40), (40, 41), (46, 47), (33, 34)],
     [(7, 0), (7, 0), (7, 0), (7, 0)],
     [(0, 0), (1, 1), (7, 7), (65_530, 65_530)],
 ];
 
-/// The memory of a variable that is never assigned.
+/// A memory or an array that is never assigned.
 const IDLE: [(u16, u16); 4] = [(1, 2), (2, 3), (8, 9), (65_531, 65_532)];
 
 /// So many cells that keep the rules: the netlist, and constants after it.
@@ -100,9 +109,9 @@ fn reading_moves_what_names_a_cell_and_nothing_else() {
     let file = file(&every_kind(), FINISH);
     let places = [0, 1, 7, 65_530, 65_536, 65_537];
     for (at, column) in places.into_iter().zip([0, 1, 2, 3, 0, 1]) {
-        let lent = vec![LENT; at + 35 + 3];
+        let lent = vec![LENT; at + COUNT + 3];
         let mut expected = lent.clone();
-        expected[at..at + 35].copy_from_slice(&moved(column));
+        expected[at..at + COUNT].copy_from_slice(&moved(column));
         let read = (BOTH.read_cells)(&file, at, &lent);
         assert_eq!(read.result, Ok(SHAPE), "behind {at}");
         let other = (0..lent.len()).find(|&number| read.lent[0][number] != expected[number]);
@@ -113,7 +122,7 @@ fn reading_moves_what_names_a_cell_and_nothing_else() {
 
 #[test]
 fn reading_in_front_gives_the_cells_of_the_six_bytes() {
-    for count in [35, 84, 85, 1_024] {
+    for count in [44, 84, 85, 1_024] {
         let file = file(&cells_up_to(count), FINISH);
         let by_bytes = (BOTH.read_netlist)(&file, &vec![0; 6 * count]);
         let read = (BOTH.read_cells)(&file, 0, &vec![LENT; count]);
@@ -126,7 +135,7 @@ fn reading_in_front_gives_the_cells_of_the_six_bytes() {
 
 #[test]
 fn writing_gives_the_file_and_keeps_what_is_past_it() {
-    for count in [35, 84, 85, 1_024] {
+    for count in [44, 84, 85, 1_024] {
         let cells = cells_up_to(count);
         let mut expected = LENT_FILE;
         let file = file(&cells, FINISH);
@@ -141,28 +150,28 @@ fn writing_gives_the_file_and_keeps_what_is_past_it() {
 }
 
 #[test]
-fn a_count_outside_19_to_1024_is_11() {
-    // The last of these a header would tell as 19.
-    for count in [0, 1, 18, 1_025, 1_026, 65_535, 65_536, 65_555] {
+fn a_count_outside_27_to_1024_is_11() {
+    // The last of these a header would tell as 27.
+    for count in [0, 1, 26, 1_025, 1_026, 65_535, 65_536, 65_563] {
         assert_cells_refused(&cells_up_to(count), 0, 11, 0);
     }
     // Cells that break every rule are not looked at.
-    assert_cells_refused(&[LENT; 18], 0, 11, 0);
+    assert_cells_refused(&[LENT; 26], 0, 11, 0);
     assert_cells_refused(&[LENT; 1_025], 0, 11, 0);
 }
 
 #[test]
 fn a_finish_not_below_the_count_is_11() {
-    for finish in [35, 36, 1_024, 65_535] {
+    for finish in [44, 45, 1_024, 65_535] {
         assert_cells_refused(&every_kind(), finish, 11, 0);
     }
-    assert_cells_refused(&[LENT; 35], 35, 11, 0);
+    assert_cells_refused(&[LENT; COUNT], 44, 11, 0);
     assert_cells_refused(&cells_up_to(1_024), 1_024, 11, 0);
 }
 
 #[test]
 fn a_file_one_byte_short_is_14() {
-    for (count, length) in [(35, 512), (84, 512), (85, 1_024), (1_024, 6_656)] {
+    for (count, length) in [(44, 512), (84, 512), (85, 1_024), (1_024, 6_656)] {
         let cells = cells_up_to(count);
         let short = &LENT_FILE[..length - 1];
         let written = (BOTH.write_cells)(&cells, FINISH, short);
@@ -176,10 +185,10 @@ fn a_file_one_byte_short_is_14() {
 #[test]
 fn twelve_comes_before_fourteen() {
     let mut cells = every_kind();
-    cells[32] = LENT;
+    cells[41] = LENT;
     let written = (BOTH.write_cells)(&cells, FINISH, &[]);
-    assert_eq!(written.result, refused(12, 32));
-    assert_file_refused(&file(&cells, FINISH), usize::MAX, 3, 12, 32);
+    assert_eq!(written.result, refused(12, 41));
+    assert_file_refused(&file(&cells, FINISH), usize::MAX, 3, 12, 41);
 }
 
 #[test]
@@ -187,20 +196,20 @@ fn a_list_without_room_behind_the_place_is_14() {
     let file = file(&every_kind(), FINISH);
     for (at, room) in [
         (0, 0),
-        (0, 34),
-        (1, 35),
-        (7, 41),
-        (65_530, 65_564),
+        (0, 43),
+        (1, 44),
+        (7, 50),
+        (65_530, 65_573),
         (50, 50),
         (51, 50),
         (65_536, 50),
-        (usize::MAX - 34, 50),
+        (usize::MAX - 43, 50),
         (usize::MAX, 50),
         (usize::MAX, 0),
     ] {
         assert_file_refused(&file, at, room, 14, 0);
     }
-    for (at, room) in [(0, 35), (1, 36), (65_530, 65_565)] {
+    for (at, room) in [(0, 44), (1, 45), (65_530, 65_574)] {
         let read = (BOTH.read_cells)(&file, at, &vec![LENT; room]);
         assert_eq!(read.result, Ok(SHAPE), "behind {at}");
     }
@@ -227,9 +236,9 @@ fn a_wrong_check_is_10() {
 
 #[test]
 fn a_wrong_header_or_unused_byte_is_11() {
-    assert_file_refused(&file(&cells_up_to(18), 0), 1, 50, 11, 0);
+    assert_file_refused(&file(&cells_up_to(26), 0), 1, 50, 11, 0);
     assert_file_refused(&file(&cells_up_to(1_025), 0), 1, 2_000, 11, 0);
-    assert_file_refused(&file(&every_kind(), 35), 1, 50, 11, 0);
+    assert_file_refused(&file(&every_kind(), 44), 1, 50, 11, 0);
     // Two words more, which leave the sum: both in unused places of block 1.
     let mut unused = file(&cells_up_to(100), FINISH);
     unused[1_020..].copy_from_slice(&[1, 0, 255, 255]);
@@ -239,9 +248,9 @@ fn a_wrong_header_or_unused_byte_is_11() {
 #[test]
 fn a_broken_rule_is_12() {
     let mut cells = every_kind();
-    cells[32].delay = 1;
-    assert_cells_refused(&cells, FINISH, 12, 32);
-    assert_file_refused(&file(&cells, FINISH), 1, 50, 12, 32);
+    cells[41].delay = 1;
+    assert_cells_refused(&cells, FINISH, 12, 41);
+    assert_file_refused(&file(&cells, FINISH), 1, 50, 12, 41);
 }
 
 /// Renumbering the six bytes of the netlist gives those of the moved cells.
@@ -250,7 +259,7 @@ fn six_bytes_are_renumbered_as_cells_are() {
     let before = Cell::all_bytes(&every_kind());
     for (by, column) in [(0, 0), (1, 1), (7, 2), (65_530, 3)] {
         let moved = Cell::all_bytes(&moved(column));
-        for (from, end) in [(0, 35), (20, 35), (3, 29), (34, 35), (35, 35), (9, 4)] {
+        for (from, end) in [(0, 44), (20, 44), (3, 29), (43, 44), (44, 44), (9, 4)] {
             let mut expected = before.clone();
             let run = 6 * from.min(end)..6 * end;
             expected[run.clone()].copy_from_slice(&moved[run]);
@@ -265,7 +274,7 @@ fn six_bytes_are_renumbered_as_cells_are() {
 #[test]
 fn a_run_past_the_list_is_not_renumbered() {
     let list = Cell::all_bytes(&cells_up_to(1_100));
-    let ends = [4, 34, 35, 1_024, 1_025, 1_100, usize::MAX / 6, usize::MAX];
+    let ends = [4, 43, 44, 1_024, 1_025, 1_100, usize::MAX / 6, usize::MAX];
     for (end, missing) in ends.into_iter().flat_map(|end| [(end, 0), (end, 1)]) {
         let length = end
             .checked_mul(6)

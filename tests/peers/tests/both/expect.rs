@@ -3,6 +3,22 @@
 use peers::BOTH;
 use values::{Refusal, Words};
 
+/// Start words, sixteen and 256, that are 0.
+pub const START: [u8; 544] = [0; 544];
+
+/// The bytes of the state of so many cells, the words of the arrays last.
+pub const fn state_length(cells: usize) -> usize {
+    8 + 40 * cells + 512
+}
+
+/// The words of the arrays in the state that a run of a program has left; its
+/// netlist file and the state are lent.
+pub fn elements(lent: &[Vec<u8>]) -> &[u8] {
+    let (file, state) = (&lent[0], &lent[1]);
+    let cells = usize::from(u16::from_le_bytes([file[2], file[3]]));
+    &state[..state_length(cells)][state_length(cells) - 512..]
+}
+
 pub fn refused<T>(number: u8, place: usize) -> Result<T, Refusal> {
     Err(Refusal::new(number, place))
 }
@@ -20,7 +36,10 @@ pub fn words_with<const COUNT: usize>(first: [u16; COUNT]) -> Words {
     words
 }
 
-/// The start words of which the first are these, as bytes.
+/// The start words of which the first are these, all others and all elements
+/// 0, as bytes.
 pub fn start_with<const COUNT: usize>(first: [u16; COUNT]) -> Vec<u8> {
-    words_with(first).map(u16::to_le_bytes).concat()
+    let mut start = words_with(first).map(u16::to_le_bytes).concat();
+    start.resize(START.len(), 0);
+    start
 }

@@ -1,5 +1,6 @@
 //! The text of hubrun at its corners; the vectors hold the common course.
 
+use crate::nodes::*;
 use peers::BOTH;
 
 /// Case 2: x0 := 5, d 1.
@@ -26,6 +27,16 @@ fn the_example_of_the_paper() {
 fn an_open_run_shows_the_memories() {
     let expected = "open 1\n0 0 0 0 0 0 0 0 0 0 0 0 0 0 0 0\n";
     assert_eq!(printed(1, &CASE_2), expected);
+}
+
+/// a3[5] := 9, then x0 := a3[5] + a3[6].
+#[test]
+fn elements_start_at_0_and_are_not_printed() {
+    let [fifth, sixth] = [5, 6].map(|index| element(3, constant(index)));
+    let assigned = assign_element(3, constant(5), constant(9), 1);
+    let program = sequence(assigned, assign(0, sum(fifth, sixth), 20));
+    let expected = "end 23\n9 0 0 0 0 0 0 0 0 0 0 0 0 0 0 0\n";
+    assert_eq!(printed(100, &program), expected);
 }
 
 #[test]

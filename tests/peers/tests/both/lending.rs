@@ -1,16 +1,15 @@
 //! Lent buffers: what is too short, what is kept, and the order of 13 to 16.
 
-use crate::expect::refused;
+use crate::expect::{refused, state_length, START};
 use peers::BOTH;
 
-/// x0 := 5, d 1: 23 cells, so one block and a state of 928 bytes.
+/// x0 := 5, d 1: 31 cells, so one block and a state of 1,760 bytes.
 const PROGRAM: [u8; 8] = [18, 1, 0, 0, 1, 0, 5, 0];
 const NETLIST_LENGTH: usize = 512;
-const STATE_LENGTH: usize = 8 + 40 * 23;
-const WORDS: [u8; 32] = [0; 32];
+const STATE_LENGTH: usize = state_length(31);
 
 /// What a lent buffer holds at entry.
-static LENT: [u8; 1_000] = [7; 1_000];
+static LENT: [u8; 2_000] = [7; 2_000];
 
 fn netlist() -> Vec<u8> {
     let compiled = (BOTH.compile)(None, &PROGRAM, &LENT[..NETLIST_LENGTH]);
@@ -19,7 +18,7 @@ fn netlist() -> Vec<u8> {
 }
 
 fn begun() -> Vec<u8> {
-    let begun = (BOTH.begin)(&netlist(), &WORDS, &LENT[..STATE_LENGTH]);
+    let begun = (BOTH.begin)(&netlist(), &START, &LENT[..STATE_LENGTH]);
     begun.result.expect("case 2 begins");
     begun.lent[0].clone()
 }
@@ -38,25 +37,52 @@ fn a_buffer_one_byte_too_short_is_refused_and_kept() {
     assert_eq!(compiled.result, refused(14, 0));
     assert_eq!(compiled.lent, [file]);
 
-    let cells = &LENT[..6 * 23 - 1];
+    let cells = &LENT[..6 * 31 - 1];
     let read = (BOTH.read_netlist)(&netlist(), cells);
     assert_eq!(read.result, refused(14, 0));
     assert_eq!(read.lent, [cells]);
 
     let state = &LENT[..STATE_LENGTH - 1];
-    let begun = (BOTH.begin)(&netlist(), &WORDS, state);
+    let begun = (BOTH.begin)(&netlist(), &START, state);
     assert_eq!(begun.result, refused(14, 0));
     assert_eq!(begun.lent, [state]);
 }
 
 #[test]
-fn start_words_under_32_bytes_are_refused() {
+fn start_words_under_544_bytes_are_refused() {
+    let (file, state) = (&LENT[..NETLIST_LENGTH], &LENT[..STATE_LENGTH]);
+    for length in [0, 31, 32, 543] {
+        let words = &START[..length];
+        let begun = (BOTH.begin)(&netlist(), words, state);
+        assert_eq!(begun.result, refused(14, 0), "{length}");
+        assert_eq!(begun.lent, [state], "{length}");
+        let ran = (BOTH.run_netlist)(&netlist(), words, 10, state);
+        assert_eq!(ran, begun, "{length}");
+        let ran = (BOTH.run_program)(None, &PROGRAM, words, 10, file, state);
+        assert_eq!(ran.result, refused(14, 0), "{length}");
+        assert_eq!(ran.lent, [file, state], "{length}");
+        let by_the_rules = (BOTH.reference_run)(None, &PROGRAM, words, 10);
+        assert_eq!(by_the_rules.result, refused(14, 0), "{length}");
+    }
+}
+
+#[test]
+fn start_words_may_be_followed_by_others() {
     let state = &LENT[..STATE_LENGTH];
-    let begun = (BOTH.begin)(&netlist(), &WORDS[..31], state);
-    assert_eq!(begun.result, refused(14, 0));
-    assert_eq!(begun.lent, [state]);
-    let by_the_rules = (BOTH.reference_run)(None, &PROGRAM, &WORDS[..31], 10);
-    assert_eq!(by_the_rules.result, refused(14, 0));
+    let longer = [&START[..], &[9; 7]].concat();
+    let begun = (BOTH.begin)(&netlist(), &longer, state);
+    assert_eq!(begun, (BOTH.begin)(&netlist(), &START, state));
+    assert!(begun.result.is_ok());
+}
+
+#[test]
+fn a_state_without_all_words_of_the_arrays_is_refused() {
+    for missing in [1, 2, 511, 512] {
+        let state = &LENT[..STATE_LENGTH - missing];
+        let begun = (BOTH.begin)(&netlist(), &START, state);
+        assert_eq!(begun.result, refused(14, 0), "{missing}");
+        assert_refused(&self::begun()[..STATE_LENGTH - missing], 1, 14);
+    }
 }
 
 #[test]
@@ -66,7 +92,7 @@ fn a_full_run_with_one_short_buffer_writes_to_none() {
         (NETLIST_LENGTH, STATE_LENGTH - 1),
     ] {
         let (file, state) = (&LENT[..file_length], &LENT[..state_length]);
-        let ran = (BOTH.run_program)(None, &PROGRAM, &WORDS, 10, file, state);
+        let ran = (BOTH.run_program)(None, &PROGRAM, &START, 10, file, state);
         assert_eq!(ran.result, refused(14, 0));
         assert_eq!(ran.lent, [file, state]);
     }

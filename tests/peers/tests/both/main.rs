@@ -1,6 +1,7 @@
 //! What the paper tells of each call, held against both implementations at
 //! once: a reply in which they differ fails, whatever a test expects of it.
 
+mod arrays;
 mod cases;
 mod cell_rules;
 mod cells;
@@ -10,6 +11,7 @@ mod lending;
 mod less;
 mod netlist;
 mod netlists;
+mod nodes;
 mod states;
 mod tables;
 mod text;

@@ -1,52 +1,70 @@
 //! Netlists for tests that change them and read them.
 
-use second::cells::{Netlist, CONSTANT, GROUND, MEMORY, START};
+use second::cells::{Netlist, ADDRESS, ARRAY, CONSTANT, GROUND, MEMORY, START};
 use second::netfile;
 use values::Cell;
 
-/// The finish of the netlist with every kind of cell.
-pub const FINISH: u16 = 31;
+/// The netlist with every kind of cell: so many cells, and its finish.
+pub const COUNT: usize = 44;
+pub const FINISH: u16 = 39;
 
-/// Every kind of cell. Past these 35 cells there is none; number 32 is named by no other cell, and
-/// of the two after it one is a word wire and the other a control wire.
+/// Every kind of cell. Number 41 is named by no other cell, and of the two
+/// after it one is a word wire and the other a control wire.
 pub fn every_kind() -> Vec<Cell> {
     let mut cells = vec![
         Cell::new(32, 0, 0, 0),
         Cell::new(33, 0, 0, 0),
         Cell::new(1, 0, 0, 0),
-        Cell::new(40, 0, 1, 26),
+        Cell::new(40, 0, 1, 34),
     ];
     cells.extend([Cell::new(40, 0, 1, 2); 15]);
     cells.extend([
+        Cell::new(42, 0, 0, 28),
+        Cell::new(43, 0, 29, 0),
+        Cell::new(42, 1, 1, 2),
+        Cell::new(43, 0, 2, 0),
+        Cell::new(42, 2, 1, 2),
+        Cell::new(43, 0, 2, 0),
+        Cell::new(42, 3, 1, 3),
+        Cell::new(43, 0, 3, 0),
         Cell::new(1, 0, 65_533, 0),
-        Cell::new(3, 0, 19, 0),
-        Cell::new(4, 0, 19, 20),
-        Cell::new(5, 0, 20, 21),
-        Cell::new(6, 0, 21, 2),
-        Cell::new(7, 0, 22, 23),
-        Cell::new(8, 0, 23, 24),
-        Cell::new(9, 0, 24, 25),
-        Cell::new(34, 200, 31, 0),
-        Cell::new(35, 0, 27, 0),
-        Cell::new(36, 0, 28, 26),
-        Cell::new(37, 0, 28, 3),
-        Cell::new(38, 0, 29, 30),
-        Cell::new(41, 0, 31, 26),
+        Cell::new(3, 0, 27, 0),
+        Cell::new(4, 0, 27, 28),
+        Cell::new(5, 0, 28, 29),
+        Cell::new(6, 0, 29, 2),
+        Cell::new(7, 0, 30, 31),
+        Cell::new(8, 0, 31, 32),
+        Cell::new(9, 0, 32, 33),
+        Cell::new(34, 200, 39, 0),
+        Cell::new(35, 0, 35, 0),
+        Cell::new(36, 0, 36, 34),
+        Cell::new(37, 0, 36, 3),
+        Cell::new(38, 0, 37, 38),
+        Cell::new(44, 0, 25, 34),
+        Cell::new(41, 0, 39, 40),
         Cell::new(1, 0, 7, 0),
         Cell::new(35, 0, 0, 0),
     ]);
     cells
 }
 
-/// The fixed cells and sixteen memories that are never assigned.
+/// The fixed cells, and sixteen memories and four arrays that are never
+/// assigned.
 pub fn idle() -> Vec<Cell> {
-    let mut cells = vec![
+    [fixed(), vec![Cell::new(MEMORY, 0, 1, 2); 16], idle_arrays()].concat()
+}
+
+pub fn fixed() -> Vec<Cell> {
+    vec![
         Cell::new(START, 0, 0, 0),
         Cell::new(GROUND, 0, 0, 0),
         Cell::new(CONSTANT, 0, 0, 0),
-    ];
-    cells.extend([Cell::new(MEMORY, 0, 1, 2); 16]);
-    cells
+    ]
+}
+
+pub fn idle_arrays() -> Vec<Cell> {
+    let two = |array| [Cell::new(ARRAY, array, 1, 2), Cell::new(ADDRESS, 0, 2, 0)];
+    (0..4).flat_map(two).collect()
 }
 
 /// The file of these cells, whatever rules they break, with right checks.

@@ -28,12 +28,12 @@ fn write(count: usize) -> Result<(), Refusal> {
 }
 
 #[test]
-fn a_count_outside_19_to_1024_is_a_wrong_header() {
-    for count in [1, 18, 1025, 1092] {
+fn a_count_outside_27_to_1024_is_a_wrong_header() {
+    for count in [1, 26, 1025, 1092] {
         assert_eq!(read(count), refused(11, 0), "{count} cells");
         assert_eq!(write(count), refused(11, 0), "{count} cells");
     }
-    for count in [19, 84, 85, 1024] {
+    for count in [27, 84, 85, 1024] {
         assert_eq!(read(count), Ok(()), "{count} cells");
         assert_eq!(write(count), Ok(()), "{count} cells");
     }
@@ -41,7 +41,7 @@ fn a_count_outside_19_to_1024_is_a_wrong_header() {
 
 #[test]
 fn bytes_that_are_no_whole_cells_are_a_wrong_header() {
-    let written = (BOTH.write_netlist)(&[0; 6 * 19 + 1], 0, &[0; 512]);
+    let written = (BOTH.write_netlist)(&[0; 6 * 27 + 1], 0, &[0; 512]);
     assert_eq!(written.result, refused(11, 0));
 }
 
@@ -49,7 +49,7 @@ fn bytes_that_are_no_whole_cells_are_a_wrong_header() {
 fn a_finish_not_below_the_count_is_a_wrong_header() {
     let bytes = Cell::all_bytes(&idle());
     let finish_on = |finish| (BOTH.write_netlist)(&bytes, finish, &[0; 512]);
-    for (finish, number, place) in [(19, 11, 0), (18, 12, 18)] {
+    for (finish, number, place) in [(27, 11, 0), (26, 12, 26), (19, 12, 19)] {
         let written = finish_on(finish);
         assert_eq!(written.result, refused(number, place));
         assert_eq!(written.lent, [[0; 512]]);

@@ -1,14 +1,16 @@
 //! States that no run leaves behind: what refusal 15 names is refused, and
 //! everything else is taken as it stands.
 
-use crate::expect::refused;
+use crate::expect::{refused, state_length, START};
 use crate::netlist;
 use peers::BOTH;
-use second::cells::{CONSTANT, DELAY, MERGE};
+use second::cells::{CONSTANT, DELAY, MERGE, READ};
 use values::{Cell, Refusal};
 
-/// The first cell after start, ground, zero and sixteen idle memories.
-const FREE: u16 = 19;
+/// The first cell after start, ground, zero, sixteen idle memories and four
+/// idle arrays, of which the first is this.
+const FREE: u16 = 27;
+const ARRAY: u16 = 19;
 
 const NOW: usize = 0;
 const AGO: usize = 2;
@@ -17,7 +19,7 @@ const HELD_B: usize = 5;
 const ZERO_BYTE: usize = 6;
 const LINE: usize = 8;
 
-/// A netlist file of the idle memories and these cells.
+/// A netlist file of the idle memories and arrays and these cells.
 fn file(cells: &[Cell], finish: u16) -> Vec<u8> {
     netlist::file(&[&netlist::idle(), cells].concat(), finish)
 }
@@ -25,8 +27,8 @@ fn file(cells: &[Cell], finish: u16) -> Vec<u8> {
 fn begun(file: &[u8]) -> Vec<u8> {
     let read = (BOTH.read_netlist)(file, &[0; 6144]);
     let count = read.result.expect("a good netlist").cells;
-    let state = vec![0; 8 + 40 * usize::from(count)];
-    let begun = (BOTH.begin)(file, &[0; 32], &state);
+    let state = vec![0; state_length(count.into())];
+    let begun = (BOTH.begin)(file, &START, &state);
     begun.result.expect("the buffer is long enough");
     begun.lent[0].clone()
 }
@@ -111,9 +113,31 @@ fn a_memory_latches_the_data_that_the_state_shows() {
     state[at(1, NOW)] = 1;
     state[at(2, NOW)] = 77;
     let after = next(&file, &state);
-    assert!((3..FREE).all(|memory| after[at(memory, NOW)] == 77));
+    assert!((3..ARRAY).all(|memory| after[at(memory, NOW)] == 77));
     let later = next(&file, &after);
-    assert!((3..FREE).all(|memory| later[at(memory, NOW)] == 77));
+    assert!((3..ARRAY).all(|memory| later[at(memory, NOW)] == 77));
+}
+
+/// Data and address are both cell 2: word 77 goes to element 13 of each array.
+#[test]
+fn an_array_takes_the_data_and_the_address_that_the_state_shows() {
+    let read = Cell::new(READ, 0, ARRAY + 2, FREE);
+    let file = file(&[Cell::new(CONSTANT, 0, 64 + 13, 0), read], 0);
+    let mut state = next(&file, &begun(&file));
+    state[at(1, NOW)] = 1;
+    state[at(2, NOW)] = 77;
+    state[at(ARRAY, NOW)] = 5;
+    let after = next(&file, &state);
+    assert_eq!(after[at(FREE + 1, NOW)], 77, "the read");
+    let shown = [at(ARRAY, NOW), at(ARRAY, AGO)].map(|place| after[place]);
+    assert_eq!(shown, [0, 5], "the array");
+    let mut elements = [0; 512];
+    for array in 0..4 {
+        elements[128 * array + 2 * 13] = 77;
+    }
+    let arrays = at(FREE + 2, 0)..;
+    assert_eq!(after[arrays.clone()], elements);
+    assert_eq!(next(&file, &after)[arrays], elements);
 }
 
 #[test]
@@ -158,6 +182,11 @@ fn what_refusal_15_names_is_refused_and_nothing_else() {
         (at(sum, ZERO_BYTE + 1), 1),
         (at(merge, LINE), 1),
         (at(sum, LINE + 31), 128),
+        (at(ARRAY, LINE), 1),
+        (at(ARRAY + 1, LINE + 31), 1),
+        (at(ARRAY, HELD_A), 1),
+        (at(ARRAY + 1, HELD_B), 1),
+        (at(ARRAY + 7, ZERO_BYTE), 1),
     ];
     for (place, byte) in unlawful {
         let found = with_byte(&file, place, byte);
@@ -171,6 +200,10 @@ fn what_refusal_15_names_is_refused_and_nothing_else() {
         (at(merge, HELD_A), 1),
         (at(merge, HELD_B), 1),
         (at(delay, LINE + 31), 255),
+        (at(ARRAY, NOW), 5),
+        (at(ARRAY + 1, AGO + 1), 5),
+        (at(sum + 1, 0), 255),
+        (at(sum + 1, 511), 255),
     ];
     for (place, byte) in taken {
         assert_eq!(

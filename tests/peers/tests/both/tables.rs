@@ -1,7 +1,8 @@
 //! Tables of operator times: refusals 19 to 21 with their places, refusal 7
 //! under other times, and runs under them.
 
-use crate::expect::{refused, words_with};
+use crate::expect::{refused, words_with, START};
+use crate::nodes::*;
 use peers::BOTH;
 use values::{End, Refusal};
 
@@ -9,9 +10,12 @@ const LENGTH: usize = 512;
 const CHECK: [usize; 2] = [6, 7];
 
 /// The built-in times, and the least and the most that a table may give.
-const USUAL: [u8; 9] = [0, 0, 1, 16, 17, 1, 1, 6, 17];
-const LEAST: [u8; 9] = [0, 0, 1, 1, 1, 1, 1, 1, 1];
-const MOST: [u8; 9] = [0, 0, 200, 200, 200, 200, 200, 200, 200];
+const USUAL: Times = [0, 0, 1, 16, 17, 1, 1, 6, 17, 4];
+const LEAST: Times = [0, 0, 1, 1, 1, 1, 1, 1, 1, 1];
+const MOST: Times = [0, 0, 200, 200, 200, 200, 200, 200, 200, 200];
+
+/// The times of kinds 1 to 10; that of the last is the element's.
+type Times = [u8; 10];
 
 /// A text for each operator, by kind from 3 on.
 const OPERATIONS: [&str; 7] = [
@@ -25,11 +29,11 @@ const TIMED: [u8; 24] = [
     18, 40, 0, 0, 8, 0, 0, 0, 4, 0, 0, 0, 2, 0, 0, 0, 1, 0, 1, 0, 2, 0, 1, 0,
 ];
 
-/// The table of nine times, with the check that makes its words sum to 0.
-fn table(times: [u8; 9]) -> Vec<u8> {
+/// The table of ten times, with the check that makes its words sum to 0.
+fn table(times: Times) -> Vec<u8> {
     let mut table = vec![0; LENGTH];
-    table[2] = 9;
-    table[8..17].copy_from_slice(&times);
+    table[2] = 10;
+    table[8..18].copy_from_slice(&times);
     mended(table)
 }
 
@@ -56,8 +60,8 @@ fn changed(changes: &[(usize, u8)]) -> Vec<u8> {
 /// Whether the paper lets a byte stand at a place; the check's are apart.
 fn is_good(place: usize, byte: u8) -> bool {
     match place {
-        2 => byte == 9,
-        10..=16 => (1..=200).contains(&byte),
+        2 => byte == 10,
+        10..=17 => (1..=200).contains(&byte),
         _ => byte == 0,
     }
 }
@@ -89,7 +93,7 @@ fn program(text: &str) -> Vec<u8> {
 }
 
 /// The check of a text's program under these times.
-fn checked(times: [u8; 9], text: &str) -> Result<(), Refusal> {
+fn checked(times: Times, text: &str) -> Result<(), Refusal> {
     check(&table(times), &program(text))
 }
 
@@ -145,6 +149,13 @@ fn of_two_wrong_bytes_the_first_counts() {
             assert_eq!(loaded(&table), refused(21, first), "{first}, {second}");
         }
     }
+}
+
+/// The table of S-4, without a time for elements.
+#[test]
+fn a_table_of_nine_times_is_21_at_its_number() {
+    let table = mended(changed(&[(2, 9), (17, 0)]));
+    assert_eq!(loaded(&table), refused(21, 2));
 }
 
 #[test]
@@ -235,7 +246,7 @@ fn a_time_does_not_touch_other_operators() {
 
 #[test]
 fn times_add_up_along_the_slower_child() {
-    let times = [0, 0, 3, 10, 20, 1, 1, 50, 7];
+    let times = [0, 0, 3, 10, 20, 1, 1, 50, 7, 1];
     for (expression, time) in [
         ("!(x0 + (x1 - x2))", 33),
         ("(x0 - x1) + !x2", 30),
@@ -258,13 +269,47 @@ fn times_add_up_along_the_slower_child() {
     }
 }
 
+/// Elements have no text. An index takes its time too, and of index and value
+/// of an element assignment the slower one counts.
+#[test]
+fn an_element_has_the_time_of_the_tenth_byte() {
+    for time in [1, 4, 5, 100] {
+        let mut times = LEAST;
+        times[9] = time;
+        let table = table(times);
+        let read = || element(1, variable(0));
+        let nested = || element(0, sum(read(), constant(1)));
+        let slow = 2 * time + 1;
+        for (least, statement) in [
+            (time, assign(2, read(), 0)),
+            (slow, assign(2, nested(), 0)),
+            (slow, assign_element(2, nested(), read(), 0)),
+            (slow, assign_element(2, read(), nested(), 0)),
+            (slow, while_do(nested(), 0, ok())),
+            (1, assign_element(2, variable(0), constant(7), 0)),
+        ] {
+            let with_delay = |delay: u8| {
+                let mut statement = statement.clone();
+                statement[1] = delay;
+                check(&table, &sequence(ok(), statement))
+            };
+            assert_eq!(with_delay(least), Ok(()), "{time}: {statement:?}");
+            let sooner = with_delay(least - 1);
+            assert_eq!(sooner, refused(7, 2), "{time}: {statement:?}");
+        }
+    }
+}
+
 #[test]
 fn times_beyond_a_byte_are_refused() {
-    // 198 complements of 200 take 39,600.
+    // 198 complements of 200 take 39,600, and so do elements.
     for depth in 1..=198 {
         let text = format!("x0 := {}x0 @255", "!".repeat(depth));
         let expected = if depth == 1 { Ok(()) } else { refused(7, 0) };
         assert_eq!(checked(MOST, &text), expected, "{depth}");
+        let index = [node(10, 0, 0).repeat(depth), variable(0)].concat();
+        let read = check(&table(MOST), &assign(0, index, 255));
+        assert_eq!(read, expected, "{depth} elements");
     }
 }
 
@@ -283,8 +328,8 @@ fn a_kind_needs_its_delay_under_every_table() {
 
 /// The end of a text under these times, on which rules and circuit agree, as
 /// do the text and its program.
-fn end(times: [u8; 9], text: &str) -> Result<Option<End>, Refusal> {
-    let (table, program, words) = (table(times), program(text), [0; 32]);
+fn end(times: Times, text: &str) -> Result<Option<End>, Refusal> {
+    let (table, program, words) = (table(times), program(text), START);
     let (table, text) = (Some(&table[..]), text.as_bytes());
     let (file, state) = (vec![0; 2_000], vec![0; 5_000]);
     let by_text = (BOTH.run_text)(table, text, &words, 1_000, &file, &state);
@@ -338,7 +383,7 @@ fn without_a_table_the_built_in_serves() {
         let program = program(text);
         let without = (BOTH.check)(None, &program).result;
         assert_eq!(without, checked(USUAL, text), "{text}");
-        let without = (BOTH.reference_run)(None, &program, &[0; 32], 1_000).result;
+        let without = (BOTH.reference_run)(None, &program, &START, 1_000).result;
         assert_eq!(without, end(USUAL, text), "{text}");
     }
 }

@@ -1,6 +1,6 @@
 //! Good texts: their bytes and grouping, and the calls on texts.
 
-use crate::expect::{read, refused};
+use crate::expect::{read, refused, START};
 use peers::BOTH;
 
 fn bytes(text: &str) -> Vec<u8> {
@@ -179,7 +179,7 @@ fn a_refused_text_leaves_the_buffer_as_it_was() {
 fn a_text_compiles_and_runs_as_its_program() {
     let text = "x0 := 5 @1; while x0 @1 do x0 := x0 - 1 @17 end";
     let (program, text) = (bytes(text), text.as_bytes());
-    let (file, state, words) = (vec![7; 2_000], vec![7; 9_000], [0; 32]);
+    let (file, state, words) = (vec![7; 2_000], vec![7; 9_000], START);
     let compiled = (BOTH.compile)(None, &program, &file);
     assert!(compiled.result.is_ok());
     assert_eq!((BOTH.compile_text)(None, text, &file), compiled);

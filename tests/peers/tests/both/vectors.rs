@@ -2,7 +2,9 @@
 //! places, bytes, answers and text, exactly. The layout of each folder is in
 //! its README.
 
+use crate::expect::elements;
 use peers::{Reply, BOTH};
+use second::calls;
 use std::fs;
 use std::path::{Path, PathBuf};
 use values::{Answer, Cell, Refusal, Shape};
@@ -13,8 +15,13 @@ static LENT: [u8; 50_000] = [0xa5; 50_000];
 /// More cells than any netlist has, all of a kind that none has.
 static LENT_CELLS: [Cell; 1_100] = [Cell::new(0xa5, 0xa5, 0xa5a5, 0xa5a5); 1_100];
 
-/// The folders with netlist files.
-const WITH_NETLISTS: [&str; 5] = ["netlist", "compile", "speed", "calls", "state"];
+/// The folders with programs, with netlist files, and so on. Those of s05 have
+/// arrays.
+const PROGRAMS: [&str; 4] = ["program", "compile", "speed", "s05/compile"];
+const NETLISTS: [&str; 2] = ["netlist", "s05/netlist"];
+const CALLS: [&str; 2] = ["calls", "s05/calls"];
+const STATES: [&str; 2] = ["state", "s05/state"];
+const HUBRUN: [&str; 2] = ["hubrun", "s05/hubrun"];
 
 /// One vector: the folder and the common beginning of its files' names.
 struct Vector {
@@ -23,8 +30,18 @@ struct Vector {
 
 impl Vector {
     fn bytes(&self, extension: &str) -> Vec<u8> {
-        let path = format!("{}.{extension}", self.stem.display());
+        let path = self.path(extension);
         fs::read(&path).unwrap_or_else(|error| panic!("{path}: {error}"))
+    }
+
+    /// The bytes of a file that not every such vector has.
+    fn may_have(&self, extension: &str) -> Option<Vec<u8>> {
+        let exists = Path::new(&self.path(extension)).exists();
+        exists.then(|| self.bytes(extension))
+    }
+
+    fn path(&self, extension: &str) -> String {
+        format!("{}.{extension}", self.stem.display())
     }
 
     /// A text file, without the blanks at its ends.
@@ -32,11 +49,31 @@ impl Vector {
         let text = String::from_utf8(self.bytes(extension)).expect("a text file");
         text.trim().to_string()
     }
+
+    /// A file with one number.
+    fn number(&self, extension: &str) -> u32 {
+        self.text(extension).parse().expect("a number")
+    }
+
+    /// A call on the state in a buffer, by its line: `begin` or `cont N`.
+    fn call(&self, line: &str, state: &[u8]) -> Reply<Answer> {
+        let file = self.bytes("net");
+        match line.strip_prefix("cont ") {
+            Some(n) => (BOTH.continue_by)(&file, n.parse().expect("a number"), state),
+            None => (BOTH.begin)(&file, &self.bytes("words"), state),
+        }
+    }
 }
 
-/// Each vector of a folder, one for each file with this extension; the name
-/// says which, for a failure.
-fn for_each(folder: &str, extension: &str, test: impl Fn(&Vector, &str)) {
+/// Each vector of these folders, one for each file with this extension; the
+/// name says which, for a failure.
+fn for_each(folders: &[&str], extension: &str, test: impl Fn(&Vector, &str)) {
+    for folder in folders {
+        for_each_in(folder, extension, &test);
+    }
+}
+
+fn for_each_in(folder: &str, extension: &str, test: impl Fn(&Vector, &str)) {
     let root = Path::new(env!("CARGO_MANIFEST_DIR"))
         .join("../vectors")
         .join(folder);
@@ -82,34 +119,54 @@ fn assert_result<T>(reply: &Reply<T>, result: &[u8], name: &str) {
     );
 }
 
+/// A program has what is told, or its netlist, or both.
 #[test]
-fn programs_are_accepted_or_refused_as_told() {
-    for_each("program", "prog", |vector, name| {
-        let program = vector.bytes("prog");
-        let compiled = (BOTH.compile)(None, &program, &LENT);
-        let checked = (BOTH.check)(None, &program);
+fn programs_are_compiled_or_refused_as_told() {
+    for_each(&PROGRAMS, "prog", |vector, name| {
+        let (program, table) = (vector.bytes("prog"), vector.may_have("table"));
+        let compiled = (BOTH.compile)(table.as_deref(), &program, &LENT);
+        let checked = (BOTH.check)(table.as_deref(), &program);
         assert_eq!(checked.result, compiled.result.map(drop), "{name}");
-        assert_eq!(shape_text(compiled.result), vector.text("expect"), "{name}");
-        if compiled.result.is_err() {
-            assert_result(&compiled, &[], name);
+        let told = vector.may_have("expect").map(|_| vector.text("expect"));
+        let shown = shape_text(compiled.result);
+        assert_eq!(told.as_ref().unwrap_or(&shown), &shown, "{name}");
+        match (vector.may_have("net"), compiled.result) {
+            (Some(file), _) => assert_result(&compiled, &file, name),
+            (None, Ok(_)) => assert!(told.is_some(), "{name}"),
+            (None, Err(_)) => assert_result(&compiled, &[], name),
         }
     });
 }
 
+/// Under a table that is loaded, an operator's delay is its time or longer.
 #[test]
-fn compiling_gives_the_published_bytes() {
-    for folder in ["compile", "speed"] {
-        for_each(folder, "prog", |vector, name| {
-            let compiled = (BOTH.compile)(None, &vector.bytes("prog"), &LENT);
-            assert!(compiled.result.is_ok(), "{name}");
-            assert_result(&compiled, &vector.bytes("net"), name);
-        });
-    }
+fn tables_are_loaded_or_refused_as_told() {
+    for_each(&["s05/table"], "table", |vector, name| {
+        let (table, told) = (vector.bytes("table"), vector.text("expect"));
+        let check = |program: &[u8]| (BOTH.check)(Some(&table), program).result;
+        let Some(times) = told.strip_prefix("ok ") else {
+            let refusal = check(&[]).expect_err("it is refused");
+            return assert_eq!(refusal.to_string(), told, "{name}");
+        };
+        let times = times.split(' ').map(|time| time.parse().expect("a time"));
+        for (kind, time) in (1..).zip(times).skip(2) {
+            assert_eq!(check(&timed(kind, time)), Ok(()), "{name}: {kind}");
+            let sooner = check(&timed(kind, time - 1));
+            assert_eq!(sooner, Err(Refusal::new(7, 0)), "{name}: {kind}");
+        }
+    });
+}
+
+/// x0 := an operation on constants, with this delay.
+fn timed(kind: u8, delay: u8) -> Vec<u8> {
+    let operands = if [3, 10].contains(&kind) { 1 } else { 2 };
+    let head = [[18, delay, 0, 0], [kind, 0, 0, 0]].concat();
+    [head, [1, 0, 0, 0].repeat(operands)].concat()
 }
 
 #[test]
 fn netlists_are_accepted_or_refused_as_told() {
-    for_each("netlist", "net", |vector, name| {
+    for_each(&NETLISTS, "net", |vector, name| {
         let file = vector.bytes("net");
         let read = (BOTH.read_netlist)(&file, &LENT);
         assert_eq!(shape_text(read.result), vector.text("expect"), "{name}");
@@ -130,23 +187,23 @@ fn assert_writing_restores(file: &[u8], shape: Shape, cells: &[u8], name: &str) 
 
 #[test]
 fn netlists_are_read_as_cells_and_written_back() {
-    for folder in WITH_NETLISTS {
-        for_each(folder, "net", |vector, name| {
-            let file = vector.bytes("net");
-            let read = (BOTH.read_cells)(&file, 0, &LENT_CELLS);
-            let by_bytes = (BOTH.read_netlist)(&file, &LENT);
-            assert_eq!(read.result, by_bytes.result, "{name}");
-            let count = read.result.map_or(0, |shape| usize::from(shape.cells));
-            let (cells, past) = read.lent[0].split_at(count);
-            let bytes = &by_bytes.lent[0][..6 * count];
-            assert!(Cell::all_bytes(cells) == bytes, "{name}: other cells");
-            let kept = &LENT_CELLS[count..];
-            assert!(past == kept, "{name}: cells past the result");
-            if let Ok(shape) = read.result {
-                assert_cells_restore(&file, shape, cells, name);
-            }
-        });
-    }
+    let compiled = &PROGRAMS[1..];
+    let folders = [compiled, &NETLISTS, &CALLS, &STATES].concat();
+    for_each(&folders, "net", |vector, name| {
+        let file = vector.bytes("net");
+        let read = (BOTH.read_cells)(&file, 0, &LENT_CELLS);
+        let by_bytes = (BOTH.read_netlist)(&file, &LENT);
+        assert_eq!(read.result, by_bytes.result, "{name}");
+        let count = read.result.map_or(0, |shape| usize::from(shape.cells));
+        let (cells, past) = read.lent[0].split_at(count);
+        let bytes = &by_bytes.lent[0][..6 * count];
+        assert!(Cell::all_bytes(cells) == bytes, "{name}: other cells");
+        let kept = &LENT_CELLS[count..];
+        assert!(past == kept, "{name}: cells past the result");
+        if let Ok(shape) = read.result {
+            assert_cells_restore(&file, shape, cells, name);
+        }
+    });
 }
 
 /// An accepted file's cells pass the check and are written as that file.
@@ -161,7 +218,7 @@ fn assert_cells_restore(file: &[u8], shape: Shape, cells: &[Cell], name: &str) {
 /// A file that is refused for its cells has them refused without a file too.
 #[test]
 fn cells_that_break_a_rule_are_refused_as_in_their_file() {
-    for_each("netlist", "net", |vector, name| {
+    for_each(&NETLISTS, "net", |vector, name| {
         let told = vector.text("expect");
         if told.starts_with("refused 12 ") {
             let (cells, finish) = cells_in(&vector.bytes("net"));
@@ -186,17 +243,13 @@ fn cells_in(file: &[u8]) -> (Vec<Cell>, u16) {
 
 #[test]
 fn calls_answer_and_leave_the_states_told() {
-    for_each("calls", "script", |vector, name| {
-        let (netlist, words) = (vector.bytes("net"), vector.bytes("words"));
+    for_each(&CALLS, "script", |vector, name| {
         let (script, states) = (vector.text("script"), vector.bytes("states"));
         let length = states.len() / script.lines().count();
         let mut state = LENT.to_vec();
         for (line, expected) in script.lines().zip(states.chunks_exact(length)) {
             let (call, answer) = line.split_once(" -> ").expect("a call and an answer");
-            let reply = match call.strip_prefix("cont ") {
-                Some(n) => (BOTH.continue_by)(&netlist, n.parse().expect("a number"), &state),
-                None => (BOTH.begin)(&netlist, &words, &state),
-            };
+            let reply = vector.call(call, &state);
             let name = format!("{name}: {call}");
             assert_eq!(answer_text(reply.result), answer, "{name}");
             assert_result(&reply, expected, &name);
@@ -206,10 +259,9 @@ fn calls_answer_and_leave_the_states_told() {
 }
 
 #[test]
-fn states_of_any_origin_are_continued_or_refused_as_told() {
-    for_each("state", "before", |vector, name| {
-        let n = vector.text("n").parse().expect("a number");
-        let reply = (BOTH.continue_by)(&vector.bytes("net"), n, &vector.bytes("before"));
+fn states_of_any_origin_are_begun_continued_or_refused_as_told() {
+    for_each(&STATES, "before", |vector, name| {
+        let reply = vector.call(&vector.text("call"), &vector.bytes("before"));
         assert_eq!(answer_text(reply.result), vector.text("expect"), "{name}");
         assert!(
             reply.lent[0] == vector.bytes("after"),
@@ -218,9 +270,49 @@ fn states_of_any_origin_are_continued_or_refused_as_told() {
     });
 }
 
+/// The rules end as told, and so does the circuit, whose state shows the last
+/// words of the arrays.
+#[test]
+fn rules_and_circuits_come_to_the_end_told() {
+    for_each(&["s05/rules"], "prog", |vector, name| {
+        let (program, words) = (vector.bytes("prog"), vector.bytes("words"));
+        let (table, budget) = (vector.may_have("table"), vector.number("budget"));
+        let table = table.as_deref();
+        let ended = (BOTH.reference_run)(table, &program, &words, budget).result;
+        let ran = (BOTH.run_program)(table, &program, &words, budget, &LENT, &LENT);
+        let answer = ran.result.expect("it is accepted");
+        let Some(last) = vector.may_have("last") else {
+            assert_eq!(vector.text("expect"), "open", "{name}");
+            assert_eq!((ended, answer.ended), (Ok(None), false), "{name}");
+            return;
+        };
+        let end = ended.expect("it is accepted").expect("it ends");
+        assert_eq!(
+            vector.text("expect"),
+            format!("end {}", end.instant),
+            "{name}"
+        );
+        assert_eq!(
+            (answer.ended, answer.instant),
+            (true, end.instant),
+            "{name}"
+        );
+        assert_eq!(
+            end.words.map(u16::to_le_bytes).concat(),
+            last[..32],
+            "{name}"
+        );
+        assert_eq!(answer.words, end.words, "{name}");
+        assert_eq!(elements(&ran.lent), &last[32..], "{name}");
+        let by_second = calls::last_moment(table, &program, &words, budget);
+        let moment = by_second.ok().flatten().expect("it ends");
+        assert_eq!(moment.contents.bytes(), last, "{name}");
+    });
+}
+
 #[test]
 fn hubrun_prints_the_text_told() {
-    for_each("hubrun", "in", |vector, name| {
+    for_each(&HUBRUN, "in", |vector, name| {
         let text = (BOTH.hubrun_text)(&vector.bytes("in"));
         assert_eq!(text, vector.bytes("out"), "{name}");
     });

@@ -1,19 +1,22 @@
 //! An answer of a run, a word and a count, for a reader and for scripts.
 
 use crate::json::Json;
+use crate::store::{self, Store, OF_ARRAYS};
 use crate::types::{Answer, Words};
 
-/// Ended or open, the instant, and the words: all, or those that changed.
-pub fn text(start: &Words, answer: &Answer, all: bool) -> String {
+/// Ended or open, the instant, and the words and elements that changed; of
+/// those that didn't, all words, and all elements that aren't 0, if asked for.
+pub fn text(start: &Store, answer: &Answer, last: &Store, all: bool) -> String {
     let outcome = outcome(answer);
     let mut text = format!("{outcome} at {}\n", answer.instant);
-    for (variable, (before, after)) in start.iter().zip(answer.words).enumerate() {
-        if all || *before != after {
-            let name = format!("x{variable}");
-            text += &format!("  {name:3}  {} -> {}\n", word(*before), word(after));
+    for (place, (before, after)) in start.iter().zip(last).enumerate() {
+        let told = all && (*after != 0 || !OF_ARRAYS.contains(&place));
+        if told || before != after {
+            let name = store::name(place);
+            text += &format!("  {name:3}  {} -> {}\n", word(*before), word(*after));
         }
     }
-    if !all && *start == answer.words {
+    if !all && start == last {
         text += "  no word has changed\n";
     }
     text
@@ -34,12 +37,28 @@ pub fn counted(count: usize, thing: &str) -> String {
 }
 
 /// The fields of an answer as JSON.
-pub fn fields(answer: &Answer) -> Vec<(&'static str, Json)> {
+pub fn fields(answer: &Answer, last: &Store) -> Vec<(&'static str, Json)> {
     vec![
         ("outcome", Json::text(outcome(answer))),
         ("instant", Json::number(answer.instant)),
         ("words", words(&answer.words)),
+        ("elements", elements(last)),
     ]
+}
+
+/// The elements that aren't 0.
+pub fn elements(store: &Store) -> Json {
+    let element = |place: usize| {
+        let (array, index) = store::element(place)?;
+        (store[place] != 0).then(|| {
+            Json::Object(vec![
+                ("array", Json::number(array)),
+                ("index", Json::number(index)),
+                ("word", Json::number(store[place])),
+            ])
+        })
+    };
+    Json::List(OF_ARRAYS.filter_map(element).collect())
 }
 
 pub fn words(words: &Words) -> Json {

@@ -1,7 +1,8 @@
 //! The words after a command: files and such in order, `--name value`, `-o
 //! value`, and flags.
 
-use crate::types::{Fault, Words};
+use crate::store::{self, Store, LENGTH};
+use crate::types::Fault;
 use std::collections::BTreeMap;
 use std::fmt::Display;
 
@@ -86,19 +87,21 @@ impl Args {
         }
     }
 
-    /// A file, and start words such as x0=3 after it; those not given are 0.
-    pub fn file_and_words(&self) -> Result<(&str, Words), Fault> {
+    /// A file, and start words such as x0=3 and a2[5]=7 after it; those not
+    /// given are 0.
+    pub fn file_and_words(&self) -> Result<(&str, Store), Fault> {
         let Some((file, words)) = self.given.split_first() else {
             return Err(self.fault("FILE is missing"));
         };
-        let mut start = [None; 16];
+        let mut start = [None; LENGTH];
         for word in words {
-            let Some((variable, value)) = start_word(word) else {
-                let form = "one is x0=3, with x0 to x15 and -32768 to 65535";
+            let Some((place, value)) = start_word(word) else {
+                let form = "one is x0=3 or a2[5]=7, with x0 to x15 or a0[0] to a3[63], \
+                    and -32768 to 65535";
                 return Err(self.fault(format!("'{word}' is no start word; {form}")));
             };
-            if start[variable].replace(value).is_some() {
-                return Err(self.fault(format!("x{variable} has two start words")));
+            if start[place].replace(value).is_some() {
+                return Err(self.fault(format!("{} has two start words", store::name(place))));
             }
         }
         Ok((file, start.map(Option::unwrap_or_default)))
@@ -144,9 +147,8 @@ fn dashed(name: &str) -> String {
 
 fn start_word(word: &str) -> Option<(usize, u16)> {
     let (name, value) = word.split_once('=')?;
-    let variable: usize = name.strip_prefix('x')?.parse().ok()?;
+    let place = store::place(name)?;
     let value: i32 = value.parse().ok()?;
-    let fits =
-        name == format!("x{variable}") && variable < 16 && (-32_768..=65_535).contains(&value);
-    fits.then_some((variable, value as u16))
+    let fits = (-32_768..=65_535).contains(&value);
+    fits.then_some((place, value as u16))
 }

@@ -16,6 +16,11 @@ pub struct Tree {
     pub parts: Vec<Tree>,
 }
 
+/// Whether a program can be a text: texts have no words for arrays.
+pub fn has_text(nodes: &[Node]) -> bool {
+    !nodes.iter().any(|node| matches!(node.kind, 10 | 24))
+}
+
 /// The tree of an accepted program's nodes.
 pub fn tree(nodes: &[Node]) -> Option<Tree> {
     let mut at = 0;
@@ -139,7 +144,8 @@ fn sign(kind: u8) -> &'static str {
     }
 }
 
-/// A statement without the statements in it.
+/// A statement without the statements in it. What no text has a word for is
+/// written much like the rest, for a reader.
 pub fn head(tree: &Tree) -> String {
     let Node { kind, delay, n } = tree.node;
     let e = || expression(&tree.parts[0], 0);
@@ -151,6 +157,11 @@ pub fn head(tree: &Tree) -> String {
         21 => format!("if {} @{delay}", e()),
         22 => format!("while {} @{delay}", e()),
         23 => format!("until {} @{delay}", e()),
+        24 => format!(
+            "a{n}[{}] := {} @{delay}",
+            e(),
+            expression(&tree.parts[1], 0)
+        ),
         _ => expression(tree, 0),
     }
 }
@@ -167,6 +178,7 @@ fn expression(tree: &Tree, least: u8) -> String {
         5 => (4, "-"),
         3 => return format!("!{}", expression(&tree.parts[0], 5)),
         2 => return format!("x{n}"),
+        10 => return format!("a{n}[{}]", expression(&tree.parts[0], 0)),
         _ => return n.to_string(),
     };
     // An equal or less doesn't chain: neither side may be one.

@@ -1,18 +1,21 @@
-//! The file that a command is about: a text, a program's bytes or a netlist
-//! file, with a table of operator times where one is given.
+//! The file that a command is about: a text, an outline, a program's bytes or a
+//! netlist file, with a table of operator times where one is given.
 
 use crate::args::Args;
+use crate::assemble::assemble;
 use crate::commands::Stop;
 use crate::files;
+use crate::lines;
 use crate::origin::{self, Trace};
 use crate::product;
 use crate::refusals;
-use crate::source::{self, Place};
+use crate::source::{self, Place, Source};
 use crate::types::{Fault, Netlist, Node, Refusal, Table};
 
 #[derive(Clone, Copy, Debug, PartialEq, Eq)]
 pub enum Form {
     Text,
+    Outline,
     Program,
     Netlist,
 }
@@ -27,7 +30,8 @@ pub struct Given {
     pub times: Option<(String, Vec<u8>)>,
 }
 
-/// An accepted program. Its nodes have places if it came as a text.
+/// An accepted program. Its nodes have places if it came as a text or an
+/// outline.
 #[derive(Clone, Debug)]
 pub struct Program {
     pub bytes: Vec<u8>,
@@ -46,14 +50,21 @@ pub struct Circuit {
 
 impl Given {
     /// Reads FILE, and the file of --times; --as says what FILE is, or else
-    /// its name: NAME.prog a program's bytes, NAME.net a netlist, others texts.
+    /// its name: NAME.outline an outline, NAME.prog a program's bytes, NAME.net
+    /// a netlist, others texts.
     pub fn read(args: &Args, name: &str) -> Result<Given, Fault> {
         let form = match args.value("as") {
             Some(word) => form_named(word).ok_or_else(|| {
-                args.fault(format!("--as takes text, program or netlist, not '{word}'"))
+                let forms = "text, outline, program or netlist";
+                args.fault(format!("--as takes {forms}, not '{word}'"))
             })?,
             None => form_of(name),
         };
+        Given::read_as(args, name, form)
+    }
+
+    /// Reads FILE, which is of this form, and the file of --times.
+    pub fn read_as(args: &Args, name: &str, form: Form) -> Result<Given, Fault> {
         let times = match args.value("times") {
             Some(table) => Some((table.to_string(), files::read(table)?)),
             None => None,
@@ -74,6 +85,16 @@ impl Given {
     pub fn program(&self) -> Result<Program, Stop> {
         match self.form {
             Form::Text => self.program_of_text(),
+            Form::Outline => {
+                let Source { nodes, places } = self.source()?;
+                let bytes = product::program_bytes(&nodes);
+                product::check(self.table(), &bytes).map_err(|met| self.refused(met))?;
+                Ok(Program {
+                    bytes,
+                    nodes,
+                    places: Some(places),
+                })
+            }
             Form::Program => {
                 product::check(self.table(), &self.bytes).map_err(|met| self.refused(met))?;
                 Ok(Program {
@@ -90,18 +111,28 @@ impl Given {
         }
     }
 
+    /// The tool's own reading of a text or an outline.
+    pub fn source(&self) -> Result<Source, Fault> {
+        if self.form == Form::Outline {
+            let text = lines::text_of(&self.name, &self.bytes)?;
+            return assemble(text).map_err(|wrong| wrong.fault(&self.name));
+        }
+        source::read(&self.bytes).map_err(|_| self.misread())
+    }
+
     fn program_of_text(&self) -> Result<Program, Stop> {
         let read = product::read_text(self.table(), &self.bytes);
         let bytes = read.map_err(|met| self.refused(met))?;
         let nodes = product::nodes(&bytes);
-        match source::read(&self.bytes) {
-            Ok(source) if source.nodes == nodes => Ok(Program {
-                bytes,
-                nodes,
-                places: Some(source.places),
-            }),
-            _ => Err(self.misread().into()),
+        let source = self.source()?;
+        if source.nodes != nodes {
+            return Err(self.misread().into());
         }
+        Ok(Program {
+            bytes,
+            nodes,
+            places: Some(source.places),
+        })
     }
 
     /// The netlist, accepted or compiled by the product.
@@ -146,6 +177,7 @@ impl Given {
 fn form_named(word: &str) -> Option<Form> {
     match word {
         "text" => Some(Form::Text),
+        "outline" => Some(Form::Outline),
         "program" => Some(Form::Program),
         "netlist" => Some(Form::Netlist),
         _ => None,
@@ -155,6 +187,8 @@ fn form_named(word: &str) -> Option<Form> {
 fn form_of(name: &str) -> Form {
     if name.ends_with(".prog") {
         Form::Program
+    } else if name.ends_with(".outline") {
+        Form::Outline
     } else if name.ends_with(".net") {
         Form::Netlist
     } else {

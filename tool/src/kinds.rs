@@ -16,6 +16,7 @@ pub const NODES: Templates = Templates {
         kind(7, "or"),
         kind(8, "equal"),
         kind(9, "less"),
+        kind(10, "element a{n}"),
         kind(16, "ok"),
         kind(17, "tick @{d}"),
         kind(18, "assign x{n} @{d}"),
@@ -24,6 +25,7 @@ pub const NODES: Templates = Templates {
         kind(21, "if @{d}"),
         kind(22, "while @{d}"),
         kind(23, "repeat @{d}"),
+        kind(24, "assign a{n} @{d}"),
     ],
     any: kind(0, "kind {k} delay {d} n {n}"),
 };
@@ -49,20 +51,36 @@ pub const CELLS: Templates = Templates {
         kind(38, "merge {a} {b}"),
         kind(40, "memory clock {a} data {b}"),
         kind(41, "gated {b} by {a}"),
+        kind(42, "array a{d} clock {a} data {b}"),
+        kind(43, "address {a}"),
+        kind(44, "element {b} of {a}"),
     ],
     any: kind(0, "kind {k} delay {d} a {n} b {m}"),
 };
 
 pub const DELAY: u8 = 34;
 pub const MEMORY: u8 = 40;
+pub const ARRAY: u8 = 42;
+pub const ADDRESS: u8 = 43;
 
 /// A memory that nothing writes to: its clock is ground, its data the zero.
-pub const IDLE: Cell = Cell {
-    kind: MEMORY,
-    delay: 0,
-    a: 1,
-    b: 2,
-};
+pub const IDLE: Cell = Cell::new(MEMORY, 0, 1, 2);
+
+/// The cells of an array that nothing writes to: clock, data and address are
+/// like those of such a memory.
+pub const fn idle_array(array: u8) -> [Cell; 2] {
+    [Cell::new(ARRAY, array, 1, 2), Cell::new(ADDRESS, 0, 2, 0)]
+}
+
+/// Whether a cell is that of a memory or an array that nothing writes to.
+pub fn is_idle(cell: &Cell) -> bool {
+    *cell == IDLE || idle_array(cell.delay).contains(cell)
+}
+
+/// Whether a cell of this kind is that of a memory or an array.
+pub fn is_store(kind: u8) -> bool {
+    matches!(kind, MEMORY | ARRAY | ADDRESS)
+}
 
 const fn kind(kind: u8, words: &'static str) -> Template {
     Template { kind, words }

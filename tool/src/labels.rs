@@ -3,7 +3,7 @@
 
 use crate::format::{self, Tree};
 use crate::input::{Circuit, Program};
-use crate::kinds::MEMORY;
+use crate::kinds::{ADDRESS, ARRAY, MEMORY};
 use crate::origin::Trace;
 use crate::types::{Fault, Netlist};
 
@@ -55,9 +55,9 @@ fn line_of(text: &[u8], at: usize) -> usize {
 }
 
 /// What is said of each cell; nothing of those that every netlist has, but
-/// for memories, which have the names of their variables.
+/// for memories and arrays, which have the names of their variables.
 pub fn of_cells(circuit: &Circuit, text: &[u8]) -> Result<Vec<Option<String>>, Fault> {
-    let mut notes = of_memories(&circuit.netlist);
+    let mut notes = of_stores(&circuit.netlist);
     if let Some((program, trace)) = &circuit.program {
         let labels = Labels::of(program, text)?;
         for (note, said) in notes.iter_mut().zip(of_origins(&labels, trace)) {
@@ -65,6 +65,20 @@ pub fn of_cells(circuit: &Circuit, text: &[u8]) -> Result<Vec<Option<String>>, F
         }
     }
     Ok(notes)
+}
+
+/// The names of memories and arrays, at their cells; an address stands behind
+/// its array.
+pub fn of_stores(netlist: &Netlist) -> Vec<Option<String>> {
+    let mut names = of_memories(netlist);
+    for (number, cell) in netlist.cells.iter().enumerate() {
+        match cell.kind {
+            ARRAY => names[number] = Some(format!("a{}", cell.delay)),
+            ADDRESS if number > 0 => names[number] = names[number - 1].clone(),
+            _ => {}
+        }
+    }
+    names
 }
 
 /// The names of the memories, at their cells.

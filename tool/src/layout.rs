@@ -1,6 +1,7 @@
 //! The published layout of what the product takes and gives: the most that
 //! there may be of it, and where things stand in a file and in a state.
 
+use crate::store::{Store, OF_ARRAYS};
 use crate::types::{Cell, Netlist};
 
 /// The most bytes of a text, of a program and of a netlist file.
@@ -14,9 +15,11 @@ pub const CELLS: usize = 1_024;
 const BLOCK: usize = 512;
 const BLOCK_HEADER: usize = 8;
 
-/// A state has a header, and so many bytes for each cell.
+/// A state has a header, so many bytes for each cell, and behind them the words
+/// of all elements.
 const STATE_HEADER: usize = 8;
 const STATE_CELL: usize = 40;
+const WORD: usize = 2;
 
 /// The bytes of a netlist file with so many cells.
 pub fn file_length(cells: u16) -> usize {
@@ -37,11 +40,29 @@ pub fn netlist_in(file: &[u8]) -> Netlist {
 
 /// The bytes of a state of so many cells.
 pub fn state_length(cells: usize) -> usize {
-    STATE_HEADER + STATE_CELL * cells
+    cell_at(cells) + WORD * OF_ARRAYS.len()
+}
+
+/// Where the bytes of a cell begin in a state.
+fn cell_at(cell: usize) -> usize {
+    STATE_HEADER + STATE_CELL * cell
+}
+
+fn word_at(state: &[u8], at: usize) -> u16 {
+    u16::from_le_bytes([state[at], state[at + 1]])
 }
 
 /// What a cell shows in a state.
 pub fn value_in(state: &[u8], cell: u16) -> u16 {
-    let at = state_length(usize::from(cell));
-    u16::from_le_bytes([state[at], state[at + 1]])
+    word_at(state, cell_at(usize::from(cell)))
+}
+
+/// An element, by its place in the store, in a state of so many cells.
+pub fn element_in(state: &[u8], cells: usize, place: usize) -> u16 {
+    word_at(state, cell_at(cells) + WORD * (place - OF_ARRAYS.start))
+}
+
+/// The bytes of start words.
+pub fn store_bytes(store: &Store) -> Vec<u8> {
+    store.iter().flat_map(|word| word.to_le_bytes()).collect()
 }

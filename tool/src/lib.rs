@@ -22,6 +22,7 @@ pub mod product;
 pub mod progress;
 pub mod refusals;
 pub mod source;
+pub mod store;
 pub mod svg;
 pub mod template;
 pub mod times;

@@ -30,9 +30,15 @@ impl Wrong {
 
 /// The text of a file, which must be one: letters, and no bytes of zero.
 pub fn read(name: &str) -> Result<String, Fault> {
-    let text = String::from_utf8(files::read(name)?).ok();
+    let bytes = files::read(name)?;
+    text_of(files::shown(name), &bytes).map(String::from)
+}
+
+/// The text that bytes of a file are.
+pub fn text_of<'b>(file: &str, bytes: &'b [u8]) -> Result<&'b str, Fault> {
+    let text = std::str::from_utf8(bytes).ok();
     text.filter(|text| !text.contains('\0'))
-        .ok_or_else(|| Fault::usage(format!("{} is no text", files::shown(name))))
+        .ok_or_else(|| Fault::usage(format!("{file} is no text")))
 }
 
 /// The words of a line before its comment.

@@ -1,20 +1,20 @@
 //! A netlist as a list, a line for each cell, and back. A list that people
-//! write may name its cells; a number that is left out is an idle memory.
+//! write may name its cells; a number that is left out is an idle memory or,
+//! behind the sixteenth memory, an idle array.
 
-use crate::kinds::{CELLS, IDLE};
+use crate::kinds::{idle_array, is_idle, ARRAY, CELLS, IDLE, MEMORY};
 use crate::layout;
 use crate::lines::{self, Wrong};
+use crate::store::{ARRAYS, VARIABLES};
 use crate::template::{byte, word};
 use crate::types::{Cell, Netlist};
 use std::collections::{HashMap, HashSet};
-
-const MEMORIES: usize = 16;
 
 /// A netlist from a list, with the line of each cell.
 #[derive(Debug)]
 pub struct Listed {
     pub netlist: Netlist,
-    /// For each cell its line; an idle memory that was left out has none.
+    /// For each cell its line; an idle one that was left out has none.
     pub lines: Vec<Option<usize>>,
 }
 
@@ -36,7 +36,7 @@ pub fn list(netlist: &Netlist, all: bool, note: impl Fn(usize) -> Option<String>
     let count = netlist.cells.len();
     let mut lines = vec![format!("{count} cells, finish {}", netlist.finish)];
     for (number, cell) in netlist.cells.iter().enumerate() {
-        if *cell == IDLE && !all {
+        if is_idle(cell) && !all {
             continue;
         }
         let words = words_of(cell);
@@ -52,7 +52,7 @@ pub fn list(netlist: &Netlist, all: bool, note: impl Fn(usize) -> Option<String>
 pub fn wired(text: &str) -> Result<Listed, Wrong> {
     let entries = entries(text)?;
     let header = header(&entries)?;
-    let placed = placed(&entries, header.count)?;
+    let placed = filled(&placed(&entries, header.count)?);
     let names = Names::of(&placed)?;
     let mut netlist = Netlist {
         cells: Vec::new(),
@@ -60,14 +60,14 @@ pub fn wired(text: &str) -> Result<Listed, Wrong> {
             .number(header.finish)
             .ok_or_else(|| Wrong::new(header.line, no_wire(header.finish)))?,
     };
-    for entry in &placed {
-        netlist.cells.push(match entry {
-            Some(entry) => cell_by(&entry.words, |name| names.number(name))
+    for slot in &placed {
+        netlist.cells.push(match slot {
+            Slot::Listed(entry) => cell_by(&entry.words, |name| names.number(name))
                 .map_err(|why| Wrong::new(entry.line, why))?,
-            None => IDLE,
+            Slot::Idle(cell) => *cell,
         });
     }
-    let lines = placed.iter().map(|e| e.map(|entry| entry.line)).collect();
+    let lines = placed.iter().map(Slot::line).collect();
     Ok(Listed { netlist, lines })
 }
 
@@ -139,12 +139,21 @@ fn is_header(entry: &Entry) -> bool {
     matches!(entry.words[..], [_, "cells,", "finish", _] | ["finish", _])
 }
 
-/// Each cell at its number; `None` is an idle memory.
+/// Each cell at its number; `None` is one that is left out.
 fn placed<'e, 't>(
     entries: &'e [Entry<'t>],
     count: Option<usize>,
 ) -> Result<Vec<Option<&'e Entry<'t>>>, Wrong> {
-    let memories = entries.iter().filter(|e| e.words[0] == "memory").count();
+    let said = |first: &str| entries.iter().filter(|e| e.words[0] == first).count();
+    let memories = VARIABLES.saturating_sub(said("memory"));
+    let arrays = 2 * ARRAYS.saturating_sub(said("array"));
+    // Where no line is about arrays, all of them are idle.
+    let about_arrays = |e: &Entry| e.words[0] == "array" || e.words == ["idle", "arrays"];
+    let unsaid = if entries.iter().any(about_arrays) {
+        0
+    } else {
+        arrays
+    };
     let mut cells = Vec::new();
     for entry in entries.iter().filter(|entry| !is_header(entry)) {
         let number = entry.number.unwrap_or(cells.len());
@@ -154,9 +163,8 @@ fn placed<'e, 't>(
         }
         cells.resize(number, None);
         match entry.words[..] {
-            ["idle", "memories"] => {
-                cells.resize(number + MEMORIES.saturating_sub(memories), None);
-            }
+            ["idle", "memories"] => cells.resize(number + memories + unsaid, None),
+            ["idle", "arrays"] => cells.resize(number + arrays, None),
             _ => cells.push(Some(entry)),
         }
     }
@@ -165,23 +173,83 @@ fn placed<'e, 't>(
     Ok(cells)
 }
 
-/// The numbers of names: those that the list gives, `start`, `ground` and the
-/// memories' own, `x0` to `x15`.
+/// A cell of a list, or one that is left out.
+enum Slot<'e, 't> {
+    Listed(&'e Entry<'t>),
+    Idle(Cell),
+}
+
+impl Slot<'_, '_> {
+    fn line(&self) -> Option<usize> {
+        match self {
+            Slot::Listed(entry) => Some(entry.line),
+            Slot::Idle(_) => None,
+        }
+    }
+
+    fn is_memory(&self) -> bool {
+        match self {
+            Slot::Listed(entry) => entry.words[0] == "memory",
+            Slot::Idle(cell) => cell.kind == MEMORY,
+        }
+    }
+
+    /// The name of an array, at its cell.
+    fn array(&self) -> Option<String> {
+        match self {
+            Slot::Listed(entry) if entry.words[0] == "array" => {
+                Some(entry.words.get(1)?.to_string())
+            }
+            Slot::Idle(cell) if cell.kind == ARRAY => Some(format!("a{}", cell.delay)),
+            _ => None,
+        }
+    }
+}
+
+/// What is left out is idle: memories and, right behind the sixteenth, arrays.
+fn filled<'e, 't>(placed: &[Option<&'e Entry<'t>>]) -> Vec<Slot<'e, 't>> {
+    let mut memories = 0;
+    let mut behind: Vec<Cell> = Vec::new();
+    let mut slots = Vec::new();
+    for entry in placed {
+        let here = if behind.is_empty() {
+            IDLE
+        } else {
+            behind.remove(0)
+        };
+        let slot = entry.map_or(Slot::Idle(here), Slot::Listed);
+        memories += usize::from(slot.is_memory());
+        if memories == VARIABLES && slot.is_memory() {
+            behind = (0..ARRAYS as u8).flat_map(idle_array).collect();
+        }
+        slots.push(slot);
+    }
+    slots
+}
+
+/// The numbers of names: those that the list gives, `start`, `ground`, and
+/// those of memories and arrays, `x0` to `x15` and `a0` to `a3`.
 struct Names {
     numbers: HashMap<String, u16>,
 }
 
 impl Names {
-    fn of(placed: &[Option<&Entry>]) -> Result<Names, Wrong> {
+    fn of(placed: &[Slot]) -> Result<Names, Wrong> {
         let mut numbers = HashMap::from([("start".to_string(), 0), ("ground".to_string(), 1)]);
-        let memory = |e: &Option<&Entry>| e.is_none_or(|entry| entry.words[0] == "memory");
-        let memories = (0u16..).zip(placed).filter(|(_, entry)| memory(entry));
+        let memories = (0u16..).zip(placed).filter(|(_, slot)| slot.is_memory());
         for (variable, (number, _)) in memories.enumerate() {
             numbers.insert(format!("x{variable}"), number);
         }
+        let arrays = (0u16..).zip(placed.iter().map(Slot::array));
+        numbers.extend(arrays.filter_map(|(number, array)| Some((array?, number))));
         let mut given = HashSet::new();
-        for (number, entry) in (0u16..).zip(placed) {
-            let Some((entry, name)) = entry.and_then(|entry| Some((entry, entry.name?))) else {
+        for (number, slot) in (0u16..).zip(placed) {
+            let Slot::Listed(
+                entry @ Entry {
+                    name: Some(name), ..
+                },
+            ) = slot
+            else {
                 continue;
             };
             if !given.insert(name) {
@@ -227,5 +295,5 @@ fn cell_by(words: &[&str], number: impl Fn(&str) -> Option<u16>) -> Result<Cell,
 }
 
 fn no_wire(name: &str) -> String {
-    format!("no cell is called '{name}'; a wire is a cell's number, its name, start, ground or x0 to x15")
+    format!("no cell is called '{name}'; a wire is a cell's number, its name, start, ground, x0 to x15 or a0 to a3")
 }

@@ -4,6 +4,7 @@
 
 mod walk;
 
+use crate::store::VARIABLES;
 use crate::types::{Fault, Netlist, Node, Origin};
 
 /// The wires of a statement at which its pulse comes in and leaves.
@@ -26,6 +27,18 @@ pub struct Trace {
     pub first_memory: u16,
 }
 
+impl Trace {
+    /// The cell of an array; its address is the next. The first array follows
+    /// the last memory.
+    pub fn array(&self, array: u16) -> u16 {
+        array_behind(self.first_memory, array)
+    }
+}
+
+fn array_behind(first_memory: u16, array: u16) -> u16 {
+    first_memory + VARIABLES as u16 + 2 * array
+}
+
 /// The trace of a program whose netlist is this one.
 pub fn trace(nodes: &[Node], netlist: &Netlist) -> Result<Trace, Fault> {
     let (own, trace) = walk::lay_out(nodes);
@@ -44,8 +57,8 @@ pub fn subtree_end(nodes: &[Node], node: usize) -> usize {
 /// How many children a node of this kind has.
 pub fn children(kind: u8) -> usize {
     match kind {
-        3 | 18 => 1,
-        4..=9 | 19 | 20 | 22 | 23 => 2,
+        3 | 10 | 18 => 1,
+        4..=9 | 19 | 20 | 22..=24 => 2,
         21 => 3,
         _ => 0,
     }

@@ -1,7 +1,8 @@
 //! The product's calls, with buffers of the size that each result needs.
 
-use crate::layout::{file_length, state_length, CELLS, FILE, PROGRAM};
-use crate::types::{Answer, Cell, End, Netlist, Node, Refusal, Table, Words};
+use crate::layout::{element_in, file_length, state_length, store_bytes, CELLS, FILE, PROGRAM};
+use crate::store::{self, Store, LENGTH, OF_ARRAYS};
+use crate::types::{Answer, Cell, End, Netlist, Node, Refusal, Table};
 use bindings::{calls, cell_calls};
 
 /// Checks a program.
@@ -48,9 +49,9 @@ pub fn write_netlist(netlist: &Netlist) -> Result<Vec<u8>, Refusal> {
 }
 
 /// Begins a run of a netlist file: its state at instant 0.
-pub fn begin(file: &[u8], words: &Words) -> Result<(Vec<u8>, Answer), Refusal> {
+pub fn begin(file: &[u8], start: &Store) -> Result<(Vec<u8>, Answer), Refusal> {
     let mut state = vec![0; state_length(CELLS)];
-    let answer = calls::begin(file, &word_bytes(words), &mut state)?;
+    let answer = calls::begin(file, &store_bytes(start), &mut state)?;
     state.truncate(state_length(read_netlist(file)?.cells.len()));
     Ok((state, answer))
 }
@@ -60,16 +61,26 @@ pub fn go(file: &[u8], state: &mut [u8], n: u32) -> Result<Answer, Refusal> {
     calls::continue_by(file, state, n)
 }
 
+/// The words that an answer tells, and the elements of its state of so many
+/// cells.
+pub fn contents(answer: &Answer, state: &[u8], cells: usize) -> Store {
+    let mut store = store::of_words(&answer.words);
+    for place in OF_ARRAYS {
+        store[place] = element_in(state, cells, place);
+    }
+    store
+}
+
 /// A full run of a netlist file.
-pub fn run_netlist(file: &[u8], words: &Words, budget: u32) -> Result<Answer, Refusal> {
+pub fn run_netlist(file: &[u8], start: &Store, budget: u32) -> Result<Answer, Refusal> {
     let mut state = vec![0; state_length(CELLS)];
-    calls::run_netlist(file, &word_bytes(words), budget, &mut state)
+    calls::run_netlist(file, &store_bytes(start), budget, &mut state)
 }
 
 /// Whether a netlist file may be run with this budget. A full run looks at the
 /// budget before it looks at the room for its state, and here there is none.
 pub fn check_budget(file: &[u8], budget: u32) -> Result<(), Refusal> {
-    match calls::run_netlist(file, &word_bytes(&[0; 16]), budget, &mut []) {
+    match calls::run_netlist(file, &store_bytes(&[0; LENGTH]), budget, &mut []) {
         Err(refusal) if refusal.number != 14 => Err(refusal),
         _ => Ok(()),
     }
@@ -79,10 +90,10 @@ pub fn check_budget(file: &[u8], budget: u32) -> Result<(), Refusal> {
 pub fn reference(
     table: Table,
     program: &[u8],
-    words: &Words,
+    start: &Store,
     budget: u32,
 ) -> Result<Option<End>, Refusal> {
-    calls::reference_run(table, program, &word_bytes(words), budget)
+    calls::reference_run(table, program, &store_bytes(start), budget)
 }
 
 /// The nodes that stand in a program's bytes, four for each.
@@ -102,8 +113,4 @@ pub fn program_bytes(nodes: &[Node]) -> Vec<u8> {
         [node.kind, node.delay, low, high]
     };
     nodes.iter().flat_map(bytes).collect()
-}
-
-fn word_bytes(words: &Words) -> Vec<u8> {
-    words.iter().flat_map(|word| word.to_le_bytes()).collect()
 }

@@ -29,8 +29,10 @@ pub struct Report {
     pub found: Option<String>,
     /// For 7 the least delay.
     pub least: Option<u8>,
-    /// For 8 the variable, and the nodes that use it, one on each side.
+    /// For 8 the variable or the array, and the nodes that use it, one on each
+    /// side.
     pub variable: Option<u16>,
+    pub array: Option<u16>,
     pub uses: Option<[usize; 2]>,
 }
 
@@ -50,6 +52,7 @@ pub fn plain(file: &str, refusal: Refusal) -> Report {
         found: None,
         least: None,
         variable: None,
+        array: None,
         uses: None,
     }
 }
@@ -66,7 +69,7 @@ pub fn report(given: &Given, refusal: Refusal) -> Result<Report, Fault> {
         (9..=12, _) => netlists::of_file(report, &given.bytes),
         (17, _) => texts::of_word(report, &given.bytes),
         (18, _) => texts::of_grammar(report, given),
-        (_, Form::Text) => programs::of_text(report, given)?,
+        (_, Form::Text | Form::Outline) => programs::of_source(report, given)?,
         _ => programs::of_bytes(report, given),
     })
 }
@@ -117,6 +120,7 @@ impl Report {
             ("marks", Json::list(&self.marks, Mark::json)),
             ("least", Json::maybe(self.least, Json::number)),
             ("variable", Json::maybe(self.variable, Json::number)),
+            ("array", Json::maybe(self.array, Json::number)),
             (
                 "uses",
                 Json::maybe(self.uses, |uses| Json::list(uses, Json::number)),

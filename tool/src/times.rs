@@ -5,7 +5,7 @@ use crate::product;
 use crate::types::{Fault, Node, Refusal, Table};
 
 /// The operators that have a time of their own, by the names of their nodes.
-pub const OPERATORS: [(u8, &str); 7] = [
+pub const OPERATORS: [(u8, &str); 8] = [
     (3, "complement"),
     (4, "sum"),
     (5, "difference"),
@@ -13,6 +13,7 @@ pub const OPERATORS: [(u8, &str); 7] = [
     (7, "or"),
     (8, "equal"),
     (9, "less"),
+    (10, "element"),
 ];
 
 const LENGTH: usize = 512;
@@ -20,7 +21,7 @@ const LENGTH: usize = 512;
 const COUNT: usize = 2;
 const CHECK: usize = 6;
 const TIMES: usize = 8;
-const KINDS: u8 = 9;
+const KINDS: u8 = 10;
 /// The product's number for a wrong check, and for a delay that is too small.
 const WRONG_CHECK: u8 = 20;
 const DELAY_TOO_SMALL: u8 = 7;
@@ -44,7 +45,7 @@ fn least_delay(table: Table, kind: u8) -> Result<u8, Refusal> {
     Err(met)
 }
 
-/// `x0 := x0 op x0`, or with one operand.
+/// `x0 := x0 op x0`, or with one operand, which for an element is its index.
 fn assignment(kind: u8, delay: u8) -> Vec<u8> {
     let node = |kind, delay| Node { kind, delay, n: 0 };
     let mut nodes = vec![node(18, delay), node(kind, 0)];

@@ -118,6 +118,9 @@ fn typed_programs_are_read_as_the_product_reads_them() {
     let mut typed = 0;
     for file in programs("compile") {
         let nodes = product::nodes(&fs::read(&file).expect("a vector"));
+        if !hub::format::has_text(&nodes) {
+            continue;
+        }
         let tree = hub::format::tree(&nodes).expect("an accepted program");
         let text = hub::format::format(&tree);
         let given = Given {
@@ -169,13 +172,38 @@ fn a_clash_has_a_use_on_each_side() {
         assert!((place + 1..middle).contains(&left));
         assert!((middle..subtree_end(&nodes, middle)).contains(&right));
         let uses = [nodes[left], nodes[right]];
-        assert!(uses
-            .iter()
-            .all(|node: &Node| report.variable == Some(node.n)));
-        assert!(uses.iter().any(|node| node.kind == 18));
+        let shared = report.variable.or(report.array);
+        assert!(uses.iter().all(|node: &Node| shared == Some(node.n)));
+        let arrays = uses.map(|node| matches!(node.kind, 10 | 24));
+        assert_eq!(arrays, [report.array.is_some(); 2]);
+        assert!(uses.iter().any(|node| matches!(node.kind, 18 | 24)));
         clashes += 1;
     }
     assert!(clashes > 2);
+}
+
+/// The uses of an array that clash are found among others of the same side, and
+/// an array is no variable of its number.
+#[test]
+fn uses_of_an_array_clash() {
+    let outline = "parallel\n sequence\n  assign a1 @4\n   element a0\n    constant 0\n   variable x1\n  \
+        assign x0 @8\n   element a1\n    element a2\n     variable x2\n sequence\n  \
+        assign x3 @4\n   element a3\n    variable x1\n  assign a2 @1\n   variable x2\n   constant 1\n";
+    let given = Given {
+        form: Form::Outline,
+        bytes: outline.as_bytes().to_vec(),
+        ..given(Path::new("/dev/null"))
+    };
+    let nodes = given.source().expect("an outline").nodes;
+    let met = product::check(None, &product::program_bytes(&nodes)).expect_err("a clash");
+    assert_eq!(met, Refusal::new(8, 0));
+    let report = refusals::report(&given, met).expect("a report");
+    assert_eq!((report.variable, report.array), (None, Some(2)));
+    assert_eq!(report.uses, Some([8, 14]));
+    assert_eq!(
+        report.rule,
+        "a2 is read on one side of a parallel statement and written on the other"
+    );
 }
 
 #[test]

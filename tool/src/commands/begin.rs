@@ -9,7 +9,7 @@ use crate::types::{Done, DONE};
 
 pub const COMMAND: Command = Command {
     name: "begin",
-    usage: "FILE [xK=N ..] -o STATE [--times T] [--as FORM]",
+    usage: "FILE [xK=N aK[I]=N ..] -o STATE [--times T] [--as FORM]",
     about: "begins a run, and writes its state to go on from",
     more: "FILE is a netlist, NAME.net, or a program that is compiled first. The exit status is 0.",
     example: "hub begin two_boards.net x0=3 x1=5 -o two_boards.state",
@@ -28,8 +28,9 @@ fn run(args: &Args) -> Result<Done, Stop> {
     let begun = product::begin(&circuit.file, &start);
     let (state, answer) = begun.map_err(|met| given.refused(met))?;
     files::write(to, &state)?;
+    let last = product::contents(&answer, &state, circuit.netlist.cells.len());
     Ok(Done {
         exit: DONE,
-        ..answered(args, &start, &answer)
+        ..answered(args, &start, &answer, &last)
     })
 }

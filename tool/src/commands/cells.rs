@@ -4,7 +4,7 @@ use super::{Command, Stop};
 use crate::args::{Args, Options};
 use crate::input::Given;
 use crate::json::Json;
-use crate::kinds::IDLE;
+use crate::kinds::is_idle;
 use crate::types::{Cell, Done};
 use crate::{labels, listing, output};
 
@@ -12,7 +12,7 @@ pub const COMMAND: Command = Command {
     name: "cells",
     usage: "FILE [--all] [-o LIST]",
     about: "lists the cells of a program's circuit or of a netlist, with the lines they come from",
-    more: "Memories that nothing writes to are left out; --all lists them too.\n\
+    more: "Memories and arrays that nothing writes to are left out; --all lists them too.\n\
         What stands after # is for the reader: 'hub wire' takes the list back.",
     example: "hub cells examples/two_boards.hub",
     options: Options {
@@ -30,7 +30,7 @@ fn run(args: &Args) -> Result<Done, Stop> {
     let all = args.flag("all");
     let list = listing::list(&circuit.netlist, all, |cell| notes[cell].clone());
     output::put(args, list, || {
-        let shown = |(_, cell): &(usize, &Cell)| all || **cell != IDLE;
+        let shown = |(_, cell): &(usize, &Cell)| all || !is_idle(cell);
         let cells = circuit.netlist.cells.iter().enumerate().filter(shown);
         Json::Object(vec![
             ("count", Json::number(circuit.netlist.cells.len())),

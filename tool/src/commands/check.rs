@@ -13,8 +13,9 @@ pub const COMMAND: Command = Command {
     usage: "FILE [--times T] [--as FORM]",
     about: "tells whether a program is accepted, or where and why not",
     more: "Of an accepted program: its nodes, its cells, and for each delay the least that would\n\
-           do. Of a refused one: line and column, the place, the rule and what to do. NAME.prog\n\
-           is a program's bytes, NAME.net a netlist, or --as says it (text, program, netlist).",
+           do. Of a refused one: line and column, the place, the rule and what to do.\n\
+           NAME.outline is an outline, NAME.prog a program's bytes, NAME.net a netlist, or --as\n\
+           says it (text, outline, program, netlist).",
     example: "hub check examples/two_boards.hub",
     options: Options {
         valued: &["times", "as"],

@@ -13,8 +13,8 @@ pub const COMMAND: Command = Command {
     usage: "FILE -o x.svg | x.dot [--all]",
     about: "draws a program's circuit, or a netlist, as a picture: SVG, or DOT for Graphviz",
     more: "Each statement has a frame. Control wires are thin and dark, word wires wide and\n\
-        lighter; a word that is read is a flag with its name. Memories that nothing writes to\n\
-        are left out; --all draws them too.",
+        lighter; a word or an array that is read is a flag with its name. Memories and arrays\n\
+        that nothing writes to are left out; --all draws them too.",
     example: "hub draw examples/two_boards.hub -o two_boards.svg",
     options: Options {
         valued: &["as", "times", "o"],

@@ -11,8 +11,8 @@ pub const COMMAND: Command = Command {
     name: "format",
     usage: "FILE [-o TEXT]",
     about: "writes a program as text with the fewest brackets",
-    more: "FILE is a text or a program's bytes. The text is read back before it is shown: it\n\
-        stands for the same program.",
+    more: "FILE is a text, an outline or a program's bytes. The text is read back before it is\n\
+        shown: it stands for the same program. A program with arrays has no text.",
     example: "hub format examples/two_boards.hub",
     options: Options {
         valued: &["as", "times", "o"],
@@ -25,6 +25,10 @@ fn run(args: &Args) -> Result<Done, Stop> {
     let [file] = args.exactly(["FILE"])?;
     let given = Given::read(args, file)?;
     let program = given.program()?;
+    if !format::has_text(&program.nodes) {
+        let message = "texts have no words for arrays; 'hub outline' shows this program";
+        return Err(Fault::usage(format!("{}: {message}", given.name)).into());
+    }
     let tree = format::tree(&program.nodes);
     let text = format::format(&tree.ok_or_else(|| Fault::internal("the program is no tree"))?);
     let back = product::read_text(given.table(), text.as_bytes());

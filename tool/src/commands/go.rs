@@ -6,7 +6,7 @@ use crate::files;
 use crate::input::Given;
 use crate::product;
 use crate::refusals;
-use crate::types::Done;
+use crate::types::{Answer, Done};
 
 pub const COMMAND: Command = Command {
     name: "go",
@@ -31,9 +31,13 @@ fn run(args: &Args) -> Result<Done, Stop> {
     let circuit = given.circuit()?;
     let mut state = files::read(state_file)?;
     let refused = |met| Stop::from(refusals::plain(state_file, met));
+    let contents = |answer: &Answer, state: &[u8]| {
+        product::contents(answer, state, circuit.netlist.cells.len())
+    };
     // By none: the words as they are.
     let before = product::go(&circuit.file, &mut state, 0).map_err(refused)?;
+    let start = contents(&before, &state);
     let answer = product::go(&circuit.file, &mut state, instants).map_err(refused)?;
     files::write(args.value("o").unwrap_or(state_file), &state)?;
-    Ok(answered(args, &before.words, &answer))
+    Ok(answered(args, &start, &answer, &contents(&answer, &state)))
 }

@@ -22,7 +22,8 @@ use crate::args::{Args, Options};
 use crate::files;
 use crate::json::Json;
 use crate::refusals::Report;
-use crate::types::{Answer, Done, Fault, Words, DONE, OPEN, REFUSED};
+use crate::store::Store;
+use crate::types::{Answer, Done, Fault, DONE, OPEN, REFUSED};
 
 pub struct Command {
     pub name: &'static str,
@@ -173,11 +174,11 @@ fn written(
     }))
 }
 
-/// Tells the answer of a run that began with these words.
-fn answered(args: &Args, start: &Words, answer: &Answer) -> Done {
+/// Tells the answer of a run that began with these words and has come to those.
+fn answered(args: &Args, start: &Store, answer: &Answer, last: &Store) -> Done {
     let output = match args.flag("json") {
-        true => Json::Object(answers::fields(answer)).line(),
-        false => answers::text(start, answer, args.flag("all")).into_bytes(),
+        true => Json::Object(answers::fields(answer, last)).line(),
+        false => answers::text(start, answer, last, args.flag("all")).into_bytes(),
     };
     let exit = if answer.ended { DONE } else { OPEN };
     Done { exit, output }

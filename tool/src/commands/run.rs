@@ -8,17 +8,19 @@ use crate::json::Json;
 use crate::product;
 use crate::progress::Progress;
 use crate::refusals;
-use crate::types::{Answer, Done, End, Fault, Refusal, Words, DONE, OPEN};
+use crate::store::{self, Store};
+use crate::types::{Answer, Done, End, Fault, Refusal, DONE, OPEN};
 
 pub const COMMAND: Command = Command {
     name: "run",
-    usage: "FILE [xK=N ..] [--budget N] [--times T] [--all] [--as FORM]",
+    usage: "FILE [xK=N aK[I]=N ..] [--budget N] [--times T] [--all] [--as FORM]",
     about: "runs a program on its circuit, and tells what the rules say",
-    more: "FILE is a text; NAME.prog is a program's bytes, NAME.net a netlist, or --as says it\n\
-           (text, program, netlist). Words that aren't given start as 0. The budget is the most\n\
-           instants that are run, 1,000,000 if it isn't given. Of the words those are told that\n\
-           have changed, with --all all sixteen. The exit status is 0 if the run ended, 2 if it\n\
-           is still open.",
+    more: "FILE is a text; NAME.outline is an outline, NAME.prog a program's bytes, NAME.net a\n\
+           netlist, or --as says it (text, outline, program, netlist). x0=3 is the word that x0\n\
+           starts with, a2[5]=7 that of element 5 of array 2; those that aren't given start as 0.\n\
+           The budget is the most instants that are run, 1,000,000 if it isn't given. Of the words\n\
+           and elements those are told that have changed, with --all all sixteen words, and the\n\
+           elements that aren't 0. The exit status is 0 if the run ended, 2 if it is still open.",
     example: "hub run examples/two_boards.hub x0=3 x1=5",
     options: Options {
         valued: &["budget", "times", "as"],
@@ -39,7 +41,8 @@ fn run(args: &Args) -> Result<Done, Stop> {
     let circuit = given.circuit()?;
     product::check_budget(&circuit.file, budget)
         .map_err(|met| Stop::from(refusals::plain("--budget", met)))?;
-    let answer = full_run(&circuit, &start, budget).map_err(|met| given.refused(met))?;
+    let ran = full_run(&circuit, &start, budget);
+    let (answer, last) = ran.map_err(|met| given.refused(met))?;
     let rules = match &circuit.program {
         None => None,
         Some((program, _)) => {
@@ -49,15 +52,19 @@ fn run(args: &Args) -> Result<Done, Stop> {
     };
     agree(&answer, rules)?;
     let output = match args.flag("json") {
-        true => json(&start, &answer, rules).line(),
-        false => text(&start, &answer, rules, args.flag("all")).into_bytes(),
+        true => json(&start, &answer, &last, rules).line(),
+        false => {
+            let told = answers::text(&start, &answer, &last, args.flag("all"));
+            (told + &said(&answer, rules)).into_bytes()
+        }
     };
     let exit = if answer.ended { DONE } else { OPEN };
     Ok(Done { exit, output })
 }
 
-/// A beginning, and continuings unless the finish was high.
-fn full_run(circuit: &Circuit, start: &Words, budget: u32) -> Result<Answer, Refusal> {
+/// A beginning, and continuings unless the finish was high; with the words and
+/// elements at its end.
+fn full_run(circuit: &Circuit, start: &Store, budget: u32) -> Result<(Answer, Store), Refusal> {
     let (mut state, mut answer) = product::begin(&circuit.file, start)?;
     let mut progress = Progress::new(budget);
     while !answer.ended && answer.instant < budget {
@@ -65,11 +72,12 @@ fn full_run(circuit: &Circuit, start: &Words, budget: u32) -> Result<Answer, Ref
         answer = product::go(&circuit.file, &mut state, slice)?;
         progress.show(answer.instant);
     }
-    Ok(answer)
+    let last = product::contents(&answer, &state, circuit.netlist.cells.len());
+    Ok((answer, last))
 }
 
 /// The product proves that circuit and rules agree: where they don't, the tool
-/// has asked wrongly.
+/// has asked wrongly. The rules tell no elements.
 fn agree(answer: &Answer, rules: Option<Option<End>>) -> Result<(), Fault> {
     let circuit = answer.ended.then_some(End {
         instant: answer.instant,
@@ -83,18 +91,20 @@ fn agree(answer: &Answer, rules: Option<Option<End>>) -> Result<(), Fault> {
     }
 }
 
-fn text(start: &Words, answer: &Answer, rules: Option<Option<End>>, all: bool) -> String {
+/// What the rules say, as a line.
+fn said(answer: &Answer, rules: Option<Option<End>>) -> String {
     let said = match rules {
         None => "no rules: a netlist alone was given".to_string(),
         Some(Some(end)) => format!("the rules: ended at {}, with the same words", end.instant),
         Some(None) => format!("the rules: no end up to {}", answer.instant),
     };
-    answers::text(start, answer, all) + &said + "\n"
+    said + "\n"
 }
 
-fn json(start: &Words, answer: &Answer, rules: Option<Option<End>>) -> Json {
-    let mut fields = answers::fields(answer);
-    fields.push(("start", answers::words(start)));
+fn json(start: &Store, answer: &Answer, last: &Store, rules: Option<Option<End>>) -> Json {
+    let mut fields = answers::fields(answer, last);
+    fields.push(("start", answers::words(&store::words(start))));
+    fields.push(("start_elements", answers::elements(start)));
     let end = |end: End| {
         Json::Object(vec![
             ("outcome", Json::text("ended")),

@@ -12,8 +12,9 @@ pub const COMMAND: Command = Command {
     name: "times",
     usage: "[OPERATOR=TIME ..] -o T, or hub times [T]",
     about: "makes a table of operator times, or shows one",
-    more: "The operators are complement, sum, difference, and, or, equal, less; one that isn't\n\
-        named keeps its built-in time. Without a file the built-in times are shown.",
+    more: "The operators are complement, sum, difference, and, or, equal, less, and element, the\n\
+        reading of an array; one that isn't named keeps its built-in time. Without a file the\n\
+        built-in times are shown.",
     example: "hub times sum=12 less=9 -o fast.times",
     options: Options {
         valued: &["o"],

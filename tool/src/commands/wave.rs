@@ -5,18 +5,19 @@ use crate::args::{Args, Options};
 use crate::input::{Circuit, Given};
 use crate::json::Json;
 use crate::refusals::{self, Report};
-use crate::types::{Done, Refusal, Words};
-use crate::wave::{choice, record, svg, terminal, vcd, Waveforms};
+use crate::store::{self, Store};
+use crate::types::{Done, Refusal};
+use crate::wave::{choice, record, svg, terminal, vcd, Shows, Waveforms};
 use crate::{output, product};
 
 pub const COMMAND: Command = Command {
     name: "wave",
-    usage: "FILE [x0=3 ..] [--from A] [--to B] [--wires W,.. | --all] [-o x.vcd | x.svg]",
+    usage: "FILE [xK=N aK[I]=N ..] [--from A] [--to B] [--wires W,.. | --all] [-o x.vcd | x.svg]",
     about: "shows how wires go up and down in a run: in the terminal, as VCD for GTKWave, as SVG",
     more: "Shown are start, finish, the words that are written, and each statement's start and\n\
-        finish, named by its kind and node, as while1.start; with --all all words. --wires chooses some of them, or\n\
-        cells by number; NAME=WIRE gives a wire another name. Without --to the waves go to the\n\
-        finish, at most 240 instants.",
+        finish, named by its kind and node, as while1.start; with --all all words. --wires\n\
+        chooses some of them, cells by number, or elements, as a2[5]; NAME=WIRE gives a wire\n\
+        another name. Without --to the waves go to the finish, at most 240 instants.",
     example: "hub wave examples/two_boards.hub x0=1 x1=2 --to 40",
     options: Options {
         valued: &["as", "times", "from", "to", "wires", "o"],
@@ -31,7 +32,7 @@ const MOST: u32 = 240;
 const AFTER: u32 = 2;
 
 fn run(args: &Args) -> Result<Done, Stop> {
-    let (file, words) = args.file_and_words()?;
+    let (file, start) = args.file_and_words()?;
     let given = Given::read(args, file)?;
     let circuit = given.circuit()?;
     let wires = choice::wires(
@@ -43,14 +44,14 @@ fn run(args: &Args) -> Result<Done, Stop> {
     let from = instant(args, &circuit, "from")?.unwrap_or(0);
     let to = match instant(args, &circuit, "to")? {
         Some(to) => to,
-        None => last(&circuit, &words, from).map_err(|met| given.refused(met))?,
+        None => last(&circuit, &start, from).map_err(|met| given.refused(met))?,
     };
     if to < from {
         return Err(args
             .fault(format!("--to {to} is before --from {from}"))
             .into());
     }
-    let waves = record::record(&circuit.file, &words, wires, from, to);
+    let waves = record::record(&circuit.file, &start, wires, from, to);
     let waves = waves.map_err(|met| given.refused(met))?;
     shown(args, &waves)
 }
@@ -68,9 +69,9 @@ fn instant(args: &Args, circuit: &Circuit, name: &str) -> Result<Option<u32>, St
 }
 
 /// The last instant that is shown: a little after the finish.
-fn last(circuit: &Circuit, words: &Words, from: u32) -> Result<u32, Refusal> {
+fn last(circuit: &Circuit, start: &Store, from: u32) -> Result<u32, Refusal> {
     let most = from + MOST;
-    let (mut state, mut answer) = product::begin(&circuit.file, words)?;
+    let (mut state, mut answer) = product::begin(&circuit.file, start)?;
     if !answer.ended {
         answer = product::go(&circuit.file, &mut state, most)?;
     }
@@ -101,9 +102,14 @@ fn json(waves: &Waveforms) -> Json {
         (
             "wires",
             Json::list(wires, |(wire, values)| {
+                let (cell, element) = match wire.shows {
+                    Shows::Cell(cell) => (Json::number(cell), Json::Null),
+                    Shows::Element(place) => (Json::Null, Json::text(store::name(place))),
+                };
                 Json::Object(vec![
                     ("name", Json::text(&wire.name)),
-                    ("cell", Json::number(wire.cell)),
+                    ("cell", cell),
+                    ("element", element),
                     ("values", Json::list(values, |value| Json::number(*value))),
                 ])
             }),

@@ -11,9 +11,10 @@ pub const COMMAND: Command = Command {
     usage: "LIST -o NET",
     about: "makes a netlist file of a list of cells, as 'hub cells' prints it or wired by hand",
     more: "A line is a cell, with its number or 'NAME:' in front or neither; inputs are numbers\n\
-        or names, start, ground, x0 to x15 among them. 'finish CELL' names the finish wire.\n\
-        Numbers that are left out, and the line 'idle memories', are memories that nothing\n\
-        writes to. Text after # is passed over.",
+        or names, start, ground, x0 to x15, a0 to a3 among them. 'finish CELL' names the\n\
+        finish wire. Numbers that are left out, and the lines 'idle memories' and 'idle arrays',\n\
+        are memories and arrays that nothing writes to; where no line is about arrays, they\n\
+        stand behind 'idle memories'. Text after # is passed over.",
     example: "hub cells examples/two_boards.hub | hub wire - -o two_boards.net",
     options: Options {
         valued: &["o"],

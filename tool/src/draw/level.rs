@@ -2,8 +2,8 @@
 //! each number of cells that a pulse or word has come through.
 
 use super::block::Block;
-use super::{memories, shown, with_finish};
-use crate::kinds::{inputs, MEMORY};
+use super::{shown, stores, with_finish};
+use crate::kinds::{inputs, is_store};
 use crate::types::Netlist;
 
 pub fn placed(netlist: &Netlist, all: bool) -> Block {
@@ -13,7 +13,7 @@ pub fn placed(netlist: &Netlist, all: bool) -> Block {
     let mut block = Block::default();
     for cell in 0..netlist.cells.len() as u16 {
         let at = usize::from(cell);
-        if !shown[at] || netlist.cells[at].kind == MEMORY {
+        if !shown[at] || is_store(netlist.cells[at].kind) {
             continue;
         }
         let column = levels[at];
@@ -21,7 +21,7 @@ pub fn placed(netlist: &Netlist, all: bool) -> Block {
         block = block.with(cell, column, rows[column]);
         rows[column] += 1;
     }
-    let words = memories(netlist, &shown);
+    let words = stores(netlist, &shown);
     let words = words
         .into_iter()
         .map(Block::cell)
@@ -29,7 +29,8 @@ pub fn placed(netlist: &Netlist, all: bool) -> Block {
     with_finish(block, netlist).beside(words.framed("words".to_string()))
 }
 
-/// For each cell how many cells lead to it, memories and loops left out.
+/// For each cell how many cells lead to it, memories, arrays and loops left
+/// out.
 fn levels(netlist: &Netlist) -> Vec<usize> {
     let mut levels = vec![None; netlist.cells.len()];
     for cell in 0..netlist.cells.len() {
@@ -51,7 +52,7 @@ fn level(
     let mut own = 0;
     for input in inputs(&netlist.cells[cell]) {
         let input = usize::from(input);
-        if netlist.cells[input].kind != MEMORY && !above.contains(&input) {
+        if !is_store(netlist.cells[input].kind) && !above.contains(&input) {
             own = own.max(1 + level(netlist, input, levels, above));
         }
     }

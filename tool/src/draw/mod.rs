@@ -12,7 +12,7 @@ mod scale;
 pub mod svg;
 
 use crate::input::Circuit;
-use crate::kinds::{inputs, is_control, IDLE, MEMORY};
+use crate::kinds::{inputs, is_control, is_idle, is_store, ADDRESS, ARRAY};
 use crate::labels;
 use crate::listing::words_of;
 use crate::types::{Fault, Netlist};
@@ -24,7 +24,7 @@ const FINISH: u16 = u16::MAX;
 /// What is drawn, with its places on the grid.
 struct Plan<'c> {
     netlist: &'c Netlist,
-    /// The variables of the memories, at their cells.
+    /// The variables of memories and arrays, at their cells.
     variables: Vec<Option<String>>,
     block: Block,
 }
@@ -41,7 +41,7 @@ impl<'c> Plan<'c> {
         };
         Ok(Plan {
             netlist,
-            variables: labels::of_memories(netlist),
+            variables: labels::of_stores(netlist),
             block,
         })
     }
@@ -60,9 +60,12 @@ impl<'c> Plan<'c> {
             return "finish".to_string();
         }
         let at = usize::from(cell);
-        match &self.variables[at] {
-            Some(variable) => format!("memory {variable}"),
-            None => title(&words_of(&self.netlist.cells[at]), self.inputs(cell).len()),
+        let own = &self.netlist.cells[at];
+        match (&self.variables[at], own.kind) {
+            (Some(array), ARRAY) => format!("array {array}"),
+            (Some(array), ADDRESS) => format!("address {array}"),
+            (Some(variable), _) => format!("memory {variable}"),
+            (None, _) => title(&words_of(own), self.inputs(cell).len()),
         }
     }
 
@@ -70,9 +73,12 @@ impl<'c> Plan<'c> {
         is_control(self.netlist.cells[usize::from(cell)].kind)
     }
 
-    /// The name by which a wire is known everywhere: that of a memory.
+    /// The name by which a wire is known everywhere: that of a memory or an
+    /// array. No cell reads an address.
     fn tag(&self, wire: u16) -> Option<&str> {
-        self.variables[usize::from(wire)].as_deref()
+        let at = usize::from(wire);
+        let name = self.variables[at].as_deref();
+        name.filter(|_| self.netlist.cells[at].kind != ADDRESS)
     }
 }
 
@@ -87,13 +93,13 @@ fn title(words: &str, inputs: usize) -> String {
     }
 }
 
-/// The cells that are drawn if not all are: no idle memories, and of those
-/// that every netlist has only what something drawn takes in.
+/// The cells that are drawn if not all are: no idle memories and arrays, and
+/// of those that every netlist has only what something drawn takes in.
 fn shown(netlist: &Netlist, all: bool) -> Vec<bool> {
     let mut shown: Vec<bool> = netlist
         .cells
         .iter()
-        .map(|cell| all || *cell != IDLE)
+        .map(|cell| all || !is_idle(cell))
         .collect();
     for fixed in [1, 2] {
         let takes =
@@ -116,11 +122,11 @@ fn with_finish(block: Block, netlist: &Netlist) -> Block {
     block.with(FINISH, column, row)
 }
 
-/// The memories that are drawn, one below the other.
-fn memories(netlist: &Netlist, shown: &[bool]) -> Vec<u16> {
-    let memory = |cell: &u16| {
+/// The cells of memories and arrays that are drawn, one below the other.
+fn stores(netlist: &Netlist, shown: &[bool]) -> Vec<u16> {
+    let store = |cell: &u16| {
         let at = usize::from(*cell);
-        netlist.cells[at].kind == MEMORY && shown[at]
+        is_store(netlist.cells[at].kind) && shown[at]
     };
-    (0..netlist.cells.len() as u16).filter(memory).collect()
+    (0..netlist.cells.len() as u16).filter(store).collect()
 }

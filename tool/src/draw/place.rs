@@ -2,11 +2,11 @@
 //! parts in the order in which the pulse goes through them.
 
 use super::block::Block;
-use super::{memories, shown, with_finish};
+use super::{shown, stores, with_finish};
 use crate::format::Tree;
 use crate::labels::Labels;
 use crate::origin::Trace;
-use crate::types::Netlist;
+use crate::types::{Netlist, Node};
 use std::collections::HashMap;
 
 /// How many columns a sequence may take before its parts go below each other.
@@ -52,7 +52,7 @@ impl<'p> Places<'p> {
     fn statement(&self, tree: &Tree) -> Block {
         let block = match tree.node.kind {
             17 => Block::cell(self.cell(tree, "delay")),
-            18 => self.assignment(tree),
+            18 | 24 => self.assignment(tree),
             19 => return self.sequence(tree),
             20 => self.parallel(tree),
             21 => self.choice(tree),
@@ -83,15 +83,23 @@ impl<'p> Places<'p> {
         block.with(own, width, 0)
     }
 
+    /// The value with its gate and, below, an element's index with its own.
     fn assignment(&self, tree: &Tree) -> Block {
-        let value = self.expression(&tree.parts[0]);
-        let gate = value.width.max(1);
-        let column = gate - value.width;
-        Block::default()
+        let roles = ["gate", "index gate"];
+        let parts = tree.parts.iter().rev().zip(roles);
+        let parts: Vec<(Block, u16)> = parts
+            .map(|(part, role)| (self.expression(part), self.cell(tree, role)))
+            .collect();
+        let width = parts.iter().map(|(part, _)| part.width).max();
+        let gate = width.unwrap_or(0).max(1);
+        let mut block = Block::default()
             .with(self.cell(tree, "delay"), gate - 1, 0)
-            .with(self.cell(tree, "finish"), gate, 0)
-            .with(self.cell(tree, "gate"), gate, 1)
-            .and(value, column, 1)
+            .with(self.cell(tree, "finish"), gate, 0);
+        for (part, own) in parts {
+            let (column, row) = (gate - part.width, block.height);
+            block = block.with(own, gate, row).and(part, column, row);
+        }
+        block
     }
 
     fn sequence(&self, tree: &Tree) -> Block {
@@ -169,29 +177,35 @@ impl<'p> Places<'p> {
             .with(self.cell(tree, "again"), switch, 1)
     }
 
-    /// The memories, each with the ors that join its clocks and its data.
+    /// Memories and arrays, each with the ors that join its clocks and data, an
+    /// address with those that join its indices.
     fn words(&self, netlist: &Netlist, shown: &[bool]) -> Block {
         let mut block = Block::default();
         let joined = (0..netlist.cells.len() as u16).any(|cell| self.joins(cell).is_some());
-        for memory in memories(netlist, shown) {
-            let variable = memory - self.trace.first_memory;
-            let own = |cell: &u16| self.joins(*cell) == Some(variable);
+        for store in stores(netlist, shown) {
+            let own = |cell: &u16| self.joins(*cell) == Some(store);
             let row = block.height;
             let joins = (0..netlist.cells.len() as u16).filter(own);
             for (below, join) in joins.enumerate() {
                 block = block.with(join, 0, row + below);
             }
-            block = block.with(memory, usize::from(joined), row);
+            block = block.with(store, usize::from(joined), row);
         }
         block.framed("words".to_string())
     }
 
-    /// The variable whose clocks or data a cell joins.
+    /// The cell of the memory or array whose clocks, data or indices a cell
+    /// joins.
     fn joins(&self, cell: u16) -> Option<u16> {
         let origin = self.trace.origins[usize::from(cell)];
-        let joins = matches!(origin.role, "clock" | "data");
+        let joins = matches!(origin.role, "clock" | "data" | "address");
         let node = origin.node.filter(|_| joins)?;
-        Some(find(&self.labels.tree, node)?.node.n)
+        let Node { kind, n, .. } = find(&self.labels.tree, node)?.node;
+        Some(match (kind, origin.role) {
+            (24, "address") => self.trace.array(n) + 1,
+            (24, _) => self.trace.array(n),
+            _ => self.trace.first_memory + n,
+        })
     }
 }
 

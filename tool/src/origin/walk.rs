@@ -1,11 +1,12 @@
 //! The layout of a program's cells, with the node and the role of each.
 
-use super::{subtree_end, Ends, Trace};
+use super::{array_behind, subtree_end, Ends, Trace};
+use crate::store::{ARRAYS, VARIABLES};
 use crate::types::{Cell, Netlist, Node, Origin};
 
-/// For each variable, the wires that its assignments contribute, with the
-/// assignment.
-type Contributions = [Vec<(u16, usize)>; 16];
+/// For each variable and, behind them, each array, the wires that its
+/// assignments contribute, with the assignment.
+type Contributions = [Vec<(u16, usize)>; VARIABLES + ARRAYS];
 
 /// The netlist of an accepted program's nodes, and where its cells come from.
 pub fn lay_out(nodes: &[Node]) -> (Netlist, Trace) {
@@ -15,17 +16,10 @@ pub fn lay_out(nodes: &[Node]) -> (Netlist, Trace) {
     walk.put(Cell::new(1, 0, 0, 0), None, "zero");
     let clocks = walk.delays();
     let clocks = walk.joined(35, &clocks, 1, "clock");
-    walk.first_memory = walk.cells.len() as u16;
-    for clock in clocks {
-        walk.put(Cell::new(40, 0, clock, 0), None, "memory");
-    }
+    walk.stores(&clocks);
     walk.next_delay = 3;
     let finish = walk.statement(0, 0);
-    let gates = std::mem::take(&mut walk.gates);
-    let data = walk.joined(7, &gates, 2, "data");
-    for (memory, data) in (usize::from(walk.first_memory)..).zip(data) {
-        walk.cells[memory].b = data;
-    }
+    walk.feed_stores();
     walk.found(finish)
 }
 
@@ -36,6 +30,8 @@ struct Walk<'a> {
     ends: Vec<Option<Ends>>,
     values: Vec<Option<u16>>,
     gates: Contributions,
+    /// Those of the indices; variables have none.
+    index_gates: Contributions,
     first_memory: u16,
     /// The delay cell of the next statement that has one: they were put in
     /// node order, and the walk comes to each when it is next.
@@ -51,6 +47,7 @@ impl<'a> Walk<'a> {
             ends: vec![None; nodes.len()],
             values: vec![None; nodes.len()],
             gates: Contributions::default(),
+            index_gates: Contributions::default(),
             first_memory: 0,
             next_delay: 0,
         }
@@ -89,12 +86,47 @@ impl<'a> Walk<'a> {
                 continue;
             }
             let first = self.put(Cell::new(34, node.delay, 0, 0), Some(k), "delay");
-            if node.kind == 18 {
+            if let Some(written) = written(node) {
                 self.put(Cell::new(34, 1, first, 0), Some(k), "finish");
-                clocks[usize::from(node.n)].push((first, k));
+                clocks[written].push((first, k));
             }
         }
         clocks
+    }
+
+    /// The memories, and behind them the arrays, each with its address.
+    fn stores(&mut self, clocks: &[u16; VARIABLES + ARRAYS]) {
+        let (memories, arrays) = clocks.split_at(VARIABLES);
+        self.first_memory = self.cells.len() as u16;
+        for clock in memories {
+            self.put(Cell::new(40, 0, *clock, 0), None, "memory");
+        }
+        for (array, clock) in (0..).zip(arrays) {
+            self.put(Cell::new(42, array, *clock, 0), None, "array");
+            self.put(Cell::new(43, 0, 0, 0), None, "address");
+        }
+    }
+
+    /// Joins the data of variables and arrays, then the addresses of arrays.
+    fn feed_stores(&mut self) {
+        let gates = std::mem::take(&mut self.gates);
+        let data = self.joined(7, &gates, 2, "data");
+        let gates = std::mem::take(&mut self.index_gates);
+        let addresses = self.joined(7, &gates, 2, "address");
+        for (number, (data, address)) in data.into_iter().zip(addresses).enumerate() {
+            match number.checked_sub(VARIABLES) {
+                None => self.cells[usize::from(self.first_memory) + number].b = data,
+                Some(array) => {
+                    let cell = usize::from(self.array(array as u16));
+                    self.cells[cell].b = data;
+                    self.cells[cell + 1].a = address;
+                }
+            }
+        }
+    }
+
+    fn array(&self, array: u16) -> u16 {
+        array_behind(self.first_memory, array)
     }
 
     /// The wire that joins each variable's wires; `none` where there are none.
@@ -104,7 +136,7 @@ impl<'a> Walk<'a> {
         contributions: &Contributions,
         none: u16,
         role: &'static str,
-    ) -> [u16; 16] {
+    ) -> [u16; VARIABLES + ARRAYS] {
         std::array::from_fn(|variable| {
             let mut so_far = None;
             for (wire, node) in &contributions[variable] {
@@ -143,6 +175,10 @@ impl<'a> Walk<'a> {
                 let a = self.expression(at + 1);
                 self.cell(3, [a, 0], at, "value")
             }
+            10 => {
+                let index = self.expression(at + 1);
+                self.cell(44, [self.array(n), index], at, "value")
+            }
             _ => {
                 let a = self.expression(at + 1);
                 let b = self.expression(subtree_end(self.nodes, at + 1));
@@ -170,6 +206,7 @@ impl<'a> Walk<'a> {
             }
             21 => self.choice(at, start),
             22 => self.while_loop(at, start),
+            24 => self.element_assignment(at, start),
             _ => self.repeat_loop(at, start),
         };
         self.ends[at] = Some(Ends { start, finish });
@@ -182,6 +219,19 @@ impl<'a> Walk<'a> {
         let value = self.expression(at + 1);
         let gate = self.cell(41, [first, value], at, "gate");
         self.gates[usize::from(self.nodes[at].n)].push((gate, at));
+        second
+    }
+
+    fn element_assignment(&mut self, at: usize, start: u16) -> u16 {
+        let first = self.delayed(start);
+        let second = self.take_delay();
+        let index = self.expression(at + 1);
+        let value = self.expression(subtree_end(self.nodes, at + 1));
+        let gate = self.cell(41, [first, value], at, "gate");
+        let index_gate = self.cell(41, [first, index], at, "index gate");
+        let array = VARIABLES + usize::from(self.nodes[at].n);
+        self.gates[array].push((gate, at));
+        self.index_gates[array].push((index_gate, at));
         second
     }
 
@@ -219,5 +269,14 @@ impl<'a> Walk<'a> {
         let p_finish = self.statement(subtree_end(self.nodes, at + 1), p_start);
         self.feed(delay, p_finish);
         finish
+    }
+}
+
+/// The variable, or behind them the array, that an assignment writes.
+fn written(node: &Node) -> Option<usize> {
+    match node.kind {
+        18 => Some(usize::from(node.n)),
+        24 => Some(VARIABLES + usize::from(node.n)),
+        _ => None,
     }
 }

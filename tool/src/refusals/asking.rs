@@ -1,8 +1,10 @@
 //! What a refusal leaves to be found out, by asking the product about programs,
 //! texts and netlists that differ a little from the refused one.
 
+use crate::kinds::idle_array;
 use crate::origin::subtree_end;
 use crate::product;
+use crate::store::ARRAYS;
 use crate::types::{Cell, Netlist, Node, Refusal, Table};
 
 /// The least delay of a node whose program has no other delay that is too
@@ -26,11 +28,13 @@ pub fn has_delay(table: Table, nodes: &[Node], node: usize) -> bool {
 
 /// The first uses, one on each side, for which a parallel node is refused. The
 /// product is asked about the parallel node with these two uses alone: other
-/// reads become constants, and other writes go to variables of each side's own.
+/// reads become constants, and other writes, and reads of elements, go to
+/// variables and arrays of each side's own.
 pub fn clash(table: Table, nodes: &[Node], parallel: usize) -> Option<[usize; 2]> {
     let middle = subtree_end(nodes, parallel + 1);
     let end = subtree_end(nodes, middle);
-    let uses = |from: usize, to: usize| (from..to).filter(|k| matches!(nodes[*k].kind, 2 | 18));
+    let uses =
+        |from: usize, to: usize| (from..to).filter(|k| matches!(nodes[*k].kind, 2 | 10 | 18 | 24));
     for left in uses(parallel + 1, middle) {
         for right in uses(middle, end) {
             let alone = with_uses(&nodes[..end], parallel, middle, [left, right]);
@@ -42,18 +46,21 @@ pub fn clash(table: Table, nodes: &[Node], parallel: usize) -> Option<[usize; 2]
     None
 }
 
-/// A parallel node as a program, with two uses of variables as they are.
+/// A parallel node as a program, with two uses of variables or arrays as they
+/// are.
 fn with_uses(nodes: &[Node], parallel: usize, middle: usize, kept: [usize; 2]) -> Vec<Node> {
     let taken = kept.map(|k| nodes[k].n);
-    let mut free = (0..16).filter(|variable| !taken.contains(variable));
-    let [left, right] = [free.next(), free.next()].map(|variable| variable.unwrap_or(0));
+    // Two of the four arrays are free, and these are numbers of variables too.
+    let mut free = (0..ARRAYS as u16).filter(|number| !taken.contains(number));
+    let [left, right] = [free.next(), free.next()].map(|number| number.unwrap_or(0));
     let changed = |(k, node): (usize, &Node)| match node.kind {
-        2 if !kept.contains(&k) => Node {
+        _ if kept.contains(&k) => *node,
+        2 => Node {
             kind: 1,
             delay: 0,
             n: 0,
         },
-        18 if !kept.contains(&k) => Node {
+        10 | 18 | 24 => Node {
             n: if k < middle { left } else { right },
             ..*node
         },
@@ -81,7 +88,8 @@ pub fn finish_alone(netlist: &Netlist) -> bool {
     product::check_netlist(&started).is_ok()
 }
 
-/// The field of a refused cell that some other value would do for.
+/// The field of a refused cell that some other value would do for, or `array`
+/// where an array, or its address, would.
 pub fn wrong_field(netlist: &Netlist, place: usize) -> Option<&'static str> {
     let fits = |change: &dyn Fn(&mut Cell)| {
         let mut changed = netlist.clone();
@@ -95,11 +103,17 @@ pub fn wrong_field(netlist: &Netlist, place: usize) -> Option<&'static str> {
         Some("a")
     } else if wires.clone().any(|b| fits(&|cell| cell.b = b)) {
         Some("b")
+    } else if idle_arrays().any(|idle| fits(&|cell| *cell = idle)) {
+        Some("array")
     } else if (0..=255).any(|kind| fits(&|cell| cell.kind = kind)) {
         Some("kind")
     } else {
         None
     }
+}
+
+fn idle_arrays() -> impl Iterator<Item = Cell> {
+    (0..ARRAYS as u8).flat_map(idle_array)
 }
 
 /// What may stand in a text: words, with an example of each.

@@ -1,7 +1,9 @@
 //! Refusals 9 to 12, of netlists.
 
 use super::{asking, plain, Report};
+use crate::kinds::{ADDRESS, ARRAY, MEMORY};
 use crate::layout::netlist_in;
+use crate::store::VARIABLES;
 use crate::types::{Cell, Netlist, Refusal};
 
 /// The report of a refusal that cells met which were wired by hand.
@@ -23,15 +25,12 @@ pub fn of_file(mut report: Report, file: &[u8]) -> Report {
     report
 }
 
-/// Refusal 12: a cell, the number of memories, or the finish.
+/// Refusal 12: a cell, the number of memories, arrays that are cut off, or the
+/// finish.
 fn of_cell(mut report: Report, netlist: &Netlist) -> Report {
     let place = report.refusal.place;
     let Some(Cell { kind, delay, a, b }) = netlist.cells.get(place).copied() else {
-        let memories = netlist.cells.iter().filter(|cell| cell.kind == 40).count();
-        report.rule = "a netlist has exactly sixteen memories, kind 40".into();
-        report.remedy = "add memories, or take some away".into();
-        report.found = Some(format!("{memories} memories among {place} cells"));
-        return report;
+        return of_all(report, netlist);
     };
     report.found = Some(format!(
         "cell {place} has kind {kind}, delay {delay}, a {a}, b {b}"
@@ -43,19 +42,18 @@ fn of_cell(mut report: Report, netlist: &Netlist) -> Report {
     }
     let (rule, remedy) = match asking::wrong_field(netlist, place) {
         Some("delay") => ("this cell's delay doesn't fit its kind", "change its delay"),
-        Some("a") => (
-            "this cell's input a doesn't fit",
-            "name a cell of the right sort, control or word; \
-             only a delay's input and a memory's data may stand higher than the cell",
-        ),
-        Some("b") => (
-            "this cell's input b doesn't fit",
-            "name a cell of the right sort, control or word; \
-             only a delay's input and a memory's data may stand higher than the cell",
+        Some("a") => ("this cell's input a doesn't fit", INPUTS),
+        Some("b") => ("this cell's input b doesn't fit", INPUTS),
+        Some("array") => (
+            "an array, or its address, belongs here: right after the sixteenth memory stand \
+             the four arrays, each with its address behind it",
+            "put the cells of arrays there, all eight; 'idle arrays' is a line for those that \
+             nothing writes to",
         ),
         Some(_) => (
             "a cell of this kind doesn't belong here",
-            "begin with start, ground and constant 0, which stand nowhere else but there, \
+            "begin with start, ground and constant 0, put the arrays right after the sixteenth \
+             memory, each with its address behind it, all of them nowhere else but there, \
              and use kinds that cells have",
         ),
         None => return report,
@@ -63,4 +61,37 @@ fn of_cell(mut report: Report, netlist: &Netlist) -> Report {
     report.rule = rule.into();
     report.remedy = remedy.into();
     report
+}
+
+const INPUTS: &str = "name a cell of the right sort, control or word, an array for an element and \
+    nowhere else; only a delay's input, a memory's data, and an array's data and address may stand \
+    higher than the cell";
+
+/// Refusal 12 with the number of cells as its place.
+fn of_all(report: Report, netlist: &Netlist) -> Report {
+    let counted = |kind: u8| {
+        netlist
+            .cells
+            .iter()
+            .filter(|cell| cell.kind == kind)
+            .count()
+    };
+    let cells = netlist.cells.len();
+    let memories = counted(MEMORY);
+    if memories != VARIABLES {
+        return Report {
+            rule: "a netlist has exactly sixteen memories, kind 40".into(),
+            remedy: "add memories, or take some away".into(),
+            found: Some(format!("{memories} memories among {cells} cells")),
+            ..report
+        };
+    }
+    let (arrays, addresses) = (counted(ARRAY), counted(ADDRESS));
+    Report {
+        rule: "a netlist has four arrays, kind 42, each with its address, kind 43, behind it"
+            .into(),
+        remedy: "put all eight cells right after the sixteenth memory".into(),
+        found: Some(format!("{arrays} arrays and {addresses} addresses")),
+        ..report
+    }
 }

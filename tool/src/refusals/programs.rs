@@ -2,9 +2,9 @@
 
 use super::{asking, least_delay, Mark, Report};
 use crate::answers::counted;
-use crate::input::Given;
+use crate::input::{Form, Given};
 use crate::product;
-use crate::source::{self, Source};
+use crate::source::Source;
 use crate::types::{Fault, Node, Refusal};
 
 /// The refusal of a program that was given as its bytes.
@@ -12,11 +12,11 @@ pub fn of_bytes(report: Report, given: &Given) -> Report {
     of_nodes(report, given, &product::nodes(&given.bytes), None)
 }
 
-/// Refusals 1 to 8 of a text's program. The product doesn't tell the bytes of
-/// a program that it refuses: it is asked about the tool's own reading, which
-/// must meet the same refusal.
-pub fn of_text(report: Report, given: &Given) -> Result<Report, Fault> {
-    let source = source::read(&given.bytes).map_err(|_| given.misread())?;
+/// Refusals 1 to 8 of a text's or an outline's program. The product doesn't
+/// tell the bytes of a text's program that it refuses: it is asked about the
+/// tool's own reading, which must meet the same refusal.
+pub fn of_source(report: Report, given: &Given) -> Result<Report, Fault> {
+    let source = given.source()?;
     let bytes = product::program_bytes(&source.nodes);
     if product::check(given.table(), &bytes) != Err(report.refusal) {
         return Err(given.misread());
@@ -25,8 +25,7 @@ pub fn of_text(report: Report, given: &Given) -> Result<Report, Fault> {
 }
 
 fn of_nodes(mut report: Report, given: &Given, nodes: &[Node], source: Option<&Source>) -> Report {
-    let Refusal { number, place } = report.refusal;
-    match number {
+    match report.refusal.number {
         1 if source.is_none() => {
             report.found = Some(format!("{} bytes", given.bytes.len()));
         }
@@ -36,18 +35,38 @@ fn of_nodes(mut report: Report, given: &Given, nodes: &[Node], source: Option<&S
         }
         7 => of_delay(&mut report, given, nodes, source),
         8 => of_clash(&mut report, given, nodes, source),
-        _ => report.found = Some(node_shown(nodes, place)),
+        _ => of_node(&mut report, given, nodes, source),
     }
     report
+}
+
+/// Refusals 2 to 6, at a node or at the end of all.
+fn of_node(report: &mut Report, given: &Given, nodes: &[Node], source: Option<&Source>) {
+    let Refusal { number, place } = report.refusal;
+    if number == 4 {
+        let (rule, remedy) = match is_array(nodes[place]) {
+            true => ("this node names an array above a3", "use a0 to a3"),
+            false => ("this node names a variable above x15", "use x0 to x15"),
+        };
+        (report.rule, report.remedy) = (rule.into(), remedy.into());
+    }
+    match source.and_then(|source| source.places.get(place)) {
+        Some(found) => report.marks = vec![Mark::new(&given.bytes, found.whole, "")],
+        None => report.found = Some(node_shown(nodes, place)),
+    }
 }
 
 fn of_delay(report: &mut Report, given: &Given, nodes: &[Node], source: Option<&Source>) {
     let place = report.refusal.place;
     report.least = least_delay(given.table(), nodes, place);
-    let written = match (source, nodes[place].kind) {
-        (None, _) => "set it to ",
-        (_, 17) => "write tick ",
-        _ => "write @",
+    if nodes[place].kind == 24 {
+        let settle = "for index and value, which both have to settle in it";
+        report.rule = format!("this delay is too small {settle}");
+    }
+    let written = match (given.form, nodes[place].kind) {
+        (Form::Text, 17) => "write tick ",
+        (Form::Text | Form::Outline, _) => "write @",
+        _ => "set it to ",
     };
     report.remedy = match report.least {
         Some(least) => format!("the least delay here is {least}: {written}{least} or more"),
@@ -69,18 +88,29 @@ fn of_clash(report: &mut Report, given: &Given, nodes: &[Node], source: Option<&
     let Some(uses) = asking::clash(given.table(), nodes, place) else {
         return;
     };
-    let variable = nodes[uses[0]].n;
-    report.variable = Some(variable);
     report.uses = Some(uses);
-    let told = uses.map(|node| format!("x{variable} is {} here", done(nodes[node])));
+    let Node { n, .. } = nodes[uses[0]];
+    let (name, thing) = match is_array(nodes[uses[0]]) {
+        true => (format!("a{n}"), "array"),
+        false => (format!("x{n}"), "variable"),
+    };
+    let own = |of: &str| (thing == of).then_some(n);
+    (report.variable, report.array) = (own("variable"), own("array"));
+    let told = uses.map(|node| format!("{name} is {} here", done(nodes[node])));
     report.rule = match uses.map(|node| done(nodes[node])) {
         [left, right] if left == right => {
-            format!("x{variable} is {left} on both sides of a parallel statement")
+            format!("{name} is {left} on both sides of a parallel statement")
         }
-        [left, right] => format!(
-            "x{variable} is {left} on one side of a parallel statement and {right} on the other"
-        ),
+        [left, right] => {
+            format!("{name} is {left} on one side of a parallel statement and {right} on the other")
+        }
     };
+    let apart = match given.form {
+        Form::Text => "with ';'",
+        _ => "in a sequence",
+    };
+    report.remedy =
+        format!("use another {thing} on one side, or put the sides one after the other {apart}");
     match source {
         Some(source) => {
             let mark = |span, caption| Mark::new(&given.bytes, span, caption);
@@ -100,12 +130,17 @@ fn of_clash(report: &mut Report, given: &Given, nodes: &[Node], source: Option<&
     }
 }
 
-/// What a use does to its variable.
+/// What a use does to its variable or array.
 fn done(node: Node) -> &'static str {
     match node.kind {
-        18 => "written",
+        18 | 24 => "written",
         _ => "read",
     }
+}
+
+/// Whether a node is about an array.
+fn is_array(node: Node) -> bool {
+    matches!(node.kind, 10 | 24)
 }
 
 fn node_shown(nodes: &[Node], place: usize) -> String {

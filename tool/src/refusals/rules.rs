@@ -56,7 +56,7 @@ pub const RULES: &[Rule] = &[
         2,
         Counts::Nodes,
         "this node has a kind that no node has",
-        "use a kind from 1 to 9 or from 16 to 23",
+        "use a kind from 1 to 10 or from 16 to 24",
     ),
     rule_of(
         3,
@@ -67,8 +67,8 @@ pub const RULES: &[Rule] = &[
     rule_of(
         4,
         Counts::Nodes,
-        "this node names a variable above x15",
-        "use x0 to x15",
+        "this node names a variable above x15, or an array above a3",
+        "use x0 to x15, and a0 to a3",
     ),
     rule_of(
         5,
@@ -91,8 +91,8 @@ pub const RULES: &[Rule] = &[
     rule_of(
         8,
         Counts::Nodes,
-        "the two sides of a parallel statement share a variable that one of them writes",
-        "use another variable on one side, or put the sides one after the other with ';'",
+        "the two sides of a parallel statement share a variable or an array that one of them writes",
+        "use another one on one side, or put the sides one after the other",
     ),
     rule_of(
         9,
@@ -110,7 +110,7 @@ pub const RULES: &[Rule] = &[
         11,
         Counts::Blocks,
         "this block's header is wrong, or a byte without a use isn't zero; \
-         a netlist has 19 to 1,024 cells, and the finish is one of them",
+         a netlist has 27 to 1,024 cells, and the finish is one of them",
         "make the file again, from the program or the list",
     ),
     rule_of(
@@ -171,8 +171,8 @@ pub const RULES: &[Rule] = &[
     rule_of(
         21,
         Counts::Bytes,
-        "this byte of the table is wrong: constants and variables take 0, operators 1 to 200, \
-         and all other bytes are fixed",
+        "this byte of the table is wrong: constants and variables take 0, operators and elements \
+         1 to 200, and all other bytes are fixed",
         "make the table again with 'hub times'",
     ),
 ];

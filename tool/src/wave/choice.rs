@@ -1,14 +1,15 @@
 //! The wires that are shown: those that have names in every circuit, those of
 //! a program's statements, and those that were asked for.
 
-use super::Wire;
+use super::{Shows, Wire};
 use crate::input::Circuit;
-use crate::kinds::{is_control, IDLE, NODES};
+use crate::kinds::{is_control, is_idle, NODES};
 use crate::labels::{self, Labels};
+use crate::store;
 use crate::types::{Fault, Netlist};
 
-/// The wires asked for, or else those that have a name: all, or all but memories
-/// that nothing writes to.
+/// The wires asked for, elements among them, or else those that have a name:
+/// all, or all but memories that nothing writes to.
 pub fn wires(
     circuit: &Circuit,
     text: &[u8],
@@ -33,7 +34,10 @@ pub fn wires(
 
 /// Whether a wire is more than an idle memory.
 fn moves(circuit: &Circuit, wire: &Wire) -> bool {
-    circuit.netlist.cells[usize::from(wire.cell)] != IDLE
+    match wire.shows {
+        Shows::Cell(cell) => !is_idle(&circuit.netlist.cells[usize::from(cell)]),
+        Shows::Element(_) => true,
+    }
 }
 
 /// Start, finish and the memories.
@@ -84,12 +88,13 @@ fn wire(netlist: &Netlist, name: String, cell: u16) -> Wire {
     Wire {
         name,
         about: String::new(),
-        cell,
+        shows: Shows::Cell(cell),
         control: is_control(netlist.cells[usize::from(cell)].kind),
     }
 }
 
-/// A wire by its name or its cell, also under a name of its own: NAME=WIRE.
+/// A wire by its name or its cell, or an element, also under a name of its own:
+/// NAME=WIRE.
 fn chosen(named: &[Wire], netlist: &Netlist, word: &str) -> Result<Wire, Fault> {
     let (own, wire) = match word.split_once('=') {
         Some((own, wire)) => (Some(name_of(own)?), wire),
@@ -97,7 +102,9 @@ fn chosen(named: &[Wire], netlist: &Netlist, word: &str) -> Result<Wire, Fault> 
     };
     let found = match named.iter().find(|known| known.name == wire) {
         Some(known) => known.clone(),
-        None => of_cell(netlist, wire).ok_or_else(|| unknown(named, wire))?,
+        None => of_cell(netlist, wire)
+            .or_else(|| of_element(wire))
+            .ok_or_else(|| unknown(named, wire))?,
     };
     Ok(match own {
         Some(name) => Wire {
@@ -127,10 +134,20 @@ fn of_cell(netlist: &Netlist, number: &str) -> Option<Wire> {
     there.then(|| wire(netlist, format!("cell{cell}"), cell))
 }
 
+fn of_element(name: &str) -> Option<Wire> {
+    let place = store::place(name).filter(|place| store::OF_ARRAYS.contains(place))?;
+    Some(Wire {
+        name: name.to_string(),
+        about: String::new(),
+        shows: Shows::Element(place),
+        control: false,
+    })
+}
+
 fn unknown(named: &[Wire], name: &str) -> Fault {
     let names: Vec<&str> = named.iter().map(|wire| wire.name.as_str()).collect();
     let names = names.join(", ");
     Fault::usage(format!(
-        "no wire is called '{name}'; there are cells by number, and {names}"
+        "no wire is called '{name}'; there are cells by number, elements as a2[5], and {names}"
     ))
 }

@@ -10,12 +10,19 @@ pub mod vcd;
 /// A wire that is shown.
 #[derive(Clone, Debug, PartialEq, Eq)]
 pub struct Wire {
-    /// As `start`, `x0`, or for a statement `while1.start`.
+    /// As `start`, `x0`, `a2[5]`, or for a statement `while1.start`.
     pub name: String,
     /// What it belongs to, in words; may be empty.
     pub about: String,
-    pub cell: u16,
+    pub shows: Shows,
     pub control: bool,
+}
+
+/// What a wire shows: a cell, or an element by its place in the store.
+#[derive(Clone, Copy, Debug, PartialEq, Eq)]
+pub enum Shows {
+    Cell(u16),
+    Element(usize),
 }
 
 /// The values of wires from one instant up to another, that one too.

@@ -1,24 +1,29 @@
 //! A run, one instant at a time, and what wires show in it.
 
-use super::{Waveforms, Wire};
-use crate::layout::value_in;
+use super::{Shows, Waveforms, Wire};
+use crate::layout::{element_in, netlist_in, value_in};
 use crate::product;
-use crate::types::{Refusal, Words};
+use crate::store::Store;
+use crate::types::Refusal;
 
 /// The values of these wires from one instant up to another.
 pub fn record(
     file: &[u8],
-    words: &Words,
+    start: &Store,
     wires: Vec<Wire>,
     from: u32,
     to: u32,
 ) -> Result<Waveforms, Refusal> {
-    let (mut state, _) = product::begin(file, words)?;
+    let (mut state, _) = product::begin(file, start)?;
+    let cells = netlist_in(file).cells.len();
     reach(file, &mut state, from)?;
     let mut values = vec![Vec::new(); wires.len()];
     for instant in from..=to {
         for (wire, values) in wires.iter().zip(&mut values) {
-            values.push(value_in(&state, wire.cell));
+            values.push(match wire.shows {
+                Shows::Cell(cell) => value_in(&state, cell),
+                Shows::Element(place) => element_in(&state, cells, place),
+            });
         }
         if instant < to {
             product::go(file, &mut state, 1)?;

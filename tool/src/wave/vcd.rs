@@ -46,7 +46,8 @@ fn enter<'w>(text: &mut String, open: &mut Option<&'w str>, next: Option<&'w str
 }
 
 fn declare(text: &mut String, wire: &Wire, number: usize) {
-    let name = split(&wire.name).1;
+    // In a dump brackets are for bits: an element is called a2_5.
+    let name = split(&wire.name).1.replace('[', "_").replace(']', "");
     let _ = match wire.control {
         true => writeln!(text, "$var wire 1 {} {name} $end", code(number)),
         false => writeln!(text, "$var wire 16 {} {name} [15:0] $end", code(number)),

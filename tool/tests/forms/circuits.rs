@@ -12,6 +12,11 @@ pub fn of_text(text: &str) -> Circuit {
     of(Form::Text, text.as_bytes())
 }
 
+/// The circuit of an outline.
+pub fn of_outline(text: &str) -> Circuit {
+    of(Form::Outline, text.as_bytes())
+}
+
 fn of(form: Form, bytes: &[u8]) -> Circuit {
     let given = Given {
         name: "a program".to_string(),

@@ -1,21 +1,26 @@
 //! What the tool knows of kinds, held against the product.
 
-use hub::kinds::{is_control, CELLS, IDLE, MEMORY};
+use hub::kinds::{idle_array, is_control, is_idle, is_store, CELLS, IDLE, MEMORY};
 use hub::types::{Cell, Netlist, Refusal};
 use hub::{listing, product};
 
-/// A small netlist with a cell of this kind, and that cell's number.
+/// A small netlist with a cell of this kind, and that cell's number. Arrays
+/// stand behind the memories, and elements behind the arrays.
 fn with(words: &str) -> (Netlist, u16) {
     let fixed = "finish start\nstart\nground\nconstant 0\n";
     let words = ["{d}", "{n}"]
         .iter()
         .fold(words.to_string(), |w, field| w.replace(field, "3"));
-    let (cell, list) = match words.as_str() {
-        "start" => (0, fixed.to_string()),
-        "ground" => (1, fixed.to_string()),
-        _ => (3, format!("{fixed}{words}\n")),
+    let (cell, before, behind) = match words.split(' ').next() {
+        Some("start") => (0, "", ""),
+        Some("ground") => (1, "", ""),
+        Some("array") => (25, "", ""),
+        Some("address") => (26, "", ""),
+        Some("element") => (27, "", words.as_str()),
+        _ => (3, words.as_str(), ""),
     };
-    let listed = listing::wired(&(list + "idle memories\n")).expect("a list");
+    let list = format!("{fixed}{before}\nidle memories\n{behind}\n");
+    let listed = listing::wired(&list).expect("a list");
     (listed.netlist, cell)
 }
 
@@ -24,7 +29,8 @@ fn with(words: &str) -> (Netlist, u16) {
 fn wired(kind: u8, words: &str) -> String {
     let [a, b] = match kind {
         34 | 35 | 38 => ["start", "start"],
-        36 | 37 | 40 | 41 => ["start", "2"],
+        36 | 37 | 40 | 41 | 42 => ["start", "2"],
+        44 => ["a0", "2"],
         _ => ["2", "2"],
     };
     words.replace("{a}", a).replace("{b}", b)
@@ -34,6 +40,7 @@ fn wired(kind: u8, words: &str) -> String {
 fn control_wires_are_those_that_may_be_the_finish() {
     for template in CELLS.kinds {
         let (mut netlist, cell) = with(&wired(template.kind, template.words));
+        assert_eq!(netlist.cells[usize::from(cell)].kind, template.kind);
         let accepted = product::write_netlist(&netlist);
         assert!(accepted.is_ok(), "{}: {accepted:?}", template.words);
         netlist.finish = cell;
@@ -68,16 +75,20 @@ fn accepted_at_3(cell: Cell) -> bool {
     let (mut netlist, _) = with("start");
     netlist.cells.insert(3, cell);
     if cell.kind == MEMORY {
-        netlist.cells.pop();
+        netlist.cells.remove(4);
     }
     product::write_netlist(&netlist).is_ok()
 }
 
-/// An idle memory is what an unused word is compiled to.
+/// Idle memories and arrays are what unused words and arrays are compiled to.
 #[test]
-fn idle_memories_are_those_of_unused_words() {
+fn idle_memories_and_arrays_are_those_of_unused_words() {
     let ok = product::compile(None, &[16, 0, 0, 0]).expect("a netlist");
     let netlist = product::read_netlist(&ok).expect("cells");
-    let memories = netlist.cells.iter().filter(|cell| cell.kind == MEMORY);
-    assert_eq!(memories.filter(|cell| **cell == IDLE).count(), 16);
+    let arrays: Vec<Cell> = (0..4).flat_map(idle_array).collect();
+    assert_eq!(netlist.cells[3..19], [IDLE; 16]);
+    assert_eq!(netlist.cells[19..], arrays);
+    for cell in &netlist.cells {
+        assert_eq!(is_idle(cell), is_store(cell.kind), "{cell:?}");
+    }
 }

@@ -2,10 +2,10 @@
 //! through a cell, and no text on another; those of the examples are kept.
 
 use crate::circuits;
-use crate::programs::{examples, programs, top};
+use crate::programs::{examples, outlines, programs, top};
 use hub::draw::{dot, svg};
 use hub::input::Circuit;
-use hub::kinds::IDLE;
+use hub::kinds::is_idle;
 use hub::wave::{choice, record, vcd};
 use std::fs;
 use std::io::Write;
@@ -176,12 +176,12 @@ fn pictures_of_netlists_are_clear() {
     }
 }
 
-/// How many cells are drawn: no idle memories, and ground and zero only where
-/// something takes them in.
+/// How many cells are drawn: no idle memories and arrays, and ground and zero
+/// only where something takes them in.
 fn drawn(circuit: &Circuit) -> usize {
     let cells = &circuit.netlist.cells;
-    let idle = cells.iter().filter(|cell| **cell == IDLE).count();
-    let busy = || cells.iter().filter(|cell| **cell != IDLE);
+    let idle = cells.iter().filter(|cell| is_idle(cell)).count();
+    let busy = || cells.iter().filter(|cell| !is_idle(cell));
     let taken = |wire: u16| busy().any(|cell| hub::kinds::inputs(cell).contains(&wire));
     cells.len() - idle - [1, 2].into_iter().filter(|wire| !taken(*wire)).count()
 }
@@ -235,8 +235,13 @@ fn accepted(graph: &str) -> bool {
 #[test]
 fn pictures_of_the_examples_are_kept() {
     let folder = top().join("tool/tests/kept/pictures");
-    for (name, text) in examples() {
-        let circuit = circuits::of_text(&text);
+    let texts = examples()
+        .into_iter()
+        .map(|(name, text)| (name, circuits::of_text(&text), text));
+    let outlines = outlines()
+        .into_iter()
+        .map(|(name, text)| (name, circuits::of_outline(&text), text));
+    for (name, circuit, text) in texts.chain(outlines) {
         let bytes = text.as_bytes();
         let wires = choice::wires(&circuit, bytes, None, false).expect("wires");
         let words = std::array::from_fn(|k| 3 + k as u16);

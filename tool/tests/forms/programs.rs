@@ -1,8 +1,8 @@
 //! Programs to try the tool on: the examples, and accepted ones that are
 //! generated from a number, so that a failure can be tried again.
 
-use hub::product;
 use hub::types::Node;
+use hub::{assemble, product};
 use std::fs;
 use std::path::{Path, PathBuf};
 
@@ -17,11 +17,20 @@ pub fn top() -> PathBuf {
 
 /// The examples: name and text, in order.
 pub fn examples() -> Vec<(String, String)> {
+    examples_with("hub")
+}
+
+/// The examples that are outlines.
+pub fn outlines() -> Vec<(String, String)> {
+    examples_with("outline")
+}
+
+fn examples_with(end: &str) -> Vec<(String, String)> {
     let entries = fs::read_dir(top().join("examples")).expect("the examples");
     let mut files: Vec<_> = entries
         .map(|entry| entry.expect("an entry").path())
         .collect();
-    files.retain(|file| file.extension().is_some_and(|ending| ending == "hub"));
+    files.retain(|file| file.extension().is_some_and(|ending| ending == end));
     files.sort();
     let name = |file: &PathBuf| {
         file.file_stem()
@@ -33,15 +42,28 @@ pub fn examples() -> Vec<(String, String)> {
     files.iter().map(|file| (name(file), text(file))).collect()
 }
 
+/// The programs that can be texts: those without arrays.
+pub fn texts() -> Vec<Vec<u8>> {
+    let mut programs = programs();
+    programs.retain(|program| hub::format::has_text(&product::nodes(program)));
+    assert!(programs.len() > 100);
+    programs
+}
+
 /// The programs of the examples, and generated ones, accepted by the product.
 pub fn programs() -> Vec<Vec<u8>> {
     let examples = examples().into_iter().map(|(name, text)| {
         product::read_text(None, text.as_bytes()).unwrap_or_else(|met| panic!("{name}: {met}"))
     });
-    examples.chain((0..COUNT).map(generated)).collect()
+    let outlines = outlines().into_iter().map(|(name, text)| {
+        let source = assemble::assemble(&text).unwrap_or_else(|wrong| panic!("{name}: {wrong:?}"));
+        product::program_bytes(&source.nodes)
+    });
+    let generated = (0..COUNT).map(generated);
+    examples.chain(outlines).chain(generated).collect()
 }
 
-/// A program that a number stands for.
+/// A program that a number stands for; of two numbers one has arrays.
 fn generated(seed: u64) -> Vec<u8> {
     let mut source = Source {
         chance: Chance(seed * 2 + 1),
@@ -49,7 +71,8 @@ fn generated(seed: u64) -> Vec<u8> {
     };
     let size = 1 + source.chance.below(40);
     let variables: Vec<u16> = (0..16).collect();
-    source.statement(size, &variables);
+    let arrays: Vec<u16> = (0..4 * (seed as u16 % 2)).collect();
+    source.statement(size, Stores(&variables, &arrays));
     source.nodes.truncate(MOST);
     let program = product::program_bytes(&source.nodes);
     product::check(None, &program).unwrap_or_else(|met| panic!("program {seed}: {met}"));
@@ -74,68 +97,90 @@ struct Source {
     nodes: Vec<Node>,
 }
 
+/// The variables and the arrays that a part may use.
+#[derive(Clone, Copy)]
+struct Stores<'s>(&'s [u16], &'s [u16]);
+
+impl Stores<'_> {
+    /// A half for each of two sides, which share nothing.
+    fn halves(&self) -> (Stores<'_>, Stores<'_>) {
+        let (left, right) = self.0.split_at(self.0.len() / 2);
+        let (first, second) = self.1.split_at(self.1.len() / 2);
+        (Stores(left, first), Stores(right, second))
+    }
+}
+
 impl Source {
     fn put(&mut self, kind: u8, delay: u8, n: u16) {
         self.nodes.push(Node { kind, delay, n });
     }
 
-    /// A statement of about so many statements, in these variables.
-    fn statement(&mut self, size: usize, variables: &[u16]) {
-        if size <= 1 || variables.len() < 2 || self.nodes.len() > MOST / 2 {
-            return self.single(variables);
+    fn one_of(&mut self, numbers: &[u16]) -> u16 {
+        numbers[self.chance.below(numbers.len())]
+    }
+
+    /// A statement of about so many statements, in these variables and arrays.
+    fn statement(&mut self, size: usize, stores: Stores) {
+        if size <= 1 || stores.0.len() < 2 || self.nodes.len() > MOST / 2 {
+            return self.single(stores);
         }
         let part = 1 + self.chance.below(size - 1);
         match self.chance.below(6) {
             0 | 1 => {
                 self.put(19, 0, 0);
-                self.statement(part, variables);
-                self.statement(size - part, variables);
+                self.statement(part, stores);
+                self.statement(size - part, stores);
             }
             2 => {
                 self.put(20, 0, 0);
-                let (left, right) = variables.split_at(variables.len() / 2);
+                let (left, right) = stores.halves();
                 self.statement(part, left);
                 self.statement(size - part, right);
             }
             3 => {
-                self.delayed(21, 0, variables);
-                self.statement(part, variables);
-                self.statement(size - part, variables);
+                self.delayed(21, 0, 1, stores);
+                self.statement(part, stores);
+                self.statement(size - part, stores);
             }
             kind => {
-                self.delayed(18 + kind as u8, 0, variables);
-                self.statement(size - 1, variables);
+                self.delayed(18 + kind as u8, 0, 1, stores);
+                self.statement(size - 1, stores);
             }
         }
     }
 
-    fn single(&mut self, variables: &[u16]) {
-        match self.chance.below(4) {
+    fn single(&mut self, stores: Stores) {
+        match self.chance.below(5) {
             0 => self.put(16, 0, 0),
             1 => {
                 let delay = 1 + self.chance.below(255);
                 self.put(17, delay as u8, 0);
             }
+            2 if !stores.1.is_empty() => {
+                let array = self.one_of(stores.1);
+                self.delayed(24, array, 2, stores);
+            }
             _ => {
-                let variable = variables[self.chance.below(variables.len())];
-                self.delayed(18, variable, variables);
+                let variable = self.one_of(stores.0);
+                self.delayed(18, variable, 1, stores);
             }
         }
     }
 
-    /// A node with a delay and its expression.
-    fn delayed(&mut self, kind: u8, n: u16, variables: &[u16]) {
+    /// A node with a delay and its expressions.
+    fn delayed(&mut self, kind: u8, n: u16, expressions: usize, stores: Stores) {
         let at = self.nodes.len();
         self.put(kind, 255, n);
-        let time = self.expression(3, variables);
+        let times = (0..expressions).map(|_| self.expression(3, stores));
+        let time = times.max().unwrap_or(0);
         let more = self.chance.below(4);
         let least = time.max(usize::from(kind != 21));
         self.nodes[at].delay = (least + more) as u8;
     }
 
     /// An expression of at most this depth, and its time.
-    fn expression(&mut self, depth: usize, variables: &[u16]) -> usize {
-        let kind = if depth == 0 { 0 } else { self.chance.below(9) };
+    fn expression(&mut self, depth: usize, stores: Stores) -> usize {
+        let kind = if depth == 0 { 0 } else { self.chance.below(10) };
         match kind {
             0 => {
                 let constant = [0, 1, 7, 255, 32_768, 65_535][self.chance.below(6)];
@@ -143,19 +188,25 @@ impl Source {
                 0
             }
             1 => {
-                let variable = variables[self.chance.below(variables.len())];
+                let variable = self.one_of(stores.0);
                 self.put(2, 0, variable);
                 0
             }
             2 => {
                 self.put(3, 0, 0);
-                1 + self.expression(depth - 1, variables)
+                1 + self.expression(depth - 1, stores)
+            }
+            9 if stores.1.is_empty() => self.expression(depth - 1, stores),
+            9 => {
+                let array = self.one_of(stores.1);
+                self.put(10, 0, array);
+                4 + self.expression(depth - 1, stores)
             }
             operator => {
                 let times = [16, 17, 1, 1, 6, 17];
                 self.put(1 + operator as u8, 0, 0);
-                let left = self.expression(depth - 1, variables);
-                let right = self.expression(depth - 1, variables);
+                let left = self.expression(depth - 1, stores);
+                let right = self.expression(depth - 1, stores);
                 times[operator - 3] + left.max(right)
             }
         }
@@ -166,7 +217,7 @@ impl Source {
 #[test]
 fn every_kind_is_among_the_programs() {
     let programs = programs();
-    for kind in (1..=9).chain(16..=23) {
+    for kind in (1..=10).chain(16..=24) {
         let has = |program: &&Vec<u8>| product::nodes(program).iter().any(|n| n.kind == kind);
         assert!(programs.iter().filter(has).count() > 20, "kind {kind}");
     }

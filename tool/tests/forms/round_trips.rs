@@ -1,6 +1,6 @@
 //! What the tool writes it takes back, to the byte.
 
-use crate::programs::{programs, Chance};
+use crate::programs::{programs, texts, Chance};
 use crate::{circuits, programs};
 use hub::types::{Cell, Netlist, Node};
 use hub::{assemble, format, labels, listing, outline, product};
@@ -36,14 +36,13 @@ fn outlines_give_any_nodes_back() {
 }
 
 fn assembled(outline: &str) -> Vec<u8> {
-    let nodes = assemble::assemble(outline).expect("an outline");
-    let nodes: Vec<Node> = nodes.into_iter().map(|(node, _)| node).collect();
-    product::program_bytes(&nodes)
+    let source = assemble::assemble(outline).expect("an outline");
+    product::program_bytes(&source.nodes)
 }
 
 #[test]
 fn texts_give_the_program_back() {
-    for program in programs() {
+    for program in texts() {
         let text = formatted(&program);
         assert_eq!(
             product::read_text(None, text.as_bytes()),
@@ -63,7 +62,7 @@ fn formatted(program: &[u8]) -> String {
 #[test]
 fn texts_have_the_fewest_brackets() {
     let mut pairs = 0;
-    for program in programs() {
+    for program in texts() {
         let text = formatted(&program);
         for (open, close) in brackets(&text) {
             let mut less = text.clone().into_bytes();
@@ -124,7 +123,7 @@ fn lists_give_any_cells_back() {
     for _ in 0..300 {
         let cells: Vec<Cell> = (0..20)
             .map(|_| {
-                let [kind, delay, a, b] = [44, 3, 25, 25].map(|limit| chance.below(limit));
+                let [kind, delay, a, b] = [46, 3, 25, 25].map(|limit| chance.below(limit));
                 Cell::new(kind as u8, delay as u8, a as u16, b as u16)
             })
             .collect();
@@ -139,15 +138,31 @@ fn lists_give_any_cells_back() {
 #[test]
 fn names_are_the_cells_numbers() {
     let list = "finish last\nstart\nground\nconstant 0\nlast: delay 7 of middle\n\
-        middle: either start last\nx0: memory clock last data x1\nidle memories\n";
+        middle: either start last\nx0: memory clock last data x1\nidle memories\nelement x0 of a2\n";
     let listed = listing::wired(list).expect("a list");
     let cells = &listed.netlist.cells;
     assert_eq!(listed.netlist.finish, 3);
     assert_eq!(cells[3], Cell::new(34, 7, 4, 0));
     assert_eq!(cells[4], Cell::new(35, 0, 0, 3));
     assert_eq!(cells[5], Cell::new(40, 0, 3, 6));
-    assert_eq!(cells.len(), 21);
+    assert_eq!(cells[29], Cell::new(44, 0, 25, 5));
+    assert_eq!(cells.len(), 30);
     assert_eq!(listed.lines[4], Some(6));
+    assert_eq!(listed.lines[25], None);
+}
+
+/// Where a line is about arrays, they stand where the list has them.
+#[test]
+fn idle_arrays_are_those_that_are_left() {
+    let list = "finish start\nstart\nground\nconstant 0\nidle memories\n\
+        array a0 clock start data 2\naddress last\nidle arrays\nlast: element x3 of a0\n";
+    let listed = listing::wired(list).expect("a list");
+    let cells = &listed.netlist.cells;
+    assert_eq!(cells[19], Cell::new(42, 0, 0, 2));
+    assert_eq!(cells[20], Cell::new(43, 0, 27, 0));
+    assert_eq!(cells[21..23], hub::kinds::idle_array(1));
+    assert_eq!(cells[25..27], hub::kinds::idle_array(3));
+    assert_eq!(cells[27..], [Cell::new(44, 0, 19, 6)]);
 }
 
 /// What is wrong with a list is told with its line.

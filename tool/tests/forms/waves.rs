@@ -6,16 +6,26 @@ use crate::programs::{examples, programs};
 use crate::vcd::{read, values, Changes};
 use crate::{circuits, programs};
 use hub::product;
+use hub::store::{self, Store};
 use hub::wave::{choice, record, svg, terminal, vcd, Waveforms};
 use std::fs;
 use std::process::Command;
 
 const WORDS: [u16; 16] = [3, 1, 2, 4, 0, 1, 1, 9, 65_535, 2, 0, 0, 1, 7, 7, 7];
 
+/// Start words, with elements that differ.
+fn start() -> Store {
+    let mut start = store::of_words(&WORDS);
+    for place in store::OF_ARRAYS {
+        start[place] = 7 * place as u16;
+    }
+    start
+}
+
 fn waves(program: &[u8], from: u32, to: u32) -> Waveforms {
     let circuit = circuits::of_program(program);
     let wires = choice::wires(&circuit, &[], None, false).expect("wires");
-    record::record(&circuit.file, &WORDS, wires, from, to).expect("a run")
+    record::record(&circuit.file, &start(), wires, from, to).expect("a run")
 }
 
 fn all_waves() -> impl Iterator<Item = Waveforms> {
@@ -93,7 +103,7 @@ fn waves_agree_with_the_answers() {
             wire.map(|wire| waves.values[wire][at])
         };
         let file = product::compile(None, &program).expect("a netlist");
-        let (mut state, mut answer) = product::begin(&file, &WORDS).expect("a run");
+        let (mut state, mut answer) = product::begin(&file, &start()).expect("a run");
         for at in 0..=80 {
             assert_eq!(value("start", at), Some(u16::from(at == 0)));
             assert_eq!(value("finish", at), Some(u16::from(answer.ended)));
@@ -104,6 +114,35 @@ fn waves_agree_with_the_answers() {
             answer = product::go(&file, &mut state, 1).expect("an instant");
         }
     }
+}
+
+/// The waves of all elements are what the state holds at each instant; some
+/// elements change.
+#[test]
+fn elements_are_waves_too() {
+    let names: Vec<String> = store::OF_ARRAYS.map(store::name).collect();
+    let mut changes = 0;
+    for program in programs() {
+        let circuit = circuits::of_program(&program);
+        let wires = choice::wires(&circuit, &[], Some(&names.join(",")), false).expect("wires");
+        let waves = record::record(&circuit.file, &start(), wires, 0, 90).expect("a run");
+        let (mut state, answer) = product::begin(&circuit.file, &start()).expect("a run");
+        let cells = circuit.netlist.cells.len();
+        assert_eq!(product::contents(&answer, &state, cells), start());
+        let mut answer = product::go(&circuit.file, &mut state, 0).expect("a run");
+        for at in 0..=90 {
+            let shown: Vec<u16> = waves.values.iter().map(|values| values[at]).collect();
+            let contents = product::contents(&answer, &state, cells);
+            assert_eq!(shown, contents[store::OF_ARRAYS]);
+            answer = product::go(&circuit.file, &mut state, 1).expect("an instant");
+        }
+        changes += waves.values.iter().filter(|v| v[0] != v[90]).count();
+        let (dumped, _) = read(&vcd::vcd(&waves));
+        assert_same(&waves, &dumped, |name| {
+            format!("hub.{}", name.replace('[', "_").replace(']', ""))
+        });
+    }
+    assert!(changes > 20, "{changes} elements were written");
 }
 
 /// A terminal's lines are one character for each instant, high where the wire

@@ -32,7 +32,26 @@ const TEXTS: &[(&str, &str)] = &[
 const LINES: &[(&str, &str)] = &[
     (
         "memories.list",
-        "finish start\nstart\nground\nconstant 0\n18 delay 1 of start\n19 constant 1\n",
+        "finish start\nstart\nground\nconstant 0\n18 delay 1 of start\nconstant 1\nconstant 1\n\
+         constant 1\nconstant 1\nconstant 1\nconstant 1\nconstant 1\nconstant 1\n",
+    ),
+    (
+        "cut.list",
+        "27 cells, finish start\nstart\nground\nconstant 0\ndelay 1 of start\ndelay 2 of start\n\
+         delay 3 of start\ndelay 4 of start\n",
+    ),
+    (
+        "block.list",
+        "finish start\nstart\nground\nconstant 0\n19 constant 1\nidle arrays\n",
+    ),
+    (
+        "array.list",
+        "finish start\nstart\nground\nconstant 0\nidle memories\narray a0 clock start data 2\naddress 2\n\
+         idle arrays\nsum a0 2\n",
+    ),
+    (
+        "stray.list",
+        "finish start\nstart\nground\nconstant 0\naddress 2\nidle memories\n",
     ),
     (
         "sort.list",
@@ -51,6 +70,23 @@ const LINES: &[(&str, &str)] = &[
         "parallel\n  assign x1 @1\n    constant 1\n  assign x2 @1\n    variable x1\n",
     ),
     (
+        "arrays.outline",
+        "parallel\n  assign a1 @4\n    constant 5\n    element a0\n      constant 5\n  \
+         assign a0 @1\n    constant 6\n    constant 1\n",
+    ),
+    (
+        "settle.outline",
+        "assign a0 @7\n  element a1\n    element a2\n      variable x0\n  variable x1\n",
+    ),
+    (
+        "four.outline",
+        "sequence\n  ok\n  assign a4 @1\n    constant 0\n    constant 0\n",
+    ),
+    (
+        "timed.outline",
+        "assign x0 @9\n  kind 10 delay 1 n 0\n    constant 0\n",
+    ),
+    (
         "word.outline",
         "sequence\n  ok\n  assign x1\n    constant 1\n",
     ),
@@ -62,6 +98,7 @@ const PROGRAMS: &[(&str, &[[u8; 3]])] = &[
     ("kind.prog", &[[99, 0, 0]]),
     ("field.prog", &[[16, 1, 0]]),
     ("variable.prog", &[[18, 1, 16], [1, 0, 0]]),
+    ("array.prog", &[[24, 1, 4], [1, 0, 0], [1, 0, 0]]),
     ("sort.prog", &[[19, 0, 0], [16, 0, 0], [1, 0, 5]]),
     ("short.prog", &[[19, 0, 0], [16, 0, 0]]),
     ("left.prog", &[[16, 0, 0], [16, 0, 0]]),
@@ -69,6 +106,19 @@ const PROGRAMS: &[(&str, &[[u8; 3]])] = &[
     (
         "sides.prog",
         &[[20, 0, 0], [18, 1, 1], [1, 0, 1], [18, 1, 2], [2, 0, 1]],
+    ),
+    (
+        "arrays.prog",
+        &[
+            [20, 0, 0],
+            [24, 1, 1],
+            [1, 0, 1],
+            [2, 0, 3],
+            [24, 4, 2],
+            [10, 0, 1],
+            [2, 0, 3],
+            [1, 0, 7],
+        ],
     ),
 ];
 
@@ -110,7 +160,7 @@ pub fn make(folder: &Path) {
 /// Netlists and states of the program `tick 2`.
 fn netlists(put: &impl Fn(&str, &[u8])) {
     let file = product::compile(None, &[17, 2, 0, 0]).expect("an accepted program");
-    let (state, _) = product::begin(&file, &[0; 16]).expect("an accepted netlist");
+    let (state, _) = product::begin(&file, &[0; hub::store::LENGTH]).expect("an accepted netlist");
     put("tick.net", &file);
     put("length.net", &file[..100]);
     put("sum.net", &damaged(&file, 30, 77));

@@ -14,7 +14,8 @@ use Rattle.model.specs.declared.Cell.{Cell}
 use Rattle.model.specs.declared.Merge.{Merge}
 use Rattle.model.specs.Word.{pick, bit, elementOf, get16, put16, get32, put32}
 use Rattle.model.specs.Circuit.{cellAt, high, mergeStep, Shape, shape, kConstant, kComplement, kOperator, kStart, kGround, kDelay, kOr, kWhenTrue, kWhenFalse, kMerge, kMemory, kGated, kArray, kAddress, kRead, kUnknown}
-use Rattle.model.specs.State.{base, elementBase, nowAt, beforeAt, heldAt, lineBit, value, upTo, aged, stored, shown, shiftedIn, holding, settle, settled, stepState, beginState, instantOf, firstValue}
+use Rattle.laws.specs.Program.Trees.{by-pick}
+use Rattle.model.specs.State.{base, elementBase, nowAt, beforeAt, fallen, heldAt, lineBit, value, upTo, aged, stored, shown, shiftedIn, holding, settle, settled, stepState, beginState, instantOf, firstValue}
 
 abbrev pub shapeAt : List Cell → ℕ → Shape
 shapeAt c k = shape (cellAt c k .kind)
@@ -68,21 +69,14 @@ aged-frame t k j (inr h) = put16-other t _ _ j (λ e. omega arith) (λ e. omega 
 -- an array's word stands behind all cells
 pub stored-frame : (c : List Cell) (t : List ℕ) (k j : ℕ) → j < 8 + 40 * length c → getD (stored c t k) j 0 ≡ getD t j 0
 unfolding stored
-stored-frame c t k j l = go (eqb (cellAt c k .kind) 42 && (high (beforeAt t (cellAt c k .a)) && not (high (nowAt t (cellAt c k .a)))))
-  where
-    go : (b : Bool)
-        → getD (pick b (put16 t (elementBase c (elementOf (cellAt c k .delay) (beforeAt t (cellAt c (k + 1) .a)))) (beforeAt t (cellAt c k .b))) t) j 0 ≡ getD t j 0
-    go true = put16-other t _ _ j (λ e. omega arith) (λ e. omega arith)
-    go false = refl
+stored-frame c t k j l =
+    by-pick (λ (u : List ℕ). getD u j 0 ≡ getD t j 0) (eqb (cellAt c k .kind) 42 && fallen t (cellAt c k .a)) _ _
+    (put16-other t _ _ j (λ e. omega arith) (λ e. omega arith)) refl
 
 pub length-stored : (c : List Cell) (t : List ℕ) (k : ℕ) → length (stored c t k) ≡ length t
 unfolding stored
-length-stored c t k = go (eqb (cellAt c k .kind) 42 && (high (beforeAt t (cellAt c k .a)) && not (high (nowAt t (cellAt c k .a)))))
-  where
-    go : (b : Bool)
-        → length (pick b (put16 t (elementBase c (elementOf (cellAt c k .delay) (beforeAt t (cellAt c (k + 1) .a)))) (beforeAt t (cellAt c k .b))) t) ≡ length t
-    go true = length-put16 t _ _
-    go false = refl
+length-stored c t k =
+    by-pick (λ (u : List ℕ). length u ≡ length t) (eqb (cellAt c k .kind) 42 && fallen t (cellAt c k .a)) _ _ (length-put16 t _ _) refl
 
 -- cell k shows its value
 pub shown-put : (c : List Cell) (v : List ℕ → ℕ → ℕ) (t : List ℕ) (k j : ℕ) → (j < base k) ⊎ (base k + 2 ≤ j) → getD (shown c v t k) j 0 ≡ getD (stored c t k) j 0

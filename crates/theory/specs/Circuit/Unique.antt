@@ -91,7 +91,7 @@ module _ (net : List Cell) (words : ℕ → ℕ) (U W : Values) where
       let e₂ : U (c .a) (suc t) ≡ W (c .a) (suc t) = h .1 (c .a) la in
       let e₃ : U (c .b) t ≡ W (c .b) t = h .0 t (le-refl (suc t)) (c .b) lb in
       let e₄ : U k t ≡ W k t = h .0 t (le-refl (suc t)) k l in
-      rw (e₁, e₂, e₃, e₄)
+      cc (e₁, e₂, e₃, e₄)
 
   element-cong : (j i t : ℕ) → Feeds net j → j ≤ length net → ((u : ℕ) → u < t → (m : ℕ) → m < length net → U m u ≡ W m u)
       → ((m : ℕ) → m < j → U m t ≡ W m t) → element net words U j i t ≡ element net words W j i t
@@ -99,7 +99,7 @@ module _ (net : List Cell) (words : ℕ → ℕ) (U W : Values) where
   element-cong j i zero f l past below = refl
   element-cong j i (suc t) f l past below =
       let e : (m : ℕ) → m < length net → U m t ≡ W m t = past t (le-refl (suc t)) in
-      rw (
+      cc (
         e (cellAt net j .a) (omega (arith, f .0)),
         below (cellAt net j .a) (f .0),
         e (cellAt net j .b) (f .1),

@@ -1,6 +1,8 @@
 -- The bytes of a state hold that solution.
 pub mod Arrays
-pub mod States
+pub mod Holding
+pub mod Step
+pub mod Begin
 pub mod Sound
 pub mod Running
 pub mod Past

@@ -42,7 +42,8 @@ use Rattle.theory.specs.Promises.Due.{finish-due, last-words, last-eleme
 use Rattle.laws.specs.Circuit.Ordered.{Ordered}
 use Rattle.theory.specs.Circuit.Exists.{solution, solution-obeys}
 use Rattle.laws.specs.NetlistFile.Passed.{net-ordered, net-passed, file-passed, finish-within}
-use Rattle.theory.specs.State.States.{Holding, begin-holds, begin-length}
+use Rattle.theory.specs.State.Holding.{Holding}
+use Rattle.theory.specs.State.Begin.{begin-holds, begin-length}
 use Rattle.theory.specs.State.Sound.{sound-held, holds}
 use Rattle.theory.specs.State.Running.{continues, stops-high, stops-low}
 use Rattle.laws.specs.NetlistFile.Files.{cells-written, finish-written}

@@ -24,7 +24,7 @@ use Rattle.model.specs.State.{stateSize, instantOf, nowAt, lastState, evaluated
 use Rattle.model.specs.Calls.{Returned, verdict, refusedAnswer, shows, running, continueChecks, continueCall}
 use Rattle.model.specs.Promises.{Call, replay, Seen, seen, seenOf, refusedSeen, endedIf, stopsAt, expected, standsAt, instantAfter, Along, Unchanged}
 use Rattle.laws.specs.Circuit.Ordered.{Ordered}
-use Rattle.theory.specs.State.States.{Holding}
+use Rattle.theory.specs.State.Holding.{Holding}
 use Rattle.theory.specs.State.Sound.{sound-held}
 use Rattle.theory.specs.State.Running.{continues, same-holds}
 

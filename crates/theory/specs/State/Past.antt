@@ -17,7 +17,7 @@ use Rattle.model.specs.State.{stateSize, base, elementBase, instantOf, nowAt, b
 use Rattle.model.specs.Promises.{stateAt}
 use Rattle.laws.specs.Refusals.Laws.{and-true}
 use Rattle.laws.specs.Circuit.Ordered.{Ordered}
-use Rattle.theory.specs.State.States.{length-words}
+use Rattle.theory.specs.State.Begin.{length-words}
 
 -- t has the bytes of s from n on
 abbrev Past : ℕ → List ℕ → List ℕ → Type 0

@@ -13,7 +13,8 @@ use Rattle.model.specs.Promises.{stopsAt}
 use Rattle.laws.specs.Refusals.Laws.{by-bool}
 use Rattle.laws.specs.Circuit.Ordered.{Ordered}
 use Rattle.laws.specs.State.Passes.{Line, get16-same}
-use Rattle.theory.specs.State.States.{Clean, Holding, step-holds, step-length}
+use Rattle.theory.specs.State.Holding.{Clean, Holding}
+use Rattle.theory.specs.State.Step.{step-holds, step-length}
 
 -- A state whose bytes are the same holds the same ---------------------------------------------------------------------------------------------------
 

@@ -17,7 +17,9 @@ use Rattle.model.specs.Promises.{stateAt, earlier, Holds}
 use Rattle.laws.specs.Refusals.Laws.{and-of}
 use Rattle.laws.specs.Circuit.Ordered.{Ordered}
 use Rattle.laws.specs.Circuit.Shapes.{level-bound}
-use Rattle.theory.specs.State.States.{Holding, step-holds, step-length, begin-holds, begin-length}
+use Rattle.theory.specs.State.Holding.{Holding}
+use Rattle.theory.specs.State.Step.{step-holds, step-length}
+use Rattle.theory.specs.State.Begin.{begin-holds, begin-length}
 
 zero-slice : (m j : ℕ) (s : List ℕ) → ((i : ℕ) → j ≤ i → i < j + m → getD s i 0 ≡ 0) → allZero (take m (drop j s)) ≡ true
 zero-slice m j s h = zero-run m (drop j s) (λ i l. getD-drop j s i 0 ∙ h (j + i) (omega arith) (omega arith))

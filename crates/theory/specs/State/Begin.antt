@@ -1,0 +1,234 @@
+-- Beginning establishes what a state holds at instant 0. Assumes nothing.
+use mathlib.Core.Bool.{Bool, true, false}
+use mathlib.Core.List.{List, _++_}
+use mathlib.Core.Path.{_≡_, refl, sym, _∙_, ap}
+use Prim.Native.Nat.{ℕ, zero, suc, _+_, _-_, _*_, _/_, _%_, _<_, _≤_}
+use native.Mathlib.Omega.{arith}
+use native.Mathlib.Nat.{zero-div}
+use lib.ListN.{getD, length, drop, replicate, length-append, length-drop, length-replicate}
+use lib.Seq.{getD-drop, drop-at}
+use lib.Dec.{eqb}
+use borrow.Author.Tests.{eqb-true, eqb-false}
+use Rattle.laws.specs.State.Passes.{cleared-zero, begin-header, begin-instant}
+use Rattle.model.specs.declared.Cell.{Cell}
+use Rattle.model.specs.Word.{pick, bit, index, elementOf, elementWord, get16, bytes16}
+use Rattle.model.specs.Circuit.{cellAt, Sig, Values, level, delayed, heldBefore, memory, Elements, element, arrayAt, equation, startWord, Obeys, Shape, shape, kStart, kDelay, kMemory, kRead}
+use Rattle.model.specs.State.{stateSize, base, elementNow, nowAt, beforeAt, heldAt, lineBit, nextValue, value, firstValue, wordBytes, beginState}
+use Rattle.model.specs.Promises.{earlier}
+use Rattle.laws.specs.Circuit.Ordered.{kinds, Ordered}
+use Rattle.laws.specs.Circuit.Shapes.{start-kind, memory-kind}
+use Rattle.theory.specs.Circuit.Unique.{feeds}
+use Rattle.theory.specs.State.Arrays.{element-late, element-after}
+use Rattle.laws.specs.State.Passes.{shapeAt, two, three, length-three, after, seen-held, seen-line, before-after, Line, line-old, line-bytes}
+use Rattle.theory.specs.State.Holding.{Clean, Holding, delayed-early, later-is, delay-looks, read-looks, clean-after, now-is, held-is, newest-is}
+
+-- the first m bytes are zero, then others
+abbrev cleared : ℕ → List ℕ → List ℕ
+cleared m s = replicate m 0 ++ s
+
+module _ (m : ℕ) (s : List ℕ) where
+  zero-at : (j : ℕ) → j < m → getD (cleared m s) j 0 ≡ 0
+  zero-at j g = cleared-zero m s j g
+
+  behind-at : (j : ℕ) → getD (cleared m s) (m + j) 0 ≡ getD s j 0
+  behind-at j =
+      sym (getD-drop m (cleared m s) j 0) ∙ ap (λ (l : List ℕ). getD l j 0) (drop-at (replicate m 0) s m (length-replicate {A = ℕ} m 0))
+
+  module _ (k : ℕ) (g : base k + 40 ≤ m) where
+    zero-held : heldAt (cleared m s) k ≡ record { a = false; b = false }
+    unfolding heldAt
+    zero-held = rw (zero-at (base k + 4) (omega arith), zero-at (base k + 5) (omega arith))
+
+    zero-line : (i : ℕ) → i < 256 → lineBit (cleared m s) k i ≡ 0
+    unfolding lineBit
+    zero-line i x = rw (zero-at (base k + 8 + i / 8) (omega arith)) (simp zero-div)
+
+    zero-bytes : Line (cleared m s) k
+    unfolding Line
+    zero-bytes j x y = omega (arith, zero-at j (omega arith))
+
+    zero-before : beforeAt (cleared m s) k ≡ 0
+    unfolding get16
+    zero-before = omega (arith, zero-at (base k + 2) (omega arith), zero-at (base k + 2 + 1) (omega arith))
+
+    zero-clean : (net : List Cell) → Clean net (cleared m s) k
+    zero-clean net =
+        record { rest = λ j x y z. zero-at j (omega arith); bits = λ j x y. rw (zero-at j (omega arith)) (omega arith) }
+
+-- the words that are written out
+pub length-words : (words : ℕ → ℕ) (x n : ℕ) → length (wordBytes words x n) ≡ 2 * n
+unfolding wordBytes bytes16
+length-words words x zero = refl
+length-words words x (suc n) = omega (arith, length-words words (x + 1) n)
+
+word-written : (words : ℕ → ℕ) (x n : ℕ) (rest : List ℕ) (i : ℕ) → i < n → get16 (wordBytes words x n ++ rest) (2 * i) ≡ words (x + i)
+unfolding wordBytes bytes16 get16
+word-written words x zero rest i l = absurd (omega arith)
+word-written words x (suc n) rest zero l =
+    let z : x + 0 ≡ x = omega arith in
+    rw z (omega arith)
+word-written words x (suc n) rest (suc i) l =
+    let p : 2 * suc i ≡ suc (suc (2 * i)) = omega arith in
+    let q : suc (suc (2 * i)) + 1 ≡ suc (suc (2 * i + 1)) = omega arith in
+    let r : x + 1 + i ≡ x + suc i = omega arith in
+    rw (p, q) (word-written words (x + 1) n rest i (omega arith) ∙ ap words r)
+
+start-shape : (k : ℕ) → k ≡ 32 → shape k ≡ kStart
+unfolding shape
+start-shape k e = rw e
+
+memory-shape : (k : ℕ) → k ≡ 40 → shape k ≡ kMemory
+unfolding shape
+memory-shape k e = rw e
+
+first-equation : (sh : Shape) (first : ℕ) (E : Elements) (W : Values) (k : ℕ) (c : Cell) → sh ≡ kStart → equation sh first E W k c 0 ≡ 1
+unfolding equation bit
+first-equation sh first E W k c e = rw e
+
+memory-equation : (sh : Shape) (first : ℕ) (E : Elements) (W : Values) (k : ℕ) (c : Cell) → sh ≡ kMemory → equation sh first E W k c 0 ≡ first
+unfolding equation memory
+memory-equation sh first E W k c e = rw e
+
+module _ (net : List Cell) (ordered : Ordered net) (words : ℕ → ℕ) (W : Values) (obeys : Obeys net words W) (s : List ℕ)
+    (room : stateSize net ≤ length s) where
+  -- the elements' start words and what is lent past the state
+  tail : List ℕ
+  tail = wordBytes words 16 256 ++ drop (stateSize net) s
+
+  Z : List ℕ
+  Z = cleared (8 + 40 * length net) tail
+
+  length-Z : length Z ≡ length s
+  unfolding Z tail
+  length-Z = simp (length-append, length-replicate, length-drop) (omega (arith, length-words words 16 256))
+
+  room-blank : stateSize net ≤ length Z
+  room-blank = omega (arith, length-Z)
+
+  room-Z : 8 + 40 * length net ≤ length Z
+  room-Z = omega (arith, length-Z)
+
+  element-Z : (n : ℕ) → n < 256 → elementNow net Z n ≡ words (16 + n)
+  unfolding Z tail get16
+  element-Z n l =
+      let z : 8 + 40 * length net + 2 * n + 1 ≡ 8 + 40 * length net + (2 * n + 1) = omega arith in
+      rw (z, behind-at (8 + 40 * length net) tail (2 * n), behind-at (8 + 40 * length net) tail (2 * n + 1))
+      (word-written words 16 256 (drop (stateSize net) s) n l)
+
+  w : List ℕ → ℕ → ℕ
+  w = firstValue net words
+
+  bytes-Z : (k : ℕ) → k < length net → Line Z k
+  unfolding Z
+  bytes-Z k h = zero-bytes (8 + 40 * length net) tail k (omega arith)
+
+  line-Z : (k : ℕ) → k < length net → (i : ℕ) → i < 256 → lineBit Z k i ≡ 0
+  unfolding Z
+  line-Z k h i g = zero-line (8 + 40 * length net) tail k (omega arith) i g
+
+  held-Z : (k : ℕ) → k < length net → heldAt Z k ≡ heldBefore (level W (cellAt net k .a)) (level W (cellAt net k .b)) 0
+  unfolding Z heldBefore
+  held-Z k h = zero-held (8 + 40 * length net) tail k (omega arith)
+
+  before-Z : (k : ℕ) → k < length net → beforeAt Z k ≡ 0
+  unfolding Z
+  before-Z k h = zero-before (8 + 40 * length net) tail k (omega arith)
+
+  early : (d : ℕ) (x : Sig) → 1 ≤ d → 0 ≡ bit (delayed d x 0)
+  unfolding bit
+  early d x l = ap bit (sym (delayed-early d x 0 (omega arith)))
+
+  begin-delay : (k : ℕ) → k < length net → shapeAt net k ≡ kDelay
+      → lineBit (two net w Z k) k (cellAt net k .delay - 1) ≡ bit (delayed (cellAt net k .delay) (level W (cellAt net k .a)) 0)
+  begin-delay k h e =
+      let c = cellAt net k in
+      let o = delay-looks (kinds net) (length net) k c e (ordered .looks k h) in
+      seen-line net w Z k k (c .delay - 1) h (omega (arith, o .1))
+      ∙ line-Z k h (c .delay - 1) (omega (arith, o .1))
+      ∙ early (c .delay) (level W (c .a)) (o .0)
+
+  -- no clock falls: an array's words are the start words
+  begin-element : (a i n : ℕ) → a < 4 → i < 64 → arrayAt net a < n → n ≤ length net
+      → elementNow net (two net w Z n) (64 * a + i) ≡ element net words W (arrayAt net a) i 0
+  unfolding element elementWord
+  begin-element a i n la li h g =
+      let r = ordered .arrays a la in
+      let f = feeds net ordered (arrayAt net a) (omega (arith, r .0)) (r .1) in
+      let z : 16 + (64 * a + i) ≡ 16 + (64 * a + i % 64) = omega arith in
+      element-late net ordered a i la li w Z room-blank n h g
+      ∙ rw (before-Z (cellAt net (arrayAt net a) .a) (omega (arith, r .0, f .0)), r .2) (element-Z (64 * a + i) (omega arith) ∙ ap words z)
+
+  begin-read : (k : ℕ) → k < length net → ((a : ℕ) → a < k → nowAt (two net w Z k) a ≡ W a 0) → shapeAt net k ≡ kRead
+      → nextValue kRead net (two net w Z k) k (cellAt net k) ≡ element net words W (cellAt net k .a) (index (W (cellAt net k .b) 0)) 0
+  unfolding nextValue
+  begin-read k h lower e =
+      let c = cellAt net k in
+      let a = cellAt net (c .a) .delay in
+      let o = read-looks (kinds net) (length net) k c e (ordered .looks k h) in
+      let i = index (W (c .b) 0) in
+      let r = ordered .stands (c .a) (omega (arith, o .0)) (o .2) in
+      let q : c .a ≡ arrayAt net a = r .1 in
+      ap (λ (x : ℕ). elementNow net (two net w Z k) (elementOf a x)) (lower (c .b) (o .1))
+      ∙ begin-element a i k (r .0) (omega arith) (omega (arith, q, o .0)) (omega arith)
+      ∙ ap (λ (m : ℕ). element net words W m i 0) (sym q)
+
+  begin-first : (k : ℕ) → k < length net → ((a : ℕ) → a < k → nowAt (two net w Z k) a ≡ W a 0) → w (two net w Z k) k ≡ W k 0
+  unfolding w Obeys
+  begin-first k h lower = go (eqb kind 32) (eqb kind 40) refl refl ∙ sym (obeys k h 0)
+    where
+      kind : ℕ
+      kind = cellAt net k .kind
+
+      go : (p q : Bool) → eqb kind 32 ≡ p → eqb kind 40 ≡ q
+          → pick (eqb kind 32) 1 (pick (eqb kind 40) (startWord net words k) (value net (two net w Z k) k))
+          ≡ equation (shapeAt net k) (startWord net words k) (element net words W) W k (cellAt net k) 0
+      go true q e f = rw e (sym (first-equation (shapeAt net k) (startWord net words k) (element net words W) W k (cellAt net k) (start-shape kind (eqb-true kind 32 e))))
+      go false true e f =
+          rw (e, f) (sym (memory-equation (shapeAt net k) (startWord net words k) (element net words W) W k (cellAt net k) (memory-shape kind (eqb-true kind 40 f))))
+      go false false e f =
+          rw (e, f)
+          (later-is net (element net words W) W (kinds net) 0 (startWord net words k) k (length net) (cellAt net k) (two net w Z k) lower
+          (shapeAt net k) (ordered .looks k h) (λ z. absurd (eqb-false kind 32 e (start-kind kind z))) (begin-delay k h)
+          (λ z. seen-held net w Z k k h ∙ held-Z k h) (λ z. absurd (eqb-false kind 40 f (memory-kind kind z))) (begin-read k h lower))
+
+  abbrev B : List ℕ
+  B = after net w Z
+
+  begin-is : beginState net words s ≡ B
+  unfolding beginState three two w Z tail
+  begin-is = refl
+
+  begin-elements : (a i : ℕ) → a < 4 → i < 64 → elementNow net B (64 * a + i) ≡ element net words W (arrayAt net a) i 0
+  begin-elements a i la li =
+      element-after net ordered a i la li w Z room-blank
+      ∙ begin-element a i (length net) la li (omega (arith, ordered .arrays a la .0)) (omega arith)
+
+  begin-lines : (k : ℕ) → k < length net → shapeAt net k ≡ kDelay → (i : ℕ) → i < 256 → lineBit B k i ≡ bit (delayed i (level W (cellAt net k .a)) 0)
+  begin-lines k h e zero g = newest-is net ordered words W obeys 0 w Z room-Z begin-first k h e (bytes-Z k h)
+  begin-lines k h e (suc i) g =
+      let z : suc i ≡ i + 1 = omega arith in
+      rw z
+      (line-old net w Z room-Z k h e (bytes-Z k h) i (omega arith) ∙ line-Z k h i (omega arith)
+      ∙ early (i + 1) (level W (cellAt net k .a)) (omega arith))
+
+  pub begin-holds : Holding net words W 0 (beginState net words s)
+  unfolding earlier
+  begin-holds =
+      record {
+        instant = λ l. begin-instant net words s;
+        zeros = λ j x y. begin-header net words s j y;
+        present = λ k h. ap (λ (z : List ℕ). nowAt z k) begin-is ∙ now-is net ordered words W obeys 0 w Z room-Z begin-first k h;
+        past = λ k h. ap (λ (z : List ℕ). beforeAt z k) begin-is ∙ before-after net w Z k h ∙ before-Z k h;
+        held = λ k h e. ap (λ (z : List ℕ). heldAt z k) begin-is ∙ held-is net ordered words W obeys 0 w Z room-Z begin-first k h e (held-Z k h);
+        lines = λ k h e i g. ap (λ (z : List ℕ). lineBit z k i) begin-is ∙ begin-lines k h e i g;
+        elements = λ a i la li. ap (λ (z : List ℕ). elementNow net z (64 * a + i)) begin-is ∙ begin-elements a i la li;
+        bytes = λ k h e. rw begin-is (line-bytes net w Z room-Z k h e (bytes-Z k h));
+        clean = λ k h. rw begin-is (clean-after net w Z room-Z k h (clean-Z k h));
+      }
+    where
+      clean-Z : (k : ℕ) → k < length net → Clean net Z k
+      clean-Z k h = unfold Z in zero-clean (8 + 40 * length net) tail k (omega arith) net
+
+  pub begin-length : length (beginState net words s) ≡ length s
+  unfolding Z
+  begin-length = ap length begin-is ∙ length-three net w Z (length net) ∙ length-Z

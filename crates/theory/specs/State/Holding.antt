@@ -1,0 +1,215 @@
+-- What the bytes of a state hold of the values that obey the equations, and what the passes of one instant make of it: the values in rising order,
+-- then held bits, lines, and bytes without a use. Assumes nothing.
+use mathlib.Core.Bool.{false, not, _&&_, _||_}
+use mathlib.Core.List.{List}
+use mathlib.Core.Logic.{inl, inr}
+use mathlib.Core.Path.{_≡_, refl, sym, _∙_, ap, ap₂}
+use Prim.Native.Nat.{ℕ, zero, suc, _+_, _-_, _*_, _<_, _≤_}
+use native.Mathlib.Omega.{arith}
+use native.Mathlib.Decide.{ℕ-discrete, decLe}
+use lib.ListN.{getD, set, length, length-set}
+use lib.Seq.{getD-set-same, getD-set-other}
+use lib.Dec.{eqb, leb}
+use borrow.Author.Tests.{le-leb, lt-leb, eqb-true}
+use Rattle.model.specs.declared.Cell.{Cell}
+use Rattle.model.specs.declared.Merge.{Merge}
+use Rattle.model.specs.Word.{pick, bit, isZero, operate, index}
+use Rattle.model.specs.Circuit.{cellAt, Sig, Values, high, level, delayed, mergeStep, heldBefore, merged, memory, Elements, element, arrayAt, equation, Obeys, Shape, cellTable, shape, kConstant, kComplement, kOperator, kStart, kGround, kDelay, kOr, kWhenTrue, kWhenFalse, kMerge, kMemory, kGated, kArray, kAddress, kRead, kUnknown}
+use Rattle.model.specs.State.{base, elementNow, instantOf, nowAt, beforeAt, heldAt, lineBit, nextValue, value, holding, settle}
+use Rattle.model.specs.Promises.{earlier}
+use Rattle.theory.specs.Numbering.Levels.{delayed-zero}
+use Rattle.laws.specs.Circuit.Ordered.{Looks, kinds, Ordered}
+use Rattle.laws.specs.Circuit.Shapes.{delay-kind, merge-kind, bit-le}
+use Rattle.laws.specs.State.Passes.{shapeAt, shifted-frame, holding-frame, two, three, length-three, after, third-at, third-own, now-after, seen-now, held-after, Line, line-new}
+
+-- Delayed signals --------------------------------------------------------------------------------------------------------------------------------
+
+pub delayed-early : (d : ℕ) (x : Sig) (t : ℕ) → t < d → delayed d x t ≡ false
+unfolding delayed
+delayed-early d x t h = rw (lt-leb d t h)
+
+pub delayed-more : (d : ℕ) (x : Sig) (t : ℕ) → delayed (d + 1) x (suc t) ≡ delayed d x t
+unfolding delayed
+delayed-more d x t = go (decLe d t)
+  where
+    go : Dec (d ≤ t) → pick (leb (d + 1) (suc t)) (x (suc t - (d + 1))) false ≡ pick (leb d t) (x (t - d)) false
+    go (yes h) =
+        let e : suc t - (d + 1) ≡ t - d = omega arith in
+        rw (le-leb d t h, le-leb (d + 1) (suc t) (omega arith), e)
+    go (no h) = rw (lt-leb d t (omega arith), lt-leb (d + 1) (suc t) (omega arith))
+
+-- A cell's value -----------------------------------------------------------------------------------------------------------------------------------
+
+-- what a cell shows in the second pass is what its equation says at instant T, if lower cells show theirs; s is the state in that pass
+module _ (net : List Cell) (E : Elements) (W : Values) (K : ℕ → ℕ) (T first k n : ℕ) (c : Cell) (s : List ℕ)
+    (lower : (a : ℕ) → a < k → nowAt s a ≡ W a T) where
+  pub later-is : (sh : Shape) → Looks (cellTable sh .row) K n k c
+      → (sh ≡ kStart → 0 ≡ bit (eqb T 0))
+      → (sh ≡ kDelay → lineBit s k (c .delay - 1) ≡ bit (delayed (c .delay) (level W (c .a)) T))
+      → (sh ≡ kMerge → heldAt s k ≡ heldBefore (level W (c .a)) (level W (c .b)) T)
+      → (sh ≡ kMemory → nextValue kMemory net s k c ≡ memory first W k c T)
+      → (sh ≡ kRead → nextValue kRead net s k c ≡ E (c .a) (index (W (c .b) T)) T)
+      → nextValue sh net s k c ≡ equation sh first E W k c T
+  unfolding nextValue equation merged cellTable
+  later-is kConstant o p q r m e = refl
+  later-is kComplement o p q r m e = ap (λ (x : ℕ). operate 3 x 0) (lower (c .a) (o .1 .0))
+  later-is kOperator o p q r m e = ap₂ (λ (x y : ℕ). operate (c .kind) x y) (lower (c .a) (o .1 .0)) (lower (c .b) (o .2 .0))
+  later-is kStart o p q r m e = p refl
+  later-is kGround o p q r m e = refl
+  later-is kDelay o p q r m e = q refl
+  later-is kOr o p q r m e = ap₂ (λ (x y : ℕ). bit (high x || high y)) (lower (c .a) (o .1 .0)) (lower (c .b) (o .2 .0))
+  later-is kWhenTrue o p q r m e = ap₂ (λ (x y : ℕ). bit (high x && not (isZero y))) (lower (c .a) (o .1 .0)) (lower (c .b) (o .2 .0))
+  later-is kWhenFalse o p q r m e = ap₂ (λ (x y : ℕ). bit (high x && isZero y)) (lower (c .a) (o .1 .0)) (lower (c .b) (o .2 .0))
+  later-is kMerge o p q r m e = rw (r refl, lower (c .a) (o .1 .0), lower (c .b) (o .2 .0))
+  later-is kMemory o p q r m e = m refl
+  later-is kGated o p q r m e = ap₂ (λ (x y : ℕ). pick (high x) y 0) (lower (c .a) (o .1 .0)) (lower (c .b) (o .2 .0))
+  later-is kArray o p q r m e = refl
+  later-is kAddress o p q r m e = refl
+  later-is kRead o p q r m e = e refl
+  later-is kUnknown o p q r m e = refl
+
+-- what a cell of a known shape looks at
+looks-as : (K : ℕ → ℕ) (n k : ℕ) (c : Cell) {sh known : Shape} → sh ≡ known → Looks (cellTable sh .row) K n k c → Looks (cellTable known .row) K n k c
+looks-as K n k c e o = rw e at o
+
+module _ (K : ℕ → ℕ) (n k : ℕ) (c : Cell) {sh : Shape} where
+  merge-looks : sh ≡ kMerge → Looks (cellTable sh .row) K n k c → (c .a < k) × (c .b < k)
+  unfolding cellTable
+  merge-looks e o = let (d, a, b) = looks-as K n k c e o in (a .0, b .0)
+
+  pub delay-looks : sh ≡ kDelay → Looks (cellTable sh .row) K n k c → (1 ≤ c .delay) × (c .delay ≤ 255) × (c .a < n)
+  unfolding cellTable
+  delay-looks e o = let (d, a, b) = looks-as K n k c e o in (d .0, d .1, a .0)
+
+  pub mem-looks : sh ≡ kMemory → Looks (cellTable sh .row) K n k c → (c .a < k) × (c .b < n)
+  unfolding cellTable
+  mem-looks e o = let (d, a, b) = looks-as K n k c e o in (a .0, b .0)
+
+  pub read-looks : sh ≡ kRead → Looks (cellTable sh .row) K n k c → (c .a < k) × (c .b < k) × (K (c .a) ≡ 42)
+  unfolding cellTable
+  read-looks e o = let (d, a, b) = looks-as K n k c e o in (a .0, b .0, eqb-true _ _ (a .1))
+
+-- Bytes without a use ------------------------------------------------------------------------------------------------------------------------------
+
+-- from byte 6 of a cell on, only a delay's line is set; held bits are 0 or 1, and 0 where the cell is no merge
+pub record Clean (net : List Cell) (s : List ℕ) (k : ℕ) : Type 0 where
+  pub rest : (j : ℕ) → base k + 6 ≤ j → j < base k + 40 → (cellAt net k .kind ≡ 34 → j < base k + 8) → getD s j 0 ≡ 0
+  pub bits : (j : ℕ) → base k + 4 ≤ j → j < base k + 6 → getD s j 0 ≤ bit (eqb (cellAt net k .kind) 38)
+
+settle-rest : (sh : Shape) (t : List ℕ) (k : ℕ) (c : Cell) (j : ℕ) → base k + 6 ≤ j → (sh ≡ kDelay → j < base k + 8) → getD (settle sh t k c) j 0 ≡ getD t j 0
+unfolding settle
+settle-rest kConstant t k c j h g = refl
+settle-rest kComplement t k c j h g = refl
+settle-rest kOperator t k c j h g = refl
+settle-rest kStart t k c j h g = refl
+settle-rest kGround t k c j h g = refl
+settle-rest kDelay t k c j h g = shifted-frame 32 t (base k + 8) _ j (inl (g refl))
+settle-rest kOr t k c j h g = refl
+settle-rest kWhenTrue t k c j h g = refl
+settle-rest kWhenFalse t k c j h g = refl
+settle-rest kMerge t k c j h g = holding-frame t k _ j (inr h)
+settle-rest kMemory t k c j h g = refl
+settle-rest kGated t k c j h g = refl
+settle-rest kArray t k c j h g = refl
+settle-rest kAddress t k c j h g = refl
+settle-rest kRead t k c j h g = refl
+settle-rest kUnknown t k c j h g = refl
+
+held-bits : (t : List ℕ) (k : ℕ) (m : Merge) (j : ℕ) → base k + 6 ≤ length t → base k + 4 ≤ j → j < base k + 6 → getD (holding t k m) j 0 ≤ 1
+unfolding holding
+held-bits t k m j r h g = go (ℕ-discrete j (base k + 5))
+  where
+    go : Dec (j ≡ base k + 5) → getD (set (set t (base k + 4) (bit (m .a))) (base k + 5) (bit (m .b))) j 0 ≤ 1
+    go (yes e) =
+        rw (e, getD-set-same (set t (base k + 4) (bit (m .a))) (base k + 5) (bit (m .b)) 0 (simp length-set (omega arith))) (bit-le (m .b))
+    go (no n) =
+        let e : j ≡ base k + 4 = omega arith in
+        rw (e, getD-set-other (set t (base k + 4) (bit (m .a))) (base k + 5) (base k + 4) (bit (m .b)) 0 (λ x. omega arith), getD-set-same t (base k + 4) (bit (m .a)) 0 (omega arith))
+        (bit-le (m .a))
+
+settle-bits : (sh : Shape) (t : List ℕ) (k : ℕ) (c : Cell) (j B : ℕ) → base k + 6 ≤ length t → base k + 4 ≤ j → j < base k + 6 → getD t j 0 ≤ B
+    → (sh ≡ kMerge → B ≡ 1) → getD (settle sh t k c) j 0 ≤ B
+unfolding settle
+settle-bits kConstant t k c j B r h g l e = l
+settle-bits kComplement t k c j B r h g l e = l
+settle-bits kOperator t k c j B r h g l e = l
+settle-bits kStart t k c j B r h g l e = l
+settle-bits kGround t k c j B r h g l e = l
+settle-bits kDelay t k c j B r h g l e = rw (shifted-frame 32 t (base k + 8) (bit (high (nowAt t (c .a)))) j (inl (omega arith))) l
+settle-bits kOr t k c j B r h g l e = l
+settle-bits kWhenTrue t k c j B r h g l e = l
+settle-bits kWhenFalse t k c j B r h g l e = l
+settle-bits kMerge t k c j B r h g l e = rw (e refl) (held-bits t k (mergeStep (heldAt t k) (high (nowAt t (c .a))) (high (nowAt t (c .b))) .held) j r h g)
+settle-bits kMemory t k c j B r h g l e = l
+settle-bits kGated t k c j B r h g l e = l
+settle-bits kArray t k c j B r h g l e = l
+settle-bits kAddress t k c j B r h g l e = l
+settle-bits kRead t k c j B r h g l e = l
+settle-bits kUnknown t k c j B r h g l e = l
+
+one-bit : (k : ℕ) → k ≡ 38 → bit (eqb k 38) ≡ 1
+unfolding bit
+one-bit k e = rw e
+
+-- the passes keep bytes without a use
+module _ (net : List Cell) (v : List ℕ → ℕ → ℕ) (u : List ℕ) (room : 8 + 40 * length net ≤ length u) (k : ℕ) (l : k < length net) where
+  pub clean-after : Clean net u k → Clean net (after net v u) k
+  clean-after d =
+      record {
+        rest = λ j x y z.
+            third-at net v u k j l (omega arith) y
+            ∙ settle-rest (shapeAt net k) (three net v u k) k (cellAt net k) j x (λ e. z (delay-kind _ e))
+            ∙ third-own net v u k j l (omega arith) y
+            ∙ d .rest j x y z;
+        bits = λ j x y.
+            rw (third-at net v u k j l (omega arith) (omega arith))
+            (settle-bits (shapeAt net k) (three net v u k) k (cellAt net k) j (bit (eqb (cellAt net k .kind) 38)) (rw (length-three net v u k) (omega arith)) x y
+            (rw (third-own net v u k j l (omega arith) (omega arith)) (d .bits j x y)) (λ e. one-bit _ (merge-kind _ e)));
+      }
+
+-- What a state holds ---------------------------------------------------------------------------------------------------------------------------------
+
+pub record Holding (net : List Cell) (words : ℕ → ℕ) (W : Values) (t : ℕ) (s : List ℕ) : Type 0 where
+  pub instant : t ≤ 1000000 → instantOf s ≡ t
+  pub zeros : (j : ℕ) → 4 ≤ j → j < 8 → getD s j 0 ≡ 0
+  pub present : (k : ℕ) → k < length net → nowAt s k ≡ W k t
+  pub past : (k : ℕ) → k < length net → beforeAt s k ≡ earlier W k t
+  pub held : (k : ℕ) → k < length net → shapeAt net k ≡ kMerge
+      → heldAt s k ≡ heldBefore (level W (cellAt net k .a)) (level W (cellAt net k .b)) (suc t)
+  pub lines : (k : ℕ) → k < length net → shapeAt net k ≡ kDelay
+      → (i : ℕ) → i < 256 → lineBit s k i ≡ bit (delayed i (level W (cellAt net k .a)) t)
+  pub elements : (a i : ℕ) → a < 4 → i < 64 → elementNow net s (64 * a + i) ≡ element net words W (arrayAt net a) i t
+  pub bytes : (k : ℕ) → k < length net → shapeAt net k ≡ kDelay → Line s k
+  pub clean : (k : ℕ) → k < length net → Clean net s k
+
+-- Of the passes from u, which is the state before with the past renewed, at instant T
+module _ (net : List Cell) (ordered : Ordered net) (words : ℕ → ℕ) (W : Values) (obeys : Obeys net words W) (T : ℕ)
+    (v : List ℕ → ℕ → ℕ) (u : List ℕ) (room : 8 + 40 * length net ≤ length u)
+    (first : (k : ℕ) → k < length net → ((a : ℕ) → a < k → nowAt (two net v u k) a ≡ W a T) → v (two net v u k) k ≡ W k T) where
+  now-up-to : (n : ℕ) → n ≤ length net → (k : ℕ) → k < n → nowAt (after net v u) k ≡ W k T
+  now-up-to zero g k h = absurd (omega arith)
+  now-up-to (suc n) g k h = go (ℕ-discrete k n) (now-up-to n (omega arith))
+    where
+      go : Dec (k ≡ n) → ((a : ℕ) → a < n → nowAt (after net v u) a ≡ W a T) → nowAt (after net v u) k ≡ W k T
+      go (yes e) r =
+          now-after net v u room k (omega arith)
+          ∙ first k (omega arith) (λ a l. seen-now net v u room k a (omega arith) l ∙ r a (omega arith))
+      go (no x) r = r k (omega arith)
+
+  pub now-is : (k : ℕ) → k < length net → nowAt (after net v u) k ≡ W k T
+  now-is k h = now-up-to (length net) (omega arith) k h
+
+  pub held-is : (k : ℕ) → k < length net → shapeAt net k ≡ kMerge → heldAt u k ≡ heldBefore (level W (cellAt net k .a)) (level W (cellAt net k .b)) T
+      → heldAt (after net v u) k ≡ heldBefore (level W (cellAt net k .a)) (level W (cellAt net k .b)) (suc T)
+  unfolding heldBefore
+  held-is k h e r =
+      let o = merge-looks (kinds net) (length net) k (cellAt net k) e (ordered .looks k h) in
+      held-after net v u room k h e
+      ∙ rw (r, now-is (cellAt net k .a) (omega arith), now-is (cellAt net k .b) (omega arith))
+
+  pub newest-is : (k : ℕ) → k < length net → (e : shapeAt net k ≡ kDelay) → Line u k → lineBit (after net v u) k 0 ≡ bit (delayed 0 (level W (cellAt net k .a)) T)
+  newest-is k h e b =
+      let o = delay-looks (kinds net) (length net) k (cellAt net k) e (ordered .looks k h) in
+      line-new net v u room k h e b
+      ∙ ap (λ (x : ℕ). bit (high x)) (now-is (cellAt net k .a) (o .2))
+      ∙ ap bit (sym (delayed-zero (level W (cellAt net k .a)) T))

@@ -16,9 +16,10 @@ pub struct Tree {
     pub parts: Vec<Tree>,
 }
 
-/// Whether a program can be a text: texts have no words for arrays.
+/// Whether a program can be a text: texts have no words for arrays, loops that
+/// exits end, and exits.
 pub fn has_text(nodes: &[Node]) -> bool {
-    !nodes.iter().any(|node| matches!(node.kind, 10 | 24))
+    !nodes.iter().any(|node| matches!(node.kind, 10 | 24..=26))
 }
 
 /// The tree of an accepted program's nodes.
@@ -162,6 +163,8 @@ pub fn head(tree: &Tree) -> String {
             e(),
             expression(&tree.parts[1], 0)
         ),
+        25 => format!("loop @{delay}"),
+        26 => "exit".to_string(),
         _ => expression(tree, 0),
     }
 }

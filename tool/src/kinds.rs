@@ -26,6 +26,8 @@ pub const NODES: Templates = Templates {
         kind(22, "while @{d}"),
         kind(23, "repeat @{d}"),
         kind(24, "assign a{n} @{d}"),
+        kind(25, "loop @{d}"),
+        kind(26, "exit"),
     ],
     any: kind(0, "kind {k} delay {d} n {n}"),
 };

@@ -57,7 +57,7 @@ pub fn subtree_end(nodes: &[Node], node: usize) -> usize {
 /// How many children a node of this kind has.
 pub fn children(kind: u8) -> usize {
     match kind {
-        3 | 10 | 18 => 1,
+        3 | 10 | 18 | 25 => 1,
         4..=9 | 19 | 20 | 22..=24 => 2,
         21 => 3,
         _ => 0,

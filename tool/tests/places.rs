@@ -206,6 +206,47 @@ fn uses_of_an_array_clash() {
     );
 }
 
+/// An exit is refused for the parallel node between it and the loop around it,
+/// the innermost of each, or for want of a loop; other loops, and parallel nodes
+/// that are around the loop, don't count.
+#[test]
+fn a_refused_exit_is_told_with_what_is_around_it() {
+    let told = |outline: &str| {
+        let given = Given {
+            form: Form::Outline,
+            bytes: outline.as_bytes().to_vec(),
+            ..given(Path::new("/dev/null"))
+        };
+        let nodes = given.source().expect("an outline").nodes;
+        let met = product::check(None, &product::program_bytes(&nodes)).expect_err("an exit");
+        let report = refusals::report(&given, met).expect("a report");
+        let lines: Vec<usize> = report.marks.iter().map(|mark| mark.line - 1).collect();
+        (met, report.rule, lines)
+    };
+    let between = "a parallel statement stands between this exit and the loop around it";
+    let none = "this exit has no loop around it";
+    for (outline, rule, lines) in [
+        ("exit", none, vec![0]),
+        ("while @1\nconstant 1\nexit", none, vec![2]),
+        ("sequence\nloop @1\nexit\nexit", none, vec![3]),
+        ("parallel\nloop @1\nexit\nexit", none, vec![3]),
+        ("loop @1\nparallel\nok\nexit", between, vec![3, 1, 0]),
+        (
+            "loop @1\nparallel\nloop @1\nparallel\nparallel\nok\nok\nexit\nok",
+            between,
+            vec![7, 3, 2],
+        ),
+        (
+            "loop @1\nparallel\nloop @1\nsequence\nok\nexit\nparallel\nexit\nok",
+            between,
+            vec![7, 6, 0],
+        ),
+    ] {
+        let expected = (Refusal::new(22, lines[0]), rule.to_string(), lines);
+        assert_eq!(told(outline), expected, "{outline}");
+    }
+}
+
 #[test]
 fn the_least_delay_is_the_first_that_passes() {
     let mut small = 0;

@@ -27,7 +27,7 @@ use Rattle.compiler.specs.declared.ors.Ors.{Ors}
 use Rattle.compiler.specs.declared.ors.Joint.{Joint}
 use Rattle.compiler.specs.declared.whole.Finished.{Finished}
 use Rattle.compiler.specs.Writes.{write, both}
-use Rattle.compiler.specs.Walk.{place, assignments, Ready, Done}
+use Rattle.compiler.specs.Walk.{place, assignments, allExits, Ready, Done}
 use Rattle.compiler.specs.Ors.{sourcesFrom, OrsReady, Ored}
 use Rattle.compiler.specs.Whole.{Given, Clocked, Walked, Made}
 use Rattle.compiler.proofs.Writes.{write-append, write-before, write-length}
@@ -40,6 +40,7 @@ use Rattle.compiler.proofs.Joining.{counts-alike, ored-alike}
 record Facts (P : Stmt) : Type 0 where
   formed : Formed P
   assigned : assignments P ≤ 200
+  left-by : allExits P ≤ 200
   delayed : delayCount P ≤ 200
   walked : walkCount P ≤ 400
   len : length (netlist P) ≡ addressAt P + orCountFrom (addressSources P (walkAt P)) 16 4
@@ -52,6 +53,7 @@ facts options s e =
     record {
       formed = program-fit options s e .formed;
       assigned = omega (arith, n, few P);
+      left-by = omega (arith, n, few P);
       delayed = omega (arith, n, few P);
       walked = omega (arith, n, few P);
       len = net-length P;
@@ -89,7 +91,7 @@ module _ {s ends : List ℕ} {n : ℕ} (G : Given s ends n) where
   F = facts (G .options) s (G .accepted)
 
   -- the first walk
-  pub first-ready : Ready 0 (programOf s) (place 0 3 203 0) n
+  pub first-ready : Ready 0 (programOf s) (place 0 3 203 0 0) n
   first-ready =
       let f = F in
       record {
@@ -99,9 +101,10 @@ module _ {s ends : List ℕ} {n : ℕ} (G : Given s ends n) where
         room = omega (arith, f .walked, G .size);
         small = omega (arith, G .size);
         marks = omega (arith, f .assigned);
+        outs = omega (arith, f .left-by);
       }
 
-  module _ {before first ms marked : List ℕ} {e : Place} (u : Done 0 (programOf s) (place 0 3 203 0) before first ms marked e) (l : length ms ≡ 800) where
+  module _ {before first ms marked : List ℕ} {e : Place} (u : Done 0 (programOf s) (place 0 3 203 0 0) before first ms marked e) (l : length ms ≡ 800) where
     pub clocks-ready : OrsReady clockJoint (e .mark / 4) (e .delay) (orCountFrom (sourcesFrom 1 marked 0 (e .mark / 4)) 0 20) n
     clocks-ready =
         let f = F in
@@ -122,7 +125,7 @@ module _ {s ends : List ℕ} {n : ℕ} (G : Given s ends n) where
 
   -- the second walk
   module _ {M : ℕ} (m : M ≡ memoryAt (programOf s)) where
-    pub walk-ready : Ready M (programOf s) (place 0 3 (M + 16 + 8) 0) n
+    pub walk-ready : Ready M (programOf s) (place 0 3 (M + 16 + 8) 0 0) n
     walk-ready =
         let f = F in
         record {
@@ -132,13 +135,14 @@ module _ {s ends : List ℕ} {n : ℕ} (G : Given s ends n) where
           room = omega (arith, m, f .len, f .most, G .size);
           small = omega (arith, G .size);
           marks = omega (arith, f .assigned);
+          outs = omega (arith, f .left-by);
         }
 
     pub walk-low : M + 24 ≤ 627
     walk-low = let f = F in omega (arith, m, f .len, f .most)
 
-    module _ {before mid ms marked : List ℕ} {e : Place} (u₀ : Done M (programOf s) (place 0 3 (M + 16 + 8) 0) before mid ms marked e) (l : length ms ≡ 800) where
-      u : Done (memoryAt (programOf s)) (programOf s) (place 0 3 (walkAt (programOf s)) 0) before mid ms marked e
+    module _ {before mid ms marked : List ℕ} {e : Place} (u₀ : Done M (programOf s) (place 0 3 (M + 16 + 8) 0 0) before mid ms marked e) (l : length ms ≡ 800) where
+      u : Done (memoryAt (programOf s)) (programOf s) (place 0 3 (walkAt (programOf s)) 0 0) before mid ms marked e
       u = rw m at u₀
 
       pub datas-ready : OrsReady dataJoint (e .mark / 4) (e .cell) (orCountFrom (sourcesFrom 2 marked 0 (e .mark / 4)) 0 20) n

@@ -8,8 +8,8 @@ use native.Mathlib.Numerals.{towards-suc}
 use lib.ListN.{length, set, length-append}
 use lib.Seq.{sets}
 use Rattle.model.specs.declared.Cell.{Cell}
-use Rattle.model.specs.Program.{Stmt, ok, tick, assign, assignElem, seq, par, ite, while, repeat}
-use Rattle.model.specs.Numbering.{ifDelayCount, pastSwitches, delayCount, walkCount, finishWire, delays, walk}
+use Rattle.model.specs.Program.{Stmt, ok, tick, assign, assignElem, seq, par, ite, while, repeat, loop, exit}
+use Rattle.model.specs.Numbering.{ifDelayCount, pastSwitches, delayCount, exitCount, walkCount, finishWire, delays, walk}
 use Rattle.laws.specs.Numbering.Lengths.{d-len, w-len}
 use Rattle.laws.specs.Lists.Writes.{sets-append}
 use Rattle.compiler.specs.declared.walk.Place.{Place}
@@ -17,16 +17,17 @@ use Rattle.compiler.specs.Writes.{write, both}
 use Rattle.compiler.specs.Walk.{place, assignments, marksOf, Done}
 use Rattle.compiler.proofs.Writes.{behind, write-none, both-walk, both-delay, both-front}
 
-same-place : {w w′ d d′ c c′ k k′ : ℕ} → w ≡ w′ → d ≡ d′ → c ≡ c′ → k ≡ k′ → place w d c k ≡ place w′ d′ c′ k′
-same-place a b c d = rw (a, b, c, d)
+same-place : {w w′ d d′ c c′ k k′ o o′ : ℕ} → w ≡ w′ → d ≡ d′ → c ≡ c′ → k ≡ k′ → o ≡ o′ → place w d c k o ≡ place w′ d′ c′ k′ o′
+same-place a b c d e = rw (a, b, c, d, e)
 
 -- the place at which a statement that is entered at p is left
 abbrev pub leave : Stmt → Place → Place
 leave P p =
     place (finishWire P (p .wire) (p .delay) (p .cell)) (p .delay + delayCount P) (p .cell + walkCount P) (p .mark + 4 * assignments P)
+    (p .out + exitCount P)
 
 pub left : {M : ℕ} {P : Stmt} {p r : Place} {b a k l : List ℕ} → Done M P p b a k l r → r ≡ leave P p
-left u = same-place (u .wire) (u .delay) (u .cell) (u .mark)
+left u = same-place (u .wire) (u .delay) (u .cell) (u .mark) (u .out)
 
 pub marks-length : (P : Stmt) (d c : ℕ) → length (marksOf P d c) ≡ 4 * assignments P
 unfolding marksOf assignments
@@ -45,6 +46,8 @@ marks-length (ite δ e P Q) d c =
     (omega arith)
 marks-length (while δ e P) d c = marks-length P (d + 1) (pastSwitches e c)
 marks-length (repeat δ e P) d c = marks-length P (d + 1) (pastSwitches e c + 1)
+marks-length (loop δ P) d c = marks-length P (d + 1) (c + 1)
+marks-length exit d c = refl
 
 -- four marks put in one by one
 pub four-marks : (l : List ℕ) (k a b c d : ℕ) → set (set (set (set l k a) (k + 1) b) (k + 2) c) (k + 3) d ≡ sets l k (a ∷ b ∷ c ∷ d ∷ [])
@@ -109,8 +112,8 @@ module _ {d c k d′ c′ k′ : ℕ} {before marked after remarked : List ℕ} 
 
 module _ {d c k d′ c′ k′ : ℕ} {before marked after remarked : List ℕ} {D W : List Cell} {K : List ℕ} where
   -- a part
-  pub grow-part : {M w : ℕ} {Q : Stmt} {r : Place} {end marks : List ℕ} → Grown d c k before marked D W K after remarked d′ c′ k′
-      → d′ + delayCount Q ≤ c → Done M Q (place w d′ c′ k′) after end remarked marks r
+  pub grow-part : {M w o : ℕ} {Q : Stmt} {r : Place} {end marks : List ℕ} → Grown d c k before marked D W K after remarked d′ c′ k′
+      → d′ + delayCount Q ≤ c → Done M Q (place w d′ c′ k′ o) after end remarked marks r
       → Grown d c k before marked (D ++ delays Q w d′ c′) (W ++ walk M Q w d′ c′) (K ++ marksOf Q d′ c′) end marks
       (d′ + delayCount Q) (c′ + walkCount Q) (k′ + 4 * assignments Q)
   unfolding both
@@ -135,8 +138,8 @@ module _ {d c k d′ c′ k′ : ℕ} {before marked after remarked : List ℕ} 
 pub closed : {M d c k : ℕ} {S : Stmt} {p r : Place} {before marked after remarked K : List ℕ} {D W : List Cell}
     → Grown (p .delay) (p .cell) (p .mark) before marked D W K after remarked d c k
     → D ≡ delays S (p .wire) (p .delay) (p .cell) → W ≡ walk M S (p .wire) (p .delay) (p .cell) → K ≡ marksOf S (p .delay) (p .cell)
-    → r ≡ place (finishWire S (p .wire) (p .delay) (p .cell)) d c k → Done M S p before after marked remarked r
-closed {M} {S = S} {p} g₀ eD eW eK e =
+    → r .out ≡ p .out + exitCount S → r ≡ place (finishWire S (p .wire) (p .delay) (p .cell)) d c k (r .out) → Done M S p before after marked remarked r
+closed {M} {S = S} {p} g₀ eD eW eK o e =
     let g = rw (eD, eW, eK) at g₀ in
     record {
       cells = g .cells;
@@ -145,4 +148,5 @@ closed {M} {S = S} {p} g₀ eD eW eK e =
       delay = ap (λ (r : Place). r .delay) e ∙ g .delay ∙ ap (λ (n : ℕ). p .delay + n) (d-len S (p .wire) (p .delay) (p .cell));
       cell = ap (λ (r : Place). r .cell) e ∙ g .cell ∙ ap (λ (n : ℕ). p .cell + n) (w-len M S (p .wire) (p .delay) (p .cell));
       mark = ap (λ (r : Place). r .mark) e ∙ g .mark ∙ ap (λ (n : ℕ). p .mark + n) (marks-length S (p .delay) (p .cell));
+      out = o;
     }

@@ -13,7 +13,8 @@ use Rattle.model.specs.declared.Cell.{Cell}
 use Rattle.model.specs.Circuit.{cell}
 use Rattle.model.specs.Numbering.{Source, wiresOf, orChain, orChainOut, ors, orsOut, orCount, orsFrom, outsFrom, orCountFrom, memoriesOf, arraysOf}
 use Rattle.model.specs.Program.{arrayVar}
-use Rattle.laws.specs.Numbering.Parts.{ors-len, outs-len}
+use Rattle.laws.specs.Numbering.Lengths.{ors-len}
+use Rattle.laws.specs.Numbering.Parts.{outs-len}
 use Rattle.compiler.specs.declared.walk.Word.{Word}
 use Rattle.compiler.specs.declared.ors.Joint.{Joint}
 use Rattle.compiler.specs.declared.ors.Ors.{Ors}

@@ -3,6 +3,7 @@ pub mod Writes
 pub mod Reading
 pub mod Exprs
 pub mod Growth
+pub mod Exits
 pub mod Stmts
 pub mod Parts
 pub mod Joining

@@ -9,7 +9,7 @@ use borrow.Author.Tests.{ne-eqb}
 use lib.ListN.{length, getD, length-append, drop}
 use lib.Seq.{sets, sets-eq, getD-append-add}
 use Rattle.model.specs.Word.{pick}
-use Rattle.model.specs.Program.{Stmt, ok, tick, assign, assignElem, seq, par, ite, while, repeat, arrayVar}
+use Rattle.model.specs.Program.{Stmt, ok, tick, assign, assignElem, seq, par, ite, while, repeat, loop, exit, arrayVar}
 use Rattle.model.specs.Numbering.{exprCount, pastSwitches, ifDelayCount, delayCount, walkCount, Source, clockSources, dataSources, addressSources, wiresOf}
 use Rattle.laws.specs.Program.Fit.{Formed}
 use Rattle.compiler.specs.Walk.{assignments, marksOf}
@@ -50,6 +50,8 @@ clocks-in (ite δ e P Q) d c l =
     (clocks-in P d₁ c₁) (clocks-in Q (d₁ + delayCount P) (c₁ + walkCount P))
 clocks-in (while δ e P) d c l = clocks-in P (d + 1) (pastSwitches e c) l
 clocks-in (repeat δ e P) d c l = clocks-in P (d + 1) (pastSwitches e c + 1) l
+clocks-in (loop δ P) d c l = clocks-in P (d + 1) (c + 1) l
+clocks-in exit d c l = refl
 
 datas-in : (P : Stmt) (d c : ℕ) (l : List ℕ) → sourcesIn 2 (marksOf P d c ++ l) ≡ dataSources P c ++ sourcesIn 2 l
 unfolding marksOf dataSources sourcesIn
@@ -70,6 +72,8 @@ datas-in (ite δ e P Q) d c l =
     (datas-in P d₁ c₁) (datas-in Q (d₁ + delayCount P) (c₁ + walkCount P))
 datas-in (while δ e P) d c l = datas-in P (d + 1) (pastSwitches e c) l
 datas-in (repeat δ e P) d c l = datas-in P (d + 1) (pastSwitches e c + 1) l
+datas-in (loop δ P) d c l = datas-in P (d + 1) (c + 1) l
+datas-in exit d c l = refl
 
 -- of the last marks only those of element assignments are read: an array's variable is none of an assignment's
 wires-append : (x : ℕ) (us vs : List Source) → wiresOf x (us ++ vs) ≡ wiresOf x us ++ wiresOf x vs
@@ -108,6 +112,8 @@ module _ (y : ℕ) (low : 16 ≤ y) where
       (addresses-in P (w .2) d₁ c₁) (addresses-in Q (w .3) (d₁ + delayCount P) (c₁ + walkCount P)) l
   addresses-in (while δ e P) w d c l = addresses-in P (w .2) (d + 1) (pastSwitches e c) l
   addresses-in (repeat δ e P) w d c l = addresses-in P (w .2) (d + 1) (pastSwitches e c + 1) l
+  addresses-in (loop δ P) w d c l = addresses-in P (w .1) (d + 1) (c + 1) l
+  addresses-in exit w d c l = refl
 
 -- Marks and arrays ---------------------------------------------------------------------------------------------------------------------
 

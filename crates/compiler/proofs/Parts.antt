@@ -1,16 +1,20 @@
 -- What the walk asks of the parts of a statement, from what the statement was given. Assumes nothing.
-use mathlib.Core.Path.{_≡_}
+use mathlib.Core.Path.{_≡_, _∙_}
 use mathlib.Core.List.{List}
 use Prim.Native.Nat.{ℕ, _+_, _*_, _≤_}
 use native.Mathlib.Omega.{arith}
-use Rattle.model.specs.Program.{Expr, Stmt, assign, assignElem, seq, par, ite, while, repeat}
-use Rattle.model.specs.Numbering.{exprCount, pastSwitches, delayCount, walkCount}
+use lib.ListN.{length}
+use Rattle.model.specs.Program.{Expr, Stmt, assign, assignElem, seq, par, ite, while, repeat, loop}
+use Rattle.model.specs.Numbering.{exprCount, pastSwitches, delayCount, walkCount, loopExits}
+use Rattle.laws.specs.Numbering.Lengths.{exit-ors}
 use Rattle.laws.specs.Program.Fit.{FormedExpr, Formed}
 use Rattle.compiler.specs.declared.walk.Word.{Word}
 use Rattle.compiler.specs.declared.walk.Place.{Place}
 use Rattle.compiler.specs.declared.walk.Pulse.{Pulse}
-use Rattle.compiler.specs.Walk.{place, ExprReady, ExprDone, SwitchReady, Switched, assignments, Owned, Ready, Done}
+use Rattle.compiler.specs.Walk.{place, ExprReady, ExprDone, SwitchReady, Switched, assignments, allExits, Owned, Ready, Done, Opened, waiting, ExitsReady}
+use Rattle.compiler.proofs.Sizes.{some-exits}
 use Rattle.compiler.proofs.Growth.{left}
+use Rattle.compiler.proofs.Exits.{opened-waiting}
 
 -- the switches' cells have small numbers
 pub switch-low : {M n c g t : ℕ} {E : Expr} {b a : List ℕ} → SwitchReady M E c n → Switched M E c g b a t → t + 2 ≤ 627
@@ -20,9 +24,9 @@ module _ {M n : ℕ} {p : Place} where
   -- a part is ready where it stays within the whole
   module _ {S : Stmt} (r : Ready M S p n) where
     part : {P : Stmt} {q : Place} → Formed P → q .delay + delayCount P ≤ q .cell → q .cell + walkCount P ≤ p .cell + walkCount S
-        → q .mark + 4 * assignments P ≤ p .mark + 4 * assignments S → Ready M P q n
-    part w a b k =
-        record { formed = w; memory = r .memory; apart = a; room = omega (arith, b, r .room); small = r .small; marks = omega (arith, k, r .marks) }
+        → q .mark + 4 * assignments P ≤ p .mark + 4 * assignments S → q .out + allExits P ≤ p .out + allExits S → Ready M P q n
+    part w a b k x =
+        record { formed = w; memory = r .memory; apart = a; room = omega (arith, b, r .room); small = r .small; marks = omega (arith, k, r .marks); outs = omega (arith, x, r .outs) }
 
     expr-part : {E : Expr} {c : ℕ} → FormedExpr E → c + exprCount E ≤ p .cell + walkCount S → ExprReady M E c n
     expr-part w b = record { formed = w; memory = r .memory; room = omega (arith, b, r .room); small = r .small }
@@ -65,24 +69,24 @@ module _ {M n : ℕ} {p : Place} where
 
   module _ {P Q : Stmt} where
     pub seq-first : Ready M (seq P Q) p n → Ready M P p n
-    unfolding delayCount walkCount assignments
-    seq-first r = part r (r .formed .0) (omega (arith, r .apart)) (omega arith) (omega arith)
+    unfolding delayCount walkCount assignments allExits
+    seq-first r = part r (r .formed .0) (omega (arith, r .apart)) (omega arith) (omega arith) (omega arith)
 
     pub seq-second : {q : Place} {b a k l : List ℕ} → Ready M (seq P Q) p n → Done M P p b a k l q → Ready M Q q n
-    unfolding delayCount walkCount assignments
-    seq-second r u = rw (left u) (part r (r .formed .1) (omega (arith, r .apart)) (omega arith) (omega arith))
+    unfolding delayCount walkCount assignments allExits
+    seq-second r u = rw (left u) (part r (r .formed .1) (omega (arith, r .apart)) (omega arith) (omega arith) (omega (arith, some-exits P)))
 
     pub par-first : Ready M (par P Q) p n → Ready M P p n
-    unfolding delayCount walkCount assignments
-    par-first r = part r (r .formed .0) (omega (arith, r .apart)) (omega arith) (omega arith)
+    unfolding delayCount walkCount assignments allExits
+    par-first r = part r (r .formed .0) (omega (arith, r .apart)) (omega arith) (omega arith) (omega arith)
 
     pub par-second : {q : Place} {b a k l : List ℕ} → Ready M (par P Q) p n → Done M P p b a k l q
-        → Ready M Q (place (p .wire) (q .delay) (q .cell) (q .mark)) n
-    unfolding delayCount walkCount assignments
-    par-second r u = rw (left u) (part r (r .formed .1) (omega (arith, r .apart)) (omega arith) (omega arith))
+        → Ready M Q (place (p .wire) (q .delay) (q .cell) (q .mark) (q .out)) n
+    unfolding delayCount walkCount assignments allExits
+    par-second r u = rw (left u) (part r (r .formed .1) (omega (arith, r .apart)) (omega arith) (omega arith) (omega (arith, some-exits P)))
 
     pub par-merge : {q s : Place} {b a k l b′ a′ k′ l′ : List ℕ} → Ready M (par P Q) p n → Done M P p b a k l q
-        → Done M Q (place (p .wire) (q .delay) (q .cell) (q .mark)) b′ a′ k′ l′ s → 6 * s .cell + 6 ≤ n
+        → Done M Q (place (p .wire) (q .delay) (q .cell) (q .mark) (q .out)) b′ a′ k′ l′ s → 6 * s .cell + 6 ≤ n
     unfolding walkCount
     par-merge r u v = omega (arith, r .room, u .cell, v .cell)
 
@@ -92,19 +96,19 @@ module _ {M n : ℕ} {p : Place} where
       if-switches = switch-part r (r .formed .1) (omega arith)
 
       module _ {g t : ℕ} {m₀ m₁ m₂ : List ℕ} {o : Pulse} (ow : Owned δ (p .wire) (p .delay) m₀ m₁ o) (sw : Switched M E (p .cell) g m₁ m₂ t) where
-        pub if-first : Ready M P (place t (o .delay) (t + 1 + 1) (p .mark)) n
-        unfolding delayCount walkCount assignments
-        if-first = rw (sw .switch, ow .delay) (part r (r .formed .2) (omega (arith, r .apart)) (omega arith) (omega arith))
+        pub if-first : Ready M P (place t (o .delay) (t + 1 + 1) (p .mark) (p .out)) n
+        unfolding delayCount walkCount assignments allExits
+        if-first = rw (sw .switch, ow .delay) (part r (r .formed .2) (omega (arith, r .apart)) (omega arith) (omega arith) (omega arith))
 
-        pub if-second : {q : Place} {b a k l : List ℕ} → Done M P (place t (o .delay) (t + 1 + 1) (p .mark)) b a k l q
-            → Ready M Q (place (t + 1) (q .delay) (q .cell) (q .mark)) n
-        unfolding delayCount walkCount assignments
+        pub if-second : {q : Place} {b a k l : List ℕ} → Done M P (place t (o .delay) (t + 1 + 1) (p .mark) (p .out)) b a k l q
+            → Ready M Q (place (t + 1) (q .delay) (q .cell) (q .mark) (q .out)) n
+        unfolding delayCount walkCount assignments allExits
         if-second u₀ =
             let u = rw (sw .switch, ow .delay) at u₀ in
-            rw (sw .switch, left u) (part r (r .formed .3) (omega (arith, r .apart)) (omega arith) (omega arith))
+            rw (sw .switch, left u) (part r (r .formed .3) (omega (arith, r .apart)) (omega arith) (omega arith) (omega (arith, some-exits P)))
 
-        pub if-merge : {q s : Place} {b a k l b′ a′ k′ l′ : List ℕ} → Done M P (place t (o .delay) (t + 1 + 1) (p .mark)) b a k l q
-            → Done M Q (place (t + 1) (q .delay) (q .cell) (q .mark)) b′ a′ k′ l′ s → 6 * s .cell + 6 ≤ n
+        pub if-merge : {q s : Place} {b a k l b′ a′ k′ l′ : List ℕ} → Done M P (place t (o .delay) (t + 1 + 1) (p .mark) (p .out)) b a k l q
+            → Done M Q (place (t + 1) (q .delay) (q .cell) (q .mark) (q .out)) b′ a′ k′ l′ s → 6 * s .cell + 6 ≤ n
         unfolding walkCount
         if-merge u v = omega (arith, r .room, sw .switch, u .cell, v .cell)
 
@@ -114,12 +118,12 @@ module _ {M n : ℕ} {p : Place} where
     while-switches r = switch-part r (r .formed .1) (omega arith)
 
     pub while-body : {g t : ℕ} {m₁ m₂ : List ℕ} → Ready M (while δ E P) p n → Switched M E (p .cell) g m₁ m₂ t
-        → Ready M P (place t (p .delay + 1) (t + 1 + 1) (p .mark)) n
-    unfolding delayCount walkCount assignments
-    while-body r sw = rw (sw .switch) (part r (r .formed .2) (omega (arith, r .apart)) (omega arith) (omega arith))
+        → Ready M P (place t (p .delay + 1) (t + 1 + 1) (p .mark) (p .out)) n
+    unfolding delayCount walkCount assignments allExits
+    while-body r sw = rw (sw .switch) (part r (r .formed .2) (omega (arith, r .apart)) (omega arith) (omega arith) (omega arith))
 
     pub while-merge : {g t : ℕ} {m₁ m₂ b a k l : List ℕ} {q : Place} → Ready M (while δ E P) p n → Switched M E (p .cell) g m₁ m₂ t
-        → Done M P (place t (p .delay + 1) (t + 1 + 1) (p .mark)) b a k l q → 6 * q .cell + 6 ≤ n
+        → Done M P (place t (p .delay + 1) (t + 1 + 1) (p .mark) (p .out)) b a k l q → 6 * q .cell + 6 ≤ n
     unfolding walkCount
     while-merge r sw u = omega (arith, r .room, sw .switch, u .cell)
 
@@ -128,6 +132,34 @@ module _ {M n : ℕ} {p : Place} where
     repeat-switches r = switch-part r (r .formed .1) (omega arith)
 
     pub repeat-body : {g t : ℕ} {m₁ m₂ : List ℕ} → Ready M (repeat δ E P) p n → Switched M E (p .cell) g m₁ m₂ t
-        → Ready M P (place (t + 1 + 1) (p .delay + 1) (t + 1 + 1 + 1) (p .mark)) n
-    unfolding delayCount walkCount assignments
-    repeat-body r sw = rw (sw .switch) (part r (r .formed .2) (omega (arith, r .apart)) (omega arith) (omega arith))
+        → Ready M P (place (t + 1 + 1) (p .delay + 1) (t + 1 + 1 + 1) (p .mark) (p .out)) n
+    unfolding delayCount walkCount assignments allExits
+    repeat-body r sw = rw (sw .switch) (part r (r .formed .2) (omega (arith, r .apart)) (omega arith) (omega arith) (omega arith))
+
+  module _ {δ : ℕ} {P : Stmt} (r : Ready M (loop δ P) p n) where
+    pub loop-merge : 6 * p .cell + 6 ≤ n
+    unfolding walkCount
+    loop-merge = omega (arith, r .room)
+
+    pub loop-body : Ready M P (place (p .cell) (p .delay + 1) (p .cell + 1) (p .mark) (p .out)) n
+    unfolding delayCount walkCount assignments allExits
+    loop-body = part r (r .formed .1) (omega (arith, r .apart)) (omega arith) (omega arith) (omega arith)
+
+    -- the exits of its body wait behind those that waited before
+    module _ {q : Place} {b a k l o o′ : List ℕ} (u : Done M P (place (p .cell) (p .delay + 1) (p .cell + 1) (p .mark) (p .out)) b a k l q)
+        (v : Opened P (place (p .cell) (p .delay + 1) (p .cell + 1) (p .mark) (p .out)) o o′) (h : length o ≡ 200) where
+      pub loop-waits : waiting o′ (p .out) (q .out) ≡ loopExits P (p .delay) (p .cell)
+      unfolding allExits
+      loop-waits = rw (u .out) (opened-waiting v (omega (arith, h, r .outs)))
+
+      pub loop-exits : ExitsReady o′ (p .out) (q .out) (q .cell) n
+      unfolding walkCount allExits
+      loop-exits =
+          let ors = exit-ors P (p .cell) (p .delay + 1) (p .cell + 1) in
+          record {
+            upward = omega (arith, u .out);
+            most = omega (arith, u .out, some-exits P, r .outs);
+            long = v .same ∙ h;
+            room = rw loop-waits (omega (arith, ors, u .cell, r .room));
+            small = r .small;
+          }

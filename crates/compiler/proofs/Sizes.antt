@@ -1,10 +1,10 @@
--- A statement of n nodes has at most n assignments, n delay cells and 2 n walk cells. Assumes nothing.
-use Prim.Native.Nat.{ℕ, zero, suc, _*_, _≤_}
+-- A statement of n nodes has at most n assignments, n exits, n delay cells and 2 n walk cells. Assumes nothing.
+use Prim.Native.Nat.{ℕ, zero, suc, _+_, _*_, _≤_}
 use native.Mathlib.Omega.{arith}
-use Rattle.model.specs.Program.{Expr, const, var, compl, op, elem, Stmt, ok, tick, assign, assignElem, seq, par, ite, while, repeat}
-use Rattle.model.specs.Numbering.{exprCount, ifDelayCount, delayCount, walkCount}
+use Rattle.model.specs.Program.{Expr, const, var, compl, op, elem, Stmt, ok, tick, assign, assignElem, seq, par, ite, while, repeat, loop, exit}
+use Rattle.model.specs.Numbering.{exprCount, ifDelayCount, delayCount, exitCount, walkCount}
 use Rattle.laws.specs.Numbering.Count.{eNodes, nodes}
-use Rattle.compiler.specs.Walk.{assignments}
+use Rattle.compiler.specs.Walk.{assignments, allExits}
 
 few-expr : (e : Expr) → (exprCount e ≤ eNodes e) × (1 ≤ eNodes e)
 unfolding exprCount eNodes
@@ -19,8 +19,24 @@ unfolding ifDelayCount
 few-own zero = omega arith
 few-own (suc δ) = omega arith
 
-pub few : (P : Stmt) → (assignments P ≤ nodes P) × (delayCount P ≤ nodes P) × (walkCount P ≤ 2 * nodes P)
-unfolding assignments delayCount walkCount nodes
+-- those that end the loop around it are some of its exits
+pub some-exits : (P : Stmt) → exitCount P ≤ allExits P
+unfolding exitCount allExits
+some-exits ok = omega arith
+some-exits (tick δ) = omega arith
+some-exits (assign δ x e) = omega arith
+some-exits (assignElem δ k i e) = omega arith
+some-exits (seq P Q) = omega (arith, some-exits P, some-exits Q)
+some-exits (par P Q) = omega (arith, some-exits P, some-exits Q)
+some-exits (ite δ e P Q) = omega (arith, some-exits P, some-exits Q)
+some-exits (while δ e P) = some-exits P
+some-exits (repeat δ e P) = some-exits P
+some-exits (loop δ P) = omega arith
+some-exits exit = omega arith
+
+-- an exit that ends the loop around P will need at most one walk cell, and counts as one already
+pub few : (P : Stmt) → (assignments P ≤ nodes P) × (allExits P ≤ nodes P) × (delayCount P ≤ nodes P) × (walkCount P + exitCount P ≤ 2 * nodes P)
+unfolding assignments allExits delayCount exitCount walkCount nodes
 few ok = omega arith
 few (tick δ) = omega arith
 few (assign δ x e) = omega (arith, few-expr e)
@@ -30,3 +46,5 @@ few (par P Q) = omega (arith, few P, few Q)
 few (ite δ e P Q) = omega (arith, few-expr e, few-own δ, few P, few Q)
 few (while δ e P) = omega (arith, few-expr e, few P)
 few (repeat δ e P) = omega (arith, few-expr e, few P)
+few (loop δ P) = omega (arith, few P)
+few exit = omega arith

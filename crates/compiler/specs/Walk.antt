@@ -2,9 +2,10 @@
 use mathlib.Core.Path.{_≡_}
 use mathlib.Core.List.{List, [], _∷_, _++_}
 use Prim.Native.Nat.{ℕ, _+_, _*_, _≤_}
+use lib.ListN.{length, take, drop}
 use lib.Seq.{sets}
-use Rattle.model.specs.Program.{Expr, Stmt, ok, tick, assign, assignElem, seq, par, ite, while, repeat, arrayVar}
-use Rattle.model.specs.Numbering.{exprCount, exprWire, exprCells, onTrue, pastSwitches, switches, ifDelayCount, ifDelayCells, ifPulse, delayCount, walkCount, finishWire, delays, walk}
+use Rattle.model.specs.Program.{Expr, Stmt, ok, tick, assign, assignElem, seq, par, ite, while, repeat, loop, exit, arrayVar}
+use Rattle.model.specs.Numbering.{exprCount, exprWire, exprCells, onTrue, pastSwitches, switches, ifDelayCount, ifDelayCells, ifPulse, delayCount, exitCount, walkCount, finishWire, exitWires, ors, orsOut, orCount, delays, walk}
 use Rattle.laws.specs.Program.Fit.{FormedExpr, Formed}
 use Rattle.compiler.specs.declared.walk.Word.{Word}
 use Rattle.compiler.specs.declared.walk.Place.{Place}
@@ -39,8 +40,8 @@ pub record Switched (M : ℕ) (e : Expr) (c ifPulse : ℕ) (before after : List 
 
 -- Statements ---------------------------------------------------------------------------------------------------------------------------
 
-abbrev pub place : ℕ → ℕ → ℕ → ℕ → Place
-place w d c k = record { wire = w; delay = d; cell = c; mark = k }
+abbrev pub place : ℕ → ℕ → ℕ → ℕ → ℕ → Place
+place w d c k o = record { wire = w; delay = d; cell = c; mark = k; out = o }
 
 -- how many assignments a statement has
 unfoldable pub assignments : Stmt → ℕ
@@ -53,6 +54,22 @@ assignments (par P Q) = assignments P + assignments Q
 assignments (ite δ e P Q) = assignments P + assignments Q
 assignments (while δ e P) = assignments P
 assignments (repeat δ e P) = assignments P
+assignments (loop δ P) = assignments P
+assignments exit = 0
+
+-- how many exits it has, those of its loops too
+unfoldable pub allExits : Stmt → ℕ
+allExits ok = 0
+allExits (tick δ) = 0
+allExits (assign δ x e) = 0
+allExits (assignElem δ k i e) = 0
+allExits (seq P Q) = allExits P + allExits Q
+allExits (par P Q) = allExits P + allExits Q
+allExits (ite δ e P Q) = allExits P + allExits Q
+allExits (while δ e P) = allExits P
+allExits (repeat δ e P) = allExits P
+allExits (loop δ P) = allExits P
+allExits exit = 1
 
 -- their marks, in node order: variable, first delay cell, kind 41 cells of the value and of the index
 unfoldable pub marksOf : Stmt → ℕ → ℕ → List ℕ
@@ -65,6 +82,8 @@ marksOf (par P Q) d c = marksOf P d c ++ marksOf Q (d + delayCount P) (c + walkC
 marksOf (ite δ e P Q) d c = marksOf P (d + ifDelayCount δ) (pastSwitches e c) ++ marksOf Q (d + ifDelayCount δ + delayCount P) (pastSwitches e c + walkCount P)
 marksOf (while δ e P) d c = marksOf P (d + 1) (pastSwitches e c)
 marksOf (repeat δ e P) d c = marksOf P (d + 1) (pastSwitches e c + 1)
+marksOf (loop δ P) d c = marksOf P (d + 1) (c + 1)
+marksOf exit d c = []
 
 -- an if's own delay cell
 pub record Owned (δ start d : ℕ) (before after : List ℕ) (r : Pulse) : Type 0 where
@@ -80,6 +99,7 @@ pub record Ready (M : ℕ) (P : Stmt) (p : Place) (n : ℕ) : Type 0 where
   pub room : 6 * (p .cell + walkCount P) ≤ n
   pub small : n ≤ 3762
   pub marks : p .mark + 4 * assignments P ≤ 800
+  pub outs : p .out + allExits P ≤ 200
 
 pub record Done (M : ℕ) (P : Stmt) (p : Place) (before after : List ℕ) (marked remarked : List ℕ) (r : Place) : Type 0 where
   pub cells :
@@ -89,3 +109,28 @@ pub record Done (M : ℕ) (P : Stmt) (p : Place) (before after : List ℕ) (mark
   pub delay : r .delay ≡ p .delay + delayCount P
   pub cell : r .cell ≡ p .cell + walkCount P
   pub mark : r .mark ≡ p .mark + 4 * assignments P
+  pub out : r .out ≡ p .out + exitCount P
+
+-- Exits --------------------------------------------------------------------------------------------------------------------------------
+
+-- the starts of the exits of P wait behind those that waited before; what lies behind them is not told
+pub record Opened (P : Stmt) (p : Place) (before after : List ℕ) : Type 0 where
+  pub same : length after ≡ length before
+  pub starts : take (p .out + exitCount P) after ≡ take (p .out) before ++ exitWires P (p .wire) (p .delay) (p .cell)
+
+-- those that wait from entry i on and end before entry j
+abbrev pub waiting : List ℕ → ℕ → ℕ → List ℕ
+waiting os i j = drop i (take j os)
+
+-- their ors go to cell n of a list of so many bytes
+pub record ExitsReady (os : List ℕ) (i j n size : ℕ) : Type 0 where
+  pub upward : i ≤ j
+  pub most : j ≤ 200
+  pub long : length os ≡ 200
+  pub room : 6 * (n + orCount (waiting os i j)) ≤ size
+  pub small : size ≤ 3762
+
+pub record ExitsJoined (n : ℕ) (ws : List ℕ) (before after : List ℕ) (r : Word) : Type 0 where
+  pub cells : after ≡ write n (ors 35 n ws) before
+  pub wire : r .wire ≡ orsOut 1 n ws
+  pub cell : r .cell ≡ n + orCount ws

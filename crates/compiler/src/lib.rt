@@ -49,7 +49,7 @@ pub fn compile_accepted(options: Options, program: &[u8], netlist: &mut [u8]) ->
     BLOCK * ((n + BLOCK_LAST) / BLOCK_CELLS)
 }
 
-// Compiles a program: refusals 19 to 21, 1 to 8, and 14.
+// Compiles a program: refusals 19 to 21, 1 to 8 and 22, and 14.
 pub fn compile(options: Options, program: &[u8], netlist: &mut [u8]) -> Written
     ensures answer { λ r. ⌜ r ≡ compileCall options (now (program .entry)) (now (netlist .entry)) .answer ⌝ }
     ensures lent { λ _. ⌜ now (netlist .exit) ≡ compileCall options (now (program .entry)) (now (netlist .entry)) .lent ⌝ }

@@ -7,10 +7,10 @@ ghost use Prim.Native.Nat.{_+_, _*_, _<_, _≤_};
 ghost use lib.ListN.{length};
 ghost use lib.Seq.{sets};
 ghost use Rattle.model.specs.Circuit.{cell};
-ghost use Rattle.model.specs.Program.{exprAt, stmtAt, assign, assignElem, seq, par, ite, while, repeat};
+ghost use Rattle.model.specs.Program.{exprAt, stmtAt, assign, assignElem, seq, par, ite, while, repeat, loop, exit};
 ghost use Rattle.program.specs.Ends.{Laid};
 ghost use Rattle.compiler.specs.Writes.{write};
-ghost use Rattle.compiler.specs.Walk.{word, place, ExprReady, ExprDone, Owned, SwitchReady, Switched, Ready, Done};
+ghost use Rattle.compiler.specs.Walk.{word, place, ExprReady, ExprDone, Owned, SwitchReady, Switched, Ready, Done, Opened, waiting, ExitsReady, ExitsJoined};
 use model::Cell;
 use model::Node;
 
@@ -20,13 +20,14 @@ pub struct Word {
     pub cell: u16,
 }
 
-// Where the walk is: the wire that starts a statement or has just finished one, the next delay cell, the next walk cell, and the next free
-// entry of the marks.
+// Where the walk is: the wire that starts a statement or has just finished one, the next delay cell, the next walk cell, the next free entry of
+// the marks, and how many exits wait for the end of their loop.
 pub struct Place {
     pub wire: u16,
     pub delay: u16,
     pub cell: u16,
     pub mark: usize,
+    pub out: usize,
 }
 
 // The pulse that an if switches, and the next delay cell.
@@ -153,7 +154,7 @@ fn put_delays(
     requires { ⌜ (6 * (at .delay + 2) ≤ length (now cells)) × (length (now cells) ≤ 3762) × (at .mark + 4 ≤ 800) ⌝ }
     ensures cells { λ _. ⌜ now (cells .exit) ≡ write (at .delay) (cell 34 delay (at .wire) 0 ∷ cell 34 1 (at .delay) 0 ∷ []) (now (cells .entry)) ⌝ }
     ensures marks { λ _. ⌜ now (marks .exit) ≡ sets (now (marks .entry)) (at .mark) (own .variable ∷ at .delay ∷ own .data ∷ own .address ∷ []) ⌝ }
-    ensures place { λ r. ⌜ r ≡ place (at .delay + 1) (at .delay + 2) next (at .mark + 4) ⌝ }
+    ensures place { λ r. ⌜ r ≡ place (at .delay + 1) (at .delay + 2) next (at .mark + 4) (at .out) ⌝ }
 {
     put(cells, at.delay, 34, delay, at.wire, 0);
     put(cells, at.delay + 1, 34, 1, at.delay, 0);
@@ -167,6 +168,7 @@ fn put_delays(
         delay: at.delay + 2,
         cell: next,
         mark: k + 4,
+        out: at.out,
     }
 }
 
@@ -222,18 +224,60 @@ fn put_element(
     put_delays(cells, marks, at, node.delay, own, address + 1)
 }
 
+// An exit's start waits for the end of its loop; its finish is ground.
+fn put_exit(outs: &mut [u16; 200], at: Place) -> Place
+    requires { ⌜ (at .out + 1 ≤ 200) × (length (now outs) ≡ 200) ⌝ }
+    ensures place { λ r. ⌜ r ≡ place 1 (at .delay) (at .cell) (at .mark) (at .out + 1) ⌝ }
+    ensures outs { λ _. ⌜ Opened exit at (now (outs .entry)) (now (outs .exit)) ⌝ }
+{
+    let k = at.out;
+    outs[k] = at.wire;
+    Place {
+        wire: 1,
+        delay: at.delay,
+        cell: at.cell,
+        mark: at.mark,
+        out: k + 1,
+    }
+}
+
+// Joins the starts of a loop's exits, which wait from entry first on and end before another, from cell n on.
+fn put_exits(cells: &mut [u8], outs: &[u16; 200], first: usize, end: usize, n: u16) -> Word
+    requires { ⌜ ExitsReady (now outs) first end n (length (now cells)) ⌝ }
+    ensures { λ r. ⌜ ExitsJoined n (waiting (now (outs .entry)) first end) (now (cells .entry)) (now (cells .exit)) r ⌝ }
+{
+    if end <= first {
+        return Word { wire: 1, cell: n };
+    }
+    let mut so_far = outs[first];
+    let mut next = n;
+    let mut k = first + 1;
+    while k < end {
+        put(cells, next, 35, 0, so_far, outs[k]);
+        so_far = next;
+        next += 1;
+        k += 1;
+    }
+    Word {
+        wire: so_far,
+        cell: next,
+    }
+}
+
 // The cells of the statement at node i, from a place on; answers the place after it, with the wire of its finish.
 pub fn put_stmt(
     cells: &mut [u8],
     marks: &mut [u16; 800],
+    outs: &mut [u16; 200],
     program: &[u8],
     ends: &[usize; 200],
     memory: u16,
     i: usize,
     at: Place,
 ) -> Place
-    requires { ⌜ Laid (now program) (now ends) × Ready memory (stmtAt (now program) i) at (length (now cells)) ⌝ }
-    ensures { λ r. ⌜ Done memory (stmtAt (now (program .entry)) i) at (now (cells .entry)) (now (cells .exit)) (now (marks .entry)) (now (marks .exit)) r ⌝ }
+    requires { ⌜ Laid (now program) (now ends) × Ready memory (stmtAt (now program) i) at (length (now cells)) × (length (now outs) ≡ 200) ⌝ }
+    ensures done { λ r. ⌜ Done memory (stmtAt (now (program .entry)) i) at (now (cells .entry)) (now (cells .exit)) (now (marks .entry)) (now (marks .exit)) r ⌝ }
+    ensures outs { λ _. ⌜ Opened (stmtAt (now (program .entry)) i) at (now (outs .entry)) (now (outs .exit)) ⌝ }
 {
     let node = crate::nodes::stmt_node(program, i);
     let kind = node.kind;
@@ -247,34 +291,26 @@ pub fn put_stmt(
             delay: at.delay + 1,
             cell: at.cell,
             mark: at.mark,
+            out: at.out,
         };
     }
     let d = node.delay;
     let count = program.len() / 4;
-    let first = i + 1;
-    let second = program::next(ends, count, first);
+    let i1 = i + 1;
+    let i2 = program::next(ends, count, i1);
     match kind {
-        18 => put_assign(cells, marks, program, ends, memory, first, at, node),
-        19 => put_seq(cells, marks, program, ends, memory, first, second, at),
-        20 => put_par(cells, marks, program, ends, memory, first, second, at),
+        18 => put_assign(cells, marks, program, ends, memory, i1, at, node),
+        19 => put_seq(cells, marks, outs, program, ends, memory, i1, i2, at),
+        20 => put_par(cells, marks, outs, program, ends, memory, i1, i2, at),
         21 => {
-            let third = program::next(ends, count, second);
-            put_if(
-                cells,
-                marks,
-                program,
-                ends,
-                memory,
-                first,
-                second,
-                third,
-                at,
-                d,
-            )
+            let i3 = program::next(ends, count, i2);
+            put_if(cells, marks, outs, program, ends, memory, i1, i2, i3, at, d)
         }
-        22 => put_while(cells, marks, program, ends, memory, first, second, at, d),
-        24 => put_element(cells, marks, program, ends, memory, first, second, at, node),
-        _ => put_repeat(cells, marks, program, ends, memory, first, second, at, d),
+        22 => put_while(cells, marks, outs, program, ends, memory, i1, i2, at, d),
+        24 => put_element(cells, marks, program, ends, memory, i1, i2, at, node),
+        25 => put_loop(cells, marks, outs, program, ends, memory, i1, at, d),
+        26 => put_exit(outs, at),
+        _ => put_repeat(cells, marks, outs, program, ends, memory, i1, i2, at, d),
     }
 }
 
@@ -282,6 +318,7 @@ pub fn put_stmt(
 fn put_seq(
     cells: &mut [u8],
     marks: &mut [u16; 800],
+    outs: &mut [u16; 200],
     program: &[u8],
     ends: &[usize; 200],
     memory: u16,
@@ -289,17 +326,19 @@ fn put_seq(
     second: usize,
     at: Place,
 ) -> Place
-    requires { ⌜ Laid (now program) (now ends) × Ready memory (seq (stmtAt (now program) first) (stmtAt (now program) second)) at (length (now cells)) × (first ≤ second) ⌝ }
-    ensures { λ r. ⌜ Done memory (seq (stmtAt (now (program .entry)) first) (stmtAt (now (program .entry)) second)) at (now (cells .entry)) (now (cells .exit)) (now (marks .entry)) (now (marks .exit)) r ⌝ }
+    requires { ⌜ Laid (now program) (now ends) × Ready memory (seq (stmtAt (now program) first) (stmtAt (now program) second)) at (length (now cells)) × (first ≤ second) × (length (now outs) ≡ 200) ⌝ }
+    ensures done { λ r. ⌜ Done memory (seq (stmtAt (now (program .entry)) first) (stmtAt (now (program .entry)) second)) at (now (cells .entry)) (now (cells .exit)) (now (marks .entry)) (now (marks .exit)) r ⌝ }
+    ensures outs { λ _. ⌜ Opened (seq (stmtAt (now (program .entry)) first) (stmtAt (now (program .entry)) second)) at (now (outs .entry)) (now (outs .exit)) ⌝ }
 {
-    let p = put_stmt(cells, marks, program, ends, memory, first, at);
-    put_stmt(cells, marks, program, ends, memory, second, p)
+    let p = put_stmt(cells, marks, outs, program, ends, memory, first, at);
+    put_stmt(cells, marks, outs, program, ends, memory, second, p)
 }
 
 // P, Q, 38.
 fn put_par(
     cells: &mut [u8],
     marks: &mut [u16; 800],
+    outs: &mut [u16; 200],
     program: &[u8],
     ends: &[usize; 200],
     memory: u16,
@@ -307,23 +346,26 @@ fn put_par(
     second: usize,
     at: Place,
 ) -> Place
-    requires { ⌜ Laid (now program) (now ends) × Ready memory (par (stmtAt (now program) first) (stmtAt (now program) second)) at (length (now cells)) × (first ≤ second) ⌝ }
-    ensures { λ r. ⌜ Done memory (par (stmtAt (now (program .entry)) first) (stmtAt (now (program .entry)) second)) at (now (cells .entry)) (now (cells .exit)) (now (marks .entry)) (now (marks .exit)) r ⌝ }
+    requires { ⌜ Laid (now program) (now ends) × Ready memory (par (stmtAt (now program) first) (stmtAt (now program) second)) at (length (now cells)) × (first ≤ second) × (length (now outs) ≡ 200) ⌝ }
+    ensures done { λ r. ⌜ Done memory (par (stmtAt (now (program .entry)) first) (stmtAt (now (program .entry)) second)) at (now (cells .entry)) (now (cells .exit)) (now (marks .entry)) (now (marks .exit)) r ⌝ }
+    ensures outs { λ _. ⌜ Opened (par (stmtAt (now (program .entry)) first) (stmtAt (now (program .entry)) second)) at (now (outs .entry)) (now (outs .exit)) ⌝ }
 {
-    let p = put_stmt(cells, marks, program, ends, memory, first, at);
+    let p = put_stmt(cells, marks, outs, program, ends, memory, first, at);
     let to = Place {
         wire: at.wire,
         delay: p.delay,
         cell: p.cell,
         mark: p.mark,
+        out: p.out,
     };
-    let q = put_stmt(cells, marks, program, ends, memory, second, to);
+    let q = put_stmt(cells, marks, outs, program, ends, memory, second, to);
     put(cells, q.cell, 38, 0, p.wire, q.wire);
     Place {
         wire: q.cell,
         delay: q.delay,
         cell: q.cell + 1,
         mark: q.mark,
+        out: q.out,
     }
 }
 
@@ -331,6 +373,7 @@ fn put_par(
 fn put_if(
     cells: &mut [u8],
     marks: &mut [u16; 800],
+    outs: &mut [u16; 200],
     program: &[u8],
     ends: &[usize; 200],
     memory: u16,
@@ -340,8 +383,9 @@ fn put_if(
     at: Place,
     delay: u8,
 ) -> Place
-    requires { ⌜ Laid (now program) (now ends) × Ready memory (ite delay (exprAt (now program) first) (stmtAt (now program) second) (stmtAt (now program) third)) at (length (now cells)) × (second ≤ third) ⌝ }
-    ensures { λ r. ⌜ Done memory (ite delay (exprAt (now (program .entry)) first) (stmtAt (now (program .entry)) second) (stmtAt (now (program .entry)) third)) at (now (cells .entry)) (now (cells .exit)) (now (marks .entry)) (now (marks .exit)) r ⌝ }
+    requires { ⌜ Laid (now program) (now ends) × Ready memory (ite delay (exprAt (now program) first) (stmtAt (now program) second) (stmtAt (now program) third)) at (length (now cells)) × (second ≤ third) × (length (now outs) ≡ 200) ⌝ }
+    ensures done { λ r. ⌜ Done memory (ite delay (exprAt (now (program .entry)) first) (stmtAt (now (program .entry)) second) (stmtAt (now (program .entry)) third)) at (now (cells .entry)) (now (cells .exit)) (now (marks .entry)) (now (marks .exit)) r ⌝ }
+    ensures outs { λ _. ⌜ Opened (ite delay (exprAt (now (program .entry)) first) (stmtAt (now (program .entry)) second) (stmtAt (now (program .entry)) third)) at (now (outs .entry)) (now (outs .exit)) ⌝ }
 {
     let own = put_own(cells, delay, at.wire, at.delay);
     let switch = put_switches(cells, program, ends, memory, first, at.cell, own.wire);
@@ -350,21 +394,24 @@ fn put_if(
         delay: own.delay,
         cell: switch + 1 + 1,
         mark: at.mark,
+        out: at.out,
     };
-    let p = put_stmt(cells, marks, program, ends, memory, second, when_true);
+    let p = put_stmt(cells, marks, outs, program, ends, memory, second, when_true);
     let when_false = Place {
         wire: switch + 1,
         delay: p.delay,
         cell: p.cell,
         mark: p.mark,
+        out: p.out,
     };
-    let q = put_stmt(cells, marks, program, ends, memory, third, when_false);
+    let q = put_stmt(cells, marks, outs, program, ends, memory, third, when_false);
     put(cells, q.cell, 35, 0, p.wire, q.wire);
     Place {
         wire: q.cell,
         delay: q.delay,
         cell: q.cell + 1,
         mark: q.mark,
+        out: q.out,
     }
 }
 
@@ -372,6 +419,7 @@ fn put_if(
 fn put_while(
     cells: &mut [u8],
     marks: &mut [u16; 800],
+    outs: &mut [u16; 200],
     program: &[u8],
     ends: &[usize; 200],
     memory: u16,
@@ -380,8 +428,9 @@ fn put_while(
     at: Place,
     delay: u8,
 ) -> Place
-    requires { ⌜ Laid (now program) (now ends) × Ready memory (while delay (exprAt (now program) first) (stmtAt (now program) second)) at (length (now cells)) ⌝ }
-    ensures { λ r. ⌜ Done memory (while delay (exprAt (now (program .entry)) first) (stmtAt (now (program .entry)) second)) at (now (cells .entry)) (now (cells .exit)) (now (marks .entry)) (now (marks .exit)) r ⌝ }
+    requires { ⌜ Laid (now program) (now ends) × Ready memory (while delay (exprAt (now program) first) (stmtAt (now program) second)) at (length (now cells)) × (length (now outs) ≡ 200) ⌝ }
+    ensures done { λ r. ⌜ Done memory (while delay (exprAt (now (program .entry)) first) (stmtAt (now (program .entry)) second)) at (now (cells .entry)) (now (cells .exit)) (now (marks .entry)) (now (marks .exit)) r ⌝ }
+    ensures outs { λ _. ⌜ Opened (while delay (exprAt (now (program .entry)) first) (stmtAt (now (program .entry)) second)) at (now (outs .entry)) (now (outs .exit)) ⌝ }
 {
     let switch = put_switches(cells, program, ends, memory, first, at.cell, at.delay);
     let body = Place {
@@ -389,8 +438,9 @@ fn put_while(
         delay: at.delay + 1,
         cell: switch + 1 + 1,
         mark: at.mark,
+        out: at.out,
     };
-    let p = put_stmt(cells, marks, program, ends, memory, second, body);
+    let p = put_stmt(cells, marks, outs, program, ends, memory, second, body);
     put(cells, p.cell, 35, 0, at.wire, p.wire);
     put(cells, at.delay, 34, delay, p.cell, 0);
     Place {
@@ -398,6 +448,7 @@ fn put_while(
         delay: p.delay,
         cell: p.cell + 1,
         mark: p.mark,
+        out: p.out,
     }
 }
 
@@ -405,6 +456,7 @@ fn put_while(
 fn put_repeat(
     cells: &mut [u8],
     marks: &mut [u16; 800],
+    outs: &mut [u16; 200],
     program: &[u8],
     ends: &[usize; 200],
     memory: u16,
@@ -413,8 +465,9 @@ fn put_repeat(
     at: Place,
     delay: u8,
 ) -> Place
-    requires { ⌜ Laid (now program) (now ends) × Ready memory (repeat delay (exprAt (now program) first) (stmtAt (now program) second)) at (length (now cells)) ⌝ }
-    ensures { λ r. ⌜ Done memory (repeat delay (exprAt (now (program .entry)) first) (stmtAt (now (program .entry)) second)) at (now (cells .entry)) (now (cells .exit)) (now (marks .entry)) (now (marks .exit)) r ⌝ }
+    requires { ⌜ Laid (now program) (now ends) × Ready memory (repeat delay (exprAt (now program) first) (stmtAt (now program) second)) at (length (now cells)) × (length (now outs) ≡ 200) ⌝ }
+    ensures done { λ r. ⌜ Done memory (repeat delay (exprAt (now (program .entry)) first) (stmtAt (now (program .entry)) second)) at (now (cells .entry)) (now (cells .exit)) (now (marks .entry)) (now (marks .exit)) r ⌝ }
+    ensures outs { λ _. ⌜ Opened (repeat delay (exprAt (now (program .entry)) first) (stmtAt (now (program .entry)) second)) at (now (outs .entry)) (now (outs .exit)) ⌝ }
 {
     let switch = put_switches(cells, program, ends, memory, first, at.cell, at.delay);
     let start = switch + 1 + 1;
@@ -424,13 +477,51 @@ fn put_repeat(
         delay: at.delay + 1,
         cell: start + 1,
         mark: at.mark,
+        out: at.out,
     };
-    let p = put_stmt(cells, marks, program, ends, memory, second, body);
+    let p = put_stmt(cells, marks, outs, program, ends, memory, second, body);
     put(cells, at.delay, 34, delay, p.wire, 0);
     Place {
         wire: switch,
         delay: p.delay,
         cell: p.cell,
         mark: p.mark,
+        out: p.out,
+    }
+}
+
+// 35 of start and the delay (starts P), P, whose finish feeds the delay, then the starts of its exits joined by 35s.
+fn put_loop(
+    cells: &mut [u8],
+    marks: &mut [u16; 800],
+    outs: &mut [u16; 200],
+    program: &[u8],
+    ends: &[usize; 200],
+    memory: u16,
+    first: usize,
+    at: Place,
+    delay: u8,
+) -> Place
+    requires { ⌜ Laid (now program) (now ends) × Ready memory (loop delay (stmtAt (now program) first)) at (length (now cells)) × (length (now outs) ≡ 200) ⌝ }
+    ensures done { λ r. ⌜ Done memory (loop delay (stmtAt (now (program .entry)) first)) at (now (cells .entry)) (now (cells .exit)) (now (marks .entry)) (now (marks .exit)) r ⌝ }
+    ensures outs { λ _. ⌜ Opened (loop delay (stmtAt (now (program .entry)) first)) at (now (outs .entry)) (now (outs .exit)) ⌝ }
+{
+    put(cells, at.cell, 35, 0, at.wire, at.delay);
+    let body = Place {
+        wire: at.cell,
+        delay: at.delay + 1,
+        cell: at.cell + 1,
+        mark: at.mark,
+        out: at.out,
+    };
+    let round = put_stmt(cells, marks, outs, program, ends, memory, first, body);
+    put(cells, at.delay, 34, delay, round.wire, 0);
+    let joined = put_exits(cells, outs, at.out, round.out, round.cell);
+    Place {
+        wire: joined.wire,
+        delay: round.delay,
+        cell: joined.cell,
+        mark: round.mark,
+        out: at.out,
     }
 }

@@ -30,13 +30,15 @@ fn put_clocks(cells: &mut [u8], program: &[u8], ends: &[usize; 200]) -> Ors
     ensures { λ r. ⌜ Clocked (programOf (now (program .entry))) (now (cells .exit)) r ⌝ }
 {
     let mut marks = [0u16; 800];
+    let mut outs = [0u16; 200];
     let at = Place {
         wire: 0,
         delay: 3,
         cell: 203,
         mark: 0,
+        out: 0,
     };
-    let end = crate::walk::put_stmt(cells, &mut marks, program, ends, 0, 0, at);
+    let end = crate::walk::put_stmt(cells, &mut marks, &mut outs, program, ends, 0, 0, at);
     let joint = Joint {
         kind: 35,
         none: 1,
@@ -52,13 +54,15 @@ fn put_walk(cells: &mut [u8], program: &[u8], ends: &[usize; 200], memory: u16) 
     ensures { λ r. ⌜ Walked (programOf (now (program .entry))) (now (cells .entry)) (now (cells .exit)) r ⌝ }
 {
     let mut marks = [0u16; 800];
+    let mut outs = [0u16; 200];
     let at = Place {
         wire: 0,
         delay: 3,
         cell: memory + 16 + 8,
         mark: 0,
+        out: 0,
     };
-    let end = crate::walk::put_stmt(cells, &mut marks, program, ends, memory, 0, at);
+    let end = crate::walk::put_stmt(cells, &mut marks, &mut outs, program, ends, memory, 0, at);
     let count = end.mark / 4;
     let of_data = Joint {
         kind: 7,

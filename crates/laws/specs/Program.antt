@@ -5,6 +5,7 @@ pub mod Preorder
 pub mod Grows
 pub mod Whole
 pub mod Passed
+pub mod Enclosed
 pub mod Accepted
 pub mod Size
 pub mod NodeBytes

@@ -20,7 +20,7 @@ use Rattle.model.specs.declared.Cell.{Cell}
 use Rattle.model.specs.Word.{pick, get16}
 use Rattle.model.specs.Refusals.{refuseIf, first}
 use Rattle.model.specs.Program.{checkOf, programOf}
-use Rattle.model.specs.Rules.{Store, Run, ended, still, run}
+use Rattle.model.specs.Rules.{Store, Run, atEnd, atExit, done, still, run}
 use Rattle.model.specs.Circuit.{high}
 use Rattle.model.specs.Numbering.{netlist, finish}
 use Rattle.model.specs.NetlistFile.{cellBytes, cellsAt, inList, fileOf, fileCheck, cellsOf, countOf, finishOf, netCheck, countWrong, blocksFor}
@@ -53,7 +53,7 @@ short has needs = refuseIf (ltb has needs) 14 0
 
 -- Programs and netlist files -----------------------------------------------------------------------------------------------------------
 
--- checking: 19 to 21, 1 to 8
+-- checking: 19 to 21, 1 to 8 and 22
 unfoldable pub checkCall : Options → List ℕ → Checked
 checkCall options program = first (options .checked ∷ checkOf (options .times) program ∷ [])
 
@@ -62,7 +62,7 @@ unfoldable pub writing : Checked → List ℕ → ℕ → ℕ → List ℕ → R
 writing Accepted result n f lent = record { answer = Done n f; lent = overwrite result lent }
 writing (Checked.Refused r) result n f lent = record { answer = Written.Refused r; lent = lent }
 
--- compiling: 19 to 21, 1 to 8, 14
+-- compiling: 19 to 21, 1 to 8 and 22, 14
 abbrev pub compiledFile : List ℕ → List ℕ
 compiledFile program = fileOf (netlist (programOf program)) (finish (programOf program))
 
@@ -174,7 +174,7 @@ unfoldable pub runNetlistCall : List ℕ → List ℕ → ℕ → List ℕ → R
 runNetlistCall file words n lent =
     running (first (runNetlistChecks file words n lent)) file (fullState file words n lent) (fullCount file words n lent) lent
 
--- a full run of a program, with a list lent for its netlist and one for the state: 19 to 21, 1 to 8, 13, 14
+-- a full run of a program, with a list lent for its netlist and one for the state: 19 to 21, 1 to 8 and 22, 13, 14
 pub record ReturnedBoth : Type 0 where
   pub answer : Answer
   pub netlist : List ℕ
@@ -208,9 +208,10 @@ listed σ x zero = []
 listed σ x (suc n) = σ x ∷ listed σ (x + 1) n
 
 -- what a full run counts, a reference run counts too. An open one shows the budget as its instant; the rules have no words to show of it,
--- and so they are 0.
+-- and so they are 0. An accepted program never comes to an exit of a loop around it (`Programs.neverLeft`), and would be open.
 unfoldable pub referenceAnswer : ℕ → Run → Answer
-referenceAnswer n (ended t σ) = record { outcome = Ended; instant = t; count = t + 1; words = listed σ 0 16 }
+referenceAnswer n (done atEnd t σ) = record { outcome = Ended; instant = t; count = t + 1; words = listed σ 0 16 }
+referenceAnswer n (done atExit t σ) = record { outcome = Open; instant = n; count = n + 1; words = replicate 16 0 }
 referenceAnswer n still = record { outcome = Open; instant = n; count = n + 1; words = replicate 16 0 }
 
 -- an answer, unless a check refuses it
@@ -218,7 +219,7 @@ unfoldable pub answering : Checked → Answer → Answer
 answering Accepted a = a
 answering (Checked.Refused r) a = refusedAnswer r
 
--- a reference run: 19 to 21, 1 to 8, 13, 14
+-- a reference run: 19 to 21, 1 to 8 and 22, 13, 14
 abbrev pub referenceChecks : Options → List ℕ → List ℕ → ℕ → List Checked
 referenceChecks options program words n = options .checked ∷ checkOf (options .times) program ∷ overBudget n ∷ short (length words) 544 ∷ []
 

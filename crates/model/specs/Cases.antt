@@ -15,7 +15,7 @@ use Rattle.model.specs.declared.Written.the-variants.{Done}
 use Rattle.model.specs.declared.Answer.{Answer}
 use Rattle.model.specs.Word.{bit, operate, elementWord, get16, bytes16}
 use Rattle.model.specs.Refusals.{refuse, firstFault}
-use Rattle.model.specs.Program.{programOf, nodeAt, nodesFrom, nodeBytes, rowOf, asExpr, asStmt, exprOf, stmtOf, treeOf, grow, forest, treesAt, exprAt, stmtAt, preorderE, preorder, time, builtInTimes, least, reads, writes, touches, conflict, conflicts, programLengthWrong, unusedSet, absent, nodeFault, children, reading, delayFault, conflictFault, checkOf}
+use Rattle.model.specs.Program.{programOf, nodeAt, nodesFrom, nodeBytes, rowOf, asExpr, asStmt, exprOf, stmtOf, treeOf, grow, forest, treesAt, exprAt, stmtAt, preorderE, preorder, time, builtInTimes, least, reads, writes, touches, conflict, conflicts, programLengthWrong, unusedSet, absent, nodeFault, children, reading, looseIn, delayFault, conflictFault, checkOf}
 use Rattle.model.specs.Rules.{owner, eval, put, over, kept, after, wait, chain, both, whiles, repeats, run}
 use Rattle.model.specs.Numbering.{netlist, finish}
 use Rattle.model.specs.NetlistFile.{blocksFor, cellsOf}
@@ -38,7 +38,7 @@ repeated (suc n) s = s ++ repeated n s
 
 -- whoever unfolds this unfolds all that a program is checked by
 unfoldable pub checkOfProgram : List ℕ → Checked
-unfolding get16 firstFault nodeAt nodesFrom rowOf asExpr asStmt exprOf stmtOf treeOf grow forest treesAt exprAt stmtAt time builtInTimes least reads writes touches conflict conflicts programLengthWrong unusedSet absent nodeFault children reading delayFault conflictFault checkOf load checkCall repeated nodeBytes bytes16 preorderE preorder
+unfolding get16 firstFault nodeAt nodesFrom rowOf asExpr asStmt exprOf stmtOf treeOf grow forest treesAt exprAt stmtAt time builtInTimes least reads writes touches conflict conflicts programLengthWrong unusedSet absent nodeFault children reading looseIn delayFault conflictFault checkOf load checkCall repeated nodeBytes bytes16 preorderE preorder
 checkOfProgram s = checkCall defaults s
 
 -- x0 := x0 + n, and x0 := x0 − 1 with d 17

@@ -166,10 +166,10 @@ element net words W j i (suc t) =
     let address = cellAt net (j + 1) .a in
     pick (falls W (c .a) t && eqb i (index (W address t))) (W (c .b) t) (element net words W j i t)
 
--- what cell k, which is c, shows at instant t; word₀ is its start word, if it is a memory, and E tells the words of arrays. "32 start: 1 at instant 0, then 0. 33 ground: 0.
--- 1: constant a." "3 to 9: the operators on words a, and b where there are two." "35: control a or control b." "36: 1 when control a is 1 and
--- word b isn't zero. 37: when a is 1 and b is zero." "41: word b when control a is 1, else 0." 42 and 43: "both kinds show 0". "Every read is a
--- kind 44 (a the 42, b the index)".
+-- what cell k, which is c, shows at instant t; word₀ is its start word, if it is a memory, and E tells the words of arrays. "32 start: 1 at
+-- instant 0, then 0. 33 ground: 0. 1: constant a." "3 to 9: the operators on words a, and b where there are two." "35: control a or control
+-- b." "36: 1 when control a is 1 and word b isn't zero. 37: when a is 1 and b is zero." "41: word b when control a is 1, else 0." 42 and
+-- 43: "both kinds show 0". "Every read is a kind 44 (a the 42, b the index)".
 unfoldable pub equation : Shape → ℕ → Elements → Values → ℕ → Cell → ℕ → ℕ
 equation kConstant word₀ E W k c t = c .a
 equation kComplement word₀ E W k c t = operate 3 (W (c .a) t) 0

@@ -1,18 +1,18 @@
 -- Netlists written out by hand from the papers' text, each with its finish: rows of one table, and one theorem that the numbering gives them.
 -- Every kind of statement, an if with delay 0, a variable with three assignments, two variables with ors, complement;
--- an array with two element assignments.
+-- an array with two element assignments; loops with two exits, with one and with none.
 -- Assumes nothing.
 use mathlib.Core.Path.{_≡_, refl}
 use mathlib.Core.List.{List, [], _∷_, map}
 use Prim.Native.Nat.{ℕ, zero, suc, _+_}
 use Rattle.model.specs.declared.Cell.{Cell}
-use Rattle.model.specs.Program.{const, var, compl, op, elem, Stmt, ok, tick, assign, assignElem, seq, par, ite, while, repeat}
+use Rattle.model.specs.Program.{const, var, compl, op, elem, Stmt, ok, tick, assign, assignElem, seq, par, ite, while, repeat, loop, exit}
 use Rattle.model.specs.Circuit.{cell}
-use Rattle.model.specs.Numbering.{netlist, finish, exprCount, exprWire, exprCells, ifDelayCount, ifPulse, ifDelayCells, delayCount, walkCount, finishWire, delays, walk, clockSources, dataSources, addressSources, wiresOf, orChain, orChainOut, ors, orsOut, orCount, orsFrom, outsFrom, orCountFrom, memoriesOf, arraysOf}
+use Rattle.model.specs.Numbering.{netlist, finish, exprCount, exprWire, exprCells, ifDelayCount, ifPulse, ifDelayCells, delayCount, exitCount, walkCount, finishWire, exitWires, delays, walk, clockSources, dataSources, addressSources, wiresOf, orChain, orChainOut, ors, orsOut, orCount, orsFrom, outsFrom, orCountFrom, memoriesOf, arraysOf}
 
 -- whoever unfolds this unfolds all that a netlist is made by
 unfoldable pub numbering : Stmt → List Cell
-unfolding netlist finish exprCount exprWire exprCells ifDelayCount ifPulse ifDelayCells delayCount walkCount finishWire delays walk clockSources dataSources addressSources wiresOf orChain orChainOut ors orsOut orCount orsFrom outsFrom orCountFrom memoriesOf arraysOf
+unfolding netlist finish exprCount exprWire exprCells ifDelayCount ifPulse ifDelayCells delayCount exitCount walkCount finishWire exitWires delays walk clockSources dataSources addressSources wiresOf orChain orChainOut ors orsOut orCount orsFrom outsFrom orCountFrom memoriesOf arraysOf
 numbering P = netlist P
 
 -- a statement, and its netlist and finish drawn by hand
@@ -198,8 +198,39 @@ elements =
       end = 8;
     }
 
+-- A loop with two exits: loop (d 2) { (if x0 (d 0) then exit else tick 4); if x1 (d 1) then exit else ok }.
+-- Delays: 3 of the loop, fed by P's finish 36; 4 of the tick; 5 of the second if. Memories 6 to 21.
+-- Walk: 30 the 35 of the start and 3, which starts P; 31 the 36 of 30 and x0 (6), 32 the 37, 33 the 35 of ground and 4;
+-- 34 the 36 of 5 and x1 (7), 35 the 37, 36 the 35 of ground and 35; 37 the 35 of the exits' starts 31 and 34, the finish.
+polling : Drawn
+polling =
+    record {
+      program = loop 2 (seq (ite 0 (var 0) exit (tick 4)) (ite 1 (var 1) exit ok));
+      cells =
+          front
+          (cell 34 2 36 0 ∷ cell 34 4 32 0 ∷ cell 34 1 33 0 ∷ idle 16
+          (arrays (cell 35 0 0 3
+          ∷ cell 36 0 30 6 ∷ cell 37 0 30 6 ∷ cell 35 0 1 4
+          ∷ cell 36 0 5 7 ∷ cell 37 0 5 7 ∷ cell 35 0 1 35
+          ∷ cell 35 0 31 34 ∷ [])));
+      end = 37;
+    }
+
+-- A loop without exits around one with an exit: loop (d 3) loop (d 1) { tick 2; exit }.
+-- Delays: 3 and 4 of the loops, fed by 5, the inner loop's finish, and by ground, the exit's; 5 of the tick. Memories 6 to 21.
+-- Walk: 30 the 35 of the start and 3, 31 the 35 of 30 and 4. The finish is ground.
+endless : Drawn
+endless =
+    record {
+      program = loop 3 (loop 1 (seq (tick 2) exit));
+      cells =
+          front
+          (cell 34 3 5 0 ∷ cell 34 1 1 0 ∷ cell 34 2 31 0 ∷ idle 16 (arrays (cell 35 0 0 3 ∷ cell 35 0 30 4 ∷ [])));
+      end = 1;
+    }
+
 drawings : List Drawn
-drawings = case1 ∷ case2 ∷ case3 ∷ case4 ∷ case6 ∷ case7 ∷ case8 ∷ case12 ∷ mixed ∷ elements ∷ []
+drawings = case1 ∷ case2 ∷ case3 ∷ case4 ∷ case6 ∷ case7 ∷ case8 ∷ case12 ∷ mixed ∷ elements ∷ polling ∷ endless ∷ []
 
 abbrev given : Drawn → List Cell × ℕ
 given d = (netlist (d .program), finish (d .program))
@@ -208,5 +239,5 @@ abbrev drawing : Drawn → List Cell × ℕ
 drawing d = (d .cells, d .end)
 
 drawings-right : map given drawings ≡ map drawing drawings
-unfolding drawings case1 case2 case3 case4 case6 case7 case8 case12 mixed elements numbering
+unfolding drawings case1 case2 case3 case4 case6 case7 case8 case12 mixed elements polling endless numbering
 drawings-right = refl

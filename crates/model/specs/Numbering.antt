@@ -2,12 +2,12 @@
 -- Counts, finish wires, delay cells, walk cells and the assignments are recursions of their own, with the kinds in one order, so that a wire
 -- that is fed by a cell that comes later needs no knot. Assumes nothing: definitions.
 use mathlib.Core.List.{List, [], _∷_, _++_}
-use Prim.Native.Nat.{ℕ, zero, suc, _+_, _*_}
+use Prim.Native.Nat.{ℕ, zero, suc, _+_, _-_, _*_}
 use lib.Dec.{eqb}
 use lib.ListN.{length, getD}
 use Rattle.model.specs.declared.Cell.{Cell}
 use Rattle.model.specs.Word.{pick}
-use Rattle.model.specs.Program.{Expr, const, var, compl, op, elem, Stmt, ok, tick, assign, assignElem, seq, par, ite, while, repeat, arrayVar}
+use Rattle.model.specs.Program.{Expr, const, var, compl, op, elem, Stmt, ok, tick, assign, assignElem, seq, par, ite, while, repeat, loop, exit, arrayVar}
 use Rattle.model.specs.Circuit.{cell}
 
 -- Expressions -------------------------------------------------------------------------------------------------------------------------
@@ -42,6 +42,31 @@ exprCells M (op k e f) c =
     exprCells M e c ++ (exprCells M f (c + exprCount e) ++ (cell k 0 (exprWire M e c) (exprWire M f (c + exprCount e)) ∷ []))
 exprCells M (elem k e) c = exprCells M e c ++ (cell 44 0 (arrayCell M k) (exprWire M e c) ∷ [])
 
+-- Ors ---------------------------------------------------------------------------------------------------------------------------------
+
+-- "k assignments in node order give k − 1 cells, each joining the result so far (as a) with the next": from number n on
+unfoldable pub orChain : ℕ → ℕ → ℕ → List ℕ → List Cell
+orChain kind acc n [] = []
+orChain kind acc n (w ∷ ws) = cell kind 0 acc w ∷ orChain kind n (n + 1) ws
+
+unfoldable pub orChainOut : ℕ → ℕ → List ℕ → ℕ
+orChainOut acc n [] = acc
+orChainOut acc n (w ∷ ws) = orChainOut n (n + 1) ws
+
+unfoldable pub ors : ℕ → ℕ → List ℕ → List Cell
+ors kind n [] = []
+ors kind n (w ∷ ws) = orChain kind w n ws
+
+-- "A variable never assigned has clock 1 and data 2": none is that wire
+unfoldable pub orsOut : ℕ → ℕ → List ℕ → ℕ
+orsOut none n [] = none
+orsOut none n (w ∷ ws) = orChainOut w n ws
+
+-- how many ors so many wires need
+unfoldable pub orCount : List ℕ → ℕ
+orCount [] = 0
+orCount (w ∷ ws) = length ws
+
 -- Statements --------------------------------------------------------------------------------------------------------------------------
 -- s is the start wire, d the number of the next delay cell, c that of the next walk cell, δ the node's delay.
 
@@ -74,7 +99,7 @@ unfoldable pub ifPulse : ℕ → ℕ → ℕ → ℕ
 ifPulse zero s d = s
 ifPulse (suc δ) s d = d
 
--- "tick, if (none when d is 0), while, repeat have one, and an assignment two": how many delay cells
+-- "tick, if (none when d is 0), while, repeat have one, and an assignment two": how many delay cells. "The loop has one delay cell"
 unfoldable pub delayCount : Stmt → ℕ
 delayCount ok = 0
 delayCount (tick δ) = 1
@@ -85,6 +110,22 @@ delayCount (par P Q) = delayCount P + delayCount Q
 delayCount (ite δ e P Q) = ifDelayCount δ + (delayCount P + delayCount Q)
 delayCount (while δ e P) = 1 + delayCount P
 delayCount (repeat δ e P) = 1 + delayCount P
+delayCount (loop δ P) = 1 + delayCount P
+delayCount exit = 0
+
+-- how many exits of P end the loop around P
+unfoldable pub exitCount : Stmt → ℕ
+exitCount ok = 0
+exitCount (tick δ) = 0
+exitCount (assign δ x e) = 0
+exitCount (assignElem δ k i e) = 0
+exitCount (seq P Q) = exitCount P + exitCount Q
+exitCount (par P Q) = exitCount P + exitCount Q
+exitCount (ite δ e P Q) = exitCount P + exitCount Q
+exitCount (while δ e P) = exitCount P
+exitCount (repeat δ e P) = exitCount P
+exitCount (loop δ P) = 0
+exitCount exit = 1
 
 -- how many cells the walk has
 unfoldable pub walkCount : Stmt → ℕ
@@ -97,6 +138,8 @@ walkCount (par P Q) = walkCount P + (walkCount Q + 1)
 walkCount (ite δ e P Q) = exprCount e + (2 + (walkCount P + (walkCount Q + 1)))
 walkCount (while δ e P) = exprCount e + (2 + (walkCount P + 1))
 walkCount (repeat δ e P) = exprCount e + (3 + walkCount P)
+walkCount (loop δ P) = 1 + (walkCount P + (exitCount P - 1))
+walkCount exit = 0
 
 -- where the branches of an if begin: their first delay cells, and Q's first walk cell; P's is past the switches
 abbrev pub thenDelays : ℕ → ℕ → ℕ
@@ -108,18 +151,45 @@ elseDelays δ P d = d + ifDelayCount δ + delayCount P
 abbrev pub elseCells : Expr → Stmt → ℕ → ℕ
 elseCells e P c = pastSwitches e c + walkCount P
 
--- "The finish of ok is its start, of tick its delay, of an assignment its second delay, of a sequence that of Q." Of a parallel it is its
--- 38, the last cell; of an if its 35, the last cell; of a while its 37; of a repeat its 36.
-unfoldable pub finishWire : Stmt → ℕ → ℕ → ℕ → ℕ
-finishWire ok s d c = s
-finishWire (tick δ) s d c = d
-finishWire (assign δ x e) s d c = d + 1
-finishWire (assignElem δ k i e) s d c = d + 1
-finishWire (seq P Q) s d c = finishWire Q (finishWire P s d c) (d + delayCount P) (c + walkCount P)
-finishWire (par P Q) s d c = c + walkCount P + walkCount Q
-finishWire (ite δ e P Q) s d c = elseCells e P c + walkCount Q
-finishWire (while δ e P) s d c = onFalse e c
-finishWire (repeat δ e P) s d c = onTrue e c
+-- where the 35s of a loop's exits begin
+abbrev pub exitsAt : Stmt → ℕ → ℕ
+exitsAt P c = c + 1 + walkCount P
+
+unfoldable mutual
+  -- "The finish of ok is its start, of tick its delay, of an assignment its second delay, of a sequence that of Q." Of a parallel it is its
+  -- 38, the last cell; of an if its 35, the last cell; of a while its 37; of a repeat its 36; of a loop the joined starts of its exits.
+  -- "An exit's finish is ground, and so is that of a loop without exits."
+  pub finishWire : Stmt → ℕ → ℕ → ℕ → ℕ
+  finishWire ok s d c = s
+  finishWire (tick δ) s d c = d
+  finishWire (assign δ x e) s d c = d + 1
+  finishWire (assignElem δ k i e) s d c = d + 1
+  finishWire (seq P Q) s d c = finishWire Q (finishWire P s d c) (d + delayCount P) (c + walkCount P)
+  finishWire (par P Q) s d c = c + walkCount P + walkCount Q
+  finishWire (ite δ e P Q) s d c = elseCells e P c + walkCount Q
+  finishWire (while δ e P) s d c = onFalse e c
+  finishWire (repeat δ e P) s d c = onTrue e c
+  finishWire (loop δ P) s d c = orsOut 1 (exitsAt P c) (exitWires P c (d + 1) (c + 1))
+  finishWire exit s d c = 1
+
+  -- "the starts of its exits ... in node order": of the exits of P that end the loop around P
+  pub exitWires : Stmt → ℕ → ℕ → ℕ → List ℕ
+  exitWires ok s d c = []
+  exitWires (tick δ) s d c = []
+  exitWires (assign δ x e) s d c = []
+  exitWires (assignElem δ k i e) s d c = []
+  exitWires (seq P Q) s d c = exitWires P s d c ++ exitWires Q (finishWire P s d c) (d + delayCount P) (c + walkCount P)
+  exitWires (par P Q) s d c = exitWires P s d c ++ exitWires Q s (d + delayCount P) (c + walkCount P)
+  exitWires (ite δ e P Q) s d c =
+      exitWires P (onTrue e c) (thenDelays δ d) (pastSwitches e c) ++ exitWires Q (onFalse e c) (elseDelays δ P d) (elseCells e P c)
+  exitWires (while δ e P) s d c = exitWires P (onTrue e c) (d + 1) (pastSwitches e c)
+  exitWires (repeat δ e P) s d c = exitWires P (pastSwitches e c) (d + 1) (pastSwitches e c + 1)
+  exitWires (loop δ P) s d c = []
+  exitWires exit s d c = s ∷ []
+
+-- the starts of a loop's exits
+abbrev pub loopExits : Stmt → ℕ → ℕ → List ℕ
+loopExits P d c = exitWires P c (d + 1) (c + 1)
 
 -- the finishes of an if's branches
 abbrev pub thenFinish : ℕ → Expr → Stmt → ℕ → ℕ → ℕ
@@ -129,7 +199,7 @@ abbrev pub elseFinish : ℕ → Expr → Stmt → Stmt → ℕ → ℕ → ℕ
 elseFinish δ e P Q d c = finishWire Q (onFalse e c) (elseDelays δ P d) (elseCells e P c)
 
 -- "delay cells in node order": an assignment's second is "of delay 1 and fed by the first". A while's is fed by the 35 that ends its walk,
--- a repeat's by P's finish. "Delays not named here are fed by their node's start."
+-- a repeat's and a loop's by P's finish. "Delays not named here are fed by their node's start."
 unfoldable pub delays : Stmt → ℕ → ℕ → ℕ → List Cell
 delays ok s d c = []
 delays (tick δ) s d c = cell 34 δ s 0 ∷ []
@@ -144,6 +214,8 @@ delays (while δ e P) s d c = cell 34 δ (pastSwitches e c + walkCount P) 0 ∷ 
 delays (repeat δ e P) s d c =
     cell 34 δ (finishWire P (pastSwitches e c) (d + 1) (pastSwitches e c + 1)) 0
     ∷ delays P (pastSwitches e c) (d + 1) (pastSwitches e c + 1)
+delays (loop δ P) s d c = cell 34 δ (finishWire P c (d + 1) (c + 1)) 0 ∷ delays P c (d + 1) (c + 1)
+delays exit s d c = []
 
 -- The walk, kind by kind:
 --   "Assignment: expression, kind 41 on its first delay."
@@ -153,6 +225,8 @@ delays (repeat δ e P) s d c =
 --   "If: expression, 36, 37, P, Q, 35 of the two finishes."
 --   "While: expression, 36 (starts P), 37 (finish), P, 35 of start and P's finish, which feeds the delay."
 --   "Repeat: expression, 36 (finish), 37, 35 of start and that 37 (starts P), P, whose finish feeds the delay."
+--   The loop's "walk is 35 of start and that delay (starts P), P, whose finish feeds the delay, then the starts of its exits joined by 35s in
+--   node order."
 --   "Inputs stand in the order told".
 unfoldable pub walk : ℕ → Stmt → ℕ → ℕ → ℕ → List Cell
 walk M ok s d c = []
@@ -177,8 +251,10 @@ walk M (while δ e P) s d c =
     ++ (cell 35 0 s (finishWire P (onTrue e c) (d + 1) (pastSwitches e c)) ∷ []))
 walk M (repeat δ e P) s d c =
     switches M e d c (cell 35 0 s (onFalse e c) ∷ walk M P (pastSwitches e c) (d + 1) (pastSwitches e c + 1))
+walk M (loop δ P) s d c = cell 35 0 s d ∷ (walk M P c (d + 1) (c + 1) ++ ors 35 (exitsAt P c) (loopExits P d c))
+walk M exit s d c = []
 
--- Ors, memories and arrays -------------------------------------------------------------------------------------------------------------
+-- Assignments, memories and arrays ------------------------------------------------------------------------------------------------------
 
 -- an assignment's variable, with a wire of that assignment; of an element assignment it is the array as a variable
 abbrev pub Source : Type 0
@@ -195,6 +271,8 @@ clockSources (par P Q) d = clockSources P d ++ clockSources Q (d + delayCount P)
 clockSources (ite δ e P Q) d = clockSources P (thenDelays δ d) ++ clockSources Q (elseDelays δ P d)
 clockSources (while δ e P) d = clockSources P (d + 1)
 clockSources (repeat δ e P) d = clockSources P (d + 1)
+clockSources (loop δ P) d = clockSources P (d + 1)
+clockSources exit d = []
 
 -- and each with its kind 41 cell, of the value
 unfoldable pub dataSources : Stmt → ℕ → List Source
@@ -207,6 +285,8 @@ dataSources (par P Q) c = dataSources P c ++ dataSources Q (c + walkCount P)
 dataSources (ite δ e P Q) c = dataSources P (pastSwitches e c) ++ dataSources Q (elseCells e P c)
 dataSources (while δ e P) c = dataSources P (pastSwitches e c)
 dataSources (repeat δ e P) c = dataSources P (pastSwitches e c + 1)
+dataSources (loop δ P) c = dataSources P (c + 1)
+dataSources exit c = []
 
 -- and the element assignments, each with its kind 41 cell of the index
 unfoldable pub addressSources : Stmt → ℕ → List Source
@@ -219,34 +299,13 @@ addressSources (par P Q) c = addressSources P c ++ addressSources Q (c + walkCou
 addressSources (ite δ e P Q) c = addressSources P (pastSwitches e c) ++ addressSources Q (elseCells e P c)
 addressSources (while δ e P) c = addressSources P (pastSwitches e c)
 addressSources (repeat δ e P) c = addressSources P (pastSwitches e c + 1)
+addressSources (loop δ P) c = addressSources P (c + 1)
+addressSources exit c = []
 
 -- the wires of one variable
 unfoldable pub wiresOf : ℕ → List Source → List ℕ
 wiresOf x [] = []
 wiresOf x (w ∷ ws) = pick (eqb (w .0) x) (w .1 ∷ wiresOf x ws) (wiresOf x ws)
-
--- "k assignments in node order give k − 1 cells, each joining the result so far (as a) with the next": from number n on
-unfoldable pub orChain : ℕ → ℕ → ℕ → List ℕ → List Cell
-orChain kind acc n [] = []
-orChain kind acc n (w ∷ ws) = cell kind 0 acc w ∷ orChain kind n (n + 1) ws
-
-unfoldable pub orChainOut : ℕ → ℕ → List ℕ → ℕ
-orChainOut acc n [] = acc
-orChainOut acc n (w ∷ ws) = orChainOut n (n + 1) ws
-
-unfoldable pub ors : ℕ → ℕ → List ℕ → List Cell
-ors kind n [] = []
-ors kind n (w ∷ ws) = orChain kind w n ws
-
--- "A variable never assigned has clock 1 and data 2": none is that wire
-unfoldable pub orsOut : ℕ → ℕ → List ℕ → ℕ
-orsOut none n [] = none
-orsOut none n (w ∷ ws) = orChainOut w n ws
-
--- how many ors so many wires need
-unfoldable pub orCount : List ℕ → ℕ
-orCount [] = 0
-orCount (w ∷ ws) = length ws
 
 -- the ors of j variables from x on
 unfoldable pub orsFrom : ℕ → List Source → ℕ → ℕ → ℕ → List Cell

@@ -1,7 +1,7 @@
--- The program: its nodes, the table of kinds, the tree that the nodes are, times, reads and writes, and refusals 1 to 8.
+-- The program: its nodes, the table of kinds, the tree that the nodes are, times, reads and writes, and refusals 1 to 8 and 22.
 -- "Each node is followed by its children in the order named; node 0 is the root and a statement."
 -- Assumes nothing: definitions.
-use mathlib.Core.Bool.{Bool, false, _&&_, _||_}
+use mathlib.Core.Bool.{Bool, true, false, _&&_, _||_, not}
 use mathlib.Core.List.{List, [], _∷_, _++_}
 use Prim.Native.Nat.{ℕ, zero, suc, _+_, _-_, _*_, _/_, _%_, max}
 use lib.ListN.{length, getD, drop, replicate}
@@ -73,6 +73,8 @@ kindTable =
     ∷ row 2 1 0 1 1  -- 22 while e do P
     ∷ row 2 1 0 1 1  -- 23 repeat P until e
     ∷ row 2 1 3 2 0  -- 24 element of array n := e
+    ∷ row 2 1 0 0 1  -- 25 loop P
+    ∷ row 2 0 0 0 0  -- 26 exit
     ∷ []
 
 unfoldable pub rowOf : ℕ → Row
@@ -99,6 +101,8 @@ pub data Stmt : Type 0 where
   ite : ℕ → Expr → Stmt → Stmt → Stmt
   while : ℕ → Expr → Stmt → Stmt
   repeat : ℕ → Expr → Stmt → Stmt
+  loop : ℕ → Stmt → Stmt
+  exit : Stmt
 
 pub data Tree : Type 0 where
   expr : Expr → Tree
@@ -124,7 +128,7 @@ exprOf a e f =
     (pick (eqb (a .kind) 10) (elem (a .n) e)
     (op (a .kind) e f))))
 
--- of kinds 19 and 20 the children are O and P, of kind 24 e and f, of the others e, P and Q
+-- of kinds 19 and 20 the children are O and P, of kind 24 e and f, of kind 25 O, of the others e, P and Q
 unfoldable pub stmtOf : Node → Expr → Expr → Stmt → Stmt → Stmt → Stmt
 stmtOf a e f O P Q =
     pick (eqb (a .kind) 16) ok
@@ -135,7 +139,9 @@ stmtOf a e f O P Q =
     (pick (eqb (a .kind) 21) (ite (a .delay) e P Q)
     (pick (eqb (a .kind) 22) (while (a .delay) e P)
     (pick (eqb (a .kind) 24) (assignElem (a .delay) (a .n) e f)
-    (repeat (a .delay) e P))))))))
+    (pick (eqb (a .kind) 25) (loop (a .delay) O)
+    (pick (eqb (a .kind) 26) exit
+    (repeat (a .delay) e P))))))))))
 
 unfoldable pub treeOf : Node → Tree → Tree → Tree → Tree
 treeOf a x y z =
@@ -187,6 +193,8 @@ preorder (par P Q) = node 20 0 0 ∷ preorder P ++ preorder Q
 preorder (ite d e P Q) = node 21 d 0 ∷ preorderE e ++ (preorder P ++ preorder Q)
 preorder (while d e P) = node 22 d 0 ∷ preorderE e ++ preorder P
 preorder (repeat d e P) = node 23 d 0 ∷ preorderE e ++ preorder P
+preorder (loop d P) = node 25 d 0 ∷ preorder P
+preorder exit = node 26 0 0 ∷ []
 
 -- Times, reads and writes --------------------------------------------------------------------------------------------------------------
 
@@ -219,7 +227,7 @@ builtInTimes =
     ∷ []
 
 -- "A node's delay d is at least its expression's time, and at least 1 for kinds 17, 18, 22 and 23. If may have 0."
--- "An element's delay covers both children's times and is at least 1."
+-- "An element's delay covers both children's times and is at least 1." "loop P (kind 25) with a delay of at least 1"
 unfoldable pub least : (ℕ → ℕ) → Stmt → ℕ
 least τ ok = 0
 least τ (tick d) = 1
@@ -230,6 +238,8 @@ least τ (par P Q) = 0
 least τ (ite d e P Q) = time τ e
 least τ (while d e P) = max 1 (time τ e)
 least τ (repeat d e P) = max 1 (time τ e)
+least τ (loop d P) = 1
+least τ exit = 0
 
 -- "For refusals 4 and 8 an array is one variable": array k is variable 16 + k
 abbrev pub arrayVar : ℕ → ℕ
@@ -254,6 +264,8 @@ writes (par P Q) x = writes P x || writes Q x
 writes (ite d e P Q) x = writes P x || writes Q x
 writes (while d e P) x = writes P x
 writes (repeat d e P) x = writes P x
+writes (loop d P) x = writes P x
+writes exit x = false
 
 -- it is read or written in P
 unfoldable pub touches : Stmt → ℕ → Bool
@@ -266,6 +278,8 @@ touches (par P Q) x = touches P x || touches Q x
 touches (ite d e P Q) x = reads e x || (touches P x || touches Q x)
 touches (while d e P) x = reads e x || touches P x
 touches (repeat d e P) x = reads e x || touches P x
+touches (loop d P) x = touches P x
+touches exit x = false
 
 -- "A variable written on one side of a parallel node and read or written on the other": one below n
 unfoldable pub conflict : ℕ → Stmt → Stmt → Bool
@@ -282,6 +296,8 @@ conflicts (par P Q) = conflict 20 P Q
 conflicts (ite d e P Q) = false
 conflicts (while d e P) = false
 conflicts (repeat d e P) = false
+conflicts (loop d P) = false
+conflicts exit = false
 
 -- Refusals -----------------------------------------------------------------------------------------------------------------------------
 
@@ -318,6 +334,23 @@ reading (w ∷ ws) i [] = refuse 6 i
 reading (w ∷ ws) i (a ∷ rest) =
     pick (eqb (rowOf (a .kind) .sort) w) (reading (children (a .kind) ++ ws) (i + 1) rest) (refuse 5 i)
 
+-- "22: an exit with no kind 25 around it, or with a parallel node between it and that loop, place the exit node": the first in P, which stands
+-- at node i; inside tells whether a loop is around P with no parallel node between
+unfoldable pub looseIn : Bool → Stmt → ℕ → Checked
+looseIn inside ok i = Accepted
+looseIn inside (tick d) i = Accepted
+looseIn inside (assign d x e) i = Accepted
+looseIn inside (assignElem d k j e) i = Accepted
+looseIn inside (seq P Q) i = first (looseIn inside P (i + 1) ∷ looseIn inside Q (i + 1 + length (preorder P)) ∷ [])
+looseIn inside (par P Q) i = first (looseIn false P (i + 1) ∷ looseIn false Q (i + 1 + length (preorder P)) ∷ [])
+looseIn inside (ite d e P Q) i =
+    let j = i + 1 + length (preorderE e) in
+    first (looseIn inside P j ∷ looseIn inside Q (j + length (preorder P)) ∷ [])
+looseIn inside (while d e P) i = looseIn inside P (i + 1 + length (preorderE e))
+looseIn inside (repeat d e P) i = looseIn inside P (i + 1 + length (preorderE e))
+looseIn inside (loop d P) i = looseIn true P (i + 1)
+looseIn inside exit i = refuseIf (not inside) 22 i
+
 -- "7. Delay too small (first node)."
 unfoldable pub delayFault : (ℕ → ℕ) → List ℕ → ℕ → ℕ
 delayFault τ s i = faultIf (ltb (nodeAt s i .delay) (least τ (stmtAt s i))) 7
@@ -326,12 +359,13 @@ delayFault τ s i = faultIf (ltb (nodeAt s i .delay) (least τ (stmtAt s i))) 7
 unfoldable pub conflictFault : List ℕ → ℕ → ℕ
 conflictFault s i = faultIf (conflicts (stmtAt s i)) 8
 
--- refusals 1 to 8 in their order, with operator times τ
+-- refusals 1 to 8 in their order, and 22 "after 6 and before 7", with operator times τ
 abbrev pub programChecks : (ℕ → ℕ) → List ℕ → List Checked
 programChecks τ s =
     refuseIf (programLengthWrong s) 1 0
     ∷ firstFault (λ i. nodeFault (nodeAt s i)) 0 (nodeCount s)
     ∷ reading (2 ∷ []) 0 (nodesAt s 0)
+    ∷ looseIn false (programOf s) 0
     ∷ firstFault (delayFault τ s) 0 (nodeCount s)
     ∷ firstFault (conflictFault s) 0 (nodeCount s)
     ∷ []

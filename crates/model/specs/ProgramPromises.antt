@@ -9,7 +9,7 @@ use Rattle.model.specs.declared.Checked.the-variants.{Accepted}
 use Rattle.model.specs.declared.Outcome.the-variants.{Ended, Open}
 use Rattle.model.specs.declared.Answer.{Answer}
 use Rattle.model.specs.Program.{nodesAt, programOf, preorder}
-use Rattle.model.specs.Rules.{Store, Ends}
+use Rattle.model.specs.Rules.{Store, Ends, Leaves}
 use Rattle.model.specs.TimeTables.{TimeTable, load}
 use Rattle.model.specs.Calls.{verdict, checkCall, runProgramCall, wordAt, listed, referenceCall}
 use Rattle.model.specs.Promises.{Bytes, seenIn}
@@ -33,6 +33,9 @@ pub record Programs : Type 0 where
   pub stillOpen : (T : TimeTable) (program words : List ℕ) (n : ℕ) → referenceCall (load T) program words n .outcome ≡ Open
       → (referenceCall (load T) program words n ≡ openAnswer n)
       × ((t : ℕ) (σ′ : Store) → Ends (programOf program) (wordAt words) t σ′ → t ≤ n → ⊥)
+  -- refusal 22: it never comes to an exit that ends no loop of its own
+  pub neverLeft : (T : TimeTable) (program : List ℕ) → checkCall (load T) program ≡ Accepted
+      → (σ : Store) (t : ℕ) (σ′ : Store) → Leaves (programOf program) σ t σ′ → ⊥
   -- a full run that is not refused answers what the reference run does; the words of one that is open are the memories'
   pub agree : (T : TimeTable) (program words : List ℕ) (n : ℕ) (forFile lent : List ℕ) → Bytes program →
       let full = runProgramCall (load T) program words n forFile lent .answer in

@@ -3,10 +3,10 @@
 -- Assumes nothing: definitions.
 use mathlib.Core.Path.{_≡_}
 use mathlib.Core.Logic.{_↔_, _⊎_}
-use mathlib.Core.Bool.{Bool, true, false}
+use mathlib.Core.Bool.{Bool, true, false, _||_}
 use mathlib.Core.List.{List, [], _∷_, _++_, map}
 use Prim.Native.Nat.{ℕ, zero, suc, _+_, _-_, _*_, _/_, _≤_, _<_}
-use lib.Dec.{ltb}
+use lib.Dec.{eqb, ltb}
 use lib.ListN.{length, getD, take, drop}
 use Rattle.model.specs.declared.Cell.{Cell}
 use Rattle.model.specs.declared.Checked.{Checked}
@@ -42,20 +42,39 @@ pub record FirstFound (checks : List Checked) (c : Checked) : Type 0 where
       → (i : ℕ) × (numberOf c ≡ numberOf (getD checks i Accepted)) × (placeOf c ≡ placeOf (getD checks i Accepted))
       × ((j : ℕ) → j < i → numberOf (getD checks j Accepted) ≡ 0)
 
--- a check accepts, or gives a number of a range
-abbrev pub Gives : ℕ × ℕ → Checked → Type 0
-Gives n c = (c ≡ Accepted) ⊎ ((n .0 ≤ numberOf c) × (numberOf c ≤ n .1))
+-- whether k is one of these numbers
+abbrev pub among : ℕ → List ℕ → Bool
+among k [] = false
+among k (n ∷ ns) = eqb k n || among k ns
 
--- the checks are as many as the ranges, and each gives no number but those of its own
-abbrev pub InOrder : List (ℕ × ℕ) → List Checked → Type 0
+-- a check accepts, or gives one of these numbers
+abbrev pub Gives : List ℕ → Checked → Type 0
+Gives ns c = (c ≡ Accepted) ⊎ (among (numberOf c) ns ≡ true)
+
+-- the checks are as many as the lists of numbers, and each gives no number but those of its own
+abbrev pub InOrder : List (List ℕ) → List Checked → Type 0
 InOrder [] [] = Unit {0}
 InOrder [] (c ∷ cs) = ⊥
-InOrder (n ∷ ns) [] = ⊥
-InOrder (n ∷ ns) (c ∷ cs) = Gives n c × InOrder ns cs
+InOrder (ns ∷ nss) [] = ⊥
+InOrder (ns ∷ nss) (c ∷ cs) = Gives ns c × InOrder nss cs
 
-pub record Refuses (numbers : List (ℕ × ℕ)) (checks : List Checked) (c : Checked) : Type 0 where
+pub record Refuses (numbers : List (List ℕ)) (checks : List Checked) (c : Checked) : Type 0 where
   pub found : FirstFound checks c
   pub ordered : InOrder numbers checks
+
+-- the numbers of a table's check, of a program's and of a netlist file's, which `tables`, `programs` and `files` give one by one
+abbrev pub tableNumbers : List ℕ
+tableNumbers = 19 ∷ 20 ∷ 21 ∷ []
+
+abbrev pub programNumbers : List ℕ
+programNumbers = 1 ∷ 2 ∷ 3 ∷ 4 ∷ 5 ∷ 6 ∷ 22 ∷ 7 ∷ 8 ∷ []
+
+abbrev pub fileNumbers : List ℕ
+fileNumbers = 9 ∷ 10 ∷ 11 ∷ 12 ∷ []
+
+-- one number alone
+abbrev pub just : ℕ → List ℕ
+just n = n ∷ []
 
 -- a refusal leaves what was lent, a list of bytes or of cells, as it was
 abbrev pub Leaves : {A : Type 0} → Checked → List A → List A → Type 0
@@ -70,47 +89,47 @@ pub record FirstPlace (fault : ℕ → ℕ) (n : ℕ) (c : Checked) : Type 0 whe
 -- it is with the operator times of a table T, "before 17, in this order"
 pub record Demand1 : Type 0 where
   pub places : (fault : ℕ → ℕ) (n : ℕ) → FirstPlace fault n (firstFault fault 0 n)
-  pub tables : (file : List ℕ) → Refuses ((19, 19) ∷ (20, 20) ∷ (21, 21) ∷ []) (tableChecks file) (load (given file) .checked)
+  pub tables : (file : List ℕ) → Refuses (just 19 ∷ just 20 ∷ just 21 ∷ []) (tableChecks file) (load (given file) .checked)
   pub programs : (T : TimeTable) (program : List ℕ)
-      → Refuses ((19, 21) ∷ (1, 1) ∷ (2, 4) ∷ (5, 6) ∷ (7, 7) ∷ (8, 8) ∷ [])
+      → Refuses (tableNumbers ∷ just 1 ∷ (2 ∷ 3 ∷ 4 ∷ []) ∷ (5 ∷ 6 ∷ []) ∷ just 22 ∷ just 7 ∷ just 8 ∷ [])
       (load T .checked ∷ programChecks (timeIn (load T .times)) program) (checkCall (load T) program)
-  pub files : (file : List ℕ) → Refuses ((9, 9) ∷ (10, 10) ∷ (11, 11) ∷ (11, 11) ∷ (12, 12) ∷ []) (fileChecks file) (fileCheck file)
+  pub files : (file : List ℕ) → Refuses (just 9 ∷ just 10 ∷ just 11 ∷ just 11 ∷ just 12 ∷ []) (fileChecks file) (fileCheck file)
   pub compiling : (T : TimeTable) (program lent : List ℕ) →
       let c = writtenVerdict (compileCall (load T) program lent .answer) in
-      Refuses ((19, 21) ∷ (1, 8) ∷ (14, 14) ∷ []) (compileChecks (load T) program lent) c
+      Refuses (tableNumbers ∷ programNumbers ∷ just 14 ∷ []) (compileChecks (load T) program lent) c
       × Leaves c lent (compileCall (load T) program lent .lent)
   pub writing : (cells : List ℕ) (f : ℕ) (lent : List ℕ) →
       let c = writtenVerdict (writeCall cells f lent .answer) in
-      Refuses ((11, 11) ∷ (12, 12) ∷ (14, 14) ∷ []) (writeChecks cells f lent) c × Leaves c lent (writeCall cells f lent .lent)
+      Refuses (just 11 ∷ just 12 ∷ just 14 ∷ []) (writeChecks cells f lent) c × Leaves c lent (writeCall cells f lent .lent)
   pub reading : (file lent : List ℕ) →
       let c = writtenVerdict (readCall file lent .answer) in
-      Refuses ((9, 12) ∷ (14, 14) ∷ []) (readChecks file lent) c × Leaves c lent (readCall file lent .lent)
+      Refuses (fileNumbers ∷ just 14 ∷ []) (readChecks file lent) c × Leaves c lent (readCall file lent .lent)
   pub beginning : (file words lent : List ℕ) →
       let c = verdict (beginCall file words lent .answer .outcome) in
-      Refuses ((9, 12) ∷ (14, 14) ∷ (14, 14) ∷ []) (beginChecks file words lent) c × Leaves c lent (beginCall file words lent .lent)
+      Refuses (fileNumbers ∷ just 14 ∷ just 14 ∷ []) (beginChecks file words lent) c × Leaves c lent (beginCall file words lent .lent)
   pub continuing : (file : List ℕ) (n : ℕ) (lent : List ℕ) →
       let c = verdict (continueCall file n lent .answer .outcome) in
-      Refuses ((9, 12) ∷ (14, 14) ∷ (15, 15) ∷ (16, 16) ∷ []) (continueChecks file n lent) c × Leaves c lent (continueCall file n lent .lent)
+      Refuses (fileNumbers ∷ just 14 ∷ just 15 ∷ just 16 ∷ []) (continueChecks file n lent) c × Leaves c lent (continueCall file n lent .lent)
   pub netlistRuns : (file words : List ℕ) (n : ℕ) (lent : List ℕ) →
       let c = verdict (runNetlistCall file words n lent .answer .outcome) in
-      Refuses ((9, 12) ∷ (13, 13) ∷ (14, 14) ∷ (14, 14) ∷ []) (runNetlistChecks file words n lent) c
+      Refuses (fileNumbers ∷ just 13 ∷ just 14 ∷ just 14 ∷ []) (runNetlistChecks file words n lent) c
       × Leaves c lent (runNetlistCall file words n lent .lent)
   pub programRuns : (T : TimeTable) (program words : List ℕ) (n : ℕ) (forFile lent : List ℕ) →
       let r = runProgramCall (load T) program words n forFile lent in
       let c = verdict (r .answer .outcome) in
-      Refuses ((19, 21) ∷ (1, 8) ∷ (13, 13) ∷ (14, 14) ∷ (14, 14) ∷ (14, 14) ∷ []) (runProgramChecks (load T) program words n forFile lent) c
+      Refuses (tableNumbers ∷ programNumbers ∷ just 13 ∷ just 14 ∷ just 14 ∷ just 14 ∷ []) (runProgramChecks (load T) program words n forFile lent) c
       × Leaves c forFile (r .netlist) × Leaves c lent (r .state)
   pub references : (T : TimeTable) (program words : List ℕ) (n : ℕ)
-      → Refuses ((19, 21) ∷ (1, 8) ∷ (13, 13) ∷ (14, 14) ∷ []) (referenceChecks (load T) program words n)
+      → Refuses (tableNumbers ∷ programNumbers ∷ just 13 ∷ just 14 ∷ []) (referenceChecks (load T) program words n)
       (verdict (referenceCall (load T) program words n .outcome))
   -- the calls on netlists that are held as cells
-  pub cellsChecked : (cs : List Cell) (f : ℕ) → Refuses ((11, 11) ∷ (12, 12) ∷ []) (checkCellsChecks cs f) (checkCellsCall cs f)
+  pub cellsChecked : (cs : List Cell) (f : ℕ) → Refuses (just 11 ∷ just 12 ∷ []) (checkCellsChecks cs f) (checkCellsCall cs f)
   pub cellsWritten : (cs : List Cell) (f : ℕ) (lent : List ℕ) →
       let c = writtenVerdict (writeCellsCall cs f lent .answer) in
-      Refuses ((11, 11) ∷ (12, 12) ∷ (14, 14) ∷ []) (writeCellsChecks cs f lent) c × Leaves c lent (writeCellsCall cs f lent .lent)
+      Refuses (just 11 ∷ just 12 ∷ just 14 ∷ []) (writeCellsChecks cs f lent) c × Leaves c lent (writeCellsCall cs f lent .lent)
   pub cellsRead : (file : List ℕ) (k : ℕ) (lent : List Cell) →
       let c = writtenVerdict (readCellsCall file k lent .answer) in
-      Refuses ((9, 12) ∷ (14, 14) ∷ []) (readCellsChecks file k lent) c × Leaves c lent (readCellsCall file k lent .lent)
+      Refuses (fileNumbers ∷ just 14 ∷ []) (readCellsChecks file k lent) c × Leaves c lent (readCellsCall file k lent .lent)
   -- renumbering has no number to give: where the list has no such cells it stays
   pub renumbered : (k i end : ℕ) (lent : List ℕ) → hasCells end lent ≡ false → renumberCall k i end lent ≡ lent
 

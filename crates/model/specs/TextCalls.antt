@@ -37,7 +37,7 @@ textProgram text = bytesRead (readingOf text)
 abbrev pub textChecks : List ℕ → List Checked
 textChecks text = refuseIf (ltb 4096 (length text)) 17 4096 ∷ outside (wordsOf text) ∷ brokenAt (readingOf text) ∷ []
 
--- text to program: 19 to 21, 17, 18, 1 to 8, 14. A program has no finish cell: it is told as 0.
+-- text to program: 19 to 21, 17, 18, 1 to 8 and 22, 14. A program has no finish cell: it is told as 0.
 abbrev pub readTextChecks : Options → List ℕ → List ℕ → List Checked
 readTextChecks options text lent =
     options .checked ∷ textChecks text ++ (checkOf (options .times) (textProgram text) ∷ short (length lent) (length (textProgram text)) ∷ [])
@@ -45,7 +45,7 @@ readTextChecks options text lent =
 unfoldable pub readTextCall : Options → List ℕ → List ℕ → Returned Written
 readTextCall options text lent = writing (first (readTextChecks options text lent)) (textProgram text) (length (textProgram text)) 0 lent
 
--- text to netlist: 19 to 21, 17, 18, 1 to 8, 14
+-- text to netlist: 19 to 21, 17, 18, 1 to 8 and 22, 14
 abbrev pub compileTextChecks : Options → List ℕ → List ℕ → List Checked
 compileTextChecks options text lent = options .checked ∷ textChecks text ++ netlistChecks (options .times) (textProgram text) lent
 
@@ -55,7 +55,7 @@ compileTextCall options text lent =
     let file = compiledFile program in
     writing (first (compileTextChecks options text lent)) file (length file) (finish (programOf program)) lent
 
--- a full run of a text: 19 to 21, 17, 18, 1 to 8, 13, 14
+-- a full run of a text: 19 to 21, 17, 18, 1 to 8 and 22, 13, 14
 abbrev pub runTextChecks : Options → List ℕ → List ℕ → ℕ → List ℕ → List ℕ → List Checked
 runTextChecks options text words n forFile lent =
     options .checked ∷ textChecks text ++ fullRunChecks (options .times) (textProgram text) words n forFile lent

@@ -18,7 +18,7 @@ use Rattle.model.specs.TimeTables.{TimeTable, load}
 use Rattle.model.specs.TextCalls.{readingOf, textProgram, textChecks, readTextChecks, readTextCall, compileTextChecks, compileTextCall, runTextChecks, runTextCall}
 use Rattle.model.specs.Calls.{verdict, writtenVerdict, compileCall, runProgramCall}
 use Rattle.model.specs.Hubrun.{decimal}
-use Rattle.model.specs.Promises.{Bytes, Refuses, Leaves}
+use Rattle.model.specs.Promises.{Bytes, tableNumbers, programNumbers, just, Refuses, Leaves}
 
 -- the place of word i, or the length of the text where the words are fewer
 unfoldable pub placeAt : ℕ → List Lexeme → ℕ → ℕ
@@ -59,15 +59,15 @@ pub record Texts : Type 0 where
   -- the refusals in the published order, and what a refusal leaves
   pub reading : (T : TimeTable) (text lent : List ℕ) →
       let c = writtenVerdict (readTextCall (load T) text lent .answer) in
-      Refuses ((19, 21) ∷ (17, 17) ∷ (17, 17) ∷ (18, 18) ∷ (1, 8) ∷ (14, 14) ∷ []) (readTextChecks (load T) text lent) c
+      Refuses (tableNumbers ∷ just 17 ∷ just 17 ∷ just 18 ∷ programNumbers ∷ just 14 ∷ []) (readTextChecks (load T) text lent) c
       × Leaves c lent (readTextCall (load T) text lent .lent)
   pub compiling : (T : TimeTable) (text lent : List ℕ) →
       let c = writtenVerdict (compileTextCall (load T) text lent .answer) in
-      Refuses ((19, 21) ∷ (17, 17) ∷ (17, 17) ∷ (18, 18) ∷ (1, 8) ∷ (14, 14) ∷ []) (compileTextChecks (load T) text lent) c
+      Refuses (tableNumbers ∷ just 17 ∷ just 17 ∷ just 18 ∷ programNumbers ∷ just 14 ∷ []) (compileTextChecks (load T) text lent) c
       × Leaves c lent (compileTextCall (load T) text lent .lent)
   pub runs : (T : TimeTable) (text words : List ℕ) (n : ℕ) (forFile lent : List ℕ) →
       let r = runTextCall (load T) text words n forFile lent in
       let c = verdict (r .answer .outcome) in
-      Refuses ((19, 21) ∷ (17, 17) ∷ (17, 17) ∷ (18, 18) ∷ (1, 8) ∷ (13, 13) ∷ (14, 14) ∷ (14, 14) ∷ (14, 14) ∷ [])
+      Refuses (tableNumbers ∷ just 17 ∷ just 17 ∷ just 18 ∷ programNumbers ∷ just 13 ∷ just 14 ∷ just 14 ∷ just 14 ∷ [])
       (runTextChecks (load T) text words n forFile lent) c
       × Leaves c forFile (r .netlist) × Leaves c lent (r .state)

@@ -56,7 +56,9 @@ other-clashes a x y z n =
     (rw (ne-eqb k 20 n)
     (by-pick Free (eqb k 21) _ _ refl
     (by-pick Free (eqb k 22) _ _ refl
-    (by-pick Free (eqb k 24) _ _ refl refl))))))))
+    (by-pick Free (eqb k 24) _ _ refl
+    (by-pick Free (eqb k 25) _ _ refl
+    (by-pick Free (eqb k 26) _ _ refl refl))))))))))
   where
     k : ℕ
     k = a .kind

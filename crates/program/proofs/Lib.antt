@@ -1,4 +1,5 @@
 pub mod Children
 pub mod Reading
 pub mod Clashes
+pub mod Loose
 pub mod TimeTables

@@ -22,12 +22,12 @@ pub record Shaped (τ : ℕ → ℕ) (s times ends : List ℕ) (j : ℕ) : Type 
   pub end : EndAt s ends j
   pub timed : getD times j 0 ≡ time τ (exprAt s j)
 
--- refusals 7 and 8
+-- refusals 22, 7 and 8
 pub record Measures (operators s : List ℕ) (r : Scanned) : Type 0 where
   pub checked : r .checked ≡ first (drop 3 (programChecks (timeIn operators) s))
   pub shaped : (j : ℕ) → j < nodeCount s → Shaped (timeIn operators) s (r .times) (r .ends) j
 
--- refusals 1 to 8; of a refused program the arrays are free
+-- refusals 1 to 8 and 22; of a refused program the arrays are free
 pub record ScansBy (operators s : List ℕ) (r : Scanned) : Type 0 where
   pub checked : r .checked ≡ checkOf operators s
   pub shaped : checkOf operators s ≡ Accepted → (j : ℕ) → j < nodeCount s → Shaped (timeIn operators) s (r .times) (r .ends) j

@@ -13,7 +13,7 @@ use borrow.Author.Tests.{lt-ltb, le-ltb, ne-eqb}
 use Rattle.model.specs.declared.Node.{Node}
 use Rattle.model.specs.Word.{pick}
 use Rattle.model.specs.Program.{Expr, while, repeat, Tree, nodeAt, nodeCount, nodesAt, none, asExpr, asStmt, exprOf, stmtOf, treeOf, arity, grow, forest, treesAt, exprAt, stmtAt, time, least, delayFault, node}
-use Rattle.laws.specs.Program.Trees.{length-nodes, expr-none, by-pick, other-kind, treeAt, tree-is, tree-of, no-expr, no-stmt, at-const, at-var, at-compl, at-elem, at-op, at-ok, at-assign-elem}
+use Rattle.laws.specs.Program.Trees.{length-nodes, expr-none, by-pick, other-kind, treeAt, tree-is, tree-of, no-expr, no-stmt, at-const, at-var, at-compl, at-elem, at-op, at-ok, at-assign-elem, at-loop, at-exit}
 
 -- Times --------------------------------------------------------------------------------------------------------------------------------
 
@@ -54,9 +54,9 @@ module _ (τ : ℕ → ℕ) (s : List ℕ) (i : ℕ) (h : i < nodeCount s) (a : 
 -- Least delays -------------------------------------------------------------------------------------------------------------------------
 
 -- while and repeat have the same
-loop-least : (τ : ℕ → ℕ) (a : Node) (x y z : Tree) → 22 ≤ a .kind → (a .kind ≡ 24 → ⊥) → least τ (asStmt (treeOf a x y z)) ≡ max 1 (time τ (asExpr x))
+turns-least : (τ : ℕ → ℕ) (a : Node) (x y z : Tree) → 22 ≤ a .kind → (a .kind ≡ 24 → ⊥) → (a .kind ≡ 25 → ⊥) → (a .kind ≡ 26 → ⊥) → least τ (asStmt (treeOf a x y z)) ≡ max 1 (time τ (asExpr x))
 unfolding treeOf stmtOf asStmt least
-loop-least τ a x y z l n = rw (le-ltb _ _ high, no 16 tt, no 17 tt, no 18 tt, no 19 tt, no 20 tt, no 21 tt, ne-eqb _ _ n) (either (eqb (a .kind) 22))
+turns-least τ a x y z l n p q = rw (le-ltb _ _ high, no 16 tt, no 17 tt, no 18 tt, no 19 tt, no 20 tt, no 21 tt, ne-eqb _ _ n, ne-eqb _ _ p, ne-eqb _ _ q) (either (eqb (a .kind) 22))
   where
     high : 16 ≤ a .kind
     high = omega arith
@@ -67,6 +67,9 @@ loop-least τ a x y z l n = rw (le-ltb _ _ high, no 16 tt, no 17 tt, no 18 tt, n
     either : (b : Bool) → least τ (pick b (while (a .delay) (asExpr x) (asStmt y)) (repeat (a .delay) (asExpr x) (asStmt y))) ≡ max 1 (time τ (asExpr x))
     either true = refl
     either false = refl
+
+assigned : {k : ℕ} → 16 < k → (k ≡ 17 → ⊥) → (k ≡ 19 → ⊥) → (k ≡ 20 → ⊥) → (k ≡ 21 → ⊥) → k < 22 → k ≡ 18
+assigned l n p q r m = omega arith
 
 module _ (τ : ℕ → ℕ) (s : List ℕ) (i : ℕ) (h : i < nodeCount s) (a : Node) (ea : a ≡ nodeAt s i) where
   of-kind : (q : ℕ) → a .kind ≡ q
@@ -95,14 +98,22 @@ module _ (τ : ℕ → ℕ) (s : List ℕ) (i : ℕ) (h : i < nodeCount s) (a : 
   unfolding treeOf stmtOf asStmt least
   least-par e = sym (of-kind 20 e)
 
+  pub least-loop : a .kind ≡ 25 → 1 ≡ least τ (stmtAt s i)
+  unfolding least
+  least-loop e = sym (ap (least τ) (at-loop s i h a ea e))
+
+  pub least-exit : a .kind ≡ 26 → 0 ≡ least τ (stmtAt s i)
+  unfolding least
+  least-exit e = sym (ap (least τ) (at-exit s i h a ea e))
+
   module _ (t : ℕ) (et : t ≡ time τ (exprAt s (i + 1))) where
     pub least-if : a .kind ≡ 21 → t ≡ least τ (stmtAt s i)
     unfolding treeOf stmtOf asStmt least exprAt
     least-if e = et ∙ sym (of-kind 21 e)
 
-    least-loop : 22 ≤ a .kind → (a .kind ≡ 24 → ⊥) → least τ (stmtAt s i) ≡ max 1 (time τ (exprAt s (i + 1)))
+    least-turns : 22 ≤ a .kind → (a .kind ≡ 24 → ⊥) → (a .kind ≡ 25 → ⊥) → (a .kind ≡ 26 → ⊥) → least τ (stmtAt s i) ≡ max 1 (time τ (exprAt s (i + 1)))
     unfolding stmtAt exprAt
-    least-loop l n = ap (λ (t : Tree). least τ (asStmt t)) (tree-is s i h a ea) ∙ loop-least τ a _ _ _ l n
+    least-turns l n p q = ap (λ (t : Tree). least τ (asStmt t)) (tree-is s i h a ea) ∙ turns-least τ a _ _ _ l n p q
 
     -- an element assignment's second child is the tree of node j
     pub least-elem : a .kind ≡ 24 → (j : ℕ) → treesAt s j ≡ drop 1 (treesAt s (i + 1)) → (u : ℕ) → u ≡ time τ (exprAt s j)
@@ -110,15 +121,15 @@ module _ (τ : ℕ → ℕ) (s : List ℕ) (i : ℕ) (h : i < nodeCount s) (a : 
     unfolding least
     least-elem e j ej u eu = ap (max 1) (ap₂ max et eu) ∙ sym (ap (least τ) (at-assign-elem s i h a ea j ej e))
 
-    -- assignments to variables, and loops
-    pub least-other : 16 < a .kind → (a .kind ≡ 17 → ⊥) → (a .kind ≡ 19 → ⊥) → (a .kind ≡ 20 → ⊥) → (a .kind ≡ 21 → ⊥) → (a .kind ≡ 24 → ⊥)
-        → max 1 t ≡ least τ (stmtAt s i)
+    -- assignments to variables, while and repeat
+    pub least-other : 16 < a .kind → (a .kind ≡ 17 → ⊥) → (a .kind ≡ 19 → ⊥) → (a .kind ≡ 20 → ⊥) → (a .kind ≡ 25 → ⊥) → (a .kind ≡ 26 → ⊥)
+        → (a .kind ≡ 21 → ⊥) → (a .kind ≡ 24 → ⊥) → max 1 t ≡ least τ (stmtAt s i)
     unfolding treeOf stmtOf asStmt least exprAt stmtAt
-    least-other l n p q r w = ap (max 1) et ∙ sym (go (decLt (a .kind) 22))
+    least-other l n p q u v r w = ap (max 1) et ∙ sym (go (decLt (a .kind) 22))
       where
         go : Dec (a .kind < 22) → least τ (stmtAt s i) ≡ max 1 (time τ (exprAt s (i + 1)))
-        go (yes m) = let e : a .kind ≡ 18 = omega arith in of-kind 18 e
-        go (no n) = let m : 22 ≤ a .kind = omega arith in least-loop m w
+        go (yes m) = of-kind 18 (assigned l n p q r m)
+        go (no n) = let m : 22 ≤ a .kind = omega arith in least-turns m w u v
 
 -- a delay, and the least that it may be
 module _ (τ : ℕ → ℕ) (s : List ℕ) (i : ℕ) (a : Node) (ea : a ≡ nodeAt s i) (l : ℕ) (el : l ≡ least τ (stmtAt s i)) where

@@ -11,7 +11,7 @@ use lib.Dec.{eqb}
 use borrow.Author.Tests.{lt-ltb, ne-eqb}
 use Rattle.model.specs.declared.Node.{Node}
 use Rattle.model.specs.Word.{pick}
-use Rattle.model.specs.Program.{Expr, const, var, compl, op, elem, Stmt, ok, tick, assign, assignElem, seq, par, ite, while, repeat, Tree, stmt, nodeAt, nodeCount, nodesFrom, none, stmtAt, arrayVar, reads, writes, touches, preorderE, preorder, node}
+use Rattle.model.specs.Program.{Expr, const, var, compl, op, elem, Stmt, ok, tick, assign, assignElem, seq, par, ite, while, repeat, loop, exit, Tree, stmt, nodeAt, nodeCount, nodesFrom, none, stmtAt, arrayVar, reads, writes, touches, preorderE, preorder, node}
 use Rattle.laws.specs.Program.Trees.{nodes-step, nodes-none, treeAt, trees-none}
 use Rattle.program.specs.Ends.{Laid, past, past-trees, past-within}
 use Rattle.laws.specs.Program.Preorder.{nodesOf, KnownT}
@@ -133,6 +133,8 @@ module _ (touch : Bool) (x : ℕ) where
       ∙ uses-test touch _ _ _
   named-uses (while d e P) g = named-two (preorderE e) (preorder P) _ _ (named-reads e (g .1)) (named-uses P (g .2)) ∙ uses-test touch _ _ _
   named-uses (repeat d e P) g = named-two (preorderE e) (preorder P) _ _ (named-reads e (g .1)) (named-uses P (g .2)) ∙ uses-test touch _ _ _
+  named-uses (loop d P) g = named-uses P (g .1)
+  named-uses exit g = uses-none touch
 
 -- the nodes of a side
 module _ (s ends : List ℕ) (i : ℕ) (S : Side s ends i) where

@@ -1,4 +1,4 @@
-// The check of a program with what is given beside it: refusals 1 to 8, and the two arrays of 200 that the checks fill.
+// The check of a program with what is given beside it: refusals 1 to 8 and 22, and the two arrays of 200 that the checks fill.
 // Contracts are equations with the definitions of model/Program; what the arrays hold is said in specs/Ends and specs/Shape.
 // `operators` is a list of operator times: entry k is that of kind k.
 // `|` and `&` stand between tests where both sides are cheap: they are the model's own `||` and `&&`.
@@ -8,7 +8,7 @@ ghost use mathlib.Core.List.{[], _∷_};
 ghost use Prim.Native.Nat.{ℕ, _+_, _*_, _≤_, _<_, max};
 ghost use lib.ListN.{length, getD, take, drop};
 ghost use Rattle.model.specs.Refusals.{refuse, first, firstFault};
-ghost use Rattle.model.specs.Program.{nodeAt, nodeCount, nodesAt, rowOf, exprAt, stmtAt, time, timeIn, least, writes, touches, programLengthWrong, unusedSet, absent, nodeFault, reading, delayFault, conflictFault, programChecks};
+ghost use Rattle.model.specs.Program.{nodeAt, nodeCount, nodesAt, rowOf, exprAt, stmtAt, time, timeIn, least, writes, touches, programLengthWrong, unusedSet, absent, nodeFault, reading, looseIn, delayFault, conflictFault, programChecks};
 ghost use Rattle.model.specs.Calls.{checkCall};
 ghost use Rattle.program.specs.Ends.{Laid, past, skips};
 ghost use Rattle.laws.specs.Program.Passed.{Readable};
@@ -36,7 +36,7 @@ pub struct Scanned {
 struct Line(u8, u8, u8, u8, u8);
 
 // The paper's table, but for its times: entry k is the row of kind k.
-const TABLE: [Line; 25] = [
+const TABLE: [Line; 27] = [
     Line(0, 0, 0, 0, 0), // 0 unknown
     Line(1, 0, 1, 0, 0), // 1 constant n
     Line(1, 0, 2, 0, 0), // 2 variable n
@@ -62,13 +62,15 @@ const TABLE: [Line; 25] = [
     Line(2, 1, 0, 1, 1), // 22 while e do P
     Line(2, 1, 0, 1, 1), // 23 repeat P until e
     Line(2, 1, 3, 2, 0), // 24 element of array n := e
+    Line(2, 1, 0, 0, 1), // 25 loop P
+    Line(2, 0, 0, 0, 0), // 26 exit
 ];
 
 // Of a kind that the table does not have, the row is that of kind 0.
 pub fn kind_row(kind: u8) -> Row
     ensures { λ r. ⌜ r ≡ rowOf kind ⌝ }
 {
-    let k = if kind < 25 { kind as usize } else { 0 };
+    let k = if kind < 27 { kind as usize } else { 0 };
     let line = TABLE[k];
     Row {
         sort: line.0,
@@ -286,6 +288,41 @@ fn time_at(
     operator + larger(first, second)
 }
 
+// Refusal 22: the first exit in the statement at node i with no loop around it, or with a parallel node between it and that loop;
+// `inside` tells whether a loop is around node i with no parallel node between.
+fn first_loose(program: &[u8], ends: &[usize; 200], i: usize, inside: bool) -> Checked
+    requires { ⌜ Side (now program) (now ends) i ⌝ }
+    ensures { λ r. ⌜ r ≡ looseIn inside (stmtAt (now (program .entry)) i) i ⌝ }
+{
+    let node = read_node(program, i);
+    let kind = node.kind;
+    if kind == 26 {
+        return if inside {
+            Checked::Accepted
+        } else {
+            refused(22, i)
+        };
+    }
+    if kind == 25 {
+        return first_loose(program, ends, i + 1, true);
+    }
+    if (kind < 19) | (kind == 24) {
+        return Checked::Accepted;
+    }
+    let count = program.len() / NODE;
+    let second = next(ends, count, i + 1);
+    if 21 < kind {
+        return first_loose(program, ends, second, inside);
+    }
+    let p = if kind == 21 { second } else { i + 1 };
+    let within = inside & (kind != 20);
+    let one = first_loose(program, ends, p, within);
+    match one {
+        Checked::Refused(r) => Checked::Refused(r),
+        Checked::Accepted => first_loose(program, ends, next(ends, count, p), within),
+    }
+}
+
 // The least delay that node i may have.
 fn least_at(
     operators: &[u8],
@@ -309,6 +346,12 @@ fn least_at(
         return 0;
     }
     if kind == 20 {
+        return 0;
+    }
+    if kind == 25 {
+        return 1;
+    }
+    if kind == 26 {
         return 0;
     }
     let time = known_time(operators, program, times, i + 1);
@@ -405,19 +448,25 @@ fn first_clash(program: &[u8], ends: &[usize; 200]) -> Checked
     Checked::Accepted
 }
 
-// Refusals 7 and 8.
+// Refusals 22, 7 and 8.
 fn late_check(operators: &[u8], program: &[u8], times: &[u16; 200], ends: &[usize; 200]) -> Checked
     requires { ⌜ Readable (now program) × ((j : ℕ) → j < nodeCount (now program) → Shaped (timeIn (now operators)) (now program) (now times) (now ends) j) ⌝ }
     ensures { λ r. ⌜ r ≡ first (drop 3 (programChecks (timeIn (now (operators .entry))) (now (program .entry)))) ⌝ }
 {
-    let slow = first_slow(operators, program, times, ends);
-    match slow {
+    let loose = first_loose(program, ends, 0, false);
+    match loose {
         Checked::Refused(r) => Checked::Refused(r),
-        Checked::Accepted => first_clash(program, ends),
+        Checked::Accepted => {
+            let slow = first_slow(operators, program, times, ends);
+            match slow {
+                Checked::Refused(r) => Checked::Refused(r),
+                Checked::Accepted => first_clash(program, ends),
+            }
+        }
     }
 }
 
-// The arrays, filled from the last node to the first, and refusals 7 and 8, which read them.
+// The arrays, filled from the last node to the first, and refusals 22, 7 and 8, which read them.
 fn measure(operators: &[u8], program: &[u8]) -> Scanned
     requires { ⌜ Readable (now program) ⌝ }
     ensures { λ r. ⌜ Measures (now (operators .entry)) (now (program .entry)) r ⌝ }
@@ -454,7 +503,7 @@ fn unscanned(refusal: Refusal) -> Scanned
     }
 }
 
-// Refusals 1 to 8 under operator times, with the arrays.
+// Refusals 1 to 8 and 22 under operator times, with the arrays.
 fn scan_by(operators: &[u8], program: &[u8]) -> Scanned
     ensures { λ r. ⌜ ScansBy (now (operators .entry)) (now (program .entry)) r ⌝ }
 {

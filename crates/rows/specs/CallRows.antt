@@ -35,10 +35,11 @@ stateOf a b c = a ∷ b ∷ c ∷ replicate 1597 0
 -- the first that a call's checks find, and what the paper says
 calls : List (Checked × Checked)
 calls =
-    -- compiling: 1 to 8, then 14 for the file
+    -- compiling: 1 to 8 and 22, then 14 for the file
     (first (compileChecks defaults okProgram (room 512)), Accepted)
     ∷ (first (compileChecks defaults okProgram (room 511)), refuse 14 0)
     ∷ (first (compileChecks defaults [] []), refuse 1 0)
+    ∷ (first (compileChecks defaults (raw 26 0 0) []), refuse 22 0)
     -- writing: 11 for a broken cell or a finish that is none, 12, then 14 for the file
     ∷ (first (writeChecks okCells 0 (room 512)), Accepted)
     ∷ (first (writeChecks okCells 0 (room 511)), refuse 14 0)
@@ -72,18 +73,20 @@ calls =
     ∷ (first (runNetlistChecks okFile (room 543) 1000000 (room 1600)), refuse 14 0)
     ∷ (first (runNetlistChecks okFile (room 544) 1000000 (room 1599)), refuse 14 0)
     ∷ (first (runNetlistChecks [] (room 544) 1000001 (room 1600)), refuse 9 0)
-    -- a full run of a program: 1 to 8, 13, then 14 for the words, the file or the state
+    -- a full run of a program: 1 to 8 and 22, 13, then 14 for the words, the file or the state
     ∷ (first (runProgramChecks defaults okProgram (room 544) 1000000 (room 512) (room 1600)), Accepted)
     ∷ (first (runProgramChecks defaults okProgram [] 1000001 [] []), refuse 13 0)
     ∷ (first (runProgramChecks defaults okProgram (room 543) 1000000 (room 512) (room 1600)), refuse 14 0)
     ∷ (first (runProgramChecks defaults okProgram (room 544) 1000000 (room 511) (room 1600)), refuse 14 0)
     ∷ (first (runProgramChecks defaults okProgram (room 544) 1000000 (room 512) (room 1599)), refuse 14 0)
     ∷ (first (runProgramChecks defaults [] [] 1000001 [] []), refuse 1 0)
-    -- a reference run: 1 to 8, 13, then 14 for the words
+    ∷ (first (runProgramChecks defaults (raw 26 0 0) [] 1000001 [] []), refuse 22 0)
+    -- a reference run: 1 to 8 and 22, 13, then 14 for the words
     ∷ (first (referenceChecks defaults okProgram (room 544) 1000000), Accepted)
     ∷ (first (referenceChecks defaults okProgram (room 543) 1000001), refuse 13 0)
     ∷ (first (referenceChecks defaults okProgram (room 543) 1000000), refuse 14 0)
     ∷ (first (referenceChecks defaults [] [] 1000001), refuse 1 0)
+    ∷ (first (referenceChecks defaults (raw 26 0 0) [] 1000001), refuse 22 0)
     ∷ []
 
 calls-right : map (λ r. r .0) calls ≡ map (λ r. r .1) calls

@@ -4,4 +4,5 @@ pub mod TableRows
 pub mod NetlistRows
 pub mod StateRows
 pub mod CallRows
+pub mod LoopRows
 pub mod Texts

@@ -6,7 +6,7 @@ use mathlib.Core.Path.{_≡_, refl}
 use mathlib.Core.List.{List, [], _∷_, map}
 use Prim.Native.Nat.{ℕ}
 use Rattle.model.specs.Word.{bit, biased, operate, elementWord}
-use Rattle.model.specs.Program.{Expr, const, var, compl, op, elem, Stmt, ok, tick, assign, assignElem, seq, par, ite, while, repeat, time, least, builtInTimes, timeIn}
+use Rattle.model.specs.Program.{Expr, const, var, compl, op, elem, Stmt, ok, tick, assign, assignElem, seq, par, ite, while, repeat, loop, exit, time, least, builtInTimes, timeIn}
 use Rattle.model.specs.Rules.{owner}
 
 -- an operator's kind, its two words, and what it gives
@@ -119,7 +119,7 @@ unfolding expressionTimes time builtInTimes
 times-right = refl
 
 -- a statement, and its least delay: "at least its expression's time, and at least 1 for kinds 17, 18, 22 and 23. If may have 0." "An element's
--- delay covers both children's times and is at least 1."
+-- delay covers both children's times and is at least 1." "loop P (kind 25) with a delay of at least 1"
 leastDelays : List (Stmt × ℕ)
 leastDelays =
     (ok, 0)
@@ -138,6 +138,8 @@ leastDelays =
     ∷ (while 0 nested ok, 33)
     ∷ (repeat 0 (var 0) ok, 1)
     ∷ (repeat 0 nested ok, 33)
+    ∷ (loop 0 (tick 3), 1)
+    ∷ (exit, 0)
     ∷ []
 
 delays-right : map (λ r. least (timeIn builtInTimes) (r .0)) leastDelays ≡ map (λ r. r .1) leastDelays

@@ -1,4 +1,4 @@
--- Programs with what their check says, worked out by hand from the paper: refusals 1 to 8 with their places, and what is just allowed.
+-- Programs with what their check says, worked out by hand from the paper: refusals 1 to 8 and 22 with their places, and what is just allowed.
 -- Calls and promises cite the same checks, and so leave them free.
 -- Assumes nothing.
 use mathlib.Core.Path.{_≡_, refl}
@@ -7,7 +7,7 @@ use Prim.Native.Nat.{ℕ}
 use Rattle.model.specs.declared.Checked.{Checked}
 use Rattle.model.specs.declared.Checked.the-variants.{Accepted}
 use Rattle.model.specs.Refusals.{refuse}
-use Rattle.model.specs.Program.{nodeBytes, Expr, const, var, compl, op, elem, Stmt, ok, tick, assign, assignElem, seq, par, ite, while, repeat, preorder}
+use Rattle.model.specs.Program.{nodeBytes, Expr, const, var, compl, op, elem, Stmt, ok, tick, assign, assignElem, seq, par, ite, while, repeat, loop, exit, preorder}
 use Rattle.model.specs.TimeTables.{defaults}
 use Rattle.model.specs.Calls.{checkCall}
 use Rattle.model.specs.Cases.{raw, repeated, checkOfProgram}
@@ -40,7 +40,9 @@ kinds =
     ∷ (22, refuse 6 1, refuse 3 0)
     ∷ (23, refuse 6 1, refuse 3 0)
     ∷ (24, refuse 6 1, refuse 6 1)
-    ∷ (25, refuse 2 0, refuse 2 0)
+    ∷ (25, refuse 6 1, refuse 3 0)
+    ∷ (26, refuse 3 0, refuse 3 0)
+    ∷ (27, refuse 2 0, refuse 2 0)
     -- a cell's kind
     ∷ (32, refuse 2 0, refuse 2 0)
     ∷ (255, refuse 2 0, refuse 2 0)
@@ -81,7 +83,7 @@ programs =
     ∷ (raw 16 0 0 ++ (0 ∷ []), refuse 1 0)
     ∷ (repeated 200 (raw 16 0 0) ++ (0 ∷ []), refuse 1 0)
     -- 2: at its node, before the nodes are read as a tree
-    ∷ (raw 19 0 0 ++ raw 16 0 0 ++ raw 25 0 0, refuse 2 2)
+    ∷ (raw 19 0 0 ++ raw 16 0 0 ++ raw 27 0 0, refuse 2 2)
     ∷ (raw 16 0 0 ++ raw 0 0 0, refuse 2 1)
     -- 3: at its node; the high byte of a number counts
     ∷ (raw 18 1 0 ++ raw 1 1 5, refuse 3 1)
@@ -111,6 +113,8 @@ programs =
     ∷ (raw 22 1 0 ++ raw 16 0 0 ++ raw 16 0 0, refuse 5 1)
     -- an element assignment has two expressions
     ∷ (raw 24 1 0 ++ raw 1 0 0 ++ raw 16 0 0, refuse 5 2)
+    -- a loop has a statement
+    ∷ (raw 25 1 0 ++ raw 1 0 1, refuse 5 1)
     -- a repeat has its expression first
     ∷ (raw 23 1 0 ++ raw 16 0 0 ++ raw 2 0 0, refuse 5 1)
     -- 6: nodes run out, place the node count; or are left, place the first
@@ -124,6 +128,30 @@ programs =
     -- whichever reading meets first: the sequence lacks a node too; a node that is left is not 5
     ∷ (raw 19 0 0 ++ raw 1 0 0, refuse 5 1)
     ∷ (raw 16 0 0 ++ raw 1 0 0, refuse 6 1)
+    -- 22: an exit with no loop around it, place the exit; nodes of expressions count
+    ∷ (bytesOf exit, refuse 22 0)
+    ∷ (bytesOf (loop 1 exit), Accepted)
+    ∷ (bytesOf (loop 1 ok), Accepted)
+    ∷ (bytesOf (seq (loop 1 exit) exit), refuse 22 3)
+    ∷ (bytesOf (seq (assign 18 2 (op 4 (const 1) (compl (var 1)))) exit), refuse 22 6)
+    ∷ (bytesOf (seq (sets 0 1) exit), refuse 22 4)
+    ∷ (bytesOf (ite 6 isNought ok exit), refuse 22 5)
+    ∷ (bytesOf (while 6 isNought exit), refuse 22 4)
+    ∷ (bytesOf (repeat 6 isNought exit), refuse 22 4)
+    -- or with a parallel node between it and that loop
+    ∷ (bytesOf (loop 1 (par exit ok)), refuse 22 2)
+    ∷ (bytesOf (loop 1 (par ok (seq ok exit))), refuse 22 5)
+    ∷ (bytesOf (loop 1 (par (loop 1 exit) (loop 1 exit))), Accepted)
+    ∷ (bytesOf (par (loop 1 (seq (tick 1) exit)) (seq (tick 1) exit)), refuse 22 7)
+    -- any other statement may stand between
+    ∷ (bytesOf (loop 1 (while 1 (var 0) (repeat 1 (var 0) (seq ok (ite 0 (var 0) exit ok))))), Accepted)
+    -- the first such exit, the one that no run comes to among them
+    ∷ (bytesOf (seq exit exit), refuse 22 1)
+    ∷ (bytesOf (loop 1 (seq exit (par ok exit))), refuse 22 5)
+    -- after 5 and 6 and before every 7
+    ∷ (raw 19 0 0 ++ raw 26 0 0 ++ raw 1 0 0, refuse 5 2)
+    ∷ (raw 26 0 0 ++ raw 26 0 0, refuse 6 1)
+    ∷ (bytesOf (seq (tick 0) exit), refuse 22 2)
     -- 7: the first node whose delay is too small, which is that of the statement
     ∷ (bytesOf (tick 0), refuse 7 0)
     ∷ (bytesOf (seq ok (seq (tick 0) (tick 0))), refuse 7 3)
@@ -133,6 +161,8 @@ programs =
     ∷ (bytesOf (seq ok (while 5 isNought ok)), refuse 7 2)
     ∷ (bytesOf (repeat 5 isNought ok), refuse 7 0)
     ∷ (bytesOf (repeat 6 isNought ok), Accepted)
+    ∷ (bytesOf (loop 0 exit), refuse 7 0)
+    ∷ (bytesOf (loop 1 (seq exit (tick 0))), refuse 7 3)
     -- an element assignment's covers the larger of index and value
     ∷ (bytesOf (assignElem 0 0 (const 5) (const 5)), refuse 7 0)
     ∷ (bytesOf (assignElem 5 0 isNought (elem 0 (var 1))), refuse 7 0)
@@ -167,6 +197,8 @@ programs =
     ∷ (bytesOf (par (gets 3 1) (repeat 1 (var 3) ok)), refuse 8 0)
     ∷ (bytesOf (par (ite 0 (var 0) ok (gets 3 1)) (seq ok (copies 2 3))), refuse 8 0)
     ∷ (bytesOf (par (while 1 (var 0) (gets 3 1)) (repeat 1 (var 0) (gets 3 1))), refuse 8 0)
+    ∷ (bytesOf (par (gets 3 1) (loop 1 (copies 2 3))), refuse 8 0)
+    ∷ (bytesOf (par (loop 1 (seq exit (gets 3 1))) (copies 2 3)), refuse 8 0)
     -- the first such node, the outer before the inner
     ∷ (bytesOf (seq ok (par (gets 1 1) (gets 1 2))), refuse 8 2)
     ∷ (bytesOf (par ok (par (gets 1 1) (gets 1 2))), refuse 8 2)

@@ -1,6 +1,6 @@
 -- The rules look at no word but the first 272: from stores that agree on these, a run ends at the same time, with words that agree.
 -- Assumes that the statement's variables are below 16 and its arrays below 4 (`Formed`).
-use mathlib.Core.Path.{_≡_, refl, _∙_, ap, ap₂}
+use mathlib.Core.Path.{_≡_, refl, sym, _∙_, ap, ap₂}
 use mathlib.Core.Bool.{Bool, true, false}
 use mathlib.Core.List.{List, _∷_}
 use Prim.Native.Nat.{ℕ, zero, suc, _+_, _-_, _*_, _≤_, _<_, max}
@@ -8,19 +8,19 @@ use native.Mathlib.Omega.{arith}
 use lib.Dec.{leb, eqb}
 use Rattle.model.specs.declared.Outcome.the-variants.{Ended}
 use Rattle.model.specs.Word.{pick, isZero, operate, index, elementWord}
-use Rattle.model.specs.Program.{Expr, const, var, compl, op, elem, Stmt, ok, tick, assign, assignElem, seq, par, ite, while, repeat, writes}
-use Rattle.model.specs.Rules.{Store, Run, ended, still, owner, eval, put, over, kept, after, wait, chain, both, whiles, repeats, run}
+use Rattle.model.specs.Program.{Expr, const, var, compl, op, elem, Stmt, ok, tick, assign, assignElem, seq, par, ite, while, repeat, loop, exit, writes}
+use Rattle.model.specs.Rules.{Store, atEnd, atExit, Run, done, still, owner, eval, put, over, kept, after, wait, chain, both, caught, whiles, repeats, loops, run}
 use Rattle.model.specs.Calls.{listed, referenceAnswer}
 use Rattle.laws.specs.Program.Fit.{FormedExpr, Formed}
-use Rattle.laws.specs.Rules.Laws.{Body}
+use Rattle.laws.specs.Rules.Laws.{Body, not-way}
 
 abbrev pub Agree : Store → Store → Type 0
 Agree σ τ = (x : ℕ) → x < 272 → σ x ≡ τ x
 
 abbrev Alike : Run → Run → Type 0
-Alike (ended t σ) (ended u τ) = (t ≡ u) × Agree σ τ
-Alike (ended t σ) still = ⊥
-Alike still (ended u τ) = ⊥
+Alike (done w t σ) (done v u τ) = (w ≡ v) × (t ≡ u) × Agree σ τ
+Alike (done w t σ) still = ⊥
+Alike still (done v u τ) = ⊥
 Alike still still = Unit {0}
 
 -- Words --------------------------------------------------------------------------------------------------------------------------------
@@ -52,9 +52,9 @@ kept-agree P Q σ τ σ₁ τ₁ σ₂ τ₂ h h₁ h₂ x l =
 
 after-alike : (d : ℕ) (r q : Run) → Alike r q → Alike (after d r) (after d q)
 unfolding after
-after-alike d (ended t σ) (ended u τ) h = (ap (λ (n : ℕ). d + n) (h .0), h .1)
-after-alike d (ended t σ) still h = h
-after-alike d still (ended u τ) h = h
+after-alike d (done w t σ) (done v u τ) h = (h .0, ap (λ (n : ℕ). d + n) (h .1), h .2)
+after-alike d (done w t σ) still h = h
+after-alike d still (done v u τ) h = h
 after-alike d still still h = h
 
 wait-alike : (d k : ℕ) (f g : ℕ → Run) → ((k₁ : ℕ) → Alike (f k₁) (g k₁)) → Alike (wait d k f) (wait d k g)
@@ -73,25 +73,38 @@ AlikeOn f g = (k : ℕ) (σ τ : Store) → Agree σ τ → Alike (f k σ) (g k 
 
 chain-alike : (r q : Run) (f g : ℕ → Store → Run) → Alike r q → AlikeOn f g → Alike (chain r f) (chain q g)
 unfolding chain
-chain-alike (ended t σ) (ended u τ) f g h c = rw (h .0) (after-alike u (f u σ) (g u τ) (c u σ τ (h .1)))
-chain-alike (ended t σ) still f g h c = absurd h
-chain-alike still (ended u τ) f g h c = absurd h
+chain-alike (done atEnd t σ) (done atEnd u τ) f g h c = rw (h .1) (after-alike u (f u σ) (g u τ) (c u σ τ (h .2)))
+chain-alike (done atEnd t σ) (done atExit u τ) f g h c = not-way (h .0)
+chain-alike (done atExit t σ) (done atEnd u τ) f g h c = not-way (sym (h .0))
+chain-alike (done atExit t σ) (done atExit u τ) f g h c = h
+chain-alike (done w t σ) still f g h c = absurd h
+chain-alike still (done v u τ) f g h c = absurd h
 chain-alike still still f g h c = h
 
 both-alike : (i j : Store → Store → Store) (r q r′ q′ : Run)
     → ((σ τ σ′ τ′ : Store) → Agree σ τ → Agree σ′ τ′ → Agree (i σ σ′) (j τ τ′)) → Alike r q → Alike r′ q′
     → Alike (both i r r′) (both j q q′)
 unfolding both
-both-alike i j (ended t σ) (ended u τ) (ended t′ σ′) (ended u′ τ′) c h h′ = (ap₂ max (h .0) (h′ .0), c σ τ σ′ τ′ (h .1) (h′ .1))
-both-alike i j (ended t σ) (ended u τ) still still c h h′ = tt
-both-alike i j still still (ended t′ σ′) (ended u′ τ′) c h h′ = tt
-both-alike i j still still still still c h h′ = tt
-both-alike i j (ended t σ) still r′ q′ c h h′ = absurd h
-both-alike i j still (ended u τ) r′ q′ c h h′ = absurd h
-both-alike i j (ended t σ) (ended u τ) (ended t′ σ′) still c h h′ = absurd h′
-both-alike i j (ended t σ) (ended u τ) still (ended u′ τ′) c h h′ = absurd h′
-both-alike i j still still (ended t′ σ′) still c h h′ = absurd h′
-both-alike i j still still still (ended u′ τ′) c h h′ = absurd h′
+both-alike i j (done atEnd t σ) (done atEnd u τ) (done atEnd t′ σ′) (done atEnd u′ τ′) c h h′ = (refl, ap₂ max (h .1) (h′ .1), c σ τ σ′ τ′ (h .2) (h′ .2))
+both-alike i j (done atEnd t σ) (done atEnd u τ) (done atEnd t′ σ′) (done atExit u′ τ′) c h h′ = not-way (h′ .0)
+both-alike i j (done atEnd t σ) (done atEnd u τ) (done atExit t′ σ′) (done atEnd u′ τ′) c h h′ = not-way (sym (h′ .0))
+both-alike i j (done atEnd t σ) (done atEnd u τ) (done atExit t′ σ′) (done atExit u′ τ′) c h h′ = tt
+both-alike i j (done atEnd t σ) (done atEnd u τ) (done w′ t′ σ′) still c h h′ = absurd h′
+both-alike i j (done atEnd t σ) (done atEnd u τ) still (done v′ u′ τ′) c h h′ = absurd h′
+both-alike i j (done atEnd t σ) (done atEnd u τ) still still c h h′ = tt
+both-alike i j (done atEnd t σ) (done atExit u τ) r′ q′ c h h′ = not-way (h .0)
+both-alike i j (done atExit t σ) (done atEnd u τ) r′ q′ c h h′ = not-way (sym (h .0))
+both-alike i j (done atExit t σ) (done atExit u τ) r′ q′ c h h′ = tt
+both-alike i j (done w t σ) still r′ q′ c h h′ = absurd h
+both-alike i j still (done v u τ) r′ q′ c h h′ = absurd h
+both-alike i j still still r′ q′ c h h′ = tt
+
+caught-alike : (r q : Run) → Alike r q → Alike (caught r) (caught q)
+unfolding caught
+caught-alike (done w t σ) (done v u τ) h = (refl, h .1, h .2)
+caught-alike (done w t σ) still h = h
+caught-alike still (done v u τ) h = h
+caught-alike still still h = h
 
 -- by a test that both stores answer alike
 test-alike : (a b : Bool) (f g f′ g′ : Run) → a ≡ b → Alike f f′ → Alike g g′
@@ -114,7 +127,7 @@ module _ (body : Body) (d : ℕ) (e : Expr) (w : FormedExpr e) (h : AlikeOn body
       let r = whiles-alike n in
       wait-alike d k _ _
       (λ k₁.
-      test-alike _ _ _ _ _ _ (zero-alike σ τ a) (refl, a)
+      test-alike _ _ _ _ _ _ (zero-alike σ τ a) (refl, refl, a)
       (chain-alike (body k₁ σ) (body k₁ τ) _ _ (h k₁ σ τ a) (λ t σ₁ τ₁ b. r (k₁ - t) σ₁ τ₁ b)))
 
   repeats-alike : (n : ℕ) → AlikeOn (repeats body d e n) (repeats body d e n)
@@ -123,18 +136,25 @@ module _ (body : Body) (d : ℕ) (e : Expr) (w : FormedExpr e) (h : AlikeOn body
   repeats-alike (suc n) k σ τ a =
       let r = repeats-alike n in
       chain-alike (body k σ) (body k τ) _ _ (h k σ τ a)
-      (λ t σ₁ τ₁ b. wait-alike d (k - t) _ _ (λ k₁. test-alike _ _ _ _ _ _ (zero-alike σ₁ τ₁ b) (r k₁ σ₁ τ₁ b) (refl, b)))
+      (λ t σ₁ τ₁ b. wait-alike d (k - t) _ _ (λ k₁. test-alike _ _ _ _ _ _ (zero-alike σ₁ τ₁ b) (r k₁ σ₁ τ₁ b) (refl, refl, b)))
+
+loops-alike : (body : Body) (d : ℕ) → AlikeOn body body → (n : ℕ) → AlikeOn (loops body d n) (loops body d n)
+unfolding loops
+loops-alike body d h zero k σ τ a = tt
+loops-alike body d h (suc n) k σ τ a =
+    let r = loops-alike body d h n in
+    chain-alike (body k σ) (body k τ) _ _ (h k σ τ a) (λ t σ₁ τ₁ b. wait-alike d (k - t) _ _ (λ k₁. r k₁ σ₁ τ₁ b))
 
 -- Statements ---------------------------------------------------------------------------------------------------------------------------
 
 run-alike : (P : Stmt) → Formed P → AlikeOn (λ k σ. run k P σ) (λ k σ. run k P σ)
 unfolding run
-run-alike ok w = λ k σ τ h. (refl, h)
-run-alike (tick d) w = λ k σ τ h. wait-alike d k _ _ (λ k₁. (refl, h))
-run-alike (assign d x e) w = λ k σ τ h. wait-alike (suc d) k _ _ (λ k₁. (refl, put-agree σ τ x x _ _ h refl (eval-agree e (w .2) σ τ h)))
+run-alike ok w = λ k σ τ h. (refl, refl, h)
+run-alike (tick d) w = λ k σ τ h. wait-alike d k _ _ (λ k₁. (refl, refl, h))
+run-alike (assign d x e) w = λ k σ τ h. wait-alike (suc d) k _ _ (λ k₁. (refl, refl, put-agree σ τ x x _ _ h refl (eval-agree e (w .2) σ τ h)))
 run-alike (assignElem d j i e) w = λ k σ τ h.
     wait-alike (suc d) k _ _
-    (λ k₁. (refl, put-agree σ τ _ _ _ _ h (ap (elementWord j) (eval-agree i (w .2) σ τ h)) (eval-agree e (w .3) σ τ h)))
+    (λ k₁. (refl, refl, put-agree σ τ _ _ _ _ h (ap (elementWord j) (eval-agree i (w .2) σ τ h)) (eval-agree e (w .3) σ τ h)))
 run-alike (seq P Q) w = λ k σ τ h.
     chain-alike (run k P σ) (run k P τ) _ _ (run-alike P (w .0) k σ τ h) (λ t σ₁ τ₁ b. run-alike Q (w .1) (k - t) σ₁ τ₁ b)
 run-alike (par P Q) w = λ k σ τ h.
@@ -145,6 +165,8 @@ run-alike (ite d e P Q) w = λ k σ τ h.
     (λ k₁. test-alike _ _ _ _ _ _ (ap isZero (eval-agree e (w .1) σ τ h)) (run-alike Q (w .3) k₁ σ τ h) (run-alike P (w .2) k₁ σ τ h))
 run-alike (while d e P) w = λ k. whiles-alike (λ k₁ σ. run k₁ P σ) d e (w .1) (run-alike P (w .2)) (suc k) k
 run-alike (repeat d e P) w = λ k. repeats-alike (λ k₁ σ. run k₁ P σ) d e (w .1) (run-alike P (w .2)) (suc k) k
+run-alike (loop d P) w = λ k σ τ h. caught-alike _ _ (loops-alike (λ k₁ σ. run k₁ P σ) d (run-alike P (w .1)) (suc k) k σ τ h)
+run-alike exit w = λ k σ τ h. (refl, refl, h)
 
 -- Answers ------------------------------------------------------------------------------------------------------------------------------
 
@@ -155,11 +177,14 @@ listed-agree σ τ (suc n) x l h = ap₂ _∷_ (h x (omega arith)) (listed-agree
 
 alike-answer : (n : ℕ) (r q : Run) → Alike r q → referenceAnswer n r ≡ referenceAnswer n q
 unfolding referenceAnswer
-alike-answer n (ended t σ) (ended u τ) h =
-    ap₂ (λ (t : ℕ) (ws : List ℕ). record { outcome = Ended; instant = t; count = t + 1; words = ws }) (h .0)
-    (listed-agree σ τ 16 0 (omega arith) (h .1))
-alike-answer n (ended t σ) still h = absurd h
-alike-answer n still (ended u τ) h = absurd h
+alike-answer n (done atEnd t σ) (done atEnd u τ) h =
+    ap₂ (λ (t : ℕ) (ws : List ℕ). record { outcome = Ended; instant = t; count = t + 1; words = ws }) (h .1)
+    (listed-agree σ τ 16 0 (omega arith) (h .2))
+alike-answer n (done atEnd t σ) (done atExit u τ) h = not-way (h .0)
+alike-answer n (done atExit t σ) (done atEnd u τ) h = not-way (sym (h .0))
+alike-answer n (done atExit t σ) (done atExit u τ) h = refl
+alike-answer n (done w t σ) still h = absurd h
+alike-answer n still (done v u τ) h = absurd h
 alike-answer n still still h = refl
 
 pub same-answer : (P : Stmt) → Formed P → (n : ℕ) (σ τ : Store) → Agree σ τ

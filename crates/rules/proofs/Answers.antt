@@ -24,7 +24,7 @@ use Rattle.rules.specs.declared.Ran.{Ran}
 use Rattle.rules.specs.Ran.{storeOf, runOf, Stands}
 use Rattle.rules.proofs.Words.{listed-at}
 use Rattle.rules.proofs.Agree.{same-answer}
-use Rattle.rules.proofs.Runs.{run-ended, run-still}
+use Rattle.rules.proofs.Runs.{flagged, run-ended, unended}
 
 -- Runs ---------------------------------------------------------------------------------------------------------------------------------
 
@@ -42,7 +42,11 @@ module _ (n : ℕ) (r : Ran) where
   pub answer-open : r .ended ≡ false
       → record { outcome = Open; instant = n; count = n + 1; words = replicate 16 0 } ≡ referenceAnswer n (runOf r)
   unfolding referenceAnswer
-  answer-open e = sym (ap (referenceAnswer n) (run-still r e))
+  answer-open e = sym (ap (referenceAnswer n) (unended r e) ∙ go (r .left))
+    where
+      go : (l : Bool) → referenceAnswer n (flagged false l (r .time) (storeOf (r .words))) ≡ record { outcome = Open; instant = n; count = n + 1; words = replicate 16 0 }
+      go true = refl
+      go false = refl
 
 -- Calls --------------------------------------------------------------------------------------------------------------------------------
 

@@ -9,23 +9,28 @@ use native.Mathlib.Nat.{add-assoc, zero-add, not-suc-le-zero}
 use native.Mathlib.Decide.{decLt}
 use borrow.Author.Tests.{eq-eqb, ne-eqb}
 use Rattle.model.specs.Word.{isZero}
-use Rattle.model.specs.Program.{Expr, Stmt, while, repeat}
-use Rattle.model.specs.Rules.{Store, Run, ended, still, eval, after, wait, chain, whiles, repeats, run}
+use Rattle.model.specs.Program.{Expr, Stmt, while, repeat, loop}
+use Rattle.model.specs.Rules.{Store, atEnd, atExit, Run, done, ended, still, eval, after, wait, chain, caught, whiles, repeats, loops, run}
 use Rattle.laws.specs.Refusals.Laws.{by-bool}
-use Rattle.laws.specs.Rules.Laws.{Body, wait-is, wait-short, whiles-stop, whiles-more, again, repeats-is, again-more, again-stop}
+use Rattle.laws.specs.Rules.Laws.{Body, wait-is, wait-short, whiles-stop, whiles-more, again, repeats-is, again-more, again-stop, round, loops-is, round-is}
 use Rattle.rules.specs.declared.Ran.{Ran}
 use Rattle.rules.specs.Ran.{storeOf, runOf, Stands}
-use Rattle.rules.proofs.Runs.{run-ended, run-still, stands-still}
+use Rattle.rules.proofs.Runs.{run-ended, chain-unended, stands-still}
 
 after-after : (a b : ℕ) (r : Run) → after a (after b r) ≡ after (a + b) r
 unfolding after
-after-after a b (ended t σ) = ap (λ (t : ℕ). ended t σ) (sym (add-assoc a b t))
+after-after a b (done w t σ) = ap (λ (t : ℕ). done w t σ) (sym (add-assoc a b t))
 after-after a b still = refl
 
-after-zero : (r : Run) → after 0 r ≡ r
+pub after-zero : (r : Run) → after 0 r ≡ r
 unfolding after
-after-zero (ended t σ) = ap (λ (t : ℕ). ended t σ) (zero-add t)
+after-zero (done w t σ) = ap (λ (t : ℕ). done w t σ) (zero-add t)
 after-zero still = refl
+
+caught-after : (a : ℕ) (r : Run) → caught (after a r) ≡ after a (caught r)
+unfolding after caught
+caught-after a (done w t σ) = refl
+caught-after a still = refl
 
 -- More turns than instants are enough --------------------------------------------------------------------------------------------------
 
@@ -40,7 +45,8 @@ wait-same d k f g h = go (decLt k d)
 
 chain-same : (r : Run) (f g : ℕ → Store → Run) → ((t : ℕ) (σ : Store) → f t σ ≡ g t σ) → chain r f ≡ chain r g
 unfolding chain
-chain-same (ended t σ) f g h = ap (after t) (h t σ)
+chain-same (done atEnd t σ) f g h = ap (after t) (h t σ)
+chain-same (done atExit t σ) f g h = refl
 chain-same still f g h = refl
 
 module _ (body : Body) (d : ℕ) (e : Expr) (one : 1 ≤ d) where
@@ -69,6 +75,17 @@ module _ (body : Body) (d : ℕ) (e : Expr) (one : 1 ≤ d) where
       (λ z. again-more body d e n (k - t) σ₁ z ∙ wait-same d (k - t) _ _ (more t σ₁) ∙ sym (again-more body d e m (k - t) σ₁ z))
       (λ z. again-stop body d e n (k - t) σ₁ z ∙ sym (again-stop body d e m (k - t) σ₁ z)))
       ∙ sym (repeats-is body d e m k σ)
+
+loops-enough : (body : Body) (d : ℕ) → 1 ≤ d → (n m k : ℕ) (σ : Store) → k < n → k < m → loops body d n k σ ≡ loops body d m k σ
+loops-enough body d one zero m k σ p q = absurd (not-suc-le-zero p)
+loops-enough body d one (suc n) zero k σ p q = absurd (not-suc-le-zero q)
+loops-enough body d one (suc n) (suc m) k σ p q =
+    let more : (t : ℕ) (σ₁ : Store) → d ≤ k - t → loops body d n (k - t - d) σ₁ ≡ loops body d m (k - t - d) σ₁ =
+    λ t σ₁ l. loops-enough body d one n m (k - t - d) σ₁ (omega arith) (omega arith) in
+    loops-is body d n k σ
+    ∙ chain-same (body k σ) _ _
+    (λ t σ₁. round-is body d n (k - t) σ₁ ∙ wait-same d (k - t) _ _ (more t σ₁) ∙ sym (round-is body d m (k - t) σ₁))
+    ∙ sym (loops-is body d m k σ)
 
 -- One turn -----------------------------------------------------------------------------------------------------------------------------
 
@@ -100,9 +117,8 @@ module _ (d : ℕ) (e : Expr) (P : Stmt) (k : ℕ) (σ : Store) where
           whiles-more body d e k k σ (ne-eqb _ 0 (λ z. n (ev ∙ z))) ∙ wait-is d k _ l
           ∙ ap (λ (q : Run). after d (chain q whileRest)) (sym (R .is))
 
-      pub while-stuck : r .ended ≡ false → run k (while d e P) σ ≡ still
-      unfolding chain after
-      while-stuck f = while-turn ∙ ap (λ (q : Run). after d (chain q whileRest)) (run-still r f)
+      pub while-unended : r .ended ≡ false → run k (while d e P) σ ≡ after d (runOf r)
+      while-unended f = while-turn ∙ ap (after d) (chain-unended r f whileRest)
 
       pub while-on : r .ended ≡ true → 1 ≤ d
           → run k (while d e P) σ ≡ after (d + r .time) (run (k - d - r .time) (while d e P) (storeOf (r .words)))
@@ -118,9 +134,8 @@ module _ (d : ℕ) (e : Expr) (P : Stmt) (k : ℕ) (σ : Store) where
     unfolding run
     repeat-turn = repeats-is body d e k k σ ∙ ap (λ (q : Run). chain q repeatRest) (sym (R .is))
 
-    pub repeat-stuck : r .ended ≡ false → run k (repeat d e P) σ ≡ still
-    unfolding chain
-    repeat-stuck f = repeat-turn ∙ ap (λ (q : Run). chain q repeatRest) (run-still r f)
+    pub repeat-unended : r .ended ≡ false → run k (repeat d e P) σ ≡ runOf r
+    repeat-unended f = repeat-turn ∙ chain-unended r f repeatRest
 
     module _ (f : r .ended ≡ true) where
       repeat-turned : run k (repeat d e P) σ ≡ after (r .time) (again body d e k (k - r .time) (storeOf (r .words)))
@@ -145,6 +160,39 @@ module _ (d : ℕ) (e : Expr) (P : Stmt) (k : ℕ) (σ : Store) where
             repeat-turned ∙ ap (after t) (again-more body d e k (k - t) _ (eq-eqb _ 0 (sym ev ∙ z)) ∙ wait-is d (k - t) _ l) ∙ after-after t d _
             ∙ ap (after (t + d)) (repeats-enough body d e one k (suc (k - t - d)) (k - t - d) (storeOf (r .words)) (omega arith) (omega arith))
 
+-- a loop's turn r
+module _ (d : ℕ) (P : Stmt) (k : ℕ) (σ : Store) (r : Ran) (R : Stands k (run k P σ) r) where
+  abbrev turns : Body
+  turns k₁ σ₁ = run k₁ P σ₁
+
+  abbrev loopRest : ℕ → Store → Run
+  loopRest t σ₁ = round turns d k (k - t) σ₁
+
+  loop-turn : run k (loop d P) σ ≡ caught (chain (runOf r) loopRest)
+  unfolding run
+  loop-turn = ap caught (loops-is turns d k k σ ∙ ap (λ (q : Run). chain q loopRest) (sym (R .is)))
+
+  pub loop-unended : r .ended ≡ false → run k (loop d P) σ ≡ caught (runOf r)
+  loop-unended f = loop-turn ∙ ap caught (chain-unended r f loopRest)
+
+  module _ (f : r .ended ≡ true) where
+    loop-turned : run k (loop d P) σ ≡ caught (after (r .time) (round turns d k (k - r .time) (storeOf (r .words))))
+    unfolding chain
+    loop-turned = loop-turn ∙ ap (λ (q : Run). caught (chain q loopRest)) (run-ended r f)
+
+    pub loop-out : k - r .time < d → run k (loop d P) σ ≡ still
+    unfolding after caught
+    loop-out l = loop-turned ∙ ap (λ (q : Run). caught (after (r .time) q)) (round-is turns d k (k - r .time) _ ∙ wait-short d (k - r .time) _ l)
+
+    pub loop-on : d ≤ k - r .time → 1 ≤ d → run k (loop d P) σ ≡ after (r .time + d) (run (k - r .time - d) (loop d P) (storeOf (r .words)))
+    unfolding run
+    loop-on l one =
+        let t = r .time in
+        loop-turned
+        ∙ ap caught (ap (after t) (round-is turns d k (k - t) _ ∙ wait-is d (k - t) _ l) ∙ after-after t d _)
+        ∙ caught-after (t + d) _
+        ∙ ap (λ (q : Run). after (t + d) (caught q)) (loops-enough turns d one k (suc (k - t - d)) (k - t - d) (storeOf (r .words)) (omega arith) (omega arith))
+
 -- A loop on its way --------------------------------------------------------------------------------------------------------------------
 
 -- X is the run with the whole budget B, Y the run from here with the l that are left of it
@@ -162,8 +210,30 @@ module _ {B l : ℕ} {X Y : Run} (G : Going B l X Y) where
   unfolding after
   going-still e S = stands-still S (G .is ∙ ap (after (B - l)) e)
 
+  -- a turn q that has not ended, u instants from here, is the last
+  pub going-unended : (u : ℕ) (q : Ran) → Y ≡ after u (runOf q) → (t : ℕ) → t + l ≡ B + u → u + q .time ≤ l → (r : Ran)
+      → Stands (t + q .time) (after t (runOf q)) r → Stands B X r
+  going-unended u q e t h m r S =
+      let f : t ≡ B - l + u = omega (arith, G .within) in
+      record {
+        is = S .is ∙ ap (λ (t : ℕ). after t (runOf q)) f ∙ sym (G .is ∙ ap (after (B - l)) e ∙ after-after (B - l) u _);
+        within = omega (arith, S .within);
+      }
+
+  -- an exit in it ends the loop
+  pub going-caught : (q : Ran) → Y ≡ caught (runOf q) → (t : ℕ) → t + l ≡ B → q .time ≤ l → (p : Ran) → Stands (t + q .time) (after t (runOf q)) p
+      → (r : Ran) → Stands (p .time) (caught (runOf p)) r → Stands B X r
+  going-caught q e t h m p S r C =
+      let f : t ≡ B - l = omega (arith, G .within) in
+      record {
+        is =
+            C .is ∙ ap caught (S .is ∙ ap (λ (t : ℕ). after t (runOf q)) f) ∙ caught-after (B - l) (runOf q)
+            ∙ sym (G .is ∙ ap (after (B - l)) e);
+        within = omega (arith, S .within, C .within);
+      }
+
   pub going-end : (u : ℕ) (w : List ℕ) → Y ≡ after u (ended 0 (storeOf w)) → (t : ℕ) → t + l ≡ B + u → u ≤ l
-      → Stands B X (record { words = w; ended = true; time = t })
+      → Stands B X (record { words = w; ended = true; left = false; time = t })
   unfolding after runOf
   going-end u w e t h m =
       let f : t ≡ B - l + (u + 0) = omega (arith, G .within) in

@@ -3,7 +3,7 @@
 use mathlib.Core.Path.{_≡_, subst}
 use mathlib.Core.List.{List}
 use Prim.Native.Nat.{ℕ, _≤_, _<_}
-use Rattle.model.specs.Program.{Expr, Stmt, assign, assignElem, seq, par, ite, while, repeat}
+use Rattle.model.specs.Program.{Expr, Stmt, assign, assignElem, seq, par, ite, while, repeat, loop}
 use Rattle.rules.specs.Ran.{Ready}
 
 module _ {s ends : List ℕ} where
@@ -48,3 +48,10 @@ module _ {s ends : List ℕ} where
 
     pub repeat-delay : Ready s ends (repeat d e P) → 1 ≤ d
     repeat-delay R = R .fit .timed .0
+
+  module _ {d : ℕ} {P : Stmt} where
+    pub loop-body : Ready s ends (loop d P) → Ready s ends P
+    loop-body R = let F = R .fit in record { laid = R .laid; fit = record { formed = F .formed .1; timed = F .timed .1; separate = F .separate .1 } }
+
+    pub loop-delay : Ready s ends (loop d P) → 1 ≤ d
+    loop-delay R = R .fit .timed .0

@@ -1,7 +1,7 @@
 -- The run of each kind of statement but loops, in the form in which the code takes it.
 -- Assumes of a parallel that its sides are apart (`Separate`), and variables below 16 (`Formed`).
 use mathlib.Core.Path.{_≡_, refl, sym, _∙_, ap, ap₂, fun-ext}
-use mathlib.Core.Bool.{Bool, true, false}
+use mathlib.Core.Bool.{Bool, true, false, _||_}
 use mathlib.Core.List.{List}
 use Prim.Native.Nat.{ℕ, _+_, _-_, _≤_, _<_, max}
 use native.Mathlib.Omega.{arith}
@@ -11,10 +11,10 @@ use native.Mathlib.Decide.{ℕ-discrete}
 use lib.Dec.{eqb}
 use borrow.Author.Tests.{eq-eqb, ne-eqb}
 use Rattle.model.specs.Word.{pick, elementWord}
-use Rattle.model.specs.Program.{Expr, Stmt, ok, assign, assignElem, seq, par, ite, writes}
-use Rattle.model.specs.Rules.{Store, Run, ended, still, owner, eval, put, over, kept, after, wait, chain, both, run}
+use Rattle.model.specs.Program.{Expr, Stmt, ok, assign, assignElem, seq, par, ite, exit, writes}
+use Rattle.model.specs.Rules.{Store, atEnd, Run, ended, left, still, owner, eval, put, over, kept, after, wait, chain, both, caught, run}
 use Rattle.laws.specs.Program.Fit.{Formed, Separate}
-use Rattle.laws.specs.Rules.Uses.{leaves, writes-touches, apart-unwritten}
+use Rattle.laws.specs.Rules.Uses.{unwritten, writes-touches, apart-unwritten}
 use Rattle.laws.specs.Refusals.Laws.{by-bool}
 use Rattle.laws.specs.Rules.Laws.{wait-is, wait-short, both-of, ite-then, ite-else}
 use Rattle.rules.specs.declared.Ran.{Ran}
@@ -22,21 +22,45 @@ use Rattle.rules.specs.Ran.{storeOf, runOf, Stands, joins}
 
 -- Runs in code -------------------------------------------------------------------------------------------------------------------------
 
+-- the run of two flags, with this time and these words
+abbrev pub flagged : Bool → Bool → ℕ → Store → Run
+flagged e l t σ = pick e (ended t σ) (pick l (left t σ) still)
+
 pub run-ended : (r : Ran) → r .ended ≡ true → runOf r ≡ ended (r .time) (storeOf (r .words))
 unfolding runOf
-run-ended r e = ap (λ (b : Bool). pick b (ended (r .time) (storeOf (r .words))) still) e
+run-ended r e = ap (λ (b : Bool). flagged b (r .left) (r .time) (storeOf (r .words))) e
 
-pub run-still : (r : Ran) → r .ended ≡ false → runOf r ≡ still
+-- what has not ended left, or is still going
+pub unended : (r : Ran) → r .ended ≡ false → runOf r ≡ flagged false (r .left) (r .time) (storeOf (r .words))
 unfolding runOf
-run-still r e = ap (λ (b : Bool). pick b (ended (r .time) (storeOf (r .words))) still) e
+unended r e = ap (λ (b : Bool). flagged b (r .left) (r .time) (storeOf (r .words))) e
 
-pub run-later : (d : ℕ) (r : Ran) → runOf (record { words = r .words; ended = r .ended; time = d + r .time }) ≡ after d (runOf r)
-unfolding runOf after
-run-later d r = go (r .ended)
+-- nothing goes on after it
+pub chain-unended : (r : Ran) → r .ended ≡ false → (c : ℕ → Store → Run) → chain (runOf r) c ≡ runOf r
+unfolding chain
+chain-unended r e c = rw (unended r e) (go (r .left))
   where
-    go : (b : Bool) → pick b (ended (d + r .time) (storeOf (r .words))) still ≡ after d (pick b (ended (r .time) (storeOf (r .words))) still)
+    go : (l : Bool) → chain (flagged false l (r .time) (storeOf (r .words))) c ≡ flagged false l (r .time) (storeOf (r .words))
     go true = refl
     go false = refl
+
+pub run-later : (d : ℕ) (r : Ran) → runOf (record { words = r .words; ended = r .ended; left = r .left; time = d + r .time }) ≡ after d (runOf r)
+unfolding runOf after
+run-later d r = go (r .ended) (r .left)
+  where
+    go : (e l : Bool) → flagged e l (d + r .time) (storeOf (r .words)) ≡ after d (flagged e l (r .time) (storeOf (r .words)))
+    go true l = refl
+    go false true = refl
+    go false false = refl
+
+pub run-caught : (r : Ran) → runOf (record { words = r .words; ended = r .ended || r .left; left = false; time = r .time }) ≡ caught (runOf r)
+unfolding runOf caught
+run-caught r = go (r .ended) (r .left)
+  where
+    go : (e l : Bool) → flagged (e || l) false (r .time) (storeOf (r .words)) ≡ caught (flagged e l (r .time) (storeOf (r .words)))
+    go true l = refl
+    go false true = refl
+    go false false = refl
 
 pub stands-still : {k : ℕ} {R : Run} {r : Ran} → Stands 0 still r → R ≡ still → Stands k R r
 stands-still S e = record { is = S .is ∙ sym e; within = omega (arith, S .within) }
@@ -55,6 +79,10 @@ module _ (k : ℕ) (σ : Store) (r : Ran) where
   pub run-ok : Stands k (wait 0 k (λ k₁. ended 0 σ)) r → Stands k (run k ok σ) r
   unfolding run
   run-ok S = record { is = S .is ∙ wait-ends 0 k σ (omega arith); within = S .within }
+
+  pub run-exit : Stands 0 (left 0 σ) r → Stands k (run k exit σ) r
+  unfolding run
+  run-exit S = record { is = S .is; within = omega (arith, S .within) }
 
   pub run-assign : (d x : ℕ) (e : Expr) (v : ℕ) (τ : Store) → v ≡ eval e σ → τ ≡ put σ x v
       → Stands k (wait (d + 1) k (λ k₁. ended 0 τ)) r → Stands k (run k (assign d x e) σ) r
@@ -84,9 +112,14 @@ module _ (P Q : Stmt) (k : ℕ) (σ : Store) (f r : Ran) (F : Stands k (run k P 
         within = omega (arith, F .within, G .within, S .within);
       }
 
-  pub seq-still : f .ended ≡ false → Stands 0 still r → Stands k (run k (seq P Q) σ) r
-  unfolding run chain
-  seq-still e S = stands-still S (ap (λ (q : Run). chain q (λ t σ₁. run (k - t) Q σ₁)) (sym (F .is) ∙ run-still f e))
+-- a first part that has not ended is the whole run
+pub seq-unended : (P Q : Stmt) (k : ℕ) (σ : Store) (f : Ran) → Stands k (run k P σ) f → f .ended ≡ false → Stands k (run k (seq P Q) σ) f
+unfolding run
+seq-unended P Q k σ f F e =
+    record {
+      is = sym (chain-unended f e (λ t σ₁. run (k - t) Q σ₁)) ∙ ap (λ (q : Run). chain q (λ t σ₁. run (k - t) Q σ₁)) (F .is);
+      within = F .within;
+    }
 
 -- Parallel -----------------------------------------------------------------------------------------------------------------------------
 
@@ -94,7 +127,7 @@ module _ (P Q : Stmt) (k : ℕ) (σ : Store) (f r : Ran) (F : Stands k (run k P 
 joins-kept : (P Q : Stmt) → Formed (par P Q) → Separate (par P Q) → (k t u : ℕ) (σ σ₁ σ₂ : Store) → run k P σ ≡ ended t σ₁ → run k Q σ ≡ ended u σ₂
     → joins σ σ₁ σ₂ ≡ kept P Q σ σ₁ σ₂
 unfolding joins kept over
-joins-kept P Q w apart k t u σ σ₁ σ₂ p q = fun-ext (λ x. by-bool (writes P (owner x)) (written x) (unwritten x))
+joins-kept P Q w apart k t u σ σ₁ σ₂ p q = fun-ext (λ x. by-bool (writes P (owner x)) (written x) (alone x))
   where
     Joined : ℕ → Type 0
     Joined x = pick (eqb (σ₁ x) (σ x)) (σ₂ x) (σ₁ x) ≡ pick (writes P (owner x)) (σ₁ x) (pick (writes Q (owner x)) (σ₂ x) (σ x))
@@ -102,36 +135,40 @@ joins-kept P Q w apart k t u σ σ₁ σ₂ p q = fun-ext (λ x. by-bool (writes
     written : (x : ℕ) → writes P (owner x) ≡ true → Joined x
     written x b = rw b (go (ℕ-discrete (σ₁ x) (σ x)))
       where
-        alone : σ₂ x ≡ σ x
-        alone = leaves Q (w .1) x (apart-unwritten Q P (apart .2 .1) (owner x) (writes-touches P (owner x) b)) k u σ σ₂ q
+        kept-word : σ₂ x ≡ σ x
+        kept-word = unwritten Q (w .1) x (apart-unwritten Q P (apart .2 .1) (owner x) (writes-touches P (owner x) b)) k atEnd u σ σ₂ q
 
         go : Dec (σ₁ x ≡ σ x) → pick (eqb (σ₁ x) (σ x)) (σ₂ x) (σ₁ x) ≡ σ₁ x
-        go (yes e) = rw (eq-eqb _ _ e) (alone ∙ sym e)
+        go (yes e) = rw (eq-eqb _ _ e) (kept-word ∙ sym e)
         go (no n) = rw (ne-eqb _ _ n) refl
 
-    unwritten : (x : ℕ) → writes P (owner x) ≡ false → Joined x
-    unwritten x b =
-        rw (b, eq-eqb (σ₁ x) (σ x) (leaves P (w .0) x b k t σ σ₁ p))
-        (by-bool (writes Q (owner x)) (λ v. rw v refl) (λ v. rw v (leaves Q (w .1) x v k u σ σ₂ q)))
+    alone : (x : ℕ) → writes P (owner x) ≡ false → Joined x
+    alone x b =
+        rw (b, eq-eqb (σ₁ x) (σ x) (unwritten P (w .0) x b k atEnd t σ σ₁ p))
+        (by-bool (writes Q (owner x)) (λ v. rw v refl) (λ v. rw v (unwritten Q (w .1) x v k atEnd u σ σ₂ q)))
 
 module _ (P Q : Stmt) (k : ℕ) (σ : Store) (f : Ran) (F : Stands k (run k P σ) f) where
   pub par-still : f .ended ≡ false → (r : Ran) → Stands 0 still r → Stands k (run k (par P Q) σ) r
   unfolding run both
-  par-still e r S =
-      stands-still S (ap (λ (q : Run). both (kept P Q σ) q (run k Q σ)) (sym (F .is) ∙ run-still f e) ∙ go (run k Q σ))
+  par-still e r S = stands-still S (ap (λ (q : Run). both (kept P Q σ) q (run k Q σ)) (sym (F .is) ∙ unended f e) ∙ go (f .left))
     where
-      go : (q : Run) → both (kept P Q σ) still q ≡ still
-      go (ended t τ) = refl
-      go still = refl
+      go : (l : Bool) → both (kept P Q σ) (flagged false l (f .time) (storeOf (f .words))) (run k Q σ) ≡ still
+      go true = refl
+      go false = refl
 
   module _ (e : f .ended ≡ true) (g : Ran) (G : Stands k (run k Q σ) g) where
     pub par-second-still : g .ended ≡ false → (r : Ran) → Stands 0 still r → Stands k (run k (par P Q) σ) r
     unfolding run both
-    par-second-still e′ r S = stands-still S (ap₂ (both (kept P Q σ)) (sym (F .is) ∙ run-ended f e) (sym (G .is) ∙ run-still g e′))
+    par-second-still e′ r S =
+        stands-still S (ap₂ (both (kept P Q σ)) (sym (F .is) ∙ run-ended f e) (sym (G .is) ∙ unended g e′) ∙ go (g .left))
+      where
+        go : (l : Bool) → both (kept P Q σ) (ended (f .time) (storeOf (f .words))) (flagged false l (g .time) (storeOf (g .words))) ≡ still
+        go true = refl
+        go false = refl
 
     pub par-ends : Formed (par P Q) → Separate (par P Q) → g .ended ≡ true → (t : ℕ) → t ≡ max (f .time) (g .time) → (w : List ℕ)
         → storeOf w ≡ joins σ (storeOf (f .words)) (storeOf (g .words))
-        → Stands k (run k (par P Q) σ) (record { words = w; ended = true; time = t })
+        → Stands k (run k (par P Q) σ) (record { words = w; ended = true; left = false; time = t })
     unfolding run runOf
     par-ends formed apart e′ t et w ew =
         let p = sym (F .is) ∙ run-ended f e in

@@ -7,7 +7,7 @@ use lib.ListN.{getD}
 use lib.Dec.{eqb}
 use Rattle.model.specs.Word.{pick}
 use Rattle.model.specs.Program.{Stmt}
-use Rattle.model.specs.Rules.{Store, Run, ended, still}
+use Rattle.model.specs.Rules.{Store, Run, ended, left, still}
 use Rattle.laws.specs.Program.Fit.{Fit}
 use Rattle.program.specs.Ends.{Laid}
 use Rattle.rules.specs.declared.Ran.{Ran}
@@ -18,7 +18,7 @@ storeOf words x = getD words x 0
 
 -- the run that a run in code is
 unfoldable pub runOf : Ran → Run
-runOf r = pick (r .ended) (ended (r .time) (storeOf (r .words))) still
+runOf r = pick (r .ended) (ended (r .time) (storeOf (r .words))) (pick (r .left) (left (r .time) (storeOf (r .words))) still)
 
 -- r is the run R, within k instants
 pub record Stands (k : ℕ) (R : Run) (r : Ran) : Type 0 where

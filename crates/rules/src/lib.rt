@@ -6,8 +6,8 @@ ghost use Prim.Native.Nat.{_+_, _≤_, _<_, max};
 ghost use lib.ListN.{length};
 ghost use lib.Dec.{eqb};
 ghost use Rattle.model.specs.Word.{pick, elementWord};
-ghost use Rattle.model.specs.Program.{exprAt, stmtAt, assign, assignElem, seq, par, ite, while, repeat};
-ghost use Rattle.model.specs.Rules.{eval, put, ended, still, after, wait, run};
+ghost use Rattle.model.specs.Program.{exprAt, stmtAt, assign, assignElem, seq, par, ite, while, repeat, loop};
+ghost use Rattle.model.specs.Rules.{eval, put, ended, left, still, after, wait, caught, run};
 ghost use Rattle.model.specs.Calls.{wordAt, listed, refusedAnswer, referenceAnswer, referenceCall};
 ghost use Rattle.program.specs.Ends.{Laid};
 ghost use Rattle.rules.specs.Ran.{storeOf, runOf, Stands, joins, Ready};
@@ -19,11 +19,12 @@ use model::Refusal;
 use model::sizes::LAST_INSTANT;
 use model::sizes::START_WORDS;
 
-// How a statement ran within a budget: it ended after `time` instants with these words, or it has not ended. Of the words sixteen are the
-// variables', and 64 each array's.
+// How a statement ran within a budget: after `time` instants with these words it ended, or came to an exit of a loop around it (`left`);
+// or it is still going. Of the words sixteen are the variables', and 64 each array's.
 struct Ran {
     words: [u16; 272],
     ended: bool,
+    left: bool,
     time: u32,
 }
 
@@ -87,6 +88,7 @@ fn unfinished(words: [u16; 272]) -> Ran
     Ran {
         words,
         ended: false,
+        left: false,
         time: 0,
     }
 }
@@ -99,6 +101,7 @@ fn pause(words: [u16; 272], d: u32, budget: u32) -> Ran
         return Ran {
             words,
             ended: true,
+            left: false,
             time: d,
         };
     }
@@ -114,7 +117,33 @@ fn later(d: u32, r: Ran) -> Ran
     Ran {
         words,
         ended: r.ended,
+        left: r.left,
         time: d + r.time,
+    }
+}
+
+// A run that comes to an exit at once.
+fn leaving(words: [u16; 272]) -> Ran
+    ensures { λ r. ⌜ Stands 0 (left 0 (storeOf words)) r ⌝ }
+{
+    Ran {
+        words,
+        ended: false,
+        left: true,
+        time: 0,
+    }
+}
+
+// What comes to an exit in the body of a loop ends the loop.
+fn caught(r: Ran) -> Ran
+    ensures { λ q. ⌜ Stands (r .time) (caught (runOf r)) q ⌝ }
+{
+    let words = r.words;
+    Ran {
+        words,
+        ended: r.ended | r.left,
+        left: false,
+        time: r.time,
     }
 }
 
@@ -199,7 +228,7 @@ fn seq_at(
         let rest = run_at(program, ends, q, between, budget - first.time);
         return later(first.time, rest);
     }
-    unfinished(words)
+    first
 }
 
 // The statements at nodes p and q, side by side.
@@ -223,6 +252,7 @@ fn par_at(
             return Ran {
                 words: joined(words, a, b),
                 ended: true,
+                left: false,
                 time: larger(first.time, second.time),
             };
         }
@@ -275,6 +305,7 @@ fn while_at(
             return Ran {
                 words: held,
                 ended: true,
+                left: false,
                 time: budget - rest,
             };
         }
@@ -283,7 +314,7 @@ fn while_at(
             held = turn.words;
             left = rest - turn.time;
         } else {
-            return unfinished(words);
+            return later(budget - rest, turn);
         }
     }
     unfinished(words)
@@ -309,7 +340,7 @@ fn repeat_at(
         if turn.ended {
             held = turn.words;
         } else {
-            return unfinished(words);
+            return later(budget - left, turn);
         }
         let rest = left - turn.time;
         if rest < d {
@@ -320,9 +351,39 @@ fn repeat_at(
             return Ran {
                 words: held,
                 ended: true,
+                left: false,
                 time: budget - left,
             };
         }
+    }
+}
+
+// The statement at node p, again and again, until it comes to an exit.
+fn loop_at(
+    program: &[u8],
+    ends: &[usize; 200],
+    p: usize,
+    d: u32,
+    words: [u16; 272],
+    budget: u32,
+) -> Ran
+    requires { ⌜ Ready (now program) (now ends) (loop d (stmtAt (now program) p)) ⌝ }
+    ensures { λ r. ⌜ Stands budget (run budget (loop d (stmtAt (now (program .entry)) p)) (storeOf words)) r ⌝ }
+{
+    let mut held = words;
+    let mut left = budget;
+    loop {
+        let turn = run_at(program, ends, p, held, left);
+        if turn.ended {
+            held = turn.words;
+        } else {
+            return caught(later(budget - left, turn));
+        }
+        let rest = left - turn.time;
+        if rest < d {
+            return unfinished(words);
+        }
+        left = rest - d;
     }
 }
 
@@ -353,6 +414,8 @@ fn run_at(program: &[u8], ends: &[usize; 200], i: usize, words: [u16; 272], budg
         }
         22 => while_at(program, ends, i + 1, second, d, words, budget),
         24 => assign_elem_at(program, ends, i + 1, second, node.n, d, words, budget),
+        25 => loop_at(program, ends, i + 1, d, words, budget),
+        26 => leaving(words),
         _ => repeat_at(program, ends, i + 1, second, d, words, budget),
     }
 }

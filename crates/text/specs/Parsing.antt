@@ -60,7 +60,7 @@ programTold text = writing (first (parseChecks text)) [] (length (textProgram te
 unfoldable pub Given : List ℕ → List ℕ → Type 0
 Given text d = first (parseChecks text) ≡ Accepted → take (length (textProgram text)) d ≡ textProgram text
 
--- a program, checked with a table and put into a lent list: 19 to 21, 1 to 8, 14
+-- a program, checked with a table and put into a lent list: 19 to 21, 1 to 8 and 22, 14
 abbrev pub giveChecks : Options → List ℕ → List ℕ → List Checked
 giveChecks options program lent = checkCall options program ∷ short (length lent) (length program) ∷ []
 

@@ -24,5 +24,6 @@ pub mod Rounds
 pub mod Turns
 pub mod While
 pub mod Repeat
+pub mod Loop
 pub mod Timing
 pub mod Once

@@ -1,4 +1,5 @@
 -- The published netlist is a circuit of its program, and keeps every rule of a netlist.
 pub mod Levels
+pub mod Ors
 pub mod Structure
 pub mod Whole

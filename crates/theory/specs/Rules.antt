@@ -1,2 +1,2 @@
--- The rules: laws of the budgeted run, that it computes the relation, and what a statement leaves alone.
+-- The rules: the budgeted run computes the relations.
 pub mod Relation

@@ -12,7 +12,7 @@ const STATE_HEADER: usize = 8;
 const STATE_CELL: usize = 40;
 
 /// Kinds at and beyond the ends of the known ranges.
-const KINDS: [u8; 14] = [0, 1, 2, 9, 10, 11, 15, 16, 18, 20, 23, 24, 25, 32];
+const KINDS: [u8; 15] = [0, 1, 2, 9, 10, 11, 15, 16, 18, 20, 23, 25, 26, 27, 32];
 
 /// The same of cells.
 const CELL_KINDS: [u8; 18] = [
@@ -206,9 +206,9 @@ mod tests {
     }
 
     #[test]
-    fn damaged_programs_meet_refusals_1_to_8() {
+    fn damaged_programs_meet_refusals_1_to_8_and_22() {
         let met = met(|good, random| calls::check(None, &program(good, random)));
-        assert_eq!(met, (0..=8).collect());
+        assert_eq!(met, (0..=8).chain([22]).collect());
     }
 
     #[test]

@@ -287,6 +287,7 @@ mod tests {
     use super::*;
     use crate::against_peer::Pair;
     use crate::faulty_arrays::*;
+    use crate::faulty_loops::*;
     use crate::job::{self, Job};
     use crate::xorshift::Random;
     use crate::{against_equations, against_rules, against_tables, against_text};
@@ -375,16 +376,25 @@ mod tests {
         }
     }
 
+    /// The circuits of programs that are accepted, and end otherwise.
+    #[test]
+    fn rules_tell_faulty_loops() {
+        let disagrees = |peer: &Peer| {
+            (0..4 * JOBS).any(|seed| against_rules::compare(peer, &Job::of_seed(seed)).is_err())
+        };
+        assert_tells(disagrees, &[DELAY_SPENT, OUTER_LEFT, REST_RUN]);
+    }
+
     /// Of the calls that are compared only the check: a clash of arrays is rare.
     #[test]
-    fn a_good_peer_tells_a_missed_clash() {
+    fn a_good_peer_tells_what_a_check_misses() {
         let disagrees = |peer: &Peer| {
             (0..30 * JOBS).map(Job::of_seed).any(|job| {
                 let check = |peer: &Peer| (peer.check)(job.table(), &job.program);
                 with_second(peer).same("check", &[], check).is_err()
             })
         };
-        assert_tells(disagrees, &[ARRAYS_APART]);
+        assert_tells(disagrees, &[ARRAYS_APART, THROUGH_PARALLEL]);
     }
 
     #[test]
@@ -410,7 +420,8 @@ mod tests {
         let tables = [UNTIMED, TIMED_NETLIST];
         let moves = [MOVED_CONSTANTS, STAYING_B, UNWRAPPED, MOVED_FINISH];
         let lists = [ROOM_TO_SPARE, ABSENT_FINISH];
-        let faulty = [&runs[..], &readers, &tables, &moves, &lists].concat();
+        let loops = [DELAY_SPENT, OUTER_LEFT, REST_RUN];
+        let faulty = [&runs[..], &readers, &tables, &moves, &lists, &loops].concat();
         assert_tells(disagrees_with_second, &faulty);
     }
 }

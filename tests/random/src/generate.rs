@@ -1,9 +1,10 @@
 //! Random programs that the check accepts under given operator times.
 //!
 //! Every part is written within a limit, the most nodes that the program may
-//! have after it, and a scope, the variables it may read and write. Parallel
-//! sides get scopes that keep them apart, and delays are chosen once the
-//! expression's time is known, so the result is accepted by construction.
+//! have after it, and a scope, the variables it may read and write and whether
+//! an exit may stand there. Parallel sides get scopes that keep them apart, and
+//! delays are chosen once the expression's time is known, so the result is
+//! accepted by construction.
 
 use crate::xorshift::Random;
 use second::operator::Operator;
@@ -23,11 +24,16 @@ const FIRST_ARRAY: u16 = 16;
 struct Scope {
     reads: Set,
     writes: Set,
+    /// Whether an exit may stand here.
+    exits: bool,
 }
 
 impl Scope {
-    fn new(reads: Set, writes: Set) -> Scope {
-        Scope { reads, writes }
+    fn in_loop(self) -> Scope {
+        Scope {
+            exits: true,
+            ..self
+        }
     }
 
     fn without_writing(self, variable: u16) -> Scope {
@@ -52,10 +58,15 @@ enum Form {
     /// A loop around a body and a counting down of its condition.
     WhileCounting,
     RepeatCounting,
+    Exit,
+    Loop,
+    /// A loop around two statements and an exit in a branch.
+    LoopPolling,
+    LoopCounting,
 }
 
 /// The forms, with the least room of each and how often it is to be chosen.
-const FORMS: [(Form, usize, usize); 11] = [
+const FORMS: [(Form, usize, usize); 15] = [
     (Form::Ok, 1, 1),
     (Form::Tick, 1, 2),
     (Form::Assign, 2, 4),
@@ -67,6 +78,10 @@ const FORMS: [(Form, usize, usize); 11] = [
     (Form::Repeat, 3, 2),
     (Form::WhileCounting, 8, 6),
     (Form::RepeatCounting, 10, 5),
+    (Form::Exit, 1, 2),
+    (Form::Loop, 2, 2),
+    (Form::LoopPolling, 7, 7),
+    (Form::LoopCounting, 10, 9),
 ];
 
 const OPERATORS: [Operator; 7] = [
@@ -81,32 +96,60 @@ const OPERATORS: [Operator; 7] = [
 
 /// A program of up to 200 nodes, whose delays are long enough for these times.
 pub fn program(random: &mut Random, times: &Times) -> Vec<u8> {
-    written(random, times, true)
+    written(random, times, Sides::Apart)
 }
 
 /// The same, of which the sides of a parallel node may clash.
 pub fn clashing_program(random: &mut Random, times: &Times) -> Vec<u8> {
-    written(random, times, false)
+    written(random, times, Sides::Clashing)
 }
 
-fn written(random: &mut Random, times: &Times, apart: bool) -> Vec<u8> {
+/// The same, of which exits in a side of a parallel node may be meant for a loop
+/// around that node.
+pub fn leaving_program(random: &mut Random, times: &Times) -> Vec<u8> {
+    written(random, times, Sides::Leaving)
+}
+
+/// What the sides of a parallel node have to do with each other.
+#[derive(PartialEq)]
+enum Sides {
+    Apart,
+    Clashing,
+    Leaving,
+}
+
+fn written(random: &mut Random, times: &Times, sides: Sides) -> Vec<u8> {
     let limit = match random.below(10) {
         0..=3 => random.between(1, 12),
         4..=7 => random.between(13, 60),
         _ => random.between(61, MOST_NODES),
     };
-    // Few variables meet more often than sixteen do. Half of the programs have
-    // no arrays, since those alone have a text.
+    // Few variables meet more often than sixteen do. A third of the programs have
+    // neither arrays nor loops, since those alone have a text.
     let variables = (1 << random.between(1, 16)) - 1;
-    let arrays = random.pick(&[0, 1]) * random.between(1, 15) as Set;
+    let (has_arrays, loops) = random.pick(&[
+        (0, false),
+        (0, false),
+        (0, true),
+        (1, false),
+        (1, true),
+        (1, true),
+    ]);
+    let arrays = has_arrays * random.between(1, 15) as Set;
     let all = variables | arrays << FIRST_ARRAY;
     let mut author = Author {
         random,
         times,
-        apart,
+        sides,
+        loops,
         bytes: Vec::new(),
     };
-    author.statement(limit, Scope::new(all, all));
+    let scope = Scope {
+        reads: all,
+        writes: all,
+        exits: false,
+    };
+    author.statement(limit, scope);
     author.bytes
 }
 
@@ -123,8 +166,9 @@ pub fn start_words(random: &mut Random) -> Vec<u8> {
 struct Author<'a> {
     random: &'a mut Random,
     times: &'a Times,
-    /// Whether the sides of parallel nodes are kept apart.
-    apart: bool,
+    sides: Sides,
+    /// Whether it writes loops.
+    loops: bool,
     bytes: Vec<u8>,
 }
 
@@ -163,20 +207,31 @@ impl Author<'_> {
             Form::Repeat => self.free_loop(23, limit, scope),
             Form::WhileCounting => self.while_counting(limit, scope),
             Form::RepeatCounting => self.repeat_counting(limit, scope),
+            Form::Exit => {
+                self.node(26, 0);
+            }
+            Form::Loop => {
+                self.loop_node();
+                self.statement(limit, scope.in_loop());
+            }
+            Form::LoopPolling => self.loop_polling(limit, scope.in_loop()),
+            Form::LoopCounting => self.loop_counting(limit, scope.in_loop()),
         }
     }
 
     /// A form that fits, by weight; where room is large, none without parts.
     fn form(&mut self, room: usize, scope: Scope) -> Form {
         let wanted = if room > 10 { 3..=room } else { 1..=room };
-        let writable = |form: Form| match form {
-            Form::Assign | Form::WhileCounting | Form::RepeatCounting => {
-                scope.writes & VARIABLES != 0
-            }
+        let variables = scope.writes & VARIABLES != 0;
+        let may_stand = |form: Form| match form {
+            Form::Assign | Form::WhileCounting | Form::RepeatCounting => variables,
             Form::AssignElement => scope.writes & !VARIABLES != 0,
+            Form::Exit => scope.exits,
+            Form::Loop | Form::LoopPolling => self.loops,
+            Form::LoopCounting => self.loops && variables,
             _ => true,
         };
-        let fits = |form: Form, least: usize| wanted.contains(&least) && writable(form);
+        let fits = |form: Form, least: usize| wanted.contains(&least) && may_stand(form);
         let chosen: Vec<Form> = FORMS
             .iter()
             .filter(|&&(form, least, _)| fits(form, least))
@@ -208,17 +263,22 @@ impl Author<'_> {
         self.set_delay(place, index.max(value).max(1));
     }
 
-    /// Each side may read what the other doesn't write.
+    /// Each side may read what the other doesn't write, and no exit leaves a side.
     fn parallel(&mut self, limit: usize, scope: Scope) {
         self.node(20, 0);
-        if !self.apart {
+        let exits = scope.exits && self.sides == Sides::Leaving;
+        let scope = Scope { exits, ..scope };
+        if self.sides == Sides::Clashing {
             return self.two_statements(limit, scope, scope);
         }
         let share = self.random.bits() as Set;
         let (p_writes, q_writes) = (scope.writes & share, scope.writes & !share);
-        let p_scope = Scope::new(scope.reads & !q_writes, p_writes);
-        let q_scope = Scope::new(scope.reads & !p_writes, q_writes);
-        self.two_statements(limit, p_scope, q_scope);
+        let side = |writes: Set, others: Set| Scope {
+            reads: scope.reads & !others,
+            writes,
+            ..scope
+        };
+        self.two_statements(limit, side(p_writes, q_writes), side(q_writes, p_writes));
     }
 
     fn choice(&mut self, limit: usize, scope: Scope) {
@@ -254,6 +314,52 @@ impl Author<'_> {
         self.node(1, 0);
         self.set_delay(place, self.times.of(Operator::Equal));
         self.counting_body(variable, limit, scope);
+    }
+
+    /// loop, with a delay; its body comes next.
+    fn loop_node(&mut self) {
+        let place = self.node(25, 0);
+        self.set_delay(place, 1);
+    }
+
+    /// loop body; if e then exit else rest, or with the branches or the statements
+    /// the other way round.
+    fn loop_polling(&mut self, limit: usize, scope: Scope) {
+        self.loop_node();
+        self.node(19, 0);
+        let test_first = self.random.once_in(2);
+        if test_first {
+            let test_limit = self.random.between(self.count() + 4, limit - 1);
+            self.exit_in_branch(test_limit, scope);
+            return self.statement(limit, scope);
+        }
+        let body_limit = self.random.between(self.count() + 1, limit - 4);
+        self.statement(body_limit, scope);
+        self.exit_in_branch(limit, scope);
+    }
+
+    /// if e then exit else rest, or the other way round.
+    fn exit_in_branch(&mut self, limit: usize, scope: Scope) {
+        let place = self.node(21, 0);
+        let time = self.own_expression(limit - 2, scope);
+        self.set_delay(place, time);
+        if self.random.once_in(2) {
+            self.node(26, 0);
+            return self.statement(limit, scope);
+        }
+        self.statement(limit - 1, scope);
+        self.node(26, 0);
+    }
+
+    /// loop if x then body; x := x - 1 else exit
+    fn loop_counting(&mut self, limit: usize, scope: Scope) {
+        let variable = self.variable(scope.writes);
+        self.loop_node();
+        let place = self.node(21, 0);
+        self.node(2, variable);
+        self.set_delay(place, 0);
+        self.counting_body(variable, limit - 1, scope);
+        self.node(26, 0);
     }
 
     /// A statement that lets x alone, and the four nodes of x := x - 1.
@@ -365,8 +471,9 @@ fn inputs(operator: Operator) -> usize {
 #[cfg(test)]
 mod tests {
     use super::*;
+    use second::program::{Form, Statement};
     use second::table::BUILT_IN;
-    use second::{calls, kinds};
+    use second::{calls, check, kinds};
 
     #[test]
     fn every_program_is_accepted_and_every_kind_occurs() {
@@ -380,7 +487,7 @@ mod tests {
     fn accepted_and_every_kind_occurs(times: &Times) {
         let mut seen = [0; 256];
         let mut largest = 0;
-        for seed in 0..2_000 {
+        for seed in 0..2_500 {
             let program = program(&mut Random::new(seed), times);
             let checked = calls::check(Some(&times.file()), &program);
             assert_eq!(checked, Ok(()), "seed {seed}: {program:?}");
@@ -394,5 +501,62 @@ mod tests {
             assert!(count > 400, "{} occurs {count} times", row.name);
         }
         assert!((190..=MOST_NODES).contains(&largest), "{largest}");
+    }
+
+    type Asked = fn(&Statement) -> bool;
+
+    /// What loops may be like, and what is asked of a statement.
+    const LOOPS: [(&str, Asked); 6] = [
+        ("a loop in a loop", |statement| {
+            body(statement).is_some_and(|body| body.in_node_order().into_iter().any(is_loop))
+        }),
+        ("an exit in a branch", |statement| match &statement.form {
+            Form::If(_, p, q) => is_exit(p) != is_exit(q),
+            _ => false,
+        }),
+        ("a statement after an exit", |statement| {
+            match &statement.form {
+                Form::Sequence(p, _) => is_exit(p),
+                _ => false,
+            }
+        }),
+        ("a loop without exits", |statement| {
+            body(statement).is_some_and(|body| body.exits().is_empty())
+        }),
+        ("a loop with several exits", |statement| {
+            body(statement).is_some_and(|body| body.exits().len() > 1)
+        }),
+        ("a loop in a side", |statement| match &statement.form {
+            Form::Parallel(p, q) => [p, q].into_iter().any(|side| is_loop(side)),
+            _ => false,
+        }),
+    ];
+
+    fn body(statement: &Statement) -> Option<&Statement> {
+        match &statement.form {
+            Form::Loop(body) => Some(body),
+            _ => None,
+        }
+    }
+
+    fn is_loop(statement: &Statement) -> bool {
+        body(statement).is_some()
+    }
+
+    fn is_exit(statement: &Statement) -> bool {
+        matches!(statement.form, Form::Exit)
+    }
+
+    #[test]
+    fn loops_of_every_make_occur() {
+        let programs: Vec<Statement> = (0..2_000)
+            .map(|seed| program(&mut Random::new(seed), &BUILT_IN))
+            .map(|program| check::check(&program, &BUILT_IN).expect("it is accepted"))
+            .collect();
+        for (what, is_so) in LOOPS {
+            let has = |program: &&Statement| program.in_node_order().into_iter().any(is_so);
+            let count = programs.iter().filter(has).count();
+            assert!(count > 60, "{what} occurs in {count} programs");
+        }
     }
 }

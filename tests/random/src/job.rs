@@ -50,15 +50,16 @@ pub struct Job {
 }
 
 impl Job {
-    /// The job of a seed; one program in eight is slightly damaged, and in one of
-    /// sixteen parallel sides may clash. Every other one has a table, and one
-    /// table in twelve is damaged.
+    /// The job of a seed; one program in eight is slightly damaged, in one of
+    /// sixteen parallel sides may clash, and in one of sixteen exits may leave
+    /// them. Every other one has a table, and one table in twelve is damaged.
     pub fn of_seed(seed: u64) -> Job {
         let random = &mut Random::new(seed);
         let times = random.once_in(2).then(|| tables::times(random));
-        let program_of = match random.once_in(16) {
-            true => generate::clashing_program,
-            false => generate::program,
+        let program_of = match random.below(16) {
+            0 => generate::clashing_program,
+            1 => generate::leaving_program,
+            _ => generate::program,
         };
         let mut program = program_of(random, times.as_ref().unwrap_or(&BUILT_IN));
         if random.once_in(8) {

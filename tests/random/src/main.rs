@@ -16,6 +16,8 @@ mod damage;
 mod faulty;
 #[cfg(test)]
 mod faulty_arrays;
+#[cfg(test)]
+mod faulty_loops;
 mod generate;
 mod job;
 mod lend;

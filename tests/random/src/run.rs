@@ -95,7 +95,7 @@ mod tests {
     fn a_short_run_agrees_and_sees_every_outcome() {
         let tally = run(2, 5_000).unwrap_or_else(|report| panic!("{report}"));
         let least = tally.ended.min(tally.open).min(tally.refused);
-        let special = tally.tables.min(tally.arrays);
+        let special = tally.tables.min(tally.arrays).min(tally.loops);
         assert!(least.min(special) >= 100, "{tally}");
         assert_eq!(tally.netlists, 125);
     }

@@ -2,7 +2,7 @@
 
 use crate::against_rules::Outcome;
 use crate::job::Job;
-use crate::texts::has_arrays;
+use crate::texts::{has_arrays, has_loops};
 use std::fmt::{Display, Formatter, Result};
 
 #[derive(Default)]
@@ -14,6 +14,7 @@ pub struct Tally {
     /// Programs under a table of their own.
     pub tables: u64,
     pub arrays: u64,
+    pub loops: u64,
     pub netlists: u64,
 }
 
@@ -23,6 +24,7 @@ impl Tally {
         self.nodes += job.program.len() / 4;
         self.tables += u64::from(job.table.is_some());
         self.arrays += u64::from(has_arrays(&job.program));
+        self.loops += u64::from(has_loops(&job.program));
         match outcome {
             Outcome::Ended => self.ended += 1,
             Outcome::Open => self.open += 1,
@@ -40,12 +42,14 @@ impl Display for Tally {
             nodes,
             tables,
             arrays,
+            loops,
             netlists,
         } = self;
         let programs = ended + open + refused;
         write!(text, "{programs} programs, {nodes} nodes in all, agree: ")?;
         write!(text, "{ended} ended, {open} open, {refused} refused, ")?;
-        write!(text, "{tables} under a table, {arrays} with arrays; ")?;
+        write!(text, "{tables} under a table, {arrays} with arrays, ")?;
+        write!(text, "{loops} with loops; ")?;
         write!(text, "{netlists} netlists agree")
     }
 }

@@ -39,11 +39,11 @@ pub enum Known {
     Nothing,
 }
 
-/// The texts of a program; bytes that are no tree, and programs with arrays,
-/// which have no text, have random words alone.
+/// The texts of a program; bytes that are no tree, and programs with arrays or
+/// loops, which have no text, have random words alone.
 pub fn texts(program: &[u8], random: &mut Random) -> Vec<Text> {
     let soup = unknown(soup(random));
-    if !is_tree(program) || has_arrays(program) {
+    if !is_tree(program) || has_arrays(program) || has_loops(program) {
         return vec![soup];
     }
     let program = match random.once_in(16) {
@@ -70,6 +70,13 @@ pub fn texts(program: &[u8], random: &mut Random) -> Vec<Text> {
 /// Whether refusals 1 to 6 let a program pass.
 fn is_tree(program: &[u8]) -> bool {
     calls::check(None, program).map_or_else(|refusal| refusal.number > 6, |()| true)
+}
+
+/// Whether a program has a loop or an exit.
+pub fn has_loops(program: &[u8]) -> bool {
+    program
+        .chunks_exact(4)
+        .any(|node| [25, 26].contains(&node[0]))
 }
 
 /// Whether a program has an element or assigns to one.

@@ -29,19 +29,19 @@ pub(crate) fn shape(netlist: &Netlist) -> Shape {
     }
 }
 
-/// Checks a program: refusals 1 to 8.
+/// Checks a program: refusals 1 to 8 and 22.
 pub fn check(table: Table, program: &[u8]) -> Result<(), Refusal> {
     checked(table, program).map(drop)
 }
 
-/// Compiles a program to a netlist file: refusals 1 to 8, 14.
+/// Compiles a program to a netlist file: refusals 1 to 8 and 22, 14.
 pub fn compile(table: Table, program: &[u8], file: &mut [u8]) -> Result<Shape, Refusal> {
     let netlist = compile::compile(&checked(table, program)?);
     put(&netfile::write(&netlist), file)?;
     Ok(shape(&netlist))
 }
 
-/// Reads a text to its program's bytes: refusals 17, 18, 1 to 8, 14. Tells how
+/// Reads a text to its program's bytes: refusals 17, 18, 1 to 8 and 22, 14. Tells how
 /// many bytes these are.
 pub fn read_text(table: Table, text: &[u8], program: &mut [u8]) -> Result<usize, Refusal> {
     let bytes = program_of(table, text)?;
@@ -106,8 +106,8 @@ pub fn run_netlist(
     Ok(full_run(&netlist, contents, budget, state))
 }
 
-/// A full run of a program: refusals 1 to 8, 13, 14. Its netlist file and its
-/// last state stand in the lent buffers.
+/// A full run of a program: refusals 1 to 8 and 22, 13, 14. Its netlist file
+/// and its last state stand in the lent buffers.
 pub fn run_program(
     table: Table,
     program: &[u8],
@@ -138,7 +138,7 @@ pub fn run_text(
 }
 
 /// The end of a program by its own rules, if within the budget: refusals 1 to
-/// 8, 13, 14.
+/// 8 and 22, 13, 14.
 pub fn reference_run(
     table: Table,
     program: &[u8],

@@ -1,12 +1,13 @@
-//! The check of a program: refusals 1 to 8, and the reading into a tree.
+//! The check of a program: refusals 1 to 8 and 22, and the reading into a tree.
 //!
 //! The order is the paper's: the length; each node by itself; the reading,
-//! which meets 5 and 6 on its way; the delays; the parallel nodes.
+//! which meets 5 and 6 on its way; the exits; the delays; the parallel nodes.
 
 use crate::kinds::{row, ExpressionKind, Kind, Row, StatementKind};
 use crate::program::{Expression, Form, Statement};
 use crate::table::Times;
 use crate::word::number2;
+use std::collections::BTreeSet;
 use values::Refusal;
 
 const NODE_LENGTH: usize = 4;
@@ -16,6 +17,7 @@ const MOST_NODES: usize = 200;
 pub fn check(bytes: &[u8], times: &Times) -> Result<Statement, Refusal> {
     let nodes = nodes(bytes)?;
     let program = read(&nodes)?;
+    check_exits(&program)?;
     check_delays(&program, times)?;
     check_parallels(&program)?;
     Ok(program)
@@ -124,11 +126,30 @@ impl<'a> Reader<'a> {
             StatementKind::AssignElement => {
                 Form::AssignElement(usize::from(n), self.expression()?, self.expression()?)
             }
+            StatementKind::Loop => Form::Loop(self.part()?),
+            StatementKind::Exit => Form::Exit,
         })
     }
 
     fn part(&mut self) -> Result<Box<Statement>, Refusal> {
         Ok(Box::new(self.statement()?))
+    }
+}
+
+/// Refusal 22, at the first exit that is none of a loop's own.
+fn check_exits(program: &Statement) -> Result<(), Refusal> {
+    let loops = program.in_node_order().into_iter();
+    let of_loops: BTreeSet<usize> = loops.flat_map(own_exits).collect();
+    refuse_first(22, program, |statement| {
+        matches!(statement.form, Form::Exit) && !of_loops.contains(&statement.node)
+    })
+}
+
+/// The nodes of the exits that end this loop, if it is one.
+fn own_exits(statement: &Statement) -> Vec<usize> {
+    match &statement.form {
+        Form::Loop(p) => p.exits().iter().map(|exit| exit.node).collect(),
+        _ => Vec::new(),
     }
 }
 
@@ -142,7 +163,7 @@ fn check_delays(program: &Statement, times: &Times) -> Result<(), Refusal> {
 /// The least delay of a statement: its kind's, and each expression's time.
 fn least_delay(statement: &Statement, times: &Times) -> u32 {
     let kind_needs = match statement.form {
-        Form::Ok | Form::Sequence(..) | Form::Parallel(..) | Form::If(..) => 0,
+        Form::Ok | Form::Sequence(..) | Form::Parallel(..) | Form::If(..) | Form::Exit => 0,
         _ => 1,
     };
     let expressions = statement.expressions().into_iter();

@@ -44,6 +44,7 @@ pub fn compile(program: &Statement) -> Netlist {
         first_memory,
         data: Contributions::default(),
         addresses: Contributions::default(),
+        exits: Vec::new(),
     };
     let finish = walk.statement(program, START_WIRE);
     walk.join_gates();
@@ -102,13 +103,17 @@ fn join_all(
     contributions: &Contributions,
     none: Wire,
 ) -> [Wire; TARGETS] {
-    std::array::from_fn(|target| {
-        let joined = contributions[target]
-            .iter()
-            .copied()
-            .reduce(|so_far, next| push(cells, Cell::new(or, 0, so_far, next)));
-        joined.unwrap_or(none)
-    })
+    std::array::from_fn(|target| join(cells, or, &contributions[target], none))
+}
+
+/// Joins wires by or cells, each the result so far with the next wire; where
+/// there are no wires, `none`.
+fn join(cells: &mut Vec<Cell>, or: u8, wires: &[Wire], none: Wire) -> Wire {
+    let joined = wires
+        .iter()
+        .copied()
+        .reduce(|so_far, next| push(cells, Cell::new(or, 0, so_far, next)));
+    joined.unwrap_or(none)
 }
 
 /// The walk over the tree. It meets statements in node order, so the delay
@@ -119,6 +124,8 @@ struct Walk {
     first_memory: Wire,
     data: Contributions,
     addresses: Contributions,
+    /// The starts of the exits met so far of the innermost loop around.
+    exits: Vec<Wire>,
 }
 
 impl Walk {
@@ -212,6 +219,11 @@ impl Walk {
             }
             Form::While(e, p) => self.while_loop(e, p, start),
             Form::Repeat(e, p) => self.repeat_loop(e, p, start),
+            Form::Loop(p) => self.exit_loop(p, start),
+            Form::Exit => {
+                self.exits.push(start);
+                GROUND_WIRE
+            }
         }
     }
 
@@ -279,5 +291,16 @@ impl Walk {
         let p_finish = self.statement(p, p_start);
         self.feed(delay, p_finish);
         finish
+    }
+
+    /// A loop; its finish is where its exits start.
+    fn exit_loop(&mut self, p: &Statement, start: Wire) -> Wire {
+        let delay = self.take_delay();
+        let p_start = self.cell(OR, start, delay);
+        let around = std::mem::take(&mut self.exits);
+        let p_finish = self.statement(p, p_start);
+        self.feed(delay, p_finish);
+        let exits = std::mem::replace(&mut self.exits, around);
+        join(&mut self.cells, OR, &exits, GROUND_WIRE)
     }
 }

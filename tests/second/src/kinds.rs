@@ -27,6 +27,8 @@ pub enum StatementKind {
     While,
     Repeat,
     AssignElement,
+    Loop,
+    Exit,
 }
 
 /// What may stand at a child's place.
@@ -120,7 +122,7 @@ const fn statement(
 const E: Sort = Sort::Expression;
 const S: Sort = Sort::Statement;
 
-pub const TABLE: [Row; 19] = [
+pub const TABLE: [Row; 21] = [
     named(1, "constant", ExpressionKind::Constant, &[]),
     named(2, "variable", ExpressionKind::Variable, &[]),
     operation(3, "complement", Operator::Complement, &[E]),
@@ -146,6 +148,8 @@ pub const TABLE: [Row; 19] = [
         &[E, E],
         true,
     ),
+    statement(25, "loop", StatementKind::Loop, &[S], true),
+    statement(26, "exit", StatementKind::Exit, &[], false),
 ];
 
 /// The row of a kind's number, if it is known.

@@ -47,6 +47,8 @@ pub enum Form {
     Repeat(Expression, Box<Statement>),
     /// An array, the index and the value.
     AssignElement(usize, Expression, Expression),
+    Loop(Box<Statement>),
+    Exit,
 }
 
 impl Expression {
@@ -94,6 +96,7 @@ impl Statement {
             }
             Form::AssignElement(_, index, value) => vec![index, value],
             Form::Ok | Form::Tick | Form::Sequence(..) | Form::Parallel(..) => Vec::new(),
+            Form::Loop(_) | Form::Exit => Vec::new(),
         }
     }
 
@@ -101,8 +104,9 @@ impl Statement {
     pub fn parts(&self) -> Vec<&Statement> {
         match &self.form {
             Form::Ok | Form::Tick | Form::Assign(..) | Form::AssignElement(..) => Vec::new(),
+            Form::Exit => Vec::new(),
             Form::Sequence(p, q) | Form::Parallel(p, q) | Form::If(_, p, q) => vec![p, q],
-            Form::While(_, p) | Form::Repeat(_, p) => vec![p],
+            Form::While(_, p) | Form::Repeat(_, p) | Form::Loop(p) => vec![p],
         }
     }
 
@@ -117,6 +121,19 @@ impl Statement {
         all.push(self);
         for part in self.parts() {
             part.append_to(all);
+        }
+    }
+
+    /// The exits, it and those below it, that end a loop around it: no loop and no
+    /// parallel node stands between.
+    pub fn exits(&self) -> Vec<&Statement> {
+        match self.form {
+            Form::Exit => vec![self],
+            Form::Loop(_) | Form::Parallel(..) => Vec::new(),
+            _ => {
+                let parts = self.parts().into_iter();
+                parts.flat_map(Statement::exits).collect()
+            }
         }
     }
 

@@ -9,7 +9,7 @@ pub fn run(program: &Statement, contents: Contents, budget: u32) -> Option<Momen
         instant: 0,
         contents,
     };
-    (Rules { budget }).end(program, begin)
+    (Rules { budget }).end(program, begin).ok()
 }
 
 /// All that the rules keep: an instant and the words.
@@ -19,21 +19,32 @@ pub struct Moment {
     pub contents: Contents,
 }
 
+/// The end of a statement, or what keeps it from one.
+type Course = Result<Moment, Stop>;
+
+enum Stop {
+    /// An exit is met, which the innermost loop around ends by.
+    Left(Box<Moment>),
+    /// The budget is exceeded.
+    Open,
+}
+
 struct Rules {
     budget: u32,
 }
 
 impl Rules {
-    /// The moment at which a statement begun at `now` ends, if within budget.
-    fn end(&self, statement: &Statement, now: Moment) -> Option<Moment> {
+    /// The moment at which a statement begun at `now` ends. An exit leaves all that
+    /// is around it, up to its loop.
+    fn end(&self, statement: &Statement, now: Moment) -> Course {
         let d = u32::from(statement.delay);
         match &statement.form {
-            Form::Ok => Some(now),
+            Form::Ok => Ok(now),
             Form::Tick => self.wait(now, d),
             Form::Assign(variable, e) => {
                 let mut end = self.wait(now, d + 1)?;
                 end.contents.words[*variable] = e.value(&now.contents);
-                Some(end)
+                Ok(end)
             }
             Form::Sequence(p, q) => self.end(q, self.end(p, now)?),
             Form::Parallel(p, q) => self.end_of_parallel(p, q, now),
@@ -47,18 +58,22 @@ impl Rules {
                 let [index, value] = [index, value].map(|e| e.value(&now.contents));
                 let mut end = self.wait(now, d + 1)?;
                 end.contents.arrays.put(*array, index, value);
-                Some(end)
+                Ok(end)
             }
+            Form::Loop(p) => self.end_of_loop(p, d, now),
+            Form::Exit => Err(Stop::Left(Box::new(now))),
         }
     }
 
     /// The same words `d` instants later, unless the budget is then exceeded.
-    fn wait(&self, now: Moment, d: u32) -> Option<Moment> {
+    fn wait(&self, now: Moment, d: u32) -> Course {
         let instant = now.instant + d;
-        (instant <= self.budget).then_some(Moment { instant, ..now })
+        let later = (instant <= self.budget).then_some(Moment { instant, ..now });
+        later.ok_or(Stop::Open)
     }
 
-    fn end_of_parallel(&self, p: &Statement, q: &Statement, now: Moment) -> Option<Moment> {
+    /// No side is left: refusal 22.
+    fn end_of_parallel(&self, p: &Statement, q: &Statement, now: Moment) -> Course {
         let (p_end, q_end) = (self.end(p, now)?, self.end(q, now)?);
         let (p_writes, q_writes) = (p.writes(), q.writes());
         let kept = |one: Set| match one {
@@ -68,7 +83,7 @@ impl Rules {
         };
         let word = |variable| kept(variable_set(variable)).words[variable];
         let array = |array| kept(array_set(array)).arrays.0[array];
-        Some(Moment {
+        Ok(Moment {
             instant: p_end.instant.max(q_end.instant),
             contents: Contents {
                 words: std::array::from_fn(word),
@@ -77,37 +92,36 @@ impl Rules {
         })
     }
 
-    fn end_of_while(
-        &self,
-        e: &Expression,
-        p: &Statement,
-        d: u32,
-        mut now: Moment,
-    ) -> Option<Moment> {
+    fn end_of_while(&self, e: &Expression, p: &Statement, d: u32, mut now: Moment) -> Course {
         loop {
             let again = holds(e, now);
             now = self.wait(now, d)?;
             if !again {
-                return Some(now);
+                return Ok(now);
             }
             now = self.end(p, now)?;
         }
     }
 
-    fn end_of_repeat(
-        &self,
-        e: &Expression,
-        p: &Statement,
-        d: u32,
-        mut now: Moment,
-    ) -> Option<Moment> {
+    fn end_of_repeat(&self, e: &Expression, p: &Statement, d: u32, mut now: Moment) -> Course {
         loop {
             now = self.end(p, now)?;
             let done = holds(e, now);
             now = self.wait(now, d)?;
             if done {
-                return Some(now);
+                return Ok(now);
             }
+        }
+    }
+
+    /// Going round takes `d`, leaving nothing.
+    fn end_of_loop(&self, p: &Statement, d: u32, mut now: Moment) -> Course {
+        loop {
+            now = match self.end(p, now) {
+                Ok(end) => self.wait(end, d)?,
+                Err(Stop::Left(end)) => return Ok(*end),
+                Err(Stop::Open) => return Err(Stop::Open),
+            };
         }
     }
 }

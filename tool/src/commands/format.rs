@@ -12,7 +12,7 @@ pub const COMMAND: Command = Command {
     usage: "FILE [-o TEXT]",
     about: "writes a program as text with the fewest brackets",
     more: "FILE is a text, an outline or a program's bytes. The text is read back before it is\n\
-        shown: it stands for the same program. A program with arrays has no text.",
+        shown: it stands for the same program. A program with arrays, loop or exit has no text.",
     example: "hub format examples/two_boards.hub",
     options: Options {
         valued: &["as", "times", "o"],
@@ -26,7 +26,8 @@ fn run(args: &Args) -> Result<Done, Stop> {
     let given = Given::read(args, file)?;
     let program = given.program()?;
     if !format::has_text(&program.nodes) {
-        let message = "texts have no words for arrays; 'hub outline' shows this program";
+        let message =
+            "texts have no words for arrays, loop and exit; 'hub outline' shows this program";
         return Err(Fault::usage(format!("{}: {message}", given.name)).into());
     }
     let tree = format::tree(&program.nodes);

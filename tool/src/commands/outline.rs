@@ -12,9 +12,9 @@ pub const COMMAND: Command = Command {
     usage: "FILE [-o OUTLINE]",
     about: "shows the nodes of a program as an indented outline, which 'hub assemble' takes back",
     more:
-        "Every kind has a name there, elements of arrays too, which no text has a word for; a node\n\
-        that no name fits stands as its bytes. The nodes of a file of program bytes are shown\n\
-        also where the product refuses them.",
+        "Every kind has a name there, also those that no text has a word for: elements of arrays,\n\
+        loop and exit; a node that no name fits stands as its bytes. The nodes of a file of\n\
+        program bytes are shown also where the product refuses them.",
     example: "hub outline examples/two_boards.hub",
     options: Options {
         valued: &["as", "times", "o"],

@@ -94,7 +94,8 @@ fn title(words: &str, inputs: usize) -> String {
 }
 
 /// The cells that are drawn if not all are: no idle memories and arrays, and
-/// of those that every netlist has only what something drawn takes in.
+/// of those that every netlist has only what something drawn takes in, the
+/// finish among it.
 fn shown(netlist: &Netlist, all: bool) -> Vec<bool> {
     let mut shown: Vec<bool> = netlist
         .cells
@@ -105,7 +106,7 @@ fn shown(netlist: &Netlist, all: bool) -> Vec<bool> {
         let takes =
             |(cell, shown): (&crate::types::Cell, &bool)| *shown && inputs(cell).contains(&fixed);
         let taken = netlist.cells.iter().zip(&shown).any(takes);
-        shown[usize::from(fixed)] = all || taken;
+        shown[usize::from(fixed)] = all || taken || netlist.finish == fixed;
     }
     shown
 }

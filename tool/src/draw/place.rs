@@ -58,6 +58,7 @@ impl<'p> Places<'p> {
             21 => self.choice(tree),
             22 => self.while_loop(tree),
             23 => self.repeat_loop(tree),
+            25 => self.exit_loop(tree),
             _ => Block::default(),
         };
         let (place, head) = (&self.labels.places[tree.at], &self.labels.heads[tree.at]);
@@ -177,6 +178,25 @@ impl<'p> Places<'p> {
             .with(self.cell(tree, "again"), switch, 1)
     }
 
+    /// The body, the delay behind it, and on the right the ors that join its
+    /// exits.
+    fn exit_loop(&self, tree: &Tree) -> Block {
+        let p = self.statement(&tree.parts[0]);
+        let delay = 1 + p.width;
+        let mut block = Block::default()
+            .with(self.cell(tree, "body"), 0, 0)
+            .and(p, 1, 0)
+            .with(self.cell(tree, "delay"), delay, 0);
+        let exits = exits(&tree.parts[0]);
+        let joined = exits
+            .iter()
+            .filter_map(|exit| self.cells.get(&(*exit, "joined")));
+        for (row, join) in joined.enumerate() {
+            block = block.with(*join, delay + 1, row);
+        }
+        block
+    }
+
     /// Memories and arrays, each with the ors that join its clocks and data, an
     /// address with those that join its indices.
     fn words(&self, netlist: &Netlist, shown: &[bool]) -> Block {
@@ -206,6 +226,15 @@ impl<'p> Places<'p> {
             (24, _) => self.trace.array(n),
             _ => self.trace.first_memory + n,
         })
+    }
+}
+
+/// The exits of a loop's body that end that loop.
+fn exits(tree: &Tree) -> Vec<usize> {
+    match tree.node.kind {
+        25 => Vec::new(),
+        26 => vec![tree.at],
+        _ => tree.parts.iter().flat_map(exits).collect(),
     }
 }
 

@@ -8,6 +8,9 @@ use crate::types::{Cell, Netlist, Node, Origin};
 /// assignments contribute, with the assignment.
 type Contributions = [Vec<(u16, usize)>; VARIABLES + ARRAYS];
 
+/// The cell that is never high.
+const GROUND: u16 = 1;
+
 /// The netlist of an accepted program's nodes, and where its cells come from.
 pub fn lay_out(nodes: &[Node]) -> (Netlist, Trace) {
     let mut walk = Walk::new(nodes);
@@ -15,7 +18,7 @@ pub fn lay_out(nodes: &[Node]) -> (Netlist, Trace) {
     walk.put(Cell::new(33, 0, 0, 0), None, "ground");
     walk.put(Cell::new(1, 0, 0, 0), None, "zero");
     let clocks = walk.delays();
-    let clocks = walk.joined(35, &clocks, 1, "clock");
+    let clocks = walk.joined(35, &clocks, GROUND, "clock");
     walk.stores(&clocks);
     walk.next_delay = 3;
     let finish = walk.statement(0, 0);
@@ -32,6 +35,8 @@ struct Walk<'a> {
     gates: Contributions,
     /// Those of the indices; variables have none.
     index_gates: Contributions,
+    /// The starts of the exits that end the loop around, with the exit.
+    exits: Vec<(u16, usize)>,
     first_memory: u16,
     /// The delay cell of the next statement that has one: they were put in
     /// node order, and the walk comes to each when it is next.
@@ -48,6 +53,7 @@ impl<'a> Walk<'a> {
             values: vec![None; nodes.len()],
             gates: Contributions::default(),
             index_gates: Contributions::default(),
+            exits: Vec::new(),
             first_memory: 0,
             next_delay: 0,
         }
@@ -137,16 +143,20 @@ impl<'a> Walk<'a> {
         none: u16,
         role: &'static str,
     ) -> [u16; VARIABLES + ARRAYS] {
-        std::array::from_fn(|variable| {
-            let mut so_far = None;
-            for (wire, node) in &contributions[variable] {
-                so_far = Some(match so_far {
-                    None => *wire,
-                    Some(before) => self.cell(or, [before, *wire], *node, role),
-                });
-            }
-            so_far.unwrap_or(none)
-        })
+        std::array::from_fn(|variable| self.chain(or, &contributions[variable], none, role))
+    }
+
+    /// The wire that joins wires, each cell the result so far with the next;
+    /// `none` where there are none.
+    fn chain(&mut self, or: u8, wires: &[(u16, usize)], none: u16, role: &'static str) -> u16 {
+        let mut so_far = None;
+        for (wire, node) in wires {
+            so_far = Some(match so_far {
+                None => *wire,
+                Some(before) => self.cell(or, [before, *wire], *node, role),
+            });
+        }
+        so_far.unwrap_or(none)
     }
 
     fn take_delay(&mut self) -> u16 {
@@ -207,6 +217,11 @@ impl<'a> Walk<'a> {
             21 => self.choice(at, start),
             22 => self.while_loop(at, start),
             24 => self.element_assignment(at, start),
+            25 => self.exit_loop(at, start),
+            26 => {
+                self.exits.push((start, at));
+                GROUND
+            }
             _ => self.repeat_loop(at, start),
         };
         self.ends[at] = Some(Ends { start, finish });
@@ -269,6 +284,17 @@ impl<'a> Walk<'a> {
         let p_finish = self.statement(subtree_end(self.nodes, at + 1), p_start);
         self.feed(delay, p_finish);
         finish
+    }
+
+    /// A loop that ends where its body comes to one of its exits.
+    fn exit_loop(&mut self, at: usize, start: u16) -> u16 {
+        let delay = self.take_delay();
+        let p_start = self.cell(35, [start, delay], at, "body");
+        let outer = std::mem::take(&mut self.exits);
+        let p_finish = self.statement(at + 1, p_start);
+        self.feed(delay, p_finish);
+        let exits = std::mem::replace(&mut self.exits, outer);
+        self.chain(35, &exits, GROUND, "joined")
     }
 }
 

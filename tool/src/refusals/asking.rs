@@ -46,6 +46,26 @@ pub fn clash(table: Table, nodes: &[Node], parallel: usize) -> Option<[usize; 2]
     None
 }
 
+/// The loop around a refused exit and the innermost parallel node between the
+/// two, if that is what the exit is refused for: the product has nothing to say
+/// about it where parallel nodes are sequences.
+pub fn between(table: Table, nodes: &[Node], exit: usize) -> Option<[usize; 2]> {
+    let apart = |node: &Node| match node.kind {
+        20 => Node { kind: 19, ..*node },
+        _ => *node,
+    };
+    let apart: Vec<Node> = nodes.iter().map(apart).collect();
+    if asked(table, &apart) == Err(Refusal::new(22, exit)) {
+        return None;
+    }
+    let holds = |node: &usize| exit < subtree_end(nodes, *node);
+    let around = |kind: u8| {
+        let mut inwards = (0..exit).filter(holds);
+        inwards.rfind(|node| nodes[*node].kind == kind)
+    };
+    Some([around(25)?, around(20)?])
+}
+
 /// A parallel node as a program, with two uses of variables or arrays as they
 /// are.
 fn with_uses(nodes: &[Node], parallel: usize, middle: usize, kept: [usize; 2]) -> Vec<Node> {

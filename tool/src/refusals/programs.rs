@@ -1,4 +1,4 @@
-//! Refusals 1 to 8, of programs.
+//! Refusals 1 to 8 and 22, of programs.
 
 use super::{asking, least_delay, Mark, Report};
 use crate::answers::counted;
@@ -12,7 +12,7 @@ pub fn of_bytes(report: Report, given: &Given) -> Report {
     of_nodes(report, given, &product::nodes(&given.bytes), None)
 }
 
-/// Refusals 1 to 8 of a text's or an outline's program. The product doesn't
+/// Refusals 1 to 8 and 22 of a text's or an outline's program. The product doesn't
 /// tell the bytes of a text's program that it refuses: it is asked about the
 /// tool's own reading, which must meet the same refusal.
 pub fn of_source(report: Report, given: &Given) -> Result<Report, Fault> {
@@ -35,6 +35,7 @@ fn of_nodes(mut report: Report, given: &Given, nodes: &[Node], source: Option<&S
         }
         7 => of_delay(&mut report, given, nodes, source),
         8 => of_clash(&mut report, given, nodes, source),
+        22 => of_exit(&mut report, given, nodes, source),
         _ => of_node(&mut report, given, nodes, source),
     }
     report
@@ -59,9 +60,13 @@ fn of_node(report: &mut Report, given: &Given, nodes: &[Node], source: Option<&S
 fn of_delay(report: &mut Report, given: &Given, nodes: &[Node], source: Option<&Source>) {
     let place = report.refusal.place;
     report.least = least_delay(given.table(), nodes, place);
-    if nodes[place].kind == 24 {
-        let settle = "for index and value, which both have to settle in it";
-        report.rule = format!("this delay is too small {settle}");
+    let own = match nodes[place].kind {
+        24 => Some("this delay is too small for index and value, which both have to settle in it"),
+        25 => Some("this delay is too small: going round a loop takes at least 1 instant"),
+        _ => None,
+    };
+    if let Some(rule) = own {
+        report.rule = rule.into();
     }
     let written = match (given.form, nodes[place].kind) {
         (Form::Text, 17) => "write tick ",
@@ -126,6 +131,37 @@ fn of_clash(report: &mut Report, given: &Given, nodes: &[Node], source: Option<&
             let [left, right] = uses.map(|node| node_shown(nodes, node));
             let parallel = node_shown(nodes, place);
             report.found = Some(format!("{parallel}; {left}; {right}"));
+        }
+    }
+}
+
+fn of_exit(report: &mut Report, given: &Given, nodes: &[Node], source: Option<&Source>) {
+    let exit = report.refusal.place;
+    let mut told = vec![(exit, "")];
+    match asking::between(given.table(), nodes, exit) {
+        Some([around, parallel]) => {
+            report.rule =
+                "a parallel statement stands between this exit and the loop around it".into();
+            report.remedy =
+                "put the loop into this side, or exit after the parallel statement".into();
+            told.push((parallel, "these two sides run together"));
+            told.push((around, "the loop is around both"));
+        }
+        None => {
+            report.rule = "this exit has no loop around it".into();
+            report.remedy = "put it into a loop; it ends no while and no repeat".into();
+        }
+    }
+    match source {
+        Some(source) => {
+            let mark = |(node, caption): (usize, &str)| {
+                Mark::new(&given.bytes, source.places[node].mark, caption)
+            };
+            report.marks = told.into_iter().map(mark).collect();
+        }
+        None => {
+            let shown = told.iter().map(|(node, _)| node_shown(nodes, *node));
+            report.found = Some(shown.collect::<Vec<_>>().join("; "));
         }
     }
 }

@@ -56,7 +56,7 @@ pub const RULES: &[Rule] = &[
         2,
         Counts::Nodes,
         "this node has a kind that no node has",
-        "use a kind from 1 to 10 or from 16 to 24",
+        "use a kind from 1 to 10 or from 16 to 26",
     ),
     rule_of(
         3,
@@ -174,5 +174,11 @@ pub const RULES: &[Rule] = &[
         "this byte of the table is wrong: constants and variables take 0, operators and elements \
          1 to 200, and all other bytes are fixed",
         "make the table again with 'hub times'",
+    ),
+    rule_of(
+        22,
+        Counts::Nodes,
+        "this exit has no loop around it, or a parallel statement stands between it and that loop",
+        "put the exit into the loop that it is to end",
     ),
 ];

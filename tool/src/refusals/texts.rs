@@ -11,6 +11,7 @@ pub fn of_word(mut report: Report, text: &[u8]) -> Report {
     let place = report.refusal.place;
     // The place of a text that is too long is the most that one may have.
     let long = text.len() > place && place == TEXT;
+    let word = source::word_at(text, place);
     let (rule, remedy) = match text.get(place).copied() {
         _ if long => ("a text has at most 4,096 bytes", "make it shorter"),
         Some(b'x') => ("this is no variable", "use x0 to x15"),
@@ -23,6 +24,10 @@ pub fn of_word(mut report: Report, text: &[u8]) -> Report {
             "this is a tab or a carriage return",
             "separate words by spaces and line feeds",
         ),
+        _ if matches!(&text[word.start..word.end], b"loop" | b"exit") => (
+            "texts have no word for loop and exit",
+            "write the program as an outline of nodes, which has them",
+        ),
         _ => (
             "this is no word of the language",
             "use ok tick if then else while do repeat until end, x0 to x15, numbers \
@@ -34,7 +39,7 @@ pub fn of_word(mut report: Report, text: &[u8]) -> Report {
     if long {
         report.found = Some(format!("{} bytes", text.len()));
     }
-    report.marks = vec![Mark::new(text, source::word_at(text, place), "")];
+    report.marks = vec![Mark::new(text, word, "")];
     report
 }
 

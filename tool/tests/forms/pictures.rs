@@ -182,7 +182,9 @@ fn drawn(circuit: &Circuit) -> usize {
     let cells = &circuit.netlist.cells;
     let idle = cells.iter().filter(|cell| is_idle(cell)).count();
     let busy = || cells.iter().filter(|cell| !is_idle(cell));
-    let taken = |wire: u16| busy().any(|cell| hub::kinds::inputs(cell).contains(&wire));
+    let finish = circuit.netlist.finish;
+    let taken =
+        |wire| wire == finish || busy().any(|cell| hub::kinds::inputs(cell).contains(&wire));
     cells.len() - idle - [1, 2].into_iter().filter(|wire| !taken(*wire)).count()
 }
 

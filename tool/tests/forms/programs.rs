@@ -42,7 +42,7 @@ fn examples_with(end: &str) -> Vec<(String, String)> {
     files.iter().map(|file| (name(file), text(file))).collect()
 }
 
-/// The programs that can be texts: those without arrays.
+/// The programs that can be texts: those without arrays and exits.
 pub fn texts() -> Vec<Vec<u8>> {
     let mut programs = programs();
     programs.retain(|program| hub::format::has_text(&product::nodes(program)));
@@ -63,7 +63,8 @@ pub fn programs() -> Vec<Vec<u8>> {
     examples.chain(outlines).chain(generated).collect()
 }
 
-/// A program that a number stands for; of two numbers one has arrays.
+/// A program that a number stands for; of two numbers one has arrays, and loops
+/// that exits end.
 fn generated(seed: u64) -> Vec<u8> {
     let mut source = Source {
         chance: Chance(seed * 2 + 1),
@@ -72,7 +73,13 @@ fn generated(seed: u64) -> Vec<u8> {
     let size = 1 + source.chance.below(40);
     let variables: Vec<u16> = (0..16).collect();
     let arrays: Vec<u16> = (0..4 * (seed as u16 % 2)).collect();
-    source.statement(size, Stores(&variables, &arrays));
+    let scope = Scope {
+        variables: &variables,
+        arrays: &arrays,
+        loops: seed % 2 == 1,
+        inside: false,
+    };
+    source.statement(size, scope);
     source.nodes.truncate(MOST);
     let program = product::program_bytes(&source.nodes);
     product::check(None, &program).unwrap_or_else(|met| panic!("program {seed}: {met}"));
@@ -97,16 +104,29 @@ struct Source {
     nodes: Vec<Node>,
 }
 
-/// The variables and the arrays that a part may use.
+/// The variables and the arrays that a part may use, whether it may have loops
+/// that exits end, and whether it stands in one.
 #[derive(Clone, Copy)]
-struct Stores<'s>(&'s [u16], &'s [u16]);
+struct Scope<'s> {
+    variables: &'s [u16],
+    arrays: &'s [u16],
+    loops: bool,
+    inside: bool,
+}
 
-impl Stores<'_> {
-    /// A half for each of two sides, which share nothing.
-    fn halves(&self) -> (Stores<'_>, Stores<'_>) {
-        let (left, right) = self.0.split_at(self.0.len() / 2);
-        let (first, second) = self.1.split_at(self.1.len() / 2);
-        (Stores(left, first), Stores(right, second))
+impl<'s> Scope<'s> {
+    /// A half for each of two sides, which share nothing and have no exit of a
+    /// loop around both.
+    fn sides(&self) -> (Scope<'s>, Scope<'s>) {
+        let variables = self.variables.split_at(self.variables.len() / 2);
+        let arrays = self.arrays.split_at(self.arrays.len() / 2);
+        let side = |variables, arrays| Scope {
+            variables,
+            arrays,
+            inside: false,
+            ..*self
+        };
+        (side(variables.0, arrays.0), side(variables.1, arrays.1))
     }
 }
 
@@ -120,58 +140,64 @@ impl Source {
     }
 
     /// A statement of about so many statements, in these variables and arrays.
-    fn statement(&mut self, size: usize, stores: Stores) {
-        if size <= 1 || stores.0.len() < 2 || self.nodes.len() > MOST / 2 {
-            return self.single(stores);
+    fn statement(&mut self, size: usize, scope: Scope) {
+        if size <= 1 || scope.variables.len() < 2 || self.nodes.len() > MOST / 2 {
+            return self.single(scope);
         }
         let part = 1 + self.chance.below(size - 1);
-        match self.chance.below(6) {
+        match self.chance.below(if scope.loops { 8 } else { 6 }) {
             0 | 1 => {
                 self.put(19, 0, 0);
-                self.statement(part, stores);
-                self.statement(size - part, stores);
+                self.statement(part, scope);
+                self.statement(size - part, scope);
             }
             2 => {
                 self.put(20, 0, 0);
-                let (left, right) = stores.halves();
+                let (left, right) = scope.sides();
                 self.statement(part, left);
                 self.statement(size - part, right);
             }
             3 => {
-                self.delayed(21, 0, 1, stores);
-                self.statement(part, stores);
-                self.statement(size - part, stores);
+                self.delayed(21, 0, 1, scope);
+                self.statement(part, scope);
+                self.statement(size - part, scope);
             }
-            kind => {
-                self.delayed(18 + kind as u8, 0, 1, stores);
-                self.statement(size - 1, stores);
+            kind @ (4 | 5) => {
+                self.delayed(18 + kind as u8, 0, 1, scope);
+                self.statement(size - 1, scope);
+            }
+            _ => {
+                self.delayed(25, 0, 0, scope);
+                let inside = true;
+                self.statement(size - 1, Scope { inside, ..scope });
             }
         }
     }
 
-    fn single(&mut self, stores: Stores) {
-        match self.chance.below(5) {
+    fn single(&mut self, scope: Scope) {
+        match self.chance.below(if scope.inside { 8 } else { 5 }) {
+            5.. => self.put(26, 0, 0),
             0 => self.put(16, 0, 0),
             1 => {
                 let delay = 1 + self.chance.below(255);
                 self.put(17, delay as u8, 0);
             }
-            2 if !stores.1.is_empty() => {
-                let array = self.one_of(stores.1);
-                self.delayed(24, array, 2, stores);
+            2 if !scope.arrays.is_empty() => {
+                let array = self.one_of(scope.arrays);
+                self.delayed(24, array, 2, scope);
             }
             _ => {
-                let variable = self.one_of(stores.0);
-                self.delayed(18, variable, 1, stores);
+                let variable = self.one_of(scope.variables);
+                self.delayed(18, variable, 1, scope);
             }
         }
     }
 
     /// A node with a delay and its expressions.
-    fn delayed(&mut self, kind: u8, n: u16, expressions: usize, stores: Stores) {
+    fn delayed(&mut self, kind: u8, n: u16, expressions: usize, scope: Scope) {
         let at = self.nodes.len();
         self.put(kind, 255, n);
-        let times = (0..expressions).map(|_| self.expression(3, stores));
+        let times = (0..expressions).map(|_| self.expression(3, scope));
         let time = times.max().unwrap_or(0);
         let more = self.chance.below(4);
         let least = time.max(usize::from(kind != 21));
@@ -179,7 +205,7 @@ impl Source {
     }
 
     /// An expression of at most this depth, and its time.
-    fn expression(&mut self, depth: usize, stores: Stores) -> usize {
+    fn expression(&mut self, depth: usize, scope: Scope) -> usize {
         let kind = if depth == 0 { 0 } else { self.chance.below(10) };
         match kind {
             0 => {
@@ -188,25 +214,25 @@ impl Source {
                 0
             }
             1 => {
-                let variable = self.one_of(stores.0);
+                let variable = self.one_of(scope.variables);
                 self.put(2, 0, variable);
                 0
             }
             2 => {
                 self.put(3, 0, 0);
-                1 + self.expression(depth - 1, stores)
+                1 + self.expression(depth - 1, scope)
             }
-            9 if stores.1.is_empty() => self.expression(depth - 1, stores),
+            9 if scope.arrays.is_empty() => self.expression(depth - 1, scope),
             9 => {
-                let array = self.one_of(stores.1);
+                let array = self.one_of(scope.arrays);
                 self.put(10, 0, array);
-                4 + self.expression(depth - 1, stores)
+                4 + self.expression(depth - 1, scope)
             }
             operator => {
                 let times = [16, 17, 1, 1, 6, 17];
                 self.put(1 + operator as u8, 0, 0);
-                let left = self.expression(depth - 1, stores);
-                let right = self.expression(depth - 1, stores);
+                let left = self.expression(depth - 1, scope);
+                let right = self.expression(depth - 1, scope);
                 times[operator - 3] + left.max(right)
             }
         }
@@ -217,7 +243,7 @@ impl Source {
 #[test]
 fn every_kind_is_among_the_programs() {
     let programs = programs();
-    for kind in (1..=10).chain(16..=24) {
+    for kind in (1..=10).chain(16..=26) {
         let has = |program: &&Vec<u8>| product::nodes(program).iter().any(|n| n.kind == kind);
         assert!(programs.iter().filter(has).count() > 20, "kind {kind}");
     }

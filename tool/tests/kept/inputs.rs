@@ -26,6 +26,8 @@ const TEXTS: &[(&str, &str)] = &[
     ("twice.hub", "if x0 @1 then ok else ok end\nok\n"),
     ("empty.hub", ""),
     ("open.hub", "while 1 @1 do ok end\n"),
+    ("loop.hub", "loop @1 do exit end\n"),
+    ("exit.hub", "while 1 @1 do exit end\n"),
 ];
 
 /// Lists of cells and outlines, by name.
@@ -87,6 +89,24 @@ const LINES: &[(&str, &str)] = &[
         "assign x0 @9\n  kind 10 delay 1 n 0\n    constant 0\n",
     ),
     (
+        "loose.outline",
+        "sequence\n  loop @1\n    exit\n  while @1\n    variable x0\n    exit\n",
+    ),
+    (
+        "between.outline",
+        "loop @1\n  loop @2\n    parallel\n      loop @3\n        exit\n      \
+         parallel\n        tick @1\n        sequence\n          exit\n          ok\n",
+    ),
+    ("round.outline", "loop @0\n  exit\n"),
+    ("dead.outline", "loop @2\n  sequence\n    exit\n    tick @0\n"),
+    ("late.outline", "loop @2\n  kind 26 delay 1 n 0\n"),
+    ("endless.outline", "loop @3\n  loop @1\n    sequence\n      tick @2\n      exit\n"),
+    (
+        "three.outline",
+        "loop @2\n  if @0\n    variable x0\n    exit\n    if @0\n      variable x1\n      exit\n      \
+         if @0\n        variable x2\n        exit\n        assign x2 @1\n          constant 1\n",
+    ),
+    (
         "word.outline",
         "sequence\n  ok\n  assign x1\n    constant 1\n",
     ),
@@ -103,6 +123,13 @@ const PROGRAMS: &[(&str, &[[u8; 3]])] = &[
     ("short.prog", &[[19, 0, 0], [16, 0, 0]]),
     ("left.prog", &[[16, 0, 0], [16, 0, 0]]),
     ("small.prog", &[[22, 0, 0], [1, 0, 1], [16, 0, 0]]),
+    ("round.prog", &[[25, 0, 0], [26, 0, 0]]),
+    ("loose.prog", &[[26, 0, 0]]),
+    ("number.prog", &[[25, 1, 0], [26, 0, 1]]),
+    (
+        "between.prog",
+        &[[25, 1, 0], [20, 0, 0], [16, 0, 0], [26, 0, 0]],
+    ),
     (
         "sides.prog",
         &[[20, 0, 0], [18, 1, 1], [1, 0, 1], [18, 1, 2], [2, 0, 1]],

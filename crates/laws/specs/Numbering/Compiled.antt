@@ -8,30 +8,25 @@ use native.Mathlib.Nat.{zero-add, add-zero, not-suc-le-zero, le-of-suc-le-suc}
 use native.Mathlib.Omega.{arith}
 use lib.Dec.{eqb}
 use lib.ListN.{length, getD}
-use Rattle.model.specs.Program.{Stmt, ok, tick, assign, assignElem, seq, par, ite, while, repeat, arrayVar}
+use Rattle.model.specs.Program.{Stmt, ok, tick, assign, assignElem, seq, par, ite, while, repeat, loop, exit, arrayVar}
 use Rattle.model.specs.Circuit.{cell}
-use Rattle.model.specs.Numbering.{arrayCell, exprCount, exprWire, exprCells, ifDelayCount, ifPulse, ifDelayCells, delayCount, walkCount, finishWire, delays, walk, clockSources, dataSources, addressSources, Source, wiresOf}
-use Rattle.model.specs.Numbering.{orChain, orChainOut, ors, orsOut, orCount, orsFrom, outsFrom, orCountFrom, memoriesOf, arraysOf, netlist, finish}
+use Rattle.model.specs.Numbering.{arrayCell, exprCount, exprWire, exprCells, ifDelayCount, ifPulse, ifDelayCells, delayCount, walkCount, exitsAt, finishWire, loopExits, delays, walk, clockSources, dataSources, addressSources, Source, wiresOf}
+use Rattle.model.specs.Numbering.{ors, orCount, orsFrom, outsFrom, orCountFrom, memoriesOf, arraysOf, netlist, finish}
 use Rattle.model.specs.Numbering.{clockAt, memoryAt, arraysAt, walkAt, dataAt, addressAt, clockWires, dataWires, addressWires}
 use Rattle.model.specs.Circuit.{control, cellAt, memories, cellTable, shape}
 use Rattle.laws.specs.Numbering.Cells.{All, all-of, all-at, split, join}
-use Rattle.laws.specs.Numbering.Lengths.{e-len, d-len, w-len, own-len}
+use Rattle.laws.specs.Numbering.Lengths.{e-len, ors-len, d-len, w-len, own-len}
 use Rattle.laws.specs.Program.Fit.{Formed, Low}
-use Rattle.laws.specs.Numbering.Parts.{ors-len, outs-len, net-length, delayCells, clockOrs, walkCells, dataOrs, addressOrs, Laid, lay, unlay}
+use Rattle.laws.specs.Numbering.Parts.{outs-len, net-length, delayCells, clockOrs, walkCells, dataOrs, addressOrs, Laid, lay, unlay}
 use Rattle.laws.specs.Numbering.Arrays.{arrays-at, past-is, sixteen, arrays-stand}
 use Rattle.laws.specs.Numbering.Count.{nodes, size}
 use Rattle.laws.specs.Circuit.Ordered.{word, In, kinds}
 use Rattle.laws.specs.NetlistFile.Uses.{looks-keeps}
-use Rattle.laws.specs.Numbering.Valid.{Ok, HasKind, p-ok}
+use Rattle.laws.specs.Numbering.Valid.{Ok, HasKind, Every, ors-ok, p-ok}
 use Rattle.model.specs.Word.{pick}
 use Rattle.model.specs.declared.Checked.the-variants.{Accepted}
 use Rattle.model.specs.NetlistFile.{ofArray, stands, placed, cellFault, netCheck, countWrong, blocksFor}
 use Rattle.laws.specs.Refusals.Laws.{faultless}
-
--- Q holds of each wire
-abbrev Every : (ℕ → Type 0) → List ℕ → Type 0
-Every Q [] = Unit {0}
-Every Q (w ∷ ws) = Q w × Every Q ws
 
 abbrev EveryWire : (ℕ → Type 0) → List Source → Type 0
 EveryWire Q [] = Unit {0}
@@ -75,6 +70,8 @@ module _ (K : ℕ → ℕ) where
       (clocks-ok Q (p + 1) (dP + delayCount P) (cP + walkCount P) lim (omega arith) (r .1))
   clocks-ok (while δ e P) s d c lim l h = clocks-ok P (c + exprCount e) (d + 1) (c + exprCount e + 1 + 1) lim (omega arith) (h .1)
   clocks-ok (repeat δ e P) s d c lim l h = clocks-ok P (c + exprCount e + 1 + 1) (d + 1) (c + exprCount e + 1 + 1 + 1) lim (omega arith) (h .1)
+  clocks-ok (loop δ P) s d c lim l h = clocks-ok P c (d + 1) (c + 1) lim (omega arith) (h .1)
+  clocks-ok exit s d c lim l h = tt
 
   datas-ok : (M : ℕ) (P : Stmt) (s d c lim : ℕ) → c + walkCount P ≤ lim → All (HasKind K) c (walk M P s d c)
       → EveryWire (In word K lim) (dataSources P c) × EveryWire (In word K lim) (addressSources P c)
@@ -141,24 +138,14 @@ module _ (K : ℕ → ℕ) where
       let cP = p + 1 + 1 + 1 in
       let re = split (HasKind K) c (exprCount e) (exprCells M e c) (cell 36 0 d (exprWire M e c) ∷ (cell 37 0 d (exprWire M e c) ∷ (cell 35 0 s (p + 1) ∷ walk M P (p + 1 + 1) (d + 1) cP))) (e-len M e c) h in
       datas-ok M P (p + 1 + 1) (d + 1) cP lim (omega arith) (re .1 .1 .1 .1)
+  datas-ok M (loop δ P) s d c lim l h =
+      let r = split (HasKind K) (c + 1) (walkCount P) (walk M P c (d + 1) (c + 1)) (ors 35 (exitsAt P c) (loopExits P d c)) (w-len M P c (d + 1) (c + 1)) (h .1) in
+      datas-ok M P c (d + 1) (c + 1) lim (omega arith) (r .0)
+  datas-ok M exit s d c lim l h = (tt, tt)
 
   -- ors of a kind over wires of a sort, all of them below lim
   module _ (n kind : ℕ) (sort : ℕ → Bool) (this : sort kind ≡ true)
       (mk : (k a b : ℕ) → In sort K k a → In sort K k b → Ok K n k (cell kind 0 a b)) (lim : ℕ) where
-    chain-ok : (acc c : ℕ) (ws : List ℕ) → lim ≤ c → In sort K c acc → Every (In sort K lim) ws → All (HasKind K) c (orChain kind acc c ws)
-        → All (Ok K n) c (orChain kind acc c ws) × In sort K (c + length ws) (orChainOut acc c ws)
-    unfolding orChain orChainOut
-    chain-ok acc c [] l i e h = (tt, (omega arith, i .1))
-    chain-ok acc c (w ∷ ws) l i e h =
-        let r = chain-ok c (c + 1) ws (omega arith) (omega arith, rw (h .0) this) (e .1) (h .1) in
-        ((mk c acc w i (omega arith, e .0 .1), r .0), (omega arith, r .1 .1))
-
-    ors-ok : (zip c : ℕ) (ws : List ℕ) → lim ≤ c → In sort K lim zip → Every (In sort K lim) ws → All (HasKind K) c (ors kind c ws)
-        → All (Ok K n) c (ors kind c ws) × In sort K (c + orCount ws) (orsOut zip c ws)
-    unfolding ors orsOut orCount
-    ors-ok zip c [] l z e h = (tt, (omega arith, z .1))
-    ors-ok zip c (w ∷ ws) l z e h = chain-ok w c ws l (omega arith, e .0 .1) (e .1) h
-
     orsFrom-ok : (zip : ℕ) (ws : List Source) (c x j top : ℕ) → lim ≤ c → c + orCountFrom ws x j ≤ top → In sort K lim zip → EveryWire (In sort K lim) ws
         → All (HasKind K) c (orsFrom kind ws c x j)
         → All (Ok K n) c (orsFrom kind ws c x j) × Every (In sort K top) (outsFrom zip ws c x j)
@@ -169,7 +156,7 @@ module _ (K : ℕ → ℕ) where
         let k = orCount (wiresOf x ws) in
         let rest = orsFrom kind ws (c + k) (x + 1) j in
         let r = split (HasKind K) c k here rest (ors-len kind c (wiresOf x ws)) h in
-        let i = ors-ok zip c (wiresOf x ws) l z (wires-every (In sort K lim) x ws e) (r .0) in
+        let i = ors-ok K n kind sort this mk lim zip c (wiresOf x ws) l z (wires-every (In sort K lim) x ws e) (r .0) in
         let i′ = orsFrom-ok zip ws (c + k) (x + 1) j top (omega arith) (omega arith) z e (r .1) in
         (join (Ok K n) c k here rest (ors-len kind c (wiresOf x ws)) (i .0) (i′ .0), ((omega arith, i .1 .1), i′ .1))
 
@@ -234,7 +221,8 @@ module _ (P : Stmt) (w : Formed P) (z : Low P) where
 
   body : All (Ok K n) 3 (delayCells P) × All (Ok K n) (walkAt P) (walkCells P) × In control K (walkAt P + walkCount P) (finishWire P 0 3 (walkAt P))
   body =
-      p-ok K n (memoryAt P) mem arr P w z 0 3 (walkAt P) start-ok (omega arith) (omega arith) (omega (arith, total)) (has .at-delays) (has .at-walk)
+      let r = p-ok K n (memoryAt P) mem arr (has .at-ground) P w z 0 3 (walkAt P) start-ok (omega arith) (omega arith) (omega (arith, total)) (has .at-delays) (has .at-walk) in
+      (r .0, r .1, r .2)
 
   clockParts : All (Ok K n) (clockAt P) (clockOrs P) × Every (In control K (memoryAt P)) (clockWires P)
   unfolding control shape cellTable stands

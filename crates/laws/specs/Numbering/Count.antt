@@ -8,8 +8,8 @@ use native.Mathlib.Omega.{arith}
 use lib.Dec.{eqb, eqb→eq}
 use lib.ListN.{length, length-append}
 use Rattle.model.specs.Word.{pick}
-use Rattle.model.specs.Program.{Expr, const, var, compl, op, elem, Stmt, ok, tick, assign, assignElem, seq, par, ite, while, repeat}
-use Rattle.model.specs.Numbering.{exprCount, ifDelayCount, delayCount, walkCount, clockSources, dataSources, addressSources, Source, wiresOf, orCount, orCountFrom, netlist}
+use Rattle.model.specs.Program.{Expr, const, var, compl, op, elem, Stmt, ok, tick, assign, assignElem, seq, par, ite, while, repeat, loop, exit}
+use Rattle.model.specs.Numbering.{exprCount, ifDelayCount, delayCount, exitCount, walkCount, clockSources, dataSources, addressSources, Source, wiresOf, orCount, orCountFrom, netlist}
 use Rattle.model.specs.Numbering.{walkAt}
 use Rattle.laws.specs.Refusals.Laws.{is-false}
 use Rattle.laws.specs.Numbering.Parts.{net-length}
@@ -31,6 +31,8 @@ nodes (par P Q) = 1 + nodes P + nodes Q
 nodes (ite δ e P Q) = 1 + eNodes e + nodes P + nodes Q
 nodes (while δ e P) = 1 + eNodes e + nodes P
 nodes (repeat δ e P) = 1 + eNodes e + nodes P
+nodes (loop δ P) = 1 + nodes P
+nodes exit = 1
 
 e-count : (e : Expr) → (exprCount e ≤ eNodes e) × (1 ≤ eNodes e)
 unfolding exprCount eNodes
@@ -45,10 +47,11 @@ unfolding ifDelayCount
 own-count zero = omega arith
 own-count (suc δ) = omega arith
 
--- delay cells, walk cells and an or of each sort for each assignment
+-- delay cells, walk cells and an or of each sort for each assignment; an exit that ends a loop around P will need at most one or, and counts as
+-- a cell already
 count : (P : Stmt) (d c : ℕ)
-    → delayCount P + walkCount P + length (clockSources P d) + length (dataSources P c) + length (addressSources P c) ≤ 3 * nodes P
-unfolding delayCount walkCount clockSources dataSources addressSources nodes
+    → delayCount P + walkCount P + exitCount P + length (clockSources P d) + length (dataSources P c) + length (addressSources P c) ≤ 3 * nodes P
+unfolding delayCount exitCount walkCount clockSources dataSources addressSources nodes
 count ok d c = omega arith
 count (tick δ) d c = omega arith
 count (assign δ x e) d c = let h = e-count e in omega arith
@@ -64,6 +67,8 @@ count (ite δ e P Q) d c =
     omega arith)
 count (while δ e P) d c = let h = count P (d + 1) (c + exprCount e + 1 + 1) in let he = e-count e in omega arith
 count (repeat δ e P) d c = let h = count P (d + 1) (c + exprCount e + 1 + 1 + 1) in let he = e-count e in omega arith
+count (loop δ P) d c = let h = count P (d + 1) (c + 1) in omega arith
+count exit d c = omega arith
 
 -- the ors of variables x and on are no more than the wires
 nOrs-le : (ws : List ℕ) → orCount ws ≤ length ws

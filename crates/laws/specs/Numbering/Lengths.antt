@@ -1,11 +1,12 @@
--- How many cells an expression, the delays and the walk of a statement are.
+-- How many cells an expression, ors, the delays and the walk of a statement are.
 -- Assumes nothing.
-use mathlib.Core.Path.{_≡_, refl}
-use Prim.Native.Nat.{ℕ, zero, suc, _+_}
+use mathlib.Core.Path.{_≡_, refl, ap, _∙_}
+use mathlib.Core.List.{List, [], _∷_}
+use Prim.Native.Nat.{ℕ, zero, suc, _+_, _-_}
 use native.Mathlib.Omega.{arith}
 use lib.ListN.{length, length-append}
-use Rattle.model.specs.Program.{Expr, const, var, compl, op, elem, Stmt, ok, tick, assign, assignElem, seq, par, ite, while, repeat}
-use Rattle.model.specs.Numbering.{exprCount, exprCells, ifDelayCount, ifDelayCells, delayCount, walkCount, finishWire, delays, walk}
+use Rattle.model.specs.Program.{Expr, const, var, compl, op, elem, Stmt, ok, tick, assign, assignElem, seq, par, ite, while, repeat, loop, exit}
+use Rattle.model.specs.Numbering.{exprCount, exprCells, ifDelayCount, ifDelayCells, orChain, ors, orCount, delayCount, exitCount, walkCount, exitsAt, finishWire, exitWires, delays, walk}
 
 pub e-len : (M : ℕ) (e : Expr) (c : ℕ) → length (exprCells M e c) ≡ exprCount e
 unfolding exprCells exprCount
@@ -14,6 +15,16 @@ e-len M (var x) c = refl
 e-len M (compl e) c = simp (length-append, e-len M e c) (omega arith)
 e-len M (op k e f) c = simp (length-append, e-len M e c, e-len M f (c + exprCount e)) (omega arith)
 e-len M (elem k e) c = simp (length-append, e-len M e c) (omega arith)
+
+pub chain-len : (kind acc n : ℕ) (ws : List ℕ) → length (orChain kind acc n ws) ≡ length ws
+unfolding orChain
+chain-len kind acc n [] = refl
+chain-len kind acc n (w ∷ ws) = ap suc (chain-len kind n (n + 1) ws)
+
+pub ors-len : (kind n : ℕ) (ws : List ℕ) → length (ors kind n ws) ≡ orCount ws
+unfolding ors orCount
+ors-len kind n [] = refl
+ors-len kind n (w ∷ ws) = chain-len kind w n ws
 
 pub own-len : (δ s : ℕ) → length (ifDelayCells δ s) ≡ ifDelayCount δ
 unfolding ifDelayCells ifDelayCount
@@ -37,6 +48,36 @@ d-len (ite δ e P Q) s d c =
     )
 d-len (while δ e P) s d c = rw (d-len P (c + exprCount e) (d + 1) (c + exprCount e + 1 + 1)) (omega arith)
 d-len (repeat δ e P) s d c = rw (d-len P (c + exprCount e + 1 + 1) (d + 1) (c + exprCount e + 1 + 1 + 1)) (omega arith)
+d-len (loop δ P) s d c = rw (d-len P c (d + 1) (c + 1)) (omega arith)
+d-len exit s d c = refl
+
+-- the exits, and the ors that join them
+pub x-len : (P : Stmt) (s d c : ℕ) → length (exitWires P s d c) ≡ exitCount P
+unfolding exitWires exitCount
+x-len ok s d c = refl
+x-len (tick δ) s d c = refl
+x-len (assign δ x e) s d c = refl
+x-len (assignElem δ k i e) s d c = refl
+x-len (seq P Q) s d c = simp (length-append, x-len P s d c, x-len Q (finishWire P s d c) (d + delayCount P) (c + walkCount P))
+x-len (par P Q) s d c = simp (length-append, x-len P s d c, x-len Q s (d + delayCount P) (c + walkCount P))
+x-len (ite δ e P Q) s d c =
+    simp (
+      length-append,
+      x-len P (c + exprCount e) (d + ifDelayCount δ) (c + exprCount e + 1 + 1),
+      x-len Q (c + exprCount e + 1) (d + ifDelayCount δ + delayCount P) (c + exprCount e + 1 + 1 + walkCount P),
+    )
+x-len (while δ e P) s d c = x-len P (c + exprCount e) (d + 1) (c + exprCount e + 1 + 1)
+x-len (repeat δ e P) s d c = x-len P (c + exprCount e + 1 + 1) (d + 1) (c + exprCount e + 1 + 1 + 1)
+x-len (loop δ P) s d c = refl
+x-len exit s d c = refl
+
+pub or-count : (ws : List ℕ) → orCount ws ≡ length ws - 1
+unfolding orCount
+or-count [] = refl
+or-count (w ∷ ws) = omega arith
+
+pub exit-ors : (P : Stmt) (s d c : ℕ) → orCount (exitWires P s d c) ≡ exitCount P - 1
+exit-ors P s d c = or-count (exitWires P s d c) ∙ ap (λ (k : ℕ). k - 1) (x-len P s d c)
 
 pub w-len : (M : ℕ) (P : Stmt) (s d c : ℕ) → length (walk M P s d c) ≡ walkCount P
 unfolding walk walkCount
@@ -56,3 +97,6 @@ w-len M (ite δ e P Q) s d c =
     (omega arith)
 w-len M (while δ e P) s d c = simp (length-append, e-len, w-len M P (c + exprCount e) (d + 1) (c + exprCount e + 1 + 1)) (omega arith)
 w-len M (repeat δ e P) s d c = simp (length-append, e-len, w-len M P (c + exprCount e + 1 + 1) (d + 1) (c + exprCount e + 1 + 1 + 1)) (omega arith)
+w-len M (loop δ P) s d c =
+    simp (length-append, w-len M P c (d + 1) (c + 1), ors-len 35 (exitsAt P c) (exitWires P c (d + 1) (c + 1)), exit-ors P c (d + 1) (c + 1)) (omega arith)
+w-len M exit s d c = refl

@@ -9,10 +9,10 @@ use lib.Dec.{eqb}
 use borrow.Author.Tests.{ne-eqb, not-true}
 use Rattle.model.specs.declared.Cell.{Cell}
 use Rattle.model.specs.Word.{bit}
-use Rattle.model.specs.Program.{Expr, const, var, compl, op, elem, Stmt, ok, tick, assign, assignElem, seq, par, ite, while, repeat}
+use Rattle.model.specs.Program.{Expr, const, var, compl, op, elem, Stmt, ok, tick, assign, assignElem, seq, par, ite, while, repeat, loop, exit}
 use Rattle.model.specs.Circuit.{memories}
 use Rattle.model.specs.NetlistFile.{ofArray}
-use Rattle.model.specs.Numbering.{exprCount, exprCells, ifDelayCount, ifDelayCells, delayCount, walkCount, finishWire, delays, walk, Source, wiresOf}
+use Rattle.model.specs.Numbering.{exprCount, exprCells, ifDelayCount, ifDelayCells, delayCount, walkCount, exitsAt, finishWire, exitWires, delays, walk, Source, wiresOf}
 use Rattle.model.specs.Numbering.{orChain, ors, orCount, orsFrom, memoriesOf}
 use Rattle.laws.specs.Refusals.Laws.{and-true, or-false}
 use Rattle.laws.specs.Program.Fit.{FormedExpr, Formed}
@@ -72,6 +72,8 @@ delays-plain (ite δ e P Q) s d c =
     )
 delays-plain (while δ e P) s d c = rw (delays-plain P (c + exprCount e) (d + 1) (c + exprCount e + 1 + 1))
 delays-plain (repeat δ e P) s d c = rw (delays-plain P (c + exprCount e + 1 + 1) (d + 1) (c + exprCount e + 1 + 1 + 1))
+delays-plain (loop δ P) s d c = rw (delays-plain P c (d + 1) (c + 1))
+delays-plain exit s d c = refl
 
 module _ (kind : ℕ) (other : plainKind kind ≡ true) where
   chain-plain : (acc n : ℕ) (ws : List ℕ) → plain (orChain kind acc n ws) ≡ true
@@ -104,7 +106,7 @@ e-plain M (op k e f) w c = simp (plain-append, e-plain M e (w .2) c, e-plain M f
 e-plain M (elem k e) w c = simp (plain-append, e-plain M e (w .1) c)
 
 pub walk-plain : (M : ℕ) (P : Stmt) → Formed P → (s d c : ℕ) → plain (walk M P s d c) ≡ true
-unfolding plain walk
+unfolding plain plainKind walk
 walk-plain M ok w s d c = refl
 walk-plain M (tick δ) w s d c = refl
 walk-plain M (assign δ x e) w s d c = simp (plain-append, e-plain M e (w .2) c)
@@ -123,6 +125,8 @@ walk-plain M (while δ e P) w s d c =
     simp (plain-append, e-plain M e (w .1) c, walk-plain M P (w .2) (c + exprCount e) (d + 1) (c + exprCount e + 1 + 1))
 walk-plain M (repeat δ e P) w s d c =
     simp (plain-append, e-plain M e (w .1) c, walk-plain M P (w .2) (c + exprCount e + 1 + 1) (d + 1) (c + exprCount e + 1 + 1 + 1))
+walk-plain M (loop δ P) w s d c = simp (plain-append, walk-plain M P (w .1) c (d + 1) (c + 1), ors-plain 35 refl (exitsAt P c) (exitWires P c (d + 1) (c + 1)))
+walk-plain M exit w s d c = refl
 
 -- ---- memories
 

@@ -1,6 +1,6 @@
 -- The parts of a netlist: what holds of each cell holds of each cell of each part, where it stands; and the reverse.
 use mathlib.Core.Path.{_≡_, refl, ap, ap₂, _∙_}
-use mathlib.Core.List.{List, [], _∷_, _++_}
+use mathlib.Core.List.{List, _++_}
 use Prim.Native.Nat.{ℕ, zero, suc, _+_, _*_}
 use native.Mathlib.Omega.{arith}
 use lib.ListN.{length, length-append}
@@ -8,22 +8,12 @@ use Rattle.model.specs.Program.{Stmt}
 use Rattle.model.specs.declared.Cell.{Cell}
 use Rattle.model.specs.Circuit.{cell}
 use Rattle.model.specs.Numbering.{delayCount, walkCount, delays, walk, clockSources, dataSources, addressSources, Source, wiresOf}
-use Rattle.model.specs.Numbering.{orChain, ors, orCount, orsFrom, outsFrom, orCountFrom, memoriesOf, arraysOf, netlist}
+use Rattle.model.specs.Numbering.{ors, orCount, orsFrom, outsFrom, orCountFrom, memoriesOf, arraysOf, netlist}
 use Rattle.model.specs.Numbering.{clockAt, memoryAt, arraysAt, walkAt, dataAt, addressAt, clockWires, dataWires, addressWires}
 use Rattle.laws.specs.Numbering.Cells.{All, split, join}
-use Rattle.laws.specs.Numbering.Lengths.{d-len, w-len}
+use Rattle.laws.specs.Numbering.Lengths.{ors-len, d-len, w-len}
 
 -- ---- lengths
-
-pub chain-len : (kind acc n : ℕ) (ws : List ℕ) → length (orChain kind acc n ws) ≡ length ws
-unfolding orChain
-chain-len kind acc n [] = refl
-chain-len kind acc n (w ∷ ws) = ap suc (chain-len kind n (n + 1) ws)
-
-pub ors-len : (kind n : ℕ) (ws : List ℕ) → length (ors kind n ws) ≡ orCount ws
-unfolding ors orCount
-ors-len kind n [] = refl
-ors-len kind n (w ∷ ws) = chain-len kind w n ws
 
 pub orsFrom-len : (kind : ℕ) (ws : List Source) (n x j : ℕ) → length (orsFrom kind ws n x j) ≡ orCountFrom ws x j
 unfolding orsFrom orCountFrom

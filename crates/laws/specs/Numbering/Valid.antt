@@ -1,20 +1,22 @@
--- The rules of a cell, sorts of wires included, and that each cell of a compiled netlist keeps them.
+-- The rules of a cell, sorts of wires included, and that each cell of a compiled netlist keeps them; a statement's finish and the starts of its
+-- exits are control wires below its end.
 use mathlib.Core.Path.{_≡_, refl, ap}
 use borrow.Author.Tests.{ne-eqb}
-use mathlib.Core.Bool.{true, false}
-use mathlib.Core.List.{[], _∷_, _++_}
-use Prim.Native.Nat.{ℕ, zero, suc, _+_, _<_, _≤_}
+use mathlib.Core.Bool.{Bool, true, false}
+use mathlib.Core.List.{List, [], _∷_, _++_}
+use Prim.Native.Nat.{ℕ, zero, suc, _+_, _-_, _<_, _≤_}
 use native.Mathlib.Omega.{arith}
-use Rattle.model.specs.Program.{Expr, const, var, compl, op, elem, Stmt, ok, tick, assign, assignElem, seq, par, ite, while, repeat}
+use lib.ListN.{length}
+use Rattle.model.specs.Program.{Expr, const, var, compl, op, elem, Stmt, ok, tick, assign, assignElem, seq, par, ite, while, repeat, loop, exit}
 use Rattle.model.specs.declared.Cell.{Cell}
 use Rattle.model.specs.Circuit.{cell}
-use Rattle.model.specs.Numbering.{arrayCell, exprCount, exprWire, exprCells, ifDelayCount, ifPulse, ifDelayCells, delayCount, walkCount, finishWire, delays, walk}
+use Rattle.model.specs.Numbering.{arrayCell, exprCount, exprWire, exprCells, ifDelayCount, ifPulse, ifDelayCells, orChain, orChainOut, ors, orsOut, orCount, delayCount, exitCount, walkCount, exitsAt, finishWire, exitWires, delays, walk}
 use Rattle.model.specs.Circuit.{control, Shape, cellTable, shape, cellRow}
 use Rattle.model.specs.NetlistFile.{ofArray, stands}
 use Rattle.laws.specs.Numbering.Cells.{All, split, join}
 use Rattle.laws.specs.Circuit.Ordered.{word, In, Looks}
 use Rattle.laws.specs.Circuit.Shapes.{operator-shape}
-use Rattle.laws.specs.Numbering.Lengths.{e-len, d-len, w-len, own-len}
+use Rattle.laws.specs.Numbering.Lengths.{e-len, d-len, w-len, own-len, exit-ors}
 use Rattle.laws.specs.Program.Fit.{FormedExpr, Formed, Low}
 
 -- cell k of n, which is c, keeps the rules of its kind
@@ -36,7 +38,38 @@ unfolding stands cellTable
 op-ok K n k i a b h h′ p q =
     (rw (ne-eqb k 32 (λ e. omega arith), ne-eqb k 33 (λ e. omega arith)) refl, rw (cellRow, operator-shape k h h′) (refl, p, q))
 
-module _ (K : ℕ → ℕ) (n M : ℕ) (mem : (x : ℕ) → x < 16 → K (M + x) ≡ 40) (arr : (k : ℕ) → k < 4 → K (arrayCell M k) ≡ 42) where
+-- Q holds of each wire
+abbrev pub Every : (ℕ → Type 0) → List ℕ → Type 0
+Every Q [] = Unit {0}
+Every Q (w ∷ ws) = Q w × Every Q ws
+
+every-append : (Q : ℕ → Type 0) (us vs : List ℕ) → Every Q us → Every Q vs → Every Q (us ++ vs)
+every-append Q [] vs h h′ = h′
+every-append Q (u ∷ us) vs h h′ = (h .0, every-append Q us vs (h .1) h′)
+
+-- wires below a are below b
+widen : (K : ℕ → ℕ) (a b : ℕ) → a ≤ b → (ws : List ℕ) → Every (In control K a) ws → Every (In control K b) ws
+widen K a b o [] h = tt
+widen K a b o (w ∷ ws) h = ((omega arith, h .0 .1), widen K a b o ws (h .1))
+
+-- ors of a kind over wires of a sort, all of them below lim
+module _ (K : ℕ → ℕ) (n kind : ℕ) (sort : ℕ → Bool) (this : sort kind ≡ true)
+    (mk : (k a b : ℕ) → In sort K k a → In sort K k b → Ok K n k (cell kind 0 a b)) (lim : ℕ) where
+  chain-ok : (acc c : ℕ) (ws : List ℕ) → lim ≤ c → In sort K c acc → Every (In sort K lim) ws → All (HasKind K) c (orChain kind acc c ws)
+      → All (Ok K n) c (orChain kind acc c ws) × In sort K (c + length ws) (orChainOut acc c ws)
+  unfolding orChain orChainOut
+  chain-ok acc c [] l i e h = (tt, (omega arith, i .1))
+  chain-ok acc c (w ∷ ws) l i e h =
+      let r = chain-ok c (c + 1) ws (omega arith) (omega arith, rw (h .0) this) (e .1) (h .1) in
+      ((mk c acc w i (omega arith, e .0 .1), r .0), (omega arith, r .1 .1))
+
+  pub ors-ok : (zip c : ℕ) (ws : List ℕ) → lim ≤ c → In sort K lim zip → Every (In sort K lim) ws → All (HasKind K) c (ors kind c ws)
+      → All (Ok K n) c (ors kind c ws) × In sort K (c + orCount ws) (orsOut zip c ws)
+  unfolding ors orsOut orCount
+  ors-ok zip c [] l z e h = (tt, (omega arith, z .1))
+  ors-ok zip c (w ∷ ws) l z e h = chain-ok w c ws l (omega arith, e .0 .1) (e .1) h
+
+module _ (K : ℕ → ℕ) (n M : ℕ) (mem : (x : ℕ) → x < 16 → K (M + x) ≡ 40) (arr : (k : ℕ) → k < 4 → K (arrayCell M k) ≡ 42) (ground : K 1 ≡ 33) where
   -- an expression's cells, and its wire
   e-ok : (e : Expr) → FormedExpr e → (c : ℕ) → M + 24 ≤ c → All (HasKind K) c (exprCells M e c)
       → All (Ok K n) c (exprCells M e c) × In word K (c + exprCount e) (exprWire M e c)
@@ -75,13 +108,14 @@ module _ (K : ℕ → ℕ) (n M : ℕ) (mem : (x : ℕ) → x < 16 → K (M + x)
   pulse-ok zero s d c z i l l′ h = (tt, i)
   pulse-ok (suc δ) s d c z i l l′ h = (((refl, ((omega arith, z), (omega arith, i .1), refl)), tt), (omega arith, rw (h .0)))
 
-  -- a statement's cells and its finish
+  -- a statement's cells, its finish and the starts of its exits
   pub p-ok : (P : Stmt) → Formed P → Low P → (s d c : ℕ) → In control K c s → M + 24 ≤ c → d + delayCount P ≤ c → c + walkCount P ≤ n
       → All (HasKind K) d (delays P s d c) → All (HasKind K) c (walk M P s d c)
       → All (Ok K n) d (delays P s d c) × All (Ok K n) c (walk M P s d c) × In control K (c + walkCount P) (finishWire P s d c)
-  unfolding delays walk finishWire delayCount walkCount shape cellTable stands control
-  p-ok ok w z s d c i lM ld lc hd hw = (tt, tt, (omega arith, i .1))
-  p-ok (tick δ) w z s d c i lM ld lc hd hw = (((refl, ((z .0, z .1), (omega arith, i .1), refl)), tt), tt, (omega arith, rw (hd .0)))
+      × Every (In control K (c + walkCount P)) (exitWires P s d c)
+  unfolding delays walk finishWire exitWires delayCount walkCount shape cellTable stands control
+  p-ok ok w z s d c i lM ld lc hd hw = (tt, tt, (omega arith, i .1), tt)
+  p-ok (tick δ) w z s d c i lM ld lc hd hw = (((refl, ((z .0, z .1), (omega arith, i .1), refl)), tt), tt, (omega arith, rw (hd .0)), tt)
   p-ok (assign δ x e) w z s d c i lM ld lc hd hw =
       let o = cell 41 0 d (exprWire M e c) in
       let r = split (HasKind K) c (exprCount e) (exprCells M e c) (o ∷ []) (e-len M e c) hw in
@@ -89,6 +123,7 @@ module _ (K : ℕ → ℕ) (n M : ℕ) (mem : (x : ℕ) → x < 16 → K (M + x)
         ((refl, ((z .0 .0, z .0 .1), (omega arith, i .1), refl)), ((refl, ((omega arith, omega arith), (omega arith, rw (hd .0)), refl)), tt)),
         join (Ok K n) c (exprCount e) (exprCells M e c) (o ∷ []) (e-len M e c) (ie .0) ((refl, (refl, (omega arith, rw (hd .0)), ie .1)), tt),
         (omega arith, rw (hd .1 .0)),
+        tt,
       )
   p-ok (assignElem δ k u e) w z s d c i lM ld lc hd hw =
       let ce = c + exprCount u in
@@ -105,6 +140,7 @@ module _ (K : ℕ → ℕ) (n M : ℕ) (mem : (x : ℕ) → x < 16 → K (M + x)
               ((refl, (refl, (omega arith, rw (hd .0)), (omega arith, iu .1 .1))), tt),
             )),
         (omega arith, rw (hd .1 .0)),
+        tt,
       )
   p-ok (seq P Q) w z s d c i lM ld lc hd hw =
       let g = finishWire P s d c in
@@ -117,6 +153,9 @@ module _ (K : ℕ → ℕ) (n M : ℕ) (mem : (x : ℕ) → x < 16 → K (M + x)
         join (Ok K n) d (delayCount P) (delays P s d c) (delays Q g dQ cQ) (d-len P s d c) (iP .0) (iQ .0),
         join (Ok K n) c (walkCount P) (walk M P s d c) (walk M Q g dQ cQ) (w-len M P s d c) (iP .1) (iQ .1),
         (omega arith, iQ .2 .1),
+        every-append (In control K (c + (walkCount P + walkCount Q))) (exitWires P s d c) (exitWires Q g dQ cQ)
+            (widen K (c + walkCount P) (c + (walkCount P + walkCount Q)) (omega arith) (exitWires P s d c) (iP .3))
+            (widen K (cQ + walkCount Q) (c + (walkCount P + walkCount Q)) (omega arith) (exitWires Q g dQ cQ) (iQ .3)),
       )
   p-ok (par P Q) w z s d c i lM ld lc hd hw =
       let dQ = d + delayCount P in
@@ -131,6 +170,9 @@ module _ (K : ℕ → ℕ) (n M : ℕ) (mem : (x : ℕ) → x < 16 → K (M + x)
         join (Ok K n) c (walkCount P) (walk M P s d c) (walk M Q s dQ cQ ++ (o ∷ [])) (w-len M P s d c) (iP .1)
             (join (Ok K n) cQ (walkCount Q) (walk M Q s dQ cQ) (o ∷ []) (w-len M Q s dQ cQ) (iQ .1) ((refl, (refl, (omega arith, iP .2 .1), iQ .2)), tt)),
         (omega arith, rw (rm .1 .0)),
+        every-append (In control K (c + (walkCount P + (walkCount Q + 1)))) (exitWires P s d c) (exitWires Q s dQ cQ)
+            (widen K (c + walkCount P) (c + (walkCount P + (walkCount Q + 1))) (omega arith) (exitWires P s d c) (iP .3))
+            (widen K (cQ + walkCount Q) (c + (walkCount P + (walkCount Q + 1))) (omega arith) (exitWires Q s dQ cQ) (iQ .3)),
       )
   p-ok (ite δ e P Q) w z s d c i lM ld lc hd hw =
       let p = c + exprCount e in
@@ -161,6 +203,9 @@ module _ (K : ℕ → ℕ) (n M : ℕ) (mem : (x : ℕ) → x < 16 → K (M + x)
           ),
         ),
         (omega arith, rw (rQ .1 .0)),
+        every-append (In control K (c + (exprCount e + (2 + (walkCount P + (walkCount Q + 1)))))) (exitWires P p dP cP) (exitWires Q (p + 1) dQ cQ)
+            (widen K (cP + walkCount P) (c + (exprCount e + (2 + (walkCount P + (walkCount Q + 1))))) (omega arith) (exitWires P p dP cP) (iP .3))
+            (widen K (cQ + walkCount Q) (c + (exprCount e + (2 + (walkCount P + (walkCount Q + 1))))) (omega arith) (exitWires Q (p + 1) dQ cQ) (iQ .3)),
       )
   p-ok (while δ e P) w z s d c i lM ld lc hd hw =
       let p = c + exprCount e in
@@ -181,6 +226,7 @@ module _ (K : ℕ → ℕ) (n M : ℕ) (mem : (x : ℕ) → x < 16 → K (M + x)
           ),
         ),
         (omega arith, rw (re .1 .1 .0)),
+        widen K (cP + walkCount P) (c + (exprCount e + (2 + (walkCount P + 1)))) (omega arith) (exitWires P p (d + 1) cP) (iP .3),
       )
   p-ok (repeat δ e P) w z s d c i lM ld lc hd hw =
       let p = c + exprCount e in
@@ -200,4 +246,21 @@ module _ (K : ℕ → ℕ) (n M : ℕ) (mem : (x : ℕ) → x < 16 → K (M + x)
           ),
         ),
         (omega arith, rw (re .1 .0)),
+        widen K (cP + walkCount P) (c + (exprCount e + (3 + walkCount P))) (omega arith) (exitWires P (p + 1 + 1) (d + 1) cP) (iP .3),
       )
+  p-ok (loop δ P) w z s d c i lM ld lc hd hw =
+      let xs = exitWires P c (d + 1) (c + 1) in
+      let k = exitsAt P c in
+      let count : orCount xs ≡ exitCount P - 1 = exit-ors P c (d + 1) (c + 1) in
+      let rP = split (HasKind K) (c + 1) (walkCount P) (walk M P c (d + 1) (c + 1)) (ors 35 k xs) (w-len M P c (d + 1) (c + 1)) (hw .1) in
+      let iP = p-ok P (w .1) (z .1) c (d + 1) (c + 1) (omega arith, rw (hw .0)) (omega arith) (omega arith) (omega arith) (hd .1) (rP .0) in
+      let io = ors-ok K n 35 control refl (λ k a b i j. (refl, (refl, i, j))) k 1 k xs (omega arith) (omega arith, rw ground) (iP .3) (rP .1) in (
+        ((refl, ((z .0 .0, z .0 .1), (omega arith, iP .2 .1), refl)), iP .0),
+        (
+          (refl, (refl, (omega arith, i .1), (omega arith, rw (hd .0)))),
+          join (Ok K n) (c + 1) (walkCount P) (walk M P c (d + 1) (c + 1)) (ors 35 k xs) (w-len M P c (d + 1) (c + 1)) (iP .1) (io .0),
+        ),
+        (omega arith, io .1 .1),
+        tt,
+      )
+  p-ok exit w z s d c i lM ld lc hd hw = (tt, tt, (omega arith, rw ground), ((omega arith, i .1), tt))

@@ -13,7 +13,7 @@ use Rattle.model.specs.declared.Node.{Node}
 use Rattle.model.specs.declared.Checked.the-variants.{Accepted}
 use Rattle.model.specs.declared.Options.{Options}
 use Rattle.model.specs.Word.{pick}
-use Rattle.model.specs.Program.{Expr, Stmt, ok, tick, assign, assignElem, seq, par, ite, while, repeat, Tree, expr, stmt, asExpr, asStmt, exprOf, stmtOf, treeOf, stmtAt, nodeAt, rowOf, programOf, timeIn, least, arrayVar, writes, touches, conflict, conflicts, nodeFault}
+use Rattle.model.specs.Program.{Expr, Stmt, ok, tick, assign, assignElem, seq, par, ite, while, repeat, loop, exit, Tree, expr, stmt, asExpr, asStmt, exprOf, stmtOf, treeOf, stmtAt, nodeAt, rowOf, programOf, timeIn, least, arrayVar, writes, touches, conflict, conflicts, nodeFault}
 use Rattle.model.specs.Calls.{checkCall}
 use Rattle.laws.specs.Program.Fit.{FormedExpr, Formed, Timed, Apart, Separate, Fit}
 use Rattle.laws.specs.Program.Trees.{root-has}
@@ -76,6 +76,8 @@ written-low (par P Q) w x e = or-cases (writes P x) (writes Q x) e (written-low 
 written-low (ite d e′ P Q) w x e = or-cases (writes P x) (writes Q x) e (written-low P (w .2) x) (written-low Q (w .3) x)
 written-low (while d e′ P) w x e = written-low P (w .2) x e
 written-low (repeat d e′ P) w x e = written-low P (w .2) x e
+written-low (loop d P) w x e = written-low P (w .1) x e
+written-low exit w x e = let z : _≡_ {A = ℕ} 0 1 = cc in absurd (omega arith)
 
 no-clash : (n : ℕ) (P Q : Stmt) → conflict n P Q ≡ false → (x : ℕ) → x < n
     → ((writes P x && touches Q x) ≡ false) × ((writes Q x && touches P x) ≡ false)
@@ -150,7 +152,10 @@ module _ (τ : ℕ → ℕ) (a : Node) (f : nodeFault a ≡ 0) where
       (λ n. by-test Fits (eqb (a .kind) 24) _ _
       (λ t h c.
       record { formed = (tt, named-array a f 24 (eqb-true _ _ t) refl, w, v); timed = (omega arith, tt, tt, tt); separate = (tt, tt, tt, tt) })
-      (λ n h c. record { formed = (tt, w, p .formed); timed = (omega arith, tt, p .timed); separate = (tt, tt, p .separate) }))))))))
+      (λ n. by-test Fits (eqb (a .kind) 25) _ _
+      (λ t h c. record { formed = (tt, o .formed); timed = (h, o .timed); separate = (tt, o .separate) })
+      (λ n. by-test Fits (eqb (a .kind) 26) _ _ (λ t h c. record { formed = tt; timed = tt; separate = tt })
+      (λ n h c. record { formed = (tt, w, p .formed); timed = (omega arith, tt, p .timed); separate = (tt, tt, p .separate) }))))))))))
 
   fit-tree : (x y z : Tree) → FitT x → FitT y → FitT z
       → least τ (asStmt (treeOf a x y z)) ≤ a .delay → conflicts (asStmt (treeOf a x y z)) ≡ false → FitT (treeOf a x y z)

@@ -1,9 +1,9 @@
 -- What acceptance leaves of a tree: variables and operators that exist, delays that are long enough, parallel sides that are apart.
 -- Facts about programs alone; the rules and the circuit both rest on them. Assumes nothing: definitions.
 use mathlib.Core.Path.{_≡_}
-use mathlib.Core.Bool.{true, false}
+use mathlib.Core.Bool.{Bool, true, false, _||_}
 use Prim.Native.Nat.{ℕ, _<_, _≤_}
-use Rattle.model.specs.Program.{Expr, const, var, compl, op, elem, Stmt, ok, tick, assign, assignElem, seq, par, ite, while, repeat, writes, touches}
+use Rattle.model.specs.Program.{Expr, const, var, compl, op, elem, Stmt, ok, tick, assign, assignElem, seq, par, ite, while, repeat, loop, exit, writes, touches}
 
 -- what is asked of the delays, variables, arrays and expressions in a statement, and of the sides of a parallel
 pub record Asks : Type 1 where
@@ -26,6 +26,8 @@ Everywhere a (par P Q) = Everywhere a P × Everywhere a Q × a .sides P Q
 Everywhere a (ite d e P Q) = a .ifDelay d × a .expr e × Everywhere a P × Everywhere a Q
 Everywhere a (while d e P) = a .loopDelay d × a .expr e × Everywhere a P
 Everywhere a (repeat d e P) = a .loopDelay d × a .expr e × Everywhere a P
+Everywhere a (loop d P) = a .loopDelay d × Everywhere a P
+Everywhere a exit = Unit {0}
 
 -- nothing is asked of a piece
 abbrev pub free : {A : Type 0} → A → Type 0
@@ -72,6 +74,25 @@ Apart P Q = (x : ℕ) → writes P x ≡ true → touches Q x ≡ false
 -- sides of a parallel that are apart, either way
 abbrev pub Separate : Stmt → Type 0
 Separate = Everywhere (record { delay = free; ifDelay = free; loopDelay = free; variable = free; array = free; expr = free; sides = λ P Q. Apart P Q × Apart Q P })
+
+-- an exit of P ends a loop around P
+unfoldable pub exits : Stmt → Bool
+exits ok = false
+exits (tick d) = false
+exits (assign d x e) = false
+exits (assignElem d k i e) = false
+exits (seq P Q) = exits P || exits Q
+exits (par P Q) = exits P || exits Q
+exits (ite d e P Q) = exits P || exits Q
+exits (while d e P) = exits P
+exits (repeat d e P) = exits P
+exits (loop d P) = false
+exits exit = true
+
+-- sides of a parallel of which no exit ends a loop around it: what refusal 22 leaves, which is a test of a whole program and not of one node,
+-- and so stands beside Fit
+abbrev pub Inside : Stmt → Type 0
+Inside = Everywhere (record { delay = free; ifDelay = free; loopDelay = free; variable = free; array = free; expr = free; sides = λ P Q. (exits P ≡ false) × (exits Q ≡ false) })
 
 pub record Fit (P : Stmt) : Type 0 where
   pub formed : Formed P

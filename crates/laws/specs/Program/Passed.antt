@@ -6,17 +6,17 @@ use mathlib.Core.List.{List, [], _∷_, _++_, append-nil}
 use Prim.Native.Nat.{ℕ, zero, suc, _+_, _-_, _≤_, _<_}
 use native.Mathlib.Omega.{arith}
 use native.Mathlib.Numerals.{add-one}
-use lib.ListN.{length, getD, take, drop}
+use lib.ListN.{length, length-append, getD, take, drop}
 use lib.Dec.{ltb, eqb}
 use borrow.Author.Tests.{lt-ltb, ltb-false}
 use Rattle.model.specs.declared.Checked.the-variants.{Accepted}
 use Rattle.model.specs.declared.Options.{Options}
 use Rattle.model.specs.Refusals.{refuse, first}
-use Rattle.model.specs.Program.{Tree, stmt, nodeAt, nodeCount, nodesAt, rowOf, none, asStmt, treesAt, stmtAt, programOf, timeIn, least, conflicts, programLengthWrong, nodeFault, children, reading, delayFault, conflictFault, programChecks, checkOf, preorder}
+use Rattle.model.specs.Program.{Tree, stmt, nodeAt, nodeCount, nodesAt, rowOf, none, asStmt, treesAt, stmtAt, programOf, timeIn, least, conflicts, programLengthWrong, nodeFault, children, reading, looseIn, delayFault, conflictFault, programChecks, checkOf, preorder}
 use Rattle.model.specs.Calls.{checkCall}
 use Rattle.laws.specs.Refusals.Laws.{not-refused, pick-true, or-false, all-accept, accept-take, refuse-unless, fault-unless, no-fault}
-use Rattle.laws.specs.Program.Trees.{nodes-step, treeAt, each-at}
-use Rattle.laws.specs.Program.Preorder.{allNodes, sortsOf, KnownT}
+use Rattle.laws.specs.Program.Trees.{nodes-step, length-nodes, trees-cons, treeAt, each-at}
+use Rattle.laws.specs.Program.Preorder.{nodesOf, allNodes, sortsOf, KnownT}
 use Rattle.laws.specs.Program.Grows.{sorted}
 use Rattle.laws.specs.Program.Whole.{Whole, whole}
 
@@ -28,9 +28,10 @@ pub record Readable (s : List ℕ) : Type 0 where
   pub faultless : (j : ℕ) → j < nodeCount s → nodeFault (nodeAt s j) ≡ 0
   pub read : reading (2 ∷ []) 0 (nodesAt s 0) ≡ Accepted
 
--- refusals 1 to 8, with operator times τ
+-- refusals 1 to 8 and 22, with operator times τ
 pub record Passed (τ : ℕ → ℕ) (s : List ℕ) : Type 0 where
   pub readable : Readable s
+  pub enclosed : looseIn false (programOf s) 0 ≡ Accepted
   pub slowless : (j : ℕ) → j < nodeCount s → least τ (stmtAt s j) ≤ nodeAt s j .delay
   pub clashless : (j : ℕ) → j < nodeCount s → conflicts (stmtAt s j) ≡ false
 
@@ -55,10 +56,11 @@ module _ (τ : ℕ → ℕ) (s : List ℕ) where
       let a = all-accept (programChecks τ s) e in
       record {
         readable = readable (accept-take 3 (programChecks τ s) e);
+        enclosed = a 3;
         slowless = λ j l.
             let slow = ltb (nodeAt s j .delay) (least τ (stmtAt s j)) in
-            ltb-false _ _ (fault-unless slow 7 (omega arith) (no-fault (delayFault τ s) (nodeCount s) (a 3) j l));
-        clashless = λ j l. fault-unless (conflicts (stmtAt s j)) 8 (omega arith) (no-fault (conflictFault s) (nodeCount s) (a 4) j l);
+            ltb-false _ _ (fault-unless slow 7 (omega arith) (no-fault (delayFault τ s) (nodeCount s) (a 4) j l));
+        clashless = λ j l. fault-unless (conflicts (stmtAt s j)) 8 (omega arith) (no-fault (conflictFault s) (nodeCount s) (a 5) j l);
       }
 
 -- of a program that is accepted with some table, under that table's times
@@ -112,15 +114,31 @@ module _ (s : List ℕ) (R : Readable s) where
   pub program-nodes : preorder (programOf s) ≡ nodesAt s 0
   program-nodes = sym (append-nil (preorder (programOf s))) ∙ sym (ap allNodes program-tree) ∙ nodes-at 0 (omega arith)
 
+  -- behind a node stand its children, of the sorts of its kind
+  pub children-at : (i : ℕ) → i < nodeCount s → (ws : List ℕ) × (sortsOf (treesAt s (i + 1)) ≡ children (nodeAt s i .kind) ++ ws)
+  unfolding treesAt
+  children-at i h =
+      let r = reading-at i (omega arith) in
+      let n = reading-next s i (r .0) h (r .1) in
+      (n .0, whole-from (i + 1) _ (omega arith) (n .1) .sorts)
+
+  -- node j, behind the tree of node i, is as many nodes on as that tree has
+  pub past-tree : (i j : ℕ) → i < nodeCount s → j ≤ nodeCount s → treesAt s j ≡ drop 1 (treesAt s i) → j ≡ i + length (nodesOf (treeAt s i))
+  past-tree i j h l e =
+      let tree = nodesOf (treeAt s i) in
+      let from-i : length (tree ++ allNodes (treesAt s j)) ≡ nodeCount s - i =
+      ap (λ (ts : List Tree). length (tree ++ allNodes ts)) e ∙ sym (ap (λ (ts : List Tree). length (allNodes ts)) (trees-cons s i h (nodeAt s i) refl))
+      ∙ ap length (nodes-at i (omega arith)) ∙ length-nodes s i (nodeCount s - i) in
+      let from-j : length (allNodes (treesAt s j)) ≡ nodeCount s - j = ap length (nodes-at j l) ∙ length-nodes s j (nodeCount s - j) in
+      omega (arith, length-append tree (allNodes (treesAt s j)), from-i, from-j)
+
   -- both sides of a parallel node are statements
   pub par-sides : (i : ℕ) → i < nodeCount s → nodeAt s i .kind ≡ 20 → (j : ℕ) → treesAt s j ≡ drop 1 (treesAt s (i + 1))
       → (treeAt s (i + 1) ≡ stmt (stmtAt s (i + 1))) × (treeAt s j ≡ stmt (stmtAt s j))
   unfolding treesAt stmtAt asStmt children rowOf
   par-sides i h k j ej =
-      let r = reading-at i (omega arith) in
-      let n = reading-next s i (r .0) h (r .1) in
-      let w = whole-from (i + 1) _ (omega arith) (n .1) in
+      let c = children-at i h in
       rw (ap (λ (ts : List Tree). getD ts 0 none) ej)
       (sorted (2 ∷ 2 ∷ [])
       (λ (l : List Tree) (ws : List ℕ). (getD l 0 none ≡ stmt (asStmt (getD l 0 none))) × (getD (drop 1 l) 0 none ≡ stmt (asStmt (getD (drop 1 l) 0 none))))
-      (λ P Q us. (refl, refl)) (treesAt s (i + 1)) (n .0) (w .sorts ∙ ap (λ (k : ℕ). children k ++ n .0) k))
+      (λ P Q us. (refl, refl)) (treesAt s (i + 1)) (c .0) (c .1 ∙ ap (λ (k : ℕ). children k ++ c .0) k))

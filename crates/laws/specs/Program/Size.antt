@@ -9,7 +9,7 @@ use lib.ListN.{length, length-append}
 use Rattle.model.specs.declared.Node.{Node}
 use Rattle.model.specs.declared.Checked.the-variants.{Accepted}
 use Rattle.model.specs.declared.Options.{Options}
-use Rattle.model.specs.Program.{Expr, const, var, compl, op, elem, Stmt, ok, tick, assign, assignElem, seq, par, ite, while, repeat, Tree, asExpr, asStmt, stmtOf, treeOf, stmtAt, nodeCount, nodeAt, programOf, preorderE, preorder}
+use Rattle.model.specs.Program.{Expr, const, var, compl, op, elem, Stmt, ok, tick, assign, assignElem, seq, par, ite, while, repeat, loop, exit, Tree, asExpr, asStmt, stmtOf, treeOf, stmtAt, nodeCount, nodeAt, programOf, preorderE, preorder}
 use Rattle.model.specs.Calls.{checkCall}
 use Rattle.model.specs.Promises.{Bytes}
 use Rattle.laws.specs.Program.Fit.{Timed, Short, Low}
@@ -39,6 +39,8 @@ stmt-nodes (par P Q) = simp length-append (omega (arith, stmt-nodes P, stmt-node
 stmt-nodes (ite d e P Q) = simp length-append (omega (arith, expr-nodes e, stmt-nodes P, stmt-nodes Q))
 stmt-nodes (while d e P) = simp length-append (omega (arith, expr-nodes e, stmt-nodes P))
 stmt-nodes (repeat d e P) = simp length-append (omega (arith, expr-nodes e, stmt-nodes P))
+stmt-nodes (loop d P) = omega (arith, stmt-nodes P)
+stmt-nodes exit = refl
 
 pub all-nodes : (options : Options) (s : List ℕ) → checkCall options s ≡ Accepted → nodes (programOf s) ≡ nodeCount s
 all-nodes options s e =
@@ -59,7 +61,9 @@ short-stmt a e f O P Q h o p q =
     (by-pick Short (eqb (a .kind) 20) _ _ (o, p, tt)
     (by-pick Short (eqb (a .kind) 21) _ _ (h, tt, p, q)
     (by-pick Short (eqb (a .kind) 22) _ _ (h, tt, p)
-    (by-pick Short (eqb (a .kind) 24) _ _ (h, tt, tt, tt) (h, tt, p))))))))
+    (by-pick Short (eqb (a .kind) 24) _ _ (h, tt, tt, tt)
+    (by-pick Short (eqb (a .kind) 25) _ _ (h, o)
+    (by-pick Short (eqb (a .kind) 26) _ _ tt (h, tt, p))))))))))
 
 short-tree : (a : Node) (x y z : Tree) → a .delay ≤ 255 → Short (asStmt x) → Short (asStmt y) → Short (asStmt z) → Short (asStmt (treeOf a x y z))
 unfolding treeOf asStmt
@@ -75,6 +79,8 @@ low-of (par P Q) t h = (low-of P (t .0) (h .0), low-of Q (t .1) (h .1), tt)
 low-of (ite d e P Q) t h = (h .0, tt, low-of P (t .2) (h .2), low-of Q (t .3) (h .3))
 low-of (while d e P) t h = ((t .0, h .0), tt, low-of P (t .2) (h .2))
 low-of (repeat d e P) t h = ((t .0, h .0), tt, low-of P (t .2) (h .2))
+low-of (loop d P) t h = ((t .0, h .0), low-of P (t .1) (h .1))
+low-of exit t h = tt
 
 pub program-low : (options : Options) (s : List ℕ) → Bytes s → checkCall options s ≡ Accepted → Low (programOf s)
 unfolding stmtAt asStmt nodeAt

@@ -12,7 +12,7 @@ use lib.Dec.{T, ltb, eqb, ltb→lt}
 use borrow.Author.Tests.{lt-ltb, le-ltb, ne-eqb}
 use Rattle.model.specs.declared.Node.{Node}
 use Rattle.model.specs.Word.{pick}
-use Rattle.model.specs.Program.{const, var, compl, op, elem, ok, tick, assign, assignElem, seq, par, ite, while, repeat, Tree, node, nodeAt, nodeCount, nodesFrom, none, asExpr, asStmt, exprOf, stmtOf, treeOf, arity, grow, forest, treesAt, exprAt, stmtAt}
+use Rattle.model.specs.Program.{const, var, compl, op, elem, ok, tick, assign, assignElem, seq, par, ite, while, repeat, loop, exit, Tree, node, nodeAt, nodeCount, nodesFrom, none, asExpr, asStmt, exprOf, stmtOf, treeOf, arity, grow, forest, treesAt, exprAt, stmtAt}
 
 -- Nodes --------------------------------------------------------------------------------------------------------------------------------
 
@@ -98,6 +98,10 @@ module _ (s : List ℕ) (i : ℕ) (h : i < nodeCount s) (a : Node) (ea : a ≡ n
   unfolding treesAt forest
   trees-step = rw (nodes-step s i (nodeCount s) h, ← ea) refl
 
+  pub trees-cons : treesAt s i ≡ treeAt s i ∷ drop 1 (treesAt s i)
+  unfolding grow
+  trees-cons = subst (λ (ts : List Tree). ts ≡ getD ts 0 none ∷ drop 1 ts) (sym trees-step) refl
+
   pub tree-is : treeAt s i ≡ treeOf a (treeAt s (i + 1)) (getD (treesAt s (i + 1)) 1 none) (getD (treesAt s (i + 1)) 2 none)
   unfolding grow
   tree-is = ap (λ (ts : List Tree). getD ts 0 none) trees-step
@@ -145,6 +149,14 @@ module _ (s : List ℕ) (i : ℕ) (h : i < nodeCount s) (a : Node) (ea : a ≡ n
   unfolding stmtAt asStmt treeOf stmtOf exprAt
   at-assign e = ap asStmt (tree-of 18 e)
 
+  pub at-loop : a .kind ≡ 25 → stmtAt s i ≡ loop (a .delay) (stmtAt s (i + 1))
+  unfolding stmtAt asStmt treeOf stmtOf
+  at-loop e = ap asStmt (tree-of 25 e)
+
+  pub at-exit : a .kind ≡ 26 → stmtAt s i ≡ exit
+  unfolding stmtAt asStmt treeOf stmtOf
+  at-exit e = ap asStmt (tree-of 26 e)
+
   -- its second child is the tree of node j
   module _ (j : ℕ) (ej : treesAt s j ≡ drop 1 (treesAt s (i + 1))) where
     second-is : treeAt s j ≡ getD (treesAt s (i + 1)) 1 none
@@ -170,9 +182,9 @@ module _ (s : List ℕ) (i : ℕ) (h : i < nodeCount s) (a : Node) (ea : a ≡ n
     unfolding stmtAt asStmt treeOf stmtOf exprAt
     at-while e = ap asStmt (tree-of 22 e) ∙ rw second-is refl
 
-    pub at-repeat : 23 ≤ a .kind → (a .kind ≡ 24 → ⊥) → stmtAt s i ≡ repeat (a .delay) (exprAt s (i + 1)) (stmtAt s j)
+    pub at-repeat : 23 ≤ a .kind → (a .kind ≡ 24 → ⊥) → (a .kind ≡ 25 → ⊥) → (a .kind ≡ 26 → ⊥) → stmtAt s i ≡ repeat (a .delay) (exprAt s (i + 1)) (stmtAt s j)
     unfolding stmtAt asStmt treeOf stmtOf exprAt
-    at-repeat l n = ap asStmt tree-is ∙ rw (le-ltb _ _ high, no 16 tt, no 17 tt, no 18 tt, no 19 tt, no 20 tt, no 21 tt, no 22 tt, ne-eqb _ _ n, second-is) refl
+    at-repeat l p q r = ap asStmt tree-is ∙ rw (le-ltb _ _ high, no 16 tt, no 17 tt, no 18 tt, no 19 tt, no 20 tt, no 21 tt, no 22 tt, ne-eqb _ _ p, ne-eqb _ _ q, ne-eqb _ _ r, second-is) refl
       where
         high : 16 ≤ a .kind
         high = omega arith

@@ -1,16 +1,17 @@
--- What a statement reads and leaves alone, by the rules. Assumes nothing.
+-- What a statement reads and leaves alone, by the rules; and that one without exits ends or goes on. Assumes nothing.
 use Prim.Native.Nat.{ℕ, zero, suc, _-_}
 use mathlib.Core.Path.{_≡_, refl, sym, _∙_, ap, ap₂}
 use mathlib.Core.Bool.{Bool, true, false, _||_, or-true}
+use mathlib.Core.Logic.{⊎-elim}
 use lib.Dec.{eqb}
 use borrow.Author.Tests.{eq-eqb}
 use Rattle.model.specs.Word.{pick, operate, isZero, elementWord}
-use Rattle.model.specs.Program.{Expr, const, var, compl, op, elem, Stmt, ok, tick, assign, assignElem, seq, par, ite, while, repeat, arrayVar, reads, writes, touches}
-use Rattle.model.specs.Rules.{Store, Run, ended, chain, over, kept, whiles, repeats, run, owner, eval, put}
-use Rattle.laws.specs.Program.Fit.{FormedExpr, Formed, Apart}
-use Rattle.laws.specs.Refusals.Laws.{by-bool, or-false}
+use Rattle.model.specs.Program.{Expr, const, var, compl, op, elem, Stmt, ok, tick, assign, assignElem, seq, par, ite, while, repeat, loop, exit, arrayVar, reads, writes, touches}
+use Rattle.model.specs.Rules.{Store, Course, WhileLeaves, RepeatLeaves, Ends, Leaves, Way, atEnd, atExit, Run, done, ended, left, chain, over, kept, whiles, repeats, loops, run, owner, eval, put}
+use Rattle.laws.specs.Program.Fit.{FormedExpr, Formed, Apart, exits}
+use Rattle.laws.specs.Refusals.Laws.{by-bool, or-false, not-both}
 use Rattle.laws.specs.Rules.Words.{owner-variable, owner-element, other-variable, other-element}
-use Rattle.laws.specs.Rules.Laws.{Body, ended-words, ended-still, wait-ended, chain-ended, both-ended, whiles-stop, whiles-more, again, repeats-is, again-more, again-stop, ite-then, ite-else}
+use Rattle.laws.specs.Rules.Laws.{Body, done-way, done-words, done-still, not-way, wait-done, chain-done, both-done, caught-done, whiles-stop, whiles-more, again, repeats-is, again-more, again-stop, round, loops-is, round-is, ite-then, ite-else}
 
 -- An expression's value depends on what it reads
 pub eval-same : (e : Expr) → FormedExpr e → (σ τ : Store) → ((x : ℕ) → reads e (owner x) ≡ true → σ x ≡ τ x) → eval e σ ≡ eval e τ
@@ -27,79 +28,174 @@ eval-same (elem k e) w σ τ h =
     h x (ap (λ (z : Bool). z || reads e (owner x)) (eq-eqb (owner x) (arrayVar k) (owner-element k (eval e σ))))
     ∙ ap (λ (v : ℕ). τ (elementWord k v)) i
 
--- c leaves x alone, from σ
-abbrev Leaves : ℕ → (ℕ → Store → Run) → Type 0
-Leaves x c = (k t : ℕ) (σ σ′ : Store) → c k σ ≡ ended t σ′ → σ′ x ≡ σ x
+-- What a run comes to -------------------------------------------------------------------------------------------------------------------
 
-at-word : {t t′ : ℕ} {σ σ′ : Store} (x : ℕ) → ended t σ ≡ ended t′ σ′ → σ′ x ≡ σ x
-at-word x p = ap (λ (τ : Store). τ x) (sym (ended-words p))
+-- G holds of the words and the way in which c is done, from σ
+abbrev Comes : (Store → Way → Store → Type 0) → (ℕ → Store → Run) → Type 0
+Comes G c = (k : ℕ) (w : Way) (t : ℕ) (σ σ′ : Store) → c k σ ≡ done w t σ′ → G σ w σ′
 
-module _ (x : ℕ) (body : Body) (d : ℕ) (e : Expr) (h : Leaves x body) where
-  whiles-leaves : (n : ℕ) → Leaves x (whiles body d e n)
-  unfolding whiles
-  whiles-leaves zero k t σ σ′ p = ended-still (sym p)
-  whiles-leaves (suc n) k t σ σ′ p =
+-- G is kept by going on where another run ended
+module _ (G : Store → Way → Store → Type 0) (join : (σ σ₁ σ₂ : Store) (w : Way) → G σ atEnd σ₁ → G σ₁ w σ₂ → G σ w σ₂) (stay : (σ : Store) → G σ atEnd σ) where
+  stays : (σ : Store) {w : Way} {t t′ : ℕ} {σ₁ σ′ : Store} → σ₁ ≡ σ → ended t σ₁ ≡ done w t′ σ′ → G σ w σ′
+  stays σ e p = rw (← (done-way p), ← (done-words p), e) (stay σ)
+
+  chain-comes : (r : Run) (c : ℕ → Store → Run) {w : Way} {t : ℕ} (σ : Store) {σ′ : Store} → chain r c ≡ done w t σ′
+      → ((w : Way) (t : ℕ) (σ₁ : Store) → r ≡ done w t σ₁ → G σ w σ₁)
+      → ((t₁ : ℕ) (σ₁ : Store) (t₂ : ℕ) → c t₁ σ₁ ≡ done w t₂ σ′ → G σ₁ w σ′) → G σ w σ′
+  chain-comes r c {w} {t} σ {σ′} p h g =
+      chain-done r c p (λ t₁ σ₁ t₂ q q₁ q₂. join σ σ₁ σ′ w (h atEnd t₁ σ₁ q) (g t₁ σ₁ t₂ q₁)) (λ z q. rw z (h atExit t σ′ q))
+
+  module _ (body : Body) (d : ℕ) (h : Comes G body) where
+    whiles-comes : (e : Expr) (n : ℕ) → Comes G (whiles body d e n)
+    unfolding whiles
+    whiles-comes e zero k w t σ σ′ p = done-still (sym p)
+    whiles-comes e (suc n) k w t σ σ′ p =
+        by-bool (isZero (eval e σ))
+        (λ z. stays σ refl (wait-done d k (λ k₁. ended 0 σ) (sym (whiles-stop body d e n k σ z) ∙ p) .2))
+        (λ z.
+        let c : ℕ → ℕ → Store → Run = λ k₁ t σ₁. whiles body d e n (k₁ - t) σ₁ in
+        let v = wait-done d k (λ k₁. chain (body k₁ σ) (c k₁)) (sym (whiles-more body d e n k σ z) ∙ p) in
+        chain-comes (body (k - d) σ) (c (k - d)) σ (v .2) (λ w t σ₁ q. h (k - d) w t σ σ₁ q)
+        (λ t₁ σ₁ t₂ q. whiles-comes e n (k - d - t₁) w t₂ σ₁ σ′ q))
+
+    again-comes : (e : Expr) (n : ℕ) → Comes G (repeats body d e n) → Comes G (again body d e n)
+    again-comes e n ih k w t σ σ′ p =
+        by-bool (isZero (eval e σ))
+        (λ z. let v = wait-done d k (λ k₁. repeats body d e n k₁ σ) (sym (again-more body d e n k σ z) ∙ p) in ih (k - d) w (v .0) σ σ′ (v .2))
+        (λ z. stays σ refl (wait-done d k (λ k₁. ended 0 σ) (sym (again-stop body d e n k σ z) ∙ p) .2))
+
+    repeats-comes : (e : Expr) (n : ℕ) → Comes G (repeats body d e n)
+    unfolding repeats
+    repeats-comes e zero k w t σ σ′ p = done-still (sym p)
+    repeats-comes e (suc n) k w t σ σ′ p =
+        chain-comes (body k σ) (λ t σ₁. again body d e n (k - t) σ₁) σ (sym (repeats-is body d e n k σ) ∙ p) (λ w t σ₁ q. h k w t σ σ₁ q)
+        (λ t₁ σ₁ t₂ q. again-comes e n (repeats-comes e n) (k - t₁) w t₂ σ₁ σ′ q)
+
+    loops-comes : (n : ℕ) → Comes G (loops body d n)
+    unfolding loops
+    loops-comes zero k w t σ σ′ p = done-still (sym p)
+    loops-comes (suc n) k w t σ σ′ p =
+        chain-comes (body k σ) (λ t σ₁. round body d n (k - t) σ₁) σ (sym (loops-is body d n k σ) ∙ p) (λ w t σ₁ q. h k w t σ σ₁ q)
+        (λ t₁ σ₁ t₂ q.
+        let v = wait-done d (k - t₁) (λ k₁. loops body d n k₁ σ₁) (sym (round-is body d n (k - t₁) σ₁) ∙ q) in
+        loops-comes n (k - t₁ - d) w (v .0) σ₁ σ′ (v .2))
+
+  ite-comes : (d : ℕ) (e : Expr) (P Q : Stmt) → Comes G (λ k σ. run k P σ) → Comes G (λ k σ. run k Q σ) → Comes G (λ k σ. run k (ite d e P Q) σ)
+  ite-comes d e P Q h g k w t σ σ′ p =
       by-bool (isZero (eval e σ))
-      (λ z. at-word x (wait-ended d k (λ k₁. ended 0 σ) (sym (whiles-stop body d e n k σ z) ∙ p) .2))
-      (λ z.
-      let c : ℕ → ℕ → Store → Run = λ k₁ t σ₁. whiles body d e n (k₁ - t) σ₁ in
-      let w = wait-ended d k (λ k₁. chain (body k₁ σ) (c k₁)) (sym (whiles-more body d e n k σ z) ∙ p) in
-      let v = chain-ended (body (k - d) σ) (c (k - d)) (w .2) in
-      whiles-leaves n (k - d - v .0) (v .2) (v .1) σ′ (v .4) ∙ h (k - d) (v .0) σ (v .1) (v .3))
+      (λ z. let v = wait-done d k (λ k₁. run k₁ Q σ) (sym (ite-else k d e P Q σ z) ∙ p) in g (k - d) w (v .0) σ σ′ (v .2))
+      (λ z. let v = wait-done d k (λ k₁. run k₁ P σ) (sym (ite-then k d e P Q σ z) ∙ p) in h (k - d) w (v .0) σ σ′ (v .2))
 
-  again-leaves : (n : ℕ) → Leaves x (repeats body d e n) → Leaves x (again body d e n)
-  again-leaves n ih k t σ σ′ p =
-      by-bool (isZero (eval e σ))
-      (λ z. let w = wait-ended d k (λ k₁. repeats body d e n k₁ σ) (sym (again-more body d e n k σ z) ∙ p) in ih (k - d) (w .0) σ σ′ (w .2))
-      (λ z. at-word x (wait-ended d k (λ k₁. ended 0 σ) (sym (again-stop body d e n k σ z) ∙ p) .2))
+-- A word that is not written stays ------------------------------------------------------------------------------------------------------
 
-  repeats-leaves : (n : ℕ) → Leaves x (repeats body d e n)
-  unfolding repeats
-  repeats-leaves zero k t σ σ′ p = ended-still (sym p)
-  repeats-leaves (suc n) k t σ σ′ p =
-      let v = chain-ended (body k σ) (λ t σ₁. again body d e n (k - t) σ₁) (sym (repeats-is body d e n k σ) ∙ p) in
-      again-leaves n (repeats-leaves n) (k - v .0) (v .2) (v .1) σ′ (v .4) ∙ h k (v .0) σ (v .1) (v .3)
+abbrev Same : ℕ → Store → Way → Store → Type 0
+Same x σ w σ′ = σ′ x ≡ σ x
 
-ite-leaves : (x d : ℕ) (e : Expr) (P Q : Stmt) → Leaves x (λ k σ. run k P σ) → Leaves x (λ k σ. run k Q σ)
-    → Leaves x (λ k σ. run k (ite d e P Q) σ)
-ite-leaves x d e P Q h g k t σ σ′ p =
-    by-bool (isZero (eval e σ))
-    (λ z. let w = wait-ended d k (λ k₁. run k₁ Q σ) (sym (ite-else k d e P Q σ z) ∙ p) in g (k - d) (w .0) σ σ′ (w .2))
-    (λ z. let w = wait-ended d k (λ k₁. run k₁ P σ) (sym (ite-then k d e P Q σ z) ∙ p) in h (k - d) (w .0) σ σ′ (w .2))
-
-kept-leaves : (P Q : Stmt) (σ σ₁ σ₂ : Store) (x : ℕ) → writes P (owner x) ≡ false → writes Q (owner x) ≡ false → kept P Q σ σ₁ σ₂ x ≡ σ x
+kept-same : (P Q : Stmt) (σ σ₁ σ₂ : Store) (x : ℕ) → writes P (owner x) ≡ false → writes Q (owner x) ≡ false → kept P Q σ σ₁ σ₂ x ≡ σ x
 unfolding kept over
-kept-leaves P Q σ σ₁ σ₂ x p q = ap₂ (λ (b c : Bool). pick b (σ₁ x) (pick c (σ₂ x) (σ x))) p q
+kept-same P Q σ σ₁ σ₂ x p q = ap₂ (λ (b c : Bool). pick b (σ₁ x) (pick c (σ₂ x) (σ x))) p q
 
--- A word that is not written stays
-pub leaves : (P : Stmt) → Formed P → (x : ℕ) → writes P (owner x) ≡ false → Leaves x (λ k σ. run k P σ)
+same-join : (x : ℕ) (σ σ₁ σ₂ : Store) (w : Way) → Same x σ atEnd σ₁ → Same x σ₁ w σ₂ → Same x σ w σ₂
+same-join x σ σ₁ σ₂ w p q = q ∙ p
+
+at-word : {w w′ : Way} {t t′ : ℕ} {σ σ′ : Store} (x : ℕ) → done w t σ ≡ done w′ t′ σ′ → σ′ x ≡ σ x
+at-word x p = ap (λ (τ : Store). τ x) (sym (done-words p))
+
+pub unwritten : (P : Stmt) → Formed P → (x : ℕ) → writes P (owner x) ≡ false → Comes (Same x) (λ k σ. run k P σ)
 unfolding run writes put
-leaves ok f x w = λ k t σ σ′ p. at-word x p
-leaves (tick d) f x w = λ k t σ σ′ p. at-word x (wait-ended d k (λ k₁. ended 0 σ) p .2)
-leaves (assign d y e) f x w = λ k t σ σ′ p.
-    at-word x (wait-ended (suc d) k (λ k₁. ended 0 (put σ y (eval e σ))) p .2)
-    ∙ ap (λ (b : Bool). pick b (eval e σ) (σ x)) (other-variable x y (f .1) w)
-leaves (assignElem d j i e) f x w = λ k t σ σ′ p.
-    at-word x (wait-ended (suc d) k (λ k₁. ended 0 (put σ (elementWord j (eval i σ)) (eval e σ))) p .2)
-    ∙ ap (λ (b : Bool). pick b (eval e σ) (σ x)) (other-element x j (eval i σ) w)
-leaves (seq P Q) f x w = λ k t σ σ′ p.
-    let v = chain-ended (run k P σ) (λ t σ₁. run (k - t) Q σ₁) p in
-    leaves Q (f .1) x (or-false (writes P (owner x)) (writes Q (owner x)) w .1) (k - v .0) (v .2) (v .1) σ′ (v .4)
-    ∙ leaves P (f .0) x (or-false (writes P (owner x)) (writes Q (owner x)) w .0) k (v .0) σ (v .1) (v .3)
-leaves (par P Q) f x w = λ k t σ σ′ p.
-    let v = both-ended (kept P Q σ) (run k P σ) (run k Q σ) p in
-    ap (λ (τ : Store). τ x) (v .7)
-    ∙ kept-leaves P Q σ (v .1) (v .3) x (or-false (writes P (owner x)) (writes Q (owner x)) w .0) (or-false (writes P (owner x)) (writes Q (owner x)) w .1)
-leaves (ite d e P Q) f x w =
-    ite-leaves x d e P Q (leaves P (f .2) x (or-false (writes P (owner x)) (writes Q (owner x)) w .0)) (leaves Q (f .3) x (or-false (writes P (owner x)) (writes Q (owner x)) w .1))
-leaves (while d e P) f x w = λ k. whiles-leaves x (λ k σ. run k P σ) d e (leaves P (f .2) x w) (suc k) k
-leaves (repeat d e P) f x w = λ k. repeats-leaves x (λ k σ. run k P σ) d e (leaves P (f .2) x w) (suc k) k
+unwritten ok f x u = λ k w t σ σ′ p. at-word x p
+unwritten (tick d) f x u = λ k w t σ σ′ p. at-word x (wait-done d k (λ k₁. ended 0 σ) p .2)
+unwritten (assign d y e) f x u = λ k w t σ σ′ p.
+    at-word x (wait-done (suc d) k (λ k₁. ended 0 (put σ y (eval e σ))) p .2)
+    ∙ ap (λ (b : Bool). pick b (eval e σ) (σ x)) (other-variable x y (f .1) u)
+unwritten (assignElem d j i e) f x u = λ k w t σ σ′ p.
+    at-word x (wait-done (suc d) k (λ k₁. ended 0 (put σ (elementWord j (eval i σ)) (eval e σ))) p .2)
+    ∙ ap (λ (b : Bool). pick b (eval e σ) (σ x)) (other-element x j (eval i σ) u)
+unwritten (seq P Q) f x u = λ k w t σ σ′ p.
+    let i = or-false (writes P (owner x)) (writes Q (owner x)) u in
+    chain-comes (Same x) (same-join x) (λ σ. refl) (run k P σ) (λ t σ₁. run (k - t) Q σ₁) σ p (λ w t σ₁ q. unwritten P (f .0) x (i .0) k w t σ σ₁ q)
+    (λ t₁ σ₁ t₂ q. unwritten Q (f .1) x (i .1) (k - t₁) w t₂ σ₁ σ′ q)
+unwritten (par P Q) f x u = λ k w t σ σ′ p.
+    let i = or-false (writes P (owner x)) (writes Q (owner x)) u in
+    let v = both-done (kept P Q σ) (run k P σ) (run k Q σ) p in
+    ap (λ (τ : Store). τ x) (v .7) ∙ kept-same P Q σ (v .1) (v .3) x (i .0) (i .1)
+unwritten (ite d e P Q) f x u =
+    let i = or-false (writes P (owner x)) (writes Q (owner x)) u in
+    ite-comes (Same x) (same-join x) (λ σ. refl) d e P Q (unwritten P (f .2) x (i .0)) (unwritten Q (f .3) x (i .1))
+unwritten (while d e P) f x u = λ k. whiles-comes (Same x) (same-join x) (λ σ. refl) (λ k σ. run k P σ) d (unwritten P (f .2) x u) e (suc k) k
+unwritten (repeat d e P) f x u = λ k. repeats-comes (Same x) (same-join x) (λ σ. refl) (λ k σ. run k P σ) d (unwritten P (f .2) x u) e (suc k) k
+unwritten (loop d P) f x u = λ k w t σ σ′ p.
+    let v = caught-done (loops (λ k σ. run k P σ) d (suc k) k σ) p in
+    loops-comes (Same x) (same-join x) (λ σ. refl) (λ k σ. run k P σ) d (unwritten P (f .1) x u) (suc k) k (v .0) t σ σ′ (v .1)
+unwritten exit f x u = λ k w t σ σ′ p. at-word x p
+
+-- What has no exit ends or goes on ------------------------------------------------------------------------------------------------------
+
+abbrev Only : Store → Way → Store → Type 0
+Only σ w σ′ = w ≡ atEnd
+
+only-join : (σ σ₁ σ₂ : Store) (w : Way) → Only σ atEnd σ₁ → Only σ₁ w σ₂ → Only σ w σ₂
+only-join σ σ₁ σ₂ w p q = q
+
+pub only-ends : (P : Stmt) → exits P ≡ false → Comes Only (λ k σ. run k P σ)
+unfolding run exits
+only-ends ok u = λ k w t σ σ′ p. sym (done-way p)
+only-ends (tick d) u = λ k w t σ σ′ p. sym (done-way (wait-done d k (λ k₁. ended 0 σ) p .2))
+only-ends (assign d y e) u = λ k w t σ σ′ p. sym (done-way (wait-done (suc d) k (λ k₁. ended 0 (put σ y (eval e σ))) p .2))
+only-ends (assignElem d j i e) u = λ k w t σ σ′ p.
+    sym (done-way (wait-done (suc d) k (λ k₁. ended 0 (put σ (elementWord j (eval i σ)) (eval e σ))) p .2))
+only-ends (seq P Q) u = λ k w t σ σ′ p.
+    let i = or-false (exits P) (exits Q) u in
+    chain-comes Only only-join (λ σ. refl) (run k P σ) (λ t σ₁. run (k - t) Q σ₁) σ p (λ w t σ₁ q. only-ends P (i .0) k w t σ σ₁ q)
+    (λ t₁ σ₁ t₂ q. only-ends Q (i .1) (k - t₁) w t₂ σ₁ σ′ q)
+only-ends (par P Q) u = λ k w t σ σ′ p. both-done (kept P Q σ) (run k P σ) (run k Q σ) p .8
+only-ends (ite d e P Q) u =
+    let i = or-false (exits P) (exits Q) u in
+    ite-comes Only only-join (λ σ. refl) d e P Q (only-ends P (i .0)) (only-ends Q (i .1))
+only-ends (while d e P) u = λ k. whiles-comes Only only-join (λ σ. refl) (λ k σ. run k P σ) d (only-ends P u) e (suc k) k
+only-ends (repeat d e P) u = λ k. repeats-comes Only only-join (λ σ. refl) (λ k σ. run k P σ) d (only-ends P u) e (suc k) k
+only-ends (loop d P) u = λ k w t σ σ′ p. caught-done (loops (λ k σ. run k P σ) d (suc k) k σ) p .2
+only-ends exit u = not-both refl u
+
+pub never-leaves : {A : Type 0} (P : Stmt) → exits P ≡ false → (k t : ℕ) (σ σ′ : Store) → run k P σ ≡ left t σ′ → A
+never-leaves P u k t σ σ′ p = not-way (sym (only-ends P u k atExit t σ σ′ p))
+
+-- the same of the rules as the paper states them: L never holds of a body
+module _ (R L : Course) (d : ℕ) (e : Expr) (none : (σ : Store) (t : ℕ) (σ′ : Store) → L σ t σ′ → ⊥) where
+  while-never : (n : ℕ) (σ : Store) (t : ℕ) (σ′ : Store) → WhileLeaves R L d e n σ t σ′ → ⊥
+  unfolding WhileLeaves
+  while-never zero σ t σ′ l = none σ (l .0) σ′ (l .2)
+  while-never (suc n) σ t σ′ l = while-never n (l .1) (l .2) σ′ (l .5)
+
+  repeat-never : (n : ℕ) (σ : Store) (t : ℕ) (σ′ : Store) → RepeatLeaves R L d e n σ t σ′ → ⊥
+  unfolding RepeatLeaves
+  repeat-never zero σ t σ′ l = none σ t σ′ l
+  repeat-never (suc n) σ t σ′ l = repeat-never n (l .1) (l .2) σ′ (l .5)
+
+pub never-left : (P : Stmt) → exits P ≡ false → (σ : Store) (t : ℕ) (σ′ : Store) → Leaves P σ t σ′ → ⊥
+unfolding Leaves exits
+never-left ok u σ t σ′ l = l
+never-left (tick d) u σ t σ′ l = l
+never-left (assign d x e) u σ t σ′ l = l
+never-left (assignElem d k i e) u σ t σ′ l = l
+never-left (seq P Q) u σ t σ′ l =
+    let i = or-false (exits P) (exits Q) u in
+    ⊎-elim (λ m. never-left P (i .0) σ t σ′ m) (λ m. never-left Q (i .1) (m .1) (m .2) σ′ (m .4)) l
+never-left (par P Q) u σ t σ′ l = l
+never-left (ite d e P Q) u σ t σ′ l =
+    let i = or-false (exits P) (exits Q) u in
+    by-bool (isZero (eval e σ)) (λ z. never-left Q (i .1) σ (l .0) σ′ (l .2 z)) (λ z. never-left P (i .0) σ (l .0) σ′ (l .1 z))
+never-left (while d e P) u σ t σ′ l = while-never (Ends P) (Leaves P) d e (never-left P u) (l .0) σ t σ′ (l .1)
+never-left (repeat d e P) u σ t σ′ l = repeat-never (Ends P) (Leaves P) d e (never-left P u) (l .0) σ t σ′ (l .1)
+never-left (loop d P) u σ t σ′ l = l
+never-left exit u σ t σ′ l = not-both refl u
+
+-- What is written is touched --------------------------------------------------------------------------------------------------------------
 
 or-map : (a b c d : Bool) → (a ≡ true → c ≡ true) → (b ≡ true → d ≡ true) → (a || b) ≡ true → (c || d) ≡ true
 or-map true b c d p q w = ap (λ (z : Bool). z || d) (p refl)
 or-map false b c d p q w = ap (λ (z : Bool). c || z) (q w) ∙ or-true c
 
--- What is written is touched
 pub writes-touches : (P : Stmt) (x : ℕ) → writes P x ≡ true → touches P x ≡ true
 unfolding writes touches
 writes-touches ok x w = w
@@ -114,6 +210,8 @@ writes-touches (ite d e P Q) x w =
     ∙ or-true (reads e x)
 writes-touches (while d e P) x w = ap (λ (c : Bool). reads e x || c) (writes-touches P x w) ∙ or-true (reads e x)
 writes-touches (repeat d e P) x w = ap (λ (c : Bool). reads e x || c) (writes-touches P x w) ∙ or-true (reads e x)
+writes-touches (loop d P) x w = writes-touches P x w
+writes-touches exit x w = w
 
 -- of two statements that are apart, what one touches the other does not write
 pub apart-unwritten : (P Q : Stmt) → Apart P Q → (x : ℕ) → touches Q x ≡ true → writes P x ≡ false

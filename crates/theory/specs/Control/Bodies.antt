@@ -154,6 +154,17 @@ pub follows-beside : (W : World) (U : Owned) (g₁ g₂ g : Gives) (a b : ℕ) �
 follows-beside W U g₁ g₂ g a b j dull off =
     follows-left W U U g₁ g₂ g j (λ q v. v) a b dull (λ x u. u) (λ x u. off x) (λ x u t r i z. z i)
 
+-- what follows a part follows another that gives the same
+pub follows-is : (W : World) (U : Owned) (g₁ g : Gives) (a b : ℕ) → ((x t : ℕ) → g .clk x t ≡ g₁ .clk x t) → ((x t : ℕ) → g .dat x t ≡ g₁ .dat x t)
+    → ((x t : ℕ) → g .adr x t ≡ g₁ .adr x t) → Follows W U g a b → Follows W U g₁ a b
+follows-is W U g₁ g a b clocks words addresses F =
+    record {
+      low = λ x u t l h e z. F .low x u t l h (clocks x t ∙ e) z;
+      own = λ x u t l h e z.
+          let k = F .own x u t l h (clocks x t ∙ e) z in
+          (k .0, k .1 ∙ words x t, k .2 ∙ addresses x t);
+    }
+
 -- After a part ------------------------------------------------------------------------------------------------------------------------------
 
 -- From a on, before e, the bodies of Y clock nothing; a gap after a nothing is in flight in them

@@ -1,20 +1,21 @@
 -- What is known of every cell of a circuit: that nothing is in flight, and that what has been so far is in order; and what holds of a circuit at every
 -- instant. Assumes nothing.
 use Prim.Native.Nat.{ℕ, _+_, _≤_}
-use mathlib.Core.Path.{_≡_, sym, _∙_, ap, ap₂}
+use mathlib.Core.Path.{_≡_, refl, sym, _∙_, ap, ap₂}
 use mathlib.Core.Bool.{Bool, true, false, _||_}
 use native.Mathlib.Omega.{arith}
 use lib.Dec.{eqb}
 use lib.Bits.{bitOr}
 use Rattle.model.specs.Word.{pick}
-use Rattle.model.specs.Program.{Expr, Stmt, ok, tick, assign, assignElem, seq, par, ite, while, repeat, arrayVar, writes}
+use Rattle.model.specs.Program.{Expr, Stmt, ok, tick, assign, assignElem, seq, par, ite, while, repeat, loop, exit, arrayVar, writes}
 use Rattle.model.specs.Circuit.{Sig, delayed}
-use Rattle.laws.specs.Refusals.Laws.{or-false}
+use Rattle.laws.specs.Refusals.Laws.{or-false, not-both}
+use Rattle.laws.specs.Program.Fit.{exits}
 use Rattle.theory.specs.Control.Widths.{gap, widened}
 use Rattle.theory.specs.Control.Signal.{Quiet, Clear}
 use Rattle.theory.specs.Control.Merge.{Empty, empty-zero}
 use Rattle.theory.specs.Control.History.{Stable, Spaced}
-use Rattle.theory.specs.Control.Wiring.{Memory, either, Reading, ideal, Gives, Joined, Assigned, Circuit, Known, Test, Delays, Each}
+use Rattle.theory.specs.Control.Wiring.{Memory, either, Reading, ideal, Gives, Joined, Assigned, Circuit, Known, Timer, Test, Delays, Each}
 use Rattle.theory.specs.Control.World.{World, Built, means}
 use Rattle.theory.specs.Control.Memories.{Dull}
 
@@ -57,16 +58,19 @@ record Gains (K K′ : Known) : Type 0 where
   word : (d : ℕ) (e : Expr) (s : Sig) → K .word d e s → K′ .word d e s
 
 module _ (K K′ : Known) (h : Gains K K′) (w : ℕ) (R : Reading) where
+  timer-map : (d : ℕ) (s : Sig) → Timer K d s → Timer K′ d s
+  timer-map d s p = (h .delay d s (p .0), h .line d s (p .1))
+
   test-map : (d : ℕ) (e : Expr) (s : Sig) → Test K d e s → Test K′ d e s
   test-map d e s p = (h .delay d s (p .0), h .line d s (p .1), h .word d e s (p .2))
 
   delays-map : (d : ℕ) (e : Expr) (s : Sig) → Delays K w d e s → Delays K′ w d e s
-  delays-map d e s p = (test-map d e s (p .0), (h .delay w (delayed d s) (p .1 .0), h .line w (delayed d s) (p .1 .1)))
+  delays-map d e s p = (test-map d e s (p .0), timer-map w (delayed d s) (p .1))
 
   each-map : (P : Stmt) (s f : Sig) (g : Gives) (n : Circuit w R P s f g) → Each K w R P s f g n → Each K′ w R P s f g n
   unfolding Circuit Each
   each-map ok s f g n p = tt
-  each-map (tick d) s f g n p = (h .delay d s (p .0), h .line d s (p .1))
+  each-map (tick d) s f g n p = timer-map d s p
   each-map (assign d x e) s f g n p = delays-map d e s p
   each-map (assignElem d k i e) s f g n p = (delays-map d e s (p .0), h .word d i s (p .1))
   each-map (seq P Q) s f g n p = (each-map P s (n .mid) (n .g₁) (n .left) (p .0), each-map Q (n .mid) f (n .g₂) (n .right) (p .1))
@@ -76,6 +80,8 @@ module _ (K K′ : Known) (h : Gains K K′) (w : ℕ) (R : Reading) where
       (test-map d e s (p .0), each-map P (n .s₁) (n .f₁) (n .g₁) (n .left) (p .1), each-map Q (n .s₂) (n .f₂) (n .g₂) (n .right) (p .2))
   each-map (while d e P) s f g n p = (test-map d e (either s (n .f₁)) (p .0), each-map P (n .s₁) (n .f₁) g (n .body) (p .1))
   each-map (repeat d e P) s f g n p = (test-map d e (n .f₁) (p .0), each-map P (n .s₁) (n .f₁) g (n .body) (p .1))
+  each-map (loop d P) s f g n p = (timer-map d (n .f₁) (p .0), each-map P (n .s₁) (n .f₁) (n .g₁) (n .body) (p .1))
+  each-map exit s f g n p = tt
 
 -- of every circuit nothing is known
 abbrev nothing : Known
@@ -94,6 +100,8 @@ each-nothing w R (ite d e P Q) s f g n =
     ((tt, tt, tt), each-nothing w R P (n .s₁) (n .f₁) (n .g₁) (n .left), each-nothing w R Q (n .s₂) (n .f₂) (n .g₂) (n .right))
 each-nothing w R (while d e P) s f g n = ((tt, tt, tt), each-nothing w R P (n .s₁) (n .f₁) g (n .body))
 each-nothing w R (repeat d e P) s f g n = ((tt, tt, tt), each-nothing w R P (n .s₁) (n .f₁) g (n .body))
+each-nothing w R (loop d P) s f g n = ((tt, tt), each-nothing w R P (n .s₁) (n .f₁) (n .g₁) (n .body))
+each-nothing w R exit s f g n = tt
 
 -- Nothing is in flight before instant 0
 pub calm-zero : (W : World) (P : Stmt) (s f : Sig) (g : Gives) (n : Built W P s f g) → Calm W P s f g n 0
@@ -144,20 +152,11 @@ assigned-dull w R d y a e s f g n x t z = (
     go u v false true k h = h
     go u v false false k h = h
 
--- two clocks joined, where two variables' tests joined are false
+-- two signals joined, where the parts' two tests joined are false
 both-low : {a b c p q : Bool} → c ≡ (a || b) → (p ≡ false → a ≡ false) → (q ≡ false → b ≡ false) → (p || q) ≡ false → c ≡ false
 both-low {p = p} {q = q} e l r z =
     let k = or-false p q z in
     e ∙ ap₂ _||_ (l (k .0)) (r (k .1))
-
--- what a part never gives: no kind of today's leaves a loop or calls a body
-record Keeps (g : Gives) : Type 0 where
-  inside : (t : ℕ) → g .out t ≡ false
-  uncalled : (q t : ℕ) → g .calls q t ≡ false
-
-joined-keeps : (g₁ g₂ g : Gives) → Joined g₁ g₂ g → Keeps g₁ → Keeps g₂ → Keeps g
-joined-keeps g₁ g₂ g j p q =
-    record { inside = λ t. j .out t ∙ ap₂ _||_ (p .inside t) (q .inside t); uncalled = λ x t. j .called x t ∙ ap₂ _||_ (p .uncalled x t) (q .uncalled x t) }
 
 module _ (w : ℕ) (R : Reading) where
   -- data and address are 0 where the clock is low
@@ -173,19 +172,46 @@ module _ (w : ℕ) (R : Reading) where
       joined-dull (n .g₁) (n .g₂) g (n .joined) (dull P (n .s₁) (n .f₁) (n .g₁) (n .left)) (dull Q (n .s₂) (n .f₂) (n .g₂) (n .right))
   dull (while d e P) s f g n = dull P (n .s₁) (n .f₁) g (n .body)
   dull (repeat d e P) s f g n = dull P (n .s₁) (n .f₁) g (n .body)
+  dull (loop d P) s f g n = λ x t e.
+      let v = dull P (n .s₁) (n .f₁) (n .g₁) (n .body) x t (sym (n .clocks x t) ∙ e) in
+      (n .words x t ∙ v .0, n .addresses x t ∙ v .1)
+  dull exit s f g n = λ x t e. (n .words x t, n .addresses x t)
 
-  keeps : (P : Stmt) (s f : Sig) (g : Gives) → Circuit w R P s f g → Keeps g
+  -- no kind of today's calls a body
+  uncalled : (P : Stmt) (s f : Sig) (g : Gives) → Circuit w R P s f g → (q t : ℕ) → g .calls q t ≡ false
   unfolding Circuit
-  keeps ok s f g n = record { inside = n .out; uncalled = n .called }
-  keeps (tick d) s f g n = record { inside = n .out; uncalled = n .called }
-  keeps (assign d y e) s f g n = record { inside = n .out; uncalled = n .called }
-  keeps (assignElem d k i e) s f g n = record { inside = n .out; uncalled = n .called }
-  keeps (seq P Q) s f g n = joined-keeps (n .g₁) (n .g₂) g (n .joined) (keeps P s (n .mid) (n .g₁) (n .left)) (keeps Q (n .mid) f (n .g₂) (n .right))
-  keeps (par P Q) s f g n = joined-keeps (n .g₁) (n .g₂) g (n .joined) (keeps P s (n .f₁) (n .g₁) (n .left)) (keeps Q s (n .f₂) (n .g₂) (n .right))
-  keeps (ite d e P Q) s f g n =
-      joined-keeps (n .g₁) (n .g₂) g (n .joined) (keeps P (n .s₁) (n .f₁) (n .g₁) (n .left)) (keeps Q (n .s₂) (n .f₂) (n .g₂) (n .right))
-  keeps (while d e P) s f g n = keeps P (n .s₁) (n .f₁) g (n .body)
-  keeps (repeat d e P) s f g n = keeps P (n .s₁) (n .f₁) g (n .body)
+  uncalled ok s f g n q t = n .called q t
+  uncalled (tick d) s f g n q t = n .called q t
+  uncalled (assign d y e) s f g n q t = n .called q t
+  uncalled (assignElem d k i e) s f g n q t = n .called q t
+  uncalled (seq P Q) s f g n q t =
+      n .joined .called q t ∙ ap₂ _||_ (uncalled P s (n .mid) (n .g₁) (n .left) q t) (uncalled Q (n .mid) f (n .g₂) (n .right) q t)
+  uncalled (par P Q) s f g n q t =
+      n .joined .called q t ∙ ap₂ _||_ (uncalled P s (n .f₁) (n .g₁) (n .left) q t) (uncalled Q s (n .f₂) (n .g₂) (n .right) q t)
+  uncalled (ite d e P Q) s f g n q t =
+      n .joined .called q t ∙ ap₂ _||_ (uncalled P (n .s₁) (n .f₁) (n .g₁) (n .left) q t) (uncalled Q (n .s₂) (n .f₂) (n .g₂) (n .right) q t)
+  uncalled (while d e P) s f g n q t = uncalled P (n .s₁) (n .f₁) g (n .body) q t
+  uncalled (repeat d e P) s f g n q t = uncalled P (n .s₁) (n .f₁) g (n .body) q t
+  uncalled (loop d P) s f g n q t = n .called q t ∙ uncalled P (n .s₁) (n .f₁) (n .g₁) (n .body) q t
+  uncalled exit s f g n q t = n .called q t
+
+  -- a part no exit of which ends a loop around it has an exit signal that is low throughout
+  inside : (k : ℕ) (P : Stmt) (s f : Sig) (g : Gives) → Circuit w R P s f g → exits (widened k P) ≡ false → (t : ℕ) → g .out t ≡ false
+  unfolding Circuit exits widened
+  inside k ok s f g n z t = n .out t
+  inside k (tick d) s f g n z t = n .out t
+  inside k (assign d y e) s f g n z t = n .out t
+  inside k (assignElem d j i e) s f g n z t = n .out t
+  inside k (seq P Q) s f g n z t =
+      both-low (n .joined .out t) (λ p. inside k P s (n .mid) (n .g₁) (n .left) p t) (λ q. inside k Q (n .mid) f (n .g₂) (n .right) q t) z
+  inside k (par P Q) s f g n z t =
+      both-low (n .joined .out t) (λ p. inside k P s (n .f₁) (n .g₁) (n .left) p t) (λ q. inside k Q s (n .f₂) (n .g₂) (n .right) q t) z
+  inside k (ite d e P Q) s f g n z t =
+      both-low (n .joined .out t) (λ p. inside k P (n .s₁) (n .f₁) (n .g₁) (n .left) p t) (λ q. inside k Q (n .s₂) (n .f₂) (n .g₂) (n .right) q t) z
+  inside k (while d e P) s f g n z t = inside k P (n .s₁) (n .f₁) g (n .body) z t
+  inside k (repeat d e P) s f g n z t = inside k P (n .s₁) (n .f₁) g (n .body) z t
+  inside k (loop d P) s f g n z t = n .out t
+  inside k exit s f g n z t = not-both refl z
 
   -- a variable that is not written has a clock that is low throughout
   unwritten : (k : ℕ) (P : Stmt) (s f : Sig) (g : Gives) → Circuit w R P s f g → (x : ℕ) → writes (widened k P) x ≡ false → (t : ℕ) → g .clk x t ≡ false
@@ -205,6 +231,8 @@ module _ (w : ℕ) (R : Reading) where
       (λ q. unwritten k Q (n .s₂) (n .f₂) (n .g₂) (n .right) x q t) z
   unwritten k (while d e P) s f g n x z t = unwritten k P (n .s₁) (n .f₁) g (n .body) x z t
   unwritten k (repeat d e P) s f g n x z t = unwritten k P (n .s₁) (n .f₁) g (n .body) x z t
+  unwritten k (loop d P) s f g n x z t = n .clocks x t ∙ unwritten k P (n .s₁) (n .f₁) (n .g₁) (n .body) x z t
+  unwritten k exit s f g n x z t = n .clocks x t
 
 module _ (W : World) (P : Stmt) (s f : Sig) (g : Gives) (n : Built W P s f g) where
   pub is-dull : Dull g
@@ -213,11 +241,11 @@ module _ (W : World) (P : Stmt) (s f : Sig) (g : Gives) (n : Built W P s f g) wh
   pub is-unwritten : (x : ℕ) → writes (means W P) x ≡ false → (t : ℕ) → g .clk x t ≡ false
   is-unwritten = unwritten (W .w) (ideal (W .m)) (W .w) P s f g n
 
-  pub is-inside : (t : ℕ) → g .out t ≡ false
-  is-inside = keeps (W .w) (ideal (W .m)) P s f g n .inside
+  pub is-inside : exits (means W P) ≡ false → (t : ℕ) → g .out t ≡ false
+  is-inside = inside (W .w) (ideal (W .m)) (W .w) P s f g n
 
   pub is-uncalled : (q t : ℕ) → g .calls q t ≡ false
-  is-uncalled = keeps (W .w) (ideal (W .m)) P s f g n .uncalled
+  is-uncalled = uncalled (W .w) (ideal (W .m)) P s f g n
 
   -- whatever its start does, a calm part calls nothing for a gap
   pub hush : (a : ℕ) → Calm W P s f g n a → (q : ℕ) → Quiet (g .calls q) a (a + gap (W .w))

@@ -9,9 +9,9 @@ use Rattle.model.specs.Rules.{Store, owner, eval}
 use Rattle.model.specs.Circuit.{Sig, delayed}
 use Rattle.laws.specs.Refusals.Laws.{by-bool, by-le, not-both}
 use Rattle.laws.specs.Program.Fit.{FormedExpr}
-use Rattle.laws.specs.Rules.Laws.{wait-still, ite-then, ite-else}
+use Rattle.laws.specs.Rules.Laws.{wait-still, ite-then, ite-else, wait-done}
 use Rattle.theory.specs.Control.Widths.{gap, widened}
-use Rattle.theory.specs.Control.Ways.{comes-is, comes-at, wait-comes}
+use Rattle.theory.specs.Control.Ways.{at-time}
 use Rattle.theory.specs.Control.Signal.{Quiet, delayed-quiet}
 use Rattle.theory.specs.Control.Pulses.{Pulse, Firm, pulse-less, pulse-delayed, pulse-firm, either-firm}
 use Rattle.theory.specs.Control.History.{Stable, stable-off, stable-on, Spaced, spaced-on}
@@ -23,7 +23,7 @@ use Rattle.theory.specs.Control.Rest.{Rests, rest}
 use Rattle.theory.specs.Control.Surge.{surge, gated-firm, test-same}
 use Rattle.theory.specs.Control.Bodies.{Owned, Owns, owns-both, pause-sofar}
 use Rattle.theory.specs.Control.Runs.{Begins, free, Going, Does, RunOf, ShortOf, done-as, going-as}
-use Rattle.theory.specs.Control.Tests.{Waits, waited, test-words, test-is}
+use Rattle.theory.specs.Control.Tests.{Waits, waited, Firmed, test-words, test-is}
 use Rattle.theory.specs.Control.Sides.{branch}
 
 module _ (W : World) (d : ℕ) (e : Expr) (formed : FormedExpr e) (P Q : Stmt) (timedP : Paced W P) (timedQ : Paced W Q)
@@ -123,27 +123,29 @@ module _ (W : World) (d : ℕ) (e : Expr) (formed : FormedExpr e) (P Q : Stmt) (
             free = free B;
             low = λ x t l k. n .joined .clocks x t ∙ ap₂ _||_ (rest₁ .clocks x t l (omega arith)) (rest₂ .clocks x t l (omega arith));
             uncalled = λ q t l k k′. ite-uncalled q t (omega arith) k;
-            firm = λ k l l₁ l₂ q x.
-                let D : Firm (delayed d s) (a + d) k = pulse-firm k (omega arith) (omega arith) ite-pulse in
-                let z = test-same W e formed (U .vars) (a + d) k (ite-uses .0) q in
-                let r =
-                surge W P timedP (n .s₁) (n .f₁) (n .g₁) (n .left) (a + d) k (rest₁ .calm) l (omega arith)
-                (gated-firm (delayed d s) (n .s₁) (λ t. not (isZero (eval e (W .m t)))) (a + d) k (λ t l h. n .yes₁ t) D (λ t l h. ap not (z t l h)))
-                (λ y r. q y (ite-owns .0 .mine (owner y) r)) in
-                let r′ =
-                surge W Q timedQ (n .s₂) (n .f₂) (n .g₂) (n .right) (a + d) k (rest₂ .calm) l (omega arith)
-                (gated-firm (delayed d s) (n .s₂) (λ t. isZero (eval e (W .m t))) (a + d) k (λ t l h. n .no₂ t) D z)
-                (λ y r. q y (ite-owns .1 .mine (owner y) r)) in
-                either-firm (n .g₁ .clk x) (n .g₂ .clk x) (g .clk x) (a + d) (suc k) (n .joined .clocks x) (r .clocks x) (r′ .clocks x);
           }
 
+      ite-firm : Firmed W U g d a c
+      ite-firm k l l₁ l₂ q x =
+          let D : Firm (delayed d s) (a + d) k = pulse-firm k (omega arith) (omega arith) ite-pulse in
+          let z = test-same W e formed (U .vars) (a + d) k (ite-uses .0) q in
+          let r =
+          surge W P timedP (n .s₁) (n .f₁) (n .g₁) (n .left) (a + d) k (rest₁ .calm) l (omega arith)
+          (gated-firm (delayed d s) (n .s₁) (λ t. not (isZero (eval e (W .m t)))) (a + d) k (λ t l h. n .yes₁ t) D (λ t l h. ap not (z t l h)))
+          (λ y r. q y (ite-owns .0 .mine (owner y) r)) in
+          let r′ =
+          surge W Q timedQ (n .s₂) (n .f₂) (n .g₂) (n .right) (a + d) k (rest₂ .calm) l (omega arith)
+          (gated-firm (delayed d s) (n .s₂) (λ t. isZero (eval e (W .m t))) (a + d) k (λ t l h. n .no₂ t) D z)
+          (λ y r. q y (ite-owns .1 .mine (owner y) r)) in
+          either-firm (n .g₁ .clk x) (n .g₂ .clk x) (g .clk x) (a + d) (suc k) (n .joined .clocks x) (r .clocks x) (r′ .clocks x)
+
       ite-test : (t : ℕ) → a + d ≤ t → t < a + d + W .w → t < j → isZero (eval e (W .m t)) ≡ isZero (eval e σ)
-      ite-test = test-is ite-waits e formed (ite-uses .0)
+      ite-test = test-is ite-waits ite-firm e formed (ite-uses .0)
 
       ite-used : (b : ℕ) → b ≤ j → Stable (W .m) d e s b
       ite-used b o₁ =
           stable-on (W .w) (W .m) d e s a b σ (B .ready .calm .0 .2) (B .ready .calm .0 .0) (pulse-less o₁ (B .pulse))
-          (λ k x r v l k₁ k₂. test-words ite-waits e formed (ite-uses .0) x r v l k₁ (omega arith))
+          (λ k x r v l k₁ k₂. test-words ite-waits ite-firm e formed (ite-uses .0) x r v l k₁ (omega arith))
 
       -- what is known of the delay, at the end and so far
       ite-calm : c + gap (W .w) ≤ j → Test (calmly (W .w) (W .m) j) d e s
@@ -205,15 +207,15 @@ module _ (W : World) (d : ℕ) (e : Expr) (formed : FormedExpr e) (P Q : Stmt) (
           ends = λ way σ′ p.
               by-bool (isZero (eval e σ))
               (λ z.
-              let v = wait-comes d u (λ k. goes W k Q σ) (comes-is (ite-else u d e (means W P) (means W Q) σ z) p) in
+              let v = wait-done d u (λ k. goes W k Q σ) (sym (ite-else u d e (means W P) (means W Q) σ z) ∙ p) in
               let q : v .0 ≡ u - d = omega (arith, v .3) in
               done-as K L (λ o k. (ite-calm (v .1) o, k .1, k .0)) (λ l. (ite-sofar (v .1) j (omega arith), l .1, l .0))
-              (else-branch (v .1) z .ends way σ′ (comes-at (goes W (u - d) Q σ) q (v .2))))
+              (else-branch (v .1) z .ends way σ′ (at-time (goes W (u - d) Q σ) q (v .2))))
               (λ z.
-              let v = wait-comes d u (λ k. goes W k P σ) (comes-is (ite-then u d e (means W P) (means W Q) σ z) p) in
+              let v = wait-done d u (λ k. goes W k P σ) (sym (ite-then u d e (means W P) (means W Q) σ z) ∙ p) in
               let q : v .0 ≡ u - d = omega (arith, v .3) in
               done-as K L (λ o k. (ite-calm (v .1) o, k .0, k .1)) (λ l. (ite-sofar (v .1) j (omega arith), l .0, l .1))
-              (then-branch (v .1) z .ends way σ′ (comes-at (goes W (u - d) P σ) q (v .2))));
+              (then-branch (v .1) z .ends way σ′ (at-time (goes W (u - d) P σ) q (v .2))));
         }
 
 pub run-ite : (W : World) (d : ℕ) (e : Expr) → FormedExpr e → (P Q : Stmt) → Paced W P → Paced W Q → RunOf W P → RunOf W Q → ShortOf W (ite d e P Q)

@@ -8,12 +8,11 @@ use native.Mathlib.Omega.{arith}
 use borrow.Author.Tests.{lt-ltb, le-ltb, eq-eqb, ne-eqb}
 use Rattle.model.specs.Program.{Stmt, ok}
 use Rattle.model.specs.Circuit.{Sig}
-use Rattle.model.specs.Rules.{Store, ended, run, endsAt}
+use Rattle.model.specs.Rules.{Store, ended, run, endsAt, atEnd}
 use Rattle.laws.specs.Refusals.Laws.{by-le, not-both}
-use Rattle.laws.specs.Program.Fit.{Formed, Timed, Separate}
-use Rattle.laws.specs.Rules.Laws.{by-run, steady}
+use Rattle.laws.specs.Program.Fit.{Formed, Timed, Separate, Inside}
+use Rattle.laws.specs.Rules.Laws.{by-runs, steady}
 use Rattle.theory.specs.Control.Widths.{gap-least, timely-one, widened-one}
-use Rattle.theory.specs.Control.Ways.{atEnd, comes-end}
 use Rattle.theory.specs.Control.Pulses.{Pulse}
 use Rattle.theory.specs.Control.Wiring.{Memory, ground, Reading, ideal, Gives, Circuit, Mem}
 use Rattle.theory.specs.Control.World.{World, goes}
@@ -51,13 +50,14 @@ once m g mem =
 shows-one : (P : Stmt) → Timed P → (σ : Store) (u : ℕ) → showsAt 1 u (run u P σ) ≡ endsAt u (run u P σ)
 unfolding showsAt endsAt
 shows-one P timed σ u =
-    by-run (run u P σ)
+    by-runs (run u P σ)
     (λ t σ′ p.
-    let i = steady P timed σ u t σ′ p .0 in
+    let i = steady P timed σ u atEnd t σ′ p .0 in
     ap (showsAt 1 u) p
     ∙ by-le u t (λ k. lt-ltb u (t + 1) (omega arith) ∙ sym (eq-eqb t u (omega (arith, i))))
     (λ k. le-ltb u (t + 1) (omega arith) ∙ sym (ne-eqb t u (λ q. omega arith)))
     ∙ sym (ap (endsAt u) p))
+    (λ t σ′ p. ap (showsAt 1 u) p ∙ sym (ap (endsAt u) p))
     (λ p. ap (showsAt 1 u) p ∙ sym (ap (endsAt u) p))
 
 pub record TimingOf (P : Stmt) (m : Memory) (f : Sig) (σ : Store) : Type 0 where
@@ -67,7 +67,7 @@ pub record TimingOf (P : Stmt) (m : Memory) (f : Sig) (σ : Store) : Type 0 wher
 abbrev everything : Owned
 everything = record { vars = λ x. Unit {0}; procs = λ q. ⊥ }
 
-module _ (P : Stmt) (formed : Formed P) (timed : Timed P) (separate : Separate P) (m : Memory) (s f : Sig) (g : Gives)
+module _ (P : Stmt) (formed : Formed P) (timed : Timed P) (separate : Separate P) (inside : Inside P) (m : Memory) (s f : Sig) (g : Gives)
     (circuit : Circuit 1 (ideal m) P s f g) (mem : Mem m g) (pulse : s 0 ≡ true) (after : (t : ℕ) → 0 < t → s t ≡ false)
     (σ : Store) (words : (x : ℕ) → m 0 x ≡ σ x) where
   abbrev W : World
@@ -99,16 +99,17 @@ module _ (P : Stmt) (formed : Formed P) (timed : Timed P) (separate : Separate P
   timing =
       let paced = timely-one P formed timed in
       let separate₁ = subst Separate (sym (widened-one P)) separate in
+      let inside₁ = subst Inside (sym (widened-one P)) inside in
       record {
         finish = λ t.
             let e = suc t in
             rw zero-add at
-            (finish-at W P paced separate₁ everything σ s f g circuit 0 e (ready e) (begins e) (follows e) (λ t l h q v. absurd v) t
+            (finish-at W P paced separate₁ inside₁ everything σ s f g circuit 0 e (ready e) (begins e) (follows e) (λ t l h q v. absurd v) t
             (omega arith))
             ∙ ap (showsAt 1 t) (same t) ∙ shows-one P timed σ t;
         words = λ t₀ σ′ p t x o.
             let e = suc t in
             rw zero-add at
-            (words-after W P paced separate₁ everything σ s f g circuit 0 e (ready e) (begins e) (follows e) (λ t l h q v. absurd v) atEnd
-            t₀ σ′ (comes-end (same t₀ ∙ p)) t x o (omega arith) tt);
+            (words-after W P paced separate₁ inside₁ everything σ s f g circuit 0 e (ready e) (begins e) (follows e) (λ t l h q v. absurd v) atEnd
+            t₀ σ′ (same t₀ ∙ p) t x o (omega arith) tt);
       }

@@ -5,14 +5,13 @@ use mathlib.Core.Bool.{Bool, true, false, _||_}
 use native.Mathlib.Omega.{arith}
 use Rattle.model.specs.Word.{pick}
 use Rattle.model.specs.Program.{Stmt, par, writes, touches}
-use Rattle.model.specs.Rules.{Store, owner, over, kept, ended, run}
+use Rattle.model.specs.Rules.{Store, owner, over, kept, ended, run, atEnd, still, both}
 use Rattle.model.specs.Circuit.{Sig}
 use Rattle.laws.specs.Refusals.Laws.{by-bool, by-le}
-use Rattle.laws.specs.Program.Fit.{Apart}
-use Rattle.laws.specs.Rules.Laws.{both-still}
-use Rattle.laws.specs.Rules.Uses.{leaves, writes-touches, apart-unwritten}
+use Rattle.laws.specs.Program.Fit.{Apart, exits}
+use Rattle.laws.specs.Rules.Laws.{both-still, both-done}
+use Rattle.laws.specs.Rules.Uses.{unwritten, never-leaves, writes-touches, apart-unwritten}
 use Rattle.theory.specs.Control.Widths.{gap, widened, widened-formed}
-use Rattle.theory.specs.Control.Ways.{atEnd, both-comes}
 use Rattle.theory.specs.Control.Pulses.{pulse-is, pulse-at, shows-pulse, shows-on, shows-off}
 use Rattle.theory.specs.Control.Merge.{Empty, empty-swap, merged-left, merged-right}
 use Rattle.theory.specs.Control.Meets.{Meets, meets, meets-swap}
@@ -38,6 +37,7 @@ module _ (P Q : Stmt) (σ σ₁ σ₂ : Store) (x : ℕ) where
   kept-neither p q = ap₂ (λ (b c : Bool). pick b (σ₁ x) (pick c (σ₂ x) (σ x))) p q
 
 module _ (W : World) (P Q : Stmt) (timedP : Paced W P) (timedQ : Paced W Q) (apartPQ : Apart (means W P) (means W Q)) (apartQP : Apart (means W Q) (means W P))
+    (inP : exits (means W P) ≡ false) (inQ : exits (means W Q) ≡ false)
     (doesP : RunOf W P) (doesQ : RunOf W Q) (U : Owned) (σ : Store) (s f : Sig) (g : Gives) (n : Par (W .w) (Built W P) (Built W Q) s f g)
   where
     abbrev K₁ : ℕ → Type 0
@@ -60,7 +60,14 @@ module _ (W : World) (P Q : Stmt) (timedP : Paced W P) (timedQ : Paced W Q) (apa
 
     -- no exit leaves a side
     par-in : (t : ℕ) → g .out t ≡ false
-    par-in t = n .joined .out t ∙ ap₂ _||_ (is-inside W P s (n .f₁) (n .g₁) (n .left) t) (is-inside W Q s (n .f₂) (n .g₂) (n .right) t)
+    par-in t = n .joined .out t ∙ ap₂ _||_ (is-inside W P s (n .f₁) (n .g₁) (n .left) inP t) (is-inside W Q s (n .f₂) (n .g₂) (n .right) inQ t)
+
+    -- so neither side leaves
+    par-still : {A : Type 0} (u : ℕ) → both (kept (means W P) (means W Q) σ) (goes W u P σ) (goes W u Q σ) ≡ still → (goes W u P σ ≡ still → A)
+        → (goes W u Q σ ≡ still → A) → A
+    par-still u p =
+        both-still (kept (means W P) (means W Q) σ) (goes W u P σ) (goes W u Q σ) p (λ t σ′ q. never-leaves (means W P) inP u t σ σ′ q)
+        (λ t σ′ q. never-leaves (means W Q) inQ u t σ σ′ q)
 
     module _ (a c e u : ℕ) (h : a + u ≡ c) (o : c < e) (short : e ≤ c + gap (W .w)) (B : Begins W (par P Q) U σ K s g a c e) where
       par-owns : Owns W P U × Owns W Q U
@@ -94,7 +101,7 @@ module _ (W : World) (P Q : Stmt) (timedP : Paced W P) (timedQ : Paced W Q) (apa
             (λ z.
             side₁ .last t₁ σ₁ (omega arith) p₁ .0 x (i, z)
             ∙ by-bool (writes (means W P) (owner x)) (λ z′. sym (kept-left (means W P) (means W Q) σ σ₁ σ₂ x z′))
-            (λ z′. leaves (means W P) (widened-formed (W .w) P timedP) x z′ u t₁ σ σ₁ p₁ ∙ sym (kept-neither (means W P) (means W Q) σ σ₁ σ₂ x z′ z)))
+            (λ z′. unwritten (means W P) (widened-formed (W .w) P timedP) x z′ u atEnd t₁ σ σ₁ p₁ ∙ sym (kept-neither (means W P) (means W Q) σ σ₁ σ₂ x z′ z)))
 
         par-meets : Meets (W .w) (n .f₁) (n .f₂) a c e
         par-meets =
@@ -136,24 +143,24 @@ module _ (W : World) (P Q : Stmt) (timedP : Paced W P) (timedQ : Paced W Q) (apa
             goes-on = λ p.
                 record {
                   fin =
-                      both-still (kept (means W P) (means W Q) σ) (goes W u P σ) (goes W u Q σ) p
+                      par-still u p
                       (λ q t l k. n .fin t ∙ merged-left (W .w) (n .f₁) (n .f₂) a (suc c) (B .ready .calm .0) (side₁ .goes-on q .fin) t l k)
                       (λ q t l k. n .fin t ∙ merged-right (W .w) (n .f₁) (n .f₂) a (suc c) (B .ready .calm .0) (side₂ .goes-on q .fin) t l k);
                   out = λ t l k. par-in t;
                   sofar = (tt, side₁ .sofar, side₂ .sofar);
                   alive = λ k.
-                      both-still (kept (means W P) (means W Q) σ) (goes W u P σ) (goes W u Q σ) p (λ q. side₁ .goes-on q .alive (k .1))
-                      (λ q. side₂ .goes-on q .alive (k .2));
+                      par-still u p (λ q. side₁ .goes-on q .alive (k .1)) (λ q. side₂ .goes-on q .alive (k .2));
                   bodies = λ q v. side₁ .bodies q (v, refl);
                 };
             ends = λ way σ′ p.
-                let v = both-comes (kept (means W P) (means W Q) σ) (goes W u P σ) (goes W u Q σ) p in
-                in-way (v .8)
+                let v = both-done (kept (means W P) (means W Q) σ) (goes W u P σ) (goes W u Q σ) p in
+                in-way (sym (v .8))
                 (subst (λ (τ : Store). Done atEnd W U τ K L f g a c e) (sym (v .7)) (par-ends (v .0) (v .1) (v .2) (v .3) (v .6) (v .4) (v .5)));
           }
 
-pub run-par : (W : World) (P Q : Stmt) → Paced W P → Paced W Q → Apart (means W P) (means W Q) → Apart (means W Q) (means W P) → RunOf W P → RunOf W Q
+pub run-par : (W : World) (P Q : Stmt) → Paced W P → Paced W Q → Apart (means W P) (means W Q) → Apart (means W Q) (means W P)
+    → exits (means W P) ≡ false → exits (means W Q) ≡ false → RunOf W P → RunOf W Q
     → ShortOf W (par P Q)
 unfolding Circuit Each
-run-par W P Q timedP timedQ apartPQ apartQP doesP doesQ U σ s f g n a c e u h o k B =
-    par-does W P Q timedP timedQ apartPQ apartQP doesP doesQ U σ s f g n a c e u h o k B
+run-par W P Q timedP timedQ apartPQ apartQP inP inQ doesP doesQ U σ s f g n a c e u h o k B =
+    par-does W P Q timedP timedQ apartPQ apartQP inP inQ doesP doesQ U σ s f g n a c e u h o k B

@@ -18,7 +18,7 @@ use Rattle.theory.specs.Control.Calm.{Calm, calmly, Sofar, lately}
 use Rattle.theory.specs.Control.Bodies.{Owned}
 use Rattle.theory.specs.Control.Runs.{Begins, free, Does, RunOf, ShortOf}
 use Rattle.theory.specs.Control.Rounds.{Starts}
-use Rattle.theory.specs.Control.Turns.{Loop, Laps, Turned, starts-does}
+use Rattle.theory.specs.Control.Turns.{Tested, Laps, Turned, starts-does}
 
 -- a repeat goes round while its condition's word is zero
 module _ (W : World) (d : ℕ) (e : Expr) (formed : FormedExpr e) (P : Stmt) (long : gap (W .w) ≤ d) (timed : Paced W P)
@@ -38,7 +38,7 @@ module _ (W : World) (d : ℕ) (e : Expr) (formed : FormedExpr e) (P : Stmt) (lo
       }
 
   module _ (a c j u : ℕ) (h : a + u ≡ c) (o : c < j) (short : j ≤ c + gap (W .w)) (B : Begins W (repeat d e P) U σ K s g a c j) where
-    repeat-loop : Loop W P U d e (λ z. z) s f (n .f₁) (n .s₁) (n .f₁) g
+    repeat-loop : Tested W P U d e (λ z. z) s f (n .f₁) (n .s₁) (n .f₁) g
     unfolding touches widened
     repeat-loop =
         let uses = each-of (reads e) (touches (means W P)) (B .ready .owns .mine) in

@@ -5,7 +5,7 @@ use mathlib.Core.Bool.{Bool, true, false, not, _&&_, _||_}
 use native.Mathlib.Omega.{arith}
 use lib.Dec.{eqb}
 use Rattle.model.specs.Word.{pick, isZero}
-use Rattle.model.specs.Program.{Expr, Stmt, ok, tick, assign, assignElem, seq, par, ite, while, repeat, arrayVar}
+use Rattle.model.specs.Program.{Expr, Stmt, ok, tick, assign, assignElem, seq, par, ite, while, repeat, loop, exit, arrayVar}
 use Rattle.model.specs.Circuit.{Sig, delayed}
 use Rattle.model.specs.Rules.{eval}
 use Rattle.theory.specs.Control.Widths.{turn-least}
@@ -196,6 +196,25 @@ rest-repeat W d e P pos hP s f g n a b k o q =
       called = r .called;
     }
 
+rest-loop : (W : World) (d : ℕ) (P : Stmt) → 1 ≤ d → RestOf W P → RestOf W (loop d P)
+unfolding Circuit Each
+rest-loop W d P pos hP s f g n a b k o q =
+    let v =
+    loop-rests W P hP d pos (n .f₁) s (n .s₁) (n .f₁) (n .g₁) (n .body) (λ t x y. y) (λ t x y. n .begin t ∙ ap₂ _||_ x y) a b (k .1) (k .0 .0) o q in
+    let r = v .0 in
+    record {
+      calm = (timer-rests W d (n .f₁) a b o (v .1) (k .0), r .calm);
+      fin = λ t l h. n .fin t ∙ r .out t l h;
+      out = λ t l h. n .out t;
+      clocks = λ x t l h. n .clocks x t ∙ r .clocks x t l h;
+      called = λ x t l h. n .called x t ∙ r .called x t l h;
+    }
+
+rest-exit : (W : World) → RestOf W exit
+unfolding Circuit Each
+rest-exit W s f g n a b k o q =
+    record { calm = tt; fin = λ t l h. n .fin t; out = λ t l h. n .out t ∙ q t l h; clocks = λ x t l h. n .clocks x t; called = λ x t l h. n .called x t }
+
 pub rest : (W : World) (P : Stmt) → Paced W P → RestOf W P
 unfolding Circuit Each
 rest W ok h = rest-ok W
@@ -207,3 +226,5 @@ rest W (par P Q) h = rest-par W P Q (rest W P (h .0)) (rest W Q (h .1))
 rest W (ite d e P Q) h = rest-ite W d e P Q (rest W P (h .2)) (rest W Q (h .3))
 rest W (while d e P) h = rest-while W d e P (turn-least (W .w) d (W .pos) (h .0)) (rest W P (h .2))
 rest W (repeat d e P) h = rest-repeat W d e P (turn-least (W .w) d (W .pos) (h .0)) (rest W P (h .2))
+rest W (loop d P) h = rest-loop W d P (turn-least (W .w) d (W .pos) (h .0)) (rest W P (h .1))
+rest W exit h = rest-exit W

@@ -1,24 +1,24 @@
--- What goes round in a loop: the body is started, its end enters the loop's delay, and a delay later the body may be started again. X is the signal that
--- feeds the delay: the body's finish, in a while with the loop's start. Assumes nothing.
+-- What goes round in a while, a repeat or a loop: the body is started, its end enters the loop's delay, and a delay later the body may be started
+-- again. X is the signal that feeds the delay: the body's finish, in a while with the loop's start. Assumes nothing.
 use Prim.Native.Nat.{ℕ, suc, _+_, _-_, _≤_, _<_}
-use mathlib.Core.Path.{_≡_, _∙_}
+use mathlib.Core.Path.{_≡_, _∙_, subst}
 use mathlib.Core.Bool.{true, false}
 use native.Mathlib.Omega.{arith}
 use Rattle.model.specs.Program.{Stmt}
 use Rattle.model.specs.Circuit.{Sig, delayed}
-use Rattle.model.specs.Rules.{Store, ended}
+use Rattle.model.specs.Rules.{Store, ended, Way, atEnd, done, still, atExit}
 use Rattle.laws.specs.Refusals.Laws.{by-le}
+use Rattle.theory.specs.Control.Tests.{Waits, waited}
 use Rattle.theory.specs.Control.Widths.{gap}
-use Rattle.theory.specs.Control.Ways.{Way, atEnd, Comes, comes-end}
 use Rattle.theory.specs.Control.Signal.{Quiet, delayed-at, delayed-off}
 use Rattle.theory.specs.Control.Pulses.{Pulse, shows-none}
 use Rattle.theory.specs.Control.History.{Spaced, spaced-off, spaced-turn}
-use Rattle.theory.specs.Control.Wiring.{Gives}
+use Rattle.theory.specs.Control.Wiring.{Gives, Timer}
 use Rattle.theory.specs.Control.World.{World, Built, Paced, goes}
-use Rattle.theory.specs.Control.Calm.{Calm, Sofar, calm-sofar, sofar-less, hush}
+use Rattle.theory.specs.Control.Calm.{Calm, Sofar, calm-sofar, sofar-less, hush, calmly, lately}
 use Rattle.theory.specs.Control.Rest.{Rests, rest}
 use Rattle.theory.specs.Control.Bodies.{Owned, BodySofar, Owns, within, Settled, pause-sofar}
-use Rattle.theory.specs.Control.Runs.{Free, free-later, Done, RunOf, Launched, launch, words-last}
+use Rattle.theory.specs.Control.Runs.{Free, free-later, Done, RunOf, Launched, launch, words-last, Going, going-at, done-as}
 
 -- a loop's body, P, and how it is started: not where neither the loop's start nor the delay's end is high
 pub record Body (W : World) (P : Stmt) (U : Owned) (d : ℕ) (s X s₁ f₁ : Sig) (g : Gives) : Type 1 where
@@ -61,11 +61,18 @@ module _ {W : World} {P : Stmt} {U : Owned} {d : ℕ} {s X s₁ f₁ : Sig} {g :
   abbrev L : ℕ → Type 0
   L = Sofar W P s₁ f₁ g (B .built)
 
+  -- with the delay
+  abbrev KT : ℕ → Type 0
+  KT t = Timer (calmly (W .w) (W .m) t) d X × K t
+
+  abbrev LT : ℕ → Type 0
+  LT t = Timer (lately (W .w) (W .m) t) d X × L t
+
   -- Where the body is started ---------------------------------------------------------------------------------------------------------
 
   module _ {σ : Store} {a c j : ℕ} (u : ℕ) (h : a + u ≡ c) (o′ : c < j) (T : Starts W U d σ K s X s₁ f₁ g a c j) where
     -- as long as the body has not ended, nothing enters the delay
-    pub round-fed : (b : ℕ) → b ≤ j → Quiet f₁ a b → Quiet X a b
+    round-fed : (b : ℕ) → b ≤ j → Quiet f₁ a b → Quiet X a b
     round-fed b o₁ q t l k = T .fed t l (omega arith) ∙ q t l k
 
     -- and nothing comes out
@@ -80,7 +87,7 @@ module _ {W : World} {P : Stmt} {U : Owned} {d : ℕ} {s X s₁ f₁ : Sig} {g :
           low = λ t l l′. B .off t (T .after t l (omega arith)) (round-later b o₀ q t l (omega arith));
         }
 
-    pub round-body : Launched W P U σ K L s₁ f₁ g a j u
+    round-body : Launched W P U σ K L s₁ f₁ g a j u
     round-body =
         launch W P (B .timed) (B .does) U σ s₁ f₁ g (B .built) a j u (omega arith)
         (record { owns = B .owns; calm = T .calm; settled = T .free .settled; words = T .free .words })
@@ -90,7 +97,7 @@ module _ {W : World} {P : Stmt} {U : Owned} {d : ℕ} {s X s₁ f₁ : Sig} {g :
           λ t l k. T .free .silent t l (omega arith) (omega arith),
         ))
 
-    pub round-done : (way : Way) (t₁ : ℕ) (σ₁ : Store) → t₁ ≤ u → Comes (goes W u P σ) way t₁ σ₁
+    round-done : (way : Way) (t₁ : ℕ) (σ₁ : Store) → t₁ ≤ u → goes W u P σ ≡ done way t₁ σ₁
         → (j′ : ℕ) → a + t₁ < j′ → j′ ≤ j → j′ ≤ a + t₁ + gap (W .w) → Done way W U σ₁ K L f₁ g a (a + t₁) j′
     round-done way t₁ σ₁ o p₁ j′ o₂ o₃ o₄ =
         round-body .ends way t₁ σ₁ p₁ j′ o₂ o₃
@@ -101,9 +108,26 @@ module _ {W : World} {P : Stmt} {U : Owned} {d : ℕ} {s X s₁ f₁ : Sig} {g :
           λ l₁ l₂. T .free .silent e′ (omega arith) (omega arith) (omega arith),
         ))
 
+    -- it goes on, and of the delay it is known that nothing enters
+    pub round-going : goes W u P σ ≡ still → Going W U KT LT f₁ g a c
+    round-going p =
+        let G = going-at h (round-body .goes-on p) in
+        let line = spaced-off (W .w) d X a (suc c) (T .line) (round-fed (suc c) (omega arith) (G .fin)) in
+        record { fin = G .fin; out = G .out; sofar = ((tt, line), G .sofar); alive = λ k. G .alive (k .1); bodies = G .bodies }
+
+    -- it comes to an exit, and never enters the delay
+    pub round-left : (σ₁ : Store) → goes W u P σ ≡ done atExit u σ₁ → j ≤ c + gap (W .w) → Done atExit W U σ₁ KT LT f₁ g a c j
+    round-left σ₁ p short =
+        let E : Done atExit W U σ₁ K L f₁ g a c j =
+        subst (λ (k : ℕ). Done atExit W U σ₁ K L f₁ g a k j) h
+        (round-done atExit u σ₁ (omega arith) p j (omega arith) (omega arith) (omega arith)) in
+        let q : Quiet X a j = round-fed j (omega arith) (shows-none (E .fin)) in
+        let line = spaced-off (W .w) d X a j (T .line) q in
+        done-as KT LT (λ o k. ((λ t l k′. by-le a t (λ y₀. q t y₀ l) (λ y₀. T .before t y₀ (omega arith)), line), k)) (λ l. ((tt, line), l)) E
+
     module _ (t₁ : ℕ) (σ₁ : Store) (o : t₁ ≤ u) (p₁ : goes W u P σ ≡ ended t₁ σ₁) where
       ended-to : (j′ : ℕ) → a + t₁ < j′ → j′ ≤ j → j′ ≤ a + t₁ + gap (W .w) → Done atEnd W U σ₁ K L f₁ g a (a + t₁) j′
-      ended-to = round-done atEnd t₁ σ₁ o (comes-end p₁)
+      ended-to = round-done atEnd t₁ σ₁ o p₁
 
       first : Done atEnd W U σ₁ K L f₁ g a (a + t₁) (suc (a + t₁))
       first = ended-to (suc (a + t₁)) (omega arith) (omega arith) (omega arith)
@@ -206,20 +230,23 @@ module _ {W : World} {P : Stmt} {U : Owned} {d : ℕ} {s X s₁ f₁ : Sig} {g :
           delayed-at d X (t - d) t (omega arith) ∙ waits-fed (a + d) (omega arith) (omega arith) (t - d) (omega arith) (omega arith)
 
       -- nothing is clocked until then, and nothing is called until a gap later
-      pub delay-clocks : (x : ℕ) → Quiet (g .clk x) a (a + d)
+      delay-clocks : (x : ℕ) → Quiet (g .clk x) a (a + d)
       delay-clocks x t l k =
           by-le (a + gap (W .w)) t (λ y₀. waits-rest .clocks x t y₀ (omega arith)) (λ y₀. T .clocks x t l (omega arith) (omega arith))
 
-      pub delay-uncalled : (q t : ℕ) → a + W .w ≤ t → t < a + d + gap (W .w) → t < j → g .calls q t ≡ false
+      delay-uncalled : (q t : ℕ) → a + W .w ≤ t → t < a + d + gap (W .w) → t < j → g .calls q t ≡ false
       delay-uncalled q t l k k′ =
           by-le (a + d) t (λ y₀. hush W P s₁ f₁ g (B .built) (a + d) (waits-rest .calm) q t y₀ k)
           (λ y₀.
           by-le (a + gap (W .w)) t (λ y₁. waits-rest .called q t y₁ (omega arith)) (λ y₁. T .called q t l (omega arith) (omega arith)))
 
+      pub delay-waits : Waits W U g d σ a c j
+      delay-waits = record { room = o; last = o′; free = T .free; low = delay-clocks; uncalled = delay-uncalled }
+
       -- and where it comes out the body may be started again
-      pub delay-again : Free W U g σ (a + d) c j → ((t : ℕ) → a + d ≤ t → t < a + d + W .w → t < j → s₁ t ≡ true)
+      pub delay-again : ((t : ℕ) → a + d ≤ t → t < a + d + W .w → t < j → s₁ t ≡ true)
           → Starts W U d σ K s X s₁ f₁ g (a + d) c j
-      delay-again F on =
+      delay-again on =
           record {
             before = λ t l k. waits-fed (a + d) (omega arith) (omega arith) t (omega arith) l;
             fed = λ t l k. T .fed t (omega arith) k;
@@ -227,5 +254,5 @@ module _ {W : World} {P : Stmt} {U : Owned} {d : ℕ} {s X s₁ f₁ : Sig} {g :
             line = delay-line (a + d) (waits-fed (a + d) (omega arith) (omega arith));
             calm = waits-rest .calm;
             after = λ t l k. T .after t (omega arith) k;
-            free = F;
+            free = waited delay-waits;
           }

@@ -5,13 +5,12 @@ use mathlib.Core.Path.{_≡_, refl, _∙_, ap, subst}
 use mathlib.Core.Bool.{Bool, true, false}
 use native.Mathlib.Omega.{arith}
 use Rattle.model.specs.Program.{Stmt}
-use Rattle.model.specs.Rules.{Store, owner, Run, still}
+use Rattle.model.specs.Rules.{Store, owner, Run, still, Way, atEnd, atExit, done}
 use Rattle.model.specs.Circuit.{Sig}
 use Rattle.laws.specs.Refusals.Laws.{by-le}
 use Rattle.theory.specs.Control.Signal.{Quiet, glue, creep}
-use Rattle.laws.specs.Rules.Laws.{still-below}
+use Rattle.laws.specs.Rules.Laws.{still-before, still-below}
 use Rattle.theory.specs.Control.Widths.{gap}
-use Rattle.theory.specs.Control.Ways.{Way, atEnd, atExit, Comes, comes-steady, not-yet}
 use Rattle.theory.specs.Control.Pulses.{Pulse, Shows, pulse-less, shows-from}
 use Rattle.theory.specs.Control.Wiring.{Gives}
 use Rattle.theory.specs.Control.World.{World, Built, Paced, goes, steadily}
@@ -113,7 +112,7 @@ going-at {W = W} {U = U} {K = K} {L = L} {f = f} {g = g} {a = a} q G = subst (λ
 -- up to the horizon u, which is the instant c, the circuit does as the run r says; and if it is done there, also on to e
 pub record Does (W : World) (U : Owned) (r : Run) (K L : ℕ → Type 0) (f : Sig) (g : Gives) (a c e u : ℕ) : Type 0 where
   pub goes-on : r ≡ still → Going W U K L f g a c
-  pub ends : (way : Way) (σ′ : Store) → Comes r way u σ′ → Done way W U σ′ K L f g a c e
+  pub ends : (way : Way) (σ′ : Store) → r ≡ done way u σ′ → Done way W U σ′ K L f g a c e
 
 abbrev pub RunOf : World → Stmt → Type 1
 RunOf W P =
@@ -252,7 +251,7 @@ Stays W U s g a c e =
 pub record Launched (W : World) (P : Stmt) (U : Owned) (σ : Store) (K L : ℕ → Type 0) (s f : Sig) (g : Gives) (a j u : ℕ) : Type 0 where
   pub goes-on : goes W u P σ ≡ still → Going W U K L f g a (a + u)
   -- on to e, if the surroundings stay out as long as it has been seen to leave
-  pub ends : (way : Way) (t : ℕ) (σ′ : Store) → Comes (goes W u P σ) way t σ′ → (e : ℕ) → a + t < e → e ≤ j
+  pub ends : (way : Way) (t : ℕ) (σ′ : Store) → goes W u P σ ≡ done way t σ′ → (e : ℕ) → a + t < e → e ≤ j
       → ((e′ : ℕ) → a + t < e′ → e′ < e → Done way W U σ′ K L f g a (a + t) e′ → Stays W U s g a (a + t) e′)
       → Done way W U σ′ K L f g a (a + t) e
 
@@ -279,7 +278,7 @@ module _ (W : World) (P : Stmt) (timed : Paced W P) (does : RunOf W P) (U : Owne
       launch-to v (omega arith) q .goes-on (still-below (λ k. goes W k P σ) (steadily W P timed σ) u v p (omega arith)) .fin
       (a + v) (omega arith) (omega arith))
 
-  module _ (way : Way) (t : ℕ) (σ′ : Store) (o : t ≤ u) (p : Comes (goes W t P σ) way t σ′) (q : Quiet f a (a + t)) (e : ℕ) (o′ : e ≤ j)
+  module _ (way : Way) (t : ℕ) (σ′ : Store) (o : t ≤ u) (p : goes W t P σ ≡ done way t σ′) (q : Quiet f a (a + t)) (e : ℕ) (o′ : e ≤ j)
       (more : (e′ : ℕ) → a + t < e′ → e′ < e → Done way W U σ′ (Calm W P s f g n) (Sofar W P s f g n) f g a (a + t) e′ → Stays W U s g a (a + t) e′) where
     extend : (v : ℕ) → a + t + v < e
         → Done way W U σ′ (Calm W P s f g n) (Sofar W P s f g n) f g a (a + t) (suc (a + t + v)) × Hold W U (a + t) (suc (a + t + v)) × Silent W U g a (a + t) (suc (a + t + v))
@@ -316,12 +315,12 @@ module _ (W : World) (P : Stmt) (timed : Paced W P) (does : RunOf W P) (U : Owne
       record {
         goes-on = λ p. launch-to u (omega arith) (λ t l k. launch-goes-on p t l (omega arith)) .goes-on p;
         ends = λ way t σ′ p e l l′ more.
-            let i = comes-steady (λ k. goes W k P σ) (steadily W P timed σ) u p in
+            let i = steadily W P timed σ u way t σ′ p in
             let q : Quiet f a (a + t) =
             creep f a (a + t)
             (λ v h q.
             launch-to v (omega (arith, i .0)) q .goes-on
-            (not-yet (λ k. goes W k P σ) (steadily W P timed σ) u p v (omega arith))
+            (still-before (λ k. goes W k P σ) (steadily W P timed σ) u way t v σ′ p (omega arith))
             .fin (a + v) (omega arith) (omega arith)) in
             let z : suc (a + t + (e - suc (a + t))) ≡ e = omega arith in
             subst (λ (k : ℕ). Done way W U σ′ (Calm W P s f g n) (Sofar W P s f g n) f g a (a + t) k) z

@@ -5,10 +5,11 @@ use mathlib.Core.Bool.{_||_}
 use native.Mathlib.Omega.{arith}
 use Rattle.model.specs.Program.{Stmt, seq, touches}
 use Rattle.model.specs.Circuit.{Sig}
-use Rattle.model.specs.Rules.{Store, owner, ended, still, run}
+use Rattle.model.specs.Rules.{Store, owner, ended, still, run, Way, atEnd, atExit, done}
 use Rattle.laws.specs.Refusals.Laws.{by-le}
+use Rattle.laws.specs.Rules.Laws.{chain-done}
 use Rattle.theory.specs.Control.Widths.{gap, widened}
-use Rattle.theory.specs.Control.Ways.{Way, atEnd, atExit, Comes, comes-end, comes-at, chain-comes, chain-going}
+use Rattle.theory.specs.Control.Ways.{at-time, chain-going}
 use Rattle.theory.specs.Control.Signal.{Quiet, glue}
 use Rattle.theory.specs.Control.Pulses.{pulse-less, pulse-firm, shows-pulse, shows-none, shows-off, shows-from, shows-is}
 use Rattle.theory.specs.Control.Wiring.{Gives, Seq, Circuit, Each}
@@ -66,7 +67,7 @@ module _ (W : World) (P Q : Stmt) (timedP : Paced W P) (timedQ : Paced W Q) (doe
         ))
 
     -- the first part leaves
-    seq-leaves : (σ′ : Store) → Comes (goes W u P σ) atExit u σ′ → Done atExit W U σ′ K L f g a c e
+    seq-leaves : (σ′ : Store) → goes W u P σ ≡ done atExit u σ′ → Done atExit W U σ′ K L f g a c e
     seq-leaves σ′ p =
         let E : Done atExit W U σ′ K₁ L₁ (n .mid) (n .g₁) a c e =
         subst (λ (k : ℕ). Done atExit W U σ′ K₁ L₁ (n .mid) (n .g₁) a k e) h
@@ -107,7 +108,7 @@ module _ (W : World) (P Q : Stmt) (timedP : Paced W P) (timedQ : Paced W Q) (doe
 
       seq-left : Done atEnd W U σ₁ K₁ L₁ (n .mid) (n .g₁) a (a + t₁) e
       seq-left =
-          seq-first .ends atEnd t₁ σ₁ (comes-end p₁) e (omega arith) (omega arith)
+          seq-first .ends atEnd t₁ σ₁ p₁ e (omega arith) (omega arith)
           (λ e′ l k E. (
             pulse-less (omega arith) (B .pulse),
             λ x i j.
@@ -153,10 +154,10 @@ module _ (W : World) (P Q : Stmt) (timedP : Paced W P) (timedQ : Paced W Q) (doe
             bodies = G .bodies;
           }
 
-      seq-ends : (way : Way) (t₂ : ℕ) (σ₂ : Store) → t₁ + t₂ ≡ u → Comes (goes W (u - t₁) Q σ₁) way t₂ σ₂ → Done way W U σ₂ K L f g a c e
+      seq-ends : (way : Way) (t₂ : ℕ) (σ₂ : Store) → t₁ + t₂ ≡ u → goes W (u - t₁) Q σ₁ ≡ done way t₂ σ₂ → Done way W U σ₂ K L f g a c e
       seq-ends way t₂ σ₂ z p =
           let y : t₂ ≡ u - t₁ = omega arith in
-          let E₂ = seq-second .ends way σ₂ (comes-at (goes W (u - t₁) Q σ₁) y p) in
+          let E₂ = seq-second .ends way σ₂ (at-time (goes W (u - t₁) Q σ₁) y p) in
           record {
             fin = shows-from (seq-before .fin) (E₂ .fin);
             out = shows-is (omega arith) (omega arith) seq-in (shows-from (seq-before .out) (E₂ .out));
@@ -186,11 +187,11 @@ module _ (W : World) (P Q : Stmt) (timedP : Paced W P) (timedQ : Paced W Q) (doe
         record {
           goes-on = λ p.
               chain-going (goes W u P σ) (λ t σ₁. goes W (u - t) Q σ₁) p
-              (λ t₁ σ₁ q. seq-goes-on t₁ σ₁ (steadily W P timedP σ u t₁ σ₁ q .0) q) seq-first-going;
+              (λ t₁ σ₁ q. seq-goes-on t₁ σ₁ (steadily W P timedP σ u atEnd t₁ σ₁ q .0) q) seq-first-going;
           ends = λ way σ′ p.
-              chain-comes (goes W u P σ) (λ t σ₁. goes W (u - t) Q σ₁) p
-              (λ t₁ σ₁ t₂ q q₁ q₂. seq-ends t₁ σ₁ (steadily W P timedP σ u t₁ σ₁ q .0) q way t₂ σ′ (sym q₂) q₁)
-              (λ z q. in-way z (seq-leaves σ′ q));
+              chain-done (goes W u P σ) (λ t σ₁. goes W (u - t) Q σ₁) p
+              (λ t₁ σ₁ t₂ q q₁ q₂. seq-ends t₁ σ₁ (steadily W P timedP σ u atEnd t₁ σ₁ q .0) q way t₂ σ′ (sym q₂) q₁)
+              (λ z q. in-way (sym z) (seq-leaves σ′ q));
         }
 
 pub run-seq : (W : World) (P Q : Stmt) → Paced W P → Paced W Q → RunOf W P → RunOf W Q → ShortOf W (seq P Q)

@@ -6,10 +6,10 @@ use mathlib.Core.Bool.{Bool, false, _||_, or-false}
 use native.Mathlib.Omega.{arith}
 use Rattle.model.specs.Program.{Stmt, writes}
 use Rattle.model.specs.Circuit.{Sig}
-use Rattle.model.specs.Rules.{Store, ended, still}
+use Rattle.model.specs.Rules.{Store, ended, still, Way, atEnd, done}
 use Rattle.laws.specs.Program.Fit.{Apart}
 use Rattle.laws.specs.Rules.Uses.{apart-unwritten}
-use Rattle.theory.specs.Control.Ways.{Way, atEnd, Comes, comes-end, by-way, comes-steady}
+use Rattle.laws.specs.Rules.Laws.{by-run}
 use Rattle.theory.specs.Control.Signal.{Quiet, glue}
 use Rattle.theory.specs.Control.Pulses.{Pulse, pulse-less, shows-from, shows-is}
 use Rattle.theory.specs.Control.Wiring.{_≈_, either, Gives, Joined}
@@ -132,7 +132,7 @@ module _ (W : World) (R O : Stmt) (timedR : Paced W R) (doesR : RunOf W R) (apar
         λ t l k. own-silent t l (omega arith) (omega arith),
       ))
 
-  module _ (way : Way) (t₁ : ℕ) (σ₁ : Store) (o₁ : t₁ ≤ u) (p : Comes (goes W u R σ) way t₁ σ₁) where
+  module _ (way : Way) (t₁ : ℕ) (σ₁ : Store) (o₁ : t₁ ≤ u) (p : goes W u R σ ≡ done way t₁ σ₁) where
     side-left : Done way W (Own W U O) σ₁ (Calm W R s fR gR nR) (Sofar W R s fR gR nR) fR gR a (a + t₁) e
     side-left =
         side-launched .ends way t₁ σ₁ p e (omega arith) (omega arith)
@@ -162,15 +162,15 @@ module _ (W : World) (R O : Stmt) (timedR : Paced W R) (doesR : RunOf W R) (apar
 
   side-so-far : Sofar W R s fR gR nR (suc c) × ((q : ℕ) → Own W U O .procs q → BodySofar W q (suc c))
   side-so-far =
-      by-way (goes W u R σ) (λ way t σ₁ p. side-sofar way t σ₁ (comes-steady (λ k. goes W k R σ) (steadily W R timedR σ) u p .0) p)
+      by-run (goes W u R σ) (λ way t σ₁ p. side-sofar way t σ₁ (steadily W R timedR σ u way t σ₁ p .0) p)
       (λ p. let G = going-at h (side-launched .goes-on p) in (G .sofar, G .bodies))
 
   pub side : Side W R O U σ (Calm W R s fR gR nR) (Sofar W R s fR gR nR) fR gR a c e u
   side =
       record {
         goes-on = λ p. going-at h (side-launched .goes-on p);
-        ends = λ t₁ σ₁ o₁ p. side-left atEnd t₁ σ₁ o₁ (comes-end p);
+        ends = λ t₁ σ₁ o₁ p. side-left atEnd t₁ σ₁ o₁ p;
         sofar = side-so-far .0;
         bodies = side-so-far .1;
-        last = λ t₁ σ₁ o₁ p. side-last atEnd t₁ σ₁ o₁ (comes-end p);
+        last = λ t₁ σ₁ o₁ p. side-last atEnd t₁ σ₁ o₁ p;
       }

@@ -1,4 +1,4 @@
--- What the circuits of ok, tick and the two assignments do. Assumes nothing.
+-- What the circuits of ok, tick, exit and the two assignments do. Assumes nothing.
 use Prim.Native.Nat.{ℕ, suc, _+_, _-_, _≤_, _<_}
 use mathlib.Core.Path.{_≡_, sym, _∙_, ap, ap₂, subst}
 use mathlib.Core.Bool.{Bool, true, false, _||_}
@@ -6,17 +6,16 @@ use native.Mathlib.Omega.{arith}
 use lib.Dec.{eqb}
 use borrow.Author.Tests.{eqb-true}
 use Rattle.model.specs.Word.{pick, elementWord}
-use Rattle.model.specs.Program.{Expr, ok, tick, assign, assignElem, arrayVar, reads, touches}
+use Rattle.model.specs.Program.{Expr, ok, tick, assign, assignElem, exit, arrayVar, reads, touches}
 use Rattle.model.specs.Circuit.{Sig, delayed}
-use Rattle.model.specs.Rules.{Store, owner, ended, wait, run, eval, put}
+use Rattle.model.specs.Rules.{Store, owner, ended, wait, run, eval, put, atEnd}
 use Rattle.laws.specs.Refusals.Laws.{by-bool, by-le, not-both}
 use Rattle.laws.specs.Program.Fit.{FormedExpr}
 use Rattle.laws.specs.Rules.Words.{other-variable, other-element}
 use Rattle.laws.specs.Rules.Uses.{eval-same}
 use Rattle.theory.specs.Control.Signal.{Quiet, delayed-quiet}
-use Rattle.laws.specs.Rules.Laws.{ended-still, wait-still}
+use Rattle.laws.specs.Rules.Laws.{done-still, wait-still, wait-done, done-way, done-time, done-words}
 use Rattle.theory.specs.Control.Widths.{gap, widened}
-use Rattle.theory.specs.Control.Ways.{atEnd, end-comes, wait-comes}
 use Rattle.theory.specs.Control.Pulses.{Pulse, Firm, pulse-less, pulse-delayed, pulse-is, pulse-at, pulse-firm, quiet-firm, delayed-firm, shows-on, shows-off}
 use Rattle.theory.specs.Control.History.{Stable, stable-on, Spaced, spaced-off, spaced-turn, spaced-on}
 use Rattle.theory.specs.Control.Wiring.{ideal, Gives, Assigned, Circuit, Delays, Each, hits, latch}
@@ -30,18 +29,17 @@ pub run-ok : (W : World) → ShortOf W ok
 unfolding run widened Circuit Each
 run-ok W U σ s f g n a c e u h o k B =
     record {
-      goes-on = λ p. ended-still p;
+      goes-on = λ p. done-still p;
       ends = λ way σ′ p.
-          let v = end-comes p in
-          let z : 0 ≡ u = v .1 in
+          let z : 0 ≡ u = done-time p in
           let q : a ≡ c = omega arith in
-          in-way (v .0)
+          in-way (done-way p)
           (record {
             fin = shows-on (λ t l k. absurd (omega arith)) (pulse-is (n .fin) (pulse-at q (B .pulse)));
             out = shows-off (omega arith) (omega arith) (λ t l k. n .out t);
             low = λ x t l k. n .clocks x t;
             called = λ x t l k. n .called x t;
-            words = λ x i. ap (λ (t : ℕ). W .m t x) (sym q) ∙ B .ready .words x i ∙ ap (λ (τ : Store). τ x) (v .2);
+            words = λ x i. ap (λ (t : ℕ). W .m t x) (sym q) ∙ B .ready .words x i ∙ ap (λ (τ : Store). τ x) (done-words p);
             sofar = tt;
             calm = λ j. tt;
             settled = settled-at W (U .procs) a c e q (B .ready .settled);
@@ -56,7 +54,7 @@ run-tick W d U σ s f g n a c e u h o short B =
     let line : Spaced (W .w) d s e = spaced-on (W .w) d s a e (k₀ .1) (k₀ .0) (B .pulse) in
     record {
       goes-on = λ p.
-          by-le d u (λ k. ended-still (wait-still d u (λ k₁. ended 0 σ) p k))
+          by-le d u (λ k. done-still (wait-still d u (λ k₁. ended 0 σ) p k))
           (λ k.
           record {
             fin = λ t l r. q t l (omega arith);
@@ -67,11 +65,10 @@ run-tick W d U σ s f g n a c e u h o short B =
                 (λ t l r. B .silent t l (omega arith) (omega arith)) (λ x t l r. n .called x t);
           });
       ends = λ way σ′ p.
-          let v = wait-comes d u (λ k₁. ended 0 σ) p in
-          let y₀ = end-comes (v .2) in
-          let z : 0 ≡ v .0 = y₀ .1 in
+          let v = wait-done d u (λ k₁. ended 0 σ) p in
+          let z : 0 ≡ v .0 = done-time (v .2) in
           let y : a + d ≡ c = omega (arith, v .3) in
-          in-way (y₀ .0)
+          in-way (done-way (v .2))
           (record {
             fin = shows-on (λ t l k. q t l (omega arith)) (pulse-is (n .fin) (pulse-at y (pulse-less (omega arith) (pulse-delayed d (B .pulse)))));
             out = shows-off (omega arith) (omega arith) (λ t l k. n .out t);
@@ -81,10 +78,32 @@ run-tick W d U σ s f g n a c e u h o short B =
                 pause-words W U g a c e (omega arith) (B .ready .settled) (λ t l k. B .silent t l (omega arith) (omega arith))
                 (λ x t l k. n .called x t) (omega arith) (B .follow) (λ x t l k. n .clocks x t) x i
                 ∙ B .ready .words x i
-                ∙ ap (λ (τ : Store). τ x) (y₀ .2);
+                ∙ ap (λ (τ : Store). τ x) (done-words (v .2));
             sofar = (tt, line);
             calm = λ j. (λ t l k. B .pulse .low t (omega arith) l, line);
             settled = pause W U g a c e (omega arith) (B .ready .settled) (B .silent) (λ x t l k h. n .called x t);
+          });
+    }
+
+-- an exit: its start goes out, and its finish stays low
+pub run-exit : (W : World) → ShortOf W exit
+unfolding run widened Circuit Each
+run-exit W U σ s f g n a c e u h o k B =
+    record {
+      goes-on = λ p. done-still p;
+      ends = λ way σ′ p.
+          let z : 0 ≡ u = done-time p in
+          let q : a ≡ c = omega arith in
+          in-way (done-way p)
+          (record {
+            fin = shows-off (omega arith) (omega arith) (λ t l k. n .fin t);
+            out = shows-on (λ t l k. absurd (omega arith)) (pulse-is (n .out) (pulse-at q (B .pulse)));
+            low = λ x t l k. n .clocks x t;
+            called = λ x t l k. n .called x t;
+            words = λ x i. ap (λ (t : ℕ). W .m t x) (sym q) ∙ B .ready .words x i ∙ ap (λ (τ : Store). τ x) (done-words p);
+            sofar = tt;
+            calm = λ j. tt;
+            settled = settled-at W (U .procs) a c e q (B .ready .settled);
           });
     }
 
@@ -236,12 +255,13 @@ module _ (W : World) (d y : ℕ) (r : ℕ → ℕ) (e : Expr) (pos : 1 ≤ d) (U
         assign-does =
             record {
               goes-on = λ p.
-                  by-le (d + W .w) u (λ k. ended-still (wait-still (suc (d + (W .w - 1))) u (λ k₁. ended 0 τ) p (omega arith)))
+                  by-le (d + W .w) u (λ k. done-still (wait-still (suc (d + (W .w - 1))) u (λ k₁. ended 0 τ) p (omega arith)))
                   (λ k. assign-goes-on k);
               ends = λ way σ′ p.
-                  let v = wait-comes (suc (d + (W .w - 1))) u (λ k₁. ended 0 τ) p in
-                  let x = end-comes (v .2) in
-                  in-way (x .0) (subst (λ (σ : Store). Done atEnd W U σ K L f g a c j) (x .2) (assign-ends (omega (arith, v .3, x .1))));
+                  let v = wait-done (suc (d + (W .w - 1))) u (λ k₁. ended 0 τ) p in
+                  let z : 0 ≡ v .0 = done-time (v .2) in
+                  in-way (done-way (v .2))
+                  (subst (λ (σ : Store). Done atEnd W U σ K L f g a c j) (done-words (v .2)) (assign-ends (omega (arith, v .3, z))));
             }
 
 pub run-assign : (W : World) (d y : ℕ) (e : Expr) → 1 ≤ d → y < 16 → FormedExpr e → ShortOf W (assign d y e)
@@ -269,7 +289,7 @@ run-elem W d k i e pos formedI formedE U σ s f g n a c j u h o short B =
           going-as (Calm W (assignElem d k i e) s f g n) (Sofar W (assignElem d k i e) s f g n) (λ q. q .0)
           (λ l. (l, used (suc c) (omega arith) (λ t l k. omega arith))) (does .goes-on p);
       ends = λ way σ′ p.
-          let v = wait-comes (suc (d + (W .w - 1))) u (λ k₁. ended 0 (put σ (elementWord k (eval i σ)) (eval e σ))) p .1 in
+          let v = wait-done (suc (d + (W .w - 1))) u (λ k₁. ended 0 (put σ (elementWord k (eval i σ)) (eval e σ))) p .1 in
           let past = used j (omega arith) (λ t l k. omega (arith, v)) in
           done-as (Calm W (assignElem d k i e) s f g n) (Sofar W (assignElem d k i e) s f g n) (λ q l. (l, past)) (λ l. (l, past))
           (does .ends way σ′ p);

@@ -6,7 +6,7 @@ use mathlib.Core.Bool.{Bool, true, false, not, _&&_, _||_, or-false}
 use native.Mathlib.Omega.{arith}
 use lib.Dec.{eqb}
 use Rattle.model.specs.Word.{pick, isZero}
-use Rattle.model.specs.Program.{Expr, Stmt, ok, tick, assign, assignElem, seq, par, ite, while, repeat, arrayVar, reads, touches}
+use Rattle.model.specs.Program.{Expr, Stmt, ok, tick, assign, assignElem, seq, par, ite, while, repeat, loop, exit, arrayVar, reads, touches}
 use Rattle.model.specs.Circuit.{Sig, delayed}
 use Rattle.model.specs.Rules.{owner, eval}
 use Rattle.laws.specs.Refusals.Laws.{by-bool, and-true}
@@ -152,6 +152,21 @@ surge-repeat W d e P long hP s f g n a b calm o o′ q k =
       clocks = r .clocks;
     }
 
+-- so has that of a loop
+surge-loop : (W : World) (d : ℕ) (P : Stmt) → gap (W .w) ≤ d → SurgeOf W P → SurgeOf W (loop d P)
+unfolding Circuit Each touches widened
+surge-loop W d P long hP s f g n a b calm o o′ q k =
+    let D : Quiet (delayed d (n .f₁)) a b =
+    λ t l h. delayed-quiet d (n .f₁) a a (calm .0 .0) (λ t l h. absurd (omega arith)) t l (omega arith) in
+    let r =
+    hP (n .s₁) (n .f₁) (n .g₁) (n .body) a b (calm .1) o o′
+    (firm-is s (n .s₁) a b (λ t l h. n .begin t ∙ ap (λ (c : Bool). s t || c) (D t l h) ∙ or-false (s t)) q) k in
+    record {
+      fin = firm-is (n .g₁ .out) f a b (λ t l h. n .fin t) (r .out);
+      out = quiet-firm (g .out) a b (λ t l h. n .out t);
+      clocks = λ x. firm-is (n .g₁ .clk x) (g .clk x) a (suc b) (λ t l h. n .clocks x t) (r .clocks x);
+    }
+
 pub surge : (W : World) (P : Stmt) → Paced W P → SurgeOf W P
 unfolding Circuit Each
 surge W ok h = λ s f g n a b calm o o′ q k.
@@ -173,3 +188,10 @@ surge W (par P Q) h = surge-par W P Q (surge W P (h .0)) (surge W Q (h .1))
 surge W (ite d e P Q) h = surge-ite W d e P Q (h .1) (surge W P (h .2)) (surge W Q (h .3))
 surge W (while d e P) h = surge-while W d e P (h .0) (h .2)
 surge W (repeat d e P) h = surge-repeat W d e P (h .0) (surge W P (h .2))
+surge W (loop d P) h = surge-loop W d P (h .0) (surge W P (h .1))
+surge W exit h = λ s f g n a b calm o o′ q k.
+    record {
+      fin = quiet-firm f a b (λ t l h. n .fin t);
+      out = firm-is s (g .out) a b (λ t l h. n .out t) q;
+      clocks = λ x. quiet-firm (g .clk x) a (suc b) (λ t l h. n .clocks x t);
+    }

@@ -7,54 +7,60 @@ use mathlib.Core.Bool.{Bool, false}
 use native.Mathlib.Omega.{arith}
 use lib.Dec.{ltb}
 use borrow.Author.Tests.{lt-ltb, le-ltb}
-use Rattle.model.specs.Program.{Stmt, ok, tick, assign, assignElem, seq, par, ite, while, repeat}
+use Rattle.model.specs.Program.{Stmt, ok, tick, assign, assignElem, seq, par, ite, while, repeat, loop, exit}
 use Rattle.model.specs.Circuit.{Sig}
-use Rattle.model.specs.Rules.{Store, owner, Run, ended, still}
+use Rattle.model.specs.Rules.{Store, owner, Run, still, Way, atEnd, done, atExit}
 use Rattle.laws.specs.Refusals.Laws.{by-le}
-use Rattle.laws.specs.Program.Fit.{Separate}
-use Rattle.laws.specs.Rules.Laws.{by-run}
+use Rattle.laws.specs.Program.Fit.{Separate, Inside}
+use Rattle.laws.specs.Rules.Laws.{by-run, by-runs}
 use Rattle.theory.specs.Control.Widths.{gap, widened}
-use Rattle.theory.specs.Control.Ways.{Way, atEnd, Comes, comes-end, by-way, comes-steady}
-use Rattle.theory.specs.Control.Pulses.{Pulse, pulse-less}
+use Rattle.theory.specs.Control.Pulses.{Pulse, pulse-less, shows-none}
 use Rattle.theory.specs.Control.Wiring.{Gives}
 use Rattle.theory.specs.Control.World.{World, Built, means, Paced, goes, steadily}
 use Rattle.theory.specs.Control.Calm.{Calm, Sofar, sofar-less}
 use Rattle.theory.specs.Control.Bodies.{Owned, Idle, BodySofar, SilentAt, Follows, within, pause-rests, pause-sofar}
 use Rattle.theory.specs.Control.Runs.{Ready, Done, RunOf, Launched, launch, onward, words-stay}
-use Rattle.theory.specs.Control.Simple.{run-ok, run-tick, run-assign, run-elem}
+use Rattle.theory.specs.Control.Simple.{run-ok, run-tick, run-exit, run-assign, run-elem}
 use Rattle.theory.specs.Control.Sequence.{run-seq}
 use Rattle.theory.specs.Control.If.{run-ite}
 use Rattle.theory.specs.Control.Parallel.{run-par}
 use Rattle.theory.specs.Control.While.{run-while}
 use Rattle.theory.specs.Control.Repeat.{run-repeat}
+use Rattle.theory.specs.Control.Loop.{run-loop}
 
 -- From any start pulse and up to any horizon, the circuit does as the rules say
-pub does : (W : World) (P : Stmt) → Paced W P → Separate (means W P) → RunOf W P
+pub does : (W : World) (P : Stmt) → Paced W P → Separate (means W P) → Inside (means W P) → RunOf W P
 unfolding widened
-does W ok h k = onward W ok h (run-ok W)
-does W (tick d) h k = onward W (tick d) h (run-tick W d)
-does W (assign d x e) h k = onward W (assign d x e) h (run-assign W d x e (h .0) (h .1) (h .2))
-does W (assignElem d j i e) h k = onward W (assignElem d j i e) h (run-elem W d j i e (h .0) (h .2) (h .3))
-does W (seq P Q) h k = onward W (seq P Q) h (run-seq W P Q (h .0) (h .1) (does W P (h .0) (k .0)) (does W Q (h .1) (k .1)))
-does W (par P Q) h k =
-    onward W (par P Q) h (run-par W P Q (h .0) (h .1) (k .2 .0) (k .2 .1) (does W P (h .0) (k .0)) (does W Q (h .1) (k .1)))
-does W (ite d e P Q) h k = onward W (ite d e P Q) h (run-ite W d e (h .1) P Q (h .2) (h .3) (does W P (h .2) (k .2)) (does W Q (h .3) (k .3)))
-does W (while d e P) h k = onward W (while d e P) h (run-while W d e (h .1) P (h .0) (h .2) (does W P (h .2) (k .2)))
-does W (repeat d e P) h k = onward W (repeat d e P) h (run-repeat W d e (h .1) P (h .0) (h .2) (does W P (h .2) (k .2)))
+does W ok h k i = onward W ok h (run-ok W)
+does W (tick d) h k i = onward W (tick d) h (run-tick W d)
+does W (assign d x e) h k i = onward W (assign d x e) h (run-assign W d x e (h .0) (h .1) (h .2))
+does W (assignElem d j v e) h k i = onward W (assignElem d j v e) h (run-elem W d j v e (h .0) (h .2) (h .3))
+does W (seq P Q) h k i =
+    onward W (seq P Q) h (run-seq W P Q (h .0) (h .1) (does W P (h .0) (k .0) (i .0)) (does W Q (h .1) (k .1) (i .1)))
+does W (par P Q) h k i =
+    onward W (par P Q) h
+    (run-par W P Q (h .0) (h .1) (k .2 .0) (k .2 .1) (i .2 .0) (i .2 .1) (does W P (h .0) (k .0) (i .0)) (does W Q (h .1) (k .1) (i .1)))
+does W (ite d e P Q) h k i =
+    onward W (ite d e P Q) h (run-ite W d e (h .1) P Q (h .2) (h .3) (does W P (h .2) (k .2) (i .2)) (does W Q (h .3) (k .3) (i .3)))
+does W (while d e P) h k i = onward W (while d e P) h (run-while W d e (h .1) P (h .0) (h .2) (does W P (h .2) (k .2) (i .2)))
+does W (repeat d e P) h k i = onward W (repeat d e P) h (run-repeat W d e (h .1) P (h .0) (h .2) (does W P (h .2) (k .2) (i .2)))
+does W (loop d P) h k i = onward W (loop d P) h (run-loop W d P (h .0) (h .1) (does W P (h .1) (k .1) (i .1)))
+does W exit h k i = onward W exit h (run-exit W)
 
 -- whether a finish shows at u a run that has ended: for w instants from its end on
 unfoldable pub showsAt : ℕ → ℕ → Run → Bool
-showsAt w u (ended t σ) = ltb u (t + w)
+showsAt w u (done atEnd t σ) = ltb u (t + w)
+showsAt w u (done atExit t σ) = false
 showsAt w u still = false
 
 -- A pulse from a on, with nothing in flight, and no other before e; on [a, e] what P owns follows what P and its bodies give. Of the rest nothing is
 -- asked, and nothing is said.
-module _ (W : World) (P : Stmt) (timed : Paced W P) (separate : Separate (means W P)) (U : Owned) (σ : Store) (s f : Sig) (g : Gives)
+module _ (W : World) (P : Stmt) (timed : Paced W P) (separate : Separate (means W P)) (inside : Inside (means W P)) (U : Owned) (σ : Store) (s f : Sig) (g : Gives)
     (n : Built W P s f g) (a e : ℕ) (ready : Ready W P U σ (Calm W P s f g n) a e) (pulse : Pulse (W .w) s a e) (follow : Follows W U g a e)
     (silent : (t : ℕ) → a + W .w ≤ t → t < e → SilentAt W (U .procs) g t) where
   launched : (u : ℕ) → a + u < e → Launched W P U σ (Calm W P s f g n) (Sofar W P s f g n) s f g a e u
   launched u l =
-      launch W P timed (does W P timed separate) U σ s f g n a e u l ready
+      launch W P timed (does W P timed separate inside) U σ s f g n a e u l ready
       (λ v o q. (
         pulse-less (omega arith) pulse,
         within W U g a e a (a + v) (omega arith) (omega arith) follow,
@@ -62,7 +68,7 @@ module _ (W : World) (P : Stmt) (timed : Paced W P) (separate : Separate (means 
       ))
 
   -- where P is done by the rules, the circuit is
-  pub done-at : (way : Way) (t : ℕ) (σ′ : Store) → Comes (goes W t P σ) way t σ′ → a + t < e
+  pub done-at : (way : Way) (t : ℕ) (σ′ : Store) → goes W t P σ ≡ done way t σ′ → a + t < e
       → Done way W U σ′ (Calm W P s f g n) (Sofar W P s f g n) f g a (a + t) e
   done-at way t σ′ p l =
       launched t l .ends way t σ′ p e l (omega arith)
@@ -78,17 +84,21 @@ module _ (W : World) (P : Stmt) (timed : Paced W P) (separate : Separate (means 
   pub finish-at : (u : ℕ) → a + u < e → f (a + u) ≡ showsAt (W .w) u (goes W u P σ)
   unfolding showsAt
   finish-at u l =
-      by-run (goes W u P σ)
+      by-runs (goes W u P σ)
       (λ t σ′ p.
-      let i = steadily W P timed σ u t σ′ p in
-      let E = done-at atEnd t σ′ (comes-end (i .1 t (omega arith))) (omega (arith, i .0)) in
+      let i = steadily W P timed σ u atEnd t σ′ p in
+      let E = done-at atEnd t σ′ (i .1 t (omega arith)) (omega (arith, i .0)) in
       (by-le (t + W .w) u (λ k. E .fin .low (a + u) (omega arith) l ∙ sym (le-ltb u (t + W .w) k))
       (λ k. E .fin .level (a + u) (omega (arith, i .0)) (omega arith) l ∙ sym (lt-ltb u (t + W .w) k)))
       ∙ sym (ap (showsAt (W .w) u) p))
+      (λ t σ′ p.
+      let i = steadily W P timed σ u atExit t σ′ p in
+      let E = done-at atExit t σ′ (i .1 t (omega arith)) (omega (arith, i .0)) in
+      shows-none (E .fin) (a + u) (omega arith) l ∙ sym (ap (showsAt (W .w) u) p))
       (λ p. launched u l .goes-on p .fin (a + u) (omega arith) (omega arith) ∙ sym (ap (showsAt (W .w) u) p))
 
   -- from the end on the words are the last ones
-  pub words-after : (way : Way) (t : ℕ) (σ′ : Store) → Comes (goes W t P σ) way t σ′ → (u x : ℕ) → t ≤ u → a + u < e → U .vars (owner x)
+  pub words-after : (way : Way) (t : ℕ) (σ′ : Store) → goes W t P σ ≡ done way t σ′ → (u x : ℕ) → t ≤ u → a + u < e → U .vars (owner x)
       → W .m (a + u) x ≡ σ′ x
   words-after way t σ′ p u x o l i =
       let E = done-at way t σ′ p (omega arith) in
@@ -97,7 +107,7 @@ module _ (W : World) (P : Stmt) (timed : Paced W P) (separate : Separate (means 
       ∙ E .words x i
 
   -- a gap later nothing is in flight, so that a new pulse may come at e
-  pub rests-after : (way : Way) (t : ℕ) (σ′ : Store) → Comes (goes W t P σ) way t σ′ → a + t + gap (W .w) ≤ e
+  pub rests-after : (way : Way) (t : ℕ) (σ′ : Store) → goes W t P σ ≡ done way t σ′ → a + t + gap (W .w) ≤ e
       → Calm W P s f g n e × ((q : ℕ) → U .procs q → Idle W q e)
   rests-after way t σ′ p l =
       let E = done-at way t σ′ p (omega arith) in (
@@ -115,9 +125,9 @@ module _ (W : World) (P : Stmt) (timed : Paced W P) (separate : Separate (means 
   -- at every instant what has been so far is in order: words that were used were held, and with pulses of one instant no line has held two
   pub sofar-at : (u : ℕ) → a + u < e → Sofar W P s f g n (suc (a + u)) × ((q : ℕ) → U .procs q → BodySofar W q (suc (a + u)))
   sofar-at u l =
-      by-way (goes W u P σ)
+      by-run (goes W u P σ)
       (λ way t σ′ p.
-      let i = comes-steady (λ k. goes W k P σ) (steadily W P timed σ) u p in
+      let i = steadily W P timed σ u way t σ′ p in
       let E = done-at way t σ′ (i .1 t (omega arith)) (omega (arith, i .0)) in (
         sofar-less W P s f g n e (suc (a + u)) (omega arith) (E .sofar),
         pause-sofar W U g (a + t) (suc (a + u)) e (omega arith) (E .settled) (λ v h k. silent v (omega arith) (omega arith))

@@ -7,26 +7,26 @@ use native.Mathlib.Omega.{arith}
 use Rattle.model.specs.Word.{isZero}
 use Rattle.model.specs.Program.{Expr, Stmt, reads}
 use Rattle.model.specs.Circuit.{Sig, delayed}
-use Rattle.model.specs.Rules.{Store, owner, Run, ended, still, wait, chain, eval}
+use Rattle.model.specs.Rules.{Store, owner, Run, ended, still, wait, chain, eval, atEnd, atExit, done}
 use Rattle.laws.specs.Refusals.Laws.{by-bool, by-le, not-both}
 use Rattle.laws.specs.Program.Fit.{FormedExpr}
-use Rattle.laws.specs.Rules.Laws.{ended-still, wait-still}
+use Rattle.laws.specs.Rules.Laws.{done-still, wait-still, wait-done, chain-done, done-way, done-time, done-words}
 use Rattle.theory.specs.Control.Widths.{gap}
-use Rattle.theory.specs.Control.Ways.{atEnd, atExit, Comes, comes-is, comes-at, end-comes, wait-comes, chain-comes, chain-going}
+use Rattle.theory.specs.Control.Ways.{at-time, chain-going}
 use Rattle.theory.specs.Control.Signal.{Quiet}
 use Rattle.theory.specs.Control.Pulses.{shows-none, shows-off}
-use Rattle.theory.specs.Control.History.{Stable, stable-off, stable-turn, spaced-off}
+use Rattle.theory.specs.Control.History.{Stable, stable-off, stable-turn}
 use Rattle.theory.specs.Control.Wiring.{Gives, Test}
 use Rattle.theory.specs.Control.World.{World, goes, steadily}
 use Rattle.theory.specs.Control.Calm.{Calm, calmly, Sofar, lately, calm-sofar}
 use Rattle.theory.specs.Control.Surge.{surge, gated-firm, test-same}
 use Rattle.theory.specs.Control.Bodies.{Owned, settled-at}
-use Rattle.theory.specs.Control.Runs.{Done, Going, going-at, done-from, going-from, Does, in-way}
-use Rattle.theory.specs.Control.Tests.{Waits, waited, test-words, test-is}
-use Rattle.theory.specs.Control.Rounds.{Body, Starts, Enters, round-fed, round-later, round-body, round-done, round-quiet, round-in, round-enters, delay-before, delay-rests, delay-off, delay-fed, delay-line, delay-in, waits-fed, waits-in, waits-sofar, waits-bodies, waits-rest, delay-out, delay-gone, delay-clocks, delay-uncalled, delay-again}
+use Rattle.theory.specs.Control.Runs.{Done, Going, done-from, going-from, Does, in-way}
+use Rattle.theory.specs.Control.Tests.{Waits, waited, Firmed, test-words, test-is}
+use Rattle.theory.specs.Control.Rounds.{Body, Starts, Enters, round-later, round-going, round-left, round-quiet, round-in, round-enters, delay-before, delay-rests, delay-off, delay-fed, delay-line, delay-in, waits-fed, waits-in, waits-sofar, waits-bodies, waits-rest, delay-out, delay-gone, delay-waits, delay-again}
 
--- a loop: its body and its condition
-pub record Loop (W : World) (P : Stmt) (U : Owned) (d : ℕ) (e : Expr) (more : Bool → Bool) (s f X s₁ f₁ : Sig) (g : Gives) : Type 1 where
+-- its body and its condition
+pub record Tested (W : World) (P : Stmt) (U : Owned) (d : ℕ) (e : Expr) (more : Bool → Bool) (s f X s₁ f₁ : Sig) (g : Gives) : Type 1 where
   pub body : Body W P U d s X s₁ f₁ g
   pub formed : FormedExpr e
   pub reading : (x : ℕ) → reads e x ≡ true → U .vars x
@@ -46,7 +46,7 @@ pub record Turned (W : World) (d : ℕ) (e : Expr) (f X : Sig) (a j : ℕ) : Typ
   pub used : (b : ℕ) → b ≤ a + W .w → b ≤ j → Stable (W .m) d e X b
 
 module _ {W : World} {P : Stmt} {U : Owned} {d : ℕ} {e : Expr} {more : Bool → Bool} {s f X s₁ f₁ : Sig} {g : Gives}
-    (I : Loop W P U d e more s f X s₁ f₁ g) where
+    (I : Tested W P U d e more s f X s₁ f₁ g) where
   abbrev B : Body W P U d s X s₁ f₁ g
   B = I .body
 
@@ -81,35 +81,30 @@ module _ {W : World} {P : Stmt} {U : Owned} {d : ℕ} {e : Expr} {more : Bool �
   module _ {σ : Store} {a c j : ℕ} (u : ℕ) (h : a + u ≡ c) (o′ : c < j) (T : Starts W U d σ K₁ s X s₁ f₁ g a c j) (turned : Turned W d e f X a j) where
     running : goes W u P σ ≡ still → Going W U K L f g a c
     running p =
-        let G = going-at h (round-body B u h o′ T .goes-on p) in
+        let G = round-going B u h o′ T p in
         let q : Quiet (delayed d X) (a + W .w) (suc c) = λ t l k. round-later B u h o′ T (suc c) (omega arith) (G .fin) t l (omega arith) in
-        let line = spaced-off (W .w) d X a (suc c) (T .line) (round-fed B u h o′ T (suc c) (omega arith) (G .fin)) in
         record {
           fin = finish-quiet turned (suc c) (omega arith) q;
           out = G .out;
-          sofar = ((tt, line, used-before turned (suc c) (omega arith) q), G .sofar);
-          alive = λ k. G .alive (k .1);
+          sofar = ((tt, G .sofar .0 .1, used-before turned (suc c) (omega arith) q), G .sofar .1);
+          alive = λ k. G .alive ((k .0 .0, k .0 .1), k .1);
           bodies = G .bodies;
         }
 
     -- the body leaves, and with it the loop
-    left : (σ₁ : Store) → Comes (goes W u P σ) atExit u σ₁ → j ≤ c + gap (W .w) → Done atExit W U σ₁ K L f g a c j
+    left : (σ₁ : Store) → goes W u P σ ≡ done atExit u σ₁ → j ≤ c + gap (W .w) → Done atExit W U σ₁ K L f g a c j
     left σ₁ p short =
-        let E : Done atExit W U σ₁ K₁ L₁ f₁ g a c j =
-        subst (λ (k : ℕ). Done atExit W U σ₁ K₁ L₁ f₁ g a k j) h
-        (round-done B u h o′ T atExit u σ₁ (omega arith) p j (omega arith) (omega arith) (omega arith)) in
-        let q : Quiet X a j = round-fed B u h o′ T j (omega arith) (shows-none (E .fin)) in
-        let q₁ : Quiet (delayed d X) (a + W .w) j = λ t l k. round-later B u h o′ T j (omega arith) (shows-none (E .fin)) t l (omega arith) in
-        let line = spaced-off (W .w) d X a j (T .line) q in
-        let used = used-before turned j (omega arith) q₁ in
+        let E = round-left B u h o′ T σ₁ p short in
+        let q : Quiet (delayed d X) (a + W .w) j = λ t l k. round-later B u h o′ T j (omega arith) (shows-none (E .fin)) t l (omega arith) in
+        let used = used-before turned j (omega arith) q in
         record {
-          fin = shows-off (omega arith) (omega arith) (finish-quiet turned j (omega arith) q₁);
+          fin = shows-off (omega arith) (omega arith) (finish-quiet turned j (omega arith) q);
           out = E .out;
           low = E .low;
           called = E .called;
           words = E .words;
-          sofar = ((tt, line, used), E .sofar);
-          calm = λ k. ((λ t l k′. by-le a t (λ y₀. q t y₀ l) (λ y₀. T .before t y₀ (omega arith)), line, used), E .calm k);
+          sofar = ((tt, E .sofar .0 .1, used), E .sofar .1);
+          calm = λ k. let v = E .calm k in ((v .0 .0, v .0 .1, used), v .1);
           settled = E .settled;
         }
 
@@ -153,29 +148,24 @@ module _ {W : World} {P : Stmt} {U : Owned} {d : ℕ} {e : Expr} {more : Bool �
 
     module _ (o : a + d ≤ c) where
       waits : Waits W U g d σ a c j
-      waits =
-          record {
-            room = o;
-            last = o′;
-            free = T .free;
-            low = delay-clocks B o′ T o;
-            uncalled = delay-uncalled B o′ T o;
-            firm = λ k l l₁ l₂ q.
-                surge W P (B .timed) s₁ f₁ g (B .built) (a + d) k (waits-rest B o′ T o .calm) l l₂
-                (gated-firm (delayed d X) s₁ (λ t. more (isZero (eval e (W .m t)))) (a + d) k
-                (λ t l r. I .begin t (T .after t (omega arith) (omega arith)))
-                (λ t l r z. delay-out B o′ T o (suc t) (omega arith) (omega arith) (omega arith))
-                (λ t l r. ap more (test-same W e (I .formed) (U .vars) (a + d) k (I .reading) q t l r)))
-                (λ y r. q y (B .owns .mine (owner y) r)) .clocks;
-          }
+      waits = delay-waits B o′ T o
+
+      firm : Firmed W U g d a c
+      firm k l l₁ l₂ q =
+          surge W P (B .timed) s₁ f₁ g (B .built) (a + d) k (waits-rest B o′ T o .calm) l l₂
+          (gated-firm (delayed d X) s₁ (λ t. more (isZero (eval e (W .m t)))) (a + d) k
+          (λ t l r. I .begin t (T .after t (omega arith) (omega arith)))
+          (λ t l r z. delay-out B o′ T o (suc t) (omega arith) (omega arith) (omega arith))
+          (λ t l r. ap more (test-same W e (I .formed) (U .vars) (a + d) k (I .reading) q t l r)))
+          (λ y r. q y (B .owns .mine (owner y) r)) .clocks
 
       test : (t : ℕ) → a + d ≤ t → t < a + d + W .w → t < j → more (isZero (eval e (W .m t))) ≡ more (isZero (eval e σ))
-      test t l k k′ = ap more (test-is waits e (I .formed) (I .reading) t l k k′)
+      test t l k k′ = ap more (test-is waits firm e (I .formed) (I .reading) t l k k′)
 
       used-at : (b : ℕ) → b ≤ j → ((t : ℕ) → a + W .w ≤ t → t + d < b → X t ≡ false) → Stable (W .m) d e X b
       used-at b o₁ q =
           stable-turn (W .w) (W .m) d e X a b σ (λ b′ l k. turned .used b′ l (omega arith)) (T .before) q
-          (λ k x r v l k₁ k₂. test-words waits e (I .formed) (I .reading) x r v l k₁ (omega arith))
+          (λ k x r v l k₁ k₂. test-words waits firm e (I .formed) (I .reading) x r v l k₁ (omega arith))
 
       -- the condition says stop: the loop ends
       stops : more (isZero (eval e σ)) ≡ false → a + d ≡ c → j ≤ c + gap (W .w) → Done atEnd W U σ K L f g a c j
@@ -213,7 +203,7 @@ module _ {W : World} {P : Stmt} {U : Owned} {d : ℕ} {e : Expr} {more : Bool �
       module _ (z : more (isZero (eval e σ)) ≡ true) where
         starts : Starts W U d σ K₁ s X s₁ f₁ g (a + d) c j
         starts =
-            delay-again B o′ T o (waited waits)
+            delay-again B o′ T o
             (λ t l k k′. I .begin t (T .after t (omega arith) k′) ∙ ap₂ _&&_ (delay-out B o′ T o t l k k′) (test t l k k′ ∙ z))
 
         turns : Turned W d e f X (a + d) j
@@ -242,16 +232,16 @@ module _ {W : World} {P : Stmt} {U : Owned} {d : ℕ} {e : Expr} {more : Bool �
           goes-on = λ p.
               chain-going (goes W u P σ) (λ t σ₁. next n (u - t) σ₁) (sym (R .lap n u σ) ∙ p)
               (λ t₁ σ₁ p₁ q.
-              let o = steadily W P (B .timed) σ u t₁ σ₁ p₁ .0 in
+              let o = steadily W P (B .timed) σ u atEnd t₁ σ₁ p₁ .0 in
               going-from (before t₁ σ₁ o p₁) (round-in B u h o′ T t₁ σ₁ o p₁) (on t₁ σ₁ o p₁ .goes-on q))
               (running u h o′ T turned);
           ends = λ way σ′ p.
-              chain-comes (goes W u P σ) (λ t σ₁. next n (u - t) σ₁) (comes-is (R .lap n u σ) p)
+              chain-done (goes W u P σ) (λ t σ₁. next n (u - t) σ₁) (sym (R .lap n u σ) ∙ p)
               (λ t₁ σ₁ t₂ p₁ q y.
-              let o = steadily W P (B .timed) σ u t₁ σ₁ p₁ .0 in
+              let o = steadily W P (B .timed) σ u atEnd t₁ σ₁ p₁ .0 in
               let y′ : t₂ ≡ u - t₁ = omega arith in
-              done-from (before t₁ σ₁ o p₁) (round-in B u h o′ T t₁ σ₁ o p₁) (on t₁ σ₁ o p₁ .ends way σ′ (comes-at (next n (u - t₁) σ₁) y′ q)))
-              (λ z q. in-way z (left u h o′ T turned σ′ q short));
+              done-from (before t₁ σ₁ o p₁) (round-in B u h o′ T t₁ σ₁ o p₁) (on t₁ σ₁ o p₁ .ends way σ′ (at-time (next n (u - t₁) σ₁) y′ q)))
+              (λ z q. in-way (sym z) (left u h o′ T turned σ′ q short));
         }
 
     -- from where it has ended, if that is known from where it is started
@@ -272,22 +262,22 @@ module _ {W : World} {P : Stmt} {U : Owned} {d : ℕ} {e : Expr} {more : Bool �
               (λ z.
               going-from (waits-quiet u h o′ T turned (a + d) (omega arith) (omega arith)) (waits-in B o′ T (a + d) (omega arith) (omega arith))
               (on o z .goes-on (wait-still d u (λ k. laps n k σ) (sym (R .again n u σ z) ∙ p) o)))
-              (λ z. ended-still (wait-still d u (λ k. ended 0 σ) (sym (R .stop n u σ z) ∙ p) o)))
+              (λ z. done-still (wait-still d u (λ k. ended 0 σ) (sym (R .stop n u σ z) ∙ p) o)))
               (λ o. short-of u h o′ T turned o);
           ends = λ way σ′ p.
               by-bool (more (isZero (eval e σ)))
               (λ z.
-              let v = wait-comes d u (λ k. laps n k σ) (comes-is (R .again n u σ z) p) in
+              let v = wait-done d u (λ k. laps n k σ) (sym (R .again n u σ z) ∙ p) in
               let q : v .0 ≡ u - d = omega (arith, v .3) in
               done-from (waits-quiet u h o′ T turned (a + d) (omega arith) (omega (arith, v .1)))
               (waits-in B o′ T (a + d) (omega arith) (omega (arith, v .1)))
-              (on (v .1) z .ends way σ′ (comes-at (laps n (u - d) σ) q (v .2))))
+              (on (v .1) z .ends way σ′ (at-time (laps n (u - d) σ) q (v .2))))
               (λ z.
-              let v = wait-comes d u (λ k. ended 0 σ) (comes-is (R .stop n u σ z) p) in
-              let x = end-comes (v .2) in
-              in-way (x .0)
-              (subst (λ (τ : Store). Done atEnd W U τ K L f g a c j) (x .2)
-              (stops u h o′ T turned (omega (arith, v .1)) z (omega (arith, v .3, x .1)) short)));
+              let v = wait-done d u (λ k. ended 0 σ) (sym (R .stop n u σ z) ∙ p) in
+              let y : 0 ≡ v .0 = done-time (v .2) in
+              in-way (done-way (v .2))
+              (subst (λ (τ : Store). Done atEnd W U τ K L f g a c j) (done-words (v .2))
+              (stops u h o′ T turned (omega (arith, v .1)) z (omega (arith, v .3, y)) short)));
         }
 
     -- as many rounds as the budget can use

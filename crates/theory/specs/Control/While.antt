@@ -19,7 +19,7 @@ use Rattle.theory.specs.Control.Rest.{Rests, rest}
 use Rattle.theory.specs.Control.Bodies.{Owned}
 use Rattle.theory.specs.Control.Runs.{Begins, free, Does, RunOf, ShortOf}
 use Rattle.theory.specs.Control.Rounds.{Enters}
-use Rattle.theory.specs.Control.Turns.{Loop, Laps, Turned, enters-does}
+use Rattle.theory.specs.Control.Turns.{Tested, Laps, Turned, enters-does}
 
 not-not : (b : Bool) → b ≡ not (not b)
 not-not true = refl
@@ -50,7 +50,7 @@ module _ (W : World) (d : ℕ) (e : Expr) (formed : FormedExpr e) (P : Stmt) (lo
       }
 
   module _ (a c j u : ℕ) (h : a + u ≡ c) (o : c < j) (short : j ≤ c + gap (W .w)) (B : Begins W (while d e P) U σ K s g a c j) where
-    while-loop : Loop W P U d e not s f X (n .s₁) (n .f₁) g
+    while-loop : Tested W P U d e not s f X (n .s₁) (n .f₁) g
     unfolding touches widened
     while-loop =
         let uses = each-of (reads e) (touches (means W P)) (B .ready .owns .mine) in

@@ -7,7 +7,7 @@ use native.Mathlib.Omega.{arith}
 use lib.Dec.{eqb}
 use borrow.Author.Tests.{eq-eqb, ne-eqb}
 use Rattle.model.specs.Word.{pick}
-use Rattle.model.specs.Program.{Stmt, ok, tick, assign, assignElem, seq, par, ite, while, repeat}
+use Rattle.model.specs.Program.{Stmt, ok, tick, assign, assignElem, seq, par, ite, while, repeat, loop, exit}
 use Rattle.laws.specs.Refusals.Laws.{by-le}
 use Rattle.laws.specs.Program.Fit.{Everywhere, free, FormedExpr, Formed, Timed}
 
@@ -61,6 +61,8 @@ widened w (par P Q) = par (widened w P) (widened w Q)
 widened w (ite d e P Q) = ite d e (widened w P) (widened w Q)
 widened w (while d e P) = while d e (widened w P)
 widened w (repeat d e P) = repeat d e (widened w P)
+widened w (loop d P) = loop d (widened w P)
+widened w exit = exit
 
 pub widened-timed : (w : ℕ) (P : Stmt) → 1 ≤ w → Timely w P → Timed (widened w P)
 unfolding widened
@@ -73,6 +75,8 @@ widened-timed w (par P Q) l h = (widened-timed w P l (h .0), widened-timed w Q l
 widened-timed w (ite d e P Q) l h = (tt, tt, widened-timed w P l (h .2), widened-timed w Q l (h .3))
 widened-timed w (while d e P) l h = (turn-least w d l (h .0), tt, widened-timed w P l (h .2))
 widened-timed w (repeat d e P) l h = (turn-least w d l (h .0), tt, widened-timed w P l (h .2))
+widened-timed w (loop d P) l h = (turn-least w d l (h .0), widened-timed w P l (h .1))
+widened-timed w exit l h = tt
 
 pub widened-formed : (w : ℕ) (P : Stmt) → Timely w P → Formed (widened w P)
 unfolding widened
@@ -85,6 +89,8 @@ widened-formed w (par P Q) h = (widened-formed w P (h .0), widened-formed w Q (h
 widened-formed w (ite d e P Q) h = (tt, h .1, widened-formed w P (h .2), widened-formed w Q (h .3))
 widened-formed w (while d e P) h = (tt, h .1, widened-formed w P (h .2))
 widened-formed w (repeat d e P) h = (tt, h .1, widened-formed w P (h .2))
+widened-formed w (loop d P) h = (tt, widened-formed w P (h .1))
+widened-formed w exit h = tt
 
 -- Pulses of one instant ----------------------------------------------------------------------------------------------------------
 
@@ -99,6 +105,8 @@ timely-one (par P Q) f h = (timely-one P (f .0) (h .0), timely-one Q (f .1) (h .
 timely-one (ite d e P Q) f h = (tt, f .1, timely-one P (f .2) (h .2), timely-one Q (f .3) (h .3))
 timely-one (while d e P) f h = (h .0, f .1, timely-one P (f .2) (h .2))
 timely-one (repeat d e P) f h = (h .0, f .1, timely-one P (f .2) (h .2))
+timely-one (loop d P) f h = (h .0, timely-one P (f .1) (h .1))
+timely-one exit f h = tt
 
 pub widened-one : (P : Stmt) → widened 1 P ≡ P
 unfolding widened
@@ -111,3 +119,5 @@ widened-one (par P Q) = ap₂ par (widened-one P) (widened-one Q)
 widened-one (ite d e P Q) = ap₂ (ite d e) (widened-one P) (widened-one Q)
 widened-one (while d e P) = ap (while d e) (widened-one P)
 widened-one (repeat d e P) = ap (repeat d e) (widened-one P)
+widened-one (loop d P) = ap (loop d) (widened-one P)
+widened-one exit = refl

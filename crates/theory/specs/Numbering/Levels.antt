@@ -79,9 +79,9 @@ clkOf W ws y t = anyHigh W (wiresOf y ws) t
 abbrev pub datOf : Values → List Source → ℕ → ℕ → ℕ
 datOf W ws y t = allOr W (wiresOf y ws) t
 
--- with clocks from us, data from vs and addresses from ws; a numbering of today's has neither calls nor exits
-abbrev pub givesOf : Values → List Source → List Source → List Source → Gives
-givesOf W us vs ws = record { clk = clkOf W us; dat = datOf W vs; adr = datOf W ws; calls = λ q. ground; out = ground }
+-- with clocks from us, data from vs and addresses from ws, and exits that start at xs; a numbering of today's has no calls
+abbrev pub givesOf : Values → List Source → List Source → List Source → List ℕ → Gives
+givesOf W us vs ws xs = record { clk = clkOf W us; dat = datOf W vs; adr = datOf W ws; calls = λ q. ground; out = anyHigh W xs }
 
 pub wires-append : (y : ℕ) (us vs : List Source) → wiresOf y (us ++ vs) ≡ wiresOf y us ++ wiresOf y vs
 unfolding wiresOf
@@ -105,13 +105,13 @@ or-append W [] ls t = refl
 or-append W (k ∷ ks) ls t =
     ap (λ (b : ℕ). bitOr (W k t) b) (or-append W ks ls t) ∙ sym (or-assoc (W k t) (allOr W ks t) (allOr W ls t))
 
-pub joined : (W : Values) (us vs us′ vs′ us″ vs″ : List Source)
-    → Joined (givesOf W us us′ us″) (givesOf W vs vs′ vs″) (givesOf W (us ++ vs) (us′ ++ vs′) (us″ ++ vs″))
-joined W us vs us′ vs′ us″ vs″ =
+pub joined : (W : Values) (us vs us′ vs′ us″ vs″ : List Source) (xs ys : List ℕ)
+    → Joined (givesOf W us us′ us″ xs) (givesOf W vs vs′ vs″ ys) (givesOf W (us ++ vs) (us′ ++ vs′) (us″ ++ vs″) (xs ++ ys))
+joined W us vs us′ vs′ us″ vs″ xs ys =
     record {
       clocks = λ y t. rw wires-append (any-append W (wiresOf y us) (wiresOf y vs) t);
       words = λ y t. rw wires-append (or-append W (wiresOf y us′) (wiresOf y vs′) t);
       addresses = λ y t. rw wires-append (or-append W (wiresOf y us″) (wiresOf y vs″) t);
       called = λ q t. refl;
-      out = λ t. refl;
+      out = any-append W xs ys;
     }

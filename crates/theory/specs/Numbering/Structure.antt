@@ -9,15 +9,16 @@ use lib.Bits.{or-zero-r}
 use Rattle.laws.specs.Numbering.Lengths.{e-len, own-len, d-len, w-len}
 use Rattle.laws.specs.Circuit.Shapes.{operator-shape}
 use Rattle.model.specs.Word.{pick}
-use Rattle.model.specs.Program.{Expr, const, var, compl, op, elem, Stmt, ok, tick, assign, assignElem, seq, par, ite, while, repeat, arrayVar}
+use Rattle.model.specs.Program.{Expr, const, var, compl, op, elem, Stmt, ok, tick, assign, assignElem, seq, par, ite, while, repeat, loop, exit, arrayVar}
 use Rattle.model.specs.Circuit.{delayed, merged}
+use Rattle.theory.specs.Numbering.Ors.{ors-level}
 use Rattle.theory.specs.Control.Merge.{merged-one}
 use Rattle.theory.specs.Control.Wiring.{ideal, Circuit}
 use Rattle.laws.specs.Program.Fit.{FormedExpr, Formed}
 use Rattle.model.specs.Rules.{eval}
 use Rattle.model.specs.Word.{operate, isZero, index, elementWord}
 use Rattle.model.specs.Circuit.{cell}
-use Rattle.model.specs.Numbering.{arrayCell, exprCount, exprWire, exprCells, ifDelayCount, ifPulse, ifDelayCells, delayCount, walkCount, finishWire, delays, walk, clockSources, dataSources, addressSources, wiresOf}
+use Rattle.model.specs.Numbering.{arrayCell, exprCount, exprWire, exprCells, ifDelayCount, ifPulse, ifDelayCells, delayCount, walkCount, exitsAt, finishWire, exitWires, loopExits, delays, walk, clockSources, dataSources, addressSources, wiresOf, ors}
 use Rattle.model.specs.Circuit.{Values, Elements, level, Shape, equation}
 use Rattle.model.specs.Word.{bit}
 use Rattle.laws.specs.Numbering.Cells.{cellVal, Rule, Obeyed, split}
@@ -28,7 +29,8 @@ unfolding cellVal
 op-rule first E W p k x y t h h′ = ap (λ (sh : Shape). equation sh first E W p (cell k 0 x y) t) (operator-shape k h h′)
 
 module _ (first : ℕ → ℕ) (E : Elements) (W : Values) (M : ℕ) (m : ℕ → ℕ → ℕ) (shows : (x t : ℕ) → x < 16 → m t x ≡ W (M + x) t)
-    (elements : (k w t : ℕ) → k < 4 → m t (elementWord k w) ≡ E (arrayCell M k) (index w) t) where
+    (elements : (k w t : ℕ) → k < 4 → m t (elementWord k w) ≡ E (arrayCell M k) (index w) t)
+    (ground : (t : ℕ) → level W 1 t ≡ false) where
   pub expr : (e : Expr) → FormedExpr e → (c : ℕ) → Obeyed first E W c (exprCells M e c) → (t : ℕ) → W (exprWire M e c) t ≡ eval e (m t)
   unfolding exprCells exprWire exprCount eval cellVal
   expr (const n) w c h t = h .0 t
@@ -53,7 +55,7 @@ module _ (first : ℕ → ℕ) (E : Elements) (W : Values) (M : ℕ) (m : ℕ �
 
   -- the statement's circuit from its start s, if its delay cells stand at d and its walk cells at c
   abbrev pub Cells : Stmt → ℕ → ℕ → ℕ → Type 0
-  Cells P s d c = Circuit 1 (ideal m) P (level W s) (level W (finishWire P s d c)) (givesOf W (clockSources P d) (dataSources P c) (addressSources P c))
+  Cells P s d c = Circuit 1 (ideal m) P (level W s) (level W (finishWire P s d c)) (givesOf W (clockSources P d) (dataSources P c) (addressSources P c) (exitWires P s d c))
 
   -- the two switches
   yes-is : (k a b t : ℕ) {v : ℕ} {D : Bool} → W k t ≡ bit (level W a t && not (eqb (W b t) 0)) → level W a t ≡ D → W b t ≡ v → level W k t ≡ D && not (isZero v)
@@ -139,12 +141,13 @@ module _ (first : ℕ → ℕ) (E : Elements) (W : Values) (M : ℕ) (m : ℕ �
       let rc = split (Rule first E W) c (walkCount P) (walk M P s d c) (walk M Q g (d + delayCount P) (c + walkCount P)) (w-len M P s d c) hw in
       record {
         mid = level W g;
-        g₁ = givesOf W (clockSources P d) (dataSources P c) (addressSources P c);
-        g₂ = givesOf W (clockSources Q (d + delayCount P)) (dataSources Q (c + walkCount P)) (addressSources Q (c + walkCount P));
+        g₁ = givesOf W (clockSources P d) (dataSources P c) (addressSources P c) (exitWires P s d c);
+        g₂ = givesOf W (clockSources Q (d + delayCount P)) (dataSources Q (c + walkCount P)) (addressSources Q (c + walkCount P)) (exitWires Q g (d + delayCount P) (c + walkCount P));
         left = struct P (w .0) s d c (rd .0) (rc .0);
         right = struct Q (w .1) g (d + delayCount P) (c + walkCount P) (rd .1) (rc .1);
         joined = joined W (clockSources P d) (clockSources Q (d + delayCount P)) (dataSources P c) (dataSources Q (c + walkCount P))
-            (addressSources P c) (addressSources Q (c + walkCount P));
+            (addressSources P c) (addressSources Q (c + walkCount P)) (exitWires P s d c)
+            (exitWires Q g (d + delayCount P) (c + walkCount P));
       }
   struct (par P Q) w s d c hd hw =
       let f = finishWire P s d c in
@@ -154,13 +157,14 @@ module _ (first : ℕ → ℕ) (E : Elements) (W : Values) (M : ℕ) (m : ℕ �
       let rm = split (Rule first E W) (c + walkCount P) (walkCount Q) (walk M Q s (d + delayCount P) (c + walkCount P)) (cell 38 0 f g ∷ []) (w-len M Q s (d + delayCount P) (c + walkCount P)) (rc .1) in
       record {
         f₁ = level W f;
-        g₁ = givesOf W (clockSources P d) (dataSources P c) (addressSources P c);
+        g₁ = givesOf W (clockSources P d) (dataSources P c) (addressSources P c) (exitWires P s d c);
         f₂ = level W g;
-        g₂ = givesOf W (clockSources Q (d + delayCount P)) (dataSources Q (c + walkCount P)) (addressSources Q (c + walkCount P));
+        g₂ = givesOf W (clockSources Q (d + delayCount P)) (dataSources Q (c + walkCount P)) (addressSources Q (c + walkCount P)) (exitWires Q s (d + delayCount P) (c + walkCount P));
         left = struct P (w .0) s d c (rd .0) (rc .0);
         right = struct Q (w .1) s (d + delayCount P) (c + walkCount P) (rd .1) (rm .0);
         joined = joined W (clockSources P d) (clockSources Q (d + delayCount P)) (dataSources P c) (dataSources Q (c + walkCount P))
-            (addressSources P c) (addressSources Q (c + walkCount P));
+            (addressSources P c) (addressSources Q (c + walkCount P)) (exitWires P s d c)
+            (exitWires Q s (d + delayCount P) (c + walkCount P));
         fin = λ t. level-of (merged (level W f) (level W g) t) (rm .1 .0 t) ∙ sym (merged-one (level W f) (level W g) t);
       }
   struct (ite δ e P Q) w s d c hd hw =
@@ -182,14 +186,16 @@ module _ (first : ℕ → ℕ) (E : Elements) (W : Values) (M : ℕ) (m : ℕ �
       record {
         s₁ = level W p;
         f₁ = level W f;
-        g₁ = givesOf W (clockSources P dP) (dataSources P cP) (addressSources P cP);
+        g₁ = givesOf W (clockSources P dP) (dataSources P cP) (addressSources P cP) (exitWires P p dP cP);
         s₂ = level W (p + 1);
         f₂ = level W g;
-        g₂ = givesOf W (clockSources Q (dP + delayCount P)) (dataSources Q (cP + walkCount P)) (addressSources Q (cP + walkCount P));
+        g₂ = givesOf W (clockSources Q (dP + delayCount P)) (dataSources Q (cP + walkCount P)) (addressSources Q (cP + walkCount P))
+            (exitWires Q (p + 1) (dP + delayCount P) (cP + walkCount P));
         left = struct P (w .2) p dP cP (rd .0) (rP .0);
         right = struct Q (w .3) (p + 1) (dP + delayCount P) (cP + walkCount P) (rd .1) (rQ .0);
         joined = joined W (clockSources P dP) (clockSources Q (dP + delayCount P)) (dataSources P cP) (dataSources Q (cP + walkCount P))
-            (addressSources P cP) (addressSources Q (cP + walkCount P));
+            (addressSources P cP) (addressSources Q (cP + walkCount P)) (exitWires P p dP cP)
+            (exitWires Q (p + 1) (dP + delayCount P) (cP + walkCount P));
         yes₁ = λ t. yes-is p (ifPulse δ s d) (exprWire M e c) t (re .1 .0 t) (D t) (shown t);
         no₂ = λ t. no-is (p + 1) (ifPulse δ s d) (exprWire M e c) t (re .1 .1 .0 t) (D t) (shown t);
         fin = λ t. level-of (level W f t || level W g t) (rQ .1 .0 t);
@@ -223,4 +229,30 @@ module _ (first : ℕ → ℕ) (E : Elements) (W : Values) (M : ℕ) (m : ℕ �
         body = struct P (w .2) (p + 1 + 1) (d + 1) cP (hd .1) (re .1 .1 .1 .1);
         begin = λ t. level-of (level W s t || level W (p + 1) t) (re .1 .1 .1 .0 t) ∙ ap (λ (b : Bool). level W s t || b) (no-is (p + 1) d (exprWire M e c) t (re .1 .1 .0 t) (D t) (shown t));
         fin = λ t. yes-is p d (exprWire M e c) t (re .1 .0 t) (D t) (shown t);
+      }
+  struct (loop δ P) w s d c hd hw =
+      let f = finishWire P c (d + 1) (c + 1) in
+      let r = split (Rule first E W) (c + 1) (walkCount P) (walk M P c (d + 1) (c + 1)) (ors 35 (exitsAt P c) (loopExits P d c)) (w-len M P c (d + 1) (c + 1)) (hw .1) in
+      let D : (t : ℕ) → level W d t ≡ delayed δ (level W f) t = λ t. level-of (delayed δ (level W f) t) (hd .0 t) in
+      record {
+        s₁ = level W c;
+        f₁ = level W f;
+        g₁ = givesOf W (clockSources P (d + 1)) (dataSources P (c + 1)) (addressSources P (c + 1)) (loopExits P d c);
+        body = struct P (w .1) c (d + 1) (c + 1) (hd .1) (r .0);
+        begin = λ t. level-of (level W s t || level W d t) (hw .0 t) ∙ ap (λ (b : Bool). level W s t || b) (D t);
+        fin = ors-level first E W ground (exitsAt P c) (loopExits P d c) (r .1);
+        clocks = λ y t. refl;
+        words = λ y t. refl;
+        addresses = λ y t. refl;
+        called = λ q t. refl;
+        out = λ t. refl;
+      }
+  struct exit w s d c hd hw =
+      record {
+        fin = ground;
+        clocks = λ y t. refl;
+        words = λ y t. refl;
+        addresses = λ y t. refl;
+        called = λ q t. refl;
+        out = λ t. ||-false (level W s t);
       }

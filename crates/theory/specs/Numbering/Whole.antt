@@ -1,73 +1,44 @@
 -- The structure theorem: the published netlist of a program is a circuit of the program, with its words and its start pulse.
 use mathlib.Core.Path.{_≡_, refl, sym, ap, ap₂, _∙_}
-use mathlib.Core.Bool.{Bool, true, false, _&&_, _||_, not}
+use mathlib.Core.Bool.{Bool, true, false, _&&_, not}
 use mathlib.Core.List.{List, [], _∷_, _++_}
 use Prim.Native.Nat.{ℕ, zero, suc, _+_, _-_, _*_, _/_, _%_, _<_, _≤_}
 use native.Mathlib.Nat.{not-suc-le-zero, add-zero, le-of-suc-le-suc}
 use native.Mathlib.Omega.{arith}
 use lib.Dec.{eqb, ltb, eqb→eq}
-use lib.Bits.{bitOr, or-zero-r}
 use lib.ListN.{getD, take}
 use lib.Seq.{take-append-add}
 use borrow.Author.Tests.{lt-ltb, le-ltb}
 use Rattle.model.specs.declared.Cell.{Cell}
 use Rattle.model.specs.Word.{pick, bit, index, elementWord}
-use Rattle.model.specs.Program.{Stmt, ok, tick, assign, assignElem, seq, par, ite, while, repeat, arrayVar}
+use Rattle.model.specs.Program.{Stmt, ok, tick, assign, assignElem, seq, par, ite, while, repeat, loop, exit, arrayVar}
 use Rattle.model.specs.Circuit.{cell, Values, Elements, level, memory, element, memories, startWord, Obeys}
 use Rattle.model.specs.Numbering.{arrayCell, ifDelayCount, delayCount, clockSources, dataSources, addressSources, Source, wiresOf}
-use Rattle.model.specs.Numbering.{orChain, orChainOut, ors, orsOut, orCount, orsFrom, outsFrom, memoriesOf, netlist, finish}
+use Rattle.model.specs.Numbering.{exitWires, ors, orCount, orsFrom, outsFrom, memoriesOf, netlist, finish}
 use Rattle.model.specs.Numbering.{clockAt, memoryAt, walkAt, dataAt, addressAt, clockWires, dataWires, addressWires}
 use Rattle.laws.specs.Refusals.Laws.{is-false, by-le}
 use Rattle.laws.specs.Rules.Words.{owner-variable, owner-later}
 use Rattle.laws.specs.Numbering.Cells.{cellVal, Rule, Obeyed, split, obeys-holds}
 use Rattle.laws.specs.Numbering.Memories.{memories-append}
-use Rattle.laws.specs.Numbering.Parts.{ors-len, fromArrays, fromMemories, Laid, lay}
+use Rattle.laws.specs.Numbering.Lengths.{ors-len}
+use Rattle.laws.specs.Numbering.Parts.{fromArrays, fromMemories, Laid, lay}
 use Rattle.laws.specs.Numbering.Arrays.{array-cells, below, parts, below-len, below-free}
 use Rattle.laws.specs.Program.Fit.{Formed}
 use Rattle.theory.specs.Control.Wiring.{Gives, ideal, hits, latch, Latches, Circuit, Mem}
-use Rattle.theory.specs.Numbering.Levels.{level-of, op-or, ||-assoc, ||-false, or-assoc, anyHigh, allOr, clkOf, datOf, givesOf, wires-append}
+use Rattle.theory.specs.Numbering.Levels.{level-of, anyHigh, clkOf, datOf, givesOf, wires-append}
+use Rattle.theory.specs.Numbering.Ors.{ors-level, ors-word}
 use Rattle.theory.specs.Numbering.Structure.{struct}
 
--- ---- the ors
+-- ---- the ors of each variable
 
 module _ (first : ℕ → ℕ) (E : Elements) (W : Values) where
-  chain-level : (acc n : ℕ) (ws : List ℕ) → Obeyed first E W n (orChain 35 acc n ws) → (t : ℕ)
-      → level W (orChainOut acc n ws) t ≡ level W acc t || anyHigh W ws t
-  unfolding orChain orChainOut anyHigh cellVal
-  chain-level acc n [] h t = sym (||-false (level W acc t))
-  chain-level acc n (w ∷ ws) h t =
-      chain-level n (n + 1) ws (h .1) t
-      ∙ ap (λ (b : Bool). b || anyHigh W ws t) (level-of (level W acc t || level W w t) (h .0 t))
-      ∙ ||-assoc (level W acc t) (level W w t) (anyHigh W ws t)
-
-  chain-word : (acc n : ℕ) (ws : List ℕ) → Obeyed first E W n (orChain 7 acc n ws) → (t : ℕ)
-      → W (orChainOut acc n ws) t ≡ bitOr (W acc t) (allOr W ws t)
-  unfolding orChain orChainOut allOr cellVal
-  chain-word acc n [] h t = sym (or-zero-r (W acc t))
-  chain-word acc n (w ∷ ws) h t =
-      chain-word n (n + 1) ws (h .1) t
-      ∙ ap (λ (b : ℕ). bitOr b (allOr W ws t)) (h .0 t ∙ op-or (W acc t) (W w t))
-      ∙ or-assoc (W acc t) (W w t) (allOr W ws t)
-
-  ors-level : ((t : ℕ) → level W 1 t ≡ false) → (n : ℕ) (ws : List ℕ) → Obeyed first E W n (ors 35 n ws) → (t : ℕ)
-      → level W (orsOut 1 n ws) t ≡ anyHigh W ws t
-  unfolding ors orsOut anyHigh
-  ors-level g n [] h t = g t
-  ors-level g n (w ∷ ws) h t = chain-level w n ws h t
-
-  ors-word : ((t : ℕ) → W 2 t ≡ 0) → (n : ℕ) (ws : List ℕ) → Obeyed first E W n (ors 7 n ws) → (t : ℕ)
-      → W (orsOut 2 n ws) t ≡ allOr W ws t
-  unfolding ors orsOut allOr
-  ors-word g n [] h t = g t
-  ors-word g n (w ∷ ws) h t = chain-word w n ws h t
-
   pub outs-level : ((t : ℕ) → level W 1 t ≡ false) → (ws : List Source) (n x j : ℕ) → Obeyed first E W n (orsFrom 35 ws n x j)
       → (i : ℕ) → i < j → (t : ℕ) → level W (getD (outsFrom 1 ws n x j) i 0) t ≡ clkOf W ws (x + i) t
   unfolding orsFrom outsFrom
   outs-level g ws n x zero h i l t = absurd (not-suc-le-zero l)
   outs-level g ws n x (suc j) h zero l t =
       let r = split (Rule first E W) n (orCount (wiresOf x ws)) (ors 35 n (wiresOf x ws)) (orsFrom 35 ws (n + orCount (wiresOf x ws)) (x + 1) j) (ors-len 35 n (wiresOf x ws)) h in
-      rw (add-zero x) (ors-level g n (wiresOf x ws) (r .0) t)
+      rw (add-zero x) (ors-level first E W g n (wiresOf x ws) (r .0) t)
   outs-level g ws n x (suc j) h (suc i) l t =
       let r = split (Rule first E W) n (orCount (wiresOf x ws)) (ors 35 n (wiresOf x ws)) (orsFrom 35 ws (n + orCount (wiresOf x ws)) (x + 1) j) (ors-len 35 n (wiresOf x ws)) h in
       let e : x + 1 + i ≡ x + suc i = omega arith in
@@ -79,7 +50,7 @@ module _ (first : ℕ → ℕ) (E : Elements) (W : Values) where
   outs-word g ws n x zero h i l t = absurd (not-suc-le-zero l)
   outs-word g ws n x (suc j) h zero l t =
       let r = split (Rule first E W) n (orCount (wiresOf x ws)) (ors 7 n (wiresOf x ws)) (orsFrom 7 ws (n + orCount (wiresOf x ws)) (x + 1) j) (ors-len 7 n (wiresOf x ws)) h in
-      rw (add-zero x) (ors-word g n (wiresOf x ws) (r .0) t)
+      rw (add-zero x) (ors-word first E W g n (wiresOf x ws) (r .0) t)
   outs-word g ws n x (suc j) h (suc i) l t =
       let r = split (Rule first E W) n (orCount (wiresOf x ws)) (ors 7 n (wiresOf x ws)) (orsFrom 7 ws (n + orCount (wiresOf x ws)) (x + 1) j) (ors-len 7 n (wiresOf x ws)) h in
       let e : x + 1 + i ≡ x + suc i = omega arith in
@@ -131,6 +102,8 @@ no-clocks (par P Q) w y d h = simp (wires-append, no-clocks P (w .0) y d h, no-c
 no-clocks (ite δ e P Q) w y d h = simp (wires-append, no-clocks P (w .2) y (d + ifDelayCount δ) h, no-clocks Q (w .3) y (d + ifDelayCount δ + delayCount P) h)
 no-clocks (while δ e P) w y d h = no-clocks P (w .2) y (d + 1) h
 no-clocks (repeat δ e P) w y d h = no-clocks P (w .2) y (d + 1) h
+no-clocks (loop δ P) w y d h = no-clocks P (w .1) y (d + 1) h
+no-clocks exit w y d h = unfold wiresOf in refl
 
 -- ---- the theorem
 
@@ -156,9 +129,9 @@ module _ (P : Stmt) (words : ℕ → ℕ) (W : Values) where
       shows-array (16 + (64 * k + index w)) t (omega arith) (omega arith)
       ∙ ap₂ (λ (a b : ℕ). element (netlist P) words W (arrayCell (memoryAt P) a) b t) p q
 
--- what the program gives to each variable and array
+-- what the program gives to each variable and array, and by its exits
 abbrev pub givenBy : Stmt → Values → Gives
-givenBy P W = givesOf W (clockSources P 3) (dataSources P (walkAt P)) (addressSources P (walkAt P))
+givenBy P W = givesOf W (clockSources P 3) (dataSources P (walkAt P)) (addressSources P (walkAt P)) (exitWires P 0 3 (walkAt P))
 
 -- a program's circuit: the start pulse, the control, the words and their start words
 pub record Built (P : Stmt) (words : ℕ → ℕ) (W : Values) : Type 0 where
@@ -219,7 +192,7 @@ module _ (P : Stmt) (w : Formed P) (words : ℕ → ℕ) (W : Values) (h : Obeys
   circuit-is : Circuit 1 (ideal (showing P words W)) P (level W 0) (level W (finish P)) (givenBy P W)
   unfolding finish E
   circuit-is =
-      struct first E W (memoryAt P) (showing P words W) (shows P words W) (shows-element P words W) P w 0 3 (walkAt P) (laid .at-delays) (laid .at-walk)
+      struct first E W (memoryAt P) (showing P words W) (shows P words W) (shows-element P words W) ground-is P w 0 3 (walkAt P) (laid .at-delays) (laid .at-walk)
 
   -- word x after instant t: of a variable, of an element, and of none
   variable-is : (x t : ℕ) → x < 16 → Latches (showing P words W) (givenBy P W) x t

@@ -11,13 +11,13 @@ use Rattle.model.specs.Circuit.{Values, level, element, Obeys}
 use Rattle.model.specs.Numbering.{netlist, finish, arrayCell, memoryAt}
 use Rattle.theory.specs.Control.Once.{TimingOf, timing}
 use Rattle.theory.specs.Numbering.Whole.{built, showing, shows, shows-element, givenBy}
-use Rattle.laws.specs.Program.Fit.{Fit}
+use Rattle.laws.specs.Program.Fit.{Fit, Inside}
 
-module _ (P : Stmt) (fit : Fit P) (σ : Store) (W : Values) (obeys : Obeys (netlist P) σ W) where
+module _ (P : Stmt) (fit : Fit P) (inside : Inside P) (σ : Store) (W : Values) (obeys : Obeys (netlist P) σ W) where
   timed : TimingOf P (showing P σ W) (level W (finish P)) σ
   timed =
       let b = built P (fit .formed) σ W obeys in
-      timing P (fit .formed) (fit .timed) (fit .separate) (showing P σ W) (level W 0) (level W (finish P)) (givenBy P W)
+      timing P (fit .formed) (fit .timed) (fit .separate) inside (showing P σ W) (level W 0) (level W (finish P)) (givenBy P W)
       (b .circuit) (b .memory) (b .start 0) (λ t l. b .start t ∙ ne-eqb t 0 (λ e. omega arith)) σ (b .begin)
 
   pub finish-due : (t : ℕ) → level W (finish P) t ≡ due P σ t

@@ -24,7 +24,7 @@ use Rattle.model.specs.declared.Answer.{Answer}
 use Rattle.model.specs.Refusals.{first}
 use Rattle.model.specs.Word.{index, elementWord}
 use Rattle.model.specs.Program.{Stmt, programOf}
-use Rattle.model.specs.Rules.{Store, Ends, ended, still, run, endsAt, due}
+use Rattle.model.specs.Rules.{Store, Ends, ended, still, run, endsAt, due, atEnd}
 use Rattle.model.specs.Circuit.{Values, high, level, element, arrayAt, Obeys, memories, memoryWords}
 use Rattle.model.specs.Numbering.{netlist, finish, arrayCell, memoryAt}
 use Rattle.model.specs.NetlistFile.{fileCheck, cellsOf, finishOf}
@@ -33,7 +33,8 @@ use Rattle.model.specs.Calls.{Returned, verdict, checkCall, compiledFile, compi
 use Rattle.model.specs.Promises.{Call, replay, Seen, seen, seenOf, endedIf, expected, Holds, Along, Shown, Unchanged, lastOf, stopsAt, Keeps}
 use Rattle.laws.specs.Refusals.Laws.{by-bool, not-refused, all-accept, refuse-unless, accept-take, first-drop}
 use Rattle.laws.specs.Program.Accepted.{program-fit}
-use Rattle.laws.specs.Program.Fit.{Fit}
+use Rattle.laws.specs.Program.Enclosed.{program-enclosed}
+use Rattle.laws.specs.Program.Fit.{Fit, Inside}
 use Rattle.laws.specs.Rules.Laws.{steady, still-before, still-below}
 use Rattle.theory.specs.Rules.Relation.{ends-run, ends-once, due-ends, ends-due}
 use Rattle.laws.specs.Numbering.Parts.{net-length}
@@ -130,6 +131,9 @@ module _ (options : Options) (program file words lent : List ℕ) (accepted : ch
   fit : Fit P
   fit = program-fit options program accepted
 
+  inside : Inside P
+  inside = program-enclosed options program accepted .0
+
   some : 0 < length (netlist P)
   some = omega (arith, net-length P)
 
@@ -169,7 +173,7 @@ module _ (options : Options) (program file words lent : List ℕ) (accepted : ch
   to-netlist W o = rw cells-are at o
 
   finishes : (W : Values) → Obeys net σ W → (t : ℕ) → level W F t ≡ due P σ t
-  finishes W o t = rw finish-is (finish-due P fit σ W (to-netlist W o) t)
+  finishes W o t = rw finish-is (finish-due P fit inside σ W (to-netlist W o) t)
 
   W : Values
   W = solution net σ
@@ -186,7 +190,7 @@ module _ (options : Options) (program file words lent : List ℕ) (accepted : ch
       → memoryWords net 0 (λ k. W k t) ≡ listed σ′ 0 16
   lasting W o t₀ σ′ p t l =
       ap (λ (net : List Cell). memoryWords net 0 (λ k. W k t)) cells-are ∙ memory-words P sixteen (λ k. W k t)
-      ∙ listed-same (λ x. W (memoryAt P + x) t) σ′ 0 16 (λ y a b. last-words P fit σ W (to-netlist W o) t₀ σ′ p t y l (omega arith))
+      ∙ listed-same (λ x. W (memoryAt P + x) t) σ′ 0 16 (λ y a b. last-words P fit inside σ W (to-netlist W o) t₀ σ′ p t y l (omega arith))
 
   -- and so does a state
   last : (t₀ : ℕ) (σ′ : Store) → run t₀ P σ ≡ ended t₀ σ′ → (t : ℕ) (s : List ℕ) → t₀ ≤ t → Holding net σ W t s → wordsIn net 0 s ≡ listed σ′ 0 16
@@ -195,7 +199,7 @@ module _ (options : Options) (program file words lent : List ℕ) (accepted : ch
       ∙ listed-same (λ x. nowAt s (memoryAt P + x)) σ′ 0 16
       (λ y a b.
       H .present (memoryAt P + y) (rw cells-are (omega (arith, net-length P)))
-      ∙ last-words P fit σ W (to-netlist W obeys) t₀ σ′ p t y l (omega arith))
+      ∙ last-words P fit inside σ W (to-netlist W obeys) t₀ σ′ p t y l (omega arith))
 
   -- and so do the arrays
   lasting-elements : (W : Values) → Obeys net σ W → (t₀ : ℕ) (σ′ : Store) → run t₀ P σ ≡ ended t₀ σ′ → (t : ℕ) → t₀ ≤ t
@@ -205,7 +209,7 @@ module _ (options : Options) (program file words lent : List ℕ) (accepted : ch
       let m : arrayAt net k ≡ arrayCell (memoryAt P) k = ap (λ (net : List Cell). arrayAt net k) cells-are ∙ ap (λ (j : ℕ). j + 2 * k) (past-is P) in
       ap₂ (λ (net : List Cell) (j : ℕ). element net σ W j i t) cells-are m
       ∙ ap (λ (w : ℕ). element (netlist P) σ W (arrayCell (memoryAt P) k) w t) (sym r)
-      ∙ last-elements P fit σ W (to-netlist W o) t₀ σ′ p t k i l a
+      ∙ last-elements P fit inside σ W (to-netlist W o) t₀ σ′ p t k i l a
 
   last-array : (t₀ : ℕ) (σ′ : Store) → run t₀ P σ ≡ ended t₀ σ′ → (t : ℕ) (s : List ℕ) → t₀ ≤ t → Holding net σ W t s
       → listed (elementNow net s) 0 256 ≡ listed σ′ 16 256
@@ -342,14 +346,14 @@ module _ (options : Options) (program file words lent : List ℕ) (accepted : ch
   -- where the rules end within the budget, they give the same answer
   module _ (n t : ℕ) (l : n ≤ 1000000) (σ′ : Store) (p : run n P σ ≡ ended t σ′) where
     steadily : (t ≤ n) × ((k : ℕ) → t ≤ k → run k P σ ≡ ended t σ′)
-    steadily = steady P (fit .timed) σ n t σ′ p
+    steadily = steady P (fit .timed) σ n atEnd t σ′ p
 
     due-at : (u : ℕ) → due P σ u ≡ eqb t u
     unfolding due endsAt
     due-at u = go (decLt u t)
       where
         go : Dec (u < t) → endsAt u (run u P σ) ≡ eqb t u
-        go (yes x) = ap (endsAt u) (still-before (λ k. run k P σ) (steady P (fit .timed) σ) n t u σ′ p x) ∙ sym (ne-eqb t u (λ e. omega arith))
+        go (yes x) = ap (endsAt u) (still-before (λ k. run k P σ) (steady P (fit .timed) σ) n atEnd t u σ′ p x) ∙ sym (ne-eqb t u (λ e. omega arith))
         go (no x) = ap (endsAt u) (steadily .1 u (omega arith))
 
     wire-at : (u : ℕ) → level W F u ≡ eqb t u

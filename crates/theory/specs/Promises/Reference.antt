@@ -14,7 +14,7 @@ use Rattle.model.specs.declared.Outcome.the-variants.{Ended, Open}
 use Rattle.model.specs.declared.Answer.{Answer}
 use Rattle.model.specs.Refusals.{first}
 use Rattle.model.specs.Program.{Stmt, programOf}
-use Rattle.model.specs.Rules.{Store, Ends, ended, run}
+use Rattle.model.specs.Rules.{Store, Ends, ended, run, atEnd}
 use Rattle.model.specs.Circuit.{high}
 use Rattle.model.specs.NetlistFile.{cellsOf, finishOf}
 use Rattle.model.specs.TimeTables.{load}
@@ -25,7 +25,9 @@ use Rattle.model.specs.ProgramPromises.{endedAnswer, openAnswer, Programs}
 use Rattle.laws.specs.Refusals.Laws.{not-refused, all-accept, accept-take, first-drop, refuse-unless}
 use Rattle.laws.specs.Program.Passed.{accepted, program-nodes}
 use Rattle.laws.specs.Program.Accepted.{program-fit}
-use Rattle.laws.specs.Rules.Laws.{by-run, steady}
+use Rattle.laws.specs.Program.Enclosed.{program-enclosed}
+use Rattle.laws.specs.Rules.Laws.{by-runs, steady}
+use Rattle.laws.specs.Rules.Uses.{never-leaves, never-left}
 use Rattle.theory.specs.Rules.Relation.{run-ends, ends-run}
 use Rattle.theory.specs.Promises.Replay.{no-refusal}
 use Rattle.theory.specs.Promises.Kept.{ran, open-no-end, whole-run, program-run, agrees, stays-open}
@@ -61,15 +63,16 @@ module _ (options : Options) (program words : List ℕ) (n : ℕ) (answered-so :
   pub reference-ended : referenceCall options program words n .outcome ≡ Ended → (t : ℕ) × (σ′ : Store) × (t ≤ n) × Ends P σ t σ′
   unfolding referenceAnswer
   reference-ended e =
-      by-run (run n P σ) (λ t σ′ p. (t, σ′, steady P (program-fit options program passes .timed) σ n t σ′ p .0, run-ends P n σ t σ′ p))
+      by-runs (run n P σ) (λ t σ′ p. (t, σ′, steady P (program-fit options program passes .timed) σ n atEnd t σ′ p .0, run-ends P n σ t σ′ p))
+      (λ t σ′ p. never-leaves P (program-enclosed options program passes .1) n t σ σ′ p)
       (λ p. absurd (open-no-end (sym (ap (λ (a : Answer). a .outcome) (called .1 ∙ ap (referenceAnswer n) p)) ∙ e)))
 
   pub reference-open : referenceCall options program words n .outcome ≡ Open
       → (referenceCall options program words n ≡ openAnswer n) × ((t : ℕ) (σ′ : Store) → Ends P σ t σ′ → t ≤ n → ⊥)
   unfolding referenceAnswer
   reference-open e = (
-    by-run (run n P σ) (λ t σ′ p. absurd (open-no-end (sym e ∙ ap (λ (a : Answer). a .outcome) (called .1 ∙ ap (referenceAnswer n) p))))
-        (λ p. called .1 ∙ ap (referenceAnswer n) p),
+    by-runs (run n P σ) (λ t σ′ p. absurd (open-no-end (sym e ∙ ap (λ (a : Answer). a .outcome) (called .1 ∙ ap (referenceAnswer n) p))))
+        (λ t σ′ p. never-leaves P (program-enclosed options program passes .1) n t σ σ′ p) (λ p. called .1 ∙ ap (referenceAnswer n) p),
     λ t σ′ E l. open-no-end (sym e ∙ ap (λ (a : Answer). a .outcome) (reference-ends t σ′ E l)),
   )
 
@@ -117,11 +120,12 @@ module _ (options : Options) (program words : List ℕ) (n : ℕ) (forFile lent 
   pub same-answers : (seenIn full ≡ seenIn reference) × (full .outcome ≡ Ended → full ≡ reference)
   unfolding referenceAnswer
   same-answers =
-      by-run (run n (programOf program) (wordAt words))
+      by-runs (run n (programOf program) (wordAt words))
       (λ t σ′ p.
       let e : full ≡ reference =
       full-is ∙ agrees options program file words lent accepts refl begins n t (ltb-false 1000000 n budget) σ′ p ∙ sym (reference-is ∙ ap (referenceAnswer n) p) in
       (ap seenIn e, λ z. e))
+      (λ t σ′ p. never-leaves (programOf program) (program-enclosed options program accepts .1) n t (wordAt words) σ′ p)
       (λ p.
       let o = ap seenIn full-is ∙ stays-open options program file words lent accepts refl begins n (ltb-false 1000000 n budget) p in
       (o ∙ sym (ap seenIn (reference-is ∙ ap (referenceAnswer n) p)), λ z. absurd (open-no-end (sym (ap (λ (s : Seen). s .outcome) o) ∙ z))))
@@ -143,6 +147,7 @@ programs =
       ends = λ T program words n t σ′ v. reference-ends (load T) program words n v t σ′;
       ended = λ T program words n e. reference-ended (load T) program words n (ap verdict e ∙ accepted-ended) e;
       stillOpen = λ T program words n e. reference-open (load T) program words n (ap verdict e ∙ accepted-open) e;
+      neverLeft = λ T program e. never-left (programOf program) (program-enclosed (load T) program e .1);
       agree = λ T program words n forFile lent y v.
           same-answers (load T) program words n forFile lent y
           (unfold runProgramCall in

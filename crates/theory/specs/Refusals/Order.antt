@@ -1,14 +1,14 @@
 -- Demand 1: every call gives the first refusal in the published order, and a refusal leaves what was lent as it was.
 -- Assumes nothing.
-use mathlib.Core.Path.{_≡_, refl, sym}
-use mathlib.Core.Bool.{Bool, true, false, not, _&&_, _||_}
+use mathlib.Core.Path.{_≡_, refl, sym, ap, _∙_}
+use mathlib.Core.Bool.{Bool, true, false, true≢false, not, _&&_, _||_}
 use mathlib.Core.Logic.{inl, inr, ⊎-elim}
 use mathlib.Core.List.{List, [], _∷_, _++_}
 use Prim.Native.Nat.{ℕ, _+_, _*_, _/_, _%_, _≤_}
 use native.Mathlib.Omega.{arith}
-use lib.Dec.{eqb, leb, ltb}
+use lib.Dec.{eqb, ltb}
 use lib.ListN.{length, getD}
-use borrow.Author.Tests.{leb-true}
+use borrow.Author.Tests.{eq-eqb, eqb-true}
 use Rattle.laws.specs.NetlistFile.ReadWrite.{writing-verdict}
 use Rattle.model.specs.declared.Node.{Node}
 use Rattle.model.specs.declared.Cell.{Cell}
@@ -16,9 +16,9 @@ use Rattle.model.specs.declared.Checked.{Checked}
 use Rattle.model.specs.declared.Checked.the-variants.{Accepted, Refused}
 use Rattle.model.specs.declared.Answer.{Answer}
 use Rattle.model.specs.Word.{pick}
-use Rattle.model.specs.Refusals.{refuse, refuseIf, first, firstFault, faultIf}
-use Rattle.model.specs.Program.{timeIn, nodeAt, nodesAt, nodeCount, rowOf, unusedSet, absent, nodeFault, children, reading, delayFault, conflictFault, conflicts, stmtAt, least, programLengthWrong, programChecks, checkOf, programOf}
-use Rattle.model.specs.Rules.{Run, ended, still, run}
+use Rattle.model.specs.Refusals.{refuse, numberOf, refuseIf, first, firstFault, faultIf}
+use Rattle.model.specs.Program.{timeIn, nodeAt, nodesAt, nodeCount, rowOf, unusedSet, absent, nodeFault, children, reading, delayFault, conflictFault, conflicts, stmtAt, least, programLengthWrong, programChecks, checkOf, programOf, Stmt, ok, tick, assign, assignElem, seq, par, ite, while, repeat, loop, exit, preorderE, preorder, looseIn}
+use Rattle.model.specs.Rules.{Run, done, atEnd, atExit, still, run}
 use Rattle.model.specs.Circuit.{high, cellAt, control, memories, pastMemories}
 use Rattle.model.specs.Numbering.{finish}
 use Rattle.model.specs.NetlistFile.{wordSum, blockAt, headerRight, placed, arrayPlaced, keeps, fileLengthWrong, sumFault, countWrong, headerFault, cellFault, netChecks, netCheck, fileChecks, fileCheck, blocksFor, fileOf, cellBytes, cellsOf, countOf, finishOf}
@@ -26,121 +26,154 @@ use Rattle.model.specs.TimeTables.{byteWrong, tableFault, tableSumWrong, tableC
 use Rattle.model.specs.State.{stateSize, instantOf, nowAt, sound, beginState, lastState, evaluated}
 use Rattle.model.specs.Calls.{verdict, writtenVerdict, short, checkCall, writing, compiledFile, netlistChecks, compileChecks, compileCall, cellsIn, writeChecks, writeCall, readChecks, readCall, wordAt, shows, running, beginChecks, beginCall, continueChecks, continueCall, fullState, fullCount, overBudget, runNetlistChecks, runNetlistCall, fullRunChecks, runProgramChecks, runProgramCall, referenceAnswer, answering, referenceChecks, referenceCall}
 use Rattle.model.specs.CellSlices.{behind, miscounted, placing, checkCellsChecks, checkCellsCall, writeCellsChecks, writeCellsCall, readCellsChecks, readCellsCall}
-use Rattle.model.specs.Promises.{Gives, InOrder, Refuses, Leaves, Demand1}
+use Rattle.model.specs.Promises.{among, Gives, InOrder, Refuses, tableNumbers, programNumbers, fileNumbers, just, Leaves, Demand1}
 use Rattle.laws.specs.Refusals.Laws.{and-true, not-refused, first-one, first-behind, first-found, fault-number, first-place}
 use Rattle.theory.specs.Promises.Replay.{no-refusal}
 
 -- The numbers that a check gives -------------------------------------------------------------------------------------------------------
 
-pub gives-none : {n : ℕ × ℕ} → Gives n Accepted
-gives-none = inl refl
+pub gives-one : (ns : List ℕ) (k p : ℕ) → among k ns ≡ true → Gives ns (refuse k p)
+gives-one ns k p h = inr h
 
-pub gives-one : (lo hi k p : ℕ) → lo ≤ k → k ≤ hi → Gives (lo, hi) (refuse k p)
-gives-one lo hi k p l h = inr (l, h)
+among-just : (k : ℕ) → among k (just k) ≡ true
+among-just k = ap (λ b. b || false) (eq-eqb k k refl)
 
-pub gives-if : (b : Bool) (k p : ℕ) → Gives (k, k) (refuseIf b k p)
-gives-if true k p = gives-one k k k p (omega arith) (omega arith)
-gives-if false k p = gives-none
+pub gives-if : (b : Bool) (k p : ℕ) → Gives (just k) (refuseIf b k p)
+gives-if true k p = gives-one (just k) k p (among-just k)
+gives-if false k p = inl refl
 
-pub gives-pick : (n : ℕ × ℕ) (b : Bool) (c d : Checked) → Gives n c → Gives n d → Gives n (pick b c d)
-gives-pick n true c d f g = f
-gives-pick n false c d f g = g
+pub gives-pick : (ns : List ℕ) (b : Bool) (c d : Checked) → Gives ns c → Gives ns d → Gives ns (pick b c d)
+gives-pick ns true c d f g = f
+gives-pick ns false c d f g = g
 
--- a fault's number lies in a range, or there is none
-abbrev Faulty : ℕ → ℕ → ℕ → Type 0
-Faulty lo hi x = 1 ≤ x → (lo ≤ x) × (x ≤ hi)
+-- a fault's number is one of these, or there is none
+abbrev Faulty : List ℕ → ℕ → Type 0
+Faulty ns x = 1 ≤ x → among x ns ≡ true
 
-gives-fault : (lo hi : ℕ) (fault : ℕ → ℕ) (n : ℕ) → ((i : ℕ) → Faulty lo hi (fault i)) → Gives (lo, hi) (firstFault fault 0 n)
-gives-fault lo hi fault n h = go (firstFault fault 0 n) refl
+gives-fault : (ns : List ℕ) (fault : ℕ → ℕ) (n : ℕ) → ((i : ℕ) → Faulty ns (fault i)) → Gives ns (firstFault fault 0 n)
+gives-fault ns fault n h = go (firstFault fault 0 n) refl
   where
-    go : (c : Checked) → firstFault fault 0 n ≡ c → Gives (lo, hi) c
-    go Accepted e = gives-none
+    go : (c : Checked) → firstFault fault 0 n ≡ c → Gives ns c
+    go Accepted e = inl refl
     go (Refused r) e =
         let g = fault-number fault n r e in
-        let k = h (r .place) (omega (arith, g .0, g .1)) in
-        inr (omega (arith, g .0, k .0), omega (arith, g .0, k .1))
+        inr (ap (λ k. among k ns) (sym (g .0)) ∙ h (r .place) (omega (arith, g .0, g .1)))
 
-faulty-if : (b : Bool) (k : ℕ) → Faulty k k (faultIf b k)
-faulty-if true k l = (omega arith, omega arith)
+faulty-if : (b : Bool) (k : ℕ) → Faulty (just k) (faultIf b k)
+faulty-if true k l = among-just k
 faulty-if false k l = absurd (omega arith)
 
-node-faulty : (a : Node) → Faulty 2 4 (nodeFault a)
+node-faulty : (a : Node) → Faulty (2 ∷ 3 ∷ 4 ∷ []) (nodeFault a)
 unfolding nodeFault
 node-faulty a =
     go (eqb (rowOf (a .kind) .sort) 0) (unusedSet (rowOf (a .kind) .delay) (a .delay) || unusedSet (rowOf (a .kind) .number) (a .n)) (absent (rowOf (a .kind) .number) (a .n))
   where
-    go : (p q r : Bool) → Faulty 2 4 (pick p 2 (pick q 3 (faultIf r 4)))
-    go true q r l = (omega arith, omega arith)
-    go false true r l = (omega arith, omega arith)
-    go false false true l = (omega arith, omega arith)
+    go : (p q r : Bool) → Faulty (2 ∷ 3 ∷ 4 ∷ []) (pick p 2 (pick q 3 (faultIf r 4)))
+    go true q r l = refl
+    go false true r l = refl
+    go false false true l = refl
     go false false false l = absurd (omega arith)
 
-reading-gives : (ns : List Node) (ws : List ℕ) (i : ℕ) → Gives (5, 6) (reading ws i ns)
+reading-gives : (ns : List Node) (ws : List ℕ) (i : ℕ) → Gives (5 ∷ 6 ∷ []) (reading ws i ns)
 unfolding reading
-reading-gives [] [] i = gives-none
-reading-gives [] (w ∷ ws) i = gives-one 5 6 6 i (omega arith) (omega arith)
-reading-gives (a ∷ ns) [] i = gives-one 5 6 6 i (omega arith) (omega arith)
+reading-gives [] [] i = inl refl
+reading-gives [] (w ∷ ws) i = gives-one (5 ∷ 6 ∷ []) 6 i refl
+reading-gives (a ∷ ns) [] i = gives-one (5 ∷ 6 ∷ []) 6 i refl
 reading-gives (a ∷ ns) (w ∷ ws) i =
-    gives-pick (5, 6) (eqb (rowOf (a .kind) .sort) w) (reading (children (a .kind) ++ ws) (i + 1) ns) (refuse 5 i)
-    (reading-gives ns (children (a .kind) ++ ws) (i + 1)) (gives-one 5 6 5 i (omega arith) (omega arith))
+    gives-pick (5 ∷ 6 ∷ []) (eqb (rowOf (a .kind) .sort) w) (reading (children (a .kind) ++ ws) (i + 1) ns) (refuse 5 i)
+    (reading-gives ns (children (a .kind) ++ ws) (i + 1)) (gives-one (5 ∷ 6 ∷ []) 5 i refl)
+
+-- each of these lists has no number but those of a list
+abbrev amid : List ℕ → List ℕ → Bool
+amid whole [] = true
+amid whole (n ∷ ns) = among n whole && amid whole ns
+
+abbrev within : List ℕ → List (List ℕ) → Bool
+within whole [] = true
+within whole (ns ∷ nss) = amid whole ns && within whole nss
+
+among-more : (whole ns : List ℕ) (k : ℕ) → amid whole ns ≡ true → among k ns ≡ true → among k whole ≡ true
+among-more whole [] k w h = absurd (true≢false (sym h))
+among-more whole (n ∷ ns) k w h = go (eqb k n) refl (among-more whole ns k (and-true (among n whole) _ w .1))
+  where
+    go : (b : Bool) → eqb k n ≡ b → (among k ns ≡ true → among k whole ≡ true) → among k whole ≡ true
+    go true e more = ap (λ j. among j whole) (eqb-true k n e) ∙ and-true (among n whole) _ w .0
+    go false e more = more (ap (λ b. b || among k ns) (sym e) ∙ h)
 
 -- what is found first has the number of one of the checks
-abbrev within : ℕ → ℕ → List (ℕ × ℕ) → Bool
-within lo hi [] = true
-within lo hi (n ∷ ns) = leb lo (n .0) && (leb (n .1) hi && within lo hi ns)
+gives-first : (whole : List ℕ) (nss : List (List ℕ)) (cs : List Checked) → within whole nss ≡ true → InOrder nss cs → Gives whole (first cs)
+gives-first whole [] [] w o = inl refl
+gives-first whole [] (c ∷ cs) w o = absurd o
+gives-first whole (ns ∷ nss) [] w o = absurd o
+gives-first whole (ns ∷ nss) (Accepted ∷ cs) w o = gives-first whole nss cs (and-true (amid whole ns) _ w .1) (o .1)
+gives-first whole (ns ∷ nss) (Refused q ∷ cs) w o =
+    ⊎-elim (λ e. not-refused e) (λ g. inr (among-more whole ns (q .number) (and-true (amid whole ns) _ w .0) g)) (o .0)
 
-gives-first : (lo hi : ℕ) (ns : List (ℕ × ℕ)) (cs : List Checked) → within lo hi ns ≡ true → InOrder ns cs → Gives (lo, hi) (first cs)
-gives-first lo hi [] [] w o = gives-none
-gives-first lo hi [] (c ∷ cs) w o = absurd o
-gives-first lo hi (n ∷ ns) [] w o = absurd o
-gives-first lo hi (n ∷ ns) (Accepted ∷ cs) w o =
-    gives-first lo hi ns cs (and-true (leb (n .1) hi) _ (and-true (leb lo (n .0)) _ w .1) .1) (o .1)
-gives-first lo hi (n ∷ ns) (Refused q ∷ cs) w o =
-    let p = and-true (leb lo (n .0)) _ w in
-    let l = leb-true lo (n .0) (p .0) in
-    let h = leb-true (n .1) hi (and-true (leb (n .1) hi) _ (p .1) .0) in
-    ⊎-elim (λ e. not-refused e) (λ g. inr (omega (arith, g .0), omega (arith, g .1))) (o .0)
+-- an exit without a loop gives 22
+loose-both : (c d : Checked) → Gives (just 22) c → Gives (just 22) d → Gives (just 22) (first (c ∷ d ∷ []))
+loose-both c d f g = gives-first (just 22) (just 22 ∷ just 22 ∷ []) (c ∷ d ∷ []) refl (f, (g, tt))
+
+loose-gives : (b : Bool) (P : Stmt) (i : ℕ) → Gives (just 22) (looseIn b P i)
+unfolding looseIn
+loose-gives b ok i = inl refl
+loose-gives b (tick d) i = inl refl
+loose-gives b (assign d x e) i = inl refl
+loose-gives b (assignElem d k j e) i = inl refl
+loose-gives b (seq P Q) i =
+    loose-both _ _ (loose-gives b P (i + 1)) (loose-gives b Q (i + 1 + length (preorder P)))
+loose-gives b (par P Q) i =
+    loose-both _ _ (loose-gives false P (i + 1)) (loose-gives false Q (i + 1 + length (preorder P)))
+loose-gives b (ite d e P Q) i =
+    let j = i + 1 + length (preorderE e) in
+    loose-both _ _ (loose-gives b P j) (loose-gives b Q (j + length (preorder P)))
+loose-gives b (while d e P) i = loose-gives b P (i + 1 + length (preorderE e))
+loose-gives b (repeat d e P) i = loose-gives b P (i + 1 + length (preorderE e))
+loose-gives b (loop d P) i = loose-gives true P (i + 1)
+loose-gives b exit i = gives-if (not b) 22 i
 
 -- Programs and files -------------------------------------------------------------------------------------------------------------------
 
-program-order : (τ : ℕ → ℕ) (s : List ℕ) → InOrder ((1, 1) ∷ (2, 4) ∷ (5, 6) ∷ (7, 7) ∷ (8, 8) ∷ []) (programChecks τ s)
+program-order : (τ : ℕ → ℕ) (s : List ℕ) → InOrder (just 1 ∷ (2 ∷ 3 ∷ 4 ∷ []) ∷ (5 ∷ 6 ∷ []) ∷ just 22 ∷ just 7 ∷ just 8 ∷ []) (programChecks τ s)
 unfolding delayFault conflictFault
 program-order τ s = (
   gives-if (programLengthWrong s) 1 0,
   (
-    gives-fault 2 4 (λ i. nodeFault (nodeAt s i)) (nodeCount s) (λ i. node-faulty (nodeAt s i)),
+    gives-fault (2 ∷ 3 ∷ 4 ∷ []) (λ i. nodeFault (nodeAt s i)) (nodeCount s) (λ i. node-faulty (nodeAt s i)),
     (
       reading-gives (nodesAt s 0) (2 ∷ []) 0,
       (
-        gives-fault 7 7 (delayFault τ s) (nodeCount s) (λ i. faulty-if (ltb (nodeAt s i .delay) (least τ (stmtAt s i))) 7),
-        (gives-fault 8 8 (conflictFault s) (nodeCount s) (λ i. faulty-if (conflicts (stmtAt s i)) 8), tt),
+        loose-gives false (programOf s) 0,
+        (
+          gives-fault (just 7) (delayFault τ s) (nodeCount s) (λ i. faulty-if (ltb (nodeAt s i .delay) (least τ (stmtAt s i))) 7),
+          (gives-fault (just 8) (conflictFault s) (nodeCount s) (λ i. faulty-if (conflicts (stmtAt s i)) 8), tt),
+        ),
       ),
     ),
   ),
 )
 
-pub check-gives : (times s : List ℕ) → Gives (1, 8) (checkOf times s)
+pub check-gives : (times s : List ℕ) → Gives programNumbers (checkOf times s)
 unfolding checkOf
 check-gives times s =
-    gives-first 1 8 ((1, 1) ∷ (2, 4) ∷ (5, 6) ∷ (7, 7) ∷ (8, 8) ∷ []) (programChecks (timeIn times) s) refl (program-order (timeIn times) s)
+    gives-first programNumbers (just 1 ∷ (2 ∷ 3 ∷ 4 ∷ []) ∷ (5 ∷ 6 ∷ []) ∷ just 22 ∷ just 7 ∷ just 8 ∷ []) (programChecks (timeIn times) s) refl (program-order (timeIn times) s)
 
-table-order : (file : List ℕ) → InOrder ((19, 19) ∷ (20, 20) ∷ (21, 21) ∷ []) (tableChecks file)
+table-order : (file : List ℕ) → InOrder (just 19 ∷ just 20 ∷ just 21 ∷ []) (tableChecks file)
 unfolding tableFault
 table-order file = (
   gives-if (not (eqb (length file) 512)) 19 0,
-  (gives-if (tableSumWrong file) 20 0, (gives-fault 21 21 (tableFault file) 512 (λ i. faulty-if (byteWrong i (getD file i 0)) 21), tt)),
+  (gives-if (tableSumWrong file) 20 0, (gives-fault (just 21) (tableFault file) 512 (λ i. faulty-if (byteWrong i (getD file i 0)) 21), tt)),
 )
 
-pub table-gives : (T : TimeTable) → Gives (19, 21) (load T .checked)
+pub table-gives : (T : TimeTable) → Gives tableNumbers (load T .checked)
 unfolding load
-table-gives builtIn = gives-none
-table-gives (given file) = gives-first 19 21 ((19, 19) ∷ (20, 20) ∷ (21, 21) ∷ []) (tableChecks file) refl (table-order file)
+table-gives builtIn = inl refl
+table-gives (given file) = gives-first tableNumbers (just 19 ∷ just 20 ∷ just 21 ∷ []) (tableChecks file) refl (table-order file)
 
-net-gives : (net : List Cell) (f : ℕ) → Gives (12, 12) (netCheck net f)
+net-gives : (net : List Cell) (f : ℕ) → Gives (just 12) (netCheck net f)
 unfolding netCheck cellFault
 net-gives net f =
-    gives-first 12 12 ((12, 12) ∷ (12, 12) ∷ (12, 12) ∷ (12, 12) ∷ []) (netChecks net f) refl (
-      gives-fault 12 12 (cellFault net) (length net)
+    gives-first (just 12) (just 12 ∷ just 12 ∷ just 12 ∷ just 12 ∷ []) (netChecks net f) refl (
+      gives-fault (just 12) (cellFault net) (length net)
           (λ i. let c = cellAt net i in faulty-if (not (placed i c && (arrayPlaced (pastMemories net 16) i c && keeps net i c))) 12),
       (
         gives-if (not (eqb (memories net) 16)) 12 (length net),
@@ -148,31 +181,31 @@ net-gives net f =
       ),
     )
 
-miscount-gives : (cs : List Cell) (f : ℕ) → Gives (11, 11) (miscounted cs f)
+miscount-gives : (cs : List Cell) (f : ℕ) → Gives (just 11) (miscounted cs f)
 miscount-gives cs f = gives-if (countWrong (blocksFor (length cs)) (length cs) f) 11 0
 
-file-order : (s : List ℕ) → InOrder ((9, 9) ∷ (10, 10) ∷ (11, 11) ∷ (11, 11) ∷ (12, 12) ∷ []) (fileChecks s)
+file-order : (s : List ℕ) → InOrder (just 9 ∷ just 10 ∷ just 11 ∷ just 11 ∷ just 12 ∷ []) (fileChecks s)
 unfolding sumFault headerFault
 file-order s =
     let m = length s / 512 in (
       gives-if (fileLengthWrong s) 9 0,
       (
-        gives-fault 10 10 (sumFault s) m (λ b. faulty-if (not (eqb (wordSum (blockAt s b) % 65536) 0)) 10),
+        gives-fault (just 10) (sumFault s) m (λ b. faulty-if (not (eqb (wordSum (blockAt s b) % 65536) 0)) 10),
         (
           gives-if (countWrong m (countOf s) (finishOf s)) 11 0,
-          (gives-fault 11 11 (headerFault s) m (λ b. faulty-if (not (headerRight (countOf s) (finishOf s) b (blockAt s b))) 11), (net-gives (cellsOf s) (finishOf s), tt)),
+          (gives-fault (just 11) (headerFault s) m (λ b. faulty-if (not (headerRight (countOf s) (finishOf s) b (blockAt s b))) 11), (net-gives (cellsOf s) (finishOf s), tt)),
         ),
       ),
     )
 
-file-gives : (s : List ℕ) → Gives (9, 12) (fileCheck s)
+file-gives : (s : List ℕ) → Gives fileNumbers (fileCheck s)
 unfolding fileCheck
-file-gives s = gives-first 9 12 ((9, 9) ∷ (10, 10) ∷ (11, 11) ∷ (11, 11) ∷ (12, 12) ∷ []) (fileChecks s) refl (file-order s)
+file-gives s = gives-first fileNumbers (just 9 ∷ just 10 ∷ just 11 ∷ just 11 ∷ just 12 ∷ []) (fileChecks s) refl (file-order s)
 
-pub short-gives : (has needs : ℕ) → Gives (14, 14) (short has needs)
+pub short-gives : (has needs : ℕ) → Gives (just 14) (short has needs)
 short-gives has needs = gives-if (ltb has needs) 14 0
 
-budget-gives : (n : ℕ) → Gives (13, 13) (overBudget n)
+budget-gives : (n : ℕ) → Gives (just 13) (overBudget n)
 budget-gives n = gives-if (ltb 1000000 n) 13 0
 
 -- Calls --------------------------------------------------------------------------------------------------------------------------------
@@ -208,59 +241,66 @@ unfolding answering verdict
 answering-verdict Accepted a h = h
 answering-verdict (Refused r) a h = refl
 
--- no refusal has the number 0, where the ranges begin with 1 or above
-abbrev positive : List (ℕ × ℕ) → Bool
-positive ns = within 1 31 ns
+-- no refusal has the number 0
+abbrev positive : List (List ℕ) → Bool
+positive [] = true
+positive (ns ∷ nss) = not (among 0 ns) && positive nss
 
-refuses : (ns : List (ℕ × ℕ)) (cs : List Checked) → positive ns ≡ true → InOrder ns cs → Refuses ns cs (first cs)
-refuses ns cs w o =
-    record {
-      found = first-found cs (λ e. ⊎-elim (λ a. a) (λ g. absurd (omega (arith, g .0, e))) (gives-first 1 31 ns cs w o));
-      ordered = o;
-    }
+first-positive : (nss : List (List ℕ)) (cs : List Checked) → positive nss ≡ true → InOrder nss cs → numberOf (first cs) ≡ 0 → first cs ≡ Accepted
+first-positive [] [] w o e = refl
+first-positive [] (c ∷ cs) w o e = absurd o
+first-positive (ns ∷ nss) [] w o e = absurd o
+first-positive (ns ∷ nss) (Accepted ∷ cs) w o e = first-positive nss cs (and-true (not (among 0 ns)) _ w .1) (o .1) e
+first-positive (ns ∷ nss) (Refused q ∷ cs) w o e =
+    ⊎-elim (λ a. a)
+    (λ g. absurd (true≢false (sym (and-true (not (among 0 ns)) _ w .0) ∙ ap not (ap (λ k. among k ns) (sym e) ∙ g)))) (o .0)
+
+refuses : (nss : List (List ℕ)) (cs : List Checked) → positive nss ≡ true → InOrder nss cs → Refuses nss cs (first cs)
+refuses nss cs w o = record { found = first-found cs (first-positive nss cs w o); ordered = o }
 
 -- a call that runs, and a call that writes
-run-refuses : (ns : List (ℕ × ℕ)) (cs : List Checked) → positive ns ≡ true → InOrder ns cs → (file s : List ℕ) (n : ℕ) (lent : List ℕ) →
+run-refuses : (nss : List (List ℕ)) (cs : List Checked) → positive nss ≡ true → InOrder nss cs → (file s : List ℕ) (n : ℕ) (lent : List ℕ) →
     let c = verdict (running (first cs) file s n lent .answer .outcome) in
-    Refuses ns cs c × Leaves c lent (running (first cs) file s n lent .lent)
-run-refuses ns cs w o file s n lent =
-    rw (running-verdict (first cs) file s n lent) (refuses ns cs w o, running-leaves (first cs) file s n lent)
+    Refuses nss cs c × Leaves c lent (running (first cs) file s n lent .lent)
+run-refuses nss cs w o file s n lent =
+    rw (running-verdict (first cs) file s n lent) (refuses nss cs w o, running-leaves (first cs) file s n lent)
 
-pub write-refuses : (ns : List (ℕ × ℕ)) (cs : List Checked) → positive ns ≡ true → InOrder ns cs → (result : List ℕ) (n f : ℕ) (lent : List ℕ) →
+pub write-refuses : (nss : List (List ℕ)) (cs : List Checked) → positive nss ≡ true → InOrder nss cs → (result : List ℕ) (n f : ℕ) (lent : List ℕ) →
     let c = writtenVerdict (writing (first cs) result n f lent .answer) in
-    Refuses ns cs c × Leaves c lent (writing (first cs) result n f lent .lent)
-write-refuses ns cs w o result n f lent =
-    rw (writing-verdict (first cs) result n f lent) (refuses ns cs w o, writing-leaves (first cs) result n f lent)
+    Refuses nss cs c × Leaves c lent (writing (first cs) result n f lent .lent)
+write-refuses nss cs w o result n f lent =
+    rw (writing-verdict (first cs) result n f lent) (refuses nss cs w o, writing-leaves (first cs) result n f lent)
 
 reference-runs : (n : ℕ) (program words : List ℕ) → verdict (referenceAnswer n (run n (programOf program) (wordAt words)) .outcome) ≡ Accepted
 unfolding referenceAnswer verdict
 reference-runs n program words = go (run n (programOf program) (wordAt words))
   where
     go : (r : Run) → verdict (referenceAnswer n r .outcome) ≡ Accepted
-    go (ended t σ) = refl
+    go (done atEnd t σ) = refl
+    go (done atExit t σ) = refl
     go still = refl
 
-pub compile-order : (times program lent : List ℕ) → InOrder ((1, 8) ∷ (14, 14) ∷ []) (netlistChecks times program lent)
+pub compile-order : (times program lent : List ℕ) → InOrder (programNumbers ∷ just 14 ∷ []) (netlistChecks times program lent)
 compile-order times program lent = (check-gives times program, (short-gives (length lent) (length (compiledFile program)), tt))
 
 pub run-order : (times program words : List ℕ) (n : ℕ) (forFile lent : List ℕ)
-    → InOrder ((1, 8) ∷ (13, 13) ∷ (14, 14) ∷ (14, 14) ∷ (14, 14) ∷ []) (fullRunChecks times program words n forFile lent)
+    → InOrder (programNumbers ∷ just 13 ∷ just 14 ∷ just 14 ∷ just 14 ∷ []) (fullRunChecks times program words n forFile lent)
 run-order times program words n forFile lent =
     let file = compiledFile program in
     (check-gives times program, (budget-gives n, (short-gives (length words) 544, (short-gives (length forFile) (length file), (short-gives (length lent) (stateSize (cellsOf file)), tt)))))
 
 -- a full run of a program, after whatever checks
-pub run-both-refuses : (ns : List (ℕ × ℕ)) (cs : List Checked) → positive ns ≡ true → InOrder ns cs → (file s : List ℕ) (n : ℕ) (forFile lent : List ℕ) →
+pub run-both-refuses : (nss : List (List ℕ)) (cs : List Checked) → positive nss ≡ true → InOrder nss cs → (file s : List ℕ) (n : ℕ) (forFile lent : List ℕ) →
     let c = verdict (running (first cs) file s n lent .answer .outcome) in
-    Refuses ns cs c × Leaves c forFile (writing (first cs) file (length file) 0 forFile .lent) × Leaves c lent (running (first cs) file s n lent .lent)
-run-both-refuses ns cs w o file s n forFile lent =
+    Refuses nss cs c × Leaves c forFile (writing (first cs) file (length file) 0 forFile .lent) × Leaves c lent (running (first cs) file s n lent .lent)
+run-both-refuses nss cs w o file s n forFile lent =
     rw (running-verdict (first cs) file s n lent)
-    (refuses ns cs w o, writing-leaves (first cs) file (length file) 0 forFile, running-leaves (first cs) file s n lent)
+    (refuses nss cs w o, writing-leaves (first cs) file (length file) 0 forFile, running-leaves (first cs) file s n lent)
 
 program-runs : (T : TimeTable) (program words : List ℕ) (n : ℕ) (forFile lent : List ℕ) →
     let r = runProgramCall (load T) program words n forFile lent in
     let c = verdict (r .answer .outcome) in
-    Refuses ((19, 21) ∷ (1, 8) ∷ (13, 13) ∷ (14, 14) ∷ (14, 14) ∷ (14, 14) ∷ []) (runProgramChecks (load T) program words n forFile lent) c
+    Refuses (tableNumbers ∷ programNumbers ∷ just 13 ∷ just 14 ∷ just 14 ∷ just 14 ∷ []) (runProgramChecks (load T) program words n forFile lent) c
     × Leaves c forFile (r .netlist) × Leaves c lent (r .state)
 unfolding runProgramCall
 program-runs T program words n forFile lent =

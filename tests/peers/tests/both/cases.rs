@@ -217,6 +217,7 @@ fn a_delay_of_0_is_too_small_except_in_an_if() {
         assign_element(0, constant(0), constant(0), 0),
         while_do(constant(0), 0, ok()),
         repeat_until(ok(), constant(1), 0),
+        loop_of(0, exit()),
     ];
     for program in too_small {
         assert_eq!((BOTH.check)(None, &program).result, refused(7, 0));

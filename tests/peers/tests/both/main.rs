@@ -9,6 +9,7 @@ mod expect;
 mod hubrun;
 mod lending;
 mod less;
+mod loops;
 mod netlist;
 mod netlists;
 mod nodes;

@@ -68,3 +68,11 @@ pub fn element(array: u16, index: Vec<u8>) -> Vec<u8> {
 pub fn assign_element(array: u16, index: Vec<u8>, value: Vec<u8>, d: u8) -> Vec<u8> {
     [node(24, d, array), index, value].concat()
 }
+
+pub fn loop_of(d: u8, p: Vec<u8>) -> Vec<u8> {
+    [node(25, d, 0), p].concat()
+}
+
+pub fn exit() -> Vec<u8> {
+    node(26, 0, 0)
+}

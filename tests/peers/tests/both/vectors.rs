@@ -16,12 +16,13 @@ static LENT: [u8; 50_000] = [0xa5; 50_000];
 static LENT_CELLS: [Cell; 1_100] = [Cell::new(0xa5, 0xa5, 0xa5a5, 0xa5a5); 1_100];
 
 /// The folders with programs, with netlist files, and so on. Those of s05 have
-/// arrays.
-const PROGRAMS: [&str; 4] = ["program", "compile", "speed", "s05/compile"];
-const NETLISTS: [&str; 2] = ["netlist", "s05/netlist"];
-const CALLS: [&str; 2] = ["calls", "s05/calls"];
+/// arrays, those of s06 loops too.
+const PROGRAMS: [&str; 5] = ["program", "compile", "speed", "s05/compile", "s06/compile"];
+const NETLISTS: [&str; 3] = ["netlist", "s05/netlist", "s06/netlist"];
+const CALLS: [&str; 3] = ["calls", "s05/calls", "s06/calls"];
 const STATES: [&str; 2] = ["state", "s05/state"];
-const HUBRUN: [&str; 2] = ["hubrun", "s05/hubrun"];
+const RULES: [&str; 2] = ["s05/rules", "s06/rules"];
+const HUBRUN: [&str; 3] = ["hubrun", "s05/hubrun", "s06/hubrun"];
 
 /// One vector: the folder and the common beginning of its files' names.
 struct Vector {
@@ -274,7 +275,7 @@ fn states_of_any_origin_are_begun_continued_or_refused_as_told() {
 /// words of the arrays.
 #[test]
 fn rules_and_circuits_come_to_the_end_told() {
-    for_each(&["s05/rules"], "prog", |vector, name| {
+    for_each(&RULES, "prog", |vector, name| {
         let (program, words) = (vector.bytes("prog"), vector.bytes("words"));
         let (table, budget) = (vector.may_have("table"), vector.number("budget"));
         let table = table.as_deref();

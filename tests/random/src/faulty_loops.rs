@@ -1,0 +1,158 @@
+//! Peers that go wrong about loops: a compiler that makes the circuit of another
+//! program, in which loops are left otherwise, and a check.
+
+use peers::{Bytes, Peer, Reply, SECOND};
+use second::kinds::row;
+use std::slice::ChunksExact;
+use values::{Refusal, Shape, Table};
+
+const PARALLEL: u8 = 20;
+const SEQUENCE: u8 = 19;
+const LOOP: u8 = 25;
+const EXIT: u8 = 26;
+
+/// Spends a loop's delay on leaving it too.
+pub const DELAY_SPENT: Peer = faulty("delay spent", |table, program, file| {
+    compiled(delay_spent, table, program, file)
+});
+
+/// Leaves with a loop the loops around it.
+pub const OUTER_LEFT: Peer = faulty("outer left", |table, program, file| {
+    compiled(outer_left, table, program, file)
+});
+
+/// Runs what follows an exit, and leaves the loop only then.
+pub const REST_RUN: Peer = faulty("rest run", |table, program, file| {
+    compiled(rest_run, table, program, file)
+});
+
+/// Sees no parallel node between an exit and its loop.
+pub const THROUGH_PARALLEL: Peer = Peer {
+    name: "through parallel",
+    check: |table, program| {
+        let mut reply = (SECOND.check)(table, program);
+        if let Err(Refusal { number: 22, .. }) = reply.result {
+            reply.result = (SECOND.check)(table, &in_sequence(program)).result;
+        }
+        reply
+    },
+    ..SECOND
+};
+
+const fn faulty(name: &'static str, compile: fn(Table, Bytes, Bytes) -> Reply<Shape>) -> Peer {
+    Peer {
+        name,
+        compile,
+        ..SECOND
+    }
+}
+
+/// The netlist of what a program is taken for, where that too is accepted.
+fn compiled(taken: fn(Tree) -> Tree, table: Table, program: &[u8], file: &[u8]) -> Reply<Shape> {
+    let right = (SECOND.compile)(table, program, file);
+    if right.result.is_err() {
+        return right;
+    }
+    let other = taken(Tree::next(&mut program.chunks_exact(4))).bytes();
+    let wrong = (SECOND.compile)(table, &other, file);
+    if wrong.result.is_err() {
+        return right;
+    }
+    wrong
+}
+
+/// The program with sequences in place of its parallel nodes.
+fn in_sequence(program: &[u8]) -> Vec<u8> {
+    let mut program = program.to_vec();
+    for node in program.chunks_exact_mut(4) {
+        if node[0] == PARALLEL {
+            node[0] = SEQUENCE;
+        }
+    }
+    program
+}
+
+/// Each exit comes after a tick of its loop's delay.
+fn delay_spent(tree: Tree) -> Tree {
+    fn within(tree: Tree, delay: u8) -> Tree {
+        match tree.node[0] {
+            EXIT => in_turn(leaf([17, delay, 0, 0]), tree),
+            LOOP => {
+                let delay = tree.node[1];
+                tree.map(|part| within(part, delay))
+            }
+            _ => tree.map(|part| within(part, delay)),
+        }
+    }
+    within(tree, 0)
+}
+
+/// After each loop that an exit may follow, one does.
+fn outer_left(tree: Tree) -> Tree {
+    fn within(tree: Tree, in_loop: bool) -> Tree {
+        match tree.node[0] {
+            LOOP => {
+                let whole = tree.map(|part| within(part, true));
+                match in_loop {
+                    true => in_turn(whole, leaf([EXIT, 0, 0, 0])),
+                    false => whole,
+                }
+            }
+            PARALLEL => tree.map(|side| within(side, false)),
+            _ => tree.map(|part| within(part, in_loop)),
+        }
+    }
+    within(tree, false)
+}
+
+/// An exit and what follows it change places.
+fn rest_run(tree: Tree) -> Tree {
+    let mut tree = tree.map(rest_run);
+    if tree.node[0] == SEQUENCE && tree.children[0].node[0] == EXIT {
+        tree.children.reverse();
+    }
+    tree
+}
+
+/// A node with its children.
+struct Tree {
+    node: [u8; 4],
+    children: Vec<Tree>,
+}
+
+impl Tree {
+    fn next(nodes: &mut ChunksExact<u8>) -> Tree {
+        let node = nodes.next().expect("a node for each child");
+        let children = row(node[0]).expect("a known kind").children.iter();
+        Tree {
+            node: node.try_into().expect("four bytes"),
+            children: children.map(|_| Tree::next(nodes)).collect(),
+        }
+    }
+
+    fn bytes(&self) -> Vec<u8> {
+        let children = self.children.iter().flat_map(Tree::bytes);
+        self.node.into_iter().chain(children).collect()
+    }
+
+    fn map(self, change: impl Fn(Tree) -> Tree) -> Tree {
+        Tree {
+            node: self.node,
+            children: self.children.into_iter().map(change).collect(),
+        }
+    }
+}
+
+fn leaf(node: [u8; 4]) -> Tree {
+    Tree {
+        node,
+        children: vec![],
+    }
+}
+
+fn in_turn(p: Tree, q: Tree) -> Tree {
+    Tree {
+        node: [SEQUENCE, 0, 0, 0],
+        children: vec![p, q],
+    }
+}

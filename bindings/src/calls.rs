@@ -50,6 +50,11 @@ pub fn continue_by(file: &[u8], state: &mut [u8], n: u32) -> Result<Answer, Refu
     accepted(|reply| hub_continue(file, state, n, reply)).map(answer)
 }
 
+/// Gives a second start pulse at the next instant.
+pub fn start(file: &[u8], state: &mut [u8]) -> Result<Answer, Refusal> {
+    accepted(|reply| hub_start(file, state, reply)).map(answer)
+}
+
 /// A full run of a netlist.
 pub fn run_netlist(
     file: &[u8],

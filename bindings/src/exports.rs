@@ -74,6 +74,9 @@ exports! {
     /// continueCall
     hub_continue(netlist: &[u8], state: &mut [u8], n: u32, reply: &mut [u8]);
 
+    /// startCall
+    hub_start(netlist: &[u8], state: &mut [u8], reply: &mut [u8]);
+
     /// runProgramCall
     hub_run_program(
         table: ?[u8], program: &[u8], words: &[u8], budget: u32,

@@ -4,11 +4,32 @@ use crate::json::Json;
 use crate::store::{self, Store, OF_ARRAYS};
 use crate::types::{Answer, Words};
 
-/// Ended or open, the instant, and the words and elements that changed; of
-/// those that didn't, all words, and all elements that aren't 0, if asked for.
+/// Ended or open, the instant, and the words and elements that changed.
 pub fn text(start: &Store, answer: &Answer, last: &Store, all: bool) -> String {
     let outcome = outcome(answer);
-    let mut text = format!("{outcome} at {}\n", answer.instant);
+    format!("{outcome} at {}\n", answer.instant) + &changes(start, last, all)
+}
+
+/// The same of a run that has a state, with the number in flight in it.
+pub fn text_of_state(
+    start: &Store,
+    answer: &Answer,
+    last: &Store,
+    in_flight: u32,
+    all: bool,
+) -> String {
+    let outcome = outcome(answer);
+    let busy = match in_flight {
+        0 => "idle".to_string(),
+        number => format!("{number} in flight"),
+    };
+    format!("{outcome} at {}, {busy}\n", answer.instant) + &changes(start, last, all)
+}
+
+/// The words and elements that changed; of those that didn't, all words, and all
+/// elements that aren't 0, if asked for.
+fn changes(start: &Store, last: &Store, all: bool) -> String {
+    let mut text = String::new();
     for (place, (before, after)) in start.iter().zip(last).enumerate() {
         let told = all && (*after != 0 || !OF_ARRAYS.contains(&place));
         if told || before != after {

@@ -15,9 +15,10 @@ pub const CELLS: usize = 1_024;
 const BLOCK: usize = 512;
 const BLOCK_HEADER: usize = 8;
 
-/// A state has a header, so many bytes for each cell, and behind them the words
-/// of all elements.
+/// A state has a header, the instant and the number in flight, so many bytes for
+/// each cell, and behind them the words of all elements.
 const STATE_HEADER: usize = 8;
+const IN_FLIGHT: usize = 4;
 const STATE_CELL: usize = 40;
 const WORD: usize = 2;
 
@@ -50,6 +51,20 @@ fn cell_at(cell: usize) -> usize {
 
 fn word_at(state: &[u8], at: usize) -> u16 {
     u16::from_le_bytes([state[at], state[at + 1]])
+}
+
+/// The instant of a state.
+pub fn instant_in(state: &[u8]) -> u32 {
+    number_at(state, 0)
+}
+
+/// The number in flight in a state.
+pub fn in_flight_in(state: &[u8]) -> u32 {
+    number_at(state, IN_FLIGHT)
+}
+
+fn number_at(state: &[u8], at: usize) -> u32 {
+    u32::from_le_bytes([0, 1, 2, 3].map(|k| state[at + k]))
 }
 
 /// What a cell shows in a state.

@@ -61,6 +61,11 @@ pub fn go(file: &[u8], state: &mut [u8], n: u32) -> Result<Answer, Refusal> {
     calls::continue_by(file, state, n)
 }
 
+/// Gives a second start pulse at the next instant.
+pub fn start(file: &[u8], state: &mut [u8]) -> Result<Answer, Refusal> {
+    calls::start(file, state)
+}
+
 /// The words that an answer tells, and the elements of its state of so many
 /// cells.
 pub fn contents(answer: &Answer, state: &[u8], cells: usize) -> Store {

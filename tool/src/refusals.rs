@@ -14,6 +14,7 @@ pub use rules::{rule, Counts, Rule, RULES};
 
 use crate::input::{Form, Given};
 use crate::json::Json;
+use crate::layout::{in_flight_in, instant_in};
 use crate::types::{Fault, Refusal};
 
 #[derive(Clone, Debug)]
@@ -65,13 +66,25 @@ pub fn report(given: &Given, refusal: Refusal) -> Result<Report, Fault> {
             Some((name, bytes)) => of_times(name, bytes, refusal),
             None => report,
         },
-        (13..=16, _) => report,
+        (13..=16 | 23, _) => report,
         (9..=12, _) => netlists::of_file(report, &given.bytes),
         (17, _) => texts::of_word(report, &given.bytes),
         (18, _) => texts::of_grammar(report, given),
         (_, Form::Text | Form::Outline) => programs::of_source(report, given)?,
         _ => programs::of_bytes(report, given),
     })
+}
+
+/// The report of a refusal that a state met.
+pub fn of_state(name: &str, state: &[u8], refusal: Refusal) -> Report {
+    let in_flight = || {
+        let (number, instant) = (in_flight_in(state), instant_in(state));
+        format!("{number} in flight at instant {instant}")
+    };
+    Report {
+        found: (refusal.number == 23).then(in_flight),
+        ..plain(name, refusal)
+    }
 }
 
 /// The report of a refusal that a table of operator times met.

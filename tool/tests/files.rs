@@ -107,9 +107,26 @@ fn a_state_that_is_refused_is_left_as_it_was() {
     assert_eq!(compile(GOOD, &file), Some(0));
     fs::write(&state, vec![9; 2_000]).expect("a file");
     let [file, name] = [&file, &state].map(|path| path.to_str().expect("a name in letters"));
-    let told = hub(&["go", file, name, "--by", "1"], "");
-    assert_eq!(told.status.code(), Some(1));
-    assert_eq!(fs::read(&state).expect("it is there"), vec![9; 2_000]);
+    for words in [&["go", file, name, "--by", "1"][..], &["start", file, name]] {
+        let told = hub(words, "");
+        assert_eq!(told.status.code(), Some(1));
+        assert_eq!(fs::read(&state).expect("it is there"), vec![9; 2_000]);
+    }
+}
+
+/// The pulse of its beginning is in flight.
+#[test]
+fn a_state_that_is_not_idle_is_left_as_it_was() {
+    let folder = Folder::new("busy");
+    let (file, state) = (folder.at("a.net"), folder.at("a.state"));
+    assert_eq!(compile(GOOD, &file), Some(0));
+    let [file, name] = [&file, &state].map(|path| path.to_str().expect("a name in letters"));
+    assert_eq!(hub(&["begin", file, "-o", name], "").status.code(), Some(0));
+    let begun = fs::read(&state).expect("it is there");
+    let told = hub(&["start", file, name], "");
+    let error = String::from_utf8_lossy(&told.stderr);
+    assert!(error.contains(": refused 23: "), "{error}");
+    assert_eq!(fs::read(&state).expect("it is there"), begun);
 }
 
 #[test]

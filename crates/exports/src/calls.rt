@@ -2,7 +2,7 @@
 // Each answers whether there was room for the reply; where there was none it did nothing. A flag tells whether a table of operator times is given.
 ghost use mathlib.Core.Path.{_≡_};
 ghost use Rattle.model.specs.TimeTables.{givenIf, load};
-ghost use Rattle.model.specs.Calls.{checkCall, compileCall, writeCall, readCall, beginCall, continueCall, runNetlistCall, runProgramCall, referenceCall};
+ghost use Rattle.model.specs.Calls.{checkCall, compileCall, writeCall, readCall, beginCall, continueCall, startCall, runNetlistCall, runProgramCall, referenceCall};
 ghost use Rattle.model.specs.TextCalls.{readTextCall, compileTextCall, runTextCall};
 ghost use Rattle.reply.specs.Replies.{checkedReply, writtenReply, answerReply, replied, roomFor, ifRoom};
 
@@ -98,6 +98,20 @@ pub extern "C" fn hub_continue(netlist: &[u8], state: &mut [u8], n: u32, reply: 
         return false;
     }
     let answer = hub::continue_by(netlist, state, n);
+    reply::put(reply, reply::of_answer(answer));
+    true
+}
+
+#[no_mangle]
+pub extern "C" fn hub_start(netlist: &[u8], state: &mut [u8], reply: &mut [u8]) -> bool
+    ensures done { λ r. ⌜ r ≡ roomFor (now (reply .entry)) ⌝ }
+    ensures state { λ _. ⌜ now (state .exit) ≡ ifRoom (now (reply .entry)) (startCall (now (netlist .entry)) (now (state .entry)) .lent) (now (state .entry)) ⌝ }
+    ensures reply { λ _. ⌜ now (reply .exit) ≡ ifRoom (now (reply .entry)) (replied (answerReply (startCall (now (netlist .entry)) (now (state .entry)) .answer)) (now (reply .entry))) (now (reply .entry)) ⌝ }
+{
+    if reply.len() < reply::LENGTH {
+        return false;
+    }
+    let answer = hub::start(netlist, state);
     reply::put(reply, reply::of_answer(answer));
     true
 }

@@ -17,7 +17,7 @@ use Rattle.model.specs.Numbering.{netlist, finish}
 use Rattle.model.specs.NetlistFile.{cellsOf}
 use Rattle.model.specs.State.{stateSize}
 use Rattle.model.specs.Calls.{short, checkCall, overwrite, compiledFile, refusedAnswer, shows, running, writing, fullState, fullCount, runProgramChecks, runProgramCall}
-use Rattle.model.specs.Promises.{Bytes}
+use Rattle.model.specs.Word.{Bytes}
 use Rattle.laws.specs.Refusals.Laws.{all-accept, refuse-unless, first-take, first-drop, accept-take}
 use Rattle.laws.specs.Program.Size.{few-nodes}
 use Rattle.laws.specs.Numbering.Parts.{net-length}

@@ -2,7 +2,7 @@
 // A call that checks a program takes first what is given beside it: `defaults`, or what a file of operator times is loaded as.
 ghost use mathlib.Core.Path.{_≡_};
 ghost use Rattle.model.specs.TimeTables.{given, load, defaults};
-ghost use Rattle.model.specs.Calls.{checkCall, compileCall, writeCall, readCall, beginCall, continueCall, runNetlistCall, runProgramCall, referenceCall};
+ghost use Rattle.model.specs.Calls.{checkCall, compileCall, writeCall, readCall, beginCall, continueCall, startCall, runNetlistCall, runProgramCall, referenceCall};
 ghost use Rattle.model.specs.TextCalls.{readTextCall, compileTextCall, runTextCall};
 
 pub mod full; // the full run of a program
@@ -69,6 +69,14 @@ pub fn continue_by(netlist: &[u8], state: &mut [u8], n: u32) -> Answer
     ensures lent { λ _. ⌜ now (state .exit) ≡ continueCall (now (netlist .entry)) n (now (state .entry)) .lent ⌝ }
 {
     simulator::continue_by(netlist, state, n)
+}
+
+// One further instant with a start pulse, while nothing is in flight.
+pub fn start(netlist: &[u8], state: &mut [u8]) -> Answer
+    ensures answer { λ r. ⌜ r ≡ startCall (now (netlist .entry)) (now (state .entry)) .answer ⌝ }
+    ensures lent { λ _. ⌜ now (state .exit) ≡ startCall (now (netlist .entry)) (now (state .entry)) .lent ⌝ }
+{
+    simulator::start(netlist, state)
 }
 
 // A beginning, and a continuing by the budget unless the finish was high.

@@ -2,7 +2,7 @@
 -- A refused call "changes no lent byte"; "Lent bytes past a result keep their values."
 -- A call that checks a program takes a table of operator times, as it is loaded: 19 to 21 come first.
 -- Assumes nothing: definitions.
-use mathlib.Core.Bool.{not, _||_}
+use mathlib.Core.Bool.{Bool, true, not, _||_}
 use mathlib.Core.List.{List, [], _∷_, _++_}
 use Prim.Native.Nat.{ℕ, zero, suc, _+_, _*_, _/_, _%_}
 use lib.Dec.{ltb}
@@ -24,7 +24,7 @@ use Rattle.model.specs.Rules.{Store, Run, atEnd, atExit, done, still, ru
 use Rattle.model.specs.Circuit.{high}
 use Rattle.model.specs.Numbering.{netlist, finish}
 use Rattle.model.specs.NetlistFile.{cellBytes, cellsAt, inList, fileOf, fileCheck, cellsOf, countOf, finishOf, netCheck, countWrong, blocksFor}
-use Rattle.model.specs.State.{stateSize, instantOf, nowAt, beginState, lastState, evaluated, wordsIn, sound}
+use Rattle.model.specs.State.{stateSize, instantOf, flightOf, nowAt, beginState, stepState, lastState, evaluated, wordsIn, sound}
 
 -- Answers ------------------------------------------------------------------------------------------------------------------------------
 
@@ -148,6 +148,17 @@ unfoldable pub continueCall : List ℕ → ℕ → List ℕ → Returned Answer
 continueCall file n lent =
     running (first (continueChecks file n lent)) file (lastState (cellsOf file) (finishOf file) n lent)
     (evaluated (cellsOf file) (finishOf file) n lent) lent
+
+-- giving a start: as continuing by 1, "refusal 16 counts its instant", then "23: start given while the number isn't 0, place 0; after 16"
+abbrev pub busy : List ℕ → Bool
+busy lent = ltb 0 (flightOf lent)
+
+abbrev pub startChecks : List ℕ → List ℕ → List Checked
+startChecks file lent = continueChecks file 1 lent ++ (refuseIf (busy lent) 23 0 ∷ [])
+
+-- "a second start pulse may be given in the next instant, by a call of its own: a continuing by 1 with start high at that instant."
+unfoldable pub startCall : List ℕ → List ℕ → Returned Answer
+startCall file lent = running (first (startChecks file lent)) file (stepState (cellsOf file) true lent) 1 lent
 
 -- "A full run of budget N is a beginning, and a continuing by N unless the finish was high.": the state that it leaves, the instants that it
 -- evaluates

@@ -9,7 +9,7 @@ use Rattle.model.specs.declared.Cell.{Cell}
 use Rattle.model.specs.NetlistFile.{cellBytes, netCheck}
 use Rattle.model.specs.Calls.{cellsIn, writeCall, readCall}
 use Rattle.model.specs.CellSlices.{movedFrom, movedBytes, writeCellsCall, readCellsCall}
-use Rattle.model.specs.Promises.{Bytes}
+use Rattle.model.specs.Word.{Bytes}
 
 pub record SameCells : Type 0 where
   pub checked : (cs : List Cell) (f : ℕ) → netCheck (cellsIn (cellBytes cs)) f ≡ netCheck cs f

@@ -166,27 +166,28 @@ element net words W j i (suc t) =
     let address = cellAt net (j + 1) .a in
     pick (falls W (c .a) t && eqb i (index (W address t))) (W (c .b) t) (element net words W j i t)
 
--- what cell k, which is c, shows at instant t; word₀ is its start word, if it is a memory, and E tells the words of arrays. "32 start: 1 at
--- instant 0, then 0. 33 ground: 0. 1: constant a." "3 to 9: the operators on words a, and b where there are two." "35: control a or control
--- b." "36: 1 when control a is 1 and word b isn't zero. 37: when a is 1 and b is zero." "41: word b when control a is 1, else 0." 42 and
--- 43: "both kinds show 0". "Every read is a kind 44 (a the 42, b the index)".
-unfoldable pub equation : Shape → ℕ → Elements → Values → ℕ → Cell → ℕ → ℕ
-equation kConstant word₀ E W k c t = c .a
-equation kComplement word₀ E W k c t = operate 3 (W (c .a) t) 0
-equation kOperator word₀ E W k c t = operate (c .kind) (W (c .a) t) (W (c .b) t)
-equation kStart word₀ E W k c t = bit (eqb t 0)
-equation kGround word₀ E W k c t = 0
-equation kDelay word₀ E W k c t = bit (delayed (c .delay) (level W (c .a)) t)
-equation kOr word₀ E W k c t = bit (level W (c .a) t || level W (c .b) t)
-equation kWhenTrue word₀ E W k c t = bit (level W (c .a) t && not (isZero (W (c .b) t)))
-equation kWhenFalse word₀ E W k c t = bit (level W (c .a) t && isZero (W (c .b) t))
-equation kMerge word₀ E W k c t = bit (merged (level W (c .a)) (level W (c .b)) t)
-equation kMemory word₀ E W k c t = memory word₀ W k c t
-equation kGated word₀ E W k c t = pick (level W (c .a) t) (W (c .b) t) 0
-equation kArray word₀ E W k c t = 0
-equation kAddress word₀ E W k c t = 0
-equation kRead word₀ E W k c t = E (c .a) (index (W (c .b) t)) t
-equation kUnknown word₀ E W k c t = 0
+-- what cell k, which is c, shows at instant t; starts tells the start instants, word₀ is its start word, if it is a memory, and E tells the words
+-- of arrays. "32 start: 1 at instant 0, then 0", but for the instant of "a second start pulse". "33 ground: 0. 1: constant a." "3 to 9:
+-- the operators on words a, and b where there are two." "35: control a or control b." "36: 1 when control a is 1 and word b isn't zero. 37: when
+-- a is 1 and b is zero." "41: word b when control a is 1, else 0." 42 and 43: "both kinds show 0". "Every read is a kind 44 (a the 42, b the
+-- index)".
+unfoldable pub equation : Shape → Sig → ℕ → Elements → Values → ℕ → Cell → ℕ → ℕ
+equation kConstant starts word₀ E W k c t = c .a
+equation kComplement starts word₀ E W k c t = operate 3 (W (c .a) t) 0
+equation kOperator starts word₀ E W k c t = operate (c .kind) (W (c .a) t) (W (c .b) t)
+equation kStart starts word₀ E W k c t = bit (starts t)
+equation kGround starts word₀ E W k c t = 0
+equation kDelay starts word₀ E W k c t = bit (delayed (c .delay) (level W (c .a)) t)
+equation kOr starts word₀ E W k c t = bit (level W (c .a) t || level W (c .b) t)
+equation kWhenTrue starts word₀ E W k c t = bit (level W (c .a) t && not (isZero (W (c .b) t)))
+equation kWhenFalse starts word₀ E W k c t = bit (level W (c .a) t && isZero (W (c .b) t))
+equation kMerge starts word₀ E W k c t = bit (merged (level W (c .a)) (level W (c .b)) t)
+equation kMemory starts word₀ E W k c t = memory word₀ W k c t
+equation kGated starts word₀ E W k c t = pick (level W (c .a) t) (W (c .b) t) 0
+equation kArray starts word₀ E W k c t = 0
+equation kAddress starts word₀ E W k c t = 0
+equation kRead starts word₀ E W k c t = E (c .a) (index (W (c .b) t)) t
+equation kUnknown starts word₀ E W k c t = 0
 
 -- "exactly sixteen are memories, in variable order": how many memories a list of cells has
 unfoldable pub memories : List Cell → ℕ
@@ -212,8 +213,9 @@ arrayAt net k = pastMemories net 16 + 2 * k
 abbrev pub startWord : List Cell → (ℕ → ℕ) → ℕ → ℕ
 startWord net words k = words (memories (take k net))
 
--- W is what the cells show when they are run from these start words
-unfoldable pub Obeys : List Cell → (ℕ → ℕ) → Values → Type 0
-Obeys net words W =
+-- W is what the cells show when they are run from these start words, with start pulses at these instants: 0, which is beginning's, and those of
+-- the starts that are given later
+unfoldable pub Obeys : List Cell → Sig → (ℕ → ℕ) → Values → Type 0
+Obeys net starts words W =
     (k : ℕ) → k < length net → (t : ℕ)
-    → W k t ≡ equation (shape (cellAt net k .kind)) (startWord net words k) (element net words W) W k (cellAt net k) t
+    → W k t ≡ equation (shape (cellAt net k .kind)) starts (startWord net words k) (element net words W) W k (cellAt net k) t

@@ -15,7 +15,9 @@ pub mod TextCalls
 pub mod CellSlices
 pub mod Hubrun
 pub mod Hubtext
-pub mod Promises
+pub mod RefusalPromises
+pub mod CircuitPromises
+pub mod RunPromises
 pub mod FilePromises
 pub mod TablePromises
 pub mod ProgramPromises

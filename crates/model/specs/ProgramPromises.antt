@@ -12,7 +12,8 @@ use Rattle.model.specs.Program.{nodesAt, programOf, preorder}
 use Rattle.model.specs.Rules.{Store, Ends, Leaves}
 use Rattle.model.specs.TimeTables.{TimeTable, load}
 use Rattle.model.specs.Calls.{verdict, checkCall, runProgramCall, wordAt, listed, referenceCall}
-use Rattle.model.specs.Promises.{Bytes, seenIn}
+use Rattle.model.specs.Word.{Bytes}
+use Rattle.model.specs.RunPromises.{seenIn}
 
 -- the answers of a run that ended at t with the words σ, and of one that is open after n instants: the rules have no words to show of it
 abbrev pub endedAnswer : ℕ → Store → Answer

@@ -14,7 +14,7 @@ use Rattle.model.specs.NetlistFile.{allZero}
 
 -- "State is 8 bytes (four-byte instant, four zero) and 40 per cell: value now and value an instant ago (two bytes each, the latter 0 at
 -- instant 0), held a, held b (a byte each), two zero bytes, and 32 bytes with the last 256 inputs of a delay, newest in the lowest bit of
--- the first byte." "The 256 words stand after the state's cells."
+-- the first byte." "The 256 words stand after the state's cells." "The four zero bytes of the state now hold" the number in flight.
 abbrev pub stateSize : List Cell → ℕ
 stateSize net = 8 + 40 * length net + 512
 
@@ -31,6 +31,10 @@ elementNow net s n = get16 s (elementBase net n)
 
 abbrev pub instantOf : List ℕ → ℕ
 instantOf s = get32 s 0
+
+-- the number in flight, as a state tells it
+abbrev pub flightOf : List ℕ → ℕ
+flightOf s = get32 s 4
 
 abbrev pub nowAt : List ℕ → ℕ → ℕ
 nowAt s k = get16 s (base k)
@@ -51,35 +55,32 @@ lineBit s k i = getD s (base k + 8 + i / 8) 0 / 2 ^ (i % 8) % 2
 
 -- One instant --------------------------------------------------------------------------------------------------------------------------
 
--- What cell k, which is c, shows after instant 0. In s, lower cells have their values now already, and the arrays of lower cells their words;
--- all cells have their values an instant ago, and held bits and lines are still those of an instant ago.
-unfoldable pub nextValue : Shape → List Cell → List ℕ → ℕ → Cell → ℕ
-nextValue kConstant net s k c = c .a
-nextValue kComplement net s k c = operate 3 (nowAt s (c .a)) 0
-nextValue kOperator net s k c = operate (c .kind) (nowAt s (c .a)) (nowAt s (c .b))
-nextValue kStart net s k c = 0
-nextValue kGround net s k c = 0
-nextValue kDelay net s k c = lineBit s k (c .delay - 1)
-nextValue kOr net s k c = bit (high (nowAt s (c .a)) || high (nowAt s (c .b)))
-nextValue kWhenTrue net s k c = bit (high (nowAt s (c .a)) && not (isZero (nowAt s (c .b))))
-nextValue kWhenFalse net s k c = bit (high (nowAt s (c .a)) && isZero (nowAt s (c .b)))
-nextValue kMerge net s k c = bit (mergeStep (heldAt s k) (high (nowAt s (c .a))) (high (nowAt s (c .b))) .out)
-nextValue kMemory net s k c = pick (fallen s (c .a)) (beforeAt s (c .b)) (beforeAt s k)
-nextValue kGated net s k c = pick (high (nowAt s (c .a))) (nowAt s (c .b)) 0
-nextValue kArray net s k c = 0
-nextValue kAddress net s k c = 0
-nextValue kRead net s k c = elementNow net s (elementOf (cellAt net (c .a) .delay) (nowAt s (c .b)))
-nextValue kUnknown net s k c = 0
+-- What cell k, which is c, shows after instant 0; starts tells whether a start pulse is given. In s, lower cells have their values now already, and
+-- the arrays of lower cells their words; all cells have their values an instant ago, and held bits and lines are still those of an instant ago.
+unfoldable pub nextValue : Shape → Bool → List Cell → List ℕ → ℕ → Cell → ℕ
+nextValue kConstant starts net s k c = c .a
+nextValue kComplement starts net s k c = operate 3 (nowAt s (c .a)) 0
+nextValue kOperator starts net s k c = operate (c .kind) (nowAt s (c .a)) (nowAt s (c .b))
+nextValue kStart starts net s k c = bit starts
+nextValue kGround starts net s k c = 0
+nextValue kDelay starts net s k c = lineBit s k (c .delay - 1)
+nextValue kOr starts net s k c = bit (high (nowAt s (c .a)) || high (nowAt s (c .b)))
+nextValue kWhenTrue starts net s k c = bit (high (nowAt s (c .a)) && not (isZero (nowAt s (c .b))))
+nextValue kWhenFalse starts net s k c = bit (high (nowAt s (c .a)) && isZero (nowAt s (c .b)))
+nextValue kMerge starts net s k c = bit (mergeStep (heldAt s k) (high (nowAt s (c .a))) (high (nowAt s (c .b))) .out)
+nextValue kMemory starts net s k c = pick (fallen s (c .a)) (beforeAt s (c .b)) (beforeAt s k)
+nextValue kGated starts net s k c = pick (high (nowAt s (c .a))) (nowAt s (c .b)) 0
+nextValue kArray starts net s k c = 0
+nextValue kAddress starts net s k c = 0
+nextValue kRead starts net s k c = elementNow net s (elementOf (cellAt net (c .a) .delay) (nowAt s (c .b)))
+nextValue kUnknown starts net s k c = 0
 
-abbrev pub value : List Cell → List ℕ → ℕ → ℕ
-value net s k = nextValue (shape (cellAt net k .kind)) net s k (cellAt net k)
+abbrev pub value : List Cell → Bool → List ℕ → ℕ → ℕ
+value net starts s k = nextValue (shape (cellAt net k .kind)) starts net s k (cellAt net k)
 
--- at instant 0 a start is 1 and a memory has its start word; the others, all bytes being 0, show what they show later
+-- at instant 0 a memory has its start word; the others, all bytes being 0 and start 1, show what they show later
 abbrev pub firstValue : List Cell → (ℕ → ℕ) → List ℕ → ℕ → ℕ
-firstValue net words s k =
-    pick (eqb (cellAt net k .kind) 32) 1
-    (pick (eqb (cellAt net k .kind) 40) (startWord net words k)
-    (value net s k))
+firstValue net words s k = pick (eqb (cellAt net k .kind) 40) (startWord net words k) (value net true s k)
 
 -- f at cell 0, then at cell 1, and so on to cell n - 1
 unfoldable pub upTo : (List ℕ → ℕ → List ℕ) → ℕ → List ℕ → List ℕ
@@ -132,6 +133,36 @@ settle kUnknown s k c = s
 abbrev pub settled : List Cell → List ℕ → ℕ → List ℕ
 settled net s k = settle (shape (cellAt net k .kind)) s k (cellAt net k)
 
+-- The number in flight -----------------------------------------------------------------------------------------------------------------
+
+-- how many of the newest d inputs of a line are 1; line i is the input of i instants ago
+unfoldable pub ones : (ℕ → ℕ) → ℕ → ℕ
+ones line zero = 0
+ones line (suc d) = ones line d + line d
+
+abbrev pub heldBits : Merge → ℕ
+heldBits m = bit (m .a) + bit (m .b)
+
+-- "delay inputs not yet put out and held merge bits", of a cell c with this line and these held bits: what came in d instants ago or earlier has been
+-- put out
+unfoldable pub inFlight : (ℕ → ℕ) → Merge → Cell → ℕ
+inFlight line held c = pick (eqb (c .kind) 34) (ones line (c .delay)) (pick (eqb (c .kind) 38) (heldBits held) 0)
+
+-- the sum of these, of the cells cs, which stand from k on, where cell k has line k and held k
+unfoldable pub flightIn : (ℕ → ℕ → ℕ) → (ℕ → Merge) → List Cell → ℕ → ℕ
+flightIn line held [] k = 0
+flightIn line held (c ∷ cs) k = inFlight (line k) (held k) c + flightIn line held cs (k + 1)
+
+-- what the lines and held bits of a state sum up to
+abbrev pub flight : List Cell → List ℕ → ℕ
+flight net s = flightIn (lineBit s) (heldAt s) net 0
+
+-- "each call keeps it true": the number is put into the header
+unfoldable pub counted : List Cell → List ℕ → List ℕ
+counted net s = put32 s 4 (flight net s)
+
+-- Beginning and continuing -------------------------------------------------------------------------------------------------------------
+
 -- the bytes of n words from x on
 unfoldable pub wordBytes : (ℕ → ℕ) → ℕ → ℕ → List ℕ
 wordBytes words x zero = []
@@ -141,32 +172,34 @@ wordBytes words x (suc n) = bytes16 (words x) ++ wordBytes words (x + 1) n
 abbrev pub blank : List Cell → (ℕ → ℕ) → List ℕ → List ℕ
 blank net words s = replicate (8 + 40 * length net) 0 ++ (wordBytes words 16 256 ++ drop (stateSize net) s)
 
+-- an instant from a state whose cells show what they showed before: values by v, then lines and held bits, then their number
+unfoldable pub evaluate : List Cell → (List ℕ → ℕ → ℕ) → List ℕ → List ℕ
+evaluate net v past =
+    let valued = upTo (shown net v) (length net) past in
+    counted net (upTo (settled net) (length net) valued)
+
 -- "Beginning evaluates instant 0." "Lent bytes past a result keep their values."
 unfoldable pub beginState : List Cell → (ℕ → ℕ) → List ℕ → List ℕ
-beginState net words s =
-    let valued = upTo (shown net (firstValue net words)) (length net) (blank net words s) in
-    upTo (settled net) (length net) valued
+beginState net words s = evaluate net (firstValue net words) (blank net words s)
 
--- one further instant
-unfoldable pub stepState : List Cell → List ℕ → List ℕ
-stepState net s =
-    let counted = put32 s 0 (instantOf s + 1) in
-    let past = upTo aged (length net) counted in
-    let valued = upTo (shown net (value net)) (length net) past in
-    upTo (settled net) (length net) valued
+-- one further instant, with a start pulse or without
+unfoldable pub stepState : List Cell → Bool → List ℕ → List ℕ
+stepState net starts s =
+    let ticked = put32 s 0 (instantOf s + 1) in
+    evaluate net (value net starts) (upTo aged (length net) ticked)
 
 -- "Continuing by N evaluates later instants until the finish wire is high or N are done; a state whose finish is already high is continued
 -- like any other.": the state then, and how many were evaluated
 unfoldable pub lastState : List Cell → ℕ → ℕ → List ℕ → List ℕ
 lastState net f zero s = s
 lastState net f (suc n) s =
-    let t = stepState net s in
+    let t = stepState net false s in
     elim (high (nowAt t f)) [ true ↦ t | false ↦ lastState net f n t ]
 
 unfoldable pub evaluated : List Cell → ℕ → ℕ → List ℕ → ℕ
 evaluated net f zero s = 0
 evaluated net f (suc n) s =
-    let t = stepState net s in
+    let t = stepState net false s in
     elim (high (nowAt t f)) [ true ↦ 1 | false ↦ 1 + evaluated net f n t ]
 
 -- "the sixteen words": those that the memories show, of the cells that stand from k on
@@ -188,5 +221,6 @@ unfoldable pub cellsSound : List Cell → List ℕ → ℕ → Bool
 cellsSound [] s k = true
 cellsSound (c ∷ cs) s k = cellSound c s k && cellsSound cs s (k + 1)
 
+-- "a state where it is false is refusal 15"
 unfoldable pub sound : List Cell → List ℕ → Bool
-sound net s = allZero (take 4 (drop 4 s)) && cellsSound net s 0
+sound net s = eqb (flightOf s) (flight net s) && cellsSound net s 0

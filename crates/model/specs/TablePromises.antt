@@ -9,7 +9,7 @@ use Rattle.model.specs.declared.Checked.the-variants.{Accepted}
 use Rattle.model.specs.NetlistFile.{blockWith}
 use Rattle.model.specs.TimeTables.{given, load}
 use Rattle.model.specs.Calls.{listed}
-use Rattle.model.specs.Promises.{Bytes}
+use Rattle.model.specs.Word.{Bytes}
 
 -- the file of the times τ: "block number 0, 9 in bytes 2–3, zero in 4–5, the usual check, then nine bytes for kinds 1 to 9, the rest zero",
 -- with "a tenth byte, and 10 in bytes 2–3"

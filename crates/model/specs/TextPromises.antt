@@ -18,7 +18,8 @@ use Rattle.model.specs.TimeTables.{TimeTable, load}
 use Rattle.model.specs.TextCalls.{readingOf, textProgram, textChecks, readTextChecks, readTextCall, compileTextChecks, compileTextCall, runTextChecks, runTextCall}
 use Rattle.model.specs.Calls.{verdict, writtenVerdict, compileCall, runProgramCall}
 use Rattle.model.specs.Hubrun.{decimal}
-use Rattle.model.specs.Promises.{Bytes, tableNumbers, programNumbers, just, Refuses, Leaves}
+use Rattle.model.specs.Word.{Bytes}
+use Rattle.model.specs.RefusalPromises.{tableNumbers, programNumbers, just, Refuses, Leaves}
 
 -- the place of word i, or the length of the text where the words are fewer
 unfoldable pub placeAt : ℕ → List Lexeme → ℕ → ℕ

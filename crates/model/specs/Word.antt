@@ -3,7 +3,7 @@
 -- Assumes nothing: definitions.
 use mathlib.Core.Bool.{Bool, true, false}
 use mathlib.Core.List.{List, [], _∷_}
-use Prim.Native.Nat.{ℕ, _+_, _-_, _*_, _/_, _%_}
+use Prim.Native.Nat.{ℕ, _+_, _-_, _*_, _/_, _%_, _<_}
 use lib.ListN.{getD, set}
 use lib.Dec.{eqb, ltb}
 use lib.Bits.{bitAnd, bitOr}
@@ -73,3 +73,7 @@ put32 s i v = put16 (put16 s i (v % 65536)) (i + 2) (v / 65536)
 -- a number's two bytes
 unfoldable pub bytes16 : ℕ → List ℕ
 bytes16 v = v % 256 ∷ v / 256 ∷ []
+
+-- what lists of bytes are
+abbrev pub Bytes : List ℕ → Type 0
+Bytes s = (i : ℕ) → getD s i 0 < 256

@@ -1,4 +1,4 @@
--- Calls with the first that their checks find, worked out by hand from the paper: refusals 13, 14 and 16, what is just allowed, and that the
+-- Calls with the first that their checks find, worked out by hand from the papers: refusals 13, 14, 16 and 23, what is just allowed, and that the
 -- checks of programs, netlists and states come in the published order. Places are 0 where the paper names none.
 -- Assumes nothing.
 use mathlib.Core.Path.{_≡_, refl}
@@ -8,9 +8,10 @@ use lib.ListN.{set, replicate}
 use Rattle.model.specs.declared.Checked.{Checked}
 use Rattle.model.specs.declared.Checked.the-variants.{Accepted}
 use Rattle.model.specs.Refusals.{refuse, first}
+use Rattle.model.specs.Circuit.{cell}
 use Rattle.model.specs.NetlistFile.{cellBytes, fileOf}
 use Rattle.model.specs.TimeTables.{defaults}
-use Rattle.model.specs.Calls.{compileChecks, writeChecks, readChecks, beginChecks, continueChecks, runNetlistChecks, runProgramChecks, referenceChecks}
+use Rattle.model.specs.Calls.{compileChecks, writeChecks, readChecks, beginChecks, continueChecks, startChecks, runNetlistChecks, runProgramChecks, referenceChecks}
 use Rattle.model.specs.Netlists.{numbering, front, idle, arrays}
 use Rattle.model.specs.Cases.{raw, checkOfProgram}
 use Rattle.rows.specs.StateRows.{stateOfCells}
@@ -31,6 +32,13 @@ room n = replicate n 0
 
 abbrev stateOf : ℕ → ℕ → ℕ → List ℕ
 stateOf a b c = a ∷ b ∷ c ∷ replicate 1597 0
+
+-- tick 3, of 28 cells, whose delay is cell 3; a state of it at an instant of three bytes, with a number and the first byte of the delay's line
+abbrev tickFile : List ℕ
+tickFile = fileOf (front (cell 34 3 0 0 ∷ idle 16 (arrays []))) 3
+
+abbrev ticking : ℕ → ℕ → ℕ → ℕ → ℕ → List ℕ
+ticking a b c n line = set (set (a ∷ b ∷ c ∷ replicate 1637 0) 4 n) 136 line
 
 -- the first that a call's checks find, and what the paper says
 calls : List (Checked × Checked)
@@ -67,6 +75,17 @@ calls =
     ∷ (first (continueChecks okFile 1 (set (stateOf 0 0 0) 8 2)), refuse 15 0)
     ∷ (first (continueChecks okFile 1000001 (set (room 1599) 4 1)), refuse 14 0)
     ∷ (first (continueChecks (set okFile 0 1) 0 []), refuse 10 0)
+    -- giving a start: 9 to 12, 14, 15, 16 with its instant, 23
+    ∷ (first (startChecks okFile (stateOf 0 0 0)), Accepted)
+    ∷ (first (startChecks okFile (stateOf 63 66 15)), Accepted)
+    ∷ (first (startChecks okFile (stateOf 64 66 15)), refuse 16 0)
+    ∷ (first (startChecks tickFile (ticking 0 0 0 1 4)), refuse 23 0)
+    ∷ (first (startChecks tickFile (ticking 0 0 0 0 8)), Accepted)
+    ∷ (first (startChecks tickFile (ticking 63 66 15 1 4)), refuse 23 0)
+    ∷ (first (startChecks tickFile (ticking 64 66 15 1 4)), refuse 16 0)
+    ∷ (first (startChecks tickFile (ticking 64 66 15 1 8)), refuse 15 0)
+    ∷ (first (startChecks okFile (set (room 1599) 4 1)), refuse 14 0)
+    ∷ (first (startChecks (set okFile 0 1) []), refuse 10 0)
     -- a full run of a netlist: 9 to 12, 13, 14
     ∷ (first (runNetlistChecks okFile (room 544) 1000000 (room 1600)), Accepted)
     ∷ (first (runNetlistChecks okFile (room 543) 1000001 (room 1599)), refuse 13 0)

@@ -1,4 +1,4 @@
--- States and runs with what is said of them, worked out by hand from the paper: a run byte for byte, and refusal 15 clause by clause.
+-- States and runs with what is said of them, worked out by hand from the papers: a run with a second start byte for byte, and refusal 15 clause by clause.
 -- Theorems cite the same layout and condition, and so leave them free.
 -- Assumes nothing.
 use mathlib.Core.Path.{_≡_, refl}
@@ -9,7 +9,7 @@ use lib.ListN.{set, replicate}
 use Rattle.model.specs.declared.Cell.{Cell}
 use Rattle.model.specs.Word.{operate, put16, get32, put32, bytes16}
 use Rattle.model.specs.Circuit.{memoryWords, cell, mergeStep}
-use Rattle.model.specs.State.{heldAt, lineBit, nextValue, upTo, aged, stored, shown, shiftedIn, holding, settle, wordBytes, beginState, stepState, lastState, evaluated, wordsIn, cellSound, cellsSound, sound}
+use Rattle.model.specs.State.{flightOf, nowAt, heldAt, lineBit, nextValue, upTo, aged, stored, shown, shiftedIn, holding, settle, ones, inFlight, flightIn, counted, wordBytes, evaluate, beginState, stepState, lastState, evaluated, wordsIn, cellSound, cellsSound, sound}
 use Rattle.model.specs.Calls.{wordAt}
 use Rattle.rows.specs.NetlistRows.{checkOfFile}
 
@@ -28,10 +28,10 @@ abbrev startBytes : List ℕ
 startBytes = (1 ∷ 2 ∷ 3 ∷ 4 ∷ replicate 28 0) ++ replicate 138 0 ++ (6 ∷ 7 ∷ [])
 
 -- Instant 0: the start is 1, and stands newest in the delay's line; the memories have their start words; the merge holds a; the first read shows
--- element 5. The elements have their start words.
+-- element 5. The elements have their start words. Two are in flight, in the line and in the merge.
 state0 : List ℕ
 state0 =
-    replicate 8 0
+    (0 ∷ 0 ∷ 0 ∷ 0 ∷ 2 ∷ 0 ∷ 0 ∷ 0 ∷ [])
     ++ (1 ∷ replicate 39 0)  -- start
     ++ replicate 40 0  -- ground
     ++ (5 ∷ replicate 39 0)  -- constant
@@ -49,7 +49,7 @@ state0 =
 -- instant ago was 513, whose low six bits are 1, so element 64 * 1 + 1 takes the 5 in, which the second read shows at once.
 state1 : List ℕ
 state1 =
-    (1 ∷ replicate 7 0)
+    (1 ∷ 0 ∷ 0 ∷ 0 ∷ 2 ∷ 0 ∷ 0 ∷ 0 ∷ [])
     ++ (0 ∷ 0 ∷ 1 ∷ replicate 37 0)
     ++ replicate 40 0
     ++ (5 ∷ 0 ∷ 5 ∷ replicate 37 0)
@@ -64,7 +64,7 @@ state1 =
     ++ replicate 130 0 ++ (5 ∷ replicate 7 0) ++ (6 ∷ 7 ∷ replicate 372 0)
 
 -- Instant 9: the delay puts out what came in nine instants ago, which is bit 9 of its line now, bit 1 of the second byte; the merge has both
--- its inputs, is 1 and holds nothing.
+-- its inputs, is 1 and holds nothing. Nothing is in flight, bit 9 having been put out.
 state9 : List ℕ
 state9 =
     (9 ∷ replicate 7 0)
@@ -81,9 +81,45 @@ state9 =
     ++ (5 ∷ 0 ∷ 5 ∷ replicate 37 0)
     ++ replicate 130 0 ++ (5 ∷ replicate 7 0) ++ (6 ∷ 7 ∷ replicate 372 0)
 
+-- Instant 10, with a second start: it stands newest in the line, where the first one is bit 10, which is not counted; the merge holds a. The clocks
+-- were low an instant ago, so nothing is taken in.
+state10 : List ℕ
+state10 =
+    (10 ∷ 0 ∷ 0 ∷ 0 ∷ 2 ∷ 0 ∷ 0 ∷ 0 ∷ [])
+    ++ (1 ∷ replicate 39 0)
+    ++ replicate 40 0
+    ++ (5 ∷ 0 ∷ 5 ∷ replicate 37 0)
+    ++ (0 ∷ 0 ∷ 1 ∷ replicate 5 0) ++ (1 ∷ 4 ∷ replicate 30 0)
+    ++ (5 ∷ 0 ∷ 5 ∷ replicate 37 0)
+    ++ (3 ∷ 4 ∷ 3 ∷ 4 ∷ replicate 36 0)
+    ++ (0 ∷ 0 ∷ 1 ∷ 0 ∷ 1 ∷ replicate 35 0)
+    ++ replicate 80 0
+    ++ (6 ∷ 7 ∷ 6 ∷ 7 ∷ replicate 36 0)
+    ++ (65 ∷ 0 ∷ 65 ∷ replicate 37 0)
+    ++ (5 ∷ 0 ∷ 5 ∷ replicate 37 0)
+    ++ replicate 130 0 ++ (5 ∷ replicate 7 0) ++ (6 ∷ 7 ∷ replicate 372 0)
+
+-- Instant 19, nine instants after it, as instant 9; but the address at instant 10 was 5, and so element 64 * 1 + 5 has taken the 5 in. The two pulses
+-- are bits 9 and 19 of the line.
+state19 : List ℕ
+state19 =
+    (19 ∷ replicate 7 0)
+    ++ replicate 40 0
+    ++ replicate 40 0
+    ++ (5 ∷ 0 ∷ 5 ∷ replicate 37 0)
+    ++ (1 ∷ replicate 7 0) ++ (0 ∷ 2 ∷ 8 ∷ replicate 29 0)
+    ++ (5 ∷ 0 ∷ 5 ∷ replicate 37 0)
+    ++ (3 ∷ 4 ∷ 3 ∷ 4 ∷ replicate 36 0)
+    ++ (1 ∷ replicate 39 0)
+    ++ replicate 80 0
+    ++ (5 ∷ 0 ∷ 5 ∷ replicate 37 0)
+    ++ (65 ∷ 0 ∷ 65 ∷ replicate 37 0)
+    ++ (5 ∷ 0 ∷ 5 ∷ replicate 37 0)
+    ++ replicate 130 0 ++ (5 ∷ replicate 7 0) ++ (5 ∷ replicate 373 0)
+
 -- whoever unfolds this unfolds all that a state is made by
 unfoldable pub stateOfCells : List Cell → ℕ → ℕ → List ℕ → List ℕ
-unfolding state0 state1 state9 checkOfFile operate put16 get32 put32 mergeStep heldAt lineBit nextValue upTo aged stored shown shiftedIn holding settle wordBytes beginState stepState lastState evaluated memoryWords cellSound cellsSound sound
+unfolding state0 state1 state9 state10 state19 checkOfFile operate put16 get32 put32 mergeStep heldAt lineBit nextValue upTo aged stored shown shiftedIn holding settle ones inFlight flightIn counted wordBytes evaluate beginState stepState lastState evaluated memoryWords cellSound cellsSound sound
 stateOfCells cells finish n s = lastState cells finish n s
 
 -- "Lent bytes past a result keep their values."
@@ -100,6 +136,7 @@ continued =
     -- to the finish, and no further
     ∷ (state0, 20, state9, 9)
     ∷ (state1, 8, state9, 8)
+    ∷ (state10, 20, state19, 9)
     ∷ []
 
 continued-right :
@@ -108,9 +145,48 @@ continued-right :
 unfolding continued stateOfCells
 continued-right = (refl, refl)
 
+-- "a continuing by 1 with start high at that instant"
+start-right : stepState net true (state9 ++ (7 ∷ 7 ∷ [])) ≡ state10 ++ (7 ∷ 7 ∷ [])
+unfolding stateOfCells
+start-right = refl
+
 words-right : wordsIn net 0 state1 ≡ 5 ∷ 1027 ∷ []
 unfolding stateOfCells
 words-right = refl
+
+-- Three starts ------------------------------------------------------------------------------------------------------------------------
+
+-- x0 := !x0, d 1, without what it has no use for: delays 3 and 4, the memory 5, the complement 6, the 41 on 3. Each run takes 2 and is from the
+-- word that the one before has left.
+abbrev flips : List Cell
+flips =
+    cell 32 0 0 0 ∷ cell 33 0 0 0 ∷ cell 1 0 0 0 ∷ cell 34 1 0 0 ∷ cell 34 1 3 0 ∷ cell 40 0 3 7 ∷ cell 3 0 5 0 ∷ cell 41 0 3 6 ∷ []
+
+-- whether a start is given, and the finish, the word and the number then
+instants : List (Bool × ℕ × ℕ × ℕ)
+instants =
+    (false, 0, 0, 1)
+    ∷ (false, 1, 65535, 0)
+    -- the second start, right after the end, and the third, some instants later
+    ∷ (true, 0, 65535, 1)
+    ∷ (false, 0, 65535, 1)
+    ∷ (false, 1, 0, 0)
+    ∷ (false, 0, 0, 0)
+    ∷ (true, 0, 0, 1)
+    ∷ (false, 0, 0, 1)
+    ∷ (false, 1, 65535, 0)
+    ∷ []
+
+abbrev seen : List ℕ → List Bool → List (ℕ × ℕ × ℕ)
+seen s [] = []
+seen s (x ∷ xs) =
+    let t = stepState flips x s in
+    (nowAt t 4, nowAt t 5, flightOf t) ∷ seen t xs
+
+instants-right :
+    seen (beginState flips (wordAt []) (replicate 840 0)) (map (λ r. r .0) instants) ≡ map (λ r. (r .1, r .2, r .3)) instants
+unfolding instants stateOfCells
+instants-right = refl
 
 -- Refusal 15 ---------------------------------------------------------------------------------------------------------------------------
 
@@ -118,54 +194,67 @@ words-right = refl
 abbrev at : ℕ → ℕ → ℕ
 at k j = 8 + 40 * k + j
 
--- of the twelve cells above: a byte of the state, a value for it, and whether the state is good if all its other bytes are 0
-bytes : List (ℕ × ℕ × Bool)
+-- of the twelve cells above: a byte of the state, a value for it, the number that the state tells, and whether the state is good if all its other
+-- bytes are 0
+bytes : List (ℕ × ℕ × ℕ × Bool)
 bytes =
     -- a control's value now, and an instant ago: 0 or 1, both bytes; a word's may be any
-    (at 0 0, 1, true)
-    ∷ (at 0 0, 2, false)
-    ∷ (at 0 1, 1, false)
-    ∷ (at 0 2, 1, true)
-    ∷ (at 0 2, 2, false)
-    ∷ (at 0 3, 1, false)
-    ∷ (at 1 0, 2, false)
-    ∷ (at 3 2, 2, false)
-    ∷ (at 6 0, 2, false)
-    ∷ (at 2 0, 2, true)
-    ∷ (at 4 1, 255, true)
-    ∷ (at 4 3, 255, true)
+    (at 0 0, 1, 0, true)
+    ∷ (at 0 0, 2, 0, false)
+    ∷ (at 0 1, 1, 0, false)
+    ∷ (at 0 2, 1, 0, true)
+    ∷ (at 0 2, 2, 0, false)
+    ∷ (at 0 3, 1, 0, false)
+    ∷ (at 1 0, 2, 0, false)
+    ∷ (at 3 2, 2, 0, false)
+    ∷ (at 6 0, 2, 0, false)
+    ∷ (at 2 0, 2, 0, true)
+    ∷ (at 4 1, 255, 0, true)
+    ∷ (at 4 3, 255, 0, true)
     -- held bits: 0 or 1, at a merge and nowhere else
-    ∷ (at 6 4, 1, true)
-    ∷ (at 6 4, 2, false)
-    ∷ (at 6 5, 1, true)
-    ∷ (at 6 5, 2, false)
-    ∷ (at 3 4, 1, false)
-    ∷ (at 4 5, 1, false)
+    ∷ (at 6 4, 1, 1, true)
+    ∷ (at 6 4, 2, 0, false)
+    ∷ (at 6 5, 1, 1, true)
+    ∷ (at 6 5, 2, 0, false)
+    ∷ (at 3 4, 1, 0, false)
+    ∷ (at 4 5, 1, 0, false)
     -- zero bytes
-    ∷ (at 6 6, 1, false)
-    ∷ (at 3 7, 1, false)
+    ∷ (at 6 6, 1, 0, false)
+    ∷ (at 3 7, 1, 0, false)
     -- a line: any, at a delay and nowhere else
-    ∷ (at 3 8, 255, true)
-    ∷ (at 3 39, 255, true)
-    ∷ (at 6 8, 1, false)
-    ∷ (at 4 39, 1, false)
+    ∷ (at 3 8, 255, 8, true)
+    ∷ (at 3 39, 255, 0, true)
+    ∷ (at 6 8, 1, 0, false)
+    ∷ (at 4 39, 1, 0, false)
     -- an array's cells and a read hold nothing and have no line; what they show is looked at no more than any word, and so are the elements
-    ∷ (at 7 0, 5, true)
-    ∷ (at 8 3, 5, true)
-    ∷ (at 7 4, 1, false)
-    ∷ (at 9 5, 1, false)
-    ∷ (at 8 6, 1, false)
-    ∷ (at 7 8, 1, false)
-    ∷ (at 9 39, 1, false)
-    ∷ (at 12 0, 255, true)
-    ∷ (999, 255, true)
-    -- the header: four bytes of an instant, four of zero
-    ∷ (0, 255, true)
-    ∷ (3, 255, true)
-    ∷ (4, 1, false)
-    ∷ (7, 1, false)
+    ∷ (at 7 0, 5, 0, true)
+    ∷ (at 8 3, 5, 0, true)
+    ∷ (at 7 4, 1, 0, false)
+    ∷ (at 9 5, 1, 0, false)
+    ∷ (at 8 6, 1, 0, false)
+    ∷ (at 7 8, 1, 0, false)
+    ∷ (at 9 39, 1, 0, false)
+    ∷ (at 12 0, 255, 0, true)
+    ∷ (999, 255, 0, true)
+    -- the header's instant
+    ∷ (0, 255, 0, true)
+    ∷ (3, 255, 0, true)
+    -- the number: a wrong one, in any of its four bytes; of the delay's nine newest inputs the last is bit 0 of its line's second byte, and those behind
+    -- it are not counted; a control that is high is none in flight
+    ∷ (999, 0, 1, false)
+    ∷ (5, 1, 0, false)
+    ∷ (7, 1, 0, false)
+    ∷ (at 3 8, 255, 7, false)
+    ∷ (at 3 9, 1, 1, true)
+    ∷ (at 3 9, 1, 0, false)
+    ∷ (at 3 9, 2, 0, true)
+    ∷ (at 3 9, 2, 1, false)
+    ∷ (at 3 39, 255, 8, false)
+    ∷ (at 6 4, 1, 0, false)
+    ∷ (at 6 5, 1, 2, false)
+    ∷ (at 3 0, 1, 1, false)
     ∷ []
 
-bytes-right : map (λ r. sound net (set (replicate 1000 0) (r .0) (r .1))) bytes ≡ map (λ r. r .2) bytes
+bytes-right : map (λ r. sound net (set (set (replicate 1000 0) 4 (r .2)) (r .0) (r .1))) bytes ≡ map (λ r. r .3) bytes
 unfolding bytes stateOfCells
 bytes-right = refl

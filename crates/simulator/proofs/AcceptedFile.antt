@@ -17,9 +17,8 @@ use Rattle.model.specs.declared.kinds.Use.the-variants.{Unknown, Unused, Value,
 use Rattle.model.specs.Circuit.{cellAt, memories, cellTable, shape, cellRow}
 use Rattle.model.specs.NetlistFile.{cellBytes, cellFrom, cellsAt, inList, inFile, blocksFor, countOf, finishOf, cellsOf, fileLengthWrong, keeps, fileCheck}
 use Rattle.model.specs.State.{stateSize, instantOf, beginState}
-use Rattle.model.specs.Promises.{stateAt}
 use Rattle.laws.specs.Refusals.Laws.{by-bool, and-true, or-false, not-both}
-use Rattle.laws.specs.Circuit.Ordered.{Meets, Looks, kinds}
+use Rattle.laws.specs.Circuit.Ordered.{Meets, Looks, kinds, Ordered}
 use Rattle.laws.specs.Circuit.Shapes.{only-kind, allLines, every-line}
 use Rattle.laws.specs.NetlistFile.Uses.{keeps-looks}
 use Rattle.laws.specs.NetlistFile.Passed.{net-passed, net-ordered, file-passed, count-range, count-cells}
@@ -137,6 +136,9 @@ module _ (file s : List ℕ) (r : Runs file s) where
   pub file-sixteen : memories (cellsOf file) ≡ 16
   file-sixteen = net-passed (cellsOf file) (finishOf file) (file-passed file (r .accepted) .cells) .sixteen
 
+  pub file-ordered : Ordered (cellsOf file)
+  file-ordered = net-ordered (cellsOf file) (finishOf file) (file-passed file (r .accepted) .cells)
+
   file-sees : (k : ℕ) → k < countOf file → Sees s (cellAt (cellsOf file) k)
   file-sees k l =
       let net = cellsOf file in
@@ -153,7 +155,7 @@ module _ (file s : List ℕ) (r : Runs file s) where
         sees = λ k l.
             let y : cellAt (cellsOf file) k ≡ cellFrom cells (6 * k) = ap (λ (net : List Cell). cellAt net k) (sym e) ∙ net-cell cells n k l in
             rw y at (file-sees k (rw z at l));
-        ordered = rw e (net-ordered (cellsOf file) (finishOf file) (file-passed file (r .accepted) .cells));
+        ordered = rw e file-ordered;
       }
 
   pub begin-instant : (net : List Cell) (words : ℕ → ℕ) (b : List ℕ) → net ≡ cellsOf file → b ≡ beginState net words s → instantOf b ≡ 0

@@ -29,6 +29,7 @@ no-operator-high kind h =
 pub record Still (kind : ℕ) : Type 0 where
   pub operator : NoOperator kind
   pub constant : kind ≡ 1 → ⊥
+  pub start : kind ≡ 32 → ⊥
   pub delay : kind ≡ 34 → ⊥
   pub join : kind ≡ 35 → ⊥
   pub when-true : kind ≡ 36 → ⊥
@@ -38,18 +39,19 @@ pub record Still (kind : ℕ) : Type 0 where
   pub gated : kind ≡ 41 → ⊥
   pub read : kind ≡ 44 → ⊥
 
--- a start or a ground after instant 0, a cell of an array, or of no kind
-shows-none : Bool → Bool → Bool → Bool → Shape
-shows-none start ground array address = pick start kStart (pick ground kGround (pick array kArray (pick address kAddress kUnknown)))
+-- a ground, a cell of an array, or of no kind
+shows-none : Bool → Bool → Bool → Shape
+shows-none ground array address = pick ground kGround (pick array kArray (pick address kAddress kUnknown))
 
 shape-still : (kind : ℕ) → Still kind
-    → shape kind ≡ shows-none (leb 32 kind && leb kind 32) (leb 33 kind && leb kind 33) (leb 42 kind && leb kind 42) (leb 43 kind && leb kind 43)
+    → shape kind ≡ shows-none (leb 33 kind && leb kind 33) (leb 42 kind && leb kind 42) (leb 43 kind && leb kind 43)
 unfolding shape cellTable shows-none
 shape-still kind h =
     rw (
       apart kind 1 (h .constant),
       apart kind 3 (h .operator .three),
       h .operator .test,
+      apart kind 32 (h .start),
       apart kind 34 (h .delay),
       apart kind 35 (h .join),
       apart kind 36 (h .when-true),
@@ -60,80 +62,83 @@ shape-still kind h =
       apart kind 44 (h .read),
     ) refl
 
-module _ (net : List Cell) (s : List ℕ) (k : ℕ) (c : Cell) where
+module _ (starts : Bool) (net : List Cell) (s : List ℕ) (k : ℕ) (c : Cell) where
   -- Values -----------------------------------------------------------------------------------------------------------------------------
 
-  by-kind : (n : ℕ) → c .kind ≡ n → nextValue (shape (c .kind)) net s k c ≡ nextValue (shape n) net s k c
-  by-kind n h = ap (λ (j : ℕ). nextValue (shape j) net s k c) h
+  by-kind : (n : ℕ) → c .kind ≡ n → nextValue (shape (c .kind)) starts net s k c ≡ nextValue (shape n) starts net s k c
+  by-kind n h = ap (λ (j : ℕ). nextValue (shape j) starts net s k c) h
 
-  pub next-constant : c .kind ≡ 1 → nextValue (shape (c .kind)) net s k c ≡ c .a
+  pub next-constant : c .kind ≡ 1 → nextValue (shape (c .kind)) starts net s k c ≡ c .a
   unfolding nextValue shape
   next-constant h = by-kind 1 h
 
-  pub next-delay : c .kind ≡ 34 → nextValue (shape (c .kind)) net s k c ≡ lineBit s k (c .delay - 1)
+  pub next-start : c .kind ≡ 32 → nextValue (shape (c .kind)) starts net s k c ≡ bit starts
+  unfolding nextValue shape
+  next-start h = by-kind 32 h
+
+  pub next-delay : c .kind ≡ 34 → nextValue (shape (c .kind)) starts net s k c ≡ lineBit s k (c .delay - 1)
   unfolding nextValue shape
   next-delay h = by-kind 34 h
 
-  pub next-or : c .kind ≡ 35 → nextValue (shape (c .kind)) net s k c ≡ bit (high (nowAt s (c .a)) || high (nowAt s (c .b)))
+  pub next-or : c .kind ≡ 35 → nextValue (shape (c .kind)) starts net s k c ≡ bit (high (nowAt s (c .a)) || high (nowAt s (c .b)))
   unfolding nextValue shape
   next-or h = by-kind 35 h
 
-  pub next-when-true : c .kind ≡ 36 → nextValue (shape (c .kind)) net s k c ≡ bit (high (nowAt s (c .a)) && not (isZero (nowAt s (c .b))))
+  pub next-when-true : c .kind ≡ 36 → nextValue (shape (c .kind)) starts net s k c ≡ bit (high (nowAt s (c .a)) && not (isZero (nowAt s (c .b))))
   unfolding nextValue shape
   next-when-true h = by-kind 36 h
 
-  pub next-when-false : c .kind ≡ 37 → nextValue (shape (c .kind)) net s k c ≡ bit (high (nowAt s (c .a)) && isZero (nowAt s (c .b)))
+  pub next-when-false : c .kind ≡ 37 → nextValue (shape (c .kind)) starts net s k c ≡ bit (high (nowAt s (c .a)) && isZero (nowAt s (c .b)))
   unfolding nextValue shape
   next-when-false h = by-kind 37 h
 
   pub next-merge : c .kind ≡ 38
-      → nextValue (shape (c .kind)) net s k c ≡ bit (mergeStep (heldAt s k) (high (nowAt s (c .a))) (high (nowAt s (c .b))) .out)
+      → nextValue (shape (c .kind)) starts net s k c ≡ bit (mergeStep (heldAt s k) (high (nowAt s (c .a))) (high (nowAt s (c .b))) .out)
   unfolding nextValue shape
   next-merge h = by-kind 38 h
 
   -- a memory whose clock has fallen, and one whose clock has not
   pub next-fallen : c .kind ≡ 40 → (high (beforeAt s (c .a)) && not (high (nowAt s (c .a)))) ≡ true
-      → nextValue (shape (c .kind)) net s k c ≡ beforeAt s (c .b)
+      → nextValue (shape (c .kind)) starts net s k c ≡ beforeAt s (c .b)
   unfolding nextValue shape
   next-fallen h e = by-kind 40 h ∙ ap (λ (b : Bool). pick b (beforeAt s (c .b)) (beforeAt s k)) e
 
   pub next-kept : c .kind ≡ 40 → (high (beforeAt s (c .a)) && not (high (nowAt s (c .a)))) ≡ false
-      → nextValue (shape (c .kind)) net s k c ≡ beforeAt s k
+      → nextValue (shape (c .kind)) starts net s k c ≡ beforeAt s k
   unfolding nextValue shape
   next-kept h e = by-kind 40 h ∙ ap (λ (b : Bool). pick b (beforeAt s (c .b)) (beforeAt s k)) e
 
-  pub next-gate-open : c .kind ≡ 41 → nowAt s (c .a) ≡ 1 → nextValue (shape (c .kind)) net s k c ≡ nowAt s (c .b)
+  pub next-gate-open : c .kind ≡ 41 → nowAt s (c .a) ≡ 1 → nextValue (shape (c .kind)) starts net s k c ≡ nowAt s (c .b)
   unfolding nextValue shape
   next-gate-open h e = by-kind 41 h ∙ ap (λ (b : Bool). pick b (nowAt s (c .b)) 0) (eq-eqb _ _ e)
 
-  pub next-gate-shut : c .kind ≡ 41 → (nowAt s (c .a) ≡ 1 → ⊥) → nextValue (shape (c .kind)) net s k c ≡ 0
+  pub next-gate-shut : c .kind ≡ 41 → (nowAt s (c .a) ≡ 1 → ⊥) → nextValue (shape (c .kind)) starts net s k c ≡ 0
   unfolding nextValue shape
   next-gate-shut h e = by-kind 41 h ∙ ap (λ (b : Bool). pick b (nowAt s (c .b)) 0) (ne-eqb _ _ e)
 
-  pub next-operator : 3 ≤ c .kind → c .kind ≤ 9 → nextValue (shape (c .kind)) net s k c ≡ operate (c .kind) (nowAt s (c .a)) (nowAt s (c .b))
+  pub next-operator : 3 ≤ c .kind → c .kind ≤ 9 → nextValue (shape (c .kind)) starts net s k c ≡ operate (c .kind) (nowAt s (c .a)) (nowAt s (c .b))
   unfolding nextValue shape operate
   next-operator h g = go (ℕ-discrete (c .kind) 3)
     where
-      go : Dec (c .kind ≡ 3) → nextValue (shape (c .kind)) net s k c ≡ operate (c .kind) (nowAt s (c .a)) (nowAt s (c .b))
+      go : Dec (c .kind ≡ 3) → nextValue (shape (c .kind)) starts net s k c ≡ operate (c .kind) (nowAt s (c .a)) (nowAt s (c .b))
       go (yes e) = by-kind 3 e ∙ ap (λ (n : ℕ). operate n (nowAt s (c .a)) (nowAt s (c .b))) (sym e)
-      go (no e) = ap (λ (sh : Shape). nextValue sh net s k c) (operator-shape (c .kind) (omega (arith, e)) g)
+      go (no e) = ap (λ (sh : Shape). nextValue sh starts net s k c) (operator-shape (c .kind) (omega (arith, e)) g)
 
-  pub next-read : c .kind ≡ 44 → nextValue (shape (c .kind)) net s k c ≡ elementNow net s (elementOf (cellAt net (c .a) .delay) (nowAt s (c .b)))
+  pub next-read : c .kind ≡ 44 → nextValue (shape (c .kind)) starts net s k c ≡ elementNow net s (elementOf (cellAt net (c .a) .delay) (nowAt s (c .b)))
   unfolding nextValue shape
   next-read h = by-kind 44 h
 
-  pub next-still : Still (c .kind) → nextValue (shape (c .kind)) net s k c ≡ 0
+  pub next-still : Still (c .kind) → nextValue (shape (c .kind)) starts net s k c ≡ 0
   unfolding nextValue shows-none
   next-still h =
-      ap (λ (sh : Shape). nextValue sh net s k c) (shape-still (c .kind) h)
-      ∙ none (leb 32 (c .kind) && leb (c .kind) 32) (leb 33 (c .kind) && leb (c .kind) 33) (leb 42 (c .kind) && leb (c .kind) 42) (leb 43 (c .kind) && leb (c .kind) 43)
+      ap (λ (sh : Shape). nextValue sh starts net s k c) (shape-still (c .kind) h)
+      ∙ none (leb 33 (c .kind) && leb (c .kind) 33) (leb 42 (c .kind) && leb (c .kind) 42) (leb 43 (c .kind) && leb (c .kind) 43)
     where
-      none : (p q r t : Bool) → nextValue (shows-none p q r t) net s k c ≡ 0
-      none true q r t = refl
-      none false true r t = refl
-      none false false true t = refl
-      none false false false true = refl
-      none false false false false = refl
+      none : (p q r : Bool) → nextValue (shows-none p q r) starts net s k c ≡ 0
+      none true q r = refl
+      none false true r = refl
+      none false false true = refl
+      none false false false = refl
 
 -- Settling -----------------------------------------------------------------------------------------------------------------------------
 

@@ -1,7 +1,8 @@
 -- Cells in a list of six bytes each, and the state that they fit. Assumes nothing.
+use mathlib.Core.Bool.{Bool}
 use mathlib.Core.List.{List, _∷_}
-use mathlib.Core.Path.{_≡_, refl, sym, _∙_, ap}
-use Prim.Native.Nat.{ℕ, _+_, _*_, _<_, _≤_}
+use mathlib.Core.Path.{_≡_, sym, _∙_, ap}
+use Prim.Native.Nat.{ℕ, _+_, _*_, _<_}
 use native.Mathlib.Omega.{arith}
 use native.Mathlib.Numerals.{add-one}
 use native.Mathlib.Nat.{zero-add}
@@ -11,7 +12,7 @@ use lib.Seq.{drop-cons}
 use Rattle.model.specs.declared.Cell.{Cell}
 use Rattle.model.specs.Circuit.{noCell, cellAt, arrayAt, cellTable, shape, cellRow}
 use Rattle.model.specs.NetlistFile.{cellFrom, inList}
-use Rattle.model.specs.State.{nextValue, value, settle, settled}
+use Rattle.model.specs.State.{nextValue, value}
 use Rattle.laws.specs.Circuit.Ordered.{In, Looks, array, kinds}
 use Rattle.laws.specs.NetlistFile.Passed.{length-cells}
 use Rattle.laws.specs.NetlistFile.CellBytes.{cell-of}
@@ -25,11 +26,9 @@ module _ (cells : List ℕ) (n k : ℕ) (h : k < n) where
   pub net-cell : cellAt (netOf cells n) k ≡ cellFrom cells (6 * k)
   net-cell = cell-of inList cells 0 n k h ∙ ap (λ (j : ℕ). cellFrom cells (6 * j)) (zero-add k)
 
-  pub net-value : (s : List ℕ) → value (netOf cells n) s k ≡ nextValue (shape (cellFrom cells (6 * k) .kind)) (netOf cells n) s k (cellFrom cells (6 * k))
-  net-value s = ap (λ (c : Cell). nextValue (shape (c .kind)) (netOf cells n) s k c) net-cell
-
-  pub net-settled : (s : List ℕ) → settled (netOf cells n) s k ≡ settle (shape (cellFrom cells (6 * k) .kind)) s k (cellFrom cells (6 * k))
-  net-settled s = ap (λ (c : Cell). settle (shape (c .kind)) s k c) net-cell
+  pub net-value : (starts : Bool) (s : List ℕ)
+      → value (netOf cells n) starts s k ≡ nextValue (shape (cellFrom cells (6 * k) .kind)) starts (netOf cells n) s k (cellFrom cells (6 * k))
+  net-value starts s = ap (λ (c : Cell). nextValue (shape (c .kind)) starts (netOf cells n) s k c) net-cell
 
 pub net-length : (cells : List ℕ) (n : ℕ) → length (netOf cells n) ≡ n
 net-length cells n = length-cells inList cells 0 n

@@ -1,5 +1,7 @@
 pub mod Cells
 pub mod Passes
+pub mod InFlight
+pub mod Counting
 pub mod ByKind
 pub mod Arrays
 pub mod Memories

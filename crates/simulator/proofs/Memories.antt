@@ -110,15 +110,11 @@ collects-all net s words j k h c =
 -- Values at instant 0 ------------------------------------------------------------------------------------------------------------------
 
 module _ (net : List Cell) (w : ℕ → ℕ) (s : List ℕ) (k : ℕ) (c : Cell) (e : cellAt net k ≡ c) where
-  first-is : firstValue net w s k ≡ pick (eqb (c .kind) 32) 1 (pick (eqb (c .kind) 40) (startWord net w k) (nextValue (shape (c .kind)) net s k c))
-  first-is =
-      ap (λ (x : Cell). pick (eqb (x .kind) 32) 1 (pick (eqb (x .kind) 40) (startWord net w k) (nextValue (shape (x .kind)) net s k x))) e
-
-  pub first-start : c .kind ≡ 32 → firstValue net w s k ≡ 1
-  first-start h = first-is ∙ rw (eq-eqb _ _ h) refl
+  first-is : firstValue net w s k ≡ pick (eqb (c .kind) 40) (startWord net w k) (nextValue (shape (c .kind)) true net s k c)
+  first-is = ap (λ (x : Cell). pick (eqb (x .kind) 40) (startWord net w k) (nextValue (shape (x .kind)) true net s k x)) e
 
   pub first-memory : c .kind ≡ 40 → firstValue net w s k ≡ w (memories (take k net))
-  first-memory h = first-is ∙ rw (ne-eqb (c .kind) 32 (λ z. omega arith), eq-eqb _ _ h) refl
+  first-memory h = first-is ∙ rw (eq-eqb _ _ h) refl
 
-  pub first-other : (c .kind ≡ 32 → ⊥) → (c .kind ≡ 40 → ⊥) → firstValue net w s k ≡ nextValue (shape (c .kind)) net s k c
-  first-other h g = first-is ∙ rw (ne-eqb _ _ h, ne-eqb _ _ g) refl
+  pub first-other : (c .kind ≡ 40 → ⊥) → firstValue net w s k ≡ nextValue (shape (c .kind)) true net s k c
+  first-other h = first-is ∙ rw (ne-eqb _ _ h) refl

@@ -1,4 +1,5 @@
 -- Passes over the cells, over the elements' start words and over the bytes of a line: their turns, and the passes of an instant together. Assumes nothing.
+use mathlib.Core.Bool.{Bool}
 use mathlib.Core.List.{List, _++_, append-assoc}
 use mathlib.Core.Path.{_≡_, refl, sym, _∙_, ap}
 use Prim.Native.Nat.{ℕ, zero, suc, _+_, _-_, _*_, _/_, _%_, _<_, _≤_}
@@ -8,7 +9,7 @@ use lib.ListN.{length, getD, set, take, drop, replicate, length-take}
 use lib.Seq.{sets, sets-eq, drop-at}
 use Rattle.model.specs.declared.Cell.{Cell}
 use Rattle.model.specs.Word.{bytes16, put16, put32}
-use Rattle.model.specs.State.{instantOf, value, firstValue, upTo, aged, shown, shiftedIn, settled, wordBytes, blank, beginState, stepState}
+use Rattle.model.specs.State.{instantOf, value, firstValue, upTo, aged, shown, shiftedIn, settled, counted, wordBytes, blank, evaluate, beginState, stepState}
 
 upTo-more : (f : List ℕ → ℕ → List ℕ) (n : ℕ) (s : List ℕ) → upTo f (n + 1) s ≡ f (upTo f n s) n
 unfolding upTo
@@ -56,14 +57,14 @@ module _ (words : ℕ → ℕ) (d : List ℕ) (i x n : ℕ) where
 
 -- the passes of one further instant, and of instant 0
 module _ (net : List Cell) (n : ℕ) (e : length net ≡ n) (s : List ℕ) where
-  pub stepped : (t u v w : List ℕ) → t ≡ put32 s 0 (instantOf s + 1) → u ≡ upTo aged n t → v ≡ upTo (shown net (value net)) n u
-      → w ≡ upTo (settled net) n v → w ≡ stepState net s
-  unfolding stepState
-  stepped t u v w a b c d =
-      d ∙ ap (upTo (settled net) n) (c ∙ ap (upTo (shown net (value net)) n) (b ∙ ap (upTo aged n) a)) ∙ rw e refl
+  pub stepped : (starts : Bool) (t u v w : List ℕ) → t ≡ put32 s 0 (instantOf s + 1) → u ≡ upTo aged n t → v ≡ upTo (shown net (value net starts)) n u
+      → w ≡ counted net (upTo (settled net) n v) → w ≡ stepState net starts s
+  unfolding stepState evaluate
+  stepped starts t u v w a b c d =
+      d ∙ ap (λ (x : List ℕ). counted net (upTo (settled net) n x)) (c ∙ ap (upTo (shown net (value net starts)) n) (b ∙ ap (upTo aged n) a)) ∙ rw e refl
 
   -- the elements' start words, then zeros before them
-  blank-is : (words : ℕ → ℕ) (r t : List ℕ) → 8 + 40 * n + 512 ≤ length s → r ≡ sets s (8 + 40 * n) (wordBytes words 16 256)
+  pub blank-is : (words : ℕ → ℕ) (r t : List ℕ) → 8 + 40 * n + 512 ≤ length s → r ≡ sets s (8 + 40 * n) (wordBytes words 16 256)
       → t ≡ replicate (8 + 40 * n) 0 ++ drop (8 + 40 * n) r → t ≡ blank net words s
   blank-is words r t l a b =
       let m = 8 + 40 * n in
@@ -73,12 +74,11 @@ module _ (net : List Cell) (n : ℕ) (e : length net ≡ n) (s : List ℕ) where
       let y : drop m r ≡ ws ++ drop (m + length ws) s = rw (z, append-assoc (take m s) ws) (drop-at (take m s) _ m (simp length-take (omega arith))) in
       rw (e, ← k) (b ∙ ap (λ (q : List ℕ). replicate m 0 ++ q) y)
 
-  pub begun : (words : ℕ → ℕ) (r t u v : List ℕ) → 8 + 40 * n + 512 ≤ length s → r ≡ sets s (8 + 40 * n) (wordBytes words 16 256)
-      → t ≡ replicate (8 + 40 * n) 0 ++ drop (8 + 40 * n) r → u ≡ upTo (shown net (firstValue net words)) n t → v ≡ upTo (settled net) n u
-      → v ≡ beginState net words s
-  unfolding beginState
-  begun words r t u v l z a b c =
-      c ∙ ap (upTo (settled net) n) (b ∙ ap (upTo (shown net (firstValue net words)) n) (blank-is words r t l z a)) ∙ rw e refl
+  pub begun : (words : ℕ → ℕ) (t u v : List ℕ) → t ≡ blank net words s → u ≡ upTo (shown net (firstValue net words)) n t
+      → v ≡ counted net (upTo (settled net) n u) → v ≡ beginState net words s
+  unfolding beginState evaluate
+  begun words t u v a b c =
+      c ∙ ap (λ (x : List ℕ). counted net (upTo (settled net) n x)) (b ∙ ap (upTo (shown net (firstValue net words)) n) a) ∙ rw e refl
 
 -- Lines --------------------------------------------------------------------------------------------------------------------------------
 

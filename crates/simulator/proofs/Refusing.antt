@@ -1,21 +1,21 @@
 -- The checks of the calls: which one is found first, what is known when none is, and what a call then answers. Assumes nothing.
-use mathlib.Core.Bool.{true, false}
-use mathlib.Core.List.{List, [], _∷_}
-use mathlib.Core.Path.{_≡_, refl}
+use mathlib.Core.Bool.{Bool, true, false, not}
+use mathlib.Core.List.{List, [], _∷_, _++_}
+use mathlib.Core.Path.{_≡_, refl, sym, _∙_, ap}
 use Prim.Native.Nat.{ℕ, _+_, _<_, _≤_}
-use lib.Dec.{ltb}
+use lib.Dec.{eqb, ltb}
 use lib.ListN.{length, drop}
-use borrow.Author.Tests.{lt-ltb, le-ltb, ltb-false}
+use borrow.Author.Tests.{lt-ltb, le-ltb, ltb-false, eqb-true}
 use Rattle.model.specs.declared.Refusal.{Refusal}
 use Rattle.model.specs.declared.Answer.{Answer}
 use Rattle.model.specs.declared.Checked.{Checked}
 use Rattle.model.specs.declared.Checked.the-variants.{Accepted, Refused}
-use Rattle.model.specs.Refusals.{refuse, first}
+use Rattle.model.specs.Refusals.{refuse, refuseIf, first}
 use Rattle.model.specs.NetlistFile.{fileCheck, cellsOf}
-use Rattle.model.specs.State.{stateSize, instantOf, sound}
-use Rattle.model.specs.Calls.{Returned, short, refusedAnswer, shows, running, beginChecks, continueChecks, runNetlistChecks}
-use Rattle.laws.specs.Refusals.Laws.{first-one, all-accept, refuse-unless}
-use Rattle.simulator.specs.Fits.{Runs}
+use Rattle.model.specs.State.{stateSize, instantOf, flightOf, flight, cellsSound, sound}
+use Rattle.model.specs.Calls.{Returned, short, refusedAnswer, shows, running, beginChecks, continueChecks, busy, startChecks, runNetlistChecks}
+use Rattle.laws.specs.Refusals.Laws.{and-true, not-false, first-one, first-append, all-accept, refuse-unless}
+use Rattle.simulator.specs.Fits.{Runs, Numbered}
 
 -- Which is found first -----------------------------------------------------------------------------------------------------------------
 
@@ -54,6 +54,17 @@ module _ (file : List ℕ) (n : ℕ) (lent : List ℕ) (e : fileCheck file ≡ A
     pub continue-right : sound (cellsOf file) lent ≡ true → instantOf lent + n ≤ 1000000 → Accepted ≡ first (continueChecks file n lent)
     continue-right s t = rw (e, l, s, le-ltb 1000000 (instantOf lent + n) t) refl
 
+-- a start is checked as a continuing by 1, and then for its number in flight
+abbrev pub numberCheck : List ℕ → List Checked
+numberCheck lent = refuseIf (busy lent) 23 0 ∷ []
+
+module _ (file lent : List ℕ) (e : first (continueChecks file 1 lent) ≡ Accepted) where
+  pub start-flying : 0 < flightOf lent → refuse 23 0 ≡ first (startChecks file lent)
+  start-flying h = sym (first-append (continueChecks file 1 lent) (numberCheck lent) e ∙ ap (λ (b : Bool). first (refuseIf b 23 0 ∷ [])) (lt-ltb 0 (flightOf lent) h))
+
+  pub start-right : flightOf lent ≤ 0 → Accepted ≡ first (startChecks file lent)
+  start-right h = sym (first-append (continueChecks file 1 lent) (numberCheck lent) e ∙ ap (λ (b : Bool). first (refuseIf b 23 0 ∷ [])) (le-ltb 0 (flightOf lent) h))
+
 module _ (file words : List ℕ) (n : ℕ) (lent : List ℕ) (e : fileCheck file ≡ Accepted) where
   pub run-budget : 1000000 < n → refuse 13 0 ≡ first (runNetlistChecks file words n lent)
   run-budget b = rw (e, lt-ltb 1000000 n b) refl
@@ -66,18 +77,31 @@ module _ (file words : List ℕ) (n : ℕ) (lent : List ℕ) (e : fileCheck file
 pub long-enough : (has needs : ℕ) → short has needs ≡ Accepted → needs ≤ has
 long-enough has needs e = ltb-false has needs (refuse-unless (ltb has needs) 14 0 e)
 
+-- what accepts as a whole accepts in its first part
+accepted-front : (cs ds : List Checked) → first (cs ++ ds) ≡ Accepted → first cs ≡ Accepted
+accepted-front [] ds e = refl
+accepted-front (Accepted ∷ cs) ds e = accepted-front cs ds e
+accepted-front (Refused r ∷ cs) ds e = e
+
 pub begin-accepted : (file words lent : List ℕ) → first (beginChecks file words lent) ≡ Accepted → Runs file lent × (544 ≤ length words)
 begin-accepted file words lent e =
     let a = all-accept (beginChecks file words lent) e in
     (record { accepted = a 0; room = long-enough (length lent) (stateSize (cellsOf file)) (a 2) }, long-enough (length words) 544 (a 1))
 
 pub continue-accepted : (file : List ℕ) (n : ℕ) (lent : List ℕ) → first (continueChecks file n lent) ≡ Accepted
-    → Runs file lent × (instantOf lent + n ≤ 1000000)
+    → Runs file lent × (instantOf lent + n ≤ 1000000) × Numbered (cellsOf file) lent
+unfolding sound
 continue-accepted file n lent e =
-    let a = all-accept (continueChecks file n lent) e in (
-      record { accepted = a 0; room = long-enough (length lent) (stateSize (cellsOf file)) (a 1) },
+    let net = cellsOf file in
+    let a = all-accept (continueChecks file n lent) e in
+    let is-sound = not-false (sound net lent) (refuse-unless (not (sound net lent)) 15 0 (a 2)) in (
+      record { accepted = a 0; room = long-enough (length lent) (stateSize net) (a 1) },
       ltb-false 1000000 (instantOf lent + n) (refuse-unless (ltb 1000000 (instantOf lent + n)) 16 0 (a 3)),
+      eqb-true _ _ (and-true (eqb (flightOf lent) (flight net lent)) (cellsSound net lent 0) is-sound .0),
     )
+
+pub start-accepted : (file lent : List ℕ) → first (startChecks file lent) ≡ Accepted → Runs file lent × (instantOf lent + 1 ≤ 1000000) × Numbered (cellsOf file) lent
+start-accepted file lent e = continue-accepted file 1 lent (accepted-front (continueChecks file 1 lent) (numberCheck lent) e)
 
 pub run-accepted : (file words : List ℕ) (n : ℕ) (lent : List ℕ) → first (runNetlistChecks file words n lent) ≡ Accepted
     → Runs file lent × (544 ≤ length words) × (n ≤ 1000000)

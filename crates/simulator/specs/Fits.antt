@@ -6,7 +6,7 @@ use lib.ListN.{length}
 use Rattle.model.specs.declared.Cell.{Cell}
 use Rattle.model.specs.declared.Checked.the-variants.{Accepted}
 use Rattle.model.specs.NetlistFile.{cellFrom, cellsAt, inList, fileCheck, cellsOf}
-use Rattle.model.specs.State.{base, stateSize}
+use Rattle.model.specs.State.{base, stateSize, flightOf, flight}
 use Rattle.laws.specs.Circuit.Ordered.{Ordered}
 
 -- the 40 bytes of cell k lie in state s
@@ -44,3 +44,7 @@ pub record Holds (cells : List ℕ) (n : ℕ) (s : List ℕ) (k : ℕ) (c : Cell
 pub record Runs (file s : List ℕ) : Type 0 where
   pub accepted : fileCheck file ≡ Accepted
   pub room : stateSize (cellsOf file) ≤ length s
+
+-- the state's header tells its number in flight
+abbrev pub Numbered : List Cell → List ℕ → Type 0
+Numbered net s = flightOf s ≡ flight net s

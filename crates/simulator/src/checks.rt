@@ -1,4 +1,4 @@
-// The checks of the three calls: refusals 9 to 16 in their order, with nothing written.
+// The checks of the four calls: refusals 9 to 16 and 23 in their order, with nothing written.
 // Each contract is `first` of the list of checks in model/Calls.
 ghost use mathlib.Core.Path.{_≡_};
 ghost use mathlib.Core.List.{[], _∷_};
@@ -7,7 +7,7 @@ ghost use Rattle.model.specs.declared.Checked.the-variants.{Accepted};
 ghost use Rattle.model.specs.Refusals.{refuse, first};
 ghost use Rattle.model.specs.NetlistFile.{fileCheck, cellsOf};
 ghost use Rattle.model.specs.State.{stateSize};
-ghost use Rattle.model.specs.Calls.{short, beginChecks, continueChecks, runNetlistChecks};
+ghost use Rattle.model.specs.Calls.{short, beginChecks, continueChecks, startChecks, runNetlistChecks};
 use crate::sound;
 use model::Checked;
 use model::Refusal;
@@ -74,6 +74,20 @@ pub fn check_continue(file: &[u8], n: u32, state: &[u8]) -> Checked
     let t = word::get32(state, 0) as u64;
     if 1000000 < t + (n as u64) {
         return refuse(16);
+    }
+    Checked::Accepted
+}
+
+// A start's instant counts as a continuing by 1 does.
+pub fn check_start(file: &[u8], state: &[u8]) -> Checked
+    ensures { λ r. ⌜ r ≡ first (startChecks (now (file .entry)) (now (state .entry))) ⌝ }
+{
+    let checked = check_continue(file, 1, state);
+    if let Checked::Refused(r) = checked {
+        return Checked::Refused(r);
+    }
+    if 0 < word::get32(state, 4) {
+        return refuse(23);
     }
     Checked::Accepted
 }

@@ -1,13 +1,15 @@
 // One further instant of n cells, which stand in a list of six bytes each.
 // Three passes over the cells, each an equation with `upTo` of model/State; the cells fit the state.
+// The third keeps the number in flight: it adds what comes in and takes off what goes out, cell by cell.
 ghost use mathlib.Core.Path.{_≡_};
 ghost use Prim.Native.Nat.{_+_, _*_, _<_, _≤_};
 ghost use lib.ListN.{length};
 ghost use Rattle.model.specs.Word.{put32};
 ghost use Rattle.model.specs.Word.{elementOf};
 ghost use Rattle.model.specs.Circuit.{cellAt, shape};
-ghost use Rattle.model.specs.State.{elementNow, instantOf, nextValue, value, upTo, aged, stored, shown, settle, settled, stepState};
-ghost use Rattle.simulator.specs.Fits.{Stands, Sees, netOf, Fits, Holds};
+ghost use Rattle.model.specs.State.{elementNow, instantOf, nextValue, value, upTo, aged, stored, shown, settle, settled, counted, stepState};
+ghost use Rattle.laws.specs.State.Flight.{comesIn, goesOut};
+ghost use Rattle.simulator.specs.Fits.{Stands, Sees, netOf, Fits, Holds, Numbered};
 use crate::wires;
 use model::Cell;
 use model::sizes::CELL;
@@ -24,10 +26,10 @@ fn element_now(cells: &[u8], n: usize, a: usize, w: u16, state: &[u8]) -> u16
     word::get16(state, wires::element_place(n, array, w))
 }
 
-// What cell k, which is c, shows after instant 0.
-pub fn next_value(cells: &[u8], n: usize, c: Cell, state: &[u8], k: usize) -> u16
+// What cell k, which is c, shows after instant 0; starts tells whether a start pulse is given.
+pub fn next_value(cells: &[u8], n: usize, starts: bool, c: Cell, state: &[u8], k: usize) -> u16
     requires { ⌜ Holds (now cells) n (now state) k c ⌝ }
-    ensures { λ r. ⌜ r ≡ nextValue (shape (c .kind)) (netOf (now (cells .entry)) n) (now (state .entry)) k c ⌝ }
+    ensures { λ r. ⌜ r ≡ nextValue (shape (c .kind)) starts (netOf (now (cells .entry)) n) (now (state .entry)) k c ⌝ }
 {
     let kind = c.kind;
     if kind == 1 {
@@ -48,6 +50,7 @@ pub fn next_value(cells: &[u8], n: usize, c: Cell, state: &[u8], k: usize) -> u1
     let y = wires::now_at(state, b);
     match kind {
         3..=9 => word::operate(kind, x, y),
+        32 => word::bit(starts),
         35 => word::bit((x == 1) | (y == 1)),
         36 => word::bit((x == 1) & (y != 0)),
         37 => word::bit((x == 1) & (y == 0)),
@@ -75,25 +78,32 @@ pub fn store(cells: &[u8], n: usize, c: Cell, state: &mut [u8], k: usize)
     }
 }
 
-// A delay takes its input in, a merge holds.
-pub fn settle(c: Cell, state: &mut [u8], k: usize)
-    requires { ⌜ Stands (now state) k × Sees (now state) c ⌝ }
-    ensures { λ _. ⌜ now (state .exit) ≡ settle (shape (c .kind)) (now (state .entry)) k c ⌝ }
+// A delay takes its input in, a merge holds; answers the number in flight after it.
+// What goes out is taken off last, so that nothing falls below 0. The number is at most 255 for each of 1,024 cells.
+pub fn settle(c: Cell, state: &mut [u8], k: usize, number: u32) -> u32
+    requires { ⌜ Stands (now state) k × Sees (now state) c × (number ≤ 261120) × (goesOut (now state) k c ≤ number + comesIn (now state) k c) ⌝ }
+    ensures state { λ _. ⌜ now (state .exit) ≡ settle (shape (c .kind)) (now (state .entry)) k c ⌝ }
+    ensures number { λ r. ⌜ r + goesOut (now (state .entry)) k c ≡ number + comesIn (now (state .entry)) k c ⌝ }
 {
     let kind = c.kind;
     let a = c.a as usize;
     let b = c.b as usize;
     if kind == 34 {
         let x = wires::is_high(state, a);
+        let out = wires::line_bit(state, k, (c.delay as usize) - 1);
         wires::shift_line(state, k, x);
-    } else if kind == 38 {
+        return number + (word::bit(x) as u32) - (out as u32);
+    }
+    if kind == 38 {
         let x = wires::is_high(state, a);
         let y = wires::is_high(state, b);
         let held = wires::held_at(state, k);
         let m = held.step(x, y);
         let next = m.held;
         wires::hold(state, k, next);
+        return number + wires::held_bits(next) - wires::held_bits(held);
     }
+    number
 }
 
 // The passes -----------------------------------------------------------------------------------------------------------------------------
@@ -121,40 +131,42 @@ fn age_all(state: &mut [u8], n: usize)
 }
 
 // In rising order, since cells look at what lower ones are now, and a read at what its array has taken in.
-fn show_all(cells: &[u8], n: usize, state: &mut [u8])
+fn show_all(cells: &[u8], n: usize, starts: bool, state: &mut [u8])
     requires { ⌜ Fits (now cells) n (now state) ⌝ }
-    ensures { λ _. ⌜ now (state .exit) ≡ upTo (shown (netOf (now (cells .entry)) n) (value (netOf (now (cells .entry)) n))) n (now (state .entry)) ⌝ }
+    ensures { λ _. ⌜ now (state .exit) ≡ upTo (shown (netOf (now (cells .entry)) n) (value (netOf (now (cells .entry)) n) starts)) n (now (state .entry)) ⌝ }
 {
     let mut k: usize = 0;
     while k < n {
         let c = netlist::cells::cell_at(cells, Layout::InList, k);
-        let v = next_value(cells, n, c, state, k);
+        let v = next_value(cells, n, starts, c, state, k);
         store(cells, n, c, state, k);
         word::put16(state, STATE_HEADER + STATE_CELL * k, v);
         k += 1;
     }
 }
 
-// Comes last: a delay's input may be a higher cell.
+// Comes last: a delay's input may be a higher cell. The header gets the number in flight that this leaves.
 pub fn settle_all(cells: &[u8], n: usize, state: &mut [u8])
-    requires { ⌜ Fits (now cells) n (now state) ⌝ }
-    ensures { λ _. ⌜ now (state .exit) ≡ upTo (settled (netOf (now (cells .entry)) n)) n (now (state .entry)) ⌝ }
+    requires { ⌜ Fits (now cells) n (now state) × Numbered (netOf (now cells) n) (now state) ⌝ }
+    ensures { λ _. ⌜ now (state .exit) ≡ counted (netOf (now (cells .entry)) n) (upTo (settled (netOf (now (cells .entry)) n)) n (now (state .entry))) ⌝ }
 {
+    let mut number = word::get32(state, 4);
     let mut k: usize = 0;
     while k < n {
         let c = netlist::cells::cell_at(cells, Layout::InList, k);
-        settle(c, state, k);
+        number = settle(c, state, k, number);
         k += 1;
     }
+    word::put32(state, 4, number);
 }
 
-// One further instant.
-pub fn step(cells: &[u8], n: usize, state: &mut [u8])
-    requires { ⌜ Fits (now cells) n (now state) × (instantOf (now state) < 1000000) ⌝ }
-    ensures { λ _. ⌜ now (state .exit) ≡ stepState (netOf (now (cells .entry)) n) (now (state .entry)) ⌝ }
+// One further instant, with a start pulse or without.
+pub fn step(cells: &[u8], n: usize, starts: bool, state: &mut [u8])
+    requires { ⌜ Fits (now cells) n (now state) × (instantOf (now state) < 1000000) × Numbered (netOf (now cells) n) (now state) ⌝ }
+    ensures { λ _. ⌜ now (state .exit) ≡ stepState (netOf (now (cells .entry)) n) starts (now (state .entry)) ⌝ }
 {
     tick(state);
     age_all(state, n);
-    show_all(cells, n, state);
+    show_all(cells, n, starts, state);
     settle_all(cells, n, state);
 }

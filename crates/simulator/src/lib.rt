@@ -1,14 +1,15 @@
-// The simulator: begin, continue and the full run of a netlist file, on the published bytes of a state.
+// The simulator: begin, continue, start and the full run of a netlist file, on the published bytes of a state.
 // The calls have no requires. They check first and write afterwards; their contracts are equations with model/Calls.
 ghost use mathlib.Core.Path.{_≡_};
-ghost use Rattle.model.specs.Calls.{refusedAnswer, beginCall, continueCall, runNetlistCall};
+ghost use Rattle.model.specs.Calls.{refusedAnswer, beginCall, continueCall, startCall, runNetlistCall};
 
 pub mod wires; // one cell's bytes in a state
 pub mod instant; // one further instant
-pub mod start; // instant 0
+pub mod beginning; // instant 0
 pub mod runs; // runs of a file that is accepted
+pub mod flight; // the number in flight, counted
 pub mod sound; // refusal 15
-pub mod checks; // refusals 9 to 16 in their order
+pub mod checks; // refusals 9 to 16 and 23 in their order
 
 use model::Answer;
 use model::Checked;
@@ -49,7 +50,19 @@ pub fn continue_by(netlist: &[u8], state: &mut [u8], n: u32) -> Answer
     if let Checked::Refused(r) = checked {
         return refused(r);
     }
-    runs::continue_by(netlist, state, n)
+    runs::continue_by(netlist, false, state, n)
+}
+
+// Evaluates one later instant, with a start pulse: refusals 9 to 12, 14 to 16, 23.
+pub fn start(netlist: &[u8], state: &mut [u8]) -> Answer
+    ensures answer { λ r. ⌜ r ≡ startCall (now (netlist .entry)) (now (state .entry)) .answer ⌝ }
+    ensures lent { λ _. ⌜ now (state .exit) ≡ startCall (now (netlist .entry)) (now (state .entry)) .lent ⌝ }
+{
+    let checked = checks::check_start(netlist, state);
+    if let Checked::Refused(r) = checked {
+        return refused(r);
+    }
+    runs::continue_by(netlist, true, state, 1)
 }
 
 // A full run: refusals 9 to 14.

@@ -5,11 +5,12 @@ ghost use Prim.Native.Nat.{_+_, _<_, _≤_};
 ghost use lib.ListN.{length};
 ghost use Rattle.model.specs.declared.Checked.the-variants.{Accepted};
 ghost use Rattle.model.specs.NetlistFile.{fileCheck, cellsOf, countOf, finishOf};
-ghost use Rattle.model.specs.State.{instantOf, beginState, lastState, evaluated, wordsIn};
+ghost use Rattle.model.specs.State.{instantOf, beginState, wordsIn};
 ghost use Rattle.model.specs.Calls.{wordAt, shows, fullState, fullCount};
-ghost use Rattle.simulator.specs.Fits.{netOf, Fits, Runs};
+ghost use Rattle.simulator.specs.Fits.{netOf, Fits, Runs, Numbered};
+ghost use Rattle.simulator.specs.Levels.{lastWith, countWith};
+use crate::beginning;
 use crate::instant;
-use crate::start;
 use crate::wires;
 use model::Answer;
 use model::Outcome;
@@ -27,15 +28,23 @@ fn load(cells: &mut [u8], file: &[u8]) -> usize
     n
 }
 
-// Further instants, until the finish is high or the budget is used; counts those that it evaluates.
-fn continue_state(cells: &[u8], n: usize, finish: usize, state: &mut [u8], budget: u32) -> u32
-    requires { ⌜ Fits (now cells) n (now state) × (finish < n) × (instantOf (now state) + budget ≤ 1000000) ⌝ }
-    ensures state { λ _. ⌜ now (state .exit) ≡ lastState (netOf (now (cells .entry)) n) finish budget (now (state .entry)) ⌝ }
-    ensures count { λ r. ⌜ r ≡ evaluated (netOf (now (cells .entry)) n) finish budget (now (state .entry)) ⌝ }
+// Further instants, each with a start pulse or each without, until the finish is high or the budget is used; counts those that it
+// evaluates. The one caller of `step`, so that a step is compiled into its loop.
+fn continue_state(
+    cells: &[u8],
+    n: usize,
+    finish: usize,
+    starts: bool,
+    state: &mut [u8],
+    budget: u32,
+) -> u32
+    requires { ⌜ Fits (now cells) n (now state) × (finish < n) × (instantOf (now state) + budget ≤ 1000000) × Numbered (netOf (now cells) n) (now state) ⌝ }
+    ensures state { λ _. ⌜ now (state .exit) ≡ lastWith (netOf (now (cells .entry)) n) starts finish budget (now (state .entry)) ⌝ }
+    ensures count { λ r. ⌜ r ≡ countWith (netOf (now (cells .entry)) n) starts finish budget (now (state .entry)) ⌝ }
 {
     let mut count: u32 = 0;
     while count < budget {
-        instant::step(cells, n, state);
+        instant::step(cells, n, starts, state);
         count += 1;
         if wires::is_high(state, finish) {
             return count;
@@ -97,19 +106,20 @@ pub fn begin(file: &[u8], words: &[u8], state: &mut [u8]) -> Answer
 {
     let mut cells = [0u8; LIST_MOST];
     let n = load(&mut cells, file);
-    start::begin_state(&cells, n, words, state);
+    beginning::begin_state(&cells, n, words, state);
     shows(file, state, 1)
 }
 
-pub fn continue_by(file: &[u8], state: &mut [u8], budget: u32) -> Answer
-    requires { ⌜ Runs (now file) (now state) × (instantOf (now state) + budget ≤ 1000000) ⌝ }
-    ensures state { λ _. ⌜ now (state .exit) ≡ lastState (cellsOf (now (file .entry))) (finishOf (now (file .entry))) budget (now (state .entry)) ⌝ }
-    ensures answer { λ r. ⌜ r ≡ shows (now (file .entry)) (lastState (cellsOf (now (file .entry))) (finishOf (now (file .entry))) budget (now (state .entry))) (evaluated (cellsOf (now (file .entry))) (finishOf (now (file .entry))) budget (now (state .entry))) ⌝ }
+// A continuing, or, with a start pulse and by 1, a start.
+pub fn continue_by(file: &[u8], starts: bool, state: &mut [u8], budget: u32) -> Answer
+    requires { ⌜ Runs (now file) (now state) × (instantOf (now state) + budget ≤ 1000000) × Numbered (cellsOf (now file)) (now state) ⌝ }
+    ensures state { λ _. ⌜ now (state .exit) ≡ lastWith (cellsOf (now (file .entry))) starts (finishOf (now (file .entry))) budget (now (state .entry)) ⌝ }
+    ensures answer { λ r. ⌜ r ≡ shows (now (file .entry)) (lastWith (cellsOf (now (file .entry))) starts (finishOf (now (file .entry))) budget (now (state .entry))) (countWith (cellsOf (now (file .entry))) starts (finishOf (now (file .entry))) budget (now (state .entry))) ⌝ }
 {
     let finish = word::get16(file, 4) as usize;
     let mut cells = [0u8; LIST_MOST];
     let n = load(&mut cells, file);
-    let count = continue_state(&cells, n, finish, state, budget);
+    let count = continue_state(&cells, n, finish, starts, state, budget);
     shows(file, state, count)
 }
 
@@ -122,10 +132,10 @@ pub fn full_run(file: &[u8], words: &[u8], budget: u32, state: &mut [u8]) -> Ans
     let finish = word::get16(file, 4) as usize;
     let mut cells = [0u8; LIST_MOST];
     let n = load(&mut cells, file);
-    start::begin_state(&cells, n, words, state);
+    beginning::begin_state(&cells, n, words, state);
     if wires::is_high(state, finish) {
         return shows(file, state, 1);
     }
-    let count = continue_state(&cells, n, finish, state, budget);
+    let count = continue_state(&cells, n, finish, false, state, budget);
     shows(file, state, 1 + count)
 }

@@ -6,6 +6,7 @@ ghost use lib.ListN.{length, take, drop};
 ghost use Rattle.model.specs.NetlistFile.{allZero, cellsOf};
 ghost use Rattle.model.specs.State.{cellSound, cellsSound, sound};
 ghost use Rattle.simulator.specs.Fits.{Stands, Runs};
+use crate::flight;
 use crate::wires;
 use model::Cell;
 use model::sizes::LINE;
@@ -68,7 +69,8 @@ pub fn is_sound(file: &[u8], s: &[u8]) -> bool
     requires { ⌜ Runs (now file) (now s) ⌝ }
     ensures { λ r. ⌜ r ≡ sound (cellsOf (now (file .entry))) (now (s .entry)) ⌝ }
 {
-    let zeros = all_zero(s, 4, 4);
+    let number = word::get32(s, 4);
+    let flight = flight::flight(file, s);
     let cells = cells_sound(file, s);
-    zeros & cells
+    (number == flight) & cells
 }

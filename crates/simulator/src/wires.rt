@@ -5,7 +5,7 @@ ghost use mathlib.Core.Bool.{not, _&&_};
 ghost use Prim.Native.Nat.{_+_, _*_, _<_, _≤_};
 ghost use Rattle.model.specs.Word.{bit, elementOf};
 ghost use Rattle.model.specs.Circuit.{high, mergeStep};
-ghost use Rattle.model.specs.State.{base, nowAt, beforeAt, heldAt, lineBit, shiftedIn, holding};
+ghost use Rattle.model.specs.State.{base, nowAt, beforeAt, heldAt, heldBits, lineBit, shiftedIn, holding};
 ghost use Rattle.simulator.specs.Fits.{Stands};
 use model::Merge;
 use model::sizes::LINE;
@@ -59,6 +59,13 @@ pub fn held_at(state: &[u8], k: usize) -> Merge
     let a = state[at + 4] == 1;
     let b = state[at + 5] == 1;
     Merge { a, b }
+}
+
+// How many bits a merge holds.
+pub fn held_bits(m: Merge) -> u32
+    ensures { λ r. ⌜ r ≡ heldBits m ⌝ }
+{
+    (word::bit(m.a) as u32) + (word::bit(m.b) as u32)
 }
 
 // The output of a merge with inputs a and b.

@@ -26,4 +26,4 @@ pub mod While
 pub mod Repeat
 pub mod Loop
 pub mod Timing
-pub mod Once
+pub mod Standing

@@ -3,3 +3,4 @@ pub mod Levels
 pub mod Ors
 pub mod Structure
 pub mod Whole
+pub mod Flying

@@ -1,7 +1,9 @@
 -- The calls keep the three demands, and the cases hold.
 pub mod Due
 pub mod Answers
+pub mod Stands
 pub mod Replay
+pub mod Behaves
 pub mod Kept
 pub mod Demands
 pub mod Reference

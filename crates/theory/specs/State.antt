@@ -1,6 +1,7 @@
 -- The bytes of a state hold that solution.
 pub mod Arrays
 pub mod Holding
+pub mod Flight
 pub mod Step
 pub mod Begin
 pub mod Sound

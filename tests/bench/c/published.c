@@ -74,18 +74,26 @@ static void shift(uint8_t *line, uint64_t bit) {
     memcpy(line, w, 32);
 }
 
+/* What comes in is counted and what has come out is not: a pulse at a delay's input and the one behind its output, held bits after and before. */
 static void settle_all(void) {
+    uint32_t flight;
+    memcpy(&flight, state + 4, 4);
     for (int k = 0; k < count; k++) {
         const uint8_t *c = cells + 6 * k;
         uint8_t *r = record(k);
         if (c[0] == 34) {
-            shift(r + 8, now(get16(c + 2)) == 1);
+            unsigned d = c[1] - 1, in = now(get16(c + 2)) == 1;
+            flight += in - (r[8 + d / 8] >> d % 8 & 1);
+            shift(r + 8, in);
         } else if (c[0] == 38) {
             int a = r[4] || now(get16(c + 2)) == 1, b = r[5] || now(get16(c + 4)) == 1;
+            flight -= r[4] + r[5];
             r[4] = a && !b;
             r[5] = b && !a;
+            flight += r[4] + r[5];
         }
     }
+    memcpy(state + 4, &flight, 4);
 }
 
 static void begin(void) {

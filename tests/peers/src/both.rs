@@ -31,6 +31,7 @@ pub const BOTH: Peer = both! {
     renumber(from, end, by, cells);
     begin(file, words, state);
     continue_by(file, n, state);
+    start(file, state);
     run_program(table, program, words, budget, file, state);
     run_text(table, text, words, budget, file, state);
     run_netlist(file, words, budget, state);

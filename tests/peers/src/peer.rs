@@ -1,6 +1,6 @@
 //! The boundary behind which an implementation stands.
 //!
-//! A peer is eighteen plain functions on numbers and slices of bytes or cells.
+//! A peer is nineteen plain functions on numbers and slices of bytes or cells.
 //! Nothing is lent to them: each is given what a lent buffer holds at entry and
 //! gives back what it holds afterwards, so two peers are compared by comparing
 //! replies.
@@ -76,6 +76,8 @@ pub struct Peer {
     pub begin: fn(Bytes, Bytes, Bytes) -> Reply<Answer>,
     /// netlist file, number of instants; lent: state
     pub continue_by: fn(Bytes, u32, Bytes) -> Reply<Answer>,
+    /// netlist file; lent: state
+    pub start: fn(Bytes, Bytes) -> Reply<Answer>,
     /// table, program, start words, budget; lent: netlist file, state
     pub run_program: fn(Table, Bytes, Bytes, u32, Bytes, Bytes) -> Reply<Answer>,
     /// table, text, start words, budget; lent: netlist file, state
@@ -130,6 +132,7 @@ macro_rules! implementation {
             continue_by: |file, n, state| {
                 Reply::lending(state, |state| calls::continue_by(file, state, n))
             },
+            start: |file, state| Reply::lending(state, |state| calls::start(file, state)),
             run_program: |table, program, words, budget, file, state| {
                 Reply::lending_two(file, state, |file, state| {
                     calls::run_program(table, program, words, budget, file, state)

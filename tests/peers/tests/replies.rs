@@ -31,11 +31,12 @@ struct Memory {
     lent_bytes: Vec<u8>,
     lent_cells: Vec<Cell>,
     lent_state: Vec<u8>,
+    idle_state: Vec<u8>,
 }
 
 impl Memory {
     /// What every call accepts. The state was begun from other words, so that
-    /// a beginning shows too.
+    /// a beginning shows too; a start is given at the end of that run.
     fn new() -> Memory {
         let compiled = (SECOND.compile)(None, &PROGRAM, &[0; 512]);
         let shape = compiled.result.expect("case 2 compiles");
@@ -44,6 +45,7 @@ impl Memory {
         let count = usize::from(shape.cells);
         let read = (SECOND.read_cells)(&netlist, 0, &vec![lent_cell; count]);
         let begun = (SECOND.begin)(&netlist, &[0; 544], &[LENT_BYTE; 2_000]);
+        let ended = (SECOND.continue_by)(&netlist, 10, &begun.lent[0]);
         Memory {
             program: PROGRAM.to_vec(),
             table: BUILT_IN.file().to_vec(),
@@ -56,6 +58,7 @@ impl Memory {
             lent_bytes: vec![LENT_BYTE; 6 * (count + 1)],
             lent_cells: vec![lent_cell; count + 2],
             lent_state: begun.lent[0].clone(),
+            idle_state: ended.lent[0].clone(),
             netlist,
         }
     }
@@ -95,6 +98,7 @@ const WRITING: &[(&str, Call)] = calls! { m:
     hub_read(&m.netlist, &mut m.lent_bytes);
     hub_begin(&m.netlist, &m.words, &mut m.lent_state);
     hub_continue(&m.netlist, &mut m.lent_state, 1);
+    hub_start(&m.netlist, &mut m.idle_state);
     hub_run_program(None, &m.program, &m.words, 10, &mut m.lent_file, &mut m.lent_state);
     hub_run_program(Some(&m.table), &m.program, &m.words, 10, &mut m.lent_file, &mut m.lent_state);
     hub_run_text(None, TEXT, &m.words, 10, &mut m.lent_file, &mut m.lent_state);

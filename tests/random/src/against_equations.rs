@@ -6,13 +6,14 @@
 //! are equations that the state must obey, and no second way to compute it.
 
 use crate::damage;
+use crate::flight;
 use crate::lend::{lent, state_length, ARRAYS, WORDS};
 use crate::xorshift::Random;
 use peers::Peer;
 use second::cells::*;
 use second::netfile;
 use second::operator::Operator;
-use values::Cell;
+use values::{Cell, Refusal};
 
 /// Enough instants to see a line of 256 inputs overflow.
 const INSTANTS: u32 = 300;
@@ -32,8 +33,9 @@ pub fn compare(peer: &Peer, file: &[u8], words: &[u8], damage: u64) -> Result<()
     };
     let begun = run.begin()?;
     let last = run.by_single_instants(begun.clone(), INSTANTS)?;
-    run.check_in_one_go(begun, &last)?;
+    run.check_in_one_go(begun.clone(), &last)?;
     let random = &mut Random::new(damage);
+    run.with_starts(begun, INSTANTS, random)?;
     for _ in 0..DAMAGED {
         let damaged = damage::state(file, &last, random);
         // A refused state is no concern of the equations.
@@ -41,7 +43,8 @@ pub fn compare(peer: &Peer, file: &[u8], words: &[u8], damage: u64) -> Result<()
             .result
             .is_ok()
         {
-            run.by_single_instants(damaged, INSTANTS_AFTER_DAMAGE)?;
+            run.by_single_instants(damaged.clone(), INSTANTS_AFTER_DAMAGE)?;
+            run.with_starts(damaged, INSTANTS_AFTER_DAMAGE, random)?;
         }
     }
     Ok(())
@@ -60,7 +63,7 @@ impl Run<'_> {
         let length = state_length(self.netlist.cells.len());
         let mut reply = (self.peer.begin)(self.file, self.words, &lent(length));
         let after = reply.lent.remove(0);
-        self.check(&vec![0; length], &after, 0)?;
+        self.check(&vec![0; length], &after, 0, true)?;
         Ok(after)
     }
 
@@ -69,10 +72,40 @@ impl Run<'_> {
         let mut state = begun;
         for _ in 0..instants {
             let after = (self.peer.continue_by)(self.file, 1, &state).lent.remove(0);
-            self.check(&state, &after, instant_of(&state) + 1)?;
+            self.check(&state, &after, instant_of(&state) + 1, false)?;
             state = after;
         }
         Ok(state)
+    }
+
+    /// The same with starts at some of the instants after which nothing is in
+    /// flight; elsewhere a start is refused.
+    fn with_starts(
+        &self,
+        begun: Vec<u8>,
+        instants: u32,
+        random: &mut Random,
+    ) -> Result<(), String> {
+        let mut state = begun;
+        for _ in 0..instants {
+            let (instant, idle) = (instant_of(&state) + 1, flight::told(&state) == 0);
+            let mut starts = random.once_in(4);
+            if starts && !idle {
+                let refused = (self.peer.start)(self.file, &state);
+                if refused.result != Err(Refusal::new(23, 0)) || refused.lent[0] != state {
+                    return Err(format!("start for {instant}: {:?}", refused.result));
+                }
+                starts = false;
+            }
+            let mut reply = match starts {
+                true => (self.peer.start)(self.file, &state),
+                false => (self.peer.continue_by)(self.file, 1, &state),
+            };
+            let after = reply.lent.remove(0);
+            self.check(&state, &after, instant, starts)?;
+            state = after;
+        }
+        Ok(())
     }
 
     /// However the instants are parted among calls, the last state is the same.
@@ -94,15 +127,17 @@ impl Run<'_> {
     }
 
     /// Checks every byte of the state of an instant.
-    fn check(&self, before: &[u8], after: &[u8], instant: u32) -> Result<(), String> {
+    fn check(&self, before: &[u8], after: &[u8], instant: u32, starts: bool) -> Result<(), String> {
         let step = Step {
             netlist: self.netlist,
             words: self.words,
             before,
             after,
             instant,
+            starts,
         };
-        let header = [instant.to_le_bytes(), [0; 4]].concat();
+        let in_flight = flight::counted(&self.netlist.cells, after);
+        let header = [instant.to_le_bytes(), in_flight.to_le_bytes()].concat();
         if after[..8] != header {
             return Err(format!("instant {instant}: header {:?}", &after[..8]));
         }
@@ -155,6 +190,8 @@ pub struct Step<'a> {
     pub before: &'a [u8],
     pub after: &'a [u8],
     pub instant: u32,
+    /// Whether a start is given for the later one.
+    pub starts: bool,
 }
 
 impl Step<'_> {
@@ -182,7 +219,7 @@ impl Step<'_> {
         let Cell { kind, delay, a, b } = self.netlist.cells[number];
         let now = |wire: u16| self.now(wire);
         match kind {
-            START => u16::from(self.instant == 0),
+            START => u16::from(self.starts),
             GROUND => 0,
             CONSTANT => a,
             DELAY => self.input_ago(number, usize::from(delay)),

@@ -1,9 +1,10 @@
 //! Two peers against each other, call by call: answers, places and every
 //! lent byte. And each by itself: a refused call changes no lent byte.
 
+use crate::against_equations::instant_of;
 use crate::against_text;
 use crate::damage;
-use crate::job::{Call, Job, MOST_INSTANT};
+use crate::job::{Ask, Call, Job, MOST_INSTANT};
 use crate::lend::*;
 use crate::xorshift::Random;
 use peers::{Peer, Reply};
@@ -97,7 +98,8 @@ impl Pair<'_> {
         Ok(Some(shape))
     }
 
-    /// A beginning, the continuings, and continuings of damaged states.
+    /// A beginning, the calls on its run, and calls on states that are damaged
+    /// or at another instant.
     fn same_calls(
         &self,
         file: &[u8],
@@ -114,8 +116,9 @@ impl Pair<'_> {
         let mut state = begun.lent[0][..length].to_vec();
         for call in calls {
             let buffer = lent_with(&state, call.room.around(length));
-            let reply = self.same("continue_by", &[&buffer], |peer| {
-                (peer.continue_by)(file, call.n, &buffer)
+            let instant = instant_of(&state);
+            let reply = self.same(&format!("{:?}", call.ask), &[&buffer], |peer| {
+                call.ask.of(peer, file, instant, &buffer)
             })?;
             if reply.result.is_ok() {
                 state.copy_from_slice(&reply.lent[0][..length]);
@@ -124,8 +127,24 @@ impl Pair<'_> {
         for _ in 0..DAMAGED {
             let damaged = damage::state(file, &state, random);
             let n = random.below(600) as u32;
-            self.same("continue_by, damaged", &[&damaged], |peer| {
-                (peer.continue_by)(file, n, &damaged)
+            self.same_on("damaged", file, n, &damaged)?;
+            let instant = MOST_INSTANT - 2 + random.below(4) as u32;
+            state[..4].copy_from_slice(&instant.to_le_bytes());
+            self.same_on(
+                "near the last instant",
+                file,
+                random.below(3) as u32,
+                &state,
+            )?;
+        }
+        Ok(())
+    }
+
+    /// A continuing and a start on a state of any origin.
+    fn same_on(&self, which: &str, file: &[u8], n: u32, state: &[u8]) -> Result<(), String> {
+        for ask in [Ask::Go(n), Ask::Start] {
+            self.same(&format!("{ask:?}, {which}"), &[state], |peer| {
+                ask.of(peer, file, instant_of(state), state)
             })?;
         }
         Ok(())

@@ -1,11 +1,14 @@
 //! A peer's circuit against its rules: the whole of demand 3 for one job,
 //! under the job's table.
 //!
-//! From the program's end alone it follows what a beginning and every
-//! continuing must answer, and which of them are refused. The last words of
-//! the arrays, which no answer shows, are those of the second's rules.
+//! From the program's end alone it follows what a beginning and every call
+//! after it must answer, and which of them are refused: a second start before
+//! the end, and after it none, for the program then runs anew from its last
+//! words, counted from that pulse. The last words of the arrays, which no answer
+//! shows, are those of the second's rules.
 
-use crate::job::{Job, MOST_INSTANT};
+use crate::flight;
+use crate::job::{Ask, Call, Job, MOST_INSTANT};
 use crate::lend::*;
 use peers::{Peer, Reply};
 use second::calls;
@@ -15,79 +18,153 @@ use values::{Answer, End, Refusal};
 
 /// How a job came out, for the tally.
 #[derive(Clone, Copy, Debug, PartialEq, Eq)]
+pub struct Seen {
+    pub outcome: Outcome,
+    pub starts: Starts,
+}
+
+#[derive(Clone, Copy, Debug, PartialEq, Eq)]
 pub enum Outcome {
     Ended,
     Open,
     Refused,
 }
 
+/// The second starts of a job: refused before an end, given right at it, and
+/// given later.
+#[derive(Clone, Copy, Debug, Default, PartialEq, Eq)]
+pub struct Starts {
+    pub early: u64,
+    pub at_the_end: u64,
+    pub late: u64,
+}
+
 /// Compares; the error says which call disagrees, and how.
-pub fn compare(peer: &Peer, job: &Job) -> Result<Outcome, String> {
+pub fn compare(peer: &Peer, job: &Job) -> Result<Seen, String> {
     let checked = (peer.check)(job.table(), &job.program).result;
     let compiled = (peer.compile)(job.table(), &job.program, &lent(MOST_FILE));
     expect("compile", compiled.result.map(drop), checked)?;
     let (Ok(shape), Some(words)) = (compiled.result, job.words.get(..WORDS)) else {
-        return Ok(Outcome::Refused);
+        return Ok(Seen {
+            outcome: Outcome::Refused,
+            starts: Starts::default(),
+        });
     };
-    let end = end_within(peer, job, words)?;
-    let run = Run {
+    let list = List {
         peer,
+        job,
         file: &compiled.lent[0][..file_length(shape.cells.into())],
         length: state_length(shape.cells.into()),
-        end,
     };
-    run.check_calls(job, words)?;
-    run.check_full_run(job, words)?;
-    Ok(match end {
+    let first = list.first_run(words)?;
+    let starts = list.check_calls(first, words)?;
+    list.check_full_run(first, words)?;
+    let outcome = match first.end {
         Some(_) => Outcome::Ended,
         None => Outcome::Open,
-    })
-}
-
-/// The program's end by the rules, as far as the job's calls can come.
-fn end_within(peer: &Peer, job: &Job, words: &[u8]) -> Result<Option<Moment>, String> {
-    let possible = |n: &u32| *n <= MOST_INSTANT;
-    let asked: u32 = job.calls.iter().map(|call| call.n).filter(possible).sum();
-    let budget = Some(job.budget).filter(possible).unwrap_or(0);
-    let reach = asked.max(budget).min(MOST_INSTANT);
-    let (table, program) = (job.table(), &job.program);
-    let moment = calls::last_moment(table, program, words, reach);
-    let end = |moment: Moment| End {
-        instant: moment.instant,
-        words: moment.contents.words,
     };
-    let found = (peer.reference_run)(table, program, words, reach).result;
-    expect("the rules", found, moment.map(|moment| moment.map(end)))?;
-    moment.map_err(|refused| format!("the rules refuse what the check accepts: {refused:?}"))
+    Ok(Seen { outcome, starts })
 }
 
-/// A run of one compiled program whose end is known.
-struct Run<'a> {
-    peer: &'a Peer,
-    file: &'a [u8],
-    /// The length of the state.
-    length: usize,
+/// One run of the program, from a start pulse on.
+#[derive(Clone, Copy)]
+struct Run {
+    /// Its end, counted from instant 0 of the list, if within reach.
     end: Option<Moment>,
 }
 
-impl Run<'_> {
-    /// The beginning and the list of continuings, the state threaded through.
-    fn check_calls(&self, job: &Job, words: &[u8]) -> Result<(), String> {
+impl Run {
+    /// Where a continuing by `n` from `instant` stops, and whether ended there.
+    /// A beginning is one by 0 from 0.
+    fn stop(self, instant: u32, n: u32) -> (u32, bool) {
+        let last = instant + n;
+        match self.end {
+            Some(end) if instant < end.instant && end.instant <= last => (end.instant, true),
+            Some(end) => (last, end.instant == last),
+            None => (last, false),
+        }
+    }
+
+    /// Where a full run stops: at 0 if the finish is high there.
+    fn full_stop(self, budget: u32) -> (u32, bool) {
+        match self.stop(0, 0) {
+            (0, true) => (0, true),
+            _ => self.stop(0, budget),
+        }
+    }
+
+    /// The end, if it isn't above an instant: from there on nothing is in
+    /// flight.
+    fn ended_by(self, instant: u32) -> Option<Moment> {
+        self.end.filter(|end| end.instant <= instant)
+    }
+}
+
+/// A list of calls on the circuit of a program.
+struct List<'a> {
+    peer: &'a Peer,
+    job: &'a Job,
+    file: &'a [u8],
+    /// The length of the state.
+    length: usize,
+}
+
+impl List<'_> {
+    /// The run from instant 0, as far as the job's calls can come.
+    fn first_run(&self, words: &[u8]) -> Result<Run, String> {
+        let budget = Some(self.job.budget).filter(|n| *n <= MOST_INSTANT);
+        let reach = reach(&self.job.calls, 0).max(budget.unwrap_or(0));
+        self.run_from(0, words, reach)
+    }
+
+    /// The run from a pulse at this instant, from these words, within so many
+    /// instants: by the rules alone, counted from that pulse.
+    fn run_from(&self, pulse: u32, words: &[u8], reach: u32) -> Result<Run, String> {
+        let (table, program) = (self.job.table(), &self.job.program);
+        let moment = calls::last_moment(table, program, words, reach);
+        let end = |moment: Moment| End {
+            instant: moment.instant,
+            words: moment.contents.words,
+        };
+        let found = (self.peer.reference_run)(table, program, words, reach).result;
+        expect("the rules", found, moment.map(|moment| moment.map(end)))?;
+        let moment = moment
+            .map_err(|refused| format!("the rules refuse what the check accepts: {refused:?}"))?;
+        let later = |moment: Moment| Moment {
+            instant: pulse + moment.instant,
+            ..moment
+        };
+        let end = moment.map(later);
+        Ok(Run { end })
+    }
+
+    /// The beginning and the list of calls, the state threaded through.
+    fn check_calls(&self, first: Run, words: &[u8]) -> Result<Starts, String> {
         let begun = (self.peer.begin)(self.file, words, &lent(self.length));
-        self.check_answer("begin", &begun, self.stop(0, 0), 1)?;
+        self.check_answer("begin", first, &begun, first.stop(0, 0), 1)?;
         let mut state = begun.lent[0].clone();
-        let mut instant = 0;
-        for (index, call) in job.calls.iter().enumerate() {
-            let name = format!("continuing {index}");
+        let (mut run, mut instant) = (first, 0);
+        let mut starts = Starts::default();
+        for (index, call) in self.job.calls.iter().enumerate() {
+            let name = format!("call {index}, {:?}", call.ask);
             let buffer = lent_with(&state, call.room.around(self.length));
-            let reply = (self.peer.continue_by)(self.file, call.n, &buffer);
-            if let Some(number) = self.refusal(&buffer, instant, call.n) {
+            let reply = call.ask.of(self.peer, self.file, instant, &buffer);
+            if let Some(number) = self.refusal(call, &buffer, run, instant) {
                 expect(&name, reply.result, Err(Refusal::new(number, 0)))?;
                 expect(&name, &reply.lent[0], &buffer)?;
+                starts.early += u64::from(number == 23);
                 continue;
             }
-            let stop = self.stop(instant, call.n);
-            self.check_answer(&name, &reply, stop, stop.0 - instant)?;
+            if let (Ask::Start, Some(end)) = (call.ask, run.ended_by(instant)) {
+                let reach = reach(&self.job.calls[index..], instant + 1);
+                run = self.run_from(instant + 1, &end.contents.bytes(), reach)?;
+                match end.instant == instant {
+                    true => starts.at_the_end += 1,
+                    false => starts.late += 1,
+                }
+            }
+            let stop = run.stop(instant, call.ask.most(instant));
+            self.check_answer(&name, run, &reply, stop, stop.0 - instant)?;
             let (after, past) = reply.lent[0].split_at(self.length);
             expect(&name, past, &buffer[self.length..])?;
             if stop.0 == instant {
@@ -96,16 +173,18 @@ impl Run<'_> {
             state = after.to_vec();
             instant = stop.0;
         }
-        Ok(())
+        Ok(starts)
     }
 
-    /// The refusal that a continuing must meet, if any.
-    fn refusal(&self, buffer: &[u8], instant: u32, n: u32) -> Option<u8> {
-        let last = u64::from(instant) + u64::from(n);
+    /// The refusal that a call must meet, if any.
+    fn refusal(&self, call: &Call, buffer: &[u8], run: Run, instant: u32) -> Option<u8> {
+        let last = u64::from(instant) + u64::from(call.ask.most(instant));
         if buffer.len() < self.length {
             Some(14)
         } else if last > u64::from(MOST_INSTANT) {
             Some(16)
+        } else if call.ask == Ask::Start && run.ended_by(instant).is_none() {
+            Some(23)
         } else {
             None
         }
@@ -113,15 +192,16 @@ impl Run<'_> {
 
     /// A full run, by the call and, where there is no table, as hubrun prints one
     /// in which every element is 0 at first.
-    fn check_full_run(&self, job: &Job, words: &[u8]) -> Result<(), String> {
+    fn check_full_run(&self, run: Run, words: &[u8]) -> Result<(), String> {
+        let job = self.job;
         let (program, budget) = (&job.program, job.budget);
         let (file, state) = (lent(MOST_FILE), lent(MOST_STATE));
         let reply = (self.peer.run_program)(job.table(), program, words, budget, &file, &state);
         if budget > MOST_INSTANT {
             expect("full run", reply.result, Err(Refusal::new(13, 0)))?;
         } else {
-            let stop = self.full_stop(budget);
-            self.check_answer("full run", &reply, stop, stop.0 + 1)?;
+            let stop = run.full_stop(budget);
+            self.check_answer("full run", run, &reply, stop, stop.0 + 1)?;
         }
         if job.table.is_some() {
             return Ok(());
@@ -134,30 +214,13 @@ impl Run<'_> {
         expect("hubrun", text, Ok(hubrun_lines(ran.result)))
     }
 
-    /// Where a full run stops: at 0 if the finish is high there.
-    fn full_stop(&self, budget: u32) -> (u32, bool) {
-        match self.stop(0, 0) {
-            (0, true) => (0, true),
-            _ => self.stop(0, budget),
-        }
-    }
-
-    /// Where a continuing by `n` from `instant` stops, and whether ended there.
-    /// A beginning is one by 0 from 0.
-    fn stop(&self, instant: u32, n: u32) -> (u32, bool) {
-        let last = instant + n;
-        match self.end {
-            Some(end) if instant < end.instant && end.instant <= last => (end.instant, true),
-            Some(end) => (last, end.instant == last),
-            None => (last, false),
-        }
-    }
-
     /// Compares an answer with what is due; from the end on the words are the
-    /// program's last ones, in the state, which is lent last, too.
+    /// program's last ones, in the state, which is lent last, too, and the state
+    /// tells that nothing is in flight, as it does at no instant before.
     fn check_answer(
         &self,
         name: &str,
+        run: Run,
         reply: &Reply<Answer>,
         (instant, ended): (u32, bool),
         count: u32,
@@ -166,11 +229,14 @@ impl Run<'_> {
             .result
             .map(|answer| (answer.ended, answer.instant, answer.count));
         expect(name, found, Ok((ended, instant, count)))?;
-        match (self.end, reply.result) {
-            (Some(end), Ok(answer)) if end.instant <= instant => {
+        let state = &reply.lent[reply.lent.len() - 1][..self.length];
+        let end = run.ended_by(instant);
+        let idle = flight::told(state) == 0;
+        expect(&format!("idle after {name}"), idle, end.is_some())?;
+        match (end, reply.result) {
+            (Some(end), Ok(answer)) => {
                 let last = end.contents;
                 expect(&format!("words after {name}"), answer.words, last.words)?;
-                let state = &reply.lent[reply.lent.len() - 1][..self.length];
                 let elements = &state[self.length - ARRAYS..];
                 expect(
                     &format!("elements after {name}"),
@@ -181,6 +247,14 @@ impl Run<'_> {
             _ => Ok(()),
         }
     }
+}
+
+/// How far these calls can come from an instant on.
+fn reach(calls: &[Call], instant: u32) -> u32 {
+    let most = calls.iter().map(|call| call.ask.most(instant));
+    let possible = most.filter(|n| *n <= MOST_INSTANT);
+    let asked: u64 = possible.map(u64::from).sum();
+    asked.min(u64::from(MOST_INSTANT - instant)) as u32
 }
 
 /// What hubrun prints of a full run.

@@ -1,9 +1,11 @@
 //! Slight damage to programs, netlist files, cells and states: some of it is
 //! refused, some makes another good input.
 
+use crate::flight;
 use crate::lend::ARRAYS;
 use crate::xorshift::Random;
 use second::cells::{sort, Sort, DELAY, MERGE};
+use second::netfile;
 use values::Cell;
 
 const BLOCK: usize = 512;
@@ -135,7 +137,8 @@ pub fn mend_checks(file: &mut [u8]) {
 }
 
 /// A state of a netlist with one to four changed fields. Most changes are
-/// such as refusal 15 lets pass: wires and lines that contradict each other.
+/// such as refusal 15 lets pass: wires and lines that contradict each other, and
+/// a number that is true of them.
 pub fn state(file: &[u8], state: &[u8], random: &mut Random) -> Vec<u8> {
     let mut state = state.to_vec();
     let arrays = state.len() - ARRAYS;
@@ -153,6 +156,11 @@ pub fn state(file: &[u8], state: &[u8], random: &mut Random) -> Vec<u8> {
                 random,
             ),
         }
+    }
+    if !random.once_in(8) {
+        let kinds = netfile::read(file).map_or(vec![], |netlist| netlist.cells);
+        let number = flight::counted(&kinds, &state);
+        flight::tell(&mut state, number);
     }
     state
 }
@@ -180,8 +188,8 @@ mod tests {
     use super::*;
     use crate::generate;
     use crate::lend::{file_length, lent, state_length, MOST_FILE, WORDS};
+    use second::calls;
     use second::table::BUILT_IN;
-    use second::{calls, netfile};
     use std::collections::BTreeSet;
     use values::Refusal;
 
@@ -238,5 +246,14 @@ mod tests {
             calls::continue_by(&file, &mut state(&file, &begun, random), 1).map(drop)
         });
         assert_eq!(met, [0, 15, 16].into());
+    }
+
+    #[test]
+    fn damaged_states_meet_refusal_23_too() {
+        let met = met(|good, random| {
+            let (file, begun) = begun(good);
+            calls::start(&file, &mut state(&file, &begun, random)).map(drop)
+        });
+        assert_eq!(met, [0, 15, 16, 23].into());
     }
 }

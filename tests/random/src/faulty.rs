@@ -288,6 +288,7 @@ mod tests {
     use crate::against_peer::Pair;
     use crate::faulty_arrays::*;
     use crate::faulty_loops::*;
+    use crate::faulty_starts::*;
     use crate::job::{self, Job};
     use crate::xorshift::Random;
     use crate::{against_equations, against_rules, against_tables, against_text};
@@ -336,7 +337,7 @@ mod tests {
     fn disagrees_with_second(peer: &Peer) -> bool {
         let pair = with_second(peer);
         // Reading behind so many cells that numbers wrap is rare.
-        (0..4 * JOBS).any(|seed| pair.compare(&Job::of_seed(seed)).is_err())
+        (0..10 * JOBS).any(|seed| pair.compare(&Job::of_seed(seed)).is_err())
     }
 
     fn disagrees_with_second_on_netlists(peer: &Peer) -> bool {
@@ -385,6 +386,35 @@ mod tests {
         assert_tells(disagrees, &[DELAY_SPENT, OUTER_LEFT, REST_RUN]);
     }
 
+    /// Compiled programs, started again as soon as they are idle.
+    #[test]
+    fn rules_tell_faulty_starts() {
+        let faulty = [STALE_COUNT, HASTY, FORGETTING];
+        assert_tells(disagrees_with_rules, &faulty);
+    }
+
+    /// Programs that are over soon, and then go on to the last instant.
+    #[test]
+    fn rules_tell_a_start_beyond_the_last_instant() {
+        let disagrees = |peer: &Peer| {
+            [&[16, 0, 0, 0], &[17, 9, 0, 0]].into_iter().any(|program| {
+                let job = Job {
+                    table: None,
+                    program: program.to_vec(),
+                    calls: job::to_the_last().collect(),
+                    ..Job::of_seed(0)
+                };
+                against_rules::compare(peer, &job).is_err()
+            })
+        };
+        assert_tells(disagrees, &[UNCOUNTED]);
+    }
+
+    #[test]
+    fn equations_tell_faulty_starts() {
+        assert_tells(disagrees_with_equations, &[STALE_COUNT, HASTY]);
+    }
+
     /// Of the calls that are compared only the check: a clash of arrays is rare.
     #[test]
     fn a_good_peer_tells_what_a_check_misses() {
@@ -421,7 +451,17 @@ mod tests {
         let moves = [MOVED_CONSTANTS, STAYING_B, UNWRAPPED, MOVED_FINISH];
         let lists = [ROOM_TO_SPARE, ABSENT_FINISH];
         let loops = [DELAY_SPENT, OUTER_LEFT, REST_RUN];
-        let faulty = [&runs[..], &readers, &tables, &moves, &lists, &loops].concat();
+        let starts = [STALE_COUNT, HASTY, FORGETTING, UNCOUNTED];
+        let faulty = [
+            &runs[..],
+            &readers,
+            &tables,
+            &moves,
+            &lists,
+            &loops,
+            &starts,
+        ]
+        .concat();
         assert_tells(disagrees_with_second, &faulty);
     }
 }

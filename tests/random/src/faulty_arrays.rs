@@ -1,20 +1,10 @@
-//! A simulator that walks over all cells at each instant, by the equations of
-//! `against_equations`, and goes wrong about arrays in the way that it is told.
+//! Peers that walk over all cells at each instant, and go wrong about arrays.
 
-use crate::against_equations::{element_place, instant_of, wire_of, Step};
-use crate::lend::{state_length, ARRAYS};
+use crate::lend::state_length;
+use crate::walking::{Fault, Walk};
 use peers::{Bytes, Peer, Reply, SECOND};
-use second::cells::{Netlist, READ};
 use second::netfile;
 use values::Answer;
-
-#[derive(Clone, Copy, PartialEq)]
-enum Fault {
-    None,
-    AddressOfTheFall,
-    SevenBits,
-    StaleRead,
-}
 
 /// Goes wrong about nothing, so that its faults are those told below.
 pub const WALKING: Peer = faulty("walking", |file, n, state| {
@@ -55,94 +45,11 @@ fn walked(fault: Fault, file: &[u8], n: u32, state: &[u8]) -> Reply<Answer> {
     let mut run = run.to_vec();
     let mut count = 0;
     while count < n && (count == 0 || !walk.finished(&run)) {
-        run = walk.next(&run);
+        run = walk.next(&run, false);
         count += 1;
     }
     Reply {
         result: Ok(walk.answer(&run, count)),
         lent: vec![[&run, past].concat()],
-    }
-}
-
-struct Walk {
-    netlist: Netlist,
-    fault: Fault,
-}
-
-impl Walk {
-    fn finished(&self, state: &[u8]) -> bool {
-        wire_of(state, self.netlist.finish) == 1
-    }
-
-    fn answer(&self, state: &[u8], count: u32) -> Answer {
-        let memories = self.netlist.memories();
-        Answer {
-            ended: self.finished(state),
-            instant: instant_of(state),
-            count,
-            words: std::array::from_fn(|variable| wire_of(state, memories[variable] as u16)),
-        }
-    }
-
-    /// The state an instant later. Values come a second time after the writes,
-    /// which the reads then show.
-    fn next(&self, before: &[u8]) -> Vec<u8> {
-        let mut after = before.to_vec();
-        after[..4].copy_from_slice(&(instant_of(before) + 1).to_le_bytes());
-        self.put_values(before, &mut after);
-        let step = self.step(before, &after);
-        let elements = step.written(|array, address| match self.fault {
-            Fault::AddressOfTheFall => self.place(array, step.now(address)),
-            _ => self.place(array, step.ago(address)),
-        });
-        let arrays = after.len() - ARRAYS;
-        after[arrays..].copy_from_slice(&elements);
-        if self.fault != Fault::StaleRead {
-            self.put_values(before, &mut after);
-        }
-        self.put_rest(before, &mut after);
-        after
-    }
-
-    fn step<'a>(&'a self, before: &'a [u8], after: &'a [u8]) -> Step<'a> {
-        Step {
-            netlist: &self.netlist,
-            words: &[],
-            before,
-            after,
-            instant: instant_of(after),
-        }
-    }
-
-    /// The place of an element in the bytes of the arrays.
-    fn place(&self, array: u8, index: u16) -> usize {
-        match self.fault {
-            Fault::SevenBits => (element_place(array, 0) + 2 * usize::from(index % 128)) % ARRAYS,
-            _ => element_place(array, index),
-        }
-    }
-
-    /// The value of each cell, from those of lower cells and the arrays.
-    fn put_values(&self, before: &[u8], after: &mut [u8]) {
-        for (number, cell) in self.netlist.cells.iter().enumerate() {
-            let step = self.step(before, after);
-            let value = match cell.kind {
-                READ => {
-                    let array = self.netlist.cells[usize::from(cell.a)].delay;
-                    let place = after.len() - ARRAYS + self.place(array, step.now(cell.b));
-                    u16::from_le_bytes([after[place], after[place + 1]])
-                }
-                _ => step.value(number),
-            };
-            after[8 + 40 * number..][..2].copy_from_slice(&value.to_le_bytes());
-        }
-    }
-
-    /// What a cell keeps beside its value.
-    fn put_rest(&self, before: &[u8], after: &mut [u8]) {
-        for number in 0..self.netlist.cells.len() {
-            let kept = self.step(before, after).expected(number);
-            after[8 + 40 * number..][2..40].copy_from_slice(&kept[2..]);
-        }
     }
 }

@@ -5,16 +5,45 @@ use crate::generate;
 use crate::lend::WORDS;
 use crate::tables::{self, Table};
 use crate::xorshift::Random;
+use peers::{Peer, Reply};
 use second::table::BUILT_IN;
+use values::Answer;
 
 /// The last instant that a run may come to.
 pub const MOST_INSTANT: u32 = 1_000_000;
 
-/// A continuing, and how much of the state's buffer is lent to it.
+/// A call on a state, and how much of the state's buffer is lent to it.
 #[derive(Clone, Copy, Debug)]
 pub struct Call {
-    pub n: u32,
+    pub ask: Ask,
     pub room: Room,
+}
+
+/// A continuing by a number or up to an instant, or a start.
+#[derive(Clone, Copy, Debug, PartialEq, Eq)]
+pub enum Ask {
+    Go(u32),
+    GoTo(u32),
+    Start,
+}
+
+impl Ask {
+    /// The most instants that it evaluates from this one on.
+    pub fn most(self, instant: u32) -> u32 {
+        match self {
+            Ask::Go(n) => n,
+            Ask::GoTo(last) => last.saturating_sub(instant),
+            Ask::Start => 1,
+        }
+    }
+
+    /// Asks it of a peer, on a state of this instant.
+    pub fn of(self, peer: &Peer, file: &[u8], instant: u32, state: &[u8]) -> Reply<Answer> {
+        match self {
+            Ask::Start => (peer.start)(file, state),
+            _ => (peer.continue_by)(file, self.most(instant), state),
+        }
+    }
 }
 
 #[derive(Clone, Copy, Debug)]
@@ -109,18 +138,26 @@ fn budget(random: &mut Random) -> u32 {
     budget as u32
 }
 
-/// The continuings of one run, refused ones among them.
+/// The calls on one run, refused ones among them. A start comes after as many
+/// continuings as it happens: before an end, right at it or later.
 pub fn calls(random: &mut Random) -> Vec<Call> {
-    let mut list: Vec<Call> = (0..random.between(1, 12)).map(|_| call(random)).collect();
+    let mut list: Vec<Call> = (0..random.between(1, 16)).map(|_| call(random)).collect();
     // The last instant of all is far for most programs, so it is rarely gone
-    // for: near it the second of these may be refused.
+    // for. A continuing stops at an end, so there are two.
     if random.once_in(1_000) {
-        list.extend([970_000, 30_000].map(|n| Call {
-            n,
-            room: Room::Exact,
-        }));
+        list.extend(to_the_last());
     }
     list
+}
+
+/// Calls that come to the last instant, where every call with an instant is
+/// refused.
+pub fn to_the_last() -> impl Iterator<Item = Call> {
+    let near = Ask::GoTo(MOST_INSTANT - 300);
+    let last = Ask::GoTo(MOST_INSTANT);
+    let asks = [near, near, Ask::Start, last, last, Ask::Start, Ask::Go(1)];
+    let room = Room::Exact;
+    asks.into_iter().map(move |ask| Call { ask, room })
 }
 
 fn call(random: &mut Random) -> Call {
@@ -137,5 +174,9 @@ fn call(random: &mut Random) -> Call {
         2 | 3 => Room::Longer(random.between(1, 100)),
         _ => Room::Exact,
     };
-    Call { n: n as u32, room }
+    let ask = match random.once_in(3) {
+        true => Ask::Start,
+        false => Ask::Go(n as u32),
+    };
+    Call { ask, room }
 }

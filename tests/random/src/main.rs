@@ -18,6 +18,9 @@ mod faulty;
 mod faulty_arrays;
 #[cfg(test)]
 mod faulty_loops;
+#[cfg(test)]
+mod faulty_starts;
+mod flight;
 mod generate;
 mod job;
 mod lend;
@@ -29,6 +32,8 @@ mod tables;
 mod tally;
 mod texts;
 mod typing;
+#[cfg(test)]
+mod walking;
 mod xorshift;
 
 use std::process::ExitCode;

@@ -4,7 +4,7 @@
 //! be had again.
 
 use crate::against_peer::Pair;
-use crate::against_rules::{self, Outcome};
+use crate::against_rules::{self, Seen};
 use crate::job::{self, Job};
 use crate::tally::Tally;
 use crate::xorshift::Random;
@@ -26,7 +26,7 @@ pub fn run(seed: u64, count: u64) -> Result<Tally, String> {
         let job_seed = Random::new(seed).bits().wrapping_add(number);
         let job = Job::of_seed(job_seed);
         match compare(&job) {
-            Ok(outcome) => tally.add(&job, outcome),
+            Ok(seen) => tally.add(&job, seen),
             Err(what) => return Err(report(&job, number, &what)),
         }
         if number % PROGRAMS_FOR_NETLIST == 0 {
@@ -40,7 +40,7 @@ pub fn run(seed: u64, count: u64) -> Result<Tally, String> {
 
 /// A program: the peers with each other, and each by itself, calls with the
 /// table, texts with the program and the circuit with the rules.
-fn compare(job: &Job) -> Result<Outcome, String> {
+fn compare(job: &Job) -> Result<Seen, String> {
     let pair = Pair {
         left: &LEFT,
         right: &RIGHT,
@@ -97,6 +97,9 @@ mod tests {
         let least = tally.ended.min(tally.open).min(tally.refused);
         let special = tally.tables.min(tally.arrays).min(tally.loops);
         assert!(least.min(special) >= 100, "{tally}");
+        let starts = tally.starts;
+        let kinds = starts.early.min(starts.at_the_end).min(starts.late);
+        assert!(kinds >= 500, "{tally}");
         assert_eq!(tally.netlists, 125);
     }
 }

@@ -1,6 +1,6 @@
 //! What a run has seen.
 
-use crate::against_rules::Outcome;
+use crate::against_rules::{Outcome, Seen, Starts};
 use crate::job::Job;
 use crate::texts::{has_arrays, has_loops};
 use std::fmt::{Display, Formatter, Result};
@@ -15,17 +15,21 @@ pub struct Tally {
     pub tables: u64,
     pub arrays: u64,
     pub loops: u64,
+    pub starts: Starts,
     pub netlists: u64,
 }
 
 impl Tally {
     /// Counts a program.
-    pub fn add(&mut self, job: &Job, outcome: Outcome) {
+    pub fn add(&mut self, job: &Job, seen: Seen) {
         self.nodes += job.program.len() / 4;
         self.tables += u64::from(job.table.is_some());
         self.arrays += u64::from(has_arrays(&job.program));
         self.loops += u64::from(has_loops(&job.program));
-        match outcome {
+        self.starts.early += seen.starts.early;
+        self.starts.at_the_end += seen.starts.at_the_end;
+        self.starts.late += seen.starts.late;
+        match seen.outcome {
             Outcome::Ended => self.ended += 1,
             Outcome::Open => self.open += 1,
             Outcome::Refused => self.refused += 1,
@@ -43,13 +47,20 @@ impl Display for Tally {
             tables,
             arrays,
             loops,
+            starts:
+                Starts {
+                    early,
+                    at_the_end,
+                    late,
+                },
             netlists,
         } = self;
         let programs = ended + open + refused;
         write!(text, "{programs} programs, {nodes} nodes in all, agree: ")?;
         write!(text, "{ended} ended, {open} open, {refused} refused, ")?;
         write!(text, "{tables} under a table, {arrays} with arrays, ")?;
-        write!(text, "{loops} with loops; ")?;
+        write!(text, "{loops} with loops; starts: {early} too early, ")?;
+        write!(text, "{at_the_end} at an end, {late} later; ")?;
         write!(text, "{netlists} netlists agree")
     }
 }

@@ -92,6 +92,22 @@ pub fn continue_by(file: &[u8], state: &mut [u8], n: u32) -> Result<Answer, Refu
     Ok(answer(&simulator, count))
 }
 
+/// Gives a second start pulse at the next instant: refusals 9 to 12, 14, 15,
+/// 16, 23.
+pub fn start(file: &[u8], state: &mut [u8]) -> Result<Answer, Refusal> {
+    let netlist = netfile::read(file)?;
+    let state = state_room(state, &netlist)?;
+    state::check(&netlist, state)?;
+    check_reach(state::instant(state), 1)?;
+    if state::in_flight(state) != 0 {
+        return Err(Refusal::new(23, 0));
+    }
+    let mut simulator = state::load(&netlist, state);
+    simulator.start();
+    state::store(&simulator, state);
+    Ok(answer(&simulator, 1))
+}
+
 /// A full run of a netlist: refusals 9 to 12, 13, 14.
 pub fn run_netlist(
     file: &[u8],

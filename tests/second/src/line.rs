@@ -51,6 +51,22 @@ impl Line {
         self.level ^ (since % 2 == 1)
     }
 
+    /// How often the input was high in the last `count` instants up to `now`:
+    /// the lengths of the stretches between changes, as far as they are among
+    /// these.
+    pub fn highs(&self, now: Instant, count: Instant) -> u32 {
+        let first = now - count + 1;
+        let (mut end, mut level, mut high) = (now + 1, self.level, 0);
+        let beginnings = self.changes.iter().rev().map(|&change| change.max(first));
+        for begin in beginnings.chain([first]) {
+            if level {
+                high += end - begin;
+            }
+            (end, level) = (begin, !level);
+        }
+        high as u32
+    }
+
     /// The instants at which the input changed, rising.
     pub fn changes(&self) -> impl Iterator<Item = Instant> + '_ {
         self.changes.iter().copied()

@@ -24,6 +24,18 @@ pub struct CellState {
     pub line: LineBytes,
 }
 
+impl CellState {
+    /// What a cell of this kind and delay has in flight.
+    pub fn in_flight(&self, kind: u8, delay: u8) -> u32 {
+        match kind {
+            // Any instant will do: a line tells how long ago its inputs were.
+            DELAY => Line::from_bytes(&self.line, 0).highs(0, delay.into()),
+            MERGE => self.held.count(),
+            _ => 0,
+        }
+    }
+}
+
 /// The two bits that a merge holds.
 #[derive(Clone, Copy, Debug, Default, PartialEq, Eq)]
 pub struct Merge {
@@ -40,6 +52,11 @@ impl Merge {
         } else {
             (Merge { a, b }, false)
         }
+    }
+
+    /// How many bits are held.
+    fn count(self) -> u32 {
+        u32::from(self.a) + u32::from(self.b)
     }
 }
 
@@ -60,6 +77,8 @@ pub struct Simulator<'a> {
     arrays: Arrays,
     wheel: Wheel,
     fanout: Fanout,
+    /// The last instant for which a start was given.
+    start: Option<Instant>,
     /// At the first instant evaluated nothing is known to be unchanged.
     first: bool,
 }
@@ -71,7 +90,7 @@ impl<'a> Simulator<'a> {
         for (memory, word) in netlist.memories().into_iter().zip(contents.words) {
             simulator.set(memory, word, 0);
         }
-        simulator.step();
+        simulator.start();
         simulator
     }
 
@@ -114,6 +133,7 @@ impl<'a> Simulator<'a> {
             arrays,
             wheel,
             fanout: Fanout::of(netlist),
+            start: None,
             first: true,
         }
     }
@@ -139,6 +159,26 @@ impl<'a> Simulator<'a> {
             }
         }
         n
+    }
+
+    /// Evaluates the next instant, at which start is high.
+    pub fn start(&mut self) {
+        let at = self.instant + 1;
+        self.start = Some(at);
+        self.wheel.wake(0, at);
+        self.step();
+    }
+
+    /// The pulses on their way in delays, and the bits that merges hold.
+    pub fn in_flight(&self) -> u32 {
+        let cells = self.netlist.cells.iter().enumerate();
+        cells
+            .map(|(number, cell)| match cell.kind {
+                DELAY => self.lines[number].highs(self.instant, cell.delay.into()),
+                MERGE => self.held[number].count(),
+                _ => 0,
+            })
+            .sum()
     }
 
     /// Whether the finish wire is high at the present instant.
@@ -222,7 +262,7 @@ impl<'a> Simulator<'a> {
     fn evaluate(&mut self, cell: usize) -> u16 {
         let Cell { kind, delay, a, b } = self.netlist.cells[cell];
         match kind {
-            START => self.pulse_at_zero(cell),
+            START => self.pulse(cell),
             GROUND => 0,
             CONSTANT => a,
             DELAY => u16::from(self.lines[cell].level_at(self.instant - Instant::from(delay))),
@@ -243,11 +283,11 @@ impl<'a> Simulator<'a> {
         }
     }
 
-    /// Start: its fall at instant 1 has no cause but the instant itself.
-    fn pulse_at_zero(&mut self, cell: usize) -> u16 {
-        let high = self.instant == 0;
+    /// Start: its fall an instant later has no cause but the instant itself.
+    fn pulse(&mut self, cell: usize) -> u16 {
+        let high = self.start == Some(self.instant);
         if high {
-            self.wheel.wake(cell, 1);
+            self.wheel.wake(cell, self.instant + 1);
         }
         u16::from(high)
     }

@@ -5,9 +5,11 @@ use crate::contents::{Arrays, ARRAYS_LENGTH};
 use crate::line::LineBytes;
 use crate::simulate::{CellState, Merge, Simulator};
 use crate::word::{number2, number4, put2, put4};
-use values::Refusal;
+use values::{Cell, Refusal};
 
+/// The header: the instant, and the number of pulses in flight.
 const HEADER: usize = 8;
+const NUMBER: usize = 4;
 const CELL: usize = 40;
 
 /// The bytes of the state of a netlist with this many cells: the header, the
@@ -21,10 +23,15 @@ pub fn instant(state: &[u8]) -> u32 {
     number4(state, 0)
 }
 
+/// The number in flight that a state tells.
+pub fn in_flight(state: &[u8]) -> u32 {
+    number4(state, NUMBER)
+}
+
 /// Writes the simulator's present state, which has exactly these bytes.
 pub fn store(simulator: &Simulator, state: &mut [u8]) {
     put4(state, 0, simulator.instant());
-    put4(state, 4, 0);
+    put4(state, NUMBER, simulator.in_flight());
     let (cells, arrays) = state.split_at_mut(state.len() - ARRAYS_LENGTH);
     for (number, bytes) in cells[HEADER..].chunks_exact_mut(CELL).enumerate() {
         store_cell(simulator.cell_state(number), bytes);
@@ -43,10 +50,10 @@ fn store_cell(cell: CellState, bytes: &mut [u8]) {
 
 /// Refusal 15.
 pub fn check(netlist: &Netlist, state: &[u8]) -> Result<(), Refusal> {
-    let kinds = netlist.cells.iter().map(|cell| cell.kind);
-    let mut cells = kinds.zip(split(state).0.chunks_exact(CELL));
-    let lawful = state[4..HEADER] == [0; 4] && cells.all(|(kind, bytes)| is_lawful(kind, bytes));
-    if !lawful {
+    let cells = || netlist.cells.iter().zip(split(state).0.chunks_exact(CELL));
+    let lawful = cells().all(|(cell, bytes)| is_lawful(cell.kind, bytes));
+    let of_cell = |(cell, bytes): (&Cell, _)| load_cell(bytes).in_flight(cell.kind, cell.delay);
+    if !lawful || cells().map(of_cell).sum::<u32>() != in_flight(state) {
         return Err(Refusal::new(15, 0));
     }
     Ok(())

@@ -11,7 +11,9 @@ pub const COMMAND: Command = Command {
     name: "begin",
     usage: "FILE [xK=N aK[I]=N ..] -o STATE [--times T] [--as FORM]",
     about: "begins a run, and writes its state to go on from",
-    more: "FILE is a netlist, NAME.net, or a program that is compiled first. The exit status is 0.",
+    more:
+        "FILE is a netlist, NAME.net, or a program that is compiled first. Told is also how many\n\
+           pulses are in flight, or that the hub is idle. The exit status is 0.",
     example: "hub begin two_boards.net x0=3 x1=5 -o two_boards.state",
     options: Options {
         valued: &["o", "times", "as"],
@@ -28,9 +30,9 @@ fn run(args: &Args) -> Result<Done, Stop> {
     let begun = product::begin(&circuit.file, &start);
     let (state, answer) = begun.map_err(|met| given.refused(met))?;
     files::write(to, &state)?;
-    let last = product::contents(&answer, &state, circuit.netlist.cells.len());
+    let cells = circuit.netlist.cells.len();
     Ok(Done {
         exit: DONE,
-        ..answered(args, &start, &answer, &last)
+        ..answered(args, &start, &answer, &state, cells)
     })
 }

@@ -20,10 +20,13 @@ mod wire;
 use crate::answers::{self, counted};
 use crate::args::{Args, Options};
 use crate::files;
+use crate::input::Given;
 use crate::json::Json;
-use crate::refusals::Report;
+use crate::layout::in_flight_in;
+use crate::product;
+use crate::refusals::{self, Report};
 use crate::store::Store;
-use crate::types::{Answer, Done, Fault, DONE, OPEN, REFUSED};
+use crate::types::{Answer, Done, Fault, Refusal, DONE, OPEN, REFUSED};
 
 pub struct Command {
     pub name: &'static str,
@@ -174,12 +177,42 @@ fn written(
     }))
 }
 
-/// Tells the answer of a run that began with these words and has come to those.
-fn answered(args: &Args, start: &Store, answer: &Answer, last: &Store) -> Done {
+/// Tells the answer of a run that had these words before and has come to this
+/// state.
+fn answered(args: &Args, start: &Store, answer: &Answer, state: &[u8], cells: usize) -> Done {
+    let last = product::contents(answer, state, cells);
+    let in_flight = in_flight_in(state);
     let output = match args.flag("json") {
-        true => Json::Object(answers::fields(answer, last)).line(),
-        false => answers::text(start, answer, last, args.flag("all")).into_bytes(),
+        true => {
+            let mut fields = answers::fields(answer, &last);
+            fields.push(("in_flight", Json::number(in_flight)));
+            Json::Object(fields).line()
+        }
+        false => {
+            let all = args.flag("all");
+            answers::text_of_state(start, answer, &last, in_flight, all).into_bytes()
+        }
     };
     let exit = if answer.ended { DONE } else { OPEN };
     Done { exit, output }
+}
+
+/// Makes a call on the state in a file, writes it back or to the file of -o, and
+/// tells the answer. A refused one is left as it is.
+fn on_state(
+    args: &Args,
+    call: impl FnOnce(&[u8], &mut [u8]) -> Result<Answer, Refusal>,
+) -> Result<Done, Stop> {
+    let [file, state_file] = args.exactly(["FILE", "STATE"])?;
+    let circuit = Given::read(args, file)?.circuit()?;
+    let cells = circuit.netlist.cells.len();
+    let mut state = files::read(state_file)?;
+    // By none: the words as they are.
+    let before = product::go(&circuit.file, &mut state, 0)
+        .map_err(|met| refusals::of_state(state_file, &state, met))?;
+    let start = product::contents(&before, &state, cells);
+    let answer = call(&circuit.file, &mut state)
+        .map_err(|met| refusals::of_state(state_file, &state, met))?;
+    files::write(args.value("o").unwrap_or(state_file), &state)?;
+    Ok(answered(args, &start, &answer, &state, cells))
 }

@@ -1,23 +1,30 @@
-//! `hub start`: a second start pulse, which the product doesn't have yet.
+//! `hub start`: a second start pulse for a run whose state is in a file.
 
-use super::{Command, Stop};
+use super::{on_state, Command, Stop};
 use crate::args::{Args, Options};
-use crate::types::{Done, Fault};
+use crate::product;
+use crate::types::{Done, DONE};
 
 pub const COMMAND: Command = Command {
     name: "start",
-    usage: "NET STATE",
-    about: "gives an idle circuit a second start pulse (comes with S-7)",
-    more: "The product has no call for it until the change request S-7 has landed.",
+    usage: "FILE STATE [-o STATE] [--times T] [--as FORM]",
+    about: "starts an idle hub again, by a start pulse in the next instant",
+    more:
+        "A hub is idle when no pulse is in flight, as it is from a program's end on. The program\n\
+           then runs once more, from the words and elements that are there; 'hub go' goes on with\n\
+           it. The state is written back, or with -o to another file; a refused one is left as it\n\
+           is. The exit status is 0.",
     example: "hub start two_boards.net two_boards.state",
     options: Options {
-        valued: &[],
-        flags: &[],
+        valued: &["o", "times", "as"],
+        flags: &["all"],
     },
     run,
 };
 
-fn run(_: &Args) -> Result<Done, Stop> {
-    let message = "a second start pulse comes with the change request S-7, which hasn't landed";
-    Err(Fault::usage(message).into())
+fn run(args: &Args) -> Result<Done, Stop> {
+    Ok(Done {
+        exit: DONE,
+        ..on_state(args, product::start)?
+    })
 }

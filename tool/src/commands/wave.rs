@@ -5,22 +5,25 @@ use crate::args::{Args, Options};
 use crate::input::{Circuit, Given};
 use crate::json::Json;
 use crate::refusals::{self, Report};
-use crate::store::{self, Store};
+use crate::store;
 use crate::types::{Done, Refusal};
+use crate::wave::course::Course;
 use crate::wave::{choice, record, svg, terminal, vcd, Shows, Waveforms};
 use crate::{output, product};
 
 pub const COMMAND: Command = Command {
     name: "wave",
-    usage: "FILE [xK=N aK[I]=N ..] [--from A] [--to B] [--wires W,.. | --all] [-o x.vcd | x.svg]",
+    usage: "FILE [xK=N aK[I]=N ..] [--from A] [--to B] [--starts S,..] [--wires W,.. | --all] [-o x.vcd | x.svg]",
     about: "shows how wires go up and down in a run: in the terminal, as VCD for GTKWave, as SVG",
     more: "Shown are start, finish, the words that are written, and each statement's start and\n\
         finish, named by its kind and node, as while1.start; with --all all words. --wires\n\
-        chooses some of them, cells by number, or elements, as a2[5]; NAME=WIRE gives a wire\n\
-        another name. Without --to the waves go to the finish, at most 240 instants.",
+        chooses some of them, cells by number, elements, as a2[5], or in_flight, the number of\n\
+        pulses in flight; NAME=WIRE gives a wire another name. --starts says at which instants\n\
+        the hub is started again. Without --to the waves go to the last finish, at most 240\n\
+        instants.",
     example: "hub wave examples/two_boards.hub x0=1 x1=2 --to 40",
     options: Options {
-        valued: &["as", "times", "from", "to", "wires", "o"],
+        valued: &["as", "times", "from", "to", "starts", "wires", "o"],
         flags: &["all"],
     },
     run,
@@ -42,17 +45,26 @@ fn run(args: &Args) -> Result<Done, Stop> {
         args.flag("all"),
     )?;
     let from = instant(args, &circuit, "from")?.unwrap_or(0);
-    let to = match instant(args, &circuit, "to")? {
+    let to = instant(args, &circuit, "to")?;
+    let starts = starts(args, &circuit, to)?;
+    let begin = || Course::begin(&circuit.file, &start, &starts);
+    let mut course = begin().map_err(|met| given.refused(met))?;
+    let to = match to {
         Some(to) => to,
-        None => last(&circuit, &start, from).map_err(|met| given.refused(met))?,
+        None => {
+            let last = last(&mut course, from, &starts);
+            last.map_err(|met| refused(&given, &course, met))?
+        }
     };
     if to < from {
         return Err(args
             .fault(format!("--to {to} is before --from {from}"))
             .into());
     }
-    let waves = record::record(&circuit.file, &start, wires, from, to);
-    let waves = waves.map_err(|met| given.refused(met))?;
+    course = begin().map_err(|met| given.refused(met))?;
+    let cells = circuit.netlist.cells.len();
+    let waves = record::record(&mut course, cells, wires, from, to);
+    let waves = waves.map_err(|met| refused(&given, &course, met))?;
     shown(args, &waves)
 }
 
@@ -61,22 +73,65 @@ fn instant(args: &Args, circuit: &Circuit, name: &str) -> Result<Option<u32>, St
     let Some(instant) = args.number(name)? else {
         return Ok(None);
     };
-    product::check_budget(&circuit.file, instant).map_err(|met| Report {
-        remedy: format!("give a smaller --{name}"),
-        ..refusals::plain(&format!("--{name}"), met)
-    })?;
+    check_reach(circuit, name, instant)?;
     Ok(Some(instant))
 }
 
-/// The last instant that is shown: a little after the finish.
-fn last(circuit: &Circuit, start: &Store, from: u32) -> Result<u32, Refusal> {
-    let most = from + MOST;
-    let (mut state, mut answer) = product::begin(&circuit.file, start)?;
-    if !answer.ended {
-        answer = product::go(&circuit.file, &mut state, most)?;
+fn check_reach(circuit: &Circuit, name: &str, instant: u32) -> Result<(), Report> {
+    product::check_budget(&circuit.file, instant).map_err(|met| Report {
+        remedy: format!("give a smaller --{name}"),
+        ..refusals::plain(&format!("--{name}"), met)
+    })
+}
+
+/// The instants of second starts, none after the last that is shown.
+fn starts(args: &Args, circuit: &Circuit, to: Option<u32>) -> Result<Vec<u32>, Stop> {
+    let Some(value) = args.value("starts") else {
+        return Ok(Vec::new());
+    };
+    let instants: Result<Vec<u32>, _> = value.split(',').map(str::parse).collect();
+    let rise = |instants: &Vec<u32>| {
+        instants.first() > Some(&0) && instants.is_sorted_by(|earlier, later| earlier < later)
+    };
+    let Some(instants) = instants.ok().filter(rise) else {
+        let form = "wants instants after 0, the earlier first, with commas between them";
+        return Err(args.fault(format!("--starts {form}, not '{value}'")).into());
+    };
+    for &start in &instants {
+        check_reach(circuit, "starts", start)?;
+        if let Some(to) = to.filter(|to| *to < start) {
+            return Err(args
+                .fault(format!("--starts {start} is after --to {to}"))
+                .into());
+        }
     }
-    Ok(match answer.ended {
-        true => (answer.instant + AFTER).clamp(from + AFTER, most),
+    Ok(instants)
+}
+
+/// Why a run stops at a refusal, most likely of a start.
+fn refused(given: &Given, course: &Course, met: Refusal) -> Stop {
+    if met.number != 23 {
+        return given.refused(met);
+    }
+    let name = format!("--starts {}", course.answer.instant + 1);
+    Report {
+        remedy: "start it again at a later instant".to_string(),
+        ..refusals::of_state(&name, &course.state, met)
+    }
+    .into()
+}
+
+/// The last instant that is shown: a little after the finish that comes after
+/// the last start.
+fn last(course: &mut Course, from: u32, starts: &[u32]) -> Result<u32, Refusal> {
+    let start = starts.last().copied().unwrap_or(0);
+    let most = from.max(start) + MOST;
+    course.reach(start)?;
+    if !course.answer.ended {
+        course.go(most)?;
+    }
+    Ok(match course.answer.ended {
+        true => (course.answer.instant + AFTER).clamp(from + AFTER, most),
         false => most,
     })
 }
@@ -105,6 +160,7 @@ fn json(waves: &Waveforms) -> Json {
                 let (cell, element) = match wire.shows {
                     Shows::Cell(cell) => (Json::number(cell), Json::Null),
                     Shows::Element(place) => (Json::Null, Json::text(store::name(place))),
+                    Shows::InFlight => (Json::Null, Json::Null),
                 };
                 Json::Object(vec![
                     ("name", Json::text(&wire.name)),

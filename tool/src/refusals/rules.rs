@@ -129,14 +129,14 @@ pub const RULES: &[Rule] = &[
         14,
         Counts::Nothing,
         "this state is shorter than a state of the netlist is",
-        "give the state that 'hub begin' or 'hub go' wrote for this netlist",
+        "give the state that 'hub begin', 'hub go' or 'hub start' wrote for this netlist",
     ),
     rule_of(
         15,
         Counts::Nothing,
-        "no run of the netlist could leave this state: \
-         a control wire is neither 0 nor 1, or bits are set where the cell holds none",
-        "give the state that 'hub begin' or 'hub go' wrote for this netlist",
+        "no run of the netlist could leave this state: a control wire is neither 0 nor 1, \
+         bits are set where the cell holds none, or the number in flight isn't that of its cells",
+        "give the state that 'hub begin', 'hub go' or 'hub start' wrote for this netlist",
     ),
     rule_of(
         16,
@@ -180,5 +180,11 @@ pub const RULES: &[Rule] = &[
         Counts::Nodes,
         "this exit has no loop around it, or a parallel statement stands between it and that loop",
         "put the exit into the loop that it is to end",
+    ),
+    rule_of(
+        23,
+        Counts::Nothing,
+        "a hub is started again only when it is idle, and here pulses are still in flight",
+        "go on with 'hub go' until it is idle, and start it then",
     ),
 ];

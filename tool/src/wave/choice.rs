@@ -8,7 +8,7 @@ use crate::labels::{self, Labels};
 use crate::store;
 use crate::types::{Fault, Netlist};
 
-/// The wires asked for, elements among them, or else those that have a name:
+/// The wires asked for, elements and the number in flight among them, or else those that have a name:
 /// all, or all but memories that nothing writes to.
 pub fn wires(
     circuit: &Circuit,
@@ -36,7 +36,7 @@ pub fn wires(
 fn moves(circuit: &Circuit, wire: &Wire) -> bool {
     match wire.shows {
         Shows::Cell(cell) => !is_idle(&circuit.netlist.cells[usize::from(cell)]),
-        Shows::Element(_) => true,
+        Shows::Element(_) | Shows::InFlight => true,
     }
 }
 
@@ -104,6 +104,7 @@ fn chosen(named: &[Wire], netlist: &Netlist, word: &str) -> Result<Wire, Fault> 
         Some(known) => known.clone(),
         None => of_cell(netlist, wire)
             .or_else(|| of_element(wire))
+            .or_else(|| of_flight(wire))
             .ok_or_else(|| unknown(named, wire))?,
     };
     Ok(match own {
@@ -144,10 +145,23 @@ fn of_element(name: &str) -> Option<Wire> {
     })
 }
 
+/// The number in flight, which is asked for by its name alone.
+fn of_flight(name: &str) -> Option<Wire> {
+    (name == IN_FLIGHT).then(|| Wire {
+        name: name.to_string(),
+        about: String::new(),
+        shows: Shows::InFlight,
+        control: false,
+    })
+}
+
+const IN_FLIGHT: &str = "in_flight";
+
 fn unknown(named: &[Wire], name: &str) -> Fault {
     let names: Vec<&str> = named.iter().map(|wire| wire.name.as_str()).collect();
     let names = names.join(", ");
     Fault::usage(format!(
-        "no wire is called '{name}'; there are cells by number, elements as a2[5], and {names}"
+        "no wire is called '{name}'; there are cells by number, elements as a2[5], {IN_FLIGHT}, \
+         and {names}"
     ))
 }

@@ -1,7 +1,8 @@
-//! Waveforms: the values of named wires over a stretch of a run (`record`), as
-//! VCD (`vcd`), as a picture (`svg`) or as characters (`terminal`).
+//! Waveforms: the values of named wires over a stretch (`record`) of a run
+//! (`course`), as VCD (`vcd`), as a picture (`svg`) or as characters (`terminal`).
 
 pub mod choice;
+pub mod course;
 pub mod record;
 pub mod svg;
 pub mod terminal;
@@ -18,11 +19,13 @@ pub struct Wire {
     pub control: bool,
 }
 
-/// What a wire shows: a cell, or an element by its place in the store.
+/// What a wire shows: a cell, an element by its place in the store, or how many
+/// pulses are in flight.
 #[derive(Clone, Copy, Debug, PartialEq, Eq)]
 pub enum Shows {
     Cell(u16),
     Element(usize),
+    InFlight,
 }
 
 /// The values of wires from one instant up to another, that one too.
@@ -32,15 +35,15 @@ pub struct Waveforms {
     pub to: u32,
     pub wires: Vec<Wire>,
     /// For each wire, a value for each instant.
-    pub values: Vec<Vec<u16>>,
+    pub values: Vec<Vec<u32>>,
 }
 
 /// A stretch of instants in which a wire keeps a value: from, up to, value;
 /// both ends count from the first instant.
-pub type Stretch = (usize, usize, u16);
+pub type Stretch = (usize, usize, u32);
 
 /// The stretches of a wire's values.
-pub fn stretches(values: &[u16]) -> Vec<Stretch> {
+pub fn stretches(values: &[u32]) -> Vec<Stretch> {
     let mut all: Vec<Stretch> = Vec::new();
     for (at, &value) in values.iter().enumerate() {
         match all.last_mut() {

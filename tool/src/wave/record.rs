@@ -1,32 +1,28 @@
 //! A run, one instant at a time, and what wires show in it.
 
+use super::course::Course;
 use super::{Shows, Waveforms, Wire};
-use crate::layout::{element_in, netlist_in, value_in};
-use crate::product;
-use crate::store::Store;
+use crate::layout::{element_in, in_flight_in, value_in};
 use crate::types::Refusal;
 
-/// The values of these wires from one instant up to another.
+/// The values of these wires from one instant up to another, in a run of so
+/// many cells that hasn't come further than the first.
 pub fn record(
-    file: &[u8],
-    start: &Store,
+    course: &mut Course,
+    cells: usize,
     wires: Vec<Wire>,
     from: u32,
     to: u32,
 ) -> Result<Waveforms, Refusal> {
-    let (mut state, _) = product::begin(file, start)?;
-    let cells = netlist_in(file).cells.len();
-    reach(file, &mut state, from)?;
     let mut values = vec![Vec::new(); wires.len()];
     for instant in from..=to {
+        course.reach(instant)?;
         for (wire, values) in wires.iter().zip(&mut values) {
             values.push(match wire.shows {
-                Shows::Cell(cell) => value_in(&state, cell),
-                Shows::Element(place) => element_in(&state, cells, place),
+                Shows::Cell(cell) => value_in(&course.state, cell).into(),
+                Shows::Element(place) => element_in(&course.state, cells, place).into(),
+                Shows::InFlight => in_flight_in(&course.state),
             });
-        }
-        if instant < to {
-            product::go(file, &mut state, 1)?;
         }
     }
     Ok(Waveforms {
@@ -35,13 +31,4 @@ pub fn record(
         wires,
         values,
     })
-}
-
-/// Goes on to an instant, over finishes on the way.
-fn reach(file: &[u8], state: &mut [u8], instant: u32) -> Result<(), Refusal> {
-    let mut at = 0;
-    while at < instant {
-        at = product::go(file, state, instant - at)?.instant;
-    }
-    Ok(())
 }

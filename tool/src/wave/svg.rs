@@ -90,7 +90,7 @@ fn axis(text: &mut String, waves: &Waveforms, scale: &Scale) {
 }
 
 /// A control wire: one line that is high during each pulse.
-fn control(text: &mut String, values: &[u16], top: usize, scale: &Scale) {
+fn control(text: &mut String, values: &[u32], top: usize, scale: &Scale) {
     let mut path = String::new();
     for (from, to, value) in stretches(values) {
         let y = if value == 0 { top + 16 } else { top };
@@ -101,7 +101,7 @@ fn control(text: &mut String, values: &[u16], top: usize, scale: &Scale) {
 }
 
 /// A word: a band for each stretch, with the value in it where there is room.
-fn word(text: &mut String, values: &[u16], top: usize, scale: &Scale) {
+fn word(text: &mut String, values: &[u32], top: usize, scale: &Scale) {
     for (from, to, value) in stretches(values) {
         let (x, width) = (scale.x(from), scale.x(to) - scale.x(from));
         let _ = writeln!(

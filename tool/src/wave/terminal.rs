@@ -48,13 +48,13 @@ fn axis(from: usize, count: usize) -> String {
     line
 }
 
-fn control(values: &[u16]) -> String {
-    let level = |value: &u16| if *value == 0 { LOW } else { HIGH };
+fn control(values: &[u32]) -> String {
+    let level = |value: &u32| if *value == 0 { LOW } else { HIGH };
     values.iter().map(level).collect()
 }
 
 /// A word's values, each where it begins.
-fn word(values: &[u16]) -> String {
+fn word(values: &[u32]) -> String {
     let mut line = String::new();
     for (from, to, value) in stretches(values) {
         let value = value.to_string();

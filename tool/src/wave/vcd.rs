@@ -1,7 +1,7 @@
 //! Waveforms as a value change dump, which GTKWave and other viewers open. An
 //! instant is a nanosecond; a statement's wires stand in a scope of its own.
 
-use super::{Waveforms, Wire};
+use super::{Shows, Waveforms, Wire};
 use std::fmt::Write;
 
 /// The file.
@@ -48,9 +48,11 @@ fn enter<'w>(text: &mut String, open: &mut Option<&'w str>, next: Option<&'w str
 fn declare(text: &mut String, wire: &Wire, number: usize) {
     // In a dump brackets are for bits: an element is called a2_5.
     let name = split(&wire.name).1.replace('[', "_").replace(']', "");
-    let _ = match wire.control {
-        true => writeln!(text, "$var wire 1 {} {name} $end", code(number)),
-        false => writeln!(text, "$var wire 16 {} {name} [15:0] $end", code(number)),
+    let code = code(number);
+    let _ = match (wire.control, wire.shows) {
+        (true, _) => writeln!(text, "$var wire 1 {code} {name} $end"),
+        (false, Shows::InFlight) => writeln!(text, "$var wire 32 {code} {name} [31:0] $end"),
+        (false, _) => writeln!(text, "$var wire 16 {code} {name} [15:0] $end"),
     };
 }
 

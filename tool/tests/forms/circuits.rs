@@ -1,6 +1,9 @@
 //! Programs with their circuits, as commands have them.
 
 use hub::input::{Circuit, Form, Given};
+use hub::store::Store;
+use hub::wave::course::Course;
+use hub::wave::{record, Waveforms, Wire};
 
 /// The circuit of a program's bytes.
 pub fn of_program(program: &[u8]) -> Circuit {
@@ -25,4 +28,17 @@ fn of(form: Form, bytes: &[u8]) -> Circuit {
         times: None,
     };
     given.circuit().expect("an accepted program")
+}
+
+/// The waves of a run of a circuit that is started again at these instants.
+pub fn recorded(
+    circuit: &Circuit,
+    (start, starts): (&Store, &[u32]),
+    wires: Vec<Wire>,
+    from: u32,
+    to: u32,
+) -> Waveforms {
+    let mut course = Course::begin(&circuit.file, start, starts).expect("a run");
+    let cells = circuit.netlist.cells.len();
+    record::record(&mut course, cells, wires, from, to).expect("a run")
 }

@@ -6,7 +6,7 @@ use crate::programs::{examples, outlines, programs, top};
 use hub::draw::{dot, svg};
 use hub::input::Circuit;
 use hub::kinds::is_idle;
-use hub::wave::{choice, record, vcd};
+use hub::wave::{choice, vcd};
 use std::fs;
 use std::io::Write;
 use std::process::{Command, Stdio};
@@ -247,7 +247,7 @@ fn pictures_of_the_examples_are_kept() {
         let bytes = text.as_bytes();
         let wires = choice::wires(&circuit, bytes, None, false).expect("wires");
         let words = std::array::from_fn(|k| 3 + k as u16);
-        let waves = record::record(&circuit.file, &words, wires, 0, 60).expect("a run");
+        let waves = circuits::recorded(&circuit, (&words, &[]), wires, 0, 60);
         for (ending, made) in [
             ("svg", svg::svg(&circuit, bytes, false).expect("a picture")),
             ("dot", dot::dot(&circuit, bytes, false).expect("a graph")),

@@ -44,7 +44,10 @@ impl Reader {
         let [_, width, code, name, ..] = words else {
             panic!("a $var of {words:?}");
         };
-        assert!(["1", "16"].contains(width), "a wire or a word");
+        assert!(
+            ["1", "16", "32"].contains(width),
+            "a wire, a word or a number"
+        );
         let name = name.split('[').next().expect("a name");
         let name = [self.scope.join("."), name.to_string()].join(".");
         assert!(
@@ -76,10 +79,10 @@ impl Reader {
 }
 
 /// The values that changes give, from one instant up to another.
-pub fn values(changes: &[(u64, u64)], from: u64, to: u64) -> Vec<u16> {
+pub fn values(changes: &[(u64, u64)], from: u64, to: u64) -> Vec<u32> {
     let at = |instant: u64| {
         let last = changes.iter().rev().find(|(when, _)| *when <= instant);
-        last.expect("a first value").1 as u16
+        last.expect("a first value").1 as u32
     };
     (from..=to).map(at).collect()
 }

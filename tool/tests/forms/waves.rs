@@ -1,13 +1,15 @@
 //! Waveforms: what they show is the run, and what is written of them can be
 //! read by others.
 
+use crate::circuits::recorded;
 use crate::pictures::assert_legible;
 use crate::programs::{examples, programs};
 use crate::vcd::{read, values, Changes};
 use crate::{circuits, programs};
+use hub::layout::in_flight_in;
 use hub::product;
 use hub::store::{self, Store};
-use hub::wave::{choice, record, svg, terminal, vcd, Waveforms};
+use hub::wave::{choice, svg, terminal, vcd, Waveforms};
 use std::fs;
 use std::process::Command;
 
@@ -25,7 +27,7 @@ fn start() -> Store {
 fn waves(program: &[u8], from: u32, to: u32) -> Waveforms {
     let circuit = circuits::of_program(program);
     let wires = choice::wires(&circuit, &[], None, false).expect("wires");
-    record::record(&circuit.file, &start(), wires, from, to).expect("a run")
+    recorded(&circuit, (&start(), &[]), wires, from, to)
 }
 
 fn all_waves() -> impl Iterator<Item = Waveforms> {
@@ -105,11 +107,12 @@ fn waves_agree_with_the_answers() {
         let file = product::compile(None, &program).expect("a netlist");
         let (mut state, mut answer) = product::begin(&file, &start()).expect("a run");
         for at in 0..=80 {
-            assert_eq!(value("start", at), Some(u16::from(at == 0)));
-            assert_eq!(value("finish", at), Some(u16::from(answer.ended)));
+            assert_eq!(value("start", at), Some(u32::from(at == 0)));
+            assert_eq!(value("finish", at), Some(u32::from(answer.ended)));
             for (variable, word) in answer.words.iter().enumerate() {
                 let shown = value(&format!("x{variable}"), at);
-                assert_eq!(shown.unwrap_or(*word), *word);
+                let word = u32::from(*word);
+                assert_eq!(shown.unwrap_or(word), word);
             }
             answer = product::go(&file, &mut state, 1).expect("an instant");
         }
@@ -125,15 +128,21 @@ fn elements_are_waves_too() {
     for program in programs() {
         let circuit = circuits::of_program(&program);
         let wires = choice::wires(&circuit, &[], Some(&names.join(",")), false).expect("wires");
-        let waves = record::record(&circuit.file, &start(), wires, 0, 90).expect("a run");
+        let waves = recorded(&circuit, (&start(), &[]), wires, 0, 90);
         let (mut state, answer) = product::begin(&circuit.file, &start()).expect("a run");
         let cells = circuit.netlist.cells.len();
         assert_eq!(product::contents(&answer, &state, cells), start());
         let mut answer = product::go(&circuit.file, &mut state, 0).expect("a run");
         for at in 0..=90 {
-            let shown: Vec<u16> = waves.values.iter().map(|values| values[at]).collect();
+            let shown: Vec<u32> = waves.values.iter().map(|values| values[at]).collect();
             let contents = product::contents(&answer, &state, cells);
-            assert_eq!(shown, contents[store::OF_ARRAYS]);
+            assert_eq!(
+                shown,
+                contents[store::OF_ARRAYS]
+                    .iter()
+                    .map(|word| u32::from(*word))
+                    .collect::<Vec<u32>>()
+            );
             answer = product::go(&circuit.file, &mut state, 1).expect("an instant");
         }
         changes += waves.values.iter().filter(|v| v[0] != v[90]).count();
@@ -143,6 +152,36 @@ fn elements_are_waves_too() {
         });
     }
     assert!(changes > 20, "{changes} elements were written");
+}
+
+/// The number in flight is what the state tells, in a run that is started again
+/// as soon as it is idle, and in its dump.
+#[test]
+fn the_number_in_flight_is_a_wave_too() {
+    let mut idle = 0;
+    for program in programs() {
+        let circuit = circuits::of_program(&program);
+        let (mut state, _) = product::begin(&circuit.file, &start()).expect("a run");
+        let (mut starts, mut numbers) = (Vec::new(), vec![in_flight_in(&state)]);
+        for instant in 1..=90 {
+            let number = in_flight_in(&state);
+            if number == 0 {
+                starts.push(instant);
+                product::start(&circuit.file, &mut state).expect("it is idle");
+            } else {
+                product::go(&circuit.file, &mut state, 1).expect("an instant");
+            }
+            numbers.push(in_flight_in(&state));
+        }
+        let wires = choice::wires(&circuit, &[], Some("start,in_flight"), false).expect("wires");
+        let waves = recorded(&circuit, (&start(), &starts), wires, 0, 90);
+        let started = (0..=90).map(|at| u32::from(at == 0 || starts.contains(&at)));
+        assert_eq!(waves.values, [started.collect(), numbers]);
+        let (dumped, _) = read(&vcd::vcd(&waves));
+        assert_same(&waves, &dumped, |name| format!("hub.{name}"));
+        idle += starts.len();
+    }
+    assert!(idle > 20, "{idle} second starts");
 }
 
 /// A terminal's lines are one character for each instant, high where the wire
@@ -162,7 +201,7 @@ fn terminals_show_each_instant() {
             let drawn: String = lines
                 .map(|line| line[begins.len()..].trim_start())
                 .collect();
-            let level = |value: &u16| if *value == 0 { '▁' } else { '█' };
+            let level = |value: &u32| if *value == 0 { '▁' } else { '█' };
             assert_eq!(
                 drawn,
                 values.iter().map(level).collect::<String>(),

@@ -26,6 +26,7 @@ const TEXTS: &[(&str, &str)] = &[
     ("twice.hub", "if x0 @1 then ok else ok end\nok\n"),
     ("empty.hub", ""),
     ("open.hub", "while 1 @1 do ok end\n"),
+    ("count.hub", "x0 := x0 + 1 @16\n"),
     ("loop.hub", "loop @1 do exit end\n"),
     ("exit.hub", "while 1 @1 do exit end\n"),
 ];
@@ -200,6 +201,11 @@ fn netlists(put: &impl Fn(&str, &[u8])) {
     put("tick.state", &state);
     put("short.state", &state[..100]);
     put("held.state", &damaged(&state, 8 + 4, 1));
+    put("number.state", &damaged(&state, 4, 2));
+    let mut idle = state;
+    product::go(&file, &mut idle, 2).expect("it ends");
+    idle[..4].copy_from_slice(&1_000_000_u32.to_le_bytes());
+    put("last.state", &idle);
 }
 
 fn damaged(bytes: &[u8], at: usize, byte: u8) -> Vec<u8> {

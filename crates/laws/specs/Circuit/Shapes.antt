@@ -5,12 +5,12 @@ use mathlib.Core.List.{List, [], _∷_}
 use mathlib.Core.Logic.{_⊎_, inl, inr, ⊎-elim}
 use Prim.Native.Nat.{ℕ, _<_, _≤_}
 use native.Mathlib.Omega.{arith}
-use lib.Dec.{eqb, leb}
+use lib.Dec.{leb}
 use lib.ListN.{length}
 use borrow.Author.Tests.{leb-true, le-leb, lt-leb}
 use Rattle.model.specs.declared.Cell.{Cell}
 use Rattle.model.specs.Word.{pick, bit, isZero}
-use Rattle.model.specs.Circuit.{cellAt, Values, Elements, element, level, delayed, merged, control, equation, startWord, Obeys, Shape, CellKinds, cellTable, shapes, hasKind, shapeIn, shape, kConstant, kComplement, kOperator, kStart, kGround, kDelay, kOr, kWhenTrue, kWhenFalse, kMerge, kMemory, kGated, kArray, kAddress, kRead, kUnknown}
+use Rattle.model.specs.Circuit.{cellAt, Sig, Values, Elements, element, level, delayed, merged, control, equation, startWord, Obeys, Shape, CellKinds, cellTable, shapes, hasKind, shapeIn, shape, kConstant, kComplement, kOperator, kStart, kGround, kDelay, kOr, kWhenTrue, kWhenFalse, kMerge, kMemory, kGated, kArray, kAddress, kRead, kUnknown}
 use Rattle.laws.specs.Refusals.Laws.{and-true, by-le, not-both}
 
 -- a kind is one of its shape's, but for the shape of no kinds
@@ -54,6 +54,18 @@ pub array-kind : (k : ℕ) → shape k ≡ kArray → k ≡ 42
 unfolding cellTable
 array-kind k e = kind-of k 42 kArray refl refl e
 
+pub delay-shape : (k : ℕ) → k ≡ 34 → shape k ≡ kDelay
+unfolding shape
+delay-shape k e = rw e
+
+pub merge-shape : (k : ℕ) → k ≡ 38 → shape k ≡ kMerge
+unfolding shape
+merge-shape k e = rw e
+
+pub memory-shape : (k : ℕ) → k ≡ 40 → shape k ≡ kMemory
+unfolding shape
+memory-shape k e = rw e
+
 pub operator-shape : (k : ℕ) → 4 ≤ k → k ≤ 9 → shape k ≡ kOperator
 unfolding shape
 operator-shape k h g =
@@ -93,28 +105,28 @@ unfolding bit
 bit-le true = omega arith
 bit-le false = omega arith
 
-shape-level : (s : Shape) (first : ℕ) (E : Elements) (W : Values) (k : ℕ) (c : Cell) (t : ℕ) → cellTable s .row .control ≡ true
-    → equation s first E W k c t ≤ 1
+shape-level : (s : Shape) (starts : Sig) (first : ℕ) (E : Elements) (W : Values) (k : ℕ) (c : Cell) (t : ℕ) → cellTable s .row .control ≡ true
+    → equation s starts first E W k c t ≤ 1
 unfolding equation cellTable
-shape-level kConstant first E W k c t e = not-both e refl
-shape-level kComplement first E W k c t e = not-both e refl
-shape-level kOperator first E W k c t e = not-both e refl
-shape-level kStart first E W k c t e = bit-le (eqb t 0)
-shape-level kGround first E W k c t e = omega arith
-shape-level kDelay first E W k c t e = bit-le (delayed (c .delay) (level W (c .a)) t)
-shape-level kOr first E W k c t e = bit-le (level W (c .a) t || level W (c .b) t)
-shape-level kWhenTrue first E W k c t e = bit-le (level W (c .a) t && not (isZero (W (c .b) t)))
-shape-level kWhenFalse first E W k c t e = bit-le (level W (c .a) t && isZero (W (c .b) t))
-shape-level kMerge first E W k c t e = bit-le (merged (level W (c .a)) (level W (c .b)) t)
-shape-level kMemory first E W k c t e = not-both e refl
-shape-level kGated first E W k c t e = not-both e refl
-shape-level kArray first E W k c t e = not-both e refl
-shape-level kAddress first E W k c t e = not-both e refl
-shape-level kRead first E W k c t e = not-both e refl
-shape-level kUnknown first E W k c t e = not-both e refl
+shape-level kConstant starts first E W k c t e = not-both e refl
+shape-level kComplement starts first E W k c t e = not-both e refl
+shape-level kOperator starts first E W k c t e = not-both e refl
+shape-level kStart starts first E W k c t e = bit-le (starts t)
+shape-level kGround starts first E W k c t e = omega arith
+shape-level kDelay starts first E W k c t e = bit-le (delayed (c .delay) (level W (c .a)) t)
+shape-level kOr starts first E W k c t e = bit-le (level W (c .a) t || level W (c .b) t)
+shape-level kWhenTrue starts first E W k c t e = bit-le (level W (c .a) t && not (isZero (W (c .b) t)))
+shape-level kWhenFalse starts first E W k c t e = bit-le (level W (c .a) t && isZero (W (c .b) t))
+shape-level kMerge starts first E W k c t e = bit-le (merged (level W (c .a)) (level W (c .b)) t)
+shape-level kMemory starts first E W k c t e = not-both e refl
+shape-level kGated starts first E W k c t e = not-both e refl
+shape-level kArray starts first E W k c t e = not-both e refl
+shape-level kAddress starts first E W k c t e = not-both e refl
+shape-level kRead starts first E W k c t e = not-both e refl
+shape-level kUnknown starts first E W k c t e = not-both e refl
 
-pub level-bound : (net : List Cell) (words : ℕ → ℕ) (W : Values) → Obeys net words W
+pub level-bound : (net : List Cell) (starts : Sig) (words : ℕ → ℕ) (W : Values) → Obeys net starts words W
     → (k : ℕ) → k < length net → control (cellAt net k .kind) ≡ true → (t : ℕ) → W k t ≤ 1
 unfolding Obeys control
-level-bound net words W h k l e t = rw (h k l t)
-    (shape-level (shape (cellAt net k .kind)) (startWord net words k) (element net words W) W k (cellAt net k) t e)
+level-bound net starts words W h k l e t = rw (h k l t)
+    (shape-level (shape (cellAt net k .kind)) starts (startWord net words k) (element net words W) W k (cellAt net k) t e)

@@ -13,10 +13,9 @@ use lib.ListN.{length, getD, take, drop, replicate, length-append, length-replic
 use lib.Seq.{getD-append-add, getD-drop, take-all, take-at, drop-append-add, drop-drop, ext-getD}
 use borrow.Author.Tests.{eq-eqb, eqb-true}
 use Rattle.model.specs.declared.Cell.{Cell}
-use Rattle.model.specs.Word.{get16, bytes16}
+use Rattle.model.specs.Word.{get16, bytes16, Bytes}
 use Rattle.model.specs.Circuit.{cellAt}
 use Rattle.model.specs.NetlistFile.{cellBytes, cellFrom, wordSum, checkFor, blockWith, block, blocks, blockAt, allZero, headerRight, countOf, finishOf, headBytes, restBytes, runningSum}
-use Rattle.model.specs.Promises.{Bytes}
 use Rattle.laws.specs.Refusals.Laws.{and-true, and-of}
 use Rattle.laws.specs.NetlistFile.RunningSum.{running-sum}
 use Rattle.laws.specs.NetlistFile.CellBytes.{from-shift, from-bytes, bytes-length, two-back, cells-back, zero-run}

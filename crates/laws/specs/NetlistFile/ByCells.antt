@@ -14,12 +14,11 @@ use lib.Seq.{sets, sets-eq, getD-take, getD-drop}
 use Rattle.model.specs.declared.Cell.{Cell}
 use Rattle.model.specs.declared.Checked.{Checked}
 use Rattle.model.specs.declared.Checked.the-variants.{Accepted}
-use Rattle.model.specs.Word.{pick, bytes16, get16}
+use Rattle.model.specs.Word.{pick, bytes16, get16, Bytes}
 use Rattle.model.specs.Circuit.{noCell, cellRow, names}
 use Rattle.model.specs.NetlistFile.{cellBytes, cellFrom, cellsAt, cellsOf, inList, inFile, countOf, finishOf, netCheck}
 use Rattle.model.specs.Calls.{writing, writeCall, readCall}
 use Rattle.model.specs.CellSlices.{renumbered, moved, behind, movedFrom, movedBytes, placing, writeCellsCall, readCellsCall}
-use Rattle.model.specs.Promises.{Bytes}
 use Rattle.model.specs.CellPromises.{SameCells}
 use Rattle.laws.specs.Refusals.Laws.{by-le}
 use Rattle.laws.specs.NetlistFile.CellBytes.{bytes-length, bytes-append, from-bytes, cells-are}

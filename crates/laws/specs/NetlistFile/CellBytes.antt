@@ -11,10 +11,9 @@ use lib.ListN.{length, getD, drop, take}
 use lib.Seq.{getD-append-add}
 use Rattle.model.specs.NetlistFile.{allZero}
 use Rattle.model.specs.declared.Cell.{Cell}
-use Rattle.model.specs.Word.{get16, bytes16}
+use Rattle.model.specs.Word.{get16, bytes16, Bytes}
 use Rattle.model.specs.Circuit.{cell, cellAt}
 use Rattle.model.specs.NetlistFile.{cellBytes, cellFrom, cellsAt}
-use Rattle.model.specs.Promises.{Bytes}
 
 -- What was written ---------------------------------------------------------------------------------------------------------------------
 

@@ -9,7 +9,7 @@ use Rattle.model.specs.Program.{programOf}
 use Rattle.model.specs.Numbering.{netlist, finish}
 use Rattle.model.specs.NetlistFile.{fileCheck}
 use Rattle.model.specs.Calls.{checkCall, compiledFile}
-use Rattle.model.specs.Promises.{Bytes}
+use Rattle.model.specs.Word.{Bytes}
 use Rattle.laws.specs.Program.Accepted.{program-fit}
 use Rattle.laws.specs.Program.Size.{few-nodes, program-low}
 use Rattle.laws.specs.Numbering.Compiled.{net-accepted, count-right}

@@ -15,7 +15,7 @@ use Rattle.model.specs.declared.Cell.{Cell}
 use Rattle.model.specs.declared.Checked.the-variants.{Accepted}
 use Rattle.model.specs.Circuit.{cellAt, noCell}
 use Rattle.model.specs.NetlistFile.{cellFrom, cellsAt, inFile, block, blockAt, blocksFor, fileOf, restBytes, countOf, finishOf, cellsOf, fileLengthWrong, sumFault, countWrong, headerFault, netCheck, fileCheck}
-use Rattle.model.specs.Promises.{Bytes}
+use Rattle.model.specs.Word.{Bytes}
 use Rattle.laws.specs.Refusals.Laws.{or-false, faultless}
 use Rattle.laws.specs.NetlistFile.Passed.{FilePassed, file-passed, count-range, count-cells}
 use Rattle.laws.specs.NetlistFile.CellBytes.{same-cell, cells-are, cell-of}

@@ -18,7 +18,8 @@ use Rattle.model.specs.declared.Written.the-variants.{Done}
 use Rattle.model.specs.Refusals.{first}
 use Rattle.model.specs.NetlistFile.{cellBytes, cellFrom, inList, fileOf, countOf, finishOf, cellsOf, countWrong, blocksFor, netCheck, fileCheck}
 use Rattle.model.specs.Calls.{Returned, overwrite, writing, cellsIn, writeChecks, writeCall, readChecks, readCall, writtenVerdict}
-use Rattle.model.specs.Promises.{Bytes, SameFile}
+use Rattle.model.specs.Word.{Bytes}
+use Rattle.model.specs.CircuitPromises.{SameFile}
 use Rattle.laws.specs.Refusals.Laws.{or-false, all-accept, refuse-unless}
 use Rattle.laws.specs.NetlistFile.Passed.{file-passed, count-range, count-cells, length-cells}
 use Rattle.laws.specs.NetlistFile.CellBytes.{bytes-length, from-bytes, cells-are, cell-of, cells-back}

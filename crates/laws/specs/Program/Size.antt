@@ -11,7 +11,7 @@ use Rattle.model.specs.declared.Checked.the-variants.{Accepted}
 use Rattle.model.specs.declared.Options.{Options}
 use Rattle.model.specs.Program.{Expr, const, var, compl, op, elem, Stmt, ok, tick, assign, assignElem, seq, par, ite, while, repeat, loop, exit, Tree, asExpr, asStmt, stmtOf, treeOf, stmtAt, nodeCount, nodeAt, programOf, preorderE, preorder}
 use Rattle.model.specs.Calls.{checkCall}
-use Rattle.model.specs.Promises.{Bytes}
+use Rattle.model.specs.Word.{Bytes}
 use Rattle.laws.specs.Program.Fit.{Timed, Short, Low}
 use Rattle.laws.specs.Program.Accepted.{program-fit}
 use Rattle.laws.specs.Program.Trees.{length-nodes, by-pick, root-has}

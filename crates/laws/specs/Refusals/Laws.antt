@@ -15,7 +15,7 @@ use Rattle.model.specs.declared.Checked.{Checked}
 use Rattle.model.specs.declared.Checked.the-variants.{Accepted, Refused}
 use Rattle.model.specs.Word.{pick}
 use Rattle.model.specs.Refusals.{refuse, refuseIf, numberOf, first, firstFault, faultIf}
-use Rattle.model.specs.Promises.{FirstFound, FirstPlace}
+use Rattle.model.specs.RefusalPromises.{FirstFound, FirstPlace}
 
 -- Tests --------------------------------------------------------------------------------------------------------------------------------
 

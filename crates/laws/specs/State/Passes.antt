@@ -2,7 +2,7 @@
 use mathlib.Core.Bool.{Bool, true, false, not, _&&_}
 use mathlib.Core.List.{List, _++_}
 use mathlib.Core.Logic.{_⊎_, inl, inr, ⊎-elim}
-use mathlib.Core.Path.{_≡_, refl, sym, _∙_, ap}
+use mathlib.Core.Path.{_≡_, refl, sym, _∙_, ap, ap₂}
 use Prim.Native.Nat.{ℕ, zero, suc, _+_, _-_, _*_, _/_, _%_, _^_, _<_, _≤_}
 use native.Mathlib.Omega.{arith}
 use native.Mathlib.Nat.{add-zero}
@@ -15,7 +15,7 @@ use Rattle.model.specs.declared.Merge.{Merge}
 use Rattle.model.specs.Word.{pick, bit, elementOf, get16, put16, get32, put32}
 use Rattle.model.specs.Circuit.{cellAt, high, mergeStep, Shape, shape, kConstant, kComplement, kOperator, kStart, kGround, kDelay, kOr, kWhenTrue, kWhenFalse, kMerge, kMemory, kGated, kArray, kAddress, kRead, kUnknown}
 use Rattle.laws.specs.Program.Trees.{by-pick}
-use Rattle.model.specs.State.{base, elementBase, nowAt, beforeAt, fallen, heldAt, lineBit, value, upTo, aged, stored, shown, shiftedIn, holding, settle, settled, stepState, beginState, instantOf, firstValue}
+use Rattle.model.specs.State.{base, elementBase, instantOf, nowAt, beforeAt, fallen, heldAt, lineBit, value, firstValue, upTo, aged, stored, shown, shiftedIn, holding, settle, settled, counted, blank, evaluate, beginState, stepState}
 
 abbrev pub shapeAt : List Cell → ℕ → Shape
 shapeAt c k = shape (cellAt c k .kind)
@@ -46,6 +46,39 @@ module _ (s : List ℕ) (i v : ℕ) where
 pub get16-same : (s t : List ℕ) (i : ℕ) → getD t i 0 ≡ getD s i 0 → getD t (i + 1) 0 ≡ getD s (i + 1) 0 → get16 t i ≡ get16 s i
 unfolding get16
 get16-same s t i h g = cc
+
+-- numbers of four bytes
+module _ (s : List ℕ) (i v : ℕ) where
+  pub put32-other : (j : ℕ) → (j < i) ⊎ (i + 4 ≤ j) → getD (put32 s i v) j 0 ≡ getD s j 0
+  unfolding put32
+  put32-other j h =
+      put16-other (put16 s i (v % 65536)) (i + 2) (v / 65536) j (λ e. off (omega arith) (omega arith)) (λ e. off (omega arith) (omega arith))
+      ∙ put16-other s i (v % 65536) j (λ e. off (omega arith) (omega arith)) (λ e. off (omega arith) (omega arith))
+    where
+      off : i ≤ j → j < i + 4 → ⊥
+      off a b = ⊎-elim (λ z. omega arith) (λ z. omega arith) h
+
+  pub length-put32 : length (put32 s i v) ≡ length s
+  unfolding put32
+  length-put32 = length-put16 (put16 s i (v % 65536)) (i + 2) (v / 65536) ∙ length-put16 s i (v % 65536)
+
+  pub put32-same : i + 3 < length s → get32 (put32 s i v) i ≡ v
+  unfolding put32 get32
+  put32-same h =
+      let t : List ℕ = put16 s i (v % 65536) in
+      let x : get16 (put16 t (i + 2) (v / 65536)) i ≡ v % 65536 =
+      get16-same t (put16 t (i + 2) (v / 65536)) i (put16-other t (i + 2) (v / 65536) i (λ e. omega arith) (λ e. omega arith))
+      (put16-other t (i + 2) (v / 65536) (i + 1) (λ e. omega arith) (λ e. omega arith))
+      ∙ put16-same s i (v % 65536) (omega arith) in
+      let y : get16 (put16 t (i + 2) (v / 65536)) (i + 2) ≡ v / 65536 =
+      put16-same t (i + 2) (v / 65536) (rw (length-put16 s i (v % 65536)) (omega arith)) in
+      omega arith
+
+pub get32-same : (s t : List ℕ) (i : ℕ) → ((j : ℕ) → i ≤ j → j < i + 4 → getD t j 0 ≡ getD s j 0) → get32 t i ≡ get32 s i
+unfolding get32
+get32-same s t i h =
+    ap₂ (λ (x y : ℕ). x + 65536 * y) (get16-same s t i (h i (omega arith) (omega arith)) (h (i + 1) (omega arith) (omega arith)))
+    (get16-same s t (i + 2) (h (i + 2) (omega arith) (omega arith)) (h (i + 2 + 1) (omega arith) (omega arith)))
 
 -- a pass that leaves byte j at every cell leaves it; where only cell k changes it, it is as cell k made it
 module _ (f : List ℕ → ℕ → List ℕ) (j : ℕ) where
@@ -155,28 +188,30 @@ length-settle kUnknown t k c = refl
 pub length-settled : (c : List Cell) (t : List ℕ) (k : ℕ) → length (settled c t k) ≡ length t
 length-settled c t k = length-settle (shapeAt c k) t k (cellAt c k)
 
--- the header: a step counts one instant more
-module _ (c : List Cell) (s : List ℕ) where
-  pub header : (i : ℕ) → i < 8 → getD (stepState c s) i 0 ≡ getD (ticked s) i 0
-  unfolding stepState ticked
-  header i h =
-      upTo-frame (settled c) i _ _ (λ t k g. settled-frame c t k i (inl (omega arith)))
-      ∙ upTo-frame (shown c (value c)) i _ _ (λ t k g. shown-frame c (value c) t k i (omega arith) (inl (omega arith)))
-      ∙ upTo-frame aged i _ _ (λ t k g. aged-frame t k i (inl (omega arith)))
+-- the number is put into bytes 4 to 7
+pub counted-other : (c : List Cell) (s : List ℕ) (j : ℕ) → (j < 4) ⊎ (8 ≤ j) → getD (counted c s) j 0 ≡ getD s j 0
+unfolding counted
+counted-other c s j h = put32-other s 4 _ j h
 
-  pub count-now : 3 < length s → get32 s 0 < 1000000 → get32 (stepState c s) 0 ≡ get32 s 0 + 1
-  unfolding get32 ticked put32
-  count-now l h =
-      let v : ℕ = get32 s 0 + 1 in
-      let t : List ℕ = put16 s 0 (v % 65536) in
-      let x : get16 (stepState c s) 0 ≡ v % 65536 =
-      get16-same (ticked s) (stepState c s) 0 (header 0 (omega arith)) (header 1 (omega arith))
-      ∙ get16-same t (ticked s) 0 (put16-other t 2 (v / 65536) 0 (λ e. omega arith) (λ e. omega arith)) (put16-other t 2 (v / 65536) 1 (λ e. omega arith) (λ e. omega arith))
-      ∙ put16-same s 0 (v % 65536) (omega arith) in
-      let y : get16 (stepState c s) 2 ≡ v / 65536 =
-      get16-same (ticked s) (stepState c s) 2 (header 2 (omega arith)) (header 3 (omega arith))
-      ∙ put16-same t 2 (v / 65536) (rw (length-put16 s 0 (v % 65536)) (omega arith)) in
-      omega arith
+pub length-counted : (c : List Cell) (s : List ℕ) → length (counted c s) ≡ length s
+unfolding counted
+length-counted c s = length-put32 s 4 _
+
+-- the header: an instant leaves the first four bytes as they are, and a step counts one instant more
+pub header : (c : List Cell) (v : List ℕ → ℕ → ℕ) (u : List ℕ) (i : ℕ) → i < 4 → getD (evaluate c v u) i 0 ≡ getD u i 0
+unfolding evaluate
+header c v u i h =
+    counted-other c _ i (inl h)
+    ∙ upTo-frame (settled c) i _ _ (λ t k g. settled-frame c t k i (inl (omega arith)))
+    ∙ upTo-frame (shown c v) i _ _ (λ t k g. shown-frame c v t k i (omega arith) (inl (omega arith)))
+
+pub count-now : (c : List Cell) (starts : Bool) (s : List ℕ) → 3 < length s → instantOf (stepState c starts s) ≡ instantOf s + 1
+unfolding stepState
+count-now c starts s l =
+    let u = put32 s 0 (instantOf s + 1) in
+    get32-same u (stepState c starts s) 0
+    (λ j x y. header c (value c starts) (upTo aged (length c) u) j y ∙ upTo-frame aged j (length c) u (λ t k g. aged-frame t k j (inl (omega arith))))
+    ∙ put32-same s 0 (instantOf s + 1) (omega arith)
 
 -- the last pass, by shape
 settled-delay : (c : List Cell) (s : List ℕ) (k : ℕ) → shapeAt c k ≡ kDelay → settled c s k ≡ shiftedIn 32 s (base k + 8) (bit (high (nowAt s (cellAt c k .a))))
@@ -194,7 +229,7 @@ bit-lt true = omega arith
 bit-lt false = omega arith
 
 -- byte j lies in cell k, and cell m is another: it lies outside of that
-apart : (k m j : ℕ) → base k ≤ j → j < base k + 40 → (m ≡ k → ⊥) → (j < base m) ⊎ (base m + 40 ≤ j)
+pub apart : (k m j : ℕ) → base k ≤ j → j < base k + 40 → (m ≡ k → ⊥) → (j < base m) ⊎ (base m + 40 ≤ j)
 apart k m j h g n = go (decLt m k)
   where
     go : Dec (m < k) → (j < base m) ⊎ (base m + 40 ≤ j)
@@ -223,14 +258,12 @@ unfolding shown
 length-shown c v t k = length-put16 (stored c t k) _ _ ∙ length-stored c t k
 
 ticked-frame : (s : List ℕ) (j : ℕ) → 4 ≤ j → getD (ticked s) j 0 ≡ getD s j 0
-unfolding ticked put32
-ticked-frame s j h =
-    put16-other (put16 s 0 ((get32 s 0 + 1) % 65536)) 2 ((get32 s 0 + 1) / 65536) j (λ e. omega arith) (λ e. omega arith)
-    ∙ put16-other s 0 ((get32 s 0 + 1) % 65536) j (λ e. omega arith) (λ e. omega arith)
+unfolding ticked
+ticked-frame s j h = put32-other s 0 (get32 s 0 + 1) j (inr h)
 
 length-ticked : (s : List ℕ) → length (ticked s) ≡ length s
-unfolding ticked put32
-length-ticked s = length-put16 (put16 s 0 ((get32 s 0 + 1) % 65536)) 2 ((get32 s 0 + 1) / 65536) ∙ length-put16 s 0 ((get32 s 0 + 1) % 65536)
+unfolding ticked
+length-ticked s = length-put32 s 0 (get32 s 0 + 1)
 
 -- ---- the first pass
 
@@ -319,7 +352,7 @@ module _ (c : List Cell) (v : List ℕ → ℕ → ℕ) (u : List ℕ) where
 unfoldable pub three : List Cell → (List ℕ → ℕ → ℕ) → List ℕ → ℕ → List ℕ
 three c v u n = upTo (settled c) n (two c v u (length c))
 
-same-held : (k : ℕ) (t u : List ℕ) → getD t (base k + 4) 0 ≡ getD u (base k + 4) 0 → getD t (base k + 5) 0 ≡ getD u (base k + 5) 0 → heldAt t k ≡ heldAt u k
+pub same-held : (k : ℕ) (t u : List ℕ) → getD t (base k + 4) 0 ≡ getD u (base k + 4) 0 → getD t (base k + 5) 0 ≡ getD u (base k + 5) 0 → heldAt t k ≡ heldAt u k
 unfolding heldAt
 same-held k t u x y = cc
 
@@ -328,7 +361,7 @@ unfolding bit
 high-bit true = refl
 high-bit false = refl
 
-held-holding : (t : List ℕ) (k : ℕ) (m : Merge) → base k + 40 ≤ length t → heldAt (holding t k m) k ≡ m
+pub held-holding : (t : List ℕ) (k : ℕ) (m : Merge) → base k + 40 ≤ length t → heldAt (holding t k m) k ≡ m
 unfolding heldAt holding
 held-holding t k m h =
     let x : getD (set (set t (base k + 4) (bit (m .a))) (base k + 5) (bit (m .b))) (base k + 4) 0 ≡ bit (m .a) =
@@ -497,6 +530,17 @@ line-bits t k i = refl
 unfoldable pub Line : List ℕ → ℕ → Type 0
 Line s k = (j : ℕ) → base k + 8 ≤ j → j < base k + 8 + 32 → getD s j 0 < 256
 
+-- the newest bit is what comes in, and each other bit was one lower
+module _ (s : List ℕ) (k x : ℕ) (low : x < 2) (bytes : Line s k) (room : base k + 40 ≤ length s) where
+  pub shifted-new : lineBit (shiftedIn 32 s (base k + 8) x) k 0 ≡ x
+  unfolding Line
+  shifted-new = line-bits (shiftedIn 32 s (base k + 8) x) k 0 ∙ newest s (base k + 8) x low bytes (omega arith)
+
+  pub shifted-old : (i : ℕ) → i < 255 → lineBit (shiftedIn 32 s (base k + 8) x) k (i + 1) ≡ lineBit s k i
+  unfolding Line
+  shifted-old i h =
+      line-bits (shiftedIn 32 s (base k + 8) x) k (i + 1) ∙ older s (base k + 8) x low bytes (omega arith) i h ∙ sym (line-bits s k i)
+
 module _ (c : List Cell) (v : List ℕ → ℕ → ℕ) (u : List ℕ) (room : 8 + 40 * (length c) ≤ length u)
     (k : ℕ) (h : k < length c) (e : shapeAt c k ≡ kDelay) (bytes : Line u k) where
   own : (j : ℕ) → base k + 8 ≤ j → j < base k + 8 + 32 → getD (three c v u k) j 0 ≡ getD u j 0
@@ -547,15 +591,15 @@ module _ (c : List Cell) (v : List ℕ → ℕ → ℕ) (u : List ℕ) (room : 8
   unfolding Line pushed input
   line-bytes j x y = omega (arith, byte-after j x y, moved (three c v u k) (base k + 8) input input-lt bytes-own fits-own j x y .2)
 
--- ---- a step is the three passes from the first pass's end
+-- ---- an instant is the second and the third pass, then the number; a step comes from the first pass's end
 
-pub step-is : (c : List Cell) (s : List ℕ) → stepState c s ≡ after c (value c) (one s (length c))
-unfolding stepState three two one ticked
-step-is c s = refl
+pub evaluate-is : (c : List Cell) (v : List ℕ → ℕ → ℕ) (u : List ℕ) → evaluate c v u ≡ counted c (after c v u)
+unfolding evaluate three two
+evaluate-is c v u = refl
 
--- the four zero bytes of the header
-pub header-kept : (c : List Cell) (s : List ℕ) (j : ℕ) → 4 ≤ j → j < 8 → getD (stepState c s) j 0 ≡ getD s j 0
-header-kept c s j x y = header c s j y ∙ ticked-frame s j x
+pub step-is : (c : List Cell) (starts : Bool) (s : List ℕ) → stepState c starts s ≡ counted c (after c (value c starts) (one s (length c)))
+unfolding stepState one ticked
+step-is c starts s = evaluate-is c (value c starts) (one s (length c))
 
 -- Beginning ----------------------------------------------------------------------------------------------------------------------------
 
@@ -563,13 +607,13 @@ pub cleared-zero : (m : ℕ) (rest : List ℕ) (j : ℕ) → j < m → getD (rep
 cleared-zero m rest j g = List·getD-append (replicate m 0) rest 0 j (rw (length-replicate {A = ℕ} m 0) g) ∙ getD-replicate {A = ℕ} m j 0 0 g
 
 module _ (net : List Cell) (words : ℕ → ℕ) (s : List ℕ) where
-  pub begin-header : (j : ℕ) → j < 8 → getD (beginState net words s) j 0 ≡ 0
+  pub begin-is : beginState net words s ≡ counted net (after net (firstValue net words) (blank net words s))
   unfolding beginState
-  begin-header j h =
-      upTo-frame (settled net) j _ _ (λ t k g. settled-frame net t k j (inl (omega arith)))
-      ∙ upTo-frame (shown net (firstValue net words)) j _ _ (λ t k g. shown-frame net (firstValue net words) t k j (omega arith) (inl (omega arith)))
-      ∙ cleared-zero (8 + 40 * length net) _ j (omega arith)
+  begin-is = evaluate-is net (firstValue net words) (blank net words s)
 
   pub begin-instant : instantOf (beginState net words s) ≡ 0
-  unfolding get32 get16
-  begin-instant = omega (arith, begin-header 0 (omega arith), begin-header 1 (omega arith), begin-header 2 (omega arith), begin-header 3 (omega arith))
+  unfolding beginState get32 get16
+  begin-instant = omega (arith, at 0 (omega arith), at 1 (omega arith), at 2 (omega arith), at 3 (omega arith))
+    where
+      at : (j : ℕ) → j < 4 → getD (evaluate net (firstValue net words) (blank net words s)) j 0 ≡ 0
+      at j h = header net (firstValue net words) (blank net words s) j h ∙ cleared-zero (8 + 40 * length net) _ j (omega arith)

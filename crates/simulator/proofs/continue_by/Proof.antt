@@ -1,7 +1,9 @@
 -- `continue_by` meets its contract. Assumes nothing.
-use mathlib.Core.Path.{sym, _∙_}
+use mathlib.Core.Path.{sym, _∙_, ap₂}
 use borrow.Author.Needs.{needs}
-use Rattle.model.specs.Calls.{continueCall}
+use Rattle.model.specs.Calls.{shows, continueCall}
+use Rattle.model.specs.NetlistFile.{cellsOf, finishOf}
+use Rattle.simulator.proofs.Continuing.{with-none}
 use Rattle.simulator.proofs.Refusing.{continue-accepted, run-refused, run-done}
 use Rattle.simulator.proofs.continue_by.Statement.{statement}
 use Rattle.simulator.proofs.continue_by.Tie as tie
@@ -20,7 +22,10 @@ unfolding continueCall
 returns-2 c =
     let told = c .before .before .before .before in
     let done = c .before .before .continue-by .ensures in
-    run-done _ _ _ _ _ _ _ (sym (told .before .before .check-continue .ensures) ∙ told .enum-told .given .1) (done .1) (done .0)
+    let args = told .before .before .before .before .before .before .args in
+    let file = args .netlist .now in
+    let none = with-none (cellsOf file) (finishOf file) (args .n) (args .state .now) in
+    run-done _ _ _ _ _ _ _ (sym (told .before .before .check-continue .ensures) ∙ told .enum-told .given .1) (done .1 ∙ ap₂ (shows file) (none .0) (none .1)) (done .0 ∙ none .0)
 
 pub continue-by-spec : {M : Type 1} → statement M
 continue-by-spec =

@@ -12,7 +12,7 @@ use borrow.Author.Tests.{eqb-true}
 use Rattle.laws.specs.Circuit.Ordered.{Looks, kinds, Ordered}
 use Rattle.model.specs.Word.{pick, bit, operate, index}
 use Rattle.model.specs.declared.Cell.{Cell}
-use Rattle.model.specs.Circuit.{cellAt, arrayAt, delayed, merged, mergeStep, heldBefore, Values, level, memory, element, Shape, cellTable, shape, cellRow, equation, startWord, Obeys}
+use Rattle.model.specs.Circuit.{cellAt, arrayAt, delayed, merged, mergeStep, heldBefore, Sig, Values, level, memory, element, Shape, cellTable, shape, cellRow, equation, startWord, Obeys}
 use Rattle.laws.specs.Numbering.Cells.{cellVal}
 use Rattle.model.specs.Circuit.{kConstant, kComplement, kOperator, kStart, kGround, kDelay, kOr, kWhenTrue, kWhenFalse, kMerge, kMemory, kGated, kArray, kAddress, kRead, kUnknown}
 
@@ -107,9 +107,9 @@ module _ (net : List Cell) (words : ℕ → ℕ) (U W : Values) where
         element-cong j i t f l (λ u lu. past u (omega arith)) (λ m lm. e m (omega arith)),
       )
 
-  module _ (fed : (j : ℕ) → j < length net → cellAt net j .kind ≡ 42 → Feeds net j) where
+  module _ (starts : Sig) (fed : (j : ℕ) → j < length net → cellAt net j .kind ≡ 42 → Feeds net j) where
     pub shape-cong : (s : Shape) (first k : ℕ) (c : Cell) (t : ℕ) → k < length net → Looks (cellTable s .row) (kinds net) (length net) k c → Before t k
-        → equation s first (element net words U) U k c t ≡ equation s first (element net words W) W k c t
+        → equation s starts first (element net words U) U k c t ≡ equation s starts first (element net words W) W k c t
     unfolding equation cellTable
     shape-cong kConstant first k c t l o h = refl
     shape-cong kComplement first k c t l o h = ap (λ (x : ℕ). operate 3 x 0) (h .1 (c .a) (o .1 .0))
@@ -134,11 +134,11 @@ module _ (net : List Cell) (words : ℕ → ℕ) (U W : Values) where
     shape-cong kUnknown first k c t l o h = refl
 
     pub cell-cong : (first k : ℕ) (c : Cell) (t : ℕ) → k < length net → Looks (cellRow (c .kind)) (kinds net) (length net) k c → Before t k
-        → cellVal first (element net words U) U k c t ≡ cellVal first (element net words W) W k c t
+        → cellVal starts first (element net words U) U k c t ≡ cellVal starts first (element net words W) W k c t
     unfolding cellVal
     cell-cong first k c t l o h = shape-cong (shape (c .kind)) first k c t l o h
 
-module _ (net : List Cell) (o : Ordered net) (words : ℕ → ℕ) (U W : Values) (hV : Obeys net words U) (hW : Obeys net words W) where
+module _ (net : List Cell) (o : Ordered net) (starts : Sig) (words : ℕ → ℕ) (U W : Values) (hV : Obeys net starts words U) (hW : Obeys net starts words W) where
   -- at instant t, if they are equal before
   row : (t : ℕ) → ((u : ℕ) → u < t → (j : ℕ) → j < length net → U j u ≡ W j u) → (k : ℕ) → k ≤ length net → (j : ℕ) → j < k → U j t ≡ W j t
   unfolding Obeys cellVal
@@ -147,7 +147,7 @@ module _ (net : List Cell) (o : Ordered net) (words : ℕ → ℕ) (U W : Values
       let ih = row t h k (omega arith) in
       ⊎-elim (λ (e : j ≡ k).
       rw e
-      (hV k l t ∙ cell-cong net words U W (feeds net o) (startWord net words k) k (cellAt net k) t l (o .looks k l) (h, ih) ∙ sym (hW k l t)))
+      (hV k l t ∙ cell-cong net words U W starts (feeds net o) (startWord net words k) k (cellAt net k) t l (o .looks k l) (h, ih) ∙ sym (hW k l t)))
       (λ (lt : j < k). ih j lt) (eq-or-lt-of-le (le-of-suc-le-suc lj))
 
   rows : (t : ℕ) (u : ℕ) → u < t → (j : ℕ) → j < length net → U j u ≡ W j u

@@ -42,46 +42,67 @@ lately w m c =
       word = λ d e s. Stable m d e s c;
     }
 
+-- what is in flight just before instant a alone
+abbrev pub aloft : ℕ → ℕ → Known
+aloft w a =
+    record {
+      delay = λ d s. Clear d s a;
+      merge = λ f₁ f₂. Empty w f₁ f₂ a;
+      answer = λ f₁ f₂. Unit {0};
+      line = λ d s. Unit {0};
+      word = λ d e s. Unit {0};
+    }
+
 abbrev pub Calm : (W : World) (P : Stmt) (s f : Sig) (g : Gives) → Built W P s f g → ℕ → Type 0
 Calm W P s f g n a = Each (calmly (W .w) (W .m) a) (W .w) (ideal (W .m)) P s f g n
 
 abbrev pub Sofar : (W : World) (P : Stmt) (s f : Sig) (g : Gives) → Built W P s f g → ℕ → Type 0
 Sofar W P s f g n c = Each (lately (W .w) (W .m) c) (W .w) (ideal (W .m)) P s f g n
 
+abbrev pub Resting : (W : World) (P : Stmt) (s f : Sig) (g : Gives) → Built W P s f g → ℕ → Type 0
+Resting W P s f g n a = Each (aloft (W .w) a) (W .w) (ideal (W .m)) P s f g n
+
 -- What is known of every cell ---------------------------------------------------------------------------------------------------------
 
--- K′ is known of a cell of which K is
-record Gains (K K′ : Known) : Type 0 where
-  delay : (d : ℕ) (s : Sig) → K .delay d s → K′ .delay d s
-  merge : (f₁ f₂ : Sig) → K .merge f₁ f₂ → K′ .merge f₁ f₂
-  line : (d : ℕ) (s : Sig) → K .line d s → K′ .line d s
-  word : (d : ℕ) (e : Expr) (s : Sig) → K .word d e s → K′ .word d e s
+-- K′ is known of a cell of which K and J are
+record Gains (K J K′ : Known) : Type 0 where
+  delay : (d : ℕ) (s : Sig) → K .delay d s → J .delay d s → K′ .delay d s
+  merge : (f₁ f₂ : Sig) → K .merge f₁ f₂ → J .merge f₁ f₂ → K′ .merge f₁ f₂
+  line : (d : ℕ) (s : Sig) → K .line d s → J .line d s → K′ .line d s
+  word : (d : ℕ) (e : Expr) (s : Sig) → K .word d e s → J .word d e s → K′ .word d e s
 
-module _ (K K′ : Known) (h : Gains K K′) (w : ℕ) (R : Reading) where
-  timer-map : (d : ℕ) (s : Sig) → Timer K d s → Timer K′ d s
-  timer-map d s p = (h .delay d s (p .0), h .line d s (p .1))
+module _ (K J K′ : Known) (h : Gains K J K′) (w : ℕ) (R : Reading) where
+  timer-both : (d : ℕ) (s : Sig) → Timer K d s → Timer J d s → Timer K′ d s
+  timer-both d s p q = (h .delay d s (p .0) (q .0), h .line d s (p .1) (q .1))
 
-  test-map : (d : ℕ) (e : Expr) (s : Sig) → Test K d e s → Test K′ d e s
-  test-map d e s p = (h .delay d s (p .0), h .line d s (p .1), h .word d e s (p .2))
+  test-both : (d : ℕ) (e : Expr) (s : Sig) → Test K d e s → Test J d e s → Test K′ d e s
+  test-both d e s p q = (h .delay d s (p .0) (q .0), h .line d s (p .1) (q .1), h .word d e s (p .2) (q .2))
 
-  delays-map : (d : ℕ) (e : Expr) (s : Sig) → Delays K w d e s → Delays K′ w d e s
-  delays-map d e s p = (test-map d e s (p .0), timer-map w (delayed d s) (p .1))
+  delays-both : (d : ℕ) (e : Expr) (s : Sig) → Delays K w d e s → Delays J w d e s → Delays K′ w d e s
+  delays-both d e s p q = (test-both d e s (p .0) (q .0), timer-both w (delayed d s) (p .1) (q .1))
 
-  each-map : (P : Stmt) (s f : Sig) (g : Gives) (n : Circuit w R P s f g) → Each K w R P s f g n → Each K′ w R P s f g n
+  each-both : (P : Stmt) (s f : Sig) (g : Gives) (n : Circuit w R P s f g) → Each K w R P s f g n → Each J w R P s f g n → Each K′ w R P s f g n
   unfolding Circuit Each
-  each-map ok s f g n p = tt
-  each-map (tick d) s f g n p = timer-map d s p
-  each-map (assign d x e) s f g n p = delays-map d e s p
-  each-map (assignElem d k i e) s f g n p = (delays-map d e s (p .0), h .word d i s (p .1))
-  each-map (seq P Q) s f g n p = (each-map P s (n .mid) (n .g₁) (n .left) (p .0), each-map Q (n .mid) f (n .g₂) (n .right) (p .1))
-  each-map (par P Q) s f g n p =
-      (h .merge (n .f₁) (n .f₂) (p .0), each-map P s (n .f₁) (n .g₁) (n .left) (p .1), each-map Q s (n .f₂) (n .g₂) (n .right) (p .2))
-  each-map (ite d e P Q) s f g n p =
-      (test-map d e s (p .0), each-map P (n .s₁) (n .f₁) (n .g₁) (n .left) (p .1), each-map Q (n .s₂) (n .f₂) (n .g₂) (n .right) (p .2))
-  each-map (while d e P) s f g n p = (test-map d e (either s (n .f₁)) (p .0), each-map P (n .s₁) (n .f₁) g (n .body) (p .1))
-  each-map (repeat d e P) s f g n p = (test-map d e (n .f₁) (p .0), each-map P (n .s₁) (n .f₁) g (n .body) (p .1))
-  each-map (loop d P) s f g n p = (timer-map d (n .f₁) (p .0), each-map P (n .s₁) (n .f₁) (n .g₁) (n .body) (p .1))
-  each-map exit s f g n p = tt
+  each-both ok s f g n p q = tt
+  each-both (tick d) s f g n p q = timer-both d s p q
+  each-both (assign d x e) s f g n p q = delays-both d e s p q
+  each-both (assignElem d k i e) s f g n p q = (delays-both d e s (p .0) (q .0), h .word d i s (p .1) (q .1))
+  each-both (seq P Q) s f g n p q =
+      (each-both P s (n .mid) (n .g₁) (n .left) (p .0) (q .0), each-both Q (n .mid) f (n .g₂) (n .right) (p .1) (q .1))
+  each-both (par P Q) s f g n p q = (
+    h .merge (n .f₁) (n .f₂) (p .0) (q .0),
+    each-both P s (n .f₁) (n .g₁) (n .left) (p .1) (q .1),
+    each-both Q s (n .f₂) (n .g₂) (n .right) (p .2) (q .2),
+  )
+  each-both (ite d e P Q) s f g n p q = (
+    test-both d e s (p .0) (q .0),
+    each-both P (n .s₁) (n .f₁) (n .g₁) (n .left) (p .1) (q .1),
+    each-both Q (n .s₂) (n .f₂) (n .g₂) (n .right) (p .2) (q .2),
+  )
+  each-both (while d e P) s f g n p q = (test-both d e (either s (n .f₁)) (p .0) (q .0), each-both P (n .s₁) (n .f₁) g (n .body) (p .1) (q .1))
+  each-both (repeat d e P) s f g n p q = (test-both d e (n .f₁) (p .0) (q .0), each-both P (n .s₁) (n .f₁) g (n .body) (p .1) (q .1))
+  each-both (loop d P) s f g n p q = (timer-both d (n .f₁) (p .0) (q .0), each-both P (n .s₁) (n .f₁) (n .g₁) (n .body) (p .1) (q .1))
+  each-both exit s f g n p q = tt
 
 -- of every circuit nothing is known
 abbrev nothing : Known
@@ -106,30 +127,43 @@ each-nothing w R exit s f g n = tt
 -- Nothing is in flight before instant 0
 pub calm-zero : (W : World) (P : Stmt) (s f : Sig) (g : Gives) (n : Built W P s f g) → Calm W P s f g n 0
 calm-zero W P s f g n =
-    each-map nothing (calmly (W .w) (W .m) 0)
+    let z = each-nothing (W .w) (ideal (W .m)) P s f g n in
+    each-both nothing nothing (calmly (W .w) (W .m) 0)
     (record {
-      delay = λ d s u t l k. absurd (omega arith);
-      merge = λ f₁ f₂ u. empty-zero (W .w) f₁ f₂;
-      line = λ d s u one v t l k. absurd (omega arith);
-      word = λ d e s u v t l k. absurd (omega arith);
+      delay = λ d s u v t l k. absurd (omega arith);
+      merge = λ f₁ f₂ u v. empty-zero (W .w) f₁ f₂;
+      line = λ d s u v one w t l k. absurd (omega arith);
+      word = λ d e s u v w t l k. absurd (omega arith);
     })
-    (W .w) (ideal (W .m)) P s f g n (each-nothing (W .w) (ideal (W .m)) P s f g n)
+    (W .w) (ideal (W .m)) P s f g n z z
 
-pub calm-sofar : (W : World) (P : Stmt) (s f : Sig) (g : Gives) (n : Built W P s f g) (a : ℕ) → Calm W P s f g n a → Sofar W P s f g n a
-calm-sofar W P s f g n a p =
-    each-map (calmly (W .w) (W .m) a) (lately (W .w) (W .m) a)
-    (record { delay = λ d s u. tt; merge = λ f₁ f₂ u. tt; line = λ d s u. u; word = λ d e s u. u }) (W .w) (ideal (W .m)) P s f g n p
+module _ (W : World) (P : Stmt) (s f : Sig) (g : Gives) (n : Built W P s f g) where
+  pub calm-sofar : (a : ℕ) → Calm W P s f g n a → Sofar W P s f g n a
+  calm-sofar a p =
+      each-both (calmly (W .w) (W .m) a) (calmly (W .w) (W .m) a) (lately (W .w) (W .m) a)
+      (record { delay = λ d s u v. tt; merge = λ f₁ f₂ u v. tt; line = λ d s u v. u; word = λ d e s u v. u }) (W .w) (ideal (W .m)) P s f g n p p
 
-pub sofar-less : (W : World) (P : Stmt) (s f : Sig) (g : Gives) (n : Built W P s f g) (c c′ : ℕ) → c′ ≤ c → Sofar W P s f g n c → Sofar W P s f g n c′
-sofar-less W P s f g n c c′ o p =
-    each-map (lately (W .w) (W .m) c) (lately (W .w) (W .m) c′)
-    (record {
-      delay = λ d s u. u;
-      merge = λ f₁ f₂ u. u;
-      line = λ d s u one v t l k. u one v t l (omega arith);
-      word = λ d e s u v t l k. u v t l (omega arith);
-    })
-    (W .w) (ideal (W .m)) P s f g n p
+  pub sofar-less : (c c′ : ℕ) → c′ ≤ c → Sofar W P s f g n c → Sofar W P s f g n c′
+  sofar-less c c′ o p =
+      each-both (lately (W .w) (W .m) c) (lately (W .w) (W .m) c) (lately (W .w) (W .m) c′)
+      (record {
+        delay = λ d s u v. u;
+        merge = λ f₁ f₂ u v. u;
+        line = λ d s u v one w t l k. u one w t l (omega arith);
+        word = λ d e s u v w t l k. u w t l (omega arith);
+      })
+      (W .w) (ideal (W .m)) P s f g n p p
+
+  -- calm is at rest with a past that is in order
+  pub calm-rests : (a : ℕ) → Calm W P s f g n a → Resting W P s f g n a
+  calm-rests a p =
+      each-both (calmly (W .w) (W .m) a) (calmly (W .w) (W .m) a) (aloft (W .w) a)
+      (record { delay = λ d s u v. u; merge = λ f₁ f₂ u v. u; line = λ d s u v. tt; word = λ d e s u v. tt }) (W .w) (ideal (W .m)) P s f g n p p
+
+  pub rests-calm : (a : ℕ) → Resting W P s f g n a → Sofar W P s f g n a → Calm W P s f g n a
+  rests-calm a p q =
+      each-both (aloft (W .w) a) (lately (W .w) (W .m) a) (calmly (W .w) (W .m) a)
+      (record { delay = λ d s u v. u; merge = λ f₁ f₂ u v. u; line = λ d s u v. v; word = λ d e s u v. v }) (W .w) (ideal (W .m)) P s f g n p q
 
 -- What holds at every instant ---------------------------------------------------------------------------------------------------------
 

@@ -19,36 +19,36 @@ use Rattle.model.specs.Rules.{eval}
 use Rattle.model.specs.Word.{operate, isZero, index, elementWord}
 use Rattle.model.specs.Circuit.{cell}
 use Rattle.model.specs.Numbering.{arrayCell, exprCount, exprWire, exprCells, ifDelayCount, ifPulse, ifDelayCells, delayCount, walkCount, exitsAt, finishWire, exitWires, loopExits, delays, walk, clockSources, dataSources, addressSources, wiresOf, ors}
-use Rattle.model.specs.Circuit.{Values, Elements, level, Shape, equation}
+use Rattle.model.specs.Circuit.{Sig, Values, Elements, level, Shape, equation}
 use Rattle.model.specs.Word.{bit}
 use Rattle.laws.specs.Numbering.Cells.{cellVal, Rule, Obeyed, split}
 use Rattle.theory.specs.Numbering.Levels.{level-of, delayed-cong, delayed-zero, anyHigh, allOr, clkOf, datOf, givesOf, joined, ||-false}
 
-op-rule : (first : ℕ) (E : Elements) (W : Values) (p k x y t : ℕ) → 4 ≤ k → k ≤ 9 → cellVal first E W p (cell k 0 x y) t ≡ operate k (W x t) (W y t)
+pub op-rule : (starts : Sig) (first : ℕ) (E : Elements) (W : Values) (p k x y t : ℕ) → 4 ≤ k → k ≤ 9 → cellVal starts first E W p (cell k 0 x y) t ≡ operate k (W x t) (W y t)
 unfolding cellVal
-op-rule first E W p k x y t h h′ = ap (λ (sh : Shape). equation sh first E W p (cell k 0 x y) t) (operator-shape k h h′)
+op-rule starts first E W p k x y t h h′ = ap (λ (sh : Shape). equation sh starts first E W p (cell k 0 x y) t) (operator-shape k h h′)
 
-module _ (first : ℕ → ℕ) (E : Elements) (W : Values) (M : ℕ) (m : ℕ → ℕ → ℕ) (shows : (x t : ℕ) → x < 16 → m t x ≡ W (M + x) t)
+module _ (starts : Sig) (first : ℕ → ℕ) (E : Elements) (W : Values) (M : ℕ) (m : ℕ → ℕ → ℕ) (shows : (x t : ℕ) → x < 16 → m t x ≡ W (M + x) t)
     (elements : (k w t : ℕ) → k < 4 → m t (elementWord k w) ≡ E (arrayCell M k) (index w) t)
     (ground : (t : ℕ) → level W 1 t ≡ false) where
-  pub expr : (e : Expr) → FormedExpr e → (c : ℕ) → Obeyed first E W c (exprCells M e c) → (t : ℕ) → W (exprWire M e c) t ≡ eval e (m t)
+  pub expr : (e : Expr) → FormedExpr e → (c : ℕ) → Obeyed starts first E W c (exprCells M e c) → (t : ℕ) → W (exprWire M e c) t ≡ eval e (m t)
   unfolding exprCells exprWire exprCount eval cellVal
   expr (const n) w c h t = h .0 t
   expr (var x) w c h t = sym (shows x t w)
   expr (compl e) w c h t =
-      let r = split (Rule first E W) c (exprCount e) (exprCells M e c) (cell 3 0 (exprWire M e c) 0 ∷ []) (e-len M e c) h in
+      let r = split (Rule starts first E W) c (exprCount e) (exprCells M e c) (cell 3 0 (exprWire M e c) 0 ∷ []) (e-len M e c) h in
       r .1 .0 t ∙ ap (λ (x : ℕ). operate 3 x 0) (expr e w c (r .0) t)
   expr (op k e f) w c h t =
-      let r = split (Rule first E W) c (exprCount e) (exprCells M e c) (exprCells M f (c + exprCount e) ++ (cell k 0 (exprWire M e c) (exprWire M f (c + exprCount e)) ∷ [])) (e-len M e c) h in
-      let q = split (Rule first E W) (c + exprCount e) (exprCount f) (exprCells M f (c + exprCount e)) (cell k 0 (exprWire M e c) (exprWire M f (c + exprCount e)) ∷ []) (e-len M f (c + exprCount e)) (r .1) in
+      let r = split (Rule starts first E W) c (exprCount e) (exprCells M e c) (exprCells M f (c + exprCount e) ++ (cell k 0 (exprWire M e c) (exprWire M f (c + exprCount e)) ∷ [])) (e-len M e c) h in
+      let q = split (Rule starts first E W) (c + exprCount e) (exprCount f) (exprCells M f (c + exprCount e)) (cell k 0 (exprWire M e c) (exprWire M f (c + exprCount e)) ∷ []) (e-len M f (c + exprCount e)) (r .1) in
       q .1 .0 t
-      ∙ op-rule (first (c + exprCount e + exprCount f)) E W (c + exprCount e + exprCount f) k (exprWire M e c) (exprWire M f (c + exprCount e)) t (w .0) (w .1)
+      ∙ op-rule starts (first (c + exprCount e + exprCount f)) E W (c + exprCount e + exprCount f) k (exprWire M e c) (exprWire M f (c + exprCount e)) t (w .0) (w .1)
       ∙ ap₂ (λ (x y : ℕ). operate k x y) (expr e (w .2) c (r .0) t) (expr f (w .3) (c + exprCount e) (q .0) t)
   expr (elem k e) w c h t =
-      let r = split (Rule first E W) c (exprCount e) (exprCells M e c) (cell 44 0 (arrayCell M k) (exprWire M e c) ∷ []) (e-len M e c) h in
+      let r = split (Rule starts first E W) c (exprCount e) (exprCells M e c) (cell 44 0 (arrayCell M k) (exprWire M e c) ∷ []) (e-len M e c) h in
       r .1 .0 t ∙ ap (λ (x : ℕ). E (arrayCell M k) (index x) t) (expr e (w .1) c (r .0) t) ∙ sym (elements k (eval e (m t)) t (w .0))
 
-  pulse-is : (δ s d : ℕ) → Obeyed first E W d (ifDelayCells δ s) → (t : ℕ) → level W (ifPulse δ s d) t ≡ delayed δ (level W s) t
+  pub pulse-is : (δ s d : ℕ) → Obeyed starts first E W d (ifDelayCells δ s) → (t : ℕ) → level W (ifPulse δ s d) t ≡ delayed δ (level W s) t
   unfolding ifDelayCells ifPulse cellVal
   pulse-is zero s d h t = sym (delayed-zero (level W s) t)
   pulse-is (suc δ) s d h t = level-of (delayed (suc δ) (level W s) t) (h .0 t)
@@ -58,14 +58,14 @@ module _ (first : ℕ → ℕ) (E : Elements) (W : Values) (M : ℕ) (m : ℕ �
   Cells P s d c = Circuit 1 (ideal m) P (level W s) (level W (finishWire P s d c)) (givesOf W (clockSources P d) (dataSources P c) (addressSources P c) (exitWires P s d c))
 
   -- the two switches
-  yes-is : (k a b t : ℕ) {v : ℕ} {D : Bool} → W k t ≡ bit (level W a t && not (eqb (W b t) 0)) → level W a t ≡ D → W b t ≡ v → level W k t ≡ D && not (isZero v)
+  pub yes-is : (k a b t : ℕ) {v : ℕ} {D : Bool} → W k t ≡ bit (level W a t && not (eqb (W b t) 0)) → level W a t ≡ D → W b t ≡ v → level W k t ≡ D && not (isZero v)
   yes-is k a b t h p q = level-of (level W a t && not (eqb (W b t) 0)) h ∙ ap₂ (λ (x : Bool) (y : ℕ). x && not (eqb y 0)) p q
 
-  no-is : (k a b t : ℕ) {v : ℕ} {D : Bool} → W k t ≡ bit (level W a t && eqb (W b t) 0) → level W a t ≡ D → W b t ≡ v → level W k t ≡ D && isZero v
+  pub no-is : (k a b t : ℕ) {v : ℕ} {D : Bool} → W k t ≡ bit (level W a t && eqb (W b t) 0) → level W a t ≡ D → W b t ≡ v → level W k t ≡ D && isZero v
   no-is k a b t h p q = level-of (level W a t && eqb (W b t) 0) h ∙ ap₂ (λ (x : Bool) (y : ℕ). x && eqb y 0) p q
 
   -- an assignment's contributions
-  own-clock : (x d y t : ℕ) → clkOf W ((x, d) ∷ []) y t ≡ pick (eqb y x) (level W d t) false
+  pub own-clock : (x d y t : ℕ) → clkOf W ((x, d) ∷ []) y t ≡ pick (eqb y x) (level W d t) false
   unfolding wiresOf anyHigh
   own-clock x d y t = go (eqb x y) refl
     where
@@ -73,7 +73,7 @@ module _ (first : ℕ → ℕ) (E : Elements) (W : Values) (M : ℕ) (m : ℕ �
       go true e = rw (e, eq-eqb y x (sym (eqb-true x y e))) (||-false (level W d t))
       go false e = rw (e, ne-eqb y x (λ z. eqb-false x y e (sym z)))
 
-  own-data : (x g y t : ℕ) → datOf W ((x, g) ∷ []) y t ≡ pick (eqb y x) (W g t) 0
+  pub own-data : (x g y t : ℕ) → datOf W ((x, g) ∷ []) y t ≡ pick (eqb y x) (W g t) 0
   unfolding wiresOf allOr
   own-data x g y t = go (eqb x y) refl
     where
@@ -82,18 +82,18 @@ module _ (first : ℕ → ℕ) (E : Elements) (W : Values) (M : ℕ) (m : ℕ �
       go false e = rw (e, ne-eqb y x (λ z. eqb-false x y e (sym z)))
 
   -- a kind 41 on an assignment's first delay
-  gated-is : (x g d k y t : ℕ) (D : Bool) (v : ℕ) → W g t ≡ pick (level W d t) (W k t) 0 → level W d t ≡ D → W k t ≡ v
+  pub gated-is : (x g d k y t : ℕ) (D : Bool) (v : ℕ) → W g t ≡ pick (level W d t) (W k t) 0 → level W d t ≡ D → W k t ≡ v
       → datOf W ((x, g) ∷ []) y t ≡ pick (eqb y x) (pick D v 0) 0
   gated-is x g d k y t D v h p q =
       own-data x g y t ∙ ap (λ (z : ℕ). pick (eqb y x) z 0) (h ∙ ap₂ (λ (b : Bool) (z : ℕ). pick b z 0) p q)
 
-  no-address : (p q : Bool) → _≡_ {A = ℕ} 0 (pick p (pick q 0 0) 0)
+  pub no-address : (p q : Bool) → _≡_ {A = ℕ} 0 (pick p (pick q 0 0) 0)
   no-address true true = refl
   no-address true false = refl
   no-address false q = refl
 
-  pub struct : (P : Stmt) → Formed P → (s d c : ℕ)
-      → Obeyed first E W d (delays P s d c) → Obeyed first E W c (walk M P s d c)
+  unfoldable pub struct : (P : Stmt) → Formed P → (s d c : ℕ)
+      → Obeyed starts first E W d (delays P s d c) → Obeyed starts first E W c (walk M P s d c)
       → Cells P s d c
   unfolding Circuit delays walk finishWire clockSources dataSources addressSources cellVal delayCount walkCount anyHigh allOr wiresOf
   struct ok w s d c hd hw =
@@ -108,7 +108,7 @@ module _ (first : ℕ → ℕ) (E : Elements) (W : Values) (M : ℕ) (m : ℕ �
         out = λ t. refl;
       }
   struct (assign δ x e) w s d c hd hw =
-      let r = split (Rule first E W) c (exprCount e) (exprCells M e c) (cell 41 0 d (exprWire M e c) ∷ []) (e-len M e c) hw in
+      let r = split (Rule starts first E W) c (exprCount e) (exprCells M e c) (cell 41 0 d (exprWire M e c) ∷ []) (e-len M e c) hw in
       let D : (t : ℕ) → level W d t ≡ delayed δ (level W s) t = λ t. level-of (delayed δ (level W s) t) (hd .0 t) in
       record {
         fin = λ t. level-of (delayed 1 (level W d) t) (hd .1 .0 t) ∙ delayed-cong 1 D t;
@@ -124,8 +124,8 @@ module _ (first : ℕ → ℕ) (E : Elements) (W : Values) (M : ℕ) (m : ℕ �
       let cg = ce + exprCount e in
       let o = cell 41 0 d (exprWire M e ce) in
       let o′ = cell 41 0 d (exprWire M i c) in
-      let ri = split (Rule first E W) c (exprCount i) (exprCells M i c) (exprCells M e ce ++ (o ∷ (o′ ∷ []))) (e-len M i c) hw in
-      let re = split (Rule first E W) ce (exprCount e) (exprCells M e ce) (o ∷ (o′ ∷ [])) (e-len M e ce) (ri .1) in
+      let ri = split (Rule starts first E W) c (exprCount i) (exprCells M i c) (exprCells M e ce ++ (o ∷ (o′ ∷ []))) (e-len M i c) hw in
+      let re = split (Rule starts first E W) ce (exprCount e) (exprCells M e ce) (o ∷ (o′ ∷ [])) (e-len M e ce) (ri .1) in
       let D : (t : ℕ) → level W d t ≡ delayed δ (level W s) t = λ t. level-of (delayed δ (level W s) t) (hd .0 t) in
       record {
         fin = λ t. level-of (delayed 1 (level W d) t) (hd .1 .0 t) ∙ delayed-cong 1 D t;
@@ -137,8 +137,8 @@ module _ (first : ℕ → ℕ) (E : Elements) (W : Values) (M : ℕ) (m : ℕ �
       }
   struct (seq P Q) w s d c hd hw =
       let g = finishWire P s d c in
-      let rd = split (Rule first E W) d (delayCount P) (delays P s d c) (delays Q g (d + delayCount P) (c + walkCount P)) (d-len P s d c) hd in
-      let rc = split (Rule first E W) c (walkCount P) (walk M P s d c) (walk M Q g (d + delayCount P) (c + walkCount P)) (w-len M P s d c) hw in
+      let rd = split (Rule starts first E W) d (delayCount P) (delays P s d c) (delays Q g (d + delayCount P) (c + walkCount P)) (d-len P s d c) hd in
+      let rc = split (Rule starts first E W) c (walkCount P) (walk M P s d c) (walk M Q g (d + delayCount P) (c + walkCount P)) (w-len M P s d c) hw in
       record {
         mid = level W g;
         g₁ = givesOf W (clockSources P d) (dataSources P c) (addressSources P c) (exitWires P s d c);
@@ -152,9 +152,9 @@ module _ (first : ℕ → ℕ) (E : Elements) (W : Values) (M : ℕ) (m : ℕ �
   struct (par P Q) w s d c hd hw =
       let f = finishWire P s d c in
       let g = finishWire Q s (d + delayCount P) (c + walkCount P) in
-      let rd = split (Rule first E W) d (delayCount P) (delays P s d c) (delays Q s (d + delayCount P) (c + walkCount P)) (d-len P s d c) hd in
-      let rc = split (Rule first E W) c (walkCount P) (walk M P s d c) (walk M Q s (d + delayCount P) (c + walkCount P) ++ (cell 38 0 f g ∷ [])) (w-len M P s d c) hw in
-      let rm = split (Rule first E W) (c + walkCount P) (walkCount Q) (walk M Q s (d + delayCount P) (c + walkCount P)) (cell 38 0 f g ∷ []) (w-len M Q s (d + delayCount P) (c + walkCount P)) (rc .1) in
+      let rd = split (Rule starts first E W) d (delayCount P) (delays P s d c) (delays Q s (d + delayCount P) (c + walkCount P)) (d-len P s d c) hd in
+      let rc = split (Rule starts first E W) c (walkCount P) (walk M P s d c) (walk M Q s (d + delayCount P) (c + walkCount P) ++ (cell 38 0 f g ∷ [])) (w-len M P s d c) hw in
+      let rm = split (Rule starts first E W) (c + walkCount P) (walkCount Q) (walk M Q s (d + delayCount P) (c + walkCount P)) (cell 38 0 f g ∷ []) (w-len M Q s (d + delayCount P) (c + walkCount P)) (rc .1) in
       record {
         f₁ = level W f;
         g₁ = givesOf W (clockSources P d) (dataSources P c) (addressSources P c) (exitWires P s d c);
@@ -173,14 +173,14 @@ module _ (first : ℕ → ℕ) (E : Elements) (W : Values) (M : ℕ) (m : ℕ �
       let cP = p + 1 + 1 in
       let f = finishWire P p dP cP in
       let g = finishWire Q (p + 1) (dP + delayCount P) (cP + walkCount P) in
-      let ro = split (Rule first E W) d (ifDelayCount δ) (ifDelayCells δ s) (delays P p dP cP ++ delays Q (p + 1) (dP + delayCount P) (cP + walkCount P)) (own-len δ s) hd in
-      let rd = split (Rule first E W) dP (delayCount P) (delays P p dP cP) (delays Q (p + 1) (dP + delayCount P) (cP + walkCount P)) (d-len P p dP cP) (ro .1) in
+      let ro = split (Rule starts first E W) d (ifDelayCount δ) (ifDelayCells δ s) (delays P p dP cP ++ delays Q (p + 1) (dP + delayCount P) (cP + walkCount P)) (own-len δ s) hd in
+      let rd = split (Rule starts first E W) dP (delayCount P) (delays P p dP cP) (delays Q (p + 1) (dP + delayCount P) (cP + walkCount P)) (d-len P p dP cP) (ro .1) in
       let o6 = cell 36 0 (ifPulse δ s d) (exprWire M e c) in
       let o7 = cell 37 0 (ifPulse δ s d) (exprWire M e c) in
       let tail = walk M Q (p + 1) (dP + delayCount P) (cP + walkCount P) ++ (cell 35 0 f g ∷ []) in
-      let re = split (Rule first E W) c (exprCount e) (exprCells M e c) (o6 ∷ (o7 ∷ (walk M P p dP cP ++ tail))) (e-len M e c) hw in
-      let rP = split (Rule first E W) cP (walkCount P) (walk M P p dP cP) tail (w-len M P p dP cP) (re .1 .1 .1) in
-      let rQ = split (Rule first E W) (cP + walkCount P) (walkCount Q) (walk M Q (p + 1) (dP + delayCount P) (cP + walkCount P)) (cell 35 0 f g ∷ []) (w-len M Q (p + 1) (dP + delayCount P) (cP + walkCount P)) (rP .1) in
+      let re = split (Rule starts first E W) c (exprCount e) (exprCells M e c) (o6 ∷ (o7 ∷ (walk M P p dP cP ++ tail))) (e-len M e c) hw in
+      let rP = split (Rule starts first E W) cP (walkCount P) (walk M P p dP cP) tail (w-len M P p dP cP) (re .1 .1 .1) in
+      let rQ = split (Rule starts first E W) (cP + walkCount P) (walkCount Q) (walk M Q (p + 1) (dP + delayCount P) (cP + walkCount P)) (cell 35 0 f g ∷ []) (w-len M Q (p + 1) (dP + delayCount P) (cP + walkCount P)) (rP .1) in
       let D : (t : ℕ) → level W (ifPulse δ s d) t ≡ delayed δ (level W s) t = pulse-is δ s d (ro .0) in
       let shown : (t : ℕ) → W (exprWire M e c) t ≡ eval e (m t) = expr e (w .1) c (re .0) in
       record {
@@ -204,8 +204,8 @@ module _ (first : ℕ → ℕ) (E : Elements) (W : Values) (M : ℕ) (m : ℕ �
       let p = c + exprCount e in
       let cP = p + 1 + 1 in
       let f = finishWire P p (d + 1) cP in
-      let re = split (Rule first E W) c (exprCount e) (exprCells M e c) _ (e-len M e c) hw in
-      let rP = split (Rule first E W) cP (walkCount P) (walk M P p (d + 1) cP) (cell 35 0 s f ∷ []) (w-len M P p (d + 1) cP) (re .1 .1 .1) in
+      let re = split (Rule starts first E W) c (exprCount e) (exprCells M e c) _ (e-len M e c) hw in
+      let rP = split (Rule starts first E W) cP (walkCount P) (walk M P p (d + 1) cP) (cell 35 0 s f ∷ []) (w-len M P p (d + 1) cP) (re .1 .1 .1) in
       let D : (t : ℕ) → level W d t ≡ delayed δ (λ u. level W s u || level W f u) t =
       λ t. level-of (delayed δ (level W (cP + walkCount P)) t) (hd .0 t) ∙ delayed-cong δ (λ u. level-of (level W s u || level W f u) (rP .1 .0 u)) t in
       let shown : (t : ℕ) → W (exprWire M e c) t ≡ eval e (m t) = expr e (w .1) c (re .0) in
@@ -220,7 +220,7 @@ module _ (first : ℕ → ℕ) (E : Elements) (W : Values) (M : ℕ) (m : ℕ �
       let p = c + exprCount e in
       let cP = p + 1 + 1 + 1 in
       let f = finishWire P (p + 1 + 1) (d + 1) cP in
-      let re = split (Rule first E W) c (exprCount e) (exprCells M e c) _ (e-len M e c) hw in
+      let re = split (Rule starts first E W) c (exprCount e) (exprCells M e c) _ (e-len M e c) hw in
       let D : (t : ℕ) → level W d t ≡ delayed δ (level W f) t = λ t. level-of (delayed δ (level W f) t) (hd .0 t) in
       let shown : (t : ℕ) → W (exprWire M e c) t ≡ eval e (m t) = expr e (w .1) c (re .0) in
       record {
@@ -232,7 +232,7 @@ module _ (first : ℕ → ℕ) (E : Elements) (W : Values) (M : ℕ) (m : ℕ �
       }
   struct (loop δ P) w s d c hd hw =
       let f = finishWire P c (d + 1) (c + 1) in
-      let r = split (Rule first E W) (c + 1) (walkCount P) (walk M P c (d + 1) (c + 1)) (ors 35 (exitsAt P c) (loopExits P d c)) (w-len M P c (d + 1) (c + 1)) (hw .1) in
+      let r = split (Rule starts first E W) (c + 1) (walkCount P) (walk M P c (d + 1) (c + 1)) (ors 35 (exitsAt P c) (loopExits P d c)) (w-len M P c (d + 1) (c + 1)) (hw .1) in
       let D : (t : ℕ) → level W d t ≡ delayed δ (level W f) t = λ t. level-of (delayed δ (level W f) t) (hd .0 t) in
       record {
         s₁ = level W c;
@@ -240,7 +240,7 @@ module _ (first : ℕ → ℕ) (E : Elements) (W : Values) (M : ℕ) (m : ℕ �
         g₁ = givesOf W (clockSources P (d + 1)) (dataSources P (c + 1)) (addressSources P (c + 1)) (loopExits P d c);
         body = struct P (w .1) c (d + 1) (c + 1) (hd .1) (r .0);
         begin = λ t. level-of (level W s t || level W d t) (hw .0 t) ∙ ap (λ (b : Bool). level W s t || b) (D t);
-        fin = ors-level first E W ground (exitsAt P c) (loopExits P d c) (r .1);
+        fin = ors-level starts first E W ground (exitsAt P c) (loopExits P d c) (r .1);
         clocks = λ y t. refl;
         words = λ y t. refl;
         addresses = λ y t. refl;

@@ -1,4 +1,4 @@
--- The structure theorem: the published netlist of a program is a circuit of the program, with its words and its start pulse.
+-- The structure theorem: the published netlist of a program is a circuit of the program, with its words and its start pulses.
 use mathlib.Core.Path.{_≡_, refl, sym, ap, ap₂, _∙_}
 use mathlib.Core.Bool.{Bool, true, false, _&&_, not}
 use mathlib.Core.List.{List, [], _∷_, _++_}
@@ -12,7 +12,7 @@ use borrow.Author.Tests.{lt-ltb, le-ltb}
 use Rattle.model.specs.declared.Cell.{Cell}
 use Rattle.model.specs.Word.{pick, bit, index, elementWord}
 use Rattle.model.specs.Program.{Stmt, ok, tick, assign, assignElem, seq, par, ite, while, repeat, loop, exit, arrayVar}
-use Rattle.model.specs.Circuit.{cell, Values, Elements, level, memory, element, memories, startWord, Obeys}
+use Rattle.model.specs.Circuit.{cell, Sig, Values, Elements, level, memory, element, memories, startWord, Obeys}
 use Rattle.model.specs.Numbering.{arrayCell, ifDelayCount, delayCount, clockSources, dataSources, addressSources, Source, wiresOf}
 use Rattle.model.specs.Numbering.{exitWires, ors, orCount, orsFrom, outsFrom, memoriesOf, netlist, finish}
 use Rattle.model.specs.Numbering.{clockAt, memoryAt, walkAt, dataAt, addressAt, clockWires, dataWires, addressWires}
@@ -31,33 +31,33 @@ use Rattle.theory.specs.Numbering.Structure.{struct}
 
 -- ---- the ors of each variable
 
-module _ (first : ℕ → ℕ) (E : Elements) (W : Values) where
-  pub outs-level : ((t : ℕ) → level W 1 t ≡ false) → (ws : List Source) (n x j : ℕ) → Obeyed first E W n (orsFrom 35 ws n x j)
+module _ (starts : Sig) (first : ℕ → ℕ) (E : Elements) (W : Values) where
+  pub outs-level : ((t : ℕ) → level W 1 t ≡ false) → (ws : List Source) (n x j : ℕ) → Obeyed starts first E W n (orsFrom 35 ws n x j)
       → (i : ℕ) → i < j → (t : ℕ) → level W (getD (outsFrom 1 ws n x j) i 0) t ≡ clkOf W ws (x + i) t
   unfolding orsFrom outsFrom
   outs-level g ws n x zero h i l t = absurd (not-suc-le-zero l)
   outs-level g ws n x (suc j) h zero l t =
-      let r = split (Rule first E W) n (orCount (wiresOf x ws)) (ors 35 n (wiresOf x ws)) (orsFrom 35 ws (n + orCount (wiresOf x ws)) (x + 1) j) (ors-len 35 n (wiresOf x ws)) h in
-      rw (add-zero x) (ors-level first E W g n (wiresOf x ws) (r .0) t)
+      let r = split (Rule starts first E W) n (orCount (wiresOf x ws)) (ors 35 n (wiresOf x ws)) (orsFrom 35 ws (n + orCount (wiresOf x ws)) (x + 1) j) (ors-len 35 n (wiresOf x ws)) h in
+      rw (add-zero x) (ors-level starts first E W g n (wiresOf x ws) (r .0) t)
   outs-level g ws n x (suc j) h (suc i) l t =
-      let r = split (Rule first E W) n (orCount (wiresOf x ws)) (ors 35 n (wiresOf x ws)) (orsFrom 35 ws (n + orCount (wiresOf x ws)) (x + 1) j) (ors-len 35 n (wiresOf x ws)) h in
+      let r = split (Rule starts first E W) n (orCount (wiresOf x ws)) (ors 35 n (wiresOf x ws)) (orsFrom 35 ws (n + orCount (wiresOf x ws)) (x + 1) j) (ors-len 35 n (wiresOf x ws)) h in
       let e : x + 1 + i ≡ x + suc i = omega arith in
       outs-level g ws (n + orCount (wiresOf x ws)) (x + 1) j (r .1) i (le-of-suc-le-suc l) t ∙ ap (λ (y : ℕ). clkOf W ws y t) e
 
-  pub outs-word : ((t : ℕ) → W 2 t ≡ 0) → (ws : List Source) (n x j : ℕ) → Obeyed first E W n (orsFrom 7 ws n x j)
+  pub outs-word : ((t : ℕ) → W 2 t ≡ 0) → (ws : List Source) (n x j : ℕ) → Obeyed starts first E W n (orsFrom 7 ws n x j)
       → (i : ℕ) → i < j → (t : ℕ) → W (getD (outsFrom 2 ws n x j) i 0) t ≡ datOf W ws (x + i) t
   unfolding orsFrom outsFrom
   outs-word g ws n x zero h i l t = absurd (not-suc-le-zero l)
   outs-word g ws n x (suc j) h zero l t =
-      let r = split (Rule first E W) n (orCount (wiresOf x ws)) (ors 7 n (wiresOf x ws)) (orsFrom 7 ws (n + orCount (wiresOf x ws)) (x + 1) j) (ors-len 7 n (wiresOf x ws)) h in
-      rw (add-zero x) (ors-word first E W g n (wiresOf x ws) (r .0) t)
+      let r = split (Rule starts first E W) n (orCount (wiresOf x ws)) (ors 7 n (wiresOf x ws)) (orsFrom 7 ws (n + orCount (wiresOf x ws)) (x + 1) j) (ors-len 7 n (wiresOf x ws)) h in
+      rw (add-zero x) (ors-word starts first E W g n (wiresOf x ws) (r .0) t)
   outs-word g ws n x (suc j) h (suc i) l t =
-      let r = split (Rule first E W) n (orCount (wiresOf x ws)) (ors 7 n (wiresOf x ws)) (orsFrom 7 ws (n + orCount (wiresOf x ws)) (x + 1) j) (ors-len 7 n (wiresOf x ws)) h in
+      let r = split (Rule starts first E W) n (orCount (wiresOf x ws)) (ors 7 n (wiresOf x ws)) (orsFrom 7 ws (n + orCount (wiresOf x ws)) (x + 1) j) (ors-len 7 n (wiresOf x ws)) h in
       let e : x + 1 + i ≡ x + suc i = omega arith in
       outs-word g ws (n + orCount (wiresOf x ws)) (x + 1) j (r .1) i (le-of-suc-le-suc l) t ∙ ap (λ (y : ℕ). datOf W ws y t) e
 
   -- the memories
-  mem-at : (ks ds : List ℕ) (x n k : ℕ) → Obeyed first E W k (memoriesOf ks ds x n) → (i : ℕ) → i < n → (t : ℕ)
+  mem-at : (ks ds : List ℕ) (x n k : ℕ) → Obeyed starts first E W k (memoriesOf ks ds x n) → (i : ℕ) → i < n → (t : ℕ)
       → W (k + i) t ≡ memory (first (k + i)) W (k + i) (cell 40 0 (getD ks (x + i) 0) (getD ds (x + i) 0)) t
   unfolding memoriesOf cellVal
   mem-at ks ds x zero k h i l t = absurd (omega arith)
@@ -133,9 +133,9 @@ module _ (P : Stmt) (words : ℕ → ℕ) (W : Values) where
 abbrev pub givenBy : Stmt → Values → Gives
 givenBy P W = givesOf W (clockSources P 3) (dataSources P (walkAt P)) (addressSources P (walkAt P)) (exitWires P 0 3 (walkAt P))
 
--- a program's circuit: the start pulse, the control, the words and their start words
-pub record Built (P : Stmt) (words : ℕ → ℕ) (W : Values) : Type 0 where
-  pub start : (t : ℕ) → level W 0 t ≡ eqb t 0
+-- a program's circuit: the start pulses, the control, the words and their start words
+pub record Built (P : Stmt) (starts : Sig) (words : ℕ → ℕ) (W : Values) : Type 0 where
+  pub start : (t : ℕ) → level W 0 t ≡ starts t
   pub circuit : Circuit 1 (ideal (showing P words W)) P (level W 0) (level W (finish P)) (givenBy P W)
   pub memory : Mem (showing P words W) (givenBy P W)
   pub begin : (x : ℕ) → showing P words W 0 x ≡ words x
@@ -146,22 +146,22 @@ latch-hit true true v w = refl
 latch-hit true false v w = refl
 latch-hit false q v w = refl
 
-module _ (P : Stmt) (w : Formed P) (words : ℕ → ℕ) (W : Values) (h : Obeys (netlist P) words W) where
-  first : ℕ → ℕ
+module _ (P : Stmt) (w : Formed P) (starts : Sig) (words : ℕ → ℕ) (W : Values) (h : Obeys (netlist P) starts words W) where
+  pub first : ℕ → ℕ
   first k = startWord (netlist P) words k
 
-  E : Elements
+  unfoldable pub E : Elements
   E = element (netlist P) words W
 
-  laid : Laid (Rule first E W) P
+  pub laid : Laid (Rule starts first E W) P
   unfolding first E
-  laid = lay (Rule first E W) P (obeys-holds (netlist P) words W h)
+  laid = lay (Rule starts first E W) P (obeys-holds (netlist P) starts words W h)
 
-  start-is : (t : ℕ) → level W 0 t ≡ eqb t 0
+  pub start-is : (t : ℕ) → level W 0 t ≡ starts t
   unfolding cellVal
-  start-is t = level-of (eqb t 0) (laid .at-start t)
+  start-is t = level-of (starts t) (laid .at-start t)
 
-  ground-is : (t : ℕ) → level W 1 t ≡ false
+  pub ground-is : (t : ℕ) → level W 1 t ≡ false
   unfolding cellVal bit
   ground-is t = level-of false (laid .at-ground t)
 
@@ -173,26 +173,26 @@ module _ (P : Stmt) (w : Formed P) (words : ℕ → ℕ) (W : Values) (h : Obeys
   pub clock-wire : (x : ℕ) → x < 20 → (t : ℕ) → level W (getD (clockWires P) x 0) t ≡ clkOf W (clockSources P 3) x t
   clock-wire x l t =
       let z : 0 + x ≡ x = omega arith in
-      rw z at (outs-level first E W ground-is (clockSources P 3) (clockAt P) 0 20 (laid .at-clocks) x l t)
+      rw z at (outs-level starts first E W ground-is (clockSources P 3) (clockAt P) 0 20 (laid .at-clocks) x l t)
 
   pub data-wire : (x : ℕ) → x < 20 → (t : ℕ) → W (getD (dataWires P) x 0) t ≡ datOf W (dataSources P (walkAt P)) x t
   data-wire x l t =
       let z : 0 + x ≡ x = omega arith in
-      rw z at (outs-word first E W zero-is (dataSources P (walkAt P)) (dataAt P) 0 20 (laid .at-datas) x l t)
+      rw z at (outs-word starts first E W zero-is (dataSources P (walkAt P)) (dataAt P) 0 20 (laid .at-datas) x l t)
 
   pub address-wire : (k : ℕ) → k < 4 → (t : ℕ) → W (getD (addressWires P) k 0) t ≡ datOf W (addressSources P (walkAt P)) (arrayVar k) t
-  address-wire k l t = outs-word first E W zero-is (addressSources P (walkAt P)) (addressAt P) 16 4 (laid .at-addresses) k l t
+  address-wire k l t = outs-word starts first E W zero-is (addressSources P (walkAt P)) (addressAt P) 16 4 (laid .at-addresses) k l t
 
   mem-is : (x : ℕ) → x < 16 → (t : ℕ)
       → W (memoryAt P + x) t ≡ memory (first (memoryAt P + x)) W (memoryAt P + x) (cell 40 0 (getD (clockWires P) x 0) (getD (dataWires P) x 0)) t
   mem-is x l t =
       let z : 0 + x ≡ x = omega arith in
-      rw z at (mem-at first E W (clockWires P) (dataWires P) 0 16 (memoryAt P) (laid .at-mems) x l t)
+      rw z at (mem-at starts first E W (clockWires P) (dataWires P) 0 16 (memoryAt P) (laid .at-mems) x l t)
 
-  circuit-is : Circuit 1 (ideal (showing P words W)) P (level W 0) (level W (finish P)) (givenBy P W)
+  unfoldable pub circuit-is : Circuit 1 (ideal (showing P words W)) P (level W 0) (level W (finish P)) (givenBy P W)
   unfolding finish E
   circuit-is =
-      struct first E W (memoryAt P) (showing P words W) (shows P words W) (shows-element P words W) ground-is P w 0 3 (walkAt P) (laid .at-delays) (laid .at-walk)
+      struct starts first E W (memoryAt P) (showing P words W) (shows P words W) (shows-element P words W) ground-is P w 0 3 (walkAt P) (laid .at-delays) (laid .at-walk)
 
   -- word x after instant t: of a variable, of an element, and of none
   variable-is : (x t : ℕ) → x < 16 → Latches (showing P words W) (givenBy P W) x t
@@ -215,11 +215,11 @@ module _ (P : Stmt) (w : Formed P) (words : ℕ → ℕ) (W : Values) (h : Obeys
   unfolding latch anyHigh
   other-is x t l = rw (owner-later x (omega arith), no-clocks P w (arrayVar ((x - 16) / 64)) 3 (omega arith), le-ltb x 16 (omega arith), le-ltb x 272 l)
 
-  memory-is : Mem (showing P words W) (givenBy P W)
+  pub memory-is : Mem (showing P words W) (givenBy P W)
   unfolding Mem
   memory-is t x = by-le 16 x (λ l. by-le 272 x (other-is x t) (element-is x t l)) (variable-is x t)
 
-  begin-is : (x : ℕ) → showing P words W 0 x ≡ words x
+  pub begin-is : (x : ℕ) → showing P words W 0 x ≡ words x
   unfolding memory element first elementWord
   begin-is x =
       by-le 16 x
@@ -231,5 +231,5 @@ module _ (P : Stmt) (w : Formed P) (words : ℕ → ℕ) (W : Values) (h : Obeys
       shows-array P words W x 0 l b ∙ ap (λ (c : Cell). words (16 + (64 * c .delay + index ((x - 16) % 64)))) (array-cells P k low .0) ∙ ap words z))
       (λ l. rw (lt-ltb x 16 l) (mem-is x l 0 ∙ start-words P words x l))
 
-  pub built : Built P words W
+  unfoldable pub built : Built P starts words W
   built = record { start = start-is; circuit = circuit-is; memory = memory-is; begin = begin-is }

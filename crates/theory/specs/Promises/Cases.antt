@@ -15,7 +15,7 @@ use Rattle.model.specs.declared.Outcome.{Outcome}
 use Rattle.model.specs.declared.Outcome.the-variants.{Ended, Open}
 use Rattle.model.specs.declared.Written.the-variants.{Done}
 use Rattle.model.specs.declared.Answer.{Answer}
-use Rattle.model.specs.Word.{get16, get32}
+use Rattle.model.specs.Word.{get16, get32, Bytes}
 use Rattle.model.specs.Refusals.{first, refuse}
 use Rattle.model.specs.Program.{programOf}
 use Rattle.model.specs.NetlistFile.{blocksFor, fileCheck, cellsOf, fileLengthWrong}
@@ -24,7 +24,7 @@ use Rattle.model.specs.TimeTables.{builtIn, defaults}
 use Rattle.model.specs.State.{stateSize}
 use Rattle.model.specs.Calls.{writtenVerdict, checkCall, writing, compiledFile, compileChecks, compileCall, runProgramCall, referenceCall, runProgramChecks}
 use Rattle.model.specs.Hubrun.{textOf, hubrunText}
-use Rattle.model.specs.Promises.{Bytes, Seen}
+use Rattle.model.specs.RunPromises.{Seen}
 use Rattle.model.specs.Cases.{repeated, Case, ends, refuses, compiles, prints, passes, cases, start, hubrunInput, endAnswer, Result, ran, numbered, printed, checked, computed, wanted, OnCircuit, Hold, cases-by-rules}
 use Rattle.laws.specs.Refusals.Laws.{and-true, or-false, first-take, first-drop}
 use Rattle.laws.specs.NetlistFile.Passed.{file-passed, count-range, count-cells}

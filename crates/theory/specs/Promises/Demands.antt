@@ -1,4 +1,4 @@
--- The user's three demands, as model/Promises states them.
+-- The user's three demands, as model/RefusalPromises, CircuitPromises and RunPromises state them.
 -- Assumes nothing.
 use mathlib.Core.Path.{_≡_, sym, _∙_, ap}
 use mathlib.Core.List.{List}
@@ -8,14 +8,17 @@ use lib.ListN.{length, take}
 use Rattle.laws.specs.NetlistFile.Compiled.{compiled-accepted}
 use Rattle.model.specs.declared.Options.{Options}
 use Rattle.model.specs.declared.Written.the-variants.{Done}
-use Rattle.model.specs.Word.{get16}
+use Rattle.model.specs.Word.{get16, Bytes}
 use Rattle.model.specs.Program.{programOf}
 use Rattle.model.specs.Numbering.{netlist, finish}
 use Rattle.model.specs.NetlistFile.{fileCheck, cellsOf, finishOf}
 use Rattle.model.specs.TimeTables.{load}
 use Rattle.model.specs.Calls.{compileCall, wordAt}
-use Rattle.model.specs.Promises.{Bytes, Published, Demand1, Demand2, Demand3}
+use Rattle.model.specs.RefusalPromises.{Demand1}
+use Rattle.model.specs.CircuitPromises.{Published, Demand2}
+use Rattle.model.specs.RunPromises.{Demand3}
 use Rattle.laws.specs.Numbering.Parts.{net-length}
+use Rattle.laws.specs.State.Flight.{step-true}
 use Rattle.laws.specs.NetlistFile.Passed.{net-ordered, file-passed}
 use Rattle.theory.specs.State.OneRun.{one-run}
 use Rattle.theory.specs.Circuit.Bounds.{file-bounded}
@@ -49,8 +52,10 @@ demand2 =
     record {
       compiled = λ T. published (load T);
       files = same-file;
-      runs = λ file words e. one-run (cellsOf file) (net-ordered (cellsOf file) (finishOf file) (file-passed file e .cells)) words;
-      bounded = λ file words y z e. file-bounded file y e (wordAt words) (word-low words z);
+      runs = λ file starts words pulse e. one-run (cellsOf file) (net-ordered (cellsOf file) (finishOf file) (file-passed file e .cells)) starts words pulse;
+      numbers = λ file lent starts e room.
+          step-true (cellsOf file) (net-ordered (cellsOf file) (finishOf file) (file-passed file e .cells)) starts lent (omega arith);
+      bounded = λ file words y z e starts. file-bounded file y e starts (wordAt words) (word-low words z);
     }
 
 pub demand3 : Demand3

@@ -3,54 +3,52 @@
 -- Assumes nothing.
 use mathlib.Core.Path.{_≡_, refl, sym, _∙_, ap, ap₂}
 use mathlib.Core.Bool.{Bool, true, false}
-use mathlib.Core.List.{List, _∷_, map}
-use Prim.Native.Nat.{ℕ, zero, suc, _+_, _*_, _/_, _%_, _<_, _≤_}
+use mathlib.Core.List.{List, [], _∷_, map}
+use Prim.Native.Nat.{ℕ, zero, suc, _+_, _-_, _<_, _≤_}
 use native.Mathlib.Omega.{arith}
 use native.Mathlib.Decide.{ℕ-discrete, decLt}
 use lib.Dec.{eqb, ltb}
 use lib.ListN.{length, take, drop}
 use lib.Seq.{take-append-seam}
 use borrow.Author.Tests.{ltb-false, le-ltb, eq-eqb, ne-eqb}
-use Rattle.model.specs.declared.Refusal.{Refusal}
 use Rattle.model.specs.declared.Cell.{Cell}
 use Rattle.model.specs.declared.Options.{Options}
 use Rattle.model.specs.declared.Checked.{Checked}
 use Rattle.model.specs.declared.Checked.the-variants.{Accepted}
-use Rattle.model.specs.declared.Outcome.{Outcome}
-use Rattle.model.specs.declared.Outcome.the-variants.{Ended, Open}
+use Rattle.model.specs.declared.Outcome.the-variants.{Open}
 use Rattle.model.specs.declared.Written.{Written}
 use Rattle.model.specs.declared.Written.the-variants.{Done}
 use Rattle.model.specs.declared.Answer.{Answer}
 use Rattle.model.specs.Refusals.{first}
-use Rattle.model.specs.Word.{index, elementWord}
 use Rattle.model.specs.Program.{Stmt, programOf}
-use Rattle.model.specs.Rules.{Store, Ends, ended, still, run, endsAt, due, atEnd}
-use Rattle.model.specs.Circuit.{Values, high, level, element, arrayAt, Obeys, memories, memoryWords}
-use Rattle.model.specs.Numbering.{netlist, finish, arrayCell, memoryAt}
+use Rattle.model.specs.Rules.{Store, ended, still, run, endsAt, due, atEnd}
+use Rattle.model.specs.Circuit.{Sig, Values, high, level, Obeys, memories}
+use Rattle.model.specs.Numbering.{netlist, finish}
 use Rattle.model.specs.NetlistFile.{fileCheck, cellsOf, finishOf}
-use Rattle.model.specs.State.{stateSize, instantOf, nowAt, elementNow, beginState, lastState, evaluated, wordsIn}
-use Rattle.model.specs.Calls.{Returned, verdict, checkCall, compiledFile, compileChecks, compileCall, wordAt, refusedAnswer, shows, running, beginChecks, beginCall, continueCall, fullState, fullCount, runNetlistCall, runProgramChecks, runProgramCall, listed, referenceAnswer}
-use Rattle.model.specs.Promises.{Call, replay, Seen, seen, seenOf, endedIf, expected, Holds, Along, Shown, Unchanged, lastOf, stopsAt, Keeps}
-use Rattle.laws.specs.Refusals.Laws.{by-bool, not-refused, all-accept, refuse-unless, accept-take, first-drop}
+use Rattle.model.specs.State.{stateSize, instantOf, nowAt, beginState, lastState, evaluated, wordsIn}
+use Rattle.model.specs.Calls.{Returned, verdict, checkCall, compiledFile, compileChecks, compileCall, wordAt, refusedAnswer, shows, running, beginChecks, beginCall, continueChecks, continueCall, fullState, fullCount, runNetlistCall, runProgramChecks, runProgramCall, listed, referenceAnswer}
+use Rattle.model.specs.CircuitPromises.{stopsAt, NoStart}
+use Rattle.model.specs.RunPromises.{Call, replay, Seen, seen, seenOf, endedIf, Stand, stand, Runs, dueAt, expected, stands, startsOf, Along, Behaves, Tells, Unchanged, lastOf, Keeps}
+use Rattle.laws.specs.Refusals.Laws.{by-bool, all-accept, refuse-unless, accept-take, first-drop}
 use Rattle.laws.specs.Program.Accepted.{program-fit}
 use Rattle.laws.specs.Program.Enclosed.{program-enclosed}
-use Rattle.laws.specs.Program.Fit.{Fit, Inside}
+use Rattle.laws.specs.Program.Fit.{Fit}
 use Rattle.laws.specs.Rules.Laws.{steady, still-before, still-below}
-use Rattle.theory.specs.Rules.Relation.{ends-run, ends-once, due-ends, ends-due}
+use Rattle.theory.specs.Rules.Relation.{run-ends, ends-once}
 use Rattle.laws.specs.Numbering.Parts.{net-length}
-use Rattle.laws.specs.Numbering.Arrays.{past-is}
-use Rattle.theory.specs.Promises.Due.{finish-due, last-words, last-elements}
+use Rattle.theory.specs.Promises.Due.{run-first}
 use Rattle.laws.specs.Circuit.Ordered.{Ordered}
 use Rattle.theory.specs.Circuit.Exists.{solution, solution-obeys}
 use Rattle.laws.specs.NetlistFile.Passed.{net-ordered, net-passed, file-passed, finish-within}
 use Rattle.theory.specs.State.Holding.{Holding}
 use Rattle.theory.specs.State.Begin.{begin-holds, begin-length}
-use Rattle.theory.specs.State.Sound.{sound-held, holds}
+use Rattle.theory.specs.State.Sound.{sound-held}
 use Rattle.theory.specs.State.Running.{continues, stops-high, stops-low}
 use Rattle.laws.specs.NetlistFile.Files.{cells-written, finish-written}
 use Rattle.laws.specs.NetlistFile.ReadWrite.{Wrote, wrote}
-use Rattle.theory.specs.Promises.Answers.{memory-words, listed-same, listed-further}
-use Rattle.theory.specs.Promises.Replay.{at0, Good, stands, good, answer-seen, checked, run-call}
+use Rattle.theory.specs.Promises.Stands.{Given, given-first}
+use Rattle.theory.specs.Promises.Replay.{at0, accepted-run, checked, OfProgram, published, Good, good, answer-seen}
+use Rattle.theory.specs.Promises.Behaves.{decides, shows-words, Stood, due-by, lasting, behaves, tells-refused, tells-answer}
 
 -- Calls that are not refused -----------------------------------------------------------------------------------------------------------
 
@@ -79,20 +77,6 @@ module _ (options : Options) (program forFile : List ℕ) (n f : ℕ) (done : co
   file-made =
       ap₂ (λ (k : ℕ) (r : Returned Written). take k (r .lent)) (compiled .count) (compiled .told)
       ∙ take-append-seam (compiledFile program) (drop (length (compiledFile program)) forFile)
-
--- open and refused are no end
-ended-code : Outcome → ℕ
-ended-code Ended = 1
-ended-code Open = 0
-ended-code (Outcome.Refused r) = 0
-
-pub open-no-end : Open ≡ Ended → ⊥
-unfolding ended-code
-open-no-end e = omega (arith, ap ended-code e)
-
-refused-no-end : {r : Refusal} → Outcome.Refused r ≡ Ended → ⊥
-unfolding ended-code
-refused-no-end e = omega (arith, ap ended-code e)
 
 -- Where a run stops --------------------------------------------------------------------------------------------------------------------
 
@@ -131,9 +115,6 @@ module _ (options : Options) (program file words lent : List ℕ) (accepted : ch
   fit : Fit P
   fit = program-fit options program accepted
 
-  inside : Inside P
-  inside = program-enclosed options program accepted .0
-
   some : 0 < length (netlist P)
   some = omega (arith, net-length P)
 
@@ -168,62 +149,25 @@ module _ (options : Options) (program file words lent : List ℕ) (accepted : ch
   sixteen : memories (netlist P) ≡ 16
   sixteen = ap memories (sym cells-are) ∙ net-passed net F (file-passed file read .cells) .sixteen
 
-  -- the equations of the file are those of the program's netlist
-  to-netlist : (W : Values) → Obeys net σ W → Obeys (netlist P) σ W
-  to-netlist W o = rw cells-are at o
+  ofProgram : OfProgram P file
+  ofProgram =
+      record {
+        fit = fit;
+        inside = program-enclosed options program accepted .0;
+        whole = program-enclosed options program accepted .1;
+        accepted = read;
+        ordered = ordered;
+        cells-are = cells-are;
+        finish-is = finish-is;
+        wire = wire;
+        sixteen = sixteen;
+      }
 
-  finishes : (W : Values) → Obeys net σ W → (t : ℕ) → level W F t ≡ due P σ t
-  finishes W o t = rw finish-is (finish-due P fit inside σ W (to-netlist W o) t)
+  abbrev rules : Runs
+  rules τ k = run k P τ
 
-  W : Values
-  W = solution net σ
-
-  obeys : Obeys net σ W
-  unfolding W
-  obeys = solution-obeys net σ ordered
-
-  all-due : level W F ≡ due P σ
-  all-due i t = finishes W obeys t i
-
-  -- at and after the end the memories show the last words
-  lasting : (W : Values) → Obeys net σ W → (t₀ : ℕ) (σ′ : Store) → run t₀ P σ ≡ ended t₀ σ′ → (t : ℕ) → t₀ ≤ t
-      → memoryWords net 0 (λ k. W k t) ≡ listed σ′ 0 16
-  lasting W o t₀ σ′ p t l =
-      ap (λ (net : List Cell). memoryWords net 0 (λ k. W k t)) cells-are ∙ memory-words P sixteen (λ k. W k t)
-      ∙ listed-same (λ x. W (memoryAt P + x) t) σ′ 0 16 (λ y a b. last-words P fit inside σ W (to-netlist W o) t₀ σ′ p t y l (omega arith))
-
-  -- and so does a state
-  last : (t₀ : ℕ) (σ′ : Store) → run t₀ P σ ≡ ended t₀ σ′ → (t : ℕ) (s : List ℕ) → t₀ ≤ t → Holding net σ W t s → wordsIn net 0 s ≡ listed σ′ 0 16
-  last t₀ σ′ p t s l H =
-      ap (λ (net : List Cell). wordsIn net 0 s) cells-are ∙ memory-words P sixteen (nowAt s)
-      ∙ listed-same (λ x. nowAt s (memoryAt P + x)) σ′ 0 16
-      (λ y a b.
-      H .present (memoryAt P + y) (rw cells-are (omega (arith, net-length P)))
-      ∙ last-words P fit inside σ W (to-netlist W obeys) t₀ σ′ p t y l (omega arith))
-
-  -- and so do the arrays
-  lasting-elements : (W : Values) → Obeys net σ W → (t₀ : ℕ) (σ′ : Store) → run t₀ P σ ≡ ended t₀ σ′ → (t : ℕ) → t₀ ≤ t
-      → (k i : ℕ) → k < 4 → i < 64 → element net σ W (arrayAt net k) i t ≡ σ′ (elementWord k i)
-  lasting-elements W o t₀ σ′ p t l k i a b =
-      let r : index i ≡ i = omega arith in
-      let m : arrayAt net k ≡ arrayCell (memoryAt P) k = ap (λ (net : List Cell). arrayAt net k) cells-are ∙ ap (λ (j : ℕ). j + 2 * k) (past-is P) in
-      ap₂ (λ (net : List Cell) (j : ℕ). element net σ W j i t) cells-are m
-      ∙ ap (λ (w : ℕ). element (netlist P) σ W (arrayCell (memoryAt P) k) w t) (sym r)
-      ∙ last-elements P fit inside σ W (to-netlist W o) t₀ σ′ p t k i l a
-
-  last-array : (t₀ : ℕ) (σ′ : Store) → run t₀ P σ ≡ ended t₀ σ′ → (t : ℕ) (s : List ℕ) → t₀ ≤ t → Holding net σ W t s
-      → listed (elementNow net s) 0 256 ≡ listed σ′ 16 256
-  unfolding elementWord
-  last-array t₀ σ′ p t s l H =
-      listed-further (elementNow net s) σ′ 16 0 256
-      (λ y a b.
-      let k = y / 64 in
-      let i = y % 64 in
-      let q : y ≡ 64 * k + i = omega arith in
-      ap (elementNow net s) q
-      ∙ H .elements k i (omega arith) (omega arith)
-      ∙ lasting-elements W obeys t₀ σ′ p t l k i (omega arith) (omega arith)
-      ∙ ap σ′ (omega arith))
+  abbrev size : ℕ
+  size = stateSize net
 
   abbrev state : List ℕ
   state = beginState net σ lent
@@ -232,72 +176,120 @@ module _ (options : Options) (program file words lent : List ℕ) (accepted : ch
   unfolding beginCall running
   begin-is = ap (λ (c : Checked). running c file state 1 lent) checks
 
-  holds-first : (W : Values) → Obeys net σ W → Holding net σ W 0 state
-  holds-first W o = begin-holds net ordered σ W o lent room
+  -- A list of calls -----------------------------------------------------------------------------------------------------------------------
 
-  holding : Holding net σ W 0 state
-  holding = holds-first W obeys
+  -- with any values that obey the equations
+  module _ (starts : Sig) (W : Values) (o : Obeys net starts σ W) where
+    module _ (calls : List Call) (given : Given rules size starts (stand 0 σ 0) calls) (pulse : starts 0 ≡ true) where
+      stood : Stood P file ofProgram starts σ W o (stand 0 σ 0) calls
+      stood = record { began = run-first P (ofProgram .fit) (ofProgram .inside) starts σ W (published P file ofProgram starts σ W o) pulse; given = given }
 
-  long : stateSize net ≤ length state
-  long = rw (begin-length net ordered σ W obeys lent room) room
+      holding : Holding net σ W 0 state
+      holding = begin-holds net ordered starts σ W o pulse lent room
 
-  -- the list of calls, with the beginning: what is true of every state that holds W, and of every refusal that leaves one, is true along the list
+      long : stateSize net ≤ length state
+      long = rw (begin-length net ordered starts σ W o pulse lent room) room
+
+      module _ (Q : Stand → Returned Answer → Type 0)
+          (refusing : (st : Stand) (cs : List Call) → Stood P file ofProgram starts σ W o st cs → (k : ℕ) (b : List ℕ) → Holding net σ W (st .now) b
+          → Q st (record { answer = refusedAnswer (at0 k); lent = b }))
+          (answering : (st : Stand) (cs : List Call) → Stood P file ofProgram starts σ W o st cs → (s b : List ℕ) (n : ℕ) → st .now ≤ 1000000 → Holding net σ W (st .now) s
+          → Holding net σ W (st .now) b → Q st (record { answer = shows file s n; lent = b })) where
+        goes : Good P file ofProgram starts σ W o Q refusing answering (stand 0 σ 0) state calls (replay file state calls)
+        goes =
+            good P file ofProgram starts σ W o Q refusing answering calls (stand 0 σ 0) state stood holding long
+            (omega arith)
+
+        along : Along Q (stand 0 σ 0 ∷ stands rules size (stand 0 σ 0) calls)
+            (beginCall file words lent ∷ replay file (beginCall file words lent .lent) calls)
+        along = rw begin-is (answering (stand 0 σ 0) calls stood state state 1 (omega arith) holding holding, goes .every)
+
+        outcomes : map seenOf (beginCall file words lent ∷ replay file (beginCall file words lent .lent) calls)
+            ≡ seen (endedIf (dueAt rules (stand 0 σ 0) 0)) 0 1 ∷ expected rules size (stand 0 σ 0) calls
+        outcomes =
+            rw begin-is
+            (ap₂ (λ (x : Seen) (l : List Seen). x ∷ l)
+            (answer-seen P file ofProgram starts σ W o Q refusing answering (stand 0 σ 0) calls stood state state 1
+            (omega arith) holding)
+            (goes .outcomes))
+
+        unchanged : Unchanged (beginCall file words lent .lent) (replay file (beginCall file words lent .lent) calls)
+        unchanged = rw begin-is (goes .unchanged)
+
+  -- the start instants of a list, and the values then
   module _ (calls : List Call) where
-    along : (W : Values) (o : Obeys net σ W) (Q : ℕ → Returned Answer → Type 0)
-        → ((t k : ℕ) (b : List ℕ) → Holding net σ W t b → Q t (record { answer = refusedAnswer (at0 k); lent = b }))
-        → ((t : ℕ) (s b : List ℕ) (n : ℕ) → t ≤ 1000000 → Holding net σ W t s → Holding net σ W t b → Q t (record { answer = shows file s n; lent = b }))
-        → Along Q 0 (beginCall file words lent ∷ replay file (beginCall file words lent .lent) calls)
-    along W o Q refuses answers =
-        let H = holds-first W o in
-        rw (begin-is, stands file read ordered σ W o wire Q refuses answers 0 0 state state 1 (omega arith) H)
-        (answers 0 state state 1 (omega arith) H H, good file read ordered σ W o wire Q refuses answers calls 0 state H long (omega arith) .every)
+    abbrev starts : Sig
+    starts = startsOf (stand 0 σ 0 ∷ stands rules size (stand 0 σ 0) calls)
 
-    unremarkable : Good file read ordered σ W obeys wire (λ t r. Unit {0}) (λ t k b H. tt) (λ t s b n l H K. tt) 0 state calls (replay file state calls)
-    unremarkable = good file read ordered σ W obeys wire (λ t r. Unit {0}) (λ t k b H. tt) (λ t s b n l H K. tt) calls 0 state holding long (omega arith)
+    pulse : starts 0 ≡ true
+    unfolding startsOf
+    pulse = refl
 
-    outcomes : map seenOf (beginCall file words lent ∷ replay file (beginCall file words lent .lent) calls)
-        ≡ seen (endedIf (due P σ 0)) 0 1 ∷ expected (due P σ) (stateSize net) 0 calls
-    outcomes =
-        rw (begin-is, ← all-due)
-        (ap₂ (λ (x : Seen) (l : List Seen). x ∷ l)
-        (answer-seen file read ordered σ W obeys wire (λ t r. Unit {0}) (λ t k b H. tt) (λ t s b n l H K. tt) 0 state state 1 (omega arith) holding)
-        (unremarkable .outcomes))
+    given : Given rules size starts (stand 0 σ 0) calls
+    given = given-first rules size σ calls
 
-    unchanged : Unchanged (beginCall file words lent .lent) (replay file (beginCall file words lent .lent) calls)
-    unchanged = rw begin-is (unremarkable .unchanged)
+    W : Values
+    W = solution net starts σ
 
-    words-shown : (t₀ : ℕ) (σ′ : Store) → run t₀ P σ ≡ ended t₀ σ′
-        → Along (λ t. Shown file t₀ σ′) 0 (beginCall file words lent ∷ replay file (beginCall file words lent .lent) calls)
-    words-shown t₀ σ′ p = along W obeys (λ t. Shown file t₀ σ′) (λ t k b H z h. unfold verdict in not-refused z) answers
-      where
-        answers : (t : ℕ) (s b : List ℕ) (n : ℕ) → t ≤ 1000000 → Holding net σ W t s → Holding net σ W t b
-            → Shown file t₀ σ′ (record { answer = shows file s n; lent = b })
-        answers t s b n l H K z h = unfold shows in
-            let g : t₀ ≤ t = rw (H .instant l) at h in
-            (last t₀ σ′ p t s g H, last t₀ σ′ p t b g K, last-array t₀ σ′ p t b g K)
+    obeys : Obeys net starts σ W
+    unfolding W
+    obeys = solution-obeys net starts σ ordered
 
-    -- where no finish is due, none is answered
-    none-ended : ((t : ℕ) → due P σ t ≡ false)
-        → Along (λ t r. r .answer .outcome ≡ Ended → ⊥) 0 (beginCall file words lent ∷ replay file (beginCall file words lent .lent) calls)
-    none-ended never = along W obeys (λ t r. r .answer .outcome ≡ Ended → ⊥) (λ t k b H. refused-no-end) answers
-      where
-        answers : (t : ℕ) (s b : List ℕ) (n : ℕ) → t ≤ 1000000 → Holding net σ W t s → Holding net σ W t b → shows file s n .outcome ≡ Ended → ⊥
-        answers t s b n l H K = unfold shows in rw (H .present F wire, finishes W obeys t, never t) open-no-end
+    tells : Along (Tells P file) (stand 0 σ 0 ∷ stands rules size (stand 0 σ 0) calls)
+        (beginCall file words lent ∷ replay file (beginCall file words lent .lent) calls)
+    tells =
+        along starts W obeys calls given pulse (Tells P file) (λ st cs N. tells-refused P file ofProgram starts σ W obeys st cs N)
+        (λ st cs N s b n l. tells-answer P file ofProgram starts σ W obeys st cs N s b n)
 
-    held : (W : Values) → Obeys net σ W
-        → Along (λ t r. Holds net σ W t (r .lent)) 0 (beginCall file words lent ∷ replay file (beginCall file words lent .lent) calls)
-    held W o = along W o (λ t r. Holds net σ W t (r .lent)) (λ t k b H. holds net σ W o t b H) (λ t s b n l H K. holds net σ W o t b K)
+    circuit : (W : Values) → Obeys net starts σ W
+        → Along (Behaves P σ file rules starts W) (stand 0 σ 0 ∷ stands rules size (stand 0 σ 0) calls)
+        (beginCall file words lent ∷ replay file (beginCall file words lent .lent) calls)
+    circuit W o =
+        along starts W o calls given pulse (Behaves P σ file rules starts W) (λ st cs N k b H. behaves P file ofProgram starts σ W o st cs N _ H)
+        (λ st cs N s b n l H K. behaves P file ofProgram starts σ W o st cs N _ K)
+
+    told : map seenOf (beginCall file words lent ∷ replay file (beginCall file words lent .lent) calls)
+        ≡ seen (endedIf (dueAt rules (stand 0 σ 0) 0)) 0 1 ∷ expected rules size (stand 0 σ 0) calls
+    told = outcomes starts W obeys calls given pulse (λ st r. Unit {0}) (λ st cs N k b H. tt) (λ st cs N s b n l H K. tt)
+
+    left : Unchanged (beginCall file words lent .lent) (replay file (beginCall file words lent .lent) calls)
+    left = unchanged starts W obeys calls given pulse (λ st r. Unit {0}) (λ st cs N k b H. tt) (λ st cs N s b n l H K. tt)
+
+  -- Full runs -----------------------------------------------------------------------------------------------------------------------------
+
+  -- with no start but the beginning's
+  abbrev W₁ : Values
+  W₁ = W []
+
+  first-stood : Stood P file ofProgram (starts []) σ W₁ (obeys []) (stand 0 σ 0) []
+  first-stood = stood (starts []) W₁ (obeys []) [] (given []) (pulse [])
+
+  first-holds : Holding net σ W₁ 0 state
+  first-holds = holding (starts []) W₁ (obeys []) [] (given []) (pulse [])
+
+  first-long : stateSize net ≤ length state
+  first-long = long (starts []) W₁ (obeys []) [] (given []) (pulse [])
+
+  alone : (t : ℕ) → NoStart (starts []) 0 t
+  unfolding startsOf stands
+  alone t u l k = rw (ne-eqb 0 u (λ e. omega arith)) refl
+
+  finishes : (u : ℕ) → level W₁ F u ≡ due P σ u
+  unfolding dueAt due
+  finishes u = due-by P file ofProgram (starts []) σ W₁ (obeys []) (stand 0 σ 0) [] first-stood u (omega arith) (alone u) ∙ ap (due P σ) (omega arith)
 
   -- a full run
   pub whole-run : ℕ → Answer
   whole-run n = shows file (fullState file words n lent) (fullCount file words n lent)
 
   continued : (n : ℕ) → n ≤ 1000000 → continueCall file n state .answer ≡ shows file (lastState net F n state) (evaluated net F n state)
+  unfolding continueCall
   continued n l =
       ap (λ (r : Returned Answer). r .answer)
-      (run-call file read n state
-      (checked file read n state false true false (le-ltb (length state) (stateSize net) long) (sound-held net σ W obeys 0 state holding)
-      (le-ltb 1000000 (instantOf state + n) (rw (holding .instant (omega arith)) (omega arith)))))
+      (accepted-run (first (continueChecks file n state)) file _ _ state
+      (checked file read n state [] false true false (le-ltb (length state) (stateSize net) first-long)
+      (sound-held net ordered (starts []) σ W₁ (obeys []) 0 state first-holds)
+      (le-ltb 1000000 (instantOf state + n) (rw (first-holds .instant (omega arith)) (omega arith)))))
 
   last-is : (n : ℕ) → n ≤ 1000000
       → whole-run n ≡ lastOf (beginCall file words lent .answer .outcome) (beginCall file words lent .answer) (continueCall file n (beginCall file words lent .lent) .answer)
@@ -314,29 +306,19 @@ module _ (options : Options) (program file words lent : List ℕ) (accepted : ch
   unfolding runNetlistCall running whole-run
   netlist-run n l = rw (read, le-ltb 1000000 n l, words-fit, state-fits)
 
-  at-end : (t₀ : ℕ) (σ′ : Store) → Ends P σ t₀ σ′ → run t₀ P σ ≡ ended t₀ σ′
-  at-end t₀ σ′ h = ends-run P (fit .timed) σ t₀ σ′ h t₀ (omega arith)
-
-  never-due : ((t : ℕ) (σ′ : Store) → Ends P σ t σ′ → ⊥) → (t : ℕ) → due P σ t ≡ false
-  never-due h t = by-bool (due P σ t) (λ e. let g = due-ends P σ t e in absurd (h t (g .0) (g .1))) (λ e. e)
-
   -- the whole promise
   pub keeps : (forFile : List ℕ) → ltb (length forFile) (length (compiledFile program)) ≡ false → (calls : List Call)
       → Keeps P σ file (beginCall file words lent) calls (λ k. runProgramCall options program words k forFile lent .answer)
       (λ k. runNetlistCall file words k lent .answer)
   keeps forFile fits calls =
       record {
-        due = due P σ;
-        decides = λ t. (due-ends P σ t, λ h. ends-due P (fit .timed) σ t (h .0) (h .1));
-        once = ends-once P (fit .timed) σ;
-        finishes = finishes;
-        memories = λ W o t₀ σ′ h. lasting W o t₀ σ′ (at-end t₀ σ′ h);
-        elements = λ W o t₀ σ′ h. lasting-elements W o t₀ σ′ (at-end t₀ σ′ h);
-        words = λ t₀ σ′ h. words-shown calls t₀ σ′ (at-end t₀ σ′ h);
-        outcomes = outcomes calls;
-        endless = λ h. (λ W o t. finishes W o t ∙ never-due h t, none-ended calls (never-due h));
-        buffers = held calls;
-        unchanged = unchanged calls;
+        rules = rules;
+        decides = decides P (fit .timed);
+        once = ends-once P (fit .timed);
+        outcomes = told calls;
+        tells = tells calls;
+        circuit = circuit calls;
+        unchanged = left calls;
         programRuns = λ n l. program-run forFile fits n l ∙ last-is n l;
         netlistRuns = λ n l. netlist-run n l ∙ last-is n l;
       }
@@ -348,49 +330,56 @@ module _ (options : Options) (program file words lent : List ℕ) (accepted : ch
     steadily : (t ≤ n) × ((k : ℕ) → t ≤ k → run k P σ ≡ ended t σ′)
     steadily = steady P (fit .timed) σ n atEnd t σ′ p
 
-    due-at : (u : ℕ) → due P σ u ≡ eqb t u
+    due-only : (u : ℕ) → due P σ u ≡ eqb t u
     unfolding due endsAt
-    due-at u = go (decLt u t)
+    due-only u = go (decLt u t)
       where
         go : Dec (u < t) → endsAt u (run u P σ) ≡ eqb t u
         go (yes x) = ap (endsAt u) (still-before (λ k. run k P σ) (steady P (fit .timed) σ) n atEnd t u σ′ p x) ∙ sym (ne-eqb t u (λ e. omega arith))
         go (no x) = ap (endsAt u) (steadily .1 u (omega arith))
 
-    wire-at : (u : ℕ) → level W F u ≡ eqb t u
-    wire-at u = finishes W obeys u ∙ due-at u
+    wire-at : (u : ℕ) → level W₁ F u ≡ eqb t u
+    wire-at u = finishes u ∙ due-only u
 
-    -- the answer of a state at the end
-    told-end : (s : List ℕ) (m : ℕ) → Holding net σ W t s → m ≡ t + 1 → shows file s m ≡ referenceAnswer n (ended t σ′)
+    -- the words of a state at the end
+    last : (s : List ℕ) → Holding net σ W₁ t s → wordsIn net 0 s ≡ listed σ′ 0 16
+    last s H =
+        shows-words P file ofProgram (starts []) σ W₁ (obeys []) t σ′
+        (lasting P file ofProgram (starts []) σ W₁ (obeys []) (stand 0 σ 0) [] first-stood t σ′ (run-ends P n σ t σ′ p) t (omega arith) (alone t)) s H
+        .0
+
+    -- its answer
+    told-end : (s : List ℕ) (m : ℕ) → Holding net σ W₁ t s → m ≡ t + 1 → shows file s m ≡ referenceAnswer n (ended t σ′)
     unfolding shows referenceAnswer
     told-end s m H e =
-        rw (e, last t σ′ (steadily .1 t (omega arith)) t s (omega arith) H, H .instant (omega (arith, steadily .0)), H .present F wire, wire-at t, eq-eqb t t refl)
+        rw (e, last s H, H .instant (omega (arith, steadily .0)), H .body .present F wire, wire-at t, eq-eqb t t refl)
 
     pub agrees : whole-run n ≡ referenceAnswer n (ended t σ′)
     unfolding whole-run fullState fullCount
     agrees = go (ℕ-discrete t 0)
       where
         begins : high (nowAt state F) ≡ eqb t 0
-        begins = ap high (holding .present F wire) ∙ wire-at 0
+        begins = ap high (first-holds .body .present F wire) ∙ wire-at 0
 
         go : Dec (t ≡ 0) → whole-run n ≡ referenceAnswer n (ended t σ′)
-        go (yes e) = rw (begins, eq-eqb t 0 e) (told-end state 1 (rw e holding) (omega arith))
+        go (yes e) = rw (begins, eq-eqb t 0 e) (told-end state 1 (rw e first-holds) (omega arith))
         go (no x) =
-            let C = continues net ordered σ W obeys F wire n 0 state holding long in
-            let z : stopsAt (level W F) 0 n ≡ t = stops-end (level W F) t wire-at n 0 (omega arith) (omega (arith, steadily .0)) in
+            let C = continues net ordered (starts []) σ W₁ (obeys []) F wire n 0 state first-holds first-long (alone _) in
+            let z : stopsAt (level W₁ F) 0 n ≡ t = stops-end (level W₁ F) t wire-at n 0 (omega arith) (omega (arith, steadily .0)) in
             rw (begins, ne-eqb t 0 x) (told-end (lastState net F n state) _ (rw z at (C .holding)) (omega (arith, C .count, z)))
 
   -- where they do not, the full run is open at the budget's end
   module _ (n : ℕ) (l : n ≤ 1000000) (p : run n P σ ≡ still) where
-    low : (u : ℕ) → u ≤ n → level W F u ≡ false
+    low : (u : ℕ) → u ≤ n → level W₁ F u ≡ false
     unfolding due endsAt
-    low u g = finishes W obeys u ∙ ap (endsAt u) (still-below (λ k. run k P σ) (steady P (fit .timed) σ) n u p g)
+    low u g = finishes u ∙ ap (endsAt u) (still-below (λ k. run k P σ) (steady P (fit .timed) σ) n u p g)
 
     pub stays-open : seen (whole-run n .outcome) (whole-run n .instant) (whole-run n .count) ≡ seen Open n (n + 1)
     unfolding whole-run fullState fullCount shows
     stays-open =
-        let C = continues net ordered σ W obeys F wire n 0 state holding long in
-        let z : stopsAt (level W F) 0 n ≡ n = stops-never (level W F) n 0 (λ u a b. low u (omega arith)) ∙ omega arith in
-        let H : Holding net σ W n (lastState net F n state) = rw z at (C .holding) in
-        let begins : high (nowAt state F) ≡ false = ap high (holding .present F wire) ∙ low 0 (omega arith) in
+        let C = continues net ordered (starts []) σ W₁ (obeys []) F wire n 0 state first-holds first-long (alone _) in
+        let z : stopsAt (level W₁ F) 0 n ≡ n = stops-never (level W₁ F) n 0 (λ u a b. low u (omega arith)) ∙ omega arith in
+        let H : Holding net σ W₁ n (lastState net F n state) = rw z at (C .holding) in
+        let begins : high (nowAt state F) ≡ false = ap high (first-holds .body .present F wire) ∙ low 0 (omega arith) in
         let e : 1 + evaluated net F n state ≡ n + 1 = omega (arith, C .count, z) in
-        rw (begins, e, H .instant l, H .present F wire, low n (omega arith))
+        rw (begins, e, H .instant l, H .body .present F wire, low n (omega arith))

@@ -20,7 +20,8 @@ use Rattle.model.specs.NetlistFile.{cellsOf, finishOf}
 use Rattle.model.specs.TimeTables.{load}
 use Rattle.model.specs.State.{stateSize, nowAt, beginState}
 use Rattle.model.specs.Calls.{verdict, checkCall, compiledFile, wordAt, shows, running, beginCall, runProgramChecks, runProgramCall, fullState, fullCount, referenceAnswer, answering, referenceChecks, referenceCall}
-use Rattle.model.specs.Promises.{Bytes, Seen, seenIn}
+use Rattle.model.specs.Word.{Bytes}
+use Rattle.model.specs.RunPromises.{Seen, seenIn}
 use Rattle.model.specs.ProgramPromises.{endedAnswer, openAnswer, Programs}
 use Rattle.laws.specs.Refusals.Laws.{not-refused, all-accept, accept-take, first-drop, refuse-unless}
 use Rattle.laws.specs.Program.Passed.{accepted, program-nodes}
@@ -30,7 +31,8 @@ use Rattle.laws.specs.Rules.Laws.{by-runs, steady}
 use Rattle.laws.specs.Rules.Uses.{never-leaves, never-left}
 use Rattle.theory.specs.Rules.Relation.{run-ends, ends-run}
 use Rattle.theory.specs.Promises.Replay.{no-refusal}
-use Rattle.theory.specs.Promises.Kept.{ran, open-no-end, whole-run, program-run, agrees, stays-open}
+use Rattle.theory.specs.Promises.Behaves.{open-no-end}
+use Rattle.theory.specs.Promises.Kept.{ran, whole-run, program-run, agrees, stays-open}
 use Rattle.laws.specs.NetlistFile.Compiled.{compiled-accepted}
 
 -- The reference run --------------------------------------------------------------------------------------------------------------------

@@ -1,11 +1,11 @@
--- A list of calls on an accepted file, refused ones among them: what it tells, from the levels of the finish wire alone.
+-- A list of continuings and starts on the file of an accepted program, refused ones among them: what it tells, from the rules of the program alone, and
+-- what is true of every state that holds the circuit's values is true along the list.
 -- Assumes nothing.
-use mathlib.Core.Path.{_≡_, refl, sym, _∙_, ap, ap₂}
+use mathlib.Core.Path.{_≡_, refl, sym, _∙_, ap, ap₂, subst}
 use mathlib.Core.Bool.{Bool, true, false, not}
 use mathlib.Core.List.{List, [], _∷_, _++_, map}
-use Prim.Native.Nat.{ℕ, _+_, _-_, _<_, _≤_, min}
+use Prim.Native.Nat.{ℕ, zero, suc, _+_, _-_, _<_, _≤_, min}
 use native.Mathlib.Omega.{arith}
-use native.Mathlib.Decide.{decLt}
 use lib.Dec.{ltb}
 use lib.ListN.{length, take, drop, length-append, length-take, take-append-drop, List·getD-append}
 use lib.Seq.{getD-take}
@@ -18,35 +18,29 @@ use Rattle.model.specs.declared.Outcome.the-variants.{Ended, Open}
 use Rattle.model.specs.declared.Answer.{Answer}
 use Rattle.model.specs.Word.{pick}
 use Rattle.model.specs.Refusals.{refuse, refuseIf, numberOf, first}
-use Rattle.model.specs.Circuit.{Values, high, level, Obeys}
+use Rattle.model.specs.Program.{Stmt}
+use Rattle.model.specs.Rules.{Store, ended, still, run, due}
+use Rattle.model.specs.Circuit.{Sig, Values, high, level, memories, Obeys}
+use Rattle.model.specs.Numbering.{netlist, finish}
 use Rattle.model.specs.NetlistFile.{fileCheck, cellsOf, finishOf}
-use Rattle.model.specs.State.{stateSize, instantOf, nowAt, lastState, evaluated, sound}
-use Rattle.model.specs.Calls.{Returned, verdict, refusedAnswer, shows, running, continueChecks, continueCall}
-use Rattle.model.specs.Promises.{Call, replay, Seen, seen, seenOf, refusedSeen, endedIf, stopsAt, expected, standsAt, instantAfter, Along, Unchanged}
+use Rattle.model.specs.State.{stateSize, instantOf, flightOf, nowAt, stepState, lastState, evaluated, sound}
+use Rattle.model.specs.Calls.{Returned, verdict, refusedAnswer, shows, running, continueChecks, continueCall, busy, startChecks, startCall}
+use Rattle.model.specs.CircuitPromises.{Idle, stopsAt, NoStart}
+use Rattle.model.specs.RunPromises.{Request, continuing, start, Call, respond, replay, Seen, seen, seenOf, endedIf, Stand, stand, Runs, runAt, dueAt, Next, refuses, pulsed, afterRequest, next, expected, stands, Along, Unchanged}
+use Rattle.laws.specs.Refusals.Laws.{by-bool, by-le}
+use Rattle.laws.specs.Rules.Laws.{by-runs, steady}
+use Rattle.laws.specs.Rules.Uses.{never-leaves}
+use Rattle.laws.specs.Program.Fit.{Fit, Inside, exits}
 use Rattle.laws.specs.Circuit.Ordered.{Ordered}
 use Rattle.theory.specs.State.Holding.{Holding}
-use Rattle.theory.specs.State.Sound.{sound-held}
-use Rattle.theory.specs.State.Running.{continues, same-holds}
+use Rattle.theory.specs.State.Flight.{same-holds, number-zero}
+use Rattle.theory.specs.State.Step.{step-holds, step-length}
+use Rattle.theory.specs.State.Sound.{sound-held, holds}
+use Rattle.theory.specs.State.Running.{continues, stops-high, stops-low, stops-ge, stops-le}
+use Rattle.theory.specs.Promises.Due.{Began, finish-due, still-busy, ended-idle, run-again}
+use Rattle.theory.specs.Promises.Stands.{next-short, next-long, stopped, continues-late, continues-now, start-late, start-now, Given, given-on, given-pulse, given-anew}
 
--- The clauses of what is expected -----------------------------------------------------------------------------------------------------------------------
-
-module _ (F : ℕ → Bool) (size t : ℕ) (c : Call) (cs : List Call) where
-  S : ℕ
-  S = stopsAt F t (c .n)
-
-  choose : Bool → Bool → List Seen
-  choose p q =
-      elim p as (λ z. List Seen) [
-        | true ↦ refusedSeen 14 ∷ expected F size t cs
-        | false ↦ elim q as (λ z. List Seen) [
-          | true ↦ refusedSeen 16 ∷ expected F size t cs
-          | false ↦ seen (endedIf (F S)) S (S - t) ∷ expected F size S cs
-        ]
-      ]
-
-  expected-is : (p q : Bool) → ltb (c .lent) size ≡ p → ltb 1000000 (t + c .n) ≡ q → expected F size t (c ∷ cs) ≡ choose p q
-  unfolding expected choose S
-  expected-is p q e d = ap₂ choose e d
+-- Calls ---------------------------------------------------------------------------------------------------------------------------------
 
 -- ended and open are no refusals
 pub no-refusal : (b : Bool) → verdict (pick b Ended Open) ≡ Accepted
@@ -54,159 +48,394 @@ unfolding verdict
 no-refusal true = refl
 no-refusal false = refl
 
-stood : (b : Bool) (t s : ℕ) → standsAt (pick b Ended Open) t s ≡ s
-unfolding standsAt
-stood true t s = refl
-stood false t s = refl
-
 -- a refusal at place 0
 abbrev pub at0 : ℕ → Refusal
 at0 k = record { number = k; place = 0 }
 
--- The clauses of continuing -----------------------------------------------------------------------------------------------------------------------------------
+-- a run that a check refuses, and one that none does
+module _ (c : Checked) (file s : List ℕ) (n : ℕ) (lent : List ℕ) where
+  refused-run : (k : ℕ) → c ≡ refuse k 0 → running c file s n lent ≡ record { answer = refusedAnswer (at0 k); lent = lent }
+  unfolding running
+  refused-run k e = ap (λ (c : Checked). running c file s n lent) e
 
+  pub accepted-run : c ≡ Accepted → running c file s n lent ≡ record { answer = shows file s n; lent = s }
+  unfolding running
+  accepted-run e = ap (λ (c : Checked). running c file s n lent) e
+
+-- the checks of a continuing by n, which are the first of a start
 module _ (file : List ℕ) (accepted : fileCheck file ≡ Accepted) (n : ℕ) (lent : List ℕ) where
-  pub checked : (p q r : Bool) → ltb (length lent) (stateSize (cellsOf file)) ≡ p → sound (cellsOf file) lent ≡ q → ltb 1000000 (instantOf lent + n) ≡ r
-      → first (continueChecks file n lent) ≡ first (refuseIf p 14 0 ∷ refuseIf (not q) 15 0 ∷ refuseIf r 16 0 ∷ [])
-  checked p q r e d f = rw (accepted, e, d, f)
+  pub checked : (rest : List Checked) (p q r : Bool) → ltb (length lent) (stateSize (cellsOf file)) ≡ p → sound (cellsOf file) lent ≡ q
+      → ltb 1000000 (instantOf lent + n) ≡ r
+      → first (continueChecks file n lent ++ rest) ≡ first (refuseIf p 14 0 ∷ refuseIf (not q) 15 0 ∷ refuseIf r 16 0 ∷ rest)
+  checked rest p q r e d f i = first (accepted i ∷ refuseIf (e i) 14 0 ∷ refuseIf (not (d i)) 15 0 ∷ refuseIf (f i) 16 0 ∷ rest)
 
-  refused-call : (k : ℕ) → first (continueChecks file n lent) ≡ refuse k 0 → continueCall file n lent ≡ record { answer = refusedAnswer (at0 k); lent = lent }
-  unfolding continueCall running
-  refused-call k e =
-      ap (λ (c : Checked). running c file (lastState (cellsOf file) (finishOf file) n lent) (evaluated (cellsOf file) (finishOf file) n lent) lent) e
-
-  pub run-call : first (continueChecks file n lent) ≡ Accepted
-      → continueCall file n lent
-      ≡ record {
-        answer = shows file (lastState (cellsOf file) (finishOf file) n lent) (evaluated (cellsOf file) (finishOf file) n lent);
-        lent = lastState (cellsOf file) (finishOf file) n lent;
-      }
-  unfolding continueCall running
-  run-call e =
-      ap (λ (c : Checked). running c file (lastState (cellsOf file) (finishOf file) n lent) (evaluated (cellsOf file) (finishOf file) n lent) lent) e
-
--- A list of calls -----------------------------------------------------------------------------------------------------------------------------------------------
-
-replay-is : (file s : List ℕ) (c : Call) (cs : List Call) (r : Returned Answer) → continueCall file (c .n) (take (c .lent) s) ≡ r
+replay-is : (file s : List ℕ) (c : Call) (cs : List Call) (r : Returned Answer) → respond file (c .request) (take (c .lent) s) ≡ r
     → replay file s (c ∷ cs) ≡ record { answer = r .answer; lent = r .lent ++ drop (c .lent) s } ∷ replay file (r .lent ++ drop (c .lent) s) cs
 unfolding replay
 replay-is file s c cs r e =
     ap (λ (r : Returned Answer). record { answer = r .answer; lent = r .lent ++ drop (c .lent) s } ∷ replay file (r .lent ++ drop (c .lent) s) cs) e
 
-module _ (file : List ℕ) (accepted : fileCheck file ≡ Accepted) (ordered : Ordered (cellsOf file)) (σ : ℕ → ℕ) (W : Values)
-    (obeys : Obeys (cellsOf file) σ W) (wire : finishOf file < length (cellsOf file))
-    (Q : ℕ → Returned Answer → Type 0)
-    (refuses : (t k : ℕ) (b : List ℕ) → Holding (cellsOf file) σ W t b → Q t (record { answer = refusedAnswer (at0 k); lent = b }))
-    (answers : (t : ℕ) (s b : List ℕ) (n : ℕ) → t ≤ 1000000 → Holding (cellsOf file) σ W t s → Holding (cellsOf file) σ W t b
-    → Q t (record { answer = shows file s n; lent = b })) where
-  abbrev F : ℕ → Bool
-  F = level W (finishOf file)
+-- where finishes agree up to where one stops, both stop there
+stops-same : (F G : ℕ → Bool) (n t : ℕ) → ((u : ℕ) → t < u → u ≤ stopsAt G t n → F u ≡ G u) → stopsAt F t n ≡ stopsAt G t n
+unfolding stopsAt
+stops-same F G zero t h = refl
+stops-same F G (suc n) t h =
+    by-bool (G (suc t))
+    (λ e. let z = stops-high G t n e in stops-high F t n (h (suc t) (omega arith) (omega (arith, z)) ∙ e) ∙ sym z)
+    (λ e.
+    let z = stops-low G t n e in
+    stops-low F t n (h (suc t) (omega arith) (omega (arith, z, stops-ge G n (suc t))) ∙ e)
+    ∙ stops-same F G n (suc t) (λ u l k. h u (omega arith) (omega (arith, z))) ∙ sym z)
+
+-- A list of calls -----------------------------------------------------------------------------------------------------------------------
+
+-- what is known of the file of an accepted program P
+pub record OfProgram (P : Stmt) (file : List ℕ) : Type 0 where
+  pub fit : Fit P
+  pub inside : Inside P
+  pub whole : exits P ≡ false
+  pub accepted : fileCheck file ≡ Accepted
+  pub ordered : Ordered (cellsOf file)
+  pub cells-are : cellsOf file ≡ netlist P
+  pub finish-is : finishOf file ≡ finish P
+  pub wire : finishOf file < length (cellsOf file)
+  pub sixteen : memories (netlist P) ≡ 16
+
+-- with start pulses at these instants, from these words
+module _ (P : Stmt) (file : List ℕ) (X : OfProgram P file) (starts : Sig) (σ₀ : Store) (W : Values) (obeys : Obeys (cellsOf file) starts σ₀ W) where
+  -- the equations of the file are those of the program's netlist
+  pub published : Obeys (netlist P) starts σ₀ W
+  published = rw (X .cells-are) at obeys
 
   abbrev net : List Cell
   net = cellsOf file
 
-  -- what is promised of a list of steps
-  pub record Good (t : ℕ) (s : List ℕ) (calls : List Call) (steps : List (Returned Answer)) : Type 0 where
-    pub outcomes : map seenOf steps ≡ expected F (stateSize net) t calls
-    pub every : Along Q t steps
-    pub unchanged : Unchanged s steps
+  abbrev F : ℕ
+  F = finishOf file
 
-  -- a state's answer
-  pub answer-seen : (t : ℕ) (s b : List ℕ) (n : ℕ) → t ≤ 1000000 → Holding net σ W t s
-      → seenOf (record { answer = shows file s n; lent = b }) ≡ seen (endedIf (F t)) t n
-  unfolding shows
-  answer-seen t s b n l H =
-      rw (H .instant l, H .present (finishOf file) wire)
+  abbrev size : ℕ
+  size = stateSize net
 
-  -- after an answer that a state gives, the buffer stands at its instant
-  pub stands : (t₀ t : ℕ) (s b : List ℕ) (n : ℕ) → t ≤ 1000000 → Holding net σ W t s → instantAfter t₀ (record { answer = shows file s n; lent = b }) ≡ t
-  unfolding shows
-  stands t₀ t s b n l H = stood (high (nowAt s (finishOf file))) t₀ (instantOf s) ∙ H .instant l
+  abbrev rules : Runs
+  rules τ k = run k P τ
 
-  module _ (t : ℕ) (s : List ℕ) (H : Holding net σ W t s) (room : stateSize net ≤ length s) (l : t ≤ 1000000) (c : Call) (cs : List Call) where
-    L : List ℕ
-    L = take (c .lent) s
+  -- the run of the stand has begun, and these calls are to come
+  pub record Now (st : Stand) (cs : List Call) : Type 0 where
+    pub began : Began P (X .fit) (X .inside) starts σ₀ W published (st .from) (st .begun)
+    pub given : Given rules size starts st cs
 
-    back : L ++ drop (c .lent) s ≡ s
-    unfolding L
-    back = take-append-drop (c .lent) s
+  -- What the run of a stand does ---------------------------------------------------------------------------------------------------------
 
-    -- a refused call
-    refused : (k : ℕ) → first (continueChecks file (c .n) L) ≡ refuse k 0
-        → expected F (stateSize net) t (c ∷ cs) ≡ refusedSeen k ∷ expected F (stateSize net) t cs
-        → Good t s cs (replay file s cs) → Good t s (c ∷ cs) (replay file s (c ∷ cs))
-    unfolding L
-    refused k e x G =
-        let r = replay-is file s c cs _ (refused-call file accepted (c .n) (take (c .lent) s) k e) in
-        let r′ : replay file s (c ∷ cs) ≡ record { answer = refusedAnswer (at0 k); lent = s } ∷ replay file s cs =
-        r ∙ ap (λ (b : List ℕ). record { answer = refusedAnswer (at0 k); lent = b } ∷ replay file b cs) back in
-        rw r′
-        (record {
-          outcomes = ap (λ (l : List Seen). refusedSeen k ∷ l) (G .outcomes) ∙ sym x;
-          every = unfold standsAt in (refuses t k s H, G .every);
-          unchanged = ((λ h. refl), G .unchanged);
-        })
+  module _ (st : Stand) (cs : List Call) (N : Now st cs) where
+    pub due-at : (t : ℕ) → st .begun ≤ t → NoStart starts (st .begun) t → level W F t ≡ dueAt rules st t
+    unfolding dueAt due
+    due-at t l none = rw (X .finish-is) (finish-due P (X .fit) (X .inside) starts σ₀ W published (st .from) (st .begun) t (N .began) l none)
 
-    -- the lent part holds what the buffer holds
-    lent-holds : stateSize net ≤ c .lent → Holding net σ W t L
-    unfolding L
-    lent-holds h = same-holds net s (take (c .lent) s) (λ j x. getD-take (c .lent) s j 0 (omega arith)) σ W t H
+    due-now : level W F (st .now) ≡ dueAt rules st (st .now)
+    due-now = due-at (st .now) (N .given .since) (N .given .none)
 
-    lent-length : length L ≡ min (c .lent) (length s)
-    unfolding L
-    lent-length = length-take (c .lent) s
+    -- the number is 0 where it has ended, and is not where it has not
+    module _ (s : List ℕ) (H : Holding net σ₀ W (st .now) s) where
+      idle : (flightOf s ≡ 0 → Idle net W (st .now)) × (Idle net W (st .now) → flightOf s ≡ 0)
+      idle = number-zero net σ₀ W (st .now) s (holds net (X .ordered) starts σ₀ W obeys (st .now) s H)
 
-    short : c .lent < stateSize net → Good t s cs (replay file s cs) → Good t s (c ∷ cs) (replay file s (c ∷ cs))
-    unfolding choose
-    short h G =
-        refused 14
-        (checked file accepted (c .n) L true (sound net L) (ltb 1000000 (instantOf L + c .n)) (lt-ltb (length L) (stateSize net) (omega (arith, lent-length))) refl refl)
-        (expected-is F (stateSize net) t c cs true (ltb 1000000 (t + c .n)) (lt-ltb _ _ h) refl) G
+      pub number-ended : (e : ℕ) (σ : Store) → run e P (st .from) ≡ ended e σ → st .begun + e ≤ st .now → flightOf s ≡ 0
+      number-ended e σ p l =
+          idle .1
+          (subst (λ (n : List Cell). Idle n W (st .now)) (sym (X .cells-are))
+          (ended-idle P (X .fit) (X .inside) starts σ₀ W published (st .from) (st .begun) (st .now) (N .began) (N .given .since) (N .given .none) e σ p l))
 
-    late : stateSize net ≤ c .lent → 1000000 < t + c .n → Good t s cs (replay file s cs) → Good t s (c ∷ cs) (replay file s (c ∷ cs))
-    unfolding choose
-    late h m G =
-        let K = lent-holds h in
-        refused 16
-        (checked file accepted (c .n) L false true true (le-ltb (length L) (stateSize net) (omega (arith, lent-length))) (sound-held net σ W obeys t L K)
-        (lt-ltb 1000000 (instantOf L + c .n) (rw (K .instant l) m)))
-        (expected-is F (stateSize net) t c cs false true (le-ltb _ _ h) (lt-ltb _ _ m)) G
+      pub number-still : runAt rules st (st .now) ≡ still → flightOf s ≡ 0 → ⊥
+      number-still p z =
+          still-busy P (X .fit) (X .inside) starts σ₀ W published (st .from) (st .begun) (st .now) (N .began) (N .given .since) (N .given .none) p
+          (subst (λ (n : List Cell). Idle n W (st .now)) (X .cells-are) (idle .0 z))
 
-    runs : stateSize net ≤ c .lent → t + c .n ≤ 1000000
-        → ((t′ : ℕ) (b : List ℕ) → Holding net σ W t′ b → stateSize net ≤ length b → t′ ≤ 1000000 → Good t′ b cs (replay file b cs))
-        → Good t s (c ∷ cs) (replay file s (c ∷ cs))
-    unfolding choose L S shows
-    runs h m go =
-        let K = lent-holds h in
-        let f = finishOf file in
-        let C = continues net ordered σ W obeys f wire (c .n) t L K (omega (arith, lent-length)) in
-        let t′ = stopsAt (level W f) t (c .n) in
-        let s₁ = lastState net f (c .n) L in
-        let b = s₁ ++ drop (c .lent) s in
-        let k : t′ ≤ 1000000 = omega (arith, C .top) in
-        let X = same-holds net s₁ b (λ j x. List·getD-append s₁ (drop (c .lent) s) 0 j (omega (arith, C .long, lent-length))) σ W t′ (C .holding) in
-        let G = go t′ b X (rw (length-append s₁ (drop (c .lent) s)) (omega (arith, C .long, lent-length))) k in
-        let e = checked file accepted (c .n) L false true false (le-ltb (length L) (stateSize net) (omega (arith, lent-length))) (sound-held net σ W obeys t L K)
-        (le-ltb 1000000 (instantOf L + c .n) (rw (K .instant l) m)) in
-        let r = replay-is file s c cs _ (run-call file accepted (c .n) L e) in
-        rw r
-        (record {
+  -- an end within so many instants is one after its own
+  pub ended-own : (τ : Store) (k e : ℕ) (σ : Store) → run k P τ ≡ ended e σ → (e ≤ k) × (run e P τ ≡ ended e σ)
+  ended-own τ k e σ p = let i = steady P (X .fit .timed) τ k _ e σ p in (i .0, i .1 e (omega arith))
+
+  -- What is true along the list ----------------------------------------------------------------------------------------------------------
+
+  module _ (Q : Stand → Returned Answer → Type 0)
+      (refusing : (st : Stand) (cs : List Call) → Now st cs → (k : ℕ) (b : List ℕ) → Holding net σ₀ W (st .now) b
+      → Q st (record { answer = refusedAnswer (at0 k); lent = b }))
+      (answering : (st : Stand) (cs : List Call) → Now st cs → (s b : List ℕ) (n : ℕ) → st .now ≤ 1000000 → Holding net σ₀ W (st .now) s
+      → Holding net σ₀ W (st .now) b → Q st (record { answer = shows file s n; lent = b })) where
+    -- what is promised of a list of steps
+    pub record Good (st : Stand) (s : List ℕ) (calls : List Call) (steps : List (Returned Answer)) : Type 0 where
+      pub outcomes : map seenOf steps ≡ expected rules size st calls
+      pub every : Along Q (stands rules size st calls) steps
+      pub unchanged : Unchanged s steps
+
+    -- a state's answer
+    pub answer-seen : (st : Stand) (cs : List Call) → Now st cs → (s b : List ℕ) (n : ℕ) → st .now ≤ 1000000 → Holding net σ₀ W (st .now) s
+        → seenOf (record { answer = shows file s n; lent = b }) ≡ seen (endedIf (dueAt rules st (st .now))) (st .now) n
+    unfolding shows
+    answer-seen st cs N s b n l H = rw (H .instant l, H .body .present F (X .wire), due-now st cs N)
+
+    -- one step, to where the list stands then
+    step : (st : Stand) (s : List ℕ) (c : Call) (cs : List Call) (x : Next) (r : Returned Answer) (rs : List (Returned Answer)) → next rules size st c ≡ x
+        → seenOf r ≡ x .tells → Q (x .after) r → (1 ≤ numberOf (verdict (r .answer .outcome)) → r .lent ≡ s) → Good (x .after) (r .lent) cs rs
+        → Good st s (c ∷ cs) (r ∷ rs)
+    unfolding expected stands
+    step st s c cs x r rs e told q left G =
+        record {
           outcomes =
-              ap₂ (λ (x : Seen) (l : List Seen). x ∷ l)
-              (answer-seen t′ s₁ b (evaluated net f (c .n) L) k (C .holding) ∙ ap (seen (endedIf (level W f t′)) t′) (C .count)) (G .outcomes)
-              ∙ sym (expected-is F (stateSize net) t c cs false false (le-ltb _ _ h) (le-ltb _ _ m));
-          every = rw (stands t t′ s₁ b (evaluated net f (c .n) L) k (C .holding)) (answers t′ s₁ b (evaluated net f (c .n) L) k (C .holding) X, G .every);
-          unchanged = ((λ h. absurd (omega (arith, h, ap numberOf (no-refusal (high (nowAt s₁ f)))))), G .unchanged);
-        })
+              ap₂ (λ (y : Seen) (l : List Seen). y ∷ l) told (G .outcomes)
+              ∙ ap (λ (x : Next). x .tells ∷ expected rules size (x .after) cs) (sym e);
+          every = subst (λ (x : Next). Along Q (x .after ∷ stands rules size (x .after) cs) (r ∷ rs)) (sym e) (q, G .every);
+          unchanged = (left, G .unchanged);
+        }
 
-  pub good : (calls : List Call) (t : ℕ) (s : List ℕ) → Holding net σ W t s → stateSize net ≤ length s → t ≤ 1000000 → Good t s calls (replay file s calls)
-  unfolding replay expected
-  good [] t s H room l = record { outcomes = refl; every = tt; unchanged = tt }
-  good (c ∷ cs) t s H room l = by (decLt (c .lent) (stateSize net)) (decLt 1000000 (t + c .n)) (good cs t s H room l) (good cs)
-    where
-      by : Dec (c .lent < stateSize net) → Dec (1000000 < t + c .n) → Good t s cs (replay file s cs)
-          → ((t′ : ℕ) (b : List ℕ) → Holding net σ W t′ b → stateSize net ≤ length b → t′ ≤ 1000000 → Good t′ b cs (replay file b cs))
-          → Good t s (c ∷ cs) (replay file s (c ∷ cs))
-      by (yes x) y G go = short t s H room l c cs x G
-      by (no x) (yes y) G go = late t s H room l c cs (omega arith) y G
-      by (no x) (no y) G go = runs t s H room l c cs (omega arith) (omega arith) go
+    module _ (st : Stand) (request : Request) (lent : ℕ) (cs : List Call) (N : Now st (record { request = request; lent = lent } ∷ cs)) (s : List ℕ)
+        (H : Holding net σ₀ W (st .now) s) (room : size ≤ length s) (l : st .now ≤ 1000000)
+        (go : (st′ : Stand) (b : List ℕ) → Now st′ cs → Holding net σ₀ W (st′ .now) b → size ≤ length b → st′ .now ≤ 1000000
+        → Good st′ b cs (replay file b cs)) where
+      abbrev c : Call
+      c = record { request = request; lent = lent }
+
+      abbrev L : List ℕ
+      L = take lent s
+
+      -- a refused call leaves the list where it stands
+      refused : (k : ℕ) → respond file request L ≡ record { answer = refusedAnswer (at0 k); lent = L } → next rules size st c ≡ refuses k st
+          → Good st s (c ∷ cs) (replay file s (c ∷ cs))
+      refused k e x =
+          let M : Now st cs =
+          record {
+            began = N .began;
+            given = given-on rules size starts st c cs (N .given) st (ap (λ (y : Next). y .after) x) (record { begun = refl; from = refl; now = omega arith });
+          } in
+          let r : replay file s (c ∷ cs) ≡ record { answer = refusedAnswer (at0 k); lent = s } ∷ replay file s cs =
+          replay-is file s c cs _ e ∙ ap (λ (b : List ℕ). record { answer = refusedAnswer (at0 k); lent = b } ∷ replay file b cs) (take-append-drop lent s) in
+          rw r (step st s c cs (refuses k st) _ _ x refl (refusing st cs M k s H) (λ h. refl) (go st s M H room l))
+
+      lent-length : length L ≡ min lent (length s)
+      lent-length = length-take lent s
+
+      -- the lent part holds what the buffer holds
+      lent-holds : size ≤ lent → Holding net σ₀ W (st .now) L
+      lent-holds h = same-holds net (X .ordered) s L (λ j x. getD-take lent s j 0 (omega arith)) σ₀ W (st .now) H
+
+      is-short : lent < size → ltb (length L) size ≡ true
+      is-short h = lt-ltb (length L) size (omega (arith, lent-length))
+
+      is-long : size ≤ lent → ltb (length L) size ≡ false
+      is-long h = le-ltb (length L) size (omega (arith, lent-length))
+
+      is-sound : size ≤ lent → sound net L ≡ true
+      is-sound h = sound-held net (X .ordered) starts σ₀ W obeys (st .now) L (lent-holds h)
+
+      is-late : (n : ℕ) → size ≤ lent → 1000000 < st .now + n → ltb 1000000 (instantOf L + n) ≡ true
+      is-late n h m = lt-ltb 1000000 (instantOf L + n) (omega (arith, lent-holds h .instant l))
+
+      in-time : (n : ℕ) → size ≤ lent → st .now + n ≤ 1000000 → ltb 1000000 (instantOf L + n) ≡ false
+      in-time n h m = le-ltb 1000000 (instantOf L + n) (omega (arith, lent-holds h .instant l))
+
+      -- a call that runs to the stand st′, with the state s′ in the lent part
+      ran : (st′ : Stand) (s′ : List ℕ) (n : ℕ) → size ≤ lent → respond file request L ≡ record { answer = shows file s′ n; lent = s′ }
+          → next rules size st c ≡ record { tells = seen (endedIf (dueAt rules st′ (st′ .now))) (st′ .now) n; after = st′ }
+          → Now st′ cs → Holding net σ₀ W (st′ .now) s′ → length s′ ≡ length L → st′ .now ≤ 1000000 → Good st s (c ∷ cs) (replay file s (c ∷ cs))
+      unfolding shows
+      ran st′ s′ n h e x M H′ z m =
+          let b : List ℕ = s′ ++ drop lent s in
+          let K : Holding net σ₀ W (st′ .now) b =
+          same-holds net (X .ordered) s′ b (λ j y. List·getD-append s′ (drop lent s) 0 j (omega (arith, z, lent-length))) σ₀ W (st′ .now) H′ in
+          rw (replay-is file s c cs _ e)
+          (step st s c cs _ _ _ x (answer-seen st′ cs M s′ b n m H′) (answering st′ cs M s′ b n m H′ K)
+          (λ g. absurd (omega (arith, g, ap numberOf (no-refusal (high (nowAt s′ F))))))
+          (go st′ b M K (rw (length-append s′ (drop lent s)) (omega (arith, z, lent-length))) m))
+
+    -- a continuing by n
+    module _ (n : ℕ) (st : Stand) (lent : ℕ) (cs : List Call) (N : Now st (record { request = continuing n; lent = lent } ∷ cs)) (s : List ℕ)
+        (H : Holding net σ₀ W (st .now) s) (room : size ≤ length s) (l : st .now ≤ 1000000)
+        (go : (st′ : Stand) (b : List ℕ) → Now st′ cs → Holding net σ₀ W (st′ .now) b → size ≤ length b → st′ .now ≤ 1000000
+        → Good st′ b cs (replay file b cs)) where
+      abbrev by : Call
+      by = record { request = continuing n; lent = lent }
+
+      abbrev T : List ℕ
+      T = take lent s
+
+      continue-refused : (k : ℕ) → first (continueChecks file n T) ≡ refuse k 0 → next rules size st by ≡ refuses k st
+          → Good st s (by ∷ cs) (replay file s (by ∷ cs))
+      unfolding respond continueCall
+      continue-refused k e x = refused st (continuing n) lent cs N s H room l go k (refused-run (first (continueChecks file n T)) file _ _ T k e) x
+
+      continue-short : lent < size → Good st s (by ∷ cs) (replay file s (by ∷ cs))
+      continue-short h =
+          continue-refused 14
+          (checked file (X .accepted) n T [] true (sound net T) (ltb 1000000 (instantOf T + n)) (is-short st (continuing n) lent cs N s H room l go h) refl refl)
+          (next-short rules size st by h)
+
+      module _ (h : size ≤ lent) where
+        checks : (r : Bool) → ltb 1000000 (instantOf T + n) ≡ r → first (continueChecks file n T) ≡ first (refuseIf r 16 0 ∷ [])
+        checks r e =
+            checked file (X .accepted) n T [] false true r (is-long st (continuing n) lent cs N s H room l go h) (is-sound st (continuing n) lent cs N s H room l go h) e
+
+        continue-late : 1000000 < st .now + n → Good st s (by ∷ cs) (replay file s (by ∷ cs))
+        unfolding afterRequest
+        continue-late m =
+            continue-refused 16 (checks true (is-late st (continuing n) lent cs N s H room l go n h m))
+            (next-long rules size st by h ∙ continues-late rules size st n m)
+
+        module _ (m : st .now + n ≤ 1000000) where
+          abbrev t′ : ℕ
+          t′ = stopsAt (dueAt rules st) (st .now) n
+
+          abbrev st′ : Stand
+          st′ = stand (st .begun) (st .from) t′
+
+          next-is : next rules size st by ≡ stopped rules size st t′
+          unfolding afterRequest
+          next-is = next-long rules size st by h ∙ continues-now rules size st n m
+
+          M : Now st′ cs
+          M =
+              record {
+                began = N .began;
+                given = given-on rules size starts st by cs (N .given) st′ (ap (λ (y : Next). y .after) next-is)
+                    (record { begun = refl; from = refl; now = stops-ge (dueAt rules st) n (st .now) });
+              }
+
+          -- the wire and the rules stop at the same instant
+          stops : stopsAt (level W F) (st .now) n ≡ t′
+          stops =
+              stops-same (level W F) (dueAt rules st) n (st .now)
+              (λ u x y. due-at st (by ∷ cs) N u (omega (arith, N .given .since)) (λ v p q. M .given .none v p (omega arith)))
+
+          continue-runs : Good st s (by ∷ cs) (replay file s (by ∷ cs))
+          unfolding respond continueCall dueAt
+          continue-runs =
+              let C =
+              continues net (X .ordered) starts σ₀ W obeys F (X .wire) n (st .now) T (lent-holds st (continuing n) lent cs N s H room l go h)
+              (omega (arith, lent-length st (continuing n) lent cs N s H room l go))
+              (λ u x y. M .given .none u (omega (arith, N .given .since)) (omega (arith, stops))) in
+              let ev : evaluated net F n T ≡ t′ - st .now = rw stops at (C .count) in
+              ran st (continuing n) lent cs N s H room l go st′ (lastState net F n T) (evaluated net F n T) h
+              (accepted-run (first (continueChecks file n T)) file _ _ T (checks false (in-time st (continuing n) lent cs N s H room l go n h m)))
+              (next-is ∙ ap (λ (k : ℕ). record { tells = seen (endedIf (dueAt rules st t′)) t′ k; after = st′ }) (sym ev)) M (rw stops at (C .holding)) (C .long)
+              (omega (arith, stops-le (dueAt rules st) n (st .now)))
+
+    -- a start
+    module _ (st : Stand) (lent : ℕ) (cs : List Call) (N : Now st (record { request = start; lent = lent } ∷ cs)) (s : List ℕ)
+        (H : Holding net σ₀ W (st .now) s) (room : size ≤ length s) (l : st .now ≤ 1000000)
+        (go : (st′ : Stand) (b : List ℕ) → Now st′ cs → Holding net σ₀ W (st′ .now) b → size ≤ length b → st′ .now ≤ 1000000
+        → Good st′ b cs (replay file b cs)) where
+      abbrev pulse : Call
+      pulse = record { request = start; lent = lent }
+
+      abbrev U : List ℕ
+      U = take lent s
+
+      -- what is checked after a continuing
+      abbrev then : List Checked
+      then = refuseIf (busy U) 23 0 ∷ []
+
+      start-refused : (k : ℕ) → first (startChecks file U) ≡ refuse k 0 → next rules size st pulse ≡ refuses k st
+          → Good st s (pulse ∷ cs) (replay file s (pulse ∷ cs))
+      unfolding respond startCall
+      start-refused k e x = refused st start lent cs N s H room l go k (refused-run (first (startChecks file U)) file _ _ U k e) x
+
+      start-short : lent < size → Good st s (pulse ∷ cs) (replay file s (pulse ∷ cs))
+      start-short h =
+          start-refused 14
+          (checked file (X .accepted) _ U then true (sound net U) _ (is-short st start lent cs N s H room l go h) refl refl)
+          (next-short rules size st pulse h)
+
+      module _ (h : size ≤ lent) where
+        K : Holding net σ₀ W (st .now) U
+        K = lent-holds st start lent cs N s H room l go h
+
+        after-checks : (n : ℕ) (rest : List Checked) (r : Bool) → ltb 1000000 (instantOf U + n) ≡ r
+            → first (continueChecks file n U ++ rest) ≡ first (refuseIf r 16 0 ∷ rest)
+        after-checks n rest r e =
+            checked file (X .accepted) n U rest false true r (is-long st start lent cs N s H room l go h) (is-sound st start lent cs N s H room l go h) e
+
+        start-over : 1000000 < st .now + 1 → Good st s (pulse ∷ cs) (replay file s (pulse ∷ cs))
+        unfolding afterRequest
+        start-over m =
+            start-refused 16 (after-checks _ then true (is-late st start lent cs N s H room l go _ h m))
+            (next-long rules size st pulse h ∙ start-late rules size st m)
+
+        module _ (m : st .now + 1 ≤ 1000000) where
+          only-busy : (z : Bool) → busy U ≡ z → first (startChecks file U) ≡ first (refuseIf z 23 0 ∷ [])
+          only-busy z e =
+              after-checks _ then false (in-time st start lent cs N s H room l go _ h m) ∙ ap (λ (z : Bool). first (refuseIf z 23 0 ∷ [])) e
+
+          is-pulsed : next rules size st pulse ≡ pulsed rules st (runAt rules st (st .now))
+          unfolding afterRequest
+          is-pulsed = next-long rules size st pulse h ∙ start-now rules size st m
+
+          -- while something is in flight
+          start-busy : runAt rules st (st .now) ≡ still → Good st s (pulse ∷ cs) (replay file s (pulse ∷ cs))
+          unfolding pulsed
+          start-busy p =
+              let some : 1 ≤ flightOf U = by-le 1 (flightOf U) (λ g. g) (λ g. absurd (number-still st (pulse ∷ cs) N U K p (omega arith))) in
+              start-refused 23 (only-busy true (let h : busy U ≡ true = lt-ltb _ (flightOf U) (omega (arith, some)) in h))
+              (is-pulsed ∙ ap (pulsed rules st) p)
+
+          -- a new run
+          module _ (e : ℕ) (σ : Store) (p : runAt rules st (st .now) ≡ ended e σ) where
+            abbrev anew : Stand
+            anew = pulsed rules st (ended e σ) .after
+
+            own : (e ≤ st .now - st .begun) × (run e P (st .from) ≡ ended e σ)
+            own = ended-own (st .from) (st .now - st .begun) e σ p
+
+            past : st .begun + e ≤ st .now
+            past = omega (arith, own .0, N .given .since)
+
+            next-anew : next rules size st pulse ≡ pulsed rules st (ended e σ)
+            next-anew = is-pulsed ∙ ap (pulsed rules st) p
+
+            after-anew : next rules size st pulse .after ≡ anew
+            after-anew = ap (λ (y : Next). y .after) next-anew
+
+            comes : starts (suc (st .now)) ≡ true
+            unfolding pulsed
+            comes = given-pulse rules size starts st pulse cs (N .given) anew after-anew refl refl
+
+            start-runs : Good st s (pulse ∷ cs) (replay file s (pulse ∷ cs))
+            unfolding respond startCall pulsed
+            start-runs =
+                let enough : size ≤ length U = omega (arith, lent-length st start lent cs N s H room l go) in
+                let none : flightOf U ≡ 0 = number-ended st (pulse ∷ cs) N U K e σ (own .1) past in
+                ran st start lent cs N s H room l go anew (stepState net true U) 1 h
+                (accepted-run (first (startChecks file U)) file _ _ U
+                (only-busy false (le-ltb _ (flightOf U) (omega (arith, none)))))
+                next-anew
+                (record {
+                  began = run-again P (X .fit) (X .inside) starts σ₀ W published (st .from) (st .begun) (st .now) (N .began) (N .given .since) (N .given .none) e σ
+                      (own .1) past comes;
+                  given = given-anew rules size starts st pulse cs (N .given) anew after-anew refl refl;
+                })
+                (subst (λ (x : Bool). Holding net σ₀ W (suc (st .now)) (stepState net x U)) comes
+                (step-holds net (X .ordered) starts σ₀ W obeys (st .now) U K enough))
+                (subst (λ (x : Bool). length (stepState net x U) ≡ length U) comes (step-length net (X .ordered) starts σ₀ W obeys (st .now) U K enough))
+                (omega arith)
+
+    pub good : (calls : List Call) (st : Stand) (s : List ℕ) → Now st calls → Holding net σ₀ W (st .now) s → size ≤ length s → st .now ≤ 1000000
+        → Good st s calls (replay file s calls)
+    unfolding replay expected stands
+    good [] st s N H room l = record { outcomes = refl; every = tt; unchanged = tt }
+    good (c ∷ cs) st s N H room l = by-request (c .request) N (good cs)
+      where
+        by-request : (q : Request) → Now st (record { request = q; lent = c .lent } ∷ cs)
+            → ((st′ : Stand) (b : List ℕ) → Now st′ cs → Holding net σ₀ W (st′ .now) b → size ≤ length b → st′ .now ≤ 1000000
+            → Good st′ b cs (replay file b cs))
+            → Good st s (record { request = q; lent = c .lent } ∷ cs) (replay file s (record { request = q; lent = c .lent } ∷ cs))
+        by-request (continuing n) N go =
+            by-le size (c .lent)
+            (λ h.
+            by-le (st .now + n) 1000000 (λ m. continue-runs n st (c .lent) cs N s H room l go h m) (λ m. continue-late n st (c .lent) cs N s H room l go h m))
+            (λ h. continue-short n st (c .lent) cs N s H room l go h)
+        by-request start N go =
+            by-le size (c .lent)
+            (λ h.
+            by-le (st .now + 1) 1000000
+            (λ m.
+            by-runs (runAt rules st (st .now)) (λ e σ p. start-runs st (c .lent) cs N s H room l go h m e σ p)
+            (λ e σ p. never-leaves P (X .whole) (st .now - st .begun) e (st .from) σ p) (λ p. start-busy st (c .lent) cs N s H room l go h m p))
+            (λ m. start-over st (c .lent) cs N s H room l go h m))
+            (λ h. start-short st (c .lent) cs N s H room l go h)

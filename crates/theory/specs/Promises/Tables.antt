@@ -11,12 +11,11 @@ use lib.Seq.{getD-drop, drop-cons}
 use borrow.Author.Tests.{eqb-true, eqb-false, ltb-false, ne-eqb, le-ltb, le-leb, lt-leb}
 use Rattle.model.specs.declared.Checked.{Checked}
 use Rattle.model.specs.declared.Checked.the-variants.{Accepted}
-use Rattle.model.specs.Word.{bytes16}
+use Rattle.model.specs.Word.{bytes16, Bytes}
 use Rattle.model.specs.Refusals.{firstFault}
 use Rattle.model.specs.NetlistFile.{wordSum}
 use Rattle.model.specs.TimeTables.{byteWrong, tableFault, tableSumWrong, tableChecks, timesIn, given, load}
 use Rattle.model.specs.Calls.{listed}
-use Rattle.model.specs.Promises.{Bytes}
 use Rattle.model.specs.TablePromises.{tableFile, InRange, Tables}
 use Rattle.laws.specs.Refusals.Laws.{by-le, or-false, not-false, all-accept, refuse-unless, fault-unless, no-fault, faultless}
 use Rattle.laws.specs.NetlistFile.Blocks.{block-sum, block-of, zero-tail, zeros-back}

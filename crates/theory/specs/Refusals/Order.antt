@@ -23,10 +23,10 @@ use Rattle.model.specs.Circuit.{high, cellAt, control, memories, pastMemories}
 use Rattle.model.specs.Numbering.{finish}
 use Rattle.model.specs.NetlistFile.{wordSum, blockAt, headerRight, placed, arrayPlaced, keeps, fileLengthWrong, sumFault, countWrong, headerFault, cellFault, netChecks, netCheck, fileChecks, fileCheck, blocksFor, fileOf, cellBytes, cellsOf, countOf, finishOf}
 use Rattle.model.specs.TimeTables.{byteWrong, tableFault, tableSumWrong, tableChecks, TimeTable, builtIn, given, load}
-use Rattle.model.specs.State.{stateSize, instantOf, nowAt, sound, beginState, lastState, evaluated}
-use Rattle.model.specs.Calls.{verdict, writtenVerdict, short, checkCall, writing, compiledFile, netlistChecks, compileChecks, compileCall, cellsIn, writeChecks, writeCall, readChecks, readCall, wordAt, shows, running, beginChecks, beginCall, continueChecks, continueCall, fullState, fullCount, overBudget, runNetlistChecks, runNetlistCall, fullRunChecks, runProgramChecks, runProgramCall, referenceAnswer, answering, referenceChecks, referenceCall}
+use Rattle.model.specs.State.{stateSize, instantOf, nowAt, sound, beginState, stepState, lastState, evaluated}
+use Rattle.model.specs.Calls.{verdict, writtenVerdict, short, checkCall, writing, compiledFile, netlistChecks, compileChecks, compileCall, cellsIn, writeChecks, writeCall, readChecks, readCall, wordAt, shows, running, beginChecks, beginCall, continueChecks, continueCall, busy, startChecks, startCall, fullState, fullCount, overBudget, runNetlistChecks, runNetlistCall, fullRunChecks, runProgramChecks, runProgramCall, referenceAnswer, answering, referenceChecks, referenceCall}
 use Rattle.model.specs.CellSlices.{behind, miscounted, placing, checkCellsChecks, checkCellsCall, writeCellsChecks, writeCellsCall, readCellsChecks, readCellsCall}
-use Rattle.model.specs.Promises.{among, Gives, InOrder, Refuses, tableNumbers, programNumbers, fileNumbers, just, Leaves, Demand1}
+use Rattle.model.specs.RefusalPromises.{among, Gives, InOrder, Refuses, tableNumbers, programNumbers, fileNumbers, just, Leaves, Demand1}
 use Rattle.laws.specs.Refusals.Laws.{and-true, not-refused, first-one, first-behind, first-found, fault-number, first-place}
 use Rattle.theory.specs.Promises.Replay.{no-refusal}
 
@@ -289,6 +289,17 @@ run-order times program words n forFile lent =
     let file = compiledFile program in
     (check-gives times program, (budget-gives n, (short-gives (length words) 544, (short-gives (length forFile) (length file), (short-gives (length lent) (stateSize (cellsOf file)), tt)))))
 
+-- continuing by n, and what more is checked after it
+going-order : (file : List ℕ) (n : ℕ) (lent : List ℕ) (nss : List (List ℕ)) (cs : List Checked) → InOrder nss cs
+    → InOrder (fileNumbers ∷ just 14 ∷ just 15 ∷ just 16 ∷ nss) (continueChecks file n lent ++ cs)
+going-order file n lent nss cs o = (
+  file-gives file,
+  (
+    short-gives (length lent) (stateSize (cellsOf file)),
+    (gives-if (not (sound (cellsOf file) lent)) 15 0, (gives-if (ltb 1000000 (instantOf lent + n)) 16 0, o)),
+  ),
+)
+
 -- a full run of a program, after whatever checks
 pub run-both-refuses : (nss : List (List ℕ)) (cs : List Checked) → positive nss ≡ true → InOrder nss cs → (file s : List ℕ) (n : ℕ) (forFile lent : List ℕ) →
     let c = verdict (running (first cs) file s n lent .answer .outcome) in
@@ -310,7 +321,7 @@ program-runs T program words n forFile lent =
     (fullCount file words n lent) forFile lent
 
 pub demand-1 : Demand1
-unfolding checkCall checkOf fileCheck compileCall writeCall readCall beginCall continueCall runNetlistCall referenceCall
+unfolding checkCall checkOf fileCheck compileCall writeCall readCall beginCall continueCall startCall runNetlistCall referenceCall
 demand-1 =
     record {
       places = first-place;
@@ -338,14 +349,11 @@ demand-1 =
           (file-gives file, (short-gives (length words) 544, (short-gives (length lent) (stateSize (cellsOf file)), tt))) file
           (beginState (cellsOf file) (wordAt words) lent) 1 lent;
       continuing = λ file n lent.
-          run-refuses _ (continueChecks file n lent) refl (
-            file-gives file,
-            (
-              short-gives (length lent) (stateSize (cellsOf file)),
-              (gives-if (not (sound (cellsOf file) lent)) 15 0, (gives-if (ltb 1000000 (instantOf lent + n)) 16 0, tt)),
-            ),
-          )
-          file (lastState (cellsOf file) (finishOf file) n lent) (evaluated (cellsOf file) (finishOf file) n lent) lent;
+          run-refuses _ (continueChecks file n lent) refl (going-order file n lent [] [] tt) file (lastState (cellsOf file) (finishOf file) n lent)
+          (evaluated (cellsOf file) (finishOf file) n lent) lent;
+      starting = λ file lent.
+          run-refuses _ (startChecks file lent) refl (going-order file _ lent (just 23 ∷ []) (refuseIf (busy lent) 23 0 ∷ []) (gives-if (busy lent) 23 0, tt)) file
+          (stepState (cellsOf file) true lent) 1 lent;
       netlistRuns = λ file words n lent.
           run-refuses _ (runNetlistChecks file words n lent) refl
           (file-gives file, (budget-gives n, (short-gives (length words) 544, (short-gives (length lent) (stateSize (cellsOf file)), tt)))) file

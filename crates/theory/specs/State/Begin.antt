@@ -9,18 +9,19 @@ use lib.ListN.{getD, length, drop, replicate, length-append, length-drop, length
 use lib.Seq.{getD-drop, drop-at}
 use lib.Dec.{eqb}
 use borrow.Author.Tests.{eqb-true, eqb-false}
-use Rattle.laws.specs.State.Passes.{cleared-zero, begin-header, begin-instant}
+use Rattle.laws.specs.State.Passes.{cleared-zero, length-counted, begin-is, begin-instant}
 use Rattle.model.specs.declared.Cell.{Cell}
 use Rattle.model.specs.Word.{pick, bit, index, elementOf, elementWord, get16, bytes16}
-use Rattle.model.specs.Circuit.{cellAt, Sig, Values, level, delayed, heldBefore, memory, Elements, element, arrayAt, equation, startWord, Obeys, Shape, shape, kStart, kDelay, kMemory, kRead}
-use Rattle.model.specs.State.{stateSize, base, elementNow, nowAt, beforeAt, heldAt, lineBit, nextValue, value, firstValue, wordBytes, beginState}
-use Rattle.model.specs.Promises.{earlier}
+use Rattle.model.specs.Circuit.{cellAt, Sig, Values, level, delayed, heldBefore, memory, Elements, element, arrayAt, equation, startWord, Obeys, Shape, kDelay, kMemory, kRead}
+use Rattle.model.specs.State.{stateSize, base, elementNow, instantOf, nowAt, beforeAt, heldAt, lineBit, nextValue, value, firstValue, counted, wordBytes, beginState}
+use Rattle.model.specs.CircuitPromises.{earlier}
 use Rattle.laws.specs.Circuit.Ordered.{kinds, Ordered}
-use Rattle.laws.specs.Circuit.Shapes.{start-kind, memory-kind}
+use Rattle.laws.specs.Circuit.Shapes.{memory-kind, memory-shape}
 use Rattle.theory.specs.Circuit.Unique.{feeds}
 use Rattle.theory.specs.State.Arrays.{element-late, element-after}
-use Rattle.laws.specs.State.Passes.{shapeAt, two, three, length-three, after, seen-held, seen-line, before-after, Line, line-old, line-bytes}
-use Rattle.theory.specs.State.Holding.{Clean, Holding, delayed-early, later-is, delay-looks, read-looks, clean-after, now-is, held-is, newest-is}
+use Rattle.laws.specs.State.Passes.{shapeAt, two, length-three, after, seen-held, seen-line, before-after, Line, line-old, line-bytes}
+use Rattle.theory.specs.State.Flight.{counted-holds}
+use Rattle.theory.specs.State.Holding.{Clean, Body, Holding, delayed-early, later-is, delay-looks, read-looks, clean-after, now-is, held-is, newest-is}
 
 -- the first m bytes are zero, then others
 abbrev cleared : ℕ → List ℕ → List ℕ
@@ -73,24 +74,13 @@ word-written words x (suc n) rest (suc i) l =
     let r : x + 1 + i ≡ x + suc i = omega arith in
     rw (p, q) (word-written words (x + 1) n rest i (omega arith) ∙ ap words r)
 
-start-shape : (k : ℕ) → k ≡ 32 → shape k ≡ kStart
-unfolding shape
-start-shape k e = rw e
-
-memory-shape : (k : ℕ) → k ≡ 40 → shape k ≡ kMemory
-unfolding shape
-memory-shape k e = rw e
-
-first-equation : (sh : Shape) (first : ℕ) (E : Elements) (W : Values) (k : ℕ) (c : Cell) → sh ≡ kStart → equation sh first E W k c 0 ≡ 1
-unfolding equation bit
-first-equation sh first E W k c e = rw e
-
-memory-equation : (sh : Shape) (first : ℕ) (E : Elements) (W : Values) (k : ℕ) (c : Cell) → sh ≡ kMemory → equation sh first E W k c 0 ≡ first
+memory-equation : (sh : Shape) (starts : Sig) (first : ℕ) (E : Elements) (W : Values) (k : ℕ) (c : Cell) → sh ≡ kMemory
+    → equation sh starts first E W k c 0 ≡ first
 unfolding equation memory
-memory-equation sh first E W k c e = rw e
+memory-equation sh starts first E W k c e = rw e
 
-module _ (net : List Cell) (ordered : Ordered net) (words : ℕ → ℕ) (W : Values) (obeys : Obeys net words W) (s : List ℕ)
-    (room : stateSize net ≤ length s) where
+module _ (net : List Cell) (ordered : Ordered net) (starts : Sig) (words : ℕ → ℕ) (W : Values) (obeys : Obeys net starts words W) (pulse : starts 0 ≡ true)
+    (s : List ℕ) (room : stateSize net ≤ length s) where
   -- the elements' start words and what is lent past the state
   tail : List ℕ
   tail = wordBytes words 16 256 ++ drop (stateSize net) s
@@ -159,7 +149,7 @@ module _ (net : List Cell) (ordered : Ordered net) (words : ℕ → ℕ) (W : Va
       ∙ rw (before-Z (cellAt net (arrayAt net a) .a) (omega (arith, r .0, f .0)), r .2) (element-Z (64 * a + i) (omega arith) ∙ ap words z)
 
   begin-read : (k : ℕ) → k < length net → ((a : ℕ) → a < k → nowAt (two net w Z k) a ≡ W a 0) → shapeAt net k ≡ kRead
-      → nextValue kRead net (two net w Z k) k (cellAt net k) ≡ element net words W (cellAt net k .a) (index (W (cellAt net k .b) 0)) 0
+      → nextValue kRead (starts 0) net (two net w Z k) k (cellAt net k) ≡ element net words W (cellAt net k .a) (index (W (cellAt net k .b) 0)) 0
   unfolding nextValue
   begin-read k h lower e =
       let c = cellAt net k in
@@ -174,29 +164,28 @@ module _ (net : List Cell) (ordered : Ordered net) (words : ℕ → ℕ) (W : Va
 
   begin-first : (k : ℕ) → k < length net → ((a : ℕ) → a < k → nowAt (two net w Z k) a ≡ W a 0) → w (two net w Z k) k ≡ W k 0
   unfolding w Obeys
-  begin-first k h lower = go (eqb kind 32) (eqb kind 40) refl refl ∙ sym (obeys k h 0)
+  begin-first k h lower = go (eqb kind 40) refl ∙ sym (obeys k h 0)
     where
       kind : ℕ
       kind = cellAt net k .kind
 
-      go : (p q : Bool) → eqb kind 32 ≡ p → eqb kind 40 ≡ q
-          → pick (eqb kind 32) 1 (pick (eqb kind 40) (startWord net words k) (value net (two net w Z k) k))
-          ≡ equation (shapeAt net k) (startWord net words k) (element net words W) W k (cellAt net k) 0
-      go true q e f = rw e (sym (first-equation (shapeAt net k) (startWord net words k) (element net words W) W k (cellAt net k) (start-shape kind (eqb-true kind 32 e))))
-      go false true e f =
-          rw (e, f) (sym (memory-equation (shapeAt net k) (startWord net words k) (element net words W) W k (cellAt net k) (memory-shape kind (eqb-true kind 40 f))))
-      go false false e f =
-          rw (e, f)
-          (later-is net (element net words W) W (kinds net) 0 (startWord net words k) k (length net) (cellAt net k) (two net w Z k) lower
-          (shapeAt net k) (ordered .looks k h) (λ z. absurd (eqb-false kind 32 e (start-kind kind z))) (begin-delay k h)
-          (λ z. seen-held net w Z k k h ∙ held-Z k h) (λ z. absurd (eqb-false kind 40 f (memory-kind kind z))) (begin-read k h lower))
+      go : (q : Bool) → eqb kind 40 ≡ q
+          → pick q (startWord net words k) (value net true (two net w Z k) k)
+          ≡ equation (shapeAt net k) starts (startWord net words k) (element net words W) W k (cellAt net k) 0
+      go true f =
+          sym (memory-equation (shapeAt net k) starts (startWord net words k) (element net words W) W k (cellAt net k) (memory-shape kind (eqb-true kind 40 f)))
+      go false f =
+          ap (λ (x : Bool). value net x (two net w Z k) k) (sym pulse)
+          ∙ later-is net starts (element net words W) W (kinds net) 0 (startWord net words k) k (length net) (cellAt net k) (two net w Z k) lower
+          (shapeAt net k) (ordered .looks k h) (begin-delay k h) (λ z. seen-held net w Z k k h ∙ held-Z k h)
+          (λ z. absurd (eqb-false kind 40 f (memory-kind kind z))) (begin-read k h lower)
 
   abbrev B : List ℕ
   B = after net w Z
 
-  begin-is : beginState net words s ≡ B
-  unfolding beginState three two w Z tail
-  begin-is = refl
+  begin-is-B : beginState net words s ≡ counted net B
+  unfolding w Z tail
+  begin-is-B = begin-is net words s
 
   begin-elements : (a i : ℕ) → a < 4 → i < 64 → elementNow net B (64 * a + i) ≡ element net words W (arrayAt net a) i 0
   begin-elements a i la li =
@@ -204,31 +193,37 @@ module _ (net : List Cell) (ordered : Ordered net) (words : ℕ → ℕ) (W : Va
       ∙ begin-element a i (length net) la li (omega (arith, ordered .arrays a la .0)) (omega arith)
 
   begin-lines : (k : ℕ) → k < length net → shapeAt net k ≡ kDelay → (i : ℕ) → i < 256 → lineBit B k i ≡ bit (delayed i (level W (cellAt net k .a)) 0)
-  begin-lines k h e zero g = newest-is net ordered words W obeys 0 w Z room-Z begin-first k h e (bytes-Z k h)
+  begin-lines k h e zero g = newest-is net ordered W 0 w Z room-Z begin-first k h e (bytes-Z k h)
   begin-lines k h e (suc i) g =
       let z : suc i ≡ i + 1 = omega arith in
       rw z
       (line-old net w Z room-Z k h e (bytes-Z k h) i (omega arith) ∙ line-Z k h i (omega arith)
       ∙ early (i + 1) (level W (cellAt net k .a)) (omega arith))
 
-  pub begin-holds : Holding net words W 0 (beginState net words s)
+  length-B : length B ≡ length s
+  length-B = length-three net w Z (length net) ∙ length-Z
+
+  begin-body : Body net words W 0 B
   unfolding earlier
-  begin-holds =
+  begin-body =
       record {
-        instant = λ l. begin-instant net words s;
-        zeros = λ j x y. begin-header net words s j y;
-        present = λ k h. ap (λ (z : List ℕ). nowAt z k) begin-is ∙ now-is net ordered words W obeys 0 w Z room-Z begin-first k h;
-        past = λ k h. ap (λ (z : List ℕ). beforeAt z k) begin-is ∙ before-after net w Z k h ∙ before-Z k h;
-        held = λ k h e. ap (λ (z : List ℕ). heldAt z k) begin-is ∙ held-is net ordered words W obeys 0 w Z room-Z begin-first k h e (held-Z k h);
-        lines = λ k h e i g. ap (λ (z : List ℕ). lineBit z k i) begin-is ∙ begin-lines k h e i g;
-        elements = λ a i la li. ap (λ (z : List ℕ). elementNow net z (64 * a + i)) begin-is ∙ begin-elements a i la li;
-        bytes = λ k h e. rw begin-is (line-bytes net w Z room-Z k h e (bytes-Z k h));
-        clean = λ k h. rw begin-is (clean-after net w Z room-Z k h (clean-Z k h));
+        present = now-is net ordered W 0 w Z room-Z begin-first;
+        past = λ k h. before-after net w Z k h ∙ before-Z k h;
+        held = λ k h e. held-is net ordered W 0 w Z room-Z begin-first k h e (held-Z k h);
+        lines = begin-lines;
+        elements = begin-elements;
+        bytes = λ k h e. line-bytes net w Z room-Z k h e (bytes-Z k h);
+        clean = λ k h. clean-after net w Z room-Z k h (clean-Z k h);
       }
     where
       clean-Z : (k : ℕ) → k < length net → Clean net Z k
       clean-Z k h = unfold Z in zero-clean (8 + 40 * length net) tail k (omega arith) net
 
+  pub begin-holds : Holding net words W 0 (beginState net words s)
+  begin-holds =
+      rw begin-is-B
+      (counted-holds net ordered words W 0 B (omega (arith, length-B))
+      (λ l. ap (λ (z : List ℕ). instantOf z) (sym begin-is-B) ∙ begin-instant net words s) begin-body)
+
   pub begin-length : length (beginState net words s) ≡ length s
-  unfolding Z
-  begin-length = ap length begin-is ∙ length-three net w Z (length net) ∙ length-Z
+  begin-length = ap length begin-is-B ∙ length-counted net B ∙ length-B

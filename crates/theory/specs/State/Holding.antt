@@ -14,9 +14,9 @@ use borrow.Author.Tests.{le-leb, lt-leb, eqb-true}
 use Rattle.model.specs.declared.Cell.{Cell}
 use Rattle.model.specs.declared.Merge.{Merge}
 use Rattle.model.specs.Word.{pick, bit, isZero, operate, index}
-use Rattle.model.specs.Circuit.{cellAt, Sig, Values, high, level, delayed, mergeStep, heldBefore, merged, memory, Elements, element, arrayAt, equation, Obeys, Shape, cellTable, shape, kConstant, kComplement, kOperator, kStart, kGround, kDelay, kOr, kWhenTrue, kWhenFalse, kMerge, kMemory, kGated, kArray, kAddress, kRead, kUnknown}
-use Rattle.model.specs.State.{base, elementNow, instantOf, nowAt, beforeAt, heldAt, lineBit, nextValue, value, holding, settle}
-use Rattle.model.specs.Promises.{earlier}
+use Rattle.model.specs.Circuit.{cellAt, Sig, Values, high, level, delayed, mergeStep, heldBefore, merged, memory, Elements, element, arrayAt, equation, Shape, cellTable, kConstant, kComplement, kOperator, kStart, kGround, kDelay, kOr, kWhenTrue, kWhenFalse, kMerge, kMemory, kGated, kArray, kAddress, kRead, kUnknown}
+use Rattle.model.specs.State.{base, elementNow, instantOf, flightOf, nowAt, beforeAt, heldAt, lineBit, nextValue, holding, settle, flight}
+use Rattle.model.specs.CircuitPromises.{earlier}
 use Rattle.theory.specs.Numbering.Levels.{delayed-zero}
 use Rattle.laws.specs.Circuit.Ordered.{Looks, kinds, Ordered}
 use Rattle.laws.specs.Circuit.Shapes.{delay-kind, merge-kind, bit-le}
@@ -41,32 +41,31 @@ delayed-more d x t = go (decLe d t)
 -- A cell's value -----------------------------------------------------------------------------------------------------------------------------------
 
 -- what a cell shows in the second pass is what its equation says at instant T, if lower cells show theirs; s is the state in that pass
-module _ (net : List Cell) (E : Elements) (W : Values) (K : ℕ → ℕ) (T first k n : ℕ) (c : Cell) (s : List ℕ)
+module _ (net : List Cell) (starts : Sig) (E : Elements) (W : Values) (K : ℕ → ℕ) (T first k n : ℕ) (c : Cell) (s : List ℕ)
     (lower : (a : ℕ) → a < k → nowAt s a ≡ W a T) where
   pub later-is : (sh : Shape) → Looks (cellTable sh .row) K n k c
-      → (sh ≡ kStart → 0 ≡ bit (eqb T 0))
       → (sh ≡ kDelay → lineBit s k (c .delay - 1) ≡ bit (delayed (c .delay) (level W (c .a)) T))
       → (sh ≡ kMerge → heldAt s k ≡ heldBefore (level W (c .a)) (level W (c .b)) T)
-      → (sh ≡ kMemory → nextValue kMemory net s k c ≡ memory first W k c T)
-      → (sh ≡ kRead → nextValue kRead net s k c ≡ E (c .a) (index (W (c .b) T)) T)
-      → nextValue sh net s k c ≡ equation sh first E W k c T
+      → (sh ≡ kMemory → nextValue kMemory (starts T) net s k c ≡ memory first W k c T)
+      → (sh ≡ kRead → nextValue kRead (starts T) net s k c ≡ E (c .a) (index (W (c .b) T)) T)
+      → nextValue sh (starts T) net s k c ≡ equation sh starts first E W k c T
   unfolding nextValue equation merged cellTable
-  later-is kConstant o p q r m e = refl
-  later-is kComplement o p q r m e = ap (λ (x : ℕ). operate 3 x 0) (lower (c .a) (o .1 .0))
-  later-is kOperator o p q r m e = ap₂ (λ (x y : ℕ). operate (c .kind) x y) (lower (c .a) (o .1 .0)) (lower (c .b) (o .2 .0))
-  later-is kStart o p q r m e = p refl
-  later-is kGround o p q r m e = refl
-  later-is kDelay o p q r m e = q refl
-  later-is kOr o p q r m e = ap₂ (λ (x y : ℕ). bit (high x || high y)) (lower (c .a) (o .1 .0)) (lower (c .b) (o .2 .0))
-  later-is kWhenTrue o p q r m e = ap₂ (λ (x y : ℕ). bit (high x && not (isZero y))) (lower (c .a) (o .1 .0)) (lower (c .b) (o .2 .0))
-  later-is kWhenFalse o p q r m e = ap₂ (λ (x y : ℕ). bit (high x && isZero y)) (lower (c .a) (o .1 .0)) (lower (c .b) (o .2 .0))
-  later-is kMerge o p q r m e = rw (r refl, lower (c .a) (o .1 .0), lower (c .b) (o .2 .0))
-  later-is kMemory o p q r m e = m refl
-  later-is kGated o p q r m e = ap₂ (λ (x y : ℕ). pick (high x) y 0) (lower (c .a) (o .1 .0)) (lower (c .b) (o .2 .0))
-  later-is kArray o p q r m e = refl
-  later-is kAddress o p q r m e = refl
-  later-is kRead o p q r m e = e refl
-  later-is kUnknown o p q r m e = refl
+  later-is kConstant o q r m e = refl
+  later-is kComplement o q r m e = ap (λ (x : ℕ). operate 3 x 0) (lower (c .a) (o .1 .0))
+  later-is kOperator o q r m e = ap₂ (λ (x y : ℕ). operate (c .kind) x y) (lower (c .a) (o .1 .0)) (lower (c .b) (o .2 .0))
+  later-is kStart o q r m e = refl
+  later-is kGround o q r m e = refl
+  later-is kDelay o q r m e = q refl
+  later-is kOr o q r m e = ap₂ (λ (x y : ℕ). bit (high x || high y)) (lower (c .a) (o .1 .0)) (lower (c .b) (o .2 .0))
+  later-is kWhenTrue o q r m e = ap₂ (λ (x y : ℕ). bit (high x && not (isZero y))) (lower (c .a) (o .1 .0)) (lower (c .b) (o .2 .0))
+  later-is kWhenFalse o q r m e = ap₂ (λ (x y : ℕ). bit (high x && isZero y)) (lower (c .a) (o .1 .0)) (lower (c .b) (o .2 .0))
+  later-is kMerge o q r m e = rw (r refl, lower (c .a) (o .1 .0), lower (c .b) (o .2 .0))
+  later-is kMemory o q r m e = m refl
+  later-is kGated o q r m e = ap₂ (λ (x y : ℕ). pick (high x) y 0) (lower (c .a) (o .1 .0)) (lower (c .b) (o .2 .0))
+  later-is kArray o q r m e = refl
+  later-is kAddress o q r m e = refl
+  later-is kRead o q r m e = e refl
+  later-is kUnknown o q r m e = refl
 
 -- what a cell of a known shape looks at
 looks-as : (K : ℕ → ℕ) (n k : ℕ) (c : Cell) {sh known : Shape} → sh ≡ known → Looks (cellTable sh .row) K n k c → Looks (cellTable known .row) K n k c
@@ -169,9 +168,8 @@ module _ (net : List Cell) (v : List ℕ → ℕ → ℕ) (u : List ℕ) (room :
 
 -- What a state holds ---------------------------------------------------------------------------------------------------------------------------------
 
-pub record Holding (net : List Cell) (words : ℕ → ℕ) (W : Values) (t : ℕ) (s : List ℕ) : Type 0 where
-  pub instant : t ≤ 1000000 → instantOf s ≡ t
-  pub zeros : (j : ℕ) → 4 ≤ j → j < 8 → getD s j 0 ≡ 0
+-- behind its header
+pub record Body (net : List Cell) (words : ℕ → ℕ) (W : Values) (t : ℕ) (s : List ℕ) : Type 0 where
   pub present : (k : ℕ) → k < length net → nowAt s k ≡ W k t
   pub past : (k : ℕ) → k < length net → beforeAt s k ≡ earlier W k t
   pub held : (k : ℕ) → k < length net → shapeAt net k ≡ kMerge
@@ -182,8 +180,13 @@ pub record Holding (net : List Cell) (words : ℕ → ℕ) (W : Values) (t : ℕ
   pub bytes : (k : ℕ) → k < length net → shapeAt net k ≡ kDelay → Line s k
   pub clean : (k : ℕ) → k < length net → Clean net s k
 
+pub record Holding (net : List Cell) (words : ℕ → ℕ) (W : Values) (t : ℕ) (s : List ℕ) : Type 0 where
+  pub instant : t ≤ 1000000 → instantOf s ≡ t
+  pub number : flightOf s ≡ flight net s
+  pub body : Body net words W t s
+
 -- Of the passes from u, which is the state before with the past renewed, at instant T
-module _ (net : List Cell) (ordered : Ordered net) (words : ℕ → ℕ) (W : Values) (obeys : Obeys net words W) (T : ℕ)
+module _ (net : List Cell) (ordered : Ordered net) (W : Values) (T : ℕ)
     (v : List ℕ → ℕ → ℕ) (u : List ℕ) (room : 8 + 40 * length net ≤ length u)
     (first : (k : ℕ) → k < length net → ((a : ℕ) → a < k → nowAt (two net v u k) a ≡ W a T) → v (two net v u k) k ≡ W k T) where
   now-up-to : (n : ℕ) → n ≤ length net → (k : ℕ) → k < n → nowAt (after net v u) k ≡ W k T

@@ -12,9 +12,9 @@ use lib.Seq.{drop-at, drop-set-lt}
 use Rattle.model.specs.declared.Cell.{Cell}
 use Rattle.model.specs.declared.Merge.{Merge}
 use Rattle.model.specs.Word.{pick, bit, elementOf, put16, put32}
-use Rattle.model.specs.Circuit.{cellAt, high, Shape, shape, kConstant, kComplement, kOperator, kStart, kGround, kDelay, kOr, kWhenTrue, kWhenFalse, kMerge, kMemory, kGated, kArray, kAddress, kRead, kUnknown}
-use Rattle.model.specs.State.{stateSize, base, elementBase, instantOf, nowAt, beforeAt, value, firstValue, upTo, aged, stored, shown, shiftedIn, holding, settle, settled, wordBytes, blank, beginState, stepState}
-use Rattle.model.specs.Promises.{stateAt}
+use Rattle.model.specs.Circuit.{cellAt, Sig, high, Shape, shape, kConstant, kComplement, kOperator, kStart, kGround, kDelay, kOr, kWhenTrue, kWhenFalse, kMerge, kMemory, kGated, kArray, kAddress, kRead, kUnknown}
+use Rattle.model.specs.State.{stateSize, base, elementBase, instantOf, nowAt, beforeAt, value, firstValue, upTo, aged, stored, shown, shiftedIn, holding, settle, settled, counted, wordBytes, blank, evaluate, beginState, stepState}
+use Rattle.model.specs.CircuitPromises.{stateAt}
 use Rattle.laws.specs.Refusals.Laws.{and-true}
 use Rattle.laws.specs.Circuit.Ordered.{Ordered}
 use Rattle.theory.specs.State.Begin.{length-words}
@@ -30,9 +30,9 @@ past-put16 : (n : ℕ) (s : List ℕ) (i v : ℕ) → i + 1 < n → Past n s (pu
 unfolding put16
 past-put16 n s i v l = past-set n (set s i (v % 256)) (i + 1) (v / 256) l ∙ past-set n s i (v % 256) (omega arith)
 
-past-put32 : (n : ℕ) (s : List ℕ) (v : ℕ) → 4 ≤ n → Past n s (put32 s 0 v)
+past-put32 : (n : ℕ) (s : List ℕ) (i v : ℕ) → i + 4 ≤ n → Past n s (put32 s i v)
 unfolding put32
-past-put32 n s v l = past-put16 n (put16 s 0 (v % 65536)) 2 (v / 65536) (omega arith) ∙ past-put16 n s 0 (v % 65536) (omega arith)
+past-put32 n s i v l = past-put16 n (put16 s i (v % 65536)) (i + 2) (v / 65536) (omega arith) ∙ past-put16 n s i (v % 65536) (omega arith)
 
 past-shifted : (n m : ℕ) (s : List ℕ) (i x : ℕ) → i + m ≤ n → Past n s (shiftedIn m s i x)
 unfolding shiftedIn
@@ -105,22 +105,26 @@ module _ (net : List Cell) (ordered : Ordered net) where
       (drop-at (replicate (8 + 40 * length net) 0 ++ wordBytes words 16 256) (drop (stateSize net) lent) (stateSize net)
       (simp (length-append, length-replicate) (omega (arith, length-words words 16 256))))
 
+  past-evaluate : (v : List ℕ → ℕ → ℕ) (u : List ℕ) → Past (stateSize net) u (evaluate net v u)
+  unfolding evaluate counted
+  past-evaluate v u =
+      past-put32 (stateSize net) _ 4 _ (omega arith)
+      ∙ past-pass (stateSize net) (settled net) (length net) past-settled _
+      ∙ past-pass (stateSize net) (shown net v) (length net) (past-shown v) _
+
   past-begin : (words : ℕ → ℕ) (lent : List ℕ) → Past (stateSize net) lent (beginState net words lent)
   unfolding beginState
-  past-begin words lent =
-      past-pass (stateSize net) (settled net) (length net) past-settled _
-      ∙ past-pass (stateSize net) (shown net (firstValue net words)) (length net) (past-shown (firstValue net words)) _
-      ∙ past-blank words lent
+  past-begin words lent = past-evaluate (firstValue net words) (blank net words lent) ∙ past-blank words lent
 
-  past-step : (s : List ℕ) → Past (stateSize net) s (stepState net s)
+  past-step : (starts : Bool) (s : List ℕ) → Past (stateSize net) s (stepState net starts s)
   unfolding stepState
-  past-step s =
-      past-pass (stateSize net) (settled net) (length net) past-settled _
-      ∙ past-pass (stateSize net) (shown net (value net)) (length net) (past-shown (value net)) _
+  past-step starts s =
+      past-evaluate (value net starts) _
       ∙ past-pass (stateSize net) aged (length net) past-aged _
-      ∙ past-put32 (stateSize net) s (instantOf s + 1) (omega arith)
+      ∙ past-put32 (stateSize net) s 0 (instantOf s + 1) (omega arith)
 
-  pub past-state : (words : ℕ → ℕ) (lent : List ℕ) (t : ℕ) → drop (stateSize net) (stateAt net words lent t) ≡ drop (stateSize net) lent
+  pub past-state : (starts : Sig) (words : ℕ → ℕ) (lent : List ℕ) (t : ℕ)
+      → drop (stateSize net) (stateAt net starts words lent t) ≡ drop (stateSize net) lent
   unfolding stateAt
-  past-state words lent zero = past-begin words lent
-  past-state words lent (suc t) = past-step (stateAt net words lent t) ∙ past-state words lent t
+  past-state starts words lent zero = past-begin words lent
+  past-state starts words lent (suc t) = past-step (starts (suc t)) (stateAt net starts words lent t) ∙ past-state starts words lent t

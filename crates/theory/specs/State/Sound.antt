@@ -7,17 +7,18 @@ use native.Mathlib.Nat.{add-zero}
 use native.Mathlib.Omega.{arith}
 use lib.ListN.{getD, length, take, drop}
 use lib.Seq.{getD-drop}
-use borrow.Author.Tests.{le-leb, eqb-false}
+use borrow.Author.Tests.{le-leb, eq-eqb, eqb-false}
 use Rattle.laws.specs.NetlistFile.CellBytes.{zero-run}
 use Rattle.model.specs.declared.Cell.{Cell}
-use Rattle.model.specs.Circuit.{cellAt, noCell, Values, control, Obeys}
+use Rattle.model.specs.Circuit.{cellAt, noCell, Sig, Values, control, Obeys}
 use Rattle.model.specs.NetlistFile.{allZero}
-use Rattle.model.specs.State.{stateSize, base, nowAt, beforeAt, cellSound, cellsSound, sound}
-use Rattle.model.specs.Promises.{stateAt, earlier, Holds}
+use Rattle.model.specs.State.{stateSize, base, flightOf, nowAt, beforeAt, flight, cellSound, cellsSound, sound}
+use Rattle.model.specs.CircuitPromises.{stateAt, earlier, Holds}
 use Rattle.laws.specs.Refusals.Laws.{and-of}
 use Rattle.laws.specs.Circuit.Ordered.{Ordered}
 use Rattle.laws.specs.Circuit.Shapes.{level-bound}
 use Rattle.theory.specs.State.Holding.{Holding}
+use Rattle.theory.specs.State.Flight.{number-is}
 use Rattle.theory.specs.State.Step.{step-holds, step-length}
 use Rattle.theory.specs.State.Begin.{begin-holds, begin-length}
 
@@ -32,21 +33,22 @@ unless : (a b : Bool) → (a ≡ false → b ≡ true) → (a || b) ≡ true
 unless true b h = refl
 unless false b h = h refl
 
-module _ (net : List Cell) (words : ℕ → ℕ) (W : Values) (obeys : Obeys net words W) (t : ℕ) (s : List ℕ) (H : Holding net words W t s) where
+module _ (net : List Cell) (ordered : Ordered net) (starts : Sig) (words : ℕ → ℕ) (W : Values) (obeys : Obeys net starts words W) (t : ℕ) (s : List ℕ)
+    (H : Holding net words W t s) where
   earlier-le : (k : ℕ) → k < length net → control (cellAt net k .kind) ≡ true → (t : ℕ) → earlier W k t ≤ 1
   unfolding earlier
   earlier-le k h e zero = omega arith
-  earlier-le k h e (suc t) = level-bound net words W obeys k h e t
+  earlier-le k h e (suc t) = level-bound net starts words W obeys k h e t
 
   sound-at : (k : ℕ) → k < length net → cellSound (cellAt net k) s k ≡ true
   unfolding cellSound
   sound-at k h =
-      let d = H .clean k h in
+      let d = H .body .clean k h in
       and-of
       (implied _ _ (λ e.
       and-of
-      (le-leb (nowAt s k) 1 (rw (H .present k h) (level-bound net words W obeys k h e t)))
-      (le-leb (beforeAt s k) 1 (rw (H .past k h) (earlier-le k h e t)))))
+      (le-leb (nowAt s k) 1 (rw (H .body .present k h) (level-bound net starts words W obeys k h e t)))
+      (le-leb (beforeAt s k) 1 (rw (H .body .past k h) (earlier-le k h e t)))))
       (and-of
       (and-of
       (le-leb _ _ (d .bits (base k + 4) (omega arith) (omega arith)))
@@ -68,7 +70,7 @@ module _ (net : List Cell) (words : ℕ → ℕ) (W : Values) (obeys : Obeys net
   pub sound-held : sound net s ≡ true
   unfolding sound
   sound-held =
-      and-of (zero-slice 4 4 s (λ i x y. H .zeros i x (omega arith)))
+      and-of (eq-eqb (flightOf s) (flight net s) (H .number))
       (sound-cells net 0
       (λ i l.
       let e : 0 + i ≡ i = omega arith in
@@ -78,24 +80,26 @@ module _ (net : List Cell) (words : ℕ → ℕ) (W : Values) (obeys : Obeys net
   holds =
       record {
         instant = H .instant;
-        present = H .present;
-        past = H .past;
-        held = H .held;
-        lines = H .lines;
-        elements = H .elements;
+        number = number-is net ordered words W t s H;
+        present = H .body .present;
+        past = H .body .past;
+        held = H .body .held;
+        lines = H .body .lines;
+        elements = H .body .elements;
         proper = sound-held;
       }
 
 -- every state of a run
-module _ (net : List Cell) (ordered : Ordered net) (words : ℕ → ℕ) (W : Values) (obeys : Obeys net words W) (lent : List ℕ) (room : stateSize net ≤ length lent) where
-  run-holds : (t : ℕ) → Holding net words W t (stateAt net words lent t) × (length (stateAt net words lent t) ≡ length lent)
+module _ (net : List Cell) (ordered : Ordered net) (starts : Sig) (words : ℕ → ℕ) (W : Values) (obeys : Obeys net starts words W) (pulse : starts 0 ≡ true)
+    (lent : List ℕ) (room : stateSize net ≤ length lent) where
+  run-holds : (t : ℕ) → Holding net words W t (stateAt net starts words lent t) × (length (stateAt net starts words lent t) ≡ length lent)
   unfolding stateAt
-  run-holds zero = (begin-holds net ordered words W obeys lent room, begin-length net ordered words W obeys lent room)
+  run-holds zero = (begin-holds net ordered starts words W obeys pulse lent room, begin-length net ordered starts words W obeys pulse lent room)
   run-holds (suc t) =
       let r = run-holds t in
-      let s = stateAt net words lent t in
+      let s = stateAt net starts words lent t in
       let m : stateSize net ≤ length s = omega (arith, r .1) in
-      (step-holds net ordered words W obeys t s (r .0) m, step-length net ordered words W obeys t s (r .0) m ∙ r .1)
+      (step-holds net ordered starts words W obeys t s (r .0) m, step-length net ordered starts words W obeys t s (r .0) m ∙ r .1)
 
-  pub states : (t : ℕ) → Holds net words W t (stateAt net words lent t)
-  states t = holds net words W obeys t (stateAt net words lent t) (run-holds t .0)
+  pub states : (t : ℕ) → Holds net words W t (stateAt net starts words lent t)
+  states t = holds net ordered starts words W obeys t (stateAt net starts words lent t) (run-holds t .0)

@@ -3,19 +3,18 @@ use mathlib.Core.List.{List}
 use mathlib.Core.Path.{_≡_, sym, _∙_, ap}
 use Prim.Native.Nat.{ℕ, zero, suc, _+_, _-_, _*_, _/_, _<_, _≤_}
 use native.Mathlib.Omega.{arith}
-use lib.ListN.{getD, length}
-use lib.Dec.{eqb}
-use borrow.Author.Tests.{ne-eqb}
+use lib.ListN.{length}
 use Rattle.model.specs.declared.Cell.{Cell}
 use Rattle.model.specs.Word.{bit, index, elementOf}
-use Rattle.model.specs.Circuit.{cellAt, Values, level, delayed, heldBefore, memory, element, arrayAt, startWord, Obeys, kDelay, kMerge, kMemory, kRead}
-use Rattle.model.specs.State.{stateSize, base, elementNow, instantOf, nowAt, beforeAt, heldAt, lineBit, nextValue, value, stepState}
-use Rattle.model.specs.Promises.{earlier}
+use Rattle.model.specs.Circuit.{cellAt, Sig, Values, level, delayed, heldBefore, memory, element, arrayAt, startWord, Obeys, kDelay, kMerge, kMemory, kRead}
+use Rattle.model.specs.State.{stateSize, base, elementNow, instantOf, nowAt, beforeAt, heldAt, lineBit, nextValue, value, counted, stepState}
+use Rattle.model.specs.CircuitPromises.{earlier}
 use Rattle.laws.specs.Circuit.Ordered.{kinds, Ordered}
 use Rattle.theory.specs.Circuit.Unique.{feeds}
 use Rattle.theory.specs.State.Arrays.{element-late, element-after}
-use Rattle.laws.specs.State.Passes.{shapeAt, get16-same, count-now, one, length-one, one-high, before-one, one-behind, two, now-two, length-three, after, now-after, seen-before, seen-held, seen-line, before-after, Line, line-old, line-bytes, step-is, header-kept}
-use Rattle.theory.specs.State.Holding.{Clean, Holding, delayed-more, later-is, delay-looks, mem-looks, read-looks, clean-after, now-is, held-is, newest-is}
+use Rattle.laws.specs.State.Passes.{shapeAt, get16-same, count-now, one, length-one, one-high, before-one, one-behind, two, now-two, length-three, after, now-after, seen-before, seen-held, seen-line, before-after, Line, line-old, line-bytes, length-counted, step-is}
+use Rattle.theory.specs.State.Flight.{counted-holds}
+use Rattle.theory.specs.State.Holding.{Clean, Body, Holding, delayed-more, later-is, delay-looks, mem-looks, read-looks, clean-after, now-is, held-is, newest-is}
 
 module _ (s : List ℕ) (n k : ℕ) where
   one-held : heldAt (one s n) k ≡ heldAt s k
@@ -37,7 +36,7 @@ one-clean net s n k d =
       bits = λ j x y. rw (one-high s n k j (omega arith) (omega arith)) (d .bits j x y);
     }
 
-module _ (net : List Cell) (ordered : Ordered net) (words : ℕ → ℕ) (W : Values) (obeys : Obeys net words W) where
+module _ (net : List Cell) (ordered : Ordered net) (starts : Sig) (words : ℕ → ℕ) (W : Values) (obeys : Obeys net starts words W) where
   module _ (t : ℕ) (s : List ℕ) (H : Holding net words W t s) (room : stateSize net ≤ length s) where
     U : List ℕ
     U = one s (length net)
@@ -51,30 +50,26 @@ module _ (net : List Cell) (ordered : Ordered net) (words : ℕ → ℕ) (W : Va
 
     before-U : (j : ℕ) → j < length net → beforeAt U j ≡ W j t
     unfolding U
-    before-U j h = before-one s (length net) j h (omega arith) ∙ H .present j h
+    before-U j h = before-one s (length net) j h (omega arith) ∙ H .body .present j h
 
     bytes-U : (k : ℕ) → k < length net → shapeAt net k ≡ kDelay → Line U k
     unfolding U
-    bytes-U k h e = one-bytes s (length net) k (H .bytes k h e)
+    bytes-U k h e = one-bytes s (length net) k (H .body .bytes k h e)
 
     line-U : (k : ℕ) → k < length net → shapeAt net k ≡ kDelay → (i : ℕ) → i < 256 → lineBit U k i ≡ bit (delayed i (level W (cellAt net k .a)) t)
     unfolding U
-    line-U k h e i g = one-line s (length net) k i g ∙ H .lines k h e i g
+    line-U k h e i g = one-line s (length net) k i g ∙ H .body .lines k h e i g
 
     held-U : (k : ℕ) → k < length net → shapeAt net k ≡ kMerge → heldAt U k ≡ heldBefore (level W (cellAt net k .a)) (level W (cellAt net k .b)) (suc t)
     unfolding U
-    held-U k h e = one-held s (length net) k ∙ H .held k h e
+    held-U k h e = one-held s (length net) k ∙ H .body .held k h e
 
     element-U : (n : ℕ) → elementNow net U n ≡ elementNow net s n
     unfolding U
     element-U n = get16-same s (one s (length net)) _ (one-behind s (length net) _ (omega arith)) (one-behind s (length net) _ (omega arith))
 
-    no-start : 0 ≡ bit (eqb (suc t) 0)
-    unfolding bit
-    no-start = ap bit (sym (ne-eqb (suc t) 0 (λ e. omega arith)))
-
     v : List ℕ → ℕ → ℕ
-    v = value net
+    v = value net (starts (suc t))
 
     step-delay : (k : ℕ) → k < length net → shapeAt net k ≡ kDelay
         → lineBit (two net v U k) k (cellAt net k .delay - 1) ≡ bit (delayed (cellAt net k .delay) (level W (cellAt net k .a)) (suc t))
@@ -87,7 +82,7 @@ module _ (net : List Cell) (ordered : Ordered net) (words : ℕ → ℕ) (W : Va
         ∙ ap bit (sym (delayed-more (c .delay - 1) (level W (c .a)) t) ∙ ap (λ (n : ℕ). delayed n (level W (c .a)) (suc t)) d)
 
     step-memory : (k : ℕ) → k < length net → ((a : ℕ) → a < k → nowAt (two net v U k) a ≡ W a (suc t)) → shapeAt net k ≡ kMemory
-        → nextValue kMemory net (two net v U k) k (cellAt net k) ≡ memory (startWord net words k) W k (cellAt net k) (suc t)
+        → nextValue kMemory (starts (suc t)) net (two net v U k) k (cellAt net k) ≡ memory (startWord net words k) W k (cellAt net k) (suc t)
     unfolding nextValue memory
     step-memory k h lower e =
         let c = cellAt net k in
@@ -112,11 +107,11 @@ module _ (net : List Cell) (ordered : Ordered net) (words : ℕ → ℕ) (W : Va
           before-U (cellAt net (arrayAt net a) .b) (f .1),
           before-U (cellAt net (arrayAt net a + 1) .a) (f .2),
           element-U (64 * a + i),
-          H .elements a i la li,
+          H .body .elements a i la li,
         )
 
     step-read : (k : ℕ) → k < length net → ((a : ℕ) → a < k → nowAt (two net v U k) a ≡ W a (suc t)) → shapeAt net k ≡ kRead
-        → nextValue kRead net (two net v U k) k (cellAt net k) ≡ element net words W (cellAt net k .a) (index (W (cellAt net k .b) (suc t))) (suc t)
+        → nextValue kRead (starts (suc t)) net (two net v U k) k (cellAt net k) ≡ element net words W (cellAt net k .a) (index (W (cellAt net k .b) (suc t))) (suc t)
     unfolding nextValue
     step-read k h lower e =
         let c = cellAt net k in
@@ -134,8 +129,8 @@ module _ (net : List Cell) (ordered : Ordered net) (words : ℕ → ℕ) (W : Va
     step-first : (k : ℕ) → k < length net → ((a : ℕ) → a < k → nowAt (two net v U k) a ≡ W a (suc t)) → v (two net v U k) k ≡ W k (suc t)
     unfolding Obeys v
     step-first k h lower =
-        later-is net (element net words W) W (kinds net) (suc t) (startWord net words k) k (length net) (cellAt net k) (two net (value net) U k) lower
-        (shapeAt net k) (ordered .looks k h) (λ e. no-start) (step-delay k h) (λ e. seen-held net (value net) U k k h ∙ held-U k h e)
+        later-is net starts (element net words W) W (kinds net) (suc t) (startWord net words k) k (length net) (cellAt net k) (two net v U k) lower
+        (shapeAt net k) (ordered .looks k h) (step-delay k h) (λ e. seen-held net v U k k h ∙ held-U k h e)
         (step-memory k h lower) (step-read k h lower)
         ∙ sym (obeys k h (suc t))
 
@@ -143,7 +138,7 @@ module _ (net : List Cell) (ordered : Ordered net) (words : ℕ → ℕ) (W : Va
     S = after net v U
 
     step-lines : (k : ℕ) → k < length net → shapeAt net k ≡ kDelay → (i : ℕ) → i < 256 → lineBit S k i ≡ bit (delayed i (level W (cellAt net k .a)) (suc t))
-    step-lines k h e zero g = newest-is net ordered words W obeys (suc t) v U room-U step-first k h e (bytes-U k h e)
+    step-lines k h e zero g = newest-is net ordered W (suc t) v U room-U step-first k h e (bytes-U k h e)
     step-lines k h e (suc i) g =
         let z : suc i ≡ i + 1 = omega arith in
         rw z
@@ -159,38 +154,37 @@ module _ (net : List Cell) (ordered : Ordered net) (words : ℕ → ℕ) (W : Va
         element-after net ordered a i la li v U room-all
         ∙ step-element a i (length net) la li (omega (arith, r .0)) (omega arith)
         (now-two net v U (length net) clock b b (omega (arith, room-U)) ∙ sym (now-after net v U room-U clock b)
-        ∙ now-is net ordered words W obeys (suc t) v U room-U step-first clock b)
+        ∙ now-is net ordered W (suc t) v U room-U step-first clock b)
 
-    step-is-S : stepState net s ≡ S
+    step-is-S : stepState net (starts (suc t)) s ≡ counted net S
     unfolding v U
-    step-is-S = step-is net s
+    step-is-S = step-is net (starts (suc t)) s
 
-    step-instant : suc t ≤ 1000000 → instantOf (stepState net s) ≡ suc t
-    step-instant l =
-        let e : instantOf s ≡ t = H .instant (omega arith) in
-        count-now net s (omega arith) (omega arith) ∙ omega arith
+    length-S : length S ≡ length s
+    unfolding U
+    length-S = length-three net v U (length net) ∙ length-one s (length net)
 
-    step-zeros : (j : ℕ) → 4 ≤ j → j < 8 → getD (stepState net s) j 0 ≡ 0
-    step-zeros j x y = header-kept net s j x y ∙ H .zeros j x y
+    step-instant : suc t ≤ 1000000 → instantOf (counted net S) ≡ suc t
+    step-instant l = ap (λ (z : List ℕ). instantOf z) (sym step-is-S) ∙ count-now net (starts (suc t)) s (omega arith) ∙ omega (arith, H .instant (omega arith))
 
-    pub step-holds : Holding net words W (suc t) (stepState net s)
+    step-body : Body net words W (suc t) S
     unfolding earlier
-    step-holds =
+    step-body =
         record {
-          instant = step-instant;
-          zeros = step-zeros;
-          present = λ k h. ap (λ (z : List ℕ). nowAt z k) step-is-S ∙ now-is net ordered words W obeys (suc t) v U room-U step-first k h;
-          past = λ k h. ap (λ (z : List ℕ). beforeAt z k) step-is-S ∙ before-after net v U k h ∙ before-U k h;
-          held = λ k h e. ap (λ (z : List ℕ). heldAt z k) step-is-S ∙ held-is net ordered words W obeys (suc t) v U room-U step-first k h e (held-U k h e);
-          lines = λ k h e i g. ap (λ (z : List ℕ). lineBit z k i) step-is-S ∙ step-lines k h e i g;
-          elements = λ a i la li. ap (λ (z : List ℕ). elementNow net z (64 * a + i)) step-is-S ∙ step-elements a i la li;
-          bytes = λ k h e. rw step-is-S (line-bytes net v U room-U k h e (bytes-U k h e));
-          clean = λ k h. rw step-is-S (clean-after net v U room-U k h (clean-U k h));
+          present = now-is net ordered W (suc t) v U room-U step-first;
+          past = λ k h. before-after net v U k h ∙ before-U k h;
+          held = λ k h e. held-is net ordered W (suc t) v U room-U step-first k h e (held-U k h e);
+          lines = step-lines;
+          elements = step-elements;
+          bytes = λ k h e. line-bytes net v U room-U k h e (bytes-U k h e);
+          clean = λ k h. clean-after net v U room-U k h (clean-U k h);
         }
       where
         clean-U : (k : ℕ) → k < length net → Clean net U k
-        clean-U k h = unfold U in one-clean net s (length net) k (H .clean k h)
+        clean-U k h = unfold U in one-clean net s (length net) k (H .body .clean k h)
 
-    pub step-length : length (stepState net s) ≡ length s
-    unfolding U
-    step-length = ap length step-is-S ∙ length-three net v U (length net) ∙ length-one s (length net)
+    pub step-holds : Holding net words W (suc t) (stepState net (starts (suc t)) s)
+    step-holds = rw step-is-S (counted-holds net ordered words W (suc t) S (omega (arith, length-S)) step-instant step-body)
+
+    pub step-length : length (stepState net (starts (suc t)) s) ≡ length s
+    step-length = ap length step-is-S ∙ length-counted net S ∙ length-S

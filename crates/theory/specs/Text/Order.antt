@@ -15,7 +15,7 @@ use Rattle.model.specs.Text.{Lexeme, wordsOf, outside}
 use Rattle.model.specs.Reader.{Reading, good, bad}
 use Rattle.model.specs.Calls.{verdict, writtenVerdict, short, compiledFile, netlistChecks, fullState, fullCount, fullRunChecks}
 use Rattle.model.specs.TextCalls.{readingOf, brokenAt, textProgram, textChecks, readTextChecks, readTextCall, compileTextChecks, compileTextCall, runTextChecks, runTextCall}
-use Rattle.model.specs.Promises.{Gives, InOrder, Refuses, tableNumbers, programNumbers, just, Leaves}
+use Rattle.model.specs.RefusalPromises.{Gives, InOrder, Refuses, tableNumbers, programNumbers, just, Leaves}
 use Rattle.theory.specs.Refusals.Order.{gives-one, gives-if, gives-pick, check-gives, table-gives, short-gives, write-refuses, compile-order, run-order, run-both-refuses}
 
 outside-gives : (ws : List Lexeme) → Gives (just 17) (outside ws)

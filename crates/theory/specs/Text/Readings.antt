@@ -13,7 +13,7 @@ use Rattle.model.specs.Text.{wordsOf, tokens, Means, BreaksAt}
 use Rattle.model.specs.Reader.{Reading, good, bad, readerAtFirst}
 use Rattle.model.specs.TimeTables.{load}
 use Rattle.model.specs.TextCalls.{readingOf, brokenAt, bytesRead, textChecks, readTextCall}
-use Rattle.model.specs.Promises.{Bytes}
+use Rattle.model.specs.Word.{Bytes}
 use Rattle.model.specs.TextPromises.{placeAt, Texts}
 use Rattle.laws.specs.Refusals.Laws.{not-refused, all-accept}
 use Rattle.laws.specs.Text.Runs.{reads-good}

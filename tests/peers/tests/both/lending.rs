@@ -116,10 +116,11 @@ fn assert_refused(state: &[u8], n: u32, number: u8) {
 #[test]
 fn fourteen_comes_before_fifteen_before_sixteen() {
     let mut state = begun();
-    state[4] = 1;
+    // One pulse is in flight.
+    state[4] = 2;
     assert_refused(&state[..STATE_LENGTH - 1], u32::MAX, 14);
     assert_refused(&state, u32::MAX, 15);
-    state[4] = 0;
+    state[4] = 1;
     assert_refused(&state, u32::MAX, 16);
 }
 

@@ -48,6 +48,15 @@ pub fn every_kind() -> Vec<Cell> {
     cells
 }
 
+/// The first cell after the idle ones, and the first of their arrays.
+pub const FREE: u16 = 27;
+pub const FIRST_ARRAY: u16 = 19;
+
+/// The file of the idle cells and these.
+pub fn file_of_idle(cells: &[Cell], finish: u16) -> Vec<u8> {
+    file(&[&idle(), cells].concat(), finish)
+}
+
 /// The fixed cells, and sixteen memories and four arrays that are never
 /// assigned.
 pub fn idle() -> Vec<Cell> {

@@ -1,41 +1,15 @@
 //! States that no run leaves behind: what refusal 15 names is refused, and
 //! everything else is taken as it stands.
 
-use crate::expect::{refused, state_length, START};
-use crate::netlist;
+use crate::expect::{refused, START};
+use crate::netlist::{file_of_idle as file, FIRST_ARRAY as ARRAY, FREE};
+use crate::run::*;
 use peers::BOTH;
 use second::cells::{CONSTANT, DELAY, MERGE, READ};
 use values::{Cell, Refusal};
 
-/// The first cell after start, ground, zero, sixteen idle memories and four
-/// idle arrays, of which the first is this.
-const FREE: u16 = 27;
-const ARRAY: u16 = 19;
-
-const NOW: usize = 0;
-const AGO: usize = 2;
-const HELD_A: usize = 4;
-const HELD_B: usize = 5;
-const ZERO_BYTE: usize = 6;
-const LINE: usize = 8;
-
-/// A netlist file of the idle memories and arrays and these cells.
-fn file(cells: &[Cell], finish: u16) -> Vec<u8> {
-    netlist::file(&[&netlist::idle(), cells].concat(), finish)
-}
-
 fn begun(file: &[u8]) -> Vec<u8> {
-    let read = (BOTH.read_netlist)(file, &[0; 6144]);
-    let count = read.result.expect("a good netlist").cells;
-    let state = vec![0; state_length(count.into())];
-    let begun = (BOTH.begin)(file, &START, &state);
-    begun.result.expect("the buffer is long enough");
-    begun.lent[0].clone()
-}
-
-/// The place of a byte of a cell.
-fn at(cell: u16, byte: usize) -> usize {
-    8 + 40 * usize::from(cell) + byte
+    Run::begin(file, &START).state
 }
 
 /// The state one instant later.
@@ -51,6 +25,7 @@ fn a_line_decides_whatever_its_input_was() {
     let mut state = begun(&file);
     // Ground was never high, yet the line says so of the present instant.
     state[at(FREE, LINE)] = 0b1;
+    state[NUMBER] = 1;
     let first = next(&file, &state);
     assert_eq!((first[at(FREE, NOW)], first[at(FREE, LINE)]), (0, 0b10));
     let second = next(&file, &first);
@@ -99,6 +74,7 @@ fn two_held_bits_are_a_pulse_at_the_next_instant() {
     let mut state = begun(&file);
     state[at(FREE, HELD_A)] = 1;
     state[at(FREE, HELD_B)] = 1;
+    state[NUMBER] = 2;
     let after = next(&file, &state);
     assert_eq!(after[at(FREE, NOW)], 1);
     assert_eq!(after[at(FREE, HELD_A)..at(FREE, ZERO_BYTE)], [0, 0]);
@@ -166,8 +142,10 @@ fn what_refusal_15_names_is_refused_and_nothing_else() {
         delay,
     );
     let unlawful = [
-        (4, 1),
-        (7, 1),
+        (NUMBER, 1),
+        (NUMBER + 3, 1),
+        (at(merge, HELD_B), 1),
+        (at(delay, LINE), 0),
         (at(delay, NOW), 2),
         (at(delay, NOW + 1), 1),
         (at(delay, AGO), 2),
@@ -197,8 +175,6 @@ fn what_refusal_15_names_is_refused_and_nothing_else() {
         (at(delay, AGO), 1),
         (at(sum, NOW + 1), 255),
         (at(sum, AGO + 1), 255),
-        (at(merge, HELD_A), 1),
-        (at(merge, HELD_B), 1),
         (at(delay, LINE + 31), 255),
         (at(ARRAY, NOW), 5),
         (at(ARRAY + 1, AGO + 1), 5),

@@ -16,12 +16,19 @@ static LENT: [u8; 50_000] = [0xa5; 50_000];
 static LENT_CELLS: [Cell; 1_100] = [Cell::new(0xa5, 0xa5, 0xa5a5, 0xa5a5); 1_100];
 
 /// The folders with programs, with netlist files, and so on. Those of s05 have
-/// arrays, those of s06 loops too.
-const PROGRAMS: [&str; 5] = ["program", "compile", "speed", "s05/compile", "s06/compile"];
+/// arrays, those of s06 loops too, those of s07 second starts.
+const PROGRAMS: [&str; 6] = [
+    "program",
+    "compile",
+    "speed",
+    "s05/compile",
+    "s06/compile",
+    "s07/compile",
+];
 const NETLISTS: [&str; 3] = ["netlist", "s05/netlist", "s06/netlist"];
-const CALLS: [&str; 3] = ["calls", "s05/calls", "s06/calls"];
-const STATES: [&str; 2] = ["state", "s05/state"];
-const RULES: [&str; 2] = ["s05/rules", "s06/rules"];
+const CALLS: [&str; 4] = ["calls", "s05/calls", "s06/calls", "s07/calls"];
+const STATES: [&str; 3] = ["state", "s05/state", "s07/state"];
+const RULES: [&str; 3] = ["s05/rules", "s06/rules", "s07/rules"];
 const HUBRUN: [&str; 3] = ["hubrun", "s05/hubrun", "s06/hubrun"];
 
 /// One vector: the folder and the common beginning of its files' names.
@@ -56,12 +63,15 @@ impl Vector {
         self.text(extension).parse().expect("a number")
     }
 
-    /// A call on the state in a buffer, by its line: `begin` or `cont N`.
+    /// A call on the state in a buffer, by its line: `begin`, `cont N` or
+    /// `start`.
     fn call(&self, line: &str, state: &[u8]) -> Reply<Answer> {
         let file = self.bytes("net");
-        match line.strip_prefix("cont ") {
-            Some(n) => (BOTH.continue_by)(&file, n.parse().expect("a number"), state),
-            None => (BOTH.begin)(&file, &self.bytes("words"), state),
+        match line.split_once(' ').unwrap_or((line, "")) {
+            ("cont", n) => (BOTH.continue_by)(&file, n.parse().expect("a number"), state),
+            ("start", "") => (BOTH.start)(&file, state),
+            ("begin", "") => (BOTH.begin)(&file, &self.bytes("words"), state),
+            _ => panic!("{}: no call is '{line}'", self.stem.display()),
         }
     }
 }

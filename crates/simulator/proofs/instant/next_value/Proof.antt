@@ -6,12 +6,12 @@ use Rattle.model.specs.Circuit.{memory}
 use Rattle.laws.specs.Numbering.Cells.{join}
 use Rattle.simulator.specs.Fits.{netOf}
 use Rattle.simulator.proofs.Cells.{read-array}
-use Rattle.simulator.proofs.ByKind.{no-operator-low, no-operator-high, next-constant, next-delay, next-or, next-when-true, next-when-false, next-merge, next-fallen, next-kept, next-gate-open, next-gate-shut, next-operator, next-read, next-still}
+use Rattle.simulator.proofs.ByKind.{no-operator-low, no-operator-high, next-constant, next-start, next-delay, next-or, next-when-true, next-when-false, next-merge, next-fallen, next-kept, next-gate-open, next-gate-shut, next-operator, next-read, next-still}
 use Rattle.simulator.proofs.instant.next_value.Statement.{statement}
 use Rattle.simulator.proofs.instant.next_value.Tie as tie
 
 returns : tie.Need-returns
-returns c = sym (next-constant _ _ _ _ (c .if1 .taken))
+returns c = sym (next-constant _ _ _ _ _ (c .if1 .taken))
 
 sub-line-bit : tie.Need-sub-line-bit
 sub-line-bit c =
@@ -19,7 +19,7 @@ sub-line-bit c =
     pre .sees .delay (c .before .if2 .taken)
 
 returns-2 : tie.Need-returns-2
-returns-2 c = c .line-bit .ensures ∙ sym (next-delay _ _ _ _ (c .before .before .if2 .taken))
+returns-2 c = c .line-bit .ensures ∙ sym (next-delay _ _ _ _ _ (c .before .before .if2 .taken))
 
 has-fallen-requires : tie.Need-has-fallen-requires
 has-fallen-requires c κs =
@@ -30,12 +30,12 @@ has-fallen-requires c κs =
 returns-3 : tie.Need-returns-3
 returns-3 c =
     let if3 = c .before .before .before .if3 in
-    c .before-at .ensures ∙ sym (next-fallen _ _ _ _ (if3 .taken) (sym (c .before .before .has-fallen .ensures) ∙ c .before .if4 .taken))
+    c .before-at .ensures ∙ sym (next-fallen _ _ _ _ _ (if3 .taken) (sym (c .before .before .has-fallen .ensures) ∙ c .before .if4 .taken))
 
 returns-4 : tie.Need-returns-4
 returns-4 c =
     let if3 = c .before .before .before .if3 in
-    c .before-at2 .ensures ∙ sym (next-kept _ _ _ _ (if3 .taken) (sym (c .before .before .has-fallen .ensures) ∙ c .before .if4 .left))
+    c .before-at2 .ensures ∙ sym (next-kept _ _ _ _ _ (if3 .taken) (sym (c .before .before .has-fallen .ensures) ∙ c .before .if4 .left))
 
 now-at-requires : tie.Need-now-at-requires
 now-at-requires c κs =
@@ -46,61 +46,67 @@ now-at-requires c κs =
 element-now-requires : tie.Need-element-now-requires
 element-now-requires c κs =
     let pre = c .before .before .before .before .before .before .before .before .before .before .pre in
-    let array = read-array pre (c .match .keys6) in
+    let array = read-array pre (c .match .keys7) in
     (pre .fits, array .0, array .1)
 
 returns-5 : tie.Need-returns-5
 returns-5 c =
     let args = c .before .before .before .before .before .before .before .before .before .before .before .args in
-    cc (next-or (netOf (args .cells .now) (args .n)) (args .state .now) (args .k) (args .c) (c .before .match .keys1))
+    cc (next-start (args .starts) (netOf (args .cells .now) (args .n)) (args .state .now) (args .k) (args .c) (c .before .match .keys1))
 
 returns-6 : tie.Need-returns-6
 returns-6 c =
     let args = c .before .before .before .before .before .before .before .before .before .before .before .args in
-    cc (next-when-true (netOf (args .cells .now) (args .n)) (args .state .now) (args .k) (args .c) (c .before .match .keys2))
+    cc (next-or (args .starts) (netOf (args .cells .now) (args .n)) (args .state .now) (args .k) (args .c) (c .before .match .keys2))
 
 returns-7 : tie.Need-returns-7
 returns-7 c =
     let args = c .before .before .before .before .before .before .before .before .before .before .before .args in
-    cc (next-when-false (netOf (args .cells .now) (args .n)) (args .state .now) (args .k) (args .c) (c .before .match .keys3))
+    cc (next-when-true (args .starts) (netOf (args .cells .now) (args .n)) (args .state .now) (args .k) (args .c) (c .before .match .keys3))
 
 returns-8 : tie.Need-returns-8
 returns-8 c =
     let args = c .before .before .before .before .before .before .before .before .before .before .before .args in
-    cc (next-merge (netOf (args .cells .now) (args .n)) (args .state .now) (args .k) (args .c) (c .before .match .keys4))
+    cc (next-when-false (args .starts) (netOf (args .cells .now) (args .n)) (args .state .now) (args .k) (args .c) (c .before .match .keys4))
 
 returns-9 : tie.Need-returns-9
 returns-9 c =
-    let now-at = c .before .before .before .now-at in
-    c .before .before .now-at2 .ensures ∙ sym (next-gate-open _ _ _ _ (c .before .match .keys5) (sym (now-at .ensures) ∙ c .if5 .taken))
+    let args = c .before .before .before .before .before .before .before .before .before .before .before .args in
+    cc (next-merge (args .starts) (netOf (args .cells .now) (args .n)) (args .state .now) (args .k) (args .c) (c .before .match .keys5))
 
 returns-10 : tie.Need-returns-10
 returns-10 c =
     let now-at = c .before .before .before .now-at in
-    sym (next-gate-shut _ _ _ _ (c .before .match .keys5) (λ e. c .if5 .left (now-at .ensures ∙ e)))
+    c .before .before .now-at2 .ensures ∙ sym (next-gate-open _ _ _ _ _ (c .before .match .keys6) (sym (now-at .ensures) ∙ c .if5 .taken))
 
 returns-11 : tie.Need-returns-11
 returns-11 c =
-    let args = c .before .before .before .before .before .before .before .before .before .before .before .args in
-    cc (next-read (netOf (args .cells .now) (args .n)) (args .state .now) (args .k) (args .c) (c .before .match .keys6))
+    let now-at = c .before .before .before .now-at in
+    sym (next-gate-shut _ _ _ _ _ (c .before .match .keys6) (λ e. c .if5 .left (now-at .ensures ∙ e)))
 
 returns-12 : tie.Need-returns-12
 returns-12 c =
-    let args = c .before .before .before .before .before .before .before .before .before .before .before .before .before .args in
-    cc (next-operator (netOf (args .cells .now) (args .n)) (args .state .now) (args .k) (args .c) (c .before .before .if6 .left) (omega arith))
+    let args = c .before .before .before .before .before .before .before .before .before .before .before .args in
+    cc (next-read (args .starts) (netOf (args .cells .now) (args .n)) (args .state .now) (args .k) (args .c) (c .before .match .keys7))
 
 returns-13 : tie.Need-returns-13
 returns-13 c =
+    let args = c .before .before .before .before .before .before .before .before .before .before .before .before .before .args in
+    cc (next-operator (args .starts) (netOf (args .cells .now) (args .n)) (args .state .now) (args .k) (args .c) (c .before .before .if6 .left) (omega arith))
+
+returns-14 : tie.Need-returns-14
+returns-14 c =
     let if1 = c .before .before .before .before .before .before .before .before .if1 in
     let if2 = c .before .before .before .before .before .before .before .if2 in
     let match = c .before .match in
     let if3 = c .before .before .before .before .if3 in
     sym
-    (next-still _ _ _ _
+    (next-still _ _ _ _ _
     (record {
       operator = no-operator-low _ (c .if6 .taken);
       constant = if1 .left;
       delay = if2 .left;
+      start = match .rest .0 .0 .0 .0 .0 .0 .1;
       join = match .rest .0 .0 .0 .0 .0 .1;
       when-true = match .rest .0 .0 .0 .0 .1;
       when-false = match .rest .0 .0 .0 .1;
@@ -110,18 +116,19 @@ returns-13 c =
       read = match .rest .1;
     }))
 
-returns-14 : tie.Need-returns-14
-returns-14 c =
+returns-15 : tie.Need-returns-15
+returns-15 c =
     let if1 = c .before .before .before .before .before .before .before .before .before .if1 in
     let if2 = c .before .before .before .before .before .before .before .before .if2 in
     let match = c .before .before .match in
     let if3 = c .before .before .before .before .before .if3 in
     sym
-    (next-still _ _ _ _
+    (next-still _ _ _ _ _
     (record {
       operator = no-operator-high _ (c .if7 .left);
       constant = if1 .left;
       delay = if2 .left;
+      start = match .rest .0 .0 .0 .0 .0 .0 .1;
       join = match .rest .0 .0 .0 .0 .0 .1;
       when-true = match .rest .0 .0 .0 .0 .1;
       when-false = match .rest .0 .0 .0 .1;
@@ -153,6 +160,7 @@ next-value-spec =
     (λ c κs. search needs)
     (λ c κs. search needs)
     (λ c κs. search needs)
+    (λ c κs. search needs)
     element-now-requires
     (λ c κs. search needs)
     returns-5
@@ -164,4 +172,5 @@ next-value-spec =
     returns-11
     returns-12
     returns-13
-    returns-14)
+    returns-14
+    returns-15)

@@ -10,10 +10,10 @@ use Rattle.simulator.proofs.instant.show_all.Statement.{statement}
 use Rattle.simulator.proofs.instant.show_all.Tie as tie
 
 abbrev Inv-loop : tie.InvT-loop
-Inv-loop cells n state₀ k₀ state k = Passed (shown (netOf cells n) (value (netOf cells n))) n state₀ state k
+Inv-loop cells n starts state₀ k₀ state k = Passed (shown (netOf cells n) (value (netOf cells n) starts)) n state₀ state k
 
 abbrev μ-loop : tie.MeasureT-loop
-μ-loop cells n state₀ k₀ state k = n - k
+μ-loop cells n starts state₀ k₀ state k = n - k
 
 loop-holds : tie.Need-loop-holds Inv-loop μ-loop
 loop-holds c = passed-none
@@ -43,7 +43,7 @@ loop-again c =
     let loop = test .before .loop in
     let args = test .before .before .before .before .args in
     passed-more (loop .inv) (test .loop-test .taken) (c .before .before .put16 .kept .0 ∙ c .before .before .before .before .before .before .store .kept .1 .1 .1 .0)
-    (cc (net-value (args .cells .now) (args .n) (loop .k) (test .loop-test .taken) (loop .state)))
+    (cc (net-value (args .cells .now) (args .n) (loop .k) (test .loop-test .taken) (args .starts) (loop .state)))
 
 same-length : tie.Need-same-length Inv-loop μ-loop
 same-length c = c .before .loop .inv .long

@@ -4,31 +4,26 @@ use native.Mathlib.Omega.{arith}
 use borrow.Author.Needs.{needs}
 use Rattle.simulator.proofs.Cells.{net-length, refits}
 use Rattle.simulator.proofs.Passes.{stepped}
+use Rattle.simulator.proofs.InFlight.{step-numbered}
 use Rattle.simulator.proofs.instant.step.Statement.{statement}
 use Rattle.simulator.proofs.instant.step.Tie as tie
 
 show-all-requires : tie.Need-show-all-requires
 show-all-requires c κs =
-    let pre = c .before .before .before .before .before .before .before .before .before .before .before .pre in
-    let age-all = c .before .before .before .age-all in
-    let tick = c .before .before .before .before .before .before .before .tick in
-    refits (pre .0) (omega arith) (age-all .kept .0 ∙ tick .kept .0)
+    refits (c .before .before .before .before .before .before .before .before .before .before .before .pre .0) (omega arith) (c .before .before .before .age-all .kept .0 ∙ c .before .before .before .before .before .before .before .tick .kept .0)
 
 settle-all-requires : tie.Need-settle-all-requires
 settle-all-requires c κs =
-    let pre = c .before .before .before .before .before .before .before .before .before .before .before .before .before .before .before .pre in
-    let show-all = c .before .before .before .show-all in
-    let age-all = c .before .before .before .before .before .before .before .age-all in
-    let tick = c .before .before .before .before .before .before .before .before .before .before .before .tick in
-    refits (pre .0) (omega arith) (show-all .kept .1 .1 .0 ∙ age-all .kept .0 ∙ tick .kept .0)
+    let args = c .before .before .before .before .before .before .before .before .before .before .before .before .before .before .before .args in
+    let pre = c .before .before .before .before .before .before .before .before .before .before .before .before .before .before .before .pre in (
+      refits (pre .0) (omega arith) (c .before .before .before .show-all .kept .1 .1 .1 .0 ∙ c .before .before .before .before .before .before .before .age-all .kept .0 ∙ c .before .before .before .before .before .before .before .before .before .before .before .tick .kept .0),
+      step-numbered _ (pre .0 .ordered) _ (net-length (args .cells .now) (args .n)) _ (args .starts) _ _ _ (pre .2) (c .before .before .before .before .before .before .before .before .before .before .before .tick .ensures) (c .before .before .before .before .before .before .before .age-all .ensures) (c .before .before .before .show-all .ensures),
+    )
 
 returns : tie.Need-returns
 returns c =
     let args = c .before .before .before .before .before .before .before .before .before .before .before .before .before .before .before .before .before .before .args in
-    let tick = c .before .before .before .before .before .before .before .before .before .before .before .before .before .before .tick in
-    let age-all = c .before .before .before .before .before .before .before .before .before .before .age-all in
-    let show-all = c .before .before .before .before .before .before .show-all in
-    stepped _ _ (net-length (args .cells .now) (args .n)) _ _ _ _ _ (tick .ensures) (age-all .ensures) (show-all .ensures) (c .before .before .settle-all .ensures)
+    stepped _ _ (net-length (args .cells .now) (args .n)) _ (args .starts) _ _ _ _ (c .before .before .before .before .before .before .before .before .before .before .before .before .before .before .tick .ensures) (c .before .before .before .before .before .before .before .before .before .before .age-all .ensures) (c .before .before .before .before .before .before .show-all .ensures) (c .before .before .settle-all .ensures)
 
 pub step-spec : {M : Type 1} → statement M
 step-spec =

@@ -29,6 +29,7 @@ continue-state-requires c κs =
       file-fits file state (pre .0) (load .last .0) (load .result) (omega (arith, load .kept .0)) (load .ensures .0) (load .ensures .1),
       omega (arith, get16-call .ensures, load .ensures .0, file-sized file state (pre .0) .finish),
       pre .1,
+      rw (load .ensures .1) (pre .2),
     )
 
 returns : tie.Need-returns
@@ -38,7 +39,7 @@ returns c =
     let get16-call = c .before .before .before .before .before .before .before .before .before .before .get16 in
     let continue-state = c .before .before .before .before .continue-state in
     let z = continued (args .file .now) (netOf (load .last .0) (load .result)) (get16-call .result) (load .ensures .1) (get16-call .ensures)
-    (args .budget) (args .state .now) _ _ (continue-state .ensures .0) (continue-state .ensures .1) in
+    (args .starts) (args .budget) (args .state .now) _ _ (continue-state .ensures .0) (continue-state .ensures .1) in
     (z .0, c .shows .ensures ∙ ap₂ (shows (args .file .now)) (z .0) (z .1))
 
 pub continue-by-spec : {M : Type 1} → statement M

@@ -1,4 +1,5 @@
 -- `full_run` meets its contract. Assumes nothing.
+use mathlib.Core.Bool.{false}
 use mathlib.Core.List.{List}
 use mathlib.Core.Path.{sym, _∙_, ap, ap₂}
 use Prim.Native.Nat.{ℕ}
@@ -8,9 +9,10 @@ use Rattle.model.specs.Calls.{wordAt, shows}
 use Rattle.model.specs.Circuit.{memories}
 use Rattle.model.specs.declared.Cell.{Cell}
 use Rattle.simulator.specs.Fits.{netOf}
-use Rattle.simulator.proofs.AcceptedFile.{file-sized, file-room, file-sixteen, file-fits, begin-instant, reruns}
+use Rattle.simulator.proofs.AcceptedFile.{file-sized, file-room, file-sixteen, file-fits, begin-instant, reruns, file-ordered}
+use Rattle.simulator.proofs.InFlight.{begun-numbered}
 use Rattle.simulator.proofs.Answers.{full-ended, full-open}
-use Rattle.simulator.proofs.Continuing.{evaluated-le}
+use Rattle.simulator.proofs.Continuing.{count-le}
 use Rattle.simulator.proofs.runs.full_run.Statement.{statement}
 use Rattle.simulator.proofs.runs.full_run.Tie as tie
 
@@ -73,6 +75,7 @@ continue-state-requires c κs =
       file-fits file _ (reruns (pre .0) (begin-state .kept .1 .1 .1 .0)) (load .last .0) (load .result) (omega (arith, load .kept .0)) (load .ensures .0) (load .ensures .1),
       omega (arith, get16-call .ensures, load .ensures .0, file-sized file state (pre .0) .finish),
       omega (arith, z, pre .2),
+      begun-numbered net (rw (load .ensures .1) (file-ordered file state (pre .0))) (wordAt (args .words .now)) state _ (begin-state .ensures),
     )
 
 add-shows : tie.Need-add-shows
@@ -84,7 +87,7 @@ add-shows c =
     let args = start .args in
     let begin-state = c .before .before .before .before .before .before .before .before .before .before .before .begin-state in
     let pre = start .pre in
-    omega (arith, continue-state .ensures .1, evaluated-le (netOf (load .last .0) (load .result)) (get16-call .result) (args .budget) (begin-state .last .1 .1 .1 .0), pre .2)
+    omega (arith, continue-state .ensures .1, count-le (netOf (load .last .0) (load .result)) false (get16-call .result) (args .budget) (begin-state .last .1 .1 .1 .0), pre .2)
 
 returns-2 : tie.Need-returns-2
 returns-2 c =

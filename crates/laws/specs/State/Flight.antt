@@ -1,0 +1,320 @@
+-- The number in flight: which bytes it comes from, and how it changes cell by cell in the third pass. So code that carries it adds what comes in at
+-- each delay and each merge and takes off what goes out, and counts nothing anew.
+-- Assumes nothing.
+use mathlib.Core.Bool.{Bool, true}
+use mathlib.Core.List.{List, [], _∷_}
+use mathlib.Core.Logic.{inl, inr, ⊎-elim}
+use mathlib.Core.Path.{_≡_, refl, sym, _∙_, ap, ap₂}
+use Prim.Native.Nat.{ℕ, zero, suc, _+_, _-_, _*_, _/_, _<_, _≤_, suc-le-suc}
+use native.Mathlib.Nat.{add-zero, zero-div}
+use native.Mathlib.Omega.{arith}
+use lib.Dec.{eqb}
+use lib.ListN.{getD, length, length-append, length-replicate}
+use borrow.Author.Tests.{eqb-true}
+use Rattle.model.specs.declared.Cell.{Cell}
+use Rattle.model.specs.declared.Merge.{Merge}
+use Rattle.model.specs.Word.{pick, bit, get16, get32}
+use Rattle.model.specs.Circuit.{cellAt, noCell, high, mergeStep, shape, cellTable, cellRow}
+use Rattle.model.specs.State.{base, instantOf, flightOf, nowAt, heldAt, lineBit, aged, shown, shiftedIn, holding, settle, settled, ones, heldBits, inFlight, flightIn, flight, counted, blank, value, firstValue, evaluate, beginState, stepState, cellsSound, sound}
+use Rattle.laws.specs.Refusals.Laws.{by-bool, and-true}
+use Rattle.laws.specs.Circuit.Ordered.{Looks, kinds, Ordered}
+use Rattle.laws.specs.State.Passes.{put32-other, put32-same, get32-same, upTo-frame, aged-frame, shown-frame, ticked, counted-other, settled-frame, bit-lt, apart, one, one-high, two, two-high, same-held, held-holding, Line, shifted-new, shifted-old, cleared-zero, length-one, after, length-three, evaluate-is}
+
+-- A delay's rule, by its kind
+pub delay-low : (K : ℕ → ℕ) (n k : ℕ) (c : Cell) (j : ℕ) → j ≡ 34 → Looks (cellRow j) K n k c → (1 ≤ c .delay) × (c .delay ≤ 255)
+unfolding shape cellTable
+delay-low K n k c j q o =
+    let h : Looks (cellRow 34) K n k c = rw q at o in
+    h .0
+
+-- Sums -----------------------------------------------------------------------------------------------------------------------------------
+
+pub ones-same : (l m : ℕ → ℕ) (d : ℕ) → ((i : ℕ) → i < d → l i ≡ m i) → ones l d ≡ ones m d
+unfolding ones
+ones-same l m zero h = refl
+ones-same l m (suc d) h = ap₂ (λ (x y : ℕ). x + y) (ones-same l m d (λ i g. h i (omega arith))) (h d (omega arith))
+
+-- a line that is moved by a bit, x coming in
+pub ones-next : (l m : ℕ → ℕ) (x : ℕ) → m 0 ≡ x → (d : ℕ) → ((i : ℕ) → i < d → m (suc i) ≡ l i) → ones m (suc d) + l d ≡ ones l (suc d) + x
+unfolding ones
+ones-next l m x e zero h = omega arith
+ones-next l m x e (suc d) h = omega (arith, ones-next l m x e d (λ i g. h i (omega arith)), h d (omega arith))
+
+-- what is in flight at one cell, by its kind
+module _ (l m : ℕ → ℕ) (g h : Merge) (c : Cell) where
+  pub cell-same : (c .kind ≡ 34 → (i : ℕ) → i < c .delay → l i ≡ m i) → (c .kind ≡ 38 → g ≡ h) → inFlight l g c ≡ inFlight m h c
+  unfolding inFlight
+  cell-same p q =
+      by-bool (eqb (c .kind) 34) (λ e. rw e (ones-same l m _ (λ i b. p (eqb-true _ _ e) i (omega (arith, b)))))
+      (λ e. by-bool (eqb (c .kind) 38) (λ f. rw (e, f) (ap heldBits (q (eqb-true _ _ f)))) (λ f. rw (e, f) refl))
+
+-- cell i of cs, which stand from k on
+abbrev pub cellFlight : (ℕ → ℕ → ℕ) → (ℕ → Merge) → List Cell → ℕ → ℕ → ℕ
+cellFlight l g cs k i = inFlight (l (k + i)) (g (k + i)) (getD cs i noCell)
+
+pub sum-same : (l m : ℕ → ℕ → ℕ) (g h : ℕ → Merge) (cs : List Cell) (k : ℕ)
+    → ((i : ℕ) → i < length cs → cellFlight l g cs k i ≡ cellFlight m h cs k i) → flightIn l g cs k ≡ flightIn m h cs k
+unfolding flightIn
+sum-same l m g h [] k e = refl
+sum-same l m g h (c ∷ cs) k e =
+    ap₂ (λ (x y : ℕ). x + y) (rw add-zero at (e 0 (omega arith)))
+    (sum-same l m g h cs (k + 1)
+    (λ i b.
+    let q : k + 1 + i ≡ k + suc i = omega arith in
+    rw q (e (suc i) (suc-le-suc b))))
+
+-- where one cell's number changes, from one that lacks x to one that lacks y
+sum-changed : (l m : ℕ → ℕ → ℕ) (g h : ℕ → Merge) (cs : List Cell) (k j x y : ℕ) → j < length cs
+    → ((i : ℕ) → i < length cs → (i ≡ j → ⊥) → cellFlight m h cs k i ≡ cellFlight l g cs k i)
+    → cellFlight m h cs k j + y ≡ cellFlight l g cs k j + x → flightIn m h cs k + y ≡ flightIn l g cs k + x
+unfolding flightIn
+sum-changed l m g h [] k j x y b o e = absurd (omega arith)
+sum-changed l m g h (c ∷ cs) k zero x y b o e =
+    let here : inFlight (m k) (h k) c + y ≡ inFlight (l k) (g k) c + x = rw add-zero at e in
+    let rest : flightIn m h cs (k + 1) ≡ flightIn l g cs (k + 1) =
+    sum-same m l h g cs (k + 1)
+    (λ i b.
+    let q : k + 1 + i ≡ k + suc i = omega arith in
+    rw q (o (suc i) (suc-le-suc b) (λ v. omega arith))) in
+    omega arith
+sum-changed l m g h (c ∷ cs) k (suc j) x y b o e =
+    let q : k + 1 + j ≡ k + suc j = omega arith in
+    let here : inFlight (m k) (h k) c ≡ inFlight (l k) (g k) c = rw add-zero at (o 0 (omega arith) (λ v. omega arith)) in
+    let rest : flightIn m h cs (k + 1) + y ≡ flightIn l g cs (k + 1) + x =
+    sum-changed l m g h cs (k + 1) j x y (omega arith)
+    (λ i b n.
+    let q : k + 1 + i ≡ k + suc i = omega arith in
+    rw q (o (suc i) (suc-le-suc b) (λ v. n (omega arith))))
+    (rw q e) in
+    omega arith
+
+-- of at most 255 for each cell
+ones-low : (l : ℕ → ℕ) (d : ℕ) → ((i : ℕ) → l i ≤ 1) → ones l d ≤ d
+unfolding ones
+ones-low l zero h = omega arith
+ones-low l (suc d) h = omega (arith, ones-low l d h, h d)
+
+sum-low : (l : ℕ → ℕ → ℕ) (g : ℕ → Merge) (cs : List Cell) (k : ℕ) → ((i : ℕ) → i < length cs → cellFlight l g cs k i ≤ 255)
+    → flightIn l g cs k ≤ 255 * length cs
+unfolding flightIn
+sum-low l g [] k h = omega arith
+sum-low l g (c ∷ cs) k h =
+    let here : inFlight (l k) (g k) c ≤ 255 = rw add-zero at (h 0 (omega arith)) in
+    let rest : flightIn l g cs (k + 1) ≤ 255 * length cs =
+    sum-low l g cs (k + 1)
+    (λ i b.
+    let q : k + 1 + i ≡ k + suc i = omega arith in
+    rw q (h (suc i) (suc-le-suc b))) in
+    omega arith
+
+-- The bytes that are counted -----------------------------------------------------------------------------------------------------------
+
+-- two states with the same bytes from 4 on in every cell have the same in flight
+module _ (net : List Cell) (ordered : Ordered net) (s u : List ℕ) where
+  line-same : (k : ℕ) → ((j : ℕ) → base k + 4 ≤ j → j < base k + 40 → getD u j 0 ≡ getD s j 0) → (i : ℕ) → i < 256 → lineBit u k i ≡ lineBit s k i
+  unfolding lineBit
+  line-same k same i b = rw (same (base k + 8 + i / 8) (omega arith) (omega arith))
+
+  at-cell : (k : ℕ) → k < length net → ((j : ℕ) → base k + 4 ≤ j → j < base k + 40 → getD u j 0 ≡ getD s j 0)
+      → inFlight (lineBit u k) (heldAt u k) (cellAt net k) ≡ inFlight (lineBit s k) (heldAt s k) (cellAt net k)
+  at-cell k l same =
+      cell-same (lineBit u k) (lineBit s k) (heldAt u k) (heldAt s k) (cellAt net k)
+      (λ q i b. line-same k same i (omega (arith, delay-low (kinds net) (length net) k (cellAt net k) (cellAt net k .kind) q (ordered .looks k l) .1)))
+      (λ q. same-held k u s (same (base k + 4) (omega arith) (omega arith)) (same (base k + 5) (omega arith) (omega arith)))
+
+  pub flight-same : ((k j : ℕ) → k < length net → base k + 4 ≤ j → j < base k + 40 → getD u j 0 ≡ getD s j 0) → flight net u ≡ flight net s
+  flight-same same =
+      sum-same (lineBit u) (lineBit s) (heldAt u) (heldAt s) net 0
+      (λ k l.
+      let e : 0 + k ≡ k = omega arith in
+      rw e (at-cell k l (λ j a b. same k j l a b)))
+
+module _ (net : List Cell) (ordered : Ordered net) where
+  -- the first two passes leave it
+  pub flight-kept : (v : List ℕ → ℕ → ℕ) (u : List ℕ) → flight net (two net v u (length net)) ≡ flight net u
+  flight-kept v u = flight-same net ordered u (two net v u (length net)) (λ k j l a b. two-high net v u (length net) k j l (omega arith) b)
+
+  pub flight-aged : (s : List ℕ) → flight net (one s (length net)) ≡ flight net s
+  flight-aged s = flight-same net ordered s (one s (length net)) (λ k j l a b. one-high s (length net) k j a b)
+
+  -- and putting it into the header does too, so that it is then what the state tells
+  pub counted-same : (s : List ℕ) → flight net (counted net s) ≡ flight net s
+  counted-same s = flight-same net ordered s (counted net s) (λ k j l a b. counted-other net s j (inr (omega arith)))
+
+  pub counted-tells : (s : List ℕ) → 7 < length s → flightOf (counted net s) ≡ flight net s
+  unfolding counted
+  counted-tells s h = put32-same s 4 (flight net s) (omega arith)
+
+  -- at most 255 for each cell, so four bytes hold it
+  pub flight-low : (s : List ℕ) → flight net s ≤ 255 * length net
+  flight-low s =
+      sum-low (lineBit s) (heldAt s) net 0
+      (λ k l.
+      let e : 0 + k ≡ k = omega arith in
+      rw e (cell-low s k (cellAt net k) (λ q. delay-low (kinds net) (length net) k (cellAt net k) (cellAt net k .kind) q (ordered .looks k l) .1)))
+    where
+      bit-low : (s : List ℕ) (k i : ℕ) → lineBit s k i ≤ 1
+      bit-low s k i = unfold lineBit in omega arith
+
+      cell-low : (s : List ℕ) (k : ℕ) (c : Cell) → (c .kind ≡ 34 → c .delay ≤ 255) → inFlight (lineBit s k) (heldAt s k) c ≤ 255
+      cell-low s k c d = unfold inFlight in
+          by-bool (eqb (c .kind) 34) (λ e. rw e (omega (arith, ones-low (lineBit s k) (c .delay) (bit-low s k), d (eqb-true _ _ e))))
+          (λ e.
+          by-bool (eqb (c .kind) 38) (λ f. rw (e, f) (omega (arith, bit-lt (heldAt s k .a), bit-lt (heldAt s k .b)))) (λ f. rw (e, f) (omega arith)))
+
+  -- so an instant leaves a state that tells it rightly
+  evaluate-true : (v : List ℕ → ℕ → ℕ) (u : List ℕ) → 7 < length u → flightOf (evaluate net v u) ≡ flight net (evaluate net v u)
+  evaluate-true v u h =
+      rw (evaluate-is net v u) (counted-tells (after net v u) (rw (length-three net v u (length net)) h) ∙ sym (counted-same (after net v u)))
+
+  pub step-true : (starts : Bool) (s : List ℕ) → 7 < length s → flightOf (stepState net starts s) ≡ flight net (stepState net starts s)
+  unfolding stepState one ticked
+  step-true starts s h = evaluate-true (value net starts) (one s (length net)) (rw (length-one s (length net)) h)
+
+  pub begin-true : (words : ℕ → ℕ) (s : List ℕ) → flightOf (beginState net words s) ≡ flight net (beginState net words s)
+  unfolding beginState
+  begin-true words s = evaluate-true (firstValue net words) (blank net words s) (simp (length-append, length-replicate) (omega arith))
+
+-- and a state that 15 lets pass tells it
+pub sound-true : (net : List Cell) (s : List ℕ) → sound net s ≡ true → flightOf s ≡ flight net s
+unfolding sound
+sound-true net s e = eqb-true (flightOf s) (flight net s) (and-true (eqb (flightOf s) (flight net s)) (cellsSound net s 0) e .0)
+
+-- The third pass -----------------------------------------------------------------------------------------------------------------------
+
+-- what comes into flight at cell k, which is c, when it settles, and what goes out
+unfoldable pub comesIn : List ℕ → ℕ → Cell → ℕ
+comesIn s k c =
+    pick (eqb (c .kind) 34) (bit (high (nowAt s (c .a))))
+    (pick (eqb (c .kind) 38) (heldBits (mergeStep (heldAt s k) (high (nowAt s (c .a))) (high (nowAt s (c .b))) .held)) 0)
+
+unfoldable pub goesOut : List ℕ → ℕ → Cell → ℕ
+goesOut s k c = pick (eqb (c .kind) 34) (lineBit s k (c .delay - 1)) (pick (eqb (c .kind) 38) (heldBits (heldAt s k)) 0)
+
+-- Of cell k of a netlist that keeps the rules, in a state that is long enough and whose lines are bytes
+module _ (net : List Cell) (ordered : Ordered net) (s : List ℕ) (room : 8 + 40 * length net ≤ length s) (k : ℕ) (h : k < length net)
+    (bytes : cellAt net k .kind ≡ 34 → Line s k) where
+  abbrev c : Cell
+  c = cellAt net k
+
+  abbrev u : List ℕ
+  u = settled net s k
+
+  others : (i : ℕ) → i < length net → (i ≡ k → ⊥) → inFlight (lineBit u i) (heldAt u i) (cellAt net i) ≡ inFlight (lineBit s i) (heldAt s i) (cellAt net i)
+  others i l n =
+      at-cell net ordered s u i l
+      (λ j a b. settled-frame net s k j (⊎-elim (λ z. inl (omega arith)) (λ z. inr z) (apart i k j (omega arith) b (λ e. n (sym e)))))
+
+  input : ℕ
+  input = bit (high (nowAt s (c .a)))
+
+  delay-moved : c .kind ≡ 34 → ones (lineBit u k) (c .delay) + lineBit s k (c .delay - 1) ≡ ones (lineBit s k) (c .delay) + input
+  unfolding settle shape input
+  delay-moved q =
+      let o = delay-low (kinds net) (length net) k c (c .kind) q (ordered .looks k h) in
+      let v = shiftedIn 32 s (base k + 8) input in
+      let r : u ≡ v = ap (λ (j : ℕ). settle (shape j) s k c) q in
+      let low : input < 2 = bit-lt (high (nowAt s (c .a))) in
+      let z : suc (c .delay - 1) ≡ c .delay = omega (arith, o .0) in
+      rw r
+      (rw z at
+      (ones-next (lineBit s k) (lineBit v k) input (shifted-new s k input low (bytes q) (omega arith)) (c .delay - 1)
+      (λ i l.
+      let e : suc i ≡ i + 1 = omega arith in
+      rw e (shifted-old s k input low (bytes q) (omega arith) i (omega (arith, o .1))))))
+
+  abbrev holds : Merge
+  holds = mergeStep (heldAt s k) (high (nowAt s (c .a))) (high (nowAt s (c .b))) .held
+
+  merge-moved : c .kind ≡ 38 → heldBits (heldAt u k) ≡ heldBits holds
+  unfolding settle shape
+  merge-moved q =
+      let r : u ≡ holding s k holds = ap (λ (j : ℕ). settle (shape j) s k c) q in
+      ap (λ (t : List ℕ). heldBits (heldAt t k)) r ∙ ap heldBits (held-holding s k holds (omega arith))
+
+  own : inFlight (lineBit u k) (heldAt u k) c + goesOut s k c ≡ inFlight (lineBit s k) (heldAt s k) c + comesIn s k c
+  unfolding inFlight comesIn goesOut input
+  own =
+      by-bool (eqb (c .kind) 34) (λ e. rw e (delay-moved (eqb-true _ _ e)))
+      (λ e.
+      by-bool (eqb (c .kind) 38) (λ f. rw (e, f) (omega (arith, merge-moved (eqb-true _ _ f)))) (λ f. rw (e, f) refl))
+
+  -- what settling one cell does to the number of all
+  pub flight-settled : flight net u + goesOut s k c ≡ flight net s + comesIn s k c
+  flight-settled =
+      sum-changed (lineBit s) (lineBit u) (heldAt s) (heldAt u) net 0 k (comesIn s k c) (goesOut s k c) h
+      (λ i l n.
+      let e : 0 + i ≡ i = omega arith in
+      rw e (others i l n))
+      (let e : 0 + k ≡ k = omega arith in
+      rw e own)
+
+-- What the header tells ----------------------------------------------------------------------------------------------------------------
+
+module _ (net : List Cell) where
+  -- the first two passes leave it
+  pub told-aged : (s : List ℕ) → flightOf (one s (length net)) ≡ flightOf s
+  unfolding one ticked
+  told-aged s =
+      get32-same s (one s (length net)) 4
+      (λ j a b. upTo-frame aged j (length net) (ticked s) (λ t k l. aged-frame t k j (inl (omega arith))) ∙ put32-other s 0 (instantOf s + 1) j (inr (omega arith)))
+
+  pub told-kept : (v : List ℕ → ℕ → ℕ) (u : List ℕ) → flightOf (two net v u (length net)) ≡ flightOf u
+  unfolding two
+  told-kept v u =
+      get32-same u (two net v u (length net)) 4
+      (λ j a b. upTo-frame (shown net v) j (length net) u (λ t k l. shown-frame net v t k j (omega arith) (inl (omega arith))))
+
+-- Where every byte of the cells is 0, nothing is in flight ------------------------------------------------------------------------------
+
+ones-none : (l : ℕ → ℕ) (d : ℕ) → ((i : ℕ) → i < d → l i ≡ 0) → ones l d ≡ 0
+unfolding ones
+ones-none l zero h = refl
+ones-none l (suc d) h = omega (arith, ones-none l d (λ i b. h i (omega arith)), h d (omega arith))
+
+sum-none : (l : ℕ → ℕ → ℕ) (g : ℕ → Merge) (cs : List Cell) (k : ℕ) → ((i : ℕ) → i < length cs → cellFlight l g cs k i ≡ 0) → flightIn l g cs k ≡ 0
+unfolding flightIn
+sum-none l g [] k h = refl
+sum-none l g (c ∷ cs) k h =
+    let here : inFlight (l k) (g k) c ≡ 0 = rw add-zero at (h 0 (omega arith)) in
+    let rest : flightIn l g cs (k + 1) ≡ 0 =
+    sum-none l g cs (k + 1)
+    (λ i b.
+    let q : k + 1 + i ≡ k + suc i = omega arith in
+    rw q (h (suc i) (suc-le-suc b))) in
+    omega arith
+
+module _ (net : List Cell) (ordered : Ordered net) (words : ℕ → ℕ) (s : List ℕ) where
+  abbrev empty : List ℕ
+  empty = blank net words s
+
+  zero-at : (j : ℕ) → j < 8 + 40 * length net → getD empty j 0 ≡ 0
+  zero-at j h = cleared-zero (8 + 40 * length net) _ j h
+
+  zero-line : (k i : ℕ) → k < length net → i < 256 → lineBit empty k i ≡ 0
+  unfolding lineBit
+  zero-line k i l b = rw (zero-at (base k + 8 + i / 8) (omega arith)) (simp zero-div)
+
+  zero-held : (k : ℕ) → k < length net → heldBits (heldAt empty k) ≡ 0
+  unfolding heldAt bit
+  zero-held k l = rw (zero-at (base k + 4) (omega arith), zero-at (base k + 5) (omega arith)) refl
+
+  zero-cell : (k : ℕ) → k < length net → inFlight (lineBit empty k) (heldAt empty k) (cellAt net k) ≡ 0
+  unfolding inFlight
+  zero-cell k l =
+      let c = cellAt net k in
+      by-bool (eqb (c .kind) 34)
+      (λ e. rw e
+      (ones-none (lineBit empty k) (c .delay) (λ i b. zero-line k i l (omega (arith, delay-low (kinds net) (length net) k c (c .kind) (eqb-true _ _ e) (ordered .looks k l) .1)))))
+      (λ e. by-bool (eqb (c .kind) 38) (λ f. rw (e, f) (zero-held k l)) (λ f. rw (e, f) refl))
+
+  pub flight-blank : flight net (blank net words s) ≡ 0
+  flight-blank =
+      sum-none (lineBit empty) (heldAt empty) net 0
+      (λ k l.
+      let e : 0 + k ≡ k = omega arith in
+      rw e (zero-cell k l))
+
+  pub told-blank : flightOf (blank net words s) ≡ 0
+  unfolding get32 get16
+  told-blank = omega (arith, zero-at 4 (omega arith), zero-at 5 (omega arith), zero-at 6 (omega arith), zero-at 7 (omega arith))

@@ -1,0 +1,115 @@
+-- The user's second demand as a type: the published netlist, its files, and the one set of values that its equations allow, in every state.
+-- The proof is in crate theory, file Promises/Demands: demand2.
+-- Assumes nothing: definitions.
+use mathlib.Core.Path.{_≡_}
+use mathlib.Core.Logic.{_↔_}
+use mathlib.Core.Bool.{Bool, true, false}
+use mathlib.Core.List.{List}
+use Prim.Native.Nat.{ℕ, zero, suc, _+_, _-_, _*_, _/_, _≤_, _<_}
+use lib.ListN.{length, take, drop}
+use Rattle.model.specs.declared.Cell.{Cell}
+use Rattle.model.specs.declared.Merge.{Merge}
+use Rattle.model.specs.declared.Checked.the-variants.{Accepted}
+use Rattle.model.specs.declared.Written.the-variants.{Done}
+use Rattle.model.specs.Word.{bit}
+use Rattle.model.specs.Program.{programOf}
+use Rattle.model.specs.Rules.{Store}
+use Rattle.model.specs.Circuit.{cellAt, control, Sig, Values, level, element, arrayAt, Obeys, delayed, heldBefore, shape, kDelay, kMerge}
+use Rattle.model.specs.Numbering.{netlist, finish}
+use Rattle.model.specs.NetlistFile.{fileCheck, cellsOf, finishOf}
+use Rattle.model.specs.TimeTables.{TimeTable, load}
+use Rattle.model.specs.State.{stateSize, instantOf, flightOf, nowAt, beforeAt, heldAt, lineBit, flightIn, flight, elementNow, beginState, stepState, lastState, evaluated, sound}
+use Rattle.model.specs.Calls.{overwrite, compileCall, writeCall, readCall, wordAt}
+use Rattle.model.specs.Word.{Bytes}
+
+-- "The netlist is, cell for cell, the published circuit; the simulator's wires at each instant are the only ones the circuit's equations
+-- allow; a netlist file read back is the netlist that was written, and no other file is accepted."
+
+-- what compiling wrote is a file that is accepted, and its cells are the published ones
+pub record Published (program file : List ℕ) (f : ℕ) : Type 0 where
+  pub accepted : fileCheck file ≡ Accepted
+  pub cells : cellsOf file ≡ netlist (programOf program)
+  pub finishes : (f ≡ finish (programOf program)) × (finishOf file ≡ f)
+
+-- Reading what was written gives the cells and the finish; writing what was read gives the file.
+pub record SameFile : Type 0 where
+  pub read : (cells forFile forCells : List ℕ) (f n g : ℕ) → Bytes cells → writeCall cells f forFile .answer ≡ Done n g →
+      let file = take n (writeCall cells f forFile .lent) in
+      length cells ≤ length forCells → readCall file forCells ≡ record { answer = Done (length cells / 6) f; lent = overwrite cells forCells }
+  pub written : (file forCells forFile : List ℕ) (n f : ℕ) → Bytes file → readCall file forCells .answer ≡ Done n f →
+      let cells = take (6 * n) (readCall file forCells .lent) in
+      length file ≤ length forFile → writeCall cells f forFile ≡ record { answer = Done (length file) f; lent = overwrite file forFile }
+
+-- the states of a run: begun, then stepped, with a start pulse at each of these instants
+unfoldable pub stateAt : List Cell → Sig → Store → List ℕ → ℕ → List ℕ
+stateAt net starts words lent zero = beginState net words lent
+stateAt net starts words lent (suc t) = stepState net (starts (suc t)) (stateAt net starts words lent t)
+
+-- the value of cell k an instant before t
+unfoldable pub earlier : Values → ℕ → ℕ → ℕ
+earlier W k zero = 0
+earlier W k (suc t) = W k t
+
+-- the input of delay k i instants before t, and what merge k holds after t
+abbrev pub lineOf : List Cell → Values → ℕ → ℕ → ℕ → ℕ
+lineOf net W t k i = bit (delayed i (level W (cellAt net k .a)) t)
+
+abbrev pub heldOf : List Cell → Values → ℕ → ℕ → Merge
+heldOf net W t k = heldBefore (level W (cellAt net k .a)) (level W (cellAt net k .b)) (suc t)
+
+-- state s holds, of the values W from these start words, those of instant t
+pub record Holds (net : List Cell) (words : Store) (W : Values) (t : ℕ) (s : List ℕ) : Type 0 where
+  pub instant : t ≤ 1000000 → instantOf s ≡ t
+  pub number : flightOf s ≡ flightIn (lineOf net W t) (heldOf net W t) net 0
+  pub present : (k : ℕ) → k < length net → nowAt s k ≡ W k t
+  pub past : (k : ℕ) → k < length net → beforeAt s k ≡ earlier W k t
+  pub held : (k : ℕ) → k < length net → shape (cellAt net k .kind) ≡ kMerge → heldAt s k ≡ heldOf net W t k
+  pub lines : (k : ℕ) → k < length net → shape (cellAt net k .kind) ≡ kDelay → (i : ℕ) → i < 256 → lineBit s k i ≡ lineOf net W t k i
+  pub elements : (k i : ℕ) → k < 4 → i < 64 → elementNow net s (64 * k + i) ≡ element net words W (arrayAt net k) i t
+  pub proper : sound net s ≡ true
+
+-- after instant t nothing is in flight: no input of a delay of d has been high in the last d instants, and no merge holds a bit
+pub record Idle (net : List Cell) (W : Values) (t : ℕ) : Type 0 where
+  pub delays : (k : ℕ) → k < length net → shape (cellAt net k .kind) ≡ kDelay
+      → (i : ℕ) → i < cellAt net k .delay → delayed i (level W (cellAt net k .a)) t ≡ false
+  pub merges : (k : ℕ) → k < length net → shape (cellAt net k .kind) ≡ kMerge → heldOf net W t k ≡ record { a = false; b = false }
+
+-- "A continuing by N from instant t stops at s, the first instant after t and not above t + N where a finish is due, or at t + N if there
+-- is none"
+unfoldable pub stopsAt : (ℕ → Bool) → ℕ → ℕ → ℕ
+stopsAt finishes t zero = t
+stopsAt finishes t (suc n) = elim (finishes (suc t)) [ true ↦ suc t | false ↦ stopsAt finishes (suc t) n ]
+
+-- no start pulse comes after instant a and up to b
+abbrev pub NoStart : Sig → ℕ → ℕ → Type 0
+NoStart starts a b = (u : ℕ) → a < u → u ≤ b → starts u ≡ false
+
+-- For any start instants, that of beginning among them, a netlist has one set of values that obeys its equations, every state of a run holds it, and
+-- continuing goes along the run up to the next start.
+pub record OneRun (net : List Cell) (starts : Sig) (words : Store) : Type 0 where
+  pub values : Values
+  pub obeys : Obeys net starts words values
+  pub only : (W : Values) → Obeys net starts words W → (k : ℕ) → k < length net → (t : ℕ) → W k t ≡ values k t
+  pub states : (lent : List ℕ) → stateSize net ≤ length lent → (t : ℕ) → Holds net words values t (stateAt net starts words lent t)
+  -- "If the number is 0": nothing is in flight then, and only then
+  pub idle : (t : ℕ) (s : List ℕ) → Holds net words values t s → (flightOf s ≡ 0) ↔ Idle net values t
+  -- "Lent bytes past a result keep their values."
+  pub past : (lent : List ℕ) (t : ℕ) → drop (stateSize net) (stateAt net starts words lent t) ≡ drop (stateSize net) lent
+  pub continuing : (lent : List ℕ) → stateSize net ≤ length lent → (f : ℕ) → f < length net → (n t : ℕ)
+      → NoStart starts t (stopsAt (level values f) t n)
+      → (lastState net f n (stateAt net starts words lent t) ≡ stateAt net starts words lent (stopsAt (level values f) t n))
+      × (evaluated net f n (stateAt net starts words lent t) ≡ stopsAt (level values f) t n - t)
+  pub controls : (k : ℕ) → k < length net → control (cellAt net k .kind) ≡ true → (t : ℕ) → values k t ≤ 1
+
+pub record Demand2 : Type 0 where
+  pub compiled : (T : TimeTable) (program lent : List ℕ) (n f : ℕ) → Bytes program → compileCall (load T) program lent .answer ≡ Done n f
+      → Published program (take n (compileCall (load T) program lent .lent)) f
+  pub files : SameFile
+  pub runs : (file : List ℕ) (starts : Sig) (words : Store) → starts 0 ≡ true → fileCheck file ≡ Accepted → OneRun (cellsOf file) starts words
+  -- "each call keeps it true", from whatever state
+  pub numbers : (file lent : List ℕ) (starts : Bool) → fileCheck file ≡ Accepted → stateSize (cellsOf file) ≤ length lent →
+      let s = stepState (cellsOf file) starts lent in
+      flightOf s ≡ flight (cellsOf file) s
+  pub bounded : (file words : List ℕ) → Bytes file → Bytes words → fileCheck file ≡ Accepted
+      → (starts : Sig) (W : Values) → Obeys (cellsOf file) starts (wordAt words) W
+      → (k : ℕ) → k < length (cellsOf file) → (t : ℕ) → W k t < 65536

@@ -1,0 +1,123 @@
+-- The user's first demand as a type, about the functions that the contracts of the calls cite: which refusal is given, and what it leaves.
+-- The proof is in crate theory, file Promises/Demands: demand1.
+-- Assumes nothing: definitions.
+use mathlib.Core.Path.{_≡_}
+use mathlib.Core.Logic.{_⊎_}
+use mathlib.Core.Bool.{Bool, true, false, _||_}
+use mathlib.Core.List.{List, [], _∷_}
+use Prim.Native.Nat.{ℕ, _≤_, _<_}
+use lib.Dec.{eqb}
+use lib.ListN.{getD}
+use Rattle.model.specs.declared.Cell.{Cell}
+use Rattle.model.specs.declared.Checked.{Checked}
+use Rattle.model.specs.declared.Checked.the-variants.{Accepted}
+use Rattle.model.specs.Refusals.{numberOf, placeOf, firstFault}
+use Rattle.model.specs.Program.{timeIn, programChecks}
+use Rattle.model.specs.NetlistFile.{fileChecks, fileCheck}
+use Rattle.model.specs.TimeTables.{tableChecks, TimeTable, given, load}
+use Rattle.model.specs.Calls.{verdict, writtenVerdict, checkCall, compileChecks, compileCall, writeChecks, writeCall, readChecks, readCall, beginChecks, beginCall, continueChecks, continueCall, startChecks, startCall, runNetlistChecks, runNetlistCall, runProgramChecks, runProgramCall, referenceChecks, referenceCall}
+use Rattle.model.specs.CellSlices.{hasCells, renumberCall, checkCellsChecks, checkCellsCall, writeCellsChecks, writeCellsCall, readCellsChecks, readCellsCall}
+
+-- "the answer is the result or the first refusal in the published order, given only when its condition holds, and a refusal leaves all lent
+-- memory as it was"
+
+-- c has no number where no check has one, and else the number and the place of the first that has one
+pub record FirstFound (checks : List Checked) (c : Checked) : Type 0 where
+  pub accepted : numberOf c ≡ 0 → (j : ℕ) → numberOf (getD checks j Accepted) ≡ 0
+  pub refused : 1 ≤ numberOf c
+      → (i : ℕ) × (numberOf c ≡ numberOf (getD checks i Accepted)) × (placeOf c ≡ placeOf (getD checks i Accepted))
+      × ((j : ℕ) → j < i → numberOf (getD checks j Accepted) ≡ 0)
+
+-- whether k is one of these numbers
+abbrev pub among : ℕ → List ℕ → Bool
+among k [] = false
+among k (n ∷ ns) = eqb k n || among k ns
+
+-- a check accepts, or gives one of these numbers
+abbrev pub Gives : List ℕ → Checked → Type 0
+Gives ns c = (c ≡ Accepted) ⊎ (among (numberOf c) ns ≡ true)
+
+-- the checks are as many as the lists of numbers, and each gives no number but those of its own
+abbrev pub InOrder : List (List ℕ) → List Checked → Type 0
+InOrder [] [] = Unit {0}
+InOrder [] (c ∷ cs) = ⊥
+InOrder (ns ∷ nss) [] = ⊥
+InOrder (ns ∷ nss) (c ∷ cs) = Gives ns c × InOrder nss cs
+
+pub record Refuses (numbers : List (List ℕ)) (checks : List Checked) (c : Checked) : Type 0 where
+  pub found : FirstFound checks c
+  pub ordered : InOrder numbers checks
+
+-- the numbers of a table's check, of a program's and of a netlist file's, which `tables`, `programs` and `files` give one by one
+abbrev pub tableNumbers : List ℕ
+tableNumbers = 19 ∷ 20 ∷ 21 ∷ []
+
+abbrev pub programNumbers : List ℕ
+programNumbers = 1 ∷ 2 ∷ 3 ∷ 4 ∷ 5 ∷ 6 ∷ 22 ∷ 7 ∷ 8 ∷ []
+
+abbrev pub fileNumbers : List ℕ
+fileNumbers = 9 ∷ 10 ∷ 11 ∷ 12 ∷ []
+
+-- one number alone
+abbrev pub just : ℕ → List ℕ
+just n = n ∷ []
+
+-- a refusal leaves what was lent, a list of bytes or of cells, as it was
+abbrev pub Leaves : {A : Type 0} → Checked → List A → List A → Type 0
+Leaves c entry exit = 1 ≤ numberOf c → exit ≡ entry
+
+-- the first of n places that has a fault: the condition holds there, and at no place before
+pub record FirstPlace (fault : ℕ → ℕ) (n : ℕ) (c : Checked) : Type 0 where
+  pub none : numberOf c ≡ 0 → (j : ℕ) → j < n → fault j ≡ 0
+  pub some : 1 ≤ numberOf c → (placeOf c < n) × (fault (placeOf c) ≡ numberOf c) × ((j : ℕ) → j < placeOf c → fault j ≡ 0)
+
+-- of every call: the refusals in the published order, a check of its own for each line, and what a refusal leaves. Where a program is checked
+-- it is with the operator times of a table T, "before 17, in this order"
+pub record Demand1 : Type 0 where
+  pub places : (fault : ℕ → ℕ) (n : ℕ) → FirstPlace fault n (firstFault fault 0 n)
+  pub tables : (file : List ℕ) → Refuses (just 19 ∷ just 20 ∷ just 21 ∷ []) (tableChecks file) (load (given file) .checked)
+  pub programs : (T : TimeTable) (program : List ℕ)
+      → Refuses (tableNumbers ∷ just 1 ∷ (2 ∷ 3 ∷ 4 ∷ []) ∷ (5 ∷ 6 ∷ []) ∷ just 22 ∷ just 7 ∷ just 8 ∷ [])
+      (load T .checked ∷ programChecks (timeIn (load T .times)) program) (checkCall (load T) program)
+  pub files : (file : List ℕ) → Refuses (just 9 ∷ just 10 ∷ just 11 ∷ just 11 ∷ just 12 ∷ []) (fileChecks file) (fileCheck file)
+  pub compiling : (T : TimeTable) (program lent : List ℕ) →
+      let c = writtenVerdict (compileCall (load T) program lent .answer) in
+      Refuses (tableNumbers ∷ programNumbers ∷ just 14 ∷ []) (compileChecks (load T) program lent) c
+      × Leaves c lent (compileCall (load T) program lent .lent)
+  pub writing : (cells : List ℕ) (f : ℕ) (lent : List ℕ) →
+      let c = writtenVerdict (writeCall cells f lent .answer) in
+      Refuses (just 11 ∷ just 12 ∷ just 14 ∷ []) (writeChecks cells f lent) c × Leaves c lent (writeCall cells f lent .lent)
+  pub reading : (file lent : List ℕ) →
+      let c = writtenVerdict (readCall file lent .answer) in
+      Refuses (fileNumbers ∷ just 14 ∷ []) (readChecks file lent) c × Leaves c lent (readCall file lent .lent)
+  pub beginning : (file words lent : List ℕ) →
+      let c = verdict (beginCall file words lent .answer .outcome) in
+      Refuses (fileNumbers ∷ just 14 ∷ just 14 ∷ []) (beginChecks file words lent) c × Leaves c lent (beginCall file words lent .lent)
+  pub continuing : (file : List ℕ) (n : ℕ) (lent : List ℕ) →
+      let c = verdict (continueCall file n lent .answer .outcome) in
+      Refuses (fileNumbers ∷ just 14 ∷ just 15 ∷ just 16 ∷ []) (continueChecks file n lent) c × Leaves c lent (continueCall file n lent .lent)
+  pub starting : (file lent : List ℕ) →
+      let c = verdict (startCall file lent .answer .outcome) in
+      Refuses (fileNumbers ∷ just 14 ∷ just 15 ∷ just 16 ∷ just 23 ∷ []) (startChecks file lent) c × Leaves c lent (startCall file lent .lent)
+  pub netlistRuns : (file words : List ℕ) (n : ℕ) (lent : List ℕ) →
+      let c = verdict (runNetlistCall file words n lent .answer .outcome) in
+      Refuses (fileNumbers ∷ just 13 ∷ just 14 ∷ just 14 ∷ []) (runNetlistChecks file words n lent) c
+      × Leaves c lent (runNetlistCall file words n lent .lent)
+  pub programRuns : (T : TimeTable) (program words : List ℕ) (n : ℕ) (forFile lent : List ℕ) →
+      let r = runProgramCall (load T) program words n forFile lent in
+      let c = verdict (r .answer .outcome) in
+      Refuses (tableNumbers ∷ programNumbers ∷ just 13 ∷ just 14 ∷ just 14 ∷ just 14 ∷ []) (runProgramChecks (load T) program words n forFile lent) c
+      × Leaves c forFile (r .netlist) × Leaves c lent (r .state)
+  pub references : (T : TimeTable) (program words : List ℕ) (n : ℕ)
+      → Refuses (tableNumbers ∷ programNumbers ∷ just 13 ∷ just 14 ∷ []) (referenceChecks (load T) program words n)
+      (verdict (referenceCall (load T) program words n .outcome))
+  -- the calls on netlists that are held as cells
+  pub cellsChecked : (cs : List Cell) (f : ℕ) → Refuses (just 11 ∷ just 12 ∷ []) (checkCellsChecks cs f) (checkCellsCall cs f)
+  pub cellsWritten : (cs : List Cell) (f : ℕ) (lent : List ℕ) →
+      let c = writtenVerdict (writeCellsCall cs f lent .answer) in
+      Refuses (just 11 ∷ just 12 ∷ just 14 ∷ []) (writeCellsChecks cs f lent) c × Leaves c lent (writeCellsCall cs f lent .lent)
+  pub cellsRead : (file : List ℕ) (k : ℕ) (lent : List Cell) →
+      let c = writtenVerdict (readCellsCall file k lent .answer) in
+      Refuses (fileNumbers ∷ just 14 ∷ []) (readCellsChecks file k lent) c × Leaves c lent (readCellsCall file k lent .lent)
+  -- renumbering has no number to give: where the list has no such cells it stays
+  pub renumbered : (k i end : ℕ) (lent : List ℕ) → hasCells end lent ≡ false → renumberCall k i end lent ≡ lent

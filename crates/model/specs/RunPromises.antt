@@ -1,0 +1,238 @@
+-- The user's third demand as a type: one statement about a beginning and a whole list of continuings and starts.
+-- The proof is in crate theory, file Promises/Demands: demand3.
+-- Assumes nothing: definitions.
+use mathlib.Core.Path.{_≡_}
+use mathlib.Core.Logic.{_↔_}
+use mathlib.Core.Bool.{Bool, true, false, _||_}
+use mathlib.Core.List.{List, [], _∷_, _++_, map}
+use Prim.Native.Nat.{ℕ, suc, _+_, _-_, _≤_, _<_}
+use lib.Dec.{eqb, ltb}
+use lib.ListN.{take, drop}
+use Rattle.model.specs.declared.Cell.{Cell}
+use Rattle.model.specs.declared.Checked.the-variants.{Accepted}
+use Rattle.model.specs.declared.Outcome.{Outcome}
+use Rattle.model.specs.declared.Outcome.the-variants.{Ended, Open}
+use Rattle.model.specs.declared.Written.the-variants.{Done}
+use Rattle.model.specs.declared.Answer.{Answer}
+use Rattle.model.specs.Word.{pick, elementWord}
+use Rattle.model.specs.Program.{Stmt, programOf}
+use Rattle.model.specs.Rules.{Store, Ends, Run, atEnd, atExit, done, still, ended, endsAt}
+use Rattle.model.specs.Circuit.{memoryWords, Sig, Values, level, element, arrayAt, Obeys}
+use Rattle.model.specs.NetlistFile.{cellsOf, finishOf}
+use Rattle.model.specs.TimeTables.{TimeTable, load}
+use Rattle.model.specs.State.{stateSize, flightOf, elementNow, wordsIn}
+use Rattle.model.specs.Calls.{Returned, verdict, compileCall, wordAt, beginCall, continueCall, startCall, runNetlistCall, runProgramCall, listed}
+use Rattle.model.specs.RefusalPromises.{Leaves}
+use Rattle.model.specs.CircuitPromises.{Holds, stopsAt, NoStart}
+
+-- "each call is a continuing by any N", or a start, given "by a call of its own"
+pub data Request : Type 0 where
+  continuing : ℕ → Request
+  start : Request
+
+-- the caller lends the first bytes of the state's buffer
+pub record Call : Type 0 where
+  pub request : Request
+  pub lent : ℕ
+
+unfoldable pub respond : List ℕ → Request → List ℕ → Returned Answer
+respond file (continuing n) s = continueCall file n s
+respond file start s = startCall file s
+
+-- the calls on a netlist, "with that netlist and the state as the last call returned or left it": each answer, with the buffer afterwards
+unfoldable pub replay : List ℕ → List ℕ → List Call → List (Returned Answer)
+replay file s [] = []
+replay file s (c ∷ cs) =
+    let r = respond file (c .request) (take (c .lent) s) in
+    let s′ = r .lent ++ drop (c .lent) s in
+    record { answer = r .answer; lent = s′ } ∷ replay file s′ cs
+
+-- what demand 3 tells of an answer
+pub record Seen : Type 0 where
+  pub outcome : Outcome
+  pub instant : ℕ
+  pub count : ℕ
+
+abbrev pub seen : Outcome → ℕ → ℕ → Seen
+seen o t n = record { outcome = o; instant = t; count = n }
+
+abbrev pub seenIn : Answer → Seen
+seenIn a = seen (a .outcome) (a .instant) (a .count)
+
+abbrev pub seenOf : Returned Answer → Seen
+seenOf r = seenIn (r .answer)
+
+-- "a refused one evaluates and changes nothing"
+abbrev pub refusedSeen : ℕ → Seen
+refusedSeen k = seen (Outcome.Refused (record { number = k; place = 0 })) 0 0
+
+-- "ended exactly when a finish is due"
+abbrev pub endedIf : Bool → Outcome
+endedIf b = pick b Ended Open
+
+-- where a list of calls stands: the last start pulse came at instant begun, the program has run from the words `from` since then, and the state is at
+-- instant now
+pub record Stand : Type 0 where
+  pub begun : ℕ
+  pub from : Store
+  pub now : ℕ
+
+abbrev pub stand : ℕ → Store → ℕ → Stand
+stand a σ t = record { begun = a; from = σ; now = t }
+
+-- how runs of the program stand by its own rules: from these words, within so many instants
+abbrev pub Runs : Type 0
+Runs = Store → ℕ → Run
+
+-- the run of a stand, "counted from that pulse": how it is at instant t, and whether a finish is due then
+abbrev pub runAt : Runs → Stand → ℕ → Run
+runAt rules st t = rules (st .from) (t - st .begun)
+
+unfoldable pub dueAt : Runs → Stand → ℕ → Bool
+dueAt rules st t = endsAt (t - st .begun) (runAt rules st t)
+
+-- what a call tells, and where the list stands after it
+pub record Next : Type 0 where
+  pub tells : Seen
+  pub after : Stand
+
+-- "a refused one evaluates and changes nothing"
+abbrev pub refuses : ℕ → Stand → Next
+refuses k st = record { tells = refusedSeen k; after = st }
+
+-- a continuing by n: "it answers s, the count s − t, and ended exactly when a finish is due at s"
+unfoldable pub afterContinuing : Runs → Stand → ℕ → Next
+afterContinuing rules st n =
+    let s = stopsAt (dueAt rules st) (st .now) n in
+    elim (ltb 1000000 (st .now + n)) [
+      | true ↦ refuses 16 st
+      | false ↦ record { tells = seen (endedIf (dueAt rules st s)) s (s - st .now); after = stand (st .begun) (st .from) s }
+    ]
+
+-- a start, by how the run stands: "23: start given while the number isn't 0"; else the program "ends as a new run from the present words would, counted
+-- from that pulse". No accepted program comes to an exit of a loop around it.
+unfoldable pub pulsed : Runs → Stand → Run → Next
+pulsed rules st (done atEnd t σ) =
+    let s = suc (st .now) in
+    record { tells = seen (endedIf (dueAt rules (stand s σ s) s)) s 1; after = stand s σ s }
+pulsed rules st (done atExit t σ) = refuses 23 st
+pulsed rules st still = refuses 23 st
+
+-- "refusal 16 counts its instant"
+unfoldable pub afterStart : Runs → Stand → Next
+afterStart rules st =
+    elim (ltb 1000000 (st .now + 1)) [ true ↦ refuses 16 st | false ↦ pulsed rules st (runAt rules st (st .now)) ]
+
+unfoldable pub afterRequest : Runs → Stand → Request → Next
+afterRequest rules st (continuing n) = afterContinuing rules st n
+afterRequest rules st start = afterStart rules st
+
+-- a call on a state of so many bytes: only 14, 16 and 23 can refuse it
+unfoldable pub next : Runs → ℕ → Stand → Call → Next
+next rules size st c = elim (ltb (c .lent) size) [ true ↦ refuses 14 st | false ↦ afterRequest rules st (c .request) ]
+
+-- what calls tell, from the ends of the runs and the numbers asked for alone, and where the list stands after each
+unfoldable pub expected : Runs → ℕ → Stand → List Call → List Seen
+expected rules size st [] = []
+expected rules size st (c ∷ cs) = next rules size st c .tells ∷ expected rules size (next rules size st c .after) cs
+
+unfoldable pub stands : Runs → ℕ → Stand → List Call → List Stand
+stands rules size st [] = []
+stands rules size st (c ∷ cs) = next rules size st c .after ∷ stands rules size (next rules size st c .after) cs
+
+-- the instants of the start pulses
+unfoldable pub startsOf : List Stand → Sig
+startsOf [] t = false
+startsOf (st ∷ sts) t = eqb (st .begun) t || startsOf sts t
+
+-- R holds of every call of a list, with where the list stands after it
+abbrev pub Along : (Stand → Returned Answer → Type 0) → List Stand → List (Returned Answer) → Type 0
+Along R [] [] = Unit {0}
+Along R [] (r ∷ rs) = ⊥
+Along R (st ∷ sts) [] = ⊥
+Along R (st ∷ sts) (r ∷ rs) = R st r × Along R sts rs
+
+-- the memories of a buffer show these words, and so do its elements: "last contents, in demand 3 too, include them, as the state shows them"
+abbrev pub ShowsWords : List ℕ → List ℕ → Store → Type 0
+ShowsWords file s σ = (wordsIn (cellsOf file) 0 s ≡ listed σ 0 16) × (listed (elementNow (cellsOf file) s) 0 256 ≡ listed σ 16 256)
+
+-- the values W of memories and elements at instant t are these words
+pub record HasWords (net : List Cell) (words : Store) (W : Values) (t : ℕ) (σ : Store) : Type 0 where
+  pub memories : memoryWords net 0 (λ k. W k t) ≡ listed σ 0 16
+  pub elements : (k i : ℕ) → k < 4 → i < 64 → element net words W (arrayAt net k) i t ≡ σ (elementWord k i)
+
+-- the circuit's values W, where the list stands at st, as long as no other start pulse comes; and the buffer that a call has left there
+pub record Behaves (P : Stmt) (σ : Store) (file : List ℕ) (rules : Runs) (starts : Sig) (W : Values) (st : Stand) (r : Returned Answer) : Type 0 where
+  -- the run is "from the present words"
+  pub begins : HasWords (cellsOf file) σ W (st .begun) (st .from)
+  -- the finish wire is high exactly when a finish is due
+  pub finishes : (t : ℕ) → st .begun ≤ t → NoStart starts (st .begun) t → level W (finishOf file) t ≡ dueAt rules st t
+  -- from then on the words are its last ones
+  pub lasts : (t₀ : ℕ) (σ′ : Store) → Ends P (st .from) t₀ σ′ → (t : ℕ) → st .begun + t₀ ≤ t → NoStart starts (st .begun) t
+      → HasWords (cellsOf file) σ W t σ′
+  -- where the run has no end nobody sees a finish any more
+  pub endless : ((t₀ : ℕ) (σ′ : Store) → Ends P (st .from) t₀ σ′ → ⊥) → (t : ℕ) → st .begun ≤ t → level W (finishOf file) t ≡ false
+  -- the buffer holds the values of the instant at which it stands
+  pub buffer : Holds (cellsOf file) σ W (st .now) (r .lent)
+
+-- what a call's answer and the buffer tell of the run
+pub record Tells (P : Stmt) (file : List ℕ) (st : Stand) (r : Returned Answer) : Type 0 where
+  -- the number is 0 exactly from the run's end on
+  pub number : (flightOf (r .lent) ≡ 0) ↔ ((t₀ : ℕ) × (σ′ : Store) × Ends P (st .from) t₀ σ′ × (st .begun + t₀ ≤ st .now))
+  -- and from then on the words are its last ones, in the buffer and in the answer of a call that was not refused
+  pub words : (t₀ : ℕ) (σ′ : Store) → Ends P (st .from) t₀ σ′ → st .begun + t₀ ≤ st .now
+      → ShowsWords file (r .lent) σ′ × (verdict (r .answer .outcome) ≡ Accepted → r .answer .words ≡ listed σ′ 0 16)
+  -- where it has no end no answer says ended
+  pub endless : ((t₀ : ℕ) (σ′ : Store) → Ends P (st .from) t₀ σ′ → ⊥) → r .answer .outcome ≡ Ended → ⊥
+
+-- where a call was refused, the buffer is as it was before
+abbrev pub Unchanged : List ℕ → List (Returned Answer) → Type 0
+Unchanged s [] = Unit {0}
+Unchanged s (r ∷ rs) = Leaves (verdict (r .answer .outcome)) s (r .lent) × Unchanged (r .lent) rs
+
+-- "A full run answers as its last call does, its calls' counts added.": from the answers of a beginning and a continuing
+unfoldable pub lastOf : Outcome → Answer → Answer → Answer
+lastOf Ended begun on = begun
+lastOf Open begun on =
+    record { outcome = on .outcome; instant = on .instant; count = begun .count + on .count; words = on .words }
+lastOf (Outcome.Refused r) begun on = begun
+
+-- One statement about a beginning, a whole list of continuings and starts, and the full runs of budget n of the program and of its netlist: P is
+-- the program, σ its start words.
+pub record Keeps (P : Stmt) (σ : Store) (file : List ℕ) (begun : Returned Answer) (calls : List Call) (programRun netlistRun : ℕ → Answer)
+    : Type 0 where
+  -- how runs of the program stand, by its own rules
+  pub rules : Runs
+  pub decides : (τ : Store) (k t : ℕ) (τ′ : Store) → (rules τ k ≡ ended t τ′) ↔ ((t ≤ k) × Ends P τ t τ′)
+  -- "A finish is due at the program's end and at no other instant.": an end is the only one, and so are its words
+  pub once : (τ : Store) (t₁ t₂ : ℕ) (σ₁ σ₂ : Store) → Ends P τ t₁ σ₁ → Ends P τ t₂ σ₂ → (t₁ ≡ t₂) × (σ₁ ≡ σ₂)
+  -- each answer follows from the ends of these runs and the numbers asked for
+  pub outcomes :
+      map seenOf (begun ∷ replay file (begun .lent) calls)
+      ≡ seen (endedIf (dueAt rules (stand 0 σ 0) 0)) 0 1 ∷ expected rules (stateSize (cellsOf file)) (stand 0 σ 0) calls
+  pub tells :
+      let sts = stand 0 σ 0 ∷ stands rules (stateSize (cellsOf file)) (stand 0 σ 0) calls in
+      Along (Tells P file) sts (begun ∷ replay file (begun .lent) calls)
+  -- and so does what the circuit does with these start pulses
+  pub circuit :
+      let sts = stand 0 σ 0 ∷ stands rules (stateSize (cellsOf file)) (stand 0 σ 0) calls in
+      (W : Values) → Obeys (cellsOf file) (startsOf sts) σ W
+      → Along (Behaves P σ file rules (startsOf sts) W) sts (begun ∷ replay file (begun .lent) calls)
+  -- a refused call leaves the buffer as it was
+  pub unchanged : Unchanged (begun .lent) (replay file (begun .lent) calls)
+  -- "A full run answers as its last call does, its calls' counts added."
+  pub programRuns : (n : ℕ) → n ≤ 1000000
+      → programRun n ≡ lastOf (begun .answer .outcome) (begun .answer) (continueCall file n (begun .lent) .answer)
+  pub netlistRuns : (n : ℕ) → n ≤ 1000000
+      → netlistRun n ≡ lastOf (begun .answer .outcome) (begun .answer) (continueCall file n (begun .lent) .answer)
+
+-- "A program is accepted when compiling gives its netlist. The list starts from the state that an unrefused beginning wrote for that netlist
+-- and the start words". "Under every table that loads, finish and last words are the program's."
+unfoldable pub Demand3 : Type 0
+Demand3 =
+    (T : TimeTable) (program forFile words forState : List ℕ) (calls : List Call) (n f : ℕ) → compileCall (load T) program forFile .answer ≡ Done n f →
+    let file = take n (compileCall (load T) program forFile .lent) in
+    let begun = beginCall file words forState in
+    verdict (begun .answer .outcome) ≡ Accepted →
+    Keeps (programOf program) (wordAt words) file begun calls
+    (λ k. runProgramCall (load T) program words k forFile forState .answer) (λ k. runNetlistCall file words k forState .answer)

@@ -1,0 +1,179 @@
+-- What circuit, answer and buffer show where a list of calls stands: the promises of a circuit with its start pulses (`Behaves`) and of what a call
+-- leaves (`Tells`), from the rules of the program.
+-- Assumes nothing.
+use mathlib.Core.Path.{_≡_, sym, _∙_, ap, ap₂}
+use mathlib.Core.Bool.{false}
+use mathlib.Core.List.{List}
+use mathlib.Core.Logic.{_↔_}
+use Prim.Native.Nat.{ℕ, _+_, _-_, _*_, _/_, _%_, _≤_}
+use native.Mathlib.Omega.{arith}
+use Rattle.model.specs.declared.Refusal.{Refusal}
+use Rattle.model.specs.declared.Cell.{Cell}
+use Rattle.model.specs.declared.Outcome.{Outcome}
+use Rattle.model.specs.declared.Outcome.the-variants.{Ended, Open}
+use Rattle.model.specs.declared.Answer.{Answer}
+use Rattle.model.specs.Word.{index, elementWord}
+use Rattle.model.specs.Program.{Stmt}
+use Rattle.model.specs.Rules.{Store, Ends, atEnd, ended, run, due}
+use Rattle.model.specs.Circuit.{Sig, Values, level, element, arrayAt, Obeys, memoryWords}
+use Rattle.model.specs.Numbering.{netlist, arrayCell, memoryAt}
+use Rattle.model.specs.NetlistFile.{cellsOf, finishOf}
+use Rattle.model.specs.State.{stateSize, flightOf, nowAt, elementNow, wordsIn}
+use Rattle.model.specs.Calls.{Returned, verdict, refusedAnswer, shows}
+use Rattle.model.specs.CircuitPromises.{NoStart}
+use Rattle.model.specs.RunPromises.{Call, Stand, Runs, runAt, dueAt, ShowsWords, HasWords, Behaves, Tells}
+use Rattle.laws.specs.Refusals.Laws.{by-bool, not-refused}
+use Rattle.laws.specs.Program.Fit.{Timed}
+use Rattle.laws.specs.Rules.Laws.{by-runs, steady}
+use Rattle.laws.specs.Rules.Uses.{never-leaves}
+use Rattle.laws.specs.Numbering.Parts.{net-length}
+use Rattle.laws.specs.Numbering.Arrays.{past-is}
+use Rattle.theory.specs.Rules.Relation.{run-ends, ends-run, due-ends}
+use Rattle.theory.specs.Numbering.Whole.{showing}
+use Rattle.theory.specs.State.Holding.{Holding}
+use Rattle.theory.specs.State.Sound.{holds}
+use Rattle.theory.specs.Promises.Answers.{memory-words, listed-same, listed-further}
+use Rattle.theory.specs.Promises.Due.{shown-word, shown-element, last-words}
+use Rattle.theory.specs.Promises.Stands.{given-alone}
+use Rattle.theory.specs.Promises.Replay.{at0, OfProgram, published, Now, due-at, number-ended, number-still}
+
+-- open and refused are no end
+ended-code : Outcome → ℕ
+ended-code Ended = 1
+ended-code Open = 0
+ended-code (Outcome.Refused r) = 0
+
+pub open-no-end : Open ≡ Ended → ⊥
+unfolding ended-code
+open-no-end e = omega (arith, ap ended-code e)
+
+refused-no-end : {r : Refusal} → Outcome.Refused r ≡ Ended → ⊥
+unfolding ended-code
+refused-no-end e = omega (arith, ap ended-code e)
+
+-- The rules, within a budget and without ------------------------------------------------------------------------------------------------
+
+module _ (P : Stmt) (timed : Timed P) where
+  pub decides : (τ : Store) (k t : ℕ) (τ′ : Store) → (run k P τ ≡ ended t τ′) ↔ ((t ≤ k) × Ends P τ t τ′)
+  decides τ k t τ′ = ((λ p. (steady P timed τ k atEnd t τ′ p .0, run-ends P k τ t τ′ p)), (λ h. ends-run P timed τ t τ′ (h .1) k (h .0)))
+
+  at-end : (τ : Store) (t₀ : ℕ) (τ′ : Store) → Ends P τ t₀ τ′ → run t₀ P τ ≡ ended t₀ τ′
+  at-end τ t₀ τ′ h = decides τ t₀ t₀ τ′ .1 (omega arith, h)
+
+never-due : (P : Stmt) (τ : Store) → ((t : ℕ) (τ′ : Store) → Ends P τ t τ′ → ⊥) → (t : ℕ) → due P τ t ≡ false
+never-due P τ h t = by-bool (due P τ t) (λ e. let g = due-ends P τ t e in absurd (h t (g .0) (g .1))) (λ e. e)
+
+-- The circuit with its start pulses -----------------------------------------------------------------------------------------------------
+
+-- with any values that obey its equations
+module _ (P : Stmt) (file : List ℕ) (X : OfProgram P file) (starts : Sig) (σ : Store) (W : Values) (o : Obeys (cellsOf file) starts σ W) where
+  abbrev F : ℕ
+  F = finishOf file
+
+  abbrev net : List Cell
+  net = cellsOf file
+
+  abbrev rules : Runs
+  rules τ k = run k P τ
+
+  -- what the circuit has as its words, memories and arrays have, and a state shows
+  module _ (t : ℕ) (τ : Store) (word : (x : ℕ) → showing P σ W t x ≡ τ x) where
+    has-words : HasWords net σ W t τ
+    has-words =
+        record {
+          memories = ap (λ (net : List Cell). memoryWords net 0 (λ k. W k t)) (X .cells-are) ∙ memory-words P (X .sixteen) (λ k. W k t)
+              ∙ listed-same (λ x. W (memoryAt P + x) t) τ 0 16
+              (λ y a b. shown-word P (X .fit) (X .inside) starts σ W (published P file X starts σ W o) t τ word y (omega arith));
+          elements = λ k i a b.
+              let r : index i ≡ i = omega arith in
+              let m : arrayAt net k ≡ arrayCell (memoryAt P) k = ap (λ (net : List Cell). arrayAt net k) (X .cells-are) ∙ ap (λ (j : ℕ). j + 2 * k) (past-is P) in
+              ap₂ (λ (net : List Cell) (j : ℕ). element net σ W j i t) (X .cells-are) m
+              ∙ ap (λ (w : ℕ). element (netlist P) σ W (arrayCell (memoryAt P) k) w t) (sym r)
+              ∙ shown-element P (X .fit) (X .inside) starts σ W (published P file X starts σ W o) t τ word k i a;
+        }
+
+    pub shows-words : (s : List ℕ) → Holding net σ W t s → ShowsWords file s τ
+    unfolding elementWord
+    shows-words s H = (
+      ap (λ (net : List Cell). wordsIn net 0 s) (X .cells-are) ∙ memory-words P (X .sixteen) (nowAt s)
+          ∙ listed-same (λ x. nowAt s (memoryAt P + x)) τ 0 16
+          (λ y a b.
+          H .body .present (memoryAt P + y) (rw (X .cells-are) (omega (arith, net-length P)))
+          ∙ shown-word P (X .fit) (X .inside) starts σ W (published P file X starts σ W o) t τ word y (omega arith)),
+      listed-further (elementNow net s) τ 16 0 256
+          (λ y a b.
+          let k = y / 64 in
+          let i = y % 64 in
+          let q : y ≡ 64 * k + i = omega arith in
+          ap (elementNow net s) q
+          ∙ H .body .elements k i (omega arith) (omega arith)
+          ∙ has-words .elements k i (omega arith) (omega arith)
+          ∙ ap τ (omega arith)),
+    )
+
+  abbrev pub Stood : Stand → List Call → Type 0
+  Stood = Now P file X starts σ W o
+
+  -- where the list stands
+  module _ (st : Stand) (cs : List Call) (N : Stood st cs) where
+    pub due-by : (t : ℕ) → st .begun ≤ t → NoStart starts (st .begun) t → level W F t ≡ dueAt rules st t
+    due-by = due-at P file X starts σ W o st cs N
+
+    pub lasting : (t₀ : ℕ) (σ′ : Store) → Ends P (st .from) t₀ σ′ → (t : ℕ) → st .begun + t₀ ≤ t → NoStart starts (st .begun) t
+        → (x : ℕ) → showing P σ W t x ≡ σ′ x
+    lasting t₀ σ′ E t l none =
+        last-words P (X .fit) (X .inside) starts σ W (published P file X starts σ W o) (st .from) (st .begun) t (N .began) (omega arith) none t₀ σ′
+        (at-end P (X .fit .timed) (st .from) t₀ σ′ E) l
+
+    never : ((t₀ : ℕ) (σ′ : Store) → Ends P (st .from) t₀ σ′ → ⊥) → (t : ℕ) → st .begun ≤ t → level W F t ≡ false
+    unfolding dueAt due
+    never h t l =
+        due-by t l (given-alone rules (stateSize net) starts st cs (N .given) (λ k u τ e. h u τ (run-ends P k (st .from) u τ e)) t)
+        ∙ never-due P (st .from) h (t - st .begun)
+
+    pub behaves : (r : Returned Answer) → Holding net σ W (st .now) (r .lent) → Behaves P σ file rules starts W st r
+    behaves r H =
+        record {
+          begins = has-words (st .begun) (st .from) (N .began .words);
+          finishes = due-by;
+          lasts = λ t₀ σ′ E t l none. has-words t σ′ (lasting t₀ σ′ E t l none);
+          endless = never;
+          buffer = holds net (X .ordered) starts σ W o (st .now) (r .lent) H;
+        }
+
+    number-is : (s : List ℕ) → Holding net σ W (st .now) s
+        → (flightOf s ≡ 0) ↔ ((t₀ : ℕ) × (σ′ : Store) × Ends P (st .from) t₀ σ′ × (st .begun + t₀ ≤ st .now))
+    number-is s H = (
+      (λ z.
+          by-runs (runAt rules st (st .now))
+          (λ t₀ σ′ p.
+          let d = decides P (X .fit .timed) (st .from) (st .now - st .begun) t₀ σ′ .0 p in
+          (t₀, σ′, d .1, omega (arith, d .0, N .given .since)))
+          (λ t₀ σ′ p. never-leaves P (X .whole) (st .now - st .begun) t₀ (st .from) σ′ p)
+          (λ p. absurd (number-still P file X starts σ W o st cs N s H p z))),
+      (λ h.
+          number-ended P file X starts σ W o st cs N s H (h .0) (h .1)
+          (at-end P (X .fit .timed) (st .from) (h .0) (h .1) (h .2)) (h .3)),
+    )
+
+    words-now : (t₀ : ℕ) (σ′ : Store) → Ends P (st .from) t₀ σ′ → st .begun + t₀ ≤ st .now → (s : List ℕ) → Holding net σ W (st .now) s → ShowsWords file s σ′
+    words-now t₀ σ′ E l s H = shows-words (st .now) σ′ (lasting t₀ σ′ E (st .now) l (N .given .none)) s H
+
+    pub tells-refused : (k : ℕ) (b : List ℕ) → Holding net σ W (st .now) b → Tells P file st (record { answer = refusedAnswer (at0 k); lent = b })
+    unfolding verdict
+    tells-refused k b H =
+        record {
+          number = number-is b H;
+          words = λ t₀ σ′ E l. (words-now t₀ σ′ E l b H, λ z. not-refused z);
+          endless = λ h. refused-no-end;
+        }
+
+    pub tells-answer : (s b : List ℕ) (n : ℕ) → Holding net σ W (st .now) s → Holding net σ W (st .now) b
+        → Tells P file st (record { answer = shows file s n; lent = b })
+    unfolding shows
+    tells-answer s b n H K =
+        record {
+          number = number-is b K;
+          words = λ t₀ σ′ E l. (words-now t₀ σ′ E l b K, λ z. words-now t₀ σ′ E l s H .0);
+          endless = λ h. rw (H .body .present F (X .wire), never h (st .now) (N .given .since)) open-no-end;
+        }

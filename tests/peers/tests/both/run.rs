@@ -1,0 +1,106 @@
+//! A run of a netlist, call by call, and where things stand in its state.
+
+use crate::expect::{refused, state_length};
+use peers::{Reply, BOTH};
+use values::Answer;
+
+/// Where the number in flight stands in a state, after the instant.
+pub const NUMBER: usize = 4;
+
+/// The bytes of a cell in a state.
+pub const NOW: usize = 0;
+pub const AGO: usize = 2;
+pub const HELD_A: usize = 4;
+pub const HELD_B: usize = 5;
+pub const ZERO_BYTE: usize = 6;
+pub const LINE: usize = 8;
+
+/// The place of a byte of a cell.
+pub const fn at(cell: u16, byte: usize) -> usize {
+    8 + 40 * cell as usize + byte
+}
+
+/// A netlist file, and the state that the last call has left.
+#[derive(Clone)]
+pub struct Run {
+    pub file: Vec<u8>,
+    pub state: Vec<u8>,
+}
+
+impl Run {
+    /// A beginning of a good netlist, in a buffer of the state's length.
+    pub fn begin(file: &[u8], words: &[u8]) -> Run {
+        let read = (BOTH.read_netlist)(file, &[0; 6_144]);
+        let count = read.result.expect("a good netlist").cells;
+        let mut run = Run {
+            file: file.to_vec(),
+            state: vec![0xa5; state_length(count.into())],
+        };
+        run.done((BOTH.begin)(file, words, &run.state));
+        run
+    }
+
+    /// A beginning of the netlist of an accepted program.
+    pub fn of_program(program: &[u8], words: &[u8]) -> Run {
+        let compiled = (BOTH.compile)(None, program, &[0; 6_656]);
+        let shape = compiled
+            .result
+            .unwrap_or_else(|refusal| panic!("{program:?}: {refusal}"));
+        let length = 512 * usize::from(shape.cells).div_ceil(84);
+        Run::begin(&compiled.lent[0][..length], words)
+    }
+
+    /// A continuing, which isn't refused.
+    pub fn go(&mut self, n: u32) -> Answer {
+        self.done((BOTH.continue_by)(&self.file, n, &self.state))
+    }
+
+    /// A start, which isn't refused.
+    pub fn start(&mut self) -> Answer {
+        self.done((BOTH.start)(&self.file, &self.state))
+    }
+
+    fn done(&mut self, reply: Reply<Answer>) -> Answer {
+        self.state.clone_from(&reply.lent[0]);
+        reply.result.expect("an unrefused call")
+    }
+
+    /// A start is refused so, and changes nothing.
+    pub fn assert_start_refused(&self, number: u8) {
+        let started = (BOTH.start)(&self.file, &self.state);
+        assert_eq!(started.result, refused(number, 0));
+        assert_eq!(started.lent, [&self.state[..]]);
+    }
+
+    /// A continuing is refused so, and changes nothing.
+    pub fn assert_refused(&self, n: u32, number: u8) {
+        let continued = (BOTH.continue_by)(&self.file, n, &self.state);
+        assert_eq!(continued.result, refused(number, 0));
+        assert_eq!(continued.lent, [&self.state[..]]);
+    }
+
+    /// The number in flight, as the state tells it.
+    pub fn in_flight(&self) -> u32 {
+        let bytes = &self.state[NUMBER..NUMBER + 4];
+        u32::from_le_bytes(bytes.try_into().expect("four bytes"))
+    }
+
+    pub fn tell_in_flight(&mut self, number: u32) {
+        self.state[NUMBER..NUMBER + 4].copy_from_slice(&number.to_le_bytes());
+    }
+
+    pub fn tell_instant(&mut self, instant: u32) {
+        self.state[..NUMBER].copy_from_slice(&instant.to_le_bytes());
+    }
+
+    /// What a cell shows, of a control wire or the low byte of a word.
+    pub fn now(&self, cell: u16) -> u8 {
+        self.state[at(cell, NOW)]
+    }
+
+    /// The words of the arrays.
+    pub fn element(&self, array: usize, index: usize) -> u16 {
+        let place = self.state.len() - 512 + 128 * array + 2 * index;
+        u16::from_le_bytes([self.state[place], self.state[place + 1]])
+    }
+}

@@ -1,0 +1,102 @@
+//! A simulator that walks over all cells at each instant, by the equations of
+//! `against_equations`, and goes wrong about arrays in the way that it is told.
+
+use crate::against_equations::{element_place, instant_of, wire_of, Step};
+use crate::flight;
+use crate::lend::ARRAYS;
+use second::cells::{Netlist, READ};
+use values::Answer;
+
+#[derive(Clone, Copy, PartialEq)]
+pub enum Fault {
+    None,
+    AddressOfTheFall,
+    SevenBits,
+    StaleRead,
+}
+
+pub struct Walk {
+    pub netlist: Netlist,
+    pub fault: Fault,
+}
+
+impl Walk {
+    pub fn finished(&self, state: &[u8]) -> bool {
+        wire_of(state, self.netlist.finish) == 1
+    }
+
+    pub fn answer(&self, state: &[u8], count: u32) -> Answer {
+        let memories = self.netlist.memories();
+        Answer {
+            ended: self.finished(state),
+            instant: instant_of(state),
+            count,
+            words: std::array::from_fn(|variable| wire_of(state, memories[variable] as u16)),
+        }
+    }
+
+    /// The state an instant later, for which a start is given or not. Values come
+    /// a second time after the writes, which the reads then show.
+    pub fn next(&self, before: &[u8], starts: bool) -> Vec<u8> {
+        let mut after = before.to_vec();
+        after[..4].copy_from_slice(&(instant_of(before) + 1).to_le_bytes());
+        self.put_values(before, &mut after, starts);
+        let step = self.step(before, &after, starts);
+        let elements = step.written(|array, address| match self.fault {
+            Fault::AddressOfTheFall => self.place(array, step.now(address)),
+            _ => self.place(array, step.ago(address)),
+        });
+        let arrays = after.len() - ARRAYS;
+        after[arrays..].copy_from_slice(&elements);
+        if self.fault != Fault::StaleRead {
+            self.put_values(before, &mut after, starts);
+        }
+        self.put_rest(before, &mut after);
+        let number = flight::counted(&self.netlist.cells, &after);
+        flight::tell(&mut after, number);
+        after
+    }
+
+    fn step<'a>(&'a self, before: &'a [u8], after: &'a [u8], starts: bool) -> Step<'a> {
+        Step {
+            netlist: &self.netlist,
+            words: &[],
+            before,
+            after,
+            instant: instant_of(after),
+            starts,
+        }
+    }
+
+    /// The place of an element in the bytes of the arrays.
+    fn place(&self, array: u8, index: u16) -> usize {
+        match self.fault {
+            Fault::SevenBits => (element_place(array, 0) + 2 * usize::from(index % 128)) % ARRAYS,
+            _ => element_place(array, index),
+        }
+    }
+
+    /// The value of each cell, from those of lower cells and the arrays.
+    fn put_values(&self, before: &[u8], after: &mut [u8], starts: bool) {
+        for (number, cell) in self.netlist.cells.iter().enumerate() {
+            let step = self.step(before, after, starts);
+            let value = match cell.kind {
+                READ => {
+                    let array = self.netlist.cells[usize::from(cell.a)].delay;
+                    let place = after.len() - ARRAYS + self.place(array, step.now(cell.b));
+                    u16::from_le_bytes([after[place], after[place + 1]])
+                }
+                _ => step.value(number),
+            };
+            after[8 + 40 * number..][..2].copy_from_slice(&value.to_le_bytes());
+        }
+    }
+
+    /// What a cell keeps beside its value.
+    fn put_rest(&self, before: &[u8], after: &mut [u8]) {
+        for number in 0..self.netlist.cells.len() {
+            let kept = self.step(before, after, false).expected(number);
+            after[8 + 40 * number..][2..40].copy_from_slice(&kept[2..]);
+        }
+    }
+}

@@ -1,31 +1,31 @@
-//! The calls on lent bytes and numbers. A call that checks a program may be
-//! given a table of operator times; without one the built-in serves.
+//! The calls on lent bytes and numbers. A call that checks a program has in
+//! front what is given beside it.
 
 use crate::exports::*;
 use crate::reply::{accepted, answer, end, shape, written};
-use values::{Answer, End, Refusal, Shape, Table};
+use values::{Answer, End, Given, Refusal, Shape};
 
 /// Checks a program.
-pub fn check(table: Table, program: &[u8]) -> Result<(), Refusal> {
-    let told = accepted(|reply| hub_check(table, program, reply));
+pub fn check(given: Given, program: &[u8]) -> Result<(), Refusal> {
+    let told = accepted(|reply| hub_check(given.table, given.procedures, program, reply));
     told.map(drop)
 }
 
 /// Compiles a program to a netlist file.
-pub fn compile(table: Table, program: &[u8], file: &mut [u8]) -> Result<Shape, Refusal> {
-    let told = accepted(|reply| hub_compile(table, program, file, reply));
+pub fn compile(given: Given, program: &[u8], file: &mut [u8]) -> Result<Shape, Refusal> {
+    let told = accepted(|reply| hub_compile(given.table, given.procedures, program, file, reply));
     told.map(|told| written(told, file))
 }
 
 /// Reads a text to its program's bytes, and tells how many they are.
-pub fn read_text(table: Table, text: &[u8], program: &mut [u8]) -> Result<usize, Refusal> {
-    let told = accepted(|reply| hub_read_text(table, text, program, reply));
+pub fn read_text(given: Given, text: &[u8], program: &mut [u8]) -> Result<usize, Refusal> {
+    let told = accepted(|reply| hub_read_text(given.table, given.procedures, text, program, reply));
     told.map(|told| told.first as usize)
 }
 
 /// Compiles a text to a netlist file.
-pub fn compile_text(table: Table, text: &[u8], file: &mut [u8]) -> Result<Shape, Refusal> {
-    let told = accepted(|reply| hub_compile_text(table, text, file, reply));
+pub fn compile_text(given: Given, text: &[u8], file: &mut [u8]) -> Result<Shape, Refusal> {
+    let told = accepted(|reply| hub_compile_text(given.table, given.procedures, text, file, reply));
     told.map(|told| written(told, file))
 }
 
@@ -67,37 +67,61 @@ pub fn run_netlist(
 
 /// A full run of a program; its netlist file and its last state are lent.
 pub fn run_program(
-    table: Table,
+    given: Given,
     program: &[u8],
     words: &[u8],
     budget: u32,
     file: &mut [u8],
     state: &mut [u8],
 ) -> Result<Answer, Refusal> {
-    let told = accepted(|reply| hub_run_program(table, program, words, budget, file, state, reply));
+    let told = accepted(|reply| {
+        hub_run_program(
+            given.table,
+            given.procedures,
+            program,
+            words,
+            budget,
+            file,
+            state,
+            reply,
+        )
+    });
     told.map(answer)
 }
 
 /// A full run of a text.
 pub fn run_text(
-    table: Table,
+    given: Given,
     text: &[u8],
     words: &[u8],
     budget: u32,
     file: &mut [u8],
     state: &mut [u8],
 ) -> Result<Answer, Refusal> {
-    let told = accepted(|reply| hub_run_text(table, text, words, budget, file, state, reply));
+    let told = accepted(|reply| {
+        hub_run_text(
+            given.table,
+            given.procedures,
+            text,
+            words,
+            budget,
+            file,
+            state,
+            reply,
+        )
+    });
     told.map(answer)
 }
 
 /// The end of a program by its own rules, if within the budget.
 pub fn reference_run(
-    table: Table,
+    given: Given,
     program: &[u8],
     words: &[u8],
     budget: u32,
 ) -> Result<Option<End>, Refusal> {
-    let told = accepted(|reply| hub_reference(table, program, words, budget, reply));
+    let told = accepted(|reply| {
+        hub_reference(given.table, given.procedures, program, words, budget, reply)
+    });
     told.map(|told| end(told, budget))
 }

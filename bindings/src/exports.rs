@@ -47,20 +47,26 @@ macro_rules! exports {
 }
 
 // crates/exports/src/calls.rt; the definitions are those of model/Calls and
-// model/TextCalls. A call that checks a program has in front the table of
-// operator times that may be given.
+// model/TextCalls. A call that checks a program has in front what is given
+// beside it: the table of operator times, if any, and the number of procedures.
 exports! {
     /// checkCall
-    hub_check(table: ?[u8], program: &[u8], reply: &mut [u8]);
+    hub_check(table: ?[u8], procedures: usize, program: &[u8], reply: &mut [u8]);
 
     /// compileCall
-    hub_compile(table: ?[u8], program: &[u8], file: &mut [u8], reply: &mut [u8]);
+    hub_compile(
+        table: ?[u8], procedures: usize, program: &[u8], file: &mut [u8], reply: &mut [u8]
+    );
 
     /// readTextCall
-    hub_read_text(table: ?[u8], text: &[u8], program: &mut [u8], reply: &mut [u8]);
+    hub_read_text(
+        table: ?[u8], procedures: usize, text: &[u8], program: &mut [u8], reply: &mut [u8]
+    );
 
     /// compileTextCall
-    hub_compile_text(table: ?[u8], text: &[u8], file: &mut [u8], reply: &mut [u8]);
+    hub_compile_text(
+        table: ?[u8], procedures: usize, text: &[u8], file: &mut [u8], reply: &mut [u8]
+    );
 
     /// writeCall
     hub_write(cells: &[u8], finish: u16, file: &mut [u8], reply: &mut [u8]);
@@ -79,13 +85,13 @@ exports! {
 
     /// runProgramCall
     hub_run_program(
-        table: ?[u8], program: &[u8], words: &[u8], budget: u32,
+        table: ?[u8], procedures: usize, program: &[u8], words: &[u8], budget: u32,
         netlist: &mut [u8], state: &mut [u8], reply: &mut [u8]
     );
 
     /// runTextCall
     hub_run_text(
-        table: ?[u8], text: &[u8], words: &[u8], budget: u32,
+        table: ?[u8], procedures: usize, text: &[u8], words: &[u8], budget: u32,
         netlist: &mut [u8], state: &mut [u8], reply: &mut [u8]
     );
 
@@ -95,7 +101,10 @@ exports! {
     );
 
     /// referenceCall
-    hub_reference(table: ?[u8], program: &[u8], words: &[u8], budget: u32, reply: &mut [u8]);
+    hub_reference(
+        table: ?[u8], procedures: usize, program: &[u8], words: &[u8], budget: u32,
+        reply: &mut [u8]
+    );
 }
 
 // crates/exports/src/lib.rt and moves.rt; the definitions are those of model/CellSlices.

@@ -17,16 +17,25 @@ pub struct Tree {
 }
 
 /// Whether a program can be a text: texts have no words for arrays, loops that
-/// exits end, and exits.
-pub fn has_text(nodes: &[Node]) -> bool {
-    !nodes.iter().any(|node| matches!(node.kind, 10 | 24..=26))
+/// exits end, exits, and procedures.
+pub fn has_text(procedures: usize, nodes: &[Node]) -> bool {
+    let untyped = |node: &Node| matches!(node.kind, 10 | 24..=27);
+    procedures == 0 && !nodes.iter().any(untyped)
 }
 
-/// The tree of an accepted program's nodes.
+/// The tree of an accepted program without procedures.
 pub fn tree(nodes: &[Node]) -> Option<Tree> {
-    let mut at = 0;
-    let tree = tree_from(nodes, &mut at)?;
-    (at == nodes.len()).then_some(tree)
+    let mut trees = trees(nodes)?;
+    trees.pop().filter(|_| trees.is_empty())
+}
+
+/// The trees of an accepted program's nodes, the main program's last.
+pub fn trees(nodes: &[Node]) -> Option<Vec<Tree>> {
+    let (mut at, mut trees) = (0, Vec::new());
+    while at < nodes.len() {
+        trees.push(tree_from(nodes, &mut at)?);
+    }
+    Some(trees)
 }
 
 fn tree_from(nodes: &[Node], next: &mut usize) -> Option<Tree> {
@@ -165,6 +174,7 @@ pub fn head(tree: &Tree) -> String {
         ),
         25 => format!("loop @{delay}"),
         26 => "exit".to_string(),
+        27 => format!("call {n} @{delay}"),
         _ => expression(tree, 0),
     }
 }

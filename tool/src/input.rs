@@ -1,6 +1,8 @@
 //! The file that a command is about: a text, an outline, a program's bytes or a
-//! netlist file, with a table of operator times where one is given.
+//! netlist file, with a table of operator times where one is given and the
+//! number of procedures.
 
+use crate::answers::counted;
 use crate::args::Args;
 use crate::assemble::assemble;
 use crate::commands::Stop;
@@ -10,7 +12,7 @@ use crate::origin::{self, Trace};
 use crate::product;
 use crate::refusals;
 use crate::source::{self, Place, Source};
-use crate::types::{Fault, Netlist, Node, Refusal, Table};
+use crate::types::{Beside, Fault, Netlist, Node, Refusal};
 
 #[derive(Clone, Copy, Debug, PartialEq, Eq)]
 pub enum Form {
@@ -28,12 +30,16 @@ pub struct Given {
     pub bytes: Vec<u8>,
     /// The name and bytes of a table of operator times.
     pub times: Option<(String, Vec<u8>)>,
+    /// How many procedures its program has, as an outline's headings or
+    /// --procedures say.
+    pub procedures: usize,
 }
 
 /// An accepted program. Its nodes have places if it came as a text or an
 /// outline.
 #[derive(Clone, Debug)]
 pub struct Program {
+    pub procedures: usize,
     pub bytes: Vec<u8>,
     pub nodes: Vec<Node>,
     pub places: Option<Vec<Place>>,
@@ -69,16 +75,31 @@ impl Given {
             Some(table) => Some((table.to_string(), files::read(table)?)),
             None => None,
         };
-        Ok(Given {
+        let mut given = Given {
             name: files::shown(name).to_string(),
             form,
             bytes: files::read(name)?,
             times,
-        })
+            procedures: args.number("procedures")?.unwrap_or(0) as usize,
+        };
+        if form == Form::Outline {
+            let (said, own) = (args.value("procedures"), given.source()?.procedures);
+            if said.is_some() && given.procedures != own {
+                let message = format!("{name} has {}", counted(own, "procedure"));
+                return Err(args.fault(message));
+            }
+            given.procedures = own;
+        }
+        Ok(given)
     }
 
-    pub fn table(&self) -> Table<'_> {
-        self.times.as_ref().map(|(_, bytes)| bytes.as_slice())
+    /// What is given beside the program.
+    pub fn beside(&self) -> Beside<'_> {
+        let table = self.times.as_ref().map(|(_, bytes)| bytes.as_slice());
+        Beside {
+            table,
+            procedures: self.procedures,
+        }
     }
 
     /// The program, accepted by the product.
@@ -86,18 +107,20 @@ impl Given {
         match self.form {
             Form::Text => self.program_of_text(),
             Form::Outline => {
-                let Source { nodes, places } = self.source()?;
+                let Source { nodes, places, .. } = self.source()?;
                 let bytes = product::program_bytes(&nodes);
-                product::check(self.table(), &bytes).map_err(|met| self.refused(met))?;
+                product::check(self.beside(), &bytes).map_err(|met| self.refused(met))?;
                 Ok(Program {
+                    procedures: self.procedures,
                     bytes,
                     nodes,
                     places: Some(places),
                 })
             }
             Form::Program => {
-                product::check(self.table(), &self.bytes).map_err(|met| self.refused(met))?;
+                product::check(self.beside(), &self.bytes).map_err(|met| self.refused(met))?;
                 Ok(Program {
+                    procedures: self.procedures,
                     bytes: self.bytes.clone(),
                     nodes: product::nodes(&self.bytes),
                     places: None,
@@ -121,7 +144,7 @@ impl Given {
     }
 
     fn program_of_text(&self) -> Result<Program, Stop> {
-        let read = product::read_text(self.table(), &self.bytes);
+        let read = product::read_text(self.beside(), &self.bytes);
         let bytes = read.map_err(|met| self.refused(met))?;
         let nodes = product::nodes(&bytes);
         let source = self.source()?;
@@ -129,6 +152,7 @@ impl Given {
             return Err(self.misread().into());
         }
         Ok(Program {
+            procedures: self.procedures,
             bytes,
             nodes,
             places: Some(source.places),
@@ -146,12 +170,12 @@ impl Given {
             });
         }
         let program = self.program()?;
-        let compiled = product::compile(self.table(), &program.bytes);
+        let compiled = product::compile(self.beside(), &program.bytes);
         let file = compiled.map_err(|met| self.refused(met))?;
         let netlist = product::read_netlist(&file).map_err(|met| {
             Fault::internal(format!("the compiled netlist of {}: {met}", self.name))
         })?;
-        let trace = origin::trace(&program.nodes, &netlist)?;
+        let trace = origin::trace(program.procedures, &program.nodes, &netlist)?;
         Ok(Circuit {
             file,
             netlist,

@@ -28,6 +28,7 @@ pub const NODES: Templates = Templates {
         kind(24, "assign a{n} @{d}"),
         kind(25, "loop @{d}"),
         kind(26, "exit"),
+        kind(27, "call {n} @{d}"),
     ],
     any: kind(0, "kind {k} delay {d} n {n}"),
 };
@@ -51,6 +52,7 @@ pub const CELLS: Templates = Templates {
         kind(36, "when true {a} by {b}"),
         kind(37, "when false {a} by {b}"),
         kind(38, "merge {a} {b}"),
+        kind(39, "return {a} {b}"),
         kind(40, "memory clock {a} data {b}"),
         kind(41, "gated {b} by {a}"),
         kind(42, "array a{d} clock {a} data {b}"),
@@ -99,5 +101,5 @@ pub fn inputs(cell: &Cell) -> Vec<u16> {
 
 /// Whether a cell of this kind drives a control wire.
 pub fn is_control(kind: u8) -> bool {
-    (32..=38).contains(&kind)
+    (32..=39).contains(&kind)
 }

@@ -14,16 +14,19 @@ pub struct Labels {
     pub places: Vec<String>,
     /// The node as text, without the statements in it.
     pub heads: Vec<String>,
-    pub tree: Tree,
+    /// Of the procedures and, the last, of the main program.
+    pub trees: Vec<Tree>,
 }
 
 impl Labels {
     /// Of a program that came with this text, or with none.
     pub fn of(program: &Program, text: &[u8]) -> Result<Labels, Fault> {
-        let tree = format::tree(&program.nodes)
+        let trees = format::trees(&program.nodes)
             .ok_or_else(|| Fault::internal("an accepted program that is no tree"))?;
         let mut heads = vec![String::new(); program.nodes.len()];
-        put_heads(&tree, &mut heads);
+        for tree in &trees {
+            put_heads(tree, &mut heads);
+        }
         let place = |node: usize| match &program.places {
             Some(places) => format!("line {}", line_of(text, places[node].mark.start)),
             None => format!("node {node}"),
@@ -31,7 +34,7 @@ impl Labels {
         Ok(Labels {
             places: (0..heads.len()).map(place).collect(),
             heads,
-            tree,
+            trees,
         })
     }
 }

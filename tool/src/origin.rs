@@ -39,9 +39,9 @@ fn array_behind(first_memory: u16, array: u16) -> u16 {
     first_memory + VARIABLES as u16 + 2 * array
 }
 
-/// The trace of a program whose netlist is this one.
-pub fn trace(nodes: &[Node], netlist: &Netlist) -> Result<Trace, Fault> {
-    let (own, trace) = walk::lay_out(nodes);
+/// The trace of a program with so many procedures whose netlist is this one.
+pub fn trace(procedures: usize, nodes: &[Node], netlist: &Netlist) -> Result<Trace, Fault> {
+    let (own, trace) = walk::lay_out(procedures, nodes);
     if own != *netlist {
         let message = "the tool lays out other cells than the product has compiled";
         return Err(Fault::internal(message));
@@ -52,6 +52,20 @@ pub fn trace(nodes: &[Node], netlist: &Netlist) -> Result<Trace, Fault> {
 /// The number of the node after the last one below this node.
 pub fn subtree_end(nodes: &[Node], node: usize) -> usize {
     (0..children(nodes[node].kind)).fold(node + 1, |next, _| subtree_end(nodes, next))
+}
+
+/// The nodes at which whole statements begin, one after another, and whether the
+/// last nodes are a statement that isn't whole.
+pub fn roots(nodes: &[Node]) -> (Vec<usize>, bool) {
+    let (mut roots, mut first, mut owed) = (Vec::new(), 0, 1);
+    for (at, node) in nodes.iter().enumerate() {
+        owed = owed - 1 + children(node.kind);
+        if owed == 0 {
+            roots.push(first);
+            (first, owed) = (at + 1, 1);
+        }
+    }
+    (roots, first < nodes.len())
 }
 
 /// How many children a node of this kind has.

@@ -1,17 +1,35 @@
 //! A program's nodes as an outline: a line for each, indented below its parent.
-//! Every kind has words, also in a program that the product refuses.
+//! Every kind has words, also in a program that the product refuses. Where there
+//! are procedures, a heading stands over each and over the main program.
 
 use crate::kinds::NODES;
 use crate::origin::children;
 use crate::template::{byte, word};
 use crate::types::Node;
+use std::cmp::Ordering;
 
-/// The outline of nodes in preorder.
-pub fn outline(nodes: &[Node]) -> String {
+/// A line that stands over a statement.
+#[derive(Clone, Copy, Debug, PartialEq, Eq)]
+pub enum Heading {
+    Procedure(u16),
+    Main,
+}
+
+/// The outline of nodes in preorder, of which so many statements are procedures.
+pub fn outline(procedures: usize, nodes: &[Node]) -> String {
     let mut owed: Vec<usize> = Vec::new();
     let mut lines = String::new();
+    let (mut roots, indent) = (0, usize::from(procedures > 0));
     for node in nodes {
-        lines += &"  ".repeat(owed.len());
+        if owed.is_empty() && procedures > 0 {
+            match roots.cmp(&procedures) {
+                Ordering::Less => lines += &format!("procedure {roots}\n"),
+                Ordering::Equal => lines += "main\n",
+                Ordering::Greater => {}
+            }
+            roots += 1;
+        }
+        lines += &"  ".repeat(indent + owed.len());
         lines += &words_of(node);
         lines.push('\n');
         owed.push(children(node.kind));
@@ -27,6 +45,15 @@ fn close(owed: &mut Vec<usize>) {
         if let Some(parent) = owed.last_mut() {
             *parent -= 1;
         }
+    }
+}
+
+/// The heading that words are, if they are one.
+pub fn heading_of(words: &[&str]) -> Result<Option<Heading>, String> {
+    match words {
+        ["procedure", number] => word(number).map(|number| Some(Heading::Procedure(number))),
+        ["main"] => Ok(Some(Heading::Main)),
+        _ => Ok(None),
     }
 }
 

@@ -2,26 +2,26 @@
 
 use crate::layout::{element_in, file_length, state_length, store_bytes, CELLS, FILE, PROGRAM};
 use crate::store::{self, Store, LENGTH, OF_ARRAYS};
-use crate::types::{Answer, Cell, End, Netlist, Node, Refusal, Table};
+use crate::types::{Answer, Beside, Cell, End, Netlist, Node, Refusal};
 use bindings::{calls, cell_calls};
 
 /// Checks a program.
-pub fn check(table: Table, program: &[u8]) -> Result<(), Refusal> {
-    calls::check(table, program)
+pub fn check(beside: Beside, program: &[u8]) -> Result<(), Refusal> {
+    calls::check(beside, program)
 }
 
 /// The bytes of an accepted text's program.
-pub fn read_text(table: Table, text: &[u8]) -> Result<Vec<u8>, Refusal> {
+pub fn read_text(beside: Beside, text: &[u8]) -> Result<Vec<u8>, Refusal> {
     let mut program = vec![0; PROGRAM];
-    let length = calls::read_text(table, text, &mut program)?;
+    let length = calls::read_text(beside, text, &mut program)?;
     program.truncate(length);
     Ok(program)
 }
 
 /// The netlist file of a program.
-pub fn compile(table: Table, program: &[u8]) -> Result<Vec<u8>, Refusal> {
+pub fn compile(beside: Beside, program: &[u8]) -> Result<Vec<u8>, Refusal> {
     let mut file = vec![0; FILE];
-    let shape = calls::compile(table, program, &mut file)?;
+    let shape = calls::compile(beside, program, &mut file)?;
     file.truncate(file_length(shape.cells));
     Ok(file)
 }
@@ -93,12 +93,12 @@ pub fn check_budget(file: &[u8], budget: u32) -> Result<(), Refusal> {
 
 /// The end of a program by its own rules, if within the budget.
 pub fn reference(
-    table: Table,
+    beside: Beside,
     program: &[u8],
     start: &Store,
     budget: u32,
 ) -> Result<Option<End>, Refusal> {
-    calls::reference_run(table, program, &store_bytes(start), budget)
+    calls::reference_run(beside, program, &store_bytes(start), budget)
 }
 
 /// The nodes that stand in a program's bytes, four for each.

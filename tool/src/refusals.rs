@@ -1,6 +1,7 @@
 //! What is told of a refusal: the place, the rule in plain words, what to do.
 
 mod asking;
+mod calls;
 mod marks;
 mod netlists;
 mod programs;

@@ -16,9 +16,11 @@ pub struct Place {
     pub delay: Option<Span>,
 }
 
-/// The nodes of a text and, for each, its place.
+/// The nodes of a text or an outline and, for each, its place. An outline tells
+/// how many procedures stand before the main program.
 #[derive(Clone, Debug, Default, PartialEq, Eq)]
 pub struct Source {
+    pub procedures: usize,
     pub nodes: Vec<Node>,
     pub places: Vec<Place>,
 }

@@ -2,7 +2,7 @@
 //! the times are, and which check is right, it asks the product.
 
 use crate::product;
-use crate::types::{Fault, Node, Refusal, Table};
+use crate::types::{Beside, Fault, Node, Refusal, Table};
 
 /// The operators that have a time of their own, by the names of their nodes.
 pub const OPERATORS: [(u8, &str); 8] = [
@@ -36,7 +36,7 @@ pub fn times(table: Table) -> Result<Vec<u8>, Refusal> {
 fn least_delay(table: Table, kind: u8) -> Result<u8, Refusal> {
     let mut met = Refusal::new(DELAY_TOO_SMALL, 0);
     for delay in 1..=u8::MAX {
-        match product::check(table, &assignment(kind, delay)) {
+        match product::check(Beside::table(table), &assignment(kind, delay)) {
             Ok(()) => return Ok(delay),
             Err(refusal) if refusal.number != DELAY_TOO_SMALL => return Err(refusal),
             Err(refusal) => met = refusal,
@@ -68,7 +68,7 @@ pub fn file(times: &[u8]) -> Result<Vec<u8>, Fault> {
     }
     for check in 0..=u16::MAX {
         bytes[CHECK..TIMES].copy_from_slice(&check.to_le_bytes());
-        let met = product::check(Some(&bytes), &[]);
+        let met = product::check(Beside::table(Some(&bytes)), &[]);
         if !matches!(met, Err(Refusal { number, .. }) if number == WRONG_CHECK) {
             return Ok(bytes);
         }

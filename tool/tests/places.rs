@@ -4,7 +4,7 @@
 use hub::input::{Form, Given};
 use hub::origin::{subtree_end, trace, Ends};
 use hub::source::Place;
-use hub::types::{Node, Refusal, INTERNAL};
+use hub::types::{Beside, Node, Refusal, INTERNAL};
 use hub::{product, refusals, source};
 use std::fs;
 use std::path::{Path, PathBuf};
@@ -27,6 +27,7 @@ fn given(name: &Path) -> Given {
         form: Form::Program,
         bytes: fs::read(name).expect("a vector"),
         times: None,
+        procedures: 0,
     }
 }
 
@@ -35,9 +36,9 @@ fn cells_come_from_the_nodes_of_their_program() {
     for file in programs("compile") {
         let bytes = fs::read(&file).expect("a vector");
         let nodes = product::nodes(&bytes);
-        let compiled = product::compile(None, &bytes).expect("an accepted program");
+        let compiled = product::compile(Beside::NOTHING, &bytes).expect("an accepted program");
         let netlist = product::read_netlist(&compiled).expect("an accepted netlist");
-        let trace = trace(&nodes, &netlist).expect("the product's cells");
+        let trace = trace(0, &nodes, &netlist).expect("the product's cells");
         assert_eq!(trace.origins.len(), netlist.cells.len());
         let finish = netlist.finish;
         assert_eq!(trace.ends[0], Some(Ends { start: 0, finish }));
@@ -49,13 +50,42 @@ fn cells_come_from_the_nodes_of_their_program() {
     }
 }
 
+/// The cells of bodies and calls, too: a body starts where its callers' delays are
+/// joined, and a call finishes by a cell of its own.
+#[test]
+fn cells_come_from_bodies_and_calls() {
+    let mut calls = 0;
+    for file in programs("s08/compile") {
+        let given = fs::read_to_string(file.with_extension("given")).expect("a vector");
+        let procedures = given
+            .split(' ')
+            .nth(1)
+            .and_then(|number| number.parse().ok());
+        let beside = Beside::procedures(procedures.expect("a number of procedures"));
+        let bytes = fs::read(&file).expect("a vector");
+        let Ok(compiled) = product::compile(beside, &bytes) else {
+            continue;
+        };
+        let (nodes, netlist) = (product::nodes(&bytes), product::read_netlist(&compiled));
+        let netlist = netlist.expect("an accepted netlist");
+        let trace = trace(beside.procedures, &nodes, &netlist).expect("the product's cells");
+        for (node, _) in nodes.iter().enumerate().filter(|(_, node)| node.kind == 27) {
+            let Ends { finish, .. } = trace.ends[node].expect("a statement");
+            assert_eq!(netlist.cells[usize::from(finish)].kind, 39, "node {node}");
+            assert_eq!(trace.origins[usize::from(finish)].node, Some(node));
+            calls += 1;
+        }
+    }
+    assert!(calls > 50, "{calls} calls");
+}
+
 #[test]
 fn other_cells_than_the_products_are_an_internal_error() {
     let program = [17, 2, 0, 0];
-    let file = product::compile(None, &program).expect("an accepted program");
+    let file = product::compile(Beside::NOTHING, &program).expect("an accepted program");
     let mut netlist = product::read_netlist(&file).expect("an accepted netlist");
     netlist.cells[3].delay = 3;
-    let fault = trace(&product::nodes(&program), &netlist).expect_err("another delay");
+    let fault = trace(0, &product::nodes(&program), &netlist).expect_err("another delay");
     assert_eq!(fault.exit, INTERNAL);
 }
 
@@ -105,7 +135,7 @@ fn texts_are_read_as_the_product_reads_them() {
         "x0:=!(x0=x1)&(x2|x3)&x4@9;x1:=(x1<x2)=x3@23",
     ];
     for text in texts {
-        let bytes = product::read_text(None, text.as_bytes()).expect(text);
+        let bytes = product::read_text(Beside::NOTHING, text.as_bytes()).expect(text);
         let read = source::read(text.as_bytes()).expect(text);
         assert_eq!(read.nodes, product::nodes(&bytes), "{text}");
     }
@@ -118,7 +148,7 @@ fn typed_programs_are_read_as_the_product_reads_them() {
     let mut typed = 0;
     for file in programs("compile") {
         let nodes = product::nodes(&fs::read(&file).expect("a vector"));
-        if !hub::format::has_text(&nodes) {
+        if !hub::format::has_text(0, &nodes) {
             continue;
         }
         let tree = hub::format::tree(&nodes).expect("an accepted program");
@@ -162,7 +192,8 @@ fn a_clash_has_a_use_on_each_side() {
     let mut clashes = 0;
     for file in programs("program") {
         let given = given(&file);
-        let Err(met @ Refusal { number: 8, place }) = product::check(None, &given.bytes) else {
+        let Err(met @ Refusal { number: 8, place }) = product::check(Beside::NOTHING, &given.bytes)
+        else {
             continue;
         };
         let nodes = product::nodes(&given.bytes);
@@ -195,7 +226,8 @@ fn uses_of_an_array_clash() {
         ..given(Path::new("/dev/null"))
     };
     let nodes = given.source().expect("an outline").nodes;
-    let met = product::check(None, &product::program_bytes(&nodes)).expect_err("a clash");
+    let met =
+        product::check(Beside::NOTHING, &product::program_bytes(&nodes)).expect_err("a clash");
     assert_eq!(met, Refusal::new(8, 0));
     let report = refusals::report(&given, met).expect("a report");
     assert_eq!((report.variable, report.array), (None, Some(2)));
@@ -218,7 +250,8 @@ fn a_refused_exit_is_told_with_what_is_around_it() {
             ..given(Path::new("/dev/null"))
         };
         let nodes = given.source().expect("an outline").nodes;
-        let met = product::check(None, &product::program_bytes(&nodes)).expect_err("an exit");
+        let met =
+            product::check(Beside::NOTHING, &product::program_bytes(&nodes)).expect_err("an exit");
         let report = refusals::report(&given, met).expect("a report");
         let lines: Vec<usize> = report.marks.iter().map(|mark| mark.line - 1).collect();
         (met, report.rule, lines)
@@ -252,14 +285,15 @@ fn the_least_delay_is_the_first_that_passes() {
     let mut small = 0;
     for file in programs("program") {
         let given = given(&file);
-        let Err(met @ Refusal { number: 7, place }) = product::check(None, &given.bytes) else {
+        let Err(met @ Refusal { number: 7, place }) = product::check(Beside::NOTHING, &given.bytes)
+        else {
             continue;
         };
         let report = refusals::report(&given, met).expect("a report");
         let passes = |delay: &u8| {
             let mut bytes = given.bytes.clone();
             bytes[4 * place + 1] = *delay;
-            product::check(None, &bytes) != Err(met)
+            product::check(Beside::NOTHING, &bytes) != Err(met)
         };
         assert_eq!(report.least, (0..=255).find(passes), "{}", given.name);
         small += 1;

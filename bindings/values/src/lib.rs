@@ -3,12 +3,11 @@
 
 mod answer;
 mod cell;
+mod given;
 
 pub use answer::{Answer, End, Refusal, Shape};
 pub use cell::Cell;
+pub use given::{Given, Table};
 
 /// The words of the sixteen variables.
 pub type Words = [u16; 16];
-
-/// A table of operator times; with none the built-in one serves.
-pub type Table<'a> = Option<&'a [u8]>;

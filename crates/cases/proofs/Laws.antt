@@ -6,7 +6,7 @@ use native.Mathlib.Omega.{arith}
 use lib.ListN.{set, getD, take, replicate}
 use Rattle.model.specs.declared.Answer.{Answer}
 use Rattle.model.specs.Word.{put16}
-use Rattle.model.specs.TimeTables.{defaults}
+use Rattle.model.specs.declared.Options.{Options}
 use Rattle.model.specs.Calls.{runProgramCall}
 use Rattle.model.specs.Cases.{start}
 use Rattle.reply.specs.declared.Reply.{Reply}
@@ -17,9 +17,9 @@ pub start-put : (v : ℕ) {words : List ℕ} → words ≡ put16 (replicate 544 
 unfolding put16
 start-put v e = e
 
-pub run-from : (program : List ℕ) (v budget : ℕ) (netlist state : List ℕ) {words : List ℕ} {r : Answer} → words ≡ start v
-    → r ≡ runProgramCall defaults program words budget netlist state .answer → r ≡ runProgramCall defaults program (start v) budget netlist state .answer
-run-from program v budget netlist state e told = rw (← e) told
+pub run-from : (options : Options) (program : List ℕ) (v budget : ℕ) (netlist state : List ℕ) {words : List ℕ} {r : Answer} → words ≡ start v
+    → r ≡ runProgramCall options program words budget netlist state .answer → r ≡ runProgramCall options program (start v) budget netlist state .answer
+run-from options program v budget netlist state e told = rw (← e) told
 
 pub bytes-put : (a : Answer) {x : List ℕ} {r : Reply} → x ≡ replied r (replicate 48 0) → r ≡ answerReply a → x ≡ bytesOf a
 bytes-put a e f = e ∙ ap (λ (r : Reply). replied r (replicate 48 0)) f

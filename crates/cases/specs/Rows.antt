@@ -6,7 +6,7 @@ use Prim.Native.Nat.{ℕ, zero, suc, _+_, _-_, _*_}
 use lib.ListN.{getD, set, take, replicate}
 use Rattle.model.specs.declared.Answer.{Answer}
 use Rattle.model.specs.declared.Outcome.the-variants.{Open}
-use Rattle.model.specs.TimeTables.{defaults}
+use Rattle.model.specs.TimeTables.{builtIn, beside, load}
 use Rattle.model.specs.Calls.{runProgramCall, referenceCall}
 use Rattle.model.specs.Cases.{start}
 use Rattle.reply.specs.Replies.{answerReply, replied}
@@ -23,9 +23,10 @@ pub record Same (a b : Answer) : Type 0 where
   pub head : take 16 (bytesOf a) ≡ take 16 (bytesOf b)
   pub all : (getD (bytesOf a) 0 0 ≡ 2 → ⊥) → bytesOf a ≡ bytesOf b
 
-pub record Holds (program : List ℕ) (word budget : ℕ) (wanted : Answer) : Type 0 where
-  pub circuit : Same (runProgramCall defaults program (start word) budget (replicate 6656 0) (replicate 41480 0) .answer) wanted
-  pub rules : Same (referenceCall defaults program (start word) budget) wanted
+-- of a program with so many procedures, under the built-in times
+pub record Holds (procedures : ℕ) (program : List ℕ) (word budget : ℕ) (wanted : Answer) : Type 0 where
+  pub circuit : Same (runProgramCall (load (beside builtIn procedures)) program (start word) budget (replicate 6656 0) (replicate 41480 0) .answer) wanted
+  pub rules : Same (referenceCall (load (beside builtIn procedures)) program (start word) budget) wanted
 
 -- a program's bytes with n nodes from i on made of one kind
 unfoldable pub kindsFrom : List ℕ → ℕ → ℕ → ℕ → List ℕ

@@ -8,12 +8,14 @@ use rows::ends;
 use rows::refuses;
 use rows::stays_open;
 use show::row;
+use show::row_of;
 
 fn main() {
     cases_1_to_4();
     cases_5_to_8();
     cases_9_to_12();
     arrays();
+    procedures();
     open_runs();
     lengths();
 }
@@ -70,6 +72,23 @@ fn arrays() {
     let crossing =
         b"\x14\0\0\0\x18\x01\0\0\x01\0\0\0\x01\0\x01\0\x12\x04\0\0\x0a\0\0\0\x01\0\x01\0";
     row(b"elements 0 and 1", crossing, 0, 100, refuses(8, 0));
+}
+
+// Two calls of x0 := x0 + 1; where no procedure is given; of itself; of a later one; from both sides; a clash behind a call; nine procedures.
+fn procedures() {
+    let twice = b"\x12\x10\0\0\x04\0\0\0\x02\0\0\0\x01\0\x01\0\x13\0\0\0\x1b\x01\0\0\x1b\x02\0\0";
+    row_of(b"two calls", 1, twice, 0, 100, ends(37, 2));
+    let call = b"\x1b\x01\0\0";
+    row(b"call of none", call, 0, 100, refuses(24, 0));
+    let itself = b"\x1b\x01\0\0\x10\0\0\0";
+    row_of(b"call of itself", 1, itself, 0, 100, refuses(24, 0));
+    let later = b"\x1b\x01\x01\0\x10\0\0\0\x10\0\0\0";
+    row_of(b"call of a later one", 2, later, 0, 100, refuses(24, 0));
+    let both = b"\x10\0\0\0\x14\0\0\0\x1b\x01\0\0\x1b\x01\0\0";
+    row_of(b"call from both sides", 1, both, 0, 100, refuses(25, 1));
+    let behind = b"\x12\x01\0\0\x01\0\x05\0\x14\0\0\0\x1b\x01\0\0\x12\x01\0\0\x01\0\x06\0";
+    row_of(b"clash behind a call", 1, behind, 0, 100, refuses(8, 2));
+    row_of(b"nine procedures", 9, call, 0, 100, refuses(1, 0));
 }
 
 // The two runs that stay open.

@@ -1,10 +1,10 @@
-// A row: a program, word 0 at the start, a budget, and the answer that circuit and rules are to give. Answers are compared as replies of 48
-// bytes (reply/Replies); of an open run without the words, which the rules don't tell.
+// A row: a program and the number of its procedures, word 0 at the start, a budget, and the answer that circuit and rules are to give. Answers are
+// compared as replies of 48 bytes (reply/Replies); of an open run without the words, which the rules don't tell.
 ghost use mathlib.Core.Path.{_≡_};
 ghost use mathlib.Core.Bool.{true};
 ghost use Prim.Native.Nat.{_*_, _≤_, _<_};
 ghost use lib.ListN.{length, replicate};
-ghost use Rattle.model.specs.TimeTables.{defaults};
+ghost use Rattle.model.specs.TimeTables.{builtIn, beside, load};
 ghost use Rattle.model.specs.Calls.{runProgramCall, referenceCall, refusedAnswer};
 ghost use Rattle.model.specs.Cases.{start, endAnswer};
 ghost use Rattle.cases.specs.Rows.{openAnswer, Same, Holds, kindsSet};
@@ -64,15 +64,15 @@ pub fn set_kinds(program: &mut [u8], from: usize, to: usize, kind: u8)
     }
 }
 
-fn by_circuit(program: &[u8], word: u16, budget: u32) -> Answer
-    ensures { λ r. ⌜ r ≡ runProgramCall defaults (now (program .entry)) (start word) budget (replicate 6656 0) (replicate 41480 0) .answer ⌝ }
+fn by_circuit(procedures: usize, program: &[u8], word: u16, budget: u32) -> Answer
+    ensures { λ r. ⌜ r ≡ runProgramCall (load (beside builtIn procedures)) (now (program .entry)) (start word) budget (replicate 6656 0) (replicate 41480 0) .answer ⌝ }
 {
     let mut words = [0u8; START_WORDS];
     word::put16(&mut words, 0, word);
     let mut netlist = [0u8; FILE_MOST];
     let mut state = [0u8; STATE_MOST];
     hub::run_program(
-        hub::defaults(),
+        hub::load_if(false, b"", procedures),
         program,
         &words,
         budget,
@@ -81,12 +81,17 @@ fn by_circuit(program: &[u8], word: u16, budget: u32) -> Answer
     )
 }
 
-fn by_rules(program: &[u8], word: u16, budget: u32) -> Answer
-    ensures { λ r. ⌜ r ≡ referenceCall defaults (now (program .entry)) (start word) budget ⌝ }
+fn by_rules(procedures: usize, program: &[u8], word: u16, budget: u32) -> Answer
+    ensures { λ r. ⌜ r ≡ referenceCall (load (beside builtIn procedures)) (now (program .entry)) (start word) budget ⌝ }
 {
     let mut words = [0u8; START_WORDS];
     word::put16(&mut words, 0, word);
-    hub::reference_run(hub::defaults(), program, &words, budget)
+    hub::reference_run(
+        hub::load_if(false, b"", procedures),
+        program,
+        &words,
+        budget,
+    )
 }
 
 // Whether two answers are the same.
@@ -104,12 +109,12 @@ fn same(a: Answer, b: Answer) -> bool
     }
 }
 
-pub fn holds(program: &[u8], word: u16, budget: u32, wanted: Answer) -> bool
-    ensures { λ r. ⌜ (r ≡ true → Holds (now (program .entry)) word budget wanted) ⌝ }
+pub fn holds(procedures: usize, program: &[u8], word: u16, budget: u32, wanted: Answer) -> bool
+    ensures { λ r. ⌜ (r ≡ true → Holds procedures (now (program .entry)) word budget wanted) ⌝ }
 {
-    let circuit = by_circuit(program, word, budget);
+    let circuit = by_circuit(procedures, program, word, budget);
     if same(circuit, wanted) {
-        let rules = by_rules(program, word, budget);
+        let rules = by_rules(procedures, program, word, budget);
         same(rules, wanted)
     } else {
         false

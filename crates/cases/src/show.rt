@@ -5,8 +5,20 @@ use model::Answer;
 use model::Outcome;
 
 pub fn row(name: &[u8], program: &[u8], word: u16, budget: u32, wanted: Answer) {
+    row_of(name, 0, program, word, budget, wanted)
+}
+
+// The same of a program with procedures.
+pub fn row_of(
+    name: &[u8],
+    procedures: usize,
+    program: &[u8],
+    word: u16,
+    budget: u32,
+    wanted: Answer,
+) {
     io::write_all(STDOUT_FILENO, name);
-    if rows::holds(program, word, budget, wanted) {
+    if rows::holds(procedures, program, word, budget, wanted) {
         answer(wanted);
     } else {
         io::write_all(STDOUT_FILENO, b": differs\n");

@@ -1,66 +1,45 @@
--- A program's netlist from its parts: what is known of an accepted program, what each part asks, and how the parts make the whole.
--- Assumes nothing.
-use mathlib.Core.Path.{_≡_, refl, sym, _∙_, ap}
+-- A program's netlist from its parts: what is known of an accepted program and its roots, what the two walks and the ors ask and leave, and how
+-- the parts make the whole. What the first walk puts in does not matter, but for its marks. Assumes nothing.
+use mathlib.Core.Path.{_≡_, refl, sym, _∙_, ap, subst}
 use mathlib.Core.List.{List, [], _∷_, _++_, append-assoc}
-use Prim.Native.Nat.{ℕ, _+_, _*_, _/_, _≤_}
+use Prim.Native.Nat.{ℕ, _+_, _-_, _*_, _/_, _≤_, _<_}
 use native.Mathlib.Omega.{arith}
-use lib.ListN.{length, drop, length-append, length-drop}
+use lib.ListN.{length, set, drop, length-append, length-drop}
 use lib.Seq.{sets}
 use Rattle.model.specs.declared.Cell.{Cell}
-use Rattle.model.specs.declared.Checked.the-variants.{Accepted}
-use Rattle.model.specs.declared.Options.{Options}
-use Rattle.model.specs.Program.{Stmt, programOf}
+use Rattle.model.specs.Program.{nodeCount, stmtAt, Program, programOf, roots}
 use Rattle.model.specs.Circuit.{cell}
 use Rattle.model.specs.NetlistFile.{cellBytes, cellsAt, inList}
-use Rattle.model.specs.Numbering.{delayCount, walkCount, clockSources, dataSources, addressSources, wiresOf, orCountFrom, clockAt, memoryAt, arraysAt, walkAt, dataAt, addressAt, clockWires, dataWires, addressWires, headCells, memoriesOf, arraysOf, netlist, finish}
-use Rattle.model.specs.Calls.{checkCall}
-use Rattle.laws.specs.Numbering.Lengths.{d-len, w-len}
-use Rattle.laws.specs.Program.Fit.{Formed}
+use Rattle.model.specs.Numbering.{Source, dataSources, addressSources, wiresOf, orCountFrom, idleStart, rootDelayCount, rootWalkCount, rootWalkSources, callsOf, clocksOf, dataOf, addressesOf}
+use Rattle.model.specs.Numbering.{clockAt, memoryAt, arraysAt, walkAt, dataAt, addressAt, clockWires, dataWires, addressWires, procedures, finishOfRoot, headCells, memoriesOf, arraysOf, netlist, finish}
+use Rattle.laws.specs.Numbering.Lengths.{root-d-len, root-w-len}
 use Rattle.laws.specs.Numbering.Parts.{delayCells, clockOrs, memoryCells, arrayCells, walkCells, dataOrs, addressOrs, orsFrom-len, outs-len, mems-len, arrays-len, net-length}
-use Rattle.laws.specs.Numbering.Count.{fits}
+use Rattle.laws.specs.Numbering.Count.{rootNodes, fits}
+use Rattle.laws.specs.Program.Fit.{Formed, Earlier, EveryRoot}
 use Rattle.laws.specs.Program.Accepted.{program-fit}
-use Rattle.laws.specs.Program.Size.{few-nodes}
+use Rattle.laws.specs.Program.Enclosed.{rootAt, root-earlier}
+use Rattle.laws.specs.Program.Passed.{Readable, accepted, count-bodies}
+use Rattle.laws.specs.Program.Size.{few-nodes, every-root}
 use Rattle.laws.specs.NetlistFile.CellBytes.{from-bytes, cells-are, bytes-length}
 use Rattle.word.proofs.Puts.{overwrite-sets}
+use Rattle.program.specs.Ends.{skips}
+use Rattle.program.specs.Roots.{Rooted, count-roots, root-is}
 use Rattle.compiler.specs.declared.walk.Place.{Place}
 use Rattle.compiler.specs.declared.ors.Ors.{Ors}
 use Rattle.compiler.specs.declared.ors.Joint.{Joint}
+use Rattle.compiler.specs.declared.whole.Clocks.{Clocks}
 use Rattle.compiler.specs.declared.whole.Finished.{Finished}
 use Rattle.compiler.specs.Writes.{write, both}
-use Rattle.compiler.specs.Walk.{place, assignments, allExits, Ready, Done}
+use Rattle.compiler.specs.Walk.{finishIn}
 use Rattle.compiler.specs.Ors.{sourcesFrom, OrsReady, Ored}
-use Rattle.compiler.specs.Whole.{Given, Clocked, Walked, Made}
+use Rattle.compiler.specs.Whole.{Given, callersOf, Told, RootReady, RootDone, rootAssignments, behindArrays, RootsReady, RootsDone, Clocked, Walked, Made}
 use Rattle.compiler.proofs.Writes.{write-append, write-before, write-length}
-use Rattle.compiler.proofs.Sizes.{few}
-use Rattle.compiler.proofs.Marks.{clock-marks, data-marks, address-marks}
+use Rattle.compiler.proofs.Sizes.{few, few-roots, one-root}
+use Rattle.compiler.proofs.Marks.{clock-marks, call-marks, data-marks, index-marks}
 use Rattle.compiler.proofs.Joining.{counts-alike, ored-alike}
+use Rattle.compiler.proofs.Roots.{Rooting, room-delays, room-walk, room-marks, earlier-more, rooting-more, rooting-end}
 
--- An accepted program ------------------------------------------------------------------------------------------------------------------
-
-record Facts (P : Stmt) : Type 0 where
-  formed : Formed P
-  assigned : assignments P ≤ 200
-  left-by : allExits P ≤ 200
-  delayed : delayCount P ≤ 200
-  walked : walkCount P ≤ 400
-  len : length (netlist P) ≡ addressAt P + orCountFrom (addressSources P (walkAt P)) 16 4
-  most : length (netlist P) ≤ 627
-
-facts : (options : Options) (s : List ℕ) → checkCall options s ≡ Accepted → Facts (programOf s)
-facts options s e =
-    let P = programOf s in
-    let n = few-nodes options s e in
-    record {
-      formed = program-fit options s e .formed;
-      assigned = omega (arith, n, few P);
-      left-by = omega (arith, n, few P);
-      delayed = omega (arith, n, few P);
-      walked = omega (arith, n, few P);
-      len = net-length P;
-      most = fits P n .1;
-    }
-
--- Parts --------------------------------------------------------------------------------------------------------------------------------
+-- How wires are joined -----------------------------------------------------------------------------------------------------------------
 
 abbrev pub clockJoint : Joint
 clockJoint = record { kind = 35; none = 1; mark = 1; first = 0 }
@@ -71,171 +50,236 @@ dataJoint = record { kind = 7; none = 2; mark = 2; first = 0 }
 abbrev pub addressJoint : Joint
 addressJoint = record { kind = 7; none = 2; mark = 3; first = 16 }
 
--- what a walk from the first mark on tells
-module _ {M : ℕ} {P : Stmt} {p e : Place} {before after ms marked : List ℕ} (u : Done M P p before after ms marked e) (z : p .mark ≡ 0) where
-  marked-count : e .mark / 4 ≡ assignments P
-  marked-count = omega (arith, u .mark, z)
+-- no marks tell no calls
+pub no-callers : (ms : List ℕ) → Told [] ms 0
+unfolding sourcesFrom wiresOf
+no-callers ms = record { few = omega arith; calls = λ p. refl }
 
-  module _ (l : length ms ≡ 800) (h : assignments P ≤ 200) where
-    marked-clocks : sourcesFrom 1 marked 0 (e .mark / 4) ≡ clockSources P (p .delay)
-    marked-clocks = rw (marked-count, u .marks, z) (clock-marks P (p .delay) (p .cell) ms (omega arith))
+-- An accepted program ------------------------------------------------------------------------------------------------------------------
 
-    marked-datas : sourcesFrom 2 marked 0 (e .mark / 4) ≡ dataSources P (p .cell)
-    marked-datas = rw (marked-count, u .marks, z) (data-marks P (p .delay) (p .cell) ms (omega arith))
+record Facts (k : ℕ) (s : List ℕ) : Type 0 where
+  readable : Readable k s
+  formed : (r : ℕ) → Formed (rootAt (programOf k s) r)
+  earlier : (r : ℕ) → r < length (roots (programOf k s)) → Earlier r (rootAt (programOf k s) r)
+  nodes : rootNodes (roots (programOf k s)) ≤ 200
 
-    marked-addresses : Formed P → (y : ℕ) → 16 ≤ y → wiresOf y (sourcesFrom 3 marked 0 (e .mark / 4)) ≡ wiresOf y (addressSources P (p .cell))
-    marked-addresses w y g = rw (marked-count, u .marks, z) (address-marks P (p .delay) (p .cell) ms (omega arith) w y g)
+module _ {k : ℕ} {s ends : List ℕ} {n : ℕ} (G : Given k s ends n) where
+  abbrev S : Program
+  S = programOf k s
 
-module _ {s ends : List ℕ} {n : ℕ} (G : Given s ends n) where
-  F : Facts (programOf s)
-  F = facts (G .options) s (G .accepted)
+  facts : Facts k s
+  facts =
+      subst (λ (k : ℕ). Facts k s) (G .count)
+      (record {
+        readable = accepted (G .options) s (G .accepted) .readable;
+        formed = λ r. program-fit (G .options) s (G .accepted) r .formed;
+        earlier = root-earlier (G .options) s (G .accepted);
+        nodes = few-nodes (G .options) s (G .accepted);
+      })
+
+  pub few-procedures : k ≤ 8
+  few-procedures = facts .readable .few
+
+  rooted : Rooted k s ends
+  rooted = record { readable = facts .readable; laid = G .laid }
+
+  bodies : procedures S ≡ k
+  bodies = count-bodies k s (facts .readable)
+
+  formed : EveryRoot (λ r P. Formed P) 0 (roots S)
+  formed = every-root (λ r P. Formed P) 0 (roots S) (λ j l. facts .formed j)
+
+  most : length (netlist S) ≤ 627
+  most = fits S (facts .nodes) .1
+
+  assigned : rootAssignments (roots S) ≤ 200
+  assigned = omega (arith, few-roots 0 (roots S), facts .nodes)
+
+  -- Roots ------------------------------------------------------------------------------------------------------------------------------
+
+  module _ {ms : List ℕ} {count M : ℕ} {cs : List Source} (T : Told cs ms count) (apart : 3 + rootDelayCount (roots S) ≤ behindArrays M)
+      {before marked cells marks finishes : List ℕ} {p : Place} {r i : ℕ} (C : Rooting S cs M before marked cells marks finishes p r) (l : r ≤ k)
+      (e : i ≡ skips ends (nodeCount s) r 0) where
+    inside : r < length (roots S)
+    inside = omega (arith, count-roots rooted)
+
+    pub root-ready : behindArrays M + rootWalkCount cs 0 (roots S) ≤ 627 → RootReady M (callersOf ms count r) count (stmtAt s i) p n
+    root-ready room =
+        rw (T .calls r, root-is rooted r i l e)
+        (record {
+          few = T .few;
+          apart = omega (arith, room-delays S cs M C inside, C .onward);
+          walk =
+              record {
+                formed = facts .formed r;
+                earlier = earlier-more r 8 (omega (arith, few-procedures)) (rootAt S r) (facts .earlier r inside);
+                memory = omega arith;
+                apart = omega (arith, room-delays S cs M C inside, C .onward);
+                room = omega (arith, room-walk S cs M C inside, G .size);
+                small = omega (arith, G .size);
+                marks = omega (arith, room-marks S cs M C inside, assigned);
+                outs = omega (arith, few (rootAt S r), one-root (roots S) r inside, facts .nodes);
+              };
+        })
+
+    pub root-further : {after remarked : List ℕ} {q : Place} {idle : ℕ} → idle ≡ idleStart k r → length after ≡ length cells
+        → RootDone M (finishIn finishes) idle (callersOf ms count r) (stmtAt s i) p cells after marks remarked q
+        → Rooting S cs M before marked after remarked (set finishes r (q .wire)) q (r + 1)
+    root-further z same u =
+        rooting-more S cs M C inside (omega (arith, few-procedures)) apart (facts .earlier r inside)
+        (rw (z ∙ ap (λ (j : ℕ). idleStart j r) (sym bodies), T .calls r, root-is rooted r i l e) at u) same
+
+  pub roots-end : {cs : List Source} {M : ℕ} {before marked cells marks finishes : List ℕ} {p : Place} {r : ℕ}
+      → Rooting S cs M before marked cells marks finishes p r → r ≡ k + 1 → RootsDone S cs M before cells marked marks p
+  roots-end C e = rooting-end S _ _ C (omega (arith, count-roots rooted)) (omega (arith, bodies))
+
+  -- Parts ------------------------------------------------------------------------------------------------------------------------------
 
   -- the first walk
-  pub first-ready : Ready 0 (programOf s) (place 0 3 203 0 0) n
-  first-ready =
-      let f = F in
+  pub first-ready : (ms : List ℕ) → RootsReady k s ends ms 0 179 n
+  first-ready ms =
       record {
-        formed = f .formed;
-        memory = omega arith;
-        apart = omega (arith, f .delayed);
-        room = omega (arith, f .walked, G .size);
-        small = omega (arith, G .size);
-        marks = omega (arith, f .assigned);
-        outs = omega (arith, f .left-by);
+        given = G;
+        calls = [];
+        told = no-callers ms;
+        apart = omega (arith, few-roots 0 (roots S), facts .nodes);
+        room = omega (arith, few-roots 0 (roots S), facts .nodes);
       }
 
-  module _ {before first ms marked : List ℕ} {e : Place} (u : Done 0 (programOf s) (place 0 3 203 0 0) before first ms marked e) (l : length ms ≡ 800) where
-    pub clocks-ready : OrsReady clockJoint (e .mark / 4) (e .delay) (orCountFrom (sourcesFrom 1 marked 0 (e .mark / 4)) 0 20) n
-    clocks-ready =
-        let f = F in
-        rw (marked-clocks u refl l (f .assigned), u .delay)
+  -- what the marks of a walk tell
+  module _ {cs : List Source} {M : ℕ} {before after ms marked : List ℕ} {e : Place} (u : RootsDone S cs M before after ms marked e) (l : length ms ≡ 800) where
+    marked-count : e .mark / 4 ≡ rootAssignments (roots S)
+    marked-count = omega (arith, u .mark)
+
+    long : 4 * rootAssignments (roots S) ≤ length ms
+    long = omega (arith, assigned)
+
+    pub marked-calls : Told (callsOf S) marked (e .mark / 4)
+    marked-calls =
+        record {
+          few = omega (arith, marked-count, assigned);
+          calls = λ p. rw (marked-count, u .marks) (call-marks cs (roots S) 3 (behindArrays M) formed ms long p);
+        }
+
+    marked-clocks : (y : ℕ) → 0 ≤ y → y < 0 + 20 → wiresOf y (sourcesFrom 1 marked 0 (e .mark / 4)) ≡ wiresOf y (clocksOf S)
+    marked-clocks y g h = rw (marked-count, u .marks) (clock-marks cs (roots S) 3 (behindArrays M) formed ms long y h)
+
+    marked-datas : (y : ℕ) → 0 ≤ y → y < 0 + 20
+        → wiresOf y (sourcesFrom 2 marked 0 (e .mark / 4)) ≡ wiresOf y (rootWalkSources dataSources cs 0 (roots S) (behindArrays M))
+    marked-datas y g h = rw (marked-count, u .marks) (data-marks cs (roots S) 3 (behindArrays M) formed ms long y h)
+
+    marked-indices : (y : ℕ) → 16 ≤ y → y < 16 + 4
+        → wiresOf y (sourcesFrom 3 marked 0 (e .mark / 4)) ≡ wiresOf y (rootWalkSources addressSources cs 0 (roots S) (behindArrays M))
+    marked-indices y g h = rw (marked-count, u .marks) (index-marks cs (roots S) 3 (behindArrays M) formed ms long y h g)
+
+    -- ors of these
+    ready : (j : Joint) (ps : List Source) {c : ℕ} → j .mark ≤ 3 → j .first ≤ 20
+        → ((y : ℕ) → j .first ≤ y → y < j .first + (20 - j .first) → wiresOf y (sourcesFrom (j .mark) marked 0 (e .mark / 4)) ≡ wiresOf y ps)
+        → c + orCountFrom ps (j .first) (20 - j .first) ≤ 627
+        → OrsReady j (e .mark / 4) c (orCountFrom (sourcesFrom (j .mark) marked 0 (e .mark / 4)) (j .first) (20 - j .first)) n
+    ready j ps m f alike room =
+        rw (counts-alike (sourcesFrom (j .mark) marked 0 (e .mark / 4)) ps (j .first) (20 - j .first) alike)
         (record {
-          few = omega (arith, marked-count u refl, f .assigned);
-          mark = omega arith;
-          first = omega arith;
-          room = omega (arith, f .len, f .most, G .size);
+          few = omega (arith, marked-count, assigned);
+          mark = m;
+          first = f;
+          room = omega (arith, room, G .size);
           small = omega (arith, G .size);
         })
 
+  -- the clock ors, by the first walk
+  module _ {before first ms marked : List ℕ} {e : Place} (u : RootsDone S [] 179 before first ms marked e) (l : length ms ≡ 800) where
+    pub clocks-ready : OrsReady clockJoint (e .mark / 4) (e .delay) (orCountFrom (sourcesFrom 1 marked 0 (e .mark / 4)) 0 20) n
+    clocks-ready = ready u l clockJoint (clocksOf S) (omega arith) (omega arith) (marked-clocks u l) (omega (arith, u .delay, net-length S, most))
+
     pub clocked : {after : List ℕ} {r : Ors} → Ored clockJoint (e .delay) (sourcesFrom 1 marked 0 (e .mark / 4)) first after r
-        → Clocked (programOf s) after r
+        → Clocked S marked after (record { wires = r .wires; memory = r .next; count = e .mark / 4 })
     clocked v₀ =
-        let v = rw (u .delay, marked-clocks u refl l (F .assigned)) at v₀ in
-        record { first = first; cells = v .cells; wires = v .wires; next = v .next }
+        let v = rw (u .delay) at (ored-alike _ _ (marked-clocks u l) v₀) in
+        record { first = first; cells = v .cells; wires = v .wires; memory = v .next; told = marked-calls u l }
 
   -- the second walk
-  module _ {M : ℕ} (m : M ≡ memoryAt (programOf s)) where
-    pub walk-ready : Ready M (programOf s) (place 0 3 (M + 16 + 8) 0 0) n
-    walk-ready =
-        let f = F in
-        record {
-          formed = f .formed;
-          memory = omega (arith, m, f .len, f .most);
-          apart = omega (arith, m);
-          room = omega (arith, m, f .len, f .most, G .size);
-          small = omega (arith, G .size);
-          marks = omega (arith, f .assigned);
-          outs = omega (arith, f .left-by);
-        }
-
+  module _ {M : ℕ} (m : M ≡ memoryAt S) where
     pub walk-low : M + 24 ≤ 627
-    walk-low = let f = F in omega (arith, m, f .len, f .most)
+    walk-low = omega (arith, m, net-length S, most)
 
-    module _ {before mid ms marked : List ℕ} {e : Place} (u₀ : Done M (programOf s) (place 0 3 (M + 16 + 8) 0 0) before mid ms marked e) (l : length ms ≡ 800) where
-      u : Done (memoryAt (programOf s)) (programOf s) (place 0 3 (walkAt (programOf s)) 0 0) before mid ms marked e
+    pub walk-ready : {ms : List ℕ} {count : ℕ} → Told (callsOf S) ms count → RootsReady k s ends ms count M n
+    walk-ready T =
+        record { given = G; calls = callsOf S; told = T; apart = omega (arith, m); room = omega (arith, m, net-length S, most) }
+
+    module _ {before mid ms marked : List ℕ} {e : Place} (u₀ : RootsDone S (callsOf S) M before mid ms marked e) (l : length ms ≡ 800) where
+      u : RootsDone S (callsOf S) (memoryAt S) before mid ms marked e
       u = rw m at u₀
 
       pub datas-ready : OrsReady dataJoint (e .mark / 4) (e .cell) (orCountFrom (sourcesFrom 2 marked 0 (e .mark / 4)) 0 20) n
-      datas-ready =
-          let f = F in
-          rw (marked-datas u refl l (f .assigned), u .cell)
-          (record {
-            few = omega (arith, marked-count u refl, f .assigned);
-            mark = omega arith;
-            first = omega arith;
-            room = omega (arith, f .len, f .most, G .size);
-            small = omega (arith, G .size);
-          })
+      datas-ready = ready u l dataJoint (dataOf S) (omega arith) (omega arith) (marked-datas u l) (omega (arith, u .cell, net-length S, most))
 
       module _ {mid₂ : List ℕ} {q : Ors} (v₀ : Ored dataJoint (e .cell) (sourcesFrom 2 marked 0 (e .mark / 4)) mid mid₂ q) where
-        v : Ored dataJoint (dataAt (programOf s)) (dataSources (programOf s) (walkAt (programOf s))) mid mid₂ q
-        v = rw (u .cell, marked-datas u refl l (F .assigned)) at v₀
-
-        addressed : (y : ℕ) → 16 ≤ y
-            → wiresOf y (sourcesFrom 3 marked 0 (e .mark / 4)) ≡ wiresOf y (addressSources (programOf s) (walkAt (programOf s)))
-        addressed = marked-addresses u refl l (F .assigned) (F .formed)
+        v : Ored dataJoint (dataAt S) (dataOf S) mid mid₂ q
+        v = rw (u .cell) at (ored-alike _ _ (marked-datas u l) v₀)
 
         pub addresses-ready : OrsReady addressJoint (e .mark / 4) (q .next) (orCountFrom (sourcesFrom 3 marked 0 (e .mark / 4)) 16 4) n
-        addresses-ready =
-            let f = F in
-            rw (v .next, counts-alike (sourcesFrom 3 marked 0 (e .mark / 4)) (addressSources (programOf s) (walkAt (programOf s))) 16 4 addressed)
-            (record {
-              few = omega (arith, marked-count u refl, f .assigned);
-              mark = omega arith;
-              first = omega arith;
-              room = omega (arith, f .len, f .most, G .size);
-              small = omega (arith, G .size);
-            })
+        addresses-ready = ready u l addressJoint (addressesOf S) (omega arith) (omega arith) (marked-indices u l) (omega (arith, v .next, net-length S, most))
 
         pub walked : {after : List ℕ} {r : Ors} → Ored addressJoint (q .next) (sourcesFrom 3 marked 0 (e .mark / 4)) mid₂ after r
-            → Walked (programOf s) before after (record { wires = q .wires; addresses = r .wires; count = r .next; finish = e .wire })
-        unfolding finish
+            → Walked S before after (record { wires = q .wires; addresses = r .wires; count = r .next; finish = e .wire })
+        unfolding finish finishOfRoot
         walked w₀ =
-            let w = rw (v .next) at (ored-alike _ _ addressed w₀) in
+            let w = rw (v .next) at (ored-alike _ _ (marked-indices u l) w₀) in
             record {
               cells = rw (v .cells, u .cells) at (w .cells);
               wires = v .wires;
               addresses = w .wires;
-              count = w .next ∙ sym (F .len);
+              count = w .next ∙ sym (net-length S);
               finish = u .wire;
             }
 
-pub clock-twenty : {P : Stmt} {b : List ℕ} {r : Ors} → Clocked P b r → length (r .wires) ≡ 20
-clock-twenty {P} K = ap length (K .wires) ∙ outs-len 1 (clockSources P 3) (clockAt P) 0 20
+pub clock-twenty : {S : Program} {ms b : List ℕ} {r : Clocks} → Clocked S ms b r → length (r .wires) ≡ 20
+clock-twenty {S} K = ap length (K .wires) ∙ outs-len 1 (clocksOf S) (clockAt S) 0 20
 
-pub data-twenty : {P : Stmt} {b a : List ℕ} {r : Finished} → Walked P b a r → length (r .wires) ≡ 20
-data-twenty {P} W = ap length (W .wires) ∙ outs-len 2 (dataSources P (walkAt P)) (dataAt P) 0 20
+pub data-twenty : {S : Program} {b a : List ℕ} {r : Finished} → Walked S b a r → length (r .wires) ≡ 20
+data-twenty {S} W = ap length (W .wires) ∙ outs-len 2 (dataOf S) (dataAt S) 0 20
 
-pub address-twenty : {P : Stmt} {b a : List ℕ} {r : Finished} → Walked P b a r → length (r .addresses) ≡ 20
-address-twenty {P} {r = r} W =
-    let four = sym (length-drop 16 (r .addresses)) ∙ ap length (W .addresses) ∙ outs-len 2 (addressSources P (walkAt P)) (addressAt P) 16 4 in
+pub address-twenty : {S : Program} {b a : List ℕ} {r : Finished} → Walked S b a r → length (r .addresses) ≡ 20
+address-twenty {S} {r = r} W =
+    let four = sym (length-drop 16 (r .addresses)) ∙ ap length (W .addresses) ∙ outs-len 2 (addressesOf S) (addressAt S) 16 4 in
     omega (arith, four)
 
 -- The whole ----------------------------------------------------------------------------------------------------------------------------
 
-module _ (P : Stmt) (first : List ℕ) where
+module _ (S : Program) (first : List ℕ) where
   -- the cells in the order in which they are put in
   abbrev walkPut : List ℕ
-  walkPut = both 3 (delayCells P) (walkAt P) (walkCells P) (write (clockAt P) (clockOrs P) first)
+  walkPut = both 3 (delayCells S) (walkAt S) (walkCells S) (write (clockAt S) (clockOrs S) first)
 
   abbrev orsPut : List ℕ
-  orsPut = write (addressAt P) (addressOrs P) (write (dataAt P) (dataOrs P) walkPut)
+  orsPut = write (addressAt S) (addressOrs S) (write (dataAt S) (dataOrs S) walkPut)
 
-  assembled : write 0 headCells (write (arraysAt P) (arrayCells P) (write (memoryAt P) (memoryCells P) orsPut)) ≡ write 0 (netlist P) first
+  assembled : write 0 headCells (write (arraysAt S) (arrayCells S) (write (memoryAt S) (memoryCells S) orsPut)) ≡ write 0 (netlist S) first
   unfolding netlist both
   assembled =
-      let D = delayCells P in
-      let C = clockOrs P in
-      let N = memoryCells P in
-      let A = arrayCells P in
-      let W = walkCells P in
-      let O = dataOrs P in
-      let B = addressOrs P in
-      let lD = d-len P 0 3 (walkAt P) in
-      let lC = orsFrom-len 35 (clockSources P 3) (clockAt P) 0 20 in
-      let lN = mems-len (clockWires P) (dataWires P) 0 16 in
-      let lA = arrays-len (clockWires P) (dataWires P) (addressWires P) 0 4 in
-      let lW = w-len (memoryAt P) P 0 3 (walkAt P) in
-      let lO = orsFrom-len 7 (dataSources P (walkAt P)) (dataAt P) 0 20 in
+      let D = delayCells S in
+      let C = clockOrs S in
+      let N = memoryCells S in
+      let A = arrayCells S in
+      let W = walkCells S in
+      let O = dataOrs S in
+      let B = addressOrs S in
+      let lD = root-d-len (procedures S) (callsOf S) 0 (roots S) 3 (walkAt S) in
+      let lC = orsFrom-len 35 (clocksOf S) (clockAt S) 0 20 in
+      let lN = mems-len (clockWires S) (dataWires S) 0 16 in
+      let lA = arrays-len (clockWires S) (dataWires S) (addressWires S) 0 4 in
+      let lW = root-w-len (memoryAt S) (finishOfRoot S) (procedures S) (callsOf S) 0 (roots S) 3 (walkAt S) in
+      let lO = orsFrom-len 7 (dataOf S) (dataAt S) 0 20 in
       let low = write 3 (D ++ C) first in
       let X = W ++ (O ++ B) in
       rw (
-        write-before 3 (clockAt P) D C first (omega (arith, lD)),
-        write-append (dataAt P) (addressAt P) O B (write (walkAt P) W low) (omega (arith, lO)),
-        write-append (walkAt P) (dataAt P) W (O ++ B) low (omega (arith, lW)),
-        write-append (memoryAt P) (arraysAt P) N A (write (walkAt P) X low) (omega (arith, lN)),
-        write-before (memoryAt P) (walkAt P) (N ++ A) X low (simp length-append (omega (arith, lN, lA))),
-        write-append 3 (memoryAt P) (D ++ C) ((N ++ A) ++ X) first (simp length-append (omega (arith, lD, lC))),
+        write-before 3 (clockAt S) D C first (omega (arith, lD)),
+        write-append (dataAt S) (addressAt S) O B (write (walkAt S) W low) (omega (arith, lO)),
+        write-append (walkAt S) (dataAt S) W (O ++ B) low (omega (arith, lW)),
+        write-append (memoryAt S) (arraysAt S) N A (write (walkAt S) X low) (omega (arith, lN)),
+        write-before (memoryAt S) (walkAt S) (N ++ A) X low (simp length-append (omega (arith, lN, lA))),
+        write-append 3 (memoryAt S) (D ++ C) ((N ++ A) ++ X) first (simp length-append (omega (arith, lD, lC))),
         write-before 0 3 headCells ((D ++ C) ++ ((N ++ A) ++ X)) first refl,
         append-assoc D C ((N ++ A) ++ X),
         append-assoc N A X,
@@ -250,25 +294,24 @@ cells-put cs s h =
     let z : 6 * (0 + i) ≡ 6 * i = omega arith in
     rw (z, ← overwrite-sets (cellBytes cs) s (omega (arith, bytes-length cs))) (from-bytes cs _ i l))
 
-pub made : {s ends : List ℕ} {n : ℕ} → Given s ends n → {b₁ b₂ b₃ b₄ b₅ b₆ b₇ : List ℕ} {r : Ors} {w : Finished} → length b₁ ≡ n
-    → Clocked (programOf s) b₁ r
-    → Walked (programOf s) b₁ b₂ w
-    → b₃ ≡ write (r .next) (memoriesOf (r .wires) (w .wires) 0 16) b₂
-    → b₄ ≡ write (r .next + 16) (arraysOf (r .wires) (w .wires) (drop 16 (w .addresses)) 0 4) b₃
+pub made : {k : ℕ} {s ends : List ℕ} {n : ℕ} → Given k s ends n → {ms b₁ b₂ b₃ b₄ b₅ b₆ b₇ : List ℕ} {r : Clocks} {w : Finished} → length b₁ ≡ n
+    → Clocked (programOf k s) ms b₁ r
+    → Walked (programOf k s) b₁ b₂ w
+    → b₃ ≡ write (r .memory) (memoriesOf (r .wires) (w .wires) 0 16) b₂
+    → b₄ ≡ write (r .memory + 16) (arraysOf (r .wires) (w .wires) (drop 16 (w .addresses)) 0 4) b₃
     → b₅ ≡ write 0 (cell 32 0 0 0 ∷ []) b₄
     → b₆ ≡ write 1 (cell 33 0 0 0 ∷ []) b₅
     → b₇ ≡ write 2 (cell 1 0 0 0 ∷ []) b₆
-    → Made (programOf s) b₇ (record { count = w .count; finish = w .finish })
-made {s} G {b₄ = b₄} l K W e₃ e₄ e₅ e₆ e₇ =
-    let f = facts (G .options) s (G .accepted) in
-    let P = programOf s in
+    → Made (programOf k s) b₇ (record { count = w .count; finish = w .finish })
+made {k} {s} G {b₄ = b₄} l K W e₃ e₄ e₅ e₆ e₇ =
+    let S = programOf k s in
     let head : write 2 (cell 1 0 0 0 ∷ []) (write 1 (cell 33 0 0 0 ∷ []) (write 0 (cell 32 0 0 0 ∷ []) b₄)) ≡ write 0 headCells b₄ =
     ap (write 2 (cell 1 0 0 0 ∷ [])) (write-append 0 1 (cell 32 0 0 0 ∷ []) (cell 33 0 0 0 ∷ []) b₄ refl)
     ∙ write-append 0 2 (cell 32 0 0 0 ∷ (cell 33 0 0 0 ∷ [])) (cell 1 0 0 0 ∷ []) b₄ refl in
-    let all = rw (e₆, e₅, head, e₄, e₃, K .next, K .wires, W .wires, W .addresses, W .cells, K .cells, assembled P (K .first)) at e₇ in
-    let long : length (K .first) ≡ 3762 = sym (write-length (clockAt P) (clockOrs P) (K .first)) ∙ sym (ap length (K .cells)) ∙ l ∙ G .size in
+    let all = rw (e₆, e₅, head, e₄, e₃, K .memory, K .wires, W .wires, W .addresses, W .cells, K .cells, assembled S (K .first)) at e₇ in
+    let long : length (K .first) ≡ 3762 = sym (write-length (clockAt S) (clockOrs S) (K .first)) ∙ sym (ap length (K .cells)) ∙ l ∙ G .size in
     record {
-      cells = rw (all, W .count) (cells-put (netlist P) (K .first) (omega (arith, f .most)));
+      cells = rw (all, W .count) (cells-put (netlist S) (K .first) (omega (arith, most G)));
       count = W .count;
       finish = W .finish;
     }

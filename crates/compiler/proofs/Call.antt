@@ -12,7 +12,7 @@ use Rattle.model.specs.declared.Checked.{Checked}
 use Rattle.model.specs.declared.Checked.the-variants.{Accepted}
 use Rattle.model.specs.declared.Written.{Written}
 use Rattle.model.specs.declared.Written.the-variants.{Done}
-use Rattle.model.specs.Program.{programOf}
+use Rattle.model.specs.ProgramChecks.{programWith}
 use Rattle.model.specs.Numbering.{netlist, finish}
 use Rattle.model.specs.NetlistFile.{cellsAt, inList, fileOf, blocksFor}
 use Rattle.model.specs.Calls.{overwrite, checkCall, compiledFile, compileChecks, writing, compileCall}
@@ -29,26 +29,26 @@ use Rattle.program.specs.Shape.{Scans, scanned-laid}
 use Rattle.compiler.specs.declared.whole.Netlist.{Netlist}
 use Rattle.compiler.specs.Whole.{Given, Made}
 
-pub scanned : (options : Options) {s : List ℕ} {r : Scanned} → Scans options s r → checkCall options s ≡ Accepted → Given s (r .ends) 3762
-scanned options {s} {r} S e = record { options = options; accepted = e; laid = scanned-laid options s r S (S .checked ∙ e); size = refl }
+pub scanned : (options : Options) {s : List ℕ} {r : Scanned} → Scans options s r → checkCall options s ≡ Accepted → Given (options .procedures) s (r .ends) 3762
+scanned options {s} {r} S e = record { options = options; count = refl; accepted = e; laid = scanned-laid options s r S (S .checked ∙ e); size = refl }
 
-module _ (s : List ℕ) {cells : List ℕ} {made : Netlist} (m : Made (programOf s) cells made) where
-  pub file-size : length (compiledFile s) ≡ 512 * blocksFor (made .count)
-  file-size = rw (m .count) (file-length (netlist (programOf s)) (finish (programOf s)))
+module _ (options : Options) (s : List ℕ) {cells : List ℕ} {made : Netlist} (m : Made (programWith options s) cells made) where
+  pub file-size : length (compiledFile options s) ≡ 512 * blocksFor (made .count)
+  file-size = rw (m .count) (file-length (netlist (programWith options s)) (finish (programWith options s)))
 
   -- the file as it is put in
   pub file-put : (lent : List ℕ) {after : List ℕ} → 512 * blocksFor (made .count) ≤ length lent
-      → after ≡ sets lent 0 (fileOf (cellsAt inList cells 0 (made .count)) (made .finish)) → after ≡ overwrite (compiledFile s) lent
+      → after ≡ sets lent 0 (fileOf (cellsAt inList cells 0 (made .count)) (made .finish)) → after ≡ overwrite (compiledFile options s) lent
   file-put lent h q =
-      rw (m .cells, m .finish) at q ∙ sym (overwrite-sets (compiledFile s) lent (omega (arith, file-size)))
+      rw (m .cells, m .finish) at q ∙ sym (overwrite-sets (compiledFile options s) lent (omega (arith, file-size)))
 
-  written : Done (512 * blocksFor (made .count)) (made .finish) ≡ Done (length (compiledFile s)) (finish (programOf s))
+  written : Done (512 * blocksFor (made .count)) (made .finish) ≡ Done (length (compiledFile options s)) (finish (programWith options s))
   written = rw (file-size, m .finish)
 
-  module _ (options : Options) (e : checkCall options s ≡ Accepted) where
+  module _ (e : checkCall options s ≡ Accepted) where
     pub list-room : length cells ≡ 3762 → Room InList cells (made .count)
     list-room l =
-        let most = fits (programOf s) (few-nodes options s e) .1 in
+        let most = fits (programWith options s) (few-nodes options s e) .1 in
         record { few = omega (arith, m .count, most); fits = omega (arith, m .count, most, l) }
 
     pub compile-short : {lent : List ℕ} → length lent < 512 * blocksFor (made .count) → Tells (refused 14) lent (compileCall options s lent)

@@ -6,7 +6,7 @@ use native.Mathlib.Omega.{arith}
 use native.Mathlib.Numerals.{add-one}
 use lib.ListN.{length, getD, set, take, drop, length-set, drop-of-length-le}
 use lib.Seq.{drop-at, drop-cons, getD-take, take-at, take-take, take-suc-set, length-take-le}
-use Rattle.model.specs.Program.{Expr, Stmt, seq, par, ite, while, repeat, loop, exit}
+use Rattle.model.specs.Program.{Expr, Code, seq, par, ite, while, repeat, loop, exit}
 use Rattle.model.specs.Circuit.{cell}
 use Rattle.model.specs.Numbering.{orChain, orChainOut, ors, orsOut, orCount, exitCount, exitWires}
 use Rattle.compiler.specs.declared.walk.Place.{Place}
@@ -18,12 +18,12 @@ use Rattle.compiler.proofs.Growth.{left}
 
 -- What waits behind a statement --------------------------------------------------------------------------------------------------------
 
-pub opened-none : (P : Stmt) {p : Place} {o : List ℕ} → exitCount P ≡ 0 → exitWires P (p .wire) (p .delay) (p .cell) ≡ [] → Opened P p o o
+pub opened-none : (P : Code) {p : Place} {o : List ℕ} → exitCount P ≡ 0 → exitWires P (p .wire) (p .delay) (p .cell) ≡ [] → Opened P p o o
 opened-none P {p} {o} e w =
     let z : p .out + exitCount P ≡ p .out = omega arith in
     record { same = refl; starts = rw (z, w) (sym (append-nil (take (p .out) o))) }
 
-module _ {P Q : Stmt} {p : Place} {o o₁ o₂ : List ℕ} where
+module _ {P Q : Code} {p : Place} {o o₁ o₂ : List ℕ} where
   two : {q : Place} → Opened P p o o₁ → Opened Q q o₁ o₂ → q .out ≡ p .out + exitCount P
       → take (p .out + (exitCount P + exitCount Q)) o₂
       ≡ take (p .out) o ++ (exitWires P (p .wire) (p .delay) (p .cell) ++ exitWires Q (q .wire) (q .delay) (q .cell))
@@ -34,20 +34,20 @@ module _ {P Q : Stmt} {p : Place} {o o₁ o₂ : List ℕ} where
       rw z
       (v .starts ∙ ap (λ (k : ℕ). take k o₁ ++ Y) e ∙ ap (λ (l : List ℕ). l ++ Y) (u .starts) ∙ append-assoc (take (p .out) o) X Y)
 
-  module _ {M : ℕ} {q : Place} {b a k l : List ℕ} where
-    pub seq-opened : Done M P p b a k l q → Opened P p o o₁ → Opened Q q o₁ o₂ → Opened (seq P Q) p o o₂
+  module _ {M : ℕ} {F : ℕ → ℕ} {q : Place} {b a k l : List ℕ} where
+    pub seq-opened : Done M F P p b a k l q → Opened P p o o₁ → Opened Q q o₁ o₂ → Opened (seq P Q) p o o₂
     unfolding exitCount exitWires
     seq-opened d u v₀ = let v = rw (left d) at v₀ in record { same = v .same ∙ u .same; starts = two u v refl }
 
-    pub par-opened : Done M P p b a k l q → Opened P p o o₁ → Opened Q (place (p .wire) (q .delay) (q .cell) (q .mark) (q .out)) o₁ o₂
+    pub par-opened : Done M F P p b a k l q → Opened P p o o₁ → Opened Q (place (p .wire) (q .delay) (q .cell) (q .mark) (q .out)) o₁ o₂
         → Opened (par P Q) p o o₂
     unfolding exitCount exitWires
     par-opened d u v₀ = let v = rw (left d) at v₀ in record { same = v .same ∙ u .same; starts = two u v refl }
 
-module _ {P Q : Stmt} {M δ g t : ℕ} {E : Expr} {p q : Place} {o o₁ o₂ m₀ m₁ m₂ b a k l : List ℕ} where
+module _ {P Q : Code} {M δ g t : ℕ} {F : ℕ → ℕ} {E : Expr} {p q : Place} {o o₁ o₂ m₀ m₁ m₂ b a k l : List ℕ} where
   pub if-opened : {ow : Pulse} → Owned δ (p .wire) (p .delay) m₀ m₁ ow
       → Switched M E (p .cell) g m₁ m₂ t
-      → Done M P (place t (ow .delay) (t + 1 + 1) (p .mark) (p .out)) b a k l q
+      → Done M F P (place t (ow .delay) (t + 1 + 1) (p .mark) (p .out)) b a k l q
       → Opened P (place t (ow .delay) (t + 1 + 1) (p .mark) (p .out)) o o₁
       → Opened Q (place (t + 1) (q .delay) (q .cell) (q .mark) (q .out)) o₁ o₂
       → Opened (ite δ E P Q) p o o₂
@@ -58,7 +58,7 @@ module _ {P Q : Stmt} {M δ g t : ℕ} {E : Expr} {p q : Place} {o o₁ o₂ m�
       let v = rw (sw .switch, left d) at v₀ in
       record { same = v .same ∙ u .same; starts = two u v refl }
 
-module _ {P : Stmt} {M δ g t : ℕ} {E : Expr} {p : Place} {o o₁ m₁ m₂ : List ℕ} (sw : Switched M E (p .cell) g m₁ m₂ t) where
+module _ {P : Code} {M δ g t : ℕ} {E : Expr} {p : Place} {o o₁ m₁ m₂ : List ℕ} (sw : Switched M E (p .cell) g m₁ m₂ t) where
   pub while-opened : Opened P (place t (p .delay + 1) (t + 1 + 1) (p .mark) (p .out)) o o₁ → Opened (while δ E P) p o o₁
   unfolding exitCount exitWires
   while-opened u₀ = let u = rw (sw .switch) at u₀ in record { same = u .same; starts = u .starts }
@@ -67,7 +67,7 @@ module _ {P : Stmt} {M δ g t : ℕ} {E : Expr} {p : Place} {o o₁ m₁ m₂ : 
   unfolding exitCount exitWires
   repeat-opened u₀ = let u = rw (sw .switch) at u₀ in record { same = u .same; starts = u .starts }
 
-module _ {P : Stmt} {p : Place} {o o′ : List ℕ} (u : Opened P p o o′) (h : p .out ≤ length o) where
+module _ {P : Code} {p : Place} {o o′ : List ℕ} (u : Opened P p o o′) (h : p .out ≤ length o) where
   -- the starts of its exits
   pub opened-waiting : waiting o′ (p .out) (p .out + exitCount P) ≡ exitWires P (p .wire) (p .delay) (p .cell)
   opened-waiting =
@@ -81,7 +81,7 @@ module _ {P : Stmt} {p : Place} {o o′ : List ℕ} (u : Opened P p o o′) (h :
       ∙ ap (λ (l : List ℕ). take (p .out) l) (u .starts)
       ∙ take-at (take (p .out) o) (exitWires P (p .wire) (p .delay) (p .cell)) (p .out) (length-take-le (p .out) o h)
 
-pub loop-opened : {P : Stmt} {δ : ℕ} {p : Place} {o o′ : List ℕ} → p .out ≤ length o
+pub loop-opened : {P : Code} {δ : ℕ} {p : Place} {o o′ : List ℕ} → p .out ≤ length o
     → Opened P (place (p .cell) (p .delay + 1) (p .cell + 1) (p .mark) (p .out)) o o′ → Opened (loop δ P) p o o′
 unfolding exitCount exitWires
 loop-opened {p = p} {o} h u =

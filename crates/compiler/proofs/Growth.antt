@@ -8,7 +8,7 @@ use native.Mathlib.Numerals.{towards-suc}
 use lib.ListN.{length, set, length-append}
 use lib.Seq.{sets}
 use Rattle.model.specs.declared.Cell.{Cell}
-use Rattle.model.specs.Program.{Stmt, ok, tick, assign, assignElem, seq, par, ite, while, repeat, loop, exit}
+use Rattle.model.specs.Program.{Code, ok, tick, assign, assignElem, seq, par, ite, while, repeat, loop, exit, call}
 use Rattle.model.specs.Numbering.{ifDelayCount, pastSwitches, delayCount, exitCount, walkCount, finishWire, delays, walk}
 use Rattle.laws.specs.Numbering.Lengths.{d-len, w-len}
 use Rattle.laws.specs.Lists.Writes.{sets-append}
@@ -21,15 +21,15 @@ same-place : {w w′ d d′ c c′ k k′ o o′ : ℕ} → w ≡ w′ → d ≡
 same-place a b c d e = rw (a, b, c, d, e)
 
 -- the place at which a statement that is entered at p is left
-abbrev pub leave : Stmt → Place → Place
+abbrev pub leave : Code → Place → Place
 leave P p =
     place (finishWire P (p .wire) (p .delay) (p .cell)) (p .delay + delayCount P) (p .cell + walkCount P) (p .mark + 4 * assignments P)
     (p .out + exitCount P)
 
-pub left : {M : ℕ} {P : Stmt} {p r : Place} {b a k l : List ℕ} → Done M P p b a k l r → r ≡ leave P p
+pub left : {M : ℕ} {F : ℕ → ℕ} {P : Code} {p r : Place} {b a k l : List ℕ} → Done M F P p b a k l r → r ≡ leave P p
 left u = same-place (u .wire) (u .delay) (u .cell) (u .mark) (u .out)
 
-pub marks-length : (P : Stmt) (d c : ℕ) → length (marksOf P d c) ≡ 4 * assignments P
+pub marks-length : (P : Code) (d c : ℕ) → length (marksOf P d c) ≡ 4 * assignments P
 unfolding marksOf assignments
 marks-length ok d c = refl
 marks-length (tick δ) d c = refl
@@ -48,6 +48,7 @@ marks-length (while δ e P) d c = marks-length P (d + 1) (pastSwitches e c)
 marks-length (repeat δ e P) d c = marks-length P (d + 1) (pastSwitches e c + 1)
 marks-length (loop δ P) d c = marks-length P (d + 1) (c + 1)
 marks-length exit d c = refl
+marks-length (call δ p) d c = refl
 
 -- four marks put in one by one
 pub four-marks : (l : List ℕ) (k a b c d : ℕ) → set (set (set (set l k a) (k + 1) b) (k + 2) c) (k + 3) d ≡ sets l k (a ∷ b ∷ c ∷ d ∷ [])
@@ -112,14 +113,14 @@ module _ {d c k d′ c′ k′ : ℕ} {before marked after remarked : List ℕ} 
 
 module _ {d c k d′ c′ k′ : ℕ} {before marked after remarked : List ℕ} {D W : List Cell} {K : List ℕ} where
   -- a part
-  pub grow-part : {M w o : ℕ} {Q : Stmt} {r : Place} {end marks : List ℕ} → Grown d c k before marked D W K after remarked d′ c′ k′
-      → d′ + delayCount Q ≤ c → Done M Q (place w d′ c′ k′ o) after end remarked marks r
-      → Grown d c k before marked (D ++ delays Q w d′ c′) (W ++ walk M Q w d′ c′) (K ++ marksOf Q d′ c′) end marks
+  pub grow-part : {M w o : ℕ} {F : ℕ → ℕ} {Q : Code} {r : Place} {end marks : List ℕ} → Grown d c k before marked D W K after remarked d′ c′ k′
+      → d′ + delayCount Q ≤ c → Done M F Q (place w d′ c′ k′ o) after end remarked marks r
+      → Grown d c k before marked (D ++ delays Q w d′ c′) (W ++ walk M F Q w d′ c′) (K ++ marksOf Q d′ c′) end marks
       (d′ + delayCount Q) (c′ + walkCount Q) (k′ + 4 * assignments Q)
   unfolding both
-  grow-part {M} {w} {Q} g h u =
+  grow-part {M} {w} {F = F} {Q} g h u =
       let x = grow-delay g (delays Q w d′ c′) (behind d′ (d-len Q w d′ c′)) h refl in
-      let y = grow-walk x (walk M Q w d′ c′) (behind c′ (w-len M Q w d′ c′)) (u .cells) in
+      let y = grow-walk x (walk M F Q w d′ c′) (behind c′ (w-len M F Q w d′ c′)) (u .cells) in
       grow-marks y (marksOf Q d′ c′) (behind k′ (marks-length Q d′ c′)) (u .marks)
 
   -- a delay cell in front of the others
@@ -135,18 +136,18 @@ module _ {d c k d′ c′ k′ : ℕ} {before marked after remarked : List ℕ} 
       }
 
 -- a statement whose cells and marks these are is done
-pub closed : {M d c k : ℕ} {S : Stmt} {p r : Place} {before marked after remarked K : List ℕ} {D W : List Cell}
+pub closed : {M d c k : ℕ} {F : ℕ → ℕ} {S : Code} {p r : Place} {before marked after remarked K : List ℕ} {D W : List Cell}
     → Grown (p .delay) (p .cell) (p .mark) before marked D W K after remarked d c k
-    → D ≡ delays S (p .wire) (p .delay) (p .cell) → W ≡ walk M S (p .wire) (p .delay) (p .cell) → K ≡ marksOf S (p .delay) (p .cell)
-    → r .out ≡ p .out + exitCount S → r ≡ place (finishWire S (p .wire) (p .delay) (p .cell)) d c k (r .out) → Done M S p before after marked remarked r
-closed {M} {S = S} {p} g₀ eD eW eK o e =
+    → D ≡ delays S (p .wire) (p .delay) (p .cell) → W ≡ walk M F S (p .wire) (p .delay) (p .cell) → K ≡ marksOf S (p .delay) (p .cell)
+    → r .out ≡ p .out + exitCount S → r ≡ place (finishWire S (p .wire) (p .delay) (p .cell)) d c k (r .out) → Done M F S p before after marked remarked r
+closed {M} {F = F} {S} {p} g₀ eD eW eK o e =
     let g = rw (eD, eW, eK) at g₀ in
     record {
       cells = g .cells;
       marks = g .marks;
       wire = ap (λ (r : Place). r .wire) e;
       delay = ap (λ (r : Place). r .delay) e ∙ g .delay ∙ ap (λ (n : ℕ). p .delay + n) (d-len S (p .wire) (p .delay) (p .cell));
-      cell = ap (λ (r : Place). r .cell) e ∙ g .cell ∙ ap (λ (n : ℕ). p .cell + n) (w-len M S (p .wire) (p .delay) (p .cell));
+      cell = ap (λ (r : Place). r .cell) e ∙ g .cell ∙ ap (λ (n : ℕ). p .cell + n) (w-len M F S (p .wire) (p .delay) (p .cell));
       mark = ap (λ (r : Place). r .mark) e ∙ g .mark ∙ ap (λ (n : ℕ). p .mark + n) (marks-length S (p .delay) (p .cell));
       out = o;
     }

@@ -1,5 +1,5 @@
--- The loops that join the wires of a variable, those of all variables, and put the memories and the arrays in: what is still to be done comes out as at the
--- start. Assumes nothing.
+-- The loops that join the wires of a variable, or of a procedure's callers, and those of all variables, and that put the memories and the arrays
+-- in: what is still to be done comes out as at the start. Assumes nothing.
 use mathlib.Core.Path.{_≡_, refl, sym, _∙_, ap}
 use mathlib.Core.Bool.{Bool, true, false}
 use mathlib.Core.List.{List, [], _∷_, _++_, append-nil}
@@ -37,7 +37,7 @@ unfoldable pub restCount : Bool → List ℕ → ℕ
 restCount true ws = length ws
 restCount false ws = orCount ws
 
--- the wires of x from assignment k on
+-- the wires of x from assignment or call k on
 abbrev pub wiresFrom : Joint → List ℕ → ℕ → ℕ → ℕ → List ℕ
 wiresFrom j ms count x k = wiresOf x (sourcesFrom (j .mark) ms k (count - k))
 
@@ -193,30 +193,30 @@ module _ (j : Joint) (ps : List Source) (n : ℕ) (before : List ℕ) where
           next = omega (arith, rw e at (C .cell));
         }
 
--- ors look at a variable's wires alone
+-- ors look at the wires of their variables alone
 module _ (ps qs : List Source) where
-  abbrev Alike : ℕ → Type 0
-  Alike x = (y : ℕ) → x ≤ y → wiresOf y ps ≡ wiresOf y qs
+  abbrev Alike : ℕ → ℕ → Type 0
+  Alike x i = (y : ℕ) → x ≤ y → y < x + i → wiresOf y ps ≡ wiresOf y qs
 
-  later : {x : ℕ} → Alike x → Alike (x + 1)
-  later h y l = h y (omega arith)
+  later : (x i : ℕ) → Alike x (suc i) → Alike (x + 1) i
+  later x i h y l g = h y (omega arith) (omega arith)
 
-  ors-alike : (kind n x i : ℕ) → Alike x → orsFrom kind ps n x i ≡ orsFrom kind qs n x i
+  ors-alike : (kind n x i : ℕ) → Alike x i → orsFrom kind ps n x i ≡ orsFrom kind qs n x i
   unfolding orsFrom
   ors-alike kind n x zero h = refl
-  ors-alike kind n x (suc i) h = rw (h x (omega arith), ors-alike kind (n + orCount (wiresOf x qs)) (x + 1) i (later h))
+  ors-alike kind n x (suc i) h = rw (h x (omega arith) (omega arith), ors-alike kind (n + orCount (wiresOf x qs)) (x + 1) i (later x i h))
 
-  outs-alike : (none n x i : ℕ) → Alike x → outsFrom none ps n x i ≡ outsFrom none qs n x i
+  outs-alike : (none n x i : ℕ) → Alike x i → outsFrom none ps n x i ≡ outsFrom none qs n x i
   unfolding outsFrom
   outs-alike none n x zero h = refl
-  outs-alike none n x (suc i) h = rw (h x (omega arith), outs-alike none (n + orCount (wiresOf x qs)) (x + 1) i (later h))
+  outs-alike none n x (suc i) h = rw (h x (omega arith) (omega arith), outs-alike none (n + orCount (wiresOf x qs)) (x + 1) i (later x i h))
 
-  pub counts-alike : (x i : ℕ) → Alike x → orCountFrom ps x i ≡ orCountFrom qs x i
+  pub counts-alike : (x i : ℕ) → Alike x i → orCountFrom ps x i ≡ orCountFrom qs x i
   unfolding orCountFrom
   counts-alike x zero h = refl
-  counts-alike x (suc i) h = rw (h x (omega arith), counts-alike (x + 1) i (later h))
+  counts-alike x (suc i) h = rw (h x (omega arith) (omega arith), counts-alike (x + 1) i (later x i h))
 
-  pub ored-alike : {j : Joint} {n : ℕ} {before after : List ℕ} {r : Ors} → Alike (j .first) → Ored j n ps before after r → Ored j n qs before after r
+  pub ored-alike : {j : Joint} {n : ℕ} {before after : List ℕ} {r : Ors} → Alike (j .first) (20 - j .first) → Ored j n ps before after r → Ored j n qs before after r
   ored-alike {j} {n} {before} h v =
       let x = j .first in
       let i = 20 - j .first in

@@ -1,19 +1,22 @@
--- The marks that the walk leaves are the sources of the ors. Assumes nothing.
+-- What the marks that a walk leaves tell: each variable's clocks, values and indices, and the delays of each procedure's callers. One induction says
+-- all four. Assumes nothing.
 use mathlib.Core.Path.{_≡_, refl, sym, _∙_, ap, ap₂}
 use mathlib.Core.Bool.{Bool, true, false}
 use mathlib.Core.List.{List, [], _∷_, _++_, append-assoc, append-nil}
-use Prim.Native.Nat.{ℕ, zero, suc, _+_, _*_, _≤_}
+use Prim.Native.Nat.{ℕ, zero, suc, _+_, _*_, _≤_, _<_}
 use native.Mathlib.Omega.{arith}
+use native.Mathlib.Decide.{ℕ-discrete}
 use lib.Dec.{eqb}
-use borrow.Author.Tests.{ne-eqb}
+use borrow.Author.Tests.{eq-eqb, ne-eqb}
 use lib.ListN.{length, getD, length-append, drop}
 use lib.Seq.{sets, sets-eq, getD-append-add}
 use Rattle.model.specs.Word.{pick}
-use Rattle.model.specs.Program.{Stmt, ok, tick, assign, assignElem, seq, par, ite, while, repeat, loop, exit, arrayVar}
-use Rattle.model.specs.Numbering.{exprCount, pastSwitches, ifDelayCount, delayCount, walkCount, Source, clockSources, dataSources, addressSources, wiresOf}
-use Rattle.laws.specs.Program.Fit.{Formed}
-use Rattle.compiler.specs.Walk.{assignments, marksOf}
+use Rattle.model.specs.Program.{Code, ok, tick, assign, assignElem, seq, par, ite, while, repeat, loop, exit, call, arrayVar}
+use Rattle.model.specs.Numbering.{exprCount, pastSwitches, ifDelayCount, delayCount, walkCount, Source, clockSources, callSources, dataSources, addressSources, wiresOf, rootWalk, pastRoot, rootSources, rootWalkSources}
+use Rattle.laws.specs.Program.Fit.{Formed, EveryRoot}
+use Rattle.compiler.specs.Walk.{marksOf}
 use Rattle.compiler.specs.Ors.{sourcesFrom}
+use Rattle.compiler.specs.Whole.{rootAssignments, rootMarks}
 use Rattle.compiler.proofs.Growth.{marks-length}
 
 -- the sources that a list of marks tells, four for each
@@ -26,56 +29,7 @@ sourcesIn f (x ∷ (a ∷ (b ∷ (w ∷ l)))) = (x, getD (x ∷ a ∷ b ∷ w �
 
 -- Marks and trees ----------------------------------------------------------------------------------------------------------------------
 
--- a part's sources, and then the next one's
-then-sources : (f : ℕ) (xs ys l : List ℕ) (us vs : List Source) → ((l : List ℕ) → sourcesIn f (xs ++ l) ≡ us ++ sourcesIn f l)
-    → ((l : List ℕ) → sourcesIn f (ys ++ l) ≡ vs ++ sourcesIn f l) → sourcesIn f ((xs ++ ys) ++ l) ≡ (us ++ vs) ++ sourcesIn f l
-then-sources f xs ys l us vs h g = rw (append-assoc xs ys l, h (ys ++ l), g l, append-assoc us vs (sourcesIn f l))
-
-clocks-in : (P : Stmt) (d c : ℕ) (l : List ℕ) → sourcesIn 1 (marksOf P d c ++ l) ≡ clockSources P d ++ sourcesIn 1 l
-unfolding marksOf clockSources sourcesIn
-clocks-in ok d c l = refl
-clocks-in (tick δ) d c l = refl
-clocks-in (assign δ x e) d c l = refl
-clocks-in (assignElem δ k i e) d c l = refl
-clocks-in (seq P Q) d c l =
-    then-sources 1 (marksOf P d c) (marksOf Q (d + delayCount P) (c + walkCount P)) l (clockSources P d) (clockSources Q (d + delayCount P))
-    (clocks-in P d c) (clocks-in Q (d + delayCount P) (c + walkCount P))
-clocks-in (par P Q) d c l =
-    then-sources 1 (marksOf P d c) (marksOf Q (d + delayCount P) (c + walkCount P)) l (clockSources P d) (clockSources Q (d + delayCount P))
-    (clocks-in P d c) (clocks-in Q (d + delayCount P) (c + walkCount P))
-clocks-in (ite δ e P Q) d c l =
-    let d₁ = d + ifDelayCount δ in
-    let c₁ = pastSwitches e c in
-    then-sources 1 (marksOf P d₁ c₁) (marksOf Q (d₁ + delayCount P) (c₁ + walkCount P)) l (clockSources P d₁) (clockSources Q (d₁ + delayCount P))
-    (clocks-in P d₁ c₁) (clocks-in Q (d₁ + delayCount P) (c₁ + walkCount P))
-clocks-in (while δ e P) d c l = clocks-in P (d + 1) (pastSwitches e c) l
-clocks-in (repeat δ e P) d c l = clocks-in P (d + 1) (pastSwitches e c + 1) l
-clocks-in (loop δ P) d c l = clocks-in P (d + 1) (c + 1) l
-clocks-in exit d c l = refl
-
-datas-in : (P : Stmt) (d c : ℕ) (l : List ℕ) → sourcesIn 2 (marksOf P d c ++ l) ≡ dataSources P c ++ sourcesIn 2 l
-unfolding marksOf dataSources sourcesIn
-datas-in ok d c l = refl
-datas-in (tick δ) d c l = refl
-datas-in (assign δ x e) d c l = refl
-datas-in (assignElem δ k i e) d c l = refl
-datas-in (seq P Q) d c l =
-    then-sources 2 (marksOf P d c) (marksOf Q (d + delayCount P) (c + walkCount P)) l (dataSources P c) (dataSources Q (c + walkCount P))
-    (datas-in P d c) (datas-in Q (d + delayCount P) (c + walkCount P))
-datas-in (par P Q) d c l =
-    then-sources 2 (marksOf P d c) (marksOf Q (d + delayCount P) (c + walkCount P)) l (dataSources P c) (dataSources Q (c + walkCount P))
-    (datas-in P d c) (datas-in Q (d + delayCount P) (c + walkCount P))
-datas-in (ite δ e P Q) d c l =
-    let d₁ = d + ifDelayCount δ in
-    let c₁ = pastSwitches e c in
-    then-sources 2 (marksOf P d₁ c₁) (marksOf Q (d₁ + delayCount P) (c₁ + walkCount P)) l (dataSources P c₁) (dataSources Q (c₁ + walkCount P))
-    (datas-in P d₁ c₁) (datas-in Q (d₁ + delayCount P) (c₁ + walkCount P))
-datas-in (while δ e P) d c l = datas-in P (d + 1) (pastSwitches e c) l
-datas-in (repeat δ e P) d c l = datas-in P (d + 1) (pastSwitches e c + 1) l
-datas-in (loop δ P) d c l = datas-in P (d + 1) (c + 1) l
-datas-in exit d c l = refl
-
--- of the last marks only those of element assignments are read: an array's variable is none of an assignment's
+-- the wires of a variable in two lists of sources
 wires-append : (x : ℕ) (us vs : List Source) → wiresOf x (us ++ vs) ≡ wiresOf x us ++ wiresOf x vs
 unfolding wiresOf
 wires-append x [] vs = refl
@@ -85,35 +39,99 @@ wires-append x (u ∷ us) vs = rw (wires-append x us vs) (go (eqb (u .0) x))
     go true = refl
     go false = refl
 
-module _ (y : ℕ) (low : 16 ≤ y) where
-  abbrev Addressed : List ℕ → List Source → Type 0
-  Addressed xs us = (l : List ℕ) → wiresOf y (sourcesIn 3 (xs ++ l)) ≡ wiresOf y us ++ wiresOf y (sourcesIn 3 l)
+-- the marks xs add to the wires of y, by their mark f, the wires of z in us
+abbrev Adds : ℕ → List ℕ → ℕ → ℕ → List Source → Type 0
+Adds f xs y z us = (l : List ℕ) → wiresOf y (sourcesIn f (xs ++ l)) ≡ wiresOf z us ++ wiresOf y (sourcesIn f l)
 
-  then-wires : (xs ys : List ℕ) (us vs : List Source) → Addressed xs us → Addressed ys vs → Addressed (xs ++ ys) (us ++ vs)
-  then-wires xs ys us vs h g l =
-      rw (append-assoc xs ys l, h (ys ++ l), g l, wires-append y us vs, append-assoc (wiresOf y us) (wiresOf y vs) (wiresOf y (sourcesIn 3 l)))
+adds-both : (f y z : ℕ) (xs ys : List ℕ) (us vs : List Source) → Adds f xs y z us → Adds f ys y z vs → Adds f (xs ++ ys) y z (us ++ vs)
+adds-both f y z xs ys us vs h g l =
+    rw (append-assoc xs ys l, h (ys ++ l), g l, wires-append z us vs, append-assoc (wiresOf z us) (wiresOf z vs) (wiresOf y (sourcesIn f l)))
 
-  addresses-in : (P : Stmt) → Formed P → (d c : ℕ) → Addressed (marksOf P d c) (addressSources P c)
-  unfolding marksOf addressSources sourcesIn wiresOf
-  addresses-in ok w d c l = refl
-  addresses-in (tick δ) w d c l = refl
-  addresses-in (assign δ x e) w d c l = let n = ne-eqb x y (λ q. omega (arith, q, w .1)) in rw n
-  addresses-in (assignElem δ k i e) w d c l = wires-append y ((arrayVar k, c + exprCount i + exprCount e + 1) ∷ []) (sourcesIn 3 l)
-  addresses-in (seq P Q) w d c l =
-      then-wires (marksOf P d c) (marksOf Q (d + delayCount P) (c + walkCount P)) (addressSources P c) (addressSources Q (c + walkCount P))
-      (addresses-in P (w .0) d c) (addresses-in Q (w .1) (d + delayCount P) (c + walkCount P)) l
-  addresses-in (par P Q) w d c l =
-      then-wires (marksOf P d c) (marksOf Q (d + delayCount P) (c + walkCount P)) (addressSources P c) (addressSources Q (c + walkCount P))
-      (addresses-in P (w .0) d c) (addresses-in Q (w .1) (d + delayCount P) (c + walkCount P)) l
-  addresses-in (ite δ e P Q) w d c l =
-      let d₁ = d + ifDelayCount δ in
-      let c₁ = pastSwitches e c in
-      then-wires (marksOf P d₁ c₁) (marksOf Q (d₁ + delayCount P) (c₁ + walkCount P)) (addressSources P c₁) (addressSources Q (c₁ + walkCount P))
-      (addresses-in P (w .2) d₁ c₁) (addresses-in Q (w .3) (d₁ + delayCount P) (c₁ + walkCount P)) l
-  addresses-in (while δ e P) w d c l = addresses-in P (w .2) (d + 1) (pastSwitches e c) l
-  addresses-in (repeat δ e P) w d c l = addresses-in P (w .2) (d + 1) (pastSwitches e c + 1) l
-  addresses-in (loop δ P) w d c l = addresses-in P (w .1) (d + 1) (c + 1) l
-  addresses-in exit w d c l = refl
+-- the marks xs tell these clocks, calls, values and indices. An array's variable is below 20, and an index is read of arrays alone
+record Marking (xs : List ℕ) (clocks calls datas indices : List Source) : Type 0 where
+  clock : (y : ℕ) → y < 20 → Adds 1 xs y y clocks
+  caller : (p : ℕ) → Adds 1 xs (20 + p) p calls
+  value : (y : ℕ) → y < 20 → Adds 2 xs y y datas
+  index : (y : ℕ) → y < 20 → 16 ≤ y → Adds 3 xs y y indices
+
+marking-none : Marking [] [] [] [] []
+unfolding wiresOf
+marking-none = record { clock = λ y h l. refl; caller = λ p l. refl; value = λ y h l. refl; index = λ y h g l. refl }
+
+marking-both : {xs ys : List ℕ} {a b c d a′ b′ c′ d′ : List Source} → Marking xs a b c d → Marking ys a′ b′ c′ d′
+    → Marking (xs ++ ys) (a ++ a′) (b ++ b′) (c ++ c′) (d ++ d′)
+marking-both {xs} {ys = ys} t u =
+    record {
+      clock = λ y h. adds-both 1 y y xs ys _ _ (t .clock y h) (u .clock y h);
+      caller = λ p. adds-both 1 (20 + p) p xs ys _ _ (t .caller p) (u .caller p);
+      value = λ y h. adds-both 2 y y xs ys _ _ (t .value y h) (u .value y h);
+      index = λ y h g. adds-both 3 y y xs ys _ _ (t .index y h g) (u .index y h g);
+    }
+
+-- a source of another variable, and one of the procedure that is asked for
+other : (x y v : ℕ) (ps : List Source) → (x ≡ y → ⊥) → wiresOf y ((x, v) ∷ ps) ≡ wiresOf y ps
+unfolding wiresOf
+other x y v ps n = rw (ne-eqb x y n)
+
+same-procedure : (p q : ℕ) → eqb (20 + q) (20 + p) ≡ eqb q p
+same-procedure p q = go (ℕ-discrete q p)
+  where
+    go : Dec (q ≡ p) → eqb (20 + q) (20 + p) ≡ eqb q p
+    go (yes e) = eq-eqb (20 + q) (20 + p) (omega arith) ∙ sym (eq-eqb q p e)
+    go (no n) = ne-eqb (20 + q) (20 + p) (λ e. n (omega arith)) ∙ sym (ne-eqb q p n)
+
+-- the marks of an assignment, and those of a call
+assigned : (x d v w : ℕ) (indices : List Source) → x < 20
+    → ((y : ℕ) → 16 ≤ y → Adds 3 (x ∷ d ∷ v ∷ w ∷ []) y y indices) → Marking (x ∷ d ∷ v ∷ w ∷ []) ((x, d) ∷ []) [] ((x, v) ∷ []) indices
+unfolding sourcesIn wiresOf
+assigned x d v w indices low i =
+    record {
+      clock = λ y h l. wires-append y ((x, d) ∷ []) (sourcesIn 1 l);
+      caller = λ p l. other x (20 + p) d (sourcesIn 1 l) (λ e. omega arith);
+      value = λ y h l. wires-append y ((x, v) ∷ []) (sourcesIn 2 l);
+      index = λ y h g. i y g;
+    }
+
+called : (p d : ℕ) → Marking ((20 + p) ∷ d ∷ 0 ∷ 0 ∷ []) [] ((p, d) ∷ []) [] []
+unfolding sourcesIn wiresOf
+called p d =
+    record {
+      clock = λ y h l. other (20 + p) y d (sourcesIn 1 l) (λ e. omega arith);
+      caller =
+          λ q l.
+          wires-append (20 + q) ((20 + p, d) ∷ []) (sourcesIn 1 l)
+          ∙ ap (λ (b : Bool). pick b (d ∷ []) [] ++ wiresOf (20 + q) (sourcesIn 1 l)) (same-procedure q p);
+      value = λ y h l. other (20 + p) y 0 (sourcesIn 2 l) (λ e. omega arith);
+      index = λ y h g l. other (20 + p) y 0 (sourcesIn 3 l) (λ e. omega arith);
+    }
+
+marking : (P : Code) → Formed P → (d c : ℕ) → Marking (marksOf P d c) (clockSources P d) (callSources P d) (dataSources P c) (addressSources P c)
+unfolding marksOf clockSources callSources dataSources addressSources sourcesIn wiresOf
+marking ok w d c = marking-none
+marking (tick δ) w d c = marking-none
+marking (assign δ x e) w d c = assigned x d (c + exprCount e) 0 [] (omega (arith, w .1)) (λ y g l. other x y 0 (sourcesIn 3 l) (λ q. omega (arith, w .1)))
+marking (assignElem δ k i e) w d c =
+    let v = c + exprCount i + exprCount e in
+    assigned (arrayVar k) d v (v + 1) ((arrayVar k, v + 1) ∷ []) (omega (arith, w .1)) (λ y g l. wires-append y ((arrayVar k, v + 1) ∷ []) (sourcesIn 3 l))
+marking (seq P Q) w d c = marking-both (marking P (w .0) d c) (marking Q (w .1) (d + delayCount P) (c + walkCount P))
+marking (par P Q) w d c = marking-both (marking P (w .0) d c) (marking Q (w .1) (d + delayCount P) (c + walkCount P))
+marking (ite δ e P Q) w d c =
+    let d₁ = d + ifDelayCount δ in
+    let c₁ = pastSwitches e c in
+    marking-both (marking P (w .2) d₁ c₁) (marking Q (w .3) (d₁ + delayCount P) (c₁ + walkCount P))
+marking (while δ e P) w d c = marking P (w .2) (d + 1) (pastSwitches e c)
+marking (repeat δ e P) w d c = marking P (w .2) (d + 1) (pastSwitches e c + 1)
+marking (loop δ P) w d c = marking P (w .1) (d + 1) (c + 1)
+marking exit w d c = marking-none
+marking (call δ p) w d c = called p d
+
+roots-marking : (cs : List Source) (r : ℕ) (Ps : List Code) (d c : ℕ) → EveryRoot (λ r P. Formed P) r Ps
+    → Marking (rootMarks cs r Ps d c) (rootSources clockSources Ps d) (rootSources callSources Ps d) (rootWalkSources dataSources cs r Ps c)
+    (rootWalkSources addressSources cs r Ps c)
+unfolding rootMarks rootSources rootWalkSources
+roots-marking cs r [] d c w = marking-none
+roots-marking cs r (P ∷ Ps) d c w =
+    marking-both (marking P (w .0) d (rootWalk cs r c)) (roots-marking cs (r + 1) Ps (d + delayCount P) (pastRoot cs r P c) (w .1))
 
 -- Marks and arrays ---------------------------------------------------------------------------------------------------------------------
 
@@ -142,25 +160,38 @@ sources-at f h (suc n) (x ∷ (a ∷ (b ∷ (w ∷ l)))) p q k e g =
     (ap (λ (m : List ℕ). sourcesFrom f m (k + 1) n) (sym (append-assoc p (x ∷ a ∷ b ∷ w ∷ []) (l ++ q)))
     ∙ sources-at f h n l (p ++ (x ∷ a ∷ b ∷ w ∷ [])) q (k + 1) (omega arith) (simp length-append (omega arith)))
 
-sources-of : (f : ℕ) → f ≤ 3 → (P : Stmt) (d c : ℕ) (ms : List ℕ) → 4 * assignments P ≤ length ms
-    → sourcesFrom f (sets ms 0 (marksOf P d c)) 0 (assignments P) ≡ sourcesIn f (marksOf P d c ++ [])
-sources-of f h P d c ms g =
-    let l = marks-length P d c in
-    ap (λ (m : List ℕ). sourcesFrom f m 0 (assignments P)) (sets-eq (marksOf P d c) ms 0 (omega (arith, l)))
-    ∙ sources-at f h (assignments P) (marksOf P d c) [] (drop (0 + length (marksOf P d c)) ms) 0 l refl
-    ∙ ap (sourcesIn f) (sym (append-nil (marksOf P d c)))
+roots-marks-length : (cs : List Source) (r : ℕ) (Ps : List Code) (d c : ℕ) → length (rootMarks cs r Ps d c) ≡ 4 * rootAssignments Ps
+unfolding rootMarks rootAssignments
+roots-marks-length cs r [] d c = refl
+roots-marks-length cs r (P ∷ Ps) d c =
+    simp (length-append, marks-length P d (rootWalk cs r c), roots-marks-length cs (r + 1) Ps (d + delayCount P) (pastRoot cs r P c)) (omega arith)
 
-module _ (P : Stmt) (d c : ℕ) (ms : List ℕ) (h : 4 * assignments P ≤ length ms) where
-  pub clock-marks : sourcesFrom 1 (sets ms 0 (marksOf P d c)) 0 (assignments P) ≡ clockSources P d
-  unfolding sourcesIn
-  clock-marks = sources-of 1 (omega arith) P d c ms h ∙ clocks-in P d c [] ∙ append-nil (clockSources P d)
+-- what the marks of all roots tell, where they are put into an array that is long enough
+module _ (cs : List Source) (Ps : List Code) (d c : ℕ) (w : EveryRoot (λ r P. Formed P) 0 Ps) (ms : List ℕ) (h : 4 * rootAssignments Ps ≤ length ms) where
+  abbrev Marked : ℕ → List Source
+  Marked f = sourcesFrom f (sets ms 0 (rootMarks cs 0 Ps d c)) 0 (rootAssignments Ps)
 
-  pub data-marks : sourcesFrom 2 (sets ms 0 (marksOf P d c)) 0 (assignments P) ≡ dataSources P c
-  unfolding sourcesIn
-  data-marks = sources-of 2 (omega arith) P d c ms h ∙ datas-in P d c [] ∙ append-nil (dataSources P c)
-
-  pub address-marks : Formed P → (y : ℕ) → 16 ≤ y
-      → wiresOf y (sourcesFrom 3 (sets ms 0 (marksOf P d c)) 0 (assignments P)) ≡ wiresOf y (addressSources P c)
+  by-marks : (f y z : ℕ) (us : List Source) → f ≤ 3 → Adds f (rootMarks cs 0 Ps d c) y z us → wiresOf y (Marked f) ≡ wiresOf z us
   unfolding sourcesIn wiresOf
-  address-marks w y l =
-      ap (wiresOf y) (sources-of 3 (omega arith) P d c ms h) ∙ addresses-in y l P w d c [] ∙ append-nil (wiresOf y (addressSources P c))
+  by-marks f y z us l a =
+      let xs = rootMarks cs 0 Ps d c in
+      let n = roots-marks-length cs 0 Ps d c in
+      ap (λ (m : List ℕ). wiresOf y (sourcesFrom f m 0 (rootAssignments Ps))) (sets-eq xs ms 0 (omega (arith, n)))
+      ∙ ap (wiresOf y) (sources-at f l (rootAssignments Ps) xs [] (drop (0 + length xs) ms) 0 n refl ∙ ap (sourcesIn f) (sym (append-nil xs)))
+      ∙ a [] ∙ append-nil (wiresOf z us)
+
+  tells : Marking (rootMarks cs 0 Ps d c) (rootSources clockSources Ps d) (rootSources callSources Ps d) (rootWalkSources dataSources cs 0 Ps c)
+      (rootWalkSources addressSources cs 0 Ps c)
+  tells = roots-marking cs 0 Ps d c w
+
+  pub clock-marks : (y : ℕ) → y < 20 → wiresOf y (Marked 1) ≡ wiresOf y (rootSources clockSources Ps d)
+  clock-marks y l = by-marks 1 y y _ (omega arith) (tells .clock y l)
+
+  pub call-marks : (p : ℕ) → wiresOf (20 + p) (Marked 1) ≡ wiresOf p (rootSources callSources Ps d)
+  call-marks p = by-marks 1 (20 + p) p _ (omega arith) (tells .caller p)
+
+  pub data-marks : (y : ℕ) → y < 20 → wiresOf y (Marked 2) ≡ wiresOf y (rootWalkSources dataSources cs 0 Ps c)
+  data-marks y l = by-marks 2 y y _ (omega arith) (tells .value y l)
+
+  pub index-marks : (y : ℕ) → y < 20 → 16 ≤ y → wiresOf y (Marked 3) ≡ wiresOf y (rootWalkSources addressSources cs 0 Ps c)
+  index-marks y l g = by-marks 3 y y _ (omega arith) (tells .index y l g)

@@ -1,13 +1,13 @@
 -- What the walk asks of the parts of a statement, from what the statement was given. Assumes nothing.
 use mathlib.Core.Path.{_≡_, _∙_}
 use mathlib.Core.List.{List}
-use Prim.Native.Nat.{ℕ, _+_, _*_, _≤_}
+use Prim.Native.Nat.{ℕ, _+_, _*_, _≤_, _<_}
 use native.Mathlib.Omega.{arith}
 use lib.ListN.{length}
-use Rattle.model.specs.Program.{Expr, Stmt, assign, assignElem, seq, par, ite, while, repeat, loop}
+use Rattle.model.specs.Program.{Expr, Code, assign, assignElem, seq, par, ite, while, repeat, loop, call}
 use Rattle.model.specs.Numbering.{exprCount, pastSwitches, delayCount, walkCount, loopExits}
 use Rattle.laws.specs.Numbering.Lengths.{exit-ors}
-use Rattle.laws.specs.Program.Fit.{FormedExpr, Formed}
+use Rattle.laws.specs.Program.Fit.{FormedExpr, Formed, Earlier}
 use Rattle.compiler.specs.declared.walk.Word.{Word}
 use Rattle.compiler.specs.declared.walk.Place.{Place}
 use Rattle.compiler.specs.declared.walk.Pulse.{Pulse}
@@ -22,11 +22,20 @@ switch-low r sw = omega (arith, r .room, r .expr .small, sw .switch)
 
 module _ {M n : ℕ} {p : Place} where
   -- a part is ready where it stays within the whole
-  module _ {S : Stmt} (r : Ready M S p n) where
-    part : {P : Stmt} {q : Place} → Formed P → q .delay + delayCount P ≤ q .cell → q .cell + walkCount P ≤ p .cell + walkCount S
+  module _ {S : Code} (r : Ready M S p n) where
+    part : {P : Code} {q : Place} → Formed P → Earlier 8 P → q .delay + delayCount P ≤ q .cell → q .cell + walkCount P ≤ p .cell + walkCount S
         → q .mark + 4 * assignments P ≤ p .mark + 4 * assignments S → q .out + allExits P ≤ p .out + allExits S → Ready M P q n
-    part w a b k x =
-        record { formed = w; memory = r .memory; apart = a; room = omega (arith, b, r .room); small = r .small; marks = omega (arith, k, r .marks); outs = omega (arith, x, r .outs) }
+    part w y a b k x =
+        record {
+          formed = w;
+          earlier = y;
+          memory = r .memory;
+          apart = a;
+          room = omega (arith, b, r .room);
+          small = r .small;
+          marks = omega (arith, k, r .marks);
+          outs = omega (arith, x, r .outs);
+        }
 
     expr-part : {E : Expr} {c : ℕ} → FormedExpr E → c + exprCount E ≤ p .cell + walkCount S → ExprReady M E c n
     expr-part w b = record { formed = w; memory = r .memory; room = omega (arith, b, r .room); small = r .small }
@@ -67,26 +76,31 @@ module _ {M n : ℕ} {p : Place} where
       unfolding walkCount
       element-cells w = omega (arith, r .room, u .cell, w .cell)
 
-  module _ {P Q : Stmt} where
+  -- a call's cells and marks lie within their lists, and its procedure is one of eight
+  pub call-fits : {δ v : ℕ} → Ready M (call δ v) p n → (p .delay < p .cell) × (6 * p .cell + 6 ≤ n) × (n ≤ 3762) × (p .mark + 4 ≤ 800) × (v < 8)
+  unfolding delayCount walkCount assignments
+  call-fits r = (omega (arith, r .apart), omega (arith, r .room), r .small, r .marks, r .earlier .1)
+
+  module _ {P Q : Code} where
     pub seq-first : Ready M (seq P Q) p n → Ready M P p n
     unfolding delayCount walkCount assignments allExits
-    seq-first r = part r (r .formed .0) (omega (arith, r .apart)) (omega arith) (omega arith) (omega arith)
+    seq-first r = part r (r .formed .0) (r .earlier .0) (omega (arith, r .apart)) (omega arith) (omega arith) (omega arith)
 
-    pub seq-second : {q : Place} {b a k l : List ℕ} → Ready M (seq P Q) p n → Done M P p b a k l q → Ready M Q q n
+    pub seq-second : {F : ℕ → ℕ} {q : Place} {b a k l : List ℕ} → Ready M (seq P Q) p n → Done M F P p b a k l q → Ready M Q q n
     unfolding delayCount walkCount assignments allExits
-    seq-second r u = rw (left u) (part r (r .formed .1) (omega (arith, r .apart)) (omega arith) (omega arith) (omega (arith, some-exits P)))
+    seq-second r u = rw (left u) (part r (r .formed .1) (r .earlier .1) (omega (arith, r .apart)) (omega arith) (omega arith) (omega (arith, some-exits P)))
 
     pub par-first : Ready M (par P Q) p n → Ready M P p n
     unfolding delayCount walkCount assignments allExits
-    par-first r = part r (r .formed .0) (omega (arith, r .apart)) (omega arith) (omega arith) (omega arith)
+    par-first r = part r (r .formed .0) (r .earlier .0) (omega (arith, r .apart)) (omega arith) (omega arith) (omega arith)
 
-    pub par-second : {q : Place} {b a k l : List ℕ} → Ready M (par P Q) p n → Done M P p b a k l q
+    pub par-second : {F : ℕ → ℕ} {q : Place} {b a k l : List ℕ} → Ready M (par P Q) p n → Done M F P p b a k l q
         → Ready M Q (place (p .wire) (q .delay) (q .cell) (q .mark) (q .out)) n
     unfolding delayCount walkCount assignments allExits
-    par-second r u = rw (left u) (part r (r .formed .1) (omega (arith, r .apart)) (omega arith) (omega arith) (omega (arith, some-exits P)))
+    par-second r u = rw (left u) (part r (r .formed .1) (r .earlier .1) (omega (arith, r .apart)) (omega arith) (omega arith) (omega (arith, some-exits P)))
 
-    pub par-merge : {q s : Place} {b a k l b′ a′ k′ l′ : List ℕ} → Ready M (par P Q) p n → Done M P p b a k l q
-        → Done M Q (place (p .wire) (q .delay) (q .cell) (q .mark) (q .out)) b′ a′ k′ l′ s → 6 * s .cell + 6 ≤ n
+    pub par-merge : {F : ℕ → ℕ} {q s : Place} {b a k l b′ a′ k′ l′ : List ℕ} → Ready M (par P Q) p n → Done M F P p b a k l q
+        → Done M F Q (place (p .wire) (q .delay) (q .cell) (q .mark) (q .out)) b′ a′ k′ l′ s → 6 * s .cell + 6 ≤ n
     unfolding walkCount
     par-merge r u v = omega (arith, r .room, u .cell, v .cell)
 
@@ -98,21 +112,22 @@ module _ {M n : ℕ} {p : Place} where
       module _ {g t : ℕ} {m₀ m₁ m₂ : List ℕ} {o : Pulse} (ow : Owned δ (p .wire) (p .delay) m₀ m₁ o) (sw : Switched M E (p .cell) g m₁ m₂ t) where
         pub if-first : Ready M P (place t (o .delay) (t + 1 + 1) (p .mark) (p .out)) n
         unfolding delayCount walkCount assignments allExits
-        if-first = rw (sw .switch, ow .delay) (part r (r .formed .2) (omega (arith, r .apart)) (omega arith) (omega arith) (omega arith))
+        if-first = rw (sw .switch, ow .delay) (part r (r .formed .2) (r .earlier .2) (omega (arith, r .apart)) (omega arith) (omega arith) (omega arith))
 
-        pub if-second : {q : Place} {b a k l : List ℕ} → Done M P (place t (o .delay) (t + 1 + 1) (p .mark) (p .out)) b a k l q
+        pub if-second : {F : ℕ → ℕ} {q : Place} {b a k l : List ℕ} → Done M F P (place t (o .delay) (t + 1 + 1) (p .mark) (p .out)) b a k l q
             → Ready M Q (place (t + 1) (q .delay) (q .cell) (q .mark) (q .out)) n
         unfolding delayCount walkCount assignments allExits
         if-second u₀ =
             let u = rw (sw .switch, ow .delay) at u₀ in
-            rw (sw .switch, left u) (part r (r .formed .3) (omega (arith, r .apart)) (omega arith) (omega arith) (omega (arith, some-exits P)))
+            rw (sw .switch, left u) (part r (r .formed .3) (r .earlier .3) (omega (arith, r .apart)) (omega arith) (omega arith) (omega (arith, some-exits P)))
 
-        pub if-merge : {q s : Place} {b a k l b′ a′ k′ l′ : List ℕ} → Done M P (place t (o .delay) (t + 1 + 1) (p .mark) (p .out)) b a k l q
-            → Done M Q (place (t + 1) (q .delay) (q .cell) (q .mark) (q .out)) b′ a′ k′ l′ s → 6 * s .cell + 6 ≤ n
+        pub if-merge : {F : ℕ → ℕ} {q s : Place} {b a k l b′ a′ k′ l′ : List ℕ}
+            → Done M F P (place t (o .delay) (t + 1 + 1) (p .mark) (p .out)) b a k l q
+            → Done M F Q (place (t + 1) (q .delay) (q .cell) (q .mark) (q .out)) b′ a′ k′ l′ s → 6 * s .cell + 6 ≤ n
         unfolding walkCount
         if-merge u v = omega (arith, r .room, sw .switch, u .cell, v .cell)
 
-  module _ {δ : ℕ} {E : Expr} {P : Stmt} where
+  module _ {δ : ℕ} {E : Expr} {P : Code} where
     pub while-switches : Ready M (while δ E P) p n → SwitchReady M E (p .cell) n
     unfolding walkCount
     while-switches r = switch-part r (r .formed .1) (omega arith)
@@ -120,10 +135,10 @@ module _ {M n : ℕ} {p : Place} where
     pub while-body : {g t : ℕ} {m₁ m₂ : List ℕ} → Ready M (while δ E P) p n → Switched M E (p .cell) g m₁ m₂ t
         → Ready M P (place t (p .delay + 1) (t + 1 + 1) (p .mark) (p .out)) n
     unfolding delayCount walkCount assignments allExits
-    while-body r sw = rw (sw .switch) (part r (r .formed .2) (omega (arith, r .apart)) (omega arith) (omega arith) (omega arith))
+    while-body r sw = rw (sw .switch) (part r (r .formed .2) (r .earlier .2) (omega (arith, r .apart)) (omega arith) (omega arith) (omega arith))
 
-    pub while-merge : {g t : ℕ} {m₁ m₂ b a k l : List ℕ} {q : Place} → Ready M (while δ E P) p n → Switched M E (p .cell) g m₁ m₂ t
-        → Done M P (place t (p .delay + 1) (t + 1 + 1) (p .mark) (p .out)) b a k l q → 6 * q .cell + 6 ≤ n
+    pub while-merge : {g t : ℕ} {F : ℕ → ℕ} {m₁ m₂ b a k l : List ℕ} {q : Place} → Ready M (while δ E P) p n → Switched M E (p .cell) g m₁ m₂ t
+        → Done M F P (place t (p .delay + 1) (t + 1 + 1) (p .mark) (p .out)) b a k l q → 6 * q .cell + 6 ≤ n
     unfolding walkCount
     while-merge r sw u = omega (arith, r .room, sw .switch, u .cell)
 
@@ -134,19 +149,20 @@ module _ {M n : ℕ} {p : Place} where
     pub repeat-body : {g t : ℕ} {m₁ m₂ : List ℕ} → Ready M (repeat δ E P) p n → Switched M E (p .cell) g m₁ m₂ t
         → Ready M P (place (t + 1 + 1) (p .delay + 1) (t + 1 + 1 + 1) (p .mark) (p .out)) n
     unfolding delayCount walkCount assignments allExits
-    repeat-body r sw = rw (sw .switch) (part r (r .formed .2) (omega (arith, r .apart)) (omega arith) (omega arith) (omega arith))
+    repeat-body r sw = rw (sw .switch) (part r (r .formed .2) (r .earlier .2) (omega (arith, r .apart)) (omega arith) (omega arith) (omega arith))
 
-  module _ {δ : ℕ} {P : Stmt} (r : Ready M (loop δ P) p n) where
+  module _ {δ : ℕ} {P : Code} (r : Ready M (loop δ P) p n) where
     pub loop-merge : 6 * p .cell + 6 ≤ n
     unfolding walkCount
     loop-merge = omega (arith, r .room)
 
     pub loop-body : Ready M P (place (p .cell) (p .delay + 1) (p .cell + 1) (p .mark) (p .out)) n
     unfolding delayCount walkCount assignments allExits
-    loop-body = part r (r .formed .1) (omega (arith, r .apart)) (omega arith) (omega arith) (omega arith)
+    loop-body = part r (r .formed .1) (r .earlier .1) (omega (arith, r .apart)) (omega arith) (omega arith) (omega arith)
 
     -- the exits of its body wait behind those that waited before
-    module _ {q : Place} {b a k l o o′ : List ℕ} (u : Done M P (place (p .cell) (p .delay + 1) (p .cell + 1) (p .mark) (p .out)) b a k l q)
+    module _ {F : ℕ → ℕ} {q : Place} {b a k l o o′ : List ℕ}
+        (u : Done M F P (place (p .cell) (p .delay + 1) (p .cell + 1) (p .mark) (p .out)) b a k l q)
         (v : Opened P (place (p .cell) (p .delay + 1) (p .cell + 1) (p .mark) (p .out)) o o′) (h : length o ≡ 200) where
       pub loop-waits : waiting o′ (p .out) (q .out) ≡ loopExits P (p .delay) (p .cell)
       unfolding allExits

@@ -9,7 +9,7 @@ use Rattle.compiler.specs.declared.ors.Joint.{Joint}
 use Rattle.compiler.specs.declared.ors.Ors.{Ors}
 use Rattle.compiler.specs.Writes.{write}
 
--- the sources that the marks tell of n assignments, from assignment k on; an assignment's wire is its mark f
+-- the sources that the marks tell of n assignments and calls, from number k on; the wire of each is its mark f
 unfoldable pub sourcesFrom : ℕ → List ℕ → ℕ → ℕ → List Source
 sourcesFrom f ms k zero = []
 sourcesFrom f ms k (suc n) = (getD ms (4 * k) 0, getD ms (4 * k + f) 0) ∷ sourcesFrom f ms (k + 1) n

@@ -2,11 +2,11 @@
 use mathlib.Core.Path.{_≡_}
 use mathlib.Core.List.{List, [], _∷_, _++_}
 use Prim.Native.Nat.{ℕ, _+_, _*_, _≤_}
-use lib.ListN.{length, take, drop}
+use lib.ListN.{length, getD, take, drop}
 use lib.Seq.{sets}
-use Rattle.model.specs.Program.{Expr, Stmt, ok, tick, assign, assignElem, seq, par, ite, while, repeat, loop, exit, arrayVar}
+use Rattle.model.specs.Program.{Expr, Code, ok, tick, assign, assignElem, seq, par, ite, while, repeat, loop, exit, call, arrayVar}
 use Rattle.model.specs.Numbering.{exprCount, exprWire, exprCells, onTrue, pastSwitches, switches, ifDelayCount, ifDelayCells, ifPulse, delayCount, exitCount, walkCount, finishWire, exitWires, ors, orsOut, orCount, delays, walk}
-use Rattle.laws.specs.Program.Fit.{FormedExpr, Formed}
+use Rattle.laws.specs.Program.Fit.{FormedExpr, Formed, Earlier}
 use Rattle.compiler.specs.declared.walk.Word.{Word}
 use Rattle.compiler.specs.declared.walk.Place.{Place}
 use Rattle.compiler.specs.declared.walk.Pulse.{Pulse}
@@ -43,8 +43,8 @@ pub record Switched (M : ℕ) (e : Expr) (c ifPulse : ℕ) (before after : List 
 abbrev pub place : ℕ → ℕ → ℕ → ℕ → ℕ → Place
 place w d c k o = record { wire = w; delay = d; cell = c; mark = k; out = o }
 
--- how many assignments a statement has
-unfoldable pub assignments : Stmt → ℕ
+-- how many assignments and calls a statement has
+unfoldable pub assignments : Code → ℕ
 assignments ok = 0
 assignments (tick δ) = 0
 assignments (assign δ x e) = 1
@@ -56,9 +56,10 @@ assignments (while δ e P) = assignments P
 assignments (repeat δ e P) = assignments P
 assignments (loop δ P) = assignments P
 assignments exit = 0
+assignments (call δ p) = 1
 
 -- how many exits it has, those of its loops too
-unfoldable pub allExits : Stmt → ℕ
+unfoldable pub allExits : Code → ℕ
 allExits ok = 0
 allExits (tick δ) = 0
 allExits (assign δ x e) = 0
@@ -70,9 +71,12 @@ allExits (while δ e P) = allExits P
 allExits (repeat δ e P) = allExits P
 allExits (loop δ P) = allExits P
 allExits exit = 1
+allExits (call δ p) = 0
 
--- their marks, in node order: variable, first delay cell, kind 41 cells of the value and of the index
-unfoldable pub marksOf : Stmt → ℕ → ℕ → List ℕ
+-- the marks of its assignments and calls, in node order: variable, first delay cell, kind 41 cells of the value and of the index. Of a call the
+-- variable is 20 and the procedure, so that the ors of variables pass it by, and the delays of a procedure's callers are joined as a variable's
+-- clocks are
+unfoldable pub marksOf : Code → ℕ → ℕ → List ℕ
 marksOf ok d c = []
 marksOf (tick δ) d c = []
 marksOf (assign δ x e) d c = x ∷ d ∷ (c + exprCount e) ∷ 0 ∷ []
@@ -84,6 +88,7 @@ marksOf (while δ e P) d c = marksOf P (d + 1) (pastSwitches e c)
 marksOf (repeat δ e P) d c = marksOf P (d + 1) (pastSwitches e c + 1)
 marksOf (loop δ P) d c = marksOf P (d + 1) (c + 1)
 marksOf exit d c = []
+marksOf (call δ p) d c = (20 + p) ∷ d ∷ 0 ∷ 0 ∷ []
 
 -- an if's own delay cell
 pub record Owned (δ start d : ℕ) (before after : List ℕ) (r : Pulse) : Type 0 where
@@ -92,8 +97,9 @@ pub record Owned (δ start d : ℕ) (before after : List ℕ) (r : Pulse) : Type
   pub delay : r .delay ≡ d + ifDelayCount δ
 
 -- P goes to place p of a list of n bytes; its delay cells end below its walk cells
-pub record Ready (M : ℕ) (P : Stmt) (p : Place) (n : ℕ) : Type 0 where
+pub record Ready (M : ℕ) (P : Code) (p : Place) (n : ℕ) : Type 0 where
   pub formed : Formed P
+  pub earlier : Earlier 8 P
   pub memory : M + 24 ≤ 627
   pub apart : p .delay + delayCount P ≤ p .cell
   pub room : 6 * (p .cell + walkCount P) ≤ n
@@ -101,9 +107,14 @@ pub record Ready (M : ℕ) (P : Stmt) (p : Place) (n : ℕ) : Type 0 where
   pub marks : p .mark + 4 * assignments P ≤ 800
   pub outs : p .out + allExits P ≤ 200
 
-pub record Done (M : ℕ) (P : Stmt) (p : Place) (before after : List ℕ) (marked remarked : List ℕ) (r : Place) : Type 0 where
+-- the finish of body p, by an array of them
+abbrev pub finishIn : List ℕ → ℕ → ℕ
+finishIn finishes p = getD finishes p 0
+
+-- F p is the finish of body p
+pub record Done (M : ℕ) (F : ℕ → ℕ) (P : Code) (p : Place) (before after : List ℕ) (marked remarked : List ℕ) (r : Place) : Type 0 where
   pub cells :
-      after ≡ both (p .delay) (delays P (p .wire) (p .delay) (p .cell)) (p .cell) (walk M P (p .wire) (p .delay) (p .cell)) before
+      after ≡ both (p .delay) (delays P (p .wire) (p .delay) (p .cell)) (p .cell) (walk M F P (p .wire) (p .delay) (p .cell)) before
   pub marks : remarked ≡ sets marked (p .mark) (marksOf P (p .delay) (p .cell))
   pub wire : r .wire ≡ finishWire P (p .wire) (p .delay) (p .cell)
   pub delay : r .delay ≡ p .delay + delayCount P
@@ -114,7 +125,7 @@ pub record Done (M : ℕ) (P : Stmt) (p : Place) (before after : List ℕ) (mark
 -- Exits --------------------------------------------------------------------------------------------------------------------------------
 
 -- the starts of the exits of P wait behind those that waited before; what lies behind them is not told
-pub record Opened (P : Stmt) (p : Place) (before after : List ℕ) : Type 0 where
+pub record Opened (P : Code) (p : Place) (before after : List ℕ) : Type 0 where
   pub same : length after ≡ length before
   pub starts : take (p .out + exitCount P) after ≡ take (p .out) before ++ exitWires P (p .wire) (p .delay) (p .cell)
 

@@ -4,7 +4,7 @@ ghost use mathlib.Core.Path.{_≡_};
 ghost use Prim.Native.Nat.{_≤_};
 ghost use lib.ListN.{length};
 ghost use Rattle.model.specs.declared.Checked.the-variants.{Accepted};
-ghost use Rattle.model.specs.Program.{programOf};
+ghost use Rattle.model.specs.ProgramChecks.{programWith};
 ghost use Rattle.model.specs.Numbering.{netlist};
 ghost use Rattle.model.specs.Calls.{overwrite, checkCall, compiledFile, compileCall};
 
@@ -25,31 +25,31 @@ use model::sizes::COMPILED_MOST;
 // How many cells the netlist of an accepted program has; its file takes 512 bytes for every 84 of them.
 pub fn count_cells(options: Options, program: &[u8]) -> usize
     requires { ⌜ checkCall options (now program) ≡ Accepted ⌝ }
-    ensures { λ r. ⌜ r ≡ length (netlist (programOf (now (program .entry)))) ⌝ }
+    ensures { λ r. ⌜ r ≡ length (netlist (programWith options (now (program .entry)))) ⌝ }
 {
     let told = program::scan(options, program);
     let ends = told.ends;
     let mut cells = [0u8; COMPILED_MOST];
-    let made = whole::put_netlist(&mut cells, program, &ends);
+    let made = whole::put_netlist(&mut cells, program, &ends, options.procedures);
     made.count as usize
 }
 
 // Writes the netlist file of an accepted program into a buffer that is long enough; answers its length.
 pub fn compile_accepted(options: Options, program: &[u8], netlist: &mut [u8]) -> usize
-    requires { ⌜ (checkCall options (now program) ≡ Accepted) × (length (compiledFile (now program)) ≤ length (now netlist)) ⌝ }
-    ensures length { λ r. ⌜ r ≡ length (compiledFile (now (program .entry))) ⌝ }
-    ensures lent { λ _. ⌜ now (netlist .exit) ≡ overwrite (compiledFile (now (program .entry))) (now (netlist .entry)) ⌝ }
+    requires { ⌜ (checkCall options (now program) ≡ Accepted) × (length (compiledFile options (now program)) ≤ length (now netlist)) ⌝ }
+    ensures length { λ r. ⌜ r ≡ length (compiledFile options (now (program .entry))) ⌝ }
+    ensures lent { λ _. ⌜ now (netlist .exit) ≡ overwrite (compiledFile options (now (program .entry))) (now (netlist .entry)) ⌝ }
 {
     let told = program::scan(options, program);
     let ends = told.ends;
     let mut cells = [0u8; COMPILED_MOST];
-    let made = whole::put_netlist(&mut cells, program, &ends);
+    let made = whole::put_netlist(&mut cells, program, &ends, options.procedures);
     let n = made.count as usize;
     netlist::blocks::put_file(netlist, &cells, n, made.finish);
     BLOCK * ((n + BLOCK_LAST) / BLOCK_CELLS)
 }
 
-// Compiles a program: refusals 19 to 21, 1 to 8 and 22, and 14.
+// Compiles a program: refusals 19 to 21, 1 to 8, 22, 24 and 25, and 14.
 pub fn compile(options: Options, program: &[u8], netlist: &mut [u8]) -> Written
     ensures answer { λ r. ⌜ r ≡ compileCall options (now (program .entry)) (now (netlist .entry)) .answer ⌝ }
     ensures lent { λ _. ⌜ now (netlist .exit) ≡ compileCall options (now (program .entry)) (now (netlist .entry)) .lent ⌝ }
@@ -61,7 +61,7 @@ pub fn compile(options: Options, program: &[u8], netlist: &mut [u8]) -> Written
     }
     let ends = told.ends;
     let mut cells = [0u8; COMPILED_MOST];
-    let made = whole::put_netlist(&mut cells, program, &ends);
+    let made = whole::put_netlist(&mut cells, program, &ends, options.procedures);
     let n = made.count as usize;
     let finish = made.finish;
     let count = BLOCK * ((n + BLOCK_LAST) / BLOCK_CELLS);

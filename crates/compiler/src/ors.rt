@@ -1,5 +1,7 @@
-// The ors, which join the wires of each variable's assignments, and the memories and arrays that they feed. Arrays are variables 16 to 19.
-// An assignment has four marks: its variable, its first delay cell, its kind 41 cells, of the value and of an element's index.
+// The ors: those that join the wires of each variable's assignments, with the memories and arrays that they feed, and those that join the delays
+// of each procedure's callers. Arrays are variables 16 to 19.
+// An assignment has four marks: its variable, its first delay cell, its kind 41 cells, of the value and of an element's index. So has a call:
+// 20 and the procedure, which is above every variable, its delay cell, and two that are never read.
 ghost use mathlib.Core.Path.{_≡_};
 ghost use Prim.Native.Nat.{_+_, _-_, _*_, _≤_};
 ghost use lib.ListN.{length, drop};
@@ -8,8 +10,8 @@ ghost use Rattle.compiler.specs.Writes.{write};
 ghost use Rattle.compiler.specs.Ors.{sourcesFrom, OrsReady, Joined, Ored};
 use crate::walk::Word;
 
-// How wires are joined: the kind of the ors, the wire of a variable that is never assigned, which of its marks is an assignment's wire, and the
-// first variable whose wires are joined.
+// How wires are joined: the kind of the ors, the wire where there is none to join, which of its marks is an assignment's or a call's wire, and
+// the first variable whose wires are joined.
 pub struct Joint {
     pub kind: u8,
     pub none: u16,
@@ -23,8 +25,8 @@ pub struct Ors {
     pub next: u16,
 }
 
-// Joins the wires of variable x, from cell n on.
-fn put_chain(
+// Joins the wires of variable x, from cell n on; of 20 + p they are the delays of the callers of procedure p.
+pub fn put_chain(
     cells: &mut [u8],
     marks: &[u16; 800],
     count: usize,
@@ -81,6 +83,7 @@ pub fn put_ors(cells: &mut [u8], marks: &[u16; 800], count: usize, joint: Joint,
     Ors { wires, next }
 }
 
+// The sixteen memories, kind 40 of each variable's clock and data.
 pub fn put_memories(cells: &mut [u8], clocks: &[u16; 20], datas: &[u16; 20], memory: u16)
     requires { ⌜ (memory + 24 ≤ 627) × (6 * (memory + 24) ≤ length (now cells)) × (length (now clocks) ≡ 20) × (length (now datas) ≡ 20) ⌝ }
     ensures { λ _. ⌜ now (cells .exit) ≡ write memory (memoriesOf (now (clocks .entry)) (now (datas .entry)) 0 16) (now (cells .entry)) ⌝ }

@@ -1,16 +1,16 @@
 // The walk: the delay cells and the walk cells of a statement, put into a list of cells.
 // What a function leaves is an equation of writes: `write k cs s` is the list s with the cells cs put in from cell k on.
-// The function of a kind is given the nodes of its children: first, second, third.
+// The function of a kind is given the nodes of its children: first, second, third. `outs` has the starts of the exits that wait.
 ghost use mathlib.Core.Path.{_≡_};
 ghost use mathlib.Core.List.{[], _∷_};
-ghost use Prim.Native.Nat.{_+_, _*_, _<_, _≤_};
+ghost use Prim.Native.Nat.{ℕ, _+_, _*_, _<_, _≤_};
 ghost use lib.ListN.{length};
 ghost use lib.Seq.{sets};
 ghost use Rattle.model.specs.Circuit.{cell};
 ghost use Rattle.model.specs.Program.{exprAt, stmtAt, assign, assignElem, seq, par, ite, while, repeat, loop, exit};
 ghost use Rattle.program.specs.Ends.{Laid};
 ghost use Rattle.compiler.specs.Writes.{write};
-ghost use Rattle.compiler.specs.Walk.{word, place, ExprReady, ExprDone, Owned, SwitchReady, Switched, Ready, Done, Opened, waiting, ExitsReady, ExitsJoined};
+ghost use Rattle.compiler.specs.Walk.{word, place, ExprReady, ExprDone, Owned, SwitchReady, Switched, Ready, finishIn, Done, Opened, waiting, ExitsReady, ExitsJoined};
 use model::Cell;
 use model::Node;
 
@@ -34,6 +34,12 @@ pub struct Place {
 pub struct Pulse {
     pub wire: u16,
     pub delay: u16,
+}
+
+// What the walk is to know of the netlist around it: the first memory, and the finish of each body that has been walked, for the calls of it.
+pub struct Known {
+    pub memory: u16,
+    pub finishes: [u16; 9],
 }
 
 // What an assignment's ors join: its variable, an array being one of 16 to 19, and its kind 41 cells, of the value and of an element's index.
@@ -142,6 +148,22 @@ fn put_switches(
     e.cell
 }
 
+// A tick's delay cell, which is its finish.
+fn put_tick(cells: &mut [u8], at: Place, delay: u8) -> Place
+    requires { ⌜ (at .delay < 627) × (6 * at .delay + 6 ≤ length (now cells)) ⌝ }
+    ensures cells { λ _. ⌜ now (cells .exit) ≡ write (at .delay) (cell 34 delay (at .wire) 0 ∷ []) (now (cells .entry)) ⌝ }
+    ensures place { λ r. ⌜ r ≡ place (at .delay) (at .delay + 1) (at .cell) (at .mark) (at .out) ⌝ }
+{
+    put(cells, at.delay, 34, delay, at.wire, 0);
+    Place {
+        wire: at.delay,
+        delay: at.delay + 1,
+        cell: at.cell,
+        mark: at.mark,
+        out: at.out,
+    }
+}
+
 // An assignment's delay cells, the second fed by the first, and its marks; its walk ends below a cell.
 fn put_delays(
     cells: &mut [u8],
@@ -184,7 +206,7 @@ fn put_assign(
     node: Node,
 ) -> Place
     requires { ⌜ Laid (now program) (now ends) × Ready memory (assign (node .delay) (node .n) (exprAt (now program) first)) at (length (now cells)) ⌝ }
-    ensures { λ r. ⌜ Done memory (assign (node .delay) (node .n) (exprAt (now (program .entry)) first)) at (now (cells .entry)) (now (cells .exit)) (now (marks .entry)) (now (marks .exit)) r ⌝ }
+    ensures { λ r. ⌜ ((F : ℕ → ℕ) → Done memory F (assign (node .delay) (node .n) (exprAt (now (program .entry)) first)) at (now (cells .entry)) (now (cells .exit)) (now (marks .entry)) (now (marks .exit)) r) ⌝ }
 {
     let e = put_expr(cells, program, ends, memory, first, at.cell);
     put(cells, e.cell, 41, 0, at.delay, e.wire);
@@ -209,7 +231,7 @@ fn put_element(
     node: Node,
 ) -> Place
     requires { ⌜ Laid (now program) (now ends) × Ready memory (assignElem (node .delay) (node .n) (exprAt (now program) first) (exprAt (now program) second)) at (length (now cells)) ⌝ }
-    ensures { λ r. ⌜ Done memory (assignElem (node .delay) (node .n) (exprAt (now (program .entry)) first) (exprAt (now (program .entry)) second)) at (now (cells .entry)) (now (cells .exit)) (now (marks .entry)) (now (marks .exit)) r ⌝ }
+    ensures { λ r. ⌜ ((F : ℕ → ℕ) → Done memory F (assignElem (node .delay) (node .n) (exprAt (now (program .entry)) first) (exprAt (now (program .entry)) second)) at (now (cells .entry)) (now (cells .exit)) (now (marks .entry)) (now (marks .exit)) r) ⌝ }
 {
     let index = put_expr(cells, program, ends, memory, first, at.cell);
     let value = put_expr(cells, program, ends, memory, second, index.cell);
@@ -264,6 +286,31 @@ fn put_exits(cells: &mut [u8], outs: &[u16; 200], first: usize, end: usize, n: u
     }
 }
 
+// A call: its delay cell, kind 39 of that and the body's finish, which is the call's own, and its marks, of which the variable is 20 and the
+// procedure.
+fn put_call(cells: &mut [u8], marks: &mut [u16; 800], known: Known, at: Place, node: Node) -> Place
+    requires { ⌜ (at .delay < at .cell) × (6 * at .cell + 6 ≤ length (now cells)) × (length (now cells) ≤ 3762) × (at .mark + 4 ≤ 800) × (node .n < 8) ⌝ }
+    ensures cells { λ _. ⌜ now (cells .exit) ≡ write (at .cell) (cell 39 0 (at .delay) (finishIn (known .finishes) (node .n)) ∷ []) (write (at .delay) (cell 34 (node .delay) (at .wire) 0 ∷ []) (now (cells .entry))) ⌝ }
+    ensures marks { λ _. ⌜ now (marks .exit) ≡ sets (now (marks .entry)) (at .mark) ((20 + node .n) ∷ at .delay ∷ 0 ∷ 0 ∷ []) ⌝ }
+    ensures place { λ r. ⌜ r ≡ place (at .cell) (at .delay + 1) (at .cell + 1) (at .mark + 4) (at .out) ⌝ }
+{
+    let p = node.n as usize;
+    put(cells, at.delay, 34, node.delay, at.wire, 0);
+    put(cells, at.cell, 39, 0, at.delay, known.finishes[p]);
+    let k = at.mark;
+    marks[k] = 20 + node.n;
+    marks[k + 1] = at.delay;
+    marks[k + 2] = 0;
+    marks[k + 3] = 0;
+    Place {
+        wire: at.cell,
+        delay: at.delay + 1,
+        cell: at.cell + 1,
+        mark: k + 4,
+        out: at.out,
+    }
+}
+
 // The cells of the statement at node i, from a place on; answers the place after it, with the wire of its finish.
 pub fn put_stmt(
     cells: &mut [u8],
@@ -271,12 +318,12 @@ pub fn put_stmt(
     outs: &mut [u16; 200],
     program: &[u8],
     ends: &[usize; 200],
-    memory: u16,
+    known: Known,
     i: usize,
     at: Place,
 ) -> Place
-    requires { ⌜ Laid (now program) (now ends) × Ready memory (stmtAt (now program) i) at (length (now cells)) × (length (now outs) ≡ 200) ⌝ }
-    ensures done { λ r. ⌜ Done memory (stmtAt (now (program .entry)) i) at (now (cells .entry)) (now (cells .exit)) (now (marks .entry)) (now (marks .exit)) r ⌝ }
+    requires { ⌜ Laid (now program) (now ends) × Ready (known .memory) (stmtAt (now program) i) at (length (now cells)) × (length (now outs) ≡ 200) ⌝ }
+    ensures done { λ r. ⌜ Done (known .memory) (finishIn (known .finishes)) (stmtAt (now (program .entry)) i) at (now (cells .entry)) (now (cells .exit)) (now (marks .entry)) (now (marks .exit)) r ⌝ }
     ensures outs { λ _. ⌜ Opened (stmtAt (now (program .entry)) i) at (now (outs .entry)) (now (outs .exit)) ⌝ }
 {
     let node = crate::nodes::stmt_node(program, i);
@@ -285,32 +332,26 @@ pub fn put_stmt(
         return at;
     }
     if kind == 17 {
-        put(cells, at.delay, 34, node.delay, at.wire, 0);
-        return Place {
-            wire: at.delay,
-            delay: at.delay + 1,
-            cell: at.cell,
-            mark: at.mark,
-            out: at.out,
-        };
+        return put_tick(cells, at, node.delay);
     }
     let d = node.delay;
     let count = program.len() / 4;
     let i1 = i + 1;
     let i2 = program::next(ends, count, i1);
     match kind {
-        18 => put_assign(cells, marks, program, ends, memory, i1, at, node),
-        19 => put_seq(cells, marks, outs, program, ends, memory, i1, i2, at),
-        20 => put_par(cells, marks, outs, program, ends, memory, i1, i2, at),
+        18 => put_assign(cells, marks, program, ends, known.memory, i1, at, node),
+        19 => put_seq(cells, marks, outs, program, ends, known, i1, i2, at),
+        20 => put_par(cells, marks, outs, program, ends, known, i1, i2, at),
         21 => {
             let i3 = program::next(ends, count, i2);
-            put_if(cells, marks, outs, program, ends, memory, i1, i2, i3, at, d)
+            put_if(cells, marks, outs, program, ends, known, i1, i2, i3, at, d)
         }
-        22 => put_while(cells, marks, outs, program, ends, memory, i1, i2, at, d),
-        24 => put_element(cells, marks, program, ends, memory, i1, i2, at, node),
-        25 => put_loop(cells, marks, outs, program, ends, memory, i1, at, d),
+        22 => put_while(cells, marks, outs, program, ends, known, i1, i2, at, d),
+        24 => put_element(cells, marks, program, ends, known.memory, i1, i2, at, node),
+        25 => put_loop(cells, marks, outs, program, ends, known, i1, at, d),
         26 => put_exit(outs, at),
-        _ => put_repeat(cells, marks, outs, program, ends, memory, i1, i2, at, d),
+        27 => put_call(cells, marks, known, at, node),
+        _ => put_repeat(cells, marks, outs, program, ends, known, i1, i2, at, d),
     }
 }
 
@@ -321,17 +362,17 @@ fn put_seq(
     outs: &mut [u16; 200],
     program: &[u8],
     ends: &[usize; 200],
-    memory: u16,
+    known: Known,
     first: usize,
     second: usize,
     at: Place,
 ) -> Place
-    requires { ⌜ Laid (now program) (now ends) × Ready memory (seq (stmtAt (now program) first) (stmtAt (now program) second)) at (length (now cells)) × (first ≤ second) × (length (now outs) ≡ 200) ⌝ }
-    ensures done { λ r. ⌜ Done memory (seq (stmtAt (now (program .entry)) first) (stmtAt (now (program .entry)) second)) at (now (cells .entry)) (now (cells .exit)) (now (marks .entry)) (now (marks .exit)) r ⌝ }
+    requires { ⌜ Laid (now program) (now ends) × Ready (known .memory) (seq (stmtAt (now program) first) (stmtAt (now program) second)) at (length (now cells)) × (first ≤ second) × (length (now outs) ≡ 200) ⌝ }
+    ensures done { λ r. ⌜ Done (known .memory) (finishIn (known .finishes)) (seq (stmtAt (now (program .entry)) first) (stmtAt (now (program .entry)) second)) at (now (cells .entry)) (now (cells .exit)) (now (marks .entry)) (now (marks .exit)) r ⌝ }
     ensures outs { λ _. ⌜ Opened (seq (stmtAt (now (program .entry)) first) (stmtAt (now (program .entry)) second)) at (now (outs .entry)) (now (outs .exit)) ⌝ }
 {
-    let p = put_stmt(cells, marks, outs, program, ends, memory, first, at);
-    put_stmt(cells, marks, outs, program, ends, memory, second, p)
+    let p = put_stmt(cells, marks, outs, program, ends, known, first, at);
+    put_stmt(cells, marks, outs, program, ends, known, second, p)
 }
 
 // P, Q, 38.
@@ -341,16 +382,16 @@ fn put_par(
     outs: &mut [u16; 200],
     program: &[u8],
     ends: &[usize; 200],
-    memory: u16,
+    known: Known,
     first: usize,
     second: usize,
     at: Place,
 ) -> Place
-    requires { ⌜ Laid (now program) (now ends) × Ready memory (par (stmtAt (now program) first) (stmtAt (now program) second)) at (length (now cells)) × (first ≤ second) × (length (now outs) ≡ 200) ⌝ }
-    ensures done { λ r. ⌜ Done memory (par (stmtAt (now (program .entry)) first) (stmtAt (now (program .entry)) second)) at (now (cells .entry)) (now (cells .exit)) (now (marks .entry)) (now (marks .exit)) r ⌝ }
+    requires { ⌜ Laid (now program) (now ends) × Ready (known .memory) (par (stmtAt (now program) first) (stmtAt (now program) second)) at (length (now cells)) × (first ≤ second) × (length (now outs) ≡ 200) ⌝ }
+    ensures done { λ r. ⌜ Done (known .memory) (finishIn (known .finishes)) (par (stmtAt (now (program .entry)) first) (stmtAt (now (program .entry)) second)) at (now (cells .entry)) (now (cells .exit)) (now (marks .entry)) (now (marks .exit)) r ⌝ }
     ensures outs { λ _. ⌜ Opened (par (stmtAt (now (program .entry)) first) (stmtAt (now (program .entry)) second)) at (now (outs .entry)) (now (outs .exit)) ⌝ }
 {
-    let p = put_stmt(cells, marks, outs, program, ends, memory, first, at);
+    let p = put_stmt(cells, marks, outs, program, ends, known, first, at);
     let to = Place {
         wire: at.wire,
         delay: p.delay,
@@ -358,7 +399,7 @@ fn put_par(
         mark: p.mark,
         out: p.out,
     };
-    let q = put_stmt(cells, marks, outs, program, ends, memory, second, to);
+    let q = put_stmt(cells, marks, outs, program, ends, known, second, to);
     put(cells, q.cell, 38, 0, p.wire, q.wire);
     Place {
         wire: q.cell,
@@ -376,19 +417,19 @@ fn put_if(
     outs: &mut [u16; 200],
     program: &[u8],
     ends: &[usize; 200],
-    memory: u16,
+    known: Known,
     first: usize,
     second: usize,
     third: usize,
     at: Place,
     delay: u8,
 ) -> Place
-    requires { ⌜ Laid (now program) (now ends) × Ready memory (ite delay (exprAt (now program) first) (stmtAt (now program) second) (stmtAt (now program) third)) at (length (now cells)) × (second ≤ third) × (length (now outs) ≡ 200) ⌝ }
-    ensures done { λ r. ⌜ Done memory (ite delay (exprAt (now (program .entry)) first) (stmtAt (now (program .entry)) second) (stmtAt (now (program .entry)) third)) at (now (cells .entry)) (now (cells .exit)) (now (marks .entry)) (now (marks .exit)) r ⌝ }
+    requires { ⌜ Laid (now program) (now ends) × Ready (known .memory) (ite delay (exprAt (now program) first) (stmtAt (now program) second) (stmtAt (now program) third)) at (length (now cells)) × (second ≤ third) × (length (now outs) ≡ 200) ⌝ }
+    ensures done { λ r. ⌜ Done (known .memory) (finishIn (known .finishes)) (ite delay (exprAt (now (program .entry)) first) (stmtAt (now (program .entry)) second) (stmtAt (now (program .entry)) third)) at (now (cells .entry)) (now (cells .exit)) (now (marks .entry)) (now (marks .exit)) r ⌝ }
     ensures outs { λ _. ⌜ Opened (ite delay (exprAt (now (program .entry)) first) (stmtAt (now (program .entry)) second) (stmtAt (now (program .entry)) third)) at (now (outs .entry)) (now (outs .exit)) ⌝ }
 {
     let own = put_own(cells, delay, at.wire, at.delay);
-    let switch = put_switches(cells, program, ends, memory, first, at.cell, own.wire);
+    let switch = put_switches(cells, program, ends, known.memory, first, at.cell, own.wire);
     let when_true = Place {
         wire: switch,
         delay: own.delay,
@@ -396,7 +437,7 @@ fn put_if(
         mark: at.mark,
         out: at.out,
     };
-    let p = put_stmt(cells, marks, outs, program, ends, memory, second, when_true);
+    let p = put_stmt(cells, marks, outs, program, ends, known, second, when_true);
     let when_false = Place {
         wire: switch + 1,
         delay: p.delay,
@@ -404,7 +445,7 @@ fn put_if(
         mark: p.mark,
         out: p.out,
     };
-    let q = put_stmt(cells, marks, outs, program, ends, memory, third, when_false);
+    let q = put_stmt(cells, marks, outs, program, ends, known, third, when_false);
     put(cells, q.cell, 35, 0, p.wire, q.wire);
     Place {
         wire: q.cell,
@@ -422,17 +463,17 @@ fn put_while(
     outs: &mut [u16; 200],
     program: &[u8],
     ends: &[usize; 200],
-    memory: u16,
+    known: Known,
     first: usize,
     second: usize,
     at: Place,
     delay: u8,
 ) -> Place
-    requires { ⌜ Laid (now program) (now ends) × Ready memory (while delay (exprAt (now program) first) (stmtAt (now program) second)) at (length (now cells)) × (length (now outs) ≡ 200) ⌝ }
-    ensures done { λ r. ⌜ Done memory (while delay (exprAt (now (program .entry)) first) (stmtAt (now (program .entry)) second)) at (now (cells .entry)) (now (cells .exit)) (now (marks .entry)) (now (marks .exit)) r ⌝ }
+    requires { ⌜ Laid (now program) (now ends) × Ready (known .memory) (while delay (exprAt (now program) first) (stmtAt (now program) second)) at (length (now cells)) × (length (now outs) ≡ 200) ⌝ }
+    ensures done { λ r. ⌜ Done (known .memory) (finishIn (known .finishes)) (while delay (exprAt (now (program .entry)) first) (stmtAt (now (program .entry)) second)) at (now (cells .entry)) (now (cells .exit)) (now (marks .entry)) (now (marks .exit)) r ⌝ }
     ensures outs { λ _. ⌜ Opened (while delay (exprAt (now (program .entry)) first) (stmtAt (now (program .entry)) second)) at (now (outs .entry)) (now (outs .exit)) ⌝ }
 {
-    let switch = put_switches(cells, program, ends, memory, first, at.cell, at.delay);
+    let switch = put_switches(cells, program, ends, known.memory, first, at.cell, at.delay);
     let body = Place {
         wire: switch,
         delay: at.delay + 1,
@@ -440,7 +481,7 @@ fn put_while(
         mark: at.mark,
         out: at.out,
     };
-    let p = put_stmt(cells, marks, outs, program, ends, memory, second, body);
+    let p = put_stmt(cells, marks, outs, program, ends, known, second, body);
     put(cells, p.cell, 35, 0, at.wire, p.wire);
     put(cells, at.delay, 34, delay, p.cell, 0);
     Place {
@@ -459,17 +500,17 @@ fn put_repeat(
     outs: &mut [u16; 200],
     program: &[u8],
     ends: &[usize; 200],
-    memory: u16,
+    known: Known,
     first: usize,
     second: usize,
     at: Place,
     delay: u8,
 ) -> Place
-    requires { ⌜ Laid (now program) (now ends) × Ready memory (repeat delay (exprAt (now program) first) (stmtAt (now program) second)) at (length (now cells)) × (length (now outs) ≡ 200) ⌝ }
-    ensures done { λ r. ⌜ Done memory (repeat delay (exprAt (now (program .entry)) first) (stmtAt (now (program .entry)) second)) at (now (cells .entry)) (now (cells .exit)) (now (marks .entry)) (now (marks .exit)) r ⌝ }
+    requires { ⌜ Laid (now program) (now ends) × Ready (known .memory) (repeat delay (exprAt (now program) first) (stmtAt (now program) second)) at (length (now cells)) × (length (now outs) ≡ 200) ⌝ }
+    ensures done { λ r. ⌜ Done (known .memory) (finishIn (known .finishes)) (repeat delay (exprAt (now (program .entry)) first) (stmtAt (now (program .entry)) second)) at (now (cells .entry)) (now (cells .exit)) (now (marks .entry)) (now (marks .exit)) r ⌝ }
     ensures outs { λ _. ⌜ Opened (repeat delay (exprAt (now (program .entry)) first) (stmtAt (now (program .entry)) second)) at (now (outs .entry)) (now (outs .exit)) ⌝ }
 {
-    let switch = put_switches(cells, program, ends, memory, first, at.cell, at.delay);
+    let switch = put_switches(cells, program, ends, known.memory, first, at.cell, at.delay);
     let start = switch + 1 + 1;
     put(cells, start, 35, 0, at.wire, switch + 1);
     let body = Place {
@@ -479,7 +520,7 @@ fn put_repeat(
         mark: at.mark,
         out: at.out,
     };
-    let p = put_stmt(cells, marks, outs, program, ends, memory, second, body);
+    let p = put_stmt(cells, marks, outs, program, ends, known, second, body);
     put(cells, at.delay, 34, delay, p.wire, 0);
     Place {
         wire: switch,
@@ -497,13 +538,13 @@ fn put_loop(
     outs: &mut [u16; 200],
     program: &[u8],
     ends: &[usize; 200],
-    memory: u16,
+    known: Known,
     first: usize,
     at: Place,
     delay: u8,
 ) -> Place
-    requires { ⌜ Laid (now program) (now ends) × Ready memory (loop delay (stmtAt (now program) first)) at (length (now cells)) × (length (now outs) ≡ 200) ⌝ }
-    ensures done { λ r. ⌜ Done memory (loop delay (stmtAt (now (program .entry)) first)) at (now (cells .entry)) (now (cells .exit)) (now (marks .entry)) (now (marks .exit)) r ⌝ }
+    requires { ⌜ Laid (now program) (now ends) × Ready (known .memory) (loop delay (stmtAt (now program) first)) at (length (now cells)) × (length (now outs) ≡ 200) ⌝ }
+    ensures done { λ r. ⌜ Done (known .memory) (finishIn (known .finishes)) (loop delay (stmtAt (now (program .entry)) first)) at (now (cells .entry)) (now (cells .exit)) (now (marks .entry)) (now (marks .exit)) r ⌝ }
     ensures outs { λ _. ⌜ Opened (loop delay (stmtAt (now (program .entry)) first)) at (now (outs .entry)) (now (outs .exit)) ⌝ }
 {
     put(cells, at.cell, 35, 0, at.wire, at.delay);
@@ -514,7 +555,7 @@ fn put_loop(
         mark: at.mark,
         out: at.out,
     };
-    let round = put_stmt(cells, marks, outs, program, ends, memory, first, body);
+    let round = put_stmt(cells, marks, outs, program, ends, known, first, body);
     put(cells, at.delay, 34, delay, round.wire, 0);
     let joined = put_exits(cells, outs, at.out, round.out, round.cell);
     Place {

@@ -1,20 +1,27 @@
 // The calls on bytes: numbers and byte slices in, the answer as 48 bytes in a lent buffer (reply/specs/Replies).
-// Each answers whether there was room for the reply; where there was none it did nothing. A flag tells whether a table of operator times is given.
+// Each answers whether there was room for the reply; where there was none it did nothing. Before a program or a text stands what is given beside
+// it: a flag that tells whether a table of operator times is given, the table, and the number of procedures.
 ghost use mathlib.Core.Path.{_≡_};
-ghost use Rattle.model.specs.TimeTables.{givenIf, load};
+ghost use Rattle.model.specs.TimeTables.{givenIf, beside, load};
 ghost use Rattle.model.specs.Calls.{checkCall, compileCall, writeCall, readCall, beginCall, continueCall, startCall, runNetlistCall, runProgramCall, referenceCall};
 ghost use Rattle.model.specs.TextCalls.{readTextCall, compileTextCall, runTextCall};
 ghost use Rattle.reply.specs.Replies.{checkedReply, writtenReply, answerReply, replied, roomFor, ifRoom};
 
 #[no_mangle]
-pub extern "C" fn hub_check(timed: bool, table: &[u8], program: &[u8], reply: &mut [u8]) -> bool
+pub extern "C" fn hub_check(
+    timed: bool,
+    table: &[u8],
+    procedures: usize,
+    program: &[u8],
+    reply: &mut [u8],
+) -> bool
     ensures done { λ r. ⌜ r ≡ roomFor (now (reply .entry)) ⌝ }
-    ensures reply { λ _. ⌜ now (reply .exit) ≡ ifRoom (now (reply .entry)) (replied (checkedReply (checkCall (load (givenIf timed (now (table .entry)))) (now (program .entry)))) (now (reply .entry))) (now (reply .entry)) ⌝ }
+    ensures reply { λ _. ⌜ now (reply .exit) ≡ ifRoom (now (reply .entry)) (replied (checkedReply (checkCall (load (beside (givenIf timed (now (table .entry))) procedures)) (now (program .entry)))) (now (reply .entry))) (now (reply .entry)) ⌝ }
 {
     if reply.len() < reply::LENGTH {
         return false;
     }
-    let options = program::tables::load_if(timed, table);
+    let options = hub::load_if(timed, table, procedures);
     let answer = hub::check(options, program);
     reply::put(reply, reply::of_checked(answer));
     true
@@ -24,18 +31,19 @@ pub extern "C" fn hub_check(timed: bool, table: &[u8], program: &[u8], reply: &m
 pub extern "C" fn hub_compile(
     timed: bool,
     table: &[u8],
+    procedures: usize,
     program: &[u8],
     file: &mut [u8],
     reply: &mut [u8],
 ) -> bool
     ensures done { λ r. ⌜ r ≡ roomFor (now (reply .entry)) ⌝ }
-    ensures file { λ _. ⌜ now (file .exit) ≡ ifRoom (now (reply .entry)) (compileCall (load (givenIf timed (now (table .entry)))) (now (program .entry)) (now (file .entry)) .lent) (now (file .entry)) ⌝ }
-    ensures reply { λ _. ⌜ now (reply .exit) ≡ ifRoom (now (reply .entry)) (replied (writtenReply (compileCall (load (givenIf timed (now (table .entry)))) (now (program .entry)) (now (file .entry)) .answer)) (now (reply .entry))) (now (reply .entry)) ⌝ }
+    ensures file { λ _. ⌜ now (file .exit) ≡ ifRoom (now (reply .entry)) (compileCall (load (beside (givenIf timed (now (table .entry))) procedures)) (now (program .entry)) (now (file .entry)) .lent) (now (file .entry)) ⌝ }
+    ensures reply { λ _. ⌜ now (reply .exit) ≡ ifRoom (now (reply .entry)) (replied (writtenReply (compileCall (load (beside (givenIf timed (now (table .entry))) procedures)) (now (program .entry)) (now (file .entry)) .answer)) (now (reply .entry))) (now (reply .entry)) ⌝ }
 {
     if reply.len() < reply::LENGTH {
         return false;
     }
-    let options = program::tables::load_if(timed, table);
+    let options = hub::load_if(timed, table, procedures);
     let answer = hub::compile(options, program, file);
     reply::put(reply, reply::of_written(answer));
     true
@@ -140,6 +148,7 @@ pub extern "C" fn hub_run_netlist(
 pub extern "C" fn hub_run_program(
     timed: bool,
     table: &[u8],
+    procedures: usize,
     program: &[u8],
     words: &[u8],
     budget: u32,
@@ -148,14 +157,14 @@ pub extern "C" fn hub_run_program(
     reply: &mut [u8],
 ) -> bool
     ensures done { λ r. ⌜ r ≡ roomFor (now (reply .entry)) ⌝ }
-    ensures netlist { λ _. ⌜ now (netlist .exit) ≡ ifRoom (now (reply .entry)) (runProgramCall (load (givenIf timed (now (table .entry)))) (now (program .entry)) (now (words .entry)) budget (now (netlist .entry)) (now (state .entry)) .netlist) (now (netlist .entry)) ⌝ }
-    ensures state { λ _. ⌜ now (state .exit) ≡ ifRoom (now (reply .entry)) (runProgramCall (load (givenIf timed (now (table .entry)))) (now (program .entry)) (now (words .entry)) budget (now (netlist .entry)) (now (state .entry)) .state) (now (state .entry)) ⌝ }
-    ensures reply { λ _. ⌜ now (reply .exit) ≡ ifRoom (now (reply .entry)) (replied (answerReply (runProgramCall (load (givenIf timed (now (table .entry)))) (now (program .entry)) (now (words .entry)) budget (now (netlist .entry)) (now (state .entry)) .answer)) (now (reply .entry))) (now (reply .entry)) ⌝ }
+    ensures netlist { λ _. ⌜ now (netlist .exit) ≡ ifRoom (now (reply .entry)) (runProgramCall (load (beside (givenIf timed (now (table .entry))) procedures)) (now (program .entry)) (now (words .entry)) budget (now (netlist .entry)) (now (state .entry)) .netlist) (now (netlist .entry)) ⌝ }
+    ensures state { λ _. ⌜ now (state .exit) ≡ ifRoom (now (reply .entry)) (runProgramCall (load (beside (givenIf timed (now (table .entry))) procedures)) (now (program .entry)) (now (words .entry)) budget (now (netlist .entry)) (now (state .entry)) .state) (now (state .entry)) ⌝ }
+    ensures reply { λ _. ⌜ now (reply .exit) ≡ ifRoom (now (reply .entry)) (replied (answerReply (runProgramCall (load (beside (givenIf timed (now (table .entry))) procedures)) (now (program .entry)) (now (words .entry)) budget (now (netlist .entry)) (now (state .entry)) .answer)) (now (reply .entry))) (now (reply .entry)) ⌝ }
 {
     if reply.len() < reply::LENGTH {
         return false;
     }
-    let options = program::tables::load_if(timed, table);
+    let options = hub::load_if(timed, table, procedures);
     let answer = hub::run_program(options, program, words, budget, netlist, state);
     reply::put(reply, reply::of_answer(answer));
     true
@@ -165,18 +174,19 @@ pub extern "C" fn hub_run_program(
 pub extern "C" fn hub_reference(
     timed: bool,
     table: &[u8],
+    procedures: usize,
     program: &[u8],
     words: &[u8],
     budget: u32,
     reply: &mut [u8],
 ) -> bool
     ensures done { λ r. ⌜ r ≡ roomFor (now (reply .entry)) ⌝ }
-    ensures reply { λ _. ⌜ now (reply .exit) ≡ ifRoom (now (reply .entry)) (replied (answerReply (referenceCall (load (givenIf timed (now (table .entry)))) (now (program .entry)) (now (words .entry)) budget)) (now (reply .entry))) (now (reply .entry)) ⌝ }
+    ensures reply { λ _. ⌜ now (reply .exit) ≡ ifRoom (now (reply .entry)) (replied (answerReply (referenceCall (load (beside (givenIf timed (now (table .entry))) procedures)) (now (program .entry)) (now (words .entry)) budget)) (now (reply .entry))) (now (reply .entry)) ⌝ }
 {
     if reply.len() < reply::LENGTH {
         return false;
     }
-    let options = program::tables::load_if(timed, table);
+    let options = hub::load_if(timed, table, procedures);
     let answer = hub::reference_run(options, program, words, budget);
     reply::put(reply, reply::of_answer(answer));
     true
@@ -186,18 +196,19 @@ pub extern "C" fn hub_reference(
 pub extern "C" fn hub_read_text(
     timed: bool,
     table: &[u8],
+    procedures: usize,
     source: &[u8],
     program: &mut [u8],
     reply: &mut [u8],
 ) -> bool
     ensures done { λ r. ⌜ r ≡ roomFor (now (reply .entry)) ⌝ }
-    ensures program { λ _. ⌜ now (program .exit) ≡ ifRoom (now (reply .entry)) (readTextCall (load (givenIf timed (now (table .entry)))) (now (source .entry)) (now (program .entry)) .lent) (now (program .entry)) ⌝ }
-    ensures reply { λ _. ⌜ now (reply .exit) ≡ ifRoom (now (reply .entry)) (replied (writtenReply (readTextCall (load (givenIf timed (now (table .entry)))) (now (source .entry)) (now (program .entry)) .answer)) (now (reply .entry))) (now (reply .entry)) ⌝ }
+    ensures program { λ _. ⌜ now (program .exit) ≡ ifRoom (now (reply .entry)) (readTextCall (load (beside (givenIf timed (now (table .entry))) procedures)) (now (source .entry)) (now (program .entry)) .lent) (now (program .entry)) ⌝ }
+    ensures reply { λ _. ⌜ now (reply .exit) ≡ ifRoom (now (reply .entry)) (replied (writtenReply (readTextCall (load (beside (givenIf timed (now (table .entry))) procedures)) (now (source .entry)) (now (program .entry)) .answer)) (now (reply .entry))) (now (reply .entry)) ⌝ }
 {
     if reply.len() < reply::LENGTH {
         return false;
     }
-    let options = program::tables::load_if(timed, table);
+    let options = hub::load_if(timed, table, procedures);
     let answer = hub::read_text(options, source, program);
     reply::put(reply, reply::of_written(answer));
     true
@@ -207,18 +218,19 @@ pub extern "C" fn hub_read_text(
 pub extern "C" fn hub_compile_text(
     timed: bool,
     table: &[u8],
+    procedures: usize,
     source: &[u8],
     file: &mut [u8],
     reply: &mut [u8],
 ) -> bool
     ensures done { λ r. ⌜ r ≡ roomFor (now (reply .entry)) ⌝ }
-    ensures file { λ _. ⌜ now (file .exit) ≡ ifRoom (now (reply .entry)) (compileTextCall (load (givenIf timed (now (table .entry)))) (now (source .entry)) (now (file .entry)) .lent) (now (file .entry)) ⌝ }
-    ensures reply { λ _. ⌜ now (reply .exit) ≡ ifRoom (now (reply .entry)) (replied (writtenReply (compileTextCall (load (givenIf timed (now (table .entry)))) (now (source .entry)) (now (file .entry)) .answer)) (now (reply .entry))) (now (reply .entry)) ⌝ }
+    ensures file { λ _. ⌜ now (file .exit) ≡ ifRoom (now (reply .entry)) (compileTextCall (load (beside (givenIf timed (now (table .entry))) procedures)) (now (source .entry)) (now (file .entry)) .lent) (now (file .entry)) ⌝ }
+    ensures reply { λ _. ⌜ now (reply .exit) ≡ ifRoom (now (reply .entry)) (replied (writtenReply (compileTextCall (load (beside (givenIf timed (now (table .entry))) procedures)) (now (source .entry)) (now (file .entry)) .answer)) (now (reply .entry))) (now (reply .entry)) ⌝ }
 {
     if reply.len() < reply::LENGTH {
         return false;
     }
-    let options = program::tables::load_if(timed, table);
+    let options = hub::load_if(timed, table, procedures);
     let answer = hub::compile_text(options, source, file);
     reply::put(reply, reply::of_written(answer));
     true
@@ -228,6 +240,7 @@ pub extern "C" fn hub_compile_text(
 pub extern "C" fn hub_run_text(
     timed: bool,
     table: &[u8],
+    procedures: usize,
     source: &[u8],
     words: &[u8],
     budget: u32,
@@ -236,14 +249,14 @@ pub extern "C" fn hub_run_text(
     reply: &mut [u8],
 ) -> bool
     ensures done { λ r. ⌜ r ≡ roomFor (now (reply .entry)) ⌝ }
-    ensures netlist { λ _. ⌜ now (netlist .exit) ≡ ifRoom (now (reply .entry)) (runTextCall (load (givenIf timed (now (table .entry)))) (now (source .entry)) (now (words .entry)) budget (now (netlist .entry)) (now (state .entry)) .netlist) (now (netlist .entry)) ⌝ }
-    ensures state { λ _. ⌜ now (state .exit) ≡ ifRoom (now (reply .entry)) (runTextCall (load (givenIf timed (now (table .entry)))) (now (source .entry)) (now (words .entry)) budget (now (netlist .entry)) (now (state .entry)) .state) (now (state .entry)) ⌝ }
-    ensures reply { λ _. ⌜ now (reply .exit) ≡ ifRoom (now (reply .entry)) (replied (answerReply (runTextCall (load (givenIf timed (now (table .entry)))) (now (source .entry)) (now (words .entry)) budget (now (netlist .entry)) (now (state .entry)) .answer)) (now (reply .entry))) (now (reply .entry)) ⌝ }
+    ensures netlist { λ _. ⌜ now (netlist .exit) ≡ ifRoom (now (reply .entry)) (runTextCall (load (beside (givenIf timed (now (table .entry))) procedures)) (now (source .entry)) (now (words .entry)) budget (now (netlist .entry)) (now (state .entry)) .netlist) (now (netlist .entry)) ⌝ }
+    ensures state { λ _. ⌜ now (state .exit) ≡ ifRoom (now (reply .entry)) (runTextCall (load (beside (givenIf timed (now (table .entry))) procedures)) (now (source .entry)) (now (words .entry)) budget (now (netlist .entry)) (now (state .entry)) .state) (now (state .entry)) ⌝ }
+    ensures reply { λ _. ⌜ now (reply .exit) ≡ ifRoom (now (reply .entry)) (replied (answerReply (runTextCall (load (beside (givenIf timed (now (table .entry))) procedures)) (now (source .entry)) (now (words .entry)) budget (now (netlist .entry)) (now (state .entry)) .answer)) (now (reply .entry))) (now (reply .entry)) ⌝ }
 {
     if reply.len() < reply::LENGTH {
         return false;
     }
-    let options = program::tables::load_if(timed, table);
+    let options = hub::load_if(timed, table, procedures);
     let answer = hub::run_text(options, source, words, budget, netlist, state);
     reply::put(reply, reply::of_answer(answer));
     true

@@ -12,7 +12,7 @@ use Rattle.model.specs.declared.Options.{Options}
 use Rattle.model.specs.declared.Checked.{Checked}
 use Rattle.model.specs.declared.Checked.the-variants.{Accepted, Refused}
 use Rattle.model.specs.Refusals.{refuse, first}
-use Rattle.model.specs.Program.{programOf}
+use Rattle.model.specs.ProgramChecks.{programWith}
 use Rattle.model.specs.Numbering.{netlist, finish}
 use Rattle.model.specs.NetlistFile.{cellsOf}
 use Rattle.model.specs.State.{stateSize}
@@ -27,8 +27,8 @@ use Rattle.laws.specs.NetlistFile.Compiled.{compiled-accepted}
 use Rattle.simulator.specs.Fits.{Runs}
 
 -- A netlist has few cells
-pub few-cells : (options : Options) (program : List ℕ) → checkCall options program ≡ Accepted → length (netlist (programOf program)) ≤ 627
-few-cells options program e = fits (programOf program) (few-nodes options program e) .1
+pub few-cells : (options : Options) (program : List ℕ) → checkCall options program ≡ Accepted → length (netlist (programWith options program)) ≤ 627
+few-cells options program e = fits (programWith options program) (few-nodes options program e) .1
 
 -- the part of a list that a result was written over
 pub part-is : (result lent after : List ℕ) (n : ℕ) → n ≡ length result → after ≡ overwrite result lent → take (n - 0) (drop 0 after) ≡ result
@@ -65,13 +65,13 @@ module _ (options : Options) (program words : List ℕ) (budget : ℕ) (file sta
       pub at-words : length words < 544 → refuse 14 0 ≡ verdict
       at-words l = rw (after-program, le-ltb 1000000 budget b, lt-ltb (length words) 544 l) refl
 
-      module _ (l : 544 ≤ length words) {n : ℕ} (count : n ≡ length (netlist (programOf program))) where
-        file-size : length (compiledFile program) ≡ 512 * ((n + 83) / 84)
-        file-size = file-length (netlist (programOf program)) (finish (programOf program)) ∙ ap (λ (n : ℕ). 512 * ((n + 83) / 84)) (sym count)
+      module _ (l : 544 ≤ length words) {n : ℕ} (count : n ≡ length (netlist (programWith options program))) where
+        file-size : length (compiledFile options program) ≡ 512 * ((n + 83) / 84)
+        file-size = file-length (netlist (programWith options program)) (finish (programWith options program)) ∙ ap (λ (n : ℕ). 512 * ((n + 83) / 84)) (sym count)
 
-        state-size : stateSize (cellsOf (compiledFile program)) ≡ 8 + 40 * n + 512
+        state-size : stateSize (cellsOf (compiledFile options program)) ≡ 8 + 40 * n + 512
         state-size =
-            ap stateSize (cells-written (netlist (programOf program)) (finish (programOf program)) (omega (arith, net-length (programOf program))))
+            ap stateSize (cells-written (netlist (programWith options program)) (finish (programWith options program)) (omega (arith, net-length (programWith options program))))
             ∙ ap (λ (n : ℕ). 8 + 40 * n + 512) (sym count)
 
         pub at-file : length file < 512 * ((n + 83) / 84) → refuse 14 0 ≡ verdict
@@ -95,8 +95,8 @@ module _ (options : Options) (program words : List ℕ) (budget : ℕ) (file sta
     pub accepted : checkCall options program ≡ Accepted
     pub few : budget ≤ 1000000
     pub start : 544 ≤ length words
-    pub fits : length (compiledFile program) ≤ length file
-    pub room : stateSize (cellsOf (compiledFile program)) ≤ length state
+    pub fits : length (compiledFile options program) ≤ length file
+    pub room : stateSize (cellsOf (compiledFile options program)) ≤ length state
 
   pub ready : verdict ≡ Accepted → Ready
   unfolding checkCall
@@ -106,11 +106,11 @@ module _ (options : Options) (program words : List ℕ) (budget : ℕ) (file sta
         accepted = accept-take 2 checks e;
         few = ltb-false 1000000 budget (refuse-unless (ltb 1000000 budget) 13 0 (a 2));
         start = long-enough (length words) 544 (a 3);
-        fits = long-enough (length file) (length (compiledFile program)) (a 4);
-        room = long-enough (length state) (stateSize (cellsOf (compiledFile program))) (a 5);
+        fits = long-enough (length file) (length (compiledFile options program)) (a 4);
+        room = long-enough (length state) (stateSize (cellsOf (compiledFile options program))) (a 5);
       }
 
-  pub runs : Bytes program → Ready → Runs (compiledFile program) state
+  pub runs : Bytes program → Ready → Runs (compiledFile options program) state
   runs bytes r = record { accepted = compiled-accepted options program bytes (r .accepted); room = r .room }
 
   -- What the call tells ------------------------------------------------------------------------------------------------------------------
@@ -120,7 +120,7 @@ module _ (options : Options) (program words : List ℕ) (budget : ℕ) (file sta
   refused-call e = rw e refl
 
   pub accepted-call : verdict ≡ Accepted →
-      let f = compiledFile program in
+      let f = compiledFile options program in
       let s = fullState f words budget state in
       runProgramCall options program words budget file state ≡ record { answer = shows f s (fullCount f words budget state); netlist = overwrite f file; state = s }
   unfolding runProgramCall running writing

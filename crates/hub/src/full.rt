@@ -15,7 +15,7 @@ use model::sizes::START_WORDS;
 use model::sizes::STATE_CELL;
 use model::sizes::STATE_HEADER;
 
-// Refusals 19 to 21, 1 to 8 and 22, 13, 14.
+// Refusals 19 to 21, 1 to 8, 22, 24 and 25, 13, 14.
 fn check(
     options: Options,
     program: &[u8],
@@ -56,9 +56,9 @@ fn run_accepted(
     state: &mut [u8],
 ) -> Answer
     requires { ⌜ first (runProgramChecks options (now program) (now words) budget (now netlist) (now state)) ≡ Accepted ⌝ }
-    ensures answer { λ r. ⌜ r ≡ shows (compiledFile (now (program .entry))) (fullState (compiledFile (now (program .entry))) (now (words .entry)) budget (now (state .entry))) (fullCount (compiledFile (now (program .entry))) (now (words .entry)) budget (now (state .entry))) ⌝ }
-    ensures netlist { λ _. ⌜ now (netlist .exit) ≡ overwrite (compiledFile (now (program .entry))) (now (netlist .entry)) ⌝ }
-    ensures state { λ _. ⌜ now (state .exit) ≡ fullState (compiledFile (now (program .entry))) (now (words .entry)) budget (now (state .entry)) ⌝ }
+    ensures answer { λ r. ⌜ r ≡ shows (compiledFile options (now (program .entry))) (fullState (compiledFile options (now (program .entry))) (now (words .entry)) budget (now (state .entry))) (fullCount (compiledFile options (now (program .entry))) (now (words .entry)) budget (now (state .entry))) ⌝ }
+    ensures netlist { λ _. ⌜ now (netlist .exit) ≡ overwrite (compiledFile options (now (program .entry))) (now (netlist .entry)) ⌝ }
+    ensures state { λ _. ⌜ now (state .exit) ≡ fullState (compiledFile options (now (program .entry))) (now (words .entry)) budget (now (state .entry)) ⌝ }
 {
     let length = compiler::compile_accepted(options, program, netlist);
     simulator::runs::full_run(&netlist[0..length], words, budget, state)

@@ -1,7 +1,7 @@
 // The public calls. None has a requires; each contract is one equation for the answer and one for each lent list at exit, with model/Calls.
-// A call that checks a program takes first what is given beside it: `defaults`, or what a file of operator times is loaded as.
+// A call that checks a program takes first what is given beside it: `defaults`, or what a table and a number of procedures are loaded as.
 ghost use mathlib.Core.Path.{_≡_};
-ghost use Rattle.model.specs.TimeTables.{given, load, defaults};
+ghost use Rattle.model.specs.TimeTables.{givenIf, beside, load, defaults};
 ghost use Rattle.model.specs.Calls.{checkCall, compileCall, writeCall, readCall, beginCall, continueCall, startCall, runNetlistCall, runProgramCall, referenceCall};
 ghost use Rattle.model.specs.TextCalls.{readTextCall, compileTextCall, runTextCall};
 
@@ -20,11 +20,12 @@ pub fn defaults() -> Options
     program::tables::defaults()
 }
 
-// What a file of operator times is loaded as: refusals 19 to 21, which the calls tell.
-pub fn load(table: &[u8]) -> Options
-    ensures { λ r. ⌜ r ≡ load (given (now (table .entry))) ⌝ }
+// What a table of operator times and a number of procedures are loaded as: refusals 19 to 21, which the calls tell; that a number above 8 is 1 they
+// find themselves. A flag tells whether a table is given; without one the built-in times serve.
+pub fn load_if(timed: bool, table: &[u8], procedures: usize) -> Options
+    ensures { λ r. ⌜ r ≡ load (beside (givenIf timed (now (table .entry))) procedures) ⌝ }
 {
-    program::tables::load(table)
+    program::tables::load_if(timed, table, procedures)
 }
 
 pub fn check(options: Options, program: &[u8]) -> Checked

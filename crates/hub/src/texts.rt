@@ -7,7 +7,7 @@ use model::Options;
 use model::Written;
 use model::sizes::PROGRAM_MOST;
 
-// Refusals 19 to 21, 17, 18, 1 to 8 and 22, 14.
+// Refusals 19 to 21, 17, 18, 1 to 8, 22, 24 and 25, 14.
 pub fn compile(options: Options, source: &[u8], file: &mut [u8]) -> Written
     ensures answer { λ r. ⌜ r ≡ compileTextCall options (now (source .entry)) (now (file .entry)) .answer ⌝ }
     ensures lent { λ _. ⌜ now (file .exit) ≡ compileTextCall options (now (source .entry)) (now (file .entry)) .lent ⌝ }
@@ -24,7 +24,7 @@ pub fn compile(options: Options, source: &[u8], file: &mut [u8]) -> Written
     }
 }
 
-// Refusals 19 to 21, 17, 18, 1 to 8 and 22, 13, 14.
+// Refusals 19 to 21, 17, 18, 1 to 8, 22, 24 and 25, 13, 14.
 pub fn run(
     options: Options,
     source: &[u8],

@@ -6,6 +6,8 @@ pub mod Grows
 pub mod Whole
 pub mod Passed
 pub mod Enclosed
+pub mod Inlined
 pub mod Accepted
+pub mod Admitted
 pub mod Size
 pub mod NodeBytes

@@ -1,6 +1,6 @@
 -- The public calls: from the lists that are lent, as they are at entry, to the answer and to the lists at exit. Contracts cite these.
 -- A refused call "changes no lent byte"; "Lent bytes past a result keep their values."
--- A call that checks a program takes a table of operator times, as it is loaded: 19 to 21 come first.
+-- A call that checks a program takes what is given beside it, as it is loaded: 19 to 21, of its table, come first.
 -- Assumes nothing: definitions.
 use mathlib.Core.Bool.{Bool, true, not, _||_}
 use mathlib.Core.List.{List, [], _∷_, _++_}
@@ -19,7 +19,8 @@ use Rattle.model.specs.declared.Answer.{Answer}
 use Rattle.model.specs.declared.Cell.{Cell}
 use Rattle.model.specs.Word.{pick, get16}
 use Rattle.model.specs.Refusals.{refuseIf, first}
-use Rattle.model.specs.Program.{checkOf, programOf}
+use Rattle.model.specs.Procedures.{meaning}
+use Rattle.model.specs.ProgramChecks.{programWith, checkOf}
 use Rattle.model.specs.Rules.{Store, Run, atEnd, atExit, done, still, run}
 use Rattle.model.specs.Circuit.{high}
 use Rattle.model.specs.Numbering.{netlist, finish}
@@ -53,29 +54,29 @@ short has needs = refuseIf (ltb has needs) 14 0
 
 -- Programs and netlist files -----------------------------------------------------------------------------------------------------------
 
--- checking: 19 to 21, 1 to 8 and 22
+-- checking: 19 to 21, 1 to 8, 22, 24 and 25
 unfoldable pub checkCall : Options → List ℕ → Checked
-checkCall options program = first (options .checked ∷ checkOf (options .times) program ∷ [])
+checkCall options program = first (options .checked ∷ checkOf options program ∷ [])
 
 -- a result of n bytes or cells is written over a lent list, unless a check refuses it
 unfoldable pub writing : Checked → List ℕ → ℕ → ℕ → List ℕ → Returned Written
 writing Accepted result n f lent = record { answer = Done n f; lent = overwrite result lent }
 writing (Checked.Refused r) result n f lent = record { answer = Written.Refused r; lent = lent }
 
--- compiling: 19 to 21, 1 to 8 and 22, 14
-abbrev pub compiledFile : List ℕ → List ℕ
-compiledFile program = fileOf (netlist (programOf program)) (finish (programOf program))
+-- compiling: 19 to 21, 1 to 8, 22, 24 and 25, 14
+abbrev pub compiledFile : Options → List ℕ → List ℕ
+compiledFile options program = fileOf (netlist (programWith options program)) (finish (programWith options program))
 
-abbrev pub netlistChecks : List ℕ → List ℕ → List ℕ → List Checked
-netlistChecks times program lent = checkOf times program ∷ short (length lent) (length (compiledFile program)) ∷ []
+abbrev pub netlistChecks : Options → List ℕ → List ℕ → List Checked
+netlistChecks options program lent = checkOf options program ∷ short (length lent) (length (compiledFile options program)) ∷ []
 
 abbrev pub compileChecks : Options → List ℕ → List ℕ → List Checked
-compileChecks options program lent = options .checked ∷ netlistChecks (options .times) program lent
+compileChecks options program lent = options .checked ∷ netlistChecks options program lent
 
 unfoldable pub compileCall : Options → List ℕ → List ℕ → Returned Written
 compileCall options program lent =
-    let file = compiledFile program in
-    writing (first (compileChecks options program lent)) file (length file) (finish (programOf program)) lent
+    let file = compiledFile options program in
+    writing (first (compileChecks options program lent)) file (length file) (finish (programWith options program)) lent
 
 -- writing a netlist, from cells of six bytes each and the finish: a broken cell at the end, a number of cells or a finish that no header
 -- could tell rightly is 11; then 12, 14
@@ -185,16 +186,16 @@ unfoldable pub runNetlistCall : List ℕ → List ℕ → ℕ → List ℕ → R
 runNetlistCall file words n lent =
     running (first (runNetlistChecks file words n lent)) file (fullState file words n lent) (fullCount file words n lent) lent
 
--- a full run of a program, with a list lent for its netlist and one for the state: 19 to 21, 1 to 8 and 22, 13, 14
+-- a full run of a program, with a list lent for its netlist and one for the state: 19 to 21, 1 to 8, 22, 24 and 25, 13, 14
 pub record ReturnedBoth : Type 0 where
   pub answer : Answer
   pub netlist : List ℕ
   pub state : List ℕ
 
-abbrev pub fullRunChecks : List ℕ → List ℕ → List ℕ → ℕ → List ℕ → List ℕ → List Checked
-fullRunChecks times program words n forFile lent =
-    let file = compiledFile program in
-    checkOf times program
+abbrev pub fullRunChecks : Options → List ℕ → List ℕ → ℕ → List ℕ → List ℕ → List Checked
+fullRunChecks options program words n forFile lent =
+    let file = compiledFile options program in
+    checkOf options program
     ∷ overBudget n
     ∷ short (length words) 544
     ∷ short (length forFile) (length file)
@@ -202,11 +203,11 @@ fullRunChecks times program words n forFile lent =
     ∷ []
 
 abbrev pub runProgramChecks : Options → List ℕ → List ℕ → ℕ → List ℕ → List ℕ → List Checked
-runProgramChecks options program words n forFile lent = options .checked ∷ fullRunChecks (options .times) program words n forFile lent
+runProgramChecks options program words n forFile lent = options .checked ∷ fullRunChecks options program words n forFile lent
 
 unfoldable pub runProgramCall : Options → List ℕ → List ℕ → ℕ → List ℕ → List ℕ → ReturnedBoth
 runProgramCall options program words n forFile lent =
-    let file = compiledFile program in
+    let file = compiledFile options program in
     let c = first (runProgramChecks options program words n forFile lent) in
     let r = running c file (fullState file words n lent) (fullCount file words n lent) lent in
     record { answer = r .answer; netlist = writing c file (length file) 0 forFile .lent; state = r .lent }
@@ -230,10 +231,10 @@ unfoldable pub answering : Checked → Answer → Answer
 answering Accepted a = a
 answering (Checked.Refused r) a = refusedAnswer r
 
--- a reference run: 19 to 21, 1 to 8 and 22, 13, 14
+-- a reference run: 19 to 21, 1 to 8, 22, 24 and 25, 13, 14
 abbrev pub referenceChecks : Options → List ℕ → List ℕ → ℕ → List Checked
-referenceChecks options program words n = options .checked ∷ checkOf (options .times) program ∷ overBudget n ∷ short (length words) 544 ∷ []
+referenceChecks options program words n = options .checked ∷ checkOf options program ∷ overBudget n ∷ short (length words) 544 ∷ []
 
 unfoldable pub referenceCall : Options → List ℕ → List ℕ → ℕ → Answer
 referenceCall options program words n =
-    answering (first (referenceChecks options program words n)) (referenceAnswer n (run n (programOf program) (wordAt words)))
+    answering (first (referenceChecks options program words n)) (referenceAnswer n (run n (meaning (programWith options program)) (wordAt words)))

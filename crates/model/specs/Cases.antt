@@ -1,4 +1,4 @@
--- The paper's cases 1 to 12, but for the two runs that stay open, and rows of our own on arrays: rows of one table. The rows by the rules
+-- The paper's cases 1 to 12, but for the two runs that stay open, and rows of our own on arrays and on a call: rows of one table. The rows by the rules
 -- alone are proved here, by computation; that every row holds on the circuit too is `cases-hold` in theory/Promises/Cases, through the theorem
 -- that full run and rules agree, because a state of forty bytes for each cell is too long to be computed here. Assumes nothing.
 use mathlib.Core.Path.{_≡_, refl}
@@ -15,11 +15,13 @@ use Rattle.model.specs.declared.Written.the-variants.{Done}
 use Rattle.model.specs.declared.Answer.{Answer}
 use Rattle.model.specs.Word.{bit, operate, elementWord, get16, bytes16}
 use Rattle.model.specs.Refusals.{refuse, firstFault}
-use Rattle.model.specs.Program.{programOf, nodeAt, nodesFrom, nodeBytes, rowOf, asExpr, asStmt, exprOf, stmtOf, treeOf, grow, forest, treesAt, exprAt, stmtAt, preorderE, preorder, time, builtInTimes, least, reads, writes, touches, conflict, conflicts, programLengthWrong, unusedSet, absent, nodeFault, children, reading, looseIn, delayFault, conflictFault, checkOf}
+use Rattle.model.specs.Program.{programOf, nodeAt, nodesFrom, nodeBytes, rowOf, asExpr, asStmt, exprOf, stmtOf, treeOf, grow, forest, treesAt, exprAt, stmtAt, preorderE, preorder, time, builtInTimes, least, reads, writes, touches}
+use Rattle.model.specs.Procedures.{table, inline, inlined, meaning, reaches, reached}
+use Rattle.model.specs.ProgramChecks.{programLengthWrong, tooManyProcedures, unusedSet, absent, nodeFault, children, reading, searched, inRoots, delayFault, shared, shares, sharedFault, conflict, conflicts, conflictFault, checkOf}
 use Rattle.model.specs.Rules.{owner, eval, put, over, kept, after, wait, chain, both, whiles, repeats, run}
 use Rattle.model.specs.Numbering.{netlist, finish}
 use Rattle.model.specs.NetlistFile.{blocksFor, cellsOf}
-use Rattle.model.specs.TimeTables.{load, defaults}
+use Rattle.model.specs.TimeTables.{verdictOf, timesOf, load, defaults}
 use Rattle.model.specs.Calls.{writtenVerdict, checkCall, compileCall, runProgramCall, refusedAnswer, listed, referenceAnswer, answering, referenceCall}
 use Rattle.model.specs.Ascii.{ascii}
 use Rattle.model.specs.Hubrun.{digits, line, linesOf, textOf, hubrunText}
@@ -38,7 +40,7 @@ repeated (suc n) s = s ++ repeated n s
 
 -- whoever unfolds this unfolds all that a program is checked by
 unfoldable pub checkOfProgram : List ℕ → Checked
-unfolding get16 firstFault nodeAt nodesFrom rowOf asExpr asStmt exprOf stmtOf treeOf grow forest treesAt exprAt stmtAt time builtInTimes least reads writes touches conflict conflicts programLengthWrong unusedSet absent nodeFault children reading looseIn delayFault conflictFault checkOf load checkCall repeated nodeBytes bytes16 preorderE preorder
+unfolding get16 firstFault nodeAt nodesFrom rowOf asExpr asStmt exprOf stmtOf treeOf grow forest treesAt exprAt stmtAt time builtInTimes least reads writes touches table inline inlined meaning reaches reached programLengthWrong tooManyProcedures unusedSet absent nodeFault children reading searched inRoots delayFault shared shares sharedFault conflict conflicts conflictFault checkOf programOf verdictOf timesOf load checkCall repeated nodeBytes bytes16 preorderE preorder
 checkOfProgram s = checkCall defaults s
 
 -- x0 := x0 + n, and x0 := x0 − 1 with d 17
@@ -88,6 +90,7 @@ cases =
     ∷ refuses (raw 24 1 4 ++ raw 1 0 0 ++ raw 1 0 0) 4 0  -- array 4
     ∷ refuses (raw 24 3 0 ++ raw 1 0 0 ++ raw 10 0 0 ++ raw 1 0 0) 7 0  -- a0[0] := a0[0], d 3
     ∷ refuses (raw 20 0 0 ++ raw 24 1 0 ++ raw 1 0 0 ++ raw 1 0 1 ++ raw 18 4 0 ++ raw 10 0 0 ++ raw 1 0 1) 8 0  -- a0[0] := 1 || x0 := a0[1]
+    ∷ refuses (raw 27 1 0) 24 0  -- a call, where no procedures are given
     ∷ []
 
 -- the sixteen start words with word 0 given, all 272, hubrun's input, and what a run that ends answers
@@ -113,7 +116,7 @@ pub data Result : Type 0 where
 unfoldable pub computed : Case → Result
 computed (ends p v n t w) = ran (checkCall defaults p) (referenceCall defaults p (start v) n)
 computed (refuses p k i) = ran (checkCall defaults p) (referenceCall defaults p (start 0) 100)
-computed (compiles p n f) = numbered (checkCall defaults p) (length (netlist (programOf p))) (finish (programOf p))
+computed (compiles p n f) = numbered (checkCall defaults p) (length (netlist (programOf 0 p))) (finish (programOf 0 p))
 computed (prints p v n text) =
     let a = referenceCall defaults p (start v) n in
     printed (checkCall defaults p) (a .outcome) (textOf a)

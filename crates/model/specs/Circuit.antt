@@ -28,7 +28,7 @@ cellAt net k = getD net k noCell
 
 -- what a kind's number makes a cell do; kUnknown is for the numbers that are no kind
 pub data Shape : Type 0 where
-  kConstant kComplement kOperator kStart kGround kDelay kOr kWhenTrue kWhenFalse kMerge kMemory kGated kArray kAddress kRead kUnknown : Shape
+  kConstant kComplement kOperator kStart kGround kDelay kOr kWhenTrue kWhenFalse kMerge kReturn kMemory kGated kArray kAddress kRead kUnknown : Shape
 
 -- the kinds of a shape, from the first number to the last, and their row
 pub record CellKinds : Type 0 where
@@ -43,9 +43,9 @@ abbrev line : ℕ → ℕ → CellRow → CellKinds
 line first last r = record { first = first; last = last; row = r }
 
 -- the numbers of the kinds, whether they are control wires, and what delay, a and b are. "Kinds 32 to 38 are control wires (0 or 1), the others
--- word wires." "fields without a use are zero". "34 delay, d from 1 to 255". "All inputs name lower cells, except a delay's a and a memory's b,
--- which may name any cell of the right sort." "b of 42 and a of 43 may name any cell of the right sort". "Every read is a kind 44 (a the 42, b the
--- index)". Which array a 42's delay is goes by its place. kUnknown has no numbers.
+-- word wires", but for "control kind 39". "fields without a use are zero". "34 delay, d from 1 to 255". "All inputs name lower cells, except a
+-- delay's a and a memory's b, which may name any cell of the right sort." "b of 42 and a of 43 may name any cell of the right sort". "Every read is
+-- a kind 44 (a the 42, b the index)". Which array a 42's delay is goes by its place. kUnknown has no numbers.
 unfoldable pub cellTable : Shape → CellKinds
 cellTable kConstant = line 1 1 (row false Unused Value Unused)
 cellTable kComplement = line 3 3 (row false Unused WordBelow Unused)
@@ -57,6 +57,7 @@ cellTable kOr = line 35 35 (row true Unused ControlBelow ControlBelow)
 cellTable kWhenTrue = line 36 36 (row true Unused ControlBelow WordBelow)
 cellTable kWhenFalse = line 37 37 (row true Unused ControlBelow WordBelow)
 cellTable kMerge = line 38 38 (row true Unused ControlBelow ControlBelow)
+cellTable kReturn = line 39 39 (row true Unused ControlBelow ControlBelow)
 cellTable kMemory = line 40 40 (row false Unused ControlBelow WordAny)
 cellTable kGated = line 41 41 (row false Unused ControlBelow WordBelow)
 cellTable kArray = line 42 42 (row false Value ControlBelow WordAny)
@@ -66,8 +67,8 @@ cellTable kUnknown = line 1 0 (row false Unknown Unknown Unknown)
 
 abbrev pub shapes : List Shape
 shapes =
-    kConstant ∷ kComplement ∷ kOperator ∷ kStart ∷ kGround ∷ kDelay ∷ kOr ∷ kWhenTrue ∷ kWhenFalse ∷ kMerge ∷ kMemory ∷ kGated
-    ∷ kArray ∷ kAddress ∷ kRead ∷ []
+    kConstant ∷ kComplement ∷ kOperator ∷ kStart ∷ kGround ∷ kDelay ∷ kOr ∷ kWhenTrue ∷ kWhenFalse ∷ kMerge ∷ kReturn ∷ kMemory
+    ∷ kGated ∷ kArray ∷ kAddress ∷ kRead ∷ []
 
 abbrev pub hasKind : Shape → ℕ → Bool
 hasKind sh k = leb (cellTable sh .first) k && leb k (cellTable sh .last)
@@ -122,13 +123,32 @@ mergeStep m a b =
     let out = A && B in
     record { held = record { a = A && not out; b = B && not out }; out = out }
 
--- "Both are 0 before instant 0.": what a merge of a and b holds before instant t
-unfoldable pub heldBefore : Sig → Sig → ℕ → Merge
-heldBefore a b zero = record { a = false; b = false }
-heldBefore a b (suc t) = mergeStep (heldBefore a b t) (a t) (b t) .held
+-- "a one-then-two merge, control kind 39 (a its delay, b the body's finish): it holds a, puts out 1 when b comes in the same instant or later, and
+-- clears.": it holds no b
+unfoldable pub returnStep : Merge → Bool → Bool → Merged
+returnStep m a b =
+    let waits = a || m .a in
+    let out = waits && b in
+    record { held = record { a = waits && not out; b = false }; out = out }
 
-unfoldable pub merged : Sig → Sig → Sig
-merged a b t = mergeStep (heldBefore a b t) (a t) (b t) .out
+-- what a merge of either kind does in an instant
+abbrev pub Step : Type 0
+Step = Merge → Bool → Bool → Merged
+
+-- "Both are 0 before instant 0.": what a merge of a and b holds before instant t
+unfoldable pub heldBefore : Step → Sig → Sig → ℕ → Merge
+heldBefore step a b zero = record { a = false; b = false }
+heldBefore step a b (suc t) = step (heldBefore step a b t) (a t) (b t) .held
+
+unfoldable pub merged : Step → Sig → Sig → Sig
+merged step a b t = step (heldBefore step a b t) (a t) (b t) .out
+
+-- whether kind k is a merge, and what it does
+unfoldable pub merges : ℕ → Bool
+merges k = eqb k 38 || eqb k 39
+
+unfoldable pub stepOf : ℕ → Step
+stepOf k = pick (eqb k 39) returnStep mergeStep
 
 -- The equations ------------------------------------------------------------------------------------------------------------------------
 
@@ -181,7 +201,8 @@ equation kDelay starts word₀ E W k c t = bit (delayed (c .delay) (level W (c .
 equation kOr starts word₀ E W k c t = bit (level W (c .a) t || level W (c .b) t)
 equation kWhenTrue starts word₀ E W k c t = bit (level W (c .a) t && not (isZero (W (c .b) t)))
 equation kWhenFalse starts word₀ E W k c t = bit (level W (c .a) t && isZero (W (c .b) t))
-equation kMerge starts word₀ E W k c t = bit (merged (level W (c .a)) (level W (c .b)) t)
+equation kMerge starts word₀ E W k c t = bit (merged mergeStep (level W (c .a)) (level W (c .b)) t)
+equation kReturn starts word₀ E W k c t = bit (merged returnStep (level W (c .a)) (level W (c .b)) t)
 equation kMemory starts word₀ E W k c t = memory word₀ W k c t
 equation kGated starts word₀ E W k c t = pick (level W (c .a) t) (W (c .b) t) 0
 equation kArray starts word₀ E W k c t = 0

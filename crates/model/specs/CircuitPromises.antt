@@ -12,12 +12,12 @@ use Rattle.model.specs.declared.Merge.{Merge}
 use Rattle.model.specs.declared.Checked.the-variants.{Accepted}
 use Rattle.model.specs.declared.Written.the-variants.{Done}
 use Rattle.model.specs.Word.{bit}
-use Rattle.model.specs.Program.{programOf}
+use Rattle.model.specs.Program.{Program, programOf}
 use Rattle.model.specs.Rules.{Store}
-use Rattle.model.specs.Circuit.{cellAt, control, Sig, Values, level, element, arrayAt, Obeys, delayed, heldBefore, shape, kDelay, kMerge}
+use Rattle.model.specs.Circuit.{cellAt, control, Sig, Values, level, element, arrayAt, Obeys, delayed, heldBefore, merges, stepOf, shape, kDelay}
 use Rattle.model.specs.Numbering.{netlist, finish}
 use Rattle.model.specs.NetlistFile.{fileCheck, cellsOf, finishOf}
-use Rattle.model.specs.TimeTables.{TimeTable, load}
+use Rattle.model.specs.TimeTables.{load, Given}
 use Rattle.model.specs.State.{stateSize, instantOf, flightOf, nowAt, beforeAt, heldAt, lineBit, flightIn, flight, elementNow, beginState, stepState, lastState, evaluated, sound}
 use Rattle.model.specs.Calls.{overwrite, compileCall, writeCall, readCall, wordAt}
 use Rattle.model.specs.Word.{Bytes}
@@ -26,10 +26,10 @@ use Rattle.model.specs.Word.{Bytes}
 -- allow; a netlist file read back is the netlist that was written, and no other file is accepted."
 
 -- what compiling wrote is a file that is accepted, and its cells are the published ones
-pub record Published (program file : List ℕ) (f : ℕ) : Type 0 where
+pub record Published (S : Program) (file : List ℕ) (f : ℕ) : Type 0 where
   pub accepted : fileCheck file ≡ Accepted
-  pub cells : cellsOf file ≡ netlist (programOf program)
-  pub finishes : (f ≡ finish (programOf program)) × (finishOf file ≡ f)
+  pub cells : cellsOf file ≡ netlist S
+  pub finishes : (f ≡ finish S) × (finishOf file ≡ f)
 
 -- Reading what was written gives the cells and the finish; writing what was read gives the file.
 pub record SameFile : Type 0 where
@@ -55,7 +55,7 @@ abbrev pub lineOf : List Cell → Values → ℕ → ℕ → ℕ → ℕ
 lineOf net W t k i = bit (delayed i (level W (cellAt net k .a)) t)
 
 abbrev pub heldOf : List Cell → Values → ℕ → ℕ → Merge
-heldOf net W t k = heldBefore (level W (cellAt net k .a)) (level W (cellAt net k .b)) (suc t)
+heldOf net W t k = heldBefore (stepOf (cellAt net k .kind)) (level W (cellAt net k .a)) (level W (cellAt net k .b)) (suc t)
 
 -- state s holds, of the values W from these start words, those of instant t
 pub record Holds (net : List Cell) (words : Store) (W : Values) (t : ℕ) (s : List ℕ) : Type 0 where
@@ -63,7 +63,7 @@ pub record Holds (net : List Cell) (words : Store) (W : Values) (t : ℕ) (s : L
   pub number : flightOf s ≡ flightIn (lineOf net W t) (heldOf net W t) net 0
   pub present : (k : ℕ) → k < length net → nowAt s k ≡ W k t
   pub past : (k : ℕ) → k < length net → beforeAt s k ≡ earlier W k t
-  pub held : (k : ℕ) → k < length net → shape (cellAt net k .kind) ≡ kMerge → heldAt s k ≡ heldOf net W t k
+  pub held : (k : ℕ) → k < length net → merges (cellAt net k .kind) ≡ true → heldAt s k ≡ heldOf net W t k
   pub lines : (k : ℕ) → k < length net → shape (cellAt net k .kind) ≡ kDelay → (i : ℕ) → i < 256 → lineBit s k i ≡ lineOf net W t k i
   pub elements : (k i : ℕ) → k < 4 → i < 64 → elementNow net s (64 * k + i) ≡ element net words W (arrayAt net k) i t
   pub proper : sound net s ≡ true
@@ -72,7 +72,7 @@ pub record Holds (net : List Cell) (words : Store) (W : Values) (t : ℕ) (s : L
 pub record Idle (net : List Cell) (W : Values) (t : ℕ) : Type 0 where
   pub delays : (k : ℕ) → k < length net → shape (cellAt net k .kind) ≡ kDelay
       → (i : ℕ) → i < cellAt net k .delay → delayed i (level W (cellAt net k .a)) t ≡ false
-  pub merges : (k : ℕ) → k < length net → shape (cellAt net k .kind) ≡ kMerge → heldOf net W t k ≡ record { a = false; b = false }
+  pub held : (k : ℕ) → k < length net → merges (cellAt net k .kind) ≡ true → heldOf net W t k ≡ record { a = false; b = false }
 
 -- "A continuing by N from instant t stops at s, the first instant after t and not above t + N where a finish is due, or at t + N if there
 -- is none"
@@ -102,8 +102,8 @@ pub record OneRun (net : List Cell) (starts : Sig) (words : Store) : Type 0 wher
   pub controls : (k : ℕ) → k < length net → control (cellAt net k .kind) ≡ true → (t : ℕ) → values k t ≤ 1
 
 pub record Demand2 : Type 0 where
-  pub compiled : (T : TimeTable) (program lent : List ℕ) (n f : ℕ) → Bytes program → compileCall (load T) program lent .answer ≡ Done n f
-      → Published program (take n (compileCall (load T) program lent .lent)) f
+  pub compiled : (G : Given) (program lent : List ℕ) (n f : ℕ) → Bytes program → compileCall (load G) program lent .answer ≡ Done n f
+      → Published (programOf (G .procedures) program) (take n (compileCall (load G) program lent .lent)) f
   pub files : SameFile
   pub runs : (file : List ℕ) (starts : Sig) (words : Store) → starts 0 ≡ true → fileCheck file ≡ Accepted → OneRun (cellsOf file) starts words
   -- "each call keeps it true", from whatever state

@@ -49,7 +49,8 @@ abbrev pub textOf : Answer → List ℕ
 textOf a = linesOf (a .outcome) (a .instant) (a .words)
 
 -- "reads 32 bytes of start words, a four-byte budget and a program"; "Input under 36 bytes is refusal 1, place 0." Its own buffers have
--- room for every netlist and state, and its operator times are the built-in ones. It starts the elements "at 0, unprinted".
+-- room for every netlist and state, its operator times are the built-in ones, and it is given no procedures. It starts the elements "at 0,
+-- unprinted".
 unfoldable pub hubrunText : List ℕ → List ℕ
 hubrunText input =
     pick (ltb (length input) 36) (textOf (refusedAnswer (record { number = 1; place = 0 })))

@@ -2,7 +2,10 @@ pub mod Word
 pub mod Ascii
 pub mod Refusals
 pub mod Program
+pub mod Procedures
+pub mod ProgramChecks
 pub mod Rules
+pub mod Calling
 pub mod Circuit
 pub mod Numbering
 pub mod NetlistFile

@@ -1,23 +1,24 @@
 -- Netlists written out by hand from the papers' text, each with its finish: rows of one table, and one theorem that the numbering gives them.
 -- Every kind of statement, an if with delay 0, a variable with three assignments, two variables with ors, complement;
--- an array with two element assignments; loops with two exits, with one and with none.
+-- an array with two element assignments; loops with two exits, with one and with none; a procedure with two callers, one with one and one that is
+-- never called.
 -- Assumes nothing.
 use mathlib.Core.Path.{_≡_, refl}
 use mathlib.Core.List.{List, [], _∷_, map}
 use Prim.Native.Nat.{ℕ, zero, suc, _+_}
 use Rattle.model.specs.declared.Cell.{Cell}
-use Rattle.model.specs.Program.{const, var, compl, op, elem, Stmt, ok, tick, assign, assignElem, seq, par, ite, while, repeat, loop, exit}
+use Rattle.model.specs.Program.{const, var, compl, op, elem, Program, alone, ok, tick, assign, assignElem, seq, par, ite, while, repeat, loop, exit, call}
 use Rattle.model.specs.Circuit.{cell}
-use Rattle.model.specs.Numbering.{netlist, finish, exprCount, exprWire, exprCells, ifDelayCount, ifPulse, ifDelayCells, delayCount, exitCount, walkCount, finishWire, exitWires, delays, walk, clockSources, dataSources, addressSources, wiresOf, orChain, orChainOut, ors, orsOut, orCount, orsFrom, outsFrom, orCountFrom, memoriesOf, arraysOf}
+use Rattle.model.specs.Numbering.{netlist, finish, exprCount, exprWire, exprCells, ifDelayCount, ifPulse, ifDelayCells, delayCount, exitCount, walkCount, finishWire, exitWires, delays, walk, clockSources, dataSources, addressSources, callSources, wiresOf, orChain, orChainOut, ors, orsOut, orCount, orsFrom, outsFrom, orCountFrom, memoriesOf, arraysOf, rootDelayCount, rootWalkCount, rootFinishes, rootDelays, rootWalks, rootSources, rootWalkSources, finishOfRoot}
 
 -- whoever unfolds this unfolds all that a netlist is made by
-unfoldable pub numbering : Stmt → List Cell
-unfolding netlist finish exprCount exprWire exprCells ifDelayCount ifPulse ifDelayCells delayCount exitCount walkCount finishWire exitWires delays walk clockSources dataSources addressSources wiresOf orChain orChainOut ors orsOut orCount orsFrom outsFrom orCountFrom memoriesOf arraysOf
-numbering P = netlist P
+unfoldable pub numbering : Program → List Cell
+unfolding netlist finish exprCount exprWire exprCells ifDelayCount ifPulse ifDelayCells delayCount exitCount walkCount finishWire exitWires delays walk clockSources dataSources addressSources callSources wiresOf orChain orChainOut ors orsOut orCount orsFrom outsFrom orCountFrom memoriesOf arraysOf rootDelayCount rootWalkCount rootFinishes rootDelays rootWalks rootSources rootWalkSources finishOfRoot
+numbering S = netlist S
 
--- a statement, and its netlist and finish drawn by hand
+-- a program, and its netlist and finish drawn by hand
 record Drawn : Type 0 where
-  program : Stmt
+  program : Program
   cells : List Cell
   end : ℕ
 
@@ -43,13 +44,13 @@ arrays l = idleArrays 0 4 l
 
 -- Case 1, ok: the 27 cells that every netlist has; the finish is the start.
 case1 : Drawn
-case1 = record { program = ok; cells = front (idle 16 (arrays [])); end = 0 }
+case1 = record { program = alone ok; cells = front (idle 16 (arrays [])); end = 0 }
 
 -- Case 2, x0 := 5, d 1. Delays 3 and 4; memories 5 to 20; 29 constant 5, 30 the 41 on 3.
 case2 : Drawn
 case2 =
     record {
-      program = assign 1 0 (const 5);
+      program = alone (assign 1 0 (const 5));
       cells = front (cell 34 1 0 0 ∷ cell 34 1 3 0 ∷ cell 40 0 3 30 ∷ idle 15 (arrays (cell 1 0 5 0 ∷ cell 41 0 3 29 ∷ [])));
       end = 4;
     }
@@ -59,7 +60,7 @@ case2 =
 case3 : Drawn
 case3 =
     record {
-      program = seq (assign 16 0 (op 4 (var 0) (const 3))) (assign 16 0 (op 4 (var 0) (const 4)));
+      program = alone (seq (assign 16 0 (op 4 (var 0) (const 3))) (assign 16 0 (op 4 (var 0) (const 4))));
       cells =
           front
           (cell 34 16 0 0 ∷ cell 34 1 3 0 ∷ cell 34 16 4 0 ∷ cell 34 1 5 0
@@ -75,7 +76,7 @@ case3 =
 case4 : Drawn
 case4 =
     record {
-      program = par (tick 3) (tick 5);
+      program = alone (par (tick 3) (tick 5));
       cells = front (cell 34 3 0 0 ∷ cell 34 5 0 0 ∷ idle 16 (arrays (cell 38 0 3 4 ∷ [])));
       end = 29;
     }
@@ -86,7 +87,7 @@ case4 =
 case6 : Drawn
 case6 =
     record {
-      program = while 1 (var 0) (assign 17 0 (op 5 (var 0) (const 1)));
+      program = alone (while 1 (var 0) (assign 17 0 (op 5 (var 0) (const 1))));
       cells =
           front
           (cell 34 1 35 0 ∷ cell 34 17 30 0 ∷ cell 34 1 4 0
@@ -103,7 +104,7 @@ case6 =
 case7 : Drawn
 case7 =
     record {
-      program = repeat 6 (op 8 (var 0) (const 0)) (assign 17 0 (op 5 (var 0) (const 1)));
+      program = alone (repeat 6 (op 8 (var 0) (const 0)) (assign 17 0 (op 5 (var 0) (const 1))));
       cells =
           front
           (cell 34 6 5 0 ∷ cell 34 17 34 0 ∷ cell 34 1 4 0
@@ -119,7 +120,7 @@ case7 =
 case8 : Drawn
 case8 =
     record {
-      program = ite 0 (var 0) (tick 1) (tick 9);
+      program = alone (ite 0 (var 0) (tick 1) (tick 9));
       cells = front (cell 34 1 29 0 ∷ cell 34 9 30 0 ∷ idle 16 (arrays (cell 36 0 0 5 ∷ cell 37 0 0 5 ∷ cell 35 0 3 4 ∷ [])));
       end = 31;
     }
@@ -130,7 +131,7 @@ case8 =
 case12 : Drawn
 case12 =
     record {
-      program = while 1 (var 0) (par (assign 17 0 (op 5 (var 0) (const 1))) (tick 2));
+      program = alone (while 1 (var 0) (par (assign 17 0 (op 5 (var 0) (const 1))) (tick 2)));
       cells =
           front
           (cell 34 1 37 0 ∷ cell 34 17 31 0 ∷ cell 34 1 4 0 ∷ cell 34 2 31 0
@@ -152,9 +153,10 @@ mixed : Drawn
 mixed =
     record {
       program =
-          seq (assign 2 1 (const 7))
+          alone
+          (seq (assign 2 1 (const 7))
           (seq (ite 4 (compl (var 2)) (assign 2 3 (const 8)) (assign 2 1 (const 9)))
-          (seq (assign 2 1 (const 10)) (assign 2 3 (const 11))));
+          (seq (assign 2 1 (const 10)) (assign 2 3 (const 11)))));
       cells =
           front
           (cell 34 2 0 0 ∷ cell 34 1 3 0
@@ -184,7 +186,8 @@ elements : Drawn
 elements =
     record {
       program =
-          seq (assign 4 1 (elem 2 (var 0))) (seq (assignElem 1 2 (var 1) (const 7)) (assignElem 4 2 (const 5) (elem 0 (var 1))));
+          alone
+          (seq (assign 4 1 (elem 2 (var 0))) (seq (assignElem 1 2 (var 1) (const 7)) (assignElem 4 2 (const 5) (elem 0 (var 1)))));
       cells =
           front
           (cell 34 4 0 0 ∷ cell 34 1 3 0 ∷ cell 34 1 4 0 ∷ cell 34 1 5 0 ∷ cell 34 4 6 0 ∷ cell 34 1 7 0
@@ -205,7 +208,7 @@ elements =
 polling : Drawn
 polling =
     record {
-      program = loop 2 (seq (ite 0 (var 0) exit (tick 4)) (ite 1 (var 1) exit ok));
+      program = alone (loop 2 (seq (ite 0 (var 0) exit (tick 4)) (ite 1 (var 1) exit ok)));
       cells =
           front
           (cell 34 2 36 0 ∷ cell 34 4 32 0 ∷ cell 34 1 33 0 ∷ idle 16
@@ -222,15 +225,41 @@ polling =
 endless : Drawn
 endless =
     record {
-      program = loop 3 (loop 1 (seq (tick 2) exit));
+      program = alone (loop 3 (loop 1 (seq (tick 2) exit)));
       cells =
           front
           (cell 34 3 5 0 ∷ cell 34 1 1 0 ∷ cell 34 2 31 0 ∷ idle 16 (arrays (cell 35 0 0 3 ∷ cell 35 0 30 4 ∷ [])));
       end = 1;
     }
 
+-- Procedure 0 is x0 := x0 + 1 (d 16) with two callers, procedure 1 is ok and is never called, procedure 2 is call 0 (d 1); tick 2. The main program is
+-- call 2 (d 3); call 0 (d 5).
+-- Delays: 3 4 of procedure 0; 5 of procedure 2's call, fed by its start 7; 6 of its tick, fed by its 39, 37; 7 of the main program's first call, fed by
+-- start, 8 of its second, fed by the 39 of the first, 38. No clock ors. Memories 9 to 24. Arrays 25 to 32.
+-- Walk: procedure 0: 33 the 35 of its callers' delays 5 and 8, which feeds 3; 34 constant 1, 35 sum of x0 (9) and 34, 36 the 41 on 3. Procedure 1 has no
+-- cells: its start and its finish are ground. Procedure 2 starts with 7: 37 the 39 of 5 and 4, procedure 0's finish, feeds 6. Main: 38 the 39 of 7
+-- and 6, procedure 2's finish, feeds 8; 39 the 39 of 8 and 4, the finish.
+procedures : Drawn
+procedures =
+    record {
+      program = record {
+        bodies = assign 16 0 (op 4 (var 0) (const 1)) ∷ ok ∷ seq (call 1 0) (tick 2) ∷ [];
+        main = seq (call 3 2) (call 5 0);
+      };
+      cells =
+          front
+          (cell 34 16 33 0 ∷ cell 34 1 3 0
+          ∷ cell 34 1 7 0 ∷ cell 34 2 37 0
+          ∷ cell 34 3 0 0 ∷ cell 34 5 38 0
+          ∷ cell 40 0 3 36 ∷ idle 15
+          (arrays (cell 35 0 5 8 ∷ cell 1 0 1 0 ∷ cell 4 0 9 34 ∷ cell 41 0 3 35
+          ∷ cell 39 0 5 4
+          ∷ cell 39 0 7 6 ∷ cell 39 0 8 4 ∷ [])));
+      end = 39;
+    }
+
 drawings : List Drawn
-drawings = case1 ∷ case2 ∷ case3 ∷ case4 ∷ case6 ∷ case7 ∷ case8 ∷ case12 ∷ mixed ∷ elements ∷ polling ∷ endless ∷ []
+drawings = case1 ∷ case2 ∷ case3 ∷ case4 ∷ case6 ∷ case7 ∷ case8 ∷ case12 ∷ mixed ∷ elements ∷ polling ∷ endless ∷ procedures ∷ []
 
 abbrev given : Drawn → List Cell × ℕ
 given d = (netlist (d .program), finish (d .program))
@@ -239,5 +268,5 @@ abbrev drawing : Drawn → List Cell × ℕ
 drawing d = (d .cells, d .end)
 
 drawings-right : map given drawings ≡ map drawing drawings
-unfolding drawings case1 case2 case3 case4 case6 case7 case8 case12 mixed elements polling endless numbering
+unfolding drawings case1 case2 case3 case4 case6 case7 case8 case12 mixed elements polling endless procedures numbering
 drawings-right = refl

@@ -1,4 +1,4 @@
--- The numbering: the netlist of a statement, cell for cell, as paper 01's "Numbering" and "The walk" publish it.
+-- The numbering: the netlist of a program, cell for cell, as paper 01's "Numbering" and "The walk" publish it.
 -- Counts, finish wires, delay cells, walk cells and the assignments are recursions of their own, with the kinds in one order, so that a wire
 -- that is fed by a cell that comes later needs no knot. Assumes nothing: definitions.
 use mathlib.Core.List.{List, [], _∷_, _++_}
@@ -7,7 +7,7 @@ use lib.Dec.{eqb}
 use lib.ListN.{length, getD}
 use Rattle.model.specs.declared.Cell.{Cell}
 use Rattle.model.specs.Word.{pick}
-use Rattle.model.specs.Program.{Expr, const, var, compl, op, elem, Stmt, ok, tick, assign, assignElem, seq, par, ite, while, repeat, loop, exit, arrayVar}
+use Rattle.model.specs.Program.{Expr, const, var, compl, op, elem, Code, ok, tick, assign, assignElem, seq, par, ite, while, repeat, loop, exit, call, arrayVar, Program, roots}
 use Rattle.model.specs.Circuit.{cell}
 
 -- Expressions -------------------------------------------------------------------------------------------------------------------------
@@ -99,8 +99,9 @@ unfoldable pub ifPulse : ℕ → ℕ → ℕ → ℕ
 ifPulse zero s d = s
 ifPulse (suc δ) s d = d
 
--- "tick, if (none when d is 0), while, repeat have one, and an assignment two": how many delay cells. "The loop has one delay cell"
-unfoldable pub delayCount : Stmt → ℕ
+-- "tick, if (none when d is 0), while, repeat have one, and an assignment two": how many delay cells. "The loop has one delay cell";
+-- a call "one delay cell, before the body starts"
+unfoldable pub delayCount : Code → ℕ
 delayCount ok = 0
 delayCount (tick δ) = 1
 delayCount (assign δ x e) = 2
@@ -112,9 +113,10 @@ delayCount (while δ e P) = 1 + delayCount P
 delayCount (repeat δ e P) = 1 + delayCount P
 delayCount (loop δ P) = 1 + delayCount P
 delayCount exit = 0
+delayCount (call δ p) = 1
 
 -- how many exits of P end the loop around P
-unfoldable pub exitCount : Stmt → ℕ
+unfoldable pub exitCount : Code → ℕ
 exitCount ok = 0
 exitCount (tick δ) = 0
 exitCount (assign δ x e) = 0
@@ -126,9 +128,10 @@ exitCount (while δ e P) = exitCount P
 exitCount (repeat δ e P) = exitCount P
 exitCount (loop δ P) = 0
 exitCount exit = 1
+exitCount (call δ p) = 0
 
 -- how many cells the walk has
-unfoldable pub walkCount : Stmt → ℕ
+unfoldable pub walkCount : Code → ℕ
 walkCount ok = 0
 walkCount (tick δ) = 0
 walkCount (assign δ x e) = exprCount e + 1
@@ -140,26 +143,27 @@ walkCount (while δ e P) = exprCount e + (2 + (walkCount P + 1))
 walkCount (repeat δ e P) = exprCount e + (3 + walkCount P)
 walkCount (loop δ P) = 1 + (walkCount P + (exitCount P - 1))
 walkCount exit = 0
+walkCount (call δ p) = 1
 
 -- where the branches of an if begin: their first delay cells, and Q's first walk cell; P's is past the switches
 abbrev pub thenDelays : ℕ → ℕ → ℕ
 thenDelays δ d = d + ifDelayCount δ
 
-abbrev pub elseDelays : ℕ → Stmt → ℕ → ℕ
+abbrev pub elseDelays : ℕ → Code → ℕ → ℕ
 elseDelays δ P d = d + ifDelayCount δ + delayCount P
 
-abbrev pub elseCells : Expr → Stmt → ℕ → ℕ
+abbrev pub elseCells : Expr → Code → ℕ → ℕ
 elseCells e P c = pastSwitches e c + walkCount P
 
 -- where the 35s of a loop's exits begin
-abbrev pub exitsAt : Stmt → ℕ → ℕ
+abbrev pub exitsAt : Code → ℕ → ℕ
 exitsAt P c = c + 1 + walkCount P
 
 unfoldable mutual
   -- "The finish of ok is its start, of tick its delay, of an assignment its second delay, of a sequence that of Q." Of a parallel it is its
   -- 38, the last cell; of an if its 35, the last cell; of a while its 37; of a repeat its 36; of a loop the joined starts of its exits.
-  -- "An exit's finish is ground, and so is that of a loop without exits."
-  pub finishWire : Stmt → ℕ → ℕ → ℕ → ℕ
+  -- "An exit's finish is ground, and so is that of a loop without exits." Of a call it is its 39.
+  pub finishWire : Code → ℕ → ℕ → ℕ → ℕ
   finishWire ok s d c = s
   finishWire (tick δ) s d c = d
   finishWire (assign δ x e) s d c = d + 1
@@ -171,9 +175,10 @@ unfoldable mutual
   finishWire (repeat δ e P) s d c = onTrue e c
   finishWire (loop δ P) s d c = orsOut 1 (exitsAt P c) (exitWires P c (d + 1) (c + 1))
   finishWire exit s d c = 1
+  finishWire (call δ p) s d c = c
 
   -- "the starts of its exits ... in node order": of the exits of P that end the loop around P
-  pub exitWires : Stmt → ℕ → ℕ → ℕ → List ℕ
+  pub exitWires : Code → ℕ → ℕ → ℕ → List ℕ
   exitWires ok s d c = []
   exitWires (tick δ) s d c = []
   exitWires (assign δ x e) s d c = []
@@ -186,21 +191,22 @@ unfoldable mutual
   exitWires (repeat δ e P) s d c = exitWires P (pastSwitches e c) (d + 1) (pastSwitches e c + 1)
   exitWires (loop δ P) s d c = []
   exitWires exit s d c = s ∷ []
+  exitWires (call δ p) s d c = []
 
 -- the starts of a loop's exits
-abbrev pub loopExits : Stmt → ℕ → ℕ → List ℕ
+abbrev pub loopExits : Code → ℕ → ℕ → List ℕ
 loopExits P d c = exitWires P c (d + 1) (c + 1)
 
 -- the finishes of an if's branches
-abbrev pub thenFinish : ℕ → Expr → Stmt → ℕ → ℕ → ℕ
+abbrev pub thenFinish : ℕ → Expr → Code → ℕ → ℕ → ℕ
 thenFinish δ e P d c = finishWire P (onTrue e c) (thenDelays δ d) (pastSwitches e c)
 
-abbrev pub elseFinish : ℕ → Expr → Stmt → Stmt → ℕ → ℕ → ℕ
+abbrev pub elseFinish : ℕ → Expr → Code → Code → ℕ → ℕ → ℕ
 elseFinish δ e P Q d c = finishWire Q (onFalse e c) (elseDelays δ P d) (elseCells e P c)
 
 -- "delay cells in node order": an assignment's second is "of delay 1 and fed by the first". A while's is fed by the 35 that ends its walk,
 -- a repeat's and a loop's by P's finish. "Delays not named here are fed by their node's start."
-unfoldable pub delays : Stmt → ℕ → ℕ → ℕ → List Cell
+unfoldable pub delays : Code → ℕ → ℕ → ℕ → List Cell
 delays ok s d c = []
 delays (tick δ) s d c = cell 34 δ s 0 ∷ []
 delays (assign δ x e) s d c = cell 34 δ s 0 ∷ (cell 34 1 d 0 ∷ [])
@@ -216,6 +222,7 @@ delays (repeat δ e P) s d c =
     ∷ delays P (pastSwitches e c) (d + 1) (pastSwitches e c + 1)
 delays (loop δ P) s d c = cell 34 δ (finishWire P c (d + 1) (c + 1)) 0 ∷ delays P c (d + 1) (c + 1)
 delays exit s d c = []
+delays (call δ p) s d c = cell 34 δ s 0 ∷ []
 
 -- The walk, kind by kind:
 --   "Assignment: expression, kind 41 on its first delay."
@@ -227,41 +234,44 @@ delays exit s d c = []
 --   "Repeat: expression, 36 (finish), 37, 35 of start and that 37 (starts P), P, whose finish feeds the delay."
 --   The loop's "walk is 35 of start and that delay (starts P), P, whose finish feeds the delay, then the starts of its exits joined by 35s in
 --   node order."
+--   "Each call is a one-then-two merge, control kind 39 (a its delay, b the body's finish)": F p is the finish of body p.
 --   "Inputs stand in the order told".
-unfoldable pub walk : ℕ → Stmt → ℕ → ℕ → ℕ → List Cell
-walk M ok s d c = []
-walk M (tick δ) s d c = []
-walk M (assign δ x e) s d c = exprCells M e c ++ (cell 41 0 d (exprWire M e c) ∷ [])
-walk M (assignElem δ k i e) s d c =
+unfoldable pub walk : ℕ → (ℕ → ℕ) → Code → ℕ → ℕ → ℕ → List Cell
+walk M F ok s d c = []
+walk M F (tick δ) s d c = []
+walk M F (assign δ x e) s d c = exprCells M e c ++ (cell 41 0 d (exprWire M e c) ∷ [])
+walk M F (assignElem δ k i e) s d c =
     exprCells M i c
     ++ (exprCells M e (c + exprCount i)
     ++ (cell 41 0 d (exprWire M e (c + exprCount i)) ∷ (cell 41 0 d (exprWire M i c) ∷ [])))
-walk M (seq P Q) s d c = walk M P s d c ++ walk M Q (finishWire P s d c) (d + delayCount P) (c + walkCount P)
-walk M (par P Q) s d c =
-    walk M P s d c
-    ++ (walk M Q s (d + delayCount P) (c + walkCount P)
+walk M F (seq P Q) s d c = walk M F P s d c ++ walk M F Q (finishWire P s d c) (d + delayCount P) (c + walkCount P)
+walk M F (par P Q) s d c =
+    walk M F P s d c
+    ++ (walk M F Q s (d + delayCount P) (c + walkCount P)
     ++ (cell 38 0 (finishWire P s d c) (finishWire Q s (d + delayCount P) (c + walkCount P)) ∷ []))
-walk M (ite δ e P Q) s d c =
+walk M F (ite δ e P Q) s d c =
     switches M e (ifPulse δ s d) c
-    (walk M P (onTrue e c) (thenDelays δ d) (pastSwitches e c)
-    ++ (walk M Q (onFalse e c) (elseDelays δ P d) (elseCells e P c) ++ (cell 35 0 (thenFinish δ e P d c) (elseFinish δ e P Q d c) ∷ [])))
-walk M (while δ e P) s d c =
+    (walk M F P (onTrue e c) (thenDelays δ d) (pastSwitches e c)
+    ++ (walk M F Q (onFalse e c) (elseDelays δ P d) (elseCells e P c) ++ (cell 35 0 (thenFinish δ e P d c) (elseFinish δ e P Q d c) ∷ [])))
+walk M F (while δ e P) s d c =
     switches M e d c
-    (walk M P (onTrue e c) (d + 1) (pastSwitches e c)
+    (walk M F P (onTrue e c) (d + 1) (pastSwitches e c)
     ++ (cell 35 0 s (finishWire P (onTrue e c) (d + 1) (pastSwitches e c)) ∷ []))
-walk M (repeat δ e P) s d c =
-    switches M e d c (cell 35 0 s (onFalse e c) ∷ walk M P (pastSwitches e c) (d + 1) (pastSwitches e c + 1))
-walk M (loop δ P) s d c = cell 35 0 s d ∷ (walk M P c (d + 1) (c + 1) ++ ors 35 (exitsAt P c) (loopExits P d c))
-walk M exit s d c = []
+walk M F (repeat δ e P) s d c =
+    switches M e d c (cell 35 0 s (onFalse e c) ∷ walk M F P (pastSwitches e c) (d + 1) (pastSwitches e c + 1))
+walk M F (loop δ P) s d c = cell 35 0 s d ∷ (walk M F P c (d + 1) (c + 1) ++ ors 35 (exitsAt P c) (loopExits P d c))
+walk M F exit s d c = []
+walk M F (call δ p) s d c = cell 39 0 d (F p) ∷ []
 
--- Assignments, memories and arrays ------------------------------------------------------------------------------------------------------
+-- Assignments, calls, memories and arrays --------------------------------------------------------------------------------------------------
 
--- an assignment's variable, with a wire of that assignment; of an element assignment it is the array as a variable
+-- an assignment's variable, with a wire of that assignment; of an element assignment it is the array as a variable. Or the procedure of a call, with
+-- the call's delay
 abbrev pub Source : Type 0
 Source = ℕ × ℕ
 
 -- the assignments in node order, each with its first delay cell
-unfoldable pub clockSources : Stmt → ℕ → List Source
+unfoldable pub clockSources : Code → ℕ → List Source
 clockSources ok d = []
 clockSources (tick δ) d = []
 clockSources (assign δ x e) d = (x, d) ∷ []
@@ -273,9 +283,10 @@ clockSources (while δ e P) d = clockSources P (d + 1)
 clockSources (repeat δ e P) d = clockSources P (d + 1)
 clockSources (loop δ P) d = clockSources P (d + 1)
 clockSources exit d = []
+clockSources (call δ p) d = []
 
 -- and each with its kind 41 cell, of the value
-unfoldable pub dataSources : Stmt → ℕ → List Source
+unfoldable pub dataSources : Code → ℕ → List Source
 dataSources ok c = []
 dataSources (tick δ) c = []
 dataSources (assign δ x e) c = (x, c + exprCount e) ∷ []
@@ -287,9 +298,10 @@ dataSources (while δ e P) c = dataSources P (pastSwitches e c)
 dataSources (repeat δ e P) c = dataSources P (pastSwitches e c + 1)
 dataSources (loop δ P) c = dataSources P (c + 1)
 dataSources exit c = []
+dataSources (call δ p) c = []
 
 -- and the element assignments, each with its kind 41 cell of the index
-unfoldable pub addressSources : Stmt → ℕ → List Source
+unfoldable pub addressSources : Code → ℕ → List Source
 addressSources ok c = []
 addressSources (tick δ) c = []
 addressSources (assign δ x e) c = []
@@ -301,8 +313,24 @@ addressSources (while δ e P) c = addressSources P (pastSwitches e c)
 addressSources (repeat δ e P) c = addressSources P (pastSwitches e c + 1)
 addressSources (loop δ P) c = addressSources P (c + 1)
 addressSources exit c = []
+addressSources (call δ p) c = []
 
--- the wires of one variable
+-- the calls in node order, each with its delay cell
+unfoldable pub callSources : Code → ℕ → List Source
+callSources ok d = []
+callSources (tick δ) d = []
+callSources (assign δ x e) d = []
+callSources (assignElem δ k i e) d = []
+callSources (seq P Q) d = callSources P d ++ callSources Q (d + delayCount P)
+callSources (par P Q) d = callSources P d ++ callSources Q (d + delayCount P)
+callSources (ite δ e P Q) d = callSources P (thenDelays δ d) ++ callSources Q (elseDelays δ P d)
+callSources (while δ e P) d = callSources P (d + 1)
+callSources (repeat δ e P) d = callSources P (d + 1)
+callSources (loop δ P) d = callSources P (d + 1)
+callSources exit d = []
+callSources (call δ p) d = (p, d) ∷ []
+
+-- the wires of one variable, or the delays of the callers of one procedure
 unfoldable pub wiresOf : ℕ → List Source → List ℕ
 wiresOf x [] = []
 wiresOf x (w ∷ ws) = pick (eqb (w .0) x) (w .1 ∷ wiresOf x ws) (wiresOf x ws)
@@ -334,52 +362,125 @@ arraysOf ks ds js k zero = []
 arraysOf ks ds js k (suc n) =
     cell 42 k (getD ks (arrayVar k) 0) (getD ds (arrayVar k) 0) ∷ (cell 43 0 (getD js k 0) 0 ∷ arraysOf ks ds js (k + 1) n)
 
+-- Roots -------------------------------------------------------------------------------------------------------------------------------
+-- The roots are the bodies and, the last, the main program. z is the number of procedures, and so the main program's among the roots; cs are
+-- all calls, r is a root's number, d its first delay cell, and c the cell at which its callers' 35s begin.
+
+-- how many delay cells several roots have
+unfoldable pub rootDelayCount : List Code → ℕ
+rootDelayCount [] = 0
+rootDelayCount (P ∷ Ps) = delayCount P + rootDelayCount Ps
+
+-- "begins with the 35s that join its callers' delays in node order (ground if none)"; nobody calls the main program, whose start is cell 0
+abbrev pub idleStart : ℕ → ℕ → ℕ
+idleStart z r = pick (eqb r z) 0 1
+
+abbrev pub rootStart : ℕ → List Source → ℕ → ℕ → ℕ
+rootStart z cs r c = orsOut (idleStart z r) c (wiresOf r cs)
+
+-- where a root's own walk begins, and the next root's 35s
+abbrev pub rootWalk : List Source → ℕ → ℕ → ℕ
+rootWalk cs r c = c + orCount (wiresOf r cs)
+
+abbrev pub pastRoot : List Source → ℕ → Code → ℕ → ℕ
+pastRoot cs r P c = rootWalk cs r c + walkCount P
+
+unfoldable pub rootWalkCount : List Source → ℕ → List Code → ℕ
+rootWalkCount cs r [] = 0
+rootWalkCount cs r (P ∷ Ps) = orCount (wiresOf r cs) + walkCount P + rootWalkCount cs (r + 1) Ps
+
+unfoldable pub rootFinishes : ℕ → List Source → ℕ → List Code → ℕ → ℕ → List ℕ
+rootFinishes z cs r [] d c = []
+rootFinishes z cs r (P ∷ Ps) d c =
+    finishWire P (rootStart z cs r c) d (rootWalk cs r c) ∷ rootFinishes z cs (r + 1) Ps (d + delayCount P) (pastRoot cs r P c)
+
+unfoldable pub rootDelays : ℕ → List Source → ℕ → List Code → ℕ → ℕ → List Cell
+rootDelays z cs r [] d c = []
+rootDelays z cs r (P ∷ Ps) d c =
+    delays P (rootStart z cs r c) d (rootWalk cs r c) ++ rootDelays z cs (r + 1) Ps (d + delayCount P) (pastRoot cs r P c)
+
+-- "Each body's walk comes before the main one"
+unfoldable pub rootWalks : ℕ → (ℕ → ℕ) → ℕ → List Source → ℕ → List Code → ℕ → ℕ → List Cell
+rootWalks M F z cs r [] d c = []
+rootWalks M F z cs r (P ∷ Ps) d c =
+    ors 35 c (wiresOf r cs)
+    ++ (walk M F P (rootStart z cs r c) d (rootWalk cs r c) ++ rootWalks M F z cs (r + 1) Ps (d + delayCount P) (pastRoot cs r P c))
+
+-- sources that go by delay cells, and those that go by cells of the walk
+unfoldable pub rootSources : (Code → ℕ → List Source) → List Code → ℕ → List Source
+rootSources sources [] d = []
+rootSources sources (P ∷ Ps) d = sources P d ++ rootSources sources Ps (d + delayCount P)
+
+unfoldable pub rootWalkSources : (Code → ℕ → List Source) → List Source → ℕ → List Code → ℕ → List Source
+rootWalkSources sources cs r [] c = []
+rootWalkSources sources cs r (P ∷ Ps) c = sources P (rootWalk cs r c) ++ rootWalkSources sources cs (r + 1) Ps (pastRoot cs r P c)
+
 -- The netlist --------------------------------------------------------------------------------------------------------------------------
+
+-- "in node order": the calls and the assignments of a program
+abbrev pub callsOf : Program → List Source
+callsOf S = rootSources callSources (roots S) 3
+
+abbrev pub clocksOf : Program → List Source
+clocksOf S = rootSources clockSources (roots S) 3
 
 -- where the clock ors, the memories, the arrays' cells, the walk, the data ors and the address ors begin. Arrays follow the variables: "clocks
 -- follow the variables' clock ors, all data ors their data ors, then all address ors"
-abbrev pub clockAt : Stmt → ℕ
-clockAt P = 3 + delayCount P
+abbrev pub clockAt : Program → ℕ
+clockAt S = 3 + rootDelayCount (roots S)
 
-abbrev pub memoryAt : Stmt → ℕ
-memoryAt P = 3 + delayCount P + orCountFrom (clockSources P 3) 0 20
+abbrev pub memoryAt : Program → ℕ
+memoryAt S = 3 + rootDelayCount (roots S) + orCountFrom (clocksOf S) 0 20
 
-abbrev pub arraysAt : Stmt → ℕ
-arraysAt P = memoryAt P + 16
+abbrev pub arraysAt : Program → ℕ
+arraysAt S = memoryAt S + 16
 
-abbrev pub walkAt : Stmt → ℕ
-walkAt P = arraysAt P + 8
+abbrev pub walkAt : Program → ℕ
+walkAt S = arraysAt S + 8
 
-abbrev pub dataAt : Stmt → ℕ
-dataAt P = walkAt P + walkCount P
+abbrev pub dataAt : Program → ℕ
+dataAt S = walkAt S + rootWalkCount (callsOf S) 0 (roots S)
 
-abbrev pub addressAt : Stmt → ℕ
-addressAt P = dataAt P + orCountFrom (dataSources P (walkAt P)) 0 20
+abbrev pub dataOf : Program → List Source
+dataOf S = rootWalkSources dataSources (callsOf S) 0 (roots S) (walkAt S)
 
-abbrev pub clockWires : Stmt → List ℕ
-clockWires P = outsFrom 1 (clockSources P 3) (clockAt P) 0 20
+abbrev pub addressesOf : Program → List Source
+addressesOf S = rootWalkSources addressSources (callsOf S) 0 (roots S) (walkAt S)
 
-abbrev pub dataWires : Stmt → List ℕ
-dataWires P = outsFrom 2 (dataSources P (walkAt P)) (dataAt P) 0 20
+abbrev pub addressAt : Program → ℕ
+addressAt S = dataAt S + orCountFrom (dataOf S) 0 20
 
-abbrev pub addressWires : Stmt → List ℕ
-addressWires P = outsFrom 2 (addressSources P (walkAt P)) (addressAt P) 16 4
+abbrev pub clockWires : Program → List ℕ
+clockWires S = outsFrom 1 (clocksOf S) (clockAt S) 0 20
+
+abbrev pub dataWires : Program → List ℕ
+dataWires S = outsFrom 2 (dataOf S) (dataAt S) 0 20
+
+abbrev pub addressWires : Program → List ℕ
+addressWires S = outsFrom 2 (addressesOf S) (addressAt S) 16 4
+
+-- the finish of a root: of a body, or of the main program, which is the last
+abbrev pub procedures : Program → ℕ
+procedures S = length (S .bodies)
+
+unfoldable pub finishOfRoot : Program → ℕ → ℕ
+finishOfRoot S r = getD (rootFinishes (procedures S) (callsOf S) 0 (roots S) 3 (walkAt S)) r 1
 
 -- "Cell 0 is start, 1 ground, 2 constant 0. Then delay cells ... Then for variables 0 to 15 the clock ors ... Then sixteen memories. Then
 -- the walk; then the data ors (kind 7)"; the arrays' cells stand "Right after the sixteenth memory"
 abbrev pub headCells : List Cell
 headCells = cell 32 0 0 0 ∷ (cell 33 0 0 0 ∷ (cell 1 0 0 0 ∷ []))
 
-unfoldable pub netlist : Stmt → List Cell
-netlist P =
+unfoldable pub netlist : Program → List Cell
+netlist S =
     headCells
-    ++ (delays P 0 3 (walkAt P)
-    ++ (orsFrom 35 (clockSources P 3) (clockAt P) 0 20
-    ++ (memoriesOf (clockWires P) (dataWires P) 0 16
-    ++ (arraysOf (clockWires P) (dataWires P) (addressWires P) 0 4
-    ++ (walk (memoryAt P) P 0 3 (walkAt P)
-    ++ (orsFrom 7 (dataSources P (walkAt P)) (dataAt P) 0 20
-    ++ orsFrom 7 (addressSources P (walkAt P)) (addressAt P) 16 4))))))
+    ++ (rootDelays (procedures S) (callsOf S) 0 (roots S) 3 (walkAt S)
+    ++ (orsFrom 35 (clocksOf S) (clockAt S) 0 20
+    ++ (memoriesOf (clockWires S) (dataWires S) 0 16
+    ++ (arraysOf (clockWires S) (dataWires S) (addressWires S) 0 4
+    ++ (rootWalks (memoryAt S) (finishOfRoot S) (procedures S) (callsOf S) 0 (roots S) 3 (walkAt S)
+    ++ (orsFrom 7 (dataOf S) (dataAt S) 0 20
+    ++ orsFrom 7 (addressesOf S) (addressAt S) 16 4))))))
 
-unfoldable pub finish : Stmt → ℕ
-finish P = finishWire P 0 3 (walkAt P)
+unfoldable pub finish : Program → ℕ
+finish S = finishOfRoot S (procedures S)

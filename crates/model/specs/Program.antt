@@ -1,17 +1,15 @@
--- The program: its nodes, the table of kinds, the tree that the nodes are, times, reads and writes, and refusals 1 to 8 and 22.
--- "Each node is followed by its children in the order named; node 0 is the root and a statement."
+-- The program: its nodes, the table of kinds, the trees that the nodes are, times, reads and writes.
+-- "Each node is followed by its children in the order named; node 0 is the root and a statement." "Up to eight procedures, each one statement,
+-- stand before the main program".
 -- Assumes nothing: definitions.
-use mathlib.Core.Bool.{Bool, true, false, _&&_, _||_, not}
-use mathlib.Core.List.{List, [], _∷_, _++_}
-use Prim.Native.Nat.{ℕ, zero, suc, _+_, _-_, _*_, _/_, _%_, max}
-use lib.ListN.{length, getD, drop, replicate}
+use mathlib.Core.Bool.{Bool, false, _||_}
+use mathlib.Core.List.{List, [], _∷_, _++_, map}
+use Prim.Native.Nat.{ℕ, zero, suc, _+_, _-_, _*_, _/_, max}
+use lib.ListN.{length, getD, take, drop}
 use lib.Dec.{ltb, eqb}
 use Rattle.model.specs.declared.Node.{Node}
 use Rattle.model.specs.declared.kinds.Row.{Row}
-use Rattle.model.specs.declared.Checked.{Checked}
-use Rattle.model.specs.declared.Checked.the-variants.{Accepted}
 use Rattle.model.specs.Word.{pick, get16, bytes16}
-use Rattle.model.specs.Refusals.{refuse, refuseIf, first, firstFault, faultIf}
 
 -- Nodes -----------------------------------------------------------------------------------------------------------------------------
 
@@ -41,8 +39,8 @@ nodeBytes (a ∷ rest) = a .kind ∷ a .delay ∷ (bytes16 (a .n) ++ nodeBytes r
 
 -- The table --------------------------------------------------------------------------------------------------------------------------
 
--- sort: 0 unknown, 1 an expression, 2 a statement. delay: used or not. number: 0 no use, 1 a constant, 2 a variable, 3 an array.
--- exprs, stmts: so many expressions and then so many statements are its children.
+-- sort: 0 unknown, 1 an expression, 2 a statement. delay: used or not. number: 0 no use, 1 a constant, 2 a variable, 3 an array, 4 a
+-- procedure. exprs, stmts: so many expressions and then so many statements are its children.
 abbrev row : ℕ → ℕ → ℕ → ℕ → ℕ → Row
 row s d n e p = record { sort = s; delay = d; number = n; exprs = e; stmts = p }
 
@@ -75,6 +73,7 @@ kindTable =
     ∷ row 2 1 3 2 0  -- 24 element of array n := e
     ∷ row 2 1 0 0 1  -- 25 loop P
     ∷ row 2 0 0 0 0  -- 26 exit
+    ∷ row 2 1 4 0 0  -- 27 call of procedure n
     ∷ []
 
 unfoldable pub rowOf : ℕ → Row
@@ -90,23 +89,33 @@ pub data Expr : Type 0 where
   op : ℕ → Expr → Expr → Expr
   elem : ℕ → Expr → Expr
 
--- a number in front is the node's delay; assignElem d k i e: the element of array k with index i gets e
-pub data Stmt : Type 0 where
-  ok : Stmt
-  tick : ℕ → Stmt
-  assign : ℕ → ℕ → Expr → Stmt
-  assignElem : ℕ → ℕ → Expr → Expr → Stmt
-  seq : Stmt → Stmt → Stmt
-  par : Stmt → Stmt → Stmt
-  ite : ℕ → Expr → Stmt → Stmt → Stmt
-  while : ℕ → Expr → Stmt → Stmt
-  repeat : ℕ → Expr → Stmt → Stmt
-  loop : ℕ → Stmt → Stmt
-  exit : Stmt
+-- a statement; a number in front is the node's delay, and a C names the procedure that is called. assignElem d k i e: the element of array k with
+-- index i gets e
+pub data Statement (C : Type 0) : Type 0 where
+  ok : Statement C
+  tick : ℕ → Statement C
+  assign : ℕ → ℕ → Expr → Statement C
+  assignElem : ℕ → ℕ → Expr → Expr → Statement C
+  seq : Statement C → Statement C → Statement C
+  par : Statement C → Statement C → Statement C
+  ite : ℕ → Expr → Statement C → Statement C → Statement C
+  while : ℕ → Expr → Statement C → Statement C
+  repeat : ℕ → Expr → Statement C → Statement C
+  loop : ℕ → Statement C → Statement C
+  exit : Statement C
+  call : ℕ → C → Statement C
+
+-- the nodes' own: "A call (kind 27, n the procedure from 0)"
+abbrev pub Code : Type 0
+Code = Statement ℕ
+
+-- and one without calls, of which the rules are: there is nothing to name a procedure by
+abbrev pub Stmt : Type 0
+Stmt = Statement ⊥
 
 pub data Tree : Type 0 where
   expr : Expr → Tree
-  stmt : Stmt → Tree
+  stmt : Code → Tree
 
 -- what stands for a child that is missing, or of the wrong sort: refusals 5 and 6 leave no such child
 abbrev pub none : Tree
@@ -116,7 +125,7 @@ unfoldable pub asExpr : Tree → Expr
 asExpr (expr e) = e
 asExpr (stmt P) = const 0
 
-unfoldable pub asStmt : Tree → Stmt
+unfoldable pub asStmt : Tree → Code
 asStmt (expr e) = ok
 asStmt (stmt P) = P
 
@@ -129,7 +138,7 @@ exprOf a e f =
     (op (a .kind) e f))))
 
 -- of kinds 19 and 20 the children are O and P, of kind 24 e and f, of kind 25 O, of the others e, P and Q
-unfoldable pub stmtOf : Node → Expr → Expr → Stmt → Stmt → Stmt → Stmt
+unfoldable pub stmtOf : Node → Expr → Expr → Code → Code → Code → Code
 stmtOf a e f O P Q =
     pick (eqb (a .kind) 16) ok
     (pick (eqb (a .kind) 17) (tick (a .delay))
@@ -141,7 +150,8 @@ stmtOf a e f O P Q =
     (pick (eqb (a .kind) 24) (assignElem (a .delay) (a .n) e f)
     (pick (eqb (a .kind) 25) (loop (a .delay) O)
     (pick (eqb (a .kind) 26) exit
-    (repeat (a .delay) e P))))))))))
+    (pick (eqb (a .kind) 27) (call (a .delay) (a .n))
+    (repeat (a .delay) e P)))))))))))
 
 unfoldable pub treeOf : Node → Tree → Tree → Tree → Tree
 treeOf a x y z =
@@ -168,12 +178,25 @@ treesAt s i = forest (nodesAt s i)
 unfoldable pub exprAt : List ℕ → ℕ → Expr
 exprAt s i = asExpr (getD (treesAt s i) 0 none)
 
-unfoldable pub stmtAt : List ℕ → ℕ → Stmt
+unfoldable pub stmtAt : List ℕ → ℕ → Code
 stmtAt s i = asStmt (getD (treesAt s i) 0 none)
 
--- "node 0 is the root and a statement": the statement that a program is
-abbrev pub programOf : List ℕ → Stmt
-programOf s = stmtAt s 0
+-- "Up to eight procedures, each one statement, stand before the main program"
+pub record Program : Type 0 where
+  pub bodies : List Code
+  pub main : Code
+
+-- the program that nodes are, with so many procedures: of the trees from node 0 on, the first are the bodies, and the next is the main program
+unfoldable pub programOf : ℕ → List ℕ → Program
+programOf k s = record { bodies = map asStmt (take k (treesAt s 0)); main = asStmt (getD (treesAt s 0) k none) }
+
+-- a program without procedures: "node 0 is the root and a statement"
+abbrev pub alone : Code → Program
+alone P = record { bodies = []; main = P }
+
+-- the roots in node order; the main program is the last
+abbrev pub roots : Program → List Code
+roots S = S .bodies ++ (S .main ∷ [])
 
 -- the nodes of a tree, "in the order named"
 unfoldable pub preorderE : Expr → List Node
@@ -183,7 +206,7 @@ preorderE (compl e) = node 3 0 0 ∷ preorderE e
 preorderE (op k a b) = node k 0 0 ∷ preorderE a ++ preorderE b
 preorderE (elem k e) = node 10 0 k ∷ preorderE e
 
-unfoldable pub preorder : Stmt → List Node
+unfoldable pub preorder : Code → List Node
 preorder ok = node 16 0 0 ∷ []
 preorder (tick d) = node 17 d 0 ∷ []
 preorder (assign d x e) = node 18 d x ∷ preorderE e
@@ -195,6 +218,12 @@ preorder (while d e P) = node 22 d 0 ∷ preorderE e ++ preorder P
 preorder (repeat d e P) = node 23 d 0 ∷ preorderE e ++ preorder P
 preorder (loop d P) = node 25 d 0 ∷ preorder P
 preorder exit = node 26 0 0 ∷ []
+preorder (call d p) = node 27 d p ∷ []
+
+-- of several roots
+unfoldable pub preorders : List Code → List Node
+preorders [] = []
+preorders (P ∷ Ps) = preorder P ++ preorders Ps
 
 -- Times, reads and writes --------------------------------------------------------------------------------------------------------------
 
@@ -228,7 +257,8 @@ builtInTimes =
 
 -- "A node's delay d is at least its expression's time, and at least 1 for kinds 17, 18, 22 and 23. If may have 0."
 -- "An element's delay covers both children's times and is at least 1." "loop P (kind 25) with a delay of at least 1"
-unfoldable pub least : (ℕ → ℕ) → Stmt → ℕ
+-- "A call (kind 27, n the procedure from 0) has a delay of at least 1"
+unfoldable pub least : (ℕ → ℕ) → Code → ℕ
 least τ ok = 0
 least τ (tick d) = 1
 least τ (assign d x e) = max 1 (time τ e)
@@ -240,6 +270,7 @@ least τ (while d e P) = max 1 (time τ e)
 least τ (repeat d e P) = max 1 (time τ e)
 least τ (loop d P) = 1
 least τ exit = 0
+least τ (call d p) = 1
 
 -- "For refusals 4 and 8 an array is one variable": array k is variable 16 + k
 abbrev pub arrayVar : ℕ → ℕ
@@ -280,96 +311,3 @@ touches (while d e P) x = reads e x || touches P x
 touches (repeat d e P) x = reads e x || touches P x
 touches (loop d P) x = touches P x
 touches exit x = false
-
--- "A variable written on one side of a parallel node and read or written on the other": one below n
-unfoldable pub conflict : ℕ → Stmt → Stmt → Bool
-conflict zero P Q = false
-conflict (suc n) P Q = ((writes P n && touches Q n) || (writes Q n && touches P n)) || conflict n P Q
-
-unfoldable pub conflicts : Stmt → Bool
-conflicts ok = false
-conflicts (tick d) = false
-conflicts (assign d x e) = false
-conflicts (assignElem d k i e) = false
-conflicts (seq P Q) = false
-conflicts (par P Q) = conflict 20 P Q
-conflicts (ite d e P Q) = false
-conflicts (while d e P) = false
-conflicts (repeat d e P) = false
-conflicts (loop d P) = false
-conflicts exit = false
-
--- Refusals -----------------------------------------------------------------------------------------------------------------------------
-
--- "1. Program length 0, above 800 or not a multiple of 4 (place 0)."
-unfoldable pub programLengthWrong : List ℕ → Bool
-programLengthWrong s = eqb (length s) 0 || (ltb 800 (length s) || ltb 0 (length s % 4))
-
--- "3. a field without a use not zero"
-unfoldable pub unusedSet : ℕ → ℕ → Bool
-unusedSet used v = pick (eqb used 0) (ltb 0 v) false
-
--- "4. variable above 15": n, where used says what it is; an array has "numbers 0 to 3"
-unfoldable pub absent : ℕ → ℕ → Bool
-absent used n = (eqb used 2 && ltb 15 n) || (eqb used 3 && ltb 3 n)
-
--- "2. Unknown kind; 3. a field without a use not zero; 4. variable above 15. Node by node, in this order (node)."
-unfoldable pub nodeFault : Node → ℕ
-nodeFault a =
-    let row = rowOf (a .kind) in
-    pick (eqb (row .sort) 0) 2
-    (pick (unusedSet (row .delay) (a .delay) || unusedSet (row .number) (a .n)) 3
-    (faultIf (absent (row .number) (a .n)) 4))
-
--- the sorts of a node's children, in order
-unfoldable pub children : ℕ → List ℕ
-children k = replicate (rowOf k .exprs) 1 ++ replicate (rowOf k .stmts) 2
-
--- "5. A statement where an expression belongs or the reverse (node); 6. nodes run out (node count) or are left (first left).
--- Whichever reading meets first": of nodes that begin at node i, where nodes of the sorts in the first list are still to be read
-unfoldable pub reading : List ℕ → ℕ → List Node → Checked
-reading [] i [] = Accepted
-reading [] i (a ∷ rest) = refuse 6 i
-reading (w ∷ ws) i [] = refuse 6 i
-reading (w ∷ ws) i (a ∷ rest) =
-    pick (eqb (rowOf (a .kind) .sort) w) (reading (children (a .kind) ++ ws) (i + 1) rest) (refuse 5 i)
-
--- "22: an exit with no kind 25 around it, or with a parallel node between it and that loop, place the exit node": the first in P, which stands
--- at node i; inside tells whether a loop is around P with no parallel node between
-unfoldable pub looseIn : Bool → Stmt → ℕ → Checked
-looseIn inside ok i = Accepted
-looseIn inside (tick d) i = Accepted
-looseIn inside (assign d x e) i = Accepted
-looseIn inside (assignElem d k j e) i = Accepted
-looseIn inside (seq P Q) i = first (looseIn inside P (i + 1) ∷ looseIn inside Q (i + 1 + length (preorder P)) ∷ [])
-looseIn inside (par P Q) i = first (looseIn false P (i + 1) ∷ looseIn false Q (i + 1 + length (preorder P)) ∷ [])
-looseIn inside (ite d e P Q) i =
-    let j = i + 1 + length (preorderE e) in
-    first (looseIn inside P j ∷ looseIn inside Q (j + length (preorder P)) ∷ [])
-looseIn inside (while d e P) i = looseIn inside P (i + 1 + length (preorderE e))
-looseIn inside (repeat d e P) i = looseIn inside P (i + 1 + length (preorderE e))
-looseIn inside (loop d P) i = looseIn true P (i + 1)
-looseIn inside exit i = refuseIf (not inside) 22 i
-
--- "7. Delay too small (first node)."
-unfoldable pub delayFault : (ℕ → ℕ) → List ℕ → ℕ → ℕ
-delayFault τ s i = faultIf (ltb (nodeAt s i .delay) (least τ (stmtAt s i))) 7
-
--- "8. A variable written on one side of a parallel node and read or written on the other (first such node, in node order)."
-unfoldable pub conflictFault : List ℕ → ℕ → ℕ
-conflictFault s i = faultIf (conflicts (stmtAt s i)) 8
-
--- refusals 1 to 8 in their order, and 22 "after 6 and before 7", with operator times τ
-abbrev pub programChecks : (ℕ → ℕ) → List ℕ → List Checked
-programChecks τ s =
-    refuseIf (programLengthWrong s) 1 0
-    ∷ firstFault (λ i. nodeFault (nodeAt s i)) 0 (nodeCount s)
-    ∷ reading (2 ∷ []) 0 (nodesAt s 0)
-    ∷ looseIn false (programOf s) 0
-    ∷ firstFault (delayFault τ s) 0 (nodeCount s)
-    ∷ firstFault (conflictFault s) 0 (nodeCount s)
-    ∷ []
-
--- with the times of a list
-unfoldable pub checkOf : List ℕ → List ℕ → Checked
-checkOf times s = first (programChecks (timeIn times) s)

@@ -2,15 +2,18 @@
 -- full run on the circuit answers as the reference run does.
 -- Assumes nothing: definitions.
 use mathlib.Core.Path.{_≡_}
+use mathlib.Core.Logic.{_↔_}
 use mathlib.Core.List.{List}
 use Prim.Native.Nat.{ℕ, _+_, _≤_}
 use lib.ListN.{replicate}
 use Rattle.model.specs.declared.Checked.the-variants.{Accepted}
 use Rattle.model.specs.declared.Outcome.the-variants.{Ended, Open}
 use Rattle.model.specs.declared.Answer.{Answer}
-use Rattle.model.specs.Program.{nodesAt, programOf, preorder}
-use Rattle.model.specs.Rules.{Store, Ends, Leaves}
-use Rattle.model.specs.TimeTables.{TimeTable, load}
+use Rattle.model.specs.Program.{nodesAt, programOf, roots, preorders}
+use Rattle.model.specs.Procedures.{meaning}
+use Rattle.model.specs.Calling.{EndsIn, Obeying}
+use Rattle.model.specs.Rules.{Store, Course, Ends, Leaves}
+use Rattle.model.specs.TimeTables.{Given, load}
 use Rattle.model.specs.Calls.{verdict, checkCall, runProgramCall, wordAt, listed, referenceCall}
 use Rattle.model.specs.Word.{Bytes}
 use Rattle.model.specs.RunPromises.{seenIn}
@@ -22,23 +25,30 @@ endedAnswer t σ = record { outcome = Ended; instant = t; count = t + 1; words =
 abbrev pub openAnswer : ℕ → Answer
 openAnswer n = record { outcome = Open; instant = n; count = n + 1; words = replicate 16 0 }
 
-pub record Programs : Type 0 where
+pub record Programs : Type 1 where
   -- "Each node is followed by its children in the order named; node 0 is the root": an accepted program's nodes are those of its tree
-  pub tree : (T : TimeTable) (program : List ℕ) → checkCall (load T) program ≡ Accepted → nodesAt program 0 ≡ preorder (programOf program)
+  pub tree : (G : Given) (program : List ℕ) → checkCall (load G) program ≡ Accepted → nodesAt program 0 ≡ preorders (roots (programOf (G .procedures) program))
   -- "The program's end is the instant at which its root ends": the reference run answers an end within its budget
-  pub ends : (T : TimeTable) (program words : List ℕ) (n t : ℕ) (σ′ : Store) → verdict (referenceCall (load T) program words n .outcome) ≡ Accepted
-      → Ends (programOf program) (wordAt words) t σ′ → t ≤ n → referenceCall (load T) program words n ≡ endedAnswer t σ′
+  pub ends : (G : Given) (program words : List ℕ) (n t : ℕ) (σ′ : Store) → verdict (referenceCall (load G) program words n .outcome) ≡ Accepted
+      → Ends (meaning (programOf (G .procedures) program)) (wordAt words) t σ′ → t ≤ n → referenceCall (load G) program words n ≡ endedAnswer t σ′
   -- and no other: what it answers is an end, or there is none within the budget
-  pub ended : (T : TimeTable) (program words : List ℕ) (n : ℕ) → referenceCall (load T) program words n .outcome ≡ Ended
-      → (t : ℕ) × (σ′ : Store) × (t ≤ n) × Ends (programOf program) (wordAt words) t σ′
-  pub stillOpen : (T : TimeTable) (program words : List ℕ) (n : ℕ) → referenceCall (load T) program words n .outcome ≡ Open
-      → (referenceCall (load T) program words n ≡ openAnswer n)
-      × ((t : ℕ) (σ′ : Store) → Ends (programOf program) (wordAt words) t σ′ → t ≤ n → ⊥)
+  pub ended : (G : Given) (program words : List ℕ) (n : ℕ) → referenceCall (load G) program words n .outcome ≡ Ended
+      → (t : ℕ) × (σ′ : Store) × (t ≤ n) × Ends (meaning (programOf (G .procedures) program)) (wordAt words) t σ′
+  pub stillOpen : (G : Given) (program words : List ℕ) (n : ℕ) → referenceCall (load G) program words n .outcome ≡ Open
+      → (referenceCall (load G) program words n ≡ openAnswer n)
+      × ((t : ℕ) (σ′ : Store) → Ends (meaning (programOf (G .procedures) program)) (wordAt words) t σ′ → t ≤ n → ⊥)
+  -- "Its rule: the delay, then the body.": there is a table of the bodies' ends that obeys the rules with calls
+  pub obeyed : (G : Given) (program : List ℕ) → checkCall (load G) program ≡ Accepted
+      → (C : ℕ → Course) × Obeying (programOf (G .procedures) program .bodies) C
+  -- and with any such table they say of the main program what the rules say of the statement without calls
+  pub calling : (G : Given) (program : List ℕ) → checkCall (load G) program ≡ Accepted →
+      let S = programOf (G .procedures) program in
+      (C : ℕ → Course) → Obeying (S .bodies) C → (σ : Store) (t : ℕ) (σ′ : Store) → EndsIn (S .bodies) C (S .main) σ t σ′ ↔ Ends (meaning S) σ t σ′
   -- refusal 22: it never comes to an exit that ends no loop of its own
-  pub neverLeft : (T : TimeTable) (program : List ℕ) → checkCall (load T) program ≡ Accepted
-      → (σ : Store) (t : ℕ) (σ′ : Store) → Leaves (programOf program) σ t σ′ → ⊥
+  pub neverLeft : (G : Given) (program : List ℕ) → checkCall (load G) program ≡ Accepted
+      → (σ : Store) (t : ℕ) (σ′ : Store) → Leaves (meaning (programOf (G .procedures) program)) σ t σ′ → ⊥
   -- a full run that is not refused answers what the reference run does; the words of one that is open are the memories'
-  pub agree : (T : TimeTable) (program words : List ℕ) (n : ℕ) (forFile lent : List ℕ) → Bytes program →
-      let full = runProgramCall (load T) program words n forFile lent .answer in
-      let reference = referenceCall (load T) program words n in
+  pub agree : (G : Given) (program words : List ℕ) (n : ℕ) (forFile lent : List ℕ) → Bytes program →
+      let full = runProgramCall (load G) program words n forFile lent .answer in
+      let reference = referenceCall (load G) program words n in
       verdict (full .outcome) ≡ Accepted → (seenIn full ≡ seenIn reference) × (full .outcome ≡ Ended → full ≡ reference)

@@ -12,9 +12,10 @@ use Rattle.model.specs.declared.Cell.{Cell}
 use Rattle.model.specs.declared.Checked.{Checked}
 use Rattle.model.specs.declared.Checked.the-variants.{Accepted}
 use Rattle.model.specs.Refusals.{numberOf, placeOf, firstFault}
-use Rattle.model.specs.Program.{timeIn, programChecks}
+use Rattle.model.specs.Program.{timeIn}
+use Rattle.model.specs.ProgramChecks.{programChecks}
 use Rattle.model.specs.NetlistFile.{fileChecks, fileCheck}
-use Rattle.model.specs.TimeTables.{tableChecks, TimeTable, given, load}
+use Rattle.model.specs.TimeTables.{tableChecks, given, Given, beside, load}
 use Rattle.model.specs.Calls.{verdict, writtenVerdict, checkCall, compileChecks, compileCall, writeChecks, writeCall, readChecks, readCall, beginChecks, beginCall, continueChecks, continueCall, startChecks, startCall, runNetlistChecks, runNetlistCall, runProgramChecks, runProgramCall, referenceChecks, referenceCall}
 use Rattle.model.specs.CellSlices.{hasCells, renumberCall, checkCellsChecks, checkCellsCall, writeCellsChecks, writeCellsCall, readCellsChecks, readCellsCall}
 
@@ -53,7 +54,7 @@ abbrev pub tableNumbers : List ℕ
 tableNumbers = 19 ∷ 20 ∷ 21 ∷ []
 
 abbrev pub programNumbers : List ℕ
-programNumbers = 1 ∷ 2 ∷ 3 ∷ 4 ∷ 5 ∷ 6 ∷ 22 ∷ 7 ∷ 8 ∷ []
+programNumbers = 1 ∷ 2 ∷ 3 ∷ 4 ∷ 5 ∷ 6 ∷ 22 ∷ 24 ∷ 7 ∷ 25 ∷ 8 ∷ []
 
 abbrev pub fileNumbers : List ℕ
 fileNumbers = 9 ∷ 10 ∷ 11 ∷ 12 ∷ []
@@ -72,18 +73,18 @@ pub record FirstPlace (fault : ℕ → ℕ) (n : ℕ) (c : Checked) : Type 0 whe
   pub some : 1 ≤ numberOf c → (placeOf c < n) × (fault (placeOf c) ≡ numberOf c) × ((j : ℕ) → j < placeOf c → fault j ≡ 0)
 
 -- of every call: the refusals in the published order, a check of its own for each line, and what a refusal leaves. Where a program is checked
--- it is with the operator times of a table T, "before 17, in this order"
+-- it is with what is given beside it, G: its table's refusals come "before 17, in this order", and a number of procedures above 8 is 1
 pub record Demand1 : Type 0 where
   pub places : (fault : ℕ → ℕ) (n : ℕ) → FirstPlace fault n (firstFault fault 0 n)
-  pub tables : (file : List ℕ) → Refuses (just 19 ∷ just 20 ∷ just 21 ∷ []) (tableChecks file) (load (given file) .checked)
-  pub programs : (T : TimeTable) (program : List ℕ)
-      → Refuses (tableNumbers ∷ just 1 ∷ (2 ∷ 3 ∷ 4 ∷ []) ∷ (5 ∷ 6 ∷ []) ∷ just 22 ∷ just 7 ∷ just 8 ∷ [])
-      (load T .checked ∷ programChecks (timeIn (load T .times)) program) (checkCall (load T) program)
+  pub tables : (file : List ℕ) (k : ℕ) → Refuses (just 19 ∷ just 20 ∷ just 21 ∷ []) (tableChecks file) (load (beside (given file) k) .checked)
+  pub programs : (G : Given) (program : List ℕ)
+      → Refuses (tableNumbers ∷ just 1 ∷ (2 ∷ 3 ∷ 4 ∷ []) ∷ (5 ∷ 6 ∷ []) ∷ just 22 ∷ just 24 ∷ just 7 ∷ just 25 ∷ just 8 ∷ [])
+      (load G .checked ∷ programChecks (timeIn (load G .times)) (G .procedures) program) (checkCall (load G) program)
   pub files : (file : List ℕ) → Refuses (just 9 ∷ just 10 ∷ just 11 ∷ just 11 ∷ just 12 ∷ []) (fileChecks file) (fileCheck file)
-  pub compiling : (T : TimeTable) (program lent : List ℕ) →
-      let c = writtenVerdict (compileCall (load T) program lent .answer) in
-      Refuses (tableNumbers ∷ programNumbers ∷ just 14 ∷ []) (compileChecks (load T) program lent) c
-      × Leaves c lent (compileCall (load T) program lent .lent)
+  pub compiling : (G : Given) (program lent : List ℕ) →
+      let c = writtenVerdict (compileCall (load G) program lent .answer) in
+      Refuses (tableNumbers ∷ programNumbers ∷ just 14 ∷ []) (compileChecks (load G) program lent) c
+      × Leaves c lent (compileCall (load G) program lent .lent)
   pub writing : (cells : List ℕ) (f : ℕ) (lent : List ℕ) →
       let c = writtenVerdict (writeCall cells f lent .answer) in
       Refuses (just 11 ∷ just 12 ∷ just 14 ∷ []) (writeChecks cells f lent) c × Leaves c lent (writeCall cells f lent .lent)
@@ -103,14 +104,14 @@ pub record Demand1 : Type 0 where
       let c = verdict (runNetlistCall file words n lent .answer .outcome) in
       Refuses (fileNumbers ∷ just 13 ∷ just 14 ∷ just 14 ∷ []) (runNetlistChecks file words n lent) c
       × Leaves c lent (runNetlistCall file words n lent .lent)
-  pub programRuns : (T : TimeTable) (program words : List ℕ) (n : ℕ) (forFile lent : List ℕ) →
-      let r = runProgramCall (load T) program words n forFile lent in
+  pub programRuns : (G : Given) (program words : List ℕ) (n : ℕ) (forFile lent : List ℕ) →
+      let r = runProgramCall (load G) program words n forFile lent in
       let c = verdict (r .answer .outcome) in
-      Refuses (tableNumbers ∷ programNumbers ∷ just 13 ∷ just 14 ∷ just 14 ∷ just 14 ∷ []) (runProgramChecks (load T) program words n forFile lent) c
+      Refuses (tableNumbers ∷ programNumbers ∷ just 13 ∷ just 14 ∷ just 14 ∷ just 14 ∷ []) (runProgramChecks (load G) program words n forFile lent) c
       × Leaves c forFile (r .netlist) × Leaves c lent (r .state)
-  pub references : (T : TimeTable) (program words : List ℕ) (n : ℕ)
-      → Refuses (tableNumbers ∷ programNumbers ∷ just 13 ∷ just 14 ∷ []) (referenceChecks (load T) program words n)
-      (verdict (referenceCall (load T) program words n .outcome))
+  pub references : (G : Given) (program words : List ℕ) (n : ℕ)
+      → Refuses (tableNumbers ∷ programNumbers ∷ just 13 ∷ just 14 ∷ []) (referenceChecks (load G) program words n)
+      (verdict (referenceCall (load G) program words n .outcome))
   -- the calls on netlists that are held as cells
   pub cellsChecked : (cs : List Cell) (f : ℕ) → Refuses (just 11 ∷ just 12 ∷ []) (checkCellsChecks cs f) (checkCellsCall cs f)
   pub cellsWritten : (cs : List Cell) (f : ℕ) (lent : List ℕ) →

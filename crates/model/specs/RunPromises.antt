@@ -16,10 +16,11 @@ use Rattle.model.specs.declared.Written.the-variants.{Done}
 use Rattle.model.specs.declared.Answer.{Answer}
 use Rattle.model.specs.Word.{pick, elementWord}
 use Rattle.model.specs.Program.{Stmt, programOf}
+use Rattle.model.specs.Procedures.{meaning}
 use Rattle.model.specs.Rules.{Store, Ends, Run, atEnd, atExit, done, still, ended, endsAt}
 use Rattle.model.specs.Circuit.{memoryWords, Sig, Values, level, element, arrayAt, Obeys}
 use Rattle.model.specs.NetlistFile.{cellsOf, finishOf}
-use Rattle.model.specs.TimeTables.{TimeTable, load}
+use Rattle.model.specs.TimeTables.{Given, load}
 use Rattle.model.specs.State.{stateSize, flightOf, elementNow, wordsIn}
 use Rattle.model.specs.Calls.{Returned, verdict, compileCall, wordAt, beginCall, continueCall, startCall, runNetlistCall, runProgramCall, listed}
 use Rattle.model.specs.RefusalPromises.{Leaves}
@@ -198,7 +199,7 @@ lastOf Open begun on =
 lastOf (Outcome.Refused r) begun on = begun
 
 -- One statement about a beginning, a whole list of continuings and starts, and the full runs of budget n of the program and of its netlist: P is
--- the program, σ its start words.
+-- the statement that the program means, σ its start words.
 pub record Keeps (P : Stmt) (σ : Store) (file : List ℕ) (begun : Returned Answer) (calls : List Call) (programRun netlistRun : ℕ → Answer)
     : Type 0 where
   -- how runs of the program stand, by its own rules
@@ -230,9 +231,9 @@ pub record Keeps (P : Stmt) (σ : Store) (file : List ℕ) (begun : Returned Ans
 -- and the start words". "Under every table that loads, finish and last words are the program's."
 unfoldable pub Demand3 : Type 0
 Demand3 =
-    (T : TimeTable) (program forFile words forState : List ℕ) (calls : List Call) (n f : ℕ) → compileCall (load T) program forFile .answer ≡ Done n f →
-    let file = take n (compileCall (load T) program forFile .lent) in
+    (G : Given) (program forFile words forState : List ℕ) (calls : List Call) (n f : ℕ) → compileCall (load G) program forFile .answer ≡ Done n f →
+    let file = take n (compileCall (load G) program forFile .lent) in
     let begun = beginCall file words forState in
     verdict (begun .answer .outcome) ≡ Accepted →
-    Keeps (programOf program) (wordAt words) file begun calls
-    (λ k. runProgramCall (load T) program words k forFile forState .answer) (λ k. runNetlistCall file words k forState .answer)
+    Keeps (meaning (programOf (G .procedures) program)) (wordAt words) file begun calls
+    (λ k. runProgramCall (load G) program words k forFile forState .answer) (λ k. runNetlistCall file words k forState .answer)

@@ -7,7 +7,7 @@ use lib.Dec.{eqb, leb}
 use Rattle.model.specs.declared.Cell.{Cell}
 use Rattle.model.specs.declared.Merge.{Merge}
 use Rattle.model.specs.Word.{pick, bit, isZero, operate, elementOf, get16, put16, get32, put32, bytes16}
-use Rattle.model.specs.Circuit.{cellAt, control, high, mergeStep, memoryWords, startWord, Shape, shape, kConstant, kComplement, kOperator, kStart, kGround, kDelay, kOr, kWhenTrue, kWhenFalse, kMerge, kMemory, kGated, kArray, kAddress, kRead, kUnknown}
+use Rattle.model.specs.Circuit.{cellAt, control, high, mergeStep, returnStep, merges, memoryWords, startWord, Shape, shape, kConstant, kComplement, kOperator, kStart, kGround, kDelay, kOr, kWhenTrue, kWhenFalse, kMerge, kReturn, kMemory, kGated, kArray, kAddress, kRead, kUnknown}
 use Rattle.model.specs.NetlistFile.{allZero}
 
 -- The bytes ----------------------------------------------------------------------------------------------------------------------------
@@ -68,6 +68,7 @@ nextValue kOr starts net s k c = bit (high (nowAt s (c .a)) || high (nowAt s (c 
 nextValue kWhenTrue starts net s k c = bit (high (nowAt s (c .a)) && not (isZero (nowAt s (c .b))))
 nextValue kWhenFalse starts net s k c = bit (high (nowAt s (c .a)) && isZero (nowAt s (c .b)))
 nextValue kMerge starts net s k c = bit (mergeStep (heldAt s k) (high (nowAt s (c .a))) (high (nowAt s (c .b))) .out)
+nextValue kReturn starts net s k c = bit (returnStep (heldAt s k) (high (nowAt s (c .a))) (high (nowAt s (c .b))) .out)
 nextValue kMemory starts net s k c = pick (fallen s (c .a)) (beforeAt s (c .b)) (beforeAt s k)
 nextValue kGated starts net s k c = pick (high (nowAt s (c .a))) (nowAt s (c .b)) 0
 nextValue kArray starts net s k c = 0
@@ -123,6 +124,7 @@ settle kOr s k c = s
 settle kWhenTrue s k c = s
 settle kWhenFalse s k c = s
 settle kMerge s k c = holding s k (mergeStep (heldAt s k) (high (nowAt s (c .a))) (high (nowAt s (c .b))) .held)
+settle kReturn s k c = holding s k (returnStep (heldAt s k) (high (nowAt s (c .a))) (high (nowAt s (c .b))) .held)
 settle kMemory s k c = s
 settle kGated s k c = s
 settle kArray s k c = s
@@ -146,7 +148,7 @@ heldBits m = bit (m .a) + bit (m .b)
 -- "delay inputs not yet put out and held merge bits", of a cell c with this line and these held bits: what came in d instants ago or earlier has been
 -- put out
 unfoldable pub inFlight : (ℕ → ℕ) → Merge → Cell → ℕ
-inFlight line held c = pick (eqb (c .kind) 34) (ones line (c .delay)) (pick (eqb (c .kind) 38) (heldBits held) 0)
+inFlight line held c = pick (eqb (c .kind) 34) (ones line (c .delay)) (pick (merges (c .kind)) (heldBits held) 0)
 
 -- the sum of these, of the cells cs, which stand from k on, where cell k has line k and held k
 unfoldable pub flightIn : (ℕ → ℕ → ℕ) → (ℕ → Merge) → List Cell → ℕ → ℕ
@@ -208,11 +210,12 @@ wordsIn cs k s = memoryWords cs k (nowAt s)
 
 -- Refusal 15 ---------------------------------------------------------------------------------------------------------------------------
 
--- "15. A state whose control values or held bits exceed 1, or with held bits, lines or zero bytes set where the cell has none."
+-- "15. A state whose control values or held bits exceed 1, or with held bits, lines or zero bytes set where the cell has none.": a 39 "holds a", and
+-- no b
 unfoldable pub cellSound : Cell → List ℕ → ℕ → Bool
 cellSound c s k =
     (not (control (c .kind)) || (leb (nowAt s k) 1 && leb (beforeAt s k) 1))
-    && ((leb (getD s (base k + 4) 0) (bit (eqb (c .kind) 38)) && leb (getD s (base k + 5) 0) (bit (eqb (c .kind) 38)))
+    && ((leb (getD s (base k + 4) 0) (bit (merges (c .kind))) && leb (getD s (base k + 5) 0) (bit (eqb (c .kind) 38)))
     && (allZero (take 2 (drop (base k + 6) s))
     && (eqb (c .kind) 34 || allZero (take 32 (drop (base k + 8) s)))))
 

@@ -7,7 +7,7 @@ use Prim.Native.Nat.{ℕ, _≤_}
 use lib.ListN.{replicate}
 use Rattle.model.specs.declared.Checked.the-variants.{Accepted}
 use Rattle.model.specs.NetlistFile.{blockWith}
-use Rattle.model.specs.TimeTables.{given, load}
+use Rattle.model.specs.TimeTables.{given, beside, load}
 use Rattle.model.specs.Calls.{listed}
 use Rattle.model.specs.Word.{Bytes}
 
@@ -21,5 +21,6 @@ abbrev pub InRange : (ℕ → ℕ) → Type 0
 InRange τ = (τ 1 ≡ 0) × (τ 2 ≡ 0) × ((k : ℕ) → 3 ≤ k → k ≤ 10 → (1 ≤ τ k) × (τ k ≤ 200))
 
 pub record Tables : Type 0 where
-  pub loads : (τ : ℕ → ℕ) → InRange τ → load (given (tableFile τ)) ≡ record { checked = Accepted; times = 0 ∷ listed τ 1 10 }
-  pub only : (file : List ℕ) → Bytes file → load (given file) .checked ≡ Accepted → (τ : ℕ → ℕ) × InRange τ × (file ≡ tableFile τ)
+  pub loads : (τ : ℕ → ℕ) (k : ℕ) → InRange τ
+      → load (beside (given (tableFile τ)) k) ≡ record { checked = Accepted; times = 0 ∷ listed τ 1 10; procedures = k }
+  pub only : (file : List ℕ) (k : ℕ) → Bytes file → load (beside (given file) k) .checked ≡ Accepted → (τ : ℕ → ℕ) × InRange τ × (file ≡ tableFile τ)

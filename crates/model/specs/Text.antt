@@ -13,7 +13,7 @@ use Rattle.model.specs.declared.Checked.the-variants.{Accepted}
 use Rattle.model.specs.Word.{pick}
 use Rattle.model.specs.Ascii.{ascii}
 use Rattle.model.specs.Refusals.{refuse}
-use Rattle.model.specs.Program.{Expr, const, var, compl, op, Stmt, ok, tick, assign, seq, par, ite, while, repeat}
+use Rattle.model.specs.Program.{Expr, const, var, compl, op, Code, ok, tick, assign, seq, par, ite, while, repeat}
 
 -- Tokens -------------------------------------------------------------------------------------------------------------------------------
 
@@ -229,36 +229,36 @@ timed ts d rest = ts ++ (sign cAt ∷ (numeral d ∷ rest))
 
 -- The tokens are a statement of a level: 2 is one statement or braces; 1 also ;; 0 also ||. "Statements are `ok`, `tick n`, `xk := e @n`,
 -- `if e @n then S else S end`, `while e @n do S end`, `repeat S until e @n end`".
-pub data IsStmt : ℕ → List Token → Stmt → Type 0 where
+pub data IsStmt : ℕ → List Token → Code → Type 0 where
   skip : IsStmt 2 (sign 16 ∷ []) ok
   ticks : (d : ℕ) → IsStmt 2 (sign 17 ∷ (numeral d ∷ [])) (tick d)
   becomes : (d x : ℕ) {ts : List Token} {e : Expr} → IsExpr 0 ts e → IsStmt 2 (name x ∷ (sign 18 ∷ timed ts d [])) (assign d x e)
-  ifs : (d : ℕ) {ts us vs : List Token} {e : Expr} {P Q : Stmt} → IsExpr 0 ts e → IsStmt 0 us P → IsStmt 0 vs Q
+  ifs : (d : ℕ) {ts us vs : List Token} {e : Expr} {P Q : Code} → IsExpr 0 ts e → IsStmt 0 us P → IsStmt 0 vs Q
       → IsStmt 2 (sign 21 ∷ timed ts d (sign cThen ∷ (us ++ (sign cElse ∷ (vs ++ (sign cEnd ∷ [])))))) (ite d e P Q)
-  whiles : (d : ℕ) {ts us : List Token} {e : Expr} {P : Stmt} → IsExpr 0 ts e → IsStmt 0 us P
+  whiles : (d : ℕ) {ts us : List Token} {e : Expr} {P : Code} → IsExpr 0 ts e → IsStmt 0 us P
       → IsStmt 2 (sign 22 ∷ timed ts d (sign cDo ∷ (us ++ (sign cEnd ∷ [])))) (while d e P)
-  repeats : (d : ℕ) {ts us : List Token} {e : Expr} {P : Stmt} → IsStmt 0 us P → IsExpr 0 ts e
+  repeats : (d : ℕ) {ts us : List Token} {e : Expr} {P : Code} → IsStmt 0 us P → IsExpr 0 ts e
       → IsStmt 2 (sign 23 ∷ (us ++ (sign cUntil ∷ timed ts d (sign cEnd ∷ [])))) (repeat d e P)
   -- "braces group"
-  braces : {ts : List Token} {P : Stmt} → IsStmt 0 ts P → IsStmt 2 (sign cLeft ∷ (ts ++ (sign cRight ∷ []))) P
+  braces : {ts : List Token} {P : Code} → IsStmt 0 ts P → IsStmt 2 (sign cLeft ∷ (ts ++ (sign cRight ∷ []))) P
   -- "`;` binds tighter than `||`, and both group to the right"
-  sequence : {ts us : List Token} {P Q : Stmt} → IsStmt 2 ts P → IsStmt 1 us Q → IsStmt 1 (ts ++ (sign 19 ∷ us)) (seq P Q)
-  parallel : {ts us : List Token} {P Q : Stmt} → IsStmt 1 ts P → IsStmt 0 us Q → IsStmt 0 (ts ++ (sign 20 ∷ us)) (par P Q)
-  up : {l : ℕ} {ts : List Token} {P : Stmt} → IsStmt (suc l) ts P → IsStmt l ts P
+  sequence : {ts us : List Token} {P Q : Code} → IsStmt 2 ts P → IsStmt 1 us Q → IsStmt 1 (ts ++ (sign 19 ∷ us)) (seq P Q)
+  parallel : {ts us : List Token} {P Q : Code} → IsStmt 1 ts P → IsStmt 0 us Q → IsStmt 0 (ts ++ (sign 20 ∷ us)) (par P Q)
+  up : {l : ℕ} {ts : List Token} {P : Code} → IsStmt (suc l) ts P → IsStmt l ts P
 
 -- the tokens are a text of the language, whose program is P
-abbrev pub Means : List Token → Stmt → Type 0
+abbrev pub Means : List Token → Code → Type 0
 Means ts P = IsStmt 0 ts P
 
 -- Where the grammar is broken ----------------------------------------------------------------------------------------------------------
 
 -- some continuation fits
 abbrev pub Begins : List Token → Type 0
-Begins ts = (us : List Token) × (P : Stmt) × Means (ts ++ us) P
+Begins ts = (us : List Token) × (P : Code) × Means (ts ++ us) P
 
 -- "the first byte of the word where no continuation fits, or the length", as the number of a word, or how many there are
 pub record BreaksAt (ts : List Token) (i : ℕ) : Type 0 where
   pub before : Begins (take i ts)
   pub within : i ≤ length ts
   pub here : i < length ts → Begins (take (suc i) ts) → ⊥
-  pub none : (P : Stmt) → Means ts P → ⊥
+  pub none : (P : Code) → Means ts P → ⊥

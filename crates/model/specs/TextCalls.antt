@@ -10,7 +10,8 @@ use Rattle.model.specs.declared.Checked.{Checked}
 use Rattle.model.specs.declared.Checked.the-variants.{Accepted}
 use Rattle.model.specs.declared.Written.{Written}
 use Rattle.model.specs.Refusals.{refuse, refuseIf, first}
-use Rattle.model.specs.Program.{nodeBytes, checkOf, programOf}
+use Rattle.model.specs.Program.{nodeBytes}
+use Rattle.model.specs.ProgramChecks.{programWith, checkOf}
 use Rattle.model.specs.Numbering.{finish}
 use Rattle.model.specs.Text.{wordsOf, outside}
 use Rattle.model.specs.Reader.{Reading, good, bad, readerAtFirst, readFrom}
@@ -37,32 +38,32 @@ textProgram text = bytesRead (readingOf text)
 abbrev pub textChecks : List ℕ → List Checked
 textChecks text = refuseIf (ltb 4096 (length text)) 17 4096 ∷ outside (wordsOf text) ∷ brokenAt (readingOf text) ∷ []
 
--- text to program: 19 to 21, 17, 18, 1 to 8 and 22, 14. A program has no finish cell: it is told as 0.
+-- text to program: 19 to 21, 17, 18, 1 to 8, 22, 24 and 25, 14. A program has no finish cell: it is told as 0.
 abbrev pub readTextChecks : Options → List ℕ → List ℕ → List Checked
 readTextChecks options text lent =
-    options .checked ∷ textChecks text ++ (checkOf (options .times) (textProgram text) ∷ short (length lent) (length (textProgram text)) ∷ [])
+    options .checked ∷ textChecks text ++ (checkOf options (textProgram text) ∷ short (length lent) (length (textProgram text)) ∷ [])
 
 unfoldable pub readTextCall : Options → List ℕ → List ℕ → Returned Written
 readTextCall options text lent = writing (first (readTextChecks options text lent)) (textProgram text) (length (textProgram text)) 0 lent
 
--- text to netlist: 19 to 21, 17, 18, 1 to 8 and 22, 14
+-- text to netlist: 19 to 21, 17, 18, 1 to 8, 22, 24 and 25, 14
 abbrev pub compileTextChecks : Options → List ℕ → List ℕ → List Checked
-compileTextChecks options text lent = options .checked ∷ textChecks text ++ netlistChecks (options .times) (textProgram text) lent
+compileTextChecks options text lent = options .checked ∷ textChecks text ++ netlistChecks options (textProgram text) lent
 
 unfoldable pub compileTextCall : Options → List ℕ → List ℕ → Returned Written
 compileTextCall options text lent =
     let program = textProgram text in
-    let file = compiledFile program in
-    writing (first (compileTextChecks options text lent)) file (length file) (finish (programOf program)) lent
+    let file = compiledFile options program in
+    writing (first (compileTextChecks options text lent)) file (length file) (finish (programWith options program)) lent
 
--- a full run of a text: 19 to 21, 17, 18, 1 to 8 and 22, 13, 14
+-- a full run of a text: 19 to 21, 17, 18, 1 to 8, 22, 24 and 25, 13, 14
 abbrev pub runTextChecks : Options → List ℕ → List ℕ → ℕ → List ℕ → List ℕ → List Checked
 runTextChecks options text words n forFile lent =
-    options .checked ∷ textChecks text ++ fullRunChecks (options .times) (textProgram text) words n forFile lent
+    options .checked ∷ textChecks text ++ fullRunChecks options (textProgram text) words n forFile lent
 
 unfoldable pub runTextCall : Options → List ℕ → List ℕ → ℕ → List ℕ → List ℕ → ReturnedBoth
 runTextCall options text words n forFile lent =
-    let file = compiledFile (textProgram text) in
+    let file = compiledFile options (textProgram text) in
     let c = first (runTextChecks options text words n forFile lent) in
     let r = running c file (fullState file words n lent) (fullCount file words n lent) lent in
     record { answer = r .answer; netlist = writing c file (length file) 0 forFile .lent; state = r .lent }

@@ -11,10 +11,10 @@ use Rattle.model.specs.declared.texts.Token.{Token}
 use Rattle.model.specs.declared.Checked.the-variants.{Accepted}
 use Rattle.model.specs.declared.Written.the-variants.{Done}
 use Rattle.model.specs.Refusals.{first}
-use Rattle.model.specs.Program.{Stmt, preorder, nodeBytes, programOf}
+use Rattle.model.specs.Program.{Code, alone, preorder, nodeBytes, programOf}
 use Rattle.model.specs.Text.{valueFrom, isNumber, isName, Lexeme, wordsOf, tokens, Means, BreaksAt}
 use Rattle.model.specs.Reader.{good, bad}
-use Rattle.model.specs.TimeTables.{TimeTable, load}
+use Rattle.model.specs.TimeTables.{Given, load}
 use Rattle.model.specs.TextCalls.{readingOf, textProgram, textChecks, readTextChecks, readTextCall, compileTextChecks, compileTextCall, runTextChecks, runTextCall}
 use Rattle.model.specs.Calls.{verdict, writtenVerdict, compileCall, runProgramCall}
 use Rattle.model.specs.Hubrun.{decimal}
@@ -40,35 +40,35 @@ pub record Words : Type 0 where
 
 pub record Texts : Type 0 where
   -- the grammar is unambiguous
-  pub one : (ts : List Token) (P Q : Stmt) → Means ts P → Means ts Q → P ≡ Q
+  pub one : (ts : List Token) (P Q : Code) → Means ts P → Means ts Q → P ≡ Q
   -- the reader finds the reading wherever there is one, and nothing else
-  pub found : (text : List ℕ) (P : Stmt) → Means (tokens (wordsOf text)) P → readingOf text ≡ good (preorder P)
-  pub read : (text : List ℕ) (ns : List Node) → readingOf text ≡ good ns → (P : Stmt) × Means (tokens (wordsOf text)) P × (ns ≡ preorder P)
+  pub found : (text : List ℕ) (P : Code) → Means (tokens (wordsOf text)) P → readingOf text ≡ good (preorder P)
+  pub read : (text : List ℕ) (ns : List Node) → readingOf text ≡ good ns → (P : Code) × Means (tokens (wordsOf text)) P × (ns ≡ preorder P)
   -- "18: the grammar is broken, place the first byte of the word where no continuation fits, or the length"
   pub broken : (text : List ℕ) (p : ℕ) → readingOf text ≡ bad p
       → (i : ℕ) × BreaksAt (tokens (wordsOf text)) i × (p ≡ placeAt (length text) (wordsOf text) i)
   -- the bytes that an accepted text gives are those of its reading, and the program that they are is that statement
-  pub program : (T : TimeTable) (text lent : List ℕ) (n f : ℕ) → readTextCall (load T) text lent .answer ≡ Done n f →
-      let bytes = take n (readTextCall (load T) text lent .lent) in
-      (P : Stmt) × Means (tokens (wordsOf text)) P × (bytes ≡ nodeBytes (preorder P)) × (programOf bytes ≡ P)
+  pub program : (G : Given) (text lent : List ℕ) (n f : ℕ) → readTextCall (load G) text lent .answer ≡ Done n f →
+      let bytes = take n (readTextCall (load G) text lent .lent) in
+      (P : Code) × Means (tokens (wordsOf text)) P × (bytes ≡ nodeBytes (preorder P)) × (programOf (G .procedures) bytes ≡ alone P)
   -- a text that passes 17 and 18 has bytes for its program, and is compiled and run as that program, of which demands 2 and 3 speak
   pub bytes : (text : List ℕ) → first (textChecks text) ≡ Accepted → Bytes (textProgram text)
-  pub compiled : (T : TimeTable) (text lent : List ℕ) → first (textChecks text) ≡ Accepted
-      → compileTextCall (load T) text lent ≡ compileCall (load T) (textProgram text) lent
-  pub run : (T : TimeTable) (text words : List ℕ) (n : ℕ) (forFile lent : List ℕ) → first (textChecks text) ≡ Accepted
-      → runTextCall (load T) text words n forFile lent ≡ runProgramCall (load T) (textProgram text) words n forFile lent
+  pub compiled : (G : Given) (text lent : List ℕ) → first (textChecks text) ≡ Accepted
+      → compileTextCall (load G) text lent ≡ compileCall (load G) (textProgram text) lent
+  pub run : (G : Given) (text words : List ℕ) (n : ℕ) (forFile lent : List ℕ) → first (textChecks text) ≡ Accepted
+      → runTextCall (load G) text words n forFile lent ≡ runProgramCall (load G) (textProgram text) words n forFile lent
   -- the refusals in the published order, and what a refusal leaves
-  pub reading : (T : TimeTable) (text lent : List ℕ) →
-      let c = writtenVerdict (readTextCall (load T) text lent .answer) in
-      Refuses (tableNumbers ∷ just 17 ∷ just 17 ∷ just 18 ∷ programNumbers ∷ just 14 ∷ []) (readTextChecks (load T) text lent) c
-      × Leaves c lent (readTextCall (load T) text lent .lent)
-  pub compiling : (T : TimeTable) (text lent : List ℕ) →
-      let c = writtenVerdict (compileTextCall (load T) text lent .answer) in
-      Refuses (tableNumbers ∷ just 17 ∷ just 17 ∷ just 18 ∷ programNumbers ∷ just 14 ∷ []) (compileTextChecks (load T) text lent) c
-      × Leaves c lent (compileTextCall (load T) text lent .lent)
-  pub runs : (T : TimeTable) (text words : List ℕ) (n : ℕ) (forFile lent : List ℕ) →
-      let r = runTextCall (load T) text words n forFile lent in
+  pub reading : (G : Given) (text lent : List ℕ) →
+      let c = writtenVerdict (readTextCall (load G) text lent .answer) in
+      Refuses (tableNumbers ∷ just 17 ∷ just 17 ∷ just 18 ∷ programNumbers ∷ just 14 ∷ []) (readTextChecks (load G) text lent) c
+      × Leaves c lent (readTextCall (load G) text lent .lent)
+  pub compiling : (G : Given) (text lent : List ℕ) →
+      let c = writtenVerdict (compileTextCall (load G) text lent .answer) in
+      Refuses (tableNumbers ∷ just 17 ∷ just 17 ∷ just 18 ∷ programNumbers ∷ just 14 ∷ []) (compileTextChecks (load G) text lent) c
+      × Leaves c lent (compileTextCall (load G) text lent .lent)
+  pub runs : (G : Given) (text words : List ℕ) (n : ℕ) (forFile lent : List ℕ) →
+      let r = runTextCall (load G) text words n forFile lent in
       let c = verdict (r .answer .outcome) in
       Refuses (tableNumbers ∷ just 17 ∷ just 17 ∷ just 18 ∷ programNumbers ∷ just 13 ∷ just 14 ∷ just 14 ∷ just 14 ∷ [])
-      (runTextChecks (load T) text words n forFile lent) c
+      (runTextChecks (load G) text words n forFile lent) c
       × Leaves c forFile (r .netlist) × Leaves c lent (r .state)

@@ -1,4 +1,4 @@
--- Tables of operator times: the file that gives one, refusals 19 to 21, and what is given beside a program when a table is.
+-- Tables of operator times: the file that gives one, refusals 19 to 21; and what is given beside a program, a table and the number of procedures.
 -- "Clubs buy gate parts of different speeds. A one-block file gives the times". "Refusal 7 uses it; without one the built-in serves."
 -- Assumes nothing: definitions.
 use mathlib.Core.Bool.{Bool, true, false, not, _&&_, _||_}
@@ -66,10 +66,26 @@ givenIf false file = builtIn
 givenIf true file = given file
 
 -- what its check says, and its times
-unfoldable pub load : TimeTable → Options
-load builtIn = record { checked = Accepted; times = builtInTimes }
-load (given file) = record { checked = first (tableChecks file); times = timesIn file }
+unfoldable pub verdictOf : TimeTable → Checked
+verdictOf builtIn = Accepted
+verdictOf (given file) = first (tableChecks file)
+
+unfoldable pub timesOf : TimeTable → List ℕ
+timesOf builtIn = builtInTimes
+timesOf (given file) = timesIn file
+
+-- what is given beside a program: a table, and the number of its procedures
+pub record Given : Type 0 where
+  pub table : TimeTable
+  pub procedures : ℕ
+
+abbrev pub beside : TimeTable → ℕ → Given
+beside T k = record { table = T; procedures = k }
+
+-- what calls take
+unfoldable pub load : Given → Options
+load G = record { checked = verdictOf (G .table); times = timesOf (G .table); procedures = G .procedures }
 
 -- "without one the built-in serves": what stands for 'nothing given'
 abbrev pub defaults : Options
-defaults = load builtIn
+defaults = load (beside builtIn 0)

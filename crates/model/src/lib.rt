@@ -1,7 +1,7 @@
 // The public types, by value, and the step of a merge. Definitions that speak of them are in specs/.
 // Numbers and places are those of paper 01, "From the input" and "From the state", and of paper 02.
 ghost use mathlib.Core.Path.{_≡_};
-ghost use Rattle.model.specs.Circuit.{mergeStep};
+ghost use Rattle.model.specs.Circuit.{mergeStep, returnStep};
 
 pub mod kinds; // rows of the table of kinds, for the check of a program
 pub mod sizes; // sizes and limits, for code
@@ -47,10 +47,12 @@ pub struct Node {
     pub n: u16,
 }
 
-// What is given beside a program: what its check says, and the operator times, that of each kind from kind 0 on.
+// What is given beside a program: what the check of its table says, the operator times, that of each kind from kind 0 on, and the number of
+// procedures.
 pub struct Options {
     pub checked: Checked,
     pub times: [u8; 11],
+    pub procedures: usize,
 }
 
 // A cell of a netlist, six bytes; callers in other languages lend slices of them.
@@ -86,6 +88,21 @@ impl Merge {
             held: Merge {
                 a: both_a & !out,
                 b: both_b & !out,
+            },
+            out,
+        }
+    }
+
+    // One instant of a call's merge, which holds a and no b.
+    pub fn step_call(self, a: bool, b: bool) -> Merged
+        ensures { λ r. ⌜ r ≡ returnStep self a b ⌝ }
+    {
+        let waits = a | self.a;
+        let out = waits & b;
+        Merged {
+            held: Merge {
+                a: waits & !out,
+                b: false,
             },
             out,
         }

@@ -2,7 +2,7 @@
 // Each contract is an equation with model/Circuit and model/NetlistFile.
 ghost use mathlib.Core.Path.{_≡_};
 ghost use mathlib.Core.Bool.{_||_, not};
-ghost use Rattle.model.specs.Circuit.{row, cellRow, control, names};
+ghost use Rattle.model.specs.Circuit.{row, cellRow, control, merges, names};
 ghost use Rattle.model.specs.NetlistFile.{ofArray};
 use model::kinds::CellRow;
 use model::kinds::Use;
@@ -34,6 +34,7 @@ pub fn cell_row(kind: u8) -> CellRow
         36 => row(true, Use::Unused, Use::ControlBelow, Use::WordBelow),
         37 => row(true, Use::Unused, Use::ControlBelow, Use::WordBelow),
         38 => row(true, Use::Unused, Use::ControlBelow, Use::ControlBelow),
+        39 => row(true, Use::Unused, Use::ControlBelow, Use::ControlBelow),
         40 => row(false, Use::Unused, Use::ControlBelow, Use::WordAny),
         41 => row(false, Use::Unused, Use::ControlBelow, Use::WordBelow),
         42 => row(false, Use::Value, Use::ControlBelow, Use::WordAny),
@@ -55,6 +56,13 @@ pub fn of_array(kind: u8) -> bool
     ensures { λ r. ⌜ r ≡ ofArray kind ⌝ }
 {
     (kind == 42) | (kind == 43)
+}
+
+// Whether a cell of this kind is a merge, a parallel's or a call's.
+pub fn is_merge(kind: u8) -> bool
+    ensures { λ r. ⌜ r ≡ merges kind ⌝ }
+{
+    (kind == 38) | (kind == 39)
 }
 
 // Whether a cell of this kind is a word wire that any cell may name.

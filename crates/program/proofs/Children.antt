@@ -54,5 +54,6 @@ module _ {s ends : List ℕ} {i j : ℕ} {a : Node} (n : Inner s ends i a j) whe
   pub while-read : a .kind ≡ 22 → stmtAt s i ≡ while (a .delay) (exprAt s (i + 1)) (stmtAt s j)
   while-read = at-while s i (n .here) a (n .node) j second
 
-  pub repeat-read : 23 ≤ a .kind → (a .kind ≡ 24 → ⊥) → (a .kind ≡ 25 → ⊥) → (a .kind ≡ 26 → ⊥) → stmtAt s i ≡ repeat (a .delay) (exprAt s (i + 1)) (stmtAt s j)
+  pub repeat-read : 23 ≤ a .kind → (a .kind ≡ 24 → ⊥) → (a .kind ≡ 25 → ⊥) → (a .kind ≡ 26 → ⊥) → (a .kind ≡ 27 → ⊥)
+      → stmtAt s i ≡ repeat (a .delay) (exprAt s (i + 1)) (stmtAt s j)
   repeat-read = at-repeat s i (n .here) a (n .node) j second

@@ -15,18 +15,22 @@ use Rattle.model.specs.declared.Refusal.{Refusal}
 use Rattle.model.specs.declared.Checked.{Checked}
 use Rattle.model.specs.declared.Checked.the-variants.{Accepted, Refused}
 use Rattle.model.specs.Refusals.{refuseIf, first}
-use Rattle.model.specs.Program.{Stmt, Tree, expr, stmt, none, asExpr, asStmt, nodeAt, nodeCount, kindTable, rowOf, children, treesAt, exprAt, stmtAt, preorderE, preorder, looseIn}
+use Rattle.model.specs.Program.{Code, Tree, expr, stmt, none, asExpr, asStmt, nodeAt, nodeCount, kindTable, rowOf, treesAt, exprAt, stmtAt, preorderE, preorder}
+use Rattle.model.specs.ProgramChecks.{children, searched, looseIn}
 use Rattle.laws.specs.Refusals.Laws.{by-bool, or-false, first-one}
-use Rattle.laws.specs.Program.Trees.{treeAt, no-stmt, at-ok, at-tick, at-assign, at-assign-elem, at-loop, at-exit, at-seq, at-par, at-ite, at-while, at-repeat}
+use Rattle.laws.specs.Program.Trees.{treeAt, no-stmt, at-ok, at-tick, at-assign, at-assign-elem, at-loop, at-exit, at-call, at-seq, at-par, at-ite, at-while, at-repeat}
 use Rattle.laws.specs.Program.Preorder.{nodesOf, sortsOf}
 use Rattle.laws.specs.Program.Grows.{sorted, known-kind}
 use Rattle.laws.specs.Program.Passed.{children-at, past-tree}
-use Rattle.program.specs.Ends.{past, past-trees, past-later, past-within}
+use Rattle.program.specs.Ends.{past, past-trees, past-later}
 use Rattle.program.specs.Uses.{Side, side-below, side-within}
 
--- a kind that is neither below 19 nor 24
-pub other-kinds : {k : ℕ} → (ltb k 19 || eqb k 24) ≡ false → (19 ≤ k) × (k ≡ 24 → ⊥)
-other-kinds {k} e = let b = or-false (ltb k 19) (eqb k 24) e in (ltb-false k 19 (b .0), eqb-false k 24 (b .1))
+-- a kind that is neither below 19 nor 24 nor 27
+pub other-kinds : {k : ℕ} → (ltb k 19 || (eqb k 24 || eqb k 27)) ≡ false → (19 ≤ k) × (k ≡ 24 → ⊥) × (k ≡ 27 → ⊥)
+other-kinds {k} e =
+    let b = or-false (ltb k 19) (eqb k 24 || eqb k 27) e in
+    let c = or-false (eqb k 24) (eqb k 27) (b .1) in
+    (ltb-false k 19 (b .0), eqb-false k 24 (c .0), eqb-false k 27 (c .1))
 
 pub at-most : {k : ℕ} → k ≤ 21 → (k ≡ 21 → ⊥) → k ≤ 20
 at-most l n = omega arith
@@ -34,16 +38,16 @@ at-most l n = omega arith
 -- The node behind a child --------------------------------------------------------------------------------------------------------------
 
 module _ {s ends : List ℕ} (p q : ℕ) (e : q ≡ past ends (nodeCount s) p) where
-  stmt-place : Side s ends p → q ≡ p + length (preorder (stmtAt s p))
+  pub stmt-place : Side s ends p → q ≡ p + length (preorder (stmtAt s p))
   stmt-place S =
-      past-tree s (S .readable) p q (side-below s ends p S) (side-within s ends p S q e) (past-trees s ends p (S .laid .each p) q e)
+      past-tree (S .procedures) s (S .readable) p q (side-below s ends p S) (side-within s ends p S q e) (past-trees s ends p (S .laid .each p) q e)
       ∙ ap (λ (t : Tree). p + length (nodesOf t)) (S .statement)
 
   expr-place : treeAt s p ≡ expr (exprAt s p) → Side s ends q → q ≡ p + length (preorderE (exprAt s p))
   expr-place t S =
       let b = side-below s ends q S in
       let l = past-later s ends p (S .laid .each p) q e in
-      past-tree s (S .readable) p q (omega arith) (omega arith) (past-trees s ends p (S .laid .each p) q e) ∙ ap (λ (t : Tree). p + length (nodesOf t)) t
+      past-tree (S .procedures) s (S .readable) p q (omega arith) (omega arith) (past-trees s ends p (S .laid .each p) q e) ∙ ap (λ (t : Tree). p + length (nodesOf t)) t
 
 -- The children of node i, which is a ---------------------------------------------------------------------------------------------------
 
@@ -72,36 +76,36 @@ module _ {s ends : List ℕ} {i : ℕ} (S : Side s ends i) {a : Node} (ea : a �
   here = side-below s ends i S
 
   side : (j : ℕ) → treeAt s j ≡ stmt (stmtAt s j) → Side s ends j
-  side j e = record { readable = S .readable; laid = S .laid; statement = e }
+  side j e = record { procedures = S .procedures; readable = S .readable; laid = S .laid; statement = e }
 
   sorts : (k : ℕ) → a .kind ≡ k → (ws : List ℕ) × (sortsOf (treesAt s (i + 1)) ≡ children k ++ ws)
   sorts k e =
-      let c = children-at s (S .readable) i here in
+      let c = children-at (S .procedures) s (S .readable) i here in
       (c .0, c .1 ∙ ap (λ (k : ℕ). children k ++ c .0) (sym (ap (λ (a : Node). a .kind) ea) ∙ e))
 
-  known : a .kind < 27
+  known : a .kind < 28
   unfolding rowOf
-  known = go (decLt (a .kind) 27)
+  known = go (decLt (a .kind) 28)
     where
-      go : Dec (a .kind < 27) → a .kind < 27
+      go : Dec (a .kind < 28) → a .kind < 28
       go (yes l) = l
       go (no n) =
-          let l : 27 ≤ a .kind = omega arith in
+          let l : 28 ≤ a .kind = omega arith in
           let row = List·getD-eq-default kindTable (rowOf 0) l in
           absurd (known-kind (nodeAt s i) (S .readable .faultless i here) (sym (ap (λ (a : Node). rowOf (a .kind) .sort) ea) ∙ ap (λ (r : Row). r .sort) row))
 
   -- No statement among them ------------------------------------------------------------------------------------------------------------
 
   pub loose-exit : a .kind ≡ 26 → (inside b : Bool) → inside ≡ b → refuseIf (not b) 22 i ≡ looseIn inside (stmtAt s i) i
-  unfolding looseIn
-  loose-exit e inside b f = sym (ap (λ (P : Stmt). looseIn inside P i) (at-exit s i here a ea e) ∙ ap (λ (b : Bool). refuseIf (not b) 22 i) f)
+  unfolding searched
+  loose-exit e inside b f = sym (ap (λ (P : Code). looseIn inside P i) (at-exit s i here a ea e) ∙ ap (λ (b : Bool). refuseIf (not b) 22 i) f)
 
   module _ (inside : Bool) where
-    none-loose : (P : Stmt) → looseIn inside P i ≡ Accepted → stmtAt s i ≡ P → Accepted ≡ looseIn inside (stmtAt s i) i
-    none-loose P z e = sym (ap (λ (P : Stmt). looseIn inside P i) e ∙ z)
+    none-loose : (P : Code) → looseIn inside P i ≡ Accepted → stmtAt s i ≡ P → Accepted ≡ looseIn inside (stmtAt s i) i
+    none-loose P z e = sym (ap (λ (P : Code). looseIn inside P i) e ∙ z)
 
     loose-low : a .kind < 19 → Accepted ≡ looseIn inside (stmtAt s i) i
-    unfolding looseIn
+    unfolding searched
     loose-low l = go (decLt (a .kind) 16) (ℕ-discrete (a .kind) 16) (ℕ-discrete (a .kind) 17)
       where
         go : Dec (a .kind < 16) → Dec (a .kind ≡ 16) → Dec (a .kind ≡ 17) → Accepted ≡ looseIn inside (stmtAt s i) i
@@ -111,11 +115,17 @@ module _ {s ends : List ℕ} {i : ℕ} (S : Side s ends i) {a : Node} (ea : a �
         go (no n) (no c) (no d) = none-loose _ refl (at-assign s i here a ea (omega arith))
 
     loose-elem : a .kind ≡ 24 → Accepted ≡ looseIn inside (stmtAt s i) i
-    unfolding looseIn
+    unfolding searched
     loose-elem e = none-loose _ refl (at-assign-elem s i here a ea _ (past-trees s ends (i + 1) (S .laid .each (i + 1)) _ refl) e)
 
-    pub loose-none : (ltb (a .kind) 19 || eqb (a .kind) 24) ≡ true → Accepted ≡ looseIn inside (stmtAt s i) i
-    loose-none t = by-bool (ltb (a .kind) 19) (λ l. loose-low (ltb-true _ _ l)) (λ l. loose-elem (eqb-true _ _ (rw l at t)))
+    loose-call : a .kind ≡ 27 → Accepted ≡ looseIn inside (stmtAt s i) i
+    unfolding searched
+    loose-call e = none-loose _ refl (at-call s i here a ea e)
+
+    pub loose-none : (ltb (a .kind) 19 || (eqb (a .kind) 24 || eqb (a .kind) 27)) ≡ true → Accepted ≡ looseIn inside (stmtAt s i) i
+    loose-none t =
+        by-bool (ltb (a .kind) 19) (λ l. loose-low (ltb-true _ _ l))
+        (λ l. by-bool (eqb (a .kind) 24) (λ m. loose-elem (eqb-true _ _ m)) (λ m. loose-call (eqb-true _ _ (rw (l, m) at t))))
 
   -- One --------------------------------------------------------------------------------------------------------------------------------
 
@@ -127,8 +137,8 @@ module _ {s ends : List ℕ} {i : ℕ} (S : Side s ends i) {a : Node} (ea : a �
       (sorted (2 ∷ []) (λ (l : List Tree) (ws : List ℕ). getD l 0 none ≡ stmt (asStmt (getD l 0 none))) (λ P us. refl) (treesAt s (i + 1)) (c .0) (c .1))
 
   pub loose-loop : a .kind ≡ 25 → (inside : Bool) → looseIn inside (stmtAt s i) i ≡ looseIn true (stmtAt s (i + 1)) (i + 1)
-  unfolding looseIn
-  loose-loop e inside = ap (λ (P : Stmt). looseIn inside P i) (at-loop s i here a ea e)
+  unfolding searched
+  loose-loop e inside = ap (λ (P : Code). looseIn inside P i) (at-loop s i here a ea e)
 
   -- Behind an expression or a statement: node j ----------------------------------------------------------------------------------------
 
@@ -164,29 +174,29 @@ module _ {s ends : List ℕ} {i : ℕ} (S : Side s ends i) {a : Node} (ea : a �
         (λ e P Q us. refl) (treesAt s (i + 1)) (c .0) (c .1))
 
     -- while and repeat
-    turns-test : 21 < a .kind → (a .kind ≡ 24 → ⊥) → (a .kind ≡ 25 → ⊥) → (a .kind ≡ 26 → ⊥)
+    turns-test : 21 < a .kind → (a .kind ≡ 24 → ⊥) → (a .kind ≡ 25 → ⊥) → (a .kind ≡ 26 → ⊥) → (a .kind ≡ 27 → ⊥)
         → (treeAt s (i + 1) ≡ expr (exprAt s (i + 1))) × (treeAt s j ≡ stmt (stmtAt s j))
     unfolding children rowOf
-    turns-test l n p q = go (ℕ-discrete (a .kind) 22)
+    turns-test l n p q o = go (ℕ-discrete (a .kind) 22)
       where
         go : Dec (a .kind ≡ 22) → (treeAt s (i + 1) ≡ expr (exprAt s (i + 1))) × (treeAt s j ≡ stmt (stmtAt s j))
         go (yes e) = test 22 [] refl e
-        go (no o) = test 23 [] refl (omega (arith, known))
+        go (no u) = test 23 [] refl (omega (arith, known))
 
-    pub turns-side : 21 < a .kind → (a .kind ≡ 24 → ⊥) → (a .kind ≡ 25 → ⊥) → (a .kind ≡ 26 → ⊥) → Side s ends j
-    turns-side l n p q = side j (turns-test l n p q .1)
+    pub turns-side : 21 < a .kind → (a .kind ≡ 24 → ⊥) → (a .kind ≡ 25 → ⊥) → (a .kind ≡ 26 → ⊥) → (a .kind ≡ 27 → ⊥) → Side s ends j
+    turns-side l n p q o = side j (turns-test l n p q o .1)
 
-    pub loose-turns : 21 < a .kind → (a .kind ≡ 24 → ⊥) → (a .kind ≡ 25 → ⊥) → (a .kind ≡ 26 → ⊥)
+    pub loose-turns : 21 < a .kind → (a .kind ≡ 24 → ⊥) → (a .kind ≡ 25 → ⊥) → (a .kind ≡ 26 → ⊥) → (a .kind ≡ 27 → ⊥)
         → (inside : Bool) → looseIn inside (stmtAt s i) i ≡ looseIn inside (stmtAt s j) j
-    unfolding looseIn
-    loose-turns l n p q inside = go (ℕ-discrete (a .kind) 22)
+    unfolding searched
+    loose-turns l n p q o inside = go (ℕ-discrete (a .kind) 22)
       where
         place : j ≡ i + 1 + length (preorderE (exprAt s (i + 1)))
-        place = expr-place (i + 1) j ej (turns-test l n p q .0) (turns-side l n p q)
+        place = expr-place (i + 1) j ej (turns-test l n p q o .0) (turns-side l n p q o)
 
         go : Dec (a .kind ≡ 22) → looseIn inside (stmtAt s i) i ≡ looseIn inside (stmtAt s j) j
-        go (yes e) = ap (λ (P : Stmt). looseIn inside P i) (at-while s i here a ea j trees-j e) ∙ ap (looseIn inside (stmtAt s j)) (sym place)
-        go (no o) = ap (λ (P : Stmt). looseIn inside P i) (at-repeat s i here a ea j trees-j (omega arith) n p q) ∙ ap (looseIn inside (stmtAt s j)) (sym place)
+        go (yes e) = ap (λ (P : Code). looseIn inside P i) (at-while s i here a ea j trees-j e) ∙ ap (looseIn inside (stmtAt s j)) (sym place)
+        go (no u) = ap (λ (P : Code). looseIn inside P i) (at-repeat s i here a ea j trees-j (omega arith) n p q o) ∙ ap (looseIn inside (stmtAt s j)) (sym place)
 
     module _ (inside within : Bool) (ew : within ≡ (inside && not (eqb (a .kind) 20))) where
       same : (a .kind ≡ 20 → ⊥) → within ≡ inside
@@ -204,7 +214,7 @@ module _ {s ends : List ℕ} {i : ℕ} (S : Side s ends i) {a : Node} (ea : a �
           and-false false = refl
 
       test-two : a .kind ≡ 21 → Two s ends i inside j within
-      unfolding looseIn children rowOf
+      unfolding searched children rowOf
       test-two e =
           let t = test 21 (2 ∷ []) refl e in
           let one = side j (t .1) in
@@ -214,7 +224,7 @@ module _ {s ends : List ℕ} {i : ℕ} (S : Side s ends i) {a : Node} (ea : a �
             one = one;
             other = λ q eq. rw eq (side (past ends (nodeCount s) j) (third e));
             refused = λ q eq.
-                ap (λ (P : Stmt). looseIn inside P i) (at-ite s i here a ea j trees-j q (past-trees s ends j (S .laid .each j) q eq) e)
+                ap (λ (P : Code). looseIn inside P i) (at-ite s i here a ea j trees-j q (past-trees s ends j (S .laid .each j) q eq) e)
                 ∙ ap (λ (p : ℕ). first (looseIn inside (stmtAt s j) p ∷ looseIn inside (stmtAt s q) (p + length (preorder (stmtAt s j))) ∷ []))
                 (sym (expr-place (i + 1) j ej (t .0) one))
                 ∙ ap (λ (p : ℕ). first (looseIn inside (stmtAt s j) j ∷ looseIn inside (stmtAt s q) p ∷ [])) (sym (stmt-place j q eq one))
@@ -225,7 +235,7 @@ module _ {s ends : List ℕ} {i : ℕ} (S : Side s ends i) {a : Node} (ea : a �
       if-two e p ep = rw ep (test-two e)
 
       both-two : 19 ≤ a .kind → a .kind ≤ 20 → Two s ends i inside (i + 1) within
-      unfolding looseIn children rowOf
+      unfolding searched children rowOf
       both-two l m = go (ℕ-discrete (a .kind) 20)
         where
           two : (k : ℕ) → children k ≡ 2 ∷ 2 ∷ [] → a .kind ≡ k
@@ -245,10 +255,10 @@ module _ {s ends : List ℕ} {i : ℕ} (S : Side s ends i) {a : Node} (ea : a �
               }
 
           go : Dec (a .kind ≡ 20) → Two s ends i inside (i + 1) within
-          go (yes e) = two 20 refl e (ap (λ (P : Stmt). looseIn inside P i) (at-par s i here a ea j trees-j e) ∙ rw (shut e) refl)
+          go (yes e) = two 20 refl e (ap (λ (P : Code). looseIn inside P i) (at-par s i here a ea j trees-j e) ∙ rw (shut e) refl)
           go (no n) =
               let e : a .kind ≡ 19 = omega arith in
-              two 19 refl e (ap (λ (P : Stmt). looseIn inside P i) (at-seq s i here a ea j trees-j e) ∙ rw (same n) refl)
+              two 19 refl e (ap (λ (P : Code). looseIn inside P i) (at-seq s i here a ea j trees-j e) ∙ rw (same n) refl)
 
       pub pair-two : 19 ≤ a .kind → a .kind ≤ 20 → (p : ℕ) → p ≡ i + 1 → Two s ends i inside p within
       pair-two l m p ep = rw ep (both-two l m)

@@ -12,7 +12,8 @@ use Rattle.model.specs.declared.kinds.Row.{Row}
 use Rattle.model.specs.declared.Checked.the-variants.{Accepted}
 use Rattle.model.specs.Word.{pick}
 use Rattle.model.specs.Refusals.{refuse}
-use Rattle.model.specs.Program.{nodeAt, nodeCount, nodesAt, rowOf, children, reading}
+use Rattle.model.specs.Program.{nodeAt, nodeCount, nodesAt, rowOf}
+use Rattle.model.specs.ProgramChecks.{children, reading}
 use Rattle.laws.specs.Program.Trees.{nodes-step, nodes-none}
 use Rattle.program.specs.Table.{expr-stmts}
 

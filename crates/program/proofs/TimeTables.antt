@@ -12,7 +12,8 @@ use Rattle.model.specs.declared.Options.{Options}
 use Rattle.model.specs.declared.Checked.{Checked}
 use Rattle.model.specs.declared.Checked.the-variants.{Accepted, Refused}
 use Rattle.model.specs.Refusals.{refuse, first, firstFault}
-use Rattle.model.specs.Program.{checkOf}
+use Rattle.model.specs.Program.{timeIn}
+use Rattle.model.specs.ProgramChecks.{programChecks, checkOf}
 use Rattle.model.specs.NetlistFile.{wordSum}
 use Rattle.model.specs.TimeTables.{byteWrong, tableFault, tableSumWrong, tableChecks}
 use Rattle.model.specs.Calls.{checkCall}
@@ -49,6 +50,6 @@ module _ (options : Options) (s : List ℕ) where
   unfolding checkCall
   table-refuses e = rw e refl
 
-  pub table-accepts : options .checked ≡ Accepted → checkCall options s ≡ checkOf (options .times) s
-  unfolding checkCall
+  pub table-accepts : options .checked ≡ Accepted → checkCall options s ≡ first (programChecks (timeIn (options .times)) (options .procedures) s)
+  unfolding checkCall checkOf
   table-accepts e = rw e (sym (first-one _))

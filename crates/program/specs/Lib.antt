@@ -3,4 +3,5 @@ pub mod Ends
 pub mod Times
 pub mod Ranges
 pub mod Uses
+pub mod Roots
 pub mod Shape

@@ -19,14 +19,14 @@ cancel p q r e =
     let l : length p ≡ length q = omega (arith, simp length-append at (ap length e)) in
     sym (take-at p r (length q) l) ∙ ap (take (length q)) e ∙ take-at q r (length q) refl
 
-module _ (s : List ℕ) (R : Readable s) where
+module _ (k : ℕ) (s : List ℕ) (R : Readable k s) where
   -- the subtree of node i is the nodes from i up to its end
   pub subtree : (ends : List ℕ) (i : ℕ) → i < nodeCount s → EndAt s ends i → nodesOf (treeAt s i) ≡ nodesFrom s i (getD ends i 0 - i)
   unfolding grow
   subtree ends i h E =
       let e = getD ends i 0 in
       let first : nodesOf (treeAt s i) ++ allNodes (drop 1 (treesAt s i)) ≡ allNodes (treesAt s i) = rw (trees-step s i h (nodeAt s i) refl) refl in
-      let rest : allNodes (drop 1 (treesAt s i)) ≡ nodesAt s e = ap allNodes (sym (E .rest)) ∙ nodes-at s R e (E .within) in
+      let rest : allNodes (drop 1 (treesAt s i)) ≡ nodesAt s e = ap allNodes (sym (E .rest)) ∙ nodes-at k s R e (E .within) in
       cancel _ _ (nodesAt s e)
-      (ap (λ (l : List Node). nodesOf (treeAt s i) ++ l) (sym rest) ∙ first ∙ nodes-at s R i (omega arith)
+      (ap (λ (l : List Node). nodesOf (treeAt s i) ++ l) (sym rest) ∙ first ∙ nodes-at k s R i (omega arith)
       ∙ nodes-split s i e (nodeCount s) (omega (arith, E .later)) (E .within))

@@ -11,7 +11,8 @@ use Rattle.model.specs.declared.Node.{Node}
 use Rattle.model.specs.declared.Options.{Options}
 use Rattle.model.specs.declared.Checked.the-variants.{Accepted}
 use Rattle.model.specs.Refusals.{first}
-use Rattle.model.specs.Program.{nodeAt, nodeCount, arity, exprAt, time, timeIn, programChecks, checkOf}
+use Rattle.model.specs.Program.{nodeAt, nodeCount, arity, exprAt, time, timeIn}
+use Rattle.model.specs.ProgramChecks.{programChecks}
 use Rattle.model.specs.Calls.{checkCall}
 use Rattle.program.specs.declared.Scanned.{Scanned}
 use Rattle.laws.specs.Program.Passed.{accepted}
@@ -22,15 +23,16 @@ pub record Shaped (τ : ℕ → ℕ) (s times ends : List ℕ) (j : ℕ) : Type 
   pub end : EndAt s ends j
   pub timed : getD times j 0 ≡ time τ (exprAt s j)
 
--- refusals 22, 7 and 8
-pub record Measures (operators s : List ℕ) (r : Scanned) : Type 0 where
-  pub checked : r .checked ≡ first (drop 3 (programChecks (timeIn operators) s))
+-- the refusals after 6, of a program with k procedures
+pub record Measures (operators : List ℕ) (k : ℕ) (s : List ℕ) (r : Scanned) : Type 0 where
+  pub checked : r .checked ≡ first (drop 3 (programChecks (timeIn operators) k s))
   pub shaped : (j : ℕ) → j < nodeCount s → Shaped (timeIn operators) s (r .times) (r .ends) j
 
--- refusals 1 to 8 and 22; of a refused program the arrays are free
-pub record ScansBy (operators s : List ℕ) (r : Scanned) : Type 0 where
-  pub checked : r .checked ≡ checkOf operators s
-  pub shaped : checkOf operators s ≡ Accepted → (j : ℕ) → j < nodeCount s → Shaped (timeIn operators) s (r .times) (r .ends) j
+-- all of the program's own; of a refused program the arrays are free
+pub record ScansBy (operators : List ℕ) (k : ℕ) (s : List ℕ) (r : Scanned) : Type 0 where
+  pub checked : r .checked ≡ first (programChecks (timeIn operators) k s)
+  pub shaped : first (programChecks (timeIn operators) k s) ≡ Accepted → (j : ℕ) → j < nodeCount s
+      → Shaped (timeIn operators) s (r .times) (r .ends) j
 
 -- all refusals, the table's first
 pub record Scans (options : Options) (s : List ℕ) (r : Scanned) : Type 0 where

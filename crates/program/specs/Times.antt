@@ -1,7 +1,7 @@
 -- The time of an expression and the least delay of a statement, by a node's kind; how long an expression of a program can take.
 -- Assumes nothing: laws of model/Program, for any operator times.
 use mathlib.Core.Path.{_≡_, refl, sym, _∙_, ap, ap₂}
-use mathlib.Core.Bool.{Bool, true, false}
+use mathlib.Core.Bool.{Bool, true, false, _||_}
 use mathlib.Core.List.{List, [], _∷_}
 use Prim.Native.Nat.{ℕ, zero, suc, _+_, _-_, _*_, _≤_, _<_, max}
 use native.Mathlib.Omega.{arith}
@@ -9,11 +9,13 @@ use native.Mathlib.Decide.{decLt}
 use lib.ListN.{length, getD, drop}
 use lib.Seq.{getD-drop}
 use lib.Dec.{T, ltb, eqb}
-use borrow.Author.Tests.{lt-ltb, le-ltb, ne-eqb}
+use borrow.Author.Tests.{lt-ltb, le-ltb, ne-eqb, eqb-true, eqb-false}
 use Rattle.model.specs.declared.Node.{Node}
 use Rattle.model.specs.Word.{pick}
-use Rattle.model.specs.Program.{Expr, while, repeat, Tree, nodeAt, nodeCount, nodesAt, none, asExpr, asStmt, exprOf, stmtOf, treeOf, arity, grow, forest, treesAt, exprAt, stmtAt, time, least, delayFault, node}
-use Rattle.laws.specs.Program.Trees.{length-nodes, expr-none, by-pick, other-kind, treeAt, tree-is, tree-of, no-expr, no-stmt, at-const, at-var, at-compl, at-elem, at-op, at-ok, at-assign-elem, at-loop, at-exit}
+use Rattle.model.specs.Program.{Expr, while, repeat, Tree, nodeAt, nodeCount, nodesAt, none, asExpr, asStmt, exprOf, stmtOf, treeOf, arity, grow, forest, treesAt, exprAt, stmtAt, time, least, node}
+use Rattle.model.specs.ProgramChecks.{delayFault}
+use Rattle.laws.specs.Refusals.Laws.{by-bool, or-false}
+use Rattle.laws.specs.Program.Trees.{length-nodes, expr-none, by-pick, other-kind, treeAt, tree-is, tree-of, no-expr, no-stmt, at-const, at-var, at-compl, at-elem, at-op, at-ok, at-assign-elem, at-loop, at-exit, at-call}
 
 -- Times --------------------------------------------------------------------------------------------------------------------------------
 
@@ -54,9 +56,9 @@ module _ (τ : ℕ → ℕ) (s : List ℕ) (i : ℕ) (h : i < nodeCount s) (a : 
 -- Least delays -------------------------------------------------------------------------------------------------------------------------
 
 -- while and repeat have the same
-turns-least : (τ : ℕ → ℕ) (a : Node) (x y z : Tree) → 22 ≤ a .kind → (a .kind ≡ 24 → ⊥) → (a .kind ≡ 25 → ⊥) → (a .kind ≡ 26 → ⊥) → least τ (asStmt (treeOf a x y z)) ≡ max 1 (time τ (asExpr x))
+turns-least : (τ : ℕ → ℕ) (a : Node) (x y z : Tree) → 22 ≤ a .kind → (a .kind ≡ 24 → ⊥) → (a .kind ≡ 25 → ⊥) → (a .kind ≡ 26 → ⊥) → (a .kind ≡ 27 → ⊥) → least τ (asStmt (treeOf a x y z)) ≡ max 1 (time τ (asExpr x))
 unfolding treeOf stmtOf asStmt least
-turns-least τ a x y z l n p q = rw (le-ltb _ _ high, no 16 tt, no 17 tt, no 18 tt, no 19 tt, no 20 tt, no 21 tt, ne-eqb _ _ n, ne-eqb _ _ p, ne-eqb _ _ q) (either (eqb (a .kind) 22))
+turns-least τ a x y z l n p q c = rw (le-ltb _ _ high, no 16 tt, no 17 tt, no 18 tt, no 19 tt, no 20 tt, no 21 tt, ne-eqb _ _ n, ne-eqb _ _ p, ne-eqb _ _ q, ne-eqb _ _ c) (either (eqb (a .kind) 22))
   where
     high : 16 ≤ a .kind
     high = omega arith
@@ -98,9 +100,11 @@ module _ (τ : ℕ → ℕ) (s : List ℕ) (i : ℕ) (h : i < nodeCount s) (a : 
   unfolding treeOf stmtOf asStmt least
   least-par e = sym (of-kind 20 e)
 
-  pub least-loop : a .kind ≡ 25 → 1 ≡ least τ (stmtAt s i)
+  pub least-one : (eqb (a .kind) 25 || eqb (a .kind) 27) ≡ true → 1 ≡ least τ (stmtAt s i)
   unfolding least
-  least-loop e = sym (ap (least τ) (at-loop s i h a ea e))
+  least-one t =
+      by-bool (eqb (a .kind) 25) (λ e. sym (ap (least τ) (at-loop s i h a ea (eqb-true _ _ e))))
+      (λ e. sym (ap (least τ) (at-call s i h a ea (eqb-true _ _ (rw e at t)))))
 
   pub least-exit : a .kind ≡ 26 → 0 ≡ least τ (stmtAt s i)
   unfolding least
@@ -111,9 +115,9 @@ module _ (τ : ℕ → ℕ) (s : List ℕ) (i : ℕ) (h : i < nodeCount s) (a : 
     unfolding treeOf stmtOf asStmt least exprAt
     least-if e = et ∙ sym (of-kind 21 e)
 
-    least-turns : 22 ≤ a .kind → (a .kind ≡ 24 → ⊥) → (a .kind ≡ 25 → ⊥) → (a .kind ≡ 26 → ⊥) → least τ (stmtAt s i) ≡ max 1 (time τ (exprAt s (i + 1)))
+    least-turns : 22 ≤ a .kind → (a .kind ≡ 24 → ⊥) → (a .kind ≡ 25 → ⊥) → (a .kind ≡ 26 → ⊥) → (a .kind ≡ 27 → ⊥) → least τ (stmtAt s i) ≡ max 1 (time τ (exprAt s (i + 1)))
     unfolding stmtAt exprAt
-    least-turns l n p q = ap (λ (t : Tree). least τ (asStmt t)) (tree-is s i h a ea) ∙ turns-least τ a _ _ _ l n p q
+    least-turns l n p q c = ap (λ (t : Tree). least τ (asStmt t)) (tree-is s i h a ea) ∙ turns-least τ a _ _ _ l n p q c
 
     -- an element assignment's second child is the tree of node j
     pub least-elem : a .kind ≡ 24 → (j : ℕ) → treesAt s j ≡ drop 1 (treesAt s (i + 1)) → (u : ℕ) → u ≡ time τ (exprAt s j)
@@ -122,14 +126,16 @@ module _ (τ : ℕ → ℕ) (s : List ℕ) (i : ℕ) (h : i < nodeCount s) (a : 
     least-elem e j ej u eu = ap (max 1) (ap₂ max et eu) ∙ sym (ap (least τ) (at-assign-elem s i h a ea j ej e))
 
     -- assignments to variables, while and repeat
-    pub least-other : 16 < a .kind → (a .kind ≡ 17 → ⊥) → (a .kind ≡ 19 → ⊥) → (a .kind ≡ 20 → ⊥) → (a .kind ≡ 25 → ⊥) → (a .kind ≡ 26 → ⊥)
-        → (a .kind ≡ 21 → ⊥) → (a .kind ≡ 24 → ⊥) → max 1 t ≡ least τ (stmtAt s i)
+    pub least-other : 16 < a .kind → (a .kind ≡ 17 → ⊥) → (a .kind ≡ 19 → ⊥) → (a .kind ≡ 20 → ⊥)
+        → (eqb (a .kind) 25 || eqb (a .kind) 27) ≡ false → (a .kind ≡ 26 → ⊥) → (a .kind ≡ 21 → ⊥) → (a .kind ≡ 24 → ⊥) → max 1 t ≡ least τ (stmtAt s i)
     unfolding treeOf stmtOf asStmt least exprAt stmtAt
     least-other l n p q u v r w = ap (max 1) et ∙ sym (go (decLt (a .kind) 22))
       where
         go : Dec (a .kind < 22) → least τ (stmtAt s i) ≡ max 1 (time τ (exprAt s (i + 1)))
         go (yes m) = of-kind 18 (assigned l n p q r m)
-        go (no n) = let m : 22 ≤ a .kind = omega arith in least-turns m w u v
+        go (no n) = let m : 22 ≤ a .kind = omega arith in
+            let o = or-false (eqb (a .kind) 25) (eqb (a .kind) 27) u in
+            least-turns m w (eqb-false _ _ (o .0)) v (eqb-false _ _ (o .1))
 
 -- a delay, and the least that it may be
 module _ (τ : ℕ → ℕ) (s : List ℕ) (i : ℕ) (a : Node) (ea : a ≡ nodeAt s i) (l : ℕ) (el : l ≡ least τ (stmtAt s i)) where

@@ -1,18 +1,21 @@
-// The check of a program with what is given beside it: refusals 1 to 8 and 22, and the two arrays of 200 that the checks fill.
-// Contracts are equations with the definitions of model/Program; what the arrays hold is said in specs/Ends and specs/Shape.
+// The check of a program with what is given beside it: refusals 1 to 8, 22, 24 and 25, and the two arrays of 200 that the checks fill.
+// Contracts are equations with the definitions of model/ProgramChecks; what the arrays hold is said in specs/Ends and specs/Shape. Root r, body r or
+// the main program, begins behind r subtrees.
 // `operators` is a list of operator times: entry k is that of kind k.
 // `|` and `&` stand between tests where both sides are cheap: they are the model's own `||` and `&&`.
 ghost use mathlib.Core.Path.{_≡_};
-ghost use mathlib.Core.Bool.{_&&_};
-ghost use mathlib.Core.List.{[], _∷_};
+ghost use mathlib.Core.Bool.{false, _&&_};
 ghost use Prim.Native.Nat.{ℕ, _+_, _*_, _≤_, _<_, max};
 ghost use lib.ListN.{length, getD, take, drop};
 ghost use Rattle.model.specs.Refusals.{refuse, first, firstFault};
-ghost use Rattle.model.specs.Program.{nodeAt, nodeCount, nodesAt, rowOf, exprAt, stmtAt, time, timeIn, least, writes, touches, programLengthWrong, unusedSet, absent, nodeFault, reading, looseIn, delayFault, conflictFault, programChecks};
+ghost use Rattle.model.specs.Word.{pick};
+ghost use Rattle.model.specs.Program.{nodeAt, nodeCount, nodesAt, rowOf, exprAt, stmtAt, preorder, programOf, roots, time, timeIn, least};
+ghost use Rattle.model.specs.ProgramChecks.{programLengthWrong, unusedSet, absent, nodeFault, reading, rootSorts, looseIn, lateIn, inRoots, delayFault, programChecks};
 ghost use Rattle.model.specs.Calls.{checkCall};
-ghost use Rattle.program.specs.Ends.{Laid, past, skips};
+ghost use Rattle.program.specs.Ends.{past, skips};
 ghost use Rattle.laws.specs.Program.Passed.{Readable};
-ghost use Rattle.program.specs.Uses.{names, uses, Side};
+ghost use Rattle.program.specs.Uses.{names, marked, anyMarked, has, carried, Side};
+ghost use Rattle.program.specs.Roots.{Rooted, rootFault, markOf, crossing, clashFault};
 ghost use Rattle.program.specs.Shape.{Shaped, Measures, ScansBy, Scans};
 
 pub mod tables; // tables of operator times
@@ -25,6 +28,8 @@ use model::kinds::Row;
 use model::sizes::NODE;
 use model::sizes::PROGRAM_MOST;
 
+const MOST_PROCEDURES: usize = 8;
+
 // What the check answers, with each node's expression time and the node after its subtree.
 pub struct Scanned {
     pub checked: Checked,
@@ -36,7 +41,7 @@ pub struct Scanned {
 struct Line(u8, u8, u8, u8, u8);
 
 // The paper's table, but for its times: entry k is the row of kind k.
-const TABLE: [Line; 27] = [
+const TABLE: [Line; 28] = [
     Line(0, 0, 0, 0, 0), // 0 unknown
     Line(1, 0, 1, 0, 0), // 1 constant n
     Line(1, 0, 2, 0, 0), // 2 variable n
@@ -64,13 +69,14 @@ const TABLE: [Line; 27] = [
     Line(2, 1, 3, 2, 0), // 24 element of array n := e
     Line(2, 1, 0, 0, 1), // 25 loop P
     Line(2, 0, 0, 0, 0), // 26 exit
+    Line(2, 1, 4, 0, 0), // 27 call of procedure n
 ];
 
 // Of a kind that the table does not have, the row is that of kind 0.
 pub fn kind_row(kind: u8) -> Row
     ensures { λ r. ⌜ r ≡ rowOf kind ⌝ }
 {
-    let k = if kind < 27 { kind as usize } else { 0 };
+    let k = if kind < 28 { kind as usize } else { 0 };
     let line = TABLE[k];
     Row {
         sort: line.0,
@@ -152,13 +158,13 @@ fn first_fault(program: &[u8]) -> Checked
 }
 
 // Refusals 5 and 6. What is still to be read is always some expressions and then some statements, so two counts tell it.
-fn first_misread(program: &[u8]) -> Checked
-    requires { ⌜ length (now program) ≤ 800 ⌝ }
-    ensures { λ r. ⌜ r ≡ reading (2 ∷ []) 0 (nodesAt (now (program .entry)) 0) ⌝ }
+fn first_misread(program: &[u8], procedures: usize) -> Checked
+    requires { ⌜ (length (now program) ≤ 800) × (procedures ≤ 8) ⌝ }
+    ensures { λ r. ⌜ r ≡ reading (rootSorts procedures) 0 (nodesAt (now (program .entry)) 0) ⌝ }
 {
     let count = program.len() / NODE;
     let mut exprs: usize = 0;
-    let mut stmts: usize = 1;
+    let mut stmts: usize = procedures + 1;
     let mut i: usize = 0;
     while i < count {
         let node = read_node(program, i);
@@ -188,16 +194,16 @@ fn first_misread(program: &[u8]) -> Checked
 }
 
 // Refusals 1 to 6, which no operator time touches.
-fn early_check(program: &[u8]) -> Checked
-    ensures { λ r. ⌜ ((τ : ℕ → ℕ) → r ≡ first (take 3 (programChecks τ (now (program .entry))))) ⌝ }
+fn early_check(program: &[u8], procedures: usize) -> Checked
+    ensures { λ r. ⌜ ((τ : ℕ → ℕ) → r ≡ first (take 3 (programChecks τ procedures (now (program .entry))))) ⌝ }
 {
-    if length_wrong(program) {
+    if (MOST_PROCEDURES < procedures) | length_wrong(program) {
         return refused(1, 0);
     }
     let faults = first_fault(program);
     match faults {
         Checked::Refused(r) => Checked::Refused(r),
-        Checked::Accepted => first_misread(program),
+        Checked::Accepted => first_misread(program, procedures),
     }
 }
 
@@ -306,7 +312,7 @@ fn first_loose(program: &[u8], ends: &[usize; 200], i: usize, inside: bool) -> C
     if kind == 25 {
         return first_loose(program, ends, i + 1, true);
     }
-    if (kind < 19) | (kind == 24) {
+    if (kind < 19) | ((kind == 24) | (kind == 27)) {
         return Checked::Accepted;
     }
     let count = program.len() / NODE;
@@ -348,7 +354,7 @@ fn least_at(
     if kind == 20 {
         return 0;
     }
-    if kind == 25 {
+    if (kind == 25) | (kind == 27) {
         return 1;
     }
     if kind == 26 {
@@ -383,25 +389,98 @@ fn first_slow(operators: &[u8], program: &[u8], times: &[u16; 200], ends: &[usiz
     Checked::Accepted
 }
 
-// The node assigns to x or, where the flag is set, reads it; array n is variable 16 + n.
-fn names(node: Node, x: u16, touch: bool) -> bool
-    ensures { λ r. ⌜ r ≡ names touch x node ⌝ }
-{
-    let variable = ((node.kind == 18) | ((node.kind == 2) & touch)) & (x == node.n);
-    let array = (node.kind == 24) | ((node.kind == 10) & touch);
-    variable | (array & (x as u32 == 16 + node.n as u32))
-}
-
-// The statement at node i writes x or, where the flag is set, reads or writes it.
-fn uses(program: &[u8], ends: &[usize; 200], i: usize, x: u16, touch: bool) -> bool
+// Refusal 24 in root r, the statement at node i, which may call the procedures below r.
+fn first_late(program: &[u8], ends: &[usize; 200], i: usize, r: usize) -> Checked
     requires { ⌜ Side (now program) (now ends) i ⌝ }
-    ensures { λ r. ⌜ r ≡ uses touch (stmtAt (now (program .entry)) i) x ⌝ }
+    ensures { λ c. ⌜ c ≡ lateIn r (stmtAt (now (program .entry)) i) i ⌝ }
 {
     let count = program.len() / NODE;
     let end = next(ends, count, i);
     let mut k = i;
     while k < end {
-        if names(read_node(program, k), x, touch) {
+        let node = read_node(program, k);
+        if (node.kind == 27) & (r <= node.n as usize) {
+            return refused(24, k);
+        }
+        k += 1;
+    }
+    Checked::Accepted
+}
+
+// Refusal 22 or, where the flag is set, 24 in root r, the statement at node i.
+fn root_fault(program: &[u8], ends: &[usize; 200], i: usize, r: usize, late: bool) -> Checked
+    requires { ⌜ Side (now program) (now ends) i ⌝ }
+    ensures { λ c. ⌜ c ≡ rootFault late r (stmtAt (now (program .entry)) i) i ⌝ }
+{
+    if late {
+        return first_late(program, ends, i, r);
+    }
+    first_loose(program, ends, i, false)
+}
+
+// In all roots.
+fn first_in_roots(program: &[u8], ends: &[usize; 200], procedures: usize, late: bool) -> Checked
+    requires { ⌜ Rooted procedures (now program) (now ends) ⌝ }
+    ensures { λ c. ⌜ c ≡ inRoots (rootFault late) 0 (roots (programOf procedures (now (program .entry)))) 0 ⌝ }
+{
+    let count = program.len() / NODE;
+    let mut r: usize = 0;
+    while r <= procedures {
+        let found = root_fault(program, ends, skip(ends, count, 0, r), r, late);
+        match found {
+            Checked::Refused(refusal) => {
+                return Checked::Refused(refusal);
+            }
+            Checked::Accepted => {
+                r += 1;
+            }
+        }
+    }
+    Checked::Accepted
+}
+
+// What a node or a statement may do: write a variable, read or write it, or call a procedure; array n is variable 16 + n.
+enum Mark {
+    Writes(u16),
+    Touches(u16),
+    Calls(u16),
+}
+
+// A node of this kind and with this number does it by itself.
+fn names(kind: u8, n: u16, mark: Mark) -> bool
+    ensures { λ r. ⌜ r ≡ names mark kind n ⌝ }
+{
+    let variable = kind == 18;
+    let array = kind == 24;
+    match mark {
+        Mark::Writes(x) => (variable & (x == n)) | (array & (x as u32 == 16 + n as u32)),
+        Mark::Touches(x) => {
+            let here = (variable | (kind == 2)) & (x == n);
+            here | ((array | (kind == 10)) & (x as u32 == 16 + n as u32))
+        }
+        Mark::Calls(q) => (kind == 27) & (q == n),
+    }
+}
+
+// By itself or by a body that it calls.
+fn marked(node: Node, mark: Mark, bodies: &[bool]) -> bool
+    ensures { λ r. ⌜ r ≡ marked mark (λ p. getD (now (bodies .entry)) p false) node ⌝ }
+{
+    let p = node.n as usize;
+    let called = if p < bodies.len() { bodies[p] } else { false };
+    names(node.kind, node.n, mark) | ((node.kind == 27) & called)
+}
+
+// A node of the statement at node i does it.
+fn uses(program: &[u8], ends: &[usize; 200], i: usize, mark: Mark, bodies: &[bool]) -> bool
+    requires { ⌜ Side (now program) (now ends) i ⌝ }
+    ensures { λ r. ⌜ r ≡ anyMarked mark (λ p. getD (now (bodies .entry)) p false) (preorder (stmtAt (now (program .entry)) i)) ⌝ }
+{
+    let count = program.len() / NODE;
+    let end = next(ends, count, i);
+    let mut k = i;
+    while k < end {
+        if marked(read_node(program, k), mark, bodies) {
             return true;
         }
         k += 1;
@@ -409,29 +488,93 @@ fn uses(program: &[u8], ends: &[usize; 200], i: usize, x: u16, touch: bool) -> b
     false
 }
 
-// The statement at node p writes x, and that at node q reads or writes it.
-fn crosses(program: &[u8], ends: &[usize; 200], p: usize, q: usize, x: u16) -> bool
-    requires { ⌜ Side (now program) (now ends) p × Side (now program) (now ends) q ⌝ }
-    ensures { λ r. ⌜ r ≡ (writes (stmtAt (now (program .entry)) p) x && touches (stmtAt (now (program .entry)) q) x) ⌝ }
-{
-    uses(program, ends, p, x, false) && uses(program, ends, q, x, true)
-}
-
-// Refusal 8: parallel nodes in node order, and for each the variables and arrays.
-fn first_clash(program: &[u8], ends: &[usize; 200]) -> Checked
-    requires { ⌜ Readable (now program) × Laid (now program) (now ends) ⌝ }
-    ensures { λ r. ⌜ r ≡ firstFault (conflictFault (now (program .entry))) 0 (nodeCount (now (program .entry))) ⌝ }
+// Which bodies do it: each by those before it.
+fn bodies_with(program: &[u8], ends: &[usize; 200], procedures: usize, mark: Mark) -> [bool; 8]
+    requires { ⌜ Rooted procedures (now program) (now ends) ⌝ }
+    ensures { λ r. ⌜ ((p : ℕ) → getD r p false ≡ carried (programOf procedures (now (program .entry)) .bodies) mark p) ⌝ }
 {
     let count = program.len() / NODE;
+    let mut bodies = [false; 8];
+    let mut p: usize = 0;
+    while p < procedures {
+        let at = skip(ends, count, 0, p);
+        bodies[p] = uses(program, ends, at, mark, &bodies);
+        p += 1;
+    }
+    bodies
+}
+
+// The statement at node i does it, itself or through calls.
+fn does(program: &[u8], ends: &[usize; 200], procedures: usize, i: usize, mark: Mark) -> bool
+    requires { ⌜ Rooted procedures (now program) (now ends) × Side (now program) (now ends) i ⌝ }
+    ensures { λ r. ⌜ r ≡ has (programOf procedures (now (program .entry)) .bodies) mark (stmtAt (now (program .entry)) i) ⌝ }
+{
+    let bodies = bodies_with(program, ends, procedures, mark);
+    uses(program, ends, i, mark, &bodies)
+}
+
+// What one side of a parallel node may not do beside the other: where `shared` is set both call procedure x, else one writes variable x and the
+// other reads or writes it.
+fn mark_of(shared: bool, touch: bool, x: u16) -> Mark
+    ensures { λ r. ⌜ r ≡ markOf shared touch x ⌝ }
+{
+    if shared {
+        return Mark::Calls(x);
+    }
+    if touch {
+        Mark::Touches(x)
+    } else {
+        Mark::Writes(x)
+    }
+}
+
+// How many x there are.
+fn most_of(shared: bool, procedures: usize) -> usize
+    ensures { λ r. ⌜ r ≡ pick shared procedures 20 ⌝ }
+{
+    if shared { procedures } else { 20 }
+}
+
+fn clash_number(shared: bool) -> u8
+    ensures { λ r. ⌜ r ≡ pick shared 25 8 ⌝ }
+{
+    if shared { 25 } else { 8 }
+}
+
+// The statement at node p does the one thing with x, and that at node q the other.
+fn crosses(
+    program: &[u8],
+    ends: &[usize; 200],
+    procedures: usize,
+    p: usize,
+    q: usize,
+    shared: bool,
+    x: u16,
+) -> bool
+    requires { ⌜ Rooted procedures (now program) (now ends) × Side (now program) (now ends) p × Side (now program) (now ends) q ⌝ }
+    ensures { λ r. ⌜ r ≡ crossing (programOf procedures (now (program .entry)) .bodies) shared (stmtAt (now (program .entry)) p) (stmtAt (now (program .entry)) q) x ⌝ }
+{
+    does(program, ends, procedures, p, mark_of(shared, false, x))
+        && does(program, ends, procedures, q, mark_of(shared, true, x))
+}
+
+// Refusal 8 or, where `shared` is set, 25: parallel nodes in node order, and for each the variables and arrays, or the procedures.
+fn first_clash(program: &[u8], ends: &[usize; 200], procedures: usize, shared: bool) -> Checked
+    requires { ⌜ Rooted procedures (now program) (now ends) ⌝ }
+    ensures { λ r. ⌜ r ≡ firstFault (clashFault (programOf procedures (now (program .entry)) .bodies) shared (now (program .entry))) 0 (nodeCount (now (program .entry))) ⌝ }
+{
+    let count = program.len() / NODE;
+    let most = most_of(shared, procedures);
     let mut i: usize = 0;
     'nodes: while i < count {
         let node = read_node(program, i);
         if node.kind == 20 {
             let second = next(ends, count, i + 1);
-            let mut x: u16 = 0;
-            while x < 20 {
-                if crosses(program, ends, i + 1, second, x)
-                    | crosses(program, ends, second, i + 1, x)
+            let mut x: usize = 0;
+            while x < most {
+                let n = x as u16;
+                if crosses(program, ends, procedures, i + 1, second, shared, n)
+                    | crosses(program, ends, procedures, second, i + 1, shared, n)
                 {
                     break 'nodes;
                 }
@@ -443,33 +586,63 @@ fn first_clash(program: &[u8], ends: &[usize; 200]) -> Checked
         }
     }
     if i < count {
-        return refused(8, i);
+        return refused(clash_number(shared), i);
     }
     Checked::Accepted
 }
 
-// Refusals 22, 7 and 8.
-fn late_check(operators: &[u8], program: &[u8], times: &[u16; 200], ends: &[usize; 200]) -> Checked
-    requires { ⌜ Readable (now program) × ((j : ℕ) → j < nodeCount (now program) → Shaped (timeIn (now operators)) (now program) (now times) (now ends) j) ⌝ }
-    ensures { λ r. ⌜ r ≡ first (drop 3 (programChecks (timeIn (now (operators .entry))) (now (program .entry)))) ⌝ }
+// Refusals 7, 25 and 8.
+fn last_check(
+    operators: &[u8],
+    program: &[u8],
+    procedures: usize,
+    times: &[u16; 200],
+    ends: &[usize; 200],
+) -> Checked
+    requires { ⌜ Rooted procedures (now program) (now ends) × ((j : ℕ) → j < nodeCount (now program) → Shaped (timeIn (now operators)) (now program) (now times) (now ends) j) ⌝ }
+    ensures { λ r. ⌜ r ≡ first (drop 5 (programChecks (timeIn (now (operators .entry))) procedures (now (program .entry)))) ⌝ }
 {
-    let loose = first_loose(program, ends, 0, false);
-    match loose {
+    let slow = first_slow(operators, program, times, ends);
+    match slow {
         Checked::Refused(r) => Checked::Refused(r),
         Checked::Accepted => {
-            let slow = first_slow(operators, program, times, ends);
-            match slow {
+            let both = first_clash(program, ends, procedures, true);
+            match both {
                 Checked::Refused(r) => Checked::Refused(r),
-                Checked::Accepted => first_clash(program, ends),
+                Checked::Accepted => first_clash(program, ends, procedures, false),
             }
         }
     }
 }
 
-// The arrays, filled from the last node to the first, and refusals 22, 7 and 8, which read them.
-fn measure(operators: &[u8], program: &[u8]) -> Scanned
-    requires { ⌜ Readable (now program) ⌝ }
-    ensures { λ r. ⌜ Measures (now (operators .entry)) (now (program .entry)) r ⌝ }
+// Refusals 22 and 24, and then those.
+fn late_check(
+    operators: &[u8],
+    program: &[u8],
+    procedures: usize,
+    times: &[u16; 200],
+    ends: &[usize; 200],
+) -> Checked
+    requires { ⌜ Rooted procedures (now program) (now ends) × ((j : ℕ) → j < nodeCount (now program) → Shaped (timeIn (now operators)) (now program) (now times) (now ends) j) ⌝ }
+    ensures { λ r. ⌜ r ≡ first (drop 3 (programChecks (timeIn (now (operators .entry))) procedures (now (program .entry)))) ⌝ }
+{
+    let loose = first_in_roots(program, ends, procedures, false);
+    match loose {
+        Checked::Refused(r) => Checked::Refused(r),
+        Checked::Accepted => {
+            let late = first_in_roots(program, ends, procedures, true);
+            match late {
+                Checked::Refused(r) => Checked::Refused(r),
+                Checked::Accepted => last_check(operators, program, procedures, times, ends),
+            }
+        }
+    }
+}
+
+// The arrays, filled from the last node to the first, and the refusals that read them.
+fn measure(operators: &[u8], program: &[u8], procedures: usize) -> Scanned
+    requires { ⌜ Readable procedures (now program) ⌝ }
+    ensures { λ r. ⌜ Measures (now (operators .entry)) procedures (now (program .entry)) r ⌝ }
 {
     let count = program.len() / NODE;
     let mut times = [0u16; 200];
@@ -484,7 +657,7 @@ fn measure(operators: &[u8], program: &[u8]) -> Scanned
         times[i] = time;
         ends[i] = end;
     }
-    let checked = late_check(operators, program, &times, &ends);
+    let checked = late_check(operators, program, procedures, &times, &ends);
     Scanned {
         checked,
         times,
@@ -503,14 +676,14 @@ fn unscanned(refusal: Refusal) -> Scanned
     }
 }
 
-// Refusals 1 to 8 and 22 under operator times, with the arrays.
-fn scan_by(operators: &[u8], program: &[u8]) -> Scanned
-    ensures { λ r. ⌜ ScansBy (now (operators .entry)) (now (program .entry)) r ⌝ }
+// Refusals 1 to 8, 22, 24 and 25 under operator times, with the arrays.
+fn scan_by(operators: &[u8], program: &[u8], procedures: usize) -> Scanned
+    ensures { λ r. ⌜ ScansBy (now (operators .entry)) procedures (now (program .entry)) r ⌝ }
 {
-    let early = early_check(program);
+    let early = early_check(program, procedures);
     match early {
         Checked::Refused(r) => unscanned(r),
-        Checked::Accepted => measure(operators, program),
+        Checked::Accepted => measure(operators, program, procedures),
     }
 }
 
@@ -523,7 +696,7 @@ pub fn scan(options: Options, program: &[u8]) -> Scanned
         Checked::Refused(r) => unscanned(r),
         Checked::Accepted => {
             let operators = options.times;
-            scan_by(&operators, program)
+            scan_by(&operators, program, options.procedures)
         }
     }
 }

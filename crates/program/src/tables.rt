@@ -1,9 +1,9 @@
-// What is given beside a program: nothing, or a file of operator times, with refusals 19 to 21.
+// What is given beside a program: nothing, or a file of operator times, with refusals 19 to 21, and the number of procedures.
 // Contracts are equations with the definitions of model/TimeTables.
 ghost use mathlib.Core.Path.{_≡_};
 ghost use lib.ListN.{length, getD};
 ghost use Rattle.model.specs.Refusals.{first, firstFault};
-ghost use Rattle.model.specs.TimeTables.{byteWrong, tableFault, tableChecks, given, givenIf, load, defaults};
+ghost use Rattle.model.specs.TimeTables.{byteWrong, tableFault, tableChecks, builtIn, given, givenIf, beside, load, defaults};
 use crate::refused;
 use model::Checked;
 use model::Options;
@@ -12,14 +12,22 @@ use model::sizes::BLOCK;
 // The paper's operator times: entry k is that of kind k.
 const BUILT_IN: [u8; 11] = [0, 0, 0, 1, 16, 17, 1, 1, 6, 17, 4];
 
-// What stands for 'nothing given': the built-in times.
-pub fn defaults() -> Options
-    ensures { λ r. ⌜ r ≡ defaults ⌝ }
+// The built-in times, with so many procedures.
+fn built_in(procedures: usize) -> Options
+    ensures { λ r. ⌜ r ≡ load (beside builtIn procedures) ⌝ }
 {
     Options {
         checked: Checked::Accepted,
         times: BUILT_IN,
+        procedures,
     }
+}
+
+// What stands for 'nothing given': the built-in times, and no procedures.
+pub fn defaults() -> Options
+    ensures { λ r. ⌜ r ≡ defaults ⌝ }
+{
+    built_in(0)
 }
 
 // Byte i of a table may not be b; bytes 6 and 7 are the check.
@@ -73,8 +81,8 @@ fn byte_at(file: &[u8], i: usize) -> u8
 }
 
 // The times that a file gives. Of a refused one they are of no use.
-pub fn load(file: &[u8]) -> Options
-    ensures { λ r. ⌜ r ≡ load (given (now (file .entry))) ⌝ }
+pub fn load(file: &[u8], procedures: usize) -> Options
+    ensures { λ r. ⌜ r ≡ load (beside (given (now (file .entry))) procedures) ⌝ }
 {
     let checked = check_table(file);
     let times = [
@@ -90,15 +98,19 @@ pub fn load(file: &[u8]) -> Options
         byte_at(file, 16),
         byte_at(file, 17),
     ];
-    Options { checked, times }
+    Options {
+        checked,
+        times,
+        procedures,
+    }
 }
 
 // With a flag that tells whether a file is given.
-pub fn load_if(timed: bool, file: &[u8]) -> Options
-    ensures { λ r. ⌜ r ≡ load (givenIf timed (now (file .entry))) ⌝ }
+pub fn load_if(timed: bool, file: &[u8], procedures: usize) -> Options
+    ensures { λ r. ⌜ r ≡ load (beside (givenIf timed (now (file .entry))) procedures) ⌝ }
 {
     if timed {
-        return load(file);
+        return load(file, procedures);
     }
-    defaults()
+    built_in(procedures)
 }

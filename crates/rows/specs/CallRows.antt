@@ -43,7 +43,7 @@ ticking a b c n line = set (set (a ∷ b ∷ c ∷ replicate 1637 0) 4 n) 136 li
 -- the first that a call's checks find, and what the paper says
 calls : List (Checked × Checked)
 calls =
-    -- compiling: 1 to 8 and 22, then 14 for the file
+    -- compiling: 1 to 8, 22, 24 and 25, then 14 for the file
     (first (compileChecks defaults okProgram (room 512)), Accepted)
     ∷ (first (compileChecks defaults okProgram (room 511)), refuse 14 0)
     ∷ (first (compileChecks defaults [] []), refuse 1 0)
@@ -92,7 +92,7 @@ calls =
     ∷ (first (runNetlistChecks okFile (room 543) 1000000 (room 1600)), refuse 14 0)
     ∷ (first (runNetlistChecks okFile (room 544) 1000000 (room 1599)), refuse 14 0)
     ∷ (first (runNetlistChecks [] (room 544) 1000001 (room 1600)), refuse 9 0)
-    -- a full run of a program: 1 to 8 and 22, 13, then 14 for the words, the file or the state
+    -- a full run of a program: 1 to 8, 22, 24 and 25, 13, then 14 for the words, the file or the state
     ∷ (first (runProgramChecks defaults okProgram (room 544) 1000000 (room 512) (room 1600)), Accepted)
     ∷ (first (runProgramChecks defaults okProgram [] 1000001 [] []), refuse 13 0)
     ∷ (first (runProgramChecks defaults okProgram (room 543) 1000000 (room 512) (room 1600)), refuse 14 0)
@@ -100,7 +100,7 @@ calls =
     ∷ (first (runProgramChecks defaults okProgram (room 544) 1000000 (room 512) (room 1599)), refuse 14 0)
     ∷ (first (runProgramChecks defaults [] [] 1000001 [] []), refuse 1 0)
     ∷ (first (runProgramChecks defaults (raw 26 0 0) [] 1000001 [] []), refuse 22 0)
-    -- a reference run: 1 to 8 and 22, 13, then 14 for the words
+    -- a reference run: 1 to 8, 22, 24 and 25, 13, then 14 for the words
     ∷ (first (referenceChecks defaults okProgram (room 544) 1000000), Accepted)
     ∷ (first (referenceChecks defaults okProgram (room 543) 1000001), refuse 13 0)
     ∷ (first (referenceChecks defaults okProgram (room 543) 1000000), refuse 14 0)

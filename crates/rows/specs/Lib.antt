@@ -5,4 +5,5 @@ pub mod NetlistRows
 pub mod StateRows
 pub mod CallRows
 pub mod LoopRows
+pub mod ProcedureRows
 pub mod Texts

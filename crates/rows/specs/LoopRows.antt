@@ -6,7 +6,7 @@ use mathlib.Core.List.{List, [], _∷_, map}
 use Prim.Native.Nat.{ℕ}
 use Rattle.model.specs.declared.Answer.{Answer}
 use Rattle.model.specs.Word.{bit, operate}
-use Rattle.model.specs.Program.{const, var, op, Stmt, ok, tick, assign, seq, par, ite, while, repeat, loop, exit, nodeBytes, preorder}
+use Rattle.model.specs.Program.{const, var, op, Code, ok, tick, assign, seq, par, ite, while, repeat, loop, exit, nodeBytes, preorder}
 use Rattle.model.specs.Rules.{owner, eval, put, over, kept, after, wait, chain, both, caught, whiles, repeats, loops, run}
 use Rattle.model.specs.TimeTables.{defaults}
 use Rattle.model.specs.Calls.{listed, referenceAnswer, answering, referenceCall}
@@ -14,14 +14,14 @@ use Rattle.model.specs.ProgramPromises.{openAnswer}
 use Rattle.model.specs.Cases.{checkOfProgram, start, endAnswer}
 
 -- x0 := x0 + 1, which takes 17, and if x0 = n then exit else P, which takes 6 and then P
-abbrev count : Stmt
+abbrev count : Code
 count = assign 16 0 (op 4 (var 0) (const 1))
 
-abbrev exitAt : ℕ → Stmt → Stmt
+abbrev exitAt : ℕ → Code → Code
 exitAt n P = ite 6 (op 8 (var 0) (const n)) exit P
 
 -- a program, and what is answered; `endAnswer t v` is an end at t with x0 = v
-loopRuns : List (Stmt × Answer)
+loopRuns : List (Code × Answer)
 loopRuns =
     -- an exit takes no time, and the delay for going round is not spent on it
     (loop 1 exit, endAnswer 0 0)

@@ -56,18 +56,19 @@ good-right = refl
 wrong : List Cell
 wrong =
     -- unknown kinds, those of a program's variables and statements among them
-    cell 0 0 0 0 ∷ cell 2 0 0 0 ∷ cell 10 0 0 0 ∷ cell 16 0 0 0 ∷ cell 31 0 0 0 ∷ cell 39 0 0 0 ∷ cell 45 0 0 0
+    cell 0 0 0 0 ∷ cell 2 0 0 0 ∷ cell 10 0 0 0 ∷ cell 16 0 0 0 ∷ cell 31 0 0 0 ∷ cell 45 0 0 0
     -- start and ground stand nowhere but at 0 and 1, an array's cells nowhere but behind the memories
     ∷ cell 32 0 0 0 ∷ cell 33 0 0 0 ∷ cell 42 0 1 2 ∷ cell 42 4 1 2 ∷ cell 43 0 2 0
     -- a delay where there is none
-    ∷ cell 1 1 5 0 ∷ cell 3 1 2 0 ∷ cell 4 1 2 2 ∷ cell 9 1 2 2 ∷ cell 35 1 0 0 ∷ cell 36 1 0 2 ∷ cell 37 1 0 2 ∷ cell 38 1 0 0 ∷ cell 41 1 0 2 ∷ cell 44 1 19 2
+    ∷ cell 1 1 5 0 ∷ cell 3 1 2 0 ∷ cell 4 1 2 2 ∷ cell 9 1 2 2 ∷ cell 35 1 0 0 ∷ cell 36 1 0 2 ∷ cell 37 1 0 2 ∷ cell 38 1 0 0 ∷ cell 39 1 0 0 ∷ cell 41 1 0 2 ∷ cell 44 1 19 2
     -- a delay cell's delay is 1 to 255
     ∷ cell 34 0 0 0 ∷ cell 34 256 0 0
     -- a second input where there is none
     ∷ cell 1 0 5 1 ∷ cell 3 0 2 1 ∷ cell 34 1 0 1
     -- an input that isn't lower, though of the right sort
     ∷ cell 3 0 27 0 ∷ cell 4 0 27 2 ∷ cell 4 0 2 27 ∷ cell 9 0 27 2 ∷ cell 9 0 2 27
-    ∷ cell 35 0 27 0 ∷ cell 35 0 0 27 ∷ cell 36 0 27 2 ∷ cell 37 0 27 2 ∷ cell 38 0 27 0 ∷ cell 38 0 0 27 ∷ cell 41 0 0 27
+    ∷ cell 35 0 27 0 ∷ cell 35 0 0 27 ∷ cell 36 0 27 2 ∷ cell 37 0 27 2 ∷ cell 38 0 27 0 ∷ cell 38 0 0 27 ∷ cell 39 0 27 0
+    ∷ cell 39 0 0 27 ∷ cell 41 0 0 27
     ∷ cell 44 0 27 2 ∷ cell 44 0 19 27
     -- no cell 28 for a delay to name
     ∷ cell 34 1 28 0
@@ -78,7 +79,8 @@ wrong =
     -- a read of something else than a 42
     ∷ cell 44 0 20 2 ∷ cell 44 0 2 2 ∷ cell 44 0 0 2
     -- a word where a control belongs
-    ∷ cell 34 1 2 0 ∷ cell 35 0 2 0 ∷ cell 35 0 0 2 ∷ cell 36 0 2 2 ∷ cell 37 0 2 2 ∷ cell 38 0 2 0 ∷ cell 38 0 0 2 ∷ cell 41 0 2 2
+    ∷ cell 34 1 2 0 ∷ cell 35 0 2 0 ∷ cell 35 0 0 2 ∷ cell 36 0 2 2 ∷ cell 37 0 2 2 ∷ cell 38 0 2 0 ∷ cell 38 0 0 2
+    ∷ cell 39 0 2 0 ∷ cell 39 0 0 2 ∷ cell 41 0 2 2
     ∷ []
 
 wrong-right : map (λ c. netCheck (plus (c ∷ [])) 0) wrong ≡ map (λ c. refuse 12 27) wrong

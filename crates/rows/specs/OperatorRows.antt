@@ -6,7 +6,7 @@ use mathlib.Core.Path.{_≡_, refl}
 use mathlib.Core.List.{List, [], _∷_, map}
 use Prim.Native.Nat.{ℕ}
 use Rattle.model.specs.Word.{bit, biased, operate, elementWord}
-use Rattle.model.specs.Program.{Expr, const, var, compl, op, elem, Stmt, ok, tick, assign, assignElem, seq, par, ite, while, repeat, loop, exit, time, least, builtInTimes, timeIn}
+use Rattle.model.specs.Program.{Expr, const, var, compl, op, elem, Code, ok, tick, assign, assignElem, seq, par, ite, while, repeat, loop, exit, time, least, builtInTimes, timeIn}
 use Rattle.model.specs.Rules.{owner}
 
 -- an operator's kind, its two words, and what it gives
@@ -120,7 +120,7 @@ times-right = refl
 
 -- a statement, and its least delay: "at least its expression's time, and at least 1 for kinds 17, 18, 22 and 23. If may have 0." "An element's
 -- delay covers both children's times and is at least 1." "loop P (kind 25) with a delay of at least 1"
-leastDelays : List (Stmt × ℕ)
+leastDelays : List (Code × ℕ)
 leastDelays =
     (ok, 0)
     ∷ (tick 0, 1)

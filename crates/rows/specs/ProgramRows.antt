@@ -1,4 +1,5 @@
--- Programs with what their check says, worked out by hand from the paper: refusals 1 to 8 and 22 with their places, and what is just allowed.
+-- Programs without procedures and what their check says, worked out by hand from the papers: refusals 1 to 8 and 22 with their places, 24 of a call,
+-- and what is just allowed. ProcedureRows has programs with procedures.
 -- Calls and promises cite the same checks, and so leave them free.
 -- Assumes nothing.
 use mathlib.Core.Path.{_≡_, refl}
@@ -7,7 +8,7 @@ use Prim.Native.Nat.{ℕ}
 use Rattle.model.specs.declared.Checked.{Checked}
 use Rattle.model.specs.declared.Checked.the-variants.{Accepted}
 use Rattle.model.specs.Refusals.{refuse}
-use Rattle.model.specs.Program.{nodeBytes, Expr, const, var, compl, op, elem, Stmt, ok, tick, assign, assignElem, seq, par, ite, while, repeat, loop, exit, preorder}
+use Rattle.model.specs.Program.{nodeBytes, Expr, const, var, compl, op, elem, Code, ok, tick, assign, assignElem, seq, par, ite, while, repeat, loop, exit, preorder}
 use Rattle.model.specs.TimeTables.{defaults}
 use Rattle.model.specs.Calls.{checkCall}
 use Rattle.model.specs.Cases.{raw, repeated, checkOfProgram}
@@ -42,7 +43,8 @@ kinds =
     ∷ (24, refuse 6 1, refuse 6 1)
     ∷ (25, refuse 6 1, refuse 3 0)
     ∷ (26, refuse 3 0, refuse 3 0)
-    ∷ (27, refuse 2 0, refuse 2 0)
+    ∷ (27, refuse 24 0, refuse 24 0)
+    ∷ (28, refuse 2 0, refuse 2 0)
     -- a cell's kind
     ∷ (32, refuse 2 0, refuse 2 0)
     ∷ (255, refuse 2 0, refuse 2 0)
@@ -57,18 +59,18 @@ kinds-right = (refl, refl)
 -- Programs -----------------------------------------------------------------------------------------------------------------------------
 
 -- the bytes of a statement; nodes are counted in the order in which they are written
-abbrev bytesOf : Stmt → List ℕ
+abbrev bytesOf : Code → List ℕ
 bytesOf P = nodeBytes (preorder P)
 
 -- x := n with d 1, and x := y
-abbrev gets : ℕ → ℕ → Stmt
+abbrev gets : ℕ → ℕ → Code
 gets x n = assign 1 x (const n)
 
-abbrev copies : ℕ → ℕ → Stmt
+abbrev copies : ℕ → ℕ → Code
 copies x y = assign 1 x (var y)
 
 -- element n of array k := 1 with d 1
-abbrev sets : ℕ → ℕ → Stmt
+abbrev sets : ℕ → ℕ → Code
 sets k n = assignElem 1 k (const n) (const 1)
 
 -- x0 = 0, of time 6
@@ -83,7 +85,7 @@ programs =
     ∷ (raw 16 0 0 ++ (0 ∷ []), refuse 1 0)
     ∷ (repeated 200 (raw 16 0 0) ++ (0 ∷ []), refuse 1 0)
     -- 2: at its node, before the nodes are read as a tree
-    ∷ (raw 19 0 0 ++ raw 16 0 0 ++ raw 27 0 0, refuse 2 2)
+    ∷ (raw 19 0 0 ++ raw 16 0 0 ++ raw 28 0 0, refuse 2 2)
     ∷ (raw 16 0 0 ++ raw 0 0 0, refuse 2 1)
     -- 3: at its node; the high byte of a number counts
     ∷ (raw 18 1 0 ++ raw 1 1 5, refuse 3 1)

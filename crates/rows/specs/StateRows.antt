@@ -8,7 +8,7 @@ use Prim.Native.Nat.{ℕ, _+_, _*_}
 use lib.ListN.{set, replicate}
 use Rattle.model.specs.declared.Cell.{Cell}
 use Rattle.model.specs.Word.{operate, put16, get32, put32, bytes16}
-use Rattle.model.specs.Circuit.{memoryWords, cell, mergeStep}
+use Rattle.model.specs.Circuit.{memoryWords, cell, merges, mergeStep, returnStep}
 use Rattle.model.specs.State.{flightOf, nowAt, heldAt, lineBit, nextValue, upTo, aged, stored, shown, shiftedIn, holding, settle, ones, inFlight, flightIn, counted, wordBytes, evaluate, beginState, stepState, lastState, evaluated, wordsIn, cellSound, cellsSound, sound}
 use Rattle.model.specs.Calls.{wordAt}
 use Rattle.rows.specs.NetlistRows.{checkOfFile}
@@ -119,7 +119,7 @@ state19 =
 
 -- whoever unfolds this unfolds all that a state is made by
 unfoldable pub stateOfCells : List Cell → ℕ → ℕ → List ℕ → List ℕ
-unfolding state0 state1 state9 state10 state19 checkOfFile operate put16 get32 put32 mergeStep heldAt lineBit nextValue upTo aged stored shown shiftedIn holding settle ones inFlight flightIn counted wordBytes evaluate beginState stepState lastState evaluated memoryWords cellSound cellsSound sound
+unfolding state0 state1 state9 state10 state19 checkOfFile operate put16 get32 put32 merges mergeStep returnStep heldAt lineBit nextValue upTo aged stored shown shiftedIn holding settle ones inFlight flightIn counted wordBytes evaluate beginState stepState lastState evaluated memoryWords cellSound cellsSound sound
 stateOfCells cells finish n s = lastState cells finish n s
 
 -- "Lent bytes past a result keep their values."

@@ -10,7 +10,7 @@ use Rattle.model.specs.Word.{bytes16}
 use Rattle.model.specs.Refusals.{refuse, firstFault}
 use Rattle.model.specs.Program.{builtInTimes}
 use Rattle.model.specs.NetlistFile.{wordSum, blockWith}
-use Rattle.model.specs.TimeTables.{byteWrong, tableFault, tableSumWrong, timesIn, given, load, defaults}
+use Rattle.model.specs.TimeTables.{byteWrong, tableFault, tableSumWrong, timesIn, given, verdictOf, timesOf, beside, load, defaults}
 use Rattle.model.specs.Calls.{checkCall}
 use Rattle.model.specs.Cases.{raw, checkOfProgram}
 
@@ -22,8 +22,8 @@ builtInFile =
     ∷ 0 ∷ 0 ∷ 1 ∷ 16 ∷ 17 ∷ 1 ∷ 1 ∷ 6 ∷ 17 ∷ 4  -- kinds 1 to 10
     ∷ replicate 494 0
 
-built-in-loads : load (given builtInFile) ≡ defaults
-unfolding builtInFile load tableSumWrong tableFault byteWrong wordSum firstFault timesIn builtInTimes
+built-in-loads : load (beside (given builtInFile) 0) ≡ defaults
+unfolding builtInFile load verdictOf timesOf tableSumWrong tableFault byteWrong wordSum firstFault timesIn builtInTimes
 built-in-loads = refl
 
 -- bytes behind the header with times of kinds 3 and 10: byte i of the file is number i − 8 of these
@@ -65,8 +65,8 @@ tables =
     ∷ (set builtInFile 2 8, refuse 20 0)
     ∷ []
 
-tables-right : map (λ r. load (given (r .0)) .checked) tables ≡ map (λ r. r .1) tables
-unfolding tables builtInFile load tableSumWrong tableFault byteWrong wordSum firstFault timesIn bytes16
+tables-right : map (λ r. load (beside (given (r .0)) 0) .checked) tables ≡ map (λ r. r .1) tables
+unfolding tables builtInFile load verdictOf timesOf tableSumWrong tableFault byteWrong wordSum firstFault timesIn bytes16
 tables-right = refl
 
 -- a table, a program, and what the check says of both: x0 := !x0 takes the time of kind 3, x0 := a0[x0] that of kind 10, and a table's refusal comes before the program's
@@ -80,6 +80,6 @@ checks =
     ∷ (builtInFile, [], refuse 1 0)
     ∷ []
 
-checks-right : map (λ r. checkCall (load (given (r .0))) (r .1)) checks ≡ map (λ r. r .2) checks
+checks-right : map (λ r. checkCall (load (beside (given (r .0)) 0)) (r .1)) checks ≡ map (λ r. r .2) checks
 unfolding checks builtInFile checkOfProgram tableSumWrong tableFault byteWrong wordSum timesIn
 checks-right = refl

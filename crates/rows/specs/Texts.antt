@@ -12,7 +12,7 @@ use Rattle.model.specs.declared.Checked.the-variants.{Accepted}
 use Rattle.model.specs.declared.Outcome.the-variants.{Ended, Open}
 use Rattle.model.specs.declared.Answer.{Answer}
 use Rattle.model.specs.Refusals.{refuse, first}
-use Rattle.model.specs.Program.{const, var, compl, op, Stmt, ok, tick, assign, seq, par, ite, while, repeat, preorderE, preorder}
+use Rattle.model.specs.Program.{const, var, compl, op, Code, ok, tick, assign, seq, par, ite, while, repeat, preorderE, preorder}
 use Rattle.model.specs.Ascii.{ascii}
 use Rattle.model.specs.Text.{blank, digit, letter, runLength, allDigits, valueFrom, isNumber, isName, same, wordCode, twoCode, oneCode, limitAfter, runToken, tokenAt, sizeAt, wordsFrom, outside}
 use Rattle.model.specs.Reader.{Reading, good, holdOf, reachOf, pop, topCode, topStart, leaf, opened, openedNode, between, closed, turned, reduced, withDelay, onStatement, onOperand, onAfterOperand, onAfterStatement, onDelay, onBody, stepOf, isBroken, complete, readFrom}
@@ -28,7 +28,7 @@ unfolding blank digit letter runLength allDigits valueFrom isNumber isName same 
 readingOfText t = readingOf (ascii t)
 
 -- a text, and the statement that it is read as
-readings : List (String × Stmt)
+readings : List (String × Code)
 readings =
     ("ok", ok)
     ∷ ("x0 := x0+3 @16; x0:=x0 +4@16", seq (assign 16 0 (op 4 (var 0) (const 3))) (assign 16 0 (op 4 (var 0) (const 4))))

@@ -5,4 +5,5 @@ pub mod Nodes
 pub mod Parts
 pub mod Runs
 pub mod Loops
+pub mod Procedures
 pub mod Answers

@@ -11,7 +11,7 @@ use native.Mathlib.Decide.{ℕ-discrete}
 use lib.Dec.{eqb}
 use borrow.Author.Tests.{eq-eqb, ne-eqb}
 use Rattle.model.specs.Word.{pick, elementWord}
-use Rattle.model.specs.Program.{Expr, Stmt, ok, assign, assignElem, seq, par, ite, exit, writes}
+use Rattle.model.specs.Program.{Expr, Stmt, ok, tick, assign, assignElem, seq, par, ite, exit, writes}
 use Rattle.model.specs.Rules.{Store, atEnd, Run, ended, left, still, owner, eval, put, over, kept, after, wait, chain, both, caught, run}
 use Rattle.laws.specs.Program.Fit.{Formed, Separate}
 use Rattle.laws.specs.Rules.Uses.{unwritten, writes-touches, apart-unwritten}
@@ -79,6 +79,10 @@ module _ (k : ℕ) (σ : Store) (r : Ran) where
   pub run-ok : Stands k (wait 0 k (λ k₁. ended 0 σ)) r → Stands k (run k ok σ) r
   unfolding run
   run-ok S = record { is = S .is ∙ wait-ends 0 k σ (omega arith); within = S .within }
+
+  pub run-tick : (d : ℕ) → Stands k (wait d k (λ k₁. ended 0 σ)) r → Stands k (run k (tick d) σ) r
+  unfolding run
+  run-tick d S = S
 
   pub run-exit : Stands 0 (left 0 σ) r → Stands k (run k exit σ) r
   unfolding run

@@ -3,12 +3,13 @@
 use mathlib.Core.Path.{_≡_}
 use mathlib.Core.List.{List}
 use Prim.Native.Nat.{ℕ, _≤_}
-use lib.ListN.{getD}
+use lib.ListN.{length, getD}
 use lib.Dec.{eqb}
 use Rattle.model.specs.Word.{pick}
-use Rattle.model.specs.Program.{Stmt}
+use Rattle.model.specs.Program.{Stmt, treesAt, stmtAt, programOf}
+use Rattle.model.specs.Procedures.{inline, inlined}
 use Rattle.model.specs.Rules.{Store, Run, ended, left, still}
-use Rattle.laws.specs.Program.Fit.{Fit}
+use Rattle.laws.specs.Program.Fit.{Formed, Timed, Separate}
 use Rattle.program.specs.Ends.{Laid}
 use Rattle.rules.specs.declared.Ran.{Ran}
 
@@ -29,7 +30,21 @@ pub record Stands (k : ℕ) (R : Run) (r : Ran) : Type 0 where
 unfoldable pub joins : Store → Store → Store → Store
 joins σ σ₁ σ₂ x = pick (eqb (σ₁ x) (σ x)) (σ₂ x) (σ₁ x)
 
--- P is a statement of an accepted program, whose array of subtree ends is right
-pub record Ready (s ends : List ℕ) (P : Stmt) : Type 0 where
+-- the first so many bodies without calls, and the statement at node i with these for its calls
+abbrev pub calledAt : ℕ → List ℕ → ℕ → Stmt
+calledAt k s p = inlined (programOf k s .bodies) p
+
+abbrev pub meantAt : ℕ → List ℕ → ℕ → Stmt
+meantAt k s i = inline (inlined (programOf k s .bodies)) (stmtAt s i)
+
+-- P is a statement without calls of an accepted program, whose array of subtree ends is right
+pub record Statable (s ends : List ℕ) (P : Stmt) : Type 0 where
   pub laid : Laid s ends
-  pub fit : Fit P
+  pub formed : Formed P
+  pub timed : Timed P
+  pub separate : Separate P
+
+-- and the program has that many bodies
+pub record Ready (s ends : List ℕ) (k : ℕ) (P : Stmt) : Type 0 where
+  pub fit : Statable s ends P
+  pub enough : k ≤ length (treesAt s 0)

@@ -6,11 +6,11 @@ ghost use Prim.Native.Nat.{_+_, _≤_, _<_, max};
 ghost use lib.ListN.{length};
 ghost use lib.Dec.{eqb};
 ghost use Rattle.model.specs.Word.{pick, elementWord};
-ghost use Rattle.model.specs.Program.{exprAt, stmtAt, assign, assignElem, seq, par, ite, while, repeat, loop};
+ghost use Rattle.model.specs.Program.{exprAt, tick, assign, assignElem, seq, par, ite, while, repeat, loop};
 ghost use Rattle.model.specs.Rules.{eval, put, ended, left, still, after, wait, caught, run};
 ghost use Rattle.model.specs.Calls.{wordAt, listed, refusedAnswer, referenceAnswer, referenceCall};
 ghost use Rattle.program.specs.Ends.{Laid};
-ghost use Rattle.rules.specs.Ran.{storeOf, runOf, Stands, joins, Ready};
+ghost use Rattle.rules.specs.Ran.{storeOf, runOf, Stands, joins, calledAt, meantAt, Statable, Ready};
 use model::Answer;
 use model::Checked;
 use model::Options;
@@ -183,7 +183,7 @@ fn assign_at(
     words: [u16; 272],
     budget: u32,
 ) -> Ran
-    requires { ⌜ Ready (now program) (now ends) (assign d x (exprAt (now program) e)) × (d < 256) ⌝ }
+    requires { ⌜ Statable (now program) (now ends) (assign d x (exprAt (now program) e)) × (d < 256) ⌝ }
     ensures { λ r. ⌜ Stands budget (run budget (assign d x (exprAt (now (program .entry)) e)) (storeOf words)) r ⌝ }
 {
     let value = eval_at(program, ends, e, words);
@@ -201,7 +201,7 @@ fn assign_elem_at(
     words: [u16; 272],
     budget: u32,
 ) -> Ran
-    requires { ⌜ Ready (now program) (now ends) (assignElem d array (exprAt (now program) e) (exprAt (now program) f)) × (d < 256) ⌝ }
+    requires { ⌜ Statable (now program) (now ends) (assignElem d array (exprAt (now program) e) (exprAt (now program) f)) × (d < 256) ⌝ }
     ensures { λ r. ⌜ Stands budget (run budget (assignElem d array (exprAt (now (program .entry)) e) (exprAt (now (program .entry)) f)) (storeOf words)) r ⌝ }
 {
     let index = eval_at(program, ends, e, words);
@@ -214,18 +214,19 @@ fn assign_elem_at(
 fn seq_at(
     program: &[u8],
     ends: &[usize; 200],
+    procedures: usize,
     p: usize,
     q: usize,
     words: [u16; 272],
     budget: u32,
 ) -> Ran
-    requires { ⌜ Ready (now program) (now ends) (seq (stmtAt (now program) p) (stmtAt (now program) q)) × (p ≤ q) ⌝ }
-    ensures { λ r. ⌜ Stands budget (run budget (seq (stmtAt (now (program .entry)) p) (stmtAt (now (program .entry)) q)) (storeOf words)) r ⌝ }
+    requires { ⌜ Ready (now program) (now ends) procedures (seq (meantAt procedures (now program) p) (meantAt procedures (now program) q)) × (p ≤ q) ⌝ }
+    ensures { λ r. ⌜ Stands budget (run budget (seq (meantAt procedures (now (program .entry)) p) (meantAt procedures (now (program .entry)) q)) (storeOf words)) r ⌝ }
 {
-    let first = run_at(program, ends, p, words, budget);
+    let first = run_at(program, ends, procedures, p, words, budget);
     if first.ended {
         let between = first.words;
-        let rest = run_at(program, ends, q, between, budget - first.time);
+        let rest = run_at(program, ends, procedures, q, between, budget - first.time);
         return later(first.time, rest);
     }
     first
@@ -235,17 +236,18 @@ fn seq_at(
 fn par_at(
     program: &[u8],
     ends: &[usize; 200],
+    procedures: usize,
     p: usize,
     q: usize,
     words: [u16; 272],
     budget: u32,
 ) -> Ran
-    requires { ⌜ Ready (now program) (now ends) (par (stmtAt (now program) p) (stmtAt (now program) q)) × (p ≤ q) ⌝ }
-    ensures { λ r. ⌜ Stands budget (run budget (par (stmtAt (now (program .entry)) p) (stmtAt (now (program .entry)) q)) (storeOf words)) r ⌝ }
+    requires { ⌜ Ready (now program) (now ends) procedures (par (meantAt procedures (now program) p) (meantAt procedures (now program) q)) × (p ≤ q) ⌝ }
+    ensures { λ r. ⌜ Stands budget (run budget (par (meantAt procedures (now (program .entry)) p) (meantAt procedures (now (program .entry)) q)) (storeOf words)) r ⌝ }
 {
-    let first = run_at(program, ends, p, words, budget);
+    let first = run_at(program, ends, procedures, p, words, budget);
     if first.ended {
-        let second = run_at(program, ends, q, words, budget);
+        let second = run_at(program, ends, procedures, q, words, budget);
         if second.ended {
             let a = first.words;
             let b = second.words;
@@ -265,6 +267,7 @@ fn par_at(
 fn if_at(
     program: &[u8],
     ends: &[usize; 200],
+    procedures: usize,
     e: usize,
     p: usize,
     q: usize,
@@ -272,30 +275,31 @@ fn if_at(
     words: [u16; 272],
     budget: u32,
 ) -> Ran
-    requires { ⌜ Ready (now program) (now ends) (ite d (exprAt (now program) e) (stmtAt (now program) p) (stmtAt (now program) q)) × (p ≤ q) ⌝ }
-    ensures { λ r. ⌜ Stands budget (run budget (ite d (exprAt (now (program .entry)) e) (stmtAt (now (program .entry)) p) (stmtAt (now (program .entry)) q)) (storeOf words)) r ⌝ }
+    requires { ⌜ Ready (now program) (now ends) procedures (ite d (exprAt (now program) e) (meantAt procedures (now program) p) (meantAt procedures (now program) q)) × (p ≤ q) ⌝ }
+    ensures { λ r. ⌜ Stands budget (run budget (ite d (exprAt (now (program .entry)) e) (meantAt procedures (now (program .entry)) p) (meantAt procedures (now (program .entry)) q)) (storeOf words)) r ⌝ }
 {
     if budget < d {
         return unfinished(words);
     }
     if eval_at(program, ends, e, words) == 0 {
-        return later(d, run_at(program, ends, q, words, budget - d));
+        return later(d, run_at(program, ends, procedures, q, words, budget - d));
     }
-    later(d, run_at(program, ends, p, words, budget - d))
+    later(d, run_at(program, ends, procedures, p, words, budget - d))
 }
 
 // While the expression at node e is true, the statement at node p.
 fn while_at(
     program: &[u8],
     ends: &[usize; 200],
+    procedures: usize,
     e: usize,
     p: usize,
     d: u32,
     words: [u16; 272],
     budget: u32,
 ) -> Ran
-    requires { ⌜ Ready (now program) (now ends) (while d (exprAt (now program) e) (stmtAt (now program) p)) ⌝ }
-    ensures { λ r. ⌜ Stands budget (run budget (while d (exprAt (now (program .entry)) e) (stmtAt (now (program .entry)) p)) (storeOf words)) r ⌝ }
+    requires { ⌜ Ready (now program) (now ends) procedures (while d (exprAt (now program) e) (meantAt procedures (now program) p)) ⌝ }
+    ensures { λ r. ⌜ Stands budget (run budget (while d (exprAt (now (program .entry)) e) (meantAt procedures (now (program .entry)) p)) (storeOf words)) r ⌝ }
 {
     let mut held = words;
     let mut left = budget;
@@ -309,7 +313,7 @@ fn while_at(
                 time: budget - rest,
             };
         }
-        let turn = run_at(program, ends, p, held, rest);
+        let turn = run_at(program, ends, procedures, p, held, rest);
         if turn.ended {
             held = turn.words;
             left = rest - turn.time;
@@ -324,19 +328,20 @@ fn while_at(
 fn repeat_at(
     program: &[u8],
     ends: &[usize; 200],
+    procedures: usize,
     e: usize,
     p: usize,
     d: u32,
     words: [u16; 272],
     budget: u32,
 ) -> Ran
-    requires { ⌜ Ready (now program) (now ends) (repeat d (exprAt (now program) e) (stmtAt (now program) p)) ⌝ }
-    ensures { λ r. ⌜ Stands budget (run budget (repeat d (exprAt (now (program .entry)) e) (stmtAt (now (program .entry)) p)) (storeOf words)) r ⌝ }
+    requires { ⌜ Ready (now program) (now ends) procedures (repeat d (exprAt (now program) e) (meantAt procedures (now program) p)) ⌝ }
+    ensures { λ r. ⌜ Stands budget (run budget (repeat d (exprAt (now (program .entry)) e) (meantAt procedures (now (program .entry)) p)) (storeOf words)) r ⌝ }
 {
     let mut held = words;
     let mut left = budget;
     loop {
-        let turn = run_at(program, ends, p, held, left);
+        let turn = run_at(program, ends, procedures, p, held, left);
         if turn.ended {
             held = turn.words;
         } else {
@@ -362,18 +367,19 @@ fn repeat_at(
 fn loop_at(
     program: &[u8],
     ends: &[usize; 200],
+    procedures: usize,
     p: usize,
     d: u32,
     words: [u16; 272],
     budget: u32,
 ) -> Ran
-    requires { ⌜ Ready (now program) (now ends) (loop d (stmtAt (now program) p)) ⌝ }
-    ensures { λ r. ⌜ Stands budget (run budget (loop d (stmtAt (now (program .entry)) p)) (storeOf words)) r ⌝ }
+    requires { ⌜ Ready (now program) (now ends) procedures (loop d (meantAt procedures (now program) p)) ⌝ }
+    ensures { λ r. ⌜ Stands budget (run budget (loop d (meantAt procedures (now (program .entry)) p)) (storeOf words)) r ⌝ }
 {
     let mut held = words;
     let mut left = budget;
     loop {
-        let turn = run_at(program, ends, p, held, left);
+        let turn = run_at(program, ends, procedures, p, held, left);
         if turn.ended {
             held = turn.words;
         } else {
@@ -387,10 +393,58 @@ fn loop_at(
     }
 }
 
-// The statement at node i, from these words.
-fn run_at(program: &[u8], ends: &[usize; 200], i: usize, words: [u16; 272], budget: u32) -> Ran
-    requires { ⌜ Ready (now program) (now ends) (stmtAt (now program) i) ⌝ }
-    ensures { λ r. ⌜ Stands budget (run budget (stmtAt (now (program .entry)) i) (storeOf words)) r ⌝ }
+// The body of procedure p, which may call those before it.
+fn body_at(
+    program: &[u8],
+    ends: &[usize; 200],
+    procedures: usize,
+    p: usize,
+    words: [u16; 272],
+    budget: u32,
+) -> Ran
+    requires { ⌜ Ready (now program) (now ends) procedures (calledAt procedures (now program) p) ⌝ }
+    ensures { λ r. ⌜ Stands budget (run budget (calledAt procedures (now (program .entry)) p) (storeOf words)) r ⌝ }
+{
+    if procedures <= p {
+        return pause(words, 0, budget);
+    }
+    let body = program::skip(ends, program.len() / 4, 0, p);
+    run_at(program, ends, p, body, words, budget)
+}
+
+// A call of procedure p: the delay, and then its body.
+fn call_at(
+    program: &[u8],
+    ends: &[usize; 200],
+    procedures: usize,
+    p: usize,
+    d: u32,
+    words: [u16; 272],
+    budget: u32,
+) -> Ran
+    requires { ⌜ Ready (now program) (now ends) procedures (seq (tick d) (calledAt procedures (now program) p)) ⌝ }
+    ensures { λ r. ⌜ Stands budget (run budget (seq (tick d) (calledAt procedures (now (program .entry)) p)) (storeOf words)) r ⌝ }
+{
+    let first = pause(words, d, budget);
+    if first.ended {
+        let between = first.words;
+        let body = body_at(program, ends, procedures, p, between, budget - first.time);
+        return later(first.time, body);
+    }
+    first
+}
+
+// The statement at node i, from these words; it may call the first so many procedures.
+fn run_at(
+    program: &[u8],
+    ends: &[usize; 200],
+    procedures: usize,
+    i: usize,
+    words: [u16; 272],
+    budget: u32,
+) -> Ran
+    requires { ⌜ Ready (now program) (now ends) procedures (meantAt procedures (now program) i) ⌝ }
+    ensures { λ r. ⌜ Stands budget (run budget (meantAt procedures (now (program .entry)) i) (storeOf words)) r ⌝ }
 {
     let count = program.len() / 4;
     if count <= i {
@@ -406,17 +460,28 @@ fn run_at(program: &[u8], ends: &[usize; 200], i: usize, words: [u16; 272], budg
     match kind {
         17 => pause(words, d, budget),
         18 => assign_at(program, ends, i + 1, node.n, d, words, budget),
-        19 => seq_at(program, ends, i + 1, second, words, budget),
-        20 => par_at(program, ends, i + 1, second, words, budget),
+        19 => seq_at(program, ends, procedures, i + 1, second, words, budget),
+        20 => par_at(program, ends, procedures, i + 1, second, words, budget),
         21 => {
             let third = program::next(ends, count, second);
-            if_at(program, ends, i + 1, second, third, d, words, budget)
+            if_at(
+                program,
+                ends,
+                procedures,
+                i + 1,
+                second,
+                third,
+                d,
+                words,
+                budget,
+            )
         }
-        22 => while_at(program, ends, i + 1, second, d, words, budget),
+        22 => while_at(program, ends, procedures, i + 1, second, d, words, budget),
         24 => assign_elem_at(program, ends, i + 1, second, node.n, d, words, budget),
-        25 => loop_at(program, ends, i + 1, d, words, budget),
+        25 => loop_at(program, ends, procedures, i + 1, d, words, budget),
         26 => leaving(words),
-        _ => repeat_at(program, ends, i + 1, second, d, words, budget),
+        27 => call_at(program, ends, procedures, node.n as usize, d, words, budget),
+        _ => repeat_at(program, ends, procedures, i + 1, second, d, words, budget),
     }
 }
 
@@ -503,7 +568,9 @@ pub fn reference_run(options: Options, program: &[u8], words: &[u8], budget: u32
                 return refused(14, 0);
             }
             let ends = told.ends;
-            let ran = run_at(program, &ends, 0, start_words(words), budget);
+            let k = options.procedures;
+            let main = program::skip(&ends, program.len() / 4, 0, k);
+            let ran = run_at(program, &ends, k, main, start_words(words), budget);
             answer(ran, budget)
         }
     }

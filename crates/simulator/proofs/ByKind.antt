@@ -9,9 +9,10 @@ use lib.Dec.{leb}
 use borrow.Author.Tests.{eq-eqb, ne-eqb, le-leb, lt-leb}
 use Rattle.model.specs.declared.Cell.{Cell}
 use Rattle.model.specs.Word.{pick, bit, isZero, operate, elementOf}
-use Rattle.model.specs.Circuit.{cellAt, high, mergeStep, Shape, cellTable, shape, kConstant, kComplement, kOperator, kStart, kGround, kDelay, kOr, kWhenTrue, kWhenFalse, kMerge, kMemory, kGated, kArray, kAddress, kRead, kUnknown}
-use Rattle.model.specs.State.{base, elementNow, nowAt, beforeAt, heldAt, lineBit, nextValue, shiftedIn, holding, settle}
-use Rattle.laws.specs.Circuit.Shapes.{delay-kind, merge-kind, operator-shape, apart}
+use Rattle.model.specs.Circuit.{cellAt, high, merges, stepOf, Shape, cellTable, shape, kConstant, kComplement, kOperator, kStart, kGround, kDelay, kOr, kWhenTrue, kWhenFalse, kMerge, kReturn, kMemory, kGated, kArray, kAddress, kRead, kUnknown}
+use Rattle.model.specs.State.{base, elementNow, nowAt, beforeAt, heldAt, lineBit, nextValue, shiftedIn, settle}
+use Rattle.laws.specs.Circuit.Shapes.{delay-kind, merge-kind, return-kind, by-merge, operator-shape, apart}
+use Rattle.laws.specs.Refusals.Laws.{not-both}
 
 -- a number that is no operator's
 pub record NoOperator (kind : ℕ) : Type 0 where
@@ -35,6 +36,7 @@ pub record Still (kind : ℕ) : Type 0 where
   pub when-true : kind ≡ 36 → ⊥
   pub when-false : kind ≡ 37 → ⊥
   pub merge : kind ≡ 38 → ⊥
+  pub return : kind ≡ 39 → ⊥
   pub memory : kind ≡ 40 → ⊥
   pub gated : kind ≡ 41 → ⊥
   pub read : kind ≡ 44 → ⊥
@@ -57,6 +59,7 @@ shape-still kind h =
       apart kind 36 (h .when-true),
       apart kind 37 (h .when-false),
       apart kind 38 (h .merge),
+      apart kind 39 (h .return),
       apart kind 40 (h .memory),
       apart kind 41 (h .gated),
       apart kind 44 (h .read),
@@ -92,10 +95,12 @@ module _ (starts : Bool) (net : List Cell) (s : List ℕ) (k : ℕ) (c : Cell) w
   unfolding nextValue shape
   next-when-false h = by-kind 37 h
 
-  pub next-merge : c .kind ≡ 38
-      → nextValue (shape (c .kind)) starts net s k c ≡ bit (mergeStep (heldAt s k) (high (nowAt s (c .a))) (high (nowAt s (c .b))) .out)
-  unfolding nextValue shape
-  next-merge h = by-kind 38 h
+  pub next-merge : merges (c .kind) ≡ true
+      → nextValue (shape (c .kind)) starts net s k c ≡ bit (stepOf (c .kind) (heldAt s k) (high (nowAt s (c .a))) (high (nowAt s (c .b))) .out)
+  unfolding nextValue shape stepOf
+  next-merge h =
+      let out : ℕ → ℕ = λ n. bit (stepOf n (heldAt s k) (high (nowAt s (c .a))) (high (nowAt s (c .b))) .out) in
+      by-merge (c .kind) h (λ e. by-kind 38 e ∙ sym (ap out e)) (λ e. by-kind 39 e ∙ sym (ap out e))
 
   -- a memory whose clock has fallen, and one whose clock has not
   pub next-fallen : c .kind ≡ 40 → (high (beforeAt s (c .a)) && not (high (nowAt s (c .a)))) ≡ true
@@ -147,13 +152,8 @@ module _ (s : List ℕ) (k : ℕ) (c : Cell) where
   unfolding settle shape
   settle-delay h = ap (λ (j : ℕ). settle (shape j) s k c) h
 
-  pub settle-merge : c .kind ≡ 38
-      → settle (shape (c .kind)) s k c ≡ holding s k (mergeStep (heldAt s k) (high (nowAt s (c .a))) (high (nowAt s (c .b))) .held)
-  unfolding settle shape
-  settle-merge h = ap (λ (j : ℕ). settle (shape j) s k c) h
-
-  pub settle-other : (c .kind ≡ 34 → ⊥) → (c .kind ≡ 38 → ⊥) → settle (shape (c .kind)) s k c ≡ s
-  unfolding settle
+  pub settle-other : (c .kind ≡ 34 → ⊥) → merges (c .kind) ≡ false → settle (shape (c .kind)) s k c ≡ s
+  unfolding settle merges
   settle-other h g = go (shape (c .kind)) refl
     where
       go : (sh : Shape) → shape (c .kind) ≡ sh → settle sh s k c ≡ s
@@ -166,7 +166,8 @@ module _ (s : List ℕ) (k : ℕ) (c : Cell) where
       go kOr e = refl
       go kWhenTrue e = refl
       go kWhenFalse e = refl
-      go kMerge e = absurd (g (merge-kind (c .kind) e))
+      go kMerge e = not-both (rw (merge-kind (c .kind) e) refl) g
+      go kReturn e = not-both (rw (return-kind (c .kind) e) refl) g
       go kMemory e = refl
       go kGated e = refl
       go kArray e = refl

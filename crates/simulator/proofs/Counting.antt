@@ -1,6 +1,7 @@
 -- The number in flight, counted from a state: the ones of a line, whole bytes first and then the low bits of one more,
 -- and the sum over the cells.
 -- Assumes nothing.
+use mathlib.Core.Bool.{true, false}
 use mathlib.Core.List.{List}
 use mathlib.Core.Path.{_≡_, refl, sym, _∙_, ap, ap₂}
 use Prim.Native.Nat.{ℕ, zero, suc, _+_, _-_, _*_, _/_, _%_, _^_, _<_, _≤_}
@@ -12,7 +13,7 @@ use lib.Pow.{pow-pos, pow-lt, mod-pow-add}
 use borrow.Author.Tests.{eq-eqb, ne-eqb}
 use Rattle.model.specs.declared.Cell.{Cell}
 use Rattle.model.specs.declared.Merge.{Merge}
-use Rattle.model.specs.Circuit.{cellAt}
+use Rattle.model.specs.Circuit.{cellAt, merges}
 use Rattle.model.specs.State.{base, lineBit, ones, heldBits, inFlight, flightIn}
 use Rattle.laws.specs.State.Flight.{ones-same}
 use Rattle.simulator.proofs.Cells.{cells-from}
@@ -116,13 +117,13 @@ module _ (l : ℕ → ℕ) (m : Merge) (c : Cell) where
   unfolding inFlight
   delay-flight e = rw (eq-eqb _ _ e) refl
 
-  pub merge-flight : c .kind ≡ 38 → inFlight l m c ≡ heldBits m
+  pub merge-flight : (c .kind ≡ 34 → ⊥) → merges (c .kind) ≡ true → inFlight l m c ≡ heldBits m
   unfolding inFlight
-  merge-flight e = rw (ne-eqb (c .kind) 34 (λ z. omega arith), eq-eqb _ _ e) refl
+  merge-flight e f = rw (ne-eqb _ _ e, f) refl
 
-  pub none-flight : (c .kind ≡ 34 → ⊥) → (c .kind ≡ 38 → ⊥) → inFlight l m c ≡ 0
+  pub none-flight : (c .kind ≡ 34 → ⊥) → merges (c .kind) ≡ false → inFlight l m c ≡ 0
   unfolding inFlight
-  none-flight e f = rw (ne-eqb _ _ e, ne-eqb _ _ f) refl
+  none-flight e f = rw (ne-eqb _ _ e, f) refl
 
 module _ (l : ℕ → ℕ → ℕ) (m : ℕ → Merge) (net : List Cell) (k : ℕ) where
   pub flight-here : k < length net → (c : Cell) → cellAt net k ≡ c

@@ -1,7 +1,7 @@
 -- The number in flight in an instant: what one cell adds and takes off, the header that tells it before the third pass, the third pass
 -- that keeps it cell by cell, and the header after the instant.
 -- Assumes nothing.
-use mathlib.Core.Bool.{Bool}
+use mathlib.Core.Bool.{Bool, true, false}
 use mathlib.Core.List.{List}
 use mathlib.Core.Path.{_≡_, refl, sym, _∙_, ap}
 use Prim.Native.Nat.{ℕ, _+_, _-_, _*_, _<_, _≤_}
@@ -10,9 +10,10 @@ use lib.ListN.{length, getD, length-append, length-replicate}
 use borrow.Author.Tests.{eq-eqb, ne-eqb}
 use Rattle.model.specs.declared.Cell.{Cell}
 use Rattle.model.specs.declared.Merge.{Merge}
-use Rattle.model.specs.Circuit.{cellAt, high, mergeStep}
+use Rattle.model.specs.Circuit.{cellAt, high, merges, stepOf}
 use Rattle.model.specs.Word.{bit, put32}
 use Rattle.model.specs.State.{instantOf, flightOf, nowAt, heldAt, lineBit, value, firstValue, upTo, aged, shown, settled, heldBits, flight, counted, blank, evaluate, beginState, stepState}
+use Rattle.laws.specs.Circuit.Shapes.{by-merge}
 use Rattle.laws.specs.Circuit.Ordered.{Ordered}
 use Rattle.laws.specs.State.Passes.{bit-lt, ticked, one, two, after, length-one, length-three, Line, evaluate-is}
 use Rattle.laws.specs.State.Flight.{comesIn, goesOut, flight-kept, flight-aged, flight-low, flight-settled, flight-blank, counted-same, counted-tells, told-kept, told-aged, told-blank}
@@ -26,14 +27,18 @@ module _ (s : List ℕ) (k : ℕ) (c : Cell) where
   unfolding comesIn goesOut
   delay-moves e = rw (eq-eqb _ _ e) (refl, refl)
 
-  pub merge-moves : c .kind ≡ 38
-      → (comesIn s k c ≡ heldBits (mergeStep (heldAt s k) (high (nowAt s (c .a))) (high (nowAt s (c .b))) .held)) × (goesOut s k c ≡ heldBits (heldAt s k))
+  pub merge-moves : (c .kind ≡ 34 → ⊥) → merges (c .kind) ≡ true
+      → (comesIn s k c ≡ heldBits (stepOf (c .kind) (heldAt s k) (high (nowAt s (c .a))) (high (nowAt s (c .b))) .held)) × (goesOut s k c ≡ heldBits (heldAt s k))
   unfolding comesIn goesOut
-  merge-moves e = rw (ne-eqb (c .kind) 34 (λ z. omega arith), eq-eqb _ _ e) (refl, refl)
+  merge-moves e f = rw (ne-eqb _ _ e, f) (refl, refl)
 
-  pub none-moves : (c .kind ≡ 34 → ⊥) → (c .kind ≡ 38 → ⊥) → (comesIn s k c ≡ 0) × (goesOut s k c ≡ 0)
+  pub none-moves : (c .kind ≡ 34 → ⊥) → merges (c .kind) ≡ false → (comesIn s k c ≡ 0) × (goesOut s k c ≡ 0)
   unfolding comesIn goesOut
-  none-moves e f = rw (ne-eqb _ _ e, ne-eqb _ _ f) (refl, refl)
+  none-moves e f = rw (ne-eqb _ _ e, f) (refl, refl)
+
+-- a merge looks at two cells
+pub no-constant : (k : ℕ) → merges k ≡ true → k ≡ 1 → ⊥
+no-constant k e z = by-merge k e (λ q. omega arith) (λ q. omega arith)
 
 -- a merge holds two bits at most
 pub held-low : (x : ℕ) (m : Merge) → x ≡ heldBits m → x ≤ 2

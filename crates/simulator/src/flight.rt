@@ -37,7 +37,7 @@ fn in_flight(c: Cell, s: &[u8], k: usize) -> u32
     if kind == 34 {
         return ones(s, k, c.delay);
     }
-    if kind == 38 {
+    if netlist::kinds::is_merge(kind) {
         return wires::held_bits(wires::held_at(s, k));
     }
     0

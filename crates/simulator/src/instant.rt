@@ -54,7 +54,8 @@ pub fn next_value(cells: &[u8], n: usize, starts: bool, c: Cell, state: &[u8], k
         35 => word::bit((x == 1) | (y == 1)),
         36 => word::bit((x == 1) & (y != 0)),
         37 => word::bit((x == 1) & (y == 0)),
-        38 => wires::merged(state, k, x == 1, y == 1),
+        38 => wires::merged(state, k, kind, x == 1, y == 1),
+        39 => wires::merged(state, k, kind, x == 1, y == 1),
         41 => if x == 1 { y } else { 0 },
         44 => element_now(cells, n, a, y, state),
         _ => 0,
@@ -94,11 +95,11 @@ pub fn settle(c: Cell, state: &mut [u8], k: usize, number: u32) -> u32
         wires::shift_line(state, k, x);
         return number + (word::bit(x) as u32) - (out as u32);
     }
-    if kind == 38 {
+    if netlist::kinds::is_merge(kind) {
         let x = wires::is_high(state, a);
         let y = wires::is_high(state, b);
         let held = wires::held_at(state, k);
-        let m = held.step(x, y);
+        let m = wires::merge_step(kind, held, x, y);
         let next = m.held;
         wires::hold(state, k, next);
         return number + wires::held_bits(next) - wires::held_bits(held);

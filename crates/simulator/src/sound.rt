@@ -39,11 +39,12 @@ fn cell_sound(c: Cell, s: &[u8], k: usize) -> bool
 {
     let kind = c.kind;
     let at = STATE_HEADER + STATE_CELL * k;
-    let most = word::bit(kind == 38);
+    let most_a = word::bit(netlist::kinds::is_merge(kind));
+    let most_b = word::bit(kind == 38);
     let now = wires::now_at(s, k);
     let ago = wires::before_at(s, k);
     let values = !netlist::kinds::is_control(kind) | ((now <= 1) & (ago <= 1));
-    let held = ((s[at + 4] as u16) <= most) & ((s[at + 5] as u16) <= most);
+    let held = ((s[at + 4] as u16) <= most_a) & ((s[at + 5] as u16) <= most_b);
     let zeros = all_zero(s, at + 6, 2);
     let line = all_zero(s, at + STATE_LINE, LINE);
     values & (held & (zeros & ((kind == 34) | line)))

@@ -4,10 +4,11 @@ ghost use mathlib.Core.Path.{_≡_};
 ghost use mathlib.Core.Bool.{not, _&&_};
 ghost use Prim.Native.Nat.{_+_, _*_, _<_, _≤_};
 ghost use Rattle.model.specs.Word.{bit, elementOf};
-ghost use Rattle.model.specs.Circuit.{high, mergeStep};
+ghost use Rattle.model.specs.Circuit.{high, stepOf};
 ghost use Rattle.model.specs.State.{base, nowAt, beforeAt, heldAt, heldBits, lineBit, shiftedIn, holding};
 ghost use Rattle.simulator.specs.Fits.{Stands};
 use model::Merge;
+use model::Merged;
 use model::sizes::LINE;
 use model::sizes::STATE_CELL;
 use model::sizes::STATE_HEADER;
@@ -68,13 +69,23 @@ pub fn held_bits(m: Merge) -> u32
     (word::bit(m.a) as u32) + (word::bit(m.b) as u32)
 }
 
-// The output of a merge with inputs a and b.
-pub fn merged(state: &[u8], k: usize, a: bool, b: bool) -> u16
+// One instant of a merge of this kind with inputs a and b.
+pub fn merge_step(kind: u8, held: Merge, a: bool, b: bool) -> Merged
+    ensures { λ r. ⌜ r ≡ stepOf kind held a b ⌝ }
+{
+    if kind == 39 {
+        return held.step_call(a, b);
+    }
+    held.step(a, b)
+}
+
+// The output of a merge of this kind with inputs a and b.
+pub fn merged(state: &[u8], k: usize, kind: u8, a: bool, b: bool) -> u16
     requires { ⌜ Stands (now state) k ⌝ }
-    ensures { λ r. ⌜ r ≡ bit (mergeStep (heldAt (now (state .entry)) k) a b .out) ⌝ }
+    ensures { λ r. ⌜ r ≡ bit (stepOf kind (heldAt (now (state .entry)) k) a b .out) ⌝ }
 {
     let held = held_at(state, k);
-    let m = held.step(a, b);
+    let m = merge_step(kind, held, a, b);
     word::bit(m.out)
 }
 

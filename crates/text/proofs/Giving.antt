@@ -1,7 +1,6 @@
 -- What is told of a text's program, check by check.
 -- Assumes nothing.
 use mathlib.Core.Path.{_≡_, refl, sym, _∙_, ap}
-use mathlib.Core.Bool.{Bool, true, false}
 use mathlib.Core.List.{List, [], _∷_, _++_}
 use Prim.Native.Nat.{ℕ, _*_, _<_, _≤_}
 use native.Mathlib.Omega.{arith}
@@ -16,9 +15,10 @@ use Rattle.model.specs.declared.Checked.the-variants.{Accepted, Refused}
 use Rattle.model.specs.declared.Written.{Written}
 use Rattle.model.specs.declared.Written.the-variants.{Done}
 use Rattle.model.specs.Refusals.{refuse, refuseIf, first}
-use Rattle.model.specs.Program.{nodeBytes, checkOf}
+use Rattle.model.specs.Program.{nodeBytes}
+use Rattle.model.specs.ProgramChecks.{checkOf}
 use Rattle.model.specs.Text.{wordsOf, outside}
-use Rattle.model.specs.Reader.{Reading, good, bad}
+use Rattle.model.specs.Reader.{good, bad}
 use Rattle.model.specs.Calls.{writtenVerdict, short, checkCall, writing}
 use Rattle.model.specs.TextCalls.{readingOf, brokenAt, bytesRead, textProgram, textChecks, readTextChecks, readTextCall}
 use Rattle.laws.specs.Refusals.Laws.{by-bool, not-refused, refuse-unless, first-one, first-append, refused-append, accept-take, all-accept}
@@ -96,11 +96,11 @@ module _ (options : Options) (program lent : List ℕ) where
 -- A text and the checks of its program ---------------------------------------------------------------------------------------------------
 
 -- a program that is too long is refused before anything else
-too-many : (times program : List ℕ) (r : Refusal) (cs : List Checked) → refuseIf (ltb 800 (length program)) 1 0 ≡ Refused r
-    → first (checkOf times program ∷ cs) ≡ Refused r
-too-many times program r cs e =
+too-many : (options : Options) (program : List ℕ) (r : Refusal) (cs : List Checked) → refuseIf (ltb 800 (length program)) 1 0 ≡ Refused r
+    → first (checkOf options program ∷ cs) ≡ Refused r
+too-many options program r cs e =
     by-bool (ltb 800 (length program))
-    (λ z. rw (long-refused times program (ltb-true 800 (length program) z)) (rw z at e))
+    (λ z. rw (long-refused options program (ltb-true 800 (length program) z)) (rw z at e))
     (λ z. not-refused (sym (rw z at e)))
 
 module _ (text : List ℕ) where
@@ -108,15 +108,15 @@ module _ (text : List ℕ) where
   room = refuseIf (ltb 800 (length (textProgram text))) 1 0
 
   -- what refuses the program of a text refuses every call on it
-  pub parse-refuses : (times : List ℕ) (r : Refusal) (cs : List Checked) → first (parseChecks text) ≡ Refused r
-      → first (textChecks text ++ (checkOf times (textProgram text) ∷ cs)) ≡ Refused r
-  parse-refuses times r cs e = go (first (textChecks text)) refl
+  pub parse-refuses : (options : Options) (r : Refusal) (cs : List Checked) → first (parseChecks text) ≡ Refused r
+      → first (textChecks text ++ (checkOf options (textProgram text) ∷ cs)) ≡ Refused r
+  parse-refuses options r cs e = go (first (textChecks text)) refl
     where
-      go : (c : Checked) → first (textChecks text) ≡ c → first (textChecks text ++ (checkOf times (textProgram text) ∷ cs)) ≡ Refused r
-      go (Refused q) z = refused-append (textChecks text) (checkOf times (textProgram text) ∷ cs) q z ∙ sym (refused-append (textChecks text) (room ∷ []) q z) ∙ e
+      go : (c : Checked) → first (textChecks text) ≡ c → first (textChecks text ++ (checkOf options (textProgram text) ∷ cs)) ≡ Refused r
+      go (Refused q) z = refused-append (textChecks text) (checkOf options (textProgram text) ∷ cs) q z ∙ sym (refused-append (textChecks text) (room ∷ []) q z) ∙ e
       go Accepted z =
-          first-append (textChecks text) (checkOf times (textProgram text) ∷ cs) z
-          ∙ too-many times (textProgram text) r cs (first-one room ∙ sym (first-append (textChecks text) (room ∷ []) z) ∙ e)
+          first-append (textChecks text) (checkOf options (textProgram text) ∷ cs) z
+          ∙ too-many options (textProgram text) r cs (first-one room ∙ sym (first-append (textChecks text) (room ∷ []) z) ∙ e)
 
   -- where nothing does, the checks of the text accept
   pub parse-accepts : first (parseChecks text) ≡ Accepted → first (textChecks text) ≡ Accepted
@@ -168,19 +168,19 @@ module _ (options : Options) (text lent : List ℕ) where
 
   module _ (a : options .checked ≡ Accepted) where
     abbrev after : List Checked
-    after = checkOf (options .times) (textProgram text) ∷ short (length lent) (length (textProgram text)) ∷ []
+    after = checkOf options (textProgram text) ∷ short (length lent) (length (textProgram text)) ∷ []
 
     behind-table : first (readTextChecks options text lent) ≡ first (textChecks text ++ after)
-    behind-table = rw a refl
+    behind-table = ap (λ (c : Checked). first (c ∷ textChecks text ++ after)) a
 
     pub read-refused : (r : Refusal) → first (parseChecks text) ≡ Refused r
         → readTextCall options text lent ≡ writing (Refused r) (textProgram text) (length (textProgram text)) 0 lent
     read-refused r e =
-        read-by (behind-table ∙ parse-refuses text (options .times) r (short (length lent) (length (textProgram text)) ∷ []) e)
+        read-by (behind-table ∙ parse-refuses text options r (short (length lent) (length (textProgram text)) ∷ []) e)
 
-    told-by-table : checkOf (options .times) (textProgram text) ≡ checkCall options (textProgram text)
+    told-by-table : checkOf options (textProgram text) ≡ checkCall options (textProgram text)
     unfolding checkCall
-    told-by-table = rw a (first-one _)
+    told-by-table = first-one _ ∙ sym (ap (λ (c : Checked). first (c ∷ checkOf options (textProgram text) ∷ [])) a)
 
     pub read-given : first (parseChecks text) ≡ Accepted → readTextCall options text lent ≡ giveCall options (textProgram text) lent
     unfolding giveCall

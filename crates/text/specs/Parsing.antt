@@ -3,7 +3,7 @@
 use mathlib.Core.Path.{_≡_}
 use mathlib.Core.Bool.{true}
 use mathlib.Core.List.{List, [], _∷_, _++_}
-use Prim.Native.Nat.{ℕ, _+_, _*_, _<_, _≤_}
+use Prim.Native.Nat.{ℕ, _+_, _<_, _≤_}
 use lib.Dec.{ltb}
 use lib.ListN.{length, take, drop}
 use Rattle.model.specs.declared.Node.{Node}
@@ -60,7 +60,7 @@ programTold text = writing (first (parseChecks text)) [] (length (textProgram te
 unfoldable pub Given : List ℕ → List ℕ → Type 0
 Given text d = first (parseChecks text) ≡ Accepted → take (length (textProgram text)) d ≡ textProgram text
 
--- a program, checked with a table and put into a lent list: 19 to 21, 1 to 8 and 22, 14
+-- a program, checked with what is given beside it and put into a lent list: 19 to 21, 1 to 8, 22, 24 and 25, 14
 abbrev pub giveChecks : Options → List ℕ → List ℕ → List Checked
 giveChecks options program lent = checkCall options program ∷ short (length lent) (length program) ∷ []
 

@@ -67,7 +67,7 @@ pub fn program_of(text: &[u8], program: &mut [u8]) -> Written
     }
 }
 
-// A program, checked and put into a lent list: refusals 19 to 21, 1 to 8 and 22, 14.
+// A program, checked and put into a lent list: refusals 19 to 21, 1 to 8, 22, 24 and 25, 14.
 fn give(options: Options, program: &[u8], lent: &mut [u8]) -> Written
     ensures answer { λ r. ⌜ r ≡ giveCall options (now (program .entry)) (now (lent .entry)) .answer ⌝ }
     ensures lent { λ _. ⌜ now (lent .exit) ≡ giveCall options (now (program .entry)) (now (lent .entry)) .lent ⌝ }
@@ -83,7 +83,7 @@ fn give(options: Options, program: &[u8], lent: &mut [u8]) -> Written
     Written::Done { count, finish: 0 }
 }
 
-// Text to program with options that are not refused: refusals 17, 18, 1 to 8 and 22, 14.
+// Text to program with options that are not refused: refusals 17, 18, 1 to 8, 22, 24 and 25, 14.
 fn read_accepted(options: Options, text: &[u8], lent: &mut [u8]) -> Written
     requires { ⌜ options .checked ≡ Accepted ⌝ }
     ensures answer { λ r. ⌜ r ≡ readTextCall options (now (text .entry)) (now (lent .entry)) .answer ⌝ }

@@ -5,6 +5,7 @@ pub mod Signal
 pub mod Pulses
 pub mod Merge
 pub mod Meets
+pub mod Returns
 pub mod Wiring
 pub mod World
 pub mod Memories
@@ -12,6 +13,7 @@ pub mod History
 pub mod Calm
 pub mod Rest
 pub mod Surge
+pub mod Reach
 pub mod Bodies
 pub mod Runs
 pub mod Simple
@@ -25,5 +27,6 @@ pub mod Turns
 pub mod While
 pub mod Repeat
 pub mod Loop
+pub mod Calls
 pub mod Timing
 pub mod Standing

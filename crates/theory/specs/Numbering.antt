@@ -2,5 +2,8 @@
 pub mod Levels
 pub mod Ors
 pub mod Structure
+pub mod Roots
 pub mod Whole
 pub mod Flying
+pub mod Given
+pub mod Cellwise

@@ -1,4 +1,5 @@
 /* The plain engine in C: the published bytes of a state, three passes over the cells for each instant.
+   No workload calls a procedure, so that kind 39 is left out.
    published NETLIST INSTANTS STATE: runs a good netlist from zero start words until the finish is high or the instants are done,
    writes the state's bytes into STATE, and prints the nanoseconds of the instants and the memories, the last one first. */
 #include <stdint.h>

@@ -2,8 +2,8 @@
 //!
 //! What a cell keeps between instants becomes a register, and every edge,
 //! rising or falling, moves all registers on. Before the first edge the
-//! wires have their values of instant 0. No workload reads an array, so that
-//! the words of arrays are left out.
+//! wires have their values of instant 0. No workload reads an array or calls a
+//! procedure, so that the words of arrays and the merges of calls are left out.
 
 use second::cells::*;
 use second::operator::Operator;

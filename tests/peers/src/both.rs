@@ -19,10 +19,10 @@ macro_rules! both {
 }
 
 pub const BOTH: Peer = both! {
-    check(table, program);
-    compile(table, program, file);
-    read_text(table, text, program);
-    compile_text(table, text, file);
+    check(given, program);
+    compile(given, program, file);
+    read_text(given, text, program);
+    compile_text(given, text, file);
     write_netlist(cells, finish, file);
     read_netlist(file, cells);
     check_cells(cells, finish);
@@ -32,10 +32,10 @@ pub const BOTH: Peer = both! {
     begin(file, words, state);
     continue_by(file, n, state);
     start(file, state);
-    run_program(table, program, words, budget, file, state);
-    run_text(table, text, words, budget, file, state);
+    run_program(given, program, words, budget, file, state);
+    run_text(given, text, words, budget, file, state);
     run_netlist(file, words, budget, state);
-    reference_run(table, program, words, budget);
+    reference_run(given, program, words, budget);
     hubrun_text(input);
     hubtext_bytes(input);
 };

@@ -5,7 +5,7 @@
 //! gives back what it holds afterwards, so two peers are compared by comparing
 //! replies.
 
-use values::{Answer, Cell, End, Refusal, Shape, Table};
+use values::{Answer, Cell, End, Given, Refusal, Shape};
 
 /// What a call answered, and its lent buffers afterwards, in argument order.
 #[derive(Clone, Debug, PartialEq, Eq)]
@@ -52,14 +52,14 @@ pub type Bytes<'a> = &'a [u8];
 #[derive(Clone, Copy)]
 pub struct Peer {
     pub name: &'static str,
-    /// table, program
-    pub check: fn(Table, Bytes) -> Reply<()>,
-    /// table, program; lent: netlist file
-    pub compile: fn(Table, Bytes, Bytes) -> Reply<Shape>,
-    /// table, text; lent: program; tells the program's bytes
-    pub read_text: fn(Table, Bytes, Bytes) -> Reply<usize>,
-    /// table, text; lent: netlist file
-    pub compile_text: fn(Table, Bytes, Bytes) -> Reply<Shape>,
+    /// given, program
+    pub check: fn(Given, Bytes) -> Reply<()>,
+    /// given, program; lent: netlist file
+    pub compile: fn(Given, Bytes, Bytes) -> Reply<Shape>,
+    /// given, text; lent: program; tells the program's bytes
+    pub read_text: fn(Given, Bytes, Bytes) -> Reply<usize>,
+    /// given, text; lent: netlist file
+    pub compile_text: fn(Given, Bytes, Bytes) -> Reply<Shape>,
     /// cells of six bytes, finish; lent: netlist file
     pub write_netlist: fn(Bytes, u16, Bytes) -> Reply<Shape>,
     /// netlist file; lent: cells of six bytes
@@ -78,14 +78,14 @@ pub struct Peer {
     pub continue_by: fn(Bytes, u32, Bytes) -> Reply<Answer>,
     /// netlist file; lent: state
     pub start: fn(Bytes, Bytes) -> Reply<Answer>,
-    /// table, program, start words, budget; lent: netlist file, state
-    pub run_program: fn(Table, Bytes, Bytes, u32, Bytes, Bytes) -> Reply<Answer>,
-    /// table, text, start words, budget; lent: netlist file, state
-    pub run_text: fn(Table, Bytes, Bytes, u32, Bytes, Bytes) -> Reply<Answer>,
+    /// given, program, start words, budget; lent: netlist file, state
+    pub run_program: fn(Given, Bytes, Bytes, u32, Bytes, Bytes) -> Reply<Answer>,
+    /// given, text, start words, budget; lent: netlist file, state
+    pub run_text: fn(Given, Bytes, Bytes, u32, Bytes, Bytes) -> Reply<Answer>,
     /// netlist file, start words, budget; lent: state
     pub run_netlist: fn(Bytes, Bytes, u32, Bytes) -> Reply<Answer>,
-    /// table, program, start words, budget; no end is one beyond the budget
-    pub reference_run: fn(Table, Bytes, Bytes, u32) -> Reply<Option<End>>,
+    /// given, program, start words, budget; no end is one beyond the budget
+    pub reference_run: fn(Given, Bytes, Bytes, u32) -> Reply<Option<End>>,
     /// standard input to standard output
     pub hubrun_text: fn(Bytes) -> Vec<u8>,
     /// standard input to standard output
@@ -98,15 +98,15 @@ macro_rules! implementation {
     ($($programs:tt)*) => {{
         use crate::peer::Reply;
         Peer {
-            check: |table, program| Reply::lending_none(calls::check(table, program)),
-            compile: |table, program, file| {
-                Reply::lending(file, |file| calls::compile(table, program, file))
+            check: |given, program| Reply::lending_none(calls::check(given, program)),
+            compile: |given, program, file| {
+                Reply::lending(file, |file| calls::compile(given, program, file))
             },
-            read_text: |table, text, program| {
-                Reply::lending(program, |program| calls::read_text(table, text, program))
+            read_text: |given, text, program| {
+                Reply::lending(program, |program| calls::read_text(given, text, program))
             },
-            compile_text: |table, text, file| {
-                Reply::lending(file, |file| calls::compile_text(table, text, file))
+            compile_text: |given, text, file| {
+                Reply::lending(file, |file| calls::compile_text(given, text, file))
             },
             write_netlist: |cells, finish, file| {
                 Reply::lending(file, |file| calls::write_netlist(cells, finish, file))
@@ -133,14 +133,14 @@ macro_rules! implementation {
                 Reply::lending(state, |state| calls::continue_by(file, state, n))
             },
             start: |file, state| Reply::lending(state, |state| calls::start(file, state)),
-            run_program: |table, program, words, budget, file, state| {
+            run_program: |given, program, words, budget, file, state| {
                 Reply::lending_two(file, state, |file, state| {
-                    calls::run_program(table, program, words, budget, file, state)
+                    calls::run_program(given, program, words, budget, file, state)
                 })
             },
-            run_text: |table, text, words, budget, file, state| {
+            run_text: |given, text, words, budget, file, state| {
                 Reply::lending_two(file, state, |file, state| {
-                    calls::run_text(table, text, words, budget, file, state)
+                    calls::run_text(given, text, words, budget, file, state)
                 })
             },
             run_netlist: |file, words, budget, state| {
@@ -148,8 +148,8 @@ macro_rules! implementation {
                     calls::run_netlist(file, words, budget, state)
                 })
             },
-            reference_run: |table, program, words, budget| {
-                Reply::lending_none(calls::reference_run(table, program, words, budget))
+            reference_run: |given, program, words, budget| {
+                Reply::lending_none(calls::reference_run(given, program, words, budget))
             },
             $($programs)*
         }

@@ -4,7 +4,7 @@
 use bindings::exports::*;
 use peers::SECOND;
 use second::table::BUILT_IN;
-use values::Cell;
+use values::{Cell, Given};
 
 /// The bytes of a reply, the first of which is 3 where a call was refused.
 const LENGTH: usize = 48;
@@ -38,7 +38,7 @@ impl Memory {
     /// What every call accepts. The state was begun from other words, so that
     /// a beginning shows too; a start is given at the end of that run.
     fn new() -> Memory {
-        let compiled = (SECOND.compile)(None, &PROGRAM, &[0; 512]);
+        let compiled = (SECOND.compile)(Given::NOTHING, &PROGRAM, &[0; 512]);
         let shape = compiled.result.expect("case 2 compiles");
         let netlist = compiled.lent[0].clone();
         let lent_cell = Cell::new(LENT_BYTE, LENT_BYTE, 0, 0);
@@ -79,30 +79,30 @@ type Call = fn(&mut Memory, &mut [u8]) -> bool;
 
 /// The functions that lend nothing but the reply.
 const ANSWERING: &[(&str, Call)] = calls! { m:
-    hub_check(None, &m.program);
-    hub_check(Some(&m.table), &m.program);
-    hub_reference(None, &m.program, &m.words, 10);
-    hub_reference(Some(&m.table), &m.program, &m.words, 10);
+    hub_check(None, 0, &m.program);
+    hub_check(Some(&m.table), 0, &m.program);
+    hub_reference(None, 0, &m.program, &m.words, 10);
+    hub_reference(Some(&m.table), 0, &m.program, &m.words, 10);
     hub_check_cells(&m.cells, m.finish);
 };
 
 /// The functions that write to another slice.
 const WRITING: &[(&str, Call)] = calls! { m:
-    hub_compile(None, &m.program, &mut m.lent_file);
-    hub_compile(Some(&m.table), &m.program, &mut m.lent_file);
-    hub_read_text(None, TEXT, &mut m.lent_program);
-    hub_read_text(Some(&m.table), TEXT, &mut m.lent_program);
-    hub_compile_text(None, TEXT, &mut m.lent_file);
-    hub_compile_text(Some(&m.table), TEXT, &mut m.lent_file);
+    hub_compile(None, 0, &m.program, &mut m.lent_file);
+    hub_compile(Some(&m.table), 0, &m.program, &mut m.lent_file);
+    hub_read_text(None, 0, TEXT, &mut m.lent_program);
+    hub_read_text(Some(&m.table), 0, TEXT, &mut m.lent_program);
+    hub_compile_text(None, 0, TEXT, &mut m.lent_file);
+    hub_compile_text(Some(&m.table), 0, TEXT, &mut m.lent_file);
     hub_write(&m.bytes, m.finish, &mut m.lent_file);
     hub_read(&m.netlist, &mut m.lent_bytes);
     hub_begin(&m.netlist, &m.words, &mut m.lent_state);
     hub_continue(&m.netlist, &mut m.lent_state, 1);
     hub_start(&m.netlist, &mut m.idle_state);
-    hub_run_program(None, &m.program, &m.words, 10, &mut m.lent_file, &mut m.lent_state);
-    hub_run_program(Some(&m.table), &m.program, &m.words, 10, &mut m.lent_file, &mut m.lent_state);
-    hub_run_text(None, TEXT, &m.words, 10, &mut m.lent_file, &mut m.lent_state);
-    hub_run_text(Some(&m.table), TEXT, &m.words, 10, &mut m.lent_file, &mut m.lent_state);
+    hub_run_program(None, 0, &m.program, &m.words, 10, &mut m.lent_file, &mut m.lent_state);
+    hub_run_program(Some(&m.table), 0, &m.program, &m.words, 10, &mut m.lent_file, &mut m.lent_state);
+    hub_run_text(None, 0, TEXT, &m.words, 10, &mut m.lent_file, &mut m.lent_state);
+    hub_run_text(Some(&m.table), 0, TEXT, &m.words, 10, &mut m.lent_file, &mut m.lent_state);
     hub_run_netlist(&m.netlist, &m.words, 10, &mut m.lent_state);
     hub_write_cells(&m.cells, m.finish, &mut m.lent_file);
     hub_read_cells(&m.netlist, 2, &mut m.lent_cells);

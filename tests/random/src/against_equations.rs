@@ -226,7 +226,7 @@ impl Step<'_> {
             OR => now(a) | now(b),
             WHEN => u16::from(now(a) == 1 && now(b) != 0),
             UNLESS => u16::from(now(a) == 1 && now(b) == 0),
-            MERGE => u16::from(self.merged(number) == (true, true)),
+            MERGE | RETURN => u16::from(self.merged(number) == (true, true)),
             MEMORY => self.memory(number, a, b),
             GATE => now(a) * now(b),
             ARRAY | ADDRESS => 0,
@@ -293,7 +293,8 @@ impl Step<'_> {
         u16::from_le_bytes([words[0], words[1]])
     }
 
-    /// A and B of the paper: each input of a merge, or its held bit.
+    /// A and B of the paper: each input of a merge, or its held bit. A call's merge
+    /// never holds b.
     fn merged(&self, number: usize) -> (bool, bool) {
         let Cell { a, b, .. } = self.netlist.cells[number];
         let held = bytes_of(self.before, number);
@@ -305,11 +306,13 @@ impl Step<'_> {
 
     /// The bits held afterwards; cells other than merges hold none.
     fn held(&self, number: usize) -> (bool, bool) {
-        if self.netlist.cells[number].kind != MERGE {
+        let kind = self.netlist.cells[number].kind;
+        if ![MERGE, RETURN].contains(&kind) {
             return (false, false);
         }
         match self.merged(number) {
             (true, true) => (false, false),
+            (called, _) if kind == RETURN => (called, false),
             held => held,
         }
     }

@@ -22,23 +22,23 @@ pub struct Pair<'a> {
 impl Pair<'_> {
     /// All calls on a job's program, and on the netlist it compiles to.
     pub fn compare(&self, job: &Job) -> Result<(), String> {
-        let (table, program) = (job.table(), &job.program);
+        let (given, program) = (job.given(), &job.program);
         let (file, state) = (lent(job.file_length), lent(job.state_length));
-        self.same("check", &[], |peer| (peer.check)(table, program))?;
+        self.same("check", &[], |peer| (peer.check)(given, program))?;
         self.same("compile", &[&file], |peer| {
-            (peer.compile)(table, program, &file)
+            (peer.compile)(given, program, &file)
         })?;
         self.same("run_program", &[&file, &state], |peer| {
-            (peer.run_program)(table, program, &job.words, job.budget, &file, &state)
+            (peer.run_program)(given, program, &job.words, job.budget, &file, &state)
         })?;
         self.same("reference_run", &[], |peer| {
-            (peer.reference_run)(table, program, &job.words, job.budget)
+            (peer.reference_run)(given, program, &job.words, job.budget)
         })?;
         self.same_text(job)?;
         self.same_texts(job)?;
         let room = lent(MOST_FILE);
         let compiled = self.same("compile", &[&room], |peer| {
-            (peer.compile)(table, program, &room)
+            (peer.compile)(given, program, &room)
         })?;
         let Ok(shape) = compiled.result else {
             return Ok(());
@@ -164,7 +164,7 @@ impl Pair<'_> {
     /// The calls on the texts of a job's program.
     fn same_texts(&self, job: &Job) -> Result<(), String> {
         let (file, state) = (lent(job.file_length), lent(job.state_length));
-        let table = job.table();
+        let given = job.given();
         // What a run of a text is shows soon; a budget that is refused stays.
         let budget = match job.budget {
             0..=MOST_INSTANT => job.budget.min(100),
@@ -173,13 +173,13 @@ impl Pair<'_> {
         against_text::for_each(job, |text, room| {
             let (text, program) = (&text.bytes, lent(room));
             self.same("read_text", &[&program], |peer| {
-                (peer.read_text)(table, text, &program)
+                (peer.read_text)(given, text, &program)
             })?;
             self.same("compile_text", &[&file], |peer| {
-                (peer.compile_text)(table, text, &file)
+                (peer.compile_text)(given, text, &file)
             })?;
             self.same("run_text", &[&file, &state], |peer| {
-                (peer.run_text)(table, text, &job.words, budget, &file, &state)
+                (peer.run_text)(given, text, &job.words, budget, &file, &state)
             })
             .map(drop)
         })

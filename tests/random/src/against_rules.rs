@@ -1,5 +1,5 @@
-//! A peer's circuit against its rules: the whole of demand 3 for one job,
-//! under the job's table.
+//! A peer's circuit against its rules: the whole of demand 3 for one job, with
+//! what is given beside its program.
 //!
 //! From the program's end alone it follows what a beginning and every call
 //! after it must answer, and which of them are refused: a second start before
@@ -14,7 +14,7 @@ use peers::{Peer, Reply};
 use second::calls;
 use second::rules::Moment;
 use std::fmt::Debug;
-use values::{Answer, End, Refusal};
+use values::{Answer, End, Given, Refusal};
 
 /// How a job came out, for the tally.
 #[derive(Clone, Copy, Debug, PartialEq, Eq)]
@@ -41,8 +41,8 @@ pub struct Starts {
 
 /// Compares; the error says which call disagrees, and how.
 pub fn compare(peer: &Peer, job: &Job) -> Result<Seen, String> {
-    let checked = (peer.check)(job.table(), &job.program).result;
-    let compiled = (peer.compile)(job.table(), &job.program, &lent(MOST_FILE));
+    let checked = (peer.check)(job.given(), &job.program).result;
+    let compiled = (peer.compile)(job.given(), &job.program, &lent(MOST_FILE));
     expect("compile", compiled.result.map(drop), checked)?;
     let (Ok(shape), Some(words)) = (compiled.result, job.words.get(..WORDS)) else {
         return Ok(Seen {
@@ -120,13 +120,13 @@ impl List<'_> {
     /// The run from a pulse at this instant, from these words, within so many
     /// instants: by the rules alone, counted from that pulse.
     fn run_from(&self, pulse: u32, words: &[u8], reach: u32) -> Result<Run, String> {
-        let (table, program) = (self.job.table(), &self.job.program);
-        let moment = calls::last_moment(table, program, words, reach);
+        let (given, program) = (self.job.given(), &self.job.program);
+        let moment = calls::last_moment(given, program, words, reach);
         let end = |moment: Moment| End {
             instant: moment.instant,
             words: moment.contents.words,
         };
-        let found = (self.peer.reference_run)(table, program, words, reach).result;
+        let found = (self.peer.reference_run)(given, program, words, reach).result;
         expect("the rules", found, moment.map(|moment| moment.map(end)))?;
         let moment = moment
             .map_err(|refused| format!("the rules refuse what the check accepts: {refused:?}"))?;
@@ -190,27 +190,27 @@ impl List<'_> {
         }
     }
 
-    /// A full run, by the call and, where there is no table, as hubrun prints one
-    /// in which every element is 0 at first.
+    /// A full run, by the call and, where there is nothing beside the program, as
+    /// hubrun prints one in which every element is 0 at first.
     fn check_full_run(&self, run: Run, words: &[u8]) -> Result<(), String> {
         let job = self.job;
         let (program, budget) = (&job.program, job.budget);
         let (file, state) = (lent(MOST_FILE), lent(MOST_STATE));
-        let reply = (self.peer.run_program)(job.table(), program, words, budget, &file, &state);
+        let reply = (self.peer.run_program)(job.given(), program, words, budget, &file, &state);
         if budget > MOST_INSTANT {
             expect("full run", reply.result, Err(Refusal::new(13, 0)))?;
         } else {
             let stop = run.full_stop(budget);
             self.check_answer("full run", run, &reply, stop, stop.0 + 1)?;
         }
-        if job.table.is_some() {
+        if job.given() != Given::NOTHING {
             return Ok(());
         }
         let words = &words[..WORDS - ARRAYS];
         let input = [words, &budget.to_le_bytes(), program].concat();
         let text = String::from_utf8((self.peer.hubrun_text)(&input));
         let start = [words, &[0; ARRAYS]].concat();
-        let ran = (self.peer.run_program)(None, program, &start, budget, &file, &state);
+        let ran = (self.peer.run_program)(Given::NOTHING, program, &start, budget, &file, &state);
         expect("hubrun", text, Ok(hubrun_lines(ran.result)))
     }
 

@@ -5,7 +5,7 @@ use crate::job::Job;
 use crate::lend::{lent, MOST_FILE};
 use peers::{Peer, Reply};
 use second::table::Times;
-use values::Refusal;
+use values::{Given, Refusal};
 
 /// The table that accepts whatever any table accepts.
 const FASTEST: Times = Times([0, 0, 1, 1, 1, 1, 1, 1, 1, 1]);
@@ -23,16 +23,16 @@ pub fn compare(peer: &Peer, job: &Job) -> Result<(), String> {
 
 /// The calls on programs; those on texts are compared with the texts.
 fn refused_by_all(peer: &Peer, job: &Job, refused: Refusal) -> Result<(), String> {
-    let (table, program, words, budget) = (job.table(), &job.program, &job.words, job.budget);
+    let (given, program, words, budget) = (job.given(), &job.program, &job.words, job.budget);
     let (file, state) = (lent(job.file_length), lent(job.state_length));
     let unwritten = [file.clone(), state.clone()];
-    let checked = (peer.check)(table, program);
+    let checked = (peer.check)(given, program);
     expect("check", checked, refused, &[])?;
-    let compiled = (peer.compile)(table, program, &file);
+    let compiled = (peer.compile)(given, program, &file);
     expect("compile", compiled, refused, &unwritten[..1])?;
-    let run = (peer.run_program)(table, program, words, budget, &file, &state);
+    let run = (peer.run_program)(given, program, words, budget, &file, &state);
     expect("run_program", run, refused, &unwritten)?;
-    let ended = (peer.reference_run)(table, program, words, budget);
+    let ended = (peer.reference_run)(given, program, words, budget);
     expect("reference_run", ended, refused, &[])
 }
 
@@ -54,8 +54,13 @@ fn expect<T>(
 /// An accepted program compiles to the same bytes under any faster table.
 fn same_as_under_the_fastest(peer: &Peer, job: &Job) -> Result<(), String> {
     let room = lent(MOST_FILE);
-    let compiled = (peer.compile)(job.table(), &job.program, &room);
-    let fastest = (peer.compile)(Some(&FASTEST.file()), &job.program, &room);
+    let compiled = (peer.compile)(job.given(), &job.program, &room);
+    let fastest = FASTEST.file();
+    let faster = Given {
+        table: Some(&fastest),
+        ..job.given()
+    };
+    let fastest = (peer.compile)(faster, &job.program, &room);
     if compiled.result.is_ok() && compiled != fastest {
         return Err("compile: another netlist under a faster table".to_string());
     }

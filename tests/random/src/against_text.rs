@@ -8,7 +8,7 @@ use crate::texts::{texts, Known, Text, MOST_TEXT};
 use crate::typing::{with_fewest_blanks, with_fewest_brackets};
 use crate::xorshift::Random;
 use peers::{Peer, Reply};
-use values::{Refusal, Table};
+use values::{Given, Refusal};
 
 /// The lengths of buffers lent for a program.
 const ROOMS: [usize; 6] = [0, 4, 100, 799, 800, 801];
@@ -17,7 +17,7 @@ const ROOMS: [usize; 6] = [0, 4, 100, 799, 800, 801];
 pub fn compare(peer: &Peer, job: &Job) -> Result<(), String> {
     let reader = Reader {
         peer,
-        table: job.table(),
+        given: job.given(),
     };
     let refused = job.table.as_ref().and_then(|table| table.refused);
     for_each(job, |text, room| match refused {
@@ -29,16 +29,16 @@ pub fn compare(peer: &Peer, job: &Job) -> Result<(), String> {
 /// A peer that reads texts under one table.
 struct Reader<'a> {
     peer: &'a Peer,
-    table: Table<'a>,
+    given: Given<'a>,
 }
 
 impl Reader<'_> {
     fn read(&self, text: &[u8], room: usize) -> Reply<usize> {
-        (self.peer.read_text)(self.table, text, &lent(room))
+        (self.peer.read_text)(self.given, text, &lent(room))
     }
 
     fn check(&self, program: &[u8]) -> Result<(), Refusal> {
-        (self.peer.check)(self.table, program).result
+        (self.peer.check)(self.given, program).result
     }
 }
 

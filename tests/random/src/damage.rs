@@ -2,11 +2,12 @@
 //! refused, some makes another good input.
 
 use crate::flight;
+use crate::generate::Program;
 use crate::lend::ARRAYS;
 use crate::xorshift::Random;
-use second::cells::{sort, Sort, DELAY, MERGE};
+use second::cells::{sort, Sort, DELAY, MERGE, RETURN};
 use second::netfile;
-use values::Cell;
+use values::{Cell, Given};
 
 const BLOCK: usize = 512;
 const CELLS_IN_BLOCK: usize = 84;
@@ -14,20 +15,27 @@ const STATE_HEADER: usize = 8;
 const STATE_CELL: usize = 40;
 
 /// Kinds at and beyond the ends of the known ranges.
-const KINDS: [u8; 15] = [0, 1, 2, 9, 10, 11, 15, 16, 18, 20, 23, 25, 26, 27, 32];
+const KINDS: [u8; 16] = [0, 1, 2, 9, 10, 11, 15, 16, 18, 20, 23, 25, 26, 27, 28, 32];
 
 /// The same of cells.
 const CELL_KINDS: [u8; 18] = [
     1, 2, 3, 7, 10, 32, 33, 34, 35, 36, 38, 39, 40, 41, 42, 43, 44, 45,
 ];
 
-/// A program with one to three faults.
-pub fn program(bytes: &[u8], random: &mut Random) -> Vec<u8> {
-    let mut bytes = bytes.to_vec();
+/// A program with one to three faults, of which one may be another number of
+/// procedures.
+pub fn program(good: &Program, random: &mut Random) -> Program {
+    let Program {
+        mut procedures,
+        mut bytes,
+    } = good.clone();
+    if random.once_in(12) {
+        procedures = random.pick(&[0, 1, procedures + 1, 8, 9, 256, usize::MAX]);
+    }
     for _ in 0..random.between(1, 3) {
         damage_program(&mut bytes, random);
     }
-    bytes
+    Program { procedures, bytes }
 }
 
 fn damage_program(bytes: &mut Vec<u8>, random: &mut Random) {
@@ -178,6 +186,7 @@ fn contradict(kind: u8, cell: &mut [u8], random: &mut Random) {
         (Sort::Control, DELAY) if random.once_in(2) => cell[8] ^= 1 << random.below(2),
         (Sort::Control, DELAY) => cell[random.between(8, 39)] ^= 1 << random.below(8),
         (Sort::Control, MERGE) => cell[random.pick(&[value, 4, 5])] ^= 1,
+        (Sort::Control, RETURN) => cell[random.pick(&[value, 4])] ^= 1,
         (Sort::Control, _) => cell[value] ^= 1,
         _ => set_random_byte(&mut cell[value..value + 2], random),
     }
@@ -194,7 +203,7 @@ mod tests {
     use values::Refusal;
 
     /// The refusals, 0 for none, that calls on 4,000 damaged programs meet.
-    fn met(call: impl Fn(&[u8], &mut Random) -> Result<(), Refusal>) -> BTreeSet<u8> {
+    fn met(call: impl Fn(&Program, &mut Random) -> Result<(), Refusal>) -> BTreeSet<u8> {
         let outcome = |seed: u64| {
             let random = &mut Random::new(seed);
             let program = generate::program(random, &BUILT_IN);
@@ -204,9 +213,9 @@ mod tests {
     }
 
     /// The netlist file and the begun state of a good program.
-    fn begun(good: &[u8]) -> (Vec<u8>, Vec<u8>) {
-        let mut file = lent(MOST_FILE);
-        let shape = calls::compile(None, good, &mut file).expect("a good program");
+    fn begun(good: &Program) -> (Vec<u8>, Vec<u8>) {
+        let (given, mut file) = (Given::procedures(good.procedures), lent(MOST_FILE));
+        let shape = calls::compile(given, &good.bytes, &mut file).expect("a good program");
         file.truncate(file_length(shape.cells.into()));
         let mut state = lent(state_length(shape.cells.into()));
         calls::begin(&file, &[0; WORDS], &mut state).expect("a good netlist");
@@ -214,9 +223,12 @@ mod tests {
     }
 
     #[test]
-    fn damaged_programs_meet_refusals_1_to_8_and_22() {
-        let met = met(|good, random| calls::check(None, &program(good, random)));
-        assert_eq!(met, (0..=8).chain([22]).collect());
+    fn damaged_programs_meet_refusals_1_to_8_22_24_and_25() {
+        let met = met(|good, random| {
+            let Program { procedures, bytes } = program(good, random);
+            calls::check(Given::procedures(procedures), &bytes)
+        });
+        assert_eq!(met, (0..=8).chain([22, 24, 25]).collect());
     }
 
     #[test]

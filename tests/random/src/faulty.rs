@@ -4,14 +4,14 @@
 use crate::minimise::subtree_end;
 use crate::texts::is_of_array;
 use peers::{Peer, Reply, SECOND};
-use values::{Cell, End, Refusal, Shape, Table};
+use values::{Cell, End, Given, Refusal, Shape};
 
 /// Its rules take an instant too many for a program with a parallel node.
 pub const SLOW_PARALLEL: Peer = Peer {
     name: "slow parallel",
-    reference_run: |table, program, words, budget| {
+    reference_run: |given, program, words, budget| {
         let parallel = program.chunks_exact(4).any(|node| node[0] == 20);
-        let reply = (SECOND.reference_run)(table, program, words, budget);
+        let reply = (SECOND.reference_run)(given, program, words, budget);
         let late = |end: End| End {
             instant: end.instant + u32::from(parallel),
             ..end
@@ -55,9 +55,9 @@ const COPYING: Peer = Peer {
 /// Compiles every program to the netlist of ok.
 const STOCK_NETLIST: Peer = Peer {
     name: "stock netlist",
-    compile: |table, program, file| match (SECOND.check)(table, program).result {
-        Ok(()) => (SECOND.compile)(table, &[16, 0, 0, 0], file),
-        Err(_) => (SECOND.compile)(table, program, file),
+    compile: |given, program, file| match (SECOND.check)(given, program).result {
+        Ok(()) => (SECOND.compile)(given, &[16, 0, 0, 0], file),
+        Err(_) => (SECOND.compile)(given, program, file),
     },
     ..SECOND
 };
@@ -79,8 +79,8 @@ const REFUSING: Peer = Peer {
 /// Takes `;` for `||` and the other way round.
 const MIXED_UP: Peer = Peer {
     name: "mixed up",
-    read_text: |table, text, program| {
-        let mut reply = (SECOND.read_text)(table, text, program);
+    read_text: |given, text, program| {
+        let mut reply = (SECOND.read_text)(given, text, program);
         for node in reply.lent[0].chunks_mut(4) {
             match node[0] {
                 19 => node[0] = 20,
@@ -96,16 +96,16 @@ const MIXED_UP: Peer = Peer {
 /// Doesn't count the blanks at the end of a text.
 const TRIMMING: Peer = Peer {
     name: "trimming",
-    read_text: |table, text, program| (SECOND.read_text)(table, text.trim_ascii_end(), program),
+    read_text: |given, text, program| (SECOND.read_text)(given, text.trim_ascii_end(), program),
     ..SECOND
 };
 
 /// Reads no text of 4,096 bytes.
 const SHORT_TEXTS: Peer = Peer {
     name: "short texts",
-    read_text: |table, text, program| match text.len() {
-        4096 => (SECOND.read_text)(table, &[b' '; 4097], program),
-        _ => (SECOND.read_text)(table, text, program),
+    read_text: |given, text, program| match text.len() {
+        4096 => (SECOND.read_text)(given, &[b' '; 4097], program),
+        _ => (SECOND.read_text)(given, text, program),
     },
     ..SECOND
 };
@@ -113,8 +113,8 @@ const SHORT_TEXTS: Peer = Peer {
 /// Tells only at a text's end that its grammar is broken.
 const LATE_PLACE: Peer = Peer {
     name: "late place",
-    read_text: |table, text, program| {
-        let mut reply = (SECOND.read_text)(table, text, program);
+    read_text: |given, text, program| {
+        let mut reply = (SECOND.read_text)(given, text, program);
         if let Err(Refusal { number: 18, place }) = &mut reply.result {
             *place = text.len();
         }
@@ -126,17 +126,24 @@ const LATE_PLACE: Peer = Peer {
 /// Checks by the built-in times whatever the table says.
 const UNTIMED: Peer = Peer {
     name: "untimed",
-    check: |_, program| (SECOND.check)(None, program),
-    compile: |_, program, file| (SECOND.compile)(None, program, file),
+    check: |given, program| (SECOND.check)(untimed(given), program),
+    compile: |given, program, file| (SECOND.compile)(untimed(given), program, file),
     ..SECOND
 };
+
+fn untimed(given: Given) -> Given {
+    Given {
+        table: None,
+        ..given
+    }
+}
 
 /// Leaves a time of the table in the netlist's first block.
 const TIMED_NETLIST: Peer = Peer {
     name: "timed netlist",
-    compile: |table, program, file| {
-        let mut reply = (SECOND.compile)(table, program, file);
-        if let (Some(table), Ok(_)) = (table, reply.result) {
+    compile: |given, program, file| {
+        let mut reply = (SECOND.compile)(given, program, file);
+        if let (Some(table), Ok(_)) = (given.table, reply.result) {
             reply.lent[0][511] = table[10];
         }
         reply
@@ -147,11 +154,11 @@ const TIMED_NETLIST: Peer = Peer {
 /// Refuses a text before its table.
 const TEXT_FIRST: Peer = Peer {
     name: "text first",
-    read_text: |table, text, program| {
-        let untimed = (SECOND.read_text)(None, text, program);
-        match untimed.result {
-            Err(Refusal { number: 17.., .. }) => untimed,
-            _ => (SECOND.read_text)(table, text, program),
+    read_text: |given, text, program| {
+        let first = (SECOND.read_text)(untimed(given), text, program);
+        match first.result {
+            Err(Refusal { number: 17.., .. }) => first,
+            _ => (SECOND.read_text)(given, text, program),
         }
     },
     ..SECOND
@@ -237,10 +244,10 @@ const ABSENT_FINISH: Peer = Peer {
 /// Takes an array on the two sides of a parallel node for two arrays.
 const ARRAYS_APART: Peer = Peer {
     name: "arrays apart",
-    check: |table, program| {
-        let mut reply = (SECOND.check)(table, program);
+    check: |given, program| {
+        let mut reply = (SECOND.check)(given, program);
         if let Err(Refusal { number: 8, place }) = reply.result {
-            if passes_apart(table, program, place) {
+            if passes_apart(given, program, place) {
                 reply.result = Ok(());
             }
         }
@@ -251,7 +258,7 @@ const ARRAYS_APART: Peer = Peer {
 
 /// Whether a program passes if the second side of a parallel node has other
 /// arrays in place of its own.
-fn passes_apart(table: Table, program: &[u8], parallel: usize) -> bool {
+fn passes_apart(given: Given, program: &[u8], parallel: usize) -> bool {
     let nodes: Vec<&[u8]> = program.chunks_exact(4).collect();
     let second = subtree_end(&nodes, parallel + 1);
     let side = 4 * second..4 * subtree_end(&nodes, second);
@@ -262,7 +269,7 @@ fn passes_apart(table: Table, program: &[u8], parallel: usize) -> bool {
                 node[2] = (node[2] + turn) % 4;
             }
         }
-        (SECOND.check)(table, &apart).result.is_ok()
+        (SECOND.check)(given, &apart).result.is_ok()
     })
 }
 
@@ -288,8 +295,10 @@ mod tests {
     use crate::against_peer::Pair;
     use crate::faulty_arrays::*;
     use crate::faulty_loops::*;
+    use crate::faulty_procedures::*;
     use crate::faulty_starts::*;
     use crate::job::{self, Job};
+    use crate::texts::has_loops;
     use crate::xorshift::Random;
     use crate::{against_equations, against_rules, against_tables, against_text};
     use crate::{generate, netlists};
@@ -297,7 +306,7 @@ mod tests {
     const JOBS: u64 = 40;
 
     fn disagrees_with_rules(peer: &Peer) -> bool {
-        (0..JOBS).any(|seed| against_rules::compare(peer, &Job::of_seed(seed)).is_err())
+        (0..4 * JOBS).any(|seed| against_rules::compare(peer, &Job::of_seed(seed)).is_err())
     }
 
     /// Whether a comparison on random netlists, from random words, fails.
@@ -380,10 +389,27 @@ mod tests {
     /// The circuits of programs that are accepted, and end otherwise.
     #[test]
     fn rules_tell_faulty_loops() {
+        // An exit that something follows is rare.
         let disagrees = |peer: &Peer| {
-            (0..4 * JOBS).any(|seed| against_rules::compare(peer, &Job::of_seed(seed)).is_err())
+            let jobs = (0..20 * JOBS).map(Job::of_seed);
+            let mut with_loops = jobs.filter(|job| has_loops(&job.program));
+            with_loops.any(|job| against_rules::compare(peer, &job).is_err())
         };
         assert_tells(disagrees, &[DELAY_SPENT, OUTER_LEFT, REST_RUN]);
+    }
+
+    /// The circuits of programs with calls, and a call's merge in them.
+    #[test]
+    fn rules_tell_faulty_procedures() {
+        let faulty = [LONE_B_KEPT, NOT_CLEARED, DELAY_SKIPPED];
+        assert_tells(disagrees_with_rules, &faulty);
+    }
+
+    #[test]
+    fn equations_and_a_good_peer_tell_faulty_merges_of_calls() {
+        for disagrees in [disagrees_with_equations, disagrees_with_second_on_netlists] {
+            assert_tells(disagrees, &[LONE_B_KEPT, NOT_CLEARED]);
+        }
     }
 
     /// Compiled programs, started again as soon as they are idle.
@@ -400,6 +426,7 @@ mod tests {
             [&[16, 0, 0, 0], &[17, 9, 0, 0]].into_iter().any(|program| {
                 let job = Job {
                     table: None,
+                    procedures: 0,
                     program: program.to_vec(),
                     calls: job::to_the_last().collect(),
                     ..Job::of_seed(0)
@@ -415,16 +442,18 @@ mod tests {
         assert_tells(disagrees_with_equations, &[STALE_COUNT, HASTY]);
     }
 
-    /// Of the calls that are compared only the check: a clash of arrays is rare.
+    /// Of the calls that are compared only the check: a clash of arrays is rare,
+    /// and so are two sides that share a procedure through others.
     #[test]
     fn a_good_peer_tells_what_a_check_misses() {
         let disagrees = |peer: &Peer| {
-            (0..30 * JOBS).map(Job::of_seed).any(|job| {
-                let check = |peer: &Peer| (peer.check)(job.table(), &job.program);
+            (0..100 * JOBS).map(Job::of_seed).any(|job| {
+                let check = |peer: &Peer| (peer.check)(job.given(), &job.program);
                 with_second(peer).same("check", &[], check).is_err()
             })
         };
-        assert_tells(disagrees, &[ARRAYS_APART, THROUGH_PARALLEL]);
+        let faulty = [ARRAYS_APART, THROUGH_PARALLEL, NOT_THROUGH_CALLS];
+        assert_tells(disagrees, &faulty);
     }
 
     #[test]
@@ -452,6 +481,7 @@ mod tests {
         let lists = [ROOM_TO_SPARE, ABSENT_FINISH];
         let loops = [DELAY_SPENT, OUTER_LEFT, REST_RUN];
         let starts = [STALE_COUNT, HASTY, FORGETTING, UNCOUNTED];
+        let procedures = [LONE_B_KEPT, NOT_CLEARED, DELAY_SKIPPED];
         let faulty = [
             &runs[..],
             &readers,
@@ -460,6 +490,7 @@ mod tests {
             &lists,
             &loops,
             &starts,
+            &procedures,
         ]
         .concat();
         assert_tells(disagrees_with_second, &faulty);

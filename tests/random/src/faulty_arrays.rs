@@ -35,7 +35,7 @@ const fn faulty(name: &'static str, continue_by: fn(Bytes, u32, Bytes) -> Reply<
 }
 
 /// A continuing with a fault; what is refused is refused as it must be.
-fn walked(fault: Fault, file: &[u8], n: u32, state: &[u8]) -> Reply<Answer> {
+pub fn walked(fault: Fault, file: &[u8], n: u32, state: &[u8]) -> Reply<Answer> {
     let right = (SECOND.continue_by)(file, n, state);
     let (Ok(netlist), Ok(_)) = (netfile::read(file), right.result) else {
         return right;

@@ -4,7 +4,7 @@
 use peers::{Bytes, Peer, Reply, SECOND};
 use second::kinds::row;
 use std::slice::ChunksExact;
-use values::{Refusal, Shape, Table};
+use values::{Given, Refusal, Shape};
 
 const PARALLEL: u8 = 20;
 const SEQUENCE: u8 = 19;
@@ -12,34 +12,34 @@ const LOOP: u8 = 25;
 const EXIT: u8 = 26;
 
 /// Spends a loop's delay on leaving it too.
-pub const DELAY_SPENT: Peer = faulty("delay spent", |table, program, file| {
-    compiled(delay_spent, table, program, file)
+pub const DELAY_SPENT: Peer = faulty("delay spent", |given, program, file| {
+    compiled(delay_spent, given, program, file)
 });
 
 /// Leaves with a loop the loops around it.
-pub const OUTER_LEFT: Peer = faulty("outer left", |table, program, file| {
-    compiled(outer_left, table, program, file)
+pub const OUTER_LEFT: Peer = faulty("outer left", |given, program, file| {
+    compiled(outer_left, given, program, file)
 });
 
 /// Runs what follows an exit, and leaves the loop only then.
-pub const REST_RUN: Peer = faulty("rest run", |table, program, file| {
-    compiled(rest_run, table, program, file)
+pub const REST_RUN: Peer = faulty("rest run", |given, program, file| {
+    compiled(rest_run, given, program, file)
 });
 
 /// Sees no parallel node between an exit and its loop.
 pub const THROUGH_PARALLEL: Peer = Peer {
     name: "through parallel",
-    check: |table, program| {
-        let mut reply = (SECOND.check)(table, program);
+    check: |given, program| {
+        let mut reply = (SECOND.check)(given, program);
         if let Err(Refusal { number: 22, .. }) = reply.result {
-            reply.result = (SECOND.check)(table, &in_sequence(program)).result;
+            reply.result = (SECOND.check)(given, &in_sequence(program)).result;
         }
         reply
     },
     ..SECOND
 };
 
-const fn faulty(name: &'static str, compile: fn(Table, Bytes, Bytes) -> Reply<Shape>) -> Peer {
+const fn faulty(name: &'static str, compile: fn(Given, Bytes, Bytes) -> Reply<Shape>) -> Peer {
     Peer {
         name,
         compile,
@@ -48,13 +48,14 @@ const fn faulty(name: &'static str, compile: fn(Table, Bytes, Bytes) -> Reply<Sh
 }
 
 /// The netlist of what a program is taken for, where that too is accepted.
-fn compiled(taken: fn(Tree) -> Tree, table: Table, program: &[u8], file: &[u8]) -> Reply<Shape> {
-    let right = (SECOND.compile)(table, program, file);
+fn compiled(taken: fn(Tree) -> Tree, given: Given, program: &[u8], file: &[u8]) -> Reply<Shape> {
+    let right = (SECOND.compile)(given, program, file);
     if right.result.is_err() {
         return right;
     }
-    let other = taken(Tree::next(&mut program.chunks_exact(4))).bytes();
-    let wrong = (SECOND.compile)(table, &other, file);
+    let roots = Tree::all(&mut program.chunks_exact(4)).into_iter();
+    let other: Vec<u8> = roots.flat_map(|root| taken(root).bytes()).collect();
+    let wrong = (SECOND.compile)(given, &other, file);
     if wrong.result.is_err() {
         return right;
     }
@@ -121,6 +122,15 @@ struct Tree {
 }
 
 impl Tree {
+    /// The bodies of the procedures and the main program.
+    fn all(nodes: &mut ChunksExact<u8>) -> Vec<Tree> {
+        let mut roots = vec![];
+        while nodes.len() > 0 {
+            roots.push(Tree::next(nodes));
+        }
+        roots
+    }
+
     fn next(nodes: &mut ChunksExact<u8>) -> Tree {
         let node = nodes.next().expect("a node for each child");
         let children = row(node[0]).expect("a known kind").children.iter();

@@ -1,7 +1,7 @@
 //! The number in flight, in the paper's own words: the inputs of delays that
 //! aren't put out yet, and the held bits of merges, from the bytes of a state.
 
-use second::cells::{DELAY, MERGE};
+use second::cells::{DELAY, MERGE, RETURN};
 use values::Cell;
 
 /// Where a state tells it.
@@ -28,7 +28,7 @@ pub fn counted_up_to(cells: &[Cell], state: &[u8], inputs: impl Fn(u8) -> usize)
             let is_high = |&bit: &usize| bytes[8 + bit / 8] >> (bit % 8) & 1 == 1;
             (0..inputs(cell.delay)).filter(is_high).count() as u32
         }
-        MERGE => u32::from(bytes[4]) + u32::from(bytes[5]),
+        MERGE | RETURN => u32::from(bytes[4]) + u32::from(bytes[5]),
         _ => 0,
     };
     cells

@@ -1,8 +1,9 @@
 //! Random programs that the check accepts under given operator times.
 //!
 //! Every part is written within a limit, the most nodes that the program may
-//! have after it, and a scope, the variables it may read and write and whether
-//! an exit may stand there. Parallel sides get scopes that keep them apart, and
+//! have after it, and a scope, the variables it may read and write, the
+//! procedures it may reach and whether an exit may stand there. Parallel sides
+//! get scopes that keep them apart, what a body does is kept for its callers, and
 //! delays are chosen once the expression's time is known, so the result is
 //! accepted by construction.
 
@@ -10,8 +11,16 @@ use crate::xorshift::Random;
 use second::operator::Operator;
 use second::table::Times;
 
+/// A program, and how many procedures stand before its main part.
+#[derive(Clone, Debug)]
+pub struct Program {
+    pub procedures: usize,
+    pub bytes: Vec<u8>,
+}
+
 const MOST_NODES: usize = 200;
 const MOST_DELAY: u32 = 255;
+const MOST_PROCEDURES: usize = 8;
 
 /// A set of variables and arrays, as a mask: bit k stands for variable k, and
 /// bit 16 + k for array k.
@@ -24,11 +33,29 @@ const FIRST_ARRAY: u16 = 16;
 struct Scope {
     reads: Set,
     writes: Set,
+    /// The procedures that may be reached, as a mask.
+    reaches: Set,
     /// Whether an exit may stand here.
     exits: bool,
 }
 
+/// What a body does, with all that it calls, and itself among what is reached.
+#[derive(Clone, Copy, Default)]
+struct Body {
+    reads: Set,
+    writes: Set,
+    reaches: Set,
+}
+
 impl Scope {
+    /// Whether a body may be called here.
+    fn allows(self, body: Body) -> bool {
+        let within = |part: Set, whole: Set| part & !whole == 0;
+        within(body.reads, self.reads)
+            && within(body.writes, self.writes)
+            && within(body.reaches, self.reaches)
+    }
+
     fn in_loop(self) -> Scope {
         Scope {
             exits: true,
@@ -63,10 +90,15 @@ enum Form {
     /// A loop around two statements and an exit in a branch.
     LoopPolling,
     LoopCounting,
+    Call,
+    /// A call, a statement and another call of the same procedure.
+    CallTwice,
+    /// Calls of two procedures that may run together, side by side.
+    CallBoth,
 }
 
 /// The forms, with the least room of each and how often it is to be chosen.
-const FORMS: [(Form, usize, usize); 15] = [
+const FORMS: [(Form, usize, usize); 18] = [
     (Form::Ok, 1, 1),
     (Form::Tick, 1, 2),
     (Form::Assign, 2, 4),
@@ -82,6 +114,9 @@ const FORMS: [(Form, usize, usize); 15] = [
     (Form::Loop, 2, 2),
     (Form::LoopPolling, 7, 7),
     (Form::LoopCounting, 10, 9),
+    (Form::Call, 1, 6),
+    (Form::CallTwice, 5, 6),
+    (Form::CallBoth, 3, 6),
 ];
 
 const OPERATORS: [Operator; 7] = [
@@ -95,19 +130,24 @@ const OPERATORS: [Operator; 7] = [
 ];
 
 /// A program of up to 200 nodes, whose delays are long enough for these times.
-pub fn program(random: &mut Random, times: &Times) -> Vec<u8> {
+pub fn program(random: &mut Random, times: &Times) -> Program {
     written(random, times, Sides::Apart)
 }
 
 /// The same, of which the sides of a parallel node may clash.
-pub fn clashing_program(random: &mut Random, times: &Times) -> Vec<u8> {
+pub fn clashing_program(random: &mut Random, times: &Times) -> Program {
     written(random, times, Sides::Clashing)
 }
 
 /// The same, of which exits in a side of a parallel node may be meant for a loop
 /// around that node.
-pub fn leaving_program(random: &mut Random, times: &Times) -> Vec<u8> {
+pub fn leaving_program(random: &mut Random, times: &Times) -> Program {
     written(random, times, Sides::Leaving)
+}
+
+/// The same, of which both sides of a parallel node may reach one procedure.
+pub fn sharing_program(random: &mut Random, times: &Times) -> Program {
+    written(random, times, Sides::Sharing)
 }
 
 /// What the sides of a parallel node have to do with each other.
@@ -116,24 +156,28 @@ enum Sides {
     Apart,
     Clashing,
     Leaving,
+    Sharing,
 }
 
-fn written(random: &mut Random, times: &Times, sides: Sides) -> Vec<u8> {
+fn written(random: &mut Random, times: &Times, sides: Sides) -> Program {
     let limit = match random.below(10) {
         0..=3 => random.between(1, 12),
         4..=7 => random.between(13, 60),
         _ => random.between(61, MOST_NODES),
     };
     // Few variables meet more often than sixteen do. A third of the programs have
-    // neither arrays nor loops, since those alone have a text.
+    // no arrays, loops or procedures, since those alone have a text.
     let variables = (1 << random.between(1, 16)) - 1;
-    let (has_arrays, loops) = random.pick(&[
-        (0, false),
-        (0, false),
-        (0, true),
-        (1, false),
-        (1, true),
-        (1, true),
+    let (has_arrays, loops, procedures) = random.pick(&[
+        (0, false, false),
+        (0, false, false),
+        (0, false, false),
+        (0, true, false),
+        (1, false, false),
+        (1, true, false),
+        (0, false, true),
+        (0, true, true),
+        (1, true, true),
     ]);
     let arrays = has_arrays * random.between(1, 15) as Set;
     let all = variables | arrays << FIRST_ARRAY;
@@ -142,15 +186,23 @@ fn written(random: &mut Random, times: &Times, sides: Sides) -> Vec<u8> {
         times,
         sides,
         loops,
+        bodies: Vec::new(),
         bytes: Vec::new(),
     };
     let scope = Scope {
         reads: all,
         writes: all,
+        reaches: Set::MAX,
         exits: false,
     };
+    if procedures && limit > 1 {
+        author.bodies(limit, scope);
+    }
     author.statement(limit, scope);
-    author.bytes
+    Program {
+        procedures: author.bodies.len(),
+        bytes: author.bytes,
+    }
 }
 
 /// The 544 bytes of 272 start words, small ones more often than not.
@@ -169,6 +221,8 @@ struct Author<'a> {
     sides: Sides,
     /// Whether it writes loops.
     loops: bool,
+    /// The procedures written so far.
+    bodies: Vec<Body>,
     bytes: Vec<u8>,
 }
 
@@ -184,6 +238,81 @@ impl Author<'_> {
         let [low, high] = n.to_le_bytes();
         self.bytes.extend([kind, 0, low, high]);
         place
+    }
+
+    /// Some bodies, short ones more often than not, each with some of the
+    /// variables, so that two of them may stand on two sides.
+    fn bodies(&mut self, limit: usize, scope: Scope) {
+        let most = MOST_PROCEDURES.min(limit - 1);
+        for left in (1..=self.random.between(1, most)).rev() {
+            let room = limit - left - self.count();
+            let room = match self.random.below(4) {
+                0 => 1,
+                1 => room.min(4),
+                _ => room.min(limit / 2),
+            };
+            let (reads, writes) = (self.random.bits() as Set, self.random.bits() as Set);
+            let own = Scope {
+                reads: scope.reads & (reads | writes),
+                writes: scope.writes & writes,
+                ..scope
+            };
+            let first = self.bytes.len();
+            let body_limit = self.count() + self.random.between(1, room);
+            self.statement(body_limit, own);
+            self.bodies.push(self.body(first));
+        }
+    }
+
+    /// What the body from this byte on does.
+    fn body(&self, first: usize) -> Body {
+        let mut body = Body {
+            reaches: 1 << self.bodies.len(),
+            ..Body::default()
+        };
+        for node in self.bytes[first..].chunks_exact(4) {
+            match node[0] {
+                2 => body.reads |= 1 << node[2],
+                10 => body.reads |= 1 << (FIRST_ARRAY + u16::from(node[2])),
+                18 => body.writes |= 1 << node[2],
+                24 => body.writes |= 1 << (FIRST_ARRAY + u16::from(node[2])),
+                27 => {
+                    let called = self.bodies[usize::from(node[2])];
+                    body.reads |= called.reads;
+                    body.writes |= called.writes;
+                    body.reaches |= called.reaches;
+                }
+                _ => {}
+            }
+        }
+        body
+    }
+
+    /// The procedures that may be called in a scope.
+    fn callable(&self, scope: Scope) -> Vec<u16> {
+        let bodies = (0..).zip(&self.bodies);
+        let allowed = bodies.filter(|(_, &body)| scope.allows(body));
+        allowed.map(|(procedure, _)| procedure).collect()
+    }
+
+    /// The pairs of these that neither clash nor reach one procedure.
+    fn pairs(&self, scope: Scope) -> Vec<(u16, u16)> {
+        let callable = self.callable(scope);
+        let pairs = callable
+            .iter()
+            .flat_map(|&p| callable.iter().map(move |&q| (p, q)));
+        let apart = |&(p, q): &(u16, u16)| {
+            let [p, q] = [p, q].map(|procedure| self.bodies[usize::from(procedure)]);
+            p.reaches & q.reaches == 0
+                && p.writes & (q.reads | q.writes) == 0
+                && q.writes & p.reads == 0
+        };
+        pairs.filter(apart).collect()
+    }
+
+    fn call(&mut self, procedure: u16) {
+        let place = self.node(27, procedure);
+        self.set_delay(place, 1);
     }
 
     fn statement(&mut self, limit: usize, scope: Scope) {
@@ -216,6 +345,24 @@ impl Author<'_> {
             }
             Form::LoopPolling => self.loop_polling(limit, scope.in_loop()),
             Form::LoopCounting => self.loop_counting(limit, scope.in_loop()),
+            Form::Call => {
+                let procedure = self.random.pick(&self.callable(scope));
+                self.call(procedure);
+            }
+            Form::CallTwice => {
+                let procedure = self.random.pick(&self.callable(scope));
+                self.node(19, 0);
+                self.call(procedure);
+                self.node(19, 0);
+                self.statement(limit - 1, scope);
+                self.call(procedure);
+            }
+            Form::CallBoth => {
+                let (p, q) = self.random.pick(&self.pairs(scope));
+                self.node(20, 0);
+                self.call(p);
+                self.call(q);
+            }
         }
     }
 
@@ -223,12 +370,15 @@ impl Author<'_> {
     fn form(&mut self, room: usize, scope: Scope) -> Form {
         let wanted = if room > 10 { 3..=room } else { 1..=room };
         let variables = scope.writes & VARIABLES != 0;
+        let calls = !self.callable(scope).is_empty();
         let may_stand = |form: Form| match form {
             Form::Assign | Form::WhileCounting | Form::RepeatCounting => variables,
             Form::AssignElement => scope.writes & !VARIABLES != 0,
             Form::Exit => scope.exits,
             Form::Loop | Form::LoopPolling => self.loops,
             Form::LoopCounting => self.loops && variables,
+            Form::Call | Form::CallTwice => calls,
+            Form::CallBoth => !self.pairs(scope).is_empty(),
             _ => true,
         };
         let fits = |form: Form, least: usize| wanted.contains(&least) && may_stand(form);
@@ -273,12 +423,30 @@ impl Author<'_> {
         }
         let share = self.random.bits() as Set;
         let (p_writes, q_writes) = (scope.writes & share, scope.writes & !share);
-        let side = |writes: Set, others: Set| Scope {
+        let reached = match self.sides {
+            Sides::Sharing => [scope.reaches; 2],
+            _ => self.apart(scope.reaches),
+        };
+        let side = |writes: Set, others: Set, reaches: Set| Scope {
             reads: scope.reads & !others,
             writes,
+            reaches,
             ..scope
         };
-        self.two_statements(limit, side(p_writes, q_writes), side(q_writes, p_writes));
+        let p_scope = side(p_writes, q_writes, reached[0]);
+        self.two_statements(limit, p_scope, side(q_writes, p_writes, reached[1]));
+    }
+
+    /// Procedures for two sides. Often one side alone has any.
+    fn apart(&mut self, reaches: Set) -> [Set; 2] {
+        match self.random.below(4) {
+            0 => [reaches, 0],
+            1 => [0, reaches],
+            _ => {
+                let share = self.random.bits() as Set;
+                [reaches & share, reaches & !share]
+            }
+        }
     }
 
     fn choice(&mut self, limit: usize, scope: Scope) {
@@ -471,9 +639,10 @@ fn inputs(operator: Operator) -> usize {
 #[cfg(test)]
 mod tests {
     use super::*;
-    use second::program::{Form, Statement};
+    use second::program::{Form, Program as Tree, Statement};
     use second::table::BUILT_IN;
     use second::{calls, check, kinds};
+    use values::Given;
 
     #[test]
     fn every_program_is_accepted_and_every_kind_occurs() {
@@ -489,10 +658,14 @@ mod tests {
         let mut largest = 0;
         for seed in 0..2_500 {
             let program = program(&mut Random::new(seed), times);
-            let checked = calls::check(Some(&times.file()), &program);
+            let given = Given {
+                table: Some(&times.file()),
+                procedures: program.procedures,
+            };
+            let checked = calls::check(given, &program.bytes);
             assert_eq!(checked, Ok(()), "seed {seed}: {program:?}");
-            largest = largest.max(program.len() / 4);
-            for node in program.chunks_exact(4) {
+            largest = largest.max(program.bytes.len() / 4);
+            for node in program.bytes.chunks_exact(4) {
                 seen[usize::from(node[0])] += 1;
             }
         }
@@ -547,16 +720,102 @@ mod tests {
         matches!(statement.form, Form::Exit)
     }
 
+    /// The trees of so many accepted programs.
+    fn trees(count: u64) -> Vec<Tree> {
+        let tree = |seed: u64| {
+            let Program { procedures, bytes } = program(&mut Random::new(seed), &BUILT_IN);
+            check::check(&bytes, procedures, &BUILT_IN).expect("it is accepted")
+        };
+        (0..count).map(tree).collect()
+    }
+
     #[test]
     fn loops_of_every_make_occur() {
-        let programs: Vec<Statement> = (0..2_000)
-            .map(|seed| program(&mut Random::new(seed), &BUILT_IN))
-            .map(|program| check::check(&program, &BUILT_IN).expect("it is accepted"))
-            .collect();
+        let programs = trees(2_000);
         for (what, is_so) in LOOPS {
-            let has = |program: &&Statement| program.in_node_order().into_iter().any(is_so);
+            let has = |program: &&Tree| program.in_node_order().into_iter().any(is_so);
             let count = programs.iter().filter(has).count();
             assert!(count > 60, "{what} occurs in {count} programs");
+        }
+    }
+
+    type AskedOfCalls = fn(&Tree, &Statement) -> bool;
+
+    /// What calls may be like, and what is asked of a statement.
+    const CALLS: [(&str, AskedOfCalls); 7] = [
+        ("a call in a body", |program, statement| {
+            is_call(statement) && statement.node < program.main.node
+        }),
+        ("a call of a body of time 0", |program, statement| {
+            called(program, statement).is_some_and(is_timeless)
+        }),
+        ("two calls one after the other", |_, statement| {
+            calls_in(statement).is_some_and(|[p, q]| p & q != 0)
+        }),
+        ("procedures on one side alone", |program, statement| {
+            sides(program, statement).is_some_and(|[p, q]| (p == 0) != (q == 0))
+        }),
+        ("procedures on both sides", |program, statement| {
+            sides(program, statement).is_some_and(|[p, q]| p != 0 && q != 0)
+        }),
+        ("a loop within a called body", |program, statement| {
+            called(program, statement)
+                .is_some_and(|body| body.in_node_order().into_iter().any(is_loop))
+        }),
+        ("a call in a loop", |program, statement| {
+            body(statement).is_some_and(|body| program.reached(body) != 0)
+        }),
+    ];
+
+    fn is_call(statement: &Statement) -> bool {
+        matches!(statement.form, Form::Call(_))
+    }
+
+    fn called<'a>(program: &'a Tree, statement: &Statement) -> Option<&'a Statement> {
+        match statement.form {
+            Form::Call(procedure) => Some(&program.bodies[procedure]),
+            _ => None,
+        }
+    }
+
+    fn is_timeless(body: &Statement) -> bool {
+        let all = body.in_node_order().into_iter();
+        all.map(|statement| statement.delay).all(|delay| delay == 0)
+    }
+
+    /// The procedures that the parts of a sequence call themselves.
+    fn calls_in(statement: &Statement) -> Option<[u32; 2]> {
+        let own = |part: &Statement| {
+            let all = part.in_node_order().into_iter();
+            all.fold(0, |called, statement| match statement.form {
+                Form::Call(procedure) => called | 1 << procedure,
+                _ => called,
+            })
+        };
+        match &statement.form {
+            Form::Sequence(p, q) => Some([own(p), own(q)]),
+            _ => None,
+        }
+    }
+
+    /// The procedures that the sides of a parallel node reach.
+    fn sides(program: &Tree, statement: &Statement) -> Option<[u8; 2]> {
+        match &statement.form {
+            Form::Parallel(p, q) => Some([program.reached(p), program.reached(q)]),
+            _ => None,
+        }
+    }
+
+    #[test]
+    fn calls_of_every_make_occur() {
+        let programs = trees(2_000);
+        for (what, is_so) in CALLS {
+            let has = |program: &&Tree| {
+                let mut all = program.in_node_order().into_iter();
+                all.any(|statement| is_so(program, statement))
+            };
+            let count = programs.iter().filter(has).count();
+            assert!(count > 40, "{what} occurs in {count} programs");
         }
     }
 }

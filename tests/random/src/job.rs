@@ -1,13 +1,13 @@
 //! One random job: a program, perhaps a table for it, and all that is asked.
 
 use crate::damage;
-use crate::generate;
+use crate::generate::{self, Program};
 use crate::lend::WORDS;
 use crate::tables::{self, Table};
 use crate::xorshift::Random;
 use peers::{Peer, Reply};
 use second::table::BUILT_IN;
-use values::Answer;
+use values::{Answer, Given};
 
 /// The last instant that a run may come to.
 pub const MOST_INSTANT: u32 = 1_000_000;
@@ -67,6 +67,8 @@ impl Room {
 #[derive(Clone, Debug)]
 pub struct Job {
     pub table: Option<Table>,
+    /// How many procedures the program is said to have.
+    pub procedures: usize,
     pub program: Vec<u8>,
     pub words: Vec<u8>,
     pub budget: u32,
@@ -80,27 +82,31 @@ pub struct Job {
 
 impl Job {
     /// The job of a seed; one program in eight is slightly damaged, in one of
-    /// sixteen parallel sides may clash, and in one of sixteen exits may leave
-    /// them. Every other one has a table, and one table in twelve is damaged.
+    /// sixteen parallel sides may clash, in one of sixteen exits may leave them,
+    /// and in one of sixteen both may reach a procedure. Every other one has a
+    /// table, and one table in twelve is damaged.
     pub fn of_seed(seed: u64) -> Job {
         let random = &mut Random::new(seed);
         let times = random.once_in(2).then(|| tables::times(random));
         let program_of = match random.below(16) {
             0 => generate::clashing_program,
             1 => generate::leaving_program,
+            2 => generate::sharing_program,
             _ => generate::program,
         };
         let mut program = program_of(random, times.as_ref().unwrap_or(&BUILT_IN));
         if random.once_in(8) {
             program = damage::program(&program, random);
         }
+        let Program { procedures, bytes } = program;
         let table = times.map(|times| match random.once_in(12) {
             true => tables::damaged(&times, random),
             false => tables::good(&times),
         });
         Job {
             table,
-            program,
+            procedures,
+            program: bytes,
             words: lent_words(random),
             budget: budget(random),
             file_length: random.pick(&[0, 511, 512, 1024, 2048, 3584, 6656, 7000]),
@@ -110,9 +116,12 @@ impl Job {
         }
     }
 
-    /// The bytes of its table, as a peer is given them.
-    pub fn table(&self) -> values::Table<'_> {
-        self.table.as_ref().map(|table| &table.bytes[..])
+    /// What a peer is given beside its program.
+    pub fn given(&self) -> Given<'_> {
+        Given {
+            table: self.table.as_ref().map(|table| &table.bytes[..]),
+            procedures: self.procedures,
+        }
     }
 }
 

@@ -19,6 +19,8 @@ mod faulty_arrays;
 #[cfg(test)]
 mod faulty_loops;
 #[cfg(test)]
+mod faulty_procedures;
+#[cfg(test)]
 mod faulty_starts;
 mod flight;
 mod generate;

@@ -1,18 +1,21 @@
 //! Makes a failing job smaller, step by step, for as long as it still fails.
 //!
-//! A step puts a smaller subtree for a subtree, lowers a number of a node,
-//! clears a start word, or drops the table or a call. It is greedy: the first
+//! A step drops a procedure, puts a smaller subtree for a subtree, lowers a
+//! number of a node, clears a start word, or drops the table or a call on the
+//! run. It is greedy: the first
 //! step that keeps the failure is taken, until none does. Of programs of one
 //! length the one whose bytes come first is the smaller, so there is an end.
 
 use crate::job::Job;
 use second::kinds::{row, Sort};
+use std::cmp::Ordering;
 use std::ops::Range;
 
 const NODE: usize = 4;
 const OK: [u8; NODE] = [16, 0, 0, 0];
 const TICK: [u8; NODE] = [17, 1, 0, 0];
 const ZERO: [u8; NODE] = [1, 0, 0, 0];
+const CALL: u8 = 27;
 
 /// The smallest job that the steps lead to and that still fails.
 pub fn minimise(job: &Job, fails: impl Fn(&Job) -> bool) -> Job {
@@ -30,11 +33,45 @@ fn steps(job: &Job) -> Vec<Job> {
         ..job.clone()
     };
     let programs = smaller_programs(&job.program).into_iter().map(with_program);
-    programs
+    fewer_procedures(job)
+        .into_iter()
+        .chain(programs)
         .chain(without_table(job))
         .chain(fewer_calls(job))
         .chain(cleared_words(job))
         .collect()
+}
+
+/// The job without one of its procedures, whose callers only wait.
+fn fewer_procedures(job: &Job) -> Vec<Job> {
+    let nodes: Vec<&[u8]> = job.program.chunks_exact(NODE).collect();
+    let (mut fewer, mut first) = (vec![], 0);
+    for procedure in 0..job.procedures.min(nodes.len()) {
+        let next = subtree_end(&nodes, first);
+        let left = nodes[..first].iter().chain(&nodes[next..]);
+        let program = left.flat_map(|node| without_call(node, procedure));
+        fewer.push(Job {
+            procedures: job.procedures - 1,
+            program: program.collect(),
+            ..job.clone()
+        });
+        first = next;
+    }
+    fewer
+}
+
+/// A node of a program that has lost a procedure.
+fn without_call(node: &[u8], procedure: usize) -> [u8; NODE] {
+    let [kind, delay, low, high] = [node[0], node[1], node[2], node[3]];
+    let called = u16::from_le_bytes([low, high]);
+    match usize::from(called).cmp(&procedure) {
+        Ordering::Equal if kind == CALL => [17, delay, 0, 0],
+        Ordering::Greater if kind == CALL => {
+            let [low, high] = (called - 1).to_le_bytes();
+            [CALL, delay, low, high]
+        }
+        _ => [kind, delay, low, high],
+    }
 }
 
 /// Programs with fewer nodes, then those with a lower number in a node.
@@ -153,6 +190,7 @@ mod tests {
     use super::*;
     use crate::against_rules;
     use crate::faulty::SLOW_PARALLEL;
+    use peers::SECOND;
 
     #[test]
     fn a_fault_of_parallel_nodes_comes_down_to_one_of_them() {
@@ -165,6 +203,33 @@ mod tests {
         assert_eq!(smallest.program, [[20, 0, 0, 0], OK, OK].concat());
         assert!(smallest.calls.is_empty() && smallest.table.is_none());
         assert!(smallest.words.iter().all(|&byte| byte == 0));
+    }
+
+    /// Procedures are dropped one by one, and the calls of those that stay name
+    /// them by their new numbers.
+    #[test]
+    fn procedures_that_a_fault_does_not_need_are_dropped() {
+        let [first, second] = [[TICK].concat(), [[18, 1, 0, 0], ZERO].concat()];
+        let call = |procedure| [CALL, 1, procedure, 0];
+        let main = [[19, 0, 0, 0], call(0), call(1)].concat();
+        let job = Job {
+            table: None,
+            procedures: 2,
+            program: [first, second.clone(), main].concat(),
+            calls: vec![],
+            words: vec![],
+            ..Job::of_seed(0)
+        };
+        let calls_an_assignment = |job: &Job| {
+            let kinds: Vec<u8> = job.program.chunks_exact(NODE).map(|node| node[0]).collect();
+            against_rules::compare(&SECOND, job).is_ok()
+                && kinds.contains(&18)
+                && kinds.contains(&CALL)
+                && (SECOND.check)(job.given(), &job.program).result.is_ok()
+        };
+        let smallest = minimise(&job, calls_an_assignment);
+        assert_eq!(smallest.procedures, 1);
+        assert_eq!(smallest.program, [second, call(0).to_vec()].concat());
     }
 
     #[test]

@@ -11,7 +11,7 @@ const FIXED: [u8; 3] = [START, GROUND, CONSTANT];
 
 /// The kinds of the cells that are neither fixed nor memories, by weight: with
 /// fewer ors and delays, pulses would soon die out.
-const KINDS: [(u8, usize); 15] = [
+const KINDS: [(u8, usize); 16] = [
     (CONSTANT, 1),
     (3, 1),
     (4, 1),
@@ -25,6 +25,7 @@ const KINDS: [(u8, usize); 15] = [
     (WHEN, 2),
     (UNLESS, 2),
     (MERGE, 2),
+    (RETURN, 3),
     (GATE, 2),
     (READ, 4),
 ];

@@ -79,7 +79,9 @@ fn report(job: &Job, number: u64, what: &str) -> String {
     let smallest = minimise::minimise(job, |job| compare(job).is_err());
     let what_now = compare(&smallest).err().unwrap_or_default();
     let mut text = format!("job {number} disagrees: {what}\nminimised: {what_now}\n");
-    text += &smallest.table().map_or(String::new(), listing::table);
+    let given = smallest.given();
+    text += &given.table.map_or(String::new(), listing::table);
+    text += &format!("procedures: {}\n", given.procedures);
     text += &format!("program: {:?}\n", smallest.program);
     text += &listing::program(&smallest.program);
     text += &format!("words: {:?}\n", smallest.words);
@@ -95,8 +97,9 @@ mod tests {
     fn a_short_run_agrees_and_sees_every_outcome() {
         let tally = run(2, 5_000).unwrap_or_else(|report| panic!("{report}"));
         let least = tally.ended.min(tally.open).min(tally.refused);
-        let special = tally.tables.min(tally.arrays).min(tally.loops);
-        assert!(least.min(special) >= 100, "{tally}");
+        let special = [tally.tables, tally.arrays, tally.loops, tally.calls];
+        let rarest = special.into_iter().fold(least, u64::min);
+        assert!(rarest >= 100, "{tally}");
         let starts = tally.starts;
         let kinds = starts.early.min(starts.at_the_end).min(starts.late);
         assert!(kinds >= 500, "{tally}");

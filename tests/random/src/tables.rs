@@ -4,7 +4,7 @@ use crate::damage::mend_checks;
 use crate::xorshift::Random;
 use second::table::Times;
 use std::ops::RangeInclusive;
-use values::Refusal;
+use values::{Given, Refusal};
 
 const LENGTH: usize = 512;
 
@@ -107,7 +107,7 @@ mod tests {
     const OK: [u8; 4] = [16, 0, 0, 0];
 
     fn met(table: &Table) -> Option<Refusal> {
-        calls::check(Some(&table.bytes), &OK).err()
+        calls::check(Given::table(Some(&table.bytes)), &OK).err()
     }
 
     #[test]

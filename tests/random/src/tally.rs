@@ -2,7 +2,7 @@
 
 use crate::against_rules::{Outcome, Seen, Starts};
 use crate::job::Job;
-use crate::texts::{has_arrays, has_loops};
+use crate::texts::{has_arrays, has_calls, has_loops};
 use std::fmt::{Display, Formatter, Result};
 
 #[derive(Default)]
@@ -15,6 +15,7 @@ pub struct Tally {
     pub tables: u64,
     pub arrays: u64,
     pub loops: u64,
+    pub calls: u64,
     pub starts: Starts,
     pub netlists: u64,
 }
@@ -26,6 +27,7 @@ impl Tally {
         self.tables += u64::from(job.table.is_some());
         self.arrays += u64::from(has_arrays(&job.program));
         self.loops += u64::from(has_loops(&job.program));
+        self.calls += u64::from(has_calls(&job.program));
         self.starts.early += seen.starts.early;
         self.starts.at_the_end += seen.starts.at_the_end;
         self.starts.late += seen.starts.late;
@@ -47,6 +49,7 @@ impl Display for Tally {
             tables,
             arrays,
             loops,
+            calls,
             starts:
                 Starts {
                     early,
@@ -59,7 +62,8 @@ impl Display for Tally {
         write!(text, "{programs} programs, {nodes} nodes in all, agree: ")?;
         write!(text, "{ended} ended, {open} open, {refused} refused, ")?;
         write!(text, "{tables} under a table, {arrays} with arrays, ")?;
-        write!(text, "{loops} with loops; starts: {early} too early, ")?;
+        write!(text, "{loops} with loops, {calls} with calls; ")?;
+        write!(text, "starts: {early} too early, ")?;
         write!(text, "{at_the_end} at an end, {late} later; ")?;
         write!(text, "{netlists} netlists agree")
     }

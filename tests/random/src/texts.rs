@@ -4,6 +4,7 @@
 use crate::typing::*;
 use crate::xorshift::Random;
 use second::calls;
+use values::Given;
 
 /// The longest text that is read.
 pub const MOST_TEXT: usize = 4096;
@@ -39,11 +40,12 @@ pub enum Known {
     Nothing,
 }
 
-/// The texts of a program; bytes that are no tree, and programs with arrays or
-/// loops, which have no text, have random words alone.
+/// The texts of a program; bytes that are no tree, and programs with arrays,
+/// loops or calls, which have no text, have random words alone.
 pub fn texts(program: &[u8], random: &mut Random) -> Vec<Text> {
     let soup = unknown(soup(random));
-    if !is_tree(program) || has_arrays(program) || has_loops(program) {
+    let untyped = [has_arrays, has_loops, has_calls];
+    if !is_tree(program) || untyped.iter().any(|has| has(program)) {
         return vec![soup];
     }
     let program = match random.once_in(16) {
@@ -69,7 +71,7 @@ pub fn texts(program: &[u8], random: &mut Random) -> Vec<Text> {
 
 /// Whether refusals 1 to 6 let a program pass.
 fn is_tree(program: &[u8]) -> bool {
-    calls::check(None, program).map_or_else(|refusal| refusal.number > 6, |()| true)
+    calls::check(Given::NOTHING, program).map_or_else(|refusal| refusal.number > 6, |()| true)
 }
 
 /// Whether a program has a loop or an exit.
@@ -77,6 +79,11 @@ pub fn has_loops(program: &[u8]) -> bool {
     program
         .chunks_exact(4)
         .any(|node| [25, 26].contains(&node[0]))
+}
+
+/// Whether a program calls a procedure.
+pub fn has_calls(program: &[u8]) -> bool {
+    program.chunks_exact(4).any(|node| node[0] == 27)
 }
 
 /// Whether a program has an element or assigns to one.
@@ -198,9 +205,9 @@ mod tests {
         for seed in 0..4_000 {
             let random = &mut Random::new(seed);
             let program = generate::program(random, &BUILT_IN);
-            let texts = texts(&program, random).into_iter();
+            let texts = texts(&program.bytes, random).into_iter();
             for text in texts.filter(|text| wanted(&text.known)) {
-                let read = calls::read_text(None, &text.bytes, &mut [0; 800]);
+                let read = calls::read_text(Given::NOTHING, &text.bytes, &mut [0; 800]);
                 *met.entry(read.map_or_else(|refusal| refusal.number, |_| 0))
                     .or_default() += 1;
             }

@@ -1,10 +1,11 @@
 //! A simulator that walks over all cells at each instant, by the equations of
-//! `against_equations`, and goes wrong about arrays in the way that it is told.
+//! `against_equations`, and goes wrong about arrays or about the merges of calls
+//! in the way that it is told.
 
 use crate::against_equations::{element_place, instant_of, wire_of, Step};
 use crate::flight;
 use crate::lend::ARRAYS;
-use second::cells::{Netlist, READ};
+use second::cells::{Netlist, READ, RETURN};
 use values::Answer;
 
 #[derive(Clone, Copy, PartialEq)]
@@ -13,6 +14,7 @@ pub enum Fault {
     AddressOfTheFall,
     SevenBits,
     StaleRead,
+    NotCleared,
 }
 
 pub struct Walk {
@@ -95,7 +97,11 @@ impl Walk {
     /// What a cell keeps beside its value.
     fn put_rest(&self, before: &[u8], after: &mut [u8]) {
         for number in 0..self.netlist.cells.len() {
-            let kept = self.step(before, after, false).expected(number);
+            let mut kept = self.step(before, after, false).expected(number);
+            let called = before[8 + 40 * number + 4] | kept[4] | kept[0];
+            if self.fault == Fault::NotCleared && self.netlist.cells[number].kind == RETURN {
+                kept[4] = called;
+            }
             after[8 + 40 * number..][2..40].copy_from_slice(&kept[2..]);
         }
     }

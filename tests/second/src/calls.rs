@@ -3,21 +3,22 @@
 //! Each call makes all its checks, in the paper's order, before it writes a
 //! lent byte, and writes no further than its result goes.
 //!
-//! A call that checks a program may be given a table of operator times, whose
-//! refusals 19 to 21 come before all others; without it the built-in one serves.
+//! A call that checks a program has in front what is given beside it: the number
+//! of its procedures, and it may be a table of operator times, whose refusals 19
+//! to 21 come before all others; without it the built-in one serves.
 
 use crate::cells::Netlist;
 use crate::check;
 use crate::compile;
 use crate::contents::{Contents, CONTENTS_LENGTH};
 use crate::netfile;
-use crate::program::Statement;
+use crate::program::Program;
 use crate::rules::{self, Moment};
 use crate::simulate::Simulator;
 use crate::state;
 use crate::table::{self, Times, BUILT_IN};
 use crate::text;
-use values::{Answer, Cell, End, Refusal, Shape, Table};
+use values::{Answer, Cell, End, Given, Refusal, Shape};
 
 /// The last instant that a run may come to.
 const MOST_INSTANT: u32 = 1_000_000;
@@ -29,30 +30,30 @@ pub(crate) fn shape(netlist: &Netlist) -> Shape {
     }
 }
 
-/// Checks a program: refusals 1 to 8 and 22.
-pub fn check(table: Table, program: &[u8]) -> Result<(), Refusal> {
-    checked(table, program).map(drop)
+/// Checks a program: refusals 1 to 8, 22, 24 and 25.
+pub fn check(given: Given, program: &[u8]) -> Result<(), Refusal> {
+    checked(given, program).map(drop)
 }
 
-/// Compiles a program to a netlist file: refusals 1 to 8 and 22, 14.
-pub fn compile(table: Table, program: &[u8], file: &mut [u8]) -> Result<Shape, Refusal> {
-    let netlist = compile::compile(&checked(table, program)?);
+/// Compiles a program to a netlist file: refusals 1 to 8, 22, 24 and 25, 14.
+pub fn compile(given: Given, program: &[u8], file: &mut [u8]) -> Result<Shape, Refusal> {
+    let netlist = compile::compile(&checked(given, program)?);
     put(&netfile::write(&netlist), file)?;
     Ok(shape(&netlist))
 }
 
-/// Reads a text to its program's bytes: refusals 17, 18, 1 to 8 and 22, 14. Tells how
-/// many bytes these are.
-pub fn read_text(table: Table, text: &[u8], program: &mut [u8]) -> Result<usize, Refusal> {
-    let bytes = program_of(table, text)?;
-    check(table, &bytes)?;
+/// Reads a text to its program's bytes: refusals 17, 18, 1 to 8, 22, 24 and 25,
+/// 14. Tells how many bytes these are.
+pub fn read_text(given: Given, text: &[u8], program: &mut [u8]) -> Result<usize, Refusal> {
+    let bytes = program_of(given, text)?;
+    check(given, &bytes)?;
     put(&bytes, program)?;
     Ok(bytes.len())
 }
 
 /// Compiles a text: refusals 17, 18, and those of its program.
-pub fn compile_text(table: Table, text: &[u8], file: &mut [u8]) -> Result<Shape, Refusal> {
-    compile(table, &program_of(table, text)?, file)
+pub fn compile_text(given: Given, text: &[u8], file: &mut [u8]) -> Result<Shape, Refusal> {
+    compile(given, &program_of(given, text)?, file)
 }
 
 /// Writes cells of six bytes to a netlist file: 11 when they are no cells of
@@ -122,17 +123,17 @@ pub fn run_netlist(
     Ok(full_run(&netlist, contents, budget, state))
 }
 
-/// A full run of a program: refusals 1 to 8 and 22, 13, 14. Its netlist file
+/// A full run of a program: refusals 1 to 8, 22, 24 and 25, 13, 14. Its netlist file
 /// and its last state stand in the lent buffers.
 pub fn run_program(
-    table: Table,
+    given: Given,
     program: &[u8],
     words: &[u8],
     budget: u32,
     file: &mut [u8],
     state: &mut [u8],
 ) -> Result<Answer, Refusal> {
-    let netlist = compile::compile(&checked(table, program)?);
+    let netlist = compile::compile(&checked(given, program)?);
     check_budget(budget)?;
     let contents = start_contents(words)?;
     let state = state_room(state, &netlist)?;
@@ -142,26 +143,26 @@ pub fn run_program(
 
 /// A full run of a text: refusals 17, 18, and those of its program's run.
 pub fn run_text(
-    table: Table,
+    given: Given,
     text: &[u8],
     words: &[u8],
     budget: u32,
     file: &mut [u8],
     state: &mut [u8],
 ) -> Result<Answer, Refusal> {
-    let program = program_of(table, text)?;
-    run_program(table, &program, words, budget, file, state)
+    let program = program_of(given, text)?;
+    run_program(given, &program, words, budget, file, state)
 }
 
 /// The end of a program by its own rules, if within the budget: refusals 1 to
-/// 8 and 22, 13, 14.
+/// 8, 22, 24 and 25, 13, 14.
 pub fn reference_run(
-    table: Table,
+    given: Given,
     program: &[u8],
     words: &[u8],
     budget: u32,
 ) -> Result<Option<End>, Refusal> {
-    let end = last_moment(table, program, words, budget)?;
+    let end = last_moment(given, program, words, budget)?;
     Ok(end.map(|end| End {
         instant: end.instant,
         words: end.contents.words,
@@ -170,29 +171,29 @@ pub fn reference_run(
 
 /// The same with the last words of the arrays, which no answer shows.
 pub fn last_moment(
-    table: Table,
+    given: Given,
     program: &[u8],
     words: &[u8],
     budget: u32,
 ) -> Result<Option<Moment>, Refusal> {
-    let program = checked(table, program)?;
+    let program = checked(given, program)?;
     check_budget(budget)?;
     Ok(rules::run(&program, start_contents(words)?, budget))
 }
 
 /// A program that passes its checks under a table that passes its own.
-fn checked(table: Table, program: &[u8]) -> Result<Statement, Refusal> {
-    check::check(program, &times(table)?)
+fn checked(given: Given, program: &[u8]) -> Result<Program, Refusal> {
+    check::check(program, given.procedures, &times(given)?)
 }
 
 /// The bytes of a text's program; the table is refused before the text.
-fn program_of(table: Table, text: &[u8]) -> Result<Vec<u8>, Refusal> {
-    times(table)?;
+fn program_of(given: Given, text: &[u8]) -> Result<Vec<u8>, Refusal> {
+    times(given)?;
     text::program(text)
 }
 
-fn times(table: Table) -> Result<Times, Refusal> {
-    table.map_or(Ok(BUILT_IN), table::read)
+fn times(given: Given) -> Result<Times, Refusal> {
+    given.table.map_or(Ok(BUILT_IN), table::read)
 }
 
 /// A beginning, and a continuing unless the finish was high.

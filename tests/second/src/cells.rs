@@ -16,6 +16,8 @@ pub const WHEN: u8 = 36;
 /// A pulse goes through when the word is zero.
 pub const UNLESS: u8 = 37;
 pub const MERGE: u8 = 38;
+/// The merge of a call: its delay first, and then the body's finish.
+pub const RETURN: u8 = 39;
 pub const MEMORY: u8 = 40;
 /// A word goes through while the control wire is high.
 pub const GATE: u8 = 41;
@@ -57,7 +59,7 @@ pub enum Sort {
 /// The sort of a wire goes by its cell's kind alone.
 pub fn sort(kind: u8) -> Sort {
     match kind {
-        START..=MERGE => Sort::Control,
+        START..=RETURN => Sort::Control,
         ARRAY => Sort::Array,
         ADDRESS => Sort::Address,
         _ => Sort::Word,
@@ -94,7 +96,7 @@ pub fn fields(kind: u8) -> Option<(Field, Field)> {
         START | GROUND => Some((Unused, Unused)),
         CONSTANT => Some((Number, Unused)),
         DELAY => Some((Earlier(Sort::Control), Unused)),
-        OR | MERGE => Some((control, control)),
+        OR | MERGE | RETURN => Some((control, control)),
         WHEN | UNLESS | GATE => Some((control, word)),
         MEMORY | ARRAY => Some((control, Earlier(Sort::Word))),
         ADDRESS => Some((Earlier(Sort::Word), Unused)),

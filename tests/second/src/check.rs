@@ -1,10 +1,12 @@
-//! The check of a program: refusals 1 to 8 and 22, and the reading into a tree.
+//! The check of a program: refusals 1 to 8, 22, 24 and 25, and the reading into
+//! trees.
 //!
-//! The order is the paper's: the length; each node by itself; the reading,
-//! which meets 5 and 6 on its way; the exits; the delays; the parallel nodes.
+//! The order is the paper's: the length and the number of procedures; each node
+//! by itself; the reading, which meets 5 and 6 on its way; the exits; the calls;
+//! the delays; the parallel nodes, for procedures and then for variables.
 
 use crate::kinds::{row, ExpressionKind, Kind, Row, StatementKind};
-use crate::program::{Expression, Form, Statement};
+use crate::program::{Expression, Form, Program, Statement};
 use crate::table::Times;
 use crate::word::number2;
 use std::collections::BTreeSet;
@@ -12,13 +14,20 @@ use values::Refusal;
 
 const NODE_LENGTH: usize = 4;
 const MOST_NODES: usize = 200;
+const MOST_PROCEDURES: usize = 8;
 
-/// The program that these bytes are, or the refusal found first.
-pub fn check(bytes: &[u8], times: &Times) -> Result<Statement, Refusal> {
+/// The program with so many procedures that these bytes are, or the refusal
+/// found first.
+pub fn check(bytes: &[u8], procedures: usize, times: &Times) -> Result<Program, Refusal> {
+    if procedures > MOST_PROCEDURES {
+        return Err(Refusal::new(1, 0));
+    }
     let nodes = nodes(bytes)?;
-    let program = read(&nodes)?;
+    let program = read(&nodes, procedures)?;
     check_exits(&program)?;
+    check_calls(&program)?;
     check_delays(&program, times)?;
+    check_shared(&program)?;
     check_parallels(&program)?;
     Ok(program)
 }
@@ -56,13 +65,15 @@ fn node(bytes: &[u8]) -> Result<Node, u8> {
 }
 
 /// Refusals 5 and 6: one reading in node order, which stops at the first.
-fn read(nodes: &[Node]) -> Result<Statement, Refusal> {
+fn read(nodes: &[Node], procedures: usize) -> Result<Program, Refusal> {
     let mut reader = Reader { nodes, next: 0 };
-    let program = reader.statement()?;
+    let bodies = (0..procedures).map(|_| reader.statement());
+    let bodies = bodies.collect::<Result<_, _>>()?;
+    let main = reader.statement()?;
     if reader.next < nodes.len() {
         return Err(Refusal::new(6, reader.next));
     }
-    Ok(program)
+    Ok(Program { bodies, main })
 }
 
 struct Reader<'a> {
@@ -128,6 +139,7 @@ impl<'a> Reader<'a> {
             }
             StatementKind::Loop => Form::Loop(self.part()?),
             StatementKind::Exit => Form::Exit,
+            StatementKind::Call => Form::Call(usize::from(n)),
         })
     }
 
@@ -137,7 +149,7 @@ impl<'a> Reader<'a> {
 }
 
 /// Refusal 22, at the first exit that is none of a loop's own.
-fn check_exits(program: &Statement) -> Result<(), Refusal> {
+fn check_exits(program: &Program) -> Result<(), Refusal> {
     let loops = program.in_node_order().into_iter();
     let of_loops: BTreeSet<usize> = loops.flat_map(own_exits).collect();
     refuse_first(22, program, |statement| {
@@ -153,8 +165,26 @@ fn own_exits(statement: &Statement) -> Vec<usize> {
     }
 }
 
+/// Refusal 24, at the first call of a procedure that isn't an earlier one. The
+/// main program stands behind all procedures.
+fn check_calls(program: &Program) -> Result<(), Refusal> {
+    let numbered = program.roots().enumerate();
+    let within = numbered.flat_map(|(root, body)| {
+        let statements = body.in_node_order().into_iter();
+        statements.map(move |statement| (root, statement))
+    });
+    let late = |&(root, statement): &(usize, &Statement)| match statement.form {
+        Form::Call(procedure) => procedure >= root,
+        _ => false,
+    };
+    match { within }.find(late) {
+        Some((_, call)) => Err(Refusal::new(24, call.node)),
+        None => Ok(()),
+    }
+}
+
 /// Refusal 7, at the first statement whose delay is too small.
-fn check_delays(program: &Statement, times: &Times) -> Result<(), Refusal> {
+fn check_delays(program: &Program, times: &Times) -> Result<(), Refusal> {
     refuse_first(7, program, |statement| {
         u32::from(statement.delay) < least_delay(statement, times)
     })
@@ -170,24 +200,33 @@ fn least_delay(statement: &Statement, times: &Times) -> u32 {
     expressions.fold(kind_needs, |least, e| least.max(e.time(times)))
 }
 
+/// Refusal 25, at the first parallel statement of which both sides reach one
+/// procedure, be it through others.
+fn check_shared(program: &Program) -> Result<(), Refusal> {
+    refuse_first(25, program, |statement| match &statement.form {
+        Form::Parallel(p, q) => program.reached(p) & program.reached(q) != 0,
+        _ => false,
+    })
+}
+
 /// Refusal 8, at the first parallel statement whose sides clash.
-fn check_parallels(program: &Statement) -> Result<(), Refusal> {
+fn check_parallels(program: &Program) -> Result<(), Refusal> {
     refuse_first(8, program, |statement| match &statement.form {
-        Form::Parallel(p, q) => clash(p, q),
+        Form::Parallel(p, q) => clash(program, p, q),
         _ => false,
     })
 }
 
 /// Whether one side writes a variable that the other reads or writes.
-fn clash(p: &Statement, q: &Statement) -> bool {
-    let (p_writes, q_writes) = (p.writes(), q.writes());
-    p_writes & (q.reads() | q_writes) != 0 || q_writes & p.reads() != 0
+fn clash(program: &Program, p: &Statement, q: &Statement) -> bool {
+    let (p_writes, q_writes) = (program.writes(p), program.writes(q));
+    p_writes & (program.reads(q) | q_writes) != 0 || q_writes & program.reads(p) != 0
 }
 
 /// Refuses the first statement, in node order, that breaks a rule.
 fn refuse_first(
     number: u8,
-    program: &Statement,
+    program: &Program,
     breaks: impl Fn(&Statement) -> bool,
 ) -> Result<(), Refusal> {
     let mut statements = program.in_node_order().into_iter();

@@ -1,14 +1,14 @@
 //! Compiling: the published numbering of a program's circuit.
 //!
 //! The cells come in the paper's order: three fixed ones, the delays, the
-//! clock ors, the memories, the arrays, the walk, the data ors, the address
-//! ors. A delay's feed, the data of memories and arrays, and the addresses are
-//! known only later, and are filled in then.
+//! clock ors, the memories, the arrays, the walks of the bodies and of the main
+//! program, the data ors, the address ors. A delay's feed, the data of memories
+//! and arrays, and the addresses are known only later, and are filled in then.
 
 use crate::cells::*;
 use crate::contents::ARRAYS;
 use crate::operator::Operator;
-use crate::program::{Expression, Form, Statement};
+use crate::program::{Expression, Form, Program, Statement};
 use values::Cell;
 
 /// The number of a cell, which is the number of its wire.
@@ -25,14 +25,14 @@ const TARGETS: usize = MEMORIES + ARRAYS;
 type Contributions = [Vec<Wire>; TARGETS];
 
 /// The netlist of a checked program.
-pub fn compile(program: &Statement) -> Netlist {
+pub fn compile(program: &Program) -> Netlist {
     let mut cells = vec![
         Cell::new(START, 0, 0, 0),
         Cell::new(GROUND, 0, 0, 0),
         Cell::new(CONSTANT, 0, 0, 0),
     ];
     let first_delay = cells.len() as Wire;
-    let clocks = place_delays(program, &mut cells);
+    let (clocks, callers) = place_delays(program, &mut cells);
     let clocks = join_all(&mut cells, OR, &clocks, GROUND_WIRE);
     let first_memory = cells.len() as Wire;
     for (target, clock) in clocks.into_iter().enumerate() {
@@ -45,8 +45,12 @@ pub fn compile(program: &Statement) -> Netlist {
         data: Contributions::default(),
         addresses: Contributions::default(),
         exits: Vec::new(),
+        returns: Vec::new(),
     };
-    let finish = walk.statement(program, START_WIRE);
+    for (body, callers) in program.bodies.iter().zip(&callers) {
+        walk.body(body, callers);
+    }
+    let finish = walk.statement(&program.main, START_WIRE);
     walk.join_gates();
     let cells = walk.cells;
     Netlist { cells, finish }
@@ -70,9 +74,10 @@ fn push(cells: &mut Vec<Cell>, cell: Cell) -> Wire {
 }
 
 /// The delay cells in node order; gives each target's first delays, which are
-/// its clock pulses.
-fn place_delays(program: &Statement, cells: &mut Vec<Cell>) -> Contributions {
+/// its clock pulses, and the delays of each procedure's callers.
+fn place_delays(program: &Program, cells: &mut Vec<Cell>) -> (Contributions, Vec<Vec<Wire>>) {
     let mut clocks = Contributions::default();
+    let mut callers = vec![Vec::new(); program.bodies.len()];
     for statement in program.in_node_order() {
         // Statements without a use for a delay have 0, as some ifs.
         if statement.delay == 0 {
@@ -83,8 +88,11 @@ fn place_delays(program: &Statement, cells: &mut Vec<Cell>) -> Contributions {
             push(cells, Cell::new(DELAY, 1, first, 0));
             clocks[target].push(first);
         }
+        if let Form::Call(procedure) = statement.form {
+            callers[procedure].push(first);
+        }
     }
-    clocks
+    (clocks, callers)
 }
 
 /// What a statement assigns to.
@@ -116,7 +124,7 @@ fn join(cells: &mut Vec<Cell>, or: u8, wires: &[Wire], none: Wire) -> Wire {
     joined.unwrap_or(none)
 }
 
-/// The walk over the tree. It meets statements in node order, so the delay
+/// The walk over the bodies and the main program. It meets statements in node order, so the delay
 /// cells, which were placed in that order, are taken one after another.
 struct Walk {
     cells: Vec<Cell>,
@@ -126,6 +134,8 @@ struct Walk {
     addresses: Contributions,
     /// The starts of the exits met so far of the innermost loop around.
     exits: Vec<Wire>,
+    /// The finishes of the bodies walked so far.
+    returns: Vec<Wire>,
 }
 
 impl Walk {
@@ -224,7 +234,19 @@ impl Walk {
                 self.exits.push(start);
                 GROUND_WIRE
             }
+            Form::Call(procedure) => {
+                let delay = self.take_delay();
+                self.feed(delay, start);
+                self.cell(RETURN, delay, self.returns[*procedure])
+            }
         }
+    }
+
+    /// A body, which any of its callers starts.
+    fn body(&mut self, body: &Statement, callers: &[Wire]) {
+        let start = join(&mut self.cells, OR, callers, GROUND_WIRE);
+        let finish = self.statement(body, start);
+        self.returns.push(finish);
     }
 
     /// The delays of an assignment: the first is its clock, the second its finish.

@@ -5,14 +5,15 @@ use crate::contents::{CONTENTS_LENGTH, WORDS_LENGTH};
 use crate::netfile::MOST_CELLS;
 use crate::state;
 use crate::word::number4;
-use values::{Answer, Refusal};
+use values::{Answer, Given, Refusal};
 
 const BUDGET_LENGTH: usize = 4;
 
 /// No accepted program outgrows it.
 const NETLIST_ROOM: usize = 6656;
 
-/// The lines for an input of start words, budget and program.
+/// The lines for an input of start words, budget and program. It tells no number
+/// of procedures, so that there are none.
 pub fn text(input: &[u8]) -> String {
     match run(input) {
         Ok(answer) => answer_text(answer),
@@ -28,7 +29,8 @@ fn run(input: &[u8]) -> Result<Answer, Refusal> {
     let budget = number4(input, WORDS_LENGTH);
     let (mut netlist, mut state) = (vec![0; NETLIST_ROOM], vec![0; state::length(MOST_CELLS)]);
     let words = with_elements(&input[..WORDS_LENGTH]);
-    calls::run_program(None, program, &words, budget, &mut netlist, &mut state)
+    let (file, state) = (&mut netlist, &mut state);
+    calls::run_program(Given::NOTHING, program, &words, budget, file, state)
 }
 
 /// The sixteen start words, and 0 for every element.

@@ -29,6 +29,7 @@ pub enum StatementKind {
     AssignElement,
     Loop,
     Exit,
+    Call,
 }
 
 /// What may stand at a child's place.
@@ -56,7 +57,8 @@ impl Row {
         }
     }
 
-    /// The highest n: the last variable's number, the last array's, or any.
+    /// The highest n: the last variable's number, the last array's, or any; that a
+    /// called procedure is there is told by its program.
     pub fn most_n(&self) -> u16 {
         use {ExpressionKind::*, Kind::*, StatementKind::*};
         match self.kind {
@@ -101,7 +103,7 @@ const fn operation(
     }
 }
 
-/// A statement; of these the assignments alone have a use for n.
+/// A statement; of these the assignments and the call alone have a use for n.
 const fn statement(
     number: u8,
     name: &'static str,
@@ -115,14 +117,17 @@ const fn statement(
         kind: Kind::Statement(kind),
         children,
         uses_delay,
-        uses_n: matches!(kind, StatementKind::Assign | StatementKind::AssignElement),
+        uses_n: matches!(
+            kind,
+            StatementKind::Assign | StatementKind::AssignElement | StatementKind::Call
+        ),
     }
 }
 
 const E: Sort = Sort::Expression;
 const S: Sort = Sort::Statement;
 
-pub const TABLE: [Row; 21] = [
+pub const TABLE: [Row; 22] = [
     named(1, "constant", ExpressionKind::Constant, &[]),
     named(2, "variable", ExpressionKind::Variable, &[]),
     operation(3, "complement", Operator::Complement, &[E]),
@@ -150,6 +155,7 @@ pub const TABLE: [Row; 21] = [
     ),
     statement(25, "loop", StatementKind::Loop, &[S], true),
     statement(26, "exit", StatementKind::Exit, &[], false),
+    statement(27, "call", StatementKind::Call, &[], true),
 ];
 
 /// The row of a kind's number, if it is known.

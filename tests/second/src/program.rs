@@ -2,7 +2,8 @@
 //!
 //! Every statement keeps its node number, because refusals name it. Sets of
 //! variables are masks: bit k stands for variable k, and the bits above those
-//! for the arrays, of which each is one variable.
+//! for the arrays, of which each is one variable. Sets of procedures are masks,
+//! too; what a called procedure does, its caller does.
 
 use crate::contents::Contents;
 use crate::operator::Operator;
@@ -18,6 +19,15 @@ pub fn variable_set(variable: usize) -> Set {
 /// The set of one array.
 pub fn array_set(array: usize) -> Set {
     1 << (16 + array)
+}
+
+/// A set of procedures.
+pub type Procedures = u8;
+
+/// The bodies of the procedures, by number, and the main program.
+pub struct Program {
+    pub bodies: Vec<Statement>,
+    pub main: Statement,
 }
 
 pub enum Expression {
@@ -49,6 +59,8 @@ pub enum Form {
     AssignElement(usize, Expression, Expression),
     Loop(Box<Statement>),
     Exit,
+    /// The number of a procedure; refusal 24 leaves only earlier ones.
+    Call(usize),
 }
 
 impl Expression {
@@ -96,7 +108,7 @@ impl Statement {
             }
             Form::AssignElement(_, index, value) => vec![index, value],
             Form::Ok | Form::Tick | Form::Sequence(..) | Form::Parallel(..) => Vec::new(),
-            Form::Loop(_) | Form::Exit => Vec::new(),
+            Form::Loop(_) | Form::Exit | Form::Call(_) => Vec::new(),
         }
     }
 
@@ -104,7 +116,7 @@ impl Statement {
     pub fn parts(&self) -> Vec<&Statement> {
         match &self.form {
             Form::Ok | Form::Tick | Form::Assign(..) | Form::AssignElement(..) => Vec::new(),
-            Form::Exit => Vec::new(),
+            Form::Exit | Form::Call(_) => Vec::new(),
             Form::Sequence(p, q) | Form::Parallel(p, q) | Form::If(_, p, q) => vec![p, q],
             Form::While(_, p) | Form::Repeat(_, p) | Form::Loop(p) => vec![p],
         }
@@ -137,22 +149,73 @@ impl Statement {
         }
     }
 
-    /// The variables that it or a statement below it reads.
-    pub fn reads(&self) -> Set {
-        self.union(|statement| union(statement.expressions(), Expression::reads))
+    /// The procedures that it or a statement below it calls.
+    fn calls(&self) -> Procedures {
+        let all = self.in_node_order().into_iter();
+        all.fold(0, |called, statement| match statement.form {
+            Form::Call(procedure) => called | 1 << procedure,
+            _ => called,
+        })
     }
 
-    /// The variables that it or a statement below it assigns.
-    pub fn writes(&self) -> Set {
-        self.union(|statement| match statement.form {
+    /// The variables that it or a statement below it reads, calls left out.
+    fn own_reads(&self) -> Set {
+        union(self.in_node_order(), |statement| {
+            union(statement.expressions(), Expression::reads)
+        })
+    }
+
+    /// The variables that it or a statement below it assigns, calls left out.
+    fn own_writes(&self) -> Set {
+        union(self.in_node_order(), |statement| match statement.form {
             Form::Assign(variable, _) => variable_set(variable),
             Form::AssignElement(array, ..) => array_set(array),
             _ => 0,
         })
     }
+}
 
-    fn union(&self, own: impl Fn(&Statement) -> Set) -> Set {
-        union(self.in_node_order(), own)
+impl Program {
+    /// The bodies, and the main program as the last.
+    pub fn roots(&self) -> impl Iterator<Item = &Statement> {
+        self.bodies.iter().chain([&self.main])
+    }
+
+    /// All statements, in node order.
+    pub fn in_node_order(&self) -> Vec<&Statement> {
+        self.roots().flat_map(Statement::in_node_order).collect()
+    }
+
+    /// The procedures that a statement calls, and those that these call. Calls
+    /// are of earlier procedures, so that one look at each, from the last on,
+    /// finds all.
+    pub fn reached(&self, from: &Statement) -> Procedures {
+        let later_first = self.bodies.iter().enumerate().rev();
+        later_first.fold(from.calls(), |reached, (procedure, body)| {
+            match reached & 1 << procedure {
+                0 => reached,
+                _ => reached | body.calls(),
+            }
+        })
+    }
+
+    /// The variables that a statement, or a body that it reaches, reads.
+    pub fn reads(&self, statement: &Statement) -> Set {
+        union(self.run_by(statement), Statement::own_reads)
+    }
+
+    /// The variables that a statement, or a body that it reaches, assigns.
+    pub fn writes(&self, statement: &Statement) -> Set {
+        union(self.run_by(statement), Statement::own_writes)
+    }
+
+    /// A statement and the bodies that it reaches.
+    fn run_by<'a>(&'a self, statement: &'a Statement) -> Vec<&'a Statement> {
+        let reached = self.reached(statement);
+        let bodies = self.bodies.iter().enumerate();
+        let bodies = bodies.filter(|(procedure, _)| reached & 1 << procedure != 0);
+        let bodies = bodies.map(|(_, body)| body);
+        [statement].into_iter().chain(bodies).collect()
     }
 }
 

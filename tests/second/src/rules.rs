@@ -1,15 +1,16 @@
-//! The program's own rules, run on its tree; nothing here knows of a circuit.
+//! The program's own rules, run on its trees; nothing here knows of a circuit.
 
 use crate::contents::{Arrays, Contents};
-use crate::program::{array_set, variable_set, Expression, Form, Set, Statement};
+use crate::program::{array_set, variable_set, Expression, Form, Program, Set, Statement};
 
 /// The end of a program run from these words, if it is no later than `budget`.
-pub fn run(program: &Statement, contents: Contents, budget: u32) -> Option<Moment> {
+pub fn run(program: &Program, contents: Contents, budget: u32) -> Option<Moment> {
     let begin = Moment {
         instant: 0,
         contents,
     };
-    (Rules { budget }).end(program, begin).ok()
+    let rules = Rules { program, budget };
+    rules.end(&program.main, begin).ok()
 }
 
 /// All that the rules keep: an instant and the words.
@@ -29,11 +30,12 @@ enum Stop {
     Open,
 }
 
-struct Rules {
+struct Rules<'a> {
+    program: &'a Program,
     budget: u32,
 }
 
-impl Rules {
+impl Rules<'_> {
     /// The moment at which a statement begun at `now` ends. An exit leaves all that
     /// is around it, up to its loop.
     fn end(&self, statement: &Statement, now: Moment) -> Course {
@@ -62,6 +64,10 @@ impl Rules {
             }
             Form::Loop(p) => self.end_of_loop(p, d, now),
             Form::Exit => Err(Stop::Left(Box::new(now))),
+            Form::Call(procedure) => {
+                let body = &self.program.bodies[*procedure];
+                self.end(body, self.wait(now, d)?)
+            }
         }
     }
 
@@ -75,7 +81,7 @@ impl Rules {
     /// No side is left: refusal 22.
     fn end_of_parallel(&self, p: &Statement, q: &Statement, now: Moment) -> Course {
         let (p_end, q_end) = (self.end(p, now)?, self.end(q, now)?);
-        let (p_writes, q_writes) = (p.writes(), q.writes());
+        let (p_writes, q_writes) = (self.program.writes(p), self.program.writes(q));
         let kept = |one: Set| match one {
             _ if p_writes & one != 0 => &p_end.contents,
             _ if q_writes & one != 0 => &q_end.contents,

@@ -30,7 +30,7 @@ impl CellState {
         match kind {
             // Any instant will do: a line tells how long ago its inputs were.
             DELAY => Line::from_bytes(&self.line, 0).highs(0, delay.into()),
-            MERGE => self.held.count(),
+            MERGE | RETURN => self.held.count(),
             _ => 0,
         }
     }
@@ -54,11 +54,24 @@ impl Merge {
         }
     }
 
+    /// The same of a call's merge: only a is waited with, a lone b is forgotten.
+    fn step_of_call(self, a: bool, b: bool) -> (Merge, bool) {
+        let called = a || self.a;
+        let held = Merge {
+            a: called && !b,
+            b: false,
+        };
+        (held, called && b)
+    }
+
     /// How many bits are held.
     fn count(self) -> u32 {
         u32::from(self.a) + u32::from(self.b)
     }
 }
+
+/// How a merge of one of the two kinds goes on from the bits that it holds.
+type Step = fn(Merge, bool, bool) -> (Merge, bool);
 
 /// A wire's present value, and the one before its last change.
 #[derive(Clone, Copy, Default)]
@@ -175,7 +188,7 @@ impl<'a> Simulator<'a> {
         cells
             .map(|(number, cell)| match cell.kind {
                 DELAY => self.lines[number].highs(self.instant, cell.delay.into()),
-                MERGE => self.held[number].count(),
+                MERGE | RETURN => self.held[number].count(),
                 _ => 0,
             })
             .sum()
@@ -269,7 +282,8 @@ impl<'a> Simulator<'a> {
             OR => self.now(a) | self.now(b),
             WHEN => u16::from(self.now(a) == 1 && self.now(b) != 0),
             UNLESS => u16::from(self.now(a) == 1 && self.now(b) == 0),
-            MERGE => self.merge(cell, a, b),
+            MERGE => self.merge(cell, Merge::step, a, b),
+            RETURN => self.merge(cell, Merge::step_of_call, a, b),
             MEMORY => self.latch(cell, a, b),
             GATE if self.now(a) == 1 => self.now(b),
             GATE => 0,
@@ -293,8 +307,8 @@ impl<'a> Simulator<'a> {
     }
 
     /// Merge: held bits that changed are looked at again an instant later.
-    fn merge(&mut self, cell: usize, a: u16, b: u16) -> u16 {
-        let (held, output) = self.held[cell].step(self.now(a) == 1, self.now(b) == 1);
+    fn merge(&mut self, cell: usize, step: Step, a: u16, b: u16) -> u16 {
+        let (held, output) = step(self.held[cell], self.now(a) == 1, self.now(b) == 1);
         if held != self.held[cell] {
             self.held[cell] = held;
             self.wheel.wake(cell, self.instant + 1);

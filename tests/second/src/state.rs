@@ -1,6 +1,6 @@
 //! The published state bytes: their layout, and refusal 15.
 
-use crate::cells::{self, Netlist, Sort, DELAY, MERGE};
+use crate::cells::{self, Netlist, Sort, DELAY, MERGE, RETURN};
 use crate::contents::{Arrays, ARRAYS_LENGTH};
 use crate::line::LineBytes;
 use crate::simulate::{CellState, Merge, Simulator};
@@ -78,11 +78,12 @@ fn is_lawful(kind: u8, bytes: &[u8]) -> bool {
         Sort::Control => 1,
         Sort::Word | Sort::Array | Sort::Address => u16::MAX,
     };
-    let most_held = u8::from(kind == MERGE);
+    let most_held_a = u8::from(kind == MERGE || kind == RETURN);
+    let most_held_b = u8::from(kind == MERGE);
     number2(bytes, 0) <= most_value
         && number2(bytes, 2) <= most_value
-        && bytes[4] <= most_held
-        && bytes[5] <= most_held
+        && bytes[4] <= most_held_a
+        && bytes[5] <= most_held_b
         && bytes[6..8] == [0; 2]
         && (kind == DELAY || bytes[8..].iter().all(|&byte| byte == 0))
 }

@@ -1,6 +1,6 @@
 //! `hub assemble`: an outline back to a program's bytes.
 
-use super::{written, Command, Stop};
+use super::{written_program, Command, Stop};
 use crate::args::{Args, Options};
 use crate::input::{Form, Given};
 use crate::product;
@@ -11,7 +11,9 @@ pub const COMMAND: Command = Command {
     usage: "OUTLINE -o PROG [--times T] [--unchecked]",
     about: "makes a program's bytes of an outline",
     more: "The order of the lines counts; indentation is for the eye, and text after # is passed\n\
-        over. A program that the product refuses isn't written, unless --unchecked is given.\n\
+        over. Procedures stand first, each behind a line 'procedure 0' and so on, then the main\n\
+        program behind 'main'; the bytes don't tell how many there are, so that --procedures N has\n\
+        to go with them. A program that the product refuses isn't written, unless --unchecked is given.\n\
         The other commands take NAME.outline as it is.",
     example: "hub outline examples/two_boards.hub | hub assemble - -o two_boards.prog",
     options: Options {
@@ -30,5 +32,5 @@ fn run(args: &Args) -> Result<Done, Stop> {
         false => given.program()?.nodes,
     };
     let program = product::program_bytes(&nodes);
-    written(args, out, &program, (nodes.len(), "node"))
+    written_program(args, out, &program, given.procedures)
 }

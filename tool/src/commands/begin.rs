@@ -9,14 +9,14 @@ use crate::types::{Done, DONE};
 
 pub const COMMAND: Command = Command {
     name: "begin",
-    usage: "FILE [xK=N aK[I]=N ..] -o STATE [--times T] [--as FORM]",
+    usage: "FILE [xK=N aK[I]=N ..] -o STATE [--times T] [--as FORM] [--procedures N]",
     about: "begins a run, and writes its state to go on from",
     more:
         "FILE is a netlist, NAME.net, or a program that is compiled first. Told is also how many\n\
            pulses are in flight, or that the hub is idle. The exit status is 0.",
     example: "hub begin two_boards.net x0=3 x1=5 -o two_boards.state",
     options: Options {
-        valued: &["o", "times", "as"],
+        valued: &["o", "times", "as", "procedures"],
         flags: &["all"],
     },
     run,

@@ -6,11 +6,11 @@ use crate::args::{Args, Options};
 use crate::input::{Circuit, Given, Program};
 use crate::json::Json;
 use crate::refusals::{has_delay, least_delay, Mark};
-use crate::types::{Done, Span, Table};
+use crate::types::{Beside, Done, Span};
 
 pub const COMMAND: Command = Command {
     name: "check",
-    usage: "FILE [--times T] [--as FORM]",
+    usage: "FILE [--times T] [--as FORM] [--procedures N]",
     about: "tells whether a program is accepted, or where and why not",
     more: "Of an accepted program: its nodes, its cells, and for each delay the least that would\n\
            do. Of a refused one: line and column, the place, the rule and what to do.\n\
@@ -18,7 +18,7 @@ pub const COMMAND: Command = Command {
            says it (text, outline, program, netlist).",
     example: "hub check examples/two_boards.hub",
     options: Options {
-        valued: &["times", "as"],
+        valued: &["times", "as", "procedures"],
         flags: &[],
     },
     run,
@@ -38,7 +38,7 @@ fn run(args: &Args) -> Result<Done, Stop> {
     let given = Given::read(args, file)?;
     let circuit = given.circuit()?;
     let delays = match &circuit.program {
-        Some((program, _)) => delays(given.table(), program, &given.bytes),
+        Some((program, _)) => delays(given.beside(), program, &given.bytes),
         None => Vec::new(),
     };
     Ok(Done::printing(match args.flag("json") {
@@ -47,16 +47,16 @@ fn run(args: &Args) -> Result<Done, Stop> {
     }))
 }
 
-fn delays(table: Table, program: &Program, text: &[u8]) -> Vec<Delay> {
+fn delays(beside: Beside, program: &Program, text: &[u8]) -> Vec<Delay> {
     let nodes = &program.nodes;
-    let delayed = (0..nodes.len()).filter(|node| has_delay(table, nodes, *node));
+    let delayed = (0..nodes.len()).filter(|node| has_delay(beside, nodes, *node));
     let told = |node: usize| {
         let place = program.places.as_ref().map(|places| {
             let whole = places[node].whole;
             (Mark::new(text, whole, ""), first_line(text, whole))
         });
         let given = nodes[node].delay;
-        let least = least_delay(table, nodes, node).unwrap_or(given);
+        let least = least_delay(beside, nodes, node).unwrap_or(given);
         Delay {
             node,
             given,
@@ -79,7 +79,18 @@ fn first_line(text: &[u8], whole: Span) -> String {
 
 fn text(given: &Given, circuit: &Circuit, delays: &[Delay]) -> String {
     let nodes = match &circuit.program {
-        Some((program, _)) => counted(program.nodes.len(), "node") + ", ",
+        Some((
+            Program {
+                procedures: 0,
+                nodes,
+                ..
+            },
+            _,
+        )) => counted(nodes.len(), "node") + ", ",
+        Some((program, _)) => {
+            let procedures = counted(program.procedures, "procedure");
+            format!("{procedures}, {}, ", counted(program.nodes.len(), "node"))
+        }
         None => String::new(),
     };
     let cells = counted(circuit.netlist.cells.len(), "cell");
@@ -100,10 +111,9 @@ fn text(given: &Given, circuit: &Circuit, delays: &[Delay]) -> String {
 }
 
 fn json(given: &Given, circuit: &Circuit, delays: &[Delay]) -> Json {
-    let nodes = circuit
-        .program
-        .as_ref()
-        .map(|(program, _)| program.nodes.len());
+    let program = circuit.program.as_ref().map(|(program, _)| program);
+    let nodes = program.map(|program| program.nodes.len());
+    let procedures = program.map(|program| program.procedures);
     let delay = |delay: &Delay| {
         let mark = delay.place.as_ref().map(|(mark, _)| mark);
         Json::Object(vec![
@@ -120,6 +130,7 @@ fn json(given: &Given, circuit: &Circuit, delays: &[Delay]) -> Json {
     Json::Object(vec![
         ("outcome", Json::text("accepted")),
         ("file", Json::text(&given.name)),
+        ("procedures", Json::maybe(procedures, Json::number)),
         ("nodes", Json::maybe(nodes, Json::number)),
         ("cells", Json::number(circuit.netlist.cells.len())),
         ("finish", Json::number(circuit.netlist.finish)),

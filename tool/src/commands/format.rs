@@ -12,10 +12,11 @@ pub const COMMAND: Command = Command {
     usage: "FILE [-o TEXT]",
     about: "writes a program as text with the fewest brackets",
     more: "FILE is a text, an outline or a program's bytes. The text is read back before it is\n\
-        shown: it stands for the same program. A program with arrays, loop or exit has no text.",
+        shown: it stands for the same program. A program with arrays, loop,\n\
+        exit or procedures has no text.",
     example: "hub format examples/two_boards.hub",
     options: Options {
-        valued: &["as", "times", "o"],
+        valued: &["as", "times", "o", "procedures"],
         flags: &[],
     },
     run,
@@ -25,14 +26,14 @@ fn run(args: &Args) -> Result<Done, Stop> {
     let [file] = args.exactly(["FILE"])?;
     let given = Given::read(args, file)?;
     let program = given.program()?;
-    if !format::has_text(&program.nodes) {
+    if !format::has_text(program.procedures, &program.nodes) {
         let message =
-            "texts have no words for arrays, loop and exit; 'hub outline' shows this program";
+            "texts have no words for arrays, loop, exit and procedures; 'hub outline' shows this program";
         return Err(Fault::usage(format!("{}: {message}", given.name)).into());
     }
     let tree = format::tree(&program.nodes);
     let text = format::format(&tree.ok_or_else(|| Fault::internal("the program is no tree"))?);
-    let back = product::read_text(given.table(), text.as_bytes());
+    let back = product::read_text(given.beside(), text.as_bytes());
     if back.as_ref() != Ok(&program.bytes) {
         let message = "the text stands for another program than the one that it was made from";
         return Err(Fault::internal(message).into());

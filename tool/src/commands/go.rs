@@ -7,7 +7,7 @@ use crate::types::Done;
 
 pub const COMMAND: Command = Command {
     name: "go",
-    usage: "FILE STATE --by N [-o STATE] [--times T] [--as FORM]",
+    usage: "FILE STATE --by N [-o STATE] [--times T] [--as FORM] [--procedures N]",
     about: "goes on with a run by at most N instants, until the finish is high",
     more:
         "Told is also how many pulses are in flight, or that the hub is idle. The state is written\n\
@@ -15,7 +15,7 @@ pub const COMMAND: Command = Command {
            if the finish is high, 2 if the run is still open.",
     example: "hub go two_boards.net two_boards.state --by 50",
     options: Options {
-        valued: &["by", "o", "times", "as"],
+        valued: &["by", "o", "times", "as", "procedures"],
         flags: &["all"],
     },
     run,

@@ -160,20 +160,45 @@ fn written(
     bytes: &[u8],
     (count, thing): (usize, &str),
 ) -> Result<Done, Stop> {
+    let fields = vec![("count", Json::number(count))];
+    put(args, to, bytes, counted(count, thing), fields)
+}
+
+/// Writes a program's bytes and tells how many nodes they are, and procedures
+/// where there are any.
+fn written_program(args: &Args, to: &str, bytes: &[u8], procedures: usize) -> Result<Done, Stop> {
+    let nodes = bytes.len() / 4;
+    let mut told = counted(nodes, "node");
+    if procedures > 0 {
+        told += &format!(", {}", counted(procedures, "procedure"));
+    }
+    let count = ("count", Json::number(nodes));
+    let fields = vec![count, ("procedures", Json::number(procedures))];
+    put(args, to, bytes, told, fields)
+}
+
+/// Writes a file and tells what is in it, in words or as fields.
+fn put(
+    args: &Args,
+    to: &str,
+    bytes: &[u8],
+    told: String,
+    fields: Vec<(&'static str, Json)>,
+) -> Result<Done, Stop> {
     files::write(to, bytes)?;
     let length = bytes.len();
     Ok(Done::printing(if to == files::STANDARD {
         Vec::new()
     } else if args.flag("json") {
-        Json::Object(vec![
+        let mut all = vec![
             ("outcome", Json::text("done")),
             ("file", Json::text(to)),
             ("bytes", Json::number(length)),
-            ("count", Json::number(count)),
-        ])
-        .line()
+        ];
+        all.extend(fields);
+        Json::Object(all).line()
     } else {
-        format!("{to}: {length} bytes, {}\n", counted(count, thing)).into_bytes()
+        format!("{to}: {length} bytes, {told}\n").into_bytes()
     }))
 }
 

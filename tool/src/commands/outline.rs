@@ -13,11 +13,12 @@ pub const COMMAND: Command = Command {
     about: "shows the nodes of a program as an indented outline, which 'hub assemble' takes back",
     more:
         "Every kind has a name there, also those that no text has a word for: elements of arrays,\n\
-        loop and exit; a node that no name fits stands as its bytes. The nodes of a file of\n\
-        program bytes are shown also where the product refuses them.",
+        loop, exit and call; a node that no name fits stands as its bytes. Over each procedure and\n\
+        over the main program stands a heading. The nodes of a file of program bytes are shown also\n\
+        where the product refuses them; --procedures N tells how many procedures they begin with.",
     example: "hub outline examples/two_boards.hub",
     options: Options {
-        valued: &["as", "times", "o"],
+        valued: &["as", "times", "o", "procedures"],
         flags: &[],
     },
     run,
@@ -31,7 +32,10 @@ fn run(args: &Args) -> Result<Done, Stop> {
         Form::Program if bytes_of_nodes => product::nodes(&given.bytes),
         _ => given.program()?.nodes,
     };
-    output::put(args, outline::outline(&nodes), || Json::list(&nodes, json))
+    let procedures = given.procedures;
+    output::put(args, outline::outline(procedures, &nodes), || {
+        Json::list(&nodes, json)
+    })
 }
 
 fn json(node: &Node) -> Json {

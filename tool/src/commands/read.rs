@@ -1,6 +1,6 @@
 //! `hub read`: a text to its program's bytes.
 
-use super::{written, Command, Stop};
+use super::{written_program, Command, Stop};
 use crate::args::{Args, Options};
 use crate::input::Given;
 use crate::types::Done;
@@ -12,7 +12,7 @@ pub const COMMAND: Command = Command {
     more: "The bytes are those that hubtext writes and hubrun reads; a refused text writes none.",
     example: "hub read examples/two_boards.hub -o two_boards.prog",
     options: Options {
-        valued: &["o", "times", "as"],
+        valued: &["o", "times", "as", "procedures"],
         flags: &[],
     },
     run,
@@ -23,6 +23,5 @@ fn run(args: &Args) -> Result<Done, Stop> {
     let to = args.needed("o")?;
     let given = Given::read(args, file)?;
     let program = given.program()?;
-    let nodes = program.nodes.len();
-    written(args, to, &program.bytes, (nodes, "node"))
+    written_program(args, to, &program.bytes, program.procedures)
 }

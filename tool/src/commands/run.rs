@@ -13,7 +13,7 @@ use crate::types::{Answer, Done, End, Fault, Refusal, DONE, OPEN};
 
 pub const COMMAND: Command = Command {
     name: "run",
-    usage: "FILE [xK=N aK[I]=N ..] [--budget N] [--times T] [--all] [--as FORM]",
+    usage: "FILE [xK=N aK[I]=N ..] [--budget N] [--times T] [--all] [--as FORM] [--procedures N]",
     about: "runs a program on its circuit, and tells what the rules say",
     more: "FILE is a text; NAME.outline is an outline, NAME.prog a program's bytes, NAME.net a\n\
            netlist, or --as says it (text, outline, program, netlist). x0=3 is the word that x0\n\
@@ -23,7 +23,7 @@ pub const COMMAND: Command = Command {
            elements that aren't 0. The exit status is 0 if the run ended, 2 if it is still open.",
     example: "hub run examples/two_boards.hub x0=3 x1=5",
     options: Options {
-        valued: &["budget", "times", "as"],
+        valued: &["budget", "times", "as", "procedures"],
         flags: &["all"],
     },
     run,
@@ -46,7 +46,7 @@ fn run(args: &Args) -> Result<Done, Stop> {
     let rules = match &circuit.program {
         None => None,
         Some((program, _)) => {
-            let end = product::reference(given.table(), &program.bytes, &start, budget);
+            let end = product::reference(given.beside(), &program.bytes, &start, budget);
             Some(end.map_err(|met| given.refused(met))?)
         }
     };

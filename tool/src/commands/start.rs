@@ -7,7 +7,7 @@ use crate::types::{Done, DONE};
 
 pub const COMMAND: Command = Command {
     name: "start",
-    usage: "FILE STATE [-o STATE] [--times T] [--as FORM]",
+    usage: "FILE STATE [-o STATE] [--times T] [--as FORM] [--procedures N]",
     about: "starts an idle hub again, by a start pulse in the next instant",
     more:
         "A hub is idle when no pulse is in flight, as it is from a program's end on. The program\n\
@@ -16,7 +16,7 @@ pub const COMMAND: Command = Command {
            is. The exit status is 0.",
     example: "hub start two_boards.net two_boards.state",
     options: Options {
-        valued: &["o", "times", "as"],
+        valued: &["o", "times", "as", "procedures"],
         flags: &["all"],
     },
     run,

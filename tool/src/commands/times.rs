@@ -5,7 +5,7 @@ use crate::args::{Args, Options};
 use crate::json::Json;
 use crate::refusals::{self, Report};
 use crate::times::{self, OPERATORS};
-use crate::types::{Done, Fault, Refusal, Table};
+use crate::types::{Beside, Done, Fault, Refusal, Table};
 use crate::{files, product};
 
 pub const COMMAND: Command = Command {
@@ -60,7 +60,7 @@ fn make(args: &Args, out: &str) -> Result<Done, Stop> {
     }
     let table = times::file(&times)?;
     // Times that are out of range are the product's to refuse.
-    if let Err(met) = product::check(Some(&table), &OK) {
+    if let Err(met) = product::check(Beside::table(Some(&table)), &OK) {
         return Err(refused(&args.given, met).into());
     }
     files::write(out, &table)?;

@@ -23,7 +23,7 @@ pub const COMMAND: Command = Command {
         instants.",
     example: "hub wave examples/two_boards.hub x0=1 x1=2 --to 40",
     options: Options {
-        valued: &["as", "times", "from", "to", "starts", "wires", "o"],
+        valued: &["as", "times", "from", "to", "starts", "wires", "o", "procedures"],
         flags: &["all"],
     },
     run,
@@ -77,10 +77,13 @@ fn instant(args: &Args, circuit: &Circuit, name: &str) -> Result<Option<u32>, St
     Ok(Some(instant))
 }
 
-fn check_reach(circuit: &Circuit, name: &str, instant: u32) -> Result<(), Report> {
-    product::check_budget(&circuit.file, instant).map_err(|met| Report {
-        remedy: format!("give a smaller --{name}"),
-        ..refusals::plain(&format!("--{name}"), met)
+fn check_reach(circuit: &Circuit, name: &str, instant: u32) -> Result<(), Stop> {
+    product::check_budget(&circuit.file, instant).map_err(|met| {
+        let report = Report {
+            remedy: format!("give a smaller --{name}"),
+            ..refusals::plain(&format!("--{name}"), met)
+        };
+        report.into()
     })
 }
 

@@ -96,6 +96,19 @@ impl Block {
         self
     }
 
+    /// With a frame around all of it, or with its title before that of the frame
+    /// that is there already.
+    pub fn named(mut self, title: String) -> Block {
+        let (columns, rows) = (0..self.width, 0..self.height);
+        match self.frames.first_mut() {
+            Some(frame) if frame.columns == columns && frame.rows == rows => {
+                frame.title = format!("{title}, {}", frame.title);
+                self
+            }
+            _ => self.framed(title),
+        }
+    }
+
     /// The smallest frame that holds all of these places.
     pub fn frame_of(&self, places: &[Placed]) -> Option<usize> {
         let holds = |frame: &Frame| {

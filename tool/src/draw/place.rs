@@ -12,7 +12,8 @@ use std::collections::HashMap;
 /// How many columns a sequence may take before its parts go below each other.
 const WIDE: usize = 9;
 
-/// All of a program's cells: start, the program, and the words beside it.
+/// All of a program's cells: start, the program below its procedures, and the
+/// words beside it.
 pub fn placed(netlist: &Netlist, trace: &Trace, labels: &Labels, all: bool) -> Block {
     let places = Places::of(netlist, trace, labels);
     let shown = shown(netlist, all);
@@ -22,7 +23,7 @@ pub fn placed(netlist: &Netlist, trace: &Trace, labels: &Labels, all: bool) -> B
             first = first.below(Block::cell(fixed as u16));
         }
     }
-    let program = first.beside(places.statement(&labels.tree));
+    let program = first.beside(places.program(&labels.trees));
     with_finish(program, netlist).beside(places.words(netlist, &shown))
 }
 
@@ -49,6 +50,31 @@ impl<'p> Places<'p> {
         self.cells[&(tree.at, role)]
     }
 
+    /// The bodies, each in a frame of its own, and the main program below them.
+    fn program(&self, trees: &[Tree]) -> Block {
+        let mut block = Block::default();
+        for (number, tree) in trees.iter().enumerate() {
+            let own = match number + 1 < trees.len() {
+                true => self.body(number, tree, trees),
+                false => self.statement(tree),
+            };
+            block = block.below(own);
+        }
+        block
+    }
+
+    /// A body, behind the ors that join its callers.
+    fn body(&self, number: usize, tree: &Tree, trees: &[Tree]) -> Block {
+        let mut block = Block::default();
+        let callers = trees.iter().flat_map(|root| callers(root, number));
+        let joined = callers.filter_map(|call| self.cells.get(&(call, "callers")));
+        for (row, join) in joined.enumerate() {
+            block = block.with(*join, 0, row);
+        }
+        let body = block.beside(self.statement(tree));
+        body.named(format!("procedure {number}"))
+    }
+
     fn statement(&self, tree: &Tree) -> Block {
         let block = match tree.node.kind {
             17 => Block::cell(self.cell(tree, "delay")),
@@ -59,6 +85,10 @@ impl<'p> Places<'p> {
             22 => self.while_loop(tree),
             23 => self.repeat_loop(tree),
             25 => self.exit_loop(tree),
+            27 => {
+                let delay = Block::cell(self.cell(tree, "delay"));
+                delay.with(self.cell(tree, "finish"), 1, 0)
+            }
             _ => Block::default(),
         };
         let (place, head) = (&self.labels.places[tree.at], &self.labels.heads[tree.at]);
@@ -220,7 +250,8 @@ impl<'p> Places<'p> {
         let origin = self.trace.origins[usize::from(cell)];
         let joins = matches!(origin.role, "clock" | "data" | "address");
         let node = origin.node.filter(|_| joins)?;
-        let Node { kind, n, .. } = find(&self.labels.tree, node)?.node;
+        let mut trees = self.labels.trees.iter();
+        let Node { kind, n, .. } = trees.find_map(|tree| find(tree, node))?.node;
         Some(match (kind, origin.role) {
             (24, "address") => self.trace.array(n) + 1,
             (24, _) => self.trace.array(n),
@@ -235,6 +266,17 @@ fn exits(tree: &Tree) -> Vec<usize> {
         25 => Vec::new(),
         26 => vec![tree.at],
         _ => tree.parts.iter().flat_map(exits).collect(),
+    }
+}
+
+/// The calls of a procedure.
+fn callers(tree: &Tree, procedure: usize) -> Vec<usize> {
+    match tree.node.kind {
+        27 if usize::from(tree.node.n) == procedure => vec![tree.at],
+        _ => {
+            let parts = tree.parts.iter();
+            parts.flat_map(|part| callers(part, procedure)).collect()
+        }
     }
 }
 

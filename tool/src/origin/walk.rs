@@ -1,6 +1,6 @@
 //! The layout of a program's cells, with the node and the role of each.
 
-use super::{array_behind, subtree_end, Ends, Trace};
+use super::{array_behind, roots, subtree_end, Ends, Trace};
 use crate::store::{ARRAYS, VARIABLES};
 use crate::types::{Cell, Netlist, Node, Origin};
 
@@ -11,17 +11,26 @@ type Contributions = [Vec<(u16, usize)>; VARIABLES + ARRAYS];
 /// The cell that is never high.
 const GROUND: u16 = 1;
 
+const CALL: u8 = 27;
+
 /// The netlist of an accepted program's nodes, and where its cells come from.
-pub fn lay_out(nodes: &[Node]) -> (Netlist, Trace) {
+pub fn lay_out(procedures: usize, nodes: &[Node]) -> (Netlist, Trace) {
     let mut walk = Walk::new(nodes);
+    let (roots, _) = roots(nodes);
+    let (bodies, main) = roots.split_at(procedures);
     walk.put(Cell::new(32, 0, 0, 0), None, "start");
     walk.put(Cell::new(33, 0, 0, 0), None, "ground");
     walk.put(Cell::new(1, 0, 0, 0), None, "zero");
-    let clocks = walk.delays();
+    let (clocks, callers) = walk.delays(procedures);
     let clocks = walk.joined(35, &clocks, GROUND, "clock");
     walk.stores(&clocks);
     walk.next_delay = 3;
-    let finish = walk.statement(0, 0);
+    for (body, callers) in bodies.iter().zip(&callers) {
+        let start = walk.chain(35, callers, GROUND, "callers");
+        let finish = walk.statement(*body, start);
+        walk.returns.push(finish);
+    }
+    let finish = walk.statement(main[0], 0);
     walk.feed_stores();
     walk.found(finish)
 }
@@ -37,6 +46,8 @@ struct Walk<'a> {
     index_gates: Contributions,
     /// The starts of the exits that end the loop around, with the exit.
     exits: Vec<(u16, usize)>,
+    /// The finishes of the bodies so far.
+    returns: Vec<u16>,
     first_memory: u16,
     /// The delay cell of the next statement that has one: they were put in
     /// node order, and the walk comes to each when it is next.
@@ -54,6 +65,7 @@ impl<'a> Walk<'a> {
             gates: Contributions::default(),
             index_gates: Contributions::default(),
             exits: Vec::new(),
+            returns: Vec::new(),
             first_memory: 0,
             next_delay: 0,
         }
@@ -84,9 +96,11 @@ impl<'a> Walk<'a> {
         self.put(Cell::new(kind, 0, a, b), Some(node), role)
     }
 
-    /// The delay cells in node order; gives the first delays of assignments.
-    fn delays(&mut self) -> Contributions {
+    /// The delay cells in node order; gives the first delays of assignments, and
+    /// the delays of each procedure's callers.
+    fn delays(&mut self, procedures: usize) -> (Contributions, Vec<Vec<(u16, usize)>>) {
         let mut clocks = Contributions::default();
+        let mut callers = vec![Vec::new(); procedures];
         for (k, node) in self.nodes.iter().enumerate() {
             if node.delay == 0 {
                 continue;
@@ -96,8 +110,11 @@ impl<'a> Walk<'a> {
                 self.put(Cell::new(34, 1, first, 0), Some(k), "finish");
                 clocks[written].push((first, k));
             }
+            if node.kind == CALL {
+                callers[usize::from(node.n)].push((first, k));
+            }
         }
-        clocks
+        (clocks, callers)
     }
 
     /// The memories, and behind them the arrays, each with its address.
@@ -221,6 +238,11 @@ impl<'a> Walk<'a> {
             26 => {
                 self.exits.push((start, at));
                 GROUND
+            }
+            CALL => {
+                let delay = self.delayed(start);
+                let body = self.returns[usize::from(self.nodes[at].n)];
+                self.cell(39, [delay, body], at, "finish")
             }
             _ => self.repeat_loop(at, start),
         };

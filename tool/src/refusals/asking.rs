@@ -1,44 +1,51 @@
 //! What a refusal leaves to be found out, by asking the product about programs,
 //! texts and netlists that differ a little from the refused one.
 
+use super::calls;
 use crate::kinds::idle_array;
 use crate::origin::subtree_end;
 use crate::product;
-use crate::store::ARRAYS;
-use crate::types::{Cell, Netlist, Node, Refusal, Table};
+use crate::store::{ARRAYS, VARIABLES};
+use crate::types::{Beside, Cell, Netlist, Node, Refusal};
+use std::ops::Range;
 
 /// The least delay of a node whose program has no other delay that is too
 /// small before it; none where 255 is too small.
-pub fn least_delay(table: Table, nodes: &[Node], node: usize) -> Option<u8> {
+pub fn least_delay(beside: Beside, nodes: &[Node], node: usize) -> Option<u8> {
     let too_small = |delay: &u8| {
         let mut nodes = nodes.to_vec();
         nodes[node].delay = *delay;
-        asked(table, &nodes) == Err(Refusal::new(7, node))
+        asked(beside, &nodes) == Err(Refusal::new(7, node))
     };
     let delays: Vec<u8> = (0..=255).collect();
     delays.get(delays.partition_point(too_small)).copied()
 }
 
 /// Whether a node of an accepted program has a use for its delay.
-pub fn has_delay(table: Table, nodes: &[Node], node: usize) -> bool {
+pub fn has_delay(beside: Beside, nodes: &[Node], node: usize) -> bool {
     let mut nodes = nodes.to_vec();
     nodes[node].delay = 255;
-    asked(table, &nodes) != Err(Refusal::new(3, node))
+    asked(beside, &nodes) != Err(Refusal::new(3, node))
 }
 
-/// The first uses, one on each side, for which a parallel node is refused. The
-/// product is asked about the parallel node with these two uses alone: other
-/// reads become constants, and other writes, and reads of elements, go to
-/// variables and arrays of each side's own.
-pub fn clash(table: Table, nodes: &[Node], parallel: usize) -> Option<[usize; 2]> {
-    let middle = subtree_end(nodes, parallel + 1);
-    let end = subtree_end(nodes, middle);
-    let uses =
-        |from: usize, to: usize| (from..to).filter(|k| matches!(nodes[*k].kind, 2 | 10 | 18 | 24));
-    for left in uses(parallel + 1, middle) {
-        for right in uses(middle, end) {
-            let alone = with_uses(&nodes[..end], parallel, middle, [left, right]);
-            if asked(table, &alone) == Err(Refusal::new(8, 0)) {
+/// The first uses, one on each side, for which a parallel node is refused, be it
+/// in a body that a side reaches. The product is asked about two statements side
+/// by side that have these uses alone.
+pub fn clash(beside: Beside, nodes: &[Node], parallel: usize) -> Option<[usize; 2]> {
+    let [left, right] = calls::sides(nodes, parallel);
+    let reached = |side: &Range<usize>| calls::run_by(beside.procedures, nodes, side.clone());
+    let uses = |side| {
+        let run = reached(side).into_iter();
+        run.filter(|k| matches!(nodes[*k].kind, 2 | 10 | 18 | 24))
+    };
+    let alone = Beside {
+        procedures: 0,
+        ..beside
+    };
+    for left in uses(&left) {
+        for right in uses(&right) {
+            let sides = with_uses([nodes[left], nodes[right]]);
+            if asked(alone, &sides) == Err(Refusal::new(8, 0)) {
                 return Some([left, right]);
             }
         }
@@ -49,13 +56,13 @@ pub fn clash(table: Table, nodes: &[Node], parallel: usize) -> Option<[usize; 2]
 /// The loop around a refused exit and the innermost parallel node between the
 /// two, if that is what the exit is refused for: the product has nothing to say
 /// about it where parallel nodes are sequences.
-pub fn between(table: Table, nodes: &[Node], exit: usize) -> Option<[usize; 2]> {
+pub fn between(beside: Beside, nodes: &[Node], exit: usize) -> Option<[usize; 2]> {
     let apart = |node: &Node| match node.kind {
         20 => Node { kind: 19, ..*node },
         _ => *node,
     };
     let apart: Vec<Node> = nodes.iter().map(apart).collect();
-    if asked(table, &apart) == Err(Refusal::new(22, exit)) {
+    if asked(beside, &apart) == Err(Refusal::new(22, exit)) {
         return None;
     }
     let holds = |node: &usize| exit < subtree_end(nodes, *node);
@@ -66,36 +73,29 @@ pub fn between(table: Table, nodes: &[Node], exit: usize) -> Option<[usize; 2]> 
     Some([around(25)?, around(20)?])
 }
 
-/// A parallel node as a program, with two uses of variables or arrays as they
-/// are.
-fn with_uses(nodes: &[Node], parallel: usize, middle: usize, kept: [usize; 2]) -> Vec<Node> {
-    let taken = kept.map(|k| nodes[k].n);
-    // Two of the four arrays are free, and these are numbers of variables too.
-    let mut free = (0..ARRAYS as u16).filter(|number| !taken.contains(number));
-    let [left, right] = [free.next(), free.next()].map(|number| number.unwrap_or(0));
-    let changed = |(k, node): (usize, &Node)| match node.kind {
-        _ if kept.contains(&k) => *node,
-        2 => Node {
-            kind: 1,
-            delay: 0,
-            n: 0,
-        },
-        10 | 18 | 24 => Node {
-            n: if k < middle { left } else { right },
-            ..*node
-        },
-        _ => *node,
-    };
+/// Two uses of variables or arrays, side by side; what is read goes to variables
+/// of each side's own.
+fn with_uses(uses: [Node; 2]) -> Vec<Node> {
+    let node = |kind, delay, n| Node { kind, delay, n };
+    let taken = uses.map(|used| used.n);
+    let mut free = (0..VARIABLES as u16).filter(|variable| !taken.contains(variable));
+    let mut nodes = vec![node(20, 0, 0)];
+    for used in uses {
+        let zero = node(1, 0, 0);
+        let own = node(18, 255, free.next().unwrap_or(0));
+        let writes = node(used.kind, 255, used.n);
+        match used.kind {
+            2 => nodes.extend([own, used]),
+            10 => nodes.extend([own, used, zero]),
+            18 => nodes.extend([writes, zero]),
+            _ => nodes.extend([writes, zero, zero]),
+        }
+    }
     nodes
-        .iter()
-        .enumerate()
-        .skip(parallel)
-        .map(changed)
-        .collect()
 }
 
-fn asked(table: Table, nodes: &[Node]) -> Result<(), Refusal> {
-    product::check(table, &product::program_bytes(nodes))
+fn asked(beside: Beside, nodes: &[Node]) -> Result<(), Refusal> {
+    product::check(beside, &product::program_bytes(nodes))
 }
 
 /// Whether the finish is all that a refused netlist has wrong: with the start
@@ -168,17 +168,17 @@ const WORDS: &[(&str, &str)] = &[
 ];
 
 /// The words with which the beginning of a text can go on.
-pub fn words_that_fit(table: Table, begun: &[u8]) -> Vec<&'static str> {
+pub fn words_that_fit(beside: Beside, begun: &[u8]) -> Vec<&'static str> {
     let fits = |word: &str| {
         let text = [begun, b" ", word.as_bytes()].concat();
         let broken = Refusal::new(18, begun.len() + 1);
-        let met = product::read_text(table, &text).err();
+        let met = product::read_text(beside, &text).err();
         met.is_none_or(|met| met != broken && met.number != 17)
     };
     let words = WORDS.iter().filter(|(word, _)| fits(word));
     let mut named: Vec<&str> = words.map(|(_, name)| *name).collect();
     let whole = Err(Refusal::new(18, begun.len()));
-    if product::read_text(table, begun) != whole {
+    if product::read_text(beside, begun) != whole {
         named.push("the end of the text");
     }
     named

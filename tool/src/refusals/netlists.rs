@@ -37,7 +37,7 @@ fn of_cell(mut report: Report, netlist: &Netlist) -> Report {
     ));
     if asking::finish_alone(netlist) {
         report.rule = "the finish is a word wire".into();
-        report.remedy = "name a control wire, of kinds 32 to 38, as the finish".into();
+        report.remedy = "name a control wire, of kinds 32 to 39, as the finish".into();
         return report;
     }
     let (rule, remedy) = match asking::wrong_field(netlist, place) {

@@ -1,24 +1,27 @@
-//! Refusals 1 to 8 and 22, of programs.
+//! Refusals 1 to 8, 22, 24 and 25, of programs.
 
-use super::{asking, least_delay, Mark, Report};
+use super::{asking, calls, least_delay, Mark, Report};
 use crate::answers::counted;
 use crate::input::{Form, Given};
 use crate::product;
 use crate::source::Source;
 use crate::types::{Fault, Node, Refusal};
 
+/// The most procedures of a program.
+const MOST_PROCEDURES: usize = 8;
+
 /// The refusal of a program that was given as its bytes.
 pub fn of_bytes(report: Report, given: &Given) -> Report {
     of_nodes(report, given, &product::nodes(&given.bytes), None)
 }
 
-/// Refusals 1 to 8 and 22 of a text's or an outline's program. The product doesn't
-/// tell the bytes of a text's program that it refuses: it is asked about the
-/// tool's own reading, which must meet the same refusal.
+/// The same of a text's or an outline's program. The product doesn't tell the
+/// bytes of a text's program that it refuses: it is asked about the tool's own
+/// reading, which must meet the same refusal.
 pub fn of_source(report: Report, given: &Given) -> Result<Report, Fault> {
     let source = given.source()?;
     let bytes = product::program_bytes(&source.nodes);
-    if product::check(given.table(), &bytes) != Err(report.refusal) {
+    if product::check(given.beside(), &bytes) != Err(report.refusal) {
         return Err(given.misread());
     }
     Ok(of_nodes(report, given, &source.nodes, Some(&source)))
@@ -26,6 +29,12 @@ pub fn of_source(report: Report, given: &Given) -> Result<Report, Fault> {
 
 fn of_nodes(mut report: Report, given: &Given, nodes: &[Node], source: Option<&Source>) -> Report {
     match report.refusal.number {
+        1 if given.procedures > MOST_PROCEDURES => {
+            report.rule = "a program has at most eight procedures".into();
+            report.remedy =
+                "put the steps of two procedures into one, or into their callers".into();
+            report.found = Some(counted(given.procedures, "procedure"));
+        }
         1 if source.is_none() => {
             report.found = Some(format!("{} bytes", given.bytes.len()));
         }
@@ -36,6 +45,8 @@ fn of_nodes(mut report: Report, given: &Given, nodes: &[Node], source: Option<&S
         7 => of_delay(&mut report, given, nodes, source),
         8 => of_clash(&mut report, given, nodes, source),
         22 => of_exit(&mut report, given, nodes, source),
+        24 => of_call(&mut report, given, nodes, source),
+        25 => of_shared(&mut report, given, nodes, source),
         _ => of_node(&mut report, given, nodes, source),
     }
     report
@@ -59,10 +70,11 @@ fn of_node(report: &mut Report, given: &Given, nodes: &[Node], source: Option<&S
 
 fn of_delay(report: &mut Report, given: &Given, nodes: &[Node], source: Option<&Source>) {
     let place = report.refusal.place;
-    report.least = least_delay(given.table(), nodes, place);
+    report.least = least_delay(given.beside(), nodes, place);
     let own = match nodes[place].kind {
         24 => Some("this delay is too small for index and value, which both have to settle in it"),
         25 => Some("this delay is too small: going round a loop takes at least 1 instant"),
+        27 => Some("this delay is too small: a procedure starts at least 1 instant after its call"),
         _ => None,
     };
     if let Some(rule) = own {
@@ -90,7 +102,7 @@ fn of_delay(report: &mut Report, given: &Given, nodes: &[Node], source: Option<&
 
 fn of_clash(report: &mut Report, given: &Given, nodes: &[Node], source: Option<&Source>) {
     let place = report.refusal.place;
-    let Some(uses) = asking::clash(given.table(), nodes, place) else {
+    let Some(uses) = asking::clash(given.beside(), nodes, place) else {
         return;
     };
     report.uses = Some(uses);
@@ -138,7 +150,7 @@ fn of_clash(report: &mut Report, given: &Given, nodes: &[Node], source: Option<&
 fn of_exit(report: &mut Report, given: &Given, nodes: &[Node], source: Option<&Source>) {
     let exit = report.refusal.place;
     let mut told = vec![(exit, "")];
-    match asking::between(given.table(), nodes, exit) {
+    match asking::between(given.beside(), nodes, exit) {
         Some([around, parallel]) => {
             report.rule =
                 "a parallel statement stands between this exit and the loop around it".into();
@@ -152,12 +164,65 @@ fn of_exit(report: &mut Report, given: &Given, nodes: &[Node], source: Option<&S
             report.remedy = "put it into a loop; it ends no while and no repeat".into();
         }
     }
+    show(report, given, nodes, source, &told);
+}
+
+fn of_call(report: &mut Report, given: &Given, nodes: &[Node], source: Option<&Source>) {
+    let call = report.refusal.place;
+    let (root, called) = (calls::root_of(nodes, call), usize::from(nodes[call].n));
+    if called == root && root < given.procedures {
+        report.rule = "this procedure calls itself".into();
+        report.remedy = "go round in a loop".into();
+    } else if called < given.procedures {
+        report.rule = format!("procedure {called} stands later than this call");
+        report.remedy = "put the procedure before those that call it".into();
+    } else {
+        report.rule = format!("there is no procedure {called}");
+        report.remedy = match given.procedures {
+            0 => "write the procedure before the main program".into(),
+            1 => "call procedure 0, the only one that there is".into(),
+            count => format!("call one of procedures 0 to {}", count - 1),
+        };
+    }
+    show(report, given, nodes, source, &[(call, "")]);
+}
+
+fn of_shared(report: &mut Report, given: &Given, nodes: &[Node], source: Option<&Source>) {
+    let parallel = report.refusal.place;
+    let Some((procedure, sides)) = calls::shared(given.procedures, nodes, parallel) else {
+        return;
+    };
+    report.rule = format!("both sides of a parallel statement reach procedure {procedure}");
+    report.remedy =
+        "put the sides one after the other in a sequence, or give each a procedure of its own"
+            .into();
+    let caption = |call: usize| match usize::from(nodes[call].n) {
+        called if called == procedure => format!("procedure {procedure} is called here"),
+        called => format!("procedure {called} is called here, which reaches procedure {procedure}"),
+    };
+    let [left, right] = sides.map(caption);
+    let told = [
+        (parallel, "these two sides run together"),
+        (sides[0], &left),
+        (sides[1], &right),
+    ];
+    show(report, given, nodes, source, &told);
+}
+
+/// Shows nodes with what is said of each, in the text where there is one.
+fn show(
+    report: &mut Report,
+    given: &Given,
+    nodes: &[Node],
+    source: Option<&Source>,
+    told: &[(usize, &str)],
+) {
     match source {
         Some(source) => {
-            let mark = |(node, caption): (usize, &str)| {
-                Mark::new(&given.bytes, source.places[node].mark, caption)
+            let mark = |(node, caption): &(usize, &str)| {
+                Mark::new(&given.bytes, source.places[*node].mark, *caption)
             };
-            report.marks = told.into_iter().map(mark).collect();
+            report.marks = told.iter().map(mark).collect();
         }
         None => {
             let shown = told.iter().map(|(node, _)| node_shown(nodes, *node));

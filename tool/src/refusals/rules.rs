@@ -56,7 +56,7 @@ pub const RULES: &[Rule] = &[
         2,
         Counts::Nodes,
         "this node has a kind that no node has",
-        "use a kind from 1 to 10 or from 16 to 26",
+        "use a kind from 1 to 10 or from 16 to 27",
     ),
     rule_of(
         3,
@@ -186,5 +186,17 @@ pub const RULES: &[Rule] = &[
         Counts::Nothing,
         "a hub is started again only when it is idle, and here pulses are still in flight",
         "go on with 'hub go' until it is idle, and start it then",
+    ),
+    rule_of(
+        24,
+        Counts::Nodes,
+        "a procedure calls only procedures that stand before it",
+        "call an earlier procedure",
+    ),
+    rule_of(
+        25,
+        Counts::Nodes,
+        "both sides of a parallel statement reach one procedure",
+        "put the sides one after the other, or give each a procedure of its own",
     ),
 ];

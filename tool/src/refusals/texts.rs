@@ -52,7 +52,7 @@ pub fn of_grammar(mut report: Report, given: &Given) -> Report {
         report.rule = "the text ends too early".to_string();
         word = end_of_words(text);
     }
-    let fitting = asking::words_that_fit(given.table(), &text[..place]);
+    let fitting = asking::words_that_fit(given.beside(), &text[..place]);
     if !fitting.is_empty() {
         report.remedy = format!("what can stand here: {}", fitting.join("  "));
     }

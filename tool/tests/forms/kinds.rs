@@ -1,7 +1,7 @@
 //! What the tool knows of kinds, held against the product.
 
 use hub::kinds::{idle_array, is_control, is_idle, is_store, CELLS, IDLE, MEMORY};
-use hub::types::{Cell, Netlist, Refusal};
+use hub::types::{Beside, Cell, Netlist, Refusal};
 use hub::{listing, product};
 
 /// A small netlist with a cell of this kind, and that cell's number. Arrays
@@ -28,7 +28,7 @@ fn with(words: &str) -> (Netlist, u16) {
 /// start, or a word, the zero.
 fn wired(kind: u8, words: &str) -> String {
     let [a, b] = match kind {
-        34 | 35 | 38 => ["start", "start"],
+        34 | 35 | 38 | 39 => ["start", "start"],
         36 | 37 | 40 | 41 | 42 => ["start", "2"],
         44 => ["a0", "2"],
         _ => ["2", "2"],
@@ -83,7 +83,7 @@ fn accepted_at_3(cell: Cell) -> bool {
 /// Idle memories and arrays are what unused words and arrays are compiled to.
 #[test]
 fn idle_memories_and_arrays_are_those_of_unused_words() {
-    let ok = product::compile(None, &[16, 0, 0, 0]).expect("a netlist");
+    let ok = product::compile(Beside::NOTHING, &[16, 0, 0, 0]).expect("a netlist");
     let netlist = product::read_netlist(&ok).expect("cells");
     let arrays: Vec<Cell> = (0..4).flat_map(idle_array).collect();
     assert_eq!(netlist.cells[3..19], [IDLE; 16]);

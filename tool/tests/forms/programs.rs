@@ -1,10 +1,23 @@
 //! Programs to try the tool on: the examples, and accepted ones that are
 //! generated from a number, so that a failure can be tried again.
 
-use hub::types::Node;
+use hub::types::{Beside, Node};
 use hub::{assemble, product};
 use std::fs;
 use std::path::{Path, PathBuf};
+
+/// A program's bytes, and how many procedures they begin with.
+#[derive(Clone, Debug, PartialEq, Eq)]
+pub struct Program {
+    pub procedures: usize,
+    pub bytes: Vec<u8>,
+}
+
+impl Program {
+    pub fn beside(&self) -> Beside<'static> {
+        Beside::procedures(self.procedures)
+    }
+}
 
 /// How many programs are generated for a test.
 const COUNT: u64 = 300;
@@ -42,32 +55,41 @@ fn examples_with(end: &str) -> Vec<(String, String)> {
     files.iter().map(|file| (name(file), text(file))).collect()
 }
 
-/// The programs that can be texts: those without arrays and exits.
+/// The programs that can be texts: those without arrays, exits and procedures.
 pub fn texts() -> Vec<Vec<u8>> {
-    let mut programs = programs();
-    programs.retain(|program| hub::format::has_text(&product::nodes(program)));
-    assert!(programs.len() > 100);
-    programs
+    let has_text = |program: &Program| {
+        hub::format::has_text(program.procedures, &product::nodes(&program.bytes))
+    };
+    let texts = programs().into_iter().filter(has_text);
+    let texts: Vec<Vec<u8>> = texts.map(|program| program.bytes).collect();
+    assert!(texts.len() > 100);
+    texts
 }
 
 /// The programs of the examples, and generated ones, accepted by the product.
-pub fn programs() -> Vec<Vec<u8>> {
+pub fn programs() -> Vec<Program> {
     let examples = examples().into_iter().map(|(name, text)| {
-        product::read_text(None, text.as_bytes()).unwrap_or_else(|met| panic!("{name}: {met}"))
+        let read = product::read_text(Beside::NOTHING, text.as_bytes());
+        let bytes = read.unwrap_or_else(|met| panic!("{name}: {met}"));
+        let procedures = 0;
+        Program { procedures, bytes }
     });
     let outlines = outlines().into_iter().map(|(name, text)| {
         let source = assemble::assemble(&text).unwrap_or_else(|wrong| panic!("{name}: {wrong:?}"));
-        product::program_bytes(&source.nodes)
+        let bytes = product::program_bytes(&source.nodes);
+        let procedures = source.procedures;
+        Program { procedures, bytes }
     });
     let generated = (0..COUNT).map(generated);
     examples.chain(outlines).chain(generated).collect()
 }
 
-/// A program that a number stands for; of two numbers one has arrays, and loops
-/// that exits end.
-fn generated(seed: u64) -> Vec<u8> {
+/// A program that a number stands for; of two numbers one has arrays, loops that
+/// exits end, and perhaps procedures.
+fn generated(seed: u64) -> Program {
     let mut source = Source {
         chance: Chance(seed * 2 + 1),
+        bodies: 0,
         nodes: Vec::new(),
     };
     let size = 1 + source.chance.below(40);
@@ -79,10 +101,19 @@ fn generated(seed: u64) -> Vec<u8> {
         loops: seed % 2 == 1,
         inside: false,
     };
+    for _ in 0..source.chance.below(4) * (seed as usize % 2) {
+        let size = 1 + source.chance.below(4);
+        source.statement(size, scope);
+        source.bodies += 1;
+    }
     source.statement(size, scope);
     source.nodes.truncate(MOST);
-    let program = product::program_bytes(&source.nodes);
-    product::check(None, &program).unwrap_or_else(|met| panic!("program {seed}: {met}"));
+    let program = Program {
+        procedures: source.bodies,
+        bytes: product::program_bytes(&source.nodes),
+    };
+    let checked = product::check(program.beside(), &program.bytes);
+    checked.unwrap_or_else(|met| panic!("program {seed}: {met}"));
     program
 }
 
@@ -101,6 +132,8 @@ impl Chance {
 
 struct Source {
     chance: Chance,
+    /// The procedures so far.
+    bodies: usize,
     nodes: Vec<Node>,
 }
 
@@ -174,7 +207,13 @@ impl Source {
         }
     }
 
+    /// A call stands in no side of a parallel node, for bodies use all variables.
     fn single(&mut self, scope: Scope) {
+        let may_call = self.bodies > 0 && scope.variables.len() == 16;
+        if may_call && self.chance.below(3) == 0 {
+            let procedure = self.chance.below(self.bodies) as u16;
+            return self.delayed(27, procedure, 0, scope);
+        }
         match self.chance.below(if scope.inside { 8 } else { 5 }) {
             5.. => self.put(26, 0, 0),
             0 => self.put(16, 0, 0),
@@ -243,9 +282,12 @@ impl Source {
 #[test]
 fn every_kind_is_among_the_programs() {
     let programs = programs();
-    for kind in (1..=10).chain(16..=26) {
-        let has = |program: &&Vec<u8>| product::nodes(program).iter().any(|n| n.kind == kind);
+    for kind in (1..=10).chain(16..=27) {
+        let has = |program: &&Program| {
+            let nodes = product::nodes(&program.bytes);
+            nodes.iter().any(|node| node.kind == kind)
+        };
         assert!(programs.iter().filter(has).count() > 20, "kind {kind}");
     }
-    assert!(programs.iter().any(|program| program.len() > 4 * 100));
+    assert!(programs.iter().any(|program| program.bytes.len() > 4 * 100));
 }

@@ -1,14 +1,16 @@
 //! What the tool writes it takes back, to the byte.
 
-use crate::programs::{programs, texts, Chance};
+use crate::programs::{programs, texts, Chance, Program};
 use crate::{circuits, programs};
-use hub::types::{Cell, Netlist, Node};
+use hub::lines::Wrong;
+use hub::types::{Beside, Cell, Netlist, Node};
 use hub::{assemble, format, labels, listing, outline, product};
+use std::fmt::Debug;
 
 #[test]
 fn outlines_give_the_program_back() {
     for program in programs() {
-        let outline = outline::outline(&product::nodes(&program));
+        let outline = outline::outline(program.procedures, &product::nodes(&program.bytes));
         assert_eq!(assembled(&outline), program, "{outline}");
     }
 }
@@ -26,18 +28,65 @@ fn outlines_give_any_nodes_back() {
                 n: u16::from(byte() % 20) * 13,
             })
             .collect();
-        let outline = outline::outline(&nodes);
-        assert_eq!(
-            assembled(&outline),
-            product::program_bytes(&nodes),
-            "{outline}"
-        );
+        let outline = outline::outline(0, &nodes);
+        let bytes = product::program_bytes(&nodes);
+        assert_eq!(assembled(&outline).bytes, bytes, "{outline}");
     }
 }
 
-fn assembled(outline: &str) -> Vec<u8> {
-    let source = assemble::assemble(outline).expect("an outline");
-    product::program_bytes(&source.nodes)
+/// Each text is wrong, and the line and the reason are told.
+fn told_with_their_line<T: Debug>(
+    read: impl Fn(&str) -> Result<T, Wrong>,
+    texts: &[(&str, usize, &str)],
+) {
+    for &(text, line, why) in texts {
+        let wrong = read(text).expect_err(text);
+        assert_eq!(wrong.line, line, "{text}: {wrong:?}");
+        assert!(wrong.why.contains(why), "{text}: {wrong:?}");
+    }
+}
+
+fn assembled(outline: &str) -> Program {
+    let source = assemble::assemble(outline).unwrap_or_else(|wrong| panic!("{wrong:?}\n{outline}"));
+    let (procedures, bytes) = (source.procedures, product::program_bytes(&source.nodes));
+    Program { procedures, bytes }
+}
+
+/// A heading stands where the statement that it names begins; 'main' may be left
+/// out.
+#[test]
+fn headings_tell_the_procedures() {
+    for (outline, procedures) in [
+        ("ok", 0),
+        ("main\nok", 0),
+        ("procedure 0\nok\nmain\ncall 0 @1", 1),
+        ("procedure 0\nok\ncall 0 @1", 1),
+        (
+            "procedure 0\nsequence\nok\ntick @3\nprocedure 1\nok\nmain\nok",
+            2,
+        ),
+    ] {
+        assert_eq!(assembled(outline).procedures, procedures, "{outline}");
+    }
+    let wrong = [
+        ("procedure 1\nok", 1, "this is procedure 0"),
+        ("procedure 0\nok\nprocedure 0\nok", 3, "this is procedure 1"),
+        ("procedure 0\nprocedure 1\nok", 2, "one whole statement"),
+        (
+            "procedure 0\nsequence\nok\nmain\nok",
+            4,
+            "one whole statement",
+        ),
+        (
+            "procedure 0\nok\nok\nmain\nok",
+            4,
+            "several are one in a sequence",
+        ),
+        ("ok\nprocedure 0\nok", 2, "one whole statement"),
+        ("procedure x\nok", 1, "number"),
+        ("procedure\nok", 1, "procedure"),
+    ];
+    told_with_their_line(assemble::assemble, &wrong);
 }
 
 #[test]
@@ -45,7 +94,7 @@ fn texts_give_the_program_back() {
     for program in texts() {
         let text = formatted(&program);
         assert_eq!(
-            product::read_text(None, text.as_bytes()),
+            product::read_text(Beside::NOTHING, text.as_bytes()),
             Ok(program),
             "{text}"
         );
@@ -69,7 +118,7 @@ fn texts_have_the_fewest_brackets() {
             less[open] = b' ';
             less[close] = b' ';
             assert_ne!(
-                product::read_text(None, &less).as_ref(),
+                product::read_text(Beside::NOTHING, &less).as_ref(),
                 Ok(&program),
                 "{text}"
             );
@@ -96,7 +145,7 @@ fn brackets(text: &str) -> Vec<(usize, usize)> {
 #[test]
 fn texts_are_short_enough_to_be_read() {
     for (name, text) in programs::examples() {
-        let program = product::read_text(None, text.as_bytes()).expect("a program");
+        let program = product::read_text(Beside::NOTHING, text.as_bytes()).expect("a program");
         let wide = formatted(&program).lines().any(|line| line.len() > 80);
         assert!(!wide, "{name}");
     }
@@ -168,7 +217,7 @@ fn idle_arrays_are_those_that_are_left() {
 /// What is wrong with a list is told with its line.
 #[test]
 fn wrong_lists_are_told_with_their_line() {
-    for (list, line, why) in [
+    let wrong = [
         ("start\n", 1, "which cell is the finish"),
         ("finish 0\nstart\ndelay 3\n", 3, "write: delay D of A"),
         ("finish 0\nstart\ndelay 300 of start\n", 3, "below 256"),
@@ -193,9 +242,6 @@ fn wrong_lists_are_told_with_their_line() {
             "a second cell is called a",
         ),
         ("finish 0\n1024 start\n", 2, "cell 1024"),
-    ] {
-        let wrong = listing::wired(list).expect_err("a wrong list");
-        assert_eq!(wrong.line, line, "{list}{wrong:?}");
-        assert!(wrong.why.contains(why), "{list}{wrong:?}");
-    }
+    ];
+    told_with_their_line(listing::wired, &wrong);
 }

@@ -3,7 +3,7 @@
 
 use crate::circuits::recorded;
 use crate::pictures::assert_legible;
-use crate::programs::{examples, programs};
+use crate::programs::{examples, programs, Program};
 use crate::vcd::{read, values, Changes};
 use crate::{circuits, programs};
 use hub::layout::in_flight_in;
@@ -24,7 +24,7 @@ fn start() -> Store {
     start
 }
 
-fn waves(program: &[u8], from: u32, to: u32) -> Waveforms {
+fn waves(program: &Program, from: u32, to: u32) -> Waveforms {
     let circuit = circuits::of_program(program);
     let wires = choice::wires(&circuit, &[], None, false).expect("wires");
     recorded(&circuit, (&start(), &[]), wires, from, to)
@@ -104,7 +104,7 @@ fn waves_agree_with_the_answers() {
             let wire = waves.wires.iter().position(|wire| wire.name == name);
             wire.map(|wire| waves.values[wire][at])
         };
-        let file = product::compile(None, &program).expect("a netlist");
+        let file = product::compile(program.beside(), &program.bytes).expect("a netlist");
         let (mut state, mut answer) = product::begin(&file, &start()).expect("a run");
         for at in 0..=80 {
             assert_eq!(value("start", at), Some(u32::from(at == 0)));

@@ -2,6 +2,7 @@
 //! refusal a text, a program, a netlist, a state or a table that meets it.
 
 use hub::product;
+use hub::types::Beside;
 use std::fs;
 use std::path::Path;
 
@@ -33,6 +34,56 @@ const TEXTS: &[(&str, &str)] = &[
 
 /// Lists of cells and outlines, by name.
 const LINES: &[(&str, &str)] = &[
+    (
+        "nested.outline",
+        "procedure 0\n  tick @1\nprocedure 1\n  sequence\n    call 0 @2\n    call 0 @3\nmain\n  sequence\n    \
+         call 1 @4\n    call 0 @5\n",
+    ),
+    ("uncalled.outline", "procedure 0\n  tick @5\nmain\n  ok\n"),
+    ("itself.outline", "procedure 0\n  call 0 @1\nmain\n  ok\n"),
+    (
+        "later.outline",
+        "procedure 0\n  call 1 @1\nprocedure 1\n  ok\nmain\n  ok\n",
+    ),
+    ("absent.outline", "procedure 0\n  ok\nmain\n  call 1 @1\n"),
+    (
+        "absent_of_two.outline",
+        "procedure 0\n  ok\nprocedure 1\n  ok\nmain\n  call 700 @1\n",
+    ),
+    ("alone.outline", "call 0 @1\n"),
+    (
+        "shared.outline",
+        "procedure 0\n  tick @3\nmain\n  parallel\n    call 0 @1\n    sequence\n      ok\n      call 0 @2\n",
+    ),
+    (
+        "shared_through.outline",
+        "procedure 0\n  tick @3\nprocedure 1\n  call 0 @1\nmain\n  parallel\n    call 0 @1\n    call 1 @1\n",
+    ),
+    (
+        "clash_through.outline",
+        "procedure 0\n  assign x0 @1\n    constant 1\nmain\n  parallel\n    call 0 @1\n    assign x1 @1\n      \
+         variable x0\n",
+    ),
+    (
+        "clash_of_bodies.outline",
+        "procedure 0\n  assign a2 @1\n    constant 1\n    constant 2\nprocedure 1\n  assign x0 @4\n    \
+         element a2\n      constant 0\nmain\n  parallel\n    call 1 @1\n    call 0 @1\n",
+    ),
+    (
+        "exit_of_caller.outline",
+        "procedure 0\n  exit\nmain\n  loop @1\n    call 0 @1\n",
+    ),
+    ("call_at_once.outline", "procedure 0\n  ok\nmain\n  call 0 @0\n"),
+    (
+        "nine.outline",
+        "procedure 0\nok\nprocedure 1\nok\nprocedure 2\nok\nprocedure 3\nok\nprocedure 4\nok\nprocedure 5\nok\n\
+         procedure 6\nok\nprocedure 7\nok\nprocedure 8\nok\nmain\nok\n",
+    ),
+    (
+        "headings.outline",
+        "procedure 0\n  ok\n  tick @3\nmain\n  call 0 @1\n",
+    ),
+    ("order.outline", "procedure 1\n  ok\nmain\n  ok\n"),
     (
         "memories.list",
         "finish start\nstart\nground\nconstant 0\n18 delay 1 of start\nconstant 1\nconstant 1\n\
@@ -126,6 +177,7 @@ const PROGRAMS: &[(&str, &[[u8; 3]])] = &[
     ("small.prog", &[[22, 0, 0], [1, 0, 1], [16, 0, 0]]),
     ("round.prog", &[[25, 0, 0], [26, 0, 0]]),
     ("loose.prog", &[[26, 0, 0]]),
+    ("call.prog", &[[27, 1, 0], [27, 1, 0]]),
     ("number.prog", &[[25, 1, 0], [26, 0, 1]]),
     (
         "between.prog",
@@ -187,7 +239,7 @@ pub fn make(folder: &Path) {
 
 /// Netlists and states of the program `tick 2`.
 fn netlists(put: &impl Fn(&str, &[u8])) {
-    let file = product::compile(None, &[17, 2, 0, 0]).expect("an accepted program");
+    let file = product::compile(Beside::NOTHING, &[17, 2, 0, 0]).expect("an accepted program");
     let (state, _) = product::begin(&file, &[0; hub::store::LENGTH]).expect("an accepted netlist");
     put("tick.net", &file);
     put("length.net", &file[..100]);

@@ -23,7 +23,7 @@ returns-2 c =
     let enum-told = c .before .before .before .before .before .before .before .enum-told in
     let put-netlist = c .before .before .before .put-netlist in
     let accepted = sym (scan .ensures .checked) ∙ enum-told .given .1 in
-    compile-short _ (put-netlist .ensures) (c .before .before .before .before .before .before .before .before .before .before .before .before .args .options) accepted (c .if1 .taken)
+    compile-short (c .before .before .before .before .before .before .before .before .before .before .before .before .args .options) _ (put-netlist .ensures) accepted (c .if1 .taken)
 
 put-file-requires : tie.Need-put-file-requires
 put-file-requires c κs =
@@ -32,7 +32,7 @@ put-file-requires c κs =
     let if1 = c .before .before .if1 in
     let put-netlist = c .before .before .before .before .before .put-netlist in
     let accepted = sym (scan .ensures .checked) ∙ enum-told .given .1 in
-    let room = list-room _ (put-netlist .ensures) (c .before .before .before .before .before .before .before .before .before .before .before .before .before .before .args .options) accepted (put-netlist .kept .0) in
+    let room = list-room (c .before .before .before .before .before .before .before .before .before .before .before .before .before .before .args .options) _ (put-netlist .ensures) accepted (put-netlist .kept .0) in
     omega (arith, if1 .left, room)
 
 returns-3 : tie.Need-returns-3
@@ -43,7 +43,7 @@ returns-3 c =
     let if1 = c .before .before .before .before .before .if1 in
     let put-file = c .before .before .put-file in
     let accepted = sym (scan .ensures .checked) ∙ enum-told .given .1 in
-    compile-done _ (put-netlist .ensures) (c .before .before .before .before .before .before .before .before .before .before .before .before .before .before .before .before .before .args .options) accepted _ (if1 .left) (put-file .ensures)
+    compile-done (c .before .before .before .before .before .before .before .before .before .before .before .before .before .before .before .before .before .args .options) _ (put-netlist .ensures) accepted _ (if1 .left) (put-file .ensures)
 
 pub compile-spec : {M : Type 1} → statement M
 compile-spec =

@@ -19,16 +19,17 @@ put-file-requires c κs =
     let put-netlist = c .before .before .before .before .put-netlist in
     let pre = start .pre in
     let made = put-netlist .ensures in
-    (omega (arith, file-size _ made, pre .1), list-room _ made (start .args .options) (pre .0) (put-netlist .kept .0))
+    (omega (arith, file-size (start .args .options) _ made, pre .1), list-room (start .args .options) _ made (pre .0) (put-netlist .kept .0))
 
 returns : tie.Need-returns
 returns c =
     let put-netlist = c .before .before .before .before .before .before .before .put-netlist in
-    let pre = c .before .before .before .before .before .before .before .before .before .before .before .before .before .before .pre in
+    let start = c .before .before .before .before .before .before .before .before .before .before .before .before .before .before in
+    let pre = start .pre in
     let put-file = c .before .before .put-file in
     let made = put-netlist .ensures in (
-      sym (file-size _ made),
-      file-put _ made _ (omega (arith, file-size _ made, pre .1)) (put-file .ensures),
+      sym (file-size (start .args .options) _ made),
+      file-put (start .args .options) _ made _ (omega (arith, file-size (start .args .options) _ made, pre .1)) (put-file .ensures),
     )
 
 pub compile-accepted-spec : {M : Type 1} → statement M

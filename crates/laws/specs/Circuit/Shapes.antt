@@ -1,17 +1,17 @@
 -- Kinds and their shapes, and control wires: a control wire's value is 0 or 1.
-use mathlib.Core.Path.{_≡_, refl, ap, _∙_}
+use mathlib.Core.Path.{_≡_, refl, sym, ap, _∙_}
 use mathlib.Core.Bool.{Bool, true, false, _&&_, _||_, not, and-false}
 use mathlib.Core.List.{List, [], _∷_}
 use mathlib.Core.Logic.{_⊎_, inl, inr, ⊎-elim}
 use Prim.Native.Nat.{ℕ, _<_, _≤_}
 use native.Mathlib.Omega.{arith}
-use lib.Dec.{leb}
+use lib.Dec.{eqb, leb}
 use lib.ListN.{length}
-use borrow.Author.Tests.{leb-true, le-leb, lt-leb}
+use borrow.Author.Tests.{eqb-true, leb-true, le-leb, lt-leb}
 use Rattle.model.specs.declared.Cell.{Cell}
 use Rattle.model.specs.Word.{pick, bit, isZero}
-use Rattle.model.specs.Circuit.{cellAt, Sig, Values, Elements, element, level, delayed, merged, control, equation, startWord, Obeys, Shape, CellKinds, cellTable, shapes, hasKind, shapeIn, shape, kConstant, kComplement, kOperator, kStart, kGround, kDelay, kOr, kWhenTrue, kWhenFalse, kMerge, kMemory, kGated, kArray, kAddress, kRead, kUnknown}
-use Rattle.laws.specs.Refusals.Laws.{and-true, by-le, not-both}
+use Rattle.model.specs.Circuit.{cellAt, Sig, Values, Elements, element, level, delayed, mergeStep, returnStep, merged, merges, stepOf, control, equation, startWord, Obeys, Shape, CellKinds, cellTable, shapes, hasKind, shapeIn, shape, kConstant, kComplement, kOperator, kStart, kGround, kDelay, kOr, kWhenTrue, kWhenFalse, kMerge, kReturn, kMemory, kGated, kArray, kAddress, kRead, kUnknown}
+use Rattle.laws.specs.Refusals.Laws.{and-true, by-bool, by-le, not-both}
 
 -- a kind is one of its shape's, but for the shape of no kinds
 abbrev Within : ℕ → Shape → Type 0
@@ -46,6 +46,10 @@ pub merge-kind : (k : ℕ) → shape k ≡ kMerge → k ≡ 38
 unfolding cellTable
 merge-kind k e = kind-of k 38 kMerge refl refl e
 
+pub return-kind : (k : ℕ) → shape k ≡ kReturn → k ≡ 39
+unfolding cellTable
+return-kind k e = kind-of k 39 kReturn refl refl e
+
 pub memory-kind : (k : ℕ) → shape k ≡ kMemory → k ≡ 40
 unfolding cellTable
 memory-kind k e = kind-of k 40 kMemory refl refl e
@@ -61,6 +65,24 @@ delay-shape k e = rw e
 pub merge-shape : (k : ℕ) → k ≡ 38 → shape k ≡ kMerge
 unfolding shape
 merge-shape k e = rw e
+
+pub return-shape : (k : ℕ) → k ≡ 39 → shape k ≡ kReturn
+unfolding shape
+return-shape k e = rw e
+
+-- the two merges, and what they do
+pub of-merge : (k : ℕ) → shape k ≡ kMerge → (merges k ≡ true) × (stepOf k ≡ mergeStep)
+unfolding merges stepOf
+of-merge k e = rw (merge-kind k e) (refl, refl)
+
+pub of-return : (k : ℕ) → shape k ≡ kReturn → (merges k ≡ true) × (stepOf k ≡ returnStep)
+unfolding merges stepOf
+of-return k e = rw (return-kind k e) (refl, refl)
+
+-- a merge is of one kind or the other
+pub by-merge : {A : Type 0} (k : ℕ) → merges k ≡ true → (k ≡ 38 → A) → (k ≡ 39 → A) → A
+unfolding merges
+by-merge k e p q = by-bool (eqb k 38) (λ z. p (eqb-true k 38 z)) (λ z. q (eqb-true k 39 (sym (ap (λ (b : Bool). b || eqb k 39) z) ∙ e)))
 
 pub memory-shape : (k : ℕ) → k ≡ 40 → shape k ≡ kMemory
 unfolding shape
@@ -117,7 +139,8 @@ shape-level kDelay starts first E W k c t e = bit-le (delayed (c .delay) (level 
 shape-level kOr starts first E W k c t e = bit-le (level W (c .a) t || level W (c .b) t)
 shape-level kWhenTrue starts first E W k c t e = bit-le (level W (c .a) t && not (isZero (W (c .b) t)))
 shape-level kWhenFalse starts first E W k c t e = bit-le (level W (c .a) t && isZero (W (c .b) t))
-shape-level kMerge starts first E W k c t e = bit-le (merged (level W (c .a)) (level W (c .b)) t)
+shape-level kMerge starts first E W k c t e = bit-le (merged mergeStep (level W (c .a)) (level W (c .b)) t)
+shape-level kReturn starts first E W k c t e = bit-le (merged returnStep (level W (c .a)) (level W (c .b)) t)
 shape-level kMemory starts first E W k c t e = not-both e refl
 shape-level kGated starts first E W k c t e = not-both e refl
 shape-level kArray starts first E W k c t e = not-both e refl

@@ -12,16 +12,16 @@ use lib.ListN.{length, length-append, getD}
 use borrow.Author.Tests.{eq-eqb, ne-eqb, le-leb, lt-leb, lt-ltb, le-ltb}
 use Rattle.model.specs.declared.Cell.{Cell}
 use Rattle.model.specs.Word.{pick, bit}
-use Rattle.model.specs.Program.{Stmt, arrayVar}
+use Rattle.model.specs.Program.{Program, roots, arrayVar}
 use Rattle.model.specs.Circuit.{cell, cellAt, memories, pastMemories}
 use Rattle.model.specs.NetlistFile.{ofArray, arrayPlaced}
 use Rattle.model.specs.Numbering.{arrayCell, memoriesOf, arraysOf, headCells, netlist}
-use Rattle.model.specs.Numbering.{clockSources, dataSources, addressSources, clockAt, memoryAt, arraysAt, walkAt, dataAt, addressAt, clockWires, dataWires, addressWires}
+use Rattle.model.specs.Numbering.{callsOf, clocksOf, dataOf, addressesOf, procedures, finishOfRoot, clockAt, memoryAt, arraysAt, walkAt, dataAt, addressAt, clockWires, dataWires, addressWires}
 use Rattle.laws.specs.Refusals.Laws.{and-true}
-use Rattle.laws.specs.Program.Fit.{Formed}
+use Rattle.laws.specs.Program.Fit.{EveryRoot, Numberable}
 use Rattle.laws.specs.Numbering.Cells.{All, all-of, all-at}
-use Rattle.laws.specs.Numbering.Lengths.{d-len}
-use Rattle.laws.specs.Numbering.Memories.{plain, plainKind, plain-kind, plain-append, plain-free, delays-plain, orsFrom-plain, walk-plain, memories-append, mems-all}
+use Rattle.laws.specs.Numbering.Lengths.{root-d-len}
+use Rattle.laws.specs.Numbering.Memories.{plain, plainKind, plain-kind, plain-append, plain-free, root-delays-plain, orsFrom-plain, root-walks-plain, memories-append, mems-all}
 use Rattle.laws.specs.Numbering.Parts.{orsFrom-len, delayCells, clockOrs, walkCells, dataOrs, addressOrs, fromArrays, fromMemories, Laid, lay, unlay}
 
 -- ---- the two cells of an array
@@ -39,34 +39,34 @@ arrays-at R ks ds js v (suc n) k h (suc i) l =
     let q : v + 1 + i ≡ v + suc i = omega arith in
     rw (p, q) at (arrays-at R ks ds js (v + 1) n (k + 1 + 1) (h .1 .1) i (le-of-suc-le-suc l))
 
-pub array-cells : (P : Stmt) (k : ℕ) → k < 4
-    → (cellAt (netlist P) (arrayCell (memoryAt P) k) ≡ cell 42 k (getD (clockWires P) (arrayVar k) 0) (getD (dataWires P) (arrayVar k) 0))
-    × (cellAt (netlist P) (arrayCell (memoryAt P) k + 1) ≡ cell 43 0 (getD (addressWires P) k 0) 0)
-array-cells P k l =
-    let R : ℕ → Cell → Type 0 = λ j c. cellAt (netlist P) j ≡ c in
+pub array-cells : (S : Program) (k : ℕ) → k < 4
+    → (cellAt (netlist S) (arrayCell (memoryAt S) k) ≡ cell 42 k (getD (clockWires S) (arrayVar k) 0) (getD (dataWires S) (arrayVar k) 0))
+    × (cellAt (netlist S) (arrayCell (memoryAt S) k + 1) ≡ cell 43 0 (getD (addressWires S) k 0) 0)
+array-cells S k l =
+    let R : ℕ → Cell → Type 0 = λ j c. cellAt (netlist S) j ≡ c in
     let z : 0 + k ≡ k = omega arith in
-    let cells : Laid R P = lay R P (all-of R (netlist P) 0 (λ i b. rw zero-add)) in
-    rw z at (arrays-at R (clockWires P) (dataWires P) (addressWires P) 0 4 (arraysAt P) (cells .at-arrays) k l)
+    let cells : Laid R S = lay R S (all-of R (netlist S) 0 (λ i b. rw zero-add)) in
+    rw z at (arrays-at R (clockWires S) (dataWires S) (addressWires S) 0 4 (arraysAt S) (cells .at-arrays) k l)
 
 -- ---- what stands below the memories
 
-unfoldable pub below : Stmt → List Cell
-below P = headCells ++ (delayCells P ++ clockOrs P)
+unfoldable pub below : Program → List Cell
+below S = headCells ++ (delayCells S ++ clockOrs S)
 
-pub parts : (P : Stmt) → netlist P ≡ below P ++ fromMemories P
+pub parts : (S : Program) → netlist S ≡ below S ++ fromMemories S
 unfolding netlist below
-parts P = simp append-assoc
+parts S = simp append-assoc
 
-pub below-len : (P : Stmt) → length (below P) ≡ memoryAt P
+pub below-len : (S : Program) → length (below S) ≡ memoryAt S
 unfolding below
-below-len P = simp (length-append, d-len, orsFrom-len) (omega arith)
+below-len S = simp (length-append, root-d-len, orsFrom-len) (omega arith)
 
-below-plain : (P : Stmt) → plain (below P) ≡ true
+below-plain : (S : Program) → plain (below S) ≡ true
 unfolding below plain plainKind
-below-plain P = simp (plain-append, delays-plain, orsFrom-plain 35 refl)
+below-plain S = simp (plain-append, root-delays-plain, orsFrom-plain 35 refl)
 
-pub below-free : (P : Stmt) → memories (below P) ≡ 0
-below-free P = plain-free (below P) (below-plain P)
+pub below-free : (S : Program) → memories (below S) ≡ 0
+below-free S = plain-free (below S) (below-plain S)
 
 -- the cells that stand behind the memories
 past-skip : (xs ys : List Cell) (n : ℕ) → memories xs ≡ 0 → pastMemories (xs ++ ys) (suc n) ≡ length xs + pastMemories ys (suc n)
@@ -89,11 +89,11 @@ unfolding memoriesOf pastMemories
 past-mems ks ds x zero ys = past-none ys
 past-mems ks ds x (suc n) ys = ap suc (past-mems ks ds (x + 1) n ys)
 
-pub past-is : (P : Stmt) → pastMemories (netlist P) 16 ≡ arraysAt P
-past-is P =
-    ap (λ (net : List Cell). pastMemories net 16) (parts P)
-    ∙ past-skip (below P) (fromMemories P) 15 (below-free P)
-    ∙ omega (arith, below-len P, past-mems (clockWires P) (dataWires P) 0 16 (fromArrays P))
+pub past-is : (S : Program) → pastMemories (netlist S) 16 ≡ arraysAt S
+past-is S =
+    ap (λ (net : List Cell). pastMemories net 16) (parts S)
+    ∙ past-skip (below S) (fromMemories S) 15 (below-free S)
+    ∙ omega (arith, below-len S, past-mems (clockWires S) (dataWires S) 0 16 (fromArrays S))
 
 -- ---- sixteen memories
 
@@ -102,18 +102,18 @@ unfolding memories arraysOf bit
 arrays-free ks ds js k zero = refl
 arrays-free ks ds js k (suc n) = rw (arrays-free ks ds js (k + 1) n)
 
-pub sixteen : (P : Stmt) → Formed P → memories (netlist P) ≡ 16
+pub sixteen : (S : Program) → EveryRoot Numberable 0 (roots S) → memories (netlist S) ≡ 16
 unfolding plainKind
-sixteen P w =
-    rw (parts P)
+sixteen S w =
+    rw (parts S)
     (simp (
       memories-append,
-      below-free P,
-      mems-all (clockWires P) (dataWires P) 0 16,
-      arrays-free (clockWires P) (dataWires P) (addressWires P) 0 4,
-      plain-free (walkCells P) (walk-plain (memoryAt P) P w 0 3 (walkAt P)),
-      plain-free (dataOrs P) (orsFrom-plain 7 refl (dataSources P (walkAt P)) (dataAt P) 0 20),
-      plain-free (addressOrs P) (orsFrom-plain 7 refl (addressSources P (walkAt P)) (addressAt P) 16 4),
+      below-free S,
+      mems-all (clockWires S) (dataWires S) 0 16,
+      arrays-free (clockWires S) (dataWires S) (addressWires S) 0 4,
+      plain-free (walkCells S) (root-walks-plain (memoryAt S) (finishOfRoot S) (procedures S) (callsOf S) 0 (roots S) w 3 (walkAt S)),
+      plain-free (dataOrs S) (orsFrom-plain 7 refl (dataOf S) (dataAt S) 0 20),
+      plain-free (addressOrs S) (orsFrom-plain 7 refl (addressesOf S) (addressAt S) 16 4),
     ))
 
 -- ---- "Right after the sixteenth memory stand ... and nowhere else": the arrays' cells begin at m
@@ -157,22 +157,22 @@ module _ (m : ℕ) where
     ),
   )
 
-pub arrays-stand : (P : Stmt) → Formed P → (k : ℕ) → k < length (netlist P) → arrayPlaced (arraysAt P) k (cellAt (netlist P) k) ≡ true
+pub arrays-stand : (S : Program) → EveryRoot Numberable 0 (roots S) → (k : ℕ) → k < length (netlist S) → arrayPlaced (arraysAt S) k (cellAt (netlist S) k) ≡ true
 unfolding plainKind arrayPlaced ofArray
-arrays-stand P w k l =
-    let m = arraysAt P in
-    let laid : Laid (Placed m) P =
+arrays-stand S w k l =
+    let m = arraysAt S in
+    let laid : Laid (Placed m) S =
     record {
       at-start = other-placed m 0 (cell 32 0 0 0) refl (inl (omega arith));
       at-ground = other-placed m 1 (cell 33 0 0 0) refl (inl (omega arith));
       at-zero = other-placed m 2 (cell 1 0 0 0) refl (inl (omega arith));
-      at-delays = plain-placed m (delayCells P) 3 (delays-plain P 0 3 (walkAt P)) (inl (omega (arith, d-len P 0 3 (walkAt P))));
-      at-clocks = plain-placed m (clockOrs P) (clockAt P) (orsFrom-plain 35 refl (clockSources P 3) (clockAt P) 0 20)
-          (inl (omega (arith, orsFrom-len 35 (clockSources P 3) (clockAt P) 0 20)));
-      at-mems = mems-placed m (clockWires P) (dataWires P) 0 16 (memoryAt P) (omega arith);
-      at-arrays = arrays-placed m (clockWires P) (dataWires P) (addressWires P) 0 4 m (omega arith) (omega arith);
-      at-walk = plain-placed m (walkCells P) (walkAt P) (walk-plain (memoryAt P) P w 0 3 (walkAt P)) (inr (omega arith));
-      at-datas = plain-placed m (dataOrs P) (dataAt P) (orsFrom-plain 7 refl (dataSources P (walkAt P)) (dataAt P) 0 20) (inr (omega arith));
-      at-addresses = plain-placed m (addressOrs P) (addressAt P) (orsFrom-plain 7 refl (addressSources P (walkAt P)) (addressAt P) 16 4) (inr (omega arith));
+      at-delays = plain-placed m (delayCells S) 3 (root-delays-plain (procedures S) (callsOf S) 0 (roots S) 3 (walkAt S)) (inl (omega (arith, root-d-len (procedures S) (callsOf S) 0 (roots S) 3 (walkAt S))));
+      at-clocks = plain-placed m (clockOrs S) (clockAt S) (orsFrom-plain 35 refl (clocksOf S) (clockAt S) 0 20)
+          (inl (omega (arith, orsFrom-len 35 (clocksOf S) (clockAt S) 0 20)));
+      at-mems = mems-placed m (clockWires S) (dataWires S) 0 16 (memoryAt S) (omega arith);
+      at-arrays = arrays-placed m (clockWires S) (dataWires S) (addressWires S) 0 4 m (omega arith) (omega arith);
+      at-walk = plain-placed m (walkCells S) (walkAt S) (root-walks-plain (memoryAt S) (finishOfRoot S) (procedures S) (callsOf S) 0 (roots S) w 3 (walkAt S)) (inr (omega arith));
+      at-datas = plain-placed m (dataOrs S) (dataAt S) (orsFrom-plain 7 refl (dataOf S) (dataAt S) 0 20) (inr (omega arith));
+      at-addresses = plain-placed m (addressOrs S) (addressAt S) (orsFrom-plain 7 refl (addressesOf S) (addressAt S) 16 4) (inr (omega arith));
     } in
-    rw zero-add at (all-at (Placed m) (netlist P) 0 (unlay (Placed m) P laid) k l)
+    rw zero-add at (all-at (Placed m) (netlist S) 0 (unlay (Placed m) S laid) k l)

@@ -1,32 +1,33 @@
 -- The netlist of an accepted program keeps every rule of a netlist: its file is never refused.
-use mathlib.Core.Path.{_≡_, refl}
+use mathlib.Core.Path.{_≡_, refl, subst}
 use borrow.Author.Tests.{eq-eqb, ne-eqb, le-leb, lt-ltb, le-ltb}
 use mathlib.Core.Bool.{Bool, true, false}
 use mathlib.Core.List.{List, [], _∷_, _++_}
-use Prim.Native.Nat.{ℕ, zero, suc, _+_, _<_, _≤_}
+use Prim.Native.Nat.{ℕ, zero, suc, _+_, _<_, _≤_, suc-le-suc}
 use native.Mathlib.Nat.{zero-add, add-zero, not-suc-le-zero, le-of-suc-le-suc}
 use native.Mathlib.Omega.{arith}
 use lib.Dec.{eqb}
-use lib.ListN.{length, getD}
-use Rattle.model.specs.Program.{Stmt, ok, tick, assign, assignElem, seq, par, ite, while, repeat, loop, exit, arrayVar}
+use lib.ListN.{length, length-append, getD}
+use Rattle.model.specs.Program.{Code, ok, tick, assign, assignElem, seq, par, ite, while, repeat, loop, exit, call, arrayVar, Program, roots}
 use Rattle.model.specs.Circuit.{cell}
-use Rattle.model.specs.Numbering.{arrayCell, exprCount, exprWire, exprCells, ifDelayCount, ifPulse, ifDelayCells, delayCount, walkCount, exitsAt, finishWire, loopExits, delays, walk, clockSources, dataSources, addressSources, Source, wiresOf}
+use Rattle.model.specs.Numbering.{arrayCell, exprCount, exprWire, exprCells, ifDelayCount, ifPulse, ifDelayCells, delayCount, walkCount, exitsAt, finishWire, loopExits, delays, walk, clockSources, dataSources, addressSources, callSources, Source, wiresOf, idleStart, rootStart, rootWalk, pastRoot, rootDelayCount, rootWalkCount, rootFinishes, rootDelays, rootWalks, rootSources, rootWalkSources, callsOf, clocksOf, dataOf, addressesOf, procedures, finishOfRoot}
 use Rattle.model.specs.Numbering.{ors, orCount, orsFrom, outsFrom, orCountFrom, memoriesOf, arraysOf, netlist, finish}
 use Rattle.model.specs.Numbering.{clockAt, memoryAt, arraysAt, walkAt, dataAt, addressAt, clockWires, dataWires, addressWires}
 use Rattle.model.specs.Circuit.{control, cellAt, memories, cellTable, shape}
 use Rattle.laws.specs.Numbering.Cells.{All, all-of, all-at, split, join}
 use Rattle.laws.specs.Numbering.Lengths.{e-len, ors-len, d-len, w-len, own-len}
-use Rattle.laws.specs.Program.Fit.{Formed, Low}
+use Rattle.laws.specs.Program.Fit.{EveryRoot, Numberable}
 use Rattle.laws.specs.Numbering.Parts.{outs-len, net-length, delayCells, clockOrs, walkCells, dataOrs, addressOrs, Laid, lay, unlay}
 use Rattle.laws.specs.Numbering.Arrays.{arrays-at, past-is, sixteen, arrays-stand}
-use Rattle.laws.specs.Numbering.Count.{nodes, size}
+use Rattle.laws.specs.Numbering.Count.{rootNodes, size}
 use Rattle.laws.specs.Circuit.Ordered.{word, In, kinds}
 use Rattle.laws.specs.NetlistFile.Uses.{looks-keeps}
 use Rattle.laws.specs.Numbering.Valid.{Ok, HasKind, Every, ors-ok, p-ok}
 use Rattle.model.specs.Word.{pick}
 use Rattle.model.specs.declared.Checked.the-variants.{Accepted}
 use Rattle.model.specs.NetlistFile.{ofArray, stands, placed, cellFault, netCheck, countWrong, blocksFor}
-use Rattle.laws.specs.Refusals.Laws.{faultless}
+use Rattle.laws.specs.Refusals.Laws.{by-le, faultless}
+use Rattle.laws.specs.Program.Trees.{by-pick}
 
 abbrev EveryWire : (ℕ → Type 0) → List Source → Type 0
 EveryWire Q [] = Unit {0}
@@ -35,6 +36,10 @@ EveryWire Q (w ∷ ws) = Q (w .1) × EveryWire Q ws
 wire-append : (Q : ℕ → Type 0) (us vs : List Source) → EveryWire Q us → EveryWire Q vs → EveryWire Q (us ++ vs)
 wire-append Q [] vs h h′ = h′
 wire-append Q (u ∷ us) vs h h′ = (h .0, wire-append Q us vs (h .1) h′)
+
+both-appended : (Q : ℕ → Type 0) (us vs us′ vs′ : List Source) → EveryWire Q us × EveryWire Q us′ → EveryWire Q vs × EveryWire Q vs′
+    → EveryWire Q (us ++ vs) × EveryWire Q (us′ ++ vs′)
+both-appended Q us vs us′ vs′ h h′ = (wire-append Q us vs (h .0) (h′ .0), wire-append Q us′ vs′ (h .1) (h′ .1))
 
 wires-every : (Q : ℕ → Type 0) (y : ℕ) (ws : List Source) → EveryWire Q ws → Every Q (wiresOf y ws)
 unfolding wiresOf
@@ -46,68 +51,66 @@ wires-every Q y (w ∷ ws) h = go (eqb (w .0) y) (wires-every Q y ws (h .1))
     go false r = r
 
 module _ (K : ℕ → ℕ) where
-  clocks-ok : (P : Stmt) (s d c lim : ℕ) → d + delayCount P ≤ lim → All (HasKind K) d (delays P s d c) → EveryWire (In control K lim) (clockSources P d)
-  unfolding clockSources delays delayCount control
-  clocks-ok ok s d c lim l h = tt
-  clocks-ok (tick δ) s d c lim l h = tt
-  clocks-ok (assign δ x e) s d c lim l h = ((omega arith, rw (h .0)), tt)
-  clocks-ok (assignElem δ k i e) s d c lim l h = ((omega arith, rw (h .0)), tt)
+  clocks-ok : (P : Code) (s d c lim : ℕ) → d + delayCount P ≤ lim → All (HasKind K) d (delays P s d c)
+      → EveryWire (In control K lim) (clockSources P d) × EveryWire (In control K lim) (callSources P d)
+  unfolding clockSources callSources delays delayCount control
+  clocks-ok ok s d c lim l h = (tt, tt)
+  clocks-ok (tick δ) s d c lim l h = (tt, tt)
+  clocks-ok (assign δ x e) s d c lim l h = (((omega arith, rw (h .0)), tt), tt)
+  clocks-ok (assignElem δ k i e) s d c lim l h = (((omega arith, rw (h .0)), tt), tt)
   clocks-ok (seq P Q) s d c lim l h =
       let r = split (HasKind K) d (delayCount P) (delays P s d c) (delays Q (finishWire P s d c) (d + delayCount P) (c + walkCount P)) (d-len P s d c) h in
-      wire-append (In control K lim) (clockSources P d) (clockSources Q (d + delayCount P)) (clocks-ok P s d c lim (omega arith) (r .0))
-      (clocks-ok Q (finishWire P s d c) (d + delayCount P) (c + walkCount P) lim (omega arith) (r .1))
+      both-appended (In control K lim) (clockSources P d) (clockSources Q (d + delayCount P)) (callSources P d) (callSources Q (d + delayCount P))
+      (clocks-ok P s d c lim (omega arith) (r .0)) (clocks-ok Q (finishWire P s d c) (d + delayCount P) (c + walkCount P) lim (omega arith) (r .1))
   clocks-ok (par P Q) s d c lim l h =
       let r = split (HasKind K) d (delayCount P) (delays P s d c) (delays Q s (d + delayCount P) (c + walkCount P)) (d-len P s d c) h in
-      wire-append (In control K lim) (clockSources P d) (clockSources Q (d + delayCount P)) (clocks-ok P s d c lim (omega arith) (r .0))
-      (clocks-ok Q s (d + delayCount P) (c + walkCount P) lim (omega arith) (r .1))
+      both-appended (In control K lim) (clockSources P d) (clockSources Q (d + delayCount P)) (callSources P d) (callSources Q (d + delayCount P))
+      (clocks-ok P s d c lim (omega arith) (r .0)) (clocks-ok Q s (d + delayCount P) (c + walkCount P) lim (omega arith) (r .1))
   clocks-ok (ite δ e P Q) s d c lim l h =
       let p = c + exprCount e in
       let dP = d + ifDelayCount δ in
       let cP = p + 1 + 1 in
       let o = split (HasKind K) d (ifDelayCount δ) (ifDelayCells δ s) (delays P p dP cP ++ delays Q (p + 1) (dP + delayCount P) (cP + walkCount P)) (own-len δ s) h in
       let r = split (HasKind K) dP (delayCount P) (delays P p dP cP) (delays Q (p + 1) (dP + delayCount P) (cP + walkCount P)) (d-len P p dP cP) (o .1) in
-      wire-append (In control K lim) (clockSources P dP) (clockSources Q (dP + delayCount P)) (clocks-ok P p dP cP lim (omega arith) (r .0))
-      (clocks-ok Q (p + 1) (dP + delayCount P) (cP + walkCount P) lim (omega arith) (r .1))
+      both-appended (In control K lim) (clockSources P dP) (clockSources Q (dP + delayCount P)) (callSources P dP) (callSources Q (dP + delayCount P))
+      (clocks-ok P p dP cP lim (omega arith) (r .0)) (clocks-ok Q (p + 1) (dP + delayCount P) (cP + walkCount P) lim (omega arith) (r .1))
   clocks-ok (while δ e P) s d c lim l h = clocks-ok P (c + exprCount e) (d + 1) (c + exprCount e + 1 + 1) lim (omega arith) (h .1)
   clocks-ok (repeat δ e P) s d c lim l h = clocks-ok P (c + exprCount e + 1 + 1) (d + 1) (c + exprCount e + 1 + 1 + 1) lim (omega arith) (h .1)
   clocks-ok (loop δ P) s d c lim l h = clocks-ok P c (d + 1) (c + 1) lim (omega arith) (h .1)
-  clocks-ok exit s d c lim l h = tt
+  clocks-ok exit s d c lim l h = (tt, tt)
+  clocks-ok (call δ p) s d c lim l h = (tt, ((omega arith, rw (h .0)), tt))
 
-  datas-ok : (M : ℕ) (P : Stmt) (s d c lim : ℕ) → c + walkCount P ≤ lim → All (HasKind K) c (walk M P s d c)
+  datas-ok : (M : ℕ) (F : ℕ → ℕ) (P : Code) (s d c lim : ℕ) → c + walkCount P ≤ lim → All (HasKind K) c (walk M F P s d c)
       → EveryWire (In word K lim) (dataSources P c) × EveryWire (In word K lim) (addressSources P c)
   unfolding dataSources addressSources walk walkCount word ofArray
-  datas-ok M ok s d c lim l h = (tt, tt)
-  datas-ok M (tick δ) s d c lim l h = (tt, tt)
-  datas-ok M (assign δ x e) s d c lim l h =
+  datas-ok M F ok s d c lim l h = (tt, tt)
+  datas-ok M F (tick δ) s d c lim l h = (tt, tt)
+  datas-ok M F (assign δ x e) s d c lim l h =
       let r = split (HasKind K) c (exprCount e) (exprCells M e c) (cell 41 0 d (exprWire M e c) ∷ []) (e-len M e c) h in
       (((omega arith, rw (r .1 .0)), tt), tt)
-  datas-ok M (assignElem δ k i e) s d c lim l h =
+  datas-ok M F (assignElem δ k i e) s d c lim l h =
       let ce = c + exprCount i in
       let o = cell 41 0 d (exprWire M e ce) in
       let o′ = cell 41 0 d (exprWire M i c) in
       let ri = split (HasKind K) c (exprCount i) (exprCells M i c) (exprCells M e ce ++ (o ∷ (o′ ∷ []))) (e-len M i c) h in
       let re = split (HasKind K) ce (exprCount e) (exprCells M e ce) (o ∷ (o′ ∷ [])) (e-len M e ce) (ri .1) in
       (((omega arith, rw (re .1 .0)), tt), ((omega arith, rw (re .1 .1 .0)), tt))
-  datas-ok M (seq P Q) s d c lim l h =
+  datas-ok M F (seq P Q) s d c lim l h =
       let g = finishWire P s d c in
-      let r = split (HasKind K) c (walkCount P) (walk M P s d c) (walk M Q g (d + delayCount P) (c + walkCount P)) (w-len M P s d c) h in
-      let iP = datas-ok M P s d c lim (omega arith) (r .0) in
-      let iQ = datas-ok M Q g (d + delayCount P) (c + walkCount P) lim (omega arith) (r .1) in (
-        wire-append (In word K lim) (dataSources P c) (dataSources Q (c + walkCount P)) (iP .0) (iQ .0),
-        wire-append (In word K lim) (addressSources P c) (addressSources Q (c + walkCount P)) (iP .1) (iQ .1),
-      )
-  datas-ok M (par P Q) s d c lim l h =
+      let r = split (HasKind K) c (walkCount P) (walk M F P s d c) (walk M F Q g (d + delayCount P) (c + walkCount P)) (w-len M F P s d c) h in
+      let iP = datas-ok M F P s d c lim (omega arith) (r .0) in
+      let iQ = datas-ok M F Q g (d + delayCount P) (c + walkCount P) lim (omega arith) (r .1) in
+      both-appended (In word K lim) (dataSources P c) (dataSources Q (c + walkCount P)) (addressSources P c) (addressSources Q (c + walkCount P)) iP iQ
+  datas-ok M F (par P Q) s d c lim l h =
       let dQ = d + delayCount P in
       let cQ = c + walkCount P in
       let o = cell 38 0 (finishWire P s d c) (finishWire Q s dQ cQ) in
-      let r = split (HasKind K) c (walkCount P) (walk M P s d c) (walk M Q s dQ cQ ++ (o ∷ [])) (w-len M P s d c) h in
-      let q = split (HasKind K) cQ (walkCount Q) (walk M Q s dQ cQ) (o ∷ []) (w-len M Q s dQ cQ) (r .1) in
-      let iP = datas-ok M P s d c lim (omega arith) (r .0) in
-      let iQ = datas-ok M Q s dQ cQ lim (omega arith) (q .0) in (
-        wire-append (In word K lim) (dataSources P c) (dataSources Q cQ) (iP .0) (iQ .0),
-        wire-append (In word K lim) (addressSources P c) (addressSources Q cQ) (iP .1) (iQ .1),
-      )
-  datas-ok M (ite δ e P Q) s d c lim l h =
+      let r = split (HasKind K) c (walkCount P) (walk M F P s d c) (walk M F Q s dQ cQ ++ (o ∷ [])) (w-len M F P s d c) h in
+      let q = split (HasKind K) cQ (walkCount Q) (walk M F Q s dQ cQ) (o ∷ []) (w-len M F Q s dQ cQ) (r .1) in
+      let iP = datas-ok M F P s d c lim (omega arith) (r .0) in
+      let iQ = datas-ok M F Q s dQ cQ lim (omega arith) (q .0) in
+      both-appended (In word K lim) (dataSources P c) (dataSources Q cQ) (addressSources P c) (addressSources Q cQ) iP iQ
+  datas-ok M F (ite δ e P Q) s d c lim l h =
       let p = c + exprCount e in
       let dP = d + ifDelayCount δ in
       let cP = p + 1 + 1 in
@@ -116,32 +119,31 @@ module _ (K : ℕ → ℕ) where
       let o = cell 35 0 (finishWire P p dP cP) (finishWire Q (p + 1) dQ cQ) in
       let o6 = cell 36 0 (ifPulse δ s d) (exprWire M e c) in
       let o7 = cell 37 0 (ifPulse δ s d) (exprWire M e c) in
-      let re = split (HasKind K) c (exprCount e) (exprCells M e c) (o6 ∷ (o7 ∷ (walk M P p dP cP ++ (walk M Q (p + 1) dQ cQ ++ (o ∷ []))))) (e-len M e c) h in
-      let rP = split (HasKind K) cP (walkCount P) (walk M P p dP cP) (walk M Q (p + 1) dQ cQ ++ (o ∷ [])) (w-len M P p dP cP) (re .1 .1 .1) in
-      let rQ = split (HasKind K) cQ (walkCount Q) (walk M Q (p + 1) dQ cQ) (o ∷ []) (w-len M Q (p + 1) dQ cQ) (rP .1) in
-      let iP = datas-ok M P p dP cP lim (omega arith) (rP .0) in
-      let iQ = datas-ok M Q (p + 1) dQ cQ lim (omega arith) (rQ .0) in (
-        wire-append (In word K lim) (dataSources P cP) (dataSources Q cQ) (iP .0) (iQ .0),
-        wire-append (In word K lim) (addressSources P cP) (addressSources Q cQ) (iP .1) (iQ .1),
-      )
-  datas-ok M (while δ e P) s d c lim l h =
+      let re = split (HasKind K) c (exprCount e) (exprCells M e c) (o6 ∷ (o7 ∷ (walk M F P p dP cP ++ (walk M F Q (p + 1) dQ cQ ++ (o ∷ []))))) (e-len M e c) h in
+      let rP = split (HasKind K) cP (walkCount P) (walk M F P p dP cP) (walk M F Q (p + 1) dQ cQ ++ (o ∷ [])) (w-len M F P p dP cP) (re .1 .1 .1) in
+      let rQ = split (HasKind K) cQ (walkCount Q) (walk M F Q (p + 1) dQ cQ) (o ∷ []) (w-len M F Q (p + 1) dQ cQ) (rP .1) in
+      let iP = datas-ok M F P p dP cP lim (omega arith) (rP .0) in
+      let iQ = datas-ok M F Q (p + 1) dQ cQ lim (omega arith) (rQ .0) in
+      both-appended (In word K lim) (dataSources P cP) (dataSources Q cQ) (addressSources P cP) (addressSources Q cQ) iP iQ
+  datas-ok M F (while δ e P) s d c lim l h =
       let p = c + exprCount e in
       let cP = p + 1 + 1 in
       let o = cell 35 0 s (finishWire P p (d + 1) cP) in
       let o6 = cell 36 0 d (exprWire M e c) in
       let o7 = cell 37 0 d (exprWire M e c) in
-      let re = split (HasKind K) c (exprCount e) (exprCells M e c) (o6 ∷ (o7 ∷ (walk M P p (d + 1) cP ++ (o ∷ [])))) (e-len M e c) h in
-      let rP = split (HasKind K) cP (walkCount P) (walk M P p (d + 1) cP) (o ∷ []) (w-len M P p (d + 1) cP) (re .1 .1 .1) in
-      datas-ok M P p (d + 1) cP lim (omega arith) (rP .0)
-  datas-ok M (repeat δ e P) s d c lim l h =
+      let re = split (HasKind K) c (exprCount e) (exprCells M e c) (o6 ∷ (o7 ∷ (walk M F P p (d + 1) cP ++ (o ∷ [])))) (e-len M e c) h in
+      let rP = split (HasKind K) cP (walkCount P) (walk M F P p (d + 1) cP) (o ∷ []) (w-len M F P p (d + 1) cP) (re .1 .1 .1) in
+      datas-ok M F P p (d + 1) cP lim (omega arith) (rP .0)
+  datas-ok M F (repeat δ e P) s d c lim l h =
       let p = c + exprCount e in
       let cP = p + 1 + 1 + 1 in
-      let re = split (HasKind K) c (exprCount e) (exprCells M e c) (cell 36 0 d (exprWire M e c) ∷ (cell 37 0 d (exprWire M e c) ∷ (cell 35 0 s (p + 1) ∷ walk M P (p + 1 + 1) (d + 1) cP))) (e-len M e c) h in
-      datas-ok M P (p + 1 + 1) (d + 1) cP lim (omega arith) (re .1 .1 .1 .1)
-  datas-ok M (loop δ P) s d c lim l h =
-      let r = split (HasKind K) (c + 1) (walkCount P) (walk M P c (d + 1) (c + 1)) (ors 35 (exitsAt P c) (loopExits P d c)) (w-len M P c (d + 1) (c + 1)) (h .1) in
-      datas-ok M P c (d + 1) (c + 1) lim (omega arith) (r .0)
-  datas-ok M exit s d c lim l h = (tt, tt)
+      let re = split (HasKind K) c (exprCount e) (exprCells M e c) (cell 36 0 d (exprWire M e c) ∷ (cell 37 0 d (exprWire M e c) ∷ (cell 35 0 s (p + 1) ∷ walk M F P (p + 1 + 1) (d + 1) cP))) (e-len M e c) h in
+      datas-ok M F P (p + 1 + 1) (d + 1) cP lim (omega arith) (re .1 .1 .1 .1)
+  datas-ok M F (loop δ P) s d c lim l h =
+      let r = split (HasKind K) (c + 1) (walkCount P) (walk M F P c (d + 1) (c + 1)) (ors 35 (exitsAt P c) (loopExits P d c)) (w-len M F P c (d + 1) (c + 1)) (h .1) in
+      datas-ok M F P c (d + 1) (c + 1) lim (omega arith) (r .0)
+  datas-ok M F exit s d c lim l h = (tt, tt)
+  datas-ok M F (call δ p) s d c lim l h = (tt, tt)
 
   -- ors of a kind over wires of a sort, all of them below lim
   module _ (n kind : ℕ) (sort : ℕ → Bool) (this : sort kind ≡ true)
@@ -192,71 +194,172 @@ module _ (K : ℕ → ℕ) where
       let q : k + 1 + i ≡ k + suc i = omega arith in
       rw q at (mems-kind ks ds (x + 1) n (k + 1) (h .1) i (le-of-suc-le-suc l))
 
+  -- roots: the wires that they give, and their cells
+  root-clocks-ok : (z : ℕ) (cs : List Source) (r : ℕ) (Ps : List Code) (d c lim : ℕ) → d + rootDelayCount Ps ≤ lim
+      → All (HasKind K) d (rootDelays z cs r Ps d c)
+      → EveryWire (In control K lim) (rootSources clockSources Ps d) × EveryWire (In control K lim) (rootSources callSources Ps d)
+  unfolding rootDelays rootDelayCount rootSources
+  root-clocks-ok z cs r [] d c lim l h = (tt, tt)
+  root-clocks-ok z cs r (P ∷ Ps) d c lim l h =
+      let s = rootStart z cs r c in
+      let c₀ = rootWalk cs r c in
+      let q =
+      split (HasKind K) d (delayCount P) (delays P s d c₀) (rootDelays z cs (r + 1) Ps (d + delayCount P) (pastRoot cs r P c)) (d-len P s d c₀) h in
+      both-appended (In control K lim) (clockSources P d) (rootSources clockSources Ps (d + delayCount P)) (callSources P d)
+      (rootSources callSources Ps (d + delayCount P)) (clocks-ok P s d c₀ lim (omega arith) (q .0))
+      (root-clocks-ok z cs (r + 1) Ps (d + delayCount P) (pastRoot cs r P c) lim (omega arith) (q .1))
+
+  root-datas-ok : (M : ℕ) (F : ℕ → ℕ) (z : ℕ) (cs : List Source) (r : ℕ) (Ps : List Code) (d c lim : ℕ) → c + rootWalkCount cs r Ps ≤ lim
+      → All (HasKind K) c (rootWalks M F z cs r Ps d c)
+      → EveryWire (In word K lim) (rootWalkSources dataSources cs r Ps c) × EveryWire (In word K lim) (rootWalkSources addressSources cs r Ps c)
+  unfolding rootWalks rootWalkCount rootWalkSources
+  root-datas-ok M F z cs r [] d c lim l h = (tt, tt)
+  root-datas-ok M F z cs r (P ∷ Ps) d c lim l h =
+      let s = rootStart z cs r c in
+      let c₀ = rootWalk cs r c in
+      let d₁ = d + delayCount P in
+      let c₁ = pastRoot cs r P c in
+      let rest = rootWalks M F z cs (r + 1) Ps d₁ c₁ in
+      let o = split (HasKind K) c (orCount (wiresOf r cs)) (ors 35 c (wiresOf r cs)) (walk M F P s d c₀ ++ rest) (ors-len 35 c (wiresOf r cs)) h in
+      let q = split (HasKind K) c₀ (walkCount P) (walk M F P s d c₀) rest (w-len M F P s d c₀) (o .1) in
+      both-appended (In word K lim) (dataSources P c₀) (rootWalkSources dataSources cs (r + 1) Ps c₁) (addressSources P c₀)
+      (rootWalkSources addressSources cs (r + 1) Ps c₁) (datas-ok M F P s d c₀ lim (omega arith) (q .0))
+      (root-datas-ok M F z cs (r + 1) Ps d₁ c₁ lim (omega arith) (q .1))
+
+  -- F p is the finish of body p
+  module _ (n M : ℕ) (mem : (x : ℕ) → x < 16 → K (M + x) ≡ 40) (arr : (k : ℕ) → k < 4 → K (arrayCell M k) ≡ 42) (start : K 0 ≡ 32) (ground : K 1 ≡ 33)
+      (F : ℕ → ℕ) (z : ℕ) (cs : List Source) (lim : ℕ) (calls : EveryWire (In control K lim) cs) (two : 2 ≤ lim) where
+    idle-ok : (r : ℕ) → In control K lim (idleStart z r)
+    unfolding control
+    idle-ok r = by-pick (In control K lim) (eqb r z) 0 1 (omega arith, rw start) (omega arith, rw ground)
+
+    abbrev After : ℕ → List Code → ℕ → ℕ → Type 0
+    After r Ps d c =
+        All (Ok K n) d (rootDelays z cs r Ps d c) × All (Ok K n) c (rootWalks M F z cs r Ps d c)
+        × ((j : ℕ) → j < length Ps → In control K (c + rootWalkCount cs r Ps) (F (r + j)))
+
+    roots-ok : (r : ℕ) (Ps : List Code) (d c : ℕ) → EveryRoot Numberable r Ps → lim ≤ c → M + 24 ≤ c → d + rootDelayCount Ps ≤ c
+        → c + rootWalkCount cs r Ps ≤ n → ((p : ℕ) → p < r → In control K c (F p))
+        → ((j : ℕ) → j < length Ps → F (r + j) ≡ getD (rootFinishes z cs r Ps d c) j 1)
+        → All (HasKind K) d (rootDelays z cs r Ps d c) → All (HasKind K) c (rootWalks M F z cs r Ps d c) → After r Ps d c
+    unfolding rootDelays rootWalks rootFinishes rootDelayCount rootWalkCount control shape cellTable stands
+    roots-ok r [] d c w l lM ld lc fin is hd hw = (tt, tt, λ j o. absurd (omega arith))
+    roots-ok r (P ∷ Ps) d c w l lM ld lc fin is hd hw =
+        let ws = wiresOf r cs in
+        let s = rootStart z cs r c in
+        let c₀ = rootWalk cs r c in
+        let d₁ = d + delayCount P in
+        let c₁ = pastRoot cs r P c in
+        let ds = rootDelays z cs (r + 1) Ps d₁ c₁ in
+        let rest = rootWalks M F z cs (r + 1) Ps d₁ c₁ in
+        let qd = split (HasKind K) d (delayCount P) (delays P s d c₀) ds (d-len P s d c₀) hd in
+        let qo = split (HasKind K) c (orCount ws) (ors 35 c ws) (walk M F P s d c₀ ++ rest) (ors-len 35 c ws) hw in
+        let qw = split (HasKind K) c₀ (walkCount P) (walk M F P s d c₀) rest (w-len M F P s d c₀) (qo .1) in
+        let io =
+        ors-ok K n 35 control refl (λ k a b i j. (refl, (refl, i, j))) lim (idleStart z r) c ws l (idle-ok r) (wires-every (In control K lim) r cs calls)
+        (qo .0) in
+        let iP =
+        p-ok K n M mem arr ground c₀ (omega arith) F r (λ p o. let f = fin p o in (omega (arith, f .0), f .1)) P (w .0 .0) (w .0 .1) (w .0 .2) s d c₀ (io .1)
+        (omega arith) (omega arith) (omega arith) (qd .0) (qw .0) in
+        let here : F r ≡ finishWire P s d c₀ = rw add-zero at (is 0 (omega arith)) in
+        let last : In control K c₁ (F r) = rw here (iP .2) in
+        let next : (j : ℕ) → r + 1 + j ≡ r + suc j = λ j. omega arith in
+        let iR =
+        roots-ok (r + 1) Ps d₁ c₁ (w .1) (omega arith) (omega arith) (omega arith) (omega arith)
+        (λ p o.
+        by-le r p
+        (λ y.
+        let e : r ≡ p = omega arith in
+        subst (λ (p : ℕ). In control K c₁ (F p)) e last)
+        (λ y. let f = fin p y in (omega (arith, f .0), f .1)))
+        (λ j o. rw (next j) (is (suc j) (suc-le-suc o))) (qd .1) (qw .1) in (
+          join (Ok K n) d (delayCount P) (delays P s d c₀) ds (d-len P s d c₀) (iP .0) (iR .0),
+          join (Ok K n) c (orCount ws) (ors 35 c ws) (walk M F P s d c₀ ++ rest) (ors-len 35 c ws) (io .0)
+              (join (Ok K n) c₀ (walkCount P) (walk M F P s d c₀) rest (w-len M F P s d c₀) (iP .1) (iR .1)),
+          ends (last .0) (last .1) (iR .2),
+        )
+      where
+        ends : F r < pastRoot cs r P c → control (K (F r)) ≡ true
+            → ((j : ℕ) → j < length Ps → In control K (pastRoot cs r P c + rootWalkCount cs (r + 1) Ps) (F (r + 1 + j)))
+            → (j : ℕ) → j < length (P ∷ Ps)
+            → In control K (c + (orCount (wiresOf r cs) + walkCount P + rootWalkCount cs (r + 1) Ps)) (F (r + j))
+        ends x y h zero o = rw add-zero (omega arith, y)
+        ends x y h (suc j) o =
+            let next : r + 1 + j ≡ r + suc j = omega arith in
+            let f = h j (le-of-suc-le-suc o) in
+            let g : In control K (c + (orCount (wiresOf r cs) + walkCount P + rootWalkCount cs (r + 1) Ps)) (F (r + 1 + j)) = (omega (arith, f .0), f .1) in
+            rw next at g
+
 -- ---- the rules
 
-module _ (P : Stmt) (w : Formed P) (z : Low P) where
+module _ (S : Program) (w : EveryRoot Numberable 0 (roots S)) where
   K : ℕ → ℕ
-  K k = kinds (netlist P) k
+  K k = kinds (netlist S) k
 
   n : ℕ
-  n = length (netlist P)
+  n = length (netlist S)
 
-  has : Laid (HasKind K) P
+  has : Laid (HasKind K) S
   unfolding K
-  has = lay (HasKind K) P (all-of (HasKind K) (netlist P) 0 (λ i l. rw zero-add))
+  has = lay (HasKind K) S (all-of (HasKind K) (netlist S) 0 (λ i l. rw zero-add))
 
-  mem : (x : ℕ) → x < 16 → K (memoryAt P + x) ≡ 40
-  mem x l = mems-kind K (clockWires P) (dataWires P) 0 16 (memoryAt P) (has .at-mems) x l
+  mem : (x : ℕ) → x < 16 → K (memoryAt S + x) ≡ 40
+  mem x l = mems-kind K (clockWires S) (dataWires S) 0 16 (memoryAt S) (has .at-mems) x l
 
-  arr : (k : ℕ) → k < 4 → K (arrayCell (memoryAt P) k) ≡ 42
-  arr k l = arrays-at (HasKind K) (clockWires P) (dataWires P) (addressWires P) 0 4 (arraysAt P) (has .at-arrays) k l .0
+  arr : (k : ℕ) → k < 4 → K (arrayCell (memoryAt S) k) ≡ 42
+  arr k l = arrays-at (HasKind K) (clockWires S) (dataWires S) (addressWires S) 0 4 (arraysAt S) (has .at-arrays) k l .0
 
-  start-ok : In control K (walkAt P) 0
-  unfolding control
-  start-ok = (omega arith, rw (has .at-start))
-
-  total : n ≡ addressAt P + orCountFrom (addressSources P (walkAt P)) 16 4
+  total : n ≡ addressAt S + orCountFrom (addressesOf S) 16 4
   unfolding n
-  total = net-length P
+  total = net-length S
 
-  body : All (Ok K n) 3 (delayCells P) × All (Ok K n) (walkAt P) (walkCells P) × In control K (walkAt P + walkCount P) (finishWire P 0 3 (walkAt P))
+  wires : EveryWire (In control K (clockAt S)) (clocksOf S) × EveryWire (In control K (clockAt S)) (callsOf S)
+  wires = root-clocks-ok K (procedures S) (callsOf S) 0 (roots S) 3 (walkAt S) (clockAt S) (omega arith) (has .at-delays)
+
+  body : All (Ok K n) 3 (delayCells S) × All (Ok K n) (walkAt S) (walkCells S)
+      × ((j : ℕ) → j < length (roots S) → In control K (dataAt S) (finishOfRoot S j))
+  unfolding finishOfRoot
   body =
-      let r = p-ok K n (memoryAt P) mem arr (has .at-ground) P w z 0 3 (walkAt P) start-ok (omega arith) (omega arith) (omega (arith, total)) (has .at-delays) (has .at-walk) in
-      (r .0, r .1, r .2)
+      let r =
+      roots-ok K n (memoryAt S) mem arr (has .at-start) (has .at-ground) (finishOfRoot S) (procedures S) (callsOf S) (clockAt S) (wires .1) (omega arith) 0
+      (roots S) 3 (walkAt S) w (omega arith) (omega arith) (omega arith) (omega (arith, total)) (λ p o. absurd (omega arith)) (λ j o. rw zero-add) (has .at-delays)
+      (has .at-walk) in
+      (r .0, r .1, λ j o. rw zero-add at (r .2 j o))
 
-  clockParts : All (Ok K n) (clockAt P) (clockOrs P) × Every (In control K (memoryAt P)) (clockWires P)
+  clockParts : All (Ok K n) (clockAt S) (clockOrs S) × Every (In control K (memoryAt S)) (clockWires S)
   unfolding control shape cellTable stands
   clockParts =
-      orsFrom-ok K n 35 control refl (λ k a b i j. (refl, (refl, i, j))) (clockAt P) 1 (clockSources P 3) (clockAt P) 0 20 (memoryAt P) (omega arith) (omega arith)
-      (omega arith, rw (has .at-ground)) (clocks-ok K P 0 3 (walkAt P) (clockAt P) (omega arith) (has .at-delays)) (has .at-clocks)
+      orsFrom-ok K n 35 control refl (λ k a b i j. (refl, (refl, i, j))) (clockAt S) 1 (clocksOf S) (clockAt S) 0 20 (memoryAt S) (omega arith) (omega arith)
+      (omega arith, rw (has .at-ground)) (wires .0) (has .at-clocks)
 
-  sources : EveryWire (In word K (dataAt P)) (dataSources P (walkAt P)) × EveryWire (In word K (dataAt P)) (addressSources P (walkAt P))
-  sources = datas-ok K (memoryAt P) P 0 3 (walkAt P) (dataAt P) (omega arith) (has .at-walk)
+  sources : EveryWire (In word K (dataAt S)) (dataOf S) × EveryWire (In word K (dataAt S)) (addressesOf S)
+  sources =
+      root-datas-ok K (memoryAt S) (finishOfRoot S) (procedures S) (callsOf S) 0 (roots S) 3 (walkAt S) (dataAt S) (omega arith) (has .at-walk)
 
-  dataParts : All (Ok K n) (dataAt P) (dataOrs P) × Every (In word K n) (dataWires P)
+  dataParts : All (Ok K n) (dataAt S) (dataOrs S) × Every (In word K n) (dataWires S)
   unfolding word ofArray shape cellTable stands
   dataParts =
-      orsFrom-ok K n 7 word refl (λ k a b i j. (refl, (refl, i, j))) (dataAt P) 2 (dataSources P (walkAt P)) (dataAt P) 0 20 n (omega arith) (omega (arith, total))
+      orsFrom-ok K n 7 word refl (λ k a b i j. (refl, (refl, i, j))) (dataAt S) 2 (dataOf S) (dataAt S) 0 20 n (omega arith) (omega (arith, total))
       (omega arith, rw (has .at-zero)) (sources .0) (has .at-datas)
 
-  addressParts : All (Ok K n) (addressAt P) (addressOrs P) × Every (In word K n) (addressWires P)
+  addressParts : All (Ok K n) (addressAt S) (addressOrs S) × Every (In word K n) (addressWires S)
   unfolding word ofArray shape cellTable stands
   addressParts =
-      orsFrom-ok K n 7 word refl (λ k a b i j. (refl, (refl, i, j))) (dataAt P) 2 (addressSources P (walkAt P)) (addressAt P) 16 4 n (omega arith) (omega (arith, total))
+      orsFrom-ok K n 7 word refl (λ k a b i j. (refl, (refl, i, j))) (dataAt S) 2 (addressesOf S) (addressAt S) 16 4 n (omega arith) (omega (arith, total))
       (omega arith, rw (has .at-zero)) (sources .1) (has .at-addresses)
 
-  clock-in : (x : ℕ) → x < 20 → In control K (memoryAt P) (getD (clockWires P) x 0)
+  clock-in : (x : ℕ) → x < 20 → In control K (memoryAt S) (getD (clockWires S) x 0)
   clock-in x l =
-      every-at K (In control K (memoryAt P)) (clockWires P) (clockParts .1) x (rw (outs-len 1 (clockSources P 3) (clockAt P) 0 20) l)
+      every-at K (In control K (memoryAt S)) (clockWires S) (clockParts .1) x (rw (outs-len 1 (clocksOf S) (clockAt S) 0 20) l)
 
-  data-in : (x : ℕ) → x < 20 → In word K n (getD (dataWires P) x 0)
-  data-in x l = every-at K (In word K n) (dataWires P) (dataParts .1) x (rw (outs-len 2 (dataSources P (walkAt P)) (dataAt P) 0 20) l)
+  data-in : (x : ℕ) → x < 20 → In word K n (getD (dataWires S) x 0)
+  data-in x l = every-at K (In word K n) (dataWires S) (dataParts .1) x (rw (outs-len 2 (dataOf S) (dataAt S) 0 20) l)
 
-  address-in : (k : ℕ) → k < 4 → In word K n (getD (addressWires P) k 0)
+  address-in : (k : ℕ) → k < 4 → In word K n (getD (addressWires S) k 0)
   address-in k l =
-      every-at K (In word K n) (addressWires P) (addressParts .1) k (rw (outs-len 2 (addressSources P (walkAt P)) (addressAt P) 16 4) l)
+      every-at K (In word K n) (addressWires S) (addressParts .1) k (rw (outs-len 2 (addressesOf S) (addressAt S) 16 4) l)
 
-  laid-ok : Laid (Ok K n) P
+  laid-ok : Laid (Ok K n) S
   unfolding shape cellTable stands
   laid-ok =
       record {
@@ -265,25 +368,25 @@ module _ (P : Stmt) (w : Formed P) (z : Low P) where
         at-zero = (refl, (refl, tt, refl));
         at-delays = body .0;
         at-clocks = clockParts .0;
-        at-mems = mems-ok K n (memoryAt P) (clockWires P) (dataWires P) (addressWires P) clock-in data-in address-in (memoryAt P) 0 16 (omega arith) (omega arith);
-        at-arrays = arrays-ok K n (memoryAt P) (clockWires P) (dataWires P) (addressWires P) clock-in data-in address-in (arraysAt P) 0 4 (omega arith) (omega arith);
+        at-mems = mems-ok K n (memoryAt S) (clockWires S) (dataWires S) (addressWires S) clock-in data-in address-in (memoryAt S) 0 16 (omega arith) (omega arith);
+        at-arrays = arrays-ok K n (memoryAt S) (clockWires S) (dataWires S) (addressWires S) clock-in data-in address-in (arraysAt S) 0 4 (omega arith) (omega arith);
         at-walk = body .1;
         at-datas = dataParts .0;
         at-addresses = addressParts .0;
       }
 
-  cells-ok : (k : ℕ) → k < length (netlist P) → Ok (kinds (netlist P)) (length (netlist P)) k (cellAt (netlist P) k)
+  cells-ok : (k : ℕ) → k < length (netlist S) → Ok (kinds (netlist S)) (length (netlist S)) k (cellAt (netlist S) k)
   unfolding K n
-  cells-ok k l = rw zero-add at (all-at (Ok K n) (netlist P) 0 (unlay (Ok K n) P laid-ok) k l)
+  cells-ok k l = rw zero-add at (all-at (Ok K n) (netlist S) 0 (unlay (Ok K n) S laid-ok) k l)
 
-  pub finish-ok : In control (kinds (netlist P)) (length (netlist P)) (finish P)
+  pub finish-ok : In control (kinds (netlist S)) (length (netlist S)) (finish S)
   unfolding K n finish
-  finish-ok = (omega (arith, total, body .2 .0), body .2 .1)
+  finish-ok = let f = body .2 (procedures S) (rw (length-append (S .bodies) (S .main ∷ [])) (omega arith)) in (omega (arith, total, f .0), f .1)
 
 -- ---- refusals 11 and 12
 
-module _ (P : Stmt) (w : Formed P) (z : Low P) where
-  placed-ok : (k : ℕ) → placed k (cellAt (netlist P) k) ≡ true
+module _ (S : Program) (w : EveryRoot Numberable 0 (roots S)) where
+  placed-ok : (k : ℕ) → placed k (cellAt (netlist S) k) ≡ true
   unfolding placed netlist
   placed-ok zero = refl
   placed-ok (suc zero) = refl
@@ -291,20 +394,20 @@ module _ (P : Stmt) (w : Formed P) (z : Low P) where
   placed-ok (suc (suc (suc k))) =
       rw (ne-eqb (suc (suc (suc k))) 0 (λ e. omega arith), ne-eqb (suc (suc (suc k))) 1 (λ e. omega arith), ne-eqb (suc (suc (suc k))) 2 (λ e. omega arith))
 
-  faultless-at : (k : ℕ) → k < length (netlist P) → cellFault (netlist P) k ≡ 0
+  faultless-at : (k : ℕ) → k < length (netlist S) → cellFault (netlist S) k ≡ 0
   unfolding cellFault
   faultless-at k l =
-      let r = cells-ok P w z k l in
-      rw (placed-ok k, past-is P, arrays-stand P w k l, looks-keeps (netlist P) k (cellAt (netlist P) k) (r .0) (r .1))
+      let r = cells-ok S w k l in
+      rw (placed-ok k, past-is S, arrays-stand S w k l, looks-keeps (netlist S) k (cellAt (netlist S) k) (r .0) (r .1))
 
-  pub net-accepted : netCheck (netlist P) (finish P) ≡ Accepted
+  pub net-accepted : netCheck (netlist S) (finish S) ≡ Accepted
   unfolding netCheck
   net-accepted =
-      let c = faultless (cellFault (netlist P)) 0 (length (netlist P)) (λ j l h. faultless-at j (omega arith)) in
-      rw (c, eq-eqb (memories (netlist P)) 16 (sixteen P w), past-is P, le-ltb (length (netlist P)) (arraysAt P + 8) (omega (arith, net-length P)), finish-ok P w z .1)
+      let c = faultless (cellFault (netlist S)) 0 (length (netlist S)) (λ j l h. faultless-at j (omega arith)) in
+      rw (c, eq-eqb (memories (netlist S)) 16 (sixteen S w), past-is S, le-ltb (length (netlist S)) (arraysAt S + 8) (omega (arith, net-length S)), finish-ok S w .1)
 
-  pub count-right : nodes P ≤ 200 → countWrong (blocksFor (length (netlist P))) (length (netlist P)) (finish P) ≡ false
+  pub count-right : rootNodes (roots S) ≤ 200 → countWrong (blocksFor (length (netlist S))) (length (netlist S)) (finish S) ≡ false
   unfolding countWrong
   count-right l =
-      let n = length (netlist P) in
-      rw (le-leb 27 n (omega (arith, net-length P)), le-leb n 1024 (omega (arith, size P)), eq-eqb (blocksFor n) (blocksFor n) refl, lt-ltb (finish P) n (finish-ok P w z .0))
+      let n = length (netlist S) in
+      rw (le-leb 27 n (omega (arith, net-length S)), le-leb n 1024 (omega (arith, size S)), eq-eqb (blocksFor n) (blocksFor n) refl, lt-ltb (finish S) n (finish-ok S w .0))

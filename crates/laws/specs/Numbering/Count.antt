@@ -8,8 +8,8 @@ use native.Mathlib.Omega.{arith}
 use lib.Dec.{eqb, eqb→eq}
 use lib.ListN.{length, length-append}
 use Rattle.model.specs.Word.{pick}
-use Rattle.model.specs.Program.{Expr, const, var, compl, op, elem, Stmt, ok, tick, assign, assignElem, seq, par, ite, while, repeat, loop, exit}
-use Rattle.model.specs.Numbering.{exprCount, ifDelayCount, delayCount, exitCount, walkCount, clockSources, dataSources, addressSources, Source, wiresOf, orCount, orCountFrom, netlist}
+use Rattle.model.specs.Program.{Expr, const, var, compl, op, elem, Code, ok, tick, assign, assignElem, seq, par, ite, while, repeat, loop, exit, call, Program, roots}
+use Rattle.model.specs.Numbering.{exprCount, ifDelayCount, delayCount, exitCount, walkCount, clockSources, dataSources, addressSources, callSources, Source, wiresOf, orCount, orCountFrom, rootDelayCount, rootWalk, pastRoot, rootWalkCount, rootSources, rootWalkSources, callsOf, clocksOf, dataOf, addressesOf, netlist}
 use Rattle.model.specs.Numbering.{walkAt}
 use Rattle.laws.specs.Refusals.Laws.{is-false}
 use Rattle.laws.specs.Numbering.Parts.{net-length}
@@ -21,7 +21,7 @@ eNodes (compl e) = 1 + eNodes e
 eNodes (op k e f) = 1 + eNodes e + eNodes f
 eNodes (elem k e) = 1 + eNodes e
 
-unfoldable pub nodes : Stmt → ℕ
+unfoldable pub nodes : Code → ℕ
 nodes ok = 1
 nodes (tick δ) = 1
 nodes (assign δ x e) = 1 + eNodes e
@@ -33,6 +33,11 @@ nodes (while δ e P) = 1 + eNodes e + nodes P
 nodes (repeat δ e P) = 1 + eNodes e + nodes P
 nodes (loop δ P) = 1 + nodes P
 nodes exit = 1
+nodes (call δ p) = 1
+
+unfoldable pub rootNodes : List Code → ℕ
+rootNodes [] = 0
+rootNodes (P ∷ Ps) = nodes P + rootNodes Ps
 
 e-count : (e : Expr) → (exprCount e ≤ eNodes e) × (1 ≤ eNodes e)
 unfolding exprCount eNodes
@@ -48,10 +53,12 @@ own-count zero = omega arith
 own-count (suc δ) = omega arith
 
 -- delay cells, walk cells and an or of each sort for each assignment; an exit that ends a loop around P will need at most one or, and counts as
--- a cell already
-count : (P : Stmt) (d c : ℕ)
-    → delayCount P + walkCount P + exitCount P + length (clockSources P d) + length (dataSources P c) + length (addressSources P c) ≤ 3 * nodes P
-unfolding delayCount exitCount walkCount clockSources dataSources addressSources nodes
+-- a cell already, and so does a call, whose procedure will need at most one or for it
+count : (P : Code) (d c : ℕ)
+    → delayCount P + walkCount P + exitCount P + length (clockSources P d) + length (dataSources P c) + length (addressSources P c)
+    + length (callSources P d)
+    ≤ 3 * nodes P
+unfolding delayCount exitCount walkCount clockSources dataSources addressSources callSources nodes
 count ok d c = omega arith
 count (tick δ) d c = omega arith
 count (assign δ x e) d c = let h = e-count e in omega arith
@@ -69,6 +76,7 @@ count (while δ e P) d c = let h = count P (d + 1) (c + exprCount e + 1 + 1) in 
 count (repeat δ e P) d c = let h = count P (d + 1) (c + exprCount e + 1 + 1 + 1) in let he = e-count e in omega arith
 count (loop δ P) d c = let h = count P (d + 1) (c + 1) in omega arith
 count exit d c = omega arith
+count (call δ p) d c = omega arith
 
 -- the ors of variables x and on are no more than the wires
 nOrs-le : (ws : List ℕ) → orCount ws ≤ length ws
@@ -118,20 +126,35 @@ wires-le : (ws : List Source) (x j : ℕ) → wires ws x j ≤ length ws
 wires-le [] x j = rw wires-nil (omega arith)
 wires-le (w ∷ ws) x j = let h = wires-le ws x j in let h′ = add-one-wire w ws x j in omega arith
 
-pub size : (P : Stmt) → length (netlist P) ≤ 27 + 3 * nodes P
-size P =
-    let c = count P 3 (walkAt P) in
-    let a = addressSources P (walkAt P) in
+-- of several roots: the ors of their callers are no more than the calls
+roots-count : (cs : List Source) (r : ℕ) (Ps : List Code) (d c : ℕ)
+    → rootDelayCount Ps + rootWalkCount cs r Ps + length (rootSources clockSources Ps d) + length (rootWalkSources dataSources cs r Ps c)
+    + length (rootWalkSources addressSources cs r Ps c)
+    + length (rootSources callSources Ps d)
+    ≤ 3 * rootNodes Ps + wires cs r (length Ps)
+unfolding rootDelayCount rootWalkCount rootSources rootWalkSources rootNodes wires
+roots-count cs r [] d c = omega arith
+roots-count cs r (P ∷ Ps) d c =
+    simp length-append
+    (let h = count P d (rootWalk cs r c) in
+    let h′ = roots-count cs (r + 1) Ps (d + delayCount P) (pastRoot cs r P c) in
+    let l = nOrs-le (wiresOf r cs) in
+    omega arith)
+
+pub size : (S : Program) → length (netlist S) ≤ 27 + 3 * rootNodes (roots S)
+size S =
     omega (
       arith,
-      net-length P,
-      ors-wires (clockSources P 3) 0 20,
-      wires-le (clockSources P 3) 0 20,
-      ors-wires (dataSources P (walkAt P)) 0 20,
-      wires-le (dataSources P (walkAt P)) 0 20,
-      ors-wires a 16 4,
-      wires-le a 16 4,
+      roots-count (callsOf S) 0 (roots S) 3 (walkAt S),
+      wires-le (callsOf S) 0 (length (roots S)),
+      net-length S,
+      ors-wires (clocksOf S) 0 20,
+      wires-le (clocksOf S) 0 20,
+      ors-wires (dataOf S) 0 20,
+      wires-le (dataOf S) 0 20,
+      ors-wires (addressesOf S) 16 4,
+      wires-le (addressesOf S) 16 4,
     )
 
-pub fits : (P : Stmt) → nodes P ≤ 200 → (27 ≤ length (netlist P)) × (length (netlist P) ≤ 627)
-fits P h = let s = size P in omega (arith, net-length P)
+pub fits : (S : Program) → rootNodes (roots S) ≤ 200 → (27 ≤ length (netlist S)) × (length (netlist S) ≤ 627)
+fits S h = let s = size S in omega (arith, net-length S)

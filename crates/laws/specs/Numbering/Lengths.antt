@@ -5,8 +5,8 @@ use mathlib.Core.List.{List, [], _∷_}
 use Prim.Native.Nat.{ℕ, zero, suc, _+_, _-_}
 use native.Mathlib.Omega.{arith}
 use lib.ListN.{length, length-append}
-use Rattle.model.specs.Program.{Expr, const, var, compl, op, elem, Stmt, ok, tick, assign, assignElem, seq, par, ite, while, repeat, loop, exit}
-use Rattle.model.specs.Numbering.{exprCount, exprCells, ifDelayCount, ifDelayCells, orChain, ors, orCount, delayCount, exitCount, walkCount, exitsAt, finishWire, exitWires, delays, walk}
+use Rattle.model.specs.Program.{Expr, const, var, compl, op, elem, Code, ok, tick, assign, assignElem, seq, par, ite, while, repeat, loop, exit, call}
+use Rattle.model.specs.Numbering.{exprCount, exprCells, ifDelayCount, ifDelayCells, orChain, ors, orCount, delayCount, exitCount, walkCount, exitsAt, finishWire, exitWires, delays, walk, Source, wiresOf, rootDelayCount, rootStart, rootWalk, pastRoot, rootWalkCount, rootFinishes, rootDelays, rootWalks}
 
 pub e-len : (M : ℕ) (e : Expr) (c : ℕ) → length (exprCells M e c) ≡ exprCount e
 unfolding exprCells exprCount
@@ -31,7 +31,7 @@ unfolding ifDelayCells ifDelayCount
 own-len zero s = refl
 own-len (suc δ) s = refl
 
-pub d-len : (P : Stmt) (s d c : ℕ) → length (delays P s d c) ≡ delayCount P
+pub d-len : (P : Code) (s d c : ℕ) → length (delays P s d c) ≡ delayCount P
 unfolding delays delayCount
 d-len ok s d c = refl
 d-len (tick δ) s d c = refl
@@ -50,9 +50,10 @@ d-len (while δ e P) s d c = rw (d-len P (c + exprCount e) (d + 1) (c + exprCoun
 d-len (repeat δ e P) s d c = rw (d-len P (c + exprCount e + 1 + 1) (d + 1) (c + exprCount e + 1 + 1 + 1)) (omega arith)
 d-len (loop δ P) s d c = rw (d-len P c (d + 1) (c + 1)) (omega arith)
 d-len exit s d c = refl
+d-len (call δ p) s d c = refl
 
 -- the exits, and the ors that join them
-pub x-len : (P : Stmt) (s d c : ℕ) → length (exitWires P s d c) ≡ exitCount P
+pub x-len : (P : Code) (s d c : ℕ) → length (exitWires P s d c) ≡ exitCount P
 unfolding exitWires exitCount
 x-len ok s d c = refl
 x-len (tick δ) s d c = refl
@@ -70,33 +71,64 @@ x-len (while δ e P) s d c = x-len P (c + exprCount e) (d + 1) (c + exprCount e 
 x-len (repeat δ e P) s d c = x-len P (c + exprCount e + 1 + 1) (d + 1) (c + exprCount e + 1 + 1 + 1)
 x-len (loop δ P) s d c = refl
 x-len exit s d c = refl
+x-len (call δ p) s d c = refl
 
 pub or-count : (ws : List ℕ) → orCount ws ≡ length ws - 1
 unfolding orCount
 or-count [] = refl
 or-count (w ∷ ws) = omega arith
 
-pub exit-ors : (P : Stmt) (s d c : ℕ) → orCount (exitWires P s d c) ≡ exitCount P - 1
+pub exit-ors : (P : Code) (s d c : ℕ) → orCount (exitWires P s d c) ≡ exitCount P - 1
 exit-ors P s d c = or-count (exitWires P s d c) ∙ ap (λ (k : ℕ). k - 1) (x-len P s d c)
 
-pub w-len : (M : ℕ) (P : Stmt) (s d c : ℕ) → length (walk M P s d c) ≡ walkCount P
+pub w-len : (M : ℕ) (F : ℕ → ℕ) (P : Code) (s d c : ℕ) → length (walk M F P s d c) ≡ walkCount P
 unfolding walk walkCount
-w-len M ok s d c = refl
-w-len M (tick δ) s d c = refl
-w-len M (assign δ x e) s d c = simp (length-append, e-len)
-w-len M (assignElem δ k i e) s d c = simp (length-append, e-len)
-w-len M (seq P Q) s d c = simp (length-append, w-len M P s d c, w-len M Q (finishWire P s d c) (d + delayCount P) (c + walkCount P))
-w-len M (par P Q) s d c = simp (length-append, w-len M P s d c, w-len M Q s (d + delayCount P) (c + walkCount P))
-w-len M (ite δ e P Q) s d c =
+w-len M F ok s d c = refl
+w-len M F (tick δ) s d c = refl
+w-len M F (assign δ x e) s d c = simp (length-append, e-len)
+w-len M F (assignElem δ k i e) s d c = simp (length-append, e-len)
+w-len M F (seq P Q) s d c = simp (length-append, w-len M F P s d c, w-len M F Q (finishWire P s d c) (d + delayCount P) (c + walkCount P))
+w-len M F (par P Q) s d c = simp (length-append, w-len M F P s d c, w-len M F Q s (d + delayCount P) (c + walkCount P))
+w-len M F (ite δ e P Q) s d c =
     simp (
       length-append,
       e-len,
-      w-len M P (c + exprCount e) (d + ifDelayCount δ) (c + exprCount e + 1 + 1),
-      w-len M Q (c + exprCount e + 1) (d + ifDelayCount δ + delayCount P) (c + exprCount e + 1 + 1 + walkCount P),
+      w-len M F P (c + exprCount e) (d + ifDelayCount δ) (c + exprCount e + 1 + 1),
+      w-len M F Q (c + exprCount e + 1) (d + ifDelayCount δ + delayCount P) (c + exprCount e + 1 + 1 + walkCount P),
     )
     (omega arith)
-w-len M (while δ e P) s d c = simp (length-append, e-len, w-len M P (c + exprCount e) (d + 1) (c + exprCount e + 1 + 1)) (omega arith)
-w-len M (repeat δ e P) s d c = simp (length-append, e-len, w-len M P (c + exprCount e + 1 + 1) (d + 1) (c + exprCount e + 1 + 1 + 1)) (omega arith)
-w-len M (loop δ P) s d c =
-    simp (length-append, w-len M P c (d + 1) (c + 1), ors-len 35 (exitsAt P c) (exitWires P c (d + 1) (c + 1)), exit-ors P c (d + 1) (c + 1)) (omega arith)
-w-len M exit s d c = refl
+w-len M F (while δ e P) s d c = simp (length-append, e-len, w-len M F P (c + exprCount e) (d + 1) (c + exprCount e + 1 + 1)) (omega arith)
+w-len M F (repeat δ e P) s d c = simp (length-append, e-len, w-len M F P (c + exprCount e + 1 + 1) (d + 1) (c + exprCount e + 1 + 1 + 1)) (omega arith)
+w-len M F (loop δ P) s d c =
+    simp (length-append, w-len M F P c (d + 1) (c + 1), ors-len 35 (exitsAt P c) (exitWires P c (d + 1) (c + 1)), exit-ors P c (d + 1) (c + 1)) (omega arith)
+w-len M F exit s d c = refl
+w-len M F (call δ p) s d c = refl
+
+-- of several roots
+pub root-d-len : (z : ℕ) (cs : List Source) (r : ℕ) (Ps : List Code) (d c : ℕ) → length (rootDelays z cs r Ps d c) ≡ rootDelayCount Ps
+unfolding rootDelays rootDelayCount
+root-d-len z cs r [] d c = refl
+root-d-len z cs r (P ∷ Ps) d c =
+    simp (
+      length-append,
+      d-len P (rootStart z cs r c) d (rootWalk cs r c),
+      root-d-len z cs (r + 1) Ps (d + delayCount P) (pastRoot cs r P c),
+    )
+
+pub root-w-len : (M : ℕ) (F : ℕ → ℕ) (z : ℕ) (cs : List Source) (r : ℕ) (Ps : List Code) (d c : ℕ)
+    → length (rootWalks M F z cs r Ps d c) ≡ rootWalkCount cs r Ps
+unfolding rootWalks rootWalkCount
+root-w-len M F z cs r [] d c = refl
+root-w-len M F z cs r (P ∷ Ps) d c =
+    simp (
+      length-append,
+      ors-len 35 c (wiresOf r cs),
+      w-len M F P (rootStart z cs r c) d (rootWalk cs r c),
+      root-w-len M F z cs (r + 1) Ps (d + delayCount P) (pastRoot cs r P c),
+    )
+    (omega arith)
+
+pub finishes-len : (z : ℕ) (cs : List Source) (r : ℕ) (Ps : List Code) (d c : ℕ) → length (rootFinishes z cs r Ps d c) ≡ length Ps
+unfolding rootFinishes
+finishes-len z cs r [] d c = refl
+finishes-len z cs r (P ∷ Ps) d c = ap suc (finishes-len z cs (r + 1) Ps (d + delayCount P) (pastRoot cs r P c))

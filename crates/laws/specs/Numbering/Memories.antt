@@ -9,13 +9,13 @@ use lib.Dec.{eqb}
 use borrow.Author.Tests.{ne-eqb, not-true}
 use Rattle.model.specs.declared.Cell.{Cell}
 use Rattle.model.specs.Word.{bit}
-use Rattle.model.specs.Program.{Expr, const, var, compl, op, elem, Stmt, ok, tick, assign, assignElem, seq, par, ite, while, repeat, loop, exit}
+use Rattle.model.specs.Program.{Expr, const, var, compl, op, elem, Code, ok, tick, assign, assignElem, seq, par, ite, while, repeat, loop, exit, call}
 use Rattle.model.specs.Circuit.{memories}
 use Rattle.model.specs.NetlistFile.{ofArray}
-use Rattle.model.specs.Numbering.{exprCount, exprCells, ifDelayCount, ifDelayCells, delayCount, walkCount, exitsAt, finishWire, exitWires, delays, walk, Source, wiresOf}
+use Rattle.model.specs.Numbering.{exprCount, exprCells, ifDelayCount, ifDelayCells, delayCount, walkCount, exitsAt, finishWire, exitWires, delays, walk, Source, wiresOf, rootStart, rootWalk, pastRoot, rootDelays, rootWalks}
 use Rattle.model.specs.Numbering.{orChain, ors, orCount, orsFrom, memoriesOf}
 use Rattle.laws.specs.Refusals.Laws.{and-true, or-false}
-use Rattle.laws.specs.Program.Fit.{FormedExpr, Formed}
+use Rattle.laws.specs.Program.Fit.{FormedExpr, Formed, EveryRoot, Numberable}
 
 pub memories-append : (xs ys : List Cell) → memories (xs ++ ys) ≡ memories xs + memories ys
 unfolding memories
@@ -55,7 +55,7 @@ unfolding plain ifDelayCells
 own-plain zero s = refl
 own-plain (suc δ) s = refl
 
-pub delays-plain : (P : Stmt) (s d c : ℕ) → plain (delays P s d c) ≡ true
+pub delays-plain : (P : Code) (s d c : ℕ) → plain (delays P s d c) ≡ true
 unfolding plain delays
 delays-plain ok s d c = refl
 delays-plain (tick δ) s d c = refl
@@ -74,6 +74,17 @@ delays-plain (while δ e P) s d c = rw (delays-plain P (c + exprCount e) (d + 1)
 delays-plain (repeat δ e P) s d c = rw (delays-plain P (c + exprCount e + 1 + 1) (d + 1) (c + exprCount e + 1 + 1 + 1))
 delays-plain (loop δ P) s d c = rw (delays-plain P c (d + 1) (c + 1))
 delays-plain exit s d c = refl
+delays-plain (call δ p) s d c = refl
+
+pub root-delays-plain : (z : ℕ) (cs : List Source) (r : ℕ) (Ps : List Code) (d c : ℕ) → plain (rootDelays z cs r Ps d c) ≡ true
+unfolding plain rootDelays
+root-delays-plain z cs r [] d c = refl
+root-delays-plain z cs r (P ∷ Ps) d c =
+    simp (
+      plain-append,
+      delays-plain P (rootStart z cs r c) d (rootWalk cs r c),
+      root-delays-plain z cs (r + 1) Ps (d + delayCount P) (pastRoot cs r P c),
+    )
 
 module _ (kind : ℕ) (other : plainKind kind ≡ true) where
   chain-plain : (acc n : ℕ) (ws : List ℕ) → plain (orChain kind acc n ws) ≡ true
@@ -105,28 +116,41 @@ e-plain M (compl e) w c = simp (plain-append, e-plain M e w c)
 e-plain M (op k e f) w c = simp (plain-append, e-plain M e (w .2) c, e-plain M f (w .3) (c + exprCount e), op-plain k (w .0) (w .1))
 e-plain M (elem k e) w c = simp (plain-append, e-plain M e (w .1) c)
 
-pub walk-plain : (M : ℕ) (P : Stmt) → Formed P → (s d c : ℕ) → plain (walk M P s d c) ≡ true
+pub walk-plain : (M : ℕ) (F : ℕ → ℕ) (P : Code) → Formed P → (s d c : ℕ) → plain (walk M F P s d c) ≡ true
 unfolding plain plainKind walk
-walk-plain M ok w s d c = refl
-walk-plain M (tick δ) w s d c = refl
-walk-plain M (assign δ x e) w s d c = simp (plain-append, e-plain M e (w .2) c)
-walk-plain M (assignElem δ k i e) w s d c = simp (plain-append, e-plain M i (w .2) c, e-plain M e (w .3) (c + exprCount i))
-walk-plain M (seq P Q) w s d c =
-    simp (plain-append, walk-plain M P (w .0) s d c, walk-plain M Q (w .1) (finishWire P s d c) (d + delayCount P) (c + walkCount P))
-walk-plain M (par P Q) w s d c = simp (plain-append, walk-plain M P (w .0) s d c, walk-plain M Q (w .1) s (d + delayCount P) (c + walkCount P))
-walk-plain M (ite δ e P Q) w s d c =
+walk-plain M F ok w s d c = refl
+walk-plain M F (tick δ) w s d c = refl
+walk-plain M F (assign δ x e) w s d c = simp (plain-append, e-plain M e (w .2) c)
+walk-plain M F (assignElem δ k i e) w s d c = simp (plain-append, e-plain M i (w .2) c, e-plain M e (w .3) (c + exprCount i))
+walk-plain M F (seq P Q) w s d c =
+    simp (plain-append, walk-plain M F P (w .0) s d c, walk-plain M F Q (w .1) (finishWire P s d c) (d + delayCount P) (c + walkCount P))
+walk-plain M F (par P Q) w s d c = simp (plain-append, walk-plain M F P (w .0) s d c, walk-plain M F Q (w .1) s (d + delayCount P) (c + walkCount P))
+walk-plain M F (ite δ e P Q) w s d c =
     simp (
       plain-append,
       e-plain M e (w .1) c,
-      walk-plain M P (w .2) (c + exprCount e) (d + ifDelayCount δ) (c + exprCount e + 1 + 1),
-      walk-plain M Q (w .3) (c + exprCount e + 1) (d + ifDelayCount δ + delayCount P) (c + exprCount e + 1 + 1 + walkCount P),
+      walk-plain M F P (w .2) (c + exprCount e) (d + ifDelayCount δ) (c + exprCount e + 1 + 1),
+      walk-plain M F Q (w .3) (c + exprCount e + 1) (d + ifDelayCount δ + delayCount P) (c + exprCount e + 1 + 1 + walkCount P),
     )
-walk-plain M (while δ e P) w s d c =
-    simp (plain-append, e-plain M e (w .1) c, walk-plain M P (w .2) (c + exprCount e) (d + 1) (c + exprCount e + 1 + 1))
-walk-plain M (repeat δ e P) w s d c =
-    simp (plain-append, e-plain M e (w .1) c, walk-plain M P (w .2) (c + exprCount e + 1 + 1) (d + 1) (c + exprCount e + 1 + 1 + 1))
-walk-plain M (loop δ P) w s d c = simp (plain-append, walk-plain M P (w .1) c (d + 1) (c + 1), ors-plain 35 refl (exitsAt P c) (exitWires P c (d + 1) (c + 1)))
-walk-plain M exit w s d c = refl
+walk-plain M F (while δ e P) w s d c =
+    simp (plain-append, e-plain M e (w .1) c, walk-plain M F P (w .2) (c + exprCount e) (d + 1) (c + exprCount e + 1 + 1))
+walk-plain M F (repeat δ e P) w s d c =
+    simp (plain-append, e-plain M e (w .1) c, walk-plain M F P (w .2) (c + exprCount e + 1 + 1) (d + 1) (c + exprCount e + 1 + 1 + 1))
+walk-plain M F (loop δ P) w s d c = simp (plain-append, walk-plain M F P (w .1) c (d + 1) (c + 1), ors-plain 35 refl (exitsAt P c) (exitWires P c (d + 1) (c + 1)))
+walk-plain M F exit w s d c = refl
+walk-plain M F (call δ p) w s d c = refl
+
+pub root-walks-plain : (M : ℕ) (F : ℕ → ℕ) (z : ℕ) (cs : List Source) (r : ℕ) (Ps : List Code) → EveryRoot Numberable r Ps → (d c : ℕ)
+    → plain (rootWalks M F z cs r Ps d c) ≡ true
+unfolding plain plainKind rootWalks
+root-walks-plain M F z cs r [] w d c = refl
+root-walks-plain M F z cs r (P ∷ Ps) w d c =
+    simp (
+      plain-append,
+      ors-plain 35 refl c (wiresOf r cs),
+      walk-plain M F P (w .0 .0) (rootStart z cs r c) d (rootWalk cs r c),
+      root-walks-plain M F z cs (r + 1) Ps (w .1) (d + delayCount P) (pastRoot cs r P c),
+    )
 
 -- ---- memories
 

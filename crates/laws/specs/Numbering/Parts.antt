@@ -4,14 +4,14 @@ use mathlib.Core.List.{List, _++_}
 use Prim.Native.Nat.{ℕ, zero, suc, _+_, _*_}
 use native.Mathlib.Omega.{arith}
 use lib.ListN.{length, length-append}
-use Rattle.model.specs.Program.{Stmt}
+use Rattle.model.specs.Program.{Program, roots}
 use Rattle.model.specs.declared.Cell.{Cell}
 use Rattle.model.specs.Circuit.{cell}
-use Rattle.model.specs.Numbering.{delayCount, walkCount, delays, walk, clockSources, dataSources, addressSources, Source, wiresOf}
+use Rattle.model.specs.Numbering.{Source, wiresOf, rootDelayCount, rootWalkCount, rootDelays, rootWalks, callsOf, clocksOf, dataOf, addressesOf, procedures, finishOfRoot}
 use Rattle.model.specs.Numbering.{ors, orCount, orsFrom, outsFrom, orCountFrom, memoriesOf, arraysOf, netlist}
 use Rattle.model.specs.Numbering.{clockAt, memoryAt, arraysAt, walkAt, dataAt, addressAt, clockWires, dataWires, addressWires}
 use Rattle.laws.specs.Numbering.Cells.{All, split, join}
-use Rattle.laws.specs.Numbering.Lengths.{ors-len, d-len, w-len}
+use Rattle.laws.specs.Numbering.Lengths.{ors-len, root-d-len, root-w-len}
 
 -- ---- lengths
 
@@ -37,73 +37,73 @@ unfolding arraysOf
 arrays-len ks ds js k zero = refl
 arrays-len ks ds js k (suc n) = omega (arith, arrays-len ks ds js (k + 1) n)
 
-pub net-length : (P : Stmt) → length (netlist P) ≡ addressAt P + orCountFrom (addressSources P (walkAt P)) 16 4
+pub net-length : (S : Program) → length (netlist S) ≡ addressAt S + orCountFrom (addressesOf S) 16 4
 unfolding netlist
-net-length P = simp (length-append, d-len, w-len, orsFrom-len, mems-len, arrays-len) (omega arith)
+net-length S = simp (length-append, root-d-len, root-w-len, orsFrom-len, mems-len, arrays-len) (omega arith)
 
 -- ---- the parts
 
-module _ (P : Stmt) where
+module _ (S : Program) where
   abbrev pub delayCells : List Cell
-  delayCells = delays P 0 3 (walkAt P)
+  delayCells = rootDelays (procedures S) (callsOf S) 0 (roots S) 3 (walkAt S)
 
   abbrev pub clockOrs : List Cell
-  clockOrs = orsFrom 35 (clockSources P 3) (clockAt P) 0 20
+  clockOrs = orsFrom 35 (clocksOf S) (clockAt S) 0 20
 
   abbrev pub memoryCells : List Cell
-  memoryCells = memoriesOf (clockWires P) (dataWires P) 0 16
+  memoryCells = memoriesOf (clockWires S) (dataWires S) 0 16
 
   abbrev pub arrayCells : List Cell
-  arrayCells = arraysOf (clockWires P) (dataWires P) (addressWires P) 0 4
+  arrayCells = arraysOf (clockWires S) (dataWires S) (addressWires S) 0 4
 
   abbrev pub walkCells : List Cell
-  walkCells = walk (memoryAt P) P 0 3 (walkAt P)
+  walkCells = rootWalks (memoryAt S) (finishOfRoot S) (procedures S) (callsOf S) 0 (roots S) 3 (walkAt S)
 
   abbrev pub dataOrs : List Cell
-  dataOrs = orsFrom 7 (dataSources P (walkAt P)) (dataAt P) 0 20
+  dataOrs = orsFrom 7 (dataOf S) (dataAt S) 0 20
 
   abbrev pub addressOrs : List Cell
-  addressOrs = orsFrom 7 (addressSources P (walkAt P)) (addressAt P) 16 4
+  addressOrs = orsFrom 7 (addressesOf S) (addressAt S) 16 4
 
-pub record Laid (R : ℕ → Cell → Type 0) (P : Stmt) : Type 0 where
+pub record Laid (R : ℕ → Cell → Type 0) (S : Program) : Type 0 where
   pub at-start : R 0 (cell 32 0 0 0)
   pub at-ground : R 1 (cell 33 0 0 0)
   pub at-zero : R 2 (cell 1 0 0 0)
-  pub at-delays : All R 3 (delayCells P)
-  pub at-clocks : All R (clockAt P) (clockOrs P)
-  pub at-mems : All R (memoryAt P) (memoryCells P)
-  pub at-arrays : All R (arraysAt P) (arrayCells P)
-  pub at-walk : All R (walkAt P) (walkCells P)
-  pub at-datas : All R (dataAt P) (dataOrs P)
-  pub at-addresses : All R (addressAt P) (addressOrs P)
+  pub at-delays : All R 3 (delayCells S)
+  pub at-clocks : All R (clockAt S) (clockOrs S)
+  pub at-mems : All R (memoryAt S) (memoryCells S)
+  pub at-arrays : All R (arraysAt S) (arrayCells S)
+  pub at-walk : All R (walkAt S) (walkCells S)
+  pub at-datas : All R (dataAt S) (dataOrs S)
+  pub at-addresses : All R (addressAt S) (addressOrs S)
 
 -- the parts from each on
-module _ (P : Stmt) where
+module _ (S : Program) where
   abbrev pub fromDatas : List Cell
-  fromDatas = dataOrs P ++ addressOrs P
+  fromDatas = dataOrs S ++ addressOrs S
 
   abbrev pub fromWalk : List Cell
-  fromWalk = walkCells P ++ fromDatas
+  fromWalk = walkCells S ++ fromDatas
 
   abbrev pub fromArrays : List Cell
-  fromArrays = arrayCells P ++ fromWalk
+  fromArrays = arrayCells S ++ fromWalk
 
   abbrev pub fromMemories : List Cell
-  fromMemories = memoryCells P ++ fromArrays
+  fromMemories = memoryCells S ++ fromArrays
 
   abbrev pub fromClocks : List Cell
-  fromClocks = clockOrs P ++ fromMemories
+  fromClocks = clockOrs S ++ fromMemories
 
-module _ (R : ℕ → Cell → Type 0) (P : Stmt) where
-  pub lay : All R 0 (netlist P) → Laid R P
+module _ (R : ℕ → Cell → Type 0) (S : Program) where
+  pub lay : All R 0 (netlist S) → Laid R S
   unfolding netlist
   lay h =
-      let r₁ = split R 3 (delayCount P) (delayCells P) (fromClocks P) (d-len P 0 3 (walkAt P)) (h .1 .1 .1) in
-      let r₂ = split R (clockAt P) (orCountFrom (clockSources P 3) 0 20) (clockOrs P) (fromMemories P) (orsFrom-len 35 (clockSources P 3) (clockAt P) 0 20) (r₁ .1) in
-      let r₃ = split R (memoryAt P) 16 (memoryCells P) (fromArrays P) (mems-len (clockWires P) (dataWires P) 0 16) (r₂ .1) in
-      let r₄ = split R (arraysAt P) 8 (arrayCells P) (fromWalk P) (arrays-len (clockWires P) (dataWires P) (addressWires P) 0 4) (r₃ .1) in
-      let r₅ = split R (walkAt P) (walkCount P) (walkCells P) (fromDatas P) (w-len (memoryAt P) P 0 3 (walkAt P)) (r₄ .1) in
-      let r₆ = split R (dataAt P) (orCountFrom (dataSources P (walkAt P)) 0 20) (dataOrs P) (addressOrs P) (orsFrom-len 7 (dataSources P (walkAt P)) (dataAt P) 0 20) (r₅ .1) in
+      let r₁ = split R 3 (rootDelayCount (roots S)) (delayCells S) (fromClocks S) (root-d-len (procedures S) (callsOf S) 0 (roots S) 3 (walkAt S)) (h .1 .1 .1) in
+      let r₂ = split R (clockAt S) (orCountFrom (clocksOf S) 0 20) (clockOrs S) (fromMemories S) (orsFrom-len 35 (clocksOf S) (clockAt S) 0 20) (r₁ .1) in
+      let r₃ = split R (memoryAt S) 16 (memoryCells S) (fromArrays S) (mems-len (clockWires S) (dataWires S) 0 16) (r₂ .1) in
+      let r₄ = split R (arraysAt S) 8 (arrayCells S) (fromWalk S) (arrays-len (clockWires S) (dataWires S) (addressWires S) 0 4) (r₃ .1) in
+      let r₅ = split R (walkAt S) (rootWalkCount (callsOf S) 0 (roots S)) (walkCells S) (fromDatas S) (root-w-len (memoryAt S) (finishOfRoot S) (procedures S) (callsOf S) 0 (roots S) 3 (walkAt S)) (r₄ .1) in
+      let r₆ = split R (dataAt S) (orCountFrom (dataOf S) 0 20) (dataOrs S) (addressOrs S) (orsFrom-len 7 (dataOf S) (dataAt S) 0 20) (r₅ .1) in
       record {
         at-start = h .0;
         at-ground = h .1 .0;
@@ -117,13 +117,13 @@ module _ (R : ℕ → Cell → Type 0) (P : Stmt) where
         at-addresses = r₆ .1;
       }
 
-  pub unlay : Laid R P → All R 0 (netlist P)
+  pub unlay : Laid R S → All R 0 (netlist S)
   unfolding netlist
   unlay r =
-      let r₆ = join R (dataAt P) (orCountFrom (dataSources P (walkAt P)) 0 20) (dataOrs P) (addressOrs P) (orsFrom-len 7 (dataSources P (walkAt P)) (dataAt P) 0 20) (r .at-datas) (r .at-addresses) in
-      let r₅ = join R (walkAt P) (walkCount P) (walkCells P) (fromDatas P) (w-len (memoryAt P) P 0 3 (walkAt P)) (r .at-walk) r₆ in
-      let r₄ = join R (arraysAt P) 8 (arrayCells P) (fromWalk P) (arrays-len (clockWires P) (dataWires P) (addressWires P) 0 4) (r .at-arrays) r₅ in
-      let r₃ = join R (memoryAt P) 16 (memoryCells P) (fromArrays P) (mems-len (clockWires P) (dataWires P) 0 16) (r .at-mems) r₄ in
-      let r₂ = join R (clockAt P) (orCountFrom (clockSources P 3) 0 20) (clockOrs P) (fromMemories P) (orsFrom-len 35 (clockSources P 3) (clockAt P) 0 20) (r .at-clocks) r₃ in
-      let r₁ = join R 3 (delayCount P) (delayCells P) (fromClocks P) (d-len P 0 3 (walkAt P)) (r .at-delays) r₂ in
+      let r₆ = join R (dataAt S) (orCountFrom (dataOf S) 0 20) (dataOrs S) (addressOrs S) (orsFrom-len 7 (dataOf S) (dataAt S) 0 20) (r .at-datas) (r .at-addresses) in
+      let r₅ = join R (walkAt S) (rootWalkCount (callsOf S) 0 (roots S)) (walkCells S) (fromDatas S) (root-w-len (memoryAt S) (finishOfRoot S) (procedures S) (callsOf S) 0 (roots S) 3 (walkAt S)) (r .at-walk) r₆ in
+      let r₄ = join R (arraysAt S) 8 (arrayCells S) (fromWalk S) (arrays-len (clockWires S) (dataWires S) (addressWires S) 0 4) (r .at-arrays) r₅ in
+      let r₃ = join R (memoryAt S) 16 (memoryCells S) (fromArrays S) (mems-len (clockWires S) (dataWires S) 0 16) (r .at-mems) r₄ in
+      let r₂ = join R (clockAt S) (orCountFrom (clocksOf S) 0 20) (clockOrs S) (fromMemories S) (orsFrom-len 35 (clocksOf S) (clockAt S) 0 20) (r .at-clocks) r₃ in
+      let r₁ = join R 3 (rootDelayCount (roots S)) (delayCells S) (fromClocks S) (root-d-len (procedures S) (callsOf S) 0 (roots S) 3 (walkAt S)) (r .at-delays) r₂ in
       (r .at-start, (r .at-ground, (r .at-zero, r₁)))

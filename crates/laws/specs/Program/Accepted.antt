@@ -1,25 +1,31 @@
--- Acceptance: an accepted program's tree has variables below 16, arrays below 4, operators of kinds 4 to 9, delays that are large enough, and
--- parallel sides that are apart. What is said of delays holds under any operator times.
+-- Acceptance: each root of an accepted program has variables below 16, arrays below 4, operators of kinds 4 to 9, delays that are large enough, and
+-- parallel sides that are apart and reach no procedure in common. What is said of delays holds under any operator times.
 -- Assumes nothing.
-use mathlib.Core.Path.{_≡_, refl, _∙_, ap}
+use mathlib.Core.Path.{_≡_, refl, _∙_, ap, subst}
 use mathlib.Core.Bool.{Bool, true, false, _&&_, _||_}
-use mathlib.Core.List.{List}
+use mathlib.Core.List.{List, [], _∷_, _++_, map}
 use Prim.Native.Nat.{ℕ, zero, suc, _-_, _≤_, _<_}
 use native.Mathlib.Omega.{arith}
 use native.Mathlib.Decide.{ℕ-discrete}
+use native.Mathlib.Nat.{le-of-suc-le-suc}
+use lib.ListN.{length, getD}
 use lib.Dec.{ltb, eqb}
 use borrow.Author.Tests.{ltb-true, eqb-true, eqb-false}
 use Rattle.model.specs.declared.Node.{Node}
 use Rattle.model.specs.declared.Checked.the-variants.{Accepted}
 use Rattle.model.specs.declared.Options.{Options}
 use Rattle.model.specs.Word.{pick}
-use Rattle.model.specs.Program.{Expr, Stmt, ok, tick, assign, assignElem, seq, par, ite, while, repeat, loop, exit, Tree, expr, stmt, asExpr, asStmt, exprOf, stmtOf, treeOf, stmtAt, nodeAt, rowOf, programOf, timeIn, least, arrayVar, writes, touches, conflict, conflicts, nodeFault}
+use Rattle.model.specs.Program.{Expr, Code, Stmt, ok, tick, assign, assignElem, seq, par, ite, while, repeat, loop, exit, Tree, expr, stmt, none, asExpr, asStmt, exprOf, stmtOf, treeOf, treesAt, stmtAt, nodeAt, rowOf, Program, programOf, roots, timeIn, least, arrayVar, writes, touches}
+use Rattle.model.specs.Procedures.{bodyAt, inline, inlined, reaches, reached}
+use Rattle.model.specs.ProgramChecks.{conflict, conflicts, shared, shares, nodeFault, programWith}
 use Rattle.model.specs.Calls.{checkCall}
-use Rattle.laws.specs.Program.Fit.{FormedExpr, Formed, Timed, Apart, Separate, Fit}
+use Rattle.laws.specs.Program.Fit.{FormedExpr, Formed, Timed, Apart, Single, Distinct, Fit}
+use Rattle.laws.specs.Program.Inlined.{everywhere-inline, inlined-all}
 use Rattle.laws.specs.Program.Trees.{root-has}
 use Rattle.laws.specs.Program.Grows.{known-kind, low-variable, low-array}
-use Rattle.laws.specs.Program.Passed.{Passed, accepted}
-use Rattle.laws.specs.Refusals.Laws.{or-false}
+use Rattle.laws.specs.Program.Passed.{Passed, accepted, program-trees}
+use Rattle.laws.specs.Program.Enclosed.{rootAt}
+use Rattle.laws.specs.Refusals.Laws.{by-le, or-false}
 
 -- Nodes without fault ------------------------------------------------------------------------------------------------------------------
 
@@ -94,6 +100,23 @@ and-not : (a b : Bool) → (a && b) ≡ false → a ≡ true → b ≡ false
 and-not true b e h = e
 and-not false b e h = cc
 
+-- what the sides write is without calls below 20, too
+pub formed-inline : (I : ℕ → Stmt) → ((p : ℕ) → Formed (I p)) → (P : Code) → Formed P → Formed (inline I P)
+formed-inline I h P w =
+    everywhere-inline _ _ I
+    (record {
+      delays = λ d x. tt;
+      ifDelays = λ d x. tt;
+      loopDelays = λ d x. tt;
+      callDelays = λ d x. tt;
+      variables = λ x l. l;
+      arrays = λ k l. l;
+      exprs = λ e x. x;
+      sides = λ P Q x. tt;
+      bodies = λ p x. h p;
+    })
+    P w
+
 apart : (P Q : Stmt) → Formed P → Formed Q → conflict 20 P Q ≡ false → Apart P Q × Apart Q P
 unfolding Apart
 apart P Q w v e = (
@@ -101,26 +124,20 @@ apart P Q w v e = (
   (λ x h. and-not (writes Q x) (touches P x) (no-clash 20 P Q e x (written-low Q v x h) .1) h),
 )
 
+not-shared : (R : ℕ → ℕ → Bool) (n : ℕ) (P Q : Code) → shared R n P Q ≡ false → (q : ℕ) → q < n → reaches R P q ≡ true → reaches R Q q ≡ false
+unfolding shared
+not-shared R zero P Q e q l h = absurd (omega arith)
+not-shared R (suc n) P Q e q l h =
+    let c = or-false (reaches R P n && reaches R Q n) (shared R n P Q) e in
+    by-le n q
+    (λ o.
+    let z : q ≡ n = omega arith in
+    rw z (and-not (reaches R P n) (reaches R Q n) (c .0) (rw z at h)))
+    (λ o. not-shared R n P Q (c .1) q o h)
+
 -- Trees ----------------------------------------------------------------------------------------------------------------------------------------
 
-abbrev FitT : Tree → Type 0
-FitT (expr e) = FormedExpr e
-FitT (stmt P) = Fit P
-
-fit-e : (t : Tree) → FitT t → FormedExpr (asExpr t)
-unfolding asExpr
-fit-e (expr e) h = h
-fit-e (stmt P) h = tt
-
-ok-fit : Fit ok
-ok-fit = record { formed = tt; timed = tt; separate = tt }
-
-fit-s : (t : Tree) → FitT t → Fit (asStmt t)
-unfolding asStmt
-fit-s (expr e) h = ok-fit
-fit-s (stmt P) h = h
-
-module _ (τ : ℕ → ℕ) (a : Node) (f : nodeFault a ≡ 0) where
+module _ (a : Node) (f : nodeFault a ≡ 0) where
   fit-expr : (e g : Expr) → a .kind < 16 → FormedExpr e → FormedExpr g → FormedExpr (exprOf a e g)
   unfolding exprOf rowOf
   fit-expr e g l p q =
@@ -130,47 +147,145 @@ module _ (τ : ℕ → ℕ) (a : Node) (f : nodeFault a ≡ 0) where
       (λ n3. by-test FormedExpr (eqb (a .kind) 10) _ _ (λ t. (named-array a f 10 (eqb-true _ _ t) refl, p))
       (λ n10. let k = op-kind a f l (eqb-false _ _ n1) (eqb-false _ _ n2) (eqb-false _ _ n3) (eqb-false _ _ n10) in (k .0, k .1, p, q)))))
 
-  abbrev Fits : Stmt → Type 0
-  Fits S = least τ S ≤ a .delay → conflicts S ≡ false → Fit S
+  abbrev Good : Code → Type 0
+  Good P = Formed P
 
-  fit-stmt : (e g : Expr) (O P Q : Stmt) → FormedExpr e → FormedExpr g → Fit O → Fit P → Fit Q → Fits (stmtOf a e g O P Q)
-  unfolding stmtOf least conflicts rowOf
-  fit-stmt e g O P Q w v o p q =
-      by-test Fits (eqb (a .kind) 16) _ _ (λ t h c. ok-fit)
-      (λ n. by-test Fits (eqb (a .kind) 17) _ _ (λ t h c. record { formed = tt; timed = h; separate = tt })
-      (λ n. by-test Fits (eqb (a .kind) 18) _ _
-      (λ t h c. record { formed = (tt, named-low a f 18 (eqb-true _ _ t) refl, w); timed = (omega arith, tt, tt); separate = (tt, tt, tt) })
-      (λ n. by-test Fits (eqb (a .kind) 19) _ _
-      (λ t h c. record { formed = (o .formed, p .formed); timed = (o .timed, p .timed); separate = (o .separate, p .separate) })
-      (λ n. by-test Fits (eqb (a .kind) 20) _ _
-      (λ t h c.
-      record { formed = (o .formed, p .formed, tt); timed = (o .timed, p .timed, tt); separate = (o .separate, p .separate, apart O P (o .formed) (p .formed) c) })
-      (λ n. by-test Fits (eqb (a .kind) 21) _ _
-      (λ t h c. record { formed = (tt, w, p .formed, q .formed); timed = (tt, tt, p .timed, q .timed); separate = (tt, tt, p .separate, q .separate) })
-      (λ n. by-test Fits (eqb (a .kind) 22) _ _
-      (λ t h c. record { formed = (tt, w, p .formed); timed = (omega arith, tt, p .timed); separate = (tt, tt, p .separate) })
-      (λ n. by-test Fits (eqb (a .kind) 24) _ _
-      (λ t h c.
-      record { formed = (tt, named-array a f 24 (eqb-true _ _ t) refl, w, v); timed = (omega arith, tt, tt, tt); separate = (tt, tt, tt, tt) })
-      (λ n. by-test Fits (eqb (a .kind) 25) _ _
-      (λ t h c. record { formed = (tt, o .formed); timed = (h, o .timed); separate = (tt, o .separate) })
-      (λ n. by-test Fits (eqb (a .kind) 26) _ _ (λ t h c. record { formed = tt; timed = tt; separate = tt })
-      (λ n h c. record { formed = (tt, w, p .formed); timed = (omega arith, tt, p .timed); separate = (tt, tt, p .separate) }))))))))))
+  formed-stmt : (e g : Expr) (O P Q : Code) → FormedExpr e → FormedExpr g → Formed O → Formed P → Formed Q → Formed (stmtOf a e g O P Q)
+  unfolding stmtOf rowOf
+  formed-stmt e g O P Q w v o p q =
+      by-test Good (eqb (a .kind) 16) _ _ (λ t. tt)
+      (λ n. by-test Good (eqb (a .kind) 17) _ _ (λ t. tt)
+      (λ n. by-test Good (eqb (a .kind) 18) _ _ (λ t. (tt, named-low a f 18 (eqb-true _ _ t) refl, w))
+      (λ n. by-test Good (eqb (a .kind) 19) _ _ (λ t. (o, p))
+      (λ n. by-test Good (eqb (a .kind) 20) _ _ (λ t. (o, p, tt))
+      (λ n. by-test Good (eqb (a .kind) 21) _ _ (λ t. (tt, w, p, q))
+      (λ n. by-test Good (eqb (a .kind) 22) _ _ (λ t. (tt, w, p))
+      (λ n. by-test Good (eqb (a .kind) 24) _ _ (λ t. (tt, named-array a f 24 (eqb-true _ _ t) refl, w, v))
+      (λ n. by-test Good (eqb (a .kind) 25) _ _ (λ t. (tt, o))
+      (λ n. by-test Good (eqb (a .kind) 26) _ _ (λ t. tt)
+      (λ n. by-test Good (eqb (a .kind) 27) _ _ (λ t. (tt, tt))
+      (λ n. (tt, w, p))))))))))))
 
-  fit-tree : (x y z : Tree) → FitT x → FitT y → FitT z
-      → least τ (asStmt (treeOf a x y z)) ≤ a .delay → conflicts (asStmt (treeOf a x y z)) ≡ false → FitT (treeOf a x y z)
+abbrev FormedT : Tree → Type 0
+FormedT (expr e) = FormedExpr e
+FormedT (stmt P) = Formed P
+
+formed-e : (t : Tree) → FormedT t → FormedExpr (asExpr t)
+unfolding asExpr
+formed-e (expr e) h = h
+formed-e (stmt P) h = tt
+
+formed-s : (t : Tree) → FormedT t → Formed (asStmt t)
+unfolding asStmt
+formed-s (expr e) h = tt
+formed-s (stmt P) h = h
+
+formed-tree : (a : Node) → nodeFault a ≡ 0 → (x y z : Tree) → FormedT x → FormedT y → FormedT z → FormedT (treeOf a x y z)
+unfolding treeOf
+formed-tree a f x y z p q r =
+    by-test FormedT (ltb (a .kind) 16) _ _
+    (λ l. fit-expr a f (asExpr x) (asExpr y) (ltb-true _ _ l) (formed-e x p) (formed-e y q))
+    (λ l. formed-stmt a f (asExpr x) (asExpr y) (asStmt x) (asStmt y) (asStmt z) (formed-e x p) (formed-e y q) (formed-s x p) (formed-s y q) (formed-s z r))
+
+-- what stands with that of a statement of a node: delays, and the sides of parallels
+module _ (τ : ℕ → ℕ) (bodies : List Code) (I : ℕ → Stmt) (formed : (p : ℕ) → Formed (I p)) (R : ℕ → ℕ → Bool) (a : Node) where
+  abbrev Rest : Code → Type 0
+  Rest S = Timed S × Single R (length bodies) S × Distinct I S
+
+  abbrev RestT : Tree → Type 0
+  RestT (expr e) = Unit {0}
+  RestT (stmt P) = Rest P
+
+  rest-s : (t : Tree) → RestT t → Rest (asStmt t)
+  unfolding asStmt
+  rest-s (expr e) h = (tt, tt, tt)
+  rest-s (stmt P) h = h
+
+  abbrev Rests : Code → Type 0
+  Rests S = least τ S ≤ a .delay → shares R (length bodies) S ≡ false → conflicts (inline I S) ≡ false → Rest S
+
+  rest-stmt : (e g : Expr) (O P Q : Code) → Formed O → Formed P → Rest O → Rest P → Rest Q → Rests (stmtOf a e g O P Q)
+  unfolding stmtOf least shares conflicts inline
+  rest-stmt e g O P Q w v o p q =
+      by-test Rests (eqb (a .kind) 16) _ _ (λ t h s c. (tt, tt, tt))
+      (λ n. by-test Rests (eqb (a .kind) 17) _ _ (λ t h s c. (h, tt, tt))
+      (λ n. by-test Rests (eqb (a .kind) 18) _ _ (λ t h s c. ((omega arith, tt, tt), (tt, tt, tt), (tt, tt, tt)))
+      (λ n. by-test Rests (eqb (a .kind) 19) _ _ (λ t h s c. ((o .0, p .0), (o .1, p .1), (o .2, p .2)))
+      (λ n. by-test Rests (eqb (a .kind) 20) _ _
+      (λ t h s c. (
+        (o .0, p .0, tt),
+        (o .1, p .1, not-shared R (length bodies) O P s),
+        (o .2, p .2, apart (inline I O) (inline I P) (formed-inline I formed O w) (formed-inline I formed P v) c),
+      ))
+      (λ n. by-test Rests (eqb (a .kind) 21) _ _ (λ t h s c. ((tt, tt, p .0, q .0), (tt, tt, p .1, q .1), (tt, tt, p .2, q .2)))
+      (λ n. by-test Rests (eqb (a .kind) 22) _ _ (λ t h s c. ((omega arith, tt, p .0), (tt, tt, p .1), (tt, tt, p .2)))
+      (λ n. by-test Rests (eqb (a .kind) 24) _ _ (λ t h s c. ((omega arith, tt, tt, tt), (tt, tt, tt, tt), (tt, tt, tt, tt)))
+      (λ n. by-test Rests (eqb (a .kind) 25) _ _ (λ t h s c. ((h, o .0), (tt, o .1), (tt, o .2)))
+      (λ n. by-test Rests (eqb (a .kind) 26) _ _ (λ t h s c. (tt, tt, tt))
+      (λ n. by-test Rests (eqb (a .kind) 27) _ _ (λ t h s c. ((h, tt), (tt, tt), (tt, tt)))
+      (λ n h s c. ((omega arith, tt, p .0), (tt, tt, p .1), (tt, tt, p .2)))))))))))))
+
+  rest-tree : (x y z : Tree) → FormedT x → FormedT y → RestT x → RestT y → RestT z → least τ (asStmt (treeOf a x y z)) ≤ a .delay
+      → shares R (length bodies) (asStmt (treeOf a x y z)) ≡ false → conflicts (inline I (asStmt (treeOf a x y z))) ≡ false → RestT (treeOf a x y z)
   unfolding treeOf asStmt
-  fit-tree x y z p q r =
-      by-test (λ (t : Tree). least τ (asStmt t) ≤ a .delay → conflicts (asStmt t) ≡ false → FitT t) (ltb (a .kind) 16) _ _
-      (λ l h c. fit-expr (asExpr x) (asExpr y) (ltb-true _ _ l) (fit-e x p) (fit-e y q))
-      (λ l h c. fit-stmt (asExpr x) (asExpr y) (asStmt x) (asStmt y) (asStmt z) (fit-e x p) (fit-e y q) (fit-s x p) (fit-s y q) (fit-s z r) h c)
+  rest-tree x y z w v p q r =
+      by-test
+      (λ (t : Tree). least τ (asStmt t) ≤ a .delay → shares R (length bodies) (asStmt t) ≡ false → conflicts (inline I (asStmt t)) ≡ false → RestT t)
+      (ltb (a .kind) 16) _ _
+      (λ l h s c. tt)
+      (λ l h s c.
+      rest-stmt (asExpr x) (asExpr y) (asStmt x) (asStmt y) (asStmt z) (formed-s x w) (formed-s y v) (rest-s x p) (rest-s y q) (rest-s z r) h s c)
 
-pub tree-fit : (τ : ℕ → ℕ) (s : List ℕ) → Passed τ s → Fit (programOf s)
-unfolding stmtAt
-tree-fit τ s p =
-    fit-s _
-    (root-has FitT tt s
-    (λ i l x y z t u v w. fit-tree τ (nodeAt s i) (p .readable .faultless i l) x y z u v w (rw t at (p .slowless i l)) (rw t at (p .clashless i l))))
+-- Roots ----------------------------------------------------------------------------------------------------------------------------------------
 
-pub program-fit : (options : Options) (s : List ℕ) → checkCall options s ≡ Accepted → Fit (programOf s)
-program-fit options s e = tree-fit (timeIn (options .times)) s (accepted options s e)
+-- a root of a program is one of the trees
+root-tree : (Ps : List Code) (r : ℕ) → asStmt (getD (map stmt Ps) r none) ≡ getD Ps r ok
+unfolding asStmt
+root-tree [] zero = refl
+root-tree [] (suc r) = refl
+root-tree (P ∷ Ps) zero = refl
+root-tree (P ∷ Ps) (suc r) = root-tree Ps r
+
+pub body-root : (Qs : List Code) (P : Code) (p : ℕ) → p < length Qs → getD (Qs ++ (P ∷ [])) p ok ≡ getD Qs p ok
+body-root [] P p l = absurd (omega arith)
+body-root (Q ∷ Qs) P zero l = refl
+body-root (Q ∷ Qs) P (suc p) l = body-root Qs P p (le-of-suc-le-suc l)
+
+module _ (τ : ℕ → ℕ) (k : ℕ) (s : List ℕ) (passed : Passed τ k s) where
+  abbrev S : Program
+  S = programOf k s
+
+  pub at-root : (r : ℕ) → asStmt (getD (treesAt s 0) r none) ≡ rootAt S r
+  at-root r = ap (λ (ts : List Tree). asStmt (getD ts r none)) (program-trees k s (passed .readable)) ∙ root-tree (roots S) r
+
+  roots-formed : (r : ℕ) → FormedT (getD (treesAt s 0) r none)
+  roots-formed = root-has FormedT tt s (λ i l x y z t u v w. formed-tree (nodeAt s i) (passed .readable .faultless i l) x y z u v w)
+
+  root-formed : (r : ℕ) → Formed (rootAt S r)
+  root-formed r = subst (λ (P : Code). Formed P) (at-root r) (formed-s _ (roots-formed r))
+
+  bodies-formed : (p : ℕ) → Formed (inlined (S .bodies) p)
+  bodies-formed =
+      inlined-all (S .bodies) (λ (P : Stmt). Formed P) tt
+      (λ I h p l. formed-inline I h (bodyAt (S .bodies) p) (subst (λ (P : Code). Formed P) (body-root (S .bodies) (S .main) p l) (root-formed p)))
+
+  abbrev BothT : Tree → Type 0
+  BothT t = FormedT t × RestT τ (S .bodies) (inlined (S .bodies)) bodies-formed (reached (S .bodies)) (nodeAt s 0) t
+
+  pub root-fit : (r : ℕ) → Fit (S .bodies) (rootAt S r)
+  unfolding stmtAt
+  root-fit r =
+      let h =
+      root-has BothT (tt, tt) s
+      (λ i l x y z t u v w. (
+        formed-tree (nodeAt s i) (passed .readable .faultless i l) x y z (u .0) (v .0) (w .0),
+        rest-tree τ (S .bodies) (inlined (S .bodies)) bodies-formed (reached (S .bodies)) (nodeAt s i) x y z (u .0) (v .0) (u .1) (v .1) (w .1)
+            (rw t at (passed .slowless i l)) (rw t at (passed .lone i l)) (rw t at (passed .clashless i l)),
+      ))
+      r in
+      let q = subst (Rest τ (S .bodies) (inlined (S .bodies)) bodies-formed (reached (S .bodies)) (nodeAt s 0)) (at-root r)
+      (rest-s τ (S .bodies) (inlined (S .bodies)) bodies-formed (reached (S .bodies)) (nodeAt s 0) _ (h .1)) in
+      record { formed = root-formed r; timed = q .0; single = q .1; distinct = q .2 }
+
+pub program-fit : (options : Options) (s : List ℕ) → checkCall options s ≡ Accepted → (r : ℕ) → Fit (programWith options s .bodies) (rootAt (programWith options s) r)
+program-fit options s e = root-fit (timeIn (options .times)) (options .procedures) s (accepted options s e)

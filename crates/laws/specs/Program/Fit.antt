@@ -2,21 +2,26 @@
 -- Facts about programs alone; the rules and the circuit both rest on them. Assumes nothing: definitions.
 use mathlib.Core.Path.{_≡_}
 use mathlib.Core.Bool.{Bool, true, false, _||_}
-use Prim.Native.Nat.{ℕ, _<_, _≤_}
-use Rattle.model.specs.Program.{Expr, const, var, compl, op, elem, Stmt, ok, tick, assign, assignElem, seq, par, ite, while, repeat, loop, exit, writes, touches}
+use mathlib.Core.List.{List, [], _∷_}
+use Prim.Native.Nat.{ℕ, _+_, _<_, _≤_}
+use lib.ListN.{length}
+use Rattle.model.specs.Program.{Expr, const, var, compl, op, elem, Statement, Code, Stmt, ok, tick, assign, assignElem, seq, par, ite, while, repeat, loop, exit, call, writes, touches}
+use Rattle.model.specs.Procedures.{inline, inlined, reaches, reached}
 
--- what is asked of the delays, variables, arrays and expressions in a statement, and of the sides of a parallel
-pub record Asks : Type 1 where
+-- what is asked of the delays, variables, arrays, expressions and called procedures in a statement, and of the sides of a parallel; loopDelay is
+-- of loops and of calls
+pub record Asks (C : Type 0) : Type 1 where
   pub delay : ℕ → Type 0
   pub ifDelay : ℕ → Type 0
   pub loopDelay : ℕ → Type 0
   pub variable : ℕ → Type 0
   pub array : ℕ → Type 0
   pub expr : Expr → Type 0
-  pub sides : Stmt → Stmt → Type 0
+  pub procedure : C → Type 0
+  pub sides : Statement C → Statement C → Type 0
 
 -- it holds wherever they stand
-abbrev pub Everywhere : Asks → Stmt → Type 0
+abbrev pub Everywhere : {C : Type 0} → Asks C → Statement C → Type 0
 Everywhere a ok = Unit {0}
 Everywhere a (tick d) = a .delay d
 Everywhere a (assign d x e) = a .delay d × a .variable x × a .expr e
@@ -28,6 +33,7 @@ Everywhere a (while d e P) = a .loopDelay d × a .expr e × Everywhere a P
 Everywhere a (repeat d e P) = a .loopDelay d × a .expr e × Everywhere a P
 Everywhere a (loop d P) = a .loopDelay d × Everywhere a P
 Everywhere a exit = Unit {0}
+Everywhere a (call d p) = a .loopDelay d × a .procedure p
 
 -- nothing is asked of a piece
 abbrev pub free : {A : Type 0} → A → Type 0
@@ -41,8 +47,48 @@ KnownE (compl e) = KnownE e
 KnownE (op k e f) = (4 ≤ k) × (k ≤ 9) × KnownE e × KnownE f
 KnownE (elem k e) = KnownE e
 
-abbrev pub Known : Stmt → Type 0
-Known = Everywhere (record { delay = free; ifDelay = free; loopDelay = free; variable = free; array = free; expr = KnownE; sides = λ P Q. Unit {0} })
+-- delays that D asks for, of an if I, of loops and calls L
+abbrev pub delaying : {C : Type 0} → (ℕ → Type 0) → (ℕ → Type 0) → (ℕ → Type 0) → Asks C
+delaying D I L =
+    record {
+      delay = D;
+      ifDelay = I;
+      loopDelay = L;
+      variable = free;
+      array = free;
+      expr = free;
+      procedure = free;
+      sides = λ P Q. Unit {0};
+    }
+
+-- sides of a parallel that R asks for
+abbrev pub beside : {C : Type 0} → (Statement C → Statement C → Type 0) → Asks C
+beside R =
+    record {
+      delay = free;
+      ifDelay = free;
+      loopDelay = free;
+      variable = free;
+      array = free;
+      expr = free;
+      procedure = free;
+      sides = R;
+    }
+
+abbrev pub Known : {C : Type 0} → Statement C → Type 0
+Known P =
+    Everywhere
+    (record {
+      delay = free;
+      ifDelay = free;
+      loopDelay = free;
+      variable = free;
+      array = free;
+      expr = KnownE;
+      procedure = free;
+      sides = λ P Q. Unit {0};
+    })
+    P
 
 -- and variables below 16, arrays below 4
 abbrev pub FormedExpr : Expr → Type 0
@@ -52,20 +98,32 @@ FormedExpr (compl e) = FormedExpr e
 FormedExpr (op k e f) = (4 ≤ k) × (k ≤ 9) × FormedExpr e × FormedExpr f
 FormedExpr (elem k e) = (k < 4) × FormedExpr e
 
-abbrev pub Formed : Stmt → Type 0
-Formed = Everywhere (record { delay = free; ifDelay = free; loopDelay = free; variable = λ x. x < 16; array = λ k. k < 4; expr = FormedExpr; sides = λ P Q. Unit {0} })
+abbrev pub Formed : {C : Type 0} → Statement C → Type 0
+Formed P =
+    Everywhere
+    (record {
+      delay = free;
+      ifDelay = free;
+      loopDelay = free;
+      variable = λ x. x < 16;
+      array = λ k. k < 4;
+      expr = FormedExpr;
+      procedure = free;
+      sides = λ P Q. Unit {0};
+    })
+    P
 
 -- delays of at least 1, but for an if's
-abbrev pub Timed : Stmt → Type 0
-Timed = Everywhere (record { delay = λ d. 1 ≤ d; ifDelay = free; loopDelay = λ d. 1 ≤ d; variable = free; array = free; expr = free; sides = λ P Q. Unit {0} })
+abbrev pub Timed : {C : Type 0} → Statement C → Type 0
+Timed P = Everywhere (delaying (λ d. 1 ≤ d) free (λ d. 1 ≤ d)) P
 
 -- delays that are bytes
-abbrev pub Short : Stmt → Type 0
-Short = Everywhere (record { delay = λ d. d ≤ 255; ifDelay = λ d. d ≤ 255; loopDelay = λ d. d ≤ 255; variable = free; array = free; expr = free; sides = λ P Q. Unit {0} })
+abbrev pub Short : {C : Type 0} → Statement C → Type 0
+Short P = Everywhere (delaying (λ d. d ≤ 255) (λ d. d ≤ 255) (λ d. d ≤ 255)) P
 
 -- delays of 1 to 255, or 0 at an if
-abbrev pub Low : Stmt → Type 0
-Low = Everywhere (record { delay = λ d. (1 ≤ d) × (d ≤ 255); ifDelay = λ d. d ≤ 255; loopDelay = λ d. (1 ≤ d) × (d ≤ 255); variable = free; array = free; expr = free; sides = λ P Q. Unit {0} })
+abbrev pub Low : {C : Type 0} → Statement C → Type 0
+Low P = Everywhere (delaying (λ d. (1 ≤ d) × (d ≤ 255)) (λ d. d ≤ 255) (λ d. (1 ≤ d) × (d ≤ 255))) P
 
 -- what P writes, Q does not touch
 unfoldable pub Apart : Stmt → Stmt → Type 0
@@ -73,10 +131,10 @@ Apart P Q = (x : ℕ) → writes P x ≡ true → touches Q x ≡ false
 
 -- sides of a parallel that are apart, either way
 abbrev pub Separate : Stmt → Type 0
-Separate = Everywhere (record { delay = free; ifDelay = free; loopDelay = free; variable = free; array = free; expr = free; sides = λ P Q. Apart P Q × Apart Q P })
+Separate P = Everywhere (beside (λ P Q. Apart P Q × Apart Q P)) P
 
--- an exit of P ends a loop around P
-unfoldable pub exits : Stmt → Bool
+-- an exit of P ends a loop around P; "an exit stays within its body"
+unfoldable pub exits : {C : Type 0} → Statement C → Bool
 exits ok = false
 exits (tick d) = false
 exits (assign d x e) = false
@@ -88,13 +146,51 @@ exits (while d e P) = exits P
 exits (repeat d e P) = exits P
 exits (loop d P) = false
 exits exit = true
+exits (call d p) = false
 
 -- sides of a parallel of which no exit ends a loop around it: what refusal 22 leaves, which is a test of a whole program and not of one node,
 -- and so stands beside Fit
-abbrev pub Inside : Stmt → Type 0
-Inside = Everywhere (record { delay = free; ifDelay = free; loopDelay = free; variable = free; array = free; expr = free; sides = λ P Q. (exits P ≡ false) × (exits Q ≡ false) })
+abbrev pub Inside : {C : Type 0} → Statement C → Type 0
+Inside P = Everywhere (beside (λ P Q. (exits P ≡ false) × (exits Q ≡ false))) P
 
-pub record Fit (P : Stmt) : Type 0 where
+-- Programs with procedures ---------------------------------------------------------------------------------------------------------------
+
+-- refusal 24: calls of procedures below k
+abbrev pub Earlier : ℕ → Code → Type 0
+Earlier k P =
+    Everywhere
+    (record {
+      delay = free;
+      ifDelay = free;
+      loopDelay = free;
+      variable = free;
+      array = free;
+      expr = free;
+      procedure = λ p. p < k;
+      sides = λ P Q. Unit {0};
+    })
+    P
+
+-- refusal 25: no procedure below k is reached from both sides of a parallel
+abbrev pub Single : (ℕ → ℕ → Bool) → ℕ → Code → Type 0
+Single R k P = Everywhere (beside (λ P Q. (q : ℕ) → q < k → reaches R P q ≡ true → reaches R Q q ≡ false)) P
+
+-- refusal 8, which looks through calls
+abbrev pub Distinct : (ℕ → Stmt) → Code → Type 0
+Distinct I P = Everywhere (beside (λ P Q. Apart (inline I P) (inline I Q) × Apart (inline I Q) (inline I P))) P
+
+-- what R asks of each of some roots, with its number; the first has number r
+abbrev pub EveryRoot : (ℕ → Code → Type 0) → ℕ → List Code → Type 0
+EveryRoot R r [] = Unit {0}
+EveryRoot R r (P ∷ Ps) = R r P × EveryRoot R (r + 1) Ps
+
+-- what the numbering asks of root r
+abbrev pub Numberable : ℕ → Code → Type 0
+Numberable r P = Formed P × Low P × Earlier r P
+
+-- what the checks of single nodes leave of a root, or of a part of one
+pub record Fit (bodies : List Code) (P : Code) : Type 0 where
   pub formed : Formed P
   pub timed : Timed P
-  pub separate : Separate P
+  pub single : Single (reached bodies) (length bodies) P
+  pub distinct : Distinct (inlined bodies) P

@@ -14,7 +14,8 @@ use Rattle.model.specs.declared.Node.{Node}
 use Rattle.model.specs.declared.kinds.Row.{Row}
 use Rattle.model.specs.Word.{pick}
 use Rattle.model.specs.Refusals.{faultIf}
-use Rattle.model.specs.Program.{Expr, const, var, compl, op, elem, Stmt, ok, tick, assign, assignElem, seq, par, ite, while, repeat, loop, exit, Tree, expr, stmt, kindTable, rowOf, asExpr, asStmt, exprOf, stmtOf, treeOf, grow, unusedSet, absent, nodeFault, children, preorderE, preorder, node}
+use Rattle.model.specs.Program.{Expr, const, var, compl, op, elem, Code, ok, tick, assign, assignElem, seq, par, ite, while, repeat, loop, exit, call, Tree, expr, stmt, kindTable, rowOf, asExpr, asStmt, exprOf, stmtOf, treeOf, grow, preorderE, preorder, node}
+use Rattle.model.specs.ProgramChecks.{unusedSet, absent, nodeFault, children}
 use Rattle.laws.specs.Refusals.Laws.{or-false, fault-unless}
 use Rattle.laws.specs.Program.Preorder.{nodesOf, allNodes, sortOf, sortsOf, KnownT, AllKnown}
 
@@ -35,7 +36,7 @@ Given [] R = (us : List Tree) → R us (sortsOf us)
 Given (w ∷ cs) R =
     elim (eqb w 1) [
       | true ↦ (e : Expr) → Given cs (λ (l : List Tree). R (expr e ∷ l))
-      | false ↦ (P : Stmt) → Given cs (λ (l : List Tree). R (stmt P ∷ l))
+      | false ↦ (P : Code) → Given cs (λ (l : List Tree). R (stmt P ∷ l))
     ]
 
 pub sorted : (cs : List ℕ) (R : List Tree → List ℕ → Type 0) → Given cs R → (ts : List Tree) (ws : List ℕ) → sortsOf ts ≡ cs ++ ws → R ts ws
@@ -138,7 +139,7 @@ below R (suc n) (b then r) k h = go (below R n b k) (decLt k n)
         let e : n ≡ k = omega arith in
         subst R e r
 
-kinds-grow : Below Grows 27
+kinds-grow : Below Grows 28
 unfolding rowOf children grow treeOf exprOf stmtOf asExpr asStmt preorderE preorder
 kinds-grow =
     start then none 0 refl
@@ -164,16 +165,17 @@ kinds-grow =
     then (λ u d n i e us. grown (stmt (assignElem d n i e)) (expr i ∷ expr e ∷ []) us refl refl (rw append-nil refl) (λ k. (tt, tt, k .0, k .1 .0)))
     then (λ u d n P us. grown (stmt (loop d P)) (stmt P ∷ []) us refl refl (rw append-nil refl) (λ k. (tt, k .0)))
     then (λ u d n us. grown (stmt exit) [] us refl refl refl (λ k. tt))
+    then (λ u d n us. grown (stmt (call d n)) [] us refl refl refl (λ k. (tt, tt)))
 
-past-table : (k : ℕ) → 27 ≤ k → rowOf k .sort ≡ 0
+past-table : (k : ℕ) → 28 ≤ k → rowOf k .sort ≡ 0
 unfolding rowOf
 past-table k l = ap (λ (r : Row). r .sort) (List·getD-eq-default kindTable _ l)
 
 pub grows : (a : Node) (ts : List Tree) (ws : List ℕ) → sortsOf ts ≡ children (a .kind) ++ ws → nodeFault a ≡ 0 → Grown a ts ws
-grows a ts ws h f = go (decLt (a .kind) 27)
+grows a ts ws h f = go (decLt (a .kind) 28)
   where
-    go : Dec (a .kind < 27) → Grown a ts ws
+    go : Dec (a .kind < 28) → Grown a ts ws
     go (yes l) =
         subst (λ (b : Node). Grown b ts ws) (cleared a f)
-        (sorted (children (a .kind)) _ (below Grows 27 kinds-grow (a .kind) l (known-kind a f) (a .delay) (a .n)) ts ws h)
+        (sorted (children (a .kind)) _ (below Grows 28 kinds-grow (a .kind) l (known-kind a f) (a .delay) (a .n)) ts ws h)
     go (no m) = absurd (known-kind a f (past-table (a .kind) (omega arith)))

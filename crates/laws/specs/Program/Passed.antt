@@ -1,8 +1,8 @@
--- What an accepted program gives: what each refusal leaves, and that its nodes are those of one statement.
+-- What an accepted program gives: what each refusal leaves, and that its nodes are those of its roots, the bodies and the main program.
 -- Assumes nothing.
-use mathlib.Core.Path.{_≡_, refl, sym, _∙_, ap}
-use mathlib.Core.Bool.{false, or-true}
-use mathlib.Core.List.{List, [], _∷_, _++_, append-nil}
+use mathlib.Core.Path.{_≡_, refl, sym, _∙_, ap, ap₂}
+use mathlib.Core.Bool.{false, _||_, or-true}
+use mathlib.Core.List.{List, [], _∷_, _++_, map}
 use Prim.Native.Nat.{ℕ, zero, suc, _+_, _-_, _≤_, _<_}
 use native.Mathlib.Omega.{arith}
 use native.Mathlib.Numerals.{add-one}
@@ -12,61 +12,83 @@ use borrow.Author.Tests.{lt-ltb, ltb-false}
 use Rattle.model.specs.declared.Checked.the-variants.{Accepted}
 use Rattle.model.specs.declared.Options.{Options}
 use Rattle.model.specs.Refusals.{refuse, first}
-use Rattle.model.specs.Program.{Tree, stmt, nodeAt, nodeCount, nodesAt, rowOf, none, asStmt, treesAt, stmtAt, programOf, timeIn, least, conflicts, programLengthWrong, nodeFault, children, reading, looseIn, delayFault, conflictFault, programChecks, checkOf, preorder}
+use Rattle.model.specs.Program.{Tree, expr, stmt, Code, nodeAt, nodeCount, nodesAt, rowOf, none, asStmt, treesAt, stmtAt, programOf, roots, timeIn, least, preorder, preorders}
+use Rattle.model.specs.Procedures.{inline, inlined, reached}
+use Rattle.model.specs.ProgramChecks.{conflicts, shares, programLengthWrong, tooManyProcedures, nodeFault, children, reading, rootSorts, looseExit, lateCall, delayFault, sharedFault, conflictFault, programChecks, checkOf}
 use Rattle.model.specs.Calls.{checkCall}
 use Rattle.laws.specs.Refusals.Laws.{not-refused, pick-true, or-false, all-accept, accept-take, refuse-unless, fault-unless, no-fault}
 use Rattle.laws.specs.Program.Trees.{nodes-step, length-nodes, trees-cons, treeAt, each-at}
-use Rattle.laws.specs.Program.Preorder.{nodesOf, allNodes, sortsOf, KnownT}
+use Rattle.laws.specs.Program.Preorder.{nodesOf, allNodes, sortOf, sortsOf, KnownT}
 use Rattle.laws.specs.Program.Grows.{sorted}
 use Rattle.laws.specs.Program.Whole.{Whole, whole}
 
 -- What each refusal leaves -------------------------------------------------------------------------------------------------------------
 
--- refusals 1 to 6
-pub record Readable (s : List ℕ) : Type 0 where
+-- refusals 1 to 6, with k procedures
+pub record Readable (k : ℕ) (s : List ℕ) : Type 0 where
+  pub few : k ≤ 8
   pub short : length s ≤ 800
   pub faultless : (j : ℕ) → j < nodeCount s → nodeFault (nodeAt s j) ≡ 0
-  pub read : reading (2 ∷ []) 0 (nodesAt s 0) ≡ Accepted
+  pub read : reading (rootSorts k) 0 (nodesAt s 0) ≡ Accepted
 
--- refusals 1 to 8 and 22, with operator times τ
-pub record Passed (τ : ℕ → ℕ) (s : List ℕ) : Type 0 where
-  pub readable : Readable s
-  pub enclosed : looseIn false (programOf s) 0 ≡ Accepted
+-- refusals 1 to 8, 22, 24 and 25, with operator times τ
+pub record Passed (τ : ℕ → ℕ) (k : ℕ) (s : List ℕ) : Type 0 where
+  pub readable : Readable k s
+  pub enclosed : looseExit (roots (programOf k s)) ≡ Accepted
+  pub earlier : lateCall (roots (programOf k s)) ≡ Accepted
   pub slowless : (j : ℕ) → j < nodeCount s → least τ (stmtAt s j) ≤ nodeAt s j .delay
-  pub clashless : (j : ℕ) → j < nodeCount s → conflicts (stmtAt s j) ≡ false
+  pub lone : (j : ℕ) → j < nodeCount s →
+      let bodies = programOf k s .bodies in
+      shares (reached bodies) (length bodies) (stmtAt s j) ≡ false
+  pub clashless : (j : ℕ) → j < nodeCount s → conflicts (inline (inlined (programOf k s .bodies)) (stmtAt s j)) ≡ false
 
 pub right-length : (s : List ℕ) → programLengthWrong s ≡ false → length s ≤ 800
 unfolding programLengthWrong
 right-length s h = ltb-false 800 (length s) (or-false (ltb 800 (length s)) _ (or-false (eqb (length s) 0) _ h .1) .0)
 
 -- a program above 800 bytes is refused whatever its nodes are
-pub long-refused : (times s : List ℕ) → 800 < length s → checkOf times s ≡ refuse 1 0
+pub long-refused : (options : Options) (s : List ℕ) → 800 < length s → checkOf options s ≡ refuse 1 0
 unfolding checkOf programLengthWrong
-long-refused times s h = rw (lt-ltb 800 (length s) h, or-true (eqb (length s) 0)) refl
+long-refused options s h =
+    rw (lt-ltb 800 (length s) h, or-true (eqb (length s) 0), or-true (tooManyProcedures (options .procedures))) refl
 
-module _ (τ : ℕ → ℕ) (s : List ℕ) where
-  pub readable : first (take 3 (programChecks τ s)) ≡ Accepted → Readable s
+module _ (τ : ℕ → ℕ) (k : ℕ) (s : List ℕ) where
+  pub readable : first (take 3 (programChecks τ k s)) ≡ Accepted → Readable k s
+  unfolding tooManyProcedures
   readable e =
-      let a = all-accept (take 3 (programChecks τ s)) e in
-      record { short = right-length s (refuse-unless (programLengthWrong s) 1 0 (a 0)); faultless = no-fault (λ i. nodeFault (nodeAt s i)) (nodeCount s) (a 1); read = a 2 }
-
-  pub passed : first (programChecks τ s) ≡ Accepted → Passed τ s
-  unfolding delayFault conflictFault
-  passed e =
-      let a = all-accept (programChecks τ s) e in
+      let a = all-accept (take 3 (programChecks τ k s)) e in
+      let f = or-false (tooManyProcedures k) (programLengthWrong s) (refuse-unless (tooManyProcedures k || programLengthWrong s) 1 0 (a 0)) in
       record {
-        readable = readable (accept-take 3 (programChecks τ s) e);
-        enclosed = a 3;
-        slowless = λ j l.
-            let slow = ltb (nodeAt s j .delay) (least τ (stmtAt s j)) in
-            ltb-false _ _ (fault-unless slow 7 (omega arith) (no-fault (delayFault τ s) (nodeCount s) (a 4) j l));
-        clashless = λ j l. fault-unless (conflicts (stmtAt s j)) 8 (omega arith) (no-fault (conflictFault s) (nodeCount s) (a 5) j l);
+        few = ltb-false 8 k (f .0);
+        short = right-length s (f .1);
+        faultless = no-fault (λ i. nodeFault (nodeAt s i)) (nodeCount s) (a 1);
+        read = a 2;
       }
 
--- of a program that is accepted with some table, under that table's times
-pub accepted : (options : Options) (s : List ℕ) → checkCall options s ≡ Accepted → Passed (timeIn (options .times)) s
+  pub passed : first (programChecks τ k s) ≡ Accepted → Passed τ k s
+  unfolding delayFault sharedFault conflictFault
+  passed e =
+      let a = all-accept (programChecks τ k s) e in
+      let bodies = programOf k s .bodies in
+      record {
+        readable = readable (accept-take 3 (programChecks τ k s) e);
+        enclosed = a 3;
+        earlier = a 4;
+        slowless = λ j l.
+            let slow = ltb (nodeAt s j .delay) (least τ (stmtAt s j)) in
+            ltb-false _ _ (fault-unless slow 7 (omega arith) (no-fault (delayFault τ s) (nodeCount s) (a 5) j l));
+        lone = λ j l.
+            fault-unless (shares (reached bodies) (length bodies) (stmtAt s j)) 25 (omega arith) (no-fault (sharedFault bodies s) (nodeCount s) (a 6) j l);
+        clashless = λ j l.
+            fault-unless (conflicts (inline (inlined bodies) (stmtAt s j))) 8 (omega arith) (no-fault (conflictFault bodies s) (nodeCount s) (a 7) j l);
+      }
+
+-- of a program that is accepted with what is given beside it, under its table's times and with so many procedures
+pub accepted : (options : Options) (s : List ℕ) → checkCall options s ≡ Accepted
+    → Passed (timeIn (options .times)) (options .procedures) s
 unfolding checkCall checkOf
-accepted options s e = passed (timeIn (options .times)) s (all-accept (options .checked ∷ checkOf (options .times) s ∷ []) e 1)
+accepted options s e =
+    passed (timeIn (options .times)) (options .procedures) s (all-accept (options .checked ∷ checkOf options s ∷ []) e 1)
 
 -- Trees and ranges of nodes ------------------------------------------------------------------------------------------------------------
 
@@ -81,9 +103,37 @@ no-trees : (ts : List Tree) → sortsOf ts ≡ [] → ts ≡ []
 no-trees [] h = refl
 no-trees (t ∷ ts) h = absurd (omega (arith, ap length h))
 
-module _ (s : List ℕ) (R : Readable s) where
+one-tree : (t : Tree) → sortOf t ≡ 2 → t ≡ stmt (asStmt t)
+unfolding asStmt
+one-tree (expr e) h = absurd (omega arith)
+one-tree (stmt P) h = refl
+
+sort-head : (t : Tree) (ts : List Tree) (w : ℕ) (ws : List ℕ) → sortsOf (t ∷ ts) ≡ w ∷ ws → (sortOf t ≡ w) × (sortsOf ts ≡ ws)
+sort-head t ts w ws h = (ap (λ (l : List ℕ). getD l 0 0) h, ap (drop 1) h)
+
+-- so many statements, and one more, are the roots of a program
+all-roots : (k : ℕ) (ts : List Tree) → sortsOf ts ≡ rootSorts k → ts ≡ map stmt (map asStmt (take k ts) ++ (asStmt (getD ts k none) ∷ []))
+all-roots k [] h = absurd (omega (arith, ap length h))
+all-roots zero (t ∷ ts) h =
+    let q = sort-head t ts 2 [] h in
+    ap₂ (λ (u : Tree) (us : List Tree). u ∷ us) (one-tree t (q .0)) (no-trees ts (q .1))
+all-roots (suc k) (t ∷ ts) h =
+    let q = sort-head t ts 2 (rootSorts k) h in
+    ap₂ (λ (u : Tree) (us : List Tree). u ∷ us) (one-tree t (q .0)) (all-roots k ts (q .1))
+
+length-bodies : (k : ℕ) (ts : List Tree) → sortsOf ts ≡ rootSorts k → length (map asStmt (take k ts)) ≡ k
+length-bodies k [] h = absurd (omega (arith, ap length h))
+length-bodies zero (t ∷ ts) h = refl
+length-bodies (suc k) (t ∷ ts) h = ap suc (length-bodies k ts (sort-head t ts 2 (rootSorts k) h .1))
+
+nodes-roots : (Ps : List Code) → allNodes (map stmt Ps) ≡ preorders Ps
+unfolding preorders
+nodes-roots [] = refl
+nodes-roots (P ∷ Ps) = ap (_++_ (preorder P)) (nodes-roots Ps)
+
+module _ (k : ℕ) (s : List ℕ) (R : Readable k s) where
   reading-at : (i : ℕ) → i ≤ nodeCount s → (ws : List ℕ) × (reading ws i (nodesAt s i) ≡ Accepted)
-  reading-at zero h = (2 ∷ [], R .read)
+  reading-at zero h = (rootSorts k, R .read)
   reading-at (suc i) h =
       let r = reading-at i (omega arith) in
       let n = reading-next s i (r .0) (omega arith) (r .1) in
@@ -104,15 +154,17 @@ module _ (s : List ℕ) (R : Readable s) where
   unfolding treesAt
   known-at i h = each-at KnownT tt (treesAt s i) 0 (whole-at i (omega arith) .1 .known)
 
-  -- the whole program is one statement
-  pub program-tree : treesAt s 0 ≡ stmt (programOf s) ∷ []
-  unfolding treesAt stmtAt asStmt
-  program-tree =
-      sorted (2 ∷ []) (λ (l : List Tree) (ws : List ℕ). ws ≡ [] → l ≡ stmt (asStmt (getD l 0 none)) ∷ [])
-      (λ P us q. ap (λ (l : List Tree). stmt P ∷ l) (no-trees us q)) (treesAt s 0) [] (whole-from 0 (2 ∷ []) (omega arith) (R .read) .sorts) refl
+  -- the whole program is its roots
+  pub program-trees : treesAt s 0 ≡ map stmt (roots (programOf k s))
+  unfolding treesAt programOf
+  program-trees = all-roots k (treesAt s 0) (whole-from 0 (rootSorts k) (omega arith) (R .read) .sorts)
 
-  pub program-nodes : preorder (programOf s) ≡ nodesAt s 0
-  program-nodes = sym (append-nil (preorder (programOf s))) ∙ sym (ap allNodes program-tree) ∙ nodes-at 0 (omega arith)
+  pub program-nodes : preorders (roots (programOf k s)) ≡ nodesAt s 0
+  program-nodes = sym (nodes-roots (roots (programOf k s))) ∙ sym (ap allNodes program-trees) ∙ nodes-at 0 (omega arith)
+
+  pub count-bodies : length (programOf k s .bodies) ≡ k
+  unfolding treesAt programOf
+  count-bodies = length-bodies k (treesAt s 0) (whole-from 0 (rootSorts k) (omega arith) (R .read) .sorts)
 
   -- behind a node stand its children, of the sorts of its kind
   pub children-at : (i : ℕ) → i < nodeCount s → (ws : List ℕ) × (sortsOf (treesAt s (i + 1)) ≡ children (nodeAt s i .kind) ++ ws)

@@ -12,7 +12,7 @@ use lib.Dec.{T, ltb, eqb, ltb→lt}
 use borrow.Author.Tests.{lt-ltb, le-ltb, ne-eqb}
 use Rattle.model.specs.declared.Node.{Node}
 use Rattle.model.specs.Word.{pick}
-use Rattle.model.specs.Program.{const, var, compl, op, elem, ok, tick, assign, assignElem, seq, par, ite, while, repeat, loop, exit, Tree, node, nodeAt, nodeCount, nodesFrom, none, asExpr, asStmt, exprOf, stmtOf, treeOf, arity, grow, forest, treesAt, exprAt, stmtAt}
+use Rattle.model.specs.Program.{const, var, compl, op, elem, ok, tick, assign, assignElem, seq, par, ite, while, repeat, loop, exit, call, Tree, node, nodeAt, nodeCount, nodesFrom, none, asExpr, asStmt, exprOf, stmtOf, treeOf, arity, grow, forest, treesAt, exprAt, stmtAt}
 
 -- Nodes --------------------------------------------------------------------------------------------------------------------------------
 
@@ -157,6 +157,10 @@ module _ (s : List ℕ) (i : ℕ) (h : i < nodeCount s) (a : Node) (ea : a ≡ n
   unfolding stmtAt asStmt treeOf stmtOf
   at-exit e = ap asStmt (tree-of 26 e)
 
+  pub at-call : a .kind ≡ 27 → stmtAt s i ≡ call (a .delay) (a .n)
+  unfolding stmtAt asStmt treeOf stmtOf
+  at-call e = ap asStmt (tree-of 27 e)
+
   -- its second child is the tree of node j
   module _ (j : ℕ) (ej : treesAt s j ≡ drop 1 (treesAt s (i + 1))) where
     second-is : treeAt s j ≡ getD (treesAt s (i + 1)) 1 none
@@ -182,9 +186,26 @@ module _ (s : List ℕ) (i : ℕ) (h : i < nodeCount s) (a : Node) (ea : a ≡ n
     unfolding stmtAt asStmt treeOf stmtOf exprAt
     at-while e = ap asStmt (tree-of 22 e) ∙ rw second-is refl
 
-    pub at-repeat : 23 ≤ a .kind → (a .kind ≡ 24 → ⊥) → (a .kind ≡ 25 → ⊥) → (a .kind ≡ 26 → ⊥) → stmtAt s i ≡ repeat (a .delay) (exprAt s (i + 1)) (stmtAt s j)
+    pub at-repeat : 23 ≤ a .kind → (a .kind ≡ 24 → ⊥) → (a .kind ≡ 25 → ⊥) → (a .kind ≡ 26 → ⊥) → (a .kind ≡ 27 → ⊥)
+        → stmtAt s i ≡ repeat (a .delay) (exprAt s (i + 1)) (stmtAt s j)
     unfolding stmtAt asStmt treeOf stmtOf exprAt
-    at-repeat l p q r = ap asStmt tree-is ∙ rw (le-ltb _ _ high, no 16 tt, no 17 tt, no 18 tt, no 19 tt, no 20 tt, no 21 tt, no 22 tt, ne-eqb _ _ p, ne-eqb _ _ q, ne-eqb _ _ r, second-is) refl
+    at-repeat l p q r u =
+        ap asStmt tree-is
+        ∙ rw (
+          le-ltb _ _ high,
+          no 16 tt,
+          no 17 tt,
+          no 18 tt,
+          no 19 tt,
+          no 20 tt,
+          no 21 tt,
+          no 22 tt,
+          ne-eqb _ _ p,
+          ne-eqb _ _ q,
+          ne-eqb _ _ r,
+          ne-eqb _ _ u,
+          second-is,
+        ) refl
       where
         high : 16 ≤ a .kind
         high = omega arith
@@ -203,7 +224,7 @@ module _ (s : List ℕ) (i : ℕ) (h : i < nodeCount s) (a : Node) (ea : a ≡ n
       unfolding stmtAt asStmt treeOf stmtOf exprAt
       at-ite e = ap asStmt (tree-of 21 e) ∙ rw (second-is, third-is) refl
 
--- what the tree of each node has, if its children have it, the root has
+-- what the tree of each node has, if its children have it, each root has
 module _ (R : Tree → Type 0) (missing : R none) (s : List ℕ)
     (step : (i : ℕ) → i < nodeCount s → (x y z : Tree) → treeAt s i ≡ treeOf (nodeAt s i) x y z → R x → R y → R z → R (treeOf (nodeAt s i) x y z)) where
   each-from : (i n : ℕ) → i + n ≡ nodeCount s → Each R (treesAt s i)
@@ -218,5 +239,5 @@ module _ (R : Tree → Type 0) (missing : R none) (s : List ℕ)
         each-drop R missing ts (arity (nodeAt s i .kind)) h,
       )
 
-  pub root-has : R (treeAt s 0)
-  root-has = each-at R missing (treesAt s 0) 0 (each-from 0 (nodeCount s) (omega arith))
+  pub root-has : (r : ℕ) → R (getD (treesAt s 0) r none)
+  root-has r = each-at R missing (treesAt s 0) r (each-from 0 (nodeCount s) (omega arith))

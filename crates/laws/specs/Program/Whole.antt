@@ -8,7 +8,8 @@ use lib.Dec.{eqb}
 use borrow.Author.Tests.{eqb-true}
 use Rattle.model.specs.declared.Node.{Node}
 use Rattle.model.specs.declared.Checked.the-variants.{Accepted}
-use Rattle.model.specs.Program.{nodeAt, nodesFrom, rowOf, forest, nodeFault, children, reading}
+use Rattle.model.specs.Program.{nodeAt, nodesFrom, rowOf, forest}
+use Rattle.model.specs.ProgramChecks.{nodeFault, children, reading}
 use Rattle.laws.specs.Refusals.Laws.{not-refused, pick-true}
 use Rattle.laws.specs.Program.Preorder.{allNodes, sortsOf, AllKnown}
 use Rattle.laws.specs.Program.Grows.{grows}

@@ -14,11 +14,11 @@ use borrow.Author.Tests.{eqb-true}
 use Rattle.model.specs.declared.Cell.{Cell}
 use Rattle.model.specs.declared.Merge.{Merge}
 use Rattle.model.specs.Word.{pick, bit, get16, get32}
-use Rattle.model.specs.Circuit.{cellAt, noCell, high, mergeStep, shape, cellTable, cellRow}
+use Rattle.model.specs.Circuit.{cellAt, noCell, high, shape, cellTable, cellRow, merges, stepOf}
 use Rattle.model.specs.State.{base, instantOf, flightOf, nowAt, heldAt, lineBit, aged, shown, shiftedIn, holding, settle, settled, ones, heldBits, inFlight, flightIn, flight, counted, blank, value, firstValue, evaluate, beginState, stepState, cellsSound, sound}
 use Rattle.laws.specs.Refusals.Laws.{by-bool, and-true}
 use Rattle.laws.specs.Circuit.Ordered.{Looks, kinds, Ordered}
-use Rattle.laws.specs.State.Passes.{put32-other, put32-same, get32-same, upTo-frame, aged-frame, shown-frame, ticked, counted-other, settled-frame, bit-lt, apart, one, one-high, two, two-high, same-held, held-holding, Line, shifted-new, shifted-old, cleared-zero, length-one, after, length-three, evaluate-is}
+use Rattle.laws.specs.State.Passes.{put32-other, put32-same, get32-same, upTo-frame, aged-frame, shown-frame, ticked, counted-other, settled-frame, bit-lt, apart, one, one-high, two, two-high, same-held, held-holding, Line, shifted-new, shifted-old, cleared-zero, length-one, after, length-three, evaluate-is, settle-merge}
 
 -- A delay's rule, by its kind
 pub delay-low : (K : ℕ → ℕ) (n k : ℕ) (c : Cell) (j : ℕ) → j ≡ 34 → Looks (cellRow j) K n k c → (1 ≤ c .delay) × (c .delay ≤ 255)
@@ -42,11 +42,11 @@ ones-next l m x e (suc d) h = omega (arith, ones-next l m x e d (λ i g. h i (om
 
 -- what is in flight at one cell, by its kind
 module _ (l m : ℕ → ℕ) (g h : Merge) (c : Cell) where
-  pub cell-same : (c .kind ≡ 34 → (i : ℕ) → i < c .delay → l i ≡ m i) → (c .kind ≡ 38 → g ≡ h) → inFlight l g c ≡ inFlight m h c
+  pub cell-same : (c .kind ≡ 34 → (i : ℕ) → i < c .delay → l i ≡ m i) → (merges (c .kind) ≡ true → g ≡ h) → inFlight l g c ≡ inFlight m h c
   unfolding inFlight
   cell-same p q =
       by-bool (eqb (c .kind) 34) (λ e. rw e (ones-same l m _ (λ i b. p (eqb-true _ _ e) i (omega (arith, b)))))
-      (λ e. by-bool (eqb (c .kind) 38) (λ f. rw (e, f) (ap heldBits (q (eqb-true _ _ f)))) (λ f. rw (e, f) refl))
+      (λ e. by-bool (merges (c .kind)) (λ f. rw (e, f) (ap heldBits (q f))) (λ f. rw (e, f) refl))
 
 -- cell i of cs, which stand from k on
 abbrev pub cellFlight : (ℕ → ℕ → ℕ) → (ℕ → Merge) → List Cell → ℕ → ℕ → ℕ
@@ -160,7 +160,7 @@ module _ (net : List Cell) (ordered : Ordered net) where
       cell-low s k c d = unfold inFlight in
           by-bool (eqb (c .kind) 34) (λ e. rw e (omega (arith, ones-low (lineBit s k) (c .delay) (bit-low s k), d (eqb-true _ _ e))))
           (λ e.
-          by-bool (eqb (c .kind) 38) (λ f. rw (e, f) (omega (arith, bit-lt (heldAt s k .a), bit-lt (heldAt s k .b)))) (λ f. rw (e, f) (omega arith)))
+          by-bool (merges (c .kind)) (λ f. rw (e, f) (omega (arith, bit-lt (heldAt s k .a), bit-lt (heldAt s k .b)))) (λ f. rw (e, f) (omega arith)))
 
   -- so an instant leaves a state that tells it rightly
   evaluate-true : (v : List ℕ → ℕ → ℕ) (u : List ℕ) → 7 < length u → flightOf (evaluate net v u) ≡ flight net (evaluate net v u)
@@ -186,10 +186,10 @@ sound-true net s e = eqb-true (flightOf s) (flight net s) (and-true (eqb (flight
 unfoldable pub comesIn : List ℕ → ℕ → Cell → ℕ
 comesIn s k c =
     pick (eqb (c .kind) 34) (bit (high (nowAt s (c .a))))
-    (pick (eqb (c .kind) 38) (heldBits (mergeStep (heldAt s k) (high (nowAt s (c .a))) (high (nowAt s (c .b))) .held)) 0)
+    (pick (merges (c .kind)) (heldBits (stepOf (c .kind) (heldAt s k) (high (nowAt s (c .a))) (high (nowAt s (c .b))) .held)) 0)
 
 unfoldable pub goesOut : List ℕ → ℕ → Cell → ℕ
-goesOut s k c = pick (eqb (c .kind) 34) (lineBit s k (c .delay - 1)) (pick (eqb (c .kind) 38) (heldBits (heldAt s k)) 0)
+goesOut s k c = pick (eqb (c .kind) 34) (lineBit s k (c .delay - 1)) (pick (merges (c .kind)) (heldBits (heldAt s k)) 0)
 
 -- Of cell k of a netlist that keeps the rules, in a state that is long enough and whose lines are bytes
 module _ (net : List Cell) (ordered : Ordered net) (s : List ℕ) (room : 8 + 40 * length net ≤ length s) (k : ℕ) (h : k < length net)
@@ -224,12 +224,11 @@ module _ (net : List Cell) (ordered : Ordered net) (s : List ℕ) (room : 8 + 40
       rw e (shifted-old s k input low (bytes q) (omega arith) i (omega (arith, o .1))))))
 
   abbrev holds : Merge
-  holds = mergeStep (heldAt s k) (high (nowAt s (c .a))) (high (nowAt s (c .b))) .held
+  holds = stepOf (c .kind) (heldAt s k) (high (nowAt s (c .a))) (high (nowAt s (c .b))) .held
 
-  merge-moved : c .kind ≡ 38 → heldBits (heldAt u k) ≡ heldBits holds
-  unfolding settle shape
+  merge-moved : merges (c .kind) ≡ true → heldBits (heldAt u k) ≡ heldBits holds
   merge-moved q =
-      let r : u ≡ holding s k holds = ap (λ (j : ℕ). settle (shape j) s k c) q in
+      let r : u ≡ holding s k holds = settle-merge s k c q in
       ap (λ (t : List ℕ). heldBits (heldAt t k)) r ∙ ap heldBits (held-holding s k holds (omega arith))
 
   own : inFlight (lineBit u k) (heldAt u k) c + goesOut s k c ≡ inFlight (lineBit s k) (heldAt s k) c + comesIn s k c
@@ -237,7 +236,7 @@ module _ (net : List Cell) (ordered : Ordered net) (s : List ℕ) (room : 8 + 40
   own =
       by-bool (eqb (c .kind) 34) (λ e. rw e (delay-moved (eqb-true _ _ e)))
       (λ e.
-      by-bool (eqb (c .kind) 38) (λ f. rw (e, f) (omega (arith, merge-moved (eqb-true _ _ f)))) (λ f. rw (e, f) refl))
+      by-bool (merges (c .kind)) (λ f. rw (e, f) (omega (arith, merge-moved f))) (λ f. rw (e, f) refl))
 
   -- what settling one cell does to the number of all
   pub flight-settled : flight net u + goesOut s k c ≡ flight net s + comesIn s k c
@@ -306,7 +305,7 @@ module _ (net : List Cell) (ordered : Ordered net) (words : ℕ → ℕ) (s : Li
       by-bool (eqb (c .kind) 34)
       (λ e. rw e
       (ones-none (lineBit empty k) (c .delay) (λ i b. zero-line k i l (omega (arith, delay-low (kinds net) (length net) k c (c .kind) (eqb-true _ _ e) (ordered .looks k l) .1)))))
-      (λ e. by-bool (eqb (c .kind) 38) (λ f. rw (e, f) (zero-held k l)) (λ f. rw (e, f) refl))
+      (λ e. by-bool (merges (c .kind)) (λ f. rw (e, f) (zero-held k l)) (λ f. rw (e, f) refl))
 
   pub flight-blank : flight net (blank net words s) ≡ 0
   flight-blank =

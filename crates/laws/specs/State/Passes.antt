@@ -13,8 +13,9 @@ use lib.Seq.{getD-set-same, getD-set-other}
 use Rattle.model.specs.declared.Cell.{Cell}
 use Rattle.model.specs.declared.Merge.{Merge}
 use Rattle.model.specs.Word.{pick, bit, elementOf, get16, put16, get32, put32}
-use Rattle.model.specs.Circuit.{cellAt, high, mergeStep, Shape, shape, kConstant, kComplement, kOperator, kStart, kGround, kDelay, kOr, kWhenTrue, kWhenFalse, kMerge, kMemory, kGated, kArray, kAddress, kRead, kUnknown}
+use Rattle.model.specs.Circuit.{cellAt, high, merges, stepOf, Shape, shape, kConstant, kComplement, kOperator, kStart, kGround, kDelay, kOr, kWhenTrue, kWhenFalse, kMerge, kReturn, kMemory, kGated, kArray, kAddress, kRead, kUnknown}
 use Rattle.laws.specs.Program.Trees.{by-pick}
+use Rattle.laws.specs.Circuit.Shapes.{by-merge}
 use Rattle.model.specs.State.{base, elementBase, instantOf, nowAt, beforeAt, fallen, heldAt, lineBit, value, firstValue, upTo, aged, stored, shown, shiftedIn, holding, settle, settled, counted, blank, evaluate, beginState, stepState}
 
 abbrev pub shapeAt : List Cell → ℕ → Shape
@@ -152,6 +153,7 @@ settle-frame kOr t k c j h = refl
 settle-frame kWhenTrue t k c j h = refl
 settle-frame kWhenFalse t k c j h = refl
 settle-frame kMerge t k c j h = holding-frame t k _ j (⊎-elim (λ x. inl x) (λ x. inr (omega arith)) h)
+settle-frame kReturn t k c j h = holding-frame t k _ j (⊎-elim (λ x. inl x) (λ x. inr (omega arith)) h)
 settle-frame kMemory t k c j h = refl
 settle-frame kGated t k c j h = refl
 settle-frame kArray t k c j h = refl
@@ -178,6 +180,7 @@ length-settle kOr t k c = refl
 length-settle kWhenTrue t k c = refl
 length-settle kWhenFalse t k c = refl
 length-settle kMerge t k c = length-holding t k _
+length-settle kReturn t k c = length-holding t k _
 length-settle kMemory t k c = refl
 length-settle kGated t k c = refl
 length-settle kArray t k c = refl
@@ -218,10 +221,16 @@ settled-delay : (c : List Cell) (s : List ℕ) (k : ℕ) → shapeAt c k ≡ kDe
 unfolding settle
 settled-delay c s k e = ap (λ (sh : Shape). settle sh s k (cellAt c k)) e
 
-settled-merge : (c : List Cell) (s : List ℕ) (k : ℕ) → shapeAt c k ≡ kMerge
-    → settled c s k ≡ holding s k (mergeStep (heldAt s k) (high (nowAt s (cellAt c k .a))) (high (nowAt s (cellAt c k .b))) .held)
-unfolding settle
-settled-merge c s k e = ap (λ (sh : Shape). settle sh s k (cellAt c k)) e
+pub settle-merge : (s : List ℕ) (k : ℕ) (c : Cell) → merges (c .kind) ≡ true
+    → settle (shape (c .kind)) s k c ≡ holding s k (stepOf (c .kind) (heldAt s k) (high (nowAt s (c .a))) (high (nowAt s (c .b))) .held)
+unfolding settle shape stepOf
+settle-merge s k c e =
+    let held : ℕ → List ℕ = λ j. holding s k (stepOf j (heldAt s k) (high (nowAt s (c .a))) (high (nowAt s (c .b))) .held) in
+    by-merge (c .kind) e (λ q. ap (λ (j : ℕ). settle (shape j) s k c) q ∙ sym (ap held q)) (λ q. ap (λ (j : ℕ). settle (shape j) s k c) q ∙ sym (ap held q))
+
+settled-merge : (c : List Cell) (s : List ℕ) (k : ℕ) → merges (cellAt c k .kind) ≡ true
+    → settled c s k ≡ holding s k (stepOf (cellAt c k .kind) (heldAt s k) (high (nowAt s (cellAt c k .a))) (high (nowAt s (cellAt c k .b))) .held)
+settled-merge c s k e = settle-merge s k (cellAt c k) e
 
 pub bit-lt : (b : Bool) → bit b < 2
 unfolding bit
@@ -421,8 +430,8 @@ module _ (c : List Cell) (v : List ℕ → ℕ → ℕ) (u : List ℕ) where
     seen-now k a g h = now-two c v u k a h (omega arith) (omega arith) ∙ sym (now-after a (omega arith))
 
     -- what a merge holds
-    pub held-after : (k : ℕ) → k < length c → shapeAt c k ≡ kMerge
-        → heldAt after k ≡ mergeStep (heldAt u k) (high (nowAt after (cellAt c k .a))) (high (nowAt after (cellAt c k .b))) .held
+    pub held-after : (k : ℕ) → k < length c → merges (cellAt c k .kind) ≡ true
+        → heldAt after k ≡ stepOf (cellAt c k .kind) (heldAt u k) (high (nowAt after (cellAt c k .a))) (high (nowAt after (cellAt c k .b))) .held
     held-after k h e =
         same-held k after (settled c (three c v u k) k) (third-at k (base k + 4) h (omega arith) (omega arith)) (third-at k (base k + 5) h (omega arith) (omega arith))
         ∙ ap (λ (t : List ℕ). heldAt t k) (settled-merge c (three c v u k) k e)

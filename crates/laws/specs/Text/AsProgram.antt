@@ -11,22 +11,22 @@ use Rattle.model.specs.declared.Checked.the-variants.{Accepted}
 use Rattle.model.specs.declared.Written.{Written}
 use Rattle.model.specs.declared.Written.the-variants.{Done}
 use Rattle.model.specs.Refusals.{first}
-use Rattle.model.specs.Program.{programOf}
+use Rattle.model.specs.ProgramChecks.{programWith, checkOf}
 use Rattle.model.specs.Numbering.{finish}
 use Rattle.model.specs.Calls.{Returned, writing, compiledFile, netlistChecks, compileCall, running, fullState, fullCount, fullRunChecks, runProgramCall}
 use Rattle.model.specs.TextCalls.{textProgram, textChecks, readTextChecks, readTextCall, compileTextCall, runTextCall}
-use Rattle.laws.specs.Refusals.Laws.{first-append, first-behind, first-drop, accept-take}
+use Rattle.laws.specs.Refusals.Laws.{all-accept, first-append, first-behind, first-drop, accept-take}
 use Rattle.laws.specs.NetlistFile.ReadWrite.{Wrote, wrote}
 
--- whatever the table is, and whether or not it is refused
+-- whatever is given beside it, and whether or not its table is refused
 pub compile-as-program : (options : Options) (text lent : List ℕ) → first (textChecks text) ≡ Accepted
     → compileTextCall options text lent ≡ compileCall options (textProgram text) lent
 unfolding compileTextCall compileCall
 compile-as-program options text lent e =
     let program = textProgram text in
-    let file = compiledFile program in
-    let checks = netlistChecks (options .times) program lent in
-    ap (λ (c : Checked). writing c file (length file) (finish (programOf program)) lent)
+    let file = compiledFile options program in
+    let checks = netlistChecks options program lent in
+    ap (λ (c : Checked). writing c file (length file) (finish (programWith options program)) lent)
     (first-behind (options .checked) (textChecks text ++ checks) checks (first-append (textChecks text) checks e))
 
 pub run-as-program : (options : Options) (text words : List ℕ) (n : ℕ) (forFile lent : List ℕ) → first (textChecks text) ≡ Accepted
@@ -34,8 +34,8 @@ pub run-as-program : (options : Options) (text words : List ℕ) (n : ℕ) (forF
 unfolding runTextCall runProgramCall
 run-as-program options text words n forFile lent e =
     let program = textProgram text in
-    let file = compiledFile program in
-    let checks = fullRunChecks (options .times) program words n forFile lent in
+    let file = compiledFile options program in
+    let checks = fullRunChecks options program words n forFile lent in
     ap (λ (c : Checked).
     let r = running c file (fullState file words n lent) (fullCount file words n lent) lent in
     record { answer = r .answer; netlist = writing c file (length file) 0 forFile .lent; state = r .lent })
@@ -52,6 +52,9 @@ module _ (options : Options) (text lent : List ℕ) (n f : ℕ) (done : readText
       let checks = options .checked ∷ textChecks text in
       let e = accept-take 4 (readTextChecks options text lent) (read .accepted) in
       sym (first-drop 1 checks (accept-take 1 checks e)) ∙ e
+
+  pub program-passes : checkOf options (textProgram text) ≡ Accepted
+  program-passes = all-accept (readTextChecks options text lent) (read .accepted) 4
 
   pub program-made : take n (readTextCall options text lent .lent) ≡ textProgram text
   unfolding readTextCall

@@ -1,8 +1,8 @@
 -- Refusal 22 by the node's kind; the nodes after it fall.
-use mathlib.Core.Path.{_≡_, refl, sym, _∙_}
+use mathlib.Core.Path.{refl, sym, _∙_}
 use mathlib.Core.Bool.{true, false, _&&_, not}
 use mathlib.Core.Logic.{⊎-elim}
-use Prim.Native.Nat.{ℕ, _+_, _-_, _≤_, _<_}
+use Prim.Native.Nat.{ℕ, _+_, _-_, _<_}
 use native.Mathlib.Omega.{arith}
 use lib.Dec.{eqb}
 use denote.Ref.{now}
@@ -11,7 +11,7 @@ use borrow.Fn.Kinds.{In}
 use borrow.Fn.PlainCycle.{Measures, is, falls, and}
 use Rattle.model.specs.Program.{nodeCount}
 use Rattle.program.specs.Ends.{past-later}
-use Rattle.program.specs.Uses.{Side, side-below}
+use Rattle.program.specs.Uses.{side-below}
 use Rattle.program.proofs.Loose.{Two, other-kinds, at-most, loose-exit, loose-none, loop-side, loose-loop, turns-side, loose-turns, if-two, pair-two, stops, passes}
 use Rattle.program.proofs.first_loose.Reads as loose-reads
 use Rattle.program.proofs.first_loose.Kinds as loose-kinds
@@ -90,12 +90,13 @@ module _ (t : ℕ) where
       let S = c .before .before .before .before .before .before .before .pre .1 in
       let b = side-below _ _ _ S in
       let l = past-later _ _ _ (S .laid .each _) _ (c .before .next .ensures) in
-      (omega (arith, c .before .before .before .before .before .before .before .pre .0), turns-side S (c .before .before .before .before .before .read-node .ensures) _ (c .before .next .ensures) (c .if5 .taken) (other-kinds (c .before .before .if4 .left) .1) (c .before .before .before .if3 .left) (c .before .before .before .before .if1 .left))
+      (omega (arith, c .before .before .before .before .before .before .before .pre .0), turns-side S (c .before .before .before .before .before .read-node .ensures) _ (c .before .next .ensures) (c .if5 .taken) (other-kinds (c .before .before .if4 .left) .1) (c .before .before .before .if3 .left) (c .before .before .before .before .if1 .left) (other-kinds (c .before .before .if4 .left) .2))
 
   returns-5 : lts.Need-returns-5 calls (loose-here t) loose-reads.Post
   returns-5 c =
       c .first-loose2 .ensures
-      ∙ sym (loose-turns (c .before .before .before .before .before .before .before .before .pre .1) (c .before .before .before .before .before .before .read-node .ensures) _ (c .before .before .next .ensures) (c .before .if5 .taken) (other-kinds (c .before .before .before .if4 .left) .1) (c .before .before .before .before .if3 .left) (c .before .before .before .before .before .if1 .left) _)
+      ∙ sym (loose-turns (c .before .before .before .before .before .before .before .before .pre .1) (c .before .before .before .before .before .before .read-node .ensures) _ (c .before .before .next .ensures) (c .before .if5 .taken) (other-kinds (c .before .before .before .if4 .left) .1) (c .before .before .before .before .if3 .left) (c .before .before .before .before .before .if1 .left)
+      (other-kinds (c .before .before .before .if4 .left) .2) _)
 
   add-p : lts.Need-add-p calls (loose-here t) loose-reads.Post
   add-p c =

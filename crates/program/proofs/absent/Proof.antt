@@ -1,6 +1,6 @@
 -- A variable or array that is not there, by computation.
 use mathlib.Core.Path.{refl}
-use Rattle.model.specs.Program.{absent}
+use Rattle.model.specs.ProgramChecks.{absent}
 use Rattle.program.proofs.absent.Statement.{statement}
 use Rattle.program.proofs.absent.Tie as tie
 

@@ -4,10 +4,12 @@ use Rattle.program.proofs.crosses.Statement.{statement}
 use Rattle.program.proofs.crosses.Tie as tie
 
 returns : tie.Need-returns
-returns c = rw (← c .before .before .uses .ensures, c .before .if1 .taken) (c .uses2 .ensures)
+returns c =
+    rw (← c .before .before .before .before .mark-of .ensures, ← c .before .mark-of2 .ensures, ← c .before .before .before .does .ensures, c .before .before .if1 .taken) (c .does2 .ensures)
 
 returns-2 : tie.Need-returns-2
-returns-2 c = rw (← c .before .uses .ensures, c .if1 .left)
+returns-2 c =
+    rw (← c .before .before .mark-of .ensures, ← c .before .does .ensures, c .if1 .left)
 
 pub crosses-spec : {M : Type 1} → statement M
-crosses-spec = tie.close (tie.spec (λ c κs. search needs) (λ c κs. search needs) returns returns-2)
+crosses-spec = tie.close (tie.spec (λ c κs. search needs) (λ c κs. search needs) (λ c κs. search needs) (λ c κs. search needs) returns returns-2)

@@ -1,6 +1,6 @@
 -- Refusals 2 to 4 of one node, test by test.
 use borrow.Author.Tests.{eq-eqb, ne-eqb}
-use Rattle.model.specs.Program.{nodeFault}
+use Rattle.model.specs.ProgramChecks.{nodeFault}
 use borrow.Author.Needs.{needs}
 use Rattle.program.proofs.fault_of.Statement.{statement}
 use Rattle.program.proofs.fault_of.Tie as tie

@@ -2,7 +2,8 @@
 use mathlib.Core.Path.{sym, _∙_, ap}
 use Prim.Native.Nat.{ℕ, _-_}
 use native.Mathlib.Omega.{arith}
-use Rattle.model.specs.Program.{nodeAt, nodeCount, nodeFault}
+use Rattle.model.specs.Program.{nodeAt, nodeCount}
+use Rattle.model.specs.ProgramChecks.{nodeFault}
 use Rattle.laws.specs.Refusals.Search.{Searched, searched-none, fault-here, fault-next, faults-end}
 use Rattle.program.proofs.first_fault.Statement.{statement}
 use Rattle.program.proofs.first_fault.Tie as tie

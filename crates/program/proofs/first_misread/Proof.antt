@@ -1,24 +1,28 @@
 -- Refusals 5 and 6: the answer from node 0 is the answer from node i, with so many expressions and statements still to be read.
-use mathlib.Core.Path.{_≡_, refl, sym, _∙_, ap}
-use mathlib.Core.List.{[], _∷_}
-use Prim.Native.Nat.{_+_, _-_, _*_, _≤_}
+use mathlib.Core.Path.{_≡_, sym, _∙_, ap}
+use Prim.Native.Nat.{ℕ, _+_, _-_, _*_, _≤_}
 use native.Mathlib.Omega.{arith}
+use native.Mathlib.Numerals.{add-one}
+use lib.ListN.{replicate}
 use denote.Ref.{now}
 use Rattle.model.specs.Refusals.{refuse}
-use Rattle.model.specs.Program.{nodeCount, nodesAt, reading}
+use Rattle.model.specs.Program.{nodeCount, nodesAt}
+use Rattle.model.specs.ProgramChecks.{reading, rootSorts}
 use Rattle.program.proofs.Reading.{wanted, read-left, read-short, read-end, read-no-stmt, read-no-expr, read-stmt, read-expr}
 use Rattle.program.proofs.first_misread.Statement.{statement}
 use Rattle.program.proofs.first_misread.Tie as tie
 
 abbrev Inv-loop : tie.InvT-loop
-Inv-loop program count exprs₀ stmts₀ i₀ exprs stmts i =
-    (i ≤ count) × (exprs + stmts ≤ 510 * i + 1) × (reading (2 ∷ []) 0 (nodesAt program 0) ≡ reading (wanted exprs stmts) i (nodesAt program i))
+Inv-loop program procedures count exprs₀ stmts₀ i₀ exprs stmts i =
+    (i ≤ count) × (exprs + stmts ≤ 510 * i + 9) × (reading (rootSorts procedures) 0 (nodesAt program 0) ≡ reading (wanted exprs stmts) i (nodesAt program i))
 
 abbrev μ-loop : tie.MeasureT-loop
-μ-loop program count exprs₀ stmts₀ i₀ exprs stmts i = count - i
+μ-loop program procedures count exprs₀ stmts₀ i₀ exprs stmts i = count - i
 
 loop-holds : tie.Need-loop-holds Inv-loop μ-loop
-loop-holds c = (omega arith, omega arith, refl)
+loop-holds c =
+    let args = c .before .args in
+    (omega arith, omega arith, ap (λ (n : ℕ). reading (replicate n 2) 0 (nodesAt (now (args .program)) 0)) (sym (add-one (args .procedures))))
 
 kind-row-requires : tie.Need-kind-row-requires Inv-loop μ-loop
 kind-row-requires c κs = tt
@@ -108,6 +112,7 @@ first-misread-spec =
     (tie.spec
     Inv-loop
     μ-loop
+    (λ c. omega (arith, c .before .pre .1))
     loop-holds
     (λ c κs. omega arith)
     kind-row-requires

@@ -3,7 +3,8 @@ use mathlib.Core.Path.{_∙_}
 use Prim.Native.Nat.{_-_}
 use native.Mathlib.Omega.{arith}
 use denote.Ref.{now}
-use Rattle.model.specs.Program.{nodeCount, timeIn, delayFault}
+use Rattle.model.specs.Program.{nodeCount, timeIn}
+use Rattle.model.specs.ProgramChecks.{delayFault}
 use Rattle.laws.specs.Refusals.Search.{Searched, searched-none, fault-here, fault-next, faults-end}
 use Rattle.program.specs.Times.{slow-at, not-slow-at}
 use Rattle.program.proofs.first_slow.Statement.{statement}

@@ -4,7 +4,7 @@ use Prim.Native.Nat.{max}
 use denote.Ref.{now}
 use Rattle.model.specs.Program.{timeIn}
 use Rattle.program.specs.Ends.{past-trees}
-use Rattle.program.specs.Times.{least-low, least-tick, least-seq, least-par, least-loop, least-exit, least-if, least-elem, least-other}
+use Rattle.program.specs.Times.{least-low, least-tick, least-seq, least-par, least-one, least-exit, least-if, least-elem, least-other}
 use borrow.Author.Needs.{needs}
 use Rattle.program.proofs.least_at.Statement.{statement}
 use Rattle.program.proofs.least_at.Tie as tie
@@ -32,7 +32,7 @@ returns-4 c =
 returns-5 : tie.Need-returns-5
 returns-5 c =
     let τ = timeIn (now (c .before .before .before .before .before .before .before .before .args .operators)) in
-    least-loop τ _ _ (c .before .before .before .before .before .before .before .before .pre .1) _ (c .before .before .before .before .before .read-node .ensures) (c .if5 .taken)
+    least-one τ _ _ (c .before .before .before .before .before .before .before .before .pre .1) _ (c .before .before .before .before .before .read-node .ensures) (c .if5 .taken)
 
 returns-6 : tie.Need-returns-6
 returns-6 c =

@@ -1,6 +1,6 @@
 -- Refusal 1's condition, by computation.
 use mathlib.Core.Path.{refl}
-use Rattle.model.specs.Program.{programLengthWrong}
+use Rattle.model.specs.ProgramChecks.{programLengthWrong}
 use Rattle.program.proofs.length_wrong.Statement.{statement}
 use Rattle.program.proofs.length_wrong.Tie as tie
 

@@ -1,4 +1,4 @@
--- The arrays are right from node i on; refusals 7 and 8 read them whole.
+-- The arrays are right from node i on; the refusals after 6 read them whole.
 use mathlib.Core.Path.{_≡_, refl, _∙_, ap}
 use Prim.Native.Nat.{ℕ, _+_, _-_, _≤_, _<_}
 use native.Mathlib.Omega.{arith}
@@ -12,11 +12,11 @@ use Rattle.program.proofs.measure.Statement.{statement}
 use Rattle.program.proofs.measure.Tie as tie
 
 abbrev Inv-loop : tie.InvT-loop
-Inv-loop operators program count times₀ ends₀ i₀ times ends i =
+Inv-loop operators program procedures count times₀ ends₀ i₀ times ends i =
     (i ≤ count) × (length times ≡ 200) × (length ends ≡ 200) × ((j : ℕ) → i ≤ j → j < nodeCount program → Shaped (timeIn operators) program times ends j)
 
 abbrev μ-loop : tie.MeasureT-loop
-μ-loop operators program count times₀ ends₀ i₀ times ends i = i
+μ-loop operators program procedures count times₀ ends₀ i₀ times ends i = i
 
 loop-holds : tie.Need-loop-holds Inv-loop μ-loop
 loop-holds c = (omega arith, refl, refl, λ j l m. absurd (omega arith))
@@ -71,8 +71,10 @@ loop-again c =
 late-check-requires : tie.Need-late-check-requires Inv-loop μ-loop
 late-check-requires c κs =
     let pre = c .before .before .before .before .before .before .pre in
-    let loop = c .before .before .before .loop in
-    (pre, λ j l. loop .inv .3 j (omega arith) l)
+    let loop = c .before .before .before .loop in (
+      record { readable = pre; laid = record { short = pre .short; each = λ j l. loop .inv .3 j (omega arith) l .end } },
+      λ j l. loop .inv .3 j (omega arith) l,
+    )
 
 returns : tie.Need-returns Inv-loop μ-loop
 returns c =

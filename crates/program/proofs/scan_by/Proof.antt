@@ -1,7 +1,8 @@
 -- Refusals 1 to 6, and then the others with the arrays.
 use mathlib.Core.Path.{sym, _∙_}
 use denote.Ref.{now}
-use Rattle.model.specs.Program.{timeIn, programChecks, checkOf}
+use Rattle.model.specs.Program.{timeIn}
+use Rattle.model.specs.ProgramChecks.{programChecks}
 use Rattle.laws.specs.Refusals.Laws.{not-refused, first-take, first-drop}
 use Rattle.laws.specs.Program.Passed.{readable}
 use borrow.Author.Needs.{needs}
@@ -9,23 +10,21 @@ use Rattle.program.proofs.scan_by.Statement.{statement}
 use Rattle.program.proofs.scan_by.Tie as tie
 
 measure-requires : tie.Need-measure-requires
-measure-requires c κs = readable (λ k. 0) _ (sym (c .before .before .early-check .ensures (λ k. 0)) ∙ c .enum-told .given .1)
+measure-requires c κs = readable (λ k. 0) _ _ (sym (c .before .before .early-check .ensures (λ k. 0)) ∙ c .enum-told .given .1)
 
 returns : tie.Need-returns
-unfolding checkOf
 returns c =
     let early-check = c .before .before .before .before .early-check in
     let τ = timeIn (now (c .before .before .before .before .before .before .before .args .operators)) in
-    let e = first-take 3 (programChecks τ _) (sym (early-check .ensures τ) ∙ c .before .before .early .given .1) in
+    let e = first-take 3 (programChecks τ _ _) (sym (early-check .ensures τ) ∙ c .before .before .early .given .1) in
     record { checked = c .unscanned .ensures ∙ sym e; shaped = λ a. not-refused (sym e ∙ a) }
 
 returns-2 : tie.Need-returns-2
-unfolding checkOf
 returns-2 c =
     let early-check = c .before .before .before .early-check in
     let τ = timeIn (now (c .before .before .before .before .before .before .args .operators)) in
     record {
-      checked = c .measure .ensures .checked ∙ sym (first-drop 3 (programChecks τ _) (sym (early-check .ensures τ) ∙ c .before .enum-told .given .1));
+      checked = c .measure .ensures .checked ∙ sym (first-drop 3 (programChecks τ _ _) (sym (early-check .ensures τ) ∙ c .before .enum-told .given .1));
       shaped = λ a. c .measure .ensures .shaped;
     }
 

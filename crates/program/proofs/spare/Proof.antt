@@ -1,6 +1,6 @@
 -- A field without a use is zero.
 use borrow.Author.Tests.{eq-eqb, ne-eqb}
-use Rattle.model.specs.Program.{unusedSet}
+use Rattle.model.specs.ProgramChecks.{unusedSet}
 use Rattle.program.proofs.spare.Statement.{statement}
 use Rattle.program.proofs.spare.Tie as tie
 

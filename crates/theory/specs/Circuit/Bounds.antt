@@ -16,7 +16,7 @@ use borrow.Author.Tests.{eqb-true}
 use Rattle.model.specs.declared.Cell.{Cell}
 use Rattle.model.specs.declared.Checked.the-variants.{Accepted}
 use Rattle.model.specs.Word.{pick, bit, operate, index, get16, Bytes}
-use Rattle.model.specs.Circuit.{falls, cellAt, arrayAt, Sig, Values, level, element, memory, equation, startWord, Obeys, Shape, cellTable, shape, kConstant, kComplement, kOperator, kStart, kGround, kDelay, kOr, kWhenTrue, kWhenFalse, kMerge, kMemory, kGated, kArray, kAddress, kRead, kUnknown}
+use Rattle.model.specs.Circuit.{falls, cellAt, arrayAt, Sig, Values, level, element, memory, equation, startWord, Obeys, Shape, cellTable, shape, kConstant, kComplement, kOperator, kStart, kGround, kDelay, kOr, kWhenTrue, kWhenFalse, kMerge, kReturn, kMemory, kGated, kArray, kAddress, kRead, kUnknown}
 use Rattle.model.specs.NetlistFile.{cellFrom, cellsAt, inFile, cellsOf, countOf, finishOf, netCheck, fileCheck}
 use Rattle.laws.specs.Circuit.Ordered.{Looks, kinds}
 use Rattle.theory.specs.Circuit.Unique.{Feeds, feeds}
@@ -71,6 +71,7 @@ module _ (net : List Cell) (words : ℕ → ℕ) (w : (x : ℕ) → words x < 65
     equation-word kWhenTrue t o past below = bit-word _
     equation-word kWhenFalse t o past below = bit-word _
     equation-word kMerge t o past below = bit-word _
+    equation-word kReturn t o past below = bit-word _
     equation-word kMemory zero o past below = f
     equation-word kMemory (suc t) o past below =
         pick-word (falls W (c .a) t) (past t (lt-suc-self t) (c .b) (o .2 .0)) (past t (lt-suc-self t) k l)

@@ -12,9 +12,9 @@ use borrow.Author.Tests.{eqb-true}
 use Rattle.laws.specs.Circuit.Ordered.{Looks, kinds, Ordered}
 use Rattle.model.specs.Word.{pick, bit, operate, index}
 use Rattle.model.specs.declared.Cell.{Cell}
-use Rattle.model.specs.Circuit.{cellAt, arrayAt, delayed, merged, mergeStep, heldBefore, Sig, Values, level, memory, element, Shape, cellTable, shape, cellRow, equation, startWord, Obeys}
+use Rattle.model.specs.Circuit.{cellAt, arrayAt, delayed, merged, mergeStep, returnStep, Step, heldBefore, Sig, Values, level, memory, element, Shape, cellTable, shape, cellRow, equation, startWord, Obeys}
 use Rattle.laws.specs.Numbering.Cells.{cellVal}
-use Rattle.model.specs.Circuit.{kConstant, kComplement, kOperator, kStart, kGround, kDelay, kOr, kWhenTrue, kWhenFalse, kMerge, kMemory, kGated, kArray, kAddress, kRead, kUnknown}
+use Rattle.model.specs.Circuit.{kConstant, kComplement, kOperator, kStart, kGround, kDelay, kOr, kWhenTrue, kWhenFalse, kMerge, kReturn, kMemory, kGated, kArray, kAddress, kRead, kUnknown}
 
 -- what the words of an array look at, if its kind 42 is cell j: clock, data and address
 abbrev pub Feeds : List Cell → ℕ → Type 0
@@ -54,24 +54,24 @@ module _ (net : List Cell) (words : ℕ → ℕ) (U W : Values) where
   upto t k l h j lj u lu =
       ⊎-elim (λ (e : u ≡ t). rw e (h .1 j lj)) (λ (lt : u < t). h .0 u lt j (omega arith)) (eq-or-lt-of-le lu)
 
-  held-cong : (a b : ℕ) (t : ℕ) → ((u : ℕ) → u < t → U a u ≡ W a u) → ((u : ℕ) → u < t → U b u ≡ W b u)
-      → heldBefore (level U a) (level U b) t ≡ heldBefore (level W a) (level W b) t
+  held-cong : (step : Step) (a b : ℕ) (t : ℕ) → ((u : ℕ) → u < t → U a u ≡ W a u) → ((u : ℕ) → u < t → U b u ≡ W b u)
+      → heldBefore step (level U a) (level U b) t ≡ heldBefore step (level W a) (level W b) t
   unfolding heldBefore
-  held-cong a b zero h h′ = refl
-  held-cong a b (suc t) h h′ =
-      let e = held-cong a b t (λ u l. h u (omega arith)) (λ u l. h′ u (omega arith)) in
+  held-cong step a b zero h h′ = refl
+  held-cong step a b (suc t) h h′ =
+      let e = held-cong step a b t (λ u l. h u (omega arith)) (λ u l. h′ u (omega arith)) in
       let ea : U a t ≡ W a t = h t (omega arith) in
       let eb : U b t ≡ W b t = h′ t (omega arith) in
-      λ i. mergeStep (e i) (eqb (ea i) 1) (eqb (eb i) 1) .held
+      λ i. step (e i) (eqb (ea i) 1) (eqb (eb i) 1) .held
 
-  merged-cong : (a b : ℕ) (t : ℕ) → ((u : ℕ) → u ≤ t → U a u ≡ W a u) → ((u : ℕ) → u ≤ t → U b u ≡ W b u)
-      → merged (level U a) (level U b) t ≡ merged (level W a) (level W b) t
+  merged-cong : (step : Step) (a b : ℕ) (t : ℕ) → ((u : ℕ) → u ≤ t → U a u ≡ W a u) → ((u : ℕ) → u ≤ t → U b u ≡ W b u)
+      → merged step (level U a) (level U b) t ≡ merged step (level W a) (level W b) t
   unfolding merged
-  merged-cong a b t h h′ =
-      let e = held-cong a b t (λ u l. h u (omega arith)) (λ u l. h′ u (omega arith)) in
+  merged-cong step a b t h h′ =
+      let e = held-cong step a b t (λ u l. h u (omega arith)) (λ u l. h′ u (omega arith)) in
       let ea : U a t ≡ W a t = h t (le-refl t) in
       let eb : U b t ≡ W b t = h′ t (le-refl t) in
-      λ i. mergeStep (e i) (eqb (ea i) 1) (eqb (eb i) 1) .out
+      λ i. step (e i) (eqb (ea i) 1) (eqb (eb i) 1) .out
 
   delayed-here : (d a t : ℕ) → 1 ≤ d → ((u : ℕ) → u < t → U a u ≡ W a u) → delayed d (level U a) t ≡ delayed d (level W a) t
   unfolding delayed
@@ -121,7 +121,9 @@ module _ (net : List Cell) (words : ℕ → ℕ) (U W : Values) where
     shape-cong kWhenTrue first k c t l o h = ap₂ (λ (x y : ℕ). bit (eqb x 1 && not (eqb y 0))) (h .1 (c .a) (o .1 .0)) (h .1 (c .b) (o .2 .0))
     shape-cong kWhenFalse first k c t l o h = ap₂ (λ (x y : ℕ). bit (eqb x 1 && eqb y 0)) (h .1 (c .a) (o .1 .0)) (h .1 (c .b) (o .2 .0))
     shape-cong kMerge first k c t l o h =
-        ap bit (merged-cong (c .a) (c .b) t (upto t k l h (c .a) (o .1 .0)) (upto t k l h (c .b) (o .2 .0)))
+        ap bit (merged-cong mergeStep (c .a) (c .b) t (upto t k l h (c .a) (o .1 .0)) (upto t k l h (c .b) (o .2 .0)))
+    shape-cong kReturn first k c t l o h =
+        ap bit (merged-cong returnStep (c .a) (c .b) t (upto t k l h (c .a) (o .1 .0)) (upto t k l h (c .b) (o .2 .0)))
     shape-cong kMemory first k c t l o h = mem-cong first t k c l (o .1 .0) (o .2 .0) h
     shape-cong kGated first k c t l o h = ap₂ (λ (x y : ℕ). pick (eqb x 1) y 0) (h .1 (c .a) (o .1 .0)) (h .1 (c .b) (o .2 .0))
     shape-cong kArray first k c t l o h = refl

@@ -4,16 +4,18 @@ use Prim.Native.Nat.{ℕ, zero, suc, _+_, _-_, _≤_, _<_}
 use mathlib.Core.Path.{_≡_, sym, _∙_, ap, subst}
 use mathlib.Core.Bool.{Bool, true, false, _||_, or-false}
 use native.Mathlib.Omega.{arith}
+use lib.Dec.{eqb}
 use lib.Bits.{bitOr, or-zero-r}
 use Rattle.laws.specs.Refusals.Laws.{by-bool, by-le}
 use Rattle.theory.specs.Control.Widths.{gap}
 use Rattle.theory.specs.Control.Signal.{Quiet}
-use Rattle.model.specs.Program.{Stmt, touches}
+use Rattle.model.specs.Program.{Code, touches}
+use Rattle.model.specs.Procedures.{reaches}
 use Rattle.model.specs.Rules.{owner}
 use Rattle.theory.specs.Control.Wiring.{Gives, Joined, hits, latch, Latches, Mem}
 use Rattle.theory.specs.Control.World.{World, means, each-of}
 use Rattle.theory.specs.Control.Memories.{Dull, Follow, keep}
-use Rattle.theory.specs.Control.Calm.{Calm, Sofar, calm-sofar}
+use Rattle.theory.specs.Control.Calm.{Calm, Sofar, calm-sofar, is-uncalled}
 use Rattle.theory.specs.Control.Rest.{Rests, rest}
 
 -- What a part may count as its own
@@ -21,21 +23,17 @@ pub record Owned : Type 1 where
   pub vars : ℕ → Type 0
   pub procs : ℕ → Type 0
 
--- P reaches body q by its calls: no kind of today's calls
-abbrev pub reaches : Stmt → ℕ → Bool
-reaches P q = false
-
 -- all that P uses, itself and through calls, and perhaps more
-pub record Owns (W : World) (P : Stmt) (U : Owned) : Type 0 where
+pub record Owns (W : World) (P : Code) (U : Owned) : Type 0 where
   pub mine : (x : ℕ) → touches (means W P) x ≡ true → U .vars x
-  pub reach : (q : ℕ) → reaches P q ≡ true → U .procs q
+  pub reach : (q : ℕ) → reaches (W .reach) P q ≡ true → U .procs q
 
 -- what two parts use together
-pub owns-both : (W : World) (P Q : Stmt) (U : Owned) → ((x : ℕ) → (touches (means W P) x || touches (means W Q) x) ≡ true → U .vars x)
-    → ((q : ℕ) → (reaches P q || reaches Q q) ≡ true → U .procs q) → Owns W P U × Owns W Q U
+pub owns-both : (W : World) (P Q : Code) (U : Owned) → ((x : ℕ) → (touches (means W P) x || touches (means W Q) x) ≡ true → U .vars x)
+    → ((q : ℕ) → (reaches (W .reach) P q || reaches (W .reach) Q q) ≡ true → U .procs q) → Owns W P U × Owns W Q U
 owns-both W P Q U mine reach =
     let v = each-of (touches (means W P)) (touches (means W Q)) mine in
-    let r = each-of (reaches P) (reaches Q) reach in
+    let r = each-of (reaches (W .reach) P) (reaches (W .reach) Q) reach in
     (record { mine = v .0; reach = r .0 }, record { mine = v .1; reach = r .1 })
 
 -- Bodies --------------------------------------------------------------------------------------------------------------------------------
@@ -58,20 +56,29 @@ abbrev pub SilentAt : World → (ℕ → Type 0) → Gives → ℕ → Type 0
 SilentAt W Y g t =
     (q : ℕ) → Y q → g .calls q t ≡ false → ((r : ℕ) → Y r → W .each r .calls q t ≡ false) → W .all .calls q t ≡ false
 
--- The bodies of Y rest while the part does not call them
-module _ (W : World) (Y : ℕ → Type 0) (g : Gives) (a b : ℕ) (idle : (q : ℕ) → Y q → Idle W q a)
-    (silent : (t : ℕ) → a ≤ t → t < b → SilentAt W Y g t) (off : (q : ℕ) → Quiet (g .calls q) a b) where
-  bodies-quiet : (n : ℕ) → a + n ≤ b → (q : ℕ) → Y q → Quiet (W .all .calls q) a (a + n)
-  bodies-quiet zero o q v t h j = absurd (omega arith)
-  bodies-quiet (suc n) o q v t h j =
+-- a body calls neither itself nor a later one
+pub uncalled : (W : World) (r q : ℕ) → r ≤ q → (t : ℕ) → W .each r .calls q t ≡ false
+uncalled W r q o =
+    is-uncalled W (W .bodies r) (W .all .calls r) (W .ret r) (W .each r) (W .built r) q
+    (by-bool (reaches (W .reach) (W .bodies r) q) (λ z. absurd (omega (arith, W .lower r q z))) (λ z. z))
+
+-- The bodies of Y from number k on rest while the part does not call them: those below k do not
+module _ (W : World) (Y : ℕ → Type 0) (k : ℕ) (g : Gives) (a b : ℕ) (idle : (q : ℕ) → Y q → k ≤ q → Idle W q a)
+    (silent : (t : ℕ) → a ≤ t → t < b → SilentAt W Y g t) (off : (q : ℕ) → Y q → k ≤ q → Quiet (g .calls q) a b) where
+  bodies-quiet : (n : ℕ) → a + n ≤ b → (q : ℕ) → Y q → k ≤ q → Quiet (W .all .calls q) a (a + n)
+  bodies-quiet zero o q v l t h j = absurd (omega arith)
+  bodies-quiet (suc n) o q v l t h j =
       by-le (a + n) t
       (λ z.
-      silent t h (omega arith) q v (off q t h (omega arith))
-      (λ r i. body-rest W r a (a + n) (idle r i) (omega arith) (bodies-quiet n (omega arith) r i) .called q t h (omega arith)))
-      (λ z. bodies-quiet n (omega arith) q v t h z)
+      silent t h (omega arith) q v (off q v l t h (omega arith))
+      (λ r i.
+      by-le k r
+      (λ y. body-rest W r a (a + n) (idle r i y) (omega arith) (bodies-quiet n (omega arith) r i y) .called q t h (omega arith))
+      (λ y. uncalled W r q (omega arith) t)))
+      (λ z. bodies-quiet n (omega arith) q v l t h z)
 
-  bodies-rest : a ≤ b → (q : ℕ) → Y q → BodyRests W q a b
-  bodies-rest o q v = body-rest W q a b (idle q v) o (λ t h j. bodies-quiet (b - a) (omega arith) q v t h (omega arith))
+  pub bodies-rest : a ≤ b → (q : ℕ) → Y q → k ≤ q → BodyRests W q a b
+  bodies-rest o q v l = body-rest W q a b (idle q v l) o (λ t h j. bodies-quiet (b - a) (omega arith) q v l t h (omega arith))
 
 -- What a part's own follows ---------------------------------------------------------------------------------------------------------------
 
@@ -80,9 +87,15 @@ pub record Follows (W : World) (U : Owned) (g : Gives) (a b : ℕ) : Type 0 wher
   -- no clock from these: no clock
   pub low : (x : ℕ) → U .vars x → (t : ℕ) → a ≤ t → t ≤ b → g .clk x t ≡ false → ((r : ℕ) → U .procs r → W .each r .clk x t ≡ false)
       → W .all .clk x t ≡ false
-  -- a clock from the part alone is the clock, and brings its word and address
+  -- a clock from the part alone, or from one of these bodies, is the clock, and brings its word and address
   pub own : (x : ℕ) → U .vars x → (t : ℕ) → a ≤ t → t ≤ b → g .clk x t ≡ true → ((r : ℕ) → U .procs r → W .each r .clk x t ≡ false)
       → (W .all .clk x t ≡ true) × (W .all .dat x t ≡ g .dat x t) × (W .all .adr x t ≡ g .adr x t)
+  pub body : (x : ℕ) → U .vars x → (t : ℕ) → a ≤ t → t ≤ b → g .clk x t ≡ false → (q : ℕ) → U .procs q → W .each q .clk x t ≡ true
+      → ((r : ℕ) → U .procs r → eqb r q ≡ false → W .each r .clk x t ≡ false)
+      → (W .all .clk x t ≡ true) × (W .all .dat x t ≡ W .each q .dat x t) × (W .all .adr x t ≡ W .each q .adr x t)
+  -- a call by one of them is a start, at every instant
+  pub heard : (q : ℕ) → U .procs q → (t : ℕ) → g .calls q t ≡ true → W .all .calls q t ≡ true
+  pub heard-body : (r : ℕ) → U .procs r → (q : ℕ) → U .procs q → (t : ℕ) → W .each r .calls q t ≡ true → W .all .calls q t ≡ true
 
 -- on a part of the interval
 pub within : (W : World) (U : Owned) (g : Gives) (a b a′ b′ : ℕ) → a ≤ a′ → b′ ≤ b → Follows W U g a b → Follows W U g a′ b′
@@ -90,6 +103,9 @@ within W U g a b a′ b′ o o′ F =
     record {
       low = λ x u t l h. F .low x u t (omega arith) (omega arith);
       own = λ x u t l h. F .own x u t (omega arith) (omega arith);
+      body = λ x u t l h. F .body x u t (omega arith) (omega arith);
+      heard = F .heard;
+      heard-body = F .heard-body;
     }
 
 -- where U's bodies clock nothing, the words of its variables follow the part alone
@@ -142,6 +158,10 @@ module _ (W : World) (U U′ : Owned) (g₁ g₂ g : Gives) (j : Joined g₁ g�
           own = λ x u t l h e z.
               let k = F .own x (inU x u) t l h (half-clk x u t l h ∙ e) (λ r i. mute x u t r i (λ i′. z r i′)) in
               (k .0, k .1 ∙ half-dat x u t l h, k .2 ∙ half-adr x u t l h);
+          body = λ x u t l h e q v y z.
+              F .body x (inU x u) t l h (half-clk x u t l h ∙ e) q (inY q v) y (λ r i n. mute x u t r i (λ i′. z r i′ n));
+          heard = λ q v t e. F .heard q (inY q v) t (j .called q t ∙ ap (λ (c : Bool). c || g₂ .calls q t) e);
+          heard-body = λ r v q i. F .heard-body r (inY r v) q (inY q i);
         }
 
 -- the same, with the same own
@@ -156,13 +176,16 @@ follows-beside W U g₁ g₂ g a b j dull off =
 
 -- what follows a part follows another that gives the same
 pub follows-is : (W : World) (U : Owned) (g₁ g : Gives) (a b : ℕ) → ((x t : ℕ) → g .clk x t ≡ g₁ .clk x t) → ((x t : ℕ) → g .dat x t ≡ g₁ .dat x t)
-    → ((x t : ℕ) → g .adr x t ≡ g₁ .adr x t) → Follows W U g a b → Follows W U g₁ a b
-follows-is W U g₁ g a b clocks words addresses F =
+    → ((x t : ℕ) → g .adr x t ≡ g₁ .adr x t) → ((q t : ℕ) → g .calls q t ≡ g₁ .calls q t) → Follows W U g a b → Follows W U g₁ a b
+follows-is W U g₁ g a b clocks words addresses called F =
     record {
       low = λ x u t l h e z. F .low x u t l h (clocks x t ∙ e) z;
       own = λ x u t l h e z.
           let k = F .own x u t l h (clocks x t ∙ e) z in
           (k .0, k .1 ∙ words x t, k .2 ∙ addresses x t);
+      body = λ x u t l h e. F .body x u t l h (clocks x t ∙ e);
+      heard = λ q v t e. F .heard q v t (called q t ∙ e);
+      heard-body = F .heard-body;
     }
 
 -- After a part ------------------------------------------------------------------------------------------------------------------------------
@@ -195,10 +218,10 @@ module _ (W : World) (U : Owned) (g : Gives) (a b e : ℕ) (o : b ≤ e) (S : Se
     (off : (q : ℕ) → Quiet (g .calls q) (a + W .w) b) where
   pub pause-rests : a + gap (W .w) ≤ b → (q : ℕ) → U .procs q → BodyRests W q (a + gap (W .w)) b
   pause-rests l q v =
-      bodies-rest W (U .procs) g (a + gap (W .w)) b (λ q v. S .idle q v (omega arith)) (λ t k h. silent t (omega arith) h)
-      (λ q t h j. off q t (omega arith) j) l q v
+      bodies-rest W (U .procs) 0 g (a + gap (W .w)) b (λ q v k. S .idle q v (omega arith)) (λ t k h. silent t (omega arith) h)
+      (λ q v k t h j. off q t (omega arith) j) l q v (omega arith)
 
-  pause-low : (q : ℕ) → U .procs q → (x t : ℕ) → a ≤ t → t ≤ b → W .each q .clk x t ≡ false
+  pub pause-low : (q : ℕ) → U .procs q → (x t : ℕ) → a ≤ t → t ≤ b → W .each q .clk x t ≡ false
   pause-low q v x t l h =
       by-le (a + gap (W .w)) t (λ z. pause-rests (omega arith) q v .clocks x t z (omega arith)) (λ z. S .low q v x t l (omega arith) (omega arith))
 

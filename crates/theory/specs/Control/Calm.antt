@@ -7,13 +7,15 @@ use native.Mathlib.Omega.{arith}
 use lib.Dec.{eqb}
 use lib.Bits.{bitOr}
 use Rattle.model.specs.Word.{pick}
-use Rattle.model.specs.Program.{Expr, Stmt, ok, tick, assign, assignElem, seq, par, ite, while, repeat, loop, exit, arrayVar, writes}
+use Rattle.model.specs.Program.{Expr, Code, Stmt, ok, tick, assign, assignElem, seq, par, ite, while, repeat, loop, exit, call, arrayVar, writes}
+use Rattle.model.specs.Procedures.{inline, reaches}
 use Rattle.model.specs.Circuit.{Sig, delayed}
 use Rattle.laws.specs.Refusals.Laws.{or-false, not-both}
 use Rattle.laws.specs.Program.Fit.{exits}
 use Rattle.theory.specs.Control.Widths.{gap, widened}
 use Rattle.theory.specs.Control.Signal.{Quiet, Clear}
 use Rattle.theory.specs.Control.Merge.{Empty, empty-zero}
+use Rattle.theory.specs.Control.Returns.{NoCall, no-call-zero}
 use Rattle.theory.specs.Control.History.{Stable, Spaced}
 use Rattle.theory.specs.Control.Wiring.{Memory, either, Reading, ideal, Gives, Joined, Assigned, Circuit, Known, Timer, Test, Delays, Each}
 use Rattle.theory.specs.Control.World.{World, Built, means}
@@ -26,7 +28,7 @@ calmly w m a =
     record {
       delay = λ d s. Clear d s a;
       merge = λ f₁ f₂. Empty w f₁ f₂ a;
-      answer = λ f₁ f₂. Unit {0};
+      answer = λ f₁ f₂. NoCall w f₁ f₂ a;
       line = λ d s. Spaced w d s a;
       word = λ d e s. Stable m d e s a;
     }
@@ -48,19 +50,19 @@ aloft w a =
     record {
       delay = λ d s. Clear d s a;
       merge = λ f₁ f₂. Empty w f₁ f₂ a;
-      answer = λ f₁ f₂. Unit {0};
+      answer = λ f₁ f₂. NoCall w f₁ f₂ a;
       line = λ d s. Unit {0};
       word = λ d e s. Unit {0};
     }
 
-abbrev pub Calm : (W : World) (P : Stmt) (s f : Sig) (g : Gives) → Built W P s f g → ℕ → Type 0
-Calm W P s f g n a = Each (calmly (W .w) (W .m) a) (W .w) (ideal (W .m)) P s f g n
+abbrev pub Calm : (W : World) (P : Code) (s f : Sig) (g : Gives) → Built W P s f g → ℕ → Type 0
+Calm W P s f g n a = Each (calmly (W .w) (W .m) a) (W .w) (ideal (W .m)) (W .ret) P s f g n
 
-abbrev pub Sofar : (W : World) (P : Stmt) (s f : Sig) (g : Gives) → Built W P s f g → ℕ → Type 0
-Sofar W P s f g n c = Each (lately (W .w) (W .m) c) (W .w) (ideal (W .m)) P s f g n
+abbrev pub Sofar : (W : World) (P : Code) (s f : Sig) (g : Gives) → Built W P s f g → ℕ → Type 0
+Sofar W P s f g n c = Each (lately (W .w) (W .m) c) (W .w) (ideal (W .m)) (W .ret) P s f g n
 
-abbrev pub Resting : (W : World) (P : Stmt) (s f : Sig) (g : Gives) → Built W P s f g → ℕ → Type 0
-Resting W P s f g n a = Each (aloft (W .w) a) (W .w) (ideal (W .m)) P s f g n
+abbrev pub Resting : (W : World) (P : Code) (s f : Sig) (g : Gives) → Built W P s f g → ℕ → Type 0
+Resting W P s f g n a = Each (aloft (W .w) a) (W .w) (ideal (W .m)) (W .ret) P s f g n
 
 -- What is known of every cell ---------------------------------------------------------------------------------------------------------
 
@@ -68,10 +70,11 @@ Resting W P s f g n a = Each (aloft (W .w) a) (W .w) (ideal (W .m)) P s f g n
 record Gains (K J K′ : Known) : Type 0 where
   delay : (d : ℕ) (s : Sig) → K .delay d s → J .delay d s → K′ .delay d s
   merge : (f₁ f₂ : Sig) → K .merge f₁ f₂ → J .merge f₁ f₂ → K′ .merge f₁ f₂
+  answer : (f₁ f₂ : Sig) → K .answer f₁ f₂ → J .answer f₁ f₂ → K′ .answer f₁ f₂
   line : (d : ℕ) (s : Sig) → K .line d s → J .line d s → K′ .line d s
   word : (d : ℕ) (e : Expr) (s : Sig) → K .word d e s → J .word d e s → K′ .word d e s
 
-module _ (K J K′ : Known) (h : Gains K J K′) (w : ℕ) (R : Reading) where
+module _ (K J K′ : Known) (h : Gains K J K′) (w : ℕ) (R : Reading) (r : ℕ → Sig) where
   timer-both : (d : ℕ) (s : Sig) → Timer K d s → Timer J d s → Timer K′ d s
   timer-both d s p q = (h .delay d s (p .0) (q .0), h .line d s (p .1) (q .1))
 
@@ -81,7 +84,7 @@ module _ (K J K′ : Known) (h : Gains K J K′) (w : ℕ) (R : Reading) where
   delays-both : (d : ℕ) (e : Expr) (s : Sig) → Delays K w d e s → Delays J w d e s → Delays K′ w d e s
   delays-both d e s p q = (test-both d e s (p .0) (q .0), timer-both w (delayed d s) (p .1) (q .1))
 
-  each-both : (P : Stmt) (s f : Sig) (g : Gives) (n : Circuit w R P s f g) → Each K w R P s f g n → Each J w R P s f g n → Each K′ w R P s f g n
+  each-both : (P : Code) (s f : Sig) (g : Gives) (n : Circuit w R r P s f g) → Each K w R r P s f g n → Each J w R r P s f g n → Each K′ w R r P s f g n
   unfolding Circuit Each
   each-both ok s f g n p q = tt
   each-both (tick d) s f g n p q = timer-both d s p q
@@ -103,45 +106,49 @@ module _ (K J K′ : Known) (h : Gains K J K′) (w : ℕ) (R : Reading) where
   each-both (repeat d e P) s f g n p q = (test-both d e (n .f₁) (p .0) (q .0), each-both P (n .s₁) (n .f₁) g (n .body) (p .1) (q .1))
   each-both (loop d P) s f g n p q = (timer-both d (n .f₁) (p .0) (q .0), each-both P (n .s₁) (n .f₁) (n .g₁) (n .body) (p .1) (q .1))
   each-both exit s f g n p q = tt
+  each-both (call d b) s f g n p q = (timer-both d s (p .0) (q .0), h .answer (delayed d s) (r b) (p .1) (q .1))
 
 -- of every circuit nothing is known
 abbrev nothing : Known
 nothing =
     record { delay = λ d s. Unit {0}; merge = λ a b. Unit {0}; answer = λ a b. Unit {0}; line = λ d s. Unit {0}; word = λ d e s. Unit {0} }
 
-each-nothing : (w : ℕ) (R : Reading) (P : Stmt) (s f : Sig) (g : Gives) (n : Circuit w R P s f g) → Each nothing w R P s f g n
+each-nothing : (w : ℕ) (R : Reading) (r : ℕ → Sig) (P : Code) (s f : Sig) (g : Gives) (n : Circuit w R r P s f g) → Each nothing w R r P s f g n
 unfolding Circuit Each
-each-nothing w R ok s f g n = tt
-each-nothing w R (tick d) s f g n = (tt, tt)
-each-nothing w R (assign d x e) s f g n = ((tt, tt, tt), (tt, tt))
-each-nothing w R (assignElem d k i e) s f g n = (((tt, tt, tt), (tt, tt)), tt)
-each-nothing w R (seq P Q) s f g n = (each-nothing w R P s (n .mid) (n .g₁) (n .left), each-nothing w R Q (n .mid) f (n .g₂) (n .right))
-each-nothing w R (par P Q) s f g n = (tt, each-nothing w R P s (n .f₁) (n .g₁) (n .left), each-nothing w R Q s (n .f₂) (n .g₂) (n .right))
-each-nothing w R (ite d e P Q) s f g n =
-    ((tt, tt, tt), each-nothing w R P (n .s₁) (n .f₁) (n .g₁) (n .left), each-nothing w R Q (n .s₂) (n .f₂) (n .g₂) (n .right))
-each-nothing w R (while d e P) s f g n = ((tt, tt, tt), each-nothing w R P (n .s₁) (n .f₁) g (n .body))
-each-nothing w R (repeat d e P) s f g n = ((tt, tt, tt), each-nothing w R P (n .s₁) (n .f₁) g (n .body))
-each-nothing w R (loop d P) s f g n = ((tt, tt), each-nothing w R P (n .s₁) (n .f₁) (n .g₁) (n .body))
-each-nothing w R exit s f g n = tt
+each-nothing w R r ok s f g n = tt
+each-nothing w R r (tick d) s f g n = (tt, tt)
+each-nothing w R r (assign d x e) s f g n = ((tt, tt, tt), (tt, tt))
+each-nothing w R r (assignElem d k i e) s f g n = (((tt, tt, tt), (tt, tt)), tt)
+each-nothing w R r (seq P Q) s f g n = (each-nothing w R r P s (n .mid) (n .g₁) (n .left), each-nothing w R r Q (n .mid) f (n .g₂) (n .right))
+each-nothing w R r (par P Q) s f g n = (tt, each-nothing w R r P s (n .f₁) (n .g₁) (n .left), each-nothing w R r Q s (n .f₂) (n .g₂) (n .right))
+each-nothing w R r (ite d e P Q) s f g n =
+    ((tt, tt, tt), each-nothing w R r P (n .s₁) (n .f₁) (n .g₁) (n .left), each-nothing w R r Q (n .s₂) (n .f₂) (n .g₂) (n .right))
+each-nothing w R r (while d e P) s f g n = ((tt, tt, tt), each-nothing w R r P (n .s₁) (n .f₁) g (n .body))
+each-nothing w R r (repeat d e P) s f g n = ((tt, tt, tt), each-nothing w R r P (n .s₁) (n .f₁) g (n .body))
+each-nothing w R r (loop d P) s f g n = ((tt, tt), each-nothing w R r P (n .s₁) (n .f₁) (n .g₁) (n .body))
+each-nothing w R r exit s f g n = tt
+each-nothing w R r (call d b) s f g n = ((tt, tt), tt)
 
 -- Nothing is in flight before instant 0
-pub calm-zero : (W : World) (P : Stmt) (s f : Sig) (g : Gives) (n : Built W P s f g) → Calm W P s f g n 0
+pub calm-zero : (W : World) (P : Code) (s f : Sig) (g : Gives) (n : Built W P s f g) → Calm W P s f g n 0
 calm-zero W P s f g n =
-    let z = each-nothing (W .w) (ideal (W .m)) P s f g n in
+    let z = each-nothing (W .w) (ideal (W .m)) (W .ret) P s f g n in
     each-both nothing nothing (calmly (W .w) (W .m) 0)
     (record {
       delay = λ d s u v t l k. absurd (omega arith);
       merge = λ f₁ f₂ u v. empty-zero (W .w) f₁ f₂;
+      answer = λ f₁ f₂ u v. no-call-zero (W .w) f₁ f₂;
       line = λ d s u v one w t l k. absurd (omega arith);
       word = λ d e s u v w t l k. absurd (omega arith);
     })
-    (W .w) (ideal (W .m)) P s f g n z z
+    (W .w) (ideal (W .m)) (W .ret) P s f g n z z
 
-module _ (W : World) (P : Stmt) (s f : Sig) (g : Gives) (n : Built W P s f g) where
+module _ (W : World) (P : Code) (s f : Sig) (g : Gives) (n : Built W P s f g) where
   pub calm-sofar : (a : ℕ) → Calm W P s f g n a → Sofar W P s f g n a
   calm-sofar a p =
       each-both (calmly (W .w) (W .m) a) (calmly (W .w) (W .m) a) (lately (W .w) (W .m) a)
-      (record { delay = λ d s u v. tt; merge = λ f₁ f₂ u v. tt; line = λ d s u v. u; word = λ d e s u v. u }) (W .w) (ideal (W .m)) P s f g n p p
+      (record { delay = λ d s u v. tt; merge = λ f₁ f₂ u v. tt; answer = λ f₁ f₂ u v. tt; line = λ d s u v. u; word = λ d e s u v. u })
+      (W .w) (ideal (W .m)) (W .ret) P s f g n p p
 
   pub sofar-less : (c c′ : ℕ) → c′ ≤ c → Sofar W P s f g n c → Sofar W P s f g n c′
   sofar-less c c′ o p =
@@ -149,21 +156,24 @@ module _ (W : World) (P : Stmt) (s f : Sig) (g : Gives) (n : Built W P s f g) wh
       (record {
         delay = λ d s u v. u;
         merge = λ f₁ f₂ u v. u;
+        answer = λ f₁ f₂ u v. u;
         line = λ d s u v one w t l k. u one w t l (omega arith);
         word = λ d e s u v w t l k. u w t l (omega arith);
       })
-      (W .w) (ideal (W .m)) P s f g n p p
+      (W .w) (ideal (W .m)) (W .ret) P s f g n p p
 
   -- calm is at rest with a past that is in order
   pub calm-rests : (a : ℕ) → Calm W P s f g n a → Resting W P s f g n a
   calm-rests a p =
       each-both (calmly (W .w) (W .m) a) (calmly (W .w) (W .m) a) (aloft (W .w) a)
-      (record { delay = λ d s u v. u; merge = λ f₁ f₂ u v. u; line = λ d s u v. tt; word = λ d e s u v. tt }) (W .w) (ideal (W .m)) P s f g n p p
+      (record { delay = λ d s u v. u; merge = λ f₁ f₂ u v. u; answer = λ f₁ f₂ u v. u; line = λ d s u v. tt; word = λ d e s u v. tt })
+      (W .w) (ideal (W .m)) (W .ret) P s f g n p p
 
   pub rests-calm : (a : ℕ) → Resting W P s f g n a → Sofar W P s f g n a → Calm W P s f g n a
   rests-calm a p q =
       each-both (aloft (W .w) a) (lately (W .w) (W .m) a) (calmly (W .w) (W .m) a)
-      (record { delay = λ d s u v. u; merge = λ f₁ f₂ u v. u; line = λ d s u v. v; word = λ d e s u v. v }) (W .w) (ideal (W .m)) P s f g n p q
+      (record { delay = λ d s u v. u; merge = λ f₁ f₂ u v. u; answer = λ f₁ f₂ u v. u; line = λ d s u v. v; word = λ d e s u v. v })
+      (W .w) (ideal (W .m)) (W .ret) P s f g n p q
 
 -- What holds at every instant ---------------------------------------------------------------------------------------------------------
 
@@ -192,9 +202,9 @@ both-low {p = p} {q = q} e l r z =
     let k = or-false p q z in
     e ∙ ap₂ _||_ (l (k .0)) (r (k .1))
 
-module _ (w : ℕ) (R : Reading) where
+module _ (w : ℕ) (R : Reading) (r : ℕ → Sig) where
   -- data and address are 0 where the clock is low
-  dull : (P : Stmt) (s f : Sig) (g : Gives) → Circuit w R P s f g → Dull g
+  dull : (P : Code) (s f : Sig) (g : Gives) → Circuit w R r P s f g → Dull g
   unfolding Circuit
   dull ok s f g n = λ x t e. (n .words x t, n .addresses x t)
   dull (tick d) s f g n = λ x t e. (n .words x t, n .addresses x t)
@@ -210,77 +220,79 @@ module _ (w : ℕ) (R : Reading) where
       let v = dull P (n .s₁) (n .f₁) (n .g₁) (n .body) x t (sym (n .clocks x t) ∙ e) in
       (n .words x t ∙ v .0, n .addresses x t ∙ v .1)
   dull exit s f g n = λ x t e. (n .words x t, n .addresses x t)
+  dull (call d p) s f g n = λ x t e. (n .words x t, n .addresses x t)
 
-  -- no kind of today's calls a body
-  uncalled : (P : Stmt) (s f : Sig) (g : Gives) → Circuit w R P s f g → (q t : ℕ) → g .calls q t ≡ false
-  unfolding Circuit
-  uncalled ok s f g n q t = n .called q t
-  uncalled (tick d) s f g n q t = n .called q t
-  uncalled (assign d y e) s f g n q t = n .called q t
-  uncalled (assignElem d k i e) s f g n q t = n .called q t
-  uncalled (seq P Q) s f g n q t =
-      n .joined .called q t ∙ ap₂ _||_ (uncalled P s (n .mid) (n .g₁) (n .left) q t) (uncalled Q (n .mid) f (n .g₂) (n .right) q t)
-  uncalled (par P Q) s f g n q t =
-      n .joined .called q t ∙ ap₂ _||_ (uncalled P s (n .f₁) (n .g₁) (n .left) q t) (uncalled Q s (n .f₂) (n .g₂) (n .right) q t)
-  uncalled (ite d e P Q) s f g n q t =
-      n .joined .called q t ∙ ap₂ _||_ (uncalled P (n .s₁) (n .f₁) (n .g₁) (n .left) q t) (uncalled Q (n .s₂) (n .f₂) (n .g₂) (n .right) q t)
-  uncalled (while d e P) s f g n q t = uncalled P (n .s₁) (n .f₁) g (n .body) q t
-  uncalled (repeat d e P) s f g n q t = uncalled P (n .s₁) (n .f₁) g (n .body) q t
-  uncalled (loop d P) s f g n q t = n .called q t ∙ uncalled P (n .s₁) (n .f₁) (n .g₁) (n .body) q t
-  uncalled exit s f g n q t = n .called q t
+  -- a body that a part does not reach is not called by it
+  uncalled : (T : ℕ → ℕ → Bool) (P : Code) (s f : Sig) (g : Gives) → Circuit w R r P s f g → (q : ℕ) → reaches T P q ≡ false → (t : ℕ)
+      → g .calls q t ≡ false
+  unfolding Circuit reaches
+  uncalled T ok s f g n q z t = n .called q t
+  uncalled T (tick d) s f g n q z t = n .called q t
+  uncalled T (assign d y e) s f g n q z t = n .called q t
+  uncalled T (assignElem d k i e) s f g n q z t = n .called q t
+  uncalled T (seq P Q) s f g n q z t =
+      both-low (n .joined .called q t) (λ p. uncalled T P s (n .mid) (n .g₁) (n .left) q p t) (λ p. uncalled T Q (n .mid) f (n .g₂) (n .right) q p t) z
+  uncalled T (par P Q) s f g n q z t =
+      both-low (n .joined .called q t) (λ p. uncalled T P s (n .f₁) (n .g₁) (n .left) q p t) (λ p. uncalled T Q s (n .f₂) (n .g₂) (n .right) q p t) z
+  uncalled T (ite d e P Q) s f g n q z t =
+      both-low (n .joined .called q t) (λ p. uncalled T P (n .s₁) (n .f₁) (n .g₁) (n .left) q p t)
+      (λ p. uncalled T Q (n .s₂) (n .f₂) (n .g₂) (n .right) q p t) z
+  uncalled T (while d e P) s f g n q z t = uncalled T P (n .s₁) (n .f₁) g (n .body) q z t
+  uncalled T (repeat d e P) s f g n q z t = uncalled T P (n .s₁) (n .f₁) g (n .body) q z t
+  uncalled T (loop d P) s f g n q z t = n .called q t ∙ uncalled T P (n .s₁) (n .f₁) (n .g₁) (n .body) q z t
+  uncalled T exit s f g n q z t = n .called q t
+  uncalled T (call d p) s f g n q z t = rw (or-false (eqb q p) (T p q) z .0) at (n .called q t)
 
   -- a part no exit of which ends a loop around it has an exit signal that is low throughout
-  inside : (k : ℕ) (P : Stmt) (s f : Sig) (g : Gives) → Circuit w R P s f g → exits (widened k P) ≡ false → (t : ℕ) → g .out t ≡ false
-  unfolding Circuit exits widened
-  inside k ok s f g n z t = n .out t
-  inside k (tick d) s f g n z t = n .out t
-  inside k (assign d y e) s f g n z t = n .out t
-  inside k (assignElem d j i e) s f g n z t = n .out t
-  inside k (seq P Q) s f g n z t =
-      both-low (n .joined .out t) (λ p. inside k P s (n .mid) (n .g₁) (n .left) p t) (λ q. inside k Q (n .mid) f (n .g₂) (n .right) q t) z
-  inside k (par P Q) s f g n z t =
-      both-low (n .joined .out t) (λ p. inside k P s (n .f₁) (n .g₁) (n .left) p t) (λ q. inside k Q s (n .f₂) (n .g₂) (n .right) q t) z
-  inside k (ite d e P Q) s f g n z t =
-      both-low (n .joined .out t) (λ p. inside k P (n .s₁) (n .f₁) (n .g₁) (n .left) p t) (λ q. inside k Q (n .s₂) (n .f₂) (n .g₂) (n .right) q t) z
-  inside k (while d e P) s f g n z t = inside k P (n .s₁) (n .f₁) g (n .body) z t
-  inside k (repeat d e P) s f g n z t = inside k P (n .s₁) (n .f₁) g (n .body) z t
-  inside k (loop d P) s f g n z t = n .out t
-  inside k exit s f g n z t = not-both refl z
+  inside : (k : ℕ) (I : ℕ → Stmt) (P : Code) (s f : Sig) (g : Gives) → Circuit w R r P s f g → exits (widened k (inline I P)) ≡ false → (t : ℕ) → g .out t ≡ false
+  unfolding Circuit exits widened inline
+  inside k I ok s f g n z t = n .out t
+  inside k I (tick d) s f g n z t = n .out t
+  inside k I (assign d y e) s f g n z t = n .out t
+  inside k I (assignElem d j i e) s f g n z t = n .out t
+  inside k I (seq P Q) s f g n z t =
+      both-low (n .joined .out t) (λ p. inside k I P s (n .mid) (n .g₁) (n .left) p t) (λ q. inside k I Q (n .mid) f (n .g₂) (n .right) q t) z
+  inside k I (par P Q) s f g n z t =
+      both-low (n .joined .out t) (λ p. inside k I P s (n .f₁) (n .g₁) (n .left) p t) (λ q. inside k I Q s (n .f₂) (n .g₂) (n .right) q t) z
+  inside k I (ite d e P Q) s f g n z t =
+      both-low (n .joined .out t) (λ p. inside k I P (n .s₁) (n .f₁) (n .g₁) (n .left) p t) (λ q. inside k I Q (n .s₂) (n .f₂) (n .g₂) (n .right) q t) z
+  inside k I (while d e P) s f g n z t = inside k I P (n .s₁) (n .f₁) g (n .body) z t
+  inside k I (repeat d e P) s f g n z t = inside k I P (n .s₁) (n .f₁) g (n .body) z t
+  inside k I (loop d P) s f g n z t = n .out t
+  inside k I exit s f g n z t = not-both refl z
+  inside k I (call d p) s f g n z t = n .out t
 
   -- a variable that is not written has a clock that is low throughout
-  unwritten : (k : ℕ) (P : Stmt) (s f : Sig) (g : Gives) → Circuit w R P s f g → (x : ℕ) → writes (widened k P) x ≡ false → (t : ℕ) → g .clk x t ≡ false
-  unfolding Circuit writes widened
-  unwritten k ok s f g n x z t = n .clocks x t
-  unwritten k (tick d) s f g n x z t = n .clocks x t
-  unwritten k (assign d y e) s f g n x z t = n .clocks x t ∙ ap (λ (b : Bool). pick b (delayed d s t) false) z
-  unwritten k (assignElem d j i e) s f g n x z t = n .clocks x t ∙ ap (λ (b : Bool). pick b (delayed d s t) false) z
-  unwritten k (seq P Q) s f g n x z t =
-      both-low (n .joined .clocks x t) (λ p. unwritten k P s (n .mid) (n .g₁) (n .left) x p t)
-      (λ q. unwritten k Q (n .mid) f (n .g₂) (n .right) x q t) z
-  unwritten k (par P Q) s f g n x z t =
-      both-low (n .joined .clocks x t) (λ p. unwritten k P s (n .f₁) (n .g₁) (n .left) x p t)
-      (λ q. unwritten k Q s (n .f₂) (n .g₂) (n .right) x q t) z
-  unwritten k (ite d e P Q) s f g n x z t =
-      both-low (n .joined .clocks x t) (λ p. unwritten k P (n .s₁) (n .f₁) (n .g₁) (n .left) x p t)
-      (λ q. unwritten k Q (n .s₂) (n .f₂) (n .g₂) (n .right) x q t) z
-  unwritten k (while d e P) s f g n x z t = unwritten k P (n .s₁) (n .f₁) g (n .body) x z t
-  unwritten k (repeat d e P) s f g n x z t = unwritten k P (n .s₁) (n .f₁) g (n .body) x z t
-  unwritten k (loop d P) s f g n x z t = n .clocks x t ∙ unwritten k P (n .s₁) (n .f₁) (n .g₁) (n .body) x z t
-  unwritten k exit s f g n x z t = n .clocks x t
+  unwritten : (k : ℕ) (I : ℕ → Stmt) (P : Code) (s f : Sig) (g : Gives) → Circuit w R r P s f g → (x : ℕ) → writes (widened k (inline I P)) x ≡ false → (t : ℕ) → g .clk x t ≡ false
+  unfolding Circuit writes widened inline
+  unwritten k I ok s f g n x z t = n .clocks x t
+  unwritten k I (tick d) s f g n x z t = n .clocks x t
+  unwritten k I (assign d y e) s f g n x z t = n .clocks x t ∙ ap (λ (b : Bool). pick b (delayed d s t) false) z
+  unwritten k I (assignElem d j i e) s f g n x z t = n .clocks x t ∙ ap (λ (b : Bool). pick b (delayed d s t) false) z
+  unwritten k I (seq P Q) s f g n x z t =
+      both-low (n .joined .clocks x t) (λ p. unwritten k I P s (n .mid) (n .g₁) (n .left) x p t)
+      (λ q. unwritten k I Q (n .mid) f (n .g₂) (n .right) x q t) z
+  unwritten k I (par P Q) s f g n x z t =
+      both-low (n .joined .clocks x t) (λ p. unwritten k I P s (n .f₁) (n .g₁) (n .left) x p t)
+      (λ q. unwritten k I Q s (n .f₂) (n .g₂) (n .right) x q t) z
+  unwritten k I (ite d e P Q) s f g n x z t =
+      both-low (n .joined .clocks x t) (λ p. unwritten k I P (n .s₁) (n .f₁) (n .g₁) (n .left) x p t)
+      (λ q. unwritten k I Q (n .s₂) (n .f₂) (n .g₂) (n .right) x q t) z
+  unwritten k I (while d e P) s f g n x z t = unwritten k I P (n .s₁) (n .f₁) g (n .body) x z t
+  unwritten k I (repeat d e P) s f g n x z t = unwritten k I P (n .s₁) (n .f₁) g (n .body) x z t
+  unwritten k I (loop d P) s f g n x z t = n .clocks x t ∙ unwritten k I P (n .s₁) (n .f₁) (n .g₁) (n .body) x z t
+  unwritten k I exit s f g n x z t = n .clocks x t
+  unwritten k I (call d p) s f g n x z t = n .clocks x t
 
-module _ (W : World) (P : Stmt) (s f : Sig) (g : Gives) (n : Built W P s f g) where
+module _ (W : World) (P : Code) (s f : Sig) (g : Gives) (n : Built W P s f g) where
   pub is-dull : Dull g
-  is-dull = dull (W .w) (ideal (W .m)) P s f g n
+  is-dull = dull (W .w) (ideal (W .m)) (W .ret) P s f g n
 
   pub is-unwritten : (x : ℕ) → writes (means W P) x ≡ false → (t : ℕ) → g .clk x t ≡ false
-  is-unwritten = unwritten (W .w) (ideal (W .m)) (W .w) P s f g n
+  is-unwritten = unwritten (W .w) (ideal (W .m)) (W .ret) (W .w) (W .flat) P s f g n
 
   pub is-inside : exits (means W P) ≡ false → (t : ℕ) → g .out t ≡ false
-  is-inside = inside (W .w) (ideal (W .m)) (W .w) P s f g n
+  is-inside = inside (W .w) (ideal (W .m)) (W .ret) (W .w) (W .flat) P s f g n
 
-  pub is-uncalled : (q t : ℕ) → g .calls q t ≡ false
-  is-uncalled = uncalled (W .w) (ideal (W .m)) P s f g n
-
-  -- whatever its start does, a calm part calls nothing for a gap
-  pub hush : (a : ℕ) → Calm W P s f g n a → (q : ℕ) → Quiet (g .calls q) a (a + gap (W .w))
-  hush a calm q t l k = is-uncalled q t
+  pub is-uncalled : (q : ℕ) → reaches (W .reach) P q ≡ false → (t : ℕ) → g .calls q t ≡ false
+  is-uncalled = uncalled (W .w) (ideal (W .m)) (W .ret) (W .reach) P s f g n

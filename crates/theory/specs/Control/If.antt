@@ -4,7 +4,8 @@ use mathlib.Core.Path.{_≡_, sym, _∙_, ap, ap₂}
 use mathlib.Core.Bool.{Bool, true, false, not, _&&_, _||_, or-comm}
 use native.Mathlib.Omega.{arith}
 use Rattle.model.specs.Word.{isZero}
-use Rattle.model.specs.Program.{Expr, Stmt, ite, reads, touches}
+use Rattle.model.specs.Program.{Expr, Code, ite, reads, touches}
+use Rattle.model.specs.Procedures.{inline, reaches}
 use Rattle.model.specs.Rules.{Store, owner, eval}
 use Rattle.model.specs.Circuit.{Sig, delayed}
 use Rattle.laws.specs.Refusals.Laws.{by-bool, by-le, not-both}
@@ -18,15 +19,15 @@ use Rattle.theory.specs.Control.History.{Stable, stable-off, stable-on, 
 use Rattle.theory.specs.Control.Wiring.{ideal, Gives, Ite, Circuit, Test, Each}
 use Rattle.theory.specs.Control.World.{World, Built, means, Paced, goes, each-of}
 use Rattle.theory.specs.Control.Memories.{joined-swap}
-use Rattle.theory.specs.Control.Calm.{Calm, calmly, Sofar, lately, calm-sofar, hush}
-use Rattle.theory.specs.Control.Rest.{Rests, rest}
+use Rattle.theory.specs.Control.Calm.{Calm, calmly, Sofar, lately, calm-sofar}
+use Rattle.theory.specs.Control.Rest.{Rests, rest, hush}
 use Rattle.theory.specs.Control.Surge.{surge, gated-firm, test-same}
 use Rattle.theory.specs.Control.Bodies.{Owned, Owns, owns-both, pause-sofar}
 use Rattle.theory.specs.Control.Runs.{Begins, free, Going, Does, RunOf, ShortOf, done-as, going-as}
 use Rattle.theory.specs.Control.Tests.{Waits, waited, Firmed, test-words, test-is}
 use Rattle.theory.specs.Control.Sides.{branch}
 
-module _ (W : World) (d : ℕ) (e : Expr) (formed : FormedExpr e) (P Q : Stmt) (timedP : Paced W P) (timedQ : Paced W Q)
+module _ (W : World) (d : ℕ) (e : Expr) (formed : FormedExpr e) (P Q : Code) (timedP : Paced W P) (timedQ : Paced W Q)
     (doesP : RunOf W P) (doesQ : RunOf W Q) (U : Owned) (σ : Store) (s f : Sig) (g : Gives)
     (n : Ite (ideal (W .m)) d e (Built W P) (Built W Q) s f g) where
   abbrev K₁ : ℕ → Type 0
@@ -92,10 +93,11 @@ module _ (W : World) (d : ℕ) (e : Expr) (formed : FormedExpr e) (P Q : Stmt) (
 
     -- what the condition reads, and what a branch uses, the if uses
     ite-uses : ((x : ℕ) → reads e x ≡ true → U .vars x) × ((x : ℕ) → (touches (means W P) x || touches (means W Q) x) ≡ true → U .vars x)
-    unfolding touches widened
+    unfolding touches widened inline
     ite-uses = each-of (reads e) (λ x. touches (means W P) x || touches (means W Q) x) (B .ready .owns .mine)
 
     ite-owns : Owns W P U × Owns W Q U
+    unfolding reaches
     ite-owns = owns-both W P Q U (ite-uses .1) (B .ready .owns .reach)
 
     module _ (o : d ≤ u) where
@@ -111,8 +113,8 @@ module _ (W : World) (d : ℕ) (e : Expr) (formed : FormedExpr e) (P Q : Stmt) (
           n .joined .called q t
           ∙ by-le (a + d) t
           (λ z.
-          ap₂ _||_ (hush W P (n .s₁) (n .f₁) (n .g₁) (n .left) (a + d) (rest₁ .calm) q t z k)
-          (hush W Q (n .s₂) (n .f₂) (n .g₂) (n .right) (a + d) (rest₂ .calm) q t z k))
+          ap₂ _||_ (hush W P timedP (n .s₁) (n .f₁) (n .g₁) (n .left) (a + d) (rest₁ .calm) q t z k)
+          (hush W Q timedQ (n .s₂) (n .f₂) (n .g₂) (n .right) (a + d) (rest₂ .calm) q t z k))
           (λ z. ap₂ _||_ (rest₁ .called q t l (omega arith)) (rest₂ .called q t l (omega arith)))
 
       ite-waits : Waits W U g d σ a c j
@@ -190,7 +192,7 @@ module _ (W : World) (d : ℕ) (e : Expr) (formed : FormedExpr e) (P Q : Stmt) (
           (ite-owns .1) (waited ite-waits)
 
     ite-does : Does W U (goes W u (ite d e P Q) σ) K L f g a c j u
-    unfolding widened
+    unfolding widened inline
     ite-does =
         record {
           goes-on = λ p.
@@ -218,7 +220,7 @@ module _ (W : World) (d : ℕ) (e : Expr) (formed : FormedExpr e) (P Q : Stmt) (
               (then-branch (v .1) z .ends way σ′ (at-time (goes W (u - d) P σ) q (v .2))));
         }
 
-pub run-ite : (W : World) (d : ℕ) (e : Expr) → FormedExpr e → (P Q : Stmt) → Paced W P → Paced W Q → RunOf W P → RunOf W Q → ShortOf W (ite d e P Q)
+pub run-ite : (W : World) (d : ℕ) (e : Expr) → FormedExpr e → (P Q : Code) → Paced W P → Paced W Q → RunOf W P → RunOf W Q → ShortOf W (ite d e P Q)
 unfolding Circuit Each
 run-ite W d e formed P Q timedP timedQ doesP doesQ U σ s f g n a c j u h o k B =
     ite-does W d e formed P Q timedP timedQ doesP doesQ U σ s f g n a c j u h o B

@@ -4,7 +4,8 @@ use Prim.Native.Nat.{ℕ, zero, suc, _+_, _-_, _≤_, _<_}
 use mathlib.Core.Path.{_≡_, refl, sym, _∙_, ap, ap₂}
 use mathlib.Core.Bool.{Bool, _||_, or-true}
 use native.Mathlib.Omega.{arith}
-use Rattle.model.specs.Program.{Stmt, loop, touches}
+use Rattle.model.specs.Program.{Code, loop, touches}
+use Rattle.model.specs.Procedures.{inline, reaches}
 use Rattle.model.specs.Circuit.{Sig, delayed}
 use Rattle.model.specs.Rules.{Store, Run, done, atEnd, atExit, ended, still, caught, loops, run}
 use Rattle.laws.specs.Refusals.Laws.{by-le, not-both}
@@ -24,7 +25,7 @@ still-caught : {r : Run} → r ≡ still → caught r ≡ still
 unfolding caught
 still-caught q = ap caught q
 
-module _ (W : World) (d : ℕ) (P : Stmt) (long : gap (W .w) ≤ d) (timed : Paced W P) (does : RunOf W P) (U : Owned) (owns : Owns W P U)
+module _ (W : World) (d : ℕ) (P : Code) (long : gap (W .w) ≤ d) (timed : Paced W P) (does : RunOf W P) (U : Owned) (owns : Owns W P U)
     (s f : Sig) (g : Gives) (n : Loop d (Built W P) s f g) where
   -- of the body's cells, and of all
   abbrev K₁ : ℕ → Type 0
@@ -173,17 +174,17 @@ module _ (W : World) (d : ℕ) (P : Stmt) (long : gap (W .w) ≤ d) (timed : Pac
           free = record {
             settled = S .ready .settled;
             words = S .ready .words;
-            follow = follows-is W U (n .g₁) g a c (n .clocks) (n .words) (n .addresses) (S .follow);
+            follow = follows-is W U (n .g₁) g a c (n .clocks) (n .words) (n .addresses) (n .called) (S .follow);
             silent = λ t l k k′ q v z. S .silent t l k k′ q v (n .called q t ∙ z);
             hold = S .hold;
           };
         }
 
     loop-does : Does W U (goes W u (loop d P) σ) K L f g a c j u
-    unfolding run widened
+    unfolding run widened inline
     loop-does = loop-rounds (suc u) σ a c j u (omega arith) h o short loop-starts
 
-pub run-loop : (W : World) (d : ℕ) (P : Stmt) → gap (W .w) ≤ d → Paced W P → RunOf W P → ShortOf W (loop d P)
-unfolding Circuit Each touches widened
+pub run-loop : (W : World) (d : ℕ) (P : Code) → gap (W .w) ≤ d → Paced W P → RunOf W P → ShortOf W (loop d P)
+unfolding Circuit Each touches widened inline reaches
 run-loop W d P long timed does U σ s f g n a c j u h o k B =
     loop-does W d P long timed does U (record { mine = B .ready .owns .mine; reach = B .ready .owns .reach }) s f g n σ a c j u h o k B

@@ -39,12 +39,12 @@ unfoldable pub merged : ℕ → Sig → Sig → Sig
 merged w a b t = before w a b (suc t) .out
 
 -- with pulses of 1, the paper's merge
-pub held-one : (f g : Sig) (t : ℕ) → before 1 f g t .held ≡ heldBefore f g t
+pub held-one : (f g : Sig) (t : ℕ) → before 1 f g t .held ≡ heldBefore mergeStep f g t
 unfolding before heldBefore stepOf
 held-one f g zero = refl
 held-one f g (suc t) = ap (λ (m : Merge). mergeStep m (f t) (g t) .held) (held-one f g t)
 
-pub merged-one : (f g : Sig) (t : ℕ) → merged 1 f g t ≡ merged₁ f g t
+pub merged-one : (f g : Sig) (t : ℕ) → merged 1 f g t ≡ merged₁ mergeStep f g t
 unfolding merged merged₁ before stepOf
 merged-one f g t = ap (λ (m : Merge). mergeStep m (f t) (g t) .out) (held-one f g t)
 

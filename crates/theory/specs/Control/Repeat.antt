@@ -4,7 +4,8 @@ use mathlib.Core.Path.{_≡_, refl, _∙_, ap, ap₂}
 use mathlib.Core.Bool.{Bool, not, _&&_, _||_}
 use native.Mathlib.Omega.{arith}
 use Rattle.model.specs.Word.{isZero}
-use Rattle.model.specs.Program.{Expr, Stmt, repeat, reads, touches}
+use Rattle.model.specs.Program.{Expr, Code, repeat, reads, touches}
+use Rattle.model.specs.Procedures.{inline, reaches}
 use Rattle.model.specs.Circuit.{Sig, delayed}
 use Rattle.model.specs.Rules.{Store, run, repeats, eval}
 use Rattle.laws.specs.Program.Fit.{FormedExpr}
@@ -21,7 +22,7 @@ use Rattle.theory.specs.Control.Rounds.{Starts}
 use Rattle.theory.specs.Control.Turns.{Tested, Laps, Turned, starts-does}
 
 -- a repeat goes round while its condition's word is zero
-module _ (W : World) (d : ℕ) (e : Expr) (formed : FormedExpr e) (P : Stmt) (long : gap (W .w) ≤ d) (timed : Paced W P)
+module _ (W : World) (d : ℕ) (e : Expr) (formed : FormedExpr e) (P : Code) (long : gap (W .w) ≤ d) (timed : Paced W P)
     (does : RunOf W P) (U : Owned) (σ : Store) (s f : Sig) (g : Gives) (n : Repeat (ideal (W .m)) d e (Built W P) s f g) where
   abbrev K : ℕ → Type 0
   K t = Test (calmly (W .w) (W .m) t) d e (n .f₁) × Calm W P (n .s₁) (n .f₁) g (n .body) t
@@ -39,7 +40,7 @@ module _ (W : World) (d : ℕ) (e : Expr) (formed : FormedExpr e) (P : Stmt) (lo
 
   module _ (a c j u : ℕ) (h : a + u ≡ c) (o : c < j) (short : j ≤ c + gap (W .w)) (B : Begins W (repeat d e P) U σ K s g a c j) where
     repeat-loop : Tested W P U d e (λ z. z) s f (n .f₁) (n .s₁) (n .f₁) g
-    unfolding touches widened
+    unfolding touches widened inline reaches
     repeat-loop =
         let uses = each-of (reads e) (touches (means W P)) (B .ready .owns .mine) in
         record {
@@ -78,9 +79,9 @@ module _ (W : World) (d : ℕ) (e : Expr) (formed : FormedExpr e) (P : Stmt) (lo
         }
 
     repeat-does : Does W U (goes W u (repeat d e P) σ) K L f g a c j u
-    unfolding run widened repeat-loop
+    unfolding run widened inline repeat-loop
     repeat-does = starts-does repeat-loop repeat-laps (suc u) σ a c j u (omega arith) h o short repeat-starts repeat-turned
 
-pub run-repeat : (W : World) (d : ℕ) (e : Expr) → FormedExpr e → (P : Stmt) → gap (W .w) ≤ d → Paced W P → RunOf W P → ShortOf W (repeat d e P)
+pub run-repeat : (W : World) (d : ℕ) (e : Expr) → FormedExpr e → (P : Code) → gap (W .w) ≤ d → Paced W P → RunOf W P → ShortOf W (repeat d e P)
 unfolding Circuit Each
 run-repeat W d e formed P long timed does U σ s f g n a c j u h o k B = repeat-does W d e formed P long timed does U σ s f g n a c j u h o k B

@@ -4,7 +4,7 @@ use Prim.Native.Nat.{ℕ, suc, _+_, _-_, _≤_, _<_}
 use mathlib.Core.Path.{_≡_, _∙_, subst}
 use mathlib.Core.Bool.{true, false}
 use native.Mathlib.Omega.{arith}
-use Rattle.model.specs.Program.{Stmt}
+use Rattle.model.specs.Program.{Code}
 use Rattle.model.specs.Circuit.{Sig, delayed}
 use Rattle.model.specs.Rules.{Store, ended, Way, atEnd, done, still, atExit}
 use Rattle.laws.specs.Refusals.Laws.{by-le}
@@ -15,13 +15,13 @@ use Rattle.theory.specs.Control.Pulses.{Pulse, shows-none}
 use Rattle.theory.specs.Control.History.{Spaced, spaced-off, spaced-turn}
 use Rattle.theory.specs.Control.Wiring.{Gives, Timer}
 use Rattle.theory.specs.Control.World.{World, Built, Paced, goes}
-use Rattle.theory.specs.Control.Calm.{Calm, Sofar, calm-sofar, sofar-less, hush, calmly, lately}
-use Rattle.theory.specs.Control.Rest.{Rests, rest}
+use Rattle.theory.specs.Control.Calm.{Calm, Sofar, calm-sofar, sofar-less, calmly, lately}
+use Rattle.theory.specs.Control.Rest.{Rests, rest, hush}
 use Rattle.theory.specs.Control.Bodies.{Owned, BodySofar, Owns, within, Settled, pause-sofar}
 use Rattle.theory.specs.Control.Runs.{Free, free-later, Done, RunOf, Launched, launch, words-last, Going, going-at, done-as}
 
 -- a loop's body, P, and how it is started: not where neither the loop's start nor the delay's end is high
-pub record Body (W : World) (P : Stmt) (U : Owned) (d : ℕ) (s X s₁ f₁ : Sig) (g : Gives) : Type 1 where
+pub record Body (W : World) (P : Code) (U : Owned) (d : ℕ) (s X s₁ f₁ : Sig) (g : Gives) : Type 1 where
   pub built : Built W P s₁ f₁ g
   pub long : gap (W .w) ≤ d
   pub timed : Paced W P
@@ -54,7 +54,7 @@ pub record Enters (W : World) (U : Owned) (d : ℕ) (σ : Store) (K L : ℕ → 
   pub after : (t : ℕ) → a + W .w ≤ t → t < j → s t ≡ false
   pub free : Free W U g σ a c j
 
-module _ {W : World} {P : Stmt} {U : Owned} {d : ℕ} {s X s₁ f₁ : Sig} {g : Gives} (B : Body W P U d s X s₁ f₁ g) where
+module _ {W : World} {P : Code} {U : Owned} {d : ℕ} {s X s₁ f₁ : Sig} {g : Gives} (B : Body W P U d s X s₁ f₁ g) where
   abbrev K : ℕ → Type 0
   K = Calm W P s₁ f₁ g (B .built)
 
@@ -236,7 +236,7 @@ module _ {W : World} {P : Stmt} {U : Owned} {d : ℕ} {s X s₁ f₁ : Sig} {g :
 
       delay-uncalled : (q t : ℕ) → a + W .w ≤ t → t < a + d + gap (W .w) → t < j → g .calls q t ≡ false
       delay-uncalled q t l k k′ =
-          by-le (a + d) t (λ y₀. hush W P s₁ f₁ g (B .built) (a + d) (waits-rest .calm) q t y₀ k)
+          by-le (a + d) t (λ y₀. hush W P (B .timed) s₁ f₁ g (B .built) (a + d) (waits-rest .calm) q t y₀ k)
           (λ y₀.
           by-le (a + gap (W .w)) t (λ y₁. waits-rest .called q t y₁ (omega arith)) (λ y₁. T .called q t l (omega arith) (omega arith)))
 

@@ -4,7 +4,7 @@ use Prim.Native.Nat.{ℕ, zero, suc, _+_, _-_, _≤_, _<_}
 use mathlib.Core.Path.{_≡_, refl, _∙_, ap, subst}
 use mathlib.Core.Bool.{Bool, true, false}
 use native.Mathlib.Omega.{arith}
-use Rattle.model.specs.Program.{Stmt}
+use Rattle.model.specs.Program.{Code}
 use Rattle.model.specs.Rules.{Store, owner, Run, still, Way, atEnd, atExit, done}
 use Rattle.model.specs.Circuit.{Sig}
 use Rattle.laws.specs.Refusals.Laws.{by-le}
@@ -34,19 +34,19 @@ abbrev pub Silent : World → Owned → Gives → ℕ → ℕ → ℕ → Type 0
 Silent W U g a c e = (t : ℕ) → a + W .w ≤ t → t < c + gap (W .w) → t < e → SilentAt W (U .procs) g t
 
 -- P may be started at a: it is calm, and its bodies, which may still be leaving, clock nothing and will be calm a gap later, if that is before e
-pub record Ready (W : World) (P : Stmt) (U : Owned) (σ : Store) (K : ℕ → Type 0) (a e : ℕ) : Type 0 where
+pub record Ready (W : World) (P : Code) (U : Owned) (σ : Store) (K : ℕ → Type 0) (a e : ℕ) : Type 0 where
   pub owns : Owns W P U
   pub calm : K a
   pub settled : Settled W (U .procs) a e
   pub words : Words W U σ a
 
-ready-less : {W : World} {P : Stmt} {U : Owned} {σ : Store} {K : ℕ → Type 0} {a e e′ : ℕ} → e′ ≤ e → Ready W P U σ K a e → Ready W P U σ K a e′
+ready-less : {W : World} {P : Code} {U : Owned} {σ : Store} {K : ℕ → Type 0} {a e e′ : ℕ} → e′ ≤ e → Ready W P U σ K a e → Ready W P U σ K a e′
 ready-less {W = W} {U = U} {a = a} {e = e} {e′ = e′} o R =
     record { owns = R .owns; calm = R .calm; settled = settled-less W (U .procs) a e e′ o (R .settled); words = R .words }
 
 -- P gets a pulse from a on, and before e no other. Up to c its variables follow only what P and its bodies give; in the w instants from c on, before
 -- e, they stay. Its bodies are started by P and by themselves only, up to a gap after c.
-pub record Begins (W : World) (P : Stmt) (U : Owned) (σ : Store) (K : ℕ → Type 0) (s : Sig) (g : Gives) (a c e : ℕ) : Type 0 where
+pub record Begins (W : World) (P : Code) (U : Owned) (σ : Store) (K : ℕ → Type 0) (s : Sig) (g : Gives) (a c e : ℕ) : Type 0 where
   pub ready : Ready W P U σ K a e
   pub pulse : Pulse (W .w) s a e
   pub follow : Follows W U g a c
@@ -61,7 +61,7 @@ pub record Free (W : World) (U : Owned) (g : Gives) (σ : Store) (a c e : ℕ) :
   pub silent : Silent W U g a c e
   pub hold : Hold W U c e
 
-pub free : {W : World} {P : Stmt} {U : Owned} {σ : Store} {K : ℕ → Type 0} {s : Sig} {g : Gives} {a c e : ℕ} → Begins W P U σ K s g a c e
+pub free : {W : World} {P : Code} {U : Owned} {σ : Store} {K : ℕ → Type 0} {s : Sig} {g : Gives} {a c e : ℕ} → Begins W P U σ K s g a c e
     → Free W U g σ a c e
 free B = record { settled = B .ready .settled; words = B .ready .words; follow = B .follow; silent = B .silent; hold = B .hold }
 
@@ -114,19 +114,19 @@ pub record Does (W : World) (U : Owned) (r : Run) (K L : ℕ → Type 0) (f : Si
   pub goes-on : r ≡ still → Going W U K L f g a c
   pub ends : (way : Way) (σ′ : Store) → r ≡ done way u σ′ → Done way W U σ′ K L f g a c e
 
-abbrev pub RunOf : World → Stmt → Type 1
+abbrev pub RunOf : World → Code → Type 1
 RunOf W P =
     (U : Owned) (σ : Store) (s f : Sig) (g : Gives) (n : Built W P s f g) (a c e u : ℕ) → a + u ≡ c → c < e
     → Begins W P U σ (Calm W P s f g n) s g a c e → Does W U (goes W u P σ) (Calm W P s f g n) (Sofar W P s f g n) f g a c e u
 
 -- the same as far as the gap
-abbrev pub ShortOf : World → Stmt → Type 1
+abbrev pub ShortOf : World → Code → Type 1
 ShortOf W P =
     (U : Owned) (σ : Store) (s f : Sig) (g : Gives) (n : Built W P s f g) (a c e u : ℕ) → a + u ≡ c → c < e → e ≤ c + gap (W .w)
     → Begins W P U σ (Calm W P s f g n) s g a c e → Does W U (goes W u P σ) (Calm W P s f g n) (Sofar W P s f g n) f g a c e u
 
 -- and after the gap the circuit is at rest
-pub onward : (W : World) (P : Stmt) → Paced W P → ShortOf W P → RunOf W P
+pub onward : (W : World) (P : Code) → Paced W P → ShortOf W P → RunOf W P
 onward W P timed does U σ s f g n a c e u h o B =
     by-le e (c + gap (W .w)) (λ k. does U σ s f g n a c e u h o k B)
     (λ k.
@@ -248,14 +248,14 @@ Stays W U s g a c e =
     × (a + W .w ≤ e → e < c + gap (W .w) → SilentAt W (U .procs) g e)
 
 -- j is the last horizon
-pub record Launched (W : World) (P : Stmt) (U : Owned) (σ : Store) (K L : ℕ → Type 0) (s f : Sig) (g : Gives) (a j u : ℕ) : Type 0 where
+pub record Launched (W : World) (P : Code) (U : Owned) (σ : Store) (K L : ℕ → Type 0) (s f : Sig) (g : Gives) (a j u : ℕ) : Type 0 where
   pub goes-on : goes W u P σ ≡ still → Going W U K L f g a (a + u)
   -- on to e, if the surroundings stay out as long as it has been seen to leave
   pub ends : (way : Way) (t : ℕ) (σ′ : Store) → goes W u P σ ≡ done way t σ′ → (e : ℕ) → a + t < e → e ≤ j
       → ((e′ : ℕ) → a + t < e′ → e′ < e → Done way W U σ′ K L f g a (a + t) e′ → Stays W U s g a (a + t) e′)
       → Done way W U σ′ K L f g a (a + t) e
 
-module _ (W : World) (P : Stmt) (timed : Paced W P) (does : RunOf W P) (U : Owned) (σ : Store) (s f : Sig) (g : Gives) (n : Built W P s f g)
+module _ (W : World) (P : Code) (timed : Paced W P) (does : RunOf W P) (U : Owned) (σ : Store) (s f : Sig) (g : Gives) (n : Built W P s f g)
     (a j u : ℕ) (last : a + u < j) (ready : Ready W P U σ (Calm W P s f g n) a j)
     (cause : (v : ℕ) → v ≤ u → Quiet f a (a + v)
     → Pulse (W .w) s a (suc (a + v)) × Follows W U g a (a + v) × ((t : ℕ) → a + W .w ≤ t → t ≤ a + v → SilentAt W (U .procs) g t)) where

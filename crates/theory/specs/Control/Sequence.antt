@@ -3,7 +3,8 @@ use Prim.Native.Nat.{ℕ, suc, _+_, _-_, _≤_, _<_}
 use mathlib.Core.Path.{_≡_, sym, _∙_, ap₂, subst}
 use mathlib.Core.Bool.{_||_}
 use native.Mathlib.Omega.{arith}
-use Rattle.model.specs.Program.{Stmt, seq, touches}
+use Rattle.model.specs.Program.{Code, seq, touches}
+use Rattle.model.specs.Procedures.{inline, reaches}
 use Rattle.model.specs.Circuit.{Sig}
 use Rattle.model.specs.Rules.{Store, owner, ended, still, run, Way, atEnd, atExit, done}
 use Rattle.laws.specs.Refusals.Laws.{by-le}
@@ -15,13 +16,13 @@ use Rattle.theory.specs.Control.Pulses.{pulse-less, pulse-firm, shows-pu
 use Rattle.theory.specs.Control.Wiring.{Gives, Seq, Circuit, Each}
 use Rattle.theory.specs.Control.World.{World, Built, Paced, goes, steadily}
 use Rattle.theory.specs.Control.Memories.{Same, joined-swap, out-left, stays}
-use Rattle.theory.specs.Control.Calm.{Calm, Sofar, calm-sofar, sofar-less, is-dull, hush}
-use Rattle.theory.specs.Control.Rest.{Rests, rest}
+use Rattle.theory.specs.Control.Calm.{Calm, Sofar, calm-sofar, sofar-less, is-dull}
+use Rattle.theory.specs.Control.Rest.{Rests, rest, hush}
 use Rattle.theory.specs.Control.Surge.{surge}
 use Rattle.theory.specs.Control.Bodies.{Owned, Owns, owns-both, SilentAt, Follows, within, alone, silent-beside, follows-beside}
 use Rattle.theory.specs.Control.Runs.{Begins, Done, Going, going-at, Does, RunOf, ShortOf, Launched, launch, in-way}
 
-module _ (W : World) (P Q : Stmt) (timedP : Paced W P) (timedQ : Paced W Q) (doesP : RunOf W P) (doesQ : RunOf W Q)
+module _ (W : World) (P Q : Code) (timedP : Paced W P) (timedQ : Paced W Q) (doesP : RunOf W P) (doesQ : RunOf W Q)
     (U : Owned) (σ : Store) (s f : Sig) (g : Gives) (n : Seq (Built W P) (Built W Q) s f g) where
   abbrev K₁ : ℕ → Type 0
   K₁ = Calm W P s (n .mid) (n .g₁) (n .left)
@@ -43,7 +44,7 @@ module _ (W : World) (P Q : Stmt) (timedP : Paced W P) (timedQ : Paced W Q) (doe
 
   module _ (a c e u : ℕ) (h : a + u ≡ c) (o : c < e) (B : Begins W (seq P Q) U σ K s g a c e) where
     seq-owns : Owns W P U × Owns W Q U
-    unfolding touches widened
+    unfolding touches widened inline reaches
     seq-owns = owns-both W P Q U (B .ready .owns .mine) (B .ready .owns .reach)
 
     -- the second part waits for the first
@@ -119,7 +120,7 @@ module _ (W : World) (P Q : Stmt) (timedP : Paced W P) (timedQ : Paced W Q) (doe
             λ l₁ l₂.
                 silent-beside W U (n .g₁) (n .g₂) g e′ (n .joined)
                 (λ x.
-                hush W Q (n .mid) f (n .g₂) (n .right) (a + t₁) (seq-waits (a + t₁) (omega arith) (E .fin .quiet) .calm) x e′ (omega arith) l₂)
+                hush W Q timedQ (n .mid) f (n .g₂) (n .right) (a + t₁) (seq-waits (a + t₁) (omega arith) (E .fin .quiet) .calm) x e′ (omega arith) l₂)
                 (B .silent e′ l₁ (omega arith) k),
           ))
 
@@ -182,7 +183,7 @@ module _ (W : World) (P Q : Stmt) (timedP : Paced W P) (timedQ : Paced W Q) (doe
         }
 
     seq-does : Does W U (goes W u (seq P Q) σ) K L f g a c e u
-    unfolding run widened
+    unfolding run widened inline
     seq-does =
         record {
           goes-on = λ p.
@@ -194,6 +195,6 @@ module _ (W : World) (P Q : Stmt) (timedP : Paced W P) (timedQ : Paced W Q) (doe
               (λ z q. in-way (sym z) (seq-leaves σ′ q));
         }
 
-pub run-seq : (W : World) (P Q : Stmt) → Paced W P → Paced W Q → RunOf W P → RunOf W Q → ShortOf W (seq P Q)
+pub run-seq : (W : World) (P Q : Code) → Paced W P → Paced W Q → RunOf W P → RunOf W Q → ShortOf W (seq P Q)
 unfolding Circuit Each
 run-seq W P Q timedP timedQ doesP doesQ U σ s f g n a c e u h o k B = seq-does W P Q timedP timedQ doesP doesQ U σ s f g n a c e u h o B

@@ -1,12 +1,14 @@
 -- A part beside another: the branch that an if takes beside the one that it does not, and a side of a parallel beside the other.
 -- Which of the two stands first does not matter, so each is told once. Assumes nothing.
 use Prim.Native.Nat.{ℕ, suc, _+_, _-_, _≤_, _<_}
-use mathlib.Core.Path.{_≡_, refl, _∙_, ap, ap₂}
-use mathlib.Core.Bool.{Bool, false, _||_, or-false}
+use mathlib.Core.Path.{_≡_, _∙_, ap, ap₂}
+use mathlib.Core.Bool.{Bool, true, false, _||_, or-false}
 use native.Mathlib.Omega.{arith}
-use Rattle.model.specs.Program.{Stmt, writes}
+use Rattle.model.specs.Program.{Code, writes}
+use Rattle.model.specs.Procedures.{reaches}
 use Rattle.model.specs.Circuit.{Sig}
 use Rattle.model.specs.Rules.{Store, ended, still, Way, atEnd, done}
+use Rattle.laws.specs.Refusals.Laws.{by-bool}
 use Rattle.laws.specs.Program.Fit.{Apart}
 use Rattle.laws.specs.Rules.Uses.{apart-unwritten}
 use Rattle.laws.specs.Rules.Laws.{by-run}
@@ -16,14 +18,15 @@ use Rattle.theory.specs.Control.Wiring.{_≈_, either, Gives, Joined}
 use Rattle.theory.specs.Control.World.{World, Built, means, Paced, goes, steadily}
 use Rattle.theory.specs.Control.Memories.{out-left}
 use Rattle.theory.specs.Control.Calm.{Calm, Sofar, calm-sofar, sofar-less, is-dull, is-unwritten, is-uncalled}
+use Rattle.theory.specs.Control.Reach.{reach-on, reach-writes}
 use Rattle.theory.specs.Control.Rest.{Rests, rest}
-use Rattle.theory.specs.Control.Bodies.{Owned, BodySofar, Owns, reaches, Follows, within, silent-left, follows-left, silent-beside, follows-beside, Settled, pause, pause-sofar}
+use Rattle.theory.specs.Control.Bodies.{Owned, BodySofar, Owns, Follows, within, silent-left, follows-left, silent-beside, follows-beside, Settled, pause, pause-sofar}
 use Rattle.theory.specs.Control.Runs.{Words, Silent, Free, Done, Going, going-at, Does, RunOf, Launched, launch, words-stay, words-last}
 
 -- A branch -----------------------------------------------------------------------------------------------------------------------------
 
 -- R gets its pulse at a + d, and O gets none
-module _ (W : World) (R O : Stmt) (timedR : Paced W R) (timedO : Paced W O) (doesR : RunOf W R) (U : Owned) (σ : Store) (f : Sig) (g : Gives)
+module _ (W : World) (R O : Code) (timedR : Paced W R) (timedO : Paced W O) (doesR : RunOf W R) (U : Owned) (σ : Store) (f : Sig) (g : Gives)
     (sR fR : Sig) (gR : Gives) (nR : Built W R sR fR gR) (sO fO : Sig) (gO : Gives) (nO : Built W O sO fO gO)
     (joined : Joined gR gO g) (fin : f ≈ either fR fO) (a c e u d : ℕ) (h : a + u ≡ c) (o : d ≤ u) (o′ : c < e)
     (calmR : Calm W R sR fR gR nR a) (calmO : Calm W O sO fO gO nO a) (before : Quiet sR a (a + d)) (on : Pulse (W .w) sR (a + d) e) (off : Quiet sO a e)
@@ -87,10 +90,11 @@ module _ (W : World) (R O : Stmt) (timedR : Paced W R) (timedO : Paced W O) (doe
 -- A side -------------------------------------------------------------------------------------------------------------------------------
 
 -- what a side has for itself: the variables of U that the other, O, does not write, and the bodies of U that O does not reach
-abbrev pub Own : World → Owned → Stmt → Owned
-Own W U O = record { vars = λ x. U .vars x × (writes (means W O) x ≡ false); procs = λ q. U .procs q × (reaches O q ≡ false) }
+abbrev pub Own : World → Owned → Code → Owned
+Own W U O =
+    record { vars = λ x. U .vars x × (writes (means W O) x ≡ false); procs = λ q. U .procs q × (reaches (W .reach) O q ≡ false) }
 
-pub record Side (W : World) (R O : Stmt) (U : Owned) (σ : Store) (K L : ℕ → Type 0) (fR : Sig) (gR : Gives) (a c e u : ℕ) : Type 0 where
+pub record Side (W : World) (R O : Code) (U : Owned) (σ : Store) (K L : ℕ → Type 0) (fR : Sig) (gR : Gives) (a c e u : ℕ) : Type 0 where
   pub goes-on : goes W u R σ ≡ still → Going W (Own W U O) K L fR gR a c
   pub ends : (t₁ : ℕ) (σ₁ : Store) → t₁ ≤ u → goes W u R σ ≡ ended t₁ σ₁ → Done atEnd W (Own W U O) σ₁ K L fR gR a (a + t₁) e
   -- whether it has ended or not
@@ -100,24 +104,37 @@ pub record Side (W : World) (R O : Stmt) (U : Owned) (σ : Store) (K L : ℕ →
   pub last : (t₁ : ℕ) (σ₁ : Store) → t₁ ≤ u → goes W u R σ ≡ ended t₁ σ₁ → Words W (Own W U O) σ₁ c × Settled W (Own W U O .procs) c e
 
 -- both sides get their pulse at a
-module _ (W : World) (R O : Stmt) (timedR : Paced W R) (doesR : RunOf W R) (apart : Apart (means W O) (means W R)) (U : Owned) (σ : Store) (s : Sig) (g : Gives)
+module _ (W : World) (R O : Code) (timedR : Paced W R) (doesR : RunOf W R) (apart : Apart (means W O) (means W R))
+    (lone : (q : ℕ) → reaches (W .reach) R q ≡ true → reaches (W .reach) O q ≡ false) (U : Owned) (σ : Store) (s : Sig) (g : Gives)
     (fR : Sig) (gR : Gives) (nR : Built W R s fR gR) (fO : Sig) (gO : Gives) (nO : Built W O s fO gO) (joined : Joined gR gO g)
     (a c e u : ℕ) (h : a + u ≡ c) (o : c < e) (calmR : Calm W R s fR gR nR a) (pulse : Pulse (W .w) s a e)
     (owns : Owns W R U) (F : Free W U g σ a c e) where
+  -- a body that the other side reaches gives nothing to this side's own
+  mute : (x : ℕ) → Own W U O .vars x → (t r : ℕ) → U .procs r → (Own W U O .procs r → W .each r .clk x t ≡ false) → W .each r .clk x t ≡ false
+  mute x i t r v z =
+      by-bool (reaches (W .reach) O r)
+      (λ y. is-unwritten W (W .bodies r) (W .all .calls r) (W .ret r) (W .each r) (W .built r) x (reach-writes W O r x y (i .1)) t) (λ y. z (v, y))
+
+  mute-calls : (q : ℕ) → Own W U O .procs q → (t r : ℕ) → U .procs r → (Own W U O .procs r → W .each r .calls q t ≡ false) → W .each r .calls q t ≡ false
+  mute-calls q i t r v z =
+      by-bool (reaches (W .reach) O r)
+      (λ y. is-uncalled W (W .bodies r) (W .all .calls r) (W .ret r) (W .each r) (W .built r) q (reach-on W O r q y (i .1)) t) (λ y. z (v, y))
+
   own-follow : Follows W (Own W U O) gR a c
   own-follow =
       follows-left W U (Own W U O) gR gO g joined (λ q i. i .0) a c (is-dull W O s fO gO nO) (λ x i. i .0)
-      (λ x i t l k. is-unwritten W O s fO gO nO x (i .1) t) (λ x i t r v z. z (v, refl)) (F .follow)
+      (λ x i t l k. is-unwritten W O s fO gO nO x (i .1) t) mute (F .follow)
 
   own-silent : Silent W (Own W U O) gR a c e
   own-silent t l k k′ =
-      silent-left W U (Own W U O) gR gO g joined (λ q i. i .0) t (λ q i. is-uncalled W O s fO gO nO q t) (λ q i r v z. z (v, refl)) (F .silent t l k k′)
+      silent-left W U (Own W U O) gR gO g joined (λ q i. i .0) t (λ q i. is-uncalled W O s fO gO nO q (i .1) t) (λ q i r v z. mute-calls q i t r v z)
+      (F .silent t l k k′)
 
   side-launched : Launched W R (Own W U O) σ (Calm W R s fR gR nR) (Sofar W R s fR gR nR) s fR gR a e u
   side-launched =
       launch W R timedR doesR (Own W U O) σ s fR gR nR a e u (omega arith)
       (record {
-        owns = record { mine = λ x t. (owns .mine x t, apart-unwritten (means W O) (means W R) apart x t); reach = λ q t. (owns .reach q t, refl) };
+        owns = record { mine = λ x t. (owns .mine x t, apart-unwritten (means W O) (means W R) apart x t); reach = λ q t. (owns .reach q t, lone q t) };
         calm = calmR;
         settled = record {
           idle = λ q i. F .settled .idle q (i .0);

@@ -7,6 +7,7 @@ use lib.Dec.{eqb}
 use borrow.Author.Tests.{eqb-true}
 use Rattle.model.specs.Word.{pick, elementWord}
 use Rattle.model.specs.Program.{Expr, ok, tick, assign, assignElem, exit, arrayVar, reads, touches}
+use Rattle.model.specs.Procedures.{inline, reaches}
 use Rattle.model.specs.Circuit.{Sig, delayed}
 use Rattle.model.specs.Rules.{Store, owner, ended, wait, run, eval, put, atEnd}
 use Rattle.laws.specs.Refusals.Laws.{by-bool, by-le, not-both}
@@ -26,7 +27,7 @@ use Rattle.theory.specs.Control.Bodies.{Owned, settled-at, pause, pause-
 use Rattle.theory.specs.Control.Runs.{Words, Free, free, Done, Going, Does, ShortOf, in-way, done-as, going-as, follow-to}
 
 pub run-ok : (W : World) → ShortOf W ok
-unfolding run widened Circuit Each
+unfolding run widened inline Circuit Each
 run-ok W U σ s f g n a c e u h o k B =
     record {
       goes-on = λ p. done-still p;
@@ -47,7 +48,7 @@ run-ok W U σ s f g n a c e u h o k B =
     }
 
 pub run-tick : (W : World) (d : ℕ) → ShortOf W (tick d)
-unfolding run widened Circuit Each
+unfolding run widened inline Circuit Each
 run-tick W d U σ s f g n a c e u h o short B =
     let k₀ = B .ready .calm in
     let q : Quiet f a (a + d) = λ t l k. n .fin t ∙ delayed-quiet d s a a (k₀ .0) (λ t l k. absurd (omega arith)) t l k in
@@ -87,7 +88,7 @@ run-tick W d U σ s f g n a c e u h o short B =
 
 -- an exit: its start goes out, and its finish stays low
 pub run-exit : (W : World) → ShortOf W exit
-unfolding run widened Circuit Each
+unfolding run widened inline Circuit Each
 run-exit W U σ s f g n a c e u h o k B =
     record {
       goes-on = λ p. done-still p;
@@ -265,14 +266,14 @@ module _ (W : World) (d y : ℕ) (r : ℕ → ℕ) (e : Expr) (pos : 1 ≤ d) (U
             }
 
 pub run-assign : (W : World) (d y : ℕ) (e : Expr) → 1 ≤ d → y < 16 → FormedExpr e → ShortOf W (assign d y e)
-unfolding run touches widened Circuit Each
+unfolding run touches widened inline Circuit Each reaches
 run-assign W d y e pos low formed U σ s f g n a c j u h o k B =
     assign-does W d y (λ t. 0) e pos U σ s f g n a c j u h o k (B .ready .calm) (B .pulse) (free B) formed
     (each-of (λ x. eqb x y) (reads e) (B .ready .owns .mine) .1) y (λ k o₁ o₂ o₃ o₄ x z. hits-variable x y 0 low z) (λ x z. other-variable x y low z)
 
 -- an element's index is used with its value
 pub run-elem : (W : World) (d k : ℕ) (i e : Expr) → 1 ≤ d → FormedExpr i → FormedExpr e → ShortOf W (assignElem d k i e)
-unfolding run touches widened Circuit Each
+unfolding run touches widened inline Circuit Each reaches
 run-elem W d k i e pos formedI formedE U σ s f g n a c j u h o short B =
     let y = arrayVar k in
     let r : ℕ → ℕ = ideal (W .m) i in

@@ -6,7 +6,8 @@ use mathlib.Core.Bool.{Bool, true, false, not, _&&_, _||_, or-false}
 use native.Mathlib.Omega.{arith}
 use lib.Dec.{eqb}
 use Rattle.model.specs.Word.{pick, isZero}
-use Rattle.model.specs.Program.{Expr, Stmt, ok, tick, assign, assignElem, seq, par, ite, while, repeat, loop, exit, arrayVar, reads, touches}
+use Rattle.model.specs.Program.{Expr, Code, ok, tick, assign, assignElem, seq, par, ite, while, repeat, loop, exit, call, arrayVar, reads, touches}
+use Rattle.model.specs.Procedures.{inline}
 use Rattle.model.specs.Circuit.{Sig, delayed}
 use Rattle.model.specs.Rules.{owner, eval}
 use Rattle.laws.specs.Refusals.Laws.{by-bool, and-true}
@@ -15,6 +16,7 @@ use Rattle.laws.specs.Rules.Uses.{eval-same}
 use Rattle.theory.specs.Control.Widths.{gap, widened}
 use Rattle.theory.specs.Control.Signal.{Quiet, delayed-quiet}
 use Rattle.theory.specs.Control.Pulses.{Firm, quiet-firm, delayed-firm, either-firm}
+use Rattle.theory.specs.Control.Returns.{none-out}
 use Rattle.theory.specs.Control.Meets.{merged-firm}
 use Rattle.theory.specs.Control.Wiring.{either, ideal, Gives, Assigned, Joined, Circuit, Delays, Each}
 use Rattle.theory.specs.Control.World.{World, Built, means, Paced, each-of}
@@ -27,10 +29,10 @@ pub record Surges (f : Sig) (g : Gives) (a b : ℕ) : Type 0 where
   pub out : Firm (g .out) a b
   pub clocks : (x : ℕ) → Firm (g .clk x) a (suc b)
 
-abbrev pub Touched : World → Stmt → ℕ → Type 0
+abbrev pub Touched : World → Code → ℕ → Type 0
 Touched W P x = touches (means W P) x ≡ true
 
-abbrev pub SurgeOf : World → Stmt → Type 0
+abbrev pub SurgeOf : World → Code → Type 0
 SurgeOf W P =
     (s f : Sig) (g : Gives) (n : Built W P s f g) (a b : ℕ) → Calm W P s f g n a → a ≤ b → b ≤ a + W .w → Firm s a b → Same W (Touched W P) a b → Surges f g a b
 
@@ -74,8 +76,8 @@ surge-assigned W d y r e pos s f g n a b calm q =
           quiet-firm (g .clk x) a (suc b) (λ t l h. n .clocks x t ∙ ap (λ (c : Bool). pick c (delayed d s t) false) z));
     }
 
-surge-seq : (W : World) (P Q : Stmt) → SurgeOf W P → SurgeOf W Q → SurgeOf W (seq P Q)
-unfolding Circuit Each touches widened
+surge-seq : (W : World) (P Q : Code) → SurgeOf W P → SurgeOf W Q → SurgeOf W (seq P Q)
+unfolding Circuit Each touches widened inline
 surge-seq W P Q hP hQ s f g n a b calm o o′ q k =
     let v = each-of (λ x. touches (means W P) (owner x)) (λ x. touches (means W Q) (owner x)) k in
     let r = hP s (n .mid) (n .g₁) (n .left) a b (calm .0) o o′ q (v .0) in
@@ -83,8 +85,8 @@ surge-seq W P Q hP hQ s f g n a b calm o o′ q k =
     let j = swells (n .mid) (n .g₁) f (n .g₂) g a b (n .joined) r r′ in
     record { fin = r′ .fin; out = j .out; clocks = j .clocks }
 
-surge-par : (W : World) (P Q : Stmt) → SurgeOf W P → SurgeOf W Q → SurgeOf W (par P Q)
-unfolding Circuit Each touches widened
+surge-par : (W : World) (P Q : Code) → SurgeOf W P → SurgeOf W Q → SurgeOf W (par P Q)
+unfolding Circuit Each touches widened inline
 surge-par W P Q hP hQ s f g n a b calm o o′ q k =
     let v = each-of (λ x. touches (means W P) (owner x)) (λ x. touches (means W Q) (owner x)) k in
     let r = hP s (n .f₁) (n .g₁) (n .left) a b (calm .1) o o′ q (v .0) in
@@ -101,8 +103,8 @@ pub test-same : (W : World) (e : Expr) → FormedExpr e → (U : ℕ → Type 0)
     → (t : ℕ) → a ≤ t → t < b → isZero (eval e (W .m t)) ≡ isZero (eval e (W .m a))
 test-same W e formed U a b u k t l h = ap isZero (eval-same e formed (W .m t) (W .m a) (λ x r. k x (u (owner x) r) t l h))
 
-surge-ite : (W : World) (d : ℕ) (e : Expr) (P Q : Stmt) → FormedExpr e → SurgeOf W P → SurgeOf W Q → SurgeOf W (ite d e P Q)
-unfolding Circuit Each touches widened
+surge-ite : (W : World) (d : ℕ) (e : Expr) (P Q : Code) → FormedExpr e → SurgeOf W P → SurgeOf W Q → SurgeOf W (ite d e P Q)
+unfolding Circuit Each touches widened inline
 surge-ite W d e P Q formed hP hQ s f g n a b calm o o′ q k =
     let v = each-of (λ x. reads e (owner x)) (λ x. touches (means W P) (owner x) || touches (means W Q) (owner x)) k in
     let v′ = each-of (λ x. touches (means W P) (owner x)) (λ x. touches (means W Q) (owner x)) (v .1) in
@@ -121,7 +123,7 @@ surge-ite W d e P Q formed hP hQ s f g n a b calm o o′ q k =
     record { fin = either-firm (n .f₁) (n .f₂) f a b (n .fin) (r .fin) (r′ .fin); out = j .out; clocks = j .clocks }
 
 -- the body of a while has not begun
-surge-while : (W : World) (d : ℕ) (e : Expr) (P : Stmt) → gap (W .w) ≤ d → Paced W P → SurgeOf W (while d e P)
+surge-while : (W : World) (d : ℕ) (e : Expr) (P : Code) → gap (W .w) ≤ d → Paced W P → SurgeOf W (while d e P)
 unfolding Circuit Each
 surge-while W d e P long timed s f g n a b calm o o′ q k =
     let D : Quiet (delayed d (either s (n .f₁))) a b =
@@ -136,8 +138,8 @@ surge-while W d e P long timed s f g n a b calm o o′ q k =
     }
 
 -- that of a repeat has, and its finish has not gone round
-surge-repeat : (W : World) (d : ℕ) (e : Expr) (P : Stmt) → gap (W .w) ≤ d → SurgeOf W P → SurgeOf W (repeat d e P)
-unfolding Circuit Each touches widened
+surge-repeat : (W : World) (d : ℕ) (e : Expr) (P : Code) → gap (W .w) ≤ d → SurgeOf W P → SurgeOf W (repeat d e P)
+unfolding Circuit Each touches widened inline
 surge-repeat W d e P long hP s f g n a b calm o o′ q k =
     let D : Quiet (delayed d (n .f₁)) a b =
     λ t l h. delayed-quiet d (n .f₁) a a (calm .0 .0) (λ t l h. absurd (omega arith)) t l (omega arith) in
@@ -153,8 +155,8 @@ surge-repeat W d e P long hP s f g n a b calm o o′ q k =
     }
 
 -- so has that of a loop
-surge-loop : (W : World) (d : ℕ) (P : Stmt) → gap (W .w) ≤ d → SurgeOf W P → SurgeOf W (loop d P)
-unfolding Circuit Each touches widened
+surge-loop : (W : World) (d : ℕ) (P : Code) → gap (W .w) ≤ d → SurgeOf W P → SurgeOf W (loop d P)
+unfolding Circuit Each touches widened inline
 surge-loop W d P long hP s f g n a b calm o o′ q k =
     let D : Quiet (delayed d (n .f₁)) a b =
     λ t l h. delayed-quiet d (n .f₁) a a (calm .0 .0) (λ t l h. absurd (omega arith)) t l (omega arith) in
@@ -167,7 +169,7 @@ surge-loop W d P long hP s f g n a b calm o o′ q k =
       clocks = λ x. firm-is (n .g₁ .clk x) (g .clk x) a (suc b) (λ t l h. n .clocks x t) (r .clocks x);
     }
 
-pub surge : (W : World) (P : Stmt) → Paced W P → SurgeOf W P
+pub surge : (W : World) (P : Code) → Paced W P → SurgeOf W P
 unfolding Circuit Each
 surge W ok h = λ s f g n a b calm o o′ q k.
     record {
@@ -194,4 +196,12 @@ surge W exit h = λ s f g n a b calm o o′ q k.
       fin = quiet-firm f a b (λ t l h. n .fin t);
       out = firm-is s (g .out) a b (λ t l h. n .out t) q;
       clocks = λ x. quiet-firm (g .clk x) a (suc b) (λ t l h. n .clocks x t);
+    }
+-- a call's delay is at least the gap: nothing has come to its merge
+surge W (call d p) h = λ s f g n a b calm o o′ q k.
+    let D : Quiet (delayed d s) a b = λ t l i. delayed-quiet d s a a (calm .0 .0) (λ t l h. absurd (omega arith)) t l (omega (arith, h .0)) in
+    record {
+      fin = quiet-firm f a b (λ t l i. n .fin t ∙ none-out (W .w) (delayed d s) (W .ret p) a b (calm .1) D t l i);
+      out = quiet-firm (g .out) a b (λ t l i. n .out t);
+      clocks = λ x. quiet-firm (g .clk x) a (suc b) (λ t l i. n .clocks x t);
     }

@@ -1,17 +1,19 @@
 -- The timing theorem: from a start pulse of w instants at any instant at which nothing is in flight, a circuit built by the scheme does exactly what the
 -- program's own rules say, up to any horizon before which no other pulse comes.
 -- Assumes nothing.
-use Prim.Native.Nat.{ℕ, suc, _+_, _≤_, _<_}
-use mathlib.Core.Path.{_≡_, sym, _∙_, ap}
-use mathlib.Core.Bool.{Bool, false}
+use Prim.Native.Nat.{ℕ, zero, suc, _+_, _≤_, _<_}
+use mathlib.Core.Path.{_≡_, refl, sym, _∙_, ap}
+use mathlib.Core.Bool.{Bool, true, false, _||_, or-true}
 use native.Mathlib.Omega.{arith}
 use lib.Dec.{ltb}
-use borrow.Author.Tests.{lt-ltb, le-ltb}
-use Rattle.model.specs.Program.{Stmt, ok, tick, assign, assignElem, seq, par, ite, while, repeat, loop, exit}
+use borrow.Author.Tests.{eq-eqb, lt-ltb, le-ltb}
+use Rattle.model.specs.Program.{Code, ok, tick, assign, assignElem, seq, par, ite, while, repeat, loop, exit, call}
+use Rattle.model.specs.Procedures.{inline, reaches}
 use Rattle.model.specs.Circuit.{Sig}
 use Rattle.model.specs.Rules.{Store, owner, Run, still, Way, atEnd, done, atExit}
 use Rattle.laws.specs.Refusals.Laws.{by-le}
 use Rattle.laws.specs.Program.Fit.{Separate, Inside}
+use Rattle.laws.specs.Program.Admitted.{Lone}
 use Rattle.laws.specs.Rules.Laws.{by-run, by-runs}
 use Rattle.theory.specs.Control.Widths.{gap, widened}
 use Rattle.theory.specs.Control.Pulses.{Pulse, pulse-less, shows-none}
@@ -27,25 +29,54 @@ use Rattle.theory.specs.Control.Parallel.{run-par}
 use Rattle.theory.specs.Control.While.{run-while}
 use Rattle.theory.specs.Control.Repeat.{run-repeat}
 use Rattle.theory.specs.Control.Loop.{run-loop}
+use Rattle.theory.specs.Control.Calls.{run-call}
 
--- From any start pulse and up to any horizon, the circuit does as the rules say
-pub does : (W : World) (P : Stmt) → Paced W P → Separate (means W P) → Inside (means W P) → RunOf W P
-unfolding widened
-does W ok h k i = onward W ok h (run-ok W)
-does W (tick d) h k i = onward W (tick d) h (run-tick W d)
-does W (assign d x e) h k i = onward W (assign d x e) h (run-assign W d x e (h .0) (h .1) (h .2))
-does W (assignElem d j v e) h k i = onward W (assignElem d j v e) h (run-elem W d j v e (h .0) (h .2) (h .3))
-does W (seq P Q) h k i =
-    onward W (seq P Q) h (run-seq W P Q (h .0) (h .1) (does W P (h .0) (k .0) (i .0)) (does W Q (h .1) (k .1) (i .1)))
-does W (par P Q) h k i =
+-- what either of two parts reaches
+either-body : (W : World) (P Q : Code) → ((p : ℕ) → (reaches (W .reach) P p || reaches (W .reach) Q p) ≡ true → RunOf W (W .bodies p))
+    → ((p : ℕ) → reaches (W .reach) P p ≡ true → RunOf W (W .bodies p)) × ((p : ℕ) → reaches (W .reach) Q p ≡ true → RunOf W (W .bodies p))
+either-body W P Q h = (
+  λ p z. h p (ap (λ (c : Bool). c || reaches (W .reach) Q p) z),
+  λ p z. h p (ap (λ (c : Bool). reaches (W .reach) P p || c) z ∙ or-true (reaches (W .reach) P p)),
+)
+
+-- From any start pulse and up to any horizon, the circuit does as the rules say, if the bodies that it reaches do
+does-code : (W : World) (P : Code) → ((p : ℕ) → reaches (W .reach) P p ≡ true → RunOf W (W .bodies p)) → Paced W P → Separate (means W P)
+    → Inside (means W P) → Lone (W .reach) P → RunOf W P
+unfolding widened inline reaches
+does-code W ok b h k i n = onward W ok h (run-ok W)
+does-code W (tick d) b h k i n = onward W (tick d) h (run-tick W d)
+does-code W (assign d x e) b h k i n = onward W (assign d x e) h (run-assign W d x e (h .0) (h .1) (h .2))
+does-code W (assignElem d j v e) b h k i n = onward W (assignElem d j v e) h (run-elem W d j v e (h .0) (h .2) (h .3))
+does-code W (seq P Q) b h k i n =
+    let c = either-body W P Q b in
+    onward W (seq P Q) h
+    (run-seq W P Q (h .0) (h .1) (does-code W P (c .0) (h .0) (k .0) (i .0) (n .0)) (does-code W Q (c .1) (h .1) (k .1) (i .1) (n .1)))
+does-code W (par P Q) b h k i n =
+    let c = either-body W P Q b in
     onward W (par P Q) h
-    (run-par W P Q (h .0) (h .1) (k .2 .0) (k .2 .1) (i .2 .0) (i .2 .1) (does W P (h .0) (k .0) (i .0)) (does W Q (h .1) (k .1) (i .1)))
-does W (ite d e P Q) h k i =
-    onward W (ite d e P Q) h (run-ite W d e (h .1) P Q (h .2) (h .3) (does W P (h .2) (k .2) (i .2)) (does W Q (h .3) (k .3) (i .3)))
-does W (while d e P) h k i = onward W (while d e P) h (run-while W d e (h .1) P (h .0) (h .2) (does W P (h .2) (k .2) (i .2)))
-does W (repeat d e P) h k i = onward W (repeat d e P) h (run-repeat W d e (h .1) P (h .0) (h .2) (does W P (h .2) (k .2) (i .2)))
-does W (loop d P) h k i = onward W (loop d P) h (run-loop W d P (h .0) (h .1) (does W P (h .1) (k .1) (i .1)))
-does W exit h k i = onward W exit h (run-exit W)
+    (run-par W P Q (h .0) (h .1) (k .2 .0) (k .2 .1) (i .2 .0) (i .2 .1) (n .2) (does-code W P (c .0) (h .0) (k .0) (i .0) (n .0))
+    (does-code W Q (c .1) (h .1) (k .1) (i .1) (n .1)))
+does-code W (ite d e P Q) b h k i n =
+    let c = either-body W P Q b in
+    onward W (ite d e P Q) h
+    (run-ite W d e (h .1) P Q (h .2) (h .3) (does-code W P (c .0) (h .2) (k .2) (i .2) (n .2)) (does-code W Q (c .1) (h .3) (k .3) (i .3) (n .3)))
+does-code W (while d e P) b h k i n =
+    onward W (while d e P) h (run-while W d e (h .1) P (h .0) (h .2) (does-code W P b (h .2) (k .2) (i .2) (n .2)))
+does-code W (repeat d e P) b h k i n =
+    onward W (repeat d e P) h (run-repeat W d e (h .1) P (h .0) (h .2) (does-code W P b (h .2) (k .2) (i .2) (n .2)))
+does-code W (loop d P) b h k i n = onward W (loop d P) h (run-loop W d P (h .0) (h .1) (does-code W P b (h .1) (k .1) (i .1) (n .1)))
+does-code W exit b h k i n = onward W exit h (run-exit W)
+does-code W (call d p) b h k i n =
+    onward W (call d p) h (run-call W d p (h .0) (b p (ap (λ (c : Bool). c || W .reach p p) (eq-eqb p p refl))))
+
+-- a body reaches only those before it
+does-body : (W : World) (k p : ℕ) → p < k → RunOf W (W .bodies p)
+does-body W zero p l = absurd (omega arith)
+does-body W (suc k) p l =
+    does-code W (W .bodies p) (λ q z. does-body W k q (omega (arith, W .lower p q z))) (W .timely p) (W .separate p) (W .inside p) (W .lone p)
+
+pub does : (W : World) (P : Code) → Paced W P → Separate (means W P) → Inside (means W P) → Lone (W .reach) P → RunOf W P
+does W P = does-code W P (λ p z. does-body W (suc p) p (omega arith))
 
 -- whether a finish shows at u a run that has ended: for w instants from its end on
 unfoldable pub showsAt : ℕ → ℕ → Run → Bool
@@ -55,12 +86,13 @@ showsAt w u still = false
 
 -- A pulse from a on, with nothing in flight, and no other before e; on [a, e] what P owns follows what P and its bodies give. Of the rest nothing is
 -- asked, and nothing is said.
-module _ (W : World) (P : Stmt) (timed : Paced W P) (separate : Separate (means W P)) (inside : Inside (means W P)) (U : Owned) (σ : Store) (s f : Sig) (g : Gives)
+module _ (W : World) (P : Code) (timed : Paced W P) (separate : Separate (means W P)) (inside : Inside (means W P))
+    (lone : Lone (W .reach) P) (U : Owned) (σ : Store) (s f : Sig) (g : Gives)
     (n : Built W P s f g) (a e : ℕ) (ready : Ready W P U σ (Calm W P s f g n) a e) (pulse : Pulse (W .w) s a e) (follow : Follows W U g a e)
     (silent : (t : ℕ) → a + W .w ≤ t → t < e → SilentAt W (U .procs) g t) where
   launched : (u : ℕ) → a + u < e → Launched W P U σ (Calm W P s f g n) (Sofar W P s f g n) s f g a e u
   launched u l =
-      launch W P timed (does W P timed separate inside) U σ s f g n a e u l ready
+      launch W P timed (does W P timed separate inside lone) U σ s f g n a e u l ready
       (λ v o q. (
         pulse-less (omega arith) pulse,
         within W U g a e a (a + v) (omega arith) (omega arith) follow,

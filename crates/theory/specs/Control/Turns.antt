@@ -5,7 +5,7 @@ use mathlib.Core.Path.{_≡_, sym, _∙_, ap, ap₂, subst}
 use mathlib.Core.Bool.{Bool, true, false, not, _&&_}
 use native.Mathlib.Omega.{arith}
 use Rattle.model.specs.Word.{isZero}
-use Rattle.model.specs.Program.{Expr, Stmt, reads}
+use Rattle.model.specs.Program.{Expr, Code, reads}
 use Rattle.model.specs.Circuit.{Sig, delayed}
 use Rattle.model.specs.Rules.{Store, owner, Run, ended, still, wait, chain, eval, atEnd, atExit, done}
 use Rattle.laws.specs.Refusals.Laws.{by-bool, by-le, not-both}
@@ -26,7 +26,7 @@ use Rattle.theory.specs.Control.Tests.{Waits, waited, Firmed, test-words
 use Rattle.theory.specs.Control.Rounds.{Body, Starts, Enters, round-later, round-going, round-left, round-quiet, round-in, round-enters, delay-before, delay-rests, delay-off, delay-fed, delay-line, delay-in, waits-fed, waits-in, waits-sofar, waits-bodies, waits-rest, delay-out, delay-gone, delay-waits, delay-again}
 
 -- its body and its condition
-pub record Tested (W : World) (P : Stmt) (U : Owned) (d : ℕ) (e : Expr) (more : Bool → Bool) (s f X s₁ f₁ : Sig) (g : Gives) : Type 1 where
+pub record Tested (W : World) (P : Code) (U : Owned) (d : ℕ) (e : Expr) (more : Bool → Bool) (s f X s₁ f₁ : Sig) (g : Gives) : Type 1 where
   pub body : Body W P U d s X s₁ f₁ g
   pub formed : FormedExpr e
   pub reading : (x : ℕ) → reads e x ≡ true → U .vars x
@@ -34,7 +34,7 @@ pub record Tested (W : World) (P : Stmt) (U : Owned) (d : ℕ) (e : Expr) (more 
   pub fin : (t : ℕ) → f t ≡ (delayed d X t && not (more (isZero (eval e (W .m t)))))
 
 -- its rules, with at most n rounds: `laps` from where the body is started, `next` from where it has ended
-pub record Laps (W : World) (P : Stmt) (d : ℕ) (e : Expr) (more : Bool → Bool) (laps next : ℕ → ℕ → Store → Run) : Type 0 where
+pub record Laps (W : World) (P : Code) (d : ℕ) (e : Expr) (more : Bool → Bool) (laps next : ℕ → ℕ → Store → Run) : Type 0 where
   pub lap : (n k : ℕ) (σ : Store) → laps (suc n) k σ ≡ chain (goes W k P σ) (λ t σ₁. next n (k - t) σ₁)
   pub again : (n k : ℕ) (σ : Store) → more (isZero (eval e σ)) ≡ true → next n k σ ≡ wait d k (λ k₁. laps n k₁ σ)
   pub stop : (n k : ℕ) (σ : Store) → more (isZero (eval e σ)) ≡ false → next n k σ ≡ wait d k (λ k₁. ended 0 σ)
@@ -45,7 +45,7 @@ pub record Turned (W : World) (d : ℕ) (e : Expr) (f X : Sig) (a j : ℕ) : Typ
   pub low : (t : ℕ) → a ≤ t → t < a + W .w → t < j → f t ≡ false
   pub used : (b : ℕ) → b ≤ a + W .w → b ≤ j → Stable (W .m) d e X b
 
-module _ {W : World} {P : Stmt} {U : Owned} {d : ℕ} {e : Expr} {more : Bool → Bool} {s f X s₁ f₁ : Sig} {g : Gives}
+module _ {W : World} {P : Code} {U : Owned} {d : ℕ} {e : Expr} {more : Bool → Bool} {s f X s₁ f₁ : Sig} {g : Gives}
     (I : Tested W P U d e more s f X s₁ f₁ g) where
   abbrev B : Body W P U d s X s₁ f₁ g
   B = I .body

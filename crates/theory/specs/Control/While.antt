@@ -4,7 +4,8 @@ use mathlib.Core.Path.{_≡_, refl, _∙_, ap}
 use mathlib.Core.Bool.{Bool, true, false, not, _&&_, _||_}
 use native.Mathlib.Omega.{arith}
 use Rattle.model.specs.Word.{isZero}
-use Rattle.model.specs.Program.{Expr, Stmt, while, reads, touches}
+use Rattle.model.specs.Program.{Expr, Code, while, reads, touches}
+use Rattle.model.specs.Procedures.{inline, reaches}
 use Rattle.model.specs.Circuit.{Sig, delayed}
 use Rattle.model.specs.Rules.{Store, Run, run, chain, whiles, eval}
 use Rattle.laws.specs.Program.Fit.{FormedExpr}
@@ -26,7 +27,7 @@ not-not true = refl
 not-not false = refl
 
 -- a while goes round while its condition's word is not zero
-module _ (W : World) (d : ℕ) (e : Expr) (formed : FormedExpr e) (P : Stmt) (long : gap (W .w) ≤ d) (timed : Paced W P)
+module _ (W : World) (d : ℕ) (e : Expr) (formed : FormedExpr e) (P : Code) (long : gap (W .w) ≤ d) (timed : Paced W P)
     (does : RunOf W P) (U : Owned) (σ : Store) (s f : Sig) (g : Gives) (n : While (ideal (W .m)) d e (Built W P) s f g) where
   abbrev X : Sig
   X = either s (n .f₁)
@@ -51,7 +52,7 @@ module _ (W : World) (d : ℕ) (e : Expr) (formed : FormedExpr e) (P : Stmt) (lo
 
   module _ (a c j u : ℕ) (h : a + u ≡ c) (o : c < j) (short : j ≤ c + gap (W .w)) (B : Begins W (while d e P) U σ K s g a c j) where
     while-loop : Tested W P U d e not s f X (n .s₁) (n .f₁) g
-    unfolding touches widened
+    unfolding touches widened inline reaches
     while-loop =
         let uses = each-of (reads e) (touches (means W P)) (B .ready .owns .mine) in
         record {
@@ -102,9 +103,9 @@ module _ (W : World) (d : ℕ) (e : Expr) (formed : FormedExpr e) (P : Stmt) (lo
         }
 
     while-does : Does W U (goes W u (while d e P) σ) K L f g a c j u
-    unfolding run widened while-loop
+    unfolding run widened inline while-loop
     while-does = enters-does while-loop while-laps u σ a c j u (omega arith) h o short while-enters while-turned
 
-pub run-while : (W : World) (d : ℕ) (e : Expr) → FormedExpr e → (P : Stmt) → gap (W .w) ≤ d → Paced W P → RunOf W P → ShortOf W (while d e P)
+pub run-while : (W : World) (d : ℕ) (e : Expr) → FormedExpr e → (P : Code) → gap (W .w) ≤ d → Paced W P → RunOf W P → ShortOf W (while d e P)
 unfolding Circuit Each
 run-while W d e formed P long timed does U σ s f g n a c j u h o k B = while-does W d e formed P long timed does U σ s f g n a c j u h o k B

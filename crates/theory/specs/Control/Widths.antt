@@ -7,8 +7,10 @@ use native.Mathlib.Omega.{arith}
 use lib.Dec.{eqb}
 use borrow.Author.Tests.{eq-eqb, ne-eqb}
 use Rattle.model.specs.Word.{pick}
-use Rattle.model.specs.Program.{Stmt, ok, tick, assign, assignElem, seq, par, ite, while, repeat, loop, exit}
+use Rattle.model.specs.Program.{Statement, Code, Stmt, ok, tick, assign, assignElem, seq, par, ite, while, repeat, loop, exit, call}
 use Rattle.laws.specs.Refusals.Laws.{by-le}
+use Rattle.model.specs.Procedures.{inline}
+use Rattle.laws.specs.Program.Inlined.{everywhere-inline}
 use Rattle.laws.specs.Program.Fit.{Everywhere, free, FormedExpr, Formed, Timed}
 
 -- The gap ------------------------------------------------------------------------------------------------------------------------
@@ -36,9 +38,9 @@ turn-least w d l h = let g = gap-least w l in omega arith
 
 -- Statements ---------------------------------------------------------------------------------------------------------------------
 
--- what pulses of w ask: delays of at least 1, but for an if's, and a loop's of at least the gap; and variables and arrays that exist
-abbrev pub Timely : ℕ → Stmt → Type 0
-Timely w =
+-- what pulses of w ask: delays of at least 1, but for an if's, and a loop's and a call's of at least the gap; and variables and arrays that exist
+abbrev pub Timely : {C : Type 0} → ℕ → Statement C → Type 0
+Timely w P =
     Everywhere
     (record {
       delay = λ d. 1 ≤ d;
@@ -47,8 +49,10 @@ Timely w =
       variable = λ x. x < 16;
       array = λ k. k < 4;
       expr = FormedExpr;
+      procedure = free;
       sides = λ P Q. Unit {0};
     })
+    P
 
 -- an assignment's second delay is w, so it takes d + w, where the rules have d + 1
 unfoldable pub widened : ℕ → Stmt → Stmt
@@ -94,7 +98,7 @@ widened-formed w exit h = tt
 
 -- Pulses of one instant ----------------------------------------------------------------------------------------------------------
 
-pub timely-one : (P : Stmt) → Formed P → Timed P → Timely 1 P
+pub timely-one : {C : Type 0} (P : Statement C) → Formed P → Timed P → Timely 1 P
 unfolding gap
 timely-one ok f h = tt
 timely-one (tick d) f h = h
@@ -107,6 +111,24 @@ timely-one (while d e P) f h = (h .0, f .1, timely-one P (f .2) (h .2))
 timely-one (repeat d e P) f h = (h .0, f .1, timely-one P (f .2) (h .2))
 timely-one (loop d P) f h = (h .0, timely-one P (f .1) (h .1))
 timely-one exit f h = tt
+timely-one (call d p) f h = (h .0, tt)
+
+-- without calls it asks the same
+pub timely-inline : (w : ℕ) → 1 ≤ w → (I : ℕ → Stmt) → ((p : ℕ) → Timely w (I p)) → (P : Code) → Timely w P → Timely w (inline I P)
+timely-inline w pos I h P t =
+    everywhere-inline _ _ I
+    (record {
+      delays = λ d l. l;
+      ifDelays = λ d x. tt;
+      loopDelays = λ d l. l;
+      callDelays = λ d l. turn-least w d pos l;
+      variables = λ x l. l;
+      arrays = λ k l. l;
+      exprs = λ e x. x;
+      sides = λ P Q x. tt;
+      bodies = λ p x. h p;
+    })
+    P t
 
 pub widened-one : (P : Stmt) → widened 1 P ≡ P
 unfolding widened

@@ -10,9 +10,10 @@ use lib.Bits.{bitOr, or-step}
 use lib.Dec.{eqb, leb, leb·zero}
 use Rattle.model.specs.Word.{pick}
 use Rattle.model.specs.Circuit.{Sig, delayed}
-use Rattle.theory.specs.Control.Wiring.{ground, Gives, Joined}
+use Rattle.theory.specs.Control.Wiring.{Gives, Joined}
 use Rattle.model.specs.Word.{operate}
-use Rattle.model.specs.Numbering.{Source, wiresOf}
+use Rattle.model.specs.Numbering.{Source, wiresOf, clockSources, dataSources, addressSources, callSources, exitWires}
+use Rattle.model.specs.Program.{Code}
 use Rattle.model.specs.Circuit.{Values, level}
 use Rattle.model.specs.Word.{bit}
 
@@ -79,9 +80,13 @@ clkOf W ws y t = anyHigh W (wiresOf y ws) t
 abbrev pub datOf : Values → List Source → ℕ → ℕ → ℕ
 datOf W ws y t = allOr W (wiresOf y ws) t
 
--- with clocks from us, data from vs and addresses from ws, and exits that start at xs; a numbering of today's has no calls
-abbrev pub givesOf : Values → List Source → List Source → List Source → List ℕ → Gives
-givesOf W us vs ws xs = record { clk = clkOf W us; dat = datOf W vs; adr = datOf W ws; calls = λ q. ground; out = anyHigh W xs }
+-- with clocks from us, data from vs and addresses from ws, calls from cs, and exits that start at xs
+abbrev pub givesOf : Values → List Source → List Source → List Source → List Source → List ℕ → Gives
+givesOf W us vs ws cs xs = record { clk = clkOf W us; dat = datOf W vs; adr = datOf W ws; calls = clkOf W cs; out = anyHigh W xs }
+
+-- what a statement gives whose delay cells stand at d and whose walk cells at c
+abbrev pub givesAt : Values → Code → ℕ → ℕ → ℕ → Gives
+givesAt W P s d c = givesOf W (clockSources P d) (dataSources P c) (addressSources P c) (callSources P d) (exitWires P s d c)
 
 pub wires-append : (y : ℕ) (us vs : List Source) → wiresOf y (us ++ vs) ≡ wiresOf y us ++ wiresOf y vs
 unfolding wiresOf
@@ -105,13 +110,13 @@ or-append W [] ls t = refl
 or-append W (k ∷ ks) ls t =
     ap (λ (b : ℕ). bitOr (W k t) b) (or-append W ks ls t) ∙ sym (or-assoc (W k t) (allOr W ks t) (allOr W ls t))
 
-pub joined : (W : Values) (us vs us′ vs′ us″ vs″ : List Source) (xs ys : List ℕ)
-    → Joined (givesOf W us us′ us″ xs) (givesOf W vs vs′ vs″ ys) (givesOf W (us ++ vs) (us′ ++ vs′) (us″ ++ vs″) (xs ++ ys))
-joined W us vs us′ vs′ us″ vs″ xs ys =
+pub joined : (W : Values) (us vs us′ vs′ us″ vs″ cs ds : List Source) (xs ys : List ℕ)
+    → Joined (givesOf W us us′ us″ cs xs) (givesOf W vs vs′ vs″ ds ys) (givesOf W (us ++ vs) (us′ ++ vs′) (us″ ++ vs″) (cs ++ ds) (xs ++ ys))
+joined W us vs us′ vs′ us″ vs″ cs ds xs ys =
     record {
       clocks = λ y t. rw wires-append (any-append W (wiresOf y us) (wiresOf y vs) t);
       words = λ y t. rw wires-append (or-append W (wiresOf y us′) (wiresOf y vs′) t);
       addresses = λ y t. rw wires-append (or-append W (wiresOf y us″) (wiresOf y vs″) t);
-      called = λ q t. refl;
+      called = λ q t. rw wires-append (any-append W (wiresOf q cs) (wiresOf q ds) t);
       out = any-append W xs ys;
     }

@@ -9,20 +9,21 @@ use lib.Bits.{or-zero-r}
 use Rattle.laws.specs.Numbering.Lengths.{e-len, own-len, d-len, w-len}
 use Rattle.laws.specs.Circuit.Shapes.{operator-shape}
 use Rattle.model.specs.Word.{pick}
-use Rattle.model.specs.Program.{Expr, const, var, compl, op, elem, Stmt, ok, tick, assign, assignElem, seq, par, ite, while, repeat, loop, exit, arrayVar}
-use Rattle.model.specs.Circuit.{delayed, merged}
+use Rattle.model.specs.Program.{Expr, const, var, compl, op, elem, Code, ok, tick, assign, assignElem, seq, par, ite, while, repeat, loop, exit, call, arrayVar}
+use Rattle.model.specs.Circuit.{delayed, mergeStep, returnStep, merged}
 use Rattle.theory.specs.Numbering.Ors.{ors-level}
 use Rattle.theory.specs.Control.Merge.{merged-one}
+use Rattle.theory.specs.Control.Returns.{returned-one}
 use Rattle.theory.specs.Control.Wiring.{ideal, Circuit}
-use Rattle.laws.specs.Program.Fit.{FormedExpr, Formed}
+use Rattle.laws.specs.Program.Fit.{FormedExpr, Formed, Earlier}
 use Rattle.model.specs.Rules.{eval}
 use Rattle.model.specs.Word.{operate, isZero, index, elementWord}
 use Rattle.model.specs.Circuit.{cell}
-use Rattle.model.specs.Numbering.{arrayCell, exprCount, exprWire, exprCells, ifDelayCount, ifPulse, ifDelayCells, delayCount, walkCount, exitsAt, finishWire, exitWires, loopExits, delays, walk, clockSources, dataSources, addressSources, wiresOf, ors}
+use Rattle.model.specs.Numbering.{arrayCell, exprCount, exprWire, exprCells, ifDelayCount, ifPulse, ifDelayCells, delayCount, walkCount, exitsAt, finishWire, exitWires, loopExits, delays, walk, clockSources, dataSources, addressSources, callSources, wiresOf, ors}
 use Rattle.model.specs.Circuit.{Sig, Values, Elements, level, Shape, equation}
 use Rattle.model.specs.Word.{bit}
 use Rattle.laws.specs.Numbering.Cells.{cellVal, Rule, Obeyed, split}
-use Rattle.theory.specs.Numbering.Levels.{level-of, delayed-cong, delayed-zero, anyHigh, allOr, clkOf, datOf, givesOf, joined, ||-false}
+use Rattle.theory.specs.Numbering.Levels.{level-of, delayed-cong, delayed-zero, anyHigh, allOr, clkOf, datOf, givesAt, joined, ||-false}
 
 pub op-rule : (starts : Sig) (first : ℕ) (E : Elements) (W : Values) (p k x y t : ℕ) → 4 ≤ k → k ≤ 9 → cellVal starts first E W p (cell k 0 x y) t ≡ operate k (W x t) (W y t)
 unfolding cellVal
@@ -30,7 +31,8 @@ op-rule starts first E W p k x y t h h′ = ap (λ (sh : Shape). equation sh sta
 
 module _ (starts : Sig) (first : ℕ → ℕ) (E : Elements) (W : Values) (M : ℕ) (m : ℕ → ℕ → ℕ) (shows : (x t : ℕ) → x < 16 → m t x ≡ W (M + x) t)
     (elements : (k w t : ℕ) → k < 4 → m t (elementWord k w) ≡ E (arrayCell M k) (index w) t)
-    (ground : (t : ℕ) → level W 1 t ≡ false) where
+    (ground : (t : ℕ) → level W 1 t ≡ false)
+    (F : ℕ → ℕ) (ret : ℕ → Sig) (k : ℕ) (fin : (p t : ℕ) → p < k → level W (F p) t ≡ ret p t) where
   pub expr : (e : Expr) → FormedExpr e → (c : ℕ) → Obeyed starts first E W c (exprCells M e c) → (t : ℕ) → W (exprWire M e c) t ≡ eval e (m t)
   unfolding exprCells exprWire exprCount eval cellVal
   expr (const n) w c h t = h .0 t
@@ -54,8 +56,8 @@ module _ (starts : Sig) (first : ℕ → ℕ) (E : Elements) (W : Values) (M : �
   pulse-is (suc δ) s d h t = level-of (delayed (suc δ) (level W s) t) (h .0 t)
 
   -- the statement's circuit from its start s, if its delay cells stand at d and its walk cells at c
-  abbrev pub Cells : Stmt → ℕ → ℕ → ℕ → Type 0
-  Cells P s d c = Circuit 1 (ideal m) P (level W s) (level W (finishWire P s d c)) (givesOf W (clockSources P d) (dataSources P c) (addressSources P c) (exitWires P s d c))
+  abbrev pub Cells : Code → ℕ → ℕ → ℕ → Type 0
+  Cells P s d c = Circuit 1 (ideal m) ret P (level W s) (level W (finishWire P s d c)) (givesAt W P s d c)
 
   -- the two switches
   pub yes-is : (k a b t : ℕ) {v : ℕ} {D : Bool} → W k t ≡ bit (level W a t && not (eqb (W b t) 0)) → level W a t ≡ D → W b t ≡ v → level W k t ≡ D && not (isZero v)
@@ -92,13 +94,13 @@ module _ (starts : Sig) (first : ℕ → ℕ) (E : Elements) (W : Values) (M : �
   no-address true false = refl
   no-address false q = refl
 
-  unfoldable pub struct : (P : Stmt) → Formed P → (s d c : ℕ)
-      → Obeyed starts first E W d (delays P s d c) → Obeyed starts first E W c (walk M P s d c)
+  unfoldable pub struct : (P : Code) → Formed P → Earlier k P → (s d c : ℕ)
+      → Obeyed starts first E W d (delays P s d c) → Obeyed starts first E W c (walk M F P s d c)
       → Cells P s d c
-  unfolding Circuit delays walk finishWire clockSources dataSources addressSources cellVal delayCount walkCount anyHigh allOr wiresOf
-  struct ok w s d c hd hw =
+  unfolding Circuit delays walk finishWire clockSources dataSources addressSources callSources cellVal delayCount walkCount anyHigh allOr wiresOf
+  struct ok w z s d c hd hw =
       record { fin = λ t. refl; clocks = λ y t. refl; words = λ y t. refl; addresses = λ y t. refl; called = λ q t. refl; out = λ t. refl }
-  struct (tick δ) w s d c hd hw =
+  struct (tick δ) w z s d c hd hw =
       record {
         fin = λ t. level-of (delayed δ (level W s) t) (hd .0 t);
         clocks = λ y t. refl;
@@ -107,7 +109,7 @@ module _ (starts : Sig) (first : ℕ → ℕ) (E : Elements) (W : Values) (M : �
         called = λ q t. refl;
         out = λ t. refl;
       }
-  struct (assign δ x e) w s d c hd hw =
+  struct (assign δ x e) w z s d c hd hw =
       let r = split (Rule starts first E W) c (exprCount e) (exprCells M e c) (cell 41 0 d (exprWire M e c) ∷ []) (e-len M e c) hw in
       let D : (t : ℕ) → level W d t ≡ delayed δ (level W s) t = λ t. level-of (delayed δ (level W s) t) (hd .0 t) in
       record {
@@ -118,7 +120,7 @@ module _ (starts : Sig) (first : ℕ → ℕ) (E : Elements) (W : Values) (M : �
         called = λ q t. refl;
         out = λ t. refl;
       }
-  struct (assignElem δ k i e) w s d c hd hw =
+  struct (assignElem δ k i e) w z s d c hd hw =
       let x = arrayVar k in
       let ce = c + exprCount i in
       let cg = ce + exprCount e in
@@ -135,39 +137,41 @@ module _ (starts : Sig) (first : ℕ → ℕ) (E : Elements) (W : Values) (M : �
         called = λ q t. refl;
         out = λ t. refl;
       }
-  struct (seq P Q) w s d c hd hw =
+  struct (seq P Q) w z s d c hd hw =
       let g = finishWire P s d c in
       let rd = split (Rule starts first E W) d (delayCount P) (delays P s d c) (delays Q g (d + delayCount P) (c + walkCount P)) (d-len P s d c) hd in
-      let rc = split (Rule starts first E W) c (walkCount P) (walk M P s d c) (walk M Q g (d + delayCount P) (c + walkCount P)) (w-len M P s d c) hw in
+      let rc = split (Rule starts first E W) c (walkCount P) (walk M F P s d c) (walk M F Q g (d + delayCount P) (c + walkCount P)) (w-len M F P s d c) hw in
       record {
         mid = level W g;
-        g₁ = givesOf W (clockSources P d) (dataSources P c) (addressSources P c) (exitWires P s d c);
-        g₂ = givesOf W (clockSources Q (d + delayCount P)) (dataSources Q (c + walkCount P)) (addressSources Q (c + walkCount P)) (exitWires Q g (d + delayCount P) (c + walkCount P));
-        left = struct P (w .0) s d c (rd .0) (rc .0);
-        right = struct Q (w .1) g (d + delayCount P) (c + walkCount P) (rd .1) (rc .1);
+        g₁ = givesAt W P s d c;
+        g₂ = givesAt W Q g (d + delayCount P) (c + walkCount P);
+        left = struct P (w .0) (z .0) s d c (rd .0) (rc .0);
+        right = struct Q (w .1) (z .1) g (d + delayCount P) (c + walkCount P) (rd .1) (rc .1);
         joined = joined W (clockSources P d) (clockSources Q (d + delayCount P)) (dataSources P c) (dataSources Q (c + walkCount P))
-            (addressSources P c) (addressSources Q (c + walkCount P)) (exitWires P s d c)
+            (addressSources P c) (addressSources Q (c + walkCount P)) (callSources P d) (callSources Q (d + delayCount P))
+            (exitWires P s d c)
             (exitWires Q g (d + delayCount P) (c + walkCount P));
       }
-  struct (par P Q) w s d c hd hw =
+  struct (par P Q) w z s d c hd hw =
       let f = finishWire P s d c in
       let g = finishWire Q s (d + delayCount P) (c + walkCount P) in
       let rd = split (Rule starts first E W) d (delayCount P) (delays P s d c) (delays Q s (d + delayCount P) (c + walkCount P)) (d-len P s d c) hd in
-      let rc = split (Rule starts first E W) c (walkCount P) (walk M P s d c) (walk M Q s (d + delayCount P) (c + walkCount P) ++ (cell 38 0 f g ∷ [])) (w-len M P s d c) hw in
-      let rm = split (Rule starts first E W) (c + walkCount P) (walkCount Q) (walk M Q s (d + delayCount P) (c + walkCount P)) (cell 38 0 f g ∷ []) (w-len M Q s (d + delayCount P) (c + walkCount P)) (rc .1) in
+      let rc = split (Rule starts first E W) c (walkCount P) (walk M F P s d c) (walk M F Q s (d + delayCount P) (c + walkCount P) ++ (cell 38 0 f g ∷ [])) (w-len M F P s d c) hw in
+      let rm = split (Rule starts first E W) (c + walkCount P) (walkCount Q) (walk M F Q s (d + delayCount P) (c + walkCount P)) (cell 38 0 f g ∷ []) (w-len M F Q s (d + delayCount P) (c + walkCount P)) (rc .1) in
       record {
         f₁ = level W f;
-        g₁ = givesOf W (clockSources P d) (dataSources P c) (addressSources P c) (exitWires P s d c);
+        g₁ = givesAt W P s d c;
         f₂ = level W g;
-        g₂ = givesOf W (clockSources Q (d + delayCount P)) (dataSources Q (c + walkCount P)) (addressSources Q (c + walkCount P)) (exitWires Q s (d + delayCount P) (c + walkCount P));
-        left = struct P (w .0) s d c (rd .0) (rc .0);
-        right = struct Q (w .1) s (d + delayCount P) (c + walkCount P) (rd .1) (rm .0);
+        g₂ = givesAt W Q s (d + delayCount P) (c + walkCount P);
+        left = struct P (w .0) (z .0) s d c (rd .0) (rc .0);
+        right = struct Q (w .1) (z .1) s (d + delayCount P) (c + walkCount P) (rd .1) (rm .0);
         joined = joined W (clockSources P d) (clockSources Q (d + delayCount P)) (dataSources P c) (dataSources Q (c + walkCount P))
-            (addressSources P c) (addressSources Q (c + walkCount P)) (exitWires P s d c)
+            (addressSources P c) (addressSources Q (c + walkCount P)) (callSources P d) (callSources Q (d + delayCount P))
+            (exitWires P s d c)
             (exitWires Q s (d + delayCount P) (c + walkCount P));
-        fin = λ t. level-of (merged (level W f) (level W g) t) (rm .1 .0 t) ∙ sym (merged-one (level W f) (level W g) t);
+        fin = λ t. level-of (merged mergeStep (level W f) (level W g) t) (rm .1 .0 t) ∙ sym (merged-one (level W f) (level W g) t);
       }
-  struct (ite δ e P Q) w s d c hd hw =
+  struct (ite δ e P Q) w z s d c hd hw =
       let p = c + exprCount e in
       let dP = d + ifDelayCount δ in
       let cP = p + 1 + 1 in
@@ -177,46 +181,46 @@ module _ (starts : Sig) (first : ℕ → ℕ) (E : Elements) (W : Values) (M : �
       let rd = split (Rule starts first E W) dP (delayCount P) (delays P p dP cP) (delays Q (p + 1) (dP + delayCount P) (cP + walkCount P)) (d-len P p dP cP) (ro .1) in
       let o6 = cell 36 0 (ifPulse δ s d) (exprWire M e c) in
       let o7 = cell 37 0 (ifPulse δ s d) (exprWire M e c) in
-      let tail = walk M Q (p + 1) (dP + delayCount P) (cP + walkCount P) ++ (cell 35 0 f g ∷ []) in
-      let re = split (Rule starts first E W) c (exprCount e) (exprCells M e c) (o6 ∷ (o7 ∷ (walk M P p dP cP ++ tail))) (e-len M e c) hw in
-      let rP = split (Rule starts first E W) cP (walkCount P) (walk M P p dP cP) tail (w-len M P p dP cP) (re .1 .1 .1) in
-      let rQ = split (Rule starts first E W) (cP + walkCount P) (walkCount Q) (walk M Q (p + 1) (dP + delayCount P) (cP + walkCount P)) (cell 35 0 f g ∷ []) (w-len M Q (p + 1) (dP + delayCount P) (cP + walkCount P)) (rP .1) in
+      let tail = walk M F Q (p + 1) (dP + delayCount P) (cP + walkCount P) ++ (cell 35 0 f g ∷ []) in
+      let re = split (Rule starts first E W) c (exprCount e) (exprCells M e c) (o6 ∷ (o7 ∷ (walk M F P p dP cP ++ tail))) (e-len M e c) hw in
+      let rP = split (Rule starts first E W) cP (walkCount P) (walk M F P p dP cP) tail (w-len M F P p dP cP) (re .1 .1 .1) in
+      let rQ = split (Rule starts first E W) (cP + walkCount P) (walkCount Q) (walk M F Q (p + 1) (dP + delayCount P) (cP + walkCount P)) (cell 35 0 f g ∷ []) (w-len M F Q (p + 1) (dP + delayCount P) (cP + walkCount P)) (rP .1) in
       let D : (t : ℕ) → level W (ifPulse δ s d) t ≡ delayed δ (level W s) t = pulse-is δ s d (ro .0) in
       let shown : (t : ℕ) → W (exprWire M e c) t ≡ eval e (m t) = expr e (w .1) c (re .0) in
       record {
         s₁ = level W p;
         f₁ = level W f;
-        g₁ = givesOf W (clockSources P dP) (dataSources P cP) (addressSources P cP) (exitWires P p dP cP);
+        g₁ = givesAt W P p dP cP;
         s₂ = level W (p + 1);
         f₂ = level W g;
-        g₂ = givesOf W (clockSources Q (dP + delayCount P)) (dataSources Q (cP + walkCount P)) (addressSources Q (cP + walkCount P))
-            (exitWires Q (p + 1) (dP + delayCount P) (cP + walkCount P));
-        left = struct P (w .2) p dP cP (rd .0) (rP .0);
-        right = struct Q (w .3) (p + 1) (dP + delayCount P) (cP + walkCount P) (rd .1) (rQ .0);
+        g₂ = givesAt W Q (p + 1) (dP + delayCount P) (cP + walkCount P);
+        left = struct P (w .2) (z .2) p dP cP (rd .0) (rP .0);
+        right = struct Q (w .3) (z .3) (p + 1) (dP + delayCount P) (cP + walkCount P) (rd .1) (rQ .0);
         joined = joined W (clockSources P dP) (clockSources Q (dP + delayCount P)) (dataSources P cP) (dataSources Q (cP + walkCount P))
-            (addressSources P cP) (addressSources Q (cP + walkCount P)) (exitWires P p dP cP)
+            (addressSources P cP) (addressSources Q (cP + walkCount P)) (callSources P dP) (callSources Q (dP + delayCount P))
+            (exitWires P p dP cP)
             (exitWires Q (p + 1) (dP + delayCount P) (cP + walkCount P));
         yes₁ = λ t. yes-is p (ifPulse δ s d) (exprWire M e c) t (re .1 .0 t) (D t) (shown t);
         no₂ = λ t. no-is (p + 1) (ifPulse δ s d) (exprWire M e c) t (re .1 .1 .0 t) (D t) (shown t);
         fin = λ t. level-of (level W f t || level W g t) (rQ .1 .0 t);
       }
-  struct (while δ e P) w s d c hd hw =
+  struct (while δ e P) w z s d c hd hw =
       let p = c + exprCount e in
       let cP = p + 1 + 1 in
       let f = finishWire P p (d + 1) cP in
       let re = split (Rule starts first E W) c (exprCount e) (exprCells M e c) _ (e-len M e c) hw in
-      let rP = split (Rule starts first E W) cP (walkCount P) (walk M P p (d + 1) cP) (cell 35 0 s f ∷ []) (w-len M P p (d + 1) cP) (re .1 .1 .1) in
+      let rP = split (Rule starts first E W) cP (walkCount P) (walk M F P p (d + 1) cP) (cell 35 0 s f ∷ []) (w-len M F P p (d + 1) cP) (re .1 .1 .1) in
       let D : (t : ℕ) → level W d t ≡ delayed δ (λ u. level W s u || level W f u) t =
       λ t. level-of (delayed δ (level W (cP + walkCount P)) t) (hd .0 t) ∙ delayed-cong δ (λ u. level-of (level W s u || level W f u) (rP .1 .0 u)) t in
       let shown : (t : ℕ) → W (exprWire M e c) t ≡ eval e (m t) = expr e (w .1) c (re .0) in
       record {
         s₁ = level W p;
         f₁ = level W f;
-        body = struct P (w .2) p (d + 1) cP (hd .1) (rP .0);
+        body = struct P (w .2) (z .2) p (d + 1) cP (hd .1) (rP .0);
         begin = λ t. yes-is p d (exprWire M e c) t (re .1 .0 t) (D t) (shown t);
         fin = λ t. no-is (p + 1) d (exprWire M e c) t (re .1 .1 .0 t) (D t) (shown t);
       }
-  struct (repeat δ e P) w s d c hd hw =
+  struct (repeat δ e P) w z s d c hd hw =
       let p = c + exprCount e in
       let cP = p + 1 + 1 + 1 in
       let f = finishWire P (p + 1 + 1) (d + 1) cP in
@@ -226,19 +230,19 @@ module _ (starts : Sig) (first : ℕ → ℕ) (E : Elements) (W : Values) (M : �
       record {
         s₁ = level W (p + 1 + 1);
         f₁ = level W f;
-        body = struct P (w .2) (p + 1 + 1) (d + 1) cP (hd .1) (re .1 .1 .1 .1);
+        body = struct P (w .2) (z .2) (p + 1 + 1) (d + 1) cP (hd .1) (re .1 .1 .1 .1);
         begin = λ t. level-of (level W s t || level W (p + 1) t) (re .1 .1 .1 .0 t) ∙ ap (λ (b : Bool). level W s t || b) (no-is (p + 1) d (exprWire M e c) t (re .1 .1 .0 t) (D t) (shown t));
         fin = λ t. yes-is p d (exprWire M e c) t (re .1 .0 t) (D t) (shown t);
       }
-  struct (loop δ P) w s d c hd hw =
+  struct (loop δ P) w z s d c hd hw =
       let f = finishWire P c (d + 1) (c + 1) in
-      let r = split (Rule starts first E W) (c + 1) (walkCount P) (walk M P c (d + 1) (c + 1)) (ors 35 (exitsAt P c) (loopExits P d c)) (w-len M P c (d + 1) (c + 1)) (hw .1) in
+      let r = split (Rule starts first E W) (c + 1) (walkCount P) (walk M F P c (d + 1) (c + 1)) (ors 35 (exitsAt P c) (loopExits P d c)) (w-len M F P c (d + 1) (c + 1)) (hw .1) in
       let D : (t : ℕ) → level W d t ≡ delayed δ (level W f) t = λ t. level-of (delayed δ (level W f) t) (hd .0 t) in
       record {
         s₁ = level W c;
         f₁ = level W f;
-        g₁ = givesOf W (clockSources P (d + 1)) (dataSources P (c + 1)) (addressSources P (c + 1)) (loopExits P d c);
-        body = struct P (w .1) c (d + 1) (c + 1) (hd .1) (r .0);
+        g₁ = givesAt W P c (d + 1) (c + 1);
+        body = struct P (w .1) (z .1) c (d + 1) (c + 1) (hd .1) (r .0);
         begin = λ t. level-of (level W s t || level W d t) (hw .0 t) ∙ ap (λ (b : Bool). level W s t || b) (D t);
         fin = ors-level starts first E W ground (exitsAt P c) (loopExits P d c) (r .1);
         clocks = λ y t. refl;
@@ -247,7 +251,7 @@ module _ (starts : Sig) (first : ℕ → ℕ) (E : Elements) (W : Values) (M : �
         called = λ q t. refl;
         out = λ t. refl;
       }
-  struct exit w s d c hd hw =
+  struct exit w z s d c hd hw =
       record {
         fin = ground;
         clocks = λ y t. refl;
@@ -255,4 +259,18 @@ module _ (starts : Sig) (first : ℕ → ℕ) (E : Elements) (W : Values) (M : �
         addresses = λ y t. refl;
         called = λ q t. refl;
         out = λ t. ||-false (level W s t);
+      }
+  struct (call δ p) w z s d c hd hw =
+      let D : level W d ≡ delayed δ (level W s) = λ i t. level-of (delayed δ (level W s) t) (hd .0 t) i in
+      let B : level W (F p) ≡ ret p = λ i t. fin p t (z .1) i in
+      record {
+        fin = λ t.
+            level-of (merged returnStep (level W d) (level W (F p)) t) (hw .0 t)
+            ∙ ap₂ (λ (x y : Sig). merged returnStep x y t) D B
+            ∙ sym (returned-one (delayed δ (level W s)) (ret p) t);
+        clocks = λ y t. refl;
+        words = λ y t. refl;
+        addresses = λ y t. refl;
+        called = λ q t. own-clock p d q t ∙ ap (λ (x : Sig). pick (eqb q p) (x t) false) D;
+        out = λ t. refl;
       }

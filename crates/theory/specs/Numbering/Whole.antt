@@ -1,20 +1,21 @@
 -- The structure theorem: the published netlist of a program is a circuit of the program, with its words and its start pulses.
-use mathlib.Core.Path.{_≡_, refl, sym, ap, ap₂, _∙_}
+use mathlib.Core.Path.{_≡_, refl, sym, ap, ap₂, subst, _∙_}
 use mathlib.Core.Bool.{Bool, true, false, _&&_, not}
 use mathlib.Core.List.{List, [], _∷_, _++_}
 use Prim.Native.Nat.{ℕ, zero, suc, _+_, _-_, _*_, _/_, _%_, _<_, _≤_}
 use native.Mathlib.Nat.{not-suc-le-zero, add-zero, le-of-suc-le-suc}
 use native.Mathlib.Omega.{arith}
 use lib.Dec.{eqb, ltb, eqb→eq}
-use lib.ListN.{getD, take}
+use lib.ListN.{length, getD, take, List·getD-eq-default}
 use lib.Seq.{take-append-add}
-use borrow.Author.Tests.{lt-ltb, le-ltb}
+use borrow.Author.Tests.{eq-eqb, ne-eqb, lt-ltb, le-ltb}
 use Rattle.model.specs.declared.Cell.{Cell}
 use Rattle.model.specs.Word.{pick, bit, index, elementWord}
-use Rattle.model.specs.Program.{Stmt, ok, tick, assign, assignElem, seq, par, ite, while, repeat, loop, exit, arrayVar}
+use Rattle.model.specs.Program.{Code, Program, roots, ok, tick, assign, assignElem, seq, par, ite, while, repeat, loop, exit, call, arrayVar}
+use Rattle.model.specs.Procedures.{bodyAt}
 use Rattle.model.specs.Circuit.{cell, Sig, Values, Elements, level, memory, element, memories, startWord, Obeys}
-use Rattle.model.specs.Numbering.{arrayCell, ifDelayCount, delayCount, clockSources, dataSources, addressSources, Source, wiresOf}
-use Rattle.model.specs.Numbering.{exitWires, ors, orCount, orsFrom, outsFrom, memoriesOf, netlist, finish}
+use Rattle.model.specs.Numbering.{arrayCell, ifDelayCount, delayCount, clockSources, Source, wiresOf}
+use Rattle.model.specs.Numbering.{finishWire, delays, walk, ors, orsOut, orCount, orsFrom, outsFrom, memoriesOf, rootStart, rootWalk, rootSources, callsOf, clocksOf, dataOf, addressesOf, procedures, finishOfRoot, netlist, finish}
 use Rattle.model.specs.Numbering.{clockAt, memoryAt, walkAt, dataAt, addressAt, clockWires, dataWires, addressWires}
 use Rattle.laws.specs.Refusals.Laws.{is-false, by-le}
 use Rattle.laws.specs.Rules.Words.{owner-variable, owner-later}
@@ -23,9 +24,14 @@ use Rattle.laws.specs.Numbering.Memories.{memories-append}
 use Rattle.laws.specs.Numbering.Lengths.{ors-len}
 use Rattle.laws.specs.Numbering.Parts.{fromArrays, fromMemories, Laid, lay}
 use Rattle.laws.specs.Numbering.Arrays.{array-cells, below, parts, below-len, below-free}
-use Rattle.laws.specs.Program.Fit.{Formed}
-use Rattle.theory.specs.Control.Wiring.{Gives, ideal, hits, latch, Latches, Circuit, Mem}
-use Rattle.theory.specs.Numbering.Levels.{level-of, anyHigh, clkOf, datOf, givesOf, wires-append}
+use Rattle.laws.specs.Program.Fit.{Formed, Earlier, EveryRoot}
+use Rattle.laws.specs.Program.Enclosed.{rootAt}
+use Rattle.laws.specs.Program.Size.{every-root}
+use Rattle.laws.specs.Program.Admitted.{Admitted, earlier-all, each-root, at-body, at-main, root-count}
+use Rattle.theory.specs.Control.Wiring.{ground, Gives, ideal, hits, latch, Latches, Circuit, Mem}
+use Rattle.theory.specs.Control.Standing.{Signals}
+use Rattle.theory.specs.Numbering.Levels.{level-of, anyHigh, clkOf, datOf, givesAt, wires-append}
+use Rattle.theory.specs.Numbering.Roots.{AtRoot, delaysAt, joinsAt, roots-apart, finish-at, never-called}
 use Rattle.theory.specs.Numbering.Ors.{ors-level, ors-word}
 use Rattle.theory.specs.Numbering.Structure.{struct}
 
@@ -75,14 +81,14 @@ mems-count ks ds x n rest zero l = refl
 mems-count ks ds x zero rest (suc i) l = absurd (omega arith)
 mems-count ks ds x (suc n) rest (suc i) l = rw (mems-count ks ds (x + 1) n rest i (le-of-suc-le-suc l)) (omega arith)
 
-pub start-words : (P : Stmt) (words : ℕ → ℕ) (x : ℕ) → x < 16 → startWord (netlist P) words (memoryAt P + x) ≡ words x
-start-words P words x l =
+pub start-words : (S : Program) (words : ℕ → ℕ) (x : ℕ) → x < 16 → startWord (netlist S) words (memoryAt S + x) ≡ words x
+start-words S words x l =
     ap words
-    (ap (λ (net : List Cell). memories (take (memoryAt P + x) net)) (parts P)
-    ∙ ap (λ (k : ℕ). memories (take (k + x) (below P ++ fromMemories P))) (sym (below-len P))
-    ∙ ap memories (take-append-add (below P) (fromMemories P) x)
-    ∙ memories-append (below P) (take x (fromMemories P))
-    ∙ ap₂ (λ (a b : ℕ). a + b) (below-free P) (mems-count (clockWires P) (dataWires P) 0 16 (fromArrays P) x (omega arith))
+    (ap (λ (net : List Cell). memories (take (memoryAt S + x) net)) (parts S)
+    ∙ ap (λ (k : ℕ). memories (take (k + x) (below S ++ fromMemories S))) (sym (below-len S))
+    ∙ ap memories (take-append-add (below S) (fromMemories S) x)
+    ∙ memories-append (below S) (take x (fromMemories S))
+    ∙ ap₂ (λ (a b : ℕ). a + b) (below-free S) (mems-count (clockWires S) (dataWires S) 0 16 (fromArrays S) x (omega arith))
     ∙ omega arith)
 
 -- ---- from 20 on nothing is assigned
@@ -91,7 +97,7 @@ single : (x y g : ℕ) → x < 20 → 20 ≤ y → wiresOf y ((x, g) ∷ []) ≡
 unfolding wiresOf
 single x y g l h = rw (is-false (eqb x y) (λ z. let e : x ≡ y = eqb→eq x y z in omega arith))
 
-no-clocks : (P : Stmt) → Formed P → (y d : ℕ) → 20 ≤ y → wiresOf y (clockSources P d) ≡ []
+no-clocks : (P : Code) → Formed P → (y d : ℕ) → 20 ≤ y → wiresOf y (clockSources P d) ≡ []
 unfolding clockSources
 no-clocks ok w y d h = unfold wiresOf in refl
 no-clocks (tick δ) w y d h = unfold wiresOf in refl
@@ -104,41 +110,36 @@ no-clocks (while δ e P) w y d h = no-clocks P (w .2) y (d + 1) h
 no-clocks (repeat δ e P) w y d h = no-clocks P (w .2) y (d + 1) h
 no-clocks (loop δ P) w y d h = no-clocks P (w .1) y (d + 1) h
 no-clocks exit w y d h = unfold wiresOf in refl
+no-clocks (call δ p) w y d h = unfold wiresOf in refl
+
+no-root-clocks : (r : ℕ) (Ps : List Code) → EveryRoot (λ r P. Formed P) r Ps → (y d : ℕ) → 20 ≤ y → wiresOf y (rootSources clockSources Ps d) ≡ []
+unfolding rootSources
+no-root-clocks r [] w y d h = unfold wiresOf in refl
+no-root-clocks r (P ∷ Ps) w y d h = simp (wires-append, no-clocks P (w .0) y d h, no-root-clocks (r + 1) Ps (w .1) y (d + delayCount P) h)
 
 -- ---- the theorem
 
 -- the words of the variables, which the memories show, and of the arrays; the words past these never change
-abbrev pub showing : Stmt → (ℕ → ℕ) → Values → ℕ → ℕ → ℕ
-showing P words W t x =
-    pick (ltb x 16) (W (memoryAt P + x) t)
-    (pick (ltb x 272) (element (netlist P) words W (arrayCell (memoryAt P) ((x - 16) / 64)) ((x - 16) % 64) t) (words x))
+abbrev pub showing : Program → (ℕ → ℕ) → Values → ℕ → ℕ → ℕ
+showing S words W t x =
+    pick (ltb x 16) (W (memoryAt S + x) t)
+    (pick (ltb x 272) (element (netlist S) words W (arrayCell (memoryAt S) ((x - 16) / 64)) ((x - 16) % 64) t) (words x))
 
-module _ (P : Stmt) (words : ℕ → ℕ) (W : Values) where
-  pub shows : (x t : ℕ) → x < 16 → showing P words W t x ≡ W (memoryAt P + x) t
+module _ (S : Program) (words : ℕ → ℕ) (W : Values) where
+  pub shows : (x t : ℕ) → x < 16 → showing S words W t x ≡ W (memoryAt S + x) t
   shows x t l = rw (lt-ltb x 16 l)
 
   pub shows-array : (x t : ℕ) → 16 ≤ x → x < 272
-      → showing P words W t x ≡ element (netlist P) words W (arrayCell (memoryAt P) ((x - 16) / 64)) ((x - 16) % 64) t
+      → showing S words W t x ≡ element (netlist S) words W (arrayCell (memoryAt S) ((x - 16) / 64)) ((x - 16) % 64) t
   shows-array x t l h = rw (le-ltb x 16 l, lt-ltb x 272 h)
 
-  pub shows-element : (k w t : ℕ) → k < 4 → showing P words W t (elementWord k w) ≡ element (netlist P) words W (arrayCell (memoryAt P) k) (index w) t
+  pub shows-element : (k w t : ℕ) → k < 4 → showing S words W t (elementWord k w) ≡ element (netlist S) words W (arrayCell (memoryAt S) k) (index w) t
   unfolding elementWord
   shows-element k w t l =
       let p : (16 + (64 * k + index w) - 16) / 64 ≡ k = omega arith in
       let q : (16 + (64 * k + index w) - 16) % 64 ≡ index w = omega arith in
       shows-array (16 + (64 * k + index w)) t (omega arith) (omega arith)
-      ∙ ap₂ (λ (a b : ℕ). element (netlist P) words W (arrayCell (memoryAt P) a) b t) p q
-
--- what the program gives to each variable and array, and by its exits
-abbrev pub givenBy : Stmt → Values → Gives
-givenBy P W = givesOf W (clockSources P 3) (dataSources P (walkAt P)) (addressSources P (walkAt P)) (exitWires P 0 3 (walkAt P))
-
--- a program's circuit: the start pulses, the control, the words and their start words
-pub record Built (P : Stmt) (starts : Sig) (words : ℕ → ℕ) (W : Values) : Type 0 where
-  pub start : (t : ℕ) → level W 0 t ≡ starts t
-  pub circuit : Circuit 1 (ideal (showing P words W)) P (level W 0) (level W (finish P)) (givenBy P W)
-  pub memory : Mem (showing P words W) (givenBy P W)
-  pub begin : (x : ℕ) → showing P words W 0 x ≡ words x
+      ∙ ap₂ (λ (a b : ℕ). element (netlist S) words W (arrayCell (memoryAt S) a) b t) p q
 
 latch-hit : (p q : Bool) (v w : ℕ) → latch p q true v w ≡ pick (p && not q) v w
 unfolding latch
@@ -146,16 +147,16 @@ latch-hit true true v w = refl
 latch-hit true false v w = refl
 latch-hit false q v w = refl
 
-module _ (P : Stmt) (w : Formed P) (starts : Sig) (words : ℕ → ℕ) (W : Values) (h : Obeys (netlist P) starts words W) where
+module _ (S : Program) (A : Admitted S) (starts : Sig) (words : ℕ → ℕ) (W : Values) (h : Obeys (netlist S) starts words W) where
   pub first : ℕ → ℕ
-  first k = startWord (netlist P) words k
+  first k = startWord (netlist S) words k
 
   unfoldable pub E : Elements
-  E = element (netlist P) words W
+  E = element (netlist S) words W
 
-  pub laid : Laid (Rule starts first E W) P
+  pub laid : Laid (Rule starts first E W) S
   unfolding first E
-  laid = lay (Rule starts first E W) P (obeys-holds (netlist P) starts words W h)
+  laid = lay (Rule starts first E W) S (obeys-holds (netlist S) starts words W h)
 
   pub start-is : (t : ℕ) → level W 0 t ≡ starts t
   unfolding cellVal
@@ -170,56 +171,169 @@ module _ (P : Stmt) (w : Formed P) (starts : Sig) (words : ℕ → ℕ) (W : Val
   zero-is t = laid .at-zero t
 
   -- the clock wire, data wire and address wire of each variable and array
-  pub clock-wire : (x : ℕ) → x < 20 → (t : ℕ) → level W (getD (clockWires P) x 0) t ≡ clkOf W (clockSources P 3) x t
+  pub clock-wire : (x : ℕ) → x < 20 → (t : ℕ) → level W (getD (clockWires S) x 0) t ≡ clkOf W (clocksOf S) x t
   clock-wire x l t =
       let z : 0 + x ≡ x = omega arith in
-      rw z at (outs-level starts first E W ground-is (clockSources P 3) (clockAt P) 0 20 (laid .at-clocks) x l t)
+      rw z at (outs-level starts first E W ground-is (clocksOf S) (clockAt S) 0 20 (laid .at-clocks) x l t)
 
-  pub data-wire : (x : ℕ) → x < 20 → (t : ℕ) → W (getD (dataWires P) x 0) t ≡ datOf W (dataSources P (walkAt P)) x t
+  pub data-wire : (x : ℕ) → x < 20 → (t : ℕ) → W (getD (dataWires S) x 0) t ≡ datOf W (dataOf S) x t
   data-wire x l t =
       let z : 0 + x ≡ x = omega arith in
-      rw z at (outs-word starts first E W zero-is (dataSources P (walkAt P)) (dataAt P) 0 20 (laid .at-datas) x l t)
+      rw z at (outs-word starts first E W zero-is (dataOf S) (dataAt S) 0 20 (laid .at-datas) x l t)
 
-  pub address-wire : (k : ℕ) → k < 4 → (t : ℕ) → W (getD (addressWires P) k 0) t ≡ datOf W (addressSources P (walkAt P)) (arrayVar k) t
-  address-wire k l t = outs-word starts first E W zero-is (addressSources P (walkAt P)) (addressAt P) 16 4 (laid .at-addresses) k l t
+  pub address-wire : (k : ℕ) → k < 4 → (t : ℕ) → W (getD (addressWires S) k 0) t ≡ datOf W (addressesOf S) (arrayVar k) t
+  address-wire k l t = outs-word starts first E W zero-is (addressesOf S) (addressAt S) 16 4 (laid .at-addresses) k l t
 
   mem-is : (x : ℕ) → x < 16 → (t : ℕ)
-      → W (memoryAt P + x) t ≡ memory (first (memoryAt P + x)) W (memoryAt P + x) (cell 40 0 (getD (clockWires P) x 0) (getD (dataWires P) x 0)) t
+      → W (memoryAt S + x) t ≡ memory (first (memoryAt S + x)) W (memoryAt S + x) (cell 40 0 (getD (clockWires S) x 0) (getD (dataWires S) x 0)) t
   mem-is x l t =
       let z : 0 + x ≡ x = omega arith in
-      rw z at (mem-at starts first E W (clockWires P) (dataWires P) 0 16 (memoryAt P) (laid .at-mems) x l t)
+      rw z at (mem-at starts first E W (clockWires S) (dataWires S) 0 16 (memoryAt S) (laid .at-mems) x l t)
 
-  unfoldable pub circuit-is : Circuit 1 (ideal (showing P words W)) P (level W 0) (level W (finish P)) (givenBy P W)
-  unfolding finish E
-  circuit-is =
-      struct starts first E W (memoryAt P) (showing P words W) (shows P words W) (shows-element P words W) ground-is P w 0 3 (walkAt P) (laid .at-delays) (laid .at-walk)
+  -- Where each root stands: its callers' 35s, its delays, its walk and its start ----------------------------------------------------------
+
+  abbrev pub n : ℕ
+  n = procedures S
+
+  abbrev pub joinsOf : ℕ → ℕ
+  joinsOf q = joinsAt (callsOf S) 0 (roots S) (walkAt S) q
+
+  abbrev pub delaysOf : ℕ → ℕ
+  delaysOf q = delaysAt (roots S) 3 q
+
+  abbrev pub walkOf : ℕ → ℕ
+  walkOf q = rootWalk (callsOf S) q (joinsOf q)
+
+  abbrev pub startOf : ℕ → ℕ
+  startOf q = rootStart n (callsOf S) q (joinsOf q)
+
+  abbrev pub Stands : (ℕ → Cell → Type 0) → ℕ → Code → Type 0
+  Stands R q P = AtRoot R (memoryAt S) (finishOfRoot S) n (callsOf S) q P (delaysOf q) (joinsOf q)
+
+  at-root : (q : ℕ) → q < length (roots S) → Stands (Rule starts first E W) q (rootAt S q)
+  at-root q l =
+      let z : 0 + q ≡ q = omega arith in
+      rw z at
+      (roots-apart (Rule starts first E W) (memoryAt S) (finishOfRoot S) n (callsOf S) 0 (roots S) 3 (walkAt S) (laid .at-delays) (laid .at-walk) q l)
+
+  pub at-body-root : (q : ℕ) → q < n → Stands (Rule starts first E W) q (bodyAt (S .bodies) q)
+  at-body-root q l = at-body S (Stands (Rule starts first E W)) q l (at-root q (omega (arith, root-count S)))
+
+  pub at-main-root : Stands (Rule starts first E W) n (S .main)
+  at-main-root = at-main S (Stands (Rule starts first E W)) (at-root n (omega (arith, root-count S)))
+
+  -- a body that there is not has no cells
+  pub body-delays : (q : ℕ) → Obeyed starts first E W (delaysOf q) (delays (bodyAt (S .bodies) q) (startOf q) (delaysOf q) (walkOf q))
+  unfolding delays
+  body-delays q =
+      by-le n q
+      (λ l.
+      subst (λ (P : Code). Obeyed starts first E W (delaysOf q) (delays P (startOf q) (delaysOf q) (walkOf q)))
+      (sym (List·getD-eq-default (S .bodies) ok l)) tt)
+      (λ l. at-body-root q l .delays)
+
+  pub body-walk : (q : ℕ)
+      → Obeyed starts first E W (walkOf q) (walk (memoryAt S) (finishOfRoot S) (bodyAt (S .bodies) q) (startOf q) (delaysOf q) (walkOf q))
+  unfolding walk
+  body-walk q =
+      by-le n q
+      (λ l.
+      subst (λ (P : Code). Obeyed starts first E W (walkOf q) (walk (memoryAt S) (finishOfRoot S) P (startOf q) (delaysOf q) (walkOf q)))
+      (sym (List·getD-eq-default (S .bodies) ok l)) tt)
+      (λ l. at-body-root q l .walk)
+
+  -- its finish
+  abbrev pub finishWireOf : Code → ℕ → ℕ
+  finishWireOf P q = finishWire P (startOf q) (delaysOf q) (walkOf q)
+
+  finish-root : (q : ℕ) → q < length (roots S) → finishOfRoot S q ≡ finishWireOf (rootAt S q) q
+  unfolding finishOfRoot
+  finish-root q l =
+      let z : 0 + q ≡ q = omega arith in
+      rw z at (finish-at n (callsOf S) 0 (roots S) 3 (walkAt S) q l)
+
+  unfoldable pub ret : ℕ → Sig
+  ret q = level W (finishWireOf (bodyAt (S .bodies) q) q)
+
+  pub fin-is : (p t : ℕ) → p < n → level W (finishOfRoot S p) t ≡ ret p t
+  unfolding ret
+  fin-is p t l =
+      ap (λ (k : ℕ). level W k t) (at-body S (λ q P. finishOfRoot S q ≡ finishWireOf P q) p l (finish-root p (omega (arith, root-count S))))
+
+  pub finish-main : finish S ≡ finishWireOf (S .main) n
+  unfolding finish
+  finish-main = at-main S (λ q P. finishOfRoot S q ≡ finishWireOf P q) (finish-root n (omega (arith, root-count S)))
+
+  -- nobody calls the main program
+  main-uncalled : wiresOf n (callsOf S) ≡ []
+  main-uncalled =
+      never-called n (roots S) (each-root S (λ q P. Earlier n P) (λ q l. earlier-all S A q) (A .main .earlier)) 3
+
+  pub start-main : startOf n ≡ 0
+  unfolding orsOut
+  start-main = rw (main-uncalled, eq-eqb n n refl) refl
+
+  -- the start of a body is all that calls it
+  pub start-body : (q : ℕ) → q < n → (t : ℕ) → level W (startOf q) t ≡ clkOf W (callsOf S) q t
+  start-body q l t =
+      let z : eqb q n ≡ false = ne-eqb q n (λ e. omega arith) in
+      rw z (ors-level starts first E W ground-is (joinsOf q) (wiresOf q (callsOf S)) (at-body-root q l .joins) t)
+
+  -- The circuit --------------------------------------------------------------------------------------------------------------------------
+
+  -- what a root gives, and all that is given
+  abbrev pub givenBy : Code → ℕ → Gives
+  givenBy P q = givesAt W P (startOf q) (delaysOf q) (walkOf q)
+
+  abbrev pub given : Gives
+  given = record { clk = clkOf W (clocksOf S); dat = datOf W (dataOf S); adr = datOf W (addressesOf S); calls = λ q. level W (startOf q); out = ground }
+
+  abbrev pub body : ℕ → Code
+  body q = bodyAt (S .bodies) q
+
+  unfoldable pub body-is : (q : ℕ) → Circuit 1 (ideal (showing S words W)) ret (body q) (given .calls q) (ret q) (givenBy (body q) q)
+  unfolding E ret
+  body-is q =
+      struct starts first E W (memoryAt S) (showing S words W) (shows S words W) (shows-element S words W) ground-is (finishOfRoot S) ret n fin-is (body q)
+      (A .body q .fit .formed) (earlier-all S A q) (startOf q) (delaysOf q) (walkOf q) (body-delays q) (body-walk q)
+
+  unfoldable pub main-is : Circuit 1 (ideal (showing S words W)) ret (S .main) (level W (startOf n)) (level W (finishWireOf (S .main) n)) (givenBy (S .main) n)
+  unfolding E
+  main-is =
+      struct starts first E W (memoryAt S) (showing S words W) (shows S words W) (shows-element S words W) ground-is (finishOfRoot S) ret n fin-is (S .main)
+      (A .main .fit .formed) (A .main .earlier) (startOf n) (delaysOf n) (walkOf n) (at-main-root .delays) (at-main-root .walk)
 
   -- word x after instant t: of a variable, of an element, and of none
-  variable-is : (x t : ℕ) → x < 16 → Latches (showing P words W) (givenBy P W) x t
+  variable-is : (x t : ℕ) → x < 16 → Latches (showing S words W) given x t
   unfolding memory hits
   variable-is x t l =
       let y : x < 20 = omega arith in
       rw (owner-variable x l, lt-ltb x 16 l)
       (rw (clock-wire x y t, clock-wire x y (suc t), data-wire x y t) at (mem-is x l (suc t)) ∙ sym (latch-hit _ _ _ _))
 
-  element-is : (x t : ℕ) → 16 ≤ x → x < 272 → Latches (showing P words W) (givenBy P W) x t
+  element-is : (x t : ℕ) → 16 ≤ x → x < 272 → Latches (showing S words W) given x t
   unfolding element hits latch
   element-is x t l b =
       let k = (x - 16) / 64 in
       let low : k < 4 = omega arith in
       let y : arrayVar k < 20 = omega arith in
-      let c = array-cells P k low in
+      let c = array-cells S k low in
       rw (owner-later x l, le-ltb x 16 l, lt-ltb x 272 b, c .0, c .1, clock-wire (arrayVar k) y t, clock-wire (arrayVar k) y (suc t), data-wire (arrayVar k) y t, address-wire k low t)
 
-  other-is : (x t : ℕ) → 272 ≤ x → Latches (showing P words W) (givenBy P W) x t
-  unfolding latch anyHigh
-  other-is x t l = rw (owner-later x (omega arith), no-clocks P w (arrayVar ((x - 16) / 64)) 3 (omega arith), le-ltb x 16 (omega arith), le-ltb x 272 l)
+  every-formed : EveryRoot (λ r P. Formed P) 0 (roots S)
+  every-formed =
+      every-root (λ r P. Formed P) 0 (roots S)
+      (λ r l. each-root S (λ q P. Formed P) (λ q l. A .body q .fit .formed) (A .main .fit .formed) r l)
 
-  pub memory-is : Mem (showing P words W) (givenBy P W)
+  other-is : (x t : ℕ) → 272 ≤ x → Latches (showing S words W) given x t
+  unfolding latch anyHigh
+  other-is x t l = rw (owner-later x (omega arith), no-root-clocks 0 (roots S) every-formed (arrayVar ((x - 16) / 64)) 3 (omega arith), le-ltb x 16 (omega arith), le-ltb x 272 l)
+
+  pub memory-is : Mem (showing S words W) given
   unfolding Mem
   memory-is t x = by-le 16 x (λ l. by-le 272 x (other-is x t) (element-is x t l)) (variable-is x t)
 
-  pub begin-is : (x : ℕ) → showing P words W 0 x ≡ words x
+  pub begin-is : (x : ℕ) → showing S words W 0 x ≡ words x
   unfolding memory element first elementWord
   begin-is x =
       by-le 16 x
@@ -228,8 +342,16 @@ module _ (P : Stmt) (w : Formed P) (starts : Sig) (words : ℕ → ℕ) (W : Val
       let k = (x - 16) / 64 in
       let low : k < 4 = omega arith in
       let z : 16 + (64 * k + index ((x - 16) % 64)) ≡ x = omega arith in
-      shows-array P words W x 0 l b ∙ ap (λ (c : Cell). words (16 + (64 * c .delay + index ((x - 16) % 64)))) (array-cells P k low .0) ∙ ap words z))
-      (λ l. rw (lt-ltb x 16 l) (mem-is x l 0 ∙ start-words P words x l))
+      shows-array S words W x 0 l b ∙ ap (λ (c : Cell). words (16 + (64 * c .delay + index ((x - 16) % 64)))) (array-cells S k low .0) ∙ ap words z))
+      (λ l. rw (lt-ltb x 16 l) (mem-is x l 0 ∙ start-words S words x l))
 
-  unfoldable pub built : Built P starts words W
-  built = record { start = start-is; circuit = circuit-is; memory = memory-is; begin = begin-is }
+  abbrev pub signals : Signals S
+  signals =
+      record {
+        m = showing S words W;
+        all = given;
+        mem = memory-is;
+        ret = ret;
+        each = λ q. givenBy (body q) q;
+        built = body-is;
+      }

@@ -9,7 +9,7 @@ use lib.Dec.{eqb}
 use lib.ListN.{length}
 use Rattle.model.specs.declared.Cell.{Cell}
 use Rattle.model.specs.Word.{pick, bit}
-use Rattle.model.specs.Program.{Stmt}
+use Rattle.model.specs.Program.{Program}
 use Rattle.model.specs.Rules.{Store}
 use Rattle.model.specs.Circuit.{memoryWords, memories}
 use Rattle.model.specs.Numbering.{netlist, memoriesOf, memoryAt, clockWires, dataWires}
@@ -63,24 +63,24 @@ listed-further σ τ d x (suc n) h =
     (listed-further σ τ d (x + 1) n (λ y a b. h y (omega arith) (omega arith)) ∙ ap (λ (k : ℕ). listed τ k n) z)
 
 -- the sixteen words of a compiled netlist
-module _ (P : Stmt) (sixteen : memories (netlist P) ≡ 16) (v : ℕ → ℕ) where
-  rest-free : memories (fromArrays P) ≡ 0
+module _ (S : Program) (sixteen : memories (netlist S) ≡ 16) (v : ℕ → ℕ) where
+  rest-free : memories (fromArrays S) ≡ 0
   rest-free =
       omega (
         arith,
-        sym sixteen ∙ ap memories (parts P),
-        memories-append (below P) (fromMemories P),
-        below-free P,
-        memories-append (memoryCells P) (fromArrays P),
-        mems-all (clockWires P) (dataWires P) 0 16,
+        sym sixteen ∙ ap memories (parts S),
+        memories-append (below S) (fromMemories S),
+        below-free S,
+        memories-append (memoryCells S) (fromArrays S),
+        mems-all (clockWires S) (dataWires S) 0 16,
       )
 
-  pub memory-words : memoryWords (netlist P) 0 v ≡ listed (λ x. v (memoryAt P + x)) 0 16
+  pub memory-words : memoryWords (netlist S) 0 v ≡ listed (λ x. v (memoryAt S + x)) 0 16
   memory-words =
-      let e : 0 + length (below P) ≡ memoryAt P + 0 = omega (arith, below-len P) in
-      ap (λ (net : List Cell). memoryWords net 0 v) (parts P)
-      ∙ words-append v (below P) (fromMemories P) 0
-      ∙ rw (words-none v (below P) 0 (below-free P), e)
-      (words-append v (memoryCells P) (fromArrays P) (memoryAt P + 0)
-      ∙ rw (words-none v (fromArrays P) (memoryAt P + 0 + length (memoryCells P)) rest-free, words-mems v (memoryAt P) (clockWires P) (dataWires P) 0 16)
-      (append-nil (listed (λ y. v (memoryAt P + y)) 0 16)))
+      let e : 0 + length (below S) ≡ memoryAt S + 0 = omega (arith, below-len S) in
+      ap (λ (net : List Cell). memoryWords net 0 v) (parts S)
+      ∙ words-append v (below S) (fromMemories S) 0
+      ∙ rw (words-none v (below S) 0 (below-free S), e)
+      (words-append v (memoryCells S) (fromArrays S) (memoryAt S + 0)
+      ∙ rw (words-none v (fromArrays S) (memoryAt S + 0 + length (memoryCells S)) rest-free, words-mems v (memoryAt S) (clockWires S) (dataWires S) 0 16)
+      (append-nil (listed (λ y. v (memoryAt S + y)) 0 16)))

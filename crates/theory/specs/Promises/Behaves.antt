@@ -13,7 +13,8 @@ use Rattle.model.specs.declared.Outcome.{Outcome}
 use Rattle.model.specs.declared.Outcome.the-variants.{Ended, Open}
 use Rattle.model.specs.declared.Answer.{Answer}
 use Rattle.model.specs.Word.{index, elementWord}
-use Rattle.model.specs.Program.{Stmt}
+use Rattle.model.specs.Program.{Stmt, Program}
+use Rattle.model.specs.Procedures.{meaning}
 use Rattle.model.specs.Rules.{Store, Ends, atEnd, ended, run, due}
 use Rattle.model.specs.Circuit.{Sig, Values, level, element, arrayAt, Obeys, memoryWords}
 use Rattle.model.specs.Numbering.{netlist, arrayCell, memoryAt}
@@ -24,6 +25,7 @@ use Rattle.model.specs.CircuitPromises.{NoStart}
 use Rattle.model.specs.RunPromises.{Call, Stand, Runs, runAt, dueAt, ShowsWords, HasWords, Behaves, Tells}
 use Rattle.laws.specs.Refusals.Laws.{by-bool, not-refused}
 use Rattle.laws.specs.Program.Fit.{Timed}
+use Rattle.laws.specs.Program.Admitted.{meaning-timed, meaning-closed}
 use Rattle.laws.specs.Rules.Laws.{by-runs, steady}
 use Rattle.laws.specs.Rules.Uses.{never-leaves}
 use Rattle.laws.specs.Numbering.Parts.{net-length}
@@ -66,7 +68,10 @@ never-due P τ h t = by-bool (due P τ t) (λ e. let g = due-ends P τ t e in ab
 -- The circuit with its start pulses -----------------------------------------------------------------------------------------------------
 
 -- with any values that obey its equations
-module _ (P : Stmt) (file : List ℕ) (X : OfProgram P file) (starts : Sig) (σ : Store) (W : Values) (o : Obeys (cellsOf file) starts σ W) where
+module _ (S : Program) (file : List ℕ) (X : OfProgram S file) (starts : Sig) (σ : Store) (W : Values) (o : Obeys (cellsOf file) starts σ W) where
+  abbrev P : Stmt
+  P = meaning S
+
   abbrev F : ℕ
   F = finishOf file
 
@@ -77,29 +82,29 @@ module _ (P : Stmt) (file : List ℕ) (X : OfProgram P file) (starts : Sig) (σ 
   rules τ k = run k P τ
 
   -- what the circuit has as its words, memories and arrays have, and a state shows
-  module _ (t : ℕ) (τ : Store) (word : (x : ℕ) → showing P σ W t x ≡ τ x) where
+  module _ (t : ℕ) (τ : Store) (word : (x : ℕ) → showing S σ W t x ≡ τ x) where
     has-words : HasWords net σ W t τ
     has-words =
         record {
-          memories = ap (λ (net : List Cell). memoryWords net 0 (λ k. W k t)) (X .cells-are) ∙ memory-words P (X .sixteen) (λ k. W k t)
-              ∙ listed-same (λ x. W (memoryAt P + x) t) τ 0 16
-              (λ y a b. shown-word P (X .fit) (X .inside) starts σ W (published P file X starts σ W o) t τ word y (omega arith));
+          memories = ap (λ (net : List Cell). memoryWords net 0 (λ k. W k t)) (X .cells-are) ∙ memory-words S (X .sixteen) (λ k. W k t)
+              ∙ listed-same (λ x. W (memoryAt S + x) t) τ 0 16
+              (λ y a b. shown-word S (X .admitted) starts σ W (published S file X starts σ W o) t τ word y (omega arith));
           elements = λ k i a b.
               let r : index i ≡ i = omega arith in
-              let m : arrayAt net k ≡ arrayCell (memoryAt P) k = ap (λ (net : List Cell). arrayAt net k) (X .cells-are) ∙ ap (λ (j : ℕ). j + 2 * k) (past-is P) in
+              let m : arrayAt net k ≡ arrayCell (memoryAt S) k = ap (λ (net : List Cell). arrayAt net k) (X .cells-are) ∙ ap (λ (j : ℕ). j + 2 * k) (past-is S) in
               ap₂ (λ (net : List Cell) (j : ℕ). element net σ W j i t) (X .cells-are) m
-              ∙ ap (λ (w : ℕ). element (netlist P) σ W (arrayCell (memoryAt P) k) w t) (sym r)
-              ∙ shown-element P (X .fit) (X .inside) starts σ W (published P file X starts σ W o) t τ word k i a;
+              ∙ ap (λ (w : ℕ). element (netlist S) σ W (arrayCell (memoryAt S) k) w t) (sym r)
+              ∙ shown-element S (X .admitted) starts σ W (published S file X starts σ W o) t τ word k i a;
         }
 
     pub shows-words : (s : List ℕ) → Holding net σ W t s → ShowsWords file s τ
     unfolding elementWord
     shows-words s H = (
-      ap (λ (net : List Cell). wordsIn net 0 s) (X .cells-are) ∙ memory-words P (X .sixteen) (nowAt s)
-          ∙ listed-same (λ x. nowAt s (memoryAt P + x)) τ 0 16
+      ap (λ (net : List Cell). wordsIn net 0 s) (X .cells-are) ∙ memory-words S (X .sixteen) (nowAt s)
+          ∙ listed-same (λ x. nowAt s (memoryAt S + x)) τ 0 16
           (λ y a b.
-          H .body .present (memoryAt P + y) (rw (X .cells-are) (omega (arith, net-length P)))
-          ∙ shown-word P (X .fit) (X .inside) starts σ W (published P file X starts σ W o) t τ word y (omega arith)),
+          H .body .present (memoryAt S + y) (rw (X .cells-are) (omega (arith, net-length S)))
+          ∙ shown-word S (X .admitted) starts σ W (published S file X starts σ W o) t τ word y (omega arith)),
       listed-further (elementNow net s) τ 16 0 256
           (λ y a b.
           let k = y / 64 in
@@ -112,18 +117,18 @@ module _ (P : Stmt) (file : List ℕ) (X : OfProgram P file) (starts : Sig) (σ 
     )
 
   abbrev pub Stood : Stand → List Call → Type 0
-  Stood = Now P file X starts σ W o
+  Stood = Now S file X starts σ W o
 
   -- where the list stands
   module _ (st : Stand) (cs : List Call) (N : Stood st cs) where
     pub due-by : (t : ℕ) → st .begun ≤ t → NoStart starts (st .begun) t → level W F t ≡ dueAt rules st t
-    due-by = due-at P file X starts σ W o st cs N
+    due-by = due-at S file X starts σ W o st cs N
 
     pub lasting : (t₀ : ℕ) (σ′ : Store) → Ends P (st .from) t₀ σ′ → (t : ℕ) → st .begun + t₀ ≤ t → NoStart starts (st .begun) t
-        → (x : ℕ) → showing P σ W t x ≡ σ′ x
+        → (x : ℕ) → showing S σ W t x ≡ σ′ x
     lasting t₀ σ′ E t l none =
-        last-words P (X .fit) (X .inside) starts σ W (published P file X starts σ W o) (st .from) (st .begun) t (N .began) (omega arith) none t₀ σ′
-        (at-end P (X .fit .timed) (st .from) t₀ σ′ E) l
+        last-words S (X .admitted) starts σ W (published S file X starts σ W o) (st .from) (st .begun) t (N .began) (omega arith) none t₀ σ′
+        (at-end P (meaning-timed S (X .admitted)) (st .from) t₀ σ′ E) l
 
     never : ((t₀ : ℕ) (σ′ : Store) → Ends P (st .from) t₀ σ′ → ⊥) → (t : ℕ) → st .begun ≤ t → level W F t ≡ false
     unfolding dueAt due
@@ -147,13 +152,13 @@ module _ (P : Stmt) (file : List ℕ) (X : OfProgram P file) (starts : Sig) (σ 
       (λ z.
           by-runs (runAt rules st (st .now))
           (λ t₀ σ′ p.
-          let d = decides P (X .fit .timed) (st .from) (st .now - st .begun) t₀ σ′ .0 p in
+          let d = decides P (meaning-timed S (X .admitted)) (st .from) (st .now - st .begun) t₀ σ′ .0 p in
           (t₀, σ′, d .1, omega (arith, d .0, N .given .since)))
-          (λ t₀ σ′ p. never-leaves P (X .whole) (st .now - st .begun) t₀ (st .from) σ′ p)
-          (λ p. absurd (number-still P file X starts σ W o st cs N s H p z))),
+          (λ t₀ σ′ p. never-leaves P (meaning-closed S (X .admitted)) (st .now - st .begun) t₀ (st .from) σ′ p)
+          (λ p. absurd (number-still S file X starts σ W o st cs N s H p z))),
       (λ h.
-          number-ended P file X starts σ W o st cs N s H (h .0) (h .1)
-          (at-end P (X .fit .timed) (st .from) (h .0) (h .1) (h .2)) (h .3)),
+          number-ended S file X starts σ W o st cs N s H (h .0) (h .1)
+          (at-end P (meaning-timed S (X .admitted)) (st .from) (h .0) (h .1) (h .2)) (h .3)),
     )
 
     words-now : (t₀ : ℕ) (σ′ : Store) → Ends P (st .from) t₀ σ′ → st .begun + t₀ ≤ st .now → (s : List ℕ) → Holding net σ W (st .now) s → ShowsWords file s σ′

@@ -18,9 +18,10 @@ use Rattle.model.specs.declared.Answer.{Answer}
 use Rattle.model.specs.Word.{get16, get32, Bytes}
 use Rattle.model.specs.Refusals.{first, refuse}
 use Rattle.model.specs.Program.{programOf}
+use Rattle.model.specs.ProgramChecks.{programWith}
 use Rattle.model.specs.NetlistFile.{blocksFor, fileCheck, cellsOf, fileLengthWrong}
 use Rattle.model.specs.Numbering.{netlist, finish}
-use Rattle.model.specs.TimeTables.{builtIn, defaults}
+use Rattle.model.specs.TimeTables.{builtIn, beside, load, defaults}
 use Rattle.model.specs.State.{stateSize}
 use Rattle.model.specs.Calls.{writtenVerdict, checkCall, writing, compiledFile, compileChecks, compileCall, runProgramCall, referenceCall, runProgramChecks}
 use Rattle.model.specs.Hubrun.{textOf, hubrunText}
@@ -36,28 +37,28 @@ use Rattle.theory.specs.Promises.Reference.{same-answers}
 -- Compiling with room ------------------------------------------------------------------------------------------------------------------
 
 module _ (options : Options) (program : List ℕ) (bytes : Bytes program) (accepted : checkCall options program ≡ Accepted) where
-  file-read : fileCheck (compiledFile program) ≡ Accepted
+  file-read : fileCheck (compiledFile options program) ≡ Accepted
   file-read = compiled-accepted options program bytes accepted
 
-  file-room : length (compiledFile program) ≤ 6656
+  file-room : length (compiledFile options program) ≤ 6656
   unfolding fileLengthWrong
   file-room =
-      let n = length (compiledFile program) in
-      let o = or-false (ltb 6656 n) _ (or-false (eqb n 0) _ (file-passed (compiledFile program) file-read .lengths) .1) in
+      let n = length (compiledFile options program) in
+      let o = or-false (ltb 6656 n) _ (or-false (eqb n 0) _ (file-passed (compiledFile options program) file-read .lengths) .1) in
       ltb-false 6656 n (o .0)
 
   compile-is : (lent : List ℕ) → 6656 ≤ length lent
-      → compileCall options program lent .answer ≡ Done (length (compiledFile program)) (finish (programOf program))
+      → compileCall options program lent .answer ≡ Done (length (compiledFile options program)) (finish (programWith options program))
   unfolding compileCall writing checkCall
   compile-is lent room =
-      rw (first-drop 2 (compileChecks options program lent) accepted, le-ltb (length lent) (length (compiledFile program)) (omega (arith, file-room)))
+      rw (first-drop 2 (compileChecks options program lent) accepted, le-ltb (length lent) (length (compiledFile options program)) (omega (arith, file-room)))
 
 -- A full run with room -----------------------------------------------------------------------------------------------------------------
 
 module _ (options : Options) (program words forFile forState : List ℕ) (n : ℕ) (bytes : Bytes program) (accepted : checkCall options program ≡ Accepted)
     (some : 544 ≤ length words) (f : 6656 ≤ length forFile) (s : 41480 ≤ length forState) (l : n ≤ 1000000) where
   abbrev file : List ℕ
-  file = compiledFile program
+  file = compiledFile options program
 
   abbrev read : fileCheck file ≡ Accepted
   read = file-read options program bytes accepted
@@ -146,7 +147,7 @@ hubrun-is p v n =
     rw (le-ltb (length (hubrunInput p v n)) 36 (omega arith), e)
 
 on-circuit : (c : Case) → computed c ≡ wanted c → fair c ≡ true → OnCircuit c
-unfolding computed wanted OnCircuit fair checked-of answer-of numbers-of text-of compileCall writing checkCall writtenVerdict
+unfolding computed wanted OnCircuit fair checked-of answer-of numbers-of text-of compileCall writing checkCall writtenVerdict load
 on-circuit (ends p v n t w) e g = λ forFile forState f s.
     let b = and-true (bytesOnly p) (ltb n 1000000) g in
     let r : referenceCall defaults p (start v) n ≡ endAnswer t w = ap (answer-of (endAnswer t w)) e in
@@ -157,11 +158,12 @@ on-circuit (refuses p k i) e g = λ lent.
     rw (first-take 2 (compileChecks defaults p lent) c)
 on-circuit (compiles p n f) e g = λ lent room.
     let y = bytes-of p g in
-    let cells : length (netlist (programOf p)) ≡ n = ap (λ r. numbers-of r .0) e in
-    let end : finish (programOf p) ≡ f = ap (λ r. numbers-of r .1) e in
-    let size = file-length (netlist (programOf p)) (finish (programOf p)) ∙ ap (λ k. 512 * blocksFor k) cells in
+    let S = programWith defaults p in
+    let cells : length (netlist S) ≡ n = ap (λ r. numbers-of r .0) e in
+    let end : finish S ≡ f = ap (λ r. numbers-of r .1) e in
+    let size = file-length (netlist S) (finish S) ∙ ap (λ k. 512 * blocksFor k) cells in
     let told = compile-is defaults p y (ap checked-of e) lent room ∙ ap₂ Done size end in
-    (told, ap length (demand2 .compiled builtIn p lent (512 * blocksFor n) f y told .cells) ∙ cells)
+    (told, ap length (demand2 .compiled (beside builtIn 0) p lent (512 * blocksFor n) f y told .cells) ∙ cells)
 on-circuit (prints p v n text) e g =
     let b = and-true (bytesOnly p) (ltb n 65536) g in
     hubrun-is p v n

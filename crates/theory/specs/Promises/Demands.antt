@@ -9,7 +9,7 @@ use Rattle.laws.specs.NetlistFile.Compiled.{compiled-accepted}
 use Rattle.model.specs.declared.Options.{Options}
 use Rattle.model.specs.declared.Written.the-variants.{Done}
 use Rattle.model.specs.Word.{get16, Bytes}
-use Rattle.model.specs.Program.{programOf}
+use Rattle.model.specs.ProgramChecks.{programWith}
 use Rattle.model.specs.Numbering.{netlist, finish}
 use Rattle.model.specs.NetlistFile.{fileCheck, cellsOf, finishOf}
 use Rattle.model.specs.TimeTables.{load}
@@ -31,9 +31,9 @@ pub demand1 : Demand1
 demand1 = demand-1
 
 published : (options : Options) (program lent : List ℕ) (n f : ℕ) → Bytes program → compileCall options program lent .answer ≡ Done n f
-    → Published program (take n (compileCall options program lent .lent)) f
+    → Published (programWith options program) (take n (compileCall options program lent .lent)) f
 published options program lent n f bytes e =
-    let P = programOf program in
+    let P = programWith options program in
     let file = file-made options program lent n f e in
     let some : 0 < length (netlist P) = omega (arith, net-length P) in
     let g = compiled options program lent n f e .finish in
@@ -50,7 +50,7 @@ word-low words y x = omega (arith, y (2 * x), y (2 * x + 1))
 pub demand2 : Demand2
 demand2 =
     record {
-      compiled = λ T. published (load T);
+      compiled = λ G. unfold load in published (load G);
       files = same-file;
       runs = λ file starts words pulse e. one-run (cellsOf file) (net-ordered (cellsOf file) (finishOf file) (file-passed file e .cells)) starts words pulse;
       numbers = λ file lent starts e room.
@@ -59,7 +59,7 @@ demand2 =
     }
 
 pub demand3 : Demand3
-unfolding Demand3
-demand3 T program forFile words forState calls n f made begun =
-    keeps (load T) program (take n (compileCall (load T) program forFile .lent)) words forState (program-accepted (load T) program forFile n f made)
-    (file-made (load T) program forFile n f made) begun forFile (file-fits (load T) program forFile n f made) calls
+unfolding Demand3 load
+demand3 G program forFile words forState calls n f made begun =
+    keeps (load G) program (take n (compileCall (load G) program forFile .lent)) words forState (program-accepted (load G) program forFile n f made)
+    (file-made (load G) program forFile n f made) begun forFile (file-fits (load G) program forFile n f made) calls

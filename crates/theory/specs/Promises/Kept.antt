@@ -20,7 +20,9 @@ use Rattle.model.specs.declared.Written.{Written}
 use Rattle.model.specs.declared.Written.the-variants.{Done}
 use Rattle.model.specs.declared.Answer.{Answer}
 use Rattle.model.specs.Refusals.{first}
-use Rattle.model.specs.Program.{Stmt, programOf}
+use Rattle.model.specs.Program.{Stmt, Program}
+use Rattle.model.specs.Procedures.{meaning}
+use Rattle.model.specs.ProgramChecks.{programWith}
 use Rattle.model.specs.Rules.{Store, ended, still, run, endsAt, due, atEnd}
 use Rattle.model.specs.Circuit.{Sig, Values, high, level, Obeys, memories}
 use Rattle.model.specs.Numbering.{netlist, finish}
@@ -30,9 +32,8 @@ use Rattle.model.specs.Calls.{Returned, verdict, checkCall, compiledFile, compi
 use Rattle.model.specs.CircuitPromises.{stopsAt, NoStart}
 use Rattle.model.specs.RunPromises.{Call, replay, Seen, seen, seenOf, endedIf, Stand, stand, Runs, dueAt, expected, stands, startsOf, Along, Behaves, Tells, Unchanged, lastOf, Keeps}
 use Rattle.laws.specs.Refusals.Laws.{by-bool, all-accept, refuse-unless, accept-take, first-drop}
-use Rattle.laws.specs.Program.Accepted.{program-fit}
-use Rattle.laws.specs.Program.Enclosed.{program-enclosed}
-use Rattle.laws.specs.Program.Fit.{Fit}
+use Rattle.laws.specs.Program.Fit.{Timed}
+use Rattle.laws.specs.Program.Admitted.{Admitted, program-admitted, meaning-timed, meaning-closed}
 use Rattle.laws.specs.Rules.Laws.{steady, still-before, still-below}
 use Rattle.theory.specs.Rules.Relation.{run-ends, ends-once}
 use Rattle.laws.specs.Numbering.Parts.{net-length}
@@ -60,23 +61,23 @@ ran (Checked.Refused r) file s n lent e = e
 
 -- what compiling wrote
 module _ (options : Options) (program forFile : List ℕ) (n f : ℕ) (done : compileCall options program forFile .answer ≡ Done n f) where
-  pub compiled : Wrote (first (compileChecks options program forFile)) (compiledFile program) (length (compiledFile program)) (finish (programOf program)) forFile n f
+  pub compiled : Wrote (first (compileChecks options program forFile)) (compiledFile options program) (length (compiledFile options program)) (finish (programWith options program)) forFile n f
   unfolding compileCall
   compiled =
-      wrote (first (compileChecks options program forFile)) (compiledFile program) (length (compiledFile program)) (finish (programOf program)) forFile n f done
+      wrote (first (compileChecks options program forFile)) (compiledFile options program) (length (compiledFile options program)) (finish (programWith options program)) forFile n f done
 
   pub program-accepted : checkCall options program ≡ Accepted
   unfolding checkCall
   program-accepted = accept-take 2 (compileChecks options program forFile) (compiled .accepted)
 
-  pub file-fits : ltb (length forFile) (length (compiledFile program)) ≡ false
+  pub file-fits : ltb (length forFile) (length (compiledFile options program)) ≡ false
   file-fits = refuse-unless _ 14 0 (all-accept (compileChecks options program forFile) (compiled .accepted) 2)
 
-  pub file-made : take n (compileCall options program forFile .lent) ≡ compiledFile program
+  pub file-made : take n (compileCall options program forFile .lent) ≡ compiledFile options program
   unfolding compileCall
   file-made =
       ap₂ (λ (k : ℕ) (r : Returned Written). take k (r .lent)) (compiled .count) (compiled .told)
-      ∙ take-append-seam (compiledFile program) (drop (length (compiledFile program)) forFile)
+      ∙ take-append-seam (compiledFile options program) (drop (length (compiledFile options program)) forFile)
 
 -- Where a run stops --------------------------------------------------------------------------------------------------------------------
 
@@ -98,10 +99,13 @@ stops-never F (suc n) a h =
 
 -- The promise --------------------------------------------------------------------------------------------------------------------------
 
-module _ (options : Options) (program file words lent : List ℕ) (accepted : checkCall options program ≡ Accepted) (e : file ≡ compiledFile program)
+module _ (options : Options) (program file words lent : List ℕ) (accepted : checkCall options program ≡ Accepted) (e : file ≡ compiledFile options program)
     (begun : verdict (beginCall file words lent .answer .outcome) ≡ Accepted) where
+  abbrev S : Program
+  S = programWith options program
+
   abbrev P : Stmt
-  P = programOf program
+  P = meaning S
 
   abbrev σ : Store
   σ = wordAt words
@@ -112,17 +116,20 @@ module _ (options : Options) (program file words lent : List ℕ) (accepted : ch
   abbrev net : List Cell
   net = cellsOf file
 
-  fit : Fit P
-  fit = program-fit options program accepted
+  admitted : Admitted S
+  admitted = program-admitted options program accepted
 
-  some : 0 < length (netlist P)
-  some = omega (arith, net-length P)
+  timed : Timed P
+  timed = meaning-timed S admitted
 
-  cells-are : net ≡ netlist P
-  cells-are = ap cellsOf e ∙ cells-written (netlist P) (finish P) some
+  some : 0 < length (netlist S)
+  some = omega (arith, net-length S)
 
-  finish-is : F ≡ finish P
-  finish-is = ap finishOf e ∙ finish-written (netlist P) (finish P) some
+  cells-are : net ≡ netlist S
+  cells-are = ap cellsOf e ∙ cells-written (netlist S) (finish S) some
+
+  finish-is : F ≡ finish S
+  finish-is = ap finishOf e ∙ finish-written (netlist S) (finish S) some
 
   checks : first (beginChecks file words lent) ≡ Accepted
   unfolding beginCall
@@ -146,15 +153,13 @@ module _ (options : Options) (program file words lent : List ℕ) (accepted : ch
   wire : F < length net
   wire = finish-within file read
 
-  sixteen : memories (netlist P) ≡ 16
+  sixteen : memories (netlist S) ≡ 16
   sixteen = ap memories (sym cells-are) ∙ net-passed net F (file-passed file read .cells) .sixteen
 
-  ofProgram : OfProgram P file
+  ofProgram : OfProgram S file
   ofProgram =
       record {
-        fit = fit;
-        inside = program-enclosed options program accepted .0;
-        whole = program-enclosed options program accepted .1;
+        admitted = admitted;
         accepted = read;
         ordered = ordered;
         cells-are = cells-are;
@@ -181,8 +186,8 @@ module _ (options : Options) (program file words lent : List ℕ) (accepted : ch
   -- with any values that obey the equations
   module _ (starts : Sig) (W : Values) (o : Obeys net starts σ W) where
     module _ (calls : List Call) (given : Given rules size starts (stand 0 σ 0) calls) (pulse : starts 0 ≡ true) where
-      stood : Stood P file ofProgram starts σ W o (stand 0 σ 0) calls
-      stood = record { began = run-first P (ofProgram .fit) (ofProgram .inside) starts σ W (published P file ofProgram starts σ W o) pulse; given = given }
+      stood : Stood S file ofProgram starts σ W o (stand 0 σ 0) calls
+      stood = record { began = run-first S (ofProgram .admitted) starts σ W (published S file ofProgram starts σ W o) pulse; given = given }
 
       holding : Holding net σ W 0 state
       holding = begin-holds net ordered starts σ W o pulse lent room
@@ -191,13 +196,13 @@ module _ (options : Options) (program file words lent : List ℕ) (accepted : ch
       long = rw (begin-length net ordered starts σ W o pulse lent room) room
 
       module _ (Q : Stand → Returned Answer → Type 0)
-          (refusing : (st : Stand) (cs : List Call) → Stood P file ofProgram starts σ W o st cs → (k : ℕ) (b : List ℕ) → Holding net σ W (st .now) b
+          (refusing : (st : Stand) (cs : List Call) → Stood S file ofProgram starts σ W o st cs → (k : ℕ) (b : List ℕ) → Holding net σ W (st .now) b
           → Q st (record { answer = refusedAnswer (at0 k); lent = b }))
-          (answering : (st : Stand) (cs : List Call) → Stood P file ofProgram starts σ W o st cs → (s b : List ℕ) (n : ℕ) → st .now ≤ 1000000 → Holding net σ W (st .now) s
+          (answering : (st : Stand) (cs : List Call) → Stood S file ofProgram starts σ W o st cs → (s b : List ℕ) (n : ℕ) → st .now ≤ 1000000 → Holding net σ W (st .now) s
           → Holding net σ W (st .now) b → Q st (record { answer = shows file s n; lent = b })) where
-        goes : Good P file ofProgram starts σ W o Q refusing answering (stand 0 σ 0) state calls (replay file state calls)
+        goes : Good S file ofProgram starts σ W o Q refusing answering (stand 0 σ 0) state calls (replay file state calls)
         goes =
-            good P file ofProgram starts σ W o Q refusing answering calls (stand 0 σ 0) state stood holding long
+            good S file ofProgram starts σ W o Q refusing answering calls (stand 0 σ 0) state stood holding long
             (omega arith)
 
         along : Along Q (stand 0 σ 0 ∷ stands rules size (stand 0 σ 0) calls)
@@ -209,7 +214,7 @@ module _ (options : Options) (program file words lent : List ℕ) (accepted : ch
         outcomes =
             rw begin-is
             (ap₂ (λ (x : Seen) (l : List Seen). x ∷ l)
-            (answer-seen P file ofProgram starts σ W o Q refusing answering (stand 0 σ 0) calls stood state state 1
+            (answer-seen S file ofProgram starts σ W o Q refusing answering (stand 0 σ 0) calls stood state state 1
             (omega arith) holding)
             (goes .outcomes))
 
@@ -238,15 +243,15 @@ module _ (options : Options) (program file words lent : List ℕ) (accepted : ch
     tells : Along (Tells P file) (stand 0 σ 0 ∷ stands rules size (stand 0 σ 0) calls)
         (beginCall file words lent ∷ replay file (beginCall file words lent .lent) calls)
     tells =
-        along starts W obeys calls given pulse (Tells P file) (λ st cs N. tells-refused P file ofProgram starts σ W obeys st cs N)
-        (λ st cs N s b n l. tells-answer P file ofProgram starts σ W obeys st cs N s b n)
+        along starts W obeys calls given pulse (Tells P file) (λ st cs N. tells-refused S file ofProgram starts σ W obeys st cs N)
+        (λ st cs N s b n l. tells-answer S file ofProgram starts σ W obeys st cs N s b n)
 
     circuit : (W : Values) → Obeys net starts σ W
         → Along (Behaves P σ file rules starts W) (stand 0 σ 0 ∷ stands rules size (stand 0 σ 0) calls)
         (beginCall file words lent ∷ replay file (beginCall file words lent .lent) calls)
     circuit W o =
-        along starts W o calls given pulse (Behaves P σ file rules starts W) (λ st cs N k b H. behaves P file ofProgram starts σ W o st cs N _ H)
-        (λ st cs N s b n l H K. behaves P file ofProgram starts σ W o st cs N _ K)
+        along starts W o calls given pulse (Behaves P σ file rules starts W) (λ st cs N k b H. behaves S file ofProgram starts σ W o st cs N _ H)
+        (λ st cs N s b n l H K. behaves S file ofProgram starts σ W o st cs N _ K)
 
     told : map seenOf (beginCall file words lent ∷ replay file (beginCall file words lent .lent) calls)
         ≡ seen (endedIf (dueAt rules (stand 0 σ 0) 0)) 0 1 ∷ expected rules size (stand 0 σ 0) calls
@@ -261,7 +266,7 @@ module _ (options : Options) (program file words lent : List ℕ) (accepted : ch
   abbrev W₁ : Values
   W₁ = W []
 
-  first-stood : Stood P file ofProgram (starts []) σ W₁ (obeys []) (stand 0 σ 0) []
+  first-stood : Stood S file ofProgram (starts []) σ W₁ (obeys []) (stand 0 σ 0) []
   first-stood = stood (starts []) W₁ (obeys []) [] (given []) (pulse [])
 
   first-holds : Holding net σ W₁ 0 state
@@ -276,7 +281,7 @@ module _ (options : Options) (program file words lent : List ℕ) (accepted : ch
 
   finishes : (u : ℕ) → level W₁ F u ≡ due P σ u
   unfolding dueAt due
-  finishes u = due-by P file ofProgram (starts []) σ W₁ (obeys []) (stand 0 σ 0) [] first-stood u (omega arith) (alone u) ∙ ap (due P σ) (omega arith)
+  finishes u = due-by S file ofProgram (starts []) σ W₁ (obeys []) (stand 0 σ 0) [] first-stood u (omega arith) (alone u) ∙ ap (due P σ) (omega arith)
 
   -- a full run
   pub whole-run : ℕ → Answer
@@ -296,7 +301,7 @@ module _ (options : Options) (program file words lent : List ℕ) (accepted : ch
   unfolding whole-run fullState fullCount shows lastOf
   last-is n l = rw (begin-is, continued n l) (by-bool (high (nowAt state F)) (λ z. rw (z, z) refl) (λ z. rw z refl))
 
-  pub program-run : (forFile : List ℕ) → ltb (length forFile) (length (compiledFile program)) ≡ false → (n : ℕ) → n ≤ 1000000
+  pub program-run : (forFile : List ℕ) → ltb (length forFile) (length (compiledFile options program)) ≡ false → (n : ℕ) → n ≤ 1000000
       → runProgramCall options program words n forFile lent .answer ≡ whole-run n
   unfolding runProgramCall running whole-run checkCall
   program-run forFile fits n l =
@@ -307,14 +312,14 @@ module _ (options : Options) (program file words lent : List ℕ) (accepted : ch
   netlist-run n l = rw (read, le-ltb 1000000 n l, words-fit, state-fits)
 
   -- the whole promise
-  pub keeps : (forFile : List ℕ) → ltb (length forFile) (length (compiledFile program)) ≡ false → (calls : List Call)
+  pub keeps : (forFile : List ℕ) → ltb (length forFile) (length (compiledFile options program)) ≡ false → (calls : List Call)
       → Keeps P σ file (beginCall file words lent) calls (λ k. runProgramCall options program words k forFile lent .answer)
       (λ k. runNetlistCall file words k lent .answer)
   keeps forFile fits calls =
       record {
         rules = rules;
-        decides = decides P (fit .timed);
-        once = ends-once P (fit .timed);
+        decides = decides P timed;
+        once = ends-once P timed;
         outcomes = told calls;
         tells = tells calls;
         circuit = circuit calls;
@@ -328,14 +333,14 @@ module _ (options : Options) (program file words lent : List ℕ) (accepted : ch
   -- where the rules end within the budget, they give the same answer
   module _ (n t : ℕ) (l : n ≤ 1000000) (σ′ : Store) (p : run n P σ ≡ ended t σ′) where
     steadily : (t ≤ n) × ((k : ℕ) → t ≤ k → run k P σ ≡ ended t σ′)
-    steadily = steady P (fit .timed) σ n atEnd t σ′ p
+    steadily = steady P timed σ n atEnd t σ′ p
 
     due-only : (u : ℕ) → due P σ u ≡ eqb t u
     unfolding due endsAt
     due-only u = go (decLt u t)
       where
         go : Dec (u < t) → endsAt u (run u P σ) ≡ eqb t u
-        go (yes x) = ap (endsAt u) (still-before (λ k. run k P σ) (steady P (fit .timed) σ) n atEnd t u σ′ p x) ∙ sym (ne-eqb t u (λ e. omega arith))
+        go (yes x) = ap (endsAt u) (still-before (λ k. run k P σ) (steady P timed σ) n atEnd t u σ′ p x) ∙ sym (ne-eqb t u (λ e. omega arith))
         go (no x) = ap (endsAt u) (steadily .1 u (omega arith))
 
     wire-at : (u : ℕ) → level W₁ F u ≡ eqb t u
@@ -344,8 +349,8 @@ module _ (options : Options) (program file words lent : List ℕ) (accepted : ch
     -- the words of a state at the end
     last : (s : List ℕ) → Holding net σ W₁ t s → wordsIn net 0 s ≡ listed σ′ 0 16
     last s H =
-        shows-words P file ofProgram (starts []) σ W₁ (obeys []) t σ′
-        (lasting P file ofProgram (starts []) σ W₁ (obeys []) (stand 0 σ 0) [] first-stood t σ′ (run-ends P n σ t σ′ p) t (omega arith) (alone t)) s H
+        shows-words S file ofProgram (starts []) σ W₁ (obeys []) t σ′
+        (lasting S file ofProgram (starts []) σ W₁ (obeys []) (stand 0 σ 0) [] first-stood t σ′ (run-ends P n σ t σ′ p) t (omega arith) (alone t)) s H
         .0
 
     -- its answer
@@ -372,7 +377,7 @@ module _ (options : Options) (program file words lent : List ℕ) (accepted : ch
   module _ (n : ℕ) (l : n ≤ 1000000) (p : run n P σ ≡ still) where
     low : (u : ℕ) → u ≤ n → level W₁ F u ≡ false
     unfolding due endsAt
-    low u g = finishes u ∙ ap (endsAt u) (still-below (λ k. run k P σ) (steady P (fit .timed) σ) n u p g)
+    low u g = finishes u ∙ ap (endsAt u) (still-below (λ k. run k P σ) (steady P timed σ) n u p g)
 
     pub stays-open : seen (whole-run n .outcome) (whole-run n .instant) (whole-run n .count) ≡ seen Open n (n + 1)
     unfolding whole-run fullState fullCount shows

@@ -13,7 +13,9 @@ use Rattle.model.specs.declared.Checked.the-variants.{Accepted}
 use Rattle.model.specs.declared.Outcome.the-variants.{Ended, Open}
 use Rattle.model.specs.declared.Answer.{Answer}
 use Rattle.model.specs.Refusals.{first}
-use Rattle.model.specs.Program.{Stmt, programOf}
+use Rattle.model.specs.Program.{Stmt, Program}
+use Rattle.model.specs.Procedures.{inlined, meaning}
+use Rattle.model.specs.ProgramChecks.{programWith}
 use Rattle.model.specs.Rules.{Store, Ends, ended, run, atEnd}
 use Rattle.model.specs.Circuit.{high}
 use Rattle.model.specs.NetlistFile.{cellsOf, finishOf}
@@ -25,11 +27,11 @@ use Rattle.model.specs.RunPromises.{Seen, seenIn}
 use Rattle.model.specs.ProgramPromises.{endedAnswer, openAnswer, Programs}
 use Rattle.laws.specs.Refusals.Laws.{not-refused, all-accept, accept-take, first-drop, refuse-unless}
 use Rattle.laws.specs.Program.Passed.{accepted, program-nodes}
-use Rattle.laws.specs.Program.Accepted.{program-fit}
-use Rattle.laws.specs.Program.Enclosed.{program-enclosed}
+use Rattle.laws.specs.Program.Admitted.{program-admitted, meaning-timed, meaning-closed}
 use Rattle.laws.specs.Rules.Laws.{by-runs, steady}
 use Rattle.laws.specs.Rules.Uses.{never-leaves, never-left}
 use Rattle.theory.specs.Rules.Relation.{run-ends, ends-run}
+use Rattle.theory.specs.Rules.Calling.{meanings-obey, main-rules}
 use Rattle.theory.specs.Promises.Replay.{no-refusal}
 use Rattle.theory.specs.Promises.Behaves.{open-no-end}
 use Rattle.theory.specs.Promises.Kept.{ran, whole-run, program-run, agrees, stays-open}
@@ -45,7 +47,7 @@ answered (Checked.Refused r) a e = not-refused e
 
 module _ (options : Options) (program words : List ℕ) (n : ℕ) (answered-so : verdict (referenceCall options program words n .outcome) ≡ Accepted) where
   abbrev P : Stmt
-  P = programOf program
+  P = meaning (programWith options program)
 
   abbrev σ : Store
   σ = wordAt words
@@ -60,13 +62,13 @@ module _ (options : Options) (program words : List ℕ) (n : ℕ) (answered-so :
 
   pub reference-ends : (t : ℕ) (σ′ : Store) → Ends P σ t σ′ → t ≤ n → referenceCall options program words n ≡ endedAnswer t σ′
   unfolding referenceAnswer
-  reference-ends t σ′ E l = called .1 ∙ ap (referenceAnswer n) (ends-run P (program-fit options program passes .timed) σ t σ′ E n l)
+  reference-ends t σ′ E l = called .1 ∙ ap (referenceAnswer n) (ends-run P (meaning-timed (programWith options program) (program-admitted options program passes)) σ t σ′ E n l)
 
   pub reference-ended : referenceCall options program words n .outcome ≡ Ended → (t : ℕ) × (σ′ : Store) × (t ≤ n) × Ends P σ t σ′
   unfolding referenceAnswer
   reference-ended e =
-      by-runs (run n P σ) (λ t σ′ p. (t, σ′, steady P (program-fit options program passes .timed) σ n atEnd t σ′ p .0, run-ends P n σ t σ′ p))
-      (λ t σ′ p. never-leaves P (program-enclosed options program passes .1) n t σ σ′ p)
+      by-runs (run n P σ) (λ t σ′ p. (t, σ′, steady P (meaning-timed (programWith options program) (program-admitted options program passes)) σ n atEnd t σ′ p .0, run-ends P n σ t σ′ p))
+      (λ t σ′ p. never-leaves P (meaning-closed (programWith options program) (program-admitted options program passes)) n t σ σ′ p)
       (λ p. absurd (open-no-end (sym (ap (λ (a : Answer). a .outcome) (called .1 ∙ ap (referenceAnswer n) p)) ∙ e)))
 
   pub reference-open : referenceCall options program words n .outcome ≡ Open
@@ -74,7 +76,7 @@ module _ (options : Options) (program words : List ℕ) (n : ℕ) (answered-so :
   unfolding referenceAnswer
   reference-open e = (
     by-runs (run n P σ) (λ t σ′ p. absurd (open-no-end (sym e ∙ ap (λ (a : Answer). a .outcome) (called .1 ∙ ap (referenceAnswer n) p))))
-        (λ t σ′ p. never-leaves P (program-enclosed options program passes .1) n t σ σ′ p) (λ p. called .1 ∙ ap (referenceAnswer n) p),
+        (λ t σ′ p. never-leaves P (meaning-closed (programWith options program) (program-admitted options program passes)) n t σ σ′ p) (λ p. called .1 ∙ ap (referenceAnswer n) p),
     λ t σ′ E l. open-no-end (sym e ∙ ap (λ (a : Answer). a .outcome) (reference-ends t σ′ E l)),
   )
 
@@ -83,7 +85,7 @@ module _ (options : Options) (program words : List ℕ) (n : ℕ) (answered-so :
 module _ (options : Options) (program words : List ℕ) (n : ℕ) (forFile lent : List ℕ) (bytes : Bytes program)
     (checks : first (runProgramChecks options program words n forFile lent) ≡ Accepted) where
   abbrev file : List ℕ
-  file = compiledFile program
+  file = compiledFile options program
 
   accepts : checkCall options program ≡ Accepted
   unfolding checkCall
@@ -115,19 +117,19 @@ module _ (options : Options) (program words : List ℕ) (n : ℕ) (forFile lent 
       program-run options program file words lent accepts refl begins forFile
       (refuse-unless _ 14 0 (all-accept (runProgramChecks options program words n forFile lent) checks 4)) n (ltb-false 1000000 n budget)
 
-  reference-is : reference ≡ referenceAnswer n (run n (programOf program) (wordAt words))
+  reference-is : reference ≡ referenceAnswer n (run n (meaning (programWith options program)) (wordAt words))
   unfolding referenceCall answering checkCall
   reference-is = rw (first-drop 2 (referenceChecks options program words n) accepts, budget, words-fit)
 
   pub same-answers : (seenIn full ≡ seenIn reference) × (full .outcome ≡ Ended → full ≡ reference)
   unfolding referenceAnswer
   same-answers =
-      by-runs (run n (programOf program) (wordAt words))
+      by-runs (run n (meaning (programWith options program)) (wordAt words))
       (λ t σ′ p.
       let e : full ≡ reference =
       full-is ∙ agrees options program file words lent accepts refl begins n t (ltb-false 1000000 n budget) σ′ p ∙ sym (reference-is ∙ ap (referenceAnswer n) p) in
       (ap seenIn e, λ z. e))
-      (λ t σ′ p. never-leaves (programOf program) (program-enclosed options program accepts .1) n t (wordAt words) σ′ p)
+      (λ t σ′ p. never-leaves (meaning (programWith options program)) (meaning-closed (programWith options program) (program-admitted options program accepts)) n t (wordAt words) σ′ p)
       (λ p.
       let o = ap seenIn full-is ∙ stays-open options program file words lent accepts refl begins n (ltb-false 1000000 n budget) p in
       (o ∙ sym (ap seenIn (reference-is ∙ ap (referenceAnswer n) p)), λ z. absurd (open-no-end (sym (ap (λ (s : Seen). s .outcome) o) ∙ z))))
@@ -143,16 +145,23 @@ unfolding verdict
 accepted-ended = refl
 
 pub programs : Programs
+unfolding load
 programs =
     record {
-      tree = λ T program e. sym (program-nodes program (accepted (load T) program e .readable));
-      ends = λ T program words n t σ′ v. reference-ends (load T) program words n v t σ′;
-      ended = λ T program words n e. reference-ended (load T) program words n (ap verdict e ∙ accepted-ended) e;
-      stillOpen = λ T program words n e. reference-open (load T) program words n (ap verdict e ∙ accepted-open) e;
-      neverLeft = λ T program e. never-left (programOf program) (program-enclosed (load T) program e .1);
-      agree = λ T program words n forFile lent y v.
-          same-answers (load T) program words n forFile lent y
+      tree = λ G program e. sym (program-nodes (G .procedures) program (accepted (load G) program e .readable));
+      ends = λ G program words n t σ′ v. reference-ends (load G) program words n v t σ′;
+      ended = λ G program words n e. reference-ended (load G) program words n (ap verdict e ∙ accepted-ended) e;
+      stillOpen = λ G program words n e. reference-open (load G) program words n (ap verdict e ∙ accepted-open) e;
+      obeyed = λ G program e.
+          let S = programWith (load G) program in
+          (λ p. Ends (inlined (S .bodies) p), meanings-obey S (program-admitted (load G) program e));
+      calling = λ G program e. main-rules (programWith (load G) program) (program-admitted (load G) program e);
+      neverLeft = λ G program e.
+          let S = programWith (load G) program in
+          never-left (meaning S) (meaning-closed S (program-admitted (load G) program e));
+      agree = λ G program words n forFile lent y v.
+          let file = compiledFile (load G) program in
+          same-answers (load G) program words n forFile lent y
           (unfold runProgramCall in
-          ran (first (runProgramChecks (load T) program words n forFile lent)) (compiledFile program) (fullState (compiledFile program) words n lent)
-          (fullCount (compiledFile program) words n lent) lent v);
+          ran (first (runProgramChecks (load G) program words n forFile lent)) file (fullState file words n lent) (fullCount file words n lent) lent v);
     }

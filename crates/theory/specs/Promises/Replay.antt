@@ -18,7 +18,8 @@ use Rattle.model.specs.declared.Outcome.the-variants.{Ended, Open}
 use Rattle.model.specs.declared.Answer.{Answer}
 use Rattle.model.specs.Word.{pick}
 use Rattle.model.specs.Refusals.{refuse, refuseIf, numberOf, first}
-use Rattle.model.specs.Program.{Stmt}
+use Rattle.model.specs.Program.{Stmt, Program}
+use Rattle.model.specs.Procedures.{meaning}
 use Rattle.model.specs.Rules.{Store, ended, still, run, due}
 use Rattle.model.specs.Circuit.{Sig, Values, high, level, memories, Obeys}
 use Rattle.model.specs.Numbering.{netlist, finish}
@@ -30,7 +31,7 @@ use Rattle.model.specs.RunPromises.{Request, continuing, start, Call, respond, 
 use Rattle.laws.specs.Refusals.Laws.{by-bool, by-le}
 use Rattle.laws.specs.Rules.Laws.{by-runs, steady}
 use Rattle.laws.specs.Rules.Uses.{never-leaves}
-use Rattle.laws.specs.Program.Fit.{Fit, Inside, exits}
+use Rattle.laws.specs.Program.Admitted.{Admitted, meaning-timed, meaning-closed}
 use Rattle.laws.specs.Circuit.Ordered.{Ordered}
 use Rattle.theory.specs.State.Holding.{Holding}
 use Rattle.theory.specs.State.Flight.{same-holds, number-zero}
@@ -89,22 +90,24 @@ stops-same F G (suc n) t h =
 
 -- A list of calls -----------------------------------------------------------------------------------------------------------------------
 
--- what is known of the file of an accepted program P
-pub record OfProgram (P : Stmt) (file : List ℕ) : Type 0 where
-  pub fit : Fit P
-  pub inside : Inside P
-  pub whole : exits P ≡ false
+-- what is known of the file of an accepted program S
+pub record OfProgram (S : Program) (file : List ℕ) : Type 0 where
+  pub admitted : Admitted S
   pub accepted : fileCheck file ≡ Accepted
   pub ordered : Ordered (cellsOf file)
-  pub cells-are : cellsOf file ≡ netlist P
-  pub finish-is : finishOf file ≡ finish P
+  pub cells-are : cellsOf file ≡ netlist S
+  pub finish-is : finishOf file ≡ finish S
   pub wire : finishOf file < length (cellsOf file)
-  pub sixteen : memories (netlist P) ≡ 16
+  pub sixteen : memories (netlist S) ≡ 16
 
 -- with start pulses at these instants, from these words
-module _ (P : Stmt) (file : List ℕ) (X : OfProgram P file) (starts : Sig) (σ₀ : Store) (W : Values) (obeys : Obeys (cellsOf file) starts σ₀ W) where
+module _ (S : Program) (file : List ℕ) (X : OfProgram S file) (starts : Sig) (σ₀ : Store) (W : Values) (obeys : Obeys (cellsOf file) starts σ₀ W) where
+  -- what its rules are of
+  abbrev P : Stmt
+  P = meaning S
+
   -- the equations of the file are those of the program's netlist
-  pub published : Obeys (netlist P) starts σ₀ W
+  pub published : Obeys (netlist S) starts σ₀ W
   published = rw (X .cells-are) at obeys
 
   abbrev net : List Cell
@@ -121,7 +124,7 @@ module _ (P : Stmt) (file : List ℕ) (X : OfProgram P file) (starts : Sig) (σ�
 
   -- the run of the stand has begun, and these calls are to come
   pub record Now (st : Stand) (cs : List Call) : Type 0 where
-    pub began : Began P (X .fit) (X .inside) starts σ₀ W published (st .from) (st .begun)
+    pub began : Began S (X .admitted) starts σ₀ W published (st .from) (st .begun)
     pub given : Given rules size starts st cs
 
   -- What the run of a stand does ---------------------------------------------------------------------------------------------------------
@@ -129,7 +132,7 @@ module _ (P : Stmt) (file : List ℕ) (X : OfProgram P file) (starts : Sig) (σ�
   module _ (st : Stand) (cs : List Call) (N : Now st cs) where
     pub due-at : (t : ℕ) → st .begun ≤ t → NoStart starts (st .begun) t → level W F t ≡ dueAt rules st t
     unfolding dueAt due
-    due-at t l none = rw (X .finish-is) (finish-due P (X .fit) (X .inside) starts σ₀ W published (st .from) (st .begun) t (N .began) l none)
+    due-at t l none = rw (X .finish-is) (finish-due S (X .admitted) starts σ₀ W published (st .from) (st .begun) t (N .began) l none)
 
     due-now : level W F (st .now) ≡ dueAt rules st (st .now)
     due-now = due-at (st .now) (N .given .since) (N .given .none)
@@ -143,16 +146,16 @@ module _ (P : Stmt) (file : List ℕ) (X : OfProgram P file) (starts : Sig) (σ�
       number-ended e σ p l =
           idle .1
           (subst (λ (n : List Cell). Idle n W (st .now)) (sym (X .cells-are))
-          (ended-idle P (X .fit) (X .inside) starts σ₀ W published (st .from) (st .begun) (st .now) (N .began) (N .given .since) (N .given .none) e σ p l))
+          (ended-idle S (X .admitted) starts σ₀ W published (st .from) (st .begun) (st .now) (N .began) (N .given .since) (N .given .none) e σ p l))
 
       pub number-still : runAt rules st (st .now) ≡ still → flightOf s ≡ 0 → ⊥
       number-still p z =
-          still-busy P (X .fit) (X .inside) starts σ₀ W published (st .from) (st .begun) (st .now) (N .began) (N .given .since) (N .given .none) p
+          still-busy S (X .admitted) starts σ₀ W published (st .from) (st .begun) (st .now) (N .began) (N .given .since) (N .given .none) p
           (subst (λ (n : List Cell). Idle n W (st .now)) (X .cells-are) (idle .0 z))
 
   -- an end within so many instants is one after its own
   pub ended-own : (τ : Store) (k e : ℕ) (σ : Store) → run k P τ ≡ ended e σ → (e ≤ k) × (run e P τ ≡ ended e σ)
-  ended-own τ k e σ p = let i = steady P (X .fit .timed) τ k _ e σ p in (i .0, i .1 e (omega arith))
+  ended-own τ k e σ p = let i = steady P (meaning-timed S (X .admitted)) τ k _ e σ p in (i .0, i .1 e (omega arith))
 
   -- What is true along the list ----------------------------------------------------------------------------------------------------------
 
@@ -406,7 +409,7 @@ module _ (P : Stmt) (file : List ℕ) (X : OfProgram P file) (starts : Sig) (σ�
                 (only-busy false (le-ltb _ (flightOf U) (omega (arith, none)))))
                 next-anew
                 (record {
-                  began = run-again P (X .fit) (X .inside) starts σ₀ W published (st .from) (st .begun) (st .now) (N .began) (N .given .since) (N .given .none) e σ
+                  began = run-again S (X .admitted) starts σ₀ W published (st .from) (st .begun) (st .now) (N .began) (N .given .since) (N .given .none) e σ
                       (own .1) past comes;
                   given = given-anew rules size starts st pulse cs (N .given) anew after-anew refl refl;
                 })
@@ -436,6 +439,6 @@ module _ (P : Stmt) (file : List ℕ) (X : OfProgram P file) (starts : Sig) (σ�
             by-le (st .now + 1) 1000000
             (λ m.
             by-runs (runAt rules st (st .now)) (λ e σ p. start-runs st (c .lent) cs N s H room l go h m e σ p)
-            (λ e σ p. never-leaves P (X .whole) (st .now - st .begun) e (st .from) σ p) (λ p. start-busy st (c .lent) cs N s H room l go h m p))
+            (λ e σ p. never-leaves P (meaning-closed S (X .admitted)) (st .now - st .begun) e (st .from) σ p) (λ p. start-busy st (c .lent) cs N s H room l go h m p))
             (λ m. start-over st (c .lent) cs N s H room l go h m))
             (λ h. start-short st (c .lent) cs N s H room l go h)

@@ -14,7 +14,7 @@ use Rattle.model.specs.declared.Checked.the-variants.{Accepted}
 use Rattle.model.specs.Word.{bytes16, Bytes}
 use Rattle.model.specs.Refusals.{firstFault}
 use Rattle.model.specs.NetlistFile.{wordSum}
-use Rattle.model.specs.TimeTables.{byteWrong, tableFault, tableSumWrong, tableChecks, timesIn, given, load}
+use Rattle.model.specs.TimeTables.{byteWrong, tableFault, tableSumWrong, tableChecks, timesIn, given, load, verdictOf, timesOf, beside}
 use Rattle.model.specs.Calls.{listed}
 use Rattle.model.specs.TablePromises.{tableFile, InRange, Tables}
 use Rattle.laws.specs.Refusals.Laws.{by-le, or-false, not-false, all-accept, refuse-unless, fault-unless, no-fault, faultless}
@@ -78,17 +78,17 @@ module _ (τ : ℕ → ℕ) (range : InRange τ) where
   unfolding tableFile
   file-sum = block-sum 0 10 0 (listed τ 1 10 ++ replicate 494 0)
 
-  file-checked : load (given (tableFile τ)) .checked ≡ Accepted
-  unfolding load tableSumWrong
+  file-checked : verdictOf (given (tableFile τ)) ≡ Accepted
+  unfolding verdictOf tableSumWrong
   file-checked = rw (file-length, file-sum, faultless (tableFault (tableFile τ)) 0 512 (λ i l h. byte-right i))
 
-  file-times : load (given (tableFile τ)) .times ≡ 0 ∷ listed τ 1 10
-  unfolding load timesIn tableFile bytes16 listed
+  file-times : timesOf (given (tableFile τ)) ≡ 0 ∷ listed τ 1 10
+  unfolding timesOf timesIn tableFile bytes16 listed
   file-times = refl
 
-  file-loads : load (given (tableFile τ)) ≡ record { checked = Accepted; times = 0 ∷ listed τ 1 10 }
+  file-loads : (k : ℕ) → load (beside (given (tableFile τ)) k) ≡ record { checked = Accepted; times = 0 ∷ listed τ 1 10; procedures = k }
   unfolding load
-  file-loads = ap₂ (λ (c : Checked) (times : List ℕ). record { checked = c; times = times }) file-checked file-times
+  file-loads k = ap₂ (λ (c : Checked) (times : List ℕ). record { checked = c; times = times; procedures = k }) file-checked file-times
 
 -- A file that loads --------------------------------------------------------------------------------------------------------------------
 
@@ -101,9 +101,9 @@ listed-bytes s (suc n) x l =
     let z : x + 1 + n ≡ x + suc n = omega arith in
     drop-cons s x 0 (omega arith) ∙ ap (λ (r : List ℕ). getD s x 0 ∷ r) (rw (y, sym z) (listed-bytes s n (x + 1) (omega arith)))
 
-module _ (file : List ℕ) (bytes : Bytes file) (accepted : load (given file) .checked ≡ Accepted) where
+module _ (file : List ℕ) (bytes : Bytes file) (accepted : verdictOf (given file) ≡ Accepted) where
   checks : (j : ℕ) → getD (tableChecks file) j Accepted ≡ Accepted
-  unfolding load
+  unfolding verdictOf
   checks = all-accept (tableChecks file) accepted
 
   whole : length file ≡ 512
@@ -164,6 +164,6 @@ module _ (file : List ℕ) (bytes : Bytes file) (accepted : load (given file) .c
 pub tables : Tables
 tables =
     record {
-      loads = file-loads;
-      only = λ file bytes e. (timeOf file bytes e, in-range file bytes e, file-back file bytes e);
+      loads = λ τ k r. file-loads τ r k;
+      only = λ file k bytes e. unfold load in (timeOf file bytes e, in-range file bytes e, file-back file bytes e);
     }

@@ -1,12 +1,13 @@
 -- Demand 1: every call gives the first refusal in the published order, and a refusal leaves what was lent as it was.
 -- Assumes nothing.
-use mathlib.Core.Path.{_≡_, refl, sym, ap, _∙_}
+use Rattle.model.specs.declared.Options.{Options}
+use mathlib.Core.Path.{_≡_, refl, sym, ap, _∙_, ap₂}
 use mathlib.Core.Bool.{Bool, true, false, true≢false, not, _&&_, _||_}
 use mathlib.Core.Logic.{inl, inr, ⊎-elim}
 use mathlib.Core.List.{List, [], _∷_, _++_}
 use Prim.Native.Nat.{ℕ, _+_, _*_, _/_, _%_, _≤_}
 use native.Mathlib.Omega.{arith}
-use lib.Dec.{eqb, ltb}
+use lib.Dec.{eqb, ltb, leb}
 use lib.ListN.{length, getD}
 use borrow.Author.Tests.{eq-eqb, eqb-true}
 use Rattle.laws.specs.NetlistFile.ReadWrite.{writing-verdict}
@@ -17,12 +18,14 @@ use Rattle.model.specs.declared.Checked.the-variants.{Accepted, Refused}
 use Rattle.model.specs.declared.Answer.{Answer}
 use Rattle.model.specs.Word.{pick}
 use Rattle.model.specs.Refusals.{refuse, numberOf, refuseIf, first, firstFault, faultIf}
-use Rattle.model.specs.Program.{timeIn, nodeAt, nodesAt, nodeCount, rowOf, unusedSet, absent, nodeFault, children, reading, delayFault, conflictFault, conflicts, stmtAt, least, programLengthWrong, programChecks, checkOf, programOf, Stmt, ok, tick, assign, assignElem, seq, par, ite, while, repeat, loop, exit, preorderE, preorder, looseIn}
+use Rattle.model.specs.Program.{timeIn, nodeAt, nodesAt, nodeCount, rowOf, stmtAt, least, programOf, Program, roots, Code, Stmt, ok, tick, assign, assignElem, seq, par, ite, while, repeat, loop, exit, call, preorderE, preorder}
+use Rattle.model.specs.Procedures.{inline, inlined, meaning, reached}
+use Rattle.model.specs.ProgramChecks.{unusedSet, absent, nodeFault, children, reading, rootSorts, searched, inRoots, delayFault, sharedFault, shares, conflictFault, conflicts, programLengthWrong, tooManyProcedures, programChecks, programWith, checkOf}
 use Rattle.model.specs.Rules.{Run, done, atEnd, atExit, still, run}
 use Rattle.model.specs.Circuit.{high, cellAt, control, memories, pastMemories}
 use Rattle.model.specs.Numbering.{finish}
 use Rattle.model.specs.NetlistFile.{wordSum, blockAt, headerRight, placed, arrayPlaced, keeps, fileLengthWrong, sumFault, countWrong, headerFault, cellFault, netChecks, netCheck, fileChecks, fileCheck, blocksFor, fileOf, cellBytes, cellsOf, countOf, finishOf}
-use Rattle.model.specs.TimeTables.{byteWrong, tableFault, tableSumWrong, tableChecks, TimeTable, builtIn, given, load}
+use Rattle.model.specs.TimeTables.{byteWrong, tableFault, tableSumWrong, tableChecks, TimeTable, builtIn, given, verdictOf, Given, load}
 use Rattle.model.specs.State.{stateSize, instantOf, nowAt, sound, beginState, stepState, lastState, evaluated}
 use Rattle.model.specs.Calls.{verdict, writtenVerdict, short, checkCall, writing, compiledFile, netlistChecks, compileChecks, compileCall, cellsIn, writeChecks, writeCall, readChecks, readCall, wordAt, shows, running, beginChecks, beginCall, continueChecks, continueCall, busy, startChecks, startCall, fullState, fullCount, overBudget, runNetlistChecks, runNetlistCall, fullRunChecks, runProgramChecks, runProgramCall, referenceAnswer, answering, referenceChecks, referenceCall}
 use Rattle.model.specs.CellSlices.{behind, miscounted, placing, checkCellsChecks, checkCellsCall, writeCellsChecks, writeCellsCall, readCellsChecks, readCellsCall}
@@ -109,53 +112,82 @@ gives-first whole (ns ∷ nss) (Accepted ∷ cs) w o = gives-first whole nss cs 
 gives-first whole (ns ∷ nss) (Refused q ∷ cs) w o =
     ⊎-elim (λ e. not-refused e) (λ g. inr (among-more whole ns (q .number) (and-true (amid whole ns) _ w .0) g)) (o .0)
 
--- an exit without a loop gives 22
-loose-both : (c d : Checked) → Gives (just 22) c → Gives (just 22) d → Gives (just 22) (first (c ∷ d ∷ []))
-loose-both c d f g = gives-first (just 22) (just 22 ∷ just 22 ∷ []) (c ∷ d ∷ []) refl (f, (g, tt))
+-- what a search over exits and calls gives, each exit and each call gives
+both-give : (ns : List ℕ) (c d : Checked) → amid ns ns ≡ true → Gives ns c → Gives ns d → Gives ns (first (c ∷ d ∷ []))
+both-give ns c d w f g = gives-first ns (ns ∷ ns ∷ []) (c ∷ d ∷ []) (ap₂ _&&_ w (ap (λ (x : Bool). x && true) w)) (f, (g, tt))
 
-loose-gives : (b : Bool) (P : Stmt) (i : ℕ) → Gives (just 22) (looseIn b P i)
-unfolding looseIn
-loose-gives b ok i = inl refl
-loose-gives b (tick d) i = inl refl
-loose-gives b (assign d x e) i = inl refl
-loose-gives b (assignElem d k j e) i = inl refl
-loose-gives b (seq P Q) i =
-    loose-both _ _ (loose-gives b P (i + 1)) (loose-gives b Q (i + 1 + length (preorder P)))
-loose-gives b (par P Q) i =
-    loose-both _ _ (loose-gives false P (i + 1)) (loose-gives false Q (i + 1 + length (preorder P)))
-loose-gives b (ite d e P Q) i =
-    let j = i + 1 + length (preorderE e) in
-    loose-both _ _ (loose-gives b P j) (loose-gives b Q (j + length (preorder P)))
-loose-gives b (while d e P) i = loose-gives b P (i + 1 + length (preorderE e))
-loose-gives b (repeat d e P) i = loose-gives b P (i + 1 + length (preorderE e))
-loose-gives b (loop d P) i = loose-gives true P (i + 1)
-loose-gives b exit i = gives-if (not b) 22 i
+module _ (k : ℕ) (exits : Bool → ℕ → Checked) (calls : ℕ → ℕ → Checked) (of-exit : (b : Bool) (i : ℕ) → Gives (just k) (exits b i))
+    (of-call : (p i : ℕ) → Gives (just k) (calls p i)) where
+  two-give : (c d : Checked) → Gives (just k) c → Gives (just k) d → Gives (just k) (first (c ∷ d ∷ []))
+  two-give c d = both-give (just k) c d (ap (λ (x : Bool). x && true) (among-just k))
+
+  search-gives : (b : Bool) (P : Code) (i : ℕ) → Gives (just k) (searched exits calls b P i)
+  unfolding searched
+  search-gives b ok i = inl refl
+  search-gives b (tick d) i = inl refl
+  search-gives b (assign d x e) i = inl refl
+  search-gives b (assignElem d v j e) i = inl refl
+  search-gives b (seq P Q) i = two-give _ _ (search-gives b P (i + 1)) (search-gives b Q (i + 1 + length (preorder P)))
+  search-gives b (par P Q) i = two-give _ _ (search-gives false P (i + 1)) (search-gives false Q (i + 1 + length (preorder P)))
+  search-gives b (ite d e P Q) i =
+      let j = i + 1 + length (preorderE e) in
+      two-give _ _ (search-gives b P j) (search-gives b Q (j + length (preorder P)))
+  search-gives b (while d e P) i = search-gives b P (i + 1 + length (preorderE e))
+  search-gives b (repeat d e P) i = search-gives b P (i + 1 + length (preorderE e))
+  search-gives b (loop d P) i = search-gives true P (i + 1)
+  search-gives b exit i = of-exit b i
+  search-gives b (call d p) i = of-call p i
+
+-- over all roots
+roots-give : (k : ℕ) (test : ℕ → Code → ℕ → Checked) → ((r : ℕ) (P : Code) (i : ℕ) → Gives (just k) (test r P i)) → (r : ℕ) (Ps : List Code) (i : ℕ)
+    → Gives (just k) (inRoots test r Ps i)
+unfolding inRoots
+roots-give k test h r [] i = inl refl
+roots-give k test h r (P ∷ Ps) i =
+    both-give (just k) _ _ (ap (λ (x : Bool). x && true) (among-just k)) (h r P i) (roots-give k test h (r + 1) Ps (i + length (preorder P)))
 
 -- Programs and files -------------------------------------------------------------------------------------------------------------------
 
-program-order : (τ : ℕ → ℕ) (s : List ℕ) → InOrder (just 1 ∷ (2 ∷ 3 ∷ 4 ∷ []) ∷ (5 ∷ 6 ∷ []) ∷ just 22 ∷ just 7 ∷ just 8 ∷ []) (programChecks τ s)
-unfolding delayFault conflictFault
-program-order τ s = (
-  gives-if (programLengthWrong s) 1 0,
-  (
-    gives-fault (2 ∷ 3 ∷ 4 ∷ []) (λ i. nodeFault (nodeAt s i)) (nodeCount s) (λ i. node-faulty (nodeAt s i)),
-    (
-      reading-gives (nodesAt s 0) (2 ∷ []) 0,
+abbrev checkNumbers : List (List ℕ)
+checkNumbers = just 1 ∷ (2 ∷ 3 ∷ 4 ∷ []) ∷ (5 ∷ 6 ∷ []) ∷ just 22 ∷ just 24 ∷ just 7 ∷ just 25 ∷ just 8 ∷ []
+
+program-order : (τ : ℕ → ℕ) (k : ℕ) (s : List ℕ) → InOrder checkNumbers (programChecks τ k s)
+unfolding delayFault sharedFault conflictFault
+program-order τ k s =
+    let S = programOf k s in
+    let bodies = S .bodies in (
+      gives-if (tooManyProcedures k || programLengthWrong s) 1 0,
       (
-        loose-gives false (programOf s) 0,
+        gives-fault (2 ∷ 3 ∷ 4 ∷ []) (λ i. nodeFault (nodeAt s i)) (nodeCount s) (λ i. node-faulty (nodeAt s i)),
         (
-          gives-fault (just 7) (delayFault τ s) (nodeCount s) (λ i. faulty-if (ltb (nodeAt s i .delay) (least τ (stmtAt s i))) 7),
-          (gives-fault (just 8) (conflictFault s) (nodeCount s) (λ i. faulty-if (conflicts (stmtAt s i)) 8), tt),
+          reading-gives (nodesAt s 0) (rootSorts k) 0,
+          (
+            roots-give 22 _ (λ r P i. search-gives 22 _ _ (λ b i. gives-if (not b) 22 i) (λ p i. inl refl) false P i) 0 (roots S) 0,
+            (
+              roots-give 24 _ (λ r P i. search-gives 24 _ _ (λ b i. inl refl) (λ p i. gives-if (leb r p) 24 i) false P i) 0 (roots S) 0,
+              (
+                gives-fault (just 7) (delayFault τ s) (nodeCount s) (λ i. faulty-if (ltb (nodeAt s i .delay) (least τ (stmtAt s i))) 7),
+                (
+                  gives-fault (just 25) (sharedFault bodies s) (nodeCount s)
+                      (λ i. faulty-if (shares (reached bodies) (length bodies) (stmtAt s i)) 25),
+                  (
+                    gives-fault (just 8) (conflictFault bodies s) (nodeCount s)
+                        (λ i. faulty-if (conflicts (inline (inlined bodies) (stmtAt s i))) 8),
+                    tt,
+                  ),
+                ),
+              ),
+            ),
+          ),
         ),
       ),
-    ),
-  ),
-)
+    )
 
-pub check-gives : (times s : List ℕ) → Gives programNumbers (checkOf times s)
+pub check-gives : (options : Options) (s : List ℕ) → Gives programNumbers (checkOf options s)
 unfolding checkOf
-check-gives times s =
-    gives-first programNumbers (just 1 ∷ (2 ∷ 3 ∷ 4 ∷ []) ∷ (5 ∷ 6 ∷ []) ∷ just 22 ∷ just 7 ∷ just 8 ∷ []) (programChecks (timeIn times) s) refl (program-order (timeIn times) s)
+check-gives options s =
+    gives-first programNumbers checkNumbers (programChecks (timeIn (options .times)) (options .procedures) s) refl
+    (program-order (timeIn (options .times)) (options .procedures) s)
 
 table-order : (file : List ℕ) → InOrder (just 19 ∷ just 20 ∷ just 21 ∷ []) (tableChecks file)
 unfolding tableFault
@@ -164,10 +196,14 @@ table-order file = (
   (gives-if (tableSumWrong file) 20 0, (gives-fault (just 21) (tableFault file) 512 (λ i. faulty-if (byteWrong i (getD file i 0)) 21), tt)),
 )
 
-pub table-gives : (T : TimeTable) → Gives tableNumbers (load T .checked)
+verdict-gives : (T : TimeTable) → Gives tableNumbers (verdictOf T)
+unfolding verdictOf
+verdict-gives builtIn = inl refl
+verdict-gives (given file) = gives-first tableNumbers (just 19 ∷ just 20 ∷ just 21 ∷ []) (tableChecks file) refl (table-order file)
+
+pub table-gives : (G : Given) → Gives tableNumbers (load G .checked)
 unfolding load
-table-gives builtIn = inl refl
-table-gives (given file) = gives-first tableNumbers (just 19 ∷ just 20 ∷ just 21 ∷ []) (tableChecks file) refl (table-order file)
+table-gives G = verdict-gives (G .table)
 
 net-gives : (net : List Cell) (f : ℕ) → Gives (just 12) (netCheck net f)
 unfolding netCheck cellFault
@@ -271,23 +307,23 @@ pub write-refuses : (nss : List (List ℕ)) (cs : List Checked) → positive nss
 write-refuses nss cs w o result n f lent =
     rw (writing-verdict (first cs) result n f lent) (refuses nss cs w o, writing-leaves (first cs) result n f lent)
 
-reference-runs : (n : ℕ) (program words : List ℕ) → verdict (referenceAnswer n (run n (programOf program) (wordAt words)) .outcome) ≡ Accepted
+reference-runs : (n : ℕ) (P : Stmt) (words : List ℕ) → verdict (referenceAnswer n (run n P (wordAt words)) .outcome) ≡ Accepted
 unfolding referenceAnswer verdict
-reference-runs n program words = go (run n (programOf program) (wordAt words))
+reference-runs n P words = go (run n P (wordAt words))
   where
     go : (r : Run) → verdict (referenceAnswer n r .outcome) ≡ Accepted
     go (done atEnd t σ) = refl
     go (done atExit t σ) = refl
     go still = refl
 
-pub compile-order : (times program lent : List ℕ) → InOrder (programNumbers ∷ just 14 ∷ []) (netlistChecks times program lent)
-compile-order times program lent = (check-gives times program, (short-gives (length lent) (length (compiledFile program)), tt))
+pub compile-order : (options : Options) (program lent : List ℕ) → InOrder (programNumbers ∷ just 14 ∷ []) (netlistChecks options program lent)
+compile-order options program lent = (check-gives options program, (short-gives (length lent) (length (compiledFile options program)), tt))
 
-pub run-order : (times program words : List ℕ) (n : ℕ) (forFile lent : List ℕ)
-    → InOrder (programNumbers ∷ just 13 ∷ just 14 ∷ just 14 ∷ just 14 ∷ []) (fullRunChecks times program words n forFile lent)
-run-order times program words n forFile lent =
-    let file = compiledFile program in
-    (check-gives times program, (budget-gives n, (short-gives (length words) 544, (short-gives (length forFile) (length file), (short-gives (length lent) (stateSize (cellsOf file)), tt)))))
+pub run-order : (options : Options) (program words : List ℕ) (n : ℕ) (forFile lent : List ℕ)
+    → InOrder (programNumbers ∷ just 13 ∷ just 14 ∷ just 14 ∷ just 14 ∷ []) (fullRunChecks options program words n forFile lent)
+run-order options program words n forFile lent =
+    let file = compiledFile options program in
+    (check-gives options program, (budget-gives n, (short-gives (length words) 544, (short-gives (length forFile) (length file), (short-gives (length lent) (stateSize (cellsOf file)), tt)))))
 
 -- continuing by n, and what more is checked after it
 going-order : (file : List ℕ) (n : ℕ) (lent : List ℕ) (nss : List (List ℕ)) (cs : List Checked) → InOrder nss cs
@@ -308,16 +344,16 @@ run-both-refuses nss cs w o file s n forFile lent =
     rw (running-verdict (first cs) file s n lent)
     (refuses nss cs w o, writing-leaves (first cs) file (length file) 0 forFile, running-leaves (first cs) file s n lent)
 
-program-runs : (T : TimeTable) (program words : List ℕ) (n : ℕ) (forFile lent : List ℕ) →
-    let r = runProgramCall (load T) program words n forFile lent in
+program-runs : (G : Given) (program words : List ℕ) (n : ℕ) (forFile lent : List ℕ) →
+    let r = runProgramCall (load G) program words n forFile lent in
     let c = verdict (r .answer .outcome) in
-    Refuses (tableNumbers ∷ programNumbers ∷ just 13 ∷ just 14 ∷ just 14 ∷ just 14 ∷ []) (runProgramChecks (load T) program words n forFile lent) c
+    Refuses (tableNumbers ∷ programNumbers ∷ just 13 ∷ just 14 ∷ just 14 ∷ just 14 ∷ []) (runProgramChecks (load G) program words n forFile lent) c
     × Leaves c forFile (r .netlist) × Leaves c lent (r .state)
 unfolding runProgramCall
-program-runs T program words n forFile lent =
-    let file = compiledFile program in
-    run-both-refuses _ (runProgramChecks (load T) program words n forFile lent) refl
-    (table-gives T, run-order (load T .times) program words n forFile lent) file (fullState file words n lent)
+program-runs G program words n forFile lent =
+    let file = compiledFile (load G) program in
+    run-both-refuses _ (runProgramChecks (load G) program words n forFile lent) refl
+    (table-gives G, run-order (load G) program words n forFile lent) file (fullState file words n lent)
     (fullCount file words n lent) forFile lent
 
 pub demand-1 : Demand1
@@ -325,15 +361,17 @@ unfolding checkCall checkOf fileCheck compileCall writeCall readCall beginCall c
 demand-1 =
     record {
       places = first-place;
-      tables = λ file. unfold load in refuses _ (tableChecks file) refl (table-order file);
-      programs = λ T program.
-          let τ = timeIn (load T .times) in
-          rw (first-behind (load T .checked) (first (programChecks τ program) ∷ []) (programChecks τ program) (sym (first-one _)))
-          (refuses _ (load T .checked ∷ programChecks τ program) refl (table-gives T, program-order τ program));
+      tables = λ file k. unfold load verdictOf in refuses _ (tableChecks file) refl (table-order file);
+      programs = λ G program. unfold load in
+          let τ = timeIn (load G .times) in
+          let checks = programChecks τ (G .procedures) program in
+          rw (first-behind (load G .checked) (first checks ∷ []) checks (sym (first-one _)))
+          (refuses _ (load G .checked ∷ checks) refl (table-gives G, program-order τ (G .procedures) program));
       files = λ file. refuses _ (fileChecks file) refl (file-order file);
-      compiling = λ T program lent.
-          write-refuses _ (compileChecks (load T) program lent) refl (table-gives T, compile-order (load T .times) program lent) (compiledFile program) (length (compiledFile program))
-          (finish (programOf program)) lent;
+      compiling = λ G program lent.
+          let file = compiledFile (load G) program in
+          write-refuses _ (compileChecks (load G) program lent) refl (table-gives G, compile-order (load G) program lent) file (length file)
+          (finish (programWith (load G) program)) lent;
       writing = λ cells f lent.
           let net = cellsIn cells in
           write-refuses _ (writeChecks cells f lent) refl (
@@ -359,9 +397,10 @@ demand-1 =
           (file-gives file, (budget-gives n, (short-gives (length words) 544, (short-gives (length lent) (stateSize (cellsOf file)), tt)))) file
           (fullState file words n lent) (fullCount file words n lent) lent;
       programRuns = program-runs;
-      references = λ T program words n.
-          rw (answering-verdict (first (referenceChecks (load T) program words n)) (referenceAnswer n (run n (programOf program) (wordAt words))) (reference-runs n program words))
-          (refuses _ (referenceChecks (load T) program words n) refl (table-gives T, (check-gives (load T .times) program, (budget-gives n, (short-gives (length words) 544, tt)))));
+      references = λ G program words n.
+          let P = meaning (programWith (load G) program) in
+          rw (answering-verdict (first (referenceChecks (load G) program words n)) (referenceAnswer n (run n P (wordAt words))) (reference-runs n P words))
+          (refuses _ (referenceChecks (load G) program words n) refl (table-gives G, (check-gives (load G) program, (budget-gives n, (short-gives (length words) 544, tt)))));
       cellsChecked = λ cs f. unfold checkCellsCall in refuses _ (checkCellsChecks cs f) refl (miscount-gives cs f, (net-gives cs f, tt));
       cellsWritten = λ cs f lent. unfold writeCellsCall in
           write-refuses _ (writeCellsChecks cs f lent) refl (miscount-gives cs f, (net-gives cs f, (short-gives (length lent) (length (fileOf cs f)), tt)))

@@ -12,7 +12,7 @@ use borrow.Author.Tests.{eqb-true, eqb-false}
 use Rattle.laws.specs.State.Passes.{cleared-zero, length-counted, begin-is, begin-instant}
 use Rattle.model.specs.declared.Cell.{Cell}
 use Rattle.model.specs.Word.{pick, bit, index, elementOf, elementWord, get16, bytes16}
-use Rattle.model.specs.Circuit.{cellAt, Sig, Values, level, delayed, heldBefore, memory, Elements, element, arrayAt, equation, startWord, Obeys, Shape, kDelay, kMemory, kRead}
+use Rattle.model.specs.Circuit.{cellAt, Sig, Values, level, delayed, heldBefore, stepOf, memory, Elements, element, arrayAt, equation, startWord, Obeys, Shape, kDelay, kMemory, kRead}
 use Rattle.model.specs.State.{stateSize, base, elementNow, instantOf, nowAt, beforeAt, heldAt, lineBit, nextValue, value, firstValue, counted, wordBytes, beginState}
 use Rattle.model.specs.CircuitPromises.{earlier}
 use Rattle.laws.specs.Circuit.Ordered.{kinds, Ordered}
@@ -116,7 +116,7 @@ module _ (net : List Cell) (ordered : Ordered net) (starts : Sig) (words : ℕ �
   unfolding Z
   line-Z k h i g = zero-line (8 + 40 * length net) tail k (omega arith) i g
 
-  held-Z : (k : ℕ) → k < length net → heldAt Z k ≡ heldBefore (level W (cellAt net k .a)) (level W (cellAt net k .b)) 0
+  held-Z : (k : ℕ) → k < length net → heldAt Z k ≡ heldBefore (stepOf (cellAt net k .kind)) (level W (cellAt net k .a)) (level W (cellAt net k .b)) 0
   unfolding Z heldBefore
   held-Z k h = zero-held (8 + 40 * length net) tail k (omega arith)
 
@@ -177,7 +177,7 @@ module _ (net : List Cell) (ordered : Ordered net) (starts : Sig) (words : ℕ �
       go false f =
           ap (λ (x : Bool). value net x (two net w Z k) k) (sym pulse)
           ∙ later-is net starts (element net words W) W (kinds net) 0 (startWord net words k) k (length net) (cellAt net k) (two net w Z k) lower
-          (shapeAt net k) (ordered .looks k h) (begin-delay k h) (λ z. seen-held net w Z k k h ∙ held-Z k h)
+          (shapeAt net k) refl (ordered .looks k h) (begin-delay k h) (λ z. seen-held net w Z k k h ∙ held-Z k h)
           (λ z. absurd (eqb-false kind 40 f (memory-kind kind z))) (begin-read k h lower)
 
   abbrev B : List ℕ

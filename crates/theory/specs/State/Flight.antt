@@ -13,12 +13,12 @@ use borrow.Author.Tests.{eqb-true, eq-eqb}
 use Rattle.model.specs.declared.Cell.{Cell}
 use Rattle.model.specs.declared.Merge.{Merge}
 use Rattle.model.specs.Word.{bit}
-use Rattle.model.specs.Circuit.{cellAt, Values}
+use Rattle.model.specs.Circuit.{cellAt, Values, merges}
 use Rattle.model.specs.State.{stateSize, base, elementBase, elementNow, instantOf, flightOf, nowAt, beforeAt, heldAt, lineBit, ones, heldBits, inFlight, flightIn, flight, counted}
 use Rattle.model.specs.CircuitPromises.{lineOf, heldOf, Holds, Idle}
 use Rattle.laws.specs.Refusals.Laws.{by-bool, by-le}
 use Rattle.laws.specs.Circuit.Ordered.{kinds, Ordered}
-use Rattle.laws.specs.Circuit.Shapes.{delay-kind, merge-kind, delay-shape, merge-shape}
+use Rattle.laws.specs.Circuit.Shapes.{delay-kind, delay-shape, by-merge}
 use Rattle.laws.specs.State.Passes.{Line, get16-same, get32-same, same-held, counted-other}
 use Rattle.laws.specs.State.Flight.{delay-low, cell-same, cellFlight, sum-same, flight-same, counted-same, counted-tells}
 use Rattle.theory.specs.State.Holding.{Clean, Body, Holding}
@@ -102,7 +102,7 @@ module _ (net : List Cell) (ordered : Ordered net) where
       (λ q i b.
       H .body .lines k l (delay-shape _ q) i
       (omega (arith, delay-low (kinds net) (length net) k (cellAt net k) (cellAt net k .kind) q (ordered .looks k l) .1)))
-      (λ q. H .body .held k l (merge-shape _ q))))
+      (λ q. H .body .held k l q)))
 
 -- What the number tells -----------------------------------------------------------------------------------------------------------------
 
@@ -160,15 +160,15 @@ module _ (l : ℕ → ℕ) (m : Merge) (c : Cell) where
   unfolding inFlight
   delay-none q h = rw (eq-eqb _ _ q) at h
 
-  merge-none : c .kind ≡ 38 → inFlight l m c ≡ 0 → heldBits m ≡ 0
-  unfolding inFlight
-  merge-none q h = rw q at h
+  merge-none : merges (c .kind) ≡ true → inFlight l m c ≡ 0 → heldBits m ≡ 0
+  unfolding inFlight merges
+  merge-none e h = by-merge (c .kind) e (λ q. rw q at h) (λ q. rw q at h)
 
-  cell-none : (c .kind ≡ 34 → ones l (c .delay) ≡ 0) → (c .kind ≡ 38 → heldBits m ≡ 0) → inFlight l m c ≡ 0
+  cell-none : (c .kind ≡ 34 → ones l (c .delay) ≡ 0) → (merges (c .kind) ≡ true → heldBits m ≡ 0) → inFlight l m c ≡ 0
   unfolding inFlight
   cell-none p q =
       by-bool (eqb (c .kind) 34) (λ e. rw e (p (eqb-true _ _ e)))
-      (λ e. by-bool (eqb (c .kind) 38) (λ f. rw (e, f) (q (eqb-true _ _ f))) (λ f. rw (e, f) refl))
+      (λ e. by-bool (merges (c .kind)) (λ f. rw (e, f) (q f)) (λ f. rw (e, f) refl))
 
 -- 0 exactly where nothing is in flight, whatever the netlist
 pub number-zero : (net : List Cell) (words : ℕ → ℕ) (W : Values) (t : ℕ) (s : List ℕ) → Holds net words W t s → (flightOf s ≡ 0) ↔ Idle net W t
@@ -184,7 +184,7 @@ number-zero net words W t s H = (
             no-bit _
             (none-ones (lineOf net W t k) (cellAt net k .delay)
             (delay-none (lineOf net W t k) (heldOf net W t k) (cellAt net k) (delay-kind _ q) (at k l)) i b);
-        merges = λ k l q. no-bits _ (merge-none (lineOf net W t k) (heldOf net W t k) (cellAt net k) (merge-kind _ q) (at k l));
+        held = λ k l q. no-bits _ (merge-none (lineOf net W t k) (heldOf net W t k) (cellAt net k) q (at k l));
       }),
   (λ I.
       H .number
@@ -194,5 +194,5 @@ number-zero net words W t s H = (
       rw e
       (cell-none (lineOf net W t k) (heldOf net W t k) (cellAt net k)
       (λ q. ones-none (lineOf net W t k) (cellAt net k .delay) (λ i b. bit-none _ (I .delays k l (delay-shape _ q) i b)))
-      (λ q. ap heldBits (I .merges k l (merge-shape _ q)))))),
+      (λ q. ap heldBits (I .held k l q))))),
 )

@@ -1,6 +1,7 @@
 -- What the bytes of a state hold of the values that obey the equations, and what the passes of one instant make of it: the values in rising order,
 -- then held bits, lines, and bytes without a use. Assumes nothing.
-use mathlib.Core.Bool.{false, not, _&&_, _||_}
+use Rattle.laws.specs.Refusals.Laws.{by-bool}
+use mathlib.Core.Bool.{false, not, _&&_, _||_, true}
 use mathlib.Core.List.{List}
 use mathlib.Core.Logic.{inl, inr}
 use mathlib.Core.Path.{_≡_, refl, sym, _∙_, ap, ap₂}
@@ -10,16 +11,16 @@ use native.Mathlib.Decide.{ℕ-discrete, decLe}
 use lib.ListN.{getD, set, length, length-set}
 use lib.Seq.{getD-set-same, getD-set-other}
 use lib.Dec.{eqb, leb}
-use borrow.Author.Tests.{le-leb, lt-leb, eqb-true}
+use borrow.Author.Tests.{le-leb, lt-leb, eqb-true, eq-eqb}
 use Rattle.model.specs.declared.Cell.{Cell}
 use Rattle.model.specs.declared.Merge.{Merge}
 use Rattle.model.specs.Word.{pick, bit, isZero, operate, index}
-use Rattle.model.specs.Circuit.{cellAt, Sig, Values, high, level, delayed, mergeStep, heldBefore, merged, memory, Elements, element, arrayAt, equation, Shape, cellTable, kConstant, kComplement, kOperator, kStart, kGround, kDelay, kOr, kWhenTrue, kWhenFalse, kMerge, kMemory, kGated, kArray, kAddress, kRead, kUnknown}
+use Rattle.model.specs.Circuit.{cellAt, Sig, Values, high, level, delayed, mergeStep, returnStep, Step, heldBefore, merged, merges, stepOf, shape, memory, Elements, element, arrayAt, equation, Shape, cellTable, kConstant, kComplement, kOperator, kStart, kGround, kDelay, kOr, kWhenTrue, kWhenFalse, kMerge, kReturn, kMemory, kGated, kArray, kAddress, kRead, kUnknown}
 use Rattle.model.specs.State.{base, elementNow, instantOf, flightOf, nowAt, beforeAt, heldAt, lineBit, nextValue, holding, settle, flight}
 use Rattle.model.specs.CircuitPromises.{earlier}
 use Rattle.theory.specs.Numbering.Levels.{delayed-zero}
 use Rattle.laws.specs.Circuit.Ordered.{Looks, kinds, Ordered}
-use Rattle.laws.specs.Circuit.Shapes.{delay-kind, merge-kind, bit-le}
+use Rattle.laws.specs.Circuit.Shapes.{delay-kind, merge-kind, return-kind, merge-shape, return-shape, of-merge, of-return, by-merge, bit-le}
 use Rattle.laws.specs.State.Passes.{shapeAt, shifted-frame, holding-frame, two, three, length-three, after, third-at, third-own, now-after, seen-now, held-after, Line, line-new}
 
 -- Delayed signals --------------------------------------------------------------------------------------------------------------------------------
@@ -43,38 +44,48 @@ delayed-more d x t = go (decLe d t)
 -- what a cell shows in the second pass is what its equation says at instant T, if lower cells show theirs; s is the state in that pass
 module _ (net : List Cell) (starts : Sig) (E : Elements) (W : Values) (K : ℕ → ℕ) (T first k n : ℕ) (c : Cell) (s : List ℕ)
     (lower : (a : ℕ) → a < k → nowAt s a ≡ W a T) where
-  pub later-is : (sh : Shape) → Looks (cellTable sh .row) K n k c
+  -- what a merge holds, by its own step
+  held-by : (sh : Shape) (step : Step) → (merges (c .kind) ≡ true) × (stepOf (c .kind) ≡ step)
+      → (merges (c .kind) ≡ true → heldAt s k ≡ heldBefore (stepOf (c .kind)) (level W (c .a)) (level W (c .b)) T)
+      → heldAt s k ≡ heldBefore step (level W (c .a)) (level W (c .b)) T
+  held-by sh step z r = r (z .0) ∙ ap (λ (f : Step). heldBefore f (level W (c .a)) (level W (c .b)) T) (z .1)
+
+  pub later-is : (sh : Shape) → shape (c .kind) ≡ sh → Looks (cellTable sh .row) K n k c
       → (sh ≡ kDelay → lineBit s k (c .delay - 1) ≡ bit (delayed (c .delay) (level W (c .a)) T))
-      → (sh ≡ kMerge → heldAt s k ≡ heldBefore (level W (c .a)) (level W (c .b)) T)
+      → (merges (c .kind) ≡ true → heldAt s k ≡ heldBefore (stepOf (c .kind)) (level W (c .a)) (level W (c .b)) T)
       → (sh ≡ kMemory → nextValue kMemory (starts T) net s k c ≡ memory first W k c T)
       → (sh ≡ kRead → nextValue kRead (starts T) net s k c ≡ E (c .a) (index (W (c .b) T)) T)
       → nextValue sh (starts T) net s k c ≡ equation sh starts first E W k c T
   unfolding nextValue equation merged cellTable
-  later-is kConstant o q r m e = refl
-  later-is kComplement o q r m e = ap (λ (x : ℕ). operate 3 x 0) (lower (c .a) (o .1 .0))
-  later-is kOperator o q r m e = ap₂ (λ (x y : ℕ). operate (c .kind) x y) (lower (c .a) (o .1 .0)) (lower (c .b) (o .2 .0))
-  later-is kStart o q r m e = refl
-  later-is kGround o q r m e = refl
-  later-is kDelay o q r m e = q refl
-  later-is kOr o q r m e = ap₂ (λ (x y : ℕ). bit (high x || high y)) (lower (c .a) (o .1 .0)) (lower (c .b) (o .2 .0))
-  later-is kWhenTrue o q r m e = ap₂ (λ (x y : ℕ). bit (high x && not (isZero y))) (lower (c .a) (o .1 .0)) (lower (c .b) (o .2 .0))
-  later-is kWhenFalse o q r m e = ap₂ (λ (x y : ℕ). bit (high x && isZero y)) (lower (c .a) (o .1 .0)) (lower (c .b) (o .2 .0))
-  later-is kMerge o q r m e = rw (r refl, lower (c .a) (o .1 .0), lower (c .b) (o .2 .0))
-  later-is kMemory o q r m e = m refl
-  later-is kGated o q r m e = ap₂ (λ (x y : ℕ). pick (high x) y 0) (lower (c .a) (o .1 .0)) (lower (c .b) (o .2 .0))
-  later-is kArray o q r m e = refl
-  later-is kAddress o q r m e = refl
-  later-is kRead o q r m e = e refl
-  later-is kUnknown o q r m e = refl
+  later-is kConstant z o q r m e = refl
+  later-is kComplement z o q r m e = ap (λ (x : ℕ). operate 3 x 0) (lower (c .a) (o .1 .0))
+  later-is kOperator z o q r m e = ap₂ (λ (x y : ℕ). operate (c .kind) x y) (lower (c .a) (o .1 .0)) (lower (c .b) (o .2 .0))
+  later-is kStart z o q r m e = refl
+  later-is kGround z o q r m e = refl
+  later-is kDelay z o q r m e = q refl
+  later-is kOr z o q r m e = ap₂ (λ (x y : ℕ). bit (high x || high y)) (lower (c .a) (o .1 .0)) (lower (c .b) (o .2 .0))
+  later-is kWhenTrue z o q r m e = ap₂ (λ (x y : ℕ). bit (high x && not (isZero y))) (lower (c .a) (o .1 .0)) (lower (c .b) (o .2 .0))
+  later-is kWhenFalse z o q r m e = ap₂ (λ (x y : ℕ). bit (high x && isZero y)) (lower (c .a) (o .1 .0)) (lower (c .b) (o .2 .0))
+  later-is kMerge z o q r m e = rw (held-by kMerge mergeStep (of-merge (c .kind) z) r, lower (c .a) (o .1 .0), lower (c .b) (o .2 .0))
+  later-is kReturn z o q r m e = rw (held-by kReturn returnStep (of-return (c .kind) z) r, lower (c .a) (o .1 .0), lower (c .b) (o .2 .0))
+  later-is kMemory z o q r m e = m refl
+  later-is kGated z o q r m e = ap₂ (λ (x y : ℕ). pick (high x) y 0) (lower (c .a) (o .1 .0)) (lower (c .b) (o .2 .0))
+  later-is kArray z o q r m e = refl
+  later-is kAddress z o q r m e = refl
+  later-is kRead z o q r m e = e refl
+  later-is kUnknown z o q r m e = refl
 
 -- what a cell of a known shape looks at
 looks-as : (K : ℕ → ℕ) (n k : ℕ) (c : Cell) {sh known : Shape} → sh ≡ known → Looks (cellTable sh .row) K n k c → Looks (cellTable known .row) K n k c
 looks-as K n k c e o = rw e at o
 
 module _ (K : ℕ → ℕ) (n k : ℕ) (c : Cell) {sh : Shape} where
-  merge-looks : sh ≡ kMerge → Looks (cellTable sh .row) K n k c → (c .a < k) × (c .b < k)
+  merge-looks : merges (c .kind) ≡ true → shape (c .kind) ≡ sh → Looks (cellTable sh .row) K n k c → (c .a < k) × (c .b < k)
   unfolding cellTable
-  merge-looks e o = let (d, a, b) = looks-as K n k c e o in (a .0, b .0)
+  merge-looks e z o =
+      by-merge (c .kind) e
+      (λ q. let (d, a, b) = looks-as K n k c (sym z ∙ merge-shape (c .kind) q) o in (a .0, b .0))
+      (λ q. let (d, a, b) = looks-as K n k c (sym z ∙ return-shape (c .kind) q) o in (a .0, b .0))
 
   pub delay-looks : sh ≡ kDelay → Looks (cellTable sh .row) K n k c → (1 ≤ c .delay) × (c .delay ≤ 255) × (c .a < n)
   unfolding cellTable
@@ -90,10 +101,14 @@ module _ (K : ℕ → ℕ) (n k : ℕ) (c : Cell) {sh : Shape} where
 
 -- Bytes without a use ------------------------------------------------------------------------------------------------------------------------------
 
--- from byte 6 of a cell on, only a delay's line is set; held bits are 0 or 1, and 0 where the cell is no merge
+-- how large held bit j of a cell of this kind may be: "held b never set" in a 39
+abbrev pub mostHeld : ℕ → ℕ → ℕ → ℕ
+mostHeld kind k j = bit (pick (eqb j (base k + 4)) (merges kind) (eqb kind 38))
+
+-- from byte 6 of a cell on, only a delay's line is set; held bits are 0 or 1, and 0 where the cell holds none
 pub record Clean (net : List Cell) (s : List ℕ) (k : ℕ) : Type 0 where
   pub rest : (j : ℕ) → base k + 6 ≤ j → j < base k + 40 → (cellAt net k .kind ≡ 34 → j < base k + 8) → getD s j 0 ≡ 0
-  pub bits : (j : ℕ) → base k + 4 ≤ j → j < base k + 6 → getD s j 0 ≤ bit (eqb (cellAt net k .kind) 38)
+  pub bits : (j : ℕ) → base k + 4 ≤ j → j < base k + 6 → getD s j 0 ≤ mostHeld (cellAt net k .kind) k j
 
 settle-rest : (sh : Shape) (t : List ℕ) (k : ℕ) (c : Cell) (j : ℕ) → base k + 6 ≤ j → (sh ≡ kDelay → j < base k + 8) → getD (settle sh t k c) j 0 ≡ getD t j 0
 unfolding settle
@@ -107,6 +122,7 @@ settle-rest kOr t k c j h g = refl
 settle-rest kWhenTrue t k c j h g = refl
 settle-rest kWhenFalse t k c j h g = refl
 settle-rest kMerge t k c j h g = holding-frame t k _ j (inr h)
+settle-rest kReturn t k c j h g = holding-frame t k _ j (inr h)
 settle-rest kMemory t k c j h g = refl
 settle-rest kGated t k c j h g = refl
 settle-rest kArray t k c j h g = refl
@@ -127,28 +143,41 @@ held-bits t k m j r h g = go (ℕ-discrete j (base k + 5))
         (bit-le (m .a))
 
 settle-bits : (sh : Shape) (t : List ℕ) (k : ℕ) (c : Cell) (j B : ℕ) → base k + 6 ≤ length t → base k + 4 ≤ j → j < base k + 6 → getD t j 0 ≤ B
-    → (sh ≡ kMerge → B ≡ 1) → getD (settle sh t k c) j 0 ≤ B
+    → (sh ≡ kMerge → B ≡ 1) → (sh ≡ kReturn → j ≡ base k + 4 → B ≡ 1) → getD (settle sh t k c) j 0 ≤ B
 unfolding settle
-settle-bits kConstant t k c j B r h g l e = l
-settle-bits kComplement t k c j B r h g l e = l
-settle-bits kOperator t k c j B r h g l e = l
-settle-bits kStart t k c j B r h g l e = l
-settle-bits kGround t k c j B r h g l e = l
-settle-bits kDelay t k c j B r h g l e = rw (shifted-frame 32 t (base k + 8) (bit (high (nowAt t (c .a)))) j (inl (omega arith))) l
-settle-bits kOr t k c j B r h g l e = l
-settle-bits kWhenTrue t k c j B r h g l e = l
-settle-bits kWhenFalse t k c j B r h g l e = l
-settle-bits kMerge t k c j B r h g l e = rw (e refl) (held-bits t k (mergeStep (heldAt t k) (high (nowAt t (c .a))) (high (nowAt t (c .b))) .held) j r h g)
-settle-bits kMemory t k c j B r h g l e = l
-settle-bits kGated t k c j B r h g l e = l
-settle-bits kArray t k c j B r h g l e = l
-settle-bits kAddress t k c j B r h g l e = l
-settle-bits kRead t k c j B r h g l e = l
-settle-bits kUnknown t k c j B r h g l e = l
+settle-bits kConstant t k c j B r h g l e f = l
+settle-bits kComplement t k c j B r h g l e f = l
+settle-bits kOperator t k c j B r h g l e f = l
+settle-bits kStart t k c j B r h g l e f = l
+settle-bits kGround t k c j B r h g l e f = l
+settle-bits kDelay t k c j B r h g l e f = rw (shifted-frame 32 t (base k + 8) (bit (high (nowAt t (c .a)))) j (inl (omega arith))) l
+settle-bits kOr t k c j B r h g l e f = l
+settle-bits kWhenTrue t k c j B r h g l e f = l
+settle-bits kWhenFalse t k c j B r h g l e f = l
+settle-bits kMerge t k c j B r h g l e f = rw (e refl) (held-bits t k (mergeStep (heldAt t k) (high (nowAt t (c .a))) (high (nowAt t (c .b))) .held) j r h g)
+settle-bits kReturn t k c j B r h g l e f = go (ℕ-discrete j (base k + 5))
+  where
+    m : Merge
+    m = returnStep (heldAt t k) (high (nowAt t (c .a))) (high (nowAt t (c .b))) .held
 
-one-bit : (k : ℕ) → k ≡ 38 → bit (eqb k 38) ≡ 1
-unfolding bit
-one-bit k e = rw e
+    go : Dec (j ≡ base k + 5) → getD (holding t k m) j 0 ≤ B
+    go (yes q) = unfold holding returnStep bit in
+        rw (q, getD-set-same (set t (base k + 4) (bit (m .a))) (base k + 5) 0 0 (simp length-set (omega arith))) (omega arith)
+    go (no n) = rw (f refl (omega arith)) (held-bits t k m j r h g)
+settle-bits kMemory t k c j B r h g l e f = l
+settle-bits kGated t k c j B r h g l e f = l
+settle-bits kArray t k c j B r h g l e f = l
+settle-bits kAddress t k c j B r h g l e f = l
+settle-bits kRead t k c j B r h g l e f = l
+settle-bits kUnknown t k c j B r h g l e f = l
+
+one-bit : (kind k j : ℕ) → kind ≡ 38 → mostHeld kind k j ≡ 1
+unfolding bit merges
+one-bit kind k j e = by-bool (eqb j (base k + 4)) (λ z. rw (z, e)) (λ z. rw (z, e))
+
+first-bit : (kind k j : ℕ) → kind ≡ 39 → j ≡ base k + 4 → mostHeld kind k j ≡ 1
+unfolding bit merges
+first-bit kind k j e z = rw (e, eq-eqb j (base k + 4) z)
 
 -- the passes keep bytes without a use
 module _ (net : List Cell) (v : List ℕ → ℕ → ℕ) (u : List ℕ) (room : 8 + 40 * length net ≤ length u) (k : ℕ) (l : k < length net) where
@@ -162,8 +191,8 @@ module _ (net : List Cell) (v : List ℕ → ℕ → ℕ) (u : List ℕ) (room :
             ∙ d .rest j x y z;
         bits = λ j x y.
             rw (third-at net v u k j l (omega arith) (omega arith))
-            (settle-bits (shapeAt net k) (three net v u k) k (cellAt net k) j (bit (eqb (cellAt net k .kind) 38)) (rw (length-three net v u k) (omega arith)) x y
-            (rw (third-own net v u k j l (omega arith) (omega arith)) (d .bits j x y)) (λ e. one-bit _ (merge-kind _ e)));
+            (settle-bits (shapeAt net k) (three net v u k) k (cellAt net k) j (mostHeld (cellAt net k .kind) k j) (rw (length-three net v u k) (omega arith)) x y
+            (rw (third-own net v u k j l (omega arith) (omega arith)) (d .bits j x y)) (λ e. one-bit _ k j (merge-kind _ e)) (λ e q. first-bit _ k j (return-kind _ e) q));
       }
 
 -- What a state holds ---------------------------------------------------------------------------------------------------------------------------------
@@ -172,8 +201,8 @@ module _ (net : List Cell) (v : List ℕ → ℕ → ℕ) (u : List ℕ) (room :
 pub record Body (net : List Cell) (words : ℕ → ℕ) (W : Values) (t : ℕ) (s : List ℕ) : Type 0 where
   pub present : (k : ℕ) → k < length net → nowAt s k ≡ W k t
   pub past : (k : ℕ) → k < length net → beforeAt s k ≡ earlier W k t
-  pub held : (k : ℕ) → k < length net → shapeAt net k ≡ kMerge
-      → heldAt s k ≡ heldBefore (level W (cellAt net k .a)) (level W (cellAt net k .b)) (suc t)
+  pub held : (k : ℕ) → k < length net → merges (cellAt net k .kind) ≡ true
+      → heldAt s k ≡ heldBefore (stepOf (cellAt net k .kind)) (level W (cellAt net k .a)) (level W (cellAt net k .b)) (suc t)
   pub lines : (k : ℕ) → k < length net → shapeAt net k ≡ kDelay
       → (i : ℕ) → i < 256 → lineBit s k i ≡ bit (delayed i (level W (cellAt net k .a)) t)
   pub elements : (a i : ℕ) → a < 4 → i < 64 → elementNow net s (64 * a + i) ≡ element net words W (arrayAt net a) i t
@@ -202,11 +231,12 @@ module _ (net : List Cell) (ordered : Ordered net) (W : Values) (T : ℕ)
   pub now-is : (k : ℕ) → k < length net → nowAt (after net v u) k ≡ W k T
   now-is k h = now-up-to (length net) (omega arith) k h
 
-  pub held-is : (k : ℕ) → k < length net → shapeAt net k ≡ kMerge → heldAt u k ≡ heldBefore (level W (cellAt net k .a)) (level W (cellAt net k .b)) T
-      → heldAt (after net v u) k ≡ heldBefore (level W (cellAt net k .a)) (level W (cellAt net k .b)) (suc T)
+  pub held-is : (k : ℕ) → k < length net → merges (cellAt net k .kind) ≡ true
+      → heldAt u k ≡ heldBefore (stepOf (cellAt net k .kind)) (level W (cellAt net k .a)) (level W (cellAt net k .b)) T
+      → heldAt (after net v u) k ≡ heldBefore (stepOf (cellAt net k .kind)) (level W (cellAt net k .a)) (level W (cellAt net k .b)) (suc T)
   unfolding heldBefore
   held-is k h e r =
-      let o = merge-looks (kinds net) (length net) k (cellAt net k) e (ordered .looks k h) in
+      let o = merge-looks (kinds net) (length net) k (cellAt net k) e refl (ordered .looks k h) in
       held-after net v u room k h e
       ∙ rw (r, now-is (cellAt net k .a) (omega arith), now-is (cellAt net k .b) (omega arith))
 

@@ -12,7 +12,7 @@ use lib.Seq.{drop-at, drop-set-lt}
 use Rattle.model.specs.declared.Cell.{Cell}
 use Rattle.model.specs.declared.Merge.{Merge}
 use Rattle.model.specs.Word.{pick, bit, elementOf, put16, put32}
-use Rattle.model.specs.Circuit.{cellAt, Sig, high, Shape, shape, kConstant, kComplement, kOperator, kStart, kGround, kDelay, kOr, kWhenTrue, kWhenFalse, kMerge, kMemory, kGated, kArray, kAddress, kRead, kUnknown}
+use Rattle.model.specs.Circuit.{cellAt, Sig, high, Shape, shape, kConstant, kComplement, kOperator, kStart, kGround, kDelay, kOr, kWhenTrue, kWhenFalse, kMerge, kReturn, kMemory, kGated, kArray, kAddress, kRead, kUnknown}
 use Rattle.model.specs.State.{stateSize, base, elementBase, instantOf, nowAt, beforeAt, value, firstValue, upTo, aged, stored, shown, shiftedIn, holding, settle, settled, counted, wordBytes, blank, evaluate, beginState, stepState}
 use Rattle.model.specs.CircuitPromises.{stateAt}
 use Rattle.laws.specs.Refusals.Laws.{and-true}
@@ -56,6 +56,7 @@ past-settle n kOr s k c l = refl
 past-settle n kWhenTrue s k c l = refl
 past-settle n kWhenFalse s k c l = refl
 past-settle n kMerge s k c l = past-holding n s k _ l
+past-settle n kReturn s k c l = past-holding n s k _ l
 past-settle n kMemory s k c l = refl
 past-settle n kGated s k c l = refl
 past-settle n kArray s k c l = refl

@@ -7,7 +7,7 @@ use native.Mathlib.Nat.{add-zero}
 use native.Mathlib.Omega.{arith}
 use lib.ListN.{getD, length, take, drop}
 use lib.Seq.{getD-drop}
-use borrow.Author.Tests.{le-leb, eq-eqb, eqb-false}
+use borrow.Author.Tests.{le-leb, eq-eqb, ne-eqb, eqb-false}
 use Rattle.laws.specs.NetlistFile.CellBytes.{zero-run}
 use Rattle.model.specs.declared.Cell.{Cell}
 use Rattle.model.specs.Circuit.{cellAt, noCell, Sig, Values, control, Obeys}
@@ -51,8 +51,8 @@ module _ (net : List Cell) (ordered : Ordered net) (starts : Sig) (words : ℕ �
       (le-leb (beforeAt s k) 1 (rw (H .body .past k h) (earlier-le k h e t)))))
       (and-of
       (and-of
-      (le-leb _ _ (d .bits (base k + 4) (omega arith) (omega arith)))
-      (le-leb _ _ (d .bits (base k + 5) (omega arith) (omega arith))))
+      (le-leb _ _ (rw (eq-eqb (base k + 4) (base k + 4) refl) at (d .bits (base k + 4) (omega arith) (omega arith))))
+      (le-leb _ _ (rw (ne-eqb (base k + 5) (base k + 4) (λ z. omega arith)) at (d .bits (base k + 5) (omega arith) (omega arith)))))
       (and-of
       (zero-slice 2 (base k + 6) s (λ i x y. d .rest i (omega arith) (omega arith) (λ e. omega arith)))
       (unless _ _ (λ e. zero-slice 32 (base k + 8) s (λ i x y. d .rest i (omega arith) (omega arith) (λ z. absurd (eqb-false (cellAt net k .kind) 34 e z)))))))

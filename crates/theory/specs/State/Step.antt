@@ -1,12 +1,13 @@
 -- A further instant keeps what a state holds. Assumes nothing.
+use mathlib.Core.Bool.{true}
 use mathlib.Core.List.{List}
-use mathlib.Core.Path.{_≡_, sym, _∙_, ap}
+use mathlib.Core.Path.{_≡_, sym, _∙_, ap, refl}
 use Prim.Native.Nat.{ℕ, zero, suc, _+_, _-_, _*_, _/_, _<_, _≤_}
 use native.Mathlib.Omega.{arith}
 use lib.ListN.{length}
 use Rattle.model.specs.declared.Cell.{Cell}
 use Rattle.model.specs.Word.{bit, index, elementOf}
-use Rattle.model.specs.Circuit.{cellAt, Sig, Values, level, delayed, heldBefore, memory, element, arrayAt, startWord, Obeys, kDelay, kMerge, kMemory, kRead}
+use Rattle.model.specs.Circuit.{cellAt, Sig, Values, level, delayed, heldBefore, merges, stepOf, memory, element, arrayAt, startWord, Obeys, kDelay, kMemory, kRead}
 use Rattle.model.specs.State.{stateSize, base, elementNow, instantOf, nowAt, beforeAt, heldAt, lineBit, nextValue, value, counted, stepState}
 use Rattle.model.specs.CircuitPromises.{earlier}
 use Rattle.laws.specs.Circuit.Ordered.{kinds, Ordered}
@@ -60,7 +61,8 @@ module _ (net : List Cell) (ordered : Ordered net) (starts : Sig) (words : ℕ �
     unfolding U
     line-U k h e i g = one-line s (length net) k i g ∙ H .body .lines k h e i g
 
-    held-U : (k : ℕ) → k < length net → shapeAt net k ≡ kMerge → heldAt U k ≡ heldBefore (level W (cellAt net k .a)) (level W (cellAt net k .b)) (suc t)
+    held-U : (k : ℕ) → k < length net → merges (cellAt net k .kind) ≡ true
+        → heldAt U k ≡ heldBefore (stepOf (cellAt net k .kind)) (level W (cellAt net k .a)) (level W (cellAt net k .b)) (suc t)
     unfolding U
     held-U k h e = one-held s (length net) k ∙ H .body .held k h e
 
@@ -130,7 +132,7 @@ module _ (net : List Cell) (ordered : Ordered net) (starts : Sig) (words : ℕ �
     unfolding Obeys v
     step-first k h lower =
         later-is net starts (element net words W) W (kinds net) (suc t) (startWord net words k) k (length net) (cellAt net k) (two net v U k) lower
-        (shapeAt net k) (ordered .looks k h) (step-delay k h) (λ e. seen-held net v U k k h ∙ held-U k h e)
+        (shapeAt net k) refl (ordered .looks k h) (step-delay k h) (λ e. seen-held net v U k k h ∙ held-U k h e)
         (step-memory k h lower) (step-read k h lower)
         ∙ sym (obeys k h (suc t))
 

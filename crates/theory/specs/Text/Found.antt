@@ -14,7 +14,7 @@ use Rattle.model.specs.declared.Node.{Node}
 use Rattle.model.specs.declared.texts.Token.{Token}
 use Rattle.model.specs.declared.texts.Mode.{Mode}
 use Rattle.model.specs.declared.texts.Mode.the-variants.{Statement, AfterStatement, Operand, AfterOperand, Delay, Body}
-use Rattle.model.specs.Program.{Expr, Stmt, node, preorderE, preorder}
+use Rattle.model.specs.Program.{Expr, Code, node, preorderE, preorder}
 use Rattle.model.specs.Text.{numeral, name, sign, cThen, cElse, cDo, cUntil, cEnd, cAt, cOpen, cClose, cLeft, cRight, Lexeme, tokens, Left, sum, difference, and, or, Comparison, equal, less, IsExpr, number, variable, parens, complement, left, compare, timed, IsStmt, skip, ticks, becomes, ifs, whiles, repeats, braces, sequence, parallel, Means, Begins, BreaksAt}
 use Rattle.model.specs.Reader.{Frame, frame, Reader, reader, readerAtFirst, holdOf, reachOf, Popped, pop, topCode, topStart, insertAt, withNodeDelay, leaf, openedNode, between, closed, turned, reduced, withDelay, onStatement, onOperand, comparison, onAfterOperand, onAfterStatement, onDelay, onBody, stepOf, isBroken, complete, good, bad, readFrom}
 use Rattle.model.specs.TextPromises.{placeAt}
@@ -254,7 +254,7 @@ repeats-found {K} {ts} {ms} d f w =
           (simp length-append (omega arith)) (simp append-assoc);
     }
 
-stmt-found : {l : ℕ} {ts : List Token} {P : Stmt} → IsStmt l ts P → (K : List Frame) → Under (lowS l) K → FindsStmt (farS l) ts (preorder P) K
+stmt-found : {l : ℕ} {ts : List Token} {P : Code} → IsStmt l ts P → (K : List Frame) → Under (lowS l) K → FindsStmt (farS l) ts (preorder P) K
 unfolding stepOf onStatement onAfterStatement preorder holdOf reachOf topCode
 stmt-found skip K u = finds-leaf (λ r. refl)
 stmt-found (ticks d) K u = ticks-found d
@@ -280,7 +280,7 @@ complete-ready m q F ready =
     ap (λ (K : List Frame). eqb (length K) 0)
     (pop-frames 0 0 q (F ++ []) ∙ ap (λ (z : Popped). z .frames) (pop-ready m 0 0 q F [] ready (omega arith) (omega arith)))
 
-pub found : {ts : List Token} {P : Stmt} → Means ts P →
+pub found : {ts : List Token} {P : Code} → Means ts P →
     let r = steps ts readerAtFirst in
     Complete r × (r .nodes ≡ preorder P)
 unfolding topCode holdOf
@@ -290,7 +290,7 @@ found {P} m =
       ap (λ (r : Reader). r .nodes) (a .is) ∙ append-nil (preorder P),
     )
 
-pub reader-finds : (end : ℕ) (ws : List Lexeme) (P : Stmt) → Means (tokens ws) P → readFrom end readerAtFirst ws ≡ good (preorder P)
+pub reader-finds : (end : ℕ) (ws : List Lexeme) (P : Code) → Means (tokens ws) P → readFrom end readerAtFirst ws ≡ good (preorder P)
 reader-finds end ws P m = reads-whole end readerAtFirst ws (found m .0) ∙ ap good (found m .1)
 
 -- where the steps stop, no continuation fits

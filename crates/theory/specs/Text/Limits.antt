@@ -9,7 +9,7 @@ use lib.ListN.{getD, take, drop}
 use Rattle.model.specs.declared.Node.{Node}
 use Rattle.model.specs.declared.texts.Token.{Token}
 use Rattle.model.specs.Word.{bytes16, Bytes}
-use Rattle.model.specs.Program.{Expr, Stmt, node, nodeBytes, preorderE, preorder}
+use Rattle.model.specs.Program.{Expr, Code, node, nodeBytes, preorderE, preorder}
 use Rattle.model.specs.Text.{cThen, cElse, cDo, cUntil, cAt, cOpen, cLeft, blank, runLength, isNumber, isName, limitAfter, twoCode, runToken, tokenAt, sizeAt, wordsFrom, tokens, timed, Left, sum, difference, and, or, Comparison, equal, less, IsExpr, number, variable, parens, complement, left, compare, IsStmt, ticks, becomes, ifs, whiles, repeats, braces, sequence, parallel, Means, wordsOf}
 use Rattle.laws.specs.Refusals.Laws.{by-bool, and-true}
 use Rattle.laws.specs.Program.Trees.{by-pick}
@@ -111,7 +111,7 @@ expr-fits (compare {k = k} {ts = ts} o d f) p h =
     more k 0 0 (comparison-kind o) (omega arith) (omega arith) (fit-append (expr-fits d p (q .0)) (expr-fits f k (q .2 .1)))
 expr-fits (IsExpr.up d) p h = expr-fits d p h
 
-stmt-fits : {l : ℕ} {ts : List Token} {P : Stmt} → IsStmt l ts P → (p : ℕ) → Limited p ts → Fit (preorder P)
+stmt-fits : {l : ℕ} {ts : List Token} {P : Code} → IsStmt l ts P → (p : ℕ) → Limited p ts → Fit (preorder P)
 unfolding preorder limitAfter
 stmt-fits IsStmt.skip p h = more 16 0 0 (omega arith) (omega arith) (omega arith) none
 stmt-fits (ticks d) p h = more 17 d 0 (omega arith) (omega (arith, h .1 .0)) (omega arith) none
@@ -141,5 +141,5 @@ stmt-fits (parallel {ts = ts} f g) p h =
     more 20 0 0 (omega arith) (omega arith) (omega arith) (fit-append (stmt-fits f p (q .0)) (stmt-fits g 20 (q .2 .1)))
 stmt-fits (IsStmt.up f) p h = stmt-fits f p h
 
-pub reading-bytes : (text : List ℕ) {P : Stmt} → Means (tokens (wordsOf text)) P → Bytes (nodeBytes (preorder P))
+pub reading-bytes : (text : List ℕ) {P : Code} → Means (tokens (wordsOf text)) P → Bytes (nodeBytes (preorder P))
 reading-bytes text d = fit-bytes (stmt-fits d 0 (words-limited 0 0 0 text))

@@ -7,7 +7,7 @@ use Prim.Native.Nat.{ℕ}
 use lib.ListN.{getD}
 use Rattle.model.specs.declared.Node.{Node}
 use Rattle.model.specs.declared.texts.Token.{Token}
-use Rattle.model.specs.Program.{Expr, op, Stmt, Tree, expr, stmt, none, rowOf, asExpr, asStmt, exprOf, stmtOf, treeOf, node, grow, forest, preorderE, preorder}
+use Rattle.model.specs.Program.{Expr, op, Code, Tree, expr, stmt, none, rowOf, asExpr, asStmt, exprOf, stmtOf, treeOf, node, grow, forest, preorderE, preorder}
 use Rattle.model.specs.Text.{Left, sum, difference, and, or, Comparison, equal, less, IsExpr, number, variable, parens, complement, left, compare, IsStmt, skip, ticks, becomes, ifs, whiles, repeats, braces, sequence, parallel, Means}
 use Rattle.theory.specs.Text.Found.{found}
 
@@ -54,7 +54,7 @@ expr-makes (left o d f) = makes-node (node _ 0 0) (makes-both (expr-makes d) (ex
 expr-makes (compare o d f) = makes-node (node _ 0 0) (makes-both (expr-makes d) (expr-makes f)) (comparison-grows o _ _)
 expr-makes (IsExpr.up d) = expr-makes d
 
-stmt-makes : {l : ℕ} {ts : List Token} {P : Stmt} → IsStmt l ts P → Makes (preorder P) (stmt P ∷ [])
+stmt-makes : {l : ℕ} {ts : List Token} {P : Code} → IsStmt l ts P → Makes (preorder P) (stmt P ∷ [])
 unfolding grow treeOf stmtOf asExpr asStmt rowOf preorder
 stmt-makes skip = makes-node (node 16 0 0) makes-none (λ us. refl)
 stmt-makes (ticks d) = makes-node (node 17 d 0) makes-none (λ us. refl)
@@ -69,11 +69,11 @@ stmt-makes (IsStmt.up f) = stmt-makes f
 
 -- One reading --------------------------------------------------------------------------------------------------------------------------
 
-pub reading-tree : {ts : List Token} {P : Stmt} → Means ts P → forest (preorder P) ≡ stmt P ∷ []
+pub reading-tree : {ts : List Token} {P : Code} → Means ts P → forest (preorder P) ≡ stmt P ∷ []
 unfolding forest
 reading-tree {P} m = ap forest (sym (append-nil (preorder P))) ∙ stmt-makes m .made []
 
-pub one-reading : {ts : List Token} {P Q : Stmt} → Means ts P → Means ts Q → P ≡ Q
+pub one-reading : {ts : List Token} {P Q : Code} → Means ts P → Means ts Q → P ≡ Q
 unfolding asStmt
 one-reading m n =
     ap (λ (trees : List Tree). asStmt (getD trees 0 none))

@@ -11,7 +11,7 @@ use lib.Dec.{ltb, leb·suc-zero}
 use borrow.Author.Tests.{ltb-true, ltb-false}
 use Rattle.model.specs.declared.Node.{Node}
 use Rattle.model.specs.declared.texts.Token.{Token}
-use Rattle.model.specs.Program.{Expr, const, Stmt, ok, node, preorderE, preorder}
+use Rattle.model.specs.Program.{Expr, const, Code, ok, node, preorderE, preorder}
 use Rattle.model.specs.Text.{numeral, name, sign, cThen, cElse, cDo, cUntil, cEnd, cAt, cOpen, cClose, cLeft, cRight, Left, Comparison, IsExpr, timed, IsStmt, Begins}
 use Rattle.model.specs.Reader.{Frame, frame, holdOf, reachOf, pop, topCode, comparison}
 use Rattle.laws.specs.Refusals.Laws.{not-both}
@@ -30,7 +30,7 @@ top statement = 2
 -- the tokens are a phrase of a sort and a level, with these nodes
 pub data Fits : Sort → ℕ → List Token → List Node → Type 0 where
   expr : {l : ℕ} {ts : List Token} {e : Expr} → IsExpr l ts e → Fits expression l ts (preorderE e)
-  stmt : {l : ℕ} {ts : List Token} {P : Stmt} → IsStmt l ts P → Fits statement l ts (preorder P)
+  stmt : {l : ℕ} {ts : List Token} {P : Code} → IsStmt l ts P → Fits statement l ts (preorder P)
 
 down : {s : Sort} {l : ℕ} {ts : List Token} {ns : List Node} → Fits s (suc l) ts ns → Fits s l ts ns
 down (expr d) = expr (IsExpr.up d)
@@ -147,14 +147,14 @@ pub data Bracket : ℕ → Sort → List Node → Sort → List Token → List N
   ifs : Bracket 21 statement [] expression (sign 21 ∷ []) (node 21 0 0 ∷ []) []
   thens : (d : ℕ) {ts : List Token} {e : Expr} → IsExpr 0 ts e
       → Bracket cThen statement [] statement (sign 21 ∷ timed ts d (sign cThen ∷ [])) (node 21 d 0 ∷ preorderE e) []
-  elses : (d : ℕ) {ts us : List Token} {e : Expr} {P : Stmt} → IsExpr 0 ts e → IsStmt 0 us P
+  elses : (d : ℕ) {ts us : List Token} {e : Expr} {P : Code} → IsExpr 0 ts e → IsStmt 0 us P
       → Bracket cElse statement [] statement (sign 21 ∷ timed ts d (sign cThen ∷ (us ++ (sign cElse ∷ [])))) (node 21 d 0 ∷ (preorderE e ++ preorder P)) []
   whiles : Bracket 22 statement [] expression (sign 22 ∷ []) (node 22 0 0 ∷ []) []
   does : (d : ℕ) {ts : List Token} {e : Expr} → IsExpr 0 ts e
       → Bracket cDo statement [] statement (sign 22 ∷ timed ts d (sign cDo ∷ [])) (node 22 d 0 ∷ preorderE e) []
   repeats : Bracket 23 statement [] statement (sign 23 ∷ []) (node 23 0 0 ∷ []) []
   -- the nodes of the condition go before those of the body
-  untils : {us : List Token} {P : Stmt} → IsStmt 0 us P
+  untils : {us : List Token} {P : Code} → IsStmt 0 us P
       → Bracket cUntil statement [] expression (sign 23 ∷ (us ++ (sign cUntil ∷ []))) (node 23 0 0 ∷ []) (preorder P)
   braces : Bracket cLeft statement [] statement (sign cLeft ∷ []) [] []
 

@@ -8,8 +8,8 @@ use lib.Dec.{eqb, ltb}
 use lib.ListN.{length}
 use Rattle.model.specs.declared.Checked.{Checked}
 use Rattle.model.specs.Refusals.{refuse}
-use Rattle.model.specs.Program.{checkOf, programOf}
-use Rattle.model.specs.TimeTables.{TimeTable, load}
+use Rattle.model.specs.ProgramChecks.{programWith, checkOf}
+use Rattle.model.specs.TimeTables.{Given, load}
 use Rattle.model.specs.Numbering.{finish}
 use Rattle.model.specs.Text.{Lexeme, wordsOf, outside}
 use Rattle.model.specs.Reader.{Reading, good, bad}
@@ -31,49 +31,46 @@ broken-gives (good ns) = inl refl
 broken-gives (bad p) = gives-one (just 18) 18 p refl
 
 -- the checks of a table come before those of a text, and these before those of its program
-text-order : (T : TimeTable) (text : List ℕ) (nss : List (List ℕ)) (cs : List Checked) → InOrder nss cs
-    → InOrder (tableNumbers ∷ just 17 ∷ just 17 ∷ just 18 ∷ nss) (load T .checked ∷ textChecks text ++ cs)
-text-order T text nss cs o =
-    (table-gives T, (gives-if (ltb 4096 (length text)) 17 4096, (outside-gives (wordsOf text), (broken-gives (readingOf text), o))))
+text-order : (G : Given) (text : List ℕ) (nss : List (List ℕ)) (cs : List Checked) → InOrder nss cs
+    → InOrder (tableNumbers ∷ just 17 ∷ just 17 ∷ just 18 ∷ nss) (load G .checked ∷ textChecks text ++ cs)
+text-order G text nss cs o =
+    (table-gives G, (gives-if (ltb 4096 (length text)) 17 4096, (outside-gives (wordsOf text), (broken-gives (readingOf text), o))))
 
-pub read-text-refuses : (T : TimeTable) (text lent : List ℕ) →
-    let c = writtenVerdict (readTextCall (load T) text lent .answer) in
-    Refuses (tableNumbers ∷ just 17 ∷ just 17 ∷ just 18 ∷ programNumbers ∷ just 14 ∷ []) (readTextChecks (load T) text lent) c
-    × Leaves c lent (readTextCall (load T) text lent .lent)
+pub read-text-refuses : (G : Given) (text lent : List ℕ) →
+    let c = writtenVerdict (readTextCall (load G) text lent .answer) in
+    Refuses (tableNumbers ∷ just 17 ∷ just 17 ∷ just 18 ∷ programNumbers ∷ just 14 ∷ []) (readTextChecks (load G) text lent) c
+    × Leaves c lent (readTextCall (load G) text lent .lent)
 unfolding readTextCall
-read-text-refuses T text lent =
+read-text-refuses G text lent =
     let program = textProgram text in
-    let times = load T .times in
-    write-refuses _ (readTextChecks (load T) text lent) refl
-    (text-order T text (programNumbers ∷ just 14 ∷ []) (checkOf times program ∷ short (length lent) (length program) ∷ [])
-    (check-gives times program, (short-gives (length lent) (length program), tt)))
+    write-refuses _ (readTextChecks (load G) text lent) refl
+    (text-order G text (programNumbers ∷ just 14 ∷ []) (checkOf (load G) program ∷ short (length lent) (length program) ∷ [])
+    (check-gives (load G) program, (short-gives (length lent) (length program), tt)))
     program (length program) 0 lent
 
-pub compile-text-refuses : (T : TimeTable) (text lent : List ℕ) →
-    let c = writtenVerdict (compileTextCall (load T) text lent .answer) in
-    Refuses (tableNumbers ∷ just 17 ∷ just 17 ∷ just 18 ∷ programNumbers ∷ just 14 ∷ []) (compileTextChecks (load T) text lent) c
-    × Leaves c lent (compileTextCall (load T) text lent .lent)
+pub compile-text-refuses : (G : Given) (text lent : List ℕ) →
+    let c = writtenVerdict (compileTextCall (load G) text lent .answer) in
+    Refuses (tableNumbers ∷ just 17 ∷ just 17 ∷ just 18 ∷ programNumbers ∷ just 14 ∷ []) (compileTextChecks (load G) text lent) c
+    × Leaves c lent (compileTextCall (load G) text lent .lent)
 unfolding compileTextCall
-compile-text-refuses T text lent =
+compile-text-refuses G text lent =
     let program = textProgram text in
-    let file = compiledFile program in
-    let times = load T .times in
-    write-refuses _ (compileTextChecks (load T) text lent) refl
-    (text-order T text (programNumbers ∷ just 14 ∷ []) (netlistChecks times program lent) (compile-order times program lent)) file (length file)
-    (finish (programOf program)) lent
+    let file = compiledFile (load G) program in
+    write-refuses _ (compileTextChecks (load G) text lent) refl
+    (text-order G text (programNumbers ∷ just 14 ∷ []) (netlistChecks (load G) program lent) (compile-order (load G) program lent)) file (length file)
+    (finish (programWith (load G) program)) lent
 
-pub run-text-refuses : (T : TimeTable) (text words : List ℕ) (n : ℕ) (forFile lent : List ℕ) →
-    let r = runTextCall (load T) text words n forFile lent in
+pub run-text-refuses : (G : Given) (text words : List ℕ) (n : ℕ) (forFile lent : List ℕ) →
+    let r = runTextCall (load G) text words n forFile lent in
     let c = verdict (r .answer .outcome) in
     Refuses (tableNumbers ∷ just 17 ∷ just 17 ∷ just 18 ∷ programNumbers ∷ just 13 ∷ just 14 ∷ just 14 ∷ just 14 ∷ [])
-    (runTextChecks (load T) text words n forFile lent) c
+    (runTextChecks (load G) text words n forFile lent) c
     × Leaves c forFile (r .netlist) × Leaves c lent (r .state)
 unfolding runTextCall
-run-text-refuses T text words n forFile lent =
+run-text-refuses G text words n forFile lent =
     let program = textProgram text in
-    let file = compiledFile program in
-    let times = load T .times in
-    run-both-refuses _ (runTextChecks (load T) text words n forFile lent) refl
-    (text-order T text (programNumbers ∷ just 13 ∷ just 14 ∷ just 14 ∷ just 14 ∷ []) (fullRunChecks times program words n forFile lent)
-    (run-order times program words n forFile lent))
+    let file = compiledFile (load G) program in
+    run-both-refuses _ (runTextChecks (load G) text words n forFile lent) refl
+    (text-order G text (programNumbers ∷ just 13 ∷ just 14 ∷ just 14 ∷ just 14 ∷ []) (fullRunChecks (load G) program words n forFile lent)
+    (run-order (load G) program words n forFile lent))
     file (fullState file words n lent) (fullCount file words n lent) forFile lent

@@ -13,7 +13,7 @@ use Rattle.model.specs.declared.Node.{Node}
 use Rattle.model.specs.declared.texts.Token.{Token}
 use Rattle.model.specs.declared.texts.Mode.{Mode}
 use Rattle.model.specs.declared.texts.Mode.the-variants.{Statement, AfterStatement, Operand, AfterOperand, Becomes, Ticks, Delay, Body, Broken}
-use Rattle.model.specs.Program.{Stmt, preorder}
+use Rattle.model.specs.Program.{Code, preorder}
 use Rattle.model.specs.Text.{numeral, sign, cThen, cDo, cEnd, IsExpr, IsStmt, Means, Begins, blank, runLength, isNumber, isName, limitAfter, twoCode, runToken, tokenAt, sizeAt, wordsFrom, tokens}
 use Rattle.model.specs.Reader.{Frame, Reader, readerAtFirst, pop, step, isBroken, complete}
 use Rattle.laws.specs.Refusals.Laws.{by-bool, not-both}
@@ -76,12 +76,12 @@ begins ts h e =
 -- A whole statement --------------------------------------------------------------------------------------------------------------------
 
 all-read : {k : ℕ} {s : Sort} {fs : List Frame} {xs zs : List Node} {ts : List Token} → Filled k s statement fs xs zs ts → length fs ≡ 0
-    → (P : Stmt) × Means ts P × (xs ++ zs ≡ preorder P)
+    → (P : Code) × Means ts P × (xs ++ zs ≡ preorder P)
 all-read (all (stmt {P = P} d)) e = (P, d, append-nil (preorder P))
 all-read (inside o b p) e = absurd (omega arith)
 
 sound-at : (m : Mode) (p : ℕ) (fs : List Frame) (c : ℕ) (ns : List Node) (ts : List Token) → Stands m p fs c ns ts → complete m fs ≡ true
-    → (P : Stmt) × Means ts P × (ns ≡ preorder P)
+    → (P : Code) × Means ts P × (ns ≡ preorder P)
 unfolding complete
 sound-at Statement p fs c ns ts q e = not-both e refl
 sound-at AfterStatement p fs c ns ts (at xs zs q) e =
@@ -96,7 +96,7 @@ sound-at Broken p fs c ns ts q e = not-both e refl
 
 -- where the reader is complete, the tokens mean a statement whose nodes it has
 pub sound : (ts : List Token) → AllProper ts → complete (steps ts readerAtFirst .mode) (steps ts readerAtFirst .frames) ≡ true
-    → (P : Stmt) × Means ts P × (steps ts readerAtFirst .nodes ≡ preorder P)
+    → (P : Code) × Means ts P × (steps ts readerAtFirst .nodes ≡ preorder P)
 sound ts h e =
     let r = steps ts readerAtFirst in
     sound-at (r .mode) (r .start) (r .frames) (r .cursor) (r .nodes) ts (stands ts h) e

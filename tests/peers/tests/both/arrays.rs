@@ -5,6 +5,7 @@ use crate::expect::{elements, refused, state_length, START};
 use crate::nodes::*;
 use peers::BOTH;
 use second::calls;
+use values::Given;
 
 /// A budget above the end of every program here.
 const BUDGET: u32 = 2_000;
@@ -29,7 +30,14 @@ fn assert_ends(program: &[u8], instant: u32, changes: &[(usize, u16)]) {
     }
     let bytes = |words: &[u16]| -> Vec<u8> { words.iter().flat_map(|w| w.to_le_bytes()).collect() };
     let (start, last) = (bytes(&start()), bytes(&last));
-    let ran = (BOTH.run_program)(None, program, &start, BUDGET, &[0; 1_024], &[0; 5_000]);
+    let ran = (BOTH.run_program)(
+        Given::NOTHING,
+        program,
+        &start,
+        BUDGET,
+        &[0; 1_024],
+        &[0; 5_000],
+    );
     let answer = ran
         .result
         .unwrap_or_else(|refusal| panic!("{program:?}: {refusal}"));
@@ -41,14 +49,14 @@ fn assert_ends(program: &[u8], instant: u32, changes: &[(usize, u16)]) {
     let words = answer.words.map(u16::to_le_bytes).concat();
     let shown = [&words, elements(&ran.lent)].concat();
     assert_eq!(shown, last, "{program:?}");
-    let ended = (BOTH.reference_run)(None, program, &start, BUDGET).result;
+    let ended = (BOTH.reference_run)(Given::NOTHING, program, &start, BUDGET).result;
     let end = ended.ok().flatten().expect("it ends by the rules");
     assert_eq!(
         (end.instant, end.words),
         (instant, answer.words),
         "{program:?}"
     );
-    let by_second = calls::last_moment(None, program, &start, BUDGET);
+    let by_second = calls::last_moment(Given::NOTHING, program, &start, BUDGET);
     let moment = by_second.ok().flatten().expect("it ends by the rules");
     assert_eq!(moment.contents.bytes(), last, "{program:?}");
 }
@@ -64,7 +72,7 @@ fn store(array: u16, index: u16, value: u16) -> Vec<u8> {
 }
 
 fn check(program: &[u8]) -> Result<(), values::Refusal> {
-    (BOTH.check)(None, program).result
+    (BOTH.check)(Given::NOTHING, program).result
 }
 
 #[test]
@@ -221,7 +229,7 @@ fn an_element_has_one_child_and_its_assignment_two() {
 #[test]
 fn every_start_word_reaches_the_state() {
     let words: Vec<u8> = start().iter().flat_map(|word| word.to_le_bytes()).collect();
-    let compiled = (BOTH.compile)(None, &ok(), &[0; 512]);
+    let compiled = (BOTH.compile)(Given::NOTHING, &ok(), &[0; 512]);
     let file = &compiled.lent[0];
     let begun = (BOTH.begin)(file, &words, &[7; state_length(27)]);
     assert_eq!(begun.lent[0][8 + 40 * 27..], words[32..]);

@@ -5,7 +5,7 @@
 use crate::expect::{read, refused, start_with, words_with};
 use crate::nodes::*;
 use peers::BOTH;
-use values::{Answer, End, Shape};
+use values::{Answer, End, Given, Shape};
 
 const FULL_BUDGET: u32 = 1_000_000;
 
@@ -151,7 +151,7 @@ fn ok_text(leaves: usize) -> String {
 #[test]
 fn the_texts_are_read_to_the_programs() {
     for case in table() {
-        let checked = (BOTH.check)(None, &case.program).result;
+        let checked = (BOTH.check)(Given::NOTHING, &case.program).result;
         let expected = checked.map(|()| case.program);
         assert_eq!(read(&case.text), expected, "case {}", case.name);
     }
@@ -169,7 +169,7 @@ fn the_rules_keep_the_cases() {
             Refused(number, place) => refused(number, place),
         };
         let words = start_with([case.x0]);
-        let found = (BOTH.reference_run)(None, &case.program, &words, FULL_BUDGET);
+        let found = (BOTH.reference_run)(Given::NOTHING, &case.program, &words, FULL_BUDGET);
         assert_eq!(found.result, expected, "case {}", case.name);
     }
 }
@@ -184,7 +184,7 @@ fn the_circuit_keeps_the_cases() {
         };
         let (file, state) = (vec![0; 6656], vec![0; 50_000]);
         let (text, words) = (case.text.as_bytes(), start_with([case.x0]));
-        let found = (BOTH.run_text)(None, text, &words, FULL_BUDGET, &file, &state);
+        let found = (BOTH.run_text)(Given::NOTHING, text, &words, FULL_BUDGET, &file, &state);
         // Of the words of an open run the paper tells nothing.
         let shown = |answer: Answer| {
             let words = answer.ended.then_some(answer.words);
@@ -196,12 +196,12 @@ fn the_circuit_keeps_the_cases() {
 
 #[test]
 fn no_nodes_are_refusal_1() {
-    assert_eq!((BOTH.check)(None, &[]).result, refused(1, 0));
+    assert_eq!((BOTH.check)(Given::NOTHING, &[]).result, refused(1, 0));
 }
 
 #[test]
 fn case_2_has_31_cells_and_finish_4() {
-    let compiled = (BOTH.compile)(None, &assign(0, constant(5), 1), &[0; 512]);
+    let compiled = (BOTH.compile)(Given::NOTHING, &assign(0, constant(5), 1), &[0; 512]);
     let expected = Shape {
         cells: 31,
         finish: 4,
@@ -220,8 +220,8 @@ fn a_delay_of_0_is_too_small_except_in_an_if() {
         loop_of(0, exit()),
     ];
     for program in too_small {
-        assert_eq!((BOTH.check)(None, &program).result, refused(7, 0));
+        assert_eq!((BOTH.check)(Given::NOTHING, &program).result, refused(7, 0));
     }
     let choice = if_then_else(constant(0), 0, ok(), ok());
-    assert_eq!((BOTH.check)(None, &choice).result, Ok(()));
+    assert_eq!((BOTH.check)(Given::NOTHING, &choice).result, Ok(()));
 }

@@ -95,7 +95,7 @@ fn the_netlist_is_good_and_the_highest_lower_inputs_are() {
     for kind in 4..=9 {
         assert_good(&with(PUT, Cell::new(kind, 0, WORD, WORD)));
     }
-    for kind in [35, 38] {
+    for kind in [35, 38, 39] {
         assert_good(&with(PUT, Cell::new(kind, 0, CONTROL, CONTROL)));
     }
     for kind in [36, 37, 41] {
@@ -122,7 +122,7 @@ fn delays_may_name_any_control_wire_and_memories_and_arrays_any_word() {
 
 #[test]
 fn unknown_kinds() {
-    assert_bad([0, 2, 10, 31, 39, 45, 255].map(|kind| Cell::new(kind, 0, 0, 0)));
+    assert_bad([0, 2, 10, 31, 45, 255].map(|kind| Cell::new(kind, 0, 0, 0)));
 }
 
 #[test]
@@ -174,7 +174,7 @@ fn operators_take_words_of_lower_cells() {
 
 #[test]
 fn ors_and_merges_take_lower_control_wires() {
-    for kind in [35, 38] {
+    for kind in [35, 38, 39] {
         assert_bad(NO_CONTROL.map(|a| Cell::new(kind, 0, a, CONTROL)));
         assert_bad(NO_CONTROL.map(|b| Cell::new(kind, 0, CONTROL, b)));
     }
@@ -291,7 +291,7 @@ fn without_a_sixteenth_memory_there_is_no_place_for_arrays() {
 #[test]
 fn a_finish_on_a_word_wire_is_told_at_that_cell() {
     for (number, cell) in every_kind().into_iter().enumerate() {
-        if !(32..=38).contains(&cell.kind) {
+        if !(32..=39).contains(&cell.kind) {
             assert_refused(&every_kind(), number as u16, number);
         }
     }

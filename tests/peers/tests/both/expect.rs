@@ -1,7 +1,7 @@
 //! What many tests expect or ask.
 
 use peers::BOTH;
-use values::{Refusal, Words};
+use values::{Given, Refusal, Words};
 
 /// Start words, sixteen and 256, that are 0.
 pub const START: [u8; 544] = [0; 544];
@@ -25,7 +25,7 @@ pub fn refused<T>(number: u8, place: usize) -> Result<T, Refusal> {
 
 /// The bytes of a text's program.
 pub fn read(text: &str) -> Result<Vec<u8>, Refusal> {
-    let reply = (BOTH.read_text)(None, text.as_bytes(), &[0xa5; 800]);
+    let reply = (BOTH.read_text)(Given::NOTHING, text.as_bytes(), &[0xa5; 800]);
     reply.result.map(|length| reply.lent[0][..length].to_vec())
 }
 

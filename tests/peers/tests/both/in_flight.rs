@@ -214,7 +214,8 @@ fn a_full_run_tells_the_number_of_its_last_instant() {
     }
 }
 
-/// Kinds beside 34 and 38 have nothing in flight, however high their wires are.
+/// Kinds beside 34, 38 and 39 have nothing in flight, however high their wires
+/// are.
 #[test]
 fn wires_that_are_high_do_not_count() {
     let mut run = wired(&[Cell::new(OR, 0, 0, 1)], FREE);

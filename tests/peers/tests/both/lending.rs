@@ -2,6 +2,7 @@
 
 use crate::expect::{refused, state_length, START};
 use peers::BOTH;
+use values::Given;
 
 /// x0 := 5, d 1: 31 cells, so one block and a state of 1,760 bytes.
 const PROGRAM: [u8; 8] = [18, 1, 0, 0, 1, 0, 5, 0];
@@ -12,7 +13,7 @@ const STATE_LENGTH: usize = state_length(31);
 static LENT: [u8; 2_000] = [7; 2_000];
 
 fn netlist() -> Vec<u8> {
-    let compiled = (BOTH.compile)(None, &PROGRAM, &LENT[..NETLIST_LENGTH]);
+    let compiled = (BOTH.compile)(Given::NOTHING, &PROGRAM, &LENT[..NETLIST_LENGTH]);
     compiled.result.expect("case 2 compiles");
     compiled.lent[0].clone()
 }
@@ -33,7 +34,7 @@ fn a_buffer_of_exactly_the_length_is_enough() {
 #[test]
 fn a_buffer_one_byte_too_short_is_refused_and_kept() {
     let file = &LENT[..NETLIST_LENGTH - 1];
-    let compiled = (BOTH.compile)(None, &PROGRAM, file);
+    let compiled = (BOTH.compile)(Given::NOTHING, &PROGRAM, file);
     assert_eq!(compiled.result, refused(14, 0));
     assert_eq!(compiled.lent, [file]);
 
@@ -58,10 +59,10 @@ fn start_words_under_544_bytes_are_refused() {
         assert_eq!(begun.lent, [state], "{length}");
         let ran = (BOTH.run_netlist)(&netlist(), words, 10, state);
         assert_eq!(ran, begun, "{length}");
-        let ran = (BOTH.run_program)(None, &PROGRAM, words, 10, file, state);
+        let ran = (BOTH.run_program)(Given::NOTHING, &PROGRAM, words, 10, file, state);
         assert_eq!(ran.result, refused(14, 0), "{length}");
         assert_eq!(ran.lent, [file, state], "{length}");
-        let by_the_rules = (BOTH.reference_run)(None, &PROGRAM, words, 10);
+        let by_the_rules = (BOTH.reference_run)(Given::NOTHING, &PROGRAM, words, 10);
         assert_eq!(by_the_rules.result, refused(14, 0), "{length}");
     }
 }
@@ -92,7 +93,7 @@ fn a_full_run_with_one_short_buffer_writes_to_none() {
         (NETLIST_LENGTH, STATE_LENGTH - 1),
     ] {
         let (file, state) = (&LENT[..file_length], &LENT[..state_length]);
-        let ran = (BOTH.run_program)(None, &PROGRAM, &START, 10, file, state);
+        let ran = (BOTH.run_program)(Given::NOTHING, &PROGRAM, &START, 10, file, state);
         assert_eq!(ran.result, refused(14, 0));
         assert_eq!(ran.lent, [file, state]);
     }
@@ -102,7 +103,7 @@ fn a_full_run_with_one_short_buffer_writes_to_none() {
 fn thirteen_comes_before_fourteen() {
     let ran = (BOTH.run_netlist)(&netlist(), &[], 1_000_001, &[]);
     assert_eq!(ran.result, refused(13, 0));
-    let ran = (BOTH.run_program)(None, &PROGRAM, &[], 1_000_001, &[], &[]);
+    let ran = (BOTH.run_program)(Given::NOTHING, &PROGRAM, &[], 1_000_001, &[], &[]);
     assert_eq!(ran.result, refused(13, 0));
 }
 

@@ -2,7 +2,7 @@
 
 use crate::expect::{read, start_with};
 use peers::BOTH;
-use values::End;
+use values::{End, Given};
 
 /// A budget above the end of every program here.
 const BUDGET: u32 = 40;
@@ -15,13 +15,13 @@ fn x2_after(text: &str, x0: i16, x1: i16) -> u16 {
     let program = read(text).expect("a good text");
     let (file, state) = ([0; 1024], [0; 4000]);
     let words = start_with([x0 as u16, x1 as u16]);
-    let ran = (BOTH.run_program)(None, &program, &words, BUDGET, &file, &state);
+    let ran = (BOTH.run_program)(Given::NOTHING, &program, &words, BUDGET, &file, &state);
     let answer = ran.result.expect("a good program");
     let end = End {
         instant: answer.instant,
         words: answer.words,
     };
-    let by_the_rules = (BOTH.reference_run)(None, &program, &words, BUDGET);
+    let by_the_rules = (BOTH.reference_run)(Given::NOTHING, &program, &words, BUDGET);
     assert_eq!(by_the_rules.result, Ok(Some(end)), "{text} from {x0}, {x1}");
     answer.words[2]
 }

@@ -4,7 +4,7 @@
 use crate::expect::{read, refused, start_with, words_with};
 use crate::nodes::*;
 use peers::BOTH;
-use values::{Cell, Refusal, Words};
+use values::{Cell, Given, Refusal, Words};
 
 /// A budget above the end of every program here that has one.
 const BUDGET: u32 = 2_000;
@@ -14,12 +14,12 @@ const BUDGET: u32 = 2_000;
 fn end_of<const COUNT: usize>(program: &[u8], first: [u16; COUNT]) -> Option<(u32, Words)> {
     let words = start_with(first);
     let (file, state) = ([0; 6_656], [0; 42_000]);
-    let ran = (BOTH.run_program)(None, program, &words, BUDGET, &file, &state);
+    let ran = (BOTH.run_program)(Given::NOTHING, program, &words, BUDGET, &file, &state);
     let answer = ran
         .result
         .unwrap_or_else(|refusal| panic!("{program:?}: {refusal}"));
     let end = answer.ended.then_some((answer.instant, answer.words));
-    let by_the_rules = (BOTH.reference_run)(None, program, &words, BUDGET).result;
+    let by_the_rules = (BOTH.reference_run)(Given::NOTHING, program, &words, BUDGET).result;
     let told = by_the_rules.map(|end| end.map(|end| (end.instant, end.words)));
     assert_eq!(told, Ok(end), "{program:?}");
     end
@@ -41,7 +41,7 @@ fn assert_open(program: &[u8]) {
 }
 
 fn check(program: &[u8]) -> Result<(), Refusal> {
-    (BOTH.check)(None, program).result
+    (BOTH.check)(Given::NOTHING, program).result
 }
 
 /// x := n, which takes 2.
@@ -194,7 +194,14 @@ fn a_loop_without_exits_never_ends() {
 fn what_follows_an_endless_loop_does_not_run() {
     let program = sequence(loop_of(1, tick(1)), set(0, 5));
     let (file, state) = ([0; 1_024], [0; 5_000]);
-    let ran = (BOTH.run_program)(None, &program, &start_with([3]), BUDGET, &file, &state);
+    let ran = (BOTH.run_program)(
+        Given::NOTHING,
+        &program,
+        &start_with([3]),
+        BUDGET,
+        &file,
+        &state,
+    );
     let answer = ran.result.expect("it is accepted");
     assert!(!answer.ended);
     assert_eq!(answer.words, words_with([3]));
@@ -228,7 +235,7 @@ fn a_loop_is_begun_again_after_it_is_left() {
 #[test]
 fn nothing_goes_round_after_the_end() {
     let program = loop_of(5, sequence(count_down(), exit_at_0()));
-    let compiled = (BOTH.compile)(None, &program, &[0; 512]);
+    let compiled = (BOTH.compile)(Given::NOTHING, &program, &[0; 512]);
     let begun = (BOTH.begin)(&compiled.lent[0], &start_with([2]), &[0; 5_000]);
     let ended = (BOTH.continue_by)(&compiled.lent[0], BUDGET, &begun.lent[0]);
     let end = ended.result.expect("it is continued");
@@ -242,7 +249,7 @@ fn nothing_goes_round_after_the_end() {
 /// The delay cells of a program, those of its walk, and its finish. There are
 /// 24 cells of memories and arrays between them.
 fn cells_of(program: &[u8], delays: usize) -> (Vec<Cell>, Vec<Cell>, u16) {
-    let compiled = (BOTH.compile)(None, program, &[0; 512]);
+    let compiled = (BOTH.compile)(Given::NOTHING, program, &[0; 512]);
     let shape = compiled.result.expect("it is accepted");
     let count = usize::from(shape.cells);
     let lent = vec![Cell::new(0, 0, 0, 0); count];
@@ -369,9 +376,9 @@ fn refusal_22_comes_after_6_and_before_7() {
     assert_eq!(check(&sequence(clash(), exit())), refused(22, 6));
     let nothing_to_22 = sequence(clash(), sequence(tick(0), loop_of(1, exit())));
     assert_eq!(check(&nothing_to_22), refused(7, 7));
-    let table_first = (BOTH.check)(Some(&[]), &exit()).result;
+    let table_first = (BOTH.check)(Given::table(Some(&[])), &exit()).result;
     assert_eq!(table_first, refused(19, 0));
-    let ran = (BOTH.run_program)(None, &exit(), &[], BUDGET + 1_000_000, &[], &[]);
+    let ran = (BOTH.run_program)(Given::NOTHING, &exit(), &[], BUDGET + 1_000_000, &[], &[]);
     assert_eq!(ran.result, refused(22, 0));
 }
 
@@ -391,7 +398,7 @@ fn a_loop_has_a_delay_and_a_child_and_an_exit_nothing() {
     assert_eq!(check(&[node(25, 1, 1), exit()].concat()), refused(3, 0));
     assert_eq!(check(&loop_of(1, node(26, 1, 0))), refused(3, 1));
     assert_eq!(check(&loop_of(1, node(26, 0, 1))), refused(3, 1));
-    assert_eq!(check(&loop_of(1, node(27, 0, 0))), refused(2, 1));
+    assert_eq!(check(&loop_of(1, node(28, 0, 0))), refused(2, 1));
     assert_eq!(check(&node(25, 1, 0)), refused(6, 1));
     assert_eq!(check(&loop_of(1, constant(1))), refused(5, 1));
     assert_eq!(check(&assign(0, exit(), 1)), refused(5, 1));

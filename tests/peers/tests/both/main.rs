@@ -14,6 +14,8 @@ mod loops;
 mod netlist;
 mod netlists;
 mod nodes;
+mod procedures;
+mod returns;
 mod run;
 mod starts;
 mod states;

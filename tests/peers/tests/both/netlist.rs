@@ -43,7 +43,7 @@ pub fn every_kind() -> Vec<Cell> {
         Cell::new(44, 0, 25, 34),
         Cell::new(41, 0, 39, 40),
         Cell::new(1, 0, 7, 0),
-        Cell::new(35, 0, 0, 0),
+        Cell::new(39, 0, 0, 0),
     ]);
     cells
 }

@@ -76,3 +76,7 @@ pub fn loop_of(d: u8, p: Vec<u8>) -> Vec<u8> {
 pub fn exit() -> Vec<u8> {
     node(26, 0, 0)
 }
+
+pub fn call(procedure: u16, d: u8) -> Vec<u8> {
+    node(27, d, procedure)
+}

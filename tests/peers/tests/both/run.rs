@@ -2,7 +2,7 @@
 
 use crate::expect::{refused, state_length};
 use peers::{Reply, BOTH};
-use values::Answer;
+use values::{Answer, Given};
 
 /// Where the number in flight stands in a state, after the instant.
 pub const NUMBER: usize = 4;
@@ -42,7 +42,12 @@ impl Run {
 
     /// A beginning of the netlist of an accepted program.
     pub fn of_program(program: &[u8], words: &[u8]) -> Run {
-        let compiled = (BOTH.compile)(None, program, &[0; 6_656]);
+        Run::of_given(Given::NOTHING, program, words)
+    }
+
+    /// The same of a program with something beside it.
+    pub fn of_given(given: Given, program: &[u8], words: &[u8]) -> Run {
+        let compiled = (BOTH.compile)(given, program, &[0; 6_656]);
         let shape = compiled
             .result
             .unwrap_or_else(|refusal| panic!("{program:?}: {refusal}"));

@@ -4,7 +4,7 @@
 use crate::expect::{refused, words_with, START};
 use crate::nodes::*;
 use peers::BOTH;
-use values::{End, Refusal};
+use values::{End, Given, Refusal};
 
 const LENGTH: usize = 512;
 const CHECK: [usize; 2] = [6, 7];
@@ -84,7 +84,7 @@ fn loaded(table: &[u8]) -> Result<(), Refusal> {
 }
 
 fn check(table: &[u8], program: &[u8]) -> Result<(), Refusal> {
-    (BOTH.check)(Some(table), program).result
+    (BOTH.check)(Given::table(Some(table)), program).result
 }
 
 /// The bytes of a text's program, which need not be accepted.
@@ -166,17 +166,17 @@ fn wrong_bytes_that_leave_the_sum_right_are_21() {
 
 /// All calls under a table, with a budget and buffers that are refused last.
 fn all_calls(table: &[u8], program: &[u8], text: &[u8]) -> [Result<(), Refusal>; 7] {
-    let (table, words, budget) = (Some(table), &[], 1_000_001);
-    let run_program = (BOTH.run_program)(table, program, words, budget, &[], &[]);
-    let reference_run = (BOTH.reference_run)(table, program, words, budget);
-    let run_text = (BOTH.run_text)(table, text, words, budget, &[], &[]);
+    let (given, words, budget) = (Given::table(Some(table)), &[], 1_000_001);
+    let run_program = (BOTH.run_program)(given, program, words, budget, &[], &[]);
+    let reference_run = (BOTH.reference_run)(given, program, words, budget);
+    let run_text = (BOTH.run_text)(given, text, words, budget, &[], &[]);
     [
-        (BOTH.check)(table, program).result,
-        (BOTH.compile)(table, program, &[]).result.map(drop),
+        (BOTH.check)(given, program).result,
+        (BOTH.compile)(given, program, &[]).result.map(drop),
         run_program.result.map(drop),
         reference_run.result.map(drop),
-        (BOTH.read_text)(table, text, &[]).result.map(drop),
-        (BOTH.compile_text)(table, text, &[]).result.map(drop),
+        (BOTH.read_text)(given, text, &[]).result.map(drop),
+        (BOTH.compile_text)(given, text, &[]).result.map(drop),
         run_text.result.map(drop),
     ]
 }
@@ -330,16 +330,16 @@ fn a_kind_needs_its_delay_under_every_table() {
 /// do the text and its program.
 fn end(times: Times, text: &str) -> Result<Option<End>, Refusal> {
     let (table, program, words) = (table(times), program(text), START);
-    let (table, text) = (Some(&table[..]), text.as_bytes());
+    let (given, text) = (Given::table(Some(&table)), text.as_bytes());
     let (file, state) = (vec![0; 2_000], vec![0; 5_000]);
-    let by_text = (BOTH.run_text)(table, text, &words, 1_000, &file, &state);
-    let by_program = (BOTH.run_program)(table, &program, &words, 1_000, &file, &state);
+    let by_text = (BOTH.run_text)(given, text, &words, 1_000, &file, &state);
+    let by_program = (BOTH.run_program)(given, &program, &words, 1_000, &file, &state);
     assert_eq!(by_text, by_program);
     let by_circuit = by_program.result.map(|answer| {
         let (instant, words) = (answer.instant, answer.words);
         answer.ended.then_some(End { instant, words })
     });
-    let by_rules = (BOTH.reference_run)(table, &program, &words, 1_000);
+    let by_rules = (BOTH.reference_run)(given, &program, &words, 1_000);
     assert_eq!(by_circuit, by_rules.result);
     by_circuit
 }
@@ -365,7 +365,9 @@ fn programs_run_by_their_delays_under_every_table_that_takes_them() {
 fn a_table_changes_no_byte_of_a_netlist() {
     let text = b"x0 := x0 + 3 @200; if x0 < 4 @255 then ok else x0 := !x0 @201 end";
     let compiled = |times| {
-        let compiled = (BOTH.compile_text)(Some(&table(times)), text, &[7; 1_024]);
+        let table = table(times);
+        let given = Given::table(Some(&table));
+        let compiled = (BOTH.compile_text)(given, text, &[7; 1_024]);
         assert!(compiled.result.is_ok(), "{times:?}");
         compiled
     };
@@ -381,9 +383,9 @@ fn without_a_table_the_built_in_serves() {
         "x0 := x0 < 1 @16",
     ] {
         let program = program(text);
-        let without = (BOTH.check)(None, &program).result;
+        let without = (BOTH.check)(Given::NOTHING, &program).result;
         assert_eq!(without, checked(USUAL, text), "{text}");
-        let without = (BOTH.reference_run)(None, &program, &START, 1_000).result;
+        let without = (BOTH.reference_run)(Given::NOTHING, &program, &START, 1_000).result;
         assert_eq!(without, end(USUAL, text), "{text}");
     }
 }

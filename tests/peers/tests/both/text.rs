@@ -2,6 +2,7 @@
 
 use crate::expect::{read, refused, START};
 use peers::BOTH;
+use values::Given;
 
 fn bytes(text: &str) -> Vec<u8> {
     read(text).unwrap_or_else(|refusal| panic!("{text:?}: {refusal}"))
@@ -153,7 +154,7 @@ fn a_lent_buffer_is_written_as_far_as_the_program_goes() {
     for room in [8, 10] {
         let mut expected = vec![7; room];
         expected[..8].copy_from_slice(&program);
-        let read = (BOTH.read_text)(None, b"x0 := 5 @1", &vec![7; room]);
+        let read = (BOTH.read_text)(Given::NOTHING, b"x0 := 5 @1", &vec![7; room]);
         assert_eq!(read.result, Ok(8));
         assert_eq!(read.lent, [expected]);
     }
@@ -169,7 +170,7 @@ fn a_refused_text_leaves_the_buffer_as_it_was() {
         (b"x0 := 5 @256", 17, 9),
     ];
     for (text, number, place) in table {
-        let read = (BOTH.read_text)(None, text, &[7; 7]);
+        let read = (BOTH.read_text)(Given::NOTHING, text, &[7; 7]);
         assert_eq!(read.result, refused(number, place));
         assert_eq!(read.lent, [[7; 7]]);
     }
@@ -180,24 +181,24 @@ fn a_text_compiles_and_runs_as_its_program() {
     let text = "x0 := 5 @1; while x0 @1 do x0 := x0 - 1 @17 end";
     let (program, text) = (bytes(text), text.as_bytes());
     let (file, state, words) = (vec![7; 2_000], vec![7; 9_000], START);
-    let compiled = (BOTH.compile)(None, &program, &file);
+    let compiled = (BOTH.compile)(Given::NOTHING, &program, &file);
     assert!(compiled.result.is_ok());
-    assert_eq!((BOTH.compile_text)(None, text, &file), compiled);
+    assert_eq!((BOTH.compile_text)(Given::NOTHING, text, &file), compiled);
 
-    let ran = (BOTH.run_program)(None, &program, &words, 500, &file, &state);
+    let ran = (BOTH.run_program)(Given::NOTHING, &program, &words, 500, &file, &state);
     assert!(ran.result.is_ok_and(|answer| answer.ended));
-    let ran_text = (BOTH.run_text)(None, text, &words, 500, &file, &state);
+    let ran_text = (BOTH.run_text)(Given::NOTHING, text, &words, 500, &file, &state);
     assert_eq!(ran_text, ran);
 }
 
 #[test]
 fn a_text_is_refused_before_its_run() {
-    let run = |text: &[u8]| (BOTH.run_text)(None, text, &[], 1_000_001, &[], &[]).result;
+    let run = |text: &[u8]| (BOTH.run_text)(Given::NOTHING, text, &[], 1_000_001, &[], &[]).result;
     assert_eq!(run(b"ok ok"), refused(18, 3));
     assert_eq!(run(b"ok _"), refused(17, 3));
     assert_eq!(run(b"tick 0"), refused(7, 0));
     assert_eq!(run(b"ok"), refused(13, 0));
-    let compiled = |text: &[u8]| (BOTH.compile_text)(None, text, &[]).result;
+    let compiled = |text: &[u8]| (BOTH.compile_text)(Given::NOTHING, text, &[]).result;
     assert_eq!(compiled(b"ok;"), refused(18, 3));
     assert_eq!(compiled(b"ok"), refused(14, 0));
 }

@@ -4,7 +4,7 @@
 
 use peers::BOTH;
 use std::collections::{BTreeMap, BTreeSet};
-use values::Refusal;
+use values::{Given, Refusal};
 
 const WORDS: [&str; 27] = [
     "ok", "tick", "if", "then", "else", "end", "while", "do", "repeat", "until", "x3", "7", ":=",
@@ -203,7 +203,9 @@ fn typed(list: &[usize]) -> (String, Vec<usize>) {
 /// refused, or has no room.
 fn broken_at(list: &[usize]) -> Option<usize> {
     let (text, places) = typed(list);
-    let refusal = (BOTH.read_text)(None, text.as_bytes(), &[]).result.err();
+    let refusal = (BOTH.read_text)(Given::NOTHING, text.as_bytes(), &[])
+        .result
+        .err();
     match refusal.expect("no room") {
         Refusal {
             number: 1..=8 | 14, ..

@@ -3,6 +3,7 @@
 
 use crate::expect::{read, refused};
 use peers::BOTH;
+use values::Given;
 
 const MOST_LENGTH: usize = 4096;
 
@@ -39,7 +40,7 @@ fn most([before, open, inside, close, after]: [&str; 5]) -> usize {
 
 /// Both implementations read it alike, whatever that is.
 fn assert_alike(text: &[u8]) {
-    (BOTH.read_text)(None, text, &[0xa5; 1_000]);
+    (BOTH.read_text)(Given::NOTHING, text, &[0xa5; 1_000]);
 }
 
 #[test]

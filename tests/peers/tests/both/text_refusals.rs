@@ -3,6 +3,7 @@
 
 use crate::expect::{read, refused};
 use peers::BOTH;
+use values::Given;
 
 /// A text without its mark, and the mark's place.
 fn unmarked(marked: &str) -> (String, usize) {
@@ -73,7 +74,7 @@ fn characters_outside_are_refusal_17() {
     ];
     assert_refused(17, &signs);
     for byte in 128..=255 {
-        let read = (BOTH.read_text)(None, &[b'o', b'k', byte], &[]);
+        let read = (BOTH.read_text)(Given::NOTHING, &[b'o', b'k', byte], &[]);
         assert_eq!(read.result, refused(17, 2), "{byte}");
     }
 }
@@ -272,7 +273,7 @@ fn words_are_refused_before_grammar_before_program() {
         ("repeat tick 0 until 1 @1 end", 7, 2),
     ];
     for (text, number, place) in table {
-        let read = (BOTH.read_text)(None, text.as_bytes(), &[]);
+        let read = (BOTH.read_text)(Given::NOTHING, text.as_bytes(), &[]);
         assert_eq!(read.result, refused(number, place), "{text:?}");
     }
 }

@@ -7,7 +7,7 @@ use peers::{Reply, BOTH};
 use second::calls;
 use std::fs;
 use std::path::{Path, PathBuf};
-use values::{Answer, Cell, Refusal, Shape};
+use values::{Answer, Cell, Given, Refusal, Shape};
 
 /// Longer than any result, and filled so that a stray write shows.
 static LENT: [u8; 50_000] = [0xa5; 50_000];
@@ -16,20 +16,22 @@ static LENT: [u8; 50_000] = [0xa5; 50_000];
 static LENT_CELLS: [Cell; 1_100] = [Cell::new(0xa5, 0xa5, 0xa5a5, 0xa5a5); 1_100];
 
 /// The folders with programs, with netlist files, and so on. Those of s05 have
-/// arrays, those of s06 loops too, those of s07 second starts.
-const PROGRAMS: [&str; 6] = [
+/// arrays, those of s06 loops too, those of s07 second starts, those of s08
+/// procedures.
+const PROGRAMS: [&str; 7] = [
     "program",
     "compile",
     "speed",
     "s05/compile",
     "s06/compile",
     "s07/compile",
+    "s08/compile",
 ];
-const NETLISTS: [&str; 3] = ["netlist", "s05/netlist", "s06/netlist"];
-const CALLS: [&str; 4] = ["calls", "s05/calls", "s06/calls", "s07/calls"];
-const STATES: [&str; 3] = ["state", "s05/state", "s07/state"];
-const RULES: [&str; 3] = ["s05/rules", "s06/rules", "s07/rules"];
-const HUBRUN: [&str; 3] = ["hubrun", "s05/hubrun", "s06/hubrun"];
+const NETLISTS: [&str; 4] = ["netlist", "s05/netlist", "s06/netlist", "s08/netlist"];
+const CALLS: [&str; 5] = ["calls", "s05/calls", "s06/calls", "s07/calls", "s08/calls"];
+const STATES: [&str; 4] = ["state", "s05/state", "s07/state", "s08/state"];
+const RULES: [&str; 4] = ["s05/rules", "s06/rules", "s07/rules", "s08/rules"];
+const HUBRUN: [&str; 4] = ["hubrun", "s05/hubrun", "s06/hubrun", "s08/hubrun"];
 
 /// One vector: the folder and the common beginning of its files' names.
 struct Vector {
@@ -61,6 +63,14 @@ impl Vector {
     /// A file with one number.
     fn number(&self, extension: &str) -> u32 {
         self.text(extension).parse().expect("a number")
+    }
+
+    /// How many procedures its program has: the second of the four numbers that
+    /// tell what is given beside it.
+    fn procedures(&self) -> usize {
+        let given = self.may_have("given").map(|_| self.text("given"));
+        let number = |given: String| given.split(' ').nth(1)?.parse().ok();
+        given.map_or(0, |given| number(given).expect("a number of procedures"))
     }
 
     /// A call on the state in a buffer, by its line: `begin`, `cont N` or
@@ -135,8 +145,12 @@ fn assert_result<T>(reply: &Reply<T>, result: &[u8], name: &str) {
 fn programs_are_compiled_or_refused_as_told() {
     for_each(&PROGRAMS, "prog", |vector, name| {
         let (program, table) = (vector.bytes("prog"), vector.may_have("table"));
-        let compiled = (BOTH.compile)(table.as_deref(), &program, &LENT);
-        let checked = (BOTH.check)(table.as_deref(), &program);
+        let given = Given {
+            table: table.as_deref(),
+            procedures: vector.procedures(),
+        };
+        let compiled = (BOTH.compile)(given, &program, &LENT);
+        let checked = (BOTH.check)(given, &program);
         assert_eq!(checked.result, compiled.result.map(drop), "{name}");
         let told = vector.may_have("expect").map(|_| vector.text("expect"));
         let shown = shape_text(compiled.result);
@@ -154,7 +168,7 @@ fn programs_are_compiled_or_refused_as_told() {
 fn tables_are_loaded_or_refused_as_told() {
     for_each(&["s05/table"], "table", |vector, name| {
         let (table, told) = (vector.bytes("table"), vector.text("expect"));
-        let check = |program: &[u8]| (BOTH.check)(Some(&table), program).result;
+        let check = |program: &[u8]| (BOTH.check)(Given::table(Some(&table)), program).result;
         let Some(times) = told.strip_prefix("ok ") else {
             let refusal = check(&[]).expect_err("it is refused");
             return assert_eq!(refusal.to_string(), told, "{name}");
@@ -288,9 +302,12 @@ fn rules_and_circuits_come_to_the_end_told() {
     for_each(&RULES, "prog", |vector, name| {
         let (program, words) = (vector.bytes("prog"), vector.bytes("words"));
         let (table, budget) = (vector.may_have("table"), vector.number("budget"));
-        let table = table.as_deref();
-        let ended = (BOTH.reference_run)(table, &program, &words, budget).result;
-        let ran = (BOTH.run_program)(table, &program, &words, budget, &LENT, &LENT);
+        let given = Given {
+            table: table.as_deref(),
+            procedures: vector.procedures(),
+        };
+        let ended = (BOTH.reference_run)(given, &program, &words, budget).result;
+        let ran = (BOTH.run_program)(given, &program, &words, budget, &LENT, &LENT);
         let answer = ran.result.expect("it is accepted");
         let Some(last) = vector.may_have("last") else {
             assert_eq!(vector.text("expect"), "open", "{name}");
@@ -315,7 +332,7 @@ fn rules_and_circuits_come_to_the_end_told() {
         );
         assert_eq!(answer.words, end.words, "{name}");
         assert_eq!(elements(&ran.lent), &last[32..], "{name}");
-        let by_second = calls::last_moment(table, &program, &words, budget);
+        let by_second = calls::last_moment(given, &program, &words, budget);
         let moment = by_second.ok().flatten().expect("it ends");
         assert_eq!(moment.contents.bytes(), last, "{name}");
     });

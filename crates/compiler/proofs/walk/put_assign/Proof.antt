@@ -38,7 +38,7 @@ returns c =
     let m = c .before .before .before .before .before .before .before .before in
     let e = m .before .before .before .before in
     let ready = e .before .before .before .before .pre .1 in
-    assign-done (ready .apart) (e .put-expr .ensures) (m .put .ensures) (d .ensures .0) (d .ensures .1 .0) (d .ensures .1 .1)
+    λ F. assign-done (ready .apart) (e .put-expr .ensures) (m .put .ensures) (d .ensures .0) (d .ensures .1 .0) (d .ensures .1 .1)
 
 pub put-assign-spec : {M : Type 1} → statement M
 put-assign-spec = tie.close (tie.spec put-expr-requires put-requires add-put-delays put-delays-requires (λ c. search needs) returns)

@@ -69,7 +69,7 @@ returns c =
     let e = m .before .before .before .before .before in
     let i = e .before .before .before .before in
     let ready = i .before .before .before .before .pre .1 in
-    element-done (ready .apart) (i .put-expr .ensures) (e .put-expr2 .ensures) (m .put .ensures) (n .put2 .ensures) (d .ensures .0) (d .ensures .1 .0) (d .ensures .1 .1)
+    λ F. element-done (ready .apart) (i .put-expr .ensures) (e .put-expr2 .ensures) (m .put .ensures) (n .put2 .ensures) (d .ensures .0) (d .ensures .1 .0) (d .ensures .1 .1)
 
 pub put-element-spec : {M : Type 1} → statement M
 put-element-spec =

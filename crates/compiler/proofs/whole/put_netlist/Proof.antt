@@ -1,23 +1,25 @@
 -- `whole::put_netlist` meets its contract. Assumes nothing.
-use mathlib.Core.Path.{_∙_}
+use mathlib.Core.Path.{refl, _∙_}
 use native.Mathlib.Omega.{arith}
-use borrow.Author.Needs.{needs}
 use Rattle.compiler.proofs.Assembly.{walk-low, clock-twenty, data-twenty, address-twenty, made}
 use Rattle.compiler.proofs.whole.put_netlist.Statement.{statement}
 use Rattle.compiler.proofs.whole.put_netlist.Tie as tie
 
+put-clocks-requires : tie.Need-put-clocks-requires
+put-clocks-requires c κs = (c .before .before .before .before .pre, refl)
+
 put-walk-requires : tie.Need-put-walk-requires
 put-walk-requires c κs =
-    let put-clocks = c .before .before .before .put-clocks in
-    let pre = c .before .before .before .before .before .before .before .pre in
-    rw (put-clocks .kept .0) (pre, put-clocks .ensures .next)
+    let clocks = c .before .before .before .before in
+    let put-clocks = clocks .put-clocks in
+    rw (put-clocks .kept .0) (clocks .before .before .before .before .before .pre, put-clocks .ensures .memory, put-clocks .ensures .told)
 
 put-memories-requires : tie.Need-put-memories-requires
 put-memories-requires c κs =
     let walk = c .before .before .before .before .before .before .before .before in
-    let clocks = walk .before .before .before .before in
-    let given = clocks .before .before .before .before .pre in
-    let low = walk-low given (clocks .put-clocks .ensures .next) in (
+    let clocks = walk .before .before .before .before .before in
+    let given = clocks .before .before .before .before .before .pre in
+    let low = walk-low given (clocks .put-clocks .ensures .memory) in (
       omega (arith, low),
       omega (arith, low, given .size, clocks .put-clocks .kept .0, walk .put-walk .kept .0),
       clock-twenty (clocks .put-clocks .ensures),
@@ -26,16 +28,16 @@ put-memories-requires c κs =
 
 add-put-arrays : tie.Need-add-put-arrays
 add-put-arrays c =
-    let clocks = c .before .before .before .before .before .before .before .before .before .before .before .before .before .before .before .before .before .before .before in
-    omega (arith, walk-low (clocks .before .before .before .before .pre) (clocks .put-clocks .ensures .next))
+    let clocks = c .before .before .before .before .before .before .before .before .before .before .before .before .before .before .before .before .before .before .before .before in
+    omega (arith, walk-low (clocks .before .before .before .before .before .pre) (clocks .put-clocks .ensures .memory))
 
 put-arrays-requires : tie.Need-put-arrays-requires
 put-arrays-requires c κs =
     let memories = c .before .before .before .before .before .before in
     let walk = memories .before .before .before .before .before .before .before .before .before in
-    let clocks = walk .before .before .before .before in
-    let given = clocks .before .before .before .before .pre in
-    let low = walk-low given (clocks .put-clocks .ensures .next) in (
+    let clocks = walk .before .before .before .before .before in
+    let given = clocks .before .before .before .before .before .pre in
+    let low = walk-low given (clocks .put-clocks .ensures .memory) in (
       omega (arith, low),
       omega (arith, low, given .size, clocks .put-clocks .kept .0, walk .put-walk .kept .0, memories .put-memories .kept .0),
       clock-twenty (clocks .put-clocks .ensures),
@@ -48,8 +50,8 @@ put-requires c κs =
     let arrays = c .before .before .before in
     let memories = arrays .before .before .before .before .before .before .before in
     let walk = memories .before .before .before .before .before .before .before .before .before in
-    let clocks = walk .before .before .before .before in
-    omega (arith, clocks .before .before .before .before .pre .size, arrays .put-arrays .kept .0, memories .put-memories .kept .0, walk .put-walk .kept .0, clocks .put-clocks .kept .0)
+    let clocks = walk .before .before .before .before .before in
+    omega (arith, clocks .before .before .before .before .before .pre .size, arrays .put-arrays .kept .0, memories .put-memories .kept .0, walk .put-walk .kept .0, clocks .put-clocks .kept .0)
 
 put-requires-2 : tie.Need-put-requires-2
 put-requires-2 c κs =
@@ -57,8 +59,8 @@ put-requires-2 c κs =
     let arrays = at1 .before .before .before .before in
     let memories = arrays .before .before .before .before .before .before .before in
     let walk = memories .before .before .before .before .before .before .before .before .before in
-    let clocks = walk .before .before .before .before in
-    omega (arith, clocks .before .before .before .before .pre .size, at1 .put .kept .0, arrays .put-arrays .kept .0, memories .put-memories .kept .0, walk .put-walk .kept .0, clocks .put-clocks .kept .0)
+    let clocks = walk .before .before .before .before .before in
+    omega (arith, clocks .before .before .before .before .before .pre .size, at1 .put .kept .0, arrays .put-arrays .kept .0, memories .put-memories .kept .0, walk .put-walk .kept .0, clocks .put-clocks .kept .0)
 
 put-requires-3 : tie.Need-put-requires-3
 put-requires-3 c κs =
@@ -67,8 +69,8 @@ put-requires-3 c κs =
     let arrays = at1 .before .before .before .before in
     let memories = arrays .before .before .before .before .before .before .before in
     let walk = memories .before .before .before .before .before .before .before .before .before in
-    let clocks = walk .before .before .before .before in
-    omega (arith, clocks .before .before .before .before .pre .size, at2 .put2 .kept .0, at1 .put .kept .0, arrays .put-arrays .kept .0, memories .put-memories .kept .0, walk .put-walk .kept .0, clocks .put-clocks .kept .0)
+    let clocks = walk .before .before .before .before .before in
+    omega (arith, clocks .before .before .before .before .before .pre .size, at2 .put2 .kept .0, at1 .put .kept .0, arrays .put-arrays .kept .0, memories .put-memories .kept .0, walk .put-walk .kept .0, clocks .put-clocks .kept .0)
 
 same-length : tie.Need-same-length
 same-length c =
@@ -78,7 +80,7 @@ same-length c =
     let arrays = at1 .before .before .before .before in
     let memories = arrays .before .before .before .before .before .before .before in
     let walk = memories .before .before .before .before .before .before .before .before .before in
-    let clocks = walk .before .before .before .before in
+    let clocks = walk .before .before .before .before .before in
     at3 .put3 .kept .0 ∙ at2 .put2 .kept .0 ∙ at1 .put .kept .0 ∙ arrays .put-arrays .kept .0 ∙ memories .put-memories .kept .0 ∙ walk .put-walk .kept .0 ∙ clocks .put-clocks .kept .0
 
 returns : tie.Need-returns
@@ -89,12 +91,12 @@ returns c =
     let arrays = at1 .before .before .before .before in
     let memories = arrays .before .before .before .before .before .before .before in
     let walk = memories .before .before .before .before .before .before .before .before .before in
-    let clocks = walk .before .before .before .before in
-    made (clocks .before .before .before .before .pre) (clocks .put-clocks .kept .0) (clocks .put-clocks .ensures) (walk .put-walk .ensures) (memories .put-memories .ensures)
+    let clocks = walk .before .before .before .before .before in
+    made (clocks .before .before .before .before .before .pre) (clocks .put-clocks .kept .0) (clocks .put-clocks .ensures) (walk .put-walk .ensures) (memories .put-memories .ensures)
     (arrays .put-arrays .ensures) (at1 .put .ensures) (at2 .put2 .ensures) (at3 .put3 .ensures)
 
 pub put-netlist-spec : {M : Type 1} → statement M
 put-netlist-spec =
     tie.close
-    (tie.spec (λ c κs. search needs) put-walk-requires put-memories-requires add-put-arrays put-arrays-requires put-requires put-requires-2
+    (tie.spec put-clocks-requires put-walk-requires put-memories-requires add-put-arrays put-arrays-requires put-requires put-requires-2
     put-requires-3 same-length returns)

@@ -17,7 +17,7 @@ part-full-run-end : tie.Need-part-full-run-end
 part-full-run-end c =
     let compile = c .before .before .before .compile-accepted in
     let args = c .before .before .before .before .before .before .before .before .before .args in
-    part-fits (compiledFile (args .program .now)) (args .netlist .now) _ _ (compile .ensures .0) (compile .ensures .1)
+    part-fits (compiledFile (args .options) (args .program .now)) (args .netlist .now) _ _ (compile .ensures .0) (compile .ensures .1)
 
 full-run-requires : tie.Need-full-run-requires
 full-run-requires c κs =
@@ -26,7 +26,7 @@ full-run-requires c κs =
     let args = start .args in
     let r = ready (args .options) (args .program .now) (args .words .now) (args .budget) (args .netlist .now) (args .state .now) (start .pre) in
     let known = c .before .before .before .before .before .before .before .before .before .before .shared-slice-known .given in
-    let same = part-is (compiledFile (args .program .now)) (args .netlist .now) _ _ (compile .ensures .0) (compile .ensures .1) in
+    let same = part-is (compiledFile (args .options) (args .program .now)) (args .netlist .now) _ _ (compile .ensures .0) (compile .ensures .1) in
     rw same (runs (args .options) (args .program .now) (args .words .now) (args .budget) (args .netlist .now) (args .state .now) (λ i. omega (arith, known i)) r, r .start, omega (arith, r .few))
 
 returns : tie.Need-returns
@@ -34,7 +34,7 @@ returns c =
     let compile = c .before .before .before .before .before .before .before .before .compile-accepted in
     let run = c .before .before .full-run .ensures in
     let args = c .before .before .before .before .before .before .before .before .before .before .before .before .before .before .args in
-    let same = part-is (compiledFile (args .program .now)) (args .netlist .now) _ _ (compile .ensures .0) (compile .ensures .1) in
+    let same = part-is (compiledFile (args .options) (args .program .now)) (args .netlist .now) _ _ (compile .ensures .0) (compile .ensures .1) in
     (rw same at run .1, (compile .ensures .1, rw same at run .0))
 
 pub run-accepted-spec : {M : Type 1} → statement M

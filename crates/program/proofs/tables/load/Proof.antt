@@ -1,11 +1,11 @@
 -- What a file's check says, and its ten bytes.
-use Rattle.model.specs.TimeTables.{load, timesIn}
+use Rattle.model.specs.TimeTables.{verdictOf, timesOf, timesIn, load}
 use borrow.Author.Needs.{needs}
 use Rattle.program.proofs.tables.load.Statement.{statement}
 use Rattle.program.proofs.tables.load.Tie as tie
 
 returns : tie.Need-returns
-unfolding load timesIn
+unfolding load verdictOf timesOf timesIn
 returns c =
     let b = c .before .before .before .before .before .before .before .before .before in
     rw (

@@ -11,12 +11,14 @@ returns c = c .ones .ensures ∙ sym (delay-flight _ _ _ (c .before .if1 .taken)
 
 returns-2 : tie.Need-returns-2
 returns-2 c =
-    cc (merge-flight (lineBit (c .before .before .before .before .before .args .s .now) (c .before .before .before .before .before .args .k)) (heldAt (c .before .before .before .before .before .args .s .now) (c .before .before .before .before .before .args .k)) (c .before .before .before .before .before .args .c) (c .before .before .if2 .taken))
+    let args = c .before .before .before .before .before .before .args in
+    let merge = sym (c .before .before .before .is-merge .ensures) ∙ c .before .before .if2 .taken in
+    cc (merge-flight (lineBit (args .s .now) (args .k)) (heldAt (args .s .now) (args .k)) (args .c) (c .before .before .before .before .if1 .left) merge)
 
 returns-3 : tie.Need-returns-3
-returns-3 c = sym (none-flight _ _ _ (c .before .if1 .left) (c .if2 .left))
+returns-3 c = sym (none-flight _ _ _ (c .before .before .if1 .left) (sym (c .before .is-merge .ensures) ∙ c .if2 .left))
 
 pub in-flight-spec : {M : Type 1} → statement M
 in-flight-spec =
     tie.close
-    (tie.spec (λ c κs. search needs) returns (λ c κs. search needs) (λ c κs. search needs) returns-2 returns-3)
+    (tie.spec (λ c κs. search needs) returns (λ c κs. search needs) (λ c κs. search needs) (λ c κs. search needs) returns-2 returns-3)

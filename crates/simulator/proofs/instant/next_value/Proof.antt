@@ -1,8 +1,8 @@
 -- `next_value` meets its contract. Assumes nothing.
-use mathlib.Core.Path.{sym, _∙_}
+use mathlib.Core.Path.{refl, sym, _∙_}
 use native.Mathlib.Omega.{arith}
 use borrow.Author.Needs.{needs}
-use Rattle.model.specs.Circuit.{memory}
+use Rattle.model.specs.Circuit.{memory, merges}
 use Rattle.laws.specs.Numbering.Cells.{join}
 use Rattle.simulator.specs.Fits.{netOf}
 use Rattle.simulator.proofs.Cells.{read-array}
@@ -46,7 +46,7 @@ now-at-requires c κs =
 element-now-requires : tie.Need-element-now-requires
 element-now-requires c κs =
     let pre = c .before .before .before .before .before .before .before .before .before .before .pre in
-    let array = read-array pre (c .match .keys7) in
+    let array = read-array pre (c .match .keys8) in
     (pre .fits, array .0, array .1)
 
 returns-5 : tie.Need-returns-5
@@ -70,32 +70,39 @@ returns-8 c =
     cc (next-when-false (args .starts) (netOf (args .cells .now) (args .n)) (args .state .now) (args .k) (args .c) (c .before .match .keys4))
 
 returns-9 : tie.Need-returns-9
+unfolding merges
 returns-9 c =
     let args = c .before .before .before .before .before .before .before .before .before .before .before .args in
-    cc (next-merge (args .starts) (netOf (args .cells .now) (args .n)) (args .state .now) (args .k) (args .c) (c .before .match .keys5))
+    cc (next-merge (args .starts) (netOf (args .cells .now) (args .n)) (args .state .now) (args .k) (args .c) (rw (c .before .match .keys5) refl))
 
 returns-10 : tie.Need-returns-10
+unfolding merges
 returns-10 c =
-    let now-at = c .before .before .before .now-at in
-    c .before .before .now-at2 .ensures ∙ sym (next-gate-open _ _ _ _ _ (c .before .match .keys6) (sym (now-at .ensures) ∙ c .if5 .taken))
+    let args = c .before .before .before .before .before .before .before .before .before .before .before .args in
+    cc (next-merge (args .starts) (netOf (args .cells .now) (args .n)) (args .state .now) (args .k) (args .c) (rw (c .before .match .keys6) refl))
 
 returns-11 : tie.Need-returns-11
 returns-11 c =
     let now-at = c .before .before .before .now-at in
-    sym (next-gate-shut _ _ _ _ _ (c .before .match .keys6) (λ e. c .if5 .left (now-at .ensures ∙ e)))
+    c .before .before .now-at2 .ensures ∙ sym (next-gate-open _ _ _ _ _ (c .before .match .keys7) (sym (now-at .ensures) ∙ c .if5 .taken))
 
 returns-12 : tie.Need-returns-12
 returns-12 c =
-    let args = c .before .before .before .before .before .before .before .before .before .before .before .args in
-    cc (next-read (args .starts) (netOf (args .cells .now) (args .n)) (args .state .now) (args .k) (args .c) (c .before .match .keys7))
+    let now-at = c .before .before .before .now-at in
+    sym (next-gate-shut _ _ _ _ _ (c .before .match .keys7) (λ e. c .if5 .left (now-at .ensures ∙ e)))
 
 returns-13 : tie.Need-returns-13
 returns-13 c =
-    let args = c .before .before .before .before .before .before .before .before .before .before .before .before .before .args in
-    cc (next-operator (args .starts) (netOf (args .cells .now) (args .n)) (args .state .now) (args .k) (args .c) (c .before .before .if6 .left) (omega arith))
+    let args = c .before .before .before .before .before .before .before .before .before .before .before .args in
+    cc (next-read (args .starts) (netOf (args .cells .now) (args .n)) (args .state .now) (args .k) (args .c) (c .before .match .keys8))
 
 returns-14 : tie.Need-returns-14
 returns-14 c =
+    let args = c .before .before .before .before .before .before .before .before .before .before .before .before .before .args in
+    cc (next-operator (args .starts) (netOf (args .cells .now) (args .n)) (args .state .now) (args .k) (args .c) (c .before .before .if6 .left) (omega arith))
+
+returns-15 : tie.Need-returns-15
+returns-15 c =
     let if1 = c .before .before .before .before .before .before .before .before .if1 in
     let if2 = c .before .before .before .before .before .before .before .if2 in
     let match = c .before .match in
@@ -106,18 +113,19 @@ returns-14 c =
       operator = no-operator-low _ (c .if6 .taken);
       constant = if1 .left;
       delay = if2 .left;
-      start = match .rest .0 .0 .0 .0 .0 .0 .1;
-      join = match .rest .0 .0 .0 .0 .0 .1;
-      when-true = match .rest .0 .0 .0 .0 .1;
-      when-false = match .rest .0 .0 .0 .1;
-      merge = match .rest .0 .0 .1;
+      start = match .rest .0 .0 .0 .0 .0 .0 .0 .1;
+      join = match .rest .0 .0 .0 .0 .0 .0 .1;
+      when-true = match .rest .0 .0 .0 .0 .0 .1;
+      when-false = match .rest .0 .0 .0 .0 .1;
+      merge = match .rest .0 .0 .0 .1;
+      return = match .rest .0 .0 .1;
       memory = if3 .left;
       gated = match .rest .0 .1;
       read = match .rest .1;
     }))
 
-returns-15 : tie.Need-returns-15
-returns-15 c =
+returns-16 : tie.Need-returns-16
+returns-16 c =
     let if1 = c .before .before .before .before .before .before .before .before .before .if1 in
     let if2 = c .before .before .before .before .before .before .before .before .if2 in
     let match = c .before .before .match in
@@ -128,11 +136,12 @@ returns-15 c =
       operator = no-operator-high _ (c .if7 .left);
       constant = if1 .left;
       delay = if2 .left;
-      start = match .rest .0 .0 .0 .0 .0 .0 .1;
-      join = match .rest .0 .0 .0 .0 .0 .1;
-      when-true = match .rest .0 .0 .0 .0 .1;
-      when-false = match .rest .0 .0 .0 .1;
-      merge = match .rest .0 .0 .1;
+      start = match .rest .0 .0 .0 .0 .0 .0 .0 .1;
+      join = match .rest .0 .0 .0 .0 .0 .0 .1;
+      when-true = match .rest .0 .0 .0 .0 .0 .1;
+      when-false = match .rest .0 .0 .0 .0 .1;
+      merge = match .rest .0 .0 .0 .1;
+      return = match .rest .0 .0 .1;
       memory = if3 .left;
       gated = match .rest .0 .1;
       read = match .rest .1;
@@ -161,6 +170,7 @@ next-value-spec =
     (λ c κs. search needs)
     (λ c κs. search needs)
     (λ c κs. search needs)
+    (λ c κs. search needs)
     element-now-requires
     (λ c κs. search needs)
     returns-5
@@ -173,4 +183,5 @@ next-value-spec =
     returns-12
     returns-13
     returns-14
-    returns-15)
+    returns-15
+    returns-16)

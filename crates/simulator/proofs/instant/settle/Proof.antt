@@ -1,11 +1,12 @@
 -- `settle` meets its contract. Assumes nothing.
-use mathlib.Core.Path.{_≡_, sym, ap}
+use mathlib.Core.Path.{_≡_, sym, _∙_, ap}
 use native.Mathlib.Omega.{arith}
 use borrow.Author.Needs.{needs}
 use Rattle.model.specs.Word.{bit}
+use Rattle.laws.specs.State.Passes.{settle-merge}
 use Rattle.laws.specs.State.Flight.{comesIn, goesOut}
-use Rattle.simulator.proofs.ByKind.{settle-delay, settle-merge, settle-other}
-use Rattle.simulator.proofs.InFlight.{delay-moves, merge-moves, none-moves, held-low}
+use Rattle.simulator.proofs.ByKind.{settle-delay, settle-other}
+use Rattle.simulator.proofs.InFlight.{delay-moves, merge-moves, none-moves, no-constant, held-low}
 use Rattle.simulator.proofs.instant.settle.Statement.{statement}
 use Rattle.simulator.proofs.instant.settle.Tie as tie
 
@@ -29,34 +30,38 @@ returns c =
     (cc (settle-delay (args .state .now) (args .k) (args .c) delay), omega (arith, c .before .before .before .before .before .before .before .before .before .before .before .before .before .before .pre .3, moves .0, moves .1, c .before .before .before .before .before .line-bit .ensures, c .bit .ensures, ap bit (c .before .before .before .before .before .before .before .before .is-high .ensures)))
 
 is-high-requires-2 : tie.Need-is-high-requires-2
-is-high-requires-2 c κs = c .before .before .before .before .before .before .pre .1 .a (λ e. omega (arith, c .before .if2 .taken))
+is-high-requires-2 c κs =
+    let merge = sym (c .before .before .is-merge .ensures) ∙ c .before .if2 .taken in
+    c .before .before .before .before .before .before .before .pre .1 .a (λ e. no-constant _ merge e)
 
 add-result-2 : tie.Need-add-result-2
 add-result-2 c =
-    omega (arith, c .before .before .before .before .before .before .before .before .before .before .before .before .before .before .before .before .before .before .pre .2, c .held-bits .ensures, held-low (c .held-bits .result) _ (c .held-bits .ensures))
+    omega (arith, c .before .before .before .before .before .before .before .before .before .before .before .before .before .before .before .before .before .before .before .pre .2, c .held-bits .ensures, held-low (c .held-bits .result) _ (c .held-bits .ensures))
 
 sub-result-2 : tie.Need-sub-result-2
 sub-result-2 c =
-    let args = c .before .before .before .before .before .before .before .before .before .before .before .before .before .before .before .before .before .before .before .args in
-    let moves = merge-moves (args .state .now) (args .k) (args .c) (c .before .before .before .before .before .before .before .before .before .before .before .before .before .before .if2 .taken) in
+    let args = c .before .before .before .before .before .before .before .before .before .before .before .before .before .before .before .before .before .before .before .before .args in
+    let merge = sym (c .before .before .before .before .before .before .before .before .before .before .before .before .before .before .before .is-merge .ensures) ∙ c .before .before .before .before .before .before .before .before .before .before .before .before .before .before .if2 .taken in
+    let moves = merge-moves (args .state .now) (args .k) (args .c) (c .before .before .before .before .before .before .before .before .before .before .before .before .before .before .before .before .if1 .left) merge in
     let comes : c .before .held-bits .result ≡ comesIn (args .state .now) (args .k) (args .c) = cc (moves .0) in
     let goes : c .held-bits2 .result ≡ goesOut (args .state .now) (args .k) (args .c) = cc (moves .1) in
-    omega (arith, c .before .before .before .before .before .before .before .before .before .before .before .before .before .before .before .before .before .before .before .pre .3, comes, goes)
+    omega (arith, c .before .before .before .before .before .before .before .before .before .before .before .before .before .before .before .before .before .before .before .before .pre .3, comes, goes)
 
 returns-2 : tie.Need-returns-2
 returns-2 c =
-    let args = c .before .before .before .before .before .before .before .before .before .before .before .before .before .before .before .before .before .before .before .args in
-    let merge = c .before .before .before .before .before .before .before .before .before .before .before .before .before .before .if2 .taken in
-    let moves = merge-moves (args .state .now) (args .k) (args .c) merge in
+    let args = c .before .before .before .before .before .before .before .before .before .before .before .before .before .before .before .before .before .before .before .before .args in
+    let merge = sym (c .before .before .before .before .before .before .before .before .before .before .before .before .before .before .before .is-merge .ensures) ∙ c .before .before .before .before .before .before .before .before .before .before .before .before .before .before .if2 .taken in
+    let moves = merge-moves (args .state .now) (args .k) (args .c) (c .before .before .before .before .before .before .before .before .before .before .before .before .before .before .before .before .if1 .left) merge in
     let comes : c .before .held-bits .result ≡ comesIn (args .state .now) (args .k) (args .c) = cc (moves .0) in
     let goes : c .held-bits2 .result ≡ goesOut (args .state .now) (args .k) (args .c) = cc (moves .1) in
-    (cc (settle-merge (args .state .now) (args .k) (args .c) merge), omega (arith, c .before .before .before .before .before .before .before .before .before .before .before .before .before .before .before .before .before .before .before .pre .3, comes, goes))
+    (cc (settle-merge (args .state .now) (args .k) (args .c) merge), omega (arith, c .before .before .before .before .before .before .before .before .before .before .before .before .before .before .before .before .before .before .before .before .pre .3, comes, goes))
 
 returns-3 : tie.Need-returns-3
 returns-3 c =
-    let args = c .before .before .before .before .before .args in
-    let moves = none-moves (args .state .now) (args .k) (args .c) (c .before .if1 .left) (c .if2 .left) in
-    (sym (settle-other _ _ _ (c .before .if1 .left) (c .if2 .left)), omega (arith, moves .0, moves .1))
+    let args = c .before .before .before .before .before .before .args in
+    let none = sym (c .before .is-merge .ensures) ∙ c .if2 .left in
+    let moves = none-moves (args .state .now) (args .k) (args .c) (c .before .before .if1 .left) none in
+    (sym (settle-other _ _ _ (c .before .before .if1 .left) none), omega (arith, moves .0, moves .1))
 
 pub settle-spec : {M : Type 1} → statement M
 settle-spec =
@@ -76,6 +81,7 @@ settle-spec =
     sub-result
     (λ c. search needs)
     returns
+    (λ c κs. search needs)
     is-high-requires-2
     (λ c κs. search needs)
     (λ c κs. search needs)

@@ -8,12 +8,12 @@ use Rattle.simulator.proofs.sound.cell_sound.Tie as tie
 
 cast-held : tie.Need-cast-held
 cast-held c =
-    let args = c .before .before .before .before .before .before .args in
+    let args = c .before .before .before .before .before .before .before .before .args in
     omega (arith, c .shared-slice-known2 .given (8 + 40 * args .k + 4))
 
 cast-held-2 : tie.Need-cast-held-2
 cast-held-2 c =
-    let args = c .before .before .before .before .before .before .before .args in
+    let args = c .before .before .before .before .before .before .before .before .before .args in
     omega (arith, c .shared-slice-known3 .given (8 + 40 * args .k + 5))
 
 returns : tie.Need-returns
@@ -26,6 +26,8 @@ cell-sound-spec =
     (tie.spec
     (λ c. search needs)
     (λ c. search needs)
+    (λ c κs. search needs)
+    (λ c κs. search needs)
     (λ c κs. search needs)
     (λ c κs. search needs)
     (λ c κs. search needs)

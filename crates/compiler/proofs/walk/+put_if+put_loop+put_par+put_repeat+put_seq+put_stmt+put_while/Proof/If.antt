@@ -1,4 +1,4 @@
--- An if: its own delay, its switches, P, Q, and their merge. Assumes nothing.
+-- An if: its own delay, its switches, P, Q, and the 35 of their finishes. Assumes nothing.
 use Prim.Native.Nat.{ℕ, _+_, _≤_}
 use native.Mathlib.Omega.{arith}
 use mathlib.Core.Path.{_∙_}

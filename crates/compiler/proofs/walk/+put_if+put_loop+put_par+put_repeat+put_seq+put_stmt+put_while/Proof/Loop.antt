@@ -1,4 +1,4 @@
--- A loop: the merge of start and its delay, P, the delay that P's finish feeds, and the ors of its exits. Assumes nothing.
+-- A loop: the 35 of start and its delay, P, the delay that P's finish feeds, and the ors of its exits. Assumes nothing.
 use Prim.Native.Nat.{ℕ}
 use native.Mathlib.Omega.{arith}
 use borrow.Author.Needs.{needs}

@@ -1,4 +1,4 @@
--- A repeat: its switches, the merge of start and its 37, P, and the delay that P's finish feeds. Assumes nothing.
+-- A repeat: its switches, the 35 of start and its 37, P, and the delay that P's finish feeds. Assumes nothing.
 use Prim.Native.Nat.{ℕ, _+_, _≤_}
 use native.Mathlib.Omega.{arith}
 use borrow.Author.Needs.{needs}

@@ -4,18 +4,18 @@ use Prim.Native.Nat.{ℕ, _+_, _<_, _≤_}
 use native.Mathlib.Omega.{arith}
 use denote.Ref.{now}
 use borrow.Author.Needs.{needs}
-use Rattle.model.specs.Program.{ok, tick, assign, assignElem, loop, exit, nodeAt, nodeCount, stmtAt}
+use Rattle.model.specs.Program.{ok, tick, assign, assignElem, loop, exit, call, nodeAt, nodeCount, stmtAt}
 use Rattle.model.specs.Numbering.{delayCount, exitCount, exitWires}
-use Rattle.laws.specs.Program.Trees.{at-tick, at-loop, at-exit}
+use Rattle.laws.specs.Program.Trees.{at-tick, at-loop, at-exit, at-call}
 use Rattle.program.specs.Ends.{past-later}
 use Rattle.program.proofs.Children.{Inner, last-kind, second-later, assign-read, assign-elem-read, seq-read, par-read, ite-read, while-read, repeat-read}
 use Rattle.compiler.specs.Walk.{allExits}
-use Rattle.compiler.proofs.Stmts.{ok-done, tick-done, exit-done}
+use Rattle.compiler.proofs.Stmts.{ok-done, tick-done, exit-done, call-done}
 use Rattle.compiler.proofs.Exits.{opened-none}
-use Rattle.compiler.proofs.Parts.{delays-fit}
+use Rattle.compiler.proofs.Parts.{delays-fit, call-fits}
 use Rattle.program.proofs.next.Reads as next-reads
 use Rattle.compiler.proofs.nodes.stmt_node.Reads as stmt-node-reads
-use Rattle.compiler.proofs.walk.put.Reads as put-reads
+use Rattle.compiler.proofs.walk.put_tick.Reads as tick-reads
 use Rattle.compiler.proofs.walk.put_assign.Reads as assign-reads
 use Rattle.compiler.proofs.walk.put_element.Reads as element-reads
 use Rattle.compiler.proofs.walk.put_seq.Reads as seq-reads
@@ -25,6 +25,7 @@ use Rattle.compiler.proofs.walk.put_while.Reads as while-reads
 use Rattle.compiler.proofs.walk.put_repeat.Reads as repeat-reads
 use Rattle.compiler.proofs.walk.put_loop.Reads as loop-reads
 use Rattle.compiler.proofs.walk.put_exit.Reads as exit-reads
+use Rattle.compiler.proofs.walk.put_call.Reads as call-reads
 use Rattle.compiler.proofs.walk.put_stmt.Reads as stmt-reads
 use Rattle.compiler.proofs.walk.+put_if+put_loop+put_par+put_repeat+put_seq+put_stmt+put_while.Lts-put_stmt as lts
 use Rattle.compiler.proofs.walk.+put_if+put_loop+put_par+put_repeat+put_seq+put_stmt+put_while.Proof.Falls.{stmt-here, seq-below, par-below, if-below, while-below, repeat-below, loop-below}
@@ -34,8 +35,8 @@ module _ (t : ℕ) where
   calls = (
     stmt-node-reads.Asked,
     stmt-node-reads.Learnt,
-    put-reads.Asked,
-    put-reads.Learnt,
+    tick-reads.Asked,
+    tick-reads.Learnt,
     next-reads.Asked,
     next-reads.Learnt,
     assign-reads.Asked,
@@ -54,6 +55,8 @@ module _ (t : ℕ) where
     loop-reads.Post,
     exit-reads.Asked,
     exit-reads.Learnt,
+    call-reads.Asked,
+    call-reads.Learnt,
     repeat-below t,
     repeat-reads.Post,
   )
@@ -80,7 +83,7 @@ module _ (t : ℕ) where
       record { laid = w .before .before .before .before .before .before .pre .1 .0; here = here .0; node = here .2; next = w .next .ensures }
 
   last-of : (w : lts.At-match-rest calls (stmt-here t) stmt-reads.Post) → 23 ≤ w .before .before .before .before .stmt-node .result .kind
-  last-of w = last-kind (omega (arith, here-of (w .before .before .before) .1, w .before .before .if2 .left)) (w .match .rest .0 .0 .0)
+  last-of w = last-kind (omega (arith, here-of (w .before .before .before) .1, w .before .before .if2 .left)) (w .match .rest .0 .0 .0 .0)
 
   stmt-node-requires : lts.Need-stmt-node-requires calls (stmt-here t) stmt-reads.Post
   stmt-node-requires c κs = tt
@@ -89,14 +92,11 @@ module _ (t : ℕ) where
   unfolding exitCount exitWires
   returns c = rw (c .before .stmt-node .ensures .nothing (c .if1 .taken)) (ok-done, opened-none ok refl refl)
 
-  put-requires : lts.Need-put-requires calls (stmt-here t) stmt-reads.Post
+  put-tick-requires : lts.Need-put-tick-requires calls (stmt-here t) stmt-reads.Post
   unfolding delayCount
-  put-requires c κs =
+  put-tick-requires c κs =
       let ready = rw (tick-of (c .before)) at (c .before .before .before .before .before .before .pre .1 .1) in
-      omega (arith, delays-fit ready)
-
-  add-t20 : lts.Need-add-t20 calls (stmt-here t) stmt-reads.Post
-  add-t20 c = search needs
+      (omega (arith, ready .small, delays-fit ready), omega (arith, delays-fit ready))
 
   same-length : lts.Need-same-length calls (stmt-here t) stmt-reads.Post
   same-length c = search needs
@@ -104,9 +104,10 @@ module _ (t : ℕ) where
   returns-2 : lts.Need-returns-2 calls (stmt-here t) stmt-reads.Post
   unfolding exitCount exitWires
   returns-2 c =
-      let w = c .before .before .before .before .before in
+      let w = c .before .before .before .before in
       let ready = rw (tick-of w) at (w .before .before .before .before .before .pre .1 .1) in
-      rw (tick-of w) (tick-done (ready .apart) (c .before .before .before .put .ensures), opened-none (tick _) refl refl)
+      let u = c .before .before .put-tick .ensures in
+      rw (tick-of w) (tick-done (ready .apart) (u .0) (u .1), opened-none (tick _) refl refl)
 
   add-i1 : lts.Need-add-i1 calls (stmt-here t) stmt-reads.Post
   add-i1 c = omega (arith, here-of (c .before) .0, c .before .before .before .before .before .pre .1 .0 .short)
@@ -170,6 +171,12 @@ module _ (t : ℕ) where
       stmtAt (now (args .program)) (args .i) ≡ exit
   exit-of w = let n = inner-of (w .before) in at-exit _ _ (n .here) _ (n .node) (w .match .keys8)
 
+  call-of : (w : lts.At-match-keys9 calls (stmt-here t) stmt-reads.Post)
+      → let args = w .before .before .before .before .before .before .before .args in
+      let a = w .before .before .before .before .stmt-node .result in
+      stmtAt (now (args .program)) (args .i) ≡ call (a .delay) (a .n)
+  call-of w = let n = inner-of (w .before) in at-call _ _ (n .here) _ (n .node) (w .match .keys9)
+
   put-loop-requires : lts.Need-put-loop-requires calls (stmt-here t) stmt-reads.Post
   put-loop-requires c κs =
       let m = c .before .before .before in
@@ -185,12 +192,17 @@ module _ (t : ℕ) where
       let ready = rw (exit-of m) at (pre .1 .1) in
       (ready .outs, pre .1 .2)
 
+  put-call-requires : lts.Need-put-call-requires calls (stmt-here t) stmt-reads.Post
+  put-call-requires c κs =
+      let m = c .before .before in
+      call-fits (rw (call-of m) at (m .before .before .before .before .before .before .before .pre .1 .1))
+
   put-repeat-requires : lts.Need-put-repeat-requires calls (stmt-here t) stmt-reads.Post
   put-repeat-requires c κs =
       let m = c .before .before .before in
       let n = inner-of (m .before) in
       let pre = m .before .before .before .before .before .before .before .pre in
-      (omega (arith, pre .0, n .here, second-later n), (pre .1 .0, rw (repeat-read n (last-of m) (m .match .rest .0 .0 .1) (m .match .rest .0 .1) (m .match .rest .1)) at (pre .1 .1), pre .1 .2))
+      (omega (arith, pre .0, n .here, second-later n), (pre .1 .0, rw (repeat-read n (last-of m) (m .match .rest .0 .0 .0 .1) (m .match .rest .0 .0 .1) (m .match .rest .0 .1) (m .match .rest .1)) at (pre .1 .1), pre .1 .2))
 
   same-length-2 : lts.Need-same-length-2 calls (stmt-here t) stmt-reads.Post
   same-length-2 c = search needs
@@ -200,7 +212,7 @@ module _ (t : ℕ) where
   returns-3 c =
       let m = c .before .before .before .before .before in
       let n = inner-of (m .before) in
-      rw (assign-read n (m .match .keys1)) (c .before .before .put-assign .ensures, opened-none (assign _ _ _) refl refl)
+      rw (assign-read n (m .match .keys1)) (c .before .before .put-assign .ensures _, opened-none (assign _ _ _) refl refl)
 
   same-length-3 : lts.Need-same-length-3 calls (stmt-here t) stmt-reads.Post
   same-length-3 c = search needs
@@ -247,7 +259,7 @@ module _ (t : ℕ) where
   returns-8 c =
       let m = c .before .before .before .before .before in
       let n = inner-of (m .before) in
-      rw (assign-elem-read n (m .match .keys6)) (c .before .before .put-element .ensures, opened-none (assignElem _ _ _ _) refl refl)
+      rw (assign-elem-read n (m .match .keys6)) (c .before .before .put-element .ensures _, opened-none (assignElem _ _ _ _) refl refl)
 
   same-length-8 : lts.Need-same-length-8 calls (stmt-here t) stmt-reads.Post
   same-length-8 c = search needs
@@ -267,15 +279,27 @@ module _ (t : ℕ) where
   same-length-9 c = search needs
 
   returns-11 : lts.Need-returns-11 calls (stmt-here t) stmt-reads.Post
+  unfolding exitCount exitWires
   returns-11 c =
+      let m = c .before .before .before .before .before in
+      let ready = rw (call-of m) at (m .before .before .before .before .before .before .before .pre .1 .1) in
+      let u = c .before .before .put-call .ensures in
+      rw (call-of m) (call-done (ready .apart) (u .0) (u .1 .0) (u .1 .1), opened-none (call _ _) refl refl)
+
+  same-length-10 : lts.Need-same-length-10 calls (stmt-here t) stmt-reads.Post
+  same-length-10 c = search needs
+
+  returns-12 : lts.Need-returns-12 calls (stmt-here t) stmt-reads.Post
+  returns-12 c =
       let m = c .before .before .before .before .before .before in
       let n = inner-of (m .before) in
-      rw (repeat-read n (last-of m) (m .match .rest .0 .0 .1) (m .match .rest .0 .1) (m .match .rest .1)) (c .before .before .put-repeat .ensures)
+      rw (repeat-read n (last-of m) (m .match .rest .0 .0 .0 .1) (m .match .rest .0 .0 .1) (m .match .rest .0 .1) (m .match .rest .1)) (c .before .before .put-repeat .ensures)
 
   pub stmt-closed : {M : Type 1} → lts.Closed calls (stmt-here t) stmt-reads.Post M
   stmt-closed =
       lts.spec calls (stmt-here t) stmt-reads.Post
-      stmt-node-requires returns put-requires add-t20 same-length returns-2 add-i1 next-requires put-assign-requires
-      put-seq-requires put-par-requires next-requires-2 put-if-requires put-while-requires put-element-requires put-loop-requires put-exit-requires put-repeat-requires same-length-2
+      stmt-node-requires returns put-tick-requires same-length returns-2 add-i1 next-requires put-assign-requires
+      put-seq-requires put-par-requires next-requires-2 put-if-requires put-while-requires put-element-requires put-loop-requires put-exit-requires
+      put-call-requires put-repeat-requires same-length-2
       returns-3 same-length-3 returns-4 same-length-4 returns-5 same-length-5 returns-6 same-length-6 returns-7 same-length-7
-      returns-8 same-length-8 returns-9 returns-10 same-length-9 returns-11
+      returns-8 same-length-8 returns-9 returns-10 same-length-9 returns-11 same-length-10 returns-12

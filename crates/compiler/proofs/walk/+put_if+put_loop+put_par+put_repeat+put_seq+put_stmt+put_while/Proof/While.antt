@@ -1,4 +1,4 @@
--- A while: its switches, P, the merge of start and P's finish, and the delay that it feeds. Assumes nothing.
+-- A while: its switches, P, the 35 of start and P's finish, and the delay that it feeds. Assumes nothing.
 use Prim.Native.Nat.{ℕ, _+_, _≤_}
 use native.Mathlib.Omega.{arith}
 use borrow.Author.Needs.{needs}

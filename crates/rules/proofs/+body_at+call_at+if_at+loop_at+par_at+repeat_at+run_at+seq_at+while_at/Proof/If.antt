@@ -1,0 +1,62 @@
+-- An if: its wait, and then the branch that its test picks.
+use Prim.Native.Nat.{ℕ}
+use native.Mathlib.Omega.{arith}
+use Rattle.rules.proofs.Parts.{ite-first, ite-second}
+use Rattle.rules.proofs.Runs.{if-still, if-then, if-else}
+use Rattle.rules.proofs.eval_at.Reads as eval-at
+use Rattle.rules.proofs.if_at.Reads as if-reads
+use Rattle.rules.proofs.later.Reads as later
+use Rattle.rules.proofs.run_at.Reads as run-reads
+use Rattle.rules.proofs.unfinished.Reads as unfinished
+use Rattle.rules.proofs.+body_at+call_at+if_at+loop_at+par_at+repeat_at+run_at+seq_at+while_at.Lts-if_at as lts
+use Rattle.rules.proofs.+body_at+call_at+if_at+loop_at+par_at+repeat_at+run_at+seq_at+while_at.Proof.Falls.{if-here, run-below}
+
+module _ (t : ℕ) where
+  abbrev calls : lts.Claims
+  calls = (unfinished.Asked, unfinished.Learnt, eval-at.Asked, eval-at.Learnt, run-below t, run-reads.Post, later.Asked, later.Learnt)
+
+  unfinished-requires : lts.Need-unfinished-requires calls (if-here t) if-reads.Post
+  unfinished-requires c κs = tt
+
+  returns : lts.Need-returns calls (if-here t) if-reads.Post
+  returns c = if-still _ _ _ _ _ _ _ (c .before .if1 .taken) (c .unfinished .ensures)
+
+  eval-at-requires : lts.Need-eval-at-requires calls (if-here t) if-reads.Post
+  eval-at-requires c κs =
+      let pre = c .before .before .pre in
+      pre .1 .0 .fit .laid
+
+  run-at-requires : lts.Need-run-at-requires calls (if-here t) if-reads.Post
+  run-at-requires c κs =
+      let pre = c .before .before .before .before .pre in
+      (omega (arith, pre .0, pre .1 .1), ite-second (pre .1 .0))
+
+  later-requires : lts.Need-later-requires calls (if-here t) if-reads.Post
+  later-requires c κs = omega (arith, c .run-at .ensures .within)
+
+  returns-2 : lts.Need-returns-2 calls (if-here t) if-reads.Post
+  returns-2 c =
+      let if1 = c .before .before .before .before .if1 in
+      let eval-at = c .before .before .before .eval-at in
+      let if2 = c .before .before .if2 in
+      if-else _ _ _ _ _ _ _ (if1 .left) _ (eval-at .ensures) _ (c .later .ensures) (if2 .taken) (c .before .run-at .ensures)
+
+  run-at-requires-2 : lts.Need-run-at-requires-2 calls (if-here t) if-reads.Post
+  run-at-requires-2 c κs =
+      let pre = c .before .before .before .before .pre in
+      (omega (arith, pre .0), ite-first (pre .1 .0))
+
+  later-requires-2 : lts.Need-later-requires-2 calls (if-here t) if-reads.Post
+  later-requires-2 c κs = omega (arith, c .run-at2 .ensures .within)
+
+  returns-3 : lts.Need-returns-3 calls (if-here t) if-reads.Post
+  returns-3 c =
+      let if1 = c .before .before .before .before .if1 in
+      let eval-at = c .before .before .before .eval-at in
+      let if2 = c .before .before .if2 in
+      if-then _ _ _ _ _ _ _ (if1 .left) _ (eval-at .ensures) _ (c .later2 .ensures) (if2 .left) (c .before .run-at2 .ensures)
+
+  pub if-closed : {M : Type 1} → lts.Closed calls (if-here t) if-reads.Post M
+  if-closed =
+      lts.spec calls (if-here t) if-reads.Post
+      unfinished-requires returns eval-at-requires run-at-requires later-requires returns-2 run-at-requires-2 later-requires-2 returns-3

@@ -17,7 +17,8 @@ use Rattle.model.specs.Program.{Code, par, Tree, nodeAt, nodeCount, asStmt, stm
 use Rattle.model.specs.Procedures.{inline, inlined, reaches, reached}
 use Rattle.model.specs.ProgramChecks.{shared, shares, sharedFault, conflict, conflicts, conflictFault}
 use Rattle.laws.specs.Program.Trees.{by-pick, tree-is, at-par}
-use Rattle.program.specs.Uses.{hasBy}
+use Rattle.program.specs.declared.Mark.{Mark}
+use Rattle.program.specs.Uses.{has, hasBy}
 use Rattle.program.specs.Roots.{markOf, crossing, crossed, clashes, clashFault}
 
 -- One x further ------------------------------------------------------------------------------------------------------------------------
@@ -56,6 +57,18 @@ module _ (bodies : List Code) (c : Bool) (P Q : Code) where
           or-true : (b : Bool) → (b || true) ≡ true
           or-true true = refl
           or-true false = refl
+
+-- P does the one thing with x and Q the other, where these are the tests' answers
+module _ (bodies : List Code) (c : Bool) (P Q : Code) (x : ℕ) {one : Mark} {a : Bool} (e : one ≡ markOf c false x) (u : a ≡ has bodies one P) where
+  does-one : a ≡ has bodies (markOf c false x) P
+  does-one = u ∙ ap (λ (m : Mark). has bodies m P) e
+
+  pub crosses-both : {other : Mark} {b : Bool} → other ≡ markOf c true x → b ≡ has bodies other Q → a ≡ true → b ≡ crossing bodies c P Q x
+  crosses-both {b = b} f v t =
+      sym (ap (λ (a : Bool). a && b) t) ∙ ap₂ _&&_ does-one (v ∙ ap (λ (m : Mark). has bodies m Q) f)
+
+  pub crosses-not : a ≡ false → a ≡ crossing bodies c P Q x
+  crosses-not t = t ∙ ap (λ (a : Bool). a && has bodies (markOf c true x) Q) (sym t ∙ does-one)
 
 -- at most so many x are looked at
 pub few-x : {k n : ℕ} (c : Bool) → k ≤ 8 → n ≡ pick c k 20 → n ≤ 20

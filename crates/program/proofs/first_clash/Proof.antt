@@ -60,7 +60,7 @@ crosses-requires-2 : tie.Need-crosses-requires-2 Inv-loop μ-loop Inv-nodes μ-n
 crosses-requires-2 c κs =
     let pre = c .before .before .before .before .before .before .before .before .before .before .before .pre in
     let two = sides _ _ _ (pre .readable) (pre .laid) _ (c .before .before .before .before .before .before .before .nodes-test .taken) _ (c .before .before .before .before .before .before .read-node .ensures) (c .before .before .before .before .if1 .taken) _ (c .before .before .before .next .ensures) in
-    (pre, two .1, two .0)
+    search (pre, two .0, two .1)
 
 loop-again : tie.Need-loop-again Inv-loop μ-loop Inv-nodes μ-nodes
 loop-again c =

@@ -1,9 +1,9 @@
 //! The calls on lent bytes and numbers. A call that checks a program has in
-//! front what is given beside it.
+//! front what is given beside it, one on a run's state the state's format.
 
 use crate::exports::*;
 use crate::reply::{accepted, answer, end, shape, written};
-use values::{Answer, End, Given, Refusal, Shape};
+use values::{Answer, End, Format, Given, Refusal, Shape};
 
 /// Checks a program.
 pub fn check(given: Given, program: &[u8]) -> Result<(), Refusal> {
@@ -41,18 +41,40 @@ pub fn read_netlist(file: &[u8], cells: &mut [u8]) -> Result<Shape, Refusal> {
 }
 
 /// Begins a run.
-pub fn begin(file: &[u8], words: &[u8], state: &mut [u8]) -> Result<Answer, Refusal> {
-    accepted(|reply| hub_begin(file, words, state, reply)).map(answer)
+pub fn begin(
+    format: Format,
+    file: &[u8],
+    words: &[u8],
+    state: &mut [u8],
+) -> Result<Answer, Refusal> {
+    let export = match format {
+        Format::Full => hub_begin,
+        Format::Compact => hub_begin_compact,
+    };
+    accepted(|reply| export(file, words, state, reply)).map(answer)
 }
 
 /// Continues a run by at most `n` instants.
-pub fn continue_by(file: &[u8], state: &mut [u8], n: u32) -> Result<Answer, Refusal> {
-    accepted(|reply| hub_continue(file, state, n, reply)).map(answer)
+pub fn continue_by(
+    format: Format,
+    file: &[u8],
+    state: &mut [u8],
+    n: u32,
+) -> Result<Answer, Refusal> {
+    let export = match format {
+        Format::Full => hub_continue,
+        Format::Compact => hub_continue_compact,
+    };
+    accepted(|reply| export(file, state, n, reply)).map(answer)
 }
 
 /// Gives a second start pulse at the next instant.
-pub fn start(file: &[u8], state: &mut [u8]) -> Result<Answer, Refusal> {
-    accepted(|reply| hub_start(file, state, reply)).map(answer)
+pub fn start(format: Format, file: &[u8], state: &mut [u8]) -> Result<Answer, Refusal> {
+    let export = match format {
+        Format::Full => hub_start,
+        Format::Compact => hub_start_compact,
+    };
+    accepted(|reply| export(file, state, reply)).map(answer)
 }
 
 /// A full run of a netlist.

@@ -74,14 +74,23 @@ exports! {
     /// readCall
     hub_read(file: &[u8], cells: &mut [u8], reply: &mut [u8]);
 
-    /// beginCall
+    /// beginCall Full
     hub_begin(netlist: &[u8], words: &[u8], state: &mut [u8], reply: &mut [u8]);
 
-    /// continueCall
+    /// beginCall Compact
+    hub_begin_compact(netlist: &[u8], words: &[u8], state: &mut [u8], reply: &mut [u8]);
+
+    /// continueCall Full
     hub_continue(netlist: &[u8], state: &mut [u8], n: u32, reply: &mut [u8]);
 
-    /// startCall
+    /// continueCall Compact
+    hub_continue_compact(netlist: &[u8], state: &mut [u8], n: u32, reply: &mut [u8]);
+
+    /// startCall Full
     hub_start(netlist: &[u8], state: &mut [u8], reply: &mut [u8]);
+
+    /// startCall Compact
+    hub_start_compact(netlist: &[u8], state: &mut [u8], reply: &mut [u8]);
 
     /// runProgramCall
     hub_run_program(

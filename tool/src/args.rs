@@ -2,7 +2,7 @@
 //! value`, and flags.
 
 use crate::store::{self, Store, LENGTH};
-use crate::types::Fault;
+use crate::types::{Fault, Format};
 use std::collections::BTreeMap;
 use std::fmt::Display;
 
@@ -65,6 +65,14 @@ impl Args {
 
     pub fn flag(&self, name: &str) -> bool {
         self.options.contains_key(name)
+    }
+
+    /// The format of a state, as --compact says.
+    pub fn format(&self) -> Format {
+        match self.flag("compact") {
+            true => Format::Compact,
+            false => Format::Full,
+        }
     }
 
     pub fn value(&self, name: &str) -> Option<&str> {

@@ -2,7 +2,7 @@
 //! there may be of it, and where things stand in a file and in a state.
 
 use crate::store::{Store, OF_ARRAYS};
-use crate::types::{Cell, Netlist};
+use crate::types::{Cell, Format, Netlist};
 
 /// The most bytes of a text, of a program and of a netlist file.
 pub const TEXT: usize = 4_096;
@@ -19,7 +19,6 @@ const BLOCK_HEADER: usize = 8;
 /// each cell, and behind them the words of all elements.
 const STATE_HEADER: usize = 8;
 const IN_FLIGHT: usize = 4;
-const STATE_CELL: usize = 40;
 const WORD: usize = 2;
 
 /// The bytes of a netlist file with so many cells.
@@ -40,13 +39,17 @@ pub fn netlist_in(file: &[u8]) -> Netlist {
 }
 
 /// The bytes of a state of so many cells.
-pub fn state_length(cells: usize) -> usize {
-    cell_at(cells) + WORD * OF_ARRAYS.len()
+pub fn state_length(format: Format, cells: usize) -> usize {
+    cell_at(format, cells) + WORD * OF_ARRAYS.len()
 }
 
 /// Where the bytes of a cell begin in a state.
-fn cell_at(cell: usize) -> usize {
-    STATE_HEADER + STATE_CELL * cell
+fn cell_at(format: Format, cell: usize) -> usize {
+    let length = match format {
+        Format::Full => 40,
+        Format::Compact => 8,
+    };
+    STATE_HEADER + length * cell
 }
 
 fn word_at(state: &[u8], at: usize) -> u16 {
@@ -67,14 +70,15 @@ fn number_at(state: &[u8], at: usize) -> u32 {
     u32::from_le_bytes([0, 1, 2, 3].map(|k| state[at + k]))
 }
 
-/// What a cell shows in a state.
+/// What a cell shows in a full state.
 pub fn value_in(state: &[u8], cell: u16) -> u16 {
-    word_at(state, cell_at(usize::from(cell)))
+    word_at(state, cell_at(Format::Full, usize::from(cell)))
 }
 
 /// An element, by its place in the store, in a state of so many cells.
-pub fn element_in(state: &[u8], cells: usize, place: usize) -> u16 {
-    word_at(state, cell_at(cells) + WORD * (place - OF_ARRAYS.start))
+pub fn element_in(format: Format, state: &[u8], cells: usize, place: usize) -> u16 {
+    let elements = cell_at(format, cells);
+    word_at(state, elements + WORD * (place - OF_ARRAYS.start))
 }
 
 /// The bytes of start words.

@@ -2,7 +2,7 @@
 
 use crate::layout::{element_in, file_length, state_length, store_bytes, CELLS, FILE, PROGRAM};
 use crate::store::{self, Store, LENGTH, OF_ARRAYS};
-use crate::types::{Answer, Beside, Cell, End, Netlist, Node, Refusal};
+use crate::types::{Answer, Beside, Cell, End, Format, Netlist, Node, Refusal};
 use bindings::{calls, cell_calls};
 
 /// Checks a program.
@@ -49,36 +49,37 @@ pub fn write_netlist(netlist: &Netlist) -> Result<Vec<u8>, Refusal> {
 }
 
 /// Begins a run of a netlist file: its state at instant 0.
-pub fn begin(file: &[u8], start: &Store) -> Result<(Vec<u8>, Answer), Refusal> {
-    let mut state = vec![0; state_length(CELLS)];
-    let answer = calls::begin(file, &store_bytes(start), &mut state)?;
-    state.truncate(state_length(read_netlist(file)?.cells.len()));
+pub fn begin(format: Format, file: &[u8], start: &Store) -> Result<(Vec<u8>, Answer), Refusal> {
+    let mut state = vec![0; state_length(format, CELLS)];
+    let answer = calls::begin(format, file, &store_bytes(start), &mut state)?;
+    let cells = read_netlist(file)?.cells.len();
+    state.truncate(state_length(format, cells));
     Ok((state, answer))
 }
 
 /// Continues a run by at most `n` instants.
-pub fn go(file: &[u8], state: &mut [u8], n: u32) -> Result<Answer, Refusal> {
-    calls::continue_by(file, state, n)
+pub fn go(format: Format, file: &[u8], state: &mut [u8], n: u32) -> Result<Answer, Refusal> {
+    calls::continue_by(format, file, state, n)
 }
 
 /// Gives a second start pulse at the next instant.
-pub fn start(file: &[u8], state: &mut [u8]) -> Result<Answer, Refusal> {
-    calls::start(file, state)
+pub fn start(format: Format, file: &[u8], state: &mut [u8]) -> Result<Answer, Refusal> {
+    calls::start(format, file, state)
 }
 
 /// The words that an answer tells, and the elements of its state of so many
 /// cells.
-pub fn contents(answer: &Answer, state: &[u8], cells: usize) -> Store {
+pub fn contents(format: Format, answer: &Answer, state: &[u8], cells: usize) -> Store {
     let mut store = store::of_words(&answer.words);
     for place in OF_ARRAYS {
-        store[place] = element_in(state, cells, place);
+        store[place] = element_in(format, state, cells, place);
     }
     store
 }
 
 /// A full run of a netlist file.
 pub fn run_netlist(file: &[u8], start: &Store, budget: u32) -> Result<Answer, Refusal> {
-    let mut state = vec![0; state_length(CELLS)];
+    let mut state = vec![0; state_length(Format::Full, CELLS)];
     calls::run_netlist(file, &store_bytes(start), budget, &mut state)
 }
 

@@ -16,7 +16,7 @@ pub use rules::{rule, Counts, Rule, RULES};
 use crate::input::{Form, Given};
 use crate::json::Json;
 use crate::layout::{in_flight_in, instant_in};
-use crate::types::{Fault, Refusal};
+use crate::types::{Cell, Fault, Netlist, Refusal};
 
 #[derive(Clone, Debug)]
 pub struct Report {
@@ -67,7 +67,7 @@ pub fn report(given: &Given, refusal: Refusal) -> Result<Report, Fault> {
             Some((name, bytes)) => of_times(name, bytes, refusal),
             None => report,
         },
-        (13..=16 | 23, _) => report,
+        (13..=16 | 23 | 26, _) => report,
         (9..=12, _) => netlists::of_file(report, &given.bytes),
         (17, _) => texts::of_word(report, &given.bytes),
         (18, _) => texts::of_grammar(report, given),
@@ -85,6 +85,24 @@ pub fn of_state(name: &str, state: &[u8], refusal: Refusal) -> Report {
     Report {
         found: (refusal.number == 23).then(in_flight),
         ..plain(name, refusal)
+    }
+}
+
+/// The report of a refusal that a state met in a run of a netlist: for 26 the
+/// delay, and the instant at which the run has left the state.
+pub fn of_run(name: &str, netlist: &Netlist, state: &[u8], refusal: Refusal) -> Report {
+    let report = of_state(name, state, refusal);
+    let crowded = |delay: &Cell| {
+        let (place, instant) = (refusal.place, instant_in(state));
+        let Cell { delay, a, .. } = delay;
+        format!("cell {place}, delay {delay} of {a}; the last good instant is {instant}")
+    };
+    match refusal.number {
+        26 => Report {
+            found: netlist.cells.get(refusal.place).map(crowded),
+            ..report
+        },
+        _ => report,
     }
 }
 

@@ -1,6 +1,6 @@
 //! The values that the modules hand to each other.
 
-pub use values::{Answer, Cell, End, Given as Beside, Refusal, Table, Words};
+pub use values::{Answer, Cell, End, Format, Given as Beside, Refusal, Table, Words};
 
 /// A node of a program: four bytes, kind, delay, n low, n high.
 #[derive(Clone, Copy, Debug, PartialEq, Eq)]

@@ -3,10 +3,12 @@
 
 mod answer;
 mod cell;
+mod format;
 mod given;
 
 pub use answer::{Answer, End, Refusal, Shape};
 pub use cell::Cell;
+pub use format::Format;
 pub use given::{Given, Table};
 
 /// The words of the sixteen variables.

@@ -5,7 +5,10 @@ ghost use mathlib.Core.Path.{_≡_};
 ghost use Rattle.model.specs.TimeTables.{givenIf, beside, load};
 ghost use Rattle.model.specs.Calls.{checkCall, compileCall, writeCall, readCall, beginCall, continueCall, startCall, runNetlistCall, runProgramCall, referenceCall};
 ghost use Rattle.model.specs.TextCalls.{readTextCall, compileTextCall, runTextCall};
+ghost use Rattle.model.specs.declared.Format.the-variants.{Full, Compact};
 ghost use Rattle.reply.specs.Replies.{checkedReply, writtenReply, answerReply, replied, roomFor, ifRoom};
+use crate::runs;
+use model::Format;
 
 #[no_mangle]
 pub extern "C" fn hub_check(
@@ -85,43 +88,65 @@ pub extern "C" fn hub_begin(
     reply: &mut [u8],
 ) -> bool
     ensures done { λ r. ⌜ r ≡ roomFor (now (reply .entry)) ⌝ }
-    ensures state { λ _. ⌜ now (state .exit) ≡ ifRoom (now (reply .entry)) (beginCall (now (netlist .entry)) (now (words .entry)) (now (state .entry)) .lent) (now (state .entry)) ⌝ }
-    ensures reply { λ _. ⌜ now (reply .exit) ≡ ifRoom (now (reply .entry)) (replied (answerReply (beginCall (now (netlist .entry)) (now (words .entry)) (now (state .entry)) .answer)) (now (reply .entry))) (now (reply .entry)) ⌝ }
+    ensures state { λ _. ⌜ now (state .exit) ≡ ifRoom (now (reply .entry)) (beginCall Full (now (netlist .entry)) (now (words .entry)) (now (state .entry)) .lent) (now (state .entry)) ⌝ }
+    ensures reply { λ _. ⌜ now (reply .exit) ≡ ifRoom (now (reply .entry)) (replied (answerReply (beginCall Full (now (netlist .entry)) (now (words .entry)) (now (state .entry)) .answer)) (now (reply .entry))) (now (reply .entry)) ⌝ }
 {
-    if reply.len() < reply::LENGTH {
-        return false;
-    }
-    let answer = hub::begin(netlist, words, state);
-    reply::put(reply, reply::of_answer(answer));
-    true
+    runs::begin(Format::Full, netlist, words, state, reply)
+}
+
+#[no_mangle]
+pub extern "C" fn hub_begin_compact(
+    netlist: &[u8],
+    words: &[u8],
+    state: &mut [u8],
+    reply: &mut [u8],
+) -> bool
+    ensures done { λ r. ⌜ r ≡ roomFor (now (reply .entry)) ⌝ }
+    ensures state { λ _. ⌜ now (state .exit) ≡ ifRoom (now (reply .entry)) (beginCall Compact (now (netlist .entry)) (now (words .entry)) (now (state .entry)) .lent) (now (state .entry)) ⌝ }
+    ensures reply { λ _. ⌜ now (reply .exit) ≡ ifRoom (now (reply .entry)) (replied (answerReply (beginCall Compact (now (netlist .entry)) (now (words .entry)) (now (state .entry)) .answer)) (now (reply .entry))) (now (reply .entry)) ⌝ }
+{
+    runs::begin(Format::Compact, netlist, words, state, reply)
 }
 
 #[no_mangle]
 pub extern "C" fn hub_continue(netlist: &[u8], state: &mut [u8], n: u32, reply: &mut [u8]) -> bool
     ensures done { λ r. ⌜ r ≡ roomFor (now (reply .entry)) ⌝ }
-    ensures state { λ _. ⌜ now (state .exit) ≡ ifRoom (now (reply .entry)) (continueCall (now (netlist .entry)) n (now (state .entry)) .lent) (now (state .entry)) ⌝ }
-    ensures reply { λ _. ⌜ now (reply .exit) ≡ ifRoom (now (reply .entry)) (replied (answerReply (continueCall (now (netlist .entry)) n (now (state .entry)) .answer)) (now (reply .entry))) (now (reply .entry)) ⌝ }
+    ensures state { λ _. ⌜ now (state .exit) ≡ ifRoom (now (reply .entry)) (continueCall Full (now (netlist .entry)) n (now (state .entry)) .lent) (now (state .entry)) ⌝ }
+    ensures reply { λ _. ⌜ now (reply .exit) ≡ ifRoom (now (reply .entry)) (replied (answerReply (continueCall Full (now (netlist .entry)) n (now (state .entry)) .answer)) (now (reply .entry))) (now (reply .entry)) ⌝ }
 {
-    if reply.len() < reply::LENGTH {
-        return false;
-    }
-    let answer = hub::continue_by(netlist, state, n);
-    reply::put(reply, reply::of_answer(answer));
-    true
+    runs::continue_by(Format::Full, netlist, state, n, reply)
+}
+
+#[no_mangle]
+pub extern "C" fn hub_continue_compact(
+    netlist: &[u8],
+    state: &mut [u8],
+    n: u32,
+    reply: &mut [u8],
+) -> bool
+    ensures done { λ r. ⌜ r ≡ roomFor (now (reply .entry)) ⌝ }
+    ensures state { λ _. ⌜ now (state .exit) ≡ ifRoom (now (reply .entry)) (continueCall Compact (now (netlist .entry)) n (now (state .entry)) .lent) (now (state .entry)) ⌝ }
+    ensures reply { λ _. ⌜ now (reply .exit) ≡ ifRoom (now (reply .entry)) (replied (answerReply (continueCall Compact (now (netlist .entry)) n (now (state .entry)) .answer)) (now (reply .entry))) (now (reply .entry)) ⌝ }
+{
+    runs::continue_by(Format::Compact, netlist, state, n, reply)
 }
 
 #[no_mangle]
 pub extern "C" fn hub_start(netlist: &[u8], state: &mut [u8], reply: &mut [u8]) -> bool
     ensures done { λ r. ⌜ r ≡ roomFor (now (reply .entry)) ⌝ }
-    ensures state { λ _. ⌜ now (state .exit) ≡ ifRoom (now (reply .entry)) (startCall (now (netlist .entry)) (now (state .entry)) .lent) (now (state .entry)) ⌝ }
-    ensures reply { λ _. ⌜ now (reply .exit) ≡ ifRoom (now (reply .entry)) (replied (answerReply (startCall (now (netlist .entry)) (now (state .entry)) .answer)) (now (reply .entry))) (now (reply .entry)) ⌝ }
+    ensures state { λ _. ⌜ now (state .exit) ≡ ifRoom (now (reply .entry)) (startCall Full (now (netlist .entry)) (now (state .entry)) .lent) (now (state .entry)) ⌝ }
+    ensures reply { λ _. ⌜ now (reply .exit) ≡ ifRoom (now (reply .entry)) (replied (answerReply (startCall Full (now (netlist .entry)) (now (state .entry)) .answer)) (now (reply .entry))) (now (reply .entry)) ⌝ }
 {
-    if reply.len() < reply::LENGTH {
-        return false;
-    }
-    let answer = hub::start(netlist, state);
-    reply::put(reply, reply::of_answer(answer));
-    true
+    runs::start(Format::Full, netlist, state, reply)
+}
+
+#[no_mangle]
+pub extern "C" fn hub_start_compact(netlist: &[u8], state: &mut [u8], reply: &mut [u8]) -> bool
+    ensures done { λ r. ⌜ r ≡ roomFor (now (reply .entry)) ⌝ }
+    ensures state { λ _. ⌜ now (state .exit) ≡ ifRoom (now (reply .entry)) (startCall Compact (now (netlist .entry)) (now (state .entry)) .lent) (now (state .entry)) ⌝ }
+    ensures reply { λ _. ⌜ now (reply .exit) ≡ ifRoom (now (reply .entry)) (replied (answerReply (startCall Compact (now (netlist .entry)) (now (state .entry)) .answer)) (now (reply .entry))) (now (reply .entry)) ⌝ }
+{
+    runs::start(Format::Compact, netlist, state, reply)
 }
 
 #[no_mangle]

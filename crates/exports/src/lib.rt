@@ -16,6 +16,7 @@ pub mod calls; // the calls on bytes
 mod checking; // what the check tells
 pub mod moves; // one cell moved, and cells of six bytes each
 mod reading; // what reading puts in
+mod runs; // the calls that take a state
 mod writing; // what writing puts in
 
 use model::Cell;

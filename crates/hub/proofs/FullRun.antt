@@ -15,6 +15,7 @@ use Rattle.model.specs.Refusals.{refuse, first}
 use Rattle.model.specs.ProgramChecks.{programWith}
 use Rattle.model.specs.Numbering.{netlist, finish}
 use Rattle.model.specs.NetlistFile.{cellsOf}
+use Rattle.model.specs.declared.Format.the-variants.{Full}
 use Rattle.model.specs.State.{stateSize}
 use Rattle.model.specs.Calls.{short, checkCall, overwrite, compiledFile, refusedAnswer, shows, running, writing, fullState, fullCount, runProgramChecks, runProgramCall}
 use Rattle.model.specs.Word.{Bytes}
@@ -69,9 +70,9 @@ module _ (options : Options) (program words : List ℕ) (budget : ℕ) (file sta
         file-size : length (compiledFile options program) ≡ 512 * ((n + 83) / 84)
         file-size = file-length (netlist (programWith options program)) (finish (programWith options program)) ∙ ap (λ (n : ℕ). 512 * ((n + 83) / 84)) (sym count)
 
-        state-size : stateSize (cellsOf (compiledFile options program)) ≡ 8 + 40 * n + 512
+        state-size : stateSize Full (cellsOf (compiledFile options program)) ≡ 8 + 40 * n + 512
         state-size =
-            ap stateSize (cells-written (netlist (programWith options program)) (finish (programWith options program)) (omega (arith, net-length (programWith options program))))
+            ap (stateSize Full) (cells-written (netlist (programWith options program)) (finish (programWith options program)) (omega (arith, net-length (programWith options program))))
             ∙ ap (λ (n : ℕ). 8 + 40 * n + 512) (sym count)
 
         pub at-file : length file < 512 * ((n + 83) / 84) → refuse 14 0 ≡ verdict
@@ -96,7 +97,7 @@ module _ (options : Options) (program words : List ℕ) (budget : ℕ) (file sta
     pub few : budget ≤ 1000000
     pub start : 544 ≤ length words
     pub fits : length (compiledFile options program) ≤ length file
-    pub room : stateSize (cellsOf (compiledFile options program)) ≤ length state
+    pub room : stateSize Full (cellsOf (compiledFile options program)) ≤ length state
 
   pub ready : verdict ≡ Accepted → Ready
   unfolding checkCall
@@ -107,10 +108,10 @@ module _ (options : Options) (program words : List ℕ) (budget : ℕ) (file sta
         few = ltb-false 1000000 budget (refuse-unless (ltb 1000000 budget) 13 0 (a 2));
         start = long-enough (length words) 544 (a 3);
         fits = long-enough (length file) (length (compiledFile options program)) (a 4);
-        room = long-enough (length state) (stateSize (cellsOf (compiledFile options program))) (a 5);
+        room = long-enough (length state) (stateSize Full (cellsOf (compiledFile options program))) (a 5);
       }
 
-  pub runs : Bytes program → Ready → Runs (compiledFile options program) state
+  pub runs : Bytes program → Ready → Runs Full (compiledFile options program) state
   runs bytes r = record { accepted = compiled-accepted options program bytes (r .accepted); room = r .room }
 
   -- What the call tells ------------------------------------------------------------------------------------------------------------------
@@ -122,6 +123,6 @@ module _ (options : Options) (program words : List ℕ) (budget : ℕ) (file sta
   pub accepted-call : verdict ≡ Accepted →
       let f = compiledFile options program in
       let s = fullState f words budget state in
-      runProgramCall options program words budget file state ≡ record { answer = shows f s (fullCount f words budget state); netlist = overwrite f file; state = s }
+      runProgramCall options program words budget file state ≡ record { answer = shows Full f s (fullCount f words budget state); netlist = overwrite f file; state = s }
   unfolding runProgramCall running writing
   accepted-call e = rw e refl

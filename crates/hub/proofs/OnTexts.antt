@@ -13,6 +13,7 @@ use Rattle.model.specs.Refusals.{first}
 use Rattle.model.specs.ProgramChecks.{programWith}
 use Rattle.model.specs.Numbering.{finish}
 use Rattle.model.specs.NetlistFile.{cellsOf}
+use Rattle.model.specs.declared.Format.the-variants.{Full}
 use Rattle.model.specs.State.{stateSize}
 use Rattle.model.specs.Calls.{short, writing, compiledFile, netlistChecks, compileCall, refusedAnswer, running, fullState, fullCount, overBudget, fullRunChecks, runProgramCall}
 use Rattle.model.specs.TextCalls.{textProgram, textChecks, compileTextChecks, compileTextCall, runTextChecks, runTextCall}
@@ -53,9 +54,9 @@ module _ (options : Options) (text words : List ℕ) (n : ℕ) (forFile lent : L
       let first-is : first (runTextChecks options text words n forFile lent) ≡ Refused r =
       ap (λ (c : Checked). first (c ∷ checks)) a
       ∙ parse-refuses text options r
-      (overBudget n ∷ short (length words) 544 ∷ short (length forFile) (length file) ∷ short (length lent) (stateSize (cellsOf file)) ∷ []) e in
+      (overBudget n ∷ short (length words) 544 ∷ short (length forFile) (length file) ∷ short (length lent) (stateSize Full (cellsOf file)) ∷ []) e in
       ap (λ (c : Checked).
-      let s = running c file (fullState file words n lent) (fullCount file words n lent) lent in
+      let s = running Full c file (fullState file words n lent) (fullCount file words n lent) lent in
       record { answer = s .answer; netlist = writing c file (length file) 0 forFile .lent; state = s .lent })
       first-is
 

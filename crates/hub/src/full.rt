@@ -1,6 +1,7 @@
 // The full run of a program. Everything is checked before anything is written, because a refusal changes no lent byte.
 ghost use mathlib.Core.Path.{_≡_};
 ghost use Rattle.model.specs.declared.Checked.the-variants.{Accepted};
+ghost use Rattle.model.specs.declared.Format.the-variants.{Full};
 ghost use Rattle.model.specs.Refusals.{first};
 ghost use Rattle.model.specs.Calls.{overwrite, compiledFile, shows, fullState, fullCount, runProgramChecks, runProgramCall};
 use model::Answer;
@@ -56,7 +57,7 @@ fn run_accepted(
     state: &mut [u8],
 ) -> Answer
     requires { ⌜ first (runProgramChecks options (now program) (now words) budget (now netlist) (now state)) ≡ Accepted ⌝ }
-    ensures answer { λ r. ⌜ r ≡ shows (compiledFile options (now (program .entry))) (fullState (compiledFile options (now (program .entry))) (now (words .entry)) budget (now (state .entry))) (fullCount (compiledFile options (now (program .entry))) (now (words .entry)) budget (now (state .entry))) ⌝ }
+    ensures answer { λ r. ⌜ r ≡ shows Full (compiledFile options (now (program .entry))) (fullState (compiledFile options (now (program .entry))) (now (words .entry)) budget (now (state .entry))) (fullCount (compiledFile options (now (program .entry))) (now (words .entry)) budget (now (state .entry))) ⌝ }
     ensures netlist { λ _. ⌜ now (netlist .exit) ≡ overwrite (compiledFile options (now (program .entry))) (now (netlist .entry)) ⌝ }
     ensures state { λ _. ⌜ now (state .exit) ≡ fullState (compiledFile options (now (program .entry))) (now (words .entry)) budget (now (state .entry)) ⌝ }
 {

@@ -10,6 +10,7 @@ pub mod texts; // compiling and running a text
 
 use model::Answer;
 use model::Checked;
+use model::Format;
 use model::Options;
 use model::Written;
 
@@ -56,28 +57,28 @@ pub fn read_netlist(file: &[u8], cells: &mut [u8]) -> Written
     netlist::read_netlist(file, cells)
 }
 
-// The netlist's instant 0, from 544 bytes of start words.
-pub fn begin(netlist: &[u8], words: &[u8], state: &mut [u8]) -> Answer
-    ensures answer { λ r. ⌜ r ≡ beginCall (now (netlist .entry)) (now (words .entry)) (now (state .entry)) .answer ⌝ }
-    ensures lent { λ _. ⌜ now (state .exit) ≡ beginCall (now (netlist .entry)) (now (words .entry)) (now (state .entry)) .lent ⌝ }
+// The netlist's instant 0, from 544 bytes of start words, into a full or a compact state.
+pub fn begin(format: Format, netlist: &[u8], words: &[u8], state: &mut [u8]) -> Answer
+    ensures answer { λ r. ⌜ r ≡ beginCall format (now (netlist .entry)) (now (words .entry)) (now (state .entry)) .answer ⌝ }
+    ensures lent { λ _. ⌜ now (state .exit) ≡ beginCall format (now (netlist .entry)) (now (words .entry)) (now (state .entry)) .lent ⌝ }
 {
-    simulator::begin(netlist, words, state)
+    simulator::begin(format, netlist, words, state)
 }
 
-// Further instants, until the finish is high or n are done.
-pub fn continue_by(netlist: &[u8], state: &mut [u8], n: u32) -> Answer
-    ensures answer { λ r. ⌜ r ≡ continueCall (now (netlist .entry)) n (now (state .entry)) .answer ⌝ }
-    ensures lent { λ _. ⌜ now (state .exit) ≡ continueCall (now (netlist .entry)) n (now (state .entry)) .lent ⌝ }
+// Further instants, until the finish is high or n are done. Refusal 26 leaves a compact state at its last good instant.
+pub fn continue_by(format: Format, netlist: &[u8], state: &mut [u8], n: u32) -> Answer
+    ensures answer { λ r. ⌜ r ≡ continueCall format (now (netlist .entry)) n (now (state .entry)) .answer ⌝ }
+    ensures lent { λ _. ⌜ now (state .exit) ≡ continueCall format (now (netlist .entry)) n (now (state .entry)) .lent ⌝ }
 {
-    simulator::continue_by(netlist, state, n)
+    simulator::continue_by(format, netlist, state, n)
 }
 
 // One further instant with a start pulse, while nothing is in flight.
-pub fn start(netlist: &[u8], state: &mut [u8]) -> Answer
-    ensures answer { λ r. ⌜ r ≡ startCall (now (netlist .entry)) (now (state .entry)) .answer ⌝ }
-    ensures lent { λ _. ⌜ now (state .exit) ≡ startCall (now (netlist .entry)) (now (state .entry)) .lent ⌝ }
+pub fn start(format: Format, netlist: &[u8], state: &mut [u8]) -> Answer
+    ensures answer { λ r. ⌜ r ≡ startCall format (now (netlist .entry)) (now (state .entry)) .answer ⌝ }
+    ensures lent { λ _. ⌜ now (state .exit) ≡ startCall format (now (netlist .entry)) (now (state .entry)) .lent ⌝ }
 {
-    simulator::start(netlist, state)
+    simulator::start(format, netlist, state)
 }
 
 // A beginning, and a continuing by the budget unless the finish was high.

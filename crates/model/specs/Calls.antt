@@ -17,6 +17,8 @@ use Rattle.model.specs.declared.Written.{Written}
 use Rattle.model.specs.declared.Written.the-variants.{Done}
 use Rattle.model.specs.declared.Answer.{Answer}
 use Rattle.model.specs.declared.Cell.{Cell}
+use Rattle.model.specs.declared.Format.{Format}
+use Rattle.model.specs.declared.Format.the-variants.{Full}
 use Rattle.model.specs.Word.{pick, get16}
 use Rattle.model.specs.Refusals.{refuseIf, first}
 use Rattle.model.specs.Procedures.{meaning}
@@ -25,7 +27,7 @@ use Rattle.model.specs.Rules.{Store, Run, atEnd, atExit, done, still, ru
 use Rattle.model.specs.Circuit.{high}
 use Rattle.model.specs.Numbering.{netlist, finish}
 use Rattle.model.specs.NetlistFile.{cellBytes, cellsAt, inList, fileOf, fileCheck, cellsOf, countOf, finishOf, netCheck, countWrong, blocksFor}
-use Rattle.model.specs.State.{stateSize, instantOf, flightOf, nowAt, beginState, stepState, lastState, evaluated, wordsIn, sound}
+use Rattle.model.specs.State.{instantOf, flightOf, stateSize, nowAt, beginState, stepState, Course, continued, wordsIn, sound}
 
 -- Answers ------------------------------------------------------------------------------------------------------------------------------
 
@@ -115,63 +117,68 @@ refusedAnswer r = record { outcome = Outcome.Refused r; instant = 0; count = 0; 
 
 -- "The answer is ended or open, the instant, the sixteen words and the number of instants evaluated by that call. Ended means that the
 -- finish wire is high at that instant"
-unfoldable pub shows : List ℕ → List ℕ → ℕ → Answer
-shows file s n =
+unfoldable pub shows : Format → List ℕ → List ℕ → ℕ → Answer
+shows F file s n =
     record {
-      outcome = pick (high (nowAt s (finishOf file))) Ended Open;
+      outcome = pick (high (nowAt F s (finishOf file))) Ended Open;
       instant = instantOf s;
       count = n;
-      words = wordsIn (cellsOf file) 0 s;
+      words = wordsIn F (cellsOf file) 0 s;
     }
 
 -- a run that leaves state s after n instants, unless a check refuses it
-unfoldable pub running : Checked → List ℕ → List ℕ → ℕ → List ℕ → Returned Answer
-running Accepted file s n lent = record { answer = shows file s n; lent = s }
-running (Checked.Refused r) file s n lent = record { answer = refusedAnswer r; lent = lent }
+unfoldable pub running : Format → Checked → List ℕ → List ℕ → ℕ → List ℕ → Returned Answer
+running F Accepted file s n lent = record { answer = shows F file s n; lent = s }
+running F (Checked.Refused r) file s n lent = record { answer = refusedAnswer r; lent = lent }
 
 -- beginning: 9 to 12, 14
-abbrev pub beginChecks : List ℕ → List ℕ → List ℕ → List Checked
-beginChecks file words lent = fileCheck file ∷ short (length words) 544 ∷ short (length lent) (stateSize (cellsOf file)) ∷ []
+abbrev pub beginChecks : Format → List ℕ → List ℕ → List ℕ → List Checked
+beginChecks F file words lent = fileCheck file ∷ short (length words) 544 ∷ short (length lent) (stateSize F (cellsOf file)) ∷ []
 
-unfoldable pub beginCall : List ℕ → List ℕ → List ℕ → Returned Answer
-beginCall file words lent = running (first (beginChecks file words lent)) file (beginState (cellsOf file) (wordAt words) lent) 1 lent
+unfoldable pub beginCall : Format → List ℕ → List ℕ → List ℕ → Returned Answer
+beginCall F file words lent = running F (first (beginChecks F file words lent)) file (beginState F (cellsOf file) (wordAt words) lent) 1 lent
 
 -- continuing by n: 9 to 12, 14, 15, 16: "16. When continuing, instant plus N above 1,000,000."
-abbrev pub continueChecks : List ℕ → ℕ → List ℕ → List Checked
-continueChecks file n lent =
+abbrev pub continueChecks : Format → List ℕ → ℕ → List ℕ → List Checked
+continueChecks F file n lent =
     fileCheck file
-    ∷ short (length lent) (stateSize (cellsOf file))
-    ∷ refuseIf (not (sound (cellsOf file) lent)) 15 0
+    ∷ short (length lent) (stateSize F (cellsOf file))
+    ∷ refuseIf (not (sound F (cellsOf file) lent)) 15 0
     ∷ refuseIf (ltb 1000000 (instantOf lent + n)) 16 0
     ∷ []
 
-unfoldable pub continueCall : List ℕ → ℕ → List ℕ → Returned Answer
-continueCall file n lent =
-    running (first (continueChecks file n lent)) file (lastState (cellsOf file) (finishOf file) n lent)
-    (evaluated (cellsOf file) (finishOf file) n lent) lent
+-- how it goes on, unless one of these refuses it: 26, "alone among the refusals, and in departure from demand 1, ... changes lent memory: the state is
+-- left at the last good instant"
+unfoldable pub goingOn : Format → Checked → List ℕ → Course → List ℕ → Returned Answer
+goingOn F Accepted file c lent = running F (c .check) file (c .state) (c .count) (c .state)
+goingOn F (Checked.Refused r) file c lent = record { answer = refusedAnswer r; lent = lent }
 
--- giving a start: as continuing by 1, "refusal 16 counts its instant", then "23: start given while the number isn't 0, place 0; after 16"
+unfoldable pub continueCall : Format → List ℕ → ℕ → List ℕ → Returned Answer
+continueCall F file n lent = goingOn F (first (continueChecks F file n lent)) file (continued F (cellsOf file) (finishOf file) n lent) lent
+
+-- giving a start: as continuing by 1, "refusal 16 counts its instant", then "23: start given while the number isn't 0, place 0; after 16". With the
+-- number 0 every line is empty, so that 26 has no place here.
 abbrev pub busy : List ℕ → Bool
 busy lent = ltb 0 (flightOf lent)
 
-abbrev pub startChecks : List ℕ → List ℕ → List Checked
-startChecks file lent = continueChecks file 1 lent ++ (refuseIf (busy lent) 23 0 ∷ [])
+abbrev pub startChecks : Format → List ℕ → List ℕ → List Checked
+startChecks F file lent = continueChecks F file 1 lent ++ (refuseIf (busy lent) 23 0 ∷ [])
 
 -- "a second start pulse may be given in the next instant, by a call of its own: a continuing by 1 with start high at that instant."
-unfoldable pub startCall : List ℕ → List ℕ → Returned Answer
-startCall file lent = running (first (startChecks file lent)) file (stepState (cellsOf file) true lent) 1 lent
+unfoldable pub startCall : Format → List ℕ → List ℕ → Returned Answer
+startCall F file lent = running F (first (startChecks F file lent)) file (stepState F (cellsOf file) true lent) 1 lent
 
--- "A full run of budget N is a beginning, and a continuing by N unless the finish was high.": the state that it leaves, the instants that it
--- evaluates
+-- "A full run of budget N is a beginning, and a continuing by N unless the finish was high.", on a full state: the state that it leaves, the instants
+-- that it evaluates
 unfoldable pub fullState : List ℕ → List ℕ → ℕ → List ℕ → List ℕ
 fullState file words n lent =
-    let s = beginState (cellsOf file) (wordAt words) lent in
-    pick (high (nowAt s (finishOf file))) s (lastState (cellsOf file) (finishOf file) n s)
+    let s = beginState Full (cellsOf file) (wordAt words) lent in
+    pick (high (nowAt Full s (finishOf file))) s (continued Full (cellsOf file) (finishOf file) n s .state)
 
 unfoldable pub fullCount : List ℕ → List ℕ → ℕ → List ℕ → ℕ
 fullCount file words n lent =
-    let s = beginState (cellsOf file) (wordAt words) lent in
-    pick (high (nowAt s (finishOf file))) 1 (1 + evaluated (cellsOf file) (finishOf file) n s)
+    let s = beginState Full (cellsOf file) (wordAt words) lent in
+    pick (high (nowAt Full s (finishOf file))) 1 (1 + continued Full (cellsOf file) (finishOf file) n s .count)
 
 -- "13. Budget of a full run above 1,000,000 (place 0), after the checks of program or netlist."
 abbrev pub overBudget : ℕ → Checked
@@ -180,11 +187,11 @@ overBudget n = refuseIf (ltb 1000000 n) 13 0
 -- a full run of a netlist: 9 to 12, 13, 14
 abbrev pub runNetlistChecks : List ℕ → List ℕ → ℕ → List ℕ → List Checked
 runNetlistChecks file words n lent =
-    fileCheck file ∷ overBudget n ∷ short (length words) 544 ∷ short (length lent) (stateSize (cellsOf file)) ∷ []
+    fileCheck file ∷ overBudget n ∷ short (length words) 544 ∷ short (length lent) (stateSize Full (cellsOf file)) ∷ []
 
 unfoldable pub runNetlistCall : List ℕ → List ℕ → ℕ → List ℕ → Returned Answer
 runNetlistCall file words n lent =
-    running (first (runNetlistChecks file words n lent)) file (fullState file words n lent) (fullCount file words n lent) lent
+    running Full (first (runNetlistChecks file words n lent)) file (fullState file words n lent) (fullCount file words n lent) lent
 
 -- a full run of a program, with a list lent for its netlist and one for the state: 19 to 21, 1 to 8, 22, 24 and 25, 13, 14
 pub record ReturnedBoth : Type 0 where
@@ -199,7 +206,7 @@ fullRunChecks options program words n forFile lent =
     ∷ overBudget n
     ∷ short (length words) 544
     ∷ short (length forFile) (length file)
-    ∷ short (length lent) (stateSize (cellsOf file))
+    ∷ short (length lent) (stateSize Full (cellsOf file))
     ∷ []
 
 abbrev pub runProgramChecks : Options → List ℕ → List ℕ → ℕ → List ℕ → List ℕ → List Checked
@@ -209,7 +216,7 @@ unfoldable pub runProgramCall : Options → List ℕ → List ℕ → ℕ → Li
 runProgramCall options program words n forFile lent =
     let file = compiledFile options program in
     let c = first (runProgramChecks options program words n forFile lent) in
-    let r = running c file (fullState file words n lent) (fullCount file words n lent) lent in
+    let r = running Full c file (fullState file words n lent) (fullCount file words n lent) lent in
     record { answer = r .answer; netlist = writing c file (length file) 0 forFile .lent; state = r .lent }
 
 -- Runs by the rules --------------------------------------------------------------------------------------------------------------------

@@ -9,6 +9,8 @@ use Prim.Native.Nat.{ℕ, zero, suc, _+_, _-_, _*_, _/_, _≤_, _<_}
 use lib.ListN.{length, take, drop}
 use Rattle.model.specs.declared.Cell.{Cell}
 use Rattle.model.specs.declared.Merge.{Merge}
+use Rattle.model.specs.declared.Format.{Format}
+use Rattle.model.specs.declared.Format.the-variants.{Full, Compact}
 use Rattle.model.specs.declared.Checked.the-variants.{Accepted}
 use Rattle.model.specs.declared.Written.the-variants.{Done}
 use Rattle.model.specs.Word.{bit}
@@ -18,7 +20,7 @@ use Rattle.model.specs.Circuit.{cellAt, control, Sig, Values, level, ele
 use Rattle.model.specs.Numbering.{netlist, finish}
 use Rattle.model.specs.NetlistFile.{fileCheck, cellsOf, finishOf}
 use Rattle.model.specs.TimeTables.{load, Given}
-use Rattle.model.specs.State.{stateSize, instantOf, flightOf, nowAt, beforeAt, heldAt, lineBit, flightIn, flight, elementNow, beginState, stepState, lastState, evaluated, sound}
+use Rattle.model.specs.State.{instantOf, flightOf, flightIn, course, stateSize, elementNow, nowAt, beforeAt, heldAt, lineAt, flight, beginState, stepState, crowded, continued, sound}
 use Rattle.model.specs.Calls.{overwrite, compileCall, writeCall, readCall, wordAt}
 use Rattle.model.specs.Word.{Bytes}
 
@@ -41,9 +43,9 @@ pub record SameFile : Type 0 where
       length file ≤ length forFile → writeCall cells f forFile ≡ record { answer = Done (length file) f; lent = overwrite file forFile }
 
 -- the states of a run: begun, then stepped, with a start pulse at each of these instants
-unfoldable pub stateAt : List Cell → Sig → Store → List ℕ → ℕ → List ℕ
-stateAt net starts words lent zero = beginState net words lent
-stateAt net starts words lent (suc t) = stepState net (starts (suc t)) (stateAt net starts words lent t)
+unfoldable pub stateAt : Format → List Cell → Sig → Store → List ℕ → ℕ → List ℕ
+stateAt F net starts words lent zero = beginState F net words lent
+stateAt F net starts words lent (suc t) = stepState F net (starts (suc t)) (stateAt F net starts words lent t)
 
 -- the value of cell k an instant before t
 unfoldable pub earlier : Values → ℕ → ℕ → ℕ
@@ -57,16 +59,32 @@ lineOf net W t k i = bit (delayed i (level W (cellAt net k .a)) t)
 abbrev pub heldOf : List Cell → Values → ℕ → ℕ → Merge
 heldOf net W t k = heldBefore (stepOf (cellAt net k .kind)) (level W (cellAt net k .a)) (level W (cellAt net k .b)) (suc t)
 
+-- how many of its last inputs a line of a delay of d tells
+abbrev pub kept : Format → ℕ → ℕ
+kept Full d = 256
+kept Compact d = d
+
 -- state s holds, of the values W from these start words, those of instant t
-pub record Holds (net : List Cell) (words : Store) (W : Values) (t : ℕ) (s : List ℕ) : Type 0 where
+pub record Holds (F : Format) (net : List Cell) (words : Store) (W : Values) (t : ℕ) (s : List ℕ) : Type 0 where
   pub instant : t ≤ 1000000 → instantOf s ≡ t
   pub number : flightOf s ≡ flightIn (lineOf net W t) (heldOf net W t) net 0
-  pub present : (k : ℕ) → k < length net → nowAt s k ≡ W k t
-  pub past : (k : ℕ) → k < length net → beforeAt s k ≡ earlier W k t
-  pub held : (k : ℕ) → k < length net → merges (cellAt net k .kind) ≡ true → heldAt s k ≡ heldOf net W t k
-  pub lines : (k : ℕ) → k < length net → shape (cellAt net k .kind) ≡ kDelay → (i : ℕ) → i < 256 → lineBit s k i ≡ lineOf net W t k i
-  pub elements : (k i : ℕ) → k < 4 → i < 64 → elementNow net s (64 * k + i) ≡ element net words W (arrayAt net k) i t
-  pub proper : sound net s ≡ true
+  pub present : (k : ℕ) → k < length net → nowAt F s k ≡ W k t
+  pub past : (k : ℕ) → k < length net → beforeAt F s k ≡ earlier W k t
+  pub held : (k : ℕ) → k < length net → merges (cellAt net k .kind) ≡ true → heldAt F s k ≡ heldOf net W t k
+  pub lines : (k : ℕ) → k < length net → shape (cellAt net k .kind) ≡ kDelay
+      → (i : ℕ) → i < kept F (cellAt net k .delay) → lineAt F net s k i ≡ lineOf net W t k i
+  pub elements : (k i : ℕ) → k < 4 → i < 64 → elementNow F net s (64 * k + i) ≡ element net words W (arrayAt net k) i t
+  pub proper : sound F net s ≡ true
+
+-- a pulse that enters a delay of d at instant t finds none that hasn't come out
+abbrev pub Free : ℕ → Sig → ℕ → Type 0
+Free d x t = (u : ℕ) → u < t → x u ≡ true → x t ≡ true → u + d ≤ t
+
+-- up to instant t none has found one, where a state has room for one alone
+abbrev pub Apart : Format → List Cell → Values → ℕ → Type 0
+Apart Full net W t = Unit {0}
+Apart Compact net W t =
+    (k : ℕ) → k < length net → shape (cellAt net k .kind) ≡ kDelay → (v : ℕ) → v ≤ t → Free (cellAt net k .delay) (level W (cellAt net k .a)) v
 
 -- after instant t nothing is in flight: no input of a delay of d has been high in the last d instants, and no merge holds a bit
 pub record Idle (net : List Cell) (W : Values) (t : ℕ) : Type 0 where
@@ -84,21 +102,27 @@ stopsAt finishes t (suc n) = elim (finishes (suc t)) [ true ↦ suc t | false �
 abbrev pub NoStart : Sig → ℕ → ℕ → Type 0
 NoStart starts a b = (u : ℕ) → a < u → u ≤ b → starts u ≡ false
 
--- For any start instants, that of beginning among them, a netlist has one set of values that obeys its equations, every state of a run holds it, and
--- continuing goes along the run up to the next start.
+-- For any start instants, that of beginning among them, a netlist has one set of values that obeys its equations; every state of a run holds it, a
+-- compact one until a pulse enters a line whose pulse hasn't come out; and continuing goes along the run up to the next start.
 pub record OneRun (net : List Cell) (starts : Sig) (words : Store) : Type 0 where
   pub values : Values
   pub obeys : Obeys net starts words values
   pub only : (W : Values) → Obeys net starts words W → (k : ℕ) → k < length net → (t : ℕ) → W k t ≡ values k t
-  pub states : (lent : List ℕ) → stateSize net ≤ length lent → (t : ℕ) → Holds net words values t (stateAt net starts words lent t)
+  pub states : (F : Format) (lent : List ℕ) → stateSize F net ≤ length lent → (t : ℕ) → Apart F net values t
+      → Holds F net words values t (stateAt F net starts words lent t)
   -- "If the number is 0": nothing is in flight then, and only then
-  pub idle : (t : ℕ) (s : List ℕ) → Holds net words values t s → (flightOf s ≡ 0) ↔ Idle net values t
+  pub idle : (F : Format) (t : ℕ) (s : List ℕ) → Holds F net words values t s → (flightOf s ≡ 0) ↔ Idle net values t
   -- "Lent bytes past a result keep their values."
-  pub past : (lent : List ℕ) (t : ℕ) → drop (stateSize net) (stateAt net starts words lent t) ≡ drop (stateSize net) lent
-  pub continuing : (lent : List ℕ) → stateSize net ≤ length lent → (f : ℕ) → f < length net → (n t : ℕ)
-      → NoStart starts t (stopsAt (level values f) t n)
-      → (lastState net f n (stateAt net starts words lent t) ≡ stateAt net starts words lent (stopsAt (level values f) t n))
-      × (evaluated net f n (stateAt net starts words lent t) ≡ stopsAt (level values f) t n - t)
+  pub past : (F : Format) (lent : List ℕ) (t : ℕ) → drop (stateSize F net) (stateAt F net starts words lent t) ≡ drop (stateSize F net) lent
+  pub continuing : (F : Format) (lent : List ℕ) → stateSize F net ≤ length lent → (f : ℕ) → f < length net → (n t : ℕ) →
+      let t′ = stopsAt (level values f) t n in
+      NoStart starts t t′ → Apart F net values t′
+      → continued F net f n (stateAt F net starts words lent t) ≡ course Accepted (stateAt F net starts words lent t′) (t′ - t)
+  -- 26 is met where a pulse enters a line whose pulse hasn't come out, and only there
+  pub crowds : (lent : List ℕ) → stateSize Compact net ≤ length lent → (t : ℕ) → Apart Compact net values t
+      → (k : ℕ) → k < length net → shape (cellAt net k .kind) ≡ kDelay →
+      let s = stateAt Compact net starts words lent t in
+      (crowded Compact net s (stepState Compact net (starts (suc t)) s) k ≡ 0) ↔ Free (cellAt net k .delay) (level values (cellAt net k .a)) (suc t)
   pub controls : (k : ℕ) → k < length net → control (cellAt net k .kind) ≡ true → (t : ℕ) → values k t ≤ 1
 
 pub record Demand2 : Type 0 where
@@ -107,9 +131,9 @@ pub record Demand2 : Type 0 where
   pub files : SameFile
   pub runs : (file : List ℕ) (starts : Sig) (words : Store) → starts 0 ≡ true → fileCheck file ≡ Accepted → OneRun (cellsOf file) starts words
   -- "each call keeps it true", from whatever state
-  pub numbers : (file lent : List ℕ) (starts : Bool) → fileCheck file ≡ Accepted → stateSize (cellsOf file) ≤ length lent →
-      let s = stepState (cellsOf file) starts lent in
-      flightOf s ≡ flight (cellsOf file) s
+  pub numbers : (F : Format) (file lent : List ℕ) (starts : Bool) → fileCheck file ≡ Accepted → stateSize F (cellsOf file) ≤ length lent →
+      let s = stepState F (cellsOf file) starts lent in
+      flightOf s ≡ flight F (cellsOf file) s
   pub bounded : (file words : List ℕ) → Bytes file → Bytes words → fileCheck file ≡ Accepted
       → (starts : Sig) (W : Values) → Obeys (cellsOf file) starts (wordAt words) W
       → (k : ℕ) → k < length (cellsOf file) → (t : ℕ) → W k t < 65536

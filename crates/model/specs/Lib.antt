@@ -21,6 +21,7 @@ pub mod Hubtext
 pub mod RefusalPromises
 pub mod CircuitPromises
 pub mod RunPromises
+pub mod FormatPromises
 pub mod FilePromises
 pub mod TablePromises
 pub mod ProgramPromises

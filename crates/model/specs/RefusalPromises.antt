@@ -4,17 +4,21 @@
 use mathlib.Core.Path.{_≡_}
 use mathlib.Core.Logic.{_⊎_}
 use mathlib.Core.Bool.{Bool, true, false, _||_}
-use mathlib.Core.List.{List, [], _∷_}
-use Prim.Native.Nat.{ℕ, _≤_, _<_}
+use mathlib.Core.List.{List, [], _∷_, _++_}
+use Prim.Native.Nat.{ℕ, zero, suc, _≤_, _<_}
 use lib.Dec.{eqb}
-use lib.ListN.{getD}
+use lib.ListN.{length, getD}
 use Rattle.model.specs.declared.Cell.{Cell}
+use Rattle.model.specs.declared.Format.{Format}
+use Rattle.model.specs.declared.Format.the-variants.{Full, Compact}
 use Rattle.model.specs.declared.Checked.{Checked}
 use Rattle.model.specs.declared.Checked.the-variants.{Accepted}
 use Rattle.model.specs.Refusals.{numberOf, placeOf, firstFault}
 use Rattle.model.specs.Program.{timeIn}
 use Rattle.model.specs.ProgramChecks.{programChecks}
-use Rattle.model.specs.NetlistFile.{fileChecks, fileCheck}
+use Rattle.model.specs.Circuit.{high}
+use Rattle.model.specs.NetlistFile.{fileChecks, fileCheck, cellsOf, finishOf}
+use Rattle.model.specs.State.{Course, nowAt, stepState, crowded, crowding, continued}
 use Rattle.model.specs.TimeTables.{tableChecks, given, Given, beside, load}
 use Rattle.model.specs.Calls.{verdict, writtenVerdict, checkCall, compileChecks, compileCall, writeChecks, writeCall, readChecks, readCall, beginChecks, beginCall, continueChecks, continueCall, startChecks, startCall, runNetlistChecks, runNetlistCall, runProgramChecks, runProgramCall, referenceChecks, referenceCall}
 use Rattle.model.specs.CellSlices.{hasCells, renumberCall, checkCellsChecks, checkCellsCall, writeCellsChecks, writeCellsCall, readCellsChecks, readCellsCall}
@@ -72,6 +76,30 @@ pub record FirstPlace (fault : ℕ → ℕ) (n : ℕ) (c : Checked) : Type 0 whe
   pub none : numberOf c ≡ 0 → (j : ℕ) → j < n → fault j ≡ 0
   pub some : 1 ≤ numberOf c → (placeOf c < n) × (fault (placeOf c) ≡ numberOf c) × ((j : ℕ) → j < placeOf c → fault j ≡ 0)
 
+-- a compact state alone meets 26
+abbrev pub crowdNumbers : Format → List ℕ
+crowdNumbers Full = []
+crowdNumbers Compact = just 26
+
+-- "alone among the refusals ... it changes lent memory"
+abbrev pub LeavesBut : ℕ → Checked → List ℕ → List ℕ → Type 0
+LeavesBut k c entry exit = 1 ≤ numberOf c → (numberOf c ≡ k → ⊥) → exit ≡ entry
+
+-- the state n instants later, without a start
+unfoldable pub later : Format → List Cell → ℕ → List ℕ → List ℕ
+later F net zero s = s
+later F net (suc n) s = later F net n (stepState F net false s)
+
+-- how a continuing by n from state s goes, with f the finish: instant by instant, until the finish is high, n are done or 26 is met
+pub record Goes (F : Format) (net : List Cell) (f n : ℕ) (s : List ℕ) (c : Course) : Type 0 where
+  pub within : c .count ≤ n
+  pub low : (m : ℕ) → suc m < c .count → high (nowAt F (later F net (suc m) s) f) ≡ false
+  pub good : (m : ℕ) → m < c .count → crowding F net (later F net m s) (later F net (suc m) s) ≡ Accepted
+  -- "the state is left at the last good instant"
+  pub left : c .state ≡ later F net (c .count) s
+  pub done : c .check ≡ Accepted → (c .count ≡ n) ⊎ (high (nowAt F (c .state) f) ≡ true)
+  pub crowds : 1 ≤ numberOf (c .check) → (c .count < n) × (crowding F net (c .state) (stepState F net false (c .state)) ≡ c .check)
+
 -- of every call: the refusals in the published order, a check of its own for each line, and what a refusal leaves. Where a program is checked
 -- it is with what is given beside it, G: its table's refusals come "before 17, in this order", and a number of procedures above 8 is 1
 pub record Demand1 : Type 0 where
@@ -91,15 +119,24 @@ pub record Demand1 : Type 0 where
   pub reading : (file lent : List ℕ) →
       let c = writtenVerdict (readCall file lent .answer) in
       Refuses (fileNumbers ∷ just 14 ∷ []) (readChecks file lent) c × Leaves c lent (readCall file lent .lent)
-  pub beginning : (file words lent : List ℕ) →
-      let c = verdict (beginCall file words lent .answer .outcome) in
-      Refuses (fileNumbers ∷ just 14 ∷ just 14 ∷ []) (beginChecks file words lent) c × Leaves c lent (beginCall file words lent .lent)
-  pub continuing : (file : List ℕ) (n : ℕ) (lent : List ℕ) →
-      let c = verdict (continueCall file n lent .answer .outcome) in
-      Refuses (fileNumbers ∷ just 14 ∷ just 15 ∷ just 16 ∷ []) (continueChecks file n lent) c × Leaves c lent (continueCall file n lent .lent)
-  pub starting : (file lent : List ℕ) →
-      let c = verdict (startCall file lent .answer .outcome) in
-      Refuses (fileNumbers ∷ just 14 ∷ just 15 ∷ just 16 ∷ just 23 ∷ []) (startChecks file lent) c × Leaves c lent (startCall file lent .lent)
+  pub beginning : (F : Format) (file words lent : List ℕ) →
+      let c = verdict (beginCall F file words lent .answer .outcome) in
+      Refuses (fileNumbers ∷ just 14 ∷ just 14 ∷ []) (beginChecks F file words lent) c × Leaves c lent (beginCall F file words lent .lent)
+  pub continuing : (F : Format) (file : List ℕ) (n : ℕ) (lent : List ℕ) →
+      let r = continueCall F file n lent in
+      let c = verdict (r .answer .outcome) in
+      let on = continued F (cellsOf file) (finishOf file) n lent in
+      Refuses (fileNumbers ∷ just 14 ∷ just 15 ∷ just 16 ∷ crowdNumbers F ∷ []) (continueChecks F file n lent ++ (on .check ∷ [])) c
+      × LeavesBut 26 c lent (r .lent) × (numberOf c ≡ 26 → r .lent ≡ on .state)
+  pub goes : (F : Format) (net : List Cell) (f n : ℕ) (s : List ℕ) → Goes F net f n s (continued F net f n s)
+  -- "place the lowest such cell", of any netlist
+  pub lines : (net : List Cell) (s t : List ℕ) → FirstPlace (crowded Compact net s t) (length net) (crowding Compact net s t)
+  pub starting : (F : Format) (file lent : List ℕ) →
+      let c = verdict (startCall F file lent .answer .outcome) in
+      Refuses (fileNumbers ∷ just 14 ∷ just 15 ∷ just 16 ∷ just 23 ∷ []) (startChecks F file lent) c × Leaves c lent (startCall F file lent .lent)
+  -- a start never meets 26
+  pub startsFree : (F : Format) (file lent : List ℕ) → verdict (startCall F file lent .answer .outcome) ≡ Accepted
+      → crowding F (cellsOf file) lent (stepState F (cellsOf file) true lent) ≡ Accepted
   pub netlistRuns : (file words : List ℕ) (n : ℕ) (lent : List ℕ) →
       let c = verdict (runNetlistCall file words n lent .answer .outcome) in
       Refuses (fileNumbers ∷ just 13 ∷ just 14 ∷ just 14 ∷ []) (runNetlistChecks file words n lent) c

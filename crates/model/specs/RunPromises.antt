@@ -9,6 +9,8 @@ use Prim.Native.Nat.{ℕ, suc, _+_, _-_, _≤_, _<_}
 use lib.Dec.{eqb, ltb}
 use lib.ListN.{take, drop}
 use Rattle.model.specs.declared.Cell.{Cell}
+use Rattle.model.specs.declared.Format.{Format}
+use Rattle.model.specs.declared.Format.the-variants.{Full}
 use Rattle.model.specs.declared.Checked.the-variants.{Accepted}
 use Rattle.model.specs.declared.Outcome.{Outcome}
 use Rattle.model.specs.declared.Outcome.the-variants.{Ended, Open}
@@ -21,7 +23,7 @@ use Rattle.model.specs.Rules.{Store, Ends, Run, atEnd, atExit, done, sti
 use Rattle.model.specs.Circuit.{memoryWords, Sig, Values, level, element, arrayAt, Obeys}
 use Rattle.model.specs.NetlistFile.{cellsOf, finishOf}
 use Rattle.model.specs.TimeTables.{Given, load}
-use Rattle.model.specs.State.{stateSize, flightOf, elementNow, wordsIn}
+use Rattle.model.specs.State.{flightOf, stateSize, elementNow, wordsIn}
 use Rattle.model.specs.Calls.{Returned, verdict, compileCall, wordAt, beginCall, continueCall, startCall, runNetlistCall, runProgramCall, listed}
 use Rattle.model.specs.RefusalPromises.{Leaves}
 use Rattle.model.specs.CircuitPromises.{Holds, stopsAt, NoStart}
@@ -36,17 +38,17 @@ pub record Call : Type 0 where
   pub request : Request
   pub lent : ℕ
 
-unfoldable pub respond : List ℕ → Request → List ℕ → Returned Answer
-respond file (continuing n) s = continueCall file n s
-respond file start s = startCall file s
+unfoldable pub respond : Format → List ℕ → Request → List ℕ → Returned Answer
+respond F file (continuing n) s = continueCall F file n s
+respond F file start s = startCall F file s
 
 -- the calls on a netlist, "with that netlist and the state as the last call returned or left it": each answer, with the buffer afterwards
-unfoldable pub replay : List ℕ → List ℕ → List Call → List (Returned Answer)
-replay file s [] = []
-replay file s (c ∷ cs) =
-    let r = respond file (c .request) (take (c .lent) s) in
+unfoldable pub replay : Format → List ℕ → List ℕ → List Call → List (Returned Answer)
+replay F file s [] = []
+replay F file s (c ∷ cs) =
+    let r = respond F file (c .request) (take (c .lent) s) in
     let s′ = r .lent ++ drop (c .lent) s in
-    record { answer = r .answer; lent = s′ } ∷ replay file s′ cs
+    record { answer = r .answer; lent = s′ } ∷ replay F file s′ cs
 
 -- what demand 3 tells of an answer
 pub record Seen : Type 0 where
@@ -154,8 +156,8 @@ Along R (st ∷ sts) [] = ⊥
 Along R (st ∷ sts) (r ∷ rs) = R st r × Along R sts rs
 
 -- the memories of a buffer show these words, and so do its elements: "last contents, in demand 3 too, include them, as the state shows them"
-abbrev pub ShowsWords : List ℕ → List ℕ → Store → Type 0
-ShowsWords file s σ = (wordsIn (cellsOf file) 0 s ≡ listed σ 0 16) × (listed (elementNow (cellsOf file) s) 0 256 ≡ listed σ 16 256)
+abbrev pub ShowsWords : Format → List ℕ → List ℕ → Store → Type 0
+ShowsWords F file s σ = (wordsIn F (cellsOf file) 0 s ≡ listed σ 0 16) × (listed (elementNow F (cellsOf file) s) 0 256 ≡ listed σ 16 256)
 
 -- the values W of memories and elements at instant t are these words
 pub record HasWords (net : List Cell) (words : Store) (W : Values) (t : ℕ) (σ : Store) : Type 0 where
@@ -163,7 +165,8 @@ pub record HasWords (net : List Cell) (words : Store) (W : Values) (t : ℕ) (σ
   pub elements : (k i : ℕ) → k < 4 → i < 64 → element net words W (arrayAt net k) i t ≡ σ (elementWord k i)
 
 -- the circuit's values W, where the list stands at st, as long as no other start pulse comes; and the buffer that a call has left there
-pub record Behaves (P : Stmt) (σ : Store) (file : List ℕ) (rules : Runs) (starts : Sig) (W : Values) (st : Stand) (r : Returned Answer) : Type 0 where
+pub record Behaves (F : Format) (P : Stmt) (σ : Store) (file : List ℕ) (rules : Runs) (starts : Sig) (W : Values) (st : Stand) (r : Returned Answer)
+    : Type 0 where
   -- the run is "from the present words"
   pub begins : HasWords (cellsOf file) σ W (st .begun) (st .from)
   -- the finish wire is high exactly when a finish is due
@@ -174,15 +177,15 @@ pub record Behaves (P : Stmt) (σ : Store) (file : List ℕ) (rules : Runs) (sta
   -- where the run has no end nobody sees a finish any more
   pub endless : ((t₀ : ℕ) (σ′ : Store) → Ends P (st .from) t₀ σ′ → ⊥) → (t : ℕ) → st .begun ≤ t → level W (finishOf file) t ≡ false
   -- the buffer holds the values of the instant at which it stands
-  pub buffer : Holds (cellsOf file) σ W (st .now) (r .lent)
+  pub buffer : Holds F (cellsOf file) σ W (st .now) (r .lent)
 
 -- what a call's answer and the buffer tell of the run
-pub record Tells (P : Stmt) (file : List ℕ) (st : Stand) (r : Returned Answer) : Type 0 where
+pub record Tells (F : Format) (P : Stmt) (file : List ℕ) (st : Stand) (r : Returned Answer) : Type 0 where
   -- the number is 0 exactly from the run's end on
   pub number : (flightOf (r .lent) ≡ 0) ↔ ((t₀ : ℕ) × (σ′ : Store) × Ends P (st .from) t₀ σ′ × (st .begun + t₀ ≤ st .now))
   -- and from then on the words are its last ones, in the buffer and in the answer of a call that was not refused
   pub words : (t₀ : ℕ) (σ′ : Store) → Ends P (st .from) t₀ σ′ → st .begun + t₀ ≤ st .now
-      → ShowsWords file (r .lent) σ′ × (verdict (r .answer .outcome) ≡ Accepted → r .answer .words ≡ listed σ′ 0 16)
+      → ShowsWords F file (r .lent) σ′ × (verdict (r .answer .outcome) ≡ Accepted → r .answer .words ≡ listed σ′ 0 16)
   -- where it has no end no answer says ended
   pub endless : ((t₀ : ℕ) (σ′ : Store) → Ends P (st .from) t₀ σ′ → ⊥) → r .answer .outcome ≡ Ended → ⊥
 
@@ -191,17 +194,8 @@ abbrev pub Unchanged : List ℕ → List (Returned Answer) → Type 0
 Unchanged s [] = Unit {0}
 Unchanged s (r ∷ rs) = Leaves (verdict (r .answer .outcome)) s (r .lent) × Unchanged (r .lent) rs
 
--- "A full run answers as its last call does, its calls' counts added.": from the answers of a beginning and a continuing
-unfoldable pub lastOf : Outcome → Answer → Answer → Answer
-lastOf Ended begun on = begun
-lastOf Open begun on =
-    record { outcome = on .outcome; instant = on .instant; count = begun .count + on .count; words = on .words }
-lastOf (Outcome.Refused r) begun on = begun
-
--- One statement about a beginning, a whole list of continuings and starts, and the full runs of budget n of the program and of its netlist: P is
--- the statement that the program means, σ its start words.
-pub record Keeps (P : Stmt) (σ : Store) (file : List ℕ) (begun : Returned Answer) (calls : List Call) (programRun netlistRun : ℕ → Answer)
-    : Type 0 where
+-- One statement about a beginning and a whole list of continuings and starts: P is the statement that the program means, σ its start words.
+pub record Keeps (F : Format) (P : Stmt) (σ : Store) (file : List ℕ) (begun : Returned Answer) (calls : List Call) : Type 0 where
   -- how runs of the program stand, by its own rules
   pub rules : Runs
   pub decides : (τ : Store) (k t : ℕ) (τ′ : Store) → (rules τ k ≡ ended t τ′) ↔ ((t ≤ k) × Ends P τ t τ′)
@@ -209,31 +203,43 @@ pub record Keeps (P : Stmt) (σ : Store) (file : List ℕ) (begun : Returned Ans
   pub once : (τ : Store) (t₁ t₂ : ℕ) (σ₁ σ₂ : Store) → Ends P τ t₁ σ₁ → Ends P τ t₂ σ₂ → (t₁ ≡ t₂) × (σ₁ ≡ σ₂)
   -- each answer follows from the ends of these runs and the numbers asked for
   pub outcomes :
-      map seenOf (begun ∷ replay file (begun .lent) calls)
-      ≡ seen (endedIf (dueAt rules (stand 0 σ 0) 0)) 0 1 ∷ expected rules (stateSize (cellsOf file)) (stand 0 σ 0) calls
+      map seenOf (begun ∷ replay F file (begun .lent) calls)
+      ≡ seen (endedIf (dueAt rules (stand 0 σ 0) 0)) 0 1 ∷ expected rules (stateSize F (cellsOf file)) (stand 0 σ 0) calls
   pub tells :
-      let sts = stand 0 σ 0 ∷ stands rules (stateSize (cellsOf file)) (stand 0 σ 0) calls in
-      Along (Tells P file) sts (begun ∷ replay file (begun .lent) calls)
+      let sts = stand 0 σ 0 ∷ stands rules (stateSize F (cellsOf file)) (stand 0 σ 0) calls in
+      Along (Tells F P file) sts (begun ∷ replay F file (begun .lent) calls)
   -- and so does what the circuit does with these start pulses
   pub circuit :
-      let sts = stand 0 σ 0 ∷ stands rules (stateSize (cellsOf file)) (stand 0 σ 0) calls in
+      let sts = stand 0 σ 0 ∷ stands rules (stateSize F (cellsOf file)) (stand 0 σ 0) calls in
       (W : Values) → Obeys (cellsOf file) (startsOf sts) σ W
-      → Along (Behaves P σ file rules (startsOf sts) W) sts (begun ∷ replay file (begun .lent) calls)
+      → Along (Behaves F P σ file rules (startsOf sts) W) sts (begun ∷ replay F file (begun .lent) calls)
   -- a refused call leaves the buffer as it was
-  pub unchanged : Unchanged (begun .lent) (replay file (begun .lent) calls)
-  -- "A full run answers as its last call does, its calls' counts added."
+  pub unchanged : Unchanged (begun .lent) (replay F file (begun .lent) calls)
+
+-- "A full run answers as its last call does, its calls' counts added.": from the answers of a beginning and a continuing
+unfoldable pub lastOf : Outcome → Answer → Answer → Answer
+lastOf Ended begun on = begun
+lastOf Open begun on =
+    record { outcome = on .outcome; instant = on .instant; count = begun .count + on .count; words = on .words }
+lastOf (Outcome.Refused r) begun on = begun
+
+-- the full runs of budget n of a program and of its netlist, which have this list for their state
+pub record FullRuns (file : List ℕ) (begun : Returned Answer) (programRun netlistRun : ℕ → Answer) : Type 0 where
   pub programRuns : (n : ℕ) → n ≤ 1000000
-      → programRun n ≡ lastOf (begun .answer .outcome) (begun .answer) (continueCall file n (begun .lent) .answer)
+      → programRun n ≡ lastOf (begun .answer .outcome) (begun .answer) (continueCall Full file n (begun .lent) .answer)
   pub netlistRuns : (n : ℕ) → n ≤ 1000000
-      → netlistRun n ≡ lastOf (begun .answer .outcome) (begun .answer) (continueCall file n (begun .lent) .answer)
+      → netlistRun n ≡ lastOf (begun .answer .outcome) (begun .answer) (continueCall Full file n (begun .lent) .answer)
 
 -- "A program is accepted when compiling gives its netlist. The list starts from the state that an unrefused beginning wrote for that netlist
--- and the start words". "Under every table that loads, finish and last words are the program's."
-unfoldable pub Demand3 : Type 0
-Demand3 =
-    (G : Given) (program forFile words forState : List ℕ) (calls : List Call) (n f : ℕ) → compileCall (load G) program forFile .answer ≡ Done n f →
-    let file = take n (compileCall (load G) program forFile .lent) in
-    let begun = beginCall file words forState in
-    verdict (begun .answer .outcome) ≡ Accepted →
-    Keeps (meaning (programOf (G .procedures) program)) (wordAt words) file begun calls
-    (λ k. runProgramCall (load G) program words k forFile forState .answer) (λ k. runNetlistCall file words k forState .answer)
+-- and the start words", a full or a compact one. "Under every table that loads, finish and last words are the program's."
+pub record Demand3 : Type 0 where
+  pub lists : (F : Format) (G : Given) (program forFile words forState : List ℕ) (calls : List Call) (n f : ℕ)
+      → compileCall (load G) program forFile .answer ≡ Done n f →
+      let file = take n (compileCall (load G) program forFile .lent) in
+      let begun = beginCall F file words forState in
+      verdict (begun .answer .outcome) ≡ Accepted → Keeps F (meaning (programOf (G .procedures) program)) (wordAt words) file begun calls
+  pub fullRuns : (G : Given) (program forFile words forState : List ℕ) (n f : ℕ) → compileCall (load G) program forFile .answer ≡ Done n f →
+      let file = take n (compileCall (load G) program forFile .lent) in
+      let begun = beginCall Full file words forState in
+      verdict (begun .answer .outcome) ≡ Accepted
+      → FullRuns file begun (λ k. runProgramCall (load G) program words k forFile forState .answer) (λ k. runNetlistCall file words k forState .answer)

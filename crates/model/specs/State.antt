@@ -1,33 +1,23 @@
--- Running: the bytes of a state, beginning and continuing. Assumes nothing: definitions.
+-- Running: the bytes of a state, full or compact, beginning and continuing. The two formats differ in what a line keeps: `cellSize`, `lineBit`,
+-- `takenIn`, `crowding` and `lineSound` tell them apart, and nothing else does.
+-- Assumes nothing: definitions.
 use mathlib.Core.Bool.{Bool, true, false, not, _&&_, _||_}
 use mathlib.Core.List.{List, [], _∷_, _++_}
 use Prim.Native.Nat.{ℕ, zero, suc, _+_, _-_, _*_, _/_, _%_, _^_}
 use lib.ListN.{length, getD, set, take, drop, replicate}
-use lib.Dec.{eqb, leb}
+use lib.Dec.{eqb, leb, ltb}
 use Rattle.model.specs.declared.Cell.{Cell}
 use Rattle.model.specs.declared.Merge.{Merge}
+use Rattle.model.specs.declared.Format.{Format}
+use Rattle.model.specs.declared.Format.the-variants.{Full, Compact}
+use Rattle.model.specs.declared.Checked.{Checked}
+use Rattle.model.specs.declared.Checked.the-variants.{Accepted, Refused}
+use Rattle.model.specs.Refusals.{firstFault, faultIf}
 use Rattle.model.specs.Word.{pick, bit, isZero, operate, elementOf, get16, put16, get32, put32, bytes16}
 use Rattle.model.specs.Circuit.{cellAt, control, high, mergeStep, returnStep, merges, memoryWords, startWord, Shape, shape, kConstant, kComplement, kOperator, kStart, kGround, kDelay, kOr, kWhenTrue, kWhenFalse, kMerge, kReturn, kMemory, kGated, kArray, kAddress, kRead, kUnknown}
 use Rattle.model.specs.NetlistFile.{allZero}
 
--- The bytes ----------------------------------------------------------------------------------------------------------------------------
-
--- "State is 8 bytes (four-byte instant, four zero) and 40 per cell: value now and value an instant ago (two bytes each, the latter 0 at
--- instant 0), held a, held b (a byte each), two zero bytes, and 32 bytes with the last 256 inputs of a delay, newest in the lowest bit of
--- the first byte." "The 256 words stand after the state's cells." "The four zero bytes of the state now hold" the number in flight.
-abbrev pub stateSize : List Cell → ℕ
-stateSize net = 8 + 40 * length net + 512
-
--- where cell k's 40 bytes begin
-abbrev pub base : ℕ → ℕ
-base k = 8 + 40 * k
-
--- where the word of element n begins
-abbrev pub elementBase : List Cell → ℕ → ℕ
-elementBase net n = 8 + 40 * length net + 2 * n
-
-abbrev pub elementNow : List Cell → List ℕ → ℕ → ℕ
-elementNow net s n = get16 s (elementBase net n)
+-- For either format --------------------------------------------------------------------------------------------------------------------
 
 abbrev pub instantOf : List ℕ → ℕ
 instantOf s = get32 s 0
@@ -36,106 +26,15 @@ instantOf s = get32 s 0
 abbrev pub flightOf : List ℕ → ℕ
 flightOf s = get32 s 4
 
-abbrev pub nowAt : List ℕ → ℕ → ℕ
-nowAt s k = get16 s (base k)
-
-abbrev pub beforeAt : List ℕ → ℕ → ℕ
-beforeAt s k = get16 s (base k + 2)
-
--- the falling edge of a clock: it "is 0 and was 1 an instant ago"
-abbrev pub fallen : List ℕ → ℕ → Bool
-fallen s k = high (beforeAt s k) && not (high (nowAt s k))
-
-unfoldable pub heldAt : List ℕ → ℕ → Merge
-heldAt s k = record { a = high (getD s (base k + 4) 0); b = high (getD s (base k + 5) 0) }
-
--- the input i instants before that of the state's own instant
-unfoldable pub lineBit : List ℕ → ℕ → ℕ → ℕ
-lineBit s k i = getD s (base k + 8 + i / 8) 0 / 2 ^ (i % 8) % 2
-
--- One instant --------------------------------------------------------------------------------------------------------------------------
-
--- What cell k, which is c, shows after instant 0; starts tells whether a start pulse is given. In s, lower cells have their values now already, and
--- the arrays of lower cells their words; all cells have their values an instant ago, and held bits and lines are still those of an instant ago.
-unfoldable pub nextValue : Shape → Bool → List Cell → List ℕ → ℕ → Cell → ℕ
-nextValue kConstant starts net s k c = c .a
-nextValue kComplement starts net s k c = operate 3 (nowAt s (c .a)) 0
-nextValue kOperator starts net s k c = operate (c .kind) (nowAt s (c .a)) (nowAt s (c .b))
-nextValue kStart starts net s k c = bit starts
-nextValue kGround starts net s k c = 0
-nextValue kDelay starts net s k c = lineBit s k (c .delay - 1)
-nextValue kOr starts net s k c = bit (high (nowAt s (c .a)) || high (nowAt s (c .b)))
-nextValue kWhenTrue starts net s k c = bit (high (nowAt s (c .a)) && not (isZero (nowAt s (c .b))))
-nextValue kWhenFalse starts net s k c = bit (high (nowAt s (c .a)) && isZero (nowAt s (c .b)))
-nextValue kMerge starts net s k c = bit (mergeStep (heldAt s k) (high (nowAt s (c .a))) (high (nowAt s (c .b))) .out)
-nextValue kReturn starts net s k c = bit (returnStep (heldAt s k) (high (nowAt s (c .a))) (high (nowAt s (c .b))) .out)
-nextValue kMemory starts net s k c = pick (fallen s (c .a)) (beforeAt s (c .b)) (beforeAt s k)
-nextValue kGated starts net s k c = pick (high (nowAt s (c .a))) (nowAt s (c .b)) 0
-nextValue kArray starts net s k c = 0
-nextValue kAddress starts net s k c = 0
-nextValue kRead starts net s k c = elementNow net s (elementOf (cellAt net (c .a) .delay) (nowAt s (c .b)))
-nextValue kUnknown starts net s k c = 0
-
-abbrev pub value : List Cell → Bool → List ℕ → ℕ → ℕ
-value net starts s k = nextValue (shape (cellAt net k .kind)) starts net s k (cellAt net k)
-
--- at instant 0 a memory has its start word; the others, all bytes being 0 and start 1, show what they show later
-abbrev pub firstValue : List Cell → (ℕ → ℕ) → List ℕ → ℕ → ℕ
-firstValue net words s k = pick (eqb (cellAt net k .kind) 40) (startWord net words k) (value net true s k)
-
 -- f at cell 0, then at cell 1, and so on to cell n - 1
 unfoldable pub upTo : (List ℕ → ℕ → List ℕ) → ℕ → List ℕ → List ℕ
 upTo f zero s = s
 upTo f (suc n) s = f (upTo f n s) n
 
--- the value now becomes the value an instant ago
-unfoldable pub aged : List ℕ → ℕ → List ℕ
-aged s k = put16 s (base k + 2) (nowAt s k)
-
--- "A write uses address and data of the instant before the clock falls.": where cell k is a kind 42 whose clock falls, its array takes a word in
-unfoldable pub stored : List Cell → List ℕ → ℕ → List ℕ
-stored net s k =
-    let c = cellAt net k in
-    let address = cellAt net (k + 1) .a in
-    pick (eqb (c .kind) 42 && fallen s (c .a))
-    (put16 s (elementBase net (elementOf (c .delay) (beforeAt s address))) (beforeAt s (c .b))) s
-
--- cell k shows the value that v makes of the state so far
-unfoldable pub shown : List Cell → (List ℕ → ℕ → ℕ) → List ℕ → ℕ → List ℕ
-shown net v s k = put16 (stored net s k) (base k) (v s k)
-
 -- m bytes from i on, moved by a bit, x coming in lowest
 unfoldable pub shiftedIn : ℕ → List ℕ → ℕ → ℕ → List ℕ
 shiftedIn zero s i x = s
 shiftedIn (suc m) s i x = shiftedIn m (set s i ((2 * getD s i 0 + x) % 256)) (i + 1) ((2 * getD s i 0 + x) / 256)
-
-unfoldable pub holding : List ℕ → ℕ → Merge → List ℕ
-holding s k m = set (set s (base k + 4) (bit (m .a))) (base k + 5) (bit (m .b))
-
--- a delay takes its input in, a merge holds
-unfoldable pub settle : Shape → List ℕ → ℕ → Cell → List ℕ
-settle kConstant s k c = s
-settle kComplement s k c = s
-settle kOperator s k c = s
-settle kStart s k c = s
-settle kGround s k c = s
-settle kDelay s k c = shiftedIn 32 s (base k + 8) (bit (high (nowAt s (c .a))))
-settle kOr s k c = s
-settle kWhenTrue s k c = s
-settle kWhenFalse s k c = s
-settle kMerge s k c = holding s k (mergeStep (heldAt s k) (high (nowAt s (c .a))) (high (nowAt s (c .b))) .held)
-settle kReturn s k c = holding s k (returnStep (heldAt s k) (high (nowAt s (c .a))) (high (nowAt s (c .b))) .held)
-settle kMemory s k c = s
-settle kGated s k c = s
-settle kArray s k c = s
-settle kAddress s k c = s
-settle kRead s k c = s
-settle kUnknown s k c = s
-
-abbrev pub settled : List Cell → List ℕ → ℕ → List ℕ
-settled net s k = settle (shape (cellAt net k .kind)) s k (cellAt net k)
-
--- The number in flight -----------------------------------------------------------------------------------------------------------------
 
 -- how many of the newest d inputs of a line are 1; line i is the input of i instants ago
 unfoldable pub ones : (ℕ → ℕ) → ℕ → ℕ
@@ -155,75 +54,239 @@ unfoldable pub flightIn : (ℕ → ℕ → ℕ) → (ℕ → Merge) → List Cel
 flightIn line held [] k = 0
 flightIn line held (c ∷ cs) k = inFlight (line k) (held k) c + flightIn line held cs (k + 1)
 
--- what the lines and held bits of a state sum up to
-abbrev pub flight : List Cell → List ℕ → ℕ
-flight net s = flightIn (lineBit s) (heldAt s) net 0
-
--- "each call keeps it true": the number is put into the header
-unfoldable pub counted : List Cell → List ℕ → List ℕ
-counted net s = put32 s 4 (flight net s)
-
--- Beginning and continuing -------------------------------------------------------------------------------------------------------------
-
 -- the bytes of n words from x on
 unfoldable pub wordBytes : (ℕ → ℕ) → ℕ → ℕ → List ℕ
 wordBytes words x zero = []
 wordBytes words x (suc n) = bytes16 (words x) ++ wordBytes words (x + 1) n
 
--- what beginning starts from: nothing in any cell, and the elements' start words, which "follow the sixteen"
-abbrev pub blank : List Cell → (ℕ → ℕ) → List ℕ → List ℕ
-blank net words s = replicate (8 + 40 * length net) 0 ++ (wordBytes words 16 256 ++ drop (stateSize net) s)
+-- how a continuing goes: whether 26 ends it, the state at its last good instant, and how many instants it has evaluated
+pub record Course : Type 0 where
+  pub check : Checked
+  pub state : List ℕ
+  pub count : ℕ
 
--- an instant from a state whose cells show what they showed before: values by v, then lines and held bits, then their number
-unfoldable pub evaluate : List Cell → (List ℕ → ℕ → ℕ) → List ℕ → List ℕ
-evaluate net v past =
-    let valued = upTo (shown net v) (length net) past in
-    counted net (upTo (settled net) (length net) valued)
+abbrev pub course : Checked → List ℕ → ℕ → Course
+course c s n = record { check = c; state = s; count = n }
 
--- "Beginning evaluates instant 0." "Lent bytes past a result keep their values."
-unfoldable pub beginState : List Cell → (ℕ → ℕ) → List ℕ → List ℕ
-beginState net words s = evaluate net (firstValue net words) (blank net words s)
+-- with an instant before it
+abbrev pub longer : Course → Course
+longer c = course (c .check) (c .state) (1 + c .count)
 
--- one further instant, with a start pulse or without
-unfoldable pub stepState : List Cell → Bool → List ℕ → List ℕ
-stepState net starts s =
-    let ticked = put32 s 0 (instantOf s + 1) in
-    evaluate net (value net starts) (upTo aged (length net) ticked)
+-- The bytes ----------------------------------------------------------------------------------------------------------------------------
 
--- "Continuing by N evaluates later instants until the finish wire is high or N are done; a state whose finish is already high is continued
--- like any other.": the state then, and how many were evaluated
-unfoldable pub lastState : List Cell → ℕ → ℕ → List ℕ → List ℕ
-lastState net f zero s = s
-lastState net f (suc n) s =
-    let t = stepState net false s in
-    elim (high (nowAt t f)) [ true ↦ t | false ↦ lastState net f n t ]
+-- "State is 8 bytes (four-byte instant, four zero) and 40 per cell: value now and value an instant ago (two bytes each, the latter 0 at
+-- instant 0), held a, held b (a byte each), two zero bytes, and 32 bytes with the last 256 inputs of a delay, newest in the lowest bit of
+-- the first byte." "The 256 words stand after the state's cells." "The four zero bytes of the state now hold" the number in flight.
+-- "A compact state holds one number per line: instants until its pulse comes out, 0 for none. A cell then has 8 bytes, the first zero byte holding
+-- that number".
+abbrev pub cellSize : Format → ℕ
+cellSize Full = 40
+cellSize Compact = 8
 
-unfoldable pub evaluated : List Cell → ℕ → ℕ → List ℕ → ℕ
-evaluated net f zero s = 0
-evaluated net f (suc n) s =
-    let t = stepState net false s in
-    elim (high (nowAt t f)) [ true ↦ 1 | false ↦ 1 + evaluated net f n t ]
+-- of a state in format F
+module _ (F : Format) where
+  -- where the bytes of cell k begin
+  abbrev pub base : ℕ → ℕ
+  base k = 8 + cellSize F * k
 
--- "the sixteen words": those that the memories show, of the cells that stand from k on
-abbrev pub wordsIn : List Cell → ℕ → List ℕ → List ℕ
-wordsIn cs k s = memoryWords cs k (nowAt s)
+  abbrev pub stateSize : List Cell → ℕ
+  stateSize net = base (length net) + 512
 
--- Refusal 15 ---------------------------------------------------------------------------------------------------------------------------
+  -- where the word of element n begins
+  abbrev pub elementBase : List Cell → ℕ → ℕ
+  elementBase net n = base (length net) + 2 * n
 
--- "15. A state whose control values or held bits exceed 1, or with held bits, lines or zero bytes set where the cell has none.": a 39 "holds a", and
--- no b
-unfoldable pub cellSound : Cell → List ℕ → ℕ → Bool
-cellSound c s k =
-    (not (control (c .kind)) || (leb (nowAt s k) 1 && leb (beforeAt s k) 1))
-    && ((leb (getD s (base k + 4) 0) (bit (merges (c .kind))) && leb (getD s (base k + 5) 0) (bit (eqb (c .kind) 38)))
-    && (allZero (take 2 (drop (base k + 6) s))
-    && (eqb (c .kind) 34 || allZero (take 32 (drop (base k + 8) s)))))
+  abbrev pub elementNow : List Cell → List ℕ → ℕ → ℕ
+  elementNow net s n = get16 s (elementBase net n)
 
--- of the cells cs, which stand from k on
-unfoldable pub cellsSound : List Cell → List ℕ → ℕ → Bool
-cellsSound [] s k = true
-cellsSound (c ∷ cs) s k = cellSound c s k && cellsSound cs s (k + 1)
+  abbrev pub nowAt : List ℕ → ℕ → ℕ
+  nowAt s k = get16 s (base k)
 
--- "a state where it is false is refusal 15"
-unfoldable pub sound : List Cell → List ℕ → Bool
-sound net s = eqb (flightOf s) (flight net s) && cellsSound net s 0
+  abbrev pub beforeAt : List ℕ → ℕ → ℕ
+  beforeAt s k = get16 s (base k + 2)
+
+  -- the falling edge of a clock: it "is 0 and was 1 an instant ago"
+  abbrev pub fallen : List ℕ → ℕ → Bool
+  fallen s k = high (beforeAt s k) && not (high (nowAt s k))
+
+  unfoldable pub heldAt : List ℕ → ℕ → Merge
+  heldAt s k = record { a = high (getD s (base k + 4) 0); b = high (getD s (base k + 5) 0) }
+
+  -- Lines ------------------------------------------------------------------------------------------------------------------------------
+
+  -- the number of a line in a compact state
+  abbrev pub leftAt : List ℕ → ℕ → ℕ
+  leftAt s k = getD s (base k + 6) 0
+
+  -- the input of a delay of d, i instants before that of the state's own instant; where n instants are left until a pulse comes out, it came in d - n
+  -- instants ago
+  unfoldable pub lineBit : List ℕ → ℕ → ℕ → ℕ → ℕ
+  lineBit s k d i = elim F [
+    | Full ↦ getD s (base k + 8 + i / 8) 0 / 2 ^ (i % 8) % 2
+    | Compact ↦ bit (eqb (leftAt s k + i) d)
+  ]
+
+  -- a delay of d takes its input x in; in a compact state a pulse that comes in has d instants left, and one that is on its way an instant less
+  unfoldable pub takenIn : List ℕ → ℕ → ℕ → Bool → List ℕ
+  takenIn s k d x = elim F [
+    | Full ↦ shiftedIn 32 s (base k + 8) (bit x)
+    | Compact ↦ set s (base k + 6) (pick x d (leftAt s k - 1))
+  ]
+
+  -- One instant ------------------------------------------------------------------------------------------------------------------------
+
+  -- What cell k, which is c, shows after instant 0; starts tells whether a start pulse is given. In s, lower cells have their values now already, and
+  -- the arrays of lower cells their words; all cells have their values an instant ago, and held bits and lines are still those of an instant ago.
+  unfoldable pub nextValue : Shape → Bool → List Cell → List ℕ → ℕ → Cell → ℕ
+  nextValue kConstant starts net s k c = c .a
+  nextValue kComplement starts net s k c = operate 3 (nowAt s (c .a)) 0
+  nextValue kOperator starts net s k c = operate (c .kind) (nowAt s (c .a)) (nowAt s (c .b))
+  nextValue kStart starts net s k c = bit starts
+  nextValue kGround starts net s k c = 0
+  nextValue kDelay starts net s k c = lineBit s k (c .delay) (c .delay - 1)
+  nextValue kOr starts net s k c = bit (high (nowAt s (c .a)) || high (nowAt s (c .b)))
+  nextValue kWhenTrue starts net s k c = bit (high (nowAt s (c .a)) && not (isZero (nowAt s (c .b))))
+  nextValue kWhenFalse starts net s k c = bit (high (nowAt s (c .a)) && isZero (nowAt s (c .b)))
+  nextValue kMerge starts net s k c = bit (mergeStep (heldAt s k) (high (nowAt s (c .a))) (high (nowAt s (c .b))) .out)
+  nextValue kReturn starts net s k c = bit (returnStep (heldAt s k) (high (nowAt s (c .a))) (high (nowAt s (c .b))) .out)
+  nextValue kMemory starts net s k c = pick (fallen s (c .a)) (beforeAt s (c .b)) (beforeAt s k)
+  nextValue kGated starts net s k c = pick (high (nowAt s (c .a))) (nowAt s (c .b)) 0
+  nextValue kArray starts net s k c = 0
+  nextValue kAddress starts net s k c = 0
+  nextValue kRead starts net s k c = elementNow net s (elementOf (cellAt net (c .a) .delay) (nowAt s (c .b)))
+  nextValue kUnknown starts net s k c = 0
+
+  abbrev pub value : List Cell → Bool → List ℕ → ℕ → ℕ
+  value net starts s k = nextValue (shape (cellAt net k .kind)) starts net s k (cellAt net k)
+
+  -- at instant 0 a memory has its start word; the others, all bytes being 0 and start 1, show what they show later
+  abbrev pub firstValue : List Cell → (ℕ → ℕ) → List ℕ → ℕ → ℕ
+  firstValue net words s k = pick (eqb (cellAt net k .kind) 40) (startWord net words k) (value net true s k)
+
+  -- the value now becomes the value an instant ago
+  unfoldable pub aged : List ℕ → ℕ → List ℕ
+  aged s k = put16 s (base k + 2) (nowAt s k)
+
+  -- "A write uses address and data of the instant before the clock falls.": where cell k is a kind 42 whose clock falls, its array takes a word in
+  unfoldable pub stored : List Cell → List ℕ → ℕ → List ℕ
+  stored net s k =
+      let c = cellAt net k in
+      let address = cellAt net (k + 1) .a in
+      pick (eqb (c .kind) 42 && fallen s (c .a))
+      (put16 s (elementBase net (elementOf (c .delay) (beforeAt s address))) (beforeAt s (c .b))) s
+
+  -- cell k shows the value that v makes of the state so far
+  unfoldable pub shown : List Cell → (List ℕ → ℕ → ℕ) → List ℕ → ℕ → List ℕ
+  shown net v s k = put16 (stored net s k) (base k) (v s k)
+
+  unfoldable pub holding : List ℕ → ℕ → Merge → List ℕ
+  holding s k m = set (set s (base k + 4) (bit (m .a))) (base k + 5) (bit (m .b))
+
+  -- a delay takes its input in, a merge holds
+  unfoldable pub settle : Shape → List ℕ → ℕ → Cell → List ℕ
+  settle kConstant s k c = s
+  settle kComplement s k c = s
+  settle kOperator s k c = s
+  settle kStart s k c = s
+  settle kGround s k c = s
+  settle kDelay s k c = takenIn s k (c .delay) (high (nowAt s (c .a)))
+  settle kOr s k c = s
+  settle kWhenTrue s k c = s
+  settle kWhenFalse s k c = s
+  settle kMerge s k c = holding s k (mergeStep (heldAt s k) (high (nowAt s (c .a))) (high (nowAt s (c .b))) .held)
+  settle kReturn s k c = holding s k (returnStep (heldAt s k) (high (nowAt s (c .a))) (high (nowAt s (c .b))) .held)
+  settle kMemory s k c = s
+  settle kGated s k c = s
+  settle kArray s k c = s
+  settle kAddress s k c = s
+  settle kRead s k c = s
+  settle kUnknown s k c = s
+
+  abbrev pub settled : List Cell → List ℕ → ℕ → List ℕ
+  settled net s k = settle (shape (cellAt net k .kind)) s k (cellAt net k)
+
+  -- The number in flight ---------------------------------------------------------------------------------------------------------------
+
+  -- the line of cell k
+  abbrev pub lineAt : List Cell → List ℕ → ℕ → ℕ → ℕ
+  lineAt net s k = lineBit s k (cellAt net k .delay)
+
+  -- what the lines and held bits of a state sum up to
+  abbrev pub flight : List Cell → List ℕ → ℕ
+  flight net s = flightIn (lineAt net s) (heldAt s) net 0
+
+  -- "each call keeps it true": the number is put into the header
+  unfoldable pub counted : List Cell → List ℕ → List ℕ
+  counted net s = put32 s 4 (flight net s)
+
+  -- Beginning and continuing -----------------------------------------------------------------------------------------------------------
+
+  -- what beginning starts from: nothing in any cell, and the elements' start words, which "follow the sixteen"
+  abbrev pub blank : List Cell → (ℕ → ℕ) → List ℕ → List ℕ
+  blank net words s = replicate (base (length net)) 0 ++ (wordBytes words 16 256 ++ drop (stateSize net) s)
+
+  -- an instant from a state whose cells show what they showed before: values by v, then lines and held bits, then their number
+  unfoldable pub evaluate : List Cell → (List ℕ → ℕ → ℕ) → List ℕ → List ℕ
+  evaluate net v past =
+      let valued = upTo (shown net v) (length net) past in
+      counted net (upTo (settled net) (length net) valued)
+
+  -- "Beginning evaluates instant 0." "Lent bytes past a result keep their values."
+  unfoldable pub beginState : List Cell → (ℕ → ℕ) → List ℕ → List ℕ
+  beginState net words s = evaluate net (firstValue net words) (blank net words s)
+
+  -- one further instant, with a start pulse or without
+  unfoldable pub stepState : List Cell → Bool → List ℕ → List ℕ
+  stepState net starts s =
+      let ticked = put32 s 0 (instantOf s + 1) in
+      evaluate net (value net starts) (upTo aged (length net) ticked)
+
+  -- "26: a pulse enters a line whose pulse hasn't come out": at cell k, in the instant that leads from s to t. Where one instant was left, that pulse
+  -- comes out in this one.
+  unfoldable pub crowded : List Cell → List ℕ → List ℕ → ℕ → ℕ
+  crowded net s t k = faultIf (eqb (cellAt net k .kind) 34 && (high (nowAt t (cellAt net k .a)) && ltb 1 (leftAt s k))) 26
+
+  -- "place the lowest such cell"; a full state has room for every pulse
+  unfoldable pub crowding : List Cell → List ℕ → List ℕ → Checked
+  crowding net s t = elim F [ Full ↦ Accepted | Compact ↦ firstFault (crowded net s t) 0 (length net) ]
+
+  -- "Continuing by N evaluates later instants until the finish wire is high or N are done; a state whose finish is already high is continued
+  -- like any other." "the state is left at the last good instant".
+  unfoldable pub continued : List Cell → ℕ → ℕ → List ℕ → Course
+  continued net f zero s = course Accepted s 0
+  continued net f (suc n) s =
+      let t = stepState net false s in
+      elim (crowding net s t) [
+        | Accepted ↦ elim (high (nowAt t f)) [ true ↦ course Accepted t 1 | false ↦ longer (continued net f n t) ]
+        | Refused r ↦ course (Refused r) s 0
+      ]
+
+  -- "the sixteen words": those that the memories show, of the cells that stand from k on
+  abbrev pub wordsIn : List Cell → ℕ → List ℕ → List ℕ
+  wordsIn cs k s = memoryWords cs k (nowAt s)
+
+  -- Refusal 15 -------------------------------------------------------------------------------------------------------------------------
+
+  -- "with ... lines or zero bytes set where the cell has none"; "(above the delay: refusal 15)"
+  unfoldable pub lineSound : Cell → List ℕ → ℕ → Bool
+  lineSound c s k = elim F [
+    | Full ↦ allZero (take 2 (drop (base k + 6) s)) && (eqb (c .kind) 34 || allZero (take 32 (drop (base k + 8) s)))
+    | Compact ↦ leb (leftAt s k) (pick (eqb (c .kind) 34) (c .delay) 0) && eqb (getD s (base k + 7) 0) 0
+  ]
+
+  -- "15. A state whose control values or held bits exceed 1, or with held bits, lines or zero bytes set where the cell has none.": a 39 "holds a", and
+  -- no b
+  unfoldable pub cellSound : Cell → List ℕ → ℕ → Bool
+  cellSound c s k =
+      (not (control (c .kind)) || (leb (nowAt s k) 1 && leb (beforeAt s k) 1))
+      && ((leb (getD s (base k + 4) 0) (bit (merges (c .kind))) && leb (getD s (base k + 5) 0) (bit (eqb (c .kind) 38)))
+      && lineSound c s k)
+
+  -- of the cells cs, which stand from k on
+  unfoldable pub cellsSound : List Cell → List ℕ → ℕ → Bool
+  cellsSound [] s k = true
+  cellsSound (c ∷ cs) s k = cellSound c s k && cellsSound cs s (k + 1)
+
+  -- "a state where it is false is refusal 15"
+  unfoldable pub sound : List Cell → List ℕ → Bool
+  sound net s = eqb (flightOf s) (flight net s) && cellsSound net s 0

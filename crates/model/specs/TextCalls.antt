@@ -15,6 +15,7 @@ use Rattle.model.specs.ProgramChecks.{programWith, checkOf}
 use Rattle.model.specs.Numbering.{finish}
 use Rattle.model.specs.Text.{wordsOf, outside}
 use Rattle.model.specs.Reader.{Reading, good, bad, readerAtFirst, readFrom}
+use Rattle.model.specs.declared.Format.the-variants.{Full}
 use Rattle.model.specs.Calls.{Returned, ReturnedBoth, short, writing, compiledFile, netlistChecks, running, fullState, fullCount, fullRunChecks}
 
 -- the nodes of a text, or the place where its grammar is broken
@@ -65,5 +66,5 @@ unfoldable pub runTextCall : Options → List ℕ → List ℕ → ℕ → List 
 runTextCall options text words n forFile lent =
     let file = compiledFile options (textProgram text) in
     let c = first (runTextChecks options text words n forFile lent) in
-    let r = running c file (fullState file words n lent) (fullCount file words n lent) lent in
+    let r = running Full c file (fullState file words n lent) (fullCount file words n lent) lent in
     record { answer = r .answer; netlist = writing c file (length file) 0 forFile .lent; state = r .lent }

@@ -70,6 +70,12 @@ pub struct Merge {
     pub b: bool,
 }
 
+// How a state keeps its lines: the last 256 inputs of each, or one number for each.
+pub enum Format {
+    Full,
+    Compact,
+}
+
 // What a merge holds after an instant, and its output.
 pub struct Merged {
     pub held: Merge,

@@ -33,6 +33,13 @@ pub const ELEMENTS: usize = 512;
 
 pub const STATE_MOST: usize = 41480;
 
+// A compact state: a cell, its line's number, the longest state.
+pub const COMPACT_CELL: usize = 8;
+
+pub const COMPACT_LEFT: usize = 6;
+
+pub const COMPACT_MOST: usize = 8712;
+
 // A program, a text, the start words, a run.
 pub const NODE: usize = 4;
 

@@ -3,6 +3,7 @@ pub mod ProgramRows
 pub mod TableRows
 pub mod NetlistRows
 pub mod StateRows
+pub mod CompactRows
 pub mod CallRows
 pub mod LoopRows
 pub mod ProcedureRows

@@ -9,6 +9,7 @@ use lib.ListN.{getD, replicate, set}
 use Rattle.model.specs.declared.Answer.{Answer}
 use Rattle.model.specs.declared.Checked.{Checked}
 use Rattle.model.specs.declared.Checked.the-variants.{Accepted}
+use Rattle.model.specs.declared.Format.the-variants.{Full}
 use Rattle.model.specs.declared.Options.{Options}
 use Rattle.model.specs.Word.{bit, operate}
 use Rattle.model.specs.Refusals.{refuse}
@@ -20,7 +21,7 @@ use Rattle.model.specs.TimeTables.{builtIn, beside, load}
 use Rattle.model.specs.Calls.{checkCall, listed, referenceAnswer, answering, referenceCall}
 use Rattle.model.specs.ProgramPromises.{openAnswer}
 use Rattle.model.specs.Cases.{raw, repeated, checkOfProgram, start, endAnswer}
-use Rattle.rows.specs.StateRows.{stateOfCells}
+use Rattle.rows.specs.StateRows.{courseOf}
 
 -- k procedures given, and the roots' bytes
 abbrev counted : ℕ → Options
@@ -168,6 +169,6 @@ bytes =
     ∷ []
 
 bytes-right :
-    map (λ r. sound (cell 32 0 0 0 ∷ (cell 39 0 0 0 ∷ [])) (set (set (replicate 600 0) 4 (r .2)) (r .0) (r .1))) bytes ≡ map (λ r. r .3) bytes
-unfolding bytes stateOfCells
+    map (λ r. sound Full (cell 32 0 0 0 ∷ (cell 39 0 0 0 ∷ [])) (set (set (replicate 600 0) 4 (r .2)) (r .0) (r .1))) bytes ≡ map (λ r. r .3) bytes
+unfolding bytes courseOf
 bytes-right = refl

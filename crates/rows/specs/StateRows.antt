@@ -1,4 +1,4 @@
--- States and runs with what is said of them, worked out by hand from the papers: a run with a second start byte for byte, and refusal 15 clause by clause.
+-- Full states and runs with what is said of them, worked out by hand from the papers: a run with a second start byte for byte, and refusal 15 clause by clause.
 -- Theorems cite the same layout and condition, and so leave them free.
 -- Assumes nothing.
 use mathlib.Core.Path.{_≡_, refl}
@@ -7,9 +7,13 @@ use mathlib.Core.List.{List, [], _∷_, _++_, map}
 use Prim.Native.Nat.{ℕ, _+_, _*_}
 use lib.ListN.{set, replicate}
 use Rattle.model.specs.declared.Cell.{Cell}
-use Rattle.model.specs.Word.{operate, put16, get32, put32, bytes16}
+use Rattle.model.specs.declared.Checked.the-variants.{Accepted}
+use Rattle.model.specs.declared.Format.{Format}
+use Rattle.model.specs.declared.Format.the-variants.{Full}
+use Rattle.model.specs.Refusals.{firstFault}
+use Rattle.model.specs.Word.{operate, put16, get32, put32}
 use Rattle.model.specs.Circuit.{memoryWords, cell, merges, mergeStep, returnStep}
-use Rattle.model.specs.State.{flightOf, nowAt, heldAt, lineBit, nextValue, upTo, aged, stored, shown, shiftedIn, holding, settle, ones, inFlight, flightIn, counted, wordBytes, evaluate, beginState, stepState, lastState, evaluated, wordsIn, cellSound, cellsSound, sound}
+use Rattle.model.specs.State.{flightOf, upTo, shiftedIn, ones, inFlight, flightIn, wordBytes, Course, course, nowAt, heldAt, lineBit, takenIn, nextValue, aged, stored, shown, holding, settle, counted, evaluate, beginState, stepState, crowded, crowding, continued, wordsIn, lineSound, cellSound, cellsSound, sound}
 use Rattle.model.specs.Calls.{wordAt}
 use Rattle.rows.specs.NetlistRows.{checkOfFile}
 
@@ -18,13 +22,13 @@ use Rattle.rows.specs.NetlistRows.{checkOfFile}
 -- Twelve cells are enough to show every byte: start, ground, constant 5, a delay of the start by 9, two memories whose data is the constant and
 -- whose clocks are start and ground, and a merge of the start and the delay, which is the finish. Then array 1, whose clock is the start, data the
 -- constant and address the first memory; a read of it by the constant 5, and, behind a constant 65, one by that.
-abbrev net : List Cell
+abbrev pub net : List Cell
 net =
     cell 32 0 0 0 ∷ cell 33 0 0 0 ∷ cell 1 0 5 0 ∷ cell 34 9 0 0 ∷ cell 40 0 0 2 ∷ cell 40 0 1 2 ∷ cell 38 0 0 3
     ∷ cell 42 1 0 2 ∷ cell 43 0 4 0 ∷ cell 44 0 7 2 ∷ cell 1 0 65 0 ∷ cell 44 0 7 10 ∷ []
 
 -- the start words of x0 and x1, 1 + 256 * 2 and 3 + 256 * 4, and of element 64 * 1 + 5, 6 + 256 * 7; the others are 0
-abbrev startBytes : List ℕ
+abbrev pub startBytes : List ℕ
 startBytes = (1 ∷ 2 ∷ 3 ∷ 4 ∷ replicate 28 0) ++ replicate 138 0 ++ (6 ∷ 7 ∷ [])
 
 -- Instant 0: the start is 1, and stands newest in the delay's line; the memories have their start words; the merge holds a; the first read shows
@@ -118,18 +122,18 @@ state19 =
     ++ replicate 130 0 ++ (5 ∷ replicate 7 0) ++ (5 ∷ replicate 373 0)
 
 -- whoever unfolds this unfolds all that a state is made by
-unfoldable pub stateOfCells : List Cell → ℕ → ℕ → List ℕ → List ℕ
-unfolding state0 state1 state9 state10 state19 checkOfFile operate put16 get32 put32 merges mergeStep returnStep heldAt lineBit nextValue upTo aged stored shown shiftedIn holding settle ones inFlight flightIn counted wordBytes evaluate beginState stepState lastState evaluated memoryWords cellSound cellsSound sound
-stateOfCells cells finish n s = lastState cells finish n s
+unfoldable pub courseOf : Format → List Cell → ℕ → ℕ → List ℕ → Course
+unfolding state0 state1 state9 state10 state19 checkOfFile operate put16 get32 put32 merges mergeStep returnStep firstFault heldAt lineBit takenIn nextValue upTo aged stored shown shiftedIn holding settle ones inFlight flightIn counted wordBytes evaluate beginState stepState crowded crowding continued memoryWords lineSound cellSound cellsSound sound
+courseOf F cells finish n s = continued F cells finish n s
 
 -- "Lent bytes past a result keep their values."
-begin-right : beginState net (wordAt startBytes) (replicate 1000 9 ++ (7 ∷ 7 ∷ [])) ≡ state0 ++ (7 ∷ 7 ∷ [])
-unfolding stateOfCells
+begin-right : beginState Full net (wordAt startBytes) (replicate 1000 9 ++ (7 ∷ 7 ∷ [])) ≡ state0 ++ (7 ∷ 7 ∷ [])
+unfolding courseOf
 begin-right = refl
 
 -- a state, how many instants it is continued by, the state then, and how many were evaluated
-continued : List (List ℕ × ℕ × List ℕ × ℕ)
-continued =
+further : List (List ℕ × ℕ × List ℕ × ℕ)
+further =
     (state0, 0, state0, 0)
     ∷ (state0, 1, state1, 1)
     ∷ (state0 ++ (7 ∷ 7 ∷ []), 1, state1 ++ (7 ∷ 7 ∷ []), 1)
@@ -139,19 +143,17 @@ continued =
     ∷ (state10, 20, state19, 9)
     ∷ []
 
-continued-right :
-    (map (λ r. lastState net 6 (r .1) (r .0)) continued ≡ map (λ r. r .2) continued)
-    × (map (λ r. evaluated net 6 (r .1) (r .0)) continued ≡ map (λ r. r .3) continued)
-unfolding continued stateOfCells
-continued-right = (refl, refl)
+further-right : map (λ r. continued Full net 6 (r .1) (r .0)) further ≡ map (λ r. course Accepted (r .2) (r .3)) further
+unfolding further courseOf
+further-right = refl
 
 -- "a continuing by 1 with start high at that instant"
-start-right : stepState net true (state9 ++ (7 ∷ 7 ∷ [])) ≡ state10 ++ (7 ∷ 7 ∷ [])
-unfolding stateOfCells
+start-right : stepState Full net true (state9 ++ (7 ∷ 7 ∷ [])) ≡ state10 ++ (7 ∷ 7 ∷ [])
+unfolding courseOf
 start-right = refl
 
-words-right : wordsIn net 0 state1 ≡ 5 ∷ 1027 ∷ []
-unfolding stateOfCells
+words-right : wordsIn Full net 0 state1 ≡ 5 ∷ 1027 ∷ []
+unfolding courseOf
 words-right = refl
 
 -- Three starts ------------------------------------------------------------------------------------------------------------------------
@@ -180,12 +182,12 @@ instants =
 abbrev seen : List ℕ → List Bool → List (ℕ × ℕ × ℕ)
 seen s [] = []
 seen s (x ∷ xs) =
-    let t = stepState flips x s in
-    (nowAt t 4, nowAt t 5, flightOf t) ∷ seen t xs
+    let t = stepState Full flips x s in
+    (nowAt Full t 4, nowAt Full t 5, flightOf t) ∷ seen t xs
 
 instants-right :
-    seen (beginState flips (wordAt []) (replicate 840 0)) (map (λ r. r .0) instants) ≡ map (λ r. (r .1, r .2, r .3)) instants
-unfolding instants stateOfCells
+    seen (beginState Full flips (wordAt []) (replicate 840 0)) (map (λ r. r .0) instants) ≡ map (λ r. (r .1, r .2, r .3)) instants
+unfolding instants courseOf
 instants-right = refl
 
 -- Refusal 15 ---------------------------------------------------------------------------------------------------------------------------
@@ -255,6 +257,6 @@ bytes =
     ∷ (at 3 0, 1, 1, false)
     ∷ []
 
-bytes-right : map (λ r. sound net (set (set (replicate 1000 0) 4 (r .2)) (r .0) (r .1))) bytes ≡ map (λ r. r .3) bytes
-unfolding bytes stateOfCells
+bytes-right : map (λ r. sound Full net (set (set (replicate 1000 0) 4 (r .2)) (r .0) (r .1))) bytes ≡ map (λ r. r .3) bytes
+unfolding bytes courseOf
 bytes-right = refl

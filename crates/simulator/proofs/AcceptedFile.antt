@@ -11,12 +11,13 @@ use lib.ListN.{length, drop}
 use lib.Seq.{sets, sets-eq}
 use borrow.Author.Tests.{eqb-true, ltb-false}
 use Rattle.model.specs.declared.Cell.{Cell}
+use Rattle.model.specs.declared.Format.{Format}
 use Rattle.model.specs.declared.Checked.the-variants.{Accepted}
 use Rattle.model.specs.declared.kinds.Use.{Use}
 use Rattle.model.specs.declared.kinds.Use.the-variants.{Unknown, Unused, Value, Positive, ControlBelow, ControlAny, WordBelow, WordAny, ArrayBelow}
 use Rattle.model.specs.Circuit.{cellAt, memories, cellTable, shape, cellRow}
 use Rattle.model.specs.NetlistFile.{cellBytes, cellFrom, cellsAt, inList, inFile, blocksFor, countOf, finishOf, cellsOf, fileLengthWrong, keeps, fileCheck}
-use Rattle.model.specs.State.{stateSize, instantOf, beginState}
+use Rattle.model.specs.State.{base, stateSize, instantOf, beginState}
 use Rattle.laws.specs.Refusals.Laws.{by-bool, and-true, or-false, not-both}
 use Rattle.laws.specs.Circuit.Ordered.{Meets, Looks, kinds, Ordered}
 use Rattle.laws.specs.Circuit.Shapes.{only-kind, allLines, every-line}
@@ -25,7 +26,7 @@ use Rattle.laws.specs.NetlistFile.Passed.{net-passed, net-ordered, file-passed,
 use Rattle.laws.specs.NetlistFile.CellBytes.{from-bytes, bytes-length, cells-are, cell-of}
 use Rattle.laws.specs.State.Passes.{begin-instant as begun-instant}
 use Rattle.simulator.specs.Fits.{Stands, Sees, netOf, Fits, Runs}
-use Rattle.simulator.proofs.Cells.{net-cell}
+use Rattle.simulator.proofs.Cells.{net-cell, stands-in}
 
 -- Sizes --------------------------------------------------------------------------------------------------------------------------------
 
@@ -92,16 +93,16 @@ module _ (net : List Cell) (k : ℕ) (h : k < length net) (c : Cell) (e : keeps 
   unfolding shape cellTable
   delay-long z = let m : Meets (cellRow 34 .delay) (kinds net) (length net) k (c .delay) = rw z at (sees .0) in m .0
 
-  keeps-sees : (s : List ℕ) → length net ≤ 1024 → stateSize net ≤ length s → Sees s c
-  keeps-sees s few room =
+  keeps-sees : (F : Format) (s : List ℕ) → length net ≤ 1024 → stateSize F net ≤ length s → Sees F s c
+  keeps-sees F s few room =
       record {
         a = λ n. stands (c .a) (within _ _ (a-bounded (c .kind) n) (sees .1));
         b = stands (c .b) (within _ _ (b-bounded (c .kind)) (sees .2));
         delay = delay-long;
       }
     where
-      stands : (j : ℕ) → j < length net → Stands s j
-      stands j l = record { few = omega arith; room = omega arith }
+      stands : (j : ℕ) → j < length net → Stands F s j
+      stands j l = stands-in F s j (length net) l few (omega arith)
 
 -- A copy of the cells ------------------------------------------------------------------------------------------------------------------
 
@@ -126,27 +127,31 @@ pub file-cell : (file : List ℕ) (k : ℕ) → k < countOf file → cellAt (cel
 unfolding cellsOf
 file-cell file k h = cell-of inFile file 0 (countOf file) k h ∙ ap (λ (j : ℕ). cellFrom file (inFile j)) (zero-add k)
 
-module _ (file s : List ℕ) (r : Runs file s) where
+module _ (F : Format) (file s : List ℕ) (r : Runs F file s) where
   pub file-sized : Sized file
   file-sized = sized file (r .accepted)
 
-  pub file-room : 8 + 40 * countOf file + 512 ≤ length s
+  pub file-room : base F (countOf file) + 512 ≤ length s
   file-room = rw (count-cells file) at (r .room)
 
   pub file-sixteen : memories (cellsOf file) ≡ 16
   file-sixteen = net-passed (cellsOf file) (finishOf file) (file-passed file (r .accepted) .cells) .sixteen
 
+  -- cell k stands there
+  pub file-stands : (k : ℕ) → k < countOf file → Stands F s k
+  file-stands k h = stands-in F s k (countOf file) h (file-sized .few) (omega (arith, file-room))
+
   pub file-ordered : Ordered (cellsOf file)
   file-ordered = net-ordered (cellsOf file) (finishOf file) (file-passed file (r .accepted) .cells)
 
-  file-sees : (k : ℕ) → k < countOf file → Sees s (cellAt (cellsOf file) k)
+  file-sees : (k : ℕ) → k < countOf file → Sees F s (cellAt (cellsOf file) k)
   file-sees k l =
       let net = cellsOf file in
       let m : k < length net = rw (count-cells file) l in
       keeps-sees net k m (cellAt net k) (net-passed net (finishOf file) (file-passed file (r .accepted) .cells) .kept k m)
-      s (rw (count-cells file) (file-sized .few)) (r .room)
+      F s (rw (count-cells file) (file-sized .few)) (r .room)
 
-  pub file-fits : (cells : List ℕ) (n : ℕ) → 6144 ≤ length cells → n ≡ countOf file → netOf cells n ≡ cellsOf file → Fits cells n s
+  pub file-fits : (cells : List ℕ) (n : ℕ) → 6144 ≤ length cells → n ≡ countOf file → netOf cells n ≡ cellsOf file → Fits F cells n s
   file-fits cells n h z e =
       record {
         few = rw z (file-sized .few);
@@ -158,9 +163,9 @@ module _ (file s : List ℕ) (r : Runs file s) where
         ordered = rw e file-ordered;
       }
 
-  pub begin-instant : (net : List Cell) (words : ℕ → ℕ) (b : List ℕ) → net ≡ cellsOf file → b ≡ beginState net words s → instantOf b ≡ 0
-  begin-instant net words b e h = rw h (begun-instant net words s)
+  pub begin-instant : (net : List Cell) (words : ℕ → ℕ) (b : List ℕ) → net ≡ cellsOf file → b ≡ beginState F net words s → instantOf b ≡ 0
+  begin-instant net words b e h = rw h (begun-instant F net words s)
 
 -- a state that is as long can be run as well
-pub reruns : {file s t : List ℕ} → Runs file s → length t ≡ length s → Runs file t
+pub reruns : {F : Format} {file s t : List ℕ} → Runs F file s → length t ≡ length s → Runs F file t
 reruns r e = record { accepted = r .accepted; room = rw e (r .room) }

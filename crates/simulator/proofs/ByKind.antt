@@ -8,9 +8,10 @@ use native.Mathlib.Decide.{ℕ-discrete}
 use lib.Dec.{leb}
 use borrow.Author.Tests.{eq-eqb, ne-eqb, le-leb, lt-leb}
 use Rattle.model.specs.declared.Cell.{Cell}
+use Rattle.model.specs.declared.Format.{Format}
 use Rattle.model.specs.Word.{pick, bit, isZero, operate, elementOf}
 use Rattle.model.specs.Circuit.{cellAt, high, merges, stepOf, Shape, cellTable, shape, kConstant, kComplement, kOperator, kStart, kGround, kDelay, kOr, kWhenTrue, kWhenFalse, kMerge, kReturn, kMemory, kGated, kArray, kAddress, kRead, kUnknown}
-use Rattle.model.specs.State.{base, elementNow, nowAt, beforeAt, heldAt, lineBit, nextValue, shiftedIn, settle}
+use Rattle.model.specs.State.{elementNow, nowAt, beforeAt, heldAt, lineBit, takenIn, nextValue, settle}
 use Rattle.laws.specs.Circuit.Shapes.{delay-kind, merge-kind, return-kind, by-merge, operator-shape, apart}
 use Rattle.laws.specs.Refusals.Laws.{not-both}
 
@@ -65,81 +66,81 @@ shape-still kind h =
       apart kind 44 (h .read),
     ) refl
 
-module _ (starts : Bool) (net : List Cell) (s : List ℕ) (k : ℕ) (c : Cell) where
+module _ (F : Format) (starts : Bool) (net : List Cell) (s : List ℕ) (k : ℕ) (c : Cell) where
   -- Values -----------------------------------------------------------------------------------------------------------------------------
 
-  by-kind : (n : ℕ) → c .kind ≡ n → nextValue (shape (c .kind)) starts net s k c ≡ nextValue (shape n) starts net s k c
-  by-kind n h = ap (λ (j : ℕ). nextValue (shape j) starts net s k c) h
+  by-kind : (n : ℕ) → c .kind ≡ n → nextValue F (shape (c .kind)) starts net s k c ≡ nextValue F (shape n) starts net s k c
+  by-kind n h = ap (λ (j : ℕ). nextValue F (shape j) starts net s k c) h
 
-  pub next-constant : c .kind ≡ 1 → nextValue (shape (c .kind)) starts net s k c ≡ c .a
+  pub next-constant : c .kind ≡ 1 → nextValue F (shape (c .kind)) starts net s k c ≡ c .a
   unfolding nextValue shape
   next-constant h = by-kind 1 h
 
-  pub next-start : c .kind ≡ 32 → nextValue (shape (c .kind)) starts net s k c ≡ bit starts
+  pub next-start : c .kind ≡ 32 → nextValue F (shape (c .kind)) starts net s k c ≡ bit starts
   unfolding nextValue shape
   next-start h = by-kind 32 h
 
-  pub next-delay : c .kind ≡ 34 → nextValue (shape (c .kind)) starts net s k c ≡ lineBit s k (c .delay - 1)
+  pub next-delay : c .kind ≡ 34 → nextValue F (shape (c .kind)) starts net s k c ≡ lineBit F s k (c .delay) (c .delay - 1)
   unfolding nextValue shape
   next-delay h = by-kind 34 h
 
-  pub next-or : c .kind ≡ 35 → nextValue (shape (c .kind)) starts net s k c ≡ bit (high (nowAt s (c .a)) || high (nowAt s (c .b)))
+  pub next-or : c .kind ≡ 35 → nextValue F (shape (c .kind)) starts net s k c ≡ bit (high (nowAt F s (c .a)) || high (nowAt F s (c .b)))
   unfolding nextValue shape
   next-or h = by-kind 35 h
 
-  pub next-when-true : c .kind ≡ 36 → nextValue (shape (c .kind)) starts net s k c ≡ bit (high (nowAt s (c .a)) && not (isZero (nowAt s (c .b))))
+  pub next-when-true : c .kind ≡ 36 → nextValue F (shape (c .kind)) starts net s k c ≡ bit (high (nowAt F s (c .a)) && not (isZero (nowAt F s (c .b))))
   unfolding nextValue shape
   next-when-true h = by-kind 36 h
 
-  pub next-when-false : c .kind ≡ 37 → nextValue (shape (c .kind)) starts net s k c ≡ bit (high (nowAt s (c .a)) && isZero (nowAt s (c .b)))
+  pub next-when-false : c .kind ≡ 37 → nextValue F (shape (c .kind)) starts net s k c ≡ bit (high (nowAt F s (c .a)) && isZero (nowAt F s (c .b)))
   unfolding nextValue shape
   next-when-false h = by-kind 37 h
 
   pub next-merge : merges (c .kind) ≡ true
-      → nextValue (shape (c .kind)) starts net s k c ≡ bit (stepOf (c .kind) (heldAt s k) (high (nowAt s (c .a))) (high (nowAt s (c .b))) .out)
+      → nextValue F (shape (c .kind)) starts net s k c ≡ bit (stepOf (c .kind) (heldAt F s k) (high (nowAt F s (c .a))) (high (nowAt F s (c .b))) .out)
   unfolding nextValue shape stepOf
   next-merge h =
-      let out : ℕ → ℕ = λ n. bit (stepOf n (heldAt s k) (high (nowAt s (c .a))) (high (nowAt s (c .b))) .out) in
+      let out : ℕ → ℕ = λ n. bit (stepOf n (heldAt F s k) (high (nowAt F s (c .a))) (high (nowAt F s (c .b))) .out) in
       by-merge (c .kind) h (λ e. by-kind 38 e ∙ sym (ap out e)) (λ e. by-kind 39 e ∙ sym (ap out e))
 
   -- a memory whose clock has fallen, and one whose clock has not
-  pub next-fallen : c .kind ≡ 40 → (high (beforeAt s (c .a)) && not (high (nowAt s (c .a)))) ≡ true
-      → nextValue (shape (c .kind)) starts net s k c ≡ beforeAt s (c .b)
+  pub next-fallen : c .kind ≡ 40 → (high (beforeAt F s (c .a)) && not (high (nowAt F s (c .a)))) ≡ true
+      → nextValue F (shape (c .kind)) starts net s k c ≡ beforeAt F s (c .b)
   unfolding nextValue shape
-  next-fallen h e = by-kind 40 h ∙ ap (λ (b : Bool). pick b (beforeAt s (c .b)) (beforeAt s k)) e
+  next-fallen h e = by-kind 40 h ∙ ap (λ (b : Bool). pick b (beforeAt F s (c .b)) (beforeAt F s k)) e
 
-  pub next-kept : c .kind ≡ 40 → (high (beforeAt s (c .a)) && not (high (nowAt s (c .a)))) ≡ false
-      → nextValue (shape (c .kind)) starts net s k c ≡ beforeAt s k
+  pub next-kept : c .kind ≡ 40 → (high (beforeAt F s (c .a)) && not (high (nowAt F s (c .a)))) ≡ false
+      → nextValue F (shape (c .kind)) starts net s k c ≡ beforeAt F s k
   unfolding nextValue shape
-  next-kept h e = by-kind 40 h ∙ ap (λ (b : Bool). pick b (beforeAt s (c .b)) (beforeAt s k)) e
+  next-kept h e = by-kind 40 h ∙ ap (λ (b : Bool). pick b (beforeAt F s (c .b)) (beforeAt F s k)) e
 
-  pub next-gate-open : c .kind ≡ 41 → nowAt s (c .a) ≡ 1 → nextValue (shape (c .kind)) starts net s k c ≡ nowAt s (c .b)
+  pub next-gate-open : c .kind ≡ 41 → nowAt F s (c .a) ≡ 1 → nextValue F (shape (c .kind)) starts net s k c ≡ nowAt F s (c .b)
   unfolding nextValue shape
-  next-gate-open h e = by-kind 41 h ∙ ap (λ (b : Bool). pick b (nowAt s (c .b)) 0) (eq-eqb _ _ e)
+  next-gate-open h e = by-kind 41 h ∙ ap (λ (b : Bool). pick b (nowAt F s (c .b)) 0) (eq-eqb _ _ e)
 
-  pub next-gate-shut : c .kind ≡ 41 → (nowAt s (c .a) ≡ 1 → ⊥) → nextValue (shape (c .kind)) starts net s k c ≡ 0
+  pub next-gate-shut : c .kind ≡ 41 → (nowAt F s (c .a) ≡ 1 → ⊥) → nextValue F (shape (c .kind)) starts net s k c ≡ 0
   unfolding nextValue shape
-  next-gate-shut h e = by-kind 41 h ∙ ap (λ (b : Bool). pick b (nowAt s (c .b)) 0) (ne-eqb _ _ e)
+  next-gate-shut h e = by-kind 41 h ∙ ap (λ (b : Bool). pick b (nowAt F s (c .b)) 0) (ne-eqb _ _ e)
 
-  pub next-operator : 3 ≤ c .kind → c .kind ≤ 9 → nextValue (shape (c .kind)) starts net s k c ≡ operate (c .kind) (nowAt s (c .a)) (nowAt s (c .b))
+  pub next-operator : 3 ≤ c .kind → c .kind ≤ 9 → nextValue F (shape (c .kind)) starts net s k c ≡ operate (c .kind) (nowAt F s (c .a)) (nowAt F s (c .b))
   unfolding nextValue shape operate
   next-operator h g = go (ℕ-discrete (c .kind) 3)
     where
-      go : Dec (c .kind ≡ 3) → nextValue (shape (c .kind)) starts net s k c ≡ operate (c .kind) (nowAt s (c .a)) (nowAt s (c .b))
-      go (yes e) = by-kind 3 e ∙ ap (λ (n : ℕ). operate n (nowAt s (c .a)) (nowAt s (c .b))) (sym e)
-      go (no e) = ap (λ (sh : Shape). nextValue sh starts net s k c) (operator-shape (c .kind) (omega (arith, e)) g)
+      go : Dec (c .kind ≡ 3) → nextValue F (shape (c .kind)) starts net s k c ≡ operate (c .kind) (nowAt F s (c .a)) (nowAt F s (c .b))
+      go (yes e) = by-kind 3 e ∙ ap (λ (n : ℕ). operate n (nowAt F s (c .a)) (nowAt F s (c .b))) (sym e)
+      go (no e) = ap (λ (sh : Shape). nextValue F sh starts net s k c) (operator-shape (c .kind) (omega (arith, e)) g)
 
-  pub next-read : c .kind ≡ 44 → nextValue (shape (c .kind)) starts net s k c ≡ elementNow net s (elementOf (cellAt net (c .a) .delay) (nowAt s (c .b)))
+  pub next-read : c .kind ≡ 44 → nextValue F (shape (c .kind)) starts net s k c ≡ elementNow F net s (elementOf (cellAt net (c .a) .delay) (nowAt F s (c .b)))
   unfolding nextValue shape
   next-read h = by-kind 44 h
 
-  pub next-still : Still (c .kind) → nextValue (shape (c .kind)) starts net s k c ≡ 0
+  pub next-still : Still (c .kind) → nextValue F (shape (c .kind)) starts net s k c ≡ 0
   unfolding nextValue shows-none
   next-still h =
-      ap (λ (sh : Shape). nextValue sh starts net s k c) (shape-still (c .kind) h)
+      ap (λ (sh : Shape). nextValue F sh starts net s k c) (shape-still (c .kind) h)
       ∙ none (leb 33 (c .kind) && leb (c .kind) 33) (leb 42 (c .kind) && leb (c .kind) 42) (leb 43 (c .kind) && leb (c .kind) 43)
     where
-      none : (p q r : Bool) → nextValue (shows-none p q r) starts net s k c ≡ 0
+      none : (p q r : Bool) → nextValue F (shows-none p q r) starts net s k c ≡ 0
       none true q r = refl
       none false true r = refl
       none false false true = refl
@@ -147,16 +148,16 @@ module _ (starts : Bool) (net : List Cell) (s : List ℕ) (k : ℕ) (c : Cell) w
 
 -- Settling -----------------------------------------------------------------------------------------------------------------------------
 
-module _ (s : List ℕ) (k : ℕ) (c : Cell) where
-  pub settle-delay : c .kind ≡ 34 → settle (shape (c .kind)) s k c ≡ shiftedIn 32 s (base k + 8) (bit (high (nowAt s (c .a))))
+module _ (F : Format) (s : List ℕ) (k : ℕ) (c : Cell) where
+  pub settle-delay : c .kind ≡ 34 → settle F (shape (c .kind)) s k c ≡ takenIn F s k (c .delay) (high (nowAt F s (c .a)))
   unfolding settle shape
-  settle-delay h = ap (λ (j : ℕ). settle (shape j) s k c) h
+  settle-delay h = ap (λ (j : ℕ). settle F (shape j) s k c) h
 
-  pub settle-other : (c .kind ≡ 34 → ⊥) → merges (c .kind) ≡ false → settle (shape (c .kind)) s k c ≡ s
+  pub settle-other : (c .kind ≡ 34 → ⊥) → merges (c .kind) ≡ false → settle F (shape (c .kind)) s k c ≡ s
   unfolding settle merges
   settle-other h g = go (shape (c .kind)) refl
     where
-      go : (sh : Shape) → shape (c .kind) ≡ sh → settle sh s k c ≡ s
+      go : (sh : Shape) → shape (c .kind) ≡ sh → settle F sh s k c ≡ s
       go kConstant e = refl
       go kComplement e = refl
       go kOperator e = refl

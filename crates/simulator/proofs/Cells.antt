@@ -2,7 +2,7 @@
 use mathlib.Core.Bool.{Bool}
 use mathlib.Core.List.{List, _∷_}
 use mathlib.Core.Path.{_≡_, sym, _∙_, ap}
-use Prim.Native.Nat.{ℕ, _+_, _*_, _<_}
+use Prim.Native.Nat.{ℕ, _+_, _*_, _<_, _≤_}
 use native.Mathlib.Omega.{arith}
 use native.Mathlib.Numerals.{add-one}
 use native.Mathlib.Nat.{zero-add}
@@ -10,12 +10,15 @@ use borrow.Author.Tests.{eqb-true}
 use lib.ListN.{length, drop}
 use lib.Seq.{drop-cons}
 use Rattle.model.specs.declared.Cell.{Cell}
+use Rattle.model.specs.declared.Format.{Format}
+use Rattle.model.specs.declared.Format.the-variants.{Full, Compact}
 use Rattle.model.specs.Circuit.{noCell, cellAt, arrayAt, cellTable, shape, cellRow}
 use Rattle.model.specs.NetlistFile.{cellFrom, inList}
-use Rattle.model.specs.State.{nextValue, value}
+use Rattle.model.specs.State.{cellSize, base, nextValue, value}
 use Rattle.laws.specs.Circuit.Ordered.{In, Looks, array, kinds}
 use Rattle.laws.specs.NetlistFile.Passed.{length-cells}
 use Rattle.laws.specs.NetlistFile.CellBytes.{cell-of}
+use Rattle.laws.specs.State.Lines.{least, below}
 use Rattle.simulator.specs.Fits.{Stands, Sees, netOf, Fits, Holds}
 
 -- a list of cells from cell k on
@@ -26,45 +29,55 @@ module _ (cells : List ℕ) (n k : ℕ) (h : k < n) where
   pub net-cell : cellAt (netOf cells n) k ≡ cellFrom cells (6 * k)
   net-cell = cell-of inList cells 0 n k h ∙ ap (λ (j : ℕ). cellFrom cells (6 * j)) (zero-add k)
 
-  pub net-value : (starts : Bool) (s : List ℕ)
-      → value (netOf cells n) starts s k ≡ nextValue (shape (cellFrom cells (6 * k) .kind)) starts (netOf cells n) s k (cellFrom cells (6 * k))
-  net-value starts s = ap (λ (c : Cell). nextValue (shape (c .kind)) starts (netOf cells n) s k c) net-cell
+  pub net-value : (F : Format) (starts : Bool) (s : List ℕ)
+      → value F (netOf cells n) starts s k ≡ nextValue F (shape (cellFrom cells (6 * k) .kind)) starts (netOf cells n) s k (cellFrom cells (6 * k))
+  net-value F starts s = ap (λ (c : Cell). nextValue F (shape (c .kind)) starts (netOf cells n) s k c) net-cell
 
 pub net-length : (cells : List ℕ) (n : ℕ) → length (netOf cells n) ≡ n
 net-length cells n = length-cells inList cells 0 n
 
+-- where a cell can begin
+pub place-low : (F : Format) (k : ℕ) → k ≤ 1024 → cellSize F * k ≤ 40960
+place-low Full k h = omega arith
+place-low Compact k h = omega arith
+
+-- cell k of n stands in a state that has room for them
+pub stands-in : (F : Format) (s : List ℕ) (k n : ℕ) → k < n → n ≤ 1024 → base F n ≤ length s → Stands F s k
+stands-in F s k n h few room =
+    record { few = omega arith; front = omega (arith, below F k n h, least F); room = omega (arith, below F k n h) }
+
+-- and in one that is as long
+restands : {F : Format} {s t : List ℕ} {k : ℕ} → length t ≡ length s → Stands F s k → Stands F t k
+restands e z = record { few = z .few; front = rw e (z .front); room = rw e (z .room) }
+
 -- the cells fit a state that is as long
-pub refits : {cells : List ℕ} {m n : ℕ} {s t : List ℕ} → Fits cells n s → n ≡ m → length t ≡ length s → Fits cells m t
-refits {cells} f l e =
+pub refits : {F : Format} {cells : List ℕ} {m n : ℕ} {s t : List ℕ} → Fits F cells n s → n ≡ m → length t ≡ length s → Fits F cells m t
+refits f l e =
     record {
       few = omega (arith, f .few);
       list = omega (arith, f .list);
-      room = omega (arith, f .room);
+      room = rw (← l, e) (f .room);
       sees = λ k h.
           let z = f .sees k (omega arith) in
-          record {
-            a = λ i. record { few = z .a i .few; room = rw e (z .a i .room) };
-            b = record { few = z .b .few; room = rw e (z .b .room) };
-            delay = z .delay;
-          };
+          record { a = λ i. restands e (z .a i); b = restands e (z .b); delay = z .delay };
       ordered = rw l at (f .ordered);
     }
 
 -- cell k and the cells that it looks at stand there
-pub fits-at : {cells : List ℕ} {n : ℕ} {s : List ℕ} → Fits cells n s → (t : List ℕ) → length t ≡ length s → (k : ℕ) → k < n
-    → (c : Cell) → c ≡ cellFrom cells (6 * k) → Stands t k × Sees t c
-fits-at {cells} {n} f t e k h c z =
-    let g : Fits cells n t = refits f (omega arith) e in
-    (record { few = omega (arith, f .few); room = omega (arith, g .room) }, rw z (g .sees k h))
+pub fits-at : {F : Format} {cells : List ℕ} {n : ℕ} {s : List ℕ} → Fits F cells n s → (t : List ℕ) → length t ≡ length s → (k : ℕ) → k < n
+    → (c : Cell) → c ≡ cellFrom cells (6 * k) → Stands F t k × Sees F t c
+fits-at {F} {cells} {n} f t e k h c z =
+    let g : Fits F cells n t = refits f (omega arith) e in
+    (stands-in F t k n h (f .few) (omega (arith, g .room)), rw z (g .sees k h))
 
-pub holds : {cells : List ℕ} {n : ℕ} {s : List ℕ} → Fits cells n s → (t : List ℕ) → length t ≡ length s → (k : ℕ) → k < n
-    → (c : Cell) → c ≡ cellFrom cells (6 * k) → Holds cells n t k c
+pub holds : {F : Format} {cells : List ℕ} {n : ℕ} {s : List ℕ} → Fits F cells n s → (t : List ℕ) → length t ≡ length s → (k : ℕ) → k < n
+    → (c : Cell) → c ≡ cellFrom cells (6 * k) → Holds F cells n t k c
 holds f t e k h c z =
     let at = fits-at f t e k h c z in
     record { fits = refits f (omega arith) e; below = h; here = z; stands = at .0; sees = at .1 }
 
 -- what cell k asks
-module _ {cells : List ℕ} {n : ℕ} {s : List ℕ} {k : ℕ} {c : Cell} (p : Holds cells n s k c) where
+module _ {F : Format} {cells : List ℕ} {n : ℕ} {s : List ℕ} {k : ℕ} {c : Cell} (p : Holds F cells n s k c) where
   pub holds-cell : cellAt (netOf cells n) k ≡ c
   holds-cell = net-cell cells n k (p .below) ∙ sym (p .here)
 
@@ -83,7 +96,7 @@ module _ {cells : List ℕ} {n : ℕ} {s : List ℕ} {k : ℕ} {c : Cell} (p : H
       (omega (arith, l, long), o .stands (c .a) l (eqb-true _ _ (m .1)) .0)
 
   -- behind an array stands its address, which names a cell of the state
-  pub array-address : c .kind ≡ 42 → (c .delay < 4) × (k + 1 < n) × Stands s (cellFrom cells (6 * (k + 1)) .a)
+  pub array-address : c .kind ≡ 42 → (c .delay < 4) × (k + 1 < n) × Stands F s (cellFrom cells (6 * (k + 1)) .a)
   array-address z =
       let net = netOf cells n in
       let o = p .fits .ordered in

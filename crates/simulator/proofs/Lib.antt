@@ -1,7 +1,9 @@
 pub mod Cells
 pub mod Passes
-pub mod InFlight
 pub mod Counting
+pub mod Crowding
+pub mod InFlight
+pub mod Stepping
 pub mod ByKind
 pub mod Arrays
 pub mod Memories

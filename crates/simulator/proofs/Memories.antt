@@ -10,6 +10,7 @@ use lib.ListN.{length, set, length-set, take, drop, take-append-drop, drop-of-le
 use lib.Seq.{sets, sets-eq, take-suc}
 use borrow.Author.Tests.{eq-eqb, ne-eqb}
 use Rattle.model.specs.declared.Cell.{Cell}
+use Rattle.model.specs.declared.Format.{Format}
 use Rattle.model.specs.Word.{pick, bit}
 use Rattle.model.specs.Circuit.{memoryWords, cellAt, noCell, memories, startWord, shape}
 use Rattle.model.specs.State.{nowAt, nextValue, firstValue, wordsIn}
@@ -36,85 +37,85 @@ module _ (net : List Cell) (k : ℕ) (h : k < length net) where
   below-lt e =
       omega (arith, ap memories (take-append-drop k net), memories-append (take k net) (drop k net), above-memory e)
 
-  words-memory : (s : List ℕ) → cellAt net k .kind ≡ 40 → wordsIn (drop k net) k s ≡ nowAt s k ∷ wordsIn (drop (k + 1) net) (k + 1) s
+  words-memory : (F : Format) (s : List ℕ) → cellAt net k .kind ≡ 40 → wordsIn F (drop k net) k s ≡ nowAt F s k ∷ wordsIn F (drop (k + 1) net) (k + 1) s
   unfolding memoryWords
-  words-memory s e =
-      ap (λ (cs : List Cell). wordsIn cs k s) (cells-from net k h)
-      ∙ ap (λ (b : Bool). pick b (nowAt s k ∷ wordsIn (drop (k + 1) net) (k + 1) s) (wordsIn (drop (k + 1) net) (k + 1) s)) (eq-eqb _ _ e)
+  words-memory F s e =
+      ap (λ (cs : List Cell). wordsIn F cs k s) (cells-from net k h)
+      ∙ ap (λ (b : Bool). pick b (nowAt F s k ∷ wordsIn F (drop (k + 1) net) (k + 1) s) (wordsIn F (drop (k + 1) net) (k + 1) s)) (eq-eqb _ _ e)
 
-  words-other : (s : List ℕ) → (cellAt net k .kind ≡ 40 → ⊥) → wordsIn (drop k net) k s ≡ wordsIn (drop (k + 1) net) (k + 1) s
+  words-other : (F : Format) (s : List ℕ) → (cellAt net k .kind ≡ 40 → ⊥) → wordsIn F (drop k net) k s ≡ wordsIn F (drop (k + 1) net) (k + 1) s
   unfolding memoryWords
-  words-other s e =
-      ap (λ (cs : List Cell). wordsIn cs k s) (cells-from net k h)
-      ∙ ap (λ (b : Bool). pick b (nowAt s k ∷ wordsIn (drop (k + 1) net) (k + 1) s) (wordsIn (drop (k + 1) net) (k + 1) s)) (ne-eqb _ _ e)
+  words-other F s e =
+      ap (λ (cs : List Cell). wordsIn F cs k s) (cells-from net k h)
+      ∙ ap (λ (b : Bool). pick b (nowAt F s k ∷ wordsIn F (drop (k + 1) net) (k + 1) s) (wordsIn F (drop (k + 1) net) (k + 1) s)) (ne-eqb _ _ e)
 
 pub below-le : (net : List Cell) (k : ℕ) → memories (take k net) ≤ memories net
 below-le net k = omega (arith, ap memories (take-append-drop k net), memories-append (take k net) (drop k net))
 
 -- Collecting the words: j are in place, those of the memories from cell k on are to come -------------------------------------------------
 
-pub record Collects (net : List Cell) (s words : List ℕ) (j k : ℕ) : Type 0 where
+pub record Collects (F : Format) (net : List Cell) (s words : List ℕ) (j k : ℕ) : Type 0 where
   pub sixteen : length words ≡ 16
   pub room : j + memories (drop k net) ≡ 16
-  pub shown : sets words j (wordsIn (drop k net) k s) ≡ wordsIn net 0 s
+  pub shown : sets words j (wordsIn F (drop k net) k s) ≡ wordsIn F net 0 s
 
-length-words : (cs : List Cell) (k : ℕ) (s : List ℕ) → length (wordsIn cs k s) ≡ memories cs
+length-words : (F : Format) (cs : List Cell) (k : ℕ) (s : List ℕ) → length (wordsIn F cs k s) ≡ memories cs
 unfolding memoryWords memories bit
-length-words [] k s = refl
-length-words (c ∷ cs) k s = go (eqb (c .kind) 40) (wordsIn cs (k + 1) s) (length-words cs (k + 1) s)
+length-words F [] k s = refl
+length-words F (c ∷ cs) k s = go (eqb (c .kind) 40) (wordsIn F cs (k + 1) s) (length-words F cs (k + 1) s)
   where
-    go : (b : Bool) (ws : List ℕ) → length ws ≡ memories cs → length (pick b (nowAt s k ∷ ws) ws) ≡ bit b + memories cs
+    go : (b : Bool) (ws : List ℕ) → length ws ≡ memories cs → length (pick b (nowAt F s k ∷ ws) ws) ≡ bit b + memories cs
     go true ws e = omega arith
     go false ws e = omega arith
 
-pub collects-first : (net : List Cell) (s words : List ℕ) → memories net ≡ 16 → length words ≡ 16 → Collects net s words 0 0
-collects-first net s words m l =
+pub collects-first : (F : Format) (net : List Cell) (s words : List ℕ) → memories net ≡ 16 → length words ≡ 16 → Collects F net s words 0 0
+collects-first F net s words m l =
     record {
       sixteen = l;
       room = omega arith;
       shown =
-          sets-eq (wordsIn net 0 s) words 0 (omega (arith, length-words net 0 s))
-          ∙ ap (λ (r : List ℕ). wordsIn net 0 s ++ r) (drop-of-length-le words {i = 0 + length (wordsIn net 0 s)} (omega (arith, length-words net 0 s)))
-          ∙ append-nil (wordsIn net 0 s);
+          sets-eq (wordsIn F net 0 s) words 0 (omega (arith, length-words F net 0 s))
+          ∙ ap (λ (r : List ℕ). wordsIn F net 0 s ++ r) (drop-of-length-le words {i = 0 + length (wordsIn F net 0 s)} (omega (arith, length-words F net 0 s)))
+          ∙ append-nil (wordsIn F net 0 s);
     }
 
-module _ (net : List Cell) (s words : List ℕ) (j k : ℕ) (h : k < length net) (c : Cell) (e : cellAt net k ≡ c) (w : Collects net s words j k) where
+module _ (F : Format) (net : List Cell) (s words : List ℕ) (j k : ℕ) (h : k < length net) (c : Cell) (e : cellAt net k ≡ c) (w : Collects F net s words j k) where
   kind-is : c .kind ≡ 40 → cellAt net k .kind ≡ 40
   kind-is z = ap (λ (x : Cell). x .kind) e ∙ z
 
   pub collects-room : c .kind ≡ 40 → j < 16
   collects-room z = omega (arith, w .room, above-memory net k h (kind-is z))
 
-  pub collects-memory : c .kind ≡ 40 → Collects net s (set words j (nowAt s k)) (j + 1) (k + 1)
+  pub collects-memory : c .kind ≡ 40 → Collects F net s (set words j (nowAt F s k)) (j + 1) (k + 1)
   collects-memory z =
       record {
         sixteen = simp length-set (w .sixteen);
         room = omega (arith, w .room, above-memory net k h (kind-is z));
-        shown = rw (add-one j) (ap (sets words j) (sym (words-memory net k h s (kind-is z))) ∙ w .shown);
+        shown = rw (add-one j) (ap (sets words j) (sym (words-memory net k h F s (kind-is z))) ∙ w .shown);
       }
 
-  pub collects-other : (c .kind ≡ 40 → ⊥) → Collects net s words j (k + 1)
+  pub collects-other : (c .kind ≡ 40 → ⊥) → Collects F net s words j (k + 1)
   collects-other z =
       let y : cellAt net k .kind ≡ 40 → ⊥ = λ x. z (ap (λ (d : Cell). d .kind) (sym e) ∙ x) in
       record {
         sixteen = w .sixteen;
         room = omega (arith, w .room, above-other net k h y);
-        shown = ap (sets words j) (sym (words-other net k h s y)) ∙ w .shown;
+        shown = ap (sets words j) (sym (words-other net k h F s y)) ∙ w .shown;
       }
 
-pub collects-all : (net : List Cell) (s words : List ℕ) (j k : ℕ) → length net ≤ k → Collects net s words j k → words ≡ wordsIn net 0 s
+pub collects-all : (F : Format) (net : List Cell) (s words : List ℕ) (j k : ℕ) → length net ≤ k → Collects F net s words j k → words ≡ wordsIn F net 0 s
 unfolding memoryWords
-collects-all net s words j k h c =
-    sym (ap (λ (cs : List Cell). sets words j (wordsIn cs k s)) (drop-of-length-le net {i = k} h)) ∙ c .shown
+collects-all F net s words j k h c =
+    sym (ap (λ (cs : List Cell). sets words j (wordsIn F cs k s)) (drop-of-length-le net {i = k} h)) ∙ c .shown
 
 -- Values at instant 0 ------------------------------------------------------------------------------------------------------------------
 
-module _ (net : List Cell) (w : ℕ → ℕ) (s : List ℕ) (k : ℕ) (c : Cell) (e : cellAt net k ≡ c) where
-  first-is : firstValue net w s k ≡ pick (eqb (c .kind) 40) (startWord net w k) (nextValue (shape (c .kind)) true net s k c)
-  first-is = ap (λ (x : Cell). pick (eqb (x .kind) 40) (startWord net w k) (nextValue (shape (x .kind)) true net s k x)) e
+module _ (F : Format) (net : List Cell) (w : ℕ → ℕ) (s : List ℕ) (k : ℕ) (c : Cell) (e : cellAt net k ≡ c) where
+  first-is : firstValue F net w s k ≡ pick (eqb (c .kind) 40) (startWord net w k) (nextValue F (shape (c .kind)) true net s k c)
+  first-is = ap (λ (x : Cell). pick (eqb (x .kind) 40) (startWord net w k) (nextValue F (shape (x .kind)) true net s k x)) e
 
-  pub first-memory : c .kind ≡ 40 → firstValue net w s k ≡ w (memories (take k net))
+  pub first-memory : c .kind ≡ 40 → firstValue F net w s k ≡ w (memories (take k net))
   first-memory h = first-is ∙ rw (eq-eqb _ _ h) refl
 
-  pub first-other : (c .kind ≡ 40 → ⊥) → firstValue net w s k ≡ nextValue (shape (c .kind)) true net s k c
+  pub first-other : (c .kind ≡ 40 → ⊥) → firstValue F net w s k ≡ nextValue F (shape (c .kind)) true net s k c
   first-other h = first-is ∙ rw (ne-eqb _ _ h) refl

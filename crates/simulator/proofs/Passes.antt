@@ -1,15 +1,22 @@
--- Passes over the cells, over the elements' start words and over the bytes of a line: their turns, and the passes of an instant together. Assumes nothing.
+-- Passes over the cells, over the elements' start words and over the bytes of a line: their turns, what they leave, and the passes of an instant
+-- together. Assumes nothing.
 use mathlib.Core.Bool.{Bool}
 use mathlib.Core.List.{List, _++_, append-assoc}
+use mathlib.Core.Logic.{_⊎_, inl, inr}
 use mathlib.Core.Path.{_≡_, refl, sym, _∙_, ap}
 use Prim.Native.Nat.{ℕ, zero, suc, _+_, _-_, _*_, _/_, _%_, _<_, _≤_}
 use native.Mathlib.Omega.{arith}
+use native.Mathlib.Decide.{decLt}
 use native.Mathlib.Numerals.{add-one, sub-one}
 use lib.ListN.{length, getD, set, take, drop, replicate, length-take}
 use lib.Seq.{sets, sets-eq, drop-at}
 use Rattle.model.specs.declared.Cell.{Cell}
+use Rattle.model.specs.declared.Format.{Format}
 use Rattle.model.specs.Word.{bytes16, put16, put32}
-use Rattle.model.specs.State.{instantOf, value, firstValue, upTo, aged, shown, shiftedIn, settled, counted, wordBytes, blank, evaluate, beginState, stepState}
+use Rattle.model.specs.State.{instantOf, cellSize, base, nowAt, value, firstValue, upTo, aged, shown, shiftedIn, settled, counted, wordBytes, blank, evaluate, beginState, stepState}
+use Rattle.laws.specs.State.Bytes.{get16-same, upTo-frame}
+use Rattle.laws.specs.State.Lines.{below, rising}
+use Rattle.laws.specs.State.Passes.{settled-frame}
 
 upTo-more : (f : List ℕ → ℕ → List ℕ) (n : ℕ) (s : List ℕ) → upTo f (n + 1) s ≡ f (upTo f n s) n
 unfolding upTo
@@ -56,29 +63,47 @@ module _ (words : ℕ → ℕ) (d : List ℕ) (i x n : ℕ) where
   words-done h = let e : n - x ≡ 0 = omega arith in rw e refl
 
 -- the passes of one further instant, and of instant 0
-module _ (net : List Cell) (n : ℕ) (e : length net ≡ n) (s : List ℕ) where
-  pub stepped : (starts : Bool) (t u v w : List ℕ) → t ≡ put32 s 0 (instantOf s + 1) → u ≡ upTo aged n t → v ≡ upTo (shown net (value net starts)) n u
-      → w ≡ counted net (upTo (settled net) n v) → w ≡ stepState net starts s
+module _ (F : Format) (net : List Cell) (n : ℕ) (e : length net ≡ n) (s : List ℕ) where
+  pub stepped : (starts : Bool) (t u v w : List ℕ) → t ≡ put32 s 0 (instantOf s + 1) → u ≡ upTo (aged F) n t → v ≡ upTo (shown F net (value F net starts)) n u
+      → w ≡ counted F net (upTo (settled F net) n v) → w ≡ stepState F net starts s
   unfolding stepState evaluate
   stepped starts t u v w a b c d =
-      d ∙ ap (λ (x : List ℕ). counted net (upTo (settled net) n x)) (c ∙ ap (upTo (shown net (value net starts)) n) (b ∙ ap (upTo aged n) a)) ∙ rw e refl
+      d ∙ ap (λ (x : List ℕ). counted F net (upTo (settled F net) n x)) (c ∙ ap (upTo (shown F net (value F net starts)) n) (b ∙ ap (upTo (aged F) n) a)) ∙ rw e refl
 
   -- the elements' start words, then zeros before them
-  pub blank-is : (words : ℕ → ℕ) (r t : List ℕ) → 8 + 40 * n + 512 ≤ length s → r ≡ sets s (8 + 40 * n) (wordBytes words 16 256)
-      → t ≡ replicate (8 + 40 * n) 0 ++ drop (8 + 40 * n) r → t ≡ blank net words s
+  pub blank-is : (words : ℕ → ℕ) (r t : List ℕ) → base F n + 512 ≤ length s → r ≡ sets s (base F n) (wordBytes words 16 256)
+      → t ≡ replicate (base F n) 0 ++ drop (base F n) r → t ≡ blank F net words s
   blank-is words r t l a b =
-      let m = 8 + 40 * n in
+      let m = base F n in
       let ws = wordBytes words 16 256 in
       let k : length ws ≡ 512 = length-words words 16 256 in
       let z : r ≡ (take m s ++ ws) ++ drop (m + length ws) s = a ∙ sets-eq ws s m (omega (arith, k)) in
       let y : drop m r ≡ ws ++ drop (m + length ws) s = rw (z, append-assoc (take m s) ws) (drop-at (take m s) _ m (simp length-take (omega arith))) in
       rw (e, ← k) (b ∙ ap (λ (q : List ℕ). replicate m 0 ++ q) y)
 
-  pub begun : (words : ℕ → ℕ) (t u v : List ℕ) → t ≡ blank net words s → u ≡ upTo (shown net (firstValue net words)) n t
-      → v ≡ counted net (upTo (settled net) n u) → v ≡ beginState net words s
+  pub begun : (words : ℕ → ℕ) (t u v : List ℕ) → t ≡ blank F net words s → u ≡ upTo (shown F net (firstValue F net words)) n t
+      → v ≡ counted F net (upTo (settled F net) n u) → v ≡ beginState F net words s
   unfolding beginState evaluate
   begun words t u v a b c =
-      c ∙ ap (λ (x : List ℕ). counted net (upTo (settled net) n x)) (b ∙ ap (upTo (shown net (firstValue net words)) n) a) ∙ rw e refl
+      c ∙ ap (λ (x : List ℕ). counted F net (upTo (settled F net) n x)) (b ∙ ap (upTo (shown F net (firstValue F net words)) n) a) ∙ rw e refl
+
+-- What the third pass leaves, where it has come to cell k ------------------------------------------------------------------------------
+
+module _ (F : Format) (net : List Cell) (s : List ℕ) (k : ℕ) where
+  -- the values of every cell
+  pub settled-values : (a : ℕ) → nowAt F (upTo (settled F net) k s) a ≡ nowAt F s a
+  settled-values a = get16-same s (upTo (settled F net) k s) (base F a) (low (base F a) (omega arith) (omega arith)) (low (base F a + 1) (omega arith) (omega arith))
+    where
+      low : (j : ℕ) → base F a ≤ j → j < base F a + 4 → getD (upTo (settled F net) k s) j 0 ≡ getD s j 0
+      low j h g = upTo-frame (settled F net) j k s (λ t m x. settled-frame F net t m j (go m (decLt m a)))
+        where
+          go : (m : ℕ) → Dec (m < a) → (j < base F m + 4) ⊎ (base F m + cellSize F ≤ j)
+          go m (yes x) = inr (omega (arith, below F m a x))
+          go m (no x) = inl (omega (arith, rising F a m (omega (arith, x))))
+
+  -- and every byte from cell k on
+  pub settled-later : (j : ℕ) → base F k ≤ j → getD (upTo (settled F net) k s) j 0 ≡ getD s j 0
+  settled-later j h = upTo-frame (settled F net) j k s (λ t m x. settled-frame F net t m j (inr (omega (arith, below F m k x))))
 
 -- Lines --------------------------------------------------------------------------------------------------------------------------------
 

@@ -3,19 +3,24 @@ use mathlib.Core.Bool.{Bool, true, false, not}
 use mathlib.Core.List.{List, [], _∷_, _++_}
 use mathlib.Core.Path.{_≡_, refl, sym, _∙_, ap}
 use Prim.Native.Nat.{ℕ, _+_, _<_, _≤_}
-use lib.Dec.{eqb, ltb}
+use native.Mathlib.Omega.{arith}
+use lib.Dec.{ltb}
 use lib.ListN.{length, drop}
-use borrow.Author.Tests.{lt-ltb, le-ltb, ltb-false, eqb-true}
+use borrow.Author.Tests.{lt-ltb, le-ltb, ltb-false}
 use Rattle.model.specs.declared.Refusal.{Refusal}
+use Rattle.model.specs.declared.Format.{Format}
+use Rattle.model.specs.declared.Format.the-variants.{Full}
 use Rattle.model.specs.declared.Answer.{Answer}
 use Rattle.model.specs.declared.Checked.{Checked}
 use Rattle.model.specs.declared.Checked.the-variants.{Accepted, Refused}
 use Rattle.model.specs.Refusals.{refuse, refuseIf, first}
 use Rattle.model.specs.NetlistFile.{fileCheck, cellsOf}
-use Rattle.model.specs.State.{stateSize, instantOf, flightOf, flight, cellsSound, sound}
-use Rattle.model.specs.Calls.{Returned, short, refusedAnswer, shows, running, beginChecks, continueChecks, busy, startChecks, runNetlistChecks}
-use Rattle.laws.specs.Refusals.Laws.{and-true, not-false, first-one, first-append, all-accept, refuse-unless}
-use Rattle.simulator.specs.Fits.{Runs, Numbered}
+use Rattle.model.specs.State.{Course, stateSize, instantOf, flightOf, sound}
+use Rattle.model.specs.Calls.{Returned, short, refusedAnswer, shows, running, goingOn, beginChecks, continueChecks, busy, startChecks, runNetlistChecks}
+use Rattle.laws.specs.Refusals.Laws.{not-false, first-one, first-append, all-accept, refuse-unless}
+use Rattle.simulator.specs.Fits.{Runs, Ready}
+use Rattle.simulator.specs.Levels.{told}
+use Rattle.simulator.proofs.Soundness.{sound-ready}
 
 -- Which is found first -----------------------------------------------------------------------------------------------------------------
 
@@ -40,30 +45,30 @@ module _ (words : List ℕ) (room : Checked) where
   pub long-words : 544 ≤ length words → room ≡ first (short (length words) 544 ∷ room ∷ [])
   long-words l = rw (le-ltb (length words) 544 l) (first-one room)
 
-module _ (file : List ℕ) (n : ℕ) (lent : List ℕ) (e : fileCheck file ≡ Accepted) where
-  pub continue-room : (r : Refusal) → short (length lent) (stateSize (cellsOf file)) ≡ Refused r → Refused r ≡ first (continueChecks file n lent)
+module _ (F : Format) (file : List ℕ) (n : ℕ) (lent : List ℕ) (e : fileCheck file ≡ Accepted) where
+  pub continue-room : (r : Refusal) → short (length lent) (stateSize F (cellsOf file)) ≡ Refused r → Refused r ≡ first (continueChecks F file n lent)
   continue-room r l = rw (e, l) refl
 
-  module _ (l : short (length lent) (stateSize (cellsOf file)) ≡ Accepted) where
-    pub continue-unsound : sound (cellsOf file) lent ≡ false → refuse 15 0 ≡ first (continueChecks file n lent)
+  module _ (l : short (length lent) (stateSize F (cellsOf file)) ≡ Accepted) where
+    pub continue-unsound : sound F (cellsOf file) lent ≡ false → refuse 15 0 ≡ first (continueChecks F file n lent)
     continue-unsound s = rw (e, l, s) refl
 
-    pub continue-late : sound (cellsOf file) lent ≡ true → 1000000 < instantOf lent + n → refuse 16 0 ≡ first (continueChecks file n lent)
+    pub continue-late : sound F (cellsOf file) lent ≡ true → 1000000 < instantOf lent + n → refuse 16 0 ≡ first (continueChecks F file n lent)
     continue-late s t = rw (e, l, s, lt-ltb 1000000 (instantOf lent + n) t) refl
 
-    pub continue-right : sound (cellsOf file) lent ≡ true → instantOf lent + n ≤ 1000000 → Accepted ≡ first (continueChecks file n lent)
+    pub continue-right : sound F (cellsOf file) lent ≡ true → instantOf lent + n ≤ 1000000 → Accepted ≡ first (continueChecks F file n lent)
     continue-right s t = rw (e, l, s, le-ltb 1000000 (instantOf lent + n) t) refl
 
 -- a start is checked as a continuing by 1, and then for its number in flight
 abbrev pub numberCheck : List ℕ → List Checked
 numberCheck lent = refuseIf (busy lent) 23 0 ∷ []
 
-module _ (file lent : List ℕ) (e : first (continueChecks file 1 lent) ≡ Accepted) where
-  pub start-flying : 0 < flightOf lent → refuse 23 0 ≡ first (startChecks file lent)
-  start-flying h = sym (first-append (continueChecks file 1 lent) (numberCheck lent) e ∙ ap (λ (b : Bool). first (refuseIf b 23 0 ∷ [])) (lt-ltb 0 (flightOf lent) h))
+module _ (F : Format) (file lent : List ℕ) (e : first (continueChecks F file 1 lent) ≡ Accepted) where
+  pub start-flying : 0 < flightOf lent → refuse 23 0 ≡ first (startChecks F file lent)
+  start-flying h = sym (first-append (continueChecks F file 1 lent) (numberCheck lent) e ∙ ap (λ (b : Bool). first (refuseIf b 23 0 ∷ [])) (lt-ltb 0 (flightOf lent) h))
 
-  pub start-right : flightOf lent ≤ 0 → Accepted ≡ first (startChecks file lent)
-  start-right h = sym (first-append (continueChecks file 1 lent) (numberCheck lent) e ∙ ap (λ (b : Bool). first (refuseIf b 23 0 ∷ [])) (le-ltb 0 (flightOf lent) h))
+  pub start-right : flightOf lent ≤ 0 → Accepted ≡ first (startChecks F file lent)
+  start-right h = sym (first-append (continueChecks F file 1 lent) (numberCheck lent) e ∙ ap (λ (b : Bool). first (refuseIf b 23 0 ∷ [])) (le-ltb 0 (flightOf lent) h))
 
 module _ (file words : List ℕ) (n : ℕ) (lent : List ℕ) (e : fileCheck file ≡ Accepted) where
   pub run-budget : 1000000 < n → refuse 13 0 ≡ first (runNetlistChecks file words n lent)
@@ -83,31 +88,35 @@ accepted-front [] ds e = refl
 accepted-front (Accepted ∷ cs) ds e = accepted-front cs ds e
 accepted-front (Refused r ∷ cs) ds e = e
 
-pub begin-accepted : (file words lent : List ℕ) → first (beginChecks file words lent) ≡ Accepted → Runs file lent × (544 ≤ length words)
-begin-accepted file words lent e =
-    let a = all-accept (beginChecks file words lent) e in
-    (record { accepted = a 0; room = long-enough (length lent) (stateSize (cellsOf file)) (a 2) }, long-enough (length words) 544 (a 1))
+pub begin-accepted : (F : Format) (file words lent : List ℕ) → first (beginChecks F file words lent) ≡ Accepted → Runs F file lent × (544 ≤ length words)
+begin-accepted F file words lent e =
+    let a = all-accept (beginChecks F file words lent) e in
+    (record { accepted = a 0; room = long-enough (length lent) (stateSize F (cellsOf file)) (a 2) }, long-enough (length words) 544 (a 1))
 
-pub continue-accepted : (file : List ℕ) (n : ℕ) (lent : List ℕ) → first (continueChecks file n lent) ≡ Accepted
-    → Runs file lent × (instantOf lent + n ≤ 1000000) × Numbered (cellsOf file) lent
-unfolding sound
-continue-accepted file n lent e =
+pub continue-accepted : (F : Format) (file : List ℕ) (n : ℕ) (lent : List ℕ) → first (continueChecks F file n lent) ≡ Accepted
+    → Runs F file lent × (instantOf lent + n ≤ 1000000) × Ready F (cellsOf file) lent
+continue-accepted F file n lent e =
     let net = cellsOf file in
-    let a = all-accept (continueChecks file n lent) e in
-    let is-sound = not-false (sound net lent) (refuse-unless (not (sound net lent)) 15 0 (a 2)) in (
-      record { accepted = a 0; room = long-enough (length lent) (stateSize net) (a 1) },
+    let a = all-accept (continueChecks F file n lent) e in
+    let is-sound = not-false (sound F net lent) (refuse-unless (not (sound F net lent)) 15 0 (a 2)) in (
+      record { accepted = a 0; room = long-enough (length lent) (stateSize F net) (a 1) },
       ltb-false 1000000 (instantOf lent + n) (refuse-unless (ltb 1000000 (instantOf lent + n)) 16 0 (a 3)),
-      eqb-true _ _ (and-true (eqb (flightOf lent) (flight net lent)) (cellsSound net lent 0) is-sound .0),
+      sound-ready F net lent is-sound,
     )
 
-pub start-accepted : (file lent : List ℕ) → first (startChecks file lent) ≡ Accepted → Runs file lent × (instantOf lent + 1 ≤ 1000000) × Numbered (cellsOf file) lent
-start-accepted file lent e = continue-accepted file 1 lent (accepted-front (continueChecks file 1 lent) (numberCheck lent) e)
+pub start-accepted : (F : Format) (file lent : List ℕ) → first (startChecks F file lent) ≡ Accepted → Runs F file lent × (instantOf lent + 1 ≤ 1000000) × Ready F (cellsOf file) lent × (flightOf lent ≡ 0)
+start-accepted F file lent e =
+    let front = accepted-front (continueChecks F file 1 lent) (numberCheck lent) e in
+    let z = continue-accepted F file 1 lent front in
+    let last : first (numberCheck lent) ≡ Accepted = sym (first-append (continueChecks F file 1 lent) (numberCheck lent) front) ∙ e in
+    let none = ltb-false 0 (flightOf lent) (refuse-unless (busy lent) 23 0 (first-one (refuseIf (busy lent) 23 0) ∙ last)) in
+    (z .0, z .1, z .2, omega (arith, none))
 
 pub run-accepted : (file words : List ℕ) (n : ℕ) (lent : List ℕ) → first (runNetlistChecks file words n lent) ≡ Accepted
-    → Runs file lent × (544 ≤ length words) × (n ≤ 1000000)
+    → Runs Full file lent × (544 ≤ length words) × (n ≤ 1000000)
 run-accepted file words n lent e =
     let a = all-accept (runNetlistChecks file words n lent) e in (
-      record { accepted = a 0; room = long-enough (length lent) (stateSize (cellsOf file)) (a 3) },
+      record { accepted = a 0; room = long-enough (length lent) (stateSize Full (cellsOf file)) (a 3) },
       long-enough (length words) 544 (a 2),
       ltb-false 1000000 n (refuse-unless (ltb 1000000 n) 13 0 (a 1)),
     )
@@ -118,12 +127,26 @@ run-accepted file words n lent e =
 abbrev pub Tells : Returned Answer → Answer → List ℕ → Type 0
 Tells told a t = (a ≡ told .answer) × (t ≡ told .lent)
 
+-- of a continuing that goes as c does, behind a check
+module _ (F : Format) (check : Checked) (file : List ℕ) (c : Course) (lent : List ℕ) (a : Answer) where
+  pub going-refused : (r : Refusal) → check ≡ Refused r → a ≡ refusedAnswer r → Tells (goingOn F check file c lent) a lent
+  unfolding goingOn
+  going-refused r e p = rw e (p, refl)
+
+  pub going-done : (t : List ℕ) → check ≡ Accepted → a ≡ told F file c → t ≡ c .state → Tells (goingOn F check file c lent) a t
+  unfolding goingOn
+  going-done t e p q = rw e (p, q ∙ sym (left (c .check)))
+    where
+      left : (d : Checked) → running F d file (c .state) (c .count) (c .state) .lent ≡ c .state
+      left Accepted = unfold running in refl
+      left (Refused r) = unfold running in refl
+
 -- of a run that leaves s and counts n, behind a check
-module _ (c : Checked) (file s : List ℕ) (n : ℕ) (lent : List ℕ) (a : Answer) where
-  pub run-refused : (r : Refusal) → c ≡ Refused r → a ≡ refusedAnswer r → Tells (running c file s n lent) a lent
+module _ (F : Format) (c : Checked) (file s : List ℕ) (n : ℕ) (lent : List ℕ) (a : Answer) where
+  pub run-refused : (r : Refusal) → c ≡ Refused r → a ≡ refusedAnswer r → Tells (running F c file s n lent) a lent
   unfolding running
   run-refused r e p = rw e (p, refl)
 
-  pub run-done : (t : List ℕ) → c ≡ Accepted → a ≡ shows file s n → t ≡ s → Tells (running c file s n lent) a t
+  pub run-done : (t : List ℕ) → c ≡ Accepted → a ≡ shows F file s n → t ≡ s → Tells (running F c file s n lent) a t
   unfolding running
   run-done t e p q = rw e (p, q)

@@ -1,18 +1,24 @@
--- Turns of the loops of refusal 15. Assumes nothing.
-use mathlib.Core.Bool.{Bool, true, false, _&&_}
-use mathlib.Core.List.{List}
+-- Turns of the loops of refusal 15, and what it gives where it lets a state pass. Assumes nothing.
+use mathlib.Core.Bool.{Bool, true, false, not, _&&_, _||_}
+use mathlib.Core.List.{List, [], _∷_}
 use mathlib.Core.Path.{_≡_, refl, sym, _∙_, ap}
-use Prim.Native.Nat.{ℕ, suc, _+_, _-_, _<_, _≤_}
+use Prim.Native.Nat.{ℕ, zero, suc, _+_, _-_, _<_, _≤_}
 use native.Mathlib.Omega.{arith}
+use native.Mathlib.Nat.{add-zero}
 use native.Mathlib.Numerals.{add-one}
-use lib.Dec.{eqb}
+use lib.Dec.{eqb, leb}
 use lib.ListN.{length, getD, take, drop, drop-of-length-le}
 use lib.Seq.{drop-cons}
-use borrow.Author.Tests.{eq-eqb, ne-eqb}
+use borrow.Author.Tests.{eq-eqb, ne-eqb, eqb-true, leb-true}
 use Rattle.model.specs.declared.Cell.{Cell}
-use Rattle.model.specs.Circuit.{cellAt}
+use Rattle.model.specs.declared.Format.{Format}
+use Rattle.model.specs.declared.Format.the-variants.{Full, Compact}
+use Rattle.model.specs.Word.{pick, bit}
+use Rattle.model.specs.Circuit.{cellAt, control, merges}
 use Rattle.model.specs.NetlistFile.{allZero}
-use Rattle.model.specs.State.{cellSound, cellsSound}
+use Rattle.model.specs.State.{base, nowAt, beforeAt, flightOf, flight, leftAt, lineSound, cellSound, cellsSound, sound}
+use Rattle.laws.specs.Refusals.Laws.{and-true}
+use Rattle.simulator.specs.Fits.{Lined, Ready}
 use Rattle.simulator.proofs.Cells.{cells-from}
 
 -- of m bytes from i on
@@ -36,19 +42,71 @@ unfolding allZero
 zero-none s m e = rw e refl
 
 -- of the cells from k on
-module _ (net : List Cell) (s : List ℕ) (k : ℕ) (h : k < length net) (c : Cell) (e : cellAt net k ≡ c) where
-  sound-at : cellsSound (drop k net) s k ≡ cellSound c s k && cellsSound (drop (k + 1) net) s (k + 1)
+module _ (F : Format) (net : List Cell) (s : List ℕ) (k : ℕ) (h : k < length net) (c : Cell) (e : cellAt net k ≡ c) where
+  sound-at : cellsSound F (drop k net) s k ≡ cellSound F c s k && cellsSound F (drop (k + 1) net) s (k + 1)
   unfolding cellsSound
   sound-at =
-      ap (λ (cs : List Cell). cellsSound cs s k) (cells-from net k h)
-      ∙ ap (λ (d : Cell). cellSound d s k && cellsSound (drop (k + 1) net) s (k + 1)) e
+      ap (λ (cs : List Cell). cellsSound F cs s k) (cells-from net k h)
+      ∙ ap (λ (d : Cell). cellSound F d s k && cellsSound F (drop (k + 1) net) s (k + 1)) e
 
-  pub sound-here : cellSound c s k ≡ true → cellsSound (drop k net) s k ≡ cellsSound (drop (k + 1) net) s (k + 1)
-  sound-here z = sound-at ∙ ap (λ (b : Bool). b && cellsSound (drop (k + 1) net) s (k + 1)) z
+  pub sound-here : cellSound F c s k ≡ true → cellsSound F (drop k net) s k ≡ cellsSound F (drop (k + 1) net) s (k + 1)
+  sound-here z = sound-at ∙ ap (λ (b : Bool). b && cellsSound F (drop (k + 1) net) s (k + 1)) z
 
-  pub unsound-here : cellSound c s k ≡ false → cellsSound (drop k net) s k ≡ false
-  unsound-here z = sound-at ∙ ap (λ (b : Bool). b && cellsSound (drop (k + 1) net) s (k + 1)) z
+  pub unsound-here : cellSound F c s k ≡ false → cellsSound F (drop k net) s k ≡ false
+  unsound-here z = sound-at ∙ ap (λ (b : Bool). b && cellsSound F (drop (k + 1) net) s (k + 1)) z
 
-pub sound-none : (net : List Cell) (s : List ℕ) (k : ℕ) → length net ≤ k → cellsSound (drop k net) s k ≡ true
+pub sound-none : (F : Format) (net : List Cell) (s : List ℕ) (k : ℕ) → length net ≤ k → cellsSound F (drop k net) s k ≡ true
 unfolding cellsSound
-sound-none net s k h = ap (λ (cs : List Cell). cellsSound cs s k) (drop-of-length-le net {i = k} h)
+sound-none F net s k h = ap (λ (cs : List Cell). cellsSound F cs s k) (drop-of-length-le net {i = k} h)
+
+-- one cell, from its parts
+module _ (c : Cell) (s : List ℕ) (k : ℕ) where
+  pub full-line : (at : ℕ) (zeros line : Bool) → at ≡ base Full k → zeros ≡ allZero (take 2 (drop (at + 6) s)) → line ≡ allZero (take 32 (drop (at + 8) s))
+      → (zeros && (eqb (c .kind) 34 || line)) ≡ lineSound Full c s k
+  unfolding lineSound
+  full-line at zeros line e x y = rw (x, y, e) refl
+
+  pub compact-line : (at left most : ℕ) → at ≡ base Compact k → left ≡ leftAt Compact s k → most ≡ pick (eqb (c .kind) 34) (c .delay) 0
+      → (leb left most && eqb (getD s (at + 7) 0) 0) ≡ lineSound Compact c s k
+  unfolding lineSound
+  compact-line at left most e x y = rw (x, y, e) refl
+
+  pub sound-parts : (F : Format) (at now ago a b : ℕ) (wire line : Bool) → at ≡ base F k → wire ≡ control (c .kind) → now ≡ nowAt F s k → ago ≡ beforeAt F s k
+      → a ≡ bit (merges (c .kind)) → b ≡ bit (eqb (c .kind) 38) → line ≡ lineSound F c s k
+      → ((not wire || (leb now 1 && leb ago 1)) && ((leb (getD s (at + 4) 0) a && leb (getD s (at + 5) 0) b) && line)) ≡ cellSound F c s k
+  unfolding cellSound
+  sound-parts F at now ago a b wire line e x y z u v w = rw (x, y, z, u, v, w, e) refl
+
+-- What a state that passes is ------------------------------------------------------------------------------------------------------------
+
+cell-sound-at : (F : Format) (cs : List Cell) (s : List ℕ) (k i : ℕ) → i < length cs → cellsSound F cs s k ≡ true → cellSound F (cellAt cs i) s (k + i) ≡ true
+unfolding cellsSound
+cell-sound-at F [] s k i h e = absurd (omega arith)
+cell-sound-at F (c ∷ cs) s k zero h e = rw add-zero (and-true (cellSound F c s k) _ e .0)
+cell-sound-at F (c ∷ cs) s k (suc i) h e =
+    let q : k + 1 + i ≡ k + suc i = omega arith in
+    rw q at (cell-sound-at F cs s (k + 1) i (omega arith) (and-true (cellSound F c s k) _ e .1))
+
+line-sound-at : (F : Format) (c : Cell) (s : List ℕ) (k : ℕ) → cellSound F c s k ≡ true → lineSound F c s k ≡ true
+unfolding cellSound
+line-sound-at F c s k e =
+    let held = leb (getD s (base F k + 4) 0) (bit (merges (c .kind))) && leb (getD s (base F k + 5) 0) (bit (eqb (c .kind) 38)) in
+    and-true held (lineSound F c s k) (and-true (not (control (c .kind)) || (leb (nowAt F s k) 1 && leb (beforeAt F s k) 1)) _ e .1) .1
+
+left-sound : (c : Cell) (s : List ℕ) (k : ℕ) → c .kind ≡ 34 → lineSound Compact c s k ≡ true → leftAt Compact s k ≤ c .delay
+unfolding lineSound
+left-sound c s k q e =
+    leb-true _ _ (rw (eq-eqb _ _ q) at (and-true (leb (leftAt Compact s k) (pick (eqb (c .kind) 34) (c .delay) 0)) (eqb (getD s (base Compact k + 7) 0) 0) e .0))
+
+lined : (F : Format) (net : List Cell) (s : List ℕ) → cellsSound F net s 0 ≡ true → Lined F net s
+unfolding Lined
+lined Full net s e = tt
+lined Compact net s e = λ k l q.
+    let z : 0 + k ≡ k = omega arith in
+    left-sound (cellAt net k) s k q (line-sound-at Compact (cellAt net k) s k (rw z at (cell-sound-at Compact net s 0 k l e)))
+
+pub sound-ready : (F : Format) (net : List Cell) (s : List ℕ) → sound F net s ≡ true → Ready F net s
+unfolding sound
+sound-ready F net s e =
+    let z = and-true (eqb (flightOf s) (flight F net s)) (cellsSound F net s 0) e in
+    record { number = eqb-true _ _ (z .0); lines = lined F net s (z .1) }

@@ -1,21 +1,26 @@
--- Continuing with a start level: `lastState` and `evaluated` of model/State, where each instant has a start pulse or each has none.
+-- Continuing with a start level: `continued` of model/State, where each instant has a start pulse or each has none.
 -- A continuing is the case of none, a start the case of one instant with a pulse.
 -- Assumes nothing: definitions.
 use mathlib.Core.Bool.{Bool, true, false}
 use mathlib.Core.List.{List}
-use Prim.Native.Nat.{ℕ, zero, suc, _+_}
+use Prim.Native.Nat.{ℕ, zero, suc}
 use Rattle.model.specs.declared.Cell.{Cell}
+use Rattle.model.specs.declared.Format.{Format}
+use Rattle.model.specs.declared.Answer.{Answer}
+use Rattle.model.specs.declared.Checked.the-variants.{Accepted, Refused}
 use Rattle.model.specs.Circuit.{high}
-use Rattle.model.specs.State.{nowAt, stepState}
+use Rattle.model.specs.State.{Course, course, longer, nowAt, stepState, crowding}
+use Rattle.model.specs.Calls.{running}
 
-unfoldable pub lastWith : List Cell → Bool → ℕ → ℕ → List ℕ → List ℕ
-lastWith net starts f zero s = s
-lastWith net starts f (suc n) s =
-    let t = stepState net starts s in
-    elim (high (nowAt t f)) [ true ↦ t | false ↦ lastWith net starts f n t ]
+unfoldable pub continuedWith : Format → List Cell → Bool → ℕ → ℕ → List ℕ → Course
+continuedWith F net starts f zero s = course Accepted s 0
+continuedWith F net starts f (suc n) s =
+    let t = stepState F net starts s in
+    elim (crowding F net s t) [
+      | Accepted ↦ elim (high (nowAt F t f)) [ true ↦ course Accepted t 1 | false ↦ longer (continuedWith F net starts f n t) ]
+      | Refused r ↦ course (Refused r) s 0
+    ]
 
-unfoldable pub countWith : List Cell → Bool → ℕ → ℕ → List ℕ → ℕ
-countWith net starts f zero s = 0
-countWith net starts f (suc n) s =
-    let t = stepState net starts s in
-    elim (high (nowAt t f)) [ true ↦ 1 | false ↦ 1 + countWith net starts f n t ]
+-- what a call answers of it
+abbrev pub told : Format → List ℕ → Course → Answer
+told F file c = running F (c .check) file (c .state) (c .count) (c .state) .answer

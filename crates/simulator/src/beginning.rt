@@ -11,9 +11,9 @@ ghost use Rattle.model.specs.State.{firstValue, upTo, shown, wordBytes, beginSt
 ghost use Rattle.model.specs.Calls.{wordAt};
 ghost use Rattle.simulator.specs.Fits.{netOf, Fits, Holds};
 use crate::instant;
+use crate::wires;
 use model::Cell;
-use model::sizes::STATE_CELL;
-use model::sizes::STATE_HEADER;
+use model::Format;
 use netlist::cells::Layout;
 
 // The first n bytes become zero.
@@ -45,6 +45,7 @@ fn put_elements(state: &mut [u8], i: usize, words: &[u8])
 
 // What cell k, which is c, shows at instant 0; j memories stand below it.
 fn first_value(
+    format: Format,
     cells: &[u8],
     n: usize,
     c: Cell,
@@ -53,40 +54,42 @@ fn first_value(
     k: usize,
     j: usize,
 ) -> u16
-    requires { ⌜ Holds (now cells) n (now state) k c × (544 ≤ length (now words)) × (c .kind ≡ 40 → j < 16) ⌝ }
-    ensures { λ r. ⌜ (memories (take k (netOf (now (cells .entry)) n)) ≡ j → r ≡ firstValue (netOf (now (cells .entry)) n) (wordAt (now (words .entry))) (now (state .entry)) k) ⌝ }
+    requires { ⌜ Holds format (now cells) n (now state) k c × (544 ≤ length (now words)) × (c .kind ≡ 40 → j < 16) ⌝ }
+    ensures { λ r. ⌜ (memories (take k (netOf (now (cells .entry)) n)) ≡ j → r ≡ firstValue format (netOf (now (cells .entry)) n) (wordAt (now (words .entry))) (now (state .entry)) k) ⌝ }
 {
     let kind = c.kind;
     if kind == 40 {
         return word::get16(words, 2 * j);
     }
-    instant::next_value(cells, n, true, c, state, k)
+    instant::next_value(format, cells, n, true, c, state, k)
 }
 
 // The k-th memory is variable k, so memories are counted on the way.
-fn show_first(cells: &[u8], n: usize, words: &[u8], state: &mut [u8])
-    requires { ⌜ Fits (now cells) n (now state) × (544 ≤ length (now words)) × (memories (netOf (now cells) n) ≡ 16) ⌝ }
-    ensures { λ _. ⌜ now (state .exit) ≡ upTo (shown (netOf (now (cells .entry)) n) (firstValue (netOf (now (cells .entry)) n) (wordAt (now (words .entry))))) n (now (state .entry)) ⌝ }
+fn show_first(format: Format, cells: &[u8], n: usize, words: &[u8], state: &mut [u8])
+    requires { ⌜ Fits format (now cells) n (now state) × (544 ≤ length (now words)) × (memories (netOf (now cells) n) ≡ 16) ⌝ }
+    ensures { λ _. ⌜ now (state .exit) ≡ upTo (shown format (netOf (now (cells .entry)) n) (firstValue format (netOf (now (cells .entry)) n) (wordAt (now (words .entry))))) n (now (state .entry)) ⌝ }
 {
     let mut j: usize = 0;
     let mut k: usize = 0;
     while k < n {
         let c = netlist::cells::cell_at(cells, Layout::InList, k);
-        let v = first_value(cells, n, c, words, state, k, j);
-        instant::store(cells, n, c, state, k);
-        word::put16(state, STATE_HEADER + STATE_CELL * k, v);
+        let v = first_value(format, cells, n, c, words, state, k, j);
+        instant::store(format, cells, n, c, state, k);
+        let at = wires::base(format, k);
+        word::put16(state, at, v);
         j += word::bit(c.kind == 40) as usize;
         k += 1;
     }
 }
 
-// Evaluates instant 0.
-pub fn begin_state(cells: &[u8], n: usize, words: &[u8], state: &mut [u8])
-    requires { ⌜ Fits (now cells) n (now state) × (544 ≤ length (now words)) × (memories (netOf (now cells) n) ≡ 16) ⌝ }
-    ensures { λ _. ⌜ now (state .exit) ≡ beginState (netOf (now (cells .entry)) n) (wordAt (now (words .entry))) (now (state .entry)) ⌝ }
+// Evaluates instant 0. Every line is empty, so 26 has no place here.
+pub fn begin_state(format: Format, cells: &[u8], n: usize, words: &[u8], state: &mut [u8])
+    requires { ⌜ Fits format (now cells) n (now state) × (544 ≤ length (now words)) × (memories (netOf (now cells) n) ≡ 16) ⌝ }
+    ensures { λ _. ⌜ now (state .exit) ≡ beginState format (netOf (now (cells .entry)) n) (wordAt (now (words .entry))) (now (state .entry)) ⌝ }
 {
-    put_elements(state, STATE_HEADER + STATE_CELL * n, words);
-    clear(state, STATE_HEADER + STATE_CELL * n);
-    show_first(cells, n, words, state);
-    instant::settle_all(cells, n, state);
+    let end = wires::base(format, n);
+    put_elements(state, end, words);
+    clear(state, end);
+    show_first(format, cells, n, words, state);
+    instant::settle_all(format, cells, n, state);
 }

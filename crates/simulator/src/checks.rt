@@ -9,13 +9,13 @@ ghost use Rattle.model.specs.NetlistFile.{fileCheck, cellsOf};
 ghost use Rattle.model.specs.State.{stateSize};
 ghost use Rattle.model.specs.Calls.{short, beginChecks, continueChecks, startChecks, runNetlistChecks};
 use crate::sound;
+use crate::wires;
 use model::Checked;
+use model::Format;
 use model::Refusal;
 use model::sizes::ELEMENTS;
 use model::sizes::LAST_INSTANT;
 use model::sizes::START_WORDS;
-use model::sizes::STATE_CELL;
-use model::sizes::STATE_HEADER;
 
 pub fn refuse(number: u8) -> Checked
     ensures { λ r. ⌜ r ≡ refuse number 0 ⌝ }
@@ -24,51 +24,51 @@ pub fn refuse(number: u8) -> Checked
 }
 
 // Refusal 14 of a state for the cells of a file.
-fn check_room(file: &[u8], state: &[u8]) -> Checked
+fn check_room(format: Format, file: &[u8], state: &[u8]) -> Checked
     requires { ⌜ fileCheck (now file) ≡ Accepted ⌝ }
-    ensures { λ r. ⌜ r ≡ short (length (now (state .entry))) (stateSize (cellsOf (now (file .entry)))) ⌝ }
+    ensures { λ r. ⌜ r ≡ short (length (now (state .entry))) (stateSize format (cellsOf (now (file .entry)))) ⌝ }
 {
     let n = word::get16(file, 2) as usize;
-    if state.len() < STATE_HEADER + STATE_CELL * n + ELEMENTS {
+    if state.len() < wires::base(format, n) + ELEMENTS {
         return refuse(14);
     }
     Checked::Accepted
 }
 
 // Refusal 14 of start words and of a state.
-fn check_lent(file: &[u8], words: &[u8], state: &[u8]) -> Checked
+fn check_lent(format: Format, file: &[u8], words: &[u8], state: &[u8]) -> Checked
     requires { ⌜ fileCheck (now file) ≡ Accepted ⌝ }
-    ensures { λ r. ⌜ r ≡ first (short (length (now (words .entry))) 544 ∷ short (length (now (state .entry))) (stateSize (cellsOf (now (file .entry)))) ∷ []) ⌝ }
+    ensures { λ r. ⌜ r ≡ first (short (length (now (words .entry))) 544 ∷ short (length (now (state .entry))) (stateSize format (cellsOf (now (file .entry)))) ∷ []) ⌝ }
 {
     if words.len() < START_WORDS {
         return refuse(14);
     }
-    check_room(file, state)
+    check_room(format, file, state)
 }
 
-pub fn check_begin(file: &[u8], words: &[u8], state: &[u8]) -> Checked
-    ensures { λ r. ⌜ r ≡ first (beginChecks (now (file .entry)) (now (words .entry)) (now (state .entry))) ⌝ }
+pub fn check_begin(format: Format, file: &[u8], words: &[u8], state: &[u8]) -> Checked
+    ensures { λ r. ⌜ r ≡ first (beginChecks format (now (file .entry)) (now (words .entry)) (now (state .entry))) ⌝ }
 {
     let checked = netlist::check_file(file);
     if let Checked::Refused(r) = checked {
         return Checked::Refused(r);
     }
-    check_lent(file, words, state)
+    check_lent(format, file, words, state)
 }
 
 // Refusal 16 takes the sum without wrapping.
-pub fn check_continue(file: &[u8], n: u32, state: &[u8]) -> Checked
-    ensures { λ r. ⌜ r ≡ first (continueChecks (now (file .entry)) n (now (state .entry))) ⌝ }
+pub fn check_continue(format: Format, file: &[u8], n: u32, state: &[u8]) -> Checked
+    ensures { λ r. ⌜ r ≡ first (continueChecks format (now (file .entry)) n (now (state .entry))) ⌝ }
 {
     let checked = netlist::check_file(file);
     if let Checked::Refused(r) = checked {
         return Checked::Refused(r);
     }
-    let room = check_room(file, state);
+    let room = check_room(format, file, state);
     if let Checked::Refused(r) = room {
         return Checked::Refused(r);
     }
-    if !sound::is_sound(file, state) {
+    if !sound::is_sound(format, file, state) {
         return refuse(15);
     }
     let t = word::get32(state, 0) as u64;
@@ -79,10 +79,10 @@ pub fn check_continue(file: &[u8], n: u32, state: &[u8]) -> Checked
 }
 
 // A start's instant counts as a continuing by 1 does.
-pub fn check_start(file: &[u8], state: &[u8]) -> Checked
-    ensures { λ r. ⌜ r ≡ first (startChecks (now (file .entry)) (now (state .entry))) ⌝ }
+pub fn check_start(format: Format, file: &[u8], state: &[u8]) -> Checked
+    ensures { λ r. ⌜ r ≡ first (startChecks format (now (file .entry)) (now (state .entry))) ⌝ }
 {
-    let checked = check_continue(file, 1, state);
+    let checked = check_continue(format, file, 1, state);
     if let Checked::Refused(r) = checked {
         return Checked::Refused(r);
     }
@@ -102,5 +102,5 @@ pub fn check_run(file: &[u8], words: &[u8], budget: u32, state: &[u8]) -> Checke
     if LAST_INSTANT < budget {
         return refuse(13);
     }
-    check_lent(file, words, state)
+    check_lent(Format::Full, file, words, state)
 }

@@ -2,22 +2,23 @@
 // Refusal 15 alone counts it; an instant keeps the number that the header has.
 // Each contract is an equation with model/State.
 ghost use mathlib.Core.Path.{_≡_};
+ghost use Rattle.model.specs.declared.Format.the-variants.{Full};
 ghost use Rattle.model.specs.NetlistFile.{cellsOf};
 ghost use Rattle.model.specs.State.{lineBit, heldAt, ones, inFlight, flight};
 ghost use Rattle.simulator.specs.Fits.{Stands, Runs};
+use crate::lines;
 use crate::wires;
 use model::Cell;
-use model::sizes::STATE_CELL;
-use model::sizes::STATE_HEADER;
+use model::Format;
 use model::sizes::STATE_LINE;
 use netlist::cells::Layout;
 
 // How many of a line's newest d inputs are 1: whole bytes, then the low bits of one more.
 fn ones(s: &[u8], k: usize, d: u8) -> u32
-    requires { ⌜ Stands (now s) k ⌝ }
-    ensures { λ r. ⌜ r ≡ ones (lineBit (now (s .entry)) k) d ⌝ }
+    requires { ⌜ Stands Full (now s) k ⌝ }
+    ensures { λ r. ⌜ r ≡ ones (lineBit Full (now (s .entry)) k d) d ⌝ }
 {
-    let mut at = STATE_HEADER + STATE_CELL * k + STATE_LINE;
+    let mut at = wires::base(Format::Full, k) + STATE_LINE;
     let mut left = d;
     let mut sum: u32 = 0;
     while 8 <= left {
@@ -28,31 +29,45 @@ fn ones(s: &[u8], k: usize, d: u8) -> u32
     sum + u8::count_ones(s[at] % (1u8 << left))
 }
 
+// How many pulses are in the line of a delay of d.
+fn in_line(format: Format, s: &[u8], k: usize, d: u8) -> u32
+    requires { ⌜ Stands format (now s) k ⌝ }
+    ensures { λ r. ⌜ r ≡ ones (lineBit format (now (s .entry)) k d) d ⌝ }
+{
+    match format {
+        Format::Full => ones(s, k, d),
+        Format::Compact => {
+            let left = lines::left_at(s, k);
+            word::bit((0 < left) & (left <= d)) as u32
+        }
+    }
+}
+
 // What is in flight at cell k, which is c.
-fn in_flight(c: Cell, s: &[u8], k: usize) -> u32
-    requires { ⌜ Stands (now s) k ⌝ }
-    ensures { λ r. ⌜ r ≡ inFlight (lineBit (now (s .entry)) k) (heldAt (now (s .entry)) k) c ⌝ }
+fn in_flight(format: Format, c: Cell, s: &[u8], k: usize) -> u32
+    requires { ⌜ Stands format (now s) k ⌝ }
+    ensures { λ r. ⌜ r ≡ inFlight (lineBit format (now (s .entry)) k (c .delay)) (heldAt format (now (s .entry)) k) c ⌝ }
 {
     let kind = c.kind;
     if kind == 34 {
-        return ones(s, k, c.delay);
+        return in_line(format, s, k, c.delay);
     }
     if netlist::kinds::is_merge(kind) {
-        return wires::held_bits(wires::held_at(s, k));
+        return wires::held_bits(wires::held_at(format, s, k));
     }
     0
 }
 
-pub fn flight(file: &[u8], s: &[u8]) -> u32
-    requires { ⌜ Runs (now file) (now s) ⌝ }
-    ensures { λ r. ⌜ r ≡ flight (cellsOf (now (file .entry))) (now (s .entry)) ⌝ }
+pub fn flight(format: Format, file: &[u8], s: &[u8]) -> u32
+    requires { ⌜ Runs format (now file) (now s) ⌝ }
+    ensures { λ r. ⌜ r ≡ flight format (cellsOf (now (file .entry))) (now (s .entry)) ⌝ }
 {
     let n = word::get16(file, 2) as usize;
     let mut sum: u32 = 0;
     let mut k: usize = 0;
     while k < n {
         let c = netlist::cells::cell_at(file, Layout::InFile, k);
-        sum += in_flight(c, s, k);
+        sum += in_flight(format, c, s, k);
         k += 1;
     }
     sum

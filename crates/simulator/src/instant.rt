@@ -1,79 +1,91 @@
 // One further instant of n cells, which stand in a list of six bytes each.
 // Three passes over the cells, each an equation with `upTo` of model/State; the cells fit the state.
+// The third looks for refusal 26 on the way, and then leaves the instant unfinished.
 // The third keeps the number in flight: it adds what comes in and takes off what goes out, cell by cell.
 ghost use mathlib.Core.Path.{_≡_};
 ghost use Prim.Native.Nat.{_+_, _*_, _<_, _≤_};
 ghost use lib.ListN.{length};
+ghost use Rattle.model.specs.declared.Checked.the-variants.{Accepted};
 ghost use Rattle.model.specs.Word.{put32};
 ghost use Rattle.model.specs.Word.{elementOf};
 ghost use Rattle.model.specs.Circuit.{cellAt, shape};
-ghost use Rattle.model.specs.State.{elementNow, instantOf, nextValue, value, upTo, aged, stored, shown, settle, settled, counted, stepState};
+ghost use Rattle.model.specs.State.{elementNow, instantOf, nextValue, value, upTo, aged, stored, shown, settle, settled, counted, crowding, base, stepState};
 ghost use Rattle.laws.specs.State.Flight.{comesIn, goesOut};
-ghost use Rattle.simulator.specs.Fits.{Stands, Sees, netOf, Fits, Holds, Numbered};
+ghost use Rattle.simulator.specs.Fits.{Stands, Sees, netOf, Fits, Holds, Ready, Spares};
+use crate::lines;
 use crate::wires;
 use model::Cell;
+use model::Checked;
+use model::Format;
+use model::Refusal;
 use model::sizes::CELL;
-use model::sizes::STATE_CELL;
-use model::sizes::STATE_HEADER;
 use netlist::cells::Layout;
 
 // The element with index w, as it is now, of the array whose 42 is cell a.
-fn element_now(cells: &[u8], n: usize, a: usize, w: u16, state: &[u8]) -> u16
-    requires { ⌜ Fits (now cells) n (now state) × (a < n) × (cellAt (netOf (now cells) n) a .delay < 4) ⌝ }
-    ensures { λ r. ⌜ r ≡ elementNow (netOf (now (cells .entry)) n) (now (state .entry)) (elementOf (cellAt (netOf (now (cells .entry)) n) a .delay) w) ⌝ }
+fn element_now(format: Format, cells: &[u8], n: usize, a: usize, w: u16, state: &[u8]) -> u16
+    requires { ⌜ Fits format (now cells) n (now state) × (a < n) × (cellAt (netOf (now cells) n) a .delay < 4) ⌝ }
+    ensures { λ r. ⌜ r ≡ elementNow format (netOf (now (cells .entry)) n) (now (state .entry)) (elementOf (cellAt (netOf (now (cells .entry)) n) a .delay) w) ⌝ }
 {
     let array = cells[CELL * a + 1] as usize;
-    word::get16(state, wires::element_place(n, array, w))
+    word::get16(state, wires::element_place(format, n, array, w))
 }
 
 // What cell k, which is c, shows after instant 0; starts tells whether a start pulse is given.
-pub fn next_value(cells: &[u8], n: usize, starts: bool, c: Cell, state: &[u8], k: usize) -> u16
-    requires { ⌜ Holds (now cells) n (now state) k c ⌝ }
-    ensures { λ r. ⌜ r ≡ nextValue (shape (c .kind)) starts (netOf (now (cells .entry)) n) (now (state .entry)) k c ⌝ }
+pub fn next_value(
+    format: Format,
+    cells: &[u8],
+    n: usize,
+    starts: bool,
+    c: Cell,
+    state: &[u8],
+    k: usize,
+) -> u16
+    requires { ⌜ Holds format (now cells) n (now state) k c ⌝ }
+    ensures { λ r. ⌜ r ≡ nextValue format (shape (c .kind)) starts (netOf (now (cells .entry)) n) (now (state .entry)) k c ⌝ }
 {
     let kind = c.kind;
     if kind == 1 {
         return c.a;
     }
     if kind == 34 {
-        return wires::line_bit(state, k, (c.delay as usize) - 1);
+        return lines::line_out(format, state, k, c.delay);
     }
     let a = c.a as usize;
     let b = c.b as usize;
     if kind == 40 {
-        if wires::has_fallen(state, a) {
-            return wires::before_at(state, b);
+        if wires::has_fallen(format, state, a) {
+            return wires::before_at(format, state, b);
         }
-        return wires::before_at(state, k);
+        return wires::before_at(format, state, k);
     }
-    let x = wires::now_at(state, a);
-    let y = wires::now_at(state, b);
+    let x = wires::now_at(format, state, a);
+    let y = wires::now_at(format, state, b);
     match kind {
         3..=9 => word::operate(kind, x, y),
         32 => word::bit(starts),
         35 => word::bit((x == 1) | (y == 1)),
         36 => word::bit((x == 1) & (y != 0)),
         37 => word::bit((x == 1) & (y == 0)),
-        38 => wires::merged(state, k, kind, x == 1, y == 1),
-        39 => wires::merged(state, k, kind, x == 1, y == 1),
+        38 => wires::merged(format, state, k, kind, x == 1, y == 1),
+        39 => wires::merged(format, state, k, kind, x == 1, y == 1),
         41 => if x == 1 { y } else { 0 },
-        44 => element_now(cells, n, a, y, state),
+        44 => element_now(format, cells, n, a, y, state),
         _ => 0,
     }
 }
 
 // A 42 whose clock falls takes a word in, from the data and the address of an instant ago.
-pub fn store(cells: &[u8], n: usize, c: Cell, state: &mut [u8], k: usize)
-    requires { ⌜ Holds (now cells) n (now state) k c ⌝ }
-    ensures { λ _. ⌜ now (state .exit) ≡ stored (netOf (now (cells .entry)) n) (now (state .entry)) k ⌝ }
+pub fn store(format: Format, cells: &[u8], n: usize, c: Cell, state: &mut [u8], k: usize)
+    requires { ⌜ Holds format (now cells) n (now state) k c ⌝ }
+    ensures { λ _. ⌜ now (state .exit) ≡ stored format (netOf (now (cells .entry)) n) (now (state .entry)) k ⌝ }
 {
     let kind = c.kind;
     if kind == 42 {
-        if wires::has_fallen(state, c.a as usize) {
+        if wires::has_fallen(format, state, c.a as usize) {
             let next = netlist::cells::cell_at(cells, Layout::InList, k + 1);
-            let w = wires::before_at(state, next.a as usize);
-            let v = wires::before_at(state, c.b as usize);
-            let at = wires::element_place(n, c.delay as usize, w);
+            let w = wires::before_at(format, state, next.a as usize);
+            let v = wires::before_at(format, state, c.b as usize);
+            let at = wires::element_place(format, n, c.delay as usize, w);
             word::put16(state, at, v);
         }
     }
@@ -81,27 +93,27 @@ pub fn store(cells: &[u8], n: usize, c: Cell, state: &mut [u8], k: usize)
 
 // A delay takes its input in, a merge holds; answers the number in flight after it.
 // What goes out is taken off last, so that nothing falls below 0. The number is at most 255 for each of 1,024 cells.
-pub fn settle(c: Cell, state: &mut [u8], k: usize, number: u32) -> u32
-    requires { ⌜ Stands (now state) k × Sees (now state) c × (number ≤ 261120) × (goesOut (now state) k c ≤ number + comesIn (now state) k c) ⌝ }
-    ensures state { λ _. ⌜ now (state .exit) ≡ settle (shape (c .kind)) (now (state .entry)) k c ⌝ }
-    ensures number { λ r. ⌜ r + goesOut (now (state .entry)) k c ≡ number + comesIn (now (state .entry)) k c ⌝ }
+pub fn settle(format: Format, c: Cell, state: &mut [u8], k: usize, number: u32) -> u32
+    requires { ⌜ Stands format (now state) k × Sees format (now state) c × (number ≤ 261120) × (goesOut format (now state) k c ≤ number + comesIn format (now state) k c) ⌝ }
+    ensures state { λ _. ⌜ now (state .exit) ≡ settle format (shape (c .kind)) (now (state .entry)) k c ⌝ }
+    ensures number { λ r. ⌜ r + goesOut format (now (state .entry)) k c ≡ number + comesIn format (now (state .entry)) k c ⌝ }
 {
     let kind = c.kind;
     let a = c.a as usize;
     let b = c.b as usize;
     if kind == 34 {
-        let x = wires::is_high(state, a);
-        let out = wires::line_bit(state, k, (c.delay as usize) - 1);
-        wires::shift_line(state, k, x);
+        let x = wires::is_high(format, state, a);
+        let out = lines::line_out(format, state, k, c.delay);
+        lines::take_in(format, state, k, c.delay, x);
         return number + (word::bit(x) as u32) - (out as u32);
     }
     if netlist::kinds::is_merge(kind) {
-        let x = wires::is_high(state, a);
-        let y = wires::is_high(state, b);
-        let held = wires::held_at(state, k);
+        let x = wires::is_high(format, state, a);
+        let y = wires::is_high(format, state, b);
+        let held = wires::held_at(format, state, k);
         let m = wires::merge_step(kind, held, x, y);
         let next = m.held;
-        wires::hold(state, k, next);
+        wires::hold(format, state, k, next);
         return number + wires::held_bits(next) - wires::held_bits(held);
     }
     number
@@ -119,55 +131,68 @@ fn tick(state: &mut [u8])
 }
 
 // Comes before any cell is shown: a memory looks at what any cell was an instant ago.
-fn age_all(state: &mut [u8], n: usize)
-    requires { ⌜ (n ≤ 1024) × (8 + 40 * n ≤ length (now state)) ⌝ }
-    ensures { λ _. ⌜ now (state .exit) ≡ upTo aged n (now (state .entry)) ⌝ }
+fn age_all(format: Format, state: &mut [u8], n: usize)
+    requires { ⌜ (n ≤ 1024) × (base format n ≤ length (now state)) ⌝ }
+    ensures { λ _. ⌜ now (state .exit) ≡ upTo (aged format) n (now (state .entry)) ⌝ }
 {
     let mut k: usize = 0;
     while k < n {
-        let v = wires::now_at(state, k);
-        word::put16(state, STATE_HEADER + STATE_CELL * k + 2, v);
+        let v = wires::now_at(format, state, k);
+        let at = wires::base(format, k);
+        word::put16(state, at + 2, v);
         k += 1;
     }
 }
 
 // In rising order, since cells look at what lower ones are now, and a read at what its array has taken in.
-fn show_all(cells: &[u8], n: usize, starts: bool, state: &mut [u8])
-    requires { ⌜ Fits (now cells) n (now state) ⌝ }
-    ensures { λ _. ⌜ now (state .exit) ≡ upTo (shown (netOf (now (cells .entry)) n) (value (netOf (now (cells .entry)) n) starts)) n (now (state .entry)) ⌝ }
+fn show_all(format: Format, cells: &[u8], n: usize, starts: bool, state: &mut [u8])
+    requires { ⌜ Fits format (now cells) n (now state) ⌝ }
+    ensures { λ _. ⌜ now (state .exit) ≡ upTo (shown format (netOf (now (cells .entry)) n) (value format (netOf (now (cells .entry)) n) starts)) n (now (state .entry)) ⌝ }
 {
     let mut k: usize = 0;
     while k < n {
         let c = netlist::cells::cell_at(cells, Layout::InList, k);
-        let v = next_value(cells, n, starts, c, state, k);
-        store(cells, n, c, state, k);
-        word::put16(state, STATE_HEADER + STATE_CELL * k, v);
+        let v = next_value(format, cells, n, starts, c, state, k);
+        store(format, cells, n, c, state, k);
+        let at = wires::base(format, k);
+        word::put16(state, at, v);
         k += 1;
     }
 }
 
-// Comes last: a delay's input may be a higher cell. The header gets the number in flight that this leaves.
-pub fn settle_all(cells: &[u8], n: usize, state: &mut [u8])
-    requires { ⌜ Fits (now cells) n (now state) × Numbered (netOf (now cells) n) (now state) ⌝ }
-    ensures { λ _. ⌜ now (state .exit) ≡ counted (netOf (now (cells .entry)) n) (upTo (settled (netOf (now (cells .entry)) n)) n (now (state .entry))) ⌝ }
+// Comes last: a delay's input may be a higher cell. The header gets the number in flight that this leaves, unless 26 ends it at some cell.
+pub fn settle_all(format: Format, cells: &[u8], n: usize, state: &mut [u8]) -> Checked
+    requires { ⌜ Fits format (now cells) n (now state) × Ready format (netOf (now cells) n) (now state) ⌝ }
+    ensures check { λ r. ⌜ r ≡ crowding format (netOf (now (cells .entry)) n) (now (state .entry)) (now (state .entry)) ⌝ }
+    ensures state { λ r. ⌜ (r ≡ Accepted → now (state .exit) ≡ counted format (netOf (now (cells .entry)) n) (upTo (settled format (netOf (now (cells .entry)) n)) n (now (state .entry)))) ⌝ }
+    ensures spares { λ _. ⌜ Spares format n (now (state .entry)) (now (state .exit)) ⌝ }
 {
     let mut number = word::get32(state, 4);
     let mut k: usize = 0;
     while k < n {
         let c = netlist::cells::cell_at(cells, Layout::InList, k);
-        number = settle(c, state, k, number);
+        if lines::is_crowded(format, c, state, k) {
+            return Checked::Refused(Refusal {
+                number: 26,
+                place: k,
+            });
+        }
+        number = settle(format, c, state, k, number);
         k += 1;
     }
     word::put32(state, 4, number);
+    Checked::Accepted
 }
 
-// One further instant, with a start pulse or without.
-pub fn step(cells: &[u8], n: usize, starts: bool, state: &mut [u8])
-    requires { ⌜ Fits (now cells) n (now state) × (instantOf (now state) < 1000000) × Numbered (netOf (now cells) n) (now state) ⌝ }
-    ensures { λ _. ⌜ now (state .exit) ≡ stepState (netOf (now (cells .entry)) n) starts (now (state .entry)) ⌝ }
+// One further instant, with a start pulse or without. Where 26 ends it, the state is at no instant.
+pub fn step(format: Format, cells: &[u8], n: usize, starts: bool, state: &mut [u8]) -> Checked
+    requires { ⌜ Fits format (now cells) n (now state) × (instantOf (now state) < 1000000) × Ready format (netOf (now cells) n) (now state) ⌝ }
+    ensures check { λ r. ⌜ r ≡ crowding format (netOf (now (cells .entry)) n) (now (state .entry)) (stepState format (netOf (now (cells .entry)) n) starts (now (state .entry))) ⌝ }
+    ensures state { λ r. ⌜ (r ≡ Accepted → now (state .exit) ≡ stepState format (netOf (now (cells .entry)) n) starts (now (state .entry))) ⌝ }
+    ensures spares { λ _. ⌜ Spares format n (now (state .entry)) (now (state .exit)) ⌝ }
 {
     tick(state);
-    age_all(state, n);
-    show_all(cells, n, starts, state);
-    settle_all(cells, n, state);
+    age_all(format, state, n);
+    show_all(format, cells, n, starts, state);
+    settle_all(format, cells, n, state)
 }

@@ -1,9 +1,10 @@
-// The simulator: begin, continue, start and the full run of a netlist file, on the published bytes of a state.
+// The simulator: begin, continue, start and the full run of a netlist file, on the published bytes of a state, full or compact.
 // The calls have no requires. They check first and write afterwards; their contracts are equations with model/Calls.
 ghost use mathlib.Core.Path.{_≡_};
 ghost use Rattle.model.specs.Calls.{refusedAnswer, beginCall, continueCall, startCall, runNetlistCall};
 
 pub mod wires; // one cell's bytes in a state
+pub mod lines; // its line
 pub mod instant; // one further instant
 pub mod beginning; // instant 0
 pub mod runs; // runs of a file that is accepted
@@ -13,6 +14,7 @@ pub mod checks; // refusals 9 to 16 and 23 in their order
 
 use model::Answer;
 use model::Checked;
+use model::Format;
 use model::Outcome;
 use model::Refusal;
 
@@ -30,39 +32,39 @@ pub fn refused(r: Refusal) -> Answer
 }
 
 // Evaluates instant 0: refusals 9 to 12, 14.
-pub fn begin(netlist: &[u8], words: &[u8], state: &mut [u8]) -> Answer
-    ensures answer { λ r. ⌜ r ≡ beginCall (now (netlist .entry)) (now (words .entry)) (now (state .entry)) .answer ⌝ }
-    ensures lent { λ _. ⌜ now (state .exit) ≡ beginCall (now (netlist .entry)) (now (words .entry)) (now (state .entry)) .lent ⌝ }
+pub fn begin(format: Format, netlist: &[u8], words: &[u8], state: &mut [u8]) -> Answer
+    ensures answer { λ r. ⌜ r ≡ beginCall format (now (netlist .entry)) (now (words .entry)) (now (state .entry)) .answer ⌝ }
+    ensures lent { λ _. ⌜ now (state .exit) ≡ beginCall format (now (netlist .entry)) (now (words .entry)) (now (state .entry)) .lent ⌝ }
 {
-    let checked = checks::check_begin(netlist, words, state);
+    let checked = checks::check_begin(format, netlist, words, state);
     if let Checked::Refused(r) = checked {
         return refused(r);
     }
-    runs::begin(netlist, words, state)
+    runs::begin(format, netlist, words, state)
 }
 
-// Evaluates later instants, until the finish is high or n are done: refusals 9 to 12, 14 to 16.
-pub fn continue_by(netlist: &[u8], state: &mut [u8], n: u32) -> Answer
-    ensures answer { λ r. ⌜ r ≡ continueCall (now (netlist .entry)) n (now (state .entry)) .answer ⌝ }
-    ensures lent { λ _. ⌜ now (state .exit) ≡ continueCall (now (netlist .entry)) n (now (state .entry)) .lent ⌝ }
+// Evaluates later instants, until the finish is high or n are done: refusals 9 to 12, 14 to 16, 26.
+pub fn continue_by(format: Format, netlist: &[u8], state: &mut [u8], n: u32) -> Answer
+    ensures answer { λ r. ⌜ r ≡ continueCall format (now (netlist .entry)) n (now (state .entry)) .answer ⌝ }
+    ensures lent { λ _. ⌜ now (state .exit) ≡ continueCall format (now (netlist .entry)) n (now (state .entry)) .lent ⌝ }
 {
-    let checked = checks::check_continue(netlist, n, state);
+    let checked = checks::check_continue(format, netlist, n, state);
     if let Checked::Refused(r) = checked {
         return refused(r);
     }
-    runs::continue_by(netlist, false, state, n)
+    runs::continue_by(format, netlist, false, state, n)
 }
 
 // Evaluates one later instant, with a start pulse: refusals 9 to 12, 14 to 16, 23.
-pub fn start(netlist: &[u8], state: &mut [u8]) -> Answer
-    ensures answer { λ r. ⌜ r ≡ startCall (now (netlist .entry)) (now (state .entry)) .answer ⌝ }
-    ensures lent { λ _. ⌜ now (state .exit) ≡ startCall (now (netlist .entry)) (now (state .entry)) .lent ⌝ }
+pub fn start(format: Format, netlist: &[u8], state: &mut [u8]) -> Answer
+    ensures answer { λ r. ⌜ r ≡ startCall format (now (netlist .entry)) (now (state .entry)) .answer ⌝ }
+    ensures lent { λ _. ⌜ now (state .exit) ≡ startCall format (now (netlist .entry)) (now (state .entry)) .lent ⌝ }
 {
-    let checked = checks::check_start(netlist, state);
+    let checked = checks::check_start(format, netlist, state);
     if let Checked::Refused(r) = checked {
         return refused(r);
     }
-    runs::continue_by(netlist, true, state, 1)
+    runs::continue_by(format, netlist, true, state, 1)
 }
 
 // A full run: refusals 9 to 14.

@@ -1,21 +1,33 @@
 // Runs of a netlist file that is accepted, on a state of its size.
 // The file's cells are copied once into a list without headers; the contracts speak of the file.
 ghost use mathlib.Core.Path.{_≡_};
-ghost use Prim.Native.Nat.{_+_, _<_, _≤_};
+ghost use Prim.Native.Nat.{_+_, _≤_};
 ghost use lib.ListN.{length};
+ghost use lib.Seq.{paste};
 ghost use Rattle.model.specs.declared.Checked.the-variants.{Accepted};
+ghost use Rattle.model.specs.declared.Format.the-variants.{Full, Compact};
 ghost use Rattle.model.specs.NetlistFile.{fileCheck, cellsOf, countOf, finishOf};
 ghost use Rattle.model.specs.State.{instantOf, beginState, wordsIn};
 ghost use Rattle.model.specs.Calls.{wordAt, shows, fullState, fullCount};
-ghost use Rattle.simulator.specs.Fits.{netOf, Fits, Runs, Numbered};
-ghost use Rattle.simulator.specs.Levels.{lastWith, countWith};
+ghost use Rattle.simulator.specs.Fits.{netOf, Runs, Ready, Spares, Continues};
+ghost use Rattle.simulator.specs.Levels.{continuedWith, told};
 use crate::beginning;
 use crate::instant;
 use crate::wires;
 use model::Answer;
+use model::Checked;
+use model::Format;
 use model::Outcome;
+use model::sizes::COMPACT_MOST;
+use model::sizes::ELEMENTS;
 use model::sizes::LIST_MOST;
 use netlist::cells::Layout;
+
+// How a continuing went: whether 26 ended it, and how many instants it evaluated.
+pub struct Went {
+    pub checked: Checked,
+    pub count: u32,
+}
 
 // Copies the cells of a file, six bytes each; answers how many there are.
 fn load(cells: &mut [u8], file: &[u8]) -> usize
@@ -28,37 +40,118 @@ fn load(cells: &mut [u8], file: &[u8]) -> usize
     n
 }
 
+// Continuing -----------------------------------------------------------------------------------------------------------------------------
+
 // Further instants, each with a start pulse or each without, until the finish is high or the budget is used; counts those that it
-// evaluates. The one caller of `step`, so that a step is compiled into its loop.
+// evaluates. Where 26 ends it, the state is at no instant. The one caller of `step`, so that a step is compiled into its loop.
 fn continue_state(
+    format: Format,
     cells: &[u8],
     n: usize,
     finish: usize,
     starts: bool,
     state: &mut [u8],
     budget: u32,
-) -> u32
-    requires { ⌜ Fits (now cells) n (now state) × (finish < n) × (instantOf (now state) + budget ≤ 1000000) × Numbered (netOf (now cells) n) (now state) ⌝ }
-    ensures state { λ _. ⌜ now (state .exit) ≡ lastWith (netOf (now (cells .entry)) n) starts finish budget (now (state .entry)) ⌝ }
-    ensures count { λ r. ⌜ r ≡ countWith (netOf (now (cells .entry)) n) starts finish budget (now (state .entry)) ⌝ }
+) -> Went
+    requires { ⌜ Continues format (now cells) n finish budget (now state) ⌝ }
+    ensures check { λ r. ⌜ r .checked ≡ continuedWith format (netOf (now (cells .entry)) n) starts finish budget (now (state .entry)) .check ⌝ }
+    ensures count { λ r. ⌜ r .count ≡ continuedWith format (netOf (now (cells .entry)) n) starts finish budget (now (state .entry)) .count ⌝ }
+    ensures state { λ r. ⌜ (r .checked ≡ Accepted → now (state .exit) ≡ continuedWith format (netOf (now (cells .entry)) n) starts finish budget (now (state .entry)) .state) ⌝ }
+    ensures spares { λ _. ⌜ Spares format n (now (state .entry)) (now (state .exit)) ⌝ }
 {
     let mut count: u32 = 0;
     while count < budget {
-        instant::step(cells, n, starts, state);
+        let checked = instant::step(format, cells, n, starts, state);
+        if let Checked::Refused(r) = checked {
+            return Went {
+                checked: Checked::Refused(r),
+                count,
+            };
+        }
         count += 1;
-        if wires::is_high(state, finish) {
-            return count;
+        if wires::is_high(format, state, finish) {
+            return Went {
+                checked: Checked::Accepted,
+                count,
+            };
         }
     }
-    count
+    Went {
+        checked: Checked::Accepted,
+        count,
+    }
+}
+
+// The first n bytes become those of another list.
+fn copy(to: &mut [u8], from: &[u8], n: usize)
+    requires { ⌜ (n ≤ length (now to)) × (n ≤ length (now from)) ⌝ }
+    ensures { λ _. ⌜ now (to .exit) ≡ paste (now (to .entry)) 0 (now (from .entry)) n ⌝ }
+{
+    let mut i: usize = 0;
+    while i < n {
+        to[i] = from[i];
+        i += 1;
+    }
+}
+
+// The same on a compact state, which is left at the last good instant: where 26 ends it, the state is put back as it was, and its good
+// instants are evaluated again. So no instant costs a copy.
+fn continue_compact(
+    cells: &[u8],
+    n: usize,
+    finish: usize,
+    starts: bool,
+    state: &mut [u8],
+    budget: u32,
+) -> Went
+    requires { ⌜ Continues Compact (now cells) n finish budget (now state) ⌝ }
+    ensures check { λ r. ⌜ r .checked ≡ continuedWith Compact (netOf (now (cells .entry)) n) starts finish budget (now (state .entry)) .check ⌝ }
+    ensures count { λ r. ⌜ r .count ≡ continuedWith Compact (netOf (now (cells .entry)) n) starts finish budget (now (state .entry)) .count ⌝ }
+    ensures state { λ _. ⌜ now (state .exit) ≡ continuedWith Compact (netOf (now (cells .entry)) n) starts finish budget (now (state .entry)) .state ⌝ }
+{
+    let mut kept = [0u8; COMPACT_MOST];
+    let size = wires::base(Format::Compact, n) + ELEMENTS;
+    copy(&mut kept, state, size);
+    let went = continue_state(Format::Compact, cells, n, finish, starts, state, budget);
+    let checked = went.checked;
+    if let Checked::Refused(r) = checked {
+        copy(state, &kept, size);
+        continue_state(Format::Compact, cells, n, finish, starts, state, went.count);
+        return Went {
+            checked: Checked::Refused(r),
+            count: went.count,
+        };
+    }
+    went
+}
+
+// The same in either format; 26 never ends it on a full state.
+fn continue_in(
+    format: Format,
+    cells: &[u8],
+    n: usize,
+    finish: usize,
+    starts: bool,
+    state: &mut [u8],
+    budget: u32,
+) -> Went
+    requires { ⌜ Continues format (now cells) n finish budget (now state) ⌝ }
+    ensures check { λ r. ⌜ r .checked ≡ continuedWith format (netOf (now (cells .entry)) n) starts finish budget (now (state .entry)) .check ⌝ }
+    ensures count { λ r. ⌜ r .count ≡ continuedWith format (netOf (now (cells .entry)) n) starts finish budget (now (state .entry)) .count ⌝ }
+    ensures state { λ _. ⌜ now (state .exit) ≡ continuedWith format (netOf (now (cells .entry)) n) starts finish budget (now (state .entry)) .state ⌝ }
+{
+    match format {
+        Format::Full => continue_state(Format::Full, cells, n, finish, starts, state, budget),
+        Format::Compact => continue_compact(cells, n, finish, starts, state, budget),
+    }
 }
 
 // Answers --------------------------------------------------------------------------------------------------------------------------------
 
 // The values of the sixteen memories.
-fn words_in(file: &[u8], state: &[u8]) -> [u16; 16]
-    requires { ⌜ Runs (now file) (now state) ⌝ }
-    ensures { λ r. ⌜ r ≡ wordsIn (cellsOf (now (file .entry))) 0 (now (state .entry)) ⌝ }
+fn words_in(format: Format, file: &[u8], state: &[u8]) -> [u16; 16]
+    requires { ⌜ Runs format (now file) (now state) ⌝ }
+    ensures { λ r. ⌜ r ≡ wordsIn format (cellsOf (now (file .entry))) 0 (now (state .entry)) ⌝ }
 {
     let n = word::get16(file, 2) as usize;
     let mut words = [0u16; 16];
@@ -66,7 +159,7 @@ fn words_in(file: &[u8], state: &[u8]) -> [u16; 16]
     let mut k: usize = 0;
     while k < n {
         let c = netlist::cells::cell_at(file, Layout::InFile, k);
-        let v = wires::now_at(state, k);
+        let v = wires::now_at(format, state, k);
         k += 1;
         if c.kind == 40 {
             words[j] = v;
@@ -77,14 +170,14 @@ fn words_in(file: &[u8], state: &[u8]) -> [u16; 16]
 }
 
 // What a state shows after a call that evaluated so many instants.
-fn shows(file: &[u8], state: &[u8], count: u32) -> Answer
-    requires { ⌜ Runs (now file) (now state) ⌝ }
-    ensures { λ r. ⌜ r ≡ shows (now (file .entry)) (now (state .entry)) count ⌝ }
+fn shows(format: Format, file: &[u8], state: &[u8], count: u32) -> Answer
+    requires { ⌜ Runs format (now file) (now state) ⌝ }
+    ensures { λ r. ⌜ r ≡ shows format (now (file .entry)) (now (state .entry)) count ⌝ }
 {
-    let words = words_in(file, state);
+    let words = words_in(format, file, state);
     let finish = word::get16(file, 4) as usize;
     let instant = word::get32(state, 0);
-    let outcome = if wires::is_high(state, finish) {
+    let outcome = if wires::is_high(format, state, finish) {
         Outcome::Ended
     } else {
         Outcome::Open
@@ -99,43 +192,53 @@ fn shows(file: &[u8], state: &[u8], count: u32) -> Answer
 
 // Runs -----------------------------------------------------------------------------------------------------------------------------------
 
-pub fn begin(file: &[u8], words: &[u8], state: &mut [u8]) -> Answer
-    requires { ⌜ Runs (now file) (now state) × (544 ≤ length (now words)) ⌝ }
-    ensures state { λ _. ⌜ now (state .exit) ≡ beginState (cellsOf (now (file .entry))) (wordAt (now (words .entry))) (now (state .entry)) ⌝ }
-    ensures answer { λ r. ⌜ r ≡ shows (now (file .entry)) (beginState (cellsOf (now (file .entry))) (wordAt (now (words .entry))) (now (state .entry))) 1 ⌝ }
+pub fn begin(format: Format, file: &[u8], words: &[u8], state: &mut [u8]) -> Answer
+    requires { ⌜ Runs format (now file) (now state) × (544 ≤ length (now words)) ⌝ }
+    ensures state { λ _. ⌜ now (state .exit) ≡ beginState format (cellsOf (now (file .entry))) (wordAt (now (words .entry))) (now (state .entry)) ⌝ }
+    ensures answer { λ r. ⌜ r ≡ shows format (now (file .entry)) (beginState format (cellsOf (now (file .entry))) (wordAt (now (words .entry))) (now (state .entry))) 1 ⌝ }
 {
     let mut cells = [0u8; LIST_MOST];
     let n = load(&mut cells, file);
-    beginning::begin_state(&cells, n, words, state);
-    shows(file, state, 1)
+    beginning::begin_state(format, &cells, n, words, state);
+    shows(format, file, state, 1)
 }
 
 // A continuing, or, with a start pulse and by 1, a start.
-pub fn continue_by(file: &[u8], starts: bool, state: &mut [u8], budget: u32) -> Answer
-    requires { ⌜ Runs (now file) (now state) × (instantOf (now state) + budget ≤ 1000000) × Numbered (cellsOf (now file)) (now state) ⌝ }
-    ensures state { λ _. ⌜ now (state .exit) ≡ lastWith (cellsOf (now (file .entry))) starts (finishOf (now (file .entry))) budget (now (state .entry)) ⌝ }
-    ensures answer { λ r. ⌜ r ≡ shows (now (file .entry)) (lastWith (cellsOf (now (file .entry))) starts (finishOf (now (file .entry))) budget (now (state .entry))) (countWith (cellsOf (now (file .entry))) starts (finishOf (now (file .entry))) budget (now (state .entry))) ⌝ }
+pub fn continue_by(
+    format: Format,
+    file: &[u8],
+    starts: bool,
+    state: &mut [u8],
+    budget: u32,
+) -> Answer
+    requires { ⌜ Runs format (now file) (now state) × (instantOf (now state) + budget ≤ 1000000) × Ready format (cellsOf (now file)) (now state) ⌝ }
+    ensures state { λ _. ⌜ now (state .exit) ≡ continuedWith format (cellsOf (now (file .entry))) starts (finishOf (now (file .entry))) budget (now (state .entry)) .state ⌝ }
+    ensures answer { λ r. ⌜ r ≡ told format (now (file .entry)) (continuedWith format (cellsOf (now (file .entry))) starts (finishOf (now (file .entry))) budget (now (state .entry))) ⌝ }
 {
     let finish = word::get16(file, 4) as usize;
     let mut cells = [0u8; LIST_MOST];
     let n = load(&mut cells, file);
-    let count = continue_state(&cells, n, finish, starts, state, budget);
-    shows(file, state, count)
+    let went = continue_in(format, &cells, n, finish, starts, state, budget);
+    let checked = went.checked;
+    if let Checked::Refused(r) = checked {
+        return crate::refused(r);
+    }
+    shows(format, file, state, went.count)
 }
 
-// A beginning, and a continuing by the budget unless the finish was high.
+// A beginning, and a continuing by the budget unless the finish was high, on a full state.
 pub fn full_run(file: &[u8], words: &[u8], budget: u32, state: &mut [u8]) -> Answer
-    requires { ⌜ Runs (now file) (now state) × (544 ≤ length (now words)) × (budget ≤ 1000000) ⌝ }
+    requires { ⌜ Runs Full (now file) (now state) × (544 ≤ length (now words)) × (budget ≤ 1000000) ⌝ }
     ensures state { λ _. ⌜ now (state .exit) ≡ fullState (now (file .entry)) (now (words .entry)) budget (now (state .entry)) ⌝ }
-    ensures answer { λ r. ⌜ r ≡ shows (now (file .entry)) (fullState (now (file .entry)) (now (words .entry)) budget (now (state .entry))) (fullCount (now (file .entry)) (now (words .entry)) budget (now (state .entry))) ⌝ }
+    ensures answer { λ r. ⌜ r ≡ shows Full (now (file .entry)) (fullState (now (file .entry)) (now (words .entry)) budget (now (state .entry))) (fullCount (now (file .entry)) (now (words .entry)) budget (now (state .entry))) ⌝ }
 {
     let finish = word::get16(file, 4) as usize;
     let mut cells = [0u8; LIST_MOST];
     let n = load(&mut cells, file);
-    beginning::begin_state(&cells, n, words, state);
-    if wires::is_high(state, finish) {
-        return shows(file, state, 1);
+    beginning::begin_state(Format::Full, &cells, n, words, state);
+    if wires::is_high(Format::Full, state, finish) {
+        return shows(Format::Full, file, state, 1);
     }
-    let count = continue_state(&cells, n, finish, false, state, budget);
-    shows(file, state, 1 + count)
+    let went = continue_in(Format::Full, &cells, n, finish, false, state, budget);
+    shows(Format::Full, file, state, 1 + went.count)
 }

@@ -2,16 +2,18 @@
 // Each contract is an equation with model/State.
 ghost use mathlib.Core.Path.{_≡_};
 ghost use Prim.Native.Nat.{_+_, _≤_};
+ghost use lib.Dec.{eqb};
 ghost use lib.ListN.{length, take, drop};
+ghost use Rattle.model.specs.Word.{pick};
 ghost use Rattle.model.specs.NetlistFile.{allZero, cellsOf};
-ghost use Rattle.model.specs.State.{cellSound, cellsSound, sound};
+ghost use Rattle.model.specs.State.{lineSound, cellSound, cellsSound, sound};
 ghost use Rattle.simulator.specs.Fits.{Stands, Runs};
 use crate::flight;
+use crate::lines;
 use crate::wires;
 use model::Cell;
+use model::Format;
 use model::sizes::LINE;
-use model::sizes::STATE_CELL;
-use model::sizes::STATE_HEADER;
 use model::sizes::STATE_LINE;
 use netlist::cells::Layout;
 
@@ -32,33 +34,63 @@ fn all_zero(s: &[u8], i: usize, n: usize) -> bool
     true
 }
 
-// Whether cell k, which is c, has nothing set that it has no use for.
-fn cell_sound(c: Cell, s: &[u8], k: usize) -> bool
-    requires { ⌜ Stands (now s) k ⌝ }
-    ensures { λ r. ⌜ r ≡ cellSound c (now (s .entry)) k ⌝ }
+// The most that a cell's number can be.
+fn most_left(c: Cell) -> u8
+    ensures { λ r. ⌜ r ≡ pick (eqb (c .kind) 34) (c .delay) 0 ⌝ }
 {
-    let kind = c.kind;
-    let at = STATE_HEADER + STATE_CELL * k;
-    let most_a = word::bit(netlist::kinds::is_merge(kind));
-    let most_b = word::bit(kind == 38);
-    let now = wires::now_at(s, k);
-    let ago = wires::before_at(s, k);
-    let values = !netlist::kinds::is_control(kind) | ((now <= 1) & (ago <= 1));
-    let held = ((s[at + 4] as u16) <= most_a) & ((s[at + 5] as u16) <= most_b);
-    let zeros = all_zero(s, at + 6, 2);
-    let line = all_zero(s, at + STATE_LINE, LINE);
-    values & (held & (zeros & ((kind == 34) | line)))
+    if c.kind == 34 {
+        return c.delay;
+    }
+    0
 }
 
-fn cells_sound(file: &[u8], s: &[u8]) -> bool
-    requires { ⌜ Runs (now file) (now s) ⌝ }
-    ensures { λ r. ⌜ r ≡ cellsSound (cellsOf (now (file .entry))) (now (s .entry)) 0 ⌝ }
+// Whether the bytes of a line, and those beside it, are such as cell k, which is c, could have.
+fn line_sound(format: Format, c: Cell, s: &[u8], k: usize) -> bool
+    requires { ⌜ Stands format (now s) k ⌝ }
+    ensures { λ r. ⌜ r ≡ lineSound format c (now (s .entry)) k ⌝ }
+{
+    let kind = c.kind;
+    let at = wires::base(format, k);
+    match format {
+        Format::Full => {
+            let zeros = all_zero(s, at + 6, 2);
+            let line = all_zero(s, at + STATE_LINE, LINE);
+            zeros & ((kind == 34) | line)
+        }
+        Format::Compact => {
+            let left = lines::left_at(s, k);
+            let most = most_left(c);
+            (left <= most) & (s[at + 7] == 0)
+        }
+    }
+}
+
+// Whether cell k, which is c, has nothing set that it has no use for.
+fn cell_sound(format: Format, c: Cell, s: &[u8], k: usize) -> bool
+    requires { ⌜ Stands format (now s) k ⌝ }
+    ensures { λ r. ⌜ r ≡ cellSound format c (now (s .entry)) k ⌝ }
+{
+    let kind = c.kind;
+    let at = wires::base(format, k);
+    let most_a = word::bit(netlist::kinds::is_merge(kind));
+    let most_b = word::bit(kind == 38);
+    let now = wires::now_at(format, s, k);
+    let ago = wires::before_at(format, s, k);
+    let values = !netlist::kinds::is_control(kind) | ((now <= 1) & (ago <= 1));
+    let held = ((s[at + 4] as u16) <= most_a) & ((s[at + 5] as u16) <= most_b);
+    let line = line_sound(format, c, s, k);
+    values & (held & line)
+}
+
+fn cells_sound(format: Format, file: &[u8], s: &[u8]) -> bool
+    requires { ⌜ Runs format (now file) (now s) ⌝ }
+    ensures { λ r. ⌜ r ≡ cellsSound format (cellsOf (now (file .entry))) (now (s .entry)) 0 ⌝ }
 {
     let n = word::get16(file, 2) as usize;
     let mut k: usize = 0;
     while k < n {
         let c = netlist::cells::cell_at(file, Layout::InFile, k);
-        if !cell_sound(c, s, k) {
+        if !cell_sound(format, c, s, k) {
             return false;
         }
         k += 1;
@@ -66,12 +98,12 @@ fn cells_sound(file: &[u8], s: &[u8]) -> bool
     true
 }
 
-pub fn is_sound(file: &[u8], s: &[u8]) -> bool
-    requires { ⌜ Runs (now file) (now s) ⌝ }
-    ensures { λ r. ⌜ r ≡ sound (cellsOf (now (file .entry))) (now (s .entry)) ⌝ }
+pub fn is_sound(format: Format, file: &[u8], s: &[u8]) -> bool
+    requires { ⌜ Runs format (now file) (now s) ⌝ }
+    ensures { λ r. ⌜ r ≡ sound format (cellsOf (now (file .entry))) (now (s .entry)) ⌝ }
 {
     let number = word::get32(s, 4);
-    let flight = flight::flight(file, s);
-    let cells = cells_sound(file, s);
+    let flight = flight::flight(format, file, s);
+    let cells = cells_sound(format, file, s);
     (number == flight) & cells
 }

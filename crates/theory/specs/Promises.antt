@@ -5,7 +5,9 @@ pub mod Stands
 pub mod Replay
 pub mod Behaves
 pub mod Kept
+pub mod FullRuns
 pub mod Demands
+pub mod Formats
 pub mod Reference
 pub mod Tables
 pub mod Cases

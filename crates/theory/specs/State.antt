@@ -1,6 +1,7 @@
 -- The bytes of a state hold that solution.
 pub mod Arrays
 pub mod Holding
+pub mod Counters
 pub mod Flight
 pub mod Step
 pub mod Begin

@@ -1,4 +1,4 @@
-/* The plain engine in C: the published bytes of a state, three passes over the cells for each instant.
+/* The plain engine in C: the published bytes of a state, three passes over the cells for each instant. With COMPACT the state is a compact one.
    No workload calls a procedure, so that kind 39 is left out.
    published NETLIST INSTANTS STATE: runs a good netlist from zero start words until the finish is high or the instants are done,
    writes the state's bytes into STATE, and prints the nanoseconds of the instants and the memories, the last one first. */
@@ -8,12 +8,18 @@
 #include <string.h>
 #include <time.h>
 
-static uint8_t file[6656], cells[6 * 1024], state[8 + 40 * 1024 + 512];
+#ifdef COMPACT
+enum { CELL = 8 };
+#else
+enum { CELL = 40 };
+#endif
+
+static uint8_t file[6656], cells[6 * 1024], state[8 + CELL * 1024 + 512];
 static int count, finish;
 
 static unsigned get16(const uint8_t *p) { return p[0] | p[1] << 8; }
 static void put16(uint8_t *p, unsigned v) { p[0] = (uint8_t)v; p[1] = (uint8_t)(v >> 8); }
-static uint8_t *record(unsigned k) { return state + 8 + 40 * k; }
+static uint8_t *record(unsigned k) { return state + 8 + CELL * k; }
 static unsigned now(unsigned k) { return get16(record(k)); }
 static unsigned before(unsigned k) { return get16(record(k) + 2); }
 static int falls(unsigned clock) { return before(clock) == 1 && now(clock) != 1; }
@@ -35,13 +41,38 @@ static void store(const uint8_t *c) {
     if (falls(get16(c + 2))) put16(element(c, before(get16(c + 6 + 2))), before(get16(c + 4)));
 }
 
+#ifdef COMPACT
+/* Whether the pulse in the line of a delay of d comes out at the next instant. */
+static unsigned output(const uint8_t *r, unsigned d) { (void)d; return r[6] == 1; }
+
+/* A pulse that comes in has d instants to go. No workload sends one after another that is still on its way. */
+static void take(uint8_t *r, unsigned d, unsigned in) {
+    if (in && r[6] > 1) exit(1);
+    r[6] = (uint8_t)(in ? d : (unsigned)r[6] - (r[6] > 0));
+}
+#else
+static unsigned output(const uint8_t *r, unsigned d) { return r[8 + (d - 1) / 8] >> (d - 1) % 8 & 1; }
+
+/* The newest input stands in the lowest bit; four words of 64 bits are shifted by one. */
+static void take(uint8_t *r, unsigned d, unsigned in) {
+    uint64_t w[4];
+    (void)d;
+    memcpy(w, r + 8, 32);
+    w[3] = w[3] << 1 | w[2] >> 63;
+    w[2] = w[2] << 1 | w[1] >> 63;
+    w[1] = w[1] << 1 | w[0] >> 63;
+    w[0] = w[0] << 1 | in;
+    memcpy(r + 8, w, 32);
+}
+#endif
+
 /* What cell k shows, from the cells below it and what the state keeps; an array, which shows 0, stores its word first. */
 static unsigned shown(unsigned k, const uint8_t *c) {
     unsigned kind = c[0], a = get16(c + 2), b = get16(c + 4), d = c[1];
     const uint8_t *r = record(k);
     switch (kind) {
     case 1: return a;
-    case 34: return r[8 + (d - 1) / 8] >> (d - 1) % 8 & 1;
+    case 34: return output(r, d);
     case 40: return falls(a) ? before(b) : before(k);
     case 42: store(c); return 0;
     case 44: return get16(element(cells + 6 * a, now(b)));
@@ -64,17 +95,6 @@ static unsigned shown(unsigned k, const uint8_t *c) {
     }
 }
 
-/* The newest input stands in the lowest bit; four words of 64 bits are shifted by one. */
-static void shift(uint8_t *line, uint64_t bit) {
-    uint64_t w[4];
-    memcpy(w, line, 32);
-    w[3] = w[3] << 1 | w[2] >> 63;
-    w[2] = w[2] << 1 | w[1] >> 63;
-    w[1] = w[1] << 1 | w[0] >> 63;
-    w[0] = w[0] << 1 | bit;
-    memcpy(line, w, 32);
-}
-
 /* What comes in is counted and what has come out is not: a pulse at a delay's input and the one behind its output, held bits after and before. */
 static void settle_all(void) {
     uint32_t flight;
@@ -83,9 +103,9 @@ static void settle_all(void) {
         const uint8_t *c = cells + 6 * k;
         uint8_t *r = record(k);
         if (c[0] == 34) {
-            unsigned d = c[1] - 1, in = now(get16(c + 2)) == 1;
-            flight += in - (r[8 + d / 8] >> d % 8 & 1);
-            shift(r + 8, in);
+            unsigned d = c[1], in = now(get16(c + 2)) == 1;
+            flight += in - output(r, d);
+            take(r, d, in);
         } else if (c[0] == 38) {
             int a = r[4] || now(get16(c + 2)) == 1, b = r[5] || now(get16(c + 4)) == 1;
             flight -= r[4] + r[5];
@@ -117,7 +137,7 @@ static void instant(void) {
 
 static void write_state(const char *name) {
     FILE *out = fopen(name, "wb");
-    size_t length = 8 + 40 * count + 512;
+    size_t length = 8 + CELL * count + 512;
     if (!out || fwrite(state, 1, length, out) != length) exit(1);
     fclose(out);
 }

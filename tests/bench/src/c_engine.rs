@@ -4,11 +4,11 @@
 use crate::engine::{Engine, Measured, Row};
 use crate::tool::{folder, measured, output};
 use crate::workload::{Workload, START};
-use bindings::exports::hub_run_netlist;
-use bindings::replied;
+use bindings::calls;
 use std::fs;
 use std::path::Path;
 use std::process::Command;
+use values::Format;
 
 const INSTANTS: u32 = 1_000_000;
 
@@ -16,24 +16,34 @@ const INSTANTS: u32 = 1_000_000;
 const COMPARED: u32 = 1_000;
 
 pub fn row(workload: &Workload) -> Row {
-    Row::with_tools("C", &["gcc"], || engine(workload))
+    Row::with_tools("C", &["gcc"], || engine(workload, Format::Full))
 }
 
-fn engine(workload: &Workload) -> Engine {
-    let folder = folder("c", workload.name);
-    build(&folder);
+pub fn compact_row(workload: &Workload) -> Row {
+    Row::with_tools("C, compact", &["gcc"], || engine(workload, Format::Compact))
+}
+
+fn engine(workload: &Workload, format: Format) -> Engine {
+    let (tool, options) = match format {
+        Format::Full => ("c", &["-O3"][..]),
+        Format::Compact => ("c-compact", &["-O3", "-DCOMPACT"][..]),
+    };
+    let folder = folder(tool, workload.name);
+    build(&folder, options);
     fs::write(folder.join("netlist"), &workload.file).expect("the folder can be written");
     run(&folder, COMPARED);
     let state = fs::read(folder.join("state")).expect("the run has written it");
-    assert!(state == proved_state(workload), "C on {}", workload.name);
+    let proved = proved_state(workload, format);
+    assert!(state == proved, "C on {}", workload.name);
     Engine::new(INSTANTS, move || run(&folder, INSTANTS))
 }
 
-fn build(folder: &Path) {
+fn build(folder: &Path, options: &[&str]) {
     let source = Path::new(env!("CARGO_MANIFEST_DIR")).join("c/published.c");
     output(
         Command::new("gcc")
-            .args(["-O3", "-o"])
+            .args(options)
+            .arg("-o")
             .arg(folder.join("published"))
             .arg(source),
     );
@@ -48,8 +58,10 @@ fn run(folder: &Path, instants: u32) -> Measured {
     )
 }
 
-fn proved_state(workload: &Workload) -> Vec<u8> {
-    let mut state = workload.state();
-    replied(|reply| hub_run_netlist(&workload.file, &START, COMPARED, &mut state, reply));
+fn proved_state(workload: &Workload, format: Format) -> Vec<u8> {
+    let (file, mut state) = (&workload.file, workload.state(format));
+    calls::begin(format, file, &START, &mut state)
+        .and_then(|_| calls::continue_by(format, file, &mut state, COMPARED))
+        .expect("the workloads are good netlists");
     state
 }

@@ -26,7 +26,9 @@ fn main() {
         let rows = [
             second_engine::row(&workload),
             proved_engine::row(&workload),
+            proved_engine::compact_row(&workload),
             c_engine::row(&workload),
+            c_engine::compact_row(&workload),
             verilator::row(&workload),
             icarus::row(&workload),
         ];
@@ -63,7 +65,7 @@ fn print_table(workload: &Workload, rows: &[Row], times: &[Option<f64>]) {
         workload.name
     );
     println!(
-        "  {:10} {:>10} {:>12} {:>20} {:>16}",
+        "  {:16} {:>10} {:>12} {:>20} {:>16}",
         "engine", "instants", "ns/instant", "ns/(cell * instant)", "ratio to second"
     );
     // The second simulator stands first and is always there.
@@ -71,15 +73,15 @@ fn print_table(workload: &Workload, rows: &[Row], times: &[Option<f64>]) {
     for (row, time) in rows.iter().zip(times) {
         match (&row.engine, time) {
             (Ok(engine), Some(time)) => println!(
-                "  {:10} {:>10} {:>12.1} {:>20.3} {:>16.2}",
+                "  {:16} {:>10} {:>12.1} {:>20.3} {:>16.2}",
                 row.name,
                 engine.instants,
                 time,
                 time / cells as f64,
                 time / unit
             ),
-            (Err(why), _) => println!("  {:10} {why}", row.name),
-            (Ok(_), None) => println!("  {:10} not run", row.name),
+            (Err(why), _) => println!("  {:16} {why}", row.name),
+            (Ok(_), None) => println!("  {:16} not run", row.name),
         }
     }
     println!();

@@ -5,6 +5,7 @@ use second::contents::CONTENTS_LENGTH;
 use second::{netfile, state};
 use std::fs;
 use std::path::Path;
+use values::Format;
 
 /// The start words of every workload.
 pub const START: [u8; CONTENTS_LENGTH] = [0; CONTENTS_LENGTH];
@@ -17,8 +18,8 @@ pub struct Workload {
 
 impl Workload {
     /// A buffer for its state.
-    pub fn state(&self) -> Vec<u8> {
-        vec![0; state::length(self.netlist.cells.len())]
+    pub fn state(&self, format: Format) -> Vec<u8> {
+        vec![0; state::length(format, self.netlist.cells.len())]
     }
 
     /// Reads the workload of this name; the vectors are good netlists.

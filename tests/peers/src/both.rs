@@ -29,9 +29,9 @@ pub const BOTH: Peer = both! {
     write_cells(cells, finish, file);
     read_cells(file, at, cells);
     renumber(from, end, by, cells);
-    begin(file, words, state);
-    continue_by(file, n, state);
-    start(file, state);
+    begin(format, file, words, state);
+    continue_by(format, file, n, state);
+    start(format, file, state);
     run_program(given, program, words, budget, file, state);
     run_text(given, text, words, budget, file, state);
     run_netlist(file, words, budget, state);

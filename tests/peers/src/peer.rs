@@ -5,7 +5,7 @@
 //! gives back what it holds afterwards, so two peers are compared by comparing
 //! replies.
 
-use values::{Answer, Cell, End, Given, Refusal, Shape};
+use values::{Answer, Cell, End, Format, Given, Refusal, Shape};
 
 /// What a call answered, and its lent buffers afterwards, in argument order.
 #[derive(Clone, Debug, PartialEq, Eq)]
@@ -72,12 +72,12 @@ pub struct Peer {
     pub read_cells: fn(Bytes, usize, &[Cell]) -> Reply<Shape, Cell>,
     /// from, up to, by; lent: cells of six bytes; tells whether it has them
     pub renumber: fn(usize, usize, u16, Bytes) -> Reply<bool>,
-    /// netlist file, start words; lent: state
-    pub begin: fn(Bytes, Bytes, Bytes) -> Reply<Answer>,
-    /// netlist file, number of instants; lent: state
-    pub continue_by: fn(Bytes, u32, Bytes) -> Reply<Answer>,
-    /// netlist file; lent: state
-    pub start: fn(Bytes, Bytes) -> Reply<Answer>,
+    /// format of the state, netlist file, start words; lent: state
+    pub begin: fn(Format, Bytes, Bytes, Bytes) -> Reply<Answer>,
+    /// format of the state, netlist file, number of instants; lent: state
+    pub continue_by: fn(Format, Bytes, u32, Bytes) -> Reply<Answer>,
+    /// format of the state, netlist file; lent: state
+    pub start: fn(Format, Bytes, Bytes) -> Reply<Answer>,
     /// given, program, start words, budget; lent: netlist file, state
     pub run_program: fn(Given, Bytes, Bytes, u32, Bytes, Bytes) -> Reply<Answer>,
     /// given, text, start words, budget; lent: netlist file, state
@@ -126,13 +126,15 @@ macro_rules! implementation {
                     Ok(cell_calls::renumber(cells, from, end, by))
                 })
             },
-            begin: |file, words, state| {
-                Reply::lending(state, |state| calls::begin(file, words, state))
+            begin: |format, file, words, state| {
+                Reply::lending(state, |state| calls::begin(format, file, words, state))
             },
-            continue_by: |file, n, state| {
-                Reply::lending(state, |state| calls::continue_by(file, state, n))
+            continue_by: |format, file, n, state| {
+                Reply::lending(state, |state| calls::continue_by(format, file, state, n))
             },
-            start: |file, state| Reply::lending(state, |state| calls::start(file, state)),
+            start: |format, file, state| {
+                Reply::lending(state, |state| calls::start(format, file, state))
+            },
             run_program: |given, program, words, budget, file, state| {
                 Reply::lending_two(file, state, |file, state| {
                     calls::run_program(given, program, words, budget, file, state)

@@ -4,7 +4,7 @@
 use bindings::exports::*;
 use peers::SECOND;
 use second::table::BUILT_IN;
-use values::{Cell, Given};
+use values::{Cell, Format, Given};
 
 /// The bytes of a reply, the first of which is 3 where a call was refused.
 const LENGTH: usize = 48;
@@ -32,6 +32,8 @@ struct Memory {
     lent_cells: Vec<Cell>,
     lent_state: Vec<u8>,
     idle_state: Vec<u8>,
+    compact_state: Vec<u8>,
+    idle_compact: Vec<u8>,
 }
 
 impl Memory {
@@ -44,8 +46,11 @@ impl Memory {
         let lent_cell = Cell::new(LENT_BYTE, LENT_BYTE, 0, 0);
         let count = usize::from(shape.cells);
         let read = (SECOND.read_cells)(&netlist, 0, &vec![lent_cell; count]);
-        let begun = (SECOND.begin)(&netlist, &[0; 544], &[LENT_BYTE; 2_000]);
-        let ended = (SECOND.continue_by)(&netlist, 10, &begun.lent[0]);
+        let [(begun, ended), (compact, idle)] = Format::BOTH.map(|format| {
+            let begun = (SECOND.begin)(format, &netlist, &[0; 544], &[LENT_BYTE; 2_000]);
+            let ended = (SECOND.continue_by)(format, &netlist, 10, &begun.lent[0]);
+            (begun.lent[0].clone(), ended.lent[0].clone())
+        });
         Memory {
             program: PROGRAM.to_vec(),
             table: BUILT_IN.file().to_vec(),
@@ -57,8 +62,10 @@ impl Memory {
             lent_file: vec![LENT_BYTE; 600],
             lent_bytes: vec![LENT_BYTE; 6 * (count + 1)],
             lent_cells: vec![lent_cell; count + 2],
-            lent_state: begun.lent[0].clone(),
-            idle_state: ended.lent[0].clone(),
+            lent_state: begun,
+            idle_state: ended,
+            compact_state: compact,
+            idle_compact: idle,
             netlist,
         }
     }
@@ -99,6 +106,9 @@ const WRITING: &[(&str, Call)] = calls! { m:
     hub_begin(&m.netlist, &m.words, &mut m.lent_state);
     hub_continue(&m.netlist, &mut m.lent_state, 1);
     hub_start(&m.netlist, &mut m.idle_state);
+    hub_begin_compact(&m.netlist, &m.words, &mut m.compact_state);
+    hub_continue_compact(&m.netlist, &mut m.compact_state, 1);
+    hub_start_compact(&m.netlist, &mut m.idle_compact);
     hub_run_program(None, 0, &m.program, &m.words, 10, &mut m.lent_file, &mut m.lent_state);
     hub_run_program(Some(&m.table), 0, &m.program, &m.words, 10, &mut m.lent_file, &mut m.lent_state);
     hub_run_text(None, 0, TEXT, &m.words, 10, &mut m.lent_file, &mut m.lent_state);

@@ -1,5 +1,6 @@
 //! Two peers against each other, call by call: answers, places and every
-//! lent byte. And each by itself: a refused call changes no lent byte.
+//! lent byte. And each by itself: a refused call changes no lent byte, unless it
+//! is refusal 26.
 
 use crate::against_equations::instant_of;
 use crate::against_text;
@@ -9,7 +10,7 @@ use crate::lend::*;
 use crate::xorshift::Random;
 use peers::{Peer, Reply};
 use std::fmt::Debug;
-use values::Shape;
+use values::{Format, Refusal, Shape};
 
 /// Damaged netlists, cells and states for each job.
 pub const DAMAGED: usize = 4;
@@ -57,8 +58,10 @@ impl Pair<'_> {
     ) -> Result<(), String> {
         let random = &mut Random::new(damage);
         if let Some(shape) = self.same_reading(file, random)? {
-            let length = state_length(shape.cells.into());
-            self.same_calls(file, words, calls, length, random)?;
+            for format in Format::BOTH {
+                let length = state_length(format, shape.cells.into());
+                self.same_calls(format, file, words, calls, length, random)?;
+            }
         }
         for _ in 0..DAMAGED {
             let damaged = damage::netlist(file, random);
@@ -102,6 +105,7 @@ impl Pair<'_> {
     /// or at another instant.
     fn same_calls(
         &self,
+        format: Format,
         file: &[u8],
         words: &[u8],
         calls: &[Call],
@@ -109,7 +113,9 @@ impl Pair<'_> {
         random: &mut Random,
     ) -> Result<(), String> {
         let room = lent(length + random.pick(&[0, 1, 500]));
-        let begun = self.same("begin", &[&room], |peer| (peer.begin)(file, words, &room))?;
+        let begun = self.same("begin", &[&room], |peer| {
+            (peer.begin)(format, file, words, &room)
+        })?;
         if begun.result.is_err() {
             return Ok(());
         }
@@ -117,20 +123,22 @@ impl Pair<'_> {
         for call in calls {
             let buffer = lent_with(&state, call.room.around(length));
             let instant = instant_of(&state);
-            let reply = self.same(&format!("{:?}", call.ask), &[&buffer], |peer| {
-                call.ask.of(peer, file, instant, &buffer)
+            let name = format!("{:?}, {format:?}", call.ask);
+            let reply = self.same(&name, &[&buffer], |peer| {
+                call.ask.of(peer, format, file, instant, &buffer)
             })?;
-            if reply.result.is_ok() {
-                state.copy_from_slice(&reply.lent[0][..length]);
+            if let Some(left) = reply.lent[0].get(..length) {
+                state.copy_from_slice(left);
             }
         }
         for _ in 0..DAMAGED {
-            let damaged = damage::state(file, &state, random);
+            let damaged = damage::state(format, file, &state, random);
             let n = random.below(600) as u32;
-            self.same_on("damaged", file, n, &damaged)?;
+            self.same_on(format, "damaged", file, n, &damaged)?;
             let instant = MOST_INSTANT - 2 + random.below(4) as u32;
             state[..4].copy_from_slice(&instant.to_le_bytes());
             self.same_on(
+                format,
                 "near the last instant",
                 file,
                 random.below(3) as u32,
@@ -141,10 +149,17 @@ impl Pair<'_> {
     }
 
     /// A continuing and a start on a state of any origin.
-    fn same_on(&self, which: &str, file: &[u8], n: u32, state: &[u8]) -> Result<(), String> {
+    fn same_on(
+        &self,
+        format: Format,
+        which: &str,
+        file: &[u8],
+        n: u32,
+        state: &[u8],
+    ) -> Result<(), String> {
         for ask in [Ask::Go(n), Ask::Start] {
-            self.same(&format!("{ask:?}, {which}"), &[state], |peer| {
-                ask.of(peer, file, instant_of(state), state)
+            self.same(&format!("{ask:?}, {format:?}, {which}"), &[state], |peer| {
+                ask.of(peer, format, file, instant_of(state), state)
             })?;
         }
         Ok(())
@@ -201,7 +216,8 @@ impl Pair<'_> {
         if left.lent != right.lent {
             return Err(format!("{name}: the lent bytes differ afterwards"));
         }
-        if left.result.is_err() && left.lent != lent {
+        let may_change = matches!(left.result, Ok(_) | Err(Refusal { number: 26, .. }));
+        if !may_change && left.lent != lent {
             return Err(format!("{name}: refused, yet lent bytes changed"));
         }
         Ok(left)

@@ -14,7 +14,7 @@ use peers::{Peer, Reply};
 use second::calls;
 use second::rules::Moment;
 use std::fmt::Debug;
-use values::{Answer, End, Given, Refusal};
+use values::{Answer, End, Format, Given, Refusal};
 
 /// How a job came out, for the tally.
 #[derive(Clone, Copy, Debug, PartialEq, Eq)]
@@ -54,7 +54,7 @@ pub fn compare(peer: &Peer, job: &Job) -> Result<Seen, String> {
         peer,
         job,
         file: &compiled.lent[0][..file_length(shape.cells.into())],
-        length: state_length(shape.cells.into()),
+        length: state_length(Format::Full, shape.cells.into()),
     };
     let first = list.first_run(words)?;
     let starts = list.check_calls(first, words)?;
@@ -140,7 +140,7 @@ impl List<'_> {
 
     /// The beginning and the list of calls, the state threaded through.
     fn check_calls(&self, first: Run, words: &[u8]) -> Result<Starts, String> {
-        let begun = (self.peer.begin)(self.file, words, &lent(self.length));
+        let begun = (self.peer.begin)(Format::Full, self.file, words, &lent(self.length));
         self.check_answer("begin", first, &begun, first.stop(0, 0), 1)?;
         let mut state = begun.lent[0].clone();
         let (mut run, mut instant) = (first, 0);
@@ -148,7 +148,9 @@ impl List<'_> {
         for (index, call) in self.job.calls.iter().enumerate() {
             let name = format!("call {index}, {:?}", call.ask);
             let buffer = lent_with(&state, call.room.around(self.length));
-            let reply = call.ask.of(self.peer, self.file, instant, &buffer);
+            let reply = call
+                .ask
+                .of(self.peer, Format::Full, self.file, instant, &buffer);
             if let Some(number) = self.refusal(call, &buffer, run, instant) {
                 expect(&name, reply.result, Err(Refusal::new(number, 0)))?;
                 expect(&name, &reply.lent[0], &buffer)?;

@@ -2,17 +2,16 @@
 //! refused, some makes another good input.
 
 use crate::flight;
+use crate::formats::LEFT;
 use crate::generate::Program;
-use crate::lend::ARRAYS;
+use crate::lend::{cell_length, ARRAYS, HEADER};
 use crate::xorshift::Random;
 use second::cells::{sort, Sort, DELAY, MERGE, RETURN};
 use second::netfile;
-use values::{Cell, Given};
+use values::{Cell, Format};
 
 const BLOCK: usize = 512;
 const CELLS_IN_BLOCK: usize = 84;
-const STATE_HEADER: usize = 8;
-const STATE_CELL: usize = 40;
 
 /// Kinds at and beyond the ends of the known ranges.
 const KINDS: [u8; 16] = [0, 1, 2, 9, 10, 11, 15, 16, 18, 20, 23, 25, 26, 27, 28, 32];
@@ -147,48 +146,48 @@ pub fn mend_checks(file: &mut [u8]) {
 /// A state of a netlist with one to four changed fields. Most changes are
 /// such as refusal 15 lets pass: wires and lines that contradict each other, and
 /// a number that is true of them.
-pub fn state(file: &[u8], state: &[u8], random: &mut Random) -> Vec<u8> {
+pub fn state(format: Format, file: &[u8], state: &[u8], random: &mut Random) -> Vec<u8> {
+    let cells = netfile::read(file).expect("a good netlist").cells;
     let mut state = state.to_vec();
-    let arrays = state.len() - ARRAYS;
-    let cells = (arrays - STATE_HEADER) / STATE_CELL;
+    let (arrays, length) = (state.len() - ARRAYS, cell_length(format));
     for _ in 0..random.between(1, 4) {
-        let cell = random.below(cells);
-        let place = STATE_HEADER + STATE_CELL * cell;
+        let cell = random.below(cells.len());
+        let place = HEADER + length * cell;
+        let bytes = place..place + length;
         match random.below(12) {
-            0 => set_random_byte(&mut state[..STATE_HEADER], random),
-            1 => set_random_byte(&mut state[place..place + STATE_CELL], random),
+            0 => set_random_byte(&mut state[..HEADER], random),
+            1 => set_random_byte(&mut state[bytes], random),
             2 => set_random_byte(&mut state[arrays..], random),
-            _ => contradict(
-                kind_of(file, cell),
-                &mut state[place..place + STATE_CELL],
-                random,
-            ),
+            _ => contradict(format, cells[cell], &mut state[bytes], random),
         }
     }
     if !random.once_in(8) {
-        let kinds = netfile::read(file).map_or(vec![], |netlist| netlist.cells);
-        let number = flight::counted(&kinds, &state);
+        let number = flight::counted(format, &cells, &state);
         flight::tell(&mut state, number);
     }
     state
 }
 
-/// The kind of a cell in a netlist file.
-fn kind_of(file: &[u8], cell: usize) -> u8 {
-    file[BLOCK * (cell / CELLS_IN_BLOCK) + 8 + 6 * (cell % CELLS_IN_BLOCK)]
+/// Changes a field that a cell has, to a value it may have.
+fn contradict(format: Format, cell: Cell, bytes: &mut [u8], random: &mut Random) {
+    let value = random.pick(&[0, 2]);
+    match (sort(cell.kind), cell.kind, format) {
+        (Sort::Control, DELAY, Format::Full) => contradict_line(bytes, random),
+        (Sort::Control, DELAY, Format::Compact) => {
+            bytes[LEFT] = random.below(usize::from(cell.delay) + 1) as u8;
+        }
+        (Sort::Control, MERGE, _) => bytes[random.pick(&[value, 4, 5])] ^= 1,
+        (Sort::Control, RETURN, _) => bytes[random.pick(&[value, 4])] ^= 1,
+        (Sort::Control, ..) => bytes[value] ^= 1,
+        _ => set_random_byte(&mut bytes[value..value + 2], random),
+    }
 }
 
-/// Changes a field that a cell of this kind has, to a value it may have.
-fn contradict(kind: u8, cell: &mut [u8], random: &mut Random) {
-    let value = random.pick(&[0, 2]);
-    match (sort(kind), kind) {
-        // The newest inputs matter more than the rest of the line.
-        (Sort::Control, DELAY) if random.once_in(2) => cell[8] ^= 1 << random.below(2),
-        (Sort::Control, DELAY) => cell[random.between(8, 39)] ^= 1 << random.below(8),
-        (Sort::Control, MERGE) => cell[random.pick(&[value, 4, 5])] ^= 1,
-        (Sort::Control, RETURN) => cell[random.pick(&[value, 4])] ^= 1,
-        (Sort::Control, _) => cell[value] ^= 1,
-        _ => set_random_byte(&mut cell[value..value + 2], random),
+/// The newest inputs matter more than the rest of the line.
+fn contradict_line(bytes: &mut [u8], random: &mut Random) {
+    match random.once_in(2) {
+        true => bytes[8] ^= 1 << random.below(2),
+        false => bytes[random.between(8, 39)] ^= 1 << random.below(8),
     }
 }
 
@@ -200,7 +199,7 @@ mod tests {
     use second::calls;
     use second::table::BUILT_IN;
     use std::collections::BTreeSet;
-    use values::Refusal;
+    use values::{Given, Refusal};
 
     /// The refusals, 0 for none, that calls on 4,000 damaged programs meet.
     fn met(call: impl Fn(&Program, &mut Random) -> Result<(), Refusal>) -> BTreeSet<u8> {
@@ -213,12 +212,12 @@ mod tests {
     }
 
     /// The netlist file and the begun state of a good program.
-    fn begun(good: &Program) -> (Vec<u8>, Vec<u8>) {
+    fn begun(format: Format, good: &Program) -> (Vec<u8>, Vec<u8>) {
         let (given, mut file) = (Given::procedures(good.procedures), lent(MOST_FILE));
         let shape = calls::compile(given, &good.bytes, &mut file).expect("a good program");
         file.truncate(file_length(shape.cells.into()));
-        let mut state = lent(state_length(shape.cells.into()));
-        calls::begin(&file, &[0; WORDS], &mut state).expect("a good netlist");
+        let mut state = lent(state_length(format, shape.cells.into()));
+        calls::begin(format, &file, &[0; WORDS], &mut state).expect("a good netlist");
         (file, state)
     }
 
@@ -234,7 +233,7 @@ mod tests {
     #[test]
     fn damaged_netlists_meet_refusals_9_to_12() {
         let met = met(|good, random| {
-            let damaged = netlist(&begun(good).0, random);
+            let damaged = netlist(&begun(Format::Full, good).0, random);
             calls::read_netlist(&damaged, &mut lent(MOST_FILE)).map(drop)
         });
         assert_eq!(met, [0, 9, 10, 11, 12].into());
@@ -243,7 +242,7 @@ mod tests {
     #[test]
     fn damaged_cells_meet_refusals_11_and_12() {
         let met = met(|good, random| {
-            let netlist = netfile::read(&begun(good).0).expect("a good netlist");
+            let netlist = netfile::read(&begun(Format::Full, good).0).expect("a good netlist");
             let (damaged, finish) = cells(&netlist.cells, netlist.finish, random);
             let bytes = Cell::all_bytes(&damaged);
             calls::write_netlist(&bytes, finish, &mut lent(MOST_FILE)).map(drop)
@@ -251,21 +250,31 @@ mod tests {
         assert_eq!(met, [0, 11, 12].into());
     }
 
+    /// A compact state may be so that a second pulse enters a line.
     #[test]
     fn damaged_states_meet_refusals_15_and_16() {
-        let met = met(|good, random| {
-            let (file, begun) = begun(good);
-            calls::continue_by(&file, &mut state(&file, &begun, random), 1).map(drop)
-        });
-        assert_eq!(met, [0, 15, 16].into());
+        for (format, refusals) in [
+            (Format::Full, &[0, 15, 16][..]),
+            (Format::Compact, &[0, 15, 16, 26]),
+        ] {
+            let met = met(|good, random| {
+                let (file, begun) = begun(format, good);
+                let mut damaged = state(format, &file, &begun, random);
+                calls::continue_by(format, &file, &mut damaged, 40).map(drop)
+            });
+            assert_eq!(met, refusals.iter().copied().collect(), "{format:?}");
+        }
     }
 
     #[test]
     fn damaged_states_meet_refusal_23_too() {
-        let met = met(|good, random| {
-            let (file, begun) = begun(good);
-            calls::start(&file, &mut state(&file, &begun, random)).map(drop)
-        });
-        assert_eq!(met, [0, 15, 16, 23].into());
+        for format in Format::BOTH {
+            let met = met(|good, random| {
+                let (file, begun) = begun(format, good);
+                let mut damaged = state(format, &file, &begun, random);
+                calls::start(format, &file, &mut damaged).map(drop)
+            });
+            assert_eq!(met, [0, 15, 16, 23].into(), "{format:?}");
+        }
     }
 }

@@ -4,7 +4,7 @@
 use crate::minimise::subtree_end;
 use crate::texts::is_of_array;
 use peers::{Peer, Reply, SECOND};
-use values::{Cell, End, Given, Refusal, Shape};
+use values::{Cell, End, Format, Given, Refusal, Shape};
 
 /// Its rules take an instant too many for a program with a parallel node.
 pub const SLOW_PARALLEL: Peer = Peer {
@@ -27,8 +27,8 @@ pub const SLOW_PARALLEL: Peer = Peer {
 /// Says open one instant before the budget is used, and counts it anyway.
 const EARLY_OPEN: Peer = Peer {
     name: "early open",
-    continue_by: |file, n, state| {
-        let mut reply = (SECOND.continue_by)(file, n.saturating_sub(1), state);
+    continue_by: |format, file, n, state| {
+        let mut reply = (SECOND.continue_by)(format, file, n.saturating_sub(1), state);
         if let Ok(answer) = &mut reply.result {
             answer.count += n.min(1);
         }
@@ -40,8 +40,8 @@ const EARLY_OPEN: Peer = Peer {
 /// Evaluates instant 0 and only copies it after, with the instant moved on.
 const COPYING: Peer = Peer {
     name: "copying",
-    continue_by: |file, n, state| {
-        let mut reply = (SECOND.continue_by)(file, 0, state);
+    continue_by: |format, file, n, state| {
+        let mut reply = (SECOND.continue_by)(format, file, 0, state);
         if let Ok(answer) = &mut reply.result {
             answer.instant += n;
             answer.count = n;
@@ -294,13 +294,14 @@ mod tests {
     use super::*;
     use crate::against_peer::Pair;
     use crate::faulty_arrays::*;
+    use crate::faulty_compact::*;
     use crate::faulty_loops::*;
     use crate::faulty_procedures::*;
     use crate::faulty_starts::*;
     use crate::job::{self, Job};
     use crate::texts::has_loops;
     use crate::xorshift::Random;
-    use crate::{against_equations, against_rules, against_tables, against_text};
+    use crate::{against_equations, against_full, against_rules, against_tables, against_text};
     use crate::{generate, netlists};
 
     const JOBS: u64 = 40;
@@ -321,8 +322,12 @@ mod tests {
     }
 
     fn disagrees_with_equations(peer: &Peer) -> bool {
+        disagrees_with_equations_of(Format::Full, peer)
+    }
+
+    fn disagrees_with_equations_of(format: Format, peer: &Peer) -> bool {
         disagrees_on_netlists(|file, words, random| {
-            against_equations::compare(peer, file, words, random.bits())
+            against_equations::compare(peer, format, file, words, random.bits()).map(drop)
         })
     }
 
@@ -440,6 +445,25 @@ mod tests {
     #[test]
     fn equations_tell_faulty_starts() {
         assert_tells(disagrees_with_equations, &[STALE_COUNT, HASTY]);
+    }
+
+    /// Compiled programs, of which a loop's line is entered as its pulse comes out.
+    #[test]
+    fn full_states_tell_faulty_compact_ones() {
+        let disagrees = |peer: &Peer| {
+            (0..4 * JOBS).any(|seed| against_full::compare(peer, &Job::of_seed(seed)).is_err())
+        };
+        assert_tells(disagrees, &[ONE_OFF, NARROW]);
+    }
+
+    #[test]
+    fn equations_and_a_good_peer_tell_faulty_compact_states() {
+        let faulty = [ONE_OFF, LATE, BAD_INSTANT, NARROW];
+        assert_tells(
+            |peer| disagrees_with_equations_of(Format::Compact, peer),
+            &faulty,
+        );
+        assert_tells(disagrees_with_second_on_netlists, &faulty);
     }
 
     /// Of the calls that are compared only the check: a clash of arrays is rare,

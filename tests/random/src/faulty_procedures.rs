@@ -15,9 +15,13 @@ const SHARED: u8 = 25;
 /// Keeps a lone b in a call's merge, as the merge of a parallel node does.
 pub const LONE_B_KEPT: Peer = Peer {
     name: "lone b kept",
-    begin: |file, words, state| (SECOND.begin)(&with_plain_merges(file), words, state),
-    continue_by: |file, n, state| (SECOND.continue_by)(&with_plain_merges(file), n, state),
-    start: |file, state| (SECOND.start)(&with_plain_merges(file), state),
+    begin: |format, file, words, state| {
+        (SECOND.begin)(format, &with_plain_merges(file), words, state)
+    },
+    continue_by: |format, file, n, state| {
+        (SECOND.continue_by)(format, &with_plain_merges(file), n, state)
+    },
+    start: |format, file, state| (SECOND.start)(format, &with_plain_merges(file), state),
     run_netlist: |file, words, budget, state| {
         (SECOND.run_netlist)(&with_plain_merges(file), words, budget, state)
     },
@@ -37,7 +41,7 @@ fn with_plain_merges(file: &[u8]) -> Vec<u8> {
 /// Holds a on in a call's merge after its output.
 pub const NOT_CLEARED: Peer = Peer {
     name: "not cleared",
-    continue_by: |file, n, state| walked(Fault::NotCleared, file, n, state),
+    continue_by: |format, file, n, state| walked(Fault::NotCleared, format, file, n, state),
     ..SECOND
 };
 

@@ -3,33 +3,43 @@
 use crate::against_equations::instant_of;
 use crate::flight;
 use crate::job::MOST_INSTANT;
-use crate::lend::{state_length, ARRAYS, WORDS};
+use crate::lend::{cell_length, state_length, ARRAYS, HEADER, WORDS};
 use crate::walking::{Fault, Walk};
 use peers::{Bytes, Peer, Reply, SECOND};
 use second::cells::Netlist;
 use second::netfile;
 use std::cell::RefCell;
-use values::{Answer, Refusal};
+use values::{Answer, Format, Refusal};
 
 const IN_FLIGHT: Refusal = Refusal::new(23, 0);
 
 /// Counts all inputs that a line keeps, those too that have come out.
 pub const STALE_COUNT: Peer = Peer {
     name: "stale count",
-    begin: |file, words, state| counting_stale(file, (SECOND.begin)(file, words, state)),
-    continue_by: |file, n, state| {
-        taking_stale(file, state, |state| (SECOND.continue_by)(file, n, state))
+    begin: |format, file, words, state| {
+        let right = (SECOND.begin)(format, file, words, state);
+        match format {
+            Format::Full => counting_stale(file, right),
+            Format::Compact => right,
+        }
     },
-    start: |file, state| match netfile::read(file) {
-        Ok(netlist) if has_stale(&netlist, state) => refused(IN_FLIGHT, state),
-        _ => taking_stale(file, state, |state| (SECOND.start)(file, state)),
+    continue_by: |format, file, n, state| {
+        taking_stale(format, file, state, |state| {
+            (SECOND.continue_by)(format, file, n, state)
+        })
+    },
+    start: |format, file, state| match (format, netfile::read(file)) {
+        (Format::Full, Ok(netlist)) if has_stale(&netlist, state) => refused(IN_FLIGHT, state),
+        _ => taking_stale(format, file, state, |state| {
+            (SECOND.start)(format, file, state)
+        }),
     },
     ..SECOND
 };
 
 /// Whether a state that it wrote itself tells of stale inputs.
 fn has_stale(netlist: &Netlist, state: &[u8]) -> bool {
-    let whole = state.len() >= state_length(netlist.cells.len());
+    let whole = state.len() >= state_length(Format::Full, netlist.cells.len());
     let fits = whole && instant_of(state) < MOST_INSTANT;
     fits && flight::told(state) == stale_count(netlist, state) && flight::told(state) > 0
 }
@@ -40,14 +50,18 @@ fn stale_count(netlist: &Netlist, state: &[u8]) -> u32 {
 
 /// A call on a state that tells its own number, which it takes for right.
 fn taking_stale(
+    format: Format,
     file: &[u8],
     state: &[u8],
     call: impl FnOnce(&[u8]) -> Reply<Answer>,
 ) -> Reply<Answer> {
+    if format == Format::Compact {
+        return call(state);
+    }
     let mut taken = state.to_vec();
     if let Ok(netlist) = netfile::read(file) {
-        if state.len() >= state_length(netlist.cells.len()) {
-            let right = flight::counted(&netlist.cells, state);
+        if state.len() >= state_length(format, netlist.cells.len()) {
+            let right = flight::counted(format, &netlist.cells, state);
             let believed = flight::told(state) == stale_count(&netlist, state);
             flight::tell(&mut taken, if believed { right } else { right + 1 });
         }
@@ -71,10 +85,10 @@ fn counting_stale(file: &[u8], mut reply: Reply<Answer>) -> Reply<Answer> {
 /// Gives a start whatever is in flight.
 pub const HASTY: Peer = Peer {
     name: "hasty",
-    start: |file, state| {
-        let right = (SECOND.start)(file, state);
-        match (netfile::read(file), right.result) {
-            (Ok(netlist), Err(IN_FLIGHT)) => started(netlist, state),
+    start: |format, file, state| {
+        let right = (SECOND.start)(format, file, state);
+        match (format, netfile::read(file), right.result) {
+            (Format::Full, Ok(netlist), Err(IN_FLIGHT)) => started(netlist, state),
             _ => right,
         }
     },
@@ -84,7 +98,8 @@ pub const HASTY: Peer = Peer {
 fn started(netlist: Netlist, state: &[u8]) -> Reply<Answer> {
     let fault = Fault::None;
     let walk = Walk { netlist, fault };
-    let (run, past) = state.split_at(state_length(walk.netlist.cells.len()));
+    let length = state_length(Format::Full, walk.netlist.cells.len());
+    let (run, past) = state.split_at(length);
     let run = walk.next(run, true);
     Reply {
         result: Ok(walk.answer(&run, 1)),
@@ -100,39 +115,39 @@ thread_local! {
 /// Runs again from the words that the first run was begun with.
 pub const FORGETTING: Peer = Peer {
     name: "forgetting",
-    begin: |file, words, state| {
+    begin: |format, file, words, state| {
         BEGUN.with(|begun| *begun.borrow_mut() = words.to_vec());
-        (SECOND.begin)(file, words, state)
+        (SECOND.begin)(format, file, words, state)
     },
-    start: |file, state| {
-        let (right, netlist) = ((SECOND.start)(file, state), netfile::read(file));
-        let (Ok(_), Ok(netlist)) = (right.result, netlist) else {
+    start: |format, file, state| {
+        let right = (SECOND.start)(format, file, state);
+        let (Ok(_), Ok(netlist)) = (right.result, netfile::read(file)) else {
             return right;
         };
         let mut forgotten = state.to_vec();
-        BEGUN.with(|words| put_words(&netlist, &words.borrow(), &mut forgotten));
-        (SECOND.start)(file, &forgotten)
+        BEGUN.with(|words| put_words(format, &netlist, &words.borrow(), &mut forgotten));
+        (SECOND.start)(format, file, &forgotten)
     },
     ..SECOND
 };
 
 /// Puts start words into the memories and the arrays of a state.
-fn put_words(netlist: &Netlist, words: &[u8], state: &mut [u8]) {
+fn put_words(format: Format, netlist: &Netlist, words: &[u8], state: &mut [u8]) {
     for (memory, word) in netlist.memories().into_iter().zip(words.chunks_exact(2)) {
-        state[8 + 40 * memory..][..2].copy_from_slice(word);
+        state[HEADER + cell_length(format) * memory..][..2].copy_from_slice(word);
     }
-    let arrays = state_length(netlist.cells.len()) - ARRAYS;
+    let arrays = state_length(format, netlist.cells.len()) - ARRAYS;
     state[arrays..][..ARRAYS].copy_from_slice(&words[WORDS - ARRAYS..WORDS]);
 }
 
 /// Doesn't count the instant of a start for refusal 16.
 pub const UNCOUNTED: Peer = Peer {
     name: "uncounted",
-    start: |file, state| {
-        let right = (SECOND.start)(file, state);
+    start: |format, file, state| {
+        let right = (SECOND.start)(format, file, state);
         match right.result {
             Err(Refusal { number: 16, .. }) if instant_of(state) == MOST_INSTANT => {
-                beyond(file, state)
+                beyond(format, file, state)
             }
             _ => right,
         }
@@ -141,11 +156,11 @@ pub const UNCOUNTED: Peer = Peer {
 };
 
 /// A start for the instant after the last.
-fn beyond(file: Bytes, state: Bytes) -> Reply<Answer> {
+fn beyond(format: Format, file: Bytes, state: Bytes) -> Reply<Answer> {
     let tell = |state: &mut [u8], instant: u32| state[..4].copy_from_slice(&instant.to_le_bytes());
     let mut earlier = state.to_vec();
     tell(&mut earlier, 0);
-    let mut reply = (SECOND.start)(file, &earlier);
+    let mut reply = (SECOND.start)(format, file, &earlier);
     match &mut reply.result {
         Ok(answer) => {
             answer.instant = MOST_INSTANT + 1;

@@ -7,7 +7,7 @@ use crate::tables::{self, Table};
 use crate::xorshift::Random;
 use peers::{Peer, Reply};
 use second::table::BUILT_IN;
-use values::{Answer, Given};
+use values::{Answer, Format, Given};
 
 /// The last instant that a run may come to.
 pub const MOST_INSTANT: u32 = 1_000_000;
@@ -37,11 +37,18 @@ impl Ask {
         }
     }
 
-    /// Asks it of a peer, on a state of this instant.
-    pub fn of(self, peer: &Peer, file: &[u8], instant: u32, state: &[u8]) -> Reply<Answer> {
+    /// Asks it of a peer, on a state of this format and instant.
+    pub fn of(
+        self,
+        peer: &Peer,
+        format: Format,
+        file: &[u8],
+        instant: u32,
+        state: &[u8],
+    ) -> Reply<Answer> {
         match self {
-            Ask::Start => (peer.start)(file, state),
-            _ => (peer.continue_by)(file, self.most(instant), state),
+            Ask::Start => (peer.start)(format, file, state),
+            _ => (peer.continue_by)(format, file, self.most(instant), state),
         }
     }
 }

@@ -1,6 +1,6 @@
 //! Lent buffers: how long results are, and what a buffer holds before one.
 
-use values::Cell;
+use values::{Cell, Format};
 
 /// The longest netlist file, 13 blocks.
 pub const MOST_FILE: usize = 6656;
@@ -9,7 +9,7 @@ pub const MOST_FILE: usize = 6656;
 pub const MOST_CELLS: usize = 6144;
 
 /// The longest state, of 1,024 cells.
-pub const MOST_STATE: usize = state_length(1_024);
+pub const MOST_STATE: usize = state_length(Format::Full, 1_024);
 
 /// The bytes of start words, and those among them of the arrays, which stand
 /// last, as in a state.
@@ -41,6 +41,17 @@ pub fn file_length(cells: usize) -> usize {
 }
 
 /// The bytes of the state of this many cells.
-pub const fn state_length(cells: usize) -> usize {
-    8 + 40 * cells + ARRAYS
+pub const fn state_length(format: Format, cells: usize) -> usize {
+    HEADER + cell_length(format) * cells + ARRAYS
+}
+
+/// The bytes of a state before those of its cells.
+pub const HEADER: usize = 8;
+
+/// The bytes of a cell in a state.
+pub const fn cell_length(format: Format) -> usize {
+    match format {
+        Format::Full => 40,
+        Format::Compact => 8,
+    }
 }

@@ -1,12 +1,14 @@
-//! Random comparison: circuits with rules, texts with programs, simulators
-//! with equations, netlists as cells with netlists as bytes, peers with each
-//! other, all of it under random tables. `random [--seed S] [--count C]`
+//! Random comparison: circuits with rules, compact states with full ones, texts
+//! with programs, simulators with equations, netlists as cells with netlists as
+//! bytes, peers with each other, all of it under random tables.
+//! `random [--seed S] [--count C]`
 //!
 //! A disagreement is printed with a minimised program and ends the run with
 //! a code that isn't zero.
 
 mod against_bytes;
 mod against_equations;
+mod against_full;
 mod against_peer;
 mod against_rules;
 mod against_tables;
@@ -17,12 +19,15 @@ mod faulty;
 #[cfg(test)]
 mod faulty_arrays;
 #[cfg(test)]
+mod faulty_compact;
+#[cfg(test)]
 mod faulty_loops;
 #[cfg(test)]
 mod faulty_procedures;
 #[cfg(test)]
 mod faulty_starts;
 mod flight;
+mod formats;
 mod generate;
 mod job;
 mod lend;

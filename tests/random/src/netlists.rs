@@ -123,6 +123,7 @@ mod tests {
     use super::*;
     use crate::lend::{lent, state_length, WORDS};
     use second::calls;
+    use values::Format;
 
     #[test]
     fn every_netlist_is_good_and_many_stay_lively() {
@@ -139,8 +140,8 @@ mod tests {
     /// instants, and whether an element has changed in the last 500.
     fn late_changes(file: &[u8]) -> (bool, bool) {
         let cells = netfile::read(file).expect("a good netlist").cells.len();
-        let mut state = lent(state_length(cells));
-        calls::begin(file, &[1; WORDS], &mut state).expect("a good netlist");
+        let mut state = lent(state_length(Format::Full, cells));
+        calls::begin(Format::Full, file, &[1; WORDS], &mut state).expect("a good netlist");
         let early = state_at(file, &mut state, 100);
         let late = state_at(file, &mut state, 600);
         let (records, elements) = late[8..].split_at(40 * cells);
@@ -153,7 +154,7 @@ mod tests {
     fn state_at(file: &[u8], state: &mut [u8], instant: u32) -> Vec<u8> {
         let mut left = instant - second::state::instant(state);
         while left > 0 {
-            left -= calls::continue_by(file, state, left)
+            left -= calls::continue_by(Format::Full, file, state, left)
                 .expect("a good state")
                 .count;
         }

@@ -8,10 +8,11 @@ use crate::against_rules::{self, Seen};
 use crate::job::{self, Job};
 use crate::tally::Tally;
 use crate::xorshift::Random;
-use crate::{against_equations, against_tables, against_text};
+use crate::{against_equations, against_full, against_tables, against_text};
 use crate::{generate, listing, minimise, netlists};
 use peers::{Peer, PROVED, SECOND};
 use second::netfile;
+use values::Format;
 
 const LEFT: Peer = SECOND;
 const RIGHT: Peer = PROVED;
@@ -26,11 +27,11 @@ pub fn run(seed: u64, count: u64) -> Result<Tally, String> {
         let job_seed = Random::new(seed).bits().wrapping_add(number);
         let job = Job::of_seed(job_seed);
         match compare(&job) {
-            Ok(seen) => tally.add(&job, seen),
+            Ok((seen, compact)) => tally.add(&job, seen, compact),
             Err(what) => return Err(report(&job, number, &what)),
         }
         if number % PROGRAMS_FOR_NETLIST == 0 {
-            compare_netlist(&mut Random::new(!job_seed))
+            tally.crowded += compare_netlist(&mut Random::new(!job_seed))
                 .map_err(|what| format!("netlist {number}: {what}"))?;
             tally.netlists += 1;
         }
@@ -39,8 +40,9 @@ pub fn run(seed: u64, count: u64) -> Result<Tally, String> {
 }
 
 /// A program: the peers with each other, and each by itself, calls with the
-/// table, texts with the program and the circuit with the rules.
-fn compare(job: &Job) -> Result<Seen, String> {
+/// table, texts with the program, compact states with full ones and the circuit
+/// with the rules. Tells how many calls there were on compact states.
+fn compare(job: &Job) -> Result<(Seen, u64), String> {
     let pair = Pair {
         left: &LEFT,
         right: &RIGHT,
@@ -50,13 +52,15 @@ fn compare(job: &Job) -> Result<Seen, String> {
     against_tables::compare(&RIGHT, job)?;
     against_text::compare(&LEFT, job)?;
     against_text::compare(&RIGHT, job)?;
+    against_full::compare(&LEFT, job)?;
+    let compact = against_full::compare(&RIGHT, job)?;
     against_rules::compare(&LEFT, job)?;
-    against_rules::compare(&RIGHT, job)
+    Ok((against_rules::compare(&RIGHT, job)?, compact))
 }
 
 /// A random netlist: the peers with each other, and the states of each with
-/// the equations.
-fn compare_netlist(random: &mut Random) -> Result<(), String> {
+/// the equations. Tells how many runs of a peer met refusal 26.
+fn compare_netlist(random: &mut Random) -> Result<u64, String> {
     let file = netlists::netlist(random);
     let words = generate::start_words(random);
     let (calls, damage) = (job::calls(random), random.bits());
@@ -64,10 +68,15 @@ fn compare_netlist(random: &mut Random) -> Result<(), String> {
         left: &LEFT,
         right: &RIGHT,
     };
-    pair.compare_netlist(&file, &words, &calls, damage)
-        .and_then(|()| against_equations::compare(&LEFT, &file, &words, damage))
-        .and_then(|()| against_equations::compare(&RIGHT, &file, &words, damage))
-        .map_err(|what| format!("{what}\nwords: {words:?}\n{}", cells_text(&file)))
+    let compare = |peer, format| against_equations::compare(peer, format, &file, &words, damage);
+    let both = || {
+        pair.compare_netlist(&file, &words, &calls, damage)?;
+        compare(&LEFT, Format::Full)?;
+        compare(&RIGHT, Format::Full)?;
+        compare(&LEFT, Format::Compact)?;
+        compare(&RIGHT, Format::Compact)
+    };
+    both().map_err(|what: String| format!("{what}\nwords: {words:?}\n{}", cells_text(&file)))
 }
 
 fn cells_text(file: &[u8]) -> String {
@@ -104,5 +113,6 @@ mod tests {
         let kinds = starts.early.min(starts.at_the_end).min(starts.late);
         assert!(kinds >= 500, "{tally}");
         assert_eq!(tally.netlists, 125);
+        assert!(tally.compact >= 100_000 && tally.crowded >= 100, "{tally}");
     }
 }

@@ -4,7 +4,7 @@ use crate::damage::mend_checks;
 use crate::xorshift::Random;
 use second::table::Times;
 use std::ops::RangeInclusive;
-use values::{Given, Refusal};
+use values::Refusal;
 
 const LENGTH: usize = 512;
 
@@ -103,6 +103,7 @@ mod tests {
     use super::*;
     use second::calls;
     use std::collections::BTreeMap;
+    use values::Given;
 
     const OK: [u8; 4] = [16, 0, 0, 0];
 

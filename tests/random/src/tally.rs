@@ -17,12 +17,17 @@ pub struct Tally {
     pub loops: u64,
     pub calls: u64,
     pub starts: Starts,
+    /// Calls on compact states of programs, compared with full ones.
+    pub compact: u64,
     pub netlists: u64,
+    /// Runs of netlists that refusal 26 ended.
+    pub crowded: u64,
 }
 
 impl Tally {
     /// Counts a program.
-    pub fn add(&mut self, job: &Job, seen: Seen) {
+    pub fn add(&mut self, job: &Job, seen: Seen, compact: u64) {
+        self.compact += compact;
         self.nodes += job.program.len() / 4;
         self.tables += u64::from(job.table.is_some());
         self.arrays += u64::from(has_arrays(&job.program));
@@ -56,7 +61,9 @@ impl Display for Tally {
                     at_the_end,
                     late,
                 },
+            compact,
             netlists,
+            crowded,
         } = self;
         let programs = ended + open + refused;
         write!(text, "{programs} programs, {nodes} nodes in all, agree: ")?;
@@ -65,6 +72,7 @@ impl Display for Tally {
         write!(text, "{loops} with loops, {calls} with calls; ")?;
         write!(text, "starts: {early} too early, ")?;
         write!(text, "{at_the_end} at an end, {late} later; ")?;
-        write!(text, "{netlists} netlists agree")
+        write!(text, "{compact} calls on compact states as on full ones; ")?;
+        write!(text, "{netlists} netlists agree, {crowded} runs met 26")
     }
 }

@@ -1,12 +1,13 @@
 //! A simulator that walks over all cells at each instant, by the equations of
-//! `against_equations`, and goes wrong about arrays or about the merges of calls
+//! `against_equations`, on full states, and goes wrong about arrays or about the merges of calls
 //! in the way that it is told.
 
-use crate::against_equations::{element_place, instant_of, wire_of, Step};
+use crate::against_equations::{element_place, instant_of, Step};
 use crate::flight;
+use crate::formats::wire_of;
 use crate::lend::ARRAYS;
 use second::cells::{Netlist, READ, RETURN};
-use values::Answer;
+use values::{Answer, Format};
 
 #[derive(Clone, Copy, PartialEq)]
 pub enum Fault {
@@ -24,16 +25,16 @@ pub struct Walk {
 
 impl Walk {
     pub fn finished(&self, state: &[u8]) -> bool {
-        wire_of(state, self.netlist.finish) == 1
+        wire_of(Format::Full, state, self.netlist.finish) == 1
     }
 
     pub fn answer(&self, state: &[u8], count: u32) -> Answer {
-        let memories = self.netlist.memories();
+        let memories: [usize; 16] = self.netlist.memories().try_into().expect("sixteen");
         Answer {
             ended: self.finished(state),
             instant: instant_of(state),
             count,
-            words: std::array::from_fn(|variable| wire_of(state, memories[variable] as u16)),
+            words: memories.map(|memory| wire_of(Format::Full, state, memory as u16)),
         }
     }
 
@@ -54,13 +55,14 @@ impl Walk {
             self.put_values(before, &mut after, starts);
         }
         self.put_rest(before, &mut after);
-        let number = flight::counted(&self.netlist.cells, &after);
+        let number = flight::counted(Format::Full, &self.netlist.cells, &after);
         flight::tell(&mut after, number);
         after
     }
 
     fn step<'a>(&'a self, before: &'a [u8], after: &'a [u8], starts: bool) -> Step<'a> {
         Step {
+            format: Format::Full,
             netlist: &self.netlist,
             words: &[],
             before,

@@ -1,7 +1,8 @@
 //! The calls, on lent bytes and numbers.
 //!
 //! Each call makes all its checks, in the paper's order, before it writes a
-//! lent byte, and writes no further than its result goes.
+//! lent byte, and writes no further than its result goes. Refusal 26 alone
+//! comes up in a run, and leaves the state of the last good instant.
 //!
 //! A call that checks a program has in front what is given beside it: the number
 //! of its procedures, and it may be a table of operator times, whose refusals 19
@@ -14,11 +15,11 @@ use crate::contents::{Contents, CONTENTS_LENGTH};
 use crate::netfile;
 use crate::program::Program;
 use crate::rules::{self, Moment};
-use crate::simulate::Simulator;
+use crate::simulate::{Crowded, Simulator};
 use crate::state;
 use crate::table::{self, Times, BUILT_IN};
 use crate::text;
-use values::{Answer, Cell, End, Given, Refusal, Shape};
+use values::{Answer, Cell, End, Format, Given, Refusal, Shape};
 
 /// The last instant that a run may come to.
 const MOST_INSTANT: u32 = 1_000_000;
@@ -72,40 +73,57 @@ pub fn read_netlist(file: &[u8], cells: &mut [u8]) -> Result<Shape, Refusal> {
 }
 
 /// Begins a run: refusals 9 to 12, 14.
-pub fn begin(file: &[u8], words: &[u8], state: &mut [u8]) -> Result<Answer, Refusal> {
+pub fn begin(
+    format: Format,
+    file: &[u8],
+    words: &[u8],
+    state: &mut [u8],
+) -> Result<Answer, Refusal> {
     let netlist = netfile::read(file)?;
     let contents = start_contents(words)?;
-    let state = state_room(state, &netlist)?;
+    let state = state_room(format, state, &netlist)?;
     let simulator = Simulator::begin(&netlist, contents);
-    state::store(&simulator, state);
+    state::store(format, &simulator, state);
     Ok(answer(&simulator, 1))
 }
 
-/// Continues a run by at most `n` instants: refusals 9 to 12, 14, 15, 16.
-pub fn continue_by(file: &[u8], state: &mut [u8], n: u32) -> Result<Answer, Refusal> {
+/// Continues a run by at most `n` instants: refusals 9 to 12, 14, 15, 16; then
+/// 26, which the instants before it are run for once more.
+pub fn continue_by(
+    format: Format,
+    file: &[u8],
+    state: &mut [u8],
+    n: u32,
+) -> Result<Answer, Refusal> {
     let netlist = netfile::read(file)?;
-    let state = state_room(state, &netlist)?;
-    state::check(&netlist, state)?;
-    check_reach(state::instant(state), n)?;
-    let mut simulator = state::load(&netlist, state);
-    let count = simulator.advance(n);
-    state::store(&simulator, state);
-    Ok(answer(&simulator, count))
+    let state = state_to_go_on(format, state, &netlist, n)?;
+    let advanced = |n: u32| {
+        let mut simulator = state::load(format, &netlist, state);
+        simulator.advance(format, n).map(|count| (simulator, count))
+    };
+    let (good, refusal) = match advanced(n) {
+        Ok(good) => (good, None),
+        Err(Crowded { cell, good }) => {
+            let again = advanced(good).expect("good instants");
+            (again, Some(Refusal::new(26, cell)))
+        }
+    };
+    let (simulator, count) = good;
+    state::store(format, &simulator, state);
+    refusal.map_or(Ok(answer(&simulator, count)), Err)
 }
 
 /// Gives a second start pulse at the next instant: refusals 9 to 12, 14, 15,
-/// 16, 23.
-pub fn start(file: &[u8], state: &mut [u8]) -> Result<Answer, Refusal> {
+/// 16, 23. All lines are empty then, so that none is crowded.
+pub fn start(format: Format, file: &[u8], state: &mut [u8]) -> Result<Answer, Refusal> {
     let netlist = netfile::read(file)?;
-    let state = state_room(state, &netlist)?;
-    state::check(&netlist, state)?;
-    check_reach(state::instant(state), 1)?;
+    let state = state_to_go_on(format, state, &netlist, 1)?;
     if state::in_flight(state) != 0 {
         return Err(Refusal::new(23, 0));
     }
-    let mut simulator = state::load(&netlist, state);
+    let mut simulator = state::load(format, &netlist, state);
     simulator.start();
-    state::store(&simulator, state);
+    state::store(format, &simulator, state);
     Ok(answer(&simulator, 1))
 }
 
@@ -119,7 +137,7 @@ pub fn run_netlist(
     let netlist = netfile::read(file)?;
     check_budget(budget)?;
     let contents = start_contents(words)?;
-    let state = state_room(state, &netlist)?;
+    let state = state_room(Format::Full, state, &netlist)?;
     Ok(full_run(&netlist, contents, budget, state))
 }
 
@@ -136,7 +154,7 @@ pub fn run_program(
     let netlist = compile::compile(&checked(given, program)?);
     check_budget(budget)?;
     let contents = start_contents(words)?;
-    let state = state_room(state, &netlist)?;
+    let state = state_room(Format::Full, state, &netlist)?;
     put(&netfile::write(&netlist), file)?;
     Ok(full_run(&netlist, contents, budget, state))
 }
@@ -196,14 +214,15 @@ fn times(given: Given) -> Result<Times, Refusal> {
     given.table.map_or(Ok(BUILT_IN), table::read)
 }
 
-/// A beginning, and a continuing unless the finish was high.
+/// A beginning, and a continuing unless the finish was high, on a full state.
 fn full_run(netlist: &Netlist, contents: Contents, budget: u32, state: &mut [u8]) -> Answer {
     let mut simulator = Simulator::begin(netlist, contents);
     let mut count = 1;
     if !simulator.finished() {
-        count += simulator.advance(budget);
+        let advanced = simulator.advance(Format::Full, budget);
+        count += advanced.expect("lines with room for every pulse");
     }
-    state::store(&simulator, state);
+    state::store(Format::Full, &simulator, state);
     answer(&simulator, count)
 }
 
@@ -233,8 +252,25 @@ fn check_reach(instant: u32, n: u32) -> Result<(), Refusal> {
 }
 
 /// The part of a lent buffer that a netlist's state takes; refusal 14.
-fn state_room<'a>(state: &'a mut [u8], netlist: &Netlist) -> Result<&'a mut [u8], Refusal> {
-    room(state, state::length(netlist.cells.len()))
+fn state_room<'a>(
+    format: Format,
+    state: &'a mut [u8],
+    netlist: &Netlist,
+) -> Result<&'a mut [u8], Refusal> {
+    room(state, state::length(format, netlist.cells.len()))
+}
+
+/// The same of a state that is gone on with by `n` instants; 14, 15, 16.
+fn state_to_go_on<'a>(
+    format: Format,
+    state: &'a mut [u8],
+    netlist: &Netlist,
+    n: u32,
+) -> Result<&'a mut [u8], Refusal> {
+    let state = state_room(format, state, netlist)?;
+    state::check(format, netlist, state)?;
+    check_reach(state::instant(state), n)?;
+    Ok(state)
 }
 
 /// The part of a lent buffer that a result takes; refusal 14.

@@ -5,7 +5,7 @@ use crate::contents::{CONTENTS_LENGTH, WORDS_LENGTH};
 use crate::netfile::MOST_CELLS;
 use crate::state;
 use crate::word::number4;
-use values::{Answer, Given, Refusal};
+use values::{Answer, Format, Given, Refusal};
 
 const BUDGET_LENGTH: usize = 4;
 
@@ -27,7 +27,8 @@ fn run(input: &[u8]) -> Result<Answer, Refusal> {
         return Err(Refusal::new(1, 0));
     };
     let budget = number4(input, WORDS_LENGTH);
-    let (mut netlist, mut state) = (vec![0; NETLIST_ROOM], vec![0; state::length(MOST_CELLS)]);
+    let room = state::length(Format::Full, MOST_CELLS);
+    let (mut netlist, mut state) = (vec![0; NETLIST_ROOM], vec![0; room]);
     let words = with_elements(&input[..WORDS_LENGTH]);
     let (file, state) = (&mut netlist, &mut state);
     calls::run_program(Given::NOTHING, program, &words, budget, file, state)

@@ -10,30 +10,27 @@
 use crate::cells::*;
 use crate::contents::{Arrays, Contents};
 use crate::fanout::Fanout;
-use crate::line::{Instant, Line, LineBytes};
+use crate::line::{Instant, Line};
 use crate::operator::Operator;
 use crate::wheel::Wheel;
-use values::{Cell, Words};
+use values::{Cell, Format, Words};
 
 /// What a cell shows of itself between instants.
-#[derive(Clone, Copy, Debug, Default, PartialEq, Eq)]
+#[derive(Clone, Debug)]
 pub struct CellState {
     pub now: u16,
     pub ago: u16,
     pub held: Merge,
-    pub line: LineBytes,
+    pub line: Line,
 }
 
-impl CellState {
-    /// What a cell of this kind and delay has in flight.
-    pub fn in_flight(&self, kind: u8, delay: u8) -> u32 {
-        match kind {
-            // Any instant will do: a line tells how long ago its inputs were.
-            DELAY => Line::from_bytes(&self.line, 0).highs(0, delay.into()),
-            MERGE | RETURN => self.held.count(),
-            _ => 0,
-        }
-    }
+/// A pulse that enters a line in which another is on its way.
+#[derive(Clone, Copy, Debug, PartialEq, Eq)]
+pub struct Crowded {
+    /// The lowest delay that it happens to.
+    pub cell: usize,
+    /// The instants before that one.
+    pub good: u32,
 }
 
 /// The two bits that a merge holds.
@@ -65,7 +62,7 @@ impl Merge {
     }
 
     /// How many bits are held.
-    fn count(self) -> u32 {
+    pub fn count(self) -> u32 {
         u32::from(self.a) + u32::from(self.b)
     }
 }
@@ -79,6 +76,11 @@ struct Wire {
     now: u16,
     before: u16,
     changed: Instant,
+}
+
+/// The line of a cell, of which only a delay's is ever used.
+fn empty_line(cell: &Cell) -> Line {
+    Line::new(if cell.kind == DELAY { cell.delay } else { 0 })
 }
 
 pub struct Simulator<'a> {
@@ -110,22 +112,19 @@ impl<'a> Simulator<'a> {
     /// Takes up a run in the state that these cells and arrays tell of.
     pub fn resume(
         netlist: &'a Netlist,
-        instant: u32,
-        cells: &[CellState],
+        instant: Instant,
+        cells: impl Iterator<Item = CellState>,
         arrays: Arrays,
     ) -> Simulator<'a> {
-        let instant = instant as Instant;
         let mut simulator = Simulator::still(netlist, instant, arrays);
-        for (number, cell) in cells.iter().enumerate() {
+        for (number, cell) in cells.enumerate() {
             simulator.wires[number] = Wire {
                 now: cell.now,
                 before: cell.ago,
                 changed: instant,
             };
             simulator.held[number] = cell.held;
-            if netlist.cells[number].kind == DELAY {
-                simulator.lay_line(number, &cell.line);
-            }
+            simulator.lay_line(number, cell.line);
         }
         simulator
     }
@@ -142,7 +141,7 @@ impl<'a> Simulator<'a> {
             instant,
             wires: vec![Wire::default(); count],
             held: vec![Merge::default(); count],
-            lines: (0..count).map(|_| Line::default()).collect(),
+            lines: netlist.cells.iter().map(empty_line).collect(),
             arrays,
             wheel,
             fanout: Fanout::of(netlist),
@@ -151,27 +150,39 @@ impl<'a> Simulator<'a> {
         }
     }
 
-    /// Puts a delay's past inputs on its line; those still on their way wake it.
-    fn lay_line(&mut self, delay: usize, bytes: &LineBytes) {
-        let line = Line::from_bytes(bytes, self.instant);
-        let d = Instant::from(self.netlist.cells[delay].delay);
-        for due in line.changes().map(|change| change + d) {
+    /// Gives a cell its line; what is still on its way there wakes it.
+    fn lay_line(&mut self, cell: usize, line: Line) {
+        for due in line.output_changes() {
             if due > self.instant {
-                self.wheel.wake(delay, due);
+                self.wheel.wake(cell, due);
             }
         }
-        self.lines[delay] = line;
+        self.lines[cell] = line;
     }
 
     /// Evaluates instants until the finish is high or `n` are done; how many.
-    pub fn advance(&mut self, n: u32) -> u32 {
-        for count in 1..=n {
+    /// Where a line has room for one pulse and a second one enters, that instant
+    /// is evaluated too, and the simulator of no more use.
+    pub fn advance(&mut self, format: Format, n: u32) -> Result<u32, Crowded> {
+        for good in 0..n {
             self.step();
+            if let Some(cell) = self.crowded(format) {
+                return Err(Crowded { cell, good });
+            }
             if self.finished() {
-                return count;
+                return Ok(good + 1);
             }
         }
-        n
+        Ok(n)
+    }
+
+    /// The lowest line with a second pulse; a full state has room for all.
+    fn crowded(&self, format: Format) -> Option<usize> {
+        let is_crowded = |line: &Line| line.is_crowded(self.instant);
+        match format {
+            Format::Full => None,
+            Format::Compact => self.lines.iter().position(is_crowded),
+        }
     }
 
     /// Evaluates the next instant, at which start is high.
@@ -184,14 +195,9 @@ impl<'a> Simulator<'a> {
 
     /// The pulses on their way in delays, and the bits that merges hold.
     pub fn in_flight(&self) -> u32 {
-        let cells = self.netlist.cells.iter().enumerate();
-        cells
-            .map(|(number, cell)| match cell.kind {
-                DELAY => self.lines[number].highs(self.instant, cell.delay.into()),
-                MERGE | RETURN => self.held[number].count(),
-                _ => 0,
-            })
-            .sum()
+        let lines = self.lines.iter().map(|line| line.in_flight(self.instant));
+        let held = self.held.iter().map(|held| held.count());
+        lines.chain(held).sum()
     }
 
     /// Whether the finish wire is high at the present instant.
@@ -217,15 +223,11 @@ impl<'a> Simulator<'a> {
 
     /// What cell `number` shows of itself.
     pub fn cell_state(&self, number: usize) -> CellState {
-        let line = match self.netlist.cells[number].kind {
-            DELAY => self.lines[number].to_bytes(self.instant),
-            _ => LineBytes::default(),
-        };
         CellState {
             now: self.wires[number].now,
             ago: self.ago(number as u16),
             held: self.held[number],
-            line,
+            line: self.lines[number].clone(),
         }
     }
 
@@ -258,9 +260,8 @@ impl<'a> Simulator<'a> {
         self.wake_readers(cell);
         let level = self.wires[cell].now == 1;
         for &delay in &self.fanout.delays[cell] {
-            if self.lines[delay].record(self.instant, level) {
-                let d = Instant::from(self.netlist.cells[delay].delay);
-                self.wheel.wake(delay, self.instant + d);
+            if let Some(due) = self.lines[delay].record(self.instant, level) {
+                self.wheel.wake(delay, due);
             }
         }
     }
@@ -273,12 +274,12 @@ impl<'a> Simulator<'a> {
 
     /// The value of a cell at the present instant, by its kind's equation.
     fn evaluate(&mut self, cell: usize) -> u16 {
-        let Cell { kind, delay, a, b } = self.netlist.cells[cell];
+        let Cell { kind, a, b, .. } = self.netlist.cells[cell];
         match kind {
             START => self.pulse(cell),
             GROUND => 0,
             CONSTANT => a,
-            DELAY => u16::from(self.lines[cell].level_at(self.instant - Instant::from(delay))),
+            DELAY => u16::from(self.lines[cell].output(self.instant)),
             OR => self.now(a) | self.now(b),
             WHEN => u16::from(self.now(a) == 1 && self.now(b) != 0),
             UNLESS => u16::from(self.now(a) == 1 && self.now(b) == 0),

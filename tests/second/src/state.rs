@@ -1,21 +1,32 @@
-//! The published state bytes: their layout, and refusal 15.
+//! The published state bytes in both formats: their layout, and refusal 15.
 
 use crate::cells::{self, Netlist, Sort, DELAY, MERGE, RETURN};
 use crate::contents::{Arrays, ARRAYS_LENGTH};
-use crate::line::LineBytes;
+use crate::line::{Instant, Line, LineBytes};
 use crate::simulate::{CellState, Merge, Simulator};
 use crate::word::{number2, number4, put2, put4};
-use values::{Cell, Refusal};
+use values::{Cell, Format, Refusal};
 
 /// The header: the instant, and the number of pulses in flight.
 const HEADER: usize = 8;
 const NUMBER: usize = 4;
-const CELL: usize = 40;
+
+/// In a cell: two bytes of which a compact state uses the first, for the
+/// instants until a pulse comes out, and in a full state the line.
+const LEFT: usize = 6;
+const LINE: usize = 8;
+
+fn cell_length(format: Format) -> usize {
+    match format {
+        Format::Full => LINE + LineBytes::default().len(),
+        Format::Compact => LINE,
+    }
+}
 
 /// The bytes of the state of a netlist with this many cells: the header, the
 /// cells, the arrays.
-pub fn length(cells: usize) -> usize {
-    HEADER + CELL * cells + ARRAYS_LENGTH
+pub fn length(format: Format, cells: usize) -> usize {
+    HEADER + cell_length(format) * cells + ARRAYS_LENGTH
 }
 
 /// The instant of a state.
@@ -29,30 +40,39 @@ pub fn in_flight(state: &[u8]) -> u32 {
 }
 
 /// Writes the simulator's present state, which has exactly these bytes.
-pub fn store(simulator: &Simulator, state: &mut [u8]) {
+pub fn store(format: Format, simulator: &Simulator, state: &mut [u8]) {
     put4(state, 0, simulator.instant());
     put4(state, NUMBER, simulator.in_flight());
+    let now = instant(state) as Instant;
     let (cells, arrays) = state.split_at_mut(state.len() - ARRAYS_LENGTH);
-    for (number, bytes) in cells[HEADER..].chunks_exact_mut(CELL).enumerate() {
-        store_cell(simulator.cell_state(number), bytes);
+    let cells = cells[HEADER..].chunks_exact_mut(cell_length(format));
+    for (number, bytes) in cells.enumerate() {
+        store_cell(format, &simulator.cell_state(number), now, bytes);
     }
     arrays.copy_from_slice(&simulator.arrays().bytes());
 }
 
-fn store_cell(cell: CellState, bytes: &mut [u8]) {
+fn store_cell(format: Format, cell: &CellState, now: Instant, bytes: &mut [u8]) {
     put2(bytes, 0, cell.now);
     put2(bytes, 2, cell.ago);
     bytes[4] = u8::from(cell.held.a);
     bytes[5] = u8::from(cell.held.b);
-    bytes[6..8].fill(0);
-    bytes[8..].copy_from_slice(&cell.line);
+    bytes[LEFT..LINE].fill(0);
+    match format {
+        Format::Full => bytes[LINE..].copy_from_slice(&cell.line.to_bytes(now)),
+        Format::Compact => bytes[LEFT] = cell.line.left(now),
+    }
 }
 
 /// Refusal 15.
-pub fn check(netlist: &Netlist, state: &[u8]) -> Result<(), Refusal> {
-    let cells = || netlist.cells.iter().zip(split(state).0.chunks_exact(CELL));
-    let lawful = cells().all(|(cell, bytes)| is_lawful(cell.kind, bytes));
-    let of_cell = |(cell, bytes): (&Cell, _)| load_cell(bytes).in_flight(cell.kind, cell.delay);
+pub fn check(format: Format, netlist: &Netlist, state: &[u8]) -> Result<(), Refusal> {
+    let cells = || netlist.cells.iter().zip(cells_in(format, state));
+    let lawful = cells().all(|(cell, bytes)| is_lawful(format, *cell, bytes));
+    // Any instant will do: a line tells how long ago its inputs were.
+    let of_cell = |(cell, bytes): (&Cell, _)| {
+        let loaded = load_cell(format, *cell, bytes, 0);
+        loaded.line.in_flight(0) + loaded.held.count()
+    };
     if !lawful || cells().map(of_cell).sum::<u32>() != in_flight(state) {
         return Err(Refusal::new(15, 0));
     }
@@ -60,37 +80,43 @@ pub fn check(netlist: &Netlist, state: &[u8]) -> Result<(), Refusal> {
 }
 
 /// Takes up the run whose lawful state this is.
-pub fn load<'a>(netlist: &'a Netlist, state: &[u8]) -> Simulator<'a> {
-    let (cells, arrays) = split(state);
-    let cells: Vec<CellState> = cells.chunks_exact(CELL).map(load_cell).collect();
-    Simulator::resume(netlist, instant(state), &cells, Arrays::of_bytes(arrays))
+pub fn load<'a>(format: Format, netlist: &'a Netlist, state: &[u8]) -> Simulator<'a> {
+    let now = instant(state) as Instant;
+    let cells = netlist.cells.iter().zip(cells_in(format, state));
+    let cells = cells.map(|(cell, bytes)| load_cell(format, *cell, bytes, now));
+    let (_, arrays) = state.split_at(state.len() - ARRAYS_LENGTH);
+    Simulator::resume(netlist, now, cells, Arrays::of_bytes(arrays))
 }
 
-/// The bytes of the cells, and those of the arrays.
-fn split(state: &[u8]) -> (&[u8], &[u8]) {
-    state[HEADER..].split_at(state.len() - HEADER - ARRAYS_LENGTH)
+/// The bytes of each cell.
+fn cells_in(format: Format, state: &[u8]) -> impl Iterator<Item = &[u8]> {
+    state[HEADER..state.len() - ARRAYS_LENGTH].chunks_exact(cell_length(format))
 }
 
-/// Whether a cell of this kind may have these bytes. Nothing is asked of them
-/// beyond what refusal 15 names: wires may contradict each other.
-fn is_lawful(kind: u8, bytes: &[u8]) -> bool {
+/// Whether a cell may have these bytes. Nothing is asked of them beyond what
+/// refusal 15 names: wires may contradict each other.
+fn is_lawful(format: Format, Cell { kind, delay, .. }: Cell, bytes: &[u8]) -> bool {
     let most_value = match cells::sort(kind) {
         Sort::Control => 1,
         Sort::Word | Sort::Array | Sort::Address => u16::MAX,
     };
     let most_held_a = u8::from(kind == MERGE || kind == RETURN);
     let most_held_b = u8::from(kind == MERGE);
+    let most_left = match (format, kind) {
+        (Format::Compact, DELAY) => delay,
+        _ => 0,
+    };
     number2(bytes, 0) <= most_value
         && number2(bytes, 2) <= most_value
         && bytes[4] <= most_held_a
         && bytes[5] <= most_held_b
-        && bytes[6..8] == [0; 2]
-        && (kind == DELAY || bytes[8..].iter().all(|&byte| byte == 0))
+        && bytes[LEFT] <= most_left
+        && bytes[LEFT + 1] == 0
+        && (kind == DELAY || bytes[LINE..].iter().all(|&byte| byte == 0))
 }
 
-fn load_cell(bytes: &[u8]) -> CellState {
-    let mut line = LineBytes::default();
-    line.copy_from_slice(&bytes[8..]);
+/// What the bytes of a cell tell at an instant.
+fn load_cell(format: Format, cell: Cell, bytes: &[u8], now: Instant) -> CellState {
     CellState {
         now: number2(bytes, 0),
         ago: number2(bytes, 2),
@@ -98,6 +124,13 @@ fn load_cell(bytes: &[u8]) -> CellState {
             a: bytes[4] == 1,
             b: bytes[5] == 1,
         },
-        line,
+        line: match (cell.kind, format) {
+            (DELAY, Format::Full) => {
+                let line = bytes[LINE..].try_into().expect("the bytes of a line");
+                Line::from_bytes(cell.delay, line, now)
+            }
+            (DELAY, Format::Compact) => Line::from_left(cell.delay, bytes[LEFT], now),
+            _ => Line::default(),
+        },
     }
 }

@@ -26,7 +26,7 @@ use crate::layout::in_flight_in;
 use crate::product;
 use crate::refusals::{self, Report};
 use crate::store::Store;
-use crate::types::{Answer, Done, Fault, Refusal, DONE, OPEN, REFUSED};
+use crate::types::{Answer, Done, Fault, Format, Refusal, DONE, OPEN, REFUSED};
 
 pub struct Command {
     pub name: &'static str,
@@ -205,7 +205,7 @@ fn put(
 /// Tells the answer of a run that had these words before and has come to this
 /// state.
 fn answered(args: &Args, start: &Store, answer: &Answer, state: &[u8], cells: usize) -> Done {
-    let last = product::contents(answer, state, cells);
+    let last = product::contents(args.format(), answer, state, cells);
     let in_flight = in_flight_in(state);
     let output = match args.flag("json") {
         true => {
@@ -223,21 +223,26 @@ fn answered(args: &Args, start: &Store, answer: &Answer, state: &[u8], cells: us
 }
 
 /// Makes a call on the state in a file, writes it back or to the file of -o, and
-/// tells the answer. A refused one is left as it is.
+/// tells the answer. A refused one is left as it is, unless the call has brought
+/// it to its last good instant.
 fn on_state(
     args: &Args,
-    call: impl FnOnce(&[u8], &mut [u8]) -> Result<Answer, Refusal>,
+    call: impl FnOnce(Format, &[u8], &mut [u8]) -> Result<Answer, Refusal>,
 ) -> Result<Done, Stop> {
     let [file, state_file] = args.exactly(["FILE", "STATE"])?;
-    let circuit = Given::read(args, file)?.circuit()?;
+    let (format, circuit) = (args.format(), Given::read(args, file)?.circuit()?);
     let cells = circuit.netlist.cells.len();
     let mut state = files::read(state_file)?;
     // By none: the words as they are.
-    let before = product::go(&circuit.file, &mut state, 0)
+    let before = product::go(format, &circuit.file, &mut state, 0)
         .map_err(|met| refusals::of_state(state_file, &state, met))?;
-    let start = product::contents(&before, &state, cells);
-    let answer = call(&circuit.file, &mut state)
-        .map_err(|met| refusals::of_state(state_file, &state, met))?;
-    files::write(args.value("o").unwrap_or(state_file), &state)?;
-    Ok(answered(args, &start, &answer, &state, cells))
+    let start = product::contents(format, &before, &state, cells);
+    let answer = call(format, &circuit.file, &mut state);
+    if matches!(answer, Ok(_) | Err(Refusal { number: 26, .. })) {
+        files::write(args.value("o").unwrap_or(state_file), &state)?;
+    }
+    match answer {
+        Ok(answer) => Ok(answered(args, &start, &answer, &state, cells)),
+        Err(met) => Err(refusals::of_run(state_file, &circuit.netlist, &state, met).into()),
+    }
 }

@@ -9,7 +9,7 @@ use crate::product;
 use crate::progress::Progress;
 use crate::refusals;
 use crate::store::{self, Store};
-use crate::types::{Answer, Done, End, Fault, Refusal, DONE, OPEN};
+use crate::types::{Answer, Done, End, Fault, Format, Refusal, DONE, OPEN};
 
 pub const COMMAND: Command = Command {
     name: "run",
@@ -65,14 +65,15 @@ fn run(args: &Args) -> Result<Done, Stop> {
 /// A beginning, and continuings unless the finish was high; with the words and
 /// elements at its end.
 fn full_run(circuit: &Circuit, start: &Store, budget: u32) -> Result<(Answer, Store), Refusal> {
-    let (mut state, mut answer) = product::begin(&circuit.file, start)?;
+    let (mut state, mut answer) = product::begin(Format::Full, &circuit.file, start)?;
     let mut progress = Progress::new(budget);
     while !answer.ended && answer.instant < budget {
         let slice = SLICE.min(budget - answer.instant);
-        answer = product::go(&circuit.file, &mut state, slice)?;
+        answer = product::go(Format::Full, &circuit.file, &mut state, slice)?;
         progress.show(answer.instant);
     }
-    let last = product::contents(&answer, &state, circuit.netlist.cells.len());
+    let cells = circuit.netlist.cells.len();
+    let last = product::contents(Format::Full, &answer, &state, cells);
     Ok((answer, last))
 }
 

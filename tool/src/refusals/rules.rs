@@ -129,14 +129,16 @@ pub const RULES: &[Rule] = &[
         14,
         Counts::Nothing,
         "this state is shorter than a state of the netlist is",
-        "give the state that 'hub begin', 'hub go' or 'hub start' wrote for this netlist",
+        "give the state that 'hub begin', 'hub go' or 'hub start' wrote for this netlist, \
+         with --compact if it was begun so",
     ),
     rule_of(
         15,
         Counts::Nothing,
         "no run of the netlist could leave this state: a control wire is neither 0 nor 1, \
          bits are set where the cell holds none, or the number in flight isn't that of its cells",
-        "give the state that 'hub begin', 'hub go' or 'hub start' wrote for this netlist",
+        "give the state that 'hub begin', 'hub go' or 'hub start' wrote for this netlist, \
+         with --compact if it was begun so",
     ),
     rule_of(
         16,
@@ -198,5 +200,12 @@ pub const RULES: &[Rule] = &[
         Counts::Nodes,
         "both sides of a parallel statement reach one procedure",
         "put the sides one after the other, or give each a procedure of its own",
+    ),
+    rule_of(
+        26,
+        Counts::Cells,
+        "a pulse enters this delay while another is on its way there, \
+         and a compact state has room for one",
+        "begin the run without --compact, or wire the delay so that its pulses are further apart",
     ),
 ];

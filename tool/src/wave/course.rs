@@ -3,7 +3,7 @@
 
 use crate::product;
 use crate::store::Store;
-use crate::types::{Answer, Refusal};
+use crate::types::{Answer, Format, Refusal};
 
 pub struct Course<'a> {
     file: &'a [u8],
@@ -16,7 +16,7 @@ pub struct Course<'a> {
 impl<'a> Course<'a> {
     /// A run of a netlist file, at instant 0.
     pub fn begin(file: &'a [u8], start: &Store, starts: &'a [u32]) -> Result<Course<'a>, Refusal> {
-        let (state, answer) = product::begin(file, start)?;
+        let (state, answer) = product::begin(Format::Full, file, start)?;
         Ok(Course {
             file,
             starts,
@@ -40,9 +40,9 @@ impl<'a> Course<'a> {
         let ahead = self.starts.iter().find(|start| **start > at);
         let (file, state) = (self.file, &mut self.state);
         self.answer = match ahead {
-            Some(start) if *start == at + 1 => product::start(file, state)?,
-            Some(start) => product::go(file, state, instant.min(start - 1) - at)?,
-            None => product::go(file, state, instant - at)?,
+            Some(start) if *start == at + 1 => product::start(Format::Full, file, state)?,
+            Some(start) => product::go(Format::Full, file, state, instant.min(start - 1) - at)?,
+            None => product::go(Format::Full, file, state, instant - at)?,
         };
         Ok(())
     }

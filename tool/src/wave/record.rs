@@ -3,7 +3,7 @@
 use super::course::Course;
 use super::{Shows, Waveforms, Wire};
 use crate::layout::{element_in, in_flight_in, value_in};
-use crate::types::Refusal;
+use crate::types::{Format, Refusal};
 
 /// The values of these wires from one instant up to another, in a run of so
 /// many cells that hasn't come further than the first.
@@ -20,7 +20,9 @@ pub fn record(
         for (wire, values) in wires.iter().zip(&mut values) {
             values.push(match wire.shows {
                 Shows::Cell(cell) => value_in(&course.state, cell).into(),
-                Shows::Element(place) => element_in(&course.state, cells, place).into(),
+                Shows::Element(place) => {
+                    element_in(Format::Full, &course.state, cells, place).into()
+                }
                 Shows::InFlight => in_flight_in(&course.state),
             });
         }

@@ -9,6 +9,7 @@ use crate::{circuits, programs};
 use hub::layout::in_flight_in;
 use hub::product;
 use hub::store::{self, Store};
+use hub::types::Format;
 use hub::wave::{choice, svg, terminal, vcd, Waveforms};
 use std::fs;
 use std::process::Command;
@@ -105,7 +106,7 @@ fn waves_agree_with_the_answers() {
             wire.map(|wire| waves.values[wire][at])
         };
         let file = product::compile(program.beside(), &program.bytes).expect("a netlist");
-        let (mut state, mut answer) = product::begin(&file, &start()).expect("a run");
+        let (mut state, mut answer) = product::begin(Format::Full, &file, &start()).expect("a run");
         for at in 0..=80 {
             assert_eq!(value("start", at), Some(u32::from(at == 0)));
             assert_eq!(value("finish", at), Some(u32::from(answer.ended)));
@@ -114,7 +115,7 @@ fn waves_agree_with_the_answers() {
                 let word = u32::from(*word);
                 assert_eq!(shown.unwrap_or(word), word);
             }
-            answer = product::go(&file, &mut state, 1).expect("an instant");
+            answer = product::go(Format::Full, &file, &mut state, 1).expect("an instant");
         }
     }
 }
@@ -129,13 +130,17 @@ fn elements_are_waves_too() {
         let circuit = circuits::of_program(&program);
         let wires = choice::wires(&circuit, &[], Some(&names.join(",")), false).expect("wires");
         let waves = recorded(&circuit, (&start(), &[]), wires, 0, 90);
-        let (mut state, answer) = product::begin(&circuit.file, &start()).expect("a run");
+        let (mut state, answer) =
+            product::begin(Format::Full, &circuit.file, &start()).expect("a run");
         let cells = circuit.netlist.cells.len();
-        assert_eq!(product::contents(&answer, &state, cells), start());
-        let mut answer = product::go(&circuit.file, &mut state, 0).expect("a run");
+        assert_eq!(
+            product::contents(Format::Full, &answer, &state, cells),
+            start()
+        );
+        let mut answer = product::go(Format::Full, &circuit.file, &mut state, 0).expect("a run");
         for at in 0..=90 {
             let shown: Vec<u32> = waves.values.iter().map(|values| values[at]).collect();
-            let contents = product::contents(&answer, &state, cells);
+            let contents = product::contents(Format::Full, &answer, &state, cells);
             assert_eq!(
                 shown,
                 contents[store::OF_ARRAYS]
@@ -143,7 +148,7 @@ fn elements_are_waves_too() {
                     .map(|word| u32::from(*word))
                     .collect::<Vec<u32>>()
             );
-            answer = product::go(&circuit.file, &mut state, 1).expect("an instant");
+            answer = product::go(Format::Full, &circuit.file, &mut state, 1).expect("an instant");
         }
         changes += waves.values.iter().filter(|v| v[0] != v[90]).count();
         let (dumped, _) = read(&vcd::vcd(&waves));
@@ -161,15 +166,15 @@ fn the_number_in_flight_is_a_wave_too() {
     let mut idle = 0;
     for program in programs() {
         let circuit = circuits::of_program(&program);
-        let (mut state, _) = product::begin(&circuit.file, &start()).expect("a run");
+        let (mut state, _) = product::begin(Format::Full, &circuit.file, &start()).expect("a run");
         let (mut starts, mut numbers) = (Vec::new(), vec![in_flight_in(&state)]);
         for instant in 1..=90 {
             let number = in_flight_in(&state);
             if number == 0 {
                 starts.push(instant);
-                product::start(&circuit.file, &mut state).expect("it is idle");
+                product::start(Format::Full, &circuit.file, &mut state).expect("it is idle");
             } else {
-                product::go(&circuit.file, &mut state, 1).expect("an instant");
+                product::go(Format::Full, &circuit.file, &mut state, 1).expect("an instant");
             }
             numbers.push(in_flight_in(&state));
         }

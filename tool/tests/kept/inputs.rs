@@ -2,7 +2,7 @@
 //! refusal a text, a program, a netlist, a state or a table that meets it.
 
 use hub::product;
-use hub::types::Beside;
+use hub::types::{Beside, Format};
 use std::fs;
 use std::path::Path;
 
@@ -88,6 +88,11 @@ const LINES: &[(&str, &str)] = &[
         "memories.list",
         "finish start\nstart\nground\nconstant 0\n18 delay 1 of start\nconstant 1\nconstant 1\n\
          constant 1\nconstant 1\nconstant 1\nconstant 1\nconstant 1\nconstant 1\n",
+    ),
+    (
+        "crowded.list",
+        "finish line\nstart\nground\nconstant 0\nidle memories\nidle arrays\ntwo: delay 2 of start\n\
+         four: delay 4 of start\nboth: either two four\nline: delay 5 of both\n",
     ),
     (
         "cut.list",
@@ -240,7 +245,8 @@ pub fn make(folder: &Path) {
 /// Netlists and states of the program `tick 2`.
 fn netlists(put: &impl Fn(&str, &[u8])) {
     let file = product::compile(Beside::NOTHING, &[17, 2, 0, 0]).expect("an accepted program");
-    let (state, _) = product::begin(&file, &[0; hub::store::LENGTH]).expect("an accepted netlist");
+    let (state, _) =
+        product::begin(Format::Full, &file, &[0; hub::store::LENGTH]).expect("an accepted netlist");
     put("tick.net", &file);
     put("length.net", &file[..100]);
     put("sum.net", &damaged(&file, 30, 77));
@@ -255,7 +261,7 @@ fn netlists(put: &impl Fn(&str, &[u8])) {
     put("held.state", &damaged(&state, 8 + 4, 1));
     put("number.state", &damaged(&state, 4, 2));
     let mut idle = state;
-    product::go(&file, &mut idle, 2).expect("it ends");
+    product::go(Format::Full, &file, &mut idle, 2).expect("it ends");
     idle[..4].copy_from_slice(&1_000_000_u32.to_le_bytes());
     put("last.state", &idle);
 }

@@ -5,20 +5,24 @@ use mathlib.Core.Bool.{Bool, true}
 use mathlib.Core.List.{List, [], _∷_}
 use mathlib.Core.Logic.{inl, inr, ⊎-elim}
 use mathlib.Core.Path.{_≡_, refl, sym, _∙_, ap, ap₂}
-use Prim.Native.Nat.{ℕ, zero, suc, _+_, _-_, _*_, _/_, _<_, _≤_, suc-le-suc}
-use native.Mathlib.Nat.{add-zero, zero-div}
+use Prim.Native.Nat.{ℕ, zero, suc, _+_, _-_, _*_, _<_, _≤_, suc-le-suc}
+use native.Mathlib.Nat.{add-zero}
 use native.Mathlib.Omega.{arith}
 use lib.Dec.{eqb}
 use lib.ListN.{getD, length, length-append, length-replicate}
 use borrow.Author.Tests.{eqb-true}
 use Rattle.model.specs.declared.Cell.{Cell}
 use Rattle.model.specs.declared.Merge.{Merge}
+use Rattle.model.specs.declared.Format.{Format}
 use Rattle.model.specs.Word.{pick, bit, get16, get32}
 use Rattle.model.specs.Circuit.{cellAt, noCell, high, shape, cellTable, cellRow, merges, stepOf}
-use Rattle.model.specs.State.{base, instantOf, flightOf, nowAt, heldAt, lineBit, aged, shown, shiftedIn, holding, settle, settled, ones, heldBits, inFlight, flightIn, flight, counted, blank, value, firstValue, evaluate, beginState, stepState, cellsSound, sound}
+use Rattle.model.specs.State.{instantOf, flightOf, ones, heldBits, inFlight, flightIn, cellSize, base, nowAt, heldAt, lineBit, takenIn, value, firstValue, aged, shown, holding, settle, settled, lineAt, flight, counted, blank, evaluate, beginState, stepState, cellsSound, sound}
+use Rattle.model.specs.CircuitPromises.{kept}
 use Rattle.laws.specs.Refusals.Laws.{by-bool, and-true}
 use Rattle.laws.specs.Circuit.Ordered.{Looks, kinds, Ordered}
-use Rattle.laws.specs.State.Passes.{put32-other, put32-same, get32-same, upTo-frame, aged-frame, shown-frame, ticked, counted-other, settled-frame, bit-lt, apart, one, one-high, two, two-high, same-held, held-holding, Line, shifted-new, shifted-old, cleared-zero, length-one, after, length-three, evaluate-is, settle-merge}
+use Rattle.laws.specs.State.Bytes.{put32-other, put32-same, get32-same, upTo-frame, cleared-zero, bit-lt}
+use Rattle.laws.specs.State.Lines.{least, below, kept-all, Line, Vacant, line-same, line-empty, line-low, taken-new, taken-old}
+use Rattle.laws.specs.State.Passes.{aged-frame, shown-frame, ticked, counted-other, settled-frame, apart, one, one-high, two, two-high, same-held, held-holding, length-one, after, length-three, evaluate-is, settle-merge}
 
 -- A delay's rule, by its kind
 pub delay-low : (K : ℕ → ℕ) (n k : ℕ) (c : Cell) (j : ℕ) → j ≡ 34 → Looks (cellRow j) K n k c → (1 ≤ c .delay) × (c .delay ≤ 255)
@@ -107,165 +111,6 @@ sum-low l g (c ∷ cs) k h =
     rw q (h (suc i) (suc-le-suc b))) in
     omega arith
 
--- The bytes that are counted -----------------------------------------------------------------------------------------------------------
-
--- two states with the same bytes from 4 on in every cell have the same in flight
-module _ (net : List Cell) (ordered : Ordered net) (s u : List ℕ) where
-  line-same : (k : ℕ) → ((j : ℕ) → base k + 4 ≤ j → j < base k + 40 → getD u j 0 ≡ getD s j 0) → (i : ℕ) → i < 256 → lineBit u k i ≡ lineBit s k i
-  unfolding lineBit
-  line-same k same i b = rw (same (base k + 8 + i / 8) (omega arith) (omega arith))
-
-  at-cell : (k : ℕ) → k < length net → ((j : ℕ) → base k + 4 ≤ j → j < base k + 40 → getD u j 0 ≡ getD s j 0)
-      → inFlight (lineBit u k) (heldAt u k) (cellAt net k) ≡ inFlight (lineBit s k) (heldAt s k) (cellAt net k)
-  at-cell k l same =
-      cell-same (lineBit u k) (lineBit s k) (heldAt u k) (heldAt s k) (cellAt net k)
-      (λ q i b. line-same k same i (omega (arith, delay-low (kinds net) (length net) k (cellAt net k) (cellAt net k .kind) q (ordered .looks k l) .1)))
-      (λ q. same-held k u s (same (base k + 4) (omega arith) (omega arith)) (same (base k + 5) (omega arith) (omega arith)))
-
-  pub flight-same : ((k j : ℕ) → k < length net → base k + 4 ≤ j → j < base k + 40 → getD u j 0 ≡ getD s j 0) → flight net u ≡ flight net s
-  flight-same same =
-      sum-same (lineBit u) (lineBit s) (heldAt u) (heldAt s) net 0
-      (λ k l.
-      let e : 0 + k ≡ k = omega arith in
-      rw e (at-cell k l (λ j a b. same k j l a b)))
-
-module _ (net : List Cell) (ordered : Ordered net) where
-  -- the first two passes leave it
-  pub flight-kept : (v : List ℕ → ℕ → ℕ) (u : List ℕ) → flight net (two net v u (length net)) ≡ flight net u
-  flight-kept v u = flight-same net ordered u (two net v u (length net)) (λ k j l a b. two-high net v u (length net) k j l (omega arith) b)
-
-  pub flight-aged : (s : List ℕ) → flight net (one s (length net)) ≡ flight net s
-  flight-aged s = flight-same net ordered s (one s (length net)) (λ k j l a b. one-high s (length net) k j a b)
-
-  -- and putting it into the header does too, so that it is then what the state tells
-  pub counted-same : (s : List ℕ) → flight net (counted net s) ≡ flight net s
-  counted-same s = flight-same net ordered s (counted net s) (λ k j l a b. counted-other net s j (inr (omega arith)))
-
-  pub counted-tells : (s : List ℕ) → 7 < length s → flightOf (counted net s) ≡ flight net s
-  unfolding counted
-  counted-tells s h = put32-same s 4 (flight net s) (omega arith)
-
-  -- at most 255 for each cell, so four bytes hold it
-  pub flight-low : (s : List ℕ) → flight net s ≤ 255 * length net
-  flight-low s =
-      sum-low (lineBit s) (heldAt s) net 0
-      (λ k l.
-      let e : 0 + k ≡ k = omega arith in
-      rw e (cell-low s k (cellAt net k) (λ q. delay-low (kinds net) (length net) k (cellAt net k) (cellAt net k .kind) q (ordered .looks k l) .1)))
-    where
-      bit-low : (s : List ℕ) (k i : ℕ) → lineBit s k i ≤ 1
-      bit-low s k i = unfold lineBit in omega arith
-
-      cell-low : (s : List ℕ) (k : ℕ) (c : Cell) → (c .kind ≡ 34 → c .delay ≤ 255) → inFlight (lineBit s k) (heldAt s k) c ≤ 255
-      cell-low s k c d = unfold inFlight in
-          by-bool (eqb (c .kind) 34) (λ e. rw e (omega (arith, ones-low (lineBit s k) (c .delay) (bit-low s k), d (eqb-true _ _ e))))
-          (λ e.
-          by-bool (merges (c .kind)) (λ f. rw (e, f) (omega (arith, bit-lt (heldAt s k .a), bit-lt (heldAt s k .b)))) (λ f. rw (e, f) (omega arith)))
-
-  -- so an instant leaves a state that tells it rightly
-  evaluate-true : (v : List ℕ → ℕ → ℕ) (u : List ℕ) → 7 < length u → flightOf (evaluate net v u) ≡ flight net (evaluate net v u)
-  evaluate-true v u h =
-      rw (evaluate-is net v u) (counted-tells (after net v u) (rw (length-three net v u (length net)) h) ∙ sym (counted-same (after net v u)))
-
-  pub step-true : (starts : Bool) (s : List ℕ) → 7 < length s → flightOf (stepState net starts s) ≡ flight net (stepState net starts s)
-  unfolding stepState one ticked
-  step-true starts s h = evaluate-true (value net starts) (one s (length net)) (rw (length-one s (length net)) h)
-
-  pub begin-true : (words : ℕ → ℕ) (s : List ℕ) → flightOf (beginState net words s) ≡ flight net (beginState net words s)
-  unfolding beginState
-  begin-true words s = evaluate-true (firstValue net words) (blank net words s) (simp (length-append, length-replicate) (omega arith))
-
--- and a state that 15 lets pass tells it
-pub sound-true : (net : List Cell) (s : List ℕ) → sound net s ≡ true → flightOf s ≡ flight net s
-unfolding sound
-sound-true net s e = eqb-true (flightOf s) (flight net s) (and-true (eqb (flightOf s) (flight net s)) (cellsSound net s 0) e .0)
-
--- The third pass -----------------------------------------------------------------------------------------------------------------------
-
--- what comes into flight at cell k, which is c, when it settles, and what goes out
-unfoldable pub comesIn : List ℕ → ℕ → Cell → ℕ
-comesIn s k c =
-    pick (eqb (c .kind) 34) (bit (high (nowAt s (c .a))))
-    (pick (merges (c .kind)) (heldBits (stepOf (c .kind) (heldAt s k) (high (nowAt s (c .a))) (high (nowAt s (c .b))) .held)) 0)
-
-unfoldable pub goesOut : List ℕ → ℕ → Cell → ℕ
-goesOut s k c = pick (eqb (c .kind) 34) (lineBit s k (c .delay - 1)) (pick (merges (c .kind)) (heldBits (heldAt s k)) 0)
-
--- Of cell k of a netlist that keeps the rules, in a state that is long enough and whose lines are bytes
-module _ (net : List Cell) (ordered : Ordered net) (s : List ℕ) (room : 8 + 40 * length net ≤ length s) (k : ℕ) (h : k < length net)
-    (bytes : cellAt net k .kind ≡ 34 → Line s k) where
-  abbrev c : Cell
-  c = cellAt net k
-
-  abbrev u : List ℕ
-  u = settled net s k
-
-  others : (i : ℕ) → i < length net → (i ≡ k → ⊥) → inFlight (lineBit u i) (heldAt u i) (cellAt net i) ≡ inFlight (lineBit s i) (heldAt s i) (cellAt net i)
-  others i l n =
-      at-cell net ordered s u i l
-      (λ j a b. settled-frame net s k j (⊎-elim (λ z. inl (omega arith)) (λ z. inr z) (apart i k j (omega arith) b (λ e. n (sym e)))))
-
-  input : ℕ
-  input = bit (high (nowAt s (c .a)))
-
-  delay-moved : c .kind ≡ 34 → ones (lineBit u k) (c .delay) + lineBit s k (c .delay - 1) ≡ ones (lineBit s k) (c .delay) + input
-  unfolding settle shape input
-  delay-moved q =
-      let o = delay-low (kinds net) (length net) k c (c .kind) q (ordered .looks k h) in
-      let v = shiftedIn 32 s (base k + 8) input in
-      let r : u ≡ v = ap (λ (j : ℕ). settle (shape j) s k c) q in
-      let low : input < 2 = bit-lt (high (nowAt s (c .a))) in
-      let z : suc (c .delay - 1) ≡ c .delay = omega (arith, o .0) in
-      rw r
-      (rw z at
-      (ones-next (lineBit s k) (lineBit v k) input (shifted-new s k input low (bytes q) (omega arith)) (c .delay - 1)
-      (λ i l.
-      let e : suc i ≡ i + 1 = omega arith in
-      rw e (shifted-old s k input low (bytes q) (omega arith) i (omega (arith, o .1))))))
-
-  abbrev holds : Merge
-  holds = stepOf (c .kind) (heldAt s k) (high (nowAt s (c .a))) (high (nowAt s (c .b))) .held
-
-  merge-moved : merges (c .kind) ≡ true → heldBits (heldAt u k) ≡ heldBits holds
-  merge-moved q =
-      let r : u ≡ holding s k holds = settle-merge s k c q in
-      ap (λ (t : List ℕ). heldBits (heldAt t k)) r ∙ ap heldBits (held-holding s k holds (omega arith))
-
-  own : inFlight (lineBit u k) (heldAt u k) c + goesOut s k c ≡ inFlight (lineBit s k) (heldAt s k) c + comesIn s k c
-  unfolding inFlight comesIn goesOut input
-  own =
-      by-bool (eqb (c .kind) 34) (λ e. rw e (delay-moved (eqb-true _ _ e)))
-      (λ e.
-      by-bool (merges (c .kind)) (λ f. rw (e, f) (omega (arith, merge-moved f))) (λ f. rw (e, f) refl))
-
-  -- what settling one cell does to the number of all
-  pub flight-settled : flight net u + goesOut s k c ≡ flight net s + comesIn s k c
-  flight-settled =
-      sum-changed (lineBit s) (lineBit u) (heldAt s) (heldAt u) net 0 k (comesIn s k c) (goesOut s k c) h
-      (λ i l n.
-      let e : 0 + i ≡ i = omega arith in
-      rw e (others i l n))
-      (let e : 0 + k ≡ k = omega arith in
-      rw e own)
-
--- What the header tells ----------------------------------------------------------------------------------------------------------------
-
-module _ (net : List Cell) where
-  -- the first two passes leave it
-  pub told-aged : (s : List ℕ) → flightOf (one s (length net)) ≡ flightOf s
-  unfolding one ticked
-  told-aged s =
-      get32-same s (one s (length net)) 4
-      (λ j a b. upTo-frame aged j (length net) (ticked s) (λ t k l. aged-frame t k j (inl (omega arith))) ∙ put32-other s 0 (instantOf s + 1) j (inr (omega arith)))
-
-  pub told-kept : (v : List ℕ → ℕ → ℕ) (u : List ℕ) → flightOf (two net v u (length net)) ≡ flightOf u
-  unfolding two
-  told-kept v u =
-      get32-same u (two net v u (length net)) 4
-      (λ j a b. upTo-frame (shown net v) j (length net) u (λ t k l. shown-frame net v t k j (omega arith) (inl (omega arith))))
-
--- Where every byte of the cells is 0, nothing is in flight ------------------------------------------------------------------------------
-
 ones-none : (l : ℕ → ℕ) (d : ℕ) → ((i : ℕ) → i < d → l i ≡ 0) → ones l d ≡ 0
 unfolding ones
 ones-none l zero h = refl
@@ -283,37 +128,197 @@ sum-none l g (c ∷ cs) k h =
     rw q (h (suc i) (suc-le-suc b))) in
     omega arith
 
-module _ (net : List Cell) (ordered : Ordered net) (words : ℕ → ℕ) (s : List ℕ) where
-  abbrev empty : List ℕ
-  empty = blank net words s
+module _ (F : Format) where
+  -- The bytes that are counted -----------------------------------------------------------------------------------------------------------
 
-  zero-at : (j : ℕ) → j < 8 + 40 * length net → getD empty j 0 ≡ 0
-  zero-at j h = cleared-zero (8 + 40 * length net) _ j h
+  -- two states with the same bytes from 4 on in every cell have the same in flight
+  module _ (net : List Cell) (ordered : Ordered net) (s u : List ℕ) where
+    at-cell : (k : ℕ) → k < length net → ((j : ℕ) → base F k + 4 ≤ j → j < base F k + cellSize F → getD u j 0 ≡ getD s j 0)
+        → inFlight (lineAt F net u k) (heldAt F u k) (cellAt net k) ≡ inFlight (lineAt F net s k) (heldAt F s k) (cellAt net k)
+    at-cell k l same =
+        cell-same (lineAt F net u k) (lineAt F net s k) (heldAt F u k) (heldAt F s k) (cellAt net k)
+        (λ q i b.
+        line-same s u k (cellAt net k .delay) F (λ j x y. same j (omega arith) y) i
+        (omega (arith, kept-all F (cellAt net k .delay) (delay-low (kinds net) (length net) k (cellAt net k) (cellAt net k .kind) q (ordered .looks k l) .1))))
+        (λ q. same-held F k u s (same (base F k + 4) (omega arith) (omega (arith, least F))) (same (base F k + 5) (omega arith) (omega (arith, least F))))
 
-  zero-line : (k i : ℕ) → k < length net → i < 256 → lineBit empty k i ≡ 0
-  unfolding lineBit
-  zero-line k i l b = rw (zero-at (base k + 8 + i / 8) (omega arith)) (simp zero-div)
+    pub flight-same : ((k j : ℕ) → k < length net → base F k + 4 ≤ j → j < base F k + cellSize F → getD u j 0 ≡ getD s j 0) → flight F net u ≡ flight F net s
+    flight-same same =
+        sum-same (lineAt F net u) (lineAt F net s) (heldAt F u) (heldAt F s) net 0
+        (λ k l.
+        let e : 0 + k ≡ k = omega arith in
+        rw e (at-cell k l (λ j a b. same k j l a b)))
 
-  zero-held : (k : ℕ) → k < length net → heldBits (heldAt empty k) ≡ 0
-  unfolding heldAt bit
-  zero-held k l = rw (zero-at (base k + 4) (omega arith), zero-at (base k + 5) (omega arith)) refl
+  module _ (net : List Cell) (ordered : Ordered net) where
+    -- the first two passes leave it
+    pub flight-kept : (v : List ℕ → ℕ → ℕ) (u : List ℕ) → flight F net (two F net v u (length net)) ≡ flight F net u
+    flight-kept v u = flight-same net ordered u (two F net v u (length net)) (λ k j l a b. two-high F net v u (length net) k j l (omega arith) b)
 
-  zero-cell : (k : ℕ) → k < length net → inFlight (lineBit empty k) (heldAt empty k) (cellAt net k) ≡ 0
-  unfolding inFlight
-  zero-cell k l =
-      let c = cellAt net k in
-      by-bool (eqb (c .kind) 34)
-      (λ e. rw e
-      (ones-none (lineBit empty k) (c .delay) (λ i b. zero-line k i l (omega (arith, delay-low (kinds net) (length net) k c (c .kind) (eqb-true _ _ e) (ordered .looks k l) .1)))))
-      (λ e. by-bool (merges (c .kind)) (λ f. rw (e, f) (zero-held k l)) (λ f. rw (e, f) refl))
+    pub flight-aged : (s : List ℕ) → flight F net (one F s (length net)) ≡ flight F net s
+    flight-aged s = flight-same net ordered s (one F s (length net)) (λ k j l a b. one-high F s (length net) k j a b)
 
-  pub flight-blank : flight net (blank net words s) ≡ 0
-  flight-blank =
-      sum-none (lineBit empty) (heldAt empty) net 0
-      (λ k l.
-      let e : 0 + k ≡ k = omega arith in
-      rw e (zero-cell k l))
+    -- and putting it into the header does too, so that it is then what the state tells
+    pub counted-same : (s : List ℕ) → flight F net (counted F net s) ≡ flight F net s
+    counted-same s = flight-same net ordered s (counted F net s) (λ k j l a b. counted-other F net s j (inr (omega arith)))
 
-  pub told-blank : flightOf (blank net words s) ≡ 0
-  unfolding get32 get16
-  told-blank = omega (arith, zero-at 4 (omega arith), zero-at 5 (omega arith), zero-at 6 (omega arith), zero-at 7 (omega arith))
+    pub counted-tells : (s : List ℕ) → 7 < length s → flightOf (counted F net s) ≡ flight F net s
+    unfolding counted
+    counted-tells s h = put32-same s 4 (flight F net s) (omega arith)
+
+    -- at most 255 for each cell, so four bytes hold it
+    pub flight-low : (s : List ℕ) → flight F net s ≤ 255 * length net
+    flight-low s =
+        sum-low (lineAt F net s) (heldAt F s) net 0
+        (λ k l.
+        let e : 0 + k ≡ k = omega arith in
+        rw e (cell-low s k (cellAt net k) (λ q. delay-low (kinds net) (length net) k (cellAt net k) (cellAt net k .kind) q (ordered .looks k l) .1)))
+      where
+        bit-low : (s : List ℕ) (k i : ℕ) → lineAt F net s k i ≤ 1
+        bit-low s k i = line-low s k (cellAt net k .delay) i F
+
+        cell-low : (s : List ℕ) (k : ℕ) (c : Cell) → (c .kind ≡ 34 → c .delay ≤ 255) → inFlight (lineAt F net s k) (heldAt F s k) c ≤ 255
+        cell-low s k c d = unfold inFlight in
+            by-bool (eqb (c .kind) 34) (λ e. rw e (omega (arith, ones-low (lineAt F net s k) (c .delay) (bit-low s k), d (eqb-true _ _ e))))
+            (λ e.
+            by-bool (merges (c .kind)) (λ f. rw (e, f) (omega (arith, bit-lt (heldAt F s k .a), bit-lt (heldAt F s k .b)))) (λ f. rw (e, f) (omega arith)))
+
+    -- so an instant leaves a state that tells it rightly
+    evaluate-true : (v : List ℕ → ℕ → ℕ) (u : List ℕ) → 7 < length u → flightOf (evaluate F net v u) ≡ flight F net (evaluate F net v u)
+    evaluate-true v u h =
+        rw (evaluate-is F net v u) (counted-tells (after F net v u) (rw (length-three F net v u (length net)) h) ∙ sym (counted-same (after F net v u)))
+
+    pub step-true : (starts : Bool) (s : List ℕ) → 7 < length s → flightOf (stepState F net starts s) ≡ flight F net (stepState F net starts s)
+    unfolding stepState one ticked
+    step-true starts s h = evaluate-true (value F net starts) (one F s (length net)) (rw (length-one F s (length net)) h)
+
+    pub begin-true : (words : ℕ → ℕ) (s : List ℕ) → flightOf (beginState F net words s) ≡ flight F net (beginState F net words s)
+    unfolding beginState
+    begin-true words s = evaluate-true (firstValue F net words) (blank F net words s) (simp (length-append, length-replicate) (omega arith))
+
+  -- and a state that 15 lets pass tells it
+  pub sound-true : (net : List Cell) (s : List ℕ) → sound F net s ≡ true → flightOf s ≡ flight F net s
+  unfolding sound
+  sound-true net s e = eqb-true (flightOf s) (flight F net s) (and-true (eqb (flightOf s) (flight F net s)) (cellsSound F net s 0) e .0)
+
+  -- The third pass -----------------------------------------------------------------------------------------------------------------------
+
+  -- what comes into flight at cell k, which is c, when it settles, and what goes out
+  unfoldable pub comesIn : List ℕ → ℕ → Cell → ℕ
+  comesIn s k c =
+      pick (eqb (c .kind) 34) (bit (high (nowAt F s (c .a))))
+      (pick (merges (c .kind)) (heldBits (stepOf (c .kind) (heldAt F s k) (high (nowAt F s (c .a))) (high (nowAt F s (c .b))) .held)) 0)
+
+  unfoldable pub goesOut : List ℕ → ℕ → Cell → ℕ
+  goesOut s k c = pick (eqb (c .kind) 34) (lineBit F s k (c .delay) (c .delay - 1)) (pick (merges (c .kind)) (heldBits (heldAt F s k)) 0)
+
+  -- Of cell k of a netlist that keeps the rules, in a state that is long enough and whose lines are in range and have room for what enters
+  module _ (net : List Cell) (ordered : Ordered net) (s : List ℕ) (room : base F (length net) ≤ length s) (k : ℕ) (h : k < length net)
+      (bytes : cellAt net k .kind ≡ 34 → Line F s k (cellAt net k .delay))
+      (vacant : cellAt net k .kind ≡ 34 → Vacant F s k (high (nowAt F s (cellAt net k .a)))) where
+    abbrev c : Cell
+    c = cellAt net k
+
+    abbrev u : List ℕ
+    u = settled F net s k
+
+    others : (i : ℕ) → i < length net → (i ≡ k → ⊥) → inFlight (lineAt F net u i) (heldAt F u i) (cellAt net i) ≡ inFlight (lineAt F net s i) (heldAt F s i) (cellAt net i)
+    others i l n =
+        at-cell net ordered s u i l
+        (λ j a b. settled-frame F net s k j (⊎-elim (λ z. inl (omega arith)) (λ z. inr z) (apart F i k j (omega arith) b (λ e. n (sym e)))))
+
+    abbrev input : Bool
+    input = high (nowAt F s (c .a))
+
+    delay-moved : c .kind ≡ 34 → ones (lineAt F net u k) (c .delay) + lineAt F net s k (c .delay - 1) ≡ ones (lineAt F net s k) (c .delay) + bit input
+    unfolding settle shape
+    delay-moved q =
+        let o = delay-low (kinds net) (length net) k c (c .kind) q (ordered .looks k h) in
+        let v = takenIn F s k (c .delay) input in
+        let r : u ≡ v = ap (λ (j : ℕ). settle F (shape j) s k c) q in
+        let fits : base F k + cellSize F ≤ length s = omega (arith, below F k (length net) h) in
+        let z : suc (c .delay - 1) ≡ c .delay = omega (arith, o .0) in
+        rw r
+        (rw z at
+        (ones-next (lineAt F net s k) (lineAt F net v k) (bit input) (taken-new s k (c .delay) input F (o .0) (bytes q) fits) (c .delay - 1)
+        (λ i l.
+        let e : suc i ≡ i + 1 = omega arith in
+        rw e (taken-old s k (c .delay) input F (bytes q) (vacant q) fits i (omega (arith, kept-all F (c .delay) (o .1)))))))
+
+    abbrev holds : Merge
+    holds = stepOf (c .kind) (heldAt F s k) (high (nowAt F s (c .a))) (high (nowAt F s (c .b))) .held
+
+    merge-moved : merges (c .kind) ≡ true → heldBits (heldAt F u k) ≡ heldBits holds
+    merge-moved q =
+        let r : u ≡ holding F s k holds = settle-merge F s k c q in
+        ap (λ (t : List ℕ). heldBits (heldAt F t k)) r ∙ ap heldBits (held-holding F s k holds (omega (arith, below F k (length net) h)))
+
+    own : inFlight (lineAt F net u k) (heldAt F u k) c + goesOut s k c ≡ inFlight (lineAt F net s k) (heldAt F s k) c + comesIn s k c
+    unfolding inFlight comesIn goesOut
+    own =
+        by-bool (eqb (c .kind) 34) (λ e. rw e (delay-moved (eqb-true _ _ e)))
+        (λ e.
+        by-bool (merges (c .kind)) (λ f. rw (e, f) (omega (arith, merge-moved f))) (λ f. rw (e, f) refl))
+
+    -- what settling one cell does to the number of all
+    pub flight-settled : flight F net u + goesOut s k c ≡ flight F net s + comesIn s k c
+    flight-settled =
+        sum-changed (lineAt F net s) (lineAt F net u) (heldAt F s) (heldAt F u) net 0 k (comesIn s k c) (goesOut s k c) h
+        (λ i l n.
+        let e : 0 + i ≡ i = omega arith in
+        rw e (others i l n))
+        (let e : 0 + k ≡ k = omega arith in
+        rw e own)
+
+  -- What the header tells ----------------------------------------------------------------------------------------------------------------
+
+  module _ (net : List Cell) where
+    -- the first two passes leave it
+    pub told-aged : (s : List ℕ) → flightOf (one F s (length net)) ≡ flightOf s
+    unfolding one ticked
+    told-aged s =
+        get32-same s (one F s (length net)) 4
+        (λ j a b. upTo-frame (aged F) j (length net) (ticked s) (λ t k l. aged-frame F t k j (inl (omega arith))) ∙ put32-other s 0 (instantOf s + 1) j (inr (omega arith)))
+
+    pub told-kept : (v : List ℕ → ℕ → ℕ) (u : List ℕ) → flightOf (two F net v u (length net)) ≡ flightOf u
+    unfolding two
+    told-kept v u =
+        get32-same u (two F net v u (length net)) 4
+        (λ j a b. upTo-frame (shown F net v) j (length net) u (λ t k l. shown-frame F net v t k j (omega arith) (inl (omega arith))))
+
+  -- Where every byte of the cells is 0, nothing is in flight ------------------------------------------------------------------------------
+
+  module _ (net : List Cell) (ordered : Ordered net) (words : ℕ → ℕ) (s : List ℕ) where
+    abbrev empty : List ℕ
+    empty = blank F net words s
+
+    zero-at : (j : ℕ) → j < base F (length net) → getD empty j 0 ≡ 0
+    zero-at j h = cleared-zero (base F (length net)) _ j h
+
+    zero-line : (k i : ℕ) → k < length net → i < kept F (cellAt net k .delay) → lineAt F net empty k i ≡ 0
+    zero-line k i l b = line-empty empty k (cellAt net k .delay) F (λ j x y. zero-at j (omega (arith, below F k (length net) l))) i b
+
+    zero-held : (k : ℕ) → k < length net → heldBits (heldAt F empty k) ≡ 0
+    unfolding heldAt bit
+    zero-held k l =
+        rw (zero-at (base F k + 4) (omega (arith, below F k (length net) l, least F)), zero-at (base F k + 5) (omega (arith, below F k (length net) l, least F))) refl
+
+    zero-cell : (k : ℕ) → k < length net → inFlight (lineAt F net empty k) (heldAt F empty k) (cellAt net k) ≡ 0
+    unfolding inFlight
+    zero-cell k l =
+        let c = cellAt net k in
+        by-bool (eqb (c .kind) 34)
+        (λ e. rw e
+        (ones-none (lineAt F net empty k) (c .delay) (λ i b.
+        zero-line k i l (omega (arith, kept-all F (c .delay) (delay-low (kinds net) (length net) k c (c .kind) (eqb-true _ _ e) (ordered .looks k l) .1))))))
+        (λ e. by-bool (merges (c .kind)) (λ f. rw (e, f) (zero-held k l)) (λ f. rw (e, f) refl))
+
+    pub flight-blank : flight F net (blank F net words s) ≡ 0
+    flight-blank =
+        sum-none (lineAt F net empty) (heldAt F empty) net 0
+        (λ k l.
+        let e : 0 + k ≡ k = omega arith in
+        rw e (zero-cell k l))
+
+    pub told-blank : flightOf (blank F net words s) ≡ 0
+    unfolding get32 get16
+    told-blank = omega (arith, zero-at 4 (omega arith), zero-at 5 (omega arith), zero-at 6 (omega arith), zero-at 7 (omega arith))

@@ -13,6 +13,7 @@ use Rattle.model.specs.declared.Written.the-variants.{Done}
 use Rattle.model.specs.Refusals.{first}
 use Rattle.model.specs.ProgramChecks.{programWith, checkOf}
 use Rattle.model.specs.Numbering.{finish}
+use Rattle.model.specs.declared.Format.the-variants.{Full}
 use Rattle.model.specs.Calls.{Returned, writing, compiledFile, netlistChecks, compileCall, running, fullState, fullCount, fullRunChecks, runProgramCall}
 use Rattle.model.specs.TextCalls.{textProgram, textChecks, readTextChecks, readTextCall, compileTextCall, runTextCall}
 use Rattle.laws.specs.Refusals.Laws.{all-accept, first-append, first-behind, first-drop, accept-take}
@@ -37,7 +38,7 @@ run-as-program options text words n forFile lent e =
     let file = compiledFile options program in
     let checks = fullRunChecks options program words n forFile lent in
     ap (λ (c : Checked).
-    let r = running c file (fullState file words n lent) (fullCount file words n lent) lent in
+    let r = running Full c file (fullState file words n lent) (fullCount file words n lent) lent in
     record { answer = r .answer; netlist = writing c file (length file) 0 forFile .lent; state = r .lent })
     (first-behind (options .checked) (textChecks text ++ checks) checks (first-append (textChecks text) checks e))
 

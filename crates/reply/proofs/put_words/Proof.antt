@@ -6,7 +6,7 @@ use native.Mathlib.Omega.{arith}
 use native.Mathlib.Numerals.{add-one}
 use lib.ListN.{length}
 use Rattle.model.specs.State.{upTo}
-use Rattle.laws.specs.State.Passes.{length-put16}
+use Rattle.laws.specs.State.Bytes.{length-put16}
 use Rattle.reply.specs.Replies.{putWord}
 use Rattle.reply.proofs.put_words.Statement.{statement}
 use Rattle.reply.proofs.put_words.Tie as tie

@@ -8,19 +8,19 @@ use Rattle.simulator.proofs.begin.Tie as tie
 
 returns : tie.Need-returns
 unfolding beginCall
-returns c = run-refused _ _ _ _ _ _ _ (sym (c .before .before .before .before .check-begin .ensures) ∙ c .before .before .checked .given .1) (c .refused .ensures)
+returns c = run-refused _ _ _ _ _ _ _ _ (sym (c .before .before .before .before .check-begin .ensures) ∙ c .before .before .checked .given .1) (c .refused .ensures)
 
 begin-requires : tie.Need-begin-requires
 begin-requires c κs =
     let args = c .before .before .before .before .before .before .before .before .args in
-    begin-accepted (args .netlist .now) (args .words .now) (args .state .now) (sym (c .before .before .before .check-begin .ensures) ∙ c .before .enum-told .given .1)
+    begin-accepted (args .format) (args .netlist .now) (args .words .now) (args .state .now) (sym (c .before .before .before .check-begin .ensures) ∙ c .before .enum-told .given .1)
 
 returns-2 : tie.Need-returns-2
 unfolding beginCall
 returns-2 c =
     let told = c .before .before .before .before in
     let done = c .before .before .begin .ensures in
-    run-done _ _ _ _ _ _ _ (sym (told .before .before .check-begin .ensures) ∙ told .enum-told .given .1) (done .1) (done .0)
+    run-done _ _ _ _ _ _ _ _ (sym (told .before .before .check-begin .ensures) ∙ told .enum-told .given .1) (done .1) (done .0)
 
 pub begin-spec : {M : Type 1} → statement M
 begin-spec =

@@ -8,7 +8,7 @@ use Rattle.simulator.proofs.run_netlist.Tie as tie
 
 returns : tie.Need-returns
 unfolding runNetlistCall
-returns c = run-refused _ _ _ _ _ _ _ (sym (c .before .before .before .before .check-run .ensures) ∙ c .before .before .checked .given .1) (c .refused .ensures)
+returns c = run-refused _ _ _ _ _ _ _ _ (sym (c .before .before .before .before .check-run .ensures) ∙ c .before .before .checked .given .1) (c .refused .ensures)
 
 full-run-requires : tie.Need-full-run-requires
 full-run-requires c κs =
@@ -20,7 +20,7 @@ unfolding runNetlistCall
 returns-2 c =
     let told = c .before .before .before .before in
     let done = c .before .before .full-run .ensures in
-    run-done _ _ _ _ _ _ _ (sym (told .before .before .check-run .ensures) ∙ told .enum-told .given .1) (done .1) (done .0)
+    run-done _ _ _ _ _ _ _ _ (sym (told .before .before .check-run .ensures) ∙ told .enum-told .given .1) (done .1) (done .0)
 
 pub run-netlist-spec : {M : Type 1} → statement M
 run-netlist-spec =

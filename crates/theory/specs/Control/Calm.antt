@@ -55,6 +55,17 @@ aloft w a =
       word = λ d e s. Unit {0};
     }
 
+-- what has been in the lines before instant c alone
+abbrev pub lined : ℕ → ℕ → Known
+lined w c =
+    record {
+      delay = λ d s. Spaced w d s c;
+      merge = λ f₁ f₂. Unit {0};
+      answer = λ f₁ f₂. Unit {0};
+      line = λ d s. Unit {0};
+      word = λ d e s. Unit {0};
+    }
+
 abbrev pub Calm : (W : World) (P : Code) (s f : Sig) (g : Gives) → Built W P s f g → ℕ → Type 0
 Calm W P s f g n a = Each (calmly (W .w) (W .m) a) (W .w) (ideal (W .m)) (W .ret) P s f g n
 
@@ -64,30 +75,29 @@ Sofar W P s f g n c = Each (lately (W .w) (W .m) c) (W .w) (ideal (W .m)) (W .re
 abbrev pub Resting : (W : World) (P : Code) (s f : Sig) (g : Gives) → Built W P s f g → ℕ → Type 0
 Resting W P s f g n a = Each (aloft (W .w) a) (W .w) (ideal (W .m)) (W .ret) P s f g n
 
+abbrev pub Lined : (W : World) (P : Code) (s f : Sig) (g : Gives) → Built W P s f g → ℕ → Type 0
+Lined W P s f g n c = Each (lined (W .w) c) (W .w) (ideal (W .m)) (W .ret) P s f g n
+
 -- What is known of every cell ---------------------------------------------------------------------------------------------------------
 
 -- K′ is known of a cell of which K and J are
 record Gains (K J K′ : Known) : Type 0 where
-  delay : (d : ℕ) (s : Sig) → K .delay d s → J .delay d s → K′ .delay d s
+  timer : (d : ℕ) (s : Sig) → Timer K d s → Timer J d s → Timer K′ d s
   merge : (f₁ f₂ : Sig) → K .merge f₁ f₂ → J .merge f₁ f₂ → K′ .merge f₁ f₂
   answer : (f₁ f₂ : Sig) → K .answer f₁ f₂ → J .answer f₁ f₂ → K′ .answer f₁ f₂
-  line : (d : ℕ) (s : Sig) → K .line d s → J .line d s → K′ .line d s
   word : (d : ℕ) (e : Expr) (s : Sig) → K .word d e s → J .word d e s → K′ .word d e s
 
 module _ (K J K′ : Known) (h : Gains K J K′) (w : ℕ) (R : Reading) (r : ℕ → Sig) where
-  timer-both : (d : ℕ) (s : Sig) → Timer K d s → Timer J d s → Timer K′ d s
-  timer-both d s p q = (h .delay d s (p .0) (q .0), h .line d s (p .1) (q .1))
-
   test-both : (d : ℕ) (e : Expr) (s : Sig) → Test K d e s → Test J d e s → Test K′ d e s
-  test-both d e s p q = (h .delay d s (p .0) (q .0), h .line d s (p .1) (q .1), h .word d e s (p .2) (q .2))
+  test-both d e s p q = let t = h .timer d s (p .0, p .1) (q .0, q .1) in (t .0, t .1, h .word d e s (p .2) (q .2))
 
   delays-both : (d : ℕ) (e : Expr) (s : Sig) → Delays K w d e s → Delays J w d e s → Delays K′ w d e s
-  delays-both d e s p q = (test-both d e s (p .0) (q .0), timer-both w (delayed d s) (p .1) (q .1))
+  delays-both d e s p q = (test-both d e s (p .0) (q .0), h .timer w (delayed d s) (p .1) (q .1))
 
   each-both : (P : Code) (s f : Sig) (g : Gives) (n : Circuit w R r P s f g) → Each K w R r P s f g n → Each J w R r P s f g n → Each K′ w R r P s f g n
   unfolding Circuit Each
   each-both ok s f g n p q = tt
-  each-both (tick d) s f g n p q = timer-both d s p q
+  each-both (tick d) s f g n p q = h .timer d s p q
   each-both (assign d x e) s f g n p q = delays-both d e s p q
   each-both (assignElem d k i e) s f g n p q = (delays-both d e s (p .0) (q .0), h .word d i s (p .1) (q .1))
   each-both (seq P Q) s f g n p q =
@@ -104,9 +114,9 @@ module _ (K J K′ : Known) (h : Gains K J K′) (w : ℕ) (R : Reading) (r : �
   )
   each-both (while d e P) s f g n p q = (test-both d e (either s (n .f₁)) (p .0) (q .0), each-both P (n .s₁) (n .f₁) g (n .body) (p .1) (q .1))
   each-both (repeat d e P) s f g n p q = (test-both d e (n .f₁) (p .0) (q .0), each-both P (n .s₁) (n .f₁) g (n .body) (p .1) (q .1))
-  each-both (loop d P) s f g n p q = (timer-both d (n .f₁) (p .0) (q .0), each-both P (n .s₁) (n .f₁) (n .g₁) (n .body) (p .1) (q .1))
+  each-both (loop d P) s f g n p q = (h .timer d (n .f₁) (p .0) (q .0), each-both P (n .s₁) (n .f₁) (n .g₁) (n .body) (p .1) (q .1))
   each-both exit s f g n p q = tt
-  each-both (call d b) s f g n p q = (timer-both d s (p .0) (q .0), h .answer (delayed d s) (r b) (p .1) (q .1))
+  each-both (call d b) s f g n p q = (h .timer d s (p .0) (q .0), h .answer (delayed d s) (r b) (p .1) (q .1))
 
 -- of every circuit nothing is known
 abbrev nothing : Known
@@ -135,10 +145,9 @@ calm-zero W P s f g n =
     let z = each-nothing (W .w) (ideal (W .m)) (W .ret) P s f g n in
     each-both nothing nothing (calmly (W .w) (W .m) 0)
     (record {
-      delay = λ d s u v t l k. absurd (omega arith);
+      timer = λ d s u v. (λ t l k. absurd (omega arith), λ one w t l k. absurd (omega arith));
       merge = λ f₁ f₂ u v. empty-zero (W .w) f₁ f₂;
       answer = λ f₁ f₂ u v. no-call-zero (W .w) f₁ f₂;
-      line = λ d s u v one w t l k. absurd (omega arith);
       word = λ d e s u v w t l k. absurd (omega arith);
     })
     (W .w) (ideal (W .m)) (W .ret) P s f g n z z
@@ -147,17 +156,16 @@ module _ (W : World) (P : Code) (s f : Sig) (g : Gives) (n : Built W P s f g) wh
   pub calm-sofar : (a : ℕ) → Calm W P s f g n a → Sofar W P s f g n a
   calm-sofar a p =
       each-both (calmly (W .w) (W .m) a) (calmly (W .w) (W .m) a) (lately (W .w) (W .m) a)
-      (record { delay = λ d s u v. tt; merge = λ f₁ f₂ u v. tt; answer = λ f₁ f₂ u v. tt; line = λ d s u v. u; word = λ d e s u v. u })
+      (record { timer = λ d s u v. (tt, u .1); merge = λ f₁ f₂ u v. tt; answer = λ f₁ f₂ u v. tt; word = λ d e s u v. u })
       (W .w) (ideal (W .m)) (W .ret) P s f g n p p
 
   pub sofar-less : (c c′ : ℕ) → c′ ≤ c → Sofar W P s f g n c → Sofar W P s f g n c′
   sofar-less c c′ o p =
       each-both (lately (W .w) (W .m) c) (lately (W .w) (W .m) c) (lately (W .w) (W .m) c′)
       (record {
-        delay = λ d s u v. u;
+        timer = λ d s u v. (tt, λ one w t l k. u .1 one w t l (omega arith));
         merge = λ f₁ f₂ u v. u;
         answer = λ f₁ f₂ u v. u;
-        line = λ d s u v one w t l k. u one w t l (omega arith);
         word = λ d e s u v w t l k. u w t l (omega arith);
       })
       (W .w) (ideal (W .m)) (W .ret) P s f g n p p
@@ -166,14 +174,21 @@ module _ (W : World) (P : Code) (s f : Sig) (g : Gives) (n : Built W P s f g) wh
   pub calm-rests : (a : ℕ) → Calm W P s f g n a → Resting W P s f g n a
   calm-rests a p =
       each-both (calmly (W .w) (W .m) a) (calmly (W .w) (W .m) a) (aloft (W .w) a)
-      (record { delay = λ d s u v. u; merge = λ f₁ f₂ u v. u; answer = λ f₁ f₂ u v. u; line = λ d s u v. tt; word = λ d e s u v. tt })
+      (record { timer = λ d s u v. (u .0, tt); merge = λ f₁ f₂ u v. u; answer = λ f₁ f₂ u v. u; word = λ d e s u v. tt })
       (W .w) (ideal (W .m)) (W .ret) P s f g n p p
 
   pub rests-calm : (a : ℕ) → Resting W P s f g n a → Sofar W P s f g n a → Calm W P s f g n a
   rests-calm a p q =
       each-both (aloft (W .w) a) (lately (W .w) (W .m) a) (calmly (W .w) (W .m) a)
-      (record { delay = λ d s u v. u; merge = λ f₁ f₂ u v. u; answer = λ f₁ f₂ u v. u; line = λ d s u v. v; word = λ d e s u v. v })
+      (record { timer = λ d s u v. (u .0, v .1); merge = λ f₁ f₂ u v. u; answer = λ f₁ f₂ u v. u; word = λ d e s u v. v })
       (W .w) (ideal (W .m)) (W .ret) P s f g n p q
+
+  -- that no line has held two pulses, alone
+  pub sofar-lines : (c : ℕ) → Sofar W P s f g n c → Lined W P s f g n c
+  sofar-lines c p =
+      each-both (lately (W .w) (W .m) c) (lately (W .w) (W .m) c) (lined (W .w) c)
+      (record { timer = λ d s u v. (u .1, tt); merge = λ f₁ f₂ u v. tt; answer = λ f₁ f₂ u v. tt; word = λ d e s u v. tt })
+      (W .w) (ideal (W .m)) (W .ret) P s f g n p p
 
 -- What holds at every instant ---------------------------------------------------------------------------------------------------------
 

@@ -19,9 +19,9 @@ use Rattle.theory.specs.Control.Widths.{gap-one, gap-least, timely-one, 
 use Rattle.theory.specs.Control.Pulses.{Pulse}
 use Rattle.theory.specs.Control.Wiring.{Memory, ideal, Gives, hits, latch, Circuit, Mem}
 use Rattle.theory.specs.Control.World.{World, means, Paced, goes}
-use Rattle.theory.specs.Control.Calm.{Calm, Resting, Sofar, calm-zero, calm-sofar, sofar-less, calm-rests, rests-calm}
+use Rattle.theory.specs.Control.Calm.{Calm, Resting, Sofar, Lined, calm-zero, calm-sofar, sofar-less, sofar-lines, calm-rests, rests-calm}
 use Rattle.theory.specs.Control.Rest.{hush}
-use Rattle.theory.specs.Control.Bodies.{Owned, Idle, BodyRests, SilentAt, bodies-rest, Follows, Settled, pause-low}
+use Rattle.theory.specs.Control.Bodies.{Owned, Idle, BodyRests, SilentAt, bodies-rest, Follows, Settled, pause-low, BodySofar}
 use Rattle.theory.specs.Control.Runs.{Ready, Done}
 use Rattle.theory.specs.Control.Timing.{showsAt, done-at, finish-at, words-after, rests-after, alive-at, sofar-at}
 
@@ -165,6 +165,19 @@ module _ (S : Program) (A : Admitted S) (G : Signals S) (s f : Sig) (g : Gives) 
           high = λ t l h k. let q : a ≡ t = omega arith in subst (λ (t : ℕ). s t ≡ true) q (T .pulse);
           low = λ t l h. none t (omega arith) (omega arith);
         }
+
+    -- no line has held two pulses, in the main statement's circuit and in the bodies'
+    pub stands-lines : Lined W (S .main) s f g circuit (suc b)
+        × ((q : ℕ) → q < length (S .bodies) → Lined W (bodyAt (S .bodies) q) (G .all .calls q) (G .ret q) (G .each q) (G .built q) (suc b))
+    unfolding u
+    stands-lines =
+        let past : Sofar W (S .main) s f g circuit (suc b) × ((q : ℕ) → q < length (S .bodies) → BodySofar W q (suc b)) =
+        rw now at
+        (sofar-at W (S .main) paced apart enclosed (lone-main S A) U σ s f g circuit a e ready begins (follows a e) (λ t l h. silent t) u
+        (omega (arith, now))) in (
+          sofar-lines W (S .main) s f g circuit (suc b) (past .0),
+          λ q l. sofar-lines W (bodyAt (S .bodies) q) (G .all .calls q) (G .ret q) (G .each q) (G .built q) (suc b) (past .1 q l),
+        )
 
     pub stands-finish : f b ≡ endsAt (b - a) (run (b - a) (meaning S) σ)
     unfolding u meaning

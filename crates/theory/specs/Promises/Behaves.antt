@@ -9,6 +9,7 @@ use Prim.Native.Nat.{ℕ, _+_, _-_, _*_, _/_, _%_, _≤_}
 use native.Mathlib.Omega.{arith}
 use Rattle.model.specs.declared.Refusal.{Refusal}
 use Rattle.model.specs.declared.Cell.{Cell}
+use Rattle.model.specs.declared.Format.{Format}
 use Rattle.model.specs.declared.Outcome.{Outcome}
 use Rattle.model.specs.declared.Outcome.the-variants.{Ended, Open}
 use Rattle.model.specs.declared.Answer.{Answer}
@@ -19,7 +20,7 @@ use Rattle.model.specs.Rules.{Store, Ends, atEnd, ended, run, due}
 use Rattle.model.specs.Circuit.{Sig, Values, level, element, arrayAt, Obeys, memoryWords}
 use Rattle.model.specs.Numbering.{netlist, arrayCell, memoryAt}
 use Rattle.model.specs.NetlistFile.{cellsOf, finishOf}
-use Rattle.model.specs.State.{stateSize, flightOf, nowAt, elementNow, wordsIn}
+use Rattle.model.specs.State.{flightOf, stateSize, nowAt, elementNow, wordsIn}
 use Rattle.model.specs.Calls.{Returned, verdict, refusedAnswer, shows}
 use Rattle.model.specs.CircuitPromises.{NoStart}
 use Rattle.model.specs.RunPromises.{Call, Stand, Runs, runAt, dueAt, ShowsWords, HasWords, Behaves, Tells}
@@ -68,12 +69,12 @@ never-due P τ h t = by-bool (due P τ t) (λ e. let g = due-ends P τ t e in ab
 -- The circuit with its start pulses -----------------------------------------------------------------------------------------------------
 
 -- with any values that obey its equations
-module _ (S : Program) (file : List ℕ) (X : OfProgram S file) (starts : Sig) (σ : Store) (W : Values) (o : Obeys (cellsOf file) starts σ W) where
+module _ (F : Format) (S : Program) (file : List ℕ) (X : OfProgram S file) (starts : Sig) (σ : Store) (W : Values) (o : Obeys (cellsOf file) starts σ W) where
   abbrev P : Stmt
   P = meaning S
 
-  abbrev F : ℕ
-  F = finishOf file
+  abbrev fin : ℕ
+  fin = finishOf file
 
   abbrev net : List Cell
   net = cellsOf file
@@ -97,32 +98,32 @@ module _ (S : Program) (file : List ℕ) (X : OfProgram S file) (starts : Sig) (
               ∙ shown-element S (X .admitted) starts σ W (published S file X starts σ W o) t τ word k i a;
         }
 
-    pub shows-words : (s : List ℕ) → Holding net σ W t s → ShowsWords file s τ
+    pub shows-words : (s : List ℕ) → Holding F net σ W t s → ShowsWords F file s τ
     unfolding elementWord
     shows-words s H = (
-      ap (λ (net : List Cell). wordsIn net 0 s) (X .cells-are) ∙ memory-words S (X .sixteen) (nowAt s)
-          ∙ listed-same (λ x. nowAt s (memoryAt S + x)) τ 0 16
+      ap (λ (net : List Cell). wordsIn F net 0 s) (X .cells-are) ∙ memory-words S (X .sixteen) (nowAt F s)
+          ∙ listed-same (λ x. nowAt F s (memoryAt S + x)) τ 0 16
           (λ y a b.
           H .body .present (memoryAt S + y) (rw (X .cells-are) (omega (arith, net-length S)))
           ∙ shown-word S (X .admitted) starts σ W (published S file X starts σ W o) t τ word y (omega arith)),
-      listed-further (elementNow net s) τ 16 0 256
+      listed-further (elementNow F net s) τ 16 0 256
           (λ y a b.
           let k = y / 64 in
           let i = y % 64 in
           let q : y ≡ 64 * k + i = omega arith in
-          ap (elementNow net s) q
+          ap (elementNow F net s) q
           ∙ H .body .elements k i (omega arith) (omega arith)
           ∙ has-words .elements k i (omega arith) (omega arith)
           ∙ ap τ (omega arith)),
     )
 
   abbrev pub Stood : Stand → List Call → Type 0
-  Stood = Now S file X starts σ W o
+  Stood = Now F S file X starts σ W o
 
   -- where the list stands
   module _ (st : Stand) (cs : List Call) (N : Stood st cs) where
-    pub due-by : (t : ℕ) → st .begun ≤ t → NoStart starts (st .begun) t → level W F t ≡ dueAt rules st t
-    due-by = due-at S file X starts σ W o st cs N
+    pub due-by : (t : ℕ) → st .begun ≤ t → NoStart starts (st .begun) t → level W fin t ≡ dueAt rules st t
+    due-by = due-at F S file X starts σ W o st cs N
 
     pub lasting : (t₀ : ℕ) (σ′ : Store) → Ends P (st .from) t₀ σ′ → (t : ℕ) → st .begun + t₀ ≤ t → NoStart starts (st .begun) t
         → (x : ℕ) → showing S σ W t x ≡ σ′ x
@@ -130,23 +131,23 @@ module _ (S : Program) (file : List ℕ) (X : OfProgram S file) (starts : Sig) (
         last-words S (X .admitted) starts σ W (published S file X starts σ W o) (st .from) (st .begun) t (N .began) (omega arith) none t₀ σ′
         (at-end P (meaning-timed S (X .admitted)) (st .from) t₀ σ′ E) l
 
-    never : ((t₀ : ℕ) (σ′ : Store) → Ends P (st .from) t₀ σ′ → ⊥) → (t : ℕ) → st .begun ≤ t → level W F t ≡ false
+    never : ((t₀ : ℕ) (σ′ : Store) → Ends P (st .from) t₀ σ′ → ⊥) → (t : ℕ) → st .begun ≤ t → level W fin t ≡ false
     unfolding dueAt due
     never h t l =
-        due-by t l (given-alone rules (stateSize net) starts st cs (N .given) (λ k u τ e. h u τ (run-ends P k (st .from) u τ e)) t)
+        due-by t l (given-alone rules (stateSize F net) starts st cs (N .given) (λ k u τ e. h u τ (run-ends P k (st .from) u τ e)) t)
         ∙ never-due P (st .from) h (t - st .begun)
 
-    pub behaves : (r : Returned Answer) → Holding net σ W (st .now) (r .lent) → Behaves P σ file rules starts W st r
+    pub behaves : (r : Returned Answer) → Holding F net σ W (st .now) (r .lent) → Behaves F P σ file rules starts W st r
     behaves r H =
         record {
           begins = has-words (st .begun) (st .from) (N .began .words);
           finishes = due-by;
           lasts = λ t₀ σ′ E t l none. has-words t σ′ (lasting t₀ σ′ E t l none);
           endless = never;
-          buffer = holds net (X .ordered) starts σ W o (st .now) (r .lent) H;
+          buffer = holds F net (X .ordered) starts σ W o (st .now) (r .lent) H;
         }
 
-    number-is : (s : List ℕ) → Holding net σ W (st .now) s
+    number-is : (s : List ℕ) → Holding F net σ W (st .now) s
         → (flightOf s ≡ 0) ↔ ((t₀ : ℕ) × (σ′ : Store) × Ends P (st .from) t₀ σ′ × (st .begun + t₀ ≤ st .now))
     number-is s H = (
       (λ z.
@@ -155,16 +156,16 @@ module _ (S : Program) (file : List ℕ) (X : OfProgram S file) (starts : Sig) (
           let d = decides P (meaning-timed S (X .admitted)) (st .from) (st .now - st .begun) t₀ σ′ .0 p in
           (t₀, σ′, d .1, omega (arith, d .0, N .given .since)))
           (λ t₀ σ′ p. never-leaves P (meaning-closed S (X .admitted)) (st .now - st .begun) t₀ (st .from) σ′ p)
-          (λ p. absurd (number-still S file X starts σ W o st cs N s H p z))),
+          (λ p. absurd (number-still F S file X starts σ W o st cs N s H p z))),
       (λ h.
-          number-ended S file X starts σ W o st cs N s H (h .0) (h .1)
+          number-ended F S file X starts σ W o st cs N s H (h .0) (h .1)
           (at-end P (meaning-timed S (X .admitted)) (st .from) (h .0) (h .1) (h .2)) (h .3)),
     )
 
-    words-now : (t₀ : ℕ) (σ′ : Store) → Ends P (st .from) t₀ σ′ → st .begun + t₀ ≤ st .now → (s : List ℕ) → Holding net σ W (st .now) s → ShowsWords file s σ′
+    words-now : (t₀ : ℕ) (σ′ : Store) → Ends P (st .from) t₀ σ′ → st .begun + t₀ ≤ st .now → (s : List ℕ) → Holding F net σ W (st .now) s → ShowsWords F file s σ′
     words-now t₀ σ′ E l s H = shows-words (st .now) σ′ (lasting t₀ σ′ E (st .now) l (N .given .none)) s H
 
-    pub tells-refused : (k : ℕ) (b : List ℕ) → Holding net σ W (st .now) b → Tells P file st (record { answer = refusedAnswer (at0 k); lent = b })
+    pub tells-refused : (k : ℕ) (b : List ℕ) → Holding F net σ W (st .now) b → Tells F P file st (record { answer = refusedAnswer (at0 k); lent = b })
     unfolding verdict
     tells-refused k b H =
         record {
@@ -173,12 +174,12 @@ module _ (S : Program) (file : List ℕ) (X : OfProgram S file) (starts : Sig) (
           endless = λ h. refused-no-end;
         }
 
-    pub tells-answer : (s b : List ℕ) (n : ℕ) → Holding net σ W (st .now) s → Holding net σ W (st .now) b
-        → Tells P file st (record { answer = shows file s n; lent = b })
+    pub tells-answer : (s b : List ℕ) (n : ℕ) → Holding F net σ W (st .now) s → Holding F net σ W (st .now) b
+        → Tells F P file st (record { answer = shows F file s n; lent = b })
     unfolding shows
     tells-answer s b n H K =
         record {
           number = number-is b K;
           words = λ t₀ σ′ E l. (words-now t₀ σ′ E l b K, λ z. words-now t₀ σ′ E l s H .0);
-          endless = λ h. rw (H .body .present F (X .wire), never h (st .now) (N .given .since)) open-no-end;
+          endless = λ h. rw (H .body .present fin (X .wire), never h (st .now) (N .given .since)) open-no-end;
         }

@@ -22,6 +22,7 @@ use Rattle.model.specs.ProgramChecks.{programWith}
 use Rattle.model.specs.NetlistFile.{blocksFor, fileCheck, cellsOf, fileLengthWrong}
 use Rattle.model.specs.Numbering.{netlist, finish}
 use Rattle.model.specs.TimeTables.{builtIn, beside, load, defaults}
+use Rattle.model.specs.declared.Format.the-variants.{Full}
 use Rattle.model.specs.State.{stateSize}
 use Rattle.model.specs.Calls.{writtenVerdict, checkCall, writing, compiledFile, compileChecks, compileCall, runProgramCall, referenceCall, runProgramChecks}
 use Rattle.model.specs.Hubrun.{textOf, hubrunText}
@@ -63,7 +64,7 @@ module _ (options : Options) (program words forFile forState : List ℕ) (n : �
   abbrev read : fileCheck file ≡ Accepted
   read = file-read options program bytes accepted
 
-  state-room : stateSize (cellsOf file) ≤ length forState
+  state-room : stateSize Full (cellsOf file) ≤ length forState
   state-room = omega (arith, count-range _ _ _ (file-passed file read .count) .1, count-cells file)
 
   checks : first (runProgramChecks options program words n forFile forState) ≡ Accepted
@@ -74,7 +75,7 @@ module _ (options : Options) (program words forFile forState : List ℕ) (n : �
         le-ltb 1000000 n l,
         le-ltb (length words) 544 some,
         le-ltb (length forFile) (length file) (omega (arith, file-room options program bytes accepted)),
-        le-ltb (length forState) (stateSize (cellsOf file)) state-room,
+        le-ltb (length forState) (stateSize Full (cellsOf file)) state-room,
       )
 
   -- where the reference run says that it ended, the two answer the same

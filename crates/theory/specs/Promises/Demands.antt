@@ -24,8 +24,9 @@ use Rattle.theory.specs.State.OneRun.{one-run}
 use Rattle.theory.specs.Circuit.Bounds.{file-bounded}
 use Rattle.laws.specs.NetlistFile.Files.{cells-written, finish-written}
 use Rattle.laws.specs.NetlistFile.ReadWrite.{same-file}
-use Rattle.theory.specs.Refusals.Order.{demand-1}
-use Rattle.theory.specs.Promises.Kept.{compiled, program-accepted, file-fits, file-made, keeps}
+use Rattle.theory.specs.Refusals.Demand.{demand-1}
+use Rattle.theory.specs.Promises.Kept.{compiled, program-accepted, file-fits, file-made, begins, keeps}
+use Rattle.theory.specs.Promises.FullRuns.{full-runs}
 
 pub demand1 : Demand1
 demand1 = demand-1
@@ -53,13 +54,20 @@ demand2 =
       compiled = λ G. unfold load in published (load G);
       files = same-file;
       runs = λ file starts words pulse e. one-run (cellsOf file) (net-ordered (cellsOf file) (finishOf file) (file-passed file e .cells)) starts words pulse;
-      numbers = λ file lent starts e room.
-          step-true (cellsOf file) (net-ordered (cellsOf file) (finishOf file) (file-passed file e .cells)) starts lent (omega arith);
+      numbers = λ F file lent starts e room.
+          step-true F (cellsOf file) (net-ordered (cellsOf file) (finishOf file) (file-passed file e .cells)) starts lent (omega arith);
       bounded = λ file words y z e starts. file-bounded file y e starts (wordAt words) (word-low words z);
     }
 
 pub demand3 : Demand3
-unfolding Demand3 load
-demand3 G program forFile words forState calls n f made begun =
-    keeps (load G) program (take n (compileCall (load G) program forFile .lent)) words forState (program-accepted (load G) program forFile n f made)
-    (file-made (load G) program forFile n f made) begun forFile (file-fits (load G) program forFile n f made) calls
+unfolding load
+demand3 =
+    record {
+      lists = λ F G program forFile words forState calls n f made begun.
+          let file = take n (compileCall (load G) program forFile .lent) in
+          keeps F (programWith (load G) program) file words forState
+          (begins F (load G) program file words forState (program-accepted (load G) program forFile n f made) (file-made (load G) program forFile n f made) begun) calls;
+      fullRuns = λ G program forFile words forState n f made begun.
+          full-runs (load G) program (take n (compileCall (load G) program forFile .lent)) words forState (program-accepted (load G) program forFile n f made)
+          (file-made (load G) program forFile n f made) begun forFile (file-fits (load G) program forFile n f made);
+    }

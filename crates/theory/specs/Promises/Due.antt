@@ -2,26 +2,28 @@
 -- due, from the end on its memories and its arrays have the last words and nothing is in flight, and before it something is.
 -- Assumes nothing.
 use Prim.Native.Nat.{ℕ, suc, _+_, _-_, _≤_, _<_}
-use mathlib.Core.Path.{_≡_, sym, ap, _∙_}
+use mathlib.Core.Path.{_≡_, refl, sym, ap, _∙_}
 use mathlib.Core.Bool.{Bool, true, false}
 use mathlib.Core.Logic.{_↔_}
 use native.Mathlib.Omega.{arith}
 use lib.ListN.{length}
 use Rattle.model.specs.Word.{index, elementWord}
 use Rattle.model.specs.declared.Merge.{Merge}
+use Rattle.model.specs.declared.Format.the-variants.{Compact}
 use Rattle.model.specs.Program.{Program}
 use Rattle.model.specs.Procedures.{bodyAt, meaning}
 use Rattle.model.specs.Rules.{Store, ended, still, run, due}
 use Rattle.model.specs.Circuit.{Sig, Values, cellAt, level, element, delayed, heldBefore, merges, stepOf, Obeys}
 use Rattle.model.specs.Numbering.{netlist, finish, arrayCell, memoryAt}
-use Rattle.model.specs.CircuitPromises.{heldOf, Idle, NoStart}
+use Rattle.model.specs.CircuitPromises.{heldOf, Idle, NoStart, Apart}
 use Rattle.laws.specs.Circuit.Shapes.{delay-kind, delay-shape, merge-shape, return-shape, of-merge, of-return, by-merge}
 use Rattle.laws.specs.Program.Admitted.{Admitted}
 use Rattle.theory.specs.Control.Signal.{Clear, delayed-at, delayed-off}
 use Rattle.theory.specs.Control.Merge.{Empty, held-one}
 use Rattle.theory.specs.Control.Returns.{NoCall, call-one}
 use Rattle.theory.specs.Control.Calm.{Resting}
-use Rattle.theory.specs.Control.Standing.{Signals, world, Standing, stands-first, stands-finish, stands-alive, stands-words, stands-rest, stands-again}
+use Rattle.theory.specs.Control.History.{Spaced}
+use Rattle.theory.specs.Control.Standing.{Signals, world, Standing, stands-first, stands-lines, stands-finish, stands-alive, stands-words, stands-rest, stands-again}
 use Rattle.theory.specs.Numbering.Whole.{showing, shows, shows-element, startOf, start-main, start-is, finishWireOf, finish-main, main-is, begin-is, signals}
 use Rattle.theory.specs.Numbering.Given.{g, follows, silent}
 use Rattle.theory.specs.Numbering.Flying.{OfCell}
@@ -122,6 +124,14 @@ module _ (S : Program) (A : Admitted S) (starts : Sig) (σ₀ : Store) (W : Valu
         finish-at t
         ∙ stands-finish S A G s f (g S A starts σ₀ W obeys) (main-is S A starts σ₀ W obeys) (follows S A starts σ₀ W obeys) (silent S A starts σ₀ W obeys)
         σ a t T since quiet
+
+    -- no pulse has entered a line whose pulse hadn't come out
+    pub lines-apart : Apart Compact (netlist S) W t
+    lines-apart k l q v m u o x y =
+        of-netlist (λ d s. Spaced 1 d s (suc t)) (λ f₁ f₂. Unit {0}) (λ f₁ f₂. Unit {0}) W (λ s one u v l k x y. omega arith) S A starts σ₀ obeys .0
+        (stands-lines S A G s f (g S A starts σ₀ W obeys) (main-is S A starts σ₀ W obeys) (follows S A starts σ₀ W obeys) (silent S A starts σ₀ W obeys)
+        σ a t T since quiet)
+        k l .delay (delay-kind _ q) refl u v o (omega arith) x y
 
     pub still-busy : run (t - a) (meaning S) σ ≡ still → Idle (netlist S) W t → ⊥
     still-busy p I =

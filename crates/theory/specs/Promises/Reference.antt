@@ -7,6 +7,7 @@ use Prim.Native.Nat.{ℕ, _≤_}
 use lib.Dec.{ltb}
 use lib.ListN.{length}
 use borrow.Author.Tests.{ltb-false}
+use Rattle.model.specs.declared.Format.the-variants.{Full}
 use Rattle.model.specs.declared.Options.{Options}
 use Rattle.model.specs.declared.Checked.{Checked}
 use Rattle.model.specs.declared.Checked.the-variants.{Accepted}
@@ -34,7 +35,8 @@ use Rattle.theory.specs.Rules.Relation.{run-ends, ends-run}
 use Rattle.theory.specs.Rules.Calling.{meanings-obey, main-rules}
 use Rattle.theory.specs.Promises.Replay.{no-refusal}
 use Rattle.theory.specs.Promises.Behaves.{open-no-end}
-use Rattle.theory.specs.Promises.Kept.{ran, whole-run, program-run, agrees, stays-open}
+use Rattle.theory.specs.Promises.Kept.{ran}
+use Rattle.theory.specs.Promises.FullRuns.{whole-run, program-run, agrees, stays-open}
 use Rattle.laws.specs.NetlistFile.Compiled.{compiled-accepted}
 
 -- The reference run --------------------------------------------------------------------------------------------------------------------
@@ -97,14 +99,14 @@ module _ (options : Options) (program words : List ℕ) (n : ℕ) (forFile lent 
   words-fit : ltb (length words) 544 ≡ false
   words-fit = refuse-unless _ 14 0 (all-accept (runProgramChecks options program words n forFile lent) checks 3)
 
-  state-fits : ltb (length lent) (stateSize (cellsOf file)) ≡ false
+  state-fits : ltb (length lent) (stateSize Full (cellsOf file)) ≡ false
   state-fits = refuse-unless _ 14 0 (all-accept (runProgramChecks options program words n forFile lent) checks 5)
 
-  begins : verdict (beginCall file words lent .answer .outcome) ≡ Accepted
+  begins : verdict (beginCall Full file words lent .answer .outcome) ≡ Accepted
   unfolding beginCall running shows
   begins =
       rw (compiled-accepted options program bytes accepts, words-fit, state-fits)
-      (no-refusal (high (nowAt (beginState (cellsOf file) (wordAt words) lent) (finishOf file))))
+      (no-refusal (high (nowAt Full (beginState Full (cellsOf file) (wordAt words) lent) (finishOf file))))
 
   abbrev full : Answer
   full = runProgramCall options program words n forFile lent .answer
@@ -163,5 +165,5 @@ programs =
           let file = compiledFile (load G) program in
           same-answers (load G) program words n forFile lent y
           (unfold runProgramCall in
-          ran (first (runProgramChecks (load G) program words n forFile lent)) file (fullState file words n lent) (fullCount file words n lent) lent v);
+          ran Full (first (runProgramChecks (load G) program words n forFile lent)) file (fullState file words n lent) (fullCount file words n lent) lent v);
     }

@@ -12,6 +12,8 @@ use lib.Seq.{getD-take}
 use borrow.Author.Tests.{lt-ltb, le-ltb}
 use Rattle.model.specs.declared.Refusal.{Refusal}
 use Rattle.model.specs.declared.Cell.{Cell}
+use Rattle.model.specs.declared.Format.{Format}
+use Rattle.model.specs.declared.Format.the-variants.{Compact}
 use Rattle.model.specs.declared.Checked.{Checked}
 use Rattle.model.specs.declared.Checked.the-variants.{Accepted}
 use Rattle.model.specs.declared.Outcome.the-variants.{Ended, Open}
@@ -24,9 +26,9 @@ use Rattle.model.specs.Rules.{Store, ended, still, run, due}
 use Rattle.model.specs.Circuit.{Sig, Values, high, level, memories, Obeys}
 use Rattle.model.specs.Numbering.{netlist, finish}
 use Rattle.model.specs.NetlistFile.{fileCheck, cellsOf, finishOf}
-use Rattle.model.specs.State.{stateSize, instantOf, flightOf, nowAt, stepState, lastState, evaluated, sound}
-use Rattle.model.specs.Calls.{Returned, verdict, refusedAnswer, shows, running, continueChecks, continueCall, busy, startChecks, startCall}
-use Rattle.model.specs.CircuitPromises.{Idle, stopsAt, NoStart}
+use Rattle.model.specs.State.{instantOf, flightOf, Course, stateSize, nowAt, stepState, continued, sound}
+use Rattle.model.specs.Calls.{Returned, verdict, refusedAnswer, shows, running, continueChecks, goingOn, continueCall, busy, startChecks, startCall}
+use Rattle.model.specs.CircuitPromises.{Idle, stopsAt, NoStart, Apart}
 use Rattle.model.specs.RunPromises.{Request, continuing, start, Call, respond, replay, Seen, seen, seenOf, endedIf, Stand, stand, Runs, runAt, dueAt, Next, refuses, pulsed, afterRequest, next, expected, stands, Along, Unchanged}
 use Rattle.laws.specs.Refusals.Laws.{by-bool, by-le}
 use Rattle.laws.specs.Rules.Laws.{by-runs, steady}
@@ -35,10 +37,11 @@ use Rattle.laws.specs.Program.Admitted.{Admitted, meaning-timed, meaning-closed
 use Rattle.laws.specs.Circuit.Ordered.{Ordered}
 use Rattle.theory.specs.State.Holding.{Holding}
 use Rattle.theory.specs.State.Flight.{same-holds, number-zero}
+use Rattle.theory.specs.State.Counters.{apart-either}
 use Rattle.theory.specs.State.Step.{step-holds, step-length}
 use Rattle.theory.specs.State.Sound.{sound-held, holds}
 use Rattle.theory.specs.State.Running.{continues, stops-high, stops-low, stops-ge, stops-le}
-use Rattle.theory.specs.Promises.Due.{Began, finish-due, still-busy, ended-idle, run-again}
+use Rattle.theory.specs.Promises.Due.{Began, finish-due, lines-apart, still-busy, ended-idle, run-again}
 use Rattle.theory.specs.Promises.Stands.{next-short, next-long, stopped, continues-late, continues-now, start-late, start-now, Given, given-on, given-pulse, given-anew}
 
 -- Calls ---------------------------------------------------------------------------------------------------------------------------------
@@ -54,39 +57,49 @@ abbrev pub at0 : ℕ → Refusal
 at0 k = record { number = k; place = 0 }
 
 -- a run that a check refuses, and one that none does
-module _ (c : Checked) (file s : List ℕ) (n : ℕ) (lent : List ℕ) where
-  refused-run : (k : ℕ) → c ≡ refuse k 0 → running c file s n lent ≡ record { answer = refusedAnswer (at0 k); lent = lent }
+module _ (F : Format) (c : Checked) (file s : List ℕ) (n : ℕ) (lent : List ℕ) where
+  refused-run : (k : ℕ) → c ≡ refuse k 0 → running F c file s n lent ≡ record { answer = refusedAnswer (at0 k); lent = lent }
   unfolding running
-  refused-run k e = ap (λ (c : Checked). running c file s n lent) e
+  refused-run k e = ap (λ (c : Checked). running F c file s n lent) e
 
-  pub accepted-run : c ≡ Accepted → running c file s n lent ≡ record { answer = shows file s n; lent = s }
+  pub accepted-run : c ≡ Accepted → running F c file s n lent ≡ record { answer = shows F file s n; lent = s }
   unfolding running
-  accepted-run e = ap (λ (c : Checked). running c file s n lent) e
+  accepted-run e = ap (λ (c : Checked). running F c file s n lent) e
+
+-- a continuing that a check refuses, and one that neither a check nor 26 does
+module _ (F : Format) (c : Checked) (file : List ℕ) (o : Course) (lent : List ℕ) where
+  refused-going : (k : ℕ) → c ≡ refuse k 0 → goingOn F c file o lent ≡ record { answer = refusedAnswer (at0 k); lent = lent }
+  unfolding goingOn
+  refused-going k e = ap (λ (c : Checked). goingOn F c file o lent) e
+
+  pub accepted-going : c ≡ Accepted → o .check ≡ Accepted → goingOn F c file o lent ≡ record { answer = shows F file (o .state) (o .count); lent = o .state }
+  unfolding goingOn
+  accepted-going e d = ap (λ (c : Checked). goingOn F c file o lent) e ∙ accepted-run F (o .check) file (o .state) (o .count) (o .state) d
 
 -- the checks of a continuing by n, which are the first of a start
-module _ (file : List ℕ) (accepted : fileCheck file ≡ Accepted) (n : ℕ) (lent : List ℕ) where
-  pub checked : (rest : List Checked) (p q r : Bool) → ltb (length lent) (stateSize (cellsOf file)) ≡ p → sound (cellsOf file) lent ≡ q
+module _ (F : Format) (file : List ℕ) (accepted : fileCheck file ≡ Accepted) (n : ℕ) (lent : List ℕ) where
+  pub checked : (rest : List Checked) (p q r : Bool) → ltb (length lent) (stateSize F (cellsOf file)) ≡ p → sound F (cellsOf file) lent ≡ q
       → ltb 1000000 (instantOf lent + n) ≡ r
-      → first (continueChecks file n lent ++ rest) ≡ first (refuseIf p 14 0 ∷ refuseIf (not q) 15 0 ∷ refuseIf r 16 0 ∷ rest)
+      → first (continueChecks F file n lent ++ rest) ≡ first (refuseIf p 14 0 ∷ refuseIf (not q) 15 0 ∷ refuseIf r 16 0 ∷ rest)
   checked rest p q r e d f i = first (accepted i ∷ refuseIf (e i) 14 0 ∷ refuseIf (not (d i)) 15 0 ∷ refuseIf (f i) 16 0 ∷ rest)
 
-replay-is : (file s : List ℕ) (c : Call) (cs : List Call) (r : Returned Answer) → respond file (c .request) (take (c .lent) s) ≡ r
-    → replay file s (c ∷ cs) ≡ record { answer = r .answer; lent = r .lent ++ drop (c .lent) s } ∷ replay file (r .lent ++ drop (c .lent) s) cs
+replay-is : (F : Format) (file s : List ℕ) (c : Call) (cs : List Call) (r : Returned Answer) → respond F file (c .request) (take (c .lent) s) ≡ r
+    → replay F file s (c ∷ cs) ≡ record { answer = r .answer; lent = r .lent ++ drop (c .lent) s } ∷ replay F file (r .lent ++ drop (c .lent) s) cs
 unfolding replay
-replay-is file s c cs r e =
-    ap (λ (r : Returned Answer). record { answer = r .answer; lent = r .lent ++ drop (c .lent) s } ∷ replay file (r .lent ++ drop (c .lent) s) cs) e
+replay-is F file s c cs r e =
+    ap (λ (r : Returned Answer). record { answer = r .answer; lent = r .lent ++ drop (c .lent) s } ∷ replay F file (r .lent ++ drop (c .lent) s) cs) e
 
 -- where finishes agree up to where one stops, both stop there
-stops-same : (F G : ℕ → Bool) (n t : ℕ) → ((u : ℕ) → t < u → u ≤ stopsAt G t n → F u ≡ G u) → stopsAt F t n ≡ stopsAt G t n
+stops-same : (p q : ℕ → Bool) (n t : ℕ) → ((u : ℕ) → t < u → u ≤ stopsAt q t n → p u ≡ q u) → stopsAt p t n ≡ stopsAt q t n
 unfolding stopsAt
-stops-same F G zero t h = refl
-stops-same F G (suc n) t h =
-    by-bool (G (suc t))
-    (λ e. let z = stops-high G t n e in stops-high F t n (h (suc t) (omega arith) (omega (arith, z)) ∙ e) ∙ sym z)
+stops-same p q zero t h = refl
+stops-same p q (suc n) t h =
+    by-bool (q (suc t))
+    (λ e. let z = stops-high q t n e in stops-high p t n (h (suc t) (omega arith) (omega (arith, z)) ∙ e) ∙ sym z)
     (λ e.
-    let z = stops-low G t n e in
-    stops-low F t n (h (suc t) (omega arith) (omega (arith, z, stops-ge G n (suc t))) ∙ e)
-    ∙ stops-same F G n (suc t) (λ u l k. h u (omega arith) (omega (arith, z))) ∙ sym z)
+    let z = stops-low q t n e in
+    stops-low p t n (h (suc t) (omega arith) (omega (arith, z, stops-ge q n (suc t))) ∙ e)
+    ∙ stops-same p q n (suc t) (λ u l k. h u (omega arith) (omega (arith, z))) ∙ sym z)
 
 -- A list of calls -----------------------------------------------------------------------------------------------------------------------
 
@@ -102,55 +115,65 @@ pub record OfProgram (S : Program) (file : List ℕ) : Type 0 where
 
 -- with start pulses at these instants, from these words
 module _ (S : Program) (file : List ℕ) (X : OfProgram S file) (starts : Sig) (σ₀ : Store) (W : Values) (obeys : Obeys (cellsOf file) starts σ₀ W) where
-  -- what its rules are of
-  abbrev P : Stmt
-  P = meaning S
-
   -- the equations of the file are those of the program's netlist
   pub published : Obeys (netlist S) starts σ₀ W
   published = rw (X .cells-are) at obeys
 
+module _ (F : Format) (S : Program) (file : List ℕ) (X : OfProgram S file) (starts : Sig) (σ₀ : Store) (W : Values)
+    (obeys : Obeys (cellsOf file) starts σ₀ W) where
+  -- what its rules are of
+  abbrev P : Stmt
+  P = meaning S
+
+  abbrev same : Obeys (netlist S) starts σ₀ W
+  same = published S file X starts σ₀ W obeys
+
   abbrev net : List Cell
   net = cellsOf file
 
-  abbrev F : ℕ
-  F = finishOf file
+  abbrev fin : ℕ
+  fin = finishOf file
 
   abbrev size : ℕ
-  size = stateSize net
+  size = stateSize F net
 
   abbrev rules : Runs
   rules τ k = run k P τ
 
   -- the run of the stand has begun, and these calls are to come
   pub record Now (st : Stand) (cs : List Call) : Type 0 where
-    pub began : Began S (X .admitted) starts σ₀ W published (st .from) (st .begun)
+    pub began : Began S (X .admitted) starts σ₀ W same (st .from) (st .begun)
     pub given : Given rules size starts st cs
 
   -- What the run of a stand does ---------------------------------------------------------------------------------------------------------
 
   module _ (st : Stand) (cs : List Call) (N : Now st cs) where
-    pub due-at : (t : ℕ) → st .begun ≤ t → NoStart starts (st .begun) t → level W F t ≡ dueAt rules st t
+    pub due-at : (t : ℕ) → st .begun ≤ t → NoStart starts (st .begun) t → level W fin t ≡ dueAt rules st t
     unfolding dueAt due
-    due-at t l none = rw (X .finish-is) (finish-due S (X .admitted) starts σ₀ W published (st .from) (st .begun) t (N .began) l none)
+    due-at t l none = rw (X .finish-is) (finish-due S (X .admitted) starts σ₀ W same (st .from) (st .begun) t (N .began) l none)
 
-    due-now : level W F (st .now) ≡ dueAt rules st (st .now)
+    apart-at : (t : ℕ) → st .begun ≤ t → NoStart starts (st .begun) t → Apart F net W t
+    apart-at t l none =
+        apart-either F net W t
+        (subst (λ (n : List Cell). Apart Compact n W t) (sym (X .cells-are)) (lines-apart S (X .admitted) starts σ₀ W same (st .from) (st .begun) t (N .began) l none))
+
+    due-now : level W fin (st .now) ≡ dueAt rules st (st .now)
     due-now = due-at (st .now) (N .given .since) (N .given .none)
 
     -- the number is 0 where it has ended, and is not where it has not
-    module _ (s : List ℕ) (H : Holding net σ₀ W (st .now) s) where
+    module _ (s : List ℕ) (H : Holding F net σ₀ W (st .now) s) where
       idle : (flightOf s ≡ 0 → Idle net W (st .now)) × (Idle net W (st .now) → flightOf s ≡ 0)
-      idle = number-zero net σ₀ W (st .now) s (holds net (X .ordered) starts σ₀ W obeys (st .now) s H)
+      idle = number-zero F net σ₀ W (st .now) s (holds F net (X .ordered) starts σ₀ W obeys (st .now) s H)
 
       pub number-ended : (e : ℕ) (σ : Store) → run e P (st .from) ≡ ended e σ → st .begun + e ≤ st .now → flightOf s ≡ 0
       number-ended e σ p l =
           idle .1
           (subst (λ (n : List Cell). Idle n W (st .now)) (sym (X .cells-are))
-          (ended-idle S (X .admitted) starts σ₀ W published (st .from) (st .begun) (st .now) (N .began) (N .given .since) (N .given .none) e σ p l))
+          (ended-idle S (X .admitted) starts σ₀ W same (st .from) (st .begun) (st .now) (N .began) (N .given .since) (N .given .none) e σ p l))
 
       pub number-still : runAt rules st (st .now) ≡ still → flightOf s ≡ 0 → ⊥
       number-still p z =
-          still-busy S (X .admitted) starts σ₀ W published (st .from) (st .begun) (st .now) (N .began) (N .given .since) (N .given .none) p
+          still-busy S (X .admitted) starts σ₀ W same (st .from) (st .begun) (st .now) (N .began) (N .given .since) (N .given .none) p
           (subst (λ (n : List Cell). Idle n W (st .now)) (X .cells-are) (idle .0 z))
 
   -- an end within so many instants is one after its own
@@ -160,10 +183,10 @@ module _ (S : Program) (file : List ℕ) (X : OfProgram S file) (starts : Sig) (
   -- What is true along the list ----------------------------------------------------------------------------------------------------------
 
   module _ (Q : Stand → Returned Answer → Type 0)
-      (refusing : (st : Stand) (cs : List Call) → Now st cs → (k : ℕ) (b : List ℕ) → Holding net σ₀ W (st .now) b
+      (refusing : (st : Stand) (cs : List Call) → Now st cs → (k : ℕ) (b : List ℕ) → st .now ≤ 1000000 → Holding F net σ₀ W (st .now) b
       → Q st (record { answer = refusedAnswer (at0 k); lent = b }))
-      (answering : (st : Stand) (cs : List Call) → Now st cs → (s b : List ℕ) (n : ℕ) → st .now ≤ 1000000 → Holding net σ₀ W (st .now) s
-      → Holding net σ₀ W (st .now) b → Q st (record { answer = shows file s n; lent = b })) where
+      (answering : (st : Stand) (cs : List Call) → Now st cs → (s b : List ℕ) (n : ℕ) → st .now ≤ 1000000 → Holding F net σ₀ W (st .now) s
+      → Holding F net σ₀ W (st .now) b → Q st (record { answer = shows F file s n; lent = b })) where
     -- what is promised of a list of steps
     pub record Good (st : Stand) (s : List ℕ) (calls : List Call) (steps : List (Returned Answer)) : Type 0 where
       pub outcomes : map seenOf steps ≡ expected rules size st calls
@@ -171,10 +194,10 @@ module _ (S : Program) (file : List ℕ) (X : OfProgram S file) (starts : Sig) (
       pub unchanged : Unchanged s steps
 
     -- a state's answer
-    pub answer-seen : (st : Stand) (cs : List Call) → Now st cs → (s b : List ℕ) (n : ℕ) → st .now ≤ 1000000 → Holding net σ₀ W (st .now) s
-        → seenOf (record { answer = shows file s n; lent = b }) ≡ seen (endedIf (dueAt rules st (st .now))) (st .now) n
+    pub answer-seen : (st : Stand) (cs : List Call) → Now st cs → (s b : List ℕ) (n : ℕ) → st .now ≤ 1000000 → Holding F net σ₀ W (st .now) s
+        → seenOf (record { answer = shows F file s n; lent = b }) ≡ seen (endedIf (dueAt rules st (st .now))) (st .now) n
     unfolding shows
-    answer-seen st cs N s b n l H = rw (H .instant l, H .body .present F (X .wire), due-now st cs N)
+    answer-seen st cs N s b n l H = rw (H .instant l, H .body .present fin (X .wire), due-now st cs N)
 
     -- one step, to where the list stands then
     step : (st : Stand) (s : List ℕ) (c : Call) (cs : List Call) (x : Next) (r : Returned Answer) (rs : List (Returned Answer)) → next rules size st c ≡ x
@@ -191,9 +214,9 @@ module _ (S : Program) (file : List ℕ) (X : OfProgram S file) (starts : Sig) (
         }
 
     module _ (st : Stand) (request : Request) (lent : ℕ) (cs : List Call) (N : Now st (record { request = request; lent = lent } ∷ cs)) (s : List ℕ)
-        (H : Holding net σ₀ W (st .now) s) (room : size ≤ length s) (l : st .now ≤ 1000000)
-        (go : (st′ : Stand) (b : List ℕ) → Now st′ cs → Holding net σ₀ W (st′ .now) b → size ≤ length b → st′ .now ≤ 1000000
-        → Good st′ b cs (replay file b cs)) where
+        (H : Holding F net σ₀ W (st .now) s) (room : size ≤ length s) (l : st .now ≤ 1000000)
+        (go : (st′ : Stand) (b : List ℕ) → Now st′ cs → Holding F net σ₀ W (st′ .now) b → size ≤ length b → st′ .now ≤ 1000000
+        → Good st′ b cs (replay F file b cs)) where
       abbrev c : Call
       c = record { request = request; lent = lent }
 
@@ -201,24 +224,24 @@ module _ (S : Program) (file : List ℕ) (X : OfProgram S file) (starts : Sig) (
       L = take lent s
 
       -- a refused call leaves the list where it stands
-      refused : (k : ℕ) → respond file request L ≡ record { answer = refusedAnswer (at0 k); lent = L } → next rules size st c ≡ refuses k st
-          → Good st s (c ∷ cs) (replay file s (c ∷ cs))
+      refused : (k : ℕ) → respond F file request L ≡ record { answer = refusedAnswer (at0 k); lent = L } → next rules size st c ≡ refuses k st
+          → Good st s (c ∷ cs) (replay F file s (c ∷ cs))
       refused k e x =
           let M : Now st cs =
           record {
             began = N .began;
             given = given-on rules size starts st c cs (N .given) st (ap (λ (y : Next). y .after) x) (record { begun = refl; from = refl; now = omega arith });
           } in
-          let r : replay file s (c ∷ cs) ≡ record { answer = refusedAnswer (at0 k); lent = s } ∷ replay file s cs =
-          replay-is file s c cs _ e ∙ ap (λ (b : List ℕ). record { answer = refusedAnswer (at0 k); lent = b } ∷ replay file b cs) (take-append-drop lent s) in
-          rw r (step st s c cs (refuses k st) _ _ x refl (refusing st cs M k s H) (λ h. refl) (go st s M H room l))
+          let r : replay F file s (c ∷ cs) ≡ record { answer = refusedAnswer (at0 k); lent = s } ∷ replay F file s cs =
+          replay-is F file s c cs _ e ∙ ap (λ (b : List ℕ). record { answer = refusedAnswer (at0 k); lent = b } ∷ replay F file b cs) (take-append-drop lent s) in
+          rw r (step st s c cs (refuses k st) _ _ x refl (refusing st cs M k s l H) (λ h. refl) (go st s M H room l))
 
       lent-length : length L ≡ min lent (length s)
       lent-length = length-take lent s
 
       -- the lent part holds what the buffer holds
-      lent-holds : size ≤ lent → Holding net σ₀ W (st .now) L
-      lent-holds h = same-holds net (X .ordered) s L (λ j x. getD-take lent s j 0 (omega arith)) σ₀ W (st .now) H
+      lent-holds : size ≤ lent → Holding F net σ₀ W (st .now) L
+      lent-holds h = same-holds F net (X .ordered) s L (λ j x. getD-take lent s j 0 (omega arith)) σ₀ W (st .now) H
 
       is-short : lent < size → ltb (length L) size ≡ true
       is-short h = lt-ltb (length L) size (omega (arith, lent-length))
@@ -226,8 +249,8 @@ module _ (S : Program) (file : List ℕ) (X : OfProgram S file) (starts : Sig) (
       is-long : size ≤ lent → ltb (length L) size ≡ false
       is-long h = le-ltb (length L) size (omega (arith, lent-length))
 
-      is-sound : size ≤ lent → sound net L ≡ true
-      is-sound h = sound-held net (X .ordered) starts σ₀ W obeys (st .now) L (lent-holds h)
+      is-sound : size ≤ lent → sound F net L ≡ true
+      is-sound h = sound-held F net (X .ordered) starts σ₀ W obeys (st .now) L (lent-holds h)
 
       is-late : (n : ℕ) → size ≤ lent → 1000000 < st .now + n → ltb 1000000 (instantOf L + n) ≡ true
       is-late n h m = lt-ltb 1000000 (instantOf L + n) (omega (arith, lent-holds h .instant l))
@@ -236,47 +259,47 @@ module _ (S : Program) (file : List ℕ) (X : OfProgram S file) (starts : Sig) (
       in-time n h m = le-ltb 1000000 (instantOf L + n) (omega (arith, lent-holds h .instant l))
 
       -- a call that runs to the stand st′, with the state s′ in the lent part
-      ran : (st′ : Stand) (s′ : List ℕ) (n : ℕ) → size ≤ lent → respond file request L ≡ record { answer = shows file s′ n; lent = s′ }
+      ran : (st′ : Stand) (s′ : List ℕ) (n : ℕ) → size ≤ lent → respond F file request L ≡ record { answer = shows F file s′ n; lent = s′ }
           → next rules size st c ≡ record { tells = seen (endedIf (dueAt rules st′ (st′ .now))) (st′ .now) n; after = st′ }
-          → Now st′ cs → Holding net σ₀ W (st′ .now) s′ → length s′ ≡ length L → st′ .now ≤ 1000000 → Good st s (c ∷ cs) (replay file s (c ∷ cs))
+          → Now st′ cs → Holding F net σ₀ W (st′ .now) s′ → length s′ ≡ length L → st′ .now ≤ 1000000 → Good st s (c ∷ cs) (replay F file s (c ∷ cs))
       unfolding shows
       ran st′ s′ n h e x M H′ z m =
           let b : List ℕ = s′ ++ drop lent s in
-          let K : Holding net σ₀ W (st′ .now) b =
-          same-holds net (X .ordered) s′ b (λ j y. List·getD-append s′ (drop lent s) 0 j (omega (arith, z, lent-length))) σ₀ W (st′ .now) H′ in
-          rw (replay-is file s c cs _ e)
+          let K : Holding F net σ₀ W (st′ .now) b =
+          same-holds F net (X .ordered) s′ b (λ j y. List·getD-append s′ (drop lent s) 0 j (omega (arith, z, lent-length))) σ₀ W (st′ .now) H′ in
+          rw (replay-is F file s c cs _ e)
           (step st s c cs _ _ _ x (answer-seen st′ cs M s′ b n m H′) (answering st′ cs M s′ b n m H′ K)
-          (λ g. absurd (omega (arith, g, ap numberOf (no-refusal (high (nowAt s′ F))))))
+          (λ g. absurd (omega (arith, g, ap numberOf (no-refusal (high (nowAt F s′ fin))))))
           (go st′ b M K (rw (length-append s′ (drop lent s)) (omega (arith, z, lent-length))) m))
 
     -- a continuing by n
     module _ (n : ℕ) (st : Stand) (lent : ℕ) (cs : List Call) (N : Now st (record { request = continuing n; lent = lent } ∷ cs)) (s : List ℕ)
-        (H : Holding net σ₀ W (st .now) s) (room : size ≤ length s) (l : st .now ≤ 1000000)
-        (go : (st′ : Stand) (b : List ℕ) → Now st′ cs → Holding net σ₀ W (st′ .now) b → size ≤ length b → st′ .now ≤ 1000000
-        → Good st′ b cs (replay file b cs)) where
+        (H : Holding F net σ₀ W (st .now) s) (room : size ≤ length s) (l : st .now ≤ 1000000)
+        (go : (st′ : Stand) (b : List ℕ) → Now st′ cs → Holding F net σ₀ W (st′ .now) b → size ≤ length b → st′ .now ≤ 1000000
+        → Good st′ b cs (replay F file b cs)) where
       abbrev by : Call
       by = record { request = continuing n; lent = lent }
 
       abbrev T : List ℕ
       T = take lent s
 
-      continue-refused : (k : ℕ) → first (continueChecks file n T) ≡ refuse k 0 → next rules size st by ≡ refuses k st
-          → Good st s (by ∷ cs) (replay file s (by ∷ cs))
+      continue-refused : (k : ℕ) → first (continueChecks F file n T) ≡ refuse k 0 → next rules size st by ≡ refuses k st
+          → Good st s (by ∷ cs) (replay F file s (by ∷ cs))
       unfolding respond continueCall
-      continue-refused k e x = refused st (continuing n) lent cs N s H room l go k (refused-run (first (continueChecks file n T)) file _ _ T k e) x
+      continue-refused k e x = refused st (continuing n) lent cs N s H room l go k (refused-going F (first (continueChecks F file n T)) file _ T k e) x
 
-      continue-short : lent < size → Good st s (by ∷ cs) (replay file s (by ∷ cs))
+      continue-short : lent < size → Good st s (by ∷ cs) (replay F file s (by ∷ cs))
       continue-short h =
           continue-refused 14
-          (checked file (X .accepted) n T [] true (sound net T) (ltb 1000000 (instantOf T + n)) (is-short st (continuing n) lent cs N s H room l go h) refl refl)
+          (checked F file (X .accepted) n T [] true (sound F net T) (ltb 1000000 (instantOf T + n)) (is-short st (continuing n) lent cs N s H room l go h) refl refl)
           (next-short rules size st by h)
 
       module _ (h : size ≤ lent) where
-        checks : (r : Bool) → ltb 1000000 (instantOf T + n) ≡ r → first (continueChecks file n T) ≡ first (refuseIf r 16 0 ∷ [])
+        checks : (r : Bool) → ltb 1000000 (instantOf T + n) ≡ r → first (continueChecks F file n T) ≡ first (refuseIf r 16 0 ∷ [])
         checks r e =
-            checked file (X .accepted) n T [] false true r (is-long st (continuing n) lent cs N s H room l go h) (is-sound st (continuing n) lent cs N s H room l go h) e
+            checked F file (X .accepted) n T [] false true r (is-long st (continuing n) lent cs N s H room l go h) (is-sound st (continuing n) lent cs N s H room l go h) e
 
-        continue-late : 1000000 < st .now + n → Good st s (by ∷ cs) (replay file s (by ∷ cs))
+        continue-late : 1000000 < st .now + n → Good st s (by ∷ cs) (replay F file s (by ∷ cs))
         unfolding afterRequest
         continue-late m =
             continue-refused 16 (checks true (is-late st (continuing n) lent cs N s H room l go n h m))
@@ -302,29 +325,31 @@ module _ (S : Program) (file : List ℕ) (X : OfProgram S file) (starts : Sig) (
               }
 
           -- the wire and the rules stop at the same instant
-          stops : stopsAt (level W F) (st .now) n ≡ t′
+          stops : stopsAt (level W fin) (st .now) n ≡ t′
           stops =
-              stops-same (level W F) (dueAt rules st) n (st .now)
+              stops-same (level W fin) (dueAt rules st) n (st .now)
               (λ u x y. due-at st (by ∷ cs) N u (omega (arith, N .given .since)) (λ v p q. M .given .none v p (omega arith)))
 
-          continue-runs : Good st s (by ∷ cs) (replay file s (by ∷ cs))
+          continue-runs : Good st s (by ∷ cs) (replay F file s (by ∷ cs))
           unfolding respond continueCall dueAt
           continue-runs =
               let C =
-              continues net (X .ordered) starts σ₀ W obeys F (X .wire) n (st .now) T (lent-holds st (continuing n) lent cs N s H room l go h)
+              continues F net (X .ordered) starts σ₀ W obeys fin (X .wire) n (st .now) T (lent-holds st (continuing n) lent cs N s H room l go h)
               (omega (arith, lent-length st (continuing n) lent cs N s H room l go))
-              (λ u x y. M .given .none u (omega (arith, N .given .since)) (omega (arith, stops))) in
-              let ev : evaluated net F n T ≡ t′ - st .now = rw stops at (C .count) in
-              ran st (continuing n) lent cs N s H room l go st′ (lastState net F n T) (evaluated net F n T) h
-              (accepted-run (first (continueChecks file n T)) file _ _ T (checks false (in-time st (continuing n) lent cs N s H room l go n h m)))
+              (λ u x y. M .given .none u (omega (arith, N .given .since)) (omega (arith, stops)))
+              (rw stops (apart-at st (by ∷ cs) N t′ (omega (arith, M .given .since)) (M .given .none))) in
+              let on : Course = continued F net fin n T in
+              let ev : on .count ≡ t′ - st .now = rw stops at (C .count) in
+              ran st (continuing n) lent cs N s H room l go st′ (on .state) (on .count) h
+              (accepted-going F (first (continueChecks F file n T)) file on T (checks false (in-time st (continuing n) lent cs N s H room l go n h m)) (C .free))
               (next-is ∙ ap (λ (k : ℕ). record { tells = seen (endedIf (dueAt rules st t′)) t′ k; after = st′ }) (sym ev)) M (rw stops at (C .holding)) (C .long)
               (omega (arith, stops-le (dueAt rules st) n (st .now)))
 
     -- a start
     module _ (st : Stand) (lent : ℕ) (cs : List Call) (N : Now st (record { request = start; lent = lent } ∷ cs)) (s : List ℕ)
-        (H : Holding net σ₀ W (st .now) s) (room : size ≤ length s) (l : st .now ≤ 1000000)
-        (go : (st′ : Stand) (b : List ℕ) → Now st′ cs → Holding net σ₀ W (st′ .now) b → size ≤ length b → st′ .now ≤ 1000000
-        → Good st′ b cs (replay file b cs)) where
+        (H : Holding F net σ₀ W (st .now) s) (room : size ≤ length s) (l : st .now ≤ 1000000)
+        (go : (st′ : Stand) (b : List ℕ) → Now st′ cs → Holding F net σ₀ W (st′ .now) b → size ≤ length b → st′ .now ≤ 1000000
+        → Good st′ b cs (replay F file b cs)) where
       abbrev pulse : Call
       pulse = record { request = start; lent = lent }
 
@@ -335,34 +360,34 @@ module _ (S : Program) (file : List ℕ) (X : OfProgram S file) (starts : Sig) (
       abbrev then : List Checked
       then = refuseIf (busy U) 23 0 ∷ []
 
-      start-refused : (k : ℕ) → first (startChecks file U) ≡ refuse k 0 → next rules size st pulse ≡ refuses k st
-          → Good st s (pulse ∷ cs) (replay file s (pulse ∷ cs))
+      start-refused : (k : ℕ) → first (startChecks F file U) ≡ refuse k 0 → next rules size st pulse ≡ refuses k st
+          → Good st s (pulse ∷ cs) (replay F file s (pulse ∷ cs))
       unfolding respond startCall
-      start-refused k e x = refused st start lent cs N s H room l go k (refused-run (first (startChecks file U)) file _ _ U k e) x
+      start-refused k e x = refused st start lent cs N s H room l go k (refused-run F (first (startChecks F file U)) file _ _ U k e) x
 
-      start-short : lent < size → Good st s (pulse ∷ cs) (replay file s (pulse ∷ cs))
+      start-short : lent < size → Good st s (pulse ∷ cs) (replay F file s (pulse ∷ cs))
       start-short h =
           start-refused 14
-          (checked file (X .accepted) _ U then true (sound net U) _ (is-short st start lent cs N s H room l go h) refl refl)
+          (checked F file (X .accepted) _ U then true (sound F net U) _ (is-short st start lent cs N s H room l go h) refl refl)
           (next-short rules size st pulse h)
 
       module _ (h : size ≤ lent) where
-        K : Holding net σ₀ W (st .now) U
+        K : Holding F net σ₀ W (st .now) U
         K = lent-holds st start lent cs N s H room l go h
 
         after-checks : (n : ℕ) (rest : List Checked) (r : Bool) → ltb 1000000 (instantOf U + n) ≡ r
-            → first (continueChecks file n U ++ rest) ≡ first (refuseIf r 16 0 ∷ rest)
+            → first (continueChecks F file n U ++ rest) ≡ first (refuseIf r 16 0 ∷ rest)
         after-checks n rest r e =
-            checked file (X .accepted) n U rest false true r (is-long st start lent cs N s H room l go h) (is-sound st start lent cs N s H room l go h) e
+            checked F file (X .accepted) n U rest false true r (is-long st start lent cs N s H room l go h) (is-sound st start lent cs N s H room l go h) e
 
-        start-over : 1000000 < st .now + 1 → Good st s (pulse ∷ cs) (replay file s (pulse ∷ cs))
+        start-over : 1000000 < st .now + 1 → Good st s (pulse ∷ cs) (replay F file s (pulse ∷ cs))
         unfolding afterRequest
         start-over m =
             start-refused 16 (after-checks _ then true (is-late st start lent cs N s H room l go _ h m))
             (next-long rules size st pulse h ∙ start-late rules size st m)
 
         module _ (m : st .now + 1 ≤ 1000000) where
-          only-busy : (z : Bool) → busy U ≡ z → first (startChecks file U) ≡ first (refuseIf z 23 0 ∷ [])
+          only-busy : (z : Bool) → busy U ≡ z → first (startChecks F file U) ≡ first (refuseIf z 23 0 ∷ [])
           only-busy z e =
               after-checks _ then false (in-time st start lent cs N s H room l go _ h m) ∙ ap (λ (z : Bool). first (refuseIf z 23 0 ∷ [])) e
 
@@ -371,7 +396,7 @@ module _ (S : Program) (file : List ℕ) (X : OfProgram S file) (starts : Sig) (
           is-pulsed = next-long rules size st pulse h ∙ start-now rules size st m
 
           -- while something is in flight
-          start-busy : runAt rules st (st .now) ≡ still → Good st s (pulse ∷ cs) (replay file s (pulse ∷ cs))
+          start-busy : runAt rules st (st .now) ≡ still → Good st s (pulse ∷ cs) (replay F file s (pulse ∷ cs))
           unfolding pulsed
           start-busy p =
               let some : 1 ≤ flightOf U = by-le 1 (flightOf U) (λ g. g) (λ g. absurd (number-still st (pulse ∷ cs) N U K p (omega arith))) in
@@ -399,35 +424,36 @@ module _ (S : Program) (file : List ℕ) (X : OfProgram S file) (starts : Sig) (
             unfolding pulsed
             comes = given-pulse rules size starts st pulse cs (N .given) anew after-anew refl refl
 
-            start-runs : Good st s (pulse ∷ cs) (replay file s (pulse ∷ cs))
+            start-runs : Good st s (pulse ∷ cs) (replay F file s (pulse ∷ cs))
             unfolding respond startCall pulsed
             start-runs =
                 let enough : size ≤ length U = omega (arith, lent-length st start lent cs N s H room l go) in
                 let none : flightOf U ≡ 0 = number-ended st (pulse ∷ cs) N U K e σ (own .1) past in
-                ran st start lent cs N s H room l go anew (stepState net true U) 1 h
-                (accepted-run (first (startChecks file U)) file _ _ U
-                (only-busy false (le-ltb _ (flightOf U) (omega (arith, none)))))
-                next-anew
-                (record {
-                  began = run-again S (X .admitted) starts σ₀ W published (st .from) (st .begun) (st .now) (N .began) (N .given .since) (N .given .none) e σ
+                let M : Now anew cs =
+                record {
+                  began = run-again S (X .admitted) starts σ₀ W same (st .from) (st .begun) (st .now) (N .began) (N .given .since) (N .given .none) e σ
                       (own .1) past comes;
                   given = given-anew rules size starts st pulse cs (N .given) anew after-anew refl refl;
-                })
-                (subst (λ (x : Bool). Holding net σ₀ W (suc (st .now)) (stepState net x U)) comes
-                (step-holds net (X .ordered) starts σ₀ W obeys (st .now) U K enough))
-                (subst (λ (x : Bool). length (stepState net x U) ≡ length U) comes (step-length net (X .ordered) starts σ₀ W obeys (st .now) U K enough))
+                } in
+                ran st start lent cs N s H room l go anew (stepState F net true U) 1 h
+                (accepted-run F (first (startChecks F file U)) file _ _ U
+                (only-busy false (le-ltb _ (flightOf U) (omega (arith, none)))))
+                next-anew M
+                (subst (λ (x : Bool). Holding F net σ₀ W (suc (st .now)) (stepState F net x U)) comes
+                (step-holds F net (X .ordered) starts σ₀ W obeys (st .now) U K enough (apart-at anew cs M (suc (st .now)) (omega arith) (λ u l k. absurd (omega arith)))))
+                (subst (λ (x : Bool). length (stepState F net x U) ≡ length U) comes (step-length F net (X .ordered) starts σ₀ W obeys (st .now) U K enough))
                 (omega arith)
 
-    pub good : (calls : List Call) (st : Stand) (s : List ℕ) → Now st calls → Holding net σ₀ W (st .now) s → size ≤ length s → st .now ≤ 1000000
-        → Good st s calls (replay file s calls)
+    pub good : (calls : List Call) (st : Stand) (s : List ℕ) → Now st calls → Holding F net σ₀ W (st .now) s → size ≤ length s → st .now ≤ 1000000
+        → Good st s calls (replay F file s calls)
     unfolding replay expected stands
     good [] st s N H room l = record { outcomes = refl; every = tt; unchanged = tt }
     good (c ∷ cs) st s N H room l = by-request (c .request) N (good cs)
       where
         by-request : (q : Request) → Now st (record { request = q; lent = c .lent } ∷ cs)
-            → ((st′ : Stand) (b : List ℕ) → Now st′ cs → Holding net σ₀ W (st′ .now) b → size ≤ length b → st′ .now ≤ 1000000
-            → Good st′ b cs (replay file b cs))
-            → Good st s (record { request = q; lent = c .lent } ∷ cs) (replay file s (record { request = q; lent = c .lent } ∷ cs))
+            → ((st′ : Stand) (b : List ℕ) → Now st′ cs → Holding F net σ₀ W (st′ .now) b → size ≤ length b → st′ .now ≤ 1000000
+            → Good st′ b cs (replay F file b cs))
+            → Good st s (record { request = q; lent = c .lent } ∷ cs) (replay F file s (record { request = q; lent = c .lent } ∷ cs))
         by-request (continuing n) N go =
             by-le size (c .lent)
             (λ h.

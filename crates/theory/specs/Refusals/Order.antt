@@ -1,11 +1,11 @@
--- Demand 1: every call gives the first refusal in the published order, and a refusal leaves what was lent as it was.
+-- The numbers that checks give, in the published order: what is found first is one of them, and a refusal leaves what was lent as it was.
 -- Assumes nothing.
 use Rattle.model.specs.declared.Options.{Options}
 use mathlib.Core.Path.{_≡_, refl, sym, ap, _∙_, ap₂}
 use mathlib.Core.Bool.{Bool, true, false, true≢false, not, _&&_, _||_}
 use mathlib.Core.Logic.{inl, inr, ⊎-elim}
 use mathlib.Core.List.{List, [], _∷_, _++_}
-use Prim.Native.Nat.{ℕ, _+_, _*_, _/_, _%_, _≤_}
+use Prim.Native.Nat.{ℕ, _+_, _/_, _%_, _≤_}
 use native.Mathlib.Omega.{arith}
 use lib.Dec.{eqb, ltb, leb}
 use lib.ListN.{length, getD}
@@ -13,24 +13,25 @@ use borrow.Author.Tests.{eq-eqb, eqb-true}
 use Rattle.laws.specs.NetlistFile.ReadWrite.{writing-verdict}
 use Rattle.model.specs.declared.Node.{Node}
 use Rattle.model.specs.declared.Cell.{Cell}
+use Rattle.model.specs.declared.Format.{Format}
+use Rattle.model.specs.declared.Format.the-variants.{Full}
 use Rattle.model.specs.declared.Checked.{Checked}
 use Rattle.model.specs.declared.Checked.the-variants.{Accepted, Refused}
 use Rattle.model.specs.declared.Answer.{Answer}
 use Rattle.model.specs.Word.{pick}
 use Rattle.model.specs.Refusals.{refuse, numberOf, refuseIf, first, firstFault, faultIf}
-use Rattle.model.specs.Program.{timeIn, nodeAt, nodesAt, nodeCount, rowOf, stmtAt, least, programOf, Program, roots, Code, Stmt, ok, tick, assign, assignElem, seq, par, ite, while, repeat, loop, exit, call, preorderE, preorder}
-use Rattle.model.specs.Procedures.{inline, inlined, meaning, reached}
-use Rattle.model.specs.ProgramChecks.{unusedSet, absent, nodeFault, children, reading, rootSorts, searched, inRoots, delayFault, sharedFault, shares, conflictFault, conflicts, programLengthWrong, tooManyProcedures, programChecks, programWith, checkOf}
+use Rattle.model.specs.Program.{timeIn, nodeAt, nodesAt, nodeCount, rowOf, stmtAt, least, programOf, roots, Code, Stmt, ok, tick, assign, assignElem, seq, par, ite, while, repeat, loop, exit, call, preorderE, preorder}
+use Rattle.model.specs.Procedures.{inline, inlined, reached}
+use Rattle.model.specs.ProgramChecks.{unusedSet, absent, nodeFault, children, reading, rootSorts, searched, inRoots, delayFault, sharedFault, shares, conflictFault, conflicts, programLengthWrong, tooManyProcedures, programChecks, checkOf}
 use Rattle.model.specs.Rules.{Run, done, atEnd, atExit, still, run}
 use Rattle.model.specs.Circuit.{high, cellAt, control, memories, pastMemories}
-use Rattle.model.specs.Numbering.{finish}
-use Rattle.model.specs.NetlistFile.{wordSum, blockAt, headerRight, placed, arrayPlaced, keeps, fileLengthWrong, sumFault, countWrong, headerFault, cellFault, netChecks, netCheck, fileChecks, fileCheck, blocksFor, fileOf, cellBytes, cellsOf, countOf, finishOf}
+use Rattle.model.specs.NetlistFile.{wordSum, blockAt, headerRight, placed, arrayPlaced, keeps, fileLengthWrong, sumFault, countWrong, headerFault, cellFault, netChecks, netCheck, fileChecks, fileCheck, blocksFor, cellsOf, countOf, finishOf}
 use Rattle.model.specs.TimeTables.{byteWrong, tableFault, tableSumWrong, tableChecks, TimeTable, builtIn, given, verdictOf, Given, load}
-use Rattle.model.specs.State.{stateSize, instantOf, nowAt, sound, beginState, stepState, lastState, evaluated}
-use Rattle.model.specs.Calls.{verdict, writtenVerdict, short, checkCall, writing, compiledFile, netlistChecks, compileChecks, compileCall, cellsIn, writeChecks, writeCall, readChecks, readCall, wordAt, shows, running, beginChecks, beginCall, continueChecks, continueCall, busy, startChecks, startCall, fullState, fullCount, overBudget, runNetlistChecks, runNetlistCall, fullRunChecks, runProgramChecks, runProgramCall, referenceAnswer, answering, referenceChecks, referenceCall}
-use Rattle.model.specs.CellSlices.{behind, miscounted, placing, checkCellsChecks, checkCellsCall, writeCellsChecks, writeCellsCall, readCellsChecks, readCellsCall}
-use Rattle.model.specs.RefusalPromises.{among, Gives, InOrder, Refuses, tableNumbers, programNumbers, fileNumbers, just, Leaves, Demand1}
-use Rattle.laws.specs.Refusals.Laws.{and-true, not-refused, first-one, first-behind, first-found, fault-number, first-place}
+use Rattle.model.specs.State.{instantOf, stateSize, nowAt, sound}
+use Rattle.model.specs.Calls.{verdict, writtenVerdict, short, writing, compiledFile, netlistChecks, wordAt, shows, running, continueChecks, overBudget, fullRunChecks, referenceAnswer, answering}
+use Rattle.model.specs.CellSlices.{miscounted, placing}
+use Rattle.model.specs.RefusalPromises.{among, Gives, InOrder, Refuses, tableNumbers, programNumbers, fileNumbers, just, Leaves}
+use Rattle.laws.specs.Refusals.Laws.{and-true, not-refused, first-found, fault-number}
 use Rattle.theory.specs.Promises.Replay.{no-refusal}
 
 -- The numbers that a check gives -------------------------------------------------------------------------------------------------------
@@ -53,7 +54,7 @@ gives-pick ns false c d f g = g
 abbrev Faulty : List ℕ → ℕ → Type 0
 Faulty ns x = 1 ≤ x → among x ns ≡ true
 
-gives-fault : (ns : List ℕ) (fault : ℕ → ℕ) (n : ℕ) → ((i : ℕ) → Faulty ns (fault i)) → Gives ns (firstFault fault 0 n)
+pub gives-fault : (ns : List ℕ) (fault : ℕ → ℕ) (n : ℕ) → ((i : ℕ) → Faulty ns (fault i)) → Gives ns (firstFault fault 0 n)
 gives-fault ns fault n h = go (firstFault fault 0 n) refl
   where
     go : (c : Checked) → firstFault fault 0 n ≡ c → Gives ns c
@@ -62,7 +63,7 @@ gives-fault ns fault n h = go (firstFault fault 0 n) refl
         let g = fault-number fault n r e in
         inr (ap (λ k. among k ns) (sym (g .0)) ∙ h (r .place) (omega (arith, g .0, g .1)))
 
-faulty-if : (b : Bool) (k : ℕ) → Faulty (just k) (faultIf b k)
+pub faulty-if : (b : Bool) (k : ℕ) → Faulty (just k) (faultIf b k)
 faulty-if true k l = among-just k
 faulty-if false k l = absurd (omega arith)
 
@@ -104,7 +105,7 @@ among-more whole (n ∷ ns) k w h = go (eqb k n) refl (among-more whole ns k (an
     go false e more = more (ap (λ b. b || among k ns) (sym e) ∙ h)
 
 -- what is found first has the number of one of the checks
-gives-first : (whole : List ℕ) (nss : List (List ℕ)) (cs : List Checked) → within whole nss ≡ true → InOrder nss cs → Gives whole (first cs)
+pub gives-first : (whole : List ℕ) (nss : List (List ℕ)) (cs : List Checked) → within whole nss ≡ true → InOrder nss cs → Gives whole (first cs)
 gives-first whole [] [] w o = inl refl
 gives-first whole [] (c ∷ cs) w o = absurd o
 gives-first whole (ns ∷ nss) [] w o = absurd o
@@ -151,7 +152,7 @@ roots-give k test h r (P ∷ Ps) i =
 abbrev checkNumbers : List (List ℕ)
 checkNumbers = just 1 ∷ (2 ∷ 3 ∷ 4 ∷ []) ∷ (5 ∷ 6 ∷ []) ∷ just 22 ∷ just 24 ∷ just 7 ∷ just 25 ∷ just 8 ∷ []
 
-program-order : (τ : ℕ → ℕ) (k : ℕ) (s : List ℕ) → InOrder checkNumbers (programChecks τ k s)
+pub program-order : (τ : ℕ → ℕ) (k : ℕ) (s : List ℕ) → InOrder checkNumbers (programChecks τ k s)
 unfolding delayFault sharedFault conflictFault
 program-order τ k s =
     let S = programOf k s in
@@ -189,7 +190,7 @@ check-gives options s =
     gives-first programNumbers checkNumbers (programChecks (timeIn (options .times)) (options .procedures) s) refl
     (program-order (timeIn (options .times)) (options .procedures) s)
 
-table-order : (file : List ℕ) → InOrder (just 19 ∷ just 20 ∷ just 21 ∷ []) (tableChecks file)
+pub table-order : (file : List ℕ) → InOrder (just 19 ∷ just 20 ∷ just 21 ∷ []) (tableChecks file)
 unfolding tableFault
 table-order file = (
   gives-if (not (eqb (length file) 512)) 19 0,
@@ -205,7 +206,7 @@ pub table-gives : (G : Given) → Gives tableNumbers (load G .checked)
 unfolding load
 table-gives G = verdict-gives (G .table)
 
-net-gives : (net : List Cell) (f : ℕ) → Gives (just 12) (netCheck net f)
+pub net-gives : (net : List Cell) (f : ℕ) → Gives (just 12) (netCheck net f)
 unfolding netCheck cellFault
 net-gives net f =
     gives-first (just 12) (just 12 ∷ just 12 ∷ just 12 ∷ just 12 ∷ []) (netChecks net f) refl (
@@ -217,10 +218,10 @@ net-gives net f =
       ),
     )
 
-miscount-gives : (cs : List Cell) (f : ℕ) → Gives (just 11) (miscounted cs f)
+pub miscount-gives : (cs : List Cell) (f : ℕ) → Gives (just 11) (miscounted cs f)
 miscount-gives cs f = gives-if (countWrong (blocksFor (length cs)) (length cs) f) 11 0
 
-file-order : (s : List ℕ) → InOrder (just 9 ∷ just 10 ∷ just 11 ∷ just 11 ∷ just 12 ∷ []) (fileChecks s)
+pub file-order : (s : List ℕ) → InOrder (just 9 ∷ just 10 ∷ just 11 ∷ just 11 ∷ just 12 ∷ []) (fileChecks s)
 unfolding sumFault headerFault
 file-order s =
     let m = length s / 512 in (
@@ -234,51 +235,51 @@ file-order s =
       ),
     )
 
-file-gives : (s : List ℕ) → Gives fileNumbers (fileCheck s)
+pub file-gives : (s : List ℕ) → Gives fileNumbers (fileCheck s)
 unfolding fileCheck
 file-gives s = gives-first fileNumbers (just 9 ∷ just 10 ∷ just 11 ∷ just 11 ∷ just 12 ∷ []) (fileChecks s) refl (file-order s)
 
 pub short-gives : (has needs : ℕ) → Gives (just 14) (short has needs)
 short-gives has needs = gives-if (ltb has needs) 14 0
 
-budget-gives : (n : ℕ) → Gives (just 13) (overBudget n)
+pub budget-gives : (n : ℕ) → Gives (just 13) (overBudget n)
 budget-gives n = gives-if (ltb 1000000 n) 13 0
 
 -- Calls --------------------------------------------------------------------------------------------------------------------------------
 
 -- what an answer says of refusals is what the checks found
-running-verdict : (c : Checked) (file s : List ℕ) (n : ℕ) (lent : List ℕ) → verdict (running c file s n lent .answer .outcome) ≡ c
+pub running-verdict : (F : Format) (c : Checked) (file s : List ℕ) (n : ℕ) (lent : List ℕ) → verdict (running F c file s n lent .answer .outcome) ≡ c
 unfolding running verdict shows
-running-verdict Accepted file s n lent = no-refusal (high (nowAt s (finishOf file)))
-running-verdict (Refused r) file s n lent = refl
+running-verdict F Accepted file s n lent = no-refusal (high (nowAt F s (finishOf file)))
+running-verdict F (Refused r) file s n lent = refl
 
-running-leaves : (c : Checked) (file s : List ℕ) (n : ℕ) (lent : List ℕ) → Leaves c lent (running c file s n lent .lent)
+running-leaves : (F : Format) (c : Checked) (file s : List ℕ) (n : ℕ) (lent : List ℕ) → Leaves c lent (running F c file s n lent .lent)
 unfolding running
-running-leaves Accepted file s n lent l = absurd (omega arith)
-running-leaves (Refused q) file s n lent l = refl
+running-leaves F Accepted file s n lent l = absurd (omega arith)
+running-leaves F (Refused q) file s n lent l = refl
 
 writing-leaves : (c : Checked) (result : List ℕ) (n f : ℕ) (lent : List ℕ) → Leaves c lent (writing c result n f lent .lent)
 unfolding writing
 writing-leaves Accepted result n f lent l = absurd (omega arith)
 writing-leaves (Refused q) result n f lent l = refl
 
-placing-verdict : (c : Checked) (k : ℕ) (cs : List Cell) (n f : ℕ) (lent : List Cell) → writtenVerdict (placing c k cs n f lent .answer) ≡ c
+pub placing-verdict : (c : Checked) (k : ℕ) (cs : List Cell) (n f : ℕ) (lent : List Cell) → writtenVerdict (placing c k cs n f lent .answer) ≡ c
 unfolding placing writtenVerdict
 placing-verdict Accepted k cs n f lent = refl
 placing-verdict (Refused r) k cs n f lent = refl
 
-placing-leaves : (c : Checked) (k : ℕ) (cs : List Cell) (n f : ℕ) (lent : List Cell) → Leaves c lent (placing c k cs n f lent .lent)
+pub placing-leaves : (c : Checked) (k : ℕ) (cs : List Cell) (n f : ℕ) (lent : List Cell) → Leaves c lent (placing c k cs n f lent .lent)
 unfolding placing
 placing-leaves Accepted k cs n f lent l = absurd (omega arith)
 placing-leaves (Refused q) k cs n f lent l = refl
 
-answering-verdict : (c : Checked) (a : Answer) → verdict (a .outcome) ≡ Accepted → verdict (answering c a .outcome) ≡ c
+pub answering-verdict : (c : Checked) (a : Answer) → verdict (a .outcome) ≡ Accepted → verdict (answering c a .outcome) ≡ c
 unfolding answering verdict
 answering-verdict Accepted a h = h
 answering-verdict (Refused r) a h = refl
 
 -- no refusal has the number 0
-abbrev positive : List (List ℕ) → Bool
+abbrev pub positive : List (List ℕ) → Bool
 positive [] = true
 positive (ns ∷ nss) = not (among 0 ns) && positive nss
 
@@ -291,15 +292,15 @@ first-positive (ns ∷ nss) (Refused q ∷ cs) w o e =
     ⊎-elim (λ a. a)
     (λ g. absurd (true≢false (sym (and-true (not (among 0 ns)) _ w .0) ∙ ap not (ap (λ k. among k ns) (sym e) ∙ g)))) (o .0)
 
-refuses : (nss : List (List ℕ)) (cs : List Checked) → positive nss ≡ true → InOrder nss cs → Refuses nss cs (first cs)
+pub refuses : (nss : List (List ℕ)) (cs : List Checked) → positive nss ≡ true → InOrder nss cs → Refuses nss cs (first cs)
 refuses nss cs w o = record { found = first-found cs (first-positive nss cs w o); ordered = o }
 
 -- a call that runs, and a call that writes
-run-refuses : (nss : List (List ℕ)) (cs : List Checked) → positive nss ≡ true → InOrder nss cs → (file s : List ℕ) (n : ℕ) (lent : List ℕ) →
-    let c = verdict (running (first cs) file s n lent .answer .outcome) in
-    Refuses nss cs c × Leaves c lent (running (first cs) file s n lent .lent)
-run-refuses nss cs w o file s n lent =
-    rw (running-verdict (first cs) file s n lent) (refuses nss cs w o, running-leaves (first cs) file s n lent)
+pub run-refuses : (F : Format) (nss : List (List ℕ)) (cs : List Checked) → positive nss ≡ true → InOrder nss cs → (file s : List ℕ) (n : ℕ) (lent : List ℕ) →
+    let c = verdict (running F (first cs) file s n lent .answer .outcome) in
+    Refuses nss cs c × Leaves c lent (running F (first cs) file s n lent .lent)
+run-refuses F nss cs w o file s n lent =
+    rw (running-verdict F (first cs) file s n lent) (refuses nss cs w o, running-leaves F (first cs) file s n lent)
 
 pub write-refuses : (nss : List (List ℕ)) (cs : List Checked) → positive nss ≡ true → InOrder nss cs → (result : List ℕ) (n f : ℕ) (lent : List ℕ) →
     let c = writtenVerdict (writing (first cs) result n f lent .answer) in
@@ -307,7 +308,7 @@ pub write-refuses : (nss : List (List ℕ)) (cs : List Checked) → positive nss
 write-refuses nss cs w o result n f lent =
     rw (writing-verdict (first cs) result n f lent) (refuses nss cs w o, writing-leaves (first cs) result n f lent)
 
-reference-runs : (n : ℕ) (P : Stmt) (words : List ℕ) → verdict (referenceAnswer n (run n P (wordAt words)) .outcome) ≡ Accepted
+pub reference-runs : (n : ℕ) (P : Stmt) (words : List ℕ) → verdict (referenceAnswer n (run n P (wordAt words)) .outcome) ≡ Accepted
 unfolding referenceAnswer verdict
 reference-runs n P words = go (run n P (wordAt words))
   where
@@ -323,92 +324,23 @@ pub run-order : (options : Options) (program words : List ℕ) (n : ℕ) (forFil
     → InOrder (programNumbers ∷ just 13 ∷ just 14 ∷ just 14 ∷ just 14 ∷ []) (fullRunChecks options program words n forFile lent)
 run-order options program words n forFile lent =
     let file = compiledFile options program in
-    (check-gives options program, (budget-gives n, (short-gives (length words) 544, (short-gives (length forFile) (length file), (short-gives (length lent) (stateSize (cellsOf file)), tt)))))
+    (check-gives options program, (budget-gives n, (short-gives (length words) 544, (short-gives (length forFile) (length file), (short-gives (length lent) (stateSize Full (cellsOf file)), tt)))))
 
 -- continuing by n, and what more is checked after it
-going-order : (file : List ℕ) (n : ℕ) (lent : List ℕ) (nss : List (List ℕ)) (cs : List Checked) → InOrder nss cs
-    → InOrder (fileNumbers ∷ just 14 ∷ just 15 ∷ just 16 ∷ nss) (continueChecks file n lent ++ cs)
-going-order file n lent nss cs o = (
+pub going-order : (F : Format) (file : List ℕ) (n : ℕ) (lent : List ℕ) (nss : List (List ℕ)) (cs : List Checked) → InOrder nss cs
+    → InOrder (fileNumbers ∷ just 14 ∷ just 15 ∷ just 16 ∷ nss) (continueChecks F file n lent ++ cs)
+going-order F file n lent nss cs o = (
   file-gives file,
   (
-    short-gives (length lent) (stateSize (cellsOf file)),
-    (gives-if (not (sound (cellsOf file) lent)) 15 0, (gives-if (ltb 1000000 (instantOf lent + n)) 16 0, o)),
+    short-gives (length lent) (stateSize F (cellsOf file)),
+    (gives-if (not (sound F (cellsOf file) lent)) 15 0, (gives-if (ltb 1000000 (instantOf lent + n)) 16 0, o)),
   ),
 )
 
 -- a full run of a program, after whatever checks
 pub run-both-refuses : (nss : List (List ℕ)) (cs : List Checked) → positive nss ≡ true → InOrder nss cs → (file s : List ℕ) (n : ℕ) (forFile lent : List ℕ) →
-    let c = verdict (running (first cs) file s n lent .answer .outcome) in
-    Refuses nss cs c × Leaves c forFile (writing (first cs) file (length file) 0 forFile .lent) × Leaves c lent (running (first cs) file s n lent .lent)
+    let c = verdict (running Full (first cs) file s n lent .answer .outcome) in
+    Refuses nss cs c × Leaves c forFile (writing (first cs) file (length file) 0 forFile .lent) × Leaves c lent (running Full (first cs) file s n lent .lent)
 run-both-refuses nss cs w o file s n forFile lent =
-    rw (running-verdict (first cs) file s n lent)
-    (refuses nss cs w o, writing-leaves (first cs) file (length file) 0 forFile, running-leaves (first cs) file s n lent)
-
-program-runs : (G : Given) (program words : List ℕ) (n : ℕ) (forFile lent : List ℕ) →
-    let r = runProgramCall (load G) program words n forFile lent in
-    let c = verdict (r .answer .outcome) in
-    Refuses (tableNumbers ∷ programNumbers ∷ just 13 ∷ just 14 ∷ just 14 ∷ just 14 ∷ []) (runProgramChecks (load G) program words n forFile lent) c
-    × Leaves c forFile (r .netlist) × Leaves c lent (r .state)
-unfolding runProgramCall
-program-runs G program words n forFile lent =
-    let file = compiledFile (load G) program in
-    run-both-refuses _ (runProgramChecks (load G) program words n forFile lent) refl
-    (table-gives G, run-order (load G) program words n forFile lent) file (fullState file words n lent)
-    (fullCount file words n lent) forFile lent
-
-pub demand-1 : Demand1
-unfolding checkCall checkOf fileCheck compileCall writeCall readCall beginCall continueCall startCall runNetlistCall referenceCall
-demand-1 =
-    record {
-      places = first-place;
-      tables = λ file k. unfold load verdictOf in refuses _ (tableChecks file) refl (table-order file);
-      programs = λ G program. unfold load in
-          let τ = timeIn (load G .times) in
-          let checks = programChecks τ (G .procedures) program in
-          rw (first-behind (load G .checked) (first checks ∷ []) checks (sym (first-one _)))
-          (refuses _ (load G .checked ∷ checks) refl (table-gives G, program-order τ (G .procedures) program));
-      files = λ file. refuses _ (fileChecks file) refl (file-order file);
-      compiling = λ G program lent.
-          let file = compiledFile (load G) program in
-          write-refuses _ (compileChecks (load G) program lent) refl (table-gives G, compile-order (load G) program lent) file (length file)
-          (finish (programWith (load G) program)) lent;
-      writing = λ cells f lent.
-          let net = cellsIn cells in
-          write-refuses _ (writeChecks cells f lent) refl (
-            gives-if (ltb 0 (length cells % 6) || countWrong (blocksFor (length net)) (length net) f) 11 0,
-            (net-gives net f, (short-gives (length lent) (length (fileOf net f)), tt)),
-          )
-          (fileOf net f) (length (fileOf net f)) f lent;
-      reading = λ file lent.
-          write-refuses _ (readChecks file lent) refl (file-gives file, (short-gives (length lent) (6 * countOf file), tt)) (cellBytes (cellsOf file)) (countOf file)
-          (finishOf file) lent;
-      beginning = λ file words lent.
-          run-refuses _ (beginChecks file words lent) refl
-          (file-gives file, (short-gives (length words) 544, (short-gives (length lent) (stateSize (cellsOf file)), tt))) file
-          (beginState (cellsOf file) (wordAt words) lent) 1 lent;
-      continuing = λ file n lent.
-          run-refuses _ (continueChecks file n lent) refl (going-order file n lent [] [] tt) file (lastState (cellsOf file) (finishOf file) n lent)
-          (evaluated (cellsOf file) (finishOf file) n lent) lent;
-      starting = λ file lent.
-          run-refuses _ (startChecks file lent) refl (going-order file _ lent (just 23 ∷ []) (refuseIf (busy lent) 23 0 ∷ []) (gives-if (busy lent) 23 0, tt)) file
-          (stepState (cellsOf file) true lent) 1 lent;
-      netlistRuns = λ file words n lent.
-          run-refuses _ (runNetlistChecks file words n lent) refl
-          (file-gives file, (budget-gives n, (short-gives (length words) 544, (short-gives (length lent) (stateSize (cellsOf file)), tt)))) file
-          (fullState file words n lent) (fullCount file words n lent) lent;
-      programRuns = program-runs;
-      references = λ G program words n.
-          let P = meaning (programWith (load G) program) in
-          rw (answering-verdict (first (referenceChecks (load G) program words n)) (referenceAnswer n (run n P (wordAt words))) (reference-runs n P words))
-          (refuses _ (referenceChecks (load G) program words n) refl (table-gives G, (check-gives (load G) program, (budget-gives n, (short-gives (length words) 544, tt)))));
-      cellsChecked = λ cs f. unfold checkCellsCall in refuses _ (checkCellsChecks cs f) refl (miscount-gives cs f, (net-gives cs f, tt));
-      cellsWritten = λ cs f lent. unfold writeCellsCall in
-          write-refuses _ (writeCellsChecks cs f lent) refl (miscount-gives cs f, (net-gives cs f, (short-gives (length lent) (length (fileOf cs f)), tt)))
-          (fileOf cs f) (length (fileOf cs f)) f lent;
-      cellsRead = λ file k lent. unfold readCellsCall in
-          rw (placing-verdict (first (readCellsChecks file k lent)) k (behind k (cellsOf file)) (countOf file) (finishOf file) lent) (
-            refuses _ (readCellsChecks file k lent) refl (file-gives file, (short-gives (length lent) (k + countOf file), tt)),
-            placing-leaves (first (readCellsChecks file k lent)) k (behind k (cellsOf file)) (countOf file) (finishOf file) lent,
-          );
-      renumbered = λ k i end lent e. rw e;
-    }
+    rw (running-verdict Full (first cs) file s n lent)
+    (refuses nss cs w o, writing-leaves (first cs) file (length file) 0 forFile, running-leaves Full (first cs) file s n lent)

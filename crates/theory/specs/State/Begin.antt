@@ -2,24 +2,26 @@
 use mathlib.Core.Bool.{Bool, true, false}
 use mathlib.Core.List.{List, _++_}
 use mathlib.Core.Path.{_≡_, refl, sym, _∙_, ap}
-use Prim.Native.Nat.{ℕ, zero, suc, _+_, _-_, _*_, _/_, _%_, _<_, _≤_}
+use Prim.Native.Nat.{ℕ, zero, suc, _+_, _-_, _*_, _%_, _<_, _≤_}
 use native.Mathlib.Omega.{arith}
-use native.Mathlib.Nat.{zero-div}
 use lib.ListN.{getD, length, drop, replicate, length-append, length-drop, length-replicate}
 use lib.Seq.{getD-drop, drop-at}
 use lib.Dec.{eqb}
 use borrow.Author.Tests.{eqb-true, eqb-false}
-use Rattle.laws.specs.State.Passes.{cleared-zero, length-counted, begin-is, begin-instant}
+use Rattle.laws.specs.State.Bytes.{cleared-zero}
+use Rattle.laws.specs.State.Passes.{length-counted, begin-is, begin-instant}
 use Rattle.model.specs.declared.Cell.{Cell}
+use Rattle.model.specs.declared.Format.{Format}
 use Rattle.model.specs.Word.{pick, bit, index, elementOf, elementWord, get16, bytes16}
 use Rattle.model.specs.Circuit.{cellAt, Sig, Values, level, delayed, heldBefore, stepOf, memory, Elements, element, arrayAt, equation, startWord, Obeys, Shape, kDelay, kMemory, kRead}
-use Rattle.model.specs.State.{stateSize, base, elementNow, instantOf, nowAt, beforeAt, heldAt, lineBit, nextValue, value, firstValue, counted, wordBytes, beginState}
-use Rattle.model.specs.CircuitPromises.{earlier}
+use Rattle.model.specs.State.{instantOf, wordBytes, cellSize, base, stateSize, elementNow, nowAt, beforeAt, heldAt, nextValue, value, firstValue, lineAt, counted, beginState}
+use Rattle.model.specs.CircuitPromises.{earlier, kept}
 use Rattle.laws.specs.Circuit.Ordered.{kinds, Ordered}
 use Rattle.laws.specs.Circuit.Shapes.{memory-kind, memory-shape}
 use Rattle.theory.specs.Circuit.Unique.{feeds}
 use Rattle.theory.specs.State.Arrays.{element-late, element-after}
-use Rattle.laws.specs.State.Passes.{shapeAt, two, length-three, after, seen-held, seen-line, before-after, Line, line-old, line-bytes}
+use Rattle.laws.specs.State.Lines.{least, below, kept-all, Line, line-empty, kept-empty, vacant-empty}
+use Rattle.laws.specs.State.Passes.{shapeAt, two, length-three, after, seen-held, seen-line, before-after, line-old, line-kept}
 use Rattle.theory.specs.State.Flight.{counted-holds}
 use Rattle.theory.specs.State.Holding.{Clean, Body, Holding, delayed-early, later-is, delay-looks, read-looks, clean-after, now-is, held-is, newest-is}
 
@@ -34,27 +36,6 @@ module _ (m : ℕ) (s : List ℕ) where
   behind-at : (j : ℕ) → getD (cleared m s) (m + j) 0 ≡ getD s j 0
   behind-at j =
       sym (getD-drop m (cleared m s) j 0) ∙ ap (λ (l : List ℕ). getD l j 0) (drop-at (replicate m 0) s m (length-replicate {A = ℕ} m 0))
-
-  module _ (k : ℕ) (g : base k + 40 ≤ m) where
-    zero-held : heldAt (cleared m s) k ≡ record { a = false; b = false }
-    unfolding heldAt
-    zero-held = rw (zero-at (base k + 4) (omega arith), zero-at (base k + 5) (omega arith))
-
-    zero-line : (i : ℕ) → i < 256 → lineBit (cleared m s) k i ≡ 0
-    unfolding lineBit
-    zero-line i x = rw (zero-at (base k + 8 + i / 8) (omega arith)) (simp zero-div)
-
-    zero-bytes : Line (cleared m s) k
-    unfolding Line
-    zero-bytes j x y = omega (arith, zero-at j (omega arith))
-
-    zero-before : beforeAt (cleared m s) k ≡ 0
-    unfolding get16
-    zero-before = omega (arith, zero-at (base k + 2) (omega arith), zero-at (base k + 2 + 1) (omega arith))
-
-    zero-clean : (net : List Cell) → Clean net (cleared m s) k
-    zero-clean net =
-        record { rest = λ j x y z. zero-at j (omega arith); bits = λ j x y. rw (zero-at j (omega arith)) (omega arith) }
 
 -- the words that are written out
 pub length-words : (words : ℕ → ℕ) (x n : ℕ) → length (wordBytes words x n) ≡ 2 * n
@@ -79,151 +60,177 @@ memory-equation : (sh : Shape) (starts : Sig) (first : ℕ) (E : Elements) (W : 
 unfolding equation memory
 memory-equation sh starts first E W k c e = rw e
 
-module _ (net : List Cell) (ordered : Ordered net) (starts : Sig) (words : ℕ → ℕ) (W : Values) (obeys : Obeys net starts words W) (pulse : starts 0 ≡ true)
-    (s : List ℕ) (room : stateSize net ≤ length s) where
-  -- the elements' start words and what is lent past the state
-  tail : List ℕ
-  tail = wordBytes words 16 256 ++ drop (stateSize net) s
+module _ (F : Format) where
+  -- a cell among the zeros
+  module _ (m : ℕ) (s : List ℕ) (k : ℕ) (g : base F k + cellSize F ≤ m) where
+    zeros : (j : ℕ) → base F k ≤ j → j < base F k + cellSize F → getD (cleared m s) j 0 ≡ 0
+    zeros j x y = zero-at m s j (omega arith)
 
-  Z : List ℕ
-  Z = cleared (8 + 40 * length net) tail
+    zero-held : heldAt F (cleared m s) k ≡ record { a = false; b = false }
+    unfolding heldAt
+    zero-held = rw (zeros (base F k + 4) (omega arith) (omega (arith, least F)), zeros (base F k + 5) (omega arith) (omega (arith, least F)))
 
-  length-Z : length Z ≡ length s
-  unfolding Z tail
-  length-Z = simp (length-append, length-replicate, length-drop) (omega (arith, length-words words 16 256))
+    zero-before : beforeAt F (cleared m s) k ≡ 0
+    unfolding get16
+    zero-before =
+        omega (arith, zeros (base F k + 2) (omega arith) (omega (arith, least F)), zeros (base F k + 2 + 1) (omega arith) (omega (arith, least F)))
 
-  room-blank : stateSize net ≤ length Z
-  room-blank = omega (arith, length-Z)
+    zero-clean : (net : List Cell) → Clean F net (cleared m s) k
+    zero-clean net =
+        record {
+          rest = λ j x y z. zeros j (omega arith) y;
+          bits = λ j x y. rw (zeros j (omega arith) (omega (arith, least F))) (omega arith);
+        }
 
-  room-Z : 8 + 40 * length net ≤ length Z
-  room-Z = omega (arith, length-Z)
+  module _ (net : List Cell) (ordered : Ordered net) (starts : Sig) (words : ℕ → ℕ) (W : Values) (obeys : Obeys net starts words W) (pulse : starts 0 ≡ true)
+      (s : List ℕ) (room : stateSize F net ≤ length s) where
+    -- the elements' start words and what is lent past the state
+    tail : List ℕ
+    tail = wordBytes words 16 256 ++ drop (stateSize F net) s
 
-  element-Z : (n : ℕ) → n < 256 → elementNow net Z n ≡ words (16 + n)
-  unfolding Z tail get16
-  element-Z n l =
-      let z : 8 + 40 * length net + 2 * n + 1 ≡ 8 + 40 * length net + (2 * n + 1) = omega arith in
-      rw (z, behind-at (8 + 40 * length net) tail (2 * n), behind-at (8 + 40 * length net) tail (2 * n + 1))
-      (word-written words 16 256 (drop (stateSize net) s) n l)
+    Z : List ℕ
+    Z = cleared (base F (length net)) tail
 
-  w : List ℕ → ℕ → ℕ
-  w = firstValue net words
+    length-Z : length Z ≡ length s
+    unfolding Z tail
+    length-Z = simp (length-append, length-replicate, length-drop) (omega (arith, length-words words 16 256))
 
-  bytes-Z : (k : ℕ) → k < length net → Line Z k
-  unfolding Z
-  bytes-Z k h = zero-bytes (8 + 40 * length net) tail k (omega arith)
+    room-blank : stateSize F net ≤ length Z
+    room-blank = omega (arith, length-Z)
 
-  line-Z : (k : ℕ) → k < length net → (i : ℕ) → i < 256 → lineBit Z k i ≡ 0
-  unfolding Z
-  line-Z k h i g = zero-line (8 + 40 * length net) tail k (omega arith) i g
+    room-Z : base F (length net) ≤ length Z
+    room-Z = omega (arith, length-Z)
 
-  held-Z : (k : ℕ) → k < length net → heldAt Z k ≡ heldBefore (stepOf (cellAt net k .kind)) (level W (cellAt net k .a)) (level W (cellAt net k .b)) 0
-  unfolding Z heldBefore
-  held-Z k h = zero-held (8 + 40 * length net) tail k (omega arith)
+    element-Z : (n : ℕ) → n < 256 → elementNow F net Z n ≡ words (16 + n)
+    unfolding Z tail get16
+    element-Z n l =
+        let z : base F (length net) + 2 * n + 1 ≡ base F (length net) + (2 * n + 1) = omega arith in
+        rw (z, behind-at (base F (length net)) tail (2 * n), behind-at (base F (length net)) tail (2 * n + 1))
+        (word-written words 16 256 (drop (stateSize F net) s) n l)
 
-  before-Z : (k : ℕ) → k < length net → beforeAt Z k ≡ 0
-  unfolding Z
-  before-Z k h = zero-before (8 + 40 * length net) tail k (omega arith)
+    w : List ℕ → ℕ → ℕ
+    w = firstValue F net words
 
-  early : (d : ℕ) (x : Sig) → 1 ≤ d → 0 ≡ bit (delayed d x 0)
-  unfolding bit
-  early d x l = ap bit (sym (delayed-early d x 0 (omega arith)))
+    own : (k : ℕ) → k < length net → (j : ℕ) → base F k + 6 ≤ j → j < base F k + cellSize F → getD Z j 0 ≡ 0
+    unfolding Z
+    own k h j x y = zeros (base F (length net)) tail k (below F k (length net) h) j (omega arith) y
 
-  begin-delay : (k : ℕ) → k < length net → shapeAt net k ≡ kDelay
-      → lineBit (two net w Z k) k (cellAt net k .delay - 1) ≡ bit (delayed (cellAt net k .delay) (level W (cellAt net k .a)) 0)
-  begin-delay k h e =
-      let c = cellAt net k in
-      let o = delay-looks (kinds net) (length net) k c e (ordered .looks k h) in
-      seen-line net w Z k k (c .delay - 1) h (omega (arith, o .1))
-      ∙ line-Z k h (c .delay - 1) (omega (arith, o .1))
-      ∙ early (c .delay) (level W (c .a)) (o .0)
+    bytes-Z : (k : ℕ) → k < length net → Line F Z k (cellAt net k .delay)
+    bytes-Z k h = kept-empty Z k (cellAt net k .delay) F (own k h)
 
-  -- no clock falls: an array's words are the start words
-  begin-element : (a i n : ℕ) → a < 4 → i < 64 → arrayAt net a < n → n ≤ length net
-      → elementNow net (two net w Z n) (64 * a + i) ≡ element net words W (arrayAt net a) i 0
-  unfolding element elementWord
-  begin-element a i n la li h g =
-      let r = ordered .arrays a la in
-      let f = feeds net ordered (arrayAt net a) (omega (arith, r .0)) (r .1) in
-      let z : 16 + (64 * a + i) ≡ 16 + (64 * a + i % 64) = omega arith in
-      element-late net ordered a i la li w Z room-blank n h g
-      ∙ rw (before-Z (cellAt net (arrayAt net a) .a) (omega (arith, r .0, f .0)), r .2) (element-Z (64 * a + i) (omega arith) ∙ ap words z)
+    line-Z : (k : ℕ) → k < length net → (i : ℕ) → i < kept F (cellAt net k .delay) → lineAt F net Z k i ≡ 0
+    line-Z k h i g = line-empty Z k (cellAt net k .delay) F (own k h) i g
 
-  begin-read : (k : ℕ) → k < length net → ((a : ℕ) → a < k → nowAt (two net w Z k) a ≡ W a 0) → shapeAt net k ≡ kRead
-      → nextValue kRead (starts 0) net (two net w Z k) k (cellAt net k) ≡ element net words W (cellAt net k .a) (index (W (cellAt net k .b) 0)) 0
-  unfolding nextValue
-  begin-read k h lower e =
-      let c = cellAt net k in
-      let a = cellAt net (c .a) .delay in
-      let o = read-looks (kinds net) (length net) k c e (ordered .looks k h) in
-      let i = index (W (c .b) 0) in
-      let r = ordered .stands (c .a) (omega (arith, o .0)) (o .2) in
-      let q : c .a ≡ arrayAt net a = r .1 in
-      ap (λ (x : ℕ). elementNow net (two net w Z k) (elementOf a x)) (lower (c .b) (o .1))
-      ∙ begin-element a i k (r .0) (omega arith) (omega (arith, q, o .0)) (omega arith)
-      ∙ ap (λ (m : ℕ). element net words W m i 0) (sym q)
+    held-Z : (k : ℕ) → k < length net → heldAt F Z k ≡ heldBefore (stepOf (cellAt net k .kind)) (level W (cellAt net k .a)) (level W (cellAt net k .b)) 0
+    unfolding Z heldBefore
+    held-Z k h = zero-held (base F (length net)) tail k (below F k (length net) h)
 
-  begin-first : (k : ℕ) → k < length net → ((a : ℕ) → a < k → nowAt (two net w Z k) a ≡ W a 0) → w (two net w Z k) k ≡ W k 0
-  unfolding w Obeys
-  begin-first k h lower = go (eqb kind 40) refl ∙ sym (obeys k h 0)
-    where
-      kind : ℕ
-      kind = cellAt net k .kind
+    before-Z : (k : ℕ) → k < length net → beforeAt F Z k ≡ 0
+    unfolding Z
+    before-Z k h = zero-before (base F (length net)) tail k (below F k (length net) h)
 
-      go : (q : Bool) → eqb kind 40 ≡ q
-          → pick q (startWord net words k) (value net true (two net w Z k) k)
-          ≡ equation (shapeAt net k) starts (startWord net words k) (element net words W) W k (cellAt net k) 0
-      go true f =
-          sym (memory-equation (shapeAt net k) starts (startWord net words k) (element net words W) W k (cellAt net k) (memory-shape kind (eqb-true kind 40 f)))
-      go false f =
-          ap (λ (x : Bool). value net x (two net w Z k) k) (sym pulse)
-          ∙ later-is net starts (element net words W) W (kinds net) 0 (startWord net words k) k (length net) (cellAt net k) (two net w Z k) lower
-          (shapeAt net k) refl (ordered .looks k h) (begin-delay k h) (λ z. seen-held net w Z k k h ∙ held-Z k h)
-          (λ z. absurd (eqb-false kind 40 f (memory-kind kind z))) (begin-read k h lower)
+    early : (d : ℕ) (x : Sig) → 1 ≤ d → 0 ≡ bit (delayed d x 0)
+    unfolding bit
+    early d x l = ap bit (sym (delayed-early d x 0 (omega arith)))
 
-  abbrev B : List ℕ
-  B = after net w Z
+    begin-delay : (k : ℕ) → k < length net → shapeAt net k ≡ kDelay
+        → lineAt F net (two F net w Z k) k (cellAt net k .delay - 1) ≡ bit (delayed (cellAt net k .delay) (level W (cellAt net k .a)) 0)
+    begin-delay k h e =
+        let c = cellAt net k in
+        let o = delay-looks (kinds net) (length net) k c e (ordered .looks k h) in
+        let m : c .delay - 1 < kept F (c .delay) = omega (arith, o .0, kept-all F (c .delay) (o .1)) in
+        seen-line F net w Z k k (c .delay) (c .delay - 1) h m
+        ∙ line-Z k h (c .delay - 1) m
+        ∙ early (c .delay) (level W (c .a)) (o .0)
 
-  begin-is-B : beginState net words s ≡ counted net B
-  unfolding w Z tail
-  begin-is-B = begin-is net words s
+    -- no clock falls: an array's words are the start words
+    begin-element : (a i n : ℕ) → a < 4 → i < 64 → arrayAt net a < n → n ≤ length net
+        → elementNow F net (two F net w Z n) (64 * a + i) ≡ element net words W (arrayAt net a) i 0
+    unfolding element elementWord
+    begin-element a i n la li h g =
+        let r = ordered .arrays a la in
+        let f = feeds net ordered (arrayAt net a) (omega (arith, r .0)) (r .1) in
+        let z : 16 + (64 * a + i) ≡ 16 + (64 * a + i % 64) = omega arith in
+        element-late F net ordered a i la li w Z room-blank n h g
+        ∙ rw (before-Z (cellAt net (arrayAt net a) .a) (omega (arith, r .0, f .0)), r .2) (element-Z (64 * a + i) (omega arith) ∙ ap words z)
 
-  begin-elements : (a i : ℕ) → a < 4 → i < 64 → elementNow net B (64 * a + i) ≡ element net words W (arrayAt net a) i 0
-  begin-elements a i la li =
-      element-after net ordered a i la li w Z room-blank
-      ∙ begin-element a i (length net) la li (omega (arith, ordered .arrays a la .0)) (omega arith)
+    begin-read : (k : ℕ) → k < length net → ((a : ℕ) → a < k → nowAt F (two F net w Z k) a ≡ W a 0) → shapeAt net k ≡ kRead
+        → nextValue F kRead (starts 0) net (two F net w Z k) k (cellAt net k) ≡ element net words W (cellAt net k .a) (index (W (cellAt net k .b) 0)) 0
+    unfolding nextValue
+    begin-read k h lower e =
+        let c = cellAt net k in
+        let a = cellAt net (c .a) .delay in
+        let o = read-looks (kinds net) (length net) k c e (ordered .looks k h) in
+        let i = index (W (c .b) 0) in
+        let r = ordered .stands (c .a) (omega (arith, o .0)) (o .2) in
+        let q : c .a ≡ arrayAt net a = r .1 in
+        ap (λ (x : ℕ). elementNow F net (two F net w Z k) (elementOf a x)) (lower (c .b) (o .1))
+        ∙ begin-element a i k (r .0) (omega arith) (omega (arith, q, o .0)) (omega arith)
+        ∙ ap (λ (m : ℕ). element net words W m i 0) (sym q)
 
-  begin-lines : (k : ℕ) → k < length net → shapeAt net k ≡ kDelay → (i : ℕ) → i < 256 → lineBit B k i ≡ bit (delayed i (level W (cellAt net k .a)) 0)
-  begin-lines k h e zero g = newest-is net ordered W 0 w Z room-Z begin-first k h e (bytes-Z k h)
-  begin-lines k h e (suc i) g =
-      let z : suc i ≡ i + 1 = omega arith in
-      rw z
-      (line-old net w Z room-Z k h e (bytes-Z k h) i (omega arith) ∙ line-Z k h i (omega arith)
-      ∙ early (i + 1) (level W (cellAt net k .a)) (omega arith))
+    begin-first : (k : ℕ) → k < length net → ((a : ℕ) → a < k → nowAt F (two F net w Z k) a ≡ W a 0) → w (two F net w Z k) k ≡ W k 0
+    unfolding w Obeys
+    begin-first k h lower = go (eqb kind 40) refl ∙ sym (obeys k h 0)
+      where
+        kind : ℕ
+        kind = cellAt net k .kind
 
-  length-B : length B ≡ length s
-  length-B = length-three net w Z (length net) ∙ length-Z
+        go : (q : Bool) → eqb kind 40 ≡ q
+            → pick q (startWord net words k) (value F net true (two F net w Z k) k)
+            ≡ equation (shapeAt net k) starts (startWord net words k) (element net words W) W k (cellAt net k) 0
+        go true f =
+            sym (memory-equation (shapeAt net k) starts (startWord net words k) (element net words W) W k (cellAt net k) (memory-shape kind (eqb-true kind 40 f)))
+        go false f =
+            ap (λ (x : Bool). value F net x (two F net w Z k) k) (sym pulse)
+            ∙ later-is F net starts (element net words W) W (kinds net) 0 (startWord net words k) k (length net) (cellAt net k) (two F net w Z k) lower
+            (shapeAt net k) refl (ordered .looks k h) (begin-delay k h) (λ z. seen-held F net w Z k k h ∙ held-Z k h)
+            (λ z. absurd (eqb-false kind 40 f (memory-kind kind z))) (begin-read k h lower)
 
-  begin-body : Body net words W 0 B
-  unfolding earlier
-  begin-body =
-      record {
-        present = now-is net ordered W 0 w Z room-Z begin-first;
-        past = λ k h. before-after net w Z k h ∙ before-Z k h;
-        held = λ k h e. held-is net ordered W 0 w Z room-Z begin-first k h e (held-Z k h);
-        lines = begin-lines;
-        elements = begin-elements;
-        bytes = λ k h e. line-bytes net w Z room-Z k h e (bytes-Z k h);
-        clean = λ k h. clean-after net w Z room-Z k h (clean-Z k h);
-      }
-    where
-      clean-Z : (k : ℕ) → k < length net → Clean net Z k
-      clean-Z k h = unfold Z in zero-clean (8 + 40 * length net) tail k (omega arith) net
+    abbrev B : List ℕ
+    B = after F net w Z
 
-  pub begin-holds : Holding net words W 0 (beginState net words s)
-  begin-holds =
-      rw begin-is-B
-      (counted-holds net ordered words W 0 B (omega (arith, length-B))
-      (λ l. ap (λ (z : List ℕ). instantOf z) (sym begin-is-B) ∙ begin-instant net words s) begin-body)
+    begin-is-B : beginState F net words s ≡ counted F net B
+    unfolding w Z tail
+    begin-is-B = begin-is F net words s
 
-  pub begin-length : length (beginState net words s) ≡ length s
-  begin-length = ap length begin-is-B ∙ length-counted net B ∙ length-B
+    begin-elements : (a i : ℕ) → a < 4 → i < 64 → elementNow F net B (64 * a + i) ≡ element net words W (arrayAt net a) i 0
+    begin-elements a i la li =
+        element-after F net ordered a i la li w Z room-blank
+        ∙ begin-element a i (length net) la li (omega (arith, ordered .arrays a la .0)) (omega arith)
+
+    begin-lines : (k : ℕ) → k < length net → shapeAt net k ≡ kDelay → (i : ℕ) → i < kept F (cellAt net k .delay)
+        → lineAt F net B k i ≡ bit (delayed i (level W (cellAt net k .a)) 0)
+    begin-lines k h e zero g = newest-is F net ordered W 0 w Z room-Z begin-first k h e (bytes-Z k h)
+    begin-lines k h e (suc i) g =
+        let z : suc i ≡ i + 1 = omega arith in
+        rw z
+        (line-old F net w Z room-Z k h e (bytes-Z k h) (vacant-empty Z k (cellAt net k .delay) F (own k h) _) i (omega arith) ∙ line-Z k h i (omega arith)
+        ∙ early (i + 1) (level W (cellAt net k .a)) (omega arith))
+
+    length-B : length B ≡ length s
+    length-B = length-three F net w Z (length net) ∙ length-Z
+
+    begin-body : Body F net words W 0 B
+    unfolding earlier
+    begin-body =
+        record {
+          present = now-is F net ordered W 0 w Z room-Z begin-first;
+          past = λ k h. before-after F net w Z k h ∙ before-Z k h;
+          held = λ k h e. held-is F net ordered W 0 w Z room-Z begin-first k h e (held-Z k h);
+          lines = begin-lines;
+          elements = begin-elements;
+          bytes = λ k h e. line-kept F net w Z room-Z k h e (bytes-Z k h);
+          clean = λ k h. clean-after F net w Z room-Z k h (clean-Z k h);
+        }
+      where
+        clean-Z : (k : ℕ) → k < length net → Clean F net Z k
+        clean-Z k h = unfold Z in zero-clean (base F (length net)) tail k (below F k (length net) h) net
+
+    pub begin-holds : Holding F net words W 0 (beginState F net words s)
+    begin-holds =
+        rw begin-is-B
+        (counted-holds F net ordered words W 0 B (omega (arith, length-B))
+        (λ l. ap (λ (z : List ℕ). instantOf z) (sym begin-is-B) ∙ begin-instant F net words s) begin-body)
+
+    pub begin-length : length (beginState F net words s) ≡ length s
+    begin-length = ap length begin-is-B ∙ length-counted F net B ∙ length-B

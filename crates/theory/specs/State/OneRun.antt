@@ -4,18 +4,22 @@
 use mathlib.Core.Path.{_≡_, refl, ap}
 use mathlib.Core.Bool.{true}
 use mathlib.Core.List.{List}
-use Prim.Native.Nat.{ℕ, _-_, _<_, _≤_}
+use Prim.Native.Nat.{ℕ, suc, _-_, _<_, _≤_}
+use native.Mathlib.Omega.{arith}
 use lib.ListN.{length}
 use Rattle.model.specs.declared.Cell.{Cell}
+use Rattle.model.specs.declared.Format.{Format}
+use Rattle.model.specs.declared.Checked.the-variants.{Accepted}
 use Rattle.model.specs.Circuit.{Sig, Values, high, level, Obeys}
-use Rattle.model.specs.State.{stateSize, lastState, evaluated}
-use Rattle.model.specs.CircuitPromises.{stateAt, stopsAt, NoStart, OneRun}
+use Rattle.model.specs.State.{course, stateSize, continued}
+use Rattle.model.specs.CircuitPromises.{stateAt, stopsAt, NoStart, Apart, OneRun}
 use Rattle.theory.specs.Circuit.Unique.{unique}
 use Rattle.laws.specs.Circuit.Ordered.{Ordered}
 use Rattle.theory.specs.Circuit.Exists.{solution, solution-obeys}
 use Rattle.laws.specs.Circuit.Shapes.{level-bound}
 use Rattle.theory.specs.State.Flight.{number-zero}
-use Rattle.theory.specs.State.Sound.{states}
+use Rattle.theory.specs.State.Counters.{apart-less}
+use Rattle.theory.specs.State.Sound.{states, states-next, states-free, states-crowds}
 use Rattle.theory.specs.State.Running.{along}
 use Rattle.theory.specs.State.Past.{past-state}
 
@@ -27,13 +31,18 @@ module _ (net : List Cell) (o : Ordered net) (starts : Sig) (words : ℕ → ℕ
   unfolding W
   obeyed = solution-obeys net starts words o
 
-  going : (lent : List ℕ) → stateSize net ≤ length lent → (f : ℕ) → f < length net → (n t : ℕ) → NoStart starts t (stopsAt (level W f) t n)
-      → (lastState net f n (stateAt net starts words lent t) ≡ stateAt net starts words lent (stopsAt (level W f) t n))
-      × (evaluated net f n (stateAt net starts words lent t) ≡ stopsAt (level W f) t n - t)
+  going : (F : Format) (lent : List ℕ) → stateSize F net ≤ length lent → (f : ℕ) → f < length net → (n t : ℕ) →
+      let t′ = stopsAt (level W f) t n in
+      NoStart starts t t′ → Apart F net W t′
+      → continued F net f n (stateAt F net starts words lent t) ≡ course Accepted (stateAt F net starts words lent t′) (t′ - t)
   unfolding stateAt
-  going lent room f l =
-      along net f starts (stateAt net starts words lent) (λ u. refl) (level W f)
-      (λ u. ap high (states net o starts words W obeyed pulse lent room u .present f l))
+  going F lent room f l n t none apart =
+      along F net f starts (stateAt F net starts words lent) (λ u. refl) (level W f) n t
+      (λ u h k.
+      let now = apart-less F net W u _ (omega arith) apart in
+      let soon = apart-less F net W (suc u) _ (omega arith) apart in
+      (ap high (states-next F net o starts words W obeyed pulse lent room u now f l), states-free F net o starts words W obeyed pulse lent room u now soon))
+      none
 
   pub one-run : OneRun net starts words
   one-run =
@@ -41,9 +50,10 @@ module _ (net : List Cell) (o : Ordered net) (starts : Sig) (words : ℕ → ℕ
         values = W;
         obeys = obeyed;
         only = λ U h. unique net o starts words U W h obeyed;
-        states = λ lent room. states net o starts words W obeyed pulse lent room;
-        idle = number-zero net words W;
-        past = past-state net o starts words;
+        states = λ F lent room. states F net o starts words W obeyed pulse lent room;
+        idle = λ F. number-zero F net words W;
+        past = λ F. past-state F net o starts words;
         continuing = going;
+        crowds = λ lent room t apart k l e. unfold stateAt in states-crowds net o starts words W obeyed pulse lent room t apart k l e;
         controls = level-bound net starts words W obeyed;
       }

@@ -3,20 +3,23 @@
 use mathlib.Core.Path.{_≡_, refl, _∙_}
 use mathlib.Core.Bool.{Bool, true, false, not, _&&_}
 use mathlib.Core.List.{List, _++_, append-assoc}
-use Prim.Native.Nat.{ℕ, zero, suc, _+_, _*_, _/_, _%_, _<_, _≤_}
+use Prim.Native.Nat.{ℕ, zero, suc, _+_, _/_, _%_, _<_, _≤_}
 use native.Mathlib.Omega.{arith}
 use lib.Dec.{eqb}
 use lib.ListN.{length, set, drop, replicate, length-append, length-replicate}
 use borrow.Author.Tests.{eqb-true}
 use lib.Seq.{drop-at, drop-set-lt}
 use Rattle.model.specs.declared.Cell.{Cell}
+use Rattle.model.specs.declared.Format.{Format}
+use Rattle.model.specs.declared.Format.the-variants.{Full, Compact}
 use Rattle.model.specs.declared.Merge.{Merge}
 use Rattle.model.specs.Word.{pick, bit, elementOf, put16, put32}
 use Rattle.model.specs.Circuit.{cellAt, Sig, high, Shape, shape, kConstant, kComplement, kOperator, kStart, kGround, kDelay, kOr, kWhenTrue, kWhenFalse, kMerge, kReturn, kMemory, kGated, kArray, kAddress, kRead, kUnknown}
-use Rattle.model.specs.State.{stateSize, base, elementBase, instantOf, nowAt, beforeAt, value, firstValue, upTo, aged, stored, shown, shiftedIn, holding, settle, settled, counted, wordBytes, blank, evaluate, beginState, stepState}
+use Rattle.model.specs.State.{instantOf, upTo, shiftedIn, wordBytes, cellSize, base, stateSize, elementBase, nowAt, beforeAt, takenIn, value, firstValue, aged, stored, shown, holding, settle, settled, counted, blank, evaluate, beginState, stepState}
 use Rattle.model.specs.CircuitPromises.{stateAt}
 use Rattle.laws.specs.Refusals.Laws.{and-true}
 use Rattle.laws.specs.Circuit.Ordered.{Ordered}
+use Rattle.laws.specs.State.Lines.{least, below, behind}
 use Rattle.theory.specs.State.Begin.{length-words}
 
 -- t has the bytes of s from n on
@@ -39,93 +42,99 @@ unfolding shiftedIn
 past-shifted n zero s i x l = refl
 past-shifted n (suc m) s i x l = past-shifted n m (set s i _) (i + 1) _ (omega arith) ∙ past-set n s i _ (omega arith)
 
-past-holding : (n : ℕ) (s : List ℕ) (k : ℕ) (m : Merge) → base k + 40 ≤ n → Past n s (holding s k m)
-unfolding holding
-past-holding n s k m l =
-    past-set n (set s (base k + 4) (bit (m .a))) (base k + 5) (bit (m .b)) (omega arith) ∙ past-set n s (base k + 4) (bit (m .a)) (omega arith)
+past-taken : (F : Format) (n : ℕ) (s : List ℕ) (k d : ℕ) (x : Bool) → base F k + cellSize F ≤ n → Past n s (takenIn F s k d x)
+unfolding takenIn
+past-taken Full n s k d x l = past-shifted n 32 s (base Full k + 8) _ (omega arith)
+past-taken Compact n s k d x l = past-set n s (base Compact k + 6) _ (omega arith)
 
-past-settle : (n : ℕ) (sh : Shape) (s : List ℕ) (k : ℕ) (c : Cell) → base k + 40 ≤ n → Past n s (settle sh s k c)
-unfolding settle
-past-settle n kConstant s k c l = refl
-past-settle n kComplement s k c l = refl
-past-settle n kOperator s k c l = refl
-past-settle n kStart s k c l = refl
-past-settle n kGround s k c l = refl
-past-settle n kDelay s k c l = past-shifted n 32 s (base k + 8) _ (omega arith)
-past-settle n kOr s k c l = refl
-past-settle n kWhenTrue s k c l = refl
-past-settle n kWhenFalse s k c l = refl
-past-settle n kMerge s k c l = past-holding n s k _ l
-past-settle n kReturn s k c l = past-holding n s k _ l
-past-settle n kMemory s k c l = refl
-past-settle n kGated s k c l = refl
-past-settle n kArray s k c l = refl
-past-settle n kAddress s k c l = refl
-past-settle n kRead s k c l = refl
-past-settle n kUnknown s k c l = refl
+module _ (F : Format) where
+  past-holding : (n : ℕ) (s : List ℕ) (k : ℕ) (m : Merge) → base F k + cellSize F ≤ n → Past n s (holding F s k m)
+  unfolding holding
+  past-holding n s k m l =
+      past-set n (set s (base F k + 4) (bit (m .a))) (base F k + 5) (bit (m .b)) (omega (arith, least F)) ∙ past-set n s (base F k + 4) (bit (m .a)) (omega (arith, least F))
 
--- a pass over m cells
-past-pass : (n : ℕ) (f : List ℕ → ℕ → List ℕ) (m : ℕ) → ((s : List ℕ) (k : ℕ) → k < m → Past n s (f s k)) → (s : List ℕ) → Past n s (upTo f m s)
-unfolding upTo
-past-pass n f zero h s = refl
-past-pass n f (suc m) h s = h (upTo f m s) m (omega arith) ∙ past-pass n f m (λ s k l. h s k (omega arith)) s
+  past-settle : (n : ℕ) (sh : Shape) (s : List ℕ) (k : ℕ) (c : Cell) → base F k + cellSize F ≤ n → Past n s (settle F sh s k c)
+  unfolding settle
+  past-settle n kConstant s k c l = refl
+  past-settle n kComplement s k c l = refl
+  past-settle n kOperator s k c l = refl
+  past-settle n kStart s k c l = refl
+  past-settle n kGround s k c l = refl
+  past-settle n kDelay s k c l = past-taken F n s k (c .delay) _ l
+  past-settle n kOr s k c l = refl
+  past-settle n kWhenTrue s k c l = refl
+  past-settle n kWhenFalse s k c l = refl
+  past-settle n kMerge s k c l = past-holding n s k _ l
+  past-settle n kReturn s k c l = past-holding n s k _ l
+  past-settle n kMemory s k c l = refl
+  past-settle n kGated s k c l = refl
+  past-settle n kArray s k c l = refl
+  past-settle n kAddress s k c l = refl
+  past-settle n kRead s k c l = refl
+  past-settle n kUnknown s k c l = refl
 
-module _ (net : List Cell) (ordered : Ordered net) where
-  past-settled : (s : List ℕ) (k : ℕ) → k < length net → Past (stateSize net) s (settled net s k)
-  past-settled s k l = past-settle (stateSize net) (shape (cellAt net k .kind)) s k (cellAt net k) (omega arith)
+  -- a pass over m cells
+  past-pass : (n : ℕ) (f : List ℕ → ℕ → List ℕ) (m : ℕ) → ((s : List ℕ) (k : ℕ) → k < m → Past n s (f s k)) → (s : List ℕ) → Past n s (upTo f m s)
+  unfolding upTo
+  past-pass n f zero h s = refl
+  past-pass n f (suc m) h s = h (upTo f m s) m (omega arith) ∙ past-pass n f m (λ s k l. h s k (omega arith)) s
 
-  -- an array's word is among the 256
-  past-stored : (s : List ℕ) (k : ℕ) → k < length net → Past (stateSize net) s (stored net s k)
-  unfolding stored
-  past-stored s k l = go (eqb (cellAt net k .kind) 42 && falls) refl
-    where
-      falls : Bool
-      falls = high (beforeAt s (cellAt net k .a)) && not (high (nowAt s (cellAt net k .a)))
+  module _ (net : List Cell) (ordered : Ordered net) where
+    past-settled : (s : List ℕ) (k : ℕ) → k < length net → Past (stateSize F net) s (settled F net s k)
+    past-settled s k l = past-settle (stateSize F net) (shape (cellAt net k .kind)) s k (cellAt net k) (omega (arith, below F k (length net) l))
 
-      w : ℕ
-      w = beforeAt s (cellAt net (k + 1) .a)
+    -- an array's word is among the 256
+    past-stored : (s : List ℕ) (k : ℕ) → k < length net → Past (stateSize F net) s (stored F net s k)
+    unfolding stored
+    past-stored s k l = go (eqb (cellAt net k .kind) 42 && falls) refl
+      where
+        falls : Bool
+        falls = high (beforeAt F s (cellAt net k .a)) && not (high (nowAt F s (cellAt net k .a)))
 
-      go : (q : Bool) → (eqb (cellAt net k .kind) 42 && falls) ≡ q
-          → Past (stateSize net) s (pick q (put16 s (elementBase net (elementOf (cellAt net k .delay) w)) (beforeAt s (cellAt net k .b))) s)
-      go false e = refl
-      go true e =
-          let o = ordered .stands k l (eqb-true _ _ (and-true (eqb (cellAt net k .kind) 42) falls e .0)) in
-          past-put16 (stateSize net) s _ _ (omega (arith, o .0))
+        w : ℕ
+        w = beforeAt F s (cellAt net (k + 1) .a)
 
-  past-shown : (v : List ℕ → ℕ → ℕ) (s : List ℕ) (k : ℕ) → k < length net → Past (stateSize net) s (shown net v s k)
-  unfolding shown
-  past-shown v s k l = past-put16 (stateSize net) (stored net s k) (base k) (v s k) (omega arith) ∙ past-stored s k l
+        go : (q : Bool) → (eqb (cellAt net k .kind) 42 && falls) ≡ q
+            → Past (stateSize F net) s (pick q (put16 s (elementBase F net (elementOf (cellAt net k .delay) w)) (beforeAt F s (cellAt net k .b))) s)
+        go false e = refl
+        go true e =
+            let o = ordered .stands k l (eqb-true _ _ (and-true (eqb (cellAt net k .kind) 42) falls e .0)) in
+            past-put16 (stateSize F net) s _ _ (omega (arith, o .0))
 
-  past-aged : (s : List ℕ) (k : ℕ) → k < length net → Past (stateSize net) s (aged s k)
-  unfolding aged
-  past-aged s k l = past-put16 (stateSize net) s (base k + 2) _ (omega arith)
+    past-shown : (v : List ℕ → ℕ → ℕ) (s : List ℕ) (k : ℕ) → k < length net → Past (stateSize F net) s (shown F net v s k)
+    unfolding shown
+    past-shown v s k l = past-put16 (stateSize F net) (stored F net s k) (base F k) (v s k) (omega (arith, behind F k (length net) l)) ∙ past-stored s k l
 
-  past-blank : (words : ℕ → ℕ) (lent : List ℕ) → Past (stateSize net) lent (blank net words lent)
-  past-blank words lent =
-      rw (← append-assoc (replicate (8 + 40 * length net) 0) (wordBytes words 16 256) (drop (stateSize net) lent))
-      (drop-at (replicate (8 + 40 * length net) 0 ++ wordBytes words 16 256) (drop (stateSize net) lent) (stateSize net)
-      (simp (length-append, length-replicate) (omega (arith, length-words words 16 256))))
+    past-aged : (s : List ℕ) (k : ℕ) → k < length net → Past (stateSize F net) s (aged F s k)
+    unfolding aged
+    past-aged s k l = past-put16 (stateSize F net) s (base F k + 2) _ (omega (arith, behind F k (length net) l))
 
-  past-evaluate : (v : List ℕ → ℕ → ℕ) (u : List ℕ) → Past (stateSize net) u (evaluate net v u)
-  unfolding evaluate counted
-  past-evaluate v u =
-      past-put32 (stateSize net) _ 4 _ (omega arith)
-      ∙ past-pass (stateSize net) (settled net) (length net) past-settled _
-      ∙ past-pass (stateSize net) (shown net v) (length net) (past-shown v) _
+    past-blank : (words : ℕ → ℕ) (lent : List ℕ) → Past (stateSize F net) lent (blank F net words lent)
+    past-blank words lent =
+        rw (← append-assoc (replicate (base F (length net)) 0) (wordBytes words 16 256) (drop (stateSize F net) lent))
+        (drop-at (replicate (base F (length net)) 0 ++ wordBytes words 16 256) (drop (stateSize F net) lent) (stateSize F net)
+        (simp (length-append, length-replicate) (omega (arith, length-words words 16 256))))
 
-  past-begin : (words : ℕ → ℕ) (lent : List ℕ) → Past (stateSize net) lent (beginState net words lent)
-  unfolding beginState
-  past-begin words lent = past-evaluate (firstValue net words) (blank net words lent) ∙ past-blank words lent
+    past-evaluate : (v : List ℕ → ℕ → ℕ) (u : List ℕ) → Past (stateSize F net) u (evaluate F net v u)
+    unfolding evaluate counted
+    past-evaluate v u =
+        past-put32 (stateSize F net) _ 4 _ (omega arith)
+        ∙ past-pass (stateSize F net) (settled F net) (length net) past-settled _
+        ∙ past-pass (stateSize F net) (shown F net v) (length net) (past-shown v) _
 
-  past-step : (starts : Bool) (s : List ℕ) → Past (stateSize net) s (stepState net starts s)
-  unfolding stepState
-  past-step starts s =
-      past-evaluate (value net starts) _
-      ∙ past-pass (stateSize net) aged (length net) past-aged _
-      ∙ past-put32 (stateSize net) s 0 (instantOf s + 1) (omega arith)
+    past-begin : (words : ℕ → ℕ) (lent : List ℕ) → Past (stateSize F net) lent (beginState F net words lent)
+    unfolding beginState
+    past-begin words lent = past-evaluate (firstValue F net words) (blank F net words lent) ∙ past-blank words lent
 
-  pub past-state : (starts : Sig) (words : ℕ → ℕ) (lent : List ℕ) (t : ℕ)
-      → drop (stateSize net) (stateAt net starts words lent t) ≡ drop (stateSize net) lent
-  unfolding stateAt
-  past-state starts words lent zero = past-begin words lent
-  past-state starts words lent (suc t) = past-step (starts (suc t)) (stateAt net starts words lent t) ∙ past-state starts words lent t
+    past-step : (starts : Bool) (s : List ℕ) → Past (stateSize F net) s (stepState F net starts s)
+    unfolding stepState
+    past-step starts s =
+        past-evaluate (value F net starts) _
+        ∙ past-pass (stateSize F net) (aged F) (length net) past-aged _
+        ∙ past-put32 (stateSize F net) s 0 (instantOf s + 1) (omega arith)
+
+    pub past-state : (starts : Sig) (words : ℕ → ℕ) (lent : List ℕ) (t : ℕ)
+        → drop (stateSize F net) (stateAt F net starts words lent t) ≡ drop (stateSize F net) lent
+    unfolding stateAt
+    past-state starts words lent zero = past-begin words lent
+    past-state starts words lent (suc t) = past-step (starts (suc t)) (stateAt F net starts words lent t) ∙ past-state starts words lent t

@@ -1,4 +1,5 @@
--- Continuing along a run: what a state holds, what is evaluated, and where it stops.
+-- Continuing along a run: what a state holds, what is evaluated, and where it stops; where pulses are apart 26 does not end it.
+-- Assumes nothing.
 use mathlib.Core.Bool.{Bool, true, false}
 use mathlib.Core.List.{List}
 use mathlib.Core.Path.{_≡_, refl, sym, _∙_, ap, subst}
@@ -6,32 +7,19 @@ use Prim.Native.Nat.{ℕ, zero, suc, _+_, _-_, _<_, _≤_}
 use native.Mathlib.Omega.{arith}
 use lib.ListN.{length}
 use Rattle.model.specs.declared.Cell.{Cell}
+use Rattle.model.specs.declared.Checked.the-variants.{Accepted}
+use Rattle.model.specs.declared.Format.{Format}
 use Rattle.model.specs.Circuit.{Sig, Values, high, level, Obeys}
-use Rattle.model.specs.State.{stateSize, nowAt, stepState, lastState, evaluated}
-use Rattle.model.specs.CircuitPromises.{stopsAt, NoStart}
+use Rattle.model.specs.State.{Course, course, longer, stateSize, nowAt, stepState, crowding, continued}
+use Rattle.model.specs.CircuitPromises.{stopsAt, NoStart, Apart}
 use Rattle.laws.specs.Refusals.Laws.{by-bool}
 use Rattle.laws.specs.Circuit.Ordered.{Ordered}
+use Rattle.laws.specs.State.Continuing.{continued-high, continued-low}
 use Rattle.theory.specs.State.Holding.{Holding}
+use Rattle.theory.specs.State.Counters.{apart-less, not-crowded}
 use Rattle.theory.specs.State.Step.{step-holds, step-length}
 
--- The clauses of continuing ---------------------------------------------------------------------------------------------------------------------------
-
-module _ (net : List Cell) (f n : ℕ) (s : List ℕ) where
-  last-high : high (nowAt (stepState net false s) f) ≡ true → lastState net f (suc n) s ≡ stepState net false s
-  unfolding lastState
-  last-high h = ap (λ (b : Bool). elim b as (λ z. List ℕ) [ true ↦ stepState net false s | false ↦ lastState net f n (stepState net false s) ]) h
-
-  last-low : high (nowAt (stepState net false s) f) ≡ false → lastState net f (suc n) s ≡ lastState net f n (stepState net false s)
-  unfolding lastState
-  last-low h = ap (λ (b : Bool). elim b as (λ z. List ℕ) [ true ↦ stepState net false s | false ↦ lastState net f n (stepState net false s) ]) h
-
-  evaluated-high : high (nowAt (stepState net false s) f) ≡ true → evaluated net f (suc n) s ≡ 1
-  unfolding evaluated
-  evaluated-high h = ap (λ (b : Bool). elim b as (λ z. ℕ) [ true ↦ 1 | false ↦ 1 + evaluated net f n (stepState net false s) ]) h
-
-  evaluated-low : high (nowAt (stepState net false s) f) ≡ false → evaluated net f (suc n) s ≡ 1 + evaluated net f n (stepState net false s)
-  unfolding evaluated
-  evaluated-low h = ap (λ (b : Bool). elim b as (λ z. ℕ) [ true ↦ 1 | false ↦ 1 + evaluated net f n (stepState net false s) ]) h
+-- Where it stops ------------------------------------------------------------------------------------------------------------------------
 
 module _ (finishes : ℕ → Bool) (t n : ℕ) where
   pub stops-high : finishes (suc t) ≡ true → stopsAt finishes t (suc n) ≡ suc t
@@ -53,89 +41,118 @@ unfolding stopsAt
 stops-le F zero t = omega arith
 stops-le F (suc n) t = by-bool (F (suc t)) (λ e. omega (arith, stops-high F t n e)) (λ e. omega (arith, stops-low F t n e, stops-le F n (suc t)))
 
+-- after the first of its instants, if it has one
+stops-on : (F : ℕ → Bool) (n t : ℕ) → suc t ≤ stopsAt F t (suc n)
+stops-on F n t = by-bool (F (suc t)) (λ e. omega (arith, stops-high F t n e)) (λ e. omega (arith, stops-low F t n e, stops-ge F n (suc t)))
+
 -- the first of its instants has no start
 first-none : (starts F : ℕ → Bool) (t n : ℕ) → NoStart starts t (stopsAt F t (suc n)) → starts (suc t) ≡ false
-first-none starts F t n none =
-    none (suc t) (omega arith) (by-bool (F (suc t)) (λ e. omega (arith, stops-high F t n e)) (λ e. omega (arith, stops-low F t n e, stops-ge F n (suc t))))
+first-none starts F t n none = none (suc t) (omega arith) (stops-on F n t)
 
--- Continuing -------------------------------------------------------------------------------------------------------------------------------------------------
+-- Continuing ---------------------------------------------------------------------------------------------------------------------------
 
-pub record Continued (net : List Cell) (words : ℕ → ℕ) (W : Values) (f t n : ℕ) (s : List ℕ) : Type 0 where
-  pub count : evaluated net f n s ≡ stopsAt (level W f) t n - t
-  pub long : length (lastState net f n s) ≡ length s
-  pub holding : Holding net words W (stopsAt (level W f) t n) (lastState net f n s)
+pub record Continued (F : Format) (net : List Cell) (words : ℕ → ℕ) (W : Values) (f t n : ℕ) (s : List ℕ) : Type 0 where
+  pub free : continued F net f n s .check ≡ Accepted
+  pub count : continued F net f n s .count ≡ stopsAt (level W f) t n - t
+  pub long : length (continued F net f n s .state) ≡ length s
+  pub holding : Holding F net words W (stopsAt (level W f) t n) (continued F net f n s .state)
 
-module _ (net : List Cell) (ordered : Ordered net) (starts : Sig) (words : ℕ → ℕ) (W : Values) (obeys : Obeys net starts words W) (f : ℕ)
+module _ (F : Format) (net : List Cell) (ordered : Ordered net) (starts : Sig) (words : ℕ → ℕ) (W : Values) (obeys : Obeys net starts words W) (f : ℕ)
     (wire : f < length net) where
-  abbrev F : ℕ → Bool
-  F = level W f
+  abbrev finish : ℕ → Bool
+  finish = level W f
 
-  pub continues : (n t : ℕ) (s : List ℕ) → Holding net words W t s → stateSize net ≤ length s → NoStart starts t (stopsAt F t n) → Continued net words W f t n s
-  unfolding lastState evaluated stopsAt
-  continues zero t s H room none = record { count = omega arith; long = refl; holding = H }
-  continues (suc n) t s H room none =
-      by-bool (F (suc t)) (λ e. stop e)
-      (λ e. on e (continues n (suc t) (stepState net false s) next (omega (arith, len)) (λ u l k. none u (omega arith) (omega (arith, stops-low F t n e)))))
+  pub continues : (n t : ℕ) (s : List ℕ) → Holding F net words W t s → stateSize F net ≤ length s → NoStart starts t (stopsAt finish t n)
+      → Apart F net W (stopsAt finish t n) → Continued F net words W f t n s
+  unfolding continued stopsAt
+  continues zero t s H room none apart = record { free = refl; count = omega arith; long = refl; holding = H }
+  continues (suc n) t s H room none apart =
+      by-bool (finish (suc t)) (λ e. stop e)
+      (λ e.
+      let z = stops-low finish t n e in
+      on e
+      (continues n (suc t) (stepState F net false s) next (omega (arith, len)) (λ u l k. none u (omega arith) (omega (arith, z)))
+      (apart-less F net W _ _ (omega (arith, z)) apart)))
     where
-      next : Holding net words W (suc t) (stepState net false s)
+      quiet : starts (suc t) ≡ false
+      quiet = first-none starts finish t n none
+
+      soon : Apart F net W (suc t)
+      soon = apart-less F net W _ _ (stops-on finish n t) apart
+
+      next : Holding F net words W (suc t) (stepState F net false s)
       next =
-          subst (λ (x : Bool). Holding net words W (suc t) (stepState net x s)) (first-none starts F t n none)
-          (step-holds net ordered starts words W obeys t s H room)
+          subst (λ (x : Bool). Holding F net words W (suc t) (stepState F net x s)) quiet
+          (step-holds F net ordered starts words W obeys t s H room soon)
 
-      len : length (stepState net false s) ≡ length s
-      len =
-          subst (λ (x : Bool). length (stepState net x s) ≡ length s) (first-none starts F t n none)
-          (step-length net ordered starts words W obeys t s H room)
+      len : length (stepState F net false s) ≡ length s
+      len = subst (λ (x : Bool). length (stepState F net x s) ≡ length s) quiet (step-length F net ordered starts words W obeys t s H room)
 
-      wire-is : (b : Bool) → F (suc t) ≡ b → high (nowAt (stepState net false s) f) ≡ b
+      free : crowding F net s (stepState F net false s) ≡ Accepted
+      free = not-crowded F net ordered words W t s (stepState F net false s) (λ a l. next .body .present a l) H soon
+
+      wire-is : (b : Bool) → finish (suc t) ≡ b → high (nowAt F (stepState F net false s) f) ≡ b
       wire-is b e = ap high (next .body .present f wire) ∙ e
 
-      stop : F (suc t) ≡ true → Continued net words W f t (suc n) s
+      stop : finish (suc t) ≡ true → Continued F net words W f t (suc n) s
       stop e =
-          let z = stops-high F t n e in
-          let x = last-high net f n s (wire-is true e) in
+          let z = stops-high finish t n e in
+          let x = continued-high F net f n s free (wire-is true e) in
           record {
-            count = omega (arith, z, evaluated-high net f n s (wire-is true e));
-            long = ap length x ∙ len;
+            free = ap (λ (c : Course). c .check) x;
+            count = ap (λ (c : Course). c .count) x ∙ omega (arith, z);
+            long = ap (λ (c : Course). length (c .state)) x ∙ len;
             holding = rw (z, x) next;
           }
 
-      on : F (suc t) ≡ false → Continued net words W f (suc t) n (stepState net false s) → Continued net words W f t (suc n) s
+      on : finish (suc t) ≡ false → Continued F net words W f (suc t) n (stepState F net false s) → Continued F net words W f t (suc n) s
       on e r =
-          let z = stops-low F t n e in
-          let x = last-low net f n s (wire-is false e) in
+          let z = stops-low finish t n e in
+          let x = continued-low F net f n s free (wire-is false e) in
           record {
-            count = omega (arith, z, stops-ge F n (suc t), r .count, evaluated-low net f n s (wire-is false e));
-            long = ap length x ∙ r .long ∙ len;
+            free = ap (λ (c : Course). c .check) x ∙ r .free;
+            count = ap (λ (c : Course). c .count) x ∙ omega (arith, z, stops-ge finish n (suc t), r .count);
+            long = ap (λ (c : Course). length (c .state)) x ∙ r .long ∙ len;
             holding = rw (z, x) (r .holding);
           }
 
 -- along the states of a run
-module _ (net : List Cell) (f : ℕ) (starts : Sig) (at : ℕ → List ℕ) (next : (t : ℕ) → at (suc t) ≡ stepState net (starts (suc t)) (at t)) (F : ℕ → Bool)
-    (wire : (t : ℕ) → high (nowAt (at t) f) ≡ F t) where
-  pub along : (n t : ℕ) → NoStart starts t (stopsAt F t n)
-      → (lastState net f n (at t) ≡ at (stopsAt F t n)) × (evaluated net f n (at t) ≡ stopsAt F t n - t)
-  unfolding lastState evaluated stopsAt
-  along zero t none = (refl, omega arith)
-  along (suc n) t none =
-      by-bool (F (suc t)) (λ e. stop e) (λ e. on e (along n (suc t) (λ u l k. none u (omega arith) (omega (arith, stops-low F t n e)))))
+module _ (F : Format) (net : List Cell) (f : ℕ) (starts : Sig) (at : ℕ → List ℕ) (next : (t : ℕ) → at (suc t) ≡ stepState F net (starts (suc t)) (at t))
+    (finish : ℕ → Bool) where
+  pub along : (n t : ℕ) → ((u : ℕ) → t ≤ u → u < stopsAt finish t n → (high (nowAt F (at (suc u)) f) ≡ finish (suc u)) × (crowding F net (at u) (at (suc u)) ≡ Accepted))
+      → NoStart starts t (stopsAt finish t n) → continued F net f n (at t) ≡ course Accepted (at (stopsAt finish t n)) (stopsAt finish t n - t)
+  unfolding continued stopsAt
+  along zero t good none = let z : t - t ≡ 0 = omega arith in rw z refl
+  along (suc n) t good none =
+      by-bool (finish (suc t)) (λ e. stop e)
+      (λ e.
+      let z = stops-low finish t n e in
+      on e (along n (suc t) (λ u l k. good u (omega arith) (omega (arith, z))) (λ u l k. none u (omega arith) (omega (arith, z)))))
     where
-      step : at (suc t) ≡ stepState net false (at t)
-      step = next t ∙ ap (λ (x : Bool). stepState net x (at t)) (first-none starts F t n none)
+      step : at (suc t) ≡ stepState F net false (at t)
+      step = next t ∙ ap (λ (x : Bool). stepState F net x (at t)) (first-none starts finish t n none)
 
-      now : high (nowAt (stepState net false (at t)) f) ≡ F (suc t)
-      now = ap (λ (s : List ℕ). high (nowAt s f)) (sym step) ∙ wire (suc t)
+      here : (high (nowAt F (at (suc t)) f) ≡ finish (suc t)) × (crowding F net (at t) (at (suc t)) ≡ Accepted)
+      here = good t (omega arith) (stops-on finish n t)
 
-      stop : F (suc t) ≡ true
-          → (lastState net f (suc n) (at t) ≡ at (stopsAt F t (suc n))) × (evaluated net f (suc n) (at t) ≡ stopsAt F t (suc n) - t)
+      now : high (nowAt F (stepState F net false (at t)) f) ≡ finish (suc t)
+      now = ap (λ (s : List ℕ). high (nowAt F s f)) (sym step) ∙ here .0
+
+      free : crowding F net (at t) (stepState F net false (at t)) ≡ Accepted
+      free = ap (crowding F net (at t)) (sym step) ∙ here .1
+
+      stop : finish (suc t) ≡ true → continued F net f (suc n) (at t) ≡ course Accepted (at (stopsAt finish t (suc n))) (stopsAt finish t (suc n) - t)
       stop e =
-          let z = stops-high F t n e in
-          (last-high net f n (at t) (now ∙ e) ∙ sym step ∙ ap at (sym z), omega (arith, z, evaluated-high net f n (at t) (now ∙ e)))
+          let z = stops-high finish t n e in
+          let o : suc t - t ≡ 1 = omega arith in
+          continued-high F net f n (at t) free (now ∙ e) ∙ rw (z, o, step) refl
 
-      on : F (suc t) ≡ false → (lastState net f n (at (suc t)) ≡ at (stopsAt F (suc t) n)) × (evaluated net f n (at (suc t)) ≡ stopsAt F (suc t) n - suc t)
-          → (lastState net f (suc n) (at t) ≡ at (stopsAt F t (suc n))) × (evaluated net f (suc n) (at t) ≡ stopsAt F t (suc n) - t)
+      on : finish (suc t) ≡ false → continued F net f n (at (suc t)) ≡ course Accepted (at (stopsAt finish (suc t) n)) (stopsAt finish (suc t) n - suc t)
+          → continued F net f (suc n) (at t) ≡ course Accepted (at (stopsAt finish t (suc n))) (stopsAt finish t (suc n) - t)
       on e r =
-          let z = stops-low F t n e in (
-            last-low net f n (at t) (now ∙ e) ∙ ap (lastState net f n) (sym step) ∙ r .0 ∙ ap at (sym z),
-            omega (arith, z, evaluated-low net f n (at t) (now ∙ e), ap (evaluated net f n) step, r .1, stops-ge F n (suc t)),
-          )
+          let z = stops-low finish t n e in
+          let o : 1 + (stopsAt finish (suc t) n - suc t) ≡ stopsAt finish (suc t) n - t = omega (arith, stops-ge finish n (suc t)) in
+          continued-low F net f n (at t) free (now ∙ e)
+          ∙ ap (λ (s : List ℕ). longer (continued F net f n s)) (sym step)
+          ∙ ap longer r
+          ∙ rw (z, o) refl

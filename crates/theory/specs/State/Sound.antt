@@ -2,24 +2,31 @@
 use mathlib.Core.Bool.{Bool, true, false, not, _||_}
 use mathlib.Core.List.{List, [], _∷_}
 use mathlib.Core.Path.{_≡_, refl, _∙_}
+use mathlib.Core.Logic.{_↔_}
 use Prim.Native.Nat.{ℕ, zero, suc, _+_, _<_, _≤_, suc-le-suc}
 use native.Mathlib.Nat.{add-zero}
 use native.Mathlib.Omega.{arith}
+use lib.Dec.{eqb}
 use lib.ListN.{getD, length, take, drop}
 use lib.Seq.{getD-drop}
-use borrow.Author.Tests.{le-leb, eq-eqb, ne-eqb, eqb-false}
+use borrow.Author.Tests.{le-leb, eq-eqb, ne-eqb, eqb-true, eqb-false}
 use Rattle.laws.specs.NetlistFile.CellBytes.{zero-run}
 use Rattle.model.specs.declared.Cell.{Cell}
-use Rattle.model.specs.Circuit.{cellAt, noCell, Sig, Values, control, Obeys}
+use Rattle.model.specs.declared.Format.{Format}
+use Rattle.model.specs.declared.Format.the-variants.{Full, Compact}
+use Rattle.model.specs.declared.Checked.the-variants.{Accepted}
+use Rattle.model.specs.Circuit.{cellAt, noCell, Sig, Values, level, control, Obeys, shape, kDelay}
 use Rattle.model.specs.NetlistFile.{allZero}
-use Rattle.model.specs.State.{stateSize, base, flightOf, nowAt, beforeAt, flight, cellSound, cellsSound, sound}
-use Rattle.model.specs.CircuitPromises.{stateAt, earlier, Holds}
-use Rattle.laws.specs.Refusals.Laws.{and-of}
+use Rattle.model.specs.State.{flightOf, base, stateSize, nowAt, beforeAt, leftAt, flight, crowded, crowding, lineSound, cellSound, cellsSound, sound}
+use Rattle.model.specs.CircuitPromises.{stateAt, earlier, Holds, Free, Apart}
+use Rattle.laws.specs.Refusals.Laws.{by-bool, and-of}
 use Rattle.laws.specs.Circuit.Ordered.{Ordered}
-use Rattle.laws.specs.Circuit.Shapes.{level-bound}
-use Rattle.theory.specs.State.Holding.{Holding}
+use Rattle.laws.specs.Circuit.Shapes.{level-bound, delay-shape}
+use Rattle.laws.specs.State.Lines.{Line}
+use Rattle.theory.specs.State.Holding.{Clean, Holding}
 use Rattle.theory.specs.State.Flight.{number-is}
-use Rattle.theory.specs.State.Step.{step-holds, step-length}
+use Rattle.theory.specs.State.Counters.{apart-less, crowds, not-crowded}
+use Rattle.theory.specs.State.Step.{step-now, step-holds, step-length}
 use Rattle.theory.specs.State.Begin.{begin-holds, begin-length}
 
 zero-slice : (m j : ℕ) (s : List ℕ) → ((i : ℕ) → j ≤ i → i < j + m → getD s i 0 ≡ 0) → allZero (take m (drop j s)) ≡ true
@@ -33,73 +40,108 @@ unless : (a b : Bool) → (a ≡ false → b ≡ true) → (a || b) ≡ true
 unless true b h = refl
 unless false b h = h refl
 
-module _ (net : List Cell) (ordered : Ordered net) (starts : Sig) (words : ℕ → ℕ) (W : Values) (obeys : Obeys net starts words W) (t : ℕ) (s : List ℕ)
-    (H : Holding net words W t s) where
-  earlier-le : (k : ℕ) → k < length net → control (cellAt net k .kind) ≡ true → (t : ℕ) → earlier W k t ≤ 1
-  unfolding earlier
-  earlier-le k h e zero = omega arith
-  earlier-le k h e (suc t) = level-bound net starts words W obeys k h e t
+-- what is set of a line, by its format
+line-sound : (F : Format) (net : List Cell) (s : List ℕ) (k : ℕ) → Clean F net s k → (cellAt net k .kind ≡ 34 → Line F s k (cellAt net k .delay))
+    → lineSound F (cellAt net k) s k ≡ true
+unfolding lineSound Line
+line-sound Full net s k d l =
+    and-of (zero-slice 2 (base Full k + 6) s (λ i x y. d .rest i (omega arith) (omega arith) (λ e. omega arith)))
+    (unless _ _
+    (λ e. zero-slice 32 (base Full k + 8) s (λ i x y. d .rest i (omega arith) (omega arith) (λ z. absurd (eqb-false (cellAt net k .kind) 34 e z)))))
+line-sound Compact net s k d l =
+    and-of
+    (le-leb (leftAt Compact s k) _
+    (by-bool (eqb (cellAt net k .kind) 34) (λ e. rw e (l (eqb-true _ _ e)))
+    (λ e. rw e (omega (arith, d .rest (base Compact k + 6) (omega arith) (omega arith) (λ z. absurd (eqb-false (cellAt net k .kind) 34 e z)))))))
+    (eq-eqb (getD s (base Compact k + 7) 0) 0 (d .rest (base Compact k + 7) (omega arith) (omega arith) (λ z. omega arith)))
 
-  sound-at : (k : ℕ) → k < length net → cellSound (cellAt net k) s k ≡ true
-  unfolding cellSound
-  sound-at k h =
-      let d = H .body .clean k h in
-      and-of
-      (implied _ _ (λ e.
-      and-of
-      (le-leb (nowAt s k) 1 (rw (H .body .present k h) (level-bound net starts words W obeys k h e t)))
-      (le-leb (beforeAt s k) 1 (rw (H .body .past k h) (earlier-le k h e t)))))
-      (and-of
-      (and-of
-      (le-leb _ _ (rw (eq-eqb (base k + 4) (base k + 4) refl) at (d .bits (base k + 4) (omega arith) (omega arith))))
-      (le-leb _ _ (rw (ne-eqb (base k + 5) (base k + 4) (λ z. omega arith)) at (d .bits (base k + 5) (omega arith) (omega arith)))))
-      (and-of
-      (zero-slice 2 (base k + 6) s (λ i x y. d .rest i (omega arith) (omega arith) (λ e. omega arith)))
-      (unless _ _ (λ e. zero-slice 32 (base k + 8) s (λ i x y. d .rest i (omega arith) (omega arith) (λ z. absurd (eqb-false (cellAt net k .kind) 34 e z)))))))
+module _ (F : Format) where
+  module _ (net : List Cell) (ordered : Ordered net) (starts : Sig) (words : ℕ → ℕ) (W : Values) (obeys : Obeys net starts words W) (t : ℕ) (s : List ℕ)
+      (H : Holding F net words W t s) where
+    earlier-le : (k : ℕ) → k < length net → control (cellAt net k .kind) ≡ true → (t : ℕ) → earlier W k t ≤ 1
+    unfolding earlier
+    earlier-le k h e zero = omega arith
+    earlier-le k h e (suc t) = level-bound net starts words W obeys k h e t
 
-  sound-cells : (cs : List Cell) (k : ℕ) → ((i : ℕ) → i < length cs → cellSound (getD cs i noCell) s (k + i) ≡ true) → cellsSound cs s k ≡ true
-  unfolding cellsSound
-  sound-cells [] k h = refl
-  sound-cells (c ∷ cs) k h =
-      and-of (rw add-zero at (h 0 (omega arith)))
-      (sound-cells cs (k + 1)
-      (λ i l.
-      let e : k + 1 + i ≡ k + suc i = omega arith in
-      rw e (h (suc i) (suc-le-suc l))))
+    sound-at : (k : ℕ) → k < length net → cellSound F (cellAt net k) s k ≡ true
+    unfolding cellSound
+    sound-at k h =
+        let d = H .body .clean k h in
+        and-of
+        (implied _ _ (λ e.
+        and-of
+        (le-leb (nowAt F s k) 1 (rw (H .body .present k h) (level-bound net starts words W obeys k h e t)))
+        (le-leb (beforeAt F s k) 1 (rw (H .body .past k h) (earlier-le k h e t)))))
+        (and-of
+        (and-of
+        (le-leb _ _ (rw (eq-eqb (base F k + 4) (base F k + 4) refl) at (d .bits (base F k + 4) (omega arith) (omega arith))))
+        (le-leb _ _ (rw (ne-eqb (base F k + 5) (base F k + 4) (λ z. omega arith)) at (d .bits (base F k + 5) (omega arith) (omega arith)))))
+        (line-sound F net s k d (λ e. H .body .bytes k h (delay-shape _ e))))
 
-  pub sound-held : sound net s ≡ true
-  unfolding sound
-  sound-held =
-      and-of (eq-eqb (flightOf s) (flight net s) (H .number))
-      (sound-cells net 0
-      (λ i l.
-      let e : 0 + i ≡ i = omega arith in
-      rw e (sound-at i l)))
+    sound-cells : (cs : List Cell) (k : ℕ) → ((i : ℕ) → i < length cs → cellSound F (getD cs i noCell) s (k + i) ≡ true) → cellsSound F cs s k ≡ true
+    unfolding cellsSound
+    sound-cells [] k h = refl
+    sound-cells (c ∷ cs) k h =
+        and-of (rw add-zero at (h 0 (omega arith)))
+        (sound-cells cs (k + 1)
+        (λ i l.
+        let e : k + 1 + i ≡ k + suc i = omega arith in
+        rw e (h (suc i) (suc-le-suc l))))
 
-  pub holds : Holds net words W t s
-  holds =
-      record {
-        instant = H .instant;
-        number = number-is net ordered words W t s H;
-        present = H .body .present;
-        past = H .body .past;
-        held = H .body .held;
-        lines = H .body .lines;
-        elements = H .body .elements;
-        proper = sound-held;
-      }
+    pub sound-held : sound F net s ≡ true
+    unfolding sound
+    sound-held =
+        and-of (eq-eqb (flightOf s) (flight F net s) (H .number))
+        (sound-cells net 0
+        (λ i l.
+        let e : 0 + i ≡ i = omega arith in
+        rw e (sound-at i l)))
 
--- every state of a run
-module _ (net : List Cell) (ordered : Ordered net) (starts : Sig) (words : ℕ → ℕ) (W : Values) (obeys : Obeys net starts words W) (pulse : starts 0 ≡ true)
-    (lent : List ℕ) (room : stateSize net ≤ length lent) where
-  run-holds : (t : ℕ) → Holding net words W t (stateAt net starts words lent t) × (length (stateAt net starts words lent t) ≡ length lent)
-  unfolding stateAt
-  run-holds zero = (begin-holds net ordered starts words W obeys pulse lent room, begin-length net ordered starts words W obeys pulse lent room)
-  run-holds (suc t) =
-      let r = run-holds t in
-      let s = stateAt net starts words lent t in
-      let m : stateSize net ≤ length s = omega (arith, r .1) in
-      (step-holds net ordered starts words W obeys t s (r .0) m, step-length net ordered starts words W obeys t s (r .0) m ∙ r .1)
+    pub holds : Holds F net words W t s
+    holds =
+        record {
+          instant = H .instant;
+          number = number-is F net ordered words W t s H;
+          present = H .body .present;
+          past = H .body .past;
+          held = H .body .held;
+          lines = H .body .lines;
+          elements = H .body .elements;
+          proper = sound-held;
+        }
 
-  pub states : (t : ℕ) → Holds net words W t (stateAt net starts words lent t)
-  states t = holds net ordered starts words W obeys t (stateAt net starts words lent t) (run-holds t .0)
+  -- every state of a run
+  module _ (net : List Cell) (ordered : Ordered net) (starts : Sig) (words : ℕ → ℕ) (W : Values) (obeys : Obeys net starts words W) (pulse : starts 0 ≡ true)
+      (lent : List ℕ) (room : stateSize F net ≤ length lent) where
+    run-holds : (t : ℕ) → Apart F net W t
+        → Holding F net words W t (stateAt F net starts words lent t) × (length (stateAt F net starts words lent t) ≡ length lent)
+    unfolding stateAt
+    run-holds zero apart = (begin-holds F net ordered starts words W obeys pulse lent room, begin-length F net ordered starts words W obeys pulse lent room)
+    run-holds (suc t) apart =
+        let r = run-holds t (apart-less F net W t (suc t) (omega arith) apart) in
+        let s = stateAt F net starts words lent t in
+        let m : stateSize F net ≤ length s = omega (arith, r .1) in
+        (step-holds F net ordered starts words W obeys t s (r .0) m apart, step-length F net ordered starts words W obeys t s (r .0) m ∙ r .1)
+
+    pub states : (t : ℕ) → Apart F net W t → Holds F net words W t (stateAt F net starts words lent t)
+    states t apart = holds net ordered starts words W obeys t (stateAt F net starts words lent t) (run-holds t apart .0)
+
+    -- the values of the next instant, and that 26 is not met before it
+    module _ (t : ℕ) (apart : Apart F net W t) where
+      pub states-next : (k : ℕ) → k < length net → nowAt F (stateAt F net starts words lent (suc t)) k ≡ W k (suc t)
+      unfolding stateAt
+      states-next =
+          let r = run-holds t apart in
+          step-now F net ordered starts words W obeys t (stateAt F net starts words lent t) (r .0) (omega (arith, r .1))
+
+      pub states-free : Apart F net W (suc t) → crowding F net (stateAt F net starts words lent t) (stateAt F net starts words lent (suc t)) ≡ Accepted
+      states-free = not-crowded F net ordered words W t (stateAt F net starts words lent t) (stateAt F net starts words lent (suc t)) states-next (run-holds t apart .0)
+
+-- where a compact state meets 26
+pub states-crowds : (net : List Cell) → Ordered net → (starts : Sig) (words : ℕ → ℕ) (W : Values) → Obeys net starts words W → starts 0 ≡ true
+    → (lent : List ℕ) → stateSize Compact net ≤ length lent → (t : ℕ) → Apart Compact net W t → (k : ℕ) → k < length net → shape (cellAt net k .kind) ≡ kDelay
+    → (crowded Compact net (stateAt Compact net starts words lent t) (stateAt Compact net starts words lent (suc t)) k ≡ 0)
+    ↔ Free (cellAt net k .delay) (level W (cellAt net k .a)) (suc t)
+states-crowds net ordered starts words W obeys pulse lent room t apart =
+    crowds net ordered words W t (stateAt Compact net starts words lent t) (stateAt Compact net starts words lent (suc t))
+    (states-next Compact net ordered starts words W obeys pulse lent room t apart) (run-holds Compact net ordered starts words W obeys pulse lent room t apart .0)

@@ -5,7 +5,7 @@ use crate::expect::{elements, refused, state_length, START};
 use crate::nodes::*;
 use peers::BOTH;
 use second::calls;
-use values::Given;
+use values::{Format, Given};
 
 /// A budget above the end of every program here.
 const BUDGET: u32 = 2_000;
@@ -231,10 +231,20 @@ fn every_start_word_reaches_the_state() {
     let words: Vec<u8> = start().iter().flat_map(|word| word.to_le_bytes()).collect();
     let compiled = (BOTH.compile)(Given::NOTHING, &ok(), &[0; 512]);
     let file = &compiled.lent[0];
-    let begun = (BOTH.begin)(file, &words, &[7; state_length(27)]);
+    let begun = (BOTH.begin)(
+        Format::Full,
+        file,
+        &words,
+        &[7; state_length(Format::Full, 27)],
+    );
     assert_eq!(begun.lent[0][8 + 40 * 27..], words[32..]);
-    let ran = (BOTH.run_netlist)(file, &words, 0, &[7; state_length(27)]);
+    let ran = (BOTH.run_netlist)(file, &words, 0, &[7; state_length(Format::Full, 27)]);
     assert_eq!(ran.lent, begun.lent);
-    let from_zero = (BOTH.begin)(file, &START, &[7; state_length(27)]);
+    let from_zero = (BOTH.begin)(
+        Format::Full,
+        file,
+        &START,
+        &[7; state_length(Format::Full, 27)],
+    );
     assert_eq!(from_zero.lent[0][8 + 40 * 27..], [0; 512]);
 }

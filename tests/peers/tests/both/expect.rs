@@ -1,14 +1,22 @@
 //! What many tests expect or ask.
 
 use peers::BOTH;
-use values::{Given, Refusal, Words};
+use values::{Format, Given, Refusal, Words};
 
 /// Start words, sixteen and 256, that are 0.
 pub const START: [u8; 544] = [0; 544];
 
+/// The bytes of a cell in a state.
+pub const fn cell_length(format: Format) -> usize {
+    match format {
+        Format::Full => 40,
+        Format::Compact => 8,
+    }
+}
+
 /// The bytes of the state of so many cells, the words of the arrays last.
-pub const fn state_length(cells: usize) -> usize {
-    8 + 40 * cells + 512
+pub const fn state_length(format: Format, cells: usize) -> usize {
+    8 + cell_length(format) * cells + 512
 }
 
 /// The words of the arrays in the state that a run of a program has left; its
@@ -16,7 +24,8 @@ pub const fn state_length(cells: usize) -> usize {
 pub fn elements(lent: &[Vec<u8>]) -> &[u8] {
     let (file, state) = (&lent[0], &lent[1]);
     let cells = usize::from(u16::from_le_bytes([file[2], file[3]]));
-    &state[..state_length(cells)][state_length(cells) - 512..]
+    let length = state_length(Format::Full, cells);
+    &state[length - 512..length]
 }
 
 pub fn refused<T>(number: u8, place: usize) -> Result<T, Refusal> {

@@ -7,7 +7,7 @@ use crate::nodes::*;
 use crate::run::*;
 use peers::BOTH;
 use second::cells::{DELAY, MERGE, OR};
-use values::Cell;
+use values::{Cell, Format};
 
 /// The numbers of a program's run, from instant 0 on, the end among them.
 fn assert_numbers<const COUNT: usize>(program: &[u8], words: [u16; COUNT], numbers: &[u32]) {
@@ -196,7 +196,7 @@ fn a_beginning_tells_the_number_whatever_the_buffer_held() {
     let run = Run::of_program(&parallel(tick(3), tick(5)), &START);
     let mut again = run.clone();
     again.state.fill(0xff);
-    let begun = (BOTH.begin)(&again.file, &START, &again.state);
+    let begun = (BOTH.begin)(Format::Full, &again.file, &START, &again.state);
     assert!(begun.result.is_ok());
     assert_eq!(begun.lent, [&run.state[..]]);
     assert_eq!(run.in_flight(), 2);

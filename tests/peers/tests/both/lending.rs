@@ -2,12 +2,12 @@
 
 use crate::expect::{refused, state_length, START};
 use peers::BOTH;
-use values::Given;
+use values::{Format, Given};
 
 /// x0 := 5, d 1: 31 cells, so one block and a state of 1,760 bytes.
 const PROGRAM: [u8; 8] = [18, 1, 0, 0, 1, 0, 5, 0];
 const NETLIST_LENGTH: usize = 512;
-const STATE_LENGTH: usize = state_length(31);
+const STATE_LENGTH: usize = state_length(Format::Full, 31);
 
 /// What a lent buffer holds at entry.
 static LENT: [u8; 2_000] = [7; 2_000];
@@ -19,14 +19,14 @@ fn netlist() -> Vec<u8> {
 }
 
 fn begun() -> Vec<u8> {
-    let begun = (BOTH.begin)(&netlist(), &START, &LENT[..STATE_LENGTH]);
+    let begun = (BOTH.begin)(Format::Full, &netlist(), &START, &LENT[..STATE_LENGTH]);
     begun.result.expect("case 2 begins");
     begun.lent[0].clone()
 }
 
 #[test]
 fn a_buffer_of_exactly_the_length_is_enough() {
-    let continued = (BOTH.continue_by)(&netlist(), 10, &begun());
+    let continued = (BOTH.continue_by)(Format::Full, &netlist(), 10, &begun());
     let answer = continued.result.expect("it fits");
     assert_eq!((answer.ended, answer.instant, answer.count), (true, 2, 2));
 }
@@ -44,7 +44,7 @@ fn a_buffer_one_byte_too_short_is_refused_and_kept() {
     assert_eq!(read.lent, [cells]);
 
     let state = &LENT[..STATE_LENGTH - 1];
-    let begun = (BOTH.begin)(&netlist(), &START, state);
+    let begun = (BOTH.begin)(Format::Full, &netlist(), &START, state);
     assert_eq!(begun.result, refused(14, 0));
     assert_eq!(begun.lent, [state]);
 }
@@ -54,7 +54,7 @@ fn start_words_under_544_bytes_are_refused() {
     let (file, state) = (&LENT[..NETLIST_LENGTH], &LENT[..STATE_LENGTH]);
     for length in [0, 31, 32, 543] {
         let words = &START[..length];
-        let begun = (BOTH.begin)(&netlist(), words, state);
+        let begun = (BOTH.begin)(Format::Full, &netlist(), words, state);
         assert_eq!(begun.result, refused(14, 0), "{length}");
         assert_eq!(begun.lent, [state], "{length}");
         let ran = (BOTH.run_netlist)(&netlist(), words, 10, state);
@@ -71,8 +71,8 @@ fn start_words_under_544_bytes_are_refused() {
 fn start_words_may_be_followed_by_others() {
     let state = &LENT[..STATE_LENGTH];
     let longer = [&START[..], &[9; 7]].concat();
-    let begun = (BOTH.begin)(&netlist(), &longer, state);
-    assert_eq!(begun, (BOTH.begin)(&netlist(), &START, state));
+    let begun = (BOTH.begin)(Format::Full, &netlist(), &longer, state);
+    assert_eq!(begun, (BOTH.begin)(Format::Full, &netlist(), &START, state));
     assert!(begun.result.is_ok());
 }
 
@@ -80,7 +80,7 @@ fn start_words_may_be_followed_by_others() {
 fn a_state_without_all_words_of_the_arrays_is_refused() {
     for missing in [1, 2, 511, 512] {
         let state = &LENT[..STATE_LENGTH - missing];
-        let begun = (BOTH.begin)(&netlist(), &START, state);
+        let begun = (BOTH.begin)(Format::Full, &netlist(), &START, state);
         assert_eq!(begun.result, refused(14, 0), "{missing}");
         assert_refused(&self::begun()[..STATE_LENGTH - missing], 1, 14);
     }
@@ -109,7 +109,7 @@ fn thirteen_comes_before_fourteen() {
 
 /// Continuing from this state by so many is refused so, and changes nothing.
 fn assert_refused(state: &[u8], n: u32, number: u8) {
-    let continued = (BOTH.continue_by)(&netlist(), n, state);
+    let continued = (BOTH.continue_by)(Format::Full, &netlist(), n, state);
     assert_eq!(continued.result, refused(number, 0));
     assert_eq!(continued.lent, [state]);
 }
@@ -128,7 +128,7 @@ fn fourteen_comes_before_fifteen_before_sixteen() {
 #[test]
 fn a_budget_of_a_million_is_the_last_good_one() {
     assert_refused(&begun(), 1_000_001, 16);
-    let continued = (BOTH.continue_by)(&netlist(), 1_000_000, &begun());
+    let continued = (BOTH.continue_by)(Format::Full, &netlist(), 1_000_000, &begun());
     let answer = continued.result.expect("within reach");
     assert_eq!((answer.ended, answer.instant), (true, 2));
 }
@@ -136,7 +136,7 @@ fn a_budget_of_a_million_is_the_last_good_one() {
 #[test]
 fn continuing_by_none_changes_nothing() {
     let before = begun();
-    let continued = (BOTH.continue_by)(&netlist(), 0, &before);
+    let continued = (BOTH.continue_by)(Format::Full, &netlist(), 0, &before);
     let answer = continued.result.expect("it fits");
     assert_eq!((answer.ended, answer.instant, answer.count), (false, 0, 0));
     assert_eq!(continued.lent, [before]);

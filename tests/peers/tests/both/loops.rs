@@ -4,7 +4,7 @@
 use crate::expect::{read, refused, start_with, words_with};
 use crate::nodes::*;
 use peers::BOTH;
-use values::{Cell, Given, Refusal, Words};
+use values::{Cell, Format, Given, Refusal, Words};
 
 /// A budget above the end of every program here that has one.
 const BUDGET: u32 = 2_000;
@@ -236,11 +236,16 @@ fn a_loop_is_begun_again_after_it_is_left() {
 fn nothing_goes_round_after_the_end() {
     let program = loop_of(5, sequence(count_down(), exit_at_0()));
     let compiled = (BOTH.compile)(Given::NOTHING, &program, &[0; 512]);
-    let begun = (BOTH.begin)(&compiled.lent[0], &start_with([2]), &[0; 5_000]);
-    let ended = (BOTH.continue_by)(&compiled.lent[0], BUDGET, &begun.lent[0]);
+    let begun = (BOTH.begin)(
+        Format::Full,
+        &compiled.lent[0],
+        &start_with([2]),
+        &[0; 5_000],
+    );
+    let ended = (BOTH.continue_by)(Format::Full, &compiled.lent[0], BUDGET, &begun.lent[0]);
     let end = ended.result.expect("it is continued");
     assert_eq!((end.ended, end.instant), (true, 41));
-    let later = (BOTH.continue_by)(&compiled.lent[0], BUDGET, &ended.lent[0]);
+    let later = (BOTH.continue_by)(Format::Full, &compiled.lent[0], BUDGET, &ended.lent[0]);
     let answer = later.result.expect("it is continued");
     assert_eq!((answer.ended, answer.instant), (false, 41 + BUDGET));
     assert_eq!(answer.words, end.words);

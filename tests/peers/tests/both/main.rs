@@ -5,6 +5,8 @@ mod arrays;
 mod cases;
 mod cell_rules;
 mod cells;
+mod compact;
+mod crowded;
 mod expect;
 mod hubrun;
 mod in_flight;

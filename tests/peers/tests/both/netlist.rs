@@ -1,6 +1,6 @@
 //! Netlists for tests that change them and read them.
 
-use second::cells::{Netlist, ADDRESS, ARRAY, CONSTANT, GROUND, MEMORY, START};
+use second::cells::{Netlist, ADDRESS, ARRAY, CONSTANT, DELAY, GROUND, MEMORY, OR, START};
 use second::netfile;
 use values::Cell;
 
@@ -55,6 +55,29 @@ pub const FIRST_ARRAY: u16 = 19;
 /// The file of the idle cells and these.
 pub fn file_of_idle(cells: &[Cell], finish: u16) -> Vec<u8> {
     file(&[&idle(), cells].concat(), finish)
+}
+
+/// Cells that are put in after the idle ones, one after another.
+#[derive(Default)]
+pub struct Wiring {
+    pub cells: Vec<Cell>,
+}
+
+impl Wiring {
+    /// Puts a cell in, and gives its number.
+    pub fn push(&mut self, cell: Cell) -> u16 {
+        self.cells.push(cell);
+        FREE + self.cells.len() as u16 - 1
+    }
+
+    /// A wire with a pulse at each of these instants, 0 not among them.
+    pub fn pulses(&mut self, instants: &[u8]) -> u16 {
+        let ground = 1;
+        instants.iter().fold(ground, |so_far, &instant| {
+            let delay = self.push(Cell::new(DELAY, instant, 0, 0));
+            self.push(Cell::new(OR, 0, so_far, delay))
+        })
+    }
 }
 
 /// The fixed cells, and sixteen memories and four arrays that are never

@@ -2,29 +2,18 @@
 //! and which of its states are refused.
 
 use crate::expect::START;
-use crate::netlist::{file_of_idle, FREE};
+use crate::netlist::{file_of_idle, Wiring};
 use crate::run::*;
-use second::cells::{DELAY, MERGE, OR, RETURN};
+use second::cells::{MERGE, RETURN};
 use values::Cell;
 
 /// A merge of this kind with pulses at these instants: its number, and a run.
 fn wired(kind: u8, a: &[u8], b: &[u8]) -> (u16, Run) {
-    let mut cells = Vec::new();
-    let mut push = |cell: Cell| {
-        cells.push(cell);
-        FREE + cells.len() as u16 - 1
-    };
-    let mut pulses = |instants: &[u8]| {
-        let ground = 1;
-        instants.iter().fold(ground, |so_far, &instant| {
-            let delay = push(Cell::new(DELAY, instant, 0, 0));
-            push(Cell::new(OR, 0, so_far, delay))
-        })
-    };
-    let (a, b) = (pulses(a), pulses(b));
-    let merge = push(Cell::new(kind, 0, a, b));
+    let mut wiring = Wiring::default();
+    let (a, b) = (wiring.pulses(a), wiring.pulses(b));
+    let merge = wiring.push(Cell::new(kind, 0, a, b));
     // The finish is ground, so that nothing stops a continuing.
-    (merge, Run::begin(&file_of_idle(&cells, 1), &START))
+    (merge, Run::begin(&file_of_idle(&wiring.cells, 1), &START))
 }
 
 /// The instants up to 12 at which its output is high.

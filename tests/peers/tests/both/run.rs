@@ -1,8 +1,8 @@
 //! A run of a netlist, call by call, and where things stand in its state.
 
-use crate::expect::{refused, state_length};
+use crate::expect::{cell_length, refused, state_length};
 use peers::{Reply, BOTH};
-use values::{Answer, Given};
+use values::{Answer, Format, Given};
 
 /// Where the number in flight stands in a state, after the instant.
 pub const NUMBER: usize = 4;
@@ -15,14 +15,23 @@ pub const HELD_B: usize = 5;
 pub const ZERO_BYTE: usize = 6;
 pub const LINE: usize = 8;
 
-/// The place of a byte of a cell.
+/// In a compact state the first zero byte tells how many instants are left until
+/// a line's pulse comes out.
+pub const LEFT: usize = 6;
+
+/// The place of a byte of a cell in a full state.
 pub const fn at(cell: u16, byte: usize) -> usize {
-    8 + 40 * cell as usize + byte
+    place(Format::Full, cell, byte)
+}
+
+const fn place(format: Format, cell: u16, byte: usize) -> usize {
+    8 + cell_length(format) * cell as usize + byte
 }
 
 /// A netlist file, and the state that the last call has left.
 #[derive(Clone)]
 pub struct Run {
+    pub format: Format,
     pub file: Vec<u8>,
     pub state: Vec<u8>,
 }
@@ -30,13 +39,19 @@ pub struct Run {
 impl Run {
     /// A beginning of a good netlist, in a buffer of the state's length.
     pub fn begin(file: &[u8], words: &[u8]) -> Run {
+        Run::begin_in(Format::Full, file, words)
+    }
+
+    /// The same with a state of either format.
+    pub fn begin_in(format: Format, file: &[u8], words: &[u8]) -> Run {
         let read = (BOTH.read_netlist)(file, &[0; 6_144]);
         let count = read.result.expect("a good netlist").cells;
         let mut run = Run {
+            format,
             file: file.to_vec(),
-            state: vec![0xa5; state_length(count.into())],
+            state: vec![0xa5; state_length(format, count.into())],
         };
-        run.done((BOTH.begin)(file, words, &run.state));
+        run.done((BOTH.begin)(format, file, words, &run.state));
         run
     }
 
@@ -45,7 +60,12 @@ impl Run {
         Run::of_given(Given::NOTHING, program, words)
     }
 
-    /// The same of a program with something beside it.
+    /// The same run, begun from these words with a compact state.
+    pub fn compact(&self, words: &[u8]) -> Run {
+        Run::begin_in(Format::Compact, &self.file, words)
+    }
+
+    /// A beginning of a program with something beside it.
     pub fn of_given(given: Given, program: &[u8], words: &[u8]) -> Run {
         let compiled = (BOTH.compile)(given, program, &[0; 6_656]);
         let shape = compiled
@@ -57,12 +77,17 @@ impl Run {
 
     /// A continuing, which isn't refused.
     pub fn go(&mut self, n: u32) -> Answer {
-        self.done((BOTH.continue_by)(&self.file, n, &self.state))
+        self.done(self.going(n))
     }
 
     /// A start, which isn't refused.
     pub fn start(&mut self) -> Answer {
-        self.done((BOTH.start)(&self.file, &self.state))
+        self.done((BOTH.start)(self.format, &self.file, &self.state))
+    }
+
+    /// What a continuing replies.
+    pub fn going(&self, n: u32) -> Reply<Answer> {
+        (BOTH.continue_by)(self.format, &self.file, n, &self.state)
     }
 
     fn done(&mut self, reply: Reply<Answer>) -> Answer {
@@ -72,16 +97,21 @@ impl Run {
 
     /// A start is refused so, and changes nothing.
     pub fn assert_start_refused(&self, number: u8) {
-        let started = (BOTH.start)(&self.file, &self.state);
+        let started = (BOTH.start)(self.format, &self.file, &self.state);
         assert_eq!(started.result, refused(number, 0));
         assert_eq!(started.lent, [&self.state[..]]);
     }
 
     /// A continuing is refused so, and changes nothing.
     pub fn assert_refused(&self, n: u32, number: u8) {
-        let continued = (BOTH.continue_by)(&self.file, n, &self.state);
+        let continued = self.going(n);
         assert_eq!(continued.result, refused(number, 0));
         assert_eq!(continued.lent, [&self.state[..]]);
+    }
+
+    /// The instants until the pulse in a line comes out, in a compact state.
+    pub fn left(&self, cell: u16) -> u8 {
+        self.state[self.at(cell, LEFT)]
     }
 
     /// The number in flight, as the state tells it.
@@ -100,7 +130,12 @@ impl Run {
 
     /// What a cell shows, of a control wire or the low byte of a word.
     pub fn now(&self, cell: u16) -> u8 {
-        self.state[at(cell, NOW)]
+        self.state[self.at(cell, NOW)]
+    }
+
+    /// The place of a byte of a cell.
+    pub fn at(&self, cell: u16, byte: usize) -> usize {
+        place(self.format, cell, byte)
     }
 
     /// The words of the arrays.

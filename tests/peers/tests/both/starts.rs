@@ -7,7 +7,7 @@ use crate::nodes::*;
 use crate::run::*;
 use peers::BOTH;
 use second::cells::{DELAY, MERGE, OR};
-use values::{Answer, Cell};
+use values::{Answer, Cell, Format};
 
 /// The last instant of all.
 const LAST: u32 = 1_000_000;
@@ -314,6 +314,7 @@ fn a_netlist_is_refused_before_its_state() {
     };
     for (file, number) in [(vec![], 9), (damaged(8), 10)] {
         let bad = Run {
+            format: Format::Full,
             file,
             state: vec![0xa5; 3],
         };
@@ -327,8 +328,11 @@ fn bytes_past_the_state_are_kept() {
     let mut run = Run::of_program(&tick(3), &START);
     run.go(100);
     let longer = [&run.state[..], &[7; 9]].concat();
-    let started = (BOTH.start)(&run.file, &longer);
-    assert_eq!(started.result, (BOTH.start)(&run.file, &run.state).result);
+    let started = (BOTH.start)(Format::Full, &run.file, &longer);
+    assert_eq!(
+        started.result,
+        (BOTH.start)(Format::Full, &run.file, &run.state).result
+    );
     run.start();
     assert_eq!(started.lent, [[&run.state[..], &[7; 9]].concat()]);
     for missing in 1..10 {

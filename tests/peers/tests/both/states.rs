@@ -6,7 +6,7 @@ use crate::netlist::{file_of_idle as file, FIRST_ARRAY as ARRAY, FREE};
 use crate::run::*;
 use peers::BOTH;
 use second::cells::{CONSTANT, DELAY, MERGE, READ};
-use values::{Cell, Refusal};
+use values::{Cell, Format, Refusal};
 
 fn begun(file: &[u8]) -> Vec<u8> {
     Run::begin(file, &START).state
@@ -14,7 +14,7 @@ fn begun(file: &[u8]) -> Vec<u8> {
 
 /// The state one instant later.
 fn next(file: &[u8], state: &[u8]) -> Vec<u8> {
-    let continued = (BOTH.continue_by)(file, 1, state);
+    let continued = (BOTH.continue_by)(Format::Full, file, 1, state);
     continued.result.expect("a lawful state");
     continued.lent[0].clone()
 }
@@ -122,7 +122,7 @@ fn a_high_finish_is_continued_like_any_other() {
     let mut state = begun(&file);
     state[at(FREE, NOW)] = 1;
     for (n, expected) in [(0, (true, 0, 0)), (5, (false, 5, 5))] {
-        let continued = (BOTH.continue_by)(&file, n, &state);
+        let continued = (BOTH.continue_by)(Format::Full, &file, n, &state);
         let answer = continued.result.expect("a lawful state");
         assert_eq!((answer.ended, answer.instant, answer.count), expected);
         state.clone_from(&continued.lent[0]);
@@ -194,5 +194,7 @@ fn what_refusal_15_names_is_refused_and_nothing_else() {
 fn with_byte(file: &[u8], place: usize, byte: u8) -> Result<(), Refusal> {
     let mut state = begun(file);
     state[place] = byte;
-    (BOTH.continue_by)(file, 1, &state).result.map(drop)
+    (BOTH.continue_by)(Format::Full, file, 1, &state)
+        .result
+        .map(drop)
 }

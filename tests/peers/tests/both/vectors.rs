@@ -7,7 +7,7 @@ use peers::{Reply, BOTH};
 use second::calls;
 use std::fs;
 use std::path::{Path, PathBuf};
-use values::{Answer, Cell, Given, Refusal, Shape};
+use values::{Answer, Cell, Format, Given, Refusal, Shape};
 
 /// Longer than any result, and filled so that a stray write shows.
 static LENT: [u8; 50_000] = [0xa5; 50_000];
@@ -17,7 +17,7 @@ static LENT_CELLS: [Cell; 1_100] = [Cell::new(0xa5, 0xa5, 0xa5a5, 0xa5a5); 1_100
 
 /// The folders with programs, with netlist files, and so on. Those of s05 have
 /// arrays, those of s06 loops too, those of s07 second starts, those of s08
-/// procedures.
+/// procedures, those of s09 compact states.
 const PROGRAMS: [&str; 7] = [
     "program",
     "compile",
@@ -28,8 +28,15 @@ const PROGRAMS: [&str; 7] = [
     "s08/compile",
 ];
 const NETLISTS: [&str; 4] = ["netlist", "s05/netlist", "s06/netlist", "s08/netlist"];
-const CALLS: [&str; 5] = ["calls", "s05/calls", "s06/calls", "s07/calls", "s08/calls"];
-const STATES: [&str; 4] = ["state", "s05/state", "s07/state", "s08/state"];
+const CALLS: [&str; 6] = [
+    "calls",
+    "s05/calls",
+    "s06/calls",
+    "s07/calls",
+    "s08/calls",
+    "s09/calls",
+];
+const STATES: [&str; 5] = ["state", "s05/state", "s07/state", "s08/state", "s09/state"];
 const RULES: [&str; 4] = ["s05/rules", "s06/rules", "s07/rules", "s08/rules"];
 const HUBRUN: [&str; 4] = ["hubrun", "s05/hubrun", "s06/hubrun", "s08/hubrun"];
 
@@ -73,14 +80,23 @@ impl Vector {
         given.map_or(0, |given| number(given).expect("a number of procedures"))
     }
 
+    /// The format of its states, by the first number of its mode.
+    fn format(&self) -> Format {
+        let mode = self.may_have("mode").map(|_| self.text("mode"));
+        match mode.is_some_and(|mode| mode.starts_with('1')) {
+            true => Format::Compact,
+            false => Format::Full,
+        }
+    }
+
     /// A call on the state in a buffer, by its line: `begin`, `cont N` or
     /// `start`.
     fn call(&self, line: &str, state: &[u8]) -> Reply<Answer> {
-        let file = self.bytes("net");
+        let (format, file) = (self.format(), self.bytes("net"));
         match line.split_once(' ').unwrap_or((line, "")) {
-            ("cont", n) => (BOTH.continue_by)(&file, n.parse().expect("a number"), state),
-            ("start", "") => (BOTH.start)(&file, state),
-            ("begin", "") => (BOTH.begin)(&file, &self.bytes("words"), state),
+            ("cont", n) => (BOTH.continue_by)(format, &file, n.parse().expect("a number"), state),
+            ("start", "") => (BOTH.start)(format, &file, state),
+            ("begin", "") => (BOTH.begin)(format, &file, &self.bytes("words"), state),
             _ => panic!("{}: no call is '{line}'", self.stem.display()),
         }
     }

@@ -23,7 +23,7 @@ returns c =
     let net = netOf (args .cells .now) (args .n) in
     λ m.
     c .get16 .ensures ∙ ap (wordAt (args .words .now)) (sym m)
-    ∙ sym (first-memory net (wordAt (args .words .now)) (args .state .now) (args .k) (args .c) (holds-cell (c .before .before .before .before .before .pre .0)) (c .before .if1 .taken))
+    ∙ sym (first-memory (args .format) net (wordAt (args .words .now)) (args .state .now) (args .k) (args .c) (holds-cell (c .before .before .before .before .before .pre .0)) (c .before .if1 .taken))
 
 returns-2 : tie.Need-returns-2
 returns-2 c =
@@ -31,7 +31,7 @@ returns-2 c =
     let net = netOf (args .cells .now) (args .n) in
     λ m.
     c .next-value .ensures
-    ∙ sym (first-other net (wordAt (args .words .now)) (args .state .now) (args .k) (args .c) (holds-cell (c .before .before .before .before .before .pre .0)) (c .before .if1 .left))
+    ∙ sym (first-other (args .format) net (wordAt (args .words .now)) (args .state .now) (args .k) (args .c) (holds-cell (c .before .before .before .before .before .pre .0)) (c .before .if1 .left))
 
 pub first-value-spec : {M : Type 1} → statement M
 first-value-spec =

@@ -10,7 +10,7 @@ use Rattle.simulator.proofs.checks.check_begin.Tie as tie
 returns : tie.Need-returns
 returns c =
     let args = c .before .before .before .before .before .before .before .args in
-    refuses (drop 1 (beginChecks (args .file .now) (args .words .now) (args .state .now)))
+    refuses (drop 1 (beginChecks (args .format) (args .file .now) (args .words .now) (args .state .now)))
     (sym (c .before .before .before .check-file .ensures) ∙ c .before .checked .given .1)
 
 check-lent-requires : tie.Need-check-lent-requires
@@ -19,7 +19,7 @@ check-lent-requires c κs = sym (c .before .before .check-file .ensures) ∙ c .
 returns-2 : tie.Need-returns-2
 returns-2 c =
     let args = c .before .before .before .before .before .before .before .args in
-    accepts (drop 1 (beginChecks (args .file .now) (args .words .now) (args .state .now)))
+    accepts (drop 1 (beginChecks (args .format) (args .file .now) (args .words .now) (args .state .now)))
     (sym (c .before .before .before .check-file .ensures) ∙ c .before .enum-told .given .1) (c .check-lent .ensures)
 
 pub check-begin-spec : {M : Type 1} → statement M

@@ -15,7 +15,7 @@ returns : tie.Need-returns
 returns c =
     let args = c .before .before .before .before .before .before .args in
     let check-file = c .before .before .before .check-file in
-    refuses (drop 1 (continueChecks (args .file .now) (args .n) (args .state .now))) (sym (check-file .ensures) ∙ c .before .checked .given .1)
+    refuses (drop 1 (continueChecks (args .format) (args .file .now) (args .n) (args .state .now))) (sym (check-file .ensures) ∙ c .before .checked .given .1)
 
 enum-told : tie.Need-enum-told
 enum-told c = search needs
@@ -29,7 +29,7 @@ returns-2 c =
     let check-file = c .before .before .before .before .before .before .check-file in
     let enum-told = c .before .before .before .before .enum-told in
     let check-room = c .before .before .before .check-room in
-    continue-room (args .file .now) (args .n) (args .state .now) (sym (check-file .ensures) ∙ enum-told .given .1) _ (sym (check-room .ensures) ∙ c .before .room .given .1)
+    continue-room (args .format) (args .file .now) (args .n) (args .state .now) (sym (check-file .ensures) ∙ enum-told .given .1) _ (sym (check-room .ensures) ∙ c .before .room .given .1)
 
 is-sound-requires : tie.Need-is-sound-requires
 is-sound-requires c κs =
@@ -48,14 +48,14 @@ returns-3 c =
     let check-room = c .before .before .before .before .before .check-room in
     let enum-told2 = c .before .before .before .enum-told2 in
     c .refuse .ensures
-    ∙ continue-unsound (args .file .now) (args .n) (args .state .now) (sym (check-file .ensures) ∙ enum-told .given .1)
+    ∙ continue-unsound (args .format) (args .file .now) (args .n) (args .state .now) (sym (check-file .ensures) ∙ enum-told .given .1)
     (sym (check-room .ensures) ∙ enum-told2 .given .1) (sym (c .before .before .is-sound .ensures) ∙ not-true _ (c .before .if1 .taken))
 
 get32-requires : tie.Need-get32-requires
 get32-requires c κs =
     let args = c .before .before .before .before .before .before .before .before .before .before .args in
     let check-room = c .before .before .before .before .check-room in
-    let l = long-enough (length (args .state .now)) (stateSize (cellsOf (args .file .now))) (sym (check-room .ensures) ∙ c .before .before .enum-told2 .given .1) in
+    let l = long-enough (length (args .state .now)) (stateSize (args .format) (cellsOf (args .file .now))) (sym (check-room .ensures) ∙ c .before .before .enum-told2 .given .1) in
     omega (arith, l)
 
 returns-4 : tie.Need-returns-4
@@ -68,7 +68,7 @@ returns-4 c =
     let is-sound = c .before .before .before .before .is-sound in
     let if1 = c .before .before .before .if1 in
     c .refuse2 .ensures
-    ∙ continue-late (args .file .now) (args .n) (args .state .now) (sym (check-file .ensures) ∙ enum-told .given .1)
+    ∙ continue-late (args .format) (args .file .now) (args .n) (args .state .now) (sym (check-file .ensures) ∙ enum-told .given .1)
     (sym (check-room .ensures) ∙ enum-told2 .given .1) (sym (is-sound .ensures) ∙ not-false _ (if1 .left)) (omega (arith, c .before .before .get32 .ensures))
 
 returns-5 : tie.Need-returns-5
@@ -79,7 +79,7 @@ returns-5 c =
     let check-room = c .before .before .before .before .before .before .check-room in
     let enum-told2 = c .before .before .before .before .enum-told2 in
     let is-sound = c .before .before .before .is-sound in
-    continue-right (args .file .now) (args .n) (args .state .now) (sym (check-file .ensures) ∙ enum-told .given .1)
+    continue-right (args .format) (args .file .now) (args .n) (args .state .now) (sym (check-file .ensures) ∙ enum-told .given .1)
     (sym (check-room .ensures) ∙ enum-told2 .given .1) (sym (is-sound .ensures) ∙ not-false _ (c .before .before .if1 .left)) (omega (arith, c .before .get32 .ensures))
 
 pub check-continue-spec : {M : Type 1} → statement M

@@ -12,7 +12,7 @@ use Rattle.simulator.proofs.checks.check_lent.Tie as tie
 returns : tie.Need-returns
 returns c =
     let args = c .before .before .before .before .before .args in
-    c .refuse .ensures ∙ short-words (args .words .now) (short (length (args .state .now)) (stateSize (cellsOf (args .file .now)))) (c .before .if1 .taken)
+    c .refuse .ensures ∙ short-words (args .words .now) (short (length (args .state .now)) (stateSize (args .format) (cellsOf (args .file .now)))) (c .before .if1 .taken)
 
 returns-2 : tie.Need-returns-2
 returns-2 c =

@@ -11,21 +11,21 @@ use Rattle.simulator.proofs.checks.check_start.Tie as tie
 returns : tie.Need-returns
 returns c =
     let args = c .before .before .before .before .before .before .args in
-    sym (refused-append (continueChecks (args .file .now) 1 (args .state .now)) (numberCheck (args .state .now)) _ (sym (c .before .before .before .check-continue .ensures) ∙ c .before .checked .given .1))
+    sym (refused-append (continueChecks (args .format) (args .file .now) 1 (args .state .now)) (numberCheck (args .state .now)) _ (sym (c .before .before .before .check-continue .ensures) ∙ c .before .checked .given .1))
 
 get32-requires : tie.Need-get32-requires
 get32-requires c κs =
-    omega (arith, continue-accepted (c .before .before .before .before .before .args .file .now) 1 (c .before .before .before .before .before .args .state .now) (sym (c .before .before .check-continue .ensures) ∙ c .enum-told .given .1) .0 .room)
+    omega (arith, continue-accepted (c .before .before .before .before .before .args .format) (c .before .before .before .before .before .args .file .now) 1 (c .before .before .before .before .before .args .state .now) (sym (c .before .before .check-continue .ensures) ∙ c .enum-told .given .1) .0 .room)
 
 returns-2 : tie.Need-returns-2
 returns-2 c =
     let args = c .before .before .before .before .before .before .before .before .args in
-    c .refuse .ensures ∙ start-flying (args .file .now) (args .state .now) (sym (c .before .before .before .before .before .check-continue .ensures) ∙ c .before .before .before .enum-told .given .1) (omega (arith, c .before .if1 .taken, c .before .before .get32 .ensures))
+    c .refuse .ensures ∙ start-flying (args .format) (args .file .now) (args .state .now) (sym (c .before .before .before .before .before .check-continue .ensures) ∙ c .before .before .before .enum-told .given .1) (omega (arith, c .before .if1 .taken, c .before .before .get32 .ensures))
 
 returns-3 : tie.Need-returns-3
 returns-3 c =
     let args = c .before .before .before .before .before .before .before .args in
-    start-right (args .file .now) (args .state .now) (sym (c .before .before .before .before .check-continue .ensures) ∙ c .before .before .enum-told .given .1) (omega (arith, c .if1 .left, c .before .get32 .ensures))
+    start-right (args .format) (args .file .now) (args .state .now) (sym (c .before .before .before .before .check-continue .ensures) ∙ c .before .before .enum-told .given .1) (omega (arith, c .if1 .left, c .before .get32 .ensures))
 
 pub check-start-spec : {M : Type 1} → statement M
 check-start-spec =

@@ -2,6 +2,7 @@
 use native.Mathlib.Omega.{arith}
 use lib.Pow.{pow-pos}
 use Rattle.simulator.proofs.Counting.{Counts, counts-none, counts-byte, counts-more, mask, counts-rest, counts-all}
+use borrow.Author.Needs.{needs}
 use Rattle.simulator.proofs.flight.ones.Statement.{statement}
 use Rattle.simulator.proofs.flight.ones.Tie as tie
 
@@ -12,24 +13,24 @@ abbrev μ-loop : tie.MeasureT-loop
 μ-loop s k d at₀ left₀ sum₀ at left sum = left
 
 loop-holds : tie.Need-loop-holds Inv-loop μ-loop
-loop-holds c = counts-none _ _ _
+loop-holds c = rw (c .base .ensures) (counts-none _ _ _)
 
 shared-slice-read-sum : tie.Need-shared-slice-read-sum Inv-loop μ-loop
-shared-slice-read-sum c = omega (arith, c .before .before .before .pre, c .before .before .loop .inv .place, c .before .before .loop .inv .rest)
+shared-slice-read-sum c = omega (arith, c .before .before .before .before .before .pre, c .before .before .loop .inv .place, c .before .before .loop .inv .rest)
 
 add-sum : tie.Need-add-sum Inv-loop μ-loop
 add-sum c =
-    omega (arith, c .before .before .loop .inv .low, c .before .before .loop .inv .rest, counts-byte (c .before .before .loop .inv) (omega (arith, c .shared-slice-known .given (c .before .before .loop .at))))
+    omega (arith, c .before .before .loop .inv .low, c .before .before .loop .inv .rest, counts-byte (c .before .before .loop .inv) (omega (arith, c .before .before .before .before .shared-slice-known .given (c .before .before .loop .at))))
 
-add-at-3 : tie.Need-add-at-3 Inv-loop μ-loop
-add-at-3 c = omega (arith, c .before .before .loop .inv .place, c .before .before .loop .inv .rest)
+add-at-2 : tie.Need-add-at-2 Inv-loop μ-loop
+add-at-2 c = omega (arith, c .before .before .loop .inv .place, c .before .before .loop .inv .rest)
 
 loop-again : tie.Need-loop-again Inv-loop μ-loop
 loop-again c =
-    counts-more (c .before .before .loop .inv) (c .before .loop-test .taken) (omega (arith, c .shared-slice-known .given (c .before .before .loop .at)))
+    counts-more (c .before .before .loop .inv) (c .before .loop-test .taken) (omega (arith, c .before .before .before .before .shared-slice-known .given (c .before .before .loop .at)))
 
 shared-slice-read-result : tie.Need-shared-slice-read-result Inv-loop μ-loop
-shared-slice-read-result c = omega (arith, c .before .before .before .pre, c .before .before .loop .inv .place, c .before .before .loop .inv .rest)
+shared-slice-read-result c = omega (arith, c .before .before .before .before .before .pre, c .before .before .loop .inv .place, c .before .before .loop .inv .rest)
 
 rem-result : tie.Need-rem-result Inv-loop μ-loop
 rem-result c = rw (mask (c .before .before .loop .inv) (omega arith)) (pow-pos (c .before .before .loop .left))
@@ -47,13 +48,12 @@ ones-spec =
     (tie.spec
     Inv-loop
     μ-loop
-    (λ c. omega arith)
-    (λ c. omega arith)
+    (λ c κs. search needs)
     (λ c. omega arith)
     loop-holds
     shared-slice-read-sum
     add-sum
-    add-at-3
+    add-at-2
     (λ c. omega arith)
     loop-again
     shared-slice-read-result

@@ -11,15 +11,10 @@ use Rattle.simulator.proofs.instant.next_value.Statement.{statement}
 use Rattle.simulator.proofs.instant.next_value.Tie as tie
 
 returns : tie.Need-returns
-returns c = sym (next-constant _ _ _ _ _ (c .if1 .taken))
-
-sub-line-bit : tie.Need-sub-line-bit
-sub-line-bit c =
-    let pre = c .before .before .before .before .before .pre in
-    pre .sees .delay (c .before .if2 .taken)
+returns c = sym (next-constant _ _ _ _ _ _ (c .if1 .taken))
 
 returns-2 : tie.Need-returns-2
-returns-2 c = c .line-bit .ensures ∙ sym (next-delay _ _ _ _ _ (c .before .before .if2 .taken))
+returns-2 c = c .line-out .ensures ∙ sym (next-delay _ _ _ _ _ _ (c .before .if2 .taken))
 
 has-fallen-requires : tie.Need-has-fallen-requires
 has-fallen-requires c κs =
@@ -30,12 +25,12 @@ has-fallen-requires c κs =
 returns-3 : tie.Need-returns-3
 returns-3 c =
     let if3 = c .before .before .before .if3 in
-    c .before-at .ensures ∙ sym (next-fallen _ _ _ _ _ (if3 .taken) (sym (c .before .before .has-fallen .ensures) ∙ c .before .if4 .taken))
+    c .before-at .ensures ∙ sym (next-fallen _ _ _ _ _ _ (if3 .taken) (sym (c .before .before .has-fallen .ensures) ∙ c .before .if4 .taken))
 
 returns-4 : tie.Need-returns-4
 returns-4 c =
     let if3 = c .before .before .before .if3 in
-    c .before-at2 .ensures ∙ sym (next-kept _ _ _ _ _ (if3 .taken) (sym (c .before .before .has-fallen .ensures) ∙ c .before .if4 .left))
+    c .before-at2 .ensures ∙ sym (next-kept _ _ _ _ _ _ (if3 .taken) (sym (c .before .before .has-fallen .ensures) ∙ c .before .if4 .left))
 
 now-at-requires : tie.Need-now-at-requires
 now-at-requires c κs =
@@ -52,54 +47,54 @@ element-now-requires c κs =
 returns-5 : tie.Need-returns-5
 returns-5 c =
     let args = c .before .before .before .before .before .before .before .before .before .before .before .args in
-    cc (next-start (args .starts) (netOf (args .cells .now) (args .n)) (args .state .now) (args .k) (args .c) (c .before .match .keys1))
+    cc (next-start (args .format) (args .starts) (netOf (args .cells .now) (args .n)) (args .state .now) (args .k) (args .c) (c .before .match .keys1))
 
 returns-6 : tie.Need-returns-6
 returns-6 c =
     let args = c .before .before .before .before .before .before .before .before .before .before .before .args in
-    cc (next-or (args .starts) (netOf (args .cells .now) (args .n)) (args .state .now) (args .k) (args .c) (c .before .match .keys2))
+    cc (next-or (args .format) (args .starts) (netOf (args .cells .now) (args .n)) (args .state .now) (args .k) (args .c) (c .before .match .keys2))
 
 returns-7 : tie.Need-returns-7
 returns-7 c =
     let args = c .before .before .before .before .before .before .before .before .before .before .before .args in
-    cc (next-when-true (args .starts) (netOf (args .cells .now) (args .n)) (args .state .now) (args .k) (args .c) (c .before .match .keys3))
+    cc (next-when-true (args .format) (args .starts) (netOf (args .cells .now) (args .n)) (args .state .now) (args .k) (args .c) (c .before .match .keys3))
 
 returns-8 : tie.Need-returns-8
 returns-8 c =
     let args = c .before .before .before .before .before .before .before .before .before .before .before .args in
-    cc (next-when-false (args .starts) (netOf (args .cells .now) (args .n)) (args .state .now) (args .k) (args .c) (c .before .match .keys4))
+    cc (next-when-false (args .format) (args .starts) (netOf (args .cells .now) (args .n)) (args .state .now) (args .k) (args .c) (c .before .match .keys4))
 
 returns-9 : tie.Need-returns-9
 unfolding merges
 returns-9 c =
     let args = c .before .before .before .before .before .before .before .before .before .before .before .args in
-    cc (next-merge (args .starts) (netOf (args .cells .now) (args .n)) (args .state .now) (args .k) (args .c) (rw (c .before .match .keys5) refl))
+    cc (next-merge (args .format) (args .starts) (netOf (args .cells .now) (args .n)) (args .state .now) (args .k) (args .c) (rw (c .before .match .keys5) refl))
 
 returns-10 : tie.Need-returns-10
 unfolding merges
 returns-10 c =
     let args = c .before .before .before .before .before .before .before .before .before .before .before .args in
-    cc (next-merge (args .starts) (netOf (args .cells .now) (args .n)) (args .state .now) (args .k) (args .c) (rw (c .before .match .keys6) refl))
+    cc (next-merge (args .format) (args .starts) (netOf (args .cells .now) (args .n)) (args .state .now) (args .k) (args .c) (rw (c .before .match .keys6) refl))
 
 returns-11 : tie.Need-returns-11
 returns-11 c =
     let now-at = c .before .before .before .now-at in
-    c .before .before .now-at2 .ensures ∙ sym (next-gate-open _ _ _ _ _ (c .before .match .keys7) (sym (now-at .ensures) ∙ c .if5 .taken))
+    c .before .before .now-at2 .ensures ∙ sym (next-gate-open _ _ _ _ _ _ (c .before .match .keys7) (sym (now-at .ensures) ∙ c .if5 .taken))
 
 returns-12 : tie.Need-returns-12
 returns-12 c =
     let now-at = c .before .before .before .now-at in
-    sym (next-gate-shut _ _ _ _ _ (c .before .match .keys7) (λ e. c .if5 .left (now-at .ensures ∙ e)))
+    sym (next-gate-shut _ _ _ _ _ _ (c .before .match .keys7) (λ e. c .if5 .left (now-at .ensures ∙ e)))
 
 returns-13 : tie.Need-returns-13
 returns-13 c =
     let args = c .before .before .before .before .before .before .before .before .before .before .before .args in
-    cc (next-read (args .starts) (netOf (args .cells .now) (args .n)) (args .state .now) (args .k) (args .c) (c .before .match .keys8))
+    cc (next-read (args .format) (args .starts) (netOf (args .cells .now) (args .n)) (args .state .now) (args .k) (args .c) (c .before .match .keys8))
 
 returns-14 : tie.Need-returns-14
 returns-14 c =
     let args = c .before .before .before .before .before .before .before .before .before .before .before .before .before .args in
-    cc (next-operator (args .starts) (netOf (args .cells .now) (args .n)) (args .state .now) (args .k) (args .c) (c .before .before .if6 .left) (omega arith))
+    cc (next-operator (args .format) (args .starts) (netOf (args .cells .now) (args .n)) (args .state .now) (args .k) (args .c) (c .before .before .if6 .left) (omega arith))
 
 returns-15 : tie.Need-returns-15
 returns-15 c =
@@ -108,7 +103,7 @@ returns-15 c =
     let match = c .before .match in
     let if3 = c .before .before .before .before .if3 in
     sym
-    (next-still _ _ _ _ _
+    (next-still _ _ _ _ _ _
     (record {
       operator = no-operator-low _ (c .if6 .taken);
       constant = if1 .left;
@@ -131,7 +126,7 @@ returns-16 c =
     let match = c .before .before .match in
     let if3 = c .before .before .before .before .before .if3 in
     sym
-    (next-still _ _ _ _ _
+    (next-still _ _ _ _ _ _
     (record {
       operator = no-operator-high _ (c .if7 .left);
       constant = if1 .left;
@@ -147,14 +142,16 @@ returns-16 c =
       read = match .rest .1;
     }))
 
+line-out-requires : tie.Need-line-out-requires
+line-out-requires c κs =
+    (c .before .before .before .before .pre .stands, c .before .before .before .before .pre .sees .delay (c .if2 .taken))
+
 pub next-value-spec : {M : Type 1} → statement M
 next-value-spec =
     tie.close
     (tie.spec
     returns
-    (λ c. search needs)
-    sub-line-bit
-    (λ c κs. search needs)
+    line-out-requires
     returns-2
     (λ c. search needs)
     (λ c. search needs)

@@ -13,21 +13,18 @@ use Rattle.simulator.proofs.instant.settle.Tie as tie
 is-high-requires : tie.Need-is-high-requires
 is-high-requires c κs = c .before .before .before .before .before .pre .1 .a (λ e. omega (arith, c .before .if1 .taken))
 
-sub-line-bit : tie.Need-sub-line-bit
-sub-line-bit c = omega (arith, c .before .before .before .before .before .before .before .before .pre .1 .delay (c .before .before .before .before .if1 .taken))
-
 sub-result : tie.Need-sub-result
 sub-result c =
-    let args = c .before .before .before .before .before .before .before .before .before .before .before .before .before .before .args in
-    let moves = delay-moves (args .state .now) (args .k) (args .c) (c .before .before .before .before .before .before .before .before .before .before .if1 .taken) in
-    omega (arith, c .before .before .before .before .before .before .before .before .before .before .before .before .before .before .pre .3, moves .0, moves .1, c .before .before .before .before .before .line-bit .ensures, c .bit .ensures, ap bit (c .before .before .before .before .before .before .before .before .is-high .ensures))
+    let args = c .before .before .before .before .before .before .before .before .before .before .before .before .before .args in
+    let moves = delay-moves (args .format) (args .state .now) (args .k) (args .c) (c .before .before .before .before .before .before .before .before .before .if1 .taken) in
+    omega (arith, c .before .before .before .before .before .before .before .before .before .before .before .before .before .pre .3, moves .0, moves .1, c .before .before .before .before .before .line-out .ensures, c .bit .ensures, ap bit (c .before .before .before .before .before .before .before .is-high .ensures))
 
 returns : tie.Need-returns
 returns c =
-    let args = c .before .before .before .before .before .before .before .before .before .before .before .before .before .before .args in
-    let delay = c .before .before .before .before .before .before .before .before .before .before .if1 .taken in
-    let moves = delay-moves (args .state .now) (args .k) (args .c) delay in
-    (cc (settle-delay (args .state .now) (args .k) (args .c) delay), omega (arith, c .before .before .before .before .before .before .before .before .before .before .before .before .before .before .pre .3, moves .0, moves .1, c .before .before .before .before .before .line-bit .ensures, c .bit .ensures, ap bit (c .before .before .before .before .before .before .before .before .is-high .ensures)))
+    let args = c .before .before .before .before .before .before .before .before .before .before .before .before .before .args in
+    let delay = c .before .before .before .before .before .before .before .before .before .if1 .taken in
+    let moves = delay-moves (args .format) (args .state .now) (args .k) (args .c) delay in
+    (cc (settle-delay (args .format) (args .state .now) (args .k) (args .c) delay), omega (arith, c .before .before .before .before .before .before .before .before .before .before .before .before .before .pre .3, moves .0, moves .1, c .before .before .before .before .before .line-out .ensures, c .bit .ensures, ap bit (c .before .before .before .before .before .before .before .is-high .ensures)))
 
 is-high-requires-2 : tie.Need-is-high-requires-2
 is-high-requires-2 c κs =
@@ -42,26 +39,30 @@ sub-result-2 : tie.Need-sub-result-2
 sub-result-2 c =
     let args = c .before .before .before .before .before .before .before .before .before .before .before .before .before .before .before .before .before .before .before .before .args in
     let merge = sym (c .before .before .before .before .before .before .before .before .before .before .before .before .before .before .before .is-merge .ensures) ∙ c .before .before .before .before .before .before .before .before .before .before .before .before .before .before .if2 .taken in
-    let moves = merge-moves (args .state .now) (args .k) (args .c) (c .before .before .before .before .before .before .before .before .before .before .before .before .before .before .before .before .if1 .left) merge in
-    let comes : c .before .held-bits .result ≡ comesIn (args .state .now) (args .k) (args .c) = cc (moves .0) in
-    let goes : c .held-bits2 .result ≡ goesOut (args .state .now) (args .k) (args .c) = cc (moves .1) in
+    let moves = merge-moves (args .format) (args .state .now) (args .k) (args .c) (c .before .before .before .before .before .before .before .before .before .before .before .before .before .before .before .before .if1 .left) merge in
+    let comes : c .before .held-bits .result ≡ comesIn (args .format) (args .state .now) (args .k) (args .c) = cc (moves .0) in
+    let goes : c .held-bits2 .result ≡ goesOut (args .format) (args .state .now) (args .k) (args .c) = cc (moves .1) in
     omega (arith, c .before .before .before .before .before .before .before .before .before .before .before .before .before .before .before .before .before .before .before .before .pre .3, comes, goes)
 
 returns-2 : tie.Need-returns-2
 returns-2 c =
     let args = c .before .before .before .before .before .before .before .before .before .before .before .before .before .before .before .before .before .before .before .before .args in
     let merge = sym (c .before .before .before .before .before .before .before .before .before .before .before .before .before .before .before .is-merge .ensures) ∙ c .before .before .before .before .before .before .before .before .before .before .before .before .before .before .if2 .taken in
-    let moves = merge-moves (args .state .now) (args .k) (args .c) (c .before .before .before .before .before .before .before .before .before .before .before .before .before .before .before .before .if1 .left) merge in
-    let comes : c .before .held-bits .result ≡ comesIn (args .state .now) (args .k) (args .c) = cc (moves .0) in
-    let goes : c .held-bits2 .result ≡ goesOut (args .state .now) (args .k) (args .c) = cc (moves .1) in
-    (cc (settle-merge (args .state .now) (args .k) (args .c) merge), omega (arith, c .before .before .before .before .before .before .before .before .before .before .before .before .before .before .before .before .before .before .before .before .pre .3, comes, goes))
+    let moves = merge-moves (args .format) (args .state .now) (args .k) (args .c) (c .before .before .before .before .before .before .before .before .before .before .before .before .before .before .before .before .if1 .left) merge in
+    let comes : c .before .held-bits .result ≡ comesIn (args .format) (args .state .now) (args .k) (args .c) = cc (moves .0) in
+    let goes : c .held-bits2 .result ≡ goesOut (args .format) (args .state .now) (args .k) (args .c) = cc (moves .1) in
+    (cc (settle-merge (args .format) (args .state .now) (args .k) (args .c) merge), omega (arith, c .before .before .before .before .before .before .before .before .before .before .before .before .before .before .before .before .before .before .before .before .pre .3, comes, goes))
 
 returns-3 : tie.Need-returns-3
 returns-3 c =
     let args = c .before .before .before .before .before .before .args in
     let none = sym (c .before .is-merge .ensures) ∙ c .if2 .left in
-    let moves = none-moves (args .state .now) (args .k) (args .c) (c .before .before .if1 .left) none in
-    (sym (settle-other _ _ _ (c .before .before .if1 .left) none), omega (arith, moves .0, moves .1))
+    let moves = none-moves (args .format) (args .state .now) (args .k) (args .c) (c .before .before .if1 .left) none in
+    (sym (settle-other _ _ _ _ (c .before .before .if1 .left) none), omega (arith, moves .0, moves .1))
+
+line-out-requires : tie.Need-line-out-requires
+line-out-requires c κs =
+    (c .before .before .before .before .before .before .before .pre .0, c .before .before .before .before .before .before .before .pre .1 .delay (c .before .before .before .if1 .taken))
 
 pub settle-spec : {M : Type 1} → statement M
 settle-spec =
@@ -70,9 +71,7 @@ settle-spec =
     (λ c. search needs)
     (λ c. search needs)
     is-high-requires
-    (λ c. search needs)
-    sub-line-bit
-    (λ c κs. search needs)
+    line-out-requires
     (λ c κs. search needs)
     (λ c κs. search needs)
     (λ c. search needs)

@@ -4,26 +4,35 @@ use native.Mathlib.Omega.{arith}
 use borrow.Author.Needs.{needs}
 use Rattle.simulator.proofs.Cells.{net-length, refits}
 use Rattle.simulator.proofs.Passes.{stepped}
-use Rattle.simulator.proofs.InFlight.{step-numbered}
+use Rattle.simulator.proofs.InFlight.{step-ready}
+use Rattle.simulator.proofs.Stepping.{step-crowding, step-spares}
 use Rattle.simulator.proofs.instant.step.Statement.{statement}
 use Rattle.simulator.proofs.instant.step.Tie as tie
 
 show-all-requires : tie.Need-show-all-requires
 show-all-requires c κs =
-    refits (c .before .before .before .before .before .before .before .before .before .before .before .pre .0) (omega arith) (c .before .before .before .age-all .kept .0 ∙ c .before .before .before .before .before .before .before .tick .kept .0)
+    refits (c .before .before .before .before .before .before .before .before .before .before .before .pre .0) (omega arith) (c .before .before .before .age-all .kept .1 .0 ∙ c .before .before .before .before .before .before .before .tick .kept .0)
 
 settle-all-requires : tie.Need-settle-all-requires
 settle-all-requires c κs =
     let args = c .before .before .before .before .before .before .before .before .before .before .before .before .before .before .before .args in
     let pre = c .before .before .before .before .before .before .before .before .before .before .before .before .before .before .before .pre in (
-      refits (pre .0) (omega arith) (c .before .before .before .show-all .kept .1 .1 .1 .0 ∙ c .before .before .before .before .before .before .before .age-all .kept .0 ∙ c .before .before .before .before .before .before .before .before .before .before .before .tick .kept .0),
-      step-numbered _ (pre .0 .ordered) _ (net-length (args .cells .now) (args .n)) _ (args .starts) _ _ _ (pre .2) (c .before .before .before .before .before .before .before .before .before .before .before .tick .ensures) (c .before .before .before .before .before .before .before .age-all .ensures) (c .before .before .before .show-all .ensures),
+      refits (pre .0) (omega arith) (c .before .before .before .show-all .kept .1 .1 .1 .1 .0 ∙ c .before .before .before .before .before .before .before .age-all .kept .1 .0 ∙ c .before .before .before .before .before .before .before .before .before .before .before .tick .kept .0),
+      step-ready (args .format) _ (pre .0 .ordered) _ (net-length (args .cells .now) (args .n)) _ (args .starts) _ _ _ (pre .2) (c .before .before .before .before .before .before .before .before .before .before .before .tick .ensures) (c .before .before .before .before .before .before .before .age-all .ensures) (c .before .before .before .show-all .ensures),
     )
 
 returns : tie.Need-returns
 returns c =
     let args = c .before .before .before .before .before .before .before .before .before .before .before .before .before .before .before .before .before .before .args in
-    stepped _ _ (net-length (args .cells .now) (args .n)) _ (args .starts) _ _ _ _ (c .before .before .before .before .before .before .before .before .before .before .before .before .before .before .tick .ensures) (c .before .before .before .before .before .before .before .before .before .before .age-all .ensures) (c .before .before .before .before .before .before .show-all .ensures) (c .before .before .settle-all .ensures)
+    let pre = c .before .before .before .before .before .before .before .before .before .before .before .before .before .before .before .before .before .before .pre in
+    let F = args .format in
+    let long = net-length (args .cells .now) (args .n) in
+    let done = c .before .before .settle-all .ensures in
+    let crowding = step-crowding F _ (pre .0 .ordered) _ long (args .starts) _ _ _ _ (c .before .before .before .before .before .before .before .before .before .before .before .before .before .before .tick .ensures) (c .before .before .before .before .before .before .before .before .before .before .age-all .ensures) (c .before .before .before .before .before .before .show-all .ensures) in
+    let spares = step-spares F _ (pre .0 .ordered) _ long (args .starts) _ _ _ _ (c .before .before .before .before .before .before .before .before .before .before .before .before .before .before .tick .ensures) (c .before .before .before .before .before .before .before .before .before .before .age-all .ensures) (c .before .before .before .before .before .before .show-all .ensures) in (
+      done .0 ∙ crowding,
+      (λ e. stepped F _ _ long _ (args .starts) _ _ _ _ (c .before .before .before .before .before .before .before .before .before .before .before .before .before .before .tick .ensures) (c .before .before .before .before .before .before .before .before .before .before .age-all .ensures) (c .before .before .before .before .before .before .show-all .ensures) (done .1 .0 e), λ j h. done .1 .1 j h ∙ spares j h),
+    )
 
 pub step-spec : {M : Type 1} → statement M
 step-spec =

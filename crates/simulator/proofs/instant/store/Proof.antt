@@ -18,15 +18,15 @@ returns c =
     let cells = args .cells .now in
     let next = net-cell cells (args .n) (args .k + 1) (array-address pre array .1) in
     let fallen = sym (c .before .before .before .before .before .before .before .before .before .before .before .before .before .before .has-fallen .ensures) ∙ c .before .before .before .before .before .before .before .before .before .before .before .before .before .if2 .taken in
-    cc (stored-fallen (netOf cells (args .n)) (args .state .now) (args .k) (args .c) (holds-cell pre) array fallen, net-length cells (args .n), next)
+    cc (stored-fallen (args .format) (netOf cells (args .n)) (args .state .now) (args .k) (args .c) (holds-cell pre) array fallen, net-length cells (args .n), next)
 
 returns-2 : tie.Need-returns-2
 returns-2 c =
     let start = c .before .before .before .before .before .before .before in
-    sym (stored-kept _ _ _ _ (holds-cell (start .pre)) (c .before .before .before .before .if1 .taken) (sym (c .before .has-fallen .ensures) ∙ c .if2 .left))
+    sym (stored-kept _ _ _ _ _ (holds-cell (start .pre)) (c .before .before .before .before .if1 .taken) (sym (c .before .has-fallen .ensures) ∙ c .if2 .left))
 
 returns-3 : tie.Need-returns-3
-returns-3 c = sym (stored-other _ _ _ _ (holds-cell (c .before .before .before .pre)) (c .if1 .left))
+returns-3 c = sym (stored-other _ _ _ _ _ (holds-cell (c .before .before .before .pre)) (c .if1 .left))
 
 pub store-spec : {M : Type 1} → statement M
 store-spec =

@@ -20,9 +20,9 @@ begin-state-requires c κs =
     let load = c .before .before .before .load in
     let file : List ℕ = args .file .now in
     let state : List ℕ = args .state .now in (
-      file-fits file state (pre .0) (load .last .0) (load .result) (omega (arith, load .kept .0)) (load .ensures .0) (load .ensures .1),
+      file-fits (args .format) file state (pre .0) (load .last .0) (load .result) (omega (arith, load .kept .0)) (load .ensures .0) (load .ensures .1),
       pre .1,
-      ap memories (load .ensures .1) ∙ file-sixteen file state (pre .0),
+      ap memories (load .ensures .1) ∙ file-sixteen (args .format) file state (pre .0),
     )
 
 returns : tie.Need-returns
@@ -31,8 +31,8 @@ returns c =
     let begin-state = c .before .before .before .before .begin-state in
     let load = c .before .before .before .before .before .before .before .before .load in
     let file : List ℕ = args .file .now in
-    let e = begin-state .ensures ∙ ap (λ (net : List Cell). beginState net (wordAt (args .words .now)) (args .state .now)) (load .ensures .1) in
-    (e, c .shows .ensures ∙ ap (λ (s : List ℕ). shows file s 1) e)
+    let e = begin-state .ensures ∙ ap (λ (net : List Cell). beginState (args .format) net (wordAt (args .words .now)) (args .state .now)) (load .ensures .1) in
+    (e, c .shows .ensures ∙ ap (λ (s : List ℕ). shows (args .format) file s 1) e)
 
 pub begin-spec : {M : Type 1} → statement M
 begin-spec =

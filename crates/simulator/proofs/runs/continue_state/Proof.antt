@@ -1,93 +1,100 @@
 -- `continue_state` meets its contract: what is left to evaluate from the state so far is what there was to evaluate at first.
 -- Assumes nothing.
 use mathlib.Core.List.{List}
-use mathlib.Core.Path.{_≡_, refl, sym, _∙_, ap}
-use Prim.Native.Nat.{ℕ, _+_, _-_, _≤_}
-use native.Mathlib.Nat.{zero-add}
+use mathlib.Core.Path.{_≡_, sym, _∙_, ap}
+use Prim.Native.Nat.{ℕ, _-_}
 use native.Mathlib.Omega.{arith}
-use lib.ListN.{length}
-use Rattle.model.specs.Numbering.{finish}
-use Rattle.model.specs.State.{instantOf}
-use Rattle.laws.specs.State.Passes.{count-now}
-use Rattle.simulator.specs.Fits.{netOf, Numbered}
-use Rattle.simulator.specs.Levels.{lastWith, countWith}
-use Rattle.simulator.proofs.Cells.{refits}
-use Rattle.simulator.proofs.InFlight.{stepped-numbered}
-use Rattle.simulator.proofs.Continuing.{stops, goes-on, all-done}
+use borrow.Author.Needs.{needs}
+use Rattle.model.specs.Circuit.{high}
+use Rattle.model.specs.State.{Course, nowAt}
+use Rattle.simulator.specs.Fits.{netOf}
+use Rattle.simulator.proofs.Cells.{net-length, stands-in, refits}
+use Rattle.simulator.proofs.Continuing.{accepts-none, going-crowded, going-high, going-all}
+use Rattle.simulator.proofs.Stepping.{Underway, underway-none, underway-more}
 use Rattle.simulator.proofs.runs.continue_state.Statement.{statement}
 use Rattle.simulator.proofs.runs.continue_state.Tie as tie
 
 abbrev Inv-loop : tie.InvT-loop
-Inv-loop cells n finish starts state₀ budget count₀ state count =
-    (count ≤ budget) × (length state ≡ length state₀) × (instantOf state + (budget - count) ≤ 1000000) × Numbered (netOf cells n) state
-    × (lastWith (netOf cells n) starts finish (budget - count) state ≡ lastWith (netOf cells n) starts finish budget state₀)
-    × (count + countWith (netOf cells n) starts finish (budget - count) state ≡ countWith (netOf cells n) starts finish budget state₀)
+Inv-loop format cells n finish starts state₀ budget count₀ state count = Underway format (netOf cells n) n starts finish budget state₀ state count
 
 abbrev μ-loop : tie.MeasureT-loop
-μ-loop cells n finish starts state₀ budget count₀ state count = budget - count
+μ-loop format cells n finish starts state₀ budget count₀ state count = budget - count
 
 loop-holds : tie.Need-loop-holds Inv-loop μ-loop
 loop-holds c =
-    let args = c .before .before .args in
-    let z : args .budget - 0 ≡ args .budget = omega arith in
-    (omega arith, refl, omega (arith, c .before .before .pre .2), c .before .before .pre .3, rw z refl, rw (z, zero-add) refl)
+    underway-none (λ j. omega (arith, c .slice-known .given j)) (c .before .before .pre .2) (c .before .before .pre .3)
 
 step-requires : tie.Need-step-requires Inv-loop μ-loop
 step-requires c κs =
-    let pre = c .before .before .before .before .before .pre in
-    let loop = c .before .before .loop in
-    (refits (pre .0) (omega arith) (loop .inv .1), omega (arith, loop .inv .2), loop .inv .3)
+    (refits (c .before .before .before .before .before .pre .0) (omega arith) (c .before .before .loop .inv .long), omega (arith, c .before .before .loop .inv .instant), c .before .before .loop .inv .ready)
 
-is-high-requires : tie.Need-is-high-requires Inv-loop μ-loop
-is-high-requires c κs =
-    let pre = c .before .before .before .before .before .before .before .before .before .pre in
-    let step = c .before .before .before .step in
-    let loop = c .before .before .before .before .before .before .loop in
-    record { few = omega (arith, pre .0 .few, pre .1); room = omega (arith, pre .0 .room, pre .1, step .kept .1 .1 .1 .0, loop .inv .1) }
+enum-known-checked : tie.Need-enum-known-checked Inv-loop μ-loop
+enum-known-checked c =
+    search needs
 
 same-length : tie.Need-same-length Inv-loop μ-loop
 same-length c =
-    let step = c .before .before .before .before .before .step in
-    let loop = c .before .before .before .before .before .before .before .before .loop in
-    step .kept .1 .1 .1 .0 ∙ loop .inv .1
+    c .before .before .before .before .before .step .kept .1 .1 .1 .1 .0 ∙ c .before .before .before .before .before .before .before .before .loop .inv .long
 
 returns : tie.Need-returns Inv-loop μ-loop
 returns c =
     let args = c .before .before .before .before .before .before .before .before .before .before .before .args in
     let loop = c .before .before .before .before .before .before .before .before .loop in
-    let loop-test = c .before .before .before .before .before .before .before .loop-test in
     let step = c .before .before .before .before .before .step in
-    let z = stops (netOf (args .cells .now) (args .n)) (args .starts) (args .finish) (args .budget) (loop .count) (loop .state) _ (omega (arith, loop-test .taken)) (step .ensures)
-    (sym (c .before .is-high .ensures) ∙ c .if1 .taken) in
-    (sym (z .0) ∙ loop .inv .4, omega (arith, z .1, loop .inv .5))
-
-loop-again : tie.Need-loop-again Inv-loop μ-loop
-loop-again c =
-    let start = c .before .before .before .before .before .before .before .before .before .before .before in
-    let args = start .args in
-    let loop = c .before .before .before .before .before .before .before .before .loop in
-    let loop-test = c .before .before .before .before .before .before .before .loop-test in
-    let step = c .before .before .before .before .before .step in
-    let pre = start .pre in
+    let F = args .format in
     let net = netOf (args .cells .now) (args .n) in
-    let z = goes-on net (args .starts) (args .finish) (args .budget) (loop .count) (loop .state) _ (omega (arith, loop-test .taken)) (step .ensures) (sym (c .before .is-high .ensures) ∙ c .if1 .left) in (
-      omega arith,
-      step .kept .1 .1 .1 .0 ∙ loop .inv .1,
-      omega (arith, ap (λ (s : List ℕ). instantOf s) (step .ensures), count-now net (args .starts) (loop .state) (omega (arith, pre .0 .room, loop .inv .1)), loop .inv .2),
-      stepped-numbered net (pre .0 .ordered) (args .starts) (loop .state) _ (omega (arith, pre .0 .room, loop .inv .1)) (step .ensures),
-      sym (z .0) ∙ loop .inv .4,
-      omega (arith, z .1, loop .inv .5),
-    )
+    let z = going-crowded F net (args .starts) (args .finish) (loop .inv .going) (c .before .before .before .before .before .before .before .loop-test .taken) _ (sym (step .ensures .0) ∙ c .before .checked .given .1) in
+    (sym (z .0), (sym (z .1), (λ e. accepts-none (sym e), λ j h. step .ensures .1 .1 j h ∙ loop .inv .spares j h)))
+
+enum-told : tie.Need-enum-told Inv-loop μ-loop
+enum-told c =
+    search needs
+
+is-high-requires : tie.Need-is-high-requires Inv-loop μ-loop
+is-high-requires c κs =
+    stands-in (c .before .before .before .before .before .before .before .before .before .before .before .args .format) _ (c .before .before .before .before .before .before .before .before .before .before .before .args .finish) (c .before .before .before .before .before .before .before .before .before .before .before .args .n) (c .before .before .before .before .before .before .before .before .before .before .before .pre .1) (c .before .before .before .before .before .before .before .before .before .before .before .pre .0 .few) (omega (arith, c .before .before .before .before .before .before .before .before .before .before .before .pre .0 .room, c .before .before .before .before .before .step .kept .1 .1 .1 .1 .0, c .before .before .before .before .before .before .before .before .loop .inv .long))
 
 same-length-2 : tie.Need-same-length-2 Inv-loop μ-loop
-same-length-2 c = c .before .loop .inv .1
+same-length-2 c =
+    c .before .before .before .before .before .before .before .step .kept .1 .1 .1 .1 .0 ∙ c .before .before .before .before .before .before .before .before .before .before .loop .inv .long
 
 returns-2 : tie.Need-returns-2 Inv-loop μ-loop
 returns-2 c =
+    let args = c .before .before .before .before .before .before .before .before .before .before .before .before .before .args in
+    let loop = c .before .before .before .before .before .before .before .before .before .before .loop in
+    let step = c .before .before .before .before .before .before .before .step in
+    let F = args .format in
+    let net = netOf (args .cells .now) (args .n) in
+    let accepted = c .before .before .before .enum-told .given .1 in
+    let free = sym (step .ensures .0) ∙ accepted in
+    let is = step .ensures .1 .0 accepted in
+    let up = ap (λ (s : List ℕ). high (nowAt F s (args .finish))) (sym is) ∙ sym (c .before .is-high .ensures) ∙ c .if1 .taken in
+    let z = sym (going-high F net (args .starts) (args .finish) (loop .inv .going) (c .before .before .before .before .before .before .before .before .before .loop-test .taken) free up) in
+    (ap (λ (x : Course). x .check) z, (ap (λ (x : Course). x .count) z, (λ e. is ∙ ap (λ (x : Course). x .state) z, λ j h. step .ensures .1 .1 j h ∙ loop .inv .spares j h)))
+
+loop-again : tie.Need-loop-again Inv-loop μ-loop
+loop-again c =
+    let args = c .before .before .before .before .before .before .before .before .before .before .before .before .before .args in
+    let loop = c .before .before .before .before .before .before .before .before .before .before .loop in
+    let step = c .before .before .before .before .before .before .before .step in
+    let F = args .format in
+    let net = netOf (args .cells .now) (args .n) in
+    let accepted = c .before .before .before .enum-told .given .1 in
+    let free = sym (step .ensures .0) ∙ accepted in
+    let is = step .ensures .1 .0 accepted in
+    underway-more (loop .inv) (c .before .before .before .before .before .before .before .before .before .loop-test .taken) (c .before .before .before .before .before .before .before .before .before .before .before .before .before .pre .0 .ordered) (net-length (args .cells .now) (args .n)) (c .before .before .before .before .before .before .before .before .before .before .before .before .before .pre .0 .room) _ (step .kept .1 .1 .1 .1 .0) (λ j. omega (arith, c .before .before .before .before .before .slice-known2 .given j)) free is
+    (step .ensures .1 .1) (sym (c .before .is-high .ensures) ∙ c .if1 .left)
+
+same-length-3 : tie.Need-same-length-3 Inv-loop μ-loop
+same-length-3 c =
+    c .before .loop .inv .long
+
+returns-3 : tie.Need-returns-3 Inv-loop μ-loop
+returns-3 c =
     let args = c .before .before .before .before .args in
     let loop = c .before .loop in
-    let z = all-done (netOf (args .cells .now) (args .n)) (args .starts) (args .finish) (args .budget - loop .count) (loop .state) (omega arith) in
-    (sym (z .0) ∙ loop .inv .4, omega (arith, z .1, loop .inv .5))
+    let z = sym (going-all (args .format) (netOf (args .cells .now) (args .n)) (args .starts) (args .finish) (loop .inv .going) (c .loop-test .left)) in
+    (ap (λ (x : Course). x .check) z, (ap (λ (x : Course). x .count) z, (λ e. ap (λ (x : Course). x .state) z, loop .inv .spares)))
 
 pub continue-state-spec : {M : Type 1} → statement M
 continue-state-spec =
@@ -97,11 +104,15 @@ continue-state-spec =
     μ-loop
     loop-holds
     step-requires
-    (λ c. omega arith)
-    is-high-requires
+    enum-known-checked
     same-length
     returns
+    enum-told
+    (λ c. omega arith)
+    is-high-requires
+    same-length-2
+    returns-2
     (λ c. omega arith)
     loop-again
-    same-length-2
-    returns-2)
+    same-length-3
+    returns-3)

@@ -6,7 +6,7 @@ use native.Mathlib.Omega.{arith}
 use borrow.Author.Needs.{needs}
 use Rattle.model.specs.Circuit.{high}
 use Rattle.model.specs.State.{nowAt}
-use Rattle.simulator.proofs.AcceptedFile.{file-sized, file-room}
+use Rattle.simulator.proofs.AcceptedFile.{file-sized, file-room, file-stands}
 use Rattle.simulator.proofs.Answers.{answer-shows}
 use Rattle.simulator.proofs.runs.shows.Statement.{statement}
 use Rattle.simulator.proofs.runs.shows.Tie as tie
@@ -15,32 +15,22 @@ get16-requires : tie.Need-get16-requires
 get16-requires c κs =
     let args = c .before .before .before .args in
     let pre = c .before .before .before .pre in
-    let z = file-sized (args .file .now) (args .state .now) pre in
+    let z = file-sized (args .format) (args .file .now) (args .state .now) pre in
     omega (arith, z .some, z .long)
 
 get32-requires : tie.Need-get32-requires
 get32-requires c κs =
     let args = c .before .before .before .before .args in
     let pre = c .before .before .before .before .pre in
-    omega (arith, file-room (args .file .now) (args .state .now) pre)
-
-is-high-requires : tie.Need-is-high-requires
-is-high-requires c κs =
-    let start = c .before .before .before .before .before in
-    let args = start .args in
-    let pre = start .pre in
-    let get16-call = c .before .get16 in
-    let z = file-sized (args .file .now) (args .state .now) pre in
-    let y = file-room (args .file .now) (args .state .now) pre in
-    record { few = omega (arith, get16-call .ensures, z .few, z .finish); room = omega (arith, get16-call .ensures, z .finish, y) }
+    omega (arith, file-room (args .format) (args .file .now) (args .state .now) pre)
 
 returns : tie.Need-returns
 returns c =
     let args = c .before .before .before .before .before .before .before .args in
     let get16-call = c .before .before .before .get16 in
     let words-in = c .before .before .before .before .words-in in
-    answer-shows (args .file .now) (args .state .now) (args .count) true _ _
-    (ap (λ (k : ℕ). high (nowAt (args .state .now) k)) (sym (get16-call .ensures)) ∙ sym (c .before .is-high .ensures) ∙ c .if1 .taken)
+    answer-shows (args .format) (args .file .now) (args .state .now) (args .count) true _ _
+    (ap (λ (k : ℕ). high (nowAt (args .format) (args .state .now) k)) (sym (get16-call .ensures)) ∙ sym (c .before .is-high .ensures) ∙ c .if1 .taken)
     (c .before .before .get32 .ensures) (words-in .ensures)
 
 returns-2 : tie.Need-returns-2
@@ -48,9 +38,15 @@ returns-2 c =
     let args = c .before .before .before .before .before .before .before .args in
     let get16-call = c .before .before .before .get16 in
     let words-in = c .before .before .before .before .words-in in
-    answer-shows (args .file .now) (args .state .now) (args .count) false _ _
-    (ap (λ (k : ℕ). high (nowAt (args .state .now) k)) (sym (get16-call .ensures)) ∙ sym (c .before .is-high .ensures) ∙ c .if1 .left)
+    answer-shows (args .format) (args .file .now) (args .state .now) (args .count) false _ _
+    (ap (λ (k : ℕ). high (nowAt (args .format) (args .state .now) k)) (sym (get16-call .ensures)) ∙ sym (c .before .is-high .ensures) ∙ c .if1 .left)
     (c .before .before .get32 .ensures) (words-in .ensures)
+
+is-high-requires : tie.Need-is-high-requires
+is-high-requires c κs =
+    let args = c .before .before .before .before .before .args in
+    let z = file-sized (args .format) (args .file .now) (args .state .now) (c .before .before .before .before .before .pre) in
+    file-stands (args .format) (args .file .now) (args .state .now) (c .before .before .before .before .before .pre) _ (omega (arith, c .before .get16 .ensures, z .finish))
 
 pub shows-spec : {M : Type 1} → statement M
 shows-spec =

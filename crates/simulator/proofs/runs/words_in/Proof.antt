@@ -7,28 +7,28 @@ use borrow.Author.Needs.{needs}
 use Rattle.model.specs.Circuit.{cellAt}
 use Rattle.model.specs.NetlistFile.{countOf, cellsOf}
 use Rattle.laws.specs.NetlistFile.Passed.{count-cells}
-use Rattle.simulator.proofs.AcceptedFile.{file-cell, file-sized, file-room, file-sixteen}
+use Rattle.simulator.proofs.AcceptedFile.{file-cell, file-sized, file-stands, file-sixteen}
 use Rattle.simulator.proofs.Memories.{Collects, collects-first, collects-room, collects-memory, collects-other, collects-all}
 use Rattle.simulator.proofs.runs.words_in.Statement.{statement}
 use Rattle.simulator.proofs.runs.words_in.Tie as tie
 
 abbrev Inv-loop : tie.InvT-loop
-Inv-loop file state n words₀ j₀ k₀ words j k = (k ≤ n) × Collects (cellsOf file) state words j k
+Inv-loop format file state n words₀ j₀ k₀ words j k = (k ≤ n) × Collects format (cellsOf file) state words j k
 
 abbrev μ-loop : tie.MeasureT-loop
-μ-loop file state n words₀ j₀ k₀ words j k = n - k
+μ-loop format file state n words₀ j₀ k₀ words j k = n - k
 
 get16-requires : tie.Need-get16-requires Inv-loop μ-loop
 get16-requires c κs =
     let args = c .before .before .args in
-    let z = file-sized (args .file .now) (args .state .now) (c .before .before .pre) in
+    let z = file-sized (args .format) (args .file .now) (args .state .now) (c .before .before .pre) in
     omega (arith, z .some, z .long)
 
 loop-holds : tie.Need-loop-holds Inv-loop μ-loop
 loop-holds c =
     let args = c .before .before .before .args in
     let pre = c .before .before .before .pre in
-    (omega arith, collects-first _ _ _ (file-sixteen (args .file .now) (args .state .now) pre) refl)
+    (omega arith, collects-first _ _ _ _ (file-sixteen (args .format) (args .file .now) (args .state .now) pre) refl)
 
 cell-at-requires : tie.Need-cell-at-requires Inv-loop μ-loop
 cell-at-requires c κs =
@@ -36,18 +36,8 @@ cell-at-requires c κs =
     let args = start .args in
     let pre = start .pre in
     let get16-call = c .before .before .get16 in
-    let z = file-sized (args .file .now) (args .state .now) pre in
+    let z = file-sized (args .format) (args .file .now) (args .state .now) pre in
     (omega (arith, get16-call .ensures, z .few), omega (arith, get16-call .ensures, z .long))
-
-now-at-requires : tie.Need-now-at-requires Inv-loop μ-loop
-now-at-requires c κs =
-    let start = c .before .before .before .before .before .before in
-    let args = start .args in
-    let pre = start .pre in
-    let get16-call = c .before .before .before .get16 in
-    let z = file-sized (args .file .now) (args .state .now) pre in
-    let y = file-room (args .file .now) (args .state .now) pre in
-    record { few = omega (arith, get16-call .ensures, z .few); room = omega (arith, get16-call .ensures, y) }
 
 mul-words : tie.Need-mul-words Inv-loop μ-loop
 mul-words c =
@@ -58,7 +48,7 @@ mul-words c =
     let l : loop .k < countOf (args .file .now) = omega (arith, get16-call .ensures) in
     let m : loop .k < length (cellsOf (args .file .now)) = rw (count-cells (args .file .now)) l in
     let e : cellAt (cellsOf (args .file .now)) (loop .k) ≡ cell-at .result = file-cell (args .file .now) (loop .k) l ∙ sym (cell-at .ensures) in
-    omega (arith, collects-room (cellsOf (args .file .now)) (args .state .now) (loop .words) (loop .j) (loop .k) m (cell-at .result) e (loop .inv .1) (c .if1 .taken))
+    omega (arith, collects-room (args .format) (cellsOf (args .file .now)) (args .state .now) (loop .words) (loop .j) (loop .k) m (cell-at .result) e (loop .inv .1) (c .if1 .taken))
 
 array-write-words : tie.Need-array-write-words Inv-loop μ-loop
 array-write-words c =
@@ -69,7 +59,7 @@ array-write-words c =
     let l : loop .k < countOf (args .file .now) = omega (arith, get16-call .ensures) in
     let m : loop .k < length (cellsOf (args .file .now)) = rw (count-cells (args .file .now)) l in
     let e : cellAt (cellsOf (args .file .now)) (loop .k) ≡ cell-at .result = file-cell (args .file .now) (loop .k) l ∙ sym (cell-at .ensures) in
-    omega (arith, collects-room (cellsOf (args .file .now)) (args .state .now) (loop .words) (loop .j) (loop .k) m (cell-at .result) e (loop .inv .1) (c .if1 .taken))
+    omega (arith, collects-room (args .format) (cellsOf (args .file .now)) (args .state .now) (loop .words) (loop .j) (loop .k) m (cell-at .result) e (loop .inv .1) (c .if1 .taken))
 
 add-j : tie.Need-add-j Inv-loop μ-loop
 add-j c =
@@ -80,7 +70,7 @@ add-j c =
     let l : loop .k < countOf (args .file .now) = omega (arith, get16-call .ensures) in
     let m : loop .k < length (cellsOf (args .file .now)) = rw (count-cells (args .file .now)) l in
     let e : cellAt (cellsOf (args .file .now)) (loop .k) ≡ cell-at .result = file-cell (args .file .now) (loop .k) l ∙ sym (cell-at .ensures) in
-    omega (arith, collects-room (cellsOf (args .file .now)) (args .state .now) (loop .words) (loop .j) (loop .k) m (cell-at .result) e (loop .inv .1) (c .if1 .taken))
+    omega (arith, collects-room (args .format) (cellsOf (args .file .now)) (args .state .now) (loop .words) (loop .j) (loop .k) m (cell-at .result) e (loop .inv .1) (c .if1 .taken))
 
 loop-again : tie.Need-loop-again Inv-loop μ-loop
 loop-again c =
@@ -93,7 +83,7 @@ loop-again c =
     let e : cellAt (cellsOf (args .file .now)) (loop .k) ≡ cell-at .result = file-cell (args .file .now) (loop .k) l ∙ sym (cell-at .ensures) in (
       omega arith,
       rw (c .before .before .now-at .ensures)
-          (collects-memory (cellsOf (args .file .now)) (args .state .now) (loop .words) (loop .j) (loop .k) m (cell-at .result) e (loop .inv .1) (c .if1 .taken)),
+          (collects-memory (args .format) (cellsOf (args .file .now)) (args .state .now) (loop .words) (loop .j) (loop .k) m (cell-at .result) e (loop .inv .1) (c .if1 .taken)),
     )
 
 loop-again-2 : tie.Need-loop-again-2 Inv-loop μ-loop
@@ -105,13 +95,17 @@ loop-again-2 c =
     let l : loop .k < countOf (args .file .now) = omega (arith, get16-call .ensures) in
     let m : loop .k < length (cellsOf (args .file .now)) = rw (count-cells (args .file .now)) l in
     let e : cellAt (cellsOf (args .file .now)) (loop .k) ≡ cell-at .result = file-cell (args .file .now) (loop .k) l ∙ sym (cell-at .ensures) in
-    (omega arith, collects-other (cellsOf (args .file .now)) (args .state .now) (loop .words) (loop .j) (loop .k) m (cell-at .result) e (loop .inv .1) (c .if1 .left))
+    (omega arith, collects-other (args .format) (cellsOf (args .file .now)) (args .state .now) (loop .words) (loop .j) (loop .k) m (cell-at .result) e (loop .inv .1) (c .if1 .left))
 
 returns : tie.Need-returns Inv-loop μ-loop
 returns c =
     let args = c .before .before .before .before .before .args in
     let loop = c .before .loop in
-    collects-all (cellsOf (args .file .now)) (args .state .now) (loop .words) (loop .j) (loop .k) (omega (arith, c .before .before .get16 .ensures, count-cells (args .file .now))) (loop .inv .1)
+    collects-all (args .format) (cellsOf (args .file .now)) (args .state .now) (loop .words) (loop .j) (loop .k) (omega (arith, c .before .before .get16 .ensures, count-cells (args .file .now))) (loop .inv .1)
+
+now-at-requires : tie.Need-now-at-requires Inv-loop μ-loop
+now-at-requires c κs =
+    file-stands (c .before .before .before .before .before .before .args .format) (c .before .before .before .before .before .before .args .file .now) (c .before .before .before .before .before .before .args .state .now) (c .before .before .before .before .before .before .pre) (c .before .before .loop .k) (omega (arith, c .before .before .before .get16 .ensures))
 
 pub words-in-spec : {M : Type 1} → statement M
 words-in-spec =

@@ -8,21 +8,21 @@ use borrow.Author.Tests.{not-false, not-true}
 use Rattle.model.specs.NetlistFile.{countOf, cellsOf}
 use Rattle.model.specs.State.{cellsSound}
 use Rattle.laws.specs.NetlistFile.Passed.{count-cells}
-use Rattle.simulator.proofs.AcceptedFile.{file-cell, file-sized, file-room}
+use Rattle.simulator.proofs.AcceptedFile.{file-cell, file-sized, file-stands}
 use Rattle.simulator.proofs.Soundness.{sound-here, unsound-here, sound-none}
 use Rattle.simulator.proofs.sound.cells_sound.Statement.{statement}
 use Rattle.simulator.proofs.sound.cells_sound.Tie as tie
 
 abbrev Inv-loop : tie.InvT-loop
-Inv-loop file s n k₀ k = (k ≤ n) × (cellsSound (drop k (cellsOf file)) s k ≡ cellsSound (cellsOf file) s 0)
+Inv-loop format file s n k₀ k = (k ≤ n) × (cellsSound format (drop k (cellsOf file)) s k ≡ cellsSound format (cellsOf file) s 0)
 
 abbrev μ-loop : tie.MeasureT-loop
-μ-loop file s n k₀ k = n - k
+μ-loop format file s n k₀ k = n - k
 
 get16-requires : tie.Need-get16-requires Inv-loop μ-loop
 get16-requires c κs =
     let args = c .before .before .args in
-    let z = file-sized (args .file .now) (args .s .now) (c .before .before .pre) in
+    let z = file-sized (args .format) (args .file .now) (args .s .now) (c .before .before .pre) in
     omega (arith, z .some, z .long)
 
 loop-holds : tie.Need-loop-holds Inv-loop μ-loop
@@ -34,18 +34,8 @@ cell-at-requires c κs =
     let args = start .args in
     let pre = start .pre in
     let get16-call = c .before .before .get16 in
-    let z = file-sized (args .file .now) (args .s .now) pre in
+    let z = file-sized (args .format) (args .file .now) (args .s .now) pre in
     (omega (arith, get16-call .ensures, z .few), omega (arith, get16-call .ensures, z .long))
-
-cell-sound-requires : tie.Need-cell-sound-requires Inv-loop μ-loop
-cell-sound-requires c κs =
-    let start = c .before .before .before .before .before .before in
-    let args = start .args in
-    let pre = start .pre in
-    let get16-call = c .before .before .before .get16 in
-    let z = file-sized (args .file .now) (args .s .now) pre in
-    let y = file-room (args .file .now) (args .s .now) pre in
-    record { few = omega (arith, get16-call .ensures, z .few); room = omega (arith, get16-call .ensures, y) }
 
 returns : tie.Need-returns Inv-loop μ-loop
 returns c =
@@ -55,7 +45,7 @@ returns c =
     let cell-at = c .before .before .cell-at in
     let l : loop .k < countOf (args .file .now) = omega (arith, get16-call .ensures) in
     sym
-    (unsound-here (cellsOf (args .file .now)) (args .s .now) (loop .k) (rw (count-cells (args .file .now)) l) (cell-at .result)
+    (unsound-here (args .format) (cellsOf (args .file .now)) (args .s .now) (loop .k) (rw (count-cells (args .file .now)) l) (cell-at .result)
     (file-cell (args .file .now) (loop .k) l ∙ sym (cell-at .ensures)) (sym (c .before .cell-sound .ensures) ∙ not-true _ (c .if1 .taken)))
     ∙ loop .inv .1
 
@@ -68,7 +58,7 @@ loop-again c =
     let l : loop .k < countOf (args .file .now) = omega (arith, get16-call .ensures) in (
       omega arith,
       sym
-          (sound-here (cellsOf (args .file .now)) (args .s .now) (loop .k) (rw (count-cells (args .file .now)) l) (cell-at .result)
+          (sound-here (args .format) (cellsOf (args .file .now)) (args .s .now) (loop .k) (rw (count-cells (args .file .now)) l) (cell-at .result)
           (file-cell (args .file .now) (loop .k) l ∙ sym (cell-at .ensures)) (sym (c .before .cell-sound .ensures) ∙ not-false _ (c .if1 .left)))
           ∙ loop .inv .1,
     )
@@ -77,7 +67,11 @@ returns-2 : tie.Need-returns-2 Inv-loop μ-loop
 returns-2 c =
     let args = c .before .before .before .before .before .args in
     let loop = c .before .loop in
-    sym (sound-none (cellsOf (args .file .now)) (args .s .now) (loop .k) (omega (arith, c .before .before .get16 .ensures, count-cells (args .file .now)))) ∙ loop .inv .1
+    sym (sound-none (args .format) (cellsOf (args .file .now)) (args .s .now) (loop .k) (omega (arith, c .before .before .get16 .ensures, count-cells (args .file .now)))) ∙ loop .inv .1
+
+cell-sound-requires : tie.Need-cell-sound-requires Inv-loop μ-loop
+cell-sound-requires c κs =
+    file-stands (c .before .before .before .before .before .before .args .format) (c .before .before .before .before .before .before .args .file .now) (c .before .before .before .before .before .before .args .s .now) (c .before .before .before .before .before .before .pre) (c .before .before .loop .k) (omega (arith, c .before .before .before .get16 .ensures))
 
 pub cells-sound-spec : {M : Type 1} → statement M
 cells-sound-spec =

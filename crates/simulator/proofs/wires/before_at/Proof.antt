@@ -4,7 +4,13 @@ use Rattle.simulator.proofs.wires.before_at.Statement.{statement}
 use Rattle.simulator.proofs.wires.before_at.Tie as tie
 
 returns : tie.Need-returns
-returns c = c .get16 .ensures
+returns c = cc
 
 pub before-at-spec : {M : Type 1} → statement M
-before-at-spec = tie.close (tie.spec (λ c. search needs) (λ c. search needs) (λ c. search needs) (λ c κs. search needs) returns)
+before-at-spec =
+    tie.close
+    (tie.spec
+    (λ c κs. search needs)
+    (λ c. search needs)
+    (λ c κs. search needs)
+    returns)

@@ -7,8 +7,15 @@ use Rattle.simulator.proofs.wires.held_at.Tie as tie
 
 returns : tie.Need-returns
 unfolding heldAt
-returns c = refl
+returns c = rw (c .before .before .base .ensures) refl
 
 pub held-at-spec : {M : Type 1} → statement M
 held-at-spec =
-    tie.close (tie.spec (λ c. search needs) (λ c. search needs) (λ c. search needs) (λ c. search needs) (λ c. search needs) (λ c. search needs) returns)
+    tie.close
+    (tie.spec
+    (λ c κs. search needs)
+    (λ c. search needs)
+    (λ c. search needs)
+    (λ c. search needs)
+    (λ c. search needs)
+    returns)

@@ -1,0 +1,38 @@
+-- `in_line` meets its contract. Assumes nothing.
+use Rattle.simulator.specs.Fits.{Stands}
+use Rattle.simulator.proofs.Counting.{oneLeft, compact-ones}
+use borrow.Author.Needs.{needs}
+use Rattle.simulator.proofs.flight.in_line.Statement.{statement}
+use Rattle.simulator.proofs.flight.in_line.Tie as tie
+
+returns : tie.Need-returns
+returns c =
+    rw (c .before .enum-told .given .1) (c .ones .ensures)
+
+returns-2 : tie.Need-returns-2
+unfolding oneLeft
+returns-2 c =
+    rw (c .before .before .enum-told2 .given .1) (cc (compact-ones (c .before .before .before .before .before .args .s .now) (c .before .before .before .before .before .args .k) (c .before .before .before .before .before .args .d)))
+
+ones-requires : tie.Need-ones-requires
+ones-requires c κs =
+    let stands : Stands (c .before .before .before .args .format) (c .before .before .before .args .s .now) (c .before .before .before .args .k) = c .before .before .before .pre in
+    rw (c .enum-told .given .1) at stands
+
+left-at-requires : tie.Need-left-at-requires
+left-at-requires c κs =
+    let stands : Stands (c .before .before .before .args .format) (c .before .before .before .args .s .now) (c .before .before .before .args .k) = c .before .before .before .pre in
+    rw (c .enum-told2 .given .1) at stands
+
+pub in-line-spec : {M : Type 1} → statement M
+in-line-spec =
+    tie.close
+    (tie.spec
+    (λ c. search needs)
+    ones-requires
+    (λ c. search needs)
+    left-at-requires
+    (λ c κs. search needs)
+    (λ c. search needs)
+    returns
+    returns-2)

@@ -1,0 +1,233 @@
+-- Full runs, on a full state: a full run answers as its calls do one after another, and a full run and a reference run agree.
+-- Assumes nothing.
+use mathlib.Core.Path.{_≡_, refl, sym, _∙_, ap}
+use mathlib.Core.Bool.{Bool, true, false}
+use mathlib.Core.List.{List, []}
+use Prim.Native.Nat.{ℕ, zero, suc, _+_, _-_, _<_, _≤_}
+use native.Mathlib.Omega.{arith}
+use native.Mathlib.Decide.{ℕ-discrete, decLt}
+use lib.Dec.{eqb, ltb}
+use lib.ListN.{length}
+use borrow.Author.Tests.{le-ltb, eq-eqb, ne-eqb}
+use Rattle.model.specs.declared.Cell.{Cell}
+use Rattle.model.specs.declared.Format.the-variants.{Full}
+use Rattle.model.specs.declared.Options.{Options}
+use Rattle.model.specs.declared.Checked.the-variants.{Accepted}
+use Rattle.model.specs.declared.Outcome.the-variants.{Open}
+use Rattle.model.specs.declared.Answer.{Answer}
+use Rattle.model.specs.Refusals.{first}
+use Rattle.model.specs.Program.{Stmt, Program}
+use Rattle.model.specs.Procedures.{meaning}
+use Rattle.model.specs.ProgramChecks.{programWith}
+use Rattle.model.specs.Rules.{Store, ended, still, run, endsAt, due, atEnd}
+use Rattle.model.specs.Circuit.{Sig, Values, high, level, Obeys}
+use Rattle.model.specs.NetlistFile.{cellsOf, finishOf}
+use Rattle.model.specs.State.{instantOf, Course, stateSize, nowAt, beginState, continued, wordsIn}
+use Rattle.model.specs.Calls.{Returned, verdict, checkCall, compiledFile, wordAt, shows, running, beginCall, continueChecks, continueCall, fullState, fullCount, runNetlistCall, runProgramChecks, runProgramCall, listed, referenceAnswer}
+use Rattle.model.specs.CircuitPromises.{stopsAt, NoStart}
+use Rattle.model.specs.RunPromises.{seen, stand, Runs, dueAt, stands, startsOf, lastOf, FullRuns}
+use Rattle.laws.specs.Refusals.Laws.{by-bool, first-drop}
+use Rattle.laws.specs.Program.Fit.{Timed}
+use Rattle.laws.specs.Program.Admitted.{meaning-timed}
+use Rattle.laws.specs.Rules.Laws.{steady, still-before, still-below}
+use Rattle.laws.specs.State.Continuing.{full-free}
+use Rattle.theory.specs.Rules.Relation.{run-ends}
+use Rattle.theory.specs.State.Holding.{Holding}
+use Rattle.theory.specs.State.Sound.{sound-held}
+use Rattle.theory.specs.State.Running.{continues, stops-high, stops-low}
+use Rattle.theory.specs.Promises.Stands.{Given}
+use Rattle.theory.specs.Promises.Replay.{accepted-going, checked, OfProgram}
+use Rattle.theory.specs.Promises.Behaves.{shows-words, Stood, due-by, lasting}
+use Rattle.theory.specs.Promises.Kept.{Begun, begins, stood, holding, long, starts, pulse, given, W, obeys}
+
+-- Where a run stops --------------------------------------------------------------------------------------------------------------------
+
+-- where a finish is due at t alone, a run from before t stops there
+stops-end : (F : ℕ → Bool) (t : ℕ) → ((u : ℕ) → F u ≡ eqb t u) → (n a : ℕ) → a < t → t ≤ a + n → stopsAt F a n ≡ t
+stops-end F t h zero a l m = absurd (omega arith)
+stops-end F t h (suc n) a l m = go (ℕ-discrete t (suc a)) (stops-end F t h n (suc a))
+  where
+    go : Dec (t ≡ suc a) → (suc a < t → t ≤ suc a + n → stopsAt F (suc a) n ≡ t) → stopsAt F a (suc n) ≡ t
+    go (yes e) on = stops-high F a n (h (suc a) ∙ eq-eqb t (suc a) e) ∙ sym e
+    go (no x) on = stops-low F a n (h (suc a) ∙ ne-eqb t (suc a) x) ∙ on (omega arith) (omega arith)
+
+-- where none is due, it goes on to the last instant
+stops-never : (F : ℕ → Bool) (n a : ℕ) → ((u : ℕ) → a < u → u ≤ a + n → F u ≡ false) → stopsAt F a n ≡ a + n
+unfolding stopsAt
+stops-never F zero a h = omega arith
+stops-never F (suc n) a h =
+    stops-low F a n (h (suc a) (omega arith) (omega arith)) ∙ stops-never F n (suc a) (λ u l k. h u (omega arith) (omega arith)) ∙ omega arith
+
+-- Full runs ----------------------------------------------------------------------------------------------------------------------------
+
+module _ (options : Options) (program file words lent : List ℕ) (accepted : checkCall options program ≡ Accepted) (e : file ≡ compiledFile options program)
+    (begun : verdict (beginCall Full file words lent .answer .outcome) ≡ Accepted) where
+  abbrev S : Program
+  S = programWith options program
+
+  B : Begun Full S file words lent
+  B = begins Full options program file words lent accepted e begun
+
+  abbrev X : OfProgram S file
+  X = B .ofProgram
+
+  abbrev P : Stmt
+  P = meaning S
+
+  timed : Timed P
+  timed = meaning-timed S (X .admitted)
+
+  abbrev σ : Store
+  σ = wordAt words
+
+  abbrev net : List Cell
+  net = cellsOf file
+
+  abbrev fin : ℕ
+  fin = finishOf file
+
+  abbrev rules : Runs
+  rules τ k = run k P τ
+
+  abbrev state : List ℕ
+  state = beginState Full net σ lent
+
+  abbrev on : ℕ → Course
+  on n = continued Full net fin n state
+
+  -- with no start but the beginning's
+  abbrev starts₁ : Sig
+  starts₁ = starts Full S file words lent B []
+
+  abbrev W₁ : Values
+  W₁ = W Full S file words lent B []
+
+  obeys₁ : Obeys net starts₁ σ W₁
+  obeys₁ = obeys Full S file words lent B []
+
+  given₁ : Given rules (stateSize Full net) starts₁ (stand 0 σ 0) []
+  given₁ = given Full S file words lent B []
+
+  pulse₁ : starts₁ 0 ≡ true
+  pulse₁ = pulse Full S file words lent B []
+
+  first-stood : Stood Full S file X starts₁ σ W₁ obeys₁ (stand 0 σ 0) []
+  first-stood = stood Full S file words lent B starts₁ W₁ obeys₁ [] given₁ pulse₁
+
+  first-holds : Holding Full net σ W₁ 0 state
+  first-holds = holding Full S file words lent B starts₁ W₁ obeys₁ [] given₁ pulse₁
+
+  first-long : stateSize Full net ≤ length state
+  first-long = long Full S file words lent B starts₁ W₁ obeys₁ [] given₁ pulse₁
+
+  alone : (t : ℕ) → NoStart starts₁ 0 t
+  unfolding startsOf stands
+  alone t u l k = rw (ne-eqb 0 u (λ e. omega arith)) refl
+
+  finishes : (u : ℕ) → level W₁ fin u ≡ due P σ u
+  unfolding dueAt due
+  finishes u = due-by Full S file X starts₁ σ W₁ obeys₁ (stand 0 σ 0) [] first-stood u (omega arith) (alone u) ∙ ap (due P σ) (omega arith)
+
+  -- a full run
+  pub whole-run : ℕ → Answer
+  whole-run n = shows Full file (fullState file words n lent) (fullCount file words n lent)
+
+  continue-is : (n : ℕ) → n ≤ 1000000 → continueCall Full file n state .answer ≡ shows Full file (on n .state) (on n .count)
+  unfolding continueCall
+  continue-is n l =
+      ap (λ (r : Returned Answer). r .answer)
+      (accepted-going Full (first (continueChecks Full file n state)) file (on n) state
+      (checked Full file (X .accepted) n state [] false true false (le-ltb (length state) (stateSize Full net) first-long)
+      (sound-held Full net (X .ordered) starts₁ σ W₁ obeys₁ 0 state first-holds)
+      (le-ltb 1000000 (instantOf state + n) (rw (first-holds .instant (omega arith)) (omega arith))))
+      (full-free net fin n state))
+
+  last-is : (n : ℕ) → n ≤ 1000000
+      → whole-run n
+      ≡ lastOf (beginCall Full file words lent .answer .outcome) (beginCall Full file words lent .answer) (continueCall Full file n (beginCall Full file words lent .lent) .answer)
+  unfolding whole-run fullState fullCount shows lastOf
+  last-is n l = rw (B .is, continue-is n l) (by-bool (high (nowAt Full state fin)) (λ z. rw (z, z) refl) (λ z. rw z refl))
+
+  pub program-run : (forFile : List ℕ) → ltb (length forFile) (length (compiledFile options program)) ≡ false → (n : ℕ) → n ≤ 1000000
+      → runProgramCall options program words n forFile lent .answer ≡ whole-run n
+  unfolding runProgramCall running whole-run checkCall
+  program-run forFile fits n l =
+      rw (
+        first-drop 2 (runProgramChecks options program words n forFile lent) accepted,
+        ← e,
+        le-ltb 1000000 n l,
+        B .words-fit,
+        fits,
+        rw e at (B .state-fits),
+      )
+
+  netlist-run : (n : ℕ) → n ≤ 1000000 → runNetlistCall file words n lent .answer ≡ whole-run n
+  unfolding runNetlistCall running whole-run
+  netlist-run n l = rw (X .accepted, le-ltb 1000000 n l, B .words-fit, B .state-fits)
+
+  pub full-runs : (forFile : List ℕ) → ltb (length forFile) (length (compiledFile options program)) ≡ false
+      → FullRuns file (beginCall Full file words lent) (λ k. runProgramCall options program words k forFile lent .answer)
+      (λ k. runNetlistCall file words k lent .answer)
+  full-runs forFile fits =
+      record { programRuns = λ n l. program-run forFile fits n l ∙ last-is n l; netlistRuns = λ n l. netlist-run n l ∙ last-is n l }
+
+  -- A full run and a reference run agree -----------------------------------------------------------------------------------------------
+
+  -- where the rules end within the budget, they give the same answer
+  module _ (n t : ℕ) (l : n ≤ 1000000) (σ′ : Store) (p : run n P σ ≡ ended t σ′) where
+    steadily : (t ≤ n) × ((k : ℕ) → t ≤ k → run k P σ ≡ ended t σ′)
+    steadily = steady P timed σ n atEnd t σ′ p
+
+    due-only : (u : ℕ) → due P σ u ≡ eqb t u
+    unfolding due endsAt
+    due-only u = go (decLt u t)
+      where
+        go : Dec (u < t) → endsAt u (run u P σ) ≡ eqb t u
+        go (yes x) = ap (endsAt u) (still-before (λ k. run k P σ) (steady P timed σ) n atEnd t u σ′ p x) ∙ sym (ne-eqb t u (λ e. omega arith))
+        go (no x) = ap (endsAt u) (steadily .1 u (omega arith))
+
+    wire-at : (u : ℕ) → level W₁ fin u ≡ eqb t u
+    wire-at u = finishes u ∙ due-only u
+
+    -- the words of a state at the end
+    last : (s : List ℕ) → Holding Full net σ W₁ t s → wordsIn Full net 0 s ≡ listed σ′ 0 16
+    last s H =
+        shows-words Full S file X starts₁ σ W₁ obeys₁ t σ′
+        (lasting Full S file X starts₁ σ W₁ obeys₁ (stand 0 σ 0) [] first-stood t σ′ (run-ends P n σ t σ′ p) t (omega arith) (alone t)) s H
+        .0
+
+    -- its answer
+    told-end : (s : List ℕ) (m : ℕ) → Holding Full net σ W₁ t s → m ≡ t + 1 → shows Full file s m ≡ referenceAnswer n (ended t σ′)
+    unfolding shows referenceAnswer
+    told-end s m H e =
+        rw (e, last s H, H .instant (omega (arith, steadily .0)), H .body .present fin (X .wire), wire-at t, eq-eqb t t refl)
+
+    pub agrees : whole-run n ≡ referenceAnswer n (ended t σ′)
+    unfolding whole-run fullState fullCount
+    agrees = go (ℕ-discrete t 0)
+      where
+        begins : high (nowAt Full state fin) ≡ eqb t 0
+        begins = ap high (first-holds .body .present fin (X .wire)) ∙ wire-at 0
+
+        go : Dec (t ≡ 0) → whole-run n ≡ referenceAnswer n (ended t σ′)
+        go (yes e) = rw (begins, eq-eqb t 0 e) (told-end state 1 (rw e first-holds) (omega arith))
+        go (no x) =
+            let C = continues Full net (X .ordered) starts₁ σ W₁ obeys₁ fin (X .wire) n 0 state first-holds first-long (alone _) tt in
+            let z : stopsAt (level W₁ fin) 0 n ≡ t = stops-end (level W₁ fin) t wire-at n 0 (omega arith) (omega (arith, steadily .0)) in
+            rw (begins, ne-eqb t 0 x) (told-end (on n .state) _ (rw z at (C .holding)) (omega (arith, C .count, z)))
+
+  -- where they do not, the full run is open at the budget's end
+  module _ (n : ℕ) (l : n ≤ 1000000) (p : run n P σ ≡ still) where
+    low : (u : ℕ) → u ≤ n → level W₁ fin u ≡ false
+    unfolding due endsAt
+    low u g = finishes u ∙ ap (endsAt u) (still-below (λ k. run k P σ) (steady P timed σ) n u p g)
+
+    pub stays-open : seen (whole-run n .outcome) (whole-run n .instant) (whole-run n .count) ≡ seen Open n (n + 1)
+    unfolding whole-run fullState fullCount shows
+    stays-open =
+        let C = continues Full net (X .ordered) starts₁ σ W₁ obeys₁ fin (X .wire) n 0 state first-holds first-long (alone _) tt in
+        let z : stopsAt (level W₁ fin) 0 n ≡ n = stops-never (level W₁ fin) n 0 (λ u a b. low u (omega arith)) ∙ omega arith in
+        let H : Holding Full net σ W₁ n (on n .state) = rw z at (C .holding) in
+        let begins : high (nowAt Full state fin) ≡ false = ap high (first-holds .body .present fin (X .wire)) ∙ low 0 (omega arith) in
+        let e : 1 + on n .count ≡ n + 1 = omega (arith, C .count, z) in
+        rw (begins, e, H .instant l, H .body .present fin (X .wire), low n (omega arith))

@@ -1,0 +1,114 @@
+//! A peer's compact states beside its full ones: a compiled program, begun alike
+//! and given the same calls, refused ones among them, answers alike, and after
+//! every call the compact state is the full one with a number for each line. So
+//! wires, now and an instant ago, words and the number in flight are the same, no
+//! line has two pulses on their way, and refusal 26 never comes up.
+
+use crate::against_equations::instant_of;
+use crate::formats::compacted;
+use crate::job::{Ask, Call, Job, Room};
+use crate::lend::*;
+use peers::{Peer, Reply};
+use second::cells::Netlist;
+use second::netfile;
+use values::{Answer, Format};
+
+/// So many instants after a beginning and after each call are gone through one
+/// by one, too.
+const SINGLE: usize = 8;
+
+/// Compares, and tells how many calls on compact states it made.
+pub fn compare(peer: &Peer, job: &Job) -> Result<u64, String> {
+    let compiled = (peer.compile)(job.given(), &job.program, &lent(MOST_FILE));
+    let Ok(shape) = compiled.result else {
+        return Ok(0);
+    };
+    let file = &compiled.lent[0][..file_length(shape.cells.into())];
+    let netlist = netfile::read(file).map_err(|refusal| format!("compiled: {refusal:?}"))?;
+    let mut runs = Runs {
+        peer,
+        file,
+        netlist: &netlist,
+        states: Format::BOTH.map(|format| lent(state_length(format, netlist.cells.len()))),
+        calls: 0,
+    };
+    runs.both("begin", |format, state| {
+        (peer.begin)(format, file, &job.words, state)
+    })?;
+    if job.words.len() < WORDS {
+        return Ok(runs.calls);
+    }
+    runs.single_instants()?;
+    for (index, call) in job.calls.iter().enumerate() {
+        runs.call(&format!("call {index}"), *call)?;
+        runs.single_instants()?;
+    }
+    Ok(runs.calls)
+}
+
+/// A run of a netlist, on a state of each format.
+struct Runs<'a> {
+    peer: &'a Peer,
+    file: &'a [u8],
+    netlist: &'a Netlist,
+    /// The full one and the compact one.
+    states: [Vec<u8>; 2],
+    /// The calls made on the compact one.
+    calls: u64,
+}
+
+impl Runs<'_> {
+    fn call(&mut self, name: &str, Call { ask, room }: Call) -> Result<(), String> {
+        let (peer, file, instant) = (self.peer, self.file, instant_of(&self.states[0]));
+        self.both(&format!("{name}, {ask:?}"), |format, state| {
+            let buffer = lent_with(state, room.around(state.len()));
+            ask.of(peer, format, file, instant, &buffer)
+        })
+    }
+
+    /// Single instants from here on, after which the run stands where it stood.
+    fn single_instants(&mut self) -> Result<(), String> {
+        let (ask, room) = (Ask::Go(1), Room::Exact);
+        let states = self.states.clone();
+        for single in 0..SINGLE {
+            self.call(&format!("single instant {single}"), Call { ask, room })?;
+        }
+        self.states = states;
+        Ok(())
+    }
+
+    /// Makes a call on both states. A refused one leaves them as they are.
+    fn both(
+        &mut self,
+        name: &str,
+        call: impl Fn(Format, &[u8]) -> Reply<Answer>,
+    ) -> Result<(), String> {
+        let [full, compact] = &self.states;
+        let (full, compact) = (call(Format::Full, full), call(Format::Compact, compact));
+        self.calls += 1;
+        if full.result != compact.result {
+            let (full, compact) = (full.result, compact.result);
+            return Err(format!("{name}: full {full:?}, compact {compact:?}"));
+        }
+        if full.result.is_ok() {
+            for (state, reply) in self.states.iter_mut().zip([full, compact]) {
+                let length = state.len();
+                state.copy_from_slice(&reply.lent[0][..length]);
+            }
+            self.check_states(name)?;
+        }
+        Ok(())
+    }
+
+    /// The compact state is the full one's.
+    fn check_states(&self, name: &str) -> Result<(), String> {
+        let [full, compact] = &self.states;
+        let Some(expected) = compacted(&self.netlist.cells, full) else {
+            return Err(format!("{name}: two pulses in one line"));
+        };
+        match (0..expected.len()).find(|&place| compact[place] != expected[place]) {
+            Some(place) => Err(format!("{name}: byte {place} of the compact state")),
+            None => Ok(()),
+        }
+    }
+}

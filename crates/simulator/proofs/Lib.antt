@@ -1,5 +1,6 @@
 pub mod Cells
 pub mod Passes
+pub mod Places
 pub mod Counting
 pub mod Crowding
 pub mod InFlight

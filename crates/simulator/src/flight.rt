@@ -6,10 +6,10 @@ ghost use Rattle.model.specs.declared.Format.the-variants.{Full};
 ghost use Rattle.model.specs.NetlistFile.{cellsOf};
 ghost use Rattle.model.specs.State.{lineBit, heldAt, ones, inFlight, flight};
 ghost use Rattle.simulator.specs.Fits.{Stands, Runs};
-use crate::lines;
 use crate::wires;
 use model::Cell;
 use model::Format;
+use model::sizes::COMPACT_LEFT;
 use model::sizes::STATE_LINE;
 use netlist::cells::Layout;
 
@@ -37,7 +37,7 @@ fn in_line(format: Format, s: &[u8], k: usize, d: u8) -> u32
     match format {
         Format::Full => ones(s, k, d),
         Format::Compact => {
-            let left = lines::left_at(s, k);
+            let left = s[wires::base(format, k) + COMPACT_LEFT];
             word::bit((0 < left) & (left <= d)) as u32
         }
     }

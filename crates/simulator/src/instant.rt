@@ -171,11 +171,13 @@ pub fn settle_all(format: Format, cells: &[u8], n: usize, state: &mut [u8]) -> C
     let mut k: usize = 0;
     while k < n {
         let c = netlist::cells::cell_at(cells, Layout::InList, k);
-        if lines::is_crowded(format, c, state, k) {
-            return Checked::Refused(Refusal {
-                number: 26,
-                place: k,
-            });
+        if c.kind == 34 {
+            if lines::is_crowded(format, c, state, k) {
+                return Checked::Refused(Refusal {
+                    number: 26,
+                    place: k,
+                });
+            }
         }
         number = settle(format, c, state, k, number);
         k += 1;

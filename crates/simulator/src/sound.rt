@@ -9,10 +9,10 @@ ghost use Rattle.model.specs.NetlistFile.{allZero, cellsOf};
 ghost use Rattle.model.specs.State.{lineSound, cellSound, cellsSound, sound};
 ghost use Rattle.simulator.specs.Fits.{Stands, Runs};
 use crate::flight;
-use crate::lines;
 use crate::wires;
 use model::Cell;
 use model::Format;
+use model::sizes::COMPACT_LEFT;
 use model::sizes::LINE;
 use model::sizes::STATE_LINE;
 use netlist::cells::Layout;
@@ -58,7 +58,7 @@ fn line_sound(format: Format, c: Cell, s: &[u8], k: usize) -> bool
             zeros & ((kind == 34) | line)
         }
         Format::Compact => {
-            let left = lines::left_at(s, k);
+            let left = s[at + COMPACT_LEFT];
             let most = most_left(c);
             (left <= most) & (s[at + 7] == 0)
         }

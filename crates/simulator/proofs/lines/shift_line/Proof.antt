@@ -5,8 +5,7 @@ use Prim.Native.Nat.{ℕ, _+_, _<_}
 use native.Mathlib.Omega.{arith}
 use lib.ListN.{length, length-set}
 use borrow.Author.Needs.{needs}
-use Rattle.model.specs.declared.Format.the-variants.{Full}
-use Rattle.model.specs.State.{base, shiftedIn, takenIn}
+use Rattle.model.specs.State.{shiftedIn}
 use Rattle.model.specs.Word.{bit}
 use Rattle.laws.specs.State.Bytes.{bit-lt}
 use Rattle.simulator.proofs.Passes.{shifted-none, shifted-more}
@@ -14,18 +13,14 @@ use Rattle.simulator.proofs.lines.shift_line.Statement.{statement}
 use Rattle.simulator.proofs.lines.shift_line.Tie as tie
 
 abbrev Inv-loop : tie.InvT-loop
-Inv-loop state₀ k d input i₀ left₀ carry₀ state i left carry =
-    (i + left ≡ base Full k + 40) × (carry < 2) × (length state ≡ length state₀) × (shiftedIn left state i carry ≡ takenIn Full state₀ k d input)
+Inv-loop state₀ at input i₀ left₀ carry₀ state i left carry =
+    (i + left ≡ at + 40) × (carry < 2) × (length state ≡ length state₀) × (shiftedIn left state i carry ≡ shiftedIn 32 state₀ (at + 8) (bit input))
 
 abbrev μ-loop : tie.MeasureT-loop
-μ-loop state₀ k d input i₀ left₀ carry₀ state i left carry = left
+μ-loop state₀ at input i₀ left₀ carry₀ state i left carry = left
 
 loop-holds : tie.Need-loop-holds Inv-loop μ-loop
-unfolding takenIn
-loop-holds c =
-    let args = c .before .before .before .args in
-    let at = c .before .base .ensures in
-    (omega (arith, at), omega (arith, c .bit .ensures, bit-lt (args .input)), refl, rw (at, c .bit .ensures) refl)
+loop-holds c = (omega arith, omega (arith, c .bit .ensures, bit-lt (c .before .before .args .input)), refl, rw (c .bit .ensures) refl)
 
 cast-v : tie.Need-cast-v Inv-loop μ-loop
 cast-v c = omega (arith, c .slice-known2 .given (c .before .before .loop .i))
@@ -57,7 +52,6 @@ shift-line-spec =
     (tie.spec
     Inv-loop
     μ-loop
-    (λ c κs. search needs)
     (λ c. omega arith)
     (λ c κs. search needs)
     loop-holds

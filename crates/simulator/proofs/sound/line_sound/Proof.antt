@@ -3,16 +3,12 @@ use Rattle.simulator.specs.Fits.{Stands}
 use mathlib.Core.Path.{_≡_}
 use Rattle.model.specs.declared.Format.the-variants.{Full}
 use Rattle.model.specs.State.{base}
+use Rattle.simulator.proofs.Places.{left-here}
 use Rattle.simulator.proofs.Soundness.{full-line, compact-line}
 use native.Mathlib.Omega.{arith}
 use borrow.Author.Needs.{needs}
 use Rattle.simulator.proofs.sound.line_sound.Statement.{statement}
 use Rattle.simulator.proofs.sound.line_sound.Tie as tie
-
-left-at-requires : tie.Need-left-at-requires
-left-at-requires c κs =
-    let stands : Stands (c .before .before .before .before .args .format) (c .before .before .before .before .args .s .now) (c .before .before .before .before .args .k) = c .before .before .before .before .pre in
-    rw (c .enum-told2 .given .1) at stands
 
 all-zero-requires-2 : tie.Need-all-zero-requires-2
 all-zero-requires-2 c κs =
@@ -27,7 +23,8 @@ returns c =
 
 returns-2 : tie.Need-returns-2
 returns-2 c =
-    rw (c .before .before .before .enum-told2 .given .1) (compact-line (c .before .before .before .before .before .before .before .args .c) (c .before .before .before .before .before .before .before .args .s .now) (c .before .before .before .before .before .before .before .args .k) _ _ _ (rw (c .before .before .before .enum-told2 .given .1) at (c .before .before .before .before .before .base .ensures)) (c .before .before .left-at .ensures) (c .before .most-left .ensures))
+    let left = left-here (c .before .before .before .before .before .before .before .args .format) (c .before .before .before .before .before .before .before .args .s .now) (c .before .before .before .before .before .before .before .args .k) _ (c .before .before .before .before .before .base .ensures) (c .before .before .before .enum-told2 .given .1) in
+    rw (c .before .before .before .enum-told2 .given .1) (compact-line (c .before .before .before .before .before .before .before .args .c) (c .before .before .before .before .before .before .before .args .s .now) (c .before .before .before .before .before .before .before .args .k) _ _ _ (rw (c .before .before .before .enum-told2 .given .1) at (c .before .before .before .before .before .base .ensures)) left (c .before .most-left .ensures))
 
 pub line-sound-spec : {M : Type 1} → statement M
 line-sound-spec =
@@ -40,7 +37,8 @@ line-sound-spec =
     (λ c. search needs)
     all-zero-requires-2
     (λ c. search needs)
-    left-at-requires
+    (λ c. search needs)
+    (λ c. search needs)
     (λ c κs. search needs)
     (λ c. search needs)
     (λ c. search needs)

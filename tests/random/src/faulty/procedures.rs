@@ -1,9 +1,8 @@
 //! Peers that go wrong about procedures: a simulator about a call's merge, a
 //! compiler about where a body starts, a check about what a side reaches.
 
-use crate::faulty_arrays::walked;
+use super::walking::{walked, Fault};
 use crate::minimise::subtree_end;
-use crate::walking::Fault;
 use peers::{Peer, Reply, SECOND};
 use second::cells::{fields, Field, Netlist, DELAY, MERGE, RETURN};
 use second::netfile;

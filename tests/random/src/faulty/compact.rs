@@ -1,9 +1,8 @@
 //! Peers that go wrong about compact states: about the number of a line, and
 //! about refusal 26.
 
-use crate::against_equations::instant_of;
 use crate::flight;
-use crate::formats::{bytes_of, expanded, left_in, newest, LEFT};
+use crate::formats::{bytes_of, expanded, instant_of, left_in, newest, LEFT};
 use crate::lend::{cell_length, state_length, HEADER};
 use peers::{Peer, Reply, SECOND};
 use second::cells::{Netlist, DELAY};

@@ -1,12 +1,13 @@
-//! A simulator that walks over all cells at each instant, by the equations of
-//! `against_equations`, on full states, and goes wrong about arrays or about the merges of calls
-//! in the way that it is told.
+//! A simulator of full states that walks over all cells at each instant, by the
+//! equations, and goes wrong about arrays or the merges of calls as it is told.
 
-use crate::against_equations::{element_place, instant_of, Step};
+use crate::equations::{element_place, Step};
 use crate::flight;
-use crate::formats::wire_of;
-use crate::lend::ARRAYS;
+use crate::formats::{instant_of, wire_of};
+use crate::lend::{state_length, ARRAYS};
+use peers::{Reply, SECOND};
 use second::cells::{Netlist, READ, RETURN};
+use second::netfile;
 use values::{Answer, Format};
 
 #[derive(Clone, Copy, PartialEq)]
@@ -16,6 +17,27 @@ pub enum Fault {
     SevenBits,
     StaleRead,
     NotCleared,
+}
+
+/// A continuing of a full state with a fault; what is refused is refused as it
+/// must be.
+pub fn walked(fault: Fault, format: Format, file: &[u8], n: u32, state: &[u8]) -> Reply<Answer> {
+    let right = (SECOND.continue_by)(format, file, n, state);
+    let (Format::Full, Ok(netlist), Ok(_)) = (format, netfile::read(file), right.result) else {
+        return right;
+    };
+    let walk = Walk { netlist, fault };
+    let (run, past) = state.split_at(state_length(format, walk.netlist.cells.len()));
+    let mut run = run.to_vec();
+    let mut count = 0;
+    while count < n && (count == 0 || !walk.finished(&run)) {
+        run = walk.next(&run, false);
+        count += 1;
+    }
+    Reply {
+        result: Ok(walk.answer(&run, count)),
+        lent: vec![[&run, past].concat()],
+    }
 }
 
 pub struct Walk {

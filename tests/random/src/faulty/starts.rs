@@ -1,10 +1,10 @@
 //! Peers that go wrong about the number in flight and about second starts.
 
-use crate::against_equations::instant_of;
+use super::walking::{Fault, Walk};
 use crate::flight;
+use crate::formats::instant_of;
 use crate::job::MOST_INSTANT;
 use crate::lend::{cell_length, state_length, ARRAYS, HEADER, WORDS};
-use crate::walking::{Fault, Walk};
 use peers::{Bytes, Peer, Reply, SECOND};
 use second::cells::Netlist;
 use second::netfile;

@@ -2,7 +2,8 @@
 //! asking: held against the product on the vectors of tests/vectors.
 
 use hub::input::{Form, Given};
-use hub::origin::{subtree_end, trace, Ends};
+use hub::origin::{roots, subtree_end, trace, Ends};
+use hub::refusals::Report;
 use hub::source::Place;
 use hub::types::{Beside, Node, Refusal, INTERNAL};
 use hub::{product, refusals, source};
@@ -31,52 +32,62 @@ fn given(name: &Path) -> Given {
     }
 }
 
+/// Folders of vectors, and of each the accepted programs and the calls in them.
+const COMPILED: [(&str, usize, usize); 4] = [
+    ("compile", 60, 0),
+    ("s05/compile", 25, 0),
+    ("s06/compile", 29, 0),
+    ("s08/compile", 26, 135),
+];
+
 #[test]
 fn cells_come_from_the_nodes_of_their_program() {
-    for file in programs("compile") {
-        let bytes = fs::read(&file).expect("a vector");
-        let nodes = product::nodes(&bytes);
-        let compiled = product::compile(Beside::NOTHING, &bytes).expect("an accepted program");
-        let netlist = product::read_netlist(&compiled).expect("an accepted netlist");
-        let trace = trace(0, &nodes, &netlist).expect("the product's cells");
-        assert_eq!(trace.origins.len(), netlist.cells.len());
-        let finish = netlist.finish;
-        assert_eq!(trace.ends[0], Some(Ends { start: 0, finish }));
-        for (node, found) in nodes.iter().enumerate() {
-            let statement = found.kind >= 16;
-            assert_eq!(trace.ends[node].is_some(), statement, "node {node}");
-            assert_eq!(trace.values[node].is_some(), !statement, "node {node}");
-        }
+    for (folder, accepted, calls) in COMPILED {
+        let files = programs(folder);
+        let traced: Vec<usize> = files.iter().filter_map(|file| traced(file)).collect();
+        let found = (traced.len(), traced.iter().sum());
+        assert_eq!(found, (accepted, calls), "{folder}");
     }
 }
 
-/// The cells of bodies and calls, too: a body starts where its callers' delays are
-/// joined, and a call finishes by a cell of its own.
-#[test]
-fn cells_come_from_bodies_and_calls() {
+/// Holds the trace of a program, if it is accepted, against its nodes and cells, and
+/// tells how many calls it has. The main program has the netlist's start and finish,
+/// and a call finishes by a merge of its own.
+fn traced(file: &Path) -> Option<usize> {
+    let bytes = fs::read(file).expect("a vector");
+    let procedures = procedures(file);
+    let table = fs::read(file.with_extension("table")).ok();
+    let beside = Beside {
+        table: table.as_deref(),
+        procedures,
+    };
+    let compiled = product::compile(beside, &bytes).ok()?;
+    let nodes = product::nodes(&bytes);
+    let netlist = product::read_netlist(&compiled).expect("an accepted netlist");
+    let trace = trace(procedures, &nodes, &netlist).expect("the product's cells");
+    assert_eq!(trace.origins.len(), netlist.cells.len());
+    let (main, finish) = (roots(&nodes).0[procedures], netlist.finish);
+    assert_eq!(trace.ends[main], Some(Ends { start: 0, finish }));
     let mut calls = 0;
-    for file in programs("s08/compile") {
-        let given = fs::read_to_string(file.with_extension("given")).expect("a vector");
-        let procedures = given
-            .split(' ')
-            .nth(1)
-            .and_then(|number| number.parse().ok());
-        let beside = Beside::procedures(procedures.expect("a number of procedures"));
-        let bytes = fs::read(&file).expect("a vector");
-        let Ok(compiled) = product::compile(beside, &bytes) else {
-            continue;
-        };
-        let (nodes, netlist) = (product::nodes(&bytes), product::read_netlist(&compiled));
-        let netlist = netlist.expect("an accepted netlist");
-        let trace = trace(beside.procedures, &nodes, &netlist).expect("the product's cells");
-        for (node, _) in nodes.iter().enumerate().filter(|(_, node)| node.kind == 27) {
-            let Ends { finish, .. } = trace.ends[node].expect("a statement");
-            assert_eq!(netlist.cells[usize::from(finish)].kind, 39, "node {node}");
-            assert_eq!(trace.origins[usize::from(finish)].node, Some(node));
+    for (node, found) in nodes.iter().enumerate() {
+        let statement = found.kind >= 16;
+        assert_eq!(trace.ends[node].is_some(), statement, "node {node}");
+        assert_eq!(trace.values[node].is_some(), !statement, "node {node}");
+        if let (27, Some(ends)) = (found.kind, trace.ends[node]) {
+            let finish = usize::from(ends.finish);
+            assert_eq!(netlist.cells[finish].kind, 39, "node {node}");
+            assert_eq!(trace.origins[finish].node, Some(node));
             calls += 1;
         }
     }
-    assert!(calls > 50, "{calls} calls");
+    Some(calls)
+}
+
+/// How many procedures a vector has, as its .given tells where it has one.
+fn procedures(file: &Path) -> usize {
+    let given = fs::read_to_string(file.with_extension("given")).unwrap_or_default();
+    let second = given.split(' ').nth(1);
+    second.map_or(0, |number| number.parse().expect("a number of procedures"))
 }
 
 #[test]
@@ -187,17 +198,23 @@ fn broken_texts_are_met_with_a_place() {
     }
 }
 
+/// The vectors that a refusal meets, and what is told of each.
+fn refused(number: u8) -> Vec<(Given, Report)> {
+    let reported = |given: Given| {
+        let met = product::check(Beside::NOTHING, &given.bytes).err()?;
+        let report = (met.number == number).then(|| refusals::report(&given, met))?;
+        Some((given, report.expect("a report")))
+    };
+    let given = programs("program").into_iter().map(|file| given(&file));
+    given.filter_map(reported).collect()
+}
+
 #[test]
 fn a_clash_has_a_use_on_each_side() {
-    let mut clashes = 0;
-    for file in programs("program") {
-        let given = given(&file);
-        let Err(met @ Refusal { number: 8, place }) = product::check(Beside::NOTHING, &given.bytes)
-        else {
-            continue;
-        };
-        let nodes = product::nodes(&given.bytes);
-        let report = refusals::report(&given, met).expect("a report");
+    let clashes = refused(8);
+    assert!(clashes.len() > 2);
+    for (given, report) in clashes {
+        let (nodes, place) = (product::nodes(&given.bytes), report.refusal.place);
         let [left, right] = report.uses.expect("both uses");
         let middle = subtree_end(&nodes, place + 1);
         assert!((place + 1..middle).contains(&left));
@@ -208,95 +225,80 @@ fn a_clash_has_a_use_on_each_side() {
         let arrays = uses.map(|node| matches!(node.kind, 10 | 24));
         assert_eq!(arrays, [report.array.is_some(); 2]);
         assert!(uses.iter().any(|node| matches!(node.kind, 18 | 24)));
-        clashes += 1;
     }
-    assert!(clashes > 2);
 }
 
-/// The uses of an array that clash are found among others of the same side, and
-/// an array is no variable of its number.
 #[test]
-fn uses_of_an_array_clash() {
-    let outline = "parallel\n sequence\n  assign a1 @4\n   element a0\n    constant 0\n   variable x1\n  \
-        assign x0 @8\n   element a1\n    element a2\n     variable x2\n sequence\n  \
-        assign x3 @4\n   element a3\n    variable x1\n  assign a2 @1\n   variable x2\n   constant 1\n";
-    let given = Given {
-        form: Form::Outline,
-        bytes: outline.as_bytes().to_vec(),
-        ..given(Path::new("/dev/null"))
-    };
-    let nodes = given.source().expect("an outline").nodes;
-    let met =
-        product::check(Beside::NOTHING, &product::program_bytes(&nodes)).expect_err("a clash");
-    assert_eq!(met, Refusal::new(8, 0));
-    let report = refusals::report(&given, met).expect("a report");
-    assert_eq!((report.variable, report.array), (None, Some(2)));
-    assert_eq!(report.uses, Some([8, 14]));
-    assert_eq!(
-        report.rule,
-        "a2 is read on one side of a parallel statement and written on the other"
-    );
+fn the_least_delay_is_the_first_that_passes() {
+    let small = refused(7);
+    assert!(small.len() > 5);
+    for (given, report) in small {
+        let met = report.refusal;
+        let passes = |delay: &u8| {
+            let mut bytes = given.bytes.clone();
+            bytes[4 * met.place + 1] = *delay;
+            product::check(Beside::NOTHING, &bytes) != Err(met)
+        };
+        assert_eq!(report.least, (0..=255).find(passes), "{}", given.name);
+    }
 }
 
-/// An exit is refused for the parallel node between it and the loop around it,
-/// the innermost of each, or for want of a loop; other loops, and parallel nodes
-/// that are around the loop, don't count.
+const CLASH: &str = "a2 is read on one side of a parallel statement and written on the other";
+const NO_LOOP: &str = "this exit has no loop around it";
+const BETWEEN: &str = "a parallel statement stands between this exit and the loop around it";
+
+/// Refused outlines: the number, the rule that is told, and the lines that are
+/// marked, the refusal's own first. A line is a node.
+const TOLD: [(&str, u8, &str, &[usize]); 8] = [
+    // The uses of an array that clash are found among others of the same side, and
+    // an array is no variable of its number.
+    (
+        "parallel\n sequence\n  assign a1 @4\n   element a0\n    constant 0\n   variable x1\n  \
+         assign x0 @8\n   element a1\n    element a2\n     variable x2\n sequence\n  \
+         assign x3 @4\n   element a3\n    variable x1\n  assign a2 @1\n   variable x2\n   constant 1\n",
+        8,
+        CLASH,
+        &[0, 8, 14],
+    ),
+    // An exit is refused for want of a loop, or for the parallel node between it and
+    // the loop around it, the innermost of each; other loops, and parallel nodes
+    // that are around the loop, don't count.
+    ("exit", 22, NO_LOOP, &[0]),
+    ("while @1\nconstant 1\nexit", 22, NO_LOOP, &[2]),
+    ("sequence\nloop @1\nexit\nexit", 22, NO_LOOP, &[3]),
+    ("parallel\nloop @1\nexit\nexit", 22, NO_LOOP, &[3]),
+    ("loop @1\nparallel\nok\nexit", 22, BETWEEN, &[3, 1, 0]),
+    (
+        "loop @1\nparallel\nloop @1\nparallel\nparallel\nok\nok\nexit\nok",
+        22,
+        BETWEEN,
+        &[7, 3, 2],
+    ),
+    (
+        "loop @1\nparallel\nloop @1\nsequence\nok\nexit\nparallel\nexit\nok",
+        22,
+        BETWEEN,
+        &[7, 6, 0],
+    ),
+];
+
 #[test]
-fn a_refused_exit_is_told_with_what_is_around_it() {
-    let told = |outline: &str| {
+fn a_refused_outline_is_told_with_what_the_rule_is_about() {
+    for (outline, number, rule, lines) in TOLD {
         let given = Given {
             form: Form::Outline,
             bytes: outline.as_bytes().to_vec(),
             ..given(Path::new("/dev/null"))
         };
         let nodes = given.source().expect("an outline").nodes;
-        let met =
-            product::check(Beside::NOTHING, &product::program_bytes(&nodes)).expect_err("an exit");
+        let met = product::check(Beside::NOTHING, &product::program_bytes(&nodes));
+        let met = met.expect_err(outline);
         let report = refusals::report(&given, met).expect("a report");
-        let lines: Vec<usize> = report.marks.iter().map(|mark| mark.line - 1).collect();
-        (met, report.rule, lines)
-    };
-    let between = "a parallel statement stands between this exit and the loop around it";
-    let none = "this exit has no loop around it";
-    for (outline, rule, lines) in [
-        ("exit", none, vec![0]),
-        ("while @1\nconstant 1\nexit", none, vec![2]),
-        ("sequence\nloop @1\nexit\nexit", none, vec![3]),
-        ("parallel\nloop @1\nexit\nexit", none, vec![3]),
-        ("loop @1\nparallel\nok\nexit", between, vec![3, 1, 0]),
-        (
-            "loop @1\nparallel\nloop @1\nparallel\nparallel\nok\nok\nexit\nok",
-            between,
-            vec![7, 3, 2],
-        ),
-        (
-            "loop @1\nparallel\nloop @1\nsequence\nok\nexit\nparallel\nexit\nok",
-            between,
-            vec![7, 6, 0],
-        ),
-    ] {
-        let expected = (Refusal::new(22, lines[0]), rule.to_string(), lines);
-        assert_eq!(told(outline), expected, "{outline}");
+        let marked: Vec<usize> = report.marks.iter().map(|mark| mark.line - 1).collect();
+        assert_eq!(met, Refusal::new(number, lines[0]), "{outline}");
+        assert_eq!((&report.rule[..], &marked[..]), (rule, lines), "{outline}");
+        if let Some(uses) = report.uses {
+            assert_eq!(uses[..], lines[1..], "{outline}");
+        }
     }
-}
-
-#[test]
-fn the_least_delay_is_the_first_that_passes() {
-    let mut small = 0;
-    for file in programs("program") {
-        let given = given(&file);
-        let Err(met @ Refusal { number: 7, place }) = product::check(Beside::NOTHING, &given.bytes)
-        else {
-            continue;
-        };
-        let report = refusals::report(&given, met).expect("a report");
-        let passes = |delay: &u8| {
-            let mut bytes = given.bytes.clone();
-            bytes[4 * place + 1] = *delay;
-            product::check(Beside::NOTHING, &bytes) != Err(met)
-        };
-        assert_eq!(report.least, (0..=255).find(passes), "{}", given.name);
-        small += 1;
-    }
-    assert!(small > 5);
 }

@@ -15,7 +15,7 @@ pub fn expr_node(program: &[u8], i: usize) -> Node
     if program.len() / 4 <= i {
         return none;
     }
-    let node = program::read_node(program, i);
+    let node = program::nodes::read_node(program, i);
     if 16 <= node.kind {
         return none;
     }
@@ -34,7 +34,7 @@ pub fn stmt_node(program: &[u8], i: usize) -> Node
     if program.len() / 4 <= i {
         return none;
     }
-    let node = program::read_node(program, i);
+    let node = program::nodes::read_node(program, i);
     if node.kind < 16 {
         return none;
     }

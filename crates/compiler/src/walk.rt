@@ -105,7 +105,7 @@ fn put_expr(
         let e = put_expr(cells, program, ends, memory, first, c);
         return put_word(cells, e.cell, 44, memory + 16 + 2 * node.n, e.wire);
     }
-    let second = program::next(ends, program.len() / 4, first);
+    let second = program::nodes::next(ends, program.len() / 4, first);
     let e = put_expr(cells, program, ends, memory, first, c);
     let f = put_expr(cells, program, ends, memory, second, e.cell);
     put_word(cells, f.cell, kind, e.wire, f.wire)
@@ -337,13 +337,13 @@ pub fn put_stmt(
     let d = node.delay;
     let count = program.len() / 4;
     let i1 = i + 1;
-    let i2 = program::next(ends, count, i1);
+    let i2 = program::nodes::next(ends, count, i1);
     match kind {
         18 => put_assign(cells, marks, program, ends, known.memory, i1, at, node),
         19 => put_seq(cells, marks, outs, program, ends, known, i1, i2, at),
         20 => put_par(cells, marks, outs, program, ends, known, i1, i2, at),
         21 => {
-            let i3 = program::next(ends, count, i2);
+            let i3 = program::nodes::next(ends, count, i2);
             put_if(cells, marks, outs, program, ends, known, i1, i2, i3, at, d)
         }
         22 => put_while(cells, marks, outs, program, ends, known, i1, i2, at, d),

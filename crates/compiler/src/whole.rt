@@ -115,7 +115,7 @@ fn put_roots(
     while r <= procedures {
         let root = Root {
             number: r as u16,
-            node: program::skip(ends, nodes, 0, r),
+            node: program::nodes::skip(ends, nodes, 0, r),
             idle: idle_start(r, procedures),
         };
         let known = Known { memory, finishes };

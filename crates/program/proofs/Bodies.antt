@@ -11,8 +11,8 @@ use Rattle.model.specs.Program.{Code, Stmt, ok, preorder, writes, touches}
 use Rattle.model.specs.Procedures.{bodyAt, table, inline, inlined, reaches, reached}
 use Rattle.laws.specs.Program.Fit.{Known}
 use Rattle.laws.specs.Program.Inlined.{table-new, table-old}
-use Rattle.program.specs.declared.Mark.{Mark}
-use Rattle.program.specs.declared.Mark.the-variants.{Writes, Touches, Calls}
+use Rattle.program.specs.declared.clashes.Mark.{Mark}
+use Rattle.program.specs.declared.clashes.Mark.the-variants.{Writes, Touches, Calls}
 use Rattle.program.specs.Uses.{anyMarked, hasBy, carriedBy, carried, marked-has}
 
 -- the first n bodies without calls, and which of them reach q

@@ -1,8 +1,8 @@
 pub mod Children
-pub mod Reading
+pub mod Misread
 pub mod Loose
 pub mod Late
 pub mod TimeTables
-pub mod Roots
+pub mod InRoots
 pub mod Bodies
-pub mod Clashes
+pub mod Crossing

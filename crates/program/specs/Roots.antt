@@ -14,8 +14,8 @@ use Rattle.model.specs.Procedures.{bodyAt, inline, inlined, reached}
 use Rattle.model.specs.ProgramChecks.{looseIn, lateIn, shared, shares, sharedFault, conflict, conflicts, conflictFault}
 use Rattle.laws.specs.Program.Trees.{treeAt}
 use Rattle.laws.specs.Program.Passed.{Readable, program-trees, count-bodies}
-use Rattle.program.specs.declared.Mark.{Mark}
-use Rattle.program.specs.declared.Mark.the-variants.{Writes, Touches, Calls}
+use Rattle.program.specs.declared.clashes.Mark.{Mark}
+use Rattle.program.specs.declared.clashes.Mark.the-variants.{Writes, Touches, Calls}
 use Rattle.program.specs.Ends.{Laid, skips, skips-trees}
 use Rattle.program.specs.Uses.{Side, has}
 

@@ -13,8 +13,8 @@ use Rattle.model.specs.declared.Node.{Node}
 use Rattle.model.specs.Program.{Expr, const, var, compl, op, elem, Code, Stmt, ok, tick, assign, assignElem, seq, par, ite, while, repeat, loop, exit, call, Tree, stmt, nodeAt, nodeCount, nodesFrom, none, stmtAt, arrayVar, reads, writes, touches, preorderE, preorder, node}
 use Rattle.model.specs.Procedures.{inline, inlined, reaches, reached}
 use Rattle.laws.specs.Program.Trees.{nodes-step, nodes-none, treeAt, trees-none}
-use Rattle.program.specs.declared.Mark.{Mark}
-use Rattle.program.specs.declared.Mark.the-variants.{Writes, Touches, Calls}
+use Rattle.program.specs.declared.clashes.Mark.{Mark}
+use Rattle.program.specs.declared.clashes.Mark.the-variants.{Writes, Touches, Calls}
 use Rattle.program.specs.Ends.{Laid, past, past-trees, past-within}
 use Rattle.laws.specs.Program.Preorder.{nodesOf, KnownT}
 use Rattle.laws.specs.Program.Fit.{KnownE, Known}

@@ -18,6 +18,7 @@ use model::Outcome;
 use model::Refusal;
 use model::sizes::LAST_INSTANT;
 use model::sizes::START_WORDS;
+use program::nodes;
 
 // How a statement ran within a budget: after `time` instants with these words it ended, or came to an exit of a loop around it (`left`);
 // or it is still going. Of the words sixteen are the variables', and 64 each array's.
@@ -59,7 +60,7 @@ fn eval_at(program: &[u8], ends: &[usize; 200], i: usize, words: [u16; 272]) -> 
     if count <= i {
         return 0;
     }
-    let node = program::read_node(program, i);
+    let node = nodes::read_node(program, i);
     let kind = node.kind;
     if 16 <= kind {
         return 0;
@@ -77,7 +78,7 @@ fn eval_at(program: &[u8], ends: &[usize; 200], i: usize, words: [u16; 272]) -> 
     if kind == 10 {
         return word_of(words, element_word(node.n, first));
     }
-    let second = eval_at(program, ends, program::next(ends, count, i + 1), words);
+    let second = eval_at(program, ends, nodes::next(ends, count, i + 1), words);
     word::operate(kind, first, second)
 }
 
@@ -408,7 +409,7 @@ fn body_at(
     if procedures <= p {
         return pause(words, 0, budget);
     }
-    let body = program::skip(ends, program.len() / 4, 0, p);
+    let body = nodes::skip(ends, program.len() / 4, 0, p);
     run_at(program, ends, p, body, words, budget)
 }
 
@@ -450,20 +451,20 @@ fn run_at(
     if count <= i {
         return pause(words, 0, budget);
     }
-    let node = program::read_node(program, i);
+    let node = nodes::read_node(program, i);
     let kind = node.kind;
     if kind <= 16 {
         return pause(words, 0, budget);
     }
     let d = node.delay as u32;
-    let second = program::next(ends, count, i + 1);
+    let second = nodes::next(ends, count, i + 1);
     match kind {
         17 => pause(words, d, budget),
         18 => assign_at(program, ends, i + 1, node.n, d, words, budget),
         19 => seq_at(program, ends, procedures, i + 1, second, words, budget),
         20 => par_at(program, ends, procedures, i + 1, second, words, budget),
         21 => {
-            let third = program::next(ends, count, second);
+            let third = nodes::next(ends, count, second);
             if_at(
                 program,
                 ends,
@@ -569,7 +570,7 @@ pub fn reference_run(options: Options, program: &[u8], words: &[u8], budget: u32
             }
             let ends = told.ends;
             let k = options.procedures;
-            let main = program::skip(&ends, program.len() / 4, 0, k);
+            let main = nodes::skip(&ends, program.len() / 4, 0, k);
             let ran = run_at(program, &ends, k, main, start_words(words), budget);
             answer(ran, budget)
         }

@@ -1,5 +1,4 @@
 /* The plain engine in C: the published bytes of a state, three passes over the cells for each instant. With COMPACT the state is a compact one.
-   No workload calls a procedure, so that kind 39 is left out.
    published NETLIST INSTANTS STATE: runs a good netlist from zero start words until the finish is high or the instants are done,
    writes the state's bytes into STATE, and prints the nanoseconds of the instants and the memories, the last one first. */
 #include <stdint.h>
@@ -91,11 +90,13 @@ static unsigned shown(unsigned k, const uint8_t *c) {
     case 36: return x == 1 && y != 0;
     case 37: return x == 1 && y == 0;
     case 38: return (x == 1 || r[4]) && (y == 1 || r[5]);
+    case 39: return (x == 1 || r[4]) && y == 1;
     default: return x == 1 ? y : 0;
     }
 }
 
-/* What comes in is counted and what has come out is not: a pulse at a delay's input and the one behind its output, held bits after and before. */
+/* What comes in is counted and what has come out is not: a pulse at a delay's input and the one behind its output, held bits after and before.
+   The merge of a call, 39, forgets a b that comes alone. */
 static void settle_all(void) {
     uint32_t flight;
     memcpy(&flight, state + 4, 4);
@@ -106,11 +107,11 @@ static void settle_all(void) {
             unsigned d = c[1], in = now(get16(c + 2)) == 1;
             flight += in - output(r, d);
             take(r, d, in);
-        } else if (c[0] == 38) {
+        } else if (c[0] == 38 || c[0] == 39) {
             int a = r[4] || now(get16(c + 2)) == 1, b = r[5] || now(get16(c + 4)) == 1;
             flight -= r[4] + r[5];
             r[4] = a && !b;
-            r[5] = b && !a;
+            r[5] = c[0] == 38 && b && !a;
             flight += r[4] + r[5];
         }
     }

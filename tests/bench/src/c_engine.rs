@@ -6,7 +6,7 @@ use crate::tool::{folder, measured, output};
 use crate::workload::{Workload, START};
 use bindings::calls;
 use std::fs;
-use std::path::Path;
+use std::path::{Path, PathBuf};
 use std::process::Command;
 use values::Format;
 
@@ -24,38 +24,43 @@ pub fn compact_row(workload: &Workload) -> Row {
 }
 
 fn engine(workload: &Workload, format: Format) -> Engine {
-    let (tool, options) = match format {
-        Format::Full => ("c", &["-O3"][..]),
-        Format::Compact => ("c-compact", &["-O3", "-DCOMPACT"][..]),
-    };
-    let folder = folder(tool, workload.name);
-    build(&folder, options);
-    fs::write(folder.join("netlist"), &workload.file).expect("the folder can be written");
-    run(&folder, COMPARED);
-    let state = fs::read(folder.join("state")).expect("the run has written it");
-    let proved = proved_state(workload, format);
+    let (program, workload) = (build(format), workload.clone());
+    let (_, state) = run(&program, &workload, COMPARED);
+    let proved = proved_state(&workload, format);
     assert!(state == proved, "C on {}", workload.name);
-    Engine::new(INSTANTS, move || run(&folder, INSTANTS))
+    Engine::new(INSTANTS, move || run(&program, &workload, INSTANTS).0)
 }
 
-fn build(folder: &Path, options: &[&str]) {
+/// Builds the engine for states of a format.
+pub fn build(format: Format) -> PathBuf {
+    let (name, options) = match format {
+        Format::Full => ("full", &["-O3"][..]),
+        Format::Compact => ("compact", &["-O3", "-DCOMPACT"][..]),
+    };
+    let program = folder("c", name).join("published");
     let source = Path::new(env!("CARGO_MANIFEST_DIR")).join("c/published.c");
     output(
         Command::new("gcc")
             .args(options)
             .arg("-o")
-            .arg(folder.join("published"))
+            .arg(&program)
             .arg(source),
     );
+    program
 }
 
-fn run(folder: &Path, instants: u32) -> Measured {
-    measured(
-        Command::new(folder.join("published"))
-            .arg(folder.join("netlist"))
+/// One run, and the state that it leaves.
+pub fn run(program: &Path, workload: &Workload, instants: u32) -> (Measured, Vec<u8>) {
+    let [netlist, state] = ["netlist", "state"].map(|name| program.with_file_name(name));
+    fs::write(&netlist, &workload.file).expect("the folder can be written");
+    let measured = measured(
+        Command::new(program)
+            .arg(&netlist)
             .arg(instants.to_string())
-            .arg(folder.join("state")),
-    )
+            .arg(&state),
+    );
+    let state = fs::read(&state).expect("the run has written it");
+    (measured, state)
 }
 
 fn proved_state(workload: &Workload, format: Format) -> Vec<u8> {

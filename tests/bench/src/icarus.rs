@@ -41,14 +41,15 @@ pub fn row(workload: &Workload) -> Row {
 }
 
 fn engine(workload: &Workload) -> Engine {
-    let program = build(workload);
+    let program = build(workload, BENCH);
     Engine::new(INSTANTS, move || measure(&program))
 }
 
-fn build(workload: &Workload) -> PathBuf {
-    let folder = folder("icarus", workload.name);
+/// Builds the module of a workload with a bench around it.
+pub fn build(workload: &Workload, bench: &str) -> PathBuf {
+    let folder = folder("icarus", &workload.name);
     let (source, program) = (folder.join("hub.v"), folder.join("hub.vvp"));
-    let text = verilog::module(&workload.netlist) + BENCH;
+    let text = verilog::module(&workload.netlist) + bench;
     fs::write(&source, text).expect("the folder can be written");
     output(
         Command::new("iverilog")
@@ -72,10 +73,15 @@ fn measure(program: &Path) -> Measured {
 
 fn timed(program: &Path, instants: u32) -> (u64, String) {
     let begin = Instant::now();
-    let printed = output(
+    let printed = run(program, instants);
+    (begin.elapsed().as_nanos() as u64, printed)
+}
+
+/// What a run prints.
+pub fn run(program: &Path, instants: u32) -> String {
+    output(
         Command::new("vvp")
             .arg(program)
             .arg(format!("+instants={instants}")),
-    );
-    (begin.elapsed().as_nanos() as u64, printed)
+    )
 }

@@ -9,6 +9,8 @@ mod engine;
 mod icarus;
 mod proved_engine;
 mod second_engine;
+#[cfg(test)]
+mod tests;
 mod tool;
 mod verilator;
 mod verilog;
@@ -22,7 +24,7 @@ const ROUNDS: usize = 5;
 
 fn main() {
     for name in WORKLOADS {
-        let workload = Workload::read(name);
+        let workload = Workload::named(name);
         let rows = [
             second_engine::row(&workload),
             proved_engine::row(&workload),

@@ -49,7 +49,7 @@ fn engine(workload: &Workload) -> Engine {
 }
 
 fn build(workload: &Workload) -> PathBuf {
-    let folder = folder("verilator", workload.name);
+    let folder = folder("verilator", &workload.name);
     let text = verilog::module(&workload.netlist);
     fs::write(folder.join("hub.v"), text).expect("the folder can be written");
     fs::write(folder.join("main.cpp"), MAIN).expect("the folder can be written");

@@ -4,8 +4,7 @@
 //! wires, now and an instant ago, words and the number in flight are the same, no
 //! line has two pulses on their way, and refusal 26 never comes up.
 
-use crate::against_equations::instant_of;
-use crate::formats::compacted;
+use crate::formats::{compacted, instant_of};
 use crate::job::{Ask, Call, Job, Room};
 use crate::lend::*;
 use peers::{Peer, Reply};

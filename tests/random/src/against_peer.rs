@@ -2,9 +2,9 @@
 //! lent byte. And each by itself: a refused call changes no lent byte, unless it
 //! is refusal 26.
 
-use crate::against_equations::instant_of;
 use crate::against_text;
 use crate::damage;
+use crate::formats::instant_of;
 use crate::job::{Ask, Call, Job, MOST_INSTANT};
 use crate::lend::*;
 use crate::xorshift::Random;

@@ -1,5 +1,5 @@
-//! The cells of a state in either format, and a state of one format as one of
-//! the other.
+//! The instant and the cells of a state in either format, and a state of one format
+//! as one of the other.
 
 use crate::lend::{cell_length, ARRAYS, HEADER};
 use second::cells::DELAY;
@@ -10,6 +10,10 @@ pub const LEFT: usize = 6;
 
 /// In a full state, the place in a cell of its line.
 const LINE: usize = 8;
+
+pub fn instant_of(state: &[u8]) -> u32 {
+    u32::from_le_bytes([state[0], state[1], state[2], state[3]])
+}
 
 /// The bytes of a cell.
 pub fn bytes_of(format: Format, state: &[u8], cell: usize) -> &[u8] {

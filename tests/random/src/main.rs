@@ -14,18 +14,9 @@ mod against_rules;
 mod against_tables;
 mod against_text;
 mod damage;
+mod equations;
 #[cfg(test)]
 mod faulty;
-#[cfg(test)]
-mod faulty_arrays;
-#[cfg(test)]
-mod faulty_compact;
-#[cfg(test)]
-mod faulty_loops;
-#[cfg(test)]
-mod faulty_procedures;
-#[cfg(test)]
-mod faulty_starts;
 mod flight;
 mod formats;
 mod generate;
@@ -39,8 +30,6 @@ mod tables;
 mod tally;
 mod texts;
 mod typing;
-#[cfg(test)]
-mod walking;
 mod xorshift;
 
 use std::process::ExitCode;

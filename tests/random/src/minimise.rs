@@ -189,7 +189,7 @@ fn cleared_words(job: &Job) -> Vec<Job> {
 mod tests {
     use super::*;
     use crate::against_rules;
-    use crate::faulty::SLOW_PARALLEL;
+    use crate::faulty::runs::SLOW_PARALLEL;
     use peers::SECOND;
 
     #[test]

@@ -8,8 +8,8 @@ use Rattle.program.specs.Ends.{past-later}
 use Rattle.rules.proofs.Nodes.{eval-none, eval-stmt, eval-const, eval-var, eval-compl, eval-elem, eval-op}
 use Rattle.rules.proofs.eval_at.Reads as eval-reads
 use Rattle.rules.proofs.eval_at.Kinds as eval-kinds
-use Rattle.program.proofs.next.Reads as next
-use Rattle.program.proofs.read_node.Reads as read-node
+use Rattle.program.proofs.nodes.next.Reads as next
+use Rattle.program.proofs.nodes.read_node.Reads as read-node
 use Rattle.rules.proofs.element_word.Reads as element-word
 use Rattle.rules.proofs.word_of.Reads as word-of
 use Rattle.word.proofs.operate.Reads as operate

@@ -11,7 +11,7 @@ use Rattle.model.specs.Numbering.{exprCount}
 use Rattle.laws.specs.Program.Trees.{at-var, at-compl, at-elem}
 use Rattle.program.proofs.Children.{Inner, second-later, op-read}
 use Rattle.compiler.proofs.Exprs.{last-fits, const-done, var-done, compl-done, elem-done, op-done, compl-ready, elem-ready, op-first, op-second}
-use Rattle.program.proofs.next.Reads as next-reads
+use Rattle.program.proofs.nodes.next.Reads as next-reads
 use Rattle.compiler.proofs.nodes.expr_node.Reads as expr-node-reads
 use Rattle.compiler.proofs.walk.put_expr.Reads as expr-reads
 use Rattle.compiler.proofs.walk.put_expr.Kinds as expr-kinds

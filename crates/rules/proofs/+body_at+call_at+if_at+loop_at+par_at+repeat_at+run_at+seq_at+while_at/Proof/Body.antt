@@ -3,7 +3,7 @@ use Prim.Native.Nat.{ℕ}
 use native.Mathlib.Omega.{arith}
 use Rattle.rules.proofs.Runs.{stands-as, run-ok}
 use Rattle.rules.proofs.Procedures.{called-none, called-body, body-ready}
-use Rattle.program.proofs.skip.Reads as skip
+use Rattle.program.proofs.nodes.skip.Reads as skip
 use Rattle.rules.proofs.body_at.Reads as body-reads
 use Rattle.rules.proofs.pause.Reads as pause
 use Rattle.rules.proofs.run_at.Reads as run-reads

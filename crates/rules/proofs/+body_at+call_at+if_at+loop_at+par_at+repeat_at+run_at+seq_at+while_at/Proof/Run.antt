@@ -11,8 +11,8 @@ use Rattle.rules.proofs.Nodes.{low-ok}
 use Rattle.rules.proofs.Parts.{ready-as}
 use Rattle.rules.proofs.Procedures.{meant-as}
 use Rattle.rules.proofs.Runs.{stands-as, run-ok, run-exit}
-use Rattle.program.proofs.next.Reads as next
-use Rattle.program.proofs.read_node.Reads as read-node
+use Rattle.program.proofs.nodes.next.Reads as next
+use Rattle.program.proofs.nodes.read_node.Reads as read-node
 use Rattle.rules.proofs.assign_at.Reads as assign-at
 use Rattle.rules.proofs.assign_elem_at.Reads as assign-elem-at
 use Rattle.rules.proofs.call_at.Reads as call-reads

@@ -13,7 +13,7 @@ use Rattle.compiler.specs.Walk.{allExits}
 use Rattle.compiler.proofs.Stmts.{ok-done, tick-done, exit-done, call-done}
 use Rattle.compiler.proofs.Exits.{opened-none}
 use Rattle.compiler.proofs.Parts.{delays-fit, call-fits}
-use Rattle.program.proofs.next.Reads as next-reads
+use Rattle.program.proofs.nodes.next.Reads as next-reads
 use Rattle.compiler.proofs.nodes.stmt_node.Reads as stmt-node-reads
 use Rattle.compiler.proofs.walk.put_tick.Reads as tick-reads
 use Rattle.compiler.proofs.walk.put_assign.Reads as assign-reads

@@ -1,0 +1,14 @@
+//! Peers that go wrong in the ways the papers want rejected, and the tests that the
+//! comparisons tell them from a good one.
+
+mod arrays;
+mod cells;
+mod compact;
+mod loops;
+mod procedures;
+pub mod runs;
+mod starts;
+mod tables;
+mod tests;
+mod texts;
+mod walking;

@@ -1,0 +1,235 @@
+//! The comparisons tell every faulty peer from a good one.
+
+use super::arrays::*;
+use super::cells::*;
+use super::compact::*;
+use super::loops::*;
+use super::procedures::*;
+use super::runs::*;
+use super::starts::*;
+use super::tables::*;
+use super::texts::*;
+use crate::against_peer::Pair;
+use crate::job::{self, Job};
+use crate::texts::has_loops;
+use crate::xorshift::Random;
+use crate::{against_equations, against_full, against_rules, against_tables, against_text};
+use crate::{generate, netlists};
+use peers::{Peer, SECOND};
+use values::Format;
+
+const JOBS: u64 = 40;
+
+fn disagrees_with_rules(peer: &Peer) -> bool {
+    (0..4 * JOBS).any(|seed| against_rules::compare(peer, &Job::of_seed(seed)).is_err())
+}
+
+/// Whether a comparison on random netlists, from random words, fails.
+fn disagrees_on_netlists(
+    compare: impl Fn(&[u8], &[u8], &mut Random) -> Result<(), String>,
+) -> bool {
+    (0..JOBS).any(|seed| {
+        let random = &mut Random::new(seed);
+        let (file, words) = (netlists::netlist(random), generate::start_words(random));
+        compare(&file, &words, random).is_err()
+    })
+}
+
+fn disagrees_with_equations(peer: &Peer) -> bool {
+    disagrees_with_equations_of(Format::Full, peer)
+}
+
+fn disagrees_with_equations_of(format: Format, peer: &Peer) -> bool {
+    disagrees_on_netlists(|file, words, random| {
+        against_equations::compare(peer, format, file, words, random.bits()).map(drop)
+    })
+}
+
+fn disagrees_with_tables(peer: &Peer) -> bool {
+    // A damaged table is rare.
+    (0..10 * JOBS).any(|seed| against_tables::compare(peer, &Job::of_seed(seed)).is_err())
+}
+
+fn disagrees_with_texts(peer: &Peer) -> bool {
+    // A text of exactly the most bytes is rare, and texts take little time.
+    (0..10 * JOBS).any(|seed| against_text::compare(peer, &Job::of_seed(seed)).is_err())
+}
+
+fn with_second(peer: &Peer) -> Pair<'_> {
+    Pair {
+        left: &SECOND,
+        right: peer,
+    }
+}
+
+fn disagrees_with_second(peer: &Peer) -> bool {
+    let pair = with_second(peer);
+    // Reading behind so many cells that numbers wrap is rare.
+    (0..10 * JOBS).any(|seed| pair.compare(&Job::of_seed(seed)).is_err())
+}
+
+fn disagrees_with_second_on_netlists(peer: &Peer) -> bool {
+    let pair = with_second(peer);
+    disagrees_on_netlists(|file, words, random| {
+        pair.compare_netlist(file, words, &job::calls(random), random.bits())
+    })
+}
+
+/// A comparison accepts a good peer and tells each of these.
+fn assert_tells(disagrees: impl Fn(&Peer) -> bool, faulty: &[Peer]) {
+    assert!(!disagrees(&SECOND));
+    for peer in faulty {
+        assert!(disagrees(peer), "{}", peer.name);
+    }
+}
+
+#[test]
+fn rules_tell_faulty_circuits() {
+    let faulty = [SLOW_PARALLEL, EARLY_OPEN, COPYING, STOCK_NETLIST];
+    assert_tells(disagrees_with_rules, &faulty);
+}
+
+/// Of a compiled program no word is taken at the instant of a write, so that
+/// a stale read shows on its wire alone.
+#[test]
+fn rules_tell_faulty_arrays() {
+    assert!(!disagrees_with_rules(&WALKING));
+    assert_tells(disagrees_with_rules, &[ADDRESS_OF_THE_FALL, SEVEN_BITS]);
+}
+
+#[test]
+fn equations_and_a_good_peer_tell_faulty_arrays() {
+    for disagrees in [disagrees_with_equations, disagrees_with_second_on_netlists] {
+        assert!(!disagrees(&WALKING));
+        assert_tells(disagrees, &[ADDRESS_OF_THE_FALL, SEVEN_BITS, STALE_READ]);
+    }
+}
+
+/// The circuits of programs that are accepted, and end otherwise.
+#[test]
+fn rules_tell_faulty_loops() {
+    // An exit that something follows is rare.
+    let disagrees = |peer: &Peer| {
+        let jobs = (0..20 * JOBS).map(Job::of_seed);
+        let mut with_loops = jobs.filter(|job| has_loops(&job.program));
+        with_loops.any(|job| against_rules::compare(peer, &job).is_err())
+    };
+    assert_tells(disagrees, &[DELAY_SPENT, OUTER_LEFT, REST_RUN]);
+}
+
+/// The circuits of programs with calls, and a call's merge in them.
+#[test]
+fn rules_tell_faulty_procedures() {
+    let faulty = [LONE_B_KEPT, NOT_CLEARED, DELAY_SKIPPED];
+    assert_tells(disagrees_with_rules, &faulty);
+}
+
+#[test]
+fn equations_and_a_good_peer_tell_faulty_merges_of_calls() {
+    for disagrees in [disagrees_with_equations, disagrees_with_second_on_netlists] {
+        assert_tells(disagrees, &[LONE_B_KEPT, NOT_CLEARED]);
+    }
+}
+
+/// Compiled programs, started again as soon as they are idle.
+#[test]
+fn rules_tell_faulty_starts() {
+    let faulty = [STALE_COUNT, HASTY, FORGETTING];
+    assert_tells(disagrees_with_rules, &faulty);
+}
+
+/// Programs that are over soon, and then go on to the last instant.
+#[test]
+fn rules_tell_a_start_beyond_the_last_instant() {
+    let disagrees = |peer: &Peer| {
+        [&[16, 0, 0, 0], &[17, 9, 0, 0]].into_iter().any(|program| {
+            let job = Job {
+                table: None,
+                procedures: 0,
+                program: program.to_vec(),
+                calls: job::to_the_last().collect(),
+                ..Job::of_seed(0)
+            };
+            against_rules::compare(peer, &job).is_err()
+        })
+    };
+    assert_tells(disagrees, &[UNCOUNTED]);
+}
+
+#[test]
+fn equations_tell_faulty_starts() {
+    assert_tells(disagrees_with_equations, &[STALE_COUNT, HASTY]);
+}
+
+/// Compiled programs, of which a loop's line is entered as its pulse comes out.
+#[test]
+fn full_states_tell_faulty_compact_ones() {
+    let disagrees = |peer: &Peer| {
+        (0..4 * JOBS).any(|seed| against_full::compare(peer, &Job::of_seed(seed)).is_err())
+    };
+    assert_tells(disagrees, &[ONE_OFF, NARROW]);
+}
+
+#[test]
+fn equations_and_a_good_peer_tell_faulty_compact_states() {
+    let faulty = [ONE_OFF, LATE, BAD_INSTANT, NARROW];
+    assert_tells(
+        |peer| disagrees_with_equations_of(Format::Compact, peer),
+        &faulty,
+    );
+    assert_tells(disagrees_with_second_on_netlists, &faulty);
+}
+
+/// Of the calls that are compared only the check: a clash of arrays is rare,
+/// and so are two sides that share a procedure through others.
+#[test]
+fn a_good_peer_tells_what_a_check_misses() {
+    let disagrees = |peer: &Peer| {
+        (0..100 * JOBS).map(Job::of_seed).any(|job| {
+            let check = |peer: &Peer| (peer.check)(job.given(), &job.program);
+            with_second(peer).same("check", &[], check).is_err()
+        })
+    };
+    let faulty = [ARRAYS_APART, THROUGH_PARALLEL, NOT_THROUGH_CALLS];
+    assert_tells(disagrees, &faulty);
+}
+
+#[test]
+fn equations_tell_faulty_simulators() {
+    assert_tells(disagrees_with_equations, &[EARLY_OPEN, COPYING]);
+}
+
+#[test]
+fn texts_tell_faulty_readers() {
+    let faulty = [MIXED_UP, TRIMMING, SHORT_TEXTS, LATE_PLACE, TEXT_FIRST];
+    assert_tells(disagrees_with_texts, &faulty);
+}
+
+#[test]
+fn tables_tell_faulty_checks_and_compilers() {
+    assert_tells(disagrees_with_tables, &[UNTIMED, TIMED_NETLIST]);
+}
+
+#[test]
+fn a_good_peer_tells_every_faulty_one() {
+    let runs = [SLOW_PARALLEL, EARLY_OPEN, COPYING, STOCK_NETLIST, REFUSING];
+    let readers = [MIXED_UP, TRIMMING, LATE_PLACE];
+    let tables = [UNTIMED, TIMED_NETLIST];
+    let moves = [MOVED_CONSTANTS, STAYING_B, UNWRAPPED, MOVED_FINISH];
+    let lists = [ROOM_TO_SPARE, ABSENT_FINISH];
+    let loops = [DELAY_SPENT, OUTER_LEFT, REST_RUN];
+    let starts = [STALE_COUNT, HASTY, FORGETTING, UNCOUNTED];
+    let procedures = [LONE_B_KEPT, NOT_CLEARED, DELAY_SKIPPED];
+    let faulty = [
+        &runs[..],
+        &readers,
+        &tables,
+        &moves,
+        &lists,
+        &loops,
+        &starts,
+        &procedures,
+    ]
+    .concat();
+    assert_tells(disagrees_with_second, &faulty);
+}

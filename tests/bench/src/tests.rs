@@ -1,7 +1,6 @@
 //! The engines in C and in Verilog against the second simulator, on the compiled
 //! netlists of the vectors.
 
-use crate::tool::is_on_path;
 use crate::workload::{Workload, START};
 use crate::{c_engine, icarus};
 use second::calls;
@@ -44,9 +43,6 @@ fn every_kind_of_cell_occurs() {
 
 /// Holds C against the second simulator: every byte of the state and the words.
 fn assert_same_in_c(format: Format) {
-    if !is_on_path("gcc") {
-        return eprintln!("no gcc on the PATH");
-    }
     let program = c_engine::build(format);
     for workload in workloads() {
         let (measured, state) = c_engine::run(&program, &workload, INSTANTS);
@@ -102,10 +98,8 @@ fn watched(netlist: &Netlist) -> String {
 }
 
 #[test]
+#[ignore = "asks for Icarus Verilog"]
 fn verilog_shows_the_same_wires() {
-    if !["iverilog", "vvp"].into_iter().all(is_on_path) {
-        return eprintln!("no Icarus Verilog on the PATH");
-    }
     for workload in &workloads() {
         let Workload { name, netlist, .. } = workload;
         let program = icarus::build(workload, &watching(netlist));

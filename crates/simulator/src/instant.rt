@@ -1,13 +1,11 @@
-// One further instant of n cells, which stand in a list of six bytes each.
-// Three passes over the cells, each an equation with `upTo` of model/State; the cells fit the state.
-// The third looks for refusal 26 on the way, and then leaves the instant unfinished.
-// The third keeps the number in flight: it adds what comes in and takes off what goes out, cell by cell.
+// One further instant of n cells, which stand in a list of six bytes each and fit the state.
+// Three passes over the cells, each an equation with `upTo` of model/State. The third keeps the number in flight: it adds what comes in and
+// takes off what goes out, cell by cell; and it looks for refusal 26 on its way, where it leaves the instant unfinished.
 ghost use mathlib.Core.Path.{_≡_};
 ghost use Prim.Native.Nat.{_+_, _*_, _<_, _≤_};
 ghost use lib.ListN.{length};
 ghost use Rattle.model.specs.declared.Checked.the-variants.{Accepted};
-ghost use Rattle.model.specs.Word.{put32};
-ghost use Rattle.model.specs.Word.{elementOf};
+ghost use Rattle.model.specs.Word.{elementOf, put32};
 ghost use Rattle.model.specs.Circuit.{cellAt, shape};
 ghost use Rattle.model.specs.State.{elementNow, instantOf, nextValue, value, upTo, aged, stored, shown, settle, settled, counted, crowding, base, stepState};
 ghost use Rattle.laws.specs.State.Flight.{comesIn, goesOut};

@@ -54,19 +54,15 @@ fn shift_line(state: &mut [u8], at: usize, input: bool)
     }
 }
 
-// A pulse that comes in has d instants left, one on its way an instant less.
+// A pulse that comes in has d instants left, one on its way an instant less. One write, whatever comes in, so that it is compiled without
+// branches: pulses come at instants that no branch foretells.
 fn count_down(state: &mut [u8], i: usize, d: u8, input: bool)
     requires { ⌜ i < length (now state) ⌝ }
     ensures { λ _. ⌜ now (state .exit) ≡ set (now (state .entry)) i (pick input d (getD (now (state .entry)) i 0 - 1)) ⌝ }
 {
     let left = state[i];
-    if input {
-        state[i] = d;
-    } else if 0 < left {
-        state[i] = left - 1;
-    } else {
-        state[i] = 0;
-    }
+    let less = if 0 < left { left - 1 } else { 0 };
+    state[i] = if input { d } else { less };
 }
 
 // A delay of d takes its input in.

@@ -1,4 +1,4 @@
--- The exported continuing of a compact state. Assumes nothing.
+-- The exported continuing of a compact state: it is `continue_by` on that format. Assumes nothing.
 use borrow.Author.Needs.{needs}
 use Rattle.exports.proofs.calls.hub_continue_compact.Statement.{statement}
 use Rattle.exports.proofs.calls.hub_continue_compact.Tie as tie

@@ -2,16 +2,27 @@
 //! value`, and flags.
 
 use crate::store::{self, Store, LENGTH};
-use crate::types::{Fault, Format};
+use crate::types::Fault;
 use std::collections::BTreeMap;
 use std::fmt::Display;
+use std::num::IntErrorKind;
 
-/// The options that a command takes: with a value, and without.
+/// The options that a command takes.
 #[derive(Clone, Copy, Debug)]
 pub struct Options {
+    /// Whether it takes a program, and with it what is said of one.
+    pub program: bool,
+    /// With a value, and without.
     pub valued: &'static [&'static str],
     pub flags: &'static [&'static str],
 }
+
+/// What is said of a program: the names of the options, and their usage.
+const OF_PROGRAMS: [(&str, &str); 3] = [
+    ("as", "[--as FORM]"),
+    ("times", "[--times T]"),
+    ("procedures", "[--procedures N]"),
+];
 
 #[derive(Clone, Debug, Default)]
 pub struct Args {
@@ -39,7 +50,7 @@ impl Args {
                 (Some(true), Some(value)) => value.to_string(),
                 (Some(true), None) => match words.next() {
                     Some(value) if !value.starts_with("--") => value.clone(),
-                    _ => return Err(args.missing(name)),
+                    _ => return Err(args.fault(format!("{} wants a value", dashed(name)))),
                 },
                 (Some(false), None) => String::new(),
                 (Some(false), Some(_)) => {
@@ -67,14 +78,6 @@ impl Args {
         self.options.contains_key(name)
     }
 
-    /// The format of a state, as --compact says.
-    pub fn format(&self) -> Format {
-        match self.flag("compact") {
-            true => Format::Compact,
-            false => Format::Full,
-        }
-    }
-
     pub fn value(&self, name: &str) -> Option<&str> {
         self.options.get(name).map(String::as_str)
     }
@@ -84,13 +87,16 @@ impl Args {
         self.value(name).ok_or_else(|| self.missing(name))
     }
 
-    /// An option that is a decimal number of four bytes.
+    /// An option that is a decimal number. One that four bytes can't hold is
+    /// taken as the largest that they can, which the product refuses as well.
     pub fn number(&self, name: &str) -> Result<Option<u32>, Fault> {
         let Some(value) = self.value(name) else {
             return Ok(None);
         };
-        match value.replace(',', "").parse() {
+        let digits = value.replace(',', "");
+        match digits.parse() {
             Ok(number) => Ok(Some(number)),
+            Err(error) if *error.kind() == IntErrorKind::PosOverflow => Ok(Some(u32::MAX)),
             Err(_) => Err(self.fault(format!("{} wants a number, not '{value}'", dashed(name)))),
         }
     }
@@ -131,8 +137,15 @@ impl Options {
     /// Whether an option takes a value, if there is one of this name.
     fn takes(self, name: &str) -> Option<bool> {
         let flag = name == "json" || self.flags.contains(&name);
-        let valued = self.valued.contains(&name);
+        let of_program = OF_PROGRAMS.iter().any(|(option, _)| *option == name);
+        let valued = self.valued.contains(&name) || self.program && of_program;
         (flag || valued).then_some(valued)
+    }
+
+    /// The usage of the options that are said of a program, where there are any.
+    pub fn usage(self) -> String {
+        let usage = OF_PROGRAMS.iter().filter(|_| self.program);
+        usage.map(|(_, usage)| format!(" {usage}")).collect()
     }
 }
 

@@ -31,6 +31,12 @@ pub fn read(name: &str) -> Result<Vec<u8>, Fault> {
     })
 }
 
+/// Whether two names are those of one plain file.
+pub fn are_same(one: &str, other: &str) -> bool {
+    let file = |name: &str| fs::canonicalize(name).ok().filter(|path| path.is_file());
+    file(one).is_some_and(|path| file(other) == Some(path))
+}
+
 /// Writes a file whole: to another file beside it first, which then takes its
 /// name. What is no plain file, as a pipe, is written as it is.
 pub fn write(name: &str, bytes: &[u8]) -> Result<(), Fault> {

@@ -2,7 +2,7 @@
 //! broken over lines, each part indented below what it belongs to.
 
 use crate::layout::TEXT;
-use crate::origin::children;
+use crate::preorder::children;
 use crate::types::Node;
 
 /// How wide a line may be before a statement is broken over several.

@@ -75,6 +75,11 @@ impl Given {
             Some(table) => Some((table.to_string(), files::read(table)?)),
             None => None,
         };
+        let idle = |option: &&str| form == Form::Netlist && args.flag(option);
+        if let Some(option) = ["times", "procedures"].into_iter().find(idle) {
+            let message = "goes with a program, and a netlist is compiled already";
+            return Err(args.fault(format!("--{option} {message}")));
+        }
         let mut given = Given {
             name: files::shown(name).to_string(),
             form,

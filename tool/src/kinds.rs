@@ -62,6 +62,23 @@ pub const CELLS: Templates = Templates {
     any: kind(0, "kind {k} delay {d} a {n} b {m}"),
 };
 
+/// What the children of a node of this kind are to it, in their order.
+pub fn children(kind: u8) -> &'static [&'static str] {
+    match kind {
+        3 => &["operand"],
+        4..=9 => &["first operand", "second operand"],
+        10 => &["index"],
+        18 => &["value"],
+        19 => &["first statement", "second statement"],
+        20 => &["first side", "second side"],
+        21 => &["condition", "then", "else"],
+        22 | 23 => &["condition", "body"],
+        24 => &["index", "value"],
+        25 => &["body"],
+        _ => &[],
+    }
+}
+
 pub const DELAY: u8 = 34;
 pub const MEMORY: u8 = 40;
 pub const ARRAY: u8 = 42;

@@ -2,14 +2,17 @@
 //! what is wrong is told with its line.
 
 use crate::files;
-use crate::refusals::Report;
+use crate::refusals::{Mark, Report};
 use crate::types::{Fault, REFUSED};
 
-/// What is wrong with such a text: the line, counted from 1, and why.
+/// What is wrong with such a text: the line, counted from 1, and why; places
+/// that are shown, and what to do.
 #[derive(Clone, Debug, PartialEq, Eq)]
 pub struct Wrong {
     pub line: usize,
     pub why: String,
+    pub marks: Vec<Mark>,
+    pub remedy: Option<String>,
 }
 
 impl Wrong {
@@ -17,13 +20,23 @@ impl Wrong {
         Wrong {
             line,
             why: why.into(),
+            marks: Vec::new(),
+            remedy: None,
         }
     }
 
     pub fn fault(self, file: &str) -> Fault {
+        let mut message = format!("{}, line {}: {}", files::shown(file), self.line, self.why);
+        let remedy = self.remedy.map(|remedy| format!("  to do: {remedy}"));
+        for line in Mark::all_lines(&self.marks)
+            .lines()
+            .chain(remedy.as_deref())
+        {
+            message += &format!("\n{line}");
+        }
         Fault {
             exit: REFUSED,
-            message: format!("{}, line {}: {}", files::shown(file), self.line, self.why),
+            message,
         }
     }
 }

@@ -48,32 +48,3 @@ pub fn trace(procedures: usize, nodes: &[Node], netlist: &Netlist) -> Result<Tra
     }
     Ok(trace)
 }
-
-/// The number of the node after the last one below this node.
-pub fn subtree_end(nodes: &[Node], node: usize) -> usize {
-    (0..children(nodes[node].kind)).fold(node + 1, |next, _| subtree_end(nodes, next))
-}
-
-/// The nodes at which whole statements begin, one after another, and whether the
-/// last nodes are a statement that isn't whole.
-pub fn roots(nodes: &[Node]) -> (Vec<usize>, bool) {
-    let (mut roots, mut first, mut owed) = (Vec::new(), 0, 1);
-    for (at, node) in nodes.iter().enumerate() {
-        owed = owed - 1 + children(node.kind);
-        if owed == 0 {
-            roots.push(first);
-            (first, owed) = (at + 1, 1);
-        }
-    }
-    (roots, first < nodes.len())
-}
-
-/// How many children a node of this kind has.
-pub fn children(kind: u8) -> usize {
-    match kind {
-        3 | 10 | 18 | 25 => 1,
-        4..=9 | 19 | 20 | 22..=24 => 2,
-        21 => 3,
-        _ => 0,
-    }
-}

@@ -3,7 +3,7 @@
 //! are procedures, a heading stands over each and over the main program.
 
 use crate::kinds::NODES;
-use crate::origin::children;
+use crate::preorder;
 use crate::template::{byte, word};
 use crate::types::Node;
 use std::cmp::Ordering;
@@ -17,11 +17,10 @@ pub enum Heading {
 
 /// The outline of nodes in preorder, of which so many statements are procedures.
 pub fn outline(procedures: usize, nodes: &[Node]) -> String {
-    let mut owed: Vec<usize> = Vec::new();
-    let mut lines = String::new();
-    let (mut roots, indent) = (0, usize::from(procedures > 0));
-    for node in nodes {
-        if owed.is_empty() && procedures > 0 {
+    let (places, _) = preorder::places(nodes);
+    let (mut lines, mut roots, mut depths) = (String::new(), 0, Vec::new());
+    for (node, place) in nodes.iter().zip(&places) {
+        if place.is_none() && procedures > 0 {
             match roots.cmp(&procedures) {
                 Ordering::Less => lines += &format!("procedure {roots}\n"),
                 Ordering::Equal => lines += "main\n",
@@ -29,23 +28,12 @@ pub fn outline(procedures: usize, nodes: &[Node]) -> String {
             }
             roots += 1;
         }
-        lines += &"  ".repeat(indent + owed.len());
-        lines += &words_of(node);
-        lines.push('\n');
-        owed.push(children(node.kind));
-        close(&mut owed);
+        let under_heading = usize::from(procedures > 0);
+        let depth = place.map_or(under_heading, |below| 1 + depths[below.node]);
+        lines += &format!("{}{}\n", "  ".repeat(depth), words_of(node));
+        depths.push(depth);
     }
     lines
-}
-
-/// Leaves the nodes that have all their children.
-fn close(owed: &mut Vec<usize>) {
-    while owed.last() == Some(&0) {
-        owed.pop();
-        if let Some(parent) = owed.last_mut() {
-            *parent -= 1;
-        }
-    }
 }
 
 /// The heading that words are, if they are one.

@@ -129,9 +129,7 @@ impl Report {
             None => self.file.clone(),
         };
         let mut text = format!("{place}: refused {number}: {}\n", self.rule);
-        for (k, mark) in self.marks.iter().enumerate() {
-            text += &mark.lines(k.checked_sub(1).map(|before| &self.marks[before]));
-        }
+        text += &Mark::all_lines(&self.marks);
         if let Some(found) = &self.found {
             text += &format!("  found: {found}\n");
         }

@@ -49,7 +49,7 @@ fn least_delay(table: Table, kind: u8) -> Result<u8, Refusal> {
 fn assignment(kind: u8, delay: u8) -> Vec<u8> {
     let node = |kind, delay| Node { kind, delay, n: 0 };
     let mut nodes = vec![node(18, delay), node(kind, 0)];
-    nodes.extend(vec![node(2, 0); crate::origin::children(kind)]);
+    nodes.extend(vec![node(2, 0); crate::preorder::children(kind)]);
     product::program_bytes(&nodes)
 }
 

@@ -1,59 +1,25 @@
 //! Files: read from a name or standard input, and written whole or not at all.
 
+mod shared;
+
+use shared::{hub, Folder};
 use std::fs;
-use std::io::Write;
 use std::os::unix::fs::{symlink, PermissionsExt};
-use std::path::{Path, PathBuf};
-use std::process::{Command, Output, Stdio};
+use std::path::Path;
+use std::process::Command;
 
 const GOOD: &str = "x0 := 5 @1";
 const REFUSED: &str = "x0 := 5 @0";
 
-/// A folder that goes with the test.
-struct Folder(PathBuf);
-
-impl Folder {
-    fn new(name: &str) -> Folder {
-        let folder = std::env::temp_dir().join(format!("hub-{name}-{}", std::process::id()));
-        fs::create_dir_all(&folder).expect("a folder");
-        Folder(folder)
-    }
-
-    fn at(&self, name: &str) -> PathBuf {
-        self.0.join(name)
-    }
-
-    fn names(&self) -> Vec<String> {
-        let entries = fs::read_dir(&self.0).expect("a folder");
-        let name = |entry: fs::DirEntry| entry.file_name().to_string_lossy().into_owned();
-        let mut names: Vec<String> = entries
-            .map(|entry| name(entry.expect("an entry")))
-            .collect();
-        names.sort();
-        names
-    }
-}
-
-impl Drop for Folder {
-    fn drop(&mut self) {
-        let _ = fs::remove_dir_all(&self.0);
-    }
-}
-
-/// Runs the tool with a text as its standard input.
-fn hub(words: &[&str], input: &str) -> Output {
-    let mut process = Command::new(env!("CARGO_BIN_EXE_hub"))
-        .args(words)
-        .stdin(Stdio::piped())
-        .stdout(Stdio::piped())
-        .stderr(Stdio::piped())
-        .spawn()
-        .expect("the tool runs");
-    let mut pipe = process.stdin.take().expect("a pipe");
-    // A command line that is refused reads nothing.
-    let _ = pipe.write_all(input.as_bytes());
-    drop(pipe);
-    process.wait_with_output().expect("it ends")
+/// The names of what is in a folder, in order.
+fn names(folder: &Folder) -> Vec<String> {
+    let entries = fs::read_dir(folder.at("")).expect("a folder");
+    let name = |entry: fs::DirEntry| entry.file_name().to_string_lossy().into_owned();
+    let mut names: Vec<String> = entries
+        .map(|entry| name(entry.expect("an entry")))
+        .collect();
+    names.sort();
+    names
 }
 
 fn compile(text: &str, to: &Path) -> Option<i32> {
@@ -66,11 +32,11 @@ fn a_refused_program_leaves_a_file_as_it_was() {
     let folder = Folder::new("refused");
     let file = folder.at("a.net");
     assert_eq!(compile(REFUSED, &file), Some(1));
-    assert_eq!(folder.names(), [""; 0]);
+    assert_eq!(names(&folder), [""; 0]);
     fs::write(&file, "before").expect("a file");
     assert_eq!(compile(REFUSED, &file), Some(1));
     assert_eq!(fs::read(&file).expect("it is there"), b"before");
-    assert_eq!(folder.names(), ["a.net"]);
+    assert_eq!(names(&folder), ["a.net"]);
 }
 
 #[test]
@@ -80,7 +46,7 @@ fn a_written_file_is_whole_and_alone() {
     fs::write(&file, vec![7; 9_999]).expect("a file");
     assert_eq!(compile(GOOD, &file), Some(0));
     assert_eq!(fs::read(&file).expect("it is there").len(), 512);
-    assert_eq!(folder.names(), ["a.net"]);
+    assert_eq!(names(&folder), ["a.net"]);
 }
 
 #[test]
@@ -107,10 +73,12 @@ fn a_state_that_is_refused_is_left_as_it_was() {
     assert_eq!(compile(GOOD, &file), Some(0));
     fs::write(&state, vec![9; 2_000]).expect("a file");
     let [file, name] = [&file, &state].map(|path| path.to_str().expect("a name in letters"));
-    for words in [&["go", file, name, "--by", "1"][..], &["start", file, name]] {
-        let told = hub(words, "");
-        assert_eq!(told.status.code(), Some(1));
-        assert_eq!(fs::read(&state).expect("it is there"), vec![9; 2_000]);
+    for call in [&["go", file, name, "--by", "1"][..], &["start", file, name]] {
+        for bare in [&[][..], &["--bare"]] {
+            let told = hub(&[call, bare].concat(), "");
+            assert_eq!(told.status.code(), Some(1));
+            assert_eq!(fs::read(&state).expect("it is there"), vec![9; 2_000]);
+        }
     }
 }
 
@@ -127,6 +95,32 @@ fn a_state_that_is_not_idle_is_left_as_it_was() {
     let error = String::from_utf8_lossy(&told.stderr);
     assert!(error.contains(": refused 23: "), "{error}");
     assert_eq!(fs::read(&state).expect("it is there"), begun);
+}
+
+/// Of whatever name or link: what is read is not written over.
+#[test]
+fn what_is_read_is_left_as_it_was() {
+    let folder = Folder::new("over");
+    let (file, link) = (folder.at("me.hub"), folder.at("link.hub"));
+    fs::write(&file, GOOD).expect("a file");
+    symlink(&file, &link).expect("a link");
+    let name = folder.at("").file_name().expect("a name").to_owned();
+    let round = folder.at("..").join(name).join("me.hub");
+    let names = [&file, &link, &round].map(|path| path.to_str().expect("a name in letters"));
+    for from in names {
+        for to in names {
+            for command in ["compile", "read", "begin", "cells", "outline"] {
+                let told = hub(&[command, from, "-o", to], "");
+                let error = String::from_utf8_lossy(&told.stderr);
+                assert_eq!(told.status.code(), Some(64), "{error}");
+                assert!(error.contains("would write over"), "{error}");
+                assert_eq!(fs::read(&file).expect("it is there"), GOOD.as_bytes());
+            }
+        }
+    }
+    let told = hub(&["format", names[0], "-o", names[0]], "");
+    assert_eq!(told.status.code(), Some(0));
+    assert!(link.is_symlink());
 }
 
 #[test]

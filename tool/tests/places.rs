@@ -2,7 +2,8 @@
 //! asking: held against the product on the vectors of tests/vectors.
 
 use hub::input::{Form, Given};
-use hub::origin::{roots, subtree_end, trace, Ends};
+use hub::origin::{trace, Ends};
+use hub::preorder::{roots, subtree_end};
 use hub::refusals::Report;
 use hub::source::Place;
 use hub::types::{Beside, Node, Refusal, INTERNAL};

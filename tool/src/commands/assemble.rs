@@ -10,13 +10,14 @@ pub const COMMAND: Command = Command {
     name: "assemble",
     usage: "OUTLINE -o PROG [--times T] [--unchecked]",
     about: "makes a program's bytes of an outline",
-    more: "The order of the lines counts; indentation is for the eye, and text after # is passed\n\
-        over. Procedures stand first, each behind a line 'procedure 0' and so on, then the main\n\
-        program behind 'main'; the bytes don't tell how many there are, so that --procedures N has\n\
-        to go with them. A program that the product refuses isn't written, unless --unchecked is given.\n\
-        The other commands take NAME.outline as it is.",
+    more: "The order of the lines counts, and the indentation must agree with it, unless no line is\n\
+        indented; text after # is passed over. Procedures stand first, each behind a line\n\
+        'procedure 0' and so on, then the main program behind 'main'; the bytes don't tell how many\n\
+        there are, so that --procedures N has to go with them. A program that the product refuses\n\
+        isn't written, unless --unchecked is given. The other commands take NAME.outline as it is.",
     example: "hub outline examples/two_boards.hub | hub assemble - -o two_boards.prog",
     options: Options {
+        program: false,
         valued: &["o", "times"],
         flags: &["unchecked"],
     },

@@ -16,7 +16,8 @@ pub const COMMAND: Command = Command {
         What stands after # is for the reader: 'hub wire' takes the list back.",
     example: "hub cells examples/two_boards.hub",
     options: Options {
-        valued: &["as", "times", "o", "procedures"],
+        program: true,
+        valued: &["o"],
         flags: &["all"],
     },
     run,

@@ -10,15 +10,17 @@ use crate::types::{Beside, Done, Span};
 
 pub const COMMAND: Command = Command {
     name: "check",
-    usage: "FILE [--times T] [--as FORM] [--procedures N]",
+    usage: "FILE",
     about: "tells whether a program is accepted, or where and why not",
-    more: "Of an accepted program: its nodes, its cells, and for each delay the least that would\n\
-           do. Of a refused one: line and column, the place, the rule and what to do.\n\
+    more:
+        "Of an accepted program: its nodes, its cells, and for each delay but a tick's the least\n\
+           that would do. Of a refused one: line and column, the place, the rule and what to do.\n\
            NAME.outline is an outline, NAME.prog a program's bytes, NAME.net a netlist, or --as\n\
            says it (text, outline, program, netlist).",
     example: "hub check examples/two_boards.hub",
     options: Options {
-        valued: &["times", "as", "procedures"],
+        program: true,
+        valued: &[],
         flags: &[],
     },
     run,
@@ -49,7 +51,9 @@ fn run(args: &Args) -> Result<Done, Stop> {
 
 fn delays(beside: Beside, program: &Program, text: &[u8]) -> Vec<Delay> {
     let nodes = &program.nodes;
-    let delayed = (0..nodes.len()).filter(|node| has_delay(beside, nodes, *node));
+    // A tick is there for its delay: a smaller one would be another program.
+    let settling = |node: &usize| nodes[*node].kind != TICK && has_delay(beside, nodes, *node);
+    let delayed = (0..nodes.len()).filter(settling);
     let told = |node: usize| {
         let place = program.places.as_ref().map(|places| {
             let whole = places[node].whole;
@@ -66,6 +70,8 @@ fn delays(beside: Beside, program: &Program, text: &[u8]) -> Vec<Delay> {
     };
     delayed.map(told).collect()
 }
+
+const TICK: u8 = 17;
 
 /// The first line of a statement, cut where it is long.
 fn first_line(text: &[u8], whole: Span) -> String {

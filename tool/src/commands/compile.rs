@@ -7,13 +7,14 @@ use crate::types::Done;
 
 pub const COMMAND: Command = Command {
     name: "compile",
-    usage: "FILE -o NET [--times T] [--as FORM] [--procedures N]",
+    usage: "FILE -o NET",
     about: "writes the netlist file of a program",
     more: "FILE is a text, NAME.outline an outline, NAME.prog a program's bytes, or --as says it\n\
            (text, outline, program).",
     example: "hub compile examples/two_boards.hub -o two_boards.net",
     options: Options {
-        valued: &["o", "times", "as", "procedures"],
+        program: true,
+        valued: &["o"],
         flags: &[],
     },
     run,

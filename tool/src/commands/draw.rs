@@ -17,7 +17,8 @@ pub const COMMAND: Command = Command {
         that nothing writes to are left out; --all draws them too.",
     example: "hub draw examples/two_boards.hub -o two_boards.svg",
     options: Options {
-        valued: &["as", "times", "o", "procedures"],
+        program: true,
+        valued: &["o"],
         flags: &["all"],
     },
     run,

@@ -16,7 +16,8 @@ pub const COMMAND: Command = Command {
         exit or procedures has no text.",
     example: "hub format examples/two_boards.hub",
     options: Options {
-        valued: &["as", "times", "o", "procedures"],
+        program: true,
+        valued: &["o"],
         flags: &[],
     },
     run,

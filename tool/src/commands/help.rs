@@ -12,6 +12,7 @@ pub const COMMAND: Command = Command {
     more: "",
     example: "hub help run",
     options: Options {
+        program: false,
         valued: &[],
         flags: &[],
     },

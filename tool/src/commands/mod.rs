@@ -13,20 +13,17 @@ mod outline;
 mod read;
 mod run;
 mod start;
+mod states;
 mod times;
 mod wave;
 mod wire;
 
-use crate::answers::{self, counted};
+use crate::answers::counted;
 use crate::args::{Args, Options};
 use crate::files;
-use crate::input::Given;
 use crate::json::Json;
-use crate::layout::in_flight_in;
-use crate::product;
-use crate::refusals::{self, Report};
-use crate::store::Store;
-use crate::types::{Answer, Done, Fault, Format, Refusal, DONE, OPEN, REFUSED};
+use crate::refusals::Report;
+use crate::types::{Done, Fault, REFUSED};
 
 pub struct Command {
     pub name: &'static str,
@@ -128,6 +125,7 @@ fn chosen(words: &[String]) -> Result<Done, Stop> {
         return Ok(help::page(command, has("--json")));
     }
     let args = Args::parse(command.options, usage(command), words)?;
+    check_output(command, &args)?;
     (command.run)(&args)
 }
 
@@ -150,7 +148,34 @@ fn named(name: &str) -> Result<&'static Command, Fault> {
 
 /// How a command is called.
 fn usage(command: &Command) -> String {
-    format!("hub {} {}", command.name, command.usage)
+    let of_program = command.options.usage();
+    format!("hub {} {}{of_program}", command.name, command.usage)
+}
+
+/// No command writes over what it reads, but for those that are there to change a
+/// file.
+fn check_output(command: &Command, args: &Args) -> Result<(), Fault> {
+    let changed = match command.name {
+        "format" => Some(0),
+        "go" | "start" => Some(1),
+        _ => None,
+    };
+    let read = args.given.iter().enumerate();
+    let read = read.filter(|(word, _)| Some(*word) != changed);
+    let read = read
+        .map(|(_, word)| word.as_str())
+        .chain(args.value("times"));
+    let Some(out) = args.value("o") else {
+        return Ok(());
+    };
+    match read.into_iter().find(|name| files::are_same(name, out)) {
+        Some(name) => {
+            let message =
+                format!("-o {out} would write over {name}, which is read; give another name");
+            Err(Fault::usage(message))
+        }
+        None => Ok(()),
+    }
 }
 
 /// Writes a command's file and tells it, with a count of what is in it.
@@ -200,49 +225,4 @@ fn put(
     } else {
         format!("{to}: {length} bytes, {told}\n").into_bytes()
     }))
-}
-
-/// Tells the answer of a run that had these words before and has come to this
-/// state.
-fn answered(args: &Args, start: &Store, answer: &Answer, state: &[u8], cells: usize) -> Done {
-    let last = product::contents(args.format(), answer, state, cells);
-    let in_flight = in_flight_in(state);
-    let output = match args.flag("json") {
-        true => {
-            let mut fields = answers::fields(answer, &last);
-            fields.push(("in_flight", Json::number(in_flight)));
-            Json::Object(fields).line()
-        }
-        false => {
-            let all = args.flag("all");
-            answers::text_of_state(start, answer, &last, in_flight, all).into_bytes()
-        }
-    };
-    let exit = if answer.ended { DONE } else { OPEN };
-    Done { exit, output }
-}
-
-/// Makes a call on the state in a file, writes it back or to the file of -o, and
-/// tells the answer. A refused one is left as it is, unless the call has brought
-/// it to its last good instant.
-fn on_state(
-    args: &Args,
-    call: impl FnOnce(Format, &[u8], &mut [u8]) -> Result<Answer, Refusal>,
-) -> Result<Done, Stop> {
-    let [file, state_file] = args.exactly(["FILE", "STATE"])?;
-    let (format, circuit) = (args.format(), Given::read(args, file)?.circuit()?);
-    let cells = circuit.netlist.cells.len();
-    let mut state = files::read(state_file)?;
-    // By none: the words as they are.
-    let before = product::go(format, &circuit.file, &mut state, 0)
-        .map_err(|met| refusals::of_state(state_file, &state, met))?;
-    let start = product::contents(format, &before, &state, cells);
-    let answer = call(format, &circuit.file, &mut state);
-    if matches!(answer, Ok(_) | Err(Refusal { number: 26, .. })) {
-        files::write(args.value("o").unwrap_or(state_file), &state)?;
-    }
-    match answer {
-        Ok(answer) => Ok(answered(args, &start, &answer, &state, cells)),
-        Err(met) => Err(refusals::of_run(state_file, &circuit.netlist, &state, met).into()),
-    }
 }

@@ -18,7 +18,8 @@ pub const COMMAND: Command = Command {
         where the product refuses them; --procedures N tells how many procedures they begin with.",
     example: "hub outline examples/two_boards.hub",
     options: Options {
-        valued: &["as", "times", "o", "procedures"],
+        program: true,
+        valued: &["o"],
         flags: &[],
     },
     run,

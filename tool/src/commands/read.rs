@@ -7,12 +7,13 @@ use crate::types::Done;
 
 pub const COMMAND: Command = Command {
     name: "read",
-    usage: "FILE -o PROG [--times T]",
+    usage: "FILE -o PROG",
     about: "writes the bytes of a text's program",
     more: "The bytes are those that hubtext writes and hubrun reads; a refused text writes none.",
     example: "hub read examples/two_boards.hub -o two_boards.prog",
     options: Options {
-        valued: &["o", "times", "as", "procedures"],
+        program: true,
+        valued: &["o"],
         flags: &[],
     },
     run,

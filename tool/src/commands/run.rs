@@ -13,7 +13,7 @@ use crate::types::{Answer, Done, End, Fault, Format, Refusal, DONE, OPEN};
 
 pub const COMMAND: Command = Command {
     name: "run",
-    usage: "FILE [xK=N aK[I]=N ..] [--budget N] [--times T] [--all] [--as FORM] [--procedures N]",
+    usage: "FILE [xK=N aK[I]=N ..] [--budget N] [--all]",
     about: "runs a program on its circuit, and tells what the rules say",
     more: "FILE is a text; NAME.outline is an outline, NAME.prog a program's bytes, NAME.net a\n\
            netlist, or --as says it (text, outline, program, netlist). x0=3 is the word that x0\n\
@@ -23,7 +23,8 @@ pub const COMMAND: Command = Command {
            elements that aren't 0. The exit status is 0 if the run ended, 2 if it is still open.",
     example: "hub run examples/two_boards.hub x0=3 x1=5",
     options: Options {
-        valued: &["budget", "times", "as", "procedures"],
+        program: true,
+        valued: &["budget"],
         flags: &["all"],
     },
     run,
@@ -55,7 +56,7 @@ fn run(args: &Args) -> Result<Done, Stop> {
         true => json(&start, &answer, &last, rules).line(),
         false => {
             let told = answers::text(&start, &answer, &last, args.flag("all"));
-            (told + &said(&answer, rules)).into_bytes()
+            (told + &said(&answer, rules, writes_elements(&circuit))).into_bytes()
         }
     };
     let exit = if answer.ended { DONE } else { OPEN };
@@ -92,11 +93,25 @@ fn agree(answer: &Answer, rules: Option<Option<End>>) -> Result<(), Fault> {
     }
 }
 
+/// Whether elements may change in a run: the rules don't tell them, so that those of
+/// the circuit are held against nothing.
+fn writes_elements(circuit: &Circuit) -> bool {
+    let program = circuit.program.as_ref();
+    let nodes = program.map_or(&[][..], |(program, _)| &program.nodes);
+    nodes.iter().any(|node| node.kind == ELEMENT_ASSIGNMENT)
+}
+
+const ELEMENT_ASSIGNMENT: u8 = 24;
+
 /// What the rules say, as a line.
-fn said(answer: &Answer, rules: Option<Option<End>>) -> String {
+fn said(answer: &Answer, rules: Option<Option<End>>, arrays: bool) -> String {
+    let same = match arrays {
+        true => "the same x0 to x15; elements are not compared",
+        false => "the same words",
+    };
     let said = match rules {
         None => "no rules: a netlist alone was given".to_string(),
-        Some(Some(end)) => format!("the rules: ended at {}, with the same words", end.instant),
+        Some(Some(end)) => format!("the rules: ended at {}, with {same}", end.instant),
         Some(None) => format!("the rules: no end up to {}", answer.instant),
     };
     said + "\n"

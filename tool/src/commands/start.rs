@@ -1,23 +1,27 @@
 //! `hub start`: a second start pulse for a run whose state is in a file.
 
-use super::{on_state, Command, Stop};
+use super::states::on_state;
+use super::{Command, Stop};
 use crate::args::{Args, Options};
 use crate::product;
 use crate::types::{Done, DONE};
 
 pub const COMMAND: Command = Command {
     name: "start",
-    usage: "FILE STATE [-o STATE] [--compact] [--times T] [--as FORM] [--procedures N]",
+    usage: "FILE STATE [-o STATE] [--bare [--compact]] [--all]",
     about: "starts an idle hub again, by a start pulse in the next instant",
     more:
         "A hub is idle when no pulse is in flight, as it is from a program's end on. The program\n\
            then runs once more, from the words and elements that are there; 'hub go' goes on with\n\
            it. The state is written back, or with -o to another file; a refused one is left as it\n\
-           is. One that was begun with --compact is started so. The exit status is 0.",
+           is. It is started under the netlist that it was begun with, and no other. A bare one,\n\
+           which doesn't tell that, is taken with --bare, and with --compact if it is compact. The\n\
+           exit status is 0.",
     example: "hub start two_boards.net two_boards.state",
     options: Options {
-        valued: &["o", "times", "as", "procedures"],
-        flags: &["all", "compact"],
+        program: true,
+        valued: &["o"],
+        flags: &["all", "bare", "compact"],
     },
     run,
 };

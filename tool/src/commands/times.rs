@@ -17,6 +17,7 @@ pub const COMMAND: Command = Command {
         built-in times are shown.",
     example: "hub times sum=12 less=9 -o fast.times",
     options: Options {
+        program: false,
         valued: &["o"],
         flags: &[],
     },

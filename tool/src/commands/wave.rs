@@ -23,7 +23,8 @@ pub const COMMAND: Command = Command {
         instants.",
     example: "hub wave examples/two_boards.hub x0=1 x1=2 --to 40",
     options: Options {
-        valued: &["as", "times", "from", "to", "starts", "wires", "o", "procedures"],
+        program: true,
+        valued: &["from", "to", "starts", "wires", "o"],
         flags: &["all"],
     },
     run,

@@ -17,6 +17,7 @@ pub const COMMAND: Command = Command {
         stand behind 'idle memories'. Text after # is passed over.",
     example: "hub cells examples/two_boards.hub | hub wire - -o two_boards.net",
     options: Options {
+        program: false,
         valued: &["o"],
         flags: &[],
     },

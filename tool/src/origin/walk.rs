@@ -1,6 +1,7 @@
 //! The layout of a program's cells, with the node and the role of each.
 
-use super::{array_behind, roots, subtree_end, Ends, Trace};
+use super::{array_behind, Ends, Trace};
+use crate::preorder::{roots, subtree_end};
 use crate::store::{ARRAYS, VARIABLES};
 use crate::types::{Cell, Netlist, Node, Origin};
 

@@ -3,7 +3,7 @@
 
 use super::calls;
 use crate::kinds::idle_array;
-use crate::origin::subtree_end;
+use crate::preorder::subtree_end;
 use crate::product;
 use crate::store::{ARRAYS, VARIABLES};
 use crate::types::{Beside, Cell, Netlist, Node, Refusal};

@@ -1,6 +1,6 @@
 //! Who calls whom in a refused program, for what is told of a call.
 
-use crate::origin::{roots, subtree_end};
+use crate::preorder::{roots, subtree_end};
 use crate::types::Node;
 use std::ops::Range;
 

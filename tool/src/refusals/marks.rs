@@ -41,8 +41,15 @@ impl Mark {
         }
     }
 
+    /// The lines of several marks, one after another.
+    pub fn all_lines(marks: &[Mark]) -> String {
+        let before = |k: usize| k.checked_sub(1).map(|before| &marks[before]);
+        let lines = marks.iter().enumerate();
+        lines.map(|(k, mark)| mark.lines(before(k))).collect()
+    }
+
     /// The line, unless it was shown before, and the caret under the place.
-    pub fn lines(&self, before: Option<&Mark>) -> String {
+    fn lines(&self, before: Option<&Mark>) -> String {
         let number = self.line.to_string();
         let blank = " ".repeat(number.len());
         let Mark {

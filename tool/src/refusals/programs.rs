@@ -3,6 +3,8 @@
 use super::{asking, calls, least_delay, Mark, Report};
 use crate::answers::counted;
 use crate::input::{Form, Given};
+use crate::kinds;
+use crate::preorder::{self, Below};
 use crate::product;
 use crate::source::Source;
 use crate::types::{Fault, Node, Refusal};
@@ -35,6 +37,13 @@ fn of_nodes(mut report: Report, given: &Given, nodes: &[Node], source: Option<&S
                 "put the steps of two procedures into one, or into their callers".into();
             report.found = Some(counted(given.procedures, "procedure"));
         }
+        1 if nodes.is_empty() => {
+            report.found = Some(match given.form {
+                Form::Outline => "no node".into(),
+                _ => counted(given.bytes.len(), "byte"),
+            });
+            report.remedy = "give a program of at least one node, such as ok".into();
+        }
         1 if source.is_none() => {
             report.found = Some(format!("{} bytes", given.bytes.len()));
         }
@@ -42,6 +51,7 @@ fn of_nodes(mut report: Report, given: &Given, nodes: &[Node], source: Option<&S
             report.found = Some(format!("{} nodes", nodes.len()));
             report.remedy = "make the program shorter".into();
         }
+        6 => of_tree(&mut report, given, nodes, source),
         7 => of_delay(&mut report, given, nodes, source),
         8 => of_clash(&mut report, given, nodes, source),
         22 => of_exit(&mut report, given, nodes, source),
@@ -52,7 +62,7 @@ fn of_nodes(mut report: Report, given: &Given, nodes: &[Node], source: Option<&S
     report
 }
 
-/// Refusals 2 to 6, at a node or at the end of all.
+/// Refusals 2 to 5, at a node.
 fn of_node(report: &mut Report, given: &Given, nodes: &[Node], source: Option<&Source>) {
     let Refusal { number, place } = report.refusal;
     if number == 4 {
@@ -66,6 +76,39 @@ fn of_node(report: &mut Report, given: &Given, nodes: &[Node], source: Option<&S
         Some(found) => report.marks = vec![Mark::new(&given.bytes, found.whole, "")],
         None => report.found = Some(node_shown(nodes, place)),
     }
+}
+
+/// Refusal 6: nodes that are missing at the end, or a first one that is left.
+fn of_tree(report: &mut Report, given: &Given, nodes: &[Node], source: Option<&Source>) {
+    let place = report.refusal.place;
+    if given.form == Form::Text {
+        report.rule = "a text is one statement, and has no procedures".into();
+        report.remedy =
+            "leave --procedures out, or write the program as an outline, which has them".into();
+        report.found = Some(counted(given.procedures, "procedure"));
+        return;
+    }
+    if place < nodes.len() {
+        report.rule = "this node is left over: the program is whole before it".into();
+        report.remedy = "leave it out, or put both statements into a sequence".into();
+        return show(report, given, nodes, source, &[(place, "")]);
+    }
+    let Some(Below { node, child }) = preorder::places(nodes).1 else {
+        let (roots, _) = preorder::roots(nodes);
+        let missing = match roots.len() {
+            root if root < given.procedures => format!("procedure {root}"),
+            _ => "the main program".to_string(),
+        };
+        report.rule = format!("the nodes run out: {missing} is missing");
+        report.remedy =
+            "write one statement for each procedure, and one for the main program".into();
+        report.found = Some(format!("{} in all", counted(place, "node")));
+        return;
+    };
+    let role = kinds::children(nodes[node].kind)[child];
+    report.rule = format!("the nodes run out: the {role} of this node is missing");
+    report.remedy = "put each node's children after it, all of them".into();
+    show(report, given, nodes, source, &[(node, "")]);
 }
 
 fn of_delay(report: &mut Report, given: &Given, nodes: &[Node], source: Option<&Source>) {
@@ -245,10 +288,6 @@ fn is_array(node: Node) -> bool {
 }
 
 fn node_shown(nodes: &[Node], place: usize) -> String {
-    match nodes.get(place) {
-        Some(Node { kind, delay, n }) => {
-            format!("node {place} has kind {kind}, delay {delay}, n {n}")
-        }
-        None => format!("{} in all", counted(place, "node")),
-    }
+    let Node { kind, delay, n } = nodes[place];
+    format!("node {place} has kind {kind}, delay {delay}, n {n}")
 }

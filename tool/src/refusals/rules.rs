@@ -129,16 +129,16 @@ pub const RULES: &[Rule] = &[
         14,
         Counts::Nothing,
         "this state is shorter than a state of the netlist is",
-        "give the state that 'hub begin', 'hub go' or 'hub start' wrote for this netlist, \
-         with --compact if it was begun so",
+        "give the state that 'hub begin', 'hub go' or 'hub start' wrote for this netlist; \
+         with --bare, give --compact if it was begun so",
     ),
     rule_of(
         15,
         Counts::Nothing,
         "no run of the netlist could leave this state: a control wire is neither 0 nor 1, \
          bits are set where the cell holds none, or the number in flight isn't that of its cells",
-        "give the state that 'hub begin', 'hub go' or 'hub start' wrote for this netlist, \
-         with --compact if it was begun so",
+        "give the state that 'hub begin', 'hub go' or 'hub start' wrote for this netlist; \
+         with --bare, give --compact if it was begun so",
     ),
     rule_of(
         16,

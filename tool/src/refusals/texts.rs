@@ -3,44 +3,89 @@
 use super::{asking, Mark, Report};
 use crate::input::Given;
 use crate::layout::TEXT;
-use crate::source;
-use crate::types::Span;
+use crate::types::{Beside, Span};
+use crate::{product, source};
 
 /// Refusal 17: a word outside the language, or a text that is too long.
 pub fn of_word(mut report: Report, text: &[u8]) -> Report {
     let place = report.refusal.place;
-    // The place of a text that is too long is the most that one may have.
-    let long = text.len() > place && place == TEXT;
     let word = source::word_at(text, place);
-    let (rule, remedy) = match text.get(place).copied() {
-        _ if long => ("a text has at most 4,096 bytes", "make it shorter"),
-        Some(b'x') => ("this is no variable", "use x0 to x15"),
-        Some(b'0'..=b'9') => (
+    report.marks = vec![Mark::new(text, word, "")];
+    // The place of a text that is too long is the most that one may have.
+    let (rule, remedy) = match text.len() > place && place == TEXT {
+        true => {
+            report.found = Some(format!("{} bytes", text.len()));
+            ("a text has at most 4,096 bytes", "make it shorter".into())
+        }
+        false => outside(&text[word.start..word.end], &text[word.end..]),
+    };
+    report.rule = rule.to_string();
+    report.remedy = remedy;
+    report
+}
+
+const BYTE_ORDER_MARK: &[u8] = "\u{feff}".as_bytes();
+
+/// What is told of a word outside the language, with what stands behind it: much
+/// that people type by habit has another form here, or none.
+fn outside(word: &[u8], rest: &[u8]) -> (&'static str, String) {
+    let (rule, remedy) = match word {
+        b"\r" if rest.starts_with(b"\n") => (
+            "this line ends with a carriage return and a line feed",
+            "save the text with line feeds alone",
+        ),
+        b"\r" | b"\t" => (
+            "this is a tab or a carriage return",
+            "separate words by spaces and line feeds",
+        ),
+        BYTE_ORDER_MARK => (
+            "the text begins with a byte order mark",
+            "save it as plain text, without the mark",
+        ),
+        b"#" => (
+            "texts have no comments",
+            "leave it out; an outline may have them",
+        ),
+        b">" if rest.starts_with(b"=") => (
+            "there is no sign for 'at least'",
+            "write (a < b) = 0 for a >= b",
+        ),
+        b">" => (
+            "there is no sign for 'greater'",
+            "write it the other way round, b < a for a > b",
+        ),
+        b"loop" | b"exit" | b"call" | b"procedure" => (
+            "texts have no words for loop, exit and procedures",
+            "write the program as an outline of nodes, which has them",
+        ),
+        [b'[' | b']'] | [b'a', b'0'..=b'9', ..] => (
+            "texts have no words for arrays",
+            "write the program as an outline of nodes, which has 'element a0' and 'assign a0'",
+        ),
+        [b'x', ..] => ("this is no variable", "use x0 to x15"),
+        [b'0'..=b'9', ..] => (
             "this is no number, or too big a one",
             "write it in decimal without leading zeros, at most 65535, \
              right after @ and tick at most 255",
         ),
-        Some(b'\t' | b'\r') => (
-            "this is a tab or a carriage return",
-            "separate words by spaces and line feeds",
-        ),
-        _ if matches!(&text[word.start..word.end], b"loop" | b"exit") => (
-            "texts have no word for loop and exit",
-            "write the program as an outline of nodes, which has them",
-        ),
-        _ => (
-            "this is no word of the language",
-            "use ok tick if then else while do repeat until end, x0 to x15, numbers \
-             and := @ ; || { } ( ) ! + - = < & |",
-        ),
+        _ if word.iter().any(u8::is_ascii_uppercase) => return capitals(word),
+        _ => ("this is no word of the language", WORDS),
     };
-    report.rule = rule.to_string();
-    report.remedy = remedy.to_string();
-    if long {
-        report.found = Some(format!("{} bytes", text.len()));
-    }
-    report.marks = vec![Mark::new(text, word, "")];
-    report
+    (rule, remedy.to_string())
+}
+
+const WORDS: &str = "use ok tick if then else while do repeat until end, x0 to x15, numbers \
+    and := @ ; || { } ( ) ! + - = < & |";
+
+/// A word with capital letters: the same in small ones, if the product knows that.
+fn capitals(word: &[u8]) -> (&'static str, String) {
+    let small = word.to_ascii_lowercase();
+    let met = product::read_text(Beside::NOTHING, &small).err();
+    let remedy = match met.is_some_and(|met| met.number == 17) {
+        true => WORDS.to_string(),
+        false => format!("write {}", String::from_utf8_lossy(&small)),
+    };
+    ("texts have no capital letters", remedy)
 }
 
 /// Refusal 18: a word with which the text can't go on.

@@ -3,6 +3,7 @@
 //! generated programs of every kind.
 
 mod circuits;
+mod indentation;
 mod kinds;
 mod pictures;
 mod programs;

@@ -75,7 +75,7 @@ fn headings_tell_the_procedures() {
         (
             "procedure 0\nsequence\nok\nmain\nok",
             4,
-            "one whole statement",
+            "the second statement of the `sequence` in line 2 is missing",
         ),
         (
             "procedure 0\nok\nok\nmain\nok",

@@ -2,6 +2,7 @@
 //! refusal a text, a program, a netlist, a state or a table that meets it.
 
 use hub::product;
+use hub::trailer::Trailer;
 use hub::types::{Beside, Format};
 use std::fs;
 use std::path::Path;
@@ -28,6 +29,16 @@ const TEXTS: &[(&str, &str)] = &[
     ("empty.hub", ""),
     ("open.hub", "while 1 @1 do ok end\n"),
     ("count.hub", "x0 := x0 + 1 @16\n"),
+    ("edited.hub", "x0 := x0 + 2 @16\n"),
+    ("crlf.hub", "ok ;\r\nok\r\n"),
+    ("mark.hub", "\u{feff}ok\n"),
+    ("capitals.hub", "While x0 @1 do ok end\n"),
+    ("clock.hub", "Clock := 1 @1\n"),
+    ("comment.hub", "ok # nothing to do\n"),
+    ("greater.hub", "x0 := x1 > 3 @17\n"),
+    ("at_least.hub", "x0 := x1 >= 3 @17\n"),
+    ("array.hub", "x0 := a0[3] @4\n"),
+    ("call.hub", "call 0 @1\n"),
     ("loop.hub", "loop @1 do exit end\n"),
     ("exit.hub", "while 1 @1 do exit end\n"),
 ];
@@ -84,6 +95,29 @@ const LINES: &[(&str, &str)] = &[
         "procedure 0\n  ok\n  tick @3\nmain\n  call 0 @1\n",
     ),
     ("order.outline", "procedure 1\n  ok\nmain\n  ok\n"),
+    ("empty.outline", "# nothing yet\n"),
+    (
+        "else.outline",
+        "sequence\n  if @0\n    variable x0\n    ok\n  tick @3\n  tick @4\n",
+    ),
+    ("deep.outline", "sequence\n  ok\n    tick @3\n"),
+    ("ragged.outline", "sequence\n    ok\n  tick @3\n"),
+    ("outdent.outline", "sequence\n  ok\ntick @3\n"),
+    ("tabs.outline", "sequence\n  ok\n\ttick @3\n"),
+    ("tabbed.outline", "sequence\n\tok\n\ttick @3\n"),
+    ("flat.outline", "sequence\nok\ntick @3\n"),
+    ("below.outline", "ok\n  tick @3\n"),
+    ("left.outline", "ok\ntick @3\n"),
+    ("no_heading.outline", "procedure 0\n  ok\n  call 0 @1\n"),
+    ("no_main.outline", "procedure 0\n  tick @1\n"),
+    (
+        "cut_body.outline",
+        "procedure 0\n  sequence\n    ok\nmain\n  tick @3\n",
+    ),
+    (
+        "missing.outline",
+        "sequence\n  ok\n  if @0\n    variable x0\n    tick @1\n",
+    ),
     (
         "memories.list",
         "finish start\nstart\nground\nconstant 0\n18 delay 1 of start\nconstant 1\nconstant 1\n\
@@ -256,14 +290,18 @@ fn netlists(put: &impl Fn(&str, &[u8])) {
     put("kind.net", &summed(&damaged(&file, 8 + 6 * 3, 99)));
     put("memories.net", &summed(&damaged(&file, 8 + 6 * 4, 41)));
     put("finish.net", &summed(&damaged(&file, 4, 2)));
-    put("tick.state", &state);
-    put("short.state", &state[..100]);
-    put("held.state", &damaged(&state, 8 + 4, 1));
-    put("number.state", &damaged(&state, 4, 2));
+    let trailer = Trailer::new(Format::Full, &file).bytes();
+    let keep = |name: &str, state: &[u8]| put(name, &[state, &trailer].concat());
+    put("bare.state", &state);
+    put("cut.state", &state[..100]);
+    keep("tick.state", &state);
+    keep("short.state", &state[..100]);
+    keep("held.state", &damaged(&state, 8 + 4, 1));
+    keep("number.state", &damaged(&state, 4, 2));
     let mut idle = state;
     product::go(Format::Full, &file, &mut idle, 2).expect("it ends");
     idle[..4].copy_from_slice(&1_000_000_u32.to_le_bytes());
-    put("last.state", &idle);
+    keep("last.state", &idle);
 }
 
 fn damaged(bytes: &[u8], at: usize, byte: u8) -> Vec<u8> {

@@ -1,0 +1,142 @@
+//! Runs whose state is kept in a file: written with a trailer that tells its netlist
+//! and its format, and gone on with under that netlist alone. With --bare the state
+//! stands alone in its file, as a hub has it in its memory.
+
+use super::Stop;
+use crate::answers;
+use crate::args::Args;
+use crate::files;
+use crate::input::{Circuit, Given};
+use crate::json::Json;
+use crate::layout::in_flight_in;
+use crate::product;
+use crate::refusals;
+use crate::store::Store;
+use crate::trailer::Trailer;
+use crate::types::{Answer, Done, Fault, Format, Refusal, DONE, OPEN, REFUSED};
+
+/// A state, and what stands behind it in its file.
+pub struct Kept {
+    pub format: Format,
+    pub state: Vec<u8>,
+    /// None for a bare state.
+    pub trailer: Option<Trailer>,
+}
+
+impl Kept {
+    /// A state that was begun on a circuit.
+    pub fn begun(args: &Args, circuit: &Circuit, format: Format, state: Vec<u8>) -> Kept {
+        let trailer = (!args.flag("bare")).then(|| Trailer::new(format, &circuit.file));
+        Kept {
+            format,
+            state,
+            trailer,
+        }
+    }
+
+    /// Reads a state that is to go on under this circuit, which came from FILE.
+    fn read(args: &Args, name: &str, circuit: &Circuit, file: &str) -> Result<Kept, Fault> {
+        let bytes = files::read(name)?;
+        let (name, bare) = (files::shown(name), args.flag("bare"));
+        let (state, trailer) = match (Trailer::split(&bytes), bare) {
+            (Some((state, trailer)), false) => (state, Some(trailer)),
+            (None, true) => (&bytes[..], None),
+            (Some(_), true) => {
+                let message = format!("{name} tells of which netlist it is; leave --bare out");
+                return Err(args.fault(message));
+            }
+            (None, false) => {
+                return Err(refused(format!(
+                    "{name} doesn't tell of which netlist it is: it is no state, or was cut off, \
+                     or is a bare one; give --bare if it is a bare state of {file}"
+                )))
+            }
+        };
+        let asked = asked_format(args);
+        let format = trailer.as_ref().map_or(asked, |trailer| trailer.format);
+        if args.flag("compact") && format != asked {
+            return Err(args.fault(format!("{name} is a full state; leave --compact out")));
+        }
+        if trailer
+            .as_ref()
+            .is_some_and(|own| !own.is_of(&circuit.file))
+        {
+            return Err(refused(format!(
+                "{name} is a state of another netlist than that of {file}: the program has changed \
+                 since the run was begun, or it is another one; go on with the file that it was \
+                 begun with, or begin anew with 'hub begin'"
+            )));
+        }
+        Ok(Kept {
+            format,
+            state: state.to_vec(),
+            trailer,
+        })
+    }
+
+    pub fn write(&self, name: &str) -> Result<(), Fault> {
+        let trailer = self.trailer.as_ref().map(Trailer::bytes);
+        files::write(
+            name,
+            &[&self.state[..], &trailer.unwrap_or_default()].concat(),
+        )
+    }
+
+    /// Tells the answer of a run that had these words before and has come to this
+    /// state.
+    pub fn answered(&self, args: &Args, start: &Store, answer: &Answer, cells: usize) -> Done {
+        let last = product::contents(self.format, answer, &self.state, cells);
+        let in_flight = in_flight_in(&self.state);
+        let output = match args.flag("json") {
+            true => {
+                let mut fields = answers::fields(answer, &last);
+                fields.push(("in_flight", Json::number(in_flight)));
+                Json::Object(fields).line()
+            }
+            false => {
+                let all = args.flag("all");
+                answers::text_of_state(start, answer, &last, in_flight, all).into_bytes()
+            }
+        };
+        let exit = if answer.ended { DONE } else { OPEN };
+        Done { exit, output }
+    }
+}
+
+/// The format that --compact asks for.
+pub fn asked_format(args: &Args) -> Format {
+    match args.flag("compact") {
+        true => Format::Compact,
+        false => Format::Full,
+    }
+}
+
+fn refused(message: String) -> Fault {
+    let exit = REFUSED;
+    Fault { exit, message }
+}
+
+/// Makes a call on the state in a file, writes it back or to the file of -o, and
+/// tells the answer. A refused one is left as it is, unless the call has brought
+/// it to its last good instant.
+pub fn on_state(
+    args: &Args,
+    call: impl FnOnce(Format, &[u8], &mut [u8]) -> Result<Answer, Refusal>,
+) -> Result<Done, Stop> {
+    let [file, name] = args.exactly(["FILE", "STATE"])?;
+    let circuit = Given::read(args, file)?.circuit()?;
+    let cells = circuit.netlist.cells.len();
+    let mut kept = Kept::read(args, name, &circuit, file)?;
+    // By none: the words as they are.
+    let before = product::go(kept.format, &circuit.file, &mut kept.state, 0)
+        .map_err(|met| refusals::of_state(name, &kept.state, met))?;
+    let start = product::contents(kept.format, &before, &kept.state, cells);
+    let answer = call(kept.format, &circuit.file, &mut kept.state);
+    if matches!(answer, Ok(_) | Err(Refusal { number: 26, .. })) {
+        kept.write(args.value("o").unwrap_or(name))?;
+    }
+    match answer {
+        Ok(answer) => Ok(kept.answered(args, &start, &answer, cells)),
+        Err(met) => Err(refusals::of_run(name, &circuit.netlist, &kept.state, met).into()),
+    }
+}

@@ -7,31 +7,64 @@ use values::{Answer, End, Format, Given, Refusal, Shape};
 
 /// Checks a program.
 pub fn check(given: Given, program: &[u8]) -> Result<(), Refusal> {
-    let told = accepted(|reply| hub_check(given.table, given.procedures, program, reply));
+    let told =
+        accepted(|reply| hub_check(given.table, given.procedures, given.pulse, program, reply));
     told.map(drop)
 }
 
 /// Compiles a program to a netlist file.
 pub fn compile(given: Given, program: &[u8], file: &mut [u8]) -> Result<Shape, Refusal> {
-    let told = accepted(|reply| hub_compile(given.table, given.procedures, program, file, reply));
+    let told = accepted(|reply| {
+        hub_compile(
+            given.table,
+            given.procedures,
+            given.pulse,
+            program,
+            file,
+            reply,
+        )
+    });
     told.map(|told| written(told, file))
 }
 
 /// Reads a text to its program's bytes, and tells how many they are.
 pub fn read_text(given: Given, text: &[u8], program: &mut [u8]) -> Result<usize, Refusal> {
-    let told = accepted(|reply| hub_read_text(given.table, given.procedures, text, program, reply));
+    let told = accepted(|reply| {
+        hub_read_text(
+            given.table,
+            given.procedures,
+            given.pulse,
+            text,
+            program,
+            reply,
+        )
+    });
     told.map(|told| told.first as usize)
 }
 
 /// Compiles a text to a netlist file.
 pub fn compile_text(given: Given, text: &[u8], file: &mut [u8]) -> Result<Shape, Refusal> {
-    let told = accepted(|reply| hub_compile_text(given.table, given.procedures, text, file, reply));
+    let told = accepted(|reply| {
+        hub_compile_text(
+            given.table,
+            given.procedures,
+            given.pulse,
+            text,
+            file,
+            reply,
+        )
+    });
     told.map(|told| written(told, file))
 }
 
-/// Writes cells of six bytes to a netlist file.
-pub fn write_netlist(cells: &[u8], finish: u16, file: &mut [u8]) -> Result<Shape, Refusal> {
-    let told = accepted(|reply| hub_write(cells, finish, file, reply));
+/// Writes cells of six bytes to a netlist file, for pulses of this length.
+pub fn write_netlist(
+    pulse: u8,
+    cells: &[u8],
+    finish: u16,
+    file: &mut [u8],
+) -> Result<Shape, Refusal> {
+    let told = accepted(|reply| hub_write(pulse, cells, finish, file, reply));
     told.map(|told| written(told, file))
 }
 
@@ -100,6 +133,7 @@ pub fn run_program(
         hub_run_program(
             given.table,
             given.procedures,
+            given.pulse,
             program,
             words,
             budget,
@@ -124,6 +158,7 @@ pub fn run_text(
         hub_run_text(
             given.table,
             given.procedures,
+            given.pulse,
             text,
             words,
             budget,
@@ -143,7 +178,15 @@ pub fn reference_run(
     budget: u32,
 ) -> Result<Option<End>, Refusal> {
     let told = accepted(|reply| {
-        hub_reference(given.table, given.procedures, program, words, budget, reply)
+        hub_reference(
+            given.table,
+            given.procedures,
+            given.pulse,
+            program,
+            words,
+            budget,
+            reply,
+        )
     });
     told.map(|told| end(told, budget))
 }

@@ -9,9 +9,9 @@ pub fn check(cells: &[Cell], finish: u16) -> Result<(), Refusal> {
     accepted(|reply| hub_check_cells(cells, finish, reply)).map(drop)
 }
 
-/// Writes a netlist to a file.
-pub fn write(cells: &[Cell], finish: u16, file: &mut [u8]) -> Result<Shape, Refusal> {
-    let told = accepted(|reply| hub_write_cells(cells, finish, file, reply));
+/// Writes a netlist to a file, for pulses of this length.
+pub fn write(pulse: u8, cells: &[Cell], finish: u16, file: &mut [u8]) -> Result<Shape, Refusal> {
+    let told = accepted(|reply| hub_write_cells(pulse, cells, finish, file, reply));
     told.map(|told| written(told, file))
 }
 

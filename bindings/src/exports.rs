@@ -48,28 +48,31 @@ macro_rules! exports {
 
 // crates/exports/src/calls.rt; the definitions are those of model/Calls and
 // model/TextCalls. A call that checks a program has in front what is given
-// beside it: the table of operator times, if any, and the number of procedures.
+// beside it: the table of operator times, if any, the number of procedures and
+// the pulse length.
 exports! {
     /// checkCall
-    hub_check(table: ?[u8], procedures: usize, program: &[u8], reply: &mut [u8]);
+    hub_check(
+        table: ?[u8], procedures: usize, pulse: u8, program: &[u8], reply: &mut [u8]
+    );
 
     /// compileCall
     hub_compile(
-        table: ?[u8], procedures: usize, program: &[u8], file: &mut [u8], reply: &mut [u8]
+        table: ?[u8], procedures: usize, pulse: u8, program: &[u8], file: &mut [u8], reply: &mut [u8]
     );
 
     /// readTextCall
     hub_read_text(
-        table: ?[u8], procedures: usize, text: &[u8], program: &mut [u8], reply: &mut [u8]
+        table: ?[u8], procedures: usize, pulse: u8, text: &[u8], program: &mut [u8], reply: &mut [u8]
     );
 
     /// compileTextCall
     hub_compile_text(
-        table: ?[u8], procedures: usize, text: &[u8], file: &mut [u8], reply: &mut [u8]
+        table: ?[u8], procedures: usize, pulse: u8, text: &[u8], file: &mut [u8], reply: &mut [u8]
     );
 
     /// writeCall
-    hub_write(cells: &[u8], finish: u16, file: &mut [u8], reply: &mut [u8]);
+    hub_write(pulse: u8, cells: &[u8], finish: u16, file: &mut [u8], reply: &mut [u8]);
 
     /// readCall
     hub_read(file: &[u8], cells: &mut [u8], reply: &mut [u8]);
@@ -94,13 +97,13 @@ exports! {
 
     /// runProgramCall
     hub_run_program(
-        table: ?[u8], procedures: usize, program: &[u8], words: &[u8], budget: u32,
+        table: ?[u8], procedures: usize, pulse: u8, program: &[u8], words: &[u8], budget: u32,
         netlist: &mut [u8], state: &mut [u8], reply: &mut [u8]
     );
 
     /// runTextCall
     hub_run_text(
-        table: ?[u8], procedures: usize, text: &[u8], words: &[u8], budget: u32,
+        table: ?[u8], procedures: usize, pulse: u8, text: &[u8], words: &[u8], budget: u32,
         netlist: &mut [u8], state: &mut [u8], reply: &mut [u8]
     );
 
@@ -111,7 +114,7 @@ exports! {
 
     /// referenceCall
     hub_reference(
-        table: ?[u8], procedures: usize, program: &[u8], words: &[u8], budget: u32,
+        table: ?[u8], procedures: usize, pulse: u8, program: &[u8], words: &[u8], budget: u32,
         reply: &mut [u8]
     );
 }
@@ -122,7 +125,9 @@ exports! {
     hub_check_cells(cells: &[Cell], finish: u16, reply: &mut [u8]);
 
     /// writeCellsCall
-    hub_write_cells(cells: &[Cell], finish: u16, file: &mut [u8], reply: &mut [u8]);
+    hub_write_cells(
+        pulse: u8, cells: &[Cell], finish: u16, file: &mut [u8], reply: &mut [u8]
+    );
 
     /// readCellsCall
     hub_read_cells(file: &[u8], at: usize, cells: &mut [Cell], reply: &mut [u8]);

@@ -10,19 +10,15 @@ pub fn text(start: &Store, answer: &Answer, last: &Store, all: bool) -> String {
     format!("{outcome} at {}\n", answer.instant) + &changes(start, last, all)
 }
 
-/// The same of a run that has a state, with the number in flight in it.
+/// The same of a run that has a state, with how busy it is.
 pub fn text_of_state(
     start: &Store,
     answer: &Answer,
     last: &Store,
-    in_flight: u32,
+    busy: &str,
     all: bool,
 ) -> String {
     let outcome = outcome(answer);
-    let busy = match in_flight {
-        0 => "idle".to_string(),
-        number => format!("{number} in flight"),
-    };
     format!("{outcome} at {}, {busy}\n", answer.instant) + &changes(start, last, all)
 }
 

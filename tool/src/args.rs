@@ -11,17 +11,20 @@ use std::num::IntErrorKind;
 #[derive(Clone, Copy, Debug)]
 pub struct Options {
     /// Whether it takes a program, and with it what is said of one.
-    pub program: bool,
+    program: bool,
     /// With a value, and without.
-    pub valued: &'static [&'static str],
-    pub flags: &'static [&'static str],
+    valued: Names,
+    flags: Names,
 }
 
+type Names = &'static [&'static str];
+
 /// What is said of a program: the names of the options, and their usage.
-const OF_PROGRAMS: [(&str, &str); 3] = [
+const OF_PROGRAMS: [(&str, &str); 4] = [
     ("as", "[--as FORM]"),
     ("times", "[--times T]"),
     ("procedures", "[--procedures N]"),
+    ("pulse", "[--pulse W]"),
 ];
 
 #[derive(Clone, Debug, Default)]
@@ -101,6 +104,12 @@ impl Args {
         }
     }
 
+    /// The same of one byte.
+    pub fn byte(&self, name: &str) -> Result<Option<u8>, Fault> {
+        let number = self.number(name)?;
+        Ok(number.map(|number| number.try_into().unwrap_or(u8::MAX)))
+    }
+
     /// A file, and start words such as x0=3 and a2[5]=7 after it; those not
     /// given are 0.
     pub fn file_and_words(&self) -> Result<(&str, Store), Fault> {
@@ -134,6 +143,23 @@ impl Args {
 }
 
 impl Options {
+    /// Of a command that takes a program.
+    pub const fn of_program(valued: Names, flags: Names) -> Options {
+        Options {
+            program: true,
+            ..Options::plain(valued, flags)
+        }
+    }
+
+    /// Of a command that takes none.
+    pub const fn plain(valued: Names, flags: Names) -> Options {
+        Options {
+            program: false,
+            valued,
+            flags,
+        }
+    }
+
     /// Whether an option takes a value, if there is one of this name.
     fn takes(self, name: &str) -> Option<bool> {
         let flag = name == "json" || self.flags.contains(&name);

@@ -31,9 +31,12 @@ pub fn read(name: &str) -> Result<Vec<u8>, Fault> {
     })
 }
 
-/// Whether two names are those of one plain file.
+/// Whether two names are those of one plain file, by whatever link.
 pub fn are_same(one: &str, other: &str) -> bool {
-    let file = |name: &str| fs::canonicalize(name).ok().filter(|path| path.is_file());
+    let file = |name: &str| {
+        let path = (name != STANDARD).then(|| fs::canonicalize(name).ok());
+        path.flatten().filter(|path| path.is_file())
+    };
     file(one).is_some_and(|path| file(other) == Some(path))
 }
 

@@ -1,6 +1,6 @@
 //! The file that a command is about: a text, an outline, a program's bytes or a
-//! netlist file, with a table of operator times where one is given and the
-//! number of procedures.
+//! netlist file, with a table of operator times where one is given, the number
+//! of procedures and the pulse length.
 
 use crate::answers::counted;
 use crate::args::Args;
@@ -33,6 +33,8 @@ pub struct Given {
     /// How many procedures its program has, as an outline's headings or
     /// --procedures say.
     pub procedures: usize,
+    /// The pulse length that its program is compiled for, as --pulse says.
+    pub pulse: u8,
 }
 
 /// An accepted program. Its nodes have places if it came as a text or an
@@ -55,6 +57,12 @@ pub struct Circuit {
 }
 
 impl Given {
+    /// Reads the one FILE that a command is given.
+    pub fn only(args: &Args) -> Result<Given, Fault> {
+        let [file] = args.exactly(["FILE"])?;
+        Given::read(args, file)
+    }
+
     /// Reads FILE, and the file of --times; --as says what FILE is, or else
     /// its name: NAME.outline an outline, NAME.prog a program's bytes, NAME.net
     /// a netlist, others texts.
@@ -76,7 +84,7 @@ impl Given {
             None => None,
         };
         let idle = |option: &&str| form == Form::Netlist && args.flag(option);
-        if let Some(option) = ["times", "procedures"].into_iter().find(idle) {
+        if let Some(option) = ["times", "procedures", "pulse"].into_iter().find(idle) {
             let message = "goes with a program, and a netlist is compiled already";
             return Err(args.fault(format!("--{option} {message}")));
         }
@@ -86,6 +94,7 @@ impl Given {
             bytes: files::read(name)?,
             times,
             procedures: args.number("procedures")?.unwrap_or(0) as usize,
+            pulse: args.byte("pulse")?.unwrap_or(1),
         };
         if form == Form::Outline {
             let (said, own) = (args.value("procedures"), given.source()?.procedures);
@@ -104,6 +113,7 @@ impl Given {
         Beside {
             table,
             procedures: self.procedures,
+            pulse: self.pulse,
         }
     }
 

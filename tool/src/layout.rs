@@ -19,6 +19,8 @@ const BLOCK_HEADER: usize = 8;
 /// each cell, and behind them the words of all elements.
 const STATE_HEADER: usize = 8;
 const IN_FLIGHT: usize = 4;
+/// Where a cell's line begins, behind its values, held bits and zero bytes.
+const LINE: usize = 8;
 const WORD: usize = 2;
 
 /// The bytes of a netlist file with so many cells.
@@ -34,8 +36,17 @@ pub fn netlist_in(file: &[u8]) -> Netlist {
     let bytes: Vec<u8> = blocks.copied().collect();
     let mut cells = Cell::all_of(&bytes);
     cells.truncate(usize::from(header(2)));
-    let finish = header(4);
-    Netlist { cells, finish }
+    Netlist {
+        cells,
+        finish: header(4),
+        pulse: pulse_in(file),
+    }
+}
+
+/// The pulse length in a file whose blocks the product has accepted: less one, it
+/// is the high byte of every block number.
+pub fn pulse_in(file: &[u8]) -> u8 {
+    1 + file[1]
 }
 
 /// The bytes of a state of so many cells.
@@ -68,6 +79,12 @@ pub fn in_flight_in(state: &[u8]) -> u32 {
 
 fn number_at(state: &[u8], at: usize) -> u32 {
     u32::from_le_bytes([0, 1, 2, 3].map(|k| state[at + k]))
+}
+
+/// For how many instants the start stays high, in a full state: the first byte of
+/// its line.
+pub fn start_left_in(state: &[u8]) -> u8 {
+    state[cell_at(Format::Full, 0) + LINE]
 }
 
 /// What a cell shows in a full state.

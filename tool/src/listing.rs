@@ -33,8 +33,7 @@ pub fn words_of(cell: &Cell) -> String {
 
 /// The list of a netlist. `note` is what is said of a cell, on its line.
 pub fn list(netlist: &Netlist, all: bool, note: impl Fn(usize) -> Option<String>) -> String {
-    let count = netlist.cells.len();
-    let mut lines = vec![format!("{count} cells, finish {}", netlist.finish)];
+    let mut lines = vec![whole(netlist)];
     for (number, cell) in netlist.cells.iter().enumerate() {
         if is_idle(cell) && !all {
             continue;
@@ -48,6 +47,16 @@ pub fn list(netlist: &Netlist, all: bool, note: impl Fn(usize) -> Option<String>
     lines.join("\n") + "\n"
 }
 
+/// What is said of the whole netlist; of pulses where they are longer than an
+/// instant.
+pub fn whole(netlist: &Netlist) -> String {
+    let (count, finish) = (netlist.cells.len(), netlist.finish);
+    match netlist.pulse {
+        1 => format!("{count} cells, finish {finish}"),
+        pulse => format!("{count} cells, finish {finish}, pulse {pulse}"),
+    }
+}
+
 /// The netlist of a list.
 pub fn wired(text: &str) -> Result<Listed, Wrong> {
     let entries = entries(text)?;
@@ -59,6 +68,7 @@ pub fn wired(text: &str) -> Result<Listed, Wrong> {
         finish: names
             .number(header.finish)
             .ok_or_else(|| Wrong::new(header.line, no_wire(header.finish)))?,
+        pulse: header.pulse,
     };
     for slot in &placed {
         netlist.cells.push(match slot {
@@ -109,34 +119,51 @@ struct Header<'t> {
     line: usize,
     count: Option<usize>,
     finish: &'t str,
+    pulse: u8,
 }
 
 /// The one line that tells the finish, and how many cells there are.
 fn header<'t>(entries: &[Entry<'t>]) -> Result<Header<'t>, Wrong> {
-    let mut headers = entries.iter().filter(|entry| is_header(entry));
-    let Some(header) = headers.next() else {
+    let mut headers = entries.iter().filter_map(|entry| {
+        let said = said_of_whole(&entry.words)?;
+        Some((entry.line, said))
+    });
+    let Some((line, (count, finish, pulse))) = headers.next() else {
         let why = "no line says which cell is the finish; write: finish CELL";
         return Err(Wrong::new(1, why));
     };
-    if let Some(second) = headers.next() {
-        return Err(Wrong::new(second.line, "a second line about the finish"));
+    if let Some((second, _)) = headers.next() {
+        return Err(Wrong::new(second, "a second line about the finish"));
     }
-    let count = match header.words[..] {
-        [count, "cells,", ..] => Some(count.parse().unwrap_or(usize::MAX)),
-        _ => None,
-    };
+    let count = count.map(|count| count.parse().unwrap_or(usize::MAX));
     if count.is_some_and(|count| count > layout::CELLS) {
-        return Err(Wrong::new(header.line, "a netlist has at most 1024 cells"));
+        return Err(Wrong::new(line, "a netlist has at most 1024 cells"));
     }
+    let pulse = pulse.map_or(Ok(1), byte);
     Ok(Header {
-        line: header.line,
+        line,
         count,
-        finish: header.words.last().copied().unwrap_or_default(),
+        finish,
+        pulse: pulse.map_err(|why| Wrong::new(line, why))?,
     })
 }
 
+/// The number of cells, the finish and the pulse length, of a line that tells the
+/// finish.
+fn said_of_whole<'t>(words: &[&'t str]) -> Option<(Option<&'t str>, &'t str, Option<&'t str>)> {
+    let (count, rest) = match words {
+        [count, "cells,", rest @ ..] => (Some(*count), rest),
+        rest => (None, rest),
+    };
+    match rest {
+        ["finish", finish] => Some((count, finish, None)),
+        ["finish", finish, "pulse", pulse] => Some((count, finish.strip_suffix(',')?, Some(pulse))),
+        _ => None,
+    }
+}
+
 fn is_header(entry: &Entry) -> bool {
-    matches!(entry.words[..], [_, "cells,", "finish", _] | ["finish", _])
+    said_of_whole(&entry.words).is_some()
 }
 
 /// Each cell at its number; `None` is one that is left out.

@@ -41,7 +41,7 @@ fn array_behind(first_memory: u16, array: u16) -> u16 {
 
 /// The trace of a program with so many procedures whose netlist is this one.
 pub fn trace(procedures: usize, nodes: &[Node], netlist: &Netlist) -> Result<Trace, Fault> {
-    let (own, trace) = walk::lay_out(procedures, nodes);
+    let (own, trace) = walk::lay_out(procedures, netlist.pulse, nodes);
     if own != *netlist {
         let message = "the tool lays out other cells than the product has compiled";
         return Err(Fault::internal(message));

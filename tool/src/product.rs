@@ -1,6 +1,8 @@
 //! The product's calls, with buffers of the size that each result needs.
 
-use crate::layout::{element_in, file_length, state_length, store_bytes, CELLS, FILE, PROGRAM};
+use crate::layout::{
+    element_in, file_length, pulse_in, state_length, store_bytes, CELLS, FILE, PROGRAM,
+};
 use crate::store::{self, Store, LENGTH, OF_ARRAYS};
 use crate::types::{Answer, Beside, Cell, End, Format, Netlist, Node, Refusal};
 use bindings::{calls, cell_calls};
@@ -31,8 +33,11 @@ pub fn read_netlist(file: &[u8]) -> Result<Netlist, Refusal> {
     let mut cells = vec![Cell::new(0, 0, 0, 0); CELLS];
     let shape = cell_calls::read(file, 0, &mut cells)?;
     cells.truncate(usize::from(shape.cells));
-    let finish = shape.finish;
-    Ok(Netlist { cells, finish })
+    Ok(Netlist {
+        cells,
+        finish: shape.finish,
+        pulse: pulse_in(file),
+    })
 }
 
 /// Checks a netlist.
@@ -42,8 +47,13 @@ pub fn check_netlist(netlist: &Netlist) -> Result<(), Refusal> {
 
 /// The file of a netlist.
 pub fn write_netlist(netlist: &Netlist) -> Result<Vec<u8>, Refusal> {
+    let Netlist {
+        cells,
+        finish,
+        pulse,
+    } = netlist;
     let mut file = vec![0; FILE];
-    let shape = cell_calls::write(&netlist.cells, netlist.finish, &mut file)?;
+    let shape = cell_calls::write(*pulse, cells, *finish, &mut file)?;
     file.truncate(file_length(shape.cells));
     Ok(file)
 }
@@ -65,6 +75,13 @@ pub fn go(format: Format, file: &[u8], state: &mut [u8], n: u32) -> Result<Answe
 /// Gives a second start pulse at the next instant.
 pub fn start(format: Format, file: &[u8], state: &mut [u8]) -> Result<Answer, Refusal> {
     calls::start(format, file, state)
+}
+
+/// Whether a second start pulse would be taken, but for the instant that it comes
+/// to.
+pub fn is_idle(format: Format, file: &[u8], state: &[u8]) -> bool {
+    let started = start(format, file, &mut state.to_vec());
+    !matches!(started, Err(Refusal { number: 23, .. }))
 }
 
 /// The words that an answer tells, and the elements of its state of so many

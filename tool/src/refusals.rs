@@ -67,6 +67,10 @@ pub fn report(given: &Given, refusal: Refusal) -> Result<Report, Fault> {
             Some((name, bytes)) => of_times(name, bytes, refusal),
             None => report,
         },
+        (27, _) => Report {
+            file: "--pulse".to_string(),
+            ..report
+        },
         (13..=16 | 23 | 26, _) => report,
         (9..=12, _) => netlists::of_file(report, &given.bytes),
         (17, _) => texts::of_word(report, &given.bytes),
@@ -76,33 +80,52 @@ pub fn report(given: &Given, refusal: Refusal) -> Result<Report, Fault> {
     })
 }
 
-/// The report of a refusal that a state met.
-pub fn of_state(name: &str, state: &[u8], refusal: Refusal) -> Report {
-    let in_flight = || {
-        let (number, instant) = (in_flight_in(state), instant_in(state));
-        format!("{number} in flight at instant {instant}")
-    };
-    Report {
-        found: (refusal.number == 23).then(in_flight),
-        ..plain(name, refusal)
+/// The report of a refusal that a state met in a run of a netlist: for 23 what is
+/// under way, for 26 the delay, and the instant at which the run has left the state.
+pub fn of_state(name: &str, netlist: &Netlist, state: &[u8], refusal: Refusal) -> Report {
+    let report = plain(name, refusal);
+    let instant = || instant_in(state);
+    match refusal.number {
+        23 if in_flight_in(state) == 0 => Report {
+            rule: "a hub is started again only when its finish is low, and here it is still high"
+                .to_string(),
+            found: Some(format!("none in flight at instant {}", instant())),
+            ..report
+        },
+        23 => Report {
+            found: Some(format!(
+                "{} in flight at instant {}",
+                in_flight_in(state),
+                instant()
+            )),
+            ..report
+        },
+        26 => {
+            let crowded = |delay: &Cell| {
+                let (place, Cell { delay, a, .. }) = (refusal.place, delay);
+                format!(
+                    "cell {place}, delay {delay} of {a}; the last good instant is {}",
+                    instant()
+                )
+            };
+            Report {
+                found: netlist.cells.get(refusal.place).map(crowded),
+                ..report
+            }
+        }
+        27 => of_compact(name, netlist, refusal),
+        _ => report,
     }
 }
 
-/// The report of a refusal that a state met in a run of a netlist: for 26 the
-/// delay, and the instant at which the run has left the state.
-pub fn of_run(name: &str, netlist: &Netlist, state: &[u8], refusal: Refusal) -> Report {
-    let report = of_state(name, state, refusal);
-    let crowded = |delay: &Cell| {
-        let (place, instant) = (refusal.place, instant_in(state));
-        let Cell { delay, a, .. } = delay;
-        format!("cell {place}, delay {delay} of {a}; the last good instant is {instant}")
-    };
-    match refusal.number {
-        26 => Report {
-            found: netlist.cells.get(refusal.place).map(crowded),
-            ..report
-        },
-        _ => report,
+/// The report of refusal 27 of a netlist that is to have a compact state.
+pub fn of_compact(name: &str, netlist: &Netlist, refusal: Refusal) -> Report {
+    Report {
+        rule: "a compact state is for pulses of one instant".to_string(),
+        found: Some(format!("pulses of {} instants", netlist.pulse)),
+        remedy: "begin the run without --compact, or compile the program without --pulse"
+            .to_string(),
+        ..plain(name, refusal)
     }
 }
 

@@ -14,6 +14,8 @@ pub struct Node {
 pub struct Netlist {
     pub cells: Vec<Cell>,
     pub finish: u16,
+    /// The instants for which a pulse is high.
+    pub pulse: u8,
 }
 
 /// Where a cell comes from: a node of the program, none for what every netlist

@@ -19,7 +19,7 @@ fn programs(folder: &str) -> Vec<PathBuf> {
         .map(|entry| entry.expect("an entry").path())
         .collect();
     files.retain(|file| file.extension().is_some_and(|ending| ending == "prog"));
-    assert!(files.len() > 50, "{folder} has programs");
+    assert!(files.len() > 40, "{folder} has programs");
     files
 }
 
@@ -30,15 +30,17 @@ fn given(name: &Path) -> Given {
         bytes: fs::read(name).expect("a vector"),
         times: None,
         procedures: 0,
+        pulse: 1,
     }
 }
 
 /// Folders of vectors, and of each the accepted programs and the calls in them.
-const COMPILED: [(&str, usize, usize); 4] = [
+const COMPILED: [(&str, usize, usize); 5] = [
     ("compile", 60, 0),
     ("s05/compile", 25, 0),
     ("s06/compile", 29, 0),
     ("s08/compile", 26, 135),
+    ("s10/compile", 28, 8),
 ];
 
 #[test]
@@ -56,11 +58,12 @@ fn cells_come_from_the_nodes_of_their_program() {
 /// and a call finishes by a merge of its own.
 fn traced(file: &Path) -> Option<usize> {
     let bytes = fs::read(file).expect("a vector");
-    let procedures = procedures(file);
+    let (pulse, procedures) = given_beside(file);
     let table = fs::read(file.with_extension("table")).ok();
     let beside = Beside {
         table: table.as_deref(),
         procedures,
+        pulse,
     };
     let compiled = product::compile(beside, &bytes).ok()?;
     let nodes = product::nodes(&bytes);
@@ -84,11 +87,15 @@ fn traced(file: &Path) -> Option<usize> {
     Some(calls)
 }
 
-/// How many procedures a vector has, as its .given tells where it has one.
-fn procedures(file: &Path) -> usize {
+/// The pulse length of a vector and how many procedures it has, as its .given
+/// tells where it has one.
+fn given_beside(file: &Path) -> (u8, usize) {
     let given = fs::read_to_string(file.with_extension("given")).unwrap_or_default();
-    let second = given.split(' ').nth(1);
-    second.map_or(0, |number| number.parse().expect("a number of procedures"))
+    let mut numbers = given.split(' ').map(str::parse);
+    let mut next = || numbers.next().and_then(Result::ok);
+    let (pulse, procedures): (Option<usize>, Option<usize>) = (next(), next());
+    let pulse = pulse.map_or(1, |pulse| pulse as u8);
+    (pulse, procedures.unwrap_or(0))
 }
 
 #[test]

@@ -25,8 +25,8 @@ pub record Same (a b : Answer) : Type 0 where
 
 -- of a program with so many procedures, under the built-in times
 pub record Holds (procedures : ℕ) (program : List ℕ) (word budget : ℕ) (wanted : Answer) : Type 0 where
-  pub circuit : Same (runProgramCall (load (beside builtIn procedures)) program (start word) budget (replicate 6656 0) (replicate 41480 0) .answer) wanted
-  pub rules : Same (referenceCall (load (beside builtIn procedures)) program (start word) budget) wanted
+  pub circuit : Same (runProgramCall (load (beside builtIn procedures 1)) program (start word) budget (replicate 6656 0) (replicate 41480 0) .answer) wanted
+  pub rules : Same (referenceCall (load (beside builtIn procedures 1)) program (start word) budget) wanted
 
 -- a program's bytes with n nodes from i on made of one kind
 unfoldable pub kindsFrom : List ℕ → ℕ → ℕ → ℕ → List ℕ

@@ -65,14 +65,14 @@ pub fn set_kinds(program: &mut [u8], from: usize, to: usize, kind: u8)
 }
 
 fn by_circuit(procedures: usize, program: &[u8], word: u16, budget: u32) -> Answer
-    ensures { λ r. ⌜ r ≡ runProgramCall (load (beside builtIn procedures)) (now (program .entry)) (start word) budget (replicate 6656 0) (replicate 41480 0) .answer ⌝ }
+    ensures { λ r. ⌜ r ≡ runProgramCall (load (beside builtIn procedures 1)) (now (program .entry)) (start word) budget (replicate 6656 0) (replicate 41480 0) .answer ⌝ }
 {
     let mut words = [0u8; START_WORDS];
     word::put16(&mut words, 0, word);
     let mut netlist = [0u8; FILE_MOST];
     let mut state = [0u8; STATE_MOST];
     hub::run_program(
-        hub::load_if(false, b"", procedures),
+        hub::load_if(false, b"", procedures, 1),
         program,
         &words,
         budget,
@@ -82,12 +82,12 @@ fn by_circuit(procedures: usize, program: &[u8], word: u16, budget: u32) -> Answ
 }
 
 fn by_rules(procedures: usize, program: &[u8], word: u16, budget: u32) -> Answer
-    ensures { λ r. ⌜ r ≡ referenceCall (load (beside builtIn procedures)) (now (program .entry)) (start word) budget ⌝ }
+    ensures { λ r. ⌜ r ≡ referenceCall (load (beside builtIn procedures 1)) (now (program .entry)) (start word) budget ⌝ }
 {
     let mut words = [0u8; START_WORDS];
     word::put16(&mut words, 0, word);
     hub::reference_run(
-        hub::load_if(false, b"", procedures),
+        hub::load_if(false, b"", procedures, 1),
         program,
         &words,
         budget,

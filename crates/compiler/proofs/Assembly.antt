@@ -57,25 +57,26 @@ no-callers ms = record { few = omega arith; calls = λ p. refl }
 
 -- An accepted program ------------------------------------------------------------------------------------------------------------------
 
-record Facts (k : ℕ) (s : List ℕ) : Type 0 where
+record Facts (pulse k : ℕ) (s : List ℕ) : Type 0 where
   readable : Readable k s
-  formed : (r : ℕ) → Formed (rootAt (programOf k s) r)
-  earlier : (r : ℕ) → r < length (roots (programOf k s)) → Earlier r (rootAt (programOf k s) r)
-  nodes : rootNodes (roots (programOf k s)) ≤ 200
+  formed : (r : ℕ) → Formed (rootAt (programOf pulse k s) r)
+  earlier : (r : ℕ) → r < length (roots (programOf pulse k s)) → Earlier r (rootAt (programOf pulse k s) r)
+  nodes : rootNodes (roots (programOf pulse k s)) ≤ 200
 
-module _ {k : ℕ} {s ends : List ℕ} {n : ℕ} (G : Given k s ends n) where
+module _ {pulse k : ℕ} {s ends : List ℕ} {n : ℕ} (G : Given pulse k s ends n) where
   abbrev S : Program
-  S = programOf k s
+  S = programOf pulse k s
 
-  facts : Facts k s
+  facts : Facts pulse k s
   facts =
-      subst (λ (k : ℕ). Facts k s) (G .count)
+      subst (λ (k : ℕ). Facts pulse k s) (G .count)
+      (subst (λ (w : ℕ). Facts w (G .options .procedures) s) (G .pulse)
       (record {
         readable = accepted (G .options) s (G .accepted) .readable;
         formed = λ r. program-fit (G .options) s (G .accepted) r .formed;
         earlier = root-earlier (G .options) s (G .accepted);
         nodes = few-nodes (G .options) s (G .accepted);
-      })
+      }))
 
   pub few-procedures : k ≤ 8
   few-procedures = facts .readable .few
@@ -84,7 +85,16 @@ module _ {k : ℕ} {s ends : List ℕ} {n : ℕ} (G : Given k s ends n) where
   rooted = record { readable = facts .readable; laid = G .laid }
 
   bodies : procedures S ≡ k
-  bodies = count-bodies k s (facts .readable)
+  bodies = count-bodies k s (facts .readable) pulse
+
+  -- the roots do not depend on the length of a pulse
+  counted : length (roots S) ≡ k + 1
+  unfolding programOf
+  counted = count-roots rooted
+
+  root-here : (r i : ℕ) → r ≤ k → i ≡ skips ends (nodeCount s) r 0 → stmtAt s i ≡ rootAt S r
+  unfolding programOf
+  root-here r i l e = root-is rooted r i l e
 
   formed : EveryRoot (λ r P. Formed P) 0 (roots S)
   formed = every-root (λ r P. Formed P) 0 (roots S) (λ j l. facts .formed j)
@@ -101,11 +111,11 @@ module _ {k : ℕ} {s ends : List ℕ} {n : ℕ} (G : Given k s ends n) where
       {before marked cells marks finishes : List ℕ} {p : Place} {r i : ℕ} (C : Rooting S cs M before marked cells marks finishes p r) (l : r ≤ k)
       (e : i ≡ skips ends (nodeCount s) r 0) where
     inside : r < length (roots S)
-    inside = omega (arith, count-roots rooted)
+    inside = omega (arith, counted)
 
     pub root-ready : behindArrays M + rootWalkCount cs 0 (roots S) ≤ 627 → RootReady M (callersOf ms count r) count (stmtAt s i) p n
     root-ready room =
-        rw (T .calls r, root-is rooted r i l e)
+        rw (T .calls r, root-here r i l e)
         (record {
           few = T .few;
           apart = omega (arith, room-delays S cs M C inside, C .onward);
@@ -123,20 +133,21 @@ module _ {k : ℕ} {s ends : List ℕ} {n : ℕ} (G : Given k s ends n) where
         })
 
     pub root-further : {after remarked : List ℕ} {q : Place} {idle : ℕ} → idle ≡ idleStart k r → length after ≡ length cells
-        → RootDone M (finishIn finishes) idle (callersOf ms count r) (stmtAt s i) p cells after marks remarked q
+        → RootDone pulse M (finishIn finishes) idle (callersOf ms count r) (stmtAt s i) p cells after marks remarked q
         → Rooting S cs M before marked after remarked (set finishes r (q .wire)) q (r + 1)
+    unfolding programOf
     root-further z same u =
         rooting-more S cs M C inside (omega (arith, few-procedures)) apart (facts .earlier r inside)
-        (rw (z ∙ ap (λ (j : ℕ). idleStart j r) (sym bodies), T .calls r, root-is rooted r i l e) at u) same
+        (rw (z ∙ ap (λ (j : ℕ). idleStart j r) (sym bodies), T .calls r, root-here r i l e) at u) same
 
   pub roots-end : {cs : List Source} {M : ℕ} {before marked cells marks finishes : List ℕ} {p : Place} {r : ℕ}
       → Rooting S cs M before marked cells marks finishes p r → r ≡ k + 1 → RootsDone S cs M before cells marked marks p
-  roots-end C e = rooting-end S _ _ C (omega (arith, count-roots rooted)) (omega (arith, bodies))
+  roots-end C e = rooting-end S _ _ C (omega (arith, counted)) (omega (arith, bodies))
 
   -- Parts ------------------------------------------------------------------------------------------------------------------------------
 
   -- the first walk
-  pub first-ready : (ms : List ℕ) → RootsReady k s ends ms 0 179 n
+  pub first-ready : (ms : List ℕ) → RootsReady pulse k s ends ms 0 179 n
   first-ready ms =
       record {
         given = G;
@@ -203,7 +214,7 @@ module _ {k : ℕ} {s ends : List ℕ} {n : ℕ} (G : Given k s ends n) where
     pub walk-low : M + 24 ≤ 627
     walk-low = omega (arith, m, net-length S, most)
 
-    pub walk-ready : {ms : List ℕ} {count : ℕ} → Told (callsOf S) ms count → RootsReady k s ends ms count M n
+    pub walk-ready : {ms : List ℕ} {count : ℕ} → Told (callsOf S) ms count → RootsReady pulse k s ends ms count M n
     walk-ready T =
         record { given = G; calls = callsOf S; told = T; apart = omega (arith, m); room = omega (arith, m, net-length S, most) }
 
@@ -265,7 +276,7 @@ module _ (S : Program) (first : List ℕ) where
       let W = walkCells S in
       let O = dataOrs S in
       let B = addressOrs S in
-      let lD = root-d-len (procedures S) (callsOf S) 0 (roots S) 3 (walkAt S) in
+      let lD = root-d-len (S .pulse) (procedures S) (callsOf S) 0 (roots S) 3 (walkAt S) in
       let lC = orsFrom-len 35 (clocksOf S) (clockAt S) 0 20 in
       let lN = mems-len (clockWires S) (dataWires S) 0 16 in
       let lA = arrays-len (clockWires S) (dataWires S) (addressWires S) 0 4 in
@@ -294,17 +305,17 @@ cells-put cs s h =
     let z : 6 * (0 + i) ≡ 6 * i = omega arith in
     rw (z, ← overwrite-sets (cellBytes cs) s (omega (arith, bytes-length cs))) (from-bytes cs _ i l))
 
-pub made : {k : ℕ} {s ends : List ℕ} {n : ℕ} → Given k s ends n → {ms b₁ b₂ b₃ b₄ b₅ b₆ b₇ : List ℕ} {r : Clocks} {w : Finished} → length b₁ ≡ n
-    → Clocked (programOf k s) ms b₁ r
-    → Walked (programOf k s) b₁ b₂ w
+pub made : {pulse k : ℕ} {s ends : List ℕ} {n : ℕ} → Given pulse k s ends n → {ms b₁ b₂ b₃ b₄ b₅ b₆ b₇ : List ℕ} {r : Clocks} {w : Finished} → length b₁ ≡ n
+    → Clocked (programOf pulse k s) ms b₁ r
+    → Walked (programOf pulse k s) b₁ b₂ w
     → b₃ ≡ write (r .memory) (memoriesOf (r .wires) (w .wires) 0 16) b₂
     → b₄ ≡ write (r .memory + 16) (arraysOf (r .wires) (w .wires) (drop 16 (w .addresses)) 0 4) b₃
     → b₅ ≡ write 0 (cell 32 0 0 0 ∷ []) b₄
     → b₆ ≡ write 1 (cell 33 0 0 0 ∷ []) b₅
     → b₇ ≡ write 2 (cell 1 0 0 0 ∷ []) b₆
-    → Made (programOf k s) b₇ (record { count = w .count; finish = w .finish })
-made {k} {s} G {b₄ = b₄} l K W e₃ e₄ e₅ e₆ e₇ =
-    let S = programOf k s in
+    → Made (programOf pulse k s) b₇ (record { count = w .count; finish = w .finish })
+made {pulse} {k} {s} G {b₄ = b₄} l K W e₃ e₄ e₅ e₆ e₇ =
+    let S = programOf pulse k s in
     let head : write 2 (cell 1 0 0 0 ∷ []) (write 1 (cell 33 0 0 0 ∷ []) (write 0 (cell 32 0 0 0 ∷ []) b₄)) ≡ write 0 headCells b₄ =
     ap (write 2 (cell 1 0 0 0 ∷ [])) (write-append 0 1 (cell 32 0 0 0 ∷ []) (cell 33 0 0 0 ∷ []) b₄ refl)
     ∙ write-append 0 2 (cell 32 0 0 0 ∷ (cell 33 0 0 0 ∷ [])) (cell 1 0 0 0 ∷ []) b₄ refl in

@@ -29,16 +29,16 @@ use Rattle.program.specs.Shape.{Scans, scanned-laid}
 use Rattle.compiler.specs.declared.whole.Netlist.{Netlist}
 use Rattle.compiler.specs.Whole.{Given, Made}
 
-pub scanned : (options : Options) {s : List ℕ} {r : Scanned} → Scans options s r → checkCall options s ≡ Accepted → Given (options .procedures) s (r .ends) 3762
-scanned options {s} {r} S e = record { options = options; count = refl; accepted = e; laid = scanned-laid options s r S (S .checked ∙ e); size = refl }
+pub scanned : (options : Options) {s : List ℕ} {r : Scanned} → Scans options s r → checkCall options s ≡ Accepted → Given (options .pulse) (options .procedures) s (r .ends) 3762
+scanned options {s} {r} S e = record { options = options; pulse = refl; count = refl; accepted = e; laid = scanned-laid options s r S (S .checked ∙ e); size = refl }
 
 module _ (options : Options) (s : List ℕ) {cells : List ℕ} {made : Netlist} (m : Made (programWith options s) cells made) where
   pub file-size : length (compiledFile options s) ≡ 512 * blocksFor (made .count)
-  file-size = rw (m .count) (file-length (netlist (programWith options s)) (finish (programWith options s)))
+  file-size = rw (m .count) (file-length (options .pulse) (netlist (programWith options s)) (finish (programWith options s)))
 
   -- the file as it is put in
   pub file-put : (lent : List ℕ) {after : List ℕ} → 512 * blocksFor (made .count) ≤ length lent
-      → after ≡ sets lent 0 (fileOf (cellsAt inList cells 0 (made .count)) (made .finish)) → after ≡ overwrite (compiledFile options s) lent
+      → after ≡ sets lent 0 (fileOf (options .pulse) (cellsAt inList cells 0 (made .count)) (made .finish)) → after ≡ overwrite (compiledFile options s) lent
   file-put lent h q =
       rw (m .cells, m .finish) at q ∙ sym (overwrite-sets (compiledFile options s) lent (omega (arith, file-size)))
 
@@ -56,7 +56,7 @@ module _ (options : Options) (s : List ℕ) {cells : List ℕ} {made : Netlist} 
     compile-short {lent} h = rw (first-drop 2 (compileChecks options s lent) e, file-size, lt-ltb _ _ h) (refl, refl)
 
     pub compile-done : (lent : List ℕ) {after : List ℕ} → 512 * blocksFor (made .count) ≤ length lent
-        → after ≡ sets lent 0 (fileOf (cellsAt inList cells 0 (made .count)) (made .finish))
+        → after ≡ sets lent 0 (fileOf (options .pulse) (cellsAt inList cells 0 (made .count)) (made .finish))
         → Tells (Done (512 * blocksFor (made .count)) (made .finish)) after (compileCall options s lent)
     unfolding compileCall writing checkCall
     compile-done lent h q =

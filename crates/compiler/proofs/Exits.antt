@@ -34,20 +34,20 @@ module _ {P Q : Code} {p : Place} {o o₁ o₂ : List ℕ} where
       rw z
       (v .starts ∙ ap (λ (k : ℕ). take k o₁ ++ Y) e ∙ ap (λ (l : List ℕ). l ++ Y) (u .starts) ∙ append-assoc (take (p .out) o) X Y)
 
-  module _ {M : ℕ} {F : ℕ → ℕ} {q : Place} {b a k l : List ℕ} where
-    pub seq-opened : Done M F P p b a k l q → Opened P p o o₁ → Opened Q q o₁ o₂ → Opened (seq P Q) p o o₂
+  module _ {M : ℕ} {pulse : ℕ} {F : ℕ → ℕ} {q : Place} {b a k l : List ℕ} where
+    pub seq-opened : Done pulse M F P p b a k l q → Opened P p o o₁ → Opened Q q o₁ o₂ → Opened (seq P Q) p o o₂
     unfolding exitCount exitWires
     seq-opened d u v₀ = let v = rw (left d) at v₀ in record { same = v .same ∙ u .same; starts = two u v refl }
 
-    pub par-opened : Done M F P p b a k l q → Opened P p o o₁ → Opened Q (place (p .wire) (q .delay) (q .cell) (q .mark) (q .out)) o₁ o₂
+    pub par-opened : Done pulse M F P p b a k l q → Opened P p o o₁ → Opened Q (place (p .wire) (q .delay) (q .cell) (q .mark) (q .out)) o₁ o₂
         → Opened (par P Q) p o o₂
     unfolding exitCount exitWires
     par-opened d u v₀ = let v = rw (left d) at v₀ in record { same = v .same ∙ u .same; starts = two u v refl }
 
-module _ {P Q : Code} {M δ g t : ℕ} {F : ℕ → ℕ} {E : Expr} {p q : Place} {o o₁ o₂ m₀ m₁ m₂ b a k l : List ℕ} where
+module _ {P Q : Code} {M δ g t : ℕ} {pulse : ℕ} {F : ℕ → ℕ} {E : Expr} {p q : Place} {o o₁ o₂ m₀ m₁ m₂ b a k l : List ℕ} where
   pub if-opened : {ow : Pulse} → Owned δ (p .wire) (p .delay) m₀ m₁ ow
       → Switched M E (p .cell) g m₁ m₂ t
-      → Done M F P (place t (ow .delay) (t + 1 + 1) (p .mark) (p .out)) b a k l q
+      → Done pulse M F P (place t (ow .delay) (t + 1 + 1) (p .mark) (p .out)) b a k l q
       → Opened P (place t (ow .delay) (t + 1 + 1) (p .mark) (p .out)) o o₁
       → Opened Q (place (t + 1) (q .delay) (q .cell) (q .mark) (q .out)) o₁ o₂
       → Opened (ite δ E P Q) p o o₂

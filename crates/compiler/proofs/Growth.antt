@@ -26,7 +26,7 @@ leave P p =
     place (finishWire P (p .wire) (p .delay) (p .cell)) (p .delay + delayCount P) (p .cell + walkCount P) (p .mark + 4 * assignments P)
     (p .out + exitCount P)
 
-pub left : {M : ℕ} {F : ℕ → ℕ} {P : Code} {p r : Place} {b a k l : List ℕ} → Done M F P p b a k l r → r ≡ leave P p
+pub left : {pulse M : ℕ} {F : ℕ → ℕ} {P : Code} {p r : Place} {b a k l : List ℕ} → Done pulse M F P p b a k l r → r ≡ leave P p
 left u = same-place (u .wire) (u .delay) (u .cell) (u .mark) (u .out)
 
 pub marks-length : (P : Code) (d c : ℕ) → length (marksOf P d c) ≡ 4 * assignments P
@@ -113,13 +113,13 @@ module _ {d c k d′ c′ k′ : ℕ} {before marked after remarked : List ℕ} 
 
 module _ {d c k d′ c′ k′ : ℕ} {before marked after remarked : List ℕ} {D W : List Cell} {K : List ℕ} where
   -- a part
-  pub grow-part : {M w o : ℕ} {F : ℕ → ℕ} {Q : Code} {r : Place} {end marks : List ℕ} → Grown d c k before marked D W K after remarked d′ c′ k′
-      → d′ + delayCount Q ≤ c → Done M F Q (place w d′ c′ k′ o) after end remarked marks r
-      → Grown d c k before marked (D ++ delays Q w d′ c′) (W ++ walk M F Q w d′ c′) (K ++ marksOf Q d′ c′) end marks
+  pub grow-part : {M w o pulse : ℕ} {F : ℕ → ℕ} {Q : Code} {r : Place} {end marks : List ℕ} → Grown d c k before marked D W K after remarked d′ c′ k′
+      → d′ + delayCount Q ≤ c → Done pulse M F Q (place w d′ c′ k′ o) after end remarked marks r
+      → Grown d c k before marked (D ++ delays pulse Q w d′ c′) (W ++ walk M F Q w d′ c′) (K ++ marksOf Q d′ c′) end marks
       (d′ + delayCount Q) (c′ + walkCount Q) (k′ + 4 * assignments Q)
   unfolding both
-  grow-part {M} {w} {F = F} {Q} g h u =
-      let x = grow-delay g (delays Q w d′ c′) (behind d′ (d-len Q w d′ c′)) h refl in
+  grow-part {M} {w} {pulse = pulse} {F = F} {Q} g h u =
+      let x = grow-delay g (delays pulse Q w d′ c′) (behind d′ (d-len pulse Q w d′ c′)) h refl in
       let y = grow-walk x (walk M F Q w d′ c′) (behind c′ (w-len M F Q w d′ c′)) (u .cells) in
       grow-marks y (marksOf Q d′ c′) (behind k′ (marks-length Q d′ c′)) (u .marks)
 
@@ -136,17 +136,17 @@ module _ {d c k d′ c′ k′ : ℕ} {before marked after remarked : List ℕ} 
       }
 
 -- a statement whose cells and marks these are is done
-pub closed : {M d c k : ℕ} {F : ℕ → ℕ} {S : Code} {p r : Place} {before marked after remarked K : List ℕ} {D W : List Cell}
+pub closed : {pulse M d c k : ℕ} {F : ℕ → ℕ} {S : Code} {p r : Place} {before marked after remarked K : List ℕ} {D W : List Cell}
     → Grown (p .delay) (p .cell) (p .mark) before marked D W K after remarked d c k
-    → D ≡ delays S (p .wire) (p .delay) (p .cell) → W ≡ walk M F S (p .wire) (p .delay) (p .cell) → K ≡ marksOf S (p .delay) (p .cell)
-    → r .out ≡ p .out + exitCount S → r ≡ place (finishWire S (p .wire) (p .delay) (p .cell)) d c k (r .out) → Done M F S p before after marked remarked r
-closed {M} {F = F} {S} {p} g₀ eD eW eK o e =
+    → D ≡ delays pulse S (p .wire) (p .delay) (p .cell) → W ≡ walk M F S (p .wire) (p .delay) (p .cell) → K ≡ marksOf S (p .delay) (p .cell)
+    → r .out ≡ p .out + exitCount S → r ≡ place (finishWire S (p .wire) (p .delay) (p .cell)) d c k (r .out) → Done pulse M F S p before after marked remarked r
+closed {pulse} {M} {F = F} {S} {p} g₀ eD eW eK o e =
     let g = rw (eD, eW, eK) at g₀ in
     record {
       cells = g .cells;
       marks = g .marks;
       wire = ap (λ (r : Place). r .wire) e;
-      delay = ap (λ (r : Place). r .delay) e ∙ g .delay ∙ ap (λ (n : ℕ). p .delay + n) (d-len S (p .wire) (p .delay) (p .cell));
+      delay = ap (λ (r : Place). r .delay) e ∙ g .delay ∙ ap (λ (n : ℕ). p .delay + n) (d-len pulse S (p .wire) (p .delay) (p .cell));
       cell = ap (λ (r : Place). r .cell) e ∙ g .cell ∙ ap (λ (n : ℕ). p .cell + n) (w-len M F S (p .wire) (p .delay) (p .cell));
       mark = ap (λ (r : Place). r .mark) e ∙ g .mark ∙ ap (λ (n : ℕ). p .mark + n) (marks-length S (p .delay) (p .cell));
       out = o;

@@ -86,7 +86,7 @@ module _ {M n : ℕ} {p : Place} where
     unfolding delayCount walkCount assignments allExits
     seq-first r = part r (r .formed .0) (r .earlier .0) (omega (arith, r .apart)) (omega arith) (omega arith) (omega arith)
 
-    pub seq-second : {F : ℕ → ℕ} {q : Place} {b a k l : List ℕ} → Ready M (seq P Q) p n → Done M F P p b a k l q → Ready M Q q n
+    pub seq-second : {pulse : ℕ} {F : ℕ → ℕ} {q : Place} {b a k l : List ℕ} → Ready M (seq P Q) p n → Done pulse M F P p b a k l q → Ready M Q q n
     unfolding delayCount walkCount assignments allExits
     seq-second r u = rw (left u) (part r (r .formed .1) (r .earlier .1) (omega (arith, r .apart)) (omega arith) (omega arith) (omega (arith, some-exits P)))
 
@@ -94,13 +94,13 @@ module _ {M n : ℕ} {p : Place} where
     unfolding delayCount walkCount assignments allExits
     par-first r = part r (r .formed .0) (r .earlier .0) (omega (arith, r .apart)) (omega arith) (omega arith) (omega arith)
 
-    pub par-second : {F : ℕ → ℕ} {q : Place} {b a k l : List ℕ} → Ready M (par P Q) p n → Done M F P p b a k l q
+    pub par-second : {pulse : ℕ} {F : ℕ → ℕ} {q : Place} {b a k l : List ℕ} → Ready M (par P Q) p n → Done pulse M F P p b a k l q
         → Ready M Q (place (p .wire) (q .delay) (q .cell) (q .mark) (q .out)) n
     unfolding delayCount walkCount assignments allExits
     par-second r u = rw (left u) (part r (r .formed .1) (r .earlier .1) (omega (arith, r .apart)) (omega arith) (omega arith) (omega (arith, some-exits P)))
 
-    pub par-merge : {F : ℕ → ℕ} {q s : Place} {b a k l b′ a′ k′ l′ : List ℕ} → Ready M (par P Q) p n → Done M F P p b a k l q
-        → Done M F Q (place (p .wire) (q .delay) (q .cell) (q .mark) (q .out)) b′ a′ k′ l′ s → 6 * s .cell + 6 ≤ n
+    pub par-merge : {pulse : ℕ} {F : ℕ → ℕ} {q s : Place} {b a k l b′ a′ k′ l′ : List ℕ} → Ready M (par P Q) p n → Done pulse M F P p b a k l q
+        → Done pulse M F Q (place (p .wire) (q .delay) (q .cell) (q .mark) (q .out)) b′ a′ k′ l′ s → 6 * s .cell + 6 ≤ n
     unfolding walkCount
     par-merge r u v = omega (arith, r .room, u .cell, v .cell)
 
@@ -114,16 +114,16 @@ module _ {M n : ℕ} {p : Place} where
         unfolding delayCount walkCount assignments allExits
         if-first = rw (sw .switch, ow .delay) (part r (r .formed .2) (r .earlier .2) (omega (arith, r .apart)) (omega arith) (omega arith) (omega arith))
 
-        pub if-second : {F : ℕ → ℕ} {q : Place} {b a k l : List ℕ} → Done M F P (place t (o .delay) (t + 1 + 1) (p .mark) (p .out)) b a k l q
+        pub if-second : {pulse : ℕ} {F : ℕ → ℕ} {q : Place} {b a k l : List ℕ} → Done pulse M F P (place t (o .delay) (t + 1 + 1) (p .mark) (p .out)) b a k l q
             → Ready M Q (place (t + 1) (q .delay) (q .cell) (q .mark) (q .out)) n
         unfolding delayCount walkCount assignments allExits
         if-second u₀ =
             let u = rw (sw .switch, ow .delay) at u₀ in
             rw (sw .switch, left u) (part r (r .formed .3) (r .earlier .3) (omega (arith, r .apart)) (omega arith) (omega arith) (omega (arith, some-exits P)))
 
-        pub if-merge : {F : ℕ → ℕ} {q s : Place} {b a k l b′ a′ k′ l′ : List ℕ}
-            → Done M F P (place t (o .delay) (t + 1 + 1) (p .mark) (p .out)) b a k l q
-            → Done M F Q (place (t + 1) (q .delay) (q .cell) (q .mark) (q .out)) b′ a′ k′ l′ s → 6 * s .cell + 6 ≤ n
+        pub if-merge : {pulse : ℕ} {F : ℕ → ℕ} {q s : Place} {b a k l b′ a′ k′ l′ : List ℕ}
+            → Done pulse M F P (place t (o .delay) (t + 1 + 1) (p .mark) (p .out)) b a k l q
+            → Done pulse M F Q (place (t + 1) (q .delay) (q .cell) (q .mark) (q .out)) b′ a′ k′ l′ s → 6 * s .cell + 6 ≤ n
         unfolding walkCount
         if-merge u v = omega (arith, r .room, sw .switch, u .cell, v .cell)
 
@@ -137,8 +137,8 @@ module _ {M n : ℕ} {p : Place} where
     unfolding delayCount walkCount assignments allExits
     while-body r sw = rw (sw .switch) (part r (r .formed .2) (r .earlier .2) (omega (arith, r .apart)) (omega arith) (omega arith) (omega arith))
 
-    pub while-merge : {g t : ℕ} {F : ℕ → ℕ} {m₁ m₂ b a k l : List ℕ} {q : Place} → Ready M (while δ E P) p n → Switched M E (p .cell) g m₁ m₂ t
-        → Done M F P (place t (p .delay + 1) (t + 1 + 1) (p .mark) (p .out)) b a k l q → 6 * q .cell + 6 ≤ n
+    pub while-merge : {g t : ℕ} {pulse : ℕ} {F : ℕ → ℕ} {m₁ m₂ b a k l : List ℕ} {q : Place} → Ready M (while δ E P) p n → Switched M E (p .cell) g m₁ m₂ t
+        → Done pulse M F P (place t (p .delay + 1) (t + 1 + 1) (p .mark) (p .out)) b a k l q → 6 * q .cell + 6 ≤ n
     unfolding walkCount
     while-merge r sw u = omega (arith, r .room, sw .switch, u .cell)
 
@@ -161,8 +161,8 @@ module _ {M n : ℕ} {p : Place} where
     loop-body = part r (r .formed .1) (r .earlier .1) (omega (arith, r .apart)) (omega arith) (omega arith) (omega arith)
 
     -- the exits of its body wait behind those that waited before
-    module _ {F : ℕ → ℕ} {q : Place} {b a k l o o′ : List ℕ}
-        (u : Done M F P (place (p .cell) (p .delay + 1) (p .cell + 1) (p .mark) (p .out)) b a k l q)
+    module _ {pulse : ℕ} {F : ℕ → ℕ} {q : Place} {b a k l o o′ : List ℕ}
+        (u : Done pulse M F P (place (p .cell) (p .delay + 1) (p .cell + 1) (p .mark) (p .out)) b a k l q)
         (v : Opened P (place (p .cell) (p .delay + 1) (p .cell + 1) (p .mark) (p .out)) o o′) (h : length o ≡ 200) where
       pub loop-waits : waiting o′ (p .out) (q .out) ≡ loopExits P (p .delay) (p .cell)
       unfolding allExits

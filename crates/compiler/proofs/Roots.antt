@@ -45,23 +45,23 @@ root-walk r u =
     })
 
 -- its 35s, and then its walk
-pub root-done : {M : ℕ} {F : ℕ → ℕ} {ws : List ℕ} {count n : ℕ} {P : Code} {p r : Place} {j : Joint} {w : Word} {before mid after marked remarked : List ℕ}
+pub root-done : {pulse M : ℕ} {F : ℕ → ℕ} {ws : List ℕ} {count n : ℕ} {P : Code} {p r : Place} {j : Joint} {w : Word} {before mid after marked remarked : List ℕ}
     → RootReady M ws count P p n → j .kind ≡ 35 → Joined j (p .cell) ws before mid w
-    → Done M F P (place (w .wire) (p .delay) (w .cell) (p .mark) 0) mid after marked remarked r
-    → RootDone M F (j .none) ws P p before after marked remarked r
+    → Done pulse M F P (place (w .wire) (p .delay) (w .cell) (p .mark) 0) mid after marked remarked r
+    → RootDone pulse M F (j .none) ws P p before after marked remarked r
 unfolding both
-root-done {M} {F} {ws} {P = P} {p} {j = j} {before = before} ready k u v₀ =
+root-done {pulse} {M} {F} {ws} {P = P} {p} {j = j} {before = before} ready k u v₀ =
     let v = rw (u .wire, u .cell) at v₀ in
     let s = startOf (j .none) ws p in
     let c = pastOrs ws p in
-    let D = delays P s (p .delay) c in
+    let D = delays pulse P s (p .delay) c in
     let O = ors 35 (p .cell) ws in
     let W = walk M F P s (p .delay) c in
     record {
       cells =
           v .cells
           ∙ ap (λ (l : List ℕ). write c W (write (p .delay) D l)) (rw k at (u .cells))
-          ∙ ap (write c W) (write-swap (p .delay) (p .cell) D O before (omega (arith, ready .apart, d-len P s (p .delay) c)))
+          ∙ ap (write c W) (write-swap (p .delay) (p .cell) D O before (omega (arith, ready .apart, d-len pulse P s (p .delay) c)))
           ∙ write-append (p .cell) c O W (write (p .delay) D before) (behind (p .cell) (ors-len 35 (p .cell) ws));
       marks = v .marks;
       wire = v .wire;
@@ -93,15 +93,15 @@ module _ (M : ℕ) (F G : ℕ → ℕ) (r : ℕ) (same : (p : ℕ) → p < r →
   walk-same exit h s d c = refl
   walk-same (call δ p) h s d c = rw (same p (h .1))
 
-  root-same : {idle : ℕ} {ws : List ℕ} {P : Code} {p q : Place} {before after marked remarked : List ℕ} → Earlier r P
-      → RootDone M F idle ws P p before after marked remarked q → RootDone M G idle ws P p before after marked remarked q
-  root-same {idle} {ws} {P} {p} {before = before} h u =
+  root-same : {pulse idle : ℕ} {ws : List ℕ} {P : Code} {p q : Place} {before after marked remarked : List ℕ} → Earlier r P
+      → RootDone pulse M F idle ws P p before after marked remarked q → RootDone pulse M G idle ws P p before after marked remarked q
+  root-same {pulse} {idle} {ws} {P} {p} {before = before} h u =
       let s = startOf idle ws p in
       let c = pastOrs ws p in
       record {
         cells =
             u .cells
-            ∙ ap (λ (W : List Cell). both (p .delay) (delays P s (p .delay) c) (p .cell) (ors 35 (p .cell) ws ++ W) before) (walk-same P h s (p .delay) c);
+            ∙ ap (λ (W : List Cell). both (p .delay) (delays pulse P s (p .delay) c) (p .cell) (ors 35 (p .cell) ws ++ W) before) (walk-same P h s (p .delay) c);
         marks = u .marks;
         wire = u .wire;
         delay = u .delay;
@@ -133,7 +133,7 @@ module _ (S : Program) (cs : List Source) (M : ℕ) where
   -- their cells and their marks, put in from a place on
   abbrev cellsFrom : ℕ → List Code → Place → List ℕ → List ℕ
   cellsFrom r Ps p l =
-      both (p .delay) (rootDelays (procedures S) cs r Ps (p .delay) (p .cell)) (p .cell)
+      both (p .delay) (rootDelays (S .pulse) (procedures S) cs r Ps (p .delay) (p .cell)) (p .cell)
       (rootWalks M (finishAt S cs M) (procedures S) cs r Ps (p .delay) (p .cell)) l
 
   abbrev marksFrom : ℕ → List Code → Place → List ℕ → List ℕ
@@ -174,12 +174,12 @@ module _ (S : Program) (cs : List Source) (M : ℕ) where
 
   -- one root more
   module _ (r : ℕ) (P : Code) (Ps : List Code) {p q : Place} {before after marked remarked : List ℕ} (h : p .delay + rootDelayCount (P ∷ Ps) ≤ p .cell)
-      (u : RootDone M (finishAt S cs M) (idleStart (procedures S) r) (wiresOf r cs) P p before after marked remarked q) where
+      (u : RootDone (S .pulse) M (finishAt S cs M) (idleStart (procedures S) r) (wiresOf r cs) P p before after marked remarked q) where
     abbrev start : ℕ
     start = rootStart (procedures S) cs r (p .cell)
 
     abbrev D : List Cell
-    D = delays P start (p .delay) (rootWalk cs r (p .cell))
+    D = delays (S .pulse) P start (p .delay) (rootWalk cs r (p .cell))
 
     abbrev O : List Cell
     O = ors 35 (p .cell) (wiresOf r cs)
@@ -192,12 +192,12 @@ module _ (S : Program) (cs : List Source) (M : ℕ) where
     cells-more =
         let d = p .delay + delayCount P in
         let c = pastRoot cs r P (p .cell) in
-        let D₂ = rootDelays (procedures S) cs (r + 1) Ps d c in
+        let D₂ = rootDelays (S .pulse) (procedures S) cs (r + 1) Ps d c in
         let W₂ = rootWalks M (finishAt S cs M) (procedures S) cs (r + 1) Ps d c in
-        let lD = d-len P start (p .delay) (rootWalk cs r (p .cell)) in
+        let lD = d-len (S .pulse) P start (p .delay) (rootWalk cs r (p .cell)) in
         let lO = ors-len 35 (p .cell) (wiresOf r cs) in
         let lW = w-len M (finishAt S cs M) P start (p .delay) (rootWalk cs r (p .cell)) in
-        let lD₂ = root-d-len (procedures S) cs (r + 1) Ps d c in
+        let lD₂ = root-d-len (S .pulse) (procedures S) cs (r + 1) Ps d c in
         rw (u .delay, u .cell)
         (ap (λ (l : List ℕ). write c W₂ (write d D₂ l)) (u .cells)
         ∙ ap (write c W₂) (both-delay (p .delay) (p .cell) D (O ++ W) before D₂ d (omega (arith, lD)) (omega (arith, lD₂, h)))
@@ -232,14 +232,14 @@ module _ (S : Program) (cs : List Source) (M : ℕ) where
       room-marks = let q = rw from-more at (C .mark) in omega (arith, q)
 
       module _ {after remarked : List ℕ} {q : Place} (few : r < 9) (h : 3 + rootDelayCount (roots S) ≤ behindArrays M) (e : Earlier r (getD (roots S) r ok))
-          (u₀ : RootDone M (finishIn finishes) (idleStart (procedures S) r) (wiresOf r cs) (getD (roots S) r ok) p cells after marks remarked q) where
+          (u₀ : RootDone (S .pulse) M (finishIn finishes) (idleStart (procedures S) r) (wiresOf r cs) (getD (roots S) r ok) p cells after marks remarked q) where
         abbrev P : Code
         P = getD (roots S) r ok
 
         abbrev FF : List ℕ
         FF = rootFinishes (procedures S) cs 0 (roots S) 3 (behindArrays M)
 
-        u : RootDone M (finishAt S cs M) (idleStart (procedures S) r) (wiresOf r cs) P p cells after marks remarked q
+        u : RootDone (S .pulse) M (finishAt S cs M) (idleStart (procedures S) r) (wiresOf r cs) P p cells after marks remarked q
         u = root-same M (finishIn finishes) (finishAt S cs M) r (C .known) e u₀
 
         fits : p .delay + rootDelayCount (P ∷ fromRoot (r + 1)) ≤ p .cell

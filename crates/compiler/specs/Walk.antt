@@ -112,9 +112,9 @@ abbrev pub finishIn : List ℕ → ℕ → ℕ
 finishIn finishes p = getD finishes p 0
 
 -- F p is the finish of body p
-pub record Done (M : ℕ) (F : ℕ → ℕ) (P : Code) (p : Place) (before after : List ℕ) (marked remarked : List ℕ) (r : Place) : Type 0 where
+pub record Done (pulse M : ℕ) (F : ℕ → ℕ) (P : Code) (p : Place) (before after : List ℕ) (marked remarked : List ℕ) (r : Place) : Type 0 where
   pub cells :
-      after ≡ both (p .delay) (delays P (p .wire) (p .delay) (p .cell)) (p .cell) (walk M F P (p .wire) (p .delay) (p .cell)) before
+      after ≡ both (p .delay) (delays pulse P (p .wire) (p .delay) (p .cell)) (p .cell) (walk M F P (p .wire) (p .delay) (p .cell)) before
   pub marks : remarked ≡ sets marked (p .mark) (marksOf P (p .delay) (p .cell))
   pub wire : r .wire ≡ finishWire P (p .wire) (p .delay) (p .cell)
   pub delay : r .delay ≡ p .delay + delayCount P

@@ -21,9 +21,10 @@ use Rattle.compiler.specs.Writes.{write, both}
 use Rattle.compiler.specs.Walk.{place, assignments, marksOf, Ready}
 use Rattle.compiler.specs.Ors.{sourcesFrom}
 
--- a program that is accepted with k procedures and some table, its array of subtree ends, and a list of 627 cells
-pub record Given (k : ℕ) (s ends : List ℕ) (n : ℕ) : Type 0 where
+-- a program that is accepted with a pulse length, k procedures and some table, its array of subtree ends, and a list of 627 cells
+pub record Given (w k : ℕ) (s ends : List ℕ) (n : ℕ) : Type 0 where
   pub options : Options
+  pub pulse : options .pulse ≡ w
   pub count : options .procedures ≡ k
   pub accepted : checkCall options s ≡ Accepted
   pub laid : Laid s ends
@@ -55,10 +56,10 @@ pub record RootReady (M : ℕ) (ws : List ℕ) (count : ℕ) (P : Code) (p : Pla
   pub walk : Ready M P (place 0 (p .delay) (pastOrs ws p) (p .mark) 0) n
 
 -- its callers' 35s, its delay cells and its walk, and its marks
-pub record RootDone (M : ℕ) (F : ℕ → ℕ) (idle : ℕ) (ws : List ℕ) (P : Code) (p : Place) (before after marked remarked : List ℕ) (r : Place) : Type 0 where
+pub record RootDone (pulse M : ℕ) (F : ℕ → ℕ) (idle : ℕ) (ws : List ℕ) (P : Code) (p : Place) (before after marked remarked : List ℕ) (r : Place) : Type 0 where
   pub cells :
       after
-      ≡ both (p .delay) (delays P (startOf idle ws p) (p .delay) (pastOrs ws p)) (p .cell)
+      ≡ both (p .delay) (delays pulse P (startOf idle ws p) (p .delay) (pastOrs ws p)) (p .cell)
       (ors 35 (p .cell) ws ++ walk M F P (startOf idle ws p) (p .delay) (pastOrs ws p)) before
   pub marks : remarked ≡ sets marked (p .mark) (marksOf P (p .delay) (pastOrs ws p))
   pub wire : r .wire ≡ finishWire P (startOf idle ws p) (p .delay) (pastOrs ws p)
@@ -80,12 +81,12 @@ abbrev pub behindArrays : ℕ → ℕ
 behindArrays M = M + 16 + 8
 
 -- all roots go to a list of n bytes; the marks tell their callers
-pub record RootsReady (k : ℕ) (s ends ms : List ℕ) (count M n : ℕ) : Type 0 where
-  pub given : Given k s ends n
+pub record RootsReady (w k : ℕ) (s ends ms : List ℕ) (count M n : ℕ) : Type 0 where
+  pub given : Given w k s ends n
   pub calls : List Source
   pub told : Told calls ms count
-  pub apart : 3 + rootDelayCount (roots (programOf k s)) ≤ behindArrays M
-  pub room : behindArrays M + rootWalkCount calls 0 (roots (programOf k s)) ≤ 627
+  pub apart : 3 + rootDelayCount (roots (programOf w k s)) ≤ behindArrays M
+  pub room : behindArrays M + rootWalkCount calls 0 (roots (programOf w k s)) ≤ 627
 
 -- the finish of root r
 abbrev pub finishAt : Program → List Source → ℕ → ℕ → ℕ
@@ -95,7 +96,7 @@ finishAt S cs M r = getD (rootFinishes (procedures S) cs 0 (roots S) 3 (behindAr
 pub record RootsDone (S : Program) (cs : List Source) (M : ℕ) (before after marked remarked : List ℕ) (r : Place) : Type 0 where
   pub cells :
       after
-      ≡ both 3 (rootDelays (procedures S) cs 0 (roots S) 3 (behindArrays M)) (behindArrays M)
+      ≡ both 3 (rootDelays (S .pulse) (procedures S) cs 0 (roots S) 3 (behindArrays M)) (behindArrays M)
       (rootWalks M (finishAt S cs M) (procedures S) cs 0 (roots S) 3 (behindArrays M)) before
   pub marks : remarked ≡ sets marked 0 (rootMarks cs 0 (roots S) 3 (behindArrays M))
   pub wire : r .wire ≡ finishAt S cs M (procedures S)

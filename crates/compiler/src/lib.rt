@@ -30,7 +30,13 @@ pub fn count_cells(options: Options, program: &[u8]) -> usize
     let told = program::scan(options, program);
     let ends = told.ends;
     let mut cells = [0u8; COMPILED_MOST];
-    let made = whole::put_netlist(&mut cells, program, &ends, options.procedures);
+    let made = whole::put_netlist(
+        &mut cells,
+        program,
+        &ends,
+        options.procedures,
+        options.pulse,
+    );
     made.count as usize
 }
 
@@ -43,13 +49,19 @@ pub fn compile_accepted(options: Options, program: &[u8], netlist: &mut [u8]) ->
     let told = program::scan(options, program);
     let ends = told.ends;
     let mut cells = [0u8; COMPILED_MOST];
-    let made = whole::put_netlist(&mut cells, program, &ends, options.procedures);
+    let made = whole::put_netlist(
+        &mut cells,
+        program,
+        &ends,
+        options.procedures,
+        options.pulse,
+    );
     let n = made.count as usize;
-    netlist::blocks::put_file(netlist, &cells, n, made.finish);
+    netlist::blocks::put_file(netlist, &cells, n, options.pulse as u16, made.finish);
     BLOCK * ((n + BLOCK_LAST) / BLOCK_CELLS)
 }
 
-// Compiles a program: refusals 19 to 21, 1 to 8, 22, 24 and 25, and 14.
+// Compiles a program: refusals 27, 19 to 21, 1 to 8, 22, 24 and 25, and 14.
 pub fn compile(options: Options, program: &[u8], netlist: &mut [u8]) -> Written
     ensures answer { λ r. ⌜ r ≡ compileCall options (now (program .entry)) (now (netlist .entry)) .answer ⌝ }
     ensures lent { λ _. ⌜ now (netlist .exit) ≡ compileCall options (now (program .entry)) (now (netlist .entry)) .lent ⌝ }
@@ -61,7 +73,13 @@ pub fn compile(options: Options, program: &[u8], netlist: &mut [u8]) -> Written
     }
     let ends = told.ends;
     let mut cells = [0u8; COMPILED_MOST];
-    let made = whole::put_netlist(&mut cells, program, &ends, options.procedures);
+    let made = whole::put_netlist(
+        &mut cells,
+        program,
+        &ends,
+        options.procedures,
+        options.pulse,
+    );
     let n = made.count as usize;
     let finish = made.finish;
     let count = BLOCK * ((n + BLOCK_LAST) / BLOCK_CELLS);
@@ -71,6 +89,6 @@ pub fn compile(options: Options, program: &[u8], netlist: &mut [u8]) -> Written
             place: 0,
         });
     }
-    netlist::blocks::put_file(netlist, &cells, n, finish);
+    netlist::blocks::put_file(netlist, &cells, n, options.pulse as u16, finish);
     Written::Done { count, finish }
 }

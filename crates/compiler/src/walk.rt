@@ -36,9 +36,11 @@ pub struct Pulse {
     pub delay: u16,
 }
 
-// What the walk is to know of the netlist around it: the first memory, and the finish of each body that has been walked, for the calls of it.
+// What the walk is to know of the netlist around it: the first memory, the length of a pulse, and the finish of each body that has been walked, for
+// the calls of it.
 pub struct Known {
     pub memory: u16,
+    pub pulse: u8,
     pub finishes: [u16; 9],
 }
 
@@ -172,14 +174,15 @@ fn put_delays(
     delay: u8,
     own: Assigned,
     next: u16,
+    pulse: u8,
 ) -> Place
     requires { ⌜ (6 * (at .delay + 2) ≤ length (now cells)) × (length (now cells) ≤ 3762) × (at .mark + 4 ≤ 800) ⌝ }
-    ensures cells { λ _. ⌜ now (cells .exit) ≡ write (at .delay) (cell 34 delay (at .wire) 0 ∷ cell 34 1 (at .delay) 0 ∷ []) (now (cells .entry)) ⌝ }
+    ensures cells { λ _. ⌜ now (cells .exit) ≡ write (at .delay) (cell 34 delay (at .wire) 0 ∷ cell 34 pulse (at .delay) 0 ∷ []) (now (cells .entry)) ⌝ }
     ensures marks { λ _. ⌜ now (marks .exit) ≡ sets (now (marks .entry)) (at .mark) (own .variable ∷ at .delay ∷ own .data ∷ own .address ∷ []) ⌝ }
     ensures place { λ r. ⌜ r ≡ place (at .delay + 1) (at .delay + 2) next (at .mark + 4) (at .out) ⌝ }
 {
     put(cells, at.delay, 34, delay, at.wire, 0);
-    put(cells, at.delay + 1, 34, 1, at.delay, 0);
+    put(cells, at.delay + 1, 34, pulse, at.delay, 0);
     let k = at.mark;
     marks[k] = own.variable;
     marks[k + 1] = at.delay;
@@ -204,9 +207,10 @@ fn put_assign(
     first: usize,
     at: Place,
     node: Node,
+    pulse: u8,
 ) -> Place
     requires { ⌜ Laid (now program) (now ends) × Ready memory (assign (node .delay) (node .n) (exprAt (now program) first)) at (length (now cells)) ⌝ }
-    ensures { λ r. ⌜ ((F : ℕ → ℕ) → Done memory F (assign (node .delay) (node .n) (exprAt (now (program .entry)) first)) at (now (cells .entry)) (now (cells .exit)) (now (marks .entry)) (now (marks .exit)) r) ⌝ }
+    ensures { λ r. ⌜ ((F : ℕ → ℕ) → Done pulse memory F (assign (node .delay) (node .n) (exprAt (now (program .entry)) first)) at (now (cells .entry)) (now (cells .exit)) (now (marks .entry)) (now (marks .exit)) r) ⌝ }
 {
     let e = put_expr(cells, program, ends, memory, first, at.cell);
     put(cells, e.cell, 41, 0, at.delay, e.wire);
@@ -215,7 +219,7 @@ fn put_assign(
         data: e.cell,
         address: 0,
     };
-    put_delays(cells, marks, at, node.delay, own, e.cell + 1)
+    put_delays(cells, marks, at, node.delay, own, e.cell + 1, pulse)
 }
 
 // Index, value, then kind 41 of the value and of the index.
@@ -229,9 +233,10 @@ fn put_element(
     second: usize,
     at: Place,
     node: Node,
+    pulse: u8,
 ) -> Place
     requires { ⌜ Laid (now program) (now ends) × Ready memory (assignElem (node .delay) (node .n) (exprAt (now program) first) (exprAt (now program) second)) at (length (now cells)) ⌝ }
-    ensures { λ r. ⌜ ((F : ℕ → ℕ) → Done memory F (assignElem (node .delay) (node .n) (exprAt (now (program .entry)) first) (exprAt (now (program .entry)) second)) at (now (cells .entry)) (now (cells .exit)) (now (marks .entry)) (now (marks .exit)) r) ⌝ }
+    ensures { λ r. ⌜ ((F : ℕ → ℕ) → Done pulse memory F (assignElem (node .delay) (node .n) (exprAt (now (program .entry)) first) (exprAt (now (program .entry)) second)) at (now (cells .entry)) (now (cells .exit)) (now (marks .entry)) (now (marks .exit)) r) ⌝ }
 {
     let index = put_expr(cells, program, ends, memory, first, at.cell);
     let value = put_expr(cells, program, ends, memory, second, index.cell);
@@ -243,7 +248,7 @@ fn put_element(
         data: value.cell,
         address,
     };
-    put_delays(cells, marks, at, node.delay, own, address + 1)
+    put_delays(cells, marks, at, node.delay, own, address + 1, pulse)
 }
 
 // An exit's start waits for the end of its loop; its finish is ground.
@@ -323,7 +328,7 @@ pub fn put_stmt(
     at: Place,
 ) -> Place
     requires { ⌜ Laid (now program) (now ends) × Ready (known .memory) (stmtAt (now program) i) at (length (now cells)) × (length (now outs) ≡ 200) ⌝ }
-    ensures done { λ r. ⌜ Done (known .memory) (finishIn (known .finishes)) (stmtAt (now (program .entry)) i) at (now (cells .entry)) (now (cells .exit)) (now (marks .entry)) (now (marks .exit)) r ⌝ }
+    ensures done { λ r. ⌜ Done (known .pulse) (known .memory) (finishIn (known .finishes)) (stmtAt (now (program .entry)) i) at (now (cells .entry)) (now (cells .exit)) (now (marks .entry)) (now (marks .exit)) r ⌝ }
     ensures outs { λ _. ⌜ Opened (stmtAt (now (program .entry)) i) at (now (outs .entry)) (now (outs .exit)) ⌝ }
 {
     let node = crate::nodes::stmt_node(program, i);
@@ -339,7 +344,17 @@ pub fn put_stmt(
     let i1 = i + 1;
     let i2 = program::nodes::next(ends, count, i1);
     match kind {
-        18 => put_assign(cells, marks, program, ends, known.memory, i1, at, node),
+        18 => put_assign(
+            cells,
+            marks,
+            program,
+            ends,
+            known.memory,
+            i1,
+            at,
+            node,
+            known.pulse,
+        ),
         19 => put_seq(cells, marks, outs, program, ends, known, i1, i2, at),
         20 => put_par(cells, marks, outs, program, ends, known, i1, i2, at),
         21 => {
@@ -347,7 +362,18 @@ pub fn put_stmt(
             put_if(cells, marks, outs, program, ends, known, i1, i2, i3, at, d)
         }
         22 => put_while(cells, marks, outs, program, ends, known, i1, i2, at, d),
-        24 => put_element(cells, marks, program, ends, known.memory, i1, i2, at, node),
+        24 => put_element(
+            cells,
+            marks,
+            program,
+            ends,
+            known.memory,
+            i1,
+            i2,
+            at,
+            node,
+            known.pulse,
+        ),
         25 => put_loop(cells, marks, outs, program, ends, known, i1, at, d),
         26 => put_exit(outs, at),
         27 => put_call(cells, marks, known, at, node),
@@ -368,7 +394,7 @@ fn put_seq(
     at: Place,
 ) -> Place
     requires { ⌜ Laid (now program) (now ends) × Ready (known .memory) (seq (stmtAt (now program) first) (stmtAt (now program) second)) at (length (now cells)) × (first ≤ second) × (length (now outs) ≡ 200) ⌝ }
-    ensures done { λ r. ⌜ Done (known .memory) (finishIn (known .finishes)) (seq (stmtAt (now (program .entry)) first) (stmtAt (now (program .entry)) second)) at (now (cells .entry)) (now (cells .exit)) (now (marks .entry)) (now (marks .exit)) r ⌝ }
+    ensures done { λ r. ⌜ Done (known .pulse) (known .memory) (finishIn (known .finishes)) (seq (stmtAt (now (program .entry)) first) (stmtAt (now (program .entry)) second)) at (now (cells .entry)) (now (cells .exit)) (now (marks .entry)) (now (marks .exit)) r ⌝ }
     ensures outs { λ _. ⌜ Opened (seq (stmtAt (now (program .entry)) first) (stmtAt (now (program .entry)) second)) at (now (outs .entry)) (now (outs .exit)) ⌝ }
 {
     let p = put_stmt(cells, marks, outs, program, ends, known, first, at);
@@ -388,7 +414,7 @@ fn put_par(
     at: Place,
 ) -> Place
     requires { ⌜ Laid (now program) (now ends) × Ready (known .memory) (par (stmtAt (now program) first) (stmtAt (now program) second)) at (length (now cells)) × (first ≤ second) × (length (now outs) ≡ 200) ⌝ }
-    ensures done { λ r. ⌜ Done (known .memory) (finishIn (known .finishes)) (par (stmtAt (now (program .entry)) first) (stmtAt (now (program .entry)) second)) at (now (cells .entry)) (now (cells .exit)) (now (marks .entry)) (now (marks .exit)) r ⌝ }
+    ensures done { λ r. ⌜ Done (known .pulse) (known .memory) (finishIn (known .finishes)) (par (stmtAt (now (program .entry)) first) (stmtAt (now (program .entry)) second)) at (now (cells .entry)) (now (cells .exit)) (now (marks .entry)) (now (marks .exit)) r ⌝ }
     ensures outs { λ _. ⌜ Opened (par (stmtAt (now (program .entry)) first) (stmtAt (now (program .entry)) second)) at (now (outs .entry)) (now (outs .exit)) ⌝ }
 {
     let p = put_stmt(cells, marks, outs, program, ends, known, first, at);
@@ -425,7 +451,7 @@ fn put_if(
     delay: u8,
 ) -> Place
     requires { ⌜ Laid (now program) (now ends) × Ready (known .memory) (ite delay (exprAt (now program) first) (stmtAt (now program) second) (stmtAt (now program) third)) at (length (now cells)) × (second ≤ third) × (length (now outs) ≡ 200) ⌝ }
-    ensures done { λ r. ⌜ Done (known .memory) (finishIn (known .finishes)) (ite delay (exprAt (now (program .entry)) first) (stmtAt (now (program .entry)) second) (stmtAt (now (program .entry)) third)) at (now (cells .entry)) (now (cells .exit)) (now (marks .entry)) (now (marks .exit)) r ⌝ }
+    ensures done { λ r. ⌜ Done (known .pulse) (known .memory) (finishIn (known .finishes)) (ite delay (exprAt (now (program .entry)) first) (stmtAt (now (program .entry)) second) (stmtAt (now (program .entry)) third)) at (now (cells .entry)) (now (cells .exit)) (now (marks .entry)) (now (marks .exit)) r ⌝ }
     ensures outs { λ _. ⌜ Opened (ite delay (exprAt (now (program .entry)) first) (stmtAt (now (program .entry)) second) (stmtAt (now (program .entry)) third)) at (now (outs .entry)) (now (outs .exit)) ⌝ }
 {
     let own = put_own(cells, delay, at.wire, at.delay);
@@ -470,7 +496,7 @@ fn put_while(
     delay: u8,
 ) -> Place
     requires { ⌜ Laid (now program) (now ends) × Ready (known .memory) (while delay (exprAt (now program) first) (stmtAt (now program) second)) at (length (now cells)) × (length (now outs) ≡ 200) ⌝ }
-    ensures done { λ r. ⌜ Done (known .memory) (finishIn (known .finishes)) (while delay (exprAt (now (program .entry)) first) (stmtAt (now (program .entry)) second)) at (now (cells .entry)) (now (cells .exit)) (now (marks .entry)) (now (marks .exit)) r ⌝ }
+    ensures done { λ r. ⌜ Done (known .pulse) (known .memory) (finishIn (known .finishes)) (while delay (exprAt (now (program .entry)) first) (stmtAt (now (program .entry)) second)) at (now (cells .entry)) (now (cells .exit)) (now (marks .entry)) (now (marks .exit)) r ⌝ }
     ensures outs { λ _. ⌜ Opened (while delay (exprAt (now (program .entry)) first) (stmtAt (now (program .entry)) second)) at (now (outs .entry)) (now (outs .exit)) ⌝ }
 {
     let switch = put_switches(cells, program, ends, known.memory, first, at.cell, at.delay);
@@ -507,7 +533,7 @@ fn put_repeat(
     delay: u8,
 ) -> Place
     requires { ⌜ Laid (now program) (now ends) × Ready (known .memory) (repeat delay (exprAt (now program) first) (stmtAt (now program) second)) at (length (now cells)) × (length (now outs) ≡ 200) ⌝ }
-    ensures done { λ r. ⌜ Done (known .memory) (finishIn (known .finishes)) (repeat delay (exprAt (now (program .entry)) first) (stmtAt (now (program .entry)) second)) at (now (cells .entry)) (now (cells .exit)) (now (marks .entry)) (now (marks .exit)) r ⌝ }
+    ensures done { λ r. ⌜ Done (known .pulse) (known .memory) (finishIn (known .finishes)) (repeat delay (exprAt (now (program .entry)) first) (stmtAt (now (program .entry)) second)) at (now (cells .entry)) (now (cells .exit)) (now (marks .entry)) (now (marks .exit)) r ⌝ }
     ensures outs { λ _. ⌜ Opened (repeat delay (exprAt (now (program .entry)) first) (stmtAt (now (program .entry)) second)) at (now (outs .entry)) (now (outs .exit)) ⌝ }
 {
     let switch = put_switches(cells, program, ends, known.memory, first, at.cell, at.delay);
@@ -544,7 +570,7 @@ fn put_loop(
     delay: u8,
 ) -> Place
     requires { ⌜ Laid (now program) (now ends) × Ready (known .memory) (loop delay (stmtAt (now program) first)) at (length (now cells)) × (length (now outs) ≡ 200) ⌝ }
-    ensures done { λ r. ⌜ Done (known .memory) (finishIn (known .finishes)) (loop delay (stmtAt (now (program .entry)) first)) at (now (cells .entry)) (now (cells .exit)) (now (marks .entry)) (now (marks .exit)) r ⌝ }
+    ensures done { λ r. ⌜ Done (known .pulse) (known .memory) (finishIn (known .finishes)) (loop delay (stmtAt (now (program .entry)) first)) at (now (cells .entry)) (now (cells .exit)) (now (marks .entry)) (now (marks .exit)) r ⌝ }
     ensures outs { λ _. ⌜ Opened (loop delay (stmtAt (now (program .entry)) first)) at (now (outs .entry)) (now (outs .exit)) ⌝ }
 {
     put(cells, at.cell, 35, 0, at.wire, at.delay);

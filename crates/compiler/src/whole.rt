@@ -59,7 +59,7 @@ fn put_root(
     at: Place,
 ) -> Place
     requires { ⌜ Laid (now program) (now ends) × RootReady (known .memory) (callersOf (now callers) count (root .number)) count (stmtAt (now program) (root .node)) at (length (now cells)) × (length (now outs) ≡ 200) × (root .number ≤ 8) ⌝ }
-    ensures done { λ r. ⌜ RootDone (known .memory) (finishIn (known .finishes)) (root .idle) (callersOf (now (callers .entry)) count (root .number)) (stmtAt (now (program .entry)) (root .node)) at (now (cells .entry)) (now (cells .exit)) (now (marks .entry)) (now (marks .exit)) r ⌝ }
+    ensures done { λ r. ⌜ RootDone (known .pulse) (known .memory) (finishIn (known .finishes)) (root .idle) (callersOf (now (callers .entry)) count (root .number)) (stmtAt (now (program .entry)) (root .node)) at (now (cells .entry)) (now (cells .exit)) (now (marks .entry)) (now (marks .exit)) r ⌝ }
     ensures outs { λ _. ⌜ length (now (outs .exit)) ≡ 200 ⌝ }
 {
     let joint = Joint {
@@ -97,9 +97,10 @@ fn put_roots(
     ends: &[usize; 200],
     procedures: usize,
     memory: u16,
+    pulse: u8,
 ) -> Place
-    requires { ⌜ RootsReady procedures (now program) (now ends) (now callers) count memory (length (now cells)) ⌝ }
-    ensures { λ r. ⌜ ((cs : List Source) → Told cs (now (callers .entry)) count → RootsDone (programOf procedures (now (program .entry))) cs memory (now (cells .entry)) (now (cells .exit)) (now (marks .entry)) (now (marks .exit)) r) ⌝ }
+    requires { ⌜ RootsReady pulse procedures (now program) (now ends) (now callers) count memory (length (now cells)) ⌝ }
+    ensures { λ r. ⌜ ((cs : List Source) → Told cs (now (callers .entry)) count → RootsDone (programOf pulse procedures (now (program .entry))) cs memory (now (cells .entry)) (now (cells .exit)) (now (marks .entry)) (now (marks .exit)) r) ⌝ }
 {
     let mut outs = [0u16; 200];
     let mut finishes = [0u16; 9];
@@ -118,7 +119,11 @@ fn put_roots(
             node: program::nodes::skip(ends, nodes, 0, r),
             idle: idle_start(r, procedures),
         };
-        let known = Known { memory, finishes };
+        let known = Known {
+            memory,
+            pulse,
+            finishes,
+        };
         at = put_root(
             cells,
             marks,
@@ -144,12 +149,23 @@ fn put_clocks(
     program: &[u8],
     ends: &[usize; 200],
     procedures: usize,
+    pulse: u8,
 ) -> Clocks
-    requires { ⌜ Given procedures (now program) (now ends) (length (now cells)) × (length (now callers) ≡ 800) ⌝ }
-    ensures { λ r. ⌜ Clocked (programOf procedures (now (program .entry))) (now (callers .exit)) (now (cells .exit)) r ⌝ }
+    requires { ⌜ Given pulse procedures (now program) (now ends) (length (now cells)) × (length (now callers) ≡ 800) ⌝ }
+    ensures { λ r. ⌜ Clocked (programOf pulse procedures (now (program .entry))) (now (callers .exit)) (now (cells .exit)) r ⌝ }
 {
     let nobody = [0u16; 800];
-    let first = put_roots(cells, callers, &nobody, 0, program, ends, procedures, 179);
+    let first = put_roots(
+        cells,
+        callers,
+        &nobody,
+        0,
+        program,
+        ends,
+        procedures,
+        179,
+        pulse,
+    );
     let count = first.mark / 4;
     let joint = Joint {
         kind: 35,
@@ -175,9 +191,10 @@ fn put_walk(
     ends: &[usize; 200],
     procedures: usize,
     memory: u16,
+    pulse: u8,
 ) -> Finished
-    requires { ⌜ Given procedures (now program) (now ends) (length (now cells)) × (memory ≡ memoryAt (programOf procedures (now program))) × Told (callsOf (programOf procedures (now program))) (now callers) count ⌝ }
-    ensures { λ r. ⌜ Walked (programOf procedures (now (program .entry))) (now (cells .entry)) (now (cells .exit)) r ⌝ }
+    requires { ⌜ Given pulse procedures (now program) (now ends) (length (now cells)) × (memory ≡ memoryAt (programOf pulse procedures (now program))) × Told (callsOf (programOf pulse procedures (now program))) (now callers) count ⌝ }
+    ensures { λ r. ⌜ Walked (programOf pulse procedures (now (program .entry))) (now (cells .entry)) (now (cells .exit)) r ⌝ }
 {
     let mut marks = [0u16; 800];
     let end = put_roots(
@@ -189,6 +206,7 @@ fn put_walk(
         ends,
         procedures,
         memory,
+        pulse,
     );
     let of_data = Joint {
         kind: 7,
@@ -220,12 +238,13 @@ pub fn put_netlist(
     program: &[u8],
     ends: &[usize; 200],
     procedures: usize,
+    pulse: u8,
 ) -> Netlist
-    requires { ⌜ Given procedures (now program) (now ends) (length (now cells)) ⌝ }
-    ensures { λ r. ⌜ Made (programOf procedures (now (program .entry))) (now (cells .exit)) r ⌝ }
+    requires { ⌜ Given pulse procedures (now program) (now ends) (length (now cells)) ⌝ }
+    ensures { λ r. ⌜ Made (programOf pulse procedures (now (program .entry))) (now (cells .exit)) r ⌝ }
 {
     let mut callers = [0u16; 800];
-    let clocks = put_clocks(cells, &mut callers, program, ends, procedures);
+    let clocks = put_clocks(cells, &mut callers, program, ends, procedures, pulse);
     let memory = clocks.memory;
     let walked = put_walk(
         cells,
@@ -235,6 +254,7 @@ pub fn put_netlist(
         ends,
         procedures,
         memory,
+        pulse,
     );
     let clock_wires = clocks.wires;
     let data_wires = walked.wires;

@@ -1,6 +1,6 @@
 // The calls on bytes: numbers and byte slices in, the answer as 48 bytes in a lent buffer (reply/specs/Replies).
 // Each answers whether there was room for the reply; where there was none it did nothing. Before a program or a text stands what is given beside
-// it: a flag that tells whether a table of operator times is given, the table, and the number of procedures.
+// it: a flag that tells whether a table of operator times is given, the table, the number of procedures, and the pulse length.
 ghost use mathlib.Core.Path.{_≡_};
 ghost use Rattle.model.specs.TimeTables.{givenIf, beside, load};
 ghost use Rattle.model.specs.Calls.{checkCall, compileCall, writeCall, readCall, beginCall, continueCall, startCall, runNetlistCall, runProgramCall, referenceCall};
@@ -15,16 +15,17 @@ pub extern "C" fn hub_check(
     timed: bool,
     table: &[u8],
     procedures: usize,
+    pulse: u8,
     program: &[u8],
     reply: &mut [u8],
 ) -> bool
     ensures done { λ r. ⌜ r ≡ roomFor (now (reply .entry)) ⌝ }
-    ensures reply { λ _. ⌜ now (reply .exit) ≡ ifRoom (now (reply .entry)) (replied (checkedReply (checkCall (load (beside (givenIf timed (now (table .entry))) procedures)) (now (program .entry)))) (now (reply .entry))) (now (reply .entry)) ⌝ }
+    ensures reply { λ _. ⌜ now (reply .exit) ≡ ifRoom (now (reply .entry)) (replied (checkedReply (checkCall (load (beside (givenIf timed (now (table .entry))) procedures pulse)) (now (program .entry)))) (now (reply .entry))) (now (reply .entry)) ⌝ }
 {
     if reply.len() < reply::LENGTH {
         return false;
     }
-    let options = hub::load_if(timed, table, procedures);
+    let options = hub::load_if(timed, table, procedures, pulse);
     let answer = hub::check(options, program);
     reply::put(reply, reply::of_checked(answer));
     true
@@ -35,33 +36,40 @@ pub extern "C" fn hub_compile(
     timed: bool,
     table: &[u8],
     procedures: usize,
+    pulse: u8,
     program: &[u8],
     file: &mut [u8],
     reply: &mut [u8],
 ) -> bool
     ensures done { λ r. ⌜ r ≡ roomFor (now (reply .entry)) ⌝ }
-    ensures file { λ _. ⌜ now (file .exit) ≡ ifRoom (now (reply .entry)) (compileCall (load (beside (givenIf timed (now (table .entry))) procedures)) (now (program .entry)) (now (file .entry)) .lent) (now (file .entry)) ⌝ }
-    ensures reply { λ _. ⌜ now (reply .exit) ≡ ifRoom (now (reply .entry)) (replied (writtenReply (compileCall (load (beside (givenIf timed (now (table .entry))) procedures)) (now (program .entry)) (now (file .entry)) .answer)) (now (reply .entry))) (now (reply .entry)) ⌝ }
+    ensures file { λ _. ⌜ now (file .exit) ≡ ifRoom (now (reply .entry)) (compileCall (load (beside (givenIf timed (now (table .entry))) procedures pulse)) (now (program .entry)) (now (file .entry)) .lent) (now (file .entry)) ⌝ }
+    ensures reply { λ _. ⌜ now (reply .exit) ≡ ifRoom (now (reply .entry)) (replied (writtenReply (compileCall (load (beside (givenIf timed (now (table .entry))) procedures pulse)) (now (program .entry)) (now (file .entry)) .answer)) (now (reply .entry))) (now (reply .entry)) ⌝ }
 {
     if reply.len() < reply::LENGTH {
         return false;
     }
-    let options = hub::load_if(timed, table, procedures);
+    let options = hub::load_if(timed, table, procedures, pulse);
     let answer = hub::compile(options, program, file);
     reply::put(reply, reply::of_written(answer));
     true
 }
 
 #[no_mangle]
-pub extern "C" fn hub_write(cells: &[u8], finish: u16, file: &mut [u8], reply: &mut [u8]) -> bool
+pub extern "C" fn hub_write(
+    pulse: u8,
+    cells: &[u8],
+    finish: u16,
+    file: &mut [u8],
+    reply: &mut [u8],
+) -> bool
     ensures done { λ r. ⌜ r ≡ roomFor (now (reply .entry)) ⌝ }
-    ensures file { λ _. ⌜ now (file .exit) ≡ ifRoom (now (reply .entry)) (writeCall (now (cells .entry)) finish (now (file .entry)) .lent) (now (file .entry)) ⌝ }
-    ensures reply { λ _. ⌜ now (reply .exit) ≡ ifRoom (now (reply .entry)) (replied (writtenReply (writeCall (now (cells .entry)) finish (now (file .entry)) .answer)) (now (reply .entry))) (now (reply .entry)) ⌝ }
+    ensures file { λ _. ⌜ now (file .exit) ≡ ifRoom (now (reply .entry)) (writeCall pulse (now (cells .entry)) finish (now (file .entry)) .lent) (now (file .entry)) ⌝ }
+    ensures reply { λ _. ⌜ now (reply .exit) ≡ ifRoom (now (reply .entry)) (replied (writtenReply (writeCall pulse (now (cells .entry)) finish (now (file .entry)) .answer)) (now (reply .entry))) (now (reply .entry)) ⌝ }
 {
     if reply.len() < reply::LENGTH {
         return false;
     }
-    let answer = hub::write_netlist(cells, finish, file);
+    let answer = hub::write_netlist(pulse, cells, finish, file);
     reply::put(reply, reply::of_written(answer));
     true
 }
@@ -174,6 +182,7 @@ pub extern "C" fn hub_run_program(
     timed: bool,
     table: &[u8],
     procedures: usize,
+    pulse: u8,
     program: &[u8],
     words: &[u8],
     budget: u32,
@@ -182,14 +191,14 @@ pub extern "C" fn hub_run_program(
     reply: &mut [u8],
 ) -> bool
     ensures done { λ r. ⌜ r ≡ roomFor (now (reply .entry)) ⌝ }
-    ensures netlist { λ _. ⌜ now (netlist .exit) ≡ ifRoom (now (reply .entry)) (runProgramCall (load (beside (givenIf timed (now (table .entry))) procedures)) (now (program .entry)) (now (words .entry)) budget (now (netlist .entry)) (now (state .entry)) .netlist) (now (netlist .entry)) ⌝ }
-    ensures state { λ _. ⌜ now (state .exit) ≡ ifRoom (now (reply .entry)) (runProgramCall (load (beside (givenIf timed (now (table .entry))) procedures)) (now (program .entry)) (now (words .entry)) budget (now (netlist .entry)) (now (state .entry)) .state) (now (state .entry)) ⌝ }
-    ensures reply { λ _. ⌜ now (reply .exit) ≡ ifRoom (now (reply .entry)) (replied (answerReply (runProgramCall (load (beside (givenIf timed (now (table .entry))) procedures)) (now (program .entry)) (now (words .entry)) budget (now (netlist .entry)) (now (state .entry)) .answer)) (now (reply .entry))) (now (reply .entry)) ⌝ }
+    ensures netlist { λ _. ⌜ now (netlist .exit) ≡ ifRoom (now (reply .entry)) (runProgramCall (load (beside (givenIf timed (now (table .entry))) procedures pulse)) (now (program .entry)) (now (words .entry)) budget (now (netlist .entry)) (now (state .entry)) .netlist) (now (netlist .entry)) ⌝ }
+    ensures state { λ _. ⌜ now (state .exit) ≡ ifRoom (now (reply .entry)) (runProgramCall (load (beside (givenIf timed (now (table .entry))) procedures pulse)) (now (program .entry)) (now (words .entry)) budget (now (netlist .entry)) (now (state .entry)) .state) (now (state .entry)) ⌝ }
+    ensures reply { λ _. ⌜ now (reply .exit) ≡ ifRoom (now (reply .entry)) (replied (answerReply (runProgramCall (load (beside (givenIf timed (now (table .entry))) procedures pulse)) (now (program .entry)) (now (words .entry)) budget (now (netlist .entry)) (now (state .entry)) .answer)) (now (reply .entry))) (now (reply .entry)) ⌝ }
 {
     if reply.len() < reply::LENGTH {
         return false;
     }
-    let options = hub::load_if(timed, table, procedures);
+    let options = hub::load_if(timed, table, procedures, pulse);
     let answer = hub::run_program(options, program, words, budget, netlist, state);
     reply::put(reply, reply::of_answer(answer));
     true
@@ -200,18 +209,19 @@ pub extern "C" fn hub_reference(
     timed: bool,
     table: &[u8],
     procedures: usize,
+    pulse: u8,
     program: &[u8],
     words: &[u8],
     budget: u32,
     reply: &mut [u8],
 ) -> bool
     ensures done { λ r. ⌜ r ≡ roomFor (now (reply .entry)) ⌝ }
-    ensures reply { λ _. ⌜ now (reply .exit) ≡ ifRoom (now (reply .entry)) (replied (answerReply (referenceCall (load (beside (givenIf timed (now (table .entry))) procedures)) (now (program .entry)) (now (words .entry)) budget)) (now (reply .entry))) (now (reply .entry)) ⌝ }
+    ensures reply { λ _. ⌜ now (reply .exit) ≡ ifRoom (now (reply .entry)) (replied (answerReply (referenceCall (load (beside (givenIf timed (now (table .entry))) procedures pulse)) (now (program .entry)) (now (words .entry)) budget)) (now (reply .entry))) (now (reply .entry)) ⌝ }
 {
     if reply.len() < reply::LENGTH {
         return false;
     }
-    let options = hub::load_if(timed, table, procedures);
+    let options = hub::load_if(timed, table, procedures, pulse);
     let answer = hub::reference_run(options, program, words, budget);
     reply::put(reply, reply::of_answer(answer));
     true
@@ -222,18 +232,19 @@ pub extern "C" fn hub_read_text(
     timed: bool,
     table: &[u8],
     procedures: usize,
+    pulse: u8,
     source: &[u8],
     program: &mut [u8],
     reply: &mut [u8],
 ) -> bool
     ensures done { λ r. ⌜ r ≡ roomFor (now (reply .entry)) ⌝ }
-    ensures program { λ _. ⌜ now (program .exit) ≡ ifRoom (now (reply .entry)) (readTextCall (load (beside (givenIf timed (now (table .entry))) procedures)) (now (source .entry)) (now (program .entry)) .lent) (now (program .entry)) ⌝ }
-    ensures reply { λ _. ⌜ now (reply .exit) ≡ ifRoom (now (reply .entry)) (replied (writtenReply (readTextCall (load (beside (givenIf timed (now (table .entry))) procedures)) (now (source .entry)) (now (program .entry)) .answer)) (now (reply .entry))) (now (reply .entry)) ⌝ }
+    ensures program { λ _. ⌜ now (program .exit) ≡ ifRoom (now (reply .entry)) (readTextCall (load (beside (givenIf timed (now (table .entry))) procedures pulse)) (now (source .entry)) (now (program .entry)) .lent) (now (program .entry)) ⌝ }
+    ensures reply { λ _. ⌜ now (reply .exit) ≡ ifRoom (now (reply .entry)) (replied (writtenReply (readTextCall (load (beside (givenIf timed (now (table .entry))) procedures pulse)) (now (source .entry)) (now (program .entry)) .answer)) (now (reply .entry))) (now (reply .entry)) ⌝ }
 {
     if reply.len() < reply::LENGTH {
         return false;
     }
-    let options = hub::load_if(timed, table, procedures);
+    let options = hub::load_if(timed, table, procedures, pulse);
     let answer = hub::read_text(options, source, program);
     reply::put(reply, reply::of_written(answer));
     true
@@ -244,18 +255,19 @@ pub extern "C" fn hub_compile_text(
     timed: bool,
     table: &[u8],
     procedures: usize,
+    pulse: u8,
     source: &[u8],
     file: &mut [u8],
     reply: &mut [u8],
 ) -> bool
     ensures done { λ r. ⌜ r ≡ roomFor (now (reply .entry)) ⌝ }
-    ensures file { λ _. ⌜ now (file .exit) ≡ ifRoom (now (reply .entry)) (compileTextCall (load (beside (givenIf timed (now (table .entry))) procedures)) (now (source .entry)) (now (file .entry)) .lent) (now (file .entry)) ⌝ }
-    ensures reply { λ _. ⌜ now (reply .exit) ≡ ifRoom (now (reply .entry)) (replied (writtenReply (compileTextCall (load (beside (givenIf timed (now (table .entry))) procedures)) (now (source .entry)) (now (file .entry)) .answer)) (now (reply .entry))) (now (reply .entry)) ⌝ }
+    ensures file { λ _. ⌜ now (file .exit) ≡ ifRoom (now (reply .entry)) (compileTextCall (load (beside (givenIf timed (now (table .entry))) procedures pulse)) (now (source .entry)) (now (file .entry)) .lent) (now (file .entry)) ⌝ }
+    ensures reply { λ _. ⌜ now (reply .exit) ≡ ifRoom (now (reply .entry)) (replied (writtenReply (compileTextCall (load (beside (givenIf timed (now (table .entry))) procedures pulse)) (now (source .entry)) (now (file .entry)) .answer)) (now (reply .entry))) (now (reply .entry)) ⌝ }
 {
     if reply.len() < reply::LENGTH {
         return false;
     }
-    let options = hub::load_if(timed, table, procedures);
+    let options = hub::load_if(timed, table, procedures, pulse);
     let answer = hub::compile_text(options, source, file);
     reply::put(reply, reply::of_written(answer));
     true
@@ -266,6 +278,7 @@ pub extern "C" fn hub_run_text(
     timed: bool,
     table: &[u8],
     procedures: usize,
+    pulse: u8,
     source: &[u8],
     words: &[u8],
     budget: u32,
@@ -274,14 +287,14 @@ pub extern "C" fn hub_run_text(
     reply: &mut [u8],
 ) -> bool
     ensures done { λ r. ⌜ r ≡ roomFor (now (reply .entry)) ⌝ }
-    ensures netlist { λ _. ⌜ now (netlist .exit) ≡ ifRoom (now (reply .entry)) (runTextCall (load (beside (givenIf timed (now (table .entry))) procedures)) (now (source .entry)) (now (words .entry)) budget (now (netlist .entry)) (now (state .entry)) .netlist) (now (netlist .entry)) ⌝ }
-    ensures state { λ _. ⌜ now (state .exit) ≡ ifRoom (now (reply .entry)) (runTextCall (load (beside (givenIf timed (now (table .entry))) procedures)) (now (source .entry)) (now (words .entry)) budget (now (netlist .entry)) (now (state .entry)) .state) (now (state .entry)) ⌝ }
-    ensures reply { λ _. ⌜ now (reply .exit) ≡ ifRoom (now (reply .entry)) (replied (answerReply (runTextCall (load (beside (givenIf timed (now (table .entry))) procedures)) (now (source .entry)) (now (words .entry)) budget (now (netlist .entry)) (now (state .entry)) .answer)) (now (reply .entry))) (now (reply .entry)) ⌝ }
+    ensures netlist { λ _. ⌜ now (netlist .exit) ≡ ifRoom (now (reply .entry)) (runTextCall (load (beside (givenIf timed (now (table .entry))) procedures pulse)) (now (source .entry)) (now (words .entry)) budget (now (netlist .entry)) (now (state .entry)) .netlist) (now (netlist .entry)) ⌝ }
+    ensures state { λ _. ⌜ now (state .exit) ≡ ifRoom (now (reply .entry)) (runTextCall (load (beside (givenIf timed (now (table .entry))) procedures pulse)) (now (source .entry)) (now (words .entry)) budget (now (netlist .entry)) (now (state .entry)) .state) (now (state .entry)) ⌝ }
+    ensures reply { λ _. ⌜ now (reply .exit) ≡ ifRoom (now (reply .entry)) (replied (answerReply (runTextCall (load (beside (givenIf timed (now (table .entry))) procedures pulse)) (now (source .entry)) (now (words .entry)) budget (now (netlist .entry)) (now (state .entry)) .answer)) (now (reply .entry))) (now (reply .entry)) ⌝ }
 {
     if reply.len() < reply::LENGTH {
         return false;
     }
-    let options = hub::load_if(timed, table, procedures);
+    let options = hub::load_if(timed, table, procedures, pulse);
     let answer = hub::run_text(options, source, words, budget, netlist, state);
     reply::put(reply, reply::of_answer(answer));
     true

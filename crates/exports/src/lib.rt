@@ -6,11 +6,12 @@ ghost use Prim.Native.Nat.{_-_, _*_, _≤_};
 ghost use lib.ListN.{length, take};
 ghost use lib.Seq.{sets};
 ghost use Rattle.model.specs.CellSlices.{movedFrom, behind, checkCellsCall, writeCellsCall, readCellsCall};
-ghost use Rattle.model.specs.NetlistFile.{cellsAt, inFile, blocksFor, fileOf};
+ghost use Rattle.model.specs.NetlistFile.{cellsAt, inFile, blocksFor};
 ghost use Rattle.reply.specs.Replies.{checkedReply, writtenReply, replied, roomFor, ifRoom};
 ghost use Rattle.netlist.specs.declared.cells.Layout.the-variants.{InFile};
 ghost use Rattle.netlist.specs.Offsets.{Room};
 ghost use Rattle.netlist.specs.Scans.{Scanned};
+ghost use Rattle.exports.specs.Writes.{numbered};
 
 pub mod calls; // the calls on bytes
 mod checking; // what the check tells
@@ -49,34 +50,35 @@ pub extern "C" fn hub_check_cells(cells: &[Cell], finish: u16, reply: &mut [u8])
     checking::tell(scan, reply)
 }
 
-// Puts the first n cells in as their file.
-fn put_cells(cells: &[Cell], n: usize, finish: u16, file: &mut [u8])
-    requires { ⌜ (n ≤ length (now cells)) × (n ≤ 1024) × (512 * blocksFor n ≤ length (now file)) ⌝ }
-    ensures { λ _. ⌜ now (file .exit) ≡ sets (now (file .entry)) 0 (fileOf (take n (now (cells .entry))) finish) ⌝ }
+// Puts the first n cells in as their file, whose blocks are numbered from first on.
+fn put_cells(cells: &[Cell], n: usize, first: u16, finish: u16, file: &mut [u8])
+    requires { ⌜ (n ≤ length (now cells)) × (n ≤ 1024) × (512 * blocksFor n ≤ length (now file)) × (first ≤ 65280) ⌝ }
+    ensures { λ _. ⌜ now (file .exit) ≡ sets (now (file .entry)) 0 (numbered first (take n (now (cells .entry))) finish) ⌝ }
 {
     let mut k: usize = 0;
     let mut sum: u16 = 0;
     while k < n {
-        sum = netlist::blocks::put_next(file, k, n, finish, cells[k], sum);
+        sum = netlist::blocks::put_next(file, k, n, first, finish, cells[k], sum);
         k += 1;
     }
 }
 
-// Writes a netlist as a file: refusals 11, 12, 14.
+// Writes a netlist of this pulse length as a file: refusals 27, 11, 12, 14.
 #[no_mangle]
 pub extern "C" fn hub_write_cells(
+    pulse: u8,
     cells: &[Cell],
     finish: u16,
     file: &mut [u8],
     reply: &mut [u8],
 ) -> bool
     ensures done { λ r. ⌜ r ≡ roomFor (now (reply .entry)) ⌝ }
-    ensures file { λ _. ⌜ now (file .exit) ≡ ifRoom (now (reply .entry)) (writeCellsCall (now (cells .entry)) finish (now (file .entry)) .lent) (now (file .entry)) ⌝ }
-    ensures reply { λ _. ⌜ now (reply .exit) ≡ ifRoom (now (reply .entry)) (replied (writtenReply (writeCellsCall (now (cells .entry)) finish (now (file .entry)) .answer)) (now (reply .entry))) (now (reply .entry)) ⌝ }
+    ensures file { λ _. ⌜ now (file .exit) ≡ ifRoom (now (reply .entry)) (writeCellsCall pulse (now (cells .entry)) finish (now (file .entry)) .lent) (now (file .entry)) ⌝ }
+    ensures reply { λ _. ⌜ now (reply .exit) ≡ ifRoom (now (reply .entry)) (replied (writtenReply (writeCellsCall pulse (now (cells .entry)) finish (now (file .entry)) .answer)) (now (reply .entry))) (now (reply .entry)) ⌝ }
 {
     let scan = scanned(cells, finish);
-    let p = writing::planned(scan, finish, file.len(), reply);
-    put_cells(cells, p.n, finish, file);
+    let p = writing::planned(pulse, scan, finish, file.len(), reply);
+    put_cells(cells, p.n, p.first, finish, file);
     p.told
 }
 

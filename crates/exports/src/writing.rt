@@ -16,17 +16,24 @@ use model::sizes::BLOCK_CELLS;
 use model::sizes::BLOCK_LAST;
 use netlist::rules::Scan;
 
-// Whether the answer is told, and how many cells the call puts in: none where it is refused.
+// Whether the answer is told, how many cells the call puts in, none where it is refused, and the number of the first block.
 pub struct Write {
     pub told: bool,
     pub n: usize,
+    pub first: u16,
 }
 
-// What writing answers, for a file with so much room: refusals 11, 12, 14.
-fn written(s: Scan, finish: u16, room: usize) -> Written
+// What writing answers, for a file with so much room: refusals 27, 11, 12, 14.
+fn written(pulse: u8, s: Scan, finish: u16, room: usize) -> Written
     requires { ⌜ 6 * s .n < 2 ^ 63 ⌝ }
-    ensures { λ r. ⌜ ((cs : List Cell) (lent : List ℕ) → Scanned cs finish (length cs) s → length lent ≡ room → r ≡ writeCellsCall cs finish lent .answer) ⌝ }
+    ensures { λ r. ⌜ ((cs : List Cell) (lent : List ℕ) → Scanned cs finish (length cs) s → length lent ≡ room → r ≡ writeCellsCall pulse cs finish lent .answer) ⌝ }
 {
+    if netlist::blocks::pulse_wrong(pulse as u16) {
+        return Written::Refused(Refusal {
+            number: 27,
+            place: 0,
+        });
+    }
     let found = crate::checking::checked(s);
     if let Checked::Refused(r) = found {
         return Written::Refused(r);
@@ -43,18 +50,31 @@ fn written(s: Scan, finish: u16, room: usize) -> Written
 }
 
 // Tells the answer; without room for a reply there is nothing to do.
-pub fn planned(s: Scan, finish: u16, room: usize, reply: &mut [u8]) -> Write
+pub fn planned(pulse: u8, s: Scan, finish: u16, room: usize, reply: &mut [u8]) -> Write
     requires { ⌜ 6 * s .n < 2 ^ 63 ⌝ }
-    ensures { λ w. ⌜ ((cs : List Cell) → Scanned cs finish (length cs) s → Writes cs finish room (now (reply .entry)) w (now (reply .exit))) ⌝ }
+    ensures { λ w. ⌜ ((cs : List Cell) → Scanned cs finish (length cs) s → Writes pulse cs finish room (now (reply .entry)) w (now (reply .exit))) ⌝ }
 {
     if reply.len() < reply::LENGTH {
-        return Write { told: false, n: 0 };
+        return Write {
+            told: false,
+            n: 0,
+            first: 0,
+        };
     }
-    let answer = written(s, finish, room);
+    let answer = written(pulse, s, finish, room);
     let answered = reply::of_written(answer);
     reply::put(reply, answered);
     if let Written::Refused(_r) = answer {
-        return Write { told: true, n: 0 };
+        return Write {
+            told: true,
+            n: 0,
+            first: 0,
+        };
     }
-    Write { told: true, n: s.n }
+    let first = netlist::blocks::first_number(pulse as u16);
+    Write {
+        told: true,
+        n: s.n,
+        first,
+    }
 }

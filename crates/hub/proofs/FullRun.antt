@@ -7,6 +7,7 @@ use borrow.Author.Tests.{lt-ltb, le-ltb, ltb-false}
 use lib.Dec.{ltb}
 use lib.ListN.{length, take, drop, length-append}
 use lib.Seq.{take-append-seam}
+use Rattle.model.specs.declared.Cell.{Cell}
 use Rattle.model.specs.declared.Refusal.{Refusal}
 use Rattle.model.specs.declared.Options.{Options}
 use Rattle.model.specs.declared.Checked.{Checked}
@@ -14,9 +15,9 @@ use Rattle.model.specs.declared.Checked.the-variants.{Accepted, Refused}
 use Rattle.model.specs.Refusals.{refuse, first}
 use Rattle.model.specs.ProgramChecks.{programWith}
 use Rattle.model.specs.Numbering.{netlist, finish}
-use Rattle.model.specs.NetlistFile.{cellsOf}
+use Rattle.model.specs.NetlistFile.{netOf}
 use Rattle.model.specs.declared.Format.the-variants.{Full}
-use Rattle.model.specs.State.{stateSize}
+use Rattle.model.specs.State.{base, stateSize}
 use Rattle.model.specs.Calls.{short, checkCall, overwrite, compiledFile, refusedAnswer, shows, running, writing, fullState, fullCount, runProgramChecks, runProgramCall}
 use Rattle.model.specs.Word.{Bytes}
 use Rattle.laws.specs.Refusals.Laws.{all-accept, refuse-unless, first-take, first-drop, accept-take}
@@ -25,7 +26,7 @@ use Rattle.laws.specs.Numbering.Parts.{net-length}
 use Rattle.laws.specs.Numbering.Count.{fits}
 use Rattle.laws.specs.NetlistFile.Files.{cells-written, file-length}
 use Rattle.laws.specs.NetlistFile.Compiled.{compiled-accepted}
-use Rattle.simulator.specs.Fits.{Runs}
+use Rattle.state.specs.Stands.{Runs}
 
 -- A netlist has few cells
 pub few-cells : (options : Options) (program : List ℕ) → checkCall options program ≡ Accepted → length (netlist (programWith options program)) ≤ 627
@@ -68,11 +69,11 @@ module _ (options : Options) (program words : List ℕ) (budget : ℕ) (file sta
 
       module _ (l : 544 ≤ length words) {n : ℕ} (count : n ≡ length (netlist (programWith options program))) where
         file-size : length (compiledFile options program) ≡ 512 * ((n + 83) / 84)
-        file-size = file-length (netlist (programWith options program)) (finish (programWith options program)) ∙ ap (λ (n : ℕ). 512 * ((n + 83) / 84)) (sym count)
+        file-size = file-length (options .pulse) (netlist (programWith options program)) (finish (programWith options program)) ∙ ap (λ (n : ℕ). 512 * ((n + 83) / 84)) (sym count)
 
-        state-size : stateSize Full (cellsOf (compiledFile options program)) ≡ 8 + 40 * n + 512
+        state-size : stateSize Full (netOf (compiledFile options program)) ≡ 8 + 40 * n + 512
         state-size =
-            ap (stateSize Full) (cells-written (netlist (programWith options program)) (finish (programWith options program)) (omega (arith, net-length (programWith options program))))
+            ap (λ (cs : List Cell). base Full (length cs) + 512) (cells-written (options .pulse) (netlist (programWith options program)) (finish (programWith options program)) (omega (arith, net-length (programWith options program))))
             ∙ ap (λ (n : ℕ). 8 + 40 * n + 512) (sym count)
 
         pub at-file : length file < 512 * ((n + 83) / 84) → refuse 14 0 ≡ verdict
@@ -97,7 +98,7 @@ module _ (options : Options) (program words : List ℕ) (budget : ℕ) (file sta
     pub few : budget ≤ 1000000
     pub start : 544 ≤ length words
     pub fits : length (compiledFile options program) ≤ length file
-    pub room : stateSize Full (cellsOf (compiledFile options program)) ≤ length state
+    pub room : stateSize Full (netOf (compiledFile options program)) ≤ length state
 
   pub ready : verdict ≡ Accepted → Ready
   unfolding checkCall
@@ -108,7 +109,7 @@ module _ (options : Options) (program words : List ℕ) (budget : ℕ) (file sta
         few = ltb-false 1000000 budget (refuse-unless (ltb 1000000 budget) 13 0 (a 2));
         start = long-enough (length words) 544 (a 3);
         fits = long-enough (length file) (length (compiledFile options program)) (a 4);
-        room = long-enough (length state) (stateSize Full (cellsOf (compiledFile options program))) (a 5);
+        room = long-enough (length state) (stateSize Full (netOf (compiledFile options program))) (a 5);
       }
 
   pub runs : Bytes program → Ready → Runs Full (compiledFile options program) state

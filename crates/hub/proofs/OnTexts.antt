@@ -12,21 +12,22 @@ use Rattle.model.specs.declared.Written.{Written}
 use Rattle.model.specs.Refusals.{first}
 use Rattle.model.specs.ProgramChecks.{programWith}
 use Rattle.model.specs.Numbering.{finish}
-use Rattle.model.specs.NetlistFile.{cellsOf}
+use Rattle.model.specs.NetlistFile.{netOf}
 use Rattle.model.specs.declared.Format.the-variants.{Full}
 use Rattle.model.specs.State.{stateSize}
 use Rattle.model.specs.Calls.{short, writing, compiledFile, netlistChecks, compileCall, refusedAnswer, running, fullState, fullCount, overBudget, fullRunChecks, runProgramCall}
+use Rattle.model.specs.TimeTables.{givenCheck}
 use Rattle.model.specs.TextCalls.{textProgram, textChecks, compileTextChecks, compileTextCall, runTextChecks, runTextCall}
 use Rattle.laws.specs.Text.AsProgram.{compile-as-program, run-as-program}
 use Rattle.text.specs.Parsing.{parseChecks}
 use Rattle.text.proofs.Giving.{parse-refuses, parse-accepts}
 
 module _ (options : Options) (text lent : List ℕ) where
-  pub compile-unloaded : (r : Refusal) → options .checked ≡ Refused r → compileTextCall options text lent ≡ record { answer = Written.Refused r; lent = lent }
+  pub compile-unloaded : (r : Refusal) → givenCheck options ≡ Refused r → compileTextCall options text lent ≡ record { answer = Written.Refused r; lent = lent }
   unfolding compileTextCall writing
   compile-unloaded r e = rw e refl
 
-  pub compile-refused : options .checked ≡ Accepted → (r : Refusal) → first (parseChecks text) ≡ Refused r
+  pub compile-refused : givenCheck options ≡ Accepted → (r : Refusal) → first (parseChecks text) ≡ Refused r
       → compileTextCall options text lent ≡ record { answer = Written.Refused r; lent = lent }
   unfolding compileTextCall writing
   compile-refused a r e =
@@ -40,12 +41,12 @@ module _ (options : Options) (text lent : List ℕ) where
   compile-given e = compile-as-program options text lent (parse-accepts text e)
 
 module _ (options : Options) (text words : List ℕ) (n : ℕ) (forFile lent : List ℕ) where
-  pub run-unloaded : (r : Refusal) → options .checked ≡ Refused r
+  pub run-unloaded : (r : Refusal) → givenCheck options ≡ Refused r
       → runTextCall options text words n forFile lent ≡ record { answer = refusedAnswer r; netlist = forFile; state = lent }
   unfolding runTextCall writing running
   run-unloaded r e = rw e refl
 
-  pub run-refused : options .checked ≡ Accepted → (r : Refusal) → first (parseChecks text) ≡ Refused r
+  pub run-refused : givenCheck options ≡ Accepted → (r : Refusal) → first (parseChecks text) ≡ Refused r
       → runTextCall options text words n forFile lent ≡ record { answer = refusedAnswer r; netlist = forFile; state = lent }
   unfolding runTextCall writing running
   run-refused a r e =
@@ -54,7 +55,7 @@ module _ (options : Options) (text words : List ℕ) (n : ℕ) (forFile lent : L
       let first-is : first (runTextChecks options text words n forFile lent) ≡ Refused r =
       ap (λ (c : Checked). first (c ∷ checks)) a
       ∙ parse-refuses text options r
-      (overBudget n ∷ short (length words) 544 ∷ short (length forFile) (length file) ∷ short (length lent) (stateSize Full (cellsOf file)) ∷ []) e in
+      (overBudget n ∷ short (length words) 544 ∷ short (length forFile) (length file) ∷ short (length lent) (stateSize Full (netOf file)) ∷ []) e in
       ap (λ (c : Checked).
       let s = running Full c file (fullState file words n lent) (fullCount file words n lent) lent in
       record { answer = s .answer; netlist = writing c file (length file) 0 forFile .lent; state = s .lent })

@@ -16,7 +16,7 @@ use model::sizes::START_WORDS;
 use model::sizes::STATE_CELL;
 use model::sizes::STATE_HEADER;
 
-// Refusals 19 to 21, 1 to 8, 22, 24 and 25, 13, 14.
+// Refusals 27, 19 to 21, 1 to 8, 22, 24 and 25, 13, 14.
 fn check(
     options: Options,
     program: &[u8],

@@ -1,5 +1,6 @@
 // The public calls. None has a requires; each contract is one equation for the answer and one for each lent list at exit, with model/Calls.
-// A call that checks a program takes first what is given beside it: `defaults`, or what a table and a number of procedures are loaded as.
+// A call that checks a program takes first what is given beside it: `defaults`, or what a table, a number of procedures and a
+// pulse length are loaded as.
 ghost use mathlib.Core.Path.{_≡_};
 ghost use Rattle.model.specs.TimeTables.{givenIf, beside, load, defaults};
 ghost use Rattle.model.specs.Calls.{checkCall, compileCall, writeCall, readCall, beginCall, continueCall, startCall, runNetlistCall, runProgramCall, referenceCall};
@@ -21,12 +22,12 @@ pub fn defaults() -> Options
     program::tables::defaults()
 }
 
-// What a table of operator times and a number of procedures are loaded as: refusals 19 to 21, which the calls tell; that a number above 8 is 1 they
-// find themselves. A flag tells whether a table is given; without one the built-in times serve.
-pub fn load_if(timed: bool, table: &[u8], procedures: usize) -> Options
-    ensures { λ r. ⌜ r ≡ load (beside (givenIf timed (now (table .entry))) procedures) ⌝ }
+// What a table of operator times, a number of procedures and a pulse length are loaded as: refusals 27 and 19 to 21, which the calls tell; that a
+// number of procedures above 8 is 1 they find themselves. A flag tells whether a table is given; without one the built-in times serve.
+pub fn load_if(timed: bool, table: &[u8], procedures: usize, pulse: u8) -> Options
+    ensures { λ r. ⌜ r ≡ load (beside (givenIf timed (now (table .entry))) procedures pulse) ⌝ }
 {
-    program::tables::load_if(timed, table, procedures)
+    program::tables::load_if(timed, table, procedures, pulse)
 }
 
 pub fn check(options: Options, program: &[u8]) -> Checked
@@ -43,11 +44,11 @@ pub fn compile(options: Options, program: &[u8], file: &mut [u8]) -> Written
     compiler::compile(options, program, file)
 }
 
-pub fn write_netlist(cells: &[u8], finish: u16, file: &mut [u8]) -> Written
-    ensures answer { λ r. ⌜ r ≡ writeCall (now (cells .entry)) finish (now (file .entry)) .answer ⌝ }
-    ensures lent { λ _. ⌜ now (file .exit) ≡ writeCall (now (cells .entry)) finish (now (file .entry)) .lent ⌝ }
+pub fn write_netlist(pulse: u8, cells: &[u8], finish: u16, file: &mut [u8]) -> Written
+    ensures answer { λ r. ⌜ r ≡ writeCall pulse (now (cells .entry)) finish (now (file .entry)) .answer ⌝ }
+    ensures lent { λ _. ⌜ now (file .exit) ≡ writeCall pulse (now (cells .entry)) finish (now (file .entry)) .lent ⌝ }
 {
-    netlist::write_netlist(cells, finish, file)
+    netlist::write_netlist(pulse, cells, finish, file)
 }
 
 pub fn read_netlist(file: &[u8], cells: &mut [u8]) -> Written
@@ -73,7 +74,7 @@ pub fn continue_by(format: Format, netlist: &[u8], state: &mut [u8], n: u32) -> 
     simulator::continue_by(format, netlist, state, n)
 }
 
-// One further instant with a start pulse, while nothing is in flight.
+// One further instant with a start pulse, while nothing is in flight; with pulses of more than one instant the finish is low too.
 pub fn start(format: Format, netlist: &[u8], state: &mut [u8]) -> Answer
     ensures answer { λ r. ⌜ r ≡ startCall format (now (netlist .entry)) (now (state .entry)) .answer ⌝ }
     ensures lent { λ _. ⌜ now (state .exit) ≡ startCall format (now (netlist .entry)) (now (state .entry)) .lent ⌝ }

@@ -7,12 +7,12 @@ use model::Options;
 use model::Written;
 use model::sizes::PROGRAM_MOST;
 
-// Refusals 19 to 21, 17, 18, 1 to 8, 22, 24 and 25, 14.
+// Refusals 27, 19 to 21, 17, 18, 1 to 8, 22, 24 and 25, 14.
 pub fn compile(options: Options, source: &[u8], file: &mut [u8]) -> Written
     ensures answer { λ r. ⌜ r ≡ compileTextCall options (now (source .entry)) (now (file .entry)) .answer ⌝ }
     ensures lent { λ _. ⌜ now (file .exit) ≡ compileTextCall options (now (source .entry)) (now (file .entry)) .lent ⌝ }
 {
-    let beside = options.checked;
+    let beside = program::tables::check_given(options);
     if let Checked::Refused(r) = beside {
         return Written::Refused(r);
     }
@@ -24,7 +24,7 @@ pub fn compile(options: Options, source: &[u8], file: &mut [u8]) -> Written
     }
 }
 
-// Refusals 19 to 21, 17, 18, 1 to 8, 22, 24 and 25, 13, 14.
+// Refusals 27, 19 to 21, 17, 18, 1 to 8, 22, 24 and 25, 13, 14.
 pub fn run(
     options: Options,
     source: &[u8],
@@ -37,7 +37,7 @@ pub fn run(
     ensures netlist { λ _. ⌜ now (netlist .exit) ≡ runTextCall options (now (source .entry)) (now (words .entry)) budget (now (netlist .entry)) (now (state .entry)) .netlist ⌝ }
     ensures state { λ _. ⌜ now (state .exit) ≡ runTextCall options (now (source .entry)) (now (words .entry)) budget (now (netlist .entry)) (now (state .entry)) .state ⌝ }
 {
-    let beside = options.checked;
+    let beside = program::tables::check_given(options);
     if let Checked::Refused(r) = beside {
         return simulator::refused(r);
     }

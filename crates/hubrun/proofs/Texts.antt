@@ -11,7 +11,8 @@ use lib.Seq.{take-all, sets}
 use borrow.Author.Tests.{lt-ltb, le-ltb, ltb-true, ltb-false}
 use Rattle.model.specs.declared.Answer.{Answer}
 use Rattle.model.specs.Word.{pick, get32}
-use Rattle.model.specs.TimeTables.{verdictOf, load, defaults}
+use Rattle.model.specs.TimeTables.{verdictOf, givenCheck, load, defaults}
+use Rattle.model.specs.NetlistFile.{pulseWrong}
 use Rattle.model.specs.Calls.{refusedAnswer, running, runProgramCall}
 use Rattle.model.specs.Hubrun.{decimal, line, refusedWord, linesOf, textOf, hubrunText}
 use Rattle.word.proofs.Puts.{overwrite-sets}
@@ -52,7 +53,7 @@ module _ (input : List ℕ) where
 -- a program above 800 bytes is refused
 too-long : (program words : List ℕ) (budget : ℕ) (netlist state : List ℕ) → 800 < length program
     → runProgramCall defaults program words budget netlist state .answer ≡ refusedAnswer (record { number = 1; place = 0 })
-unfolding runProgramCall running load verdictOf
+unfolding runProgramCall running load verdictOf givenCheck pulseWrong
 too-long program words budget netlist state h = rw (long-refused defaults program h) refl
 
 refused-text : (input : List ℕ) → 836 < length input → hubrunText input ≡ textOf (refusedAnswer (record { number = 1; place = 0 }))

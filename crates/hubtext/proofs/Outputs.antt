@@ -9,7 +9,8 @@ use lib.Dec.{ltb}
 use lib.ListN.{length, take, replicate, length-take}
 use lib.Seq.{sets, take-all}
 use borrow.Author.Tests.{lt-ltb, ltb-true, ltb-false}
-use Rattle.model.specs.TimeTables.{verdictOf, load, defaults}
+use Rattle.model.specs.TimeTables.{verdictOf, givenCheck, load, defaults}
+use Rattle.model.specs.NetlistFile.{pulseWrong}
 use Rattle.model.specs.Calls.{overwrite, writing}
 use Rattle.model.specs.Hubrun.{decimal, line, refusedWord}
 use Rattle.model.specs.declared.Refusal.{Refusal}
@@ -23,7 +24,7 @@ use Rattle.laws.specs.NetlistFile.ReadWrite.{wrote}
 use Rattle.word.proofs.Puts.{overwrite-sets}
 
 too-long : (text : List ℕ) → 4096 < length text → hubtextOutput text ≡ line (refusedWord ∷ decimal 17 ∷ decimal 4096 ∷ [])
-unfolding hubtextOutput readTextCall writing written load verdictOf
+unfolding hubtextOutput readTextCall writing written load verdictOf givenCheck pulseWrong
 too-long text h = rw (lt-ltb 4096 (length text) h) refl
 
 pub cut-text : (text : List ℕ) → hubtextOutput (take 4097 text) ≡ hubtextOutput text

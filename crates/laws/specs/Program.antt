@@ -1,5 +1,6 @@
 -- Programs: the trees of their nodes, and what the check accepts.
 pub mod Fit
+pub mod Widths
 pub mod Trees
 pub mod Preorder
 pub mod Grows

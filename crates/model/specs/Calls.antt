@@ -1,8 +1,9 @@
 -- The public calls: from the lists that are lent, as they are at entry, to the answer and to the lists at exit. Contracts cite these.
 -- A refused call "changes no lent byte"; "Lent bytes past a result keep their values."
--- A call that checks a program takes what is given beside it, as it is loaded: 19 to 21, of its table, come first.
+-- A call that checks a program takes what is given beside it, as it is loaded: 27, of its pulse length, and 19 to 21, of its table, come first. A call on
+-- a netlist or a state goes by the pulse length that the file tells.
 -- Assumes nothing: definitions.
-use mathlib.Core.Bool.{Bool, true, not, _||_}
+use mathlib.Core.Bool.{Bool, true, false, not, _&&_, _||_}
 use mathlib.Core.List.{List, [], _∷_, _++_}
 use Prim.Native.Nat.{ℕ, zero, suc, _+_, _*_, _/_, _%_}
 use lib.Dec.{ltb}
@@ -18,15 +19,16 @@ use Rattle.model.specs.declared.Written.the-variants.{Done}
 use Rattle.model.specs.declared.Answer.{Answer}
 use Rattle.model.specs.declared.Cell.{Cell}
 use Rattle.model.specs.declared.Format.{Format}
-use Rattle.model.specs.declared.Format.the-variants.{Full}
+use Rattle.model.specs.declared.Format.the-variants.{Full, Compact}
 use Rattle.model.specs.Word.{pick, get16}
 use Rattle.model.specs.Refusals.{refuseIf, first}
 use Rattle.model.specs.Procedures.{meaning}
 use Rattle.model.specs.ProgramChecks.{programWith, checkOf}
-use Rattle.model.specs.Rules.{Store, Run, atEnd, atExit, done, still, run}
+use Rattle.model.specs.Rules.{imperative, Store, Run, atEnd, atExit, done, still, run}
 use Rattle.model.specs.Circuit.{high}
 use Rattle.model.specs.Numbering.{netlist, finish}
-use Rattle.model.specs.NetlistFile.{cellBytes, cellsAt, inList, fileOf, fileCheck, cellsOf, countOf, finishOf, netCheck, countWrong, blocksFor}
+use Rattle.model.specs.NetlistFile.{cellBytes, cellsAt, inList, fileOf, fileCheck, cellsOf, netOf, countOf, finishOf, pulseOf, pulseWrong, netCheck, countWrong, blocksFor}
+use Rattle.model.specs.TimeTables.{givenCheck}
 use Rattle.model.specs.State.{instantOf, flightOf, stateSize, nowAt, beginState, stepState, Course, continued, wordsIn, sound}
 
 -- Answers ------------------------------------------------------------------------------------------------------------------------------
@@ -56,47 +58,48 @@ short has needs = refuseIf (ltb has needs) 14 0
 
 -- Programs and netlist files -----------------------------------------------------------------------------------------------------------
 
--- checking: 19 to 21, 1 to 8, 22, 24 and 25
+-- checking: 27, 19 to 21, 1 to 8, 22, 24 and 25
 unfoldable pub checkCall : Options → List ℕ → Checked
-checkCall options program = first (options .checked ∷ checkOf options program ∷ [])
+checkCall options program = first (givenCheck options ∷ checkOf options program ∷ [])
 
 -- a result of n bytes or cells is written over a lent list, unless a check refuses it
 unfoldable pub writing : Checked → List ℕ → ℕ → ℕ → List ℕ → Returned Written
 writing Accepted result n f lent = record { answer = Done n f; lent = overwrite result lent }
 writing (Checked.Refused r) result n f lent = record { answer = Written.Refused r; lent = lent }
 
--- compiling: 19 to 21, 1 to 8, 22, 24 and 25, 14
+-- compiling: 27, 19 to 21, 1 to 8, 22, 24 and 25, 14
 abbrev pub compiledFile : Options → List ℕ → List ℕ
-compiledFile options program = fileOf (netlist (programWith options program)) (finish (programWith options program))
+compiledFile options program = fileOf (options .pulse) (netlist (programWith options program)) (finish (programWith options program))
 
 abbrev pub netlistChecks : Options → List ℕ → List ℕ → List Checked
 netlistChecks options program lent = checkOf options program ∷ short (length lent) (length (compiledFile options program)) ∷ []
 
 abbrev pub compileChecks : Options → List ℕ → List ℕ → List Checked
-compileChecks options program lent = options .checked ∷ netlistChecks options program lent
+compileChecks options program lent = givenCheck options ∷ netlistChecks options program lent
 
 unfoldable pub compileCall : Options → List ℕ → List ℕ → Returned Written
 compileCall options program lent =
     let file = compiledFile options program in
     writing (first (compileChecks options program lent)) file (length file) (finish (programWith options program)) lent
 
--- writing a netlist, from cells of six bytes each and the finish: a broken cell at the end, a number of cells or a finish that no header
--- could tell rightly is 11; then 12, 14
+-- writing a netlist, from cells of six bytes each, the finish and the pulse length, which is given, so that 27 comes first: a broken cell at the end, a
+-- number of cells or a finish that no header could tell rightly is 11; then 12, 14
 abbrev pub cellsIn : List ℕ → List Cell
 cellsIn cells = cellsAt inList cells 0 (length cells / 6)
 
-abbrev pub writeChecks : List ℕ → ℕ → List ℕ → List Checked
-writeChecks cells f lent =
+abbrev pub writeChecks : ℕ → List ℕ → ℕ → List ℕ → List Checked
+writeChecks w cells f lent =
     let net = cellsIn cells in
-    refuseIf (ltb 0 (length cells % 6) || countWrong (blocksFor (length net)) (length net) f) 11 0
+    refuseIf (pulseWrong w) 27 0
+    ∷ refuseIf (ltb 0 (length cells % 6) || countWrong (blocksFor (length net)) (length net) f) 11 0
     ∷ netCheck net f
-    ∷ short (length lent) (length (fileOf net f))
+    ∷ short (length lent) (length (fileOf w net f))
     ∷ []
 
-unfoldable pub writeCall : List ℕ → ℕ → List ℕ → Returned Written
-writeCall cells f lent =
-    let file = fileOf (cellsIn cells) f in
-    writing (first (writeChecks cells f lent)) file (length file) f lent
+unfoldable pub writeCall : ℕ → List ℕ → ℕ → List ℕ → Returned Written
+writeCall w cells f lent =
+    let file = fileOf w (cellsIn cells) f in
+    writing (first (writeChecks w cells f lent)) file (length file) f lent
 
 -- reading a netlist, to cells of six bytes each: 9 to 12, 14
 abbrev pub readChecks : List ℕ → List ℕ → List Checked
@@ -131,19 +134,29 @@ unfoldable pub running : Format → Checked → List ℕ → List ℕ → ℕ �
 running F Accepted file s n lent = record { answer = shows F file s n; lent = s }
 running F (Checked.Refused r) file s n lent = record { answer = refusedAnswer r; lent = lent }
 
--- beginning: 9 to 12, 14
+-- "27: ... any [pulse length] above 1 with a compact state, after 12"
+unfoldable pub tooLong : Format → ℕ → Bool
+tooLong Full w = false
+tooLong Compact w = ltb 1 w
+
+abbrev pub formatCheck : Format → List ℕ → Checked
+formatCheck F file = refuseIf (tooLong F (pulseOf file)) 27 0
+
+-- beginning: 9 to 12, 27, 14
 abbrev pub beginChecks : Format → List ℕ → List ℕ → List ℕ → List Checked
-beginChecks F file words lent = fileCheck file ∷ short (length words) 544 ∷ short (length lent) (stateSize F (cellsOf file)) ∷ []
+beginChecks F file words lent =
+    fileCheck file ∷ formatCheck F file ∷ short (length words) 544 ∷ short (length lent) (stateSize F (netOf file)) ∷ []
 
 unfoldable pub beginCall : Format → List ℕ → List ℕ → List ℕ → Returned Answer
-beginCall F file words lent = running F (first (beginChecks F file words lent)) file (beginState F (cellsOf file) (wordAt words) lent) 1 lent
+beginCall F file words lent = running F (first (beginChecks F file words lent)) file (beginState F (netOf file) (wordAt words) lent) 1 lent
 
--- continuing by n: 9 to 12, 14, 15, 16: "16. When continuing, instant plus N above 1,000,000."
+-- continuing by n: 9 to 12, 27, 14, 15, 16: "16. When continuing, instant plus N above 1,000,000."
 abbrev pub continueChecks : Format → List ℕ → ℕ → List ℕ → List Checked
 continueChecks F file n lent =
     fileCheck file
-    ∷ short (length lent) (stateSize F (cellsOf file))
-    ∷ refuseIf (not (sound F (cellsOf file) lent)) 15 0
+    ∷ formatCheck F file
+    ∷ short (length lent) (stateSize F (netOf file))
+    ∷ refuseIf (not (sound F (netOf file) lent)) 15 0
     ∷ refuseIf (ltb 1000000 (instantOf lent + n)) 16 0
     ∷ []
 
@@ -154,31 +167,31 @@ goingOn F Accepted file c lent = running F (c .check) file (c .state) (c .count)
 goingOn F (Checked.Refused r) file c lent = record { answer = refusedAnswer r; lent = lent }
 
 unfoldable pub continueCall : Format → List ℕ → ℕ → List ℕ → Returned Answer
-continueCall F file n lent = goingOn F (first (continueChecks F file n lent)) file (continued F (cellsOf file) (finishOf file) n lent) lent
+continueCall F file n lent = goingOn F (first (continueChecks F file n lent)) file (continued F (netOf file) (finishOf file) n lent) lent
 
 -- giving a start: as continuing by 1, "refusal 16 counts its instant", then "23: start given while the number isn't 0, place 0; after 16". With the
--- number 0 every line is empty, so that 26 has no place here.
-abbrev pub busy : List ℕ → Bool
-busy lent = ltb 0 (flightOf lent)
+-- number 0 every line is empty, so that 26 has no place here. "for w above 1 a second start waits for a low finish too (23)".
+abbrev pub busy : Format → List ℕ → List ℕ → Bool
+busy F file lent = ltb 0 (flightOf lent) || (ltb 1 (pulseOf file) && high (nowAt F lent (finishOf file)))
 
 abbrev pub startChecks : Format → List ℕ → List ℕ → List Checked
-startChecks F file lent = continueChecks F file 1 lent ++ (refuseIf (busy lent) 23 0 ∷ [])
+startChecks F file lent = continueChecks F file 1 lent ++ (refuseIf (busy F file lent) 23 0 ∷ [])
 
 -- "a second start pulse may be given in the next instant, by a call of its own: a continuing by 1 with start high at that instant."
 unfoldable pub startCall : Format → List ℕ → List ℕ → Returned Answer
-startCall F file lent = running F (first (startChecks F file lent)) file (stepState F (cellsOf file) true lent) 1 lent
+startCall F file lent = running F (first (startChecks F file lent)) file (stepState F (netOf file) true lent) 1 lent
 
 -- "A full run of budget N is a beginning, and a continuing by N unless the finish was high.", on a full state: the state that it leaves, the instants
 -- that it evaluates
 unfoldable pub fullState : List ℕ → List ℕ → ℕ → List ℕ → List ℕ
 fullState file words n lent =
-    let s = beginState Full (cellsOf file) (wordAt words) lent in
-    pick (high (nowAt Full s (finishOf file))) s (continued Full (cellsOf file) (finishOf file) n s .state)
+    let s = beginState Full (netOf file) (wordAt words) lent in
+    pick (high (nowAt Full s (finishOf file))) s (continued Full (netOf file) (finishOf file) n s .state)
 
 unfoldable pub fullCount : List ℕ → List ℕ → ℕ → List ℕ → ℕ
 fullCount file words n lent =
-    let s = beginState Full (cellsOf file) (wordAt words) lent in
-    pick (high (nowAt Full s (finishOf file))) 1 (1 + continued Full (cellsOf file) (finishOf file) n s .count)
+    let s = beginState Full (netOf file) (wordAt words) lent in
+    pick (high (nowAt Full s (finishOf file))) 1 (1 + continued Full (netOf file) (finishOf file) n s .count)
 
 -- "13. Budget of a full run above 1,000,000 (place 0), after the checks of program or netlist."
 abbrev pub overBudget : ℕ → Checked
@@ -187,13 +200,13 @@ overBudget n = refuseIf (ltb 1000000 n) 13 0
 -- a full run of a netlist: 9 to 12, 13, 14
 abbrev pub runNetlistChecks : List ℕ → List ℕ → ℕ → List ℕ → List Checked
 runNetlistChecks file words n lent =
-    fileCheck file ∷ overBudget n ∷ short (length words) 544 ∷ short (length lent) (stateSize Full (cellsOf file)) ∷ []
+    fileCheck file ∷ overBudget n ∷ short (length words) 544 ∷ short (length lent) (stateSize Full (netOf file)) ∷ []
 
 unfoldable pub runNetlistCall : List ℕ → List ℕ → ℕ → List ℕ → Returned Answer
 runNetlistCall file words n lent =
     running Full (first (runNetlistChecks file words n lent)) file (fullState file words n lent) (fullCount file words n lent) lent
 
--- a full run of a program, with a list lent for its netlist and one for the state: 19 to 21, 1 to 8, 22, 24 and 25, 13, 14
+-- a full run of a program, with a list lent for its netlist and one for the state: 27, 19 to 21, 1 to 8, 22, 24 and 25, 13, 14
 pub record ReturnedBoth : Type 0 where
   pub answer : Answer
   pub netlist : List ℕ
@@ -206,11 +219,11 @@ fullRunChecks options program words n forFile lent =
     ∷ overBudget n
     ∷ short (length words) 544
     ∷ short (length forFile) (length file)
-    ∷ short (length lent) (stateSize Full (cellsOf file))
+    ∷ short (length lent) (stateSize Full (netOf file))
     ∷ []
 
 abbrev pub runProgramChecks : Options → List ℕ → List ℕ → ℕ → List ℕ → List ℕ → List Checked
-runProgramChecks options program words n forFile lent = options .checked ∷ fullRunChecks options program words n forFile lent
+runProgramChecks options program words n forFile lent = givenCheck options ∷ fullRunChecks options program words n forFile lent
 
 unfoldable pub runProgramCall : Options → List ℕ → List ℕ → ℕ → List ℕ → List ℕ → ReturnedBoth
 runProgramCall options program words n forFile lent =
@@ -238,10 +251,10 @@ unfoldable pub answering : Checked → Answer → Answer
 answering Accepted a = a
 answering (Checked.Refused r) a = refusedAnswer r
 
--- a reference run: 19 to 21, 1 to 8, 22, 24 and 25, 13, 14
+-- a reference run: 27, 19 to 21, 1 to 8, 22, 24 and 25, 13, 14
 abbrev pub referenceChecks : Options → List ℕ → List ℕ → ℕ → List Checked
-referenceChecks options program words n = options .checked ∷ checkOf options program ∷ overBudget n ∷ short (length words) 544 ∷ []
+referenceChecks options program words n = givenCheck options ∷ checkOf options program ∷ overBudget n ∷ short (length words) 544 ∷ []
 
 unfoldable pub referenceCall : Options → List ℕ → List ℕ → ℕ → Answer
 referenceCall options program words n =
-    answering (first (referenceChecks options program words n)) (referenceAnswer n (run n (meaning (programWith options program)) (wordAt words)))
+    answering (first (referenceChecks options program words n)) (referenceAnswer n (run (imperative (options .pulse)) n (meaning (programWith options program)) (wordAt words)))

@@ -15,13 +15,13 @@ use Rattle.model.specs.declared.Written.the-variants.{Done}
 use Rattle.model.specs.declared.Answer.{Answer}
 use Rattle.model.specs.Word.{bit, operate, elementWord, get16, bytes16}
 use Rattle.model.specs.Refusals.{refuse, firstFault}
-use Rattle.model.specs.Program.{programOf, nodeAt, nodesFrom, nodeBytes, rowOf, asExpr, asStmt, exprOf, stmtOf, treeOf, grow, forest, treesAt, exprAt, stmtAt, preorderE, preorder, time, builtInTimes, least, reads, writes, touches}
+use Rattle.model.specs.Program.{programOf, nodeAt, nodesFrom, nodeBytes, rowOf, asExpr, asStmt, exprOf, stmtOf, treeOf, grow, forest, treesAt, exprAt, stmtAt, preorderE, preorder, time, builtInTimes, gap, least, reads, writes, touches}
 use Rattle.model.specs.Procedures.{table, inline, inlined, meaning, reaches, reached}
 use Rattle.model.specs.ProgramChecks.{programLengthWrong, tooManyProcedures, unusedSet, absent, nodeFault, children, reading, searched, inRoots, delayFault, shared, shares, sharedFault, conflict, conflicts, conflictFault, checkOf}
 use Rattle.model.specs.Rules.{owner, eval, put, over, kept, after, wait, chain, both, whiles, repeats, run}
 use Rattle.model.specs.Numbering.{netlist, finish}
-use Rattle.model.specs.NetlistFile.{blocksFor, cellsOf}
-use Rattle.model.specs.TimeTables.{verdictOf, timesOf, load, defaults}
+use Rattle.model.specs.NetlistFile.{blocksFor, cellsOf, pulseWrong}
+use Rattle.model.specs.TimeTables.{verdictOf, timesOf, load, givenCheck, defaults}
 use Rattle.model.specs.Calls.{writtenVerdict, checkCall, compileCall, runProgramCall, refusedAnswer, listed, referenceAnswer, answering, referenceCall}
 use Rattle.model.specs.Ascii.{ascii}
 use Rattle.model.specs.Hubrun.{digits, line, linesOf, textOf, hubrunText}
@@ -40,7 +40,7 @@ repeated (suc n) s = s ++ repeated n s
 
 -- whoever unfolds this unfolds all that a program is checked by
 unfoldable pub checkOfProgram : List ℕ → Checked
-unfolding get16 firstFault nodeAt nodesFrom rowOf asExpr asStmt exprOf stmtOf treeOf grow forest treesAt exprAt stmtAt time builtInTimes least reads writes touches table inline inlined meaning reaches reached programLengthWrong tooManyProcedures unusedSet absent nodeFault children reading searched inRoots delayFault shared shares sharedFault conflict conflicts conflictFault checkOf programOf verdictOf timesOf load checkCall repeated nodeBytes bytes16 preorderE preorder
+unfolding get16 firstFault nodeAt nodesFrom rowOf asExpr asStmt exprOf stmtOf treeOf grow forest treesAt exprAt stmtAt time builtInTimes gap least reads writes touches table inline inlined meaning reaches reached programLengthWrong tooManyProcedures unusedSet absent nodeFault children reading searched inRoots delayFault shared shares sharedFault conflict conflicts conflictFault checkOf programOf verdictOf timesOf load pulseWrong givenCheck checkCall repeated nodeBytes bytes16 preorderE preorder
 checkOfProgram s = checkCall defaults s
 
 -- x0 := x0 + n, and x0 := x0 − 1 with d 17
@@ -116,7 +116,7 @@ pub data Result : Type 0 where
 unfoldable pub computed : Case → Result
 computed (ends p v n t w) = ran (checkCall defaults p) (referenceCall defaults p (start v) n)
 computed (refuses p k i) = ran (checkCall defaults p) (referenceCall defaults p (start 0) 100)
-computed (compiles p n f) = numbered (checkCall defaults p) (length (netlist (programOf 0 p))) (finish (programOf 0 p))
+computed (compiles p n f) = numbered (checkCall defaults p) (length (netlist (programOf 1 0 p))) (finish (programOf 1 0 p))
 computed (prints p v n text) =
     let a = referenceCall defaults p (start v) n in
     printed (checkCall defaults p) (a .outcome) (textOf a)

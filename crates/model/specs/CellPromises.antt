@@ -13,7 +13,7 @@ use Rattle.model.specs.Word.{Bytes}
 
 pub record SameCells : Type 0 where
   pub checked : (cs : List Cell) (f : ℕ) → netCheck (cellsIn (cellBytes cs)) f ≡ netCheck cs f
-  pub written : (cs : List Cell) (f : ℕ) (lent : List ℕ) → writeCellsCall cs f lent ≡ writeCall (cellBytes cs) f lent
+  pub written : (w : ℕ) (cs : List Cell) (f : ℕ) (lent : List ℕ) → writeCellsCall w cs f lent ≡ writeCall w (cellBytes cs) f lent
   pub renumbered : (k end : ℕ) (cs : List Cell) (i : ℕ) → i ≤ end → end ≤ length cs
       → movedBytes k end (cellBytes cs) i ≡ cellBytes (movedFrom k end cs i)
   -- read in front of a list, where the cells keep their numbers

@@ -15,7 +15,7 @@ use Rattle.model.specs.declared.Written.the-variants.{Done}
 use Rattle.model.specs.Word.{pick}
 use Rattle.model.specs.Refusals.{refuseIf, first}
 use Rattle.model.specs.Circuit.{cell, cellRow, names}
-use Rattle.model.specs.NetlistFile.{cellBytes, cellsAt, inList, fileOf, fileCheck, cellsOf, countOf, finishOf, netCheck, countWrong, blocksFor}
+use Rattle.model.specs.NetlistFile.{cellBytes, cellsAt, inList, fileOf, fileCheck, cellsOf, countOf, finishOf, netCheck, countWrong, pulseWrong, blocksFor}
 use Rattle.model.specs.Calls.{Returned, short, writing}
 
 -- Renumbering --------------------------------------------------------------------------------------------------------------------------
@@ -61,12 +61,13 @@ checkCellsChecks cs f = miscounted cs f ∷ netCheck cs f ∷ []
 unfoldable pub checkCellsCall : List Cell → ℕ → Checked
 checkCellsCall cs f = first (checkCellsChecks cs f)
 
--- writing a netlist from its cells: 11, 12, 14
-abbrev pub writeCellsChecks : List Cell → ℕ → List ℕ → List Checked
-writeCellsChecks cs f lent = miscounted cs f ∷ netCheck cs f ∷ short (length lent) (length (fileOf cs f)) ∷ []
+-- writing a netlist from its cells: 27, 11, 12, 14
+abbrev pub writeCellsChecks : ℕ → List Cell → ℕ → List ℕ → List Checked
+writeCellsChecks w cs f lent =
+    refuseIf (pulseWrong w) 27 0 ∷ miscounted cs f ∷ netCheck cs f ∷ short (length lent) (length (fileOf w cs f)) ∷ []
 
-unfoldable pub writeCellsCall : List Cell → ℕ → List ℕ → Returned Written
-writeCellsCall cs f lent = writing (first (writeCellsChecks cs f lent)) (fileOf cs f) (length (fileOf cs f)) f lent
+unfoldable pub writeCellsCall : ℕ → List Cell → ℕ → List ℕ → Returned Written
+writeCellsCall w cs f lent = writing (first (writeCellsChecks w cs f lent)) (fileOf w cs f) (length (fileOf w cs f)) f lent
 
 -- an answer, and a lent list of cells at exit
 pub record ReturnedCells : Type 0 where

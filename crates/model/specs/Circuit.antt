@@ -24,6 +24,11 @@ noCell = cell 0 0 0 0
 abbrev pub cellAt : List Cell → ℕ → Cell
 cellAt net k = getD net k noCell
 
+-- what runs: cells, and the length of their pulses
+pub record Netlist : Type 0 where
+  pub cells : List Cell
+  pub pulse : ℕ
+
 -- The table ----------------------------------------------------------------------------------------------------------------------------
 
 -- what a kind's number makes a cell do; kUnknown is for the numbers that are no kind
@@ -114,10 +119,24 @@ Sig = ℕ → Bool
 unfoldable pub delayed : ℕ → Sig → Sig
 delayed d a t = pick (leb d t) (a (t - d)) false
 
+-- "Start is high for w instants", from a start pulse on: how many of them remain after an instant, where r remained before it. starts tells whether it
+-- brings a start pulse; while the start is high it brings none (refusal 23), and would change nothing.
+unfoldable pub remainingStep : ℕ → ℕ → Bool → ℕ
+remainingStep w r starts = pick (isZero r) (pick starts (w - 1) 0) (r - 1)
+
+-- how many remain before instant t
+unfoldable pub remainingBefore : ℕ → Sig → ℕ → ℕ
+remainingBefore w starts zero = 0
+remainingBefore w starts (suc t) = remainingStep w (remainingBefore w starts t) (starts t)
+
+-- the level of the start, with start pulses at these instants
+unfoldable pub pulses : ℕ → Sig → Sig
+pulses w starts t = starts t || not (isZero (remainingBefore w starts t))
+
 -- "A merge cell holds two bits between instants. ... A is a or held a, B is b or held b; the output is 1 when A and B are; afterwards the
 -- held bits are A and B, or both 0 if the output was 1."
-unfoldable pub mergeStep : Merge → Bool → Bool → Merged
-mergeStep m a b =
+unfoldable pub shortMerge : Merge → Bool → Bool → Merged
+shortMerge m a b =
     let A = a || m .a in
     let B = b || m .b in
     let out = A && B in
@@ -125,30 +144,56 @@ mergeStep m a b =
 
 -- "a one-then-two merge, control kind 39 (a its delay, b the body's finish): it holds a, puts out 1 when b comes in the same instant or later, and
 -- clears.": it holds no b
-unfoldable pub returnStep : Merge → Bool → Bool → Merged
-returnStep m a b =
+unfoldable pub shortReturn : Merge → Bool → Bool → Merged
+shortReturn m a b =
     let waits = a || m .a in
     let out = waits && b in
     record { held = record { a = waits && not out; b = false }; out = out }
 
--- what a merge of either kind does in an instant
+-- what a merge of either kind does in an instant; was is its output an instant ago
 abbrev pub Step : Type 0
-Step = Merge → Bool → Bool → Merged
+Step = Bool → Merge → Bool → Bool → Merged
 
--- "Both are 0 before instant 0.": what a merge of a and b holds before instant t
-unfoldable pub heldBefore : Step → Sig → Sig → ℕ → Merge
-heldBefore step a b zero = record { a = false; b = false }
-heldBefore step a b (suc t) = step (heldBefore step a b t) (a t) (b t) .held
+-- "For w above 1 ... kind 38 also needs a or b to be 1 for its output, and a merge of either kind keeps its held bits until its output falls, when
+-- they become 0"
+unfoldable pub longMerge : Step
+longMerge was m a b =
+    let A = a || m .a in
+    let B = b || m .b in
+    let out = (A && B) && (a || b) in
+    let gone = was && not out in
+    record { held = record { a = A && not gone; b = B && not gone }; out = out }
+
+unfoldable pub longReturn : Step
+longReturn was m a b =
+    let waits = a || m .a in
+    let out = waits && b in
+    record { held = record { a = waits && not (was && not out); b = false }; out = out }
+
+-- one: the pulse length is 1
+unfoldable pub mergeStep : Bool → Step
+mergeStep one was m a b = pick one (shortMerge m a b) (longMerge was m a b)
+
+unfoldable pub returnStep : Bool → Step
+returnStep one was m a b = pick one (shortReturn m a b) (longReturn was m a b)
+
+-- "Both are 0 before instant 0.": what a merge of a and b holds just before instant t, and has put out
+unfoldable pub mergedBefore : Step → Sig → Sig → ℕ → Merged
+mergedBefore step a b zero = record { held = record { a = false; b = false }; out = false }
+mergedBefore step a b (suc t) = step (mergedBefore step a b t .out) (mergedBefore step a b t .held) (a t) (b t)
+
+abbrev pub heldBefore : Step → Sig → Sig → ℕ → Merge
+heldBefore step a b t = mergedBefore step a b t .held
 
 unfoldable pub merged : Step → Sig → Sig → Sig
-merged step a b t = step (heldBefore step a b t) (a t) (b t) .out
+merged step a b t = mergedBefore step a b (suc t) .out
 
--- whether kind k is a merge, and what it does
+-- whether kind k is a merge, and what it does with pulses of w
 unfoldable pub merges : ℕ → Bool
 merges k = eqb k 38 || eqb k 39
 
-unfoldable pub stepOf : ℕ → Step
-stepOf k = pick (eqb k 39) returnStep mergeStep
+unfoldable pub stepOf : ℕ → ℕ → Step
+stepOf w k = pick (eqb k 39) (returnStep (eqb w 1)) (mergeStep (eqb w 1))
 
 -- The equations ------------------------------------------------------------------------------------------------------------------------
 
@@ -186,29 +231,29 @@ element net words W j i (suc t) =
     let address = cellAt net (j + 1) .a in
     pick (falls W (c .a) t && eqb i (index (W address t))) (W (c .b) t) (element net words W j i t)
 
--- what cell k, which is c, shows at instant t; starts tells the start instants, word₀ is its start word, if it is a memory, and E tells the words
--- of arrays. "32 start: 1 at instant 0, then 0", but for the instant of "a second start pulse". "33 ground: 0. 1: constant a." "3 to 9:
+-- what cell k, which is c, shows at instant t with pulses of w; starts tells the start instants, word₀ is its start word, if it is a memory, and E tells
+-- the words of arrays. "32 start: 1 at instant 0, then 0", but for "a second start pulse", and "high for w instants". "33 ground: 0. 1: constant a." "3 to 9:
 -- the operators on words a, and b where there are two." "35: control a or control b." "36: 1 when control a is 1 and word b isn't zero. 37: when
 -- a is 1 and b is zero." "41: word b when control a is 1, else 0." 42 and 43: "both kinds show 0". "Every read is a kind 44 (a the 42, b the
 -- index)".
-unfoldable pub equation : Shape → Sig → ℕ → Elements → Values → ℕ → Cell → ℕ → ℕ
-equation kConstant starts word₀ E W k c t = c .a
-equation kComplement starts word₀ E W k c t = operate 3 (W (c .a) t) 0
-equation kOperator starts word₀ E W k c t = operate (c .kind) (W (c .a) t) (W (c .b) t)
-equation kStart starts word₀ E W k c t = bit (starts t)
-equation kGround starts word₀ E W k c t = 0
-equation kDelay starts word₀ E W k c t = bit (delayed (c .delay) (level W (c .a)) t)
-equation kOr starts word₀ E W k c t = bit (level W (c .a) t || level W (c .b) t)
-equation kWhenTrue starts word₀ E W k c t = bit (level W (c .a) t && not (isZero (W (c .b) t)))
-equation kWhenFalse starts word₀ E W k c t = bit (level W (c .a) t && isZero (W (c .b) t))
-equation kMerge starts word₀ E W k c t = bit (merged mergeStep (level W (c .a)) (level W (c .b)) t)
-equation kReturn starts word₀ E W k c t = bit (merged returnStep (level W (c .a)) (level W (c .b)) t)
-equation kMemory starts word₀ E W k c t = memory word₀ W k c t
-equation kGated starts word₀ E W k c t = pick (level W (c .a) t) (W (c .b) t) 0
-equation kArray starts word₀ E W k c t = 0
-equation kAddress starts word₀ E W k c t = 0
-equation kRead starts word₀ E W k c t = E (c .a) (index (W (c .b) t)) t
-equation kUnknown starts word₀ E W k c t = 0
+unfoldable pub equation : ℕ → Shape → Sig → ℕ → Elements → Values → ℕ → Cell → ℕ → ℕ
+equation w kConstant starts word₀ E W k c t = c .a
+equation w kComplement starts word₀ E W k c t = operate 3 (W (c .a) t) 0
+equation w kOperator starts word₀ E W k c t = operate (c .kind) (W (c .a) t) (W (c .b) t)
+equation w kStart starts word₀ E W k c t = bit (pulses w starts t)
+equation w kGround starts word₀ E W k c t = 0
+equation w kDelay starts word₀ E W k c t = bit (delayed (c .delay) (level W (c .a)) t)
+equation w kOr starts word₀ E W k c t = bit (level W (c .a) t || level W (c .b) t)
+equation w kWhenTrue starts word₀ E W k c t = bit (level W (c .a) t && not (isZero (W (c .b) t)))
+equation w kWhenFalse starts word₀ E W k c t = bit (level W (c .a) t && isZero (W (c .b) t))
+equation w kMerge starts word₀ E W k c t = bit (merged (mergeStep (eqb w 1)) (level W (c .a)) (level W (c .b)) t)
+equation w kReturn starts word₀ E W k c t = bit (merged (returnStep (eqb w 1)) (level W (c .a)) (level W (c .b)) t)
+equation w kMemory starts word₀ E W k c t = memory word₀ W k c t
+equation w kGated starts word₀ E W k c t = pick (level W (c .a) t) (W (c .b) t) 0
+equation w kArray starts word₀ E W k c t = 0
+equation w kAddress starts word₀ E W k c t = 0
+equation w kRead starts word₀ E W k c t = E (c .a) (index (W (c .b) t)) t
+equation w kUnknown starts word₀ E W k c t = 0
 
 -- "exactly sixteen are memories, in variable order": how many memories a list of cells has
 unfoldable pub memories : List Cell → ℕ
@@ -234,9 +279,10 @@ arrayAt net k = pastMemories net 16 + 2 * k
 abbrev pub startWord : List Cell → (ℕ → ℕ) → ℕ → ℕ
 startWord net words k = words (memories (take k net))
 
--- W is what the cells show when they are run from these start words, with start pulses at these instants: 0, which is beginning's, and those of
+-- W is what the cells of a netlist show when they are run from these start words, with start pulses at these instants: 0, which is beginning's, and those of
 -- the starts that are given later
-unfoldable pub Obeys : List Cell → Sig → (ℕ → ℕ) → Values → Type 0
+unfoldable pub Obeys : Netlist → Sig → (ℕ → ℕ) → Values → Type 0
 Obeys net starts words W =
-    (k : ℕ) → k < length net → (t : ℕ)
-    → W k t ≡ equation (shape (cellAt net k .kind)) starts (startWord net words k) (element net words W) W k (cellAt net k) t
+    let cs = net .cells in
+    (k : ℕ) → k < length cs → (t : ℕ)
+    → W k t ≡ equation (net .pulse) (shape (cellAt cs k .kind)) starts (startWord cs words k) (element cs words W) W k (cellAt cs k) t

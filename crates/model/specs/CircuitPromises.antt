@@ -16,11 +16,11 @@ use Rattle.model.specs.declared.Written.the-variants.{Done}
 use Rattle.model.specs.Word.{bit}
 use Rattle.model.specs.Program.{Program, programOf}
 use Rattle.model.specs.Rules.{Store}
-use Rattle.model.specs.Circuit.{cellAt, control, Sig, Values, level, element, arrayAt, Obeys, delayed, heldBefore, merges, stepOf, shape, kDelay}
+use Rattle.model.specs.Circuit.{cellAt, Netlist, control, Sig, Values, level, element, arrayAt, Obeys, delayed, remainingBefore, heldBefore, merges, stepOf, shape, kStart, kDelay}
 use Rattle.model.specs.Numbering.{netlist, finish}
-use Rattle.model.specs.NetlistFile.{fileCheck, cellsOf, finishOf}
+use Rattle.model.specs.NetlistFile.{fileCheck, cellsOf, netOf, finishOf, pulseOf}
 use Rattle.model.specs.TimeTables.{load, Given}
-use Rattle.model.specs.State.{instantOf, flightOf, flightIn, course, stateSize, elementNow, nowAt, beforeAt, heldAt, lineAt, flight, beginState, stepState, crowded, continued, sound}
+use Rattle.model.specs.State.{instantOf, flightOf, flightIn, course, stateSize, elementNow, nowAt, beforeAt, heldAt, lineAt, remainingAt, flight, beginState, stepState, crowded, continued, sound}
 use Rattle.model.specs.Calls.{overwrite, compileCall, writeCall, readCall, wordAt}
 use Rattle.model.specs.Word.{Bytes}
 
@@ -31,19 +31,21 @@ use Rattle.model.specs.Word.{Bytes}
 pub record Published (S : Program) (file : List ℕ) (f : ℕ) : Type 0 where
   pub accepted : fileCheck file ≡ Accepted
   pub cells : cellsOf file ≡ netlist S
+  pub pulse : pulseOf file ≡ S .pulse
   pub finishes : (f ≡ finish S) × (finishOf file ≡ f)
 
--- Reading what was written gives the cells and the finish; writing what was read gives the file.
+-- Reading what was written gives the cells, the finish and the pulse length; writing what was read gives the file.
 pub record SameFile : Type 0 where
-  pub read : (cells forFile forCells : List ℕ) (f n g : ℕ) → Bytes cells → writeCall cells f forFile .answer ≡ Done n g →
-      let file = take n (writeCall cells f forFile .lent) in
-      length cells ≤ length forCells → readCall file forCells ≡ record { answer = Done (length cells / 6) f; lent = overwrite cells forCells }
+  pub read : (w : ℕ) (cells forFile forCells : List ℕ) (f n g : ℕ) → Bytes cells → writeCall w cells f forFile .answer ≡ Done n g →
+      let file = take n (writeCall w cells f forFile .lent) in
+      length cells ≤ length forCells
+      → (readCall file forCells ≡ record { answer = Done (length cells / 6) f; lent = overwrite cells forCells }) × (pulseOf file ≡ w)
   pub written : (file forCells forFile : List ℕ) (n f : ℕ) → Bytes file → readCall file forCells .answer ≡ Done n f →
       let cells = take (6 * n) (readCall file forCells .lent) in
-      length file ≤ length forFile → writeCall cells f forFile ≡ record { answer = Done (length file) f; lent = overwrite file forFile }
+      length file ≤ length forFile → writeCall (pulseOf file) cells f forFile ≡ record { answer = Done (length file) f; lent = overwrite file forFile }
 
 -- the states of a run: begun, then stepped, with a start pulse at each of these instants
-unfoldable pub stateAt : Format → List Cell → Sig → Store → List ℕ → ℕ → List ℕ
+unfoldable pub stateAt : Format → Netlist → Sig → Store → List ℕ → ℕ → List ℕ
 stateAt F net starts words lent zero = beginState F net words lent
 stateAt F net starts words lent (suc t) = stepState F net (starts (suc t)) (stateAt F net starts words lent t)
 
@@ -53,11 +55,17 @@ earlier W k zero = 0
 earlier W k (suc t) = W k t
 
 -- the input of delay k i instants before t, and what merge k holds after t
-abbrev pub lineOf : List Cell → Values → ℕ → ℕ → ℕ → ℕ
-lineOf net W t k i = bit (delayed i (level W (cellAt net k .a)) t)
+abbrev pub lineOf : Netlist → Values → ℕ → ℕ → ℕ → ℕ
+lineOf net W t k i = bit (delayed i (level W (cellAt (net .cells) k .a)) t)
 
-abbrev pub heldOf : List Cell → Values → ℕ → ℕ → Merge
-heldOf net W t k = heldBefore (stepOf (cellAt net k .kind)) (level W (cellAt net k .a)) (level W (cellAt net k .b)) (suc t)
+abbrev pub heldOf : Netlist → Values → ℕ → ℕ → Merge
+heldOf net W t k =
+    let c = cellAt (net .cells) k in
+    heldBefore (stepOf (net .pulse) (c .kind)) (level W (c .a)) (level W (c .b)) (suc t)
+
+-- how many high instants of start k remain after t, by its own level
+abbrev pub remainingOf : Netlist → Values → ℕ → ℕ → ℕ
+remainingOf net W t k = remainingBefore (net .pulse) (level W k) (suc t)
 
 -- how many of its last inputs a line of a delay of d tells
 abbrev pub kept : Format → ℕ → ℕ
@@ -65,15 +73,16 @@ kept Full d = 256
 kept Compact d = d
 
 -- state s holds, of the values W from these start words, those of instant t
-pub record Holds (F : Format) (net : List Cell) (words : Store) (W : Values) (t : ℕ) (s : List ℕ) : Type 0 where
+pub record Holds (F : Format) (net : Netlist) (words : Store) (W : Values) (t : ℕ) (s : List ℕ) : Type 0 where
   pub instant : t ≤ 1000000 → instantOf s ≡ t
-  pub number : flightOf s ≡ flightIn (lineOf net W t) (heldOf net W t) net 0
-  pub present : (k : ℕ) → k < length net → nowAt F s k ≡ W k t
-  pub past : (k : ℕ) → k < length net → beforeAt F s k ≡ earlier W k t
-  pub held : (k : ℕ) → k < length net → merges (cellAt net k .kind) ≡ true → heldAt F s k ≡ heldOf net W t k
-  pub lines : (k : ℕ) → k < length net → shape (cellAt net k .kind) ≡ kDelay
-      → (i : ℕ) → i < kept F (cellAt net k .delay) → lineAt F net s k i ≡ lineOf net W t k i
-  pub elements : (k i : ℕ) → k < 4 → i < 64 → elementNow F net s (64 * k + i) ≡ element net words W (arrayAt net k) i t
+  pub number : flightOf s ≡ flightIn (lineOf net W t) (heldOf net W t) (remainingOf net W t) (net .cells) 0
+  pub present : (k : ℕ) → k < length (net .cells) → nowAt F s k ≡ W k t
+  pub past : (k : ℕ) → k < length (net .cells) → beforeAt F s k ≡ earlier W k t
+  pub held : (k : ℕ) → k < length (net .cells) → merges (cellAt (net .cells) k .kind) ≡ true → heldAt F s k ≡ heldOf net W t k
+  pub lines : (k : ℕ) → k < length (net .cells) → shape (cellAt (net .cells) k .kind) ≡ kDelay
+      → (i : ℕ) → i < kept F (cellAt (net .cells) k .delay) → lineAt F net s k i ≡ lineOf net W t k i
+  pub remaining : (k : ℕ) → k < length (net .cells) → shape (cellAt (net .cells) k .kind) ≡ kStart → remainingAt F s k ≡ remainingOf net W t k
+  pub elements : (k i : ℕ) → k < 4 → i < 64 → elementNow F net s (64 * k + i) ≡ element (net .cells) words W (arrayAt (net .cells) k) i t
   pub proper : sound F net s ≡ true
 
 -- a pulse that enters a delay of d at instant t finds none that hasn't come out
@@ -81,16 +90,18 @@ abbrev pub Free : ℕ → Sig → ℕ → Type 0
 Free d x t = (u : ℕ) → u < t → x u ≡ true → x t ≡ true → u + d ≤ t
 
 -- up to instant t none has found one, where a state has room for one alone
-abbrev pub Apart : Format → List Cell → Values → ℕ → Type 0
+abbrev pub Apart : Format → Netlist → Values → ℕ → Type 0
 Apart Full net W t = Unit {0}
 Apart Compact net W t =
-    (k : ℕ) → k < length net → shape (cellAt net k .kind) ≡ kDelay → (v : ℕ) → v ≤ t → Free (cellAt net k .delay) (level W (cellAt net k .a)) v
+    (k : ℕ) → k < length (net .cells) → shape (cellAt (net .cells) k .kind) ≡ kDelay → (v : ℕ) → v ≤ t → Free (cellAt (net .cells) k .delay) (level W (cellAt (net .cells) k .a)) v
 
--- after instant t nothing is in flight: no input of a delay of d has been high in the last d instants, and no merge holds a bit
-pub record Idle (net : List Cell) (W : Values) (t : ℕ) : Type 0 where
-  pub delays : (k : ℕ) → k < length net → shape (cellAt net k .kind) ≡ kDelay
-      → (i : ℕ) → i < cellAt net k .delay → delayed i (level W (cellAt net k .a)) t ≡ false
-  pub held : (k : ℕ) → k < length net → merges (cellAt net k .kind) ≡ true → heldOf net W t k ≡ record { a = false; b = false }
+-- after instant t nothing is in flight: no input of a delay of d has been high in the last d instants, no merge holds a bit, and the start has no more
+-- high instants
+pub record Idle (net : Netlist) (W : Values) (t : ℕ) : Type 0 where
+  pub delays : (k : ℕ) → k < length (net .cells) → shape (cellAt (net .cells) k .kind) ≡ kDelay
+      → (i : ℕ) → i < cellAt (net .cells) k .delay → delayed i (level W (cellAt (net .cells) k .a)) t ≡ false
+  pub held : (k : ℕ) → k < length (net .cells) → merges (cellAt (net .cells) k .kind) ≡ true → heldOf net W t k ≡ record { a = false; b = false }
+  pub start : (k : ℕ) → k < length (net .cells) → shape (cellAt (net .cells) k .kind) ≡ kStart → remainingOf net W t k ≡ 0
 
 -- "A continuing by N from instant t stops at s, the first instant after t and not above t + N where a finish is due, or at t + N if there
 -- is none"
@@ -104,36 +115,36 @@ NoStart starts a b = (u : ℕ) → a < u → u ≤ b → starts u ≡ false
 
 -- For any start instants, that of beginning among them, a netlist has one set of values that obeys its equations; every state of a run holds it, a
 -- compact one until a pulse enters a line whose pulse hasn't come out; and continuing goes along the run up to the next start.
-pub record OneRun (net : List Cell) (starts : Sig) (words : Store) : Type 0 where
+pub record OneRun (net : Netlist) (starts : Sig) (words : Store) : Type 0 where
   pub values : Values
   pub obeys : Obeys net starts words values
-  pub only : (W : Values) → Obeys net starts words W → (k : ℕ) → k < length net → (t : ℕ) → W k t ≡ values k t
+  pub only : (W : Values) → Obeys net starts words W → (k : ℕ) → k < length (net .cells) → (t : ℕ) → W k t ≡ values k t
   pub states : (F : Format) (lent : List ℕ) → stateSize F net ≤ length lent → (t : ℕ) → Apart F net values t
       → Holds F net words values t (stateAt F net starts words lent t)
   -- "If the number is 0": nothing is in flight then, and only then
   pub idle : (F : Format) (t : ℕ) (s : List ℕ) → Holds F net words values t s → (flightOf s ≡ 0) ↔ Idle net values t
   -- "Lent bytes past a result keep their values."
   pub past : (F : Format) (lent : List ℕ) (t : ℕ) → drop (stateSize F net) (stateAt F net starts words lent t) ≡ drop (stateSize F net) lent
-  pub continuing : (F : Format) (lent : List ℕ) → stateSize F net ≤ length lent → (f : ℕ) → f < length net → (n t : ℕ) →
+  pub continuing : (F : Format) (lent : List ℕ) → stateSize F net ≤ length lent → (f : ℕ) → f < length (net .cells) → (n t : ℕ) →
       let t′ = stopsAt (level values f) t n in
       NoStart starts t t′ → Apart F net values t′
       → continued F net f n (stateAt F net starts words lent t) ≡ course Accepted (stateAt F net starts words lent t′) (t′ - t)
   -- 26 is met where a pulse enters a line whose pulse hasn't come out, and only there
   pub crowds : (lent : List ℕ) → stateSize Compact net ≤ length lent → (t : ℕ) → Apart Compact net values t
-      → (k : ℕ) → k < length net → shape (cellAt net k .kind) ≡ kDelay →
+      → (k : ℕ) → k < length (net .cells) → shape (cellAt (net .cells) k .kind) ≡ kDelay →
       let s = stateAt Compact net starts words lent t in
-      (crowded Compact net s (stepState Compact net (starts (suc t)) s) k ≡ 0) ↔ Free (cellAt net k .delay) (level values (cellAt net k .a)) (suc t)
-  pub controls : (k : ℕ) → k < length net → control (cellAt net k .kind) ≡ true → (t : ℕ) → values k t ≤ 1
+      (crowded Compact net s (stepState Compact net (starts (suc t)) s) k ≡ 0) ↔ Free (cellAt (net .cells) k .delay) (level values (cellAt (net .cells) k .a)) (suc t)
+  pub controls : (k : ℕ) → k < length (net .cells) → control (cellAt (net .cells) k .kind) ≡ true → (t : ℕ) → values k t ≤ 1
 
 pub record Demand2 : Type 0 where
   pub compiled : (G : Given) (program lent : List ℕ) (n f : ℕ) → Bytes program → compileCall (load G) program lent .answer ≡ Done n f
-      → Published (programOf (G .procedures) program) (take n (compileCall (load G) program lent .lent)) f
+      → Published (programOf (G .pulse) (G .procedures) program) (take n (compileCall (load G) program lent .lent)) f
   pub files : SameFile
-  pub runs : (file : List ℕ) (starts : Sig) (words : Store) → starts 0 ≡ true → fileCheck file ≡ Accepted → OneRun (cellsOf file) starts words
+  pub runs : (file : List ℕ) (starts : Sig) (words : Store) → starts 0 ≡ true → fileCheck file ≡ Accepted → OneRun (netOf file) starts words
   -- "each call keeps it true", from whatever state
-  pub numbers : (F : Format) (file lent : List ℕ) (starts : Bool) → fileCheck file ≡ Accepted → stateSize F (cellsOf file) ≤ length lent →
-      let s = stepState F (cellsOf file) starts lent in
-      flightOf s ≡ flight F (cellsOf file) s
+  pub numbers : (F : Format) (file lent : List ℕ) (starts : Bool) → fileCheck file ≡ Accepted → stateSize F (netOf file) ≤ length lent →
+      let s = stepState F (netOf file) starts lent in
+      flightOf s ≡ flight F (netOf file) s
   pub bounded : (file words : List ℕ) → Bytes file → Bytes words → fileCheck file ≡ Accepted
-      → (starts : Sig) (W : Values) → Obeys (cellsOf file) starts (wordAt words) W
+      → (starts : Sig) (W : Values) → Obeys (netOf file) starts (wordAt words) W
       → (k : ℕ) → k < length (cellsOf file) → (t : ℕ) → W k t < 65536

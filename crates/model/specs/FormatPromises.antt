@@ -5,33 +5,33 @@ use mathlib.Core.Path.{_≡_}
 use mathlib.Core.List.{List, [], _∷_, map}
 use Prim.Native.Nat.{ℕ, _<_}
 use lib.ListN.{length, take}
-use Rattle.model.specs.declared.Cell.{Cell}
 use Rattle.model.specs.declared.Format.the-variants.{Full, Compact}
 use Rattle.model.specs.declared.Checked.the-variants.{Accepted}
 use Rattle.model.specs.declared.Written.the-variants.{Done}
 use Rattle.model.specs.declared.Answer.{Answer}
 use Rattle.model.specs.Refusals.{numberOf}
-use Rattle.model.specs.NetlistFile.{cellsOf}
+use Rattle.model.specs.Circuit.{Netlist}
+use Rattle.model.specs.NetlistFile.{netOf}
 use Rattle.model.specs.TimeTables.{Given, load}
 use Rattle.model.specs.State.{instantOf, flightOf, nowAt, beforeAt, elementNow}
 use Rattle.model.specs.Calls.{Returned, verdict, compileCall, beginCall}
 use Rattle.model.specs.RunPromises.{Request, Call, replay}
 
 -- a full and a compact state show the same instant, the same number in flight, the same wires and the same elements
-pub record Alike (net : List Cell) (full compact : List ℕ) : Type 0 where
+pub record Alike (net : Netlist) (full compact : List ℕ) : Type 0 where
   pub instant : instantOf full ≡ instantOf compact
   pub number : flightOf full ≡ flightOf compact
-  pub wires : (k : ℕ) → k < length net → nowAt Full full k ≡ nowAt Compact compact k
-  pub before : (k : ℕ) → k < length net → beforeAt Full full k ≡ beforeAt Compact compact k
+  pub wires : (k : ℕ) → k < length (net .cells) → nowAt Full full k ≡ nowAt Compact compact k
+  pub before : (k : ℕ) → k < length (net .cells) → beforeAt Full full k ≡ beforeAt Compact compact k
   pub elements : (n : ℕ) → n < 256 → elementNow Full net full n ≡ elementNow Compact net compact n
 
 -- a call on a full state and one on a compact state: what they answer, and what they leave
-pub record Same (net : List Cell) (full compact : Returned Answer) : Type 0 where
+pub record Same (net : Netlist) (full compact : Returned Answer) : Type 0 where
   pub answer : full .answer ≡ compact .answer
   pub left : Alike net (full .lent) (compact .lent)
   pub free : numberOf (verdict (compact .answer .outcome)) ≡ 26 → ⊥
 
-abbrev pub AllSame : List Cell → List (Returned Answer) → List (Returned Answer) → Type 0
+abbrev pub AllSame : Netlist → List (Returned Answer) → List (Returned Answer) → Type 0
 AllSame net [] [] = Unit {0}
 AllSame net [] (q ∷ qs) = ⊥
 AllSame net (r ∷ rs) [] = ⊥
@@ -42,7 +42,8 @@ abbrev pub each : ℕ → List Request → List Call
 each n qs = map (λ q. record { request = q; lent = n }) qs
 
 -- "For every compiled program, begun alike and given the same calls, both states show the same wires at every instant." Continuings by 1 are among the
--- calls, so this is of every instant. Buffers are lent whole. "Show that no compiled program meets it [26] in a state that only these calls have made
+-- calls, so this is of every instant. Buffers are lent whole. A compact state is begun only with pulses of one
+-- instant (27). "Show that no compiled program meets it [26] in a state that only these calls have made
 -- from a beginning."
 unfoldable pub SameWires : Type 0
 SameWires =
@@ -52,5 +53,5 @@ SameWires =
     let full = beginCall Full file words forFull in
     let compact = beginCall Compact file words forCompact in
     verdict (full .answer .outcome) ≡ Accepted → verdict (compact .answer .outcome) ≡ Accepted
-    → AllSame (cellsOf file) (full ∷ replay Full file (full .lent) (each (length forFull) requests))
+    → AllSame (netOf file) (full ∷ replay Full file (full .lent) (each (length forFull) requests))
     (compact ∷ replay Compact file (compact .lent) (each (length forCompact) requests))

@@ -1,5 +1,5 @@
 -- The netlist file: the bytes that a netlist is written as, the netlist that bytes are read as, and refusals 9 to 12.
--- "1 to 13 blocks of 512 bytes", each with a header of eight bytes and 84 cells of six.
+-- "1 to 13 blocks of 512 bytes", each with a header of eight bytes and 84 cells of six. The file tells the netlist's pulse length too.
 -- Assumes nothing: definitions.
 use mathlib.Core.Path.{_≡_, refl}
 use mathlib.Core.Bool.{Bool, true, false, _&&_, _||_, not}
@@ -13,7 +13,7 @@ use Rattle.model.specs.declared.kinds.Use.{Use}
 use Rattle.model.specs.declared.kinds.Use.the-variants.{Unknown, Unused, Value, Positive, ControlBelow, ControlAny, WordBelow, WordAny, ArrayBelow}
 use Rattle.model.specs.Word.{pick, get16, bytes16}
 use Rattle.model.specs.Refusals.{refuseIf, first, firstFault, faultIf}
-use Rattle.model.specs.Circuit.{cell, cellAt, cellRow, control, memories, pastMemories}
+use Rattle.model.specs.Circuit.{cell, cellAt, Netlist, cellRow, control, memories, pastMemories}
 
 -- Cells in bytes -----------------------------------------------------------------------------------------------------------------------
 
@@ -101,8 +101,12 @@ blocks (suc m) b count finish cs = block b count finish (take 84 cs) ++ blocks m
 abbrev pub blocksFor : ℕ → ℕ
 blocksFor count = (count + 83) / 84
 
-unfoldable pub fileOf : List Cell → ℕ → List ℕ
-fileOf net finish = blocks (blocksFor (length net)) 0 (length net) finish net
+-- "A length w, 1 to 8, ... stands, less one, in the high byte of every block number": the number of block 0
+abbrev pub firstNumber : ℕ → ℕ
+firstNumber w = 256 * (w - 1)
+
+unfoldable pub fileOf : ℕ → List Cell → ℕ → List ℕ
+fileOf w net finish = blocks (blocksFor (length net)) (firstNumber w) (length net) finish net
 
 -- Reading ------------------------------------------------------------------------------------------------------------------------------
 
@@ -112,8 +116,15 @@ countOf s = get16 s 2
 abbrev pub finishOf : List ℕ → ℕ
 finishOf s = get16 s 4
 
+-- by the high byte of block 0's number
+abbrev pub pulseOf : List ℕ → ℕ
+pulseOf s = getD s 1 0 + 1
+
 unfoldable pub cellsOf : List ℕ → List Cell
 cellsOf s = cellsAt inFile s 0 (countOf s)
+
+abbrev pub netOf : List ℕ → Netlist
+netOf s = record { cells = cellsOf s; pulse = pulseOf s }
 
 abbrev pub blockAt : List ℕ → ℕ → List ℕ
 blockAt s b = take 512 (drop (512 * b) s)
@@ -132,18 +143,22 @@ sumFault s b = faultIf (not (eqb (wordSum (blockAt s b) % 65536) 0)) 10
 unfoldable pub countWrong : ℕ → ℕ → ℕ → Bool
 countWrong m count finish = not (leb 27 count && (leb count 1024 && (eqb m (blocksFor count) && ltb finish count)))
 
+-- "A length w, 1 to 8"; "a file's above 8 is 11"
+unfoldable pub pulseWrong : ℕ → Bool
+pulseWrong w = eqb w 0 || ltb 8 w
+
 unfoldable pub allZero : List ℕ → Bool
 allZero [] = true
 allZero (x ∷ s) = eqb x 0 && allZero s
 
--- the header of block b, whose bytes are B, and its unused bytes, which are those after the last cell
-unfoldable pub headerRight : ℕ → ℕ → ℕ → List ℕ → Bool
-headerRight count finish b B =
-    eqb (get16 B 0) b && (eqb (get16 B 2) count && (eqb (get16 B 4) finish && allZero (drop (8 + 6 * (count - 84 * b)) B)))
+-- the header of block b, whose bytes are B, in a file of pulse length w, and its unused bytes, which are those after the last cell
+unfoldable pub headerRight : ℕ → ℕ → ℕ → ℕ → List ℕ → Bool
+headerRight w count finish b B =
+    eqb (get16 B 0) (firstNumber w + b) && (eqb (get16 B 2) count && (eqb (get16 B 4) finish && allZero (drop (8 + 6 * (count - 84 * b)) B)))
 
 -- "11. Then header or unused byte wrong (first block"
 unfoldable pub headerFault : List ℕ → ℕ → ℕ
-headerFault s b = faultIf (not (headerRight (countOf s) (finishOf s) b (blockAt s b))) 11
+headerFault s b = faultIf (not (headerRight (pulseOf s) (countOf s) (finishOf s) b (blockAt s b))) 11
 
 -- Refusal 12 ---------------------------------------------------------------------------------------------------------------------------
 
@@ -222,7 +237,7 @@ fileChecks s =
     let m = length s / 512 in
     refuseIf (fileLengthWrong s) 9 0
     ∷ firstFault (sumFault s) 0 m
-    ∷ refuseIf (countWrong m (countOf s) (finishOf s)) 11 0
+    ∷ refuseIf (countWrong m (countOf s) (finishOf s) || pulseWrong (pulseOf s)) 11 0
     ∷ firstFault (headerFault s) 0 m
     ∷ netCheck (cellsOf s) (finishOf s)
     ∷ []

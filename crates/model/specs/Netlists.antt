@@ -245,6 +245,7 @@ procedures =
       program = record {
         bodies = assign 16 0 (op 4 (var 0) (const 1)) ∷ ok ∷ seq (call 1 0) (tick 2) ∷ [];
         main = seq (call 3 2) (call 5 0);
+        pulse = 1;
       };
       cells =
           front

@@ -8,7 +8,7 @@ use lib.ListN.{length, getD}
 use Rattle.model.specs.declared.Cell.{Cell}
 use Rattle.model.specs.Word.{pick}
 use Rattle.model.specs.Program.{Expr, const, var, compl, op, elem, Code, ok, tick, assign, assignElem, seq, par, ite, while, repeat, loop, exit, call, arrayVar, Program, roots}
-use Rattle.model.specs.Circuit.{cell}
+use Rattle.model.specs.Circuit.{cell, Netlist}
 
 -- Expressions -------------------------------------------------------------------------------------------------------------------------
 -- "An expression: children, then its cell; a variable is its memory cell." "Every read is a kind 44 (a the 42, b the index)".
@@ -204,25 +204,26 @@ thenFinish δ e P d c = finishWire P (onTrue e c) (thenDelays δ d) (pastSwitche
 abbrev pub elseFinish : ℕ → Expr → Code → Code → ℕ → ℕ → ℕ
 elseFinish δ e P Q d c = finishWire Q (onFalse e c) (elseDelays δ P d) (elseCells e P c)
 
--- "delay cells in node order": an assignment's second is "of delay 1 and fed by the first". A while's is fed by the 35 that ends its walk,
+-- "delay cells in node order": an assignment's second is "of delay 1 and fed by the first", or of delay w: "an
+-- assignment's second delay is w". A while's is fed by the 35 that ends its walk,
 -- a repeat's and a loop's by P's finish. "Delays not named here are fed by their node's start."
-unfoldable pub delays : Code → ℕ → ℕ → ℕ → List Cell
-delays ok s d c = []
-delays (tick δ) s d c = cell 34 δ s 0 ∷ []
-delays (assign δ x e) s d c = cell 34 δ s 0 ∷ (cell 34 1 d 0 ∷ [])
-delays (assignElem δ k i e) s d c = cell 34 δ s 0 ∷ (cell 34 1 d 0 ∷ [])
-delays (seq P Q) s d c = delays P s d c ++ delays Q (finishWire P s d c) (d + delayCount P) (c + walkCount P)
-delays (par P Q) s d c = delays P s d c ++ delays Q s (d + delayCount P) (c + walkCount P)
-delays (ite δ e P Q) s d c =
+unfoldable pub delays : ℕ → Code → ℕ → ℕ → ℕ → List Cell
+delays w ok s d c = []
+delays w (tick δ) s d c = cell 34 δ s 0 ∷ []
+delays w (assign δ x e) s d c = cell 34 δ s 0 ∷ (cell 34 w d 0 ∷ [])
+delays w (assignElem δ k i e) s d c = cell 34 δ s 0 ∷ (cell 34 w d 0 ∷ [])
+delays w (seq P Q) s d c = delays w P s d c ++ delays w Q (finishWire P s d c) (d + delayCount P) (c + walkCount P)
+delays w (par P Q) s d c = delays w P s d c ++ delays w Q s (d + delayCount P) (c + walkCount P)
+delays w (ite δ e P Q) s d c =
     ifDelayCells δ s
-    ++ (delays P (onTrue e c) (thenDelays δ d) (pastSwitches e c) ++ delays Q (onFalse e c) (elseDelays δ P d) (elseCells e P c))
-delays (while δ e P) s d c = cell 34 δ (pastSwitches e c + walkCount P) 0 ∷ delays P (onTrue e c) (d + 1) (pastSwitches e c)
-delays (repeat δ e P) s d c =
+    ++ (delays w P (onTrue e c) (thenDelays δ d) (pastSwitches e c) ++ delays w Q (onFalse e c) (elseDelays δ P d) (elseCells e P c))
+delays w (while δ e P) s d c = cell 34 δ (pastSwitches e c + walkCount P) 0 ∷ delays w P (onTrue e c) (d + 1) (pastSwitches e c)
+delays w (repeat δ e P) s d c =
     cell 34 δ (finishWire P (pastSwitches e c) (d + 1) (pastSwitches e c + 1)) 0
-    ∷ delays P (pastSwitches e c) (d + 1) (pastSwitches e c + 1)
-delays (loop δ P) s d c = cell 34 δ (finishWire P c (d + 1) (c + 1)) 0 ∷ delays P c (d + 1) (c + 1)
-delays exit s d c = []
-delays (call δ p) s d c = cell 34 δ s 0 ∷ []
+    ∷ delays w P (pastSwitches e c) (d + 1) (pastSwitches e c + 1)
+delays w (loop δ P) s d c = cell 34 δ (finishWire P c (d + 1) (c + 1)) 0 ∷ delays w P c (d + 1) (c + 1)
+delays w exit s d c = []
+delays w (call δ p) s d c = cell 34 δ s 0 ∷ []
 
 -- The walk, kind by kind:
 --   "Assignment: expression, kind 41 on its first delay."
@@ -394,10 +395,10 @@ rootFinishes z cs r [] d c = []
 rootFinishes z cs r (P ∷ Ps) d c =
     finishWire P (rootStart z cs r c) d (rootWalk cs r c) ∷ rootFinishes z cs (r + 1) Ps (d + delayCount P) (pastRoot cs r P c)
 
-unfoldable pub rootDelays : ℕ → List Source → ℕ → List Code → ℕ → ℕ → List Cell
-rootDelays z cs r [] d c = []
-rootDelays z cs r (P ∷ Ps) d c =
-    delays P (rootStart z cs r c) d (rootWalk cs r c) ++ rootDelays z cs (r + 1) Ps (d + delayCount P) (pastRoot cs r P c)
+unfoldable pub rootDelays : ℕ → ℕ → List Source → ℕ → List Code → ℕ → ℕ → List Cell
+rootDelays w z cs r [] d c = []
+rootDelays w z cs r (P ∷ Ps) d c =
+    delays w P (rootStart z cs r c) d (rootWalk cs r c) ++ rootDelays w z cs (r + 1) Ps (d + delayCount P) (pastRoot cs r P c)
 
 -- "Each body's walk comes before the main one"
 unfoldable pub rootWalks : ℕ → (ℕ → ℕ) → ℕ → List Source → ℕ → List Code → ℕ → ℕ → List Cell
@@ -474,13 +475,17 @@ headCells = cell 32 0 0 0 ∷ (cell 33 0 0 0 ∷ (cell 1 0 0 0 ∷ []))
 unfoldable pub netlist : Program → List Cell
 netlist S =
     headCells
-    ++ (rootDelays (procedures S) (callsOf S) 0 (roots S) 3 (walkAt S)
+    ++ (rootDelays (S .pulse) (procedures S) (callsOf S) 0 (roots S) 3 (walkAt S)
     ++ (orsFrom 35 (clocksOf S) (clockAt S) 0 20
     ++ (memoriesOf (clockWires S) (dataWires S) 0 16
     ++ (arraysOf (clockWires S) (dataWires S) (addressWires S) 0 4
     ++ (rootWalks (memoryAt S) (finishOfRoot S) (procedures S) (callsOf S) 0 (roots S) 3 (walkAt S)
     ++ (orsFrom 7 (dataOf S) (dataAt S) 0 20
     ++ orsFrom 7 (addressesOf S) (addressAt S) 16 4))))))
+
+-- the netlist and its pulse length, as they run
+abbrev pub circuitOf : Program → Netlist
+circuitOf S = record { cells = netlist S; pulse = S .pulse }
 
 unfoldable pub finish : Program → ℕ
 finish S = finishOfRoot S (procedures S)

@@ -1,5 +1,5 @@
--- What a program with procedures means: the statement without calls that it is, each call being the delay and then the body; and which procedures a
--- statement reaches. Model/Calling has the rules of calls as a reader expects them, and the theory proves that they are those of this statement.
+-- What a program means: the statement without calls that it is, each call being the delay and then the body; and which procedures a statement
+-- reaches. Model/Calling has the rules of calls as a reader expects them, and the theory proves that they are those of this statement.
 -- Assumes nothing: definitions.
 use mathlib.Core.Bool.{Bool, true, false, _||_}
 use mathlib.Core.List.{List}
@@ -36,7 +36,7 @@ inline I (call d p) = seq (tick d) (I p)
 unfoldable pub inlined : List Code → ℕ → Stmt
 inlined bodies p = table ok (λ I k. inline I (bodyAt bodies k)) (length bodies) p
 
--- the statement without calls that a program is
+-- the statement that a program is
 unfoldable pub meaning : Program → Stmt
 meaning S = inline (inlined (S .bodies)) (S .main)
 

@@ -181,18 +181,20 @@ exprAt s i = asExpr (getD (treesAt s i) 0 none)
 unfoldable pub stmtAt : List ℕ → ℕ → Code
 stmtAt s i = asStmt (getD (treesAt s i) 0 none)
 
--- "Up to eight procedures, each one statement, stand before the main program"
+-- "Up to eight procedures, each one statement, stand before the main program"; pulse is the length of its circuit's pulses, "given with the program"
 pub record Program : Type 0 where
   pub bodies : List Code
   pub main : Code
+  pub pulse : ℕ
 
--- the program that nodes are, with so many procedures: of the trees from node 0 on, the first are the bodies, and the next is the main program
-unfoldable pub programOf : ℕ → List ℕ → Program
-programOf k s = record { bodies = map asStmt (take k (treesAt s 0)); main = asStmt (getD (treesAt s 0) k none) }
+-- the program that nodes are, with pulse length w and k procedures: of the trees from node 0 on, the first are the bodies, and the next is the main
+-- program
+unfoldable pub programOf : ℕ → ℕ → List ℕ → Program
+programOf w k s = record { bodies = map asStmt (take k (treesAt s 0)); main = asStmt (getD (treesAt s 0) k none); pulse = w }
 
--- a program without procedures: "node 0 is the root and a statement"
+-- a program without procedures, with pulses of one instant: "node 0 is the root and a statement"
 abbrev pub alone : Code → Program
-alone P = record { bodies = []; main = P }
+alone P = record { bodies = []; main = P; pulse = 1 }
 
 -- the roots in node order; the main program is the last
 abbrev pub roots : Program → List Code
@@ -255,22 +257,26 @@ builtInTimes =
     ∷ 4  -- 10 element of array n
     ∷ []
 
+-- "For w above 1 every loop's and call's delay is at least w + 1": how long after its end a part may be started again
+unfoldable pub gap : ℕ → ℕ
+gap w = pick (eqb w 1) 1 (suc w)
+
 -- "A node's delay d is at least its expression's time, and at least 1 for kinds 17, 18, 22 and 23. If may have 0."
 -- "An element's delay covers both children's times and is at least 1." "loop P (kind 25) with a delay of at least 1"
--- "A call (kind 27, n the procedure from 0) has a delay of at least 1"
-unfoldable pub least : (ℕ → ℕ) → Code → ℕ
-least τ ok = 0
-least τ (tick d) = 1
-least τ (assign d x e) = max 1 (time τ e)
-least τ (assignElem d k i e) = max 1 (max (time τ i) (time τ e))
-least τ (seq P Q) = 0
-least τ (par P Q) = 0
-least τ (ite d e P Q) = time τ e
-least τ (while d e P) = max 1 (time τ e)
-least τ (repeat d e P) = max 1 (time τ e)
-least τ (loop d P) = 1
-least τ exit = 0
-least τ (call d p) = 1
+-- "A call (kind 27, n the procedure from 0) has a delay of at least 1". Of loops and calls it is the gap of the pulse length w.
+unfoldable pub least : (ℕ → ℕ) → ℕ → Code → ℕ
+least τ w ok = 0
+least τ w (tick d) = 1
+least τ w (assign d x e) = max 1 (time τ e)
+least τ w (assignElem d k i e) = max 1 (max (time τ i) (time τ e))
+least τ w (seq P Q) = 0
+least τ w (par P Q) = 0
+least τ w (ite d e P Q) = time τ e
+least τ w (while d e P) = max (gap w) (time τ e)
+least τ w (repeat d e P) = max (gap w) (time τ e)
+least τ w (loop d P) = gap w
+least τ w exit = 0
+least τ w (call d p) = gap w
 
 -- "For refusals 4 and 8 an array is one variable": array k is variable 16 + k
 abbrev pub arrayVar : ℕ → ℕ

@@ -102,8 +102,8 @@ lateCall Ps = inRoots lateIn 0 Ps 0
 -- Delays and parallel nodes --------------------------------------------------------------------------------------------------------------
 
 -- "7. Delay too small (first node)."
-unfoldable pub delayFault : (ℕ → ℕ) → List ℕ → ℕ → ℕ
-delayFault τ s i = faultIf (ltb (nodeAt s i .delay) (least τ (stmtAt s i))) 7
+unfoldable pub delayFault : (ℕ → ℕ) → ℕ → List ℕ → ℕ → ℕ
+delayFault τ w s i = faultIf (ltb (nodeAt s i .delay) (least τ w (stmtAt s i))) 7
 
 -- a procedure below n that is reached from P and from Q
 unfoldable pub shared : (ℕ → ℕ → Bool) → ℕ → Code → Code → Bool
@@ -153,23 +153,24 @@ conflictFault bodies s i = faultIf (conflicts (inline (inlined bodies) (stmtAt s
 
 -- The check ------------------------------------------------------------------------------------------------------------------------------
 
--- refusals 1 to 8 in their order, 22 "after 6 and before 7", 24 "after 22" and 25 "before 8"; of a program with k procedures and operator times τ
-abbrev pub programChecks : (ℕ → ℕ) → ℕ → List ℕ → List Checked
-programChecks τ k s =
-    let S = programOf k s in
+-- refusals 1 to 8 in their order, 22 "after 6 and before 7", 24 "after 22" and 25 "before 8"; of a program with pulse length w, k procedures and operator
+-- times τ
+abbrev pub programChecks : (ℕ → ℕ) → ℕ → ℕ → List ℕ → List Checked
+programChecks τ w k s =
+    let S = programOf w k s in
     refuseIf (tooManyProcedures k || programLengthWrong s) 1 0
     ∷ firstFault (λ i. nodeFault (nodeAt s i)) 0 (nodeCount s)
     ∷ reading (rootSorts k) 0 (nodesAt s 0)
     ∷ looseExit (roots S)
     ∷ lateCall (roots S)
-    ∷ firstFault (delayFault τ s) 0 (nodeCount s)
+    ∷ firstFault (delayFault τ w s) 0 (nodeCount s)
     ∷ firstFault (sharedFault (S .bodies) s) 0 (nodeCount s)
     ∷ firstFault (conflictFault (S .bodies) s) 0 (nodeCount s)
     ∷ []
 
 -- the program that bytes are, with what is given beside it
 abbrev pub programWith : Options → List ℕ → Program
-programWith options s = programOf (options .procedures) s
+programWith options s = programOf (options .pulse) (options .procedures) s
 
 unfoldable pub checkOf : Options → List ℕ → Checked
-checkOf options s = first (programChecks (timeIn (options .times)) (options .procedures) s)
+checkOf options s = first (programChecks (timeIn (options .times)) (options .pulse) (options .procedures) s)

@@ -12,7 +12,7 @@ use Rattle.model.specs.declared.Answer.{Answer}
 use Rattle.model.specs.Program.{nodesAt, programOf, roots, preorders}
 use Rattle.model.specs.Procedures.{meaning}
 use Rattle.model.specs.Calling.{EndsIn, Obeying}
-use Rattle.model.specs.Rules.{Store, Course, Ends, Leaves}
+use Rattle.model.specs.Rules.{imperative, Store, Course, Ends, Leaves}
 use Rattle.model.specs.TimeTables.{Given, load}
 use Rattle.model.specs.Calls.{verdict, checkCall, runProgramCall, wordAt, listed, referenceCall}
 use Rattle.model.specs.Word.{Bytes}
@@ -27,26 +27,26 @@ openAnswer n = record { outcome = Open; instant = n; count = n + 1; words = repl
 
 pub record Programs : Type 1 where
   -- "Each node is followed by its children in the order named; node 0 is the root": an accepted program's nodes are those of its tree
-  pub tree : (G : Given) (program : List ℕ) → checkCall (load G) program ≡ Accepted → nodesAt program 0 ≡ preorders (roots (programOf (G .procedures) program))
+  pub tree : (G : Given) (program : List ℕ) → checkCall (load G) program ≡ Accepted → nodesAt program 0 ≡ preorders (roots (programOf (G .pulse) (G .procedures) program))
   -- "The program's end is the instant at which its root ends": the reference run answers an end within its budget
   pub ends : (G : Given) (program words : List ℕ) (n t : ℕ) (σ′ : Store) → verdict (referenceCall (load G) program words n .outcome) ≡ Accepted
-      → Ends (meaning (programOf (G .procedures) program)) (wordAt words) t σ′ → t ≤ n → referenceCall (load G) program words n ≡ endedAnswer t σ′
+      → Ends (imperative (G .pulse)) (meaning (programOf (G .pulse) (G .procedures) program)) (wordAt words) t σ′ → t ≤ n → referenceCall (load G) program words n ≡ endedAnswer t σ′
   -- and no other: what it answers is an end, or there is none within the budget
   pub ended : (G : Given) (program words : List ℕ) (n : ℕ) → referenceCall (load G) program words n .outcome ≡ Ended
-      → (t : ℕ) × (σ′ : Store) × (t ≤ n) × Ends (meaning (programOf (G .procedures) program)) (wordAt words) t σ′
+      → (t : ℕ) × (σ′ : Store) × (t ≤ n) × Ends (imperative (G .pulse)) (meaning (programOf (G .pulse) (G .procedures) program)) (wordAt words) t σ′
   pub stillOpen : (G : Given) (program words : List ℕ) (n : ℕ) → referenceCall (load G) program words n .outcome ≡ Open
       → (referenceCall (load G) program words n ≡ openAnswer n)
-      × ((t : ℕ) (σ′ : Store) → Ends (meaning (programOf (G .procedures) program)) (wordAt words) t σ′ → t ≤ n → ⊥)
-  -- "Its rule: the delay, then the body.": there is a table of the bodies' ends that obeys the rules with calls
+      × ((t : ℕ) (σ′ : Store) → Ends (imperative (G .pulse)) (meaning (programOf (G .pulse) (G .procedures) program)) (wordAt words) t σ′ → t ≤ n → ⊥)
+  -- "Its rule: the delay, then the body.", and of an assignment "it takes d + w": there is a table of the bodies' ends that obeys the rules with calls
   pub obeyed : (G : Given) (program : List ℕ) → checkCall (load G) program ≡ Accepted
-      → (C : ℕ → Course) × Obeying (programOf (G .procedures) program .bodies) C
+      → (C : ℕ → Course) × Obeying (imperative (G .pulse)) (programOf (G .pulse) (G .procedures) program .bodies) C
   -- and with any such table they say of the main program what the rules say of the statement without calls
   pub calling : (G : Given) (program : List ℕ) → checkCall (load G) program ≡ Accepted →
-      let S = programOf (G .procedures) program in
-      (C : ℕ → Course) → Obeying (S .bodies) C → (σ : Store) (t : ℕ) (σ′ : Store) → EndsIn (S .bodies) C (S .main) σ t σ′ ↔ Ends (meaning S) σ t σ′
+      let S = programOf (G .pulse) (G .procedures) program in
+      (C : ℕ → Course) → Obeying (imperative (G .pulse)) (S .bodies) C → (σ : Store) (t : ℕ) (σ′ : Store) → EndsIn (imperative (G .pulse)) (S .bodies) C (S .main) σ t σ′ ↔ Ends (imperative (G .pulse)) (meaning S) σ t σ′
   -- refusal 22: it never comes to an exit that ends no loop of its own
   pub neverLeft : (G : Given) (program : List ℕ) → checkCall (load G) program ≡ Accepted
-      → (σ : Store) (t : ℕ) (σ′ : Store) → Leaves (meaning (programOf (G .procedures) program)) σ t σ′ → ⊥
+      → (σ : Store) (t : ℕ) (σ′ : Store) → Leaves (imperative (G .pulse)) (meaning (programOf (G .pulse) (G .procedures) program)) σ t σ′ → ⊥
   -- a full run that is not refused answers what the reference run does; the words of one that is open are the memories'
   pub agree : (G : Given) (program words : List ℕ) (n : ℕ) (forFile lent : List ℕ) → Bytes program →
       let full = runProgramCall (load G) program words n forFile lent .answer in

@@ -1,4 +1,5 @@
--- The program's own rules: as a relation, one clause for each sentence, and as a function that computes it within a budget.
+-- The program's own rules: as a relation, one clause for each sentence, and as a function that computes it within a budget. What a kind of circuit adds
+-- to the nodes' delays is an argument (`Costs`), so that one definition serves all of them.
 -- "Nothing but the program and these words goes in, and nothing from a circuit; the rules keep the words and an instant".
 -- Assumes nothing: definitions.
 use Prim.Native.Nat.{ℕ, zero, suc, _+_, _-_, _/_, max}
@@ -46,9 +47,32 @@ IsTrue e σ = isZero (eval e σ) ≡ false
 abbrev pub IsFalse : Expr → Store → Type 0
 IsFalse e σ = isZero (eval e σ) ≡ true
 
+-- what a kind of circuit adds to the delays: what an assignment takes beside its own, and what latching a loop's words takes
+pub record Costs : Type 0 where
+  pub write : ℕ
+  pub latch : ℕ
+
+-- "an assignment's second delay is w, and it takes d + w"; no words are latched
+abbrev pub imperative : ℕ → Costs
+imperative w = record { write = w; latch = 0 }
+
+-- S-11: "An assignment takes d. Latching a loop's words takes one instant"
+abbrev pub functional : Costs
+functional = record { write = 0; latch = 1 }
+
+-- d + n, such that it computes where n is a number
+abbrev pub extended : ℕ → ℕ → ℕ
+extended zero d = d
+extended (suc n) d = suc (extended n d)
+
 -- what a body does: from σ it is done after t instants with σ′
 abbrev pub Course : Type 1
 Course = Store → ℕ → Store → Type 0
+
+-- the same, n instants later
+abbrev pub Postponed : ℕ → Course → Course
+Postponed zero R σ t σ′ = R σ t σ′
+Postponed (suc n) R σ t σ′ = (t₁ : ℕ) × R σ t₁ σ′ × (t ≡ suc n + t₁)
 
 -- "While takes d for each test, the last included": with n rounds of a body that ends as R tells
 unfoldable pub WhileEnds : Course → ℕ → Expr → ℕ → Course
@@ -82,46 +106,47 @@ unfoldable mutual
   -- P, run from σ, ends after t instants with the words σ′: "some programs have no end".
   -- "An expression is worked out on the words as they are when its statement's d begins."
   -- "A sequence or parallel ends only if both parts do."
-  pub Ends : Stmt → Store → ℕ → Store → Type 0
+  pub Ends : Costs → Stmt → Store → ℕ → Store → Type 0
   -- "ok takes 0."
-  Ends ok σ t σ′ = (t ≡ 0) × (σ′ ≡ σ)
+  Ends κ ok σ t σ′ = (t ≡ 0) × (σ′ ≡ σ)
   -- "tick takes d."
-  Ends (tick d) σ t σ′ = (t ≡ d) × (σ′ ≡ σ)
-  -- "An assignment takes d + 1 and changes one word."
-  Ends (assign d x e) σ t σ′ = (t ≡ d + 1) × (σ′ ≡ put σ x (eval e σ))
-  Ends (assignElem d k i e) σ t σ′ = (t ≡ d + 1) × (σ′ ≡ put σ (elementWord k (eval i σ)) (eval e σ))
+  Ends κ (tick d) σ t σ′ = (t ≡ d) × (σ′ ≡ σ)
+  -- "An assignment takes d + 1 and changes one word."; S-10: "it takes d + w"; S-11: "An assignment takes d."
+  Ends κ (assign d x e) σ t σ′ = (t ≡ d + κ .write) × (σ′ ≡ put σ x (eval e σ))
+  Ends κ (assignElem d k i e) σ t σ′ = (t ≡ d + κ .write) × (σ′ ≡ put σ (elementWord k (eval i σ)) (eval e σ))
   -- "A sequence adds times, and Q runs from P's last words."
-  Ends (seq P Q) σ t σ′ = (t₁ : ℕ) × (σ₁ : Store) × (t₂ : ℕ) × Ends P σ t₁ σ₁ × Ends Q σ₁ t₂ σ′ × (t ≡ t₁ + t₂)
+  Ends κ (seq P Q) σ t σ′ = (t₁ : ℕ) × (σ₁ : Store) × (t₂ : ℕ) × Ends κ P σ t₁ σ₁ × Ends κ Q σ₁ t₂ σ′ × (t ≡ t₁ + t₂)
   -- "In parallel both sides run from the same words; the time is the larger one; each side's written words are kept."
-  Ends (par P Q) σ t σ′ =
-      (t₁ : ℕ) × (σ₁ : Store) × (t₂ : ℕ) × (σ₂ : Store) × Ends P σ t₁ σ₁ × Ends Q σ t₂ σ₂ × (t ≡ max t₁ t₂) × (σ′ ≡ kept P Q σ σ₁ σ₂)
+  Ends κ (par P Q) σ t σ′ =
+      (t₁ : ℕ) × (σ₁ : Store) × (t₂ : ℕ) × (σ₂ : Store) × Ends κ P σ t₁ σ₁ × Ends κ Q σ t₂ σ₂ × (t ≡ max t₁ t₂) × (σ′ ≡ kept P Q σ σ₁ σ₂)
   -- "An if takes d and then its branch."
-  Ends (ite d e P Q) σ t σ′ = (t₁ : ℕ) × (IsTrue e σ → Ends P σ t₁ σ′) × (IsFalse e σ → Ends Q σ t₁ σ′) × (t ≡ d + t₁)
-  -- "While takes d for each test, the last included."
-  Ends (while d e P) σ t σ′ = (n : ℕ) × WhileEnds (Ends P) d e n σ t σ′
-  -- "Repeat runs P, takes d, tests, and goes round while e is false."
-  Ends (repeat d e P) σ t σ′ = (n : ℕ) × RepeatEnds (Ends P) d e n σ t σ′
+  Ends κ (ite d e P Q) σ t σ′ = (t₁ : ℕ) × (IsTrue e σ → Ends κ P σ t₁ σ′) × (IsFalse e σ → Ends κ Q σ t₁ σ′) × (t ≡ d + t₁)
+  -- "While takes d for each test, the last included." S-11: "in while before each test's delay"
+  Ends κ (while d e P) σ t σ′ = (n : ℕ) × WhileEnds (Ends κ P) (extended (κ .latch) d) e n σ t σ′
+  -- "Repeat runs P, takes d, tests, and goes round while e is false." S-11: "in repeat before each run of P"
+  Ends κ (repeat d e P) σ t σ′ = (n : ℕ) × RepeatEnds (Postponed (κ .latch) (Ends κ P)) d e n σ t σ′
   -- "exit (kind 26), which takes no time and ends the innermost kind 25 around it": a loop ends where its body comes to an exit
-  Ends (loop d P) σ t σ′ = (n : ℕ) × LoopEnds (Ends P) (λ σ t σ′. Leaves P σ t σ′) d n σ t σ′
+  Ends κ (loop d P) σ t σ′ = (n : ℕ) × LoopEnds (Ends κ P) (λ σ t σ′. Leaves κ P σ t σ′) d n σ t σ′
   -- and the exit itself has no end, so that nothing after it runs
-  Ends exit σ t σ′ = ⊥
+  Ends κ exit σ t σ′ = ⊥
 
   -- P, run from σ, comes after t instants, with the words σ′, to an exit that ends the loop around P
-  pub Leaves : Stmt → Store → ℕ → Store → Type 0
-  Leaves ok σ t σ′ = ⊥
-  Leaves (tick d) σ t σ′ = ⊥
-  Leaves (assign d x e) σ t σ′ = ⊥
-  Leaves (assignElem d k i e) σ t σ′ = ⊥
-  Leaves (seq P Q) σ t σ′ = Leaves P σ t σ′ ⊎ ((t₁ : ℕ) × (σ₁ : Store) × (t₂ : ℕ) × Ends P σ t₁ σ₁ × Leaves Q σ₁ t₂ σ′ × (t ≡ t₁ + t₂))
+  pub Leaves : Costs → Stmt → Store → ℕ → Store → Type 0
+  Leaves κ ok σ t σ′ = ⊥
+  Leaves κ (tick d) σ t σ′ = ⊥
+  Leaves κ (assign d x e) σ t σ′ = ⊥
+  Leaves κ (assignElem d k i e) σ t σ′ = ⊥
+  Leaves κ (seq P Q) σ t σ′ = Leaves κ P σ t σ′ ⊎ ((t₁ : ℕ) × (σ₁ : Store) × (t₂ : ℕ) × Ends κ P σ t₁ σ₁ × Leaves κ Q σ₁ t₂ σ′ × (t ≡ t₁ + t₂))
   -- refusal 22: no exit of a side ends a loop around the parallel
-  Leaves (par P Q) σ t σ′ = ⊥
-  Leaves (ite d e P Q) σ t σ′ = (t₁ : ℕ) × (IsTrue e σ → Leaves P σ t₁ σ′) × (IsFalse e σ → Leaves Q σ t₁ σ′) × (t ≡ d + t₁)
-  Leaves (while d e P) σ t σ′ = (n : ℕ) × WhileLeaves (λ σ t σ′. Ends P σ t σ′) (Leaves P) d e n σ t σ′
-  Leaves (repeat d e P) σ t σ′ = (n : ℕ) × RepeatLeaves (λ σ t σ′. Ends P σ t σ′) (Leaves P) d e n σ t σ′
+  Leaves κ (par P Q) σ t σ′ = ⊥
+  Leaves κ (ite d e P Q) σ t σ′ = (t₁ : ℕ) × (IsTrue e σ → Leaves κ P σ t₁ σ′) × (IsFalse e σ → Leaves κ Q σ t₁ σ′) × (t ≡ d + t₁)
+  Leaves κ (while d e P) σ t σ′ = (n : ℕ) × WhileLeaves (λ σ t σ′. Ends κ P σ t σ′) (Leaves κ P) (extended (κ .latch) d) e n σ t σ′
+  Leaves κ (repeat d e P) σ t σ′ =
+      (n : ℕ) × RepeatLeaves (Postponed (κ .latch) (λ σ t σ′. Ends κ P σ t σ′)) (Postponed (κ .latch) (Leaves κ P)) d e n σ t σ′
   -- "the innermost kind 25", and no other
-  Leaves (loop d P) σ t σ′ = ⊥
+  Leaves κ (loop d P) σ t σ′ = ⊥
   -- "which takes no time"
-  Leaves exit σ t σ′ = (t ≡ 0) × (σ′ ≡ σ)
+  Leaves κ exit σ t σ′ = (t ≡ 0) × (σ′ ≡ σ)
 
 -- The rules within a budget ------------------------------------------------------------------------------------------------------------
 
@@ -189,26 +214,31 @@ unfoldable pub loops : (ℕ → Store → Run) → ℕ → ℕ → ℕ → Store
 loops body d zero k σ = still
 loops body d (suc n) k σ = chain (body k σ) (λ t σ₁. wait d (k - t) (λ k₁. loops body d n k₁ σ₁))
 
+-- a body that begins n instants later
+abbrev pub postponed : ℕ → (ℕ → Store → Run) → ℕ → Store → Run
+postponed zero body k σ = body k σ
+postponed (suc n) body k σ = wait (suc n) k (λ k₁. body k₁ σ)
+
 -- P from σ within k instants: where it is done, Ends or Leaves tells the same time and words (theory/Rules/Relation)
-unfoldable pub run : ℕ → Stmt → Store → Run
-run k ok σ = ended 0 σ
-run k (tick d) σ = wait d k (λ k₁. ended 0 σ)
-run k (assign d x e) σ = wait (suc d) k (λ k₁. ended 0 (put σ x (eval e σ)))
-run k (assignElem d j i e) σ = wait (suc d) k (λ k₁. ended 0 (put σ (elementWord j (eval i σ)) (eval e σ)))
-run k (seq P Q) σ = chain (run k P σ) (λ t σ₁. run (k - t) Q σ₁)
-run k (par P Q) σ = both (kept P Q σ) (run k P σ) (run k Q σ)
-run k (ite d e P Q) σ = wait d k (λ k₁. elim (isZero (eval e σ)) [ true ↦ run k₁ Q σ | false ↦ run k₁ P σ ])
-run k (while d e P) σ = whiles (λ k₁ σ₁. run k₁ P σ₁) d e (suc k) k σ
-run k (repeat d e P) σ = repeats (λ k₁ σ₁. run k₁ P σ₁) d e (suc k) k σ
-run k (loop d P) σ = caught (loops (λ k₁ σ₁. run k₁ P σ₁) d (suc k) k σ)
-run k exit σ = left 0 σ
+unfoldable pub run : Costs → ℕ → Stmt → Store → Run
+run κ k ok σ = ended 0 σ
+run κ k (tick d) σ = wait d k (λ k₁. ended 0 σ)
+run κ k (assign d x e) σ = wait (d + κ .write) k (λ k₁. ended 0 (put σ x (eval e σ)))
+run κ k (assignElem d j i e) σ = wait (d + κ .write) k (λ k₁. ended 0 (put σ (elementWord j (eval i σ)) (eval e σ)))
+run κ k (seq P Q) σ = chain (run κ k P σ) (λ t σ₁. run κ (k - t) Q σ₁)
+run κ k (par P Q) σ = both (kept P Q σ) (run κ k P σ) (run κ k Q σ)
+run κ k (ite d e P Q) σ = wait d k (λ k₁. elim (isZero (eval e σ)) [ true ↦ run κ k₁ Q σ | false ↦ run κ k₁ P σ ])
+run κ k (while d e P) σ = whiles (λ k₁ σ₁. run κ k₁ P σ₁) (extended (κ .latch) d) e (suc k) k σ
+run κ k (repeat d e P) σ = repeats (postponed (κ .latch) (λ k₁ σ₁. run κ k₁ P σ₁)) d e (suc k) k σ
+run κ k (loop d P) σ = caught (loops (λ k₁ σ₁. run κ k₁ P σ₁) d (suc k) k σ)
+run κ k exit σ = left 0 σ
 
--- a run ended at exactly t
-unfoldable pub endsAt : ℕ → Run → Bool
-endsAt t (done atEnd t′ σ) = eqb t′ t
-endsAt t (done atExit t′ σ) = false
-endsAt t still = false
+-- whether at t, in a run within t instants, one of the w instants from its end on has come
+unfoldable pub showsAt : ℕ → ℕ → Run → Bool
+showsAt w t (done atEnd t′ σ) = ltb t (t′ + w)
+showsAt w t (done atExit t′ σ) = false
+showsAt w t still = false
 
--- whether P from σ ends at t, computed: "A finish is due at the program's end and at no other instant."
-unfoldable pub due : Stmt → Store → ℕ → Bool
-due P σ t = endsAt t (run t P σ)
+-- whether a finish is due at t, computed: "the finish wire rises once, at the program's end, and stays up w instants, at each of which a finish is due"
+unfoldable pub due : Costs → ℕ → Stmt → Store → ℕ → Bool
+due κ w P σ t = showsAt w t (run κ t P σ)

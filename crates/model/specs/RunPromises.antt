@@ -3,7 +3,7 @@
 -- Assumes nothing: definitions.
 use mathlib.Core.Path.{_≡_}
 use mathlib.Core.Logic.{_↔_}
-use mathlib.Core.Bool.{Bool, true, false, _||_}
+use mathlib.Core.Bool.{Bool, true, false, _&&_, _||_}
 use mathlib.Core.List.{List, [], _∷_, _++_, map}
 use Prim.Native.Nat.{ℕ, suc, _+_, _-_, _≤_, _<_}
 use lib.Dec.{eqb, ltb}
@@ -17,11 +17,11 @@ use Rattle.model.specs.declared.Outcome.the-variants.{Ended, Open}
 use Rattle.model.specs.declared.Written.the-variants.{Done}
 use Rattle.model.specs.declared.Answer.{Answer}
 use Rattle.model.specs.Word.{pick, elementWord}
-use Rattle.model.specs.Program.{Stmt, programOf}
+use Rattle.model.specs.Program.{Stmt, programOf, gap}
 use Rattle.model.specs.Procedures.{meaning}
-use Rattle.model.specs.Rules.{Store, Ends, Run, atEnd, atExit, done, still, ended, endsAt}
+use Rattle.model.specs.Rules.{imperative, Store, Ends, Run, atEnd, atExit, done, still, ended, showsAt}
 use Rattle.model.specs.Circuit.{memoryWords, Sig, Values, level, element, arrayAt, Obeys}
-use Rattle.model.specs.NetlistFile.{cellsOf, finishOf}
+use Rattle.model.specs.NetlistFile.{cellsOf, netOf, finishOf}
 use Rattle.model.specs.TimeTables.{Given, load}
 use Rattle.model.specs.State.{flightOf, stateSize, elementNow, wordsIn}
 use Rattle.model.specs.Calls.{Returned, verdict, compileCall, wordAt, beginCall, continueCall, startCall, runNetlistCall, runProgramCall, listed}
@@ -91,8 +91,9 @@ Runs = Store → ℕ → Run
 abbrev pub runAt : Runs → Stand → ℕ → Run
 runAt rules st t = rules (st .from) (t - st .begun)
 
-unfoldable pub dueAt : Runs → Stand → ℕ → Bool
-dueAt rules st t = endsAt (t - st .begun) (runAt rules st t)
+-- "at each of which a finish is due": with pulses of w
+unfoldable pub dueAt : ℕ → Runs → Stand → ℕ → Bool
+dueAt w rules st t = showsAt w (t - st .begun) (runAt rules st t)
 
 -- what a call tells, and where the list stands after it
 pub record Next : Type 0 where
@@ -104,44 +105,47 @@ abbrev pub refuses : ℕ → Stand → Next
 refuses k st = record { tells = refusedSeen k; after = st }
 
 -- a continuing by n: "it answers s, the count s − t, and ended exactly when a finish is due at s"
-unfoldable pub afterContinuing : Runs → Stand → ℕ → Next
-afterContinuing rules st n =
-    let s = stopsAt (dueAt rules st) (st .now) n in
+unfoldable pub afterContinuing : ℕ → Runs → Stand → ℕ → Next
+afterContinuing w rules st n =
+    let s = stopsAt (dueAt w rules st) (st .now) n in
     elim (ltb 1000000 (st .now + n)) [
       | true ↦ refuses 16 st
-      | false ↦ record { tells = seen (endedIf (dueAt rules st s)) s (s - st .now); after = stand (st .begun) (st .from) s }
+      | false ↦ record { tells = seen (endedIf (dueAt w rules st s)) s (s - st .now); after = stand (st .begun) (st .from) s }
     ]
 
--- a start, by how the run stands: "23: start given while the number isn't 0"; else the program "ends as a new run from the present words would, counted
--- from that pulse". No accepted program comes to an exit of a loop around it.
-unfoldable pub pulsed : Runs → Stand → Run → Next
-pulsed rules st (done atEnd t σ) =
+-- a start, by how the run stands: "23: start given while the number isn't 0", and "for w above 1 a second start waits for a low finish too"; else the
+-- program "ends as a new run from the present words would, counted from that pulse". No accepted program comes to an exit of a loop around it.
+unfoldable pub pulsed : ℕ → Runs → Stand → Run → Next
+pulsed w rules st (done atEnd t σ) =
     let s = suc (st .now) in
-    record { tells = seen (endedIf (dueAt rules (stand s σ s) s)) s 1; after = stand s σ s }
-pulsed rules st (done atExit t σ) = refuses 23 st
-pulsed rules st still = refuses 23 st
+    elim (ltb 1 w && dueAt w rules st (st .now)) [
+      | true ↦ refuses 23 st
+      | false ↦ record { tells = seen (endedIf (dueAt w rules (stand s σ s) s)) s 1; after = stand s σ s }
+    ]
+pulsed w rules st (done atExit t σ) = refuses 23 st
+pulsed w rules st still = refuses 23 st
 
 -- "refusal 16 counts its instant"
-unfoldable pub afterStart : Runs → Stand → Next
-afterStart rules st =
-    elim (ltb 1000000 (st .now + 1)) [ true ↦ refuses 16 st | false ↦ pulsed rules st (runAt rules st (st .now)) ]
+unfoldable pub afterStart : ℕ → Runs → Stand → Next
+afterStart w rules st =
+    elim (ltb 1000000 (st .now + 1)) [ true ↦ refuses 16 st | false ↦ pulsed w rules st (runAt rules st (st .now)) ]
 
-unfoldable pub afterRequest : Runs → Stand → Request → Next
-afterRequest rules st (continuing n) = afterContinuing rules st n
-afterRequest rules st start = afterStart rules st
+unfoldable pub afterRequest : ℕ → Runs → Stand → Request → Next
+afterRequest w rules st (continuing n) = afterContinuing w rules st n
+afterRequest w rules st start = afterStart w rules st
 
 -- a call on a state of so many bytes: only 14, 16 and 23 can refuse it
-unfoldable pub next : Runs → ℕ → Stand → Call → Next
-next rules size st c = elim (ltb (c .lent) size) [ true ↦ refuses 14 st | false ↦ afterRequest rules st (c .request) ]
+unfoldable pub next : ℕ → Runs → ℕ → Stand → Call → Next
+next w rules size st c = elim (ltb (c .lent) size) [ true ↦ refuses 14 st | false ↦ afterRequest w rules st (c .request) ]
 
 -- what calls tell, from the ends of the runs and the numbers asked for alone, and where the list stands after each
-unfoldable pub expected : Runs → ℕ → Stand → List Call → List Seen
-expected rules size st [] = []
-expected rules size st (c ∷ cs) = next rules size st c .tells ∷ expected rules size (next rules size st c .after) cs
+unfoldable pub expected : ℕ → Runs → ℕ → Stand → List Call → List Seen
+expected w rules size st [] = []
+expected w rules size st (c ∷ cs) = next w rules size st c .tells ∷ expected w rules size (next w rules size st c .after) cs
 
-unfoldable pub stands : Runs → ℕ → Stand → List Call → List Stand
-stands rules size st [] = []
-stands rules size st (c ∷ cs) = next rules size st c .after ∷ stands rules size (next rules size st c .after) cs
+unfoldable pub stands : ℕ → Runs → ℕ → Stand → List Call → List Stand
+stands w rules size st [] = []
+stands w rules size st (c ∷ cs) = next w rules size st c .after ∷ stands w rules size (next w rules size st c .after) cs
 
 -- the instants of the start pulses
 unfoldable pub startsOf : List Stand → Sig
@@ -157,7 +161,7 @@ Along R (st ∷ sts) (r ∷ rs) = R st r × Along R sts rs
 
 -- the memories of a buffer show these words, and so do its elements: "last contents, in demand 3 too, include them, as the state shows them"
 abbrev pub ShowsWords : Format → List ℕ → List ℕ → Store → Type 0
-ShowsWords F file s σ = (wordsIn F (cellsOf file) 0 s ≡ listed σ 0 16) × (listed (elementNow F (cellsOf file) s) 0 256 ≡ listed σ 16 256)
+ShowsWords F file s σ = (wordsIn F (cellsOf file) 0 s ≡ listed σ 0 16) × (listed (elementNow F (netOf file) s) 0 256 ≡ listed σ 16 256)
 
 -- the values W of memories and elements at instant t are these words
 pub record HasWords (net : List Cell) (words : Store) (W : Values) (t : ℕ) (σ : Store) : Type 0 where
@@ -165,54 +169,62 @@ pub record HasWords (net : List Cell) (words : Store) (W : Values) (t : ℕ) (σ
   pub elements : (k i : ℕ) → k < 4 → i < 64 → element net words W (arrayAt net k) i t ≡ σ (elementWord k i)
 
 -- the circuit's values W, where the list stands at st, as long as no other start pulse comes; and the buffer that a call has left there
-pub record Behaves (F : Format) (P : Stmt) (σ : Store) (file : List ℕ) (rules : Runs) (starts : Sig) (W : Values) (st : Stand) (r : Returned Answer)
+pub record Behaves (F : Format) (w : ℕ) (P : Stmt) (σ : Store) (file : List ℕ) (rules : Runs) (starts : Sig) (W : Values) (st : Stand) (r : Returned Answer)
     : Type 0 where
   -- the run is "from the present words"
   pub begins : HasWords (cellsOf file) σ W (st .begun) (st .from)
-  -- the finish wire is high exactly when a finish is due
-  pub finishes : (t : ℕ) → st .begun ≤ t → NoStart starts (st .begun) t → level W (finishOf file) t ≡ dueAt rules st t
+  -- the finish wire "rises once, at the program's end, and stays up w instants": it is high exactly when a finish is due
+  pub finishes : (t : ℕ) → st .begun ≤ t → NoStart starts (st .begun) t → level W (finishOf file) t ≡ dueAt w rules st t
   -- from then on the words are its last ones
-  pub lasts : (t₀ : ℕ) (σ′ : Store) → Ends P (st .from) t₀ σ′ → (t : ℕ) → st .begun + t₀ ≤ t → NoStart starts (st .begun) t
+  pub lasts : (t₀ : ℕ) (σ′ : Store) → Ends (imperative w) P (st .from) t₀ σ′ → (t : ℕ) → st .begun + t₀ ≤ t → NoStart starts (st .begun) t
       → HasWords (cellsOf file) σ W t σ′
   -- where the run has no end nobody sees a finish any more
-  pub endless : ((t₀ : ℕ) (σ′ : Store) → Ends P (st .from) t₀ σ′ → ⊥) → (t : ℕ) → st .begun ≤ t → level W (finishOf file) t ≡ false
+  pub endless : ((t₀ : ℕ) (σ′ : Store) → Ends (imperative w) P (st .from) t₀ σ′ → ⊥) → (t : ℕ) → st .begun ≤ t → level W (finishOf file) t ≡ false
   -- the buffer holds the values of the instant at which it stands
-  pub buffer : Holds F (cellsOf file) σ W (st .now) (r .lent)
+  pub buffer : Holds F (netOf file) σ W (st .now) (r .lent)
 
 -- what a call's answer and the buffer tell of the run
-pub record Tells (F : Format) (P : Stmt) (file : List ℕ) (st : Stand) (r : Returned Answer) : Type 0 where
-  -- the number is 0 exactly from the run's end on
-  pub number : (flightOf (r .lent) ≡ 0) ↔ ((t₀ : ℕ) × (σ′ : Store) × Ends P (st .from) t₀ σ′ × (st .begun + t₀ ≤ st .now))
+pub record Tells (F : Format) (w : ℕ) (P : Stmt) (file : List ℕ) (st : Stand) (r : Returned Answer) : Type 0 where
+  -- the number is not 0 before the run's end, and it is 0 from where a start may be given on
+  pub number : flightOf (r .lent) ≡ 0 → (t₀ : ℕ) × (σ′ : Store) × Ends (imperative w) P (st .from) t₀ σ′ × (st .begun + t₀ ≤ st .now)
+  pub idle : (t₀ : ℕ) (σ′ : Store) → Ends (imperative w) P (st .from) t₀ σ′ → st .begun + t₀ + gap w ≤ suc (st .now) → flightOf (r .lent) ≡ 0
+  -- with w of 1 that is the end itself: the number is 0 exactly from the run's end on
+  pub exact : w ≡ 1
+      → (flightOf (r .lent) ≡ 0) ↔ ((t₀ : ℕ) × (σ′ : Store) × Ends (imperative w) P (st .from) t₀ σ′ × (st .begun + t₀ ≤ st .now))
   -- and from then on the words are its last ones, in the buffer and in the answer of a call that was not refused
-  pub words : (t₀ : ℕ) (σ′ : Store) → Ends P (st .from) t₀ σ′ → st .begun + t₀ ≤ st .now
+  pub words : (t₀ : ℕ) (σ′ : Store) → Ends (imperative w) P (st .from) t₀ σ′ → st .begun + t₀ ≤ st .now
       → ShowsWords F file (r .lent) σ′ × (verdict (r .answer .outcome) ≡ Accepted → r .answer .words ≡ listed σ′ 0 16)
   -- where it has no end no answer says ended
-  pub endless : ((t₀ : ℕ) (σ′ : Store) → Ends P (st .from) t₀ σ′ → ⊥) → r .answer .outcome ≡ Ended → ⊥
+  pub endless : ((t₀ : ℕ) (σ′ : Store) → Ends (imperative w) P (st .from) t₀ σ′ → ⊥) → r .answer .outcome ≡ Ended → ⊥
 
 -- where a call was refused, the buffer is as it was before
 abbrev pub Unchanged : List ℕ → List (Returned Answer) → Type 0
 Unchanged s [] = Unit {0}
 Unchanged s (r ∷ rs) = Leaves (verdict (r .answer .outcome)) s (r .lent) × Unchanged (r .lent) rs
 
--- One statement about a beginning and a whole list of continuings and starts: P is the statement that the program means, σ its start words.
-pub record Keeps (F : Format) (P : Stmt) (σ : Store) (file : List ℕ) (begun : Returned Answer) (calls : List Call) : Type 0 where
+-- One statement about a beginning and a whole list of continuings and starts: P is the statement that the program means, w its pulse length, σ
+-- its start words.
+pub record Keeps (F : Format) (w : ℕ) (P : Stmt) (σ : Store) (file : List ℕ) (begun : Returned Answer) (calls : List Call) : Type 0 where
   -- how runs of the program stand, by its own rules
   pub rules : Runs
-  pub decides : (τ : Store) (k t : ℕ) (τ′ : Store) → (rules τ k ≡ ended t τ′) ↔ ((t ≤ k) × Ends P τ t τ′)
-  -- "A finish is due at the program's end and at no other instant.": an end is the only one, and so are its words
-  pub once : (τ : Store) (t₁ t₂ : ℕ) (σ₁ σ₂ : Store) → Ends P τ t₁ σ₁ → Ends P τ t₂ σ₂ → (t₁ ≡ t₂) × (σ₁ ≡ σ₂)
+  pub decides : (τ : Store) (k t : ℕ) (τ′ : Store) → (rules τ k ≡ ended t τ′) ↔ ((t ≤ k) × Ends (imperative w) P τ t τ′)
+  -- "the finish wire rises once, at the program's end": an end is the only one, and so are its words
+  pub once : (τ : Store) (t₁ t₂ : ℕ) (σ₁ σ₂ : Store) → Ends (imperative w) P τ t₁ σ₁ → Ends (imperative w) P τ t₂ σ₂ → (t₁ ≡ t₂) × (σ₁ ≡ σ₂)
+  -- "and stays up w instants, at each of which a finish is due": at these, and at no other
+  pub due : (st : Stand) (t : ℕ) → st .begun ≤ t → (dueAt w rules st t ≡ true)
+      ↔ ((t₀ : ℕ) × (σ′ : Store) × Ends (imperative w) P (st .from) t₀ σ′ × (st .begun + t₀ ≤ t) × (t < st .begun + t₀ + w))
   -- each answer follows from the ends of these runs and the numbers asked for
   pub outcomes :
       map seenOf (begun ∷ replay F file (begun .lent) calls)
-      ≡ seen (endedIf (dueAt rules (stand 0 σ 0) 0)) 0 1 ∷ expected rules (stateSize F (cellsOf file)) (stand 0 σ 0) calls
+      ≡ seen (endedIf (dueAt w rules (stand 0 σ 0) 0)) 0 1 ∷ expected w rules (stateSize F (netOf file)) (stand 0 σ 0) calls
   pub tells :
-      let sts = stand 0 σ 0 ∷ stands rules (stateSize F (cellsOf file)) (stand 0 σ 0) calls in
-      Along (Tells F P file) sts (begun ∷ replay F file (begun .lent) calls)
+      let sts = stand 0 σ 0 ∷ stands w rules (stateSize F (netOf file)) (stand 0 σ 0) calls in
+      Along (Tells F w P file) sts (begun ∷ replay F file (begun .lent) calls)
   -- and so does what the circuit does with these start pulses
   pub circuit :
-      let sts = stand 0 σ 0 ∷ stands rules (stateSize F (cellsOf file)) (stand 0 σ 0) calls in
-      (W : Values) → Obeys (cellsOf file) (startsOf sts) σ W
-      → Along (Behaves F P σ file rules (startsOf sts) W) sts (begun ∷ replay F file (begun .lent) calls)
+      let sts = stand 0 σ 0 ∷ stands w rules (stateSize F (netOf file)) (stand 0 σ 0) calls in
+      (W : Values) → Obeys (netOf file) (startsOf sts) σ W
+      → Along (Behaves F w P σ file rules (startsOf sts) W) sts (begun ∷ replay F file (begun .lent) calls)
   -- a refused call leaves the buffer as it was
   pub unchanged : Unchanged (begun .lent) (replay F file (begun .lent) calls)
 
@@ -237,7 +249,7 @@ pub record Demand3 : Type 0 where
       → compileCall (load G) program forFile .answer ≡ Done n f →
       let file = take n (compileCall (load G) program forFile .lent) in
       let begun = beginCall F file words forState in
-      verdict (begun .answer .outcome) ≡ Accepted → Keeps F (meaning (programOf (G .procedures) program)) (wordAt words) file begun calls
+      verdict (begun .answer .outcome) ≡ Accepted → Keeps F (G .pulse) (meaning (programOf (G .pulse) (G .procedures) program)) (wordAt words) file begun calls
   pub fullRuns : (G : Given) (program forFile words forState : List ℕ) (n f : ℕ) → compileCall (load G) program forFile .answer ≡ Done n f →
       let file = take n (compileCall (load G) program forFile .lent) in
       let begun = beginCall Full file words forState in

@@ -1,5 +1,5 @@
 -- Running: the bytes of a state, full or compact, beginning and continuing. The two formats differ in what a line keeps: `cellSize`, `lineBit`,
--- `takenIn`, `crowding` and `lineSound` tell them apart, and nothing else does.
+-- `takenIn`, `remainingByte`, `crowding` and `lineSound` tell them apart, and nothing else does.
 -- Assumes nothing: definitions.
 use mathlib.Core.Bool.{Bool, true, false, not, _&&_, _||_}
 use mathlib.Core.List.{List, [], _∷_, _++_}
@@ -14,7 +14,7 @@ use Rattle.model.specs.declared.Checked.{Checked}
 use Rattle.model.specs.declared.Checked.the-variants.{Accepted, Refused}
 use Rattle.model.specs.Refusals.{firstFault, faultIf}
 use Rattle.model.specs.Word.{pick, bit, isZero, operate, elementOf, get16, put16, get32, put32, bytes16}
-use Rattle.model.specs.Circuit.{cellAt, control, high, mergeStep, returnStep, merges, memoryWords, startWord, Shape, shape, kConstant, kComplement, kOperator, kStart, kGround, kDelay, kOr, kWhenTrue, kWhenFalse, kMerge, kReturn, kMemory, kGated, kArray, kAddress, kRead, kUnknown}
+use Rattle.model.specs.Circuit.{cellAt, Netlist, control, high, remainingStep, mergeStep, returnStep, merges, memoryWords, startWord, Shape, shape, kConstant, kComplement, kOperator, kStart, kGround, kDelay, kOr, kWhenTrue, kWhenFalse, kMerge, kReturn, kMemory, kGated, kArray, kAddress, kRead, kUnknown}
 use Rattle.model.specs.NetlistFile.{allZero}
 
 -- For either format --------------------------------------------------------------------------------------------------------------------
@@ -45,14 +45,15 @@ abbrev pub heldBits : Merge → ℕ
 heldBits m = bit (m .a) + bit (m .b)
 
 -- "delay inputs not yet put out and held merge bits", of a cell c with this line and these held bits: what came in d instants ago or earlier has been
--- put out
-unfoldable pub inFlight : (ℕ → ℕ) → Merge → Cell → ℕ
-inFlight line held c = pick (eqb (c .kind) 34) (ones line (c .delay)) (pick (merges (c .kind)) (heldBits held) 0)
+-- put out. "The start's remaining high instants ... count as in flight".
+unfoldable pub inFlight : (ℕ → ℕ) → Merge → ℕ → Cell → ℕ
+inFlight line held remaining c =
+    pick (eqb (c .kind) 34) (ones line (c .delay)) (pick (merges (c .kind)) (heldBits held) (pick (eqb (c .kind) 32) remaining 0))
 
--- the sum of these, of the cells cs, which stand from k on, where cell k has line k and held k
-unfoldable pub flightIn : (ℕ → ℕ → ℕ) → (ℕ → Merge) → List Cell → ℕ → ℕ
-flightIn line held [] k = 0
-flightIn line held (c ∷ cs) k = inFlight (line k) (held k) c + flightIn line held cs (k + 1)
+-- the sum of these, of the cells cs, which stand from k on, where cell k has line k, held k and remaining k
+unfoldable pub flightIn : (ℕ → ℕ → ℕ) → (ℕ → Merge) → (ℕ → ℕ) → List Cell → ℕ → ℕ
+flightIn line held remaining [] k = 0
+flightIn line held remaining (c ∷ cs) k = inFlight (line k) (held k) (remaining k) c + flightIn line held remaining cs (k + 1)
 
 -- the bytes of n words from x on
 unfoldable pub wordBytes : (ℕ → ℕ) → ℕ → ℕ → List ℕ
@@ -89,14 +90,14 @@ module _ (F : Format) where
   abbrev pub base : ℕ → ℕ
   base k = 8 + cellSize F * k
 
-  abbrev pub stateSize : List Cell → ℕ
-  stateSize net = base (length net) + 512
+  abbrev pub stateSize : Netlist → ℕ
+  stateSize net = base (length (net .cells)) + 512
 
   -- where the word of element n begins
-  abbrev pub elementBase : List Cell → ℕ → ℕ
-  elementBase net n = base (length net) + 2 * n
+  abbrev pub elementBase : Netlist → ℕ → ℕ
+  elementBase net n = base (length (net .cells)) + 2 * n
 
-  abbrev pub elementNow : List Cell → List ℕ → ℕ → ℕ
+  abbrev pub elementNow : Netlist → List ℕ → ℕ → ℕ
   elementNow net s n = get16 s (elementBase net n)
 
   abbrev pub nowAt : List ℕ → ℕ → ℕ
@@ -133,126 +134,134 @@ module _ (F : Format) where
     | Compact ↦ set s (base k + 6) (pick x d (leftAt s k - 1))
   ]
 
+  -- "The start's remaining high instants, below w, stand in the first line byte of its cell". A compact state goes with pulses of one instant (27), and
+  -- none remain.
+  unfoldable pub remainingByte : ℕ → ℕ
+  remainingByte k = elim F [ Full ↦ base k + 8 | Compact ↦ base k + 6 ]
+
+  abbrev pub remainingAt : List ℕ → ℕ → ℕ
+  remainingAt s k = getD s (remainingByte k) 0
+
   -- One instant ------------------------------------------------------------------------------------------------------------------------
 
   -- What cell k, which is c, shows after instant 0; starts tells whether a start pulse is given. In s, lower cells have their values now already, and
   -- the arrays of lower cells their words; all cells have their values an instant ago, and held bits and lines are still those of an instant ago.
-  unfoldable pub nextValue : Shape → Bool → List Cell → List ℕ → ℕ → Cell → ℕ
+  unfoldable pub nextValue : Shape → Bool → Netlist → List ℕ → ℕ → Cell → ℕ
   nextValue kConstant starts net s k c = c .a
   nextValue kComplement starts net s k c = operate 3 (nowAt s (c .a)) 0
   nextValue kOperator starts net s k c = operate (c .kind) (nowAt s (c .a)) (nowAt s (c .b))
-  nextValue kStart starts net s k c = bit starts
+  nextValue kStart starts net s k c = bit (starts || not (isZero (remainingAt s k)))
   nextValue kGround starts net s k c = 0
   nextValue kDelay starts net s k c = lineBit s k (c .delay) (c .delay - 1)
   nextValue kOr starts net s k c = bit (high (nowAt s (c .a)) || high (nowAt s (c .b)))
   nextValue kWhenTrue starts net s k c = bit (high (nowAt s (c .a)) && not (isZero (nowAt s (c .b))))
   nextValue kWhenFalse starts net s k c = bit (high (nowAt s (c .a)) && isZero (nowAt s (c .b)))
-  nextValue kMerge starts net s k c = bit (mergeStep (heldAt s k) (high (nowAt s (c .a))) (high (nowAt s (c .b))) .out)
-  nextValue kReturn starts net s k c = bit (returnStep (heldAt s k) (high (nowAt s (c .a))) (high (nowAt s (c .b))) .out)
+  nextValue kMerge starts net s k c = bit (mergeStep (eqb (net .pulse) 1) (high (beforeAt s k)) (heldAt s k) (high (nowAt s (c .a))) (high (nowAt s (c .b))) .out)
+  nextValue kReturn starts net s k c = bit (returnStep (eqb (net .pulse) 1) (high (beforeAt s k)) (heldAt s k) (high (nowAt s (c .a))) (high (nowAt s (c .b))) .out)
   nextValue kMemory starts net s k c = pick (fallen s (c .a)) (beforeAt s (c .b)) (beforeAt s k)
   nextValue kGated starts net s k c = pick (high (nowAt s (c .a))) (nowAt s (c .b)) 0
   nextValue kArray starts net s k c = 0
   nextValue kAddress starts net s k c = 0
-  nextValue kRead starts net s k c = elementNow net s (elementOf (cellAt net (c .a) .delay) (nowAt s (c .b)))
+  nextValue kRead starts net s k c = elementNow net s (elementOf (cellAt (net .cells) (c .a) .delay) (nowAt s (c .b)))
   nextValue kUnknown starts net s k c = 0
 
-  abbrev pub value : List Cell → Bool → List ℕ → ℕ → ℕ
-  value net starts s k = nextValue (shape (cellAt net k .kind)) starts net s k (cellAt net k)
+  abbrev pub value : Netlist → Bool → List ℕ → ℕ → ℕ
+  value net starts s k = nextValue (shape (cellAt (net .cells) k .kind)) starts net s k (cellAt (net .cells) k)
 
   -- at instant 0 a memory has its start word; the others, all bytes being 0 and start 1, show what they show later
-  abbrev pub firstValue : List Cell → (ℕ → ℕ) → List ℕ → ℕ → ℕ
-  firstValue net words s k = pick (eqb (cellAt net k .kind) 40) (startWord net words k) (value net true s k)
+  abbrev pub firstValue : Netlist → (ℕ → ℕ) → List ℕ → ℕ → ℕ
+  firstValue net words s k = pick (eqb (cellAt (net .cells) k .kind) 40) (startWord (net .cells) words k) (value net true s k)
 
   -- the value now becomes the value an instant ago
   unfoldable pub aged : List ℕ → ℕ → List ℕ
   aged s k = put16 s (base k + 2) (nowAt s k)
 
   -- "A write uses address and data of the instant before the clock falls.": where cell k is a kind 42 whose clock falls, its array takes a word in
-  unfoldable pub stored : List Cell → List ℕ → ℕ → List ℕ
+  unfoldable pub stored : Netlist → List ℕ → ℕ → List ℕ
   stored net s k =
-      let c = cellAt net k in
-      let address = cellAt net (k + 1) .a in
+      let c = cellAt (net .cells) k in
+      let address = cellAt (net .cells) (k + 1) .a in
       pick (eqb (c .kind) 42 && fallen s (c .a))
       (put16 s (elementBase net (elementOf (c .delay) (beforeAt s address))) (beforeAt s (c .b))) s
 
   -- cell k shows the value that v makes of the state so far
-  unfoldable pub shown : List Cell → (List ℕ → ℕ → ℕ) → List ℕ → ℕ → List ℕ
+  unfoldable pub shown : Netlist → (List ℕ → ℕ → ℕ) → List ℕ → ℕ → List ℕ
   shown net v s k = put16 (stored net s k) (base k) (v s k)
 
   unfoldable pub holding : List ℕ → ℕ → Merge → List ℕ
   holding s k m = set (set s (base k + 4) (bit (m .a))) (base k + 5) (bit (m .b))
 
-  -- a delay takes its input in, a merge holds
-  unfoldable pub settle : Shape → List ℕ → ℕ → Cell → List ℕ
-  settle kConstant s k c = s
-  settle kComplement s k c = s
-  settle kOperator s k c = s
-  settle kStart s k c = s
-  settle kGround s k c = s
-  settle kDelay s k c = takenIn s k (c .delay) (high (nowAt s (c .a)))
-  settle kOr s k c = s
-  settle kWhenTrue s k c = s
-  settle kWhenFalse s k c = s
-  settle kMerge s k c = holding s k (mergeStep (heldAt s k) (high (nowAt s (c .a))) (high (nowAt s (c .b))) .held)
-  settle kReturn s k c = holding s k (returnStep (heldAt s k) (high (nowAt s (c .a))) (high (nowAt s (c .b))) .held)
-  settle kMemory s k c = s
-  settle kGated s k c = s
-  settle kArray s k c = s
-  settle kAddress s k c = s
-  settle kRead s k c = s
-  settle kUnknown s k c = s
+  -- a delay takes its input in, a merge holds, the start has an instant less to be high; with pulses of w
+  unfoldable pub settle : ℕ → Shape → List ℕ → ℕ → Cell → List ℕ
+  settle w kConstant s k c = s
+  settle w kComplement s k c = s
+  settle w kOperator s k c = s
+  settle w kStart s k c = set s (remainingByte k) (remainingStep w (remainingAt s k) (high (nowAt s k)))
+  settle w kGround s k c = s
+  settle w kDelay s k c = takenIn s k (c .delay) (high (nowAt s (c .a)))
+  settle w kOr s k c = s
+  settle w kWhenTrue s k c = s
+  settle w kWhenFalse s k c = s
+  settle w kMerge s k c = holding s k (mergeStep (eqb w 1) (high (beforeAt s k)) (heldAt s k) (high (nowAt s (c .a))) (high (nowAt s (c .b))) .held)
+  settle w kReturn s k c = holding s k (returnStep (eqb w 1) (high (beforeAt s k)) (heldAt s k) (high (nowAt s (c .a))) (high (nowAt s (c .b))) .held)
+  settle w kMemory s k c = s
+  settle w kGated s k c = s
+  settle w kArray s k c = s
+  settle w kAddress s k c = s
+  settle w kRead s k c = s
+  settle w kUnknown s k c = s
 
-  abbrev pub settled : List Cell → List ℕ → ℕ → List ℕ
-  settled net s k = settle (shape (cellAt net k .kind)) s k (cellAt net k)
+  abbrev pub settled : Netlist → List ℕ → ℕ → List ℕ
+  settled net s k = settle (net .pulse) (shape (cellAt (net .cells) k .kind)) s k (cellAt (net .cells) k)
 
   -- The number in flight ---------------------------------------------------------------------------------------------------------------
 
   -- the line of cell k
-  abbrev pub lineAt : List Cell → List ℕ → ℕ → ℕ → ℕ
-  lineAt net s k = lineBit s k (cellAt net k .delay)
+  abbrev pub lineAt : Netlist → List ℕ → ℕ → ℕ → ℕ
+  lineAt net s k = lineBit s k (cellAt (net .cells) k .delay)
 
-  -- what the lines and held bits of a state sum up to
-  abbrev pub flight : List Cell → List ℕ → ℕ
-  flight net s = flightIn (lineAt net s) (heldAt s) net 0
+  -- what the lines, the held bits and the start of a state sum up to
+  abbrev pub flight : Netlist → List ℕ → ℕ
+  flight net s = flightIn (lineAt net s) (heldAt s) (remainingAt s) (net .cells) 0
 
   -- "each call keeps it true": the number is put into the header
-  unfoldable pub counted : List Cell → List ℕ → List ℕ
+  unfoldable pub counted : Netlist → List ℕ → List ℕ
   counted net s = put32 s 4 (flight net s)
 
   -- Beginning and continuing -----------------------------------------------------------------------------------------------------------
 
   -- what beginning starts from: nothing in any cell, and the elements' start words, which "follow the sixteen"
-  abbrev pub blank : List Cell → (ℕ → ℕ) → List ℕ → List ℕ
-  blank net words s = replicate (base (length net)) 0 ++ (wordBytes words 16 256 ++ drop (stateSize net) s)
+  abbrev pub blank : Netlist → (ℕ → ℕ) → List ℕ → List ℕ
+  blank net words s = replicate (base (length (net .cells))) 0 ++ (wordBytes words 16 256 ++ drop (stateSize net) s)
 
   -- an instant from a state whose cells show what they showed before: values by v, then lines and held bits, then their number
-  unfoldable pub evaluate : List Cell → (List ℕ → ℕ → ℕ) → List ℕ → List ℕ
+  unfoldable pub evaluate : Netlist → (List ℕ → ℕ → ℕ) → List ℕ → List ℕ
   evaluate net v past =
-      let valued = upTo (shown net v) (length net) past in
-      counted net (upTo (settled net) (length net) valued)
+      let valued = upTo (shown net v) (length (net .cells)) past in
+      counted net (upTo (settled net) (length (net .cells)) valued)
 
   -- "Beginning evaluates instant 0." "Lent bytes past a result keep their values."
-  unfoldable pub beginState : List Cell → (ℕ → ℕ) → List ℕ → List ℕ
+  unfoldable pub beginState : Netlist → (ℕ → ℕ) → List ℕ → List ℕ
   beginState net words s = evaluate net (firstValue net words) (blank net words s)
 
   -- one further instant, with a start pulse or without
-  unfoldable pub stepState : List Cell → Bool → List ℕ → List ℕ
+  unfoldable pub stepState : Netlist → Bool → List ℕ → List ℕ
   stepState net starts s =
       let ticked = put32 s 0 (instantOf s + 1) in
-      evaluate net (value net starts) (upTo aged (length net) ticked)
+      evaluate net (value net starts) (upTo aged (length (net .cells)) ticked)
 
   -- "26: a pulse enters a line whose pulse hasn't come out": at cell k, in the instant that leads from s to t. Where one instant was left, that pulse
   -- comes out in this one.
-  unfoldable pub crowded : List Cell → List ℕ → List ℕ → ℕ → ℕ
-  crowded net s t k = faultIf (eqb (cellAt net k .kind) 34 && (high (nowAt t (cellAt net k .a)) && ltb 1 (leftAt s k))) 26
+  unfoldable pub crowded : Netlist → List ℕ → List ℕ → ℕ → ℕ
+  crowded net s t k = faultIf (eqb (cellAt (net .cells) k .kind) 34 && (high (nowAt t (cellAt (net .cells) k .a)) && ltb 1 (leftAt s k))) 26
 
   -- "place the lowest such cell"; a full state has room for every pulse
-  unfoldable pub crowding : List Cell → List ℕ → List ℕ → Checked
-  crowding net s t = elim F [ Full ↦ Accepted | Compact ↦ firstFault (crowded net s t) 0 (length net) ]
+  unfoldable pub crowding : Netlist → List ℕ → List ℕ → Checked
+  crowding net s t = elim F [ Full ↦ Accepted | Compact ↦ firstFault (crowded net s t) 0 (length (net .cells)) ]
 
   -- "Continuing by N evaluates later instants until the finish wire is high or N are done; a state whose finish is already high is continued
   -- like any other." "the state is left at the last good instant".
-  unfoldable pub continued : List Cell → ℕ → ℕ → List ℕ → Course
+  unfoldable pub continued : Netlist → ℕ → ℕ → List ℕ → Course
   continued net f zero s = course Accepted s 0
   continued net f (suc n) s =
       let t = stepState net false s in
@@ -267,26 +276,32 @@ module _ (F : Format) where
 
   -- Refusal 15 -------------------------------------------------------------------------------------------------------------------------
 
+  -- how large the number in the first byte of a line may be, where the cell has no delay's line: "remaining high instants, below w"
+  abbrev pub mostLeft : ℕ → Cell → ℕ
+  mostLeft w c = pick (eqb (c .kind) 32) (w - 1) 0
+
   -- "with ... lines or zero bytes set where the cell has none"; "(above the delay: refusal 15)"
-  unfoldable pub lineSound : Cell → List ℕ → ℕ → Bool
-  lineSound c s k = elim F [
-    | Full ↦ allZero (take 2 (drop (base k + 6) s)) && (eqb (c .kind) 34 || allZero (take 32 (drop (base k + 8) s)))
-    | Compact ↦ leb (leftAt s k) (pick (eqb (c .kind) 34) (c .delay) 0) && eqb (getD s (base k + 7) 0) 0
+  unfoldable pub lineSound : ℕ → Cell → List ℕ → ℕ → Bool
+  lineSound w c s k = elim F [
+    | Full ↦
+        allZero (take 2 (drop (base k + 6) s))
+        && (eqb (c .kind) 34 || (leb (remainingAt s k) (mostLeft w c) && allZero (take 31 (drop (base k + 9) s))))
+    | Compact ↦ leb (leftAt s k) (pick (eqb (c .kind) 34) (c .delay) (mostLeft w c)) && eqb (getD s (base k + 7) 0) 0
   ]
 
   -- "15. A state whose control values or held bits exceed 1, or with held bits, lines or zero bytes set where the cell has none.": a 39 "holds a", and
   -- no b
-  unfoldable pub cellSound : Cell → List ℕ → ℕ → Bool
-  cellSound c s k =
+  unfoldable pub cellSound : ℕ → Cell → List ℕ → ℕ → Bool
+  cellSound w c s k =
       (not (control (c .kind)) || (leb (nowAt s k) 1 && leb (beforeAt s k) 1))
       && ((leb (getD s (base k + 4) 0) (bit (merges (c .kind))) && leb (getD s (base k + 5) 0) (bit (eqb (c .kind) 38)))
-      && lineSound c s k)
+      && lineSound w c s k)
 
   -- of the cells cs, which stand from k on
-  unfoldable pub cellsSound : List Cell → List ℕ → ℕ → Bool
-  cellsSound [] s k = true
-  cellsSound (c ∷ cs) s k = cellSound c s k && cellsSound cs s (k + 1)
+  unfoldable pub cellsSound : ℕ → List Cell → List ℕ → ℕ → Bool
+  cellsSound w [] s k = true
+  cellsSound w (c ∷ cs) s k = cellSound w c s k && cellsSound w cs s (k + 1)
 
   -- "a state where it is false is refusal 15"
-  unfoldable pub sound : List Cell → List ℕ → Bool
-  sound net s = eqb (flightOf s) (flight net s) && cellsSound net s 0
+  unfoldable pub sound : Netlist → List ℕ → Bool
+  sound net s = eqb (flightOf s) (flight net s) && cellsSound (net .pulse) (net .cells) s 0

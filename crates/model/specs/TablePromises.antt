@@ -21,6 +21,6 @@ abbrev pub InRange : (ℕ → ℕ) → Type 0
 InRange τ = (τ 1 ≡ 0) × (τ 2 ≡ 0) × ((k : ℕ) → 3 ≤ k → k ≤ 10 → (1 ≤ τ k) × (τ k ≤ 200))
 
 pub record Tables : Type 0 where
-  pub loads : (τ : ℕ → ℕ) (k : ℕ) → InRange τ
-      → load (beside (given (tableFile τ)) k) ≡ record { checked = Accepted; times = 0 ∷ listed τ 1 10; procedures = k }
-  pub only : (file : List ℕ) (k : ℕ) → Bytes file → load (beside (given file) k) .checked ≡ Accepted → (τ : ℕ → ℕ) × InRange τ × (file ≡ tableFile τ)
+  pub loads : (τ : ℕ → ℕ) (k w : ℕ) → InRange τ
+      → load (beside (given (tableFile τ)) k w) ≡ record { checked = Accepted; times = 0 ∷ listed τ 1 10; procedures = k; pulse = w }
+  pub only : (file : List ℕ) (k w : ℕ) → Bytes file → load (beside (given file) k w) .checked ≡ Accepted → (τ : ℕ → ℕ) × InRange τ × (file ≡ tableFile τ)

@@ -19,7 +19,7 @@ use Rattle.model.specs.TextCalls.{readingOf, textProgram, textChecks, re
 use Rattle.model.specs.Calls.{verdict, writtenVerdict, compileCall, runProgramCall}
 use Rattle.model.specs.Hubrun.{decimal}
 use Rattle.model.specs.Word.{Bytes}
-use Rattle.model.specs.RefusalPromises.{tableNumbers, programNumbers, just, Refuses, Leaves}
+use Rattle.model.specs.RefusalPromises.{givenNumbers, programNumbers, just, Refuses, Leaves}
 
 -- the place of word i, or the length of the text where the words are fewer
 unfoldable pub placeAt : ℕ → List Lexeme → ℕ → ℕ
@@ -50,7 +50,7 @@ pub record Texts : Type 0 where
   -- the bytes that an accepted text gives are those of its reading, and the program that they are is that statement
   pub program : (G : Given) (text lent : List ℕ) (n f : ℕ) → readTextCall (load G) text lent .answer ≡ Done n f →
       let bytes = take n (readTextCall (load G) text lent .lent) in
-      (P : Code) × Means (tokens (wordsOf text)) P × (bytes ≡ nodeBytes (preorder P)) × (programOf (G .procedures) bytes ≡ alone P)
+      (P : Code) × Means (tokens (wordsOf text)) P × (bytes ≡ nodeBytes (preorder P)) × (programOf (G .pulse) (G .procedures) bytes ≡ record { bodies = []; main = P; pulse = G .pulse })
   -- a text that passes 17 and 18 has bytes for its program, and is compiled and run as that program, of which demands 2 and 3 speak
   pub bytes : (text : List ℕ) → first (textChecks text) ≡ Accepted → Bytes (textProgram text)
   pub compiled : (G : Given) (text lent : List ℕ) → first (textChecks text) ≡ Accepted
@@ -60,15 +60,15 @@ pub record Texts : Type 0 where
   -- the refusals in the published order, and what a refusal leaves
   pub reading : (G : Given) (text lent : List ℕ) →
       let c = writtenVerdict (readTextCall (load G) text lent .answer) in
-      Refuses (tableNumbers ∷ just 17 ∷ just 17 ∷ just 18 ∷ programNumbers ∷ just 14 ∷ []) (readTextChecks (load G) text lent) c
+      Refuses (givenNumbers ∷ just 17 ∷ just 17 ∷ just 18 ∷ programNumbers ∷ just 14 ∷ []) (readTextChecks (load G) text lent) c
       × Leaves c lent (readTextCall (load G) text lent .lent)
   pub compiling : (G : Given) (text lent : List ℕ) →
       let c = writtenVerdict (compileTextCall (load G) text lent .answer) in
-      Refuses (tableNumbers ∷ just 17 ∷ just 17 ∷ just 18 ∷ programNumbers ∷ just 14 ∷ []) (compileTextChecks (load G) text lent) c
+      Refuses (givenNumbers ∷ just 17 ∷ just 17 ∷ just 18 ∷ programNumbers ∷ just 14 ∷ []) (compileTextChecks (load G) text lent) c
       × Leaves c lent (compileTextCall (load G) text lent .lent)
   pub runs : (G : Given) (text words : List ℕ) (n : ℕ) (forFile lent : List ℕ) →
       let r = runTextCall (load G) text words n forFile lent in
       let c = verdict (r .answer .outcome) in
-      Refuses (tableNumbers ∷ just 17 ∷ just 17 ∷ just 18 ∷ programNumbers ∷ just 13 ∷ just 14 ∷ just 14 ∷ just 14 ∷ [])
+      Refuses (givenNumbers ∷ just 17 ∷ just 17 ∷ just 18 ∷ programNumbers ∷ just 13 ∷ just 14 ∷ just 14 ∷ just 14 ∷ [])
       (runTextChecks (load G) text words n forFile lent) c
       × Leaves c forFile (r .netlist) × Leaves c lent (r .state)

@@ -1,4 +1,5 @@
--- Tables of operator times: the file that gives one, refusals 19 to 21; and what is given beside a program, a table and the number of procedures.
+-- Tables of operator times: the file that gives one, refusals 19 to 21; and what is given beside a program, a table, the number of procedures and the
+-- pulse length, refusal 27.
 -- "Clubs buy gate parts of different speeds. A one-block file gives the times". "Refusal 7 uses it; without one the built-in serves."
 -- Assumes nothing: definitions.
 use mathlib.Core.Bool.{Bool, true, false, not, _&&_, _||_}
@@ -12,7 +13,7 @@ use Rattle.model.specs.declared.Checked.the-variants.{Accepted}
 use Rattle.model.specs.Word.{pick}
 use Rattle.model.specs.Refusals.{refuseIf, first, firstFault, faultIf}
 use Rattle.model.specs.Program.{builtInTimes}
-use Rattle.model.specs.NetlistFile.{wordSum}
+use Rattle.model.specs.NetlistFile.{wordSum, pulseWrong}
 
 -- byte i of a table may not be b: "block number 0, 9 in bytes 2–3, zero in 4–5, the usual check, then nine bytes for kinds 1 to 9, the rest
 -- zero. Constant and variable are 0, the others 1 to 200." "The table of S-4 has a tenth byte, and 10 in bytes 2–3."
@@ -74,18 +75,26 @@ unfoldable pub timesOf : TimeTable → List ℕ
 timesOf builtIn = builtInTimes
 timesOf (given file) = timesIn file
 
--- what is given beside a program: a table, and the number of its procedures
+-- what is given beside a program: a table, the number of its procedures, and its pulse length
 pub record Given : Type 0 where
   pub table : TimeTable
   pub procedures : ℕ
+  pub pulse : ℕ
 
-abbrev pub beside : TimeTable → ℕ → Given
-beside T k = record { table = T; procedures = k }
+abbrev pub beside : TimeTable → ℕ → ℕ → Given
+beside T k w = record { table = T; procedures = k; pulse = w }
 
 -- what calls take
 unfoldable pub load : Given → Options
-load G = record { checked = verdictOf (G .table); times = timesOf (G .table); procedures = G .procedures }
+load G = record { checked = verdictOf (G .table); times = timesOf (G .table); procedures = G .procedures; pulse = G .pulse }
 
 -- "without one the built-in serves": what stands for 'nothing given'
 abbrev pub defaults : Options
-defaults = load (beside builtIn 0)
+defaults = load (beside builtIn 0 1)
+
+-- "27: a given pulse length not 1 to 8, before 19": the checks of what is given
+abbrev pub givenChecks : Options → List Checked
+givenChecks options = refuseIf (pulseWrong (options .pulse)) 27 0 ∷ options .checked ∷ []
+
+unfoldable pub givenCheck : Options → Checked
+givenCheck options = first (givenChecks options)

@@ -47,12 +47,13 @@ pub struct Node {
     pub n: u16,
 }
 
-// What is given beside a program: what the check of its table says, the operator times, that of each kind from kind 0 on, and the number of
-// procedures.
+// What is given beside a program: what the check of its table says, the operator times, that of each kind from kind 0 on, the number of
+// procedures, and the pulse length.
 pub struct Options {
     pub checked: Checked,
     pub times: [u8; 11],
     pub procedures: usize,
+    pub pulse: u8,
 }
 
 // A cell of a netlist, six bytes; callers in other languages lend slices of them.
@@ -83,31 +84,52 @@ pub struct Merged {
 }
 
 impl Merge {
-    // One instant with inputs a and b.
-    pub fn step(self, a: bool, b: bool) -> Merged
-        ensures { λ r. ⌜ r ≡ mergeStep self a b ⌝ }
+    // One instant with inputs a and b; one: the pulse length is 1; was: the output an instant ago.
+    pub fn step(self, one: bool, was: bool, a: bool, b: bool) -> Merged
+        ensures { λ r. ⌜ r ≡ mergeStep one was self a b ⌝ }
     {
         let both_a = a | self.a;
         let both_b = b | self.b;
-        let out = both_a & both_b;
+        if one {
+            let out = both_a & both_b;
+            return Merged {
+                held: Merge {
+                    a: both_a & !out,
+                    b: both_b & !out,
+                },
+                out,
+            };
+        }
+        let out = both_a & both_b & (a | b);
+        let gone = was & !out;
         Merged {
             held: Merge {
-                a: both_a & !out,
-                b: both_b & !out,
+                a: both_a & !gone,
+                b: both_b & !gone,
             },
             out,
         }
     }
 
     // One instant of a call's merge, which holds a and no b.
-    pub fn step_call(self, a: bool, b: bool) -> Merged
-        ensures { λ r. ⌜ r ≡ returnStep self a b ⌝ }
+    pub fn step_call(self, one: bool, was: bool, a: bool, b: bool) -> Merged
+        ensures { λ r. ⌜ r ≡ returnStep one was self a b ⌝ }
     {
         let waits = a | self.a;
         let out = waits & b;
+        if one {
+            return Merged {
+                held: Merge {
+                    a: waits & !out,
+                    b: false,
+                },
+                out,
+            };
+        }
+        let gone = was & !out;
         Merged {
             held: Merge {
-                a: waits & !out,
+                a: waits & !gone,
                 b: false,
             },
             out,

@@ -11,7 +11,7 @@ use lib.Dec.{eqb}
 use lib.ListN.{length, getD, drop, length-take, length-drop, drop-of-length-le}
 use lib.Seq.{drop-cons, getD-take, getD-drop}
 use Rattle.model.specs.Word.{get16}
-use Rattle.model.specs.NetlistFile.{wordSum, blockAt, countOf, finishOf, allZero, headerRight, sumFault, headerFault}
+use Rattle.model.specs.NetlistFile.{firstNumber, pulseOf, wordSum, blockAt, countOf, finishOf, allZero, headerRight, sumFault, headerFault}
 
 -- Bytes of a block ---------------------------------------------------------------------------------------------------------------------
 
@@ -46,13 +46,13 @@ module _ (s : List ℕ) (b : ℕ) where
       let e : drop k (blockAt s b) ≡ [] = drop-of-length-le (blockAt s b) {i = k} (simp length-take (omega arith)) in
       rw e refl
 
-  pub headed-is : (count finish : ℕ) {number c f : ℕ} {z : Bool} → number ≡ get16 s (512 * b) → c ≡ get16 s (512 * b + 2)
+  pub headed-is : (w count finish : ℕ) {first number c f : ℕ} {z : Bool} → first ≡ firstNumber w → number ≡ get16 s (512 * b) → c ≡ get16 s (512 * b + 2)
       → f ≡ get16 s (512 * b + 4) → z ≡ allZero (drop (8 + 6 * (count - 84 * b)) (blockAt s b))
-      → (eqb number b && (eqb c count && (eqb f finish && z))) ≡ headerRight count finish b (blockAt s b)
+      → (eqb number (first + b) && (eqb c count && (eqb f finish && z))) ≡ headerRight w count finish b (blockAt s b)
   unfolding headerRight
-  headed-is count finish e₀ e₂ e₄ e =
+  headed-is w count finish d e₀ e₂ e₄ e =
       let o : 512 * b + 0 ≡ 512 * b = omega arith in
-      rw (block-get16 0 (omega arith), block-get16 2 (omega arith), block-get16 4 (omega arith), o, ← e₀, ← e₂, ← e₄, ← e) refl
+      rw (block-get16 0 (omega arith), block-get16 2 (omega arith), block-get16 4 (omega arith), o, ← d, ← e₀, ← e₂, ← e₄, ← e) refl
 
   -- its faults
 
@@ -64,11 +64,11 @@ module _ (s : List ℕ) (b : ℕ) where
   unfolding sumFault
   sum-right e n = rw (← e, n) refl
 
-  module _ {count finish : ℕ} (en : count ≡ countOf s) (ef : finish ≡ finishOf s) where
-    pub header-wrong : headerRight count finish b (blockAt s b) ≡ false → headerFault s b ≡ 11
+  module _ {w count finish : ℕ} (ew : w ≡ pulseOf s) (en : count ≡ countOf s) (ef : finish ≡ finishOf s) where
+    pub header-wrong : headerRight w count finish b (blockAt s b) ≡ false → headerFault s b ≡ 11
     unfolding headerFault
-    header-wrong e = rw (← en, ← ef, e) refl
+    header-wrong e = rw (← ew, ← en, ← ef, e) refl
 
-    pub header-right : headerRight count finish b (blockAt s b) ≡ true → headerFault s b ≡ 0
+    pub header-right : headerRight w count finish b (blockAt s b) ≡ true → headerFault s b ≡ 0
     unfolding headerFault
-    header-right e = rw (← en, ← ef, e) refl
+    header-right e = rw (← ew, ← en, ← ef, e) refl

@@ -14,7 +14,7 @@ use Rattle.model.specs.declared.Checked.the-variants.{Accepted}
 use Rattle.model.specs.declared.Written.{Written}
 use Rattle.model.specs.declared.Written.the-variants.{Done}
 use Rattle.model.specs.Refusals.{refuseIf, first}
-use Rattle.model.specs.NetlistFile.{cellBytes, cellsAt, inList, inFile, fileOf, blocksFor, countOf, finishOf, cellsOf, countWrong, netCheck, fileCheck}
+use Rattle.model.specs.NetlistFile.{pulseWrong, cellBytes, cellsAt, inList, inFile, fileOf, blocksFor, countOf, finishOf, cellsOf, countWrong, netCheck, fileCheck}
 use Rattle.model.specs.Calls.{Returned, short, writing, cellsIn, writeCall, readCall}
 use Rattle.laws.specs.NetlistFile.CellBytes.{bytes-length}
 use Rattle.netlist.specs.declared.cells.Layout.the-variants.{InList}
@@ -53,7 +53,7 @@ module _ (file lent : List ℕ) where
 
 -- Writing ------------------------------------------------------------------------------------------------------------------------------
 
-module _ (cells : List ℕ) (f : ℕ) (lent : List ℕ) where
+module _ (w : ℕ) (cells : List ℕ) (f : ℕ) (lent : List ℕ) where
   abbrev n : ℕ
   n = length cells / 6
 
@@ -63,33 +63,37 @@ module _ (cells : List ℕ) (f : ℕ) (lent : List ℕ) where
   abbrev size : ℕ
   size = 512 * blocksFor n
 
-  file-size : length (fileOf (cellsIn cells) f) ≡ size
-  file-size = file-length (cellsIn cells) f ∙ ap (λ (x : ℕ). 512 * blocksFor x) (cells-length inList cells 0 n)
+  file-size : length (fileOf w (cellsIn cells) f) ≡ size
+  file-size = file-length w (cellsIn cells) f ∙ ap (λ (x : ℕ). 512 * blocksFor x) (cells-length inList cells 0 n)
 
-  write-as : writeCall cells f lent
-      ≡ writing (first (refuseIf countTest 11 0 ∷ netCheck (cellsIn cells) f ∷ short (length lent) size ∷ [])) (fileOf (cellsIn cells) f) size f lent
+  write-as : writeCall w cells f lent
+      ≡ writing (first (refuseIf (pulseWrong w) 27 0 ∷ refuseIf countTest 11 0 ∷ netCheck (cellsIn cells) f ∷ short (length lent) size ∷ [])) (fileOf w (cellsIn cells) f) size f lent
   unfolding writeCall
   write-as = rw (file-size, cells-length inList cells 0 n) refl
 
-  pub count-refused : countTest ≡ true → Tells (refused 11) lent (writeCall cells f lent)
+  pub pulse-refused : pulseWrong w ≡ true → Tells (refused 27) lent (writeCall w cells f lent)
   unfolding writing
-  count-refused e = rw (write-as, e) (refl, refl)
+  pulse-refused e = rw (write-as, e) (refl, refl)
 
-  module _ (e : countTest ≡ false) where
+  pub count-refused : pulseWrong w ≡ false → countTest ≡ true → Tells (refused 11) lent (writeCall w cells f lent)
+  unfolding writing
+  count-refused p e = rw (write-as, p, e) (refl, refl)
+
+  module _ (p : pulseWrong w ≡ false) (e : countTest ≡ false) where
     pub list-room : Room InList cells n
     list-room = record { few = counted (blocksFor n) n f (neither (ltb 0 (length cells % 6)) _ e .1) .high; fits = omega arith }
 
-    pub cells-refused : {r : Refusal} → netCheck (cellsIn cells) f ≡ Checked.Refused r → Tells (Written.Refused r) lent (writeCall cells f lent)
+    pub cells-refused : {r : Refusal} → netCheck (cellsIn cells) f ≡ Checked.Refused r → Tells (Written.Refused r) lent (writeCall w cells f lent)
     unfolding writing
-    cells-refused g = rw (write-as, e, g) (refl, refl)
+    cells-refused g = rw (write-as, p, e, g) (refl, refl)
 
     module _ (g : netCheck (cellsIn cells) f ≡ Accepted) where
-      pub write-short : length lent < size → Tells (refused 14) lent (writeCall cells f lent)
+      pub write-short : length lent < size → Tells (refused 14) lent (writeCall w cells f lent)
       unfolding writing
-      write-short h = rw (write-as, e, g, lt-ltb _ _ h) (refl, refl)
+      write-short h = rw (write-as, p, e, g, lt-ltb _ _ h) (refl, refl)
 
-      pub write-done : {d : List ℕ} → size ≤ length lent → d ≡ sets lent 0 (fileOf (cellsIn cells) f)
-          → Tells (Done size f) d (writeCall cells f lent)
+      pub write-done : {d : List ℕ} → size ≤ length lent → d ≡ sets lent 0 (fileOf w (cellsIn cells) f)
+          → Tells (Done size f) d (writeCall w cells f lent)
       unfolding writing
       write-done h q =
-          rw (write-as, e, g, le-ltb _ _ h) (refl, q ∙ sym (overwrite-sets (fileOf (cellsIn cells) f) lent (omega (arith, file-size))))
+          rw (write-as, p, e, g, le-ltb _ _ h) (refl, q ∙ sym (overwrite-sets (fileOf w (cellsIn cells) f) lent (omega (arith, file-size))))

@@ -10,7 +10,8 @@ use Rattle.model.specs.declared.Refusal.{Refusal}
 use Rattle.model.specs.declared.Checked.{Checked}
 use Rattle.model.specs.declared.Checked.the-variants.{Accepted, Refused}
 use Rattle.model.specs.Refusals.{refuse, refuseIf, first, firstFault}
-use Rattle.model.specs.NetlistFile.{cellsAt, inFile, blocksFor, countOf, finishOf, cellsOf, fileLengthWrong, sumFault, countWrong, headerFault, netCheck, fileChecks, fileCheck}
+use Rattle.model.specs.NetlistFile.{pulseOf, pulseWrong, cellsAt, inFile, blocksFor, countOf, finishOf, cellsOf, fileLengthWrong, sumFault, countWrong, headerFault, netCheck, fileChecks, fileCheck}
+use Rattle.laws.specs.NetlistFile.Passed.{pulse-right}
 use Rattle.netlist.specs.declared.cells.Layout.the-variants.{InFile}
 use Rattle.netlist.specs.Offsets.{Room}
 
@@ -34,19 +35,19 @@ module _ (s : List ℕ) where
     unfolding fileCheck
     sums-refused e = rw (l, e) refl
 
-    module _ (sums : firstFault (sumFault s) 0 m ≡ Accepted) {n f : ℕ} (en : n ≡ countOf s) (ef : f ≡ finishOf s) where
-      pub count-refused : countWrong m n f ≡ true → refuse 11 0 ≡ fileCheck s
+    module _ (sums : firstFault (sumFault s) 0 m ≡ Accepted) {n f w : ℕ} (en : n ≡ countOf s) (ef : f ≡ finishOf s) (ew : w ≡ pulseOf s) where
+      pub count-refused : (countWrong m n f || pulseWrong w) ≡ true → refuse 11 0 ≡ fileCheck s
       unfolding fileCheck
-      count-refused e = rw (l, sums, ← en, ← ef, e) refl
+      count-refused e = rw (l, sums, ← en, ← ef, ← ew, e) refl
 
-      module _ (right : countWrong m n f ≡ false) where
+      module _ (right : (countWrong m n f || pulseWrong w) ≡ false) where
         pub headers-refused : {r : Refusal} → firstFault (headerFault s) 0 m ≡ Refused r → Refused r ≡ fileCheck s
         unfolding fileCheck
-        headers-refused e = rw (l, sums, ← en, ← ef, right, e) refl
+        headers-refused e = rw (l, sums, ← en, ← ef, ← ew, right, e) refl
 
         pub cells-decide : {r : Checked} → firstFault (headerFault s) 0 m ≡ Accepted → r ≡ netCheck (cellsAt inFile s 0 n) f → r ≡ fileCheck s
         unfolding fileCheck cellsOf
-        cells-decide {r} e g = rw (l, sums, ← en, ← ef, right, e, ← g) (alone r)
+        cells-decide {r} e g = rw (l, sums, ← en, ← ef, ← ew, right, e, ← g) (alone r)
 
 -- What a test tells --------------------------------------------------------------------------------------------------------------------
 
@@ -114,7 +115,15 @@ module _ (s : List ℕ) (e : fileCheck s ≡ Accepted) where
   unfolding fileCheck
   accepted-counted =
       let m = length s / 512 in
-      counted m (countOf s) (finishOf s) (unless (countWrong m (countOf s) (finishOf s)) 11 0 (passed (fileChecks s) e 2))
+      counted m (countOf s) (finishOf s) (neither (countWrong m (countOf s) (finishOf s)) _ (unless (countWrong m (countOf s) (finishOf s) || pulseWrong (pulseOf s)) 11 0 (passed (fileChecks s) e 2)) .0)
+
+  -- a pulse length of 1 to 8
+  pub accepted-pulse : (1 ≤ pulseOf s) × (pulseOf s ≤ 8)
+  unfolding fileCheck
+  accepted-pulse =
+      let m = length s / 512 in
+      pulse-right (pulseOf s)
+      (neither (countWrong m (countOf s) (finishOf s)) _ (unless (countWrong m (countOf s) (finishOf s) || pulseWrong (pulseOf s)) 11 0 (passed (fileChecks s) e 2)) .1)
 
   pub accepted-room : Room InFile s (countOf s)
   accepted-room = counted-room accepted-whole accepted-counted

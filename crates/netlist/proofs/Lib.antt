@@ -5,3 +5,4 @@ pub mod BlockChecks
 pub mod FileChecks
 pub mod Putting
 pub mod Calls
+pub mod Headers

@@ -12,12 +12,12 @@ use lib.Seq.{sets, take-suc, take-all, getD-drop, drop-drop}
 use Rattle.model.specs.declared.Cell.{Cell}
 use Rattle.model.specs.Word.{pick, bytes16, put16}
 use Rattle.model.specs.Circuit.{cellAt, noCell}
-use Rattle.model.specs.NetlistFile.{cellBytes, sumWith, runningSum, checkFor, block, blocks, blocksFor, fileOf, restBytes}
+use Rattle.model.specs.NetlistFile.{cellBytes, sumWith, runningSum, checkFor, block, blocks, blocksFor, restBytes}
 use Rattle.laws.specs.NetlistFile.CellBytes.{bytes-length, bytes-append}
 use Rattle.laws.specs.Refusals.Laws.{by-bool}
 use Rattle.laws.specs.NetlistFile.RunningSum.{running-sum}
 use Rattle.laws.specs.NetlistFile.Blocks.{blocks-length}
-use Rattle.netlist.specs.declared.blocks.Header.{Header}
+use Rattle.netlist.specs.declared.blocks.BlockHeader.{BlockHeader}
 use Rattle.netlist.specs.Blocks.{headerBytes, firstOf, filledTo, sumTo, Filled}
 use Rattle.laws.specs.Lists.Writes.{sets-append, sets-before}
 use Rattle.netlist.proofs.FileChecks.{neither}
@@ -34,7 +34,7 @@ clear-done d i end h = let e : end - i ≡ 0 = omega arith in rw e refl
 
 -- Headers ------------------------------------------------------------------------------------------------------------------------------
 
-module _ (h : Header) where
+module _ (h : BlockHeader) where
   pub head-put : (d : List ℕ) (i w : ℕ) {d₁ d₂ d₃ d₄ : List ℕ} → d₁ ≡ put16 d i (h .number) → d₂ ≡ put16 d₁ (i + 2) (h .count)
       → d₃ ≡ put16 d₂ (i + 4) (h .finish) → d₄ ≡ put16 d₃ (i + 6) w → d₄ ≡ sets d i (headerBytes h ++ bytes16 w)
   unfolding bytes16 put16
@@ -47,7 +47,7 @@ check-word h g e = omega arith
 -- Blocks -------------------------------------------------------------------------------------------------------------------------------
 
 -- a block's cells, zeros after them, and before them the header with the check that comes from the running sum
-block-put : (d : List ℕ) (i : ℕ) (h : Header) (cs : List Cell) {n sum : ℕ} {d₁ d₂ : List ℕ} → length cs ≡ n → d₁ ≡ sets d (i + 8) (cellBytes cs)
+block-put : (d : List ℕ) (i : ℕ) (h : BlockHeader) (cs : List Cell) {n sum : ℕ} {d₁ d₂ : List ℕ} → length cs ≡ n → d₁ ≡ sets d (i + 8) (cellBytes cs)
     → sum ≡ runningSum (h .number) (h .count) (h .finish) cs
     → d₂ ≡ sets (sets d₁ (i + 8 + 6 * n) (replicate (504 - 6 * n) 0)) i (headerBytes h ++ bytes16 (checkFor sum))
     → d₂ ≡ sets d i (block (h .number) (h .count) (h .finish) cs)
@@ -70,9 +70,9 @@ blocks-last (suc m) b n f cs =
     rw (drop-drop (84 * m) 84 cs) at (blocks-last m (b + 1) n f (drop 84 cs)) in
     rw (e, z, g) (sym (append-assoc (block b n f (take 84 cs)) (blocks m (b + 1) n f (drop 84 cs)) B))
 
-module _ (net : List Cell) (finish : ℕ) (was : List ℕ) where
-  pub filled-none : (sum : ℕ) → Filled net finish was 0 sum was
-  unfolding fileOf blocks cellBytes
+module _ (first : ℕ) (net : List Cell) (finish : ℕ) (was : List ℕ) where
+  pub filled-none : (sum : ℕ) → Filled first net finish was 0 sum was
+  unfolding blocks cellBytes
   filled-none sum = record {
     part = λ _. refl;
     added = λ _ h. absurd (omega (arith, h));
@@ -89,39 +89,38 @@ module _ (net : List Cell) (finish : ℕ) (was : List ℕ) where
         let l : j < length (drop (84 * b) net) = omega (arith, h, length-drop (84 * b) net) in
         rw (add-one j, take-suc (drop (84 * b) net) j noCell l, getD-drop (84 * b) net j noCell, e) refl
 
-    filled-more : {d d′ : List ℕ} → d ≡ filledTo net finish was b j → d′ ≡ sets d (512 * b + 8 + 6 * j) (cellBytes (c ∷ []))
-        → d′ ≡ filledTo net finish was b (j + 1)
+    filled-more : {d d′ : List ℕ} → d ≡ filledTo first net finish was b j → d′ ≡ sets d (512 * b + 8 + 6 * j) (cellBytes (c ∷ []))
+        → d′ ≡ filledTo first net finish was b (j + 1)
     filled-more f g =
         let cs = firstOf net b j in
         let l : 512 * b + 8 + 6 * j ≡ 512 * b + 8 + length (cellBytes cs) =
         omega (arith, bytes-length cs, first-length b j (omega (arith, h))) in
         rw (g, f, first-more, bytes-append cs (c ∷ []), l) (sym (sets-append _ (512 * b + 8) (cellBytes cs) (cellBytes (c ∷ []))))
 
-    sum-more : {s s′ : ℕ} → s ≡ sumTo net finish b j → s′ ≡ sumWith s c → s′ ≡ sumTo net finish b (j + 1)
-    sum-more f g = rw (g, f, first-more) (sym (running-sum b (length net) finish .after (firstOf net b j) c))
+    sum-more : {s s′ : ℕ} → s ≡ sumTo first net finish b j → s′ ≡ sumWith s c → s′ ≡ sumTo first net finish b (j + 1)
+    sum-more f g = rw (g, f, first-more) (sym (running-sum (first + b) (length net) finish .after (firstOf net b j) c))
 
   -- a block that has all its cells, and is closed
-  filled-whole : (b j : ℕ) {h : Header} {sum : ℕ} {d d′ : List ℕ} → 84 * b + j ≤ length net → firstOf net b j ≡ firstOf net b 84
-      → h ≡ record { number = b; count = length net; finish = finish } → d ≡ filledTo net finish was b j → sum ≡ sumTo net finish b j
+  filled-whole : (b j : ℕ) {h : BlockHeader} {sum : ℕ} {d d′ : List ℕ} → 84 * b + j ≤ length net → firstOf net b j ≡ firstOf net b 84
+      → h ≡ record { number = first + b; count = length net; finish = finish } → d ≡ filledTo first net finish was b j → sum ≡ sumTo first net finish b j
       → d′ ≡ sets (sets d (512 * b + 8 + 6 * j) (replicate (504 - 6 * j) 0)) (512 * b) (headerBytes h ++ bytes16 (checkFor sum))
-      → d′ ≡ sets was 0 (blocks (b + 1) 0 (length net) finish net)
+      → d′ ≡ sets was 0 (blocks (b + 1) first (length net) finish net)
   filled-whole b j {h} l a e f s g =
-      let B = blocks b 0 (length net) finish net in
-      let z : 512 * b ≡ 0 + length B = omega (arith, blocks-length b 0 (length net) finish net) in
-      let q : 0 + b ≡ b = omega arith in
+      let B = blocks b first (length net) finish net in
+      let z : 512 * b ≡ 0 + length B = omega (arith, blocks-length b first (length net) finish net) in
       let cs = firstOf net b j in
-      let top : Header = record { number = b; count = length net; finish = finish } in
+      let top : BlockHeader = record { number = first + b; count = length net; finish = finish } in
       let w = block-put (sets was 0 B) (512 * b) top cs (first-length b j l) f s (rw e at g) in
-      rw (add-one b, blocks-last b 0 (length net) finish net, q, ← a, sets-append was 0 B (block b (length net) finish cs), ← z) w
+      rw (add-one b, blocks-last b first (length net) finish net, ← a, sets-append was 0 B (block (first + b) (length net) finish cs), ← z) w
 
   -- the running sum before a cell: its block's header has been added
-  sum-begun : (b j : ℕ) {h : Header} {s s′ : ℕ} → h ≡ record { number = b; count = length net; finish = finish } → (0 < j → s ≡ sumTo net finish b j)
-      → s′ ≡ pick (eqb j 0) (runningSum (h .number) (h .count) (h .finish) []) s → s′ ≡ sumTo net finish b j
+  sum-begun : (b j : ℕ) {h : BlockHeader} {s s′ : ℕ} → h ≡ record { number = first + b; count = length net; finish = finish } → (0 < j → s ≡ sumTo first net finish b j)
+      → s′ ≡ pick (eqb j 0) (runningSum (h .number) (h .count) (h .finish) []) s → s′ ≡ sumTo first net finish b j
   sum-begun b zero e f g = rw (g, e) refl
   sum-begun b (suc j) e f g = rw (g, ne-eqb (suc j) 0 (λ z. omega (arith, z))) (f (omega arith))
 
-  module _ (k : ℕ) {c : Cell} {h : Header} {s s₁ s₂ : ℕ} {d d₁ : List ℕ} (low : k < length net) (here : cellAt net k ≡ c)
-      (head : h ≡ record { number = k / 84; count = length net; finish = finish }) (p : Filled net finish was k s d)
+  module _ (k : ℕ) {c : Cell} {h : BlockHeader} {s s₁ s₂ : ℕ} {d d₁ : List ℕ} (low : k < length net) (here : cellAt net k ≡ c)
+      (head : h ≡ record { number = first + k / 84; count = length net; finish = finish }) (p : Filled first net finish was k s d)
       (begun : s₁ ≡ pick (eqb (k % 84) 0) (runningSum (h .number) (h .count) (h .finish) []) s)
       (put : d₁ ≡ sets d (512 * (k / 84) + 8 + 6 * (k % 84)) (cellBytes (c ∷ [])))
       (added : s₂ ≡ sumWith s₁ c) where
@@ -134,13 +133,13 @@ module _ (net : List Cell) (finish : ℕ) (was : List ℕ) where
     stands : cellAt net (84 * (k / 84) + k % 84) ≡ c
     stands = rw at-k here
 
-    next : d₁ ≡ filledTo net finish was (k / 84) (k % 84 + 1)
+    next : d₁ ≡ filledTo first net finish was (k / 84) (k % 84 + 1)
     next = filled-more (k / 84) (k % 84) inside stands (p .part low) put
 
-    next-sum : s₂ ≡ sumTo net finish (k / 84) (k % 84 + 1)
+    next-sum : s₂ ≡ sumTo first net finish (k / 84) (k % 84 + 1)
     next-sum = sum-more (k / 84) (k % 84) inside stands (sum-begun (k / 84) (k % 84) head (p .added low) begun) added
 
-    pub put-inside : {q : ℕ} → q ≡ length net → (eqb (k % 84) 83 || eqb (k + 1) q) ≡ false → Filled net finish was (k + 1) s₂ d₁
+    pub put-inside : {q : ℕ} → q ≡ length net → (eqb (k % 84) 83 || eqb (k + 1) q) ≡ false → Filled first net finish was (k + 1) s₂ d₁
     put-inside {q} l t =
         let (inner, more) = neither (eqb (k % 84) 83) (eqb (k + 1) q) t in
         let m = eqb-false (k % 84) 83 inner in
@@ -169,8 +168,8 @@ module _ (net : List Cell) (finish : ℕ) (was : List ℕ) where
     pub put-last : {q : ℕ} {d₂ : List ℕ} → q ≡ length net → (eqb (k % 84) 83 || eqb (k + 1) q) ≡ true
         → d₂ ≡ sets (sets d₁ (512 * (k / 84) + 8 + 6 * (k % 84 + 1)) (replicate (504 - 6 * (k % 84 + 1)) 0))
         (512 * (k / 84)) (headerBytes h ++ bytes16 (checkFor s₂))
-        → Filled net finish was (k + 1) s₂ d₂
-    unfolding fileOf cellBytes
+        → Filled first net finish was (k + 1) s₂ d₂
+    unfolding cellBytes
     put-last {q} l t g =
         let closed = filled-whole (k / 84) (k % 84 + 1) (omega (arith, low)) (all-first l t) head next next-sum g in
         record {

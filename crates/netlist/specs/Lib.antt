@@ -3,3 +3,4 @@ pub mod Offsets
 pub mod Inputs
 pub mod Scans
 pub mod Blocks
+pub mod Headers

@@ -8,6 +8,7 @@ pub mod cells; // cells in bytes
 pub mod kinds; // the table of cell kinds
 pub mod rules; // refusal 12
 pub mod blocks; // refusals 10 and 11, and putting blocks in
+pub mod header; // what a file that is accepted tells beside its cells
 
 use cells::Layout;
 use model::Checked;
@@ -36,24 +37,32 @@ pub fn check_file(file: &[u8]) -> Checked
     }
     let count = word::get16(file, 2) as usize;
     let finish = word::get16(file, 4) as usize;
-    if blocks::count_wrong(m, count, finish) {
+    let pulse = blocks::pulse_of(file);
+    if blocks::count_wrong(m, count, finish) | blocks::pulse_wrong(pulse) {
         return Checked::Refused(Refusal {
             number: 11,
             place: 0,
         });
     }
-    let headers = blocks::check_headers(file, m, count, finish);
+    let headers = blocks::check_headers(file, m, pulse, count, finish);
     if let Checked::Refused(r) = headers {
         return Checked::Refused(r);
     }
     rules::check_cells(file, Layout::InFile, count, finish)
 }
 
-// Writes a netlist, of six bytes for each cell, as a file: refusals 11, 12, 14.
-pub fn write_netlist(cells: &[u8], finish: u16, file: &mut [u8]) -> Written
-    ensures answer { λ r. ⌜ r ≡ writeCall (now (cells .entry)) finish (now (file .entry)) .answer ⌝ }
-    ensures lent { λ _. ⌜ now (file .exit) ≡ writeCall (now (cells .entry)) finish (now (file .entry)) .lent ⌝ }
+// Writes a netlist of this pulse length, of six bytes for each cell, as a file: refusals 27, 11, 12, 14.
+pub fn write_netlist(pulse: u8, cells: &[u8], finish: u16, file: &mut [u8]) -> Written
+    ensures answer { λ r. ⌜ r ≡ writeCall pulse (now (cells .entry)) finish (now (file .entry)) .answer ⌝ }
+    ensures lent { λ _. ⌜ now (file .exit) ≡ writeCall pulse (now (cells .entry)) finish (now (file .entry)) .lent ⌝ }
 {
+    let length = pulse as u16;
+    if blocks::pulse_wrong(length) {
+        return Written::Refused(Refusal {
+            number: 27,
+            place: 0,
+        });
+    }
     let n = cells.len() / 6;
     let m = (n + BLOCK_LAST) / BLOCK_CELLS;
     let f = finish as usize;
@@ -74,7 +83,7 @@ pub fn write_netlist(cells: &[u8], finish: u16, file: &mut [u8]) -> Written
             place: 0,
         });
     }
-    blocks::put_file(file, cells, n, finish);
+    blocks::put_file(file, cells, n, length, finish);
     Written::Done { count, finish }
 }
 

@@ -26,15 +26,15 @@ skips-last ends count (suc r) i = skips-last ends count r (past ends count i)
 
 -- the answer from root r on
 unfoldable pub fromRoot : Bool → ℕ → List ℕ → List ℕ → ℕ → Checked
-fromRoot late k s ends r = inRoots (rootFault late) r (drop r (roots (programOf k s))) (skips ends (nodeCount s) r 0)
+fromRoot late k s ends r = inRoots (rootFault late) r (drop r (roots (programOf 1 k s))) (skips ends (nodeCount s) r 0)
 
-pub root-start : (late : Bool) (k : ℕ) (s ends : List ℕ) → inRoots (rootFault late) 0 (roots (programOf k s)) 0 ≡ fromRoot late k s ends 0
+pub root-start : (late : Bool) (k : ℕ) (s ends : List ℕ) → inRoots (rootFault late) 0 (roots (programOf 1 k s)) 0 ≡ fromRoot late k s ends 0
 unfolding skips fromRoot
 root-start late k s ends = refl
 
 module _ (late : Bool) {k : ℕ} {s ends : List ℕ} (R : Rooted k s ends) where
   abbrev S : Program
-  S = programOf k s
+  S = programOf 1 k s
 
   pub root-end : (r : ℕ) → k < r → Accepted ≡ fromRoot late k s ends r
   unfolding inRoots fromRoot

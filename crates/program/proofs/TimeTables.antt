@@ -14,8 +14,8 @@ use Rattle.model.specs.declared.Checked.the-variants.{Accepted, Refused}
 use Rattle.model.specs.Refusals.{refuse, first, firstFault}
 use Rattle.model.specs.Program.{timeIn}
 use Rattle.model.specs.ProgramChecks.{programChecks, checkOf}
-use Rattle.model.specs.NetlistFile.{wordSum}
-use Rattle.model.specs.TimeTables.{byteWrong, tableFault, tableSumWrong, tableChecks}
+use Rattle.model.specs.NetlistFile.{wordSum, pulseWrong}
+use Rattle.model.specs.TimeTables.{byteWrong, tableFault, tableSumWrong, tableChecks, givenCheck}
 use Rattle.model.specs.Calls.{checkCall}
 use Rattle.laws.specs.Refusals.Laws.{first-one}
 
@@ -44,12 +44,22 @@ module _ (file : List ℕ) where
     unfolding tableSumWrong
     at-bytes z q = rw (eq-eqb _ _ l, ← words-are, z) (q ∙ first-one _)
 
--- A table's refusal comes before those of a program.
-module _ (options : Options) (s : List ℕ) where
-  pub table-refuses : {r : Refusal} → options .checked ≡ Refused r → checkCall options s ≡ Refused r
-  unfolding checkCall
-  table-refuses e = rw e refl
+-- The pulse length, and then the table; their refusals come before those of a program.
+module _ (options : Options) where
+  pub pulse-refuses : pulseWrong (options .pulse) ≡ true → refuse 27 0 ≡ givenCheck options
+  unfolding givenCheck
+  pulse-refuses e = rw e refl
 
-  pub table-accepts : options .checked ≡ Accepted → checkCall options s ≡ first (programChecks (timeIn (options .times)) (options .procedures) s)
+  pub pulse-accepts : pulseWrong (options .pulse) ≡ false → options .checked ≡ givenCheck options
+  unfolding givenCheck
+  pulse-accepts e = rw e (first-one _)
+
+module _ (options : Options) (s : List ℕ) where
+  pub given-refuses : {r : Refusal} → givenCheck options ≡ Refused r → checkCall options s ≡ Refused r
+  unfolding checkCall
+  given-refuses e = rw e refl
+
+  pub given-accepts : givenCheck options ≡ Accepted
+      → checkCall options s ≡ first (programChecks (timeIn (options .times)) (options .pulse) (options .procedures) s)
   unfolding checkCall checkOf
-  table-accepts e = rw e (sym (first-one _))
+  given-accepts e = rw e (sym (first-one _))

@@ -66,17 +66,17 @@ getD-before (Q ∷ Qs) P (suc p) l = getD-before Qs P p (omega arith)
 
 module _ {k : ℕ} {s ends : List ℕ} (R : Rooted k s ends) where
   abbrev S : Program
-  S = programOf k s
+  S = programOf 1 k s
 
   pub count-roots : length (roots S) ≡ k + 1
-  count-roots = length-append (S .bodies) (S .main ∷ []) ∙ ap (λ (n : ℕ). n + 1) (count-bodies k s (R .readable))
+  count-roots = length-append (S .bodies) (S .main ∷ []) ∙ ap (λ (n : ℕ). n + 1) (count-bodies k s (R .readable) 1)
 
   root-tree : (r i : ℕ) → r ≤ k → i ≡ skips ends (nodeCount s) r 0 → treeAt s i ≡ stmt (getD (roots S) r ok)
   root-tree r i l e =
       ap (λ (i : ℕ). treeAt s i) e
       ∙ ap (λ (ts : List Tree). getD ts 0 none) (skips-trees s ends 0 (λ j m n. R .laid .each j n) r 0 (omega arith))
       ∙ getD-drop r (treesAt s 0) 0 none ∙ ap (λ (n : ℕ). getD (treesAt s 0) n none) (add-zero r)
-      ∙ ap (λ (ts : List Tree). getD ts r none) (program-trees k s (R .readable))
+      ∙ ap (λ (ts : List Tree). getD ts r none) (program-trees k s (R .readable) 1)
       ∙ getD-stmts (roots S) r (omega (arith, count-roots))
 
   -- root r
@@ -91,4 +91,4 @@ module _ {k : ℕ} {s ends : List ℕ} (R : Rooted k s ends) where
   -- body p
   pub body-is : (p i : ℕ) → p < k → i ≡ skips ends (nodeCount s) p 0 → stmtAt s i ≡ bodyAt (S .bodies) p
   body-is p i l e =
-      root-is p i (omega arith) e ∙ getD-before (S .bodies) (S .main) p (omega (arith, count-bodies k s (R .readable)))
+      root-is p i (omega arith) e ∙ getD-before (S .bodies) (S .main) p (omega (arith, count-bodies k s (R .readable) 1))

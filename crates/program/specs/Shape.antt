@@ -23,18 +23,18 @@ pub record Shaped (τ : ℕ → ℕ) (s times ends : List ℕ) (j : ℕ) : Type 
   pub end : EndAt s ends j
   pub timed : getD times j 0 ≡ time τ (exprAt s j)
 
--- the refusals after 6, of a program with k procedures
-pub record Measures (operators : List ℕ) (k : ℕ) (s : List ℕ) (r : Scanned) : Type 0 where
-  pub checked : r .checked ≡ first (drop 3 (programChecks (timeIn operators) k s))
+-- the refusals after 6, of a program with pulse length w and k procedures
+pub record Measures (operators : List ℕ) (w k : ℕ) (s : List ℕ) (r : Scanned) : Type 0 where
+  pub checked : r .checked ≡ first (drop 3 (programChecks (timeIn operators) w k s))
   pub shaped : (j : ℕ) → j < nodeCount s → Shaped (timeIn operators) s (r .times) (r .ends) j
 
 -- all of the program's own; of a refused program the arrays are free
-pub record ScansBy (operators : List ℕ) (k : ℕ) (s : List ℕ) (r : Scanned) : Type 0 where
-  pub checked : r .checked ≡ first (programChecks (timeIn operators) k s)
-  pub shaped : first (programChecks (timeIn operators) k s) ≡ Accepted → (j : ℕ) → j < nodeCount s
+pub record ScansBy (operators : List ℕ) (w k : ℕ) (s : List ℕ) (r : Scanned) : Type 0 where
+  pub checked : r .checked ≡ first (programChecks (timeIn operators) w k s)
+  pub shaped : first (programChecks (timeIn operators) w k s) ≡ Accepted → (j : ℕ) → j < nodeCount s
       → Shaped (timeIn operators) s (r .times) (r .ends) j
 
--- all refusals, the table's first
+-- all refusals, those of what is given first
 pub record Scans (options : Options) (s : List ℕ) (r : Scanned) : Type 0 where
   pub checked : r .checked ≡ checkCall options s
   pub shaped : checkCall options s ≡ Accepted → (j : ℕ) → j < nodeCount s → Shaped (timeIn (options .times)) s (r .times) (r .ends) j

@@ -12,7 +12,7 @@ use lib.Dec.{T, ltb, eqb}
 use borrow.Author.Tests.{lt-ltb, le-ltb, ne-eqb, eqb-true, eqb-false}
 use Rattle.model.specs.declared.Node.{Node}
 use Rattle.model.specs.Word.{pick}
-use Rattle.model.specs.Program.{Expr, while, repeat, Tree, nodeAt, nodeCount, nodesAt, none, asExpr, asStmt, exprOf, stmtOf, treeOf, arity, grow, forest, treesAt, exprAt, stmtAt, time, least, node}
+use Rattle.model.specs.Program.{Expr, while, repeat, Tree, nodeAt, nodeCount, nodesAt, none, asExpr, asStmt, exprOf, stmtOf, treeOf, arity, grow, forest, treesAt, exprAt, stmtAt, time, gap, least, node}
 use Rattle.model.specs.ProgramChecks.{delayFault}
 use Rattle.laws.specs.Refusals.Laws.{by-bool, or-false}
 use Rattle.laws.specs.Program.Trees.{length-nodes, expr-none, by-pick, other-kind, treeAt, tree-is, tree-of, no-expr, no-stmt, at-const, at-var, at-compl, at-elem, at-op, at-ok, at-assign-elem, at-loop, at-exit, at-call}
@@ -56,9 +56,9 @@ module _ (τ : ℕ → ℕ) (s : List ℕ) (i : ℕ) (h : i < nodeCount s) (a : 
 -- Least delays -------------------------------------------------------------------------------------------------------------------------
 
 -- while and repeat have the same
-turns-least : (τ : ℕ → ℕ) (a : Node) (x y z : Tree) → 22 ≤ a .kind → (a .kind ≡ 24 → ⊥) → (a .kind ≡ 25 → ⊥) → (a .kind ≡ 26 → ⊥) → (a .kind ≡ 27 → ⊥) → least τ (asStmt (treeOf a x y z)) ≡ max 1 (time τ (asExpr x))
+turns-least : (τ : ℕ → ℕ) (w : ℕ) (a : Node) (x y z : Tree) → 22 ≤ a .kind → (a .kind ≡ 24 → ⊥) → (a .kind ≡ 25 → ⊥) → (a .kind ≡ 26 → ⊥) → (a .kind ≡ 27 → ⊥) → least τ w (asStmt (treeOf a x y z)) ≡ max (gap w) (time τ (asExpr x))
 unfolding treeOf stmtOf asStmt least
-turns-least τ a x y z l n p q c = rw (le-ltb _ _ high, no 16 tt, no 17 tt, no 18 tt, no 19 tt, no 20 tt, no 21 tt, ne-eqb _ _ n, ne-eqb _ _ p, ne-eqb _ _ q, ne-eqb _ _ c) (either (eqb (a .kind) 22))
+turns-least τ w a x y z l n p q c = rw (le-ltb _ _ high, no 16 tt, no 17 tt, no 18 tt, no 19 tt, no 20 tt, no 21 tt, ne-eqb _ _ n, ne-eqb _ _ p, ne-eqb _ _ q, ne-eqb _ _ c) (either (eqb (a .kind) 22))
   where
     high : 16 ≤ a .kind
     high = omega arith
@@ -66,84 +66,83 @@ turns-least τ a x y z l n p q c = rw (le-ltb _ _ high, no 16 tt, no 17 tt, no 1
     no : (q : ℕ) → T (ltb q 22) → eqb (a .kind) q ≡ false
     no q = other-kind (a .kind) 22 q l
 
-    either : (b : Bool) → least τ (pick b (while (a .delay) (asExpr x) (asStmt y)) (repeat (a .delay) (asExpr x) (asStmt y))) ≡ max 1 (time τ (asExpr x))
+    either : (b : Bool) → least τ w (pick b (while (a .delay) (asExpr x) (asStmt y)) (repeat (a .delay) (asExpr x) (asStmt y))) ≡ max (gap w) (time τ (asExpr x))
     either true = refl
     either false = refl
 
-assigned : {k : ℕ} → 16 < k → (k ≡ 17 → ⊥) → (k ≡ 19 → ⊥) → (k ≡ 20 → ⊥) → (k ≡ 21 → ⊥) → k < 22 → k ≡ 18
-assigned l n p q r m = omega arith
+turning : {k : ℕ} → 16 < k → (k ≡ 17 → ⊥) → (k ≡ 18 → ⊥) → (k ≡ 19 → ⊥) → (k ≡ 20 → ⊥) → (k ≡ 21 → ⊥) → 22 ≤ k
+turning l n o p q r = omega arith
 
-module _ (τ : ℕ → ℕ) (s : List ℕ) (i : ℕ) (h : i < nodeCount s) (a : Node) (ea : a ≡ nodeAt s i) where
+module _ (τ : ℕ → ℕ) (w : ℕ) (s : List ℕ) (i : ℕ) (h : i < nodeCount s) (a : Node) (ea : a ≡ nodeAt s i) where
   of-kind : (q : ℕ) → a .kind ≡ q
-      → least τ (stmtAt s i)
-      ≡ least τ (asStmt (treeOf (node q (a .delay) (a .n)) (treeAt s (i + 1)) (getD (treesAt s (i + 1)) 1 none) (getD (treesAt s (i + 1)) 2 none)))
+      → least τ w (stmtAt s i)
+      ≡ least τ w (asStmt (treeOf (node q (a .delay) (a .n)) (treeAt s (i + 1)) (getD (treesAt s (i + 1)) 1 none) (getD (treesAt s (i + 1)) 2 none)))
   unfolding stmtAt
-  of-kind q e = ap (λ (t : Tree). least τ (asStmt t)) (tree-of s i h a ea q e)
+  of-kind q e = ap (λ (t : Tree). least τ w (asStmt t)) (tree-of s i h a ea q e)
 
-  pub least-low : a .kind ≤ 16 → 0 ≡ least τ (stmtAt s i)
+  pub least-low : a .kind ≤ 16 → 0 ≡ least τ w (stmtAt s i)
   unfolding least
   least-low l = go (decLt (a .kind) 16)
     where
-      go : Dec (a .kind < 16) → 0 ≡ least τ (stmtAt s i)
-      go (yes m) = sym (ap (least τ) (no-stmt s i h a ea m))
-      go (no n) = let e : a .kind ≡ 16 = omega arith in sym (ap (least τ) (at-ok s i h a ea e))
+      go : Dec (a .kind < 16) → 0 ≡ least τ w (stmtAt s i)
+      go (yes m) = sym (ap (least τ w) (no-stmt s i h a ea m))
+      go (no n) = let e : a .kind ≡ 16 = omega arith in sym (ap (least τ w) (at-ok s i h a ea e))
 
-  pub least-tick : a .kind ≡ 17 → 1 ≡ least τ (stmtAt s i)
+  pub least-tick : a .kind ≡ 17 → 1 ≡ least τ w (stmtAt s i)
   unfolding treeOf stmtOf asStmt least
   least-tick e = sym (of-kind 17 e)
 
-  pub least-seq : a .kind ≡ 19 → 0 ≡ least τ (stmtAt s i)
+  pub least-seq : a .kind ≡ 19 → 0 ≡ least τ w (stmtAt s i)
   unfolding treeOf stmtOf asStmt least
   least-seq e = sym (of-kind 19 e)
 
-  pub least-par : a .kind ≡ 20 → 0 ≡ least τ (stmtAt s i)
+  pub least-par : a .kind ≡ 20 → 0 ≡ least τ w (stmtAt s i)
   unfolding treeOf stmtOf asStmt least
   least-par e = sym (of-kind 20 e)
 
-  pub least-one : (eqb (a .kind) 25 || eqb (a .kind) 27) ≡ true → 1 ≡ least τ (stmtAt s i)
+  pub least-again : (eqb (a .kind) 25 || eqb (a .kind) 27) ≡ true → gap w ≡ least τ w (stmtAt s i)
   unfolding least
-  least-one t =
-      by-bool (eqb (a .kind) 25) (λ e. sym (ap (least τ) (at-loop s i h a ea (eqb-true _ _ e))))
-      (λ e. sym (ap (least τ) (at-call s i h a ea (eqb-true _ _ (rw e at t)))))
+  least-again t =
+      by-bool (eqb (a .kind) 25) (λ e. sym (ap (least τ w) (at-loop s i h a ea (eqb-true _ _ e))))
+      (λ e. sym (ap (least τ w) (at-call s i h a ea (eqb-true _ _ (rw e at t)))))
 
-  pub least-exit : a .kind ≡ 26 → 0 ≡ least τ (stmtAt s i)
+  pub least-exit : a .kind ≡ 26 → 0 ≡ least τ w (stmtAt s i)
   unfolding least
-  least-exit e = sym (ap (least τ) (at-exit s i h a ea e))
+  least-exit e = sym (ap (least τ w) (at-exit s i h a ea e))
 
   module _ (t : ℕ) (et : t ≡ time τ (exprAt s (i + 1))) where
-    pub least-if : a .kind ≡ 21 → t ≡ least τ (stmtAt s i)
+    pub least-if : a .kind ≡ 21 → t ≡ least τ w (stmtAt s i)
     unfolding treeOf stmtOf asStmt least exprAt
     least-if e = et ∙ sym (of-kind 21 e)
 
-    least-turns : 22 ≤ a .kind → (a .kind ≡ 24 → ⊥) → (a .kind ≡ 25 → ⊥) → (a .kind ≡ 26 → ⊥) → (a .kind ≡ 27 → ⊥) → least τ (stmtAt s i) ≡ max 1 (time τ (exprAt s (i + 1)))
-    unfolding stmtAt exprAt
-    least-turns l n p q c = ap (λ (t : Tree). least τ (asStmt t)) (tree-is s i h a ea) ∙ turns-least τ a _ _ _ l n p q c
+    pub least-assign : a .kind ≡ 18 → max 1 t ≡ least τ w (stmtAt s i)
+    unfolding treeOf stmtOf asStmt least exprAt
+    least-assign e = ap (max 1) et ∙ sym (of-kind 18 e)
 
     -- an element assignment's second child is the tree of node j
     pub least-elem : a .kind ≡ 24 → (j : ℕ) → treesAt s j ≡ drop 1 (treesAt s (i + 1)) → (u : ℕ) → u ≡ time τ (exprAt s j)
-        → max 1 (max t u) ≡ least τ (stmtAt s i)
+        → max 1 (max t u) ≡ least τ w (stmtAt s i)
     unfolding least
-    least-elem e j ej u eu = ap (max 1) (ap₂ max et eu) ∙ sym (ap (least τ) (at-assign-elem s i h a ea j ej e))
+    least-elem e j ej u eu = ap (max 1) (ap₂ max et eu) ∙ sym (ap (least τ w) (at-assign-elem s i h a ea j ej e))
 
-    -- assignments to variables, while and repeat
+    -- while and repeat
     pub least-other : 16 < a .kind → (a .kind ≡ 17 → ⊥) → (a .kind ≡ 19 → ⊥) → (a .kind ≡ 20 → ⊥)
-        → (eqb (a .kind) 25 || eqb (a .kind) 27) ≡ false → (a .kind ≡ 26 → ⊥) → (a .kind ≡ 21 → ⊥) → (a .kind ≡ 24 → ⊥) → max 1 t ≡ least τ (stmtAt s i)
-    unfolding treeOf stmtOf asStmt least exprAt stmtAt
-    least-other l n p q u v r w = ap (max 1) et ∙ sym (go (decLt (a .kind) 22))
-      where
-        go : Dec (a .kind < 22) → least τ (stmtAt s i) ≡ max 1 (time τ (exprAt s (i + 1)))
-        go (yes m) = of-kind 18 (assigned l n p q r m)
-        go (no n) = let m : 22 ≤ a .kind = omega arith in
-            let o = or-false (eqb (a .kind) 25) (eqb (a .kind) 27) u in
-            least-turns m w (eqb-false _ _ (o .0)) v (eqb-false _ _ (o .1))
+        → (eqb (a .kind) 25 || eqb (a .kind) 27) ≡ false → (a .kind ≡ 26 → ⊥) → (a .kind ≡ 21 → ⊥) → (a .kind ≡ 24 → ⊥) → (a .kind ≡ 18 → ⊥)
+        → max (gap w) t ≡ least τ w (stmtAt s i)
+    unfolding stmtAt exprAt
+    least-other l n p q u v r m o =
+        let k : 22 ≤ a .kind = turning l n o p q r in
+        let c = or-false (eqb (a .kind) 25) (eqb (a .kind) 27) u in
+        ap (max (gap w)) et
+        ∙ sym (ap (λ (t : Tree). least τ w (asStmt t)) (tree-is s i h a ea) ∙ turns-least τ w a _ _ _ k m (eqb-false _ _ (c .0)) v (eqb-false _ _ (c .1)))
 
 -- a delay, and the least that it may be
-module _ (τ : ℕ → ℕ) (s : List ℕ) (i : ℕ) (a : Node) (ea : a ≡ nodeAt s i) (l : ℕ) (el : l ≡ least τ (stmtAt s i)) where
-  pub slow-at : a .delay < l → delayFault τ s i ≡ 7
+module _ (τ : ℕ → ℕ) (w : ℕ) (s : List ℕ) (i : ℕ) (a : Node) (ea : a ≡ nodeAt s i) (l : ℕ) (el : l ≡ least τ w (stmtAt s i)) where
+  pub slow-at : a .delay < l → delayFault τ w s i ≡ 7
   unfolding delayFault
   slow-at m = rw (← ea, ← el, lt-ltb _ _ m)
 
-  pub not-slow-at : l ≤ a .delay → delayFault τ s i ≡ 0
+  pub not-slow-at : l ≤ a .delay → delayFault τ w s i ≡ 0
   unfolding delayFault
   not-slow-at m = rw (← ea, ← el, le-ltb _ _ m)
 

@@ -67,7 +67,7 @@ fn uses(program: &[u8], ends: &[usize; 200], i: usize, mark: Mark, bodies: &[boo
 // Which bodies do it: each by those before it.
 fn bodies_with(program: &[u8], ends: &[usize; 200], procedures: usize, mark: Mark) -> [bool; 8]
     requires { ⌜ Rooted procedures (now program) (now ends) ⌝ }
-    ensures { λ r. ⌜ ((p : ℕ) → getD r p false ≡ carried (programOf procedures (now (program .entry)) .bodies) mark p) ⌝ }
+    ensures { λ r. ⌜ ((p : ℕ) → getD r p false ≡ carried (programOf 1 procedures (now (program .entry)) .bodies) mark p) ⌝ }
 {
     let count = program.len() / NODE;
     let mut bodies = [false; 8];
@@ -83,7 +83,7 @@ fn bodies_with(program: &[u8], ends: &[usize; 200], procedures: usize, mark: Mar
 // The statement at node i does it, itself or through calls.
 fn does(program: &[u8], ends: &[usize; 200], procedures: usize, i: usize, mark: Mark) -> bool
     requires { ⌜ Rooted procedures (now program) (now ends) × Side (now program) (now ends) i ⌝ }
-    ensures { λ r. ⌜ r ≡ has (programOf procedures (now (program .entry)) .bodies) mark (stmtAt (now (program .entry)) i) ⌝ }
+    ensures { λ r. ⌜ r ≡ has (programOf 1 procedures (now (program .entry)) .bodies) mark (stmtAt (now (program .entry)) i) ⌝ }
 {
     let bodies = bodies_with(program, ends, procedures, mark);
     uses(program, ends, i, mark, &bodies)
@@ -128,7 +128,7 @@ fn crosses(
     x: u16,
 ) -> bool
     requires { ⌜ Rooted procedures (now program) (now ends) × Side (now program) (now ends) p × Side (now program) (now ends) q ⌝ }
-    ensures { λ r. ⌜ r ≡ crossing (programOf procedures (now (program .entry)) .bodies) shared (stmtAt (now (program .entry)) p) (stmtAt (now (program .entry)) q) x ⌝ }
+    ensures { λ r. ⌜ r ≡ crossing (programOf 1 procedures (now (program .entry)) .bodies) shared (stmtAt (now (program .entry)) p) (stmtAt (now (program .entry)) q) x ⌝ }
 {
     does(program, ends, procedures, p, mark_of(shared, false, x))
         && does(program, ends, procedures, q, mark_of(shared, true, x))
@@ -137,7 +137,7 @@ fn crosses(
 // Refusal 8 or, where `shared` is set, 25: parallel nodes in node order, and for each the variables and arrays, or the procedures.
 pub fn first_clash(program: &[u8], ends: &[usize; 200], procedures: usize, shared: bool) -> Checked
     requires { ⌜ Rooted procedures (now program) (now ends) ⌝ }
-    ensures { λ r. ⌜ r ≡ firstFault (clashFault (programOf procedures (now (program .entry)) .bodies) shared (now (program .entry))) 0 (nodeCount (now (program .entry))) ⌝ }
+    ensures { λ r. ⌜ r ≡ firstFault (clashFault (programOf 1 procedures (now (program .entry)) .bodies) shared (now (program .entry))) 0 (nodeCount (now (program .entry))) ⌝ }
 {
     let count = program.len() / NODE;
     let most = most_of(shared, procedures);

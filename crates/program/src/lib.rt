@@ -41,15 +41,16 @@ fn refused(number: u8, place: usize) -> Checked
 // Refusals 7, 25 and 8.
 fn last_check(
     operators: &[u8],
+    pulse: u8,
     program: &[u8],
     procedures: usize,
     times: &[u16; 200],
     ends: &[usize; 200],
 ) -> Checked
     requires { ⌜ Rooted procedures (now program) (now ends) × ((j : ℕ) → j < nodeCount (now program) → Shaped (timeIn (now operators)) (now program) (now times) (now ends) j) ⌝ }
-    ensures { λ r. ⌜ r ≡ first (drop 5 (programChecks (timeIn (now (operators .entry))) procedures (now (program .entry)))) ⌝ }
+    ensures { λ r. ⌜ r ≡ first (drop 5 (programChecks (timeIn (now (operators .entry))) pulse procedures (now (program .entry)))) ⌝ }
 {
-    let slow = times::first_slow(operators, program, times, ends);
+    let slow = times::first_slow(operators, pulse, program, times, ends);
     match slow {
         Checked::Refused(r) => Checked::Refused(r),
         Checked::Accepted => {
@@ -65,13 +66,14 @@ fn last_check(
 // Refusals 22 and 24, and then those.
 fn late_check(
     operators: &[u8],
+    pulse: u8,
     program: &[u8],
     procedures: usize,
     times: &[u16; 200],
     ends: &[usize; 200],
 ) -> Checked
     requires { ⌜ Rooted procedures (now program) (now ends) × ((j : ℕ) → j < nodeCount (now program) → Shaped (timeIn (now operators)) (now program) (now times) (now ends) j) ⌝ }
-    ensures { λ r. ⌜ r ≡ first (drop 3 (programChecks (timeIn (now (operators .entry))) procedures (now (program .entry)))) ⌝ }
+    ensures { λ r. ⌜ r ≡ first (drop 3 (programChecks (timeIn (now (operators .entry))) pulse procedures (now (program .entry)))) ⌝ }
 {
     let loose = roots::first_in_roots(program, ends, procedures, false);
     match loose {
@@ -80,16 +82,16 @@ fn late_check(
             let late = roots::first_in_roots(program, ends, procedures, true);
             match late {
                 Checked::Refused(r) => Checked::Refused(r),
-                Checked::Accepted => last_check(operators, program, procedures, times, ends),
+                Checked::Accepted => last_check(operators, pulse, program, procedures, times, ends),
             }
         }
     }
 }
 
 // The arrays, filled from the last node to the first, and the refusals that read them.
-fn measure(operators: &[u8], program: &[u8], procedures: usize) -> Scanned
+fn measure(operators: &[u8], pulse: u8, program: &[u8], procedures: usize) -> Scanned
     requires { ⌜ Readable procedures (now program) ⌝ }
-    ensures { λ r. ⌜ Measures (now (operators .entry)) procedures (now (program .entry)) r ⌝ }
+    ensures { λ r. ⌜ Measures (now (operators .entry)) pulse procedures (now (program .entry)) r ⌝ }
 {
     let count = program.len() / NODE;
     let mut times = [0u16; 200];
@@ -104,7 +106,7 @@ fn measure(operators: &[u8], program: &[u8], procedures: usize) -> Scanned
         times[i] = time;
         ends[i] = end;
     }
-    let checked = late_check(operators, program, procedures, &times, &ends);
+    let checked = late_check(operators, pulse, program, procedures, &times, &ends);
     Scanned {
         checked,
         times,
@@ -124,26 +126,26 @@ fn unscanned(refusal: Refusal) -> Scanned
 }
 
 // Refusals 1 to 8, 22, 24 and 25 under operator times, with the arrays.
-fn scan_by(operators: &[u8], program: &[u8], procedures: usize) -> Scanned
-    ensures { λ r. ⌜ ScansBy (now (operators .entry)) procedures (now (program .entry)) r ⌝ }
+fn scan_by(operators: &[u8], pulse: u8, program: &[u8], procedures: usize) -> Scanned
+    ensures { λ r. ⌜ ScansBy (now (operators .entry)) pulse procedures (now (program .entry)) r ⌝ }
 {
     let early = reading::early_check(program, procedures);
     match early {
         Checked::Refused(r) => unscanned(r),
-        Checked::Accepted => measure(operators, program, procedures),
+        Checked::Accepted => measure(operators, pulse, program, procedures),
     }
 }
 
-// All refusals, those of the options first, with the arrays that the compiler and the reference run go by.
+// All refusals, those of what is given first, with the arrays that the compiler and the reference run go by.
 pub fn scan(options: Options, program: &[u8]) -> Scanned
     ensures { λ r. ⌜ Scans options (now (program .entry)) r ⌝ }
 {
-    let beside = options.checked;
+    let beside = tables::check_given(options);
     match beside {
         Checked::Refused(r) => unscanned(r),
         Checked::Accepted => {
             let operators = options.times;
-            scan_by(&operators, program, options.procedures)
+            scan_by(&operators, options.pulse, program, options.procedures)
         }
     }
 }

@@ -106,7 +106,7 @@ fn first_misread(program: &[u8], procedures: usize) -> Checked
 
 // Refusals 1 to 6, which no operator time touches.
 pub fn early_check(program: &[u8], procedures: usize) -> Checked
-    ensures { λ r. ⌜ ((τ : ℕ → ℕ) → r ≡ first (take 3 (programChecks τ procedures (now (program .entry))))) ⌝ }
+    ensures { λ r. ⌜ ((τ : ℕ → ℕ) (w : ℕ) → r ≡ first (take 3 (programChecks τ w procedures (now (program .entry))))) ⌝ }
 {
     if (MOST_PROCEDURES < procedures) | length_wrong(program) {
         return refused(1, 0);

@@ -77,7 +77,7 @@ fn root_fault(program: &[u8], ends: &[usize; 200], i: usize, r: usize, late: boo
 // In all roots.
 pub fn first_in_roots(program: &[u8], ends: &[usize; 200], procedures: usize, late: bool) -> Checked
     requires { ⌜ Rooted procedures (now program) (now ends) ⌝ }
-    ensures { λ c. ⌜ c ≡ inRoots (rootFault late) 0 (roots (programOf procedures (now (program .entry)))) 0 ⌝ }
+    ensures { λ c. ⌜ c ≡ inRoots (rootFault late) 0 (roots (programOf 1 procedures (now (program .entry)))) 0 ⌝ }
 {
     let count = program.len() / NODE;
     let mut r: usize = 0;

@@ -1,9 +1,10 @@
-// What is given beside a program: nothing, or a file of operator times, with refusals 19 to 21, and the number of procedures.
+// What is given beside a program: nothing, or a file of operator times, with refusals 19 to 21, the number of procedures, and the pulse length,
+// with refusal 27.
 // Contracts are equations with the definitions of model/TimeTables.
 ghost use mathlib.Core.Path.{_≡_};
 ghost use lib.ListN.{length, getD};
 ghost use Rattle.model.specs.Refusals.{first, firstFault};
-ghost use Rattle.model.specs.TimeTables.{byteWrong, tableFault, tableChecks, builtIn, given, givenIf, beside, load, defaults};
+ghost use Rattle.model.specs.TimeTables.{byteWrong, tableFault, tableChecks, builtIn, given, givenIf, beside, load, defaults, givenCheck};
 use crate::refused;
 use model::Checked;
 use model::Options;
@@ -12,22 +13,23 @@ use model::sizes::BLOCK;
 // The paper's operator times: entry k is that of kind k.
 const BUILT_IN: [u8; 11] = [0, 0, 0, 1, 16, 17, 1, 1, 6, 17, 4];
 
-// The built-in times, with so many procedures.
-fn built_in(procedures: usize) -> Options
-    ensures { λ r. ⌜ r ≡ load (beside builtIn procedures) ⌝ }
+// The built-in times, with so many procedures and this pulse length.
+fn built_in(procedures: usize, pulse: u8) -> Options
+    ensures { λ r. ⌜ r ≡ load (beside builtIn procedures pulse) ⌝ }
 {
     Options {
         checked: Checked::Accepted,
         times: BUILT_IN,
         procedures,
+        pulse,
     }
 }
 
-// What stands for 'nothing given': the built-in times, and no procedures.
+// What stands for 'nothing given': the built-in times, no procedures, and pulses of one instant.
 pub fn defaults() -> Options
     ensures { λ r. ⌜ r ≡ defaults ⌝ }
 {
-    built_in(0)
+    built_in(0, 1)
 }
 
 // Byte i of a table may not be b; bytes 6 and 7 are the check.
@@ -81,8 +83,8 @@ fn byte_at(file: &[u8], i: usize) -> u8
 }
 
 // The times that a file gives. Of a refused one they are of no use.
-pub fn load(file: &[u8], procedures: usize) -> Options
-    ensures { λ r. ⌜ r ≡ load (beside (given (now (file .entry))) procedures) ⌝ }
+pub fn load(file: &[u8], procedures: usize, pulse: u8) -> Options
+    ensures { λ r. ⌜ r ≡ load (beside (given (now (file .entry))) procedures pulse) ⌝ }
 {
     let checked = check_table(file);
     let times = [
@@ -102,15 +104,26 @@ pub fn load(file: &[u8], procedures: usize) -> Options
         checked,
         times,
         procedures,
+        pulse,
     }
 }
 
 // With a flag that tells whether a file is given.
-pub fn load_if(timed: bool, file: &[u8], procedures: usize) -> Options
-    ensures { λ r. ⌜ r ≡ load (beside (givenIf timed (now (file .entry))) procedures) ⌝ }
+pub fn load_if(timed: bool, file: &[u8], procedures: usize, pulse: u8) -> Options
+    ensures { λ r. ⌜ r ≡ load (beside (givenIf timed (now (file .entry))) procedures pulse) ⌝ }
 {
     if timed {
-        return load(file, procedures);
+        return load(file, procedures, pulse);
     }
-    built_in(procedures)
+    built_in(procedures, pulse)
+}
+
+// Refusal 27, and then what the check of the table says.
+pub fn check_given(options: Options) -> Checked
+    ensures { λ r. ⌜ r ≡ givenCheck options ⌝ }
+{
+    if (options.pulse == 0) | (8 < options.pulse) {
+        return refused(27, 0);
+    }
+    options.checked
 }

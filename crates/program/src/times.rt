@@ -4,7 +4,7 @@ ghost use mathlib.Core.Path.{_≡_};
 ghost use Prim.Native.Nat.{ℕ, _+_, _≤_, _<_, max};
 ghost use lib.ListN.{length, getD};
 ghost use Rattle.model.specs.Refusals.{firstFault};
-ghost use Rattle.model.specs.Program.{nodeCount, exprAt, stmtAt, time, timeIn, least};
+ghost use Rattle.model.specs.Program.{nodeCount, exprAt, stmtAt, time, timeIn, gap, least};
 ghost use Rattle.model.specs.ProgramChecks.{delayFault};
 ghost use Rattle.program.specs.Shape.{Shaped};
 use crate::nodes;
@@ -77,16 +77,24 @@ pub fn time_at(
     operator + larger(first, second)
 }
 
+// The least delay of a loop and of a call, for this pulse length.
+fn gap(pulse: u8) -> u16
+    ensures { λ r. ⌜ r ≡ gap pulse ⌝ }
+{
+    if pulse == 1 { 1 } else { pulse as u16 + 1 }
+}
+
 // The least delay that node i may have.
 fn least_at(
     operators: &[u8],
+    pulse: u8,
     program: &[u8],
     times: &[u16; 200],
     ends: &[usize; 200],
     i: usize,
 ) -> u16
     requires { ⌜ (length (now program) ≤ 800) × (i < nodeCount (now program)) × ((j : ℕ) → j < nodeCount (now program) → Shaped (timeIn (now operators)) (now program) (now times) (now ends) j) ⌝ }
-    ensures { λ r. ⌜ r ≡ least (timeIn (now (operators .entry))) (stmtAt (now (program .entry)) i) ⌝ }
+    ensures { λ r. ⌜ r ≡ least (timeIn (now (operators .entry))) pulse (stmtAt (now (program .entry)) i) ⌝ }
 {
     let node = nodes::read_node(program, i);
     let kind = node.kind;
@@ -103,7 +111,7 @@ fn least_at(
         return 0;
     }
     if (kind == 25) | (kind == 27) {
-        return 1;
+        return gap(pulse);
     }
     if kind == 26 {
         return 0;
@@ -117,24 +125,28 @@ fn least_at(
         let second = known_time(operators, program, times, nodes::next(ends, count, i + 1));
         return larger(1, larger(time, second));
     }
-    larger(1, time)
+    if kind == 18 {
+        return larger(1, time);
+    }
+    larger(gap(pulse), time)
 }
 
 // Refusal 7: the first node whose delay is too small.
 pub fn first_slow(
     operators: &[u8],
+    pulse: u8,
     program: &[u8],
     times: &[u16; 200],
     ends: &[usize; 200],
 ) -> Checked
     requires { ⌜ (length (now program) ≤ 800) × ((j : ℕ) → j < nodeCount (now program) → Shaped (timeIn (now operators)) (now program) (now times) (now ends) j) ⌝ }
-    ensures { λ r. ⌜ r ≡ firstFault (delayFault (timeIn (now (operators .entry))) (now (program .entry))) 0 (nodeCount (now (program .entry))) ⌝ }
+    ensures { λ r. ⌜ r ≡ firstFault (delayFault (timeIn (now (operators .entry))) pulse (now (program .entry))) 0 (nodeCount (now (program .entry))) ⌝ }
 {
     let count = program.len() / NODE;
     let mut i: usize = 0;
     while i < count {
         let node = nodes::read_node(program, i);
-        if (node.delay as u16) < least_at(operators, program, times, ends, i) {
+        if (node.delay as u16) < least_at(operators, pulse, program, times, ends, i) {
             return refused(7, i);
         }
         i += 1;

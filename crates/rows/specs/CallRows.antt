@@ -12,7 +12,7 @@ use Rattle.model.specs.Refusals.{refuse, first}
 use Rattle.model.specs.Circuit.{cell}
 use Rattle.model.specs.NetlistFile.{cellBytes, fileOf}
 use Rattle.model.specs.TimeTables.{defaults}
-use Rattle.model.specs.Calls.{compileChecks, writeChecks, readChecks, beginChecks, continueChecks, startChecks, runNetlistChecks, runProgramChecks, referenceChecks}
+use Rattle.model.specs.Calls.{tooLong, compileChecks, writeChecks, readChecks, beginChecks, continueChecks, startChecks, runNetlistChecks, runProgramChecks, referenceChecks}
 use Rattle.model.specs.Netlists.{numbering, front, idle, arrays}
 use Rattle.model.specs.Cases.{raw, checkOfProgram}
 use Rattle.rows.specs.StateRows.{courseOf}
@@ -25,7 +25,7 @@ abbrev okCells : List ℕ
 okCells = cellBytes (front (idle 16 (arrays [])))
 
 abbrev okFile : List ℕ
-okFile = fileOf (front (idle 16 (arrays []))) 0
+okFile = fileOf 1 (front (idle 16 (arrays []))) 0
 
 -- n bytes of 0; and a state of ok at an instant of three bytes
 abbrev room : ℕ → List ℕ
@@ -36,7 +36,7 @@ stateOf a b c = a ∷ b ∷ c ∷ replicate 1597 0
 
 -- tick 3, of 28 cells, whose delay is cell 3; a state of it at an instant of three bytes, with a number and the first byte of the delay's line
 abbrev tickFile : List ℕ
-tickFile = fileOf (front (cell 34 3 0 0 ∷ idle 16 (arrays []))) 3
+tickFile = fileOf 1 (front (cell 34 3 0 0 ∷ idle 16 (arrays []))) 3
 
 abbrev ticking : ℕ → ℕ → ℕ → ℕ → ℕ → List ℕ
 ticking a b c n line = set (set (a ∷ b ∷ c ∷ replicate 1637 0) 4 n) 136 line
@@ -54,11 +54,11 @@ calls =
     ∷ (first (compileChecks defaults [] []), refuse 1 0)
     ∷ (first (compileChecks defaults (raw 26 0 0) []), refuse 22 0)
     -- writing: 11 for a broken cell or a finish that is none, 12, then 14 for the file
-    ∷ (first (writeChecks okCells 0 (room 512)), Accepted)
-    ∷ (first (writeChecks okCells 0 (room 511)), refuse 14 0)
-    ∷ (first (writeChecks okCells 2 []), refuse 12 2)
-    ∷ (first (writeChecks okCells 27 []), refuse 11 0)
-    ∷ (first (writeChecks (okCells ++ (1 ∷ [])) 0 []), refuse 11 0)
+    ∷ (first (writeChecks 1 okCells 0 (room 512)), Accepted)
+    ∷ (first (writeChecks 1 okCells 0 (room 511)), refuse 14 0)
+    ∷ (first (writeChecks 1 okCells 2 []), refuse 12 2)
+    ∷ (first (writeChecks 1 okCells 27 []), refuse 11 0)
+    ∷ (first (writeChecks 1 (okCells ++ (1 ∷ [])) 0 []), refuse 11 0)
     -- reading: 9 to 12, then 14 for 27 cells of 6 bytes
     ∷ (first (readChecks okFile (room 162)), Accepted)
     ∷ (first (readChecks okFile (room 161)), refuse 14 0)
@@ -124,5 +124,5 @@ calls =
     ∷ []
 
 calls-right : map (λ r. r .0) calls ≡ map (λ r. r .1) calls
-unfolding calls checkOfProgram numbering courseOf
+unfolding calls checkOfProgram numbering courseOf tooLong
 calls-right = refl

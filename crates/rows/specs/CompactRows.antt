@@ -1,5 +1,5 @@
--- Compact states and runs with what is said of them, worked out by hand from the paper: the run of the full states byte for byte, the number of a line,
--- refusal 15 clause by clause, and 26 with its place and what it leaves.
+-- Compact states and runs with what is said of them, worked out by hand from the paper: the run of the full states byte for byte, three starts, the number
+-- of a line, refusal 15 clause by clause, and 26 with its place and what it leaves.
 -- Assumes nothing.
 use mathlib.Core.Path.{_≡_, refl}
 use mathlib.Core.Bool.{Bool, true, false}
@@ -12,11 +12,11 @@ use Rattle.model.specs.declared.Checked.the-variants.{Accepted}
 use Rattle.model.specs.declared.Format.the-variants.{Compact}
 use Rattle.model.specs.Refusals.{refuse}
 use Rattle.model.specs.Circuit.{cell}
-use Rattle.model.specs.NetlistFile.{fileOf}
-use Rattle.model.specs.State.{instantOf, course, leftAt, beginState, stepState, continued, sound}
-use Rattle.model.specs.Calls.{wordAt, refusedAnswer, shows, running, beginCall, goingOn, continueCall}
+use Rattle.model.specs.NetlistFile.{fileOf, netOf}
+use Rattle.model.specs.State.{instantOf, flightOf, course, nowAt, leftAt, beginState, stepState, continued, sound}
+use Rattle.model.specs.Calls.{tooLong, wordAt, refusedAnswer, shows, running, beginCall, goingOn, continueCall}
 use Rattle.model.specs.Netlists.{numbering, front, idle, arrays}
-use Rattle.rows.specs.StateRows.{net, startBytes, courseOf}
+use Rattle.rows.specs.StateRows.{net, startBytes, brief, courseOf}
 
 -- A run --------------------------------------------------------------------------------------------------------------------------------
 
@@ -100,7 +100,7 @@ state19 =
     ++ (5 ∷ 0 ∷ 5 ∷ replicate 5 0)
     ++ replicate 130 0 ++ (5 ∷ replicate 7 0) ++ (5 ∷ replicate 373 0)
 
-begin-right : beginState Compact net (wordAt startBytes) (replicate 616 9 ++ (7 ∷ 7 ∷ [])) ≡ state0 ++ (7 ∷ 7 ∷ [])
+begin-right : beginState Compact (brief net) (wordAt startBytes) (replicate 616 9 ++ (7 ∷ 7 ∷ [])) ≡ state0 ++ (7 ∷ 7 ∷ [])
 unfolding courseOf state0
 begin-right = refl
 
@@ -115,13 +115,47 @@ further =
     ∷ (state10, 20, state19, 9)
     ∷ []
 
-further-right : map (λ r. continued Compact net 6 (r .1) (r .0)) further ≡ map (λ r. course Accepted (r .2) (r .3)) further
+further-right : map (λ r. continued Compact (brief net) 6 (r .1) (r .0)) further ≡ map (λ r. course Accepted (r .2) (r .3)) further
 unfolding further courseOf state0 state1 state9 state10 state19
 further-right = refl
 
-start-right : stepState Compact net true (state9 ++ (7 ∷ 7 ∷ [])) ≡ state10 ++ (7 ∷ 7 ∷ [])
+start-right : stepState Compact (brief net) true (state9 ++ (7 ∷ 7 ∷ [])) ≡ state10 ++ (7 ∷ 7 ∷ [])
 unfolding courseOf state9 state10
 start-right = refl
+
+-- Three starts ------------------------------------------------------------------------------------------------------------------------
+
+-- x0 := !x0, d 1, without what it has no use for: delays 3 and 4, the memory 5, the complement 6, the 41 on 3. Each run takes 2 and is from the
+-- word that the one before has left.
+abbrev flips : List Cell
+flips =
+    cell 32 0 0 0 ∷ cell 33 0 0 0 ∷ cell 1 0 0 0 ∷ cell 34 1 0 0 ∷ cell 34 1 3 0 ∷ cell 40 0 3 7 ∷ cell 3 0 5 0 ∷ cell 41 0 3 6 ∷ []
+
+-- whether a start is given, and the finish, the word and the number then
+instants : List (Bool × ℕ × ℕ × ℕ)
+instants =
+    (false, 0, 0, 1)
+    ∷ (false, 1, 65535, 0)
+    -- the second start, right after the end, and the third, some instants later
+    ∷ (true, 0, 65535, 1)
+    ∷ (false, 0, 65535, 1)
+    ∷ (false, 1, 0, 0)
+    ∷ (false, 0, 0, 0)
+    ∷ (true, 0, 0, 1)
+    ∷ (false, 0, 0, 1)
+    ∷ (false, 1, 65535, 0)
+    ∷ []
+
+abbrev seen : List ℕ → List Bool → List (ℕ × ℕ × ℕ)
+seen s [] = []
+seen s (x ∷ xs) =
+    let t = stepState Compact (brief flips) x s in
+    (nowAt Compact t 4, nowAt Compact t 5, flightOf t) ∷ seen t xs
+
+instants-right :
+    seen (beginState Compact (brief flips) (wordAt []) (replicate 584 0)) (map (λ r. r .0) instants) ≡ map (λ r. (r .1, r .2, r .3)) instants
+unfolding instants courseOf
+instants-right = refl
 
 -- Refusal 15 ---------------------------------------------------------------------------------------------------------------------------
 
@@ -164,7 +198,7 @@ bytes =
     ∷ (999, 0, 1, false)
     ∷ []
 
-bytes-right : map (λ r. sound Compact net (set (set (replicate 616 0) 4 (r .2)) (r .0) (r .1))) bytes ≡ map (λ r. r .3) bytes
+bytes-right : map (λ r. sound Compact (brief net) (set (set (replicate 616 0) 4 (r .2)) (r .0) (r .1))) bytes ≡ map (λ r. r .3) bytes
 unfolding bytes courseOf
 bytes-right = refl
 
@@ -175,7 +209,7 @@ abbrev fork : ℕ → ℕ → ℕ → List Cell
 fork d e g = cell 32 0 0 0 ∷ cell 34 d 0 0 ∷ cell 35 0 0 1 ∷ cell 34 e 2 0 ∷ cell 34 g 2 0 ∷ []
 
 abbrev begun : List Cell → List ℕ
-begun cells = beginState Compact cells (wordAt []) (replicate 560 0)
+begun cells = beginState Compact (brief cells) (wordAt []) (replicate 560 0)
 
 -- the delays, the finish, the number of instants asked for, what ends the continuing, the instant at which the state is left and how many were
 -- evaluated; and the numbers of the three lines then
@@ -199,7 +233,7 @@ Met = Checked × ℕ × ℕ × ℕ × ℕ × ℕ
 
 abbrev met : List Cell → ℕ → ℕ → Met
 met cells finish n =
-    let c = continued Compact cells finish n (begun cells) in
+    let c = continued Compact (brief cells) finish n (begun cells) in
     (c .check, instantOf (c .state), c .count, leftAt Compact (c .state) 1, leftAt Compact (c .state) 3, leftAt Compact (c .state) 4)
 
 abbrev expected : List Cell × ℕ × ℕ × Checked × ℕ × ℕ × ℕ × ℕ → Met
@@ -209,16 +243,16 @@ meets-right : map (λ r. met (r .0) (r .1) (r .2)) meets ≡ map expected meets
 unfolding meets courseOf
 meets-right = refl
 
--- the call: after 27 cells more, pulses at 0 and 2 into a line of 3, which is cell 5. It is refused, and leaves the state of instant 1.
+-- the call: after 27 cells more, pulses at 0 and 2 into a line of 3, which is cell 5. It is refused, and leaves the state of instant 1,
+-- an instant further.
 abbrev file : List ℕ
-file = fileOf (front (cell 34 2 0 0 ∷ cell 35 0 0 3 ∷ cell 34 3 4 0 ∷ idle 16 (arrays []))) 3
+file = fileOf 1 (front (cell 34 2 0 0 ∷ cell 35 0 0 3 ∷ cell 34 3 4 0 ∷ idle 16 (arrays []))) 3
 
 abbrev lent : List ℕ
 lent = beginCall Compact file (replicate 544 0) (replicate 770 0) .lent
 
 call-right :
-    (continueCall Compact file 5 lent .answer ≡ refusedAnswer (record { number = 26; place = 5 }))
-    × (continueCall Compact file 5 lent .lent ≡ continueCall Compact file 1 lent .lent)
-    × (instantOf (continueCall Compact file 5 lent .lent) ≡ 1)
-unfolding continueCall goingOn beginCall running shows numbering courseOf
-call-right = (refl, refl, refl)
+    continueCall Compact file 5 lent
+    ≡ record { answer = refusedAnswer (record { number = 26; place = 5 }); lent = stepState Compact (netOf file) false lent }
+unfolding tooLong continueCall goingOn beginCall running shows numbering courseOf
+call-right = refl

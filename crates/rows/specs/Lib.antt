@@ -7,4 +7,6 @@ pub mod CompactRows
 pub mod CallRows
 pub mod LoopRows
 pub mod ProcedureRows
+pub mod PulseRows
+pub mod PulsedPrograms
 pub mod Texts

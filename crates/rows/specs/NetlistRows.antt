@@ -13,7 +13,7 @@ use Rattle.model.specs.declared.Written.the-variants.{Done}
 use Rattle.model.specs.Word.{bit, get16, bytes16}
 use Rattle.model.specs.Refusals.{refuse, firstFault}
 use Rattle.model.specs.Circuit.{cell, shape, control, names, memories, pastMemories}
-use Rattle.model.specs.NetlistFile.{runningSum, sumAfter, sumWith, cellBytes, cellFrom, cellsAt, wordSum, restBytes, blockWith, block, blocks, fileOf, cellsOf, fileLengthWrong, sumFault, countWrong, allZero, headerRight, headerFault, controlIn, wordIn, ofArray, arrayIn, kept, keeps, stands, placed, arrayPlaced, cellFault, netCheck, fileCheck}
+use Rattle.model.specs.NetlistFile.{runningSum, sumAfter, sumWith, cellBytes, cellFrom, cellsAt, wordSum, restBytes, blockWith, block, blocks, fileOf, cellsOf, fileLengthWrong, sumFault, countWrong, pulseWrong, allZero, headerRight, headerFault, controlIn, wordIn, ofArray, arrayIn, kept, keeps, stands, placed, arrayPlaced, cellFault, netCheck, fileCheck}
 use Rattle.model.specs.TimeTables.{defaults}
 use Rattle.model.specs.Calls.{Returned, writing, compileCall, readCall, writeCall}
 use Rattle.model.specs.CellSlices.{moved, behind, renumberCall}
@@ -22,7 +22,7 @@ use Rattle.model.specs.Cases.{raw, repeated, checkOfProgram}
 
 -- whoever unfolds this unfolds all that a netlist file is written and checked by
 unfoldable pub checkOfFile : List ℕ → Checked
-unfolding bit get16 bytes16 firstFault shape control memories pastMemories cellBytes cellFrom cellsAt wordSum block runningSum sumAfter sumWith blocks fileOf cellsOf fileLengthWrong sumFault countWrong allZero headerRight headerFault controlIn wordIn ofArray arrayIn kept keeps stands placed arrayPlaced cellFault netCheck fileCheck
+unfolding bit get16 bytes16 firstFault shape control memories pastMemories cellBytes cellFrom cellsAt wordSum block runningSum sumAfter sumWith blocks fileOf cellsOf fileLengthWrong sumFault countWrong pulseWrong allZero headerRight headerFault controlIn wordIn ofArray arrayIn kept keeps stands placed arrayPlaced cellFault netCheck fileCheck
 checkOfFile s = fileCheck s
 
 -- Cells --------------------------------------------------------------------------------------------------------------------------------
@@ -199,7 +199,7 @@ fileCalls : List (Returned Written × Returned Written)
 fileCalls =
     (compileCall defaults (raw 18 1 0 ++ raw 1 0 5) (replicate 514 7), record { answer = Done 512 4; lent = small ++ (7 ∷ 7 ∷ []) })
     ∷ (readCall small (replicate 188 7), record { answer = Done 31 4; lent = take 186 rest ++ (7 ∷ 7 ∷ []) })
-    ∷ (writeCall (take 186 rest) 4 (replicate 513 7), record { answer = Done 512 4; lent = small ++ (7 ∷ []) })
+    ∷ (writeCall 1 (take 186 rest) 4 (replicate 513 7), record { answer = Done 512 4; lent = small ++ (7 ∷ []) })
     ∷ []
 
 file-calls-right : map (λ r. r .0) fileCalls ≡ map (λ r. r .1) fileCalls

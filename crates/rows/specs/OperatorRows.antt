@@ -6,7 +6,7 @@ use mathlib.Core.Path.{_≡_, refl}
 use mathlib.Core.List.{List, [], _∷_, map}
 use Prim.Native.Nat.{ℕ}
 use Rattle.model.specs.Word.{bit, biased, operate, elementWord}
-use Rattle.model.specs.Program.{Expr, const, var, compl, op, elem, Code, ok, tick, assign, assignElem, seq, par, ite, while, repeat, loop, exit, time, least, builtInTimes, timeIn}
+use Rattle.model.specs.Program.{Expr, const, var, compl, op, elem, Code, ok, tick, assign, assignElem, seq, par, ite, while, repeat, loop, exit, time, gap, least, builtInTimes, timeIn}
 use Rattle.model.specs.Rules.{owner}
 
 -- an operator's kind, its two words, and what it gives
@@ -142,6 +142,6 @@ leastDelays =
     ∷ (exit, 0)
     ∷ []
 
-delays-right : map (λ r. least (timeIn builtInTimes) (r .0)) leastDelays ≡ map (λ r. r .1) leastDelays
-unfolding leastDelays time least builtInTimes
+delays-right : map (λ r. least (timeIn builtInTimes) 1 (r .0)) leastDelays ≡ map (λ r. r .1) leastDelays
+unfolding leastDelays time gap least builtInTimes
 delays-right = refl

@@ -15,17 +15,17 @@ use Rattle.model.specs.Word.{bit, operate}
 use Rattle.model.specs.Refusals.{refuse}
 use Rattle.model.specs.Program.{const, var, op, Code, ok, tick, assign, seq, par, ite, while, repeat, loop, exit, call, nodeBytes, preorder, preorders}
 use Rattle.model.specs.Rules.{owner, eval, put, over, kept, after, wait, chain, both, caught, whiles, repeats, loops, run}
-use Rattle.model.specs.Circuit.{cell, Sig, returnStep, heldBefore, merged}
+use Rattle.model.specs.Circuit.{cell, Sig, shortReturn, returnStep, mergedBefore, merged}
 use Rattle.model.specs.State.{sound}
 use Rattle.model.specs.TimeTables.{builtIn, beside, load}
 use Rattle.model.specs.Calls.{checkCall, listed, referenceAnswer, answering, referenceCall}
 use Rattle.model.specs.ProgramPromises.{openAnswer}
 use Rattle.model.specs.Cases.{raw, repeated, checkOfProgram, start, endAnswer}
-use Rattle.rows.specs.StateRows.{courseOf}
+use Rattle.rows.specs.StateRows.{brief, courseOf}
 
 -- k procedures given, and the roots' bytes
 abbrev counted : ℕ → Options
-counted k = load (beside builtIn k)
+counted k = load (beside builtIn k 1)
 
 abbrev bytesOf : List Code → List ℕ
 bytesOf Ps = nodeBytes (preorders Ps)
@@ -153,8 +153,8 @@ second t = getD (map (λ r. r .1) instants) t false
 abbrev numbers : List ℕ
 numbers = 0 ∷ 1 ∷ 2 ∷ 3 ∷ 4 ∷ 5 ∷ 6 ∷ 7 ∷ 8 ∷ 9 ∷ 10 ∷ []
 
-instants-right : map (merged returnStep first second) numbers ≡ map (λ r. r .2) instants
-unfolding instants returnStep heldBefore merged
+instants-right : map (merged (returnStep true) first second) numbers ≡ map (λ r. r .2) instants
+unfolding instants shortReturn returnStep mergedBefore merged
 instants-right = refl
 
 -- 15: a 39 holds a, which is in flight, and no b. Of start and a 39: a byte of the state, a value, the number, and whether it is good
@@ -169,6 +169,6 @@ bytes =
     ∷ []
 
 bytes-right :
-    map (λ r. sound Full (cell 32 0 0 0 ∷ (cell 39 0 0 0 ∷ [])) (set (set (replicate 600 0) 4 (r .2)) (r .0) (r .1))) bytes ≡ map (λ r. r .3) bytes
+    map (λ r. sound Full (brief (cell 32 0 0 0 ∷ (cell 39 0 0 0 ∷ []))) (set (set (replicate 600 0) 4 (r .2)) (r .0) (r .1))) bytes ≡ map (λ r. r .3) bytes
 unfolding bytes courseOf
 bytes-right = refl

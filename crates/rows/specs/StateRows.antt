@@ -12,8 +12,8 @@ use Rattle.model.specs.declared.Format.{Format}
 use Rattle.model.specs.declared.Format.the-variants.{Full}
 use Rattle.model.specs.Refusals.{firstFault}
 use Rattle.model.specs.Word.{operate, put16, get32, put32}
-use Rattle.model.specs.Circuit.{memoryWords, cell, merges, mergeStep, returnStep}
-use Rattle.model.specs.State.{flightOf, upTo, shiftedIn, ones, inFlight, flightIn, wordBytes, Course, course, nowAt, heldAt, lineBit, takenIn, nextValue, aged, stored, shown, holding, settle, counted, evaluate, beginState, stepState, crowded, crowding, continued, wordsIn, lineSound, cellSound, cellsSound, sound}
+use Rattle.model.specs.Circuit.{memoryWords, cell, Netlist, merges, remainingStep, shortMerge, longMerge, mergeStep, shortReturn, longReturn, returnStep}
+use Rattle.model.specs.State.{upTo, shiftedIn, ones, inFlight, flightIn, wordBytes, Course, course, heldAt, lineBit, takenIn, remainingByte, nextValue, aged, stored, shown, holding, settle, counted, evaluate, beginState, stepState, crowded, crowding, continued, wordsIn, lineSound, cellSound, cellsSound, sound}
 use Rattle.model.specs.Calls.{wordAt}
 use Rattle.rows.specs.NetlistRows.{checkOfFile}
 
@@ -67,6 +67,28 @@ state1 =
     ++ (5 ∷ replicate 39 0)
     ++ replicate 130 0 ++ (5 ∷ replicate 7 0) ++ (6 ∷ 7 ∷ replicate 372 0)
 
+-- Instants 7 and 8: the bit has come to the line's highest place in its first byte, and to the lowest in its second; the others stay as they are.
+abbrev waiting : ℕ → List ℕ → List ℕ → List ℕ → List ℕ
+waiting t line read word =
+    (t ∷ 0 ∷ 0 ∷ 0 ∷ 2 ∷ 0 ∷ 0 ∷ 0 ∷ [])
+    ++ replicate 80 0
+    ++ (5 ∷ 0 ∷ 5 ∷ replicate 37 0)
+    ++ replicate 8 0 ++ (line ++ replicate 29 0)
+    ++ (5 ∷ 0 ∷ 5 ∷ replicate 37 0)
+    ++ (3 ∷ 4 ∷ 3 ∷ 4 ∷ replicate 36 0)
+    ++ replicate 4 0 ++ (1 ∷ replicate 35 0)
+    ++ replicate 80 0
+    ++ (read ++ replicate 36 0)
+    ++ (65 ∷ 0 ∷ 65 ∷ replicate 37 0)
+    ++ (5 ∷ 0 ∷ 5 ∷ replicate 37 0)
+    ++ replicate 130 0 ++ (5 ∷ replicate 7 0) ++ (word ++ replicate 372 0)
+
+state7 : List ℕ
+state7 = waiting 7 (128 ∷ 0 ∷ 0 ∷ []) (6 ∷ 7 ∷ 6 ∷ 7 ∷ []) (6 ∷ 7 ∷ [])
+
+state8 : List ℕ
+state8 = waiting 8 (0 ∷ 1 ∷ 0 ∷ []) (6 ∷ 7 ∷ 6 ∷ 7 ∷ []) (6 ∷ 7 ∷ [])
+
 -- Instant 9: the delay puts out what came in nine instants ago, which is bit 9 of its line now, bit 1 of the second byte; the merge has both
 -- its inputs, is 1 and holds nothing. Nothing is in flight, bit 9 having been put out.
 state9 : List ℕ
@@ -103,8 +125,12 @@ state10 =
     ++ (5 ∷ 0 ∷ 5 ∷ replicate 37 0)
     ++ replicate 130 0 ++ (5 ∷ replicate 7 0) ++ (6 ∷ 7 ∷ replicate 372 0)
 
--- Instant 19, nine instants after it, as instant 9; but the address at instant 10 was 5, and so element 64 * 1 + 5 has taken the 5 in. The two pulses
--- are bits 9 and 19 of the line.
+-- Instant 18, eight instants after it, as instant 8; but the address at instant 10 was 5, and so element 64 * 1 + 5 has taken the 5 in. The two pulses
+-- are bits 8 and 18 of the line.
+state18 : List ℕ
+state18 = waiting 18 (0 ∷ 1 ∷ 4 ∷ []) (5 ∷ 0 ∷ 5 ∷ 0 ∷ []) (5 ∷ 0 ∷ [])
+
+-- Instant 19, as instant 9, but for that element. The two pulses are bits 9 and 19 of the line.
 state19 : List ℕ
 state19 =
     (19 ∷ replicate 7 0)
@@ -121,13 +147,17 @@ state19 =
     ++ (5 ∷ 0 ∷ 5 ∷ replicate 37 0)
     ++ replicate 130 0 ++ (5 ∷ replicate 7 0) ++ (5 ∷ replicate 373 0)
 
+-- a netlist of pulses of one instant
+abbrev pub brief : List Cell → Netlist
+brief cells = record { cells = cells; pulse = 1 }
+
 -- whoever unfolds this unfolds all that a state is made by
-unfoldable pub courseOf : Format → List Cell → ℕ → ℕ → List ℕ → Course
-unfolding state0 state1 state9 state10 state19 checkOfFile operate put16 get32 put32 merges mergeStep returnStep firstFault heldAt lineBit takenIn nextValue upTo aged stored shown shiftedIn holding settle ones inFlight flightIn counted wordBytes evaluate beginState stepState crowded crowding continued memoryWords lineSound cellSound cellsSound sound
-courseOf F cells finish n s = continued F cells finish n s
+unfoldable pub courseOf : Format → Netlist → ℕ → ℕ → List ℕ → Course
+unfolding state0 state1 state7 state8 state9 state10 state18 state19 checkOfFile operate put16 get32 put32 merges remainingStep remainingByte shortMerge longMerge mergeStep shortReturn longReturn returnStep firstFault heldAt lineBit takenIn nextValue upTo aged stored shown shiftedIn holding settle ones inFlight flightIn counted wordBytes evaluate beginState stepState crowded crowding continued memoryWords lineSound cellSound cellsSound sound
+courseOf F net finish n s = continued F net finish n s
 
 -- "Lent bytes past a result keep their values."
-begin-right : beginState Full net (wordAt startBytes) (replicate 1000 9 ++ (7 ∷ 7 ∷ [])) ≡ state0 ++ (7 ∷ 7 ∷ [])
+begin-right : beginState Full (brief net) (wordAt startBytes) (replicate 1000 9 ++ (7 ∷ 7 ∷ [])) ≡ state0 ++ (7 ∷ 7 ∷ [])
 unfolding courseOf
 begin-right = refl
 
@@ -135,60 +165,25 @@ begin-right = refl
 further : List (List ℕ × ℕ × List ℕ × ℕ)
 further =
     (state0, 0, state0, 0)
-    ∷ (state0, 1, state1, 1)
     ∷ (state0 ++ (7 ∷ 7 ∷ []), 1, state1 ++ (7 ∷ 7 ∷ []), 1)
-    -- to the finish, and no further
-    ∷ (state0, 20, state9, 9)
-    ∷ (state1, 8, state9, 8)
-    ∷ (state10, 20, state19, 9)
+    -- as far as is asked for; to the finish, and no further
+    ∷ (state7, 1, state8, 1)
+    ∷ (state7, 20, state9, 2)
+    ∷ (state18, 20, state19, 1)
     ∷ []
 
-further-right : map (λ r. continued Full net 6 (r .1) (r .0)) further ≡ map (λ r. course Accepted (r .2) (r .3)) further
+further-right : map (λ r. continued Full (brief net) 6 (r .1) (r .0)) further ≡ map (λ r. course Accepted (r .2) (r .3)) further
 unfolding further courseOf
 further-right = refl
 
 -- "a continuing by 1 with start high at that instant"
-start-right : stepState Full net true (state9 ++ (7 ∷ 7 ∷ [])) ≡ state10 ++ (7 ∷ 7 ∷ [])
+start-right : stepState Full (brief net) true (state9 ++ (7 ∷ 7 ∷ [])) ≡ state10 ++ (7 ∷ 7 ∷ [])
 unfolding courseOf
 start-right = refl
 
 words-right : wordsIn Full net 0 state1 ≡ 5 ∷ 1027 ∷ []
 unfolding courseOf
 words-right = refl
-
--- Three starts ------------------------------------------------------------------------------------------------------------------------
-
--- x0 := !x0, d 1, without what it has no use for: delays 3 and 4, the memory 5, the complement 6, the 41 on 3. Each run takes 2 and is from the
--- word that the one before has left.
-abbrev flips : List Cell
-flips =
-    cell 32 0 0 0 ∷ cell 33 0 0 0 ∷ cell 1 0 0 0 ∷ cell 34 1 0 0 ∷ cell 34 1 3 0 ∷ cell 40 0 3 7 ∷ cell 3 0 5 0 ∷ cell 41 0 3 6 ∷ []
-
--- whether a start is given, and the finish, the word and the number then
-instants : List (Bool × ℕ × ℕ × ℕ)
-instants =
-    (false, 0, 0, 1)
-    ∷ (false, 1, 65535, 0)
-    -- the second start, right after the end, and the third, some instants later
-    ∷ (true, 0, 65535, 1)
-    ∷ (false, 0, 65535, 1)
-    ∷ (false, 1, 0, 0)
-    ∷ (false, 0, 0, 0)
-    ∷ (true, 0, 0, 1)
-    ∷ (false, 0, 0, 1)
-    ∷ (false, 1, 65535, 0)
-    ∷ []
-
-abbrev seen : List ℕ → List Bool → List (ℕ × ℕ × ℕ)
-seen s [] = []
-seen s (x ∷ xs) =
-    let t = stepState Full flips x s in
-    (nowAt Full t 4, nowAt Full t 5, flightOf t) ∷ seen t xs
-
-instants-right :
-    seen (beginState Full flips (wordAt []) (replicate 840 0)) (map (λ r. r .0) instants) ≡ map (λ r. (r .1, r .2, r .3)) instants
-unfolding instants courseOf
-instants-right = refl
 
 -- Refusal 15 ---------------------------------------------------------------------------------------------------------------------------
 
@@ -257,6 +252,6 @@ bytes =
     ∷ (at 3 0, 1, 1, false)
     ∷ []
 
-bytes-right : map (λ r. sound Full net (set (set (replicate 1000 0) 4 (r .2)) (r .0) (r .1))) bytes ≡ map (λ r. r .3) bytes
+bytes-right : map (λ r. sound Full (brief net) (set (set (replicate 1000 0) 4 (r .2)) (r .0) (r .1))) bytes ≡ map (λ r. r .3) bytes
 unfolding bytes courseOf
 bytes-right = refl

@@ -22,7 +22,7 @@ builtInFile =
     ∷ 0 ∷ 0 ∷ 1 ∷ 16 ∷ 17 ∷ 1 ∷ 1 ∷ 6 ∷ 17 ∷ 4  -- kinds 1 to 10
     ∷ replicate 494 0
 
-built-in-loads : load (beside (given builtInFile) 0) ≡ defaults
+built-in-loads : load (beside (given builtInFile) 0 1) ≡ defaults
 unfolding builtInFile load verdictOf timesOf tableSumWrong tableFault byteWrong wordSum firstFault timesIn builtInTimes
 built-in-loads = refl
 
@@ -65,7 +65,7 @@ tables =
     ∷ (set builtInFile 2 8, refuse 20 0)
     ∷ []
 
-tables-right : map (λ r. load (beside (given (r .0)) 0) .checked) tables ≡ map (λ r. r .1) tables
+tables-right : map (λ r. load (beside (given (r .0)) 0 1) .checked) tables ≡ map (λ r. r .1) tables
 unfolding tables builtInFile load verdictOf timesOf tableSumWrong tableFault byteWrong wordSum firstFault timesIn bytes16
 tables-right = refl
 
@@ -80,6 +80,6 @@ checks =
     ∷ (builtInFile, [], refuse 1 0)
     ∷ []
 
-checks-right : map (λ r. checkCall (load (beside (given (r .0)) 0)) (r .1)) checks ≡ map (λ r. r .2) checks
+checks-right : map (λ r. checkCall (load (beside (given (r .0)) 0 1)) (r .1)) checks ≡ map (λ r. r .2) checks
 unfolding checks builtInFile checkOfProgram tableSumWrong tableFault byteWrong wordSum timesIn
 checks-right = refl

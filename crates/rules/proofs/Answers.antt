@@ -16,13 +16,13 @@ use Rattle.model.specs.declared.Answer.{Answer}
 use Rattle.model.specs.declared.Outcome.the-variants.{Ended, Open}
 use Rattle.model.specs.Program.{nodeCount}
 use Rattle.model.specs.Procedures.{meaning}
+use Rattle.model.specs.TimeTables.{givenCheck}
 use Rattle.model.specs.ProgramChecks.{programWith, checkOf}
-use Rattle.model.specs.Rules.{ended, run}
+use Rattle.model.specs.Rules.{imperative, ended, run}
 use Rattle.model.specs.Refusals.{refuseIf, first}
 use Rattle.model.specs.Calls.{wordAt, listed, refusedAnswer, referenceAnswer, answering, short, checkCall, overBudget, referenceCall}
 use Rattle.laws.specs.Refusals.Laws.{first-two}
-use Rattle.laws.specs.Program.Fit.{Formed}
-use Rattle.laws.specs.Program.Admitted.{program-admitted, plain-main}
+use Rattle.laws.specs.Program.Admitted.{program-admitted, meaning-formed, meaning-timed, meaning-separate}
 use Rattle.rules.specs.declared.Ran.{Ran}
 use Rattle.rules.specs.Ran.{storeOf, runOf, Stands, meantAt, Statable, Ready}
 use Rattle.program.specs.Ends.{Laid, skips}
@@ -54,20 +54,16 @@ module _ (n : ℕ) (r : Ran) where
       go true = refl
       go false = refl
 
-meaning-formed : (options : Options) (s : List ℕ) → checkCall options s ≡ Accepted → Formed (meaning (programWith options s))
-unfolding meaning
-meaning-formed options s e = plain-main (programWith options s) (program-admitted options s e) .formed
-
 -- the main program of an accepted program is ready at its node i
 pub main-ready : (options : Options) (s ends : List ℕ) → checkCall options s ≡ Accepted → Laid s ends
     → (i : ℕ) → i ≡ skips ends (nodeCount s) (options .procedures) 0 → Ready s ends (options .procedures) (meantAt (options .procedures) s i)
-unfolding meaning
 main-ready options s ends e L i ei =
-    let A = plain-main (programWith options s) (program-admitted options s e) in
+    let S = programWith options s in
+    let A = program-admitted options s e in
     record {
       fit =
-          subst (Statable s ends) (sym (main-is s ends L (options .procedures) i ei))
-          (record { laid = L; formed = A .formed; timed = A .timed; separate = A .separate });
+          subst (Statable s ends) (sym (main-is (options .pulse) s ends L (options .procedures) i ei))
+          (record { laid = L; formed = meaning-formed S A; timed = meaning-timed S A; separate = meaning-separate S A });
       enough = trees-enough (record { readable = accepted options s e .readable; laid = L });
     }
 
@@ -77,13 +73,13 @@ module _ (options : Options) (s bytes : List ℕ) (n : ℕ) where
   -- where the check says c, the budget is too large or not, and the start words are too few or not
   abbrev answerBy : Checked → Bool → Bool → Answer
   answerBy c large few =
-      answering (first (c ∷ refuseIf large 13 0 ∷ refuseIf few 14 0 ∷ [])) (referenceAnswer n (run n (meaning (programWith options s)) (wordAt bytes)))
+      answering (first (c ∷ refuseIf large 13 0 ∷ refuseIf few 14 0 ∷ [])) (referenceAnswer n (run (imperative (options .pulse)) n (meaning (programWith options s)) (wordAt bytes)))
 
   call-by : (c : Checked) → checkCall options s ≡ c → (large few : Bool) → ltb 1000000 n ≡ large → ltb (length bytes) 544 ≡ few
       → answerBy c large few ≡ referenceCall options s bytes n
   unfolding referenceCall checkCall
   call-by c ec large few el ef =
-      sym (ap (λ (c : Checked). answering c (referenceAnswer n (run n (meaning (programWith options s)) (wordAt bytes)))) (first-two (options .checked) (checkOf options s) (overBudget n ∷ short (length bytes) 544 ∷ []))
+      sym (ap (λ (c : Checked). answering c (referenceAnswer n (run (imperative (options .pulse)) n (meaning (programWith options s)) (wordAt bytes)))) (first-two (givenCheck options) (checkOf options s) (overBudget n ∷ short (length bytes) 544 ∷ []))
       ∙ ap (λ (c : Checked). answerBy c (ltb 1000000 n) (ltb (length bytes) 544)) ec ∙ ap₂ (answerBy c) el ef)
 
   pub call-refused : (r : Refusal) → checkCall options s ≡ Refused r → refusedAnswer r ≡ referenceCall options s bytes n
@@ -100,10 +96,10 @@ module _ (options : Options) (s bytes : List ℕ) (n : ℕ) where
     call-short h l = call-by Accepted e false true (le-ltb _ _ h) (lt-ltb _ _ l)
 
     pub call-runs : n ≤ 1000000 → 544 ≤ length bytes → (ws : List ℕ) → ws ≡ listed (wordAt bytes) 0 272
-        → (r : Ran) → Stands n (run n (meaning (programWith options s)) (storeOf ws)) r → (a : Answer) → a ≡ referenceAnswer n (runOf r) → a ≡ referenceCall options s bytes n
+        → (r : Ran) → Stands n (run (imperative (options .pulse)) n (meaning (programWith options s)) (storeOf ws)) r → (a : Answer) → a ≡ referenceAnswer n (runOf r) → a ≡ referenceCall options s bytes n
     unfolding answering storeOf
     call-runs h l ws ew r R a ea =
         ea ∙ ap (referenceAnswer n) (R .is)
-        ∙ same-answer (meaning (programWith options s)) (meaning-formed options s e) n (storeOf ws) (wordAt bytes)
+        ∙ same-answer (options .pulse) (meaning (programWith options s)) (meaning-formed (programWith options s) (program-admitted options s e)) n (storeOf ws) (wordAt bytes)
         (λ x m. ap (λ (ws : List ℕ). getD ws x 0) ew ∙ listed-at (wordAt bytes) 272 0 x m ∙ ap (wordAt bytes) (omega arith))
         ∙ call-by Accepted e false false (le-ltb _ _ h) (le-ltb _ _ l)

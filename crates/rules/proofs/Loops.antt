@@ -10,7 +10,7 @@ use native.Mathlib.Decide.{decLt}
 use borrow.Author.Tests.{eq-eqb, ne-eqb}
 use Rattle.model.specs.Word.{isZero}
 use Rattle.model.specs.Program.{Expr, Stmt, while, repeat, loop}
-use Rattle.model.specs.Rules.{Store, atEnd, atExit, Run, done, ended, still, eval, after, wait, chain, caught, whiles, repeats, loops, run}
+use Rattle.model.specs.Rules.{imperative, Store, atEnd, atExit, Run, done, ended, still, eval, after, wait, chain, caught, whiles, repeats, loops, run}
 use Rattle.laws.specs.Refusals.Laws.{by-bool}
 use Rattle.laws.specs.Rules.Laws.{Body, wait-is, wait-short, whiles-stop, whiles-more, again, repeats-is, again-more, again-stop, round, loops-is, round-is}
 use Rattle.rules.specs.declared.Ran.{Ran}
@@ -89,9 +89,9 @@ loops-enough body d one (suc n) (suc m) k σ p q =
 
 -- One turn -----------------------------------------------------------------------------------------------------------------------------
 
-module _ (d : ℕ) (e : Expr) (P : Stmt) (k : ℕ) (σ : Store) where
+module _ (w : ℕ) (d : ℕ) (e : Expr) (P : Stmt) (k : ℕ) (σ : Store) where
   abbrev body : Body
-  body k₁ σ₁ = run k₁ P σ₁
+  body k₁ σ₁ = run (imperative w) k₁ P σ₁
 
   -- a while after its turn, and a repeat after its own
   abbrev whileRest : ℕ → Store → Run
@@ -100,28 +100,28 @@ module _ (d : ℕ) (e : Expr) (P : Stmt) (k : ℕ) (σ : Store) where
   abbrev repeatRest : ℕ → Store → Run
   repeatRest t σ₁ = again body d e k (k - t) σ₁
 
-  pub while-out : k < d → run k (while d e P) σ ≡ still
+  pub while-out : k < d → run (imperative w) k (while d e P) σ ≡ still
   unfolding run whiles
   while-out l = wait-short d k _ l
 
   -- the test, whose word is v, and where it is true the turn r
   module _ (l : d ≤ k) (v : ℕ) (ev : v ≡ eval e σ) where
-    pub while-end : v ≡ 0 → run k (while d e P) σ ≡ after d (ended 0 σ)
+    pub while-end : v ≡ 0 → run (imperative w) k (while d e P) σ ≡ after d (ended 0 σ)
     unfolding run
     while-end z = whiles-stop body d e k k σ (eq-eqb _ 0 (sym ev ∙ z)) ∙ wait-is d k _ l
 
-    module _ (n : v ≡ 0 → ⊥) (r : Ran) (R : Stands (k - d) (run (k - d) P σ) r) where
-      while-turn : run k (while d e P) σ ≡ after d (chain (runOf r) whileRest)
+    module _ (n : v ≡ 0 → ⊥) (r : Ran) (R : Stands (k - d) (run (imperative w) (k - d) P σ) r) where
+      while-turn : run (imperative w) k (while d e P) σ ≡ after d (chain (runOf r) whileRest)
       unfolding run
       while-turn =
           whiles-more body d e k k σ (ne-eqb _ 0 (λ z. n (ev ∙ z))) ∙ wait-is d k _ l
           ∙ ap (λ (q : Run). after d (chain q whileRest)) (sym (R .is))
 
-      pub while-unended : r .ended ≡ false → run k (while d e P) σ ≡ after d (runOf r)
+      pub while-unended : r .ended ≡ false → run (imperative w) k (while d e P) σ ≡ after d (runOf r)
       while-unended f = while-turn ∙ ap (after d) (chain-unended r f whileRest)
 
       pub while-on : r .ended ≡ true → 1 ≤ d
-          → run k (while d e P) σ ≡ after (d + r .time) (run (k - d - r .time) (while d e P) (storeOf (r .words)))
+          → run (imperative w) k (while d e P) σ ≡ after (d + r .time) (run (imperative w) (k - d - r .time) (while d e P) (storeOf (r .words)))
       unfolding chain run
       while-on f one =
           let t = r .time in
@@ -129,31 +129,31 @@ module _ (d : ℕ) (e : Expr) (P : Stmt) (k : ℕ) (σ : Store) where
           ∙ ap (after (d + t)) (whiles-enough body d e one k (suc (k - d - t)) (k - d - t) (storeOf (r .words)) (omega arith) (omega arith))
 
   -- the turn r, and where it ended the test, whose word is v
-  module _ (r : Ran) (R : Stands k (run k P σ) r) where
-    repeat-turn : run k (repeat d e P) σ ≡ chain (runOf r) repeatRest
+  module _ (r : Ran) (R : Stands k (run (imperative w) k P σ) r) where
+    repeat-turn : run (imperative w) k (repeat d e P) σ ≡ chain (runOf r) repeatRest
     unfolding run
     repeat-turn = repeats-is body d e k k σ ∙ ap (λ (q : Run). chain q repeatRest) (sym (R .is))
 
-    pub repeat-unended : r .ended ≡ false → run k (repeat d e P) σ ≡ runOf r
+    pub repeat-unended : r .ended ≡ false → run (imperative w) k (repeat d e P) σ ≡ runOf r
     repeat-unended f = repeat-turn ∙ chain-unended r f repeatRest
 
     module _ (f : r .ended ≡ true) where
-      repeat-turned : run k (repeat d e P) σ ≡ after (r .time) (again body d e k (k - r .time) (storeOf (r .words)))
+      repeat-turned : run (imperative w) k (repeat d e P) σ ≡ after (r .time) (again body d e k (k - r .time) (storeOf (r .words)))
       unfolding chain
       repeat-turned = repeat-turn ∙ ap (λ (q : Run). chain q repeatRest) (run-ended r f)
 
-      pub repeat-out : k - r .time < d → run k (repeat d e P) σ ≡ still
+      pub repeat-out : k - r .time < d → run (imperative w) k (repeat d e P) σ ≡ still
       unfolding again after
       repeat-out l = repeat-turned ∙ ap (after (r .time)) (wait-short d (k - r .time) _ l)
 
       module _ (l : d ≤ k - r .time) (v : ℕ) (ev : v ≡ eval e (storeOf (r .words))) where
-        pub repeat-end : (v ≡ 0 → ⊥) → run k (repeat d e P) σ ≡ after (r .time + d) (ended 0 (storeOf (r .words)))
+        pub repeat-end : (v ≡ 0 → ⊥) → run (imperative w) k (repeat d e P) σ ≡ after (r .time + d) (ended 0 (storeOf (r .words)))
         repeat-end n =
             let t = r .time in
             repeat-turned ∙ ap (after t) (again-stop body d e k (k - t) _ (ne-eqb _ 0 (λ z. n (ev ∙ z))) ∙ wait-is d (k - t) _ l) ∙ after-after t d _
 
         pub repeat-on : v ≡ 0 → 1 ≤ d
-            → run k (repeat d e P) σ ≡ after (r .time + d) (run (k - r .time - d) (repeat d e P) (storeOf (r .words)))
+            → run (imperative w) k (repeat d e P) σ ≡ after (r .time + d) (run (imperative w) (k - r .time - d) (repeat d e P) (storeOf (r .words)))
         unfolding run
         repeat-on z one =
             let t = r .time in
@@ -161,30 +161,30 @@ module _ (d : ℕ) (e : Expr) (P : Stmt) (k : ℕ) (σ : Store) where
             ∙ ap (after (t + d)) (repeats-enough body d e one k (suc (k - t - d)) (k - t - d) (storeOf (r .words)) (omega arith) (omega arith))
 
 -- a loop's turn r
-module _ (d : ℕ) (P : Stmt) (k : ℕ) (σ : Store) (r : Ran) (R : Stands k (run k P σ) r) where
+module _ (w : ℕ) (d : ℕ) (P : Stmt) (k : ℕ) (σ : Store) (r : Ran) (R : Stands k (run (imperative w) k P σ) r) where
   abbrev turns : Body
-  turns k₁ σ₁ = run k₁ P σ₁
+  turns k₁ σ₁ = run (imperative w) k₁ P σ₁
 
   abbrev loopRest : ℕ → Store → Run
   loopRest t σ₁ = round turns d k (k - t) σ₁
 
-  loop-turn : run k (loop d P) σ ≡ caught (chain (runOf r) loopRest)
+  loop-turn : run (imperative w) k (loop d P) σ ≡ caught (chain (runOf r) loopRest)
   unfolding run
   loop-turn = ap caught (loops-is turns d k k σ ∙ ap (λ (q : Run). chain q loopRest) (sym (R .is)))
 
-  pub loop-unended : r .ended ≡ false → run k (loop d P) σ ≡ caught (runOf r)
+  pub loop-unended : r .ended ≡ false → run (imperative w) k (loop d P) σ ≡ caught (runOf r)
   loop-unended f = loop-turn ∙ ap caught (chain-unended r f loopRest)
 
   module _ (f : r .ended ≡ true) where
-    loop-turned : run k (loop d P) σ ≡ caught (after (r .time) (round turns d k (k - r .time) (storeOf (r .words))))
+    loop-turned : run (imperative w) k (loop d P) σ ≡ caught (after (r .time) (round turns d k (k - r .time) (storeOf (r .words))))
     unfolding chain
     loop-turned = loop-turn ∙ ap (λ (q : Run). caught (chain q loopRest)) (run-ended r f)
 
-    pub loop-out : k - r .time < d → run k (loop d P) σ ≡ still
+    pub loop-out : k - r .time < d → run (imperative w) k (loop d P) σ ≡ still
     unfolding after caught
     loop-out l = loop-turned ∙ ap (λ (q : Run). caught (after (r .time) q)) (round-is turns d k (k - r .time) _ ∙ wait-short d (k - r .time) _ l)
 
-    pub loop-on : d ≤ k - r .time → 1 ≤ d → run k (loop d P) σ ≡ after (r .time + d) (run (k - r .time - d) (loop d P) (storeOf (r .words)))
+    pub loop-on : d ≤ k - r .time → 1 ≤ d → run (imperative w) k (loop d P) σ ≡ after (r .time + d) (run (imperative w) (k - r .time - d) (loop d P) (storeOf (r .words)))
     unfolding run
     loop-on l one =
         let t = r .time in

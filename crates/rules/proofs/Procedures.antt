@@ -16,8 +16,8 @@ use Rattle.program.specs.Ends.{Laid, skips, skips-trees}
 use Rattle.rules.specs.Ran.{calledAt, meantAt, Statable, Ready}
 
 -- the same node by another name
-pub meant-as : (k : ℕ) (s : List ℕ) (i : ℕ) {P : Code} → stmtAt s i ≡ P → meantAt k s i ≡ inline (inlined (programOf k s .bodies)) P
-meant-as k s i e = ap (inline (inlined (programOf k s .bodies))) e
+pub meant-as : (k : ℕ) (s : List ℕ) (i : ℕ) {P : Code} → stmtAt s i ≡ P → meantAt k s i ≡ inline (inlined (programOf 1 k s .bodies)) P
+meant-as k s i e = ap (inline (inlined (programOf 1 k s .bodies))) e
 
 -- bodies of the first so many trees
 count-taken : (k : ℕ) (ts : List Tree) → k ≤ length ts → length (map asStmt (take k ts)) ≡ k
@@ -32,16 +32,16 @@ taken-at (suc k) zero (t ∷ ts) l o = refl
 taken-at (suc k) (suc p) (t ∷ ts) l o = taken-at k p ts (le-of-suc-le-suc l) (le-of-suc-le-suc o)
 
 module _ (s : List ℕ) (k : ℕ) (enough : k ≤ length (treesAt s 0)) where
-  count-is : length (programOf k s .bodies) ≡ k
+  count-is : length (programOf 1 k s .bodies) ≡ k
   unfolding programOf
   count-is = count-taken k (treesAt s 0) enough
 
-  body-is : (p : ℕ) → p < k → bodyAt (programOf k s .bodies) p ≡ asStmt (getD (treesAt s 0) p none)
+  body-is : (p : ℕ) → p < k → bodyAt (programOf 1 k s .bodies) p ≡ asStmt (getD (treesAt s 0) p none)
   unfolding programOf
   body-is p l = taken-at k p (treesAt s 0) l enough
 
   abbrev flat : ℕ → ℕ → Stmt
-  flat n p = table ok (λ I j. inline I (bodyAt (programOf k s .bodies) j)) n p
+  flat n p = table ok (λ I j. inline I (bodyAt (programOf 1 k s .bodies) j)) n p
 
   called-is : (p : ℕ) → calledAt k s p ≡ flat k p
   unfolding inlined
@@ -61,9 +61,9 @@ tree-is s ends L r i e =
     ∙ getD-drop r (treesAt s 0) 0 none ∙ ap (λ (n : ℕ). getD (treesAt s 0) n none) (add-zero r))
 
 -- the main program begins at node i
-pub main-is : (s ends : List ℕ) → Laid s ends → (k i : ℕ) → i ≡ skips ends (nodeCount s) k 0 → meantAt k s i ≡ meaning (programOf k s)
+pub main-is : (w : ℕ) (s ends : List ℕ) → Laid s ends → (k i : ℕ) → i ≡ skips ends (nodeCount s) k 0 → meantAt k s i ≡ meaning (programOf w k s)
 unfolding meaning programOf
-main-is s ends L k i e = ap (inline (inlined (programOf k s .bodies))) (tree-is s ends L k i e)
+main-is w s ends L k i e = ap (inline (inlined (programOf 1 k s .bodies))) (tree-is s ends L k i e)
 
 -- body p, which may call those before it, begins at node i
 pub called-body : (s ends : List ℕ) → Laid s ends → (k : ℕ) → k ≤ length (treesAt s 0) → (p : ℕ) → p < k → (i : ℕ) → i ≡ skips ends (nodeCount s) p 0
@@ -74,7 +74,7 @@ called-body s ends L k enough p l i e =
     let same : flat s k enough p ≡ flat s p below p =
     table-same ok _ _ p (λ I j m. ap (inline I) (body-is s k enough j (omega (arith, l)) ∙ sym (body-is s p below j m))) in
     called-is s k enough p ∙ table-made ok _ k p l
-    ∙ ap (λ (I : ℕ → Stmt). inline I (bodyAt (programOf k s .bodies) p)) same
+    ∙ ap (λ (I : ℕ → Stmt). inline I (bodyAt (programOf 1 k s .bodies) p)) same
     ∙ ap (inline (flat s p below p)) (body-is s k enough p l ∙ sym (tree-is s ends L p i e))
     ∙ ap (λ (n : ℕ). inline (flat s p below n) (stmtAt s i)) (sym (count-is s p below))
 
@@ -94,5 +94,5 @@ count-stmts (P ∷ Ps) = ap suc (count-stmts Ps)
 pub trees-enough : {k : ℕ} {s ends : List ℕ} → Rooted k s ends → k ≤ length (treesAt s 0)
 trees-enough {k} {s} {ends} R =
     let e : length (treesAt s 0) ≡ k + 1 =
-    ap length (program-trees k s (R .readable)) ∙ count-stmts (roots (programOf k s)) ∙ count-roots R in
+    ap length (program-trees k s (R .readable) 1) ∙ count-stmts (roots (programOf 1 k s)) ∙ count-roots R in
     omega (arith, e)

@@ -32,10 +32,10 @@ joins σ σ₁ σ₂ x = pick (eqb (σ₁ x) (σ x)) (σ₂ x) (σ₁ x)
 
 -- the first so many bodies without calls, and the statement at node i with these for its calls
 abbrev pub calledAt : ℕ → List ℕ → ℕ → Stmt
-calledAt k s p = inlined (programOf k s .bodies) p
+calledAt k s p = inlined (programOf 1 k s .bodies) p
 
 abbrev pub meantAt : ℕ → List ℕ → ℕ → Stmt
-meantAt k s i = inline (inlined (programOf k s .bodies)) (stmtAt s i)
+meantAt k s i = inline (inlined (programOf 1 k s .bodies)) (stmtAt s i)
 
 -- P is a statement without calls of an accepted program, whose array of subtree ends is right
 pub record Statable (s ends : List ℕ) (P : Stmt) : Type 0 where

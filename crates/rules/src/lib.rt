@@ -7,7 +7,7 @@ ghost use lib.ListN.{length};
 ghost use lib.Dec.{eqb};
 ghost use Rattle.model.specs.Word.{pick, elementWord};
 ghost use Rattle.model.specs.Program.{exprAt, tick, assign, assignElem, seq, par, ite, while, repeat, loop};
-ghost use Rattle.model.specs.Rules.{eval, put, ended, left, still, after, wait, caught, run};
+ghost use Rattle.model.specs.Rules.{imperative, eval, put, ended, left, still, after, wait, caught, run};
 ghost use Rattle.model.specs.Calls.{wordAt, listed, refusedAnswer, referenceAnswer, referenceCall};
 ghost use Rattle.program.specs.Ends.{Laid};
 ghost use Rattle.rules.specs.Ran.{storeOf, runOf, Stands, joins, calledAt, meantAt, Statable, Ready};
@@ -183,12 +183,17 @@ fn assign_at(
     d: u32,
     words: [u16; 272],
     budget: u32,
+    pulse: u8,
 ) -> Ran
     requires { ⌜ Statable (now program) (now ends) (assign d x (exprAt (now program) e)) × (d < 256) ⌝ }
-    ensures { λ r. ⌜ Stands budget (run budget (assign d x (exprAt (now (program .entry)) e)) (storeOf words)) r ⌝ }
+    ensures { λ r. ⌜ Stands budget (run (imperative pulse) budget (assign d x (exprAt (now (program .entry)) e)) (storeOf words)) r ⌝ }
 {
     let value = eval_at(program, ends, e, words);
-    pause(with_word(words, x as usize, value), d + 1, budget)
+    pause(
+        with_word(words, x as usize, value),
+        d + pulse as u32,
+        budget,
+    )
 }
 
 // The element of an array, whose index is the expression at node e, gets the expression at node f.
@@ -201,14 +206,15 @@ fn assign_elem_at(
     d: u32,
     words: [u16; 272],
     budget: u32,
+    pulse: u8,
 ) -> Ran
     requires { ⌜ Statable (now program) (now ends) (assignElem d array (exprAt (now program) e) (exprAt (now program) f)) × (d < 256) ⌝ }
-    ensures { λ r. ⌜ Stands budget (run budget (assignElem d array (exprAt (now (program .entry)) e) (exprAt (now (program .entry)) f)) (storeOf words)) r ⌝ }
+    ensures { λ r. ⌜ Stands budget (run (imperative pulse) budget (assignElem d array (exprAt (now (program .entry)) e) (exprAt (now (program .entry)) f)) (storeOf words)) r ⌝ }
 {
     let index = eval_at(program, ends, e, words);
     let value = eval_at(program, ends, f, words);
     let changed = with_word(words, element_word(array, index), value);
-    pause(changed, d + 1, budget)
+    pause(changed, d + pulse as u32, budget)
 }
 
 // The statement at node p, and then that at node q.
@@ -220,14 +226,23 @@ fn seq_at(
     q: usize,
     words: [u16; 272],
     budget: u32,
+    pulse: u8,
 ) -> Ran
     requires { ⌜ Ready (now program) (now ends) procedures (seq (meantAt procedures (now program) p) (meantAt procedures (now program) q)) × (p ≤ q) ⌝ }
-    ensures { λ r. ⌜ Stands budget (run budget (seq (meantAt procedures (now (program .entry)) p) (meantAt procedures (now (program .entry)) q)) (storeOf words)) r ⌝ }
+    ensures { λ r. ⌜ Stands budget (run (imperative pulse) budget (seq (meantAt procedures (now (program .entry)) p) (meantAt procedures (now (program .entry)) q)) (storeOf words)) r ⌝ }
 {
-    let first = run_at(program, ends, procedures, p, words, budget);
+    let first = run_at(program, ends, procedures, p, words, budget, pulse);
     if first.ended {
         let between = first.words;
-        let rest = run_at(program, ends, procedures, q, between, budget - first.time);
+        let rest = run_at(
+            program,
+            ends,
+            procedures,
+            q,
+            between,
+            budget - first.time,
+            pulse,
+        );
         return later(first.time, rest);
     }
     first
@@ -242,13 +257,14 @@ fn par_at(
     q: usize,
     words: [u16; 272],
     budget: u32,
+    pulse: u8,
 ) -> Ran
     requires { ⌜ Ready (now program) (now ends) procedures (par (meantAt procedures (now program) p) (meantAt procedures (now program) q)) × (p ≤ q) ⌝ }
-    ensures { λ r. ⌜ Stands budget (run budget (par (meantAt procedures (now (program .entry)) p) (meantAt procedures (now (program .entry)) q)) (storeOf words)) r ⌝ }
+    ensures { λ r. ⌜ Stands budget (run (imperative pulse) budget (par (meantAt procedures (now (program .entry)) p) (meantAt procedures (now (program .entry)) q)) (storeOf words)) r ⌝ }
 {
-    let first = run_at(program, ends, procedures, p, words, budget);
+    let first = run_at(program, ends, procedures, p, words, budget, pulse);
     if first.ended {
-        let second = run_at(program, ends, procedures, q, words, budget);
+        let second = run_at(program, ends, procedures, q, words, budget, pulse);
         if second.ended {
             let a = first.words;
             let b = second.words;
@@ -275,17 +291,24 @@ fn if_at(
     d: u32,
     words: [u16; 272],
     budget: u32,
+    pulse: u8,
 ) -> Ran
     requires { ⌜ Ready (now program) (now ends) procedures (ite d (exprAt (now program) e) (meantAt procedures (now program) p) (meantAt procedures (now program) q)) × (p ≤ q) ⌝ }
-    ensures { λ r. ⌜ Stands budget (run budget (ite d (exprAt (now (program .entry)) e) (meantAt procedures (now (program .entry)) p) (meantAt procedures (now (program .entry)) q)) (storeOf words)) r ⌝ }
+    ensures { λ r. ⌜ Stands budget (run (imperative pulse) budget (ite d (exprAt (now (program .entry)) e) (meantAt procedures (now (program .entry)) p) (meantAt procedures (now (program .entry)) q)) (storeOf words)) r ⌝ }
 {
     if budget < d {
         return unfinished(words);
     }
     if eval_at(program, ends, e, words) == 0 {
-        return later(d, run_at(program, ends, procedures, q, words, budget - d));
+        return later(
+            d,
+            run_at(program, ends, procedures, q, words, budget - d, pulse),
+        );
     }
-    later(d, run_at(program, ends, procedures, p, words, budget - d))
+    later(
+        d,
+        run_at(program, ends, procedures, p, words, budget - d, pulse),
+    )
 }
 
 // While the expression at node e is true, the statement at node p.
@@ -298,9 +321,10 @@ fn while_at(
     d: u32,
     words: [u16; 272],
     budget: u32,
+    pulse: u8,
 ) -> Ran
     requires { ⌜ Ready (now program) (now ends) procedures (while d (exprAt (now program) e) (meantAt procedures (now program) p)) ⌝ }
-    ensures { λ r. ⌜ Stands budget (run budget (while d (exprAt (now (program .entry)) e) (meantAt procedures (now (program .entry)) p)) (storeOf words)) r ⌝ }
+    ensures { λ r. ⌜ Stands budget (run (imperative pulse) budget (while d (exprAt (now (program .entry)) e) (meantAt procedures (now (program .entry)) p)) (storeOf words)) r ⌝ }
 {
     let mut held = words;
     let mut left = budget;
@@ -314,7 +338,7 @@ fn while_at(
                 time: budget - rest,
             };
         }
-        let turn = run_at(program, ends, procedures, p, held, rest);
+        let turn = run_at(program, ends, procedures, p, held, rest, pulse);
         if turn.ended {
             held = turn.words;
             left = rest - turn.time;
@@ -335,14 +359,15 @@ fn repeat_at(
     d: u32,
     words: [u16; 272],
     budget: u32,
+    pulse: u8,
 ) -> Ran
     requires { ⌜ Ready (now program) (now ends) procedures (repeat d (exprAt (now program) e) (meantAt procedures (now program) p)) ⌝ }
-    ensures { λ r. ⌜ Stands budget (run budget (repeat d (exprAt (now (program .entry)) e) (meantAt procedures (now (program .entry)) p)) (storeOf words)) r ⌝ }
+    ensures { λ r. ⌜ Stands budget (run (imperative pulse) budget (repeat d (exprAt (now (program .entry)) e) (meantAt procedures (now (program .entry)) p)) (storeOf words)) r ⌝ }
 {
     let mut held = words;
     let mut left = budget;
     loop {
-        let turn = run_at(program, ends, procedures, p, held, left);
+        let turn = run_at(program, ends, procedures, p, held, left, pulse);
         if turn.ended {
             held = turn.words;
         } else {
@@ -373,14 +398,15 @@ fn loop_at(
     d: u32,
     words: [u16; 272],
     budget: u32,
+    pulse: u8,
 ) -> Ran
     requires { ⌜ Ready (now program) (now ends) procedures (loop d (meantAt procedures (now program) p)) ⌝ }
-    ensures { λ r. ⌜ Stands budget (run budget (loop d (meantAt procedures (now (program .entry)) p)) (storeOf words)) r ⌝ }
+    ensures { λ r. ⌜ Stands budget (run (imperative pulse) budget (loop d (meantAt procedures (now (program .entry)) p)) (storeOf words)) r ⌝ }
 {
     let mut held = words;
     let mut left = budget;
     loop {
-        let turn = run_at(program, ends, procedures, p, held, left);
+        let turn = run_at(program, ends, procedures, p, held, left, pulse);
         if turn.ended {
             held = turn.words;
         } else {
@@ -402,15 +428,16 @@ fn body_at(
     p: usize,
     words: [u16; 272],
     budget: u32,
+    pulse: u8,
 ) -> Ran
     requires { ⌜ Ready (now program) (now ends) procedures (calledAt procedures (now program) p) ⌝ }
-    ensures { λ r. ⌜ Stands budget (run budget (calledAt procedures (now (program .entry)) p) (storeOf words)) r ⌝ }
+    ensures { λ r. ⌜ Stands budget (run (imperative pulse) budget (calledAt procedures (now (program .entry)) p) (storeOf words)) r ⌝ }
 {
     if procedures <= p {
         return pause(words, 0, budget);
     }
     let body = nodes::skip(ends, program.len() / 4, 0, p);
-    run_at(program, ends, p, body, words, budget)
+    run_at(program, ends, p, body, words, budget, pulse)
 }
 
 // A call of procedure p: the delay, and then its body.
@@ -422,20 +449,29 @@ fn call_at(
     d: u32,
     words: [u16; 272],
     budget: u32,
+    pulse: u8,
 ) -> Ran
     requires { ⌜ Ready (now program) (now ends) procedures (seq (tick d) (calledAt procedures (now program) p)) ⌝ }
-    ensures { λ r. ⌜ Stands budget (run budget (seq (tick d) (calledAt procedures (now (program .entry)) p)) (storeOf words)) r ⌝ }
+    ensures { λ r. ⌜ Stands budget (run (imperative pulse) budget (seq (tick d) (calledAt procedures (now (program .entry)) p)) (storeOf words)) r ⌝ }
 {
     let first = pause(words, d, budget);
     if first.ended {
-        let between = first.words;
-        let body = body_at(program, ends, procedures, p, between, budget - first.time);
+        let delayed = first.words;
+        let body = body_at(
+            program,
+            ends,
+            procedures,
+            p,
+            delayed,
+            budget - first.time,
+            pulse,
+        );
         return later(first.time, body);
     }
     first
 }
 
-// The statement at node i, from these words; it may call the first so many procedures.
+// The statement at node i, from these words; it may call the first so many procedures, and its pulses have so many instants.
 fn run_at(
     program: &[u8],
     ends: &[usize; 200],
@@ -443,9 +479,10 @@ fn run_at(
     i: usize,
     words: [u16; 272],
     budget: u32,
+    pulse: u8,
 ) -> Ran
     requires { ⌜ Ready (now program) (now ends) procedures (meantAt procedures (now program) i) ⌝ }
-    ensures { λ r. ⌜ Stands budget (run budget (meantAt procedures (now (program .entry)) i) (storeOf words)) r ⌝ }
+    ensures { λ r. ⌜ Stands budget (run (imperative pulse) budget (meantAt procedures (now (program .entry)) i) (storeOf words)) r ⌝ }
 {
     let count = program.len() / 4;
     if count <= i {
@@ -460,9 +497,27 @@ fn run_at(
     let second = nodes::next(ends, count, i + 1);
     match kind {
         17 => pause(words, d, budget),
-        18 => assign_at(program, ends, i + 1, node.n, d, words, budget),
-        19 => seq_at(program, ends, procedures, i + 1, second, words, budget),
-        20 => par_at(program, ends, procedures, i + 1, second, words, budget),
+        18 => assign_at(program, ends, i + 1, node.n, d, words, budget, pulse),
+        19 => seq_at(
+            program,
+            ends,
+            procedures,
+            i + 1,
+            second,
+            words,
+            budget,
+            pulse,
+        ),
+        20 => par_at(
+            program,
+            ends,
+            procedures,
+            i + 1,
+            second,
+            words,
+            budget,
+            pulse,
+        ),
         21 => {
             let third = nodes::next(ends, count, second);
             if_at(
@@ -475,14 +530,54 @@ fn run_at(
                 d,
                 words,
                 budget,
+                pulse,
             )
         }
-        22 => while_at(program, ends, procedures, i + 1, second, d, words, budget),
-        24 => assign_elem_at(program, ends, i + 1, second, node.n, d, words, budget),
-        25 => loop_at(program, ends, procedures, i + 1, d, words, budget),
+        22 => while_at(
+            program,
+            ends,
+            procedures,
+            i + 1,
+            second,
+            d,
+            words,
+            budget,
+            pulse,
+        ),
+        24 => assign_elem_at(
+            program,
+            ends,
+            i + 1,
+            second,
+            node.n,
+            d,
+            words,
+            budget,
+            pulse,
+        ),
+        25 => loop_at(program, ends, procedures, i + 1, d, words, budget, pulse),
         26 => leaving(words),
-        27 => call_at(program, ends, procedures, node.n as usize, d, words, budget),
-        _ => repeat_at(program, ends, procedures, i + 1, second, d, words, budget),
+        27 => call_at(
+            program,
+            ends,
+            procedures,
+            node.n as usize,
+            d,
+            words,
+            budget,
+            pulse,
+        ),
+        _ => repeat_at(
+            program,
+            ends,
+            procedures,
+            i + 1,
+            second,
+            d,
+            words,
+            budget,
+            pulse,
+        ),
     }
 }
 
@@ -571,7 +666,15 @@ pub fn reference_run(options: Options, program: &[u8], words: &[u8], budget: u32
             let ends = told.ends;
             let k = options.procedures;
             let main = nodes::skip(&ends, program.len() / 4, 0, k);
-            let ran = run_at(program, &ends, k, main, start_words(words), budget);
+            let ran = run_at(
+                program,
+                &ends,
+                k,
+                main,
+                start_words(words),
+                budget,
+                options.pulse,
+            );
             answer(ran, budget)
         }
     }

@@ -1,49 +1,38 @@
--- What a netlist file that is accepted gives the runs: its size, cells that see no further than its state, and a copy of its cells.
+-- What a netlist file that is accepted gives the runs: cells that see no further than its state, and a copy of them that fits it.
 -- Assumes nothing.
 use mathlib.Core.Bool.{Bool, true, false, _&&_, _||_}
 use mathlib.Core.List.{List}
 use mathlib.Core.Path.{_≡_, refl, sym, _∙_, ap}
-use Prim.Native.Nat.{ℕ, _+_, _*_, _%_, _<_, _≤_}
+use Prim.Native.Nat.{ℕ, _+_, _*_, _<_, _≤_}
 use native.Mathlib.Omega.{arith}
 use native.Mathlib.Nat.{zero-add}
-use lib.Dec.{eqb, ltb}
+use lib.Dec.{eqb}
 use lib.ListN.{length, drop}
 use lib.Seq.{sets, sets-eq}
-use borrow.Author.Tests.{eqb-true, ltb-false}
+use borrow.Author.Tests.{eqb-true}
 use Rattle.model.specs.declared.Cell.{Cell}
 use Rattle.model.specs.declared.Format.{Format}
 use Rattle.model.specs.declared.Checked.the-variants.{Accepted}
 use Rattle.model.specs.declared.kinds.Use.{Use}
 use Rattle.model.specs.declared.kinds.Use.the-variants.{Unknown, Unused, Value, Positive, ControlBelow, ControlAny, WordBelow, WordAny, ArrayBelow}
-use Rattle.model.specs.Circuit.{cellAt, memories, cellTable, shape, cellRow}
-use Rattle.model.specs.NetlistFile.{cellBytes, cellFrom, cellsAt, inList, inFile, blocksFor, countOf, finishOf, cellsOf, fileLengthWrong, keeps, fileCheck}
-use Rattle.model.specs.State.{base, stateSize, instantOf, beginState}
-use Rattle.laws.specs.Refusals.Laws.{by-bool, and-true, or-false, not-both}
-use Rattle.laws.specs.Circuit.Ordered.{Meets, Looks, kinds, Ordered}
+use Rattle.model.specs.Circuit.{Netlist, cellAt, memories, cellTable, shape, cellRow}
+use Rattle.model.specs.NetlistFile.{cellBytes, cellFrom, cellsAt, inList, inFile, countOf, finishOf, cellsOf, netOf, keeps, fileCheck}
+use Rattle.model.specs.State.{base, instantOf, beginState}
+use Rattle.laws.specs.Refusals.Laws.{by-bool, and-true, not-both}
+use Rattle.laws.specs.Circuit.Ordered.{Meets, Looks, kinds}
 use Rattle.laws.specs.Circuit.Shapes.{only-kind, allLines, every-line}
 use Rattle.laws.specs.NetlistFile.Uses.{keeps-looks}
-use Rattle.laws.specs.NetlistFile.Passed.{net-passed, net-ordered, file-passed, count-range, count-cells}
-use Rattle.laws.specs.NetlistFile.CellBytes.{from-bytes, bytes-length, cells-are, cell-of}
+use Rattle.laws.specs.NetlistFile.Passed.{net-passed, file-passed, count-cells}
+use Rattle.laws.specs.NetlistFile.CellBytes.{from-bytes, bytes-length, cells-are}
 use Rattle.laws.specs.State.Passes.{begin-instant as begun-instant}
-use Rattle.simulator.specs.Fits.{Stands, Sees, netOf, Fits, Runs}
-use Rattle.simulator.proofs.Cells.{net-cell, stands-in}
-
--- Sizes --------------------------------------------------------------------------------------------------------------------------------
-
-pub record Sized (file : List ℕ) : Type 0 where
-  pub some : 27 ≤ countOf file
-  pub few : countOf file ≤ 1024
-  pub finish : finishOf file < countOf file
-  pub long : length file ≡ 512 * blocksFor (countOf file)
-
-pub sized : (file : List ℕ) → fileCheck file ≡ Accepted → Sized file
-unfolding fileLengthWrong
-sized file e =
-    let p = file-passed file e in
-    let r = count-range _ _ _ (p .count) in
-    let l = or-false (ltb 6656 (length file)) (ltb 0 (length file % 512)) (or-false (eqb (length file) 0) _ (p .lengths) .1) in
-    let z : length file % 512 ≡ 0 = omega (arith, ltb-false 0 (length file % 512) (l .1)) in
-    record { some = r .0; few = r .1; finish = r .3; long = omega (arith, r .2) }
+use Rattle.netlist.specs.declared.header.Header.{Header}
+use Rattle.netlist.specs.Headers.{headerOf}
+use Rattle.netlist.proofs.Headers.{header-count, header-pulse}
+use Rattle.state.specs.Stands.{Stands, Sees, Runs}
+use Rattle.state.proofs.Standing.{stands-in}
+use Rattle.state.proofs.Files.{sized, file-room, file-ordered}
+use Rattle.simulator.specs.Fits.{listIn, netBy, Fits}
+use Rattle.simulator.proofs.Cells.{net-cell}
 
 -- Cells that keep the rules ------------------------------------------------------------------------------------------------------------
 
@@ -93,7 +82,7 @@ module _ (net : List Cell) (k : ℕ) (h : k < length net) (c : Cell) (e : keeps 
   unfolding shape cellTable
   delay-long z = let m : Meets (cellRow 34 .delay) (kinds net) (length net) k (c .delay) = rw z at (sees .0) in m .0
 
-  keeps-sees : (F : Format) (s : List ℕ) → length net ≤ 1024 → stateSize F net ≤ length s → Sees F s c
+  keeps-sees : (F : Format) (s : List ℕ) → length net ≤ 1024 → base F (length net) + 512 ≤ length s → Sees F s c
   keeps-sees F s few room =
       record {
         a = λ n. stands (c .a) (within _ _ (a-bounded (c .kind) n) (sees .1));
@@ -107,7 +96,7 @@ module _ (net : List Cell) (k : ℕ) (h : k < length net) (c : Cell) (e : keeps 
 -- A copy of the cells ------------------------------------------------------------------------------------------------------------------
 
 -- a list over which the bytes of cells have been put
-copied : (cells : List ℕ) (net : List Cell) (n : ℕ) → length net ≡ n → 6 * n ≤ length cells → netOf (sets cells 0 (cellBytes net)) n ≡ net
+copied : (cells : List ℕ) (net : List Cell) (n : ℕ) → length net ≡ n → 6 * n ≤ length cells → listIn (sets cells 0 (cellBytes net)) n ≡ net
 copied cells net n e h =
     cells-are inList (sets cells 0 (cellBytes net)) net 0 n e
     (λ i l.
@@ -116,54 +105,42 @@ copied cells net n e h =
     ∙ from-bytes net (drop (0 + length (cellBytes net)) cells) i (omega arith))
 
 pub loaded : (file cells t : List ℕ) (n : ℕ) → fileCheck file ≡ Accepted → 6144 ≤ length cells → n ≡ countOf file
-    → t ≡ sets cells 0 (cellBytes (cellsAt inFile file 0 n)) → netOf t n ≡ cellsOf file
+    → t ≡ sets cells 0 (cellBytes (cellsAt inFile file 0 n)) → listIn t n ≡ cellsOf file
 unfolding cellsOf
 loaded file cells t n a h z e =
     let n′ : ℕ = countOf file in
     let y : t ≡ sets cells 0 (cellBytes (cellsOf file)) = rw z at e in
     rw (z, y) (copied cells (cellsOf file) n′ (count-cells file) (omega (arith, sized file a .few)))
 
-pub file-cell : (file : List ℕ) (k : ℕ) → k < countOf file → cellAt (cellsOf file) k ≡ cellFrom file (inFile k)
-unfolding cellsOf
-file-cell file k h = cell-of inFile file 0 (countOf file) k h ∙ ap (λ (j : ℕ). cellFrom file (inFile j)) (zero-add k)
+-- the netlist that has been copied, by the file's header
+pub loaded-net : (file cells : List ℕ) (h : Header) → h ≡ headerOf file → listIn cells (h .count) ≡ cellsOf file → netBy h cells ≡ netOf file
+loaded-net file cells h e l = rw (l, header-pulse file e) refl
 
 module _ (F : Format) (file s : List ℕ) (r : Runs F file s) where
-  pub file-sized : Sized file
-  file-sized = sized file (r .accepted)
-
-  pub file-room : base F (countOf file) + 512 ≤ length s
-  file-room = rw (count-cells file) at (r .room)
-
   pub file-sixteen : memories (cellsOf file) ≡ 16
   file-sixteen = net-passed (cellsOf file) (finishOf file) (file-passed file (r .accepted) .cells) .sixteen
-
-  -- cell k stands there
-  pub file-stands : (k : ℕ) → k < countOf file → Stands F s k
-  file-stands k h = stands-in F s k (countOf file) h (file-sized .few) (omega (arith, file-room))
-
-  pub file-ordered : Ordered (cellsOf file)
-  file-ordered = net-ordered (cellsOf file) (finishOf file) (file-passed file (r .accepted) .cells)
 
   file-sees : (k : ℕ) → k < countOf file → Sees F s (cellAt (cellsOf file) k)
   file-sees k l =
       let net = cellsOf file in
       let m : k < length net = rw (count-cells file) l in
       keeps-sees net k m (cellAt net k) (net-passed net (finishOf file) (file-passed file (r .accepted) .cells) .kept k m)
-      F s (rw (count-cells file) (file-sized .few)) (r .room)
+      F s (rw (count-cells file) (sized file (r .accepted) .few)) (r .room)
 
-  pub file-fits : (cells : List ℕ) (n : ℕ) → 6144 ≤ length cells → n ≡ countOf file → netOf cells n ≡ cellsOf file → Fits F cells n s
-  file-fits cells n h z e =
+  pub file-fits : (cells : List ℕ) (h : Header) → h ≡ headerOf file → 6144 ≤ length cells → listIn cells (h .count) ≡ cellsOf file → Fits F cells (h .count) s
+  file-fits cells h is long e =
+      let z : h .count ≡ countOf file = header-count file is in
       record {
-        few = rw z (file-sized .few);
-        list = omega (arith, file-sized .few);
-        room = rw z file-room;
+        few = rw z (sized file (r .accepted) .few);
+        list = omega (arith, z, sized file (r .accepted) .few);
+        room = rw z (file-room F file s r);
         sees = λ k l.
-            let y : cellAt (cellsOf file) k ≡ cellFrom cells (6 * k) = ap (λ (net : List Cell). cellAt net k) (sym e) ∙ net-cell cells n k l in
+            let y : cellAt (cellsOf file) k ≡ cellFrom cells (6 * k) = ap (λ (net : List Cell). cellAt net k) (sym e) ∙ net-cell cells (h .count) k l in
             rw y at (file-sees k (rw z at l));
-        ordered = rw e file-ordered;
+        ordered = rw e (file-ordered F file s r);
       }
 
-  pub begin-instant : (net : List Cell) (words : ℕ → ℕ) (b : List ℕ) → net ≡ cellsOf file → b ≡ beginState F net words s → instantOf b ≡ 0
+  pub begin-instant : (net : Netlist) (words : ℕ → ℕ) (b : List ℕ) → net ≡ netOf file → b ≡ beginState F net words s → instantOf b ≡ 0
   begin-instant net words b e h = rw h (begun-instant F net words s)
 
 -- a state that is as long can be run as well

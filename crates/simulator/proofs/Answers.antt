@@ -1,19 +1,16 @@
 -- Answers of runs: what a state shows, and the results of continuings and full runs in terms of the file. Assumes nothing.
 use mathlib.Core.Bool.{Bool, true, false}
 use mathlib.Core.List.{List}
-use mathlib.Core.Path.{_≡_, refl, sym, _∙_, ap}
+use mathlib.Core.Path.{_≡_, refl, _∙_, ap}
 use Prim.Native.Nat.{ℕ, _+_}
-use Rattle.model.specs.declared.Cell.{Cell}
 use Rattle.model.specs.declared.Format.{Format}
 use Rattle.model.specs.declared.Format.the-variants.{Full}
 use Rattle.model.specs.declared.Refusal.{Refusal}
-use Rattle.model.specs.declared.Answer.{Answer}
-use Rattle.model.specs.declared.Checked.{Checked}
 use Rattle.model.specs.declared.Checked.the-variants.{Accepted, Refused}
 use Rattle.model.specs.declared.Outcome.the-variants.{Ended, Open}
 use Rattle.model.specs.Word.{pick}
-use Rattle.model.specs.Circuit.{high}
-use Rattle.model.specs.NetlistFile.{cellsOf, finishOf}
+use Rattle.model.specs.Circuit.{Netlist, high}
+use Rattle.model.specs.NetlistFile.{cellsOf, netOf, finishOf}
 use Rattle.model.specs.State.{Course, instantOf, nowAt, beginState, continued, wordsIn}
 use Rattle.model.specs.Calls.{wordAt, refusedAnswer, shows, running, fullState, fullCount}
 use Rattle.simulator.specs.Levels.{continuedWith, told}
@@ -35,16 +32,16 @@ module _ (F : Format) (file : List ℕ) (c : Course) where
   told-shows e = rw e refl
 
 -- net and f are the cells and the finish of the file
-module _ (file : List ℕ) (net : List Cell) (f : ℕ) (is-net : net ≡ cellsOf file) (is-finish : f ≡ finishOf file) where
-  pub file-course : (F : Format) (starts : Bool) (n : ℕ) (s : List ℕ) → continuedWith F net starts f n s ≡ continuedWith F (cellsOf file) starts (finishOf file) n s
+module _ (file : List ℕ) (net : Netlist) (f : ℕ) (is-net : net ≡ netOf file) (is-finish : f ≡ finishOf file) where
+  pub file-course : (F : Format) (starts : Bool) (n : ℕ) (s : List ℕ) → continuedWith F net starts f n s ≡ continuedWith F (netOf file) starts (finishOf file) n s
   file-course F starts n s = rw (is-net, is-finish) refl
 
   -- b is the state that a beginning on s leaves
   module _ (words : List ℕ) (n : ℕ) (s b : List ℕ) (begun : b ≡ beginState Full net (wordAt words) s) where
-    begun-file : b ≡ beginState Full (cellsOf file) (wordAt words) s
+    begun-file : b ≡ beginState Full (netOf file) (wordAt words) s
     begun-file = rw is-net at begun
 
-    wire : (level : Bool) → high (nowAt Full b f) ≡ level → high (nowAt Full (beginState Full (cellsOf file) (wordAt words) s) (finishOf file)) ≡ level
+    wire : (level : Bool) → high (nowAt Full b f) ≡ level → high (nowAt Full (beginState Full (netOf file) (wordAt words) s) (finishOf file)) ≡ level
     wire level h = rw (begun-file, is-finish) at h
 
     pub full-ended : high (nowAt Full b f) ≡ true → (b ≡ fullState file words n s) × (1 ≡ fullCount file words n s)
@@ -55,8 +52,8 @@ module _ (file : List ℕ) (net : List Cell) (f : ℕ) (is-net : net ≡ cellsOf
         → (t ≡ fullState file words n s) × (1 + k ≡ fullCount file words n s)
     unfolding fullState fullCount
     full-open h t k last count =
-        let z : continuedWith Full net false f n b ≡ continued Full (cellsOf file) (finishOf file) n (beginState Full (cellsOf file) (wordAt words) s) =
-        file-course Full false n b ∙ with-none Full (cellsOf file) (finishOf file) n b ∙ ap (continued Full (cellsOf file) (finishOf file) n) begun-file in (
+        let z : continuedWith Full net false f n b ≡ continued Full (netOf file) (finishOf file) n (beginState Full (netOf file) (wordAt words) s) =
+        file-course Full false n b ∙ with-none Full (netOf file) (finishOf file) n b ∙ ap (continued Full (netOf file) (finishOf file) n) begun-file in (
           rw (wire false h) (last ∙ ap (λ (c : Course). c .state) z),
           rw (wire false h) (ap (λ (m : ℕ). 1 + m) (count ∙ ap (λ (c : Course). c .count) z)),
         )

@@ -2,17 +2,18 @@
 use mathlib.Core.Bool.{Bool, true, false, not, _&&_, _||_}
 use mathlib.Core.List.{List}
 use mathlib.Core.Path.{_≡_, refl, sym, _∙_, ap}
-use Prim.Native.Nat.{ℕ, _+_, _-_, _<_, _≤_}
+use Prim.Native.Nat.{ℕ, _-_, _<_, _≤_}
 use native.Mathlib.Omega.{arith}
 use native.Mathlib.Decide.{ℕ-discrete}
 use lib.Dec.{leb}
 use borrow.Author.Tests.{eq-eqb, ne-eqb, le-leb, lt-leb}
+use lib.ListN.{set}
 use Rattle.model.specs.declared.Cell.{Cell}
 use Rattle.model.specs.declared.Format.{Format}
 use Rattle.model.specs.Word.{pick, bit, isZero, operate, elementOf}
-use Rattle.model.specs.Circuit.{cellAt, high, merges, stepOf, Shape, cellTable, shape, kConstant, kComplement, kOperator, kStart, kGround, kDelay, kOr, kWhenTrue, kWhenFalse, kMerge, kReturn, kMemory, kGated, kArray, kAddress, kRead, kUnknown}
-use Rattle.model.specs.State.{elementNow, nowAt, beforeAt, heldAt, lineBit, takenIn, nextValue, settle}
-use Rattle.laws.specs.Circuit.Shapes.{delay-kind, merge-kind, return-kind, by-merge, operator-shape, apart}
+use Rattle.model.specs.Circuit.{remainingStep, Netlist, cellAt, high, merges, stepOf, Shape, cellTable, shape, kConstant, kComplement, kOperator, kStart, kGround, kDelay, kOr, kWhenTrue, kWhenFalse, kMerge, kReturn, kMemory, kGated, kArray, kAddress, kRead, kUnknown}
+use Rattle.model.specs.State.{remainingByte, remainingAt, elementNow, nowAt, beforeAt, heldAt, lineBit, takenIn, nextValue, settle}
+use Rattle.laws.specs.Circuit.Shapes.{start-kind, delay-kind, merge-kind, return-kind, by-merge, operator-shape, apart}
 use Rattle.laws.specs.Refusals.Laws.{not-both}
 
 -- a number that is no operator's
@@ -66,7 +67,7 @@ shape-still kind h =
       apart kind 44 (h .read),
     ) refl
 
-module _ (F : Format) (starts : Bool) (net : List Cell) (s : List ℕ) (k : ℕ) (c : Cell) where
+module _ (F : Format) (starts : Bool) (net : Netlist) (s : List ℕ) (k : ℕ) (c : Cell) where
   -- Values -----------------------------------------------------------------------------------------------------------------------------
 
   by-kind : (n : ℕ) → c .kind ≡ n → nextValue F (shape (c .kind)) starts net s k c ≡ nextValue F (shape n) starts net s k c
@@ -76,7 +77,7 @@ module _ (F : Format) (starts : Bool) (net : List Cell) (s : List ℕ) (k : ℕ)
   unfolding nextValue shape
   next-constant h = by-kind 1 h
 
-  pub next-start : c .kind ≡ 32 → nextValue F (shape (c .kind)) starts net s k c ≡ bit starts
+  pub next-start : c .kind ≡ 32 → nextValue F (shape (c .kind)) starts net s k c ≡ bit (starts || not (isZero (remainingAt F s k)))
   unfolding nextValue shape
   next-start h = by-kind 32 h
 
@@ -97,10 +98,10 @@ module _ (F : Format) (starts : Bool) (net : List Cell) (s : List ℕ) (k : ℕ)
   next-when-false h = by-kind 37 h
 
   pub next-merge : merges (c .kind) ≡ true
-      → nextValue F (shape (c .kind)) starts net s k c ≡ bit (stepOf (c .kind) (heldAt F s k) (high (nowAt F s (c .a))) (high (nowAt F s (c .b))) .out)
+      → nextValue F (shape (c .kind)) starts net s k c ≡ bit (stepOf (net .pulse) (c .kind) (high (beforeAt F s k)) (heldAt F s k) (high (nowAt F s (c .a))) (high (nowAt F s (c .b))) .out)
   unfolding nextValue shape stepOf
   next-merge h =
-      let out : ℕ → ℕ = λ n. bit (stepOf n (heldAt F s k) (high (nowAt F s (c .a))) (high (nowAt F s (c .b))) .out) in
+      let out : ℕ → ℕ = λ n. bit (stepOf (net .pulse) n (high (beforeAt F s k)) (heldAt F s k) (high (nowAt F s (c .a))) (high (nowAt F s (c .b))) .out) in
       by-merge (c .kind) h (λ e. by-kind 38 e ∙ sym (ap out e)) (λ e. by-kind 39 e ∙ sym (ap out e))
 
   -- a memory whose clock has fallen, and one whose clock has not
@@ -130,7 +131,7 @@ module _ (F : Format) (starts : Bool) (net : List Cell) (s : List ℕ) (k : ℕ)
       go (yes e) = by-kind 3 e ∙ ap (λ (n : ℕ). operate n (nowAt F s (c .a)) (nowAt F s (c .b))) (sym e)
       go (no e) = ap (λ (sh : Shape). nextValue F sh starts net s k c) (operator-shape (c .kind) (omega (arith, e)) g)
 
-  pub next-read : c .kind ≡ 44 → nextValue F (shape (c .kind)) starts net s k c ≡ elementNow F net s (elementOf (cellAt net (c .a) .delay) (nowAt F s (c .b)))
+  pub next-read : c .kind ≡ 44 → nextValue F (shape (c .kind)) starts net s k c ≡ elementNow F net s (elementOf (cellAt (net .cells) (c .a) .delay) (nowAt F s (c .b)))
   unfolding nextValue shape
   next-read h = by-kind 44 h
 
@@ -148,20 +149,24 @@ module _ (F : Format) (starts : Bool) (net : List Cell) (s : List ℕ) (k : ℕ)
 
 -- Settling -----------------------------------------------------------------------------------------------------------------------------
 
-module _ (F : Format) (s : List ℕ) (k : ℕ) (c : Cell) where
-  pub settle-delay : c .kind ≡ 34 → settle F (shape (c .kind)) s k c ≡ takenIn F s k (c .delay) (high (nowAt F s (c .a)))
+module _ (w : ℕ) (F : Format) (s : List ℕ) (k : ℕ) (c : Cell) where
+  pub settle-delay : c .kind ≡ 34 → settle F w (shape (c .kind)) s k c ≡ takenIn F s k (c .delay) (high (nowAt F s (c .a)))
   unfolding settle shape
-  settle-delay h = ap (λ (j : ℕ). settle F (shape j) s k c) h
+  settle-delay h = ap (λ (j : ℕ). settle F w (shape j) s k c) h
 
-  pub settle-other : (c .kind ≡ 34 → ⊥) → merges (c .kind) ≡ false → settle F (shape (c .kind)) s k c ≡ s
+  pub settle-start : c .kind ≡ 32 → settle F w (shape (c .kind)) s k c ≡ set s (remainingByte F k) (remainingStep w (remainingAt F s k) (high (nowAt F s k)))
+  unfolding settle shape
+  settle-start h = ap (λ (j : ℕ). settle F w (shape j) s k c) h
+
+  pub settle-other : (c .kind ≡ 34 → ⊥) → merges (c .kind) ≡ false → (c .kind ≡ 32 → ⊥) → settle F w (shape (c .kind)) s k c ≡ s
   unfolding settle merges
-  settle-other h g = go (shape (c .kind)) refl
+  settle-other h g z = go (shape (c .kind)) refl
     where
-      go : (sh : Shape) → shape (c .kind) ≡ sh → settle F sh s k c ≡ s
+      go : (sh : Shape) → shape (c .kind) ≡ sh → settle F w sh s k c ≡ s
       go kConstant e = refl
       go kComplement e = refl
       go kOperator e = refl
-      go kStart e = refl
+      go kStart e = absurd (z (start-kind (c .kind) e))
       go kGround e = refl
       go kDelay e = absurd (h (delay-kind (c .kind) e))
       go kOr e = refl

@@ -1,52 +1,45 @@
 -- Cells in a list of six bytes each, and the state that they fit. Assumes nothing.
 use mathlib.Core.Bool.{Bool}
-use mathlib.Core.List.{List, _∷_}
-use mathlib.Core.Path.{_≡_, sym, _∙_, ap}
-use Prim.Native.Nat.{ℕ, _+_, _*_, _<_, _≤_}
+use mathlib.Core.List.{List}
+use mathlib.Core.Path.{_≡_, refl, sym, _∙_, ap}
+use Prim.Native.Nat.{ℕ, _+_, _*_, _<_}
 use native.Mathlib.Omega.{arith}
-use native.Mathlib.Numerals.{add-one}
 use native.Mathlib.Nat.{zero-add}
 use borrow.Author.Tests.{eqb-true}
-use lib.ListN.{length, drop}
-use lib.Seq.{drop-cons}
+use lib.ListN.{length}
 use Rattle.model.specs.declared.Cell.{Cell}
 use Rattle.model.specs.declared.Format.{Format}
-use Rattle.model.specs.declared.Format.the-variants.{Full, Compact}
-use Rattle.model.specs.Circuit.{noCell, cellAt, arrayAt, cellTable, shape, cellRow}
+use Rattle.model.specs.Circuit.{cellAt, arrayAt, cellTable, shape, cellRow}
 use Rattle.model.specs.NetlistFile.{cellFrom, inList}
-use Rattle.model.specs.State.{cellSize, base, nextValue, value}
+use Rattle.model.specs.State.{base, nextValue, value, stored, shown}
+use Rattle.model.specs.Word.{put16}
 use Rattle.laws.specs.Circuit.Ordered.{In, Looks, array, kinds}
 use Rattle.laws.specs.NetlistFile.Passed.{length-cells}
 use Rattle.laws.specs.NetlistFile.CellBytes.{cell-of}
-use Rattle.laws.specs.State.Lines.{least, below}
-use Rattle.simulator.specs.Fits.{Stands, Sees, netOf, Fits, Holds}
-
--- a list of cells from cell k on
-pub cells-from : (net : List Cell) (k : ℕ) → k < length net → drop k net ≡ cellAt net k ∷ drop (k + 1) net
-cells-from net k h = rw (add-one k) (drop-cons net k noCell h)
+use Rattle.state.specs.Stands.{Stands, Sees}
+use Rattle.state.proofs.Standing.{stands-in}
+use Rattle.simulator.specs.Fits.{listIn, netIn, Fits, Holds}
 
 module _ (cells : List ℕ) (n k : ℕ) (h : k < n) where
-  pub net-cell : cellAt (netOf cells n) k ≡ cellFrom cells (6 * k)
+  pub net-cell : cellAt (listIn cells n) k ≡ cellFrom cells (6 * k)
   net-cell = cell-of inList cells 0 n k h ∙ ap (λ (j : ℕ). cellFrom cells (6 * j)) (zero-add k)
 
-  pub net-value : (F : Format) (starts : Bool) (s : List ℕ)
-      → value F (netOf cells n) starts s k ≡ nextValue F (shape (cellFrom cells (6 * k) .kind)) starts (netOf cells n) s k (cellFrom cells (6 * k))
-  net-value F starts s = ap (λ (c : Cell). nextValue F (shape (c .kind)) starts (netOf cells n) s k c) net-cell
+  pub net-value : (w : ℕ) (F : Format) (starts : Bool) (s : List ℕ)
+      → value F (netIn w cells n) starts s k ≡ nextValue F (shape (cellFrom cells (6 * k) .kind)) starts (netIn w cells n) s k (cellFrom cells (6 * k))
+  net-value w F starts s = ap (λ (c : Cell). nextValue F (shape (c .kind)) starts (netIn w cells n) s k c) net-cell
 
-pub net-length : (cells : List ℕ) (n : ℕ) → length (netOf cells n) ≡ n
+  -- what cell k, which is c, shows is put in, behind what it has stored
+  pub shown-value : (w : ℕ) (F : Format) (starts : Bool) (s t : List ℕ) (at x : ℕ) (c : Cell) → c ≡ cellFrom cells (6 * k) → t ≡ stored F (netIn w cells n) s k → at ≡ base F k
+      → x ≡ nextValue F (shape (c .kind)) starts (netIn w cells n) s k c → put16 t at x ≡ shown F (netIn w cells n) (value F (netIn w cells n) starts) s k
+  unfolding shown
+  shown-value w F starts s t at x c z p q r =
+      let y : x ≡ value F (netIn w cells n) starts s k = rw z at r ∙ sym (net-value w F starts s) in
+      rw (p, q, y) refl
+
+pub net-length : (cells : List ℕ) (n : ℕ) → length (listIn cells n) ≡ n
 net-length cells n = length-cells inList cells 0 n
 
--- where a cell can begin
-pub place-low : (F : Format) (k : ℕ) → k ≤ 1024 → cellSize F * k ≤ 40960
-place-low Full k h = omega arith
-place-low Compact k h = omega arith
-
--- cell k of n stands in a state that has room for them
-pub stands-in : (F : Format) (s : List ℕ) (k n : ℕ) → k < n → n ≤ 1024 → base F n ≤ length s → Stands F s k
-stands-in F s k n h few room =
-    record { few = omega arith; front = omega (arith, below F k n h, least F); room = omega (arith, below F k n h) }
-
--- and in one that is as long
+-- a cell stands in a state that is as long
 restands : {F : Format} {s t : List ℕ} {k : ℕ} → length t ≡ length s → Stands F s k → Stands F t k
 restands e z = record { few = z .few; front = rw e (z .front); room = rw e (z .room) }
 
@@ -78,14 +71,14 @@ holds f t e k h c z =
 
 -- what cell k asks
 module _ {F : Format} {cells : List ℕ} {n : ℕ} {s : List ℕ} {k : ℕ} {c : Cell} (p : Holds F cells n s k c) where
-  pub holds-cell : cellAt (netOf cells n) k ≡ c
+  pub holds-cell : cellAt (listIn cells n) k ≡ c
   holds-cell = net-cell cells n k (p .below) ∙ sym (p .here)
 
   -- a read's a is an array
-  pub read-array : c .kind ≡ 44 → (c .a < n) × (cellAt (netOf cells n) (c .a) .delay < 4)
+  pub read-array : c .kind ≡ 44 → (c .a < n) × (cellAt (listIn cells n) (c .a) .delay < 4)
   unfolding shape cellTable
   read-array z =
-      let net = netOf cells n in
+      let net = listIn cells n in
       let o = p .fits .ordered in
       let long = net-length cells n in
       let h : k < length net = omega (arith, long, p .below) in
@@ -98,7 +91,7 @@ module _ {F : Format} {cells : List ℕ} {n : ℕ} {s : List ℕ} {k : ℕ} {c :
   -- behind an array stands its address, which names a cell of the state
   pub array-address : c .kind ≡ 42 → (c .delay < 4) × (k + 1 < n) × Stands F s (cellFrom cells (6 * (k + 1)) .a)
   array-address z =
-      let net = netOf cells n in
+      let net = listIn cells n in
       let o = p .fits .ordered in
       let long = net-length cells n in
       let h : k < length net = omega (arith, long, p .below) in

@@ -5,13 +5,12 @@ use mathlib.Core.List.{List}
 use mathlib.Core.Path.{_≡_, refl, sym, _∙_, ap, ap₂}
 use Prim.Native.Nat.{ℕ, zero, suc, _+_, _-_, _<_, _≤_}
 use native.Mathlib.Omega.{arith}
-use Rattle.model.specs.declared.Cell.{Cell}
 use Rattle.model.specs.declared.Format.{Format}
 use Rattle.model.specs.declared.Format.the-variants.{Full}
 use Rattle.model.specs.declared.Refusal.{Refusal}
 use Rattle.model.specs.declared.Checked.{Checked}
 use Rattle.model.specs.declared.Checked.the-variants.{Accepted, Refused}
-use Rattle.model.specs.Circuit.{high}
+use Rattle.model.specs.Circuit.{Netlist, high}
 use Rattle.model.specs.State.{Course, course, longer, nowAt, stepState, crowding, continued}
 use Rattle.laws.specs.Refusals.Laws.{by-bool}
 use Rattle.simulator.specs.Levels.{continuedWith}
@@ -27,7 +26,7 @@ by-check : {A : Type 0} (c : Checked) → (c ≡ Accepted → A) → ((r : Refus
 by-check Accepted p q = p refl
 by-check (Refused r) p q = q r refl
 
-module _ (F : Format) (net : List Cell) (starts : Bool) (f : ℕ) where
+module _ (F : Format) (net : Netlist) (starts : Bool) (f : ℕ) where
   abbrev C : ℕ → List ℕ → Course
   C n s = continuedWith F net starts f n s
 
@@ -142,7 +141,7 @@ module _ (F : Format) (net : List Cell) (starts : Bool) (f : ℕ) where
       by-bool (high (nowAt F (stepState F net starts s) f)) (λ h. high-turn 0 s e h) (λ h. low-turn 0 s e h ∙ (unfold continuedWith in refl))
 
 -- a full state has room for every pulse
-pub full-accepted : (net : List Cell) (starts : Bool) (f n : ℕ) (s : List ℕ) → continuedWith Full net starts f n s .check ≡ Accepted
+pub full-accepted : (net : Netlist) (starts : Bool) (f n : ℕ) (s : List ℕ) → continuedWith Full net starts f n s .check ≡ Accepted
 unfolding crowding
 full-accepted net starts f zero s = unfold continuedWith in refl
 full-accepted net starts f (suc n) s =
@@ -151,7 +150,7 @@ full-accepted net starts f (suc n) s =
     (λ h. rw (low-turn Full net starts f n s refl h) (full-accepted net starts f n t))
 
 -- with no start pulse it is a continuing
-pub with-none : (F : Format) (net : List Cell) (f n : ℕ) (s : List ℕ) → continuedWith F net false f n s ≡ continued F net f n s
+pub with-none : (F : Format) (net : Netlist) (f n : ℕ) (s : List ℕ) → continuedWith F net false f n s ≡ continued F net f n s
 unfolding continuedWith continued
 with-none F net f zero s = refl
 with-none F net f (suc n) s =

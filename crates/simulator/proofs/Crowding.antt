@@ -2,7 +2,7 @@
 -- Assumes nothing.
 use mathlib.Core.Bool.{Bool, true, false, _&&_}
 use mathlib.Core.List.{List, [], _∷_}
-use mathlib.Core.Path.{_≡_, refl, sym, _∙_, ap}
+use mathlib.Core.Path.{_≡_, refl, sym, _∙_}
 use Prim.Native.Nat.{ℕ, zero, suc, _+_, _<_, _≤_}
 use native.Mathlib.Nat.{add-zero}
 use native.Mathlib.Omega.{arith}
@@ -14,16 +14,16 @@ use Rattle.model.specs.declared.Merge.{Merge}
 use Rattle.model.specs.declared.Format.{Format}
 use Rattle.model.specs.declared.Format.the-variants.{Full, Compact}
 use Rattle.model.specs.declared.Checked.the-variants.{Accepted}
-use Rattle.model.specs.Word.{pick, bit}
+use Rattle.model.specs.Word.{bit}
 use Rattle.model.specs.Refusals.{firstFault, faultIf}
-use Rattle.model.specs.Circuit.{cellAt, high}
-use Rattle.model.specs.State.{flightOf, flightIn, nowAt, heldAt, leftAt, lineAt, crowded, crowding}
+use Rattle.model.specs.Circuit.{Netlist, cellAt, high}
+use Rattle.model.specs.State.{remainingAt, flightOf, flightIn, nowAt, heldAt, leftAt, lineAt, crowded, crowding}
 use Rattle.laws.specs.Refusals.Laws.{by-bool, by-le, faultless}
 use Rattle.laws.specs.State.Lines.{Vacant}
 use Rattle.laws.specs.State.Flight.{cellFlight}
-use Rattle.simulator.specs.Fits.{Lined, Ready}
-use Rattle.simulator.specs.Crowds.{crowds, crowdFault}
-use Rattle.simulator.proofs.Counting.{oneLeft, compact-ones, delay-flight}
+use Rattle.state.specs.Stands.{Lined, Ready}
+use Rattle.state.specs.Crowds.{crowds}
+use Rattle.state.proofs.Counting.{oneLeft, compact-ones, delay-flight}
 
 -- The fault of a cell ----------------------------------------------------------------------------------------------------------------------
 
@@ -32,29 +32,23 @@ unfolding crowds
 crowds-same Full s t k c a b = refl
 crowds-same Compact s t k c a b = rw (a, b) refl
 
--- no delay, a full state, a compact one
-module _ (s : List ℕ) (k : ℕ) (c : Cell) where
-  pub crowds-other : (F : Format) → (c .kind ≡ 34 → ⊥) → crowds F s k c ≡ false
-  unfolding crowds
-  crowds-other Full n = refl
-  crowds-other Compact n = rw (ne-eqb _ _ n) refl
+-- no delay
+pub crowds-other : (s : List ℕ) (k : ℕ) (c : Cell) (F : Format) → (c .kind ≡ 34 → ⊥) → crowds F s k c ≡ false
+unfolding crowds
+crowds-other s k c Full n = refl
+crowds-other s k c Compact n = rw (ne-eqb _ _ n) refl
 
-  pub crowds-full : crowds Full s k c ≡ false
-  unfolding crowds
-  crowds-full = refl
+abbrev pub crowdFault : Format → Netlist → List ℕ → ℕ → ℕ
+crowdFault F net s k = faultIf (crowds F s k (cellAt (net .cells) k)) 26
 
-  pub crowds-compact : c .kind ≡ 34 → crowds Compact s k c ≡ (high (nowAt Compact s (c .a)) && ltb 1 (leftAt Compact s k))
-  unfolding crowds
-  crowds-compact e = rw (eq-eqb _ _ e) refl
-
-module _ (F : Format) (net : List Cell) (s : List ℕ) where
-  pub crowded-here : (k : ℕ) → crowds F s k (cellAt net k) ≡ true → crowdFault F net s k ≡ 26
+module _ (F : Format) (net : Netlist) (s : List ℕ) where
+  pub crowded-here : (k : ℕ) → crowds F s k (cellAt (net .cells) k) ≡ true → crowdFault F net s k ≡ 26
   crowded-here k e = rw e refl
 
-  pub not-crowded-here : (k : ℕ) → crowds F s k (cellAt net k) ≡ false → crowdFault F net s k ≡ 0
+  pub not-crowded-here : (k : ℕ) → crowds F s k (cellAt (net .cells) k) ≡ false → crowdFault F net s k ≡ 0
   not-crowded-here k e = rw e refl
 
-pub crowding-faults : (F : Format) (net : List Cell) (s : List ℕ) (n : ℕ) → length net ≡ n → crowding F net s s ≡ firstFault (crowdFault F net s) 0 n
+pub crowding-faults : (F : Format) (net : Netlist) (s : List ℕ) (n : ℕ) → length (net .cells) ≡ n → crowding F net s s ≡ firstFault (crowdFault F net s) 0 n
 unfolding crowding
 crowding-faults Full net s n e = sym (faultless (crowdFault Full net s) 0 n (λ j l h. unfold crowds in refl))
 crowding-faults Compact net s n e = unfold crowded crowds in rw (← e) refl
@@ -72,30 +66,30 @@ no-fault true true c e = rw e refl
 no-fault true false c e = refl
 no-fault false b c e = refl
 
-roomy-at : (net : List Cell) (s t : List ℕ) (k : ℕ) → (cellAt net k .kind ≡ 34 → leftAt Compact s k ≤ 1) → crowded Compact net s t k ≡ 0
+roomy-at : (net : Netlist) (s t : List ℕ) (k : ℕ) → (cellAt (net .cells) k .kind ≡ 34 → leftAt Compact s k ≤ 1) → crowded Compact net s t k ≡ 0
 unfolding crowded
 roomy-at net s t k h =
-    by-bool (eqb (cellAt net k .kind) 34) (λ q. no-fault (eqb (cellAt net k .kind) 34) (high (nowAt Compact t (cellAt net k .a))) (ltb 1 (leftAt Compact s k)) (le-ltb 1 (leftAt Compact s k) (h (eqb-true _ _ q)))) (λ q. rw q refl)
+    by-bool (eqb (cellAt (net .cells) k .kind) 34) (λ q. no-fault (eqb (cellAt (net .cells) k .kind) 34) (high (nowAt Compact t (cellAt (net .cells) k .a))) (ltb 1 (leftAt Compact s k)) (le-ltb 1 (leftAt Compact s k) (h (eqb-true _ _ q)))) (λ q. rw q refl)
 
-roomy-full : (net : List Cell) (s t : List ℕ) → crowding Full net s t ≡ Accepted
+roomy-full : (net : Netlist) (s t : List ℕ) → crowding Full net s t ≡ Accepted
 unfolding crowding
 roomy-full net s t = refl
 
 -- where every line's pulse, if any, comes out now
-pub roomy : (F : Format) (net : List Cell) (s t : List ℕ) → ((k : ℕ) → k < length net → cellAt net k .kind ≡ 34 → leftAt F s k ≤ 1) → crowding F net s t ≡ Accepted
+pub roomy : (F : Format) (net : Netlist) (s t : List ℕ) → ((k : ℕ) → k < length (net .cells) → cellAt (net .cells) k .kind ≡ 34 → leftAt F s k ≤ 1) → crowding F net s t ≡ Accepted
 unfolding crowding
 roomy Full net s t h = refl
-roomy Compact net s t h = faultless (crowded Compact net s t) 0 (length net) (λ k l g. roomy-at net s t k (h k (omega arith)))
+roomy Compact net s t h = faultless (crowded Compact net s t) 0 (length (net .cells)) (λ k l g. roomy-at net s t k (h k (omega arith)))
 
 -- With nothing in flight -------------------------------------------------------------------------------------------------------------------
 
-cell-quiet : (l : ℕ → ℕ → ℕ) (g : ℕ → Merge) (cs : List Cell) (k i : ℕ) → i < length cs → flightIn l g cs k ≡ 0 → cellFlight l g cs k i ≡ 0
+cell-quiet : (l : ℕ → ℕ → ℕ) (g : ℕ → Merge) (p : ℕ → ℕ) (cs : List Cell) (k i : ℕ) → i < length cs → flightIn l g p cs k ≡ 0 → cellFlight l g p cs k i ≡ 0
 unfolding flightIn
-cell-quiet l g [] k i h e = absurd (omega arith)
-cell-quiet l g (c ∷ cs) k zero h e = rw add-zero (omega (arith, e))
-cell-quiet l g (c ∷ cs) k (suc i) h e =
+cell-quiet l g p [] k i h e = absurd (omega arith)
+cell-quiet l g p (c ∷ cs) k zero h e = rw add-zero (omega (arith, e))
+cell-quiet l g p (c ∷ cs) k (suc i) h e =
     let q : k + 1 + i ≡ k + suc i = omega arith in
-    rw q at (cell-quiet l g cs (k + 1) i (omega arith) (omega (arith, e)))
+    rw q at (cell-quiet l g p cs (k + 1) i (omega arith) (omega (arith, e)))
 
 left-quiet : (left d : ℕ) → left ≤ d → oneLeft left d ≡ 0 → left ≤ 1
 unfolding oneLeft bit
@@ -104,14 +98,14 @@ left-quiet left d h e = by-le left 0 (λ g. omega arith) (λ g. absurd (go (rw (
     go : _≡_ {A = ℕ} 1 0 → ⊥
     go z = omega arith
 
-pub quiet-roomy : (F : Format) (net : List Cell) (s t : List ℕ) → Ready F net s → flightOf s ≡ 0 → crowding F net s t ≡ Accepted
+pub quiet-roomy : (F : Format) (net : Netlist) (s t : List ℕ) → Ready F net s → flightOf s ≡ 0 → crowding F net s t ≡ Accepted
 unfolding Lined
 quiet-roomy Full net s t ready e = roomy-full net s t
 quiet-roomy Compact net s t ready e =
     roomy Compact net s t
     (λ k l q.
-    let d = cellAt net k .delay in
+    let d = cellAt (net .cells) k .delay in
     let z : 0 + k ≡ k = omega arith in
-    let none : cellFlight (lineAt Compact net s) (heldAt Compact s) net 0 k ≡ 0 = cell-quiet (lineAt Compact net s) (heldAt Compact s) net 0 k l (sym (ready .number) ∙ e) in
+    let none : cellFlight (lineAt Compact net s) (heldAt Compact s) (remainingAt Compact s) (net .cells) 0 k ≡ 0 = cell-quiet (lineAt Compact net s) (heldAt Compact s) (remainingAt Compact s) (net .cells) 0 k l (sym (ready .number) ∙ e) in
     left-quiet (leftAt Compact s k) d (ready .lines k l q)
-    (sym (compact-ones s k d) ∙ sym (delay-flight (lineAt Compact net s k) (heldAt Compact s k) (cellAt net k) q) ∙ (rw z at none)))
+    (sym (compact-ones s k d) ∙ sym (delay-flight (lineAt Compact net s k) (heldAt Compact s k) (remainingAt Compact s k) (cellAt (net .cells) k) q) ∙ (rw z at none)))

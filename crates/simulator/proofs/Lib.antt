@@ -1,7 +1,5 @@
 pub mod Cells
 pub mod Passes
-pub mod Places
-pub mod Counting
 pub mod Crowding
 pub mod InFlight
 pub mod Stepping
@@ -11,5 +9,4 @@ pub mod Memories
 pub mod Continuing
 pub mod AcceptedFile
 pub mod Answers
-pub mod Soundness
 pub mod Refusing

@@ -12,10 +12,10 @@ use borrow.Author.Tests.{eq-eqb, ne-eqb}
 use Rattle.model.specs.declared.Cell.{Cell}
 use Rattle.model.specs.declared.Format.{Format}
 use Rattle.model.specs.Word.{pick, bit}
-use Rattle.model.specs.Circuit.{memoryWords, cellAt, noCell, memories, startWord, shape}
+use Rattle.model.specs.Circuit.{Netlist, memoryWords, cellAt, noCell, memories, startWord, shape}
 use Rattle.model.specs.State.{nowAt, nextValue, firstValue, wordsIn}
 use Rattle.laws.specs.Numbering.Memories.{memories-append}
-use Rattle.simulator.proofs.Cells.{cells-from}
+use Rattle.state.proofs.Standing.{cells-from}
 
 module _ (net : List Cell) (k : ℕ) (h : k < length net) where
   -- below cell k and with it
@@ -110,11 +110,11 @@ collects-all F net s words j k h c =
 
 -- Values at instant 0 ------------------------------------------------------------------------------------------------------------------
 
-module _ (F : Format) (net : List Cell) (w : ℕ → ℕ) (s : List ℕ) (k : ℕ) (c : Cell) (e : cellAt net k ≡ c) where
-  first-is : firstValue F net w s k ≡ pick (eqb (c .kind) 40) (startWord net w k) (nextValue F (shape (c .kind)) true net s k c)
-  first-is = ap (λ (x : Cell). pick (eqb (x .kind) 40) (startWord net w k) (nextValue F (shape (x .kind)) true net s k x)) e
+module _ (F : Format) (net : Netlist) (w : ℕ → ℕ) (s : List ℕ) (k : ℕ) (c : Cell) (e : cellAt (net .cells) k ≡ c) where
+  first-is : firstValue F net w s k ≡ pick (eqb (c .kind) 40) (startWord (net .cells) w k) (nextValue F (shape (c .kind)) true net s k c)
+  first-is = ap (λ (x : Cell). pick (eqb (x .kind) 40) (startWord (net .cells) w k) (nextValue F (shape (x .kind)) true net s k x)) e
 
-  pub first-memory : c .kind ≡ 40 → firstValue F net w s k ≡ w (memories (take k net))
+  pub first-memory : c .kind ≡ 40 → firstValue F net w s k ≡ w (memories (take k (net .cells)))
   first-memory h = first-is ∙ rw (eq-eqb _ _ h) refl
 
   pub first-other : (c .kind ≡ 40 → ⊥) → firstValue F net w s k ≡ nextValue F (shape (c .kind)) true net s k c

@@ -1,19 +1,18 @@
--- Passes over the cells, over the elements' start words and over the bytes of a line: their turns, what they leave, and the passes of an instant
--- together. Assumes nothing.
+-- Passes over the cells and over the elements' start words: their turns, what they leave, and the passes of an instant together. Assumes nothing.
 use mathlib.Core.Bool.{Bool}
 use mathlib.Core.List.{List, _++_, append-assoc}
 use mathlib.Core.Logic.{_⊎_, inl, inr}
 use mathlib.Core.Path.{_≡_, refl, sym, _∙_, ap}
-use Prim.Native.Nat.{ℕ, zero, suc, _+_, _-_, _*_, _/_, _%_, _<_, _≤_}
+use Prim.Native.Nat.{ℕ, zero, suc, _+_, _-_, _*_, _<_, _≤_}
 use native.Mathlib.Omega.{arith}
 use native.Mathlib.Decide.{decLt}
-use native.Mathlib.Numerals.{add-one, sub-one}
-use lib.ListN.{length, getD, set, take, drop, replicate, length-take}
+use native.Mathlib.Numerals.{add-one}
+use lib.ListN.{length, getD, take, drop, replicate, length-take}
 use lib.Seq.{sets, sets-eq, drop-at}
-use Rattle.model.specs.declared.Cell.{Cell}
+use Rattle.model.specs.Circuit.{Netlist}
 use Rattle.model.specs.declared.Format.{Format}
 use Rattle.model.specs.Word.{bytes16, put16, put32}
-use Rattle.model.specs.State.{instantOf, cellSize, base, nowAt, value, firstValue, upTo, aged, shown, shiftedIn, settled, counted, wordBytes, blank, evaluate, beginState, stepState}
+use Rattle.model.specs.State.{instantOf, cellSize, base, nowAt, value, firstValue, upTo, aged, shown, settled, counted, wordBytes, blank, evaluate, beginState, stepState}
 use Rattle.laws.specs.State.Bytes.{get16-same, upTo-frame}
 use Rattle.laws.specs.State.Lines.{below, rising}
 use Rattle.laws.specs.State.Passes.{settled-frame}
@@ -63,7 +62,7 @@ module _ (words : ℕ → ℕ) (d : List ℕ) (i x n : ℕ) where
   words-done h = let e : n - x ≡ 0 = omega arith in rw e refl
 
 -- the passes of one further instant, and of instant 0
-module _ (F : Format) (net : List Cell) (n : ℕ) (e : length net ≡ n) (s : List ℕ) where
+module _ (F : Format) (net : Netlist) (n : ℕ) (e : length (net .cells) ≡ n) (s : List ℕ) where
   pub stepped : (starts : Bool) (t u v w : List ℕ) → t ≡ put32 s 0 (instantOf s + 1) → u ≡ upTo (aged F) n t → v ≡ upTo (shown F net (value F net starts)) n u
       → w ≡ counted F net (upTo (settled F net) n v) → w ≡ stepState F net starts s
   unfolding stepState evaluate
@@ -89,7 +88,7 @@ module _ (F : Format) (net : List Cell) (n : ℕ) (e : length net ≡ n) (s : Li
 
 -- What the third pass leaves, where it has come to cell k ------------------------------------------------------------------------------
 
-module _ (F : Format) (net : List Cell) (s : List ℕ) (k : ℕ) where
+module _ (F : Format) (net : Netlist) (s : List ℕ) (k : ℕ) where
   -- the values of every cell
   pub settled-values : (a : ℕ) → nowAt F (upTo (settled F net) k s) a ≡ nowAt F s a
   settled-values a = get16-same s (upTo (settled F net) k s) (base F a) (low (base F a) (omega arith) (omega arith)) (low (base F a + 1) (omega arith) (omega arith))
@@ -104,15 +103,3 @@ module _ (F : Format) (net : List Cell) (s : List ℕ) (k : ℕ) where
   -- and every byte from cell k on
   pub settled-later : (j : ℕ) → base F k ≤ j → getD (upTo (settled F net) k s) j 0 ≡ getD s j 0
   settled-later j h = upTo-frame (settled F net) j k s (λ t m x. settled-frame F net t m j (inr (omega (arith, below F m k x))))
-
--- Lines --------------------------------------------------------------------------------------------------------------------------------
-
-pub shifted-none : (m : ℕ) (s : List ℕ) (i x : ℕ) → m ≡ 0 → shiftedIn m s i x ≡ s
-unfolding shiftedIn
-shifted-none m s i x h = rw h
-
-pub shifted-more : (m : ℕ) (s : List ℕ) (i x : ℕ) → 0 < m
-    → shiftedIn m s i x ≡ shiftedIn (m - 1) (set s i ((2 * getD s i 0 + x) % 256)) (i + 1) ((2 * getD s i 0 + x) / 256)
-unfolding shiftedIn
-shifted-more zero s i x h = absurd (omega arith)
-shifted-more (suc m) s i x h = rw sub-one

@@ -1,31 +1,32 @@
 -- Further instants. One, as its three passes make it: refusal 26 is seen in the third as the model sees it from the state before and the state after, and
 -- what stands behind the state stays.
 -- Assumes nothing.
-use mathlib.Core.Bool.{Bool, true, false, _&&_}
+use mathlib.Core.Bool.{Bool, false, _&&_}
 use mathlib.Core.List.{List, _++_}
-use mathlib.Core.Logic.{inl, inr}
+use mathlib.Core.Logic.{inr}
 use mathlib.Core.Path.{_≡_, refl, sym, _∙_, ap, ap₂}
-use Prim.Native.Nat.{ℕ, zero, suc, _+_, _-_, _*_, _<_, _≤_}
+use Prim.Native.Nat.{ℕ, zero, suc, _+_, _-_, _<_, _≤_}
 use native.Mathlib.Omega.{arith}
 use lib.Dec.{eqb}
 use lib.ListN.{length, getD, take, drop, length-drop, take-append-drop}
 use lib.Seq.{paste, take-paste, getD-drop, ext-getD}
 use borrow.Author.Tests.{eqb-true}
-use Rattle.model.specs.declared.Cell.{Cell}
 use Rattle.model.specs.declared.Format.{Format}
 use Rattle.model.specs.declared.Format.the-variants.{Full, Compact}
 use Rattle.model.specs.declared.Refusal.{Refusal}
 use Rattle.model.specs.declared.Checked.the-variants.{Accepted, Refused}
-use Rattle.model.specs.Word.{pick, elementOf, put16, put32}
+use Rattle.model.specs.Word.{put32}
 use Rattle.model.specs.Refusals.{firstFault}
-use Rattle.model.specs.Circuit.{cellAt, high}
-use Rattle.model.specs.State.{course, instantOf, cellSize, base, nowAt, fallen, leftAt, value, upTo, aged, stored, shown, settled, counted, stepState, crowded, crowding}
+use Rattle.model.specs.Circuit.{Netlist, cellAt, high}
+use Rattle.model.specs.State.{course, instantOf, base, nowAt, fallen, leftAt, value, upTo, aged, stored, shown, settled, counted, stepState, crowded, crowding}
 use Rattle.laws.specs.Refusals.Laws.{by-bool, and-true}
 use Rattle.laws.specs.Circuit.Ordered.{Ordered}
 use Rattle.laws.specs.State.Bytes.{put16-other, get16-same, upTo-frame}
-use Rattle.laws.specs.State.Lines.{least, rising, below}
+use Rattle.laws.specs.State.Lines.{least, below}
 use Rattle.laws.specs.State.Passes.{ticked, one, two, three, one-high, two-high, one-behind, shown-put, counted-other, count-now, step-is}
-use Rattle.simulator.specs.Fits.{Ready, Spares, Continues}
+use Rattle.netlist.specs.declared.header.Header.{Header}
+use Rattle.state.specs.Stands.{Ready}
+use Rattle.simulator.specs.Fits.{Spares, Continues}
 use Rattle.simulator.specs.Levels.{continuedWith}
 use Rattle.simulator.proofs.InFlight.{stepped-ready}
 use Rattle.simulator.proofs.Continuing.{Going, going-none, going-low, again}
@@ -36,54 +37,54 @@ unfolding firstFault
 faults-same f g i zero h = refl
 faults-same f g i (suc n) h = rw (h i (omega arith) (omega arith), faults-same f g (i + 1) n (λ j a b. h j (omega arith) (omega arith))) refl
 
-crowded-same : (net : List Cell) (s t v : List ℕ) (k : ℕ) → nowAt Compact v (cellAt net k .a) ≡ nowAt Compact t (cellAt net k .a) → leftAt Compact v k ≡ leftAt Compact s k
+crowded-same : (net : Netlist) (s t v : List ℕ) (k : ℕ) → nowAt Compact v (cellAt (net .cells) k .a) ≡ nowAt Compact t (cellAt (net .cells) k .a) → leftAt Compact v k ≡ leftAt Compact s k
     → crowded Compact net v v k ≡ crowded Compact net s t k
 unfolding crowded
 crowded-same net s t v k a b = rw (a, b) refl
 
-module _ (F : Format) (net : List Cell) (starts : Bool) (s : List ℕ) where
+module _ (F : Format) (net : Netlist) (starts : Bool) (s : List ℕ) where
   -- the state before the third pass
   abbrev v : List ℕ
-  v = two F net (value F net starts) (one F s (length net)) (length net)
+  v = two F net (value F net starts) (one F s (length (net .cells))) (length (net .cells))
 
   -- it has the values of the state after, and the lines of the state before
   values-after : (a : ℕ) → nowAt F v a ≡ nowAt F (stepState F net starts s) a
   unfolding three
   values-after a =
-      let w = upTo (settled F net) (length net) v in
+      let w = upTo (settled F net) (length (net .cells)) v in
       sym
       (ap (λ (t : List ℕ). nowAt F t a) (step-is F net starts s)
       ∙ get16-same w (counted F net w) (base F a) (counted-other F net w (base F a) (inr (omega arith))) (counted-other F net w (base F a + 1) (inr (omega arith)))
-      ∙ settled-values F net v (length net) a)
+      ∙ settled-values F net v (length (net .cells)) a)
 
-  lines-before : (k : ℕ) → k < length net → leftAt F v k ≡ leftAt F s k
+  lines-before : (k : ℕ) → k < length (net .cells) → leftAt F v k ≡ leftAt F s k
   lines-before k l =
-      two-high F net (value F net starts) (one F s (length net)) (length net) k (base F k + 6) l (omega arith) (omega (arith, least F))
-      ∙ one-high F s (length net) k (base F k + 6) (omega arith) (omega (arith, least F))
+      two-high F net (value F net starts) (one F s (length (net .cells))) (length (net .cells)) k (base F k + 6) l (omega arith) (omega (arith, least F))
+      ∙ one-high F s (length (net .cells)) k (base F k + 6) (omega arith) (omega (arith, least F))
 
-crowding-passes : (F : Format) (net : List Cell) (starts : Bool) (s : List ℕ)
+crowding-passes : (F : Format) (net : Netlist) (starts : Bool) (s : List ℕ)
     → crowding F net (v F net starts s) (v F net starts s) ≡ crowding F net s (stepState F net starts s)
 unfolding crowding
 crowding-passes Full net starts s = refl
 crowding-passes Compact net starts s =
-    faults-same _ _ 0 (length net)
-    (λ k a b. crowded-same net s (stepState Compact net starts s) (v Compact net starts s) k (values-after Compact net starts s (cellAt net k .a)) (lines-before Compact net starts s k (omega arith)))
+    faults-same _ _ 0 (length (net .cells))
+    (λ k a b. crowded-same net s (stepState Compact net starts s) (v Compact net starts s) k (values-after Compact net starts s (cellAt (net .cells) k .a)) (lines-before Compact net starts s k (omega arith)))
 
-module _ (F : Format) (net : List Cell) (ordered : Ordered net) where
+module _ (F : Format) (net : Netlist) (ordered : Ordered (net .cells)) where
   -- an array's word stands before what is behind the state
-  stored-behind : (t : List ℕ) (k : ℕ) → k < length net → (j : ℕ) → base F (length net) + 512 ≤ j → getD (stored F net t k) j 0 ≡ getD t j 0
+  stored-behind : (t : List ℕ) (k : ℕ) → k < length (net .cells) → (j : ℕ) → base F (length (net .cells)) + 512 ≤ j → getD (stored F net t k) j 0 ≡ getD t j 0
   unfolding stored
   stored-behind t k l j h =
-      by-bool (eqb (cellAt net k .kind) 42 && fallen F t (cellAt net k .a))
+      by-bool (eqb (cellAt (net .cells) k .kind) 42 && fallen F t (cellAt (net .cells) k .a))
       (λ e.
-      let d = ordered .stands k l (eqb-true _ _ (and-true (eqb (cellAt net k .kind) 42) _ e .0)) .0 in
+      let d = ordered .stands k l (eqb-true _ _ (and-true (eqb (cellAt (net .cells) k .kind) 42) _ e .0)) .0 in
       rw e (put16-other t _ _ j (λ z. omega (arith, d)) (λ z. omega (arith, d))))
       (λ e. rw e refl)
 
-  shown-behind : (w : List ℕ → ℕ → ℕ) (t : List ℕ) (k : ℕ) → k < length net → (j : ℕ) → base F (length net) + 512 ≤ j → getD (shown F net w t k) j 0 ≡ getD t j 0
-  shown-behind w t k l j h = shown-put F net w t k j (inr (omega (arith, below F k (length net) l, least F))) ∙ stored-behind t k l j h
+  shown-behind : (w : List ℕ → ℕ → ℕ) (t : List ℕ) (k : ℕ) → k < length (net .cells) → (j : ℕ) → base F (length (net .cells)) + 512 ≤ j → getD (shown F net w t k) j 0 ≡ getD t j 0
+  shown-behind w t k l j h = shown-put F net w t k j (inr (omega (arith, below F k (length (net .cells)) l, least F))) ∙ stored-behind t k l j h
 
-  module _ (n : ℕ) (e : length net ≡ n) (starts : Bool) (s t u r : List ℕ) (a : t ≡ put32 s 0 (instantOf s + 1)) (b : u ≡ upTo (aged F) n t)
+  module _ (n : ℕ) (e : length (net .cells) ≡ n) (starts : Bool) (s t u r : List ℕ) (a : t ≡ put32 s 0 (instantOf s + 1)) (b : u ≡ upTo (aged F) n t)
       (c : r ≡ upTo (shown F net (value F net starts)) n u) where
     passes : r ≡ v F net starts s
     unfolding two one ticked
@@ -96,13 +97,13 @@ module _ (F : Format) (net : List Cell) (ordered : Ordered net) where
     unfolding two
     step-spares j h =
         ap (λ (x : List ℕ). getD x j 0) passes
-        ∙ upTo-frame (shown F net (value F net starts)) j (length net) (one F s (length net)) (λ x k l. shown-behind (value F net starts) x k l j (rw e h))
-        ∙ one-behind F s (length net) j (rw e (omega arith))
+        ∙ upTo-frame (shown F net (value F net starts)) j (length (net .cells)) (one F s (length (net .cells))) (λ x k l. shown-behind (value F net starts) x k l j (rw e h))
+        ∙ one-behind F s (length (net .cells)) j (rw e (omega arith))
 
 -- Instants one after another -------------------------------------------------------------------------------------------------------------
 
 -- of n instants from s on, count are done, and t is the state so far, of m cells
-pub record Underway (F : Format) (net : List Cell) (m : ℕ) (starts : Bool) (f n : ℕ) (s t : List ℕ) (count : ℕ) : Type 0 where
+pub record Underway (F : Format) (net : Netlist) (m : ℕ) (starts : Bool) (f n : ℕ) (s t : List ℕ) (count : ℕ) : Type 0 where
   pub long : length t ≡ length s
   pub bytes : (j : ℕ) → getD t j 0 < 256
   pub instant : instantOf t + (n - count) ≤ 1000000
@@ -110,11 +111,11 @@ pub record Underway (F : Format) (net : List Cell) (m : ℕ) (starts : Bool) (f 
   pub spares : Spares F m s t
   pub going : Going F net starts f n s t count
 
-module _ {F : Format} {net : List Cell} {m : ℕ} {starts : Bool} {f n : ℕ} {s : List ℕ} where
+module _ {F : Format} {net : Netlist} {m : ℕ} {starts : Bool} {f n : ℕ} {s : List ℕ} where
   pub underway-none : ((j : ℕ) → getD s j 0 < 256) → instantOf s + n ≤ 1000000 → Ready F net s → Underway F net m starts f n s s 0
   underway-none b h r = record { long = refl; bytes = b; instant = omega arith; ready = r; spares = λ j l. refl; going = going-none F net starts f n s }
 
-  pub underway-more : {t : List ℕ} {count : ℕ} (p : Underway F net m starts f n s t count) → count < n → Ordered net → length net ≡ m → base F m + 512 ≤ length s
+  pub underway-more : {t : List ℕ} {count : ℕ} (p : Underway F net m starts f n s t count) → count < n → Ordered (net .cells) → length (net .cells) ≡ m → base F m + 512 ≤ length s
       → (u : List ℕ) → length u ≡ length t → ((j : ℕ) → getD u j 0 < 256) → crowding F net t (stepState F net starts t) ≡ Accepted → u ≡ stepState F net starts t
       → Spares F m t u → high (nowAt F u f) ≡ false → Underway F net m starts f n s u (count + 1)
   underway-more {t} {count} p l ordered e room u long bytes free is spares low =
@@ -142,11 +143,11 @@ restored s t z k u m x y a b h =
     y ∙ ap (λ (r : List ℕ). paste t 0 r m) x ∙ ap₂ (λ (x y : List ℕ). x ++ y) q p ∙ take-append-drop m s
 
 -- so its good instants may be evaluated again
-pub again-asks : (F : Format) (cells : List ℕ) (n f budget count : ℕ) (s t : List ℕ) → t ≡ s → count ≤ budget → Continues F cells n f budget s → Continues F cells n f count t
-again-asks F cells n f budget count s t e l h = rw e (h .0, h .1, omega (arith, h .2), h .3)
+pub again-asks : (F : Format) (cells : List ℕ) (h : Header) (budget count : ℕ) (s t : List ℕ) → t ≡ s → count ≤ budget → Continues F cells h budget s → Continues F cells h count t
+again-asks F cells h budget count s t e l p = rw e (p .0, p .1, omega (arith, p .2), p .3)
 
 -- and are
-pub redone : (F : Format) (net : List Cell) (starts : Bool) (f n count : ℕ) (s t : List ℕ) (r : Refusal) → t ≡ s → count ≡ continuedWith F net starts f n s .count
+pub redone : (F : Format) (net : Netlist) (starts : Bool) (f n count : ℕ) (s t : List ℕ) (r : Refusal) → t ≡ s → count ≡ continuedWith F net starts f n s .count
     → continuedWith F net starts f n s .check ≡ Refused r
     → continuedWith F net starts f count t ≡ course Accepted (continuedWith F net starts f n s .state) (continuedWith F net starts f n s .count)
 redone F net starts f n count s t r e c z = rw (e, c) (again F net starts f n s r z)

@@ -4,15 +4,14 @@
 use mathlib.Core.Bool.{Bool, true, false}
 use mathlib.Core.List.{List}
 use Prim.Native.Nat.{ℕ, zero, suc}
-use Rattle.model.specs.declared.Cell.{Cell}
 use Rattle.model.specs.declared.Format.{Format}
 use Rattle.model.specs.declared.Answer.{Answer}
 use Rattle.model.specs.declared.Checked.the-variants.{Accepted, Refused}
-use Rattle.model.specs.Circuit.{high}
+use Rattle.model.specs.Circuit.{Netlist, high}
 use Rattle.model.specs.State.{Course, course, longer, nowAt, stepState, crowding}
 use Rattle.model.specs.Calls.{running}
 
-unfoldable pub continuedWith : Format → List Cell → Bool → ℕ → ℕ → List ℕ → Course
+unfoldable pub continuedWith : Format → Netlist → Bool → ℕ → ℕ → List ℕ → Course
 continuedWith F net starts f zero s = course Accepted s 0
 continuedWith F net starts f (suc n) s =
     let t = stepState F net starts s in

@@ -1,4 +1,4 @@
-// Beginning: instant 0 of n cells, which stand in a list of six bytes each.
+// Beginning: instant 0 of a netlist, whose cells stand in a list of six bytes each.
 // The cells fit the state, and sixteen of them are memories.
 // It is an instant with a start pulse, from a state with nothing in flight.
 ghost use mathlib.Core.Path.{_≡_};
@@ -9,12 +9,13 @@ ghost use lib.Seq.{sets};
 ghost use Rattle.model.specs.Circuit.{memories};
 ghost use Rattle.model.specs.State.{firstValue, upTo, shown, wordBytes, beginState};
 ghost use Rattle.model.specs.Calls.{wordAt};
-ghost use Rattle.simulator.specs.Fits.{netOf, Fits, Holds};
+ghost use Rattle.simulator.specs.Fits.{listIn, netBy, Fits, Holds};
 use crate::instant;
-use crate::wires;
 use model::Cell;
 use model::Format;
 use netlist::cells::Layout;
+use netlist::header::Header;
+use state::wires;
 
 // The first n bytes become zero.
 fn clear(state: &mut [u8], n: usize)
@@ -47,33 +48,34 @@ fn put_elements(state: &mut [u8], i: usize, words: &[u8])
 fn first_value(
     format: Format,
     cells: &[u8],
-    n: usize,
+    h: Header,
     c: Cell,
     words: &[u8],
     state: &[u8],
     k: usize,
     j: usize,
 ) -> u16
-    requires { ⌜ Holds format (now cells) n (now state) k c × (544 ≤ length (now words)) × (c .kind ≡ 40 → j < 16) ⌝ }
-    ensures { λ r. ⌜ (memories (take k (netOf (now (cells .entry)) n)) ≡ j → r ≡ firstValue format (netOf (now (cells .entry)) n) (wordAt (now (words .entry))) (now (state .entry)) k) ⌝ }
+    requires { ⌜ Holds format (now cells) (h .count) (now state) k c × (544 ≤ length (now words)) × (c .kind ≡ 40 → j < 16) ⌝ }
+    ensures { λ r. ⌜ (memories (take k (listIn (now (cells .entry)) (h .count))) ≡ j → r ≡ firstValue format (netBy h (now (cells .entry))) (wordAt (now (words .entry))) (now (state .entry)) k) ⌝ }
 {
     let kind = c.kind;
     if kind == 40 {
         return word::get16(words, 2 * j);
     }
-    instant::next_value(format, cells, n, true, c, state, k)
+    instant::next_value(format, cells, h, true, c, state, k)
 }
 
 // The k-th memory is variable k, so memories are counted on the way.
-fn show_first(format: Format, cells: &[u8], n: usize, words: &[u8], state: &mut [u8])
-    requires { ⌜ Fits format (now cells) n (now state) × (544 ≤ length (now words)) × (memories (netOf (now cells) n) ≡ 16) ⌝ }
-    ensures { λ _. ⌜ now (state .exit) ≡ upTo (shown format (netOf (now (cells .entry)) n) (firstValue format (netOf (now (cells .entry)) n) (wordAt (now (words .entry))))) n (now (state .entry)) ⌝ }
+fn show_first(format: Format, cells: &[u8], h: Header, words: &[u8], state: &mut [u8])
+    requires { ⌜ Fits format (now cells) (h .count) (now state) × (544 ≤ length (now words)) × (memories (listIn (now cells) (h .count)) ≡ 16) ⌝ }
+    ensures { λ _. ⌜ now (state .exit) ≡ upTo (shown format (netBy h (now (cells .entry))) (firstValue format (netBy h (now (cells .entry))) (wordAt (now (words .entry))))) (h .count) (now (state .entry)) ⌝ }
 {
+    let n = h.count;
     let mut j: usize = 0;
     let mut k: usize = 0;
     while k < n {
         let c = netlist::cells::cell_at(cells, Layout::InList, k);
-        let v = first_value(format, cells, n, c, words, state, k, j);
+        let v = first_value(format, cells, h, c, words, state, k, j);
         instant::store(format, cells, n, c, state, k);
         let at = wires::base(format, k);
         word::put16(state, at, v);
@@ -83,13 +85,13 @@ fn show_first(format: Format, cells: &[u8], n: usize, words: &[u8], state: &mut 
 }
 
 // Evaluates instant 0. Every line is empty, so 26 has no place here.
-pub fn begin_state(format: Format, cells: &[u8], n: usize, words: &[u8], state: &mut [u8])
-    requires { ⌜ Fits format (now cells) n (now state) × (544 ≤ length (now words)) × (memories (netOf (now cells) n) ≡ 16) ⌝ }
-    ensures { λ _. ⌜ now (state .exit) ≡ beginState format (netOf (now (cells .entry)) n) (wordAt (now (words .entry))) (now (state .entry)) ⌝ }
+pub fn begin_state(format: Format, cells: &[u8], h: Header, words: &[u8], state: &mut [u8])
+    requires { ⌜ Fits format (now cells) (h .count) (now state) × (544 ≤ length (now words)) × (memories (listIn (now cells) (h .count)) ≡ 16) ⌝ }
+    ensures { λ _. ⌜ now (state .exit) ≡ beginState format (netBy h (now (cells .entry))) (wordAt (now (words .entry))) (now (state .entry)) ⌝ }
 {
-    let end = wires::base(format, n);
+    let end = wires::base(format, h.count);
     put_elements(state, end, words);
     clear(state, end);
-    show_first(format, cells, n, words, state);
-    instant::settle_all(format, cells, n, state);
+    show_first(format, cells, h, words, state);
+    instant::settle_all(format, cells, h, state);
 }

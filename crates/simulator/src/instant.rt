@@ -2,27 +2,29 @@
 // Three passes over the cells, each an equation with `upTo` of model/State. The third keeps the number in flight: it adds what comes in and
 // takes off what goes out, cell by cell; and it looks for refusal 26 on its way, where it leaves the instant unfinished.
 ghost use mathlib.Core.Path.{_≡_};
-ghost use Prim.Native.Nat.{_+_, _*_, _<_, _≤_};
+ghost use Prim.Native.Nat.{ℕ, _+_, _*_, _<_, _≤_};
 ghost use lib.ListN.{length};
 ghost use Rattle.model.specs.declared.Checked.the-variants.{Accepted};
 ghost use Rattle.model.specs.Word.{elementOf, put32};
 ghost use Rattle.model.specs.Circuit.{cellAt, shape};
 ghost use Rattle.model.specs.State.{elementNow, instantOf, nextValue, value, upTo, aged, stored, shown, settle, settled, counted, crowding, base, stepState};
 ghost use Rattle.laws.specs.State.Flight.{comesIn, goesOut};
-ghost use Rattle.simulator.specs.Fits.{Stands, Sees, netOf, Fits, Holds, Ready, Spares};
-use crate::lines;
-use crate::wires;
+ghost use Rattle.state.specs.Stands.{Stands, Sees, Ready};
+ghost use Rattle.simulator.specs.Fits.{listIn, netIn, netBy, Fits, Holds, Spares};
 use model::Cell;
 use model::Checked;
 use model::Format;
 use model::Refusal;
 use model::sizes::CELL;
 use netlist::cells::Layout;
+use netlist::header::Header;
+use state::lines;
+use state::wires;
 
 // The element with index w, as it is now, of the array whose 42 is cell a.
 fn element_now(format: Format, cells: &[u8], n: usize, a: usize, w: u16, state: &[u8]) -> u16
-    requires { ⌜ Fits format (now cells) n (now state) × (a < n) × (cellAt (netOf (now cells) n) a .delay < 4) ⌝ }
-    ensures { λ r. ⌜ r ≡ elementNow format (netOf (now (cells .entry)) n) (now (state .entry)) (elementOf (cellAt (netOf (now (cells .entry)) n) a .delay) w) ⌝ }
+    requires { ⌜ Fits format (now cells) n (now state) × (a < n) × (cellAt (listIn (now cells) n) a .delay < 4) ⌝ }
+    ensures { λ r. ⌜ r ≡ elementNow format (netIn 1 (now (cells .entry)) n) (now (state .entry)) (elementOf (cellAt (listIn (now (cells .entry)) n) a .delay) w) ⌝ }
 {
     let array = cells[CELL * a + 1] as usize;
     word::get16(state, wires::element_place(format, n, array, w))
@@ -32,14 +34,14 @@ fn element_now(format: Format, cells: &[u8], n: usize, a: usize, w: u16, state: 
 pub fn next_value(
     format: Format,
     cells: &[u8],
-    n: usize,
+    h: Header,
     starts: bool,
     c: Cell,
     state: &[u8],
     k: usize,
 ) -> u16
-    requires { ⌜ Holds format (now cells) n (now state) k c ⌝ }
-    ensures { λ r. ⌜ r ≡ nextValue format (shape (c .kind)) starts (netOf (now (cells .entry)) n) (now (state .entry)) k c ⌝ }
+    requires { ⌜ Holds format (now cells) (h .count) (now state) k c ⌝ }
+    ensures { λ r. ⌜ r ≡ nextValue format (shape (c .kind)) starts (netBy h (now (cells .entry))) (now (state .entry)) k c ⌝ }
 {
     let kind = c.kind;
     if kind == 1 {
@@ -60,14 +62,17 @@ pub fn next_value(
     let y = wires::now_at(format, state, b);
     match kind {
         3..=9 => word::operate(kind, x, y),
-        32 => word::bit(starts),
+        32 => {
+            let remaining = wires::remaining_at(format, state, k);
+            word::bit(starts | (remaining != 0))
+        }
         35 => word::bit((x == 1) | (y == 1)),
         36 => word::bit((x == 1) & (y != 0)),
         37 => word::bit((x == 1) & (y == 0)),
-        38 => wires::merged(format, state, k, kind, x == 1, y == 1),
-        39 => wires::merged(format, state, k, kind, x == 1, y == 1),
+        38 => wires::merged(format, state, k, h.pulse, kind, x == 1, y == 1),
+        39 => wires::merged(format, state, k, h.pulse, kind, x == 1, y == 1),
         41 => if x == 1 { y } else { 0 },
-        44 => element_now(format, cells, n, a, y, state),
+        44 => element_now(format, cells, h.count, a, y, state),
         _ => 0,
     }
 }
@@ -75,7 +80,7 @@ pub fn next_value(
 // A 42 whose clock falls takes a word in, from the data and the address of an instant ago.
 pub fn store(format: Format, cells: &[u8], n: usize, c: Cell, state: &mut [u8], k: usize)
     requires { ⌜ Holds format (now cells) n (now state) k c ⌝ }
-    ensures { λ _. ⌜ now (state .exit) ≡ stored format (netOf (now (cells .entry)) n) (now (state .entry)) k ⌝ }
+    ensures { λ _. ⌜ ((w : ℕ) → now (state .exit) ≡ stored format (netIn w (now (cells .entry)) n) (now (state .entry)) k) ⌝ }
 {
     let kind = c.kind;
     if kind == 42 {
@@ -83,18 +88,18 @@ pub fn store(format: Format, cells: &[u8], n: usize, c: Cell, state: &mut [u8], 
             let next = netlist::cells::cell_at(cells, Layout::InList, k + 1);
             let w = wires::before_at(format, state, next.a as usize);
             let v = wires::before_at(format, state, c.b as usize);
-            let at = wires::element_place(format, n, c.delay as usize, w);
-            word::put16(state, at, v);
+            let place = wires::element_place(format, n, c.delay as usize, w);
+            word::put16(state, place, v);
         }
     }
 }
 
-// A delay takes its input in, a merge holds; answers the number in flight after it.
+// A delay takes its input in, a merge holds, the start has an instant less to be high; answers the number in flight after it.
 // What goes out is taken off last, so that nothing falls below 0. The number is at most 255 for each of 1,024 cells.
-pub fn settle(format: Format, c: Cell, state: &mut [u8], k: usize, number: u32) -> u32
-    requires { ⌜ Stands format (now state) k × Sees format (now state) c × (number ≤ 261120) × (goesOut format (now state) k c ≤ number + comesIn format (now state) k c) ⌝ }
-    ensures state { λ _. ⌜ now (state .exit) ≡ settle format (shape (c .kind)) (now (state .entry)) k c ⌝ }
-    ensures number { λ r. ⌜ r + goesOut format (now (state .entry)) k c ≡ number + comesIn format (now (state .entry)) k c ⌝ }
+pub fn settle(format: Format, pulse: u8, c: Cell, state: &mut [u8], k: usize, number: u32) -> u32
+    requires { ⌜ Stands format (now state) k × Sees format (now state) c × (number ≤ 261120) × (goesOut format (now state) k c ≤ number + comesIn format pulse (now state) k c) ⌝ }
+    ensures state { λ _. ⌜ now (state .exit) ≡ settle format pulse (shape (c .kind)) (now (state .entry)) k c ⌝ }
+    ensures number { λ r. ⌜ r + goesOut format (now (state .entry)) k c ≡ number + comesIn format pulse (now (state .entry)) k c ⌝ }
 {
     let kind = c.kind;
     let a = c.a as usize;
@@ -108,11 +113,20 @@ pub fn settle(format: Format, c: Cell, state: &mut [u8], k: usize, number: u32) 
     if netlist::kinds::is_merge(kind) {
         let x = wires::is_high(format, state, a);
         let y = wires::is_high(format, state, b);
+        let was = wires::before_at(format, state, k) == 1;
         let held = wires::held_at(format, state, k);
-        let m = wires::merge_step(kind, held, x, y);
+        let m = wires::merge_step(pulse, kind, was, held, x, y);
         let next = m.held;
         wires::hold(format, state, k, next);
         return number + wires::held_bits(next) - wires::held_bits(held);
+    }
+    if kind == 32 {
+        let high = wires::is_high(format, state, k);
+        let at = wires::remaining_byte(format, k);
+        let old = state[at];
+        let new = wires::remaining_step(pulse, old, high);
+        state[at] = new;
+        return number + (new as u32) - (old as u32);
     }
     number
 }
@@ -143,14 +157,15 @@ fn age_all(format: Format, state: &mut [u8], n: usize)
 }
 
 // In rising order, since cells look at what lower ones are now, and a read at what its array has taken in.
-fn show_all(format: Format, cells: &[u8], n: usize, starts: bool, state: &mut [u8])
-    requires { ⌜ Fits format (now cells) n (now state) ⌝ }
-    ensures { λ _. ⌜ now (state .exit) ≡ upTo (shown format (netOf (now (cells .entry)) n) (value format (netOf (now (cells .entry)) n) starts)) n (now (state .entry)) ⌝ }
+fn show_all(format: Format, cells: &[u8], h: Header, starts: bool, state: &mut [u8])
+    requires { ⌜ Fits format (now cells) (h .count) (now state) ⌝ }
+    ensures { λ _. ⌜ now (state .exit) ≡ upTo (shown format (netBy h (now (cells .entry))) (value format (netBy h (now (cells .entry))) starts)) (h .count) (now (state .entry)) ⌝ }
 {
+    let n = h.count;
     let mut k: usize = 0;
     while k < n {
         let c = netlist::cells::cell_at(cells, Layout::InList, k);
-        let v = next_value(format, cells, n, starts, c, state, k);
+        let v = next_value(format, cells, h, starts, c, state, k);
         store(format, cells, n, c, state, k);
         let at = wires::base(format, k);
         word::put16(state, at, v);
@@ -159,12 +174,13 @@ fn show_all(format: Format, cells: &[u8], n: usize, starts: bool, state: &mut [u
 }
 
 // Comes last: a delay's input may be a higher cell. The header gets the number in flight that this leaves, unless 26 ends it at some cell.
-pub fn settle_all(format: Format, cells: &[u8], n: usize, state: &mut [u8]) -> Checked
-    requires { ⌜ Fits format (now cells) n (now state) × Ready format (netOf (now cells) n) (now state) ⌝ }
-    ensures check { λ r. ⌜ r ≡ crowding format (netOf (now (cells .entry)) n) (now (state .entry)) (now (state .entry)) ⌝ }
-    ensures state { λ r. ⌜ (r ≡ Accepted → now (state .exit) ≡ counted format (netOf (now (cells .entry)) n) (upTo (settled format (netOf (now (cells .entry)) n)) n (now (state .entry)))) ⌝ }
-    ensures spares { λ _. ⌜ Spares format n (now (state .entry)) (now (state .exit)) ⌝ }
+pub fn settle_all(format: Format, cells: &[u8], h: Header, state: &mut [u8]) -> Checked
+    requires { ⌜ Fits format (now cells) (h .count) (now state) × Ready format (netBy h (now cells)) (now state) ⌝ }
+    ensures check { λ r. ⌜ r ≡ crowding format (netBy h (now (cells .entry))) (now (state .entry)) (now (state .entry)) ⌝ }
+    ensures state { λ r. ⌜ (r ≡ Accepted → now (state .exit) ≡ counted format (netBy h (now (cells .entry))) (upTo (settled format (netBy h (now (cells .entry)))) (h .count) (now (state .entry)))) ⌝ }
+    ensures spares { λ _. ⌜ Spares format (h .count) (now (state .entry)) (now (state .exit)) ⌝ }
 {
+    let n = h.count;
     let mut number = word::get32(state, 4);
     let mut k: usize = 0;
     while k < n {
@@ -177,7 +193,7 @@ pub fn settle_all(format: Format, cells: &[u8], n: usize, state: &mut [u8]) -> C
                 });
             }
         }
-        number = settle(format, c, state, k, number);
+        number = settle(format, h.pulse, c, state, k, number);
         k += 1;
     }
     word::put32(state, 4, number);
@@ -185,14 +201,14 @@ pub fn settle_all(format: Format, cells: &[u8], n: usize, state: &mut [u8]) -> C
 }
 
 // One further instant, with a start pulse or without. Where 26 ends it, the state is at no instant.
-pub fn step(format: Format, cells: &[u8], n: usize, starts: bool, state: &mut [u8]) -> Checked
-    requires { ⌜ Fits format (now cells) n (now state) × (instantOf (now state) < 1000000) × Ready format (netOf (now cells) n) (now state) ⌝ }
-    ensures check { λ r. ⌜ r ≡ crowding format (netOf (now (cells .entry)) n) (now (state .entry)) (stepState format (netOf (now (cells .entry)) n) starts (now (state .entry))) ⌝ }
-    ensures state { λ r. ⌜ (r ≡ Accepted → now (state .exit) ≡ stepState format (netOf (now (cells .entry)) n) starts (now (state .entry))) ⌝ }
-    ensures spares { λ _. ⌜ Spares format n (now (state .entry)) (now (state .exit)) ⌝ }
+pub fn step(format: Format, cells: &[u8], h: Header, starts: bool, state: &mut [u8]) -> Checked
+    requires { ⌜ Fits format (now cells) (h .count) (now state) × (instantOf (now state) < 1000000) × Ready format (netBy h (now cells)) (now state) ⌝ }
+    ensures check { λ r. ⌜ r ≡ crowding format (netBy h (now (cells .entry))) (now (state .entry)) (stepState format (netBy h (now (cells .entry))) starts (now (state .entry))) ⌝ }
+    ensures state { λ r. ⌜ (r ≡ Accepted → now (state .exit) ≡ stepState format (netBy h (now (cells .entry))) starts (now (state .entry))) ⌝ }
+    ensures spares { λ _. ⌜ Spares format (h .count) (now (state .entry)) (now (state .exit)) ⌝ }
 {
     tick(state);
-    age_all(format, state, n);
-    show_all(format, cells, n, starts, state);
-    settle_all(format, cells, n, state)
+    age_all(format, state, h.count);
+    show_all(format, cells, h, starts, state);
+    settle_all(format, cells, h, state)
 }

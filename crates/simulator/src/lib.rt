@@ -3,14 +3,10 @@
 ghost use mathlib.Core.Path.{_≡_};
 ghost use Rattle.model.specs.Calls.{refusedAnswer, beginCall, continueCall, startCall, runNetlistCall};
 
-pub mod wires; // one cell's bytes in a state
-pub mod lines; // its line
 pub mod instant; // one further instant
 pub mod beginning; // instant 0
 pub mod runs; // runs of a file that is accepted
-pub mod flight; // the number in flight, counted
-pub mod sound; // refusal 15
-pub mod checks; // refusals 9 to 16 and 23 in their order
+pub mod checks; // refusals 9 to 16, 27 and 23 in their order
 
 use model::Answer;
 use model::Checked;
@@ -31,7 +27,7 @@ pub fn refused(r: Refusal) -> Answer
     }
 }
 
-// Evaluates instant 0: refusals 9 to 12, 14.
+// Evaluates instant 0: refusals 9 to 12, 27, 14.
 pub fn begin(format: Format, netlist: &[u8], words: &[u8], state: &mut [u8]) -> Answer
     ensures answer { λ r. ⌜ r ≡ beginCall format (now (netlist .entry)) (now (words .entry)) (now (state .entry)) .answer ⌝ }
     ensures lent { λ _. ⌜ now (state .exit) ≡ beginCall format (now (netlist .entry)) (now (words .entry)) (now (state .entry)) .lent ⌝ }
@@ -43,7 +39,7 @@ pub fn begin(format: Format, netlist: &[u8], words: &[u8], state: &mut [u8]) -> 
     runs::begin(format, netlist, words, state)
 }
 
-// Evaluates later instants, until the finish is high or n are done: refusals 9 to 12, 14 to 16, 26.
+// Evaluates later instants, until the finish is high or n are done: refusals 9 to 12, 27, 14 to 16, 26.
 pub fn continue_by(format: Format, netlist: &[u8], state: &mut [u8], n: u32) -> Answer
     ensures answer { λ r. ⌜ r ≡ continueCall format (now (netlist .entry)) n (now (state .entry)) .answer ⌝ }
     ensures lent { λ _. ⌜ now (state .exit) ≡ continueCall format (now (netlist .entry)) n (now (state .entry)) .lent ⌝ }
@@ -55,7 +51,7 @@ pub fn continue_by(format: Format, netlist: &[u8], state: &mut [u8], n: u32) -> 
     runs::continue_by(format, netlist, false, state, n)
 }
 
-// Evaluates one later instant, with a start pulse: refusals 9 to 12, 14 to 16, 23.
+// Evaluates one later instant, with a start pulse: refusals 9 to 12, 27, 14 to 16, 23.
 pub fn start(format: Format, netlist: &[u8], state: &mut [u8]) -> Answer
     ensures answer { λ r. ⌜ r ≡ startCall format (now (netlist .entry)) (now (state .entry)) .answer ⌝ }
     ensures lent { λ _. ⌜ now (state .exit) ≡ startCall format (now (netlist .entry)) (now (state .entry)) .lent ⌝ }

@@ -6,14 +6,15 @@ ghost use lib.ListN.{length};
 ghost use lib.Seq.{paste};
 ghost use Rattle.model.specs.declared.Checked.the-variants.{Accepted};
 ghost use Rattle.model.specs.declared.Format.the-variants.{Full, Compact};
-ghost use Rattle.model.specs.NetlistFile.{fileCheck, cellsOf, countOf, finishOf};
+ghost use Rattle.model.specs.NetlistFile.{fileCheck, cellsOf, countOf, finishOf, netOf};
 ghost use Rattle.model.specs.State.{instantOf, beginState, wordsIn};
 ghost use Rattle.model.specs.Calls.{wordAt, shows, fullState, fullCount};
-ghost use Rattle.simulator.specs.Fits.{netOf, Runs, Ready, Spares, Continues};
+ghost use Rattle.netlist.specs.Headers.{headerOf};
+ghost use Rattle.state.specs.Stands.{Runs, Ready};
+ghost use Rattle.simulator.specs.Fits.{listIn, netBy, Spares, Continues};
 ghost use Rattle.simulator.specs.Levels.{continuedWith, told};
 use crate::beginning;
 use crate::instant;
-use crate::wires;
 use model::Answer;
 use model::Checked;
 use model::Format;
@@ -22,6 +23,9 @@ use model::sizes::COMPACT_MOST;
 use model::sizes::ELEMENTS;
 use model::sizes::LIST_MOST;
 use netlist::cells::Layout;
+use netlist::header;
+use netlist::header::Header;
+use state::wires;
 
 // How a continuing went: whether 26 ended it, and how many instants it evaluated.
 pub struct Went {
@@ -29,15 +33,12 @@ pub struct Went {
     pub count: u32,
 }
 
-// Copies the cells of a file, six bytes each; answers how many there are.
-fn load(cells: &mut [u8], file: &[u8]) -> usize
-    requires { ⌜ (6144 ≤ length (now cells)) × (fileCheck (now file) ≡ Accepted) ⌝ }
-    ensures count { λ r. ⌜ r ≡ countOf (now (file .entry)) ⌝ }
-    ensures cells { λ r. ⌜ netOf (now (cells .exit)) r ≡ cellsOf (now (file .entry)) ⌝ }
+// Copies the n cells of a file, six bytes each.
+fn load(cells: &mut [u8], file: &[u8], n: usize)
+    requires { ⌜ (6144 ≤ length (now cells)) × (fileCheck (now file) ≡ Accepted) × (n ≡ countOf (now file)) ⌝ }
+    ensures { λ _. ⌜ listIn (now (cells .exit)) n ≡ cellsOf (now (file .entry)) ⌝ }
 {
-    let n = word::get16(file, 2) as usize;
     netlist::cells::put_cells(cells, 0, file, Layout::InFile, 0, n);
-    n
 }
 
 // Continuing -----------------------------------------------------------------------------------------------------------------------------
@@ -47,21 +48,20 @@ fn load(cells: &mut [u8], file: &[u8]) -> usize
 fn continue_state(
     format: Format,
     cells: &[u8],
-    n: usize,
-    finish: usize,
+    h: Header,
     starts: bool,
     state: &mut [u8],
     budget: u32,
 ) -> Went
-    requires { ⌜ Continues format (now cells) n finish budget (now state) ⌝ }
-    ensures check { λ r. ⌜ r .checked ≡ continuedWith format (netOf (now (cells .entry)) n) starts finish budget (now (state .entry)) .check ⌝ }
-    ensures count { λ r. ⌜ r .count ≡ continuedWith format (netOf (now (cells .entry)) n) starts finish budget (now (state .entry)) .count ⌝ }
-    ensures state { λ r. ⌜ (r .checked ≡ Accepted → now (state .exit) ≡ continuedWith format (netOf (now (cells .entry)) n) starts finish budget (now (state .entry)) .state) ⌝ }
-    ensures spares { λ _. ⌜ Spares format n (now (state .entry)) (now (state .exit)) ⌝ }
+    requires { ⌜ Continues format (now cells) h budget (now state) ⌝ }
+    ensures check { λ r. ⌜ r .checked ≡ continuedWith format (netBy h (now (cells .entry))) starts (h .finish) budget (now (state .entry)) .check ⌝ }
+    ensures count { λ r. ⌜ r .count ≡ continuedWith format (netBy h (now (cells .entry))) starts (h .finish) budget (now (state .entry)) .count ⌝ }
+    ensures state { λ r. ⌜ (r .checked ≡ Accepted → now (state .exit) ≡ continuedWith format (netBy h (now (cells .entry))) starts (h .finish) budget (now (state .entry)) .state) ⌝ }
+    ensures spares { λ _. ⌜ Spares format (h .count) (now (state .entry)) (now (state .exit)) ⌝ }
 {
     let mut count: u32 = 0;
     while count < budget {
-        let checked = instant::step(format, cells, n, starts, state);
+        let checked = instant::step(format, cells, h, starts, state);
         if let Checked::Refused(r) = checked {
             return Went {
                 checked: Checked::Refused(r),
@@ -69,7 +69,7 @@ fn continue_state(
             };
         }
         count += 1;
-        if wires::is_high(format, state, finish) {
+        if wires::is_high(format, state, h.finish) {
             return Went {
                 checked: Checked::Accepted,
                 count,
@@ -96,27 +96,20 @@ fn copy(to: &mut [u8], from: &[u8], n: usize)
 
 // The same on a compact state, which is left at the last good instant: where 26 ends it, the state is put back as it was, and its good
 // instants are evaluated again. So no instant costs a copy.
-fn continue_compact(
-    cells: &[u8],
-    n: usize,
-    finish: usize,
-    starts: bool,
-    state: &mut [u8],
-    budget: u32,
-) -> Went
-    requires { ⌜ Continues Compact (now cells) n finish budget (now state) ⌝ }
-    ensures check { λ r. ⌜ r .checked ≡ continuedWith Compact (netOf (now (cells .entry)) n) starts finish budget (now (state .entry)) .check ⌝ }
-    ensures count { λ r. ⌜ r .count ≡ continuedWith Compact (netOf (now (cells .entry)) n) starts finish budget (now (state .entry)) .count ⌝ }
-    ensures state { λ _. ⌜ now (state .exit) ≡ continuedWith Compact (netOf (now (cells .entry)) n) starts finish budget (now (state .entry)) .state ⌝ }
+fn continue_compact(cells: &[u8], h: Header, starts: bool, state: &mut [u8], budget: u32) -> Went
+    requires { ⌜ Continues Compact (now cells) h budget (now state) ⌝ }
+    ensures check { λ r. ⌜ r .checked ≡ continuedWith Compact (netBy h (now (cells .entry))) starts (h .finish) budget (now (state .entry)) .check ⌝ }
+    ensures count { λ r. ⌜ r .count ≡ continuedWith Compact (netBy h (now (cells .entry))) starts (h .finish) budget (now (state .entry)) .count ⌝ }
+    ensures state { λ _. ⌜ now (state .exit) ≡ continuedWith Compact (netBy h (now (cells .entry))) starts (h .finish) budget (now (state .entry)) .state ⌝ }
 {
     let mut kept = [0u8; COMPACT_MOST];
-    let size = wires::base(Format::Compact, n) + ELEMENTS;
+    let size = wires::base(Format::Compact, h.count) + ELEMENTS;
     copy(&mut kept, state, size);
-    let went = continue_state(Format::Compact, cells, n, finish, starts, state, budget);
+    let went = continue_state(Format::Compact, cells, h, starts, state, budget);
     let checked = went.checked;
     if let Checked::Refused(r) = checked {
         copy(state, &kept, size);
-        continue_state(Format::Compact, cells, n, finish, starts, state, went.count);
+        continue_state(Format::Compact, cells, h, starts, state, went.count);
         return Went {
             checked: Checked::Refused(r),
             count: went.count,
@@ -129,31 +122,29 @@ fn continue_compact(
 fn continue_in(
     format: Format,
     cells: &[u8],
-    n: usize,
-    finish: usize,
+    h: Header,
     starts: bool,
     state: &mut [u8],
     budget: u32,
 ) -> Went
-    requires { ⌜ Continues format (now cells) n finish budget (now state) ⌝ }
-    ensures check { λ r. ⌜ r .checked ≡ continuedWith format (netOf (now (cells .entry)) n) starts finish budget (now (state .entry)) .check ⌝ }
-    ensures count { λ r. ⌜ r .count ≡ continuedWith format (netOf (now (cells .entry)) n) starts finish budget (now (state .entry)) .count ⌝ }
-    ensures state { λ _. ⌜ now (state .exit) ≡ continuedWith format (netOf (now (cells .entry)) n) starts finish budget (now (state .entry)) .state ⌝ }
+    requires { ⌜ Continues format (now cells) h budget (now state) ⌝ }
+    ensures check { λ r. ⌜ r .checked ≡ continuedWith format (netBy h (now (cells .entry))) starts (h .finish) budget (now (state .entry)) .check ⌝ }
+    ensures count { λ r. ⌜ r .count ≡ continuedWith format (netBy h (now (cells .entry))) starts (h .finish) budget (now (state .entry)) .count ⌝ }
+    ensures state { λ _. ⌜ now (state .exit) ≡ continuedWith format (netBy h (now (cells .entry))) starts (h .finish) budget (now (state .entry)) .state ⌝ }
 {
     match format {
-        Format::Full => continue_state(Format::Full, cells, n, finish, starts, state, budget),
-        Format::Compact => continue_compact(cells, n, finish, starts, state, budget),
+        Format::Full => continue_state(Format::Full, cells, h, starts, state, budget),
+        Format::Compact => continue_compact(cells, h, starts, state, budget),
     }
 }
 
 // Answers --------------------------------------------------------------------------------------------------------------------------------
 
-// The values of the sixteen memories.
-fn words_in(format: Format, file: &[u8], state: &[u8]) -> [u16; 16]
-    requires { ⌜ Runs format (now file) (now state) ⌝ }
+// The values of the sixteen memories, among the n cells of a file.
+fn words_in(format: Format, file: &[u8], n: usize, state: &[u8]) -> [u16; 16]
+    requires { ⌜ Runs format (now file) (now state) × (n ≡ countOf (now file)) ⌝ }
     ensures { λ r. ⌜ r ≡ wordsIn format (cellsOf (now (file .entry))) 0 (now (state .entry)) ⌝ }
 {
-    let n = word::get16(file, 2) as usize;
     let mut words = [0u16; 16];
     let mut j: usize = 0;
     let mut k: usize = 0;
@@ -170,14 +161,13 @@ fn words_in(format: Format, file: &[u8], state: &[u8]) -> [u16; 16]
 }
 
 // What a state shows after a call that evaluated so many instants.
-fn shows(format: Format, file: &[u8], state: &[u8], count: u32) -> Answer
-    requires { ⌜ Runs format (now file) (now state) ⌝ }
+fn shows(format: Format, file: &[u8], h: Header, state: &[u8], count: u32) -> Answer
+    requires { ⌜ Runs format (now file) (now state) × (h ≡ headerOf (now file)) ⌝ }
     ensures { λ r. ⌜ r ≡ shows format (now (file .entry)) (now (state .entry)) count ⌝ }
 {
-    let words = words_in(format, file, state);
-    let finish = word::get16(file, 4) as usize;
+    let words = words_in(format, file, h.count, state);
     let instant = word::get32(state, 0);
-    let outcome = if wires::is_high(format, state, finish) {
+    let outcome = if wires::is_high(format, state, h.finish) {
         Outcome::Ended
     } else {
         Outcome::Open
@@ -194,13 +184,14 @@ fn shows(format: Format, file: &[u8], state: &[u8], count: u32) -> Answer
 
 pub fn begin(format: Format, file: &[u8], words: &[u8], state: &mut [u8]) -> Answer
     requires { ⌜ Runs format (now file) (now state) × (544 ≤ length (now words)) ⌝ }
-    ensures state { λ _. ⌜ now (state .exit) ≡ beginState format (cellsOf (now (file .entry))) (wordAt (now (words .entry))) (now (state .entry)) ⌝ }
-    ensures answer { λ r. ⌜ r ≡ shows format (now (file .entry)) (beginState format (cellsOf (now (file .entry))) (wordAt (now (words .entry))) (now (state .entry))) 1 ⌝ }
+    ensures state { λ _. ⌜ now (state .exit) ≡ beginState format (netOf (now (file .entry))) (wordAt (now (words .entry))) (now (state .entry)) ⌝ }
+    ensures answer { λ r. ⌜ r ≡ shows format (now (file .entry)) (beginState format (netOf (now (file .entry))) (wordAt (now (words .entry))) (now (state .entry))) 1 ⌝ }
 {
+    let h = header::header_of(file);
     let mut cells = [0u8; LIST_MOST];
-    let n = load(&mut cells, file);
-    beginning::begin_state(format, &cells, n, words, state);
-    shows(format, file, state, 1)
+    load(&mut cells, file, h.count);
+    beginning::begin_state(format, &cells, h, words, state);
+    shows(format, file, h, state, 1)
 }
 
 // A continuing, or, with a start pulse and by 1, a start.
@@ -211,19 +202,19 @@ pub fn continue_by(
     state: &mut [u8],
     budget: u32,
 ) -> Answer
-    requires { ⌜ Runs format (now file) (now state) × (instantOf (now state) + budget ≤ 1000000) × Ready format (cellsOf (now file)) (now state) ⌝ }
-    ensures state { λ _. ⌜ now (state .exit) ≡ continuedWith format (cellsOf (now (file .entry))) starts (finishOf (now (file .entry))) budget (now (state .entry)) .state ⌝ }
-    ensures answer { λ r. ⌜ r ≡ told format (now (file .entry)) (continuedWith format (cellsOf (now (file .entry))) starts (finishOf (now (file .entry))) budget (now (state .entry))) ⌝ }
+    requires { ⌜ Runs format (now file) (now state) × (instantOf (now state) + budget ≤ 1000000) × Ready format (netOf (now file)) (now state) ⌝ }
+    ensures state { λ _. ⌜ now (state .exit) ≡ continuedWith format (netOf (now (file .entry))) starts (finishOf (now (file .entry))) budget (now (state .entry)) .state ⌝ }
+    ensures answer { λ r. ⌜ r ≡ told format (now (file .entry)) (continuedWith format (netOf (now (file .entry))) starts (finishOf (now (file .entry))) budget (now (state .entry))) ⌝ }
 {
-    let finish = word::get16(file, 4) as usize;
+    let h = header::header_of(file);
     let mut cells = [0u8; LIST_MOST];
-    let n = load(&mut cells, file);
-    let went = continue_in(format, &cells, n, finish, starts, state, budget);
+    load(&mut cells, file, h.count);
+    let went = continue_in(format, &cells, h, starts, state, budget);
     let checked = went.checked;
     if let Checked::Refused(r) = checked {
         return crate::refused(r);
     }
-    shows(format, file, state, went.count)
+    shows(format, file, h, state, went.count)
 }
 
 // A beginning, and a continuing by the budget unless the finish was high, on a full state.
@@ -232,13 +223,13 @@ pub fn full_run(file: &[u8], words: &[u8], budget: u32, state: &mut [u8]) -> Ans
     ensures state { λ _. ⌜ now (state .exit) ≡ fullState (now (file .entry)) (now (words .entry)) budget (now (state .entry)) ⌝ }
     ensures answer { λ r. ⌜ r ≡ shows Full (now (file .entry)) (fullState (now (file .entry)) (now (words .entry)) budget (now (state .entry))) (fullCount (now (file .entry)) (now (words .entry)) budget (now (state .entry))) ⌝ }
 {
-    let finish = word::get16(file, 4) as usize;
+    let h = header::header_of(file);
     let mut cells = [0u8; LIST_MOST];
-    let n = load(&mut cells, file);
-    beginning::begin_state(Format::Full, &cells, n, words, state);
-    if wires::is_high(Format::Full, state, finish) {
-        return shows(Format::Full, file, state, 1);
+    load(&mut cells, file, h.count);
+    beginning::begin_state(Format::Full, &cells, h, words, state);
+    if wires::is_high(Format::Full, state, h.finish) {
+        return shows(Format::Full, file, h, state, 1);
     }
-    let went = continue_in(Format::Full, &cells, n, finish, false, state, budget);
-    shows(Format::Full, file, state, 1 + went.count)
+    let went = continue_in(Format::Full, &cells, h, false, state, budget);
+    shows(Format::Full, file, h, state, 1 + went.count)
 }

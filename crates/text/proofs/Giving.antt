@@ -19,6 +19,7 @@ use Rattle.model.specs.Program.{nodeBytes}
 use Rattle.model.specs.ProgramChecks.{checkOf}
 use Rattle.model.specs.Text.{wordsOf, outside}
 use Rattle.model.specs.Reader.{good, bad}
+use Rattle.model.specs.TimeTables.{givenCheck}
 use Rattle.model.specs.Calls.{writtenVerdict, short, checkCall, writing}
 use Rattle.model.specs.TextCalls.{readingOf, brokenAt, bytesRead, textProgram, textChecks, readTextChecks, readTextCall}
 use Rattle.laws.specs.Refusals.Laws.{by-bool, not-refused, refuse-unless, first-one, first-append, refused-append, accept-take, all-accept}
@@ -162,11 +163,11 @@ module _ (options : Options) (text lent : List ℕ) where
   read-by e = ap (λ (c : Checked). writing c (textProgram text) (length (textProgram text)) 0 lent) e
 
   -- a table that is refused comes first
-  pub read-no-table : (r : Refusal) → options .checked ≡ Refused r
+  pub read-no-table : (r : Refusal) → givenCheck options ≡ Refused r
       → readTextCall options text lent ≡ writing (Refused r) (textProgram text) (length (textProgram text)) 0 lent
   read-no-table r e = read-by (rw e refl)
 
-  module _ (a : options .checked ≡ Accepted) where
+  module _ (a : givenCheck options ≡ Accepted) where
     abbrev after : List Checked
     after = checkOf options (textProgram text) ∷ short (length lent) (length (textProgram text)) ∷ []
 

@@ -10,6 +10,7 @@ ghost use Rattle.model.specs.declared.Checked.the-variants.{Accepted};
 ghost use Rattle.model.specs.declared.Written.{Written};
 ghost use Rattle.model.specs.Refusals.{refuseIf};
 ghost use Rattle.model.specs.Calls.{writing};
+ghost use Rattle.model.specs.TimeTables.{givenCheck};
 ghost use Rattle.model.specs.TextCalls.{readTextCall};
 ghost use Rattle.text.specs.Parsing.{programTold, Given, giveCall};
 
@@ -85,7 +86,7 @@ fn give(options: Options, program: &[u8], lent: &mut [u8]) -> Written
 
 // Text to program with options that are not refused: refusals 17, 18, 1 to 8, 22, 24 and 25, 14.
 fn read_accepted(options: Options, text: &[u8], lent: &mut [u8]) -> Written
-    requires { ⌜ options .checked ≡ Accepted ⌝ }
+    requires { ⌜ givenCheck options ≡ Accepted ⌝ }
     ensures answer { λ r. ⌜ r ≡ readTextCall options (now (text .entry)) (now (lent .entry)) .answer ⌝ }
     ensures lent { λ _. ⌜ now (lent .exit) ≡ readTextCall options (now (text .entry)) (now (lent .entry)) .lent ⌝ }
 {
@@ -97,12 +98,12 @@ fn read_accepted(options: Options, text: &[u8], lent: &mut [u8]) -> Written
     }
 }
 
-// Text to program: refusals 19 to 21 first.
+// Text to program: refusals 27 and 19 to 21 first.
 pub fn read_text(options: Options, text: &[u8], lent: &mut [u8]) -> Written
     ensures answer { λ r. ⌜ r ≡ readTextCall options (now (text .entry)) (now (lent .entry)) .answer ⌝ }
     ensures lent { λ _. ⌜ now (lent .exit) ≡ readTextCall options (now (text .entry)) (now (lent .entry)) .lent ⌝ }
 {
-    let beside = options.checked;
+    let beside = program::tables::check_given(options);
     if let Checked::Refused(r) = beside {
         return Written::Refused(r);
     }

@@ -15,6 +15,7 @@ enum { CELL = 40 };
 
 static uint8_t file[6656], cells[6 * 1024], state[8 + CELL * 1024 + 512];
 static int count, finish;
+static unsigned pulse;
 
 static unsigned get16(const uint8_t *p) { return p[0] | p[1] << 8; }
 static void put16(uint8_t *p, unsigned v) { p[0] = (uint8_t)v; p[1] = (uint8_t)(v >> 8); }
@@ -32,6 +33,7 @@ static void read_netlist(const char *name) {
     fclose(in);
     count = get16(file + 2);
     finish = get16(file + 4);
+    pulse = file[1] + 1u;
     for (int k = 0; k < count; k++) memcpy(cells + 6 * k, file + 512 * (k / 84) + 8 + 6 * (k % 84), 6);
 }
 
@@ -49,6 +51,10 @@ static void take(uint8_t *r, unsigned d, unsigned in) {
     if (in && r[6] > 1) exit(1);
     r[6] = (uint8_t)(in ? d : (unsigned)r[6] - (r[6] > 0));
 }
+
+/* A compact state is of pulses of one instant, so that nothing ever remains of start. */
+static unsigned remaining(const uint8_t *r) { (void)r; return 0; }
+static void remain(uint8_t *r, unsigned left) { (void)r; if (left) exit(1); }
 #else
 static unsigned output(const uint8_t *r, unsigned d) { return r[8 + (d - 1) / 8] >> (d - 1) % 8 & 1; }
 
@@ -63,6 +69,10 @@ static void take(uint8_t *r, unsigned d, unsigned in) {
     w[0] = w[0] << 1 | in;
     memcpy(r + 8, w, 32);
 }
+
+/* For how many more instants start is high. */
+static unsigned remaining(const uint8_t *r) { return r[8]; }
+static void remain(uint8_t *r, unsigned left) { r[8] = (uint8_t)left; }
 #endif
 
 /* What cell k shows, from the cells below it and what the state keeps; an array, which shows 0, stores its word first. */
@@ -75,7 +85,8 @@ static unsigned shown(unsigned k, const uint8_t *c) {
     case 40: return falls(a) ? before(b) : before(k);
     case 42: store(c); return 0;
     case 44: return get16(element(cells + 6 * a, now(b)));
-    case 32: case 33: case 43: return 0;
+    case 32: return remaining(r) > 0;
+    case 33: case 43: return 0;
     }
     unsigned x = now(a), y = now(b);
     switch (kind) {
@@ -89,15 +100,16 @@ static unsigned shown(unsigned k, const uint8_t *c) {
     case 35: return x == 1 || y == 1;
     case 36: return x == 1 && y != 0;
     case 37: return x == 1 && y == 0;
-    case 38: return (x == 1 || r[4]) && (y == 1 || r[5]);
+    case 38: return (x == 1 || r[4]) && (y == 1 || r[5]) && (pulse == 1 || x == 1 || y == 1);
     case 39: return (x == 1 || r[4]) && y == 1;
     default: return x == 1 ? y : 0;
     }
 }
 
-/* What comes in is counted and what has come out is not: a pulse at a delay's input and the one behind its output, held bits after and before.
-   The merge of a call, 39, forgets a b that comes alone. */
-static void settle_all(void) {
+/* What comes in is counted and what has come out is not: a pulse at a delay's input and the one behind its output, held bits and what remains of
+   start after and before. A merge holds its bits until it puts out or, with longer pulses, until its output falls; that of a call, 39, forgets a b
+   that comes alone. */
+static void settle_all(int starts) {
     uint32_t flight;
     memcpy(&flight, state + 4, 4);
     for (int k = 0; k < count; k++) {
@@ -109,10 +121,15 @@ static void settle_all(void) {
             take(r, d, in);
         } else if (c[0] == 38 || c[0] == 39) {
             int a = r[4] || now(get16(c + 2)) == 1, b = r[5] || now(get16(c + 4)) == 1;
+            int holds = pulse == 1 ? now(k) == 0 : before(k) == 0 || now(k) == 1;
             flight -= r[4] + r[5];
-            r[4] = a && !b;
-            r[5] = c[0] == 38 && b && !a;
+            r[4] = a && holds;
+            r[5] = c[0] == 38 && b && holds;
             flight += r[4] + r[5];
+        } else if (c[0] == 32) {
+            unsigned was = remaining(r), left = starts ? pulse - 1 : was - (was > 0);
+            flight += left - was;
+            remain(r, left);
         }
     }
     memcpy(state + 4, &flight, 4);
@@ -123,7 +140,7 @@ static void begin(void) {
         const uint8_t *c = cells + 6 * k;
         put16(record(k), c[0] == 32 ? 1 : c[0] == 40 ? 0 : shown(k, c));
     }
-    settle_all();
+    settle_all(1);
 }
 
 static void instant(void) {
@@ -133,7 +150,7 @@ static void instant(void) {
     memcpy(state, &t, 4);
     for (int k = 0; k < count; k++) memcpy(record(k) + 2, record(k), 2);
     for (int k = 0; k < count; k++) put16(record(k), shown(k, cells + 6 * k));
-    settle_all();
+    settle_all(0);
 }
 
 static void write_state(const char *name) {

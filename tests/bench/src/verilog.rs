@@ -1,5 +1,6 @@
 //! A netlist as Verilog: what a cell keeps between instants is a register, and every
-//! edge of the clock, rising or falling, moves all registers on by an instant.
+//! edge of the clock, rising or falling, moves all registers on by an instant. Its
+//! pulses are of one instant, as those of all workloads.
 
 use second::cells::*;
 use second::operator::Operator;
@@ -8,6 +9,7 @@ use values::Cell;
 /// The module `hub`: a clock in, the finish wire and the memories out. Before the
 /// first edge the wires have their values of instant 0.
 pub fn module(netlist: &Netlist) -> String {
+    assert_eq!(netlist.pulse, 1, "the length of a pulse");
     let numbered = netlist.cells.iter().copied().enumerate();
     let needed = numbered.filter(|&(number, cell)| is_needed(netlist, number, cell));
     let cells: Vec<(usize, Cell)> = needed.collect();

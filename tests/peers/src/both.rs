@@ -23,10 +23,10 @@ pub const BOTH: Peer = both! {
     compile(given, program, file);
     read_text(given, text, program);
     compile_text(given, text, file);
-    write_netlist(cells, finish, file);
+    write_netlist(pulse, cells, finish, file);
     read_netlist(file, cells);
     check_cells(cells, finish);
-    write_cells(cells, finish, file);
+    write_cells(pulse, cells, finish, file);
     read_cells(file, at, cells);
     renumber(from, end, by, cells);
     begin(format, file, words, state);

@@ -60,14 +60,14 @@ pub struct Peer {
     pub read_text: fn(Given, Bytes, Bytes) -> Reply<usize>,
     /// given, text; lent: netlist file
     pub compile_text: fn(Given, Bytes, Bytes) -> Reply<Shape>,
-    /// cells of six bytes, finish; lent: netlist file
-    pub write_netlist: fn(Bytes, u16, Bytes) -> Reply<Shape>,
+    /// pulse length, cells of six bytes, finish; lent: netlist file
+    pub write_netlist: fn(u8, Bytes, u16, Bytes) -> Reply<Shape>,
     /// netlist file; lent: cells of six bytes
     pub read_netlist: fn(Bytes, Bytes) -> Reply<Shape>,
     /// cells, finish
     pub check_cells: fn(&[Cell], u16) -> Reply<()>,
-    /// cells, finish; lent: netlist file
-    pub write_cells: fn(&[Cell], u16, Bytes) -> Reply<Shape>,
+    /// pulse length, cells, finish; lent: netlist file
+    pub write_cells: fn(u8, &[Cell], u16, Bytes) -> Reply<Shape>,
     /// netlist file, number of the cells that it is read behind; lent: cells
     pub read_cells: fn(Bytes, usize, &[Cell]) -> Reply<Shape, Cell>,
     /// from, up to, by; lent: cells of six bytes; tells whether it has them
@@ -108,15 +108,15 @@ macro_rules! implementation {
             compile_text: |given, text, file| {
                 Reply::lending(file, |file| calls::compile_text(given, text, file))
             },
-            write_netlist: |cells, finish, file| {
-                Reply::lending(file, |file| calls::write_netlist(cells, finish, file))
+            write_netlist: |pulse, cells, finish, file| {
+                Reply::lending(file, |file| calls::write_netlist(pulse, cells, finish, file))
             },
             read_netlist: |file, cells| {
                 Reply::lending(cells, |cells| calls::read_netlist(file, cells))
             },
             check_cells: |cells, finish| Reply::lending_none(cell_calls::check(cells, finish)),
-            write_cells: |cells, finish, file| {
-                Reply::lending(file, |file| cell_calls::write(cells, finish, file))
+            write_cells: |pulse, cells, finish, file| {
+                Reply::lending(file, |file| cell_calls::write(pulse, cells, finish, file))
             },
             read_cells: |file, at, cells| {
                 Reply::lending(cells, |cells| cell_calls::read(file, at, cells))

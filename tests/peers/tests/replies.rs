@@ -86,22 +86,22 @@ type Call = fn(&mut Memory, &mut [u8]) -> bool;
 
 /// The functions that lend nothing but the reply.
 const ANSWERING: &[(&str, Call)] = calls! { m:
-    hub_check(None, 0, &m.program);
-    hub_check(Some(&m.table), 0, &m.program);
-    hub_reference(None, 0, &m.program, &m.words, 10);
-    hub_reference(Some(&m.table), 0, &m.program, &m.words, 10);
+    hub_check(None, 0, 1, &m.program);
+    hub_check(Some(&m.table), 0, 8, &m.program);
+    hub_reference(None, 0, 1, &m.program, &m.words, 10);
+    hub_reference(Some(&m.table), 0, 8, &m.program, &m.words, 10);
     hub_check_cells(&m.cells, m.finish);
 };
 
 /// The functions that write to another slice.
 const WRITING: &[(&str, Call)] = calls! { m:
-    hub_compile(None, 0, &m.program, &mut m.lent_file);
-    hub_compile(Some(&m.table), 0, &m.program, &mut m.lent_file);
-    hub_read_text(None, 0, TEXT, &mut m.lent_program);
-    hub_read_text(Some(&m.table), 0, TEXT, &mut m.lent_program);
-    hub_compile_text(None, 0, TEXT, &mut m.lent_file);
-    hub_compile_text(Some(&m.table), 0, TEXT, &mut m.lent_file);
-    hub_write(&m.bytes, m.finish, &mut m.lent_file);
+    hub_compile(None, 0, 1, &m.program, &mut m.lent_file);
+    hub_compile(Some(&m.table), 0, 8, &m.program, &mut m.lent_file);
+    hub_read_text(None, 0, 1, TEXT, &mut m.lent_program);
+    hub_read_text(Some(&m.table), 0, 8, TEXT, &mut m.lent_program);
+    hub_compile_text(None, 0, 1, TEXT, &mut m.lent_file);
+    hub_compile_text(Some(&m.table), 0, 8, TEXT, &mut m.lent_file);
+    hub_write(1, &m.bytes, m.finish, &mut m.lent_file);
     hub_read(&m.netlist, &mut m.lent_bytes);
     hub_begin(&m.netlist, &m.words, &mut m.lent_state);
     hub_continue(&m.netlist, &mut m.lent_state, 1);
@@ -109,12 +109,12 @@ const WRITING: &[(&str, Call)] = calls! { m:
     hub_begin_compact(&m.netlist, &m.words, &mut m.compact_state);
     hub_continue_compact(&m.netlist, &mut m.compact_state, 1);
     hub_start_compact(&m.netlist, &mut m.idle_compact);
-    hub_run_program(None, 0, &m.program, &m.words, 10, &mut m.lent_file, &mut m.lent_state);
-    hub_run_program(Some(&m.table), 0, &m.program, &m.words, 10, &mut m.lent_file, &mut m.lent_state);
-    hub_run_text(None, 0, TEXT, &m.words, 10, &mut m.lent_file, &mut m.lent_state);
-    hub_run_text(Some(&m.table), 0, TEXT, &m.words, 10, &mut m.lent_file, &mut m.lent_state);
+    hub_run_program(None, 0, 1, &m.program, &m.words, 10, &mut m.lent_file, &mut m.lent_state);
+    hub_run_program(Some(&m.table), 0, 8, &m.program, &m.words, 10, &mut m.lent_file, &mut m.lent_state);
+    hub_run_text(None, 0, 1, TEXT, &m.words, 10, &mut m.lent_file, &mut m.lent_state);
+    hub_run_text(Some(&m.table), 0, 8, TEXT, &m.words, 10, &mut m.lent_file, &mut m.lent_state);
     hub_run_netlist(&m.netlist, &m.words, 10, &mut m.lent_state);
-    hub_write_cells(&m.cells, m.finish, &mut m.lent_file);
+    hub_write_cells(8, &m.cells, m.finish, &mut m.lent_file);
     hub_read_cells(&m.netlist, 2, &mut m.lent_cells);
 };
 

@@ -1,6 +1,7 @@
 //! A peer's simulator against the paper's equations, on a netlist of any
 //! shape: demand 2, and continuing from states of any origin.
 
+use crate::against_full::no_compact_state;
 use crate::damage;
 use crate::equations::{elements_of, Step};
 use crate::flight;
@@ -30,6 +31,9 @@ pub fn compare(
     damage: u64,
 ) -> Result<u64, String> {
     let netlist = netfile::read(file).map_err(|refusal| format!("generated: {refusal:?}"))?;
+    if format == Format::Compact && netlist.pulse > 1 {
+        return no_compact_state(peer, file, words, 3_000).map(|()| 0);
+    }
     let run = Run {
         peer,
         format,
@@ -128,8 +132,15 @@ impl Run<'_> {
         Ok(())
     }
 
-    /// The same with starts at some of the instants after which nothing is in
-    /// flight; elsewhere a start is refused.
+    /// Whether a start may be given after a state: nothing is in flight, and with
+    /// longer pulses the finish is low.
+    fn is_idle(&self, state: &[u8]) -> bool {
+        let finish = wire_of(self.format, state, self.netlist.finish);
+        flight::told(state) == 0 && (self.netlist.pulse == 1 || finish == 0)
+    }
+
+    /// The same with starts at some of the instants after which it is idle;
+    /// elsewhere a start is refused.
     fn with_starts(
         &self,
         begun: Vec<u8>,
@@ -138,7 +149,7 @@ impl Run<'_> {
     ) -> Result<(), String> {
         let mut state = begun;
         for _ in 0..instants {
-            let (instant, idle) = (instant_of(&state) + 1, flight::told(&state) == 0);
+            let (instant, idle) = (instant_of(&state) + 1, self.is_idle(&state));
             let mut starts = random.once_in(4);
             if starts && !idle {
                 let refused = (self.peer.start)(self.format, self.file, &state);

@@ -2,7 +2,8 @@
 //! and given the same calls, refused ones among them, answers alike, and after
 //! every call the compact state is the full one with a number for each line. So
 //! wires, now and an instant ago, words and the number in flight are the same, no
-//! line has two pulses on their way, and refusal 26 never comes up.
+//! line has two pulses on their way, and refusal 26 never comes up. With longer
+//! pulses there is no compact state: refusal 27.
 
 use crate::formats::{compacted, instant_of};
 use crate::job::{Ask, Call, Job, Room};
@@ -10,7 +11,7 @@ use crate::lend::*;
 use peers::{Peer, Reply};
 use second::cells::Netlist;
 use second::netfile;
-use values::{Answer, Format};
+use values::{Answer, Format, Refusal};
 
 /// So many instants after a beginning and after each call are gone through one
 /// by one, too.
@@ -24,6 +25,9 @@ pub fn compare(peer: &Peer, job: &Job) -> Result<u64, String> {
     };
     let file = &compiled.lent[0][..file_length(shape.cells.into())];
     let netlist = netfile::read(file).map_err(|refusal| format!("compiled: {refusal:?}"))?;
+    if netlist.pulse > 1 {
+        return no_compact_state(peer, file, &job.words, job.state_length).map(|()| 0);
+    }
     let mut runs = Runs {
         peer,
         file,
@@ -43,6 +47,27 @@ pub fn compare(peer: &Peer, job: &Job) -> Result<u64, String> {
         runs.single_instants()?;
     }
     Ok(runs.calls)
+}
+
+/// Every call on a compact state of a netlist with longer pulses is refusal 27,
+/// whatever words and state are.
+pub fn no_compact_state(
+    peer: &Peer,
+    file: &[u8],
+    words: &[u8],
+    length: usize,
+) -> Result<(), String> {
+    let state = lent(length);
+    for (name, reply) in [
+        ("begin", (peer.begin)(Format::Compact, file, words, &state)),
+        ("go", (peer.continue_by)(Format::Compact, file, 1, &state)),
+        ("start", (peer.start)(Format::Compact, file, &state)),
+    ] {
+        if reply.result != Err(Refusal::new(27, 0)) || reply.lent[0] != state {
+            return Err(format!("{name}, compact: {:?}", reply.result));
+        }
+    }
+    Ok(())
 }
 
 /// A run of a netlist, on a state of each format.

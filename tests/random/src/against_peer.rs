@@ -92,8 +92,9 @@ impl Pair<'_> {
         let mut cells = read.lent[0][..6 * shape.cells as usize].to_vec();
         let file_room = lent(random.pick(&[511, 512, 3_584, 6_656]));
         for _ in 0..DAMAGED {
+            let pulse = damage::pulse(random);
             self.same("write_netlist", &[&file_room], |peer| {
-                (peer.write_netlist)(&cells, shape.finish, &file_room)
+                (peer.write_netlist)(pulse, &cells, shape.finish, &file_room)
             })?;
             let place = random.below(cells.len());
             cells[place] = random.below(46) as u8;
@@ -117,7 +118,7 @@ impl Pair<'_> {
             (peer.begin)(format, file, words, &room)
         })?;
         if begun.result.is_err() {
-            return Ok(());
+            return self.same_on(format, "not begun", file, 1, &room);
         }
         let mut state = begun.lent[0][..length].to_vec();
         for call in calls {

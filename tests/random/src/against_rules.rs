@@ -1,11 +1,12 @@
 //! A peer's circuit against its rules: the whole of demand 3 for one job, with
 //! what is given beside its program.
 //!
-//! From the program's end alone it follows what a beginning and every call
-//! after it must answer, and which of them are refused: a second start before
-//! the end, and after it none, for the program then runs anew from its last
-//! words, counted from that pulse. The last words of the arrays, which no answer
-//! shows, are those of the second's rules.
+//! From the program's end and the length of its pulses alone it follows what a
+//! beginning and every call after it must answer, and which of them are refused: a
+//! second start before the end, or while a finish that is longer than an instant is
+//! high, and after that none, for the program then runs anew from its last words,
+//! counted from that pulse. The last words of the arrays, which no answer shows, are
+//! those of the second's rules.
 
 use crate::flight;
 use crate::job::{Ask, Call, Job, MOST_INSTANT};
@@ -30,13 +31,23 @@ pub enum Outcome {
     Refused,
 }
 
-/// The second starts of a job: refused before an end, given right at it, and
-/// given later.
+/// The second starts of a job: refused before an end, refused while the finish is
+/// high, given as soon as may be, and given later.
 #[derive(Clone, Copy, Debug, Default, PartialEq, Eq)]
 pub struct Starts {
     pub early: u64,
-    pub at_the_end: u64,
+    pub at_the_finish: u64,
+    pub at_once: u64,
     pub late: u64,
+}
+
+impl Starts {
+    pub fn add(&mut self, others: Starts) {
+        self.early += others.early;
+        self.at_the_finish += others.at_the_finish;
+        self.at_once += others.at_once;
+        self.late += others.late;
+    }
 }
 
 /// Compares; the error says which call disagrees, and how.
@@ -71,18 +82,25 @@ pub fn compare(peer: &Peer, job: &Job) -> Result<Seen, String> {
 struct Run {
     /// Its end, counted from instant 0 of the list, if within reach.
     end: Option<Moment>,
+    /// The length of its pulses.
+    pulse: u32,
 }
 
 impl Run {
+    /// Whether a finish is due at an instant.
+    fn is_due(self, instant: u32) -> bool {
+        let end = self.ended_by(instant);
+        end.is_some_and(|end| instant < end.instant + self.pulse)
+    }
+
     /// Where a continuing by `n` from `instant` stops, and whether ended there.
     /// A beginning is one by 0 from 0.
     fn stop(self, instant: u32, n: u32) -> (u32, bool) {
         let last = instant + n;
-        match self.end {
-            Some(end) if instant < end.instant && end.instant <= last => (end.instant, true),
-            Some(end) => (last, end.instant == last),
-            None => (last, false),
-        }
+        let first = self.end.map(|end| end.instant.max(instant + 1));
+        let due = first.filter(|&first| first <= last && self.is_due(first));
+        let stop = due.unwrap_or(last);
+        (stop, self.is_due(stop))
     }
 
     /// Where a full run stops: at 0 if the finish is high there.
@@ -93,10 +111,33 @@ impl Run {
         }
     }
 
-    /// The end, if it isn't above an instant: from there on nothing is in
-    /// flight.
+    /// The end, if it isn't above an instant.
     fn ended_by(self, instant: u32) -> Option<Moment> {
         self.end.filter(|end| end.instant <= instant)
+    }
+
+    /// The end, if a start may be given after an instant. A finish that is longer
+    /// than an instant must have fallen.
+    fn idle_by(self, instant: u32) -> Option<Moment> {
+        self.end.filter(|end| self.idle_from(end) <= instant)
+    }
+
+    fn idle_from(self, end: &Moment) -> u32 {
+        match self.pulse {
+            1 => end.instant,
+            longer => end.instant + longer,
+        }
+    }
+
+    /// Whether the number in flight is 0 after an instant, where that is told: from
+    /// where it is idle on, and not before the end, nor with a longer pulse at it.
+    fn is_still(self, instant: u32) -> Option<bool> {
+        let after_the_end = instant.checked_sub(1).and_then(|ago| self.ended_by(ago));
+        match (self.idle_by(instant), after_the_end) {
+            (Some(_), _) => Some(true),
+            (None, None) => Some(false),
+            (None, Some(_)) => None,
+        }
     }
 }
 
@@ -134,8 +175,10 @@ impl List<'_> {
             instant: pulse + moment.instant,
             ..moment
         };
-        let end = moment.map(later);
-        Ok(Run { end })
+        Ok(Run {
+            end: moment.map(later),
+            pulse: given.pulse.into(),
+        })
     }
 
     /// The beginning and the list of calls, the state threaded through.
@@ -154,16 +197,20 @@ impl List<'_> {
             if let Some(number) = self.refusal(call, &buffer, run, instant) {
                 expect(&name, reply.result, Err(Refusal::new(number, 0)))?;
                 expect(&name, &reply.lent[0], &buffer)?;
-                starts.early += u64::from(number == 23);
+                match run.is_due(instant) {
+                    _ if number != 23 => {}
+                    true => starts.at_the_finish += 1,
+                    false => starts.early += 1,
+                }
                 continue;
             }
-            if let (Ask::Start, Some(end)) = (call.ask, run.ended_by(instant)) {
-                let reach = reach(&self.job.calls[index..], instant + 1);
-                run = self.run_from(instant + 1, &end.contents.bytes(), reach)?;
-                match end.instant == instant {
-                    true => starts.at_the_end += 1,
+            if let (Ask::Start, Some(end)) = (call.ask, run.idle_by(instant)) {
+                match run.idle_from(&end) == instant {
+                    true => starts.at_once += 1,
                     false => starts.late += 1,
                 }
+                let reach = reach(&self.job.calls[index..], instant + 1);
+                run = self.run_from(instant + 1, &end.contents.bytes(), reach)?;
             }
             let stop = run.stop(instant, call.ask.most(instant));
             self.check_answer(&name, run, &reply, stop, stop.0 - instant)?;
@@ -185,7 +232,7 @@ impl List<'_> {
             Some(14)
         } else if last > u64::from(MOST_INSTANT) {
             Some(16)
-        } else if call.ask == Ask::Start && run.ended_by(instant).is_none() {
+        } else if call.ask == Ask::Start && run.idle_by(instant).is_none() {
             Some(23)
         } else {
             None
@@ -218,7 +265,7 @@ impl List<'_> {
 
     /// Compares an answer with what is due; from the end on the words are the
     /// program's last ones, in the state, which is lent last, too, and the state
-    /// tells that nothing is in flight, as it does at no instant before.
+    /// tells whether something is in flight.
     fn check_answer(
         &self,
         name: &str,
@@ -232,10 +279,10 @@ impl List<'_> {
             .map(|answer| (answer.ended, answer.instant, answer.count));
         expect(name, found, Ok((ended, instant, count)))?;
         let state = &reply.lent[reply.lent.len() - 1][..self.length];
-        let end = run.ended_by(instant);
-        let idle = flight::told(state) == 0;
-        expect(&format!("idle after {name}"), idle, end.is_some())?;
-        match (end, reply.result) {
+        let still = flight::told(state) == 0;
+        let expected = run.is_still(instant).unwrap_or(still);
+        expect(&format!("idle after {name}"), still, expected)?;
+        match (run.ended_by(instant), reply.result) {
             (Some(end), Ok(answer)) => {
                 let last = end.contents;
                 expect(&format!("words after {name}"), answer.words, last.words)?;

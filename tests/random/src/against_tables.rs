@@ -1,5 +1,6 @@
-//! A job's table: a damaged one is refused by every call before all else, and
-//! a good one decides only whether a program is accepted.
+//! What is given beside a job's program: a damaged table, or a length that no
+//! pulse has, is refused by every call before all else, and a good table decides
+//! only whether a program is accepted.
 
 use crate::job::Job;
 use crate::lend::{lent, MOST_FILE};
@@ -10,14 +11,12 @@ use values::{Given, Refusal};
 /// The table that accepts whatever any table accepts.
 const FASTEST: Times = Times([0, 0, 1, 1, 1, 1, 1, 1, 1, 1]);
 
-/// Compares; a job without a table has nothing to compare.
+/// Compares; a job with nothing refused and no table has nothing to compare.
 pub fn compare(peer: &Peer, job: &Job) -> Result<(), String> {
-    match &job.table {
-        None => Ok(()),
-        Some(table) => match table.refused {
-            Some(refused) => refused_by_all(peer, job, refused),
-            None => same_as_under_the_fastest(peer, job),
-        },
+    match (job.refused_beside(), &job.table) {
+        (Some(refused), _) => refused_by_all(peer, job, refused),
+        (None, Some(_)) => same_as_under_the_fastest(peer, job),
+        (None, None) => Ok(()),
     }
 }
 
@@ -43,10 +42,10 @@ fn expect<T>(
     unwritten: &[Vec<u8>],
 ) -> Result<(), String> {
     if found.result.err() != Some(refused) {
-        return Err(format!("{name}: the table isn't {refused:?}"));
+        return Err(format!("{name}: what is given isn't {refused:?}"));
     }
     if found.lent != unwritten {
-        return Err(format!("{name}: a refused table, yet lent bytes changed"));
+        return Err(format!("{name}: refused, yet lent bytes changed"));
     }
     Ok(())
 }

@@ -1,6 +1,6 @@
 //! Texts against programs: the text of a program is read to its bytes or met
 //! by its refusals, and its beginnings are no sooner and no later broken than
-//! where they end. A refused table comes before every text.
+//! where they end. What is refused beside a program comes before every text.
 
 use crate::job::Job;
 use crate::lend::{lent, lent_with};
@@ -19,8 +19,7 @@ pub fn compare(peer: &Peer, job: &Job) -> Result<(), String> {
         peer,
         given: job.given(),
     };
-    let refused = job.table.as_ref().and_then(|table| table.refused);
-    for_each(job, |text, room| match refused {
+    for_each(job, |text, room| match job.refused_beside() {
         Some(refused) => same(&reader.read(&text.bytes, room), &refusing(refused, room)),
         None => compare_text(&reader, text, room),
     })

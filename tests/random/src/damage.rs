@@ -2,11 +2,12 @@
 //! refused, some makes another good input.
 
 use crate::flight;
-use crate::formats::LEFT;
+use crate::formats::{LEFT, LINE};
 use crate::generate::Program;
+use crate::job;
 use crate::lend::{cell_length, ARRAYS, HEADER};
 use crate::xorshift::Random;
-use second::cells::{sort, Sort, DELAY, MERGE, RETURN};
+use second::cells::{sort, Netlist, Sort, DELAY, MERGE, RETURN};
 use second::netfile;
 use values::{Cell, Format};
 
@@ -58,7 +59,7 @@ fn damage_program(bytes: &mut Vec<u8>, random: &mut Random) {
 /// that the later refusals are met too.
 pub fn netlist(file: &[u8], random: &mut Random) -> Vec<u8> {
     let mut file = file.to_vec();
-    match random.below(12) {
+    match random.below(14) {
         0 => file.truncate(random.below(file.len() + 1)),
         1 => file.extend_from_within(..BLOCK),
         2 => drop(file.drain(..BLOCK)),
@@ -69,12 +70,27 @@ pub fn netlist(file: &[u8], random: &mut Random) -> Vec<u8> {
             file[place] = file[place].wrapping_add(random.pick(&[1, 255, 84]));
             mend_checks(&mut file);
         }
+        7 => {
+            let pulse = pulse(random);
+            for block in file.chunks_exact_mut(BLOCK) {
+                block[1] = pulse.wrapping_sub(1);
+            }
+            mend_checks(&mut file);
+        }
         _ => {
             damage_cell(&mut file, random);
             mend_checks(&mut file);
         }
     }
     file
+}
+
+/// A length that pulses may have or, one time in eight, may not.
+pub fn pulse(random: &mut Random) -> u8 {
+    match random.once_in(8) {
+        true => random.pick(&job::NO_PULSES),
+        false => job::pulse(random),
+    }
 }
 
 fn set_random_byte(bytes: &mut [u8], random: &mut Random) {
@@ -147,7 +163,7 @@ pub fn mend_checks(file: &mut [u8]) {
 /// such as refusal 15 lets pass: wires and lines that contradict each other, and
 /// a number that is true of them.
 pub fn state(format: Format, file: &[u8], state: &[u8], random: &mut Random) -> Vec<u8> {
-    let cells = netfile::read(file).expect("a good netlist").cells;
+    let Netlist { pulse, cells, .. } = netfile::read(file).expect("a good netlist");
     let mut state = state.to_vec();
     let (arrays, length) = (state.len() - ARRAYS, cell_length(format));
     for _ in 0..random.between(1, 4) {
@@ -158,6 +174,9 @@ pub fn state(format: Format, file: &[u8], state: &[u8], random: &mut Random) -> 
             0 => set_random_byte(&mut state[..HEADER], random),
             1 => set_random_byte(&mut state[bytes], random),
             2 => set_random_byte(&mut state[arrays..], random),
+            3 if format == Format::Full => {
+                state[HEADER + LINE] = random.below(usize::from(pulse) + 1) as u8;
+            }
             _ => contradict(format, cells[cell], &mut state[bytes], random),
         }
     }
@@ -205,7 +224,7 @@ mod tests {
     fn met(call: impl Fn(&Program, &mut Random) -> Result<(), Refusal>) -> BTreeSet<u8> {
         let outcome = |seed: u64| {
             let random = &mut Random::new(seed);
-            let program = generate::program(random, &BUILT_IN);
+            let program = generate::program(random, &BUILT_IN, 1);
             call(&program, random).map_or_else(|refusal| refusal.number, |()| 0)
         };
         (0..4_000).map(outcome).collect()
@@ -245,7 +264,7 @@ mod tests {
             let netlist = netfile::read(&begun(Format::Full, good).0).expect("a good netlist");
             let (damaged, finish) = cells(&netlist.cells, netlist.finish, random);
             let bytes = Cell::all_bytes(&damaged);
-            calls::write_netlist(&bytes, finish, &mut lent(MOST_FILE)).map(drop)
+            calls::write_netlist(1, &bytes, finish, &mut lent(MOST_FILE)).map(drop)
         });
         assert_eq!(met, [0, 11, 12].into());
     }

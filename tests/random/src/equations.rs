@@ -63,14 +63,14 @@ impl Step<'_> {
         let Cell { kind, delay, a, b } = self.netlist.cells[number];
         let now = |wire: u16| self.now(wire);
         match kind {
-            START => u16::from(self.starts),
+            START => u16::from(self.starts || remaining_in(self.before(number)) > 0),
             GROUND => 0,
             CONSTANT => a,
             DELAY => self.output(number, delay),
             OR => now(a) | now(b),
             WHEN => u16::from(now(a) == 1 && now(b) != 0),
             UNLESS => u16::from(now(a) == 1 && now(b) == 0),
-            MERGE | RETURN => u16::from(self.merged(number) == (true, true)),
+            MERGE | RETURN => u16::from(self.puts_out(number)),
             MEMORY => self.memory(number, a, b),
             GATE => now(a) * now(b),
             ARRAY | ADDRESS => 0,
@@ -165,28 +165,50 @@ impl Step<'_> {
         )
     }
 
-    /// The bits held afterwards; cells other than merges hold none.
+    /// Whether a merge puts out 1: with longer pulses a parallel node's needs an
+    /// input for it, too.
+    fn puts_out(&self, number: usize) -> bool {
+        let Cell { kind, a, b, .. } = self.netlist.cells[number];
+        let needs_input = self.is_long() && kind == MERGE;
+        let has_input = self.now(a) == 1 || self.now(b) == 1;
+        self.merged(number) == (true, true) && (has_input || !needs_input)
+    }
+
+    fn is_long(&self) -> bool {
+        self.netlist.pulse > 1
+    }
+
+    /// The bits held afterwards; cells other than merges hold none. They become 0 as
+    /// the output is 1, with longer pulses as it falls.
     fn held(&self, number: usize) -> (bool, bool) {
         let kind = self.netlist.cells[number].kind;
         if ![MERGE, RETURN].contains(&kind) {
             return (false, false);
         }
+        let (was, is) = (self.ago(number as u16) == 1, self.puts_out(number));
+        let cleared = if self.is_long() { was && !is } else { is };
         match self.merged(number) {
-            (true, true) => (false, false),
+            _ if cleared => (false, false),
             (called, _) if kind == RETURN => (called, false),
             held => held,
         }
     }
 
-    /// The last 256 inputs of a delay; other cells have none.
+    /// The last 256 inputs of a delay, and what remains of start; other cells have
+    /// neither.
     fn line(&self, number: usize) -> [u8; 32] {
-        let cell = self.netlist.cells[number];
+        let (cell, before) = (self.netlist.cells[number], self.before(number));
         let mut line = [0; 32];
-        if cell.kind == DELAY {
-            line[0] = self.now(cell.a) as u8;
-            for bit in 1..256 {
-                line[bit / 8] |= input_in(self.before(number), bit - 1) << (bit % 8);
+        match cell.kind {
+            START if self.starts => line[0] = self.netlist.pulse - 1,
+            START => line[0] = remaining_in(before).saturating_sub(1),
+            DELAY => {
+                line[0] = self.now(cell.a) as u8;
+                for bit in 1..256 {
+                    line[bit / 8] |= input_in(before, bit - 1) << (bit % 8);
+                }
             }
+            _ => {}
         }
         line
     }

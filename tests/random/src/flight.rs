@@ -1,8 +1,9 @@
 //! The number in flight, in the paper's own words: the inputs of delays that
-//! aren't put out yet, and the held bits of merges, from the bytes of a state.
+//! aren't put out yet, the held bits of merges, and the start's remaining high
+//! instants, from the bytes of a state.
 
-use crate::formats::{cells_of, input_in, left_in};
-use second::cells::{DELAY, MERGE, RETURN};
+use crate::formats::{cells_of, input_in, left_in, remaining_in};
+use second::cells::{DELAY, MERGE, RETURN, START};
 use values::{Cell, Format};
 
 /// Where a state tells it.
@@ -35,12 +36,13 @@ pub fn counted_up_to(cells: &[Cell], state: &[u8], inputs: impl Fn(u8) -> usize)
     })
 }
 
-/// What the lines have in flight as told, by their delay and their bytes, and the
-/// held bits.
+/// What the lines have in flight as told, by their delay and their bytes, the held
+/// bits, and what remains of start.
 fn summed(format: Format, cells: &[Cell], state: &[u8], line: impl Fn(u8, &[u8]) -> u32) -> u32 {
     let of_cell = |(cell, bytes): (&Cell, &[u8])| match cell.kind {
         DELAY => line(cell.delay, bytes),
         MERGE | RETURN => u32::from(bytes[4]) + u32::from(bytes[5]),
+        START => remaining_in(bytes).into(),
         _ => 0,
     };
     cells.iter().zip(cells_of(format, state)).map(of_cell).sum()

@@ -8,8 +8,9 @@ use values::{Cell, Format};
 /// In a compact state, the place in a cell of its line's number.
 pub const LEFT: usize = 6;
 
-/// In a full state, the place in a cell of its line.
-const LINE: usize = 8;
+/// In a full state, the place in a cell of its line, of which start uses the first
+/// byte for its remaining high instants.
+pub const LINE: usize = 8;
 
 pub fn instant_of(state: &[u8]) -> u32 {
     u32::from_le_bytes([state[0], state[1], state[2], state[3]])
@@ -41,6 +42,12 @@ pub fn left_in(bytes: &[u8]) -> u8 {
 /// The input so many instants ago, in the bytes of a cell of a full state.
 pub fn input_in(bytes: &[u8], ago: usize) -> u8 {
     bytes[LINE + ago / 8] >> (ago % 8) & 1
+}
+
+/// The remaining high instants in the bytes of start; a compact state is of pulses
+/// of one instant, and has none.
+pub fn remaining_in(bytes: &[u8]) -> u8 {
+    bytes.get(LINE).copied().unwrap_or(0)
 }
 
 /// The full state with the pulses of a compact one.

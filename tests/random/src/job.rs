@@ -7,7 +7,12 @@ use crate::tables::{self, Table};
 use crate::xorshift::Random;
 use peers::{Peer, Reply};
 use second::table::BUILT_IN;
-use values::{Answer, Format, Given};
+use values::{Answer, Format, Given, Refusal};
+
+/// The lengths that a pulse may have, the first as often as all others together,
+/// and some that it may not have.
+const PULSES: [u8; 14] = [1, 1, 1, 1, 1, 1, 1, 2, 3, 4, 5, 6, 7, 8];
+pub const NO_PULSES: [u8; 5] = [0, 9, 10, 128, 255];
 
 /// The last instant that a run may come to.
 pub const MOST_INSTANT: u32 = 1_000_000;
@@ -76,6 +81,8 @@ pub struct Job {
     pub table: Option<Table>,
     /// How many procedures the program is said to have.
     pub procedures: usize,
+    /// How long its pulses are said to be.
+    pub pulse: u8,
     pub program: Vec<u8>,
     pub words: Vec<u8>,
     pub budget: u32,
@@ -91,17 +98,19 @@ impl Job {
     /// The job of a seed; one program in eight is slightly damaged, in one of
     /// sixteen parallel sides may clash, in one of sixteen exits may leave them,
     /// and in one of sixteen both may reach a procedure. Every other one has a
-    /// table, and one table in twelve is damaged.
+    /// table, and one table in twelve is damaged; every other one has longer
+    /// pulses, and one in 24 a length that it wasn't written for.
     pub fn of_seed(seed: u64) -> Job {
         let random = &mut Random::new(seed);
         let times = random.once_in(2).then(|| tables::times(random));
+        let pulse = pulse(random);
         let program_of = match random.below(16) {
             0 => generate::clashing_program,
             1 => generate::leaving_program,
             2 => generate::sharing_program,
             _ => generate::program,
         };
-        let mut program = program_of(random, times.as_ref().unwrap_or(&BUILT_IN));
+        let mut program = program_of(random, times.as_ref().unwrap_or(&BUILT_IN), pulse);
         if random.once_in(8) {
             program = damage::program(&program, random);
         }
@@ -110,15 +119,21 @@ impl Job {
             true => tables::damaged(&times, random),
             false => tables::good(&times),
         });
+        let pulse = match random.below(48) {
+            0 => random.pick(&NO_PULSES),
+            1 => self::pulse(random),
+            _ => pulse,
+        };
         Job {
             table,
             procedures,
+            pulse,
             program: bytes,
             words: lent_words(random),
             budget: budget(random),
             file_length: random.pick(&[0, 511, 512, 1024, 2048, 3584, 6656, 7000]),
             state_length: random.pick(&[0, 7, 1_600, 3_000, 10_000, 25_600, 41_480, 42_000]),
-            calls: calls(random),
+            calls: calls(pulse, random),
             damage: random.bits(),
         }
     }
@@ -128,8 +143,23 @@ impl Job {
         Given {
             table: self.table.as_ref().map(|table| &table.bytes[..]),
             procedures: self.procedures,
+            pulse: self.pulse,
         }
     }
+
+    /// What it meets by what is given beside its program, whatever that is.
+    pub fn refused_beside(&self) -> Option<Refusal> {
+        let table = self.table.as_ref().and_then(|table| table.refused);
+        match self.pulse {
+            1..=8 => table,
+            _ => Some(Refusal::new(27, 0)),
+        }
+    }
+}
+
+/// A length that pulses may have.
+pub fn pulse(random: &mut Random) -> u8 {
+    random.pick(&PULSES)
 }
 
 /// Start words, now and then with a byte too few or some too many.
@@ -155,29 +185,37 @@ fn budget(random: &mut Random) -> u32 {
 }
 
 /// The calls on one run, refused ones among them. A start comes after as many
-/// continuings as it happens: before an end, right at it or later.
-pub fn calls(random: &mut Random) -> Vec<Call> {
-    let mut list: Vec<Call> = (0..random.between(1, 16)).map(|_| call(random)).collect();
+/// continuings as it happens: before an end, right at it or later. A continuing
+/// stops at each instant of a finish, so that with longer pulses there are more.
+pub fn calls(pulse: u8, random: &mut Random) -> Vec<Call> {
+    let most = 12 + 4 * usize::from(pulse.min(8));
+    let count = random.between(1, most);
+    let mut list: Vec<Call> = (0..count).map(|_| call(pulse, random)).collect();
     // The last instant of all is far for most programs, so it is rarely gone
-    // for. A continuing stops at an end, so there are two.
+    // for.
     if random.once_in(1_000) {
-        list.extend(to_the_last());
+        list.extend(to_the_last(pulse));
     }
     list
 }
 
 /// Calls that come to the last instant, where every call with an instant is
-/// refused.
-pub fn to_the_last() -> impl Iterator<Item = Call> {
-    let near = Ask::GoTo(MOST_INSTANT - 300);
-    let last = Ask::GoTo(MOST_INSTANT);
-    let asks = [near, near, Ask::Start, last, last, Ask::Start, Ask::Go(1)];
+/// refused. A continuing stops at each instant of a finish, so there is one more.
+pub fn to_the_last(pulse: u8) -> impl Iterator<Item = Call> {
+    let times = usize::from(pulse) + 1;
+    let near = vec![Ask::GoTo(MOST_INSTANT - 300); times];
+    let last = vec![Ask::GoTo(MOST_INSTANT); times];
+    let asks = [near, vec![Ask::Start], last, vec![Ask::Start, Ask::Go(1)]];
     let room = Room::Exact;
-    asks.into_iter().map(move |ask| Call { ask, room })
+    let calls = asks.into_iter().flatten();
+    calls.map(move |ask| Call { ask, room })
 }
 
-fn call(random: &mut Random) -> Call {
+/// With longer pulses there are more single instants: so many lie between an end
+/// and the first start after it.
+fn call(pulse: u8, random: &mut Random) -> Call {
     let n = match random.below(20) {
+        _ if pulse > 1 && random.once_in(2) => 1,
         0 | 1 => 0,
         2..=6 => random.between(1, 3),
         7..=12 => random.between(4, 300),

@@ -1,8 +1,8 @@
 //! Makes a failing job smaller, step by step, for as long as it still fails.
 //!
 //! A step drops a procedure, puts a smaller subtree for a subtree, lowers a
-//! number of a node, clears a start word, or drops the table or a call on the
-//! run. It is greedy: the first
+//! number of a node, clears a start word, shortens the pulses, or drops the table
+//! or a call on the run. It is greedy: the first
 //! step that keeps the failure is taken, until none does. Of programs of one
 //! length the one whose bytes come first is the smaller, so there is an end.
 
@@ -37,6 +37,7 @@ fn steps(job: &Job) -> Vec<Job> {
         .into_iter()
         .chain(programs)
         .chain(without_table(job))
+        .chain(shorter_pulses(job))
         .chain(fewer_calls(job))
         .chain(cleared_words(job))
         .collect()
@@ -159,6 +160,17 @@ fn without_table(job: &Job) -> Option<Job> {
     job.table.as_ref().map(without)
 }
 
+/// The job with pulses of one instant, or one instant shorter.
+fn shorter_pulses(job: &Job) -> Vec<Job> {
+    let with_pulse = |pulse| Job {
+        pulse,
+        ..job.clone()
+    };
+    let shorter = [1, job.pulse.saturating_sub(1)].into_iter();
+    let shorter = shorter.filter(|&pulse| (1..job.pulse).contains(&pulse));
+    shorter.map(with_pulse).collect()
+}
+
 /// The job without one of its calls.
 fn fewer_calls(job: &Job) -> Vec<Job> {
     let without = |call| {
@@ -195,13 +207,14 @@ mod tests {
     #[test]
     fn a_fault_of_parallel_nodes_comes_down_to_one_of_them() {
         let fails = |job: &Job| against_rules::compare(&SLOW_PARALLEL, job).is_err();
-        let failing = (0..)
-            .map(Job::of_seed)
-            .find(fails)
-            .expect("a parallel program");
+        // Where a procedure has the parallel node, its main program stays.
+        let alone = |job: &Job| job.procedures == 0 && fails(job);
+        let failing = (0..).map(Job::of_seed).find(alone);
+        let failing = failing.expect("a parallel program");
         let smallest = minimise(&failing, fails);
         assert_eq!(smallest.program, [[20, 0, 0, 0], OK, OK].concat());
         assert!(smallest.calls.is_empty() && smallest.table.is_none());
+        assert_eq!(smallest.pulse, 1);
         assert!(smallest.words.iter().all(|&byte| byte == 0));
     }
 
@@ -215,6 +228,7 @@ mod tests {
         let job = Job {
             table: None,
             procedures: 2,
+            pulse: 1,
             program: [first, second.clone(), main].concat(),
             calls: vec![],
             words: vec![],

@@ -1,6 +1,7 @@
 //! Random netlists that no program compiles to: every kind of cell, inputs
 //! anywhere that the rules allow, memories scattered.
 
+use crate::job;
 use crate::xorshift::Random;
 use second::cells::*;
 use second::contents::ARRAYS;
@@ -30,7 +31,8 @@ const KINDS: [(u8, usize); 16] = [
     (READ, 4),
 ];
 
-/// The file of a netlist with mostly few and now and then 1,024 cells.
+/// The file of a netlist with mostly few and now and then 1,024 cells, for pulses
+/// of any length.
 pub fn netlist(random: &mut Random) -> Vec<u8> {
     let free = match random.below(20) {
         0 => random.between(200, 997),
@@ -42,7 +44,11 @@ pub fn netlist(random: &mut Random) -> Vec<u8> {
         .map(|number| cell(&kinds, number, random))
         .collect();
     let finish = wire(&kinds, kinds.len(), Sort::Control, random);
-    netfile::write(&Netlist { cells, finish })
+    netfile::write(&Netlist {
+        pulse: job::pulse(random),
+        cells,
+        finish,
+    })
 }
 
 /// The fixed kinds, then memories and some of the free cells in any order, the

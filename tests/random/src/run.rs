@@ -63,7 +63,7 @@ fn compare(job: &Job) -> Result<(Seen, u64), String> {
 fn compare_netlist(random: &mut Random) -> Result<u64, String> {
     let file = netlists::netlist(random);
     let words = generate::start_words(random);
-    let (calls, damage) = (job::calls(random), random.bits());
+    let (calls, damage) = (job::calls(file[1] + 1, random), random.bits());
     let pair = Pair {
         left: &LEFT,
         right: &RIGHT,
@@ -90,7 +90,8 @@ fn report(job: &Job, number: u64, what: &str) -> String {
     let mut text = format!("job {number} disagrees: {what}\nminimised: {what_now}\n");
     let given = smallest.given();
     text += &given.table.map_or(String::new(), listing::table);
-    text += &format!("procedures: {}\n", given.procedures);
+    text += &format!("procedures: {}, ", given.procedures);
+    text += &format!("pulse length: {}\n", given.pulse);
     text += &format!("program: {:?}\n", smallest.program);
     text += &listing::program(&smallest.program);
     text += &format!("words: {:?}\n", smallest.words);
@@ -101,6 +102,7 @@ fn report(job: &Job, number: u64, what: &str) -> String {
 #[cfg(test)]
 mod tests {
     use super::*;
+    use crate::against_rules::Starts;
 
     #[test]
     fn a_short_run_agrees_and_sees_every_outcome() {
@@ -109,9 +111,12 @@ mod tests {
         let special = [tally.tables, tally.arrays, tally.loops, tally.calls];
         let rarest = special.into_iter().fold(least, u64::min);
         assert!(rarest >= 100, "{tally}");
-        let starts = tally.starts;
-        let kinds = starts.early.min(starts.at_the_end).min(starts.late);
-        assert!(kinds >= 500, "{tally}");
+        let [short, long] = tally.starts;
+        let rarest = |starts: Starts| starts.early.min(starts.at_once).min(starts.late);
+        assert!(rarest(short) >= 500, "{tally}");
+        assert!(rarest(long) >= 60 && long.at_the_finish >= 500, "{tally}");
+        let pulses = tally.pulses.into_iter().fold(tally.no_pulses, u64::min);
+        assert!(pulses >= 60, "{tally}");
         assert_eq!(tally.netlists, 125);
         assert!(tally.compact >= 100_000 && tally.crowded >= 100, "{tally}");
     }

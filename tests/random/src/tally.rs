@@ -16,7 +16,12 @@ pub struct Tally {
     pub arrays: u64,
     pub loops: u64,
     pub calls: u64,
-    pub starts: Starts,
+    /// Programs with pulses of each length from 1 to 8 that are accepted, and those
+    /// with a length that no pulse has.
+    pub pulses: [u64; 8],
+    pub no_pulses: u64,
+    /// Starts with pulses of one instant, and with longer ones.
+    pub starts: [Starts; 2],
     /// Calls on compact states of programs, compared with full ones.
     pub compact: u64,
     pub netlists: u64,
@@ -33,9 +38,12 @@ impl Tally {
         self.arrays += u64::from(has_arrays(&job.program));
         self.loops += u64::from(has_loops(&job.program));
         self.calls += u64::from(has_calls(&job.program));
-        self.starts.early += seen.starts.early;
-        self.starts.at_the_end += seen.starts.at_the_end;
-        self.starts.late += seen.starts.late;
+        self.starts[usize::from(job.pulse > 1)].add(seen.starts);
+        match (job.pulse, seen.outcome) {
+            (1..=8, Outcome::Refused) => {}
+            (pulse @ 1..=8, _) => self.pulses[usize::from(pulse) - 1] += 1,
+            _ => self.no_pulses += 1,
+        }
         match seen.outcome {
             Outcome::Ended => self.ended += 1,
             Outcome::Open => self.open += 1,
@@ -55,12 +63,9 @@ impl Display for Tally {
             arrays,
             loops,
             calls,
-            starts:
-                Starts {
-                    early,
-                    at_the_end,
-                    late,
-                },
+            pulses,
+            no_pulses,
+            starts: [short, long],
             compact,
             netlists,
             crowded,
@@ -70,9 +75,26 @@ impl Display for Tally {
         write!(text, "{ended} ended, {open} open, {refused} refused, ")?;
         write!(text, "{tables} under a table, {arrays} with arrays, ")?;
         write!(text, "{loops} with loops, {calls} with calls; ")?;
-        write!(text, "starts: {early} too early, ")?;
-        write!(text, "{at_the_end} at an end, {late} later; ")?;
+        write!(text, "accepted with pulses of 1 to 8: {pulses:?}, ")?;
+        write!(text, "{no_pulses} with others; starts: {short}; ")?;
+        write!(text, "with longer pulses: {long}; ")?;
         write!(text, "{compact} calls on compact states as on full ones; ")?;
         write!(text, "{netlists} netlists agree, {crowded} runs met 26")
+    }
+}
+
+impl Display for Starts {
+    fn fmt(&self, text: &mut Formatter) -> Result {
+        let Starts {
+            early,
+            at_the_finish,
+            at_once,
+            late,
+        } = self;
+        write!(
+            text,
+            "{early} too early, {at_the_finish} at a high finish, "
+        )?;
+        write!(text, "{at_once} as soon as may be, {late} later")
     }
 }

@@ -204,7 +204,7 @@ mod tests {
         let mut met = BTreeMap::new();
         for seed in 0..4_000 {
             let random = &mut Random::new(seed);
-            let program = generate::program(random, &BUILT_IN);
+            let program = generate::program(random, &BUILT_IN, 1);
             let texts = texts(&program.bytes, random).into_iter();
             for text in texts.filter(|text| wanted(&text.known)) {
                 let read = calls::read_text(Given::NOTHING, &text.bytes, &mut [0; 800]);

@@ -4,9 +4,10 @@
 //! lent byte, and writes no further than its result goes. Refusal 26 alone
 //! comes up in a run, and leaves the state of the last good instant.
 //!
-//! A call that checks a program has in front what is given beside it: the number
-//! of its procedures, and it may be a table of operator times, whose refusals 19
-//! to 21 come before all others; without it the built-in one serves.
+//! A call that checks a program has in front what is given beside it: the pulse
+//! length, whose refusal 27 comes before all others; the number of its
+//! procedures; and it may be a table of operator times, whose refusals 19 to 21
+//! come next; without it the built-in one serves.
 
 use crate::cells::Netlist;
 use crate::check;
@@ -57,10 +58,16 @@ pub fn compile_text(given: Given, text: &[u8], file: &mut [u8]) -> Result<Shape,
     compile(given, &program_of(given, text)?, file)
 }
 
-/// Writes cells of six bytes to a netlist file: 11 when they are no cells of
+/// Writes cells of six bytes to a netlist file: 27; 11 when they are no cells of
 /// six bytes, otherwise what reading the file would refuse; then 14.
-pub fn write_netlist(cells: &[u8], finish: u16, file: &mut [u8]) -> Result<Shape, Refusal> {
-    let netlist = netfile::netlist_of(cells, finish)?;
+pub fn write_netlist(
+    pulse: u8,
+    cells: &[u8],
+    finish: u16,
+    file: &mut [u8],
+) -> Result<Shape, Refusal> {
+    check_pulse(pulse)?;
+    let netlist = netfile::netlist_of(pulse, cells, finish)?;
     put(&netfile::write(&netlist), file)?;
     Ok(shape(&netlist))
 }
@@ -72,14 +79,14 @@ pub fn read_netlist(file: &[u8], cells: &mut [u8]) -> Result<Shape, Refusal> {
     Ok(shape(&netlist))
 }
 
-/// Begins a run: refusals 9 to 12, 14.
+/// Begins a run: refusals 9 to 12, 27, 14.
 pub fn begin(
     format: Format,
     file: &[u8],
     words: &[u8],
     state: &mut [u8],
 ) -> Result<Answer, Refusal> {
-    let netlist = netfile::read(file)?;
+    let netlist = netlist_for(format, file)?;
     let contents = start_contents(words)?;
     let state = state_room(format, state, &netlist)?;
     let simulator = Simulator::begin(&netlist, contents);
@@ -87,7 +94,7 @@ pub fn begin(
     Ok(answer(&simulator, 1))
 }
 
-/// Continues a run by at most `n` instants: refusals 9 to 12, 14, 15, 16; then
+/// Continues a run by at most `n` instants: refusals 9 to 12, 27, 14, 15, 16; then
 /// 26, which the instants before it are run for once more.
 pub fn continue_by(
     format: Format,
@@ -95,7 +102,7 @@ pub fn continue_by(
     state: &mut [u8],
     n: u32,
 ) -> Result<Answer, Refusal> {
-    let netlist = netfile::read(file)?;
+    let netlist = netlist_for(format, file)?;
     let state = state_to_go_on(format, state, &netlist, n)?;
     let advanced = |n: u32| {
         let mut simulator = state::load(format, &netlist, state);
@@ -113,15 +120,13 @@ pub fn continue_by(
     refusal.map_or(Ok(answer(&simulator, count)), Err)
 }
 
-/// Gives a second start pulse at the next instant: refusals 9 to 12, 14, 15,
+/// Gives a second start pulse at the next instant: refusals 9 to 12, 27, 14, 15,
 /// 16, 23. All lines are empty then, so that none is crowded.
 pub fn start(format: Format, file: &[u8], state: &mut [u8]) -> Result<Answer, Refusal> {
-    let netlist = netfile::read(file)?;
+    let netlist = netlist_for(format, file)?;
     let state = state_to_go_on(format, state, &netlist, 1)?;
-    if state::in_flight(state) != 0 {
-        return Err(Refusal::new(23, 0));
-    }
     let mut simulator = state::load(format, &netlist, state);
+    check_idle(&netlist, &simulator)?;
     simulator.start();
     state::store(format, &simulator, state);
     Ok(answer(&simulator, 1))
@@ -201,16 +206,20 @@ pub fn last_moment(
 
 /// A program that passes its checks under a table that passes its own.
 fn checked(given: Given, program: &[u8]) -> Result<Program, Refusal> {
-    check::check(program, given.procedures, &times(given)?)
+    let times = times(given)?;
+    check::check(program, given.procedures, given.pulse, &times)
 }
 
-/// The bytes of a text's program; the table is refused before the text.
+/// The bytes of a text's program; what is given beside it is refused before the
+/// text.
 fn program_of(given: Given, text: &[u8]) -> Result<Vec<u8>, Refusal> {
     times(given)?;
     text::program(text)
 }
 
+/// The operator times; refusals 27, 19 to 21.
 fn times(given: Given) -> Result<Times, Refusal> {
+    check_pulse(given.pulse)?;
     given.table.map_or(Ok(BUILT_IN), table::read)
 }
 
@@ -233,6 +242,33 @@ fn answer(simulator: &Simulator, count: u32) -> Answer {
         count,
         words: simulator.words(),
     }
+}
+
+/// Refusal 27 of a given pulse length.
+pub(crate) fn check_pulse(pulse: u8) -> Result<(), Refusal> {
+    if !netfile::PULSES.contains(&pulse) {
+        return Err(Refusal::new(27, 0));
+    }
+    Ok(())
+}
+
+/// Refusal 23: something is in flight, or the last of a longer pulse is still at
+/// the finish.
+fn check_idle(netlist: &Netlist, simulator: &Simulator) -> Result<(), Refusal> {
+    let at_the_finish = netlist.pulse > 1 && simulator.finished();
+    if simulator.in_flight() != 0 || at_the_finish {
+        return Err(Refusal::new(23, 0));
+    }
+    Ok(())
+}
+
+/// The netlist in a file for a state of this format; refusals 9 to 12, 27.
+fn netlist_for(format: Format, file: &[u8]) -> Result<Netlist, Refusal> {
+    let netlist = netfile::read(file)?;
+    if format == Format::Compact && netlist.pulse > 1 {
+        return Err(Refusal::new(27, 0));
+    }
+    Ok(netlist)
 }
 
 /// Refusal 13.

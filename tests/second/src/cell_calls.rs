@@ -3,19 +3,20 @@
 //! They refuse what the calls on bytes refuse, except for a length that is no
 //! whole number of cells, which a list of cells can't have.
 
-use crate::calls::{put, shape};
+use crate::calls::{check_pulse, put, shape};
 use crate::cells::moved;
 use crate::netfile;
 use values::{Cell, Refusal, Shape};
 
 /// Checks a netlist: refusals 11 and 12.
 pub fn check(cells: &[Cell], finish: u16) -> Result<(), Refusal> {
-    netfile::netlist_of_cells(cells.to_vec(), finish).map(drop)
+    netfile::netlist_of_cells(1, cells.to_vec(), finish).map(drop)
 }
 
-/// Writes a netlist to a file: refusals 11, 12, 14.
-pub fn write(cells: &[Cell], finish: u16, file: &mut [u8]) -> Result<Shape, Refusal> {
-    let netlist = netfile::netlist_of_cells(cells.to_vec(), finish)?;
+/// Writes a netlist to a file: refusals 27, 11, 12, 14.
+pub fn write(pulse: u8, cells: &[Cell], finish: u16, file: &mut [u8]) -> Result<Shape, Refusal> {
+    check_pulse(pulse)?;
+    let netlist = netfile::netlist_of_cells(pulse, cells.to_vec(), finish)?;
     put(&netfile::write(&netlist), file)?;
     Ok(shape(&netlist))
 }

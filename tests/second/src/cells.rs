@@ -32,6 +32,8 @@ pub const MEMORIES: usize = 16;
 
 #[derive(Clone, Debug, PartialEq, Eq)]
 pub struct Netlist {
+    /// The instants for which a pulse is high.
+    pub pulse: u8,
     pub cells: Vec<Cell>,
     pub finish: u16,
 }

@@ -16,14 +16,19 @@ const NODE_LENGTH: usize = 4;
 const MOST_NODES: usize = 200;
 const MOST_PROCEDURES: usize = 8;
 
-/// The program with so many procedures that these bytes are, or the refusal
-/// found first.
-pub fn check(bytes: &[u8], procedures: usize, times: &Times) -> Result<Program, Refusal> {
+/// The program with so many procedures that these bytes are, for pulses of this
+/// length, or the refusal found first.
+pub fn check(
+    bytes: &[u8],
+    procedures: usize,
+    pulse: u8,
+    times: &Times,
+) -> Result<Program, Refusal> {
     if procedures > MOST_PROCEDURES {
         return Err(Refusal::new(1, 0));
     }
     let nodes = nodes(bytes)?;
-    let program = read(&nodes, procedures)?;
+    let program = read(&nodes, procedures, pulse)?;
     check_exits(&program)?;
     check_calls(&program)?;
     check_delays(&program, times)?;
@@ -65,7 +70,7 @@ fn node(bytes: &[u8]) -> Result<Node, u8> {
 }
 
 /// Refusals 5 and 6: one reading in node order, which stops at the first.
-fn read(nodes: &[Node], procedures: usize) -> Result<Program, Refusal> {
+fn read(nodes: &[Node], procedures: usize, pulse: u8) -> Result<Program, Refusal> {
     let mut reader = Reader { nodes, next: 0 };
     let bodies = (0..procedures).map(|_| reader.statement());
     let bodies = bodies.collect::<Result<_, _>>()?;
@@ -73,7 +78,11 @@ fn read(nodes: &[Node], procedures: usize) -> Result<Program, Refusal> {
     if reader.next < nodes.len() {
         return Err(Refusal::new(6, reader.next));
     }
-    Ok(Program { bodies, main })
+    Ok(Program {
+        pulse,
+        bodies,
+        main,
+    })
 }
 
 struct Reader<'a> {
@@ -186,18 +195,28 @@ fn check_calls(program: &Program) -> Result<(), Refusal> {
 /// Refusal 7, at the first statement whose delay is too small.
 fn check_delays(program: &Program, times: &Times) -> Result<(), Refusal> {
     refuse_first(7, program, |statement| {
-        u32::from(statement.delay) < least_delay(statement, times)
+        u32::from(statement.delay) < least_delay(statement, program.pulse, times)
     })
 }
 
 /// The least delay of a statement: its kind's, and each expression's time.
-fn least_delay(statement: &Statement, times: &Times) -> u32 {
+fn least_delay(statement: &Statement, pulse: u8, times: &Times) -> u32 {
     let kind_needs = match statement.form {
         Form::Ok | Form::Sequence(..) | Form::Parallel(..) | Form::If(..) | Form::Exit => 0,
-        _ => 1,
+        Form::Tick | Form::Assign(..) | Form::AssignElement(..) => 1,
+        Form::While(..) | Form::Repeat(..) | Form::Loop(_) | Form::Call(_) => apart(pulse),
     };
     let expressions = statement.expressions().into_iter();
     expressions.fold(kind_needs, |least, e| least.max(e.time(times)))
+}
+
+/// The instants from one pulse to the next in the same part of a circuit: the
+/// wires that a longer one went through must be low once between.
+fn apart(pulse: u8) -> u32 {
+    match pulse {
+        1 => 1,
+        longer => u32::from(longer) + 1,
+    }
 }
 
 /// Refusal 25, at the first parallel statement of which both sides reach one

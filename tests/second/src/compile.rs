@@ -26,6 +26,7 @@ type Contributions = [Vec<Wire>; TARGETS];
 
 /// The netlist of a checked program.
 pub fn compile(program: &Program) -> Netlist {
+    let pulse = program.pulse;
     let mut cells = vec![
         Cell::new(START, 0, 0, 0),
         Cell::new(GROUND, 0, 0, 0),
@@ -53,7 +54,11 @@ pub fn compile(program: &Program) -> Netlist {
     let finish = walk.statement(&program.main, START_WIRE);
     walk.join_gates();
     let cells = walk.cells;
-    Netlist { cells, finish }
+    Netlist {
+        pulse,
+        cells,
+        finish,
+    }
 }
 
 /// Appends a memory, or the two cells of an array; data and address come later.
@@ -85,7 +90,7 @@ fn place_delays(program: &Program, cells: &mut Vec<Cell>) -> (Contributions, Vec
         }
         let first = push(cells, Cell::new(DELAY, statement.delay, 0, 0));
         if let Some(target) = target(statement) {
-            push(cells, Cell::new(DELAY, 1, first, 0));
+            push(cells, Cell::new(DELAY, program.pulse, first, 0));
             clocks[target].push(first);
         }
         if let Form::Call(procedure) = statement.form {

@@ -3,12 +3,16 @@
 use crate::block::{sum, CHECK, HEADER, LENGTH as BLOCK};
 use crate::cells::{self, Netlist};
 use crate::word::{number2, put2};
+use std::ops::RangeInclusive;
 use values::{Cell, Refusal};
 
 const MOST_BLOCKS: usize = 13;
 const CELLS_IN_BLOCK: usize = (BLOCK - HEADER) / Cell::LENGTH;
 const LEAST_CELLS: usize = 27;
 pub const MOST_CELLS: usize = 1024;
+
+/// The lengths that a pulse may have.
+pub const PULSES: RangeInclusive<u8> = 1..=8;
 
 /// The bytes of the file of a netlist with this many cells.
 pub fn length(cells: usize) -> usize {
@@ -25,7 +29,8 @@ pub fn write(netlist: &Netlist) -> Vec<u8> {
 
 fn block(netlist: &Netlist, number: usize, cells: &[Cell]) -> [u8; BLOCK] {
     let mut block = [0; BLOCK];
-    put2(&mut block, 0, number as u16);
+    block[0] = number as u8;
+    block[1] = netlist.pulse - 1;
     put2(&mut block, 2, netlist.cells.len() as u16);
     put2(&mut block, 4, netlist.finish);
     for (cell, place) in cells
@@ -51,18 +56,22 @@ pub fn read(file: &[u8]) -> Result<Netlist, Refusal> {
 
 /// The netlist of cells that are given as bytes, with the refusal that their
 /// file would meet. Bytes that are not whole cells no header could tell: 11.
-pub fn netlist_of(bytes: &[u8], finish: u16) -> Result<Netlist, Refusal> {
+pub fn netlist_of(pulse: u8, bytes: &[u8], finish: u16) -> Result<Netlist, Refusal> {
     if !bytes.len().is_multiple_of(Cell::LENGTH) {
         return Err(Refusal::new(11, 0));
     }
-    netlist_of_cells(Cell::all_of(bytes), finish)
+    netlist_of_cells(pulse, Cell::all_of(bytes), finish)
 }
 
 /// The netlist of these cells, with the refusal that their file would meet:
 /// 11 where no header could tell their number or the finish, then 12.
-pub fn netlist_of_cells(cells: Vec<Cell>, finish: u16) -> Result<Netlist, Refusal> {
+pub fn netlist_of_cells(pulse: u8, cells: Vec<Cell>, finish: u16) -> Result<Netlist, Refusal> {
     check_counts(cells.len(), finish)?;
-    let netlist = Netlist { cells, finish };
+    let netlist = Netlist {
+        pulse,
+        cells,
+        finish,
+    };
     cells::check(&netlist)?;
     Ok(netlist)
 }
@@ -84,15 +93,17 @@ fn check_sums(file: &[u8]) -> Result<(), Refusal> {
     }
 }
 
-/// Refusal 11.
+/// Refusal 11. The low byte of a block's number is told by its place, the high
+/// byte, the pulse length less one, by the first block.
 fn check_layout(file: &[u8]) -> Result<(), Refusal> {
     let (cells, finish) = shape(file);
     check_counts(usize::from(cells), finish)?;
-    if length(usize::from(cells)) != file.len() {
+    let longer = file[1];
+    if longer >= *PULSES.end() || length(usize::from(cells)) != file.len() {
         return Err(Refusal::new(11, 0));
     }
     let is_good = |(number, block): (usize, &[u8])| {
-        usize::from(number2(block, 0)) == number
+        block[..2] == [number as u8, longer]
             && shape(block) == (cells, finish)
             && unused(block, number, usize::from(cells))
                 .iter()
@@ -135,5 +146,9 @@ fn unpack(file: &[u8]) -> Netlist {
         .flat_map(|block| Cell::all_of(&block[HEADER..]))
         .collect();
     cells.truncate(usize::from(count));
-    Netlist { cells, finish }
+    Netlist {
+        pulse: file[1] + 1,
+        cells,
+        finish,
+    }
 }

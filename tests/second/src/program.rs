@@ -24,8 +24,10 @@ pub fn array_set(array: usize) -> Set {
 /// A set of procedures.
 pub type Procedures = u8;
 
-/// The bodies of the procedures, by number, and the main program.
+/// The bodies of the procedures, by number, and the main program, for pulses
+/// of so many instants.
 pub struct Program {
+    pub pulse: u8,
     pub bodies: Vec<Statement>,
     pub main: Statement,
 }

@@ -44,7 +44,7 @@ impl Rules<'_> {
             Form::Ok => Ok(now),
             Form::Tick => self.wait(now, d),
             Form::Assign(variable, e) => {
-                let mut end = self.wait(now, d + 1)?;
+                let mut end = self.wait(now, d + self.pulse())?;
                 end.contents.words[*variable] = e.value(&now.contents);
                 Ok(end)
             }
@@ -58,7 +58,7 @@ impl Rules<'_> {
             Form::Repeat(e, p) => self.end_of_repeat(e, p, d, now),
             Form::AssignElement(array, index, value) => {
                 let [index, value] = [index, value].map(|e| e.value(&now.contents));
-                let mut end = self.wait(now, d + 1)?;
+                let mut end = self.wait(now, d + self.pulse())?;
                 end.contents.arrays.put(*array, index, value);
                 Ok(end)
             }
@@ -69,6 +69,11 @@ impl Rules<'_> {
                 self.end(body, self.wait(now, d)?)
             }
         }
+    }
+
+    /// The instants that an assignment takes beside its delay.
+    fn pulse(&self) -> u32 {
+        self.program.pulse.into()
     }
 
     /// The same words `d` instants later, unless the budget is then exceeded.

@@ -2,10 +2,10 @@
 //!
 //! It doesn't evaluate every cell at every instant. A cell is woken when
 //! something that its equation names has changed: an input at the same
-//! instant, the input of a delay d instants ago, the held bits of a merge, a
-//! word of the array that it reads. A cell that isn't woken has the value that
-//! it had. Within an instant cells are taken in rising order, and inputs of the
-//! same instant are lower, so each is evaluated once.
+//! instant, the input of a delay d instants ago, the held bits or the output of
+//! a merge, a word of the array that it reads. A cell that isn't woken has the
+//! value that it had. Within an instant cells are taken in rising order, and
+//! inputs of the same instant are lower, so each is evaluated once.
 
 use crate::cells::*;
 use crate::contents::{Arrays, Contents};
@@ -22,6 +22,8 @@ pub struct CellState {
     pub ago: u16,
     pub held: Merge,
     pub line: Line,
+    /// Of start: for how many more instants it is high.
+    pub remaining: u8,
 }
 
 /// A pulse that enters a line in which another is on its way.
@@ -42,7 +44,7 @@ pub struct Merge {
 
 impl Merge {
     /// The bits held afterwards, and the output.
-    fn step(self, a: bool, b: bool) -> (Merge, bool) {
+    fn step(self, _was: bool, a: bool, b: bool) -> (Merge, bool) {
         let (a, b) = (a || self.a, b || self.b);
         if a && b {
             (Merge::default(), true)
@@ -52,7 +54,7 @@ impl Merge {
     }
 
     /// The same of a call's merge: only a is waited with, a lone b is forgotten.
-    fn step_of_call(self, a: bool, b: bool) -> (Merge, bool) {
+    fn step_of_call(self, _was: bool, a: bool, b: bool) -> (Merge, bool) {
         let called = a || self.a;
         let held = Merge {
             a: called && !b,
@@ -61,14 +63,38 @@ impl Merge {
         (held, called && b)
     }
 
+    /// The bits held and the output for pulses longer than an instant.
+    fn long_step(self, was: bool, a: bool, b: bool) -> (Merge, bool) {
+        let held = Merge {
+            a: a || self.a,
+            b: b || self.b,
+        };
+        held.until_it_falls(was, held.a && held.b && (a || b))
+    }
+
+    /// The same of a call's merge.
+    fn long_step_of_call(self, was: bool, a: bool, b: bool) -> (Merge, bool) {
+        let a = a || self.a;
+        Merge { a, b: false }.until_it_falls(was, a && b)
+    }
+
+    /// The bits with this output, which was so an instant ago; none as it falls.
+    fn until_it_falls(self, was: bool, output: bool) -> (Merge, bool) {
+        match was && !output {
+            true => (Merge::default(), output),
+            false => (self, output),
+        }
+    }
+
     /// How many bits are held.
     pub fn count(self) -> u32 {
         u32::from(self.a) + u32::from(self.b)
     }
 }
 
-/// How a merge of one of the two kinds goes on from the bits that it holds.
-type Step = fn(Merge, bool, bool) -> (Merge, bool);
+/// How a merge of one of the two kinds goes on from the bits that it holds,
+/// given its output an instant ago and its inputs.
+type Step = fn(Merge, bool, bool, bool) -> (Merge, bool);
 
 /// A wire's present value, and the one before its last change.
 #[derive(Clone, Copy, Default)]
@@ -92,8 +118,8 @@ pub struct Simulator<'a> {
     arrays: Arrays,
     wheel: Wheel,
     fanout: Fanout,
-    /// The last instant for which a start was given.
-    start: Option<Instant>,
+    /// The last instant at which start is high, if that is still to come.
+    high_until: Instant,
     /// At the first instant evaluated nothing is known to be unchanged.
     first: bool,
 }
@@ -125,6 +151,7 @@ impl<'a> Simulator<'a> {
             };
             simulator.held[number] = cell.held;
             simulator.lay_line(number, cell.line);
+            simulator.high_until += Instant::from(cell.remaining);
         }
         simulator
     }
@@ -145,7 +172,7 @@ impl<'a> Simulator<'a> {
             arrays,
             wheel,
             fanout: Fanout::of(netlist),
-            start: None,
+            high_until: instant,
             first: true,
         }
     }
@@ -185,19 +212,24 @@ impl<'a> Simulator<'a> {
         }
     }
 
-    /// Evaluates the next instant, at which start is high.
+    /// Evaluates the next instant, from which on start is high.
     pub fn start(&mut self) {
-        let at = self.instant + 1;
-        self.start = Some(at);
-        self.wheel.wake(0, at);
+        self.high_until = self.instant + Instant::from(self.netlist.pulse);
+        self.wheel.wake(0, self.instant + 1);
         self.step();
     }
 
-    /// The pulses on their way in delays, and the bits that merges hold.
+    /// The pulses on their way in delays, the bits that merges hold, and the
+    /// instants for which start will be high.
     pub fn in_flight(&self) -> u32 {
         let lines = self.lines.iter().map(|line| line.in_flight(self.instant));
         let held = self.held.iter().map(|held| held.count());
-        lines.chain(held).sum()
+        lines.chain(held).sum::<u32>() + u32::from(self.remaining())
+    }
+
+    /// For how many more instants start is high.
+    fn remaining(&self) -> u8 {
+        (self.high_until - self.instant).max(0) as u8
     }
 
     /// Whether the finish wire is high at the present instant.
@@ -228,6 +260,10 @@ impl<'a> Simulator<'a> {
             ago: self.ago(number as u16),
             held: self.held[number],
             line: self.lines[number].clone(),
+            remaining: match self.netlist.cells[number].kind {
+                START => self.remaining(),
+                _ => 0,
+            },
         }
     }
 
@@ -283,7 +319,9 @@ impl<'a> Simulator<'a> {
             OR => self.now(a) | self.now(b),
             WHEN => u16::from(self.now(a) == 1 && self.now(b) != 0),
             UNLESS => u16::from(self.now(a) == 1 && self.now(b) == 0),
+            MERGE if self.long() => self.merge(cell, Merge::long_step, a, b),
             MERGE => self.merge(cell, Merge::step, a, b),
+            RETURN if self.long() => self.merge(cell, Merge::long_step_of_call, a, b),
             RETURN => self.merge(cell, Merge::step_of_call, a, b),
             MEMORY => self.latch(cell, a, b),
             GATE if self.now(a) == 1 => self.now(b),
@@ -298,19 +336,26 @@ impl<'a> Simulator<'a> {
         }
     }
 
-    /// Start: its fall an instant later has no cause but the instant itself.
+    /// Whether a pulse is longer than an instant.
+    fn long(&self) -> bool {
+        self.netlist.pulse > 1
+    }
+
+    /// Start: its fall has no cause but the instant itself.
     fn pulse(&mut self, cell: usize) -> u16 {
-        let high = self.start == Some(self.instant);
+        let high = self.instant <= self.high_until;
         if high {
             self.wheel.wake(cell, self.instant + 1);
         }
         u16::from(high)
     }
 
-    /// Merge: held bits that changed are looked at again an instant later.
+    /// Merge: held bits or an output that changed are looked at again an instant
+    /// later.
     fn merge(&mut self, cell: usize, step: Step, a: u16, b: u16) -> u16 {
-        let (held, output) = step(self.held[cell], self.now(a) == 1, self.now(b) == 1);
-        if held != self.held[cell] {
+        let was = self.wires[cell].now == 1;
+        let (held, output) = step(self.held[cell], was, self.now(a) == 1, self.now(b) == 1);
+        if held != self.held[cell] || output != was {
             self.held[cell] = held;
             self.wheel.wake(cell, self.instant + 1);
         }

@@ -1,6 +1,6 @@
 //! The published state bytes in both formats: their layout, and refusal 15.
 
-use crate::cells::{self, Netlist, Sort, DELAY, MERGE, RETURN};
+use crate::cells::{self, Netlist, Sort, DELAY, MERGE, RETURN, START};
 use crate::contents::{Arrays, ARRAYS_LENGTH};
 use crate::line::{Instant, Line, LineBytes};
 use crate::simulate::{CellState, Merge, Simulator};
@@ -12,7 +12,8 @@ const HEADER: usize = 8;
 const NUMBER: usize = 4;
 
 /// In a cell: two bytes of which a compact state uses the first, for the
-/// instants until a pulse comes out, and in a full state the line.
+/// instants until a pulse comes out, and in a full state the line. Start has no
+/// line, and in its first byte the instants for which it will be high.
 const LEFT: usize = 6;
 const LINE: usize = 8;
 
@@ -59,7 +60,10 @@ fn store_cell(format: Format, cell: &CellState, now: Instant, bytes: &mut [u8]) 
     bytes[5] = u8::from(cell.held.b);
     bytes[LEFT..LINE].fill(0);
     match format {
-        Format::Full => bytes[LINE..].copy_from_slice(&cell.line.to_bytes(now)),
+        Format::Full => {
+            bytes[LINE..].copy_from_slice(&cell.line.to_bytes(now));
+            bytes[LINE] |= cell.remaining;
+        }
         Format::Compact => bytes[LEFT] = cell.line.left(now),
     }
 }
@@ -67,11 +71,11 @@ fn store_cell(format: Format, cell: &CellState, now: Instant, bytes: &mut [u8]) 
 /// Refusal 15.
 pub fn check(format: Format, netlist: &Netlist, state: &[u8]) -> Result<(), Refusal> {
     let cells = || netlist.cells.iter().zip(cells_in(format, state));
-    let lawful = cells().all(|(cell, bytes)| is_lawful(format, *cell, bytes));
+    let lawful = cells().all(|(cell, bytes)| is_lawful(format, netlist.pulse, *cell, bytes));
     // Any instant will do: a line tells how long ago its inputs were.
     let of_cell = |(cell, bytes): (&Cell, _)| {
         let loaded = load_cell(format, *cell, bytes, 0);
-        loaded.line.in_flight(0) + loaded.held.count()
+        loaded.line.in_flight(0) + loaded.held.count() + u32::from(loaded.remaining)
     };
     if !lawful || cells().map(of_cell).sum::<u32>() != in_flight(state) {
         return Err(Refusal::new(15, 0));
@@ -95,13 +99,15 @@ fn cells_in(format: Format, state: &[u8]) -> impl Iterator<Item = &[u8]> {
 
 /// Whether a cell may have these bytes. Nothing is asked of them beyond what
 /// refusal 15 names: wires may contradict each other.
-fn is_lawful(format: Format, Cell { kind, delay, .. }: Cell, bytes: &[u8]) -> bool {
+fn is_lawful(format: Format, pulse: u8, cell: Cell, bytes: &[u8]) -> bool {
+    let Cell { kind, delay, .. } = cell;
     let most_value = match cells::sort(kind) {
         Sort::Control => 1,
         Sort::Word | Sort::Array | Sort::Address => u16::MAX,
     };
     let most_held_a = u8::from(kind == MERGE || kind == RETURN);
     let most_held_b = u8::from(kind == MERGE);
+    let most_remaining = if kind == START { pulse - 1 } else { 0 };
     let most_left = match (format, kind) {
         (Format::Compact, DELAY) => delay,
         _ => 0,
@@ -112,7 +118,17 @@ fn is_lawful(format: Format, Cell { kind, delay, .. }: Cell, bytes: &[u8]) -> bo
         && bytes[5] <= most_held_b
         && bytes[LEFT] <= most_left
         && bytes[LEFT + 1] == 0
-        && (kind == DELAY || bytes[LINE..].iter().all(|&byte| byte == 0))
+        && (kind == DELAY || is_empty_line(most_remaining, &bytes[LINE..]))
+}
+
+/// Whether nothing stands in the bytes of a line but what may remain of start.
+fn is_empty_line(most_remaining: u8, line: &[u8]) -> bool {
+    match line {
+        [remaining, rest @ ..] => {
+            *remaining <= most_remaining && rest.iter().all(|&byte| byte == 0)
+        }
+        [] => true,
+    }
 }
 
 /// What the bytes of a cell tell at an instant.
@@ -131,6 +147,10 @@ fn load_cell(format: Format, cell: Cell, bytes: &[u8], now: Instant) -> CellStat
             }
             (DELAY, Format::Compact) => Line::from_left(cell.delay, bytes[LEFT], now),
             _ => Line::default(),
+        },
+        remaining: match (cell.kind, format) {
+            (START, Format::Full) => bytes[LINE],
+            _ => 0,
         },
     }
 }

@@ -53,7 +53,7 @@ fn the_text_of_a_refused_program_is_read_to_its_bytes() {
     for (text, program) in table {
         let read = text::program(text.as_bytes());
         assert_eq!(read.as_deref(), Ok(program), "{text:?}");
-        assert!(check::check(program, 0, &BUILT_IN).is_err(), "{text:?}");
+        assert!(check::check(program, 0, 1, &BUILT_IN).is_err(), "{text:?}");
     }
 }
 
@@ -62,7 +62,7 @@ fn the_text_of_a_refused_program_is_read_to_its_bytes() {
 fn an_open_run_may_end_later() {
     let text = b"repeat x0 := x0 - 1 @17 until x0 = 0 @6 end";
     let program = text::program(text).expect("case 7 is read");
-    let rounds = check::check(&program, 0, &BUILT_IN).expect("case 7 is accepted");
+    let rounds = check::check(&program, 0, 1, &BUILT_IN).expect("case 7 is accepted");
     let contents = Contents::of_bytes(&[0; CONTENTS_LENGTH]);
     let end = rules::run(&rounds, contents, 2_000_000);
     let expected = Moment {

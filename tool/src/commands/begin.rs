@@ -5,6 +5,7 @@ use super::{Command, Stop};
 use crate::args::{Args, Options};
 use crate::input::Given;
 use crate::product;
+use crate::refusals;
 use crate::types::{Done, DONE};
 
 pub const COMMAND: Command = Command {
@@ -18,11 +19,7 @@ pub const COMMAND: Command = Command {
            program. Behind the state stands of which netlist it is; with --bare it stands alone,\n\
            as a hub has it. The exit status is 0.",
     example: "hub begin two_boards.net x0=3 x1=5 -o two_boards.state",
-    options: Options {
-        program: true,
-        valued: &["o"],
-        flags: &["all", "bare", "compact"],
-    },
+    options: Options::of_program(&["o"], &["all", "bare", "compact"]),
     run,
 };
 
@@ -33,12 +30,14 @@ fn run(args: &Args) -> Result<Done, Stop> {
     let circuit = given.circuit()?;
     let format = asked_format(args);
     let begun = product::begin(format, &circuit.file, &start);
-    let (state, answer) = begun.map_err(|met| given.refused(met))?;
+    let (state, answer) = begun.map_err(|met| match met.number {
+        27 => refusals::of_compact(&given.name, &circuit.netlist, met).into(),
+        _ => given.refused(met),
+    })?;
     let kept = Kept::begun(args, &circuit, format, state);
     kept.write(to)?;
-    let cells = circuit.netlist.cells.len();
     Ok(Done {
         exit: DONE,
-        ..kept.answered(args, &start, &answer, cells)
+        ..kept.answered(args, &circuit, &start, &answer)
     })
 }

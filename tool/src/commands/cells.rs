@@ -15,17 +15,12 @@ pub const COMMAND: Command = Command {
     more: "Memories and arrays that nothing writes to are left out; --all lists them too.\n\
         What stands after # is for the reader: 'hub wire' takes the list back.",
     example: "hub cells examples/two_boards.hub",
-    options: Options {
-        program: true,
-        valued: &["o"],
-        flags: &["all"],
-    },
+    options: Options::of_program(&["o"], &["all"]),
     run,
 };
 
 fn run(args: &Args) -> Result<Done, Stop> {
-    let [file] = args.exactly(["FILE"])?;
-    let given = Given::read(args, file)?;
+    let given = Given::only(args)?;
     let circuit = given.circuit()?;
     let notes = labels::of_cells(&circuit, &given.bytes)?;
     let all = args.flag("all");
@@ -36,6 +31,7 @@ fn run(args: &Args) -> Result<Done, Stop> {
         Json::Object(vec![
             ("count", Json::number(circuit.netlist.cells.len())),
             ("finish", Json::number(circuit.netlist.finish)),
+            ("pulse", Json::number(circuit.netlist.pulse)),
             (
                 "cells",
                 Json::list(cells, |(k, cell)| json(k, cell, &notes[k])),

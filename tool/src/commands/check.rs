@@ -5,6 +5,7 @@ use crate::answers::counted;
 use crate::args::{Args, Options};
 use crate::input::{Circuit, Given, Program};
 use crate::json::Json;
+use crate::listing;
 use crate::refusals::{has_delay, least_delay, Mark};
 use crate::types::{Beside, Done, Span};
 
@@ -18,11 +19,7 @@ pub const COMMAND: Command = Command {
            NAME.outline is an outline, NAME.prog a program's bytes, NAME.net a netlist, or --as\n\
            says it (text, outline, program, netlist).",
     example: "hub check examples/two_boards.hub",
-    options: Options {
-        program: true,
-        valued: &[],
-        flags: &[],
-    },
+    options: Options::of_program(&[], &[]),
     run,
 };
 
@@ -36,8 +33,7 @@ struct Delay {
 }
 
 fn run(args: &Args) -> Result<Done, Stop> {
-    let [file] = args.exactly(["FILE"])?;
-    let given = Given::read(args, file)?;
+    let given = Given::only(args)?;
     let circuit = given.circuit()?;
     let delays = match &circuit.program {
         Some((program, _)) => delays(given.beside(), program, &given.bytes),
@@ -99,10 +95,8 @@ fn text(given: &Given, circuit: &Circuit, delays: &[Delay]) -> String {
         }
         None => String::new(),
     };
-    let cells = counted(circuit.netlist.cells.len(), "cell");
-    let finish = circuit.netlist.finish;
-    let name = &given.name;
-    let mut text = format!("{name}: accepted: {nodes}{cells}, finish {finish}\n");
+    let (name, whole) = (&given.name, listing::whole(&circuit.netlist));
+    let mut text = format!("{name}: accepted: {nodes}{whole}\n");
     for delay in delays {
         let Delay {
             node, given, least, ..
@@ -140,6 +134,7 @@ fn json(given: &Given, circuit: &Circuit, delays: &[Delay]) -> Json {
         ("nodes", Json::maybe(nodes, Json::number)),
         ("cells", Json::number(circuit.netlist.cells.len())),
         ("finish", Json::number(circuit.netlist.finish)),
+        ("pulse", Json::number(circuit.netlist.pulse)),
         ("delays", Json::list(delays, delay)),
     ])
 }

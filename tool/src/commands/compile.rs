@@ -12,18 +12,13 @@ pub const COMMAND: Command = Command {
     more: "FILE is a text, NAME.outline an outline, NAME.prog a program's bytes, or --as says it\n\
            (text, outline, program).",
     example: "hub compile examples/two_boards.hub -o two_boards.net",
-    options: Options {
-        program: true,
-        valued: &["o"],
-        flags: &[],
-    },
+    options: Options::of_program(&["o"], &[]),
     run,
 };
 
 fn run(args: &Args) -> Result<Done, Stop> {
-    let [file] = args.exactly(["FILE"])?;
+    let given = Given::only(args)?;
     let to = args.needed("o")?;
-    let given = Given::read(args, file)?;
     let circuit = given.circuit()?;
     let cells = circuit.netlist.cells.len();
     written(args, to, &circuit.file, (cells, "cell"))

@@ -15,17 +15,12 @@ pub const COMMAND: Command = Command {
         shown: it stands for the same program. A program with arrays, loop,\n\
         exit or procedures has no text.",
     example: "hub format examples/two_boards.hub",
-    options: Options {
-        program: true,
-        valued: &["o"],
-        flags: &[],
-    },
+    options: Options::of_program(&["o"], &[]),
     run,
 };
 
 fn run(args: &Args) -> Result<Done, Stop> {
-    let [file] = args.exactly(["FILE"])?;
-    let given = Given::read(args, file)?;
+    let given = Given::only(args)?;
     let program = given.program()?;
     if !format::has_text(program.procedures, &program.nodes) {
         let message =

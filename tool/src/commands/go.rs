@@ -18,11 +18,7 @@ pub const COMMAND: Command = Command {
            taken with --bare, and with --compact if it is compact. The exit status is 0 if the\n\
            finish is high, 2 if the run is still open.",
     example: "hub go two_boards.net two_boards.state --by 50",
-    options: Options {
-        program: true,
-        valued: &["by", "o"],
-        flags: &["all", "bare", "compact"],
-    },
+    options: Options::of_program(&["by", "o"], &["all", "bare", "compact"]),
     run,
 };
 

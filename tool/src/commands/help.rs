@@ -11,11 +11,7 @@ pub const COMMAND: Command = Command {
     about: "lists the commands, or tells one with an example",
     more: "",
     example: "hub help run",
-    options: Options {
-        program: false,
-        valued: &[],
-        flags: &[],
-    },
+    options: Options::plain(&[], &[]),
     run,
 };
 

@@ -17,17 +17,12 @@ pub const COMMAND: Command = Command {
         over the main program stands a heading. The nodes of a file of program bytes are shown also\n\
         where the product refuses them; --procedures N tells how many procedures they begin with.",
     example: "hub outline examples/two_boards.hub",
-    options: Options {
-        program: true,
-        valued: &["o"],
-        flags: &[],
-    },
+    options: Options::of_program(&["o"], &[]),
     run,
 };
 
 fn run(args: &Args) -> Result<Done, Stop> {
-    let [file] = args.exactly(["FILE"])?;
-    let given = Given::read(args, file)?;
+    let given = Given::only(args)?;
     let bytes_of_nodes = !given.bytes.is_empty() && given.bytes.len().is_multiple_of(4);
     let nodes = match given.form {
         Form::Program if bytes_of_nodes => product::nodes(&given.bytes),

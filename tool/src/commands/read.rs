@@ -11,18 +11,13 @@ pub const COMMAND: Command = Command {
     about: "writes the bytes of a text's program",
     more: "The bytes are those that hubtext writes and hubrun reads; a refused text writes none.",
     example: "hub read examples/two_boards.hub -o two_boards.prog",
-    options: Options {
-        program: true,
-        valued: &["o"],
-        flags: &[],
-    },
+    options: Options::of_program(&["o"], &[]),
     run,
 };
 
 fn run(args: &Args) -> Result<Done, Stop> {
-    let [file] = args.exactly(["FILE"])?;
+    let given = Given::only(args)?;
     let to = args.needed("o")?;
-    let given = Given::read(args, file)?;
     let program = given.program()?;
     written_program(args, to, &program.bytes, program.procedures)
 }

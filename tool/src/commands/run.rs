@@ -18,15 +18,13 @@ pub const COMMAND: Command = Command {
     more: "FILE is a text; NAME.outline is an outline, NAME.prog a program's bytes, NAME.net a\n\
            netlist, or --as says it (text, outline, program, netlist). x0=3 is the word that x0\n\
            starts with, a2[5]=7 that of element 5 of array 2; those that aren't given start as 0.\n\
+           --times T is a table of operator times, --procedures N how many statements of a\n\
+           program's bytes are procedures, --pulse W for how many instants a pulse is high, 1 to 8.\n\
            The budget is the most instants that are run, 1,000,000 if it isn't given. Of the words\n\
            and elements those are told that have changed, with --all all sixteen words, and the\n\
            elements that aren't 0. The exit status is 0 if the run ended, 2 if it is still open.",
     example: "hub run examples/two_boards.hub x0=3 x1=5",
-    options: Options {
-        program: true,
-        valued: &["budget"],
-        flags: &["all"],
-    },
+    options: Options::of_program(&["budget"], &["all"]),
     run,
 };
 

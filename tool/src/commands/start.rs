@@ -18,11 +18,7 @@ pub const COMMAND: Command = Command {
            which doesn't tell that, is taken with --bare, and with --compact if it is compact. The\n\
            exit status is 0.",
     example: "hub start two_boards.net two_boards.state",
-    options: Options {
-        program: true,
-        valued: &["o"],
-        flags: &["all", "bare", "compact"],
-    },
+    options: Options::of_program(&["o"], &["all", "bare", "compact"]),
     run,
 };
 

@@ -63,8 +63,8 @@ impl Kept {
         {
             return Err(refused(format!(
                 "{name} is a state of another netlist than that of {file}: the program has changed \
-                 since the run was begun, or it is another one; go on with the file that it was \
-                 begun with, or begin anew with 'hub begin'"
+                 since the run was begun, or is another one, or is given another --pulse; go on \
+                 with what it was begun with, or begin anew with 'hub begin'"
             )));
         }
         Ok(Kept {
@@ -84,22 +84,35 @@ impl Kept {
 
     /// Tells the answer of a run that had these words before and has come to this
     /// state.
-    pub fn answered(&self, args: &Args, start: &Store, answer: &Answer, cells: usize) -> Done {
-        let last = product::contents(self.format, answer, &self.state, cells);
+    pub fn answered(&self, args: &Args, circuit: &Circuit, start: &Store, answer: &Answer) -> Done {
+        let last = self.contents(circuit, answer);
         let in_flight = in_flight_in(&self.state);
+        let idle = product::is_idle(self.format, &circuit.file, &self.state);
         let output = match args.flag("json") {
             true => {
                 let mut fields = answers::fields(answer, &last);
                 fields.push(("in_flight", Json::number(in_flight)));
+                fields.push(("idle", Json::Bool(idle)));
                 Json::Object(fields).line()
             }
             false => {
+                let busy = match (idle, in_flight) {
+                    (true, _) => "idle".to_string(),
+                    (false, 0) => "none in flight".to_string(),
+                    (false, number) => format!("{number} in flight"),
+                };
                 let all = args.flag("all");
-                answers::text_of_state(start, answer, &last, in_flight, all).into_bytes()
+                answers::text_of_state(start, answer, &last, &busy, all).into_bytes()
             }
         };
         let exit = if answer.ended { DONE } else { OPEN };
         Done { exit, output }
+    }
+
+    /// The words that an answer tells, and the elements of this state.
+    fn contents(&self, circuit: &Circuit, answer: &Answer) -> Store {
+        let cells = circuit.netlist.cells.len();
+        product::contents(self.format, answer, &self.state, cells)
     }
 }
 
@@ -125,18 +138,18 @@ pub fn on_state(
 ) -> Result<Done, Stop> {
     let [file, name] = args.exactly(["FILE", "STATE"])?;
     let circuit = Given::read(args, file)?.circuit()?;
-    let cells = circuit.netlist.cells.len();
     let mut kept = Kept::read(args, name, &circuit, file)?;
+    let refused = |kept: &Kept, met| refusals::of_state(name, &circuit.netlist, &kept.state, met);
     // By none: the words as they are.
     let before = product::go(kept.format, &circuit.file, &mut kept.state, 0)
-        .map_err(|met| refusals::of_state(name, &kept.state, met))?;
-    let start = product::contents(kept.format, &before, &kept.state, cells);
+        .map_err(|met| refused(&kept, met))?;
+    let start = kept.contents(&circuit, &before);
     let answer = call(kept.format, &circuit.file, &mut kept.state);
     if matches!(answer, Ok(_) | Err(Refusal { number: 26, .. })) {
         kept.write(args.value("o").unwrap_or(name))?;
     }
     match answer {
-        Ok(answer) => Ok(kept.answered(args, &start, &answer, cells)),
-        Err(met) => Err(refusals::of_run(name, &circuit.netlist, &kept.state, met).into()),
+        Ok(answer) => Ok(kept.answered(args, &circuit, &start, &answer)),
+        Err(met) => Err(refused(&kept, met).into()),
     }
 }

@@ -16,11 +16,7 @@ pub const COMMAND: Command = Command {
         reading of an array; one that isn't named keeps its built-in time. Without a file the\n\
         built-in times are shown.",
     example: "hub times sum=12 less=9 -o fast.times",
-    options: Options {
-        program: false,
-        valued: &["o"],
-        flags: &[],
-    },
+    options: Options::plain(&["o"], &[]),
     run,
 };
 

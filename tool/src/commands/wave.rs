@@ -6,7 +6,7 @@ use crate::input::{Circuit, Given};
 use crate::json::Json;
 use crate::refusals::{self, Report};
 use crate::store;
-use crate::types::{Done, Refusal};
+use crate::types::{Done, Netlist, Refusal};
 use crate::wave::course::Course;
 use crate::wave::{choice, record, svg, terminal, vcd, Shows, Waveforms};
 use crate::{output, product};
@@ -17,16 +17,12 @@ pub const COMMAND: Command = Command {
     about: "shows how wires go up and down in a run: in the terminal, as VCD for GTKWave, as SVG",
     more: "Shown are start, finish, the words that are written, and each statement's start and\n\
         finish, named by its kind and node, as while1.start; with --all all words. --wires\n\
-        chooses some of them, cells by number, elements, as a2[5], or in_flight, the number of\n\
-        pulses in flight; NAME=WIRE gives a wire another name. --starts says at which instants\n\
-        the hub is started again. Without --to the waves go to the last finish, at most 240\n\
-        instants.",
+        chooses some of them, cells by number, elements, as a2[5], in_flight, the number of\n\
+        pulses in flight, or start_left, for how many instants the start stays high; NAME=WIRE\n\
+        gives a wire another name. --starts says at which instants the hub is started again.\n\
+        Without --to the waves go to the last finish, at most 240 instants.",
     example: "hub wave examples/two_boards.hub x0=1 x1=2 --to 40",
-    options: Options {
-        program: true,
-        valued: &["from", "to", "starts", "wires", "o"],
-        flags: &["all"],
-    },
+    options: Options::of_program(&["from", "to", "starts", "wires", "o"], &["all"]),
     run,
 };
 
@@ -53,8 +49,8 @@ fn run(args: &Args) -> Result<Done, Stop> {
     let to = match to {
         Some(to) => to,
         None => {
-            let last = last(&mut course, from, &starts);
-            last.map_err(|met| refused(&given, &course, met))?
+            let last = last(&mut course, &circuit.netlist, from, &starts);
+            last.map_err(|met| refused(&given, &circuit.netlist, &course, met))?
         }
     };
     if to < from {
@@ -65,7 +61,7 @@ fn run(args: &Args) -> Result<Done, Stop> {
     course = begin().map_err(|met| given.refused(met))?;
     let cells = circuit.netlist.cells.len();
     let waves = record::record(&mut course, cells, wires, from, to);
-    let waves = waves.map_err(|met| refused(&given, &course, met))?;
+    let waves = waves.map_err(|met| refused(&given, &circuit.netlist, &course, met))?;
     shown(args, &waves)
 }
 
@@ -113,21 +109,21 @@ fn starts(args: &Args, circuit: &Circuit, to: Option<u32>) -> Result<Vec<u32>, S
 }
 
 /// Why a run stops at a refusal, most likely of a start.
-fn refused(given: &Given, course: &Course, met: Refusal) -> Stop {
+fn refused(given: &Given, netlist: &Netlist, course: &Course, met: Refusal) -> Stop {
     if met.number != 23 {
         return given.refused(met);
     }
     let name = format!("--starts {}", course.answer.instant + 1);
     Report {
         remedy: "start it again at a later instant".to_string(),
-        ..refusals::of_state(&name, &course.state, met)
+        ..refusals::of_state(&name, netlist, &course.state, met)
     }
     .into()
 }
 
-/// The last instant that is shown: a little after the finish that comes after
-/// the last start.
-fn last(course: &mut Course, from: u32, starts: &[u32]) -> Result<u32, Refusal> {
+/// The last instant that is shown: a little after the whole pulse of the finish
+/// that comes after the last start.
+fn last(course: &mut Course, netlist: &Netlist, from: u32, starts: &[u32]) -> Result<u32, Refusal> {
     let start = starts.last().copied().unwrap_or(0);
     let most = from.max(start) + MOST;
     course.reach(start)?;
@@ -135,7 +131,10 @@ fn last(course: &mut Course, from: u32, starts: &[u32]) -> Result<u32, Refusal> 
         course.go(most)?;
     }
     Ok(match course.answer.ended {
-        true => (course.answer.instant + AFTER).clamp(from + AFTER, most),
+        true => {
+            let falls = course.answer.instant + u32::from(netlist.pulse) - 1;
+            (falls + AFTER).clamp(from + AFTER, most)
+        }
         false => most,
     })
 }
@@ -164,7 +163,7 @@ fn json(waves: &Waveforms) -> Json {
                 let (cell, element) = match wire.shows {
                     Shows::Cell(cell) => (Json::number(cell), Json::Null),
                     Shows::Element(place) => (Json::Null, Json::text(store::name(place))),
-                    Shows::InFlight => (Json::Null, Json::Null),
+                    Shows::InFlight | Shows::StartLeft => (Json::Null, Json::Null),
                 };
                 Json::Object(vec![
                     ("name", Json::text(&wire.name)),

@@ -12,15 +12,12 @@ pub const COMMAND: Command = Command {
     about: "makes a netlist file of a list of cells, as 'hub cells' prints it or wired by hand",
     more: "A line is a cell, with its number or 'NAME:' in front or neither; inputs are numbers\n\
         or names, start, ground, x0 to x15, a0 to a3 among them. 'finish CELL' names the\n\
-        finish wire. Numbers that are left out, and the lines 'idle memories' and 'idle arrays',\n\
-        are memories and arrays that nothing writes to; where no line is about arrays, they\n\
-        stand behind 'idle memories'. Text after # is passed over.",
+        finish wire; 'finish CELL, pulse W' tells also how long pulses are, 1 to 8 instants.\n\
+        Numbers that are left out, and the lines 'idle memories' and 'idle arrays', are memories\n\
+        and arrays that nothing writes to; where no line is about arrays, they stand behind 'idle\n\
+        memories'. Text after # is passed over.",
     example: "hub cells examples/two_boards.hub | hub wire - -o two_boards.net",
-    options: Options {
-        program: false,
-        valued: &["o"],
-        flags: &[],
-    },
+    options: Options::plain(&["o"], &[]),
     run,
 };
 
@@ -30,9 +27,9 @@ fn run(args: &Args) -> Result<Done, Stop> {
     let text = lines::read(name)?;
     let listed = listing::wired(&text).map_err(|wrong| wrong.fault(name))?;
     let file = product::write_netlist(&listed.netlist).map_err(|met| {
-        let line = listed.lines.get(met.place).copied().flatten();
+        let own = listed.lines.get(met.place).filter(|_| met.number == 12);
         let report = refusals::of_wired(files::shown(name), &listed.netlist, met);
-        lines::lined(report, &text, line)
+        lines::lined(report, &text, own.copied().flatten())
     })?;
     written(args, out, &file, (listed.netlist.cells.len(), "cell"))
 }

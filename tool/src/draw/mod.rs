@@ -12,7 +12,7 @@ mod scale;
 pub mod svg;
 
 use crate::input::Circuit;
-use crate::kinds::{inputs, is_control, is_idle, is_store, ADDRESS, ARRAY};
+use crate::kinds::{inputs, is_control, is_idle, is_store, ADDRESS, ARRAY, START};
 use crate::labels;
 use crate::listing::words_of;
 use crate::types::{Fault, Netlist};
@@ -65,6 +65,9 @@ impl<'c> Plan<'c> {
             (Some(array), ARRAY) => format!("array {array}"),
             (Some(array), ADDRESS) => format!("address {array}"),
             (Some(variable), _) => format!("memory {variable}"),
+            (None, START) if self.netlist.pulse > 1 => {
+                format!("start for {}", self.netlist.pulse)
+            }
             (None, _) => title(&words_of(own), self.inputs(cell).len()),
         }
     }

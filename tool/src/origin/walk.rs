@@ -14,9 +14,10 @@ const GROUND: u16 = 1;
 
 const CALL: u8 = 27;
 
-/// The netlist of an accepted program's nodes, and where its cells come from.
-pub fn lay_out(procedures: usize, nodes: &[Node]) -> (Netlist, Trace) {
-    let mut walk = Walk::new(nodes);
+/// The netlist of an accepted program's nodes for pulses of this length, and where
+/// its cells come from.
+pub fn lay_out(procedures: usize, pulse: u8, nodes: &[Node]) -> (Netlist, Trace) {
+    let mut walk = Walk::new(pulse, nodes);
     let (roots, _) = roots(nodes);
     let (bodies, main) = roots.split_at(procedures);
     walk.put(Cell::new(32, 0, 0, 0), None, "start");
@@ -37,6 +38,7 @@ pub fn lay_out(procedures: usize, nodes: &[Node]) -> (Netlist, Trace) {
 }
 
 struct Walk<'a> {
+    pulse: u8,
     nodes: &'a [Node],
     cells: Vec<Cell>,
     origins: Vec<Origin>,
@@ -56,8 +58,9 @@ struct Walk<'a> {
 }
 
 impl<'a> Walk<'a> {
-    fn new(nodes: &'a [Node]) -> Walk<'a> {
+    fn new(pulse: u8, nodes: &'a [Node]) -> Walk<'a> {
         Walk {
+            pulse,
             nodes,
             cells: Vec::new(),
             origins: Vec::new(),
@@ -76,6 +79,7 @@ impl<'a> Walk<'a> {
         let netlist = Netlist {
             cells: self.cells,
             finish,
+            pulse: self.pulse,
         };
         let trace = Trace {
             origins: self.origins,
@@ -108,7 +112,7 @@ impl<'a> Walk<'a> {
             }
             let first = self.put(Cell::new(34, node.delay, 0, 0), Some(k), "delay");
             if let Some(written) = written(node) {
-                self.put(Cell::new(34, 1, first, 0), Some(k), "finish");
+                self.put(Cell::new(34, self.pulse, first, 0), Some(k), "finish");
                 clocks[written].push((first, k));
             }
             if node.kind == CALL {

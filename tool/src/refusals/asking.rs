@@ -102,8 +102,8 @@ fn asked(beside: Beside, nodes: &[Node]) -> Result<(), Refusal> {
 /// as its finish it is accepted.
 pub fn finish_alone(netlist: &Netlist) -> bool {
     let started = Netlist {
-        cells: netlist.cells.clone(),
         finish: 0,
+        ..netlist.clone()
     };
     product::check_netlist(&started).is_ok()
 }

@@ -11,6 +11,11 @@ pub fn of_wired(name: &str, netlist: &Netlist, refusal: Refusal) -> Report {
     let report = plain(name, refusal);
     match refusal.number {
         12 => of_cell(report, netlist),
+        27 => Report {
+            found: Some(format!("pulse {}", netlist.pulse)),
+            remedy: "write a pulse length from 1 to 8".into(),
+            ..report
+        },
         _ => report,
     }
 }

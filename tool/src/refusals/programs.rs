@@ -7,7 +7,7 @@ use crate::kinds;
 use crate::preorder::{self, Below};
 use crate::product;
 use crate::source::Source;
-use crate::types::{Fault, Node, Refusal};
+use crate::types::{Beside, Fault, Node, Refusal};
 
 /// The most procedures of a program.
 const MOST_PROCEDURES: usize = 8;
@@ -114,15 +114,27 @@ fn of_tree(report: &mut Report, given: &Given, nodes: &[Node], source: Option<&S
 fn of_delay(report: &mut Report, given: &Given, nodes: &[Node], source: Option<&Source>) {
     let place = report.refusal.place;
     report.least = least_delay(given.beside(), nodes, place);
-    let own = match nodes[place].kind {
-        24 => Some("this delay is too small for index and value, which both have to settle in it"),
-        25 => Some("this delay is too small: going round a loop takes at least 1 instant"),
-        27 => Some("this delay is too small: a procedure starts at least 1 instant after its call"),
-        _ => None,
+    let short = Beside {
+        pulse: 1,
+        ..given.beside()
     };
-    if let Some(rule) = own {
-        report.rule = rule.into();
-    }
+    // Whether a shorter pulse would do with less.
+    let long = report.least > least_delay(short, nodes, place);
+    let with = match long {
+        true => format!("with pulses of {} instants ", given.pulse),
+        false => String::new(),
+    };
+    let least = counted(report.least.unwrap_or(u8::MAX).into(), "instant");
+    report.rule = match nodes[place].kind {
+        24 => "this delay is too small for index and value, which both have to settle in it".into(),
+        27 => format!(
+            "this delay is too small: {with}a procedure starts at least {least} after its call"
+        ),
+        kind if kind == 25 || long => {
+            format!("this delay is too small: {with}going round a loop takes at least {least}")
+        }
+        _ => report.rule.clone(),
+    };
     let written = match (given.form, nodes[place].kind) {
         (Form::Text, 17) => "write tick ",
         (Form::Text | Form::Outline, _) => "write @",

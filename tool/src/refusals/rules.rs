@@ -110,7 +110,8 @@ pub const RULES: &[Rule] = &[
         11,
         Counts::Blocks,
         "this block's header is wrong, or a byte without a use isn't zero; \
-         a netlist has 27 to 1,024 cells, and the finish is one of them",
+         a netlist has 27 to 1,024 cells, the finish is one of them, and its pulses are \
+         1 to 8 instants long, by every block",
         "make the file again, from the program or the list",
     ),
     rule_of(
@@ -207,5 +208,11 @@ pub const RULES: &[Rule] = &[
         "a pulse enters this delay while another is on its way there, \
          and a compact state has room for one",
         "begin the run without --compact, or wire the delay so that its pulses are further apart",
+    ),
+    rule_of(
+        27,
+        Counts::Nothing,
+        "a pulse is 1 to 8 instants long",
+        "give --pulse a number from 1 to 8",
     ),
 ];

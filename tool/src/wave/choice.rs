@@ -36,7 +36,7 @@ pub fn wires(
 fn moves(circuit: &Circuit, wire: &Wire) -> bool {
     match wire.shows {
         Shows::Cell(cell) => !is_idle(&circuit.netlist.cells[usize::from(cell)]),
-        Shows::Element(_) | Shows::InFlight => true,
+        Shows::Element(_) | Shows::InFlight | Shows::StartLeft => true,
     }
 }
 
@@ -104,7 +104,7 @@ fn chosen(named: &[Wire], netlist: &Netlist, word: &str) -> Result<Wire, Fault> 
         Some(known) => known.clone(),
         None => of_cell(netlist, wire)
             .or_else(|| of_element(wire))
-            .or_else(|| of_flight(wire))
+            .or_else(|| of_state(wire))
             .ok_or_else(|| unknown(named, wire))?,
     };
     Ok(match own {
@@ -145,23 +145,28 @@ fn of_element(name: &str) -> Option<Wire> {
     })
 }
 
-/// The number in flight, which is asked for by its name alone.
-fn of_flight(name: &str) -> Option<Wire> {
-    (name == IN_FLIGHT).then(|| Wire {
+/// What a state tells beside its cells, which is asked for by its name alone.
+fn of_state(name: &str) -> Option<Wire> {
+    let (_, shows) = OF_STATE.iter().find(|(known, _)| *known == name)?;
+    Some(Wire {
         name: name.to_string(),
         about: String::new(),
-        shows: Shows::InFlight,
+        shows: *shows,
         control: false,
     })
 }
 
-const IN_FLIGHT: &str = "in_flight";
+const OF_STATE: [(&str, Shows); 2] = [
+    ("in_flight", Shows::InFlight),
+    ("start_left", Shows::StartLeft),
+];
 
 fn unknown(named: &[Wire], name: &str) -> Fault {
     let names: Vec<&str> = named.iter().map(|wire| wire.name.as_str()).collect();
     let names = names.join(", ");
+    let of_state = OF_STATE.map(|(name, _)| name).join(", ");
     Fault::usage(format!(
-        "no wire is called '{name}'; there are cells by number, elements as a2[5], {IN_FLIGHT}, \
+        "no wire is called '{name}'; there are cells by number, elements as a2[5], {of_state}, \
          and {names}"
     ))
 }

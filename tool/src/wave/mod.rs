@@ -19,13 +19,14 @@ pub struct Wire {
     pub control: bool,
 }
 
-/// What a wire shows: a cell, an element by its place in the store, or how many
-/// pulses are in flight.
+/// What a wire shows: a cell, an element by its place in the store, how many
+/// pulses are in flight, or for how many instants the start stays high.
 #[derive(Clone, Copy, Debug, PartialEq, Eq)]
 pub enum Shows {
     Cell(u16),
     Element(usize),
     InFlight,
+    StartLeft,
 }
 
 /// The values of wires from one instant up to another, that one too.

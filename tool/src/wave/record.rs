@@ -2,7 +2,7 @@
 
 use super::course::Course;
 use super::{Shows, Waveforms, Wire};
-use crate::layout::{element_in, in_flight_in, value_in};
+use crate::layout::{element_in, in_flight_in, start_left_in, value_in};
 use crate::types::{Format, Refusal};
 
 /// The values of these wires from one instant up to another, in a run of so
@@ -24,6 +24,7 @@ pub fn record(
                     element_in(Format::Full, &course.state, cells, place).into()
                 }
                 Shows::InFlight => in_flight_in(&course.state),
+                Shows::StartLeft => start_left_in(&course.state).into(),
             });
         }
     }

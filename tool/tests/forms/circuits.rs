@@ -4,32 +4,38 @@ use crate::programs::Program;
 use hub::assemble;
 use hub::input::{Circuit, Form, Given};
 use hub::store::Store;
+use hub::types::Beside;
 use hub::wave::course::Course;
 use hub::wave::{record, Waveforms, Wire};
 
 /// The circuit of a program.
 pub fn of_program(program: &Program) -> Circuit {
-    of(Form::Program, program.procedures, &program.bytes)
+    of(Form::Program, program.beside(), &program.bytes)
 }
 
 /// The circuit of a text.
 pub fn of_text(text: &str) -> Circuit {
-    of(Form::Text, 0, text.as_bytes())
+    of(Form::Text, Beside::NOTHING, text.as_bytes())
 }
 
 /// The circuit of an outline.
 pub fn of_outline(text: &str) -> Circuit {
     let procedures = assemble::assemble(text).expect("an outline").procedures;
-    of(Form::Outline, procedures, text.as_bytes())
+    of(
+        Form::Outline,
+        Beside::procedures(procedures),
+        text.as_bytes(),
+    )
 }
 
-fn of(form: Form, procedures: usize, bytes: &[u8]) -> Circuit {
+fn of(form: Form, beside: Beside, bytes: &[u8]) -> Circuit {
     let given = Given {
         name: "a program".to_string(),
         form,
         bytes: bytes.to_vec(),
         times: None,
-        procedures,
+        procedures: beside.procedures,
+        pulse: beside.pulse,
     };
     given.circuit().expect("an accepted program")
 }

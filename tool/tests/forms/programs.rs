@@ -1,21 +1,26 @@
 //! Programs to try the tool on: the examples, and accepted ones that are
 //! generated from a number, so that a failure can be tried again.
 
-use hub::types::{Beside, Node};
+use hub::types::{Beside, Node, Refusal};
 use hub::{assemble, product};
 use std::fs;
 use std::path::{Path, PathBuf};
 
-/// A program's bytes, and how many procedures they begin with.
+/// A program's bytes, how many procedures they begin with, and the pulse length
+/// that it is compiled for.
 #[derive(Clone, Debug, PartialEq, Eq)]
 pub struct Program {
     pub procedures: usize,
+    pub pulse: u8,
     pub bytes: Vec<u8>,
 }
 
 impl Program {
     pub fn beside(&self) -> Beside<'static> {
-        Beside::procedures(self.procedures)
+        Beside {
+            procedures: self.procedures,
+            ..Beside::pulse(self.pulse)
+        }
     }
 }
 
@@ -70,25 +75,34 @@ pub fn texts() -> Vec<Vec<u8>> {
 pub fn programs() -> Vec<Program> {
     let examples = examples().into_iter().map(|(name, text)| {
         let read = product::read_text(Beside::NOTHING, text.as_bytes());
-        let bytes = read.unwrap_or_else(|met| panic!("{name}: {met}"));
-        let procedures = 0;
-        Program { procedures, bytes }
+        Program {
+            procedures: 0,
+            pulse: 1,
+            bytes: read.unwrap_or_else(|met| panic!("{name}: {met}")),
+        }
     });
     let outlines = outlines().into_iter().map(|(name, text)| {
         let source = assemble::assemble(&text).unwrap_or_else(|wrong| panic!("{name}: {wrong:?}"));
-        let bytes = product::program_bytes(&source.nodes);
-        let procedures = source.procedures;
-        Program { procedures, bytes }
+        Program {
+            procedures: source.procedures,
+            pulse: 1,
+            bytes: product::program_bytes(&source.nodes),
+        }
     });
     let generated = (0..COUNT).map(generated);
     examples.chain(outlines).chain(generated).collect()
 }
 
+/// The pulse lengths of the programs, one after another.
+const PULSES: [u8; 16] = [1, 1, 2, 1, 3, 1, 1, 4, 1, 5, 1, 6, 7, 1, 8, 1];
+
 /// A program that a number stands for; of two numbers one has arrays, loops that
 /// exits end, and perhaps procedures.
 fn generated(seed: u64) -> Program {
+    let pulse = PULSES[seed as usize / 2 % PULSES.len()];
     let mut source = Source {
         chance: Chance(seed * 2 + 1),
+        pulse,
         bodies: 0,
         nodes: Vec::new(),
     };
@@ -110,6 +124,7 @@ fn generated(seed: u64) -> Program {
     source.nodes.truncate(MOST);
     let program = Program {
         procedures: source.bodies,
+        pulse,
         bytes: product::program_bytes(&source.nodes),
     };
     let checked = product::check(program.beside(), &program.bytes);
@@ -132,6 +147,7 @@ impl Chance {
 
 struct Source {
     chance: Chance,
+    pulse: u8,
     /// The procedures so far.
     bodies: usize,
     nodes: Vec<Node>,
@@ -239,8 +255,12 @@ impl Source {
         let times = (0..expressions).map(|_| self.expression(3, scope));
         let time = times.max().unwrap_or(0);
         let more = self.chance.below(4);
-        let least = time.max(usize::from(kind != 21));
-        self.nodes[at].delay = (least + more) as u8;
+        let least = match (kind, self.pulse) {
+            (21, _) => 0,
+            (22 | 23 | 25 | 27, 2..) => usize::from(self.pulse) + 1,
+            _ => 1,
+        };
+        self.nodes[at].delay = (least.max(time) + more) as u8;
     }
 
     /// An expression of at most this depth, and its time.
@@ -290,4 +310,27 @@ fn every_kind_is_among_the_programs() {
         assert!(programs.iter().filter(has).count() > 20, "kind {kind}");
     }
     assert!(programs.iter().any(|program| program.bytes.len() > 4 * 100));
+    for pulse in 1..=8 {
+        let long = programs.iter().filter(|program| program.pulse == pulse);
+        assert!(long.count() > 10, "pulse {pulse}");
+    }
+}
+
+/// The delays of generated loops and calls are not all longer than they need be:
+/// one less is refused.
+#[test]
+fn some_delays_are_the_least() {
+    let mut least = 0;
+    for program in programs().iter().filter(|program| program.pulse > 1) {
+        for (at, node) in product::nodes(&program.bytes).iter().enumerate() {
+            let mut bytes = program.bytes.clone();
+            if matches!(node.kind, 22 | 23 | 25 | 27) && node.delay == program.pulse + 1 {
+                bytes[4 * at + 1] -= 1;
+                let met = product::check(program.beside(), &bytes);
+                assert_eq!(met, Err(Refusal::new(7, at)));
+                least += 1;
+            }
+        }
+    }
+    assert!(least > 20, "{least}");
 }

@@ -1,6 +1,6 @@
 //! What the tool writes it takes back, to the byte.
 
-use crate::programs::{programs, texts, Chance, Program};
+use crate::programs::{programs, texts, Chance};
 use crate::{circuits, programs};
 use hub::lines::Wrong;
 use hub::types::{Beside, Cell, Netlist, Node};
@@ -11,7 +11,8 @@ use std::fmt::Debug;
 fn outlines_give_the_program_back() {
     for program in programs() {
         let outline = outline::outline(program.procedures, &product::nodes(&program.bytes));
-        assert_eq!(assembled(&outline), program, "{outline}");
+        let own = (program.procedures, program.bytes);
+        assert_eq!(assembled(&outline), own, "{outline}");
     }
 }
 
@@ -30,7 +31,7 @@ fn outlines_give_any_nodes_back() {
             .collect();
         let outline = outline::outline(0, &nodes);
         let bytes = product::program_bytes(&nodes);
-        assert_eq!(assembled(&outline).bytes, bytes, "{outline}");
+        assert_eq!(assembled(&outline).1, bytes, "{outline}");
     }
 }
 
@@ -46,10 +47,10 @@ fn told_with_their_line<T: Debug>(
     }
 }
 
-fn assembled(outline: &str) -> Program {
+/// The number of procedures and the bytes of an outline.
+fn assembled(outline: &str) -> (usize, Vec<u8>) {
     let source = assemble::assemble(outline).unwrap_or_else(|wrong| panic!("{wrong:?}\n{outline}"));
-    let (procedures, bytes) = (source.procedures, product::program_bytes(&source.nodes));
-    Program { procedures, bytes }
+    (source.procedures, product::program_bytes(&source.nodes))
 }
 
 /// A heading stands where the statement that it names begins; 'main' may be left
@@ -66,7 +67,7 @@ fn headings_tell_the_procedures() {
             2,
         ),
     ] {
-        assert_eq!(assembled(outline).procedures, procedures, "{outline}");
+        assert_eq!(assembled(outline).0, procedures, "{outline}");
     }
     let wrong = [
         ("procedure 1\nok", 1, "this is procedure 0"),
@@ -176,7 +177,11 @@ fn lists_give_any_cells_back() {
                 Cell::new(kind as u8, delay as u8, a as u16, b as u16)
             })
             .collect();
-        let netlist = Netlist { cells, finish: 3 };
+        let netlist = Netlist {
+            cells,
+            finish: 3,
+            pulse: 1 + chance.below(255) as u8,
+        };
         let list = listing::list(&netlist, true, |_| None);
         let listed = listing::wired(&list).unwrap_or_else(|wrong| panic!("{wrong:?}\n{list}"));
         assert_eq!(listed.netlist, netlist, "{list}");
@@ -234,6 +239,8 @@ fn wrong_lists_are_told_with_their_line() {
         ("finish 0\nfinish 1\n", 2, "a second line"),
         ("finish 0\nlamp 3\n", 2, "is no kind"),
         ("finish 0\nname:\n", 2, "no cell after it"),
+        ("finish 0, pulse long\nstart\n", 1, "below 256"),
+        ("finish 0 pulse 3\nstart\n", 1, "which cell is the finish"),
         ("2000 cells, finish 0\n", 1, "at most 1024"),
         ("99999999999999999999 cells, finish 0\n", 1, "at most 1024"),
         (

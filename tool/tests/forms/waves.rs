@@ -6,7 +6,7 @@ use crate::pictures::assert_legible;
 use crate::programs::{examples, programs, Program};
 use crate::vcd::{read, values, Changes};
 use crate::{circuits, programs};
-use hub::layout::in_flight_in;
+use hub::layout::{in_flight_in, start_left_in};
 use hub::product;
 use hub::store::{self, Store};
 use hub::types::Format;
@@ -108,7 +108,8 @@ fn waves_agree_with_the_answers() {
         let file = product::compile(program.beside(), &program.bytes).expect("a netlist");
         let (mut state, mut answer) = product::begin(Format::Full, &file, &start()).expect("a run");
         for at in 0..=80 {
-            assert_eq!(value("start", at), Some(u32::from(at == 0)));
+            let started = at < usize::from(program.pulse);
+            assert_eq!(value("start", at), Some(u32::from(started)));
             assert_eq!(value("finish", at), Some(u32::from(answer.ended)));
             for (variable, word) in answer.words.iter().enumerate() {
                 let shown = value(&format!("x{variable}"), at);
@@ -159,34 +160,69 @@ fn elements_are_waves_too() {
     assert!(changes > 20, "{changes} elements were written");
 }
 
-/// The number in flight is what the state tells, in a run that is started again
-/// as soon as it is idle, and in its dump.
+/// The number in flight and what is left of a start are what the state tells, in a
+/// run that is started again as soon as that is taken, and in its dump. The start is
+/// high for a pulse from each start on, and what is left of it falls by one.
 #[test]
-fn the_number_in_flight_is_a_wave_too() {
+fn what_a_state_tells_is_a_wave_too() {
     let mut idle = 0;
     for program in programs() {
         let circuit = circuits::of_program(&program);
         let (mut state, _) = product::begin(Format::Full, &circuit.file, &start()).expect("a run");
-        let (mut starts, mut numbers) = (Vec::new(), vec![in_flight_in(&state)]);
+        let mut starts = Vec::new();
+        let mut numbers = vec![(in_flight_in(&state), start_left_in(&state))];
         for instant in 1..=90 {
-            let number = in_flight_in(&state);
-            if number == 0 {
+            if product::is_idle(Format::Full, &circuit.file, &state) {
+                assert_eq!(in_flight_in(&state), 0);
                 starts.push(instant);
                 product::start(Format::Full, &circuit.file, &mut state).expect("it is idle");
             } else {
                 product::go(Format::Full, &circuit.file, &mut state, 1).expect("an instant");
             }
-            numbers.push(in_flight_in(&state));
+            numbers.push((in_flight_in(&state), start_left_in(&state)));
         }
-        let wires = choice::wires(&circuit, &[], Some("start,in_flight"), false).expect("wires");
+        let asked = Some("start,in_flight,start_left");
+        let wires = choice::wires(&circuit, &[], asked, false).expect("wires");
         let waves = recorded(&circuit, (&start(), &starts), wires, 0, 90);
-        let started = (0..=90).map(|at| u32::from(at == 0 || starts.contains(&at)));
-        assert_eq!(waves.values, [started.collect(), numbers]);
+        let left = |at: u32| {
+            let last = starts
+                .iter()
+                .rev()
+                .find(|start| **start <= at)
+                .unwrap_or(&0);
+            (last + u32::from(program.pulse)).saturating_sub(at)
+        };
+        let high = (0..=90).map(|at| u32::from(left(at) > 0)).collect();
+        let lefts: Vec<u32> = (0..=90).map(|at| left(at).saturating_sub(1)).collect();
+        let (in_flight, told): (Vec<u32>, Vec<u8>) = numbers.into_iter().unzip();
+        let told: Vec<u32> = told.into_iter().map(u32::from).collect();
+        assert_eq!(waves.values, [high, in_flight, told.clone()]);
+        assert_eq!(told, lefts);
         let (dumped, _) = read(&vcd::vcd(&waves));
         assert_same(&waves, &dumped, |name| format!("hub.{name}"));
         idle += starts.len();
     }
     assert!(idle > 20, "{idle} second starts");
+}
+
+/// By the rules the finish is high from the program's end on for a pulse, and at no
+/// other instant.
+#[test]
+fn the_finish_is_high_for_a_pulse_from_the_end_on() {
+    let mut ended = 0;
+    for program in programs() {
+        let circuit = circuits::of_program(&program);
+        let end = product::reference(program.beside(), &program.bytes, &start(), 300);
+        let end = end.expect("a program").map(|end| end.instant);
+        let wires = choice::wires(&circuit, &[], Some("finish"), false).expect("wires");
+        let waves = recorded(&circuit, (&start(), &[]), wires, 0, 300);
+        let pulse = u32::from(program.pulse);
+        let due = |at: u32| end.is_some_and(|end| (end..end + pulse).contains(&at));
+        let due: Vec<u32> = (0..=300).map(|at| u32::from(due(at))).collect();
+        assert_eq!(waves.values, [due], "pulse {pulse}");
+        ended += usize::from(end.is_some() && pulse > 1);
+    }
+    assert!(ended > 20, "{ended} programs with longer pulses ended");
 }
 
 /// A terminal's lines are one character for each instant, high where the wire

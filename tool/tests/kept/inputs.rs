@@ -30,6 +30,10 @@ const TEXTS: &[(&str, &str)] = &[
     ("open.hub", "while 1 @1 do ok end\n"),
     ("count.hub", "x0 := x0 + 1 @16\n"),
     ("edited.hub", "x0 := x0 + 2 @16\n"),
+    ("down.hub", "while x0 @4 do x0 := x0 - 1 @17 end\n"),
+    ("down_3.hub", "while x0 @3 do x0 := x0 - 1 @17 end\n"),
+    ("settle.hub", "repeat ok until x0 = 3 @2 end\n"),
+    ("ticks.hub", "tick 3 || tick 5\n"),
     ("crlf.hub", "ok ;\r\nok\r\n"),
     ("mark.hub", "\u{feff}ok\n"),
     ("capitals.hub", "While x0 @1 do ok end\n"),
@@ -96,6 +100,14 @@ const LINES: &[(&str, &str)] = &[
     ),
     ("order.outline", "procedure 1\n  ok\nmain\n  ok\n"),
     ("empty.outline", "# nothing yet\n"),
+    (
+        "long.list",
+        "finish line, pulse 3\nstart\nground\nconstant 0\nidle memories\nline: delay 2 of start\n",
+    ),
+    (
+        "too_long.list",
+        "finish line, pulse 9\nstart\nground\nconstant 0\nidle memories\nline: delay 2 of start\n",
+    ),
     (
         "else.outline",
         "sequence\n  if @0\n    variable x0\n    ok\n  tick @3\n  tick @4\n",
@@ -285,6 +297,7 @@ fn netlists(put: &impl Fn(&str, &[u8])) {
     put("length.net", &file[..100]);
     put("sum.net", &damaged(&file, 30, 77));
     put("header.net", &summed(&damaged(&file, 0, 1)));
+    put("pulse.net", &summed(&damaged(&file, 1, 8)));
     put("cell.net", &summed(&damaged(&file, 8 + 6 * 3 + 1, 0)));
     put("input.net", &summed(&damaged(&file, 8 + 6 * 3 + 2, 2)));
     put("kind.net", &summed(&damaged(&file, 8 + 6 * 3, 99)));

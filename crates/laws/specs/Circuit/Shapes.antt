@@ -10,7 +10,7 @@ use lib.ListN.{length}
 use borrow.Author.Tests.{eqb-true, leb-true, le-leb, lt-leb}
 use Rattle.model.specs.declared.Cell.{Cell}
 use Rattle.model.specs.Word.{pick, bit, isZero}
-use Rattle.model.specs.Circuit.{cellAt, Sig, Values, Elements, element, level, delayed, mergeStep, returnStep, merged, merges, stepOf, control, equation, startWord, Obeys, Shape, CellKinds, cellTable, shapes, hasKind, shapeIn, shape, kConstant, kComplement, kOperator, kStart, kGround, kDelay, kOr, kWhenTrue, kWhenFalse, kMerge, kReturn, kMemory, kGated, kArray, kAddress, kRead, kUnknown}
+use Rattle.model.specs.Circuit.{cellAt, Netlist, Sig, pulses, Values, Elements, element, level, delayed, mergeStep, returnStep, merged, merges, stepOf, control, equation, startWord, Obeys, Shape, CellKinds, cellTable, shapes, hasKind, shapeIn, shape, kConstant, kComplement, kOperator, kStart, kGround, kDelay, kOr, kWhenTrue, kWhenFalse, kMerge, kReturn, kMemory, kGated, kArray, kAddress, kRead, kUnknown}
 use Rattle.laws.specs.Refusals.Laws.{and-true, by-bool, by-le, not-both}
 
 -- a kind is one of its shape's, but for the shape of no kinds
@@ -58,6 +58,10 @@ pub array-kind : (k : ℕ) → shape k ≡ kArray → k ≡ 42
 unfolding cellTable
 array-kind k e = kind-of k 42 kArray refl refl e
 
+pub start-shape : (k : ℕ) → k ≡ 32 → shape k ≡ kStart
+unfolding shape
+start-shape k e = rw e
+
 pub delay-shape : (k : ℕ) → k ≡ 34 → shape k ≡ kDelay
 unfolding shape
 delay-shape k e = rw e
@@ -71,13 +75,13 @@ unfolding shape
 return-shape k e = rw e
 
 -- the two merges, and what they do
-pub of-merge : (k : ℕ) → shape k ≡ kMerge → (merges k ≡ true) × (stepOf k ≡ mergeStep)
+pub of-merge : (w k : ℕ) → shape k ≡ kMerge → (merges k ≡ true) × (stepOf w k ≡ mergeStep (eqb w 1))
 unfolding merges stepOf
-of-merge k e = rw (merge-kind k e) (refl, refl)
+of-merge w k e = rw (merge-kind k e) (refl, refl)
 
-pub of-return : (k : ℕ) → shape k ≡ kReturn → (merges k ≡ true) × (stepOf k ≡ returnStep)
+pub of-return : (w k : ℕ) → shape k ≡ kReturn → (merges k ≡ true) × (stepOf w k ≡ returnStep (eqb w 1))
 unfolding merges stepOf
-of-return k e = rw (return-kind k e) (refl, refl)
+of-return w k e = rw (return-kind k e) (refl, refl)
 
 -- a merge is of one kind or the other
 pub by-merge : {A : Type 0} (k : ℕ) → merges k ≡ true → (k ≡ 38 → A) → (k ≡ 39 → A) → A
@@ -127,29 +131,30 @@ unfolding bit
 bit-le true = omega arith
 bit-le false = omega arith
 
-shape-level : (s : Shape) (starts : Sig) (first : ℕ) (E : Elements) (W : Values) (k : ℕ) (c : Cell) (t : ℕ) → cellTable s .row .control ≡ true
-    → equation s starts first E W k c t ≤ 1
+shape-level : (w : ℕ) (s : Shape) (starts : Sig) (first : ℕ) (E : Elements) (W : Values) (k : ℕ) (c : Cell) (t : ℕ) → cellTable s .row .control ≡ true
+    → equation w s starts first E W k c t ≤ 1
 unfolding equation cellTable
-shape-level kConstant starts first E W k c t e = not-both e refl
-shape-level kComplement starts first E W k c t e = not-both e refl
-shape-level kOperator starts first E W k c t e = not-both e refl
-shape-level kStart starts first E W k c t e = bit-le (starts t)
-shape-level kGround starts first E W k c t e = omega arith
-shape-level kDelay starts first E W k c t e = bit-le (delayed (c .delay) (level W (c .a)) t)
-shape-level kOr starts first E W k c t e = bit-le (level W (c .a) t || level W (c .b) t)
-shape-level kWhenTrue starts first E W k c t e = bit-le (level W (c .a) t && not (isZero (W (c .b) t)))
-shape-level kWhenFalse starts first E W k c t e = bit-le (level W (c .a) t && isZero (W (c .b) t))
-shape-level kMerge starts first E W k c t e = bit-le (merged mergeStep (level W (c .a)) (level W (c .b)) t)
-shape-level kReturn starts first E W k c t e = bit-le (merged returnStep (level W (c .a)) (level W (c .b)) t)
-shape-level kMemory starts first E W k c t e = not-both e refl
-shape-level kGated starts first E W k c t e = not-both e refl
-shape-level kArray starts first E W k c t e = not-both e refl
-shape-level kAddress starts first E W k c t e = not-both e refl
-shape-level kRead starts first E W k c t e = not-both e refl
-shape-level kUnknown starts first E W k c t e = not-both e refl
+shape-level w kConstant starts first E W k c t e = not-both e refl
+shape-level w kComplement starts first E W k c t e = not-both e refl
+shape-level w kOperator starts first E W k c t e = not-both e refl
+shape-level w kStart starts first E W k c t e = bit-le (pulses w starts t)
+shape-level w kGround starts first E W k c t e = omega arith
+shape-level w kDelay starts first E W k c t e = bit-le (delayed (c .delay) (level W (c .a)) t)
+shape-level w kOr starts first E W k c t e = bit-le (level W (c .a) t || level W (c .b) t)
+shape-level w kWhenTrue starts first E W k c t e = bit-le (level W (c .a) t && not (isZero (W (c .b) t)))
+shape-level w kWhenFalse starts first E W k c t e = bit-le (level W (c .a) t && isZero (W (c .b) t))
+shape-level w kMerge starts first E W k c t e = bit-le (merged (mergeStep (eqb w 1)) (level W (c .a)) (level W (c .b)) t)
+shape-level w kReturn starts first E W k c t e = bit-le (merged (returnStep (eqb w 1)) (level W (c .a)) (level W (c .b)) t)
+shape-level w kMemory starts first E W k c t e = not-both e refl
+shape-level w kGated starts first E W k c t e = not-both e refl
+shape-level w kArray starts first E W k c t e = not-both e refl
+shape-level w kAddress starts first E W k c t e = not-both e refl
+shape-level w kRead starts first E W k c t e = not-both e refl
+shape-level w kUnknown starts first E W k c t e = not-both e refl
 
-pub level-bound : (net : List Cell) (starts : Sig) (words : ℕ → ℕ) (W : Values) → Obeys net starts words W
-    → (k : ℕ) → k < length net → control (cellAt net k .kind) ≡ true → (t : ℕ) → W k t ≤ 1
+pub level-bound : (net : Netlist) (starts : Sig) (words : ℕ → ℕ) (W : Values) → Obeys net starts words W
+    → (k : ℕ) → k < length (net .cells) → control (cellAt (net .cells) k .kind) ≡ true → (t : ℕ) → W k t ≤ 1
 unfolding Obeys control
 level-bound net starts words W h k l e t = rw (h k l t)
-    (shape-level (shape (cellAt net k .kind)) starts (startWord net words k) (element net words W) W k (cellAt net k) t e)
+    (shape-level (net .pulse) (shape (cellAt (net .cells) k .kind)) starts (startWord (net .cells) words k) (element (net .cells) words W) W k
+    (cellAt (net .cells) k) t e)

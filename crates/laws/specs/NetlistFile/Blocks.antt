@@ -15,7 +15,7 @@ use borrow.Author.Tests.{eq-eqb, eqb-true}
 use Rattle.model.specs.declared.Cell.{Cell}
 use Rattle.model.specs.Word.{get16, bytes16, Bytes}
 use Rattle.model.specs.Circuit.{cellAt}
-use Rattle.model.specs.NetlistFile.{cellBytes, cellFrom, wordSum, checkFor, blockWith, block, blocks, blockAt, allZero, headerRight, countOf, finishOf, headBytes, restBytes, runningSum}
+use Rattle.model.specs.NetlistFile.{cellBytes, cellFrom, wordSum, checkFor, blockWith, block, blocks, blockAt, allZero, headerRight, countOf, finishOf, headBytes, restBytes, runningSum, firstNumber, pulseOf}
 use Rattle.laws.specs.Refusals.Laws.{and-true, and-of}
 use Rattle.laws.specs.NetlistFile.RunningSum.{running-sum}
 use Rattle.laws.specs.NetlistFile.CellBytes.{from-shift, from-bytes, bytes-length, two-back, cells-back, zero-run}
@@ -80,16 +80,17 @@ unfolding block bytes16 get16
 head-numbers b n f cs = (omega arith, omega arith, omega arith)
 
 -- a block whose cells are all that are left, or 84, has the right header
-pub headed-written : (b n f : ℕ) (cs : List Cell) → length cs ≡ n - 84 * b → headerRight n f b (block b n f (take 84 cs)) ≡ true
+pub headed-written : (w b n f : ℕ) (cs : List Cell) → length cs ≡ n - 84 * b
+    → headerRight w n f b (block (firstNumber w + b) n f (take 84 cs)) ≡ true
 unfolding headerRight
-headed-written b n f cs e =
-    let B = block b n f (take 84 cs) in
-    let h = head-numbers b n f (take 84 cs) in
+headed-written w b n f cs e =
+    let B = block (firstNumber w + b) n f (take 84 cs) in
+    let h = head-numbers (firstNumber w + b) n f (take 84 cs) in
     and-of (eq-eqb _ _ (h .0)) (and-of (eq-eqb _ _ (h .1)) (and-of (eq-eqb _ _ (h .2))
     (all-zero (drop (8 + 6 * (n - 84 * b)) B)
     (λ i.
     getD-drop (8 + 6 * (n - 84 * b)) B i 0
-    ∙ unused b n f (take 84 cs) (8 + 6 * (n - 84 * b) + i) (rw (length-take 84 cs) (omega arith))))))
+    ∙ unused (firstNumber w + b) n f (take 84 cs) (8 + 6 * (n - 84 * b) + i) (rw (length-take 84 cs) (omega arith))))))
 
 -- Blocks one after another -------------------------------------------------------------------------------------------------------------
 
@@ -125,6 +126,12 @@ module _ (n f : ℕ) where
   unfolding blocks block bytes16 get16
   count-is zero b cs h = absurd (omega arith)
   count-is (suc m) b cs h = omega arith
+
+  -- the first block's number has the pulse length in its high byte
+  pub pulse-is : (m w : ℕ) (cs : List Cell) → 0 < m → 1 ≤ w → pulseOf (blocks m (firstNumber w) n f cs) ≡ w
+  unfolding blocks block bytes16
+  pulse-is zero w cs h pos = absurd (omega arith)
+  pulse-is (suc m) w cs h pos = omega arith
 
   pub finish-is : (m b : ℕ) (cs : List Cell) → 0 < m → finishOf (blocks m b n f cs) ≡ f
   unfolding blocks block bytes16 get16
@@ -175,11 +182,11 @@ zero-all (x ∷ s) e zero = eqb-true x 0 (and-true (eqb x 0) (allZero s) e .0)
 zero-all (x ∷ s) e (suc i) = zero-all s (and-true (eqb x 0) (allZero s) e .1) i
 
 -- the header's numbers, and zeros from its last cell on
-pub header-of : (n f b : ℕ) (B : List ℕ) → headerRight n f b B ≡ true
-    → (get16 B 0 ≡ b) × (get16 B 2 ≡ n) × (get16 B 4 ≡ f) × ((j : ℕ) → 8 + 6 * (n - 84 * b) ≤ j → getD B j 0 ≡ 0)
+pub header-of : (w n f b : ℕ) (B : List ℕ) → headerRight w n f b B ≡ true
+    → (get16 B 0 ≡ firstNumber w + b) × (get16 B 2 ≡ n) × (get16 B 4 ≡ f) × ((j : ℕ) → 8 + 6 * (n - 84 * b) ≤ j → getD B j 0 ≡ 0)
 unfolding headerRight
-header-of n f b B e =
-    let p = and-true (eqb (get16 B 0) b) _ e in
+header-of w n f b B e =
+    let p = and-true (eqb (get16 B 0) (firstNumber w + b)) _ e in
     let q = and-true (eqb (get16 B 2) n) _ (p .1) in
     let r = and-true (eqb (get16 B 4) f) _ (q .1) in
     let J = 8 + 6 * (n - 84 * b) in (

@@ -57,9 +57,9 @@ part-of-bytes cs i n h =
 
 -- Checked, written, renumbered ---------------------------------------------------------------------------------------------------------
 
-pub write-cells-bytes : (cs : List Cell) (f : ℕ) (lent : List ℕ) → writeCellsCall cs f lent ≡ writeCall (cellBytes cs) f lent
+pub write-cells-bytes : (w : ℕ) (cs : List Cell) (f : ℕ) (lent : List ℕ) → writeCellsCall w cs f lent ≡ writeCall w (cellBytes cs) f lent
 unfolding writeCellsCall writeCall
-write-cells-bytes cs f lent =
+write-cells-bytes w cs f lent =
     let whole : ltb 0 (length (cellBytes cs) % 6) ≡ false = le-ltb 0 (length (cellBytes cs) % 6) (omega (arith, bytes-length cs)) in
     rw (cells-in-bytes cs, whole) refl
 

@@ -2,19 +2,19 @@
 -- Cells that keep the rules look only at lower cells and at the past.
 -- Assumes nothing.
 use mathlib.Core.Path.{_≡_, refl, ap}
-use mathlib.Core.Bool.{Bool, true, false, not, _&&_}
+use mathlib.Core.Bool.{Bool, true, false, not, _&&_, _||_}
 use mathlib.Core.List.{List}
 use Prim.Native.Nat.{ℕ, zero, suc, _+_, _-_, _*_, _/_, _%_, _<_, _≤_}
 use native.Mathlib.Omega.{arith}
 use lib.Dec.{eqb, leb, ltb}
 use lib.ListN.{length}
-use borrow.Author.Tests.{ltb-true, ltb-false, leb-true, eqb-true, le-leb, lt-ltb, eq-eqb, ne-eqb}
+use borrow.Author.Tests.{ltb-true, ltb-false, leb-true, eqb-true, eqb-false, le-leb, lt-ltb, le-ltb, eq-eqb, ne-eqb}
 use Rattle.model.specs.declared.Cell.{Cell}
 use Rattle.model.specs.declared.Checked.the-variants.{Accepted}
 use Rattle.model.specs.Word.{pick}
 use Rattle.model.specs.Circuit.{cellAt, control, memories, pastMemories, arrayAt}
-use Rattle.model.specs.NetlistFile.{wordSum, blockAt, blocksFor, countOf, finishOf, cellsAt, inFile, cellsOf, fileLengthWrong, sumFault, countWrong, headerRight, headerFault, ofArray, keeps, placed, arrayPlaced, cellFault, netChecks, netCheck, fileChecks, fileCheck}
-use Rattle.laws.specs.Refusals.Laws.{not-both, and-true, not-false, all-accept, refuse-unless, fault-unless, no-fault}
+use Rattle.model.specs.NetlistFile.{wordSum, blockAt, blocksFor, countOf, finishOf, cellsAt, inFile, cellsOf, fileLengthWrong, sumFault, countWrong, headerRight, pulseOf, pulseWrong, headerFault, ofArray, keeps, placed, arrayPlaced, cellFault, netChecks, netCheck, fileChecks, fileCheck}
+use Rattle.laws.specs.Refusals.Laws.{not-both, and-true, or-false, not-false, all-accept, refuse-unless, fault-unless, no-fault}
 use Rattle.laws.specs.Circuit.Ordered.{Ordered}
 use Rattle.laws.specs.NetlistFile.Uses.{keeps-looks}
 
@@ -97,7 +97,8 @@ pub record FilePassed (s : List ℕ) : Type 0 where
   pub lengths : fileLengthWrong s ≡ false
   pub sums : (b : ℕ) → b < length s / 512 → wordSum (blockAt s b) % 65536 ≡ 0
   pub count : countWrong (length s / 512) (countOf s) (finishOf s) ≡ false
-  pub headers : (b : ℕ) → b < length s / 512 → headerRight (countOf s) (finishOf s) b (blockAt s b) ≡ true
+  pub pulse : pulseWrong (pulseOf s) ≡ false
+  pub headers : (b : ℕ) → b < length s / 512 → headerRight (pulseOf s) (countOf s) (finishOf s) b (blockAt s b) ≡ true
   pub cells : netCheck (cellsOf s) (finishOf s) ≡ Accepted
 
 pub file-passed : (s : List ℕ) → fileCheck s ≡ Accepted → FilePassed s
@@ -105,17 +106,30 @@ unfolding fileCheck sumFault headerFault
 file-passed s e =
     let a = all-accept (fileChecks s) e in
     let m = length s / 512 in
+    let told = or-false (countWrong m (countOf s) (finishOf s)) (pulseWrong (pulseOf s)) (refuse-unless _ 11 0 (a 2)) in
     record {
       lengths = refuse-unless (fileLengthWrong s) 9 0 (a 0);
       sums = λ b l.
           let right = eqb (wordSum (blockAt s b) % 65536) 0 in
           eqb-true _ _ (not-false right (fault-unless (not right) 10 (omega arith) (no-fault (sumFault s) m (a 1) b l)));
-      count = refuse-unless (countWrong m (countOf s) (finishOf s)) 11 0 (a 2);
+      count = told .0;
+      pulse = told .1;
       headers = λ b l.
-          let right = headerRight (countOf s) (finishOf s) b (blockAt s b) in
+          let right = headerRight (pulseOf s) (countOf s) (finishOf s) b (blockAt s b) in
           not-false right (fault-unless (not right) 11 (omega arith) (no-fault (headerFault s) m (a 3) b l));
       cells = a 4;
     }
+
+-- a pulse length of 1 to 8
+pub pulse-right : (w : ℕ) → pulseWrong w ≡ false → (1 ≤ w) × (w ≤ 8)
+unfolding pulseWrong
+pulse-right w h =
+    let p = or-false (eqb w 0) (ltb 8 w) h in
+    (omega (arith, eqb-false w 0 (p .0)), ltb-false 8 w (p .1))
+
+pub right-pulse : (w : ℕ) → 1 ≤ w → w ≤ 8 → pulseWrong w ≡ false
+unfolding pulseWrong
+right-pulse w h g = rw (ne-eqb w 0 (λ e. omega arith), le-ltb 8 w g) refl
 
 -- how many cells, in how many blocks, and the finish among them
 pub count-range : (m n f : ℕ) → countWrong m n f ≡ false → (27 ≤ n) × (n ≤ 1024) × (m ≡ blocksFor n) × (f < n)

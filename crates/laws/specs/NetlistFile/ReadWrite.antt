@@ -16,14 +16,14 @@ use Rattle.model.specs.declared.Checked.the-variants.{Accepted}
 use Rattle.model.specs.declared.Written.{Written}
 use Rattle.model.specs.declared.Written.the-variants.{Done}
 use Rattle.model.specs.Refusals.{first}
-use Rattle.model.specs.NetlistFile.{cellBytes, cellFrom, inList, fileOf, countOf, finishOf, cellsOf, countWrong, blocksFor, netCheck, fileCheck}
+use Rattle.model.specs.NetlistFile.{cellBytes, cellFrom, inList, fileOf, countOf, finishOf, cellsOf, countWrong, blocksFor, netCheck, fileCheck, pulseOf, pulseWrong}
 use Rattle.model.specs.Calls.{Returned, overwrite, writing, cellsIn, writeChecks, writeCall, readChecks, readCall, writtenVerdict}
 use Rattle.model.specs.Word.{Bytes}
 use Rattle.model.specs.CircuitPromises.{SameFile}
 use Rattle.laws.specs.Refusals.Laws.{or-false, all-accept, refuse-unless}
-use Rattle.laws.specs.NetlistFile.Passed.{file-passed, count-range, count-cells, length-cells}
+use Rattle.laws.specs.NetlistFile.Passed.{file-passed, pulse-right, count-range, count-cells, length-cells}
 use Rattle.laws.specs.NetlistFile.CellBytes.{bytes-length, from-bytes, cells-are, cell-of, cells-back}
-use Rattle.laws.specs.NetlistFile.Files.{count-written, finish-written, cells-written, some-cells, file-accepted, file-back}
+use Rattle.laws.specs.NetlistFile.Files.{count-written, pulse-written, finish-written, cells-written, some-cells, file-accepted, file-back}
 
 -- A call that writes -------------------------------------------------------------------------------------------------------------------
 
@@ -81,37 +81,43 @@ cells-in-bytes cs =
 
 -- The two calls ------------------------------------------------------------------------------------------------------------------------
 
-module _ (cells forFile forCells : List ℕ) (f n g : ℕ) (bytes : Bytes cells) (done : writeCall cells f forFile .answer ≡ Done n g) where
+module _ (w : ℕ) (cells forFile forCells : List ℕ) (f n g : ℕ) (bytes : Bytes cells) (done : writeCall w cells f forFile .answer ≡ Done n g) where
   abbrev net : List Cell
   net = cellsIn cells
 
-  w : Wrote (first (writeChecks cells f forFile)) (fileOf net f) (length (fileOf net f)) f forFile n g
+  written : Wrote (first (writeChecks w cells f forFile)) (fileOf w net f) (length (fileOf w net f)) f forFile n g
   unfolding writeCall
-  w = wrote (first (writeChecks cells f forFile)) (fileOf net f) (length (fileOf net f)) f forFile n g done
+  written = wrote (first (writeChecks w cells f forFile)) (fileOf w net f) (length (fileOf w net f)) f forFile n g done
 
   counted : (length cells % 6 ≡ 0) × (countWrong (blocksFor (length net)) (length net) f ≡ false)
   counted =
       let c = countWrong (blocksFor (length net)) (length net) f in
-      let p = or-false (ltb 0 (length cells % 6)) c (refuse-unless (ltb 0 (length cells % 6) || c) 11 0 (all-accept (writeChecks cells f forFile) (w .accepted) 0)) in
+      let p = or-false (ltb 0 (length cells % 6)) c (refuse-unless (ltb 0 (length cells % 6) || c) 11 0 (all-accept (writeChecks w cells f forFile) (written .accepted) 1)) in
       (omega (arith, ltb-false 0 (length cells % 6) (p .0)), p .1)
 
-  kept : netCheck net f ≡ Accepted
-  kept = all-accept (writeChecks cells f forFile) (w .accepted) 1
+  right : pulseWrong w ≡ false
+  right = refuse-unless (pulseWrong w) 27 0 (all-accept (writeChecks w cells f forFile) (written .accepted) 0)
 
-  file-is : take n (writeCall cells f forFile .lent) ≡ fileOf net f
+  kept : netCheck net f ≡ Accepted
+  kept = all-accept (writeChecks w cells f forFile) (written .accepted) 2
+
+  file-is : take n (writeCall w cells f forFile .lent) ≡ fileOf w net f
   unfolding writeCall
   file-is =
-      ap₂ (λ (k : ℕ) (r : Returned Written). take k (r .lent)) (w .count) (w .told) ∙ take-append-seam (fileOf net f) (drop (length (fileOf net f)) forFile)
+      ap₂ (λ (k : ℕ) (r : Returned Written). take k (r .lent)) (written .count) (written .told) ∙ take-append-seam (fileOf w net f) (drop (length (fileOf w net f)) forFile)
 
-  pub read-back : length cells ≤ length forCells
-      → readCall (take n (writeCall cells f forFile .lent)) forCells ≡ record { answer = Done (length cells / 6) f; lent = overwrite cells forCells }
+  pub read-back : length cells ≤ length forCells →
+      let file = take n (writeCall w cells f forFile .lent) in
+      (readCall file forCells ≡ record { answer = Done (length cells / 6) f; lent = overwrite cells forCells }) × (pulseOf file ≡ w)
   unfolding readCall writing
   read-back room =
-      let some = some-cells net f (counted .1) kept in
+      let some = some-cells w right net f (counted .1) kept in
       let m = length-cells inList cells 0 (length cells / 6) in
-      let k : countOf (fileOf net f) ≡ length cells / 6 = count-written net f some ∙ m in
-      let r : ltb (length forCells) (6 * (length cells / 6)) ≡ false = le-ltb (length forCells) (6 * (length cells / 6)) (omega arith) in
-      rw (file-is, file-accepted net f (counted .1) kept, k, r, finish-written net f some, cells-written net f some, cells-same cells bytes (counted .0))
+      let k : countOf (fileOf w net f) ≡ length cells / 6 = count-written w net f some ∙ m in
+      let r : ltb (length forCells) (6 * (length cells / 6)) ≡ false = le-ltb (length forCells) (6 * (length cells / 6)) (omega arith) in (
+        rw (file-is, file-accepted w right net f (counted .1) kept, k, r, finish-written w net f some, cells-written w net f some, cells-same cells bytes (counted .0)),
+        ap (λ (s : List ℕ). pulseOf s) file-is ∙ pulse-written w net f some (pulse-right w right .0),
+      )
 
 module _ (file forCells forFile : List ℕ) (n f : ℕ) (bytes : Bytes file) (done : readCall file forCells .answer ≡ Done n f) where
   abbrev cs : List Cell
@@ -131,7 +137,7 @@ module _ (file forCells forFile : List ℕ) (n f : ℕ) (bytes : Bytes file) (do
       ap₂ (λ (k : ℕ) (t : Returned Written). take k (t .lent)) e (r .told) ∙ take-append-seam (cellBytes cs) (drop (length (cellBytes cs)) forCells)
 
   pub write-back : length file ≤ length forFile
-      → writeCall (take (6 * n) (readCall file forCells .lent)) f forFile ≡ record { answer = Done (length file) f; lent = overwrite file forFile }
+      → writeCall (pulseOf file) (take (6 * n) (readCall file forCells .lent)) f forFile ≡ record { answer = Done (length file) f; lent = overwrite file forFile }
   unfolding writeCall writing
   write-back room =
       let p = file-passed file accepted in
@@ -139,11 +145,11 @@ module _ (file forCells forFile : List ℕ) (n f : ℕ) (bytes : Bytes file) (do
       let blocks = count-range _ _ _ (p .count) .2 in
       let c : countWrong (blocksFor (countOf file)) (countOf file) (finishOf file) ≡ false = rw (← blocks) (p .count) in
       let room-for : ltb (length forFile) (length file) ≡ false = le-ltb _ _ room in
-      rw (cells-are-read, r .finish, cells-in-bytes cs, six, count-cells file, c, p .cells, file-back file bytes accepted, room-for)
+      rw (cells-are-read, p .pulse, r .finish, cells-in-bytes cs, six, count-cells file, c, p .cells, file-back file bytes accepted, room-for)
 
 pub same-file : SameFile
 same-file =
     record {
-      read = λ cells forFile forCells f n g y e. read-back cells forFile forCells f n g y e;
+      read = λ w cells forFile forCells f n g y e. read-back w cells forFile forCells f n g y e;
       written = λ file forCells forFile n f y e. write-back file forCells forFile n f y e;
     }

@@ -166,7 +166,7 @@ arrays-stand S w k l =
       at-start = other-placed m 0 (cell 32 0 0 0) refl (inl (omega arith));
       at-ground = other-placed m 1 (cell 33 0 0 0) refl (inl (omega arith));
       at-zero = other-placed m 2 (cell 1 0 0 0) refl (inl (omega arith));
-      at-delays = plain-placed m (delayCells S) 3 (root-delays-plain (procedures S) (callsOf S) 0 (roots S) 3 (walkAt S)) (inl (omega (arith, root-d-len (procedures S) (callsOf S) 0 (roots S) 3 (walkAt S))));
+      at-delays = plain-placed m (delayCells S) 3 (root-delays-plain (S .pulse) (procedures S) (callsOf S) 0 (roots S) 3 (walkAt S)) (inl (omega (arith, root-d-len (S .pulse) (procedures S) (callsOf S) 0 (roots S) 3 (walkAt S))));
       at-clocks = plain-placed m (clockOrs S) (clockAt S) (orsFrom-plain 35 refl (clocksOf S) (clockAt S) 0 20)
           (inl (omega (arith, orsFrom-len 35 (clocksOf S) (clockAt S) 0 20)));
       at-mems = mems-placed m (clockWires S) (dataWires S) 0 16 (memoryAt S) (omega arith);

@@ -51,34 +51,34 @@ wires-every Q y (w ∷ ws) h = go (eqb (w .0) y) (wires-every Q y ws (h .1))
     go false r = r
 
 module _ (K : ℕ → ℕ) where
-  clocks-ok : (P : Code) (s d c lim : ℕ) → d + delayCount P ≤ lim → All (HasKind K) d (delays P s d c)
+  clocks-ok : (w : ℕ) (P : Code) (s d c lim : ℕ) → d + delayCount P ≤ lim → All (HasKind K) d (delays w P s d c)
       → EveryWire (In control K lim) (clockSources P d) × EveryWire (In control K lim) (callSources P d)
   unfolding clockSources callSources delays delayCount control
-  clocks-ok ok s d c lim l h = (tt, tt)
-  clocks-ok (tick δ) s d c lim l h = (tt, tt)
-  clocks-ok (assign δ x e) s d c lim l h = (((omega arith, rw (h .0)), tt), tt)
-  clocks-ok (assignElem δ k i e) s d c lim l h = (((omega arith, rw (h .0)), tt), tt)
-  clocks-ok (seq P Q) s d c lim l h =
-      let r = split (HasKind K) d (delayCount P) (delays P s d c) (delays Q (finishWire P s d c) (d + delayCount P) (c + walkCount P)) (d-len P s d c) h in
+  clocks-ok w ok s d c lim l h = (tt, tt)
+  clocks-ok w (tick δ) s d c lim l h = (tt, tt)
+  clocks-ok w (assign δ x e) s d c lim l h = (((omega arith, rw (h .0)), tt), tt)
+  clocks-ok w (assignElem δ k i e) s d c lim l h = (((omega arith, rw (h .0)), tt), tt)
+  clocks-ok w (seq P Q) s d c lim l h =
+      let r = split (HasKind K) d (delayCount P) (delays w P s d c) (delays w Q (finishWire P s d c) (d + delayCount P) (c + walkCount P)) (d-len w P s d c) h in
       both-appended (In control K lim) (clockSources P d) (clockSources Q (d + delayCount P)) (callSources P d) (callSources Q (d + delayCount P))
-      (clocks-ok P s d c lim (omega arith) (r .0)) (clocks-ok Q (finishWire P s d c) (d + delayCount P) (c + walkCount P) lim (omega arith) (r .1))
-  clocks-ok (par P Q) s d c lim l h =
-      let r = split (HasKind K) d (delayCount P) (delays P s d c) (delays Q s (d + delayCount P) (c + walkCount P)) (d-len P s d c) h in
+      (clocks-ok w P s d c lim (omega arith) (r .0)) (clocks-ok w Q (finishWire P s d c) (d + delayCount P) (c + walkCount P) lim (omega arith) (r .1))
+  clocks-ok w (par P Q) s d c lim l h =
+      let r = split (HasKind K) d (delayCount P) (delays w P s d c) (delays w Q s (d + delayCount P) (c + walkCount P)) (d-len w P s d c) h in
       both-appended (In control K lim) (clockSources P d) (clockSources Q (d + delayCount P)) (callSources P d) (callSources Q (d + delayCount P))
-      (clocks-ok P s d c lim (omega arith) (r .0)) (clocks-ok Q s (d + delayCount P) (c + walkCount P) lim (omega arith) (r .1))
-  clocks-ok (ite δ e P Q) s d c lim l h =
+      (clocks-ok w P s d c lim (omega arith) (r .0)) (clocks-ok w Q s (d + delayCount P) (c + walkCount P) lim (omega arith) (r .1))
+  clocks-ok w (ite δ e P Q) s d c lim l h =
       let p = c + exprCount e in
       let dP = d + ifDelayCount δ in
       let cP = p + 1 + 1 in
-      let o = split (HasKind K) d (ifDelayCount δ) (ifDelayCells δ s) (delays P p dP cP ++ delays Q (p + 1) (dP + delayCount P) (cP + walkCount P)) (own-len δ s) h in
-      let r = split (HasKind K) dP (delayCount P) (delays P p dP cP) (delays Q (p + 1) (dP + delayCount P) (cP + walkCount P)) (d-len P p dP cP) (o .1) in
+      let o = split (HasKind K) d (ifDelayCount δ) (ifDelayCells δ s) (delays w P p dP cP ++ delays w Q (p + 1) (dP + delayCount P) (cP + walkCount P)) (own-len δ s) h in
+      let r = split (HasKind K) dP (delayCount P) (delays w P p dP cP) (delays w Q (p + 1) (dP + delayCount P) (cP + walkCount P)) (d-len w P p dP cP) (o .1) in
       both-appended (In control K lim) (clockSources P dP) (clockSources Q (dP + delayCount P)) (callSources P dP) (callSources Q (dP + delayCount P))
-      (clocks-ok P p dP cP lim (omega arith) (r .0)) (clocks-ok Q (p + 1) (dP + delayCount P) (cP + walkCount P) lim (omega arith) (r .1))
-  clocks-ok (while δ e P) s d c lim l h = clocks-ok P (c + exprCount e) (d + 1) (c + exprCount e + 1 + 1) lim (omega arith) (h .1)
-  clocks-ok (repeat δ e P) s d c lim l h = clocks-ok P (c + exprCount e + 1 + 1) (d + 1) (c + exprCount e + 1 + 1 + 1) lim (omega arith) (h .1)
-  clocks-ok (loop δ P) s d c lim l h = clocks-ok P c (d + 1) (c + 1) lim (omega arith) (h .1)
-  clocks-ok exit s d c lim l h = (tt, tt)
-  clocks-ok (call δ p) s d c lim l h = (tt, ((omega arith, rw (h .0)), tt))
+      (clocks-ok w P p dP cP lim (omega arith) (r .0)) (clocks-ok w Q (p + 1) (dP + delayCount P) (cP + walkCount P) lim (omega arith) (r .1))
+  clocks-ok w (while δ e P) s d c lim l h = clocks-ok w P (c + exprCount e) (d + 1) (c + exprCount e + 1 + 1) lim (omega arith) (h .1)
+  clocks-ok w (repeat δ e P) s d c lim l h = clocks-ok w P (c + exprCount e + 1 + 1) (d + 1) (c + exprCount e + 1 + 1 + 1) lim (omega arith) (h .1)
+  clocks-ok w (loop δ P) s d c lim l h = clocks-ok w P c (d + 1) (c + 1) lim (omega arith) (h .1)
+  clocks-ok w exit s d c lim l h = (tt, tt)
+  clocks-ok w (call δ p) s d c lim l h = (tt, ((omega arith, rw (h .0)), tt))
 
   datas-ok : (M : ℕ) (F : ℕ → ℕ) (P : Code) (s d c lim : ℕ) → c + walkCount P ≤ lim → All (HasKind K) c (walk M F P s d c)
       → EveryWire (In word K lim) (dataSources P c) × EveryWire (In word K lim) (addressSources P c)
@@ -195,19 +195,19 @@ module _ (K : ℕ → ℕ) where
       rw q at (mems-kind ks ds (x + 1) n (k + 1) (h .1) i (le-of-suc-le-suc l))
 
   -- roots: the wires that they give, and their cells
-  root-clocks-ok : (z : ℕ) (cs : List Source) (r : ℕ) (Ps : List Code) (d c lim : ℕ) → d + rootDelayCount Ps ≤ lim
-      → All (HasKind K) d (rootDelays z cs r Ps d c)
+  root-clocks-ok : (w z : ℕ) (cs : List Source) (r : ℕ) (Ps : List Code) (d c lim : ℕ) → d + rootDelayCount Ps ≤ lim
+      → All (HasKind K) d (rootDelays w z cs r Ps d c)
       → EveryWire (In control K lim) (rootSources clockSources Ps d) × EveryWire (In control K lim) (rootSources callSources Ps d)
   unfolding rootDelays rootDelayCount rootSources
-  root-clocks-ok z cs r [] d c lim l h = (tt, tt)
-  root-clocks-ok z cs r (P ∷ Ps) d c lim l h =
+  root-clocks-ok w z cs r [] d c lim l h = (tt, tt)
+  root-clocks-ok w z cs r (P ∷ Ps) d c lim l h =
       let s = rootStart z cs r c in
       let c₀ = rootWalk cs r c in
       let q =
-      split (HasKind K) d (delayCount P) (delays P s d c₀) (rootDelays z cs (r + 1) Ps (d + delayCount P) (pastRoot cs r P c)) (d-len P s d c₀) h in
+      split (HasKind K) d (delayCount P) (delays w P s d c₀) (rootDelays w z cs (r + 1) Ps (d + delayCount P) (pastRoot cs r P c)) (d-len w P s d c₀) h in
       both-appended (In control K lim) (clockSources P d) (rootSources clockSources Ps (d + delayCount P)) (callSources P d)
-      (rootSources callSources Ps (d + delayCount P)) (clocks-ok P s d c₀ lim (omega arith) (q .0))
-      (root-clocks-ok z cs (r + 1) Ps (d + delayCount P) (pastRoot cs r P c) lim (omega arith) (q .1))
+      (rootSources callSources Ps (d + delayCount P)) (clocks-ok w P s d c₀ lim (omega arith) (q .0))
+      (root-clocks-ok w z cs (r + 1) Ps (d + delayCount P) (pastRoot cs r P c) lim (omega arith) (q .1))
 
   root-datas-ok : (M : ℕ) (F : ℕ → ℕ) (z : ℕ) (cs : List Source) (r : ℕ) (Ps : List Code) (d c lim : ℕ) → c + rootWalkCount cs r Ps ≤ lim
       → All (HasKind K) c (rootWalks M F z cs r Ps d c)
@@ -228,44 +228,44 @@ module _ (K : ℕ → ℕ) where
 
   -- F p is the finish of body p
   module _ (n M : ℕ) (mem : (x : ℕ) → x < 16 → K (M + x) ≡ 40) (arr : (k : ℕ) → k < 4 → K (arrayCell M k) ≡ 42) (start : K 0 ≡ 32) (ground : K 1 ≡ 33)
-      (F : ℕ → ℕ) (z : ℕ) (cs : List Source) (lim : ℕ) (calls : EveryWire (In control K lim) cs) (two : 2 ≤ lim) where
+      (w : ℕ) (pos : 1 ≤ w) (low : w ≤ 255) (F : ℕ → ℕ) (z : ℕ) (cs : List Source) (lim : ℕ) (calls : EveryWire (In control K lim) cs) (two : 2 ≤ lim) where
     idle-ok : (r : ℕ) → In control K lim (idleStart z r)
     unfolding control
     idle-ok r = by-pick (In control K lim) (eqb r z) 0 1 (omega arith, rw start) (omega arith, rw ground)
 
     abbrev After : ℕ → List Code → ℕ → ℕ → Type 0
     After r Ps d c =
-        All (Ok K n) d (rootDelays z cs r Ps d c) × All (Ok K n) c (rootWalks M F z cs r Ps d c)
+        All (Ok K n) d (rootDelays w z cs r Ps d c) × All (Ok K n) c (rootWalks M F z cs r Ps d c)
         × ((j : ℕ) → j < length Ps → In control K (c + rootWalkCount cs r Ps) (F (r + j)))
 
     roots-ok : (r : ℕ) (Ps : List Code) (d c : ℕ) → EveryRoot Numberable r Ps → lim ≤ c → M + 24 ≤ c → d + rootDelayCount Ps ≤ c
         → c + rootWalkCount cs r Ps ≤ n → ((p : ℕ) → p < r → In control K c (F p))
         → ((j : ℕ) → j < length Ps → F (r + j) ≡ getD (rootFinishes z cs r Ps d c) j 1)
-        → All (HasKind K) d (rootDelays z cs r Ps d c) → All (HasKind K) c (rootWalks M F z cs r Ps d c) → After r Ps d c
+        → All (HasKind K) d (rootDelays w z cs r Ps d c) → All (HasKind K) c (rootWalks M F z cs r Ps d c) → After r Ps d c
     unfolding rootDelays rootWalks rootFinishes rootDelayCount rootWalkCount control shape cellTable stands
-    roots-ok r [] d c w l lM ld lc fin is hd hw = (tt, tt, λ j o. absurd (omega arith))
-    roots-ok r (P ∷ Ps) d c w l lM ld lc fin is hd hw =
+    roots-ok r [] d c well l lM ld lc fin is hd hw = (tt, tt, λ j o. absurd (omega arith))
+    roots-ok r (P ∷ Ps) d c well l lM ld lc fin is hd hw =
         let ws = wiresOf r cs in
         let s = rootStart z cs r c in
         let c₀ = rootWalk cs r c in
         let d₁ = d + delayCount P in
         let c₁ = pastRoot cs r P c in
-        let ds = rootDelays z cs (r + 1) Ps d₁ c₁ in
+        let ds = rootDelays w z cs (r + 1) Ps d₁ c₁ in
         let rest = rootWalks M F z cs (r + 1) Ps d₁ c₁ in
-        let qd = split (HasKind K) d (delayCount P) (delays P s d c₀) ds (d-len P s d c₀) hd in
+        let qd = split (HasKind K) d (delayCount P) (delays w P s d c₀) ds (d-len w P s d c₀) hd in
         let qo = split (HasKind K) c (orCount ws) (ors 35 c ws) (walk M F P s d c₀ ++ rest) (ors-len 35 c ws) hw in
         let qw = split (HasKind K) c₀ (walkCount P) (walk M F P s d c₀) rest (w-len M F P s d c₀) (qo .1) in
         let io =
         ors-ok K n 35 control refl (λ k a b i j. (refl, (refl, i, j))) lim (idleStart z r) c ws l (idle-ok r) (wires-every (In control K lim) r cs calls)
         (qo .0) in
         let iP =
-        p-ok K n M mem arr ground c₀ (omega arith) F r (λ p o. let f = fin p o in (omega (arith, f .0), f .1)) P (w .0 .0) (w .0 .1) (w .0 .2) s d c₀ (io .1)
+        p-ok K n M mem arr ground c₀ (omega arith) w pos low F r (λ p o. let f = fin p o in (omega (arith, f .0), f .1)) P (well .0 .0) (well .0 .1) (well .0 .2) s d c₀ (io .1)
         (omega arith) (omega arith) (omega arith) (qd .0) (qw .0) in
         let here : F r ≡ finishWire P s d c₀ = rw add-zero at (is 0 (omega arith)) in
         let last : In control K c₁ (F r) = rw here (iP .2) in
         let next : (j : ℕ) → r + 1 + j ≡ r + suc j = λ j. omega arith in
         let iR =
-        roots-ok (r + 1) Ps d₁ c₁ (w .1) (omega arith) (omega arith) (omega arith) (omega arith)
+        roots-ok (r + 1) Ps d₁ c₁ (well .1) (omega arith) (omega arith) (omega arith) (omega arith)
         (λ p o.
         by-le r p
         (λ y.
@@ -273,7 +273,7 @@ module _ (K : ℕ → ℕ) where
         subst (λ (p : ℕ). In control K c₁ (F p)) e last)
         (λ y. let f = fin p y in (omega (arith, f .0), f .1)))
         (λ j o. rw (next j) (is (suc j) (suc-le-suc o))) (qd .1) (qw .1) in (
-          join (Ok K n) d (delayCount P) (delays P s d c₀) ds (d-len P s d c₀) (iP .0) (iR .0),
+          join (Ok K n) d (delayCount P) (delays w P s d c₀) ds (d-len w P s d c₀) (iP .0) (iR .0),
           join (Ok K n) c (orCount ws) (ors 35 c ws) (walk M F P s d c₀ ++ rest) (ors-len 35 c ws) (io .0)
               (join (Ok K n) c₀ (walkCount P) (walk M F P s d c₀) rest (w-len M F P s d c₀) (iP .1) (iR .1)),
           ends (last .0) (last .1) (iR .2),
@@ -292,7 +292,7 @@ module _ (K : ℕ → ℕ) where
 
 -- ---- the rules
 
-module _ (S : Program) (w : EveryRoot Numberable 0 (roots S)) where
+module _ (S : Program) (pos : 1 ≤ S .pulse) (low : S .pulse ≤ 255) (w : EveryRoot Numberable 0 (roots S)) where
   K : ℕ → ℕ
   K k = kinds (netlist S) k
 
@@ -314,14 +314,14 @@ module _ (S : Program) (w : EveryRoot Numberable 0 (roots S)) where
   total = net-length S
 
   wires : EveryWire (In control K (clockAt S)) (clocksOf S) × EveryWire (In control K (clockAt S)) (callsOf S)
-  wires = root-clocks-ok K (procedures S) (callsOf S) 0 (roots S) 3 (walkAt S) (clockAt S) (omega arith) (has .at-delays)
+  wires = root-clocks-ok K (S .pulse) (procedures S) (callsOf S) 0 (roots S) 3 (walkAt S) (clockAt S) (omega arith) (has .at-delays)
 
   body : All (Ok K n) 3 (delayCells S) × All (Ok K n) (walkAt S) (walkCells S)
       × ((j : ℕ) → j < length (roots S) → In control K (dataAt S) (finishOfRoot S j))
   unfolding finishOfRoot
   body =
       let r =
-      roots-ok K n (memoryAt S) mem arr (has .at-start) (has .at-ground) (finishOfRoot S) (procedures S) (callsOf S) (clockAt S) (wires .1) (omega arith) 0
+      roots-ok K n (memoryAt S) mem arr (has .at-start) (has .at-ground) (S .pulse) pos low (finishOfRoot S) (procedures S) (callsOf S) (clockAt S) (wires .1) (omega arith) 0
       (roots S) 3 (walkAt S) w (omega arith) (omega arith) (omega arith) (omega (arith, total)) (λ p o. absurd (omega arith)) (λ j o. rw zero-add) (has .at-delays)
       (has .at-walk) in
       (r .0, r .1, λ j o. rw zero-add at (r .2 j o))
@@ -385,7 +385,7 @@ module _ (S : Program) (w : EveryRoot Numberable 0 (roots S)) where
 
 -- ---- refusals 11 and 12
 
-module _ (S : Program) (w : EveryRoot Numberable 0 (roots S)) where
+module _ (S : Program) (pos : 1 ≤ S .pulse) (low : S .pulse ≤ 255) (w : EveryRoot Numberable 0 (roots S)) where
   placed-ok : (k : ℕ) → placed k (cellAt (netlist S) k) ≡ true
   unfolding placed netlist
   placed-ok zero = refl
@@ -397,17 +397,17 @@ module _ (S : Program) (w : EveryRoot Numberable 0 (roots S)) where
   faultless-at : (k : ℕ) → k < length (netlist S) → cellFault (netlist S) k ≡ 0
   unfolding cellFault
   faultless-at k l =
-      let r = cells-ok S w k l in
+      let r = cells-ok S pos low w k l in
       rw (placed-ok k, past-is S, arrays-stand S w k l, looks-keeps (netlist S) k (cellAt (netlist S) k) (r .0) (r .1))
 
   pub net-accepted : netCheck (netlist S) (finish S) ≡ Accepted
   unfolding netCheck
   net-accepted =
       let c = faultless (cellFault (netlist S)) 0 (length (netlist S)) (λ j l h. faultless-at j (omega arith)) in
-      rw (c, eq-eqb (memories (netlist S)) 16 (sixteen S w), past-is S, le-ltb (length (netlist S)) (arraysAt S + 8) (omega (arith, net-length S)), finish-ok S w .1)
+      rw (c, eq-eqb (memories (netlist S)) 16 (sixteen S w), past-is S, le-ltb (length (netlist S)) (arraysAt S + 8) (omega (arith, net-length S)), finish-ok S pos low w .1)
 
   pub count-right : rootNodes (roots S) ≤ 200 → countWrong (blocksFor (length (netlist S))) (length (netlist S)) (finish S) ≡ false
   unfolding countWrong
   count-right l =
       let n = length (netlist S) in
-      rw (le-leb 27 n (omega (arith, net-length S)), le-leb n 1024 (omega (arith, size S)), eq-eqb (blocksFor n) (blocksFor n) refl, lt-ltb (finish S) n (finish-ok S w .0))
+      rw (le-leb 27 n (omega (arith, net-length S)), le-leb n 1024 (omega (arith, size S)), eq-eqb (blocksFor n) (blocksFor n) refl, lt-ltb (finish S) n (finish-ok S pos low w .0))

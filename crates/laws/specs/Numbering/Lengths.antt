@@ -31,26 +31,26 @@ unfolding ifDelayCells ifDelayCount
 own-len zero s = refl
 own-len (suc δ) s = refl
 
-pub d-len : (P : Code) (s d c : ℕ) → length (delays P s d c) ≡ delayCount P
+pub d-len : (w : ℕ) (P : Code) (s d c : ℕ) → length (delays w P s d c) ≡ delayCount P
 unfolding delays delayCount
-d-len ok s d c = refl
-d-len (tick δ) s d c = refl
-d-len (assign δ x e) s d c = refl
-d-len (assignElem δ k i e) s d c = refl
-d-len (seq P Q) s d c = simp (length-append, d-len P s d c, d-len Q (finishWire P s d c) (d + delayCount P) (c + walkCount P))
-d-len (par P Q) s d c = simp (length-append, d-len P s d c, d-len Q s (d + delayCount P) (c + walkCount P))
-d-len (ite δ e P Q) s d c =
+d-len w ok s d c = refl
+d-len w (tick δ) s d c = refl
+d-len w (assign δ x e) s d c = refl
+d-len w (assignElem δ k i e) s d c = refl
+d-len w (seq P Q) s d c = simp (length-append, d-len w P s d c, d-len w Q (finishWire P s d c) (d + delayCount P) (c + walkCount P))
+d-len w (par P Q) s d c = simp (length-append, d-len w P s d c, d-len w Q s (d + delayCount P) (c + walkCount P))
+d-len w (ite δ e P Q) s d c =
     simp (
       length-append,
       own-len,
-      d-len P (c + exprCount e) (d + ifDelayCount δ) (c + exprCount e + 1 + 1),
-      d-len Q (c + exprCount e + 1) (d + ifDelayCount δ + delayCount P) (c + exprCount e + 1 + 1 + walkCount P),
+      d-len w P (c + exprCount e) (d + ifDelayCount δ) (c + exprCount e + 1 + 1),
+      d-len w Q (c + exprCount e + 1) (d + ifDelayCount δ + delayCount P) (c + exprCount e + 1 + 1 + walkCount P),
     )
-d-len (while δ e P) s d c = rw (d-len P (c + exprCount e) (d + 1) (c + exprCount e + 1 + 1)) (omega arith)
-d-len (repeat δ e P) s d c = rw (d-len P (c + exprCount e + 1 + 1) (d + 1) (c + exprCount e + 1 + 1 + 1)) (omega arith)
-d-len (loop δ P) s d c = rw (d-len P c (d + 1) (c + 1)) (omega arith)
-d-len exit s d c = refl
-d-len (call δ p) s d c = refl
+d-len w (while δ e P) s d c = rw (d-len w P (c + exprCount e) (d + 1) (c + exprCount e + 1 + 1)) (omega arith)
+d-len w (repeat δ e P) s d c = rw (d-len w P (c + exprCount e + 1 + 1) (d + 1) (c + exprCount e + 1 + 1 + 1)) (omega arith)
+d-len w (loop δ P) s d c = rw (d-len w P c (d + 1) (c + 1)) (omega arith)
+d-len w exit s d c = refl
+d-len w (call δ p) s d c = refl
 
 -- the exits, and the ors that join them
 pub x-len : (P : Code) (s d c : ℕ) → length (exitWires P s d c) ≡ exitCount P
@@ -105,14 +105,14 @@ w-len M F exit s d c = refl
 w-len M F (call δ p) s d c = refl
 
 -- of several roots
-pub root-d-len : (z : ℕ) (cs : List Source) (r : ℕ) (Ps : List Code) (d c : ℕ) → length (rootDelays z cs r Ps d c) ≡ rootDelayCount Ps
+pub root-d-len : (w z : ℕ) (cs : List Source) (r : ℕ) (Ps : List Code) (d c : ℕ) → length (rootDelays w z cs r Ps d c) ≡ rootDelayCount Ps
 unfolding rootDelays rootDelayCount
-root-d-len z cs r [] d c = refl
-root-d-len z cs r (P ∷ Ps) d c =
+root-d-len w z cs r [] d c = refl
+root-d-len w z cs r (P ∷ Ps) d c =
     simp (
       length-append,
-      d-len P (rootStart z cs r c) d (rootWalk cs r c),
-      root-d-len z cs (r + 1) Ps (d + delayCount P) (pastRoot cs r P c),
+      d-len w P (rootStart z cs r c) d (rootWalk cs r c),
+      root-d-len w z cs (r + 1) Ps (d + delayCount P) (pastRoot cs r P c),
     )
 
 pub root-w-len : (M : ℕ) (F : ℕ → ℕ) (z : ℕ) (cs : List Source) (r : ℕ) (Ps : List Code) (d c : ℕ)

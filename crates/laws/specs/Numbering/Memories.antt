@@ -55,35 +55,35 @@ unfolding plain ifDelayCells
 own-plain zero s = refl
 own-plain (suc δ) s = refl
 
-pub delays-plain : (P : Code) (s d c : ℕ) → plain (delays P s d c) ≡ true
+pub delays-plain : (w : ℕ) (P : Code) (s d c : ℕ) → plain (delays w P s d c) ≡ true
 unfolding plain delays
-delays-plain ok s d c = refl
-delays-plain (tick δ) s d c = refl
-delays-plain (assign δ x e) s d c = refl
-delays-plain (assignElem δ k i e) s d c = refl
-delays-plain (seq P Q) s d c = simp (plain-append, delays-plain P s d c, delays-plain Q (finishWire P s d c) (d + delayCount P) (c + walkCount P))
-delays-plain (par P Q) s d c = simp (plain-append, delays-plain P s d c, delays-plain Q s (d + delayCount P) (c + walkCount P))
-delays-plain (ite δ e P Q) s d c =
+delays-plain w ok s d c = refl
+delays-plain w (tick δ) s d c = refl
+delays-plain w (assign δ x e) s d c = refl
+delays-plain w (assignElem δ k i e) s d c = refl
+delays-plain w (seq P Q) s d c = simp (plain-append, delays-plain w P s d c, delays-plain w Q (finishWire P s d c) (d + delayCount P) (c + walkCount P))
+delays-plain w (par P Q) s d c = simp (plain-append, delays-plain w P s d c, delays-plain w Q s (d + delayCount P) (c + walkCount P))
+delays-plain w (ite δ e P Q) s d c =
     simp (
       plain-append,
       own-plain,
-      delays-plain P (c + exprCount e) (d + ifDelayCount δ) (c + exprCount e + 1 + 1),
-      delays-plain Q (c + exprCount e + 1) (d + ifDelayCount δ + delayCount P) (c + exprCount e + 1 + 1 + walkCount P),
+      delays-plain w P (c + exprCount e) (d + ifDelayCount δ) (c + exprCount e + 1 + 1),
+      delays-plain w Q (c + exprCount e + 1) (d + ifDelayCount δ + delayCount P) (c + exprCount e + 1 + 1 + walkCount P),
     )
-delays-plain (while δ e P) s d c = rw (delays-plain P (c + exprCount e) (d + 1) (c + exprCount e + 1 + 1))
-delays-plain (repeat δ e P) s d c = rw (delays-plain P (c + exprCount e + 1 + 1) (d + 1) (c + exprCount e + 1 + 1 + 1))
-delays-plain (loop δ P) s d c = rw (delays-plain P c (d + 1) (c + 1))
-delays-plain exit s d c = refl
-delays-plain (call δ p) s d c = refl
+delays-plain w (while δ e P) s d c = rw (delays-plain w P (c + exprCount e) (d + 1) (c + exprCount e + 1 + 1))
+delays-plain w (repeat δ e P) s d c = rw (delays-plain w P (c + exprCount e + 1 + 1) (d + 1) (c + exprCount e + 1 + 1 + 1))
+delays-plain w (loop δ P) s d c = rw (delays-plain w P c (d + 1) (c + 1))
+delays-plain w exit s d c = refl
+delays-plain w (call δ p) s d c = refl
 
-pub root-delays-plain : (z : ℕ) (cs : List Source) (r : ℕ) (Ps : List Code) (d c : ℕ) → plain (rootDelays z cs r Ps d c) ≡ true
+pub root-delays-plain : (w z : ℕ) (cs : List Source) (r : ℕ) (Ps : List Code) (d c : ℕ) → plain (rootDelays w z cs r Ps d c) ≡ true
 unfolding plain rootDelays
-root-delays-plain z cs r [] d c = refl
-root-delays-plain z cs r (P ∷ Ps) d c =
+root-delays-plain w z cs r [] d c = refl
+root-delays-plain w z cs r (P ∷ Ps) d c =
     simp (
       plain-append,
-      delays-plain P (rootStart z cs r c) d (rootWalk cs r c),
-      root-delays-plain z cs (r + 1) Ps (d + delayCount P) (pastRoot cs r P c),
+      delays-plain w P (rootStart z cs r c) d (rootWalk cs r c),
+      root-delays-plain w z cs (r + 1) Ps (d + delayCount P) (pastRoot cs r P c),
     )
 
 module _ (kind : ℕ) (other : plainKind kind ≡ true) where

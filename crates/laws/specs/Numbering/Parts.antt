@@ -45,7 +45,7 @@ net-length S = simp (length-append, root-d-len, root-w-len, orsFrom-len, mems-le
 
 module _ (S : Program) where
   abbrev pub delayCells : List Cell
-  delayCells = rootDelays (procedures S) (callsOf S) 0 (roots S) 3 (walkAt S)
+  delayCells = rootDelays (S .pulse) (procedures S) (callsOf S) 0 (roots S) 3 (walkAt S)
 
   abbrev pub clockOrs : List Cell
   clockOrs = orsFrom 35 (clocksOf S) (clockAt S) 0 20
@@ -98,7 +98,7 @@ module _ (R : ℕ → Cell → Type 0) (S : Program) where
   pub lay : All R 0 (netlist S) → Laid R S
   unfolding netlist
   lay h =
-      let r₁ = split R 3 (rootDelayCount (roots S)) (delayCells S) (fromClocks S) (root-d-len (procedures S) (callsOf S) 0 (roots S) 3 (walkAt S)) (h .1 .1 .1) in
+      let r₁ = split R 3 (rootDelayCount (roots S)) (delayCells S) (fromClocks S) (root-d-len (S .pulse) (procedures S) (callsOf S) 0 (roots S) 3 (walkAt S)) (h .1 .1 .1) in
       let r₂ = split R (clockAt S) (orCountFrom (clocksOf S) 0 20) (clockOrs S) (fromMemories S) (orsFrom-len 35 (clocksOf S) (clockAt S) 0 20) (r₁ .1) in
       let r₃ = split R (memoryAt S) 16 (memoryCells S) (fromArrays S) (mems-len (clockWires S) (dataWires S) 0 16) (r₂ .1) in
       let r₄ = split R (arraysAt S) 8 (arrayCells S) (fromWalk S) (arrays-len (clockWires S) (dataWires S) (addressWires S) 0 4) (r₃ .1) in
@@ -125,5 +125,5 @@ module _ (R : ℕ → Cell → Type 0) (S : Program) where
       let r₄ = join R (arraysAt S) 8 (arrayCells S) (fromWalk S) (arrays-len (clockWires S) (dataWires S) (addressWires S) 0 4) (r .at-arrays) r₅ in
       let r₃ = join R (memoryAt S) 16 (memoryCells S) (fromArrays S) (mems-len (clockWires S) (dataWires S) 0 16) (r .at-mems) r₄ in
       let r₂ = join R (clockAt S) (orCountFrom (clocksOf S) 0 20) (clockOrs S) (fromMemories S) (orsFrom-len 35 (clocksOf S) (clockAt S) 0 20) (r .at-clocks) r₃ in
-      let r₁ = join R 3 (rootDelayCount (roots S)) (delayCells S) (fromClocks S) (root-d-len (procedures S) (callsOf S) 0 (roots S) 3 (walkAt S)) (r .at-delays) r₂ in
+      let r₁ = join R 3 (rootDelayCount (roots S)) (delayCells S) (fromClocks S) (root-d-len (S .pulse) (procedures S) (callsOf S) 0 (roots S) 3 (walkAt S)) (r .at-delays) r₂ in
       (r .at-start, (r .at-ground, (r .at-zero, r₁)))

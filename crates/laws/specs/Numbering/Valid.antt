@@ -109,33 +109,33 @@ module _ (K : ℕ → ℕ) (n M : ℕ) (mem : (x : ℕ) → x < 16 → K (M + x)
   pulse-ok zero s d c z i l l′ h = (tt, i)
   pulse-ok (suc δ) s d c z i l l′ h = (((refl, ((omega arith, z), (omega arith, i .1), refl)), tt), (omega arith, rw (h .0)))
 
-  -- a statement's cells, its finish and the starts of its exits; F p is the finish of body p, and it calls the bodies below r
-  module _ (F : ℕ → ℕ) (r : ℕ) (fin : (p : ℕ) → p < r → In control K top (F p)) where
+  -- a statement's cells, its finish and the starts of its exits, with pulses of w; F p is the finish of body p, and it calls the bodies below r
+  module _ (w : ℕ) (pos : 1 ≤ w) (low : w ≤ 255) (F : ℕ → ℕ) (r : ℕ) (fin : (p : ℕ) → p < r → In control K top (F p)) where
     pub p-ok : (P : Code) → Formed P → Low P → Earlier r P → (s d c : ℕ) → In control K c s → top ≤ c → d + delayCount P ≤ c → c + walkCount P ≤ n
-        → All (HasKind K) d (delays P s d c) → All (HasKind K) c (walk M F P s d c)
-        → All (Ok K n) d (delays P s d c) × All (Ok K n) c (walk M F P s d c) × In control K (c + walkCount P) (finishWire P s d c)
+        → All (HasKind K) d (delays w P s d c) → All (HasKind K) c (walk M F P s d c)
+        → All (Ok K n) d (delays w P s d c) × All (Ok K n) c (walk M F P s d c) × In control K (c + walkCount P) (finishWire P s d c)
         × Every (In control K (c + walkCount P)) (exitWires P s d c)
     unfolding delays walk finishWire exitWires delayCount walkCount shape cellTable stands control
-    p-ok ok w z v s d c i lM ld lc hd hw = (tt, tt, (omega arith, i .1), tt)
-    p-ok (tick δ) w z v s d c i lM ld lc hd hw = (((refl, ((z .0, z .1), (omega arith, i .1), refl)), tt), tt, (omega arith, rw (hd .0)), tt)
-    p-ok (assign δ x e) w z v s d c i lM ld lc hd hw =
+    p-ok ok well z v s d c i lM ld lc hd hw = (tt, tt, (omega arith, i .1), tt)
+    p-ok (tick δ) well z v s d c i lM ld lc hd hw = (((refl, ((z .0, z .1), (omega arith, i .1), refl)), tt), tt, (omega arith, rw (hd .0)), tt)
+    p-ok (assign δ x e) well z v s d c i lM ld lc hd hw =
         let o = cell 41 0 d (exprWire M e c) in
         let r = split (HasKind K) c (exprCount e) (exprCells M e c) (o ∷ []) (e-len M e c) hw in
-        let ie = e-ok e (w .2) c lM (r .0) in (
-          ((refl, ((z .0 .0, z .0 .1), (omega arith, i .1), refl)), ((refl, ((omega arith, omega arith), (omega arith, rw (hd .0)), refl)), tt)),
+        let ie = e-ok e (well .2) c lM (r .0) in (
+          ((refl, ((z .0 .0, z .0 .1), (omega arith, i .1), refl)), ((refl, ((pos, low), (omega arith, rw (hd .0)), refl)), tt)),
           join (Ok K n) c (exprCount e) (exprCells M e c) (o ∷ []) (e-len M e c) (ie .0) ((refl, (refl, (omega arith, rw (hd .0)), ie .1)), tt),
           (omega arith, rw (hd .1 .0)),
           tt,
         )
-    p-ok (assignElem δ k u e) w z v s d c i lM ld lc hd hw =
+    p-ok (assignElem δ k u e) well z v s d c i lM ld lc hd hw =
         let ce = c + exprCount u in
         let o = cell 41 0 d (exprWire M e ce) in
         let o′ = cell 41 0 d (exprWire M u c) in
         let ru = split (HasKind K) c (exprCount u) (exprCells M u c) (exprCells M e ce ++ (o ∷ (o′ ∷ []))) (e-len M u c) hw in
         let re = split (HasKind K) ce (exprCount e) (exprCells M e ce) (o ∷ (o′ ∷ [])) (e-len M e ce) (ru .1) in
-        let iu = e-ok u (w .2) c lM (ru .0) in
-        let ie = e-ok e (w .3) ce (omega arith) (re .0) in (
-          ((refl, ((z .0 .0, z .0 .1), (omega arith, i .1), refl)), ((refl, ((omega arith, omega arith), (omega arith, rw (hd .0)), refl)), tt)),
+        let iu = e-ok u (well .2) c lM (ru .0) in
+        let ie = e-ok e (well .3) ce (omega arith) (re .0) in (
+          ((refl, ((z .0 .0, z .0 .1), (omega arith, i .1), refl)), ((refl, ((pos, low), (omega arith, rw (hd .0)), refl)), tt)),
           join (Ok K n) c (exprCount u) (exprCells M u c) (exprCells M e ce ++ (o ∷ (o′ ∷ []))) (e-len M u c) (iu .0)
               (join (Ok K n) ce (exprCount e) (exprCells M e ce) (o ∷ (o′ ∷ [])) (e-len M e ce) (ie .0) (
                 (refl, (refl, (omega arith, rw (hd .0)), ie .1)),
@@ -144,31 +144,31 @@ module _ (K : ℕ → ℕ) (n M : ℕ) (mem : (x : ℕ) → x < 16 → K (M + x)
           (omega arith, rw (hd .1 .0)),
           tt,
         )
-    p-ok (seq P Q) w z v s d c i lM ld lc hd hw =
+    p-ok (seq P Q) well z v s d c i lM ld lc hd hw =
         let g = finishWire P s d c in
         let dQ = d + delayCount P in
         let cQ = c + walkCount P in
-        let rd = split (HasKind K) d (delayCount P) (delays P s d c) (delays Q g dQ cQ) (d-len P s d c) hd in
+        let rd = split (HasKind K) d (delayCount P) (delays w P s d c) (delays w Q g dQ cQ) (d-len w P s d c) hd in
         let rc = split (HasKind K) c (walkCount P) (walk M F P s d c) (walk M F Q g dQ cQ) (w-len M F P s d c) hw in
-        let iP = p-ok P (w .0) (z .0) (v .0) s d c i lM (omega arith) (omega arith) (rd .0) (rc .0) in
-        let iQ = p-ok Q (w .1) (z .1) (v .1) g dQ cQ (iP .2) (omega arith) (omega arith) (omega arith) (rd .1) (rc .1) in (
-          join (Ok K n) d (delayCount P) (delays P s d c) (delays Q g dQ cQ) (d-len P s d c) (iP .0) (iQ .0),
+        let iP = p-ok P (well .0) (z .0) (v .0) s d c i lM (omega arith) (omega arith) (rd .0) (rc .0) in
+        let iQ = p-ok Q (well .1) (z .1) (v .1) g dQ cQ (iP .2) (omega arith) (omega arith) (omega arith) (rd .1) (rc .1) in (
+          join (Ok K n) d (delayCount P) (delays w P s d c) (delays w Q g dQ cQ) (d-len w P s d c) (iP .0) (iQ .0),
           join (Ok K n) c (walkCount P) (walk M F P s d c) (walk M F Q g dQ cQ) (w-len M F P s d c) (iP .1) (iQ .1),
           (omega arith, iQ .2 .1),
           every-append (In control K (c + (walkCount P + walkCount Q))) (exitWires P s d c) (exitWires Q g dQ cQ)
               (widen K (c + walkCount P) (c + (walkCount P + walkCount Q)) (omega arith) (exitWires P s d c) (iP .3))
               (widen K (cQ + walkCount Q) (c + (walkCount P + walkCount Q)) (omega arith) (exitWires Q g dQ cQ) (iQ .3)),
         )
-    p-ok (par P Q) w z v s d c i lM ld lc hd hw =
+    p-ok (par P Q) well z v s d c i lM ld lc hd hw =
         let dQ = d + delayCount P in
         let cQ = c + walkCount P in
         let o = cell 38 0 (finishWire P s d c) (finishWire Q s dQ cQ) in
-        let rd = split (HasKind K) d (delayCount P) (delays P s d c) (delays Q s dQ cQ) (d-len P s d c) hd in
+        let rd = split (HasKind K) d (delayCount P) (delays w P s d c) (delays w Q s dQ cQ) (d-len w P s d c) hd in
         let rc = split (HasKind K) c (walkCount P) (walk M F P s d c) (walk M F Q s dQ cQ ++ (o ∷ [])) (w-len M F P s d c) hw in
         let rm = split (HasKind K) cQ (walkCount Q) (walk M F Q s dQ cQ) (o ∷ []) (w-len M F Q s dQ cQ) (rc .1) in
-        let iP = p-ok P (w .0) (z .0) (v .0) s d c i lM (omega arith) (omega arith) (rd .0) (rc .0) in
-        let iQ = p-ok Q (w .1) (z .1) (v .1) s dQ cQ (omega arith, i .1) (omega arith) (omega arith) (omega arith) (rd .1) (rm .0) in (
-          join (Ok K n) d (delayCount P) (delays P s d c) (delays Q s dQ cQ) (d-len P s d c) (iP .0) (iQ .0),
+        let iP = p-ok P (well .0) (z .0) (v .0) s d c i lM (omega arith) (omega arith) (rd .0) (rc .0) in
+        let iQ = p-ok Q (well .1) (z .1) (v .1) s dQ cQ (omega arith, i .1) (omega arith) (omega arith) (omega arith) (rd .1) (rm .0) in (
+          join (Ok K n) d (delayCount P) (delays w P s d c) (delays w Q s dQ cQ) (d-len w P s d c) (iP .0) (iQ .0),
           join (Ok K n) c (walkCount P) (walk M F P s d c) (walk M F Q s dQ cQ ++ (o ∷ [])) (w-len M F P s d c) (iP .1)
               (join (Ok K n) cQ (walkCount Q) (walk M F Q s dQ cQ) (o ∷ []) (w-len M F Q s dQ cQ) (iQ .1) ((refl, (refl, (omega arith, iP .2 .1), iQ .2)), tt)),
           (omega arith, rw (rm .1 .0)),
@@ -176,7 +176,7 @@ module _ (K : ℕ → ℕ) (n M : ℕ) (mem : (x : ℕ) → x < 16 → K (M + x)
               (widen K (c + walkCount P) (c + (walkCount P + (walkCount Q + 1))) (omega arith) (exitWires P s d c) (iP .3))
               (widen K (cQ + walkCount Q) (c + (walkCount P + (walkCount Q + 1))) (omega arith) (exitWires Q s dQ cQ) (iQ .3)),
         )
-    p-ok (ite δ e P Q) w z v s d c i lM ld lc hd hw =
+    p-ok (ite δ e P Q) well z v s d c i lM ld lc hd hw =
         let p = c + exprCount e in
         let dP = d + ifDelayCount δ in
         let cP = p + 1 + 1 in
@@ -185,17 +185,17 @@ module _ (K : ℕ → ℕ) (n M : ℕ) (mem : (x : ℕ) → x < 16 → K (M + x)
         let o = cell 35 0 (finishWire P p dP cP) (finishWire Q (p + 1) dQ cQ) in
         let o6 = cell 36 0 (ifPulse δ s d) (exprWire M e c) in
         let o7 = cell 37 0 (ifPulse δ s d) (exprWire M e c) in
-        let ro = split (HasKind K) d (ifDelayCount δ) (ifDelayCells δ s) (delays P p dP cP ++ delays Q (p + 1) dQ cQ) (own-len δ s) hd in
-        let rd = split (HasKind K) dP (delayCount P) (delays P p dP cP) (delays Q (p + 1) dQ cQ) (d-len P p dP cP) (ro .1) in
+        let ro = split (HasKind K) d (ifDelayCount δ) (ifDelayCells δ s) (delays w P p dP cP ++ delays w Q (p + 1) dQ cQ) (own-len δ s) hd in
+        let rd = split (HasKind K) dP (delayCount P) (delays w P p dP cP) (delays w Q (p + 1) dQ cQ) (d-len w P p dP cP) (ro .1) in
         let re = split (HasKind K) c (exprCount e) (exprCells M e c) (o6 ∷ (o7 ∷ (walk M F P p dP cP ++ (walk M F Q (p + 1) dQ cQ ++ (o ∷ []))))) (e-len M e c) hw in
         let rP = split (HasKind K) cP (walkCount P) (walk M F P p dP cP) (walk M F Q (p + 1) dQ cQ ++ (o ∷ [])) (w-len M F P p dP cP) (re .1 .1 .1) in
         let rQ = split (HasKind K) cQ (walkCount Q) (walk M F Q (p + 1) dQ cQ) (o ∷ []) (w-len M F Q (p + 1) dQ cQ) (rP .1) in
         let ip = pulse-ok δ s d c (z .0) i (omega arith) (omega arith) (ro .0) in
-        let ie = e-ok e (w .1) c lM (re .0) in
-        let iP = p-ok P (w .2) (z .2) (v .2) p dP cP (omega arith, rw (re .1 .0)) (omega arith) (omega arith) (omega arith) (rd .0) (rP .0) in
-        let iQ = p-ok Q (w .3) (z .3) (v .3) (p + 1) dQ cQ (omega arith, rw (re .1 .1 .0)) (omega arith) (omega arith) (omega arith) (rd .1) (rQ .0) in (
-          join (Ok K n) d (ifDelayCount δ) (ifDelayCells δ s) (delays P p dP cP ++ delays Q (p + 1) dQ cQ) (own-len δ s) (ip .0)
-              (join (Ok K n) dP (delayCount P) (delays P p dP cP) (delays Q (p + 1) dQ cQ) (d-len P p dP cP) (iP .0) (iQ .0)),
+        let ie = e-ok e (well .1) c lM (re .0) in
+        let iP = p-ok P (well .2) (z .2) (v .2) p dP cP (omega arith, rw (re .1 .0)) (omega arith) (omega arith) (omega arith) (rd .0) (rP .0) in
+        let iQ = p-ok Q (well .3) (z .3) (v .3) (p + 1) dQ cQ (omega arith, rw (re .1 .1 .0)) (omega arith) (omega arith) (omega arith) (rd .1) (rQ .0) in (
+          join (Ok K n) d (ifDelayCount δ) (ifDelayCells δ s) (delays w P p dP cP ++ delays w Q (p + 1) dQ cQ) (own-len δ s) (ip .0)
+              (join (Ok K n) dP (delayCount P) (delays w P p dP cP) (delays w Q (p + 1) dQ cQ) (d-len w P p dP cP) (iP .0) (iQ .0)),
           join (Ok K n) c (exprCount e) (exprCells M e c) (o6 ∷ (o7 ∷ (walk M F P p dP cP ++ (walk M F Q (p + 1) dQ cQ ++ (o ∷ []))))) (e-len M e c) (ie .0) (
             (refl, (refl, (omega arith, ip .1 .1), ie .1)),
             (
@@ -209,7 +209,7 @@ module _ (K : ℕ → ℕ) (n M : ℕ) (mem : (x : ℕ) → x < 16 → K (M + x)
               (widen K (cP + walkCount P) (c + (exprCount e + (2 + (walkCount P + (walkCount Q + 1))))) (omega arith) (exitWires P p dP cP) (iP .3))
               (widen K (cQ + walkCount Q) (c + (exprCount e + (2 + (walkCount P + (walkCount Q + 1))))) (omega arith) (exitWires Q (p + 1) dQ cQ) (iQ .3)),
         )
-    p-ok (while δ e P) w z v s d c i lM ld lc hd hw =
+    p-ok (while δ e P) well z v s d c i lM ld lc hd hw =
         let p = c + exprCount e in
         let cP = p + 1 + 1 in
         let o = cell 35 0 s (finishWire P p (d + 1) cP) in
@@ -217,8 +217,8 @@ module _ (K : ℕ → ℕ) (n M : ℕ) (mem : (x : ℕ) → x < 16 → K (M + x)
         let o7 = cell 37 0 d (exprWire M e c) in
         let re = split (HasKind K) c (exprCount e) (exprCells M e c) (o6 ∷ (o7 ∷ (walk M F P p (d + 1) cP ++ (o ∷ [])))) (e-len M e c) hw in
         let rP = split (HasKind K) cP (walkCount P) (walk M F P p (d + 1) cP) (o ∷ []) (w-len M F P p (d + 1) cP) (re .1 .1 .1) in
-        let ie = e-ok e (w .1) c lM (re .0) in
-        let iP = p-ok P (w .2) (z .2) (v .2) p (d + 1) cP (omega arith, rw (re .1 .0)) (omega arith) (omega arith) (omega arith) (hd .1) (rP .0) in (
+        let ie = e-ok e (well .1) c lM (re .0) in
+        let iP = p-ok P (well .2) (z .2) (v .2) p (d + 1) cP (omega arith, rw (re .1 .0)) (omega arith) (omega arith) (omega arith) (hd .1) (rP .0) in (
           ((refl, ((z .0 .0, z .0 .1), (omega arith, rw (rP .1 .0)), refl)), iP .0),
           join (Ok K n) c (exprCount e) (exprCells M e c) (o6 ∷ (o7 ∷ (walk M F P p (d + 1) cP ++ (o ∷ [])))) (e-len M e c) (ie .0) (
             (refl, (refl, (omega arith, rw (hd .0)), ie .1)),
@@ -230,15 +230,15 @@ module _ (K : ℕ → ℕ) (n M : ℕ) (mem : (x : ℕ) → x < 16 → K (M + x)
           (omega arith, rw (re .1 .1 .0)),
           widen K (cP + walkCount P) (c + (exprCount e + (2 + (walkCount P + 1)))) (omega arith) (exitWires P p (d + 1) cP) (iP .3),
         )
-    p-ok (repeat δ e P) w z v s d c i lM ld lc hd hw =
+    p-ok (repeat δ e P) well z v s d c i lM ld lc hd hw =
         let p = c + exprCount e in
         let cP = p + 1 + 1 + 1 in
         let o6 = cell 36 0 d (exprWire M e c) in
         let o7 = cell 37 0 d (exprWire M e c) in
         let o5 = cell 35 0 s (p + 1) in
         let re = split (HasKind K) c (exprCount e) (exprCells M e c) (o6 ∷ (o7 ∷ (o5 ∷ walk M F P (p + 1 + 1) (d + 1) cP))) (e-len M e c) hw in
-        let ie = e-ok e (w .1) c lM (re .0) in
-        let iP = p-ok P (w .2) (z .2) (v .2) (p + 1 + 1) (d + 1) cP (omega arith, rw (re .1 .1 .1 .0)) (omega arith) (omega arith) (omega arith) (hd .1) (re .1 .1 .1 .1) in (
+        let ie = e-ok e (well .1) c lM (re .0) in
+        let iP = p-ok P (well .2) (z .2) (v .2) (p + 1 + 1) (d + 1) cP (omega arith, rw (re .1 .1 .1 .0)) (omega arith) (omega arith) (omega arith) (hd .1) (re .1 .1 .1 .1) in (
           ((refl, ((z .0 .0, z .0 .1), (omega arith, iP .2 .1), refl)), iP .0),
           join (Ok K n) c (exprCount e) (exprCells M e c) (o6 ∷ (o7 ∷ (o5 ∷ walk M F P (p + 1 + 1) (d + 1) cP))) (e-len M e c) (ie .0) (
             (refl, (refl, (omega arith, rw (hd .0)), ie .1)),
@@ -250,12 +250,12 @@ module _ (K : ℕ → ℕ) (n M : ℕ) (mem : (x : ℕ) → x < 16 → K (M + x)
           (omega arith, rw (re .1 .0)),
           widen K (cP + walkCount P) (c + (exprCount e + (3 + walkCount P))) (omega arith) (exitWires P (p + 1 + 1) (d + 1) cP) (iP .3),
         )
-    p-ok (loop δ P) w z v s d c i lM ld lc hd hw =
+    p-ok (loop δ P) well z v s d c i lM ld lc hd hw =
         let xs = exitWires P c (d + 1) (c + 1) in
         let k = exitsAt P c in
         let count : orCount xs ≡ exitCount P - 1 = exit-ors P c (d + 1) (c + 1) in
         let rP = split (HasKind K) (c + 1) (walkCount P) (walk M F P c (d + 1) (c + 1)) (ors 35 k xs) (w-len M F P c (d + 1) (c + 1)) (hw .1) in
-        let iP = p-ok P (w .1) (z .1) (v .1) c (d + 1) (c + 1) (omega arith, rw (hw .0)) (omega arith) (omega arith) (omega arith) (hd .1) (rP .0) in
+        let iP = p-ok P (well .1) (z .1) (v .1) c (d + 1) (c + 1) (omega arith, rw (hw .0)) (omega arith) (omega arith) (omega arith) (hd .1) (rP .0) in
         let io = ors-ok K n 35 control refl (λ k a b i j. (refl, (refl, i, j))) k 1 k xs (omega arith) (omega arith, rw ground) (iP .3) (rP .1) in (
           ((refl, ((z .0 .0, z .0 .1), (omega arith, iP .2 .1), refl)), iP .0),
           (
@@ -265,8 +265,8 @@ module _ (K : ℕ → ℕ) (n M : ℕ) (mem : (x : ℕ) → x < 16 → K (M + x)
           (omega arith, io .1 .1),
           tt,
         )
-    p-ok exit w z v s d c i lM ld lc hd hw = (tt, tt, (omega arith, rw ground), ((omega arith, i .1), tt))
-    p-ok (call δ p) w z v s d c i lM ld lc hd hw =
+    p-ok exit well z v s d c i lM ld lc hd hw = (tt, tt, (omega arith, rw ground), ((omega arith, i .1), tt))
+    p-ok (call δ p) well z v s d c i lM ld lc hd hw =
         let f = fin p (v .1) in (
           ((refl, ((z .0 .0, z .0 .1), (omega arith, i .1), refl)), tt),
           ((refl, (refl, (omega arith, rw (hd .0)), (omega (arith, f .0), f .1))), tt),

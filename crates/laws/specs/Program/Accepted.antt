@@ -19,7 +19,7 @@ use Rattle.model.specs.Program.{Expr, Code, Stmt, ok, tick, assign, assignElem,
 use Rattle.model.specs.Procedures.{bodyAt, inline, inlined, reaches, reached}
 use Rattle.model.specs.ProgramChecks.{conflict, conflicts, shared, shares, nodeFault, programWith}
 use Rattle.model.specs.Calls.{checkCall}
-use Rattle.laws.specs.Program.Fit.{FormedExpr, Formed, Timed, Apart, Single, Distinct, Fit}
+use Rattle.laws.specs.Program.Fit.{FormedExpr, Formed, Enough, Apart, Single, Distinct, Fit}
 use Rattle.laws.specs.Program.Inlined.{everywhere-inline, inlined-all}
 use Rattle.laws.specs.Program.Trees.{root-has}
 use Rattle.laws.specs.Program.Grows.{known-kind, low-variable, low-array}
@@ -188,9 +188,9 @@ formed-tree a f x y z p q r =
     (λ l. formed-stmt a f (asExpr x) (asExpr y) (asStmt x) (asStmt y) (asStmt z) (formed-e x p) (formed-e y q) (formed-s x p) (formed-s y q) (formed-s z r))
 
 -- what stands with that of a statement of a node: delays, and the sides of parallels
-module _ (τ : ℕ → ℕ) (bodies : List Code) (I : ℕ → Stmt) (formed : (p : ℕ) → Formed (I p)) (R : ℕ → ℕ → Bool) (a : Node) where
+module _ (τ : ℕ → ℕ) (w : ℕ) (bodies : List Code) (I : ℕ → Stmt) (formed : (p : ℕ) → Formed (I p)) (R : ℕ → ℕ → Bool) (a : Node) where
   abbrev Rest : Code → Type 0
-  Rest S = Timed S × Single R (length bodies) S × Distinct I S
+  Rest S = Enough w S × Single R (length bodies) S × Distinct I S
 
   abbrev RestT : Tree → Type 0
   RestT (expr e) = Unit {0}
@@ -202,11 +202,11 @@ module _ (τ : ℕ → ℕ) (bodies : List Code) (I : ℕ → Stmt) (formed : (p
   rest-s (stmt P) h = h
 
   abbrev Rests : Code → Type 0
-  Rests S = least τ S ≤ a .delay → shares R (length bodies) S ≡ false → conflicts (inline I S) ≡ false → Rest S
+  Rests S = least τ w S ≤ a .delay → shares R (length bodies) S ≡ false → conflicts (inline I S) ≡ false → Rest S
 
   rest-stmt : (e g : Expr) (O P Q : Code) → Formed O → Formed P → Rest O → Rest P → Rest Q → Rests (stmtOf a e g O P Q)
   unfolding stmtOf least shares conflicts inline
-  rest-stmt e g O P Q w v o p q =
+  rest-stmt e g O P Q x v o p q =
       by-test Rests (eqb (a .kind) 16) _ _ (λ t h s c. (tt, tt, tt))
       (λ n. by-test Rests (eqb (a .kind) 17) _ _ (λ t h s c. (h, tt, tt))
       (λ n. by-test Rests (eqb (a .kind) 18) _ _ (λ t h s c. ((omega arith, tt, tt), (tt, tt, tt), (tt, tt, tt)))
@@ -215,7 +215,7 @@ module _ (τ : ℕ → ℕ) (bodies : List Code) (I : ℕ → Stmt) (formed : (p
       (λ t h s c. (
         (o .0, p .0, tt),
         (o .1, p .1, not-shared R (length bodies) O P s),
-        (o .2, p .2, apart (inline I O) (inline I P) (formed-inline I formed O w) (formed-inline I formed P v) c),
+        (o .2, p .2, apart (inline I O) (inline I P) (formed-inline I formed O x) (formed-inline I formed P v) c),
       ))
       (λ n. by-test Rests (eqb (a .kind) 21) _ _ (λ t h s c. ((tt, tt, p .0, q .0), (tt, tt, p .1, q .1), (tt, tt, p .2, q .2)))
       (λ n. by-test Rests (eqb (a .kind) 22) _ _ (λ t h s c. ((omega arith, tt, p .0), (tt, tt, p .1), (tt, tt, p .2)))
@@ -225,16 +225,16 @@ module _ (τ : ℕ → ℕ) (bodies : List Code) (I : ℕ → Stmt) (formed : (p
       (λ n. by-test Rests (eqb (a .kind) 27) _ _ (λ t h s c. ((h, tt), (tt, tt), (tt, tt)))
       (λ n h s c. ((omega arith, tt, p .0), (tt, tt, p .1), (tt, tt, p .2)))))))))))))
 
-  rest-tree : (x y z : Tree) → FormedT x → FormedT y → RestT x → RestT y → RestT z → least τ (asStmt (treeOf a x y z)) ≤ a .delay
+  rest-tree : (x y z : Tree) → FormedT x → FormedT y → RestT x → RestT y → RestT z → least τ w (asStmt (treeOf a x y z)) ≤ a .delay
       → shares R (length bodies) (asStmt (treeOf a x y z)) ≡ false → conflicts (inline I (asStmt (treeOf a x y z))) ≡ false → RestT (treeOf a x y z)
   unfolding treeOf asStmt
-  rest-tree x y z w v p q r =
+  rest-tree x y z u v p q r =
       by-test
-      (λ (t : Tree). least τ (asStmt t) ≤ a .delay → shares R (length bodies) (asStmt t) ≡ false → conflicts (inline I (asStmt t)) ≡ false → RestT t)
+      (λ (t : Tree). least τ w (asStmt t) ≤ a .delay → shares R (length bodies) (asStmt t) ≡ false → conflicts (inline I (asStmt t)) ≡ false → RestT t)
       (ltb (a .kind) 16) _ _
       (λ l h s c. tt)
       (λ l h s c.
-      rest-stmt (asExpr x) (asExpr y) (asStmt x) (asStmt y) (asStmt z) (formed-s x w) (formed-s y v) (rest-s x p) (rest-s y q) (rest-s z r) h s c)
+      rest-stmt (asExpr x) (asExpr y) (asStmt x) (asStmt y) (asStmt z) (formed-s x u) (formed-s y v) (rest-s x p) (rest-s y q) (rest-s z r) h s c)
 
 -- Roots ----------------------------------------------------------------------------------------------------------------------------------------
 
@@ -251,15 +251,15 @@ body-root [] P p l = absurd (omega arith)
 body-root (Q ∷ Qs) P zero l = refl
 body-root (Q ∷ Qs) P (suc p) l = body-root Qs P p (le-of-suc-le-suc l)
 
-module _ (τ : ℕ → ℕ) (k : ℕ) (s : List ℕ) (passed : Passed τ k s) where
+module _ (τ : ℕ → ℕ) (w k : ℕ) (s : List ℕ) (passed : Passed τ w k s) where
   abbrev S : Program
-  S = programOf k s
+  S = programOf w k s
 
   pub at-root : (r : ℕ) → asStmt (getD (treesAt s 0) r none) ≡ rootAt S r
-  at-root r = ap (λ (ts : List Tree). asStmt (getD ts r none)) (program-trees k s (passed .readable)) ∙ root-tree (roots S) r
+  at-root r = ap (λ (ts : List Tree). asStmt (getD ts r none)) (program-trees k s (passed .readable) w) ∙ root-tree (roots S) r
 
   roots-formed : (r : ℕ) → FormedT (getD (treesAt s 0) r none)
-  roots-formed = root-has FormedT tt s (λ i l x y z t u v w. formed-tree (nodeAt s i) (passed .readable .faultless i l) x y z u v w)
+  roots-formed = root-has FormedT tt s (λ i l x y z t u v o. formed-tree (nodeAt s i) (passed .readable .faultless i l) x y z u v o)
 
   root-formed : (r : ℕ) → Formed (rootAt S r)
   root-formed r = subst (λ (P : Code). Formed P) (at-root r) (formed-s _ (roots-formed r))
@@ -270,22 +270,22 @@ module _ (τ : ℕ → ℕ) (k : ℕ) (s : List ℕ) (passed : Passed τ k s) wh
       (λ I h p l. formed-inline I h (bodyAt (S .bodies) p) (subst (λ (P : Code). Formed P) (body-root (S .bodies) (S .main) p l) (root-formed p)))
 
   abbrev BothT : Tree → Type 0
-  BothT t = FormedT t × RestT τ (S .bodies) (inlined (S .bodies)) bodies-formed (reached (S .bodies)) (nodeAt s 0) t
+  BothT t = FormedT t × RestT τ w (S .bodies) (inlined (S .bodies)) bodies-formed (reached (S .bodies)) (nodeAt s 0) t
 
-  pub root-fit : (r : ℕ) → Fit (S .bodies) (rootAt S r)
+  pub root-fit : (r : ℕ) → Fit w (S .bodies) (rootAt S r)
   unfolding stmtAt
   root-fit r =
       let h =
       root-has BothT (tt, tt) s
-      (λ i l x y z t u v w. (
-        formed-tree (nodeAt s i) (passed .readable .faultless i l) x y z (u .0) (v .0) (w .0),
-        rest-tree τ (S .bodies) (inlined (S .bodies)) bodies-formed (reached (S .bodies)) (nodeAt s i) x y z (u .0) (v .0) (u .1) (v .1) (w .1)
+      (λ i l x y z t u v o. (
+        formed-tree (nodeAt s i) (passed .readable .faultless i l) x y z (u .0) (v .0) (o .0),
+        rest-tree τ w (S .bodies) (inlined (S .bodies)) bodies-formed (reached (S .bodies)) (nodeAt s i) x y z (u .0) (v .0) (u .1) (v .1) (o .1)
             (rw t at (passed .slowless i l)) (rw t at (passed .lone i l)) (rw t at (passed .clashless i l)),
       ))
       r in
-      let q = subst (Rest τ (S .bodies) (inlined (S .bodies)) bodies-formed (reached (S .bodies)) (nodeAt s 0)) (at-root r)
-      (rest-s τ (S .bodies) (inlined (S .bodies)) bodies-formed (reached (S .bodies)) (nodeAt s 0) _ (h .1)) in
+      let q = subst (Rest τ w (S .bodies) (inlined (S .bodies)) bodies-formed (reached (S .bodies)) (nodeAt s 0)) (at-root r)
+      (rest-s τ w (S .bodies) (inlined (S .bodies)) bodies-formed (reached (S .bodies)) (nodeAt s 0) _ (h .1)) in
       record { formed = root-formed r; timed = q .0; single = q .1; distinct = q .2 }
 
-pub program-fit : (options : Options) (s : List ℕ) → checkCall options s ≡ Accepted → (r : ℕ) → Fit (programWith options s .bodies) (rootAt (programWith options s) r)
-program-fit options s e = root-fit (timeIn (options .times)) (options .procedures) s (accepted options s e)
+pub program-fit : (options : Options) (s : List ℕ) → checkCall options s ≡ Accepted → (r : ℕ) → Fit (options .pulse) (programWith options s .bodies) (rootAt (programWith options s) r)
+program-fit options s e = root-fit (timeIn (options .times)) (options .pulse) (options .procedures) s (accepted options s e)

@@ -8,12 +8,14 @@ use native.Mathlib.Omega.{arith}
 use lib.ListN.{length, length-append, getD, List·getD-eq-default}
 use Rattle.model.specs.declared.Checked.the-variants.{Accepted}
 use Rattle.model.specs.declared.Options.{Options}
-use Rattle.model.specs.Program.{Expr, Code, Stmt, Statement, ok, tick, assign, assignElem, seq, par, ite, while, repeat, loop, exit, call, Program, roots}
+use Rattle.model.specs.Program.{Expr, Code, Stmt, Statement, ok, tick, assign, assignElem, seq, par, ite, while, repeat, loop, exit, call, Program, programOf, roots}
 use Rattle.model.specs.Procedures.{bodyAt, inline, inlined, meaning, reaches, reached}
 use Rattle.model.specs.ProgramChecks.{programWith}
 use Rattle.model.specs.Calls.{checkCall}
 use Rattle.laws.specs.Refusals.Laws.{by-le}
-use Rattle.laws.specs.Program.Fit.{Asks, Everywhere, beside, Formed, Timed, Apart, Separate, exits, Inside, Earlier, Single, Distinct, Fit}
+use Rattle.laws.specs.Program.Fit.{Asks, Everywhere, beside, Formed, Timed, Enough, Apart, Separate, exits, Inside, Earlier, Single, Distinct, Fit}
+use Rattle.laws.specs.Program.Widths.{turn-least, enough-timed}
+use Rattle.laws.specs.Program.Passed.{accepted-pulse}
 use Rattle.laws.specs.Program.Inlined.{everywhere-inline, exits-inline, inlined-all, inlined-is, inlined-past, reached-is, reached-past, reached-earlier, reached-below}
 use Rattle.laws.specs.Program.Enclosed.{rootAt, root-enclosed, root-earlier}
 use Rattle.laws.specs.Program.Accepted.{formed-inline, body-root, program-fit}
@@ -49,16 +51,17 @@ everywhere-both a b c t (call d p) g h = (t .loopDelays d (g .0) (h .0), t .proc
 
 -- Roots ----------------------------------------------------------------------------------------------------------------------------------
 
--- what is left of root r
-pub record Good (bodies : List Code) (r : ℕ) (P : Code) : Type 0 where
-  pub fit : Fit bodies P
+-- what is left of root r, with pulses of w
+pub record Good (w : ℕ) (bodies : List Code) (r : ℕ) (P : Code) : Type 0 where
+  pub fit : Fit w bodies P
   pub inside : Inside P
   pub closed : exits P ≡ false
   pub earlier : Earlier r P
 
 pub record Admitted (S : Program) : Type 0 where
-  pub body : (p : ℕ) → Good (S .bodies) p (bodyAt (S .bodies) p)
-  pub main : Good (S .bodies) (length (S .bodies)) (S .main)
+  pub pulse : (1 ≤ S .pulse) × (S .pulse ≤ 8)
+  pub body : (p : ℕ) → Good (S .pulse) (S .bodies) p (bodyAt (S .bodies) p)
+  pub main : Good (S .pulse) (S .bodies) (length (S .bodies)) (S .main)
 
 -- no procedure is reached from both sides of a parallel
 abbrev pub Lone : (ℕ → ℕ → Bool) → Code → Type 0
@@ -69,7 +72,8 @@ main-root [] P = refl
 main-root (Q ∷ Qs) P = main-root Qs P
 
 pub program-admitted : (options : Options) (s : List ℕ) → checkCall options s ≡ Accepted → Admitted (programWith options s)
-program-admitted options s e = record { body = body; main = main }
+unfolding programOf
+program-admitted options s e = record { pulse = accepted-pulse options s e; body = body; main = main }
   where
     S : Program
     S = programWith options s
@@ -77,21 +81,21 @@ program-admitted options s e = record { body = body; main = main }
     count : length (roots S) ≡ length (S .bodies) + 1
     count = length-append (S .bodies) (S .main ∷ [])
 
-    root : (r : ℕ) → r < length (roots S) → Good (S .bodies) r (rootAt S r)
+    root : (r : ℕ) → r < length (roots S) → Good (S .pulse) (S .bodies) r (rootAt S r)
     root r l =
         let i = root-enclosed options s e r l in
         record { fit = program-fit options s e r; inside = i .0; closed = i .1; earlier = root-earlier options s e r l }
 
-    body : (p : ℕ) → Good (S .bodies) p (bodyAt (S .bodies) p)
+    body : (p : ℕ) → Good (S .pulse) (S .bodies) p (bodyAt (S .bodies) p)
     body p =
         by-le (length (S .bodies)) p
         (λ l.
-        subst (λ (P : Code). Good (S .bodies) p P) (sym (List·getD-eq-default (S .bodies) ok l))
+        subst (λ (P : Code). Good (S .pulse) (S .bodies) p P) (sym (List·getD-eq-default (S .bodies) ok l))
         (record { fit = record { formed = tt; timed = tt; single = tt; distinct = tt }; inside = tt; closed = unfold exits in refl; earlier = tt }))
-        (λ l. subst (λ (P : Code). Good (S .bodies) p P) (body-root (S .bodies) (S .main) p l) (root p (omega (arith, count))))
+        (λ l. subst (λ (P : Code). Good (S .pulse) (S .bodies) p P) (body-root (S .bodies) (S .main) p l) (root p (omega (arith, count))))
 
-    main : Good (S .bodies) (length (S .bodies)) (S .main)
-    main = subst (λ (P : Code). Good (S .bodies) (length (S .bodies)) P) (main-root (S .bodies) (S .main)) (root (length (S .bodies)) (omega (arith, count)))
+    main : Good (S .pulse) (S .bodies) (length (S .bodies)) (S .main)
+    main = subst (λ (P : Code). Good (S .pulse) (S .bodies) (length (S .bodies)) P) (main-root (S .bodies) (S .main)) (root (length (S .bodies)) (omega (arith, count)))
 
 -- Without calls --------------------------------------------------------------------------------------------------------------------------
 
@@ -130,14 +134,14 @@ module _ (S : Program) (A : Admitted S) where
   flat-formed : (p : ℕ) → Formed (I p)
   flat-formed = inlined-all (S .bodies) (λ (P : Stmt). Formed P) tt (λ J h p l. formed-inline J h (bodyAt (S .bodies) p) (A .body p .fit .formed))
 
-  timed-inline : (J : ℕ → Stmt) → ((p : ℕ) → Timed (J p)) → (P : Code) → Timed P → Timed (inline J P)
+  timed-inline : (J : ℕ → Stmt) → ((p : ℕ) → Enough (S .pulse) (J p)) → (P : Code) → Enough (S .pulse) P → Enough (S .pulse) (inline J P)
   timed-inline J h P t =
       everywhere-inline _ _ J
       (record {
         delays = λ d l. l;
         ifDelays = λ d x. tt;
         loopDelays = λ d l. l;
-        callDelays = λ d l. l;
+        callDelays = λ d l. turn-least (S .pulse) d (A .pulse .0) l;
         variables = λ x l. tt;
         arrays = λ k l. tt;
         exprs = λ e x. tt;
@@ -146,8 +150,8 @@ module _ (S : Program) (A : Admitted S) where
       })
       P t
 
-  flat-timed : (p : ℕ) → Timed (I p)
-  flat-timed = inlined-all (S .bodies) (λ (P : Stmt). Timed P) tt (λ J h p l. timed-inline J h (bodyAt (S .bodies) p) (A .body p .fit .timed))
+  flat-timed : (p : ℕ) → Enough (S .pulse) (I p)
+  flat-timed = inlined-all (S .bodies) (λ (P : Stmt). Enough (S .pulse) P) tt (λ J h p l. timed-inline J h (bodyAt (S .bodies) p) (A .body p .fit .timed))
 
   inside-inline : (J : ℕ → Stmt) → ((p : ℕ) → Inside (J p) × (exits (J p) ≡ false)) → (P : Code) → Inside P → Inside (inline J P)
   inside-inline J h P i =
@@ -223,12 +227,12 @@ module _ (S : Program) (A : Admitted S) where
   -- what the rules need of a root without calls
   pub record Plain (P : Code) : Type 0 where
     pub formed : Formed (inline I P)
-    pub timed : Timed (inline I P)
+    pub timed : Enough (S .pulse) (inline I P)
     pub separate : Separate (inline I P)
     pub inside : Inside (inline I P)
     pub closed : exits (inline I P) ≡ false
 
-  pub plain : (r : ℕ) (P : Code) → Good (S .bodies) r P → Plain P
+  pub plain : (r : ℕ) (P : Code) → Good (S .pulse) (S .bodies) r P → Plain P
   plain r P g =
       record {
         formed = formed-inline I flat-formed P (g .fit .formed);
@@ -238,7 +242,7 @@ module _ (S : Program) (A : Admitted S) where
         closed = exits-inline I (λ p. flat-inside p .1) P ∙ g .closed;
       }
 
-  pub plain-flat : (p : ℕ) → Formed (I p) × Timed (I p)
+  pub plain-flat : (p : ℕ) → Formed (I p) × Enough (S .pulse) (I p)
   plain-flat p = (flat-formed p, flat-timed p)
 
   pub plain-closed : (p : ℕ) → exits (I p) ≡ false
@@ -248,9 +252,17 @@ module _ (S : Program) (A : Admitted S) where
   plain-main = plain n (S .main) (A .main)
 
   -- what the rules need of the statement that the program is
+  pub meaning-formed : Formed (meaning S)
+  unfolding meaning
+  meaning-formed = plain-main .formed
+
+  pub meaning-separate : Separate (meaning S)
+  unfolding meaning
+  meaning-separate = plain-main .separate
+
   pub meaning-timed : Timed (meaning S)
   unfolding meaning
-  meaning-timed = plain-main .timed
+  meaning-timed = enough-timed (S .pulse) (inline I (S .main)) (A .pulse .0) (plain-main .timed)
 
   pub meaning-closed : exits (meaning S) ≡ false
   unfolding meaning

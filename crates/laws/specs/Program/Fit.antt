@@ -5,7 +5,7 @@ use mathlib.Core.Bool.{Bool, true, false, _||_}
 use mathlib.Core.List.{List, [], _∷_}
 use Prim.Native.Nat.{ℕ, _+_, _<_, _≤_}
 use lib.ListN.{length}
-use Rattle.model.specs.Program.{Expr, const, var, compl, op, elem, Statement, Code, Stmt, ok, tick, assign, assignElem, seq, par, ite, while, repeat, loop, exit, call, writes, touches}
+use Rattle.model.specs.Program.{Expr, const, var, compl, op, elem, Statement, Code, Stmt, ok, tick, assign, assignElem, seq, par, ite, while, repeat, loop, exit, call, gap, writes, touches}
 use Rattle.model.specs.Procedures.{inline, inlined, reaches, reached}
 
 -- what is asked of the delays, variables, arrays, expressions and called procedures in a statement, and of the sides of a parallel; loopDelay is
@@ -117,6 +117,10 @@ Formed P =
 abbrev pub Timed : {C : Type 0} → Statement C → Type 0
 Timed P = Everywhere (delaying (λ d. 1 ≤ d) free (λ d. 1 ≤ d)) P
 
+-- and a loop's and a call's of at least the gap of the pulse length w
+abbrev pub Enough : {C : Type 0} → ℕ → Statement C → Type 0
+Enough w P = Everywhere (delaying (λ d. 1 ≤ d) free (λ d. gap w ≤ d)) P
+
 -- delays that are bytes
 abbrev pub Short : {C : Type 0} → Statement C → Type 0
 Short P = Everywhere (delaying (λ d. d ≤ 255) (λ d. d ≤ 255) (λ d. d ≤ 255)) P
@@ -188,9 +192,9 @@ EveryRoot R r (P ∷ Ps) = R r P × EveryRoot R (r + 1) Ps
 abbrev pub Numberable : ℕ → Code → Type 0
 Numberable r P = Formed P × Low P × Earlier r P
 
--- what the checks of single nodes leave of a root, or of a part of one
-pub record Fit (bodies : List Code) (P : Code) : Type 0 where
+-- what the checks of single nodes leave of a root, or of a part of one, with pulses of w
+pub record Fit (w : ℕ) (bodies : List Code) (P : Code) : Type 0 where
   pub formed : Formed P
-  pub timed : Timed P
+  pub timed : Enough w P
   pub single : Single (reached bodies) (length bodies) P
   pub distinct : Distinct (inlined bodies) P

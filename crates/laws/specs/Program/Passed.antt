@@ -16,6 +16,9 @@ use Rattle.model.specs.Program.{Tree, expr, stmt, Code, nodeAt, nodeCount, node
 use Rattle.model.specs.Procedures.{inline, inlined, reached}
 use Rattle.model.specs.ProgramChecks.{conflicts, shares, programLengthWrong, tooManyProcedures, nodeFault, children, reading, rootSorts, looseExit, lateCall, delayFault, sharedFault, conflictFault, programChecks, checkOf}
 use Rattle.model.specs.Calls.{checkCall}
+use Rattle.model.specs.NetlistFile.{pulseWrong}
+use Rattle.model.specs.TimeTables.{givenChecks, givenCheck}
+use Rattle.laws.specs.NetlistFile.Passed.{pulse-right}
 use Rattle.laws.specs.Refusals.Laws.{not-refused, pick-true, or-false, all-accept, accept-take, refuse-unless, fault-unless, no-fault}
 use Rattle.laws.specs.Program.Trees.{nodes-step, length-nodes, trees-cons, treeAt, each-at}
 use Rattle.laws.specs.Program.Preorder.{nodesOf, allNodes, sortOf, sortsOf, KnownT}
@@ -31,16 +34,16 @@ pub record Readable (k : ℕ) (s : List ℕ) : Type 0 where
   pub faultless : (j : ℕ) → j < nodeCount s → nodeFault (nodeAt s j) ≡ 0
   pub read : reading (rootSorts k) 0 (nodesAt s 0) ≡ Accepted
 
--- refusals 1 to 8, 22, 24 and 25, with operator times τ
-pub record Passed (τ : ℕ → ℕ) (k : ℕ) (s : List ℕ) : Type 0 where
+-- refusals 1 to 8, 22, 24 and 25, with operator times τ and pulse length w
+pub record Passed (τ : ℕ → ℕ) (w k : ℕ) (s : List ℕ) : Type 0 where
   pub readable : Readable k s
-  pub enclosed : looseExit (roots (programOf k s)) ≡ Accepted
-  pub earlier : lateCall (roots (programOf k s)) ≡ Accepted
-  pub slowless : (j : ℕ) → j < nodeCount s → least τ (stmtAt s j) ≤ nodeAt s j .delay
+  pub enclosed : looseExit (roots (programOf w k s)) ≡ Accepted
+  pub earlier : lateCall (roots (programOf w k s)) ≡ Accepted
+  pub slowless : (j : ℕ) → j < nodeCount s → least τ w (stmtAt s j) ≤ nodeAt s j .delay
   pub lone : (j : ℕ) → j < nodeCount s →
-      let bodies = programOf k s .bodies in
+      let bodies = programOf w k s .bodies in
       shares (reached bodies) (length bodies) (stmtAt s j) ≡ false
-  pub clashless : (j : ℕ) → j < nodeCount s → conflicts (inline (inlined (programOf k s .bodies)) (stmtAt s j)) ≡ false
+  pub clashless : (j : ℕ) → j < nodeCount s → conflicts (inline (inlined (programOf w k s .bodies)) (stmtAt s j)) ≡ false
 
 pub right-length : (s : List ℕ) → programLengthWrong s ≡ false → length s ≤ 800
 unfolding programLengthWrong
@@ -52,11 +55,11 @@ unfolding checkOf programLengthWrong
 long-refused options s h =
     rw (lt-ltb 800 (length s) h, or-true (eqb (length s) 0), or-true (tooManyProcedures (options .procedures))) refl
 
-module _ (τ : ℕ → ℕ) (k : ℕ) (s : List ℕ) where
-  pub readable : first (take 3 (programChecks τ k s)) ≡ Accepted → Readable k s
+module _ (τ : ℕ → ℕ) (w k : ℕ) (s : List ℕ) where
+  pub readable : first (take 3 (programChecks τ w k s)) ≡ Accepted → Readable k s
   unfolding tooManyProcedures
   readable e =
-      let a = all-accept (take 3 (programChecks τ k s)) e in
+      let a = all-accept (take 3 (programChecks τ w k s)) e in
       let f = or-false (tooManyProcedures k) (programLengthWrong s) (refuse-unless (tooManyProcedures k || programLengthWrong s) 1 0 (a 0)) in
       record {
         few = ltb-false 8 k (f .0);
@@ -65,18 +68,18 @@ module _ (τ : ℕ → ℕ) (k : ℕ) (s : List ℕ) where
         read = a 2;
       }
 
-  pub passed : first (programChecks τ k s) ≡ Accepted → Passed τ k s
+  pub passed : first (programChecks τ w k s) ≡ Accepted → Passed τ w k s
   unfolding delayFault sharedFault conflictFault
   passed e =
-      let a = all-accept (programChecks τ k s) e in
-      let bodies = programOf k s .bodies in
+      let a = all-accept (programChecks τ w k s) e in
+      let bodies = programOf w k s .bodies in
       record {
-        readable = readable (accept-take 3 (programChecks τ k s) e);
+        readable = readable (accept-take 3 (programChecks τ w k s) e);
         enclosed = a 3;
         earlier = a 4;
         slowless = λ j l.
-            let slow = ltb (nodeAt s j .delay) (least τ (stmtAt s j)) in
-            ltb-false _ _ (fault-unless slow 7 (omega arith) (no-fault (delayFault τ s) (nodeCount s) (a 5) j l));
+            let slow = ltb (nodeAt s j .delay) (least τ w (stmtAt s j)) in
+            ltb-false _ _ (fault-unless slow 7 (omega arith) (no-fault (delayFault τ w s) (nodeCount s) (a 5) j l));
         lone = λ j l.
             fault-unless (shares (reached bodies) (length bodies) (stmtAt s j)) 25 (omega arith) (no-fault (sharedFault bodies s) (nodeCount s) (a 6) j l);
         clashless = λ j l.
@@ -85,10 +88,17 @@ module _ (τ : ℕ → ℕ) (k : ℕ) (s : List ℕ) where
 
 -- of a program that is accepted with what is given beside it, under its table's times and with so many procedures
 pub accepted : (options : Options) (s : List ℕ) → checkCall options s ≡ Accepted
-    → Passed (timeIn (options .times)) (options .procedures) s
+    → Passed (timeIn (options .times)) (options .pulse) (options .procedures) s
 unfolding checkCall checkOf
 accepted options s e =
-    passed (timeIn (options .times)) (options .procedures) s (all-accept (options .checked ∷ checkOf options s ∷ []) e 1)
+    passed (timeIn (options .times)) (options .pulse) (options .procedures) s (all-accept (givenCheck options ∷ checkOf options s ∷ []) e 1)
+
+-- and 27 leaves a pulse length of 1 to 8
+pub accepted-pulse : (options : Options) (s : List ℕ) → checkCall options s ≡ Accepted → (1 ≤ options .pulse) × (options .pulse ≤ 8)
+unfolding checkCall givenCheck
+accepted-pulse options s e =
+    pulse-right (options .pulse)
+    (refuse-unless (pulseWrong (options .pulse)) 27 0 (all-accept (givenChecks options) (all-accept (givenCheck options ∷ checkOf options s ∷ []) e 0) 0))
 
 -- Trees and ranges of nodes ------------------------------------------------------------------------------------------------------------
 
@@ -155,16 +165,16 @@ module _ (k : ℕ) (s : List ℕ) (R : Readable k s) where
   known-at i h = each-at KnownT tt (treesAt s i) 0 (whole-at i (omega arith) .1 .known)
 
   -- the whole program is its roots
-  pub program-trees : treesAt s 0 ≡ map stmt (roots (programOf k s))
+  pub program-trees : (w : ℕ) → treesAt s 0 ≡ map stmt (roots (programOf w k s))
   unfolding treesAt programOf
-  program-trees = all-roots k (treesAt s 0) (whole-from 0 (rootSorts k) (omega arith) (R .read) .sorts)
+  program-trees w = all-roots k (treesAt s 0) (whole-from 0 (rootSorts k) (omega arith) (R .read) .sorts)
 
-  pub program-nodes : preorders (roots (programOf k s)) ≡ nodesAt s 0
-  program-nodes = sym (nodes-roots (roots (programOf k s))) ∙ sym (ap allNodes program-trees) ∙ nodes-at 0 (omega arith)
+  pub program-nodes : (w : ℕ) → preorders (roots (programOf w k s)) ≡ nodesAt s 0
+  program-nodes w = sym (nodes-roots (roots (programOf w k s))) ∙ sym (ap allNodes (program-trees w)) ∙ nodes-at 0 (omega arith)
 
-  pub count-bodies : length (programOf k s .bodies) ≡ k
+  pub count-bodies : (w : ℕ) → length (programOf w k s .bodies) ≡ k
   unfolding treesAt programOf
-  count-bodies = length-bodies k (treesAt s 0) (whole-from 0 (rootSorts k) (omega arith) (R .read) .sorts)
+  count-bodies w = length-bodies k (treesAt s 0) (whole-from 0 (rootSorts k) (omega arith) (R .read) .sorts)
 
   -- behind a node stand its children, of the sorts of its kind
   pub children-at : (i : ℕ) → i < nodeCount s → (ws : List ℕ) × (sortsOf (treesAt s (i + 1)) ≡ children (nodeAt s i .kind) ++ ws)

@@ -18,7 +18,8 @@ use Rattle.laws.specs.Program.Fit.{Timed, Short, Low, EveryRoot, Numbera
 use Rattle.laws.specs.Program.Accepted.{at-root, program-fit}
 use Rattle.laws.specs.Program.Enclosed.{rootAt, root-earlier}
 use Rattle.laws.specs.Program.Trees.{length-nodes, by-pick, root-has}
-use Rattle.laws.specs.Program.Passed.{accepted, program-nodes}
+use Rattle.laws.specs.Program.Passed.{accepted, accepted-pulse, program-nodes}
+use Rattle.laws.specs.Program.Widths.{enough-timed}
 use Rattle.laws.specs.Numbering.Count.{eNodes, nodes, rootNodes}
 
 -- As many nodes as the program ---------------------------------------------------------------------------------------------------------
@@ -53,7 +54,7 @@ roots-nodes (P ∷ Ps) = length-append (preorder P) (preorders Ps) ∙ ap₂ _+_
 
 pub all-nodes : (options : Options) (s : List ℕ) → checkCall options s ≡ Accepted → rootNodes (roots (programWith options s)) ≡ nodeCount s
 all-nodes options s e =
-    sym (roots-nodes (roots (programWith options s))) ∙ ap length (program-nodes (options .procedures) s (accepted options s e .readable))
+    sym (roots-nodes (roots (programWith options s))) ∙ ap length (program-nodes (options .procedures) s (accepted options s e .readable) (options .pulse))
     ∙ length-nodes s 0 (nodeCount s - 0) ∙ omega arith
 
 pub few-nodes : (options : Options) (s : List ℕ) → checkCall options s ≡ Accepted → rootNodes (roots (programWith options s)) ≤ 200
@@ -100,8 +101,8 @@ program-low options s bytes e r =
     let short = root-has (λ (t : Tree). Short (asStmt t)) tt s
     (λ i l x y z t. short-tree (nodeAt s i) x y z (let z = bytes (4 * i + 1) in omega arith)) r in
     let a = accepted options s e in
-    low-of (rootAt (programWith options s) r) (program-fit options s e r .timed)
-    (subst (λ (P : Code). Short P) (at-root (timeIn (options .times)) (options .procedures) s a r) short)
+    low-of (rootAt (programWith options s) r) (enough-timed (options .pulse) (rootAt (programWith options s) r) (accepted-pulse options s e .0) (program-fit options s e r .timed))
+    (subst (λ (P : Code). Short P) (at-root (timeIn (options .times)) (options .pulse) (options .procedures) s a r) short)
 
 -- each root can be numbered
 pub every-root : (R : ℕ → Code → Type 0) (r : ℕ) (Ps : List Code) → ((j : ℕ) → j < length Ps → R (r + j) (getD Ps j ok)) → EveryRoot R r Ps

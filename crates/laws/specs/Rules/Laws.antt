@@ -6,7 +6,7 @@ use native.Mathlib.Omega.{arith}
 use borrow.Author.Tests.{le-leb, lt-leb}
 use Rattle.model.specs.Word.{isZero, elementWord}
 use Rattle.model.specs.Program.{Expr, Stmt, ok, tick, assign, assignElem, seq, par, ite, while, repeat, loop, exit}
-use Rattle.model.specs.Rules.{Store, Way, atEnd, atExit, Run, done, ended, left, still, after, wait, chain, both, caught, kept, whiles, repeats, loops, run, eval, put}
+use Rattle.model.specs.Rules.{Costs, extended, postponed, Store, Way, atEnd, atExit, Run, done, ended, left, still, after, wait, chain, both, caught, kept, whiles, repeats, loops, run, eval, put}
 use Rattle.laws.specs.Refusals.Laws.{by-bool, by-le}
 use Rattle.laws.specs.Program.Fit.{Timed}
 
@@ -133,6 +133,15 @@ pub caught-of : (r : Run) {w : Way} {t : ℕ} {σ : Store} → r ≡ done w t σ
 unfolding caught
 caught-of r p = ap caught p
 
+-- Costs -----------------------------------------------------------------------------------------------------------------------------
+
+pub extended-is : (n d : ℕ) → extended n d ≡ d + n
+extended-is zero d = omega arith
+extended-is (suc n) d = let i = extended-is n d in omega arith
+
+pub extended-positive : (n d : ℕ) → 1 ≤ d → 1 ≤ extended n d
+extended-positive n d h = let i = extended-is n d in omega arith
+
 -- The loops' clauses ----------------------------------------------------------------------------------------------------------------
 
 abbrev pub Body : Type 0
@@ -180,15 +189,15 @@ pub round-is : (body : Body) (d : ℕ) (n k : ℕ) (σ : Store) → round body d
 unfolding round
 round-is body d n k σ = refl
 
-pub ite-else : (k d : ℕ) (e : Expr) (P Q : Stmt) (σ : Store) → isZero (eval e σ) ≡ true
-    → run k (ite d e P Q) σ ≡ wait d k (λ k₁. run k₁ Q σ)
+pub ite-else : (κ : Costs) (k d : ℕ) (e : Expr) (P Q : Stmt) (σ : Store) → isZero (eval e σ) ≡ true
+    → run κ k (ite d e P Q) σ ≡ wait d k (λ k₁. run κ k₁ Q σ)
 unfolding run
-ite-else k d e P Q σ z = rw z refl
+ite-else κ k d e P Q σ z = rw z refl
 
-pub ite-then : (k d : ℕ) (e : Expr) (P Q : Stmt) (σ : Store) → isZero (eval e σ) ≡ false
-    → run k (ite d e P Q) σ ≡ wait d k (λ k₁. run k₁ P σ)
+pub ite-then : (κ : Costs) (k d : ℕ) (e : Expr) (P Q : Stmt) (σ : Store) → isZero (eval e σ) ≡ false
+    → run κ k (ite d e P Q) σ ≡ wait d k (λ k₁. run κ k₁ P σ)
 unfolding run
-ite-then k d e P Q σ z = rw z refl
+ite-then κ k d e P Q σ z = rw z refl
 
 -- A larger budget changes nothing once a run is done ------------------------------------------------------------------------------
 
@@ -402,36 +411,45 @@ module _ (body : Body) (d : ℕ) (pos : 1 ≤ d) (h : (σ : Store) → Steady (�
       turns-settle (round body d) (loops body d) (loops-is body d) n k w t σ σ′ (round-steady n (steady-loops n))
       (sym (loops-is body d n k σ) ∙ p)
 
-steady-ite : (d : ℕ) (e : Expr) (P Q : Stmt) (σ : Store) → Steady (λ k. run k P σ) → Steady (λ k. run k Q σ)
-    → Steady (λ k. run k (ite d e P Q) σ)
-steady-ite d e P Q σ p q k w t σ′ r =
+steady-ite : (κ : Costs) (d : ℕ) (e : Expr) (P Q : Stmt) (σ : Store) → Steady (λ k. run κ k P σ) → Steady (λ k. run κ k Q σ)
+    → Steady (λ k. run κ k (ite d e P Q) σ)
+steady-ite κ d e P Q σ p q k w t σ′ r =
     by-bool (isZero (eval e σ))
     (λ z.
-    let i = steady-wait d (λ k. run k Q σ) q k w t σ′ (sym (ite-else k d e P Q σ z) ∙ r) in
-    (i .0, λ k′ l. ite-else k′ d e P Q σ z ∙ i .1 k′ l))
+    let i = steady-wait d (λ k. run κ k Q σ) q k w t σ′ (sym (ite-else κ k d e P Q σ z) ∙ r) in
+    (i .0, λ k′ l. ite-else κ k′ d e P Q σ z ∙ i .1 k′ l))
     (λ z.
-    let i = steady-wait d (λ k. run k P σ) p k w t σ′ (sym (ite-then k d e P Q σ z) ∙ r) in
-    (i .0, λ k′ l. ite-then k′ d e P Q σ z ∙ i .1 k′ l))
+    let i = steady-wait d (λ k. run κ k P σ) p k w t σ′ (sym (ite-then κ k d e P Q σ z) ∙ r) in
+    (i .0, λ k′ l. ite-then κ k′ d e P Q σ z ∙ i .1 k′ l))
 
 -- of loops that each budget gives more turns than instants
 steady-turns : (c : ℕ → ℕ → Store → Run) → ((n : ℕ) → Steadies c n) → (σ : Store) → Steady (λ k. c (suc k) k σ)
 steady-turns c h σ k w t σ′ p = let i = h (suc k) k w t σ σ′ p in (i .0, λ k′ l. i .1 (suc k′) k′ l (omega arith))
 
+steady-postponed : (n : ℕ) (body : Body) → ((σ : Store) → Steady (λ k. body k σ)) → (σ : Store) → Steady (λ k. postponed n body k σ)
+steady-postponed zero body h σ = h σ
+steady-postponed (suc n) body h σ = steady-wait (suc n) (λ k. body k σ) (h σ)
+
 -- A larger budget changes nothing once a run is done
-pub steady : (P : Stmt) → Timed P → (σ : Store) → Steady (λ k. run k P σ)
+pub steady : (κ : Costs) (P : Stmt) → Timed P → (σ : Store) → Steady (λ k. run κ k P σ)
 unfolding run
-steady ok h σ = steady-end atEnd σ
-steady (tick d) h σ = steady-wait d (λ k. ended 0 σ) (steady-end atEnd σ)
-steady (assign d x e) h σ = steady-wait (suc d) (λ k. ended 0 (put σ x (eval e σ))) (steady-end atEnd (put σ x (eval e σ)))
-steady (assignElem d j i e) h σ =
+steady κ ok h σ = steady-end atEnd σ
+steady κ (tick d) h σ = steady-wait d (λ k. ended 0 σ) (steady-end atEnd σ)
+steady κ (assign d x e) h σ = steady-wait (d + κ .write) (λ k. ended 0 (put σ x (eval e σ))) (steady-end atEnd (put σ x (eval e σ)))
+steady κ (assignElem d j i e) h σ =
     let σ′ = put σ (elementWord j (eval i σ)) (eval e σ) in
-    steady-wait (suc d) (λ k. ended 0 σ′) (steady-end atEnd σ′)
-steady (seq P Q) h σ = steady-chain (λ k. run k P σ) (λ k σ. run k Q σ) (steady P (h .0) σ) (steady Q (h .1))
-steady (par P Q) h σ = steady-both (kept P Q σ) (λ k. run k P σ) (λ k. run k Q σ) (steady P (h .0) σ) (steady Q (h .1) σ)
-steady (ite d e P Q) h σ = steady-ite d e P Q σ (steady P (h .2) σ) (steady Q (h .3) σ)
-steady (while d e P) h σ = steady-turns (whiles (λ k σ. run k P σ) d e) (steady-whiles (λ k σ. run k P σ) d (h .0) (steady P (h .2)) e) σ
-steady (repeat d e P) h σ = steady-turns (repeats (λ k σ. run k P σ) d e) (steady-repeats (λ k σ. run k P σ) d (h .0) (steady P (h .2)) e) σ
-steady (loop d P) h σ =
-    steady-caught (λ k. loops (λ k σ. run k P σ) d (suc k) k σ)
-    (steady-turns (loops (λ k σ. run k P σ) d) (steady-loops (λ k σ. run k P σ) d (h .0) (steady P (h .1))) σ)
-steady exit h σ = steady-end atExit σ
+    steady-wait (d + κ .write) (λ k. ended 0 σ′) (steady-end atEnd σ′)
+steady κ (seq P Q) h σ = steady-chain (λ k. run κ k P σ) (λ k σ. run κ k Q σ) (steady κ P (h .0) σ) (steady κ Q (h .1))
+steady κ (par P Q) h σ = steady-both (kept P Q σ) (λ k. run κ k P σ) (λ k. run κ k Q σ) (steady κ P (h .0) σ) (steady κ Q (h .1) σ)
+steady κ (ite d e P Q) h σ = steady-ite κ d e P Q σ (steady κ P (h .2) σ) (steady κ Q (h .3) σ)
+steady κ (while d e P) h σ =
+    let d′ = extended (κ .latch) d in
+    steady-turns (whiles (λ k σ. run κ k P σ) d′ e)
+    (steady-whiles (λ k σ. run κ k P σ) d′ (extended-positive (κ .latch) d (h .0)) (steady κ P (h .2)) e) σ
+steady κ (repeat d e P) h σ =
+    let body = postponed (κ .latch) (λ k σ. run κ k P σ) in
+    steady-turns (repeats body d e) (steady-repeats body d (h .0) (steady-postponed (κ .latch) (λ k σ. run κ k P σ) (steady κ P (h .2))) e) σ
+steady κ (loop d P) h σ =
+    steady-caught (λ k. loops (λ k σ. run κ k P σ) d (suc k) k σ)
+    (steady-turns (loops (λ k σ. run κ k P σ) d) (steady-loops (λ k σ. run κ k P σ) d (h .0) (steady κ P (h .1))) σ)
+steady κ exit h σ = steady-end atExit σ

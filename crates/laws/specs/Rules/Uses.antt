@@ -1,5 +1,5 @@
 -- What a statement reads and leaves alone, by the rules; and that one without exits ends or goes on. Assumes nothing.
-use Prim.Native.Nat.{ℕ, zero, suc, _-_}
+use Prim.Native.Nat.{ℕ, zero, suc, _+_, _-_}
 use mathlib.Core.Path.{_≡_, refl, sym, _∙_, ap, ap₂}
 use mathlib.Core.Bool.{Bool, true, false, _||_, or-true}
 use mathlib.Core.Logic.{⊎-elim}
@@ -7,7 +7,7 @@ use lib.Dec.{eqb}
 use borrow.Author.Tests.{eq-eqb}
 use Rattle.model.specs.Word.{pick, operate, isZero, elementWord}
 use Rattle.model.specs.Program.{Expr, const, var, compl, op, elem, Stmt, ok, tick, assign, assignElem, seq, par, ite, while, repeat, loop, exit, arrayVar, reads, writes, touches}
-use Rattle.model.specs.Rules.{Store, Course, WhileLeaves, RepeatLeaves, Ends, Leaves, Way, atEnd, atExit, Run, done, ended, left, chain, over, kept, whiles, repeats, loops, run, owner, eval, put}
+use Rattle.model.specs.Rules.{Costs, extended, Postponed, postponed, Store, Course, WhileLeaves, RepeatLeaves, Ends, Leaves, Way, atEnd, atExit, Run, done, ended, left, chain, over, kept, whiles, repeats, loops, run, owner, eval, put}
 use Rattle.laws.specs.Program.Fit.{FormedExpr, Formed, Apart, exits}
 use Rattle.laws.specs.Refusals.Laws.{by-bool, or-false, not-both}
 use Rattle.laws.specs.Rules.Words.{owner-variable, owner-element, other-variable, other-element}
@@ -33,6 +33,10 @@ eval-same (elem k e) w σ τ h =
 -- G holds of the words and the way in which c is done, from σ
 abbrev Comes : (Store → Way → Store → Type 0) → (ℕ → Store → Run) → Type 0
 Comes G c = (k : ℕ) (w : Way) (t : ℕ) (σ σ′ : Store) → c k σ ≡ done w t σ′ → G σ w σ′
+
+postponed-comes : (G : Store → Way → Store → Type 0) (n : ℕ) (body : Body) → Comes G body → Comes G (postponed n body)
+postponed-comes G zero body h k w t σ σ′ p = h k w t σ σ′ p
+postponed-comes G (suc n) body h k w t σ σ′ p = let v = wait-done (suc n) k (λ k₁. body k₁ σ) p in h (k - suc n) w (v .0) σ σ′ (v .2)
 
 -- G is kept by going on where another run ended
 module _ (G : Store → Way → Store → Type 0) (join : (σ σ₁ σ₂ : Store) (w : Way) → G σ atEnd σ₁ → G σ₁ w σ₂ → G σ w σ₂) (stay : (σ : Store) → G σ atEnd σ) where
@@ -80,11 +84,11 @@ module _ (G : Store → Way → Store → Type 0) (join : (σ σ₁ σ₂ : Stor
         let v = wait-done d (k - t₁) (λ k₁. loops body d n k₁ σ₁) (sym (round-is body d n (k - t₁) σ₁) ∙ q) in
         loops-comes n (k - t₁ - d) w (v .0) σ₁ σ′ (v .2))
 
-  ite-comes : (d : ℕ) (e : Expr) (P Q : Stmt) → Comes G (λ k σ. run k P σ) → Comes G (λ k σ. run k Q σ) → Comes G (λ k σ. run k (ite d e P Q) σ)
-  ite-comes d e P Q h g k w t σ σ′ p =
+  ite-comes : (κ : Costs) (d : ℕ) (e : Expr) (P Q : Stmt) → Comes G (λ k σ. run κ k P σ) → Comes G (λ k σ. run κ k Q σ) → Comes G (λ k σ. run κ k (ite d e P Q) σ)
+  ite-comes κ d e P Q h g k w t σ σ′ p =
       by-bool (isZero (eval e σ))
-      (λ z. let v = wait-done d k (λ k₁. run k₁ Q σ) (sym (ite-else k d e P Q σ z) ∙ p) in g (k - d) w (v .0) σ σ′ (v .2))
-      (λ z. let v = wait-done d k (λ k₁. run k₁ P σ) (sym (ite-then k d e P Q σ z) ∙ p) in h (k - d) w (v .0) σ σ′ (v .2))
+      (λ z. let v = wait-done d k (λ k₁. run κ k₁ Q σ) (sym (ite-else κ k d e P Q σ z) ∙ p) in g (k - d) w (v .0) σ σ′ (v .2))
+      (λ z. let v = wait-done d k (λ k₁. run κ k₁ P σ) (sym (ite-then κ k d e P Q σ z) ∙ p) in h (k - d) w (v .0) σ σ′ (v .2))
 
 -- A word that is not written stays ------------------------------------------------------------------------------------------------------
 
@@ -101,33 +105,35 @@ same-join x σ σ₁ σ₂ w p q = q ∙ p
 at-word : {w w′ : Way} {t t′ : ℕ} {σ σ′ : Store} (x : ℕ) → done w t σ ≡ done w′ t′ σ′ → σ′ x ≡ σ x
 at-word x p = ap (λ (τ : Store). τ x) (sym (done-words p))
 
-pub unwritten : (P : Stmt) → Formed P → (x : ℕ) → writes P (owner x) ≡ false → Comes (Same x) (λ k σ. run k P σ)
+pub unwritten : (κ : Costs) (P : Stmt) → Formed P → (x : ℕ) → writes P (owner x) ≡ false → Comes (Same x) (λ k σ. run κ k P σ)
 unfolding run writes put
-unwritten ok f x u = λ k w t σ σ′ p. at-word x p
-unwritten (tick d) f x u = λ k w t σ σ′ p. at-word x (wait-done d k (λ k₁. ended 0 σ) p .2)
-unwritten (assign d y e) f x u = λ k w t σ σ′ p.
-    at-word x (wait-done (suc d) k (λ k₁. ended 0 (put σ y (eval e σ))) p .2)
+unwritten κ ok f x u = λ k w t σ σ′ p. at-word x p
+unwritten κ (tick d) f x u = λ k w t σ σ′ p. at-word x (wait-done d k (λ k₁. ended 0 σ) p .2)
+unwritten κ (assign d y e) f x u = λ k w t σ σ′ p.
+    at-word x (wait-done (d + κ .write) k (λ k₁. ended 0 (put σ y (eval e σ))) p .2)
     ∙ ap (λ (b : Bool). pick b (eval e σ) (σ x)) (other-variable x y (f .1) u)
-unwritten (assignElem d j i e) f x u = λ k w t σ σ′ p.
-    at-word x (wait-done (suc d) k (λ k₁. ended 0 (put σ (elementWord j (eval i σ)) (eval e σ))) p .2)
+unwritten κ (assignElem d j i e) f x u = λ k w t σ σ′ p.
+    at-word x (wait-done (d + κ .write) k (λ k₁. ended 0 (put σ (elementWord j (eval i σ)) (eval e σ))) p .2)
     ∙ ap (λ (b : Bool). pick b (eval e σ) (σ x)) (other-element x j (eval i σ) u)
-unwritten (seq P Q) f x u = λ k w t σ σ′ p.
+unwritten κ (seq P Q) f x u = λ k w t σ σ′ p.
     let i = or-false (writes P (owner x)) (writes Q (owner x)) u in
-    chain-comes (Same x) (same-join x) (λ σ. refl) (run k P σ) (λ t σ₁. run (k - t) Q σ₁) σ p (λ w t σ₁ q. unwritten P (f .0) x (i .0) k w t σ σ₁ q)
-    (λ t₁ σ₁ t₂ q. unwritten Q (f .1) x (i .1) (k - t₁) w t₂ σ₁ σ′ q)
-unwritten (par P Q) f x u = λ k w t σ σ′ p.
+    chain-comes (Same x) (same-join x) (λ σ. refl) (run κ k P σ) (λ t σ₁. run κ (k - t) Q σ₁) σ p (λ w t σ₁ q. unwritten κ P (f .0) x (i .0) k w t σ σ₁ q)
+    (λ t₁ σ₁ t₂ q. unwritten κ Q (f .1) x (i .1) (k - t₁) w t₂ σ₁ σ′ q)
+unwritten κ (par P Q) f x u = λ k w t σ σ′ p.
     let i = or-false (writes P (owner x)) (writes Q (owner x)) u in
-    let v = both-done (kept P Q σ) (run k P σ) (run k Q σ) p in
+    let v = both-done (kept P Q σ) (run κ k P σ) (run κ k Q σ) p in
     ap (λ (τ : Store). τ x) (v .7) ∙ kept-same P Q σ (v .1) (v .3) x (i .0) (i .1)
-unwritten (ite d e P Q) f x u =
+unwritten κ (ite d e P Q) f x u =
     let i = or-false (writes P (owner x)) (writes Q (owner x)) u in
-    ite-comes (Same x) (same-join x) (λ σ. refl) d e P Q (unwritten P (f .2) x (i .0)) (unwritten Q (f .3) x (i .1))
-unwritten (while d e P) f x u = λ k. whiles-comes (Same x) (same-join x) (λ σ. refl) (λ k σ. run k P σ) d (unwritten P (f .2) x u) e (suc k) k
-unwritten (repeat d e P) f x u = λ k. repeats-comes (Same x) (same-join x) (λ σ. refl) (λ k σ. run k P σ) d (unwritten P (f .2) x u) e (suc k) k
-unwritten (loop d P) f x u = λ k w t σ σ′ p.
-    let v = caught-done (loops (λ k σ. run k P σ) d (suc k) k σ) p in
-    loops-comes (Same x) (same-join x) (λ σ. refl) (λ k σ. run k P σ) d (unwritten P (f .1) x u) (suc k) k (v .0) t σ σ′ (v .1)
-unwritten exit f x u = λ k w t σ σ′ p. at-word x p
+    ite-comes (Same x) (same-join x) (λ σ. refl) κ d e P Q (unwritten κ P (f .2) x (i .0)) (unwritten κ Q (f .3) x (i .1))
+unwritten κ (while d e P) f x u = λ k. whiles-comes (Same x) (same-join x) (λ σ. refl) (λ k σ. run κ k P σ) (extended (κ .latch) d) (unwritten κ P (f .2) x u) e (suc k) k
+unwritten κ (repeat d e P) f x u = λ k.
+    repeats-comes (Same x) (same-join x) (λ σ. refl) (postponed (κ .latch) (λ k σ. run κ k P σ)) d
+    (postponed-comes (Same x) (κ .latch) (λ k σ. run κ k P σ) (unwritten κ P (f .2) x u)) e (suc k) k
+unwritten κ (loop d P) f x u = λ k w t σ σ′ p.
+    let v = caught-done (loops (λ k σ. run κ k P σ) d (suc k) k σ) p in
+    loops-comes (Same x) (same-join x) (λ σ. refl) (λ k σ. run κ k P σ) d (unwritten κ P (f .1) x u) (suc k) k (v .0) t σ σ′ (v .1)
+unwritten κ exit f x u = λ k w t σ σ′ p. at-word x p
 
 -- What has no exit ends or goes on ------------------------------------------------------------------------------------------------------
 
@@ -137,28 +143,30 @@ Only σ w σ′ = w ≡ atEnd
 only-join : (σ σ₁ σ₂ : Store) (w : Way) → Only σ atEnd σ₁ → Only σ₁ w σ₂ → Only σ w σ₂
 only-join σ σ₁ σ₂ w p q = q
 
-pub only-ends : (P : Stmt) → exits P ≡ false → Comes Only (λ k σ. run k P σ)
+pub only-ends : (κ : Costs) (P : Stmt) → exits P ≡ false → Comes Only (λ k σ. run κ k P σ)
 unfolding run exits
-only-ends ok u = λ k w t σ σ′ p. sym (done-way p)
-only-ends (tick d) u = λ k w t σ σ′ p. sym (done-way (wait-done d k (λ k₁. ended 0 σ) p .2))
-only-ends (assign d y e) u = λ k w t σ σ′ p. sym (done-way (wait-done (suc d) k (λ k₁. ended 0 (put σ y (eval e σ))) p .2))
-only-ends (assignElem d j i e) u = λ k w t σ σ′ p.
-    sym (done-way (wait-done (suc d) k (λ k₁. ended 0 (put σ (elementWord j (eval i σ)) (eval e σ))) p .2))
-only-ends (seq P Q) u = λ k w t σ σ′ p.
+only-ends κ ok u = λ k w t σ σ′ p. sym (done-way p)
+only-ends κ (tick d) u = λ k w t σ σ′ p. sym (done-way (wait-done d k (λ k₁. ended 0 σ) p .2))
+only-ends κ (assign d y e) u = λ k w t σ σ′ p. sym (done-way (wait-done (d + κ .write) k (λ k₁. ended 0 (put σ y (eval e σ))) p .2))
+only-ends κ (assignElem d j i e) u = λ k w t σ σ′ p.
+    sym (done-way (wait-done (d + κ .write) k (λ k₁. ended 0 (put σ (elementWord j (eval i σ)) (eval e σ))) p .2))
+only-ends κ (seq P Q) u = λ k w t σ σ′ p.
     let i = or-false (exits P) (exits Q) u in
-    chain-comes Only only-join (λ σ. refl) (run k P σ) (λ t σ₁. run (k - t) Q σ₁) σ p (λ w t σ₁ q. only-ends P (i .0) k w t σ σ₁ q)
-    (λ t₁ σ₁ t₂ q. only-ends Q (i .1) (k - t₁) w t₂ σ₁ σ′ q)
-only-ends (par P Q) u = λ k w t σ σ′ p. both-done (kept P Q σ) (run k P σ) (run k Q σ) p .8
-only-ends (ite d e P Q) u =
+    chain-comes Only only-join (λ σ. refl) (run κ k P σ) (λ t σ₁. run κ (k - t) Q σ₁) σ p (λ w t σ₁ q. only-ends κ P (i .0) k w t σ σ₁ q)
+    (λ t₁ σ₁ t₂ q. only-ends κ Q (i .1) (k - t₁) w t₂ σ₁ σ′ q)
+only-ends κ (par P Q) u = λ k w t σ σ′ p. both-done (kept P Q σ) (run κ k P σ) (run κ k Q σ) p .8
+only-ends κ (ite d e P Q) u =
     let i = or-false (exits P) (exits Q) u in
-    ite-comes Only only-join (λ σ. refl) d e P Q (only-ends P (i .0)) (only-ends Q (i .1))
-only-ends (while d e P) u = λ k. whiles-comes Only only-join (λ σ. refl) (λ k σ. run k P σ) d (only-ends P u) e (suc k) k
-only-ends (repeat d e P) u = λ k. repeats-comes Only only-join (λ σ. refl) (λ k σ. run k P σ) d (only-ends P u) e (suc k) k
-only-ends (loop d P) u = λ k w t σ σ′ p. caught-done (loops (λ k σ. run k P σ) d (suc k) k σ) p .2
-only-ends exit u = not-both refl u
+    ite-comes Only only-join (λ σ. refl) κ d e P Q (only-ends κ P (i .0)) (only-ends κ Q (i .1))
+only-ends κ (while d e P) u = λ k. whiles-comes Only only-join (λ σ. refl) (λ k σ. run κ k P σ) (extended (κ .latch) d) (only-ends κ P u) e (suc k) k
+only-ends κ (repeat d e P) u = λ k.
+    repeats-comes Only only-join (λ σ. refl) (postponed (κ .latch) (λ k σ. run κ k P σ)) d
+    (postponed-comes Only (κ .latch) (λ k σ. run κ k P σ) (only-ends κ P u)) e (suc k) k
+only-ends κ (loop d P) u = λ k w t σ σ′ p. caught-done (loops (λ k σ. run κ k P σ) d (suc k) k σ) p .2
+only-ends κ exit u = not-both refl u
 
-pub never-leaves : {A : Type 0} (P : Stmt) → exits P ≡ false → (k t : ℕ) (σ σ′ : Store) → run k P σ ≡ left t σ′ → A
-never-leaves P u k t σ σ′ p = not-way (sym (only-ends P u k atExit t σ σ′ p))
+pub never-leaves : {A : Type 0} (κ : Costs) (P : Stmt) → exits P ≡ false → (k t : ℕ) (σ σ′ : Store) → run κ k P σ ≡ left t σ′ → A
+never-leaves κ P u k t σ σ′ p = not-way (sym (only-ends κ P u k atExit t σ σ′ p))
 
 -- the same of the rules as the paper states them: L never holds of a body
 module _ (R L : Course) (d : ℕ) (e : Expr) (none : (σ : Store) (t : ℕ) (σ′ : Store) → L σ t σ′ → ⊥) where
@@ -172,23 +180,28 @@ module _ (R L : Course) (d : ℕ) (e : Expr) (none : (σ : Store) (t : ℕ) (σ�
   repeat-never zero σ t σ′ l = none σ t σ′ l
   repeat-never (suc n) σ t σ′ l = repeat-never n (l .1) (l .2) σ′ (l .5)
 
-pub never-left : (P : Stmt) → exits P ≡ false → (σ : Store) (t : ℕ) (σ′ : Store) → Leaves P σ t σ′ → ⊥
+postponed-never : (n : ℕ) (L : Course) → ((σ : Store) (t : ℕ) (σ′ : Store) → L σ t σ′ → ⊥) → (σ : Store) (t : ℕ) (σ′ : Store) → Postponed n L σ t σ′ → ⊥
+postponed-never zero L h σ t σ′ l = h σ t σ′ l
+postponed-never (suc n) L h σ t σ′ l = h σ (l .0) σ′ (l .1)
+
+pub never-left : (κ : Costs) (P : Stmt) → exits P ≡ false → (σ : Store) (t : ℕ) (σ′ : Store) → Leaves κ P σ t σ′ → ⊥
 unfolding Leaves exits
-never-left ok u σ t σ′ l = l
-never-left (tick d) u σ t σ′ l = l
-never-left (assign d x e) u σ t σ′ l = l
-never-left (assignElem d k i e) u σ t σ′ l = l
-never-left (seq P Q) u σ t σ′ l =
+never-left κ ok u σ t σ′ l = l
+never-left κ (tick d) u σ t σ′ l = l
+never-left κ (assign d x e) u σ t σ′ l = l
+never-left κ (assignElem d k i e) u σ t σ′ l = l
+never-left κ (seq P Q) u σ t σ′ l =
     let i = or-false (exits P) (exits Q) u in
-    ⊎-elim (λ m. never-left P (i .0) σ t σ′ m) (λ m. never-left Q (i .1) (m .1) (m .2) σ′ (m .4)) l
-never-left (par P Q) u σ t σ′ l = l
-never-left (ite d e P Q) u σ t σ′ l =
+    ⊎-elim (λ m. never-left κ P (i .0) σ t σ′ m) (λ m. never-left κ Q (i .1) (m .1) (m .2) σ′ (m .4)) l
+never-left κ (par P Q) u σ t σ′ l = l
+never-left κ (ite d e P Q) u σ t σ′ l =
     let i = or-false (exits P) (exits Q) u in
-    by-bool (isZero (eval e σ)) (λ z. never-left Q (i .1) σ (l .0) σ′ (l .2 z)) (λ z. never-left P (i .0) σ (l .0) σ′ (l .1 z))
-never-left (while d e P) u σ t σ′ l = while-never (Ends P) (Leaves P) d e (never-left P u) (l .0) σ t σ′ (l .1)
-never-left (repeat d e P) u σ t σ′ l = repeat-never (Ends P) (Leaves P) d e (never-left P u) (l .0) σ t σ′ (l .1)
-never-left (loop d P) u σ t σ′ l = l
-never-left exit u σ t σ′ l = not-both refl u
+    by-bool (isZero (eval e σ)) (λ z. never-left κ Q (i .1) σ (l .0) σ′ (l .2 z)) (λ z. never-left κ P (i .0) σ (l .0) σ′ (l .1 z))
+never-left κ (while d e P) u σ t σ′ l = while-never (Ends κ P) (Leaves κ P) (extended (κ .latch) d) e (never-left κ P u) (l .0) σ t σ′ (l .1)
+never-left κ (repeat d e P) u σ t σ′ l =
+    repeat-never (Postponed (κ .latch) (Ends κ P)) (Postponed (κ .latch) (Leaves κ P)) d e (postponed-never (κ .latch) (Leaves κ P) (never-left κ P u)) (l .0) σ t σ′ (l .1)
+never-left κ (loop d P) u σ t σ′ l = l
+never-left κ exit u σ t σ′ l = not-both refl u
 
 -- What is written is touched --------------------------------------------------------------------------------------------------------------
 

@@ -13,7 +13,7 @@ use Rattle.model.specs.declared.Checked.the-variants.{Accepted, Refused}
 use Rattle.model.specs.declared.Refusal.{Refusal}
 use Rattle.model.specs.declared.Format.{Format}
 use Rattle.model.specs.declared.Format.the-variants.{Full, Compact}
-use Rattle.model.specs.Circuit.{cellAt, high}
+use Rattle.model.specs.Circuit.{Netlist, cellAt, high}
 use Rattle.model.specs.Word.{pick}
 use Rattle.model.specs.Refusals.{refuse, firstFault, faultIf}
 use Rattle.model.specs.State.{Course, course, longer, base, nowAt, leftAt, value, stepState, crowded, crowding, continued}
@@ -22,7 +22,7 @@ use Rattle.laws.specs.State.Passes.{now-counted, one, one-high, two, two
 
 -- The clauses --------------------------------------------------------------------------------------------------------------------------
 
-module _ (F : Format) (net : List Cell) (f n : ℕ) (s : List ℕ) where
+module _ (F : Format) (net : Netlist) (f n : ℕ) (s : List ℕ) where
   abbrev t : List ℕ
   t = stepState F net false s
 
@@ -47,7 +47,7 @@ module _ (F : Format) (net : List Cell) (f n : ℕ) (s : List ℕ) where
 
 -- A full state has room for every pulse ------------------------------------------------------------------------------------------------
 
-pub full-free : (net : List Cell) (f n : ℕ) (s : List ℕ) → continued Full net f n s .check ≡ Accepted
+pub full-free : (net : Netlist) (f n : ℕ) (s : List ℕ) → continued Full net f n s .check ≡ Accepted
 unfolding continued
 full-free net f zero s = refl
 full-free net f (suc n) s =
@@ -66,27 +66,27 @@ faults-same f g i (suc n) h =
     (faults-same f g (i + 1) n (λ j l k. h j (omega arith) (omega arith)))
 
 -- after the second pass the wires show what they show after the instant, and the numbers of lines are those of before it
-module _ (net : List Cell) (starts : Bool) (s : List ℕ) where
+module _ (net : Netlist) (starts : Bool) (s : List ℕ) where
   abbrev valued : List ℕ
-  valued = two Compact net (value Compact net starts) (one Compact s (length net)) (length net)
+  valued = two Compact net (value Compact net starts) (one Compact s (length (net .cells))) (length (net .cells))
 
-  crowded-seen : (k : ℕ) → k < length net → crowded Compact net s (stepState Compact net starts s) k ≡ crowded Compact net valued valued k
+  crowded-seen : (k : ℕ) → k < length (net .cells) → crowded Compact net s (stepState Compact net starts s) k ≡ crowded Compact net valued valued k
   unfolding crowded
   crowded-seen k l =
-      let u = one Compact s (length net) in
+      let u = one Compact s (length (net .cells)) in
       let v = value Compact net starts in
-      let a = cellAt net k .a in
+      let a = cellAt (net .cells) k .a in
       let enters : nowAt Compact (stepState Compact net starts s) a ≡ nowAt Compact valued a =
       ap (λ (t : List ℕ). nowAt Compact t a) (step-is Compact net starts s) ∙ now-counted Compact net (after Compact net v u) a
-      ∙ now-three Compact net v u (length net) a in
+      ∙ now-three Compact net v u (length (net .cells)) a in
       let left : leftAt Compact s k ≡ leftAt Compact valued k =
       sym
-      (two-high Compact net v u (length net) k (base Compact k + 6) l (omega arith) (omega arith)
-      ∙ one-high Compact s (length net) k (base Compact k + 6) (omega arith) (omega arith)) in
-      ap₂ (λ (x y : ℕ). faultIf (eqb (cellAt net k .kind) 34 && (high x && ltb 1 y)) 26) enters left
+      (two-high Compact net v u (length (net .cells)) k (base Compact k + 6) l (omega arith) (omega arith)
+      ∙ one-high Compact s (length (net .cells)) k (base Compact k + 6) (omega arith) (omega arith)) in
+      ap₂ (λ (x y : ℕ). faultIf (eqb (cellAt (net .cells) k .kind) 34 && (high x && ltb 1 y)) 26) enters left
 
   pub crowding-seen : crowding Compact net s (stepState Compact net starts s) ≡ crowding Compact net valued valued
   unfolding crowding
   crowding-seen =
-      faults-same (crowded Compact net s (stepState Compact net starts s)) (crowded Compact net valued valued) 0 (length net)
+      faults-same (crowded Compact net s (stepState Compact net starts s)) (crowded Compact net valued valued) 0 (length (net .cells))
       (λ k l h. crowded-seen k (omega arith))

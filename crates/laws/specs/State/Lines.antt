@@ -16,7 +16,7 @@ use borrow.Author.Tests.{eq-eqb, ne-eqb, eqb-true, eqb-false, lt-ltb, le-ltb}
 use Rattle.model.specs.declared.Format.{Format}
 use Rattle.model.specs.declared.Format.the-variants.{Full, Compact}
 use Rattle.model.specs.Word.{pick, bit}
-use Rattle.model.specs.State.{shiftedIn, ones, cellSize, base, leftAt, lineBit, takenIn}
+use Rattle.model.specs.State.{shiftedIn, ones, cellSize, base, leftAt, lineBit, takenIn, remainingByte}
 use Rattle.model.specs.CircuitPromises.{kept}
 use Rattle.laws.specs.Refusals.Laws.{by-bool, by-le}
 use Rattle.laws.specs.State.Bytes.{bit-lt}
@@ -37,6 +37,17 @@ behind F j k h = omega (arith, below F j k h, least F)
 pub rising : (F : Format) (j k : ℕ) → j ≤ k → base F j ≤ base F k
 rising Full j k h = omega arith
 rising Compact j k h = omega arith
+
+-- the start's byte is among those from 6 on
+pub remaining-from : (F : Format) (k : ℕ) → base F k + 6 ≤ remainingByte F k
+unfolding remainingByte
+remaining-from Full k = omega arith
+remaining-from Compact k = omega arith
+
+pub remaining-within : (F : Format) (k : ℕ) → remainingByte F k < base F k + cellSize F
+unfolding remainingByte
+remaining-within Full k = omega arith
+remaining-within Compact k = omega arith
 
 -- a delay's last d inputs are kept
 pub kept-all : (F : Format) (d : ℕ) → d ≤ 255 → d ≤ kept F d

@@ -14,6 +14,7 @@ use Rattle.model.specs.Refusals.{first}
 use Rattle.model.specs.ProgramChecks.{programWith, checkOf}
 use Rattle.model.specs.Numbering.{finish}
 use Rattle.model.specs.declared.Format.the-variants.{Full}
+use Rattle.model.specs.TimeTables.{givenCheck}
 use Rattle.model.specs.Calls.{Returned, writing, compiledFile, netlistChecks, compileCall, running, fullState, fullCount, fullRunChecks, runProgramCall}
 use Rattle.model.specs.TextCalls.{textProgram, textChecks, readTextChecks, readTextCall, compileTextCall, runTextCall}
 use Rattle.laws.specs.Refusals.Laws.{all-accept, first-append, first-behind, first-drop, accept-take}
@@ -28,7 +29,7 @@ compile-as-program options text lent e =
     let file = compiledFile options program in
     let checks = netlistChecks options program lent in
     ap (λ (c : Checked). writing c file (length file) (finish (programWith options program)) lent)
-    (first-behind (options .checked) (textChecks text ++ checks) checks (first-append (textChecks text) checks e))
+    (first-behind (givenCheck options) (textChecks text ++ checks) checks (first-append (textChecks text) checks e))
 
 pub run-as-program : (options : Options) (text words : List ℕ) (n : ℕ) (forFile lent : List ℕ) → first (textChecks text) ≡ Accepted
     → runTextCall options text words n forFile lent ≡ runProgramCall options (textProgram text) words n forFile lent
@@ -40,7 +41,7 @@ run-as-program options text words n forFile lent e =
     ap (λ (c : Checked).
     let r = running Full c file (fullState file words n lent) (fullCount file words n lent) lent in
     record { answer = r .answer; netlist = writing c file (length file) 0 forFile .lent; state = r .lent })
-    (first-behind (options .checked) (textChecks text ++ checks) checks (first-append (textChecks text) checks e))
+    (first-behind (givenCheck options) (textChecks text ++ checks) checks (first-append (textChecks text) checks e))
 
 -- what reading wrote
 module _ (options : Options) (text lent : List ℕ) (n f : ℕ) (done : readTextCall options text lent .answer ≡ Done n f) where
@@ -50,7 +51,7 @@ module _ (options : Options) (text lent : List ℕ) (n f : ℕ) (done : readText
 
   pub text-accepted : first (textChecks text) ≡ Accepted
   text-accepted =
-      let checks = options .checked ∷ textChecks text in
+      let checks = givenCheck options ∷ textChecks text in
       let e = accept-take 4 (readTextChecks options text lent) (read .accepted) in
       sym (first-drop 1 checks (accept-take 1 checks e)) ∙ e
 

@@ -2,6 +2,7 @@
 use mathlib.Core.Path.{_∙_}
 use Rattle.laws.specs.Refusals.Laws.{first-one}
 use Rattle.program.specs.Roots.{clashFault}
+use Rattle.model.specs.Program.{programOf}
 use borrow.Author.Needs.{needs}
 use Rattle.program.proofs.last_check.Statement.{statement}
 use Rattle.program.proofs.last_check.Tie as tie
@@ -15,14 +16,14 @@ returns c =
     rw (← first-slow .ensures, c .before .slow .given .1)
 
 returns-2 : tie.Need-returns-2
-unfolding clashFault
+unfolding clashFault programOf
 returns-2 c =
     let first-slow = c .before .before .before .before .before .before .first-slow in
     let first-clash = c .before .before .before .first-clash in
     rw (← first-slow .ensures, c .before .before .before .before .enum-told .given .1, ← first-clash .ensures, c .before .both .given .1)
 
 returns-3 : tie.Need-returns-3
-unfolding clashFault
+unfolding clashFault programOf
 returns-3 c =
     let first-slow = c .before .before .before .before .before .before .first-slow in
     let first-clash = c .before .before .before .first-clash in

@@ -1,24 +1,25 @@
 -- Refusals 22 and 24, and then the others, in their order.
 use Rattle.program.specs.Roots.{rootFault}
+use Rattle.model.specs.Program.{programOf}
 use borrow.Author.Needs.{needs}
 use Rattle.program.proofs.late_check.Statement.{statement}
 use Rattle.program.proofs.late_check.Tie as tie
 
 returns : tie.Need-returns
-unfolding rootFault
+unfolding rootFault programOf
 returns c =
     let loose = c .before .before .before .first-in-roots in
     rw (← loose .ensures, c .before .loose .given .1)
 
 returns-2 : tie.Need-returns-2
-unfolding rootFault
+unfolding rootFault programOf
 returns-2 c =
     let loose = c .before .before .before .before .before .before .first-in-roots in
     let late = c .before .before .before .first-in-roots2 in
     rw (← loose .ensures, c .before .before .before .before .enum-told .given .1, ← late .ensures, c .before .late .given .1)
 
 returns-3 : tie.Need-returns-3
-unfolding rootFault
+unfolding rootFault programOf
 returns-3 c =
     let loose = c .before .before .before .before .before .before .first-in-roots in
     let late = c .before .before .before .first-in-roots2 in

@@ -12,11 +12,11 @@ use Rattle.program.proofs.measure.Statement.{statement}
 use Rattle.program.proofs.measure.Tie as tie
 
 abbrev Inv-loop : tie.InvT-loop
-Inv-loop operators program procedures count times₀ ends₀ i₀ times ends i =
+Inv-loop operators pulse program procedures count times₀ ends₀ i₀ times ends i =
     (i ≤ count) × (length times ≡ 200) × (length ends ≡ 200) × ((j : ℕ) → i ≤ j → j < nodeCount program → Shaped (timeIn operators) program times ends j)
 
 abbrev μ-loop : tie.MeasureT-loop
-μ-loop operators program procedures count times₀ ends₀ i₀ times ends i = i
+μ-loop operators pulse program procedures count times₀ ends₀ i₀ times ends i = i
 
 loop-holds : tie.Need-loop-holds Inv-loop μ-loop
 loop-holds c = (omega arith, refl, refl, λ j l m. absurd (omega arith))

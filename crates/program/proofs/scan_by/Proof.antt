@@ -10,21 +10,23 @@ use Rattle.program.proofs.scan_by.Statement.{statement}
 use Rattle.program.proofs.scan_by.Tie as tie
 
 measure-requires : tie.Need-measure-requires
-measure-requires c κs = readable (λ k. 0) _ _ (sym (c .before .before .early-check .ensures (λ k. 0)) ∙ c .enum-told .given .1)
+measure-requires c κs = readable (λ k. 0) 1 _ _ (sym (c .before .before .early-check .ensures (λ k. 0) 1) ∙ c .enum-told .given .1)
 
 returns : tie.Need-returns
 returns c =
     let early-check = c .before .before .before .before .early-check in
-    let τ = timeIn (now (c .before .before .before .before .before .before .before .args .operators)) in
-    let e = first-take 3 (programChecks τ _ _) (sym (early-check .ensures τ) ∙ c .before .before .early .given .1) in
+    let args = c .before .before .before .before .before .before .before .args in
+    let τ = timeIn (now (args .operators)) in
+    let e = first-take 3 (programChecks τ (args .pulse) _ _) (sym (early-check .ensures τ (args .pulse)) ∙ c .before .before .early .given .1) in
     record { checked = c .unscanned .ensures ∙ sym e; shaped = λ a. not-refused (sym e ∙ a) }
 
 returns-2 : tie.Need-returns-2
 returns-2 c =
     let early-check = c .before .before .before .early-check in
-    let τ = timeIn (now (c .before .before .before .before .before .before .args .operators)) in
+    let args = c .before .before .before .before .before .before .args in
+    let τ = timeIn (now (args .operators)) in
     record {
-      checked = c .measure .ensures .checked ∙ sym (first-drop 3 (programChecks τ _ _) (sym (early-check .ensures τ) ∙ c .before .enum-told .given .1));
+      checked = c .measure .ensures .checked ∙ sym (first-drop 3 (programChecks τ (args .pulse) _ _) (sym (early-check .ensures τ (args .pulse)) ∙ c .before .enum-told .given .1));
       shaped = λ a. c .measure .ensures .shaped;
     }
 

@@ -1,4 +1,4 @@
--- An assignment to an element: index and value, the word put, and d + 1 instants.
+-- An assignment to an element: index and value, the word put, and as many instants as its delay and a pulse have.
 use native.Mathlib.Omega.{arith}
 use borrow.Author.Needs.{needs}
 use Rattle.rules.proofs.Agree.{element-low}
@@ -20,7 +20,7 @@ with-word-requires c κs =
 
 returns : tie.Need-returns
 returns c =
-    run-assign-elem _ _ _ _ _ _ _ _ _ _ _ (c .before .before .before .before .eval-at .ensures) (c .before .before .element-word .ensures)
+    run-assign-elem _ _ _ _ _ _ _ _ _ _ _ _ (c .before .before .before .before .eval-at .ensures) (c .before .before .element-word .ensures)
     (c .before .before .before .eval-at2 .ensures) (c .before .with-word .ensures) (c .pause .ensures)
 
 pub assign-elem-at-spec : {M : Type 1} → statement M

@@ -56,9 +56,9 @@ returns-4 c =
     let skip = c .before .before .before .before .skip in
     let start-words = c .before .before .start-words in
     let told = enum-told .given .1 in
-    let main = main-is _ _ (scanned-laid (start .args .options) _ _ (scan .ensures) told) _ _ (skip .ensures) in
+    let main = main-is (start .args .options .pulse) _ _ (scanned-laid (start .args .options) _ _ (scan .ensures) told) _ _ (skip .ensures) in
     call-runs (start .args .options) _ _ _ (sym (scan .ensures .checked) ∙ told) (if1 .left) (if2 .left) _ (start-words .ensures) _
-    (stands-as _ _ _ (sym main) (c .before .run-at .ensures)) _ (c .answer .ensures)
+    (stands-as _ _ _ _ (sym main) (c .before .run-at .ensures)) _ (c .answer .ensures)
 
 pub reference-run-spec : {M : Type 1} → statement M
 reference-run-spec =

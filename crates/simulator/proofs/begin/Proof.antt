@@ -8,7 +8,9 @@ use Rattle.simulator.proofs.begin.Tie as tie
 
 returns : tie.Need-returns
 unfolding beginCall
-returns c = run-refused _ _ _ _ _ _ _ _ (sym (c .before .before .before .before .check-begin .ensures) ∙ c .before .before .checked .given .1) (c .refused .ensures)
+returns c =
+    let check-begin = c .before .before .before .before .check-begin in
+    run-refused _ _ _ _ _ _ _ _ (sym (check-begin .ensures) ∙ c .before .before .checked .given .1) (c .refused .ensures)
 
 begin-requires : tie.Need-begin-requires
 begin-requires c κs =

@@ -2,7 +2,7 @@
 use mathlib.Core.Path.{sym, _∙_, ap}
 use borrow.Author.Needs.{needs}
 use Rattle.model.specs.Calls.{continueCall}
-use Rattle.model.specs.NetlistFile.{cellsOf, finishOf}
+use Rattle.model.specs.NetlistFile.{netOf, finishOf}
 use Rattle.simulator.proofs.Continuing.{with-none}
 use Rattle.simulator.proofs.Refusing.{continue-accepted, going-refused, going-done}
 use Rattle.simulator.specs.Levels.{told}
@@ -13,7 +13,8 @@ use Rattle.simulator.proofs.continue_by.Tie as tie
 returns : tie.Need-returns
 unfolding continueCall
 returns c =
-    going-refused _ _ _ _ _ _ _ (sym (c .before .before .before .before .check-continue .ensures) ∙ c .before .before .checked .given .1) (c .refused .ensures)
+    let check-continue = c .before .before .before .before .check-continue in
+    going-refused _ _ _ _ _ _ _ (sym (check-continue .ensures) ∙ c .before .before .checked .given .1) (c .refused .ensures)
 
 continue-by-requires : tie.Need-continue-by-requires
 continue-by-requires c κs =
@@ -23,12 +24,14 @@ continue-by-requires c κs =
 returns-2 : tie.Need-returns-2
 unfolding continueCall
 returns-2 c =
+    let check-continue = c .before .before .before .before .before .before .check-continue in
+    let enum-told = c .before .before .before .before .enum-told in
     let args = c .before .before .before .before .before .before .before .before .before .before .args in
     let F = args .format in
     let file = args .netlist .now in
     let done = c .before .before .continue-by .ensures in
-    let none = with-none F (cellsOf file) (finishOf file) (args .n) (args .state .now) in
-    going-done _ _ _ _ _ _ _ (sym (c .before .before .before .before .before .before .check-continue .ensures) ∙ c .before .before .before .before .enum-told .given .1) (done .1 ∙ ap (told F file) none) (done .0 ∙ ap (λ (x : Course). x .state) none)
+    let none = with-none F (netOf file) (finishOf file) (args .n) (args .state .now) in
+    going-done _ _ _ _ _ _ _ (sym (check-continue .ensures) ∙ enum-told .given .1) (done .1 ∙ ap (told F file) none) (done .0 ∙ ap (λ (x : Course). x .state) none)
 
 pub continue-by-spec : {M : Type 1} → statement M
 continue-by-spec =

@@ -8,7 +8,9 @@ use Rattle.simulator.proofs.run_netlist.Tie as tie
 
 returns : tie.Need-returns
 unfolding runNetlistCall
-returns c = run-refused _ _ _ _ _ _ _ _ (sym (c .before .before .before .before .check-run .ensures) ∙ c .before .before .checked .given .1) (c .refused .ensures)
+returns c =
+    let check-run = c .before .before .before .before .check-run in
+    run-refused _ _ _ _ _ _ _ _ (sym (check-run .ensures) ∙ c .before .before .checked .given .1) (c .refused .ensures)
 
 full-run-requires : tie.Need-full-run-requires
 full-run-requires c κs =

@@ -3,7 +3,7 @@ use mathlib.Core.Bool.{true}
 use mathlib.Core.Path.{refl, sym, _∙_, ap}
 use borrow.Author.Needs.{needs}
 use Rattle.model.specs.Calls.{startCall}
-use Rattle.model.specs.NetlistFile.{cellsOf, finishOf}
+use Rattle.model.specs.NetlistFile.{netOf, finishOf}
 use Rattle.simulator.proofs.Continuing.{with-one}
 use Rattle.simulator.proofs.Crowding.{quiet-roomy}
 use Rattle.simulator.proofs.Answers.{told-shows}
@@ -16,7 +16,8 @@ use Rattle.simulator.proofs.start.Tie as tie
 returns : tie.Need-returns
 unfolding startCall
 returns c =
-    run-refused _ _ _ _ _ _ _ _ (sym (c .before .before .before .before .check-start .ensures) ∙ c .before .before .checked .given .1) (c .refused .ensures)
+    let check-start = c .before .before .before .before .check-start in
+    run-refused _ _ _ _ _ _ _ _ (sym (check-start .ensures) ∙ c .before .before .checked .given .1) (c .refused .ensures)
 
 continue-by-requires : tie.Need-continue-by-requires
 continue-by-requires c κs =
@@ -27,13 +28,15 @@ continue-by-requires c κs =
 returns-2 : tie.Need-returns-2
 unfolding startCall
 returns-2 c =
+    let check-start = c .before .before .before .before .before .before .check-start in
+    let enum-told = c .before .before .before .before .enum-told in
     let args = c .before .before .before .before .before .before .before .before .before .before .args in
     let F = args .format in
     let file = args .netlist .now in
-    let accepted = sym (c .before .before .before .before .before .before .check-start .ensures) ∙ c .before .before .before .before .enum-told .given .1 in
+    let accepted = sym (check-start .ensures) ∙ enum-told .given .1 in
     let z = start-accepted F file (args .state .now) accepted in
     let done = c .before .before .continue-by .ensures in
-    let one = with-one F (cellsOf file) true (finishOf file) (args .state .now) (quiet-roomy F (cellsOf file) (args .state .now) _ (z .2) (z .3)) in
+    let one = with-one F (netOf file) true (finishOf file) (args .state .now) (quiet-roomy F (netOf file) (args .state .now) _ (z .2) (z .3)) in
     run-done _ _ _ _ _ _ _ _ accepted (done .1 ∙ ap (told F file) one ∙ told-shows F file _ refl) (done .0 ∙ ap (λ (x : Course). x .state) one)
 
 pub start-spec : {M : Type 1} → statement M

@@ -17,7 +17,7 @@ use Rattle.model.specs.declared.Cell.{Cell}
 use Rattle.model.specs.declared.Checked.the-variants.{Accepted}
 use Rattle.model.specs.Word.{pick, bit, operate, index, get16, Bytes}
 use Rattle.model.specs.Circuit.{falls, cellAt, arrayAt, Sig, Values, level, element, memory, equation, startWord, Obeys, Shape, cellTable, shape, kConstant, kComplement, kOperator, kStart, kGround, kDelay, kOr, kWhenTrue, kWhenFalse, kMerge, kReturn, kMemory, kGated, kArray, kAddress, kRead, kUnknown}
-use Rattle.model.specs.NetlistFile.{cellFrom, cellsAt, inFile, cellsOf, countOf, finishOf, netCheck, fileCheck}
+use Rattle.model.specs.NetlistFile.{cellFrom, cellsAt, inFile, cellsOf, countOf, finishOf, netCheck, fileCheck, netOf, pulseOf}
 use Rattle.laws.specs.Circuit.Ordered.{Looks, kinds}
 use Rattle.theory.specs.Circuit.Unique.{Feeds, feeds}
 use Rattle.laws.specs.NetlistFile.Passed.{net-ordered, file-passed}
@@ -54,12 +54,12 @@ module _ (net : List Cell) (words : ℕ → ℕ) (w : (x : ℕ) → words x < 65
       pick-word (falls W (cellAt net j .a) t && eqb i (index (W (cellAt net (j + 1) .a) t)))
       (past t (lt-suc-self t) (cellAt net j .b) (f .1)) (element-word j i t f (λ u l. past u (omega arith)))
 
-  module _ (fed : (j : ℕ) → j < length net → cellAt net j .kind ≡ 42 → Feeds net j) (starts : Sig) (first k : ℕ) (c : Cell) (a : c .a < 65536)
+  module _ (fed : (j : ℕ) → j < length net → cellAt net j .kind ≡ 42 → Feeds net j) (p : ℕ) (starts : Sig) (first k : ℕ) (c : Cell) (a : c .a < 65536)
       (f : first < 65536) (l : k < length net) where
     -- a cell shows a word if all cells did before and the lower ones do
     equation-word : (s : Shape) (t : ℕ) → Looks (cellTable s .row) (kinds net) (length net) k c
         → ((u : ℕ) → u < t → (j : ℕ) → j < length net → W j u < 65536)
-        → ((j : ℕ) → j < k → W j t < 65536) → equation s starts first (element net words W) W k c t < 65536
+        → ((j : ℕ) → j < k → W j t < 65536) → equation p s starts first (element net words W) W k c t < 65536
     unfolding equation memory cellTable
     equation-word kConstant t o past below = a
     equation-word kComplement t o past below = operate-word 3 _ 0 (below (c .a) (o .1 .0)) (omega arith)
@@ -85,17 +85,17 @@ module _ (net : List Cell) (words : ℕ → ℕ) (w : (x : ℕ) → words x < 65
 -- Netlists -----------------------------------------------------------------------------------------------------------------------------
 
 -- every wire's value is a word, in a netlist that refusal 12 lets pass
-pub wires-bounded : (net : List Cell) (f : ℕ) → netCheck net f ≡ Accepted → ((k : ℕ) → k < length net → cellAt net k .a < 65536)
+pub wires-bounded : (p : ℕ) (net : List Cell) (f : ℕ) → netCheck net f ≡ Accepted → ((k : ℕ) → k < length net → cellAt net k .a < 65536)
     → (starts : Sig) (words : ℕ → ℕ) → ((x : ℕ) → words x < 65536)
-    → (W : Values) → Obeys net starts words W → (k : ℕ) → k < length net → (t : ℕ) → W k t < 65536
+    → (W : Values) → Obeys (record { cells = net; pulse = p }) starts words W → (k : ℕ) → k < length net → (t : ℕ) → W k t < 65536
 unfolding Obeys
-wires-bounded net f e a starts words w W obeys k l t =
+wires-bounded p net f e a starts words w W obeys k l t =
     let o = net-ordered net f e in
     WellFounded·induction (Nat·lt-wfRel .wf) {C = λ u. (j : ℕ) → j < length net → W j u < 65536} t
     (λ u past j. WellFounded·induction (Nat·lt-wfRel .wf) {C = λ j. j < length net → W j u < 65536} j
     (λ j below lj.
     rw (obeys j lj u)
-    (equation-word net words w W (feeds net o) starts (startWord net words j) j (cellAt net j) (a j lj) (w _) lj (shape (cellAt net j .kind)) u
+    (equation-word net words w W (feeds net o) p starts (startWord net words j) j (cellAt net j) (a j lj) (w _) lj (shape (cellAt net j .kind)) u
     (o .looks j lj) past (λ i li. below i li (omega arith)))))
     k l
 
@@ -110,13 +110,13 @@ field-word at s y k (suc n) (suc i) = field-word at s y (k + 1) n i
 
 -- every wire's value is a word, in the netlist of an accepted file
 pub file-bounded : (file : List ℕ) → Bytes file → fileCheck file ≡ Accepted → (starts : Sig) (words : ℕ → ℕ) → ((x : ℕ) → words x < 65536)
-    → (W : Values) → Obeys (cellsOf file) starts words W → (k : ℕ) → k < length (cellsOf file) → (t : ℕ) → W k t < 65536
+    → (W : Values) → Obeys (netOf file) starts words W → (k : ℕ) → k < length (cellsOf file) → (t : ℕ) → W k t < 65536
 file-bounded file y e =
-    wires-bounded (cellsOf file) (finishOf file) (file-passed file e .cells) (λ k l. unfold cellsOf in field-word inFile file y 0 (countOf file) k)
+    wires-bounded (pulseOf file) (cellsOf file) (finishOf file) (file-passed file e .cells) (λ k l. unfold cellsOf in field-word inFile file y 0 (countOf file) k)
 
 -- and so is every element
 pub elements-bounded : (file : List ℕ) → Bytes file → fileCheck file ≡ Accepted → (starts : Sig) (words : ℕ → ℕ) → ((x : ℕ) → words x < 65536)
-    → (W : Values) → Obeys (cellsOf file) starts words W → (v : ℕ) → v < 4 → (i t : ℕ) → element (cellsOf file) words W (arrayAt (cellsOf file) v) i t < 65536
+    → (W : Values) → Obeys (netOf file) starts words W → (v : ℕ) → v < 4 → (i t : ℕ) → element (cellsOf file) words W (arrayAt (cellsOf file) v) i t < 65536
 elements-bounded file y e starts words w W obeys v l i t =
     let net = cellsOf file in
     let o = net-ordered net (finishOf file) (file-passed file e .cells) in

@@ -11,7 +11,7 @@ use lib.Dec.{eqb, eqb→eq, eqb-refl}
 use lib.ListN.{length}
 use Rattle.model.specs.Word.{pick}
 use Rattle.model.specs.declared.Cell.{Cell}
-use Rattle.model.specs.Circuit.{Sig, Values, cellAt, element, startWord, Obeys}
+use Rattle.model.specs.Circuit.{Netlist, Sig, Values, cellAt, element, startWord, Obeys}
 use Rattle.laws.specs.Numbering.Cells.{cellVal}
 use Rattle.laws.specs.Refusals.Laws.{is-true, is-false}
 use Rattle.theory.specs.Circuit.Unique.{feeds, Before, cell-cong}
@@ -33,18 +33,18 @@ put-time : (W : Values) (k t v j u : ℕ) → u ≢ t → put W k t v j u ≡ W 
 unfolding put
 put-time W k t v j u n = rw (is-false (eqb u t) (λ z. n (eqb→eq u t z)))
 
-module _ (net : List Cell) (starts : Sig) (words : ℕ → ℕ) where
+module _ (net : Netlist) (starts : Sig) (words : ℕ → ℕ) where
   -- instant t worked out for the cells below j
   fill : Values → ℕ → ℕ → Values
   fill W t zero = W
   fill W t (suc j) =
       let r = fill W t j in
-      put r j t (cellVal starts (startWord net words j) (element net words r) r j (cellAt net j) t)
+      put r j t (cellVal (net .pulse) starts (startWord (net .cells) words j) (element (net .cells) words r) r j (cellAt (net .cells) j) t)
 
   -- the instants below t worked out
   table : ℕ → Values
   table zero = λ j u. 0
-  table (suc t) = fill (table t) t (length net)
+  table (suc t) = fill (table t) t (length (net .cells))
 
   unfoldable pub solution : Values
   unfolding fill table put
@@ -53,14 +53,14 @@ module _ (net : List Cell) (starts : Sig) (words : ℕ → ℕ) where
   fill-time : (W : Values) (t j k u : ℕ) → u ≢ t → fill W t j k u ≡ W k u
   unfolding fill
   fill-time W t zero k u n = refl
-  fill-time W t (suc j) k u n = put-time (fill W t j) j t (cellVal starts (startWord net words j) (element net words (fill W t j)) (fill W t j) j (cellAt net j) t) k u n ∙ fill-time W t j k u n
+  fill-time W t (suc j) k u n = put-time (fill W t j) j t (cellVal (net .pulse) starts (startWord (net .cells) words j) (element (net .cells) words (fill W t j)) (fill W t j) j (cellAt (net .cells) j) t) k u n ∙ fill-time W t j k u n
 
   fill-cell : (W : Values) (t j k : ℕ) → k < j
-      → fill W t j k t ≡ cellVal starts (startWord net words k) (element net words (fill W t k)) (fill W t k) k (cellAt net k) t
+      → fill W t j k t ≡ cellVal (net .pulse) starts (startWord (net .cells) words k) (element (net .cells) words (fill W t k)) (fill W t k) k (cellAt (net .cells) k) t
   unfolding fill
   fill-cell W t zero k l = absurd (not-suc-le-zero l)
   fill-cell W t (suc j) k l =
-      let v = cellVal starts (startWord net words j) (element net words (fill W t j)) (fill W t j) j (cellAt net j) t in
+      let v = cellVal (net .pulse) starts (startWord (net .cells) words j) (element (net .cells) words (fill W t j)) (fill W t j) j (cellAt (net .cells) j) t in
       ⊎-elim (λ (e : k ≡ j). rw e (put-same (fill W t j) j t v))
       (λ (lt : k < j). put-cell (fill W t j) j t v k (omega arith) ∙ fill-cell W t j k lt) (eq-or-lt-of-le (le-of-suc-le-suc l))
 
@@ -69,18 +69,18 @@ module _ (net : List Cell) (starts : Sig) (words : ℕ → ℕ) where
   table-time zero k u l = absurd (not-suc-le-zero l)
   table-time (suc t) k u l =
       ⊎-elim (λ (e : u ≡ t). rw e)
-      (λ (lt : u < t). fill-time (table t) t (length net) k u (omega arith) ∙ table-time t k u lt) (eq-or-lt-of-le (le-of-suc-le-suc l))
+      (λ (lt : u < t). fill-time (table t) t (length (net .cells)) k u (omega arith) ∙ table-time t k u lt) (eq-or-lt-of-le (le-of-suc-le-suc l))
 
   -- the cells below k at instant t, with all before, are those of the solution
-  so-far : (t k : ℕ) → k < length net → Before net words (fill (table t) t k) solution t k
+  so-far : (t k : ℕ) → k < length (net .cells) → Before (net .cells) words (fill (table t) t k) solution t k
   unfolding solution
   so-far t k l = (
     (λ u lu j lj. fill-time (table t) t k j u (omega arith) ∙ table-time t j u lu),
-    (λ j lj. fill-cell (table t) t k j lj ∙ sym (unfold table in (fill-cell (table t) t (length net) j (omega arith)))),
+    (λ j lj. fill-cell (table t) t k j lj ∙ sym (unfold table in (fill-cell (table t) t (length (net .cells)) j (omega arith)))),
   )
 
-  pub solution-obeys : Ordered net → Obeys net starts words solution
+  pub solution-obeys : Ordered (net .cells) → Obeys net starts words solution
   unfolding Obeys solution table cellVal
   solution-obeys o k l t =
-      fill-cell (table t) t (length net) k l
-      ∙ cell-cong net words (fill (table t) t k) solution starts (feeds net o) (startWord net words k) k (cellAt net k) t l (o .looks k l) (so-far t k l)
+      fill-cell (table t) t (length (net .cells)) k l
+      ∙ cell-cong (net .cells) words (fill (table t) t k) solution (net .pulse) starts (feeds (net .cells) o) (startWord (net .cells) words k) k (cellAt (net .cells) k) t l (o .looks k l) (so-far t k l)

@@ -12,7 +12,8 @@ use borrow.Author.Tests.{eqb-true}
 use Rattle.laws.specs.Circuit.Ordered.{Looks, kinds, Ordered}
 use Rattle.model.specs.Word.{pick, bit, operate, index}
 use Rattle.model.specs.declared.Cell.{Cell}
-use Rattle.model.specs.Circuit.{cellAt, arrayAt, delayed, merged, mergeStep, returnStep, Step, heldBefore, Sig, Values, level, memory, element, Shape, cellTable, shape, cellRow, equation, startWord, Obeys}
+use Rattle.model.specs.declared.Merged.{Merged}
+use Rattle.model.specs.Circuit.{cellAt, arrayAt, delayed, merged, mergeStep, returnStep, Step, mergedBefore, Sig, Values, level, memory, element, Shape, cellTable, shape, cellRow, equation, startWord, Obeys, Netlist}
 use Rattle.laws.specs.Numbering.Cells.{cellVal}
 use Rattle.model.specs.Circuit.{kConstant, kComplement, kOperator, kStart, kGround, kDelay, kOr, kWhenTrue, kWhenFalse, kMerge, kReturn, kMemory, kGated, kArray, kAddress, kRead, kUnknown}
 
@@ -55,23 +56,20 @@ module _ (net : List Cell) (words : ℕ → ℕ) (U W : Values) where
       ⊎-elim (λ (e : u ≡ t). rw e (h .1 j lj)) (λ (lt : u < t). h .0 u lt j (omega arith)) (eq-or-lt-of-le lu)
 
   held-cong : (step : Step) (a b : ℕ) (t : ℕ) → ((u : ℕ) → u < t → U a u ≡ W a u) → ((u : ℕ) → u < t → U b u ≡ W b u)
-      → heldBefore step (level U a) (level U b) t ≡ heldBefore step (level W a) (level W b) t
-  unfolding heldBefore
+      → mergedBefore step (level U a) (level U b) t ≡ mergedBefore step (level W a) (level W b) t
+  unfolding mergedBefore
   held-cong step a b zero h h′ = refl
   held-cong step a b (suc t) h h′ =
       let e = held-cong step a b t (λ u l. h u (omega arith)) (λ u l. h′ u (omega arith)) in
       let ea : U a t ≡ W a t = h t (omega arith) in
       let eb : U b t ≡ W b t = h′ t (omega arith) in
-      λ i. step (e i) (eqb (ea i) 1) (eqb (eb i) 1) .held
+      λ i. step (e i .out) (e i .held) (eqb (ea i) 1) (eqb (eb i) 1)
 
   merged-cong : (step : Step) (a b : ℕ) (t : ℕ) → ((u : ℕ) → u ≤ t → U a u ≡ W a u) → ((u : ℕ) → u ≤ t → U b u ≡ W b u)
       → merged step (level U a) (level U b) t ≡ merged step (level W a) (level W b) t
   unfolding merged
   merged-cong step a b t h h′ =
-      let e = held-cong step a b t (λ u l. h u (omega arith)) (λ u l. h′ u (omega arith)) in
-      let ea : U a t ≡ W a t = h t (le-refl t) in
-      let eb : U b t ≡ W b t = h′ t (le-refl t) in
-      λ i. step (e i) (eqb (ea i) 1) (eqb (eb i) 1) .out
+      ap (λ (m : Merged). m .out) (held-cong step a b (suc t) (λ u l. h u (omega arith)) (λ u l. h′ u (omega arith)))
 
   delayed-here : (d a t : ℕ) → 1 ≤ d → ((u : ℕ) → u < t → U a u ≡ W a u) → delayed d (level U a) t ≡ delayed d (level W a) t
   unfolding delayed
@@ -107,9 +105,9 @@ module _ (net : List Cell) (words : ℕ → ℕ) (U W : Values) where
         element-cong j i t f l (λ u lu. past u (omega arith)) (λ m lm. e m (omega arith)),
       )
 
-  module _ (starts : Sig) (fed : (j : ℕ) → j < length net → cellAt net j .kind ≡ 42 → Feeds net j) where
+  module _ (w : ℕ) (starts : Sig) (fed : (j : ℕ) → j < length net → cellAt net j .kind ≡ 42 → Feeds net j) where
     pub shape-cong : (s : Shape) (first k : ℕ) (c : Cell) (t : ℕ) → k < length net → Looks (cellTable s .row) (kinds net) (length net) k c → Before t k
-        → equation s starts first (element net words U) U k c t ≡ equation s starts first (element net words W) W k c t
+        → equation w s starts first (element net words U) U k c t ≡ equation w s starts first (element net words W) W k c t
     unfolding equation cellTable
     shape-cong kConstant first k c t l o h = refl
     shape-cong kComplement first k c t l o h = ap (λ (x : ℕ). operate 3 x 0) (h .1 (c .a) (o .1 .0))
@@ -121,9 +119,9 @@ module _ (net : List Cell) (words : ℕ → ℕ) (U W : Values) where
     shape-cong kWhenTrue first k c t l o h = ap₂ (λ (x y : ℕ). bit (eqb x 1 && not (eqb y 0))) (h .1 (c .a) (o .1 .0)) (h .1 (c .b) (o .2 .0))
     shape-cong kWhenFalse first k c t l o h = ap₂ (λ (x y : ℕ). bit (eqb x 1 && eqb y 0)) (h .1 (c .a) (o .1 .0)) (h .1 (c .b) (o .2 .0))
     shape-cong kMerge first k c t l o h =
-        ap bit (merged-cong mergeStep (c .a) (c .b) t (upto t k l h (c .a) (o .1 .0)) (upto t k l h (c .b) (o .2 .0)))
+        ap bit (merged-cong (mergeStep (eqb w 1)) (c .a) (c .b) t (upto t k l h (c .a) (o .1 .0)) (upto t k l h (c .b) (o .2 .0)))
     shape-cong kReturn first k c t l o h =
-        ap bit (merged-cong returnStep (c .a) (c .b) t (upto t k l h (c .a) (o .1 .0)) (upto t k l h (c .b) (o .2 .0)))
+        ap bit (merged-cong (returnStep (eqb w 1)) (c .a) (c .b) t (upto t k l h (c .a) (o .1 .0)) (upto t k l h (c .b) (o .2 .0)))
     shape-cong kMemory first k c t l o h = mem-cong first t k c l (o .1 .0) (o .2 .0) h
     shape-cong kGated first k c t l o h = ap₂ (λ (x y : ℕ). pick (eqb x 1) y 0) (h .1 (c .a) (o .1 .0)) (h .1 (c .b) (o .2 .0))
     shape-cong kArray first k c t l o h = refl
@@ -136,32 +134,32 @@ module _ (net : List Cell) (words : ℕ → ℕ) (U W : Values) where
     shape-cong kUnknown first k c t l o h = refl
 
     pub cell-cong : (first k : ℕ) (c : Cell) (t : ℕ) → k < length net → Looks (cellRow (c .kind)) (kinds net) (length net) k c → Before t k
-        → cellVal starts first (element net words U) U k c t ≡ cellVal starts first (element net words W) W k c t
+        → cellVal w starts first (element net words U) U k c t ≡ cellVal w starts first (element net words W) W k c t
     unfolding cellVal
     cell-cong first k c t l o h = shape-cong (shape (c .kind)) first k c t l o h
 
-module _ (net : List Cell) (o : Ordered net) (starts : Sig) (words : ℕ → ℕ) (U W : Values) (hV : Obeys net starts words U) (hW : Obeys net starts words W) where
+module _ (net : Netlist) (o : Ordered (net .cells)) (starts : Sig) (words : ℕ → ℕ) (U W : Values) (hV : Obeys net starts words U) (hW : Obeys net starts words W) where
   -- at instant t, if they are equal before
-  row : (t : ℕ) → ((u : ℕ) → u < t → (j : ℕ) → j < length net → U j u ≡ W j u) → (k : ℕ) → k ≤ length net → (j : ℕ) → j < k → U j t ≡ W j t
+  row : (t : ℕ) → ((u : ℕ) → u < t → (j : ℕ) → j < length (net .cells) → U j u ≡ W j u) → (k : ℕ) → k ≤ length (net .cells) → (j : ℕ) → j < k → U j t ≡ W j t
   unfolding Obeys cellVal
   row t h zero l j lj = absurd (not-suc-le-zero lj)
   row t h (suc k) l j lj =
       let ih = row t h k (omega arith) in
       ⊎-elim (λ (e : j ≡ k).
       rw e
-      (hV k l t ∙ cell-cong net words U W starts (feeds net o) (startWord net words k) k (cellAt net k) t l (o .looks k l) (h, ih) ∙ sym (hW k l t)))
+      (hV k l t ∙ cell-cong (net .cells) words U W (net .pulse) starts (feeds (net .cells) o) (startWord (net .cells) words k) k (cellAt (net .cells) k) t l (o .looks k l) (h, ih) ∙ sym (hW k l t)))
       (λ (lt : j < k). ih j lt) (eq-or-lt-of-le (le-of-suc-le-suc lj))
 
-  rows : (t : ℕ) (u : ℕ) → u < t → (j : ℕ) → j < length net → U j u ≡ W j u
+  rows : (t : ℕ) (u : ℕ) → u < t → (j : ℕ) → j < length (net .cells) → U j u ≡ W j u
   rows zero u l j lj = absurd (not-suc-le-zero l)
   rows (suc t) u l j lj =
-      ⊎-elim (λ (e : u ≡ t). rw e (row t (rows t) (length net) (le-refl (length net)) j lj))
+      ⊎-elim (λ (e : u ≡ t). rw e (row t (rows t) (length (net .cells)) (le-refl (length (net .cells))) j lj))
       (λ (lt : u < t). rows t u lt j lj) (eq-or-lt-of-le (le-of-suc-le-suc l))
 
-  pub unique : (k : ℕ) → k < length net → (t : ℕ) → U k t ≡ W k t
+  pub unique : (k : ℕ) → k < length (net .cells) → (t : ℕ) → U k t ≡ W k t
   unique k l t = rows (suc t) t (le-refl (suc t)) k l
 
   -- and so are the words of an array, whose kind 42 is cell j
-  pub unique-elements : (j i t : ℕ) → j < length net → cellAt net j .kind ≡ 42 → element net words U j i t ≡ element net words W j i t
+  pub unique-elements : (j i t : ℕ) → j < length (net .cells) → cellAt (net .cells) j .kind ≡ 42 → element (net .cells) words U j i t ≡ element (net .cells) words W j i t
   unique-elements j i t l q =
-      element-cong net words U W j i t (feeds net o j l q) (omega arith) (λ u lu m lm. unique m lm u) (λ m lm. unique m (omega arith) t)
+      element-cong (net .cells) words U W j i t (feeds (net .cells) o j l q) (omega arith) (λ u lu m lm. unique m lm u) (λ m lm. unique m (omega arith) t)

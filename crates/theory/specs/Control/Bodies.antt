@@ -7,7 +7,7 @@ use native.Mathlib.Omega.{arith}
 use lib.Dec.{eqb}
 use lib.Bits.{bitOr, or-zero-r}
 use Rattle.laws.specs.Refusals.Laws.{by-bool, by-le}
-use Rattle.theory.specs.Control.Widths.{gap}
+use Rattle.model.specs.Program.{gap}
 use Rattle.theory.specs.Control.Signal.{Quiet}
 use Rattle.model.specs.Program.{Code, touches}
 use Rattle.model.specs.Procedures.{reaches}

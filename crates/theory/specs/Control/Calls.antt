@@ -10,11 +10,11 @@ use Rattle.model.specs.Word.{pick}
 use Rattle.model.specs.Program.{Stmt, seq, tick, call, touches}
 use Rattle.model.specs.Procedures.{inline, reaches}
 use Rattle.model.specs.Circuit.{Sig, delayed}
-use Rattle.model.specs.Rules.{Store, Way, atEnd, Run, done, ended, after, wait, chain, run}
+use Rattle.model.specs.Rules.{Costs, imperative, Store, Way, atEnd, Run, done, ended, after, wait, chain, run}
 use Rattle.laws.specs.Refusals.Laws.{by-bool, by-le, not-both}
 use Rattle.laws.specs.Rules.Laws.{wait-is, wait-short, wait-done, wait-still}
 use Rattle.laws.specs.Rules.Uses.{only-ends}
-use Rattle.theory.specs.Control.Widths.{gap, widened}
+use Rattle.model.specs.Program.{gap}
 use Rattle.theory.specs.Control.Signal.{Quiet, delayed-quiet}
 use Rattle.theory.specs.Control.Pulses.{Pulse, pulse-less, pulse-delayed, pulse-is, shows-pulse, shows-on, shows-off}
 use Rattle.theory.specs.Control.Returns.{Returns, NoCall, none-out, unanswered, waiting, returns}
@@ -29,16 +29,16 @@ use Rattle.theory.specs.Control.Runs.{Words, Begins, Done, Going, Does, 
 -- The rule: the delay, then the body ---------------------------------------------------------------------------------------------------
 
 -- of a statement that means a tick and then S, the budgeted run
-pub call-run : (d : ℕ) (S : Stmt) (u : ℕ) (σ : Store) → run u (seq (tick d) S) σ ≡ wait d u (λ k. run k S σ)
+pub call-run : (κ : Costs) (d : ℕ) (S : Stmt) (u : ℕ) (σ : Store) → run κ u (seq (tick d) S) σ ≡ wait d u (λ k. run κ k S σ)
 unfolding run chain after
-call-run d S u σ =
+call-run κ d S u σ =
     by-le d u
     (λ o.
     let z : d + 0 ≡ d = omega arith in
-    ap (λ (r : Run). chain r (λ t σ₁. run (u - t) S σ₁)) (wait-is d u (λ k. ended 0 σ) o)
-    ∙ ap (λ (t : ℕ). after t (run (u - t) S σ)) z ∙ sym (wait-is d u (λ k. run k S σ) o))
+    ap (λ (r : Run). chain r (λ t σ₁. run κ (u - t) S σ₁)) (wait-is d u (λ k. ended 0 σ) o)
+    ∙ ap (λ (t : ℕ). after t (run κ (u - t) S σ)) z ∙ sym (wait-is d u (λ k. run κ k S σ) o))
     (λ o.
-    ap (λ (r : Run). chain r (λ t σ₁. run (u - t) S σ₁)) (wait-short d u (λ k. ended 0 σ) o) ∙ sym (wait-short d u (λ k. run k S σ) o))
+    ap (λ (r : Run). chain r (λ t σ₁. run κ (u - t) S σ₁)) (wait-short d u (λ k. ended 0 σ) o) ∙ sym (wait-short d u (λ k. run κ k S σ) o))
 
 -- The call -----------------------------------------------------------------------------------------------------------------------------
 
@@ -179,10 +179,10 @@ module _ (W : World) (d p : ℕ) (long : gap (W .w) ≤ d) (does : RunOf W (W .b
           }
 
       call-owns : Owns W (W .bodies p) (Others U p)
-      unfolding touches inline reaches widened
+      unfolding touches inline reaches
       call-owns =
           record {
-            mine = λ x t. B .ready .owns .mine x (ap (λ (S : Stmt). touches (widened (W .w) S) x) (W .flat-is p) ∙ t);
+            mine = λ x t. B .ready .owns .mine x (ap (λ (S : Stmt). touches S x) (W .flat-is p) ∙ t);
             reach = λ q t. (
               B .ready .owns .reach q (ap (λ (b : Bool). eqb q p || b) (W .reach-is p q ∙ t) ∙ or-true (eqb q p)),
               ne-eqb q p (λ z. omega (arith, W .lower p q t)),
@@ -233,8 +233,8 @@ module _ (W : World) (d p : ℕ) (long : gap (W .w) ≤ d) (does : RunOf W (W .b
           }
 
     call-means : goes W u (call d p) σ ≡ wait d u (λ k. goes W k (W .bodies p) σ)
-    unfolding inline widened
-    call-means = call-run d (widened (W .w) (W .flat p)) u σ ∙ ap (λ (S : Stmt). wait d u (λ k. run k (widened (W .w) S) σ)) (W .flat-is p)
+    unfolding inline
+    call-means = call-run (imperative (W .w)) d (W .flat p) u σ ∙ ap (λ (S : Stmt). wait d u (λ k. run (imperative (W .w)) k S σ)) (W .flat-is p)
 
     call-does : Does W U (goes W u (call d p) σ) K L f g a c e u
     call-does =
@@ -257,7 +257,7 @@ module _ (W : World) (d p : ℕ) (long : gap (W .w) ≤ d) (does : RunOf W (W .b
           ends = λ way σ′ z.
               let v = wait-done d u (λ k. goes W k (W .bodies p) σ) (sym call-means ∙ z) in
               -- an exit stays within its body
-              let y : way ≡ atEnd = only-ends (means W (W .bodies p)) (W .closed p) (u - d) way (v .0) σ σ′ (v .2) in
+              let y : way ≡ atEnd = only-ends (imperative (W .w)) (means W (W .bodies p)) (W .closed p) (u - d) way (v .0) σ σ′ (v .2) in
               let i : v .0 ≡ u - d = omega (arith, v .3) in
               in-way (sym y)
               (call-ends (v .1) σ′ (v .2 ∙ ap₂ (λ (b : Way) (k : ℕ). done b k σ′) y i));

@@ -12,7 +12,7 @@ use Rattle.model.specs.Procedures.{inline, reaches}
 use Rattle.model.specs.Circuit.{Sig, delayed}
 use Rattle.laws.specs.Refusals.Laws.{or-false, not-both}
 use Rattle.laws.specs.Program.Fit.{exits}
-use Rattle.theory.specs.Control.Widths.{gap, widened}
+use Rattle.model.specs.Program.{gap}
 use Rattle.theory.specs.Control.Signal.{Quiet, Clear}
 use Rattle.theory.specs.Control.Merge.{Empty, empty-zero}
 use Rattle.theory.specs.Control.Returns.{NoCall, no-call-zero}
@@ -259,55 +259,55 @@ module _ (w : ℕ) (R : Reading) (r : ℕ → Sig) where
   uncalled T (call d p) s f g n q z t = rw (or-false (eqb q p) (T p q) z .0) at (n .called q t)
 
   -- a part no exit of which ends a loop around it has an exit signal that is low throughout
-  inside : (k : ℕ) (I : ℕ → Stmt) (P : Code) (s f : Sig) (g : Gives) → Circuit w R r P s f g → exits (widened k (inline I P)) ≡ false → (t : ℕ) → g .out t ≡ false
-  unfolding Circuit exits widened inline
-  inside k I ok s f g n z t = n .out t
-  inside k I (tick d) s f g n z t = n .out t
-  inside k I (assign d y e) s f g n z t = n .out t
-  inside k I (assignElem d j i e) s f g n z t = n .out t
-  inside k I (seq P Q) s f g n z t =
-      both-low (n .joined .out t) (λ p. inside k I P s (n .mid) (n .g₁) (n .left) p t) (λ q. inside k I Q (n .mid) f (n .g₂) (n .right) q t) z
-  inside k I (par P Q) s f g n z t =
-      both-low (n .joined .out t) (λ p. inside k I P s (n .f₁) (n .g₁) (n .left) p t) (λ q. inside k I Q s (n .f₂) (n .g₂) (n .right) q t) z
-  inside k I (ite d e P Q) s f g n z t =
-      both-low (n .joined .out t) (λ p. inside k I P (n .s₁) (n .f₁) (n .g₁) (n .left) p t) (λ q. inside k I Q (n .s₂) (n .f₂) (n .g₂) (n .right) q t) z
-  inside k I (while d e P) s f g n z t = inside k I P (n .s₁) (n .f₁) g (n .body) z t
-  inside k I (repeat d e P) s f g n z t = inside k I P (n .s₁) (n .f₁) g (n .body) z t
-  inside k I (loop d P) s f g n z t = n .out t
-  inside k I exit s f g n z t = not-both refl z
-  inside k I (call d p) s f g n z t = n .out t
+  inside : (I : ℕ → Stmt) (P : Code) (s f : Sig) (g : Gives) → Circuit w R r P s f g → exits (inline I P) ≡ false → (t : ℕ) → g .out t ≡ false
+  unfolding Circuit exits inline
+  inside I ok s f g n z t = n .out t
+  inside I (tick d) s f g n z t = n .out t
+  inside I (assign d y e) s f g n z t = n .out t
+  inside I (assignElem d j i e) s f g n z t = n .out t
+  inside I (seq P Q) s f g n z t =
+      both-low (n .joined .out t) (λ p. inside I P s (n .mid) (n .g₁) (n .left) p t) (λ q. inside I Q (n .mid) f (n .g₂) (n .right) q t) z
+  inside I (par P Q) s f g n z t =
+      both-low (n .joined .out t) (λ p. inside I P s (n .f₁) (n .g₁) (n .left) p t) (λ q. inside I Q s (n .f₂) (n .g₂) (n .right) q t) z
+  inside I (ite d e P Q) s f g n z t =
+      both-low (n .joined .out t) (λ p. inside I P (n .s₁) (n .f₁) (n .g₁) (n .left) p t) (λ q. inside I Q (n .s₂) (n .f₂) (n .g₂) (n .right) q t) z
+  inside I (while d e P) s f g n z t = inside I P (n .s₁) (n .f₁) g (n .body) z t
+  inside I (repeat d e P) s f g n z t = inside I P (n .s₁) (n .f₁) g (n .body) z t
+  inside I (loop d P) s f g n z t = n .out t
+  inside I exit s f g n z t = not-both refl z
+  inside I (call d p) s f g n z t = n .out t
 
   -- a variable that is not written has a clock that is low throughout
-  unwritten : (k : ℕ) (I : ℕ → Stmt) (P : Code) (s f : Sig) (g : Gives) → Circuit w R r P s f g → (x : ℕ) → writes (widened k (inline I P)) x ≡ false → (t : ℕ) → g .clk x t ≡ false
-  unfolding Circuit writes widened inline
-  unwritten k I ok s f g n x z t = n .clocks x t
-  unwritten k I (tick d) s f g n x z t = n .clocks x t
-  unwritten k I (assign d y e) s f g n x z t = n .clocks x t ∙ ap (λ (b : Bool). pick b (delayed d s t) false) z
-  unwritten k I (assignElem d j i e) s f g n x z t = n .clocks x t ∙ ap (λ (b : Bool). pick b (delayed d s t) false) z
-  unwritten k I (seq P Q) s f g n x z t =
-      both-low (n .joined .clocks x t) (λ p. unwritten k I P s (n .mid) (n .g₁) (n .left) x p t)
-      (λ q. unwritten k I Q (n .mid) f (n .g₂) (n .right) x q t) z
-  unwritten k I (par P Q) s f g n x z t =
-      both-low (n .joined .clocks x t) (λ p. unwritten k I P s (n .f₁) (n .g₁) (n .left) x p t)
-      (λ q. unwritten k I Q s (n .f₂) (n .g₂) (n .right) x q t) z
-  unwritten k I (ite d e P Q) s f g n x z t =
-      both-low (n .joined .clocks x t) (λ p. unwritten k I P (n .s₁) (n .f₁) (n .g₁) (n .left) x p t)
-      (λ q. unwritten k I Q (n .s₂) (n .f₂) (n .g₂) (n .right) x q t) z
-  unwritten k I (while d e P) s f g n x z t = unwritten k I P (n .s₁) (n .f₁) g (n .body) x z t
-  unwritten k I (repeat d e P) s f g n x z t = unwritten k I P (n .s₁) (n .f₁) g (n .body) x z t
-  unwritten k I (loop d P) s f g n x z t = n .clocks x t ∙ unwritten k I P (n .s₁) (n .f₁) (n .g₁) (n .body) x z t
-  unwritten k I exit s f g n x z t = n .clocks x t
-  unwritten k I (call d p) s f g n x z t = n .clocks x t
+  unwritten : (I : ℕ → Stmt) (P : Code) (s f : Sig) (g : Gives) → Circuit w R r P s f g → (x : ℕ) → writes (inline I P) x ≡ false → (t : ℕ) → g .clk x t ≡ false
+  unfolding Circuit writes inline
+  unwritten I ok s f g n x z t = n .clocks x t
+  unwritten I (tick d) s f g n x z t = n .clocks x t
+  unwritten I (assign d y e) s f g n x z t = n .clocks x t ∙ ap (λ (b : Bool). pick b (delayed d s t) false) z
+  unwritten I (assignElem d j i e) s f g n x z t = n .clocks x t ∙ ap (λ (b : Bool). pick b (delayed d s t) false) z
+  unwritten I (seq P Q) s f g n x z t =
+      both-low (n .joined .clocks x t) (λ p. unwritten I P s (n .mid) (n .g₁) (n .left) x p t)
+      (λ q. unwritten I Q (n .mid) f (n .g₂) (n .right) x q t) z
+  unwritten I (par P Q) s f g n x z t =
+      both-low (n .joined .clocks x t) (λ p. unwritten I P s (n .f₁) (n .g₁) (n .left) x p t)
+      (λ q. unwritten I Q s (n .f₂) (n .g₂) (n .right) x q t) z
+  unwritten I (ite d e P Q) s f g n x z t =
+      both-low (n .joined .clocks x t) (λ p. unwritten I P (n .s₁) (n .f₁) (n .g₁) (n .left) x p t)
+      (λ q. unwritten I Q (n .s₂) (n .f₂) (n .g₂) (n .right) x q t) z
+  unwritten I (while d e P) s f g n x z t = unwritten I P (n .s₁) (n .f₁) g (n .body) x z t
+  unwritten I (repeat d e P) s f g n x z t = unwritten I P (n .s₁) (n .f₁) g (n .body) x z t
+  unwritten I (loop d P) s f g n x z t = n .clocks x t ∙ unwritten I P (n .s₁) (n .f₁) (n .g₁) (n .body) x z t
+  unwritten I exit s f g n x z t = n .clocks x t
+  unwritten I (call d p) s f g n x z t = n .clocks x t
 
 module _ (W : World) (P : Code) (s f : Sig) (g : Gives) (n : Built W P s f g) where
   pub is-dull : Dull g
   is-dull = dull (W .w) (ideal (W .m)) (W .ret) P s f g n
 
   pub is-unwritten : (x : ℕ) → writes (means W P) x ≡ false → (t : ℕ) → g .clk x t ≡ false
-  is-unwritten = unwritten (W .w) (ideal (W .m)) (W .ret) (W .w) (W .flat) P s f g n
+  is-unwritten = unwritten (W .w) (ideal (W .m)) (W .ret) (W .flat) P s f g n
 
   pub is-inside : exits (means W P) ≡ false → (t : ℕ) → g .out t ≡ false
-  is-inside = inside (W .w) (ideal (W .m)) (W .ret) (W .w) (W .flat) P s f g n
+  is-inside = inside (W .w) (ideal (W .m)) (W .ret) (W .flat) P s f g n
 
   pub is-uncalled : (q : ℕ) → reaches (W .reach) P q ≡ false → (t : ℕ) → g .calls q t ≡ false
   is-uncalled = uncalled (W .w) (ideal (W .m)) (W .ret) (W .reach) P s f g n

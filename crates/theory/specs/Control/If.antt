@@ -6,12 +6,12 @@ use native.Mathlib.Omega.{arith}
 use Rattle.model.specs.Word.{isZero}
 use Rattle.model.specs.Program.{Expr, Code, ite, reads, touches}
 use Rattle.model.specs.Procedures.{inline, reaches}
-use Rattle.model.specs.Rules.{Store, owner, eval}
+use Rattle.model.specs.Rules.{imperative, Store, owner, eval}
 use Rattle.model.specs.Circuit.{Sig, delayed}
 use Rattle.laws.specs.Refusals.Laws.{by-bool, by-le, not-both}
 use Rattle.laws.specs.Program.Fit.{FormedExpr}
 use Rattle.laws.specs.Rules.Laws.{wait-still, ite-then, ite-else, wait-done}
-use Rattle.theory.specs.Control.Widths.{gap, widened}
+use Rattle.model.specs.Program.{gap}
 use Rattle.theory.specs.Control.Ways.{at-time}
 use Rattle.theory.specs.Control.Signal.{Quiet, delayed-quiet}
 use Rattle.theory.specs.Control.Pulses.{Pulse, Firm, pulse-less, pulse-delayed, pulse-firm, either-firm}
@@ -93,7 +93,7 @@ module _ (W : World) (d : ℕ) (e : Expr) (formed : FormedExpr e) (P Q : Code) (
 
     -- what the condition reads, and what a branch uses, the if uses
     ite-uses : ((x : ℕ) → reads e x ≡ true → U .vars x) × ((x : ℕ) → (touches (means W P) x || touches (means W Q) x) ≡ true → U .vars x)
-    unfolding touches widened inline
+    unfolding touches inline
     ite-uses = each-of (reads e) (λ x. touches (means W P) x || touches (means W Q) x) (B .ready .owns .mine)
 
     ite-owns : Owns W P U × Owns W Q U
@@ -192,7 +192,7 @@ module _ (W : World) (d : ℕ) (e : Expr) (formed : FormedExpr e) (P Q : Code) (
           (ite-owns .1) (waited ite-waits)
 
     ite-does : Does W U (goes W u (ite d e P Q) σ) K L f g a c j u
-    unfolding widened inline
+    unfolding inline
     ite-does =
         record {
           goes-on = λ p.
@@ -201,20 +201,20 @@ module _ (W : World) (d : ℕ) (e : Expr) (formed : FormedExpr e) (P Q : Code) (
               by-bool (isZero (eval e σ))
               (λ z.
               going-as K L (λ k. (k .2, k .1)) (λ l. (ite-sofar o (suc c) (omega arith), l .1, l .0))
-              (else-branch o z .goes-on (wait-still d u (λ k. goes W k Q σ) (sym (ite-else u d e (means W P) (means W Q) σ z) ∙ p) o)))
+              (else-branch o z .goes-on (wait-still d u (λ k. goes W k Q σ) (sym (ite-else (imperative (W .w)) u d e (means W P) (means W Q) σ z) ∙ p) o)))
               (λ z.
               going-as K L (λ k. (k .1, k .2)) (λ l. (ite-sofar o (suc c) (omega arith), l .0, l .1))
-              (then-branch o z .goes-on (wait-still d u (λ k. goes W k P σ) (sym (ite-then u d e (means W P) (means W Q) σ z) ∙ p) o))))
+              (then-branch o z .goes-on (wait-still d u (λ k. goes W k P σ) (sym (ite-then (imperative (W .w)) u d e (means W P) (means W Q) σ z) ∙ p) o))))
               (λ o. ite-short o);
           ends = λ way σ′ p.
               by-bool (isZero (eval e σ))
               (λ z.
-              let v = wait-done d u (λ k. goes W k Q σ) (sym (ite-else u d e (means W P) (means W Q) σ z) ∙ p) in
+              let v = wait-done d u (λ k. goes W k Q σ) (sym (ite-else (imperative (W .w)) u d e (means W P) (means W Q) σ z) ∙ p) in
               let q : v .0 ≡ u - d = omega (arith, v .3) in
               done-as K L (λ o k. (ite-calm (v .1) o, k .1, k .0)) (λ l. (ite-sofar (v .1) j (omega arith), l .1, l .0))
               (else-branch (v .1) z .ends way σ′ (at-time (goes W (u - d) Q σ) q (v .2))))
               (λ z.
-              let v = wait-done d u (λ k. goes W k P σ) (sym (ite-then u d e (means W P) (means W Q) σ z) ∙ p) in
+              let v = wait-done d u (λ k. goes W k P σ) (sym (ite-then (imperative (W .w)) u d e (means W P) (means W Q) σ z) ∙ p) in
               let q : v .0 ≡ u - d = omega (arith, v .3) in
               done-as K L (λ o k. (ite-calm (v .1) o, k .0, k .1)) (λ l. (ite-sofar (v .1) j (omega arith), l .0, l .1))
               (then-branch (v .1) z .ends way σ′ (at-time (goes W (u - d) P σ) q (v .2))));

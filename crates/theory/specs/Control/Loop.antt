@@ -10,7 +10,7 @@ use Rattle.model.specs.Circuit.{Sig, delayed}
 use Rattle.model.specs.Rules.{Store, Run, done, atEnd, atExit, ended, still, caught, loops, run}
 use Rattle.laws.specs.Refusals.Laws.{by-le, not-both}
 use Rattle.laws.specs.Rules.Laws.{wait-done, wait-still, chain-done, caught-done, caught-still, caught-of, round, loops-is, round-is}
-use Rattle.theory.specs.Control.Widths.{gap, widened}
+use Rattle.model.specs.Program.{gap}
 use Rattle.theory.specs.Control.Ways.{at-time, chain-going}
 use Rattle.theory.specs.Control.Signal.{Quiet}
 use Rattle.theory.specs.Control.Pulses.{shows-off, shows-is}
@@ -181,10 +181,10 @@ module _ (W : World) (d : ℕ) (P : Code) (long : gap (W .w) ≤ d) (timed : Pac
         }
 
     loop-does : Does W U (goes W u (loop d P) σ) K L f g a c j u
-    unfolding run widened inline
+    unfolding run inline
     loop-does = loop-rounds (suc u) σ a c j u (omega arith) h o short loop-starts
 
 pub run-loop : (W : World) (d : ℕ) (P : Code) → gap (W .w) ≤ d → Paced W P → RunOf W P → ShortOf W (loop d P)
-unfolding Circuit Each touches widened inline reaches
+unfolding Circuit Each touches inline reaches
 run-loop W d P long timed does U σ s f g n a c j u h o k B =
     loop-does W d P long timed does U (record { mine = B .ready .owns .mine; reach = B .ready .owns .reach }) s f g n σ a c j u h o k B

@@ -7,12 +7,13 @@ use lib.Dec.{eqb}
 use borrow.Author.Tests.{eq-eqb, ne-eqb}
 use Rattle.model.specs.declared.Merge.{Merge}
 use Rattle.model.specs.declared.Merged.{Merged}
-use Rattle.model.specs.Circuit.{Sig, mergeStep}
+use Rattle.model.specs.Circuit.{Sig, shortMerge, longMerge, mergeStep, mergedBefore, merged as joined}
 use Rattle.laws.specs.Refusals.Laws.{by-le, not-both, and-true}
-use Rattle.theory.specs.Control.Widths.{gap, gap-one, gap-wide}
+use Rattle.model.specs.Program.{gap}
+use Rattle.laws.specs.Program.Widths.{gap-one, gap-wide}
 use Rattle.theory.specs.Control.Signal.{Quiet}
 use Rattle.theory.specs.Control.Pulses.{Pulse, Firm, at}
-use Rattle.theory.specs.Control.Merge.{bits, after, wideStep, stepOf, before, merged, merged-swap, Holds, Empty, low-n, holds-none, holds-at, empty-swap, next-first, fixed-n, merged-right, stays-empty}
+use Rattle.theory.specs.Control.Merge.{bits, after, before, merged, merged-swap, Holds, Empty, low-n, holds-none, holds-at, empty-swap, next-first, fixed-n, merged-right, stays-empty}
 
 -- Where the inputs meet ----------------------------------------------------------------------------------------------------------------
 
@@ -40,35 +41,35 @@ ready w f g a c₁ c o₁ o₂ e x₁ x y =
     ))
 
 -- the steps of the pulse, from both bits on
-step-meet-one : (was p x : Bool) → (x || p) ≡ true → stepOf true was (bits p false) x true ≡ after false false true
-unfolding stepOf mergeStep
+step-meet-one : (was p x : Bool) → (x || p) ≡ true → mergeStep true was (bits p false) x true ≡ after false false true
+unfolding mergeStep shortMerge
 step-meet-one was p x z = rw z refl
 
-step-meet : (p x : Bool) → (x || p) ≡ true → stepOf false false (bits p false) x true ≡ after true true true
-unfolding stepOf wideStep
+step-meet : (p x : Bool) → (x || p) ≡ true → mergeStep false false (bits p false) x true ≡ after true true true
+unfolding mergeStep longMerge
 step-meet p true z = refl
 step-meet true false z = refl
 step-meet false false z = not-both z refl
 
-step-on : (x : Bool) → stepOf false true (bits true true) x true ≡ after true true true
-unfolding stepOf wideStep
+step-on : (x : Bool) → mergeStep false true (bits true true) x true ≡ after true true true
+unfolding mergeStep longMerge
 step-on true = refl
 step-on false = refl
 
-step-off : stepOf false true (bits true true) false false ≡ after false false false
-unfolding stepOf wideStep
+step-off : mergeStep false true (bits true true) false false ≡ after false false false
+unfolding mergeStep longMerge
 step-off = refl
 
 module _ (w : ℕ) (f g : Sig) where
   next-of : (t : ℕ) (one was p q x y : Bool) → eqb w 1 ≡ one → before w f g t .out ≡ was → before w f g t .held ≡ bits p q → f t ≡ x → g t ≡ y
-      → before w f g (suc t) ≡ stepOf one was (bits p q) x y
-  unfolding before
-  next-of t one was p q x y a b c d e = rw (a, b, c, d, e) refl
+      → before w f g (suc t) ≡ mergeStep one was (bits p q) x y
+  unfolding mergedBefore
+  next-of t one was p q x y a b c d e = rw (b, c, d, e, a) refl
 
   -- pulses of 1
   meets-one : (a c₁ c e : ℕ) → w ≡ 1 → e ≤ c + gap w → c < e → a ≤ c₁ → c₁ ≤ c → Empty w f g a → Quiet f a c₁ → f c₁ ≡ true → Quiet g a c → g c ≡ true
       → Meets w f g a c e
-  unfolding merged
+  unfolding joined
   meets-one a c₁ c e one o o′ o₁ o₂ em x₁ x y₁ y =
       let r = ready w f g a c₁ c o₁ o₂ em x₁ x y₁ in
       let k : before w f g (suc c) ≡ after false false true =
@@ -115,7 +116,7 @@ module _ (w : ℕ) (f g : Sig) where
         ∙ step-off
 
     meets-wide : Meets w f g a c e
-    unfolding merged
+    unfolding joined
     meets-wide =
         let z = gap-wide w wide in
         record {
@@ -156,8 +157,8 @@ meets-swap w f g a c e h =
 
 -- Inputs that do not fall ----------------------------------------------------------------------------------------------------------------
 
-step-firm : (p q x y : Bool) → (p ≡ true → x ≡ true) → (q ≡ true → y ≡ true) → stepOf false (p && q) (bits p q) x y ≡ after x y (x && y)
-unfolding stepOf wideStep
+step-firm : (p q x y : Bool) → (p ≡ true → x ≡ true) → (q ≡ true → y ≡ true) → mergeStep false (p && q) (bits p q) x y ≡ after x y (x && y)
+unfolding mergeStep longMerge
 step-firm true true true true h k = refl
 step-firm true true true false h k = not-both (k refl) refl
 step-firm true true false true h k = not-both (h refl) refl
@@ -178,7 +179,7 @@ step-firm false false false false h k = refl
 module _ (w : ℕ) (f g : Sig) (wide : 2 ≤ w) (a b : ℕ) (em : Empty w f g a) (x : Firm f a b) (y : Firm g a b) where
   -- what it holds is what its inputs were an instant ago
   firm-n : (n : ℕ) → a + n < b → (p : Bool) × (q : Bool) × (before w f g (a + n) ≡ after p q (p && q)) × (p ≡ true → f (a + n) ≡ true) × (q ≡ true → g (a + n) ≡ true)
-  unfolding before
+  unfolding mergedBefore
   firm-n zero l =
       let i : before w f g a ≡ after false false false =
       ap₂ (λ (m : Merge) (o : Bool). record { held = m; out = o }) em (low-n w f g a (ne-eqb w 1 (λ q. omega arith)) em) in
@@ -199,7 +200,7 @@ module _ (w : ℕ) (f g : Sig) (wide : 2 ≤ w) (a b : ℕ) (em : Empty w f g a)
       )
 
   merged-both : (t : ℕ) → a ≤ t → t < b → merged w f g t ≡ (f t && g t)
-  unfolding merged
+  unfolding joined
   merged-both t l h =
       let i = firm-n (t - a) (omega arith) in
       let q : a + (t - a) ≡ t = omega arith in

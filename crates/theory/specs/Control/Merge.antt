@@ -7,7 +7,7 @@ use lib.Dec.{eqb}
 use Rattle.model.specs.declared.Merge.{Merge}
 use Rattle.model.specs.declared.Merged.{Merged}
 use Rattle.model.specs.Word.{pick}
-use Rattle.model.specs.Circuit.{Sig, mergeStep, merged as merged₁, heldBefore}
+use Rattle.model.specs.Circuit.{Sig, shortMerge, longMerge, mergeStep, mergedBefore, merged as joined}
 use Rattle.laws.specs.Refusals.Laws.{not-both}
 use Rattle.theory.specs.Control.Signal.{Quiet}
 
@@ -17,47 +17,23 @@ bits p q = record { a = p; b = q }
 abbrev pub after : Bool → Bool → Bool → Merged
 after p q o = record { held = bits p q; out = o }
 
--- With longer pulses an input must be high for the output, and the held bits stay until the output falls. was: the output an instant ago
-unfoldable pub wideStep : Bool → Merge → Bool → Bool → Merged
-wideStep was m a b =
-    let A = a || m .a in
-    let B = b || m .b in
-    let out = (A && B) && (a || b) in
-    let gone = was && not out in
-    record { held = record { a = A && not gone; b = B && not gone }; out = out }
+-- what a merge of a and b held, and put out, just before instant t, and what it puts out, with pulses of w
+abbrev pub before : ℕ → Sig → Sig → ℕ → Merged
+before w a b t = mergedBefore (mergeStep (eqb w 1)) a b t
 
--- one: the pulse length is 1
-unfoldable pub stepOf : Bool → Bool → Merge → Bool → Bool → Merged
-stepOf one was m a b = pick one (mergeStep m a b) (wideStep was m a b)
-
--- what a merge of a and b held, and put out, just before instant t
-unfoldable pub before : ℕ → Sig → Sig → ℕ → Merged
-before w a b zero = record { held = record { a = false; b = false }; out = false }
-before w a b (suc t) = stepOf (eqb w 1) (before w a b t .out) (before w a b t .held) (a t) (b t)
-
-unfoldable pub merged : ℕ → Sig → Sig → Sig
-merged w a b t = before w a b (suc t) .out
-
--- with pulses of 1, the paper's merge
-pub held-one : (f g : Sig) (t : ℕ) → before 1 f g t .held ≡ heldBefore mergeStep f g t
-unfolding before heldBefore stepOf
-held-one f g zero = refl
-held-one f g (suc t) = ap (λ (m : Merge). mergeStep m (f t) (g t) .held) (held-one f g t)
-
-pub merged-one : (f g : Sig) (t : ℕ) → merged 1 f g t ≡ merged₁ mergeStep f g t
-unfolding merged merged₁ before stepOf
-merged-one f g t = ap (λ (m : Merge). mergeStep m (f t) (g t) .out) (held-one f g t)
+abbrev pub merged : ℕ → Sig → Sig → Sig
+merged w a b = joined (mergeStep (eqb w 1)) a b
 
 -- Its inputs swapped -------------------------------------------------------------------------------------------------------------------
 
 swapped : Merged → Merged
 swapped s = after (s .held .b) (s .held .a) (s .out)
 
-swap-one : (m : Merge) (x y : Bool) → mergeStep (bits (m .b) (m .a)) y x ≡ swapped (mergeStep m x y)
-unfolding mergeStep swapped
+swap-one : (m : Merge) (x y : Bool) → shortMerge (bits (m .b) (m .a)) y x ≡ swapped (shortMerge m x y)
+unfolding shortMerge swapped
 swap-one m x y = go (m .a) (m .b) x y
   where
-    go : (p q x y : Bool) → mergeStep (bits q p) y x ≡ swapped (mergeStep (bits p q) x y)
+    go : (p q x y : Bool) → shortMerge (bits q p) y x ≡ swapped (shortMerge (bits p q) x y)
     go true true true true = refl
     go true true true false = refl
     go true true false true = refl
@@ -75,8 +51,8 @@ swap-one m x y = go (m .a) (m .b) x y
     go false false false true = refl
     go false false false false = refl
 
-swap-wide : (was : Bool) (m : Merge) (x y : Bool) → wideStep was (bits (m .b) (m .a)) y x ≡ swapped (wideStep was m x y)
-unfolding wideStep swapped
+swap-wide : (was : Bool) (m : Merge) (x y : Bool) → longMerge was (bits (m .b) (m .a)) y x ≡ swapped (longMerge was m x y)
+unfolding longMerge swapped
 swap-wide was m x y = go (x || m .a) (y || m .b) (||-comm y x)
   where
     held : Bool → Bool → Bool → Merged
@@ -88,20 +64,20 @@ swap-wide was m x y = go (x || m .a) (y || m .b) (||-comm y x)
     go false true e = refl
     go false false e = refl
 
-step-swap : (one was : Bool) (m : Merge) (x y : Bool) → stepOf one was (bits (m .b) (m .a)) y x ≡ swapped (stepOf one was m x y)
-unfolding stepOf
+step-swap : (one was : Bool) (m : Merge) (x y : Bool) → mergeStep one was (bits (m .b) (m .a)) y x ≡ swapped (mergeStep one was m x y)
+unfolding mergeStep
 step-swap true was m x y = swap-one m x y
 step-swap false was m x y = swap-wide was m x y
 
 swap : (w : ℕ) (f g : Sig) (t : ℕ) → before w g f t ≡ swapped (before w f g t)
-unfolding before swapped
+unfolding mergedBefore swapped
 swap w f g zero = refl
 swap w f g (suc t) =
-    ap (λ (s : Merged). stepOf (eqb w 1) (s .out) (s .held) (g t) (f t)) (swap w f g t)
+    ap (λ (s : Merged). mergeStep (eqb w 1) (s .out) (s .held) (g t) (f t)) (swap w f g t)
     ∙ step-swap (eqb w 1) (before w f g t .out) (before w f g t .held) (f t) (g t)
 
 pub merged-swap : (w : ℕ) (f g : Sig) (t : ℕ) → merged w g f t ≡ merged w f g t
-unfolding merged swapped
+unfolding joined swapped
 merged-swap w f g t = ap (λ (s : Merged). s .out) (swap w f g (suc t))
 
 -- What it holds ------------------------------------------------------------------------------------------------------------------------
@@ -115,12 +91,12 @@ abbrev pub Empty : ℕ → Sig → Sig → ℕ → Type 0
 Empty w f g t = before w f g t .held ≡ bits false false
 
 pub empty-zero : (w : ℕ) (f g : Sig) → Empty w f g 0
-unfolding before
+unfolding mergedBefore
 empty-zero w f g = refl
 
 -- with longer pulses a merge that holds nothing has just put out nothing
-step-empty : (was : Bool) (m : Merge) (x y : Bool) → stepOf false was m x y .held ≡ bits false false → stepOf false was m x y .out ≡ false
-unfolding stepOf wideStep
+step-empty : (was : Bool) (m : Merge) (x y : Bool) → mergeStep false was m x y .held ≡ bits false false → mergeStep false was m x y .out ≡ false
+unfolding mergeStep longMerge
 step-empty was m x y e = go was (x || m .a) (y || m .b) (x || y) (ap (λ (m : Merge). m .a) e)
   where
     go : (was p q c : Bool) → (p && not (was && not ((p && q) && c))) ≡ false → ((p && q) && c) ≡ false
@@ -131,11 +107,11 @@ step-empty was m x y e = go was (x || m .a) (y || m .b) (x || y) (ap (λ (m : Me
     go was false q c e = refl
 
 pub low-n : (w : ℕ) (f g : Sig) (t : ℕ) → eqb w 1 ≡ false → Empty w f g t → before w f g t .out ≡ false
-unfolding before
+unfolding mergedBefore
 low-n w f g zero one e = refl
 low-n w f g (suc t) one e =
-    let q : before w f g (suc t) ≡ stepOf false (before w f g t .out) (before w f g t .held) (f t) (g t) =
-    ap (λ (b : Bool). stepOf b (before w f g t .out) (before w f g t .held) (f t) (g t)) one in
+    let q : before w f g (suc t) ≡ mergeStep false (before w f g t .out) (before w f g t .held) (f t) (g t) =
+    ap (λ (b : Bool). mergeStep b (before w f g t .out) (before w f g t .held) (f t) (g t)) one in
     ap (λ (s : Merged). s .out) q
     ∙ step-empty (before w f g t .out) (before w f g t .held) (f t) (g t) (sym (ap (λ (s : Merged). s .held) q) ∙ e)
 
@@ -147,8 +123,8 @@ unfolding swapped
 empty-swap w f g t e = ap (λ (s : Merged). s .held) (swap w f g t) ∙ ap (λ (m : Merge). bits (m .b) (m .a)) e
 
 -- the second input has not come
-step-first : (one was p x : Bool) → (one ≡ false → was ≡ false) → stepOf one was (bits p false) x false ≡ after (x || p) false false
-unfolding stepOf wideStep mergeStep
+step-first : (one was p x : Bool) → (one ≡ false → was ≡ false) → mergeStep one was (bits p false) x false ≡ after (x || p) false false
+unfolding mergeStep longMerge shortMerge
 step-first true was true true h = refl
 step-first true was true false h = refl
 step-first true was false true h = refl
@@ -161,10 +137,10 @@ step-first false false false false h = refl
 
 pub next-first : (w : ℕ) (f g : Sig) (t : ℕ) (p : Bool) → Holds w f g t p false → g t ≡ false
     → Holds w f g (suc t) (f t || p) false × (merged w f g t ≡ false)
-unfolding before merged
+unfolding mergedBefore joined
 next-first w f g t p e y =
     let k : before w f g (suc t) ≡ after (f t || p) false false =
-    ap₂ (λ (m : Merge) (y : Bool). stepOf (eqb w 1) (before w f g t .out) m (f t) y) (e .0) y
+    ap₂ (λ (m : Merge) (y : Bool). mergeStep (eqb w 1) (before w f g t .out) m (f t) y) (e .0) y
     ∙ step-first (eqb w 1) (before w f g t .out) p (f t) (e .1) in
     ((ap (λ (s : Merged). s .held) k, λ z. ap (λ (s : Merged). s .out) k), ap (λ (s : Merged). s .out) k)
 

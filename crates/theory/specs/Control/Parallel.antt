@@ -6,13 +6,14 @@ use native.Mathlib.Omega.{arith}
 use Rattle.model.specs.Word.{pick}
 use Rattle.model.specs.Program.{Code, Stmt, par, writes, touches}
 use Rattle.model.specs.Procedures.{inline, reaches}
-use Rattle.model.specs.Rules.{Store, owner, over, kept, ended, run, atEnd, still, both}
+use Rattle.model.specs.Rules.{imperative, Store, owner, over, kept, ended, run, atEnd, still, both}
 use Rattle.model.specs.Circuit.{Sig}
 use Rattle.laws.specs.Refusals.Laws.{by-bool, by-le, not-both}
 use Rattle.laws.specs.Program.Fit.{Apart, exits}
 use Rattle.laws.specs.Rules.Laws.{both-still, both-done}
 use Rattle.laws.specs.Rules.Uses.{unwritten, never-leaves, writes-touches, apart-unwritten}
-use Rattle.theory.specs.Control.Widths.{gap, widened, widened-formed}
+use Rattle.model.specs.Program.{gap}
+use Rattle.theory.specs.Control.Widths.{timely-formed}
 use Rattle.theory.specs.Control.Pulses.{pulse-is, pulse-at, shows-pulse, shows-on, shows-off}
 use Rattle.theory.specs.Control.Merge.{Empty, empty-swap, merged-left, merged-right}
 use Rattle.theory.specs.Control.Meets.{Meets, meets, meets-swap}
@@ -72,12 +73,12 @@ module _ (W : World) (P Q : Code) (timedP : Paced W P) (timedQ : Paced W Q) (apa
     par-still : {A : Type 0} (u : ℕ) → both (kept (means W P) (means W Q) σ) (goes W u P σ) (goes W u Q σ) ≡ still → (goes W u P σ ≡ still → A)
         → (goes W u Q σ ≡ still → A) → A
     par-still u p =
-        both-still (kept (means W P) (means W Q) σ) (goes W u P σ) (goes W u Q σ) p (λ t σ′ q. never-leaves (means W P) inP u t σ σ′ q)
-        (λ t σ′ q. never-leaves (means W Q) inQ u t σ σ′ q)
+        both-still (kept (means W P) (means W Q) σ) (goes W u P σ) (goes W u Q σ) p (λ t σ′ q. never-leaves (imperative (W .w)) (means W P) inP u t σ σ′ q)
+        (λ t σ′ q. never-leaves (imperative (W .w)) (means W Q) inQ u t σ σ′ q)
 
     module _ (a c e u : ℕ) (h : a + u ≡ c) (o : c < e) (short : e ≤ c + gap (W .w)) (B : Begins W (par P Q) U σ K s g a c e) where
       par-owns : Owns W P U × Owns W Q U
-      unfolding touches widened inline reaches
+      unfolding touches inline reaches
       par-owns = owns-both W P Q U (B .ready .owns .mine) (B .ready .owns .reach)
 
       side₁ : Side W P Q U σ K₁ L₁ (n .f₁) (n .g₁) a c e u
@@ -107,7 +108,7 @@ module _ (W : World) (P Q : Code) (timedP : Paced W P) (timedQ : Paced W Q) (apa
             (λ z.
             side₁ .last t₁ σ₁ (omega arith) p₁ .0 x (i, z)
             ∙ by-bool (writes (means W P) (owner x)) (λ z′. sym (kept-left (means W P) (means W Q) σ σ₁ σ₂ x z′))
-            (λ z′. unwritten (means W P) (widened-formed (W .w) (inline (W .flat) P) (flat-paced W P timedP)) x z′ u atEnd t₁ σ σ₁ p₁ ∙ sym (kept-neither (means W P) (means W Q) σ σ₁ σ₂ x z′ z)))
+            (λ z′. unwritten (imperative (W .w)) (means W P) (timely-formed (W .w) (inline (W .flat) P) (flat-paced W P timedP)) x z′ u atEnd t₁ σ σ₁ p₁ ∙ sym (kept-neither (means W P) (means W Q) σ σ₁ σ₂ x z′ z)))
 
         par-meets : Meets (W .w) (n .f₁) (n .f₂) a c e
         par-meets =
@@ -147,7 +148,7 @@ module _ (W : World) (P Q : Code) (timedP : Paced W P) (timedQ : Paced W Q) (apa
             }
 
       par-does : Does W U (goes W u (par P Q) σ) K L f g a c e u
-      unfolding run widened inline
+      unfolding run inline
       par-does =
           record {
             goes-on = λ p.

@@ -8,7 +8,6 @@ use borrow.Author.Tests.{eqb-true, eq-eqb}
 use Rattle.model.specs.Program.{Expr, Code, Stmt, ok, tick, assign, assignElem, seq, par, ite, while, repeat, loop, exit, call, writes}
 use Rattle.model.specs.Procedures.{inline, reaches}
 use Rattle.laws.specs.Refusals.Laws.{by-bool}
-use Rattle.theory.specs.Control.Widths.{widened}
 use Rattle.theory.specs.Control.World.{World, means}
 
 by-or : {A : Type 0} (a b : Bool) → (a || b) ≡ true → (a ≡ true → A) → (b ≡ true → A) → A
@@ -87,7 +86,7 @@ reach-laws W q =
     }
 
 write-laws : (W : World) (x : ℕ) → Gathers W (λ P. writes (means W P) x)
-unfolding writes inline widened
+unfolding writes inline
 write-laws W x =
     record {
       seq₁ = λ P Q e. in-left _ (writes (means W Q) x) e;
@@ -99,7 +98,7 @@ write-laws W x =
       whiles = λ d c P e. e;
       repeats = λ d c P e. e;
       loops = λ d P e. e;
-      calls = λ d p e. ap (λ (S : Stmt). writes (widened (W .w) S) x) (W .flat-is p) ∙ e;
+      calls = λ d p e. ap (λ (S : Stmt). writes S x) (W .flat-is p) ∙ e;
     }
 
 -- what is reached from a body that is reached

@@ -10,7 +10,7 @@ use Rattle.model.specs.Circuit.{Sig, delayed}
 use Rattle.model.specs.Rules.{Store, run, repeats, eval}
 use Rattle.laws.specs.Program.Fit.{FormedExpr}
 use Rattle.laws.specs.Rules.Laws.{again, repeats-is, again-more, again-stop}
-use Rattle.theory.specs.Control.Widths.{gap, widened}
+use Rattle.model.specs.Program.{gap}
 use Rattle.theory.specs.Control.Signal.{Quiet, delayed-quiet}
 use Rattle.theory.specs.Control.History.{stable-off}
 use Rattle.theory.specs.Control.Wiring.{ideal, Gives, Repeat, Circuit, Test, Each}
@@ -40,7 +40,7 @@ module _ (W : World) (d : ℕ) (e : Expr) (formed : FormedExpr e) (P : Code) (lo
 
   module _ (a c j u : ℕ) (h : a + u ≡ c) (o : c < j) (short : j ≤ c + gap (W .w)) (B : Begins W (repeat d e P) U σ K s g a c j) where
     repeat-loop : Tested W P U d e (λ z. z) s f (n .f₁) (n .s₁) (n .f₁) g
-    unfolding touches widened inline reaches
+    unfolding touches inline reaches
     repeat-loop =
         let uses = each-of (reads e) (touches (means W P)) (B .ready .owns .mine) in
         record {
@@ -79,7 +79,7 @@ module _ (W : World) (d : ℕ) (e : Expr) (formed : FormedExpr e) (P : Code) (lo
         }
 
     repeat-does : Does W U (goes W u (repeat d e P) σ) K L f g a c j u
-    unfolding run widened inline repeat-loop
+    unfolding run inline repeat-loop
     repeat-does = starts-does repeat-loop repeat-laps (suc u) σ a c j u (omega arith) h o short repeat-starts repeat-turned
 
 pub run-repeat : (W : World) (d : ℕ) (e : Expr) → FormedExpr e → (P : Code) → gap (W .w) ≤ d → Paced W P → RunOf W P → ShortOf W (repeat d e P)

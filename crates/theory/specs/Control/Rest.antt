@@ -8,7 +8,8 @@ use Rattle.model.specs.Word.{pick, isZero}
 use Rattle.model.specs.Program.{Expr, Code, ok, tick, assign, assignElem, seq, par, ite, while, repeat, loop, exit, call, arrayVar}
 use Rattle.model.specs.Circuit.{Sig, delayed}
 use Rattle.model.specs.Rules.{eval}
-use Rattle.theory.specs.Control.Widths.{gap, turn-least}
+use Rattle.model.specs.Program.{gap}
+use Rattle.laws.specs.Program.Widths.{turn-least}
 use Rattle.theory.specs.Control.Signal.{Quiet, Clear, creep, delayed-quiet, clear-later}
 use Rattle.theory.specs.Control.Merge.{merged-left, stays-empty}
 use Rattle.theory.specs.Control.Returns.{stays-none, none-out}

@@ -6,12 +6,12 @@ use mathlib.Core.Bool.{Bool, true, false, not, _&&_, _||_, or-true}
 use native.Mathlib.Omega.{arith}
 use lib.Dec.{eqb}
 use borrow.Author.Tests.{eq-eqb, ne-eqb}
-use Rattle.model.specs.Word.{pick}
-use Rattle.model.specs.declared.Merge.{Merge}
-use Rattle.model.specs.Circuit.{Sig, returnStep, heldBefore, merged}
+use Rattle.model.specs.declared.Merged.{Merged}
+use Rattle.model.specs.Circuit.{Sig, shortReturn, longReturn, returnStep, mergedBefore, merged}
 use Rattle.laws.specs.Refusals.Laws.{by-le, not-both}
 use Rattle.theory.specs.Control.Signal.{Quiet}
-use Rattle.theory.specs.Control.Widths.{gap, gap-one, gap-wide}
+use Rattle.model.specs.Program.{gap}
+use Rattle.laws.specs.Program.Widths.{gap-one, gap-wide}
 use Rattle.theory.specs.Control.Pulses.{Pulse, at}
 
 -- what is held, and the output of the same instant
@@ -22,19 +22,12 @@ pub record Call : Type 0 where
 abbrev after : Bool → Bool → Call
 after p o = record { held = p; out = o }
 
--- With longer pulses what is held stays until the output falls. was: the output an instant ago
-unfoldable wideStep : Bool → Bool → Bool → Bool → Call
-wideStep was held a b =
-    let A = a || held in
-    let out = A && b in
-    record { held = A && not (was && not out); out = out }
-
--- one: the pulse length is 1, and the step is the paper's
+-- one: the pulse length is 1; was: the output an instant ago. The held b is never set.
 unfoldable pub callStep : Bool → Bool → Bool → Bool → Bool → Call
-unfolding returnStep wideStep
+unfolding returnStep shortReturn longReturn
 callStep one was held a b =
-    let r = returnStep (record { a = held; b = false }) a b in
-    pick one (record { held = r .held .a; out = r .out }) (wideStep was held a b)
+    let r = returnStep one was (record { a = held; b = false }) a b in
+    record { held = r .held .a; out = r .out }
 
 unfoldable pub callBefore : ℕ → Sig → Sig → ℕ → Call
 callBefore w a b zero = record { held = false; out = false }
@@ -284,14 +277,24 @@ module _ (w : ℕ) (f g : Sig) where
     pub returns : Returns a c e
     returns = by-le 2 w (λ k. returns-wide k) (λ k. returns-one (omega arith))
 
--- With pulses of one instant -----------------------------------------------------------------------------------------------------------
+-- In a netlist -----------------------------------------------------------------------------------------------------------------------
 
--- it is the paper's merge, whose held b is never set
-pub call-one : (f g : Sig) (t : ℕ) → heldBefore returnStep f g t ≡ record { a = callBefore 1 f g t .held; b = false }
-unfolding heldBefore returnStep callBefore callStep
-call-one f g zero = refl
-call-one f g (suc t) = ap (λ (m : Merge). returnStep m (f t) (g t) .held) (call-one f g t)
+-- it is the paper's merge
+step-is : (one was held x y : Bool)
+    → returnStep one was (record { a = held; b = false }) x y
+    ≡ record { held = record { a = callStep one was held x y .held; b = false }; out = callStep one was held x y .out }
+unfolding callStep
+step-is true was held x y = refl
+step-is false was held x y = refl
 
-pub returned-one : (f g : Sig) (t : ℕ) → returned 1 f g t ≡ merged returnStep f g t
-unfolding merged returnStep returned callBefore callStep
-returned-one f g t = ap (λ (m : Merge). returnStep m (f t) (g t) .out) (sym (call-one f g t))
+pub call-is : (w : ℕ) (f g : Sig) (t : ℕ)
+    → mergedBefore (returnStep (eqb w 1)) f g t ≡ record { held = record { a = callBefore w f g t .held; b = false }; out = callBefore w f g t .out }
+unfolding mergedBefore callBefore
+call-is w f g zero = refl
+call-is w f g (suc t) =
+    ap (λ (m : Merged). returnStep (eqb w 1) (m .out) (m .held) (f t) (g t)) (call-is w f g t)
+    ∙ step-is (eqb w 1) (callBefore w f g t .out) (callBefore w f g t .held) (f t) (g t)
+
+pub returned-is : (w : ℕ) (f g : Sig) (t : ℕ) → returned w f g t ≡ merged (returnStep (eqb w 1)) f g t
+unfolding merged returned
+returned-is w f g t = sym (ap (λ (m : Merged). m .out) (call-is w f g (suc t)))

@@ -9,7 +9,7 @@ use Rattle.model.specs.Circuit.{Sig, delayed}
 use Rattle.model.specs.Rules.{Store, ended, Way, atEnd, done, still, atExit}
 use Rattle.laws.specs.Refusals.Laws.{by-le}
 use Rattle.theory.specs.Control.Tests.{Waits, waited}
-use Rattle.theory.specs.Control.Widths.{gap}
+use Rattle.model.specs.Program.{gap}
 use Rattle.theory.specs.Control.Signal.{Quiet, delayed-at, delayed-off}
 use Rattle.theory.specs.Control.Pulses.{Pulse, shows-none}
 use Rattle.theory.specs.Control.History.{Spaced, spaced-off, spaced-turn}

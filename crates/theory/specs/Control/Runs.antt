@@ -10,7 +10,7 @@ use Rattle.model.specs.Circuit.{Sig}
 use Rattle.laws.specs.Refusals.Laws.{by-le}
 use Rattle.theory.specs.Control.Signal.{Quiet, glue, creep}
 use Rattle.laws.specs.Rules.Laws.{still-before, still-below}
-use Rattle.theory.specs.Control.Widths.{gap}
+use Rattle.model.specs.Program.{gap}
 use Rattle.theory.specs.Control.Pulses.{Pulse, Shows, pulse-less, shows-from}
 use Rattle.theory.specs.Control.Wiring.{Gives}
 use Rattle.theory.specs.Control.World.{World, Built, Paced, goes, steadily}

@@ -9,7 +9,7 @@ use Rattle.model.specs.Circuit.{Sig}
 use Rattle.model.specs.Rules.{Store, owner, ended, still, run, Way, atEnd, atExit, done}
 use Rattle.laws.specs.Refusals.Laws.{by-le}
 use Rattle.laws.specs.Rules.Laws.{chain-done}
-use Rattle.theory.specs.Control.Widths.{gap, widened}
+use Rattle.model.specs.Program.{gap}
 use Rattle.theory.specs.Control.Ways.{at-time, chain-going}
 use Rattle.theory.specs.Control.Signal.{Quiet, glue}
 use Rattle.theory.specs.Control.Pulses.{pulse-less, pulse-firm, shows-pulse, shows-none, shows-off, shows-from, shows-is}
@@ -44,7 +44,7 @@ module _ (W : World) (P Q : Code) (timedP : Paced W P) (timedQ : Paced W Q) (doe
 
   module _ (a c e u : ℕ) (h : a + u ≡ c) (o : c < e) (B : Begins W (seq P Q) U σ K s g a c e) where
     seq-owns : Owns W P U × Owns W Q U
-    unfolding touches widened inline reaches
+    unfolding touches inline reaches
     seq-owns = owns-both W P Q U (B .ready .owns .mine) (B .ready .owns .reach)
 
     -- the second part waits for the first
@@ -183,7 +183,7 @@ module _ (W : World) (P Q : Code) (timedP : Paced W P) (timedQ : Paced W Q) (doe
         }
 
     seq-does : Does W U (goes W u (seq P Q) σ) K L f g a c e u
-    unfolding run widened inline
+    unfolding run inline
     seq-does =
         record {
           goes-on = λ p.

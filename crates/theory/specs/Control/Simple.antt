@@ -16,7 +16,7 @@ use Rattle.laws.specs.Rules.Words.{other-variable, other-element}
 use Rattle.laws.specs.Rules.Uses.{eval-same}
 use Rattle.theory.specs.Control.Signal.{Quiet, delayed-quiet}
 use Rattle.laws.specs.Rules.Laws.{done-still, wait-still, wait-done, done-way, done-time, done-words}
-use Rattle.theory.specs.Control.Widths.{gap, widened}
+use Rattle.model.specs.Program.{gap}
 use Rattle.theory.specs.Control.Pulses.{Pulse, Firm, pulse-less, pulse-delayed, pulse-is, pulse-at, pulse-firm, quiet-firm, delayed-firm, shows-on, shows-off}
 use Rattle.theory.specs.Control.History.{Stable, stable-on, Spaced, spaced-off, spaced-turn, spaced-on}
 use Rattle.theory.specs.Control.Wiring.{ideal, Gives, Assigned, Circuit, Delays, Each, hits, latch}
@@ -27,7 +27,7 @@ use Rattle.theory.specs.Control.Bodies.{Owned, settled-at, pause, pause-
 use Rattle.theory.specs.Control.Runs.{Words, Free, free, Done, Going, Does, ShortOf, in-way, done-as, going-as, follow-to}
 
 pub run-ok : (W : World) → ShortOf W ok
-unfolding run widened inline Circuit Each
+unfolding run inline Circuit Each
 run-ok W U σ s f g n a c e u h o k B =
     record {
       goes-on = λ p. done-still p;
@@ -48,7 +48,7 @@ run-ok W U σ s f g n a c e u h o k B =
     }
 
 pub run-tick : (W : World) (d : ℕ) → ShortOf W (tick d)
-unfolding run widened inline Circuit Each
+unfolding run inline Circuit Each
 run-tick W d U σ s f g n a c e u h o short B =
     let k₀ = B .ready .calm in
     let q : Quiet f a (a + d) = λ t l k. n .fin t ∙ delayed-quiet d s a a (k₀ .0) (λ t l k. absurd (omega arith)) t l k in
@@ -88,7 +88,7 @@ run-tick W d U σ s f g n a c e u h o short B =
 
 -- an exit: its start goes out, and its finish stays low
 pub run-exit : (W : World) → ShortOf W exit
-unfolding run widened inline Circuit Each
+unfolding run inline Circuit Each
 run-exit W U σ s f g n a c e u h o k B =
     record {
       goes-on = λ p. done-still p;
@@ -252,28 +252,28 @@ module _ (W : World) (d y : ℕ) (r : ℕ → ℕ) (e : Expr) (pos : 1 ≤ d) (U
               settled = pause W U g a c j (omega arith) (F .settled) (F .silent) (λ x t l k h. n .called x t);
             }
 
-        assign-does : Does W U (wait (suc (d + (W .w - 1))) u (λ k. ended 0 τ)) K L f g a c j u
+        assign-does : Does W U (wait (d + W .w) u (λ k. ended 0 τ)) K L f g a c j u
         assign-does =
             record {
               goes-on = λ p.
-                  by-le (d + W .w) u (λ k. done-still (wait-still (suc (d + (W .w - 1))) u (λ k₁. ended 0 τ) p (omega arith)))
+                  by-le (d + W .w) u (λ k. done-still (wait-still (d + W .w) u (λ k₁. ended 0 τ) p (omega arith)))
                   (λ k. assign-goes-on k);
               ends = λ way σ′ p.
-                  let v = wait-done (suc (d + (W .w - 1))) u (λ k₁. ended 0 τ) p in
+                  let v = wait-done (d + W .w) u (λ k₁. ended 0 τ) p in
                   let z : 0 ≡ v .0 = done-time (v .2) in
                   in-way (done-way (v .2))
                   (subst (λ (σ : Store). Done atEnd W U σ K L f g a c j) (done-words (v .2)) (assign-ends (omega (arith, v .3, z))));
             }
 
 pub run-assign : (W : World) (d y : ℕ) (e : Expr) → 1 ≤ d → y < 16 → FormedExpr e → ShortOf W (assign d y e)
-unfolding run touches widened inline Circuit Each reaches
+unfolding run touches inline Circuit Each reaches
 run-assign W d y e pos low formed U σ s f g n a c j u h o k B =
     assign-does W d y (λ t. 0) e pos U σ s f g n a c j u h o k (B .ready .calm) (B .pulse) (free B) formed
     (each-of (λ x. eqb x y) (reads e) (B .ready .owns .mine) .1) y (λ k o₁ o₂ o₃ o₄ x z. hits-variable x y 0 low z) (λ x z. other-variable x y low z)
 
 -- an element's index is used with its value
 pub run-elem : (W : World) (d k : ℕ) (i e : Expr) → 1 ≤ d → FormedExpr i → FormedExpr e → ShortOf W (assignElem d k i e)
-unfolding run touches widened inline Circuit Each reaches
+unfolding run touches inline Circuit Each reaches
 run-elem W d k i e pos formedI formedE U σ s f g n a c j u h o short B =
     let y = arrayVar k in
     let r : ℕ → ℕ = ideal (W .m) i in
@@ -290,7 +290,7 @@ run-elem W d k i e pos formedI formedE U σ s f g n a c j u h o short B =
           going-as (Calm W (assignElem d k i e) s f g n) (Sofar W (assignElem d k i e) s f g n) (λ q. q .0)
           (λ l. (l, used (suc c) (omega arith) (λ t l k. omega arith))) (does .goes-on p);
       ends = λ way σ′ p.
-          let v = wait-done (suc (d + (W .w - 1))) u (λ k₁. ended 0 (put σ (elementWord k (eval i σ)) (eval e σ))) p .1 in
+          let v = wait-done (d + W .w) u (λ k₁. ended 0 (put σ (elementWord k (eval i σ)) (eval e σ))) p .1 in
           let past = used j (omega arith) (λ t l k. omega (arith, v)) in
           done-as (Calm W (assignElem d k i e) s f g n) (Sofar W (assignElem d k i e) s f g n) (λ q l. (l, past)) (λ l. (l, past))
           (does .ends way σ′ p);

@@ -13,7 +13,7 @@ use Rattle.model.specs.Rules.{owner, eval}
 use Rattle.laws.specs.Refusals.Laws.{by-bool, and-true}
 use Rattle.laws.specs.Program.Fit.{FormedExpr}
 use Rattle.laws.specs.Rules.Uses.{eval-same}
-use Rattle.theory.specs.Control.Widths.{gap, widened}
+use Rattle.model.specs.Program.{gap}
 use Rattle.theory.specs.Control.Signal.{Quiet, delayed-quiet}
 use Rattle.theory.specs.Control.Pulses.{Firm, quiet-firm, delayed-firm, either-firm}
 use Rattle.theory.specs.Control.Returns.{none-out}
@@ -77,7 +77,7 @@ surge-assigned W d y r e pos s f g n a b calm q =
     }
 
 surge-seq : (W : World) (P Q : Code) → SurgeOf W P → SurgeOf W Q → SurgeOf W (seq P Q)
-unfolding Circuit Each touches widened inline
+unfolding Circuit Each touches inline
 surge-seq W P Q hP hQ s f g n a b calm o o′ q k =
     let v = each-of (λ x. touches (means W P) (owner x)) (λ x. touches (means W Q) (owner x)) k in
     let r = hP s (n .mid) (n .g₁) (n .left) a b (calm .0) o o′ q (v .0) in
@@ -86,7 +86,7 @@ surge-seq W P Q hP hQ s f g n a b calm o o′ q k =
     record { fin = r′ .fin; out = j .out; clocks = j .clocks }
 
 surge-par : (W : World) (P Q : Code) → SurgeOf W P → SurgeOf W Q → SurgeOf W (par P Q)
-unfolding Circuit Each touches widened inline
+unfolding Circuit Each touches inline
 surge-par W P Q hP hQ s f g n a b calm o o′ q k =
     let v = each-of (λ x. touches (means W P) (owner x)) (λ x. touches (means W Q) (owner x)) k in
     let r = hP s (n .f₁) (n .g₁) (n .left) a b (calm .1) o o′ q (v .0) in
@@ -104,7 +104,7 @@ pub test-same : (W : World) (e : Expr) → FormedExpr e → (U : ℕ → Type 0)
 test-same W e formed U a b u k t l h = ap isZero (eval-same e formed (W .m t) (W .m a) (λ x r. k x (u (owner x) r) t l h))
 
 surge-ite : (W : World) (d : ℕ) (e : Expr) (P Q : Code) → FormedExpr e → SurgeOf W P → SurgeOf W Q → SurgeOf W (ite d e P Q)
-unfolding Circuit Each touches widened inline
+unfolding Circuit Each touches inline
 surge-ite W d e P Q formed hP hQ s f g n a b calm o o′ q k =
     let v = each-of (λ x. reads e (owner x)) (λ x. touches (means W P) (owner x) || touches (means W Q) (owner x)) k in
     let v′ = each-of (λ x. touches (means W P) (owner x)) (λ x. touches (means W Q) (owner x)) (v .1) in
@@ -139,7 +139,7 @@ surge-while W d e P long timed s f g n a b calm o o′ q k =
 
 -- that of a repeat has, and its finish has not gone round
 surge-repeat : (W : World) (d : ℕ) (e : Expr) (P : Code) → gap (W .w) ≤ d → SurgeOf W P → SurgeOf W (repeat d e P)
-unfolding Circuit Each touches widened inline
+unfolding Circuit Each touches inline
 surge-repeat W d e P long hP s f g n a b calm o o′ q k =
     let D : Quiet (delayed d (n .f₁)) a b =
     λ t l h. delayed-quiet d (n .f₁) a a (calm .0 .0) (λ t l h. absurd (omega arith)) t l (omega arith) in
@@ -156,7 +156,7 @@ surge-repeat W d e P long hP s f g n a b calm o o′ q k =
 
 -- so has that of a loop
 surge-loop : (W : World) (d : ℕ) (P : Code) → gap (W .w) ≤ d → SurgeOf W P → SurgeOf W (loop d P)
-unfolding Circuit Each touches widened inline
+unfolding Circuit Each touches inline
 surge-loop W d P long hP s f g n a b calm o o′ q k =
     let D : Quiet (delayed d (n .f₁)) a b =
     λ t l h. delayed-quiet d (n .f₁) a a (calm .0 .0) (λ t l h. absurd (omega arith)) t l (omega arith) in

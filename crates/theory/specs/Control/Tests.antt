@@ -10,7 +10,7 @@ use Rattle.model.specs.Rules.{Store, owner, eval}
 use Rattle.laws.specs.Refusals.Laws.{by-le}
 use Rattle.laws.specs.Program.Fit.{FormedExpr}
 use Rattle.laws.specs.Rules.Uses.{eval-same}
-use Rattle.theory.specs.Control.Widths.{gap}
+use Rattle.model.specs.Program.{gap}
 use Rattle.theory.specs.Control.Signal.{Quiet}
 use Rattle.theory.specs.Control.Pulses.{Firm}
 use Rattle.theory.specs.Control.Wiring.{Gives}

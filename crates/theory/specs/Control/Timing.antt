@@ -5,17 +5,16 @@ use Prim.Native.Nat.{ℕ, zero, suc, _+_, _≤_, _<_}
 use mathlib.Core.Path.{_≡_, refl, sym, _∙_, ap}
 use mathlib.Core.Bool.{Bool, true, false, _||_, or-true}
 use native.Mathlib.Omega.{arith}
-use lib.Dec.{ltb}
 use borrow.Author.Tests.{eq-eqb, lt-ltb, le-ltb}
 use Rattle.model.specs.Program.{Code, ok, tick, assign, assignElem, seq, par, ite, while, repeat, loop, exit, call}
 use Rattle.model.specs.Procedures.{inline, reaches}
 use Rattle.model.specs.Circuit.{Sig}
-use Rattle.model.specs.Rules.{Store, owner, Run, still, Way, atEnd, done, atExit}
+use Rattle.model.specs.Rules.{Store, owner, still, Way, atEnd, done, atExit, showsAt}
 use Rattle.laws.specs.Refusals.Laws.{by-le}
 use Rattle.laws.specs.Program.Fit.{Separate, Inside}
 use Rattle.laws.specs.Program.Admitted.{Lone}
 use Rattle.laws.specs.Rules.Laws.{by-run, by-runs}
-use Rattle.theory.specs.Control.Widths.{gap, widened}
+use Rattle.model.specs.Program.{gap}
 use Rattle.theory.specs.Control.Pulses.{Pulse, pulse-less, shows-none}
 use Rattle.theory.specs.Control.Wiring.{Gives}
 use Rattle.theory.specs.Control.World.{World, Built, means, Paced, goes, steadily}
@@ -42,7 +41,7 @@ either-body W P Q h = (
 -- From any start pulse and up to any horizon, the circuit does as the rules say, if the bodies that it reaches do
 does-code : (W : World) (P : Code) → ((p : ℕ) → reaches (W .reach) P p ≡ true → RunOf W (W .bodies p)) → Paced W P → Separate (means W P)
     → Inside (means W P) → Lone (W .reach) P → RunOf W P
-unfolding widened inline reaches
+unfolding inline reaches
 does-code W ok b h k i n = onward W ok h (run-ok W)
 does-code W (tick d) b h k i n = onward W (tick d) h (run-tick W d)
 does-code W (assign d x e) b h k i n = onward W (assign d x e) h (run-assign W d x e (h .0) (h .1) (h .2))
@@ -77,12 +76,6 @@ does-body W (suc k) p l =
 
 pub does : (W : World) (P : Code) → Paced W P → Separate (means W P) → Inside (means W P) → Lone (W .reach) P → RunOf W P
 does W P = does-code W P (λ p z. does-body W (suc p) p (omega arith))
-
--- whether a finish shows at u a run that has ended: for w instants from its end on
-unfoldable pub showsAt : ℕ → ℕ → Run → Bool
-showsAt w u (done atEnd t σ) = ltb u (t + w)
-showsAt w u (done atExit t σ) = false
-showsAt w u still = false
 
 -- A pulse from a on, with nothing in flight, and no other before e; on [a, e] what P owns follows what P and its bodies give. Of the rest nothing is
 -- asked, and nothing is said.

@@ -11,7 +11,7 @@ use Rattle.model.specs.Rules.{Store, owner, Run, ended, still, wait, chain, eva
 use Rattle.laws.specs.Refusals.Laws.{by-bool, by-le, not-both}
 use Rattle.laws.specs.Program.Fit.{FormedExpr}
 use Rattle.laws.specs.Rules.Laws.{done-still, wait-still, wait-done, chain-done, done-way, done-time, done-words}
-use Rattle.theory.specs.Control.Widths.{gap}
+use Rattle.model.specs.Program.{gap}
 use Rattle.theory.specs.Control.Ways.{at-time, chain-going}
 use Rattle.theory.specs.Control.Signal.{Quiet}
 use Rattle.theory.specs.Control.Pulses.{shows-none, shows-off}

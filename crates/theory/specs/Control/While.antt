@@ -10,7 +10,7 @@ use Rattle.model.specs.Circuit.{Sig, delayed}
 use Rattle.model.specs.Rules.{Store, Run, run, chain, whiles, eval}
 use Rattle.laws.specs.Program.Fit.{FormedExpr}
 use Rattle.laws.specs.Rules.Laws.{whiles-stop, whiles-more}
-use Rattle.theory.specs.Control.Widths.{gap, widened}
+use Rattle.model.specs.Program.{gap}
 use Rattle.theory.specs.Control.Signal.{Quiet, delayed-quiet}
 use Rattle.theory.specs.Control.History.{stable-off}
 use Rattle.theory.specs.Control.Wiring.{either, ideal, Gives, While, Circuit, Test, Each}
@@ -52,7 +52,7 @@ module _ (W : World) (d : ℕ) (e : Expr) (formed : FormedExpr e) (P : Code) (lo
 
   module _ (a c j u : ℕ) (h : a + u ≡ c) (o : c < j) (short : j ≤ c + gap (W .w)) (B : Begins W (while d e P) U σ K s g a c j) where
     while-loop : Tested W P U d e not s f X (n .s₁) (n .f₁) g
-    unfolding touches widened inline reaches
+    unfolding touches inline reaches
     while-loop =
         let uses = each-of (reads e) (touches (means W P)) (B .ready .owns .mine) in
         record {
@@ -103,7 +103,7 @@ module _ (W : World) (d : ℕ) (e : Expr) (formed : FormedExpr e) (P : Code) (lo
         }
 
     while-does : Does W U (goes W u (while d e P) σ) K L f g a c j u
-    unfolding run widened inline while-loop
+    unfolding run inline while-loop
     while-does = enters-does while-loop while-laps u σ a c j u (omega arith) h o short while-enters while-turned
 
 pub run-while : (W : World) (d : ℕ) (e : Expr) → FormedExpr e → (P : Code) → gap (W .w) ≤ d → Paced W P → RunOf W P → ShortOf W (while d e P)

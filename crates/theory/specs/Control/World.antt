@@ -4,12 +4,13 @@ use mathlib.Core.Path.{_≡_, _∙_, ap}
 use mathlib.Core.Bool.{Bool, true, false, _||_, or-true}
 use Rattle.model.specs.Program.{Code, Stmt}
 use Rattle.model.specs.Procedures.{inline, reaches}
-use Rattle.model.specs.Rules.{Store, Run, run}
+use Rattle.model.specs.Rules.{imperative, Store, Run, run}
 use Rattle.model.specs.Circuit.{Sig}
 use Rattle.laws.specs.Program.Fit.{Separate, Inside, exits}
 use Rattle.laws.specs.Program.Admitted.{Lone}
 use Rattle.laws.specs.Rules.Laws.{Steady, steady}
-use Rattle.theory.specs.Control.Widths.{gap, Timely, timely-inline, widened, widened-timed}
+use Rattle.model.specs.Program.{gap}
+use Rattle.theory.specs.Control.Widths.{Timely, timely-inline, timely-timed}
 use Rattle.theory.specs.Control.Wiring.{Memory, ideal, Gives, Circuit, Mem}
 
 pub record World : Type 0 where
@@ -31,9 +32,9 @@ pub record World : Type 0 where
   -- what acceptance leaves of them
   pub timely : (p : ℕ) → Timely w (bodies p)
   pub flat-timely : (p : ℕ) → Timely w (flat p)
-  pub separate : (p : ℕ) → Separate (widened w (inline flat (bodies p)))
-  pub inside : (p : ℕ) → Inside (widened w (inline flat (bodies p)))
-  pub closed : (p : ℕ) → exits (widened w (inline flat (bodies p))) ≡ false
+  pub separate : (p : ℕ) → Separate (inline flat (bodies p))
+  pub inside : (p : ℕ) → Inside (inline flat (bodies p))
+  pub closed : (p : ℕ) → exits (inline flat (bodies p)) ≡ false
   pub lone : (p : ℕ) → Lone reach (bodies p)
   -- each with its finish and what it gives; its start is all that calls it
   pub ret : ℕ → Sig
@@ -50,17 +51,17 @@ Paced W P = Timely (W .w) P
 
 -- the statement whose rules P keeps
 abbrev pub means : World → Code → Stmt
-means W P = widened (W .w) (inline (W .flat) P)
+means W P = inline (W .flat) P
 
 -- P from σ within k instants
 abbrev pub goes : World → ℕ → Code → Store → Run
-goes W k P σ = run k (means W P) σ
+goes W k P σ = run (imperative (W .w)) k (means W P) σ
 
 pub flat-paced : (W : World) (P : Code) → Paced W P → Timely (W .w) (inline (W .flat) P)
 flat-paced W P timed = timely-inline (W .w) (W .pos) (W .flat) (W .flat-timely) P timed
 
 pub steadily : (W : World) (P : Code) → Paced W P → (σ : Store) → Steady (λ k. goes W k P σ)
-steadily W P timed σ = steady (means W P) (widened-timed (W .w) (inline (W .flat) P) (W .pos) (flat-paced W P timed)) σ
+steadily W P timed σ = steady (imperative (W .w)) (means W P) (timely-timed (W .w) (inline (W .flat) P) (W .pos) (flat-paced W P timed)) σ
 
 -- what is true of all that one of two tests names is true of what each names
 pub each-of : {A : ℕ → Type 0} (p q : ℕ → Bool) → ((x : ℕ) → (p x || q x) ≡ true → A x) → ((x : ℕ) → p x ≡ true → A x) × ((x : ℕ) → q x ≡ true → A x)

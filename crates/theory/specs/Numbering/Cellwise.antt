@@ -8,7 +8,7 @@ use native.Mathlib.Omega.{arith}
 use lib.ListN.{length}
 use Rattle.model.specs.Program.{Code, Program, roots}
 use Rattle.model.specs.Circuit.{cell, cellAt, Sig, Values, level, Obeys}
-use Rattle.model.specs.Numbering.{wiresOf, callsOf, clocksOf, dataOf, addressesOf, procedures, finishOfRoot, netlist, clockAt, memoryAt, arraysAt, walkAt, dataAt, addressAt, clockWires, dataWires, addressWires}
+use Rattle.model.specs.Numbering.{circuitOf, wiresOf, callsOf, clocksOf, dataOf, addressesOf, procedures, finishOfRoot, netlist, clockAt, memoryAt, arraysAt, walkAt, dataAt, addressAt, clockWires, dataWires, addressWires}
 use Rattle.laws.specs.Numbering.Cells.{all-of, all-at}
 use Rattle.laws.specs.Numbering.Parts.{lay, unlay}
 use Rattle.laws.specs.Program.Enclosed.{rootAt}
@@ -19,15 +19,15 @@ use Rattle.theory.specs.Numbering.Whole.{first, E, ground-is, showing, s
 use Rattle.theory.specs.Numbering.Flying.{ofCells, OfCell, other, ors-cells, orsFrom-cells, memory-cells, array-cells, of-cells}
 
 module _ (C : ℕ → Sig → Type 0) (H K : Sig → Sig → Type 0) (W : Values) (none : (s : Sig) → C 0 s) (S : Program) (A : Admitted S) (starts : Sig) (words : ℕ → ℕ)
-    (h : Obeys (netlist S) starts words W) where
+    (h : Obeys (circuitOf S) starts words W) where
   abbrev OfBody : ℕ → Type 0
   OfBody q =
-      Each (ofCells C H K) 1 (ideal (showing S words W)) (ret S A starts words W h) (body S A starts words W h q) (given S A starts words W h .calls q)
+      Each (ofCells C H K) (S .pulse) (ideal (showing S words W)) (ret S A starts words W h) (body S A starts words W h q) (given S A starts words W h .calls q)
       (ret S A starts words W h q) (givenBy S A starts words W h (body S A starts words W h q) q) (body-is S A starts words W h q)
 
   abbrev OfMain : Type 0
   OfMain =
-      Each (ofCells C H K) 1 (ideal (showing S words W)) (ret S A starts words W h) (S .main) (level W (startOf S A starts words W h (procedures S)))
+      Each (ofCells C H K) (S .pulse) (ideal (showing S words W)) (ret S A starts words W h) (S .main) (level W (startOf S A starts words W h (procedures S)))
       (level W (finishWireOf S A starts words W h (S .main) (procedures S))) (givenBy S A starts words W h (S .main) (procedures S))
       (main-is S A starts words W h)
 
@@ -38,7 +38,7 @@ module _ (C : ℕ → Sig → Type 0) (H K : Sig → Sig → Type 0) (W : Values
   unfolding body-is E ret
   body-cells q l =
       let r =
-      of-cells C H K W none starts (first S A starts words W h) (E S A starts words W h) (memoryAt S) (showing S words W) (shows S words W)
+      of-cells C H K W none (S .pulse) starts (first S A starts words W h) (E S A starts words W h) (memoryAt S) (showing S words W) (shows S words W)
       (shows-element S words W) (ground-is S A starts words W h) (finishOfRoot S) (ret S A starts words W h) (procedures S) (fin-is S A starts words W h)
       (body S A starts words W h q) (A .body q .fit .formed) (earlier-all S A q) (startOf S A starts words W h q) (delaysOf S A starts words W h q)
       (walkOf S A starts words W h q) (body-delays S A starts words W h q) (body-walk S A starts words W h q) in (
@@ -57,7 +57,7 @@ module _ (C : ℕ → Sig → Type 0) (H K : Sig → Sig → Type 0) (W : Values
   main-cells =
       let q = procedures S in
       let r =
-      of-cells C H K W none starts (first S A starts words W h) (E S A starts words W h) (memoryAt S) (showing S words W) (shows S words W)
+      of-cells C H K W none (S .pulse) starts (first S A starts words W h) (E S A starts words W h) (memoryAt S) (showing S words W) (shows S words W)
       (shows-element S words W) (ground-is S A starts words W h) (finishOfRoot S) (ret S A starts words W h) (procedures S) (fin-is S A starts words W h)
       (S .main) (A .main .fit .formed) (A .main .earlier) (startOf S A starts words W h q) (delaysOf S A starts words W h q) (walkOf S A starts words W h q)
       (at-main-root S A starts words W h .delays) (at-main-root S A starts words W h .walk) in (
@@ -76,7 +76,7 @@ module _ (C : ℕ → Sig → Type 0) (H K : Sig → Sig → Type 0) (W : Values
     (λ e k b.
         let z : (q : ℕ) → 0 + q ≡ q = λ q. omega arith in
         let c =
-        roots-together (OfCell C H K W) (memoryAt S) (finishOfRoot S) (procedures S) (callsOf S) 0 (roots S) 3 (walkAt S)
+        roots-together (S .pulse) (OfCell C H K W) (memoryAt S) (finishOfRoot S) (procedures S) (callsOf S) 0 (roots S) 3 (walkAt S)
         (λ q l. rw (z q) (each-root S Root (λ q l. body-cells q l .0 (e .1 q l)) (main-cells .0 (e .0)) q l)) in
         rw (z k) at
         (all-at (OfCell C H K W) (netlist S) 0
@@ -101,7 +101,7 @@ module _ (C : ℕ → Sig → Type 0) (H K : Sig → Sig → Type 0) (W : Values
         let at : (q : ℕ) → q < length (roots S) → Root q (rootAt S q) =
         λ q i.
         rw (z q) at
-        (roots-apart (OfCell C H K W) (memoryAt S) (finishOfRoot S) (procedures S) (callsOf S) 0 (roots S) 3 (walkAt S) (l .at-delays) (l .at-walk) q i) in (
+        (roots-apart (S .pulse) (OfCell C H K W) (memoryAt S) (finishOfRoot S) (procedures S) (callsOf S) 0 (roots S) 3 (walkAt S) (l .at-delays) (l .at-walk) q i) in (
           main-cells .1 (at-main S Root (at (procedures S) (omega (arith, root-count S)))),
           λ q i. body-cells q i .1 (at-body S Root q i (at q (omega (arith, root-count S)))),
         )),

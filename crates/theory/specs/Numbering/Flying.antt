@@ -97,14 +97,14 @@ module _ (C : ℕ → Sig → Type 0) (H A : Sig → Sig → Type 0) (W : Values
 
   -- A statement's cells -------------------------------------------------------------------------------------------------------------------
 
-  module _ (none : (s : Sig) → C 0 s) (starts : Sig) (first : ℕ → ℕ) (E : Elements) (M : ℕ) (m : ℕ → ℕ → ℕ)
+  module _ (none : (s : Sig) → C 0 s) (pulse : ℕ) (starts : Sig) (first : ℕ → ℕ) (E : Elements) (M : ℕ) (m : ℕ → ℕ → ℕ)
       (shows : (x t : ℕ) → x < 16 → m t x ≡ W (M + x) t) (elements : (k w t : ℕ) → k < 4 → m t (elementWord k w) ≡ E (arrayCell M k) (index w) t)
       (ground : (t : ℕ) → level W 1 t ≡ false) (F : ℕ → ℕ) (ret : ℕ → Sig) (r : ℕ) (fin : (p t : ℕ) → p < r → level W (F p) t ≡ ret p t) where
-    abbrev pub Of : (P : Code) → Formed P → Earlier r P → (s d c : ℕ) → Obeyed starts first E W d (delays P s d c)
-        → Obeyed starts first E W c (walk M F P s d c) → Type 0
+    abbrev pub Of : (P : Code) → Formed P → Earlier r P → (s d c : ℕ) → Obeyed pulse starts first E W d (delays pulse P s d c)
+        → Obeyed pulse starts first E W c (walk M F P s d c) → Type 0
     Of P w v s d c hd hw =
-        Each (ofCells C H A) 1 (ideal m) ret P (level W s) (level W (finishWire P s d c)) (givesAt W P s d c)
-        (struct starts first E W M m shows elements ground F ret r fin P w v s d c hd hw)
+        Each (ofCells C H A) pulse (ideal m) ret P (level W s) (level W (finishWire P s d c)) (givesAt W P s d c)
+        (struct pulse starts first E W M m shows elements ground F ret r fin P w v s d c hd hw)
 
     own-to : (δ s d : ℕ) → C δ (level W s) → All R d (ifDelayCells δ s)
     unfolding ifDelayCells
@@ -117,8 +117,8 @@ module _ (C : ℕ → Sig → Type 0) (H A : Sig → Sig → Type 0) (W : Values
     own-from (suc δ) s d h = h .0 .delay refl
 
     -- of each delay and merge of a statement, and of each of its cells
-    pub of-cells : (P : Code) (w : Formed P) (v : Earlier r P) (s d c : ℕ) (hd : Obeyed starts first E W d (delays P s d c)) (hw : Obeyed starts first E W c (walk M F P s d c))
-        → Of P w v s d c hd hw ↔ (All R d (delays P s d c) × All R c (walk M F P s d c))
+    pub of-cells : (P : Code) (w : Formed P) (v : Earlier r P) (s d c : ℕ) (hd : Obeyed pulse starts first E W d (delays pulse P s d c)) (hw : Obeyed pulse starts first E W c (walk M F P s d c))
+        → Of P w v s d c hd hw ↔ (All R d (delays pulse P s d c) × All R c (walk M F P s d c))
     unfolding Each Circuit struct delays walk finishWire clockSources dataSources addressSources callSources cellVal delayCount walkCount anyHigh allOr wiresOf
     of-cells ok w v s d c hd hw = (λ h. (tt, tt), λ k. tt)
     of-cells (tick δ) w v s d c hd hw = (λ h. ((delay-cell d δ s (h .0), tt), tt), λ k. (k .0 .0 .delay refl, tt))
@@ -126,10 +126,10 @@ module _ (C : ℕ → Sig → Type 0) (H A : Sig → Sig → Type 0) (W : Values
         let D : level W d ≡ delayed δ (level W s) = λ i t. level-of (delayed δ (level W s) t) (hd .0 t) i in
         let o = cell 41 0 d (exprWire M e c) in (
           (λ h. (
-            (delay-cell d δ s (h .0 .0), (delay-cell (d + 1) 1 d (subst (λ (y : Sig). C 1 y) (sym D) (h .1 .0)), tt)),
+            (delay-cell d δ s (h .0 .0), (delay-cell (d + 1) pulse d (subst (λ (y : Sig). C pulse y) (sym D) (h .1 .0)), tt)),
             join R c (exprCount e) (exprCells M e c) (o ∷ []) (e-len M e c) (exprs M e (w .2) c) (other _ o (λ z. omega arith, λ z. omega arith, λ z. omega arith), tt),
           )),
-          (λ k. ((k .0 .0 .delay refl, tt, tt), (subst (λ (y : Sig). C 1 y) D (k .0 .1 .0 .delay refl), tt))),
+          (λ k. ((k .0 .0 .delay refl, tt, tt), (subst (λ (y : Sig). C pulse y) D (k .0 .1 .0 .delay refl), tt))),
         )
     of-cells (assignElem δ j i e) w v s d c hd hw =
         let D : level W d ≡ delayed δ (level W s) = λ y t. level-of (delayed δ (level W s) t) (hd .0 t) y in
@@ -137,53 +137,53 @@ module _ (C : ℕ → Sig → Type 0) (H A : Sig → Sig → Type 0) (W : Values
         let o = cell 41 0 d (exprWire M e ce) in
         let o′ = cell 41 0 d (exprWire M i c) in (
           (λ h. (
-            (delay-cell d δ s (h .0 .0 .0), (delay-cell (d + 1) 1 d (subst (λ (y : Sig). C 1 y) (sym D) (h .0 .1 .0)), tt)),
+            (delay-cell d δ s (h .0 .0 .0), (delay-cell (d + 1) pulse d (subst (λ (y : Sig). C pulse y) (sym D) (h .0 .1 .0)), tt)),
             join R c (exprCount i) (exprCells M i c) (exprCells M e ce ++ (o ∷ (o′ ∷ []))) (e-len M i c) (exprs M i (w .2) c)
                 (join R ce (exprCount e) (exprCells M e ce) (o ∷ (o′ ∷ [])) (e-len M e ce) (exprs M e (w .3) ce)
                 (other _ o (λ z. omega arith, λ z. omega arith, λ z. omega arith), (other _ o′ (λ z. omega arith, λ z. omega arith, λ z. omega arith), tt))),
           )),
-          (λ k. (((k .0 .0 .delay refl, tt, tt), (subst (λ (y : Sig). C 1 y) D (k .0 .1 .0 .delay refl), tt)), tt)),
+          (λ k. (((k .0 .0 .delay refl, tt, tt), (subst (λ (y : Sig). C pulse y) D (k .0 .1 .0 .delay refl), tt)), tt)),
         )
     of-cells (seq P Q) w v s d c hd hw =
         let g = finishWire P s d c in
-        let dQ = delays Q g (d + delayCount P) (c + walkCount P) in
+        let dQ = delays pulse Q g (d + delayCount P) (c + walkCount P) in
         let wQ = walk M F Q g (d + delayCount P) (c + walkCount P) in
-        let rd = split (Rule starts first E W) d (delayCount P) (delays P s d c) dQ (d-len P s d c) hd in
-        let rc = split (Rule starts first E W) c (walkCount P) (walk M F P s d c) wQ (w-len M F P s d c) hw in
+        let rd = split (Rule pulse starts first E W) d (delayCount P) (delays pulse P s d c) dQ (d-len pulse P s d c) hd in
+        let rc = split (Rule pulse starts first E W) c (walkCount P) (walk M F P s d c) wQ (w-len M F P s d c) hw in
         let p = of-cells P (w .0) (v .0) s d c (rd .0) (rc .0) in
         let q = of-cells Q (w .1) (v .1) g (d + delayCount P) (c + walkCount P) (rd .1) (rc .1) in (
           (λ h.
               let a = p .0 (h .0) in
               let b = q .0 (h .1) in (
-                join R d (delayCount P) (delays P s d c) dQ (d-len P s d c) (a .0) (b .0),
+                join R d (delayCount P) (delays pulse P s d c) dQ (d-len pulse P s d c) (a .0) (b .0),
                 join R c (walkCount P) (walk M F P s d c) wQ (w-len M F P s d c) (a .1) (b .1),
               )),
           (λ k.
-              let x = split R d (delayCount P) (delays P s d c) dQ (d-len P s d c) (k .0) in
+              let x = split R d (delayCount P) (delays pulse P s d c) dQ (d-len pulse P s d c) (k .0) in
               let y = split R c (walkCount P) (walk M F P s d c) wQ (w-len M F P s d c) (k .1) in
               (p .1 (x .0, y .0), q .1 (x .1, y .1))),
         )
     of-cells (par P Q) w v s d c hd hw =
         let f = finishWire P s d c in
         let g = finishWire Q s (d + delayCount P) (c + walkCount P) in
-        let dQ = delays Q s (d + delayCount P) (c + walkCount P) in
+        let dQ = delays pulse Q s (d + delayCount P) (c + walkCount P) in
         let wQ = walk M F Q s (d + delayCount P) (c + walkCount P) in
         let o = cell 38 0 f g in
         let lQ = w-len M F Q s (d + delayCount P) (c + walkCount P) in
-        let rd = split (Rule starts first E W) d (delayCount P) (delays P s d c) dQ (d-len P s d c) hd in
-        let rc = split (Rule starts first E W) c (walkCount P) (walk M F P s d c) (wQ ++ (o ∷ [])) (w-len M F P s d c) hw in
-        let rm = split (Rule starts first E W) (c + walkCount P) (walkCount Q) wQ (o ∷ []) lQ (rc .1) in
+        let rd = split (Rule pulse starts first E W) d (delayCount P) (delays pulse P s d c) dQ (d-len pulse P s d c) hd in
+        let rc = split (Rule pulse starts first E W) c (walkCount P) (walk M F P s d c) (wQ ++ (o ∷ [])) (w-len M F P s d c) hw in
+        let rm = split (Rule pulse starts first E W) (c + walkCount P) (walkCount Q) wQ (o ∷ []) lQ (rc .1) in
         let p = of-cells P (w .0) (v .0) s d c (rd .0) (rc .0) in
         let q = of-cells Q (w .1) (v .1) s (d + delayCount P) (c + walkCount P) (rd .1) (rm .0) in (
           (λ h.
               let a = p .0 (h .1) in
               let b = q .0 (h .2) in (
-                join R d (delayCount P) (delays P s d c) dQ (d-len P s d c) (a .0) (b .0),
+                join R d (delayCount P) (delays pulse P s d c) dQ (d-len pulse P s d c) (a .0) (b .0),
                 join R c (walkCount P) (walk M F P s d c) (wQ ++ (o ∷ [])) (w-len M F P s d c) (a .1)
                     (join R (c + walkCount P) (walkCount Q) wQ (o ∷ []) lQ (b .1) (merge-cell _ f g (h .0), tt)),
               )),
           (λ k.
-              let x = split R d (delayCount P) (delays P s d c) dQ (d-len P s d c) (k .0) in
+              let x = split R d (delayCount P) (delays pulse P s d c) dQ (d-len pulse P s d c) (k .0) in
               let y = split R c (walkCount P) (walk M F P s d c) (wQ ++ (o ∷ [])) (w-len M F P s d c) (k .1) in
               let z = split R (c + walkCount P) (walkCount Q) wQ (o ∷ []) lQ (y .1) in
               (z .1 .0 .merge refl, p .1 (x .0, y .0), q .1 (x .1, z .0))),
@@ -194,7 +194,7 @@ module _ (C : ℕ → Sig → Type 0) (H A : Sig → Sig → Type 0) (W : Values
         let cP = p₁ + 1 + 1 in
         let f = finishWire P p₁ dP cP in
         let g = finishWire Q (p₁ + 1) (dP + delayCount P) (cP + walkCount P) in
-        let dQ = delays Q (p₁ + 1) (dP + delayCount P) (cP + walkCount P) in
+        let dQ = delays pulse Q (p₁ + 1) (dP + delayCount P) (cP + walkCount P) in
         let wQ = walk M F Q (p₁ + 1) (dP + delayCount P) (cP + walkCount P) in
         let lQ = w-len M F Q (p₁ + 1) (dP + delayCount P) (cP + walkCount P) in
         let o5 = cell 35 0 f g in
@@ -202,18 +202,18 @@ module _ (C : ℕ → Sig → Type 0) (H A : Sig → Sig → Type 0) (W : Values
         let o7 = cell 37 0 (ifPulse δ s d) (exprWire M e c) in
         let tail = wQ ++ (o5 ∷ []) in
         let rest = o6 ∷ (o7 ∷ (walk M F P p₁ dP cP ++ tail)) in
-        let ro = split (Rule starts first E W) d (ifDelayCount δ) (ifDelayCells δ s) (delays P p₁ dP cP ++ dQ) (own-len δ s) hd in
-        let rd = split (Rule starts first E W) dP (delayCount P) (delays P p₁ dP cP) dQ (d-len P p₁ dP cP) (ro .1) in
-        let re = split (Rule starts first E W) c (exprCount e) (exprCells M e c) rest (e-len M e c) hw in
-        let rP = split (Rule starts first E W) cP (walkCount P) (walk M F P p₁ dP cP) tail (w-len M F P p₁ dP cP) (re .1 .1 .1) in
-        let rQ = split (Rule starts first E W) (cP + walkCount P) (walkCount Q) wQ (o5 ∷ []) lQ (rP .1) in
+        let ro = split (Rule pulse starts first E W) d (ifDelayCount δ) (ifDelayCells δ s) (delays pulse P p₁ dP cP ++ dQ) (own-len δ s) hd in
+        let rd = split (Rule pulse starts first E W) dP (delayCount P) (delays pulse P p₁ dP cP) dQ (d-len pulse P p₁ dP cP) (ro .1) in
+        let re = split (Rule pulse starts first E W) c (exprCount e) (exprCells M e c) rest (e-len M e c) hw in
+        let rP = split (Rule pulse starts first E W) cP (walkCount P) (walk M F P p₁ dP cP) tail (w-len M F P p₁ dP cP) (re .1 .1 .1) in
+        let rQ = split (Rule pulse starts first E W) (cP + walkCount P) (walkCount Q) wQ (o5 ∷ []) lQ (rP .1) in
         let p = of-cells P (w .2) (v .2) p₁ dP cP (rd .0) (rP .0) in
         let q = of-cells Q (w .3) (v .3) (p₁ + 1) (dP + delayCount P) (cP + walkCount P) (rd .1) (rQ .0) in (
           (λ h.
               let a = p .0 (h .1) in
               let b = q .0 (h .2) in (
-                join R d (ifDelayCount δ) (ifDelayCells δ s) (delays P p₁ dP cP ++ dQ) (own-len δ s) (own-to δ s d (h .0 .0))
-                    (join R dP (delayCount P) (delays P p₁ dP cP) dQ (d-len P p₁ dP cP) (a .0) (b .0)),
+                join R d (ifDelayCount δ) (ifDelayCells δ s) (delays pulse P p₁ dP cP ++ dQ) (own-len δ s) (own-to δ s d (h .0 .0))
+                    (join R dP (delayCount P) (delays pulse P p₁ dP cP) dQ (d-len pulse P p₁ dP cP) (a .0) (b .0)),
                 join R c (exprCount e) (exprCells M e c) rest (e-len M e c) (exprs M e (w .1) c) (
                   other _ o6 (λ z. omega arith, λ z. omega arith, λ z. omega arith),
                   (
@@ -224,8 +224,8 @@ module _ (C : ℕ → Sig → Type 0) (H A : Sig → Sig → Type 0) (W : Values
                 ),
               )),
           (λ k.
-              let xo = split R d (ifDelayCount δ) (ifDelayCells δ s) (delays P p₁ dP cP ++ dQ) (own-len δ s) (k .0) in
-              let xd = split R dP (delayCount P) (delays P p₁ dP cP) dQ (d-len P p₁ dP cP) (xo .1) in
+              let xo = split R d (ifDelayCount δ) (ifDelayCells δ s) (delays pulse P p₁ dP cP ++ dQ) (own-len δ s) (k .0) in
+              let xd = split R dP (delayCount P) (delays pulse P p₁ dP cP) dQ (d-len pulse P p₁ dP cP) (xo .1) in
               let ye = split R c (exprCount e) (exprCells M e c) rest (e-len M e c) (k .1) in
               let yP = split R cP (walkCount P) (walk M F P p₁ dP cP) tail (w-len M F P p₁ dP cP) (ye .1 .1 .1) in
               let yQ = split R (cP + walkCount P) (walkCount Q) wQ (o5 ∷ []) lQ (yP .1) in
@@ -239,8 +239,8 @@ module _ (C : ℕ → Sig → Type 0) (H A : Sig → Sig → Type 0) (W : Values
         let o6 = cell 36 0 d (exprWire M e c) in
         let o7 = cell 37 0 d (exprWire M e c) in
         let rest = o6 ∷ (o7 ∷ (walk M F P p₁ (d + 1) cP ++ (o5 ∷ []))) in
-        let re = split (Rule starts first E W) c (exprCount e) (exprCells M e c) rest (e-len M e c) hw in
-        let rP = split (Rule starts first E W) cP (walkCount P) (walk M F P p₁ (d + 1) cP) (o5 ∷ []) (w-len M F P p₁ (d + 1) cP) (re .1 .1 .1) in
+        let re = split (Rule pulse starts first E W) c (exprCount e) (exprCells M e c) rest (e-len M e c) hw in
+        let rP = split (Rule pulse starts first E W) cP (walkCount P) (walk M F P p₁ (d + 1) cP) (o5 ∷ []) (w-len M F P p₁ (d + 1) cP) (re .1 .1 .1) in
         let D : level W (cP + walkCount P) ≡ (λ u. level W s u || level W f u) = λ i u. level-of (level W s u || level W f u) (rP .1 .0 u) i in
         let p = of-cells P (w .2) (v .2) p₁ (d + 1) cP (hd .1) (rP .0) in (
           (λ h.
@@ -266,7 +266,7 @@ module _ (C : ℕ → Sig → Type 0) (H A : Sig → Sig → Type 0) (W : Values
         let o6 = cell 36 0 d (exprWire M e c) in
         let o7 = cell 37 0 d (exprWire M e c) in
         let rest = o6 ∷ (o7 ∷ (o5 ∷ walk M F P (p₁ + 1 + 1) (d + 1) cP)) in
-        let re = split (Rule starts first E W) c (exprCount e) (exprCells M e c) rest (e-len M e c) hw in
+        let re = split (Rule pulse starts first E W) c (exprCount e) (exprCells M e c) rest (e-len M e c) hw in
         let p = of-cells P (w .2) (v .2) (p₁ + 1 + 1) (d + 1) cP (hd .1) (re .1 .1 .1 .1) in (
           (λ h.
               let a = p .0 (h .1) in (
@@ -282,7 +282,7 @@ module _ (C : ℕ → Sig → Type 0) (H A : Sig → Sig → Type 0) (W : Values
         )
     of-cells (loop δ P) w v s d c hd hw =
         let exits = ors 35 (exitsAt P c) (loopExits P d c) in
-        let r = split (Rule starts first E W) (c + 1) (walkCount P) (walk M F P c (d + 1) (c + 1)) exits (w-len M F P c (d + 1) (c + 1)) (hw .1) in
+        let r = split (Rule pulse starts first E W) (c + 1) (walkCount P) (walk M F P c (d + 1) (c + 1)) exits (w-len M F P c (d + 1) (c + 1)) (hw .1) in
         let p = of-cells P (w .1) (v .1) c (d + 1) (c + 1) (hd .1) (r .0) in (
           (λ h.
               let a = p .0 (h .1) in (

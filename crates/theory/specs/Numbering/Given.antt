@@ -12,7 +12,7 @@ use borrow.Author.Tests.{ne-eqb}
 use Rattle.model.specs.Program.{Code, Program, roots}
 use Rattle.model.specs.Procedures.{bodyAt}
 use Rattle.model.specs.Circuit.{Sig, Values, level, Obeys}
-use Rattle.model.specs.Numbering.{Source, clockSources, dataSources, addressSources, callSources, callsOf, rootSources, rootWalkSources, netlist, walkAt}
+use Rattle.model.specs.Numbering.{circuitOf, Source, clockSources, dataSources, addressSources, callSources, callsOf, rootSources, rootWalkSources, netlist, walkAt}
 use Rattle.laws.specs.Program.Enclosed.{rootAt}
 use Rattle.laws.specs.Program.Admitted.{Admitted, each-root, root-count, body-at, main-at, body-is-root, main-is-root}
 use Rattle.theory.specs.Control.Wiring.{Gives}
@@ -25,7 +25,7 @@ use Rattle.theory.specs.Numbering.Levels.{clkOf, datOf}
 use Rattle.theory.specs.Numbering.Roots.{none-gives, one-gives, one-word}
 use Rattle.theory.specs.Numbering.Whole.{delaysOf, walkOf, startOf, finishWireOf, start-body, givenBy, body, body-is, main-is, signals, ret}
 
-module _ (S : Program) (A : Admitted S) (starts : Sig) (words : ℕ → ℕ) (W : Values) (h : Obeys (netlist S) starts words W) where
+module _ (S : Program) (A : Admitted S) (starts : Sig) (words : ℕ → ℕ) (W : Values) (h : Obeys (circuitOf S) starts words W) where
   abbrev pub world-of : World
   world-of = world S A (signals S A starts words W h)
 

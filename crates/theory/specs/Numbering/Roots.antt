@@ -31,14 +31,14 @@ joinsAt cs r (P ∷ Ps) c zero = c
 joinsAt cs r (P ∷ Ps) c (suc j) = joinsAt cs (r + 1) Ps (pastRoot cs r P c) j
 
 -- R of the cells of root r, which is P, where its delays stand at d and its callers' 35s at c
-pub record AtRoot (R : ℕ → Cell → Type 0) (M : ℕ) (F : ℕ → ℕ) (z : ℕ) (cs : List Source) (r : ℕ) (P : Code) (d c : ℕ) : Type 0 where
+pub record AtRoot (pulse : ℕ) (R : ℕ → Cell → Type 0) (M : ℕ) (F : ℕ → ℕ) (z : ℕ) (cs : List Source) (r : ℕ) (P : Code) (d c : ℕ) : Type 0 where
   pub joins : All R c (ors 35 c (wiresOf r cs))
-  pub delays : All R d (delays P (rootStart z cs r c) d (rootWalk cs r c))
+  pub delays : All R d (delays pulse P (rootStart z cs r c) d (rootWalk cs r c))
   pub walk : All R (rootWalk cs r c) (walk M F P (rootStart z cs r c) d (rootWalk cs r c))
 
-module _ (R : ℕ → Cell → Type 0) (M : ℕ) (F : ℕ → ℕ) (z : ℕ) (cs : List Source) where
-  pub roots-apart : (r : ℕ) (Ps : List Code) (d c : ℕ) → All R d (rootDelays z cs r Ps d c) → All R c (rootWalks M F z cs r Ps d c) → (j : ℕ) → j < length Ps
-      → AtRoot R M F z cs (r + j) (getD Ps j ok) (delaysAt Ps d j) (joinsAt cs r Ps c j)
+module _ (pulse : ℕ) (R : ℕ → Cell → Type 0) (M : ℕ) (F : ℕ → ℕ) (z : ℕ) (cs : List Source) where
+  pub roots-apart : (r : ℕ) (Ps : List Code) (d c : ℕ) → All R d (rootDelays pulse z cs r Ps d c) → All R c (rootWalks M F z cs r Ps d c) → (j : ℕ) → j < length Ps
+      → AtRoot pulse R M F z cs (r + j) (getD Ps j ok) (delaysAt Ps d j) (joinsAt cs r Ps c j)
   unfolding rootDelays rootWalks delaysAt joinsAt
   roots-apart r [] d c hd hw j l = absurd (omega arith)
   roots-apart r (P ∷ Ps) d c hd hw j l =
@@ -46,25 +46,25 @@ module _ (R : ℕ → Cell → Type 0) (M : ℕ) (F : ℕ → ℕ) (z : ℕ) (cs
       let c₀ = rootWalk cs r c in
       let d₁ = d + delayCount P in
       let c₁ = pastRoot cs r P c in
-      let ds = rootDelays z cs (r + 1) Ps d₁ c₁ in
+      let ds = rootDelays pulse z cs (r + 1) Ps d₁ c₁ in
       let ws = rootWalks M F z cs (r + 1) Ps d₁ c₁ in
-      let qd = split R d (delayCount P) (delays P s d c₀) ds (d-len P s d c₀) hd in
+      let qd = split R d (delayCount P) (delays pulse P s d c₀) ds (d-len pulse P s d c₀) hd in
       let qo = split R c (orCount (wiresOf r cs)) (ors 35 c (wiresOf r cs)) (walk M F P s d c₀ ++ ws) (ors-len 35 c (wiresOf r cs)) hw in
       let qw = split R c₀ (walkCount P) (walk M F P s d c₀) ws (w-len M F P s d c₀) (qo .1) in
       at j l (record { joins = qo .0; delays = qd .0; walk = qw .0 }) (roots-apart (r + 1) Ps d₁ c₁ (qd .1) (qw .1))
     where
-      at : (j : ℕ) → j < length (P ∷ Ps) → AtRoot R M F z cs r P d c
+      at : (j : ℕ) → j < length (P ∷ Ps) → AtRoot pulse R M F z cs r P d c
           → ((j : ℕ) → j < length Ps
-          → AtRoot R M F z cs (r + 1 + j) (getD Ps j ok) (delaysAt Ps (d + delayCount P) j) (joinsAt cs (r + 1) Ps (pastRoot cs r P c) j))
-          → AtRoot R M F z cs (r + j) (getD (P ∷ Ps) j ok) (delaysAt (P ∷ Ps) d j) (joinsAt cs r (P ∷ Ps) c j)
+          → AtRoot pulse R M F z cs (r + 1 + j) (getD Ps j ok) (delaysAt Ps (d + delayCount P) j) (joinsAt cs (r + 1) Ps (pastRoot cs r P c) j))
+          → AtRoot pulse R M F z cs (r + j) (getD (P ∷ Ps) j ok) (delaysAt (P ∷ Ps) d j) (joinsAt cs r (P ∷ Ps) c j)
       at zero l h k = rw add-zero h
       at (suc j) l h k =
           let q : r + 1 + j ≡ r + suc j = omega arith in
           rw q at (k j (le-of-suc-le-suc l))
 
   pub roots-together : (r : ℕ) (Ps : List Code) (d c : ℕ)
-      → ((j : ℕ) → j < length Ps → AtRoot R M F z cs (r + j) (getD Ps j ok) (delaysAt Ps d j) (joinsAt cs r Ps c j))
-      → All R d (rootDelays z cs r Ps d c) × All R c (rootWalks M F z cs r Ps d c)
+      → ((j : ℕ) → j < length Ps → AtRoot pulse R M F z cs (r + j) (getD Ps j ok) (delaysAt Ps d j) (joinsAt cs r Ps c j))
+      → All R d (rootDelays pulse z cs r Ps d c) × All R c (rootWalks M F z cs r Ps d c)
   unfolding rootDelays rootWalks delaysAt joinsAt
   roots-together r [] d c h = (tt, tt)
   roots-together r (P ∷ Ps) d c h =
@@ -72,12 +72,12 @@ module _ (R : ℕ → Cell → Type 0) (M : ℕ) (F : ℕ → ℕ) (z : ℕ) (cs
       let c₀ = rootWalk cs r c in
       let d₁ = d + delayCount P in
       let c₁ = pastRoot cs r P c in
-      let ds = rootDelays z cs (r + 1) Ps d₁ c₁ in
+      let ds = rootDelays pulse z cs (r + 1) Ps d₁ c₁ in
       let ws = rootWalks M F z cs (r + 1) Ps d₁ c₁ in
-      let a : AtRoot R M F z cs r P d c = rw add-zero at (h 0 (omega arith)) in
+      let a : AtRoot pulse R M F z cs r P d c = rw add-zero at (h 0 (omega arith)) in
       let next : (j : ℕ) → r + 1 + j ≡ r + suc j = λ j. omega arith in
       let b = roots-together (r + 1) Ps d₁ c₁ (λ j l. rw (next j) (h (suc j) (suc-le-suc l))) in (
-        join R d (delayCount P) (delays P s d c₀) ds (d-len P s d c₀) (a .delays) (b .0),
+        join R d (delayCount P) (delays pulse P s d c₀) ds (d-len pulse P s d c₀) (a .delays) (b .0),
         join R c (orCount (wiresOf r cs)) (ors 35 c (wiresOf r cs)) (walk M F P s d c₀ ++ ws) (ors-len 35 c (wiresOf r cs)) (a .joins)
             (join R c₀ (walkCount P) (walk M F P s d c₀) ws (w-len M F P s d c₀) (a .walk) (b .1)),
       )

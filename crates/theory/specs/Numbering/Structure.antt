@@ -12,8 +12,7 @@ use Rattle.model.specs.Word.{pick}
 use Rattle.model.specs.Program.{Expr, const, var, compl, op, elem, Code, ok, tick, assign, assignElem, seq, par, ite, while, repeat, loop, exit, call, arrayVar}
 use Rattle.model.specs.Circuit.{delayed, mergeStep, returnStep, merged}
 use Rattle.theory.specs.Numbering.Ors.{ors-level}
-use Rattle.theory.specs.Control.Merge.{merged-one}
-use Rattle.theory.specs.Control.Returns.{returned-one}
+use Rattle.theory.specs.Control.Returns.{returned-is}
 use Rattle.theory.specs.Control.Wiring.{ideal, Circuit}
 use Rattle.laws.specs.Program.Fit.{FormedExpr, Formed, Earlier}
 use Rattle.model.specs.Rules.{eval}
@@ -25,39 +24,39 @@ use Rattle.model.specs.Word.{bit}
 use Rattle.laws.specs.Numbering.Cells.{cellVal, Rule, Obeyed, split}
 use Rattle.theory.specs.Numbering.Levels.{level-of, delayed-cong, delayed-zero, anyHigh, allOr, clkOf, datOf, givesAt, joined, ||-false}
 
-pub op-rule : (starts : Sig) (first : ℕ) (E : Elements) (W : Values) (p k x y t : ℕ) → 4 ≤ k → k ≤ 9 → cellVal starts first E W p (cell k 0 x y) t ≡ operate k (W x t) (W y t)
+pub op-rule : (pulse : ℕ) (starts : Sig) (first : ℕ) (E : Elements) (W : Values) (p k x y t : ℕ) → 4 ≤ k → k ≤ 9 → cellVal pulse starts first E W p (cell k 0 x y) t ≡ operate k (W x t) (W y t)
 unfolding cellVal
-op-rule starts first E W p k x y t h h′ = ap (λ (sh : Shape). equation sh starts first E W p (cell k 0 x y) t) (operator-shape k h h′)
+op-rule pulse starts first E W p k x y t h h′ = ap (λ (sh : Shape). equation pulse sh starts first E W p (cell k 0 x y) t) (operator-shape k h h′)
 
-module _ (starts : Sig) (first : ℕ → ℕ) (E : Elements) (W : Values) (M : ℕ) (m : ℕ → ℕ → ℕ) (shows : (x t : ℕ) → x < 16 → m t x ≡ W (M + x) t)
+module _ (pulse : ℕ) (starts : Sig) (first : ℕ → ℕ) (E : Elements) (W : Values) (M : ℕ) (m : ℕ → ℕ → ℕ) (shows : (x t : ℕ) → x < 16 → m t x ≡ W (M + x) t)
     (elements : (k w t : ℕ) → k < 4 → m t (elementWord k w) ≡ E (arrayCell M k) (index w) t)
     (ground : (t : ℕ) → level W 1 t ≡ false)
     (F : ℕ → ℕ) (ret : ℕ → Sig) (k : ℕ) (fin : (p t : ℕ) → p < k → level W (F p) t ≡ ret p t) where
-  pub expr : (e : Expr) → FormedExpr e → (c : ℕ) → Obeyed starts first E W c (exprCells M e c) → (t : ℕ) → W (exprWire M e c) t ≡ eval e (m t)
+  pub expr : (e : Expr) → FormedExpr e → (c : ℕ) → Obeyed pulse starts first E W c (exprCells M e c) → (t : ℕ) → W (exprWire M e c) t ≡ eval e (m t)
   unfolding exprCells exprWire exprCount eval cellVal
   expr (const n) w c h t = h .0 t
   expr (var x) w c h t = sym (shows x t w)
   expr (compl e) w c h t =
-      let r = split (Rule starts first E W) c (exprCount e) (exprCells M e c) (cell 3 0 (exprWire M e c) 0 ∷ []) (e-len M e c) h in
+      let r = split (Rule pulse starts first E W) c (exprCount e) (exprCells M e c) (cell 3 0 (exprWire M e c) 0 ∷ []) (e-len M e c) h in
       r .1 .0 t ∙ ap (λ (x : ℕ). operate 3 x 0) (expr e w c (r .0) t)
   expr (op k e f) w c h t =
-      let r = split (Rule starts first E W) c (exprCount e) (exprCells M e c) (exprCells M f (c + exprCount e) ++ (cell k 0 (exprWire M e c) (exprWire M f (c + exprCount e)) ∷ [])) (e-len M e c) h in
-      let q = split (Rule starts first E W) (c + exprCount e) (exprCount f) (exprCells M f (c + exprCount e)) (cell k 0 (exprWire M e c) (exprWire M f (c + exprCount e)) ∷ []) (e-len M f (c + exprCount e)) (r .1) in
+      let r = split (Rule pulse starts first E W) c (exprCount e) (exprCells M e c) (exprCells M f (c + exprCount e) ++ (cell k 0 (exprWire M e c) (exprWire M f (c + exprCount e)) ∷ [])) (e-len M e c) h in
+      let q = split (Rule pulse starts first E W) (c + exprCount e) (exprCount f) (exprCells M f (c + exprCount e)) (cell k 0 (exprWire M e c) (exprWire M f (c + exprCount e)) ∷ []) (e-len M f (c + exprCount e)) (r .1) in
       q .1 .0 t
-      ∙ op-rule starts (first (c + exprCount e + exprCount f)) E W (c + exprCount e + exprCount f) k (exprWire M e c) (exprWire M f (c + exprCount e)) t (w .0) (w .1)
+      ∙ op-rule pulse starts (first (c + exprCount e + exprCount f)) E W (c + exprCount e + exprCount f) k (exprWire M e c) (exprWire M f (c + exprCount e)) t (w .0) (w .1)
       ∙ ap₂ (λ (x y : ℕ). operate k x y) (expr e (w .2) c (r .0) t) (expr f (w .3) (c + exprCount e) (q .0) t)
   expr (elem k e) w c h t =
-      let r = split (Rule starts first E W) c (exprCount e) (exprCells M e c) (cell 44 0 (arrayCell M k) (exprWire M e c) ∷ []) (e-len M e c) h in
+      let r = split (Rule pulse starts first E W) c (exprCount e) (exprCells M e c) (cell 44 0 (arrayCell M k) (exprWire M e c) ∷ []) (e-len M e c) h in
       r .1 .0 t ∙ ap (λ (x : ℕ). E (arrayCell M k) (index x) t) (expr e (w .1) c (r .0) t) ∙ sym (elements k (eval e (m t)) t (w .0))
 
-  pub pulse-is : (δ s d : ℕ) → Obeyed starts first E W d (ifDelayCells δ s) → (t : ℕ) → level W (ifPulse δ s d) t ≡ delayed δ (level W s) t
+  pub pulse-is : (δ s d : ℕ) → Obeyed pulse starts first E W d (ifDelayCells δ s) → (t : ℕ) → level W (ifPulse δ s d) t ≡ delayed δ (level W s) t
   unfolding ifDelayCells ifPulse cellVal
   pulse-is zero s d h t = sym (delayed-zero (level W s) t)
   pulse-is (suc δ) s d h t = level-of (delayed (suc δ) (level W s) t) (h .0 t)
 
   -- the statement's circuit from its start s, if its delay cells stand at d and its walk cells at c
   abbrev pub Cells : Code → ℕ → ℕ → ℕ → Type 0
-  Cells P s d c = Circuit 1 (ideal m) ret P (level W s) (level W (finishWire P s d c)) (givesAt W P s d c)
+  Cells P s d c = Circuit pulse (ideal m) ret P (level W s) (level W (finishWire P s d c)) (givesAt W P s d c)
 
   -- the two switches
   pub yes-is : (k a b t : ℕ) {v : ℕ} {D : Bool} → W k t ≡ bit (level W a t && not (eqb (W b t) 0)) → level W a t ≡ D → W b t ≡ v → level W k t ≡ D && not (isZero v)
@@ -95,7 +94,7 @@ module _ (starts : Sig) (first : ℕ → ℕ) (E : Elements) (W : Values) (M : �
   no-address false q = refl
 
   unfoldable pub struct : (P : Code) → Formed P → Earlier k P → (s d c : ℕ)
-      → Obeyed starts first E W d (delays P s d c) → Obeyed starts first E W c (walk M F P s d c)
+      → Obeyed pulse starts first E W d (delays pulse P s d c) → Obeyed pulse starts first E W c (walk M F P s d c)
       → Cells P s d c
   unfolding Circuit delays walk finishWire clockSources dataSources addressSources callSources cellVal delayCount walkCount anyHigh allOr wiresOf
   struct ok w z s d c hd hw =
@@ -110,10 +109,10 @@ module _ (starts : Sig) (first : ℕ → ℕ) (E : Elements) (W : Values) (M : �
         out = λ t. refl;
       }
   struct (assign δ x e) w z s d c hd hw =
-      let r = split (Rule starts first E W) c (exprCount e) (exprCells M e c) (cell 41 0 d (exprWire M e c) ∷ []) (e-len M e c) hw in
+      let r = split (Rule pulse starts first E W) c (exprCount e) (exprCells M e c) (cell 41 0 d (exprWire M e c) ∷ []) (e-len M e c) hw in
       let D : (t : ℕ) → level W d t ≡ delayed δ (level W s) t = λ t. level-of (delayed δ (level W s) t) (hd .0 t) in
       record {
-        fin = λ t. level-of (delayed 1 (level W d) t) (hd .1 .0 t) ∙ delayed-cong 1 D t;
+        fin = λ t. level-of (delayed pulse (level W d) t) (hd .1 .0 t) ∙ delayed-cong pulse D t;
         clocks = λ y t. own-clock x d y t ∙ ap (λ (b : Bool). pick (eqb y x) b false) (D t);
         words = λ y t. gated-is x (c + exprCount e) d (exprWire M e c) y t _ _ (r .1 .0 t) (D t) (expr e (w .2) c (r .0) t);
         addresses = λ y t. no-address (eqb y x) (delayed δ (level W s) t);
@@ -126,11 +125,11 @@ module _ (starts : Sig) (first : ℕ → ℕ) (E : Elements) (W : Values) (M : �
       let cg = ce + exprCount e in
       let o = cell 41 0 d (exprWire M e ce) in
       let o′ = cell 41 0 d (exprWire M i c) in
-      let ri = split (Rule starts first E W) c (exprCount i) (exprCells M i c) (exprCells M e ce ++ (o ∷ (o′ ∷ []))) (e-len M i c) hw in
-      let re = split (Rule starts first E W) ce (exprCount e) (exprCells M e ce) (o ∷ (o′ ∷ [])) (e-len M e ce) (ri .1) in
+      let ri = split (Rule pulse starts first E W) c (exprCount i) (exprCells M i c) (exprCells M e ce ++ (o ∷ (o′ ∷ []))) (e-len M i c) hw in
+      let re = split (Rule pulse starts first E W) ce (exprCount e) (exprCells M e ce) (o ∷ (o′ ∷ [])) (e-len M e ce) (ri .1) in
       let D : (t : ℕ) → level W d t ≡ delayed δ (level W s) t = λ t. level-of (delayed δ (level W s) t) (hd .0 t) in
       record {
-        fin = λ t. level-of (delayed 1 (level W d) t) (hd .1 .0 t) ∙ delayed-cong 1 D t;
+        fin = λ t. level-of (delayed pulse (level W d) t) (hd .1 .0 t) ∙ delayed-cong pulse D t;
         clocks = λ y t. own-clock x d y t ∙ ap (λ (b : Bool). pick (eqb y x) b false) (D t);
         words = λ y t. gated-is x cg d (exprWire M e ce) y t _ _ (re .1 .0 t) (D t) (expr e (w .3) ce (re .0) t);
         addresses = λ y t. gated-is x (cg + 1) d (exprWire M i c) y t _ _ (re .1 .1 .0 t) (D t) (expr i (w .2) c (ri .0) t);
@@ -139,8 +138,8 @@ module _ (starts : Sig) (first : ℕ → ℕ) (E : Elements) (W : Values) (M : �
       }
   struct (seq P Q) w z s d c hd hw =
       let g = finishWire P s d c in
-      let rd = split (Rule starts first E W) d (delayCount P) (delays P s d c) (delays Q g (d + delayCount P) (c + walkCount P)) (d-len P s d c) hd in
-      let rc = split (Rule starts first E W) c (walkCount P) (walk M F P s d c) (walk M F Q g (d + delayCount P) (c + walkCount P)) (w-len M F P s d c) hw in
+      let rd = split (Rule pulse starts first E W) d (delayCount P) (delays pulse P s d c) (delays pulse Q g (d + delayCount P) (c + walkCount P)) (d-len pulse P s d c) hd in
+      let rc = split (Rule pulse starts first E W) c (walkCount P) (walk M F P s d c) (walk M F Q g (d + delayCount P) (c + walkCount P)) (w-len M F P s d c) hw in
       record {
         mid = level W g;
         g₁ = givesAt W P s d c;
@@ -155,9 +154,9 @@ module _ (starts : Sig) (first : ℕ → ℕ) (E : Elements) (W : Values) (M : �
   struct (par P Q) w z s d c hd hw =
       let f = finishWire P s d c in
       let g = finishWire Q s (d + delayCount P) (c + walkCount P) in
-      let rd = split (Rule starts first E W) d (delayCount P) (delays P s d c) (delays Q s (d + delayCount P) (c + walkCount P)) (d-len P s d c) hd in
-      let rc = split (Rule starts first E W) c (walkCount P) (walk M F P s d c) (walk M F Q s (d + delayCount P) (c + walkCount P) ++ (cell 38 0 f g ∷ [])) (w-len M F P s d c) hw in
-      let rm = split (Rule starts first E W) (c + walkCount P) (walkCount Q) (walk M F Q s (d + delayCount P) (c + walkCount P)) (cell 38 0 f g ∷ []) (w-len M F Q s (d + delayCount P) (c + walkCount P)) (rc .1) in
+      let rd = split (Rule pulse starts first E W) d (delayCount P) (delays pulse P s d c) (delays pulse Q s (d + delayCount P) (c + walkCount P)) (d-len pulse P s d c) hd in
+      let rc = split (Rule pulse starts first E W) c (walkCount P) (walk M F P s d c) (walk M F Q s (d + delayCount P) (c + walkCount P) ++ (cell 38 0 f g ∷ [])) (w-len M F P s d c) hw in
+      let rm = split (Rule pulse starts first E W) (c + walkCount P) (walkCount Q) (walk M F Q s (d + delayCount P) (c + walkCount P)) (cell 38 0 f g ∷ []) (w-len M F Q s (d + delayCount P) (c + walkCount P)) (rc .1) in
       record {
         f₁ = level W f;
         g₁ = givesAt W P s d c;
@@ -169,7 +168,7 @@ module _ (starts : Sig) (first : ℕ → ℕ) (E : Elements) (W : Values) (M : �
             (addressSources P c) (addressSources Q (c + walkCount P)) (callSources P d) (callSources Q (d + delayCount P))
             (exitWires P s d c)
             (exitWires Q s (d + delayCount P) (c + walkCount P));
-        fin = λ t. level-of (merged mergeStep (level W f) (level W g) t) (rm .1 .0 t) ∙ sym (merged-one (level W f) (level W g) t);
+        fin = λ t. level-of (merged (mergeStep (eqb pulse 1)) (level W f) (level W g) t) (rm .1 .0 t);
       }
   struct (ite δ e P Q) w z s d c hd hw =
       let p = c + exprCount e in
@@ -177,14 +176,14 @@ module _ (starts : Sig) (first : ℕ → ℕ) (E : Elements) (W : Values) (M : �
       let cP = p + 1 + 1 in
       let f = finishWire P p dP cP in
       let g = finishWire Q (p + 1) (dP + delayCount P) (cP + walkCount P) in
-      let ro = split (Rule starts first E W) d (ifDelayCount δ) (ifDelayCells δ s) (delays P p dP cP ++ delays Q (p + 1) (dP + delayCount P) (cP + walkCount P)) (own-len δ s) hd in
-      let rd = split (Rule starts first E W) dP (delayCount P) (delays P p dP cP) (delays Q (p + 1) (dP + delayCount P) (cP + walkCount P)) (d-len P p dP cP) (ro .1) in
+      let ro = split (Rule pulse starts first E W) d (ifDelayCount δ) (ifDelayCells δ s) (delays pulse P p dP cP ++ delays pulse Q (p + 1) (dP + delayCount P) (cP + walkCount P)) (own-len δ s) hd in
+      let rd = split (Rule pulse starts first E W) dP (delayCount P) (delays pulse P p dP cP) (delays pulse Q (p + 1) (dP + delayCount P) (cP + walkCount P)) (d-len pulse P p dP cP) (ro .1) in
       let o6 = cell 36 0 (ifPulse δ s d) (exprWire M e c) in
       let o7 = cell 37 0 (ifPulse δ s d) (exprWire M e c) in
       let tail = walk M F Q (p + 1) (dP + delayCount P) (cP + walkCount P) ++ (cell 35 0 f g ∷ []) in
-      let re = split (Rule starts first E W) c (exprCount e) (exprCells M e c) (o6 ∷ (o7 ∷ (walk M F P p dP cP ++ tail))) (e-len M e c) hw in
-      let rP = split (Rule starts first E W) cP (walkCount P) (walk M F P p dP cP) tail (w-len M F P p dP cP) (re .1 .1 .1) in
-      let rQ = split (Rule starts first E W) (cP + walkCount P) (walkCount Q) (walk M F Q (p + 1) (dP + delayCount P) (cP + walkCount P)) (cell 35 0 f g ∷ []) (w-len M F Q (p + 1) (dP + delayCount P) (cP + walkCount P)) (rP .1) in
+      let re = split (Rule pulse starts first E W) c (exprCount e) (exprCells M e c) (o6 ∷ (o7 ∷ (walk M F P p dP cP ++ tail))) (e-len M e c) hw in
+      let rP = split (Rule pulse starts first E W) cP (walkCount P) (walk M F P p dP cP) tail (w-len M F P p dP cP) (re .1 .1 .1) in
+      let rQ = split (Rule pulse starts first E W) (cP + walkCount P) (walkCount Q) (walk M F Q (p + 1) (dP + delayCount P) (cP + walkCount P)) (cell 35 0 f g ∷ []) (w-len M F Q (p + 1) (dP + delayCount P) (cP + walkCount P)) (rP .1) in
       let D : (t : ℕ) → level W (ifPulse δ s d) t ≡ delayed δ (level W s) t = pulse-is δ s d (ro .0) in
       let shown : (t : ℕ) → W (exprWire M e c) t ≡ eval e (m t) = expr e (w .1) c (re .0) in
       record {
@@ -208,8 +207,8 @@ module _ (starts : Sig) (first : ℕ → ℕ) (E : Elements) (W : Values) (M : �
       let p = c + exprCount e in
       let cP = p + 1 + 1 in
       let f = finishWire P p (d + 1) cP in
-      let re = split (Rule starts first E W) c (exprCount e) (exprCells M e c) _ (e-len M e c) hw in
-      let rP = split (Rule starts first E W) cP (walkCount P) (walk M F P p (d + 1) cP) (cell 35 0 s f ∷ []) (w-len M F P p (d + 1) cP) (re .1 .1 .1) in
+      let re = split (Rule pulse starts first E W) c (exprCount e) (exprCells M e c) _ (e-len M e c) hw in
+      let rP = split (Rule pulse starts first E W) cP (walkCount P) (walk M F P p (d + 1) cP) (cell 35 0 s f ∷ []) (w-len M F P p (d + 1) cP) (re .1 .1 .1) in
       let D : (t : ℕ) → level W d t ≡ delayed δ (λ u. level W s u || level W f u) t =
       λ t. level-of (delayed δ (level W (cP + walkCount P)) t) (hd .0 t) ∙ delayed-cong δ (λ u. level-of (level W s u || level W f u) (rP .1 .0 u)) t in
       let shown : (t : ℕ) → W (exprWire M e c) t ≡ eval e (m t) = expr e (w .1) c (re .0) in
@@ -224,7 +223,7 @@ module _ (starts : Sig) (first : ℕ → ℕ) (E : Elements) (W : Values) (M : �
       let p = c + exprCount e in
       let cP = p + 1 + 1 + 1 in
       let f = finishWire P (p + 1 + 1) (d + 1) cP in
-      let re = split (Rule starts first E W) c (exprCount e) (exprCells M e c) _ (e-len M e c) hw in
+      let re = split (Rule pulse starts first E W) c (exprCount e) (exprCells M e c) _ (e-len M e c) hw in
       let D : (t : ℕ) → level W d t ≡ delayed δ (level W f) t = λ t. level-of (delayed δ (level W f) t) (hd .0 t) in
       let shown : (t : ℕ) → W (exprWire M e c) t ≡ eval e (m t) = expr e (w .1) c (re .0) in
       record {
@@ -236,7 +235,7 @@ module _ (starts : Sig) (first : ℕ → ℕ) (E : Elements) (W : Values) (M : �
       }
   struct (loop δ P) w z s d c hd hw =
       let f = finishWire P c (d + 1) (c + 1) in
-      let r = split (Rule starts first E W) (c + 1) (walkCount P) (walk M F P c (d + 1) (c + 1)) (ors 35 (exitsAt P c) (loopExits P d c)) (w-len M F P c (d + 1) (c + 1)) (hw .1) in
+      let r = split (Rule pulse starts first E W) (c + 1) (walkCount P) (walk M F P c (d + 1) (c + 1)) (ors 35 (exitsAt P c) (loopExits P d c)) (w-len M F P c (d + 1) (c + 1)) (hw .1) in
       let D : (t : ℕ) → level W d t ≡ delayed δ (level W f) t = λ t. level-of (delayed δ (level W f) t) (hd .0 t) in
       record {
         s₁ = level W c;
@@ -244,7 +243,7 @@ module _ (starts : Sig) (first : ℕ → ℕ) (E : Elements) (W : Values) (M : �
         g₁ = givesAt W P c (d + 1) (c + 1);
         body = struct P (w .1) (z .1) c (d + 1) (c + 1) (hd .1) (r .0);
         begin = λ t. level-of (level W s t || level W d t) (hw .0 t) ∙ ap (λ (b : Bool). level W s t || b) (D t);
-        fin = ors-level starts first E W ground (exitsAt P c) (loopExits P d c) (r .1);
+        fin = ors-level pulse starts first E W ground (exitsAt P c) (loopExits P d c) (r .1);
         clocks = λ y t. refl;
         words = λ y t. refl;
         addresses = λ y t. refl;
@@ -265,9 +264,9 @@ module _ (starts : Sig) (first : ℕ → ℕ) (E : Elements) (W : Values) (M : �
       let B : level W (F p) ≡ ret p = λ i t. fin p t (z .1) i in
       record {
         fin = λ t.
-            level-of (merged returnStep (level W d) (level W (F p)) t) (hw .0 t)
-            ∙ ap₂ (λ (x y : Sig). merged returnStep x y t) D B
-            ∙ sym (returned-one (delayed δ (level W s)) (ret p) t);
+            level-of (merged (returnStep (eqb pulse 1)) (level W d) (level W (F p)) t) (hw .0 t)
+            ∙ ap₂ (λ (x y : Sig). merged (returnStep (eqb pulse 1)) x y t) D B
+            ∙ sym (returned-is pulse (delayed δ (level W s)) (ret p) t);
         clocks = λ y t. refl;
         words = λ y t. refl;
         addresses = λ y t. refl;

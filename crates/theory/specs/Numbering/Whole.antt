@@ -13,8 +13,8 @@ use Rattle.model.specs.declared.Cell.{Cell}
 use Rattle.model.specs.Word.{pick, bit, index, elementWord}
 use Rattle.model.specs.Program.{Code, Program, roots, ok, tick, assign, assignElem, seq, par, ite, while, repeat, loop, exit, call, arrayVar}
 use Rattle.model.specs.Procedures.{bodyAt}
-use Rattle.model.specs.Circuit.{cell, Sig, Values, Elements, level, memory, element, memories, startWord, Obeys}
-use Rattle.model.specs.Numbering.{arrayCell, ifDelayCount, delayCount, clockSources, Source, wiresOf}
+use Rattle.model.specs.Circuit.{pulses, cell, Sig, Values, Elements, level, memory, element, memories, startWord, Obeys}
+use Rattle.model.specs.Numbering.{circuitOf, arrayCell, ifDelayCount, delayCount, clockSources, Source, wiresOf}
 use Rattle.model.specs.Numbering.{finishWire, delays, walk, ors, orsOut, orCount, orsFrom, outsFrom, memoriesOf, rootStart, rootWalk, rootSources, callsOf, clocksOf, dataOf, addressesOf, procedures, finishOfRoot, netlist, finish}
 use Rattle.model.specs.Numbering.{clockAt, memoryAt, walkAt, dataAt, addressAt, clockWires, dataWires, addressWires}
 use Rattle.laws.specs.Refusals.Laws.{is-false, by-le}
@@ -37,33 +37,33 @@ use Rattle.theory.specs.Numbering.Structure.{struct}
 
 -- ---- the ors of each variable
 
-module _ (starts : Sig) (first : ℕ → ℕ) (E : Elements) (W : Values) where
-  pub outs-level : ((t : ℕ) → level W 1 t ≡ false) → (ws : List Source) (n x j : ℕ) → Obeyed starts first E W n (orsFrom 35 ws n x j)
+module _ (pulse : ℕ) (starts : Sig) (first : ℕ → ℕ) (E : Elements) (W : Values) where
+  pub outs-level : ((t : ℕ) → level W 1 t ≡ false) → (ws : List Source) (n x j : ℕ) → Obeyed pulse starts first E W n (orsFrom 35 ws n x j)
       → (i : ℕ) → i < j → (t : ℕ) → level W (getD (outsFrom 1 ws n x j) i 0) t ≡ clkOf W ws (x + i) t
   unfolding orsFrom outsFrom
   outs-level g ws n x zero h i l t = absurd (not-suc-le-zero l)
   outs-level g ws n x (suc j) h zero l t =
-      let r = split (Rule starts first E W) n (orCount (wiresOf x ws)) (ors 35 n (wiresOf x ws)) (orsFrom 35 ws (n + orCount (wiresOf x ws)) (x + 1) j) (ors-len 35 n (wiresOf x ws)) h in
-      rw (add-zero x) (ors-level starts first E W g n (wiresOf x ws) (r .0) t)
+      let r = split (Rule pulse starts first E W) n (orCount (wiresOf x ws)) (ors 35 n (wiresOf x ws)) (orsFrom 35 ws (n + orCount (wiresOf x ws)) (x + 1) j) (ors-len 35 n (wiresOf x ws)) h in
+      rw (add-zero x) (ors-level pulse starts first E W g n (wiresOf x ws) (r .0) t)
   outs-level g ws n x (suc j) h (suc i) l t =
-      let r = split (Rule starts first E W) n (orCount (wiresOf x ws)) (ors 35 n (wiresOf x ws)) (orsFrom 35 ws (n + orCount (wiresOf x ws)) (x + 1) j) (ors-len 35 n (wiresOf x ws)) h in
+      let r = split (Rule pulse starts first E W) n (orCount (wiresOf x ws)) (ors 35 n (wiresOf x ws)) (orsFrom 35 ws (n + orCount (wiresOf x ws)) (x + 1) j) (ors-len 35 n (wiresOf x ws)) h in
       let e : x + 1 + i ≡ x + suc i = omega arith in
       outs-level g ws (n + orCount (wiresOf x ws)) (x + 1) j (r .1) i (le-of-suc-le-suc l) t ∙ ap (λ (y : ℕ). clkOf W ws y t) e
 
-  pub outs-word : ((t : ℕ) → W 2 t ≡ 0) → (ws : List Source) (n x j : ℕ) → Obeyed starts first E W n (orsFrom 7 ws n x j)
+  pub outs-word : ((t : ℕ) → W 2 t ≡ 0) → (ws : List Source) (n x j : ℕ) → Obeyed pulse starts first E W n (orsFrom 7 ws n x j)
       → (i : ℕ) → i < j → (t : ℕ) → W (getD (outsFrom 2 ws n x j) i 0) t ≡ datOf W ws (x + i) t
   unfolding orsFrom outsFrom
   outs-word g ws n x zero h i l t = absurd (not-suc-le-zero l)
   outs-word g ws n x (suc j) h zero l t =
-      let r = split (Rule starts first E W) n (orCount (wiresOf x ws)) (ors 7 n (wiresOf x ws)) (orsFrom 7 ws (n + orCount (wiresOf x ws)) (x + 1) j) (ors-len 7 n (wiresOf x ws)) h in
-      rw (add-zero x) (ors-word starts first E W g n (wiresOf x ws) (r .0) t)
+      let r = split (Rule pulse starts first E W) n (orCount (wiresOf x ws)) (ors 7 n (wiresOf x ws)) (orsFrom 7 ws (n + orCount (wiresOf x ws)) (x + 1) j) (ors-len 7 n (wiresOf x ws)) h in
+      rw (add-zero x) (ors-word pulse starts first E W g n (wiresOf x ws) (r .0) t)
   outs-word g ws n x (suc j) h (suc i) l t =
-      let r = split (Rule starts first E W) n (orCount (wiresOf x ws)) (ors 7 n (wiresOf x ws)) (orsFrom 7 ws (n + orCount (wiresOf x ws)) (x + 1) j) (ors-len 7 n (wiresOf x ws)) h in
+      let r = split (Rule pulse starts first E W) n (orCount (wiresOf x ws)) (ors 7 n (wiresOf x ws)) (orsFrom 7 ws (n + orCount (wiresOf x ws)) (x + 1) j) (ors-len 7 n (wiresOf x ws)) h in
       let e : x + 1 + i ≡ x + suc i = omega arith in
       outs-word g ws (n + orCount (wiresOf x ws)) (x + 1) j (r .1) i (le-of-suc-le-suc l) t ∙ ap (λ (y : ℕ). datOf W ws y t) e
 
   -- the memories
-  mem-at : (ks ds : List ℕ) (x n k : ℕ) → Obeyed starts first E W k (memoriesOf ks ds x n) → (i : ℕ) → i < n → (t : ℕ)
+  mem-at : (ks ds : List ℕ) (x n k : ℕ) → Obeyed pulse starts first E W k (memoriesOf ks ds x n) → (i : ℕ) → i < n → (t : ℕ)
       → W (k + i) t ≡ memory (first (k + i)) W (k + i) (cell 40 0 (getD ks (x + i) 0) (getD ds (x + i) 0)) t
   unfolding memoriesOf cellVal
   mem-at ks ds x zero k h i l t = absurd (omega arith)
@@ -147,20 +147,20 @@ latch-hit true true v w = refl
 latch-hit true false v w = refl
 latch-hit false q v w = refl
 
-module _ (S : Program) (A : Admitted S) (starts : Sig) (words : ℕ → ℕ) (W : Values) (h : Obeys (netlist S) starts words W) where
+module _ (S : Program) (A : Admitted S) (starts : Sig) (words : ℕ → ℕ) (W : Values) (h : Obeys (circuitOf S) starts words W) where
   pub first : ℕ → ℕ
   first k = startWord (netlist S) words k
 
   unfoldable pub E : Elements
   E = element (netlist S) words W
 
-  pub laid : Laid (Rule starts first E W) S
+  pub laid : Laid (Rule (S .pulse) starts first E W) S
   unfolding first E
-  laid = lay (Rule starts first E W) S (obeys-holds (netlist S) starts words W h)
+  laid = lay (Rule (S .pulse) starts first E W) S (obeys-holds (circuitOf S) starts words W h)
 
-  pub start-is : (t : ℕ) → level W 0 t ≡ starts t
+  pub start-is : (t : ℕ) → level W 0 t ≡ pulses (S .pulse) starts t
   unfolding cellVal
-  start-is t = level-of (starts t) (laid .at-start t)
+  start-is t = level-of (pulses (S .pulse) starts t) (laid .at-start t)
 
   pub ground-is : (t : ℕ) → level W 1 t ≡ false
   unfolding cellVal bit
@@ -174,21 +174,21 @@ module _ (S : Program) (A : Admitted S) (starts : Sig) (words : ℕ → ℕ) (W 
   pub clock-wire : (x : ℕ) → x < 20 → (t : ℕ) → level W (getD (clockWires S) x 0) t ≡ clkOf W (clocksOf S) x t
   clock-wire x l t =
       let z : 0 + x ≡ x = omega arith in
-      rw z at (outs-level starts first E W ground-is (clocksOf S) (clockAt S) 0 20 (laid .at-clocks) x l t)
+      rw z at (outs-level (S .pulse) starts first E W ground-is (clocksOf S) (clockAt S) 0 20 (laid .at-clocks) x l t)
 
   pub data-wire : (x : ℕ) → x < 20 → (t : ℕ) → W (getD (dataWires S) x 0) t ≡ datOf W (dataOf S) x t
   data-wire x l t =
       let z : 0 + x ≡ x = omega arith in
-      rw z at (outs-word starts first E W zero-is (dataOf S) (dataAt S) 0 20 (laid .at-datas) x l t)
+      rw z at (outs-word (S .pulse) starts first E W zero-is (dataOf S) (dataAt S) 0 20 (laid .at-datas) x l t)
 
   pub address-wire : (k : ℕ) → k < 4 → (t : ℕ) → W (getD (addressWires S) k 0) t ≡ datOf W (addressesOf S) (arrayVar k) t
-  address-wire k l t = outs-word starts first E W zero-is (addressesOf S) (addressAt S) 16 4 (laid .at-addresses) k l t
+  address-wire k l t = outs-word (S .pulse) starts first E W zero-is (addressesOf S) (addressAt S) 16 4 (laid .at-addresses) k l t
 
   mem-is : (x : ℕ) → x < 16 → (t : ℕ)
       → W (memoryAt S + x) t ≡ memory (first (memoryAt S + x)) W (memoryAt S + x) (cell 40 0 (getD (clockWires S) x 0) (getD (dataWires S) x 0)) t
   mem-is x l t =
       let z : 0 + x ≡ x = omega arith in
-      rw z at (mem-at starts first E W (clockWires S) (dataWires S) 0 16 (memoryAt S) (laid .at-mems) x l t)
+      rw z at (mem-at (S .pulse) starts first E W (clockWires S) (dataWires S) 0 16 (memoryAt S) (laid .at-mems) x l t)
 
   -- Where each root stands: its callers' 35s, its delays, its walk and its start ----------------------------------------------------------
 
@@ -208,37 +208,37 @@ module _ (S : Program) (A : Admitted S) (starts : Sig) (words : ℕ → ℕ) (W 
   startOf q = rootStart n (callsOf S) q (joinsOf q)
 
   abbrev pub Stands : (ℕ → Cell → Type 0) → ℕ → Code → Type 0
-  Stands R q P = AtRoot R (memoryAt S) (finishOfRoot S) n (callsOf S) q P (delaysOf q) (joinsOf q)
+  Stands R q P = AtRoot (S .pulse) R (memoryAt S) (finishOfRoot S) n (callsOf S) q P (delaysOf q) (joinsOf q)
 
-  at-root : (q : ℕ) → q < length (roots S) → Stands (Rule starts first E W) q (rootAt S q)
+  at-root : (q : ℕ) → q < length (roots S) → Stands (Rule (S .pulse) starts first E W) q (rootAt S q)
   at-root q l =
       let z : 0 + q ≡ q = omega arith in
       rw z at
-      (roots-apart (Rule starts first E W) (memoryAt S) (finishOfRoot S) n (callsOf S) 0 (roots S) 3 (walkAt S) (laid .at-delays) (laid .at-walk) q l)
+      (roots-apart (S .pulse) (Rule (S .pulse) starts first E W) (memoryAt S) (finishOfRoot S) n (callsOf S) 0 (roots S) 3 (walkAt S) (laid .at-delays) (laid .at-walk) q l)
 
-  pub at-body-root : (q : ℕ) → q < n → Stands (Rule starts first E W) q (bodyAt (S .bodies) q)
-  at-body-root q l = at-body S (Stands (Rule starts first E W)) q l (at-root q (omega (arith, root-count S)))
+  pub at-body-root : (q : ℕ) → q < n → Stands (Rule (S .pulse) starts first E W) q (bodyAt (S .bodies) q)
+  at-body-root q l = at-body S (Stands (Rule (S .pulse) starts first E W)) q l (at-root q (omega (arith, root-count S)))
 
-  pub at-main-root : Stands (Rule starts first E W) n (S .main)
-  at-main-root = at-main S (Stands (Rule starts first E W)) (at-root n (omega (arith, root-count S)))
+  pub at-main-root : Stands (Rule (S .pulse) starts first E W) n (S .main)
+  at-main-root = at-main S (Stands (Rule (S .pulse) starts first E W)) (at-root n (omega (arith, root-count S)))
 
   -- a body that there is not has no cells
-  pub body-delays : (q : ℕ) → Obeyed starts first E W (delaysOf q) (delays (bodyAt (S .bodies) q) (startOf q) (delaysOf q) (walkOf q))
+  pub body-delays : (q : ℕ) → Obeyed (S .pulse) starts first E W (delaysOf q) (delays (S .pulse) (bodyAt (S .bodies) q) (startOf q) (delaysOf q) (walkOf q))
   unfolding delays
   body-delays q =
       by-le n q
       (λ l.
-      subst (λ (P : Code). Obeyed starts first E W (delaysOf q) (delays P (startOf q) (delaysOf q) (walkOf q)))
+      subst (λ (P : Code). Obeyed (S .pulse) starts first E W (delaysOf q) (delays (S .pulse) P (startOf q) (delaysOf q) (walkOf q)))
       (sym (List·getD-eq-default (S .bodies) ok l)) tt)
       (λ l. at-body-root q l .delays)
 
   pub body-walk : (q : ℕ)
-      → Obeyed starts first E W (walkOf q) (walk (memoryAt S) (finishOfRoot S) (bodyAt (S .bodies) q) (startOf q) (delaysOf q) (walkOf q))
+      → Obeyed (S .pulse) starts first E W (walkOf q) (walk (memoryAt S) (finishOfRoot S) (bodyAt (S .bodies) q) (startOf q) (delaysOf q) (walkOf q))
   unfolding walk
   body-walk q =
       by-le n q
       (λ l.
-      subst (λ (P : Code). Obeyed starts first E W (walkOf q) (walk (memoryAt S) (finishOfRoot S) P (startOf q) (delaysOf q) (walkOf q)))
+      subst (λ (P : Code). Obeyed (S .pulse) starts first E W (walkOf q) (walk (memoryAt S) (finishOfRoot S) P (startOf q) (delaysOf q) (walkOf q)))
       (sym (List·getD-eq-default (S .bodies) ok l)) tt)
       (λ l. at-body-root q l .walk)
 
@@ -277,7 +277,7 @@ module _ (S : Program) (A : Admitted S) (starts : Sig) (words : ℕ → ℕ) (W 
   pub start-body : (q : ℕ) → q < n → (t : ℕ) → level W (startOf q) t ≡ clkOf W (callsOf S) q t
   start-body q l t =
       let z : eqb q n ≡ false = ne-eqb q n (λ e. omega arith) in
-      rw z (ors-level starts first E W ground-is (joinsOf q) (wiresOf q (callsOf S)) (at-body-root q l .joins) t)
+      rw z (ors-level (S .pulse) starts first E W ground-is (joinsOf q) (wiresOf q (callsOf S)) (at-body-root q l .joins) t)
 
   -- The circuit --------------------------------------------------------------------------------------------------------------------------
 
@@ -291,16 +291,16 @@ module _ (S : Program) (A : Admitted S) (starts : Sig) (words : ℕ → ℕ) (W 
   abbrev pub body : ℕ → Code
   body q = bodyAt (S .bodies) q
 
-  unfoldable pub body-is : (q : ℕ) → Circuit 1 (ideal (showing S words W)) ret (body q) (given .calls q) (ret q) (givenBy (body q) q)
+  unfoldable pub body-is : (q : ℕ) → Circuit (S .pulse) (ideal (showing S words W)) ret (body q) (given .calls q) (ret q) (givenBy (body q) q)
   unfolding E ret
   body-is q =
-      struct starts first E W (memoryAt S) (showing S words W) (shows S words W) (shows-element S words W) ground-is (finishOfRoot S) ret n fin-is (body q)
+      struct (S .pulse) starts first E W (memoryAt S) (showing S words W) (shows S words W) (shows-element S words W) ground-is (finishOfRoot S) ret n fin-is (body q)
       (A .body q .fit .formed) (earlier-all S A q) (startOf q) (delaysOf q) (walkOf q) (body-delays q) (body-walk q)
 
-  unfoldable pub main-is : Circuit 1 (ideal (showing S words W)) ret (S .main) (level W (startOf n)) (level W (finishWireOf (S .main) n)) (givenBy (S .main) n)
+  unfoldable pub main-is : Circuit (S .pulse) (ideal (showing S words W)) ret (S .main) (level W (startOf n)) (level W (finishWireOf (S .main) n)) (givenBy (S .main) n)
   unfolding E
   main-is =
-      struct starts first E W (memoryAt S) (showing S words W) (shows S words W) (shows-element S words W) ground-is (finishOfRoot S) ret n fin-is (S .main)
+      struct (S .pulse) starts first E W (memoryAt S) (showing S words W) (shows S words W) (shows-element S words W) ground-is (finishOfRoot S) ret n fin-is (S .main)
       (A .main .fit .formed) (A .main .earlier) (startOf n) (delaysOf n) (walkOf n) (at-main-root .delays) (at-main-root .walk)
 
   -- word x after instant t: of a variable, of an element, and of none

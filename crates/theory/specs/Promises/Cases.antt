@@ -19,7 +19,7 @@ use Rattle.model.specs.Word.{get16, get32, Bytes}
 use Rattle.model.specs.Refusals.{first, refuse}
 use Rattle.model.specs.Program.{programOf}
 use Rattle.model.specs.ProgramChecks.{programWith}
-use Rattle.model.specs.NetlistFile.{blocksFor, fileCheck, cellsOf, fileLengthWrong}
+use Rattle.model.specs.NetlistFile.{netOf, blocksFor, fileCheck, cellsOf, fileLengthWrong}
 use Rattle.model.specs.Numbering.{netlist, finish}
 use Rattle.model.specs.TimeTables.{builtIn, beside, load, defaults}
 use Rattle.model.specs.declared.Format.the-variants.{Full}
@@ -64,7 +64,7 @@ module _ (options : Options) (program words forFile forState : List ℕ) (n : �
   abbrev read : fileCheck file ≡ Accepted
   read = file-read options program bytes accepted
 
-  state-room : stateSize Full (cellsOf file) ≤ length forState
+  state-room : stateSize Full (netOf file) ≤ length forState
   state-room = omega (arith, count-range _ _ _ (file-passed file read .count) .1, count-cells file)
 
   checks : first (runProgramChecks options program words n forFile forState) ≡ Accepted
@@ -75,7 +75,7 @@ module _ (options : Options) (program words forFile forState : List ℕ) (n : �
         le-ltb 1000000 n l,
         le-ltb (length words) 544 some,
         le-ltb (length forFile) (length file) (omega (arith, file-room options program bytes accepted)),
-        le-ltb (length forState) (stateSize Full (cellsOf file)) state-room,
+        le-ltb (length forState) (stateSize Full (netOf file)) state-room,
       )
 
   -- where the reference run says that it ended, the two answer the same
@@ -162,9 +162,9 @@ on-circuit (compiles p n f) e g = λ lent room.
     let S = programWith defaults p in
     let cells : length (netlist S) ≡ n = ap (λ r. numbers-of r .0) e in
     let end : finish S ≡ f = ap (λ r. numbers-of r .1) e in
-    let size = file-length (netlist S) (finish S) ∙ ap (λ k. 512 * blocksFor k) cells in
+    let size = file-length 1 (netlist S) (finish S) ∙ ap (λ k. 512 * blocksFor k) cells in
     let told = compile-is defaults p y (ap checked-of e) lent room ∙ ap₂ Done size end in
-    (told, ap length (demand2 .compiled (beside builtIn 0) p lent (512 * blocksFor n) f y told .cells) ∙ cells)
+    (told, ap length (demand2 .compiled (beside builtIn 0 1) p lent (512 * blocksFor n) f y told .cells) ∙ cells)
 on-circuit (prints p v n text) e g =
     let b = and-true (bytesOnly p) (ltb n 65536) g in
     hubrun-is p v n

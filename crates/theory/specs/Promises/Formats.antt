@@ -2,12 +2,12 @@
 -- So no compiled program meets 26.
 -- Assumes nothing.
 use mathlib.Core.Path.{_≡_, refl, sym, _∙_, ap, ap₂, subst}
-use mathlib.Core.Bool.{Bool, true, false}
+use mathlib.Core.Bool.{Bool, true, false, _&&_}
 use mathlib.Core.List.{List, [], _∷_, map}
 use Prim.Native.Nat.{ℕ, suc, _+_, _-_, _*_, _/_, _%_, _<_, _≤_, suc-le-suc}
 use native.Mathlib.Nat.{add-zero}
 use native.Mathlib.Omega.{arith}
-use lib.Dec.{eqb}
+use lib.Dec.{ltb, eqb}
 use lib.ListN.{length, take, replicate}
 use Rattle.model.specs.declared.Cell.{Cell}
 use Rattle.model.specs.declared.Format.{Format}
@@ -20,9 +20,9 @@ use Rattle.model.specs.Refusals.{numberOf}
 use Rattle.model.specs.Program.{Program}
 use Rattle.model.specs.Procedures.{meaning}
 use Rattle.model.specs.ProgramChecks.{programWith}
-use Rattle.model.specs.Rules.{Store, Run, done, atEnd, atExit, still, run}
-use Rattle.model.specs.Circuit.{Sig, Values, high, memoryWords, Obeys}
-use Rattle.model.specs.NetlistFile.{cellsOf, finishOf}
+use Rattle.model.specs.Rules.{imperative, Store, Run, done, atEnd, atExit, still, run}
+use Rattle.model.specs.Circuit.{Netlist, Sig, Values, high, memoryWords, Obeys}
+use Rattle.model.specs.NetlistFile.{cellsOf, netOf, finishOf}
 use Rattle.model.specs.TimeTables.{load}
 use Rattle.model.specs.State.{instantOf, stateSize, nowAt, wordsIn}
 use Rattle.model.specs.Calls.{Returned, verdict, compileCall, wordAt, refusedAnswer, shows, beginCall}
@@ -34,30 +34,30 @@ use Rattle.laws.specs.Circuit.Ordered.{Ordered}
 use Rattle.theory.specs.Circuit.Exists.{solution, solution-obeys}
 use Rattle.theory.specs.State.Holding.{Holding}
 use Rattle.theory.specs.State.Flight.{number-is}
-use Rattle.theory.specs.Promises.Stands.{next-short, next-long, continues-late, continues-now, start-late, start-now, Given, given-first}
+use Rattle.theory.specs.Promises.Stands.{anew, next-short, next-long, continues-late, continues-now, start-late, start-now, Given, given-first}
 use Rattle.theory.specs.Promises.Replay.{at0}
 use Rattle.theory.specs.Promises.Kept.{program-accepted, file-made, Begun, begins, room, along, told}
 
 -- Where lists of requests stand ----------------------------------------------------------------------------------------------------------
 
 -- with buffers that are lent whole, the size of a state makes no difference
-module _ (rules : Runs) (size₁ n₁ size₂ n₂ : ℕ) (whole₁ : size₁ ≤ n₁) (whole₂ : size₂ ≤ n₂) where
-  next-same : (st : Stand) (q : Request) → next rules size₁ st (record { request = q; lent = n₁ }) ≡ next rules size₂ st (record { request = q; lent = n₂ })
-  next-same st q = next-long rules size₁ st (record { request = q; lent = n₁ }) whole₁ ∙ sym (next-long rules size₂ st (record { request = q; lent = n₂ }) whole₂)
+module _ (w : ℕ) (rules : Runs) (size₁ n₁ size₂ n₂ : ℕ) (whole₁ : size₁ ≤ n₁) (whole₂ : size₂ ≤ n₂) where
+  next-same : (st : Stand) (q : Request) → next w rules size₁ st (record { request = q; lent = n₁ }) ≡ next w rules size₂ st (record { request = q; lent = n₂ })
+  next-same st q = next-long w rules size₁ st (record { request = q; lent = n₁ }) whole₁ ∙ sym (next-long w rules size₂ st (record { request = q; lent = n₂ }) whole₂)
 
-  stands-same : (qs : List Request) (st : Stand) → stands rules size₁ st (each n₁ qs) ≡ stands rules size₂ st (each n₂ qs)
+  stands-same : (qs : List Request) (st : Stand) → stands w rules size₁ st (each n₁ qs) ≡ stands w rules size₂ st (each n₂ qs)
   unfolding stands
   stands-same [] st = refl
   stands-same (q ∷ qs) st =
-      ap (λ (x : Next). x .after ∷ stands rules size₁ (x .after) (each n₁ qs)) (next-same st q)
-      ∙ ap (λ (sts : List Stand). next rules size₂ st (record { request = q; lent = n₂ }) .after ∷ sts) (stands-same qs _)
+      ap (λ (x : Next). x .after ∷ stands w rules size₁ (x .after) (each n₁ qs)) (next-same st q)
+      ∙ ap (λ (sts : List Stand). next w rules size₂ st (record { request = q; lent = n₂ }) .after ∷ sts) (stands-same qs _)
 
-  expected-same : (qs : List Request) (st : Stand) → expected rules size₁ st (each n₁ qs) ≡ expected rules size₂ st (each n₂ qs)
+  expected-same : (qs : List Request) (st : Stand) → expected w rules size₁ st (each n₁ qs) ≡ expected w rules size₂ st (each n₂ qs)
   unfolding expected
   expected-same [] st = refl
   expected-same (q ∷ qs) st =
-      ap (λ (x : Next). x .tells ∷ expected rules size₁ (x .after) (each n₁ qs)) (next-same st q)
-      ∙ ap (λ (l : List Seen). next rules size₂ st (record { request = q; lent = n₂ }) .tells ∷ l) (expected-same qs _)
+      ap (λ (x : Next). x .tells ∷ expected w rules size₁ (x .after) (each n₁ qs)) (next-same st q)
+      ∙ ap (λ (l : List Seen). next w rules size₂ st (record { request = q; lent = n₂ }) .tells ∷ l) (expected-same qs _)
 
 -- What a list tells is never 26 ----------------------------------------------------------------------------------------------------------
 
@@ -73,39 +73,41 @@ unmet-refused : (k : ℕ) (st : Stand) → (k ≡ 26 → ⊥) → Unmet (refuses
 unfolding verdict
 unmet-refused k st h e = h e
 
-module _ (rules : Runs) (size : ℕ) where
-  unmet-pulsed : (st : Stand) (r : Run) → Unmet (pulsed rules st r .tells)
+module _ (w : ℕ) (rules : Runs) (size : ℕ) where
+  unmet-pulsed : (st : Stand) (r : Run) → Unmet (pulsed w rules st r .tells)
   unfolding pulsed
-  unmet-pulsed st (done atEnd t σ) =
-      let s = suc (st .now) in
-      unmet-ended (dueAt rules (stand s σ s) s) s 1
+  unmet-pulsed st (done atEnd t σ) = go (ltb 1 w && dueAt w rules st (st .now))
+    where
+      go : (b : Bool) → Unmet (elim b as (λ z. Next) [ true ↦ refuses 23 st | false ↦ anew w rules st σ ] .tells)
+      go true = unmet-refused 23 st (λ e. omega arith)
+      go false = let s = suc (st .now) in unmet-ended (dueAt w rules (stand s σ s) s) s 1
   unmet-pulsed st (done atExit t σ) = unmet-refused 23 st (λ e. omega arith)
   unmet-pulsed st still = unmet-refused 23 st (λ e. omega arith)
 
-  unmet-request : (st : Stand) (q : Request) → Unmet (afterRequest rules st q .tells)
+  unmet-request : (st : Stand) (q : Request) → Unmet (afterRequest w rules st q .tells)
   unfolding afterRequest
   unmet-request st (continuing n) =
-      let t = stopsAt (dueAt rules st) (st .now) n in
+      let t = stopsAt (dueAt w rules st) (st .now) n in
       by-le (st .now + n) 1000000
-      (λ h. subst (λ (x : Next). Unmet (x .tells)) (sym (continues-now rules size st n h)) (unmet-ended (dueAt rules st t) t (t - st .now)))
-      (λ h. subst (λ (x : Next). Unmet (x .tells)) (sym (continues-late rules size st n h)) (unmet-refused 16 st (λ e. omega arith)))
+      (λ h. subst (λ (x : Next). Unmet (x .tells)) (sym (continues-now w rules size st n h)) (unmet-ended (dueAt w rules st t) t (t - st .now)))
+      (λ h. subst (λ (x : Next). Unmet (x .tells)) (sym (continues-late w rules size st n h)) (unmet-refused 16 st (λ e. omega arith)))
   unmet-request st start =
-      by-le (st .now + 1) 1000000 (λ h. subst (λ (x : Next). Unmet (x .tells)) (sym (start-now rules size st h)) (unmet-pulsed st _))
-      (λ h. subst (λ (x : Next). Unmet (x .tells)) (sym (start-late rules size st h)) (unmet-refused 16 st (λ e. omega arith)))
+      by-le (st .now + 1) 1000000 (λ h. subst (λ (x : Next). Unmet (x .tells)) (sym (start-now w rules size st h)) (unmet-pulsed st _))
+      (λ h. subst (λ (x : Next). Unmet (x .tells)) (sym (start-late w rules size st h)) (unmet-refused 16 st (λ e. omega arith)))
 
-  unmet-next : (st : Stand) (c : Call) → Unmet (next rules size st c .tells)
+  unmet-next : (st : Stand) (c : Call) → Unmet (next w rules size st c .tells)
   unmet-next st c =
-      by-le size (c .lent) (λ h. subst (λ (x : Next). Unmet (x .tells)) (sym (next-long rules size st c h)) (unmet-request st (c .request)))
-      (λ h. subst (λ (x : Next). Unmet (x .tells)) (sym (next-short rules size st c h)) (unmet-refused 14 st (λ e. omega arith)))
+      by-le size (c .lent) (λ h. subst (λ (x : Next). Unmet (x .tells)) (sym (next-long w rules size st c h)) (unmet-request st (c .request)))
+      (λ h. subst (λ (x : Next). Unmet (x .tells)) (sym (next-short w rules size st c h)) (unmet-refused 14 st (λ e. omega arith)))
 
 abbrev AllUnmet : List Seen → Type 0
 AllUnmet [] = Unit {0}
 AllUnmet (x ∷ xs) = Unmet x × AllUnmet xs
 
-all-unmet : (rules : Runs) (size : ℕ) (cs : List Call) (st : Stand) → AllUnmet (expected rules size st cs)
+all-unmet : (w : ℕ) (rules : Runs) (size : ℕ) (cs : List Call) (st : Stand) → AllUnmet (expected w rules size st cs)
 unfolding expected
-all-unmet rules size [] st = tt
-all-unmet rules size (c ∷ cs) st = (unmet-next rules size st c, all-unmet rules size cs _)
+all-unmet w rules size [] st = tt
+all-unmet w rules size (c ∷ cs) st = (unmet-next w rules size st c, all-unmet w rules size cs _)
 
 -- What calls show, from the values -------------------------------------------------------------------------------------------------------
 
@@ -128,9 +130,9 @@ wordsShown (Outcome.Refused r) words = replicate 16 0
 abbrev answerOf : Seen → List ℕ → Answer
 answerOf x words = record { outcome = x .outcome; instant = x .instant; count = x .count; words = wordsShown (x .outcome) words }
 
-module _ (net : List Cell) (σ : Store) (W : Values) where
+module _ (net : Netlist) (σ : Store) (W : Values) where
   abbrev wordsAt : ℕ → List ℕ
-  wordsAt t = memoryWords net 0 (λ k. W k t)
+  wordsAt t = memoryWords (net .cells) 0 (λ k. W k t)
 
   -- what a call on a state of this format tells and leaves
   record Shown (F : Format) (st : Stand) (r : Returned Answer) : Type 0 where
@@ -148,13 +150,13 @@ module _ (net : List Cell) (σ : Store) (W : Values) where
   shown-ended true words = refl
   shown-ended false words = refl
 
-  shown-answer : (F : Format) (file : List ℕ) → cellsOf file ≡ net → (st : Stand) (s b : List ℕ) (n : ℕ) → st .now ≤ 1000000 → Holding F net σ W (st .now) s
+  shown-answer : (F : Format) (file : List ℕ) → netOf file ≡ net → (st : Stand) (s b : List ℕ) (n : ℕ) → st .now ≤ 1000000 → Holding F net σ W (st .now) s
       → Holding F net σ W (st .now) b → Shown F st (record { answer = shows F file s n; lent = b })
   unfolding shows
   shown-answer F file e st s b n l H K =
       let words : wordsIn F (cellsOf file) 0 s ≡ wordsAt (st .now) =
-      ap (λ (cs : List Cell). wordsIn F cs 0 s) e
-      ∙ memory-same net 0 (nowAt F s) (λ k. W k (st .now))
+      ap (λ (n : Netlist). wordsIn F (n .cells) 0 s) e
+      ∙ memory-same (net .cells) 0 (nowAt F s) (λ k. W k (st .now))
       (λ i h.
       let z : 0 + i ≡ i = omega arith in
       rw z (H .body .present i h)) in
@@ -167,7 +169,7 @@ module _ (net : List Cell) (σ : Store) (W : Values) where
       }
 
   -- states of both formats that hold the values of one instant
-  alike : Ordered net → (t : ℕ) (s c : List ℕ) → t ≤ 1000000 → Holding Full net σ W t s → Holding Compact net σ W t c → Alike net s c
+  alike : Ordered (net .cells) → (t : ℕ) (s c : List ℕ) → t ≤ 1000000 → Holding Full net σ W t s → Holding Compact net σ W t c → Alike net s c
   alike ordered t s c l H K =
       record {
         instant = H .instant l ∙ sym (K .instant l);
@@ -187,7 +189,7 @@ module _ (net : List Cell) (σ : Store) (W : Values) where
   restSeen [] = []
   restSeen (x ∷ xs) = xs
 
-  all-same : Ordered net → (sts : List Stand) (rs qs : List (Returned Answer)) → Along (Shown Full) sts rs → Along (Shown Compact) sts qs
+  all-same : Ordered (net .cells) → (sts : List Stand) (rs qs : List (Returned Answer)) → Along (Shown Full) sts rs → Along (Shown Compact) sts qs
       → map seenOf rs ≡ map seenOf qs → AllUnmet (map seenOf qs) → AllSame net rs qs
   unfolding firstSeen restSeen
   all-same ordered [] [] [] A B e u = tt
@@ -209,26 +211,29 @@ module _ (net : List Cell) (σ : Store) (W : Values) where
 
 module _ (S : Program) (file words forFull forCompact : List ℕ) (B : Begun Full S file words forFull) (C : Begun Compact S file words forCompact)
     (requests : List Request) where
-  abbrev net : List Cell
-  net = cellsOf file
+  abbrev w : ℕ
+  w = S .pulse
+
+  abbrev net : Netlist
+  net = netOf file
 
   abbrev σ : Store
   σ = wordAt words
 
   abbrev rules : Runs
-  rules τ k = run k (meaning S) τ
+  rules τ k = run (imperative (S .pulse)) k (meaning S) τ
 
   -- the calls on a buffer in this format
   abbrev calls : Format → List ℕ → List (Returned Answer)
   calls F lent = beginCall F file words lent ∷ replay F file (beginCall F file words lent .lent) (each (length lent) requests)
 
   abbrev sts : Format → ℕ → List Stand
-  sts F n = stand 0 σ 0 ∷ stands rules (stateSize F net) (stand 0 σ 0) (each n requests)
+  sts F n = stand 0 σ 0 ∷ stands w rules (stateSize F net) (stand 0 σ 0) (each n requests)
 
   same-sts : sts Compact (length forCompact) ≡ sts Full (length forFull)
   same-sts =
       ap (λ (l : List Stand). stand 0 σ 0 ∷ l)
-      (stands-same rules (stateSize Compact net) (length forCompact) (stateSize Full net) (length forFull) (room Compact S file words forCompact C)
+      (stands-same w rules (stateSize Compact net) (length forCompact) (stateSize Full net) (length forFull) (room Compact S file words forCompact C)
       (room Full S file words forFull B) requests (stand 0 σ 0))
 
   abbrev starts : Sig
@@ -245,14 +250,14 @@ module _ (S : Program) (file words forFull forCompact : List ℕ) (B : Begun Ful
   unfolding startsOf
   first-pulse = refl
 
-  given-compact : Given rules (stateSize Compact net) starts (stand 0 σ 0) (each (length forCompact) requests)
+  given-compact : Given w rules (stateSize Compact net) starts (stand 0 σ 0) (each (length forCompact) requests)
   given-compact =
-      subst (λ (l : List Stand). Given rules (stateSize Compact net) (startsOf l) (stand 0 σ 0) (each (length forCompact) requests)) same-sts
-      (given-first rules (stateSize Compact net) σ (each (length forCompact) requests))
+      subst (λ (l : List Stand). Given w rules (stateSize Compact net) (startsOf l) (stand 0 σ 0) (each (length forCompact) requests)) same-sts
+      (given-first w rules (stateSize Compact net) σ (each (length forCompact) requests))
 
   shown-full : Along (Shown net σ W Full) (sts Full (length forFull)) (calls Full forFull)
   shown-full =
-      along Full S file words forFull B starts W obeys (each (length forFull) requests) (given-first rules (stateSize Full net) σ (each (length forFull) requests)) first-pulse
+      along Full S file words forFull B starts W obeys (each (length forFull) requests) (given-first w rules (stateSize Full net) σ (each (length forFull) requests)) first-pulse
       (Shown net σ W Full) (λ st cs N k b l H. shown-refused net σ W Full st k b l H) (λ st cs N s b n l H K. shown-answer net σ W Full file refl st s b n l H K)
 
   shown-compact : Along (Shown net σ W Compact) (sts Full (length forFull)) (calls Compact forCompact)
@@ -262,16 +267,16 @@ module _ (S : Program) (file words forFull forCompact : List ℕ) (B : Begun Ful
       (Shown net σ W Compact) (λ st cs N k b l H. shown-refused net σ W Compact st k b l H) (λ st cs N s b n l H K. shown-answer net σ W Compact file refl st s b n l H K))
 
   abbrev tellsOf : Format → ℕ → List Seen
-  tellsOf F n = seen (endedIf (dueAt rules (stand 0 σ 0) 0)) 0 1 ∷ expected rules (stateSize F net) (stand 0 σ 0) (each n requests)
+  tellsOf F n = seen (endedIf (dueAt w rules (stand 0 σ 0) 0)) 0 1 ∷ expected w rules (stateSize F net) (stand 0 σ 0) (each n requests)
 
   same-tells : tellsOf Full (length forFull) ≡ tellsOf Compact (length forCompact)
   same-tells =
-      ap (λ (l : List Seen). seen (endedIf (dueAt rules (stand 0 σ 0) 0)) 0 1 ∷ l)
-      (expected-same rules (stateSize Full net) (length forFull) (stateSize Compact net) (length forCompact) (room Full S file words forFull B)
+      ap (λ (l : List Seen). seen (endedIf (dueAt w rules (stand 0 σ 0) 0)) 0 1 ∷ l)
+      (expected-same w rules (stateSize Full net) (length forFull) (stateSize Compact net) (length forCompact) (room Full S file words forFull B)
       (room Compact S file words forCompact C) requests (stand 0 σ 0))
 
   unmet : AllUnmet (tellsOf Compact (length forCompact))
-  unmet = (unmet-ended (dueAt rules (stand 0 σ 0) 0) 0 1, all-unmet rules (stateSize Compact net) (each (length forCompact) requests) (stand 0 σ 0))
+  unmet = (unmet-ended (dueAt w rules (stand 0 σ 0) 0) 0 1, all-unmet w rules (stateSize Compact net) (each (length forCompact) requests) (stand 0 σ 0))
 
   both-same : AllSame net (calls Full forFull) (calls Compact forCompact)
   both-same =

@@ -1,6 +1,6 @@
 -- Full runs, on a full state: a full run answers as its calls do one after another, and a full run and a reference run agree.
 -- Assumes nothing.
-use mathlib.Core.Path.{_≡_, refl, sym, _∙_, ap}
+use mathlib.Core.Path.{_≡_, refl, sym, _∙_, ap, subst, ap₂}
 use mathlib.Core.Bool.{Bool, true, false}
 use mathlib.Core.List.{List, []}
 use Prim.Native.Nat.{ℕ, zero, suc, _+_, _-_, _<_, _≤_}
@@ -8,10 +8,11 @@ use native.Mathlib.Omega.{arith}
 use native.Mathlib.Decide.{ℕ-discrete, decLt}
 use lib.Dec.{eqb, ltb}
 use lib.ListN.{length}
-use borrow.Author.Tests.{le-ltb, eq-eqb, ne-eqb}
+use borrow.Author.Tests.{le-ltb, eq-eqb, ne-eqb, lt-ltb}
 use Rattle.model.specs.declared.Cell.{Cell}
 use Rattle.model.specs.declared.Format.the-variants.{Full}
 use Rattle.model.specs.declared.Options.{Options}
+use Rattle.model.specs.declared.Checked.{Checked}
 use Rattle.model.specs.declared.Checked.the-variants.{Accepted}
 use Rattle.model.specs.declared.Outcome.the-variants.{Open}
 use Rattle.model.specs.declared.Answer.{Answer}
@@ -19,11 +20,11 @@ use Rattle.model.specs.Refusals.{first}
 use Rattle.model.specs.Program.{Stmt, Program}
 use Rattle.model.specs.Procedures.{meaning}
 use Rattle.model.specs.ProgramChecks.{programWith}
-use Rattle.model.specs.Rules.{Store, ended, still, run, endsAt, due, atEnd}
-use Rattle.model.specs.Circuit.{Sig, Values, high, level, Obeys}
-use Rattle.model.specs.NetlistFile.{cellsOf, finishOf}
+use Rattle.model.specs.Rules.{imperative, Store, ended, still, run, showsAt, due, atEnd}
+use Rattle.model.specs.Circuit.{Netlist, Sig, Values, high, level, Obeys}
+use Rattle.model.specs.NetlistFile.{cellsOf, netOf, finishOf}
 use Rattle.model.specs.State.{instantOf, Course, stateSize, nowAt, beginState, continued, wordsIn}
-use Rattle.model.specs.Calls.{Returned, verdict, checkCall, compiledFile, wordAt, shows, running, beginCall, continueChecks, continueCall, fullState, fullCount, runNetlistCall, runProgramChecks, runProgramCall, listed, referenceAnswer}
+use Rattle.model.specs.Calls.{Returned, verdict, checkCall, compiledFile, wordAt, shows, running, tooLong, beginCall, continueChecks, continueCall, fullState, fullCount, runNetlistCall, runProgramChecks, runProgramCall, listed, referenceAnswer}
 use Rattle.model.specs.CircuitPromises.{stopsAt, NoStart}
 use Rattle.model.specs.RunPromises.{seen, stand, Runs, dueAt, stands, startsOf, lastOf, FullRuns}
 use Rattle.laws.specs.Refusals.Laws.{by-bool, first-drop}
@@ -42,14 +43,14 @@ use Rattle.theory.specs.Promises.Kept.{Begun, begins, stood, holding, lo
 
 -- Where a run stops --------------------------------------------------------------------------------------------------------------------
 
--- where a finish is due at t alone, a run from before t stops there
-stops-end : (F : ℕ → Bool) (t : ℕ) → ((u : ℕ) → F u ≡ eqb t u) → (n a : ℕ) → a < t → t ≤ a + n → stopsAt F a n ≡ t
-stops-end F t h zero a l m = absurd (omega arith)
-stops-end F t h (suc n) a l m = go (ℕ-discrete t (suc a)) (stops-end F t h n (suc a))
+-- where t is the first instant at which a finish is due, a run from before t stops there
+stops-end : (F : ℕ → Bool) (t : ℕ) → ((u : ℕ) → u < t → F u ≡ false) → F t ≡ true → (n a : ℕ) → a < t → t ≤ a + n → stopsAt F a n ≡ t
+stops-end F t low high zero a l m = absurd (omega arith)
+stops-end F t low high (suc n) a l m = go (ℕ-discrete t (suc a)) (stops-end F t low high n (suc a))
   where
     go : Dec (t ≡ suc a) → (suc a < t → t ≤ suc a + n → stopsAt F (suc a) n ≡ t) → stopsAt F a (suc n) ≡ t
-    go (yes e) on = stops-high F a n (h (suc a) ∙ eq-eqb t (suc a) e) ∙ sym e
-    go (no x) on = stops-low F a n (h (suc a) ∙ ne-eqb t (suc a) x) ∙ on (omega arith) (omega arith)
+    go (yes e) on = stops-high F a n (subst (λ (u : ℕ). F u ≡ true) e high) ∙ sym e
+    go (no x) on = stops-low F a n (low (suc a) (omega arith)) ∙ on (omega arith) (omega arith)
 
 -- where none is due, it goes on to the last instant
 stops-never : (F : ℕ → Bool) (n a : ℕ) → ((u : ℕ) → a < u → u ≤ a + n → F u ≡ false) → stopsAt F a n ≡ a + n
@@ -80,14 +81,17 @@ module _ (options : Options) (program file words lent : List ℕ) (accepted : ch
   abbrev σ : Store
   σ = wordAt words
 
-  abbrev net : List Cell
-  net = cellsOf file
+  abbrev w : ℕ
+  w = S .pulse
+
+  abbrev net : Netlist
+  net = netOf file
 
   abbrev fin : ℕ
   fin = finishOf file
 
   abbrev rules : Runs
-  rules τ k = run k P τ
+  rules τ k = run (imperative (S .pulse)) k P τ
 
   abbrev state : List ℕ
   state = beginState Full net σ lent
@@ -105,7 +109,7 @@ module _ (options : Options) (program file words lent : List ℕ) (accepted : ch
   obeys₁ : Obeys net starts₁ σ W₁
   obeys₁ = obeys Full S file words lent B []
 
-  given₁ : Given rules (stateSize Full net) starts₁ (stand 0 σ 0) []
+  given₁ : Given w rules (stateSize Full net) starts₁ (stand 0 σ 0) []
   given₁ = given Full S file words lent B []
 
   pulse₁ : starts₁ 0 ≡ true
@@ -124,9 +128,9 @@ module _ (options : Options) (program file words lent : List ℕ) (accepted : ch
   unfolding startsOf stands
   alone t u l k = rw (ne-eqb 0 u (λ e. omega arith)) refl
 
-  finishes : (u : ℕ) → level W₁ fin u ≡ due P σ u
+  finishes : (u : ℕ) → level W₁ fin u ≡ due (imperative (S .pulse)) w P σ u
   unfolding dueAt due
-  finishes u = due-by Full S file X starts₁ σ W₁ obeys₁ (stand 0 σ 0) [] first-stood u (omega arith) (alone u) ∙ ap (due P σ) (omega arith)
+  finishes u = due-by Full S file X starts₁ σ W₁ obeys₁ (stand 0 σ 0) [] first-stood u (omega arith) (alone u) ∙ ap (due (imperative (S .pulse)) w P σ) (omega arith)
 
   -- a full run
   pub whole-run : ℕ → Answer
@@ -137,7 +141,7 @@ module _ (options : Options) (program file words lent : List ℕ) (accepted : ch
   continue-is n l =
       ap (λ (r : Returned Answer). r .answer)
       (accepted-going Full (first (continueChecks Full file n state)) file (on n) state
-      (checked Full file (X .accepted) n state [] false true false (le-ltb (length state) (stateSize Full net) first-long)
+      (checked Full file (X .accepted) (unfold tooLong in refl) n state [] false true false (le-ltb (length state) (stateSize Full net) first-long)
       (sound-held Full net (X .ordered) starts₁ σ W₁ obeys₁ 0 state first-holds)
       (le-ltb 1000000 (instantOf state + n) (rw (first-holds .instant (omega arith)) (omega arith))))
       (full-free net fin n state))
@@ -152,14 +156,11 @@ module _ (options : Options) (program file words lent : List ℕ) (accepted : ch
       → runProgramCall options program words n forFile lent .answer ≡ whole-run n
   unfolding runProgramCall running whole-run checkCall
   program-run forFile fits n l =
-      rw (
-        first-drop 2 (runProgramChecks options program words n forFile lent) accepted,
-        ← e,
-        le-ltb 1000000 n l,
-        B .words-fit,
-        fits,
-        rw e at (B .state-fits),
-      )
+      let room : ltb (length lent) (stateSize Full (netOf (compiledFile options program))) ≡ false =
+      subst (λ (s : List ℕ). ltb (length lent) (stateSize Full (netOf s)) ≡ false) e (B .state-fits) in
+      let checks : first (runProgramChecks options program words n forFile lent) ≡ Accepted =
+      first-drop 2 (runProgramChecks options program words n forFile lent) accepted ∙ rw (le-ltb 1000000 n l, B .words-fit, fits, room) refl in
+      ap₂ (λ (c : Checked) (s : List ℕ). running Full c s (fullState s words n lent) (fullCount s words n lent) lent .answer) checks (sym e)
 
   netlist-run : (n : ℕ) → n ≤ 1000000 → runNetlistCall file words n lent .answer ≡ whole-run n
   unfolding runNetlistCall running whole-run
@@ -174,53 +175,51 @@ module _ (options : Options) (program file words lent : List ℕ) (accepted : ch
   -- A full run and a reference run agree -----------------------------------------------------------------------------------------------
 
   -- where the rules end within the budget, they give the same answer
-  module _ (n t : ℕ) (l : n ≤ 1000000) (σ′ : Store) (p : run n P σ ≡ ended t σ′) where
-    steadily : (t ≤ n) × ((k : ℕ) → t ≤ k → run k P σ ≡ ended t σ′)
-    steadily = steady P timed σ n atEnd t σ′ p
+  module _ (n t : ℕ) (l : n ≤ 1000000) (σ′ : Store) (p : run (imperative (S .pulse)) n P σ ≡ ended t σ′) where
+    steadily : (t ≤ n) × ((k : ℕ) → t ≤ k → run (imperative (S .pulse)) k P σ ≡ ended t σ′)
+    steadily = steady (imperative (S .pulse)) P timed σ n atEnd t σ′ p
 
-    due-only : (u : ℕ) → due P σ u ≡ eqb t u
-    unfolding due endsAt
-    due-only u = go (decLt u t)
-      where
-        go : Dec (u < t) → endsAt u (run u P σ) ≡ eqb t u
-        go (yes x) = ap (endsAt u) (still-before (λ k. run k P σ) (steady P timed σ) n atEnd t u σ′ p x) ∙ sym (ne-eqb t u (λ e. omega arith))
-        go (no x) = ap (endsAt u) (steadily .1 u (omega arith))
+    -- the finish rises at the end
+    low-before : (u : ℕ) → u < t → level W₁ fin u ≡ false
+    unfolding due showsAt
+    low-before u x = finishes u ∙ ap (showsAt w u) (still-before (λ k. run (imperative (S .pulse)) k P σ) (steady (imperative (S .pulse)) P timed σ) n atEnd t u σ′ p x)
 
-    wire-at : (u : ℕ) → level W₁ fin u ≡ eqb t u
-    wire-at u = finishes u ∙ due-only u
+    high-at : level W₁ fin t ≡ true
+    unfolding due showsAt
+    high-at = finishes t ∙ ap (showsAt w t) (steadily .1 t (omega arith)) ∙ lt-ltb t (t + w) (omega (arith, X .admitted .pulse .0))
 
     -- the words of a state at the end
-    last : (s : List ℕ) → Holding Full net σ W₁ t s → wordsIn Full net 0 s ≡ listed σ′ 0 16
+    last : (s : List ℕ) → Holding Full net σ W₁ t s → wordsIn Full (cellsOf file) 0 s ≡ listed σ′ 0 16
     last s H =
         shows-words Full S file X starts₁ σ W₁ obeys₁ t σ′
-        (lasting Full S file X starts₁ σ W₁ obeys₁ (stand 0 σ 0) [] first-stood t σ′ (run-ends P n σ t σ′ p) t (omega arith) (alone t)) s H
+        (lasting Full S file X starts₁ σ W₁ obeys₁ (stand 0 σ 0) [] first-stood t σ′ (run-ends (imperative (S .pulse)) P n σ t σ′ p) t (omega arith) (alone t)) s H
         .0
 
     -- its answer
     told-end : (s : List ℕ) (m : ℕ) → Holding Full net σ W₁ t s → m ≡ t + 1 → shows Full file s m ≡ referenceAnswer n (ended t σ′)
     unfolding shows referenceAnswer
     told-end s m H e =
-        rw (e, last s H, H .instant (omega (arith, steadily .0)), H .body .present fin (X .wire), wire-at t, eq-eqb t t refl)
+        rw (e, last s H, H .instant (omega (arith, steadily .0)), H .body .present fin (X .wire), high-at)
 
     pub agrees : whole-run n ≡ referenceAnswer n (ended t σ′)
     unfolding whole-run fullState fullCount
     agrees = go (ℕ-discrete t 0)
       where
-        begins : high (nowAt Full state fin) ≡ eqb t 0
-        begins = ap high (first-holds .body .present fin (X .wire)) ∙ wire-at 0
+        begins : (b : Bool) → level W₁ fin 0 ≡ b → high (nowAt Full state fin) ≡ b
+        begins b e = ap high (first-holds .body .present fin (X .wire)) ∙ e
 
         go : Dec (t ≡ 0) → whole-run n ≡ referenceAnswer n (ended t σ′)
-        go (yes e) = rw (begins, eq-eqb t 0 e) (told-end state 1 (rw e first-holds) (omega arith))
+        go (yes e) = rw (begins true (subst (λ (u : ℕ). level W₁ fin u ≡ true) e high-at)) (told-end state 1 (rw e first-holds) (omega arith))
         go (no x) =
             let C = continues Full net (X .ordered) starts₁ σ W₁ obeys₁ fin (X .wire) n 0 state first-holds first-long (alone _) tt in
-            let z : stopsAt (level W₁ fin) 0 n ≡ t = stops-end (level W₁ fin) t wire-at n 0 (omega arith) (omega (arith, steadily .0)) in
-            rw (begins, ne-eqb t 0 x) (told-end (on n .state) _ (rw z at (C .holding)) (omega (arith, C .count, z)))
+            let z : stopsAt (level W₁ fin) 0 n ≡ t = stops-end (level W₁ fin) t low-before high-at n 0 (omega arith) (omega (arith, steadily .0)) in
+            rw (begins false (low-before 0 (omega arith))) (told-end (on n .state) _ (rw z at (C .holding)) (omega (arith, C .count, z)))
 
   -- where they do not, the full run is open at the budget's end
-  module _ (n : ℕ) (l : n ≤ 1000000) (p : run n P σ ≡ still) where
+  module _ (n : ℕ) (l : n ≤ 1000000) (p : run (imperative (S .pulse)) n P σ ≡ still) where
     low : (u : ℕ) → u ≤ n → level W₁ fin u ≡ false
-    unfolding due endsAt
-    low u g = finishes u ∙ ap (endsAt u) (still-below (λ k. run k P σ) (steady P timed σ) n u p g)
+    unfolding due showsAt
+    low u g = finishes u ∙ ap (showsAt w u) (still-below (λ k. run (imperative (S .pulse)) k P σ) (steady (imperative (S .pulse)) P timed σ) n u p g)
 
     pub stays-open : seen (whole-run n .outcome) (whole-run n .instant) (whole-run n .count) ≡ seen Open n (n + 1)
     unfolding whole-run fullState fullCount shows

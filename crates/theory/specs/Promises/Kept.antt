@@ -19,21 +19,22 @@ use Rattle.model.specs.declared.Written.{Written}
 use Rattle.model.specs.declared.Written.the-variants.{Done}
 use Rattle.model.specs.declared.Answer.{Answer}
 use Rattle.model.specs.Refusals.{first}
-use Rattle.model.specs.Program.{Stmt, Program}
+use Rattle.model.specs.Program.{Stmt, Program, programOf}
 use Rattle.model.specs.Procedures.{meaning}
 use Rattle.model.specs.ProgramChecks.{programWith}
-use Rattle.model.specs.Rules.{Store, run}
-use Rattle.model.specs.Circuit.{Sig, Values, Obeys, memories}
+use Rattle.model.specs.Rules.{imperative, Store, run}
+use Rattle.model.specs.Circuit.{Netlist, Sig, Values, Obeys, memories}
 use Rattle.model.specs.Numbering.{netlist, finish}
-use Rattle.model.specs.NetlistFile.{fileCheck, cellsOf, finishOf}
+use Rattle.model.specs.NetlistFile.{fileCheck, cellsOf, netOf, finishOf, pulseOf}
 use Rattle.model.specs.State.{stateSize, beginState}
-use Rattle.model.specs.Calls.{Returned, verdict, checkCall, compiledFile, compileChecks, compileCall, wordAt, refusedAnswer, shows, running, beginChecks, beginCall}
+use Rattle.model.specs.Calls.{Returned, verdict, checkCall, compiledFile, compileChecks, compileCall, wordAt, refusedAnswer, shows, running, tooLong, beginChecks, beginCall}
 use Rattle.model.specs.RunPromises.{Call, replay, Seen, seen, seenOf, endedIf, Stand, stand, Runs, dueAt, expected, stands, startsOf, Along, Behaves, Tells, Unchanged, Keeps}
 use Rattle.laws.specs.Refusals.Laws.{all-accept, refuse-unless, accept-take}
+use Rattle.laws.specs.Program.Passed.{accepted-pulse}
 use Rattle.laws.specs.Program.Admitted.{program-admitted, meaning-timed}
 use Rattle.laws.specs.Numbering.Parts.{net-length}
 use Rattle.laws.specs.NetlistFile.Passed.{net-ordered, net-passed, file-passed, finish-within}
-use Rattle.laws.specs.NetlistFile.Files.{cells-written, finish-written}
+use Rattle.laws.specs.NetlistFile.Files.{cells-written, pulse-written, finish-written}
 use Rattle.laws.specs.NetlistFile.ReadWrite.{Wrote, wrote}
 use Rattle.theory.specs.Rules.Relation.{ends-once}
 use Rattle.theory.specs.Circuit.Exists.{solution, solution-obeys}
@@ -42,7 +43,7 @@ use Rattle.theory.specs.State.Begin.{begin-holds, begin-length}
 use Rattle.theory.specs.Promises.Due.{run-first}
 use Rattle.theory.specs.Promises.Stands.{Given, given-first}
 use Rattle.theory.specs.Promises.Replay.{at0, OfProgram, published, Good, good, answer-seen}
-use Rattle.theory.specs.Promises.Behaves.{decides, Stood, behaves, tells-refused, tells-answer}
+use Rattle.theory.specs.Promises.Behaves.{decides, due-exactly, Stood, behaves, tells-refused, tells-answer}
 
 -- Calls that are not refused -----------------------------------------------------------------------------------------------------------
 
@@ -77,10 +78,11 @@ module _ (options : Options) (program forFile : List ℕ) (n f : ℕ) (done : co
 -- a beginning that was not refused, with the file of program S
 pub record Begun (F : Format) (S : Program) (file words lent : List ℕ) : Type 0 where
   pub ofProgram : OfProgram S file
+  pub fits : tooLong F (S .pulse) ≡ false
   pub words-fit : ltb (length words) 544 ≡ false
-  pub state-fits : ltb (length lent) (stateSize F (cellsOf file)) ≡ false
+  pub state-fits : ltb (length lent) (stateSize F (netOf file)) ≡ false
   pub is :
-      let s = beginState F (cellsOf file) (wordAt words) lent in
+      let s = beginState F (netOf file) (wordAt words) lent in
       beginCall F file words lent ≡ record { answer = shows F file s 1; lent = s }
 
 module _ (F : Format) (options : Options) (program file words lent : List ℕ) (accepted : checkCall options program ≡ Accepted)
@@ -99,7 +101,12 @@ module _ (F : Format) (options : Options) (program file words lent : List ℕ) (
   some = omega (arith, net-length S)
 
   cells-are : cellsOf file ≡ netlist S
-  cells-are = ap cellsOf e ∙ cells-written (netlist S) (finish S) some
+  cells-are = ap cellsOf e ∙ cells-written (options .pulse) (netlist S) (finish S) some
+
+  pulse-is : pulseOf file ≡ S .pulse
+  unfolding programOf
+  pulse-is =
+      ap (λ (s : List ℕ). pulseOf s) e ∙ pulse-written (options .pulse) (netlist S) (finish S) some (accepted-pulse options program accepted .0)
 
   pub begins : Begun F S file words lent
   begins =
@@ -110,14 +117,16 @@ module _ (F : Format) (options : Options) (program file words lent : List ℕ) (
               accepted = read;
               ordered = net-ordered (cellsOf file) (finishOf file) (file-passed file read .cells);
               cells-are = cells-are;
-              finish-is = ap finishOf e ∙ finish-written (netlist S) (finish S) some;
+              pulse-is = pulse-is;
+              finish-is = ap finishOf e ∙ finish-written (options .pulse) (netlist S) (finish S) some;
               wire = finish-within file read;
               sixteen = ap memories (sym cells-are) ∙ net-passed (cellsOf file) (finishOf file) (file-passed file read .cells) .sixteen;
             };
-        words-fit = refuse-unless _ 14 0 (all-accept (beginChecks F file words lent) checks 1);
-        state-fits = refuse-unless _ 14 0 (all-accept (beginChecks F file words lent) checks 2);
+        fits = sym (ap (tooLong F) pulse-is) ∙ refuse-unless (tooLong F (pulseOf file)) 27 0 (all-accept (beginChecks F file words lent) checks 1);
+        words-fit = refuse-unless _ 14 0 (all-accept (beginChecks F file words lent) checks 2);
+        state-fits = refuse-unless _ 14 0 (all-accept (beginChecks F file words lent) checks 3);
         is = unfold beginCall running in
-            ap (λ (c : Checked). running F c file (beginState F (cellsOf file) (wordAt words) lent) 1 lent) checks;
+            ap (λ (c : Checked). running F c file (beginState F (netOf file) (wordAt words) lent) 1 lent) checks;
       }
 
 -- A list of calls ----------------------------------------------------------------------------------------------------------------------
@@ -132,11 +141,14 @@ module _ (F : Format) (S : Program) (file words lent : List ℕ) (B : Begun F S 
   abbrev σ : Store
   σ = wordAt words
 
-  abbrev net : List Cell
-  net = cellsOf file
+  abbrev w : ℕ
+  w = S .pulse
+
+  abbrev net : Netlist
+  net = netOf file
 
   abbrev rules : Runs
-  rules τ k = run k P τ
+  rules τ k = run (imperative (S .pulse)) k P τ
 
   abbrev size : ℕ
   size = stateSize F net
@@ -149,9 +161,9 @@ module _ (F : Format) (S : Program) (file words lent : List ℕ) (B : Begun F S 
 
   -- with any values that obey the equations
   module _ (starts : Sig) (W : Values) (o : Obeys net starts σ W) where
-    module _ (calls : List Call) (given : Given rules size starts (stand 0 σ 0) calls) (pulse : starts 0 ≡ true) where
+    module _ (calls : List Call) (given : Given w rules size starts (stand 0 σ 0) calls) (pulse : starts 0 ≡ true) where
       pub stood : Stood F S file X starts σ W o (stand 0 σ 0) calls
-      stood = record { began = run-first S (X .admitted) starts σ W (published S file X starts σ W o) pulse; given = given }
+      stood = record { fits = B .fits; began = run-first S (X .admitted) starts σ W (published S file X starts σ W o) pulse; given = given }
 
       pub holding : Holding F net σ W 0 state
       holding = begin-holds F net (X .ordered) starts σ W o pulse lent room
@@ -169,12 +181,12 @@ module _ (F : Format) (S : Program) (file words lent : List ℕ) (B : Begun F S 
             good F S file X starts σ W o Q refusing answering calls (stand 0 σ 0) state stood holding long
             (omega arith)
 
-        pub along : Along Q (stand 0 σ 0 ∷ stands rules size (stand 0 σ 0) calls)
+        pub along : Along Q (stand 0 σ 0 ∷ stands w rules size (stand 0 σ 0) calls)
             (beginCall F file words lent ∷ replay F file (beginCall F file words lent .lent) calls)
         along = rw (B .is) (answering (stand 0 σ 0) calls stood state state 1 (omega arith) holding holding, goes .every)
 
         outcomes : map seenOf (beginCall F file words lent ∷ replay F file (beginCall F file words lent .lent) calls)
-            ≡ seen (endedIf (dueAt rules (stand 0 σ 0) 0)) 0 1 ∷ expected rules size (stand 0 σ 0) calls
+            ≡ seen (endedIf (dueAt w rules (stand 0 σ 0) 0)) 0 1 ∷ expected w rules size (stand 0 σ 0) calls
         outcomes =
             rw (B .is)
             (ap₂ (λ (x : Seen) (l : List Seen). x ∷ l)
@@ -188,14 +200,14 @@ module _ (F : Format) (S : Program) (file words lent : List ℕ) (B : Begun F S 
   -- the start instants of a list, and the values then
   module _ (calls : List Call) where
     abbrev pub starts : Sig
-    starts = startsOf (stand 0 σ 0 ∷ stands rules size (stand 0 σ 0) calls)
+    starts = startsOf (stand 0 σ 0 ∷ stands w rules size (stand 0 σ 0) calls)
 
     pub pulse : starts 0 ≡ true
     unfolding startsOf
     pulse = refl
 
-    pub given : Given rules size starts (stand 0 σ 0) calls
-    given = given-first rules size σ calls
+    pub given : Given w rules size starts (stand 0 σ 0) calls
+    given = given-first w rules size σ calls
 
     pub W : Values
     W = solution net starts σ
@@ -204,33 +216,34 @@ module _ (F : Format) (S : Program) (file words lent : List ℕ) (B : Begun F S 
     unfolding W
     obeys = solution-obeys net starts σ (X .ordered)
 
-    tells : Along (Tells F P file) (stand 0 σ 0 ∷ stands rules size (stand 0 σ 0) calls)
+    tells : Along (Tells F w P file) (stand 0 σ 0 ∷ stands w rules size (stand 0 σ 0) calls)
         (beginCall F file words lent ∷ replay F file (beginCall F file words lent .lent) calls)
     tells =
-        along starts W obeys calls given pulse (Tells F P file) (λ st cs N k b l. tells-refused F S file X starts σ W obeys st cs N k b)
+        along starts W obeys calls given pulse (Tells F w P file) (λ st cs N k b l. tells-refused F S file X starts σ W obeys st cs N k b)
         (λ st cs N s b n l. tells-answer F S file X starts σ W obeys st cs N s b n)
 
     circuit : (W : Values) → Obeys net starts σ W
-        → Along (Behaves F P σ file rules starts W) (stand 0 σ 0 ∷ stands rules size (stand 0 σ 0) calls)
+        → Along (Behaves F w P σ file rules starts W) (stand 0 σ 0 ∷ stands w rules size (stand 0 σ 0) calls)
         (beginCall F file words lent ∷ replay F file (beginCall F file words lent .lent) calls)
     circuit W o =
-        along starts W o calls given pulse (Behaves F P σ file rules starts W) (λ st cs N k b l H. behaves F S file X starts σ W o st cs N _ H)
+        along starts W o calls given pulse (Behaves F w P σ file rules starts W) (λ st cs N k b l H. behaves F S file X starts σ W o st cs N _ H)
         (λ st cs N s b n l H K. behaves F S file X starts σ W o st cs N _ K)
 
     pub told : map seenOf (beginCall F file words lent ∷ replay F file (beginCall F file words lent .lent) calls)
-        ≡ seen (endedIf (dueAt rules (stand 0 σ 0) 0)) 0 1 ∷ expected rules size (stand 0 σ 0) calls
+        ≡ seen (endedIf (dueAt w rules (stand 0 σ 0) 0)) 0 1 ∷ expected w rules size (stand 0 σ 0) calls
     told = outcomes starts W obeys calls given pulse (λ st r. Unit {0}) (λ st cs N k b l H. tt) (λ st cs N s b n l H K. tt)
 
     left : Unchanged (beginCall F file words lent .lent) (replay F file (beginCall F file words lent .lent) calls)
     left = unchanged starts W obeys calls given pulse (λ st r. Unit {0}) (λ st cs N k b l H. tt) (λ st cs N s b n l H K. tt)
 
   -- the whole promise
-  pub keeps : (calls : List Call) → Keeps F P σ file (beginCall F file words lent) calls
+  pub keeps : (calls : List Call) → Keeps F w P σ file (beginCall F file words lent) calls
   keeps calls =
       record {
         rules = rules;
-        decides = decides P (meaning-timed S (X .admitted));
-        once = ends-once P (meaning-timed S (X .admitted));
+        decides = decides (imperative (S .pulse)) P (meaning-timed S (X .admitted));
+        once = ends-once (imperative (S .pulse)) P (meaning-timed S (X .admitted));
+        due = due-exactly w P (meaning-timed S (X .admitted));
         outcomes = told calls;
         tells = tells calls;
         circuit = circuit calls;

@@ -14,15 +14,15 @@ use Rattle.model.specs.declared.Checked.the-variants.{Accepted}
 use Rattle.model.specs.declared.Outcome.the-variants.{Ended, Open}
 use Rattle.model.specs.declared.Answer.{Answer}
 use Rattle.model.specs.Refusals.{first}
-use Rattle.model.specs.Program.{Stmt, Program}
+use Rattle.model.specs.Program.{programOf, Stmt, Program}
 use Rattle.model.specs.Procedures.{inlined, meaning}
 use Rattle.model.specs.ProgramChecks.{programWith}
-use Rattle.model.specs.Rules.{Store, Ends, ended, run, atEnd}
+use Rattle.model.specs.Rules.{imperative, Store, Ends, ended, run, atEnd}
 use Rattle.model.specs.Circuit.{high}
-use Rattle.model.specs.NetlistFile.{cellsOf, finishOf}
+use Rattle.model.specs.NetlistFile.{netOf, cellsOf, finishOf}
 use Rattle.model.specs.TimeTables.{load}
 use Rattle.model.specs.State.{stateSize, nowAt, beginState}
-use Rattle.model.specs.Calls.{verdict, checkCall, compiledFile, wordAt, shows, running, beginCall, runProgramChecks, runProgramCall, fullState, fullCount, referenceAnswer, answering, referenceChecks, referenceCall}
+use Rattle.model.specs.Calls.{tooLong, verdict, checkCall, compiledFile, wordAt, shows, running, beginCall, runProgramChecks, runProgramCall, fullState, fullCount, referenceAnswer, answering, referenceChecks, referenceCall}
 use Rattle.model.specs.Word.{Bytes}
 use Rattle.model.specs.RunPromises.{Seen, seenIn}
 use Rattle.model.specs.ProgramPromises.{endedAnswer, openAnswer, Programs}
@@ -54,31 +54,31 @@ module _ (options : Options) (program words : List ℕ) (n : ℕ) (answered-so :
   abbrev σ : Store
   σ = wordAt words
 
-  called : (first (referenceChecks options program words n) ≡ Accepted) × (referenceCall options program words n ≡ referenceAnswer n (run n P σ))
+  called : (first (referenceChecks options program words n) ≡ Accepted) × (referenceCall options program words n ≡ referenceAnswer n (run (imperative (options .pulse)) n P σ))
   unfolding referenceCall
-  called = answered (first (referenceChecks options program words n)) (referenceAnswer n (run n P σ)) answered-so
+  called = answered (first (referenceChecks options program words n)) (referenceAnswer n (run (imperative (options .pulse)) n P σ)) answered-so
 
   passes : checkCall options program ≡ Accepted
   unfolding checkCall
   passes = accept-take 2 (referenceChecks options program words n) (called .0)
 
-  pub reference-ends : (t : ℕ) (σ′ : Store) → Ends P σ t σ′ → t ≤ n → referenceCall options program words n ≡ endedAnswer t σ′
+  pub reference-ends : (t : ℕ) (σ′ : Store) → Ends (imperative (options .pulse)) P σ t σ′ → t ≤ n → referenceCall options program words n ≡ endedAnswer t σ′
   unfolding referenceAnswer
-  reference-ends t σ′ E l = called .1 ∙ ap (referenceAnswer n) (ends-run P (meaning-timed (programWith options program) (program-admitted options program passes)) σ t σ′ E n l)
+  reference-ends t σ′ E l = called .1 ∙ ap (referenceAnswer n) (ends-run (imperative (options .pulse)) P (meaning-timed (programWith options program) (program-admitted options program passes)) σ t σ′ E n l)
 
-  pub reference-ended : referenceCall options program words n .outcome ≡ Ended → (t : ℕ) × (σ′ : Store) × (t ≤ n) × Ends P σ t σ′
+  pub reference-ended : referenceCall options program words n .outcome ≡ Ended → (t : ℕ) × (σ′ : Store) × (t ≤ n) × Ends (imperative (options .pulse)) P σ t σ′
   unfolding referenceAnswer
   reference-ended e =
-      by-runs (run n P σ) (λ t σ′ p. (t, σ′, steady P (meaning-timed (programWith options program) (program-admitted options program passes)) σ n atEnd t σ′ p .0, run-ends P n σ t σ′ p))
-      (λ t σ′ p. never-leaves P (meaning-closed (programWith options program) (program-admitted options program passes)) n t σ σ′ p)
+      by-runs (run (imperative (options .pulse)) n P σ) (λ t σ′ p. (t, σ′, steady (imperative (options .pulse)) P (meaning-timed (programWith options program) (program-admitted options program passes)) σ n atEnd t σ′ p .0, run-ends (imperative (options .pulse)) P n σ t σ′ p))
+      (λ t σ′ p. never-leaves (imperative (options .pulse)) P (meaning-closed (programWith options program) (program-admitted options program passes)) n t σ σ′ p)
       (λ p. absurd (open-no-end (sym (ap (λ (a : Answer). a .outcome) (called .1 ∙ ap (referenceAnswer n) p)) ∙ e)))
 
   pub reference-open : referenceCall options program words n .outcome ≡ Open
-      → (referenceCall options program words n ≡ openAnswer n) × ((t : ℕ) (σ′ : Store) → Ends P σ t σ′ → t ≤ n → ⊥)
+      → (referenceCall options program words n ≡ openAnswer n) × ((t : ℕ) (σ′ : Store) → Ends (imperative (options .pulse)) P σ t σ′ → t ≤ n → ⊥)
   unfolding referenceAnswer
   reference-open e = (
-    by-runs (run n P σ) (λ t σ′ p. absurd (open-no-end (sym e ∙ ap (λ (a : Answer). a .outcome) (called .1 ∙ ap (referenceAnswer n) p))))
-        (λ t σ′ p. never-leaves P (meaning-closed (programWith options program) (program-admitted options program passes)) n t σ σ′ p) (λ p. called .1 ∙ ap (referenceAnswer n) p),
+    by-runs (run (imperative (options .pulse)) n P σ) (λ t σ′ p. absurd (open-no-end (sym e ∙ ap (λ (a : Answer). a .outcome) (called .1 ∙ ap (referenceAnswer n) p))))
+        (λ t σ′ p. never-leaves (imperative (options .pulse)) P (meaning-closed (programWith options program) (program-admitted options program passes)) n t σ σ′ p) (λ p. called .1 ∙ ap (referenceAnswer n) p),
     λ t σ′ E l. open-no-end (sym e ∙ ap (λ (a : Answer). a .outcome) (reference-ends t σ′ E l)),
   )
 
@@ -99,14 +99,14 @@ module _ (options : Options) (program words : List ℕ) (n : ℕ) (forFile lent 
   words-fit : ltb (length words) 544 ≡ false
   words-fit = refuse-unless _ 14 0 (all-accept (runProgramChecks options program words n forFile lent) checks 3)
 
-  state-fits : ltb (length lent) (stateSize Full (cellsOf file)) ≡ false
+  state-fits : ltb (length lent) (stateSize Full (netOf file)) ≡ false
   state-fits = refuse-unless _ 14 0 (all-accept (runProgramChecks options program words n forFile lent) checks 5)
 
   begins : verdict (beginCall Full file words lent .answer .outcome) ≡ Accepted
-  unfolding beginCall running shows
+  unfolding beginCall running shows tooLong
   begins =
       rw (compiled-accepted options program bytes accepts, words-fit, state-fits)
-      (no-refusal (high (nowAt Full (beginState Full (cellsOf file) (wordAt words) lent) (finishOf file))))
+      (no-refusal (high (nowAt Full (beginState Full (netOf file) (wordAt words) lent) (finishOf file))))
 
   abbrev full : Answer
   full = runProgramCall options program words n forFile lent .answer
@@ -119,19 +119,19 @@ module _ (options : Options) (program words : List ℕ) (n : ℕ) (forFile lent 
       program-run options program file words lent accepts refl begins forFile
       (refuse-unless _ 14 0 (all-accept (runProgramChecks options program words n forFile lent) checks 4)) n (ltb-false 1000000 n budget)
 
-  reference-is : reference ≡ referenceAnswer n (run n (meaning (programWith options program)) (wordAt words))
+  reference-is : reference ≡ referenceAnswer n (run (imperative (options .pulse)) n (meaning (programWith options program)) (wordAt words))
   unfolding referenceCall answering checkCall
   reference-is = rw (first-drop 2 (referenceChecks options program words n) accepts, budget, words-fit)
 
   pub same-answers : (seenIn full ≡ seenIn reference) × (full .outcome ≡ Ended → full ≡ reference)
-  unfolding referenceAnswer
+  unfolding referenceAnswer programOf
   same-answers =
-      by-runs (run n (meaning (programWith options program)) (wordAt words))
+      by-runs (run (imperative (options .pulse)) n (meaning (programWith options program)) (wordAt words))
       (λ t σ′ p.
       let e : full ≡ reference =
       full-is ∙ agrees options program file words lent accepts refl begins n t (ltb-false 1000000 n budget) σ′ p ∙ sym (reference-is ∙ ap (referenceAnswer n) p) in
       (ap seenIn e, λ z. e))
-      (λ t σ′ p. never-leaves (meaning (programWith options program)) (meaning-closed (programWith options program) (program-admitted options program accepts)) n t (wordAt words) σ′ p)
+      (λ t σ′ p. never-leaves (imperative (options .pulse)) (meaning (programWith options program)) (meaning-closed (programWith options program) (program-admitted options program accepts)) n t (wordAt words) σ′ p)
       (λ p.
       let o = ap seenIn full-is ∙ stays-open options program file words lent accepts refl begins n (ltb-false 1000000 n budget) p in
       (o ∙ sym (ap seenIn (reference-is ∙ ap (referenceAnswer n) p)), λ z. absurd (open-no-end (sym (ap (λ (s : Seen). s .outcome) o) ∙ z))))
@@ -147,20 +147,20 @@ unfolding verdict
 accepted-ended = refl
 
 pub programs : Programs
-unfolding load
+unfolding load programOf
 programs =
     record {
-      tree = λ G program e. sym (program-nodes (G .procedures) program (accepted (load G) program e .readable));
+      tree = λ G program e. sym (program-nodes (G .procedures) program (accepted (load G) program e .readable) (G .pulse));
       ends = λ G program words n t σ′ v. reference-ends (load G) program words n v t σ′;
       ended = λ G program words n e. reference-ended (load G) program words n (ap verdict e ∙ accepted-ended) e;
       stillOpen = λ G program words n e. reference-open (load G) program words n (ap verdict e ∙ accepted-open) e;
       obeyed = λ G program e.
           let S = programWith (load G) program in
-          (λ p. Ends (inlined (S .bodies) p), meanings-obey S (program-admitted (load G) program e));
-      calling = λ G program e. main-rules (programWith (load G) program) (program-admitted (load G) program e);
+          (λ p. Ends (imperative (G .pulse)) (inlined (S .bodies) p), meanings-obey (imperative (G .pulse)) S (program-admitted (load G) program e));
+      calling = λ G program e. main-rules (imperative (G .pulse)) (programWith (load G) program) (program-admitted (load G) program e);
       neverLeft = λ G program e.
           let S = programWith (load G) program in
-          never-left (meaning S) (meaning-closed S (program-admitted (load G) program e));
+          never-left (imperative (G .pulse)) (meaning S) (meaning-closed S (program-admitted (load G) program e));
       agree = λ G program words n forFile lent y v.
           let file = compiledFile (load G) program in
           same-answers (load G) program words n forFile lent y

@@ -2,47 +2,47 @@
 -- what is true of every state that holds the circuit's values is true along the list.
 -- Assumes nothing.
 use mathlib.Core.Path.{_≡_, refl, sym, _∙_, ap, ap₂, subst}
-use mathlib.Core.Bool.{Bool, true, false, not}
+use mathlib.Core.Bool.{Bool, true, false, not, _&&_, _||_, or-true}
 use mathlib.Core.List.{List, [], _∷_, _++_, map}
 use Prim.Native.Nat.{ℕ, zero, suc, _+_, _-_, _<_, _≤_, min}
 use native.Mathlib.Omega.{arith}
 use lib.Dec.{ltb}
 use lib.ListN.{length, take, drop, length-append, length-take, take-append-drop, List·getD-append}
 use lib.Seq.{getD-take}
-use borrow.Author.Tests.{lt-ltb, le-ltb}
+use borrow.Author.Tests.{lt-ltb, le-ltb, ltb-false}
 use Rattle.model.specs.declared.Refusal.{Refusal}
 use Rattle.model.specs.declared.Cell.{Cell}
 use Rattle.model.specs.declared.Format.{Format}
-use Rattle.model.specs.declared.Format.the-variants.{Compact}
+use Rattle.model.specs.declared.Format.the-variants.{Full, Compact}
 use Rattle.model.specs.declared.Checked.{Checked}
 use Rattle.model.specs.declared.Checked.the-variants.{Accepted}
 use Rattle.model.specs.declared.Outcome.the-variants.{Ended, Open}
 use Rattle.model.specs.declared.Answer.{Answer}
 use Rattle.model.specs.Word.{pick}
 use Rattle.model.specs.Refusals.{refuse, refuseIf, numberOf, first}
-use Rattle.model.specs.Program.{Stmt, Program}
+use Rattle.model.specs.Program.{Stmt, Program, gap}
 use Rattle.model.specs.Procedures.{meaning}
-use Rattle.model.specs.Rules.{Store, ended, still, run, due}
-use Rattle.model.specs.Circuit.{Sig, Values, high, level, memories, Obeys}
-use Rattle.model.specs.Numbering.{netlist, finish}
-use Rattle.model.specs.NetlistFile.{fileCheck, cellsOf, finishOf}
+use Rattle.model.specs.Rules.{imperative, Store, ended, still, run, showsAt, due}
+use Rattle.model.specs.Circuit.{Netlist, Sig, Values, high, level, memories, Obeys}
+use Rattle.model.specs.Numbering.{netlist, circuitOf, finish}
+use Rattle.model.specs.NetlistFile.{fileCheck, cellsOf, netOf, finishOf, pulseOf}
 use Rattle.model.specs.State.{instantOf, flightOf, Course, stateSize, nowAt, stepState, continued, sound}
-use Rattle.model.specs.Calls.{Returned, verdict, refusedAnswer, shows, running, continueChecks, goingOn, continueCall, busy, startChecks, startCall}
+use Rattle.model.specs.Calls.{Returned, verdict, refusedAnswer, shows, running, continueChecks, goingOn, continueCall, tooLong, busy, startChecks, startCall}
 use Rattle.model.specs.CircuitPromises.{Idle, stopsAt, NoStart, Apart}
 use Rattle.model.specs.RunPromises.{Request, continuing, start, Call, respond, replay, Seen, seen, seenOf, endedIf, Stand, stand, Runs, runAt, dueAt, Next, refuses, pulsed, afterRequest, next, expected, stands, Along, Unchanged}
 use Rattle.laws.specs.Refusals.Laws.{by-bool, by-le}
+use Rattle.laws.specs.Program.Widths.{gap-one, gap-wide}
 use Rattle.laws.specs.Rules.Laws.{by-runs, steady}
 use Rattle.laws.specs.Rules.Uses.{never-leaves}
 use Rattle.laws.specs.Program.Admitted.{Admitted, meaning-timed, meaning-closed}
 use Rattle.laws.specs.Circuit.Ordered.{Ordered}
 use Rattle.theory.specs.State.Holding.{Holding}
 use Rattle.theory.specs.State.Flight.{same-holds, number-zero}
-use Rattle.theory.specs.State.Counters.{apart-either}
 use Rattle.theory.specs.State.Step.{step-holds, step-length}
 use Rattle.theory.specs.State.Sound.{sound-held, holds}
 use Rattle.theory.specs.State.Running.{continues, stops-high, stops-low, stops-ge, stops-le}
 use Rattle.theory.specs.Promises.Due.{Began, finish-due, lines-apart, still-busy, ended-idle, run-again}
-use Rattle.theory.specs.Promises.Stands.{next-short, next-long, stopped, continues-late, continues-now, start-late, start-now, Given, given-on, given-pulse, given-anew}
+use Rattle.theory.specs.Promises.Stands.{anew as anewOf, next-short, next-long, stopped, continues-late, continues-now, start-late, start-now, Given, given-on, given-pulse, given-anew}
 
 -- Calls ---------------------------------------------------------------------------------------------------------------------------------
 
@@ -77,11 +77,11 @@ module _ (F : Format) (c : Checked) (file : List ℕ) (o : Course) (lent : List 
   accepted-going e d = ap (λ (c : Checked). goingOn F c file o lent) e ∙ accepted-run F (o .check) file (o .state) (o .count) (o .state) d
 
 -- the checks of a continuing by n, which are the first of a start
-module _ (F : Format) (file : List ℕ) (accepted : fileCheck file ≡ Accepted) (n : ℕ) (lent : List ℕ) where
-  pub checked : (rest : List Checked) (p q r : Bool) → ltb (length lent) (stateSize F (cellsOf file)) ≡ p → sound F (cellsOf file) lent ≡ q
+module _ (F : Format) (file : List ℕ) (accepted : fileCheck file ≡ Accepted) (fits : tooLong F (pulseOf file) ≡ false) (n : ℕ) (lent : List ℕ) where
+  pub checked : (rest : List Checked) (p q r : Bool) → ltb (length lent) (stateSize F (netOf file)) ≡ p → sound F (netOf file) lent ≡ q
       → ltb 1000000 (instantOf lent + n) ≡ r
       → first (continueChecks F file n lent ++ rest) ≡ first (refuseIf p 14 0 ∷ refuseIf (not q) 15 0 ∷ refuseIf r 16 0 ∷ rest)
-  checked rest p q r e d f i = first (accepted i ∷ refuseIf (e i) 14 0 ∷ refuseIf (not (d i)) 15 0 ∷ refuseIf (f i) 16 0 ∷ rest)
+  checked rest p q r e d f i = first (accepted i ∷ refuseIf (fits i) 27 0 ∷ refuseIf (e i) 14 0 ∷ refuseIf (not (d i)) 15 0 ∷ refuseIf (f i) 16 0 ∷ rest)
 
 replay-is : (F : Format) (file s : List ℕ) (c : Call) (cs : List Call) (r : Returned Answer) → respond F file (c .request) (take (c .lent) s) ≡ r
     → replay F file s (c ∷ cs) ≡ record { answer = r .answer; lent = r .lent ++ drop (c .lent) s } ∷ replay F file (r .lent ++ drop (c .lent) s) cs
@@ -109,27 +109,43 @@ pub record OfProgram (S : Program) (file : List ℕ) : Type 0 where
   pub accepted : fileCheck file ≡ Accepted
   pub ordered : Ordered (cellsOf file)
   pub cells-are : cellsOf file ≡ netlist S
+  pub pulse-is : pulseOf file ≡ S .pulse
   pub finish-is : finishOf file ≡ finish S
   pub wire : finishOf file < length (cellsOf file)
   pub sixteen : memories (netlist S) ≡ 16
 
+pub net-is : (S : Program) (file : List ℕ) → OfProgram S file → netOf file ≡ circuitOf S
+net-is S file X = ap₂ (λ (cs : List Cell) (w : ℕ). record { cells = cs; pulse = w }) (X .cells-are) (X .pulse-is)
+
 -- with start pulses at these instants, from these words
-module _ (S : Program) (file : List ℕ) (X : OfProgram S file) (starts : Sig) (σ₀ : Store) (W : Values) (obeys : Obeys (cellsOf file) starts σ₀ W) where
+module _ (S : Program) (file : List ℕ) (X : OfProgram S file) (starts : Sig) (σ₀ : Store) (W : Values) (obeys : Obeys (netOf file) starts σ₀ W) where
   -- the equations of the file are those of the program's netlist
-  pub published : Obeys (netlist S) starts σ₀ W
-  published = rw (X .cells-are) at obeys
+  pub published : Obeys (circuitOf S) starts σ₀ W
+  published = subst (λ (n : Netlist). Obeys n starts σ₀ W) (net-is S file X) obeys
+
+-- a compact state goes with pulses of one instant
+one-pulse : (w : ℕ) → 1 ≤ w → tooLong Compact w ≡ false → w ≡ 1
+unfolding tooLong
+one-pulse w pos e = omega (arith, ltb-false 1 w e)
+
+apart-by : (F : Format) (w : ℕ) → 1 ≤ w → tooLong F w ≡ false → (net : Netlist) (W : Values) (t : ℕ) → (w ≡ 1 → Apart Compact net W t) → Apart F net W t
+apart-by Full w pos e net W t h = tt
+apart-by Compact w pos e net W t h = h (one-pulse w pos e)
 
 module _ (F : Format) (S : Program) (file : List ℕ) (X : OfProgram S file) (starts : Sig) (σ₀ : Store) (W : Values)
-    (obeys : Obeys (cellsOf file) starts σ₀ W) where
-  -- what its rules are of
+    (obeys : Obeys (netOf file) starts σ₀ W) where
+  -- its pulse length, and what its rules are of
+  abbrev w : ℕ
+  w = S .pulse
+
   abbrev P : Stmt
   P = meaning S
 
-  abbrev same : Obeys (netlist S) starts σ₀ W
+  abbrev same : Obeys (circuitOf S) starts σ₀ W
   same = published S file X starts σ₀ W obeys
 
-  abbrev net : List Cell
-  net = cellsOf file
+  abbrev net : Netlist
+  net = netOf file
 
   abbrev fin : ℕ
   fin = finishOf file
@@ -138,47 +154,53 @@ module _ (F : Format) (S : Program) (file : List ℕ) (X : OfProgram S file) (st
   size = stateSize F net
 
   abbrev rules : Runs
-  rules τ k = run k P τ
+  rules τ k = run (imperative (S .pulse)) k P τ
 
   -- the run of the stand has begun, and these calls are to come
   pub record Now (st : Stand) (cs : List Call) : Type 0 where
+    pub fits : tooLong F w ≡ false
     pub began : Began S (X .admitted) starts σ₀ W same (st .from) (st .begun)
-    pub given : Given rules size starts st cs
+    pub given : Given w rules size starts st cs
+
+  fits-file : {st : Stand} {cs : List Call} → Now st cs → tooLong F (pulseOf file) ≡ false
+  fits-file N = ap (tooLong F) (X .pulse-is) ∙ N .fits
 
   -- What the run of a stand does ---------------------------------------------------------------------------------------------------------
 
   module _ (st : Stand) (cs : List Call) (N : Now st cs) where
-    pub due-at : (t : ℕ) → st .begun ≤ t → NoStart starts (st .begun) t → level W fin t ≡ dueAt rules st t
+    pub due-at : (t : ℕ) → st .begun ≤ t → NoStart starts (st .begun) t → level W fin t ≡ dueAt w rules st t
     unfolding dueAt due
     due-at t l none = rw (X .finish-is) (finish-due S (X .admitted) starts σ₀ W same (st .from) (st .begun) t (N .began) l none)
 
     apart-at : (t : ℕ) → st .begun ≤ t → NoStart starts (st .begun) t → Apart F net W t
     apart-at t l none =
-        apart-either F net W t
-        (subst (λ (n : List Cell). Apart Compact n W t) (sym (X .cells-are)) (lines-apart S (X .admitted) starts σ₀ W same (st .from) (st .begun) t (N .began) l none))
+        apart-by F w (X .admitted .pulse .0) (N .fits) net W t
+        (λ one.
+        subst (λ (n : Netlist). Apart Compact n W t) (sym (net-is S file X))
+        (lines-apart S (X .admitted) starts σ₀ W same (st .from) (st .begun) t (N .began) l none one))
 
-    due-now : level W fin (st .now) ≡ dueAt rules st (st .now)
+    due-now : level W fin (st .now) ≡ dueAt w rules st (st .now)
     due-now = due-at (st .now) (N .given .since) (N .given .none)
 
-    -- the number is 0 where it has ended, and is not where it has not
+    -- the number is 0 a gap after its end, and is not before its end
     module _ (s : List ℕ) (H : Holding F net σ₀ W (st .now) s) where
       idle : (flightOf s ≡ 0 → Idle net W (st .now)) × (Idle net W (st .now) → flightOf s ≡ 0)
       idle = number-zero F net σ₀ W (st .now) s (holds F net (X .ordered) starts σ₀ W obeys (st .now) s H)
 
-      pub number-ended : (e : ℕ) (σ : Store) → run e P (st .from) ≡ ended e σ → st .begun + e ≤ st .now → flightOf s ≡ 0
+      pub number-ended : (e : ℕ) (σ : Store) → run (imperative (S .pulse)) e P (st .from) ≡ ended e σ → st .begun + e + gap w ≤ suc (st .now) → flightOf s ≡ 0
       number-ended e σ p l =
           idle .1
-          (subst (λ (n : List Cell). Idle n W (st .now)) (sym (X .cells-are))
+          (subst (λ (n : Netlist). Idle n W (st .now)) (sym (net-is S file X))
           (ended-idle S (X .admitted) starts σ₀ W same (st .from) (st .begun) (st .now) (N .began) (N .given .since) (N .given .none) e σ p l))
 
       pub number-still : runAt rules st (st .now) ≡ still → flightOf s ≡ 0 → ⊥
       number-still p z =
           still-busy S (X .admitted) starts σ₀ W same (st .from) (st .begun) (st .now) (N .began) (N .given .since) (N .given .none) p
-          (subst (λ (n : List Cell). Idle n W (st .now)) (X .cells-are) (idle .0 z))
+          (subst (λ (n : Netlist). Idle n W (st .now)) (net-is S file X) (idle .0 z))
 
   -- an end within so many instants is one after its own
-  pub ended-own : (τ : Store) (k e : ℕ) (σ : Store) → run k P τ ≡ ended e σ → (e ≤ k) × (run e P τ ≡ ended e σ)
-  ended-own τ k e σ p = let i = steady P (meaning-timed S (X .admitted)) τ k _ e σ p in (i .0, i .1 e (omega arith))
+  pub ended-own : (τ : Store) (k e : ℕ) (σ : Store) → run (imperative (S .pulse)) k P τ ≡ ended e σ → (e ≤ k) × (run (imperative (S .pulse)) e P τ ≡ ended e σ)
+  ended-own τ k e σ p = let i = steady (imperative (S .pulse)) P (meaning-timed S (X .admitted)) τ k _ e σ p in (i .0, i .1 e (omega arith))
 
   -- What is true along the list ----------------------------------------------------------------------------------------------------------
 
@@ -189,18 +211,18 @@ module _ (F : Format) (S : Program) (file : List ℕ) (X : OfProgram S file) (st
       → Holding F net σ₀ W (st .now) b → Q st (record { answer = shows F file s n; lent = b })) where
     -- what is promised of a list of steps
     pub record Good (st : Stand) (s : List ℕ) (calls : List Call) (steps : List (Returned Answer)) : Type 0 where
-      pub outcomes : map seenOf steps ≡ expected rules size st calls
-      pub every : Along Q (stands rules size st calls) steps
+      pub outcomes : map seenOf steps ≡ expected w rules size st calls
+      pub every : Along Q (stands w rules size st calls) steps
       pub unchanged : Unchanged s steps
 
     -- a state's answer
     pub answer-seen : (st : Stand) (cs : List Call) → Now st cs → (s b : List ℕ) (n : ℕ) → st .now ≤ 1000000 → Holding F net σ₀ W (st .now) s
-        → seenOf (record { answer = shows F file s n; lent = b }) ≡ seen (endedIf (dueAt rules st (st .now))) (st .now) n
+        → seenOf (record { answer = shows F file s n; lent = b }) ≡ seen (endedIf (dueAt w rules st (st .now))) (st .now) n
     unfolding shows
     answer-seen st cs N s b n l H = rw (H .instant l, H .body .present fin (X .wire), due-now st cs N)
 
     -- one step, to where the list stands then
-    step : (st : Stand) (s : List ℕ) (c : Call) (cs : List Call) (x : Next) (r : Returned Answer) (rs : List (Returned Answer)) → next rules size st c ≡ x
+    step : (st : Stand) (s : List ℕ) (c : Call) (cs : List Call) (x : Next) (r : Returned Answer) (rs : List (Returned Answer)) → next w rules size st c ≡ x
         → seenOf r ≡ x .tells → Q (x .after) r → (1 ≤ numberOf (verdict (r .answer .outcome)) → r .lent ≡ s) → Good (x .after) (r .lent) cs rs
         → Good st s (c ∷ cs) (r ∷ rs)
     unfolding expected stands
@@ -208,8 +230,8 @@ module _ (F : Format) (S : Program) (file : List ℕ) (X : OfProgram S file) (st
         record {
           outcomes =
               ap₂ (λ (y : Seen) (l : List Seen). y ∷ l) told (G .outcomes)
-              ∙ ap (λ (x : Next). x .tells ∷ expected rules size (x .after) cs) (sym e);
-          every = subst (λ (x : Next). Along Q (x .after ∷ stands rules size (x .after) cs) (r ∷ rs)) (sym e) (q, G .every);
+              ∙ ap (λ (x : Next). x .tells ∷ expected w rules size (x .after) cs) (sym e);
+          every = subst (λ (x : Next). Along Q (x .after ∷ stands w rules size (x .after) cs) (r ∷ rs)) (sym e) (q, G .every);
           unchanged = (left, G .unchanged);
         }
 
@@ -224,13 +246,14 @@ module _ (F : Format) (S : Program) (file : List ℕ) (X : OfProgram S file) (st
       L = take lent s
 
       -- a refused call leaves the list where it stands
-      refused : (k : ℕ) → respond F file request L ≡ record { answer = refusedAnswer (at0 k); lent = L } → next rules size st c ≡ refuses k st
+      refused : (k : ℕ) → respond F file request L ≡ record { answer = refusedAnswer (at0 k); lent = L } → next w rules size st c ≡ refuses k st
           → Good st s (c ∷ cs) (replay F file s (c ∷ cs))
       refused k e x =
           let M : Now st cs =
           record {
+            fits = N .fits;
             began = N .began;
-            given = given-on rules size starts st c cs (N .given) st (ap (λ (y : Next). y .after) x) (record { begun = refl; from = refl; now = omega arith });
+            given = given-on w rules size starts st c cs (N .given) st (ap (λ (y : Next). y .after) x) (record { begun = refl; from = refl; now = omega arith });
           } in
           let r : replay F file s (c ∷ cs) ≡ record { answer = refusedAnswer (at0 k); lent = s } ∷ replay F file s cs =
           replay-is F file s c cs _ e ∙ ap (λ (b : List ℕ). record { answer = refusedAnswer (at0 k); lent = b } ∷ replay F file b cs) (take-append-drop lent s) in
@@ -260,7 +283,7 @@ module _ (F : Format) (S : Program) (file : List ℕ) (X : OfProgram S file) (st
 
       -- a call that runs to the stand st′, with the state s′ in the lent part
       ran : (st′ : Stand) (s′ : List ℕ) (n : ℕ) → size ≤ lent → respond F file request L ≡ record { answer = shows F file s′ n; lent = s′ }
-          → next rules size st c ≡ record { tells = seen (endedIf (dueAt rules st′ (st′ .now))) (st′ .now) n; after = st′ }
+          → next w rules size st c ≡ record { tells = seen (endedIf (dueAt w rules st′ (st′ .now))) (st′ .now) n; after = st′ }
           → Now st′ cs → Holding F net σ₀ W (st′ .now) s′ → length s′ ≡ length L → st′ .now ≤ 1000000 → Good st s (c ∷ cs) (replay F file s (c ∷ cs))
       unfolding shows
       ran st′ s′ n h e x M H′ z m =
@@ -283,7 +306,7 @@ module _ (F : Format) (S : Program) (file : List ℕ) (X : OfProgram S file) (st
       abbrev T : List ℕ
       T = take lent s
 
-      continue-refused : (k : ℕ) → first (continueChecks F file n T) ≡ refuse k 0 → next rules size st by ≡ refuses k st
+      continue-refused : (k : ℕ) → first (continueChecks F file n T) ≡ refuse k 0 → next w rules size st by ≡ refuses k st
           → Good st s (by ∷ cs) (replay F file s (by ∷ cs))
       unfolding respond continueCall
       continue-refused k e x = refused st (continuing n) lent cs N s H room l go k (refused-going F (first (continueChecks F file n T)) file _ T k e) x
@@ -291,43 +314,44 @@ module _ (F : Format) (S : Program) (file : List ℕ) (X : OfProgram S file) (st
       continue-short : lent < size → Good st s (by ∷ cs) (replay F file s (by ∷ cs))
       continue-short h =
           continue-refused 14
-          (checked F file (X .accepted) n T [] true (sound F net T) (ltb 1000000 (instantOf T + n)) (is-short st (continuing n) lent cs N s H room l go h) refl refl)
-          (next-short rules size st by h)
+          (checked F file (X .accepted) (fits-file N) n T [] true (sound F net T) (ltb 1000000 (instantOf T + n)) (is-short st (continuing n) lent cs N s H room l go h) refl refl)
+          (next-short w rules size st by h)
 
       module _ (h : size ≤ lent) where
         checks : (r : Bool) → ltb 1000000 (instantOf T + n) ≡ r → first (continueChecks F file n T) ≡ first (refuseIf r 16 0 ∷ [])
         checks r e =
-            checked F file (X .accepted) n T [] false true r (is-long st (continuing n) lent cs N s H room l go h) (is-sound st (continuing n) lent cs N s H room l go h) e
+            checked F file (X .accepted) (fits-file N) n T [] false true r (is-long st (continuing n) lent cs N s H room l go h) (is-sound st (continuing n) lent cs N s H room l go h) e
 
         continue-late : 1000000 < st .now + n → Good st s (by ∷ cs) (replay F file s (by ∷ cs))
         unfolding afterRequest
         continue-late m =
             continue-refused 16 (checks true (is-late st (continuing n) lent cs N s H room l go n h m))
-            (next-long rules size st by h ∙ continues-late rules size st n m)
+            (next-long w rules size st by h ∙ continues-late w rules size st n m)
 
         module _ (m : st .now + n ≤ 1000000) where
           abbrev t′ : ℕ
-          t′ = stopsAt (dueAt rules st) (st .now) n
+          t′ = stopsAt (dueAt w rules st) (st .now) n
 
           abbrev st′ : Stand
           st′ = stand (st .begun) (st .from) t′
 
-          next-is : next rules size st by ≡ stopped rules size st t′
+          next-is : next w rules size st by ≡ stopped w rules size st t′
           unfolding afterRequest
-          next-is = next-long rules size st by h ∙ continues-now rules size st n m
+          next-is = next-long w rules size st by h ∙ continues-now w rules size st n m
 
           M : Now st′ cs
           M =
               record {
+                fits = N .fits;
                 began = N .began;
-                given = given-on rules size starts st by cs (N .given) st′ (ap (λ (y : Next). y .after) next-is)
-                    (record { begun = refl; from = refl; now = stops-ge (dueAt rules st) n (st .now) });
+                given = given-on w rules size starts st by cs (N .given) st′ (ap (λ (y : Next). y .after) next-is)
+                    (record { begun = refl; from = refl; now = stops-ge (dueAt w rules st) n (st .now) });
               }
 
           -- the wire and the rules stop at the same instant
           stops : stopsAt (level W fin) (st .now) n ≡ t′
           stops =
-              stops-same (level W fin) (dueAt rules st) n (st .now)
+              stops-same (level W fin) (dueAt w rules st) n (st .now)
               (λ u x y. due-at st (by ∷ cs) N u (omega (arith, N .given .since)) (λ v p q. M .given .none v p (omega arith)))
 
           continue-runs : Good st s (by ∷ cs) (replay F file s (by ∷ cs))
@@ -342,8 +366,8 @@ module _ (F : Format) (S : Program) (file : List ℕ) (X : OfProgram S file) (st
               let ev : on .count ≡ t′ - st .now = rw stops at (C .count) in
               ran st (continuing n) lent cs N s H room l go st′ (on .state) (on .count) h
               (accepted-going F (first (continueChecks F file n T)) file on T (checks false (in-time st (continuing n) lent cs N s H room l go n h m)) (C .free))
-              (next-is ∙ ap (λ (k : ℕ). record { tells = seen (endedIf (dueAt rules st t′)) t′ k; after = st′ }) (sym ev)) M (rw stops at (C .holding)) (C .long)
-              (omega (arith, stops-le (dueAt rules st) n (st .now)))
+              (next-is ∙ ap (λ (k : ℕ). record { tells = seen (endedIf (dueAt w rules st t′)) t′ k; after = st′ }) (sym ev)) M (rw stops at (C .holding)) (C .long)
+              (omega (arith, stops-le (dueAt w rules st) n (st .now)))
 
     -- a start
     module _ (st : Stand) (lent : ℕ) (cs : List Call) (N : Now st (record { request = start; lent = lent } ∷ cs)) (s : List ℕ)
@@ -358,9 +382,9 @@ module _ (F : Format) (S : Program) (file : List ℕ) (X : OfProgram S file) (st
 
       -- what is checked after a continuing
       abbrev then : List Checked
-      then = refuseIf (busy U) 23 0 ∷ []
+      then = refuseIf (busy F file U) 23 0 ∷ []
 
-      start-refused : (k : ℕ) → first (startChecks F file U) ≡ refuse k 0 → next rules size st pulse ≡ refuses k st
+      start-refused : (k : ℕ) → first (startChecks F file U) ≡ refuse k 0 → next w rules size st pulse ≡ refuses k st
           → Good st s (pulse ∷ cs) (replay F file s (pulse ∷ cs))
       unfolding respond startCall
       start-refused k e x = refused st start lent cs N s H room l go k (refused-run F (first (startChecks F file U)) file _ _ U k e) x
@@ -368,8 +392,8 @@ module _ (F : Format) (S : Program) (file : List ℕ) (X : OfProgram S file) (st
       start-short : lent < size → Good st s (pulse ∷ cs) (replay F file s (pulse ∷ cs))
       start-short h =
           start-refused 14
-          (checked F file (X .accepted) _ U then true (sound F net U) _ (is-short st start lent cs N s H room l go h) refl refl)
-          (next-short rules size st pulse h)
+          (checked F file (X .accepted) (fits-file N) _ U then true (sound F net U) _ (is-short st start lent cs N s H room l go h) refl refl)
+          (next-short w rules size st pulse h)
 
       module _ (h : size ≤ lent) where
         K : Holding F net σ₀ W (st .now) U
@@ -378,66 +402,88 @@ module _ (F : Format) (S : Program) (file : List ℕ) (X : OfProgram S file) (st
         after-checks : (n : ℕ) (rest : List Checked) (r : Bool) → ltb 1000000 (instantOf U + n) ≡ r
             → first (continueChecks F file n U ++ rest) ≡ first (refuseIf r 16 0 ∷ rest)
         after-checks n rest r e =
-            checked F file (X .accepted) n U rest false true r (is-long st start lent cs N s H room l go h) (is-sound st start lent cs N s H room l go h) e
+            checked F file (X .accepted) (fits-file N) n U rest false true r (is-long st start lent cs N s H room l go h) (is-sound st start lent cs N s H room l go h) e
 
         start-over : 1000000 < st .now + 1 → Good st s (pulse ∷ cs) (replay F file s (pulse ∷ cs))
         unfolding afterRequest
         start-over m =
             start-refused 16 (after-checks _ then true (is-late st start lent cs N s H room l go _ h m))
-            (next-long rules size st pulse h ∙ start-late rules size st m)
+            (next-long w rules size st pulse h ∙ start-late w rules size st m)
 
         module _ (m : st .now + 1 ≤ 1000000) where
-          only-busy : (z : Bool) → busy U ≡ z → first (startChecks F file U) ≡ first (refuseIf z 23 0 ∷ [])
+          only-busy : (z : Bool) → busy F file U ≡ z → first (startChecks F file U) ≡ first (refuseIf z 23 0 ∷ [])
           only-busy z e =
               after-checks _ then false (in-time st start lent cs N s H room l go _ h m) ∙ ap (λ (z : Bool). first (refuseIf z 23 0 ∷ [])) e
 
-          is-pulsed : next rules size st pulse ≡ pulsed rules st (runAt rules st (st .now))
+          is-pulsed : next w rules size st pulse ≡ pulsed w rules st (runAt rules st (st .now))
           unfolding afterRequest
-          is-pulsed = next-long rules size st pulse h ∙ start-now rules size st m
+          is-pulsed = next-long w rules size st pulse h ∙ start-now w rules size st m
+
+          -- with longer pulses it waits for a low finish
+          abbrev waits : Bool
+          waits = ltb 1 (pulseOf file) && high (nowAt F U fin)
+
+          waits-is : waits ≡ (ltb 1 w && dueAt w rules st (st .now))
+          waits-is = ap₂ (λ (n v : ℕ). ltb 1 n && high v) (X .pulse-is) (K .body .present fin (X .wire)) ∙ ap (λ (b : Bool). ltb 1 w && b) (due-now st (pulse ∷ cs) N)
+
+          start-waits : (e : ℕ) (σ : Store) → runAt rules st (st .now) ≡ ended e σ → (ltb 1 w && dueAt w rules st (st .now)) ≡ true
+              → Good st s (pulse ∷ cs) (replay F file s (pulse ∷ cs))
+          unfolding pulsed
+          start-waits e σ p z =
+              start-refused 23 (only-busy true (ap (λ (b : Bool). ltb 0 (flightOf U) || b) (waits-is ∙ z) ∙ or-true (ltb 0 (flightOf U))))
+              (is-pulsed ∙ ap (pulsed w rules st) p ∙ ap (λ (b : Bool). elim b as (λ z. Next) [ true ↦ refuses 23 st | false ↦ anewOf w rules st σ ]) z)
 
           -- while something is in flight
           start-busy : runAt rules st (st .now) ≡ still → Good st s (pulse ∷ cs) (replay F file s (pulse ∷ cs))
           unfolding pulsed
           start-busy p =
               let some : 1 ≤ flightOf U = by-le 1 (flightOf U) (λ g. g) (λ g. absurd (number-still st (pulse ∷ cs) N U K p (omega arith))) in
-              start-refused 23 (only-busy true (let h : busy U ≡ true = lt-ltb _ (flightOf U) (omega (arith, some)) in h))
-              (is-pulsed ∙ ap (pulsed rules st) p)
+              start-refused 23 (only-busy true (ap (λ (b : Bool). b || waits) (lt-ltb 0 (flightOf U) some))) (is-pulsed ∙ ap (pulsed w rules st) p)
 
           -- a new run
-          module _ (e : ℕ) (σ : Store) (p : runAt rules st (st .now) ≡ ended e σ) where
+          module _ (e : ℕ) (σ : Store) (p : runAt rules st (st .now) ≡ ended e σ) (z : (ltb 1 w && dueAt w rules st (st .now)) ≡ false) where
             abbrev anew : Stand
-            anew = pulsed rules st (ended e σ) .after
+            anew = anewOf w rules st σ .after
 
-            own : (e ≤ st .now - st .begun) × (run e P (st .from) ≡ ended e σ)
+            own : (e ≤ st .now - st .begun) × (run (imperative (S .pulse)) e P (st .from) ≡ ended e σ)
             own = ended-own (st .from) (st .now - st .begun) e σ p
 
-            past : st .begun + e ≤ st .now
-            past = omega (arith, own .0, N .given .since)
+            -- the finish is low, or there is no need for it
+            past : st .begun + e + gap w ≤ suc (st .now)
+            unfolding dueAt showsAt
+            past =
+                let o = own .0 in
+                by-le w 1 (λ l. omega (arith, gap-one w (omega (arith, X .admitted .pulse .0)), N .given .since))
+                (λ l.
+                let q : ltb (st .now - st .begun) (e + w) ≡ false = rw (lt-ltb 1 w l, p) at z in
+                omega (arith, gap-wide w l, ltb-false (st .now - st .begun) (e + w) q, N .given .since))
 
-            next-anew : next rules size st pulse ≡ pulsed rules st (ended e σ)
-            next-anew = is-pulsed ∙ ap (pulsed rules st) p
+            next-anew : next w rules size st pulse ≡ anewOf w rules st σ
+            unfolding pulsed
+            next-anew =
+                is-pulsed ∙ ap (pulsed w rules st) p ∙ ap (λ (b : Bool). elim b as (λ z. Next) [ true ↦ refuses 23 st | false ↦ anewOf w rules st σ ]) z
 
-            after-anew : next rules size st pulse .after ≡ anew
+            after-anew : next w rules size st pulse .after ≡ anew
             after-anew = ap (λ (y : Next). y .after) next-anew
 
             comes : starts (suc (st .now)) ≡ true
-            unfolding pulsed
-            comes = given-pulse rules size starts st pulse cs (N .given) anew after-anew refl refl
+            comes = given-pulse w rules size starts st pulse cs (N .given) anew after-anew refl refl
 
             start-runs : Good st s (pulse ∷ cs) (replay F file s (pulse ∷ cs))
-            unfolding respond startCall pulsed
+            unfolding respond startCall
             start-runs =
                 let enough : size ≤ length U = omega (arith, lent-length st start lent cs N s H room l go) in
                 let none : flightOf U ≡ 0 = number-ended st (pulse ∷ cs) N U K e σ (own .1) past in
                 let M : Now anew cs =
                 record {
+                  fits = N .fits;
                   began = run-again S (X .admitted) starts σ₀ W same (st .from) (st .begun) (st .now) (N .began) (N .given .since) (N .given .none) e σ
                       (own .1) past comes;
-                  given = given-anew rules size starts st pulse cs (N .given) anew after-anew refl refl;
+                  given = given-anew w rules size starts st pulse cs (N .given) anew after-anew refl refl;
                 } in
                 ran st start lent cs N s H room l go anew (stepState F net true U) 1 h
                 (accepted-run F (first (startChecks F file U)) file _ _ U
-                (only-busy false (le-ltb _ (flightOf U) (omega (arith, none)))))
+                (only-busy false (ap₂ _||_ (le-ltb 0 (flightOf U) (omega (arith, none))) (waits-is ∙ z))))
                 next-anew M
                 (subst (λ (x : Bool). Holding F net σ₀ W (suc (st .now)) (stepState F net x U)) comes
                 (step-holds F net (X .ordered) starts σ₀ W obeys (st .now) U K enough (apart-at anew cs M (suc (st .now)) (omega arith) (λ u l k. absurd (omega arith)))))
@@ -464,7 +510,10 @@ module _ (F : Format) (S : Program) (file : List ℕ) (X : OfProgram S file) (st
             (λ h.
             by-le (st .now + 1) 1000000
             (λ m.
-            by-runs (runAt rules st (st .now)) (λ e σ p. start-runs st (c .lent) cs N s H room l go h m e σ p)
-            (λ e σ p. never-leaves P (meaning-closed S (X .admitted)) (st .now - st .begun) e (st .from) σ p) (λ p. start-busy st (c .lent) cs N s H room l go h m p))
+            by-runs (runAt rules st (st .now))
+            (λ e σ p.
+            by-bool (ltb 1 w && dueAt w rules st (st .now)) (λ z. start-waits st (c .lent) cs N s H room l go h m e σ p z)
+            (λ z. start-runs st (c .lent) cs N s H room l go h m e σ p z))
+            (λ e σ p. never-leaves (imperative (S .pulse)) P (meaning-closed S (X .admitted)) (st .now - st .begun) e (st .from) σ p) (λ p. start-busy st (c .lent) cs N s H room l go h m p))
             (λ m. start-over st (c .lent) cs N s H room l go h m))
             (λ h. start-short st (c .lent) cs N s H room l go h)

@@ -86,9 +86,9 @@ module _ (τ : ℕ → ℕ) (range : InRange τ) where
   unfolding timesOf timesIn tableFile bytes16 listed
   file-times = refl
 
-  file-loads : (k : ℕ) → load (beside (given (tableFile τ)) k) ≡ record { checked = Accepted; times = 0 ∷ listed τ 1 10; procedures = k }
+  file-loads : (k w : ℕ) → load (beside (given (tableFile τ)) k w) ≡ record { checked = Accepted; times = 0 ∷ listed τ 1 10; procedures = k; pulse = w }
   unfolding load
-  file-loads k = ap₂ (λ (c : Checked) (times : List ℕ). record { checked = c; times = times; procedures = k }) file-checked file-times
+  file-loads k w = ap₂ (λ (c : Checked) (times : List ℕ). record { checked = c; times = times; procedures = k; pulse = w }) file-checked file-times
 
 -- A file that loads --------------------------------------------------------------------------------------------------------------------
 
@@ -164,6 +164,6 @@ module _ (file : List ℕ) (bytes : Bytes file) (accepted : verdictOf (given fil
 pub tables : Tables
 tables =
     record {
-      loads = λ τ k r. file-loads τ r k;
-      only = λ file k bytes e. unfold load in (timeOf file bytes e, in-range file bytes e, file-back file bytes e);
+      loads = λ τ k w r. file-loads τ r k w;
+      only = λ file k w bytes e. unfold load in (timeOf file bytes e, in-range file bytes e, file-back file bytes e);
     }

@@ -18,17 +18,17 @@ use Rattle.model.specs.declared.Format.{Format}
 use Rattle.model.specs.declared.Format.the-variants.{Full, Compact}
 use Rattle.model.specs.Word.{pick, bit}
 use Rattle.model.specs.Refusals.{numberOf, first}
-use Rattle.model.specs.Circuit.{cellAt, noCell, high, control, merges}
-use Rattle.model.specs.NetlistFile.{cellsOf, finishOf}
-use Rattle.model.specs.State.{flightOf, Course, course, longer, base, nowAt, beforeAt, heldAt, leftAt, lineBit, lineAt, flight, stepState, crowded, crowding, continued, lineSound, cellSound, cellsSound, sound}
+use Rattle.model.specs.Circuit.{Netlist, cellAt, noCell, high, control, merges}
+use Rattle.model.specs.NetlistFile.{netOf, cellsOf, finishOf}
+use Rattle.model.specs.State.{remainingAt, mostLeft, flightOf, Course, course, longer, base, nowAt, beforeAt, heldAt, leftAt, lineBit, lineAt, flight, stepState, crowded, crowding, continued, lineSound, cellSound, cellsSound, sound}
 use Rattle.model.specs.Calls.{verdict, running, continueChecks, goingOn, continueCall, busy, startChecks, startCall}
-use Rattle.model.specs.RefusalPromises.{among, Gives, Refuses, fileNumbers, just, crowdNumbers, LeavesBut, later, Goes}
-use Rattle.laws.specs.Refusals.Laws.{by-bool, by-le, and-true, not-false, not-refused, all-accept, refuse-unless, first-one, first-append, refused-append, faultless}
+use Rattle.model.specs.RefusalPromises.{longNumbers, among, Gives, Refuses, fileNumbers, just, crowdNumbers, LeavesBut, later, Goes}
+use Rattle.laws.specs.Refusals.Laws.{or-false, by-bool, by-le, and-true, not-false, not-refused, all-accept, refuse-unless, first-one, first-append, refused-append, faultless}
 use Rattle.laws.specs.State.Continuing.{continued-crowded, continued-high, continued-low}
 use Rattle.laws.specs.State.Flight.{sound-true}
 use Rattle.theory.specs.State.Flight.{none-ones, none-sum, delay-none}
 use Rattle.theory.specs.Promises.Kept.{ran}
-use Rattle.theory.specs.Refusals.Order.{gives-fault, faulty-if, gives-first, refuses, positive, going-order, running-verdict}
+use Rattle.theory.specs.Refusals.Order.{within, gives-fault, faulty-if, gives-first, refuses, positive, going-order, running-verdict}
 
 -- How a continuing goes ------------------------------------------------------------------------------------------------------------------
 
@@ -37,7 +37,7 @@ by-check : {A : Type 0} (c : Checked) → (c ≡ Accepted → A) → ((r : Refus
 by-check Accepted f g = f refl
 by-check (Refused r) f g = g r refl
 
-pub goes : (F : Format) (net : List Cell) (f n : ℕ) (s : List ℕ) → Goes F net f n s (continued F net f n s)
+pub goes : (F : Format) (net : Netlist) (f n : ℕ) (s : List ℕ) → Goes F net f n s (continued F net f n s)
 unfolding continued later
 goes F net f zero s =
     record {
@@ -105,14 +105,14 @@ goes F net f (suc n) s =
 
 -- The number -----------------------------------------------------------------------------------------------------------------------------
 
-crowding-gives : (F : Format) (net : List Cell) (s t : List ℕ) → Gives (crowdNumbers F) (crowding F net s t)
+crowding-gives : (F : Format) (net : Netlist) (s t : List ℕ) → Gives (crowdNumbers F) (crowding F net s t)
 unfolding crowding crowded
 crowding-gives Full net s t = inl refl
 crowding-gives Compact net s t =
-    gives-fault (just 26) (crowded Compact net s t) (length net)
-    (λ k. faulty-if (eqb (cellAt net k .kind) 34 && (high (nowAt Compact t (cellAt net k .a)) && ltb 1 (leftAt Compact s k))) 26)
+    gives-fault (just 26) (crowded Compact net s t) (length (net .cells))
+    (λ k. faulty-if (eqb (cellAt (net .cells) k .kind) 34 && (high (nowAt Compact t (cellAt (net .cells) k .a)) && ltb 1 (leftAt Compact s k))) 26)
 
-course-gives : (F : Format) (net : List Cell) (f n : ℕ) (s : List ℕ) → Gives (crowdNumbers F) (continued F net f n s .check)
+course-gives : (F : Format) (net : Netlist) (f n : ℕ) (s : List ℕ) → Gives (crowdNumbers F) (continued F net f n s .check)
 unfolding continued
 course-gives F net f zero s = inl refl
 course-gives F net f (suc n) s =
@@ -129,7 +129,7 @@ crowd-number : (F : Format) (k : ℕ) → among k (crowdNumbers F) ≡ true → 
 crowd-number Full k e = absurd (true≢false (sym e))
 crowd-number Compact k e = by-bool (eqb k 26) (λ z. eqb-true k 26 z) (λ z. absurd (true≢false (sym e ∙ ap (λ (b : Bool). b || false) z)))
 
-all-positive : (F : Format) → positive (fileNumbers ∷ just 14 ∷ just 15 ∷ just 16 ∷ crowdNumbers F ∷ []) ≡ true
+all-positive : (F : Format) → positive (fileNumbers ∷ longNumbers F ∷ just 14 ∷ just 15 ∷ just 16 ∷ crowdNumbers F ∷ []) ≡ true
 all-positive Full = refl
 all-positive Compact = refl
 
@@ -160,13 +160,17 @@ module _ (F : Format) (cs : List Checked) (file : List ℕ) (o : Course) (lent :
   going-kept r e = rw e refl
 
 abbrev runNumbers : List ℕ
-runNumbers = 9 ∷ 10 ∷ 11 ∷ 12 ∷ 14 ∷ 15 ∷ 16 ∷ []
+runNumbers = 9 ∷ 10 ∷ 11 ∷ 12 ∷ 27 ∷ 14 ∷ 15 ∷ 16 ∷ []
+
+all-among : (F : Format) → within runNumbers (fileNumbers ∷ longNumbers F ∷ just 14 ∷ just 15 ∷ just 16 ∷ []) ≡ true
+all-among Full = refl
+all-among Compact = refl
 
 pub continue-refuses : (F : Format) (file : List ℕ) (n : ℕ) (lent : List ℕ) →
     let r = continueCall F file n lent in
     let c = verdict (r .answer .outcome) in
-    let on = continued F (cellsOf file) (finishOf file) n lent in
-    Refuses (fileNumbers ∷ just 14 ∷ just 15 ∷ just 16 ∷ crowdNumbers F ∷ []) (continueChecks F file n lent ++ (on .check ∷ [])) c
+    let on = continued F (netOf file) (finishOf file) n lent in
+    Refuses (fileNumbers ∷ longNumbers F ∷ just 14 ∷ just 15 ∷ just 16 ∷ crowdNumbers F ∷ []) (continueChecks F file n lent ++ (on .check ∷ [])) c
     × LeavesBut 26 c lent (r .lent) × (numberOf c ≡ 26 → r .lent ≡ on .state)
 unfolding continueCall
 continue-refuses F file n lent =
@@ -180,10 +184,10 @@ continue-refuses F file n lent =
     cs = continueChecks F file n lent
 
     on : Course
-    on = continued F (cellsOf file) (finishOf file) n lent
+    on = continued F (netOf file) (finishOf file) n lent
 
     gives : Gives (crowdNumbers F) (on .check)
-    gives = course-gives F (cellsOf file) (finishOf file) n lent
+    gives = course-gives F (netOf file) (finishOf file) n lent
 
     last : first cs ≡ Accepted → first (cs ++ (on .check ∷ [])) ≡ on .check
     last e = first-append cs (on .check ∷ []) e ∙ sym (first-one (on .check))
@@ -203,25 +207,26 @@ continue-refuses F file n lent =
         let q : r .number ≡ 26 = ap numberOf (sym (refused-append cs (on .check ∷ []) r e)) ∙ k in
         ⊎-elim (λ a. not-refused (sym e ∙ a))
         (λ g. absurd (true≢false (sym g ∙ ap (λ (c : Checked). among (numberOf c) runNumbers) e ∙ ap (λ (i : ℕ). among i runNumbers) q)))
-        (gives-first runNumbers (fileNumbers ∷ just 14 ∷ just 15 ∷ just 16 ∷ []) (continueChecks F file n lent) refl (going-order F file n lent [] [] tt)))
+        (gives-first runNumbers (fileNumbers ∷ longNumbers F ∷ just 14 ∷ just 15 ∷ just 16 ∷ []) (continueChecks F file n lent) (all-among F)
+        (going-order F file n lent [] [] tt)))
 
 -- A start --------------------------------------------------------------------------------------------------------------------------------
 
-sound-at : (cs : List Cell) (s : List ℕ) (k : ℕ) → cellsSound Compact cs s k ≡ true → (i : ℕ) → i < length cs → cellSound Compact (getD cs i noCell) s (k + i) ≡ true
+sound-at : (w : ℕ) (cs : List Cell) (s : List ℕ) (k : ℕ) → cellsSound Compact w cs s k ≡ true → (i : ℕ) → i < length cs → cellSound Compact w (getD cs i noCell) s (k + i) ≡ true
 unfolding cellsSound
-sound-at [] s k e i l = absurd (omega arith)
-sound-at (c ∷ cs) s k e zero l = rw add-zero (and-true (cellSound Compact c s k) _ e .0)
-sound-at (c ∷ cs) s k e (suc i) l =
+sound-at w [] s k e i l = absurd (omega arith)
+sound-at w (c ∷ cs) s k e zero l = rw add-zero (and-true (cellSound Compact w c s k) _ e .0)
+sound-at w (c ∷ cs) s k e (suc i) l =
     let q : k + 1 + i ≡ k + suc i = omega arith in
-    rw q at (sound-at cs s (k + 1) (and-true (cellSound Compact c s k) _ e .1) i (omega arith))
+    rw q at (sound-at w cs s (k + 1) (and-true (cellSound Compact w c s k) _ e .1) i (omega arith))
 
 -- the number of a line, in a state that 15 lets pass
-left-low : (c : Cell) (s : List ℕ) (k : ℕ) → c .kind ≡ 34 → cellSound Compact c s k ≡ true → leftAt Compact s k ≤ c .delay
+left-low : (w : ℕ) (c : Cell) (s : List ℕ) (k : ℕ) → c .kind ≡ 34 → cellSound Compact w c s k ≡ true → leftAt Compact s k ≤ c .delay
 unfolding cellSound lineSound
-left-low c s k q e =
+left-low w c s k q e =
     let a = and-true (not (control (c .kind)) || (leb (nowAt Compact s k) 1 && leb (beforeAt Compact s k) 1)) _ e .1 in
     let b = and-true (leb (getD s (base Compact k + 4) 0) (bit (merges (c .kind))) && leb (getD s (base Compact k + 5) 0) (bit (eqb (c .kind) 38))) _ a .1 in
-    let l = leb-true (leftAt Compact s k) (pick (eqb (c .kind) 34) (c .delay) 0) (and-true (leb (leftAt Compact s k) (pick (eqb (c .kind) 34) (c .delay) 0)) _ b .0) in
+    let l = leb-true (leftAt Compact s k) (pick (eqb (c .kind) 34) (c .delay) (mostLeft Compact w c)) (and-true (leb (leftAt Compact s k) (pick (eqb (c .kind) 34) (c .delay) (mostLeft Compact w c))) _ b .0) in
     rw (eq-eqb (c .kind) 34 q) at l
 
 -- where none of its last d inputs was 1, it is 0
@@ -233,32 +238,32 @@ left-none s k d l h =
     let i : ℕ = d - leftAt Compact s k in
     absurd (omega (arith, rw (eq-eqb (leftAt Compact s k + i) d (omega arith)) at (h i (omega arith)))))
 
-none-crowded : (F : Format) (net : List Cell) (s t : List ℕ) → sound F net s ≡ true → flightOf s ≡ 0 → crowding F net s t ≡ Accepted
+none-crowded : (F : Format) (net : Netlist) (s t : List ℕ) → sound F net s ≡ true → flightOf s ≡ 0 → crowding F net s t ≡ Accepted
 unfolding crowding
 none-crowded Full net s t e z = refl
 none-crowded Compact net s t e z =
-    faultless (crowded Compact net s t) 0 (length net)
+    faultless (crowded Compact net s t) 0 (length (net .cells))
     (λ k l h. unfold crowded in
-    by-bool (eqb (cellAt net k .kind) 34)
-    (λ q. rw (q, le-ltb 1 (leftAt Compact s k) (few k (omega arith) (eqb-true _ _ q))) (by-bool (high (nowAt Compact t (cellAt net k .a))) (λ b. rw b refl) (λ b. rw b refl)))
+    by-bool (eqb (cellAt (net .cells) k .kind) 34)
+    (λ q. rw (q, le-ltb 1 (leftAt Compact s k) (few k (omega arith) (eqb-true _ _ q))) (by-bool (high (nowAt Compact t (cellAt (net .cells) k .a))) (λ b. rw b refl) (λ b. rw b refl)))
     (λ q. rw q refl))
   where
-    cells : cellsSound Compact net s 0 ≡ true
-    cells = unfold sound in and-true (eqb (flightOf s) (flight Compact net s)) (cellsSound Compact net s 0) e .1
+    cells : cellsSound Compact (net .pulse) (net .cells) s 0 ≡ true
+    cells = unfold sound in and-true (eqb (flightOf s) (flight Compact net s)) (cellsSound Compact (net .pulse) (net .cells) s 0) e .1
 
-    few : (k : ℕ) → k < length net → cellAt net k .kind ≡ 34 → leftAt Compact s k ≤ 1
+    few : (k : ℕ) → k < length (net .cells) → cellAt (net .cells) k .kind ≡ 34 → leftAt Compact s k ≤ 1
     few k l q =
         let o : 0 + k ≡ k = omega arith in
-        left-none s k (cellAt net k .delay) (left-low (cellAt net k) s k q (rw o at (sound-at net s 0 cells k l)))
-        (none-ones (lineAt Compact net s k) (cellAt net k .delay)
-        (delay-none (lineAt Compact net s k) (heldAt Compact s k) (cellAt net k) q
-        (rw o at (none-sum (lineAt Compact net s) (heldAt Compact s) net 0 (sym (sound-true Compact net s e) ∙ z) k l))))
+        left-none s k (cellAt (net .cells) k .delay) (left-low (net .pulse) (cellAt (net .cells) k) s k q (rw o at (sound-at (net .pulse) (net .cells) s 0 cells k l)))
+        (none-ones (lineAt Compact net s k) (cellAt (net .cells) k .delay)
+        (delay-none (lineAt Compact net s k) (heldAt Compact s k) (remainingAt Compact s k) (cellAt (net .cells) k) q
+        (rw o at (none-sum (lineAt Compact net s) (heldAt Compact s) (remainingAt Compact s) (net .cells) 0 (sym (sound-true Compact net s e) ∙ z) k l))))
 
 pub start-free : (F : Format) (file lent : List ℕ) → verdict (startCall F file lent .answer .outcome) ≡ Accepted
-    → crowding F (cellsOf file) lent (stepState F (cellsOf file) true lent) ≡ Accepted
+    → crowding F (netOf file) lent (stepState F (netOf file) true lent) ≡ Accepted
 unfolding startCall
 start-free F file lent e =
     let checks = ran F (first (startChecks F file lent)) file _ 1 lent e in
     let all = all-accept (startChecks F file lent) checks in
-    let idle : flightOf lent ≤ 0 = ltb-false 0 (flightOf lent) (refuse-unless (busy lent) 23 0 (all 4)) in
-    none-crowded F (cellsOf file) lent _ (not-false _ (refuse-unless _ 15 0 (all 2))) (omega arith)
+    let idle : flightOf lent ≤ 0 = ltb-false 0 (flightOf lent) (or-false (ltb 0 (flightOf lent)) _ (refuse-unless (busy F file lent) 23 0 (all 5)) .0) in
+    none-crowded F (netOf file) lent _ (not-false _ (refuse-unless _ 15 0 (all 3))) (omega arith)

@@ -14,7 +14,7 @@ use Rattle.laws.specs.NetlistFile.ReadWrite.{writing-verdict}
 use Rattle.model.specs.declared.Node.{Node}
 use Rattle.model.specs.declared.Cell.{Cell}
 use Rattle.model.specs.declared.Format.{Format}
-use Rattle.model.specs.declared.Format.the-variants.{Full}
+use Rattle.model.specs.declared.Format.the-variants.{Full, Compact}
 use Rattle.model.specs.declared.Checked.{Checked}
 use Rattle.model.specs.declared.Checked.the-variants.{Accepted, Refused}
 use Rattle.model.specs.declared.Answer.{Answer}
@@ -23,14 +23,14 @@ use Rattle.model.specs.Refusals.{refuse, numberOf, refuseIf, first, firstFault,
 use Rattle.model.specs.Program.{timeIn, nodeAt, nodesAt, nodeCount, rowOf, stmtAt, least, programOf, roots, Code, Stmt, ok, tick, assign, assignElem, seq, par, ite, while, repeat, loop, exit, call, preorderE, preorder}
 use Rattle.model.specs.Procedures.{inline, inlined, reached}
 use Rattle.model.specs.ProgramChecks.{unusedSet, absent, nodeFault, children, reading, rootSorts, searched, inRoots, delayFault, sharedFault, shares, conflictFault, conflicts, programLengthWrong, tooManyProcedures, programChecks, checkOf}
-use Rattle.model.specs.Rules.{Run, done, atEnd, atExit, still, run}
+use Rattle.model.specs.Rules.{Costs, Run, done, atEnd, atExit, still, run}
 use Rattle.model.specs.Circuit.{high, cellAt, control, memories, pastMemories}
-use Rattle.model.specs.NetlistFile.{wordSum, blockAt, headerRight, placed, arrayPlaced, keeps, fileLengthWrong, sumFault, countWrong, headerFault, cellFault, netChecks, netCheck, fileChecks, fileCheck, blocksFor, cellsOf, countOf, finishOf}
-use Rattle.model.specs.TimeTables.{byteWrong, tableFault, tableSumWrong, tableChecks, TimeTable, builtIn, given, verdictOf, Given, load}
+use Rattle.model.specs.NetlistFile.{netOf, pulseOf, pulseWrong, wordSum, blockAt, headerRight, placed, arrayPlaced, keeps, fileLengthWrong, sumFault, countWrong, headerFault, cellFault, netChecks, netCheck, fileChecks, fileCheck, blocksFor, cellsOf, countOf, finishOf}
+use Rattle.model.specs.TimeTables.{givenChecks, givenCheck, byteWrong, tableFault, tableSumWrong, tableChecks, TimeTable, builtIn, given, verdictOf, Given, load}
 use Rattle.model.specs.State.{instantOf, stateSize, nowAt, sound}
-use Rattle.model.specs.Calls.{verdict, writtenVerdict, short, writing, compiledFile, netlistChecks, wordAt, shows, running, continueChecks, overBudget, fullRunChecks, referenceAnswer, answering}
+use Rattle.model.specs.Calls.{tooLong, formatCheck, verdict, writtenVerdict, short, writing, compiledFile, netlistChecks, wordAt, shows, running, continueChecks, overBudget, fullRunChecks, referenceAnswer, answering}
 use Rattle.model.specs.CellSlices.{miscounted, placing}
-use Rattle.model.specs.RefusalPromises.{among, Gives, InOrder, Refuses, tableNumbers, programNumbers, fileNumbers, just, Leaves}
+use Rattle.model.specs.RefusalPromises.{givenNumbers, longNumbers, among, Gives, InOrder, Refuses, tableNumbers, programNumbers, fileNumbers, just, Leaves}
 use Rattle.laws.specs.Refusals.Laws.{and-true, not-refused, first-found, fault-number}
 use Rattle.theory.specs.Promises.Replay.{no-refusal}
 
@@ -88,11 +88,11 @@ reading-gives (a ∷ ns) (w ∷ ws) i =
     (reading-gives ns (children (a .kind) ++ ws) (i + 1)) (gives-one (5 ∷ 6 ∷ []) 5 i refl)
 
 -- each of these lists has no number but those of a list
-abbrev amid : List ℕ → List ℕ → Bool
+abbrev pub amid : List ℕ → List ℕ → Bool
 amid whole [] = true
 amid whole (n ∷ ns) = among n whole && amid whole ns
 
-abbrev within : List ℕ → List (List ℕ) → Bool
+abbrev pub within : List ℕ → List (List ℕ) → Bool
 within whole [] = true
 within whole (ns ∷ nss) = amid whole ns && within whole nss
 
@@ -152,10 +152,10 @@ roots-give k test h r (P ∷ Ps) i =
 abbrev checkNumbers : List (List ℕ)
 checkNumbers = just 1 ∷ (2 ∷ 3 ∷ 4 ∷ []) ∷ (5 ∷ 6 ∷ []) ∷ just 22 ∷ just 24 ∷ just 7 ∷ just 25 ∷ just 8 ∷ []
 
-pub program-order : (τ : ℕ → ℕ) (k : ℕ) (s : List ℕ) → InOrder checkNumbers (programChecks τ k s)
+pub program-order : (τ : ℕ → ℕ) (w k : ℕ) (s : List ℕ) → InOrder checkNumbers (programChecks τ w k s)
 unfolding delayFault sharedFault conflictFault
-program-order τ k s =
-    let S = programOf k s in
+program-order τ w k s =
+    let S = programOf w k s in
     let bodies = S .bodies in (
       gives-if (tooManyProcedures k || programLengthWrong s) 1 0,
       (
@@ -167,7 +167,7 @@ program-order τ k s =
             (
               roots-give 24 _ (λ r P i. search-gives 24 _ _ (λ b i. inl refl) (λ p i. gives-if (leb r p) 24 i) false P i) 0 (roots S) 0,
               (
-                gives-fault (just 7) (delayFault τ s) (nodeCount s) (λ i. faulty-if (ltb (nodeAt s i .delay) (least τ (stmtAt s i))) 7),
+                gives-fault (just 7) (delayFault τ w s) (nodeCount s) (λ i. faulty-if (ltb (nodeAt s i .delay) (least τ w (stmtAt s i))) 7),
                 (
                   gives-fault (just 25) (sharedFault bodies s) (nodeCount s)
                       (λ i. faulty-if (shares (reached bodies) (length bodies) (stmtAt s i)) 25),
@@ -187,8 +187,8 @@ program-order τ k s =
 pub check-gives : (options : Options) (s : List ℕ) → Gives programNumbers (checkOf options s)
 unfolding checkOf
 check-gives options s =
-    gives-first programNumbers checkNumbers (programChecks (timeIn (options .times)) (options .procedures) s) refl
-    (program-order (timeIn (options .times)) (options .procedures) s)
+    gives-first programNumbers checkNumbers (programChecks (timeIn (options .times)) (options .pulse) (options .procedures) s) refl
+    (program-order (timeIn (options .times)) (options .pulse) (options .procedures) s)
 
 pub table-order : (file : List ℕ) → InOrder (just 19 ∷ just 20 ∷ just 21 ∷ []) (tableChecks file)
 unfolding tableFault
@@ -202,9 +202,16 @@ unfolding verdictOf
 verdict-gives builtIn = inl refl
 verdict-gives (given file) = gives-first tableNumbers (just 19 ∷ just 20 ∷ just 21 ∷ []) (tableChecks file) refl (table-order file)
 
-pub table-gives : (G : Given) → Gives tableNumbers (load G .checked)
+table-gives : (G : Given) → Gives tableNumbers (load G .checked)
 unfolding load
 table-gives G = verdict-gives (G .table)
+
+pub given-order : (G : Given) → InOrder (just 27 ∷ tableNumbers ∷ []) (givenChecks (load G))
+given-order G = (gives-if (pulseWrong (load G .pulse)) 27 0, (table-gives G, tt))
+
+pub given-gives : (G : Given) → Gives givenNumbers (givenCheck (load G))
+unfolding givenCheck
+given-gives G = gives-first givenNumbers (just 27 ∷ tableNumbers ∷ []) (givenChecks (load G)) refl (given-order G)
 
 pub net-gives : (net : List Cell) (f : ℕ) → Gives (just 12) (netCheck net f)
 unfolding netCheck cellFault
@@ -229,8 +236,8 @@ file-order s =
       (
         gives-fault (just 10) (sumFault s) m (λ b. faulty-if (not (eqb (wordSum (blockAt s b) % 65536) 0)) 10),
         (
-          gives-if (countWrong m (countOf s) (finishOf s)) 11 0,
-          (gives-fault (just 11) (headerFault s) m (λ b. faulty-if (not (headerRight (countOf s) (finishOf s) b (blockAt s b))) 11), (net-gives (cellsOf s) (finishOf s), tt)),
+          gives-if (countWrong m (countOf s) (finishOf s) || pulseWrong (pulseOf s)) 11 0,
+          (gives-fault (just 11) (headerFault s) m (λ b. faulty-if (not (headerRight (pulseOf s) (countOf s) (finishOf s) b (blockAt s b))) 11), (net-gives (cellsOf s) (finishOf s), tt)),
         ),
       ),
     )
@@ -238,6 +245,11 @@ file-order s =
 pub file-gives : (s : List ℕ) → Gives fileNumbers (fileCheck s)
 unfolding fileCheck
 file-gives s = gives-first fileNumbers (just 9 ∷ just 10 ∷ just 11 ∷ just 11 ∷ just 12 ∷ []) (fileChecks s) refl (file-order s)
+
+pub format-gives : (F : Format) (file : List ℕ) → Gives (longNumbers F) (formatCheck F file)
+unfolding tooLong
+format-gives Full file = inl refl
+format-gives Compact file = gives-if (ltb 1 (pulseOf file)) 27 0
 
 pub short-gives : (has needs : ℕ) → Gives (just 14) (short has needs)
 short-gives has needs = gives-if (ltb has needs) 14 0
@@ -308,9 +320,9 @@ pub write-refuses : (nss : List (List ℕ)) (cs : List Checked) → positive nss
 write-refuses nss cs w o result n f lent =
     rw (writing-verdict (first cs) result n f lent) (refuses nss cs w o, writing-leaves (first cs) result n f lent)
 
-pub reference-runs : (n : ℕ) (P : Stmt) (words : List ℕ) → verdict (referenceAnswer n (run n P (wordAt words)) .outcome) ≡ Accepted
+pub reference-runs : (κ : Costs) (n : ℕ) (P : Stmt) (words : List ℕ) → verdict (referenceAnswer n (run κ n P (wordAt words)) .outcome) ≡ Accepted
 unfolding referenceAnswer verdict
-reference-runs n P words = go (run n P (wordAt words))
+reference-runs κ n P words = go (run κ n P (wordAt words))
   where
     go : (r : Run) → verdict (referenceAnswer n r .outcome) ≡ Accepted
     go (done atEnd t σ) = refl
@@ -324,16 +336,19 @@ pub run-order : (options : Options) (program words : List ℕ) (n : ℕ) (forFil
     → InOrder (programNumbers ∷ just 13 ∷ just 14 ∷ just 14 ∷ just 14 ∷ []) (fullRunChecks options program words n forFile lent)
 run-order options program words n forFile lent =
     let file = compiledFile options program in
-    (check-gives options program, (budget-gives n, (short-gives (length words) 544, (short-gives (length forFile) (length file), (short-gives (length lent) (stateSize Full (cellsOf file)), tt)))))
+    (check-gives options program, (budget-gives n, (short-gives (length words) 544, (short-gives (length forFile) (length file), (short-gives (length lent) (stateSize Full (netOf file)), tt)))))
 
 -- continuing by n, and what more is checked after it
 pub going-order : (F : Format) (file : List ℕ) (n : ℕ) (lent : List ℕ) (nss : List (List ℕ)) (cs : List Checked) → InOrder nss cs
-    → InOrder (fileNumbers ∷ just 14 ∷ just 15 ∷ just 16 ∷ nss) (continueChecks F file n lent ++ cs)
+    → InOrder (fileNumbers ∷ longNumbers F ∷ just 14 ∷ just 15 ∷ just 16 ∷ nss) (continueChecks F file n lent ++ cs)
 going-order F file n lent nss cs o = (
   file-gives file,
   (
-    short-gives (length lent) (stateSize F (cellsOf file)),
-    (gives-if (not (sound F (cellsOf file) lent)) 15 0, (gives-if (ltb 1000000 (instantOf lent + n)) 16 0, o)),
+    format-gives F file,
+    (
+      short-gives (length lent) (stateSize F (netOf file)),
+      (gives-if (not (sound F (netOf file) lent)) 15 0, (gives-if (ltb 1000000 (instantOf lent + n)) 16 0, o)),
+    ),
   ),
 )
 

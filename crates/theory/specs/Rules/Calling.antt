@@ -10,7 +10,7 @@ use native.Mathlib.Omega.{arith}
 use lib.ListN.{length}
 use Rattle.model.specs.Program.{Expr, Code, Stmt, ok, tick, assign, assignElem, seq, par, ite, while, repeat, loop, exit, call, Program}
 use Rattle.model.specs.Procedures.{bodyAt, inline, inlined, meaning}
-use Rattle.model.specs.Rules.{Store, Course, WhileEnds, WhileLeaves, RepeatEnds, RepeatLeaves, LoopEnds, Ends, Leaves}
+use Rattle.model.specs.Rules.{Costs, extended, Postponed, Store, Course, WhileEnds, WhileLeaves, RepeatEnds, RepeatLeaves, LoopEnds, Ends, Leaves}
 use Rattle.model.specs.Calling.{EndsIn, LeavesIn, Obeying}
 use Rattle.laws.specs.Program.Fit.{Earlier, exits}
 use Rattle.laws.specs.Program.Admitted.{Admitted, flat-is, plain-closed}
@@ -47,17 +47,22 @@ module _ (R R′ L L′ : Course) (h : (σ : Store) (t : ℕ) (σ′ : Store) �
   loop-ends zero σ t σ′ w = l σ t σ′ w
   loop-ends (suc n) σ t σ′ w = (w .0, w .1, w .2, h σ (w .0) (w .1) (w .3), loop-ends n (w .1) (w .2) σ′ (w .4), w .5)
 
+postponed-same : (n : ℕ) (R R′ : Course) → ((σ : Store) (t : ℕ) (σ′ : Store) → R σ t σ′ ↔ R′ σ t σ′)
+    → (σ : Store) (t : ℕ) (σ′ : Store) → Postponed n R σ t σ′ ↔ Postponed n R′ σ t σ′
+postponed-same zero R R′ h σ t σ′ = h σ t σ′
+postponed-same (suc n) R R′ h σ t σ′ = (λ w. (w .0, h σ (w .0) σ′ .0 (w .1), w .2), λ w. (w .0, h σ (w .0) σ′ .1 (w .1), w .2))
+
 -- Statements -----------------------------------------------------------------------------------------------------------------------------
 
-module _ (bodies : List Code) (C : ℕ → Course) (k : ℕ) (closed : (p : ℕ) → exits (inlined bodies p) ≡ false)
-    (told : (p : ℕ) → p < k → (σ : Store) (t : ℕ) (σ′ : Store) → C p σ t σ′ ↔ Ends (inlined bodies p) σ t σ′) where
+module _ (κ : Costs) (bodies : List Code) (C : ℕ → Course) (k : ℕ) (closed : (p : ℕ) → exits (inlined bodies p) ≡ false)
+    (told : (p : ℕ) → p < k → (σ : Store) (t : ℕ) (σ′ : Store) → C p σ t σ′ ↔ Ends κ (inlined bodies p) σ t σ′) where
   abbrev I : ℕ → Stmt
   I = inlined bodies
 
   abbrev Same : Code → Type 0
   Same P =
       (σ : Store) (t : ℕ) (σ′ : Store)
-      → (EndsIn bodies C P σ t σ′ ↔ Ends (inline I P) σ t σ′) × (LeavesIn bodies C P σ t σ′ ↔ Leaves (inline I P) σ t σ′)
+      → (EndsIn κ bodies C P σ t σ′ ↔ Ends κ (inline I P) σ t σ′) × (LeavesIn κ bodies C P σ t σ′ ↔ Leaves κ (inline I P) σ t σ′)
 
   same : (P : Code) → Earlier k P → Same P
   unfolding EndsIn LeavesIn Ends Leaves inline
@@ -104,40 +109,42 @@ module _ (bodies : List Code) (C : ℕ → Course) (k : ℕ) (closed : (p : ℕ)
       )
   same (while d e P) g σ t σ′ =
       let p = same P (g .2) in
-      let R = EndsIn bodies C P in
-      let L = LeavesIn bodies C P in
-      let R′ = Ends (inline I P) in
-      let L′ = Leaves (inline I P) in (
+      let R = EndsIn κ bodies C P in
+      let L = LeavesIn κ bodies C P in
+      let R′ = Ends κ (inline I P) in
+      let L′ = Leaves κ (inline I P) in (
         (
-          (λ w. (w .0, while-ends R R′ L L′ (λ σ t σ′. p σ t σ′ .0 .0) (λ σ t σ′. p σ t σ′ .1 .0) d e (w .0) σ t σ′ (w .1))),
-          (λ w. (w .0, while-ends R′ R L′ L (λ σ t σ′. p σ t σ′ .0 .1) (λ σ t σ′. p σ t σ′ .1 .1) d e (w .0) σ t σ′ (w .1))),
+          (λ w. (w .0, while-ends R R′ L L′ (λ σ t σ′. p σ t σ′ .0 .0) (λ σ t σ′. p σ t σ′ .1 .0) (extended (κ .latch) d) e (w .0) σ t σ′ (w .1))),
+          (λ w. (w .0, while-ends R′ R L′ L (λ σ t σ′. p σ t σ′ .0 .1) (λ σ t σ′. p σ t σ′ .1 .1) (extended (κ .latch) d) e (w .0) σ t σ′ (w .1))),
         ),
         (
-          (λ w. (w .0, while-leaves R R′ L L′ (λ σ t σ′. p σ t σ′ .0 .0) (λ σ t σ′. p σ t σ′ .1 .0) d e (w .0) σ t σ′ (w .1))),
-          (λ w. (w .0, while-leaves R′ R L′ L (λ σ t σ′. p σ t σ′ .0 .1) (λ σ t σ′. p σ t σ′ .1 .1) d e (w .0) σ t σ′ (w .1))),
+          (λ w. (w .0, while-leaves R R′ L L′ (λ σ t σ′. p σ t σ′ .0 .0) (λ σ t σ′. p σ t σ′ .1 .0) (extended (κ .latch) d) e (w .0) σ t σ′ (w .1))),
+          (λ w. (w .0, while-leaves R′ R L′ L (λ σ t σ′. p σ t σ′ .0 .1) (λ σ t σ′. p σ t σ′ .1 .1) (extended (κ .latch) d) e (w .0) σ t σ′ (w .1))),
         ),
       )
   same (repeat d e P) g σ t σ′ =
       let p = same P (g .2) in
-      let R = EndsIn bodies C P in
-      let L = LeavesIn bodies C P in
-      let R′ = Ends (inline I P) in
-      let L′ = Leaves (inline I P) in (
+      let R = Postponed (κ .latch) (EndsIn κ bodies C P) in
+      let L = Postponed (κ .latch) (LeavesIn κ bodies C P) in
+      let R′ = Postponed (κ .latch) (Ends κ (inline I P)) in
+      let L′ = Postponed (κ .latch) (Leaves κ (inline I P)) in
+      let h = postponed-same (κ .latch) (EndsIn κ bodies C P) (Ends κ (inline I P)) (λ σ t σ′. p σ t σ′ .0) in
+      let l = postponed-same (κ .latch) (LeavesIn κ bodies C P) (Leaves κ (inline I P)) (λ σ t σ′. p σ t σ′ .1) in (
         (
-          (λ w. (w .0, repeat-ends R R′ L L′ (λ σ t σ′. p σ t σ′ .0 .0) (λ σ t σ′. p σ t σ′ .1 .0) d e (w .0) σ t σ′ (w .1))),
-          (λ w. (w .0, repeat-ends R′ R L′ L (λ σ t σ′. p σ t σ′ .0 .1) (λ σ t σ′. p σ t σ′ .1 .1) d e (w .0) σ t σ′ (w .1))),
+          (λ w. (w .0, repeat-ends R R′ L L′ (λ σ t σ′. h σ t σ′ .0) (λ σ t σ′. l σ t σ′ .0) d e (w .0) σ t σ′ (w .1))),
+          (λ w. (w .0, repeat-ends R′ R L′ L (λ σ t σ′. h σ t σ′ .1) (λ σ t σ′. l σ t σ′ .1) d e (w .0) σ t σ′ (w .1))),
         ),
         (
-          (λ w. (w .0, repeat-leaves R R′ L L′ (λ σ t σ′. p σ t σ′ .0 .0) (λ σ t σ′. p σ t σ′ .1 .0) d e (w .0) σ t σ′ (w .1))),
-          (λ w. (w .0, repeat-leaves R′ R L′ L (λ σ t σ′. p σ t σ′ .0 .1) (λ σ t σ′. p σ t σ′ .1 .1) d e (w .0) σ t σ′ (w .1))),
+          (λ w. (w .0, repeat-leaves R R′ L L′ (λ σ t σ′. h σ t σ′ .0) (λ σ t σ′. l σ t σ′ .0) d e (w .0) σ t σ′ (w .1))),
+          (λ w. (w .0, repeat-leaves R′ R L′ L (λ σ t σ′. h σ t σ′ .1) (λ σ t σ′. l σ t σ′ .1) d e (w .0) σ t σ′ (w .1))),
         ),
       )
   same (loop d P) g σ t σ′ =
       let p = same P (g .1) in
-      let R = EndsIn bodies C P in
-      let L = LeavesIn bodies C P in
-      let R′ = Ends (inline I P) in
-      let L′ = Leaves (inline I P) in (
+      let R = EndsIn κ bodies C P in
+      let L = LeavesIn κ bodies C P in
+      let R′ = Ends κ (inline I P) in
+      let L′ = Leaves κ (inline I P) in (
         (
           (λ w. (w .0, loop-ends R R′ L L′ (λ σ t σ′. p σ t σ′ .0 .0) (λ σ t σ′. p σ t σ′ .1 .0) d (w .0) σ t σ′ (w .1))),
           (λ w. (w .0, loop-ends R′ R L′ L (λ σ t σ′. p σ t σ′ .0 .1) (λ σ t σ′. p σ t σ′ .1 .1) d (w .0) σ t σ′ (w .1))),
@@ -150,42 +157,42 @@ module _ (bodies : List Code) (C : ℕ → Course) (k : ℕ) (closed : (p : ℕ)
     (
       (λ w. (d, σ, w .0, (refl, refl), told p (g .1) σ (w .0) σ′ .0 (w .1), w .2)),
       (λ w.
-          let q : Ends (I p) σ (w .2) σ′ = subst (λ (τ : Store). Ends (I p) τ (w .2) σ′) (w .3 .1) (w .4) in
+          let q : Ends κ (I p) σ (w .2) σ′ = subst (λ (τ : Store). Ends κ (I p) τ (w .2) σ′) (w .3 .1) (w .4) in
           (w .2, told p (g .1) σ (w .2) σ′ .1 q, omega (arith, w .3 .0, w .5))),
     ),
     (
       (λ w. absurd w),
-      (λ w. ⊎-elim (λ v. v) (λ v. never-left (I p) (closed p) (v .1) (v .2) σ′ (v .4)) w),
+      (λ w. ⊎-elim (λ v. v) (λ v. never-left κ (I p) (closed p) (v .1) (v .2) σ′ (v .4)) w),
     ),
   )
 
 -- Programs -------------------------------------------------------------------------------------------------------------------------------
 
-module _ (S : Program) (A : Admitted S) where
+module _ (κ : Costs) (S : Program) (A : Admitted S) where
   closed : (p : ℕ) → exits (inlined (S .bodies) p) ≡ false
   closed = plain-closed S A
 
   -- what the bodies mean obeys the rules
-  pub meanings-obey : Obeying (S .bodies) (λ p. Ends (inlined (S .bodies) p))
+  pub meanings-obey : Obeying κ (S .bodies) (λ p. Ends κ (inlined (S .bodies) p))
   meanings-obey p l σ t σ′ =
       let s =
-      same (S .bodies) (λ p. Ends (inlined (S .bodies) p)) p closed (λ q o σ t σ′. (λ z. z, λ z. z)) (bodyAt (S .bodies) p) (A .body p .earlier) σ t σ′ .0 in (
-        (λ w. s .1 (subst (λ (P : Stmt). Ends P σ t σ′) (flat-is S A p) w)),
-        (λ w. subst (λ (P : Stmt). Ends P σ t σ′) (sym (flat-is S A p)) (s .0 w)),
+      same κ (S .bodies) (λ p. Ends κ (inlined (S .bodies) p)) p closed (λ q o σ t σ′. (λ z. z, λ z. z)) (bodyAt (S .bodies) p) (A .body p .earlier) σ t σ′ .0 in (
+        (λ w. s .1 (subst (λ (P : Stmt). Ends κ P σ t σ′) (flat-is S A p) w)),
+        (λ w. subst (λ (P : Stmt). Ends κ P σ t σ′) (sym (flat-is S A p)) (s .0 w)),
       )
 
   -- and nothing else does: by the numbers, since a body calls only earlier ones
-  module _ (C : ℕ → Course) (obeys : Obeying (S .bodies) C) where
-    only : (k : ℕ) → k ≤ length (S .bodies) → (p : ℕ) → p < k → (σ : Store) (t : ℕ) (σ′ : Store) → C p σ t σ′ ↔ Ends (inlined (S .bodies) p) σ t σ′
+  module _ (C : ℕ → Course) (obeys : Obeying κ (S .bodies) C) where
+    only : (k : ℕ) → k ≤ length (S .bodies) → (p : ℕ) → p < k → (σ : Store) (t : ℕ) (σ′ : Store) → C p σ t σ′ ↔ Ends κ (inlined (S .bodies) p) σ t σ′
     only zero o p l σ t σ′ = absurd (omega arith)
     only (suc k) o p l σ t σ′ =
-        let s = same (S .bodies) C p closed (λ q j. only k (omega arith) q (omega arith)) (bodyAt (S .bodies) p) (A .body p .earlier) σ t σ′ .0 in
+        let s = same κ (S .bodies) C p closed (λ q j. only k (omega arith) q (omega arith)) (bodyAt (S .bodies) p) (A .body p .earlier) σ t σ′ .0 in
         let b = obeys p (omega arith) σ t σ′ in (
-          (λ w. subst (λ (P : Stmt). Ends P σ t σ′) (sym (flat-is S A p)) (s .0 (b .0 w))),
-          (λ w. b .1 (s .1 (subst (λ (P : Stmt). Ends P σ t σ′) (flat-is S A p) w))),
+          (λ w. subst (λ (P : Stmt). Ends κ P σ t σ′) (sym (flat-is S A p)) (s .0 (b .0 w))),
+          (λ w. b .1 (s .1 (subst (λ (P : Stmt). Ends κ P σ t σ′) (flat-is S A p) w))),
         )
 
-    pub main-rules : (σ : Store) (t : ℕ) (σ′ : Store) → EndsIn (S .bodies) C (S .main) σ t σ′ ↔ Ends (meaning S) σ t σ′
+    pub main-rules : (σ : Store) (t : ℕ) (σ′ : Store) → EndsIn κ (S .bodies) C (S .main) σ t σ′ ↔ Ends κ (meaning S) σ t σ′
     unfolding meaning
     main-rules σ t σ′ =
-        same (S .bodies) C (length (S .bodies)) closed (only (length (S .bodies)) (omega arith)) (S .main) (A .main .earlier) σ t σ′ .0
+        same κ (S .bodies) C (length (S .bodies)) closed (only (length (S .bodies)) (omega arith)) (S .main) (A .main .earlier) σ t σ′ .0

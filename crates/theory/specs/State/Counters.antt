@@ -16,7 +16,7 @@ use Rattle.model.specs.declared.Format.the-variants.{Full, Compact}
 use Rattle.model.specs.declared.Checked.the-variants.{Accepted}
 use Rattle.model.specs.Word.{bit}
 use Rattle.model.specs.Refusals.{faultIf}
-use Rattle.model.specs.Circuit.{cellAt, Sig, Values, high, level, delayed, kDelay}
+use Rattle.model.specs.Circuit.{Netlist, cellAt, Sig, Values, high, level, delayed, kDelay}
 use Rattle.model.specs.State.{nowAt, leftAt, lineBit, crowded, crowding}
 use Rattle.model.specs.CircuitPromises.{Free, Apart}
 use Rattle.laws.specs.Refusals.Laws.{by-bool, by-le, not-both, fault-unless, faultless}
@@ -71,81 +71,81 @@ module _ (d : ℕ) (x : Sig) (t : ℕ) (s : List ℕ) (k : ℕ) (in-range : Line
 -- A state ------------------------------------------------------------------------------------------------------------------------------
 
 -- what is apart up to an instant is so up to each before it
-pub apart-less : (F : Format) (net : List Cell) (W : Values) (t t′ : ℕ) → t ≤ t′ → Apart F net W t′ → Apart F net W t
+pub apart-less : (F : Format) (net : Netlist) (W : Values) (t t′ : ℕ) → t ≤ t′ → Apart F net W t′ → Apart F net W t
 apart-less Full net W t t′ l h = tt
 apart-less Compact net W t t′ l h = λ k g e v m. h k g e v (omega arith)
 
 -- in either format, where it is so for a compact state
-pub apart-either : (F : Format) (net : List Cell) (W : Values) (t : ℕ) → Apart Compact net W t → Apart F net W t
+pub apart-either : (F : Format) (net : Netlist) (W : Values) (t : ℕ) → Apart Compact net W t → Apart F net W t
 apart-either Full net W t h = tt
 apart-either Compact net W t h = h
 
 -- and up to the next one, if what enters there finds nothing
-pub apart-more : (net : List Cell) (W : Values) (t : ℕ) → Apart Compact net W t
-    → ((k : ℕ) → k < length net → shapeAt net k ≡ kDelay → Free (cellAt net k .delay) (level W (cellAt net k .a)) (suc t)) → Apart Compact net W (suc t)
+pub apart-more : (net : Netlist) (W : Values) (t : ℕ) → Apart Compact net W t
+    → ((k : ℕ) → k < length (net .cells) → shapeAt net k ≡ kDelay → Free (cellAt (net .cells) k .delay) (level W (cellAt (net .cells) k .a)) (suc t)) → Apart Compact net W (suc t)
 apart-more net W t h g k l e v m u =
     by-le v t (λ z. h k l e v z u)
     (λ z.
     let q : suc t ≡ v = omega arith in
     rw (sym q) (g k l e u))
 
-module _ (net : List Cell) (ordered : Ordered net) (words : ℕ → ℕ) (W : Values) (t : ℕ) (s : List ℕ) where
+module _ (net : Netlist) (ordered : Ordered (net .cells)) (words : ℕ → ℕ) (W : Values) (t : ℕ) (s : List ℕ) where
   -- where pulses are apart, each finds its line with room for it
-  pub vacant-at : (F : Format) → Holding F net words W t s → Apart F net W (suc t) → (k : ℕ) → k < length net → shapeAt net k ≡ kDelay
-      → Vacant F s k (level W (cellAt net k .a) (suc t))
+  pub vacant-at : (F : Format) → Holding F net words W t s → Apart F net W (suc t) → (k : ℕ) → k < length (net .cells) → shapeAt net k ≡ kDelay
+      → Vacant F s k (level W (cellAt (net .cells) k .a) (suc t))
   unfolding Vacant
   vacant-at Full H apart k h e = tt
   vacant-at Compact H apart k h e =
-      free-vacant (cellAt net k .delay) (level W (cellAt net k .a)) t s k (H .body .bytes k h e) (H .body .lines k h e) (apart k h e (suc t) (omega arith))
+      free-vacant (cellAt (net .cells) k .delay) (level W (cellAt (net .cells) k .a)) t s k (H .body .bytes k h e) (H .body .lines k h e) (apart k h e (suc t) (omega arith))
 
   -- t′ shows the next instant's values
   module _ (t′ : List ℕ) where
     -- the fault of a cell, by what enters and what is on its way
     crowded-is : (k : ℕ)
-        → crowded Compact net s t′ k ≡ faultIf (eqb (cellAt net k .kind) 34 && (high (nowAt Compact t′ (cellAt net k .a)) && ltb 1 (leftAt Compact s k))) 26
+        → crowded Compact net s t′ k ≡ faultIf (eqb (cellAt (net .cells) k .kind) 34 && (high (nowAt Compact t′ (cellAt (net .cells) k .a)) && ltb 1 (leftAt Compact s k))) 26
     unfolding crowded
     crowded-is k = refl
 
-    crowded-if : (k : ℕ) → Vacant Compact s k (high (nowAt Compact t′ (cellAt net k .a))) → crowded Compact net s t′ k ≡ 0
+    crowded-if : (k : ℕ) → Vacant Compact s k (high (nowAt Compact t′ (cellAt (net .cells) k .a))) → crowded Compact net s t′ k ≡ 0
     unfolding Vacant
     crowded-if k v =
         rw (crowded-is k)
-        (by-bool (eqb (cellAt net k .kind) 34)
+        (by-bool (eqb (cellAt (net .cells) k .kind) 34)
         (λ e.
-        by-bool (high (nowAt Compact t′ (cellAt net k .a))) (λ z. rw (e, z, le-ltb 1 (leftAt Compact s k) (v z)) refl) (λ z. rw (e, z) refl))
+        by-bool (high (nowAt Compact t′ (cellAt (net .cells) k .a))) (λ z. rw (e, z, le-ltb 1 (leftAt Compact s k) (v z)) refl) (λ z. rw (e, z) refl))
         (λ e. rw e refl))
 
-    if-crowded : (k : ℕ) → shapeAt net k ≡ kDelay → crowded Compact net s t′ k ≡ 0 → Vacant Compact s k (high (nowAt Compact t′ (cellAt net k .a)))
+    if-crowded : (k : ℕ) → shapeAt net k ≡ kDelay → crowded Compact net s t′ k ≡ 0 → Vacant Compact s k (high (nowAt Compact t′ (cellAt (net .cells) k .a)))
     unfolding Vacant
     if-crowded k e z x =
-        let q = fault-unless (eqb (cellAt net k .kind) 34 && (high (nowAt Compact t′ (cellAt net k .a)) && ltb 1 (leftAt Compact s k))) 26 (omega arith)
+        let q = fault-unless (eqb (cellAt (net .cells) k .kind) 34 && (high (nowAt Compact t′ (cellAt (net .cells) k .a)) && ltb 1 (leftAt Compact s k))) 26 (omega arith)
         (sym (crowded-is k) ∙ z) in
-        ltb-false 1 (leftAt Compact s k) (rw (eq-eqb (cellAt net k .kind) 34 (delay-kind _ e), x) at q)
+        ltb-false 1 (leftAt Compact s k) (rw (eq-eqb (cellAt (net .cells) k .kind) 34 (delay-kind _ e), x) at q)
 
-    module _ (now : (a : ℕ) → a < length net → nowAt Compact t′ a ≡ W a (suc t)) where
+    module _ (now : (a : ℕ) → a < length (net .cells) → nowAt Compact t′ a ≡ W a (suc t)) where
       -- "a pulse enters a line whose pulse hasn't come out"
-      pub crowds : Holding Compact net words W t s → (k : ℕ) → k < length net → shapeAt net k ≡ kDelay
-          → (crowded Compact net s t′ k ≡ 0) ↔ Free (cellAt net k .delay) (level W (cellAt net k .a)) (suc t)
+      pub crowds : Holding Compact net words W t s → (k : ℕ) → k < length (net .cells) → shapeAt net k ≡ kDelay
+          → (crowded Compact net s t′ k ≡ 0) ↔ Free (cellAt (net .cells) k .delay) (level W (cellAt (net .cells) k .a)) (suc t)
       crowds H k h e =
-          let o = delay-looks (kinds net) (length net) k (cellAt net k) e (ordered .looks k h) in
-          let q : high (nowAt Compact t′ (cellAt net k .a)) ≡ level W (cellAt net k .a) (suc t) = ap high (now (cellAt net k .a) (o .2)) in (
+          let o = delay-looks (kinds (net .cells)) (length (net .cells)) k (cellAt (net .cells) k) e (ordered .looks k h) in
+          let q : high (nowAt Compact t′ (cellAt (net .cells) k .a)) ≡ level W (cellAt (net .cells) k .a) (suc t) = ap high (now (cellAt (net .cells) k .a) (o .2)) in (
             (λ z.
-                vacant-free (cellAt net k .delay) (level W (cellAt net k .a)) t s k (H .body .bytes k h e) (H .body .lines k h e)
+                vacant-free (cellAt (net .cells) k .delay) (level W (cellAt (net .cells) k .a)) t s k (H .body .bytes k h e) (H .body .lines k h e)
                 (rw q at (if-crowded k e z))),
             (λ f.
                 crowded-if k
-                (rw q (free-vacant (cellAt net k .delay) (level W (cellAt net k .a)) t s k (H .body .bytes k h e) (H .body .lines k h e) f))),
+                (rw q (free-vacant (cellAt (net .cells) k .delay) (level W (cellAt (net .cells) k .a)) t s k (H .body .bytes k h e) (H .body .lines k h e) f))),
           )
 
 -- so 26 is not met
-pub not-crowded : (F : Format) (net : List Cell) → Ordered net → (words : ℕ → ℕ) (W : Values) (t : ℕ) (s t′ : List ℕ)
-    → ((a : ℕ) → a < length net → nowAt F t′ a ≡ W a (suc t)) → Holding F net words W t s → Apart F net W (suc t) → crowding F net s t′ ≡ Accepted
+pub not-crowded : (F : Format) (net : Netlist) → Ordered (net .cells) → (words : ℕ → ℕ) (W : Values) (t : ℕ) (s t′ : List ℕ)
+    → ((a : ℕ) → a < length (net .cells) → nowAt F t′ a ≡ W a (suc t)) → Holding F net words W t s → Apart F net W (suc t) → crowding F net s t′ ≡ Accepted
 unfolding crowding
 not-crowded Full net ordered words W t s t′ now H apart = refl
 not-crowded Compact net ordered words W t s t′ now H apart =
-    faultless (crowded Compact net s t′) 0 (length net)
+    faultless (crowded Compact net s t′) 0 (length (net .cells))
     (λ k l h.
-    by-bool (eqb (cellAt net k .kind) 34)
+    by-bool (eqb (cellAt (net .cells) k .kind) 34)
     (λ e.
     let q = delay-shape _ (eqb-true _ _ e) in
     crowds net ordered words W t s t′ now H k (omega arith) q .1 (apart k (omega arith) q (suc t) (omega arith)))

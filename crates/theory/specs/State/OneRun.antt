@@ -10,7 +10,7 @@ use lib.ListN.{length}
 use Rattle.model.specs.declared.Cell.{Cell}
 use Rattle.model.specs.declared.Format.{Format}
 use Rattle.model.specs.declared.Checked.the-variants.{Accepted}
-use Rattle.model.specs.Circuit.{Sig, Values, high, level, Obeys}
+use Rattle.model.specs.Circuit.{Netlist, Sig, Values, high, level, Obeys}
 use Rattle.model.specs.State.{course, stateSize, continued}
 use Rattle.model.specs.CircuitPromises.{stateAt, stopsAt, NoStart, Apart, OneRun}
 use Rattle.theory.specs.Circuit.Unique.{unique}
@@ -23,7 +23,7 @@ use Rattle.theory.specs.State.Sound.{states, states-next, states-free, s
 use Rattle.theory.specs.State.Running.{along}
 use Rattle.theory.specs.State.Past.{past-state}
 
-module _ (net : List Cell) (o : Ordered net) (starts : Sig) (words : ℕ → ℕ) (pulse : starts 0 ≡ true) where
+module _ (net : Netlist) (o : Ordered (net .cells)) (starts : Sig) (words : ℕ → ℕ) (pulse : starts 0 ≡ true) where
   W : Values
   W = solution net starts words
 
@@ -31,7 +31,7 @@ module _ (net : List Cell) (o : Ordered net) (starts : Sig) (words : ℕ → ℕ
   unfolding W
   obeyed = solution-obeys net starts words o
 
-  going : (F : Format) (lent : List ℕ) → stateSize F net ≤ length lent → (f : ℕ) → f < length net → (n t : ℕ) →
+  going : (F : Format) (lent : List ℕ) → stateSize F net ≤ length lent → (f : ℕ) → f < length (net .cells) → (n t : ℕ) →
       let t′ = stopsAt (level W f) t n in
       NoStart starts t t′ → Apart F net W t′
       → continued F net f n (stateAt F net starts words lent t) ≡ course Accepted (stateAt F net starts words lent t′) (t′ - t)

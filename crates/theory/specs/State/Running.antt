@@ -9,7 +9,7 @@ use lib.ListN.{length}
 use Rattle.model.specs.declared.Cell.{Cell}
 use Rattle.model.specs.declared.Checked.the-variants.{Accepted}
 use Rattle.model.specs.declared.Format.{Format}
-use Rattle.model.specs.Circuit.{Sig, Values, high, level, Obeys}
+use Rattle.model.specs.Circuit.{Netlist, Sig, Values, high, level, Obeys}
 use Rattle.model.specs.State.{Course, course, longer, stateSize, nowAt, stepState, crowding, continued}
 use Rattle.model.specs.CircuitPromises.{stopsAt, NoStart, Apart}
 use Rattle.laws.specs.Refusals.Laws.{by-bool}
@@ -51,14 +51,14 @@ first-none starts F t n none = none (suc t) (omega arith) (stops-on F n t)
 
 -- Continuing ---------------------------------------------------------------------------------------------------------------------------
 
-pub record Continued (F : Format) (net : List Cell) (words : ℕ → ℕ) (W : Values) (f t n : ℕ) (s : List ℕ) : Type 0 where
+pub record Continued (F : Format) (net : Netlist) (words : ℕ → ℕ) (W : Values) (f t n : ℕ) (s : List ℕ) : Type 0 where
   pub free : continued F net f n s .check ≡ Accepted
   pub count : continued F net f n s .count ≡ stopsAt (level W f) t n - t
   pub long : length (continued F net f n s .state) ≡ length s
   pub holding : Holding F net words W (stopsAt (level W f) t n) (continued F net f n s .state)
 
-module _ (F : Format) (net : List Cell) (ordered : Ordered net) (starts : Sig) (words : ℕ → ℕ) (W : Values) (obeys : Obeys net starts words W) (f : ℕ)
-    (wire : f < length net) where
+module _ (F : Format) (net : Netlist) (ordered : Ordered (net .cells)) (starts : Sig) (words : ℕ → ℕ) (W : Values) (obeys : Obeys net starts words W) (f : ℕ)
+    (wire : f < length (net .cells)) where
   abbrev finish : ℕ → Bool
   finish = level W f
 
@@ -117,7 +117,7 @@ module _ (F : Format) (net : List Cell) (ordered : Ordered net) (starts : Sig) (
           }
 
 -- along the states of a run
-module _ (F : Format) (net : List Cell) (f : ℕ) (starts : Sig) (at : ℕ → List ℕ) (next : (t : ℕ) → at (suc t) ≡ stepState F net (starts (suc t)) (at t))
+module _ (F : Format) (net : Netlist) (f : ℕ) (starts : Sig) (at : ℕ → List ℕ) (next : (t : ℕ) → at (suc t) ≡ stepState F net (starts (suc t)) (at t))
     (finish : ℕ → Bool) where
   pub along : (n t : ℕ) → ((u : ℕ) → t ≤ u → u < stopsAt finish t n → (high (nowAt F (at (suc u)) f) ≡ finish (suc u)) × (crowding F net (at u) (at (suc u)) ≡ Accepted))
       → NoStart starts t (stopsAt finish t n) → continued F net f n (at t) ≡ course Accepted (at (stopsAt finish t n)) (stopsAt finish t n - t)

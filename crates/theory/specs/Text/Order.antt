@@ -9,14 +9,14 @@ use lib.ListN.{length}
 use Rattle.model.specs.declared.Checked.{Checked}
 use Rattle.model.specs.Refusals.{refuse}
 use Rattle.model.specs.ProgramChecks.{programWith, checkOf}
-use Rattle.model.specs.TimeTables.{Given, load}
+use Rattle.model.specs.TimeTables.{Given, load, givenCheck}
 use Rattle.model.specs.Numbering.{finish}
 use Rattle.model.specs.Text.{Lexeme, wordsOf, outside}
 use Rattle.model.specs.Reader.{Reading, good, bad}
 use Rattle.model.specs.Calls.{verdict, writtenVerdict, short, compiledFile, netlistChecks, fullState, fullCount, fullRunChecks}
 use Rattle.model.specs.TextCalls.{readingOf, brokenAt, textProgram, textChecks, readTextChecks, readTextCall, compileTextChecks, compileTextCall, runTextChecks, runTextCall}
-use Rattle.model.specs.RefusalPromises.{Gives, InOrder, Refuses, tableNumbers, programNumbers, just, Leaves}
-use Rattle.theory.specs.Refusals.Order.{gives-one, gives-if, gives-pick, check-gives, table-gives, short-gives, write-refuses, compile-order, run-order, run-both-refuses}
+use Rattle.model.specs.RefusalPromises.{Gives, InOrder, Refuses, givenNumbers, programNumbers, just, Leaves}
+use Rattle.theory.specs.Refusals.Order.{gives-one, gives-if, gives-pick, check-gives, given-gives, short-gives, write-refuses, compile-order, run-order, run-both-refuses}
 
 outside-gives : (ws : List Lexeme) → Gives (just 17) (outside ws)
 unfolding outside
@@ -30,15 +30,15 @@ unfolding brokenAt
 broken-gives (good ns) = inl refl
 broken-gives (bad p) = gives-one (just 18) 18 p refl
 
--- the checks of a table come before those of a text, and these before those of its program
+-- the checks of what is given come before those of a text, and these before those of its program
 text-order : (G : Given) (text : List ℕ) (nss : List (List ℕ)) (cs : List Checked) → InOrder nss cs
-    → InOrder (tableNumbers ∷ just 17 ∷ just 17 ∷ just 18 ∷ nss) (load G .checked ∷ textChecks text ++ cs)
+    → InOrder (givenNumbers ∷ just 17 ∷ just 17 ∷ just 18 ∷ nss) (givenCheck (load G) ∷ textChecks text ++ cs)
 text-order G text nss cs o =
-    (table-gives G, (gives-if (ltb 4096 (length text)) 17 4096, (outside-gives (wordsOf text), (broken-gives (readingOf text), o))))
+    (given-gives G, (gives-if (ltb 4096 (length text)) 17 4096, (outside-gives (wordsOf text), (broken-gives (readingOf text), o))))
 
 pub read-text-refuses : (G : Given) (text lent : List ℕ) →
     let c = writtenVerdict (readTextCall (load G) text lent .answer) in
-    Refuses (tableNumbers ∷ just 17 ∷ just 17 ∷ just 18 ∷ programNumbers ∷ just 14 ∷ []) (readTextChecks (load G) text lent) c
+    Refuses (givenNumbers ∷ just 17 ∷ just 17 ∷ just 18 ∷ programNumbers ∷ just 14 ∷ []) (readTextChecks (load G) text lent) c
     × Leaves c lent (readTextCall (load G) text lent .lent)
 unfolding readTextCall
 read-text-refuses G text lent =
@@ -50,7 +50,7 @@ read-text-refuses G text lent =
 
 pub compile-text-refuses : (G : Given) (text lent : List ℕ) →
     let c = writtenVerdict (compileTextCall (load G) text lent .answer) in
-    Refuses (tableNumbers ∷ just 17 ∷ just 17 ∷ just 18 ∷ programNumbers ∷ just 14 ∷ []) (compileTextChecks (load G) text lent) c
+    Refuses (givenNumbers ∷ just 17 ∷ just 17 ∷ just 18 ∷ programNumbers ∷ just 14 ∷ []) (compileTextChecks (load G) text lent) c
     × Leaves c lent (compileTextCall (load G) text lent .lent)
 unfolding compileTextCall
 compile-text-refuses G text lent =
@@ -63,7 +63,7 @@ compile-text-refuses G text lent =
 pub run-text-refuses : (G : Given) (text words : List ℕ) (n : ℕ) (forFile lent : List ℕ) →
     let r = runTextCall (load G) text words n forFile lent in
     let c = verdict (r .answer .outcome) in
-    Refuses (tableNumbers ∷ just 17 ∷ just 17 ∷ just 18 ∷ programNumbers ∷ just 13 ∷ just 14 ∷ just 14 ∷ just 14 ∷ [])
+    Refuses (givenNumbers ∷ just 17 ∷ just 17 ∷ just 18 ∷ programNumbers ∷ just 13 ∷ just 14 ∷ just 14 ∷ just 14 ∷ [])
     (runTextChecks (load G) text words n forFile lent) c
     × Leaves c forFile (r .netlist) × Leaves c lent (r .state)
 unfolding runTextCall

@@ -65,18 +65,20 @@ unfolding checkOf
 one-root options P d e =
     let k = options .procedures in
     let s = nodeBytes (preorder P) in
-    let R = passed (timeIn (options .times)) k s e .readable in
-    let l = ap length (sym (trees-back d) ∙ program-trees k s R) in
-    omega (arith, l, length-map (roots (programOf k s)) stmt, length-append (programOf k s .bodies) (programOf k s .main ∷ []), count-bodies k s R)
+    let w = options .pulse in
+    let R = passed (timeIn (options .times)) w k s e .readable in
+    let S = programOf w k s in
+    let l = ap length (sym (trees-back d) ∙ program-trees k s R w) in
+    omega (arith, l, length-map (roots S) stmt, length-append (S .bodies) (S .main ∷ []), count-bodies k s R w)
 
 program : (options : Options) (text lent : List ℕ) (n f : ℕ) → readTextCall options text lent .answer ≡ Done n f →
     let bytes = take n (readTextCall options text lent .lent) in
-    (P : Code) × Means (tokens (wordsOf text)) P × (bytes ≡ nodeBytes (preorder P)) × (programOf (options .procedures) bytes ≡ alone P)
+    (P : Code) × Means (tokens (wordsOf text)) P × (bytes ≡ nodeBytes (preorder P)) × (programOf (options .pulse) (options .procedures) bytes ≡ record { bodies = []; main = P; pulse = options .pulse })
 program options text lent n f done =
     let q = meant text (all-accept (textChecks text) (text-accepted options text lent n f done) 2) in
     let e = program-made options text lent n f done ∙ q .2 in
     let z = one-root options (q .0) (q .1) (subst (λ (s : List ℕ). checkOf options s ≡ Accepted) (q .2) (program-passes options text lent n f done)) in
-    (q .0, q .1, e, ap₂ programOf z e ∙ program-back (q .1))
+    (q .0, q .1, e, ap₂ (programOf (options .pulse)) z e ∙ program-back (options .pulse) (q .1))
 
 pub texts : Texts
 unfolding load

@@ -70,10 +70,10 @@ fn assert_refused(cells: &[Cell], finish: u16, place: usize) {
     let name = format!("at {place}: {:?}", cells.get(place));
     let checked = (BOTH.check_cells)(cells, finish);
     assert_eq!(checked.result, refused(12, place), "{name}");
-    let written = (BOTH.write_cells)(cells, finish, &lent_file);
+    let written = (BOTH.write_cells)(1, cells, finish, &lent_file);
     assert_eq!(written.result, refused(12, place), "{name}");
     assert_eq!(written.lent, [lent_file], "{name}");
-    let by_bytes = (BOTH.write_netlist)(&bytes, finish, &lent_file);
+    let by_bytes = (BOTH.write_netlist)(1, &bytes, finish, &lent_file);
     assert_eq!(written, by_bytes, "{name}");
     for at in [0, 7] {
         let read = (BOTH.read_cells)(&file, at, &lent);

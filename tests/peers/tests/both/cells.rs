@@ -90,7 +90,7 @@ fn assert_cells_refused(cells: &[Cell], finish: u16, number: u8, place: usize) {
     let name = format!("{} cells, {finish}", cells.len());
     let checked = (BOTH.check_cells)(cells, finish);
     assert_eq!(checked.result, refused(number, place), "{name}");
-    let written = (BOTH.write_cells)(cells, finish, &LENT_FILE);
+    let written = (BOTH.write_cells)(1, cells, finish, &LENT_FILE);
     assert_eq!(written.result, refused(number, place), "{name}");
     assert!(written.lent == [LENT_FILE], "{name}: lent bytes changed");
 }
@@ -142,9 +142,9 @@ fn writing_gives_the_file_and_keeps_what_is_past_it() {
         expected[..file.len()].copy_from_slice(&file);
         let checked = (BOTH.check_cells)(&cells, FINISH);
         assert_eq!(checked.result, Ok(()), "{count} cells");
-        let written = (BOTH.write_cells)(&cells, FINISH, &LENT_FILE);
+        let written = (BOTH.write_cells)(1, &cells, FINISH, &LENT_FILE);
         assert!(written.lent == [expected], "{count} cells: other bytes");
-        let by_bytes = (BOTH.write_netlist)(&Cell::all_bytes(&cells), FINISH, &LENT_FILE);
+        let by_bytes = (BOTH.write_netlist)(1, &Cell::all_bytes(&cells), FINISH, &LENT_FILE);
         assert!(written == by_bytes, "{count} cells: not as its bytes");
     }
 }
@@ -174,10 +174,10 @@ fn a_file_one_byte_short_is_14() {
     for (count, length) in [(44, 512), (84, 512), (85, 1_024), (1_024, 6_656)] {
         let cells = cells_up_to(count);
         let short = &LENT_FILE[..length - 1];
-        let written = (BOTH.write_cells)(&cells, FINISH, short);
+        let written = (BOTH.write_cells)(1, &cells, FINISH, short);
         assert_eq!(written.result, refused(14, 0), "{count} cells");
         assert!(written.lent == [short], "{count} cells: bytes changed");
-        let exact = (BOTH.write_cells)(&cells, FINISH, &LENT_FILE[..length]);
+        let exact = (BOTH.write_cells)(1, &cells, FINISH, &LENT_FILE[..length]);
         assert!(exact.result.is_ok(), "{count} cells");
     }
 }
@@ -186,7 +186,7 @@ fn a_file_one_byte_short_is_14() {
 fn twelve_comes_before_fourteen() {
     let mut cells = every_kind();
     cells[41] = LENT;
-    let written = (BOTH.write_cells)(&cells, FINISH, &[]);
+    let written = (BOTH.write_cells)(1, &cells, FINISH, &[]);
     assert_eq!(written.result, refused(12, 41));
     assert_file_refused(&file(&cells, FINISH), usize::MAX, 3, 12, 41);
 }

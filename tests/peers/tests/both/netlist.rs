@@ -54,7 +54,12 @@ pub const FIRST_ARRAY: u16 = 19;
 
 /// The file of the idle cells and these.
 pub fn file_of_idle(cells: &[Cell], finish: u16) -> Vec<u8> {
-    file(&[&idle(), cells].concat(), finish)
+    pulsed_file_of_idle(1, cells, finish)
+}
+
+/// The same for pulses of this length.
+pub fn pulsed_file_of_idle(pulse: u8, cells: &[Cell], finish: u16) -> Vec<u8> {
+    pulsed_file(pulse, &[&idle(), cells].concat(), finish)
 }
 
 /// Cells that are put in after the idle ones, one after another.
@@ -70,7 +75,7 @@ impl Wiring {
         FREE + self.cells.len() as u16 - 1
     }
 
-    /// A wire with a pulse at each of these instants, 0 not among them.
+    /// A wire with a pulse from each of these instants on, 0 not among them.
     pub fn pulses(&mut self, instants: &[u8]) -> u16 {
         let ground = 1;
         instants.iter().fold(ground, |so_far, &instant| {
@@ -101,6 +106,15 @@ pub fn idle_arrays() -> Vec<Cell> {
 
 /// The file of these cells, whatever rules they break, with right checks.
 pub fn file(cells: &[Cell], finish: u16) -> Vec<u8> {
+    pulsed_file(1, cells, finish)
+}
+
+/// The same for pulses of this length.
+pub fn pulsed_file(pulse: u8, cells: &[Cell], finish: u16) -> Vec<u8> {
     let cells = cells.to_vec();
-    netfile::write(&Netlist { cells, finish })
+    netfile::write(&Netlist {
+        pulse,
+        cells,
+        finish,
+    })
 }

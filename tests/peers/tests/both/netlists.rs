@@ -23,7 +23,7 @@ fn read(count: usize) -> Result<(), Refusal> {
 /// Writing so many cells; finish is cell 0.
 fn write(count: usize) -> Result<(), Refusal> {
     let bytes = Cell::all_bytes(&cells(count));
-    let written = (BOTH.write_netlist)(&bytes, 0, &[0; 6656]);
+    let written = (BOTH.write_netlist)(1, &bytes, 0, &[0; 6656]);
     written.result.map(drop)
 }
 
@@ -41,14 +41,14 @@ fn a_count_outside_27_to_1024_is_a_wrong_header() {
 
 #[test]
 fn bytes_that_are_no_whole_cells_are_a_wrong_header() {
-    let written = (BOTH.write_netlist)(&[0; 6 * 27 + 1], 0, &[0; 512]);
+    let written = (BOTH.write_netlist)(1, &[0; 6 * 27 + 1], 0, &[0; 512]);
     assert_eq!(written.result, refused(11, 0));
 }
 
 #[test]
 fn a_finish_not_below_the_count_is_a_wrong_header() {
     let bytes = Cell::all_bytes(&idle());
-    let finish_on = |finish| (BOTH.write_netlist)(&bytes, finish, &[0; 512]);
+    let finish_on = |finish| (BOTH.write_netlist)(1, &bytes, finish, &[0; 512]);
     for (finish, number, place) in [(27, 11, 0), (26, 12, 26), (19, 12, 19)] {
         let written = finish_on(finish);
         assert_eq!(written.result, refused(number, place));

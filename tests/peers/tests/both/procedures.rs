@@ -298,7 +298,7 @@ fn more_than_eight_procedures_are_refusal_1() {
     assert_eq!(check(9, &node(255, 0, 0)), refused(1, 0));
     let given = Given {
         table: Some(&[]),
-        procedures: 9,
+        ..Given::procedures(9)
     };
     assert_eq!((BOTH.check)(given, &ok()).result, refused(19, 0));
 }

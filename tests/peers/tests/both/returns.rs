@@ -2,23 +2,33 @@
 //! and which of its states are refused.
 
 use crate::expect::START;
-use crate::netlist::{file_of_idle, Wiring};
+use crate::netlist::{pulsed_file_of_idle, Wiring};
 use crate::run::*;
 use second::cells::{MERGE, RETURN};
 use values::Cell;
 
 /// A merge of this kind with pulses at these instants: its number, and a run.
 fn wired(kind: u8, a: &[u8], b: &[u8]) -> (u16, Run) {
+    pulsed(1, kind, a, b)
+}
+
+/// The same with pulses of this length from these instants on.
+pub fn pulsed(pulse: u8, kind: u8, a: &[u8], b: &[u8]) -> (u16, Run) {
     let mut wiring = Wiring::default();
     let (a, b) = (wiring.pulses(a), wiring.pulses(b));
     let merge = wiring.push(Cell::new(kind, 0, a, b));
     // The finish is ground, so that nothing stops a continuing.
-    (merge, Run::begin(&file_of_idle(&wiring.cells, 1), &START))
+    let file = pulsed_file_of_idle(pulse, &wiring.cells, 1);
+    (merge, Run::begin(&file, &START))
+}
+
+fn outputs(kind: u8, a: &[u8], b: &[u8]) -> Vec<u32> {
+    pulsed_outputs(1, kind, a, b)
 }
 
 /// The instants up to 12 at which its output is high.
-fn outputs(kind: u8, a: &[u8], b: &[u8]) -> Vec<u32> {
-    let (merge, mut run) = wired(kind, a, b);
+pub fn pulsed_outputs(pulse: u8, kind: u8, a: &[u8], b: &[u8]) -> Vec<u32> {
+    let (merge, mut run) = pulsed(pulse, kind, a, b);
     let is_high = |instant: &u32| {
         run.go(u32::from(*instant > 0));
         run.now(merge) == 1

@@ -114,6 +114,11 @@ impl Run {
         self.state[self.at(cell, LEFT)]
     }
 
+    /// For how many more instants start is high, as a full state tells it.
+    pub fn remaining(&self) -> u8 {
+        self.state[at(0, LINE)]
+    }
+
     /// The number in flight, as the state tells it.
     pub fn in_flight(&self) -> u32 {
         let bytes = &self.state[NUMBER..NUMBER + 4];

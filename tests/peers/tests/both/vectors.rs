@@ -17,8 +17,8 @@ static LENT_CELLS: [Cell; 1_100] = [Cell::new(0xa5, 0xa5, 0xa5a5, 0xa5a5); 1_100
 
 /// The folders with programs, with netlist files, and so on. Those of s05 have
 /// arrays, those of s06 loops too, those of s07 second starts, those of s08
-/// procedures, those of s09 compact states.
-const PROGRAMS: [&str; 7] = [
+/// procedures, those of s09 compact states, those of s10 longer pulses.
+const PROGRAMS: [&str; 8] = [
     "program",
     "compile",
     "speed",
@@ -26,18 +26,39 @@ const PROGRAMS: [&str; 7] = [
     "s06/compile",
     "s07/compile",
     "s08/compile",
+    "s10/compile",
 ];
-const NETLISTS: [&str; 4] = ["netlist", "s05/netlist", "s06/netlist", "s08/netlist"];
-const CALLS: [&str; 6] = [
+const NETLISTS: [&str; 5] = [
+    "netlist",
+    "s05/netlist",
+    "s06/netlist",
+    "s08/netlist",
+    "s10/netlist",
+];
+const CALLS: [&str; 7] = [
     "calls",
     "s05/calls",
     "s06/calls",
     "s07/calls",
     "s08/calls",
     "s09/calls",
+    "s10/calls",
 ];
-const STATES: [&str; 5] = ["state", "s05/state", "s07/state", "s08/state", "s09/state"];
-const RULES: [&str; 4] = ["s05/rules", "s06/rules", "s07/rules", "s08/rules"];
+const STATES: [&str; 6] = [
+    "state",
+    "s05/state",
+    "s07/state",
+    "s08/state",
+    "s09/state",
+    "s10/state",
+];
+const RULES: [&str; 5] = [
+    "s05/rules",
+    "s06/rules",
+    "s07/rules",
+    "s08/rules",
+    "s10/rules",
+];
 const HUBRUN: [&str; 4] = ["hubrun", "s05/hubrun", "s06/hubrun", "s08/hubrun"];
 
 /// One vector: the folder and the common beginning of its files' names.
@@ -72,12 +93,24 @@ impl Vector {
         self.text(extension).parse().expect("a number")
     }
 
-    /// How many procedures its program has: the second of the four numbers that
-    /// tell what is given beside it.
-    fn procedures(&self) -> usize {
-        let given = self.may_have("given").map(|_| self.text("given"));
-        let number = |given: String| given.split(' ').nth(1)?.parse().ok();
-        given.map_or(0, |given| number(given).expect("a number of procedures"))
+    /// What is given beside its program, if not nothing: the first two of four
+    /// numbers are the pulse length and the number of procedures.
+    fn given<'a>(&self, table: &'a Option<Vec<u8>>) -> Given<'a> {
+        let table = Given::table(table.as_deref());
+        if self.may_have("given").is_none() {
+            return table;
+        }
+        let text = self.text("given");
+        let mut numbers = text
+            .split(' ')
+            .map(|number| number.parse().expect("a byte"));
+        let mut next = || numbers.next().expect("four numbers");
+        let (pulse, procedures): (u8, u8) = (next(), next());
+        Given {
+            procedures: procedures.into(),
+            pulse,
+            ..table
+        }
     }
 
     /// The format of its states, by the first number of its mode.
@@ -161,10 +194,7 @@ fn assert_result<T>(reply: &Reply<T>, result: &[u8], name: &str) {
 fn programs_are_compiled_or_refused_as_told() {
     for_each(&PROGRAMS, "prog", |vector, name| {
         let (program, table) = (vector.bytes("prog"), vector.may_have("table"));
-        let given = Given {
-            table: table.as_deref(),
-            procedures: vector.procedures(),
-        };
+        let given = vector.given(&table);
         let compiled = (BOTH.compile)(given, &program, &LENT);
         let checked = (BOTH.check)(given, &program);
         assert_eq!(checked.result, compiled.result.map(drop), "{name}");
@@ -221,7 +251,7 @@ fn netlists_are_accepted_or_refused_as_told() {
 /// An accepted file is the one that writing its cells gives.
 fn assert_writing_restores(file: &[u8], shape: Shape, cells: &[u8], name: &str) {
     let cells = &cells[..6 * usize::from(shape.cells)];
-    let written = (BOTH.write_netlist)(cells, shape.finish, &LENT);
+    let written = (BOTH.write_netlist)(pulse_of(file), cells, shape.finish, &LENT);
     assert_eq!(written.result, Ok(shape), "{name}");
     assert_result(&written, file, name);
 }
@@ -251,9 +281,14 @@ fn netlists_are_read_as_cells_and_written_back() {
 fn assert_cells_restore(file: &[u8], shape: Shape, cells: &[Cell], name: &str) {
     let finish = shape.finish;
     assert_eq!((BOTH.check_cells)(cells, finish).result, Ok(()), "{name}");
-    let written = (BOTH.write_cells)(cells, finish, &LENT);
+    let written = (BOTH.write_cells)(pulse_of(file), cells, finish, &LENT);
     assert_eq!(written.result, Ok(shape), "{name}");
     assert_result(&written, file, name);
+}
+
+/// The pulse length in an accepted file.
+fn pulse_of(file: &[u8]) -> u8 {
+    file[1] + 1
 }
 
 /// A file that is refused for its cells has them refused without a file too.
@@ -266,7 +301,7 @@ fn cells_that_break_a_rule_are_refused_as_in_their_file() {
             let refusal = (BOTH.check_cells)(&cells, finish).result.err();
             let shown = refusal.map(|refusal| refusal.to_string());
             assert_eq!(shown, Some(told), "{name}");
-            let written = (BOTH.write_cells)(&cells, finish, &LENT);
+            let written = (BOTH.write_cells)(1, &cells, finish, &LENT);
             assert_eq!(written.result.err(), refusal, "{name}");
             assert_result(&written, &[], name);
         }
@@ -318,10 +353,7 @@ fn rules_and_circuits_come_to_the_end_told() {
     for_each(&RULES, "prog", |vector, name| {
         let (program, words) = (vector.bytes("prog"), vector.bytes("words"));
         let (table, budget) = (vector.may_have("table"), vector.number("budget"));
-        let given = Given {
-            table: table.as_deref(),
-            procedures: vector.procedures(),
-        };
+        let given = vector.given(&table);
         let ended = (BOTH.reference_run)(given, &program, &words, budget).result;
         let ran = (BOTH.run_program)(given, &program, &words, budget, &LENT, &LENT);
         let answer = ran.result.expect("it is accepted");

@@ -6,6 +6,7 @@ mod cells;
 mod compact;
 mod loops;
 mod procedures;
+mod pulses;
 pub mod runs;
 mod starts;
 mod tables;

@@ -61,8 +61,11 @@ pub const DELAY_SKIPPED: Peer = Peer {
 /// names what feeds it, as far as the cells then keep the rules.
 fn undelayed(shape: Shape, right: Reply<Shape>, file: &[u8]) -> Reply<Shape> {
     let length = 512 * usize::from(shape.cells).div_ceil(84);
-    let Netlist { mut cells, finish } =
-        netfile::read(&right.lent[0][..length]).expect("a compiled netlist");
+    let Netlist {
+        pulse,
+        mut cells,
+        finish,
+    } = netfile::read(&right.lent[0][..length]).expect("a compiled netlist");
     let is_return = |cell: &&Cell| cell.kind == RETURN;
     let returns = cells.iter().filter(is_return);
     let delays: Vec<u16> = returns.map(|cell| cell.a).collect();
@@ -81,7 +84,7 @@ fn undelayed(shape: Shape, right: Reply<Shape>, file: &[u8]) -> Reply<Shape> {
             }
         }
     }
-    (SECOND.write_netlist)(&Cell::all_bytes(&cells), finish, file)
+    (SECOND.write_netlist)(pulse, &Cell::all_bytes(&cells), finish, file)
 }
 
 /// Looks for a procedure that both sides of a parallel node call, and not for

@@ -11,26 +11,27 @@ use second::netfile;
 use std::cell::RefCell;
 use values::{Answer, Format, Refusal};
 
-const IN_FLIGHT: Refusal = Refusal::new(23, 0);
+pub const IN_FLIGHT: Refusal = Refusal::new(23, 0);
 
 /// Counts all inputs that a line keeps, those too that have come out.
 pub const STALE_COUNT: Peer = Peer {
     name: "stale count",
     begin: |format, file, words, state| {
-        let right = (SECOND.begin)(format, file, words, state);
-        match format {
-            Format::Full => counting_stale(file, right),
-            Format::Compact => right,
-        }
+        miscounted(
+            stale_count,
+            format,
+            file,
+            (SECOND.begin)(format, file, words, state),
+        )
     },
     continue_by: |format, file, n, state| {
-        taking_stale(format, file, state, |state| {
+        taking(stale_count, format, file, state, |state| {
             (SECOND.continue_by)(format, file, n, state)
         })
     },
     start: |format, file, state| match (format, netfile::read(file)) {
         (Format::Full, Ok(netlist)) if has_stale(&netlist, state) => refused(IN_FLIGHT, state),
-        _ => taking_stale(format, file, state, |state| {
+        _ => taking(stale_count, format, file, state, |state| {
             (SECOND.start)(format, file, state)
         }),
     },
@@ -48,8 +49,12 @@ fn stale_count(netlist: &Netlist, state: &[u8]) -> u32 {
     flight::counted_up_to(&netlist.cells, state, |_| 256)
 }
 
-/// A call on a state that tells its own number, which it takes for right.
-fn taking_stale(
+/// The number that a peer takes for that of a full state.
+pub type Count = fn(&Netlist, &[u8]) -> u32;
+
+/// A call on a state that tells such a number, which it takes for right.
+pub fn taking(
+    count: Count,
     format: Format,
     file: &[u8],
     state: &[u8],
@@ -62,21 +67,26 @@ fn taking_stale(
     if let Ok(netlist) = netfile::read(file) {
         if state.len() >= state_length(format, netlist.cells.len()) {
             let right = flight::counted(format, &netlist.cells, state);
-            let believed = flight::told(state) == stale_count(&netlist, state);
+            let believed = flight::told(state) == count(&netlist, state);
             flight::tell(&mut taken, if believed { right } else { right + 1 });
         }
     }
     let reply = call(&taken);
     match reply.result {
-        Ok(_) => counting_stale(file, reply),
+        Ok(_) => miscounted(count, format, file, reply),
         Err(refusal) => refused(refusal, state),
     }
 }
 
-/// A reply whose state tells the wrong number.
-fn counting_stale(file: &[u8], mut reply: Reply<Answer>) -> Reply<Answer> {
-    if let (Ok(netlist), Ok(_)) = (netfile::read(file), reply.result) {
-        let number = stale_count(&netlist, &reply.lent[0]);
+/// A reply whose full state tells such a number.
+pub fn miscounted(
+    count: Count,
+    format: Format,
+    file: &[u8],
+    mut reply: Reply<Answer>,
+) -> Reply<Answer> {
+    if let (Format::Full, Ok(netlist), Ok(_)) = (format, netfile::read(file), reply.result) {
+        let number = count(&netlist, &reply.lent[0]);
         flight::tell(&mut reply.lent[0], number);
     }
     reply
@@ -95,9 +105,8 @@ pub const HASTY: Peer = Peer {
     ..SECOND
 };
 
-fn started(netlist: Netlist, state: &[u8]) -> Reply<Answer> {
-    let fault = Fault::None;
-    let walk = Walk { netlist, fault };
+pub fn started(netlist: Netlist, state: &[u8]) -> Reply<Answer> {
+    let walk = Walk::new(netlist, Fault::None);
     let length = state_length(Format::Full, walk.netlist.cells.len());
     let (run, past) = state.split_at(length);
     let run = walk.next(run, true);

@@ -5,6 +5,7 @@ use super::cells::*;
 use super::compact::*;
 use super::loops::*;
 use super::procedures::*;
+use super::pulses::*;
 use super::runs::*;
 use super::starts::*;
 use super::tables::*;
@@ -28,7 +29,8 @@ fn disagrees_with_rules(peer: &Peer) -> bool {
 fn disagrees_on_netlists(
     compare: impl Fn(&[u8], &[u8], &mut Random) -> Result<(), String>,
 ) -> bool {
-    (0..JOBS).any(|seed| {
+    // Every other one has longer pulses, and so no compact state.
+    (0..2 * JOBS).any(|seed| {
         let random = &mut Random::new(seed);
         let (file, words) = (netlists::netlist(random), generate::start_words(random));
         compare(&file, &words, random).is_err()
@@ -71,7 +73,7 @@ fn disagrees_with_second(peer: &Peer) -> bool {
 fn disagrees_with_second_on_netlists(peer: &Peer) -> bool {
     let pair = with_second(peer);
     disagrees_on_netlists(|file, words, random| {
-        pair.compare_netlist(file, words, &job::calls(random), random.bits())
+        pair.compare_netlist(file, words, &job::calls(file[1] + 1, random), random.bits())
     })
 }
 
@@ -142,12 +144,15 @@ fn rules_tell_faulty_starts() {
 #[test]
 fn rules_tell_a_start_beyond_the_last_instant() {
     let disagrees = |peer: &Peer| {
-        [&[16, 0, 0, 0], &[17, 9, 0, 0]].into_iter().any(|program| {
+        let programs = [[16, 0, 0, 0], [17, 9, 0, 0]].into_iter();
+        let mut pulsed = programs.flat_map(|program| [1, 8].map(|pulse| (program, pulse)));
+        pulsed.any(|(program, pulse)| {
             let job = Job {
                 table: None,
                 procedures: 0,
+                pulse,
                 program: program.to_vec(),
-                calls: job::to_the_last().collect(),
+                calls: job::to_the_last(pulse).collect(),
                 ..Job::of_seed(0)
             };
             against_rules::compare(peer, &job).is_err()
@@ -161,13 +166,36 @@ fn equations_tell_faulty_starts() {
     assert_tells(disagrees_with_equations, &[STALE_COUNT, HASTY]);
 }
 
+/// Compiled programs with longer pulses, started again as soon as they are idle.
+#[test]
+fn rules_tell_faulty_pulses() {
+    let faulty = [
+        DROPPED_AT_OUTPUT,
+        DUE_ONCE,
+        REMAINING_UNCOUNTED,
+        HIGH_FINISH,
+    ];
+    assert_tells(disagrees_with_rules, &faulty);
+}
+
+#[test]
+fn equations_and_a_good_peer_tell_faulty_pulses() {
+    let simulators = [DROPPED_AT_OUTPUT, REMAINING_UNCOUNTED];
+    for disagrees in [disagrees_with_equations, disagrees_with_second_on_netlists] {
+        assert_tells(disagrees, &simulators);
+    }
+    assert_tells(disagrees_with_equations, &[HIGH_FINISH]);
+    let readers = [FIRST_BLOCK_ALONE, COMPACT_AT_ANY_LENGTH];
+    assert_tells(disagrees_with_second_on_netlists, &readers);
+}
+
 /// Compiled programs, of which a loop's line is entered as its pulse comes out.
 #[test]
 fn full_states_tell_faulty_compact_ones() {
     let disagrees = |peer: &Peer| {
         (0..4 * JOBS).any(|seed| against_full::compare(peer, &Job::of_seed(seed)).is_err())
     };
-    assert_tells(disagrees, &[ONE_OFF, NARROW]);
+    assert_tells(disagrees, &[ONE_OFF, NARROW, COMPACT_AT_ANY_LENGTH]);
 }
 
 #[test]
@@ -180,18 +208,20 @@ fn equations_and_a_good_peer_tell_faulty_compact_states() {
     assert_tells(disagrees_with_second_on_netlists, &faulty);
 }
 
-/// Of the calls that are compared only the check: a clash of arrays is rare,
-/// and so are two sides that share a procedure through others.
+/// Of the calls that are compared only the check: a clash of arrays is rare, and so
+/// are two sides that share a procedure through others, and a bad table beside a
+/// length that no pulse has.
 #[test]
 fn a_good_peer_tells_what_a_check_misses() {
     let disagrees = |peer: &Peer| {
-        (0..100 * JOBS).map(Job::of_seed).any(|job| {
+        (0..200 * JOBS).map(Job::of_seed).any(|job| {
             let check = |peer: &Peer| (peer.check)(job.given(), &job.program);
             with_second(peer).same("check", &[], check).is_err()
         })
     };
     let faulty = [ARRAYS_APART, THROUGH_PARALLEL, NOT_THROUGH_CALLS];
     assert_tells(disagrees, &faulty);
+    assert_tells(disagrees, &[DELAY_OF_THE_LENGTH, TABLE_FIRST]);
 }
 
 #[test]
@@ -220,6 +250,12 @@ fn a_good_peer_tells_every_faulty_one() {
     let loops = [DELAY_SPENT, OUTER_LEFT, REST_RUN];
     let starts = [STALE_COUNT, HASTY, FORGETTING, UNCOUNTED];
     let procedures = [LONE_B_KEPT, NOT_CLEARED, DELAY_SKIPPED];
+    let pulses = [
+        DUE_ONCE,
+        REMAINING_UNCOUNTED,
+        HIGH_FINISH,
+        FIRST_BLOCK_ALONE,
+    ];
     let faulty = [
         &runs[..],
         &readers,
@@ -229,6 +265,7 @@ fn a_good_peer_tells_every_faulty_one() {
         &loops,
         &starts,
         &procedures,
+        &pulses,
     ]
     .concat();
     assert_tells(disagrees_with_second, &faulty);

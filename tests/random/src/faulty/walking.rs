@@ -1,12 +1,12 @@
 //! A simulator of full states that walks over all cells at each instant, by the
-//! equations, and goes wrong about arrays or the merges of calls as it is told.
+//! equations, and goes wrong about arrays or merges as it is told.
 
 use crate::equations::{element_place, Step};
 use crate::flight;
 use crate::formats::{instant_of, wire_of};
 use crate::lend::{state_length, ARRAYS};
 use peers::{Reply, SECOND};
-use second::cells::{Netlist, READ, RETURN};
+use second::cells::{Netlist, MERGE, READ, RETURN};
 use second::netfile;
 use values::{Answer, Format};
 
@@ -17,6 +17,7 @@ pub enum Fault {
     SevenBits,
     StaleRead,
     NotCleared,
+    DroppedAtOutput,
 }
 
 /// A continuing of a full state with a fault; what is refused is refused as it
@@ -26,7 +27,7 @@ pub fn walked(fault: Fault, format: Format, file: &[u8], n: u32, state: &[u8]) -
     let (Format::Full, Ok(netlist), Ok(_)) = (format, netfile::read(file), right.result) else {
         return right;
     };
-    let walk = Walk { netlist, fault };
+    let walk = Walk::new(netlist, fault);
     let (run, past) = state.split_at(state_length(format, walk.netlist.cells.len()));
     let mut run = run.to_vec();
     let mut count = 0;
@@ -42,10 +43,24 @@ pub fn walked(fault: Fault, format: Format, file: &[u8], n: u32, state: &[u8]) -
 
 pub struct Walk {
     pub netlist: Netlist,
-    pub fault: Fault,
+    fault: Fault,
+    /// The same cells for pulses of one instant.
+    short: Netlist,
 }
 
 impl Walk {
+    pub fn new(netlist: Netlist, fault: Fault) -> Walk {
+        let short = Netlist {
+            pulse: 1,
+            ..netlist.clone()
+        };
+        Walk {
+            netlist,
+            fault,
+            short,
+        }
+    }
+
     pub fn finished(&self, state: &[u8]) -> bool {
         wire_of(Format::Full, state, self.netlist.finish) == 1
     }
@@ -66,7 +81,7 @@ impl Walk {
         let mut after = before.to_vec();
         after[..4].copy_from_slice(&(instant_of(before) + 1).to_le_bytes());
         self.put_values(before, &mut after, starts);
-        let step = self.step(before, &after, starts);
+        let step = self.step(0, before, &after, starts);
         let elements = step.written(|array, address| match self.fault {
             Fault::AddressOfTheFall => self.place(array, step.now(address)),
             _ => self.place(array, step.ago(address)),
@@ -76,16 +91,28 @@ impl Walk {
         if self.fault != Fault::StaleRead {
             self.put_values(before, &mut after, starts);
         }
-        self.put_rest(before, &mut after);
+        self.put_rest(before, &mut after, starts);
         let number = flight::counted(Format::Full, &self.netlist.cells, &after);
         flight::tell(&mut after, number);
         after
     }
 
-    fn step<'a>(&'a self, before: &'a [u8], after: &'a [u8], starts: bool) -> Step<'a> {
+    /// The equations of a cell; the short ones where a merge drops its bits at its
+    /// output.
+    fn step<'a>(
+        &'a self,
+        cell: usize,
+        before: &'a [u8],
+        after: &'a [u8],
+        starts: bool,
+    ) -> Step<'a> {
+        let dropped = self.fault == Fault::DroppedAtOutput;
         Step {
             format: Format::Full,
-            netlist: &self.netlist,
+            netlist: match self.netlist.cells[cell].kind {
+                MERGE | RETURN if dropped => &self.short,
+                _ => &self.netlist,
+            },
             words: &[],
             before,
             after,
@@ -105,7 +132,7 @@ impl Walk {
     /// The value of each cell, from those of lower cells and the arrays.
     fn put_values(&self, before: &[u8], after: &mut [u8], starts: bool) {
         for (number, cell) in self.netlist.cells.iter().enumerate() {
-            let step = self.step(before, after, starts);
+            let step = self.step(number, before, after, starts);
             let value = match cell.kind {
                 READ => {
                     let array = self.netlist.cells[usize::from(cell.a)].delay;
@@ -119,9 +146,9 @@ impl Walk {
     }
 
     /// What a cell keeps beside its value.
-    fn put_rest(&self, before: &[u8], after: &mut [u8]) {
+    fn put_rest(&self, before: &[u8], after: &mut [u8], starts: bool) {
         for number in 0..self.netlist.cells.len() {
-            let mut kept = self.step(before, after, false).expected(number);
+            let mut kept = self.step(number, before, after, starts).expected(number);
             let called = before[8 + 40 * number + 4] | kept[4] | kept[0];
             if self.fault == Fault::NotCleared && self.netlist.cells[number].kind == RETURN {
                 kept[4] = called;

@@ -14,6 +14,8 @@ pub const MOST_DELAY: u32 = 255;
 pub struct Author<'a> {
     pub random: &'a mut Random,
     pub times: &'a Times,
+    /// The length of its pulses.
+    pub pulse: u8,
     pub sides: Sides,
     /// Whether it writes loops.
     pub loops: bool,
@@ -44,6 +46,15 @@ impl Author<'_> {
             _ => self.random.between(least as usize, MOST_DELAY as usize) as u32,
         };
         self.bytes[place] = delay as u8;
+    }
+
+    /// A delay for what may be gone through again, and for an expression's time.
+    pub fn set_delay_again(&mut self, place: usize, time: u32) {
+        let apart = match self.pulse {
+            1 => 1,
+            longer => u32::from(longer) + 1,
+        };
+        self.set_delay(place, time.max(apart));
     }
 
     /// One of the variables of a set that has some.

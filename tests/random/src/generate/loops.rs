@@ -9,7 +9,7 @@ impl Author<'_> {
     pub fn free_loop(&mut self, kind: u8, limit: usize, scope: Scope) {
         let place = self.node(kind, 0);
         let time = self.own_expression(limit - 1, scope);
-        self.set_delay(place, time.max(1));
+        self.set_delay_again(place, time);
         self.statement(limit, scope);
     }
 
@@ -18,7 +18,7 @@ impl Author<'_> {
         let variable = self.variable(scope.writes);
         let place = self.node(22, 0);
         self.node(2, variable);
-        self.set_delay(place, 1);
+        self.set_delay_again(place, 0);
         self.counting_body(variable, limit, scope);
     }
 
@@ -29,7 +29,7 @@ impl Author<'_> {
         self.node(8, 0);
         self.node(2, variable);
         self.node(1, 0);
-        self.set_delay(place, self.times.of(Operator::Equal));
+        self.set_delay_again(place, self.times.of(Operator::Equal));
         self.counting_body(variable, limit, scope);
     }
 
@@ -42,7 +42,7 @@ impl Author<'_> {
     /// loop, with a delay; its body comes next.
     fn loop_node(&mut self) {
         let place = self.node(25, 0);
-        self.set_delay(place, 1);
+        self.set_delay_again(place, 0);
     }
 
     /// loop body; if e then exit else rest, or with the branches or the statements

@@ -28,25 +28,26 @@ pub struct Program {
 
 const MOST_NODES: usize = 200;
 
-/// A program of up to 200 nodes, whose delays are long enough for these times.
-pub fn program(random: &mut Random, times: &Times) -> Program {
-    written(random, times, Sides::Apart)
+/// A program of up to 200 nodes, whose delays are long enough for these times and
+/// for pulses of this length.
+pub fn program(random: &mut Random, times: &Times, pulse: u8) -> Program {
+    written(random, times, pulse, Sides::Apart)
 }
 
 /// The same, of which the sides of a parallel node may clash.
-pub fn clashing_program(random: &mut Random, times: &Times) -> Program {
-    written(random, times, Sides::Clashing)
+pub fn clashing_program(random: &mut Random, times: &Times, pulse: u8) -> Program {
+    written(random, times, pulse, Sides::Clashing)
 }
 
 /// The same, of which exits in a side of a parallel node may be meant for a loop
 /// around that node.
-pub fn leaving_program(random: &mut Random, times: &Times) -> Program {
-    written(random, times, Sides::Leaving)
+pub fn leaving_program(random: &mut Random, times: &Times, pulse: u8) -> Program {
+    written(random, times, pulse, Sides::Leaving)
 }
 
 /// The same, of which both sides of a parallel node may reach one procedure.
-pub fn sharing_program(random: &mut Random, times: &Times) -> Program {
-    written(random, times, Sides::Sharing)
+pub fn sharing_program(random: &mut Random, times: &Times, pulse: u8) -> Program {
+    written(random, times, pulse, Sides::Sharing)
 }
 
 /// What the sides of a parallel node have to do with each other.
@@ -58,7 +59,7 @@ enum Sides {
     Sharing,
 }
 
-fn written(random: &mut Random, times: &Times, sides: Sides) -> Program {
+fn written(random: &mut Random, times: &Times, pulse: u8, sides: Sides) -> Program {
     let limit = match random.below(10) {
         0..=3 => random.between(1, 12),
         4..=7 => random.between(13, 60),
@@ -83,6 +84,7 @@ fn written(random: &mut Random, times: &Times, sides: Sides) -> Program {
     let mut author = Author {
         random,
         times,
+        pulse,
         sides,
         loops,
         bodies: Vec::new(),

@@ -101,6 +101,6 @@ impl Author<'_> {
 
     fn call(&mut self, procedure: u16) {
         let place = self.node(27, procedure);
-        self.set_delay(place, 1);
+        self.set_delay_again(place, 0);
     }
 }

@@ -10,19 +10,26 @@ use values::Given;
 fn every_program_is_accepted_and_every_kind_occurs() {
     let least = Times([0, 0, 1, 1, 1, 1, 1, 1, 1, 1]);
     let most = Times([0, 0, 200, 200, 200, 200, 200, 200, 200, 200]);
-    for times in [BUILT_IN, least, most] {
-        accepted_and_every_kind_occurs(&times);
+    for (times, pulse) in [
+        (BUILT_IN, 1),
+        (least, 1),
+        (most, 1),
+        (BUILT_IN, 2),
+        (least, 8),
+    ] {
+        accepted_and_every_kind_occurs(&times, pulse);
     }
 }
 
-fn accepted_and_every_kind_occurs(times: &Times) {
+fn accepted_and_every_kind_occurs(times: &Times, pulse: u8) {
     let mut seen = [0; 256];
     let mut largest = 0;
     for seed in 0..2_500 {
-        let program = program(&mut Random::new(seed), times);
+        let program = program(&mut Random::new(seed), times, pulse);
         let given = Given {
             table: Some(&times.file()),
             procedures: program.procedures,
+            pulse,
         };
         let checked = calls::check(given, &program.bytes);
         assert_eq!(checked, Ok(()), "seed {seed}: {program:?}");
@@ -85,8 +92,8 @@ fn is_exit(statement: &Statement) -> bool {
 /// The trees of so many accepted programs.
 fn trees(count: u64) -> Vec<Tree> {
     let tree = |seed: u64| {
-        let Program { procedures, bytes } = program(&mut Random::new(seed), &BUILT_IN);
-        check::check(&bytes, procedures, &BUILT_IN).expect("it is accepted")
+        let Program { procedures, bytes } = program(&mut Random::new(seed), &BUILT_IN, 1);
+        check::check(&bytes, procedures, 1, &BUILT_IN).expect("it is accepted")
     };
     (0..count).map(tree).collect()
 }

@@ -13,7 +13,7 @@ returns c =
     let put = call .before .before .before .before .before .before .before .put16 in
     let args = call .before .before .before .before .before .before .before .before .before .before .args in
     let told = rw (call .before .before .before .before .load-if .ensures) at (call .run-program .ensures .0) in
-    run-from (load (beside builtIn (args .procedures))) (args .program .now) (args .word) (args .budget) (replicate 6656 0) (replicate 41480 0) (start-put (args .word) (put .ensures)) told
+    run-from (load (beside builtIn (args .procedures) 1)) (args .program .now) (args .word) (args .budget) (replicate 6656 0) (replicate 41480 0) (start-put (args .word) (put .ensures)) told
 
 pub by-circuit-spec : {M : Type 1} → statement M
 by-circuit-spec =

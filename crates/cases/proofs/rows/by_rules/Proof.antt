@@ -15,7 +15,7 @@ returns c =
     let put = c .before .before .before .before .before .put16 in
     let args = c .before .before .before .before .before .before .before .before .args in
     let told = rw (c .before .before .load-if .ensures) at (c .reference-run .ensures) in
-    told ∙ ap (λ (words : List ℕ). referenceCall (load (beside builtIn (args .procedures))) (args .program .now) words (args .budget)) (start-put (args .word) (put .ensures))
+    told ∙ ap (λ (words : List ℕ). referenceCall (load (beside builtIn (args .procedures) 1)) (args .program .now) words (args .budget)) (start-put (args .word) (put .ensures))
 
 pub by-rules-spec : {M : Type 1} → statement M
 by-rules-spec =

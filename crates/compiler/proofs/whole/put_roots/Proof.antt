@@ -14,20 +14,20 @@ use Rattle.compiler.proofs.whole.put_roots.Statement.{statement}
 use Rattle.compiler.proofs.whole.put_roots.Tie as tie
 
 abbrev Inv-loop : tie.InvT-loop
-Inv-loop cells₀ marks₀ callers count program ends procedures memory outs₀ finishes₀ nodes at₀ r₀ cells marks outs finishes at r =
+Inv-loop cells₀ marks₀ callers count program ends procedures memory pulse outs₀ finishes₀ nodes at₀ r₀ cells marks outs finishes at r =
     (r ≤ procedures + 1) × (length outs ≡ 200)
-    × ((cs : List Source) → Told cs callers count → Rooting (programOf procedures program) cs memory cells₀ marks₀ cells marks finishes at r)
+    × ((cs : List Source) → Told cs callers count → Rooting (programOf pulse procedures program) cs memory cells₀ marks₀ cells marks finishes at r)
 
 abbrev μ-loop : tie.MeasureT-loop
-μ-loop cells₀ marks₀ callers count program ends procedures memory outs₀ finishes₀ nodes at₀ r₀ cells marks outs finishes at r = procedures + 1 - r
-
-add-t17 : tie.Need-add-t17 Inv-loop μ-loop
-add-t17 c =
-    let pre = c .before .before .pre in
-    omega (arith, pre .room)
+μ-loop cells₀ marks₀ callers count program ends procedures memory pulse outs₀ finishes₀ nodes at₀ r₀ cells marks outs finishes at r = procedures + 1 - r
 
 add-t18 : tie.Need-add-t18 Inv-loop μ-loop
 add-t18 c =
+    let pre = c .before .before .pre in
+    omega (arith, pre .room)
+
+add-t19 : tie.Need-add-t19 Inv-loop μ-loop
+add-t19 c =
     let pre = c .before .before .pre in
     omega (arith, pre .room)
 
@@ -35,8 +35,8 @@ loop-holds : tie.Need-loop-holds Inv-loop μ-loop
 loop-holds c =
     (omega arith, refl, λ cs T. rooting-start _ _ _ _ _ _ refl)
 
-cast-t20 : tie.Need-cast-t20 Inv-loop μ-loop
-cast-t20 c =
+cast-t21 : tie.Need-cast-t21 Inv-loop μ-loop
+cast-t21 c =
     let pre = c .before .before .before .before .pre in
     let loop-test = c .loop-test in
     omega (arith, few-procedures (pre .given), loop-test .taken)
@@ -115,10 +115,10 @@ put-roots-spec =
     (tie.spec
     Inv-loop
     μ-loop
-    add-t17
     add-t18
+    add-t19
     loop-holds
-    cast-t20
+    cast-t21
     skip-requires
     (λ c κs. search needs)
     put-root-requires

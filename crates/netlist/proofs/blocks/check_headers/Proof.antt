@@ -10,10 +10,10 @@ use Rattle.netlist.proofs.blocks.check_headers.Statement.{statement}
 use Rattle.netlist.proofs.blocks.check_headers.Tie as tie
 
 abbrev Inv-loop : tie.InvT-loop
-Inv-loop s m count finish b₀ b = Searched (headerFault s) m b
+Inv-loop s m pulse count finish b₀ b = Searched (headerFault s) m b
 
 abbrev μ-loop : tie.MeasureT-loop
-μ-loop s m count finish b₀ b = m - b
+μ-loop s m pulse count finish b₀ b = m - b
 
 loop-holds : tie.Need-loop-holds Inv-loop μ-loop
 loop-holds c = searched-none (headerFault (c .before .args .s .now)) (c .before .args .m)
@@ -26,7 +26,7 @@ returns c =
     let loop = c .before .before .before .loop in
     let unheaded = sym (c .before .is-headed .ensures) ∙ not-true (c .before .is-headed .result) (c .if1 .taken) in
     fault-here (loop .inv) 11 (c .before .before .loop-test .taken) (omega arith)
-    (header-wrong (args .s .now) (loop .b) (pre .3) (pre .4) unheaded)
+    (header-wrong (args .s .now) (loop .b) (pre .5) (pre .3) (pre .4) unheaded)
 
 loop-again : tie.Need-loop-again Inv-loop μ-loop
 loop-again c =
@@ -35,7 +35,7 @@ loop-again c =
     let pre = start .pre in
     let loop = c .before .before .before .loop in
     let headed = sym (c .before .is-headed .ensures) ∙ not-false (c .before .is-headed .result) (c .if1 .left) in
-    fault-next (loop .inv) (c .before .before .loop-test .taken) (header-right (args .s .now) (loop .b) (pre .3) (pre .4) headed)
+    fault-next (loop .inv) (c .before .before .loop-test .taken) (header-right (args .s .now) (loop .b) (pre .5) (pre .3) (pre .4) headed)
 
 returns-2 : tie.Need-returns-2 Inv-loop μ-loop
 returns-2 c = faults-end (c .before .loop .inv) (c .loop-test .left)

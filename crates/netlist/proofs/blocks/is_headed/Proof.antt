@@ -6,15 +6,14 @@ use Rattle.netlist.proofs.blocks.is_headed.Tie as tie
 
 returns : tie.Need-returns
 returns c =
-    let args = c .before .before .before .before .before .args in
-    headed-is (args .s .now) (args .b) (args .count) (args .finish) (c .before .before .before .get16 .ensures)
+    let args = c .before .before .before .before .before .before .args in
+    headed-is (args .s .now) (args .b) (args .pulse) (args .count) (args .finish) (c .before .before .before .before .first-number .ensures) (c .before .before .before .get16 .ensures)
     (c .before .before .get162 .ensures) (c .before .get163 .ensures) (c .zero-from .ensures)
 
 pub is-headed-spec : {M : Type 1} → statement M
 is-headed-spec =
     tie.close
     (tie.spec
-    (λ c. search needs)
     (λ c κs. search needs)
     (λ c. search needs)
     (λ c. search needs)
@@ -24,8 +23,12 @@ is-headed-spec =
     (λ c κs. search needs)
     (λ c. search needs)
     (λ c. search needs)
+    (λ c κs. search needs)
+    (λ c. search needs)
+    (λ c. search needs)
     (λ c. search needs)
     (λ c. search needs)
     (λ c. search needs)
     (λ c κs. search needs)
+    (λ c. search needs)
     returns)

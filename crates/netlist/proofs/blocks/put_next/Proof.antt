@@ -13,7 +13,7 @@ returns c =
     let low = start .pre .0 in
     let put = c .before .before .before .before .before .before .before .put-cell .ensures in
     λ net was l e p.
-    put-last net (args .finish) was (args .k) (omega (arith, l, low)) e (rw l refl) p
+    put-last (args .first) net (args .finish) was (args .k) (omega (arith, l, low)) e (rw l refl) p
     (c .before .before .before .before .before .before .before .before .before .sum-before .ensures) (put .0) (put .1) (sym l)
     (c .before .before .before .before .if1 .taken) (c .before .before .close-block .ensures)
 
@@ -24,13 +24,14 @@ returns-2 c =
     let low = start .pre .0 in
     let put = c .before .before .before .put-cell .ensures in
     λ net was l e p.
-    put-inside net (args .finish) was (args .k) (omega (arith, l, low)) e (rw l refl) p
+    put-inside (args .first) net (args .finish) was (args .k) (omega (arith, l, low)) e (rw l refl) p
     (c .before .before .before .before .before .sum-before .ensures) (put .0) (put .1) (sym l) (c .if1 .left)
 
 pub put-next-spec : {M : Type 1} → statement M
 put-next-spec =
     tie.close
     (tie.spec
+    (λ c. search needs)
     (λ c. search needs)
     (λ c. search needs)
     (λ c κs. search needs)

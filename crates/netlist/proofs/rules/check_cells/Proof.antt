@@ -27,7 +27,7 @@ cell-at-requires : tie.Need-cell-at-requires Inv-loop μ-loop
 cell-at-requires c κs =
     let pre = c .before .before .before .before .pre in
     let h = c .loop-test .taken in
-    (omega (arith, pre .few, h), cell-fits pre (c .before .loop .k) h)
+    (omega (arith, pre .few, h), cell-fits pre (c .before .loop .k) (omega (arith, h)))
 
 step-requires : tie.Need-step-requires Inv-loop μ-loop
 step-requires c κs =
@@ -45,7 +45,7 @@ loop-again c =
     let h = c .before .before .before .before .before .before .loop-test .taken in (
       omega arith,
       c .step .ensures (cellsAt at s 0 n) (args .finish) (record {
-        here = cell-of at s n (loop .k) h ∙ sym (c .before .before .before .before .before .cell-at .ensures);
+        here = cell-of at s n (loop .k) (omega (arith, h)) ∙ sym (c .before .before .before .before .before .cell-at .ensures);
         first = λ _. c .before .before .before .kind-at .ensures;
         second = λ _. c .before .kind-at2 .ensures;
       }) (loop .inv .1),

@@ -13,7 +13,7 @@ use Rattle.program.proofs.clashes.bodies_with.Tie as tie
 
 abbrev Inv-loop : tie.InvT-loop
 Inv-loop program ends procedures mark count bodies₀ p₀ bodies p =
-    (p ≤ procedures) × (length bodies ≡ 8) × Staged (programOf procedures program .bodies) mark p bodies
+    (p ≤ procedures) × (length bodies ≡ 8) × Staged (programOf 1 procedures program .bodies) mark p bodies
 
 abbrev μ-loop : tie.MeasureT-loop
 μ-loop program ends procedures mark count bodies₀ p₀ bodies p = procedures - p
@@ -51,7 +51,7 @@ returns : tie.Need-returns Inv-loop μ-loop
 returns c = λ p.
     let pre = c .before .before .before .pre in
     let loop = c .before .loop in
-    loop .inv .2 p ∙ stage-all _ _ _ (omega (arith, loop .inv .0, c .loop-test .left, count-bodies _ _ (pre .readable))) p
+    loop .inv .2 p ∙ stage-all _ _ _ (omega (arith, loop .inv .0, c .loop-test .left, count-bodies _ _ (pre .readable) 1)) p
 
 pub bodies-with-spec : {M : Type 1} → statement M
 bodies-with-spec =

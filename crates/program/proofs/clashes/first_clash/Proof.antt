@@ -18,14 +18,14 @@ use Rattle.program.proofs.clashes.first_clash.Tie as tie
 
 abbrev Inv-loop : tie.InvT-loop
 Inv-loop program ends procedures shared count most i second x₀ x =
-    (x ≤ most) × noneBelow (programOf procedures program .bodies) shared (stmtAt program (i + 1)) (stmtAt program second) x
+    (x ≤ most) × noneBelow (programOf 1 procedures program .bodies) shared (stmtAt program (i + 1)) (stmtAt program second) x
 
 abbrev μ-loop : tie.MeasureT-loop
 μ-loop program ends procedures shared count most i second x₀ x = most - x
 
 abbrev Inv-nodes : tie.InvT-nodes
 Inv-nodes program ends procedures shared count most i₀ i =
-    Searched (clashFault (programOf procedures program .bodies) shared program) (nodeCount program) i
+    Searched (clashFault (programOf 1 procedures program .bodies) shared program) (nodeCount program) i
 
 abbrev μ-nodes : tie.MeasureT-nodes
 μ-nodes program ends procedures shared count most i₀ i = count - i
@@ -80,7 +80,7 @@ nodes-again c =
     let most-of = c .before .before .before .before .before .before .before .before .most-of in
     let next = c .before .before .next in
     let e : loop .x ≡ most-of .result = omega (arith, loop .inv .0, c .loop-test .left) in
-    let all = e ∙ most-of .ensures ∙ ap (λ (n : ℕ). pick (start .args .shared) n 20) (sym (count-bodies _ _ (pre .readable))) in
+    let all = e ∙ most-of .ensures ∙ ap (λ (n : ℕ). pick (start .args .shared) n 20) (sym (count-bodies _ _ (pre .readable) 1)) in
     fault-next (nodes .inv) (nodes-test .taken)
     (clash-fault _ _ _ _ false
     (crosses-none _ _ _ _ _ all (loop .inv .1)
@@ -105,7 +105,7 @@ returns c =
     let nodes = c .before .before .before .before .nodes in
     let most-of = c .before .before .before .before .before .most-of in
     let clash-number = c .before .clash-number in
-    let all = most-of .ensures ∙ ap (λ (n : ℕ). pick (start .args .shared) n 20) (sym (count-bodies _ _ (pre .readable))) in
+    let all = most-of .ensures ∙ ap (λ (n : ℕ). pick (start .args .shared) n 20) (sym (count-bodies _ _ (pre .readable) 1)) in
     ⊎-elim (λ w. absurd (omega (arith, w .left, c .before .before .if3 .taken)))
     (λ w.
     c .refused .ensures

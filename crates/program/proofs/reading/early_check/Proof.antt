@@ -18,7 +18,7 @@ unfolding tooManyProcedures
 beside k s l b e f = ap (λ (l : Bool). ltb 8 k || l) (sym e) ∙ f
 
 returns : tie.Need-returns
-returns c = λ τ.
+returns c = λ τ w.
     let args = c .before .before .before .before .args in
     rw (beside (args .procedures) _ _ _ (c .before .before .length-wrong .ensures) (c .before .if1 .taken)) (c .refused .ensures)
 
@@ -31,14 +31,14 @@ first-misread-requires c κs =
     (right-length _ (sym (length-wrong .ensures) ∙ b .1), ltb-false 8 _ (b .0))
 
 returns-2 : tie.Need-returns-2
-returns-2 c = λ τ.
+returns-2 c = λ τ w.
     let length-wrong = c .before .before .before .before .before .length-wrong in
     let if1 = c .before .before .before .before .if1 in
     let first-fault = c .before .before .before .first-fault in
     rw (beside _ _ _ _ (length-wrong .ensures) (if1 .left), ← first-fault .ensures, c .before .faults .given .1)
 
 returns-3 : tie.Need-returns-3
-returns-3 c = λ τ.
+returns-3 c = λ τ w.
     let length-wrong = c .before .before .before .before .before .length-wrong in
     let if1 = c .before .before .before .before .if1 in
     let first-fault = c .before .before .before .first-fault in

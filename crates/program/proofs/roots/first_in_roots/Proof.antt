@@ -12,7 +12,7 @@ use Rattle.program.proofs.roots.first_in_roots.Tie as tie
 
 abbrev Inv-loop : tie.InvT-loop
 Inv-loop program ends procedures late count r₀ r =
-    inRoots (rootFault late) 0 (roots (programOf procedures program)) 0 ≡ fromRoot late procedures program ends r
+    inRoots (rootFault late) 0 (roots (programOf 1 procedures program)) 0 ≡ fromRoot late procedures program ends r
 
 abbrev μ-loop : tie.MeasureT-loop
 μ-loop program ends procedures late count r₀ r = procedures + 1 - r

@@ -11,10 +11,10 @@ use Rattle.program.proofs.times.first_slow.Statement.{statement}
 use Rattle.program.proofs.times.first_slow.Tie as tie
 
 abbrev Inv-loop : tie.InvT-loop
-Inv-loop operators program times ends count i₀ i = Searched (delayFault (timeIn operators) program) (nodeCount program) i
+Inv-loop operators pulse program times ends count i₀ i = Searched (delayFault (timeIn operators) pulse program) (nodeCount program) i
 
 abbrev μ-loop : tie.MeasureT-loop
-μ-loop operators program times ends count i₀ i = count - i
+μ-loop operators pulse program times ends count i₀ i = count - i
 
 loop-holds : tie.Need-loop-holds Inv-loop μ-loop
 loop-holds c = searched-none _ _
@@ -35,7 +35,7 @@ returns c =
     let τ = timeIn (now (c .before .before .before .before .before .before .before .before .before .args .operators)) in
     c .refused .ensures
     ∙ fault-here (loop .inv) 7 (loop-test .taken) (omega arith)
-    (slow-at τ _ _ _ (read-node .ensures) _ (c .before .before .least-at .ensures) (c .before .if1 .taken))
+    (slow-at τ _ _ _ _ (read-node .ensures) _ (c .before .before .least-at .ensures) (c .before .if1 .taken))
 
 loop-again : tie.Need-loop-again Inv-loop μ-loop
 loop-again c =
@@ -43,7 +43,7 @@ loop-again c =
     let loop-test = c .before .before .before .before .loop-test in
     let read-node = c .before .before .before .read-node in
     let τ = timeIn (now (c .before .before .before .before .before .before .before .before .args .operators)) in
-    fault-next (loop .inv) (loop-test .taken) (not-slow-at τ _ _ _ (read-node .ensures) _ (c .before .least-at .ensures) (c .if1 .left))
+    fault-next (loop .inv) (loop-test .taken) (not-slow-at τ _ _ _ _ (read-node .ensures) _ (c .before .least-at .ensures) (c .if1 .left))
 
 returns-2 : tie.Need-returns-2 Inv-loop μ-loop
 returns-2 c = faults-end (c .before .loop .inv) (c .loop-test .left)

@@ -20,7 +20,7 @@ module _ (t : ℕ) where
   returns : lts.Need-returns calls (body-here t) body-reads.Post
   returns c =
       let pre = c .before .before .before .pre in
-      stands-as _ _ _ (called-none _ _ (pre .1 .enough) _ (c .before .if1 .taken)) (run-ok _ _ _ (c .pause .ensures))
+      stands-as _ _ _ _ (called-none _ _ (pre .1 .enough) _ (c .before .if1 .taken)) (run-ok _ _ _ _ (c .pause .ensures))
 
   skip-requires : lts.Need-skip-requires calls (body-here t) body-reads.Post
   skip-requires c κs =
@@ -37,7 +37,7 @@ module _ (t : ℕ) where
   returns-2 c =
       let pre = c .before .before .before .before .pre in
       let is = called-body _ _ (pre .1 .fit .laid) _ (pre .1 .enough) _ (c .before .before .if1 .left) _ (c .before .skip .ensures) in
-      stands-as _ _ _ is (c .run-at .ensures)
+      stands-as _ _ _ _ is (c .run-at .ensures)
 
   pub body-closed : {M : Type 1} → lts.Closed calls (body-here t) body-reads.Post M
   body-closed =

@@ -36,12 +36,12 @@ module _ (t : ℕ) where
   returns c =
       let pause = c .before .before .before .before .before .pause in
       let if1 = c .before .before .before .before .if1 in
-      seq-ends _ _ _ _ _ _ (run-tick _ _ _ _ (pause .ensures)) (if1 .taken) _ (c .before .body-at .ensures) (c .later .ensures)
+      seq-ends _ _ _ _ _ _ _ (run-tick _ _ _ _ _ (pause .ensures)) (if1 .taken) _ (c .before .body-at .ensures) (c .later .ensures)
 
   returns-2 : lts.Need-returns-2 calls (call-here t) call-reads.Post
   returns-2 c =
       let pause = c .before .pause in
-      seq-unended _ _ _ _ _ (run-tick _ _ _ _ (pause .ensures)) (c .if1 .left)
+      seq-unended _ _ _ _ _ _ (run-tick _ _ _ _ _ (pause .ensures)) (c .if1 .left)
 
   pub call-closed : {M : Type 1} → lts.Closed calls (call-here t) call-reads.Post M
   call-closed =

@@ -19,7 +19,7 @@ module _ (t : ℕ) where
   unfinished-requires c κs = tt
 
   returns : lts.Need-returns calls (if-here t) if-reads.Post
-  returns c = if-still _ _ _ _ _ _ _ (c .before .if1 .taken) (c .unfinished .ensures)
+  returns c = if-still _ _ _ _ _ _ _ _ (c .before .if1 .taken) (c .unfinished .ensures)
 
   eval-at-requires : lts.Need-eval-at-requires calls (if-here t) if-reads.Post
   eval-at-requires c κs =
@@ -39,7 +39,7 @@ module _ (t : ℕ) where
       let if1 = c .before .before .before .before .if1 in
       let eval-at = c .before .before .before .eval-at in
       let if2 = c .before .before .if2 in
-      if-else _ _ _ _ _ _ _ (if1 .left) _ (eval-at .ensures) _ (c .later .ensures) (if2 .taken) (c .before .run-at .ensures)
+      if-else _ _ _ _ _ _ _ _ (if1 .left) _ (eval-at .ensures) _ (c .later .ensures) (if2 .taken) (c .before .run-at .ensures)
 
   run-at-requires-2 : lts.Need-run-at-requires-2 calls (if-here t) if-reads.Post
   run-at-requires-2 c κs =
@@ -54,7 +54,7 @@ module _ (t : ℕ) where
       let if1 = c .before .before .before .before .if1 in
       let eval-at = c .before .before .before .eval-at in
       let if2 = c .before .before .if2 in
-      if-then _ _ _ _ _ _ _ (if1 .left) _ (eval-at .ensures) _ (c .later2 .ensures) (if2 .left) (c .before .run-at2 .ensures)
+      if-then _ _ _ _ _ _ _ _ (if1 .left) _ (eval-at .ensures) _ (c .later2 .ensures) (if2 .left) (c .before .run-at2 .ensures)
 
   pub if-closed : {M : Type 1} → lts.Closed calls (if-here t) if-reads.Post M
   if-closed =

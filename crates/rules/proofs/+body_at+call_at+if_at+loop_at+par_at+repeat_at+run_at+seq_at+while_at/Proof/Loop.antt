@@ -2,7 +2,7 @@
 use Prim.Native.Nat.{ℕ}
 use native.Mathlib.Omega.{arith}
 use Rattle.model.specs.Program.{loop}
-use Rattle.model.specs.Rules.{run}
+use Rattle.model.specs.Rules.{imperative, run}
 use Rattle.rules.specs.Ran.{storeOf, meantAt}
 use Rattle.rules.proofs.Parts.{loop-body, loop-delay}
 use Rattle.rules.proofs.Loops.{loop-unended, loop-out, loop-on, Going, going-start, going-still, going-caught, going-on}
@@ -15,12 +15,12 @@ use Rattle.rules.proofs.+body_at+call_at+if_at+loop_at+par_at+repeat_at
 use Rattle.rules.proofs.+body_at+call_at+if_at+loop_at+par_at+repeat_at+run_at+seq_at+while_at.Proof.Falls.{loop-here, run-below}
 
 abbrev Inv-loop : lts.InvT-loop
-Inv-loop program ends procedures p d words budget held₀ left₀ held left =
+Inv-loop program ends procedures p d words budget pulse held₀ left₀ held left =
     let P = loop d (meantAt procedures program p) in
-    Going budget left (run budget P (storeOf words)) (run left P (storeOf held))
+    Going budget left (run (imperative pulse) budget P (storeOf words)) (run (imperative pulse) left P (storeOf held))
 
 abbrev μ-loop : lts.MeasureT-loop
-μ-loop program ends procedures p d words budget held₀ left₀ held left = left
+μ-loop program ends procedures p d words budget pulse held₀ left₀ held left = left
 
 module _ (t : ℕ) where
   abbrev calls : lts.Claims
@@ -52,7 +52,7 @@ module _ (t : ℕ) where
   returns c =
       let loop = c .before .before .before .before .loop in
       let turn = c .before .before .before .run-at .ensures in
-      let last = loop-unended _ _ _ _ _ turn (c .before .before .if1 .left) in
+      let last = loop-unended _ _ _ _ _ _ turn (c .before .before .if1 .left) in
       going-caught (loop .inv) _ last _ (omega (arith, loop .inv .within)) (turn .within) _ (c .before .later .ensures) _ (c .caught .ensures)
 
   sub-rest : lts.Need-sub-rest calls (loop-here t) loop-reads.Post Inv-loop μ-loop
@@ -67,7 +67,7 @@ module _ (t : ℕ) where
   returns-2 c =
       let run-at = c .before .before .before .before .before .run-at in
       let loop = c .before .before .before .before .before .before .loop in
-      going-still (loop .inv) (loop-out _ _ _ _ _ (run-at .ensures) (c .before .before .before .before .if1 .taken) (c .before .if2 .taken)) (c .unfinished .ensures)
+      going-still (loop .inv) (loop-out _ _ _ _ _ _ (run-at .ensures) (c .before .before .before .before .if1 .taken) (c .before .if2 .taken)) (c .unfinished .ensures)
 
   loop-less : lts.Need-loop-less calls (loop-here t) loop-reads.Post Inv-loop μ-loop
   loop-less c =
@@ -80,7 +80,7 @@ module _ (t : ℕ) where
       let pre = c .before .before .before .before .before .before .before .pre in
       let loop = c .before .before .before .before .before .loop in
       let turn = c .before .before .before .before .run-at .ensures in
-      let on = loop-on _ _ _ _ _ turn (c .before .before .before .if1 .taken) (c .if2 .left) (loop-delay (pre .1)) in
+      let on = loop-on _ _ _ _ _ _ turn (c .before .before .before .if1 .taken) (c .if2 .left) (loop-delay (pre .1)) in
       going-on (loop .inv) _ _ on _ (omega (arith, turn .within))
 
   pub loop-closed : {M : Type 1} → lts.Closed calls (loop-here t) loop-reads.Post M

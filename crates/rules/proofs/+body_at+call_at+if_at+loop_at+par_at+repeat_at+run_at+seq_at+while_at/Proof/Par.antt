@@ -39,7 +39,7 @@ module _ (t : ℕ) where
       let pre = c .before .before .before .before .before .before .before .before .before .pre in
       let if2 = c .before .before .before .before .if2 in
       let second = run-at2 .ensures in
-      par-ends _ _ _ _ _ (run-at .ensures) (if1 .taken) _ second (pre .1 .0 .fit .formed) (pre .1 .0 .fit .separate) (if2 .taken) _ (c .larger .ensures) _ (c .before .joined .ensures)
+      par-ends _ _ _ _ _ _ (run-at .ensures) (if1 .taken) _ second (pre .1 .0 .fit .formed) (pre .1 .0 .fit .separate) (if2 .taken) _ (c .larger .ensures) _ (c .before .joined .ensures)
 
   unfinished-requires : lts.Need-unfinished-requires calls (par-here t) par-reads.Post
   unfinished-requires c κs = tt
@@ -49,7 +49,7 @@ module _ (t : ℕ) where
       let run-at = c .before .before .before .before .run-at in
       let if1 = c .before .before .before .if1 in
       let run-at2 = c .before .before .run-at2 in
-      par-second-still _ _ _ _ _ (run-at .ensures) (if1 .taken) _ (run-at2 .ensures) (c .before .if2 .left) _ (c .unfinished .ensures)
+      par-second-still _ _ _ _ _ _ (run-at .ensures) (if1 .taken) _ (run-at2 .ensures) (c .before .if2 .left) _ (c .unfinished .ensures)
 
   unfinished-requires-2 : lts.Need-unfinished-requires-2 calls (par-here t) par-reads.Post
   unfinished-requires-2 c κs = tt
@@ -57,7 +57,7 @@ module _ (t : ℕ) where
   returns-3 : lts.Need-returns-3 calls (par-here t) par-reads.Post
   returns-3 c =
       let run-at = c .before .before .run-at in
-      par-still _ _ _ _ _ (run-at .ensures) (c .before .if1 .left) _ (c .unfinished2 .ensures)
+      par-still _ _ _ _ _ _ (run-at .ensures) (c .before .if1 .left) _ (c .unfinished2 .ensures)
 
   pub par-closed : {M : Type 1} → lts.Closed calls (par-here t) par-reads.Post M
   par-closed =

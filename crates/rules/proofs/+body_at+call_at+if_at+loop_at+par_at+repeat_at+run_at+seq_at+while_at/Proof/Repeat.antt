@@ -3,7 +3,7 @@ use mathlib.Core.Path.{sym, _∙_}
 use Prim.Native.Nat.{ℕ}
 use native.Mathlib.Omega.{arith}
 use Rattle.model.specs.Program.{repeat, exprAt}
-use Rattle.model.specs.Rules.{run}
+use Rattle.model.specs.Rules.{imperative, run}
 use Rattle.rules.specs.Ran.{storeOf, meantAt}
 use Rattle.rules.proofs.Parts.{repeat-body, repeat-delay}
 use Rattle.rules.proofs.Loops.{after-zero, repeat-unended, repeat-out, repeat-end, repeat-on, Going, going-start, going-still, going-unended, going-end, going-on}
@@ -16,12 +16,12 @@ use Rattle.rules.proofs.+body_at+call_at+if_at+loop_at+par_at+repeat_at
 use Rattle.rules.proofs.+body_at+call_at+if_at+loop_at+par_at+repeat_at+run_at+seq_at+while_at.Proof.Falls.{repeat-here, run-below}
 
 abbrev Inv-loop : lts.InvT-loop
-Inv-loop program ends procedures e p d words budget held₀ left₀ held left =
+Inv-loop program ends procedures e p d words budget pulse held₀ left₀ held left =
     let P = repeat d (exprAt program e) (meantAt procedures program p) in
-    Going budget left (run budget P (storeOf words)) (run left P (storeOf held))
+    Going budget left (run (imperative pulse) budget P (storeOf words)) (run (imperative pulse) left P (storeOf held))
 
 abbrev μ-loop : lts.MeasureT-loop
-μ-loop program ends procedures e p d words budget held₀ left₀ held left = left
+μ-loop program ends procedures e p d words budget pulse held₀ left₀ held left = left
 
 module _ (t : ℕ) where
   abbrev calls : lts.Claims
@@ -50,7 +50,7 @@ module _ (t : ℕ) where
   returns c =
       let loop = c .before .before .before .loop in
       let turn = c .before .before .run-at .ensures in
-      let last = repeat-unended _ _ _ _ _ _ turn (c .before .if1 .left) in
+      let last = repeat-unended _ _ _ _ _ _ _ turn (c .before .if1 .left) in
       going-unended (loop .inv) 0 _ (last ∙ sym (after-zero _)) _ (omega (arith, loop .inv .within)) (omega (arith, turn .within)) _ (c .later .ensures)
 
   sub-rest : lts.Need-sub-rest calls (repeat-here t) repeat-reads.Post Inv-loop μ-loop
@@ -66,7 +66,7 @@ module _ (t : ℕ) where
       let run-at = c .before .before .before .before .before .run-at in
       let if1 = c .before .before .before .before .if1 in
       let loop = c .before .before .before .before .before .before .loop in
-      let out = repeat-out _ _ _ _ _ _ (run-at .ensures) (if1 .taken) (c .before .if2 .taken) in
+      let out = repeat-out _ _ _ _ _ _ _ (run-at .ensures) (if1 .taken) (c .before .if2 .taken) in
       going-still (loop .inv) out (c .unfinished .ensures)
 
   eval-at-requires : lts.Need-eval-at-requires calls (repeat-here t) repeat-reads.Post Inv-loop μ-loop
@@ -74,8 +74,8 @@ module _ (t : ℕ) where
       let pre = c .before .before .before .before .before .before .before .pre in
       pre .1 .fit .laid
 
-  sub-t16 : lts.Need-sub-t16 calls (repeat-here t) repeat-reads.Post Inv-loop μ-loop
-  sub-t16 c =
+  sub-t17 : lts.Need-sub-t17 calls (repeat-here t) repeat-reads.Post Inv-loop μ-loop
+  sub-t17 c =
       let loop = c .before .before .before .before .before .before .before .loop in
       omega (arith, loop .inv .within)
 
@@ -86,7 +86,7 @@ module _ (t : ℕ) where
       let if2 = c .before .before .if2 in
       let loop = c .before .before .before .before .before .before .before .loop in
       let turn = run-at .ensures in
-      let end = repeat-end _ _ _ _ _ _ turn (if1 .taken) (if2 .left) _ (c .before .eval-at .ensures) (c .if3 .taken) in
+      let end = repeat-end _ _ _ _ _ _ _ turn (if1 .taken) (if2 .left) _ (c .before .eval-at .ensures) (c .if3 .taken) in
       going-end (loop .inv) _ _ end _ (omega (arith, loop .inv .within, turn .within)) (omega (arith, turn .within))
 
   loop-less : lts.Need-loop-less calls (repeat-here t) repeat-reads.Post Inv-loop μ-loop
@@ -103,11 +103,11 @@ module _ (t : ℕ) where
       let pre = c .before .before .before .before .before .before .before .before .before .pre in
       let loop = c .before .before .before .before .before .before .before .loop in
       let turn = run-at .ensures in
-      let on = repeat-on _ _ _ _ _ _ turn (if1 .taken) (if2 .left) _ (c .before .eval-at .ensures) (c .if3 .left) (repeat-delay (pre .1)) in
+      let on = repeat-on _ _ _ _ _ _ _ turn (if1 .taken) (if2 .left) _ (c .before .eval-at .ensures) (c .if3 .left) (repeat-delay (pre .1)) in
       going-on (loop .inv) _ _ on _ (omega (arith, turn .within))
 
   pub repeat-closed : {M : Type 1} → lts.Closed calls (repeat-here t) repeat-reads.Post M
   repeat-closed =
       lts.spec calls (repeat-here t) repeat-reads.Post Inv-loop μ-loop
-      loop-holds run-at-requires sub-later later-requires returns sub-rest unfinished-requires returns-2 eval-at-requires sub-t16
+      loop-holds run-at-requires sub-later later-requires returns sub-rest unfinished-requires returns-2 eval-at-requires sub-t17
       returns-3 loop-less loop-again

@@ -74,7 +74,7 @@ module _ (t : ℕ) where
 
   returns : lts.Need-returns calls (run-here t) run-reads.Post
   unfolding inline
-  returns c = stands-as _ _ _ (meant-as _ _ _ (stmt-none _ _ (c .before .if1 .taken))) (run-ok _ _ _ (c .pause .ensures))
+  returns c = stands-as _ _ _ _ (meant-as _ _ _ (stmt-none _ _ (c .before .if1 .taken))) (run-ok _ _ _ _ (c .pause .ensures))
 
   read-node-requires : lts.Need-read-node-requires calls (run-here t) run-reads.Post
   read-node-requires c κs = omega arith
@@ -87,7 +87,7 @@ module _ (t : ℕ) where
   returns-2 c =
       let if1 = c .before .before .before .if1 in
       let read-node = c .before .before .read-node in
-      stands-as _ _ _ (meant-as _ _ _ (low-ok _ _ (if1 .left) _ (read-node .ensures) (c .before .if2 .taken))) (run-ok _ _ _ (c .pause2 .ensures))
+      stands-as _ _ _ _ (meant-as _ _ _ (low-ok _ _ (if1 .left) _ (read-node .ensures) (c .before .if2 .taken))) (run-ok _ _ _ _ (c .pause2 .ensures))
 
   cast-d : lts.Need-cast-d calls (run-here t) run-reads.Post
   cast-d c = omega arith
@@ -207,55 +207,55 @@ module _ (t : ℕ) where
   unfolding run inline
   returns-3 c =
       let n = inner-of (c .before .before) in
-      stands-as _ _ _ (meant-as _ _ _ (at-tick _ _ (n .here) _ (n .node) (c .before .match .keys1))) (c .pause3 .ensures)
+      stands-as _ _ _ _ (meant-as _ _ _ (at-tick _ _ (n .here) _ (n .node) (c .before .match .keys1))) (c .pause3 .ensures)
 
   returns-4 : lts.Need-returns-4 calls (run-here t) run-reads.Post
   unfolding inline
-  returns-4 c = stands-as _ _ _ (meant-as _ _ _ (assign-read (inner-of (c .before .before)) (c .before .match .keys2))) (c .assign-at .ensures)
+  returns-4 c = stands-as _ _ _ _ (meant-as _ _ _ (assign-read (inner-of (c .before .before)) (c .before .match .keys2))) (c .assign-at .ensures)
 
   returns-5 : lts.Need-returns-5 calls (run-here t) run-reads.Post
   unfolding inline
-  returns-5 c = stands-as _ _ _ (meant-as _ _ _ (seq-read (inner-of (c .before .before)) (c .before .match .keys3))) (c .seq-at .ensures)
+  returns-5 c = stands-as _ _ _ _ (meant-as _ _ _ (seq-read (inner-of (c .before .before)) (c .before .match .keys3))) (c .seq-at .ensures)
 
   returns-6 : lts.Need-returns-6 calls (run-here t) run-reads.Post
   unfolding inline
-  returns-6 c = stands-as _ _ _ (meant-as _ _ _ (par-read (inner-of (c .before .before)) (c .before .match .keys4))) (c .par-at .ensures)
+  returns-6 c = stands-as _ _ _ _ (meant-as _ _ _ (par-read (inner-of (c .before .before)) (c .before .match .keys4))) (c .par-at .ensures)
 
   returns-7 : lts.Need-returns-7 calls (run-here t) run-reads.Post
   unfolding inline
-  returns-7 c = stands-as _ _ _ (meant-as _ _ _ (ite-read (inner-of (c .before .before .before)) _ (c .before .next2 .ensures) (c .before .before .match .keys5))) (c .if-at .ensures)
+  returns-7 c = stands-as _ _ _ _ (meant-as _ _ _ (ite-read (inner-of (c .before .before .before)) _ (c .before .next2 .ensures) (c .before .before .match .keys5))) (c .if-at .ensures)
 
   returns-8 : lts.Need-returns-8 calls (run-here t) run-reads.Post
   unfolding inline
-  returns-8 c = stands-as _ _ _ (meant-as _ _ _ (while-read (inner-of (c .before .before)) (c .before .match .keys6))) (c .while-at .ensures)
+  returns-8 c = stands-as _ _ _ _ (meant-as _ _ _ (while-read (inner-of (c .before .before)) (c .before .match .keys6))) (c .while-at .ensures)
 
   returns-9 : lts.Need-returns-9 calls (run-here t) run-reads.Post
   unfolding inline
-  returns-9 c = stands-as _ _ _ (meant-as _ _ _ (assign-elem-read (inner-of (c .before .before)) (c .before .match .keys7))) (c .assign-elem-at .ensures)
+  returns-9 c = stands-as _ _ _ _ (meant-as _ _ _ (assign-elem-read (inner-of (c .before .before)) (c .before .match .keys7))) (c .assign-elem-at .ensures)
 
   returns-10 : lts.Need-returns-10 calls (run-here t) run-reads.Post
   unfolding inline
   returns-10 c =
       let n = inner-of (c .before .before) in
-      stands-as _ _ _ (meant-as _ _ _ (at-loop _ _ (n .here) _ (n .node) (c .before .match .keys8))) (c .loop-at .ensures)
+      stands-as _ _ _ _ (meant-as _ _ _ (at-loop _ _ (n .here) _ (n .node) (c .before .match .keys8))) (c .loop-at .ensures)
 
   returns-11 : lts.Need-returns-11 calls (run-here t) run-reads.Post
   unfolding inline
   returns-11 c =
       let n = inner-of (c .before .before) in
-      stands-as _ _ _ (meant-as _ _ _ (at-exit _ _ (n .here) _ (n .node) (c .before .match .keys9))) (run-exit _ _ _ (c .leaving .ensures))
+      stands-as _ _ _ _ (meant-as _ _ _ (at-exit _ _ (n .here) _ (n .node) (c .before .match .keys9))) (run-exit _ _ _ _ (c .leaving .ensures))
 
   returns-12 : lts.Need-returns-12 calls (run-here t) run-reads.Post
   unfolding inline
   returns-12 c =
       let n = inner-of (c .before .before .before) in
-      stands-as _ _ _ (meant-as _ _ _ (at-call _ _ (n .here) _ (n .node) (c .before .before .match .keys10))) (c .call-at .ensures)
+      stands-as _ _ _ _ (meant-as _ _ _ (at-call _ _ (n .here) _ (n .node) (c .before .before .match .keys10))) (c .call-at .ensures)
 
   returns-13 : lts.Need-returns-13 calls (run-here t) run-reads.Post
   unfolding inline
   returns-13 c =
       let rest = c .before .match .rest in
-      stands-as _ _ _ (meant-as _ _ _ (repeat-read (inner-of (c .before .before)) (last-of (c .before)) (rest .0 .0 .0 .1) (rest .0 .0 .1) (rest .0 .1) (rest .1))) (c .repeat-at .ensures)
+      stands-as _ _ _ _ (meant-as _ _ _ (repeat-read (inner-of (c .before .before)) (last-of (c .before)) (rest .0 .0 .0 .1) (rest .0 .0 .1) (rest .0 .1) (rest .1))) (c .repeat-at .ensures)
 
   pub run-closed : {M : Type 1} → lts.Closed calls (run-here t) run-reads.Post M
   run-closed =

@@ -37,12 +37,12 @@ module _ (t : ℕ) where
   returns c =
       let run-at = c .before .before .before .before .before .run-at in
       let if1 = c .before .before .before .before .if1 in
-      seq-ends _ _ _ _ _ _ (run-at .ensures) (if1 .taken) _ (c .before .run-at2 .ensures) (c .later .ensures)
+      seq-ends _ _ _ _ _ _ _ (run-at .ensures) (if1 .taken) _ (c .before .run-at2 .ensures) (c .later .ensures)
 
   returns-2 : lts.Need-returns-2 calls (seq-here t) seq-reads.Post
   returns-2 c =
       let run-at = c .before .run-at in
-      seq-unended _ _ _ _ _ (run-at .ensures) (c .if1 .left)
+      seq-unended _ _ _ _ _ _ (run-at .ensures) (c .if1 .left)
 
   pub seq-closed : {M : Type 1} → lts.Closed calls (seq-here t) seq-reads.Post M
   seq-closed =

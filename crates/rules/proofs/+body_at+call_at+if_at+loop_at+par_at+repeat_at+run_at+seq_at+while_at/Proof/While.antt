@@ -2,7 +2,7 @@
 use Prim.Native.Nat.{ℕ}
 use native.Mathlib.Omega.{arith}
 use Rattle.model.specs.Program.{while, exprAt}
-use Rattle.model.specs.Rules.{run}
+use Rattle.model.specs.Rules.{imperative, run}
 use Rattle.rules.specs.Ran.{storeOf, meantAt}
 use Rattle.rules.proofs.Parts.{while-body, while-delay}
 use Rattle.rules.proofs.Loops.{while-out, while-end, while-unended, while-on, Going, going-start, going-still, going-unended, going-end, going-on}
@@ -15,12 +15,12 @@ use Rattle.rules.proofs.+body_at+call_at+if_at+loop_at+par_at+repeat_at
 use Rattle.rules.proofs.+body_at+call_at+if_at+loop_at+par_at+repeat_at+run_at+seq_at+while_at.Proof.Falls.{while-here, run-below}
 
 abbrev Inv-loop : lts.InvT-loop
-Inv-loop program ends procedures e p d words budget held₀ left₀ held left =
+Inv-loop program ends procedures e p d words budget pulse held₀ left₀ held left =
     let P = while d (exprAt program e) (meantAt procedures program p) in
-    Going budget left (run budget P (storeOf words)) (run left P (storeOf held))
+    Going budget left (run (imperative pulse) budget P (storeOf words)) (run (imperative pulse) left P (storeOf held))
 
 abbrev μ-loop : lts.MeasureT-loop
-μ-loop program ends procedures e p d words budget held₀ left₀ held left = left
+μ-loop program ends procedures e p d words budget pulse held₀ left₀ held left = left
 
 module _ (t : ℕ) where
   abbrev calls : lts.Claims
@@ -34,8 +34,8 @@ module _ (t : ℕ) where
       let pre = c .before .before .before .pre in
       pre .1 .fit .laid
 
-  sub-t15 : lts.Need-sub-t15 calls (while-here t) while-reads.Post Inv-loop μ-loop
-  sub-t15 c =
+  sub-t16 : lts.Need-sub-t16 calls (while-here t) while-reads.Post Inv-loop μ-loop
+  sub-t16 c =
       let loop = c .before .before .before .loop in
       omega (arith, loop .inv .within)
 
@@ -43,7 +43,7 @@ module _ (t : ℕ) where
   returns c =
       let loop-test = c .before .before .loop-test in
       let loop = c .before .before .before .loop in
-      let end = while-end _ _ _ _ _ (loop-test .taken) _ (c .before .eval-at .ensures) (c .if1 .taken) in
+      let end = while-end _ _ _ _ _ _ (loop-test .taken) _ (c .before .eval-at .ensures) (c .if1 .taken) in
       going-end (loop .inv) _ _ end _ (omega (arith, loop .inv .within)) (loop-test .taken)
 
   run-at-requires : lts.Need-run-at-requires calls (while-here t) while-reads.Post Inv-loop μ-loop
@@ -71,7 +71,7 @@ module _ (t : ℕ) where
       let pre = c .before .before .before .before .before .before .before .before .before .pre in
       let loop = c .before .before .before .before .before .before .before .loop in
       let turn = run-at .ensures in
-      let on = while-on _ _ _ _ _ (loop-test .taken) _ (eval-at .ensures) (if1 .left) _ turn (if2 .taken) (while-delay (pre .1)) in
+      let on = while-on _ _ _ _ _ _ (loop-test .taken) _ (eval-at .ensures) (if1 .left) _ turn (if2 .taken) (while-delay (pre .1)) in
       going-on (loop .inv) _ _ on _ (omega (arith, turn .within))
 
   sub-later : lts.Need-sub-later calls (while-here t) while-reads.Post Inv-loop μ-loop
@@ -93,7 +93,7 @@ module _ (t : ℕ) where
       let run-at = c .before .before .run-at in
       let loop = c .before .before .before .before .before .before .loop in
       let turn = run-at .ensures in
-      let last = while-unended _ _ _ _ _ (loop-test .taken) _ (eval-at .ensures) (if1 .left) _ turn (c .before .if2 .left) in
+      let last = while-unended _ _ _ _ _ _ (loop-test .taken) _ (eval-at .ensures) (if1 .left) _ turn (c .before .if2 .left) in
       going-unended (loop .inv) _ _ last _ (omega (arith, loop .inv .within)) (omega (arith, turn .within)) _ (c .later .ensures)
 
   unfinished-requires : lts.Need-unfinished-requires calls (while-here t) while-reads.Post Inv-loop μ-loop
@@ -102,10 +102,10 @@ module _ (t : ℕ) where
   returns-3 : lts.Need-returns-3 calls (while-here t) while-reads.Post Inv-loop μ-loop
   returns-3 c =
       let loop = c .before .before .loop in
-      going-still (loop .inv) (while-out _ _ _ _ _ (c .before .loop-test .left)) (c .unfinished .ensures)
+      going-still (loop .inv) (while-out _ _ _ _ _ _ (c .before .loop-test .left)) (c .unfinished .ensures)
 
   pub while-closed : {M : Type 1} → lts.Closed calls (while-here t) while-reads.Post M
   while-closed =
       lts.spec calls (while-here t) while-reads.Post Inv-loop μ-loop
-      loop-holds eval-at-requires sub-t15 returns run-at-requires sub-left loop-less loop-again sub-later later-requires
+      loop-holds eval-at-requires sub-t16 returns run-at-requires sub-left loop-less loop-again sub-later later-requires
       returns-2 unfinished-requires returns-3

@@ -3,14 +3,16 @@ use mathlib.Core.Path.{sym, _∙_, ap}
 use native.Mathlib.Omega.{arith}
 use borrow.Author.Needs.{needs}
 use Rattle.model.specs.Calls.{wordAt}
-use Rattle.simulator.specs.Fits.{netOf}
+use Rattle.simulator.specs.Fits.{netBy}
 use Rattle.simulator.proofs.Cells.{holds-cell}
 use Rattle.simulator.proofs.Memories.{first-memory, first-other}
 use Rattle.simulator.proofs.beginning.first_value.Statement.{statement}
 use Rattle.simulator.proofs.beginning.first_value.Tie as tie
 
 mul-get16 : tie.Need-mul-get16
-mul-get16 c = omega (arith, c .before .before .before .before .pre .2 (c .if1 .taken))
+mul-get16 c =
+    let pre = c .before .before .before .before .pre in
+    omega (arith, pre .2 (c .if1 .taken))
 
 get16-requires : tie.Need-get16-requires
 get16-requires c κs =
@@ -19,19 +21,21 @@ get16-requires c κs =
 
 returns : tie.Need-returns
 returns c =
+    let pre = c .before .before .before .before .before .pre in
     let args = c .before .before .before .before .before .args in
-    let net = netOf (args .cells .now) (args .n) in
+    let net = netBy (args .h) (args .cells .now) in
     λ m.
     c .get16 .ensures ∙ ap (wordAt (args .words .now)) (sym m)
-    ∙ sym (first-memory (args .format) net (wordAt (args .words .now)) (args .state .now) (args .k) (args .c) (holds-cell (c .before .before .before .before .before .pre .0)) (c .before .if1 .taken))
+    ∙ sym (first-memory (args .format) net (wordAt (args .words .now)) (args .state .now) (args .k) (args .c) (holds-cell (pre .0)) (c .before .if1 .taken))
 
 returns-2 : tie.Need-returns-2
 returns-2 c =
+    let pre = c .before .before .before .before .before .pre in
     let args = c .before .before .before .before .before .args in
-    let net = netOf (args .cells .now) (args .n) in
+    let net = netBy (args .h) (args .cells .now) in
     λ m.
     c .next-value .ensures
-    ∙ sym (first-other (args .format) net (wordAt (args .words .now)) (args .state .now) (args .k) (args .c) (holds-cell (c .before .before .before .before .before .pre .0)) (c .before .if1 .left))
+    ∙ sym (first-other (args .format) net (wordAt (args .words .now)) (args .state .now) (args .k) (args .c) (holds-cell (pre .0)) (c .before .if1 .left))
 
 pub first-value-spec : {M : Type 1} → statement M
 first-value-spec =

@@ -25,11 +25,13 @@ loop-holds c = (omega arith, omega arith, refl, omega arith, refl)
 
 loop-again : tie.Need-loop-again Inv-loop μ-loop
 loop-again c =
+    let args = c .before .before .before .before .before .before .before .before .before .args in
+    let test = c .before .before .before .before .before .loop-test in
     let loop = c .before .before .before .before .before .before .loop in
-    let words = wordAt (c .before .before .before .before .before .before .before .before .before .args .words .now) in
+    let words = wordAt (args .words .now) in
     let put = c .before .before .put16 in
     let got = c .before .before .before .before .get16 in
-    let more = words-more words (loop .state) (loop .to) (loop .x) 272 (c .before .before .before .before .before .loop-test .taken) in (
+    let more = words-more words (loop .state) (loop .to) (loop .x) 272 (test .taken) in (
       omega arith,
       omega arith,
       put .kept .0 ∙ loop .inv .2,
@@ -44,8 +46,9 @@ same-length c = c .before .loop .inv .2
 
 returns : tie.Need-returns Inv-loop μ-loop
 returns c =
+    let args = c .before .before .before .before .args in
     let loop = c .before .loop in
-    sym (words-done (wordAt (c .before .before .before .before .args .words .now)) (loop .state) (loop .to) (loop .x) 272 (c .loop-test .left)) ∙ loop .inv .4
+    sym (words-done (wordAt (args .words .now)) (loop .state) (loop .to) (loop .x) 272 (c .loop-test .left)) ∙ loop .inv .4
 
 pub put-elements-spec : {M : Type 1} → statement M
 put-elements-spec =

@@ -1,5 +1,5 @@
 -- `show_first` meets its contract: the state so far is the pass up to cell k, and j memories stand below it. Assumes nothing.
-use Rattle.simulator.proofs.Cells.{stands-in}
+use Rattle.state.proofs.Standing.{stands-in}
 use mathlib.Core.List.{List}
 use mathlib.Core.Path.{_≡_, refl, sym, _∙_, ap}
 use Prim.Native.Nat.{ℕ, _-_, _<_}
@@ -8,13 +8,13 @@ use lib.Dec.{eqb}
 use lib.ListN.{length, take}
 use borrow.Author.Needs.{needs}
 use Rattle.model.specs.Calls.{wordAt}
-use Rattle.model.specs.Circuit.{cellAt, memories}
+use Rattle.model.specs.Circuit.{Netlist, cellAt, memories}
 use Rattle.model.specs.State.{base, firstValue, stored, shown}
 use Rattle.model.specs.Word.{bit, put16}
 use Rattle.model.specs.declared.Cell.{Cell}
 use Rattle.model.specs.declared.Format.{Format}
 use Rattle.laws.specs.State.Bytes.{bit-lt}
-use Rattle.simulator.specs.Fits.{netOf}
+use Rattle.simulator.specs.Fits.{listIn, netBy}
 use Rattle.simulator.proofs.Cells.{net-cell, net-length, holds}
 use Rattle.simulator.proofs.Memories.{below-more, below-lt, below-le}
 use Rattle.simulator.proofs.Passes.{Passed, passed-none, passed-more, passed-all}
@@ -22,11 +22,11 @@ use Rattle.simulator.proofs.beginning.show_first.Statement.{statement}
 use Rattle.simulator.proofs.beginning.show_first.Tie as tie
 
 abbrev Inv-loop : tie.InvT-loop
-Inv-loop format cells n words state₀ j₀ k₀ state j k =
-    Passed (shown format (netOf cells n) (firstValue format (netOf cells n) (wordAt words))) n state₀ state k × (j ≡ memories (take k (netOf cells n)))
+Inv-loop format cells h words state₀ n j₀ k₀ state j k =
+    Passed (shown format (netBy h cells) (firstValue format (netBy h cells) (wordAt words))) n state₀ state k × (j ≡ memories (take k (listIn cells n)))
 
 abbrev μ-loop : tie.MeasureT-loop
-μ-loop format cells n words state₀ j₀ k₀ state j k = n - k
+μ-loop format cells h words state₀ n j₀ k₀ state j k = n - k
 
 loop-holds : tie.Need-loop-holds Inv-loop μ-loop
 unfolding memories
@@ -39,25 +39,26 @@ cell-at-requires c κs =
 
 first-value-requires : tie.Need-first-value-requires Inv-loop μ-loop
 first-value-requires c κs =
-    let start = c .before .before .before .before .before .before .before in
-    let pre = start .pre in
+    let pre = c .before .before .before .before .before .before .before .pre in
     let loop = c .before .before .before .loop in
     let loop-test = c .before .before .loop-test in
     let cell-at = c .before .cell-at in
-    let args = start .args in
+    let args = c .before .before .before .before .before .before .before .args in
     let z = holds (pre .0) (loop .state) (loop .inv .0 .long) (loop .k) (loop-test .taken) _ (cell-at .ensures) in
-    let net = netOf (args .cells .now) (args .n) in
-    let e : cellAt net (loop .k) ≡ cell-at .result = net-cell (args .cells .now) (args .n) (loop .k) (loop-test .taken) ∙ sym (cell-at .ensures) in
-    let l : loop .k < length net = rw (net-length (args .cells .now) (args .n)) (loop-test .taken) in (
+    let net = netBy (args .h) (args .cells .now) in
+    let e : cellAt (net .cells) (loop .k) ≡ cell-at .result = net-cell (args .cells .now) (args .h .count) (loop .k) (loop-test .taken) ∙ sym (cell-at .ensures) in
+    let l : loop .k < length (net .cells) = rw (net-length (args .cells .now) (args .h .count)) (loop-test .taken) in (
       z,
       pre .1,
-      λ q. omega (arith, loop .inv .1, pre .2, below-lt net (loop .k) l (ap (λ (d : Cell). d .kind) e ∙ q)),
+      λ q. omega (arith, loop .inv .1, pre .2, below-lt (net .cells) (loop .k) l (ap (λ (d : Cell). d .kind) e ∙ q)),
     )
 
 store-requires : tie.Need-store-requires Inv-loop μ-loop
 store-requires c κs =
+    let pre = c .before .before .before .before .before .before .before .before .before .pre in
+    let test = c .before .before .before .before .loop-test in
     let loop = c .before .before .before .before .before .loop in
-    holds (c .before .before .before .before .before .before .before .before .before .pre .0) (loop .state) (loop .inv .0 .long) (loop .k) (c .before .before .before .before .loop-test .taken) _ (c .before .before .before .cell-at .ensures)
+    holds (pre .0) (loop .state) (loop .inv .0 .long) (loop .k) (test .taken) _ (c .before .before .before .cell-at .ensures)
 
 cast-j : tie.Need-cast-j Inv-loop μ-loop
 cast-j c =
@@ -66,21 +67,21 @@ cast-j c =
 
 add-j : tie.Need-add-j Inv-loop μ-loop
 add-j c =
-    let start = c .before .before .before .before .before .before .before .before .before .before .before .before .before .before .before .before .before .before .before in
     let loop = c .before .before .before .before .before .before .before .before .before .before .before .before .before .before .before .loop in
-    let pre = start .pre in
-    let args = start .args in
+    let pre = c .before .before .before .before .before .before .before .before .before .before .before .before .before .before .before .before .before .before .before .pre in
+    let args = c .before .before .before .before .before .before .before .before .before .before .before .before .before .before .before .before .before .before .before .args in
     let cell-at = c .before .before .before .before .before .before .before .before .before .before .before .before .before .cell-at in
-    omega (arith, loop .inv .1, pre .2, below-le (netOf (args .cells .now) (args .n)) (loop .k), c .bit .ensures, bit-lt (eqb (cell-at .result .kind) 40))
+    omega (arith, loop .inv .1, pre .2, below-le (listIn (args .cells .now) (args .h .count)) (loop .k), c .bit .ensures, bit-lt (eqb (cell-at .result .kind) 40))
 
 -- cell k shows v, which is put in at i
-shown-by : (F : Format) (net : List Cell) (words s t : List ℕ) (k i v : ℕ) → t ≡ stored F net s k → i ≡ base F k → v ≡ firstValue F net (wordAt words) s k
+shown-by : (F : Format) (net : Netlist) (words s t : List ℕ) (k i v : ℕ) → t ≡ stored F net s k → i ≡ base F k → v ≡ firstValue F net (wordAt words) s k
     → put16 t i v ≡ shown F net (firstValue F net (wordAt words)) s k
 unfolding shown
 shown-by F net words s t k i v a b c = rw (a, b, c) refl
 
 loop-again : tie.Need-loop-again Inv-loop μ-loop
 loop-again c =
+    let base-call = c .before .before .before .before .before .before .base in
     let args = c .before .before .before .before .before .before .before .before .before .before .before .before .before .before .before .before .before .before .before .args in
     let loop = c .before .before .before .before .before .before .before .before .before .before .before .before .before .before .before .loop in
     let cell-at = c .before .before .before .before .before .before .before .before .before .before .before .before .before .cell-at in
@@ -88,12 +89,12 @@ loop-again c =
     let put16-call = c .before .before .before .before .put16 in
     let store = c .before .before .before .before .before .before .before .before .before .store in
     let first-value = c .before .before .before .before .before .before .before .before .before .before .before .first-value in
-    let net = netOf (args .cells .now) (args .n) in
-    let e : cellAt net (loop .k) ≡ cell-at .result = net-cell (args .cells .now) (args .n) (loop .k) (loop-test .taken) ∙ sym (cell-at .ensures) in
-    let l : loop .k < length net = rw (net-length (args .cells .now) (args .n)) (loop-test .taken) in (
+    let net = netBy (args .h) (args .cells .now) in
+    let e : cellAt (net .cells) (loop .k) ≡ cell-at .result = net-cell (args .cells .now) (args .h .count) (loop .k) (loop-test .taken) ∙ sym (cell-at .ensures) in
+    let l : loop .k < length (net .cells) = rw (net-length (args .cells .now) (args .h .count)) (loop-test .taken) in (
       passed-more (loop .inv .0) (loop-test .taken) (put16-call .kept .0 ∙ store .kept .1 .1 .1 .1 .0)
-          (put16-call .ensures ∙ shown-by (args .format) net (args .words .now) (loop .state) _ (loop .k) _ _ (store .ensures) (c .before .before .before .before .before .before .base .ensures) (first-value .ensures (sym (loop .inv .1)))),
-      omega (arith, loop .inv .1, below-more net (loop .k) l, ap (λ (d : Cell). bit (eqb (d .kind) 40)) e, c .bit .ensures),
+          (put16-call .ensures ∙ shown-by (args .format) net (args .words .now) (loop .state) _ (loop .k) _ _ (store .ensures (args .h .pulse)) (base-call .ensures) (first-value .ensures (sym (loop .inv .1)))),
+      omega (arith, loop .inv .1, below-more (net .cells) (loop .k) l, ap (λ (d : Cell). bit (eqb (d .kind) 40)) e, c .bit .ensures),
     )
 
 same-length : tie.Need-same-length Inv-loop μ-loop
@@ -104,8 +105,13 @@ returns c = passed-all (c .before .loop .inv .0) (c .loop-test .left)
 
 put16-requires : tie.Need-put16-requires Inv-loop μ-loop
 put16-requires c κs =
-    let st = stands-in (c .before .before .before .before .before .before .before .before .before .before .before .before .before .before .args .format) (c .before .before .before .before .before .before .before .before .before .before .loop .state) (c .before .before .before .before .before .before .before .before .before .before .loop .k) (c .before .before .before .before .before .before .before .before .before .before .before .before .before .before .args .n) (c .before .before .before .before .before .before .before .before .before .loop-test .taken) (c .before .before .before .before .before .before .before .before .before .before .before .before .before .before .pre .0 .few) (omega (arith, c .before .before .before .before .before .before .before .before .before .before .before .before .before .before .pre .0 .room, c .before .before .before .before .before .before .before .before .before .before .loop .inv .0 .long)) in
-    omega (arith, c .before .base .ensures, st .front, c .before .before .before .before .store .kept .1 .1 .1 .1 .0)
+    let args = c .before .before .before .before .before .before .before .before .before .before .before .before .before .before .args in
+    let loop = c .before .before .before .before .before .before .before .before .before .before .loop in
+    let test = c .before .before .before .before .before .before .before .before .before .loop-test in
+    let pre = c .before .before .before .before .before .before .before .before .before .before .before .before .before .before .pre in
+    let store = c .before .before .before .before .store in
+    let st = stands-in (args .format) (loop .state) (loop .k) (args .h .count) (test .taken) (pre .0 .few) (omega (arith, pre .0 .room, loop .inv .0 .long)) in
+    omega (arith, c .before .base .ensures, st .front, store .kept .1 .1 .1 .1 .0)
 
 pub show-first-spec : {M : Type 1} → statement M
 show-first-spec =

@@ -1,10 +1,13 @@
 -- `next_value` meets its contract. Assumes nothing.
-use mathlib.Core.Path.{refl, sym, _∙_}
+use mathlib.Core.Bool.{not, _&&_, _||_}
+use mathlib.Core.Path.{refl, sym, _∙_, ap, ap₂}
+use Prim.Native.Nat.{ℕ}
 use native.Mathlib.Omega.{arith}
 use borrow.Author.Needs.{needs}
-use Rattle.model.specs.Circuit.{memory, merges}
-use Rattle.laws.specs.Numbering.Cells.{join}
-use Rattle.simulator.specs.Fits.{netOf}
+use Rattle.model.specs.Word.{bit, isZero, operate, elementOf}
+use Rattle.model.specs.Circuit.{cellAt, high, merges, stepOf}
+use Rattle.model.specs.State.{beforeAt, heldAt, elementNow}
+use Rattle.simulator.specs.Fits.{netBy}
 use Rattle.simulator.proofs.Cells.{read-array}
 use Rattle.simulator.proofs.ByKind.{no-operator-low, no-operator-high, next-constant, next-start, next-delay, next-or, next-when-true, next-when-false, next-merge, next-fallen, next-kept, next-gate-open, next-gate-shut, next-operator, next-read, next-still}
 use Rattle.simulator.proofs.instant.next_value.Statement.{statement}
@@ -46,35 +49,33 @@ element-now-requires c κs =
 
 returns-5 : tie.Need-returns-5
 returns-5 c =
-    let args = c .before .before .before .before .before .before .before .before .before .before .before .args in
-    cc (next-start (args .format) (args .starts) (netOf (args .cells .now) (args .n)) (args .state .now) (args .k) (args .c) (c .before .match .keys1))
+    let args = c .before .before .before .before .before .before .before .before .before .before .before .before .args in
+    c .bit .ensures ∙ ap (λ (m : ℕ). bit (args .starts || not (isZero m))) (c .before .remaining-at .ensures) ∙ sym (next-start _ _ _ _ _ _ (c .before .before .match .keys1))
 
 returns-6 : tie.Need-returns-6
-returns-6 c =
-    let args = c .before .before .before .before .before .before .before .before .before .before .before .args in
-    cc (next-or (args .format) (args .starts) (netOf (args .cells .now) (args .n)) (args .state .now) (args .k) (args .c) (c .before .match .keys2))
+returns-6 c = c .bit2 .ensures ∙ ap₂ (λ (x y : ℕ). bit (high x || high y)) (c .before .before .before .now-at .ensures) (c .before .before .now-at2 .ensures) ∙ sym (next-or _ _ _ _ _ _ (c .before .match .keys2))
 
 returns-7 : tie.Need-returns-7
-returns-7 c =
-    let args = c .before .before .before .before .before .before .before .before .before .before .before .args in
-    cc (next-when-true (args .format) (args .starts) (netOf (args .cells .now) (args .n)) (args .state .now) (args .k) (args .c) (c .before .match .keys3))
+returns-7 c = c .bit3 .ensures ∙ ap₂ (λ (x y : ℕ). bit (high x && not (isZero y))) (c .before .before .before .now-at .ensures) (c .before .before .now-at2 .ensures) ∙ sym (next-when-true _ _ _ _ _ _ (c .before .match .keys3))
 
 returns-8 : tie.Need-returns-8
-returns-8 c =
-    let args = c .before .before .before .before .before .before .before .before .before .before .before .args in
-    cc (next-when-false (args .format) (args .starts) (netOf (args .cells .now) (args .n)) (args .state .now) (args .k) (args .c) (c .before .match .keys4))
+returns-8 c = c .bit4 .ensures ∙ ap₂ (λ (x y : ℕ). bit (high x && isZero y)) (c .before .before .before .now-at .ensures) (c .before .before .now-at2 .ensures) ∙ sym (next-when-false _ _ _ _ _ _ (c .before .match .keys4))
 
 returns-9 : tie.Need-returns-9
 unfolding merges
 returns-9 c =
     let args = c .before .before .before .before .before .before .before .before .before .before .before .args in
-    cc (next-merge (args .format) (args .starts) (netOf (args .cells .now) (args .n)) (args .state .now) (args .k) (args .c) (rw (c .before .match .keys5) refl))
+    c .merged .ensures
+    ∙ ap₂ (λ (x y : ℕ). bit (stepOf (args .h .pulse) (args .c .kind) (high (beforeAt (args .format) (args .state .now) (args .k))) (heldAt (args .format) (args .state .now) (args .k)) (high x) (high y) .out)) (c .before .before .before .now-at .ensures) (c .before .before .now-at2 .ensures)
+    ∙ sym (next-merge _ _ _ _ _ _ (rw (c .before .match .keys5) refl))
 
 returns-10 : tie.Need-returns-10
 unfolding merges
 returns-10 c =
     let args = c .before .before .before .before .before .before .before .before .before .before .before .args in
-    cc (next-merge (args .format) (args .starts) (netOf (args .cells .now) (args .n)) (args .state .now) (args .k) (args .c) (rw (c .before .match .keys6) refl))
+    c .merged2 .ensures
+    ∙ ap₂ (λ (x y : ℕ). bit (stepOf (args .h .pulse) (args .c .kind) (high (beforeAt (args .format) (args .state .now) (args .k))) (heldAt (args .format) (args .state .now) (args .k)) (high x) (high y) .out)) (c .before .before .before .now-at .ensures) (c .before .before .now-at2 .ensures)
+    ∙ sym (next-merge _ _ _ _ _ _ (rw (c .before .match .keys6) refl))
 
 returns-11 : tie.Need-returns-11
 returns-11 c =
@@ -89,12 +90,15 @@ returns-12 c =
 returns-13 : tie.Need-returns-13
 returns-13 c =
     let args = c .before .before .before .before .before .before .before .before .before .before .before .args in
-    cc (next-read (args .format) (args .starts) (netOf (args .cells .now) (args .n)) (args .state .now) (args .k) (args .c) (c .before .match .keys8))
+    let net = netBy (args .h) (args .cells .now) in
+    c .element-now .ensures ∙ ap (λ (y : ℕ). elementNow (args .format) net (args .state .now) (elementOf (cellAt (net .cells) (args .c .a) .delay) y)) (c .before .before .now-at2 .ensures) ∙ sym (next-read _ _ _ _ _ _ (c .before .match .keys8))
 
 returns-14 : tie.Need-returns-14
 returns-14 c =
     let args = c .before .before .before .before .before .before .before .before .before .before .before .before .before .args in
-    cc (next-operator (args .format) (args .starts) (netOf (args .cells .now) (args .n)) (args .state .now) (args .k) (args .c) (c .before .before .if6 .left) (omega arith))
+    let now-at = c .before .before .before .before .before .now-at in
+    let now-at2 = c .before .before .before .before .now-at2 in
+    c .operate .ensures ∙ ap₂ (operate (args .c .kind)) (now-at .ensures) (now-at2 .ensures) ∙ sym (next-operator _ _ _ _ _ _ (c .before .before .if6 .left) (omega arith))
 
 returns-15 : tie.Need-returns-15
 returns-15 c =
@@ -144,7 +148,8 @@ returns-16 c =
 
 line-out-requires : tie.Need-line-out-requires
 line-out-requires c κs =
-    (c .before .before .before .before .pre .stands, c .before .before .before .before .pre .sees .delay (c .if2 .taken))
+    let pre = c .before .before .before .before .pre in
+    (pre .stands, pre .sees .delay (c .if2 .taken))
 
 pub next-value-spec : {M : Type 1} → statement M
 next-value-spec =
@@ -161,6 +166,7 @@ next-value-spec =
     (λ c κs. search needs)
     returns-4
     now-at-requires
+    (λ c κs. search needs)
     (λ c κs. search needs)
     (λ c κs. search needs)
     (λ c κs. search needs)

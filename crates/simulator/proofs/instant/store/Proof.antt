@@ -3,47 +3,90 @@ use mathlib.Core.Path.{sym, _∙_}
 use Prim.Native.Nat.{_+_}
 use native.Mathlib.Omega.{arith}
 use borrow.Author.Needs.{needs}
-use Rattle.simulator.specs.Fits.{netOf}
+use Rattle.simulator.specs.Fits.{netIn}
 use Rattle.simulator.proofs.Cells.{net-cell, net-length, holds-cell, array-address}
-use Rattle.simulator.proofs.Arrays.{stored-other, stored-kept, stored-fallen}
+use Rattle.simulator.proofs.Arrays.{stored-other, stored-kept, stored-put}
 use Rattle.simulator.proofs.instant.store.Statement.{statement}
 use Rattle.simulator.proofs.instant.store.Tie as tie
 
+has-fallen-requires : tie.Need-has-fallen-requires
+has-fallen-requires c κs =
+    let pre = c .before .before .before .before .before .pre in
+    pre .sees .a (λ e. omega (arith, c .before .before .if1 .taken))
+
+cell-at-requires : tie.Need-cell-at-requires
+cell-at-requires c κs =
+    let if1 = c .before .before .before .before .if1 in
+    let pre = c .before .before .before .before .before .before .before .pre in
+    let place = array-address pre (if1 .taken) .1 in
+    (omega (arith, pre .fits .few, place), omega (arith, pre .fits .list, place))
+
+before-at-requires : tie.Need-before-at-requires
+before-at-requires c κs =
+    let pre = c .before .before .before .before .before .before .before .before .before .before .pre in
+    let if1 = c .before .before .before .before .before .before .before .if1 in
+    rw (c .before .before .cell-at .ensures) (array-address pre (if1 .taken) .2)
+
+before-at-requires-2 : tie.Need-before-at-requires-2
+before-at-requires-2 c κs =
+    let pre = c .before .before .before .before .before .before .before .before .before .before .before .before .before .pre in
+    pre .sees .b
+
+element-place-requires : tie.Need-element-place-requires
+element-place-requires c κs =
+    let if1 = c .before .before .before .before .before .before .before .before .before .before .before .before .if1 in
+    let pre = c .before .before .before .before .before .before .before .before .before .before .before .before .before .before .before .pre in
+    (pre .fits .few, array-address pre (if1 .taken) .0)
+
+put16-requires : tie.Need-put16-requires
+put16-requires c κs =
+    let if1 = c .before .before .before .before .before .before .before .before .before .before .before .before .before .before .if1 in
+    let pre = c .before .before .before .before .before .before .before .before .before .before .before .before .before .before .before .before .before .pre in
+    omega (arith, pre .fits .room, array-address pre (if1 .taken) .0, c .before .element-place .ensures)
+
 returns : tie.Need-returns
 returns c =
-    let start = c .before .before .before .before .before .before .before .before .before .before .before .before .before .before .before .before .before .before .before .before in
-    let args = start .args in
-    let pre = start .pre in
-    let array = c .before .before .before .before .before .before .before .before .before .before .before .before .before .before .before .before .before .if1 .taken in
+    let if1 = c .before .before .before .before .before .before .before .before .before .before .before .before .before .before .before .before .before .if1 in
+    let cell-at = c .before .before .before .before .before .before .before .before .before .before .before .before .cell-at in
+    let has-fallen = c .before .before .before .before .before .before .before .before .before .before .before .before .before .before .has-fallen in
+    let if2 = c .before .before .before .before .before .before .before .before .before .before .before .before .before .if2 in
+    let element-place = c .before .before .before .before .element-place in
+    let before-at = c .before .before .before .before .before .before .before .before .before .before-at in
+    let before-at2 = c .before .before .before .before .before .before .before-at2 in
+    let args = c .before .before .before .before .before .before .before .before .before .before .before .before .before .before .before .before .before .before .before .before .args in
+    let pre = c .before .before .before .before .before .before .before .before .before .before .before .before .before .before .before .before .before .before .before .before .pre in
+    let array = if1 .taken in
     let cells = args .cells .now in
-    let next = net-cell cells (args .n) (args .k + 1) (array-address pre array .1) in
-    let fallen = sym (c .before .before .before .before .before .before .before .before .before .before .before .before .before .before .has-fallen .ensures) ∙ c .before .before .before .before .before .before .before .before .before .before .before .before .before .if2 .taken in
-    cc (stored-fallen (args .format) (netOf cells (args .n)) (args .state .now) (args .k) (args .c) (holds-cell pre) array fallen, net-length cells (args .n), next)
+    let next = net-cell cells (args .n) (args .k + 1) (array-address pre array .1) ∙ sym (cell-at .ensures) in
+    let fallen = sym (has-fallen .ensures) ∙ if2 .taken in
+    λ w.
+    c .before .before .put16 .ensures
+    ∙ stored-put (args .format) (netIn w cells (args .n)) (args .state .now) (args .k) (args .c) (holds-cell pre) array fallen _ _ _ _ _ (net-length cells (args .n)) next (element-place .ensures) (before-at .ensures) (before-at2 .ensures)
 
 returns-2 : tie.Need-returns-2
 returns-2 c =
-    let start = c .before .before .before .before .before .before .before in
-    sym (stored-kept _ _ _ _ _ (holds-cell (start .pre)) (c .before .before .before .before .if1 .taken) (sym (c .before .has-fallen .ensures) ∙ c .if2 .left))
+    let pre = c .before .before .before .before .before .before .before .pre in
+    let if1 = c .before .before .before .before .if1 in
+    λ w. sym (stored-kept _ (netIn w _ _) _ _ _ (holds-cell pre) (if1 .taken) (sym (c .before .has-fallen .ensures) ∙ c .if2 .left))
 
 returns-3 : tie.Need-returns-3
-returns-3 c = sym (stored-other _ _ _ _ _ (holds-cell (c .before .before .before .pre)) (c .if1 .left))
+returns-3 c = λ w. sym (stored-other _ (netIn w _ _) _ _ _ (holds-cell (c .before .before .before .pre)) (c .if1 .left))
 
 pub store-spec : {M : Type 1} → statement M
 store-spec =
     tie.close
     (tie.spec
     (λ c. search needs)
-    (λ c κs. c .before .before .before .before .before .pre .sees .a (λ e. omega (arith, c .before .before .if1 .taken)))
+    has-fallen-requires
     (λ c. search needs)
-    (λ c κs. let pre = c .before .before .before .before .before .before .before .pre in let place = array-address pre (c .before .before .before .before .if1 .taken) .1 in
-    (omega (arith, pre .fits .few, place), omega (arith, pre .fits .list, place)))
+    cell-at-requires
     (λ c. search needs)
-    (λ c κs. rw (c .before .before .cell-at .ensures) (array-address (c .before .before .before .before .before .before .before .before .before .before .pre) (c .before .before .before .before .before .before .before .if1 .taken) .2))
+    before-at-requires
     (λ c. search needs)
-    (λ c κs. c .before .before .before .before .before .before .before .before .before .before .before .before .before .pre .sees .b)
+    before-at-requires-2
     (λ c. search needs)
-    (λ c κs. let pre = c .before .before .before .before .before .before .before .before .before .before .before .before .before .before .before .pre in (pre .fits .few, array-address pre (c .before .before .before .before .before .before .before .before .before .before .before .before .if1 .taken) .0))
-    (λ c κs. let pre = c .before .before .before .before .before .before .before .before .before .before .before .before .before .before .before .before .before .pre in omega (arith, pre .fits .room, array-address pre (c .before .before .before .before .before .before .before .before .before .before .before .before .before .before .if1 .taken) .0, c .before .element-place .ensures))
+    element-place-requires
+    put16-requires
     (λ c. search needs)
     returns
     (λ c. search needs)

@@ -1,13 +1,13 @@
 -- `continue_compact` meets its contract. Assumes nothing.
 use mathlib.Core.List.{List}
-use mathlib.Core.Path.{_≡_, sym, _∙_, ap}
+use mathlib.Core.Path.{sym, _∙_, ap}
 use Prim.Native.Nat.{ℕ, _+_, _≤_}
 use native.Mathlib.Omega.{arith}
 use borrow.Author.Needs.{needs}
 use lib.ListN.{length}
 use Rattle.model.specs.declared.Format.the-variants.{Compact}
 use Rattle.model.specs.State.{Course, base}
-use Rattle.simulator.specs.Fits.{netOf}
+use Rattle.simulator.specs.Fits.{netBy}
 use Rattle.simulator.proofs.Continuing.{count-under}
 use Rattle.simulator.proofs.Stepping.{restored, again-asks, redone}
 use Rattle.simulator.proofs.runs.continue_compact.Statement.{statement}
@@ -23,46 +23,60 @@ add-size c =
 
 copy-requires : tie.Need-copy-requires
 copy-requires c κs =
-    (omega (arith, c .before .before .base .ensures, c .before .before .before .before .before .pre .0 .few), omega (arith, c .before .before .base .ensures, c .before .before .before .before .before .pre .0 .room))
+    let base-call = c .before .before .base in
+    let pre = c .before .before .before .before .before .pre in
+    (omega (arith, base-call .ensures, pre .0 .few), omega (arith, base-call .ensures, pre .0 .room))
 
 continue-state-requires : tie.Need-continue-state-requires
 continue-state-requires c κs =
-    c .before .before .before .before .before .before .before .before .pre
+    let pre = c .before .before .before .before .before .before .before .before .pre in
+    pre
 
 copy-requires-2 : tie.Need-copy-requires-2
 copy-requires-2 c κs =
-    (omega (arith, c .before .before .before .before .before .before .before .before .before .before .before .before .before .base .ensures, c .before .before .before .before .before .before .before .before .before .before .before .before .before .before .before .before .pre .0 .room, c .before .before .before .before .before .before .before .continue-state .kept .1 .1 .1 .1 .1 .0), omega (arith, c .before .before .before .before .before .before .before .before .before .before .before .before .before .base .ensures, c .before .before .before .before .before .before .before .before .before .before .before .before .before .before .before .before .pre .0 .few, c .before .before .before .before .before .before .before .before .before .before .copy .kept .0))
+    let base-call = c .before .before .before .before .before .before .before .before .before .before .before .before .before .base in
+    let pre = c .before .before .before .before .before .before .before .before .before .before .before .before .before .before .before .before .pre in
+    let continue-state = c .before .before .before .before .before .before .before .continue-state in
+    let copy = c .before .before .before .before .before .before .before .before .before .before .copy in
+    (omega (arith, base-call .ensures, pre .0 .room, continue-state .kept .1 .1 .1 .1 .0), omega (arith, base-call .ensures, pre .0 .few, copy .kept .0))
 
 continue-state-requires-2 : tie.Need-continue-state-requires-2
 continue-state-requires-2 c κs =
+    let base-call = c .before .before .before .before .before .before .before .before .before .before .before .before .before .before .before .before .before .base in
+    let copy = c .before .before .before .before .before .before .before .before .before .before .before .before .before .before .copy in
     let args = c .before .before .before .before .before .before .before .before .before .before .before .before .before .before .before .before .before .before .before .before .args in
     let pre = c .before .before .before .before .before .before .before .before .before .before .before .before .before .before .before .before .before .before .before .before .pre in
-    let net = netOf (args .cells .now) (args .n) in
+    let net = netBy (args .h) (args .cells .now) in
     let s : List ℕ = args .state .now in
     let went = c .before .before .before .before .before .before .before .before .before .before .before .continue-state in
-    let size : ℕ = c .before .before .before .before .before .before .before .before .before .before .before .before .before .before .before .before .before .base .result + 512 in
-    let room : size ≤ length s = omega (arith, c .before .before .before .before .before .before .before .before .before .before .before .before .before .before .before .before .before .base .ensures, pre .0 .room) in
-    let back = restored s _ _ _ _ size (c .before .before .before .before .before .before .before .before .before .before .before .before .before .before .copy .ensures) (c .before .before .before .copy2 .ensures) room (went .kept .1 .1 .1 .1 .1 .0) (λ j h. went .ensures .1 .1 .1 j (omega (arith, c .before .before .before .before .before .before .before .before .before .before .before .before .before .before .before .before .before .base .ensures, h))) in
-    again-asks Compact (args .cells .now) (args .n) (args .finish) (args .budget) _ s _ back (count-under Compact net (args .starts) (args .finish) (args .budget) s _ (went .ensures .1 .0)) pre
+    let size : ℕ = base-call .result + 512 in
+    let room : size ≤ length s = omega (arith, base-call .ensures, pre .0 .room) in
+    let back = restored s _ _ _ _ size (copy .ensures) (c .before .before .before .copy2 .ensures) room (went .kept .1 .1 .1 .1 .0) (λ j h. went .ensures .1 .1 .1 j (omega (arith, base-call .ensures, h))) in
+    again-asks Compact (args .cells .now) (args .h) (args .budget) _ s _ back (count-under Compact net (args .starts) (args .h .finish) (args .budget) s _ (went .ensures .1 .0)) pre
 
 returns : tie.Need-returns
 returns c =
+    let base-call = c .before .before .before .before .before .before .before .before .before .before .before .before .before .before .before .before .before .before .before .before .base in
+    let copy = c .before .before .before .before .before .before .before .before .before .before .before .before .before .before .before .before .before .copy in
+    let copy2 = c .before .before .before .before .before .before .copy2 in
+    let checked = c .before .before .before .before .before .before .before .before .before .before .checked in
     let args = c .before .before .before .before .before .before .before .before .before .before .before .before .before .before .before .before .before .before .before .before .before .before .before .args in
     let pre = c .before .before .before .before .before .before .before .before .before .before .before .before .before .before .before .before .before .before .before .before .before .before .before .pre in
-    let net = netOf (args .cells .now) (args .n) in
+    let net = netBy (args .h) (args .cells .now) in
     let s : List ℕ = args .state .now in
     let went = c .before .before .before .before .before .before .before .before .before .before .before .before .before .before .continue-state in
-    let size : ℕ = c .before .before .before .before .before .before .before .before .before .before .before .before .before .before .before .before .before .before .before .before .base .result + 512 in
-    let room : size ≤ length s = omega (arith, c .before .before .before .before .before .before .before .before .before .before .before .before .before .before .before .before .before .before .before .before .base .ensures, pre .0 .room) in
-    let back = restored s _ _ _ _ size (c .before .before .before .before .before .before .before .before .before .before .before .before .before .before .before .before .before .copy .ensures) (c .before .before .before .before .before .before .copy2 .ensures) room (went .kept .1 .1 .1 .1 .1 .0) (λ j h. went .ensures .1 .1 .1 j (omega (arith, c .before .before .before .before .before .before .before .before .before .before .before .before .before .before .before .before .before .before .before .before .base .ensures, h))) in
-    let refused = sym (went .ensures .0) ∙ c .before .before .before .before .before .before .before .before .before .before .checked .given .1 in
-    let z = redone Compact net (args .starts) (args .finish) (args .budget) _ s _ _ back (went .ensures .1 .0) refused in
+    let size : ℕ = base-call .result + 512 in
+    let room : size ≤ length s = omega (arith, base-call .ensures, pre .0 .room) in
+    let back = restored s _ _ _ _ size (copy .ensures) (copy2 .ensures) room (went .kept .1 .1 .1 .1 .0) (λ j h. went .ensures .1 .1 .1 j (omega (arith, base-call .ensures, h))) in
+    let refused = sym (went .ensures .0) ∙ checked .given .1 in
+    let z = redone Compact net (args .starts) (args .h .finish) (args .budget) _ s _ _ back (went .ensures .1 .0) refused in
     let more = c .before .before .continue-state2 .ensures in
     (sym refused, (went .ensures .1 .0, more .1 .1 .0 (more .0 ∙ ap (λ (x : Course). x .check) z) ∙ ap (λ (x : Course). x .state) z))
 
 returns-2 : tie.Need-returns-2
 returns-2 c =
-    let went = c .before .before .before .before .continue-state .ensures in
+    let continue-state = c .before .before .before .before .continue-state in
+    let went = continue-state .ensures in
     (went .0, (went .1 .0, went .1 .1 .0 (c .enum-told .given .1)))
 
 pub continue-compact-spec : {M : Type 1} → statement M

@@ -3,49 +3,41 @@ use mathlib.Core.Path.{_≡_, refl, sym, _∙_}
 use Prim.Native.Nat.{_-_, _<_, _≤_}
 use native.Mathlib.Omega.{arith}
 use lib.ListN.{length}
-use borrow.Author.Needs.{needs}
 use Rattle.model.specs.Circuit.{cellAt}
 use Rattle.model.specs.NetlistFile.{countOf, cellsOf}
 use Rattle.laws.specs.NetlistFile.Passed.{count-cells}
-use Rattle.simulator.proofs.AcceptedFile.{file-cell, file-sized, file-stands, file-sixteen}
+use Rattle.state.proofs.Files.{file-cell, file-sized, file-stands}
+use Rattle.simulator.proofs.AcceptedFile.{file-sixteen}
 use Rattle.simulator.proofs.Memories.{Collects, collects-first, collects-room, collects-memory, collects-other, collects-all}
 use Rattle.simulator.proofs.runs.words_in.Statement.{statement}
 use Rattle.simulator.proofs.runs.words_in.Tie as tie
 
 abbrev Inv-loop : tie.InvT-loop
-Inv-loop format file state n words₀ j₀ k₀ words j k = (k ≤ n) × Collects format (cellsOf file) state words j k
+Inv-loop format file n state words₀ j₀ k₀ words j k = (k ≤ n) × Collects format (cellsOf file) state words j k
 
 abbrev μ-loop : tie.MeasureT-loop
-μ-loop format file state n words₀ j₀ k₀ words j k = n - k
-
-get16-requires : tie.Need-get16-requires Inv-loop μ-loop
-get16-requires c κs =
-    let args = c .before .before .args in
-    let z = file-sized (args .format) (args .file .now) (args .state .now) (c .before .before .pre) in
-    omega (arith, z .some, z .long)
+μ-loop format file n state words₀ j₀ k₀ words j k = n - k
 
 loop-holds : tie.Need-loop-holds Inv-loop μ-loop
 loop-holds c =
-    let args = c .before .before .before .args in
-    let pre = c .before .before .before .pre in
-    (omega arith, collects-first _ _ _ _ (file-sixteen (args .format) (args .file .now) (args .state .now) pre) refl)
+    let args = c .before .before .args in
+    let pre = c .before .before .pre in
+    (omega arith, collects-first _ _ _ _ (file-sixteen (args .format) (args .file .now) (args .state .now) (pre .0)) refl)
 
 cell-at-requires : tie.Need-cell-at-requires Inv-loop μ-loop
 cell-at-requires c κs =
-    let start = c .before .before .before .before .before in
-    let args = start .args in
-    let pre = start .pre in
-    let get16-call = c .before .before .get16 in
-    let z = file-sized (args .format) (args .file .now) (args .state .now) pre in
-    (omega (arith, get16-call .ensures, z .few), omega (arith, get16-call .ensures, z .long))
+    let args = c .before .before .before .before .args in
+    let pre = c .before .before .before .before .pre in
+    let z = file-sized (args .format) (args .file .now) (args .state .now) (pre .0) in
+    (omega (arith, pre .1, z .few), omega (arith, pre .1, z .long))
 
 mul-words : tie.Need-mul-words Inv-loop μ-loop
 mul-words c =
     let loop = c .before .before .before .before .before .loop in
-    let args = c .before .before .before .before .before .before .before .before .before .args in
-    let get16-call = c .before .before .before .before .before .before .get16 in
+    let args = c .before .before .before .before .before .before .before .before .args in
+    let pre = c .before .before .before .before .before .before .before .before .pre in
     let cell-at = c .before .before .before .cell-at in
-    let l : loop .k < countOf (args .file .now) = omega (arith, get16-call .ensures) in
+    let l : loop .k < countOf (args .file .now) = omega (arith, pre .1) in
     let m : loop .k < length (cellsOf (args .file .now)) = rw (count-cells (args .file .now)) l in
     let e : cellAt (cellsOf (args .file .now)) (loop .k) ≡ cell-at .result = file-cell (args .file .now) (loop .k) l ∙ sym (cell-at .ensures) in
     omega (arith, collects-room (args .format) (cellsOf (args .file .now)) (args .state .now) (loop .words) (loop .j) (loop .k) m (cell-at .result) e (loop .inv .1) (c .if1 .taken))
@@ -53,10 +45,10 @@ mul-words c =
 array-write-words : tie.Need-array-write-words Inv-loop μ-loop
 array-write-words c =
     let loop = c .before .before .before .before .before .loop in
-    let args = c .before .before .before .before .before .before .before .before .before .args in
-    let get16-call = c .before .before .before .before .before .before .get16 in
+    let args = c .before .before .before .before .before .before .before .before .args in
+    let pre = c .before .before .before .before .before .before .before .before .pre in
     let cell-at = c .before .before .before .cell-at in
-    let l : loop .k < countOf (args .file .now) = omega (arith, get16-call .ensures) in
+    let l : loop .k < countOf (args .file .now) = omega (arith, pre .1) in
     let m : loop .k < length (cellsOf (args .file .now)) = rw (count-cells (args .file .now)) l in
     let e : cellAt (cellsOf (args .file .now)) (loop .k) ≡ cell-at .result = file-cell (args .file .now) (loop .k) l ∙ sym (cell-at .ensures) in
     omega (arith, collects-room (args .format) (cellsOf (args .file .now)) (args .state .now) (loop .words) (loop .j) (loop .k) m (cell-at .result) e (loop .inv .1) (c .if1 .taken))
@@ -64,10 +56,10 @@ array-write-words c =
 add-j : tie.Need-add-j Inv-loop μ-loop
 add-j c =
     let loop = c .before .before .before .before .before .loop in
-    let args = c .before .before .before .before .before .before .before .before .before .args in
-    let get16-call = c .before .before .before .before .before .before .get16 in
+    let args = c .before .before .before .before .before .before .before .before .args in
+    let pre = c .before .before .before .before .before .before .before .before .pre in
     let cell-at = c .before .before .before .cell-at in
-    let l : loop .k < countOf (args .file .now) = omega (arith, get16-call .ensures) in
+    let l : loop .k < countOf (args .file .now) = omega (arith, pre .1) in
     let m : loop .k < length (cellsOf (args .file .now)) = rw (count-cells (args .file .now)) l in
     let e : cellAt (cellsOf (args .file .now)) (loop .k) ≡ cell-at .result = file-cell (args .file .now) (loop .k) l ∙ sym (cell-at .ensures) in
     omega (arith, collects-room (args .format) (cellsOf (args .file .now)) (args .state .now) (loop .words) (loop .j) (loop .k) m (cell-at .result) e (loop .inv .1) (c .if1 .taken))
@@ -75,10 +67,10 @@ add-j c =
 loop-again : tie.Need-loop-again Inv-loop μ-loop
 loop-again c =
     let loop = c .before .before .before .before .before .loop in
-    let args = c .before .before .before .before .before .before .before .before .before .args in
-    let get16-call = c .before .before .before .before .before .before .get16 in
+    let args = c .before .before .before .before .before .before .before .before .args in
+    let pre = c .before .before .before .before .before .before .before .before .pre in
     let cell-at = c .before .before .before .cell-at in
-    let l : loop .k < countOf (args .file .now) = omega (arith, get16-call .ensures) in
+    let l : loop .k < countOf (args .file .now) = omega (arith, pre .1) in
     let m : loop .k < length (cellsOf (args .file .now)) = rw (count-cells (args .file .now)) l in
     let e : cellAt (cellsOf (args .file .now)) (loop .k) ≡ cell-at .result = file-cell (args .file .now) (loop .k) l ∙ sym (cell-at .ensures) in (
       omega arith,
@@ -89,23 +81,26 @@ loop-again c =
 loop-again-2 : tie.Need-loop-again-2 Inv-loop μ-loop
 loop-again-2 c =
     let loop = c .before .before .before .before .before .loop in
-    let args = c .before .before .before .before .before .before .before .before .before .args in
-    let get16-call = c .before .before .before .before .before .before .get16 in
+    let args = c .before .before .before .before .before .before .before .before .args in
+    let pre = c .before .before .before .before .before .before .before .before .pre in
     let cell-at = c .before .before .before .cell-at in
-    let l : loop .k < countOf (args .file .now) = omega (arith, get16-call .ensures) in
+    let l : loop .k < countOf (args .file .now) = omega (arith, pre .1) in
     let m : loop .k < length (cellsOf (args .file .now)) = rw (count-cells (args .file .now)) l in
     let e : cellAt (cellsOf (args .file .now)) (loop .k) ≡ cell-at .result = file-cell (args .file .now) (loop .k) l ∙ sym (cell-at .ensures) in
     (omega arith, collects-other (args .format) (cellsOf (args .file .now)) (args .state .now) (loop .words) (loop .j) (loop .k) m (cell-at .result) e (loop .inv .1) (c .if1 .left))
 
 returns : tie.Need-returns Inv-loop μ-loop
 returns c =
-    let args = c .before .before .before .before .before .args in
+    let pre = c .before .before .before .before .pre in
+    let args = c .before .before .before .before .args in
     let loop = c .before .loop in
-    collects-all (args .format) (cellsOf (args .file .now)) (args .state .now) (loop .words) (loop .j) (loop .k) (omega (arith, c .before .before .get16 .ensures, count-cells (args .file .now))) (loop .inv .1)
+    collects-all (args .format) (cellsOf (args .file .now)) (args .state .now) (loop .words) (loop .j) (loop .k) (omega (arith, pre .1, count-cells (args .file .now))) (loop .inv .1)
 
 now-at-requires : tie.Need-now-at-requires Inv-loop μ-loop
 now-at-requires c κs =
-    file-stands (c .before .before .before .before .before .before .args .format) (c .before .before .before .before .before .before .args .file .now) (c .before .before .before .before .before .before .args .state .now) (c .before .before .before .before .before .before .pre) (c .before .before .loop .k) (omega (arith, c .before .before .before .get16 .ensures))
+    let args = c .before .before .before .before .before .args in
+    let pre = c .before .before .before .before .before .pre in
+    file-stands (args .format) (args .file .now) (args .state .now) (pre .0) (c .before .before .loop .k) (omega (arith, pre .1))
 
 pub words-in-spec : {M : Type 1} → statement M
 words-in-spec =
@@ -113,8 +108,6 @@ words-in-spec =
     (tie.spec
     Inv-loop
     μ-loop
-    get16-requires
-    (λ c. search needs)
     loop-holds
     cell-at-requires
     now-at-requires

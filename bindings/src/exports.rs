@@ -119,6 +119,54 @@ exports! {
     );
 }
 
+// The same for functional circuits, which are given a table alone; the definitions
+// are those of model/FunctionalCalls.
+exports! {
+    /// checkFunctionalCall
+    hub_check_functional(table: ?[u8], program: &[u8], reply: &mut [u8]);
+
+    /// compileFunctionalCall
+    hub_compile_functional(
+        table: ?[u8], program: &[u8], file: &mut [u8], reply: &mut [u8]
+    );
+
+    /// referenceFunctionalCall
+    hub_reference_functional(
+        table: ?[u8], program: &[u8], words: &[u8], budget: u32, reply: &mut [u8]
+    );
+
+    /// beginFunctionalCall Full
+    hub_begin_functional(netlist: &[u8], words: &[u8], state: &mut [u8], reply: &mut [u8]);
+
+    /// beginFunctionalCall Compact
+    hub_begin_functional_compact(
+        netlist: &[u8], words: &[u8], state: &mut [u8], reply: &mut [u8]
+    );
+
+    /// continueFunctionalCall Full
+    hub_continue_functional(netlist: &[u8], state: &mut [u8], n: u32, reply: &mut [u8]);
+
+    /// continueFunctionalCall Compact
+    hub_continue_functional_compact(netlist: &[u8], state: &mut [u8], n: u32, reply: &mut [u8]);
+
+    /// startFunctionalCall Full
+    hub_start_functional(netlist: &[u8], state: &mut [u8], reply: &mut [u8]);
+
+    /// startFunctionalCall Compact
+    hub_start_functional_compact(netlist: &[u8], state: &mut [u8], reply: &mut [u8]);
+
+    /// runFunctionalCall
+    hub_run_functional(
+        netlist: &[u8], words: &[u8], budget: u32, state: &mut [u8], reply: &mut [u8]
+    );
+
+    /// runFunctionalProgramCall
+    hub_run_functional_program(
+        table: ?[u8], program: &[u8], words: &[u8], budget: u32, netlist: &mut [u8],
+        state: &mut [u8], reply: &mut [u8]
+    );
+}
+
 // crates/exports/src/lib.rt and moves.rt; the definitions are those of model/CellSlices.
 exports! {
     /// checkCellsCall

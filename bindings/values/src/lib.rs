@@ -3,11 +3,13 @@
 
 mod answer;
 mod cell;
+mod circuit;
 mod format;
 mod given;
 
 pub use answer::{Answer, End, Refusal, Shape};
 pub use cell::Cell;
+pub use circuit::Circuit;
 pub use format::Format;
 pub use given::{Given, Table};
 

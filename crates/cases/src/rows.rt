@@ -11,9 +11,9 @@ ghost use Rattle.cases.specs.Rows.{openAnswer, Same, Holds, kindsSet};
 use model::Answer;
 use model::Outcome;
 use model::Refusal;
-use model::sizes::FILE_MOST;
+use model::sizes::COMPILED_FILE;
+use model::sizes::COMPILED_STATE;
 use model::sizes::START_WORDS;
-use model::sizes::STATE_MOST;
 
 pub fn ends(instant: u32, word: u16) -> Answer
     requires { ⌜ instant < 1000000 ⌝ }
@@ -69,8 +69,8 @@ fn by_circuit(procedures: usize, program: &[u8], word: u16, budget: u32) -> Answ
 {
     let mut words = [0u8; START_WORDS];
     word::put16(&mut words, 0, word);
-    let mut netlist = [0u8; FILE_MOST];
-    let mut state = [0u8; STATE_MOST];
+    let mut netlist = [0u8; COMPILED_FILE];
+    let mut state = [0u8; COMPILED_STATE];
     hub::run_program(
         hub::load_if(false, b"", procedures, 1),
         program,

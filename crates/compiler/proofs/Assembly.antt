@@ -10,7 +10,7 @@ use Rattle.model.specs.declared.Cell.{Cell}
 use Rattle.model.specs.Program.{nodeCount, stmtAt, Program, programOf, roots}
 use Rattle.model.specs.Circuit.{cell}
 use Rattle.model.specs.NetlistFile.{cellBytes, cellsAt, inList}
-use Rattle.model.specs.Numbering.{Source, dataSources, addressSources, wiresOf, orCountFrom, idleStart, rootDelayCount, rootWalkCount, rootWalkSources, callsOf, clocksOf, dataOf, addressesOf}
+use Rattle.model.specs.Numbering.{memoryWires, Source, dataSources, addressSources, wiresOf, orCountFrom, idleStart, rootDelayCount, rootWalkCount, rootWalkSources, callsOf, clocksOf, dataOf, addressesOf}
 use Rattle.model.specs.Numbering.{clockAt, memoryAt, arraysAt, walkAt, dataAt, addressAt, clockWires, dataWires, addressWires, procedures, finishOfRoot, headCells, memoriesOf, arraysOf, netlist, finish}
 use Rattle.laws.specs.Numbering.Lengths.{root-d-len, root-w-len}
 use Rattle.laws.specs.Numbering.Parts.{delayCells, clockOrs, memoryCells, arrayCells, walkCells, dataOrs, addressOrs, orsFrom-len, outs-len, mems-len, arrays-len, net-length}
@@ -280,7 +280,7 @@ module _ (S : Program) (first : List ℕ) where
       let lC = orsFrom-len 35 (clocksOf S) (clockAt S) 0 20 in
       let lN = mems-len (clockWires S) (dataWires S) 0 16 in
       let lA = arrays-len (clockWires S) (dataWires S) (addressWires S) 0 4 in
-      let lW = root-w-len (memoryAt S) (finishOfRoot S) (procedures S) (callsOf S) 0 (roots S) 3 (walkAt S) in
+      let lW = root-w-len (memoryWires (memoryAt S)) (finishOfRoot S) (procedures S) (callsOf S) 0 (roots S) 3 (walkAt S) in
       let lO = orsFrom-len 7 (dataOf S) (dataAt S) 0 20 in
       let low = write 3 (D ++ C) first in
       let X = W ++ (O ++ B) in

@@ -6,8 +6,9 @@ use native.Mathlib.Omega.{arith}
 use Rattle.model.specs.declared.Cell.{Cell}
 use Rattle.model.specs.Program.{Expr, const, var, compl, op, elem}
 use Rattle.model.specs.Circuit.{cell}
-use Rattle.model.specs.Numbering.{arrayCell, exprCount, exprWire, exprCells}
+use Rattle.model.specs.Numbering.{memoryWires, arrayCell, exprCount, exprWire, exprCells}
 use Rattle.laws.specs.Numbering.Lengths.{e-len}
+use Rattle.laws.specs.Numbering.Valid.{memory-wire, array-wire}
 use Rattle.compiler.specs.declared.walk.Word.{Word}
 use Rattle.compiler.specs.Writes.{write}
 use Rattle.compiler.specs.Walk.{word, ExprReady, ExprDone}
@@ -18,13 +19,13 @@ module _ {M c : ℕ} {before : List ℕ} where
   unfolding exprCells exprWire exprCount
   const-done w = record { cells = w; wire = refl; cell = refl }
 
-  pub var-done : {x : ℕ} → ExprDone M (var x) c before before (word (M + x) c)
+  pub var-done : {x : ℕ} → x < 16 → ExprDone M (var x) c before before (word (M + x) c)
   unfolding exprCells exprWire exprCount
-  var-done = record { cells = sym (write-none c before); wire = refl; cell = omega arith }
+  var-done {x} l = record { cells = sym (write-none c before); wire = sym (memory-wire M x l); cell = omega arith }
 
   module _ {E : Expr} {mid : List ℕ} {e : Word} (u : ExprDone M E c before mid e) where
-    one-more : (y : Cell) {end : List ℕ} → end ≡ write (e .cell) (y ∷ []) mid → end ≡ write c (exprCells M E c ++ (y ∷ [])) before
-    one-more y w = rw (u .cell, u .cells) at w ∙ write-append c _ (exprCells M E c) _ before (behind c (e-len M E c))
+    one-more : (y : Cell) {end : List ℕ} → end ≡ write (e .cell) (y ∷ []) mid → end ≡ write c (exprCells (memoryWires M) E c ++ (y ∷ [])) before
+    one-more y w = rw (u .cell, u .cells) at w ∙ write-append c _ (exprCells (memoryWires M) E c) _ before (behind c (e-len (memoryWires M) E c))
 
     pub compl-done : {end : List ℕ} → end ≡ write (e .cell) (cell 3 0 (e .wire) 0 ∷ []) mid
         → ExprDone M (compl E) c before end (word (e .cell) (e .cell + 1))
@@ -34,7 +35,8 @@ module _ {M c : ℕ} {before : List ℕ} where
     pub elem-done : {k : ℕ} {end : List ℕ} → end ≡ write (e .cell) (cell 44 0 (arrayCell M k) (e .wire) ∷ []) mid
         → ExprDone M (elem k E) c before end (word (e .cell) (e .cell + 1))
     unfolding exprCells exprWire exprCount
-    elem-done w = record { cells = rw (u .wire) at (one-more _ w); wire = u .cell; cell = omega (arith, u .cell) }
+    elem-done {k} w =
+        record { cells = rw (← array-wire M k) at (rw (u .wire) at (one-more _ w)); wire = u .cell; cell = omega (arith, u .cell) }
 
     pub op-done : {k : ℕ} {F : Expr} {mid₂ end : List ℕ} {f : Word} → ExprDone M F (e .cell) mid mid₂ f
         → end ≡ write (f .cell) (cell k 0 (e .wire) (f .wire) ∷ []) mid₂ → ExprDone M (op k E F) c before end (word (f .cell) (f .cell + 1))
@@ -46,8 +48,8 @@ module _ {M c : ℕ} {before : List ℕ} where
         (record {
           cells =
               rw (v .cell, v .wire, u .wire, v .cells, u .cells) at w
-              ∙ write-append c₂ _ (exprCells M F c₂) _ (write c (exprCells M E c) before) (behind c₂ (e-len M F c₂))
-              ∙ write-append c c₂ (exprCells M E c) _ before (behind c (e-len M E c));
+              ∙ write-append c₂ _ (exprCells (memoryWires M) F c₂) _ (write c (exprCells (memoryWires M) E c) before) (behind c₂ (e-len (memoryWires M) F c₂))
+              ∙ write-append c c₂ (exprCells (memoryWires M) E c) _ before (behind c (e-len (memoryWires M) E c));
           wire = refl;
           cell = omega arith;
         })

@@ -9,7 +9,7 @@ use lib.ListN.{length, set, length-append}
 use lib.Seq.{sets}
 use Rattle.model.specs.declared.Cell.{Cell}
 use Rattle.model.specs.Program.{Code, ok, tick, assign, assignElem, seq, par, ite, while, repeat, loop, exit, call}
-use Rattle.model.specs.Numbering.{ifDelayCount, pastSwitches, delayCount, exitCount, walkCount, finishWire, delays, walk}
+use Rattle.model.specs.Numbering.{memoryWires, ifDelayCount, pastSwitches, delayCount, exitCount, walkCount, finishWire, delays, walk}
 use Rattle.laws.specs.Numbering.Lengths.{d-len, w-len}
 use Rattle.laws.specs.Lists.Writes.{sets-append}
 use Rattle.compiler.specs.declared.walk.Place.{Place}
@@ -115,12 +115,12 @@ module _ {d c k d′ c′ k′ : ℕ} {before marked after remarked : List ℕ} 
   -- a part
   pub grow-part : {M w o pulse : ℕ} {F : ℕ → ℕ} {Q : Code} {r : Place} {end marks : List ℕ} → Grown d c k before marked D W K after remarked d′ c′ k′
       → d′ + delayCount Q ≤ c → Done pulse M F Q (place w d′ c′ k′ o) after end remarked marks r
-      → Grown d c k before marked (D ++ delays pulse Q w d′ c′) (W ++ walk M F Q w d′ c′) (K ++ marksOf Q d′ c′) end marks
+      → Grown d c k before marked (D ++ delays pulse Q w d′ c′) (W ++ walk (memoryWires M) F Q w d′ c′) (K ++ marksOf Q d′ c′) end marks
       (d′ + delayCount Q) (c′ + walkCount Q) (k′ + 4 * assignments Q)
   unfolding both
   grow-part {M} {w} {pulse = pulse} {F = F} {Q} g h u =
       let x = grow-delay g (delays pulse Q w d′ c′) (behind d′ (d-len pulse Q w d′ c′)) h refl in
-      let y = grow-walk x (walk M F Q w d′ c′) (behind c′ (w-len M F Q w d′ c′)) (u .cells) in
+      let y = grow-walk x (walk (memoryWires M) F Q w d′ c′) (behind c′ (w-len (memoryWires M) F Q w d′ c′)) (u .cells) in
       grow-marks y (marksOf Q d′ c′) (behind k′ (marks-length Q d′ c′)) (u .marks)
 
   -- a delay cell in front of the others
@@ -138,7 +138,7 @@ module _ {d c k d′ c′ k′ : ℕ} {before marked after remarked : List ℕ} 
 -- a statement whose cells and marks these are is done
 pub closed : {pulse M d c k : ℕ} {F : ℕ → ℕ} {S : Code} {p r : Place} {before marked after remarked K : List ℕ} {D W : List Cell}
     → Grown (p .delay) (p .cell) (p .mark) before marked D W K after remarked d c k
-    → D ≡ delays pulse S (p .wire) (p .delay) (p .cell) → W ≡ walk M F S (p .wire) (p .delay) (p .cell) → K ≡ marksOf S (p .delay) (p .cell)
+    → D ≡ delays pulse S (p .wire) (p .delay) (p .cell) → W ≡ walk (memoryWires M) F S (p .wire) (p .delay) (p .cell) → K ≡ marksOf S (p .delay) (p .cell)
     → r .out ≡ p .out + exitCount S → r ≡ place (finishWire S (p .wire) (p .delay) (p .cell)) d c k (r .out) → Done pulse M F S p before after marked remarked r
 closed {pulse} {M} {F = F} {S} {p} g₀ eD eW eK o e =
     let g = rw (eD, eW, eK) at g₀ in
@@ -147,7 +147,7 @@ closed {pulse} {M} {F = F} {S} {p} g₀ eD eW eK o e =
       marks = g .marks;
       wire = ap (λ (r : Place). r .wire) e;
       delay = ap (λ (r : Place). r .delay) e ∙ g .delay ∙ ap (λ (n : ℕ). p .delay + n) (d-len pulse S (p .wire) (p .delay) (p .cell));
-      cell = ap (λ (r : Place). r .cell) e ∙ g .cell ∙ ap (λ (n : ℕ). p .cell + n) (w-len M F S (p .wire) (p .delay) (p .cell));
+      cell = ap (λ (r : Place). r .cell) e ∙ g .cell ∙ ap (λ (n : ℕ). p .cell + n) (w-len (memoryWires M) F S (p .wire) (p .delay) (p .cell));
       mark = ap (λ (r : Place). r .mark) e ∙ g .mark ∙ ap (λ (n : ℕ). p .mark + n) (marks-length S (p .delay) (p .cell));
       out = o;
     }

@@ -11,7 +11,7 @@ use lib.ListN.{length, getD, set, drop, length-append, length-set, drop-of-lengt
 use lib.Seq.{sets, drop-cons, drop-drop, getD-drop, getD-set-same, getD-set-other}
 use Rattle.model.specs.declared.Cell.{Cell}
 use Rattle.model.specs.Program.{Code, ok, tick, assign, assignElem, seq, par, ite, while, repeat, loop, exit, call, Program, roots}
-use Rattle.model.specs.Numbering.{pastSwitches, onTrue, onFalse, thenDelays, elseDelays, elseCells, ors, delayCount, walkCount, finishWire, delays, walk, Source, wiresOf, idleStart, rootStart, rootWalk, pastRoot, rootDelayCount, rootWalkCount, rootFinishes, rootDelays, rootWalks, procedures}
+use Rattle.model.specs.Numbering.{memoryWires, pastSwitches, onTrue, onFalse, thenDelays, elseDelays, elseCells, ors, delayCount, walkCount, finishWire, delays, walk, Source, wiresOf, idleStart, rootStart, rootWalk, pastRoot, rootDelayCount, rootWalkCount, rootFinishes, rootDelays, rootWalks, procedures}
 use Rattle.laws.specs.Program.Fit.{Earlier}
 use Rattle.laws.specs.Numbering.Lengths.{d-len, w-len, ors-len, root-d-len}
 use Rattle.laws.specs.Lists.Writes.{sets-append}
@@ -56,7 +56,7 @@ root-done {pulse} {M} {F} {ws} {P = P} {p} {j = j} {before = before} ready k u v
     let c = pastOrs ws p in
     let D = delays pulse P s (p .delay) c in
     let O = ors 35 (p .cell) ws in
-    let W = walk M F P s (p .delay) c in
+    let W = walk (memoryWires M) F P s (p .delay) c in
     record {
       cells =
           v .cells
@@ -74,7 +74,7 @@ root-done {pulse} {M} {F} {ws} {P = P} {p} {j = j} {before = before} ready k u v
 
 -- a walk looks at the finishes of the procedures that it calls alone
 module _ (M : ℕ) (F G : ℕ → ℕ) (r : ℕ) (same : (p : ℕ) → p < r → F p ≡ G p) where
-  pub walk-same : (P : Code) → Earlier r P → (s d c : ℕ) → walk M F P s d c ≡ walk M G P s d c
+  pub walk-same : (P : Code) → Earlier r P → (s d c : ℕ) → walk (memoryWires M) F P s d c ≡ walk (memoryWires M) G P s d c
   unfolding walk
   walk-same ok h s d c = refl
   walk-same (tick δ) h s d c = refl
@@ -134,7 +134,7 @@ module _ (S : Program) (cs : List Source) (M : ℕ) where
   abbrev cellsFrom : ℕ → List Code → Place → List ℕ → List ℕ
   cellsFrom r Ps p l =
       both (p .delay) (rootDelays (S .pulse) (procedures S) cs r Ps (p .delay) (p .cell)) (p .cell)
-      (rootWalks M (finishAt S cs M) (procedures S) cs r Ps (p .delay) (p .cell)) l
+      (rootWalks (memoryWires M) (finishAt S cs M) (procedures S) cs r Ps (p .delay) (p .cell)) l
 
   abbrev marksFrom : ℕ → List Code → Place → List ℕ → List ℕ
   marksFrom r Ps p l = sets l (p .mark) (rootMarks cs r Ps (p .delay) (p .cell))
@@ -185,7 +185,7 @@ module _ (S : Program) (cs : List Source) (M : ℕ) where
     O = ors 35 (p .cell) (wiresOf r cs)
 
     abbrev W : List Cell
-    W = walk M (finishAt S cs M) P start (p .delay) (rootWalk cs r (p .cell))
+    W = walk (memoryWires M) (finishAt S cs M) P start (p .delay) (rootWalk cs r (p .cell))
 
     cells-more : cellsFrom (r + 1) Ps q after ≡ cellsFrom r (P ∷ Ps) p before
     unfolding both rootDelays rootWalks rootDelayCount
@@ -193,10 +193,10 @@ module _ (S : Program) (cs : List Source) (M : ℕ) where
         let d = p .delay + delayCount P in
         let c = pastRoot cs r P (p .cell) in
         let D₂ = rootDelays (S .pulse) (procedures S) cs (r + 1) Ps d c in
-        let W₂ = rootWalks M (finishAt S cs M) (procedures S) cs (r + 1) Ps d c in
+        let W₂ = rootWalks (memoryWires M) (finishAt S cs M) (procedures S) cs (r + 1) Ps d c in
         let lD = d-len (S .pulse) P start (p .delay) (rootWalk cs r (p .cell)) in
         let lO = ors-len 35 (p .cell) (wiresOf r cs) in
-        let lW = w-len M (finishAt S cs M) P start (p .delay) (rootWalk cs r (p .cell)) in
+        let lW = w-len (memoryWires M) (finishAt S cs M) P start (p .delay) (rootWalk cs r (p .cell)) in
         let lD₂ = root-d-len (S .pulse) (procedures S) cs (r + 1) Ps d c in
         rw (u .delay, u .cell)
         (ap (λ (l : List ℕ). write c W₂ (write d D₂ l)) (u .cells)

@@ -7,7 +7,7 @@ use lib.ListN.{length, length-append}
 use lib.Seq.{sets}
 use Rattle.model.specs.Program.{Expr, Code, ok, tick, assign, assignElem, seq, par, ite, while, repeat, loop, exit, call, arrayVar}
 use Rattle.model.specs.Circuit.{cell}
-use Rattle.model.specs.Numbering.{exprCount, exprWire, exprCells, pastSwitches, switches, ifDelayCount, ifDelayCells, ifPulse, ors, delayCount, exitCount, exitsAt, loopExits, finishWire, delays, walk}
+use Rattle.model.specs.Numbering.{memoryWires, exprCount, exprWire, exprCells, pastSwitches, switches, ifDelayCount, ifDelayCells, ifPulse, ors, delayCount, exitCount, exitsAt, loopExits, finishWire, delays, walk}
 use Rattle.laws.specs.Numbering.Lengths.{e-len, ors-len, own-len}
 use Rattle.compiler.specs.declared.walk.Word.{Word}
 use Rattle.compiler.specs.declared.walk.Place.{Place}
@@ -41,7 +41,7 @@ module _ {pulse M : ℕ} {F : ℕ → ℕ} {p : Place} {before marked : List ℕ
   assign-done {δ} {x} {E} h u a b k l =
       let c = p .cell in
       let z = grown-none {d = p .delay} {c = c} {k = p .mark} {before = before} {marked = marked} in
-      let e = grow-walk (grow-walk z _ (behind c (e-len M E c)) (u .cells)) _ refl (rw (u .cell, u .wire) at a) in
+      let e = grow-walk (grow-walk z _ (behind c (e-len (memoryWires M) E c)) (u .cells)) _ refl (rw (u .cell, u .wire) at a) in
       let m = grow-marks (grow-delay e _ refl h b) (x ∷ p .delay ∷ (c + exprCount E) ∷ 0 ∷ []) refl (rw (u .cell) at k) in
       closed m refl refl refl (rw l (omega arith)) (rw l (rw (u .cell) refl))
 
@@ -61,7 +61,7 @@ module _ {pulse M : ℕ} {F : ℕ → ℕ} {p : Place} {before marked : List ℕ
       let c₂ = c + exprCount I in
       let w = rw (u .cell) at w₀ in
       let z = grown-none {d = p .delay} {c = c} {k = p .mark} {before = before} {marked = marked} in
-      let e = grow-walk (grow-walk z _ (behind c (e-len M I c)) (u .cells)) _ (behind c₂ (e-len M E c₂)) (w .cells) in
+      let e = grow-walk (grow-walk z _ (behind c (e-len (memoryWires M) I c)) (u .cells)) _ (behind c₂ (e-len (memoryWires M) E c₂)) (w .cells) in
       let f = grow-walk (grow-walk e _ refl (rw (w .cell, w .wire) at a₁)) _ refl (rw (w .cell, u .wire) at a₂) in
       let m = grow-marks (grow-delay f _ refl h b) (arrayVar v ∷ p .delay ∷ (c₂ + exprCount E) ∷ (c₂ + exprCount E + 1) ∷ []) refl (rw (w .cell) at k) in
       closed m refl (simp append-assoc) refl (rw l (omega arith)) (rw l (rw (w .cell) refl))
@@ -96,21 +96,21 @@ pub switches-done : {M c w : ℕ} {E : Expr} {before m₁ m₂ end : List ℕ} {
     → Switched M E c w before end (e .cell)
 switches-done {M} {c} {w} {E} {before} u a b =
     let f = c + exprCount E in
-    let x = cell 36 0 w (exprWire M E c) in
-    let y = cell 37 0 w (exprWire M E c) in
+    let x = cell 36 0 w (exprWire (memoryWires M) E c) in
+    let y = cell 37 0 w (exprWire (memoryWires M) E c) in
     record {
       cells =
           rw (u .cell, u .wire) at b
           ∙ ap (write (f + 1) (y ∷ [])) (rw (u .cell, u .wire, u .cells) at a)
-          ∙ write-append f (f + 1) (x ∷ []) (y ∷ []) (write c (exprCells M E c) before) refl
-          ∙ write-append c f (exprCells M E c) (x ∷ (y ∷ [])) before (behind c (e-len M E c));
+          ∙ write-append f (f + 1) (x ∷ []) (y ∷ []) (write c (exprCells (memoryWires M) E c) before) refl
+          ∙ write-append c f (exprCells (memoryWires M) E c) (x ∷ (y ∷ [])) before (behind c (e-len (memoryWires M) E c));
       switch = u .cell;
     }
 
 -- Statements with parts ----------------------------------------------------------------------------------------------------------------
 
-after-switches : (M g : ℕ) (E : Expr) (c : ℕ) → pastSwitches E c ≡ c + length (switches M E g c [])
-after-switches M g E c = simp (length-append, e-len M E c) (omega arith)
+after-switches : (M g : ℕ) (E : Expr) (c : ℕ) → pastSwitches E c ≡ c + length (switches (memoryWires M) E g c [])
+after-switches M g E c = simp (length-append, e-len (memoryWires M) E c) (omega arith)
 
 module _ {pulse M : ℕ} {F : ℕ → ℕ} {P Q : Code} {p q r : Place} {before m₁ m₂ marked k₁ k₂ : List ℕ} where
   pub seq-done : p .delay + delayCount (seq P Q) ≤ p .cell → Done pulse M F P p before m₁ marked k₁ q → Done pulse M F Q q m₁ m₂ k₁ k₂ r

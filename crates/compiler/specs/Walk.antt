@@ -5,7 +5,7 @@ use Prim.Native.Nat.{ℕ, _+_, _*_, _≤_}
 use lib.ListN.{length, getD, take, drop}
 use lib.Seq.{sets}
 use Rattle.model.specs.Program.{Expr, Code, ok, tick, assign, assignElem, seq, par, ite, while, repeat, loop, exit, call, arrayVar}
-use Rattle.model.specs.Numbering.{exprCount, exprWire, exprCells, onTrue, pastSwitches, switches, ifDelayCount, ifDelayCells, ifPulse, delayCount, exitCount, walkCount, finishWire, exitWires, ors, orsOut, orCount, delays, walk}
+use Rattle.model.specs.Numbering.{memoryWires, exprCount, exprWire, exprCells, onTrue, pastSwitches, switches, ifDelayCount, ifDelayCells, ifPulse, delayCount, exitCount, walkCount, finishWire, exitWires, ors, orsOut, orCount, delays, walk}
 use Rattle.laws.specs.Program.Fit.{FormedExpr, Formed, Earlier}
 use Rattle.compiler.specs.declared.walk.Word.{Word}
 use Rattle.compiler.specs.declared.walk.Place.{Place}
@@ -25,8 +25,8 @@ pub record ExprReady (M : ℕ) (e : Expr) (c n : ℕ) : Type 0 where
   pub small : n ≤ 3762
 
 pub record ExprDone (M : ℕ) (e : Expr) (c : ℕ) (before after : List ℕ) (r : Word) : Type 0 where
-  pub cells : after ≡ write c (exprCells M e c) before
-  pub wire : r .wire ≡ exprWire M e c
+  pub cells : after ≡ write c (exprCells (memoryWires M) e c) before
+  pub wire : r .wire ≡ exprWire (memoryWires M) e c
   pub cell : r .cell ≡ c + exprCount e
 
 -- a condition and its switches go there
@@ -35,7 +35,7 @@ pub record SwitchReady (M : ℕ) (e : Expr) (c n : ℕ) : Type 0 where
   pub room : 6 * pastSwitches e c ≤ n
 
 pub record Switched (M : ℕ) (e : Expr) (c ifPulse : ℕ) (before after : List ℕ) (r : ℕ) : Type 0 where
-  pub cells : after ≡ write c (switches M e ifPulse c []) before
+  pub cells : after ≡ write c (switches (memoryWires M) e ifPulse c []) before
   pub switch : r ≡ onTrue e c
 
 -- Statements ---------------------------------------------------------------------------------------------------------------------------
@@ -114,7 +114,7 @@ finishIn finishes p = getD finishes p 0
 -- F p is the finish of body p
 pub record Done (pulse M : ℕ) (F : ℕ → ℕ) (P : Code) (p : Place) (before after : List ℕ) (marked remarked : List ℕ) (r : Place) : Type 0 where
   pub cells :
-      after ≡ both (p .delay) (delays pulse P (p .wire) (p .delay) (p .cell)) (p .cell) (walk M F P (p .wire) (p .delay) (p .cell)) before
+      after ≡ both (p .delay) (delays pulse P (p .wire) (p .delay) (p .cell)) (p .cell) (walk (memoryWires M) F P (p .wire) (p .delay) (p .cell)) before
   pub marks : remarked ≡ sets marked (p .mark) (marksOf P (p .delay) (p .cell))
   pub wire : r .wire ≡ finishWire P (p .wire) (p .delay) (p .cell)
   pub delay : r .delay ≡ p .delay + delayCount P

@@ -8,7 +8,7 @@ use Rattle.model.specs.declared.Options.{Options}
 use Rattle.model.specs.declared.Checked.the-variants.{Accepted}
 use Rattle.model.specs.Program.{Code, Program, programOf, roots}
 use Rattle.model.specs.NetlistFile.{cellsAt, inList}
-use Rattle.model.specs.Numbering.{ors, orsOut, orCount, delayCount, walkCount, finishWire, delays, walk, Source, wiresOf, rootDelayCount, rootWalk, pastRoot, rootWalkCount, rootFinishes, rootDelays, rootWalks}
+use Rattle.model.specs.Numbering.{memoryWires, ors, orsOut, orCount, delayCount, walkCount, finishWire, delays, walk, Source, wiresOf, rootDelayCount, rootWalk, pastRoot, rootWalkCount, rootFinishes, rootDelays, rootWalks}
 use Rattle.model.specs.Numbering.{callsOf, clockAt, memoryAt, dataAt, addressAt, walkAt, clockWires, dataWires, addressWires, procedures, netlist, finish}
 use Rattle.model.specs.Calls.{checkCall}
 use Rattle.laws.specs.Numbering.Parts.{delayCells, clockOrs, walkCells, dataOrs, addressOrs}
@@ -60,7 +60,7 @@ pub record RootDone (pulse M : ℕ) (F : ℕ → ℕ) (idle : ℕ) (ws : List �
   pub cells :
       after
       ≡ both (p .delay) (delays pulse P (startOf idle ws p) (p .delay) (pastOrs ws p)) (p .cell)
-      (ors 35 (p .cell) ws ++ walk M F P (startOf idle ws p) (p .delay) (pastOrs ws p)) before
+      (ors 35 (p .cell) ws ++ walk (memoryWires M) F P (startOf idle ws p) (p .delay) (pastOrs ws p)) before
   pub marks : remarked ≡ sets marked (p .mark) (marksOf P (p .delay) (pastOrs ws p))
   pub wire : r .wire ≡ finishWire P (startOf idle ws p) (p .delay) (pastOrs ws p)
   pub delay : r .delay ≡ p .delay + delayCount P
@@ -97,7 +97,7 @@ pub record RootsDone (S : Program) (cs : List Source) (M : ℕ) (before after ma
   pub cells :
       after
       ≡ both 3 (rootDelays (S .pulse) (procedures S) cs 0 (roots S) 3 (behindArrays M)) (behindArrays M)
-      (rootWalks M (finishAt S cs M) (procedures S) cs 0 (roots S) 3 (behindArrays M)) before
+      (rootWalks (memoryWires M) (finishAt S cs M) (procedures S) cs 0 (roots S) 3 (behindArrays M)) before
   pub marks : remarked ≡ sets marked 0 (rootMarks cs 0 (roots S) 3 (behindArrays M))
   pub wire : r .wire ≡ finishAt S cs M (procedures S)
   pub delay : r .delay ≡ 3 + rootDelayCount (roots S)

@@ -8,7 +8,7 @@ ghost use Rattle.model.specs.ProgramChecks.{programWith};
 ghost use Rattle.model.specs.Numbering.{netlist};
 ghost use Rattle.model.specs.Calls.{overwrite, checkCall, compiledFile, compileCall};
 
-mod nodes; // nodes as parts of the tree
+pub mod nodes; // nodes as parts of the tree
 mod walk; // delay cells and walk cells
 mod ors; // ors and memories
 mod whole; // the whole netlist

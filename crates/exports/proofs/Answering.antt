@@ -16,7 +16,7 @@ use Rattle.model.specs.declared.Written.{Written}
 use Rattle.model.specs.declared.Written.the-variants.{Done}
 use Rattle.model.specs.Refusals.{refuseIf, first}
 use Rattle.model.specs.Circuit.{cellAt, noCell}
-use Rattle.model.specs.NetlistFile.{countWrong, blocksFor, blocks, fileOf, firstNumber, pulseWrong, netCheck}
+use Rattle.model.specs.NetlistFile.{cellLimit, countWrong, blocksFor, blocks, fileOf, firstNumber, pulseWrong, netCheck}
 use Rattle.model.specs.Calls.{Returned, overwrite, short, writing}
 use Rattle.model.specs.CellSlices.{miscounted, checkCellsCall, writeCellsCall}
 use Rattle.laws.specs.Refusals.Laws.{by-bool, not-refused, all-accept, refuse-unless, first-two, first-one}
@@ -99,7 +99,7 @@ module _ (v : ℕ) (cs : List Cell) (f : ℕ) (lent : List ℕ) where
       let h : size ≤ length lent = ltb-false (length lent) size (refuse-unless (ltb (length lent) size) 14 0 (z 2)) in
       (refuse-unless (pulseWrong v) 27 0 (z 0), z 1, h, sym (overwrite-sets (fileOf v cs f) lent (omega (arith, h, file-length v cs f))) ∙ p ∙ ap (λ (t : Returned Written). t .lent) (sym write-as))
 
-few-cells : (cs : List Cell) (f : ℕ) → checkCellsCall cs f ≡ Accepted → length cs ≤ 1024
+few-cells : (cs : List Cell) (f : ℕ) → checkCellsCall cs f ≡ Accepted → length cs ≤ cellLimit
 unfolding checkCellsCall
 few-cells cs f e =
     let a = both-accept (miscounted cs f) (netCheck cs f) e .0 in

@@ -9,7 +9,7 @@ use lib.ListN.{length, set, take, drop, length-map, length-take, length-append}
 use lib.Seq.{sets, sets-eq, length-sets, drop-cons, drop-set-lt, take-append-seam, drop-append-seam}
 use Rattle.model.specs.declared.Cell.{Cell}
 use Rattle.model.specs.Circuit.{noCell, cellAt}
-use Rattle.model.specs.NetlistFile.{cellFrom, cellsAt, inFile, blocksFor}
+use Rattle.model.specs.NetlistFile.{cellLimit, cellFrom, cellsAt, inFile, blocksFor}
 use Rattle.model.specs.CellSlices.{movedFrom, moved, behind}
 use Rattle.netlist.specs.declared.cells.Layout.the-variants.{InFile}
 use Rattle.netlist.specs.Offsets.{Room}
@@ -45,7 +45,7 @@ module _ (file : List ℕ) (first end : ℕ) where
   place-done cs i h = rw (cells-none inFile file (i - first) (end - i) (omega arith)) refl
 
   -- a file with room for the cells that are placed has room for each
-  pub place-fits : (i : ℕ) → first ≤ i → i < end → Room InFile file (end - first) → (i - first < 1024) × Room InFile file (i - first + 1)
+  pub place-fits : (i : ℕ) → first ≤ i → i < end → Room InFile file (end - first) → (i - first < cellLimit) × Room InFile file (i - first + 1)
   place-fits i f h r =
       let b : blocksFor (i - first + 1) ≤ blocksFor (end - first) = omega arith in
       (omega (arith, r .few), record { few = omega (arith, r .few); fits = omega (arith, b, r .fits) })

@@ -5,7 +5,7 @@ use Prim.Native.Nat.{ℕ, _*_, _≤_}
 use lib.ListN.{length, take}
 use lib.Seq.{sets}
 use Rattle.model.specs.declared.Cell.{Cell}
-use Rattle.model.specs.NetlistFile.{blocks, blocksFor}
+use Rattle.model.specs.NetlistFile.{cellLimit, blocks, blocksFor}
 use Rattle.model.specs.CellSlices.{writeCellsCall}
 use Rattle.reply.specs.Replies.{writtenReply, replied, roomFor, ifRoom}
 use Rattle.exports.specs.declared.writing.Write.{Write}
@@ -17,7 +17,7 @@ numbered first net finish = blocks (blocksFor (length net)) first (length net) f
 -- the file of the first cells is what writing leaves; and `out` is the reply
 pub record Writes (pulse : ℕ) (cs : List Cell) (finish room : ℕ) (reply : List ℕ) (w : Write) (out : List ℕ) : Type 0 where
   pub within : w .n ≤ length cs
-  pub few : w .n ≤ 1024
+  pub few : w .n ≤ cellLimit
   pub fits : 512 * blocksFor (w .n) ≤ room
   pub low : w .first ≤ 65280
   pub told : w .told ≡ roomFor reply

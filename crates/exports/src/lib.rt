@@ -6,7 +6,7 @@ ghost use Prim.Native.Nat.{_-_, _*_, _≤_};
 ghost use lib.ListN.{length, take};
 ghost use lib.Seq.{sets};
 ghost use Rattle.model.specs.CellSlices.{movedFrom, behind, checkCellsCall, writeCellsCall, readCellsCall};
-ghost use Rattle.model.specs.NetlistFile.{cellsAt, inFile, blocksFor};
+ghost use Rattle.model.specs.NetlistFile.{cellLimit, cellsAt, inFile, blocksFor};
 ghost use Rattle.reply.specs.Replies.{checkedReply, writtenReply, replied, roomFor, ifRoom};
 ghost use Rattle.netlist.specs.declared.cells.Layout.the-variants.{InFile};
 ghost use Rattle.netlist.specs.Offsets.{Room};
@@ -14,6 +14,7 @@ ghost use Rattle.netlist.specs.Scans.{Scanned};
 ghost use Rattle.exports.specs.Writes.{numbered};
 
 pub mod calls; // the calls on bytes
+pub mod functional_calls; // those for functional circuits
 mod checking; // what the check tells
 pub mod moves; // one cell moved, and cells of six bytes each
 mod reading; // what reading puts in
@@ -52,7 +53,7 @@ pub extern "C" fn hub_check_cells(cells: &[Cell], finish: u16, reply: &mut [u8])
 
 // Puts the first n cells in as their file, whose blocks are numbered from first on.
 fn put_cells(cells: &[Cell], n: usize, first: u16, finish: u16, file: &mut [u8])
-    requires { ⌜ (n ≤ length (now cells)) × (n ≤ 1024) × (512 * blocksFor n ≤ length (now file)) × (first ≤ 65280) ⌝ }
+    requires { ⌜ (n ≤ length (now cells)) × (n ≤ cellLimit) × (512 * blocksFor n ≤ length (now file)) × (first ≤ 65280) ⌝ }
     ensures { λ _. ⌜ now (file .exit) ≡ sets (now (file .entry)) 0 (numbered first (take n (now (cells .entry))) finish) ⌝ }
 {
     let mut k: usize = 0;

@@ -5,6 +5,7 @@ ghost use Prim.Native.Nat.{_*_, _≤_};
 ghost use lib.ListN.{length};
 ghost use Rattle.model.specs.Word.{pick};
 ghost use Rattle.model.specs.CellSlices.{renumbered, moved, movedBytes, hasCells, renumberCall};
+ghost use Rattle.model.specs.NetlistFile.{cellLimit};
 use model::Cell;
 use model::sizes::CELL;
 use model::sizes::MOST_CELLS;
@@ -39,7 +40,7 @@ pub fn moved(c: Cell, k: u16) -> Cell
 
 // The cells from number `from` up to `end` moved k places on.
 fn renumber_bytes(cells: &mut [u8], from: usize, end: usize, k: u16)
-    requires { ⌜ (end ≤ 1024) × (6 * end ≤ length (now cells)) ⌝ }
+    requires { ⌜ (end ≤ cellLimit) × (6 * end ≤ length (now cells)) ⌝ }
     ensures { λ _. ⌜ now (cells .exit) ≡ movedBytes k end (now (cells .entry)) from ⌝ }
 {
     let mut i = from;

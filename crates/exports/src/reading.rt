@@ -6,7 +6,7 @@ ghost use Prim.Native.Nat.{_+_, _-_, _<_, _≤_};
 ghost use lib.Dec.{ltb};
 ghost use lib.ListN.{length};
 ghost use Rattle.model.specs.declared.Written.{Written};
-ghost use Rattle.model.specs.NetlistFile.{cellFrom, inFile};
+ghost use Rattle.model.specs.NetlistFile.{cellLimit, cellFrom, inFile};
 ghost use Rattle.reply.specs.Replies.{writtenReply, replied};
 ghost use Rattle.netlist.specs.declared.cells.Layout.the-variants.{InFile};
 ghost use Rattle.netlist.specs.Offsets.{Room};
@@ -88,7 +88,7 @@ pub fn planned(file: &[u8], at: usize, room: usize, reply: &mut [u8]) -> Plan
 
 // The cell of the file that is to have number i, where its first has number `from`.
 pub fn file_cell(file: &[u8], from: usize, i: usize) -> Cell
-    requires { ⌜ (from ≤ i) × (i - from < 1024) × Room InFile (now file) (i - from + 1) ⌝ }
+    requires { ⌜ (from ≤ i) × (i - from < cellLimit) × Room InFile (now file) (i - from + 1) ⌝ }
     ensures { λ r. ⌜ r ≡ cellFrom (now (file .entry)) (inFile (i - from)) ⌝ }
 {
     netlist::cells::cell_at(file, Layout::InFile, i - from)

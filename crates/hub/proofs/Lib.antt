@@ -1,2 +1,4 @@
+pub mod Lent
 pub mod FullRun
+pub mod FullFunctional
 pub mod OnTexts

@@ -1,9 +1,12 @@
 // The full run of a program. Everything is checked before anything is written, because a refusal changes no lent byte.
 ghost use mathlib.Core.Path.{_≡_};
+ghost use Prim.Native.Nat.{_≤_};
 ghost use Rattle.model.specs.declared.Checked.the-variants.{Accepted};
 ghost use Rattle.model.specs.declared.Format.the-variants.{Full};
 ghost use Rattle.model.specs.Refusals.{first};
+ghost use Rattle.model.specs.NetlistFile.{cellLimit};
 ghost use Rattle.model.specs.Calls.{overwrite, compiledFile, shows, fullState, fullCount, runProgramChecks, runProgramCall};
+ghost use Rattle.hub.specs.Lent.{lentChecks};
 use model::Answer;
 use model::Checked;
 use model::Options;
@@ -15,6 +18,26 @@ use model::sizes::LAST_INSTANT;
 use model::sizes::START_WORDS;
 use model::sizes::STATE_CELL;
 use model::sizes::STATE_HEADER;
+
+// Refusals 13 and 14, where the netlist has n cells.
+pub fn check_lent(n: usize, words: &[u8], budget: u32, netlist: &[u8], state: &[u8]) -> Checked
+    requires { ⌜ n ≤ cellLimit ⌝ }
+    ensures { λ r. ⌜ r ≡ first (lentChecks n (now (words .entry)) budget (now (netlist .entry)) (now (state .entry))) ⌝ }
+{
+    if LAST_INSTANT < budget {
+        return simulator::checks::refuse(13);
+    }
+    if words.len() < START_WORDS {
+        return simulator::checks::refuse(14);
+    }
+    if netlist.len() < BLOCK * ((n + BLOCK_LAST) / BLOCK_CELLS) {
+        return simulator::checks::refuse(14);
+    }
+    if state.len() < STATE_HEADER + STATE_CELL * n + ELEMENTS {
+        return simulator::checks::refuse(14);
+    }
+    Checked::Accepted
+}
 
 // Refusals 27, 19 to 21, 1 to 8, 22, 24 and 25, 13, 14.
 fn check(
@@ -31,20 +54,8 @@ fn check(
     if let Checked::Refused(r) = checked {
         return Checked::Refused(r);
     }
-    if LAST_INSTANT < budget {
-        return simulator::checks::refuse(13);
-    }
-    if words.len() < START_WORDS {
-        return simulator::checks::refuse(14);
-    }
     let n = compiler::count_cells(options, program);
-    if netlist.len() < BLOCK * ((n + BLOCK_LAST) / BLOCK_CELLS) {
-        return simulator::checks::refuse(14);
-    }
-    if state.len() < STATE_HEADER + STATE_CELL * n + ELEMENTS {
-        return simulator::checks::refuse(14);
-    }
-    Checked::Accepted
+    check_lent(n, words, budget, netlist, state)
 }
 
 // The run of a program that was not refused.

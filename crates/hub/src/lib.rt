@@ -4,9 +4,11 @@
 ghost use mathlib.Core.Path.{_≡_};
 ghost use Rattle.model.specs.TimeTables.{givenIf, beside, load, defaults};
 ghost use Rattle.model.specs.Calls.{checkCall, compileCall, writeCall, readCall, beginCall, continueCall, startCall, runNetlistCall, runProgramCall, referenceCall};
+ghost use Rattle.model.specs.FunctionalCalls.{checkFunctionalCall, compileFunctionalCall, beginFunctionalCall, continueFunctionalCall, startFunctionalCall, runFunctionalCall, runFunctionalProgramCall};
 ghost use Rattle.model.specs.TextCalls.{readTextCall, compileTextCall, runTextCall};
 
 pub mod full; // the full run of a program
+pub mod full_functional; // the full run of a program's functional circuit
 pub mod texts; // compiling and running a text
 
 use model::Answer;
@@ -143,4 +145,66 @@ pub fn run_text(
     ensures state { λ _. ⌜ now (state .exit) ≡ runTextCall options (now (source .entry)) (now (words .entry)) budget (now (netlist .entry)) (now (state .entry)) .state ⌝ }
 {
     texts::run(options, source, words, budget, netlist, state)
+}
+
+// Functional circuits --------------------------------------------------------------------------------------------------------------------
+// Of what is given beside a program the table alone counts.
+
+pub fn check_functional(options: Options, program: &[u8]) -> Checked
+    ensures { λ r. ⌜ r ≡ checkFunctionalCall options (now (program .entry)) ⌝ }
+{
+    program::check_functional(options, program)
+}
+
+// The file of the program's functional netlist, into a lent buffer.
+pub fn compile_functional(options: Options, program: &[u8], file: &mut [u8]) -> Written
+    ensures answer { λ r. ⌜ r ≡ compileFunctionalCall options (now (program .entry)) (now (file .entry)) .answer ⌝ }
+    ensures lent { λ _. ⌜ now (file .exit) ≡ compileFunctionalCall options (now (program .entry)) (now (file .entry)) .lent ⌝ }
+{
+    functional::compile(options, program, file)
+}
+
+// As the calls above, on a netlist whose last sixteen cells carry the last words, which the answer shows.
+pub fn begin_functional(format: Format, netlist: &[u8], words: &[u8], state: &mut [u8]) -> Answer
+    ensures answer { λ r. ⌜ r ≡ beginFunctionalCall format (now (netlist .entry)) (now (words .entry)) (now (state .entry)) .answer ⌝ }
+    ensures lent { λ _. ⌜ now (state .exit) ≡ beginFunctionalCall format (now (netlist .entry)) (now (words .entry)) (now (state .entry)) .lent ⌝ }
+{
+    functional_runs::begin(format, netlist, words, state)
+}
+
+pub fn continue_functional(format: Format, netlist: &[u8], state: &mut [u8], n: u32) -> Answer
+    ensures answer { λ r. ⌜ r ≡ continueFunctionalCall format (now (netlist .entry)) n (now (state .entry)) .answer ⌝ }
+    ensures lent { λ _. ⌜ now (state .exit) ≡ continueFunctionalCall format (now (netlist .entry)) n (now (state .entry)) .lent ⌝ }
+{
+    functional_runs::continue_by(format, netlist, state, n)
+}
+
+pub fn start_functional(format: Format, netlist: &[u8], state: &mut [u8]) -> Answer
+    ensures answer { λ r. ⌜ r ≡ startFunctionalCall format (now (netlist .entry)) (now (state .entry)) .answer ⌝ }
+    ensures lent { λ _. ⌜ now (state .exit) ≡ startFunctionalCall format (now (netlist .entry)) (now (state .entry)) .lent ⌝ }
+{
+    functional_runs::start(format, netlist, state)
+}
+
+pub fn run_functional(netlist: &[u8], words: &[u8], budget: u32, state: &mut [u8]) -> Answer
+    ensures answer { λ r. ⌜ r ≡ runFunctionalCall (now (netlist .entry)) (now (words .entry)) budget (now (state .entry)) .answer ⌝ }
+    ensures lent { λ _. ⌜ now (state .exit) ≡ runFunctionalCall (now (netlist .entry)) (now (words .entry)) budget (now (state .entry)) .lent ⌝ }
+{
+    functional_runs::run_netlist(netlist, words, budget, state)
+}
+
+// A compiling and a full run of what it wrote, in two lent buffers.
+pub fn run_functional_program(
+    options: Options,
+    program: &[u8],
+    words: &[u8],
+    budget: u32,
+    netlist: &mut [u8],
+    state: &mut [u8],
+) -> Answer
+    ensures answer { λ r. ⌜ r ≡ runFunctionalProgramCall options (now (program .entry)) (now (words .entry)) budget (now (netlist .entry)) (now (state .entry)) .answer ⌝ }
+    ensures netlist { λ _. ⌜ now (netlist .exit) ≡ runFunctionalProgramCall options (now (program .entry)) (now (words .entry)) budget (now (netlist .entry)) (now (state .entry)) .netlist ⌝ }
+    ensures state { λ _. ⌜ now (state .exit) ≡ runFunctionalProgramCall options (now (program .entry)) (now (words .entry)) budget (now (netlist .entry)) (now (state .entry)) .state ⌝ }
+{
+    full_functional::run(options, program, words, budget, netlist, state)
 }

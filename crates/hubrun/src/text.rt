@@ -11,9 +11,9 @@ ghost use Rattle.model.specs.Calls.{overwrite, runProgramCall};
 ghost use Rattle.model.specs.Hubrun.{decimal, line, textOf, hubrunText};
 use model::Answer;
 use model::Outcome;
-use model::sizes::FILE_MOST;
+use model::sizes::COMPILED_FILE;
+use model::sizes::COMPILED_STATE;
 use model::sizes::START_WORDS;
-use model::sizes::STATE_MOST;
 use model::sizes::VARIABLES;
 
 // A word as a number: a cast of an element, apart from its index.
@@ -80,8 +80,8 @@ fn run(input: &[u8]) -> Answer
 {
     let budget = word::get32(input, VARIABLES);
     let words = start_words(&input[..VARIABLES]);
-    let mut netlist = [0u8; FILE_MOST];
-    let mut state = [0u8; STATE_MOST];
+    let mut netlist = [0u8; COMPILED_FILE];
+    let mut state = [0u8; COMPILED_STATE];
     let options = hub::defaults();
     hub::run_program(
         options,

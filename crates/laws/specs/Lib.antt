@@ -3,6 +3,7 @@ pub mod Refusals
 pub mod Program
 pub mod Rules
 pub mod Numbering
+pub mod Functional
 pub mod Circuit
 pub mod State
 pub mod NetlistFile

@@ -15,7 +15,7 @@ use Rattle.model.specs.declared.Written.the-variants.{Done}
 use Rattle.model.specs.Word.{pick}
 use Rattle.model.specs.Refusals.{refuseIf, first}
 use Rattle.model.specs.Circuit.{cell, cellRow, names}
-use Rattle.model.specs.NetlistFile.{cellBytes, cellsAt, inList, fileOf, fileCheck, cellsOf, countOf, finishOf, netCheck, countWrong, pulseWrong, blocksFor}
+use Rattle.model.specs.NetlistFile.{cellBytes, cellsAt, inList, fileOf, fileCheck, cellsOf, countOf, finishOf, netCheck, countWrong, pulseWrong, blocksFor, cellLimit}
 use Rattle.model.specs.Calls.{Returned, short, writing}
 
 -- Renumbering --------------------------------------------------------------------------------------------------------------------------
@@ -43,7 +43,7 @@ movedBytes k end s i = sets s (6 * i) (cellBytes (behind k (cellsAt inList s i (
 
 -- renumbering such a list, where it has that many cells; else it stays
 abbrev pub hasCells : ℕ → List ℕ → Bool
-hasCells n s = leb n 1024 && leb (6 * n) (length s)
+hasCells n s = leb n cellLimit && leb (6 * n) (length s)
 
 abbrev pub renumberCall : ℕ → ℕ → ℕ → List ℕ → List ℕ
 renumberCall k i end s = pick (hasCells end s) (movedBytes k end s i) s

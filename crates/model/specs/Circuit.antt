@@ -33,7 +33,7 @@ pub record Netlist : Type 0 where
 
 -- what a kind's number makes a cell do; kUnknown is for the numbers that are no kind
 pub data Shape : Type 0 where
-  kConstant kComplement kOperator kStart kGround kDelay kOr kWhenTrue kWhenFalse kMerge kReturn kMemory kGated kArray kAddress kRead kUnknown : Shape
+  kConstant kComplement kOperator kStart kGround kDelay kOr kWhenTrue kWhenFalse kMerge kReturn kMemory kGated kArray kAddress kRead kLatch kUnknown : Shape
 
 -- the kinds of a shape, from the first number to the last, and their row
 pub record CellKinds : Type 0 where
@@ -50,7 +50,8 @@ line first last r = record { first = first; last = last; row = r }
 -- the numbers of the kinds, whether they are control wires, and what delay, a and b are. "Kinds 32 to 38 are control wires (0 or 1), the others
 -- word wires", but for "control kind 39". "fields without a use are zero". "34 delay, d from 1 to 255". "All inputs name lower cells, except a
 -- delay's a and a memory's b, which may name any cell of the right sort." "b of 42 and a of 43 may name any cell of the right sort". "Every read is
--- a kind 44 (a the 42, b the index)". Which array a 42's delay is goes by its place. kUnknown has no numbers.
+-- a kind 44 (a the 42, b the index)". Which array a 42's delay is goes by its place. "one new cell kind, 45, a latch ... Both inputs may name any cell
+-- of the right sort." kUnknown has no numbers.
 unfoldable pub cellTable : Shape → CellKinds
 cellTable kConstant = line 1 1 (row false Unused Value Unused)
 cellTable kComplement = line 3 3 (row false Unused WordBelow Unused)
@@ -68,12 +69,13 @@ cellTable kGated = line 41 41 (row false Unused ControlBelow WordBelow)
 cellTable kArray = line 42 42 (row false Value ControlBelow WordAny)
 cellTable kAddress = line 43 43 (row false Unused WordAny Unused)
 cellTable kRead = line 44 44 (row false Unused ArrayBelow WordBelow)
+cellTable kLatch = line 45 45 (row false Unused ControlAny WordAny)
 cellTable kUnknown = line 1 0 (row false Unknown Unknown Unknown)
 
 abbrev pub shapes : List Shape
 shapes =
     kConstant ∷ kComplement ∷ kOperator ∷ kStart ∷ kGround ∷ kDelay ∷ kOr ∷ kWhenTrue ∷ kWhenFalse ∷ kMerge ∷ kReturn ∷ kMemory
-    ∷ kGated ∷ kArray ∷ kAddress ∷ kRead ∷ []
+    ∷ kGated ∷ kArray ∷ kAddress ∷ kRead ∷ kLatch ∷ []
 
 abbrev pub hasKind : Shape → ℕ → Bool
 hasKind sh k = leb (cellTable sh .first) k && leb k (cellTable sh .last)
@@ -218,6 +220,11 @@ unfoldable pub memory : ℕ → Values → ℕ → Cell → ℕ → ℕ
 memory word₀ W k c zero = word₀
 memory word₀ W k c (suc t) = pick (falls W (c .a) t) (W (c .b) t) (W k t)
 
+-- "45, a latch, 0 at first: if control a was 1 an instant ago it takes word b of that instant, else keeps its own."
+unfoldable pub latch : Values → ℕ → Cell → ℕ → ℕ
+latch W k c zero = 0
+latch W k c (suc t) = pick (level W (c .a) t) (W (c .b) t) (W k t)
+
 -- E j i t is word i, at instant t, of the array whose kind 42 is cell j
 abbrev pub Elements : Type 0
 Elements = ℕ → ℕ → ℕ → ℕ
@@ -253,6 +260,7 @@ equation w kGated starts word₀ E W k c t = pick (level W (c .a) t) (W (c .b) t
 equation w kArray starts word₀ E W k c t = 0
 equation w kAddress starts word₀ E W k c t = 0
 equation w kRead starts word₀ E W k c t = E (c .a) (index (W (c .b) t)) t
+equation w kLatch starts word₀ E W k c t = latch W k c t
 equation w kUnknown starts word₀ E W k c t = 0
 
 -- "exactly sixteen are memories, in variable order": how many memories a list of cells has

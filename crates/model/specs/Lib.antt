@@ -8,12 +8,14 @@ pub mod Rules
 pub mod Calling
 pub mod Circuit
 pub mod Numbering
+pub mod Functional
 pub mod NetlistFile
 pub mod TimeTables
 pub mod State
 pub mod Text
 pub mod Reader
 pub mod Calls
+pub mod FunctionalCalls
 pub mod TextCalls
 pub mod CellSlices
 pub mod Hubrun
@@ -22,6 +24,7 @@ pub mod RefusalPromises
 pub mod CircuitPromises
 pub mod RunPromises
 pub mod FormatPromises
+pub mod FunctionalPromises
 pub mod FilePromises
 pub mod TablePromises
 pub mod ProgramPromises

@@ -1,5 +1,5 @@
 -- The netlist file: the bytes that a netlist is written as, the netlist that bytes are read as, and refusals 9 to 12.
--- "1 to 13 blocks of 512 bytes", each with a header of eight bytes and 84 cells of six. The file tells the netlist's pulse length too.
+-- 1 to 196 blocks of 512 bytes, each with a header of eight bytes and 84 cells of six. The file tells the netlist's pulse length too.
 -- Assumes nothing: definitions.
 use mathlib.Core.Path.{_≡_, refl}
 use mathlib.Core.Bool.{Bool, true, false, _&&_, _||_, not}
@@ -46,7 +46,7 @@ wordSum [] = 0
 wordSum (x ∷ []) = x
 wordSum (x ∷ (y ∷ s)) = x + 256 * y + wordSum s
 
--- "Bytes 0–1 block number from 0; 2–3 the netlist's number of cells (27 to 1,024); 4–5 its finish cell, both the same in every block"
+-- "Bytes 0–1 block number from 0; 2–3 the netlist's number of cells ...; 4–5 its finish cell, both the same in every block"
 abbrev pub headBytes : ℕ → ℕ → ℕ → List ℕ
 headBytes number count finish = bytes16 number ++ (bytes16 count ++ bytes16 finish)
 
@@ -131,17 +131,28 @@ blockAt s b = take 512 (drop (512 * b) s)
 
 -- Refusals 9 to 11 ---------------------------------------------------------------------------------------------------------------------
 
--- "9. Netlist length 0, above 6,656 or not a multiple of 512 (place 0)."
+-- "The cell limit becomes 16,384 and the file's 196 blocks (100,352 bytes)"
+abbrev pub cellLimit : ℕ
+cellLimit = 16384
+
+abbrev pub fileLimit : ℕ
+fileLimit = 100352
+
+limits-right : (blocksFor cellLimit ≡ 196) × (512 * 196 ≡ fileLimit)
+limits-right = (refl, refl)
+
+-- "9. Netlist length 0, above" the limit "or not a multiple of 512 (place 0)."
 unfoldable pub fileLengthWrong : List ℕ → Bool
-fileLengthWrong s = eqb (length s) 0 || (ltb 6656 (length s) || ltb 0 (length s % 512))
+fileLengthWrong s = eqb (length s) 0 || (ltb fileLimit (length s) || ltb 0 (length s % 512))
 
 -- "10. Block check wrong (first block)."
 unfoldable pub sumFault : List ℕ → ℕ → ℕ
 sumFault s b = faultIf (not (eqb (wordSum (blockAt s b) % 65536) 0)) 10
 
--- "a wrong number of blocks for block 0's cell count, or a finish not below it: block 0"; the count is 27 to 1,024
+-- "a wrong number of blocks for block 0's cell count, or a finish not below it: block 0"; the count is 27, "in every netlist", to
+-- the limit
 unfoldable pub countWrong : ℕ → ℕ → ℕ → Bool
-countWrong m count finish = not (leb 27 count && (leb count 1024 && (eqb m (blocksFor count) && ltb finish count)))
+countWrong m count finish = not (leb 27 count && (leb count cellLimit && (eqb m (blocksFor count) && ltb finish count)))
 
 -- "A length w, 1 to 8"; "a file's above 8 is 11"
 unfoldable pub pulseWrong : ℕ → Bool
@@ -244,3 +255,21 @@ fileChecks s =
 
 unfoldable pub fileCheck : List ℕ → Checked
 fileCheck s = first (fileChecks s)
+
+-- For a functional run -----------------------------------------------------------------------------------------------------------------
+
+-- "the last sixteen cells, each kind 7 with cell 2 as b, carry the last words in order"
+unfoldable pub carries : Cell → Bool
+carries c = eqb (c .kind) 7 && eqb (c .b) 2
+
+-- "other cells there: refusal 12, the first such, after its other rules"
+unfoldable pub lastFault : List Cell → ℕ → ℕ
+lastFault net k = faultIf (leb (length net) (k + 16) && not (carries (cellAt net k))) 12
+
+unfoldable pub lastCheck : List Cell → Checked
+lastCheck net = firstFault (lastFault net) 0 (length net)
+
+-- the words that they show, where cell j shows v j
+unfoldable pub lastWords : List Cell → (ℕ → ℕ) → ℕ → ℕ → List ℕ
+lastWords net v x zero = []
+lastWords net v x (suc n) = v (length net - 16 + x) ∷ lastWords net v (x + 1) n

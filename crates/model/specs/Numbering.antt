@@ -3,7 +3,7 @@
 -- that is fed by a cell that comes later needs no knot. Assumes nothing: definitions.
 use mathlib.Core.List.{List, [], _∷_, _++_}
 use Prim.Native.Nat.{ℕ, zero, suc, _+_, _-_, _*_}
-use lib.Dec.{eqb}
+use lib.Dec.{eqb, ltb}
 use lib.ListN.{length, getD}
 use Rattle.model.specs.declared.Cell.{Cell}
 use Rattle.model.specs.Word.{pick}
@@ -12,11 +12,18 @@ use Rattle.model.specs.Circuit.{cell, Netlist}
 
 -- Expressions -------------------------------------------------------------------------------------------------------------------------
 -- "An expression: children, then its cell; a variable is its memory cell." "Every read is a kind 44 (a the 42, b the index)".
--- M is the number of the first memory, c the number of the next walk cell.
+-- ws x is the wire that brings the word of variable x, or the kind 42 of an array as a variable; c is the number of the next walk cell.
 
--- the kind 42 of array k: "Right after the sixteenth memory stand ... array by array"
+abbrev pub Wires : Type 0
+Wires = ℕ → ℕ
+
+-- the kind 42 of array k, where M is the first memory: "Right after the sixteenth memory stand ... array by array"
 abbrev pub arrayCell : ℕ → ℕ → ℕ
 arrayCell M k = M + 16 + 2 * k
+
+-- the wires of the memories, and of the arrays' cells behind them
+unfoldable pub memoryWires : ℕ → Wires
+memoryWires M x = pick (ltb x 16) (M + x) (arrayCell M (x - 16))
 
 -- how many cells it has
 unfoldable pub exprCount : Expr → ℕ
@@ -27,20 +34,20 @@ exprCount (op k e f) = exprCount e + exprCount f + 1
 exprCount (elem k e) = exprCount e + 1
 
 -- the wire that has the expression's word
-unfoldable pub exprWire : ℕ → Expr → ℕ → ℕ
-exprWire M (const n) c = c
-exprWire M (var x) c = M + x
-exprWire M (compl e) c = c + exprCount e
-exprWire M (op k e f) c = c + exprCount e + exprCount f
-exprWire M (elem k e) c = c + exprCount e
+unfoldable pub exprWire : Wires → Expr → ℕ → ℕ
+exprWire ws (const n) c = c
+exprWire ws (var x) c = ws x
+exprWire ws (compl e) c = c + exprCount e
+exprWire ws (op k e f) c = c + exprCount e + exprCount f
+exprWire ws (elem k e) c = c + exprCount e
 
-unfoldable pub exprCells : ℕ → Expr → ℕ → List Cell
-exprCells M (const n) c = cell 1 0 n 0 ∷ []
-exprCells M (var x) c = []
-exprCells M (compl e) c = exprCells M e c ++ (cell 3 0 (exprWire M e c) 0 ∷ [])
-exprCells M (op k e f) c =
-    exprCells M e c ++ (exprCells M f (c + exprCount e) ++ (cell k 0 (exprWire M e c) (exprWire M f (c + exprCount e)) ∷ []))
-exprCells M (elem k e) c = exprCells M e c ++ (cell 44 0 (arrayCell M k) (exprWire M e c) ∷ [])
+unfoldable pub exprCells : Wires → Expr → ℕ → List Cell
+exprCells ws (const n) c = cell 1 0 n 0 ∷ []
+exprCells ws (var x) c = []
+exprCells ws (compl e) c = exprCells ws e c ++ (cell 3 0 (exprWire ws e c) 0 ∷ [])
+exprCells ws (op k e f) c =
+    exprCells ws e c ++ (exprCells ws f (c + exprCount e) ++ (cell k 0 (exprWire ws e c) (exprWire ws f (c + exprCount e)) ∷ []))
+exprCells ws (elem k e) c = exprCells ws e c ++ (cell 44 0 (ws (arrayVar k)) (exprWire ws e c) ∷ [])
 
 -- Ors ---------------------------------------------------------------------------------------------------------------------------------
 
@@ -81,9 +88,9 @@ abbrev pub pastSwitches : Expr → ℕ → ℕ
 pastSwitches e c = c + exprCount e + 1 + 1
 
 -- these cells, with the pulse that they switch, and the rest of the walk
-abbrev pub switches : ℕ → Expr → ℕ → ℕ → List Cell → List Cell
-switches M e ifPulse c rest =
-    exprCells M e c ++ (cell 36 0 ifPulse (exprWire M e c) ∷ (cell 37 0 ifPulse (exprWire M e c) ∷ rest))
+abbrev pub switches : Wires → Expr → ℕ → ℕ → List Cell → List Cell
+switches ws e ifPulse c rest =
+    exprCells ws e c ++ (cell 36 0 ifPulse (exprWire ws e c) ∷ (cell 37 0 ifPulse (exprWire ws e c) ∷ rest))
 
 -- "if (none when d is 0)": how many delay cells an if has of its own, which they are, and the pulse that it switches:
 -- "switches take the delayed pulse, or the start in an if with d 0"
@@ -237,32 +244,32 @@ delays w (call δ p) s d c = cell 34 δ s 0 ∷ []
 --   node order."
 --   "Each call is a one-then-two merge, control kind 39 (a its delay, b the body's finish)": F p is the finish of body p.
 --   "Inputs stand in the order told".
-unfoldable pub walk : ℕ → (ℕ → ℕ) → Code → ℕ → ℕ → ℕ → List Cell
-walk M F ok s d c = []
-walk M F (tick δ) s d c = []
-walk M F (assign δ x e) s d c = exprCells M e c ++ (cell 41 0 d (exprWire M e c) ∷ [])
-walk M F (assignElem δ k i e) s d c =
-    exprCells M i c
-    ++ (exprCells M e (c + exprCount i)
-    ++ (cell 41 0 d (exprWire M e (c + exprCount i)) ∷ (cell 41 0 d (exprWire M i c) ∷ [])))
-walk M F (seq P Q) s d c = walk M F P s d c ++ walk M F Q (finishWire P s d c) (d + delayCount P) (c + walkCount P)
-walk M F (par P Q) s d c =
-    walk M F P s d c
-    ++ (walk M F Q s (d + delayCount P) (c + walkCount P)
+unfoldable pub walk : Wires → (ℕ → ℕ) → Code → ℕ → ℕ → ℕ → List Cell
+walk ws F ok s d c = []
+walk ws F (tick δ) s d c = []
+walk ws F (assign δ x e) s d c = exprCells ws e c ++ (cell 41 0 d (exprWire ws e c) ∷ [])
+walk ws F (assignElem δ k i e) s d c =
+    exprCells ws i c
+    ++ (exprCells ws e (c + exprCount i)
+    ++ (cell 41 0 d (exprWire ws e (c + exprCount i)) ∷ (cell 41 0 d (exprWire ws i c) ∷ [])))
+walk ws F (seq P Q) s d c = walk ws F P s d c ++ walk ws F Q (finishWire P s d c) (d + delayCount P) (c + walkCount P)
+walk ws F (par P Q) s d c =
+    walk ws F P s d c
+    ++ (walk ws F Q s (d + delayCount P) (c + walkCount P)
     ++ (cell 38 0 (finishWire P s d c) (finishWire Q s (d + delayCount P) (c + walkCount P)) ∷ []))
-walk M F (ite δ e P Q) s d c =
-    switches M e (ifPulse δ s d) c
-    (walk M F P (onTrue e c) (thenDelays δ d) (pastSwitches e c)
-    ++ (walk M F Q (onFalse e c) (elseDelays δ P d) (elseCells e P c) ++ (cell 35 0 (thenFinish δ e P d c) (elseFinish δ e P Q d c) ∷ [])))
-walk M F (while δ e P) s d c =
-    switches M e d c
-    (walk M F P (onTrue e c) (d + 1) (pastSwitches e c)
+walk ws F (ite δ e P Q) s d c =
+    switches ws e (ifPulse δ s d) c
+    (walk ws F P (onTrue e c) (thenDelays δ d) (pastSwitches e c)
+    ++ (walk ws F Q (onFalse e c) (elseDelays δ P d) (elseCells e P c) ++ (cell 35 0 (thenFinish δ e P d c) (elseFinish δ e P Q d c) ∷ [])))
+walk ws F (while δ e P) s d c =
+    switches ws e d c
+    (walk ws F P (onTrue e c) (d + 1) (pastSwitches e c)
     ++ (cell 35 0 s (finishWire P (onTrue e c) (d + 1) (pastSwitches e c)) ∷ []))
-walk M F (repeat δ e P) s d c =
-    switches M e d c (cell 35 0 s (onFalse e c) ∷ walk M F P (pastSwitches e c) (d + 1) (pastSwitches e c + 1))
-walk M F (loop δ P) s d c = cell 35 0 s d ∷ (walk M F P c (d + 1) (c + 1) ++ ors 35 (exitsAt P c) (loopExits P d c))
-walk M F exit s d c = []
-walk M F (call δ p) s d c = cell 39 0 d (F p) ∷ []
+walk ws F (repeat δ e P) s d c =
+    switches ws e d c (cell 35 0 s (onFalse e c) ∷ walk ws F P (pastSwitches e c) (d + 1) (pastSwitches e c + 1))
+walk ws F (loop δ P) s d c = cell 35 0 s d ∷ (walk ws F P c (d + 1) (c + 1) ++ ors 35 (exitsAt P c) (loopExits P d c))
+walk ws F exit s d c = []
+walk ws F (call δ p) s d c = cell 39 0 d (F p) ∷ []
 
 -- Assignments, calls, memories and arrays --------------------------------------------------------------------------------------------------
 
@@ -401,11 +408,11 @@ rootDelays w z cs r (P ∷ Ps) d c =
     delays w P (rootStart z cs r c) d (rootWalk cs r c) ++ rootDelays w z cs (r + 1) Ps (d + delayCount P) (pastRoot cs r P c)
 
 -- "Each body's walk comes before the main one"
-unfoldable pub rootWalks : ℕ → (ℕ → ℕ) → ℕ → List Source → ℕ → List Code → ℕ → ℕ → List Cell
-rootWalks M F z cs r [] d c = []
-rootWalks M F z cs r (P ∷ Ps) d c =
+unfoldable pub rootWalks : Wires → (ℕ → ℕ) → ℕ → List Source → ℕ → List Code → ℕ → ℕ → List Cell
+rootWalks ws F z cs r [] d c = []
+rootWalks ws F z cs r (P ∷ Ps) d c =
     ors 35 c (wiresOf r cs)
-    ++ (walk M F P (rootStart z cs r c) d (rootWalk cs r c) ++ rootWalks M F z cs (r + 1) Ps (d + delayCount P) (pastRoot cs r P c))
+    ++ (walk ws F P (rootStart z cs r c) d (rootWalk cs r c) ++ rootWalks ws F z cs (r + 1) Ps (d + delayCount P) (pastRoot cs r P c))
 
 -- sources that go by delay cells, and those that go by cells of the walk
 unfoldable pub rootSources : (Code → ℕ → List Source) → List Code → ℕ → List Source
@@ -479,7 +486,7 @@ netlist S =
     ++ (orsFrom 35 (clocksOf S) (clockAt S) 0 20
     ++ (memoriesOf (clockWires S) (dataWires S) 0 16
     ++ (arraysOf (clockWires S) (dataWires S) (addressWires S) 0 4
-    ++ (rootWalks (memoryAt S) (finishOfRoot S) (procedures S) (callsOf S) 0 (roots S) 3 (walkAt S)
+    ++ (rootWalks (memoryWires (memoryAt S)) (finishOfRoot S) (procedures S) (callsOf S) 0 (roots S) 3 (walkAt S)
     ++ (orsFrom 7 (dataOf S) (dataAt S) 0 20
     ++ orsFrom 7 (addressesOf S) (addressAt S) 16 4))))))
 

@@ -1,9 +1,9 @@
--- The check of a program: refusals 1 to 8, 22, 24 and 25, with their places and in their order.
+-- The check of a program: refusals 1 to 8, 22, 24 and 25, and for a functional circuit 28, with their places and in their order.
 -- Assumes nothing: definitions.
 use mathlib.Core.Bool.{Bool, true, false, _&&_, _||_, not}
 use mathlib.Core.List.{List, [], _∷_, _++_}
 use Prim.Native.Nat.{ℕ, zero, suc, _+_, _%_}
-use lib.ListN.{length, replicate}
+use lib.ListN.{length, take, drop, replicate}
 use lib.Dec.{ltb, leb, eqb}
 use Rattle.model.specs.declared.Node.{Node}
 use Rattle.model.specs.declared.Options.{Options}
@@ -174,3 +174,23 @@ programWith options s = programOf (options .pulse) (options .procedures) s
 
 unfoldable pub checkOf : Options → List ℕ → Checked
 checkOf options s = first (programChecks (timeIn (options .times)) (options .pulse) (options .procedures) s)
+
+-- For a functional circuit ---------------------------------------------------------------------------------------------------------------
+
+-- "a kind above that document 01 doesn't have": an element, its assignment, loop, exit, call
+unfoldable pub added : ℕ → Bool
+added k = eqb k 10 || (leb 24 k && leb k 27)
+
+-- "28: a node of a kind above that document 01 doesn't have, place that node"
+unfoldable pub addedFault : List ℕ → ℕ → ℕ
+addedFault s i = faultIf (added (nodeAt s i .kind)) 28
+
+-- 28 "after 6 and before 22", among the checks of a program "without procedures" and with the pulse length that is 1
+abbrev pub functionalChecks : (ℕ → ℕ) → List ℕ → List Checked
+functionalChecks τ s =
+    let checks = programChecks τ 1 0 s in
+    take 3 checks ++ (firstFault (addedFault s) 0 (nodeCount s) ∷ drop 3 checks)
+
+-- what is given beside it is "a table alone": its procedures and its pulse length are not looked at
+unfoldable pub checkFunctional : Options → List ℕ → Checked
+checkFunctional options s = first (functionalChecks (timeIn (options .times)) s)

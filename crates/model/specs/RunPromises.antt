@@ -42,13 +42,17 @@ unfoldable pub respond : Format → List ℕ → Request → List ℕ → Return
 respond F file (continuing n) s = continueCall F file n s
 respond F file start s = startCall F file s
 
--- the calls on a netlist, "with that netlist and the state as the last call returned or left it": each answer, with the buffer afterwards
-unfoldable pub replay : Format → List ℕ → List ℕ → List Call → List (Returned Answer)
-replay F file s [] = []
-replay F file s (c ∷ cs) =
-    let r = respond F file (c .request) (take (c .lent) s) in
+-- calls that are answered so, "with that netlist and the state as the last call returned or left it": each answer, with the buffer afterwards
+unfoldable pub replayBy : (Request → List ℕ → Returned Answer) → List ℕ → List Call → List (Returned Answer)
+replayBy reply s [] = []
+replayBy reply s (c ∷ cs) =
+    let r = reply (c .request) (take (c .lent) s) in
     let s′ = r .lent ++ drop (c .lent) s in
-    record { answer = r .answer; lent = s′ } ∷ replay F file s′ cs
+    record { answer = r .answer; lent = s′ } ∷ replayBy reply s′ cs
+
+-- the calls on a netlist
+abbrev pub replay : Format → List ℕ → List ℕ → List Call → List (Returned Answer)
+replay F file s calls = replayBy (respond F file) s calls
 
 -- what demand 3 tells of an answer
 pub record Seen : Type 0 where
@@ -83,13 +87,15 @@ pub record Stand : Type 0 where
 abbrev pub stand : ℕ → Store → ℕ → Stand
 stand a σ t = record { begun = a; from = σ; now = t }
 
--- how runs of the program stand by its own rules: from these words, within so many instants
-abbrev pub Runs : Type 0
-Runs = Store → ℕ → Run
+-- runs of the program by its own rules: how one stands, from these words and within so many instants; and the words that a new run begins with, where
+-- the last one ended with these: "the present words", or, of a functional circuit, "the start words, from which every start runs"
+pub record Runs : Type 0 where
+  pub within : Store → ℕ → Run
+  pub anew : Store → Store
 
 -- the run of a stand, "counted from that pulse": how it is at instant t, and whether a finish is due then
 abbrev pub runAt : Runs → Stand → ℕ → Run
-runAt rules st t = rules (st .from) (t - st .begun)
+runAt rules st t = rules .within (st .from) (t - st .begun)
 
 -- "at each of which a finish is due": with pulses of w
 unfoldable pub dueAt : ℕ → Runs → Stand → ℕ → Bool
@@ -114,13 +120,15 @@ afterContinuing w rules st n =
     ]
 
 -- a start, by how the run stands: "23: start given while the number isn't 0", and "for w above 1 a second start waits for a low finish too"; else the
--- program "ends as a new run from the present words would, counted from that pulse". No accepted program comes to an exit of a loop around it.
+-- program "ends as a new run from the present words would, counted from that pulse", or as one from the words that `anew` tells. No accepted program
+-- comes to an exit of a loop around it.
 unfoldable pub pulsed : ℕ → Runs → Stand → Run → Next
 pulsed w rules st (done atEnd t σ) =
     let s = suc (st .now) in
+    let fresh = stand s (rules .anew σ) s in
     elim (ltb 1 w && dueAt w rules st (st .now)) [
       | true ↦ refuses 23 st
-      | false ↦ record { tells = seen (endedIf (dueAt w rules (stand s σ s) s)) s 1; after = stand s σ s }
+      | false ↦ record { tells = seen (endedIf (dueAt w rules fresh s)) s 1; after = fresh }
     ]
 pulsed w rules st (done atExit t σ) = refuses 23 st
 pulsed w rules st still = refuses 23 st
@@ -207,7 +215,9 @@ Unchanged s (r ∷ rs) = Leaves (verdict (r .answer .outcome)) s (r .lent) × Un
 pub record Keeps (F : Format) (w : ℕ) (P : Stmt) (σ : Store) (file : List ℕ) (begun : Returned Answer) (calls : List Call) : Type 0 where
   -- how runs of the program stand, by its own rules
   pub rules : Runs
-  pub decides : (τ : Store) (k t : ℕ) (τ′ : Store) → (rules τ k ≡ ended t τ′) ↔ ((t ≤ k) × Ends (imperative w) P τ t τ′)
+  pub decides : (τ : Store) (k t : ℕ) (τ′ : Store) → (rules .within τ k ≡ ended t τ′) ↔ ((t ≤ k) × Ends (imperative w) P τ t τ′)
+  -- a new run is "from the present words"
+  pub present : (τ : Store) → rules .anew τ ≡ τ
   -- "the finish wire rises once, at the program's end": an end is the only one, and so are its words
   pub once : (τ : Store) (t₁ t₂ : ℕ) (σ₁ σ₂ : Store) → Ends (imperative w) P τ t₁ σ₁ → Ends (imperative w) P τ t₂ σ₂ → (t₁ ≡ t₂) × (σ₁ ≡ σ₂)
   -- "and stays up w instants, at each of which a finish is due": at these, and at no other

@@ -14,7 +14,7 @@ use Rattle.model.specs.declared.Checked.{Checked}
 use Rattle.model.specs.declared.Checked.the-variants.{Accepted, Refused}
 use Rattle.model.specs.Refusals.{firstFault, faultIf}
 use Rattle.model.specs.Word.{pick, bit, isZero, operate, elementOf, get16, put16, get32, put32, bytes16}
-use Rattle.model.specs.Circuit.{cellAt, Netlist, control, high, remainingStep, mergeStep, returnStep, merges, memoryWords, startWord, Shape, shape, kConstant, kComplement, kOperator, kStart, kGround, kDelay, kOr, kWhenTrue, kWhenFalse, kMerge, kReturn, kMemory, kGated, kArray, kAddress, kRead, kUnknown}
+use Rattle.model.specs.Circuit.{cellAt, Netlist, control, high, remainingStep, mergeStep, returnStep, merges, memoryWords, startWord, Shape, shape, kConstant, kComplement, kOperator, kStart, kGround, kDelay, kOr, kWhenTrue, kWhenFalse, kMerge, kReturn, kMemory, kGated, kArray, kAddress, kRead, kLatch, kUnknown}
 use Rattle.model.specs.NetlistFile.{allZero}
 
 -- For either format --------------------------------------------------------------------------------------------------------------------
@@ -163,6 +163,7 @@ module _ (F : Format) where
   nextValue kArray starts net s k c = 0
   nextValue kAddress starts net s k c = 0
   nextValue kRead starts net s k c = elementNow net s (elementOf (cellAt (net .cells) (c .a) .delay) (nowAt s (c .b)))
+  nextValue kLatch starts net s k c = pick (high (beforeAt s (c .a))) (beforeAt s (c .b)) (beforeAt s k)
   nextValue kUnknown starts net s k c = 0
 
   abbrev pub value : Netlist → Bool → List ℕ → ℕ → ℕ
@@ -209,6 +210,7 @@ module _ (F : Format) where
   settle w kArray s k c = s
   settle w kAddress s k c = s
   settle w kRead s k c = s
+  settle w kLatch s k c = s
   settle w kUnknown s k c = s
 
   abbrev pub settled : Netlist → List ℕ → ℕ → List ℕ

@@ -1,4 +1,5 @@
-// Sizes and limits that code goes by, each the paper's. Definitions have the numbers themselves.
+// Sizes and limits that code goes by, each the paper's. Definitions have the numbers themselves; the limits of a netlist and of its file are those of
+// specs/NetlistFile.
 
 // A netlist file: blocks of a header and so many cells, and a last cell's number in its block.
 pub const BLOCK: usize = 512;
@@ -11,14 +12,19 @@ pub const BLOCK_LAST: usize = 83;
 
 pub const CELL: usize = 6;
 
-pub const MOST_CELLS: usize = 1024;
+pub const MOST_CELLS: usize = 16384;
 
-pub const FILE_MOST: usize = 6656;
+pub const FILE_MOST: usize = 196 * BLOCK;
 
 // A list of cells, of any netlist and of a compiled one.
-pub const LIST_MOST: usize = 6144;
+pub const LIST_MOST: usize = MOST_CELLS * CELL;
 
 pub const COMPILED_MOST: usize = 3762;
+
+// Room for the file and the state of any imperative program.
+pub const COMPILED_FILE: usize = 6656;
+
+pub const COMPILED_STATE: usize = 41480;
 
 // A state: a header, for each cell its values, held bits and line, and then the elements.
 pub const STATE_HEADER: usize = 8;
@@ -31,14 +37,12 @@ pub const LINE: usize = 32;
 
 pub const ELEMENTS: usize = 512;
 
-pub const STATE_MOST: usize = 41480;
-
 // A compact state: a cell, its line's number, the longest state.
 pub const COMPACT_CELL: usize = 8;
 
 pub const COMPACT_LEFT: usize = 6;
 
-pub const COMPACT_MOST: usize = 8712;
+pub const COMPACT_MOST: usize = STATE_HEADER + MOST_CELLS * COMPACT_CELL + ELEMENTS;
 
 // A program, a text, the start words, a run.
 pub const NODE: usize = 4;

@@ -10,7 +10,7 @@ use Rattle.model.specs.declared.Refusal.{Refusal}
 use Rattle.model.specs.declared.Checked.{Checked}
 use Rattle.model.specs.declared.Checked.the-variants.{Accepted, Refused}
 use Rattle.model.specs.Refusals.{refuse, refuseIf, first, firstFault}
-use Rattle.model.specs.NetlistFile.{pulseOf, pulseWrong, cellsAt, inFile, blocksFor, countOf, finishOf, cellsOf, fileLengthWrong, sumFault, countWrong, headerFault, netCheck, fileChecks, fileCheck}
+use Rattle.model.specs.NetlistFile.{cellLimit, fileLimit, pulseOf, pulseWrong, cellsAt, inFile, blocksFor, countOf, finishOf, cellsOf, fileLengthWrong, sumFault, countWrong, headerFault, netCheck, fileChecks, fileCheck}
 use Rattle.laws.specs.NetlistFile.Passed.{pulse-right}
 use Rattle.netlist.specs.declared.cells.Layout.the-variants.{InFile}
 use Rattle.netlist.specs.Offsets.{Room}
@@ -54,13 +54,13 @@ module _ (s : List ℕ) where
 -- a file of whole blocks, and not too many
 pub record Whole (s : List ℕ) : Type 0 where
   pub some : 512 ≤ length s
-  pub few : length s ≤ 6656
+  pub few : length s ≤ fileLimit
   pub whole : 512 * (length s / 512) ≡ length s
 
 -- a number of cells that fits the number of blocks, and a finish among them
 pub record Counted (m count finish : ℕ) : Type 0 where
   pub low : 27 ≤ count
-  pub high : count ≤ 1024
+  pub high : count ≤ cellLimit
   pub blocks : m ≡ blocksFor count
   pub among : finish < count
 
@@ -78,7 +78,7 @@ whole-file s e =
     let (a, f) = neither _ _ e in
     let (b, c) = neither _ _ f in
     let nonzero = eqb-false (length s) 0 a in
-    let few = ltb-false 6656 (length s) b in
+    let few = ltb-false fileLimit (length s) b in
     let even = ltb-false 0 (length s % 512) c in
     record { some = omega arith; few = few; whole = omega arith }
 
@@ -88,7 +88,7 @@ counted m count finish e =
     let (a, f) = both _ _ (not-false _ e) in
     let (b, g) = both _ _ f in
     let (c, d) = both _ _ g in
-    record { low = leb-true 27 count a; high = leb-true count 1024 b; blocks = eqb-true m (blocksFor count) c; among = ltb-true finish count d }
+    record { low = leb-true 27 count a; high = leb-true count cellLimit b; blocks = eqb-true m (blocksFor count) c; among = ltb-true finish count d }
 
 pub counted-room : {s : List ℕ} {count finish : ℕ} → Whole s → Counted (length s / 512) count finish → Room InFile s count
 counted-room w c = record { few = c .high; fits = omega (arith, w .whole, c .blocks) }

@@ -1,6 +1,7 @@
 -- The laws behind the proofs of the functions. A crate that puts cells in by itself needs Bytes and Putting.
 pub mod Bytes
 pub mod CellChecks
+pub mod LastChecks
 pub mod BlockChecks
 pub mod FileChecks
 pub mod Putting

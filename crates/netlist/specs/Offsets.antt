@@ -2,7 +2,7 @@
 use mathlib.Core.List.{List}
 use Prim.Native.Nat.{ℕ, _*_, _≤_}
 use lib.ListN.{length}
-use Rattle.model.specs.NetlistFile.{inList, inFile, blocksFor}
+use Rattle.model.specs.NetlistFile.{cellLimit, inList, inFile, blocksFor}
 use Rattle.netlist.specs.declared.cells.Layout.{Layout}
 use Rattle.netlist.specs.declared.cells.Layout.the-variants.{InList, InFile}
 
@@ -18,5 +18,5 @@ size InFile n = 512 * blocksFor n
 
 -- a list that has room for n cells, and n is a number of cells that a netlist may have
 pub record Room (layout : Layout) (s : List ℕ) (n : ℕ) : Type 0 where
-  pub few : n ≤ 1024
+  pub few : n ≤ cellLimit
   pub fits : size layout n ≤ length s

@@ -10,7 +10,7 @@ ghost use Rattle.model.specs.declared.Cell.{Cell};
 ghost use Rattle.model.specs.Word.{pick, bytes16};
 ghost use Rattle.model.specs.Circuit.{cellAt};
 ghost use Rattle.model.specs.Refusals.{firstFault};
-ghost use Rattle.model.specs.NetlistFile.{cellsAt, inList, runningSum, checkFor, blocksFor, firstNumber, fileOf, countOf, finishOf, pulseOf, pulseWrong, blockAt, sumFault, countWrong, allZero, headerRight, headerFault};
+ghost use Rattle.model.specs.NetlistFile.{cellLimit, cellsAt, inList, runningSum, checkFor, blocksFor, firstNumber, fileOf, countOf, finishOf, pulseOf, pulseWrong, blockAt, sumFault, countWrong, allZero, headerRight, headerFault};
 ghost use Rattle.netlist.specs.Offsets.{Room};
 ghost use Rattle.netlist.specs.Blocks.{headerBytes, Filled};
 use crate::cells::Layout;
@@ -104,7 +104,7 @@ fn zero_from(s: &[u8], b: usize, j: usize) -> bool
 
 // Whether block b has the header and the unused bytes of a netlist of so many cells.
 fn is_headed(s: &[u8], b: usize, pulse: u16, count: usize, finish: usize) -> bool
-    requires { ⌜ (512 * b + 512 ≤ length (now s)) × (84 * b < count) × (count ≤ 1024) × (pulse ≤ 256) ⌝ }
+    requires { ⌜ (512 * b + 512 ≤ length (now s)) × (84 * b < count) × (count ≤ cellLimit) × (pulse ≤ 256) ⌝ }
     ensures { λ r. ⌜ r ≡ headerRight pulse count finish b (blockAt (now (s .entry)) b) ⌝ }
 {
     let first = first_number(pulse) as usize;
@@ -118,7 +118,7 @@ fn is_headed(s: &[u8], b: usize, pulse: u16, count: usize, finish: usize) -> boo
 
 // The first of m blocks whose header or unused bytes are wrong, for the pulse length, the count and the finish of block 0.
 pub fn check_headers(s: &[u8], m: usize, pulse: u16, count: usize, finish: usize) -> Checked
-    requires { ⌜ (512 * m ≤ length (now s)) × (count ≤ 1024) × (m ≡ blocksFor count) × (count ≡ countOf (now s)) × (finish ≡ finishOf (now s)) × (pulse ≡ pulseOf (now s)) × (pulse ≤ 256) ⌝ }
+    requires { ⌜ (512 * m ≤ length (now s)) × (count ≤ cellLimit) × (m ≡ blocksFor count) × (count ≡ countOf (now s)) × (finish ≡ finishOf (now s)) × (pulse ≡ pulseOf (now s)) × (pulse ≤ 256) ⌝ }
     ensures { λ r. ⌜ r ≡ firstFault (headerFault (now (s .entry))) 0 m ⌝ }
 {
     let mut b: usize = 0;
@@ -188,7 +188,7 @@ fn close_block(d: &mut [u8], i: usize, h: BlockHeader, n: usize, sum: u16)
 
 // Puts cell k of n, which is c, into their file, whose blocks are numbered from first on, and with the last cell of a block what else the block has; answers the running sum.
 pub fn put_next(d: &mut [u8], k: usize, n: usize, first: u16, finish: u16, c: Cell, sum: u16) -> u16
-    requires { ⌜ (k < n) × (n ≤ 1024) × (512 * blocksFor n ≤ length (now d)) × (first ≤ 65280) ⌝ }
+    requires { ⌜ (k < n) × (n ≤ cellLimit) × (512 * blocksFor n ≤ length (now d)) × (first ≤ 65280) ⌝ }
     ensures { λ r. ⌜ ((net : List Cell) (was : List ℕ) → length net ≡ n → cellAt net k ≡ c → Filled first net finish was k sum (now (d .entry)) → Filled first net finish was (k + 1) r (now (d .exit))) ⌝ }
 {
     let b = k / BLOCK_CELLS;

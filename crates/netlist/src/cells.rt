@@ -5,7 +5,7 @@ ghost use mathlib.Core.List.{[], _∷_};
 ghost use Prim.Native.Nat.{_+_, _*_, _<_, _≤_};
 ghost use lib.ListN.{length};
 ghost use lib.Seq.{sets};
-ghost use Rattle.model.specs.NetlistFile.{cellBytes, cellFrom, cellsAt, sumWith};
+ghost use Rattle.model.specs.NetlistFile.{cellLimit, cellBytes, cellFrom, cellsAt, sumWith};
 ghost use Rattle.netlist.specs.Offsets.{offset, Room};
 use model::Cell;
 use model::sizes::BLOCK;
@@ -21,7 +21,7 @@ pub enum Layout {
 
 // The byte at which cell k begins.
 pub fn offset(layout: Layout, k: usize) -> usize
-    requires { ⌜ k < 1024 ⌝ }
+    requires { ⌜ k < cellLimit ⌝ }
     ensures { λ r. ⌜ r ≡ offset layout k ⌝ }
 {
     match layout {
@@ -31,7 +31,7 @@ pub fn offset(layout: Layout, k: usize) -> usize
 }
 
 pub fn cell_at(s: &[u8], layout: Layout, k: usize) -> Cell
-    requires { ⌜ (k < 1024) × (offset layout k + 6 ≤ length (now s)) ⌝ }
+    requires { ⌜ (k < cellLimit) × (offset layout k + 6 ≤ length (now s)) ⌝ }
     ensures { λ r. ⌜ r ≡ cellFrom (now (s .entry)) (offset layout k) ⌝ }
 {
     let i = offset(layout, k);

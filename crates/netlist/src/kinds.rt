@@ -40,6 +40,7 @@ pub fn cell_row(kind: u8) -> CellRow
         42 => row(false, Use::Value, Use::ControlBelow, Use::WordAny),
         43 => row(false, Use::Unused, Use::WordAny, Use::Unused),
         44 => row(false, Use::Unused, Use::ArrayBelow, Use::WordBelow),
+        45 => row(false, Use::Unused, Use::ControlAny, Use::WordAny),
         _ => row(false, Use::Unknown, Use::Unknown, Use::Unknown),
     }
 }

@@ -1,7 +1,8 @@
 // Netlist files: checked, written from cells of six bytes each, read back to them.
 // The three calls have no requires, and their contracts are equations with model/NetlistFile and model/Calls.
 ghost use mathlib.Core.Path.{_≡_};
-ghost use Rattle.model.specs.NetlistFile.{fileCheck};
+ghost use Rattle.model.specs.declared.Checked.the-variants.{Accepted};
+ghost use Rattle.model.specs.NetlistFile.{fileCheck, cellsOf, lastCheck};
 ghost use Rattle.model.specs.Calls.{writeCall, readCall};
 
 pub mod cells; // cells in bytes
@@ -18,6 +19,7 @@ use model::sizes::BLOCK;
 use model::sizes::BLOCK_CELLS;
 use model::sizes::BLOCK_LAST;
 use model::sizes::FILE_MOST;
+use model::sizes::MOST_CELLS;
 
 // Refusals 9 to 12, in their order.
 pub fn check_file(file: &[u8]) -> Checked
@@ -49,6 +51,20 @@ pub fn check_file(file: &[u8]) -> Checked
         return Checked::Refused(r);
     }
     rules::check_cells(file, Layout::InFile, count, finish)
+}
+
+// Refusal 12 of the last sixteen cells of a file that is accepted. Nothing else is looked at, so of another file the answer is free.
+pub fn check_last(file: &[u8]) -> Checked
+    ensures { λ r. ⌜ (fileCheck (now (file .entry)) ≡ Accepted → r ≡ lastCheck (cellsOf (now (file .entry)))) ⌝ }
+{
+    if file.len() < BLOCK {
+        return Checked::Accepted;
+    }
+    let n = word::get16(file, 2) as usize;
+    if (MOST_CELLS < n) | (file.len() < BLOCK * ((n + BLOCK_LAST) / BLOCK_CELLS)) {
+        return Checked::Accepted;
+    }
+    rules::check_last(file, Layout::InFile, n)
 }
 
 // Writes a netlist of this pulse length, of six bytes for each cell, as a file: refusals 27, 11, 12, 14.

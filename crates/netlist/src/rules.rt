@@ -3,13 +3,13 @@
 ghost use mathlib.Core.Path.{_≡_};
 ghost use mathlib.Core.Bool.{true, _&&_};
 ghost use mathlib.Core.List.{List};
-ghost use Prim.Native.Nat.{ℕ, _+_, _^_, _<_, _≤_};
+ghost use Prim.Native.Nat.{ℕ, _+_, _-_, _^_, _<_, _≤_};
 ghost use lib.Dec.{ltb, eqb};
 ghost use lib.ListN.{length};
 ghost use Rattle.model.specs.declared.Cell.{Cell};
 ghost use Rattle.model.specs.Word.{pick};
 ghost use Rattle.model.specs.Circuit.{cellAt, names};
-ghost use Rattle.model.specs.NetlistFile.{cellsAt, kept, stands, keeps, placed, arrayPlaced, netCheck};
+ghost use Rattle.model.specs.NetlistFile.{cellsAt, kept, stands, keeps, placed, arrayPlaced, netCheck, carries, lastCheck};
 ghost use Rattle.netlist.specs.Offsets.{offset, Room};
 ghost use Rattle.netlist.specs.Inputs.{Inputs};
 ghost use Rattle.netlist.specs.Scans.{Stands, Scanned};
@@ -22,6 +22,9 @@ use model::kinds::Use;
 
 // The cells of the four arrays.
 const ARRAY_CELLS: usize = 8;
+
+// Those that carry the last words of a functional circuit.
+const LAST_CELLS: usize = 16;
 
 // A netlist of n cells, and what is found of its first ones: how many of them keep the rules, how many are memories, where the
 // arrays' cells begin, and whether the finish is among them and is a control wire.
@@ -247,4 +250,42 @@ pub fn check_cells(s: &[u8], layout: Layout, n: usize, finish: usize) -> Checked
         k += 1;
     }
     told(scan)
+}
+
+// For a functional run -------------------------------------------------------------------------------------------------------------------
+
+// Whether c carries a last word.
+fn carries(c: Cell) -> bool
+    ensures { λ r. ⌜ r ≡ carries c ⌝ }
+{
+    (c.kind == 7) & (c.b == 2)
+}
+
+// The first of the last sixteen of n cells.
+pub fn first_last(n: usize) -> usize
+    ensures { λ r. ⌜ r ≡ n - 16 ⌝ }
+{
+    if n < LAST_CELLS {
+        return 0;
+    }
+    n - LAST_CELLS
+}
+
+// Refusal 12 of the last sixteen of n cells, which carry the last words.
+pub fn check_last(s: &[u8], layout: Layout, n: usize) -> Checked
+    requires { ⌜ Room layout (now s) n ⌝ }
+    ensures { λ r. ⌜ r ≡ lastCheck (cellsAt (offset layout) (now (s .entry)) 0 n) ⌝ }
+{
+    let mut k = first_last(n);
+    while k < n {
+        let c = crate::cells::cell_at(s, layout, k);
+        if !carries(c) {
+            return Checked::Refused(Refusal {
+                number: 12,
+                place: k,
+            });
+        }
+        k += 1;
+    }
+    Checked::Accepted
 }

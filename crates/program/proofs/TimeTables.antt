@@ -13,10 +13,11 @@ use Rattle.model.specs.declared.Checked.{Checked}
 use Rattle.model.specs.declared.Checked.the-variants.{Accepted, Refused}
 use Rattle.model.specs.Refusals.{refuse, first, firstFault}
 use Rattle.model.specs.Program.{timeIn}
-use Rattle.model.specs.ProgramChecks.{programChecks, checkOf}
+use Rattle.model.specs.ProgramChecks.{programChecks, checkOf, functionalChecks, checkFunctional}
 use Rattle.model.specs.NetlistFile.{wordSum, pulseWrong}
 use Rattle.model.specs.TimeTables.{byteWrong, tableFault, tableSumWrong, tableChecks, givenCheck}
 use Rattle.model.specs.Calls.{checkCall}
+use Rattle.model.specs.FunctionalCalls.{checkFunctionalCall}
 use Rattle.laws.specs.Refusals.Laws.{first-one}
 
 module _ (file : List ℕ) (i : ℕ) where
@@ -63,3 +64,12 @@ module _ (options : Options) (s : List ℕ) where
       → checkCall options s ≡ first (programChecks (timeIn (options .times)) (options .pulse) (options .procedures) s)
   unfolding checkCall checkOf
   given-accepts e = rw e (sym (first-one _))
+
+  -- for a functional circuit the table alone
+  pub table-refuses : {r : Refusal} → options .checked ≡ Refused r → checkFunctionalCall options s ≡ Refused r
+  unfolding checkFunctionalCall
+  table-refuses e = rw e refl
+
+  pub table-accepts : options .checked ≡ Accepted → checkFunctionalCall options s ≡ first (functionalChecks (timeIn (options .times)) s)
+  unfolding checkFunctionalCall checkFunctional
+  table-accepts e = rw e (sym (first-one _))

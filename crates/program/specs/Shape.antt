@@ -12,8 +12,9 @@ use Rattle.model.specs.declared.Options.{Options}
 use Rattle.model.specs.declared.Checked.the-variants.{Accepted}
 use Rattle.model.specs.Refusals.{first}
 use Rattle.model.specs.Program.{nodeAt, nodeCount, arity, exprAt, time, timeIn}
-use Rattle.model.specs.ProgramChecks.{programChecks}
+use Rattle.model.specs.ProgramChecks.{programChecks, functionalChecks}
 use Rattle.model.specs.Calls.{checkCall}
+use Rattle.model.specs.FunctionalCalls.{checkFunctionalCall}
 use Rattle.program.specs.declared.Scanned.{Scanned}
 use Rattle.laws.specs.Program.Passed.{accepted}
 use Rattle.program.specs.Ends.{EndAt, Laid, skips, end-more}
@@ -38,6 +39,15 @@ pub record ScansBy (operators : List ℕ) (w k : ℕ) (s : List ℕ) (r : Scanne
 pub record Scans (options : Options) (s : List ℕ) (r : Scanned) : Type 0 where
   pub checked : r .checked ≡ checkCall options s
   pub shaped : checkCall options s ≡ Accepted → (j : ℕ) → j < nodeCount s → Shaped (timeIn (options .times)) s (r .times) (r .ends) j
+
+-- for a functional circuit: all of the program's own, and those of its table first
+pub record FunctionalBy (operators s : List ℕ) (r : Scanned) : Type 0 where
+  pub checked : r .checked ≡ first (functionalChecks (timeIn operators) s)
+  pub shaped : first (functionalChecks (timeIn operators) s) ≡ Accepted → (j : ℕ) → j < nodeCount s → Shaped (timeIn operators) s (r .times) (r .ends) j
+
+pub record Functionally (options : Options) (s : List ℕ) (r : Scanned) : Type 0 where
+  pub checked : r .checked ≡ checkFunctionalCall options s
+  pub shaped : checkFunctionalCall options s ≡ Accepted → (j : ℕ) → j < nodeCount s → Shaped (timeIn (options .times)) s (r .times) (r .ends) j
 
 -- the entries of one node more
 pub shaped-more : (τ : ℕ → ℕ) (s times ends : List ℕ) (i : ℕ) → ((j : ℕ) → i + 1 ≤ j → j < nodeCount s → Shaped τ s times ends j)

@@ -8,9 +8,10 @@ ghost use Rattle.model.specs.Refusals.{refuse, first};
 ghost use Rattle.model.specs.Program.{nodeCount, timeIn};
 ghost use Rattle.model.specs.ProgramChecks.{programChecks};
 ghost use Rattle.model.specs.Calls.{checkCall};
+ghost use Rattle.model.specs.FunctionalCalls.{checkFunctionalCall};
 ghost use Rattle.laws.specs.Program.Passed.{Readable};
 ghost use Rattle.program.specs.Roots.{Rooted};
-ghost use Rattle.program.specs.Shape.{Shaped, Measures, ScansBy, Scans};
+ghost use Rattle.program.specs.Shape.{Shaped, Measures, ScansBy, Scans, FunctionalBy, Functionally};
 
 pub mod tables; // what is given beside a program
 pub mod kinds; // the table of node kinds
@@ -155,5 +156,44 @@ pub fn check(options: Options, program: &[u8]) -> Checked
     ensures { λ r. ⌜ r ≡ checkCall options (now (program .entry)) ⌝ }
 {
     let told = scan(options, program);
+    told.checked
+}
+
+// As scan_by, with refusal 28 after 6: no procedures, and pulses of one instant.
+fn scan_functional_by(operators: &[u8], program: &[u8]) -> Scanned
+    ensures { λ r. ⌜ FunctionalBy (now (operators .entry)) (now (program .entry)) r ⌝ }
+{
+    let early = reading::early_check(program, 0);
+    match early {
+        Checked::Refused(r) => unscanned(r),
+        Checked::Accepted => {
+            let more = reading::first_added(program);
+            match more {
+                Checked::Refused(r) => unscanned(r),
+                Checked::Accepted => measure(operators, 1, program, 0),
+            }
+        }
+    }
+}
+
+// As scan, for a functional circuit, which is given a table alone.
+pub fn scan_functional(options: Options, program: &[u8]) -> Scanned
+    ensures { λ r. ⌜ Functionally options (now (program .entry)) r ⌝ }
+{
+    let beside = options.checked;
+    match beside {
+        Checked::Refused(r) => unscanned(r),
+        Checked::Accepted => {
+            let operators = options.times;
+            scan_functional_by(&operators, program)
+        }
+    }
+}
+
+// The check of a program for a functional circuit.
+pub fn check_functional(options: Options, program: &[u8]) -> Checked
+    ensures { λ r. ⌜ r ≡ checkFunctionalCall options (now (program .entry)) ⌝ }
+{
+    let told = scan_functional(options, program);
     told.checked
 }

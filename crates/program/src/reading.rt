@@ -5,7 +5,7 @@ ghost use Prim.Native.Nat.{ℕ, _≤_};
 ghost use lib.ListN.{length, take};
 ghost use Rattle.model.specs.Refusals.{first, firstFault};
 ghost use Rattle.model.specs.Program.{nodeAt, nodeCount, nodesAt};
-ghost use Rattle.model.specs.ProgramChecks.{programLengthWrong, unusedSet, absent, nodeFault, reading, rootSorts, programChecks};
+ghost use Rattle.model.specs.ProgramChecks.{programLengthWrong, unusedSet, absent, nodeFault, reading, rootSorts, programChecks, added, addedFault};
 use crate::kinds;
 use crate::nodes;
 use crate::refused;
@@ -116,4 +116,27 @@ pub fn early_check(program: &[u8], procedures: usize) -> Checked
         Checked::Refused(r) => Checked::Refused(r),
         Checked::Accepted => first_misread(program, procedures),
     }
+}
+
+// A kind that document 01 doesn't have.
+fn added(kind: u8) -> bool
+    ensures { λ r. ⌜ r ≡ added kind ⌝ }
+{
+    (kind == 10) | ((24 <= kind) & (kind <= 27))
+}
+
+// Refusal 28: the first node of such a kind.
+pub fn first_added(program: &[u8]) -> Checked
+    ensures { λ r. ⌜ r ≡ firstFault (addedFault (now (program .entry))) 0 (nodeCount (now (program .entry))) ⌝ }
+{
+    let count = program.len() / NODE;
+    let mut i: usize = 0;
+    while i < count {
+        let node = nodes::read_node(program, i);
+        if added(node.kind) {
+            return refused(28, i);
+        }
+        i += 1;
+    }
+    Checked::Accepted
 }

@@ -9,4 +9,5 @@ pub mod LoopRows
 pub mod ProcedureRows
 pub mod PulseRows
 pub mod PulsedPrograms
+pub mod FunctionalRows
 pub mod Texts

@@ -2,6 +2,7 @@
 -- just allowed, one file byte for byte, and renumbering. Theorems cite the same conditions and layout, and so leave them free.
 -- Assumes nothing.
 use mathlib.Core.Path.{_≡_, refl}
+use mathlib.Core.Bool.{true, false}
 use mathlib.Core.List.{List, [], _∷_, _++_, map}
 use Prim.Native.Nat.{ℕ}
 use lib.ListN.{take, drop, set, replicate}
@@ -46,6 +47,8 @@ good =
     ∷ cell 41 0 0 3
     -- a read of an array, whatever the index
     ∷ cell 44 0 19 18 ∷ cell 44 0 25 2
+    -- a latch may take its own word
+    ∷ cell 45 0 0 18 ∷ cell 45 0 1 27
     ∷ []
 
 good-right : map (λ c. netCheck (plus (c ∷ [])) 0) good ≡ map (λ c. Accepted) good
@@ -56,11 +59,12 @@ good-right = refl
 wrong : List Cell
 wrong =
     -- unknown kinds, those of a program's variables and statements among them
-    cell 0 0 0 0 ∷ cell 2 0 0 0 ∷ cell 10 0 0 0 ∷ cell 16 0 0 0 ∷ cell 31 0 0 0 ∷ cell 45 0 0 0
+    cell 0 0 0 0 ∷ cell 2 0 0 0 ∷ cell 10 0 0 0 ∷ cell 16 0 0 0 ∷ cell 31 0 0 0 ∷ cell 46 0 0 0
     -- start and ground stand nowhere but at 0 and 1, an array's cells nowhere but behind the memories
     ∷ cell 32 0 0 0 ∷ cell 33 0 0 0 ∷ cell 42 0 1 2 ∷ cell 42 4 1 2 ∷ cell 43 0 2 0
     -- a delay where there is none
     ∷ cell 1 1 5 0 ∷ cell 3 1 2 0 ∷ cell 4 1 2 2 ∷ cell 9 1 2 2 ∷ cell 35 1 0 0 ∷ cell 36 1 0 2 ∷ cell 37 1 0 2 ∷ cell 38 1 0 0 ∷ cell 39 1 0 0 ∷ cell 41 1 0 2 ∷ cell 44 1 19 2
+    ∷ cell 45 1 0 2
     -- a delay cell's delay is 1 to 255
     ∷ cell 34 0 0 0 ∷ cell 34 256 0 0
     -- a second input where there is none
@@ -70,17 +74,18 @@ wrong =
     ∷ cell 35 0 27 0 ∷ cell 35 0 0 27 ∷ cell 36 0 27 2 ∷ cell 37 0 27 2 ∷ cell 38 0 27 0 ∷ cell 38 0 0 27 ∷ cell 39 0 27 0
     ∷ cell 39 0 0 27 ∷ cell 41 0 0 27
     ∷ cell 44 0 27 2 ∷ cell 44 0 19 27
-    -- no cell 28 for a delay to name
-    ∷ cell 34 1 28 0
+    -- no cell 28 for a delay or a latch to name
+    ∷ cell 34 1 28 0 ∷ cell 45 0 28 2 ∷ cell 45 0 0 28
     -- a control where a word belongs
-    ∷ cell 3 0 1 0 ∷ cell 4 0 1 2 ∷ cell 4 0 2 1 ∷ cell 9 0 1 2 ∷ cell 9 0 2 1 ∷ cell 36 0 0 1 ∷ cell 37 0 0 1 ∷ cell 41 0 0 1 ∷ cell 44 0 19 1
+    ∷ cell 3 0 1 0 ∷ cell 4 0 1 2 ∷ cell 4 0 2 1 ∷ cell 9 0 1 2 ∷ cell 9 0 2 1 ∷ cell 36 0 0 1 ∷ cell 37 0 0 1 ∷ cell 41 0 0 1 ∷ cell 44 0 19 1 ∷ cell 45 0 0 1
     -- an array's cell where a word belongs
     ∷ cell 3 0 19 0 ∷ cell 4 0 20 2 ∷ cell 4 0 2 19 ∷ cell 36 0 0 25 ∷ cell 37 0 0 26 ∷ cell 41 0 0 19 ∷ cell 44 0 19 19 ∷ cell 44 0 19 20
+    ∷ cell 45 0 0 19
     -- a read of something else than a 42
     ∷ cell 44 0 20 2 ∷ cell 44 0 2 2 ∷ cell 44 0 0 2
     -- a word where a control belongs
     ∷ cell 34 1 2 0 ∷ cell 35 0 2 0 ∷ cell 35 0 0 2 ∷ cell 36 0 2 2 ∷ cell 37 0 2 2 ∷ cell 38 0 2 0 ∷ cell 38 0 0 2
-    ∷ cell 39 0 2 0 ∷ cell 39 0 0 2 ∷ cell 41 0 2 2
+    ∷ cell 39 0 2 0 ∷ cell 39 0 0 2 ∷ cell 41 0 2 2 ∷ cell 45 0 2 2 ∷ cell 45 0 27 2
     ∷ []
 
 wrong-right : map (λ c. netCheck (plus (c ∷ [])) 0) wrong ≡ map (λ c. refuse 12 27) wrong
@@ -216,6 +221,12 @@ full = plus (replicate 57 five)
 abbrev large : List ℕ
 large = block 0 85 0 full ++ block 1 85 0 (five ∷ [])
 
+-- "The cell limit becomes 16,384 and the file's 196 blocks (100,352 bytes)"
+limits-right : (fileLengthWrong (replicate 100352 0) ≡ false) × (fileLengthWrong (replicate 100864 0) ≡ true)
+    × (countWrong 196 16384 0 ≡ false) × (countWrong 196 16385 0 ≡ true) × (countWrong 195 16380 0 ≡ false)
+unfolding fileLengthWrong countWrong
+limits-right = (refl, refl, refl, refl, refl)
+
 -- a file, and what is said of it
 files : List (List ℕ × Checked)
 files =
@@ -225,17 +236,14 @@ files =
     ∷ ([], refuse 9 0)
     ∷ (replicate 511 0, refuse 9 0)
     ∷ (replicate 513 0, refuse 9 0)
-    ∷ (replicate 7168 0, refuse 9 0)
     -- 10: the first block whose words don't sum to 0, its check among them
     ∷ (set small 511 1, refuse 10 0)
     ∷ (set small 6 80, refuse 10 0)
     ∷ (set large 1023 1, refuse 10 1)
     ∷ (set (set large 1023 1) 511 1, refuse 10 0)
-    -- 11: block 0 gives a number of cells from 27 to 1,024
+    -- 11: block 0 gives a number of cells from 27 on
     ∷ (replicate 512 0, refuse 11 0)
     ∷ (block 0 26 0 (take 26 (plus [])), refuse 11 0)
-    ∷ (blockWith 0 1025 0 (replicate 504 0) ++ replicate 6144 0, refuse 11 0)
-    ∷ (blockWith 0 1024 0 (replicate 504 0) ++ replicate 6144 0, refuse 11 1)
     -- so many blocks as it needs, and a finish below it
     ∷ (blockWith 0 85 4 rest, refuse 11 0)
     ∷ (small ++ small, refuse 11 0)

@@ -311,7 +311,7 @@ abbrev asked : List (Request × Seen) → List Call
 asked rs = map (λ r. record { request = r .0; lent = 0 }) rs
 
 answers-right :
-    map (λ r. expected (r .0) (λ σ k. run (imperative (r .0)) k (r .1) σ) 0 (stand 0 (wordAt []) 0) (asked (r .2))) answers
+    map (λ r. expected (r .0) (record { within = λ σ k. run (imperative (r .0)) k (r .1) σ; anew = λ σ. σ }) 0 (stand 0 (wordAt []) 0) (asked (r .2))) answers
     ≡ map (λ r. map (λ c. c .1) (r .2)) answers
 unfolding answers eval put over kept after wait chain both caught whiles repeats loops run showsAt dueAt stopsAt afterContinuing pulsed afterStart afterRequest next expected
 answers-right = refl

@@ -9,7 +9,7 @@ use lib.Dec.{leb, eqb}
 use Rattle.model.specs.declared.Outcome.the-variants.{Ended}
 use Rattle.model.specs.Word.{pick, isZero, operate, index, elementWord}
 use Rattle.model.specs.Program.{Expr, const, var, compl, op, elem, Stmt, ok, tick, assign, assignElem, seq, par, ite, while, repeat, loop, exit, writes}
-use Rattle.model.specs.Rules.{imperative, Store, atEnd, atExit, Run, done, still, owner, eval, put, over, kept, after, wait, chain, both, caught, whiles, repeats, loops, run}
+use Rattle.model.specs.Rules.{Costs, extended, postponed, Store, atEnd, atExit, Run, done, still, owner, eval, put, over, kept, after, wait, chain, both, caught, whiles, repeats, loops, run}
 use Rattle.model.specs.Calls.{listed, referenceAnswer}
 use Rattle.laws.specs.Program.Fit.{FormedExpr, Formed}
 use Rattle.laws.specs.Rules.Laws.{Body, not-way}
@@ -138,6 +138,10 @@ module _ (body : Body) (d : ℕ) (e : Expr) (w : FormedExpr e) (h : AlikeOn body
       chain-alike (body k σ) (body k τ) _ _ (h k σ τ a)
       (λ t σ₁ τ₁ b. wait-alike d (k - t) _ _ (λ k₁. test-alike _ _ _ _ _ _ (zero-alike σ₁ τ₁ b) (r k₁ σ₁ τ₁ b) (refl, refl, b)))
 
+postponed-alike : (n : ℕ) (body : Body) → AlikeOn body body → AlikeOn (postponed n body) (postponed n body)
+postponed-alike zero body h k σ τ a = h k σ τ a
+postponed-alike (suc n) body h k σ τ a = wait-alike (suc n) k _ _ (λ k₁. h k₁ σ τ a)
+
 loops-alike : (body : Body) (d : ℕ) → AlikeOn body body → (n : ℕ) → AlikeOn (loops body d n) (loops body d n)
 unfolding loops
 loops-alike body d h zero k σ τ a = tt
@@ -147,26 +151,27 @@ loops-alike body d h (suc n) k σ τ a =
 
 -- Statements ---------------------------------------------------------------------------------------------------------------------------
 
-run-alike : (pulse : ℕ) (P : Stmt) → Formed P → AlikeOn (λ k σ. run (imperative pulse) k P σ) (λ k σ. run (imperative pulse) k P σ)
+run-alike : (κ : Costs) (P : Stmt) → Formed P → AlikeOn (λ k σ. run κ k P σ) (λ k σ. run κ k P σ)
 unfolding run
-run-alike pulse ok w = λ k σ τ h. (refl, refl, h)
-run-alike pulse (tick d) w = λ k σ τ h. wait-alike d k _ _ (λ k₁. (refl, refl, h))
-run-alike pulse (assign d x e) w = λ k σ τ h. wait-alike (d + pulse) k _ _ (λ k₁. (refl, refl, put-agree σ τ x x _ _ h refl (eval-agree e (w .2) σ τ h)))
-run-alike pulse (assignElem d j i e) w = λ k σ τ h.
-    wait-alike (d + pulse) k _ _
+run-alike κ ok w = λ k σ τ h. (refl, refl, h)
+run-alike κ (tick d) w = λ k σ τ h. wait-alike d k _ _ (λ k₁. (refl, refl, h))
+run-alike κ (assign d x e) w = λ k σ τ h. wait-alike (d + κ .write) k _ _ (λ k₁. (refl, refl, put-agree σ τ x x _ _ h refl (eval-agree e (w .2) σ τ h)))
+run-alike κ (assignElem d j i e) w = λ k σ τ h.
+    wait-alike (d + κ .write) k _ _
     (λ k₁. (refl, refl, put-agree σ τ _ _ _ _ h (ap (elementWord j) (eval-agree i (w .2) σ τ h)) (eval-agree e (w .3) σ τ h)))
-run-alike pulse (seq P Q) w = λ k σ τ h.
-    chain-alike (run (imperative pulse) k P σ) (run (imperative pulse) k P τ) _ _ (run-alike pulse P (w .0) k σ τ h) (λ t σ₁ τ₁ b. run-alike pulse Q (w .1) (k - t) σ₁ τ₁ b)
-run-alike pulse (par P Q) w = λ k σ τ h.
+run-alike κ (seq P Q) w = λ k σ τ h.
+    chain-alike (run κ k P σ) (run κ k P τ) _ _ (run-alike κ P (w .0) k σ τ h) (λ t σ₁ τ₁ b. run-alike κ Q (w .1) (k - t) σ₁ τ₁ b)
+run-alike κ (par P Q) w = λ k σ τ h.
     both-alike (kept P Q σ) (kept P Q τ) _ _ _ _ (λ σ₁ τ₁ σ₂ τ₂. kept-agree P Q σ τ σ₁ τ₁ σ₂ τ₂ h)
-    (run-alike pulse P (w .0) k σ τ h) (run-alike pulse Q (w .1) k σ τ h)
-run-alike pulse (ite d e P Q) w = λ k σ τ h.
+    (run-alike κ P (w .0) k σ τ h) (run-alike κ Q (w .1) k σ τ h)
+run-alike κ (ite d e P Q) w = λ k σ τ h.
     wait-alike d k _ _
-    (λ k₁. test-alike _ _ _ _ _ _ (ap isZero (eval-agree e (w .1) σ τ h)) (run-alike pulse Q (w .3) k₁ σ τ h) (run-alike pulse P (w .2) k₁ σ τ h))
-run-alike pulse (while d e P) w = λ k. whiles-alike (λ k₁ σ. run (imperative pulse) k₁ P σ) d e (w .1) (run-alike pulse P (w .2)) (suc k) k
-run-alike pulse (repeat d e P) w = λ k. repeats-alike (λ k₁ σ. run (imperative pulse) k₁ P σ) d e (w .1) (run-alike pulse P (w .2)) (suc k) k
-run-alike pulse (loop d P) w = λ k σ τ h. caught-alike _ _ (loops-alike (λ k₁ σ. run (imperative pulse) k₁ P σ) d (run-alike pulse P (w .1)) (suc k) k σ τ h)
-run-alike pulse exit w = λ k σ τ h. (refl, refl, h)
+    (λ k₁. test-alike _ _ _ _ _ _ (ap isZero (eval-agree e (w .1) σ τ h)) (run-alike κ Q (w .3) k₁ σ τ h) (run-alike κ P (w .2) k₁ σ τ h))
+run-alike κ (while d e P) w = λ k. whiles-alike (λ k₁ σ. run κ k₁ P σ) (extended (κ .latch) d) e (w .1) (run-alike κ P (w .2)) (suc k) k
+run-alike κ (repeat d e P) w = λ k.
+    repeats-alike (postponed (κ .latch) (λ k₁ σ. run κ k₁ P σ)) d e (w .1) (postponed-alike (κ .latch) (λ k₁ σ. run κ k₁ P σ) (run-alike κ P (w .2))) (suc k) k
+run-alike κ (loop d P) w = λ k σ τ h. caught-alike _ _ (loops-alike (λ k₁ σ. run κ k₁ P σ) d (run-alike κ P (w .1)) (suc k) k σ τ h)
+run-alike κ exit w = λ k σ τ h. (refl, refl, h)
 
 -- Answers ------------------------------------------------------------------------------------------------------------------------------
 
@@ -187,6 +192,6 @@ alike-answer n (done w t σ) still h = absurd h
 alike-answer n still (done v u τ) h = absurd h
 alike-answer n still still h = refl
 
-pub same-answer : (pulse : ℕ) (P : Stmt) → Formed P → (n : ℕ) (σ τ : Store) → Agree σ τ
-    → referenceAnswer n (run (imperative pulse) n P σ) ≡ referenceAnswer n (run (imperative pulse) n P τ)
-same-answer pulse P w n σ τ h = alike-answer n (run (imperative pulse) n P σ) (run (imperative pulse) n P τ) (run-alike pulse P w n σ τ h)
+pub same-answer : (κ : Costs) (P : Stmt) → Formed P → (n : ℕ) (σ τ : Store) → Agree σ τ
+    → referenceAnswer n (run κ n P σ) ≡ referenceAnswer n (run κ n P τ)
+same-answer κ P w n σ τ h = alike-answer n (run κ n P σ) (run κ n P τ) (run-alike κ P w n σ τ h)

@@ -1,7 +1,7 @@
 -- The run of a loop, one turn further; and a loop on its way, from the whole budget to what is left of it.
 -- Assumes that a loop's delay is at least 1, where it goes round.
 use mathlib.Core.Path.{_≡_, refl, sym, _∙_, ap}
-use mathlib.Core.Bool.{true, false}
+use mathlib.Core.Bool.{Bool, true, false}
 use mathlib.Core.List.{List}
 use Prim.Native.Nat.{ℕ, zero, suc, _+_, _-_, _≤_, _<_}
 use native.Mathlib.Omega.{arith}
@@ -10,12 +10,12 @@ use native.Mathlib.Decide.{decLt}
 use borrow.Author.Tests.{eq-eqb, ne-eqb}
 use Rattle.model.specs.Word.{isZero}
 use Rattle.model.specs.Program.{Expr, Stmt, while, repeat, loop}
-use Rattle.model.specs.Rules.{imperative, Store, atEnd, atExit, Run, done, ended, still, eval, after, wait, chain, caught, whiles, repeats, loops, run}
+use Rattle.model.specs.Rules.{Costs, postponed, Store, atEnd, atExit, Run, done, ended, still, eval, after, wait, chain, caught, whiles, repeats, loops, run}
 use Rattle.laws.specs.Refusals.Laws.{by-bool}
-use Rattle.laws.specs.Rules.Laws.{Body, wait-is, wait-short, whiles-stop, whiles-more, again, repeats-is, again-more, again-stop, round, loops-is, round-is}
+use Rattle.laws.specs.Rules.Laws.{extended-is, Body, wait-is, wait-short, whiles-stop, whiles-more, again, repeats-is, again-more, again-stop, round, loops-is, round-is}
 use Rattle.rules.specs.declared.Ran.{Ran}
 use Rattle.rules.specs.Ran.{storeOf, runOf, Stands}
-use Rattle.rules.proofs.Runs.{run-ended, chain-unended, stands-still}
+use Rattle.rules.proofs.Runs.{flagged, run-ended, unended, chain-unended, stands-still}
 
 after-after : (a b : ℕ) (r : Run) → after a (after b r) ≡ after (a + b) r
 unfolding after
@@ -89,102 +89,147 @@ loops-enough body d one (suc n) (suc m) k σ p q =
 
 -- One turn -----------------------------------------------------------------------------------------------------------------------------
 
-module _ (w : ℕ) (d : ℕ) (e : Expr) (P : Stmt) (k : ℕ) (σ : Store) where
+-- a body that begins later, and ends
+postponed-is : (n : ℕ) (body : Body) (k : ℕ) (σ : Store) → postponed n body k σ ≡ wait n k (λ k₁. body k₁ σ)
+postponed-is zero body k σ =
+    let z : k - 0 ≡ k = omega arith in
+    sym (wait-is 0 k (λ k₁. body k₁ σ) (omega arith) ∙ after-zero (body (k - 0) σ) ∙ ap (λ (m : ℕ). body m σ) z)
+postponed-is (suc n) body k σ = refl
+
+chain-later : (l : ℕ) (r : Ran) → r .ended ≡ true → (c : ℕ → Store → Run) → chain (after l (runOf r)) c ≡ after (l + r .time) (c (l + r .time) (storeOf (r .words)))
+unfolding chain after
+chain-later l r f c = ap (λ (q : Run). chain (after l q) c) (run-ended r f)
+
+-- nothing goes on after one that has not ended
+chain-later-unended : (l : ℕ) (r : Ran) → r .ended ≡ false → (c : ℕ → Store → Run) → chain (after l (runOf r)) c ≡ after l (runOf r)
+unfolding chain after
+chain-later-unended l r f c = rw (unended r f) (go (r .left))
+  where
+    go : (b : Bool) → chain (after l (flagged false b (r .time) (storeOf (r .words)))) c ≡ after l (flagged false b (r .time) (storeOf (r .words)))
+    go true = refl
+    go false = refl
+
+-- a while's test takes its delay and, before it, what latching does
+while-is : (κ : Costs) (d : ℕ) (e : Expr) (P : Stmt) (k : ℕ) (σ : Store)
+    → run κ k (while d e P) σ ≡ whiles (λ k₁ σ₁. run κ k₁ P σ₁) (d + κ .latch) e (suc k) k σ
+unfolding run
+while-is κ d e P k σ = ap (λ (d : ℕ). whiles (λ k₁ σ₁. run κ k₁ P σ₁) d e (suc k) k σ) (extended-is (κ .latch) d)
+
+module _ (κ : Costs) (d : ℕ) (e : Expr) (P : Stmt) (k : ℕ) (σ : Store) where
   abbrev body : Body
-  body k₁ σ₁ = run (imperative w) k₁ P σ₁
+  body k₁ σ₁ = run κ k₁ P σ₁
 
-  -- a while after its turn, and a repeat after its own
+  abbrev test : ℕ
+  test = d + κ .latch
+
+  -- a while after its turn
   abbrev whileRest : ℕ → Store → Run
-  whileRest t σ₁ = whiles body d e k (k - d - t) σ₁
+  whileRest t σ₁ = whiles body test e k (k - test - t) σ₁
 
-  abbrev repeatRest : ℕ → Store → Run
-  repeatRest t σ₁ = again body d e k (k - t) σ₁
-
-  pub while-out : k < d → run (imperative w) k (while d e P) σ ≡ still
-  unfolding run whiles
-  while-out l = wait-short d k _ l
+  pub while-out : k < d + κ .latch → run κ k (while d e P) σ ≡ still
+  unfolding whiles
+  while-out l = while-is κ d e P k σ ∙ wait-short test k _ l
 
   -- the test, whose word is v, and where it is true the turn r
-  module _ (l : d ≤ k) (v : ℕ) (ev : v ≡ eval e σ) where
-    pub while-end : v ≡ 0 → run (imperative w) k (while d e P) σ ≡ after d (ended 0 σ)
-    unfolding run
-    while-end z = whiles-stop body d e k k σ (eq-eqb _ 0 (sym ev ∙ z)) ∙ wait-is d k _ l
+  module _ (l : d + κ .latch ≤ k) (v : ℕ) (ev : v ≡ eval e σ) where
+    pub while-end : v ≡ 0 → run κ k (while d e P) σ ≡ after (d + κ .latch) (ended 0 σ)
+    while-end z = while-is κ d e P k σ ∙ whiles-stop body test e k k σ (eq-eqb _ 0 (sym ev ∙ z)) ∙ wait-is test k _ l
 
-    module _ (n : v ≡ 0 → ⊥) (r : Ran) (R : Stands (k - d) (run (imperative w) (k - d) P σ) r) where
-      while-turn : run (imperative w) k (while d e P) σ ≡ after d (chain (runOf r) whileRest)
-      unfolding run
+    module _ (n : v ≡ 0 → ⊥) (r : Ran) (R : Stands (k - (d + κ .latch)) (run κ (k - (d + κ .latch)) P σ) r) where
+      while-turn : run κ k (while d e P) σ ≡ after test (chain (runOf r) whileRest)
       while-turn =
-          whiles-more body d e k k σ (ne-eqb _ 0 (λ z. n (ev ∙ z))) ∙ wait-is d k _ l
-          ∙ ap (λ (q : Run). after d (chain q whileRest)) (sym (R .is))
+          while-is κ d e P k σ ∙ whiles-more body test e k k σ (ne-eqb _ 0 (λ z. n (ev ∙ z))) ∙ wait-is test k _ l
+          ∙ ap (λ (q : Run). after test (chain q whileRest)) (sym (R .is))
 
-      pub while-unended : r .ended ≡ false → run (imperative w) k (while d e P) σ ≡ after d (runOf r)
-      while-unended f = while-turn ∙ ap (after d) (chain-unended r f whileRest)
+      pub while-unended : r .ended ≡ false → run κ k (while d e P) σ ≡ after (d + κ .latch) (runOf r)
+      while-unended f = while-turn ∙ ap (after test) (chain-unended r f whileRest)
 
       pub while-on : r .ended ≡ true → 1 ≤ d
-          → run (imperative w) k (while d e P) σ ≡ after (d + r .time) (run (imperative w) (k - d - r .time) (while d e P) (storeOf (r .words)))
-      unfolding chain run
+          → run κ k (while d e P) σ ≡ after (d + κ .latch + r .time) (run κ (k - (d + κ .latch) - r .time) (while d e P) (storeOf (r .words)))
+      unfolding chain
       while-on f one =
           let t = r .time in
-          while-turn ∙ ap (λ (q : Run). after d (chain q whileRest)) (run-ended r f) ∙ after-after d t _
-          ∙ ap (after (d + t)) (whiles-enough body d e one k (suc (k - d - t)) (k - d - t) (storeOf (r .words)) (omega arith) (omega arith))
+          while-turn ∙ ap (λ (q : Run). after test (chain q whileRest)) (run-ended r f) ∙ after-after test t _
+          ∙ ap (after (test + t)) (whiles-enough body test e (omega arith) k (suc (k - test - t)) (k - test - t) (storeOf (r .words)) (omega arith) (omega arith))
+          ∙ ap (after (test + t)) (sym (while-is κ d e P (k - test - t) (storeOf (r .words))))
+
+module _ (κ : Costs) (d : ℕ) (e : Expr) (P : Stmt) (k : ℕ) (σ : Store) where
+  -- a repeat's turn begins when the words are latched
+  abbrev turned : Body
+  turned = postponed (κ .latch) (λ k₁ σ₁. run κ k₁ P σ₁)
+
+  -- a repeat after its turn
+  abbrev repeatRest : ℕ → Store → Run
+  repeatRest t σ₁ = again turned d e k (k - t) σ₁
+
+  repeat-is : run κ k (repeat d e P) σ ≡ chain (wait (κ .latch) k (λ k₁. run κ k₁ P σ)) repeatRest
+  unfolding run
+  repeat-is = repeats-is turned d e k k σ ∙ ap (λ (q : Run). chain q repeatRest) (postponed-is (κ .latch) (λ k₁ σ₁. run κ k₁ P σ₁) k σ)
+
+  pub repeat-late : k < κ .latch → run κ k (repeat d e P) σ ≡ still
+  unfolding chain
+  repeat-late l = repeat-is ∙ ap (λ (q : Run). chain q repeatRest) (wait-short (κ .latch) k _ l)
 
   -- the turn r, and where it ended the test, whose word is v
-  module _ (r : Ran) (R : Stands k (run (imperative w) k P σ) r) where
-    repeat-turn : run (imperative w) k (repeat d e P) σ ≡ chain (runOf r) repeatRest
-    unfolding run
-    repeat-turn = repeats-is body d e k k σ ∙ ap (λ (q : Run). chain q repeatRest) (sym (R .is))
+  module _ (h : κ .latch ≤ k) (r : Ran) (R : Stands (k - κ .latch) (run κ (k - κ .latch) P σ) r) where
+    repeat-turn : run κ k (repeat d e P) σ ≡ chain (after (κ .latch) (runOf r)) repeatRest
+    repeat-turn = repeat-is ∙ ap (λ (q : Run). chain q repeatRest) (wait-is (κ .latch) k _ h ∙ ap (after (κ .latch)) (sym (R .is)))
 
-    pub repeat-unended : r .ended ≡ false → run (imperative w) k (repeat d e P) σ ≡ runOf r
-    repeat-unended f = repeat-turn ∙ chain-unended r f repeatRest
+    pub repeat-unended : r .ended ≡ false → run κ k (repeat d e P) σ ≡ after (κ .latch) (runOf r)
+    repeat-unended f = repeat-turn ∙ chain-later-unended (κ .latch) r f repeatRest
 
     module _ (f : r .ended ≡ true) where
-      repeat-turned : run (imperative w) k (repeat d e P) σ ≡ after (r .time) (again body d e k (k - r .time) (storeOf (r .words)))
-      unfolding chain
-      repeat-turned = repeat-turn ∙ ap (λ (q : Run). chain q repeatRest) (run-ended r f)
+      repeat-turned : run κ k (repeat d e P) σ ≡ after (κ .latch + r .time) (again turned d e k (k - κ .latch - r .time) (storeOf (r .words)))
+      repeat-turned =
+          let same : k - (κ .latch + r .time) ≡ k - κ .latch - r .time = omega arith in
+          repeat-turn ∙ chain-later (κ .latch) r f repeatRest
+          ∙ ap (λ (m : ℕ). after (κ .latch + r .time) (again turned d e k m (storeOf (r .words)))) same
 
-      pub repeat-out : k - r .time < d → run (imperative w) k (repeat d e P) σ ≡ still
+      pub repeat-out : k - κ .latch - r .time < d → run κ k (repeat d e P) σ ≡ still
       unfolding again after
-      repeat-out l = repeat-turned ∙ ap (after (r .time)) (wait-short d (k - r .time) _ l)
+      repeat-out l = repeat-turned ∙ ap (after (κ .latch + r .time)) (wait-short d (k - κ .latch - r .time) _ l)
 
-      module _ (l : d ≤ k - r .time) (v : ℕ) (ev : v ≡ eval e (storeOf (r .words))) where
-        pub repeat-end : (v ≡ 0 → ⊥) → run (imperative w) k (repeat d e P) σ ≡ after (r .time + d) (ended 0 (storeOf (r .words)))
+      module _ (l : d ≤ k - κ .latch - r .time) (v : ℕ) (ev : v ≡ eval e (storeOf (r .words))) where
+        pub repeat-end : (v ≡ 0 → ⊥) → run κ k (repeat d e P) σ ≡ after (κ .latch + r .time + d) (ended 0 (storeOf (r .words)))
         repeat-end n =
-            let t = r .time in
-            repeat-turned ∙ ap (after t) (again-stop body d e k (k - t) _ (ne-eqb _ 0 (λ z. n (ev ∙ z))) ∙ wait-is d (k - t) _ l) ∙ after-after t d _
+            let t = κ .latch + r .time in
+            let m = k - κ .latch - r .time in
+            repeat-turned ∙ ap (after t) (again-stop turned d e k m _ (ne-eqb _ 0 (λ z. n (ev ∙ z))) ∙ wait-is d m _ l) ∙ after-after t d _
 
         pub repeat-on : v ≡ 0 → 1 ≤ d
-            → run (imperative w) k (repeat d e P) σ ≡ after (r .time + d) (run (imperative w) (k - r .time - d) (repeat d e P) (storeOf (r .words)))
+            → run κ k (repeat d e P) σ ≡ after (κ .latch + r .time + d) (run κ (k - κ .latch - r .time - d) (repeat d e P) (storeOf (r .words)))
         unfolding run
         repeat-on z one =
-            let t = r .time in
-            repeat-turned ∙ ap (after t) (again-more body d e k (k - t) _ (eq-eqb _ 0 (sym ev ∙ z)) ∙ wait-is d (k - t) _ l) ∙ after-after t d _
-            ∙ ap (after (t + d)) (repeats-enough body d e one k (suc (k - t - d)) (k - t - d) (storeOf (r .words)) (omega arith) (omega arith))
+            let t = κ .latch + r .time in
+            let m = k - κ .latch - r .time in
+            repeat-turned ∙ ap (after t) (again-more turned d e k m _ (eq-eqb _ 0 (sym ev ∙ z)) ∙ wait-is d m _ l) ∙ after-after t d _
+            ∙ ap (after (t + d)) (repeats-enough turned d e one k (suc (m - d)) (m - d) (storeOf (r .words)) (omega arith) (omega arith))
 
 -- a loop's turn r
-module _ (w : ℕ) (d : ℕ) (P : Stmt) (k : ℕ) (σ : Store) (r : Ran) (R : Stands k (run (imperative w) k P σ) r) where
+module _ (κ : Costs) (d : ℕ) (P : Stmt) (k : ℕ) (σ : Store) (r : Ran) (R : Stands k (run κ k P σ) r) where
   abbrev turns : Body
-  turns k₁ σ₁ = run (imperative w) k₁ P σ₁
+  turns k₁ σ₁ = run κ k₁ P σ₁
 
   abbrev loopRest : ℕ → Store → Run
   loopRest t σ₁ = round turns d k (k - t) σ₁
 
-  loop-turn : run (imperative w) k (loop d P) σ ≡ caught (chain (runOf r) loopRest)
+  loop-turn : run κ k (loop d P) σ ≡ caught (chain (runOf r) loopRest)
   unfolding run
   loop-turn = ap caught (loops-is turns d k k σ ∙ ap (λ (q : Run). chain q loopRest) (sym (R .is)))
 
-  pub loop-unended : r .ended ≡ false → run (imperative w) k (loop d P) σ ≡ caught (runOf r)
+  pub loop-unended : r .ended ≡ false → run κ k (loop d P) σ ≡ caught (runOf r)
   loop-unended f = loop-turn ∙ ap caught (chain-unended r f loopRest)
 
   module _ (f : r .ended ≡ true) where
-    loop-turned : run (imperative w) k (loop d P) σ ≡ caught (after (r .time) (round turns d k (k - r .time) (storeOf (r .words))))
+    loop-turned : run κ k (loop d P) σ ≡ caught (after (r .time) (round turns d k (k - r .time) (storeOf (r .words))))
     unfolding chain
     loop-turned = loop-turn ∙ ap (λ (q : Run). caught (chain q loopRest)) (run-ended r f)
 
-    pub loop-out : k - r .time < d → run (imperative w) k (loop d P) σ ≡ still
+    pub loop-out : k - r .time < d → run κ k (loop d P) σ ≡ still
     unfolding after caught
     loop-out l = loop-turned ∙ ap (λ (q : Run). caught (after (r .time) q)) (round-is turns d k (k - r .time) _ ∙ wait-short d (k - r .time) _ l)
 
-    pub loop-on : d ≤ k - r .time → 1 ≤ d → run (imperative w) k (loop d P) σ ≡ after (r .time + d) (run (imperative w) (k - r .time - d) (loop d P) (storeOf (r .words)))
+    pub loop-on : d ≤ k - r .time → 1 ≤ d → run κ k (loop d P) σ ≡ after (r .time + d) (run κ (k - r .time - d) (loop d P) (storeOf (r .words)))
     unfolding run
     loop-on l one =
         let t = r .time in

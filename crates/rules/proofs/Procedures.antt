@@ -61,9 +61,9 @@ tree-is s ends L r i e =
     ∙ getD-drop r (treesAt s 0) 0 none ∙ ap (λ (n : ℕ). getD (treesAt s 0) n none) (add-zero r))
 
 -- the main program begins at node i
-pub main-is : (w : ℕ) (s ends : List ℕ) → Laid s ends → (k i : ℕ) → i ≡ skips ends (nodeCount s) k 0 → meantAt k s i ≡ meaning (programOf w k s)
+pub main-is : (s ends : List ℕ) → Laid s ends → (k i : ℕ) → i ≡ skips ends (nodeCount s) k 0 → meantAt k s i ≡ meaning (programOf 1 k s)
 unfolding meaning programOf
-main-is w s ends L k i e = ap (inline (inlined (programOf 1 k s .bodies))) (tree-is s ends L k i e)
+main-is s ends L k i e = ap (inline (inlined (programOf 1 k s .bodies))) (tree-is s ends L k i e)
 
 -- body p, which may call those before it, begins at node i
 pub called-body : (s ends : List ℕ) → Laid s ends → (k : ℕ) → k ≤ length (treesAt s 0) → (p : ℕ) → p < k → (i : ℕ) → i ≡ skips ends (nodeCount s) p 0

@@ -1,17 +1,26 @@
--- What the words and runs of the code stand for, and what a statement needs to be run by its nodes.
+-- What the words, costs and runs of the code stand for, and what a statement needs to be run by its nodes.
 -- Assumes nothing: definitions.
 use mathlib.Core.Path.{_≡_}
-use mathlib.Core.List.{List}
+use mathlib.Core.List.{List, [], _∷_}
 use Prim.Native.Nat.{ℕ, _≤_}
 use lib.ListN.{length, getD}
 use lib.Dec.{eqb}
+use Rattle.model.specs.declared.Answer.{Answer}
 use Rattle.model.specs.Word.{pick}
+use Rattle.model.specs.Refusals.{first}
 use Rattle.model.specs.Program.{Stmt, treesAt, stmtAt, programOf}
-use Rattle.model.specs.Procedures.{inline, inlined}
-use Rattle.model.specs.Rules.{Store, Run, ended, left, still}
+use Rattle.model.specs.Procedures.{inline, inlined, meaning}
+use Rattle.model.specs.Rules as rules
+use Rattle.model.specs.Rules.{Store, Run, ended, left, still, run}
+use Rattle.model.specs.Calls.{wordAt, short, overBudget, referenceAnswer, answering}
 use Rattle.laws.specs.Program.Fit.{Formed, Timed, Separate}
 use Rattle.program.specs.Ends.{Laid}
+use Rattle.rules.specs.declared.Costs.{Costs}
 use Rattle.rules.specs.declared.Ran.{Ran}
+
+-- the costs that costs in code are
+abbrev pub costsOf : Costs → rules.Costs
+costsOf c = record { write = c .write; latch = c .latch }
 
 -- an array of words as the rules keep them
 unfoldable pub storeOf : List ℕ → Store
@@ -36,6 +45,11 @@ calledAt k s p = inlined (programOf 1 k s .bodies) p
 
 abbrev pub meantAt : ℕ → List ℕ → ℕ → Stmt
 meantAt k s i = inline (inlined (programOf 1 k s .bodies)) (stmtAt s i)
+
+-- the answer of a run of the main program, which k procedures stand before, once its check has accepted it: 13, 14
+unfoldable pub mainAnswer : rules.Costs → ℕ → List ℕ → List ℕ → ℕ → Answer
+mainAnswer κ k s words n =
+    answering (first (overBudget n ∷ short (length words) 544 ∷ [])) (referenceAnswer n (run κ n (meaning (programOf 1 k s)) (wordAt words)))
 
 -- P is a statement without calls of an accepted program, whose array of subtree ends is right
 pub record Statable (s ends : List ℕ) (P : Stmt) : Type 0 where

@@ -1,16 +1,18 @@
-// The reference run: a program is checked, and then run on its bytes by its own rules, within a budget.
-// Contracts are equations with model/Rules and model/Calls; specs/Ran says what words and runs in code stand for.
+// The reference run: a program is checked, and then run on its bytes by its own rules, with the times of a kind of circuit, within a budget.
+// Contracts are equations with model/Rules, model/Calls and model/FunctionalCalls; specs/Ran says what words, costs and runs in code stand for.
 // Each kind of statement has a function that runs it from its children's nodes.
 ghost use mathlib.Core.Path.{_≡_};
 ghost use Prim.Native.Nat.{_+_, _≤_, _<_, max};
 ghost use lib.ListN.{length};
 ghost use lib.Dec.{eqb};
 ghost use Rattle.model.specs.Word.{pick, elementWord};
-ghost use Rattle.model.specs.Program.{exprAt, tick, assign, assignElem, seq, par, ite, while, repeat, loop};
-ghost use Rattle.model.specs.Rules.{imperative, eval, put, ended, left, still, after, wait, caught, run};
+ghost use Rattle.model.specs.Program.{exprAt, programOf, tick, assign, assignElem, seq, par, ite, while, repeat, loop};
+ghost use Rattle.model.specs.Procedures.{meaning};
+ghost use Rattle.model.specs.Rules.{eval, put, ended, left, still, after, wait, caught, run};
 ghost use Rattle.model.specs.Calls.{wordAt, listed, refusedAnswer, referenceAnswer, referenceCall};
+ghost use Rattle.model.specs.FunctionalCalls.{referenceFunctionalCall};
 ghost use Rattle.program.specs.Ends.{Laid};
-ghost use Rattle.rules.specs.Ran.{storeOf, runOf, Stands, joins, calledAt, meantAt, Statable, Ready};
+ghost use Rattle.rules.specs.Ran.{costsOf, storeOf, runOf, Stands, joins, calledAt, meantAt, mainAnswer, Statable, Ready};
 use model::Answer;
 use model::Checked;
 use model::Options;
@@ -19,6 +21,13 @@ use model::Refusal;
 use model::sizes::LAST_INSTANT;
 use model::sizes::START_WORDS;
 use program::nodes;
+
+// What a kind of circuit adds to the delays: an assignment takes `write` more, and a loop's words are latched in `latch` instants, before each test of
+// a while and before each turn of a repeat.
+struct Costs {
+    write: u8,
+    latch: u8,
+}
 
 // How a statement ran within a budget: after `time` instants with these words it ended, or came to an exit of a loop around it (`left`);
 // or it is still going. Of the words sixteen are the variables', and 64 each array's.
@@ -183,15 +192,15 @@ fn assign_at(
     d: u32,
     words: [u16; 272],
     budget: u32,
-    pulse: u8,
+    costs: Costs,
 ) -> Ran
     requires { ⌜ Statable (now program) (now ends) (assign d x (exprAt (now program) e)) × (d < 256) ⌝ }
-    ensures { λ r. ⌜ Stands budget (run (imperative pulse) budget (assign d x (exprAt (now (program .entry)) e)) (storeOf words)) r ⌝ }
+    ensures { λ r. ⌜ Stands budget (run (costsOf costs) budget (assign d x (exprAt (now (program .entry)) e)) (storeOf words)) r ⌝ }
 {
     let value = eval_at(program, ends, e, words);
     pause(
         with_word(words, x as usize, value),
-        d + pulse as u32,
+        d + costs.write as u32,
         budget,
     )
 }
@@ -206,15 +215,15 @@ fn assign_elem_at(
     d: u32,
     words: [u16; 272],
     budget: u32,
-    pulse: u8,
+    costs: Costs,
 ) -> Ran
     requires { ⌜ Statable (now program) (now ends) (assignElem d array (exprAt (now program) e) (exprAt (now program) f)) × (d < 256) ⌝ }
-    ensures { λ r. ⌜ Stands budget (run (imperative pulse) budget (assignElem d array (exprAt (now (program .entry)) e) (exprAt (now (program .entry)) f)) (storeOf words)) r ⌝ }
+    ensures { λ r. ⌜ Stands budget (run (costsOf costs) budget (assignElem d array (exprAt (now (program .entry)) e) (exprAt (now (program .entry)) f)) (storeOf words)) r ⌝ }
 {
     let index = eval_at(program, ends, e, words);
     let value = eval_at(program, ends, f, words);
     let changed = with_word(words, element_word(array, index), value);
-    pause(changed, d + pulse as u32, budget)
+    pause(changed, d + costs.write as u32, budget)
 }
 
 // The statement at node p, and then that at node q.
@@ -226,12 +235,12 @@ fn seq_at(
     q: usize,
     words: [u16; 272],
     budget: u32,
-    pulse: u8,
+    costs: Costs,
 ) -> Ran
     requires { ⌜ Ready (now program) (now ends) procedures (seq (meantAt procedures (now program) p) (meantAt procedures (now program) q)) × (p ≤ q) ⌝ }
-    ensures { λ r. ⌜ Stands budget (run (imperative pulse) budget (seq (meantAt procedures (now (program .entry)) p) (meantAt procedures (now (program .entry)) q)) (storeOf words)) r ⌝ }
+    ensures { λ r. ⌜ Stands budget (run (costsOf costs) budget (seq (meantAt procedures (now (program .entry)) p) (meantAt procedures (now (program .entry)) q)) (storeOf words)) r ⌝ }
 {
-    let first = run_at(program, ends, procedures, p, words, budget, pulse);
+    let first = run_at(program, ends, procedures, p, words, budget, costs);
     if first.ended {
         let between = first.words;
         let rest = run_at(
@@ -241,7 +250,7 @@ fn seq_at(
             q,
             between,
             budget - first.time,
-            pulse,
+            costs,
         );
         return later(first.time, rest);
     }
@@ -257,14 +266,14 @@ fn par_at(
     q: usize,
     words: [u16; 272],
     budget: u32,
-    pulse: u8,
+    costs: Costs,
 ) -> Ran
     requires { ⌜ Ready (now program) (now ends) procedures (par (meantAt procedures (now program) p) (meantAt procedures (now program) q)) × (p ≤ q) ⌝ }
-    ensures { λ r. ⌜ Stands budget (run (imperative pulse) budget (par (meantAt procedures (now (program .entry)) p) (meantAt procedures (now (program .entry)) q)) (storeOf words)) r ⌝ }
+    ensures { λ r. ⌜ Stands budget (run (costsOf costs) budget (par (meantAt procedures (now (program .entry)) p) (meantAt procedures (now (program .entry)) q)) (storeOf words)) r ⌝ }
 {
-    let first = run_at(program, ends, procedures, p, words, budget, pulse);
+    let first = run_at(program, ends, procedures, p, words, budget, costs);
     if first.ended {
-        let second = run_at(program, ends, procedures, q, words, budget, pulse);
+        let second = run_at(program, ends, procedures, q, words, budget, costs);
         if second.ended {
             let a = first.words;
             let b = second.words;
@@ -291,10 +300,10 @@ fn if_at(
     d: u32,
     words: [u16; 272],
     budget: u32,
-    pulse: u8,
+    costs: Costs,
 ) -> Ran
     requires { ⌜ Ready (now program) (now ends) procedures (ite d (exprAt (now program) e) (meantAt procedures (now program) p) (meantAt procedures (now program) q)) × (p ≤ q) ⌝ }
-    ensures { λ r. ⌜ Stands budget (run (imperative pulse) budget (ite d (exprAt (now (program .entry)) e) (meantAt procedures (now (program .entry)) p) (meantAt procedures (now (program .entry)) q)) (storeOf words)) r ⌝ }
+    ensures { λ r. ⌜ Stands budget (run (costsOf costs) budget (ite d (exprAt (now (program .entry)) e) (meantAt procedures (now (program .entry)) p) (meantAt procedures (now (program .entry)) q)) (storeOf words)) r ⌝ }
 {
     if budget < d {
         return unfinished(words);
@@ -302,12 +311,12 @@ fn if_at(
     if eval_at(program, ends, e, words) == 0 {
         return later(
             d,
-            run_at(program, ends, procedures, q, words, budget - d, pulse),
+            run_at(program, ends, procedures, q, words, budget - d, costs),
         );
     }
     later(
         d,
-        run_at(program, ends, procedures, p, words, budget - d, pulse),
+        run_at(program, ends, procedures, p, words, budget - d, costs),
     )
 }
 
@@ -321,15 +330,16 @@ fn while_at(
     d: u32,
     words: [u16; 272],
     budget: u32,
-    pulse: u8,
+    costs: Costs,
 ) -> Ran
-    requires { ⌜ Ready (now program) (now ends) procedures (while d (exprAt (now program) e) (meantAt procedures (now program) p)) ⌝ }
-    ensures { λ r. ⌜ Stands budget (run (imperative pulse) budget (while d (exprAt (now (program .entry)) e) (meantAt procedures (now (program .entry)) p)) (storeOf words)) r ⌝ }
+    requires { ⌜ Ready (now program) (now ends) procedures (while d (exprAt (now program) e) (meantAt procedures (now program) p)) × (d < 256) ⌝ }
+    ensures { λ r. ⌜ Stands budget (run (costsOf costs) budget (while d (exprAt (now (program .entry)) e) (meantAt procedures (now (program .entry)) p)) (storeOf words)) r ⌝ }
 {
+    let test = d + costs.latch as u32;
     let mut held = words;
     let mut left = budget;
-    while d <= left {
-        let rest = left - d;
+    while test <= left {
+        let rest = left - test;
         if eval_at(program, ends, e, held) == 0 {
             return Ran {
                 words: held,
@@ -338,7 +348,7 @@ fn while_at(
                 time: budget - rest,
             };
         }
-        let turn = run_at(program, ends, procedures, p, held, rest, pulse);
+        let turn = run_at(program, ends, procedures, p, held, rest, costs);
         if turn.ended {
             held = turn.words;
             left = rest - turn.time;
@@ -359,21 +369,23 @@ fn repeat_at(
     d: u32,
     words: [u16; 272],
     budget: u32,
-    pulse: u8,
+    costs: Costs,
 ) -> Ran
     requires { ⌜ Ready (now program) (now ends) procedures (repeat d (exprAt (now program) e) (meantAt procedures (now program) p)) ⌝ }
-    ensures { λ r. ⌜ Stands budget (run (imperative pulse) budget (repeat d (exprAt (now (program .entry)) e) (meantAt procedures (now (program .entry)) p)) (storeOf words)) r ⌝ }
+    ensures { λ r. ⌜ Stands budget (run (costsOf costs) budget (repeat d (exprAt (now (program .entry)) e) (meantAt procedures (now (program .entry)) p)) (storeOf words)) r ⌝ }
 {
+    let latch = costs.latch as u32;
     let mut held = words;
     let mut left = budget;
-    loop {
-        let turn = run_at(program, ends, procedures, p, held, left, pulse);
+    while latch <= left {
+        let awake = left - latch;
+        let turn = run_at(program, ends, procedures, p, held, awake, costs);
         if turn.ended {
             held = turn.words;
         } else {
-            return later(budget - left, turn);
+            return later(budget - awake, turn);
         }
-        let rest = left - turn.time;
+        let rest = awake - turn.time;
         if rest < d {
             return unfinished(words);
         }
@@ -387,6 +399,7 @@ fn repeat_at(
             };
         }
     }
+    unfinished(words)
 }
 
 // The statement at node p, again and again, until it comes to an exit.
@@ -398,15 +411,15 @@ fn loop_at(
     d: u32,
     words: [u16; 272],
     budget: u32,
-    pulse: u8,
+    costs: Costs,
 ) -> Ran
     requires { ⌜ Ready (now program) (now ends) procedures (loop d (meantAt procedures (now program) p)) ⌝ }
-    ensures { λ r. ⌜ Stands budget (run (imperative pulse) budget (loop d (meantAt procedures (now (program .entry)) p)) (storeOf words)) r ⌝ }
+    ensures { λ r. ⌜ Stands budget (run (costsOf costs) budget (loop d (meantAt procedures (now (program .entry)) p)) (storeOf words)) r ⌝ }
 {
     let mut held = words;
     let mut left = budget;
     loop {
-        let turn = run_at(program, ends, procedures, p, held, left, pulse);
+        let turn = run_at(program, ends, procedures, p, held, left, costs);
         if turn.ended {
             held = turn.words;
         } else {
@@ -428,16 +441,16 @@ fn body_at(
     p: usize,
     words: [u16; 272],
     budget: u32,
-    pulse: u8,
+    costs: Costs,
 ) -> Ran
     requires { ⌜ Ready (now program) (now ends) procedures (calledAt procedures (now program) p) ⌝ }
-    ensures { λ r. ⌜ Stands budget (run (imperative pulse) budget (calledAt procedures (now (program .entry)) p) (storeOf words)) r ⌝ }
+    ensures { λ r. ⌜ Stands budget (run (costsOf costs) budget (calledAt procedures (now (program .entry)) p) (storeOf words)) r ⌝ }
 {
     if procedures <= p {
         return pause(words, 0, budget);
     }
     let body = nodes::skip(ends, program.len() / 4, 0, p);
-    run_at(program, ends, p, body, words, budget, pulse)
+    run_at(program, ends, p, body, words, budget, costs)
 }
 
 // A call of procedure p: the delay, and then its body.
@@ -449,10 +462,10 @@ fn call_at(
     d: u32,
     words: [u16; 272],
     budget: u32,
-    pulse: u8,
+    costs: Costs,
 ) -> Ran
     requires { ⌜ Ready (now program) (now ends) procedures (seq (tick d) (calledAt procedures (now program) p)) ⌝ }
-    ensures { λ r. ⌜ Stands budget (run (imperative pulse) budget (seq (tick d) (calledAt procedures (now (program .entry)) p)) (storeOf words)) r ⌝ }
+    ensures { λ r. ⌜ Stands budget (run (costsOf costs) budget (seq (tick d) (calledAt procedures (now (program .entry)) p)) (storeOf words)) r ⌝ }
 {
     let first = pause(words, d, budget);
     if first.ended {
@@ -464,14 +477,14 @@ fn call_at(
             p,
             delayed,
             budget - first.time,
-            pulse,
+            costs,
         );
         return later(first.time, body);
     }
     first
 }
 
-// The statement at node i, from these words; it may call the first so many procedures, and its pulses have so many instants.
+// The statement at node i, from these words; it may call the first so many procedures.
 fn run_at(
     program: &[u8],
     ends: &[usize; 200],
@@ -479,10 +492,10 @@ fn run_at(
     i: usize,
     words: [u16; 272],
     budget: u32,
-    pulse: u8,
+    costs: Costs,
 ) -> Ran
     requires { ⌜ Ready (now program) (now ends) procedures (meantAt procedures (now program) i) ⌝ }
-    ensures { λ r. ⌜ Stands budget (run (imperative pulse) budget (meantAt procedures (now (program .entry)) i) (storeOf words)) r ⌝ }
+    ensures { λ r. ⌜ Stands budget (run (costsOf costs) budget (meantAt procedures (now (program .entry)) i) (storeOf words)) r ⌝ }
 {
     let count = program.len() / 4;
     if count <= i {
@@ -497,7 +510,7 @@ fn run_at(
     let second = nodes::next(ends, count, i + 1);
     match kind {
         17 => pause(words, d, budget),
-        18 => assign_at(program, ends, i + 1, node.n, d, words, budget, pulse),
+        18 => assign_at(program, ends, i + 1, node.n, d, words, budget, costs),
         19 => seq_at(
             program,
             ends,
@@ -506,7 +519,7 @@ fn run_at(
             second,
             words,
             budget,
-            pulse,
+            costs,
         ),
         20 => par_at(
             program,
@@ -516,7 +529,7 @@ fn run_at(
             second,
             words,
             budget,
-            pulse,
+            costs,
         ),
         21 => {
             let third = nodes::next(ends, count, second);
@@ -530,7 +543,7 @@ fn run_at(
                 d,
                 words,
                 budget,
-                pulse,
+                costs,
             )
         }
         22 => while_at(
@@ -542,7 +555,7 @@ fn run_at(
             d,
             words,
             budget,
-            pulse,
+            costs,
         ),
         24 => assign_elem_at(
             program,
@@ -553,9 +566,9 @@ fn run_at(
             d,
             words,
             budget,
-            pulse,
+            costs,
         ),
-        25 => loop_at(program, ends, procedures, i + 1, d, words, budget, pulse),
+        25 => loop_at(program, ends, procedures, i + 1, d, words, budget, costs),
         26 => leaving(words),
         27 => call_at(
             program,
@@ -565,7 +578,7 @@ fn run_at(
             d,
             words,
             budget,
-            pulse,
+            costs,
         ),
         _ => repeat_at(
             program,
@@ -576,7 +589,7 @@ fn run_at(
             d,
             words,
             budget,
-            pulse,
+            costs,
         ),
     }
 }
@@ -648,7 +661,38 @@ fn answer(ran: Ran, budget: u32) -> Answer
     }
 }
 
-// The check, and then the run of the whole program from 544 bytes of start words.
+// Refusals 13 and 14, and then the main program, which so many procedures stand before, from 544 bytes of start words.
+fn run_main(
+    program: &[u8],
+    ends: &[usize; 200],
+    procedures: usize,
+    words: &[u8],
+    budget: u32,
+    costs: Costs,
+) -> Answer
+    requires { ⌜ Ready (now program) (now ends) procedures (meaning (programOf 1 procedures (now program))) ⌝ }
+    ensures { λ r. ⌜ r ≡ mainAnswer (costsOf costs) procedures (now (program .entry)) (now (words .entry)) budget ⌝ }
+{
+    if LAST_INSTANT < budget {
+        return refused(13, 0);
+    }
+    if words.len() < START_WORDS {
+        return refused(14, 0);
+    }
+    let main = nodes::skip(ends, program.len() / 4, 0, procedures);
+    let ran = run_at(
+        program,
+        ends,
+        procedures,
+        main,
+        start_words(words),
+        budget,
+        costs,
+    );
+    answer(ran, budget)
+}
+
+// The check, and then the run: an assignment takes as many instants beside its delay as a pulse has.
 pub fn reference_run(options: Options, program: &[u8], words: &[u8], budget: u32) -> Answer
     ensures { λ r. ⌜ r ≡ referenceCall options (now (program .entry)) (now (words .entry)) budget ⌝ }
 {
@@ -657,25 +701,28 @@ pub fn reference_run(options: Options, program: &[u8], words: &[u8], budget: u32
     match checked {
         Checked::Refused(r) => refused(r.number, r.place),
         Checked::Accepted => {
-            if LAST_INSTANT < budget {
-                return refused(13, 0);
-            }
-            if words.len() < START_WORDS {
-                return refused(14, 0);
-            }
             let ends = told.ends;
-            let k = options.procedures;
-            let main = nodes::skip(&ends, program.len() / 4, 0, k);
-            let ran = run_at(
-                program,
-                &ends,
-                k,
-                main,
-                start_words(words),
-                budget,
-                options.pulse,
-            );
-            answer(ran, budget)
+            let costs = Costs {
+                write: options.pulse,
+                latch: 0,
+            };
+            run_main(program, &ends, options.procedures, words, budget, costs)
+        }
+    }
+}
+
+// The same for a functional circuit, which is given a table alone: an assignment takes its delay, and a loop's words are latched in one instant.
+pub fn reference_functional(options: Options, program: &[u8], words: &[u8], budget: u32) -> Answer
+    ensures { λ r. ⌜ r ≡ referenceFunctionalCall options (now (program .entry)) (now (words .entry)) budget ⌝ }
+{
+    let told = program::scan_functional(options, program);
+    let checked = told.checked;
+    match checked {
+        Checked::Refused(r) => refused(r.number, r.place),
+        Checked::Accepted => {
+            let ends = told.ends;
+            let costs = Costs { write: 0, latch: 1 };
+            run_main(program, &ends, 0, words, budget, costs)
         }
     }
 }

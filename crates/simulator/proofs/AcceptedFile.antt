@@ -16,7 +16,7 @@ use Rattle.model.specs.declared.Checked.the-variants.{Accepted}
 use Rattle.model.specs.declared.kinds.Use.{Use}
 use Rattle.model.specs.declared.kinds.Use.the-variants.{Unknown, Unused, Value, Positive, ControlBelow, ControlAny, WordBelow, WordAny, ArrayBelow}
 use Rattle.model.specs.Circuit.{Netlist, cellAt, memories, cellTable, shape, cellRow}
-use Rattle.model.specs.NetlistFile.{cellBytes, cellFrom, cellsAt, inList, inFile, countOf, finishOf, cellsOf, netOf, keeps, fileCheck}
+use Rattle.model.specs.NetlistFile.{cellLimit, cellBytes, cellFrom, cellsAt, inList, inFile, countOf, finishOf, cellsOf, netOf, keeps, fileCheck}
 use Rattle.model.specs.State.{base, instantOf, beginState}
 use Rattle.laws.specs.Refusals.Laws.{by-bool, and-true, not-both}
 use Rattle.laws.specs.Circuit.Ordered.{Meets, Looks, kinds}
@@ -82,7 +82,7 @@ module _ (net : List Cell) (k : ℕ) (h : k < length net) (c : Cell) (e : keeps 
   unfolding shape cellTable
   delay-long z = let m : Meets (cellRow 34 .delay) (kinds net) (length net) k (c .delay) = rw z at (sees .0) in m .0
 
-  keeps-sees : (F : Format) (s : List ℕ) → length net ≤ 1024 → base F (length net) + 512 ≤ length s → Sees F s c
+  keeps-sees : (F : Format) (s : List ℕ) → length net ≤ cellLimit → base F (length net) + 512 ≤ length s → Sees F s c
   keeps-sees F s few room =
       record {
         a = λ n. stands (c .a) (within _ _ (a-bounded (c .kind) n) (sees .1));
@@ -104,7 +104,7 @@ copied cells net n e h =
     ∙ ap (λ (r : List ℕ). cellFrom r (6 * i)) (sets-eq (cellBytes net) cells 0 (omega (arith, bytes-length net)))
     ∙ from-bytes net (drop (0 + length (cellBytes net)) cells) i (omega arith))
 
-pub loaded : (file cells t : List ℕ) (n : ℕ) → fileCheck file ≡ Accepted → 6144 ≤ length cells → n ≡ countOf file
+pub loaded : (file cells t : List ℕ) (n : ℕ) → fileCheck file ≡ Accepted → 6 * cellLimit ≤ length cells → n ≡ countOf file
     → t ≡ sets cells 0 (cellBytes (cellsAt inFile file 0 n)) → listIn t n ≡ cellsOf file
 unfolding cellsOf
 loaded file cells t n a h z e =
@@ -127,7 +127,7 @@ module _ (F : Format) (file s : List ℕ) (r : Runs F file s) where
       keeps-sees net k m (cellAt net k) (net-passed net (finishOf file) (file-passed file (r .accepted) .cells) .kept k m)
       F s (rw (count-cells file) (sized file (r .accepted) .few)) (r .room)
 
-  pub file-fits : (cells : List ℕ) (h : Header) → h ≡ headerOf file → 6144 ≤ length cells → listIn cells (h .count) ≡ cellsOf file → Fits F cells (h .count) s
+  pub file-fits : (cells : List ℕ) (h : Header) → h ≡ headerOf file → 6 * cellLimit ≤ length cells → listIn cells (h .count) ≡ cellsOf file → Fits F cells (h .count) s
   file-fits cells h is long e =
       let z : h .count ≡ countOf file = header-count file is in
       record {

@@ -11,7 +11,7 @@ use lib.ListN.{set}
 use Rattle.model.specs.declared.Cell.{Cell}
 use Rattle.model.specs.declared.Format.{Format}
 use Rattle.model.specs.Word.{pick, bit, isZero, operate, elementOf}
-use Rattle.model.specs.Circuit.{remainingStep, Netlist, cellAt, high, merges, stepOf, Shape, cellTable, shape, kConstant, kComplement, kOperator, kStart, kGround, kDelay, kOr, kWhenTrue, kWhenFalse, kMerge, kReturn, kMemory, kGated, kArray, kAddress, kRead, kUnknown}
+use Rattle.model.specs.Circuit.{remainingStep, Netlist, cellAt, high, merges, stepOf, Shape, cellTable, shape, kConstant, kComplement, kOperator, kStart, kGround, kDelay, kOr, kWhenTrue, kWhenFalse, kMerge, kReturn, kMemory, kGated, kArray, kAddress, kRead, kLatch, kUnknown}
 use Rattle.model.specs.State.{remainingByte, remainingAt, elementNow, nowAt, beforeAt, heldAt, lineBit, takenIn, nextValue, settle}
 use Rattle.laws.specs.Circuit.Shapes.{start-kind, delay-kind, merge-kind, return-kind, by-merge, operator-shape, apart}
 use Rattle.laws.specs.Refusals.Laws.{not-both}
@@ -42,6 +42,7 @@ pub record Still (kind : ℕ) : Type 0 where
   pub memory : kind ≡ 40 → ⊥
   pub gated : kind ≡ 41 → ⊥
   pub read : kind ≡ 44 → ⊥
+  pub latch : kind ≡ 45 → ⊥
 
 -- a ground, a cell of an array, or of no kind
 shows-none : Bool → Bool → Bool → Shape
@@ -65,6 +66,7 @@ shape-still kind h =
       apart kind 40 (h .memory),
       apart kind 41 (h .gated),
       apart kind 44 (h .read),
+      apart kind 45 (h .latch),
     ) refl
 
 module _ (F : Format) (starts : Bool) (net : Netlist) (s : List ℕ) (k : ℕ) (c : Cell) where
@@ -135,6 +137,11 @@ module _ (F : Format) (starts : Bool) (net : Netlist) (s : List ℕ) (k : ℕ) (
   unfolding nextValue shape
   next-read h = by-kind 44 h
 
+  pub next-latch : c .kind ≡ 45
+      → nextValue F (shape (c .kind)) starts net s k c ≡ pick (high (beforeAt F s (c .a))) (beforeAt F s (c .b)) (beforeAt F s k)
+  unfolding nextValue shape
+  next-latch h = by-kind 45 h
+
   pub next-still : Still (c .kind) → nextValue F (shape (c .kind)) starts net s k c ≡ 0
   unfolding nextValue shows-none
   next-still h =
@@ -179,4 +186,5 @@ module _ (w : ℕ) (F : Format) (s : List ℕ) (k : ℕ) (c : Cell) where
       go kArray e = refl
       go kAddress e = refl
       go kRead e = refl
+      go kLatch e = refl
       go kUnknown e = refl

@@ -5,7 +5,7 @@ use mathlib.Core.Bool.{Bool, true, false}
 use mathlib.Core.List.{List}
 use mathlib.Core.Logic.{inr}
 use mathlib.Core.Path.{_≡_, refl, sym, _∙_, ap}
-use Prim.Native.Nat.{ℕ, _+_, _-_, _<_, _≤_}
+use Prim.Native.Nat.{ℕ, _+_, _-_, _<_, _≤_, _*_}
 use native.Mathlib.Omega.{arith}
 use lib.ListN.{length, getD}
 use borrow.Author.Tests.{eq-eqb, ne-eqb}
@@ -19,6 +19,7 @@ use Rattle.model.specs.Refusals.{refuse}
 use Rattle.model.specs.Circuit.{remainingStep, Netlist, cellAt, high, shape, merges, stepOf}
 use Rattle.model.specs.Word.{bit, put32}
 use Rattle.model.specs.State.{remainingAt, beforeAt, instantOf, flightOf, cellSize, base, nowAt, heldAt, leftAt, lineBit, value, firstValue, upTo, aged, shown, settled, heldBits, holding, settle, flight, counted, blank, beginState, stepState, crowding}
+use Rattle.model.specs.NetlistFile.{cellLimit}
 use Rattle.laws.specs.Refusals.Search.{Searched, searched-none, fault-here, fault-next, faults-end}
 use Rattle.laws.specs.Circuit.Shapes.{by-merge, delay-shape}
 use Rattle.laws.specs.Circuit.Ordered.{Ordered}
@@ -184,7 +185,7 @@ module _ {F : Format} {net : Netlist} {n : ℕ} {s : List ℕ} where
             (line-of F net s k (rw e h) d (ready .lines) bytes))
             (λ d. vacant-if F t k (cellAt (net .cells) k) d (ap (crowds F t k) z ∙ q))
 
-        pub settling-asks : n ≤ 1024 → (number ≤ 261120) × (goesOut F t k c ≤ number + comesIn F (net .pulse) t k c)
+        pub settling-asks : n ≤ cellLimit → (number ≤ 255 * cellLimit) × (goesOut F t k c ≤ number + comesIn F (net .pulse) t k c)
         settling-asks few =
             (omega (arith, p .counts, flight-low F net ordered t (p .bytes)), omega (arith, p .counts, settled-number, ap (goesOut F t k) z, ap (comesIn F (net .pulse) t k) z))
 

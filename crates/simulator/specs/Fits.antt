@@ -7,7 +7,7 @@ use lib.ListN.{length, getD}
 use Rattle.model.specs.declared.Cell.{Cell}
 use Rattle.model.specs.declared.Format.{Format}
 use Rattle.model.specs.Circuit.{Netlist}
-use Rattle.model.specs.NetlistFile.{cellFrom, cellsAt, inList}
+use Rattle.model.specs.NetlistFile.{cellLimit, cellFrom, cellsAt, inList}
 use Rattle.model.specs.State.{instantOf, base}
 use Rattle.laws.specs.Circuit.Ordered.{Ordered}
 use Rattle.netlist.specs.declared.header.Header.{Header}
@@ -25,7 +25,7 @@ netBy h cells = netIn (h .pulse) cells (h .count)
 
 -- n cells that keep the rules, and that a state has room for
 pub record Fits (F : Format) (cells : List ℕ) (n : ℕ) (s : List ℕ) : Type 0 where
-  pub few : n ≤ 1024
+  pub few : n ≤ cellLimit
   pub list : 6 * n ≤ length cells
   pub room : base F n + 512 ≤ length s
   pub sees : (k : ℕ) → k < n → Sees F s (cellFrom cells (6 * k))

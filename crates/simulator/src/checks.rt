@@ -7,6 +7,7 @@ ghost use lib.ListN.{length};
 ghost use Rattle.model.specs.Refusals.{refuse, refuseIf, first};
 ghost use Rattle.model.specs.State.{base};
 ghost use Rattle.model.specs.Calls.{tooLong, short, beginChecks, continueChecks, startChecks, runNetlistChecks};
+ghost use Rattle.model.specs.NetlistFile.{cellLimit};
 use model::Checked;
 use model::Format;
 use model::Refusal;
@@ -25,7 +26,7 @@ pub fn refuse(number: u8) -> Checked
 
 // Refusal 14 of a state of n cells.
 fn check_room(format: Format, n: usize, state: &[u8]) -> Checked
-    requires { ⌜ n ≤ 1024 ⌝ }
+    requires { ⌜ n ≤ cellLimit ⌝ }
     ensures { λ r. ⌜ r ≡ short (length (now (state .entry))) (base format n + 512) ⌝ }
 {
     if state.len() < wires::base(format, n) + ELEMENTS {
@@ -36,7 +37,7 @@ fn check_room(format: Format, n: usize, state: &[u8]) -> Checked
 
 // Refusal 14 of start words and of a state of n cells.
 fn check_lent(format: Format, n: usize, words: &[u8], state: &[u8]) -> Checked
-    requires { ⌜ n ≤ 1024 ⌝ }
+    requires { ⌜ n ≤ cellLimit ⌝ }
     ensures { λ r. ⌜ r ≡ first (short (length (now (words .entry))) 544 ∷ short (length (now (state .entry))) (base format n + 512) ∷ []) ⌝ }
 {
     if words.len() < START_WORDS {

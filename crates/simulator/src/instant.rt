@@ -8,6 +8,7 @@ ghost use Rattle.model.specs.declared.Checked.the-variants.{Accepted};
 ghost use Rattle.model.specs.Word.{elementOf, put32};
 ghost use Rattle.model.specs.Circuit.{cellAt, shape};
 ghost use Rattle.model.specs.State.{elementNow, instantOf, nextValue, value, upTo, aged, stored, shown, settle, settled, counted, crowding, base, stepState};
+ghost use Rattle.model.specs.NetlistFile.{cellLimit};
 ghost use Rattle.laws.specs.State.Flight.{comesIn, goesOut};
 ghost use Rattle.state.specs.Stands.{Stands, Sees, Ready};
 ghost use Rattle.simulator.specs.Fits.{listIn, netIn, netBy, Fits, Holds, Spares};
@@ -73,6 +74,7 @@ pub fn next_value(
         39 => wires::merged(format, state, k, h.pulse, kind, x == 1, y == 1),
         41 => if x == 1 { y } else { 0 },
         44 => element_now(format, cells, h.count, a, y, state),
+        45 => wires::latched(format, state, k, a, b),
         _ => 0,
     }
 }
@@ -95,9 +97,9 @@ pub fn store(format: Format, cells: &[u8], n: usize, c: Cell, state: &mut [u8], 
 }
 
 // A delay takes its input in, a merge holds, the start has an instant less to be high; answers the number in flight after it.
-// What goes out is taken off last, so that nothing falls below 0. The number is at most 255 for each of 1,024 cells.
+// What goes out is taken off last, so that nothing falls below 0. The number is at most 255 for each cell.
 pub fn settle(format: Format, pulse: u8, c: Cell, state: &mut [u8], k: usize, number: u32) -> u32
-    requires { ⌜ Stands format (now state) k × Sees format (now state) c × (number ≤ 261120) × (goesOut format (now state) k c ≤ number + comesIn format pulse (now state) k c) ⌝ }
+    requires { ⌜ Stands format (now state) k × Sees format (now state) c × (number ≤ 255 * cellLimit) × (goesOut format (now state) k c ≤ number + comesIn format pulse (now state) k c) ⌝ }
     ensures state { λ _. ⌜ now (state .exit) ≡ settle format pulse (shape (c .kind)) (now (state .entry)) k c ⌝ }
     ensures number { λ r. ⌜ r + goesOut format (now (state .entry)) k c ≡ number + comesIn format pulse (now (state .entry)) k c ⌝ }
 {
@@ -144,7 +146,7 @@ fn tick(state: &mut [u8])
 
 // Comes before any cell is shown: a memory looks at what any cell was an instant ago.
 fn age_all(format: Format, state: &mut [u8], n: usize)
-    requires { ⌜ (n ≤ 1024) × (base format n ≤ length (now state)) ⌝ }
+    requires { ⌜ (n ≤ cellLimit) × (base format n ≤ length (now state)) ⌝ }
     ensures { λ _. ⌜ now (state .exit) ≡ upTo (aged format) n (now (state .entry)) ⌝ }
 {
     let mut k: usize = 0;

@@ -1,12 +1,12 @@
 // Runs of a netlist file that is accepted, on a state of its size.
 // The file's cells are copied once into a list without headers; the contracts speak of the file.
 ghost use mathlib.Core.Path.{_≡_};
-ghost use Prim.Native.Nat.{_+_, _≤_};
+ghost use Prim.Native.Nat.{_+_, _*_, _≤_};
 ghost use lib.ListN.{length};
 ghost use lib.Seq.{paste};
 ghost use Rattle.model.specs.declared.Checked.the-variants.{Accepted};
 ghost use Rattle.model.specs.declared.Format.the-variants.{Full, Compact};
-ghost use Rattle.model.specs.NetlistFile.{fileCheck, cellsOf, countOf, finishOf, netOf};
+ghost use Rattle.model.specs.NetlistFile.{cellLimit, fileCheck, cellsOf, countOf, finishOf, netOf};
 ghost use Rattle.model.specs.State.{instantOf, beginState, wordsIn};
 ghost use Rattle.model.specs.Calls.{wordAt, shows, fullState, fullCount};
 ghost use Rattle.netlist.specs.Headers.{headerOf};
@@ -35,7 +35,7 @@ pub struct Went {
 
 // Copies the n cells of a file, six bytes each.
 fn load(cells: &mut [u8], file: &[u8], n: usize)
-    requires { ⌜ (6144 ≤ length (now cells)) × (fileCheck (now file) ≡ Accepted) × (n ≡ countOf (now file)) ⌝ }
+    requires { ⌜ (6 * cellLimit ≤ length (now cells)) × (fileCheck (now file) ≡ Accepted) × (n ≡ countOf (now file)) ⌝ }
     ensures { λ _. ⌜ listIn (now (cells .exit)) n ≡ cellsOf (now (file .entry)) ⌝ }
 {
     netlist::cells::put_cells(cells, 0, file, Layout::InFile, 0, n);

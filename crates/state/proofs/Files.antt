@@ -9,7 +9,7 @@ use lib.ListN.{length}
 use Rattle.model.specs.declared.Format.{Format}
 use Rattle.model.specs.declared.Checked.the-variants.{Accepted}
 use Rattle.model.specs.Circuit.{cellAt}
-use Rattle.model.specs.NetlistFile.{cellFrom, inFile, blocksFor, countOf, finishOf, pulseOf, cellsOf, fileCheck}
+use Rattle.model.specs.NetlistFile.{cellLimit, cellFrom, inFile, blocksFor, countOf, finishOf, pulseOf, cellsOf, fileCheck}
 use Rattle.model.specs.State.{base}
 use Rattle.laws.specs.Circuit.Ordered.{Ordered}
 use Rattle.laws.specs.NetlistFile.Passed.{net-ordered, file-passed, count-cells}
@@ -20,7 +20,7 @@ use Rattle.state.proofs.Standing.{stands-in}
 
 pub record Sized (file : List ℕ) : Type 0 where
   pub some : 27 ≤ countOf file
-  pub few : countOf file ≤ 1024
+  pub few : countOf file ≤ cellLimit
   pub finish : finishOf file < countOf file
   pub long : length file ≡ 512 * blocksFor (countOf file)
   pub pulse : pulseOf file ≤ 8

@@ -9,12 +9,12 @@ use Rattle.model.specs.declared.Format.{Format}
 use Rattle.model.specs.declared.Format.the-variants.{Full, Compact}
 use Rattle.model.specs.declared.Checked.the-variants.{Accepted}
 use Rattle.model.specs.Circuit.{cellAt, Netlist}
-use Rattle.model.specs.NetlistFile.{fileCheck, netOf}
+use Rattle.model.specs.NetlistFile.{cellLimit, fileCheck, netOf}
 use Rattle.model.specs.State.{cellSize, base, stateSize, leftAt, flightOf, flight}
 
 -- the bytes of cell k lie in state s; the first eight are there in either format
 pub record Stands (F : Format) (s : List ℕ) (k : ℕ) : Type 0 where
-  pub few : k < 1024
+  pub few : k < cellLimit
   pub front : base F k + 8 ≤ length s
   pub room : base F k + cellSize F ≤ length s
 

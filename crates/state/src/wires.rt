@@ -3,9 +3,10 @@
 ghost use mathlib.Core.Path.{_≡_};
 ghost use mathlib.Core.Bool.{not, _&&_};
 ghost use Prim.Native.Nat.{_+_, _*_, _<_, _≤_};
-ghost use Rattle.model.specs.Word.{bit, elementOf};
+ghost use Rattle.model.specs.Word.{pick, bit, elementOf};
 ghost use Rattle.model.specs.Circuit.{high, remainingStep, stepOf};
 ghost use Rattle.model.specs.State.{cellSize, base, nowAt, beforeAt, heldAt, heldBits, holding, remainingByte, remainingAt};
+ghost use Rattle.model.specs.NetlistFile.{cellLimit};
 ghost use Rattle.state.specs.Stands.{Stands};
 use model::Format;
 use model::Merge;
@@ -28,7 +29,7 @@ pub fn cell_size(format: Format) -> usize
 
 // The byte at which cell k begins. The size is a factor, and not each product an arm, so that it is taken out of loops.
 pub fn base(format: Format, k: usize) -> usize
-    requires { ⌜ k ≤ 1024 ⌝ }
+    requires { ⌜ k ≤ cellLimit ⌝ }
     ensures { λ r. ⌜ r ≡ base format k ⌝ }
 {
     STATE_HEADER + cell_size(format) * k
@@ -66,9 +67,20 @@ pub fn has_fallen(format: Format, state: &[u8], k: usize) -> bool
     (before_at(format, state, k) == 1) & !now
 }
 
+// What latch k shows: the word b of an instant ago, if control a was 1 then, and else its own.
+pub fn latched(format: Format, state: &[u8], k: usize, a: usize, b: usize) -> u16
+    requires { ⌜ Stands format (now state) k × Stands format (now state) a × Stands format (now state) b ⌝ }
+    ensures { λ r. ⌜ r ≡ pick (high (beforeAt format (now (state .entry)) a)) (beforeAt format (now (state .entry)) b) (beforeAt format (now (state .entry)) k) ⌝ }
+{
+    if before_at(format, state, a) == 1 {
+        return before_at(format, state, b);
+    }
+    before_at(format, state, k)
+}
+
 // The byte at which the word of an array's element begins, behind n cells; the low six bits of the index count.
 pub fn element_place(format: Format, n: usize, array: usize, w: u16) -> usize
-    requires { ⌜ (n ≤ 1024) × (array < 4) ⌝ }
+    requires { ⌜ (n ≤ cellLimit) × (array < 4) ⌝ }
     ensures { λ r. ⌜ r ≡ base format n + 2 * elementOf array w ⌝ }
 {
     let at = base(format, n);
@@ -125,7 +137,7 @@ pub fn hold(format: Format, state: &mut [u8], k: usize, m: Merge)
 
 // Where the start's remaining high instants stand: the first byte of its line.
 pub fn remaining_byte(format: Format, k: usize) -> usize
-    requires { ⌜ k ≤ 1024 ⌝ }
+    requires { ⌜ k ≤ cellLimit ⌝ }
     ensures { λ r. ⌜ r ≡ remainingByte format k ⌝ }
 {
     let at = base(format, k);

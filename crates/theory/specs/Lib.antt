@@ -2,6 +2,7 @@ pub mod Refusals
 pub mod Rules
 pub mod Control
 pub mod Numbering
+pub mod Functional
 pub mod Circuit
 pub mod State
 pub mod Text

@@ -3,6 +3,7 @@ pub mod Due
 pub mod Answers
 pub mod Stands
 pub mod Replay
+pub mod Served
 pub mod Behaves
 pub mod Kept
 pub mod FullRuns

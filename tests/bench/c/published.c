@@ -13,7 +13,7 @@ enum { CELL = 8 };
 enum { CELL = 40 };
 #endif
 
-static uint8_t file[6656], cells[6 * 1024], state[8 + CELL * 1024 + 512];
+static uint8_t file[100352], cells[6 * 16384], state[8 + CELL * 16384 + 512];
 static int count, finish;
 static unsigned pulse;
 
@@ -85,6 +85,7 @@ static unsigned shown(unsigned k, const uint8_t *c) {
     case 40: return falls(a) ? before(b) : before(k);
     case 42: store(c); return 0;
     case 44: return get16(element(cells + 6 * a, now(b)));
+    case 45: return before(a) == 1 ? before(b) : before(k);
     case 32: return remaining(r) > 0;
     case 33: case 43: return 0;
     }

@@ -1,5 +1,5 @@
 //! The engines in C and in Verilog against the second simulator, on the compiled
-//! netlists of the vectors.
+//! netlists of the vectors and on those with latches.
 
 use crate::workload::{Workload, START};
 use crate::{c_engine, icarus};
@@ -9,13 +9,14 @@ use second::contents::Contents;
 use second::simulate::Simulator;
 use values::{Answer, Cell, Format};
 
-/// Arrays, loops, procedures and longer pulses came one after the other.
-const FOLDERS: [&str; 5] = [
+/// Arrays, loops, procedures, longer pulses and latches came one after the other.
+const FOLDERS: [&str; 6] = [
     "compile",
     "s05/compile",
     "s06/compile",
     "s08/compile",
     "s10/compile",
+    "s11/calls",
 ];
 
 const INSTANTS: u32 = 2_000;

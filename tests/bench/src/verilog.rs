@@ -73,6 +73,7 @@ fn register(number: usize, cell: Cell) -> String {
             cell.a
         ),
         ADDRESS => format!("reg [5:0] index{number} = 0;\n"),
+        LATCH => format!("reg [15:0] kept{number} = 0;\n"),
         _ => String::new(),
     }
 }
@@ -97,6 +98,7 @@ fn value(number: usize, cell: Cell) -> String {
             "(falls{a} & (index{} == w{b}[5:0])) ? data{a} : kept{a}[w{b}[5:0]]",
             a + 1
         ),
+        LATCH => format!("kept{number}"),
         _ => operation(kind, a, b),
     };
     format!("assign w{number} = {right};\n")
@@ -135,6 +137,7 @@ fn on_edge(number: usize, cell: Cell) -> String {
             number + 1
         ),
         ADDRESS => format!("index{number} <= w{a}[5:0];\n"),
+        LATCH => format!("if (w{a}) kept{number} <= w{b};\n"),
         _ => String::new(),
     }
 }

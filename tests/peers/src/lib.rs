@@ -8,7 +8,7 @@ mod proved;
 mod second;
 
 pub use both::BOTH;
-pub use peer::{Bytes, Peer, Reply};
+pub use peer::{Bytes, Continue, Functional, Peer, Reply};
 #[cfg(feature = "proved")]
 pub use proved::PROVED;
 #[cfg(not(feature = "proved"))]

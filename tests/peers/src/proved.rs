@@ -1,7 +1,7 @@
 //! The proved implementation as a peer.
 
 use crate::peer::{implementation, Peer};
-use ::bindings::{calls, cell_calls};
+use ::bindings::{calls, cell_calls, functional_calls};
 use std::io::Write;
 use std::path::Path;
 use std::process::{Command, Stdio};

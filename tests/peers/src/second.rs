@@ -1,7 +1,7 @@
 //! The crate `second` as a peer.
 
 use crate::peer::{implementation, Peer};
-use ::second::{calls, cell_calls, hubrun, hubtext};
+use ::second::{calls, cell_calls, functional_calls, hubrun, hubtext};
 
 pub const SECOND: Peer = implementation! {
     name: "second",

@@ -4,7 +4,7 @@
 use bindings::exports::*;
 use peers::SECOND;
 use second::table::BUILT_IN;
-use values::{Cell, Format, Given};
+use values::{Cell, Circuit, Format, Given};
 
 /// The bytes of a reply, the first of which is 3 where a call was refused.
 const LENGTH: usize = 48;
@@ -22,7 +22,6 @@ struct Memory {
     program: Vec<u8>,
     table: Vec<u8>,
     words: Vec<u8>,
-    netlist: Vec<u8>,
     bytes: Vec<u8>,
     cells: Vec<Cell>,
     finish: u16,
@@ -31,26 +30,50 @@ struct Memory {
     lent_bytes: Vec<u8>,
     lent_cells: Vec<Cell>,
     lent_state: Vec<u8>,
+    plain: States,
+    functional: States,
+}
+
+/// A netlist, and states of it: begun ones and such as a start may be given to.
+#[derive(Clone, Debug, PartialEq, Eq)]
+struct States {
+    netlist: Vec<u8>,
+    lent_state: Vec<u8>,
     idle_state: Vec<u8>,
     compact_state: Vec<u8>,
     idle_compact: Vec<u8>,
 }
 
+impl States {
+    /// The states were begun from other words than those of the memory, so that a
+    /// beginning shows too; a start is given at the end of that run.
+    fn of(circuit: Circuit, netlist: Vec<u8>) -> States {
+        let [(lent_state, idle_state), (compact_state, idle_compact)] =
+            Format::BOTH.map(|format| {
+                let begin = SECOND.begin_of(circuit);
+                let begun = begin(format, &netlist, &[0; 544], &[LENT_BYTE; 3_000]);
+                let ended = SECOND.continue_of(circuit)(format, &netlist, 10, &begun.lent[0]);
+                (begun.lent[0].clone(), ended.lent[0].clone())
+            });
+        States {
+            netlist,
+            lent_state,
+            idle_state,
+            compact_state,
+            idle_compact,
+        }
+    }
+}
+
 impl Memory {
-    /// What every call accepts. The state was begun from other words, so that
-    /// a beginning shows too; a start is given at the end of that run.
+    /// What every call accepts.
     fn new() -> Memory {
         let compiled = (SECOND.compile)(Given::NOTHING, &PROGRAM, &[0; 512]);
         let shape = compiled.result.expect("case 2 compiles");
-        let netlist = compiled.lent[0].clone();
+        let functional = (SECOND.functional.compile)(None, &PROGRAM, &[0; 512]);
         let lent_cell = Cell::new(LENT_BYTE, LENT_BYTE, 0, 0);
         let count = usize::from(shape.cells);
-        let read = (SECOND.read_cells)(&netlist, 0, &vec![lent_cell; count]);
-        let [(begun, ended), (compact, idle)] = Format::BOTH.map(|format| {
-            let begun = (SECOND.begin)(format, &netlist, &[0; 544], &[LENT_BYTE; 2_000]);
-            let ended = (SECOND.continue_by)(format, &netlist, 10, &begun.lent[0]);
-            (begun.lent[0].clone(), ended.lent[0].clone())
-        });
+        let read = (SECOND.read_cells)(&compiled.lent[0], 0, &vec![lent_cell; count]);
         Memory {
             program: PROGRAM.to_vec(),
             table: BUILT_IN.file().to_vec(),
@@ -62,11 +85,9 @@ impl Memory {
             lent_file: vec![LENT_BYTE; 600],
             lent_bytes: vec![LENT_BYTE; 6 * (count + 1)],
             lent_cells: vec![lent_cell; count + 2],
-            lent_state: begun,
-            idle_state: ended,
-            compact_state: compact,
-            idle_compact: idle,
-            netlist,
+            lent_state: vec![LENT_BYTE; 3_000],
+            plain: States::of(Circuit::Imperative, compiled.lent[0].clone()),
+            functional: States::of(Circuit::Functional, functional.lent[0].clone()),
         }
     }
 }
@@ -91,6 +112,10 @@ const ANSWERING: &[(&str, Call)] = calls! { m:
     hub_reference(None, 0, 1, &m.program, &m.words, 10);
     hub_reference(Some(&m.table), 0, 8, &m.program, &m.words, 10);
     hub_check_cells(&m.cells, m.finish);
+    hub_check_functional(None, &m.program);
+    hub_check_functional(Some(&m.table), &m.program);
+    hub_reference_functional(None, &m.program, &m.words, 10);
+    hub_reference_functional(Some(&m.table), &m.program, &m.words, 10);
 };
 
 /// The functions that write to another slice.
@@ -102,20 +127,31 @@ const WRITING: &[(&str, Call)] = calls! { m:
     hub_compile_text(None, 0, 1, TEXT, &mut m.lent_file);
     hub_compile_text(Some(&m.table), 0, 8, TEXT, &mut m.lent_file);
     hub_write(1, &m.bytes, m.finish, &mut m.lent_file);
-    hub_read(&m.netlist, &mut m.lent_bytes);
-    hub_begin(&m.netlist, &m.words, &mut m.lent_state);
-    hub_continue(&m.netlist, &mut m.lent_state, 1);
-    hub_start(&m.netlist, &mut m.idle_state);
-    hub_begin_compact(&m.netlist, &m.words, &mut m.compact_state);
-    hub_continue_compact(&m.netlist, &mut m.compact_state, 1);
-    hub_start_compact(&m.netlist, &mut m.idle_compact);
+    hub_read(&m.plain.netlist, &mut m.lent_bytes);
+    hub_begin(&m.plain.netlist, &m.words, &mut m.plain.lent_state);
+    hub_continue(&m.plain.netlist, &mut m.plain.lent_state, 1);
+    hub_start(&m.plain.netlist, &mut m.plain.idle_state);
+    hub_begin_compact(&m.plain.netlist, &m.words, &mut m.plain.compact_state);
+    hub_continue_compact(&m.plain.netlist, &mut m.plain.compact_state, 1);
+    hub_start_compact(&m.plain.netlist, &mut m.plain.idle_compact);
     hub_run_program(None, 0, 1, &m.program, &m.words, 10, &mut m.lent_file, &mut m.lent_state);
     hub_run_program(Some(&m.table), 0, 8, &m.program, &m.words, 10, &mut m.lent_file, &mut m.lent_state);
     hub_run_text(None, 0, 1, TEXT, &m.words, 10, &mut m.lent_file, &mut m.lent_state);
     hub_run_text(Some(&m.table), 0, 8, TEXT, &m.words, 10, &mut m.lent_file, &mut m.lent_state);
-    hub_run_netlist(&m.netlist, &m.words, 10, &mut m.lent_state);
+    hub_run_netlist(&m.plain.netlist, &m.words, 10, &mut m.plain.lent_state);
     hub_write_cells(8, &m.cells, m.finish, &mut m.lent_file);
-    hub_read_cells(&m.netlist, 2, &mut m.lent_cells);
+    hub_read_cells(&m.plain.netlist, 2, &mut m.lent_cells);
+    hub_compile_functional(None, &m.program, &mut m.lent_file);
+    hub_compile_functional(Some(&m.table), &m.program, &mut m.lent_file);
+    hub_begin_functional(&m.functional.netlist, &m.words, &mut m.functional.lent_state);
+    hub_continue_functional(&m.functional.netlist, &mut m.functional.lent_state, 1);
+    hub_start_functional(&m.functional.netlist, &mut m.functional.idle_state);
+    hub_begin_functional_compact(&m.functional.netlist, &m.words, &mut m.functional.compact_state);
+    hub_continue_functional_compact(&m.functional.netlist, &mut m.functional.compact_state, 1);
+    hub_start_functional_compact(&m.functional.netlist, &mut m.functional.idle_compact);
+    hub_run_functional(&m.functional.netlist, &m.words, 10, &mut m.functional.lent_state);
+    hub_run_functional_program(None, &m.program, &m.words, 10, &mut m.lent_file, &mut m.lent_state);
+    hub_run_functional_program(Some(&m.table), &m.program, &m.words, 10, &mut m.lent_file, &mut m.lent_state);
 };
 
 #[test]

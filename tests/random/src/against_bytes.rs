@@ -5,6 +5,7 @@ use crate::against_peer::{Pair, DAMAGED};
 use crate::damage;
 use crate::lend::*;
 use crate::xorshift::Random;
+use second::netfile::MOST_CELLS;
 use values::{Cell, Refusal};
 
 /// Behind so many cells and a few more, numbers that are moved wrap.
@@ -32,7 +33,8 @@ impl Pair<'_> {
     /// Reading in front, which gives the cells of the six bytes. Gives those of
     /// an accepted file, and its finish.
     fn same_cells_read(&self, file: &[u8]) -> Result<Option<(Vec<Cell>, u16)>, String> {
-        let (room, byte_room) = (lent_cells(MOST_CELLS / 6), lent(MOST_CELLS));
+        let most = most_cells(file.len());
+        let (room, byte_room) = (lent_cells(most), lent(6 * most));
         let read = self.same("read_cells", &[&room], |peer| {
             (peer.read_cells)(file, 0, &room)
         })?;
@@ -86,7 +88,7 @@ impl Pair<'_> {
         let moved = self.same("renumber", &[], |peer| {
             (peer.renumber)(at, end, at as u16, &list)
         })?;
-        let expected = if end <= 1_024 { behind } else { &list };
+        let expected = if end <= MOST_CELLS { behind } else { &list };
         if moved.lent[0] != expected {
             return Err("renumber: not the cells that were read behind others".to_string());
         }
@@ -132,7 +134,7 @@ impl Pair<'_> {
 /// list of them takes time.
 fn place(random: &mut Random) -> usize {
     match random.below(40) {
-        0 => WRAPPING + random.below(40),
+        0 => random.pick(&[WRAPPING, MOST_CELLS - 60]) + random.below(40),
         1..=4 => 0,
         5..=20 => random.between(1, 30),
         _ => random.between(31, 2_000),

@@ -1,25 +1,31 @@
-//! A peer's compact states beside its full ones: a compiled program, begun alike
-//! and given the same calls, refused ones among them, answers alike, and after
-//! every call the compact state is the full one with a number for each line. So
-//! wires, now and an instant ago, words and the number in flight are the same, no
-//! line has two pulses on their way, and refusal 26 never comes up. With longer
-//! pulses there is no compact state: refusal 27.
+//! A peer's compact states beside its full ones: the circuit of a program, of either
+//! kind, begun alike and given the same calls, refused ones among them, answers alike,
+//! and after every call the compact state is the full one with a number for each line.
+//! So wires, now and an instant ago, words and the number in flight are the same, no
+//! line has two pulses on their way, and refusal 26 never comes up. With longer pulses
+//! there is no compact state: refusal 27.
 
 use crate::formats::{compacted, instant_of};
-use crate::job::{Ask, Call, Job, Room};
+use crate::job::{Ask, Call, Job, Mode, Room};
 use crate::lend::*;
 use peers::{Peer, Reply};
 use second::cells::Netlist;
 use second::netfile;
-use values::{Answer, Format, Refusal};
+use values::{Answer, Circuit, Format, Refusal};
 
 /// So many instants after a beginning and after each call are gone through one
 /// by one, too.
 const SINGLE: usize = 8;
 
 /// Compares, and tells how many calls on compact states it made.
-pub fn compare(peer: &Peer, job: &Job) -> Result<u64, String> {
-    let compiled = (peer.compile)(job.given(), &job.program, &lent(MOST_FILE));
+pub fn compare(peer: &Peer, circuit: Circuit, job: &Job) -> Result<u64, String> {
+    let compiled = match circuit {
+        Circuit::Imperative => (peer.compile)(job.given(), &job.program, &lent(MOST_FILE)),
+        Circuit::Functional => {
+            let room = lent(MOST_FUNCTIONAL_FILE);
+            (peer.functional.compile)(job.lent_table(), &job.program, &room)
+        }
+    };
     let Ok(shape) = compiled.result else {
         return Ok(0);
     };
@@ -30,13 +36,14 @@ pub fn compare(peer: &Peer, job: &Job) -> Result<u64, String> {
     }
     let mut runs = Runs {
         peer,
+        circuit,
         file,
         netlist: &netlist,
         states: Format::BOTH.map(|format| lent(state_length(format, netlist.cells.len()))),
         calls: 0,
     };
     runs.both("begin", |format, state| {
-        (peer.begin)(format, file, &job.words, state)
+        peer.begin_of(circuit)(format, file, &job.words, state)
     })?;
     if job.words.len() < WORDS {
         return Ok(runs.calls);
@@ -73,6 +80,7 @@ pub fn no_compact_state(
 /// A run of a netlist, on a state of each format.
 struct Runs<'a> {
     peer: &'a Peer,
+    circuit: Circuit,
     file: &'a [u8],
     netlist: &'a Netlist,
     /// The full one and the compact one.
@@ -84,9 +92,10 @@ struct Runs<'a> {
 impl Runs<'_> {
     fn call(&mut self, name: &str, Call { ask, room }: Call) -> Result<(), String> {
         let (peer, file, instant) = (self.peer, self.file, instant_of(&self.states[0]));
+        let circuit = self.circuit;
         self.both(&format!("{name}, {ask:?}"), |format, state| {
             let buffer = lent_with(state, room.around(state.len()));
-            ask.of(peer, format, file, instant, &buffer)
+            ask.of(peer, Mode::new(circuit, format), file, instant, &buffer)
         })
     }
 

@@ -5,12 +5,12 @@
 use crate::against_text;
 use crate::damage;
 use crate::formats::instant_of;
-use crate::job::{Ask, Call, Job, MOST_INSTANT};
+use crate::job::{Ask, Call, Job, Mode, MODES, MOST_INSTANT};
 use crate::lend::*;
 use crate::xorshift::Random;
 use peers::{Peer, Reply};
 use std::fmt::Debug;
-use values::{Format, Refusal, Shape};
+use values::{Circuit, Format, Refusal, Shape};
 
 /// Damaged netlists, cells and states for each job.
 pub const DAMAGED: usize = 4;
@@ -58,19 +58,21 @@ impl Pair<'_> {
     ) -> Result<(), String> {
         let random = &mut Random::new(damage);
         if let Some(shape) = self.same_reading(file, random)? {
-            for format in Format::BOTH {
-                let length = state_length(format, shape.cells.into());
-                self.same_calls(format, file, words, calls, length, random)?;
+            for mode in MODES {
+                let length = state_length(mode.format, shape.cells.into());
+                self.same_calls(mode, file, words, calls, length, random)?;
             }
         }
         for _ in 0..DAMAGED {
             let damaged = damage::netlist(file, random);
             self.same_reading(&damaged, random)?;
             let n = random.below(400) as u32;
-            let state = lent(MOST_STATE);
-            self.same("run_netlist", &[&state], |peer| {
-                (peer.run_netlist)(&damaged, words, n, &state)
-            })?;
+            let state = lent(state_length(Format::Full, most_cells(damaged.len())));
+            for circuit in Circuit::BOTH {
+                self.same(&format!("run_netlist, {circuit:?}"), &[&state], |peer| {
+                    peer.run_netlist_of(circuit)(&damaged, words, n, &state)
+                })?;
+            }
         }
         self.compare_cells(file, random)
     }
@@ -78,11 +80,12 @@ impl Pair<'_> {
     /// Reading a file, and writing its cells, also damaged ones. Gives the
     /// shape of an accepted file.
     fn same_reading(&self, file: &[u8], random: &mut Random) -> Result<Option<Shape>, String> {
-        let short = lent(random.below(6_200));
+        let most = 6 * most_cells(file.len());
+        let short = lent(random.below(most + 100));
         self.same("read_netlist", &[&short], |peer| {
             (peer.read_netlist)(file, &short)
         })?;
-        let room = lent(MOST_CELLS);
+        let room = lent(most);
         let read = self.same("read_netlist", &[&room], |peer| {
             (peer.read_netlist)(file, &room)
         })?;
@@ -90,7 +93,7 @@ impl Pair<'_> {
             return Ok(None);
         };
         let mut cells = read.lent[0][..6 * shape.cells as usize].to_vec();
-        let file_room = lent(random.pick(&[511, 512, 3_584, 6_656]));
+        let file_room = lent(random.pick(&[511, 512, 3_584, file.len()]));
         for _ in 0..DAMAGED {
             let pulse = damage::pulse(random);
             self.same("write_netlist", &[&file_room], |peer| {
@@ -106,7 +109,7 @@ impl Pair<'_> {
     /// or at another instant.
     fn same_calls(
         &self,
-        format: Format,
+        mode: Mode,
         file: &[u8],
         words: &[u8],
         calls: &[Call],
@@ -115,31 +118,31 @@ impl Pair<'_> {
     ) -> Result<(), String> {
         let room = lent(length + random.pick(&[0, 1, 500]));
         let begun = self.same("begin", &[&room], |peer| {
-            (peer.begin)(format, file, words, &room)
+            peer.begin_of(mode.circuit)(mode.format, file, words, &room)
         })?;
         if begun.result.is_err() {
-            return self.same_on(format, "not begun", file, 1, &room);
+            return self.same_on(mode, "not begun", file, 1, &room);
         }
         let mut state = begun.lent[0][..length].to_vec();
         for call in calls {
             let buffer = lent_with(&state, call.room.around(length));
             let instant = instant_of(&state);
-            let name = format!("{:?}, {format:?}", call.ask);
+            let name = format!("{:?}, {mode:?}", call.ask);
             let reply = self.same(&name, &[&buffer], |peer| {
-                call.ask.of(peer, format, file, instant, &buffer)
+                call.ask.of(peer, mode, file, instant, &buffer)
             })?;
             if let Some(left) = reply.lent[0].get(..length) {
                 state.copy_from_slice(left);
             }
         }
         for _ in 0..DAMAGED {
-            let damaged = damage::state(format, file, &state, random);
+            let damaged = damage::state(mode.format, file, &state, random);
             let n = random.below(600) as u32;
-            self.same_on(format, "damaged", file, n, &damaged)?;
+            self.same_on(mode, "damaged", file, n, &damaged)?;
             let instant = MOST_INSTANT - 2 + random.below(4) as u32;
             state[..4].copy_from_slice(&instant.to_le_bytes());
             self.same_on(
-                format,
+                mode,
                 "near the last instant",
                 file,
                 random.below(3) as u32,
@@ -152,15 +155,15 @@ impl Pair<'_> {
     /// A continuing and a start on a state of any origin.
     fn same_on(
         &self,
-        format: Format,
+        mode: Mode,
         which: &str,
         file: &[u8],
         n: u32,
         state: &[u8],
     ) -> Result<(), String> {
         for ask in [Ask::Go(n), Ask::Start] {
-            self.same(&format!("{ask:?}, {format:?}, {which}"), &[state], |peer| {
-                ask.of(peer, format, file, instant_of(state), state)
+            self.same(&format!("{ask:?}, {mode:?}, {which}"), &[state], |peer| {
+                ask.of(peer, mode, file, instant_of(state), state)
             })?;
         }
         Ok(())

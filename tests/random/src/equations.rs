@@ -72,6 +72,8 @@ impl Step<'_> {
             UNLESS => u16::from(now(a) == 1 && now(b) == 0),
             MERGE | RETURN => u16::from(self.puts_out(number)),
             MEMORY => self.memory(number, a, b),
+            LATCH if self.ago(a) == 1 => self.ago(b),
+            LATCH => self.ago(number as u16),
             GATE => now(a) * now(b),
             ARRAY | ADDRESS => 0,
             READ => self.element(self.netlist.cells[usize::from(a)].delay, now(b)),

@@ -7,7 +7,7 @@ use crate::tables::{self, Table};
 use crate::xorshift::Random;
 use peers::{Peer, Reply};
 use second::table::BUILT_IN;
-use values::{Answer, Format, Given, Refusal};
+use values::{Answer, Circuit, Format, Given, Refusal, Table as Lent};
 
 /// The lengths that a pulse may have, the first as often as all others together,
 /// and some that it may not have.
@@ -42,21 +42,45 @@ impl Ask {
         }
     }
 
-    /// Asks it of a peer, on a state of this format and instant.
+    /// Asks it of a peer, on a state of this instant.
     pub fn of(
         self,
         peer: &Peer,
-        format: Format,
+        mode: Mode,
         file: &[u8],
         instant: u32,
         state: &[u8],
     ) -> Reply<Answer> {
+        let Mode { circuit, format } = mode;
         match self {
-            Ask::Start => (peer.start)(format, file, state),
-            _ => (peer.continue_by)(format, file, self.most(instant), state),
+            Ask::Start => peer.start_of(circuit)(format, file, state),
+            _ => peer.continue_of(circuit)(format, file, self.most(instant), state),
         }
     }
 }
+
+/// The circuit that a run is of, and the format of its state.
+#[derive(Clone, Copy, Debug)]
+pub struct Mode {
+    pub circuit: Circuit,
+    pub format: Format,
+}
+
+impl Mode {
+    pub const fn new(circuit: Circuit, format: Format) -> Mode {
+        Mode { circuit, format }
+    }
+}
+
+pub const PLAIN: [Mode; 2] = [
+    Mode::new(Circuit::Imperative, Format::Full),
+    Mode::new(Circuit::Imperative, Format::Compact),
+];
+pub const FUNCTIONAL: [Mode; 2] = [
+    Mode::new(Circuit::Functional, Format::Full),
+    Mode::new(Circuit::Functional, Format::Compact),
+];
+pub const MODES: [Mode; 4] = [PLAIN[0], PLAIN[1], FUNCTIONAL[0], FUNCTIONAL[1]];
 
 #[derive(Clone, Copy, Debug)]
 pub enum Room {
@@ -138,10 +162,15 @@ impl Job {
         }
     }
 
+    /// The table that a peer is given beside its program.
+    pub fn lent_table(&self) -> Lent<'_> {
+        self.table.as_ref().map(|table| &table.bytes[..])
+    }
+
     /// What a peer is given beside its program.
     pub fn given(&self) -> Given<'_> {
         Given {
-            table: self.table.as_ref().map(|table| &table.bytes[..]),
+            table: self.lent_table(),
             procedures: self.procedures,
             pulse: self.pulse,
         }

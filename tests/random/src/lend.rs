@@ -2,14 +2,19 @@
 
 use values::{Cell, Format};
 
-/// The longest netlist file, 13 blocks.
+/// Room for the netlist file of any program's imperative circuit, and for its full
+/// state: it has fewer than 1,024 cells.
 pub const MOST_FILE: usize = 6656;
-
-/// The cells of a netlist file, six bytes for each of 1,024.
-pub const MOST_CELLS: usize = 6144;
-
-/// The longest state, of 1,024 cells.
 pub const MOST_STATE: usize = state_length(Format::Full, 1_024);
+
+/// The same of its functional circuit, which has fewer than 7,140.
+pub const MOST_FUNCTIONAL_FILE: usize = 512 * 85;
+pub const MOST_FUNCTIONAL_STATE: usize = state_length(Format::Full, 7_140);
+
+/// How many cells a file of so many bytes may have.
+pub const fn most_cells(file: usize) -> usize {
+    84 * (file / 512)
+}
 
 /// The bytes of start words, and those among them of the arrays, which stand
 /// last, as in a state.

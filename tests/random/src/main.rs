@@ -1,4 +1,4 @@
-//! Random comparison: circuits with rules, compact states with full ones, texts
+//! Random comparison: circuits of both kinds with rules, compact states with full ones, texts
 //! with programs, simulators with equations, netlists as cells with netlists as
 //! bytes, peers with each other, all of it under random tables.
 //! `random [--seed S] [--count C]`
@@ -9,11 +9,13 @@
 mod against_bytes;
 mod against_equations;
 mod against_full;
+mod against_functional;
 mod against_peer;
 mod against_rules;
 mod against_tables;
 mod against_text;
 mod damage;
+mod due;
 mod equations;
 #[cfg(test)]
 mod faulty;
@@ -22,6 +24,7 @@ mod formats;
 mod generate;
 mod job;
 mod lend;
+mod list;
 mod listing;
 mod minimise;
 mod netlists;

@@ -9,16 +9,17 @@ use second::netfile;
 use values::Cell;
 
 const FIXED: [u8; 3] = [START, GROUND, CONSTANT];
+const OR_OF_WORDS: u8 = 7;
 
 /// The kinds of the cells that are neither fixed nor memories, by weight: with
 /// fewer ors and delays, pulses would soon die out.
-const KINDS: [(u8, usize); 16] = [
+const KINDS: [(u8, usize); 17] = [
     (CONSTANT, 1),
     (3, 1),
     (4, 1),
     (5, 1),
     (6, 1),
-    (7, 1),
+    (OR_OF_WORDS, 1),
     (8, 1),
     (9, 1),
     (DELAY, 6),
@@ -29,20 +30,32 @@ const KINDS: [(u8, usize); 16] = [
     (RETURN, 3),
     (GATE, 2),
     (READ, 4),
+    (LATCH, 3),
 ];
 
-/// The file of a netlist with mostly few and now and then 1,024 cells, for pulses
-/// of any length.
+/// How many of the last cells carry words, as those of a functional circuit do: none,
+/// or the sixteen that a functional run asks for, or one too few.
+const LASTS: [usize; 6] = [0, 0, 16, 16, 16, 15];
+
+/// The file of a netlist with mostly few and now and then 1,000 cells or some
+/// thousands, for pulses of any length.
 pub fn netlist(random: &mut Random) -> Vec<u8> {
     let free = match random.below(20) {
+        0 if random.once_in(6) => random.between(998, 4_000),
         0 => random.between(200, 997),
         1 => 997,
         _ => random.between(0, 110),
     };
-    let kinds = kinds(free, random);
-    let cells = (0..kinds.len())
+    let mut kinds = kinds(free, random);
+    let lasts = random.pick(&LASTS);
+    kinds.extend(vec![OR_OF_WORDS; lasts]);
+    let first_last = kinds.len() - lasts;
+    let mut cells: Vec<Cell> = (0..kinds.len())
         .map(|number| cell(&kinds, number, random))
         .collect();
+    for last in &mut cells[first_last..] {
+        last.b = ZERO;
+    }
     let finish = wire(&kinds, kinds.len(), Sort::Control, random);
     netfile::write(&Netlist {
         pulse: job::pulse(random),

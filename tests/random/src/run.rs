@@ -4,15 +4,16 @@
 //! be had again.
 
 use crate::against_peer::Pair;
-use crate::against_rules::{self, Seen};
 use crate::job::{self, Job};
+use crate::list::Seen;
 use crate::tally::Tally;
 use crate::xorshift::Random;
-use crate::{against_equations, against_full, against_tables, against_text};
+use crate::{against_equations, against_full, against_functional, against_rules};
+use crate::{against_tables, against_text};
 use crate::{generate, listing, minimise, netlists};
 use peers::{Peer, PROVED, SECOND};
 use second::netfile;
-use values::Format;
+use values::{Circuit, Format};
 
 const LEFT: Peer = SECOND;
 const RIGHT: Peer = PROVED;
@@ -27,7 +28,7 @@ pub fn run(seed: u64, count: u64) -> Result<Tally, String> {
         let job_seed = Random::new(seed).bits().wrapping_add(number);
         let job = Job::of_seed(job_seed);
         match compare(&job) {
-            Ok((seen, compact)) => tally.add(&job, seen, compact),
+            Ok((seen, functional, compact)) => tally.add(&job, seen, functional, compact),
             Err(what) => return Err(report(&job, number, &what)),
         }
         if number % PROGRAMS_FOR_NETLIST == 0 {
@@ -41,8 +42,9 @@ pub fn run(seed: u64, count: u64) -> Result<Tally, String> {
 
 /// A program: the peers with each other, and each by itself, calls with the
 /// table, texts with the program, compact states with full ones and the circuit
-/// with the rules. Tells how many calls there were on compact states.
-fn compare(job: &Job) -> Result<(Seen, u64), String> {
+/// with the rules, for the functional one with each compiler's netlist on the other's
+/// simulator. Tells how many calls there were on compact states.
+fn compare(job: &Job) -> Result<(Seen, Seen, u64), String> {
     let pair = Pair {
         left: &LEFT,
         right: &RIGHT,
@@ -52,10 +54,25 @@ fn compare(job: &Job) -> Result<(Seen, u64), String> {
     against_tables::compare(&RIGHT, job)?;
     against_text::compare(&LEFT, job)?;
     against_text::compare(&RIGHT, job)?;
-    against_full::compare(&LEFT, job)?;
-    let compact = against_full::compare(&RIGHT, job)?;
+    let mut compact = 0;
+    for circuit in circuits(job) {
+        against_full::compare(&LEFT, *circuit, job)?;
+        compact += against_full::compare(&RIGHT, *circuit, job)?;
+    }
     against_rules::compare(&LEFT, job)?;
-    Ok((against_rules::compare(&RIGHT, job)?, compact))
+    let imperative = against_rules::compare(&RIGHT, job)?;
+    against_functional::compare(&RIGHT, &LEFT, job)?;
+    let functional = against_functional::compare(&LEFT, &RIGHT, job)?;
+    Ok((imperative, functional, compact))
+}
+
+/// The circuits of which compact states are compared with full ones: a functional one
+/// has many more cells, and its turn comes once in eight.
+fn circuits(job: &Job) -> &'static [Circuit] {
+    match job.damage % 8 {
+        0 => &Circuit::BOTH,
+        _ => &[Circuit::Imperative],
+    }
 }
 
 /// A random netlist: the peers with each other, and the states of each with
@@ -102,7 +119,7 @@ fn report(job: &Job, number: u64, what: &str) -> String {
 #[cfg(test)]
 mod tests {
     use super::*;
-    use crate::against_rules::Starts;
+    use crate::list::Starts;
 
     #[test]
     fn a_short_run_agrees_and_sees_every_outcome() {
@@ -115,9 +132,12 @@ mod tests {
         let rarest = |starts: Starts| starts.early.min(starts.at_once).min(starts.late);
         assert!(rarest(short) >= 500, "{tally}");
         assert!(rarest(long) >= 60 && long.at_the_finish >= 500, "{tally}");
+        let handed = tally.functional.into_iter().min();
+        let handed_on = handed.unwrap_or(0).min(rarest(tally.functional_starts));
+        assert!(handed_on >= 500, "{tally}");
         let pulses = tally.pulses.into_iter().fold(tally.no_pulses, u64::min);
         assert!(pulses >= 60, "{tally}");
         assert_eq!(tally.netlists, 125);
-        assert!(tally.compact >= 100_000 && tally.crowded >= 100, "{tally}");
+        assert!(tally.compact >= 100_000 && tally.crowded >= 60, "{tally}");
     }
 }

@@ -1,7 +1,7 @@
 //! What a run has seen.
 
-use crate::against_rules::{Outcome, Seen, Starts};
 use crate::job::Job;
+use crate::list::{Outcome, Seen, Starts};
 use crate::texts::{has_arrays, has_calls, has_loops};
 use std::fmt::{Display, Formatter, Result};
 
@@ -22,6 +22,10 @@ pub struct Tally {
     pub no_pulses: u64,
     /// Starts with pulses of one instant, and with longer ones.
     pub starts: [Starts; 2],
+    /// Programs by what became of their functional circuits: ended, open, refused; and
+    /// the starts of these.
+    pub functional: [u64; 3],
+    pub functional_starts: Starts,
     /// Calls on compact states of programs, compared with full ones.
     pub compact: u64,
     pub netlists: u64,
@@ -31,7 +35,9 @@ pub struct Tally {
 
 impl Tally {
     /// Counts a program.
-    pub fn add(&mut self, job: &Job, seen: Seen, compact: u64) {
+    pub fn add(&mut self, job: &Job, seen: Seen, functional: Seen, compact: u64) {
+        self.functional[functional.outcome as usize] += 1;
+        self.functional_starts.add(functional.starts);
         self.compact += compact;
         self.nodes += job.program.len() / 4;
         self.tables += u64::from(job.table.is_some());
@@ -66,6 +72,8 @@ impl Display for Tally {
             pulses,
             no_pulses,
             starts: [short, long],
+            functional: [handed, running, turned_down],
+            functional_starts,
             compact,
             netlists,
             crowded,
@@ -78,6 +86,8 @@ impl Display for Tally {
         write!(text, "accepted with pulses of 1 to 8: {pulses:?}, ")?;
         write!(text, "{no_pulses} with others; starts: {short}; ")?;
         write!(text, "with longer pulses: {long}; ")?;
+        write!(text, "functional: {handed} ended, {running} open, ")?;
+        write!(text, "{turned_down} refused, starts: {functional_starts}; ")?;
         write!(text, "{compact} calls on compact states as on full ones; ")?;
         write!(text, "{netlists} netlists agree, {crowded} runs met 26")
     }

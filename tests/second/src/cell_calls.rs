@@ -3,9 +3,10 @@
 //! They refuse what the calls on bytes refuse, except for a length that is no
 //! whole number of cells, which a list of cells can't have.
 
-use crate::calls::{check_pulse, put, shape};
+use crate::calls::check_pulse;
 use crate::cells::moved;
 use crate::netfile;
+use crate::runs::{put, shape};
 use values::{Cell, Refusal, Shape};
 
 /// Checks a netlist: refusals 11 and 12.
@@ -34,7 +35,7 @@ pub fn read(file: &[u8], at: usize, cells: &mut [Cell]) -> Result<Shape, Refusal
 }
 
 /// Moves the cells from one number up to another, of six bytes each, so many
-/// places on. Tells whether the list has them; no netlist has more than 1,024.
+/// places on. Tells whether the list has them; no netlist has more than 16,384.
 pub fn renumber(cells: &mut [u8], from: usize, end: usize, by: u16) -> bool {
     if end > netfile::MOST_CELLS || end > cells.len() / Cell::LENGTH {
         return false;

@@ -27,8 +27,13 @@ pub const ARRAY: u8 = 42;
 pub const ADDRESS: u8 = 43;
 /// The element of an array at an index.
 pub const READ: u8 = 44;
+/// A word that is taken whenever the control wire is high, and kept.
+pub const LATCH: u8 = 45;
 
 pub const MEMORIES: usize = 16;
+
+/// Cell 2, which the or cells of a functional circuit's last words name.
+pub const ZERO: u16 = 2;
 
 #[derive(Clone, Debug, PartialEq, Eq)]
 pub struct Netlist {
@@ -45,6 +50,12 @@ impl Netlist {
         numbers
             .filter(|&cell| self.cells[cell].kind == MEMORY)
             .collect()
+    }
+
+    /// The sixteen last cells, which carry a functional circuit's last words.
+    pub fn lasts(&self) -> Vec<usize> {
+        let count = self.cells.len();
+        (count - MEMORIES..count).collect()
     }
 }
 
@@ -103,6 +114,7 @@ pub fn fields(kind: u8) -> Option<(Field, Field)> {
         MEMORY | ARRAY => Some((control, Earlier(Sort::Word))),
         ADDRESS => Some((Earlier(Sort::Word), Unused)),
         READ => Some((Now(Sort::Array), word)),
+        LATCH => Some((Earlier(Sort::Control), Earlier(Sort::Word))),
         _ => match Operator::of_kind(kind)? {
             Operator::Complement => Some((word, Unused)),
             _ => Some((word, word)),
@@ -140,6 +152,17 @@ pub fn check(netlist: &Netlist) -> Result<(), Refusal> {
         return Err(Refusal::new(12, finish));
     }
     Ok(())
+}
+
+/// The rule of refusal 12 that a functional run adds after all others: the last
+/// sixteen cells are ors of a word and cell 2.
+pub fn check_lasts(netlist: &Netlist) -> Result<(), Refusal> {
+    let is_last = |cell: Cell| cell.kind == Operator::Or.kind() && cell.b == ZERO;
+    let mut lasts = netlist.lasts().into_iter();
+    match lasts.find(|&number| !is_last(netlist.cells[number])) {
+        Some(number) => Err(Refusal::new(12, number)),
+        None => Ok(()),
+    }
 }
 
 fn is_good(cells: &[Cell], number: usize) -> bool {

@@ -1,9 +1,10 @@
-//! The check of a program: refusals 1 to 8, 22, 24 and 25, and the reading into
-//! trees.
+//! The check of a program: refusals 1 to 8, 22, 24, 25 and 28, and the reading
+//! into trees.
 //!
 //! The order is the paper's: the length and the number of procedures; each node
-//! by itself; the reading, which meets 5 and 6 on its way; the exits; the calls;
-//! the delays; the parallel nodes, for procedures and then for variables.
+//! by itself; the reading, which meets 5 and 6 on its way; for a functional
+//! circuit the kinds; the exits; the calls; the delays; the parallel nodes, for
+//! procedures and then for variables.
 
 use crate::kinds::{row, ExpressionKind, Kind, Row, StatementKind};
 use crate::program::{Expression, Form, Program, Statement};
@@ -28,13 +29,34 @@ pub fn check(
         return Err(Refusal::new(1, 0));
     }
     let nodes = nodes(bytes)?;
-    let program = read(&nodes, procedures, pulse)?;
+    checked(read(&nodes, procedures, pulse)?, times)
+}
+
+/// The program of a functional circuit, which has no procedures and pulses of one
+/// instant.
+pub fn check_functional(bytes: &[u8], times: &Times) -> Result<Program, Refusal> {
+    let nodes = nodes(bytes)?;
+    let program = read(&nodes, 0, 1)?;
+    check_kinds(&nodes)?;
+    checked(program, times)
+}
+
+/// What is asked of a program that has been read.
+fn checked(program: Program, times: &Times) -> Result<Program, Refusal> {
     check_exits(&program)?;
     check_calls(&program)?;
     check_delays(&program, times)?;
     check_shared(&program)?;
     check_parallels(&program)?;
     Ok(program)
+}
+
+/// Refusal 28, at the first node of a kind that came with a change request.
+fn check_kinds(nodes: &[Node]) -> Result<(), Refusal> {
+    match nodes.iter().position(|node| node.row.is_added()) {
+        Some(place) => Err(Refusal::new(28, place)),
+        None => Ok(()),
+    }
 }
 
 /// A node that is lawful by itself.

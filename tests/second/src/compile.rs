@@ -1,4 +1,4 @@
-//! Compiling: the published numbering of a program's circuit.
+//! Compiling to an imperative circuit: the published numbering.
 //!
 //! The cells come in the paper's order: three fixed ones, the delays, the
 //! clock ors, the memories, the arrays, the walks of the bodies and of the main
@@ -9,14 +9,8 @@ use crate::cells::*;
 use crate::contents::ARRAYS;
 use crate::operator::Operator;
 use crate::program::{Expression, Form, Program, Statement};
+use crate::wiring::{Sources, Wire, Wiring, GROUND_WIRE, START_WIRE};
 use values::Cell;
-
-/// The number of a cell, which is the number of its wire.
-type Wire = u16;
-
-const START_WIRE: Wire = 0;
-const GROUND_WIRE: Wire = 1;
-const ZERO_WIRE: Wire = 2;
 
 /// What is assigned to: the variables, then the arrays.
 const TARGETS: usize = MEMORIES + ARRAYS;
@@ -27,22 +21,21 @@ type Contributions = [Vec<Wire>; TARGETS];
 /// The netlist of a checked program.
 pub fn compile(program: &Program) -> Netlist {
     let pulse = program.pulse;
-    let mut cells = vec![
-        Cell::new(START, 0, 0, 0),
-        Cell::new(GROUND, 0, 0, 0),
-        Cell::new(CONSTANT, 0, 0, 0),
-    ];
-    let first_delay = cells.len() as Wire;
-    let (clocks, callers) = place_delays(program, &mut cells);
-    let clocks = join_all(&mut cells, OR, &clocks, GROUND_WIRE);
-    let first_memory = cells.len() as Wire;
+    let mut wiring = Wiring::new();
+    let first_delay = wiring.next();
+    let (clocks, callers) = place_delays(program, &mut wiring);
+    let clocks = join_all(&mut wiring, OR, &clocks, GROUND_WIRE);
+    let first_memory = wiring.next();
     for (target, clock) in clocks.into_iter().enumerate() {
-        place_target(&mut cells, target, clock);
+        place_target(&mut wiring, target, clock);
     }
     let mut walk = Walk {
-        cells,
+        wiring,
         next_delay: first_delay,
-        first_memory,
+        sources: Sources {
+            words: std::array::from_fn(|variable| first_memory + variable as Wire),
+            first_array: first_memory + MEMORIES as Wire,
+        },
         data: Contributions::default(),
         addresses: Contributions::default(),
         exits: Vec::new(),
@@ -53,34 +46,27 @@ pub fn compile(program: &Program) -> Netlist {
     }
     let finish = walk.statement(&program.main, START_WIRE);
     walk.join_gates();
-    let cells = walk.cells;
     Netlist {
         pulse,
-        cells,
+        cells: walk.wiring.cells,
         finish,
     }
 }
 
 /// Appends a memory, or the two cells of an array; data and address come later.
-fn place_target(cells: &mut Vec<Cell>, target: usize, clock: Wire) {
+fn place_target(wiring: &mut Wiring, target: usize, clock: Wire) {
     match target.checked_sub(MEMORIES) {
-        None => cells.push(Cell::new(MEMORY, 0, clock, 0)),
+        None => wiring.cell(MEMORY, clock, 0),
         Some(array) => {
-            cells.push(Cell::new(ARRAY, array as u8, clock, 0));
-            cells.push(Cell::new(ADDRESS, 0, 0, 0));
+            wiring.push(Cell::new(ARRAY, array as u8, clock, 0));
+            wiring.cell(ADDRESS, 0, 0)
         }
-    }
-}
-
-/// Appends a cell.
-fn push(cells: &mut Vec<Cell>, cell: Cell) -> Wire {
-    cells.push(cell);
-    (cells.len() - 1) as Wire
+    };
 }
 
 /// The delay cells in node order; gives each target's first delays, which are
 /// its clock pulses, and the delays of each procedure's callers.
-fn place_delays(program: &Program, cells: &mut Vec<Cell>) -> (Contributions, Vec<Vec<Wire>>) {
+fn place_delays(program: &Program, wiring: &mut Wiring) -> (Contributions, Vec<Vec<Wire>>) {
     let mut clocks = Contributions::default();
     let mut callers = vec![Vec::new(); program.bodies.len()];
     for statement in program.in_node_order() {
@@ -88,9 +74,9 @@ fn place_delays(program: &Program, cells: &mut Vec<Cell>) -> (Contributions, Vec
         if statement.delay == 0 {
             continue;
         }
-        let first = push(cells, Cell::new(DELAY, statement.delay, 0, 0));
+        let first = wiring.delay(statement.delay, 0);
         if let Some(target) = target(statement) {
-            push(cells, Cell::new(DELAY, program.pulse, first, 0));
+            wiring.delay(program.pulse, first);
             clocks[target].push(first);
         }
         if let Form::Call(procedure) = statement.form {
@@ -111,30 +97,29 @@ fn target(statement: &Statement) -> Option<usize> {
 
 /// Joins each target's wires by or cells; one without any has `none`.
 fn join_all(
-    cells: &mut Vec<Cell>,
+    wiring: &mut Wiring,
     or: u8,
     contributions: &Contributions,
     none: Wire,
 ) -> [Wire; TARGETS] {
-    std::array::from_fn(|target| join(cells, or, &contributions[target], none))
+    std::array::from_fn(|target| join(wiring, or, &contributions[target], none))
 }
 
 /// Joins wires by or cells, each the result so far with the next wire; where
 /// there are no wires, `none`.
-fn join(cells: &mut Vec<Cell>, or: u8, wires: &[Wire], none: Wire) -> Wire {
-    let joined = wires
-        .iter()
-        .copied()
-        .reduce(|so_far, next| push(cells, Cell::new(or, 0, so_far, next)));
+fn join(wiring: &mut Wiring, or: u8, wires: &[Wire], none: Wire) -> Wire {
+    let wires = wires.iter().copied();
+    let joined = wires.reduce(|so_far, next| wiring.cell(or, so_far, next));
     joined.unwrap_or(none)
 }
 
 /// The walk over the bodies and the main program. It meets statements in node order, so the delay
 /// cells, which were placed in that order, are taken one after another.
 struct Walk {
-    cells: Vec<Cell>,
+    wiring: Wiring,
     next_delay: Wire,
-    first_memory: Wire,
+    /// The memories and the arrays.
+    sources: Sources,
     data: Contributions,
     addresses: Contributions,
     /// The starts of the exits met so far of the innermost loop around.
@@ -145,7 +130,7 @@ struct Walk {
 
 impl Walk {
     fn cell(&mut self, kind: u8, a: Wire, b: Wire) -> Wire {
-        push(&mut self.cells, Cell::new(kind, 0, a, b))
+        self.wiring.cell(kind, a, b)
     }
 
     fn take_delay(&mut self) -> Wire {
@@ -155,49 +140,28 @@ impl Walk {
     }
 
     fn feed(&mut self, delay: Wire, from: Wire) {
-        self.cells[usize::from(delay)].a = from;
-    }
-
-    /// The cell of an array, behind the memories; that of its address is next.
-    fn array(&self, array: usize) -> Wire {
-        self.first_memory + (MEMORIES + 2 * array) as Wire
+        self.wiring.feed(delay, from);
     }
 
     /// The data ors, then the address ors, and what they are for.
     fn join_gates(&mut self) {
         let or = Operator::Or.kind();
-        let data = join_all(&mut self.cells, or, &self.data, ZERO_WIRE);
-        let addresses = join_all(&mut self.cells, or, &self.addresses, ZERO_WIRE);
-        let first_memory = usize::from(self.first_memory);
-        for (memory, data) in (first_memory..).zip(&data[..MEMORIES]) {
-            self.cells[memory].b = *data;
+        let data = join_all(&mut self.wiring, or, &self.data, ZERO);
+        let addresses = join_all(&mut self.wiring, or, &self.addresses, ZERO);
+        let cells = &mut self.wiring.cells;
+        for (memory, data) in self.sources.words.into_iter().zip(&data) {
+            cells[usize::from(memory)].b = *data;
         }
         for array in 0..ARRAYS {
-            let cell = usize::from(self.array(array));
-            self.cells[cell].b = data[MEMORIES + array];
-            self.cells[cell + 1].a = addresses[MEMORIES + array];
+            let cell = usize::from(self.sources.array(array));
+            cells[cell].b = data[MEMORIES + array];
+            cells[cell + 1].a = addresses[MEMORIES + array];
         }
     }
 
     /// The wire of an expression.
     fn expression(&mut self, e: &Expression) -> Wire {
-        match e {
-            Expression::Constant(n) => self.cell(CONSTANT, *n, 0),
-            Expression::Variable(variable) => self.first_memory + *variable as Wire,
-            Expression::Unary(operator, e) => {
-                let a = self.expression(e);
-                self.cell(operator.kind(), a, 0)
-            }
-            Expression::Binary(operator, e, f) => {
-                let a = self.expression(e);
-                let b = self.expression(f);
-                self.cell(operator.kind(), a, b)
-            }
-            Expression::Element(array, index) => {
-                let index = self.expression(index);
-                self.cell(READ, self.array(*array), index)
-            }
-        }
+        self.wiring.expression(e, &self.sources)
     }
 
     /// The finish wire of a statement with this start wire.
@@ -249,7 +213,7 @@ impl Walk {
 
     /// A body, which any of its callers starts.
     fn body(&mut self, body: &Statement, callers: &[Wire]) {
-        let start = join(&mut self.cells, OR, callers, GROUND_WIRE);
+        let start = join(&mut self.wiring, OR, callers, GROUND_WIRE);
         let finish = self.statement(body, start);
         self.returns.push(finish);
     }
@@ -328,6 +292,6 @@ impl Walk {
         let p_finish = self.statement(p, p_start);
         self.feed(delay, p_finish);
         let exits = std::mem::replace(&mut self.exits, around);
-        join(&mut self.cells, OR, &exits, GROUND_WIRE)
+        join(&mut self.wiring, OR, &exits, GROUND_WIRE)
     }
 }

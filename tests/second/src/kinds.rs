@@ -57,6 +57,15 @@ impl Row {
         }
     }
 
+    /// Whether document 01 doesn't have the kind.
+    pub fn is_added(&self) -> bool {
+        use {ExpressionKind::*, Kind::*, StatementKind::*};
+        matches!(
+            self.kind,
+            Expression(Element) | Statement(AssignElement | Loop | Exit | Call)
+        )
+    }
+
     /// The highest n: the last variable's number, the last array's, or any; that a
     /// called procedure is there is told by its program.
     pub fn most_n(&self) -> u16 {

@@ -3,8 +3,9 @@
 //! It exists to be compared with the proved implementation and shares nothing
 //! with it but the plain values that callers give and get. A value goes one way
 //! through these modules: text of a program, its bytes, tree, netlist, netlist
-//! file, wires, state bytes, answer. `calls` holds the calls that others use;
-//! what they lend and get back are bytes and numbers, and in `cell_calls` cells.
+//! file, wires, state bytes, answer. `calls` holds the calls that others use,
+//! `functional_calls` those on functional circuits; what they lend and get back
+//! are bytes and numbers, and in `cell_calls` cells.
 
 pub mod block;
 pub mod calls;
@@ -14,6 +15,8 @@ pub mod check;
 pub mod compile;
 pub mod contents;
 pub mod fanout;
+pub mod functional;
+pub mod functional_calls;
 pub mod hubrun;
 pub mod hubtext;
 pub mod kinds;
@@ -22,6 +25,7 @@ pub mod netfile;
 pub mod operator;
 pub mod program;
 pub mod rules;
+mod runs;
 pub mod simulate;
 pub mod state;
 pub mod table;
@@ -30,4 +34,5 @@ mod text_grammar;
 mod text_reading;
 mod text_words;
 pub mod wheel;
+mod wiring;
 pub mod word;

@@ -6,10 +6,10 @@ use crate::word::{number2, put2};
 use std::ops::RangeInclusive;
 use values::{Cell, Refusal};
 
-const MOST_BLOCKS: usize = 13;
+const MOST_BLOCKS: usize = 196;
 const CELLS_IN_BLOCK: usize = (BLOCK - HEADER) / Cell::LENGTH;
 const LEAST_CELLS: usize = 27;
-pub const MOST_CELLS: usize = 1024;
+pub const MOST_CELLS: usize = 16_384;
 
 /// The lengths that a pulse may have.
 pub const PULSES: RangeInclusive<u8> = 1..=8;

@@ -1,15 +1,29 @@
-//! The program's own rules, run on its trees; nothing here knows of a circuit.
+//! The program's own rules, run on its trees; nothing here knows of a wire. Of
+//! the circuit only its times are asked for.
 
 use crate::contents::{Arrays, Contents};
 use crate::program::{array_set, variable_set, Expression, Form, Program, Set, Statement};
+use values::Circuit;
 
-/// The end of a program run from these words, if it is no later than `budget`.
-pub fn run(program: &Program, contents: Contents, budget: u32) -> Option<Moment> {
+/// The end of a program run from these words, with the times of a circuit, if it
+/// is no later than `budget`.
+pub fn run(program: &Program, circuit: Circuit, contents: Contents, budget: u32) -> Option<Moment> {
     let begin = Moment {
         instant: 0,
         contents,
     };
-    let rules = Rules { program, budget };
+    let rules = Rules {
+        program,
+        writing: match circuit {
+            Circuit::Imperative => program.pulse.into(),
+            Circuit::Functional => 0,
+        },
+        latching: match circuit {
+            Circuit::Imperative => 0,
+            Circuit::Functional => 1,
+        },
+        budget,
+    };
     rules.end(&program.main, begin).ok()
 }
 
@@ -32,6 +46,11 @@ enum Stop {
 
 struct Rules<'a> {
     program: &'a Program,
+    /// The instants that an assignment takes beside its delay.
+    writing: u32,
+    /// The instants that the words of a loop take to be latched: in while before
+    /// each test's delay, in repeat before each run of P.
+    latching: u32,
     budget: u32,
 }
 
@@ -44,7 +63,7 @@ impl Rules<'_> {
             Form::Ok => Ok(now),
             Form::Tick => self.wait(now, d),
             Form::Assign(variable, e) => {
-                let mut end = self.wait(now, d + self.pulse())?;
+                let mut end = self.wait(now, d + self.writing)?;
                 end.contents.words[*variable] = e.value(&now.contents);
                 Ok(end)
             }
@@ -58,7 +77,7 @@ impl Rules<'_> {
             Form::Repeat(e, p) => self.end_of_repeat(e, p, d, now),
             Form::AssignElement(array, index, value) => {
                 let [index, value] = [index, value].map(|e| e.value(&now.contents));
-                let mut end = self.wait(now, d + self.pulse())?;
+                let mut end = self.wait(now, d + self.writing)?;
                 end.contents.arrays.put(*array, index, value);
                 Ok(end)
             }
@@ -69,11 +88,6 @@ impl Rules<'_> {
                 self.end(body, self.wait(now, d)?)
             }
         }
-    }
-
-    /// The instants that an assignment takes beside its delay.
-    fn pulse(&self) -> u32 {
-        self.program.pulse.into()
     }
 
     /// The same words `d` instants later, unless the budget is then exceeded.
@@ -106,7 +120,7 @@ impl Rules<'_> {
     fn end_of_while(&self, e: &Expression, p: &Statement, d: u32, mut now: Moment) -> Course {
         loop {
             let again = holds(e, now);
-            now = self.wait(now, d)?;
+            now = self.wait(now, self.latching + d)?;
             if !again {
                 return Ok(now);
             }
@@ -116,7 +130,7 @@ impl Rules<'_> {
 
     fn end_of_repeat(&self, e: &Expression, p: &Statement, d: u32, mut now: Moment) -> Course {
         loop {
-            now = self.end(p, now)?;
+            now = self.end(p, self.wait(now, self.latching)?)?;
             let done = holds(e, now);
             now = self.wait(now, d)?;
             if done {

@@ -2,8 +2,8 @@
 //!
 //! It doesn't evaluate every cell at every instant. A cell is woken when
 //! something that its equation names has changed: an input at the same
-//! instant, the input of a delay d instants ago, the held bits or the output of
-//! a merge, a word of the array that it reads. A cell that isn't woken has the
+//! instant, the input of a delay d instants ago, that of a latch an instant ago,
+//! the held bits or the output of a merge, a word of the array that it reads. A cell that isn't woken has the
 //! value that it had. Within an instant cells are taken in rising order, and
 //! inputs of the same instant are lower, so each is evaluated once.
 
@@ -13,7 +13,7 @@ use crate::fanout::Fanout;
 use crate::line::{Instant, Line};
 use crate::operator::Operator;
 use crate::wheel::Wheel;
-use values::{Cell, Format, Words};
+use values::{Cell, Circuit, Format, Words};
 
 /// What a cell shows of itself between instants.
 #[derive(Clone, Debug)]
@@ -242,10 +242,14 @@ impl<'a> Simulator<'a> {
         self.instant as u32
     }
 
-    /// The words of the memories.
-    pub fn words(&self) -> Words {
-        let memories = self.netlist.memories();
-        std::array::from_fn(|variable| self.wires[memories[variable]].now)
+    /// The words that a run's answer shows: those of the memories, or of the last
+    /// sixteen cells.
+    pub fn words(&self, circuit: Circuit) -> Words {
+        let shown = match circuit {
+            Circuit::Imperative => self.netlist.memories(),
+            Circuit::Functional => self.netlist.lasts(),
+        };
+        std::array::from_fn(|variable| self.wires[shown[variable]].now)
     }
 
     /// The words of the arrays.
@@ -300,6 +304,9 @@ impl<'a> Simulator<'a> {
                 self.wheel.wake(delay, due);
             }
         }
+        for &latch in &self.fanout.latches[cell] {
+            self.wheel.wake(latch, self.instant + 1);
+        }
     }
 
     fn wake_readers(&mut self, cell: usize) {
@@ -323,7 +330,9 @@ impl<'a> Simulator<'a> {
             MERGE => self.merge(cell, Merge::step, a, b),
             RETURN if self.long() => self.merge(cell, Merge::long_step_of_call, a, b),
             RETURN => self.merge(cell, Merge::step_of_call, a, b),
-            MEMORY => self.latch(cell, a, b),
+            MEMORY if self.falls(a) => self.ago(b),
+            LATCH if self.ago(a) == 1 => self.ago(b),
+            MEMORY | LATCH => self.wires[cell].now,
             GATE if self.now(a) == 1 => self.now(b),
             GATE => 0,
             ARRAY => self.write(cell, a, b),
@@ -360,15 +369,6 @@ impl<'a> Simulator<'a> {
             self.wheel.wake(cell, self.instant + 1);
         }
         u16::from(output)
-    }
-
-    /// Memory: at a fall of the clock, the data of the instant before.
-    fn latch(&self, cell: usize, clock: u16, data: u16) -> u16 {
-        if self.falls(clock) {
-            self.ago(data)
-        } else {
-            self.wires[cell].now
-        }
     }
 
     /// Array: at a fall of the clock, the data of the instant before goes where

@@ -4,7 +4,7 @@ use crate::block;
 use crate::operator::Operator;
 use crate::word::put2;
 use std::ops::RangeInclusive;
-use values::Refusal;
+use values::{Refusal, Table};
 
 /// The kinds of expressions, 1 to 10.
 const KINDS: usize = 10;
@@ -48,6 +48,11 @@ impl Times {
     }
 }
 
+/// The times that a table gives, or the built-in ones where there is none.
+pub fn times(table: Table) -> Result<Times, Refusal> {
+    table.map_or(Ok(BUILT_IN), read)
+}
+
 /// The times that a file gives, or the refusal found first.
 pub fn read(file: &[u8]) -> Result<Times, Refusal> {
     if file.len() != block::LENGTH {
@@ -58,7 +63,7 @@ pub fn read(file: &[u8]) -> Result<Times, Refusal> {
     }
     match (0..file.len()).find(|&place| !is_good(place, file[place])) {
         Some(place) => Err(Refusal::new(21, place)),
-        None => Ok(times(file)),
+        None => Ok(times_in(file)),
     }
 }
 
@@ -74,6 +79,6 @@ fn is_good(place: usize, byte: u8) -> bool {
     }
 }
 
-fn times(file: &[u8]) -> Times {
+fn times_in(file: &[u8]) -> Times {
     Times(std::array::from_fn(|kind| file[block::HEADER + kind]))
 }

@@ -6,6 +6,7 @@ use second::contents::{Contents, CONTENTS_LENGTH};
 use second::rules::{self, Moment};
 use second::table::BUILT_IN;
 use second::{check, text};
+use values::Circuit;
 
 /// A text with a part repeated so often before and after another.
 fn nested([before, open, inside, close, after]: [&str; 5], times: usize) -> String {
@@ -64,7 +65,7 @@ fn an_open_run_may_end_later() {
     let program = text::program(text).expect("case 7 is read");
     let rounds = check::check(&program, 0, 1, &BUILT_IN).expect("case 7 is accepted");
     let contents = Contents::of_bytes(&[0; CONTENTS_LENGTH]);
-    let end = rules::run(&rounds, contents, 2_000_000);
+    let end = rules::run(&rounds, Circuit::Imperative, contents, 2_000_000);
     let expected = Moment {
         instant: 1_572_864,
         contents,

@@ -52,7 +52,7 @@ use denote.Exit.{yes}
 use denote.Triple.Clauses.{ensured, lasts}
 use Rattle.model.specs.declared.Cell.{Cell}
 use Rattle.model.specs.Circuit.{noCell, cellAt}
-use Rattle.model.specs.NetlistFile.{blocksFor}
+use Rattle.model.specs.NetlistFile.{cellLimit, blocksFor}
 use Rattle.model.proofs.Cell as T
 use Rattle.model.proofs.Cell.Laws as T′
 use Rattle.netlist.specs.Blocks.{Filled}
@@ -105,7 +105,7 @@ Put 𝓤 H A mem run = tripleOf 𝓤 H A put.signature (put.spec 𝓤 H A mem ru
 
 module _ {M : Type 1} (𝓤 : URA M) (H : Heap 𝓤) (A : Atoms 𝓤) (W : Given 𝓤 H A) (mem : Memory → SProp 𝓤) (run : Routine → Fun 𝓤) (κ η : Lft) (q q₁ : Share) (b o : ℕ) (γ : GName) (xs : List Cell) (n first finish : ℕ)
     (b₁ o₁ : ℕ) (γ₁ : GName) (ys : List ℕ) (room : Room T.the-row (length xs)) (n-fits : n < 2 ^ 64) (first-fits : first < 2 ^ 16) (finish-fits : finish < 2 ^ 16) (room₁ : Room u8 (length ys))
-    (within : (n ≤ length xs) × (n ≤ 1024) × (512 * blocksFor n ≤ length ys) × (first ≤ 65280)) where
+    (within : (n ≤ length xs) × (n ≤ cellLimit) × (512 * blocksFor n ≤ length ys) × (first ≤ 65280)) where
   abbrev s : RefT (List Cell)
   s = record { ptr = (b, o); name = γ; now = xs }
 
@@ -179,7 +179,7 @@ module _ {M : Type 1} (𝓤 : URA M) (H : Heap 𝓤) (A : Atoms 𝓤) (W : Given
     abbrev to : Put 𝓤 H A mem run .Ghost
     to = (((ν ∷ [], tt), (fullShare, tt), tt, given, (v₁ ∷ [], (vint w64 k ∷ [], (vint w64 n ∷ [], (vint w16 first ∷ [], (vint w16 finish ∷ [], (LL.vals T.the-type T′.the-laws (cellAt xs k), (vint w16 sum ∷ [], tt)))))))), tt)
 
-    asked : (k < n) × (n ≤ 1024) × (512 * blocksFor n ≤ length zs) × (first ≤ 65280) → sum < 2 ^ 16
+    asked : (k < n) × (n ≤ cellLimit) × (512 * blocksFor n ≤ length zs) × (first ≤ 65280) → sum < 2 ^ 16
         → ent 𝓤 (sep 𝓤 (A .lft (ν ∷ []) fullShare) (sep 𝓤 (sem 𝓤 H A (File (length ys))) (sem 𝓤 H A (T.the-row .own (cellAt xs k) (LL.vals T.the-type T′.the-laws (cellAt xs k)))))) (Put 𝓤 H A mem run .pre to)
     asked asks sum-fits =
         qed W (‵ (flft (ν ∷ []) fullShare) ∷ ‵ (File (length ys)) ∷ ‵ (T.the-row .own (cellAt xs k) (LL.vals T.the-type T′.the-laws (cellAt xs k))) ∷ []) ∵ says ! asks $ nothing ! $ move ! (1 ∷ 0 ∷ []) $ join ! $ frame ! $
@@ -302,7 +302,7 @@ module _ {M : Type 1} (𝓤 : URA M) (H : Heap 𝓤) (A : Atoms 𝓤) (W : Given
   put-cells-walks : (𝓣 : Tables 𝓤 H) → FmC 𝓤 H (W .laws) (𝓣 .C) → Triple 𝓤 (𝓣 .C #netlist·blocks·put-next) (Put 𝓤 H A mem run) → Walks 𝓤 H A f.ended stayed (WpFn 𝓤 H (𝓣 .C) (𝓣 .Λ) code.function) (f.clauses 𝓤 H A mem run)
   put-cells-walks 𝓣 fm known = walked 𝓤 H A f.ended stayed (f.clauses 𝓤 H A mem run) (WpFn 𝓤 H (𝓣 .C) (𝓣 .Λ) code.function)
       (λ κs. (slice-vals, (uint-vals w64, (uint-vals w16, (uint-vals w16, (slice-vals, tt)))))) (λ κs. (shr-slice-tells (named 0) (κs .0) T.the-row, (uint-tells w64, (uint-tells w16, (uint-tells w16, (mut-slice-tells (named 1) (κs .1 .0) u8, tt))))))
-      (λ κs qs bounds a g are. needs 𝓤 ((a .1 .0 ≤ length (a .0 .now)) × (a .1 .0 ≤ 1024) × (512 * blocksFor (a .1 .0) ≤ length (a .1 .1 .1 .1 .0 .now)) × (a .1 .1 .0 ≤ 65280)) _ (λ within.
+      (λ κs qs bounds a g are. needs 𝓤 ((a .1 .0 ≤ length (a .0 .now)) × (a .1 .0 ≤ cellLimit) × (512 * blocksFor (a .1 .0) ≤ length (a .1 .1 .1 .1 .0 .now)) × (a .1 .1 .0 ≤ 65280)) _ (λ within.
       walk 𝓤 H A W mem run (κs .0) (κs .1 .0) (qs .0) (qs .1 .0) (a .0 .ptr .0) (a .0 .ptr .1) (a .0 .name) (a .0 .now) (a .1 .0) (a .1 .1 .0) (a .1 .1 .1 .0) (a .1 .1 .1 .1 .0 .ptr .0) (a .1 .1 .1 .1 .0 .ptr .1) (a .1 .1 .1 .1 .0 .name) (a .1 .1 .1 .1 .0 .now)
       (are .0 .0 .1) (are .1 .0 .1) (are .1 .1 .0 .1) (are .1 .1 .1 .0 .1) (are .1 .1 .1 .1 .0 .0 .1) within 𝓣 fm known))
 

@@ -10,7 +10,7 @@ use lib.ListN.{length}
 use borrow.Author.Tests.{eqb-true, leb-true, le-leb, lt-leb}
 use Rattle.model.specs.declared.Cell.{Cell}
 use Rattle.model.specs.Word.{pick, bit, isZero}
-use Rattle.model.specs.Circuit.{cellAt, Netlist, Sig, pulses, Values, Elements, element, level, delayed, mergeStep, returnStep, merged, merges, stepOf, control, equation, startWord, Obeys, Shape, CellKinds, cellTable, shapes, hasKind, shapeIn, shape, kConstant, kComplement, kOperator, kStart, kGround, kDelay, kOr, kWhenTrue, kWhenFalse, kMerge, kReturn, kMemory, kGated, kArray, kAddress, kRead, kUnknown}
+use Rattle.model.specs.Circuit.{cellAt, Netlist, Sig, pulses, Values, Elements, element, level, delayed, mergeStep, returnStep, merged, merges, stepOf, control, equation, startWord, Obeys, Shape, CellKinds, cellTable, shapes, hasKind, shapeIn, shape, kConstant, kComplement, kOperator, kStart, kGround, kDelay, kOr, kWhenTrue, kWhenFalse, kMerge, kReturn, kMemory, kGated, kArray, kAddress, kRead, kLatch, kUnknown}
 use Rattle.laws.specs.Refusals.Laws.{and-true, by-bool, by-le, not-both}
 
 -- a kind is one of its shape's, but for the shape of no kinds
@@ -150,6 +150,7 @@ shape-level w kGated starts first E W k c t e = not-both e refl
 shape-level w kArray starts first E W k c t e = not-both e refl
 shape-level w kAddress starts first E W k c t e = not-both e refl
 shape-level w kRead starts first E W k c t e = not-both e refl
+shape-level w kLatch starts first E W k c t e = not-both e refl
 shape-level w kUnknown starts first E W k c t e = not-both e refl
 
 pub level-bound : (net : Netlist) (starts : Sig) (words : ℕ → ℕ) (W : Values) → Obeys net starts words W

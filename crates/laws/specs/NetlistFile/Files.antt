@@ -14,7 +14,7 @@ use borrow.Author.Tests.{ne-eqb, le-ltb, ltb-false}
 use Rattle.model.specs.declared.Cell.{Cell}
 use Rattle.model.specs.declared.Checked.the-variants.{Accepted}
 use Rattle.model.specs.Circuit.{cellAt, noCell}
-use Rattle.model.specs.NetlistFile.{cellFrom, cellsAt, inFile, block, blockAt, blocksFor, fileOf, restBytes, countOf, finishOf, cellsOf, fileLengthWrong, sumFault, countWrong, headerFault, netCheck, fileCheck, firstNumber, pulseOf, pulseWrong}
+use Rattle.model.specs.NetlistFile.{cellLimit, fileLimit, cellFrom, cellsAt, inFile, block, blockAt, blocksFor, fileOf, restBytes, countOf, finishOf, cellsOf, fileLengthWrong, sumFault, countWrong, headerFault, netCheck, fileCheck, firstNumber, pulseOf, pulseWrong}
 use Rattle.model.specs.Word.{Bytes}
 use Rattle.laws.specs.Refusals.Laws.{or-false, faultless}
 use Rattle.laws.specs.NetlistFile.Passed.{FilePassed, file-passed, pulse-right, count-range, count-cells}
@@ -79,11 +79,11 @@ pub file-length : (w : ℕ) (net : List Cell) (f : ℕ) → length (fileOf w net
 unfolding fileOf
 file-length w net f = blocks-length (blocksFor (length net)) (firstNumber w) (length net) f net
 
-length-right : (s : List ℕ) (m : ℕ) → length s ≡ 512 * m → 1 ≤ m → m ≤ 13 → fileLengthWrong s ≡ false
+length-right : (s : List ℕ) (m : ℕ) → length s ≡ 512 * m → 1 ≤ m → m ≤ 196 → fileLengthWrong s ≡ false
 unfolding fileLengthWrong
 length-right s m e l h =
     let z : length s % 512 ≡ 0 = omega arith in
-    rw (ne-eqb (length s) 0 (λ x. omega arith), le-ltb 6656 (length s) (omega arith), z)
+    rw (ne-eqb (length s) 0 (λ x. omega arith), le-ltb fileLimit (length s) (omega arith), z)
 
 module _ (w : ℕ) (pulse : pulseWrong w ≡ false) (net : List Cell) (f : ℕ) (c : countWrong (blocksFor (length net)) (length net) f ≡ false)
     (k : netCheck net f ≡ Accepted) where
@@ -135,13 +135,13 @@ module _ (s : List ℕ) (bytes : Bytes s) (e : fileCheck s ≡ Accepted) where
   p : FilePassed s
   p = file-passed s e
 
-  range : (27 ≤ countOf s) × (countOf s ≤ 1024) × (length s / 512 ≡ blocksFor (countOf s)) × (finishOf s < countOf s)
+  range : (27 ≤ countOf s) × (countOf s ≤ cellLimit) × (length s / 512 ≡ blocksFor (countOf s)) × (finishOf s < countOf s)
   range = count-range _ _ _ (p .count)
 
   whole-blocks : length s ≡ 512 * (length s / 512)
   unfolding fileLengthWrong
   whole-blocks =
-      let o = or-false (ltb 6656 (length s)) _ (or-false (eqb (length s) 0) _ (p .lengths) .1) in
+      let o = or-false (ltb fileLimit (length s)) _ (or-false (eqb (length s) 0) _ (p .lengths) .1) in
       omega (arith, ltb-false 0 (length s % 512) (o .1))
 
   block-bytes : (b i : ℕ) → getD (blockAt s b) i 0 < 256

@@ -13,7 +13,7 @@ use Rattle.model.specs.declared.Cell.{Cell}
 use Rattle.model.specs.declared.Checked.the-variants.{Accepted}
 use Rattle.model.specs.Word.{pick}
 use Rattle.model.specs.Circuit.{cellAt, control, memories, pastMemories, arrayAt}
-use Rattle.model.specs.NetlistFile.{wordSum, blockAt, blocksFor, countOf, finishOf, cellsAt, inFile, cellsOf, fileLengthWrong, sumFault, countWrong, headerRight, pulseOf, pulseWrong, headerFault, ofArray, keeps, placed, arrayPlaced, cellFault, netChecks, netCheck, fileChecks, fileCheck}
+use Rattle.model.specs.NetlistFile.{cellLimit, wordSum, blockAt, blocksFor, countOf, finishOf, cellsAt, inFile, cellsOf, fileLengthWrong, sumFault, countWrong, headerRight, pulseOf, pulseWrong, headerFault, ofArray, keeps, placed, arrayPlaced, cellFault, netChecks, netCheck, fileChecks, fileCheck}
 use Rattle.laws.specs.Refusals.Laws.{not-both, and-true, or-false, not-false, all-accept, refuse-unless, fault-unless, no-fault}
 use Rattle.laws.specs.Circuit.Ordered.{Ordered}
 use Rattle.laws.specs.NetlistFile.Uses.{keeps-looks}
@@ -132,13 +132,13 @@ unfolding pulseWrong
 right-pulse w h g = rw (ne-eqb w 0 (λ e. omega arith), le-ltb 8 w g) refl
 
 -- how many cells, in how many blocks, and the finish among them
-pub count-range : (m n f : ℕ) → countWrong m n f ≡ false → (27 ≤ n) × (n ≤ 1024) × (m ≡ blocksFor n) × (f < n)
+pub count-range : (m n f : ℕ) → countWrong m n f ≡ false → (27 ≤ n) × (n ≤ cellLimit) × (m ≡ blocksFor n) × (f < n)
 unfolding countWrong
 count-range m n f e =
     let p = and-true (leb 27 n) _ (not-false _ e) in
-    let q = and-true (leb n 1024) _ (p .1) in
+    let q = and-true (leb n cellLimit) _ (p .1) in
     let r = and-true (eqb m (blocksFor n)) _ (q .1) in
-    (leb-true 27 n (p .0), leb-true n 1024 (q .0), eqb-true _ _ (r .0), ltb-true f n (r .1))
+    (leb-true 27 n (p .0), leb-true n cellLimit (q .0), eqb-true _ _ (r .0), ltb-true f n (r .1))
 
 pub length-cells : (at : ℕ → ℕ) (s : List ℕ) (k n : ℕ) → length (cellsAt at s k n) ≡ n
 unfolding cellsAt

@@ -15,7 +15,7 @@ use Rattle.model.specs.Word.{pick, bit}
 use Rattle.model.specs.Program.{Program, roots, arrayVar}
 use Rattle.model.specs.Circuit.{cell, cellAt, memories, pastMemories}
 use Rattle.model.specs.NetlistFile.{ofArray, arrayPlaced}
-use Rattle.model.specs.Numbering.{arrayCell, memoriesOf, arraysOf, headCells, netlist}
+use Rattle.model.specs.Numbering.{memoryWires, arrayCell, memoriesOf, arraysOf, headCells, netlist}
 use Rattle.model.specs.Numbering.{callsOf, clocksOf, dataOf, addressesOf, procedures, finishOfRoot, clockAt, memoryAt, arraysAt, walkAt, dataAt, addressAt, clockWires, dataWires, addressWires}
 use Rattle.laws.specs.Refusals.Laws.{and-true}
 use Rattle.laws.specs.Program.Fit.{EveryRoot, Numberable}
@@ -79,7 +79,7 @@ past-skip (c ∷ xs) ys n z = go (eqb (c .kind) 40) z (past-skip xs ys n)
     go true z f = absurd (omega arith)
     go false z f = omega (arith, f (omega arith))
 
-past-none : (ys : List Cell) → pastMemories ys 0 ≡ 0
+pub past-none : (ys : List Cell) → pastMemories ys 0 ≡ 0
 unfolding pastMemories
 past-none [] = refl
 past-none (c ∷ ys) = refl
@@ -111,7 +111,7 @@ sixteen S w =
       below-free S,
       mems-all (clockWires S) (dataWires S) 0 16,
       arrays-free (clockWires S) (dataWires S) (addressWires S) 0 4,
-      plain-free (walkCells S) (root-walks-plain (memoryAt S) (finishOfRoot S) (procedures S) (callsOf S) 0 (roots S) w 3 (walkAt S)),
+      plain-free (walkCells S) (root-walks-plain (memoryWires (memoryAt S)) (finishOfRoot S) (procedures S) (callsOf S) 0 (roots S) w 3 (walkAt S)),
       plain-free (dataOrs S) (orsFrom-plain 7 refl (dataOf S) (dataAt S) 0 20),
       plain-free (addressOrs S) (orsFrom-plain 7 refl (addressesOf S) (addressAt S) 16 4),
     ))
@@ -119,19 +119,19 @@ sixteen S w =
 -- ---- "Right after the sixteenth memory stand ... and nowhere else": the arrays' cells begin at m
 
 module _ (m : ℕ) where
-  abbrev Placed : ℕ → Cell → Type 0
+  abbrev pub Placed : ℕ → Cell → Type 0
   Placed k c = arrayPlaced m k c ≡ true
 
-  abbrev Outside : ℕ → Type 0
+  abbrev pub Outside : ℕ → Type 0
   Outside k = (k < m) ⊎ (m + 8 ≤ k)
 
-  other-placed : (k : ℕ) (c : Cell) → ofArray (c .kind) ≡ false → Outside k → Placed k c
+  pub other-placed : (k : ℕ) (c : Cell) → ofArray (c .kind) ≡ false → Outside k → Placed k c
   unfolding arrayPlaced
   other-placed k c e o =
       let out : (leb m k && ltb k (m + 8)) ≡ false = ⊎-elim (λ l. rw (lt-leb m k l) refl) (λ l. rw (le-ltb k (m + 8) l) (and-false (leb m k))) o in
       rw (out, e) refl
 
-  plain-placed : (cs : List Cell) (k : ℕ) → plain cs ≡ true → (k + length cs ≤ m) ⊎ (m + 8 ≤ k) → All Placed k cs
+  pub plain-placed : (cs : List Cell) (k : ℕ) → plain cs ≡ true → (k + length cs ≤ m) ⊎ (m + 8 ≤ k) → All Placed k cs
   unfolding plain
   plain-placed [] k e o = tt
   plain-placed (c ∷ cs) k e o =
@@ -171,7 +171,7 @@ arrays-stand S w k l =
           (inl (omega (arith, orsFrom-len 35 (clocksOf S) (clockAt S) 0 20)));
       at-mems = mems-placed m (clockWires S) (dataWires S) 0 16 (memoryAt S) (omega arith);
       at-arrays = arrays-placed m (clockWires S) (dataWires S) (addressWires S) 0 4 m (omega arith) (omega arith);
-      at-walk = plain-placed m (walkCells S) (walkAt S) (root-walks-plain (memoryAt S) (finishOfRoot S) (procedures S) (callsOf S) 0 (roots S) w 3 (walkAt S)) (inr (omega arith));
+      at-walk = plain-placed m (walkCells S) (walkAt S) (root-walks-plain (memoryWires (memoryAt S)) (finishOfRoot S) (procedures S) (callsOf S) 0 (roots S) w 3 (walkAt S)) (inr (omega arith));
       at-datas = plain-placed m (dataOrs S) (dataAt S) (orsFrom-plain 7 refl (dataOf S) (dataAt S) 0 20) (inr (omega arith));
       at-addresses = plain-placed m (addressOrs S) (addressAt S) (orsFrom-plain 7 refl (addressesOf S) (addressAt S) 16 4) (inr (omega arith));
     } in

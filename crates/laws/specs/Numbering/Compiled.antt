@@ -10,7 +10,7 @@ use lib.Dec.{eqb}
 use lib.ListN.{length, length-append, getD}
 use Rattle.model.specs.Program.{Code, ok, tick, assign, assignElem, seq, par, ite, while, repeat, loop, exit, call, arrayVar, Program, roots}
 use Rattle.model.specs.Circuit.{cell}
-use Rattle.model.specs.Numbering.{arrayCell, exprCount, exprWire, exprCells, ifDelayCount, ifPulse, ifDelayCells, delayCount, walkCount, exitsAt, finishWire, loopExits, delays, walk, clockSources, dataSources, addressSources, callSources, Source, wiresOf, idleStart, rootStart, rootWalk, pastRoot, rootDelayCount, rootWalkCount, rootFinishes, rootDelays, rootWalks, rootSources, rootWalkSources, callsOf, clocksOf, dataOf, addressesOf, procedures, finishOfRoot}
+use Rattle.model.specs.Numbering.{Wires, memoryWires, exprCount, exprWire, exprCells, ifDelayCount, ifPulse, ifDelayCells, delayCount, walkCount, exitsAt, finishWire, loopExits, delays, walk, clockSources, dataSources, addressSources, callSources, Source, wiresOf, idleStart, rootStart, rootWalk, pastRoot, rootDelayCount, rootWalkCount, rootFinishes, rootDelays, rootWalks, rootSources, rootWalkSources, callsOf, clocksOf, dataOf, addressesOf, procedures, finishOfRoot}
 use Rattle.model.specs.Numbering.{ors, orCount, orsFrom, outsFrom, orCountFrom, memoriesOf, arraysOf, netlist, finish}
 use Rattle.model.specs.Numbering.{clockAt, memoryAt, arraysAt, walkAt, dataAt, addressAt, clockWires, dataWires, addressWires}
 use Rattle.model.specs.Circuit.{control, cellAt, memories, cellTable, shape}
@@ -22,10 +22,10 @@ use Rattle.laws.specs.Numbering.Arrays.{arrays-at, past-is, sixteen, arr
 use Rattle.laws.specs.Numbering.Count.{rootNodes, size}
 use Rattle.laws.specs.Circuit.Ordered.{word, In, kinds}
 use Rattle.laws.specs.NetlistFile.Uses.{looks-keeps}
-use Rattle.laws.specs.Numbering.Valid.{Ok, HasKind, Every, ors-ok, p-ok}
+use Rattle.laws.specs.Numbering.Valid.{Ok, HasKind, Every, ors-ok, p-ok, memory-wire, array-wire, Brings, Arrays}
 use Rattle.model.specs.Word.{pick}
 use Rattle.model.specs.declared.Checked.the-variants.{Accepted}
-use Rattle.model.specs.NetlistFile.{ofArray, stands, placed, cellFault, netCheck, countWrong, blocksFor}
+use Rattle.model.specs.NetlistFile.{cellLimit, ofArray, stands, placed, cellFault, netCheck, countWrong, blocksFor}
 use Rattle.laws.specs.Refusals.Laws.{by-le, faultless}
 use Rattle.laws.specs.Program.Trees.{by-pick}
 
@@ -80,7 +80,7 @@ module _ (K : ℕ → ℕ) where
   clocks-ok w exit s d c lim l h = (tt, tt)
   clocks-ok w (call δ p) s d c lim l h = (tt, ((omega arith, rw (h .0)), tt))
 
-  datas-ok : (M : ℕ) (F : ℕ → ℕ) (P : Code) (s d c lim : ℕ) → c + walkCount P ≤ lim → All (HasKind K) c (walk M F P s d c)
+  datas-ok : (M : Wires) (F : ℕ → ℕ) (P : Code) (s d c lim : ℕ) → c + walkCount P ≤ lim → All (HasKind K) c (walk M F P s d c)
       → EveryWire (In word K lim) (dataSources P c) × EveryWire (In word K lim) (addressSources P c)
   unfolding dataSources addressSources walk walkCount word ofArray
   datas-ok M F ok s d c lim l h = (tt, tt)
@@ -209,7 +209,7 @@ module _ (K : ℕ → ℕ) where
       (rootSources callSources Ps (d + delayCount P)) (clocks-ok w P s d c₀ lim (omega arith) (q .0))
       (root-clocks-ok w z cs (r + 1) Ps (d + delayCount P) (pastRoot cs r P c) lim (omega arith) (q .1))
 
-  root-datas-ok : (M : ℕ) (F : ℕ → ℕ) (z : ℕ) (cs : List Source) (r : ℕ) (Ps : List Code) (d c lim : ℕ) → c + rootWalkCount cs r Ps ≤ lim
+  root-datas-ok : (M : Wires) (F : ℕ → ℕ) (z : ℕ) (cs : List Source) (r : ℕ) (Ps : List Code) (d c lim : ℕ) → c + rootWalkCount cs r Ps ≤ lim
       → All (HasKind K) c (rootWalks M F z cs r Ps d c)
       → EveryWire (In word K lim) (rootWalkSources dataSources cs r Ps c) × EveryWire (In word K lim) (rootWalkSources addressSources cs r Ps c)
   unfolding rootWalks rootWalkCount rootWalkSources
@@ -227,7 +227,7 @@ module _ (K : ℕ → ℕ) where
       (root-datas-ok M F z cs (r + 1) Ps d₁ c₁ lim (omega arith) (q .1))
 
   -- F p is the finish of body p
-  module _ (n M : ℕ) (mem : (x : ℕ) → x < 16 → K (M + x) ≡ 40) (arr : (k : ℕ) → k < 4 → K (arrayCell M k) ≡ 42) (start : K 0 ≡ 32) (ground : K 1 ≡ 33)
+  module _ (n : ℕ) (M : Wires) (top : ℕ) (words : Brings K top M) (arrays : Arrays K top M) (start : K 0 ≡ 32) (ground : K 1 ≡ 33)
       (w : ℕ) (pos : 1 ≤ w) (low : w ≤ 255) (F : ℕ → ℕ) (z : ℕ) (cs : List Source) (lim : ℕ) (calls : EveryWire (In control K lim) cs) (two : 2 ≤ lim) where
     idle-ok : (r : ℕ) → In control K lim (idleStart z r)
     unfolding control
@@ -238,7 +238,7 @@ module _ (K : ℕ → ℕ) where
         All (Ok K n) d (rootDelays w z cs r Ps d c) × All (Ok K n) c (rootWalks M F z cs r Ps d c)
         × ((j : ℕ) → j < length Ps → In control K (c + rootWalkCount cs r Ps) (F (r + j)))
 
-    roots-ok : (r : ℕ) (Ps : List Code) (d c : ℕ) → EveryRoot Numberable r Ps → lim ≤ c → M + 24 ≤ c → d + rootDelayCount Ps ≤ c
+    roots-ok : (r : ℕ) (Ps : List Code) (d c : ℕ) → EveryRoot Numberable r Ps → lim ≤ c → top ≤ c → d + rootDelayCount Ps ≤ c
         → c + rootWalkCount cs r Ps ≤ n → ((p : ℕ) → p < r → In control K c (F p))
         → ((j : ℕ) → j < length Ps → F (r + j) ≡ getD (rootFinishes z cs r Ps d c) j 1)
         → All (HasKind K) d (rootDelays w z cs r Ps d c) → All (HasKind K) c (rootWalks M F z cs r Ps d c) → After r Ps d c
@@ -259,7 +259,7 @@ module _ (K : ℕ → ℕ) where
         ors-ok K n 35 control refl (λ k a b i j. (refl, (refl, i, j))) lim (idleStart z r) c ws l (idle-ok r) (wires-every (In control K lim) r cs calls)
         (qo .0) in
         let iP =
-        p-ok K n M mem arr ground c₀ (omega arith) w pos low F r (λ p o. let f = fin p o in (omega (arith, f .0), f .1)) P (well .0 .0) (well .0 .1) (well .0 .2) s d c₀ (io .1)
+        p-ok K n M c₀ (λ x o. let g = words x o in (omega (arith, g .0), g .1)) (λ k o. let g = arrays k o in (omega (arith, g .0), g .1)) ground (omega arith) w pos low F r (λ p o. let f = fin p o in (omega (arith, f .0), f .1)) P (well .0 .0) (well .0 .1) (well .0 .2) s d c₀ (io .1)
         (omega arith) (omega arith) (omega arith) (qd .0) (qw .0) in
         let here : F r ≡ finishWire P s d c₀ = rw add-zero at (is 0 (omega arith)) in
         let last : In control K c₁ (F r) = rw here (iP .2) in
@@ -303,11 +303,14 @@ module _ (S : Program) (pos : 1 ≤ S .pulse) (low : S .pulse ≤ 255) (w : Ever
   unfolding K
   has = lay (HasKind K) S (all-of (HasKind K) (netlist S) 0 (λ i l. rw zero-add))
 
-  mem : (x : ℕ) → x < 16 → K (memoryAt S + x) ≡ 40
-  mem x l = mems-kind K (clockWires S) (dataWires S) 0 16 (memoryAt S) (has .at-mems) x l
+  words : Brings K (walkAt S) (memoryWires (memoryAt S))
+  unfolding word ofArray shape cellTable
+  words x l = rw (memory-wire (memoryAt S) x l) (omega arith, rw (mems-kind K (clockWires S) (dataWires S) 0 16 (memoryAt S) (has .at-mems) x l))
 
-  arr : (k : ℕ) → k < 4 → K (arrayCell (memoryAt S) k) ≡ 42
-  arr k l = arrays-at (HasKind K) (clockWires S) (dataWires S) (addressWires S) 0 4 (arraysAt S) (has .at-arrays) k l .0
+  arrays : Arrays K (walkAt S) (memoryWires (memoryAt S))
+  arrays k l =
+      rw (array-wire (memoryAt S) k)
+      (omega arith, arrays-at (HasKind K) (clockWires S) (dataWires S) (addressWires S) 0 4 (arraysAt S) (has .at-arrays) k l .0)
 
   total : n ≡ addressAt S + orCountFrom (addressesOf S) 16 4
   unfolding n
@@ -321,7 +324,7 @@ module _ (S : Program) (pos : 1 ≤ S .pulse) (low : S .pulse ≤ 255) (w : Ever
   unfolding finishOfRoot
   body =
       let r =
-      roots-ok K n (memoryAt S) mem arr (has .at-start) (has .at-ground) (S .pulse) pos low (finishOfRoot S) (procedures S) (callsOf S) (clockAt S) (wires .1) (omega arith) 0
+      roots-ok K n (memoryWires (memoryAt S)) (walkAt S) words arrays (has .at-start) (has .at-ground) (S .pulse) pos low (finishOfRoot S) (procedures S) (callsOf S) (clockAt S) (wires .1) (omega arith) 0
       (roots S) 3 (walkAt S) w (omega arith) (omega arith) (omega arith) (omega (arith, total)) (λ p o. absurd (omega arith)) (λ j o. rw zero-add) (has .at-delays)
       (has .at-walk) in
       (r .0, r .1, λ j o. rw zero-add at (r .2 j o))
@@ -334,7 +337,7 @@ module _ (S : Program) (pos : 1 ≤ S .pulse) (low : S .pulse ≤ 255) (w : Ever
 
   sources : EveryWire (In word K (dataAt S)) (dataOf S) × EveryWire (In word K (dataAt S)) (addressesOf S)
   sources =
-      root-datas-ok K (memoryAt S) (finishOfRoot S) (procedures S) (callsOf S) 0 (roots S) 3 (walkAt S) (dataAt S) (omega arith) (has .at-walk)
+      root-datas-ok K (memoryWires (memoryAt S)) (finishOfRoot S) (procedures S) (callsOf S) 0 (roots S) 3 (walkAt S) (dataAt S) (omega arith) (has .at-walk)
 
   dataParts : All (Ok K n) (dataAt S) (dataOrs S) × Every (In word K n) (dataWires S)
   unfolding word ofArray shape cellTable stands
@@ -410,4 +413,4 @@ module _ (S : Program) (pos : 1 ≤ S .pulse) (low : S .pulse ≤ 255) (w : Ever
   unfolding countWrong
   count-right l =
       let n = length (netlist S) in
-      rw (le-leb 27 n (omega (arith, net-length S)), le-leb n 1024 (omega (arith, size S)), eq-eqb (blocksFor n) (blocksFor n) refl, lt-ltb (finish S) n (finish-ok S pos low w .0))
+      rw (le-leb 27 n (omega (arith, net-length S)), le-leb n cellLimit (omega (arith, size S)), eq-eqb (blocksFor n) (blocksFor n) refl, lt-ltb (finish S) n (finish-ok S pos low w .0))

@@ -6,9 +6,9 @@ use Prim.Native.Nat.{ℕ, zero, suc, _+_, _-_}
 use native.Mathlib.Omega.{arith}
 use lib.ListN.{length, length-append}
 use Rattle.model.specs.Program.{Expr, const, var, compl, op, elem, Code, ok, tick, assign, assignElem, seq, par, ite, while, repeat, loop, exit, call}
-use Rattle.model.specs.Numbering.{exprCount, exprCells, ifDelayCount, ifDelayCells, orChain, ors, orCount, delayCount, exitCount, walkCount, exitsAt, finishWire, exitWires, delays, walk, Source, wiresOf, rootDelayCount, rootStart, rootWalk, pastRoot, rootWalkCount, rootFinishes, rootDelays, rootWalks}
+use Rattle.model.specs.Numbering.{Wires, exprCount, exprCells, ifDelayCount, ifDelayCells, orChain, ors, orCount, delayCount, exitCount, walkCount, exitsAt, finishWire, exitWires, delays, walk, Source, wiresOf, rootDelayCount, rootStart, rootWalk, pastRoot, rootWalkCount, rootFinishes, rootDelays, rootWalks}
 
-pub e-len : (M : ℕ) (e : Expr) (c : ℕ) → length (exprCells M e c) ≡ exprCount e
+pub e-len : (M : Wires) (e : Expr) (c : ℕ) → length (exprCells M e c) ≡ exprCount e
 unfolding exprCells exprCount
 e-len M (const n) c = refl
 e-len M (var x) c = refl
@@ -81,7 +81,7 @@ or-count (w ∷ ws) = omega arith
 pub exit-ors : (P : Code) (s d c : ℕ) → orCount (exitWires P s d c) ≡ exitCount P - 1
 exit-ors P s d c = or-count (exitWires P s d c) ∙ ap (λ (k : ℕ). k - 1) (x-len P s d c)
 
-pub w-len : (M : ℕ) (F : ℕ → ℕ) (P : Code) (s d c : ℕ) → length (walk M F P s d c) ≡ walkCount P
+pub w-len : (M : Wires) (F : ℕ → ℕ) (P : Code) (s d c : ℕ) → length (walk M F P s d c) ≡ walkCount P
 unfolding walk walkCount
 w-len M F ok s d c = refl
 w-len M F (tick δ) s d c = refl
@@ -115,7 +115,7 @@ root-d-len w z cs r (P ∷ Ps) d c =
       root-d-len w z cs (r + 1) Ps (d + delayCount P) (pastRoot cs r P c),
     )
 
-pub root-w-len : (M : ℕ) (F : ℕ → ℕ) (z : ℕ) (cs : List Source) (r : ℕ) (Ps : List Code) (d c : ℕ)
+pub root-w-len : (M : Wires) (F : ℕ → ℕ) (z : ℕ) (cs : List Source) (r : ℕ) (Ps : List Code) (d c : ℕ)
     → length (rootWalks M F z cs r Ps d c) ≡ rootWalkCount cs r Ps
 unfolding rootWalks rootWalkCount
 root-w-len M F z cs r [] d c = refl

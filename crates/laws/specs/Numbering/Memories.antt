@@ -12,7 +12,7 @@ use Rattle.model.specs.Word.{bit}
 use Rattle.model.specs.Program.{Expr, const, var, compl, op, elem, Code, ok, tick, assign, assignElem, seq, par, ite, while, repeat, loop, exit, call}
 use Rattle.model.specs.Circuit.{memories}
 use Rattle.model.specs.NetlistFile.{ofArray}
-use Rattle.model.specs.Numbering.{exprCount, exprCells, ifDelayCount, ifDelayCells, delayCount, walkCount, exitsAt, finishWire, exitWires, delays, walk, Source, wiresOf, rootStart, rootWalk, pastRoot, rootDelays, rootWalks}
+use Rattle.model.specs.Numbering.{Wires, exprCount, exprCells, ifDelayCount, ifDelayCells, delayCount, walkCount, exitsAt, finishWire, exitWires, delays, walk, Source, wiresOf, rootStart, rootWalk, pastRoot, rootDelays, rootWalks}
 use Rattle.model.specs.Numbering.{orChain, ors, orCount, orsFrom, memoriesOf}
 use Rattle.laws.specs.Refusals.Laws.{and-true, or-false}
 use Rattle.laws.specs.Program.Fit.{FormedExpr, Formed, EveryRoot, Numberable}
@@ -50,7 +50,7 @@ plain-free (c ∷ cs) e =
 
 -- ---- delays and ors
 
-own-plain : (δ s : ℕ) → plain (ifDelayCells δ s) ≡ true
+pub own-plain : (δ s : ℕ) → plain (ifDelayCells δ s) ≡ true
 unfolding plain ifDelayCells
 own-plain zero s = refl
 own-plain (suc δ) s = refl
@@ -108,7 +108,7 @@ op-plain : (k : ℕ) → 4 ≤ k → k ≤ 9 → plainKind k ≡ true
 unfolding plainKind
 op-plain k h h′ = rw (ne-eqb k 40 (λ e. omega arith), ne-eqb k 42 (λ e. omega arith), ne-eqb k 43 (λ e. omega arith))
 
-e-plain : (M : ℕ) (e : Expr) → FormedExpr e → (c : ℕ) → plain (exprCells M e c) ≡ true
+pub e-plain : (M : Wires) (e : Expr) → FormedExpr e → (c : ℕ) → plain (exprCells M e c) ≡ true
 unfolding plain exprCells
 e-plain M (const v) w c = refl
 e-plain M (var x) w c = refl
@@ -116,7 +116,7 @@ e-plain M (compl e) w c = simp (plain-append, e-plain M e w c)
 e-plain M (op k e f) w c = simp (plain-append, e-plain M e (w .2) c, e-plain M f (w .3) (c + exprCount e), op-plain k (w .0) (w .1))
 e-plain M (elem k e) w c = simp (plain-append, e-plain M e (w .1) c)
 
-pub walk-plain : (M : ℕ) (F : ℕ → ℕ) (P : Code) → Formed P → (s d c : ℕ) → plain (walk M F P s d c) ≡ true
+pub walk-plain : (M : Wires) (F : ℕ → ℕ) (P : Code) → Formed P → (s d c : ℕ) → plain (walk M F P s d c) ≡ true
 unfolding plain plainKind walk
 walk-plain M F ok w s d c = refl
 walk-plain M F (tick δ) w s d c = refl
@@ -140,7 +140,7 @@ walk-plain M F (loop δ P) w s d c = simp (plain-append, walk-plain M F P (w .1)
 walk-plain M F exit w s d c = refl
 walk-plain M F (call δ p) w s d c = refl
 
-pub root-walks-plain : (M : ℕ) (F : ℕ → ℕ) (z : ℕ) (cs : List Source) (r : ℕ) (Ps : List Code) → EveryRoot Numberable r Ps → (d c : ℕ)
+pub root-walks-plain : (M : Wires) (F : ℕ → ℕ) (z : ℕ) (cs : List Source) (r : ℕ) (Ps : List Code) → EveryRoot Numberable r Ps → (d c : ℕ)
     → plain (rootWalks M F z cs r Ps d c) ≡ true
 unfolding plain plainKind rootWalks
 root-walks-plain M F z cs r [] w d c = refl

@@ -7,7 +7,7 @@ use lib.ListN.{length, length-append}
 use Rattle.model.specs.Program.{Program, roots}
 use Rattle.model.specs.declared.Cell.{Cell}
 use Rattle.model.specs.Circuit.{cell}
-use Rattle.model.specs.Numbering.{Source, wiresOf, rootDelayCount, rootWalkCount, rootDelays, rootWalks, callsOf, clocksOf, dataOf, addressesOf, procedures, finishOfRoot}
+use Rattle.model.specs.Numbering.{memoryWires, Source, wiresOf, rootDelayCount, rootWalkCount, rootDelays, rootWalks, callsOf, clocksOf, dataOf, addressesOf, procedures, finishOfRoot}
 use Rattle.model.specs.Numbering.{ors, orCount, orsFrom, outsFrom, orCountFrom, memoriesOf, arraysOf, netlist}
 use Rattle.model.specs.Numbering.{clockAt, memoryAt, arraysAt, walkAt, dataAt, addressAt, clockWires, dataWires, addressWires}
 use Rattle.laws.specs.Numbering.Cells.{All, split, join}
@@ -57,7 +57,7 @@ module _ (S : Program) where
   arrayCells = arraysOf (clockWires S) (dataWires S) (addressWires S) 0 4
 
   abbrev pub walkCells : List Cell
-  walkCells = rootWalks (memoryAt S) (finishOfRoot S) (procedures S) (callsOf S) 0 (roots S) 3 (walkAt S)
+  walkCells = rootWalks (memoryWires (memoryAt S)) (finishOfRoot S) (procedures S) (callsOf S) 0 (roots S) 3 (walkAt S)
 
   abbrev pub dataOrs : List Cell
   dataOrs = orsFrom 7 (dataOf S) (dataAt S) 0 20
@@ -102,7 +102,7 @@ module _ (R : ℕ → Cell → Type 0) (S : Program) where
       let r₂ = split R (clockAt S) (orCountFrom (clocksOf S) 0 20) (clockOrs S) (fromMemories S) (orsFrom-len 35 (clocksOf S) (clockAt S) 0 20) (r₁ .1) in
       let r₃ = split R (memoryAt S) 16 (memoryCells S) (fromArrays S) (mems-len (clockWires S) (dataWires S) 0 16) (r₂ .1) in
       let r₄ = split R (arraysAt S) 8 (arrayCells S) (fromWalk S) (arrays-len (clockWires S) (dataWires S) (addressWires S) 0 4) (r₃ .1) in
-      let r₅ = split R (walkAt S) (rootWalkCount (callsOf S) 0 (roots S)) (walkCells S) (fromDatas S) (root-w-len (memoryAt S) (finishOfRoot S) (procedures S) (callsOf S) 0 (roots S) 3 (walkAt S)) (r₄ .1) in
+      let r₅ = split R (walkAt S) (rootWalkCount (callsOf S) 0 (roots S)) (walkCells S) (fromDatas S) (root-w-len (memoryWires (memoryAt S)) (finishOfRoot S) (procedures S) (callsOf S) 0 (roots S) 3 (walkAt S)) (r₄ .1) in
       let r₆ = split R (dataAt S) (orCountFrom (dataOf S) 0 20) (dataOrs S) (addressOrs S) (orsFrom-len 7 (dataOf S) (dataAt S) 0 20) (r₅ .1) in
       record {
         at-start = h .0;
@@ -121,7 +121,7 @@ module _ (R : ℕ → Cell → Type 0) (S : Program) where
   unfolding netlist
   unlay r =
       let r₆ = join R (dataAt S) (orCountFrom (dataOf S) 0 20) (dataOrs S) (addressOrs S) (orsFrom-len 7 (dataOf S) (dataAt S) 0 20) (r .at-datas) (r .at-addresses) in
-      let r₅ = join R (walkAt S) (rootWalkCount (callsOf S) 0 (roots S)) (walkCells S) (fromDatas S) (root-w-len (memoryAt S) (finishOfRoot S) (procedures S) (callsOf S) 0 (roots S) 3 (walkAt S)) (r .at-walk) r₆ in
+      let r₅ = join R (walkAt S) (rootWalkCount (callsOf S) 0 (roots S)) (walkCells S) (fromDatas S) (root-w-len (memoryWires (memoryAt S)) (finishOfRoot S) (procedures S) (callsOf S) 0 (roots S) 3 (walkAt S)) (r .at-walk) r₆ in
       let r₄ = join R (arraysAt S) 8 (arrayCells S) (fromWalk S) (arrays-len (clockWires S) (dataWires S) (addressWires S) 0 4) (r .at-arrays) r₅ in
       let r₃ = join R (memoryAt S) 16 (memoryCells S) (fromArrays S) (mems-len (clockWires S) (dataWires S) 0 16) (r .at-mems) r₄ in
       let r₂ = join R (clockAt S) (orCountFrom (clocksOf S) 0 20) (clockOrs S) (fromMemories S) (orsFrom-len 35 (clocksOf S) (clockAt S) 0 20) (r .at-clocks) r₃ in

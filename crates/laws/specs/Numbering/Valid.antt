@@ -1,23 +1,24 @@
 -- The rules of a cell, sorts of wires included, and that each cell of a compiled netlist keeps them; a statement's finish and the starts of its
 -- exits are control wires below its end.
 use mathlib.Core.Path.{_≡_, refl, ap}
-use borrow.Author.Tests.{ne-eqb}
+use borrow.Author.Tests.{ne-eqb, lt-ltb, le-ltb}
 use mathlib.Core.Bool.{Bool, true, false}
+use mathlib.Core.Logic.{_⊎_, inl, inr, ⊎-elim}
 use mathlib.Core.List.{List, [], _∷_, _++_}
 use Prim.Native.Nat.{ℕ, zero, suc, _+_, _-_, _<_, _≤_}
 use native.Mathlib.Omega.{arith}
 use lib.ListN.{length}
-use Rattle.model.specs.Program.{Expr, const, var, compl, op, elem, Code, ok, tick, assign, assignElem, seq, par, ite, while, repeat, loop, exit, call}
+use Rattle.model.specs.Program.{Expr, const, var, compl, op, elem, Code, ok, tick, assign, assignElem, seq, par, ite, while, repeat, loop, exit, call, arrayVar}
 use Rattle.model.specs.declared.Cell.{Cell}
 use Rattle.model.specs.Circuit.{cell}
-use Rattle.model.specs.Numbering.{arrayCell, exprCount, exprWire, exprCells, ifDelayCount, ifPulse, ifDelayCells, orChain, orChainOut, ors, orsOut, orCount, delayCount, exitCount, walkCount, exitsAt, finishWire, exitWires, delays, walk}
+use Rattle.model.specs.Numbering.{Wires, arrayCell, memoryWires, exprCount, exprWire, exprCells, ifDelayCount, ifPulse, ifDelayCells, orChain, orChainOut, ors, orsOut, orCount, delayCount, exitCount, walkCount, exitsAt, finishWire, exitWires, delays, walk}
 use Rattle.model.specs.Circuit.{control, Shape, cellTable, shape, cellRow}
 use Rattle.model.specs.NetlistFile.{ofArray, stands}
 use Rattle.laws.specs.Numbering.Cells.{All, split, join}
 use Rattle.laws.specs.Circuit.Ordered.{word, In, Looks}
 use Rattle.laws.specs.Circuit.Shapes.{operator-shape}
 use Rattle.laws.specs.Numbering.Lengths.{e-len, d-len, w-len, own-len, exit-ors}
-use Rattle.laws.specs.Program.Fit.{FormedExpr, Formed, Low, Earlier}
+use Rattle.laws.specs.Program.Fit.{FormedExpr, Formed, BasicExpr, Low, Earlier}
 
 -- cell k of n, which is c, keeps the rules of its kind
 abbrev pub Ok : (ℕ → ℕ) → ℕ → ℕ → Cell → Type 0
@@ -69,48 +70,67 @@ module _ (K : ℕ → ℕ) (n kind : ℕ) (sort : ℕ → Bool) (this : sort kin
   ors-ok zip c [] l z e h = (tt, (omega arith, z .1))
   ors-ok zip c (w ∷ ws) l z e h = chain-ok w c ws l (omega arith, e .0 .1) (e .1) h
 
-module _ (K : ℕ → ℕ) (n M : ℕ) (mem : (x : ℕ) → x < 16 → K (M + x) ≡ 40) (arr : (k : ℕ) → k < 4 → K (arrayCell M k) ≡ 42) (ground : K 1 ≡ 33)
-    (top : ℕ) (past : M + 24 ≤ top) where
-  -- an expression's cells, and its wire
-  e-ok : (e : Expr) → FormedExpr e → (c : ℕ) → top ≤ c → All (HasKind K) c (exprCells M e c)
+-- the wires of memories and arrays
+pub memory-wire : (M x : ℕ) → x < 16 → memoryWires M x ≡ M + x
+unfolding memoryWires
+memory-wire M x l = rw (lt-ltb x 16 l)
+
+pub array-wire : (M k : ℕ) → memoryWires M (arrayVar k) ≡ arrayCell M k
+unfolding memoryWires
+array-wire M k = let e : 16 + k - 16 ≡ k = omega arith in rw (le-ltb (16 + k) 16 (omega arith), e)
+
+-- wires below top that bring the words of the sixteen variables, and the arrays' cells below top
+abbrev pub Brings : (ℕ → ℕ) → ℕ → Wires → Type 0
+Brings K top ws = (x : ℕ) → x < 16 → In word K top (ws x)
+
+abbrev pub Arrays : (ℕ → ℕ) → ℕ → Wires → Type 0
+Arrays K top ws = (k : ℕ) → k < 4 → (ws (arrayVar k) < top) × (K (ws (arrayVar k)) ≡ 42)
+
+-- an expression's cells, and its wire; one that reads no array needs none
+module _ (K : ℕ → ℕ) (n : ℕ) (M : Wires) (top : ℕ) (words : Brings K top M) where
+  pub e-ok : (e : Expr) → FormedExpr e → BasicExpr e ⊎ Arrays K top M → (c : ℕ) → top ≤ c → All (HasKind K) c (exprCells M e c)
       → All (Ok K n) c (exprCells M e c) × In word K (c + exprCount e) (exprWire M e c)
   unfolding exprCells exprWire exprCount shape cellTable stands word ofArray
-  e-ok (const v) w c l h = (((refl, (refl, tt, refl)), tt), (omega arith, rw (h .0)))
-  e-ok (var x) w c l h = (tt, (omega arith, rw (mem x w)))
-  e-ok (compl e) w c l h =
+  e-ok (const v) w b c l h = (((refl, (refl, tt, refl)), tt), (omega arith, rw (h .0)))
+  e-ok (var x) w b c l h = let i = words x w in (tt, (omega (arith, i .0), i .1))
+  e-ok (compl e) w b c l h =
       let r = split (HasKind K) c (exprCount e) (exprCells M e c) (cell 3 0 (exprWire M e c) 0 ∷ []) (e-len M e c) h in
-      let i = e-ok e w c l (r .0) in (
+      let i = e-ok e w b c l (r .0) in (
         join (Ok K n) c (exprCount e) (exprCells M e c) (cell 3 0 (exprWire M e c) 0 ∷ []) (e-len M e c) (i .0) ((refl, (refl, i .1, refl)), tt),
         (omega arith, rw (r .1 .0)),
       )
-  e-ok (op k e f) w c l h =
+  e-ok (op k e f) w b c l h =
       let cf = c + exprCount e in
       let o = cell k 0 (exprWire M e c) (exprWire M f cf) in
       let r = split (HasKind K) c (exprCount e) (exprCells M e c) (exprCells M f cf ++ (o ∷ [])) (e-len M e c) h in
       let q = split (HasKind K) cf (exprCount f) (exprCells M f cf) (o ∷ []) (e-len M f cf) (r .1) in
-      let i = e-ok e (w .2) c l (r .0) in
-      let j = e-ok f (w .3) cf (omega arith) (q .0) in
+      let i = e-ok e (w .2) (⊎-elim (λ z. inl (z .0)) inr b) c l (r .0) in
+      let j = e-ok f (w .3) (⊎-elim (λ z. inl (z .1)) inr b) cf (omega arith) (q .0) in
       let this : Ok K n (cf + exprCount f) o = op-ok K n k (cf + exprCount f) (exprWire M e c) (exprWire M f cf) (w .0) (w .1) (omega arith, i .1 .1) (j .1) in (
         join (Ok K n) c (exprCount e) (exprCells M e c) (exprCells M f cf ++ (o ∷ [])) (e-len M e c) (i .0)
             (join (Ok K n) cf (exprCount f) (exprCells M f cf) (o ∷ []) (e-len M f cf) (j .0) (this, tt)),
         (omega arith, rw (q .1 .0) (op-word k (w .0) (w .1))),
       )
-  e-ok (elem k e) w c l h =
-      let o = cell 44 0 (arrayCell M k) (exprWire M e c) in
+  e-ok (elem k e) w (inl b) c l h = absurd b
+  e-ok (elem k e) w (inr b) c l h =
+      let o = cell 44 0 (M (arrayVar k)) (exprWire M e c) in
       let r = split (HasKind K) c (exprCount e) (exprCells M e c) (o ∷ []) (e-len M e c) h in
-      let i = e-ok e (w .1) c l (r .0) in (
-        join (Ok K n) c (exprCount e) (exprCells M e c) (o ∷ []) (e-len M e c) (i .0) ((refl, (refl, (omega (arith, w .0), rw (arr k (w .0))), i .1)), tt),
+      let i = e-ok e (w .1) (inr b) c l (r .0) in
+      let a = b k (w .0) in (
+        join (Ok K n) c (exprCount e) (exprCells M e c) (o ∷ []) (e-len M e c) (i .0) ((refl, (refl, (omega (arith, a .0), rw (a .1)), i .1)), tt),
         (omega arith, rw (r .1 .0)),
       )
 
-  pulse-ok : (δ s d c : ℕ) → δ ≤ 255 → In control K c s → d + ifDelayCount δ ≤ c → c ≤ n → All (HasKind K) d (ifDelayCells δ s)
+module _ (K : ℕ → ℕ) (n : ℕ) where
+  pub pulse-ok : (δ s d c : ℕ) → δ ≤ 255 → In control K c s → d + ifDelayCount δ ≤ c → c ≤ n → All (HasKind K) d (ifDelayCells δ s)
       → All (Ok K n) d (ifDelayCells δ s) × In control K c (ifPulse δ s d)
   unfolding ifDelayCells ifDelayCount ifPulse shape cellTable stands control
   pulse-ok zero s d c z i l l′ h = (tt, i)
   pulse-ok (suc δ) s d c z i l l′ h = (((refl, ((omega arith, z), (omega arith, i .1), refl)), tt), (omega arith, rw (h .0)))
 
   -- a statement's cells, its finish and the starts of its exits, with pulses of w; F p is the finish of body p, and it calls the bodies below r
-  module _ (w : ℕ) (pos : 1 ≤ w) (low : w ≤ 255) (F : ℕ → ℕ) (r : ℕ) (fin : (p : ℕ) → p < r → In control K top (F p)) where
+  module _ (M : Wires) (top : ℕ) (words : Brings K top M) (arrays : Arrays K top M) (ground : K 1 ≡ 33) (two : 2 ≤ top) (w : ℕ) (pos : 1 ≤ w) (low : w ≤ 255) (F : ℕ → ℕ)
+      (r : ℕ) (fin : (p : ℕ) → p < r → In control K top (F p)) where
     pub p-ok : (P : Code) → Formed P → Low P → Earlier r P → (s d c : ℕ) → In control K c s → top ≤ c → d + delayCount P ≤ c → c + walkCount P ≤ n
         → All (HasKind K) d (delays w P s d c) → All (HasKind K) c (walk M F P s d c)
         → All (Ok K n) d (delays w P s d c) × All (Ok K n) c (walk M F P s d c) × In control K (c + walkCount P) (finishWire P s d c)
@@ -121,7 +141,7 @@ module _ (K : ℕ → ℕ) (n M : ℕ) (mem : (x : ℕ) → x < 16 → K (M + x)
     p-ok (assign δ x e) well z v s d c i lM ld lc hd hw =
         let o = cell 41 0 d (exprWire M e c) in
         let r = split (HasKind K) c (exprCount e) (exprCells M e c) (o ∷ []) (e-len M e c) hw in
-        let ie = e-ok e (well .2) c lM (r .0) in (
+        let ie = e-ok K n M top words e (well .2) (inr arrays) c lM (r .0) in (
           ((refl, ((z .0 .0, z .0 .1), (omega arith, i .1), refl)), ((refl, ((pos, low), (omega arith, rw (hd .0)), refl)), tt)),
           join (Ok K n) c (exprCount e) (exprCells M e c) (o ∷ []) (e-len M e c) (ie .0) ((refl, (refl, (omega arith, rw (hd .0)), ie .1)), tt),
           (omega arith, rw (hd .1 .0)),
@@ -133,8 +153,8 @@ module _ (K : ℕ → ℕ) (n M : ℕ) (mem : (x : ℕ) → x < 16 → K (M + x)
         let o′ = cell 41 0 d (exprWire M u c) in
         let ru = split (HasKind K) c (exprCount u) (exprCells M u c) (exprCells M e ce ++ (o ∷ (o′ ∷ []))) (e-len M u c) hw in
         let re = split (HasKind K) ce (exprCount e) (exprCells M e ce) (o ∷ (o′ ∷ [])) (e-len M e ce) (ru .1) in
-        let iu = e-ok u (well .2) c lM (ru .0) in
-        let ie = e-ok e (well .3) ce (omega arith) (re .0) in (
+        let iu = e-ok K n M top words u (well .2) (inr arrays) c lM (ru .0) in
+        let ie = e-ok K n M top words e (well .3) (inr arrays) ce (omega arith) (re .0) in (
           ((refl, ((z .0 .0, z .0 .1), (omega arith, i .1), refl)), ((refl, ((pos, low), (omega arith, rw (hd .0)), refl)), tt)),
           join (Ok K n) c (exprCount u) (exprCells M u c) (exprCells M e ce ++ (o ∷ (o′ ∷ []))) (e-len M u c) (iu .0)
               (join (Ok K n) ce (exprCount e) (exprCells M e ce) (o ∷ (o′ ∷ [])) (e-len M e ce) (ie .0) (
@@ -191,7 +211,7 @@ module _ (K : ℕ → ℕ) (n M : ℕ) (mem : (x : ℕ) → x < 16 → K (M + x)
         let rP = split (HasKind K) cP (walkCount P) (walk M F P p dP cP) (walk M F Q (p + 1) dQ cQ ++ (o ∷ [])) (w-len M F P p dP cP) (re .1 .1 .1) in
         let rQ = split (HasKind K) cQ (walkCount Q) (walk M F Q (p + 1) dQ cQ) (o ∷ []) (w-len M F Q (p + 1) dQ cQ) (rP .1) in
         let ip = pulse-ok δ s d c (z .0) i (omega arith) (omega arith) (ro .0) in
-        let ie = e-ok e (well .1) c lM (re .0) in
+        let ie = e-ok K n M top words e (well .1) (inr arrays) c lM (re .0) in
         let iP = p-ok P (well .2) (z .2) (v .2) p dP cP (omega arith, rw (re .1 .0)) (omega arith) (omega arith) (omega arith) (rd .0) (rP .0) in
         let iQ = p-ok Q (well .3) (z .3) (v .3) (p + 1) dQ cQ (omega arith, rw (re .1 .1 .0)) (omega arith) (omega arith) (omega arith) (rd .1) (rQ .0) in (
           join (Ok K n) d (ifDelayCount δ) (ifDelayCells δ s) (delays w P p dP cP ++ delays w Q (p + 1) dQ cQ) (own-len δ s) (ip .0)
@@ -217,7 +237,7 @@ module _ (K : ℕ → ℕ) (n M : ℕ) (mem : (x : ℕ) → x < 16 → K (M + x)
         let o7 = cell 37 0 d (exprWire M e c) in
         let re = split (HasKind K) c (exprCount e) (exprCells M e c) (o6 ∷ (o7 ∷ (walk M F P p (d + 1) cP ++ (o ∷ [])))) (e-len M e c) hw in
         let rP = split (HasKind K) cP (walkCount P) (walk M F P p (d + 1) cP) (o ∷ []) (w-len M F P p (d + 1) cP) (re .1 .1 .1) in
-        let ie = e-ok e (well .1) c lM (re .0) in
+        let ie = e-ok K n M top words e (well .1) (inr arrays) c lM (re .0) in
         let iP = p-ok P (well .2) (z .2) (v .2) p (d + 1) cP (omega arith, rw (re .1 .0)) (omega arith) (omega arith) (omega arith) (hd .1) (rP .0) in (
           ((refl, ((z .0 .0, z .0 .1), (omega arith, rw (rP .1 .0)), refl)), iP .0),
           join (Ok K n) c (exprCount e) (exprCells M e c) (o6 ∷ (o7 ∷ (walk M F P p (d + 1) cP ++ (o ∷ [])))) (e-len M e c) (ie .0) (
@@ -237,7 +257,7 @@ module _ (K : ℕ → ℕ) (n M : ℕ) (mem : (x : ℕ) → x < 16 → K (M + x)
         let o7 = cell 37 0 d (exprWire M e c) in
         let o5 = cell 35 0 s (p + 1) in
         let re = split (HasKind K) c (exprCount e) (exprCells M e c) (o6 ∷ (o7 ∷ (o5 ∷ walk M F P (p + 1 + 1) (d + 1) cP))) (e-len M e c) hw in
-        let ie = e-ok e (well .1) c lM (re .0) in
+        let ie = e-ok K n M top words e (well .1) (inr arrays) c lM (re .0) in
         let iP = p-ok P (well .2) (z .2) (v .2) (p + 1 + 1) (d + 1) cP (omega arith, rw (re .1 .1 .1 .0)) (omega arith) (omega arith) (omega arith) (hd .1) (re .1 .1 .1 .1) in (
           ((refl, ((z .0 .0, z .0 .1), (omega arith, iP .2 .1), refl)), iP .0),
           join (Ok K n) c (exprCount e) (exprCells M e c) (o6 ∷ (o7 ∷ (o5 ∷ walk M F P (p + 1 + 1) (d + 1) cP))) (e-len M e c) (ie .0) (

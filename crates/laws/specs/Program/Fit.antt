@@ -113,6 +113,28 @@ Formed P =
     })
     P
 
+-- of document 01's kinds: what refusal 28 leaves
+abbrev pub BasicExpr : Expr → Type 0
+BasicExpr (const n) = Unit {0}
+BasicExpr (var x) = Unit {0}
+BasicExpr (compl e) = BasicExpr e
+BasicExpr (op k e f) = BasicExpr e × BasicExpr f
+BasicExpr (elem k e) = ⊥
+
+abbrev pub Basic : {C : Type 0} → Statement C → Type 0
+Basic ok = Unit {0}
+Basic (tick d) = Unit {0}
+Basic (assign d x e) = BasicExpr e
+Basic (assignElem d k i e) = ⊥
+Basic (seq P Q) = Basic P × Basic Q
+Basic (par P Q) = Basic P × Basic Q
+Basic (ite d e P Q) = BasicExpr e × Basic P × Basic Q
+Basic (while d e P) = BasicExpr e × Basic P
+Basic (repeat d e P) = BasicExpr e × Basic P
+Basic (loop d P) = ⊥
+Basic exit = ⊥
+Basic (call d p) = ⊥
+
 -- delays of at least 1, but for an if's
 abbrev pub Timed : {C : Type 0} → Statement C → Type 0
 Timed P = Everywhere (delaying (λ d. 1 ≤ d) free (λ d. 1 ≤ d)) P

@@ -95,7 +95,7 @@ low-of (loop d P) t h = ((t .0, h .0), low-of P (t .1) (h .1))
 low-of exit t h = tt
 low-of (call d p) t h = ((t .0, h .0), tt)
 
-program-low : (options : Options) (s : List ℕ) → Bytes s → checkCall options s ≡ Accepted → (r : ℕ) → Low (rootAt (programWith options s) r)
+pub program-low : (options : Options) (s : List ℕ) → Bytes s → checkCall options s ≡ Accepted → (r : ℕ) → Low (rootAt (programWith options s) r)
 unfolding stmtAt asStmt nodeAt
 program-low options s bytes e r =
     let short = root-has (λ (t : Tree). Short (asStmt t)) tt s

@@ -15,7 +15,7 @@ use Rattle.model.specs.declared.Merge.{Merge}
 use Rattle.model.specs.declared.Format.{Format}
 use Rattle.model.specs.declared.Format.the-variants.{Full, Compact}
 use Rattle.model.specs.Word.{bit, get16, get32, put32}
-use Rattle.model.specs.Circuit.{cellAt, Netlist, high, remainingStep, merges, stepOf, Shape, shape, kConstant, kComplement, kOperator, kStart, kGround, kDelay, kOr, kWhenTrue, kWhenFalse, kMerge, kReturn, kMemory, kGated, kArray, kAddress, kRead, kUnknown}
+use Rattle.model.specs.Circuit.{cellAt, Netlist, high, remainingStep, merges, stepOf, Shape, shape, kConstant, kComplement, kOperator, kStart, kGround, kDelay, kOr, kWhenTrue, kWhenFalse, kMerge, kReturn, kMemory, kGated, kArray, kAddress, kRead, kLatch, kUnknown}
 use Rattle.laws.specs.Program.Trees.{by-pick}
 use Rattle.laws.specs.Circuit.Shapes.{by-merge}
 use Rattle.model.specs.State.{instantOf, upTo, cellSize, base, nowAt, beforeAt, fallen, heldAt, lineBit, takenIn, remainingByte, remainingAt, value, firstValue, aged, stored, shown, holding, settle, settled, counted, blank, evaluate, beginState, stepState}
@@ -83,6 +83,7 @@ module _ (F : Format) where
   settle-frame w kArray t k c j h = refl
   settle-frame w kAddress t k c j h = refl
   settle-frame w kRead t k c j h = refl
+  settle-frame w kLatch t k c j h = refl
   settle-frame w kUnknown t k c j h = refl
 
   pub settled-frame : (c : Netlist) (t : List ℕ) (k j : ℕ) → (j < base F k + 4) ⊎ (base F k + cellSize F ≤ j) → getD (settled F c t k) j 0 ≡ getD t j 0
@@ -110,6 +111,7 @@ module _ (F : Format) where
   length-settle w kArray t k c = refl
   length-settle w kAddress t k c = refl
   length-settle w kRead t k c = refl
+  length-settle w kLatch t k c = refl
   length-settle w kUnknown t k c = refl
 
   pub length-settled : (c : Netlist) (t : List ℕ) (k : ℕ) → length (settled F c t k) ≡ length t

@@ -1,4 +1,4 @@
--- An assignment to an element: index and value, the word put, and as many instants as its delay and a pulse have.
+-- An assignment to an element: index and value, the word put, and its delay with what a write costs.
 use native.Mathlib.Omega.{arith}
 use borrow.Author.Needs.{needs}
 use Rattle.rules.proofs.Agree.{element-low}
@@ -20,10 +20,10 @@ with-word-requires c κs =
 
 returns : tie.Need-returns
 returns c =
-    run-assign-elem _ _ _ _ _ _ _ _ _ _ _ _ (c .before .before .before .before .eval-at .ensures) (c .before .before .element-word .ensures)
-    (c .before .before .before .eval-at2 .ensures) (c .before .with-word .ensures) (c .pause .ensures)
+    run-assign-elem _ _ _ _ _ _ _ _ _ _ _ _ (c .before .before .before .before .before .eval-at .ensures) (c .before .before .before .element-word .ensures)
+    (c .before .before .before .before .eval-at2 .ensures) (c .before .before .with-word .ensures) (c .pause .ensures)
 
 pub assign-elem-at-spec : {M : Type 1} → statement M
 assign-elem-at-spec =
     tie.close
-    (tie.spec eval-at-requires eval-at-requires-2 (λ c κs. search needs) with-word-requires (λ c. search needs) (λ c κs. search needs) returns)
+    (tie.spec eval-at-requires eval-at-requires-2 (λ c κs. search needs) with-word-requires (λ c. search needs) (λ c. search needs) (λ c κs. search needs) returns)

@@ -16,7 +16,7 @@ use borrow.Author.Tests.{eqb-true}
 use Rattle.model.specs.declared.Cell.{Cell}
 use Rattle.model.specs.declared.Checked.the-variants.{Accepted}
 use Rattle.model.specs.Word.{pick, bit, operate, index, get16, Bytes}
-use Rattle.model.specs.Circuit.{falls, cellAt, arrayAt, Sig, Values, level, element, memory, equation, startWord, Obeys, Shape, cellTable, shape, kConstant, kComplement, kOperator, kStart, kGround, kDelay, kOr, kWhenTrue, kWhenFalse, kMerge, kReturn, kMemory, kGated, kArray, kAddress, kRead, kUnknown}
+use Rattle.model.specs.Circuit.{falls, cellAt, arrayAt, Sig, Values, level, element, memory, latch, equation, startWord, Obeys, Shape, cellTable, shape, kConstant, kComplement, kOperator, kStart, kGround, kDelay, kOr, kWhenTrue, kWhenFalse, kMerge, kReturn, kMemory, kGated, kArray, kAddress, kRead, kLatch, kUnknown}
 use Rattle.model.specs.NetlistFile.{cellFrom, cellsAt, inFile, cellsOf, countOf, finishOf, netCheck, fileCheck, netOf, pulseOf}
 use Rattle.laws.specs.Circuit.Ordered.{Looks, kinds}
 use Rattle.theory.specs.Circuit.Unique.{Feeds, feeds}
@@ -60,7 +60,7 @@ module _ (net : List Cell) (words : ℕ → ℕ) (w : (x : ℕ) → words x < 65
     equation-word : (s : Shape) (t : ℕ) → Looks (cellTable s .row) (kinds net) (length net) k c
         → ((u : ℕ) → u < t → (j : ℕ) → j < length net → W j u < 65536)
         → ((j : ℕ) → j < k → W j t < 65536) → equation p s starts first (element net words W) W k c t < 65536
-    unfolding equation memory cellTable
+    unfolding equation memory latch cellTable
     equation-word kConstant t o past below = a
     equation-word kComplement t o past below = operate-word 3 _ 0 (below (c .a) (o .1 .0)) (omega arith)
     equation-word kOperator t o past below = operate-word (c .kind) _ _ (below (c .a) (o .1 .0)) (below (c .b) (o .2 .0))
@@ -80,6 +80,9 @@ module _ (net : List Cell) (words : ℕ → ℕ) (w : (x : ℕ) → words x < 65
     equation-word kAddress t o past below = omega arith
     equation-word kRead t o past below =
         element-word (c .a) (index (W (c .b) t)) t (fed (c .a) (omega (arith, o .1 .0)) (eqb-true _ _ (o .1 .1))) past
+    equation-word kLatch zero o past below = omega arith
+    equation-word kLatch (suc t) o past below =
+        pick-word (level W (c .a) t) (past t (lt-suc-self t) (c .b) (o .2 .0)) (past t (lt-suc-self t) k l)
     equation-word kUnknown t o past below = omega arith
 
 -- Netlists -----------------------------------------------------------------------------------------------------------------------------

@@ -13,9 +13,9 @@ use Rattle.laws.specs.Circuit.Ordered.{Looks, kinds, Ordered}
 use Rattle.model.specs.Word.{pick, bit, operate, index}
 use Rattle.model.specs.declared.Cell.{Cell}
 use Rattle.model.specs.declared.Merged.{Merged}
-use Rattle.model.specs.Circuit.{cellAt, arrayAt, delayed, merged, mergeStep, returnStep, Step, mergedBefore, Sig, Values, level, memory, element, Shape, cellTable, shape, cellRow, equation, startWord, Obeys, Netlist}
+use Rattle.model.specs.Circuit.{cellAt, arrayAt, delayed, merged, mergeStep, returnStep, Step, mergedBefore, Sig, Values, level, memory, latch, element, Shape, cellTable, shape, cellRow, equation, startWord, Obeys, Netlist}
 use Rattle.laws.specs.Numbering.Cells.{cellVal}
-use Rattle.model.specs.Circuit.{kConstant, kComplement, kOperator, kStart, kGround, kDelay, kOr, kWhenTrue, kWhenFalse, kMerge, kReturn, kMemory, kGated, kArray, kAddress, kRead, kUnknown}
+use Rattle.model.specs.Circuit.{kConstant, kComplement, kOperator, kStart, kGround, kDelay, kOr, kWhenTrue, kWhenFalse, kMerge, kReturn, kMemory, kGated, kArray, kAddress, kRead, kLatch, kUnknown}
 
 -- what the words of an array look at, if its kind 42 is cell j: clock, data and address
 abbrev pub Feeds : List Cell → ℕ → Type 0
@@ -91,6 +91,15 @@ module _ (net : List Cell) (words : ℕ → ℕ) (U W : Values) where
       let e₄ : U k t ≡ W k t = h .0 t (le-refl (suc t)) k l in
       cc (e₁, e₂, e₃, e₄)
 
+  latch-cong : (t k : ℕ) (c : Cell) → k < length net → c .a < length net → c .b < length net → Before t k → latch U k c t ≡ latch W k c t
+  unfolding latch
+  latch-cong zero k c l la lb h = refl
+  latch-cong (suc t) k c l la lb h =
+      let e₁ : U (c .a) t ≡ W (c .a) t = h .0 t (le-refl (suc t)) (c .a) la in
+      let e₂ : U (c .b) t ≡ W (c .b) t = h .0 t (le-refl (suc t)) (c .b) lb in
+      let e₃ : U k t ≡ W k t = h .0 t (le-refl (suc t)) k l in
+      cc (e₁, e₂, e₃)
+
   element-cong : (j i t : ℕ) → Feeds net j → j ≤ length net → ((u : ℕ) → u < t → (m : ℕ) → m < length net → U m u ≡ W m u)
       → ((m : ℕ) → m < j → U m t ≡ W m t) → element net words U j i t ≡ element net words W j i t
   unfolding element
@@ -131,6 +140,7 @@ module _ (net : List Cell) (words : ℕ → ℕ) (U W : Values) where
         ap (λ (x : ℕ). element net words U (c .a) (index x) t) (h .1 (c .b) (o .2 .0))
         ∙ element-cong (c .a) (index (W (c .b) t)) t (fed (c .a) (omega arith) (eqb-true _ _ (o .1 .1))) (omega arith) (h .0)
         (λ m lm. h .1 m (omega arith))
+    shape-cong kLatch first k c t l o h = latch-cong t k c l (o .1 .0) (o .2 .0) h
     shape-cong kUnknown first k c t l o h = refl
 
     pub cell-cong : (first k : ℕ) (c : Cell) (t : ℕ) → k < length net → Looks (cellRow (c .kind)) (kinds net) (length net) k c → Before t k

@@ -8,14 +8,14 @@ use native.Mathlib.Omega.{arith}
 use lib.ListN.{length}
 use Rattle.model.specs.Program.{Code, Program, roots}
 use Rattle.model.specs.Circuit.{cell, cellAt, Sig, Values, level, Obeys}
-use Rattle.model.specs.Numbering.{circuitOf, wiresOf, callsOf, clocksOf, dataOf, addressesOf, procedures, finishOfRoot, netlist, clockAt, memoryAt, arraysAt, walkAt, dataAt, addressAt, clockWires, dataWires, addressWires}
+use Rattle.model.specs.Numbering.{memoryWires, circuitOf, wiresOf, callsOf, clocksOf, dataOf, addressesOf, procedures, finishOfRoot, netlist, clockAt, memoryAt, arraysAt, walkAt, dataAt, addressAt, clockWires, dataWires, addressWires}
 use Rattle.laws.specs.Numbering.Cells.{all-of, all-at}
 use Rattle.laws.specs.Numbering.Parts.{lay, unlay}
 use Rattle.laws.specs.Program.Enclosed.{rootAt}
 use Rattle.laws.specs.Program.Admitted.{Admitted, earlier-all, each-root, at-body, at-main, root-count}
 use Rattle.theory.specs.Control.Wiring.{ideal, Each}
 use Rattle.theory.specs.Numbering.Roots.{roots-apart, roots-together}
-use Rattle.theory.specs.Numbering.Whole.{first, E, ground-is, showing, shows, shows-element, joinsOf, delaysOf, walkOf, startOf, finishWireOf, Stands, ret, fin-is, body-delays, body-walk, at-main-root, body, given, givenBy, body-is, main-is}
+use Rattle.theory.specs.Numbering.Whole.{first, E, ground-is, showing, shows-wire, shows-array-wire, joinsOf, delaysOf, walkOf, startOf, finishWireOf, Stands, ret, fin-is, body-delays, body-walk, at-main-root, body, given, givenBy, body-is, main-is}
 use Rattle.theory.specs.Numbering.Flying.{ofCells, OfCell, other, ors-cells, orsFrom-cells, memory-cells, array-cells, of-cells}
 
 module _ (C : ℕ → Sig → Type 0) (H K : Sig → Sig → Type 0) (W : Values) (none : (s : Sig) → C 0 s) (S : Program) (A : Admitted S) (starts : Sig) (words : ℕ → ℕ)
@@ -38,8 +38,8 @@ module _ (C : ℕ → Sig → Type 0) (H K : Sig → Sig → Type 0) (W : Values
   unfolding body-is E ret
   body-cells q l =
       let r =
-      of-cells C H K W none (S .pulse) starts (first S A starts words W h) (E S A starts words W h) (memoryAt S) (showing S words W) (shows S words W)
-      (shows-element S words W) (ground-is S A starts words W h) (finishOfRoot S) (ret S A starts words W h) (procedures S) (fin-is S A starts words W h)
+      of-cells C H K W none (S .pulse) starts (first S A starts words W h) (E S A starts words W h) (memoryWires (memoryAt S)) (showing S words W) (shows-wire S words W)
+      (shows-array-wire S words W) (ground-is S A starts words W h) (finishOfRoot S) (ret S A starts words W h) (procedures S) (fin-is S A starts words W h)
       (body S A starts words W h q) (A .body q .fit .formed) (earlier-all S A q) (startOf S A starts words W h q) (delaysOf S A starts words W h q)
       (walkOf S A starts words W h q) (body-delays S A starts words W h q) (body-walk S A starts words W h q) in (
         (λ e.
@@ -57,8 +57,8 @@ module _ (C : ℕ → Sig → Type 0) (H K : Sig → Sig → Type 0) (W : Values
   main-cells =
       let q = procedures S in
       let r =
-      of-cells C H K W none (S .pulse) starts (first S A starts words W h) (E S A starts words W h) (memoryAt S) (showing S words W) (shows S words W)
-      (shows-element S words W) (ground-is S A starts words W h) (finishOfRoot S) (ret S A starts words W h) (procedures S) (fin-is S A starts words W h)
+      of-cells C H K W none (S .pulse) starts (first S A starts words W h) (E S A starts words W h) (memoryWires (memoryAt S)) (showing S words W) (shows-wire S words W)
+      (shows-array-wire S words W) (ground-is S A starts words W h) (finishOfRoot S) (ret S A starts words W h) (procedures S) (fin-is S A starts words W h)
       (S .main) (A .main .fit .formed) (A .main .earlier) (startOf S A starts words W h q) (delaysOf S A starts words W h q) (walkOf S A starts words W h q)
       (at-main-root S A starts words W h .delays) (at-main-root S A starts words W h .walk) in (
         (λ e.
@@ -76,7 +76,7 @@ module _ (C : ℕ → Sig → Type 0) (H K : Sig → Sig → Type 0) (W : Values
     (λ e k b.
         let z : (q : ℕ) → 0 + q ≡ q = λ q. omega arith in
         let c =
-        roots-together (S .pulse) (OfCell C H K W) (memoryAt S) (finishOfRoot S) (procedures S) (callsOf S) 0 (roots S) 3 (walkAt S)
+        roots-together (S .pulse) (OfCell C H K W) (memoryWires (memoryAt S)) (finishOfRoot S) (procedures S) (callsOf S) 0 (roots S) 3 (walkAt S)
         (λ q l. rw (z q) (each-root S Root (λ q l. body-cells q l .0 (e .1 q l)) (main-cells .0 (e .0)) q l)) in
         rw (z k) at
         (all-at (OfCell C H K W) (netlist S) 0
@@ -101,7 +101,7 @@ module _ (C : ℕ → Sig → Type 0) (H K : Sig → Sig → Type 0) (W : Values
         let at : (q : ℕ) → q < length (roots S) → Root q (rootAt S q) =
         λ q i.
         rw (z q) at
-        (roots-apart (S .pulse) (OfCell C H K W) (memoryAt S) (finishOfRoot S) (procedures S) (callsOf S) 0 (roots S) 3 (walkAt S) (l .at-delays) (l .at-walk) q i) in (
+        (roots-apart (S .pulse) (OfCell C H K W) (memoryWires (memoryAt S)) (finishOfRoot S) (procedures S) (callsOf S) 0 (roots S) 3 (walkAt S) (l .at-delays) (l .at-walk) q i) in (
           main-cells .1 (at-main S Root (at (procedures S) (omega (arith, root-count S)))),
           λ q i. body-cells q i .1 (at-body S Root q i (at q (omega (arith, root-count S)))),
         )),

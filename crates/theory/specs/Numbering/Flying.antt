@@ -8,16 +8,16 @@ use Prim.Native.Nat.{ℕ, zero, suc, _+_, _<_}
 use native.Mathlib.Omega.{arith}
 use Rattle.model.specs.declared.Cell.{Cell}
 use Rattle.model.specs.Word.{index, elementWord}
-use Rattle.model.specs.Program.{Expr, const, var, compl, op, elem, Code, ok, tick, assign, assignElem, seq, par, ite, while, repeat, loop, exit, call}
+use Rattle.model.specs.Program.{arrayVar, Expr, const, var, compl, op, elem, Code, ok, tick, assign, assignElem, seq, par, ite, while, repeat, loop, exit, call}
 use Rattle.model.specs.Circuit.{cell, Sig, Values, Elements, level, delayed}
-use Rattle.model.specs.Numbering.{arrayCell, exprCount, exprWire, exprCells, ifDelayCount, ifPulse, ifDelayCells, delayCount, walkCount, exitsAt, finishWire, loopExits, delays, walk, clockSources, dataSources, addressSources, callSources}
+use Rattle.model.specs.Numbering.{Wires, exprCount, exprWire, exprCells, ifDelayCount, ifPulse, ifDelayCells, delayCount, walkCount, exitsAt, finishWire, loopExits, delays, walk, clockSources, dataSources, addressSources, callSources}
 use Rattle.model.specs.Numbering.{Source, wiresOf, orChain, ors, orCount, orsFrom, memoriesOf, arraysOf}
 use Rattle.laws.specs.Program.Fit.{FormedExpr, Formed, Earlier}
 use Rattle.laws.specs.Numbering.Cells.{cellVal, All, Rule, Obeyed, split, join}
 use Rattle.laws.specs.Numbering.Lengths.{e-len, own-len, d-len, w-len, ors-len}
 use Rattle.theory.specs.Control.Wiring.{ideal, Circuit, Known, Each}
 use Rattle.theory.specs.Numbering.Levels.{level-of, anyHigh, allOr, givesAt}
-use Rattle.theory.specs.Numbering.Structure.{struct}
+use Rattle.theory.specs.Numbering.Structure.{ShowsElements, struct}
 
 -- C of every delay and its input, H of a parallel's merge and its two inputs, A of a call's
 abbrev pub ofCells : (ℕ → Sig → Type 0) → (Sig → Sig → Type 0) → (Sig → Sig → Type 0) → Known
@@ -31,6 +31,24 @@ pub record OfCell (C : ℕ → Sig → Type 0) (H A : Sig → Sig → Type 0) (W
 -- a kind that is none of them
 abbrev pub Other : ℕ → Type 0
 Other k = (k ≡ 34 → ⊥) × (k ≡ 38 → ⊥) × (k ≡ 39 → ⊥)
+
+-- what holds of every such cell holds of an expression's
+module _ (R : ℕ → Cell → Type 0) (other : (k : ℕ) (c : Cell) → Other (c .kind) → R k c) where
+  pub exprs : (M : Wires) (e : Expr) → FormedExpr e → (c : ℕ) → All R c (exprCells M e c)
+  unfolding exprCells exprCount
+  exprs M (const n) w c = (other c (cell 1 0 n 0) (λ e. omega arith, λ e. omega arith, λ e. omega arith), tt)
+  exprs M (var x) w c = tt
+  exprs M (compl e) w c =
+      join R c (exprCount e) (exprCells M e c) (cell 3 0 (exprWire M e c) 0 ∷ []) (e-len M e c) (exprs M e w c)
+      (other _ (cell 3 0 (exprWire M e c) 0) (λ e. omega arith, λ e. omega arith, λ e. omega arith), tt)
+  exprs M (op k e f) w c =
+      let last = cell k 0 (exprWire M e c) (exprWire M f (c + exprCount e)) in
+      join R c (exprCount e) (exprCells M e c) (exprCells M f (c + exprCount e) ++ (last ∷ [])) (e-len M e c) (exprs M e (w .2) c)
+      (join R (c + exprCount e) (exprCount f) (exprCells M f (c + exprCount e)) (last ∷ []) (e-len M f (c + exprCount e)) (exprs M f (w .3) (c + exprCount e))
+      (other _ last (λ z. omega (arith, w .1), λ z. omega (arith, w .1), λ z. omega (arith, w .1)), tt))
+  exprs M (elem k e) w c =
+      join R c (exprCount e) (exprCells M e c) (cell 44 0 (M (arrayVar k)) (exprWire M e c) ∷ []) (e-len M e c) (exprs M e (w .1) c)
+      (other _ (cell 44 0 (M (arrayVar k)) (exprWire M e c)) (λ e. omega arith, λ e. omega arith, λ e. omega arith), tt)
 
 module _ (C : ℕ → Sig → Type 0) (H A : Sig → Sig → Type 0) (W : Values) where
   abbrev pub R : ℕ → Cell → Type 0
@@ -49,22 +67,6 @@ module _ (C : ℕ → Sig → Type 0) (H A : Sig → Sig → Type 0) (W : Values
   call-cell k a b h = record { delay = λ e. absurd (omega arith); merge = λ e. absurd (omega arith); answer = λ e. h }
 
   -- Cells that are neither ----------------------------------------------------------------------------------------------------------------
-
-  exprs : (M : ℕ) (e : Expr) → FormedExpr e → (c : ℕ) → All R c (exprCells M e c)
-  unfolding exprCells exprCount
-  exprs M (const n) w c = (other c (cell 1 0 n 0) (λ e. omega arith, λ e. omega arith, λ e. omega arith), tt)
-  exprs M (var x) w c = tt
-  exprs M (compl e) w c =
-      join R c (exprCount e) (exprCells M e c) (cell 3 0 (exprWire M e c) 0 ∷ []) (e-len M e c) (exprs M e w c)
-      (other _ (cell 3 0 (exprWire M e c) 0) (λ e. omega arith, λ e. omega arith, λ e. omega arith), tt)
-  exprs M (op k e f) w c =
-      let last = cell k 0 (exprWire M e c) (exprWire M f (c + exprCount e)) in
-      join R c (exprCount e) (exprCells M e c) (exprCells M f (c + exprCount e) ++ (last ∷ [])) (e-len M e c) (exprs M e (w .2) c)
-      (join R (c + exprCount e) (exprCount f) (exprCells M f (c + exprCount e)) (last ∷ []) (e-len M f (c + exprCount e)) (exprs M f (w .3) (c + exprCount e))
-      (other _ last (λ z. omega (arith, w .1), λ z. omega (arith, w .1), λ z. omega (arith, w .1)), tt))
-  exprs M (elem k e) w c =
-      join R c (exprCount e) (exprCells M e c) (cell 44 0 (arrayCell M k) (exprWire M e c) ∷ []) (e-len M e c) (exprs M e (w .1) c)
-      (other _ (cell 44 0 (arrayCell M k) (exprWire M e c)) (λ e. omega arith, λ e. omega arith, λ e. omega arith), tt)
 
   module _ (kind : ℕ) (p : Other kind) where
     chain-cells : (acc n : ℕ) (ws : List ℕ) → All R n (orChain kind acc n ws)
@@ -97,8 +99,8 @@ module _ (C : ℕ → Sig → Type 0) (H A : Sig → Sig → Type 0) (W : Values
 
   -- A statement's cells -------------------------------------------------------------------------------------------------------------------
 
-  module _ (none : (s : Sig) → C 0 s) (pulse : ℕ) (starts : Sig) (first : ℕ → ℕ) (E : Elements) (M : ℕ) (m : ℕ → ℕ → ℕ)
-      (shows : (x t : ℕ) → x < 16 → m t x ≡ W (M + x) t) (elements : (k w t : ℕ) → k < 4 → m t (elementWord k w) ≡ E (arrayCell M k) (index w) t)
+  module _ (none : (s : Sig) → C 0 s) (pulse : ℕ) (starts : Sig) (first : ℕ → ℕ) (E : Elements) (M : Wires) (m : ℕ → ℕ → ℕ)
+      (shows : (x t : ℕ) → x < 16 → m t x ≡ W (M x) t) (elements : ShowsElements pulse starts first E W M m shows)
       (ground : (t : ℕ) → level W 1 t ≡ false) (F : ℕ → ℕ) (ret : ℕ → Sig) (r : ℕ) (fin : (p t : ℕ) → p < r → level W (F p) t ≡ ret p t) where
     abbrev pub Of : (P : Code) → Formed P → Earlier r P → (s d c : ℕ) → Obeyed pulse starts first E W d (delays pulse P s d c)
         → Obeyed pulse starts first E W c (walk M F P s d c) → Type 0
@@ -127,7 +129,7 @@ module _ (C : ℕ → Sig → Type 0) (H A : Sig → Sig → Type 0) (W : Values
         let o = cell 41 0 d (exprWire M e c) in (
           (λ h. (
             (delay-cell d δ s (h .0 .0), (delay-cell (d + 1) pulse d (subst (λ (y : Sig). C pulse y) (sym D) (h .1 .0)), tt)),
-            join R c (exprCount e) (exprCells M e c) (o ∷ []) (e-len M e c) (exprs M e (w .2) c) (other _ o (λ z. omega arith, λ z. omega arith, λ z. omega arith), tt),
+            join R c (exprCount e) (exprCells M e c) (o ∷ []) (e-len M e c) (exprs R other M e (w .2) c) (other _ o (λ z. omega arith, λ z. omega arith, λ z. omega arith), tt),
           )),
           (λ k. ((k .0 .0 .delay refl, tt, tt), (subst (λ (y : Sig). C pulse y) D (k .0 .1 .0 .delay refl), tt))),
         )
@@ -138,8 +140,8 @@ module _ (C : ℕ → Sig → Type 0) (H A : Sig → Sig → Type 0) (W : Values
         let o′ = cell 41 0 d (exprWire M i c) in (
           (λ h. (
             (delay-cell d δ s (h .0 .0 .0), (delay-cell (d + 1) pulse d (subst (λ (y : Sig). C pulse y) (sym D) (h .0 .1 .0)), tt)),
-            join R c (exprCount i) (exprCells M i c) (exprCells M e ce ++ (o ∷ (o′ ∷ []))) (e-len M i c) (exprs M i (w .2) c)
-                (join R ce (exprCount e) (exprCells M e ce) (o ∷ (o′ ∷ [])) (e-len M e ce) (exprs M e (w .3) ce)
+            join R c (exprCount i) (exprCells M i c) (exprCells M e ce ++ (o ∷ (o′ ∷ []))) (e-len M i c) (exprs R other M i (w .2) c)
+                (join R ce (exprCount e) (exprCells M e ce) (o ∷ (o′ ∷ [])) (e-len M e ce) (exprs R other M e (w .3) ce)
                 (other _ o (λ z. omega arith, λ z. omega arith, λ z. omega arith), (other _ o′ (λ z. omega arith, λ z. omega arith, λ z. omega arith), tt))),
           )),
           (λ k. (((k .0 .0 .delay refl, tt, tt), (subst (λ (y : Sig). C pulse y) D (k .0 .1 .0 .delay refl), tt)), tt)),
@@ -214,7 +216,7 @@ module _ (C : ℕ → Sig → Type 0) (H A : Sig → Sig → Type 0) (W : Values
               let b = q .0 (h .2) in (
                 join R d (ifDelayCount δ) (ifDelayCells δ s) (delays pulse P p₁ dP cP ++ dQ) (own-len δ s) (own-to δ s d (h .0 .0))
                     (join R dP (delayCount P) (delays pulse P p₁ dP cP) dQ (d-len pulse P p₁ dP cP) (a .0) (b .0)),
-                join R c (exprCount e) (exprCells M e c) rest (e-len M e c) (exprs M e (w .1) c) (
+                join R c (exprCount e) (exprCells M e c) rest (e-len M e c) (exprs R other M e (w .1) c) (
                   other _ o6 (λ z. omega arith, λ z. omega arith, λ z. omega arith),
                   (
                     other _ o7 (λ z. omega arith, λ z. omega arith, λ z. omega arith),
@@ -246,7 +248,7 @@ module _ (C : ℕ → Sig → Type 0) (H A : Sig → Sig → Type 0) (W : Values
           (λ h.
               let a = p .0 (h .1) in (
                 (delay-cell d δ (cP + walkCount P) (subst (λ (y : Sig). C δ y) (sym D) (h .0 .0)), a .0),
-                join R c (exprCount e) (exprCells M e c) rest (e-len M e c) (exprs M e (w .1) c) (
+                join R c (exprCount e) (exprCells M e c) rest (e-len M e c) (exprs R other M e (w .1) c) (
                   other _ o6 (λ z. omega arith, λ z. omega arith, λ z. omega arith),
                   (
                     other _ o7 (λ z. omega arith, λ z. omega arith, λ z. omega arith),
@@ -271,7 +273,7 @@ module _ (C : ℕ → Sig → Type 0) (H A : Sig → Sig → Type 0) (W : Values
           (λ h.
               let a = p .0 (h .1) in (
                 (delay-cell d δ (finishWire P (p₁ + 1 + 1) (d + 1) cP) (h .0 .0), a .0),
-                join R c (exprCount e) (exprCells M e c) rest (e-len M e c) (exprs M e (w .1) c) (
+                join R c (exprCount e) (exprCells M e c) rest (e-len M e c) (exprs R other M e (w .1) c) (
                   other _ o6 (λ z. omega arith, λ z. omega arith, λ z. omega arith),
                   (other _ o7 (λ z. omega arith, λ z. omega arith, λ z. omega arith), (other _ o5 (λ z. omega arith, λ z. omega arith, λ z. omega arith), a .1)),
                 ),

@@ -12,7 +12,7 @@ use lib.Bits.{bitOr, or-comm, or-zero-r}
 use Rattle.model.specs.declared.Cell.{Cell}
 use Rattle.model.specs.Program.{Code, ok, tick, assign, assignElem, seq, par, ite, while, repeat, loop, exit, call}
 use Rattle.model.specs.Circuit.{Values}
-use Rattle.model.specs.Numbering.{ifDelayCount, delayCount, walkCount, finishWire, delays, walk, callSources, ors, orCount, Source, wiresOf, rootStart, rootWalk, pastRoot, rootFinishes, rootDelays, rootWalks, rootSources, rootWalkSources}
+use Rattle.model.specs.Numbering.{Wires, ifDelayCount, delayCount, walkCount, finishWire, delays, walk, callSources, ors, orCount, Source, wiresOf, rootStart, rootWalk, pastRoot, rootFinishes, rootDelays, rootWalks, rootSources, rootWalkSources}
 use Rattle.laws.specs.Refusals.Laws.{is-false}
 use Rattle.laws.specs.Program.Fit.{Earlier}
 use Rattle.laws.specs.Numbering.Cells.{All, split, join}
@@ -31,12 +31,12 @@ joinsAt cs r (P ∷ Ps) c zero = c
 joinsAt cs r (P ∷ Ps) c (suc j) = joinsAt cs (r + 1) Ps (pastRoot cs r P c) j
 
 -- R of the cells of root r, which is P, where its delays stand at d and its callers' 35s at c
-pub record AtRoot (pulse : ℕ) (R : ℕ → Cell → Type 0) (M : ℕ) (F : ℕ → ℕ) (z : ℕ) (cs : List Source) (r : ℕ) (P : Code) (d c : ℕ) : Type 0 where
+pub record AtRoot (pulse : ℕ) (R : ℕ → Cell → Type 0) (M : Wires) (F : ℕ → ℕ) (z : ℕ) (cs : List Source) (r : ℕ) (P : Code) (d c : ℕ) : Type 0 where
   pub joins : All R c (ors 35 c (wiresOf r cs))
   pub delays : All R d (delays pulse P (rootStart z cs r c) d (rootWalk cs r c))
   pub walk : All R (rootWalk cs r c) (walk M F P (rootStart z cs r c) d (rootWalk cs r c))
 
-module _ (pulse : ℕ) (R : ℕ → Cell → Type 0) (M : ℕ) (F : ℕ → ℕ) (z : ℕ) (cs : List Source) where
+module _ (pulse : ℕ) (R : ℕ → Cell → Type 0) (M : Wires) (F : ℕ → ℕ) (z : ℕ) (cs : List Source) where
   pub roots-apart : (r : ℕ) (Ps : List Code) (d c : ℕ) → All R d (rootDelays pulse z cs r Ps d c) → All R c (rootWalks M F z cs r Ps d c) → (j : ℕ) → j < length Ps
       → AtRoot pulse R M F z cs (r + j) (getD Ps j ok) (delaysAt Ps d j) (joinsAt cs r Ps c j)
   unfolding rootDelays rootWalks delaysAt joinsAt

@@ -1,5 +1,6 @@
 -- The structure theorem, first part: a statement's cells, wherever they stand, are a circuit of the statement.
 use mathlib.Core.Path.{_≡_, refl, sym, ap, ap₂, _∙_}
+use mathlib.Core.Logic.{_⊎_, inl, inr, ⊎-elim}
 use mathlib.Core.Bool.{Bool, true, false, _&&_, _||_, not}
 use mathlib.Core.List.{[], _∷_, _++_}
 use Prim.Native.Nat.{ℕ, zero, suc, _+_, _<_, _≤_}
@@ -14,11 +15,11 @@ use Rattle.model.specs.Circuit.{delayed, mergeStep, returnStep, merged}
 use Rattle.theory.specs.Numbering.Ors.{ors-level}
 use Rattle.theory.specs.Control.Returns.{returned-is}
 use Rattle.theory.specs.Control.Wiring.{ideal, Circuit}
-use Rattle.laws.specs.Program.Fit.{FormedExpr, Formed, Earlier}
+use Rattle.laws.specs.Program.Fit.{FormedExpr, Formed, Earlier, BasicExpr}
 use Rattle.model.specs.Rules.{eval}
 use Rattle.model.specs.Word.{operate, isZero, index, elementWord}
 use Rattle.model.specs.Circuit.{cell}
-use Rattle.model.specs.Numbering.{arrayCell, exprCount, exprWire, exprCells, ifDelayCount, ifPulse, ifDelayCells, delayCount, walkCount, exitsAt, finishWire, exitWires, loopExits, delays, walk, clockSources, dataSources, addressSources, callSources, wiresOf, ors}
+use Rattle.model.specs.Numbering.{Wires, exprCount, exprWire, exprCells, ifDelayCount, ifPulse, ifDelayCells, delayCount, walkCount, exitsAt, finishWire, exitWires, loopExits, delays, walk, clockSources, dataSources, addressSources, callSources, wiresOf, ors}
 use Rattle.model.specs.Circuit.{Sig, Values, Elements, level, Shape, equation}
 use Rattle.model.specs.Word.{bit}
 use Rattle.laws.specs.Numbering.Cells.{cellVal, Rule, Obeyed, split}
@@ -28,26 +29,40 @@ pub op-rule : (pulse : ℕ) (starts : Sig) (first : ℕ) (E : Elements) (W : Val
 unfolding cellVal
 op-rule pulse starts first E W p k x y t h h′ = ap (λ (sh : Shape). equation pulse sh starts first E W p (cell k 0 x y) t) (operator-shape k h h′)
 
-module _ (pulse : ℕ) (starts : Sig) (first : ℕ → ℕ) (E : Elements) (W : Values) (M : ℕ) (m : ℕ → ℕ → ℕ) (shows : (x t : ℕ) → x < 16 → m t x ≡ W (M + x) t)
-    (elements : (k w t : ℕ) → k < 4 → m t (elementWord k w) ≡ E (arrayCell M k) (index w) t)
+-- an expression's wire shows its word, where the wires that bring words show m's, and the arrays m's elements; one that reads no array needs none of these
+module _ (pulse : ℕ) (starts : Sig) (first : ℕ → ℕ) (E : Elements) (W : Values) (M : Wires) (m : ℕ → ℕ → ℕ) (shows : (x t : ℕ) → x < 16 → m t x ≡ W (M x) t) where
+  abbrev pub ShowsElements : Type 0
+  ShowsElements = (k w t : ℕ) → k < 4 → m t (elementWord k w) ≡ E (M (arrayVar k)) (index w) t
+
+  pub expr-is : (e : Expr) → FormedExpr e → BasicExpr e ⊎ ShowsElements → (c : ℕ) → Obeyed pulse starts first E W c (exprCells M e c) → (t : ℕ)
+      → W (exprWire M e c) t ≡ eval e (m t)
+  unfolding exprCells exprWire exprCount eval cellVal
+  expr-is (const n) w b c h t = h .0 t
+  expr-is (var x) w b c h t = sym (shows x t w)
+  expr-is (compl e) w b c h t =
+      let r = split (Rule pulse starts first E W) c (exprCount e) (exprCells M e c) (cell 3 0 (exprWire M e c) 0 ∷ []) (e-len M e c) h in
+      r .1 .0 t ∙ ap (λ (x : ℕ). operate 3 x 0) (expr-is e w b c (r .0) t)
+  expr-is (op k e f) w b c h t =
+      let cf = c + exprCount e in
+      let o = cell k 0 (exprWire M e c) (exprWire M f cf) in
+      let r = split (Rule pulse starts first E W) c (exprCount e) (exprCells M e c) (exprCells M f cf ++ (o ∷ [])) (e-len M e c) h in
+      let q = split (Rule pulse starts first E W) cf (exprCount f) (exprCells M f cf) (o ∷ []) (e-len M f cf) (r .1) in
+      q .1 .0 t
+      ∙ op-rule pulse starts (first (cf + exprCount f)) E W (cf + exprCount f) k (exprWire M e c) (exprWire M f cf) t (w .0) (w .1)
+      ∙ ap₂ (λ (x y : ℕ). operate k x y) (expr-is e (w .2) (⊎-elim (λ z. inl (z .0)) inr b) c (r .0) t)
+      (expr-is f (w .3) (⊎-elim (λ z. inl (z .1)) inr b) cf (q .0) t)
+  expr-is (elem k e) w (inl b) c h t = absurd b
+  expr-is (elem k e) w (inr b) c h t =
+      let j = M (arrayVar k) in
+      let r = split (Rule pulse starts first E W) c (exprCount e) (exprCells M e c) (cell 44 0 j (exprWire M e c) ∷ []) (e-len M e c) h in
+      r .1 .0 t ∙ ap (λ (x : ℕ). E j (index x) t) (expr-is e (w .1) (inr b) c (r .0) t) ∙ sym (b k (eval e (m t)) t (w .0))
+
+module _ (pulse : ℕ) (starts : Sig) (first : ℕ → ℕ) (E : Elements) (W : Values) (M : Wires) (m : ℕ → ℕ → ℕ) (shows : (x t : ℕ) → x < 16 → m t x ≡ W (M x) t)
+    (elements : ShowsElements pulse starts first E W M m shows)
     (ground : (t : ℕ) → level W 1 t ≡ false)
     (F : ℕ → ℕ) (ret : ℕ → Sig) (k : ℕ) (fin : (p t : ℕ) → p < k → level W (F p) t ≡ ret p t) where
   pub expr : (e : Expr) → FormedExpr e → (c : ℕ) → Obeyed pulse starts first E W c (exprCells M e c) → (t : ℕ) → W (exprWire M e c) t ≡ eval e (m t)
-  unfolding exprCells exprWire exprCount eval cellVal
-  expr (const n) w c h t = h .0 t
-  expr (var x) w c h t = sym (shows x t w)
-  expr (compl e) w c h t =
-      let r = split (Rule pulse starts first E W) c (exprCount e) (exprCells M e c) (cell 3 0 (exprWire M e c) 0 ∷ []) (e-len M e c) h in
-      r .1 .0 t ∙ ap (λ (x : ℕ). operate 3 x 0) (expr e w c (r .0) t)
-  expr (op k e f) w c h t =
-      let r = split (Rule pulse starts first E W) c (exprCount e) (exprCells M e c) (exprCells M f (c + exprCount e) ++ (cell k 0 (exprWire M e c) (exprWire M f (c + exprCount e)) ∷ [])) (e-len M e c) h in
-      let q = split (Rule pulse starts first E W) (c + exprCount e) (exprCount f) (exprCells M f (c + exprCount e)) (cell k 0 (exprWire M e c) (exprWire M f (c + exprCount e)) ∷ []) (e-len M f (c + exprCount e)) (r .1) in
-      q .1 .0 t
-      ∙ op-rule pulse starts (first (c + exprCount e + exprCount f)) E W (c + exprCount e + exprCount f) k (exprWire M e c) (exprWire M f (c + exprCount e)) t (w .0) (w .1)
-      ∙ ap₂ (λ (x y : ℕ). operate k x y) (expr e (w .2) c (r .0) t) (expr f (w .3) (c + exprCount e) (q .0) t)
-  expr (elem k e) w c h t =
-      let r = split (Rule pulse starts first E W) c (exprCount e) (exprCells M e c) (cell 44 0 (arrayCell M k) (exprWire M e c) ∷ []) (e-len M e c) h in
-      r .1 .0 t ∙ ap (λ (x : ℕ). E (arrayCell M k) (index x) t) (expr e (w .1) c (r .0) t) ∙ sym (elements k (eval e (m t)) t (w .0))
+  expr e w c h t = expr-is pulse starts first E W M m shows e w (inr elements) c h t
 
   pub pulse-is : (δ s d : ℕ) → Obeyed pulse starts first E W d (ifDelayCells δ s) → (t : ℕ) → level W (ifPulse δ s d) t ≡ delayed δ (level W s) t
   unfolding ifDelayCells ifPulse cellVal

@@ -14,13 +14,14 @@ use Rattle.model.specs.Word.{pick, bit, index, elementWord}
 use Rattle.model.specs.Program.{Code, Program, roots, ok, tick, assign, assignElem, seq, par, ite, while, repeat, loop, exit, call, arrayVar}
 use Rattle.model.specs.Procedures.{bodyAt}
 use Rattle.model.specs.Circuit.{pulses, cell, Sig, Values, Elements, level, memory, element, memories, startWord, Obeys}
-use Rattle.model.specs.Numbering.{circuitOf, arrayCell, ifDelayCount, delayCount, clockSources, Source, wiresOf}
+use Rattle.model.specs.Numbering.{circuitOf, arrayCell, memoryWires, ifDelayCount, delayCount, clockSources, Source, wiresOf}
 use Rattle.model.specs.Numbering.{finishWire, delays, walk, ors, orsOut, orCount, orsFrom, outsFrom, memoriesOf, rootStart, rootWalk, rootSources, callsOf, clocksOf, dataOf, addressesOf, procedures, finishOfRoot, netlist, finish}
 use Rattle.model.specs.Numbering.{clockAt, memoryAt, walkAt, dataAt, addressAt, clockWires, dataWires, addressWires}
 use Rattle.laws.specs.Refusals.Laws.{is-false, by-le}
 use Rattle.laws.specs.Rules.Words.{owner-variable, owner-later}
 use Rattle.laws.specs.Numbering.Cells.{cellVal, Rule, Obeyed, split, obeys-holds}
 use Rattle.laws.specs.Numbering.Memories.{memories-append}
+use Rattle.laws.specs.Numbering.Valid.{memory-wire, array-wire}
 use Rattle.laws.specs.Numbering.Lengths.{ors-len}
 use Rattle.laws.specs.Numbering.Parts.{fromArrays, fromMemories, Laid, lay}
 use Rattle.laws.specs.Numbering.Arrays.{array-cells, below, parts, below-len, below-free}
@@ -141,6 +142,15 @@ module _ (S : Program) (words : ℕ → ℕ) (W : Values) where
       shows-array (16 + (64 * k + index w)) t (omega arith) (omega arith)
       ∙ ap₂ (λ (a b : ℕ). element (netlist S) words W (arrayCell (memoryAt S) a) b t) p q
 
+  -- by the wires of memories and arrays
+  pub shows-wire : (x t : ℕ) → x < 16 → showing S words W t x ≡ W (memoryWires (memoryAt S) x) t
+  shows-wire x t l = shows x t l ∙ ap (λ (k : ℕ). W k t) (sym (memory-wire (memoryAt S) x l))
+
+  pub shows-array-wire : (k w t : ℕ) → k < 4
+      → showing S words W t (elementWord k w) ≡ element (netlist S) words W (memoryWires (memoryAt S) (arrayVar k)) (index w) t
+  shows-array-wire k w t l =
+      shows-element k w t l ∙ ap (λ (j : ℕ). element (netlist S) words W j (index w) t) (sym (array-wire (memoryAt S) k))
+
 latch-hit : (p q : Bool) (v w : ℕ) → latch p q true v w ≡ pick (p && not q) v w
 unfolding latch
 latch-hit true true v w = refl
@@ -208,13 +218,13 @@ module _ (S : Program) (A : Admitted S) (starts : Sig) (words : ℕ → ℕ) (W 
   startOf q = rootStart n (callsOf S) q (joinsOf q)
 
   abbrev pub Stands : (ℕ → Cell → Type 0) → ℕ → Code → Type 0
-  Stands R q P = AtRoot (S .pulse) R (memoryAt S) (finishOfRoot S) n (callsOf S) q P (delaysOf q) (joinsOf q)
+  Stands R q P = AtRoot (S .pulse) R (memoryWires (memoryAt S)) (finishOfRoot S) n (callsOf S) q P (delaysOf q) (joinsOf q)
 
   at-root : (q : ℕ) → q < length (roots S) → Stands (Rule (S .pulse) starts first E W) q (rootAt S q)
   at-root q l =
       let z : 0 + q ≡ q = omega arith in
       rw z at
-      (roots-apart (S .pulse) (Rule (S .pulse) starts first E W) (memoryAt S) (finishOfRoot S) n (callsOf S) 0 (roots S) 3 (walkAt S) (laid .at-delays) (laid .at-walk) q l)
+      (roots-apart (S .pulse) (Rule (S .pulse) starts first E W) (memoryWires (memoryAt S)) (finishOfRoot S) n (callsOf S) 0 (roots S) 3 (walkAt S) (laid .at-delays) (laid .at-walk) q l)
 
   pub at-body-root : (q : ℕ) → q < n → Stands (Rule (S .pulse) starts first E W) q (bodyAt (S .bodies) q)
   at-body-root q l = at-body S (Stands (Rule (S .pulse) starts first E W)) q l (at-root q (omega (arith, root-count S)))
@@ -233,12 +243,12 @@ module _ (S : Program) (A : Admitted S) (starts : Sig) (words : ℕ → ℕ) (W 
       (λ l. at-body-root q l .delays)
 
   pub body-walk : (q : ℕ)
-      → Obeyed (S .pulse) starts first E W (walkOf q) (walk (memoryAt S) (finishOfRoot S) (bodyAt (S .bodies) q) (startOf q) (delaysOf q) (walkOf q))
+      → Obeyed (S .pulse) starts first E W (walkOf q) (walk (memoryWires (memoryAt S)) (finishOfRoot S) (bodyAt (S .bodies) q) (startOf q) (delaysOf q) (walkOf q))
   unfolding walk
   body-walk q =
       by-le n q
       (λ l.
-      subst (λ (P : Code). Obeyed (S .pulse) starts first E W (walkOf q) (walk (memoryAt S) (finishOfRoot S) P (startOf q) (delaysOf q) (walkOf q)))
+      subst (λ (P : Code). Obeyed (S .pulse) starts first E W (walkOf q) (walk (memoryWires (memoryAt S)) (finishOfRoot S) P (startOf q) (delaysOf q) (walkOf q)))
       (sym (List·getD-eq-default (S .bodies) ok l)) tt)
       (λ l. at-body-root q l .walk)
 
@@ -294,13 +304,13 @@ module _ (S : Program) (A : Admitted S) (starts : Sig) (words : ℕ → ℕ) (W 
   unfoldable pub body-is : (q : ℕ) → Circuit (S .pulse) (ideal (showing S words W)) ret (body q) (given .calls q) (ret q) (givenBy (body q) q)
   unfolding E ret
   body-is q =
-      struct (S .pulse) starts first E W (memoryAt S) (showing S words W) (shows S words W) (shows-element S words W) ground-is (finishOfRoot S) ret n fin-is (body q)
+      struct (S .pulse) starts first E W (memoryWires (memoryAt S)) (showing S words W) (shows-wire S words W) (shows-array-wire S words W) ground-is (finishOfRoot S) ret n fin-is (body q)
       (A .body q .fit .formed) (earlier-all S A q) (startOf q) (delaysOf q) (walkOf q) (body-delays q) (body-walk q)
 
   unfoldable pub main-is : Circuit (S .pulse) (ideal (showing S words W)) ret (S .main) (level W (startOf n)) (level W (finishWireOf (S .main) n)) (givenBy (S .main) n)
   unfolding E
   main-is =
-      struct (S .pulse) starts first E W (memoryAt S) (showing S words W) (shows S words W) (shows-element S words W) ground-is (finishOfRoot S) ret n fin-is (S .main)
+      struct (S .pulse) starts first E W (memoryWires (memoryAt S)) (showing S words W) (shows-wire S words W) (shows-array-wire S words W) ground-is (finishOfRoot S) ret n fin-is (S .main)
       (A .main .fit .formed) (A .main .earlier) (startOf n) (delaysOf n) (walkOf n) (at-main-root .delays) (at-main-root .walk)
 
   -- word x after instant t: of a variable, of an element, and of none

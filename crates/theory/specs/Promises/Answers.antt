@@ -19,7 +19,7 @@ use Rattle.laws.specs.Numbering.Arrays.{below, parts, below-len, below-free}
 use Rattle.laws.specs.Numbering.Memories.{memories-append, mems-all}
 
 module _ (v : ℕ → ℕ) where
-  words-append : (xs ys : List Cell) (k : ℕ) → memoryWords (xs ++ ys) k v ≡ memoryWords xs k v ++ memoryWords ys (k + length xs) v
+  pub words-append : (xs ys : List Cell) (k : ℕ) → memoryWords (xs ++ ys) k v ≡ memoryWords xs k v ++ memoryWords ys (k + length xs) v
   unfolding memoryWords
   words-append [] ys k = ap (λ (j : ℕ). memoryWords ys j v) (sym (add-zero k))
   words-append (c ∷ xs) ys k =
@@ -30,7 +30,7 @@ module _ (v : ℕ → ℕ) where
       go true l m r h = ap (λ (l : List ℕ). v k ∷ l) h
       go false l m r h = h
 
-  words-none : (xs : List Cell) (k : ℕ) → memories xs ≡ 0 → memoryWords xs k v ≡ []
+  pub words-none : (xs : List Cell) (k : ℕ) → memories xs ≡ 0 → memoryWords xs k v ≡ []
   unfolding memoryWords memories bit
   words-none [] k e = refl
   words-none (c ∷ xs) k e = go (eqb (c .kind) 40) e (words-none xs (k + 1))

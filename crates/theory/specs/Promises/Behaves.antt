@@ -39,7 +39,8 @@ use Rattle.theory.specs.State.Sound.{holds}
 use Rattle.theory.specs.Promises.Answers.{memory-words, listed-same, listed-further}
 use Rattle.theory.specs.Promises.Due.{shown-word, shown-element, last-words}
 use Rattle.theory.specs.Promises.Stands.{given-alone}
-use Rattle.theory.specs.Promises.Replay.{at0, OfProgram, published, Now, due-at, number-ended, number-still}
+use Rattle.theory.specs.Promises.Served.{OfProgram, published, served}
+use Rattle.theory.specs.Promises.Replay.{at0, asCalled, Now, due-at, number-ended, number-still}
 
 -- open and refused are no end
 ended-code : Outcome → ℕ
@@ -51,7 +52,7 @@ pub open-no-end : Open ≡ Ended → ⊥
 unfolding ended-code
 open-no-end e = omega (arith, ap ended-code e)
 
-refused-no-end : {r : Refusal} → Outcome.Refused r ≡ Ended → ⊥
+pub refused-no-end : {r : Refusal} → Outcome.Refused r ≡ Ended → ⊥
 unfolding ended-code
 refused-no-end e = omega (arith, ap ended-code e)
 
@@ -61,14 +62,14 @@ module _ (κ : Costs) (P : Stmt) (timed : Timed P) where
   pub decides : (τ : Store) (k t : ℕ) (τ′ : Store) → (run κ k P τ ≡ ended t τ′) ↔ ((t ≤ k) × Ends κ P τ t τ′)
   decides τ k t τ′ = ((λ p. (steady κ P timed τ k atEnd t τ′ p .0, run-ends κ P k τ t τ′ p)), (λ h. ends-run κ P timed τ t τ′ (h .1) k (h .0)))
 
-  at-end : (τ : Store) (t₀ : ℕ) (τ′ : Store) → Ends κ P τ t₀ τ′ → run κ t₀ P τ ≡ ended t₀ τ′
+  pub at-end : (τ : Store) (t₀ : ℕ) (τ′ : Store) → Ends κ P τ t₀ τ′ → run κ t₀ P τ ≡ ended t₀ τ′
   at-end τ t₀ τ′ h = decides τ t₀ t₀ τ′ .1 (omega arith, h)
 
-never-due : (κ : Costs) (w : ℕ) (P : Stmt) → Timed P → (τ : Store) → ((t : ℕ) (τ′ : Store) → Ends κ P τ t τ′ → ⊥) → (t : ℕ) → due κ w P τ t ≡ false
+pub never-due : (κ : Costs) (w : ℕ) (P : Stmt) → Timed P → (τ : Store) → ((t : ℕ) (τ′ : Store) → Ends κ P τ t τ′ → ⊥) → (t : ℕ) → due κ w P τ t ≡ false
 never-due κ w P timed τ h t = by-bool (due κ w P τ t) (λ e. let g = due-ends κ w P timed τ t e in absurd (h (g .0) (g .1) (g .2))) (λ e. e)
 
 -- a finish is due in the w instants from the end of a stand's run on, and at no other
-pub due-exactly : (w : ℕ) (P : Stmt) → Timed P → (st : Stand) (t : ℕ) → st .begun ≤ t → (dueAt w (λ τ k. run (imperative w) k P τ) st t ≡ true)
+pub due-exactly : (w : ℕ) (P : Stmt) → Timed P → (st : Stand) (t : ℕ) → st .begun ≤ t → (dueAt w (record { within = λ τ k. run (imperative w) k P τ; anew = λ τ. τ }) st t ≡ true)
     ↔ ((t₀ : ℕ) × (σ′ : Store) × Ends (imperative w) P (st .from) t₀ σ′ × (st .begun + t₀ ≤ t) × (t < st .begun + t₀ + w))
 unfolding dueAt due
 due-exactly w P timed st t l = (
@@ -93,7 +94,7 @@ module _ (F : Format) (S : Program) (file : List ℕ) (X : OfProgram S file) (st
   net = netOf file
 
   abbrev rules : Runs
-  rules τ k = run (imperative (S .pulse)) k P τ
+  rules = record { within = λ τ k. run (imperative (S .pulse)) k P τ; anew = λ τ. τ }
 
   -- what the circuit has as its words, memories and arrays have, and a state shows
   module _ (t : ℕ) (τ : Store) (word : (x : ℕ) → showing S σ W t x ≡ τ x) where
@@ -131,12 +132,12 @@ module _ (F : Format) (S : Program) (file : List ℕ) (X : OfProgram S file) (st
     )
 
   abbrev pub Stood : Stand → List Call → Type 0
-  Stood = Now F S file X starts σ W o
+  Stood = Now F (imperative (S .pulse)) (S .pulse) (meaning S) (λ τ. τ) file (X .ofFile) starts σ W o (served S file X starts σ W o F) (asCalled F file)
 
   -- where the list stands
   module _ (st : Stand) (cs : List Call) (N : Stood st cs) where
     pub due-by : (t : ℕ) → st .begun ≤ t → NoStart starts (st .begun) t → level W fin t ≡ dueAt w rules st t
-    due-by = due-at F S file X starts σ W o st cs N
+    due-by = due-at F (imperative (S .pulse)) (S .pulse) (meaning S) (λ τ. τ) file (X .ofFile) starts σ W o (served S file X starts σ W o F) (asCalled F file) st cs N
 
     pub lasting : (t₀ : ℕ) (σ′ : Store) → Ends (imperative (S .pulse)) P (st .from) t₀ σ′ → (t : ℕ) → st .begun + t₀ ≤ t → NoStart starts (st .begun) t
         → (x : ℕ) → showing S σ W t x ≡ σ′ x
@@ -157,7 +158,7 @@ module _ (F : Format) (S : Program) (file : List ℕ) (X : OfProgram S file) (st
           finishes = due-by;
           lasts = λ t₀ σ′ E t l none. has-words t σ′ (lasting t₀ σ′ E t l none);
           endless = never;
-          buffer = holds F net (X .ordered) starts σ W o (st .now) (r .lent) H;
+          buffer = holds F net (X .ofFile .ordered) starts σ W o (st .now) (r .lent) H;
         }
 
     number-is : (s : List ℕ) → Holding F net σ W (st .now) s → flightOf s ≡ 0
@@ -168,12 +169,12 @@ module _ (F : Format) (S : Program) (file : List ℕ) (X : OfProgram S file) (st
         let d = decides (imperative (S .pulse)) P (meaning-timed S (X .admitted)) (st .from) (st .now - st .begun) t₀ σ′ .0 p in
         (t₀, σ′, d .1, omega (arith, d .0, N .given .since)))
         (λ t₀ σ′ p. never-leaves (imperative (S .pulse)) P (meaning-closed S (X .admitted)) (st .now - st .begun) t₀ (st .from) σ′ p)
-        (λ p. absurd (number-still F S file X starts σ W o st cs N s H p z))
+        (λ p. absurd (number-still F (imperative (S .pulse)) (S .pulse) (meaning S) (λ τ. τ) file (X .ofFile) starts σ W o (served S file X starts σ W o F) (asCalled F file) st cs N s H p z))
 
     idle-is : (s : List ℕ) → Holding F net σ W (st .now) s → (t₀ : ℕ) (σ′ : Store) → Ends (imperative (S .pulse)) P (st .from) t₀ σ′
         → st .begun + t₀ + gap w ≤ suc (st .now) → flightOf s ≡ 0
     idle-is s H t₀ σ′ E l =
-        number-ended F S file X starts σ W o st cs N s H t₀ σ′ (at-end (imperative (S .pulse)) P (meaning-timed S (X .admitted)) (st .from) t₀ σ′ E) l
+        number-ended F (imperative (S .pulse)) (S .pulse) (meaning S) (λ τ. τ) file (X .ofFile) starts σ W o (served S file X starts σ W o F) (asCalled F file) st cs N s H t₀ σ′ (at-end (imperative (S .pulse)) P (meaning-timed S (X .admitted)) (st .from) t₀ σ′ E) l
 
     exact-is : (s : List ℕ) → Holding F net σ W (st .now) s → w ≡ 1
         → (flightOf s ≡ 0) ↔ ((t₀ : ℕ) × (σ′ : Store) × Ends (imperative (S .pulse)) P (st .from) t₀ σ′ × (st .begun + t₀ ≤ st .now))
@@ -202,5 +203,5 @@ module _ (F : Format) (S : Program) (file : List ℕ) (X : OfProgram S file) (st
           idle = idle-is b K;
           exact = exact-is b K;
           words = λ t₀ σ′ E l. (words-now t₀ σ′ E l b K, λ z. words-now t₀ σ′ E l s H .0);
-          endless = λ h. rw (H .body .present fin (X .wire), never h (st .now) (N .given .since)) open-no-end;
+          endless = λ h. rw (H .body .present fin (X .ofFile .wire), never h (st .now) (N .given .since)) open-no-end;
         }

@@ -30,7 +30,9 @@ use Rattle.model.specs.RunPromises.{Seen}
 use Rattle.model.specs.Cases.{repeated, Case, ends, refuses, compiles, prints, passes, cases, start, hubrunInput, endAnswer, Result, ran, numbered, printed, checked, computed, wanted, OnCircuit, Hold, cases-by-rules}
 use Rattle.laws.specs.Refusals.Laws.{and-true, or-false, first-take, first-drop}
 use Rattle.laws.specs.NetlistFile.Passed.{file-passed, count-range, count-cells}
-use Rattle.laws.specs.NetlistFile.Files.{file-length}
+use Rattle.laws.specs.NetlistFile.Files.{cells-written, file-length}
+use Rattle.laws.specs.Numbering.Count.{fits}
+use Rattle.laws.specs.Program.Size.{few-nodes}
 use Rattle.theory.specs.Promises.Demands.{demand2}
 use Rattle.laws.specs.NetlistFile.Compiled.{compiled-accepted}
 use Rattle.theory.specs.Promises.Reference.{same-answers}
@@ -41,12 +43,12 @@ module _ (options : Options) (program : List ℕ) (bytes : Bytes program) (accep
   file-read : fileCheck (compiledFile options program) ≡ Accepted
   file-read = compiled-accepted options program bytes accepted
 
+  -- its netlist has at most 627 cells, and so its file at most eight blocks
+  net-room : (27 ≤ length (netlist (programWith options program))) × (length (netlist (programWith options program)) ≤ 627)
+  net-room = fits (programWith options program) (few-nodes options program accepted)
+
   file-room : length (compiledFile options program) ≤ 6656
-  unfolding fileLengthWrong
-  file-room =
-      let n = length (compiledFile options program) in
-      let o = or-false (ltb 6656 n) _ (or-false (eqb n 0) _ (file-passed (compiledFile options program) file-read .lengths) .1) in
-      ltb-false 6656 n (o .0)
+  file-room = rw (file-length (options .pulse) (netlist (programWith options program)) (finish (programWith options program))) (omega (arith, net-room .1))
 
   compile-is : (lent : List ℕ) → 6656 ≤ length lent
       → compileCall options program lent .answer ≡ Done (length (compiledFile options program)) (finish (programWith options program))
@@ -65,7 +67,10 @@ module _ (options : Options) (program words forFile forState : List ℕ) (n : �
   read = file-read options program bytes accepted
 
   state-room : stateSize Full (netOf file) ≤ length forState
-  state-room = omega (arith, count-range _ _ _ (file-passed file read .count) .1, count-cells file)
+  state-room =
+      let S = programWith options program in
+      let r = net-room options program bytes accepted in
+      rw (cells-written (options .pulse) (netlist S) (finish S) (omega (arith, r .0))) (omega (arith, r .1))
 
   checks : first (runProgramChecks options program words n forFile forState) ≡ Accepted
   unfolding checkCall

@@ -80,7 +80,7 @@ module _ (w : ℕ) (rules : Runs) (size : ℕ) where
     where
       go : (b : Bool) → Unmet (elim b as (λ z. Next) [ true ↦ refuses 23 st | false ↦ anew w rules st σ ] .tells)
       go true = unmet-refused 23 st (λ e. omega arith)
-      go false = let s = suc (st .now) in unmet-ended (dueAt w rules (stand s σ s) s) s 1
+      go false = let s = suc (st .now) in unmet-ended (dueAt w rules (stand s (rules .anew σ) s) s) s 1
   unmet-pulsed st (done atExit t σ) = unmet-refused 23 st (λ e. omega arith)
   unmet-pulsed st still = unmet-refused 23 st (λ e. omega arith)
 
@@ -221,7 +221,7 @@ module _ (S : Program) (file words forFull forCompact : List ℕ) (B : Begun Ful
   σ = wordAt words
 
   abbrev rules : Runs
-  rules τ k = run (imperative (S .pulse)) k (meaning S) τ
+  rules = record { within = λ τ k. run (imperative (S .pulse)) k (meaning S) τ; anew = λ τ. τ }
 
   -- the calls on a buffer in this format
   abbrev calls : Format → List ℕ → List (Returned Answer)
@@ -244,7 +244,7 @@ module _ (S : Program) (file words forFull forCompact : List ℕ) (B : Begun Ful
 
   obeys : Obeys net starts σ W
   unfolding W
-  obeys = solution-obeys net starts σ (B .ofProgram .ordered)
+  obeys = solution-obeys net starts σ (B .ofProgram .ofFile .ordered)
 
   first-pulse : starts 0 ≡ true
   unfolding startsOf
@@ -282,7 +282,7 @@ module _ (S : Program) (file words forFull forCompact : List ℕ) (B : Begun Ful
   both-same =
       let full = told Full S file words forFull B (each (length forFull) requests) in
       let compact = told Compact S file words forCompact C (each (length forCompact) requests) in
-      all-same net σ W (B .ofProgram .ordered) (sts Full (length forFull)) (calls Full forFull) (calls Compact forCompact) shown-full shown-compact (full ∙ same-tells ∙ sym compact)
+      all-same net σ W (B .ofProgram .ofFile .ordered) (sts Full (length forFull)) (calls Full forFull) (calls Compact forCompact) shown-full shown-compact (full ∙ same-tells ∙ sym compact)
       (subst AllUnmet (sym compact) unmet)
 
 pub same-wires : SameWires

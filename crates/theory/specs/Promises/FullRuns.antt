@@ -37,14 +37,15 @@ use Rattle.theory.specs.State.Holding.{Holding}
 use Rattle.theory.specs.State.Sound.{sound-held}
 use Rattle.theory.specs.State.Running.{continues, stops-high, stops-low}
 use Rattle.theory.specs.Promises.Stands.{Given}
-use Rattle.theory.specs.Promises.Replay.{accepted-going, checked, OfProgram}
+use Rattle.theory.specs.Promises.Replay.{accepted-going, checked}
+use Rattle.theory.specs.Promises.Served.{OfProgram}
 use Rattle.theory.specs.Promises.Behaves.{shows-words, Stood, due-by, lasting}
 use Rattle.theory.specs.Promises.Kept.{Begun, begins, stood, holding, long, starts, pulse, given, W, obeys}
 
 -- Where a run stops --------------------------------------------------------------------------------------------------------------------
 
 -- where t is the first instant at which a finish is due, a run from before t stops there
-stops-end : (F : ℕ → Bool) (t : ℕ) → ((u : ℕ) → u < t → F u ≡ false) → F t ≡ true → (n a : ℕ) → a < t → t ≤ a + n → stopsAt F a n ≡ t
+pub stops-end : (F : ℕ → Bool) (t : ℕ) → ((u : ℕ) → u < t → F u ≡ false) → F t ≡ true → (n a : ℕ) → a < t → t ≤ a + n → stopsAt F a n ≡ t
 stops-end F t low high zero a l m = absurd (omega arith)
 stops-end F t low high (suc n) a l m = go (ℕ-discrete t (suc a)) (stops-end F t low high n (suc a))
   where
@@ -53,7 +54,7 @@ stops-end F t low high (suc n) a l m = go (ℕ-discrete t (suc a)) (stops-end F 
     go (no x) on = stops-low F a n (low (suc a) (omega arith)) ∙ on (omega arith) (omega arith)
 
 -- where none is due, it goes on to the last instant
-stops-never : (F : ℕ → Bool) (n a : ℕ) → ((u : ℕ) → a < u → u ≤ a + n → F u ≡ false) → stopsAt F a n ≡ a + n
+pub stops-never : (F : ℕ → Bool) (n a : ℕ) → ((u : ℕ) → a < u → u ≤ a + n → F u ≡ false) → stopsAt F a n ≡ a + n
 unfolding stopsAt
 stops-never F zero a h = omega arith
 stops-never F (suc n) a h =
@@ -91,7 +92,7 @@ module _ (options : Options) (program file words lent : List ℕ) (accepted : ch
   fin = finishOf file
 
   abbrev rules : Runs
-  rules τ k = run (imperative (S .pulse)) k P τ
+  rules = record { within = λ τ k. run (imperative (S .pulse)) k P τ; anew = λ τ. τ }
 
   abbrev state : List ℕ
   state = beginState Full net σ lent
@@ -141,8 +142,8 @@ module _ (options : Options) (program file words lent : List ℕ) (accepted : ch
   continue-is n l =
       ap (λ (r : Returned Answer). r .answer)
       (accepted-going Full (first (continueChecks Full file n state)) file (on n) state
-      (checked Full file (X .accepted) (unfold tooLong in refl) n state [] false true false (le-ltb (length state) (stateSize Full net) first-long)
-      (sound-held Full net (X .ordered) starts₁ σ W₁ obeys₁ 0 state first-holds)
+      (checked Full file (X .ofFile .accepted) (unfold tooLong in refl) n state [] false true false (le-ltb (length state) (stateSize Full net) first-long)
+      (sound-held Full net (X .ofFile .ordered) starts₁ σ W₁ obeys₁ 0 state first-holds)
       (le-ltb 1000000 (instantOf state + n) (rw (first-holds .instant (omega arith)) (omega arith))))
       (full-free net fin n state))
 
@@ -164,7 +165,7 @@ module _ (options : Options) (program file words lent : List ℕ) (accepted : ch
 
   netlist-run : (n : ℕ) → n ≤ 1000000 → runNetlistCall file words n lent .answer ≡ whole-run n
   unfolding runNetlistCall running whole-run
-  netlist-run n l = rw (X .accepted, le-ltb 1000000 n l, B .words-fit, B .state-fits)
+  netlist-run n l = rw (X .ofFile .accepted, le-ltb 1000000 n l, B .words-fit, B .state-fits)
 
   pub full-runs : (forFile : List ℕ) → ltb (length forFile) (length (compiledFile options program)) ≡ false
       → FullRuns file (beginCall Full file words lent) (λ k. runProgramCall options program words k forFile lent .answer)
@@ -199,19 +200,19 @@ module _ (options : Options) (program file words lent : List ℕ) (accepted : ch
     told-end : (s : List ℕ) (m : ℕ) → Holding Full net σ W₁ t s → m ≡ t + 1 → shows Full file s m ≡ referenceAnswer n (ended t σ′)
     unfolding shows referenceAnswer
     told-end s m H e =
-        rw (e, last s H, H .instant (omega (arith, steadily .0)), H .body .present fin (X .wire), high-at)
+        rw (e, last s H, H .instant (omega (arith, steadily .0)), H .body .present fin (X .ofFile .wire), high-at)
 
     pub agrees : whole-run n ≡ referenceAnswer n (ended t σ′)
     unfolding whole-run fullState fullCount
     agrees = go (ℕ-discrete t 0)
       where
         begins : (b : Bool) → level W₁ fin 0 ≡ b → high (nowAt Full state fin) ≡ b
-        begins b e = ap high (first-holds .body .present fin (X .wire)) ∙ e
+        begins b e = ap high (first-holds .body .present fin (X .ofFile .wire)) ∙ e
 
         go : Dec (t ≡ 0) → whole-run n ≡ referenceAnswer n (ended t σ′)
         go (yes e) = rw (begins true (subst (λ (u : ℕ). level W₁ fin u ≡ true) e high-at)) (told-end state 1 (rw e first-holds) (omega arith))
         go (no x) =
-            let C = continues Full net (X .ordered) starts₁ σ W₁ obeys₁ fin (X .wire) n 0 state first-holds first-long (alone _) tt in
+            let C = continues Full net (X .ofFile .ordered) starts₁ σ W₁ obeys₁ fin (X .ofFile .wire) n 0 state first-holds first-long (alone _) tt in
             let z : stopsAt (level W₁ fin) 0 n ≡ t = stops-end (level W₁ fin) t low-before high-at n 0 (omega arith) (omega (arith, steadily .0)) in
             rw (begins false (low-before 0 (omega arith))) (told-end (on n .state) _ (rw z at (C .holding)) (omega (arith, C .count, z)))
 
@@ -224,9 +225,9 @@ module _ (options : Options) (program file words lent : List ℕ) (accepted : ch
     pub stays-open : seen (whole-run n .outcome) (whole-run n .instant) (whole-run n .count) ≡ seen Open n (n + 1)
     unfolding whole-run fullState fullCount shows
     stays-open =
-        let C = continues Full net (X .ordered) starts₁ σ W₁ obeys₁ fin (X .wire) n 0 state first-holds first-long (alone _) tt in
+        let C = continues Full net (X .ofFile .ordered) starts₁ σ W₁ obeys₁ fin (X .ofFile .wire) n 0 state first-holds first-long (alone _) tt in
         let z : stopsAt (level W₁ fin) 0 n ≡ n = stops-never (level W₁ fin) n 0 (λ u a b. low u (omega arith)) ∙ omega arith in
         let H : Holding Full net σ W₁ n (on n .state) = rw z at (C .holding) in
-        let begins : high (nowAt Full state fin) ≡ false = ap high (first-holds .body .present fin (X .wire)) ∙ low 0 (omega arith) in
+        let begins : high (nowAt Full state fin) ≡ false = ap high (first-holds .body .present fin (X .ofFile .wire)) ∙ low 0 (omega arith) in
         let e : 1 + on n .count ≡ n + 1 = omega (arith, C .count, z) in
-        rw (begins, e, H .instant l, H .body .present fin (X .wire), low n (omega arith))
+        rw (begins, e, H .instant l, H .body .present fin (X .ofFile .wire), low n (omega arith))

@@ -42,7 +42,8 @@ use Rattle.theory.specs.State.Holding.{Holding}
 use Rattle.theory.specs.State.Begin.{begin-holds, begin-length}
 use Rattle.theory.specs.Promises.Due.{run-first}
 use Rattle.theory.specs.Promises.Stands.{Given, given-first}
-use Rattle.theory.specs.Promises.Replay.{at0, OfProgram, published, Good, good, answer-seen}
+use Rattle.theory.specs.Promises.Served.{OfProgram, published, served}
+use Rattle.theory.specs.Promises.Replay.{at0, asCalled, Good, good, answer-seen}
 use Rattle.theory.specs.Promises.Behaves.{decides, due-exactly, Stood, behaves, tells-refused, tells-answer}
 
 -- Calls that are not refused -----------------------------------------------------------------------------------------------------------
@@ -114,12 +115,15 @@ module _ (F : Format) (options : Options) (program file words lent : List ℕ) (
         ofProgram =
             record {
               admitted = program-admitted options program accepted;
-              accepted = read;
-              ordered = net-ordered (cellsOf file) (finishOf file) (file-passed file read .cells);
+              ofFile =
+                  record {
+                    accepted = read;
+                    ordered = net-ordered (cellsOf file) (finishOf file) (file-passed file read .cells);
+                    pulse-is = pulse-is;
+                    wire = finish-within file read;
+                  };
               cells-are = cells-are;
-              pulse-is = pulse-is;
               finish-is = ap finishOf e ∙ finish-written (options .pulse) (netlist S) (finish S) some;
-              wire = finish-within file read;
               sixteen = ap memories (sym cells-are) ∙ net-passed (cellsOf file) (finishOf file) (file-passed file read .cells) .sixteen;
             };
         fits = sym (ap (tooLong F) pulse-is) ∙ refuse-unless (tooLong F (pulseOf file)) 27 0 (all-accept (beginChecks F file words lent) checks 1);
@@ -148,7 +152,7 @@ module _ (F : Format) (S : Program) (file words lent : List ℕ) (B : Begun F S 
   net = netOf file
 
   abbrev rules : Runs
-  rules τ k = run (imperative (S .pulse)) k P τ
+  rules = record { within = λ τ k. run (imperative (S .pulse)) k P τ; anew = λ τ. τ }
 
   abbrev size : ℕ
   size = stateSize F net
@@ -166,19 +170,19 @@ module _ (F : Format) (S : Program) (file words lent : List ℕ) (B : Begun F S 
       stood = record { fits = B .fits; began = run-first S (X .admitted) starts σ W (published S file X starts σ W o) pulse; given = given }
 
       pub holding : Holding F net σ W 0 state
-      holding = begin-holds F net (X .ordered) starts σ W o pulse lent room
+      holding = begin-holds F net (X .ofFile .ordered) starts σ W o pulse lent room
 
       pub long : stateSize F net ≤ length state
-      long = rw (begin-length F net (X .ordered) starts σ W o pulse lent room) room
+      long = rw (begin-length F net (X .ofFile .ordered) starts σ W o pulse lent room) room
 
       module _ (Q : Stand → Returned Answer → Type 0)
           (refusing : (st : Stand) (cs : List Call) → Stood F S file X starts σ W o st cs → (k : ℕ) (b : List ℕ) → st .now ≤ 1000000 → Holding F net σ W (st .now) b
           → Q st (record { answer = refusedAnswer (at0 k); lent = b }))
           (answering : (st : Stand) (cs : List Call) → Stood F S file X starts σ W o st cs → (s b : List ℕ) (n : ℕ) → st .now ≤ 1000000 → Holding F net σ W (st .now) s
           → Holding F net σ W (st .now) b → Q st (record { answer = shows F file s n; lent = b })) where
-        goes : Good F S file X starts σ W o Q refusing answering (stand 0 σ 0) state calls (replay F file state calls)
+        goes : Good F (imperative (S .pulse)) (S .pulse) (meaning S) (λ τ. τ) file (X .ofFile) starts σ W o (served S file X starts σ W o F) (asCalled F file) Q refusing answering (stand 0 σ 0) state calls (replay F file state calls)
         goes =
-            good F S file X starts σ W o Q refusing answering calls (stand 0 σ 0) state stood holding long
+            good F (imperative (S .pulse)) (S .pulse) (meaning S) (λ τ. τ) file (X .ofFile) starts σ W o (served S file X starts σ W o F) (asCalled F file) Q refusing answering calls (stand 0 σ 0) state stood holding long
             (omega arith)
 
         pub along : Along Q (stand 0 σ 0 ∷ stands w rules size (stand 0 σ 0) calls)
@@ -190,7 +194,7 @@ module _ (F : Format) (S : Program) (file words lent : List ℕ) (B : Begun F S 
         outcomes =
             rw (B .is)
             (ap₂ (λ (x : Seen) (l : List Seen). x ∷ l)
-            (answer-seen F S file X starts σ W o Q refusing answering (stand 0 σ 0) calls stood state state 1
+            (answer-seen F (imperative (S .pulse)) (S .pulse) (meaning S) (λ τ. τ) file (X .ofFile) starts σ W o (served S file X starts σ W o F) (asCalled F file) Q refusing answering (stand 0 σ 0) calls stood state state 1
             (omega arith) holding)
             (goes .outcomes))
 
@@ -214,7 +218,7 @@ module _ (F : Format) (S : Program) (file words lent : List ℕ) (B : Begun F S 
 
     pub obeys : Obeys net starts σ W
     unfolding W
-    obeys = solution-obeys net starts σ (X .ordered)
+    obeys = solution-obeys net starts σ (X .ofFile .ordered)
 
     tells : Along (Tells F w P file) (stand 0 σ 0 ∷ stands w rules size (stand 0 σ 0) calls)
         (beginCall F file words lent ∷ replay F file (beginCall F file words lent .lent) calls)
@@ -242,6 +246,7 @@ module _ (F : Format) (S : Program) (file words lent : List ℕ) (B : Begun F S 
       record {
         rules = rules;
         decides = decides (imperative (S .pulse)) P (meaning-timed S (X .admitted));
+        present = λ τ. refl;
         once = ends-once (imperative (S .pulse)) P (meaning-timed S (X .admitted));
         due = due-exactly w P (meaning-timed S (X .admitted));
         outcomes = told calls;

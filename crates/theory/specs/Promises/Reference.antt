@@ -42,7 +42,7 @@ use Rattle.laws.specs.NetlistFile.Compiled.{compiled-accepted}
 -- The reference run --------------------------------------------------------------------------------------------------------------------
 
 -- an answer that is no refusal is that of an accepted call
-answered : (c : Checked) (a : Answer) → verdict (answering c a .outcome) ≡ Accepted → (c ≡ Accepted) × (answering c a ≡ a)
+pub answered : (c : Checked) (a : Answer) → verdict (answering c a .outcome) ≡ Accepted → (c ≡ Accepted) × (answering c a ≡ a)
 unfolding answering verdict
 answered Accepted a e = (refl, refl)
 answered (Checked.Refused r) a e = not-refused e
@@ -138,11 +138,11 @@ module _ (options : Options) (program words : List ℕ) (n : ℕ) (forFile lent 
 
 -- The promise --------------------------------------------------------------------------------------------------------------------------
 
-accepted-open : verdict Open ≡ Accepted
+pub accepted-open : verdict Open ≡ Accepted
 unfolding verdict
 accepted-open = refl
 
-accepted-ended : verdict Ended ≡ Accepted
+pub accepted-ended : verdict Ended ≡ Accepted
 unfolding verdict
 accepted-ended = refl
 

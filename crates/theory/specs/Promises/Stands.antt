@@ -60,7 +60,8 @@ module _ (w : ℕ) (rules : Runs) (size : ℕ) (st : Stand) where
 abbrev pub anew : ℕ → Runs → Stand → Store → Next
 anew w rules st σ =
     let s = suc (st .now) in
-    record { tells = seen (endedIf (dueAt w rules (stand s σ s) s)) s 1; after = stand s σ s }
+    let fresh = stand s (rules .anew σ) s in
+    record { tells = seen (endedIf (dueAt w rules fresh s)) s 1; after = fresh }
 
 -- Where a call takes the list -----------------------------------------------------------------------------------------------------------
 
@@ -120,7 +121,7 @@ module _ (w : ℕ) (rules : Runs) (size : ℕ) where
       ⊎-elim (λ m. other (λ e. p (sym (m .begun) ∙ e)) (omega (arith, m .now))) (λ m. other (λ e. omega (arith, m .begun)) (omega (arith, m .now))) (moves st c)
 
   -- and where the run has no end, no other comes at all
-  pub none-ahead : (cs : List Call) (st : Stand) → ((k t : ℕ) (σ : Store) → rules (st .from) k ≡ ended t σ → ⊥) → (v : ℕ) → (st .begun ≡ v → ⊥)
+  pub none-ahead : (cs : List Call) (st : Stand) → ((k t : ℕ) (σ : Store) → rules .within (st .from) k ≡ ended t σ → ⊥) → (v : ℕ) → (st .begun ≡ v → ⊥)
       → startsOf (stands w rules size st cs) v ≡ false
   unfolding stands startsOf
   none-ahead [] st h v p = refl
@@ -129,7 +130,7 @@ module _ (w : ℕ) (rules : Runs) (size : ℕ) where
       ⊎-elim
       (λ m.
       let q : st′ .begun ≡ v → ⊥ = λ e. p (sym (m .begun) ∙ e) in
-      rw (ne-eqb (st′ .begun) v q) (none-ahead cs st′ (λ k t σ e. h k t σ (ap (λ (τ : Store). rules τ k) (sym (m .from)) ∙ e)) v q))
+      rw (ne-eqb (st′ .begun) v q) (none-ahead cs st′ (λ k t σ e. h k t σ (ap (λ (τ : Store). rules .within τ k) (sym (m .from)) ∙ e)) v q))
       (λ m. absurd (h (st .now - st .begun) (m .time) (m .words) (m .ending))) (moves st c)
 
   -- The start instants as they are, where the list stands at st and these calls are to come ----------------------------------------------
@@ -185,7 +186,7 @@ module _ (w : ℕ) (rules : Runs) (size : ℕ) where
           }
 
   -- a run that has no end has no other after it
-  pub given-alone : (starts : Sig) (st : Stand) (cs : List Call) → Given starts st cs → ((k t : ℕ) (σ : Store) → rules (st .from) k ≡ ended t σ → ⊥)
+  pub given-alone : (starts : Sig) (st : Stand) (cs : List Call) → Given starts st cs → ((k t : ℕ) (σ : Store) → rules .within (st .from) k ≡ ended t σ → ⊥)
       → (t : ℕ) → NoStart starts (st .begun) t
   given-alone starts st cs G h t u l k =
       by-le u (st .now) (λ z. G .none u l z) (λ z. G .ahead u z ∙ none-ahead cs st h u (λ e. omega arith))

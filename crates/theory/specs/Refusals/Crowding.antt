@@ -112,7 +112,7 @@ crowding-gives Compact net s t =
     gives-fault (just 26) (crowded Compact net s t) (length (net .cells))
     (λ k. faulty-if (eqb (cellAt (net .cells) k .kind) 34 && (high (nowAt Compact t (cellAt (net .cells) k .a)) && ltb 1 (leftAt Compact s k))) 26)
 
-course-gives : (F : Format) (net : Netlist) (f n : ℕ) (s : List ℕ) → Gives (crowdNumbers F) (continued F net f n s .check)
+pub course-gives : (F : Format) (net : Netlist) (f n : ℕ) (s : List ℕ) → Gives (crowdNumbers F) (continued F net f n s .check)
 unfolding continued
 course-gives F net f zero s = inl refl
 course-gives F net f (suc n) s =
@@ -129,7 +129,7 @@ crowd-number : (F : Format) (k : ℕ) → among k (crowdNumbers F) ≡ true → 
 crowd-number Full k e = absurd (true≢false (sym e))
 crowd-number Compact k e = by-bool (eqb k 26) (λ z. eqb-true k 26 z) (λ z. absurd (true≢false (sym e ∙ ap (λ (b : Bool). b || false) z)))
 
-all-positive : (F : Format) → positive (fileNumbers ∷ longNumbers F ∷ just 14 ∷ just 15 ∷ just 16 ∷ crowdNumbers F ∷ []) ≡ true
+pub all-positive : (F : Format) → positive (fileNumbers ∷ longNumbers F ∷ just 14 ∷ just 15 ∷ just 16 ∷ crowdNumbers F ∷ []) ≡ true
 all-positive Full = refl
 all-positive Compact = refl
 
@@ -137,7 +137,7 @@ all-positive Compact = refl
 
 module _ (F : Format) (cs : List Checked) (file : List ℕ) (o : Course) (lent : List ℕ) where
   -- what the checks find, and then 26
-  going-verdict : verdict (goingOn F (first cs) file o lent .answer .outcome) ≡ first (cs ++ (o .check ∷ []))
+  pub going-verdict : verdict (goingOn F (first cs) file o lent .answer .outcome) ≡ first (cs ++ (o .check ∷ []))
   unfolding goingOn verdict
   going-verdict = go (first cs) refl
     where

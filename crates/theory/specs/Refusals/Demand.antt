@@ -26,7 +26,7 @@ use Rattle.theory.specs.Refusals.Order.{gives-if, positive, refuses, pro
 use Rattle.theory.specs.Refusals.Crowding.{goes, continue-refuses, start-free}
 
 -- no number is 0, with 27 or without
-positive-with : (F : Format) (nss : List (List ℕ)) → positive nss ≡ true → positive (fileNumbers ∷ longNumbers F ∷ nss) ≡ true
+pub positive-with : (F : Format) (nss : List (List ℕ)) → positive nss ≡ true → positive (fileNumbers ∷ longNumbers F ∷ nss) ≡ true
 positive-with Full nss e = e
 positive-with Compact nss e = e
 

@@ -202,7 +202,7 @@ unfolding verdictOf
 verdict-gives builtIn = inl refl
 verdict-gives (given file) = gives-first tableNumbers (just 19 ∷ just 20 ∷ just 21 ∷ []) (tableChecks file) refl (table-order file)
 
-table-gives : (G : Given) → Gives tableNumbers (load G .checked)
+pub table-gives : (G : Given) → Gives tableNumbers (load G .checked)
 unfolding load
 table-gives G = verdict-gives (G .table)
 

@@ -13,7 +13,7 @@ use Rattle.laws.specs.State.Passes.{length-counted, begin-is, begin-instant}
 use Rattle.model.specs.declared.Cell.{Cell}
 use Rattle.model.specs.declared.Format.{Format}
 use Rattle.model.specs.Word.{pick, bit, index, elementOf, elementWord, get16, bytes16}
-use Rattle.model.specs.Circuit.{Netlist, cellAt, Sig, Values, level, high, delayed, remainingBefore, mergedBefore, stepOf, memory, Elements, element, arrayAt, equation, startWord, Obeys, Shape, kDelay, kMemory, kRead}
+use Rattle.model.specs.Circuit.{Netlist, cellAt, Sig, Values, level, high, delayed, remainingBefore, mergedBefore, stepOf, memory, latch, Elements, element, arrayAt, equation, startWord, Obeys, Shape, kDelay, kMemory, kLatch, kRead}
 use Rattle.model.specs.State.{instantOf, wordBytes, cellSize, base, stateSize, elementNow, nowAt, beforeAt, heldAt, remainingByte, remainingAt, nextValue, value, firstValue, lineAt, counted, beginState}
 use Rattle.model.specs.CircuitPromises.{earlier, kept}
 use Rattle.laws.specs.Circuit.Ordered.{kinds, Ordered}
@@ -23,7 +23,7 @@ use Rattle.theory.specs.State.Arrays.{element-late, element-after}
 use Rattle.laws.specs.State.Lines.{least, below, remaining-from, remaining-within, kept-all, Line, line-empty, kept-empty, vacant-empty}
 use Rattle.laws.specs.State.Passes.{shapeAt, two, two-high, length-three, after, seen-before, seen-held, seen-line, before-after, line-old, line-kept}
 use Rattle.theory.specs.State.Flight.{counted-holds}
-use Rattle.theory.specs.State.Holding.{Joins, Clean, Body, Holding, delayed-early, later-is, delay-looks, read-looks, clean-after, now-is, held-is, remaining-is, newest-is}
+use Rattle.theory.specs.State.Holding.{Joins, Clean, Body, Holding, delayed-early, later-is, delay-looks, latch-looks, read-looks, clean-after, now-is, held-is, remaining-is, newest-is}
 
 -- the first m bytes are zero, then others
 abbrev cleared : ℕ → List ℕ → List ℕ
@@ -161,6 +161,15 @@ module _ (F : Format) where
         element-late F net ordered a i la li w Z room-blank n h g
         ∙ rw (before-Z (cellAt (net .cells) (arrayAt (net .cells) a) .a) (omega (arith, r .0, f .0)), r .2) (element-Z (64 * a + i) (omega arith) ∙ ap words z)
 
+    -- no control was 1: a latch is 0
+    begin-latch : (k : ℕ) → k < length (net .cells) → shapeAt net k ≡ kLatch
+        → nextValue F kLatch (starts 0) net (two F net w Z k) k (cellAt (net .cells) k) ≡ latch W k (cellAt (net .cells) k) 0
+    unfolding nextValue latch
+    begin-latch k h e =
+        let c = cellAt (net .cells) k in
+        let o = latch-looks (kinds (net .cells)) (length (net .cells)) k c e (ordered .looks k h) in
+        rw (seen-before F net w Z k (c .a) (o .0) ∙ before-Z (c .a) (o .0), seen-before F net w Z k k h ∙ before-Z k h)
+
     begin-read : (k : ℕ) → k < length (net .cells) → ((a : ℕ) → a < k → nowAt F (two F net w Z k) a ≡ W a 0) → shapeAt net k ≡ kRead
         → nextValue F kRead (starts 0) net (two F net w Z k) k (cellAt (net .cells) k) ≡ element (net .cells) words W (cellAt (net .cells) k .a) (index (W (cellAt (net .cells) k .b) 0)) 0
     unfolding nextValue
@@ -196,7 +205,7 @@ module _ (F : Format) where
             (λ z.
             unfold remainingBefore in
             two-high F net w Z k k (remainingByte F k) h (omega (arith, remaining-from F k)) (remaining-within F k) ∙ remaining-Z k h)
-            (λ z. absurd (eqb-false kind 40 f (memory-kind kind z))) (begin-read k h lower)
+            (λ z. absurd (eqb-false kind 40 f (memory-kind kind z))) (begin-latch k h) (begin-read k h lower)
 
     abbrev B : List ℕ
     B = after F net w Z

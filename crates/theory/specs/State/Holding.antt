@@ -16,7 +16,7 @@ use Rattle.model.specs.declared.Cell.{Cell}
 use Rattle.model.specs.declared.Format.{Format}
 use Rattle.model.specs.declared.Merge.{Merge}
 use Rattle.model.specs.Word.{pick, bit, isZero, operate, index}
-use Rattle.model.specs.Circuit.{Netlist, cellAt, Sig, Values, high, level, delayed, remainingStep, remainingBefore, pulses, mergeStep, shortReturn, longReturn, returnStep, Step, mergedBefore, heldBefore, merged, merges, stepOf, shape, memory, Elements, element, arrayAt, equation, Shape, cellTable, kConstant, kComplement, kOperator, kStart, kGround, kDelay, kOr, kWhenTrue, kWhenFalse, kMerge, kReturn, kMemory, kGated, kArray, kAddress, kRead, kUnknown}
+use Rattle.model.specs.Circuit.{Netlist, cellAt, Sig, Values, high, level, delayed, remainingStep, remainingBefore, pulses, mergeStep, shortReturn, longReturn, returnStep, Step, mergedBefore, heldBefore, merged, merges, stepOf, shape, memory, latch, Elements, element, arrayAt, equation, Shape, cellTable, kConstant, kComplement, kOperator, kStart, kGround, kDelay, kOr, kWhenTrue, kWhenFalse, kMerge, kReturn, kMemory, kGated, kArray, kAddress, kRead, kLatch, kUnknown}
 use Rattle.model.specs.State.{instantOf, flightOf, cellSize, base, elementNow, nowAt, beforeAt, heldAt, lineBit, remainingByte, remainingAt, nextValue, holding, settle, lineAt, flight}
 use Rattle.model.specs.CircuitPromises.{earlier, kept, heldOf, remainingOf}
 use Rattle.theory.specs.Numbering.Levels.{delayed-zero}
@@ -61,6 +61,10 @@ module _ (K : ℕ → ℕ) (n k : ℕ) (c : Cell) {sh : Shape} where
   unfolding cellTable
   mem-looks e o = let (d, a, b) = looks-as K n k c e o in (a .0, b .0)
 
+  pub latch-looks : sh ≡ kLatch → Looks (cellTable sh .row) K n k c → (c .a < n) × (c .b < n)
+  unfolding cellTable
+  latch-looks e o = let (d, a, b) = looks-as K n k c e o in (a .0, b .0)
+
   pub read-looks : sh ≡ kRead → Looks (cellTable sh .row) K n k c → (c .a < k) × (c .b < k) × (K (c .a) ≡ 42)
   unfolding cellTable
   read-looks e o = let (d, a, b) = looks-as K n k c e o in (a .0, b .0, eqb-true _ _ (a .1))
@@ -86,30 +90,32 @@ module _ (F : Format) where
         → (merges (c .kind) ≡ true → Joins F (stepOf (net .pulse) (c .kind)) W c s k T)
         → (sh ≡ kStart → remainingAt F s k ≡ remainingBefore (net .pulse) starts T)
         → (sh ≡ kMemory → nextValue F kMemory (starts T) net s k c ≡ memory first W k c T)
+        → (sh ≡ kLatch → nextValue F kLatch (starts T) net s k c ≡ latch W k c T)
         → (sh ≡ kRead → nextValue F kRead (starts T) net s k c ≡ E (c .a) (index (W (c .b) T)) T)
         → nextValue F sh (starts T) net s k c ≡ equation (net .pulse) sh starts first E W k c T
     unfolding nextValue equation merged mergedBefore pulses cellTable
-    later-is kConstant z o q r p m e = refl
-    later-is kComplement z o q r p m e = ap (λ (x : ℕ). operate 3 x 0) (lower (c .a) (o .1 .0))
-    later-is kOperator z o q r p m e = ap₂ (λ (x y : ℕ). operate (c .kind) x y) (lower (c .a) (o .1 .0)) (lower (c .b) (o .2 .0))
-    later-is kStart z o q r p m e = ap (λ (n : ℕ). bit (starts T || not (isZero n))) (p refl)
-    later-is kGround z o q r p m e = refl
-    later-is kDelay z o q r p m e = q refl
-    later-is kOr z o q r p m e = ap₂ (λ (x y : ℕ). bit (high x || high y)) (lower (c .a) (o .1 .0)) (lower (c .b) (o .2 .0))
-    later-is kWhenTrue z o q r p m e = ap₂ (λ (x y : ℕ). bit (high x && not (isZero y))) (lower (c .a) (o .1 .0)) (lower (c .b) (o .2 .0))
-    later-is kWhenFalse z o q r p m e = ap₂ (λ (x y : ℕ). bit (high x && isZero y)) (lower (c .a) (o .1 .0)) (lower (c .b) (o .2 .0))
-    later-is kMerge z o q r p m e =
+    later-is kConstant z o q r p m g e = refl
+    later-is kComplement z o q r p m g e = ap (λ (x : ℕ). operate 3 x 0) (lower (c .a) (o .1 .0))
+    later-is kOperator z o q r p m g e = ap₂ (λ (x y : ℕ). operate (c .kind) x y) (lower (c .a) (o .1 .0)) (lower (c .b) (o .2 .0))
+    later-is kStart z o q r p m g e = ap (λ (n : ℕ). bit (starts T || not (isZero n))) (p refl)
+    later-is kGround z o q r p m g e = refl
+    later-is kDelay z o q r p m g e = q refl
+    later-is kOr z o q r p m g e = ap₂ (λ (x y : ℕ). bit (high x || high y)) (lower (c .a) (o .1 .0)) (lower (c .b) (o .2 .0))
+    later-is kWhenTrue z o q r p m g e = ap₂ (λ (x y : ℕ). bit (high x && not (isZero y))) (lower (c .a) (o .1 .0)) (lower (c .b) (o .2 .0))
+    later-is kWhenFalse z o q r p m g e = ap₂ (λ (x y : ℕ). bit (high x && isZero y)) (lower (c .a) (o .1 .0)) (lower (c .b) (o .2 .0))
+    later-is kMerge z o q r p m g e =
         let j = held-by (mergeStep (eqb (net .pulse) 1)) (of-merge (net .pulse) (c .kind) z) r in
         rw (j .held, j .was, lower (c .a) (o .1 .0), lower (c .b) (o .2 .0))
-    later-is kReturn z o q r p m e =
+    later-is kReturn z o q r p m g e =
         let j = held-by (returnStep (eqb (net .pulse) 1)) (of-return (net .pulse) (c .kind) z) r in
         rw (j .held, j .was, lower (c .a) (o .1 .0), lower (c .b) (o .2 .0))
-    later-is kMemory z o q r p m e = m refl
-    later-is kGated z o q r p m e = ap₂ (λ (x y : ℕ). pick (high x) y 0) (lower (c .a) (o .1 .0)) (lower (c .b) (o .2 .0))
-    later-is kArray z o q r p m e = refl
-    later-is kAddress z o q r p m e = refl
-    later-is kRead z o q r p m e = e refl
-    later-is kUnknown z o q r p m e = refl
+    later-is kMemory z o q r p m g e = m refl
+    later-is kGated z o q r p m g e = ap₂ (λ (x y : ℕ). pick (high x) y 0) (lower (c .a) (o .1 .0)) (lower (c .b) (o .2 .0))
+    later-is kArray z o q r p m g e = refl
+    later-is kAddress z o q r p m g e = refl
+    later-is kRead z o q r p m g e = e refl
+    later-is kLatch z o q r p m g e = g refl
+    later-is kUnknown z o q r p m g e = refl
 
   -- Bytes without a use ------------------------------------------------------------------------------------------------------------------------------
 
@@ -142,6 +148,7 @@ module _ (F : Format) where
   settle-rest w kArray t k c j h g f = refl
   settle-rest w kAddress t k c j h g f = refl
   settle-rest w kRead t k c j h g f = refl
+  settle-rest w kLatch t k c j h g f = refl
   settle-rest w kUnknown t k c j h g f = refl
 
   held-bits : (t : List ℕ) (k : ℕ) (m : Merge) (j : ℕ) → base F k + 6 ≤ length t → base F k + 4 ≤ j → j < base F k + 6 → getD (holding F t k m) j 0 ≤ 1
@@ -191,6 +198,7 @@ module _ (F : Format) where
   settle-bits w kArray t k c j B r h g l e f = l
   settle-bits w kAddress t k c j B r h g l e f = l
   settle-bits w kRead t k c j B r h g l e f = l
+  settle-bits w kLatch t k c j B r h g l e f = l
   settle-bits w kUnknown t k c j B r h g l e f = l
 
   one-bit : (kind k j : ℕ) → kind ≡ 38 → mostHeld kind k j ≡ 1

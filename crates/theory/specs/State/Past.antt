@@ -14,7 +14,7 @@ use Rattle.model.specs.declared.Format.{Format}
 use Rattle.model.specs.declared.Format.the-variants.{Full, Compact}
 use Rattle.model.specs.declared.Merge.{Merge}
 use Rattle.model.specs.Word.{pick, bit, elementOf, put16, put32}
-use Rattle.model.specs.Circuit.{Netlist, cellAt, Sig, high, Shape, shape, kConstant, kComplement, kOperator, kStart, kGround, kDelay, kOr, kWhenTrue, kWhenFalse, kMerge, kReturn, kMemory, kGated, kArray, kAddress, kRead, kUnknown}
+use Rattle.model.specs.Circuit.{Netlist, cellAt, Sig, high, Shape, shape, kConstant, kComplement, kOperator, kStart, kGround, kDelay, kOr, kWhenTrue, kWhenFalse, kMerge, kReturn, kMemory, kGated, kArray, kAddress, kRead, kLatch, kUnknown}
 use Rattle.model.specs.State.{instantOf, upTo, shiftedIn, wordBytes, cellSize, base, stateSize, elementBase, nowAt, beforeAt, takenIn, remainingByte, value, firstValue, aged, stored, shown, holding, settle, settled, counted, blank, evaluate, beginState, stepState}
 use Rattle.model.specs.CircuitPromises.{stateAt}
 use Rattle.laws.specs.Refusals.Laws.{and-true}
@@ -71,6 +71,7 @@ module _ (F : Format) where
   past-settle w n kArray s k c l = refl
   past-settle w n kAddress s k c l = refl
   past-settle w n kRead s k c l = refl
+  past-settle w n kLatch s k c l = refl
   past-settle w n kUnknown s k c l = refl
 
   -- a pass over m cells

@@ -9,7 +9,7 @@ use lib.ListN.{getD, length}
 use Rattle.model.specs.declared.Cell.{Cell}
 use Rattle.model.specs.declared.Format.{Format}
 use Rattle.model.specs.Word.{bit, index, elementOf}
-use Rattle.model.specs.Circuit.{Netlist, cellAt, Sig, Values, high, level, delayed, remainingBefore, merges, stepOf, memory, element, arrayAt, startWord, Obeys, kStart, kDelay, kMemory, kRead}
+use Rattle.model.specs.Circuit.{Netlist, cellAt, Sig, Values, high, level, delayed, remainingBefore, merges, stepOf, memory, latch, element, arrayAt, startWord, Obeys, kStart, kDelay, kMemory, kLatch, kRead}
 use Rattle.model.specs.State.{instantOf, cellSize, base, stateSize, elementNow, nowAt, beforeAt, heldAt, remainingByte, remainingAt, nextValue, value, lineAt, counted, stepState}
 use Rattle.model.specs.CircuitPromises.{earlier, kept, Apart}
 use Rattle.laws.specs.Circuit.Ordered.{kinds, Ordered}
@@ -20,7 +20,7 @@ use Rattle.laws.specs.State.Lines.{least, below, remaining-from, remaining-with
 use Rattle.laws.specs.State.Passes.{shapeAt, count-now, one, length-one, one-high, before-one, one-behind, two, two-high, now-two, length-three, after, now-after, seen-before, seen-held, seen-line, before-after, line-old, line-kept, now-counted, length-counted, step-is}
 use Rattle.theory.specs.State.Flight.{counted-holds}
 use Rattle.theory.specs.State.Counters.{vacant-at}
-use Rattle.theory.specs.State.Holding.{Joins, Clean, Body, Holding, delayed-more, later-is, delay-looks, mem-looks, read-looks, clean-after, now-is, held-is, remaining-is, newest-is}
+use Rattle.theory.specs.State.Holding.{Joins, Clean, Body, Holding, delayed-more, later-is, delay-looks, mem-looks, latch-looks, read-looks, clean-after, now-is, held-is, remaining-is, newest-is}
 use Rattle.theory.specs.State.Wires.{start-remaining, merge-level}
 
 module _ (F : Format) where
@@ -107,6 +107,17 @@ module _ (F : Format) where
           let K : beforeAt F (two F net v U k) k ≡ W k t = seen-before F net v U k k h ∙ before-U k h in
           rw (A, B, K, lower (c .a) (o .0))
 
+      step-latch : (k : ℕ) → k < length (net .cells) → shapeAt net k ≡ kLatch
+          → nextValue F kLatch (starts (suc t)) net (two F net v U k) k (cellAt (net .cells) k) ≡ latch W k (cellAt (net .cells) k) (suc t)
+      unfolding nextValue latch
+      step-latch k h e =
+          let c = cellAt (net .cells) k in
+          let o = latch-looks (kinds (net .cells)) (length (net .cells)) k c e (ordered .looks k h) in
+          let A : beforeAt F (two F net v U k) (c .a) ≡ W (c .a) t = seen-before F net v U k (c .a) (o .0) ∙ before-U (c .a) (o .0) in
+          let B : beforeAt F (two F net v U k) (c .b) ≡ W (c .b) t = seen-before F net v U k (c .b) (o .1) ∙ before-U (c .b) (o .1) in
+          let K : beforeAt F (two F net v U k) k ≡ W k t = seen-before F net v U k k h ∙ before-U k h in
+          rw (A, B, K)
+
       -- an array's word is the next one once the pass is past the array's cell
       step-element : (a i n : ℕ) → a < 4 → i < 64 → arrayAt (net .cells) a < n → n ≤ length (net .cells)
           → nowAt F (two F net v U n) (cellAt (net .cells) (arrayAt (net .cells) a) .a) ≡ W (cellAt (net .cells) (arrayAt (net .cells) a) .a) (suc t)
@@ -151,7 +162,7 @@ module _ (F : Format) where
           (λ e.
           two-high F net v U k k (remainingByte F k) h (omega (arith, remaining-from F k)) (remaining-within F k) ∙ remaining-U k h e
           ∙ start-remaining net starts words W obeys k h e (suc t))
-          (step-memory k h lower) (step-read k h lower)
+          (step-memory k h lower) (step-latch k h) (step-read k h lower)
           ∙ sym (obeys k h (suc t))
 
       abbrev S : List ℕ

@@ -101,6 +101,7 @@ fn the_netlist_is_good_and_the_highest_lower_inputs_are() {
     for kind in [36, 37, 41] {
         assert_good(&with(PUT, Cell::new(kind, 0, CONTROL, WORD)));
     }
+    assert_good(&with(PUT, Cell::new(45, 0, CONTROL, WORD)));
     assert_good(&with(PUT, Cell::new(1, 0, 65_535, 0)));
     assert_good(&with(PUT, Cell::new(3, 0, WORD, 0)));
     for array in [19, 21, 23, 25] {
@@ -109,9 +110,12 @@ fn the_netlist_is_good_and_the_highest_lower_inputs_are() {
 }
 
 #[test]
-fn delays_may_name_any_control_wire_and_memories_and_arrays_any_word() {
+fn delays_and_latches_may_name_any_control_wire_and_latches_memories_and_arrays_any_word() {
     for a in [0, CONTROL, ITSELF, HIGHER_CONTROL] {
         assert_good(&with(PUT, Cell::new(34, 255, a, 0)));
+    }
+    for (a, b) in [(0, 2), (HIGHER_CONTROL, HIGHER_WORD), (CONTROL, ITSELF)] {
+        assert_good(&with(PUT, Cell::new(45, 0, a, b)));
     }
     for b in [2, 3, WORD, HIGHER_WORD] {
         assert_good(&with(3, Cell::new(40, 0, 1, b)));
@@ -122,7 +126,7 @@ fn delays_may_name_any_control_wire_and_memories_and_arrays_any_word() {
 
 #[test]
 fn unknown_kinds() {
-    assert_bad([0, 2, 10, 31, 45, 255].map(|kind| Cell::new(kind, 0, 0, 0)));
+    assert_bad([0, 2, 10, 31, 46, 255].map(|kind| Cell::new(kind, 0, 0, 0)));
 }
 
 #[test]
@@ -191,6 +195,13 @@ fn switches_and_gates_take_a_control_wire_and_a_word() {
 #[test]
 fn a_delay_takes_a_control_wire_that_there_is() {
     assert_bad([2, WORD, HIGHER_WORD, NONE, 65_535].map(|a| Cell::new(34, 1, a, 0)));
+}
+
+#[test]
+fn a_latch_takes_a_control_wire_and_a_word_that_there_are() {
+    let no_control = [2, WORD, ITSELF, HIGHER_WORD, ARRAY, ADDRESS, NONE, 65_535];
+    assert_bad(no_control.map(|a| Cell::new(45, 0, a, WORD)));
+    assert_bad(NOWHERE_A_WORD.map(|b| Cell::new(45, 0, CONTROL, b)));
 }
 
 #[test]

@@ -10,7 +10,7 @@ use values::{Cell, Shape};
 const LENT: Cell = Cell::new(0xa5, 0xa5, 0xa5a5, 0xa5a5);
 
 /// A lent file: longer than any, and filled so that a stray write shows.
-static LENT_FILE: [u8; 7_000] = [0xa5; 7_000];
+static LENT_FILE: [u8; 101_000] = [0xa5; 101_000];
 
 const SHAPE: Shape = Shape {
     cells: COUNT as u16,
@@ -62,7 +62,7 @@ const MOVED: [[(u16, u16); 4]; COUNT] = [
     [(37, 38), (38, 39), (44, 45), (31, 32)],
     [(25, 34), (26, 35), (32, 41), (19, 28)],
     [(39, 40), (40, 41), (46, 47), (33, 34)],
-    [(7, 0), (7, 0), (7, 0), (7, 0)],
+    [(43, 42), (44, 43), (50, 49), (37, 36)],
     [(0, 0), (1, 1), (7, 7), (65_530, 65_530)],
 ];
 
@@ -122,7 +122,7 @@ fn reading_moves_what_names_a_cell_and_nothing_else() {
 
 #[test]
 fn reading_in_front_gives_the_cells_of_the_six_bytes() {
-    for count in [44, 84, 85, 1_024] {
+    for count in [44, 84, 85, 1_024, 16_384] {
         let file = file(&cells_up_to(count), FINISH);
         let by_bytes = (BOTH.read_netlist)(&file, &vec![0; 6 * count]);
         let read = (BOTH.read_cells)(&file, 0, &vec![LENT; count]);
@@ -135,7 +135,7 @@ fn reading_in_front_gives_the_cells_of_the_six_bytes() {
 
 #[test]
 fn writing_gives_the_file_and_keeps_what_is_past_it() {
-    for count in [44, 84, 85, 1_024] {
+    for count in [44, 84, 85, 1_024, 16_384] {
         let cells = cells_up_to(count);
         let mut expected = LENT_FILE;
         let file = file(&cells, FINISH);
@@ -150,28 +150,28 @@ fn writing_gives_the_file_and_keeps_what_is_past_it() {
 }
 
 #[test]
-fn a_count_outside_27_to_1024_is_11() {
+fn a_count_outside_27_to_16384_is_11() {
     // The last of these a header would tell as 27.
-    for count in [0, 1, 26, 1_025, 1_026, 65_535, 65_536, 65_563] {
+    for count in [0, 1, 26, 16_385, 16_386, 65_535, 65_536, 65_563] {
         assert_cells_refused(&cells_up_to(count), 0, 11, 0);
     }
     // Cells that break every rule are not looked at.
     assert_cells_refused(&[LENT; 26], 0, 11, 0);
-    assert_cells_refused(&[LENT; 1_025], 0, 11, 0);
+    assert_cells_refused(&vec![LENT; 16_385], 0, 11, 0);
 }
 
 #[test]
 fn a_finish_not_below_the_count_is_11() {
-    for finish in [44, 45, 1_024, 65_535] {
+    for finish in [44, 45, 16_383, 65_535] {
         assert_cells_refused(&every_kind(), finish, 11, 0);
     }
     assert_cells_refused(&[LENT; COUNT], 44, 11, 0);
-    assert_cells_refused(&cells_up_to(1_024), 1_024, 11, 0);
+    assert_cells_refused(&cells_up_to(16_384), 16_384, 11, 0);
 }
 
 #[test]
 fn a_file_one_byte_short_is_14() {
-    for (count, length) in [(44, 512), (84, 512), (85, 1_024), (1_024, 6_656)] {
+    for (count, length) in [(44, 512), (84, 512), (85, 1_024), (16_384, 100_352)] {
         let cells = cells_up_to(count);
         let short = &LENT_FILE[..length - 1];
         let written = (BOTH.write_cells)(1, &cells, FINISH, short);
@@ -222,7 +222,7 @@ fn a_file_of_a_wrong_length_is_9() {
         assert_file_refused(&file[..length], 1, 50, 9, 0);
     }
     assert_file_refused(&[&file[..], &[0]].concat(), 1, 50, 9, 0);
-    assert_file_refused(&file.repeat(14), usize::MAX, 50, 9, 0);
+    assert_file_refused(&file.repeat(197), usize::MAX, 50, 9, 0);
 }
 
 #[test]
@@ -237,7 +237,7 @@ fn a_wrong_check_is_10() {
 #[test]
 fn a_wrong_header_or_unused_byte_is_11() {
     assert_file_refused(&file(&cells_up_to(26), 0), 1, 50, 11, 0);
-    assert_file_refused(&file(&cells_up_to(1_025), 0), 1, 2_000, 11, 0);
+    assert_file_refused(&file(&cells_up_to(16_385), 0), 1, 20_000, 11, 0);
     assert_file_refused(&file(&every_kind(), 44), 1, 50, 11, 0);
     // Two words more, which leave the sum: both in unused places of block 1.
     let mut unused = file(&cells_up_to(100), FINISH);
@@ -273,13 +273,22 @@ fn six_bytes_are_renumbered_as_cells_are() {
 
 #[test]
 fn a_run_past_the_list_is_not_renumbered() {
-    let list = Cell::all_bytes(&cells_up_to(1_100));
-    let ends = [4, 43, 44, 1_024, 1_025, 1_100, usize::MAX / 6, usize::MAX];
+    let list = Cell::all_bytes(&cells_up_to(16_500));
+    let ends = [
+        4,
+        44,
+        1_025,
+        16_384,
+        16_385,
+        16_500,
+        usize::MAX / 6,
+        usize::MAX,
+    ];
     for (end, missing) in ends.into_iter().flat_map(|end| [(end, 0), (end, 1)]) {
         let length = end
             .checked_mul(6)
             .map_or(list.len(), |all| all.min(list.len()) - missing);
-        let done = end <= 1_024 && missing == 0;
+        let done = end <= 16_384 && missing == 0;
         let reply = (BOTH.renumber)(0, end, 9, &list[..length]);
         assert_eq!(reply.result, Ok(done), "to {end} of {length} bytes");
         let changed = reply.lent[0] != list[..length];

@@ -42,7 +42,7 @@ pub fn every_kind() -> Vec<Cell> {
         Cell::new(38, 0, 37, 38),
         Cell::new(44, 0, 25, 34),
         Cell::new(41, 0, 39, 40),
-        Cell::new(1, 0, 7, 0),
+        Cell::new(45, 0, 43, 42),
         Cell::new(39, 0, 0, 0),
     ]);
     cells

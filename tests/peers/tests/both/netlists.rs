@@ -16,24 +16,24 @@ fn cells(count: usize) -> Vec<Cell> {
 
 /// Reading the file of so many cells; finish is cell 0.
 fn read(count: usize) -> Result<(), Refusal> {
-    let read = (BOTH.read_netlist)(&file(&cells(count), 0), &[0; 6200]);
+    let read = (BOTH.read_netlist)(&file(&cells(count), 0), &[0; 98_304]);
     read.result.map(drop)
 }
 
 /// Writing so many cells; finish is cell 0.
 fn write(count: usize) -> Result<(), Refusal> {
     let bytes = Cell::all_bytes(&cells(count));
-    let written = (BOTH.write_netlist)(1, &bytes, 0, &[0; 6656]);
+    let written = (BOTH.write_netlist)(1, &bytes, 0, &[0; 100_352]);
     written.result.map(drop)
 }
 
 #[test]
-fn a_count_outside_27_to_1024_is_a_wrong_header() {
-    for count in [1, 26, 1025, 1092] {
+fn a_count_outside_27_to_16384_is_a_wrong_header() {
+    for count in [1, 26, 16_385, 16_464] {
         assert_eq!(read(count), refused(11, 0), "{count} cells");
         assert_eq!(write(count), refused(11, 0), "{count} cells");
     }
-    for count in [27, 84, 85, 1024] {
+    for count in [27, 84, 85, 1_024, 1_025, 16_383, 16_384] {
         assert_eq!(read(count), Ok(()), "{count} cells");
         assert_eq!(write(count), Ok(()), "{count} cells");
     }

@@ -111,15 +111,15 @@ fn a_length_that_no_pulse_has_is_27_before_all_else() {
 #[test]
 fn a_longer_pulse_with_a_compact_state_is_27() {
     for pulse in 2..=8 {
-        let Run { file, .. } = main_alone(tick(3)).begun(pulse, &START);
+        let full = main_alone(tick(3)).begun(pulse, &START);
         let lent = [0xa5; 3];
-        let begun = (BOTH.begin)(Format::Compact, &file, &[], &lent);
+        let begun = (BOTH.begin)(Format::Compact, &full.file, &[], &lent);
         assert_eq!(begun.result, refused(27, 0));
         assert_eq!(begun.lent, [lent]);
         let run = Run {
             format: Format::Compact,
-            file,
             state: lent.to_vec(),
+            ..full
         };
         run.assert_refused(u32::MAX, 27);
         run.assert_start_refused(27);

@@ -2,7 +2,7 @@
 
 use crate::expect::{cell_length, refused, state_length};
 use peers::{Reply, BOTH};
-use values::{Answer, Format, Given};
+use values::{Answer, Circuit, Format, Given};
 
 /// Where the number in flight stands in a state, after the instant.
 pub const NUMBER: usize = 4;
@@ -31,6 +31,7 @@ const fn place(format: Format, cell: u16, byte: usize) -> usize {
 /// A netlist file, and the state that the last call has left.
 #[derive(Clone)]
 pub struct Run {
+    pub circuit: Circuit,
     pub format: Format,
     pub file: Vec<u8>,
     pub state: Vec<u8>,
@@ -44,15 +45,25 @@ impl Run {
 
     /// The same with a state of either format.
     pub fn begin_in(format: Format, file: &[u8], words: &[u8]) -> Run {
-        let read = (BOTH.read_netlist)(file, &[0; 6_144]);
-        let count = read.result.expect("a good netlist").cells;
-        let mut run = Run {
+        Run::begin_of(Circuit::Imperative, format, file, words)
+    }
+
+    /// The same of a run of either circuit.
+    pub fn begin_of(circuit: Circuit, format: Format, file: &[u8], words: &[u8]) -> Run {
+        let mut run = Run::lent(circuit, format, file);
+        run.done(BOTH.begin_of(circuit)(format, file, words, &run.state));
+        run
+    }
+
+    /// The buffer before a beginning, of the state's length.
+    pub fn lent(circuit: Circuit, format: Format, file: &[u8]) -> Run {
+        let count = u16::from_le_bytes([file[2], file[3]]);
+        Run {
+            circuit,
             format,
             file: file.to_vec(),
             state: vec![0xa5; state_length(format, count.into())],
-        };
-        run.done((BOTH.begin)(format, file, words, &run.state));
-        run
+        }
     }
 
     /// A beginning of the netlist of an accepted program.
@@ -82,12 +93,17 @@ impl Run {
 
     /// A start, which isn't refused.
     pub fn start(&mut self) -> Answer {
-        self.done((BOTH.start)(self.format, &self.file, &self.state))
+        self.done(self.starting())
     }
 
     /// What a continuing replies.
     pub fn going(&self, n: u32) -> Reply<Answer> {
-        (BOTH.continue_by)(self.format, &self.file, n, &self.state)
+        BOTH.continue_of(self.circuit)(self.format, &self.file, n, &self.state)
+    }
+
+    /// What a start replies.
+    pub fn starting(&self) -> Reply<Answer> {
+        BOTH.start_of(self.circuit)(self.format, &self.file, &self.state)
     }
 
     fn done(&mut self, reply: Reply<Answer>) -> Answer {
@@ -97,7 +113,7 @@ impl Run {
 
     /// A start is refused so, and changes nothing.
     pub fn assert_start_refused(&self, number: u8) {
-        let started = (BOTH.start)(self.format, &self.file, &self.state);
+        let started = self.starting();
         assert_eq!(started.result, refused(number, 0));
         assert_eq!(started.lent, [&self.state[..]]);
     }
@@ -131,6 +147,12 @@ impl Run {
 
     pub fn tell_instant(&mut self, instant: u32) {
         self.state[..NUMBER].copy_from_slice(&instant.to_le_bytes());
+    }
+
+    /// The word that a cell shows.
+    pub fn word(&self, cell: u16) -> u16 {
+        let place = self.at(cell, NOW);
+        u16::from_le_bytes([self.state[place], self.state[place + 1]])
     }
 
     /// What a cell shows, of a control wire or the low byte of a word.

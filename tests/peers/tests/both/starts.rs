@@ -314,9 +314,9 @@ fn a_netlist_is_refused_before_its_state() {
     };
     for (file, number) in [(vec![], 9), (damaged(8), 10)] {
         let bad = Run {
-            format: Format::Full,
             file,
             state: vec![0xa5; 3],
+            ..run.clone()
         };
         bad.assert_start_refused(number);
     }

@@ -1,24 +1,21 @@
-//! Every vector of tests/vectors against each implementation: numbers,
-//! places, bytes, answers and text, exactly. The layout of each folder is in
-//! its README.
+//! Every vector of tests/vectors against each implementation: numbers, places,
+//! bytes, answers and text, exactly. Those of functional circuits stand in
+//! `functional_vectors`.
 
 use crate::expect::elements;
-use peers::{Reply, BOTH};
+use crate::vector::*;
+use peers::BOTH;
 use second::calls;
-use std::fs;
-use std::path::{Path, PathBuf};
-use values::{Answer, Cell, Format, Given, Refusal, Shape};
-
-/// Longer than any result, and filled so that a stray write shows.
-static LENT: [u8; 50_000] = [0xa5; 50_000];
+use values::{Cell, Circuit, Given, Refusal, Shape};
 
 /// More cells than any netlist has, all of a kind that none has.
-static LENT_CELLS: [Cell; 1_100] = [Cell::new(0xa5, 0xa5, 0xa5a5, 0xa5a5); 1_100];
+static LENT_CELLS: [Cell; 16_500] = [Cell::new(0xa5, 0xa5, 0xa5a5, 0xa5a5); 16_500];
 
 /// The folders with programs, with netlist files, and so on. Those of s05 have
 /// arrays, those of s06 loops too, those of s07 second starts, those of s08
-/// procedures, those of s09 compact states, those of s10 longer pulses.
-const PROGRAMS: [&str; 8] = [
+/// procedures, those of s09 compact states, those of s10 longer pulses, those of s11
+/// functional circuits.
+const PROGRAMS: [&str; 9] = [
     "program",
     "compile",
     "speed",
@@ -27,15 +24,17 @@ const PROGRAMS: [&str; 8] = [
     "s07/compile",
     "s08/compile",
     "s10/compile",
+    "s11/compile",
 ];
-const NETLISTS: [&str; 5] = [
+const NETLISTS: [&str; 6] = [
     "netlist",
     "s05/netlist",
     "s06/netlist",
     "s08/netlist",
     "s10/netlist",
+    "s11/netlist",
 ];
-const CALLS: [&str; 7] = [
+const CALLS: [&str; 8] = [
     "calls",
     "s05/calls",
     "s06/calls",
@@ -43,14 +42,16 @@ const CALLS: [&str; 7] = [
     "s08/calls",
     "s09/calls",
     "s10/calls",
+    "s11/calls",
 ];
-const STATES: [&str; 6] = [
+const STATES: [&str; 7] = [
     "state",
     "s05/state",
     "s07/state",
     "s08/state",
     "s09/state",
     "s10/state",
+    "s11/state",
 ];
 const RULES: [&str; 5] = [
     "s05/rules",
@@ -61,138 +62,13 @@ const RULES: [&str; 5] = [
 ];
 const HUBRUN: [&str; 4] = ["hubrun", "s05/hubrun", "s06/hubrun", "s08/hubrun"];
 
-/// One vector: the folder and the common beginning of its files' names.
-struct Vector {
-    stem: PathBuf,
-}
-
-impl Vector {
-    fn bytes(&self, extension: &str) -> Vec<u8> {
-        let path = self.path(extension);
-        fs::read(&path).unwrap_or_else(|error| panic!("{path}: {error}"))
-    }
-
-    /// The bytes of a file that not every such vector has.
-    fn may_have(&self, extension: &str) -> Option<Vec<u8>> {
-        let exists = Path::new(&self.path(extension)).exists();
-        exists.then(|| self.bytes(extension))
-    }
-
-    fn path(&self, extension: &str) -> String {
-        format!("{}.{extension}", self.stem.display())
-    }
-
-    /// A text file, without the blanks at its ends.
-    fn text(&self, extension: &str) -> String {
-        let text = String::from_utf8(self.bytes(extension)).expect("a text file");
-        text.trim().to_string()
-    }
-
-    /// A file with one number.
-    fn number(&self, extension: &str) -> u32 {
-        self.text(extension).parse().expect("a number")
-    }
-
-    /// What is given beside its program, if not nothing: the first two of four
-    /// numbers are the pulse length and the number of procedures.
-    fn given<'a>(&self, table: &'a Option<Vec<u8>>) -> Given<'a> {
-        let table = Given::table(table.as_deref());
-        if self.may_have("given").is_none() {
-            return table;
-        }
-        let text = self.text("given");
-        let mut numbers = text
-            .split(' ')
-            .map(|number| number.parse().expect("a byte"));
-        let mut next = || numbers.next().expect("four numbers");
-        let (pulse, procedures): (u8, u8) = (next(), next());
-        Given {
-            procedures: procedures.into(),
-            pulse,
-            ..table
-        }
-    }
-
-    /// The format of its states, by the first number of its mode.
-    fn format(&self) -> Format {
-        let mode = self.may_have("mode").map(|_| self.text("mode"));
-        match mode.is_some_and(|mode| mode.starts_with('1')) {
-            true => Format::Compact,
-            false => Format::Full,
-        }
-    }
-
-    /// A call on the state in a buffer, by its line: `begin`, `cont N` or
-    /// `start`.
-    fn call(&self, line: &str, state: &[u8]) -> Reply<Answer> {
-        let (format, file) = (self.format(), self.bytes("net"));
-        match line.split_once(' ').unwrap_or((line, "")) {
-            ("cont", n) => (BOTH.continue_by)(format, &file, n.parse().expect("a number"), state),
-            ("start", "") => (BOTH.start)(format, &file, state),
-            ("begin", "") => (BOTH.begin)(format, &file, &self.bytes("words"), state),
-            _ => panic!("{}: no call is '{line}'", self.stem.display()),
-        }
-    }
-}
-
-/// Each vector of these folders, one for each file with this extension; the
-/// name says which, for a failure.
-fn for_each(folders: &[&str], extension: &str, test: impl Fn(&Vector, &str)) {
-    for folder in folders {
-        for_each_in(folder, extension, &test);
-    }
-}
-
-fn for_each_in(folder: &str, extension: &str, test: impl Fn(&Vector, &str)) {
-    let root = Path::new(env!("CARGO_MANIFEST_DIR"))
-        .join("../vectors")
-        .join(folder);
-    let entries = fs::read_dir(&root).unwrap_or_else(|error| panic!("{}: {error}", root.display()));
-    let mut seen = 0;
-    for entry in entries {
-        let path = entry.expect("a readable folder").path();
-        if path.extension().is_some_and(|found| found == extension) {
-            let stem = path.with_extension("");
-            let name = stem.display().to_string();
-            test(&Vector { stem }, &name);
-            seen += 1;
-        }
-    }
-    assert!(seen > 0, "no vectors in {folder}");
-}
-
-fn shape_text(result: Result<Shape, Refusal>) -> String {
-    match result {
-        Ok(shape) => format!("ok {} {}", shape.cells, shape.finish),
-        Err(refusal) => refusal.to_string(),
-    }
-}
-
-fn answer_text(result: Result<Answer, Refusal>) -> String {
-    match result {
-        Ok(answer) => {
-            let outcome = if answer.ended { "ended" } else { "open" };
-            let words = answer.words.map(|word| word.to_string()).join(" ");
-            format!("{outcome} {} {} {words}", answer.instant, answer.count)
-        }
-        Err(refusal) => refusal.to_string(),
-    }
-}
-
-/// Asserts that the lent buffer begins with `result` and is otherwise as lent.
-fn assert_result<T>(reply: &Reply<T>, result: &[u8], name: &str) {
-    let (written, past) = reply.lent[0].split_at(result.len());
-    assert!(written == result, "{name}: other bytes");
-    assert!(
-        past == &LENT[result.len()..],
-        "{name}: bytes past the result"
-    );
-}
-
 /// A program has what is told, or its netlist, or both.
 #[test]
 fn programs_are_compiled_or_refused_as_told() {
     for_each(&PROGRAMS, "prog", |vector, name| {
+        if vector.circuit() == Circuit::Functional {
+            return;
+        }
         let (program, table) = (vector.bytes("prog"), vector.may_have("table"));
         let given = vector.given(&table);
         let compiled = (BOTH.compile)(given, &program, &LENT);
@@ -323,8 +199,7 @@ fn calls_answer_and_leave_the_states_told() {
         let (script, states) = (vector.text("script"), vector.bytes("states"));
         let length = states.len() / script.lines().count();
         let mut state = LENT.to_vec();
-        for (line, expected) in script.lines().zip(states.chunks_exact(length)) {
-            let (call, answer) = line.split_once(" -> ").expect("a call and an answer");
+        for ((call, answer), expected) in lines(&script).zip(states.chunks_exact(length)) {
             let reply = vector.call(call, &state);
             let name = format!("{name}: {call}");
             assert_eq!(answer_text(reply.result), answer, "{name}");

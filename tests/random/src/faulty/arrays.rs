@@ -4,8 +4,8 @@
 use super::walking::{walked, Fault};
 use crate::minimise::subtree_end;
 use crate::texts::is_of_array;
-use peers::{Bytes, Peer, Reply, SECOND};
-use values::{Answer, Format, Given, Refusal};
+use peers::{Continue, Peer, SECOND};
+use values::{Given, Refusal};
 
 /// Goes wrong about nothing, so that its faults are those told below.
 pub const WALKING: Peer = faulty("walking", |format, file, n, state| {
@@ -26,8 +26,6 @@ pub const SEVEN_BITS: Peer = faulty("seven bits", |format, file, n, state| {
 pub const STALE_READ: Peer = faulty("stale read", |format, file, n, state| {
     walked(Fault::StaleRead, format, file, n, state)
 });
-
-type Continue = fn(Format, Bytes, u32, Bytes) -> Reply<Answer>;
 
 const fn faulty(name: &'static str, continue_by: Continue) -> Peer {
     Peer {

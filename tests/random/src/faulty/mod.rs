@@ -4,6 +4,7 @@
 mod arrays;
 mod cells;
 mod compact;
+mod functional;
 mod loops;
 mod procedures;
 mod pulses;

@@ -9,7 +9,7 @@ use peers::{Bytes, Peer, Reply, SECOND};
 use second::cells::Netlist;
 use second::netfile;
 use std::cell::RefCell;
-use values::{Answer, Format, Refusal};
+use values::{Answer, Circuit, Format, Refusal};
 
 pub const IN_FLIGHT: Refusal = Refusal::new(23, 0);
 
@@ -111,7 +111,7 @@ pub fn started(netlist: Netlist, state: &[u8]) -> Reply<Answer> {
     let (run, past) = state.split_at(length);
     let run = walk.next(run, true);
     Reply {
-        result: Ok(walk.answer(&run, 1)),
+        result: Ok(walk.answer(Circuit::Imperative, &run, 1)),
         lent: vec![[&run, past].concat()],
     }
 }

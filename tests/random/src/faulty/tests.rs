@@ -3,6 +3,7 @@
 use super::arrays::*;
 use super::cells::*;
 use super::compact::*;
+use super::functional::*;
 use super::loops::*;
 use super::procedures::*;
 use super::pulses::*;
@@ -14,10 +15,10 @@ use crate::against_peer::Pair;
 use crate::job::{self, Job};
 use crate::texts::has_loops;
 use crate::xorshift::Random;
-use crate::{against_equations, against_full, against_rules, against_tables, against_text};
-use crate::{generate, netlists};
+use crate::{against_equations, against_full, against_functional, against_rules};
+use crate::{against_tables, against_text, generate, netlists};
 use peers::{Peer, SECOND};
-use values::Format;
+use values::{Circuit, Format};
 
 const JOBS: u64 = 40;
 
@@ -193,7 +194,9 @@ fn equations_and_a_good_peer_tell_faulty_pulses() {
 #[test]
 fn full_states_tell_faulty_compact_ones() {
     let disagrees = |peer: &Peer| {
-        (0..4 * JOBS).any(|seed| against_full::compare(peer, &Job::of_seed(seed)).is_err())
+        (0..4 * JOBS).any(|seed| {
+            against_full::compare(peer, Circuit::Imperative, &Job::of_seed(seed)).is_err()
+        })
     };
     assert_tells(disagrees, &[ONE_OFF, NARROW, COMPACT_AT_ANY_LENGTH]);
 }
@@ -206,6 +209,46 @@ fn equations_and_a_good_peer_tell_faulty_compact_states() {
         &faulty,
     );
     assert_tells(disagrees_with_second_on_netlists, &faulty);
+}
+
+/// Whether the functional circuits of jobs that pass fail, of the peer's own compiler
+/// on its own simulator.
+fn disagrees_with_functional_rules(peer: &Peer, mut jobs: impl Iterator<Item = Job>) -> bool {
+    jobs.any(|job| against_functional::compare(peer, peer, &job).is_err())
+}
+
+/// Programs that are short, since a walk over all cells takes long.
+#[test]
+fn functional_rules_tell_faulty_circuits() {
+    let disagrees = |peer: &Peer| {
+        let jobs = (0..20 * JOBS).map(Job::of_seed);
+        disagrees_with_functional_rules(peer, jobs.filter(|job| job.program.len() <= 120))
+    };
+    let circuits = [WORD_OF_THE_NEXT_INSTANT, SELECTED_BY_PULSE, PRESENT_WORDS];
+    assert_tells(disagrees, &circuits);
+    assert_tells(disagrees, &[SLOW_ASSIGNMENT, IMPERATIVE_TIMES]);
+}
+
+/// An exit that no loop has is rare.
+#[test]
+fn functional_rules_tell_a_check_that_looks_for_exits_first() {
+    let disagrees = |peer: &Peer| {
+        let jobs = (0..200 * JOBS).map(Job::of_seed);
+        disagrees_with_functional_rules(peer, jobs.filter(|job| has_loops(&job.program)))
+    };
+    assert_tells(disagrees, &[EXITS_FIRST]);
+}
+
+#[test]
+fn equations_and_a_good_peer_tell_faulty_latches() {
+    for disagrees in [disagrees_with_equations, disagrees_with_second_on_netlists] {
+        assert_tells(disagrees, &[WORD_OF_THE_NEXT_INSTANT]);
+    }
+}
+
+#[test]
+fn a_good_peer_tells_a_reader_of_fifteen_last_cells() {
+    assert_tells(disagrees_with_second_on_netlists, &[FIFTEEN_LASTS]);
 }
 
 /// Of the calls that are compared only the check: a clash of arrays is rare, and so

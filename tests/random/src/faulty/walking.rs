@@ -1,14 +1,14 @@
 //! A simulator of full states that walks over all cells at each instant, by the
-//! equations, and goes wrong about arrays or merges as it is told.
+//! equations, and goes wrong about arrays, merges or latches as it is told.
 
 use crate::equations::{element_place, Step};
 use crate::flight;
 use crate::formats::{instant_of, wire_of};
 use crate::lend::{state_length, ARRAYS};
 use peers::{Reply, SECOND};
-use second::cells::{Netlist, MERGE, READ, RETURN};
+use second::cells::{Netlist, LATCH, MERGE, READ, RETURN};
 use second::netfile;
-use values::{Answer, Format};
+use values::{Answer, Circuit, Format};
 
 #[derive(Clone, Copy, PartialEq)]
 pub enum Fault {
@@ -18,12 +18,25 @@ pub enum Fault {
     StaleRead,
     NotCleared,
     DroppedAtOutput,
+    WordOfTheNextInstant,
 }
 
 /// A continuing of a full state with a fault; what is refused is refused as it
 /// must be.
 pub fn walked(fault: Fault, format: Format, file: &[u8], n: u32, state: &[u8]) -> Reply<Answer> {
-    let right = (SECOND.continue_by)(format, file, n, state);
+    walked_of(Circuit::Imperative, fault, format, file, n, state)
+}
+
+/// The same of a run of either circuit.
+pub fn walked_of(
+    circuit: Circuit,
+    fault: Fault,
+    format: Format,
+    file: &[u8],
+    n: u32,
+    state: &[u8],
+) -> Reply<Answer> {
+    let right = SECOND.continue_of(circuit)(format, file, n, state);
     let (Format::Full, Ok(netlist), Ok(_)) = (format, netfile::read(file), right.result) else {
         return right;
     };
@@ -36,7 +49,7 @@ pub fn walked(fault: Fault, format: Format, file: &[u8], n: u32, state: &[u8]) -
         count += 1;
     }
     Reply {
-        result: Ok(walk.answer(&run, count)),
+        result: Ok(walk.answer(circuit, &run, count)),
         lent: vec![[&run, past].concat()],
     }
 }
@@ -65,13 +78,17 @@ impl Walk {
         wire_of(Format::Full, state, self.netlist.finish) == 1
     }
 
-    pub fn answer(&self, state: &[u8], count: u32) -> Answer {
-        let memories: [usize; 16] = self.netlist.memories().try_into().expect("sixteen");
+    pub fn answer(&self, circuit: Circuit, state: &[u8], count: u32) -> Answer {
+        let shown = match circuit {
+            Circuit::Imperative => self.netlist.memories(),
+            Circuit::Functional => self.netlist.lasts(),
+        };
+        let shown: [usize; 16] = shown.try_into().expect("sixteen");
         Answer {
             ended: self.finished(state),
             instant: instant_of(state),
             count,
-            words: memories.map(|memory| wire_of(Format::Full, state, memory as u16)),
+            words: shown.map(|cell| wire_of(Format::Full, state, cell as u16)),
         }
     }
 
@@ -138,6 +155,9 @@ impl Walk {
                     let array = self.netlist.cells[usize::from(cell.a)].delay;
                     let place = after.len() - ARRAYS + self.place(array, step.now(cell.b));
                     u16::from_le_bytes([after[place], after[place + 1]])
+                }
+                LATCH if self.fault == Fault::WordOfTheNextInstant && step.ago(cell.a) == 1 => {
+                    step.now(cell.b)
                 }
                 _ => step.value(number),
             };

@@ -113,7 +113,9 @@ module _ (t : ℕ) where
       omega (arith, ready .formed, ready .memory)
 
   returns-2 : lts.Need-returns-2 calls (expr-here t) expr-reads.Post
-  returns-2 c = rw (var-of (c .before)) var-done
+  returns-2 c =
+      let ready = rw (var-of (c .before)) at (c .before .before .before .before .before .before .pre .1 .1) in
+      rw (var-of (c .before)) (var-done (ready .formed))
 
   add-first : lts.Need-add-first calls (expr-here t) expr-reads.Post
   add-first c = omega (arith, here-of (c .before) .0, c .before .before .before .before .before .pre .1 .0 .short)

@@ -9,6 +9,7 @@ use borrow.Author.Tests.{le-leb, lt-leb}
 use borrow.Author.Needs.{needs}
 use denote.Ref.{now}
 use Rattle.model.specs.CellSlices.{movedBytes, hasCells, renumberCall}
+use Rattle.model.specs.NetlistFile.{cellLimit}
 use Rattle.exports.proofs.moves.hub_renumber.Statement.{statement}
 use Rattle.exports.proofs.moves.hub_renumber.Tie as tie
 use Rattle.exports.proofs.moves.hub_renumber.Reads as reads
@@ -16,17 +17,17 @@ use Rattle.exports.proofs.moves.hub_renumber.Lts as lts
 use Rattle.exports.proofs.moves.renumber_bytes.Reads as renumber-bytes-reads
 
 module _ (end : ℕ) (s : List ℕ) where
-  too-many : 1024 < end → hasCells end s ≡ false
-  too-many l = rw (lt-leb end 1024 l) refl
+  too-many : cellLimit < end → hasCells end s ≡ false
+  too-many l = rw (lt-leb end cellLimit l) refl
 
   too-short : length s < 6 * end → hasCells end s ≡ false
-  too-short l = rw (lt-leb (6 * end) (length s) l) (and-false (leb end 1024))
+  too-short l = rw (lt-leb (6 * end) (length s) l) (and-false (leb end cellLimit))
 
   stays : (k i : ℕ) → hasCells end s ≡ false → (false ≡ hasCells end s) × (s ≡ renumberCall k i end s)
   stays k i e = (sym e, rw e refl)
 
-  moves : (k i : ℕ) (t : List ℕ) → end ≤ 1024 → 6 * end ≤ length s → t ≡ movedBytes k end s i → (true ≡ hasCells end s) × (t ≡ renumberCall k i end s)
-  moves k i t few long e = rw (le-leb end 1024 few, le-leb (6 * end) (length s) long) (refl, e)
+  moves : (k i : ℕ) (t : List ℕ) → end ≤ cellLimit → 6 * end ≤ length s → t ≡ movedBytes k end s i → (true ≡ hasCells end s) × (t ≡ renumberCall k i end s)
+  moves k i t few long e = rw (le-leb end cellLimit few, le-leb (6 * end) (length s) long) (refl, e)
 
 returns : tie.Need-returns
 returns c =

@@ -1,7 +1,8 @@
 -- The run of a program that was not refused: what compiling wrote is the file that is run. Assumes nothing.
 use native.Mathlib.Omega.{arith}
 use Rattle.model.specs.Calls.{compiledFile}
-use Rattle.hub.proofs.FullRun.{ready, runs, part-is, part-fits}
+use Rattle.hub.proofs.FullRun.{accepted, ready, runs}
+use Rattle.hub.proofs.Lent.{part-is, part-fits}
 use borrow.Author.Needs.{needs}
 use Rattle.hub.proofs.full.run_accepted.Statement.{statement}
 use Rattle.hub.proofs.full.run_accepted.Tie as tie
@@ -10,8 +11,7 @@ compile-accepted-requires : tie.Need-compile-accepted-requires
 compile-accepted-requires c κs =
     let start = c .before .before .before .before .before in
     let args = start .args in
-    let r = ready (args .options) (args .program .now) (args .words .now) (args .budget) (args .netlist .now) (args .state .now) (start .pre) in
-    (r .accepted, r .fits)
+    (accepted (args .options) (args .program .now) (args .words .now) (args .budget) (args .netlist .now) (args .state .now) (start .pre), ready (args .options) (args .program .now) (args .words .now) (args .budget) (args .netlist .now) (args .state .now) (start .pre) .fits)
 
 part-full-run-end : tie.Need-part-full-run-end
 part-full-run-end c =
@@ -27,7 +27,7 @@ full-run-requires c κs =
     let r = ready (args .options) (args .program .now) (args .words .now) (args .budget) (args .netlist .now) (args .state .now) (start .pre) in
     let known = c .before .before .before .before .before .before .before .before .before .before .shared-slice-known .given in
     let same = part-is (compiledFile (args .options) (args .program .now)) (args .netlist .now) _ _ (compile .ensures .0) (compile .ensures .1) in
-    rw same (runs (args .options) (args .program .now) (args .words .now) (args .budget) (args .netlist .now) (args .state .now) (λ i. omega (arith, known i)) r, r .start, omega (arith, r .few))
+    rw same (runs (args .options) (args .program .now) (args .words .now) (args .budget) (args .netlist .now) (args .state .now) (λ i. omega (arith, known i)) (start .pre), r .start, omega (arith, r .few))
 
 returns : tie.Need-returns
 returns c =

@@ -9,9 +9,9 @@ use Rattle.laws.specs.Circuit.Shapes.{operator-shape, outside, apart}
 use Rattle.netlist.proofs.kinds.cell_row.Statement.{statement}
 use Rattle.netlist.proofs.kinds.cell_row.Tie as tie
 
-unlisted : (k : ℕ) → (k < 4) ⊎ (9 < k) → (k ≡ 1 → ⊥) → (k ≡ 3 → ⊥) → (k ≡ 32 → ⊥) → (k ≡ 33 → ⊥) → (k ≡ 34 → ⊥) → (k ≡ 35 → ⊥) → (k ≡ 36 → ⊥) → (k ≡ 37 → ⊥) → (k ≡ 38 → ⊥) → (k ≡ 39 → ⊥) → (k ≡ 40 → ⊥) → (k ≡ 41 → ⊥) → (k ≡ 42 → ⊥) → (k ≡ 43 → ⊥) → (k ≡ 44 → ⊥) → shape k ≡ kUnknown
+unlisted : (k : ℕ) → (k < 4) ⊎ (9 < k) → (k ≡ 1 → ⊥) → (k ≡ 3 → ⊥) → (k ≡ 32 → ⊥) → (k ≡ 33 → ⊥) → (k ≡ 34 → ⊥) → (k ≡ 35 → ⊥) → (k ≡ 36 → ⊥) → (k ≡ 37 → ⊥) → (k ≡ 38 → ⊥) → (k ≡ 39 → ⊥) → (k ≡ 40 → ⊥) → (k ≡ 41 → ⊥) → (k ≡ 42 → ⊥) → (k ≡ 43 → ⊥) → (k ≡ 44 → ⊥) → (k ≡ 45 → ⊥) → shape k ≡ kUnknown
 unfolding shape cellTable
-unlisted k o n1 n3 n32 n33 n34 n35 n36 n37 n38 n39 n40 n41 n42 n43 n44 =
+unlisted k o n1 n3 n32 n33 n34 n35 n36 n37 n38 n39 n40 n41 n42 n43 n44 n45 =
     rw (
       apart k 1 n1,
       apart k 3 n3,
@@ -29,6 +29,7 @@ unlisted k o n1 n3 n32 n33 n34 n35 n36 n37 n38 n39 n40 n41 n42 n43 n44 =
       apart k 42 n42,
       apart k 43 n43,
       apart k 44 n44,
+      apart k 45 n45,
     )
     refl
 
@@ -93,24 +94,29 @@ unfolding shape cellTable
 returns-15 c = rw (c .row15 .ensures, c .before .match .keys15) refl
 
 returns-16 : tie.Need-returns-16
-unfolding cellTable
-returns-16 c =
-    let kind = c .before .before .before .before .args .kind in
-    let three = c .before .before .before .match .rest .0 .0 .0 .0 .0 .0 .0 .0 .0 .0 .0 .0 .0 .1 in
-    rw (c .row16 .ensures, cellRow, operator-shape kind (omega (arith, c .before .before .if1 .left, three)) (omega (arith, c .before .if2 .taken))) refl
+unfolding shape cellTable
+returns-16 c = rw (c .row16 .ensures, c .before .match .keys16) refl
 
 returns-17 : tie.Need-returns-17
 unfolding cellTable
 returns-17 c =
+    let kind = c .before .before .before .before .args .kind in
+    let three = c .before .before .before .match .rest .0 .0 .0 .0 .0 .0 .0 .0 .0 .0 .0 .0 .0 .0 .1 in
+    rw (c .row17 .ensures, cellRow, operator-shape kind (omega (arith, c .before .before .if1 .left, three)) (omega (arith, c .before .if2 .taken))) refl
+
+returns-18 : tie.Need-returns-18
+unfolding cellTable
+returns-18 c =
     let rest = c .before .before .match .rest in
     let none = unlisted _ (⊎-elim (λ w. inl (omega arith)) (λ w. inr (omega arith)) (c .before .if1 .came))
-    (rest .0 .0 .0 .0 .0 .0 .0 .0 .0 .0 .0 .0 .0 .0 .1) (rest .0 .0 .0 .0 .0 .0 .0 .0 .0 .0 .0 .0 .0 .1) (rest .0 .0 .0 .0 .0 .0 .0 .0 .0 .0 .0 .0 .1) (rest .0 .0 .0 .0 .0 .0 .0 .0 .0 .0 .0 .1) (rest .0 .0 .0 .0 .0 .0 .0 .0 .0 .0 .1) (rest .0 .0 .0 .0 .0 .0 .0 .0 .0 .1) (rest .0 .0 .0 .0 .0 .0 .0 .0 .1) (rest .0 .0 .0 .0 .0 .0 .0 .1) (rest .0 .0 .0 .0 .0 .0 .1) (rest .0 .0 .0 .0 .0 .1) (rest .0 .0 .0 .0 .1) (rest .0 .0 .0 .1) (rest .0 .0 .1) (rest .0 .1) (rest .1) in
-    rw (c .row17 .ensures, cellRow, none) refl
+    (rest .0 .0 .0 .0 .0 .0 .0 .0 .0 .0 .0 .0 .0 .0 .0 .1) (rest .0 .0 .0 .0 .0 .0 .0 .0 .0 .0 .0 .0 .0 .0 .1) (rest .0 .0 .0 .0 .0 .0 .0 .0 .0 .0 .0 .0 .0 .1) (rest .0 .0 .0 .0 .0 .0 .0 .0 .0 .0 .0 .0 .1) (rest .0 .0 .0 .0 .0 .0 .0 .0 .0 .0 .0 .1) (rest .0 .0 .0 .0 .0 .0 .0 .0 .0 .0 .1) (rest .0 .0 .0 .0 .0 .0 .0 .0 .0 .1) (rest .0 .0 .0 .0 .0 .0 .0 .0 .1) (rest .0 .0 .0 .0 .0 .0 .0 .1) (rest .0 .0 .0 .0 .0 .0 .1) (rest .0 .0 .0 .0 .0 .1) (rest .0 .0 .0 .0 .1) (rest .0 .0 .0 .1) (rest .0 .0 .1) (rest .0 .1) (rest .1) in
+    rw (c .row18 .ensures, cellRow, none) refl
 
 pub cell-row-spec : {M : Type 1} → statement M
 cell-row-spec =
     tie.close
     (tie.spec
+    (λ c κs. search needs)
     (λ c κs. search needs)
     (λ c κs. search needs)
     (λ c κs. search needs)
@@ -144,4 +150,5 @@ cell-row-spec =
     returns-14
     returns-15
     returns-16
-    returns-17)
+    returns-17
+    returns-18)

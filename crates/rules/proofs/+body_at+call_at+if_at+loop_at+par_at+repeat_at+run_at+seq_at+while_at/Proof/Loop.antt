@@ -2,8 +2,8 @@
 use Prim.Native.Nat.{ℕ}
 use native.Mathlib.Omega.{arith}
 use Rattle.model.specs.Program.{loop}
-use Rattle.model.specs.Rules.{imperative, run}
-use Rattle.rules.specs.Ran.{storeOf, meantAt}
+use Rattle.model.specs.Rules.{run}
+use Rattle.rules.specs.Ran.{costsOf, storeOf, meantAt}
 use Rattle.rules.proofs.Parts.{loop-body, loop-delay}
 use Rattle.rules.proofs.Loops.{loop-unended, loop-out, loop-on, Going, going-start, going-still, going-caught, going-on}
 use Rattle.rules.proofs.caught.Reads as caught
@@ -15,12 +15,12 @@ use Rattle.rules.proofs.+body_at+call_at+if_at+loop_at+par_at+repeat_at
 use Rattle.rules.proofs.+body_at+call_at+if_at+loop_at+par_at+repeat_at+run_at+seq_at+while_at.Proof.Falls.{loop-here, run-below}
 
 abbrev Inv-loop : lts.InvT-loop
-Inv-loop program ends procedures p d words budget pulse held₀ left₀ held left =
+Inv-loop program ends procedures p d words budget costs held₀ left₀ held left =
     let P = loop d (meantAt procedures program p) in
-    Going budget left (run (imperative pulse) budget P (storeOf words)) (run (imperative pulse) left P (storeOf held))
+    Going budget left (run (costsOf costs) budget P (storeOf words)) (run (costsOf costs) left P (storeOf held))
 
 abbrev μ-loop : lts.MeasureT-loop
-μ-loop program ends procedures p d words budget pulse held₀ left₀ held left = left
+μ-loop program ends procedures p d words budget costs held₀ left₀ held left = left
 
 module _ (t : ℕ) where
   abbrev calls : lts.Claims

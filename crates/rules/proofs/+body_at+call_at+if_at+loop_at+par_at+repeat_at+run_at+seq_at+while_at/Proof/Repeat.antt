@@ -1,12 +1,11 @@
--- A repeat: as a while, with the test after the turn.
-use mathlib.Core.Path.{sym, _∙_}
+-- A repeat: as a while, with the test after the turn, and before it the latching.
 use Prim.Native.Nat.{ℕ}
 use native.Mathlib.Omega.{arith}
 use Rattle.model.specs.Program.{repeat, exprAt}
-use Rattle.model.specs.Rules.{imperative, run}
-use Rattle.rules.specs.Ran.{storeOf, meantAt}
+use Rattle.model.specs.Rules.{run}
+use Rattle.rules.specs.Ran.{costsOf, storeOf, meantAt}
 use Rattle.rules.proofs.Parts.{repeat-body, repeat-delay}
-use Rattle.rules.proofs.Loops.{after-zero, repeat-unended, repeat-out, repeat-end, repeat-on, Going, going-start, going-still, going-unended, going-end, going-on}
+use Rattle.rules.proofs.Loops.{repeat-late, repeat-unended, repeat-out, repeat-end, repeat-on, Going, going-start, going-still, going-unended, going-end, going-on}
 use Rattle.rules.proofs.eval_at.Reads as eval-at
 use Rattle.rules.proofs.later.Reads as later
 use Rattle.rules.proofs.repeat_at.Reads as repeat-reads
@@ -16,42 +15,46 @@ use Rattle.rules.proofs.+body_at+call_at+if_at+loop_at+par_at+repeat_at
 use Rattle.rules.proofs.+body_at+call_at+if_at+loop_at+par_at+repeat_at+run_at+seq_at+while_at.Proof.Falls.{repeat-here, run-below}
 
 abbrev Inv-loop : lts.InvT-loop
-Inv-loop program ends procedures e p d words budget pulse held₀ left₀ held left =
+Inv-loop program ends procedures e p d words budget costs latch held₀ left₀ held left =
     let P = repeat d (exprAt program e) (meantAt procedures program p) in
-    Going budget left (run (imperative pulse) budget P (storeOf words)) (run (imperative pulse) left P (storeOf held))
+    Going budget left (run (costsOf costs) budget P (storeOf words)) (run (costsOf costs) left P (storeOf held))
 
 abbrev μ-loop : lts.MeasureT-loop
-μ-loop program ends procedures e p d words budget pulse held₀ left₀ held left = left
+μ-loop program ends procedures e p d words budget costs latch held₀ left₀ held left = left
 
 module _ (t : ℕ) where
   abbrev calls : lts.Claims
   calls = (run-below t, run-reads.Post, later.Asked, later.Learnt, unfinished.Asked, unfinished.Learnt, eval-at.Asked, eval-at.Learnt)
+
+  cast-latch : lts.Need-cast-latch calls (repeat-here t) repeat-reads.Post Inv-loop μ-loop
+  cast-latch c = omega arith
 
   loop-holds : lts.Need-loop-holds calls (repeat-here t) repeat-reads.Post Inv-loop μ-loop
   loop-holds c = going-start _ _
 
   run-at-requires : lts.Need-run-at-requires calls (repeat-here t) repeat-reads.Post Inv-loop μ-loop
   run-at-requires c κs =
-      let pre = c .before .before .pre in
+      let pre = c .before .before .before .before .pre in
       (omega (arith, pre .0), repeat-body (pre .1))
 
   sub-later : lts.Need-sub-later calls (repeat-here t) repeat-reads.Post Inv-loop μ-loop
   sub-later c =
-      let loop = c .before .before .loop in
+      let loop = c .before .before .before .loop in
       omega (arith, loop .inv .within)
 
   later-requires : lts.Need-later-requires calls (repeat-here t) repeat-reads.Post Inv-loop μ-loop
   later-requires c κs =
-      let loop = c .before .before .loop in
+      let loop = c .before .before .before .loop in
       let run-at = c .before .run-at in
       omega (arith, loop .inv .within, run-at .ensures .within)
 
   returns : lts.Need-returns calls (repeat-here t) repeat-reads.Post Inv-loop μ-loop
   returns c =
-      let loop = c .before .before .before .loop in
+      let loop = c .before .before .before .before .loop in
+      let loop-test = c .before .before .before .loop-test in
       let turn = c .before .before .run-at .ensures in
-      let last = repeat-unended _ _ _ _ _ _ _ turn (c .before .if1 .left) in
-      going-unended (loop .inv) 0 _ (last ∙ sym (after-zero _)) _ (omega (arith, loop .inv .within)) (omega (arith, turn .within)) _ (c .later .ensures)
+      let last = repeat-unended _ _ _ _ _ _ (loop-test .taken) _ turn (c .before .if1 .left) in
+      going-unended (loop .inv) _ _ last _ (omega (arith, loop .inv .within)) (omega (arith, turn .within)) _ (c .later .ensures)
 
   sub-rest : lts.Need-sub-rest calls (repeat-here t) repeat-reads.Post Inv-loop μ-loop
   sub-rest c =
@@ -65,18 +68,19 @@ module _ (t : ℕ) where
   returns-2 c =
       let run-at = c .before .before .before .before .before .run-at in
       let if1 = c .before .before .before .before .if1 in
-      let loop = c .before .before .before .before .before .before .loop in
-      let out = repeat-out _ _ _ _ _ _ _ (run-at .ensures) (if1 .taken) (c .before .if2 .taken) in
+      let loop = c .before .before .before .before .before .before .before .loop in
+      let loop-test = c .before .before .before .before .before .before .loop-test in
+      let out = repeat-out _ _ _ _ _ _ (loop-test .taken) _ (run-at .ensures) (if1 .taken) (c .before .if2 .taken) in
       going-still (loop .inv) out (c .unfinished .ensures)
 
   eval-at-requires : lts.Need-eval-at-requires calls (repeat-here t) repeat-reads.Post Inv-loop μ-loop
   eval-at-requires c κs =
-      let pre = c .before .before .before .before .before .before .before .pre in
+      let pre = c .before .before .before .before .before .before .before .before .before .pre in
       pre .1 .fit .laid
 
-  sub-t17 : lts.Need-sub-t17 calls (repeat-here t) repeat-reads.Post Inv-loop μ-loop
-  sub-t17 c =
-      let loop = c .before .before .before .before .before .before .before .loop in
+  sub-t19 : lts.Need-sub-t19 calls (repeat-here t) repeat-reads.Post Inv-loop μ-loop
+  sub-t19 c =
+      let loop = c .before .before .before .before .before .before .before .before .loop in
       omega (arith, loop .inv .within)
 
   returns-3 : lts.Need-returns-3 calls (repeat-here t) repeat-reads.Post Inv-loop μ-loop
@@ -84,14 +88,15 @@ module _ (t : ℕ) where
       let run-at = c .before .before .before .before .before .before .run-at in
       let if1 = c .before .before .before .before .before .if1 in
       let if2 = c .before .before .if2 in
-      let loop = c .before .before .before .before .before .before .before .loop in
+      let loop = c .before .before .before .before .before .before .before .before .loop in
       let turn = run-at .ensures in
-      let end = repeat-end _ _ _ _ _ _ _ turn (if1 .taken) (if2 .left) _ (c .before .eval-at .ensures) (c .if3 .taken) in
+      let loop-test = c .before .before .before .before .before .before .before .loop-test in
+      let end = repeat-end _ _ _ _ _ _ (loop-test .taken) _ turn (if1 .taken) (if2 .left) _ (c .before .eval-at .ensures) (c .if3 .taken) in
       going-end (loop .inv) _ _ end _ (omega (arith, loop .inv .within, turn .within)) (omega (arith, turn .within))
 
   loop-less : lts.Need-loop-less calls (repeat-here t) repeat-reads.Post Inv-loop μ-loop
   loop-less c =
-      let pre = c .before .before .before .before .before .before .before .before .before .pre in
+      let pre = c .before .before .before .before .before .before .before .before .before .before .before .pre in
       let run-at = c .before .before .before .before .before .before .run-at in
       omega (arith, repeat-delay (pre .1), run-at .ensures .within)
 
@@ -100,14 +105,23 @@ module _ (t : ℕ) where
       let run-at = c .before .before .before .before .before .before .run-at in
       let if1 = c .before .before .before .before .before .if1 in
       let if2 = c .before .before .if2 in
-      let pre = c .before .before .before .before .before .before .before .before .before .pre in
-      let loop = c .before .before .before .before .before .before .before .loop in
+      let pre = c .before .before .before .before .before .before .before .before .before .before .before .pre in
+      let loop = c .before .before .before .before .before .before .before .before .loop in
       let turn = run-at .ensures in
-      let on = repeat-on _ _ _ _ _ _ _ turn (if1 .taken) (if2 .left) _ (c .before .eval-at .ensures) (c .if3 .left) (repeat-delay (pre .1)) in
+      let loop-test = c .before .before .before .before .before .before .before .loop-test in
+      let on = repeat-on _ _ _ _ _ _ (loop-test .taken) _ turn (if1 .taken) (if2 .left) _ (c .before .eval-at .ensures) (c .if3 .left) (repeat-delay (pre .1)) in
       going-on (loop .inv) _ _ on _ (omega (arith, turn .within))
+
+  unfinished-requires-2 : lts.Need-unfinished-requires-2 calls (repeat-here t) repeat-reads.Post Inv-loop μ-loop
+  unfinished-requires-2 c κs = tt
+
+  returns-4 : lts.Need-returns-4 calls (repeat-here t) repeat-reads.Post Inv-loop μ-loop
+  returns-4 c =
+      let loop = c .before .before .loop in
+      going-still (loop .inv) (repeat-late _ _ _ _ _ _ (c .before .loop-test .left)) (c .unfinished2 .ensures)
 
   pub repeat-closed : {M : Type 1} → lts.Closed calls (repeat-here t) repeat-reads.Post M
   repeat-closed =
       lts.spec calls (repeat-here t) repeat-reads.Post Inv-loop μ-loop
-      loop-holds run-at-requires sub-later later-requires returns sub-rest unfinished-requires returns-2 eval-at-requires sub-t17
-      returns-3 loop-less loop-again
+      cast-latch loop-holds run-at-requires sub-later later-requires returns sub-rest unfinished-requires returns-2 eval-at-requires sub-t19
+      returns-3 loop-less loop-again unfinished-requires-2 returns-4

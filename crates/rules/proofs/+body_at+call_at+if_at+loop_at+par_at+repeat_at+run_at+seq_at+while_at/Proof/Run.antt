@@ -158,7 +158,7 @@ module _ (t : ℕ) where
   while-at-requires c κs =
       let n = inner-of (c .before) in
       let pre = c .before .before .before .before .before .before .before .pre in
-      (omega (arith, pre .0, n .here, second-later n), ready-as (meant-as _ _ _ (while-read n (c .match .keys6))) (pre .1))
+      (omega (arith, pre .0, n .here, second-later n), (ready-as (meant-as _ _ _ (while-read n (c .match .keys6))) (pre .1), omega arith))
 
   add-assign-elem-at : lts.Need-add-assign-elem-at calls (run-here t) run-reads.Post
   add-assign-elem-at c = omega arith

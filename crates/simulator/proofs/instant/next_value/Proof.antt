@@ -9,7 +9,7 @@ use Rattle.model.specs.Circuit.{cellAt, high, merges, stepOf}
 use Rattle.model.specs.State.{beforeAt, heldAt, elementNow}
 use Rattle.simulator.specs.Fits.{netBy}
 use Rattle.simulator.proofs.Cells.{read-array}
-use Rattle.simulator.proofs.ByKind.{no-operator-low, no-operator-high, next-constant, next-start, next-delay, next-or, next-when-true, next-when-false, next-merge, next-fallen, next-kept, next-gate-open, next-gate-shut, next-operator, next-read, next-still}
+use Rattle.simulator.proofs.ByKind.{no-operator-low, no-operator-high, next-constant, next-start, next-delay, next-or, next-when-true, next-when-false, next-merge, next-fallen, next-kept, next-gate-open, next-gate-shut, next-operator, next-latch, next-read, next-still}
 use Rattle.simulator.proofs.instant.next_value.Statement.{statement}
 use Rattle.simulator.proofs.instant.next_value.Tie as tie
 
@@ -46,6 +46,12 @@ element-now-requires c κs =
     let pre = c .before .before .before .before .before .before .before .before .before .before .pre in
     let array = read-array pre (c .match .keys8) in
     (pre .fits, array .0, array .1)
+
+latched-requires : tie.Need-latched-requires
+latched-requires c κs =
+    let pre = c .before .before .before .before .before .before .before .before .before .before .pre in
+    let if1 = c .before .before .before .before .before .before .before .if1 in
+    (pre .stands, pre .sees .a (if1 .left), pre .sees .b)
 
 returns-5 : tie.Need-returns-5
 returns-5 c =
@@ -94,14 +100,17 @@ returns-13 c =
     c .element-now .ensures ∙ ap (λ (y : ℕ). elementNow (args .format) net (args .state .now) (elementOf (cellAt (net .cells) (args .c .a) .delay) y)) (c .before .before .now-at2 .ensures) ∙ sym (next-read _ _ _ _ _ _ (c .before .match .keys8))
 
 returns-14 : tie.Need-returns-14
-returns-14 c =
+returns-14 c = c .latched .ensures ∙ sym (next-latch _ _ _ _ _ _ (c .before .match .keys9))
+
+returns-15 : tie.Need-returns-15
+returns-15 c =
     let args = c .before .before .before .before .before .before .before .before .before .before .before .before .before .args in
     let now-at = c .before .before .before .before .before .now-at in
     let now-at2 = c .before .before .before .before .now-at2 in
     c .operate .ensures ∙ ap₂ (operate (args .c .kind)) (now-at .ensures) (now-at2 .ensures) ∙ sym (next-operator _ _ _ _ _ _ (c .before .before .if6 .left) (omega arith))
 
-returns-15 : tie.Need-returns-15
-returns-15 c =
+returns-16 : tie.Need-returns-16
+returns-16 c =
     let if1 = c .before .before .before .before .before .before .before .before .if1 in
     let if2 = c .before .before .before .before .before .before .before .if2 in
     let match = c .before .match in
@@ -112,19 +121,20 @@ returns-15 c =
       operator = no-operator-low _ (c .if6 .taken);
       constant = if1 .left;
       delay = if2 .left;
-      start = match .rest .0 .0 .0 .0 .0 .0 .0 .1;
-      join = match .rest .0 .0 .0 .0 .0 .0 .1;
-      when-true = match .rest .0 .0 .0 .0 .0 .1;
-      when-false = match .rest .0 .0 .0 .0 .1;
-      merge = match .rest .0 .0 .0 .1;
-      return = match .rest .0 .0 .1;
+      start = match .rest .0 .0 .0 .0 .0 .0 .0 .0 .1;
+      join = match .rest .0 .0 .0 .0 .0 .0 .0 .1;
+      when-true = match .rest .0 .0 .0 .0 .0 .0 .1;
+      when-false = match .rest .0 .0 .0 .0 .0 .1;
+      merge = match .rest .0 .0 .0 .0 .1;
+      return = match .rest .0 .0 .0 .1;
       memory = if3 .left;
-      gated = match .rest .0 .1;
-      read = match .rest .1;
+      gated = match .rest .0 .0 .1;
+      read = match .rest .0 .1;
+      latch = match .rest .1;
     }))
 
-returns-16 : tie.Need-returns-16
-returns-16 c =
+returns-17 : tie.Need-returns-17
+returns-17 c =
     let if1 = c .before .before .before .before .before .before .before .before .before .if1 in
     let if2 = c .before .before .before .before .before .before .before .before .if2 in
     let match = c .before .before .match in
@@ -135,15 +145,16 @@ returns-16 c =
       operator = no-operator-high _ (c .if7 .left);
       constant = if1 .left;
       delay = if2 .left;
-      start = match .rest .0 .0 .0 .0 .0 .0 .0 .1;
-      join = match .rest .0 .0 .0 .0 .0 .0 .1;
-      when-true = match .rest .0 .0 .0 .0 .0 .1;
-      when-false = match .rest .0 .0 .0 .0 .1;
-      merge = match .rest .0 .0 .0 .1;
-      return = match .rest .0 .0 .1;
+      start = match .rest .0 .0 .0 .0 .0 .0 .0 .0 .1;
+      join = match .rest .0 .0 .0 .0 .0 .0 .0 .1;
+      when-true = match .rest .0 .0 .0 .0 .0 .0 .1;
+      when-false = match .rest .0 .0 .0 .0 .0 .1;
+      merge = match .rest .0 .0 .0 .0 .1;
+      return = match .rest .0 .0 .0 .1;
       memory = if3 .left;
-      gated = match .rest .0 .1;
-      read = match .rest .1;
+      gated = match .rest .0 .0 .1;
+      read = match .rest .0 .1;
+      latch = match .rest .1;
     }))
 
 line-out-requires : tie.Need-line-out-requires
@@ -175,6 +186,7 @@ next-value-spec =
     (λ c κs. search needs)
     (λ c κs. search needs)
     element-now-requires
+    latched-requires
     (λ c κs. search needs)
     returns-5
     returns-6
@@ -187,4 +199,5 @@ next-value-spec =
     returns-13
     returns-14
     returns-15
-    returns-16)
+    returns-16
+    returns-17)

@@ -1,0 +1,3 @@
+-- Definitions that the contracts cite beside those of model and compiler.
+pub mod Sets
+pub mod Walk

@@ -1,0 +1,2 @@
+-- Definitions that the contracts cite beside those of model.
+pub mod Modes

@@ -90,7 +90,7 @@ going-behind F Accepted file k lent e = refl
 going-behind F (Refused r) file k lent e = not-refused e
 
 -- a state as long as one that has its size
-same-size : {F : Format} {file lent s : List ℕ} → length s ≡ length lent → Runs F file lent → Runs F file s
+pub same-size : {F : Format} {file lent s : List ℕ} → length s ≡ length lent → Runs F file lent → Runs F file s
 same-size l r = record { accepted = r .accepted; room = rw l (r .room) }
 
 module _ (F : Format) (file : List ℕ) where

@@ -1,7 +1,6 @@
 //! The words after a command: files and such in order, `--name value`, `-o
 //! value`, and flags.
 
-use crate::store::{self, Store, LENGTH};
 use crate::types::Fault;
 use std::collections::BTreeMap;
 use std::fmt::Display;
@@ -110,24 +109,12 @@ impl Args {
         Ok(number.map(|number| number.try_into().unwrap_or(u8::MAX)))
     }
 
-    /// A file, and start words such as x0=3 and a2[5]=7 after it; those not
-    /// given are 0.
-    pub fn file_and_words(&self) -> Result<(&str, Store), Fault> {
-        let Some((file, words)) = self.given.split_first() else {
-            return Err(self.fault("FILE is missing"));
-        };
-        let mut start = [None; LENGTH];
-        for word in words {
-            let Some((place, value)) = start_word(word) else {
-                let form = "one is x0=3 or a2[5]=7, with x0 to x15 or a0[0] to a3[63], \
-                    and -32768 to 65535";
-                return Err(self.fault(format!("'{word}' is no start word; {form}")));
-            };
-            if start[place].replace(value).is_some() {
-                return Err(self.fault(format!("{} has two start words", store::name(place))));
-            }
+    /// A file, and the words after it.
+    pub fn file_and_words(&self) -> Result<(&str, &[String]), Fault> {
+        match self.given.split_first() {
+            Some((file, words)) => Ok((file, words)),
+            None => Err(self.fault("FILE is missing")),
         }
-        Ok((file, start.map(Option::unwrap_or_default)))
     }
 
     /// Exactly so many words, each named in the usage.
@@ -168,6 +155,15 @@ impl Options {
         (flag || valued).then_some(valued)
     }
 
+    /// The names of all options, as they are typed.
+    pub fn names(self) -> Vec<String> {
+        let of_program = OF_PROGRAMS.iter().filter(|_| self.program);
+        let of_program = of_program.map(|(name, _)| *name);
+        let own = self.valued.iter().chain(self.flags).copied();
+        let all = own.chain(of_program).chain(["json"]);
+        all.map(dashed).collect()
+    }
+
     /// The usage of the options that are said of a program, where there are any.
     pub fn usage(self) -> String {
         let usage = OF_PROGRAMS.iter().filter(|_| self.program);
@@ -190,12 +186,4 @@ fn option(word: &str) -> Option<(&str, Option<&str>)> {
 fn dashed(name: &str) -> String {
     let dashes = if name.len() == 1 { "-" } else { "--" };
     format!("{dashes}{name}")
-}
-
-fn start_word(word: &str) -> Option<(usize, u16)> {
-    let (name, value) = word.split_once('=')?;
-    let place = store::place(name)?;
-    let value: i32 = value.parse().ok()?;
-    let fits = (-32_768..=65_535).contains(&value);
-    fits.then_some((place, value as u16))
 }

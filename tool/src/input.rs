@@ -8,15 +8,19 @@ use crate::assemble::assemble;
 use crate::commands::Stop;
 use crate::files;
 use crate::lines;
+use crate::names::Names;
 use crate::origin::{self, Trace};
 use crate::product;
 use crate::refusals;
-use crate::source::{self, Place, Source};
+use crate::source::{self, Place, Said, Source};
 use crate::types::{Beside, Fault, Netlist, Node, Refusal};
 
 #[derive(Clone, Copy, Debug, PartialEq, Eq)]
 pub enum Form {
+    /// As the product reads it, or else as the tool does: a long one.
     Text,
+    /// As the product reads it, and no other.
+    Short,
     Outline,
     Program,
     Netlist,
@@ -35,6 +39,8 @@ pub struct Given {
     pub procedures: usize,
     /// The pulse length that its program is compiled for, as --pulse says.
     pub pulse: u8,
+    /// The tool's reading of a text that the product doesn't read.
+    pub long: Option<Source>,
 }
 
 /// An accepted program. Its nodes have places if it came as a text or an
@@ -45,6 +51,11 @@ pub struct Program {
     pub bytes: Vec<u8>,
     pub nodes: Vec<Node>,
     pub places: Option<Vec<Place>>,
+    /// Whether it came as a long text, the names that it has there, and how its nodes
+    /// were written.
+    pub long: bool,
+    pub names: Names,
+    pub said: Vec<Said>,
 }
 
 /// An accepted netlist, with the program that it was compiled from and the
@@ -56,9 +67,19 @@ pub struct Circuit {
     pub program: Option<(Program, Trace)>,
 }
 
+impl Circuit {
+    /// The names that its program has.
+    pub fn names(&self) -> Names {
+        let program = self.program.as_ref();
+        program
+            .map(|(program, _)| program.names.clone())
+            .unwrap_or_default()
+    }
+}
+
 impl Given {
     /// Reads the one FILE that a command is given.
-    pub fn only(args: &Args) -> Result<Given, Fault> {
+    pub fn only(args: &Args) -> Result<Given, Stop> {
         let [file] = args.exactly(["FILE"])?;
         Given::read(args, file)
     }
@@ -66,10 +87,10 @@ impl Given {
     /// Reads FILE, and the file of --times; --as says what FILE is, or else
     /// its name: NAME.outline an outline, NAME.prog a program's bytes, NAME.net
     /// a netlist, others texts.
-    pub fn read(args: &Args, name: &str) -> Result<Given, Fault> {
+    pub fn read(args: &Args, name: &str) -> Result<Given, Stop> {
         let form = match args.value("as") {
             Some(word) => form_named(word).ok_or_else(|| {
-                let forms = "text, outline, program or netlist";
+                let forms = "text, short, outline, program or netlist";
                 args.fault(format!("--as takes {forms}, not '{word}'"))
             })?,
             None => form_of(name),
@@ -78,7 +99,7 @@ impl Given {
     }
 
     /// Reads FILE, which is of this form, and the file of --times.
-    pub fn read_as(args: &Args, name: &str, form: Form) -> Result<Given, Fault> {
+    pub fn read_as(args: &Args, name: &str, form: Form) -> Result<Given, Stop> {
         let times = match args.value("times") {
             Some(table) => Some((table.to_string(), files::read(table)?)),
             None => None,
@@ -86,7 +107,7 @@ impl Given {
         let idle = |option: &&str| form == Form::Netlist && args.flag(option);
         if let Some(option) = ["times", "procedures", "pulse"].into_iter().find(idle) {
             let message = "goes with a program, and a netlist is compiled already";
-            return Err(args.fault(format!("--{option} {message}")));
+            return Err(args.fault(format!("--{option} {message}")).into());
         }
         let mut given = Given {
             name: files::shown(name).to_string(),
@@ -95,16 +116,42 @@ impl Given {
             times,
             procedures: args.number("procedures")?.unwrap_or(0) as usize,
             pulse: args.byte("pulse")?.unwrap_or(1),
+            long: None,
         };
-        if form == Form::Outline {
+        if form == Form::Text {
+            given.read_long()?;
+        }
+        if form == Form::Outline || given.long.is_some() {
             let (said, own) = (args.value("procedures"), given.source()?.procedures);
             if said.is_some() && given.procedures != own {
                 let message = format!("{name} has {}", counted(own, "procedure"));
-                return Err(args.fault(message));
+                return Err(args.fault(message).into());
             }
             given.procedures = own;
         }
         Ok(given)
+    }
+
+    /// Reads a text that the product, which is asked first, finds no words or no
+    /// order in.
+    pub fn read_long(&mut self) -> Result<(), Stop> {
+        let met = product::read_text(self.beside(), &self.bytes).err();
+        if !met.is_some_and(|met| matches!(met.number, 17 | 18)) {
+            return Ok(());
+        }
+        let read = source::read(&self.bytes).and_then(|mut source| {
+            source.settle(self.beside())?;
+            Ok(source)
+        });
+        let read = read.map_err(|broken| refusals::of_long(self, &broken))?;
+        self.long = Some(read);
+        Ok(())
+    }
+
+    /// The names that a long text has.
+    pub fn names(&self) -> Names {
+        let long = self.long.as_ref();
+        long.map(|source| source.names.clone()).unwrap_or_default()
     }
 
     /// What is given beside the program.
@@ -120,9 +167,15 @@ impl Given {
     /// The program, accepted by the product.
     pub fn program(&self) -> Result<Program, Stop> {
         match self.form {
-            Form::Text => self.program_of_text(),
-            Form::Outline => {
-                let Source { nodes, places, .. } = self.source()?;
+            Form::Text | Form::Short if self.long.is_none() => self.program_of_text(),
+            Form::Text | Form::Short | Form::Outline => {
+                let Source {
+                    nodes,
+                    places,
+                    names,
+                    said,
+                    ..
+                } = self.source()?;
                 let bytes = product::program_bytes(&nodes);
                 product::check(self.beside(), &bytes).map_err(|met| self.refused(met))?;
                 Ok(Program {
@@ -130,6 +183,9 @@ impl Given {
                     bytes,
                     nodes,
                     places: Some(places),
+                    long: self.long.is_some(),
+                    names,
+                    said,
                 })
             }
             Form::Program => {
@@ -139,6 +195,9 @@ impl Given {
                     bytes: self.bytes.clone(),
                     nodes: product::nodes(&self.bytes),
                     places: None,
+                    long: false,
+                    names: Names::default(),
+                    said: Vec::new(),
                 })
             }
             Form::Netlist => {
@@ -154,6 +213,9 @@ impl Given {
         if self.form == Form::Outline {
             let text = lines::text_of(&self.name, &self.bytes)?;
             return assemble(text).map_err(|wrong| wrong.fault(&self.name));
+        }
+        if let Some(long) = &self.long {
+            return Ok(long.clone());
         }
         source::read(&self.bytes).map_err(|_| self.misread())
     }
@@ -171,6 +233,9 @@ impl Given {
             bytes,
             nodes,
             places: Some(source.places),
+            long: false,
+            names: Names::default(),
+            said: Vec::new(),
         })
     }
 
@@ -216,6 +281,7 @@ impl Given {
 fn form_named(word: &str) -> Option<Form> {
     match word {
         "text" => Some(Form::Text),
+        "short" => Some(Form::Short),
         "outline" => Some(Form::Outline),
         "program" => Some(Form::Program),
         "netlist" => Some(Form::Netlist),

@@ -2,6 +2,7 @@
 
 mod asking;
 mod calls;
+mod long;
 mod marks;
 mod netlists;
 mod programs;
@@ -9,6 +10,8 @@ mod rules;
 mod texts;
 
 pub use asking::{has_delay, least_delay};
+pub use calls::run_by;
+pub use long::of_long;
 pub use marks::Mark;
 pub use netlists::of_wired;
 pub use rules::{rule, Counts, Rule, RULES};
@@ -75,7 +78,7 @@ pub fn report(given: &Given, refusal: Refusal) -> Result<Report, Fault> {
         (9..=12, _) => netlists::of_file(report, &given.bytes),
         (17, _) => texts::of_word(report, &given.bytes),
         (18, _) => texts::of_grammar(report, given),
-        (_, Form::Text | Form::Outline) => programs::of_source(report, given)?,
+        (_, Form::Text | Form::Short | Form::Outline) => programs::of_source(report, given)?,
         _ => programs::of_bytes(report, given),
     })
 }

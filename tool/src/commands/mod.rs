@@ -2,18 +2,22 @@
 
 mod assemble;
 mod begin;
+mod bound;
 mod cells;
 mod check;
 mod compile;
+mod delays;
 mod draw;
 mod format;
 mod go;
 mod help;
+mod manual;
 mod outline;
 mod read;
 mod run;
 mod start;
 mod states;
+mod test;
 mod times;
 mod wave;
 mod wire;
@@ -23,6 +27,7 @@ use crate::args::{Args, Options};
 use crate::files;
 use crate::json::Json;
 use crate::refusals::Report;
+use crate::source::nearest;
 use crate::types::{Done, Fault, REFUSED};
 
 pub struct Command {
@@ -43,6 +48,9 @@ pub struct Command {
 pub const COMMANDS: &[&Command] = &[
     &run::COMMAND,
     &check::COMMAND,
+    &test::COMMAND,
+    &delays::COMMAND,
+    &bound::COMMAND,
     &cells::COMMAND,
     &wire::COMMAND,
     &draw::COMMAND,
@@ -84,6 +92,8 @@ pub struct Told {
     pub exit: i32,
     pub output: Vec<u8>,
     pub error: String,
+    /// Whether the output is told to a reader, and may have colours.
+    pub tells: bool,
 }
 
 /// Follows a command line, whose first word is the command.
@@ -94,6 +104,10 @@ pub fn run(words: &[String]) -> Told {
             exit: done.exit,
             output: done.output,
             error: String::new(),
+            tells: !json
+                && words
+                    .first()
+                    .is_some_and(|name| name == "check" || name == "test"),
         },
         Err(Stop::Refused(report)) if json => told(REFUSED, report.json().line(), String::new()),
         Err(Stop::Refused(report)) => told(REFUSED, Vec::new(), report.text()),
@@ -112,6 +126,7 @@ fn told(exit: i32, output: Vec<u8>, error: String) -> Told {
         exit,
         output,
         error,
+        tells: false,
     }
 }
 
@@ -119,6 +134,15 @@ fn chosen(words: &[String]) -> Result<Done, Stop> {
     let Some((name, words)) = words.split_first() else {
         return Err(Fault::usage(help::overview()).into());
     };
+    if name == "--version" || name == "-V" {
+        let version = env!("CARGO_PKG_VERSION");
+        return Ok(Done::printing(
+            match words.iter().any(|word| word == "--json") {
+                true => Json::Object(vec![("version", Json::text(version))]).line(),
+                false => format!("hub {version}\n").into_bytes(),
+            },
+        ));
+    }
     let command = named(name)?;
     let has = |option: &str| words.iter().any(|word| word == option);
     if has("--help") || has("-h") {
@@ -140,8 +164,13 @@ fn named(name: &str) -> Result<&'static Command, Fault> {
         .find(|command| command.name == name)
         .copied()
         .ok_or_else(|| {
+            let names = COMMANDS.iter().map(|command| command.name);
+            let meant = match nearest(name, names) {
+                Some(near) => format!("did you mean {near}? "),
+                None => String::new(),
+            };
             Fault::usage(format!(
-                "there is no command '{name}'; 'hub help' lists them"
+                "there is no command '{name}'; {meant}'hub help' lists them"
             ))
         })
 }
@@ -156,7 +185,7 @@ fn usage(command: &Command) -> String {
 /// file.
 fn check_output(command: &Command, args: &Args) -> Result<(), Fault> {
     let changed = match command.name {
-        "format" => Some(0),
+        "format" | "delays" => Some(0),
         "go" | "start" => Some(1),
         _ => None,
     };
@@ -164,7 +193,8 @@ fn check_output(command: &Command, args: &Args) -> Result<(), Fault> {
     let read = read.filter(|(word, _)| Some(*word) != changed);
     let read = read
         .map(|(_, word)| word.as_str())
-        .chain(args.value("times"));
+        .chain(args.value("times"))
+        .chain(args.value("start"));
     let Some(out) = args.value("o") else {
         return Ok(());
     };

@@ -3,8 +3,10 @@
 //! output, standard error, and the exit status where it isn't 0. With KEEP=1 the
 //! files are made anew, to be looked at before they are kept.
 
+mod help_inputs;
 mod inputs;
 mod json;
+mod long_inputs;
 
 use std::fs;
 use std::path::{Path, PathBuf};
@@ -157,6 +159,22 @@ fn every_refusal_is_kept() {
             lines.iter().any(|line| line.contains(&met)),
             "refusal {number}"
         );
+    }
+}
+
+/// The kept files show every rule of the reader of long texts.
+#[test]
+fn every_rule_of_the_reader_is_kept() {
+    let lines = kept_lines();
+    for rule in hub::source::rules::ALL {
+        let met = |line: &String| {
+            let mut rest = line.split(": refused 1").nth(1)?;
+            for part in rule.split("{}") {
+                rest = &rest[rest.find(part)? + part.len()..];
+            }
+            Some(())
+        };
+        assert!(lines.iter().any(|line| met(line).is_some()), "{rule}");
     }
 }
 

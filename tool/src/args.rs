@@ -18,12 +18,13 @@ pub struct Options {
 
 type Names = &'static [&'static str];
 
-/// What is said of a program: the names of the options, and their usage.
-const OF_PROGRAMS: [(&str, &str); 4] = [
-    ("as", "[--as FORM]"),
-    ("times", "[--times T]"),
-    ("procedures", "[--procedures N]"),
-    ("pulse", "[--pulse W]"),
+/// What is said of a program: the names of the options, and what their values are
+/// called, where they have one.
+const OF_PROGRAMS: [(&str, Option<&str>); 4] = [
+    ("as", Some("FORM")),
+    ("times", Some("T")),
+    ("procedures", Some("N")),
+    ("pulse", Some("W")),
 ];
 
 #[derive(Clone, Debug, Default)]
@@ -89,6 +90,12 @@ impl Args {
         self.value(name).ok_or_else(|| self.missing(name))
     }
 
+    /// An option that was given and is about a program, other than what the file is.
+    pub fn said_of_program(&self) -> Option<&'static str> {
+        let mut names = OF_PROGRAMS.iter().map(|(name, _)| *name);
+        names.find(|name| *name != "as" && self.flag(name))
+    }
+
     /// An option that is a decimal number. One that four bytes can't hold is
     /// taken as the largest that they can, which the product refuses as well.
     pub fn number(&self, name: &str) -> Result<Option<u32>, Fault> {
@@ -149,10 +156,17 @@ impl Options {
 
     /// Whether an option takes a value, if there is one of this name.
     fn takes(self, name: &str) -> Option<bool> {
-        let flag = name == "json" || self.flags.contains(&name);
-        let of_program = OF_PROGRAMS.iter().any(|(option, _)| *option == name);
-        let valued = self.valued.contains(&name) || self.program && of_program;
-        (flag || valued).then_some(valued)
+        let of_program = OF_PROGRAMS.iter().filter(|_| self.program);
+        let of_program = of_program.map(|(name, value)| (*name, value.is_some()));
+        let own = self.valued.iter().map(|name| (*name, true));
+        let flags = self
+            .flags
+            .iter()
+            .chain(&["json"])
+            .map(|name| (*name, false));
+        let mut all = own.chain(flags).chain(of_program);
+        all.find(|(option, _)| *option == name)
+            .map(|(_, valued)| valued)
     }
 
     /// The names of all options, as they are typed.
@@ -166,8 +180,12 @@ impl Options {
 
     /// The usage of the options that are said of a program, where there are any.
     pub fn usage(self) -> String {
-        let usage = OF_PROGRAMS.iter().filter(|_| self.program);
-        usage.map(|(_, usage)| format!(" {usage}")).collect()
+        let usage = |(name, value): &(&str, Option<&str>)| match value {
+            Some(value) => format!(" [{} {value}]", dashed(name)),
+            None => format!(" [{}]", dashed(name)),
+        };
+        let all = OF_PROGRAMS.iter().filter(|_| self.program);
+        all.map(usage).collect()
     }
 }
 

@@ -4,6 +4,7 @@
 
 use crate::answers::counted;
 use crate::args::Args;
+use crate::aside::Aside;
 use crate::assemble::assemble;
 use crate::commands::Stop;
 use crate::files;
@@ -32,13 +33,7 @@ pub struct Given {
     pub name: String,
     pub form: Form,
     pub bytes: Vec<u8>,
-    /// The name and bytes of a table of operator times.
-    pub times: Option<(String, Vec<u8>)>,
-    /// How many procedures its program has, as an outline's headings or
-    /// --procedures say.
-    pub procedures: usize,
-    /// The pulse length that its program is compiled for, as --pulse says.
-    pub pulse: u8,
+    pub aside: Aside,
     /// The tool's reading of a text that the product doesn't read.
     pub long: Option<Source>,
 }
@@ -100,22 +95,15 @@ impl Given {
 
     /// Reads FILE, which is of this form, and the file of --times.
     pub fn read_as(args: &Args, name: &str, form: Form) -> Result<Given, Stop> {
-        let times = match args.value("times") {
-            Some(table) => Some((table.to_string(), files::read(table)?)),
-            None => None,
-        };
-        let idle = |option: &&str| form == Form::Netlist && args.flag(option);
-        if let Some(option) = ["times", "procedures", "pulse"].into_iter().find(idle) {
+        if let Some(option) = args.said_of_program().filter(|_| form == Form::Netlist) {
             let message = "goes with a program, and a netlist is compiled already";
             return Err(args.fault(format!("--{option} {message}")).into());
         }
         let mut given = Given {
             name: files::shown(name).to_string(),
             form,
+            aside: Aside::of(args)?,
             bytes: files::read(name)?,
-            times,
-            procedures: args.number("procedures")?.unwrap_or(0) as usize,
-            pulse: args.byte("pulse")?.unwrap_or(1),
             long: None,
         };
         if form == Form::Text {
@@ -123,11 +111,11 @@ impl Given {
         }
         if form == Form::Outline || given.long.is_some() {
             let (said, own) = (args.value("procedures"), given.source()?.procedures);
-            if said.is_some() && given.procedures != own {
+            if said.is_some() && given.aside.procedures != own {
                 let message = format!("{name} has {}", counted(own, "procedure"));
                 return Err(args.fault(message).into());
             }
-            given.procedures = own;
+            given.aside.procedures = own;
         }
         Ok(given)
     }
@@ -156,12 +144,7 @@ impl Given {
 
     /// What is given beside the program.
     pub fn beside(&self) -> Beside<'_> {
-        let table = self.times.as_ref().map(|(_, bytes)| bytes.as_slice());
-        Beside {
-            table,
-            procedures: self.procedures,
-            pulse: self.pulse,
-        }
+        self.aside.lent()
     }
 
     /// The program, accepted by the product.
@@ -179,7 +162,7 @@ impl Given {
                 let bytes = product::program_bytes(&nodes);
                 product::check(self.beside(), &bytes).map_err(|met| self.refused(met))?;
                 Ok(Program {
-                    procedures: self.procedures,
+                    procedures: self.aside.procedures,
                     bytes,
                     nodes,
                     places: Some(places),
@@ -191,7 +174,7 @@ impl Given {
             Form::Program => {
                 product::check(self.beside(), &self.bytes).map_err(|met| self.refused(met))?;
                 Ok(Program {
-                    procedures: self.procedures,
+                    procedures: self.aside.procedures,
                     bytes: self.bytes.clone(),
                     nodes: product::nodes(&self.bytes),
                     places: None,
@@ -229,7 +212,7 @@ impl Given {
             return Err(self.misread().into());
         }
         Ok(Program {
-            procedures: self.procedures,
+            procedures: self.aside.procedures,
             bytes,
             nodes,
             places: Some(source.places),

@@ -3,6 +3,7 @@
 
 pub mod answers;
 pub mod args;
+pub mod aside;
 pub mod assemble;
 pub mod bound;
 pub mod cases;

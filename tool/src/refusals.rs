@@ -66,7 +66,7 @@ pub fn plain(file: &str, refusal: Refusal) -> Report {
 pub fn report(given: &Given, refusal: Refusal) -> Result<Report, Fault> {
     let report = plain(&given.name, refusal);
     Ok(match (refusal.number, given.form) {
-        (19..=21, _) => match &given.times {
+        (19..=21, _) => match &given.aside.times {
             Some((name, bytes)) => of_times(name, bytes, refusal),
             None => report,
         },

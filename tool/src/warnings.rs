@@ -41,11 +41,7 @@ impl Warning {
 
 /// The warnings about a program, in the order of its nodes; `line` tells the line of a
 /// node, for a reader.
-pub fn warnings(
-    beside: Beside,
-    program: &Program,
-    line: &dyn Fn(usize) -> String,
-) -> Vec<Warning> {
+pub fn warnings(beside: Beside, program: &Program, line: &dyn Fn(usize) -> String) -> Vec<Warning> {
     let conditions = Conditions::of(beside, &program.nodes);
     let mut all = conditions.warnings();
     all.extend(uses::endless(beside.procedures, program, &conditions));
@@ -59,14 +55,11 @@ pub fn warnings(
 
 /// Delays above the least, but for those that say so, with the loop whose every round
 /// they make longer. A tick is there for its delay.
-fn long_delays(
-    beside: Beside,
-    program: &Program,
-    line: &dyn Fn(usize) -> String,
-) -> Vec<Warning> {
+fn long_delays(beside: Beside, program: &Program, line: &dyn Fn(usize) -> String) -> Vec<Warning> {
     let nodes = &program.nodes;
     let meant = |node: &usize| {
-        nodes[*node].kind == TICK || matches!(program.said.get(*node), Some(Said::More(_) | Said::Least))
+        nodes[*node].kind == TICK
+            || matches!(program.said.get(*node), Some(Said::More(_) | Said::Least))
     };
     let mut all = Vec::new();
     for node in (0..nodes.len()).filter(|node| nodes[*node].delay > 0 && !meant(node)) {

@@ -28,9 +28,7 @@ fn given(name: &Path) -> Given {
         name: name.display().to_string(),
         form: Form::Program,
         bytes: fs::read(name).expect("a vector"),
-        times: None,
-        procedures: 0,
-        pulse: 1,
+        aside: Beside::NOTHING.into(),
         long: None,
     }
 }

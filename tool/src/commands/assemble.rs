@@ -29,5 +29,5 @@ fn run(args: &Args) -> Result<Done, Stop> {
         false => given.program()?.nodes,
     };
     let program = product::program_bytes(&nodes);
-    written_program(args, out, &program, given.procedures)
+    written_program(args, out, &program, given.aside.procedures)
 }

@@ -117,9 +117,9 @@ fn of_bytes(given: &Given, mut nodes: Vec<Node>, delays: &[Delay]) -> Result<Str
     for delay in delays {
         nodes[delay.node].delay = delay.least;
     }
-    let text = match format::has_text(given.procedures, &nodes) {
+    let text = match format::has_text(given.aside.procedures, &nodes) {
         true => format::tree(&nodes).map(|tree| format::format(&tree)),
-        false => format::long(&Source::of_nodes(given.procedures, &nodes), &[]),
+        false => format::long(&Source::of_nodes(given.aside.procedures, &nodes), &[]),
     };
     text.ok_or_else(|| Fault::internal("the program is no tree"))
 }

@@ -28,7 +28,7 @@ fn run(args: &Args) -> Result<Done, Stop> {
         Form::Program if bytes_of_nodes => product::nodes(&given.bytes),
         _ => given.program()?.nodes,
     };
-    let procedures = given.procedures;
+    let procedures = given.aside.procedures;
     output::put(
         args,
         outline::outline(procedures, &nodes, &given.names()),

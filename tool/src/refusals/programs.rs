@@ -31,11 +31,11 @@ pub fn of_source(report: Report, given: &Given) -> Result<Report, Fault> {
 
 fn of_nodes(mut report: Report, given: &Given, nodes: &[Node], source: Option<&Source>) -> Report {
     match report.refusal.number {
-        1 if given.procedures > MOST_PROCEDURES => {
+        1 if given.aside.procedures > MOST_PROCEDURES => {
             report.rule = "a program has at most eight procedures".into();
             report.remedy =
                 "put the steps of two procedures into one, or into their callers".into();
-            report.found = Some(counted(given.procedures, "procedure"));
+            report.found = Some(counted(given.aside.procedures, "procedure"));
         }
         1 if nodes.is_empty() => {
             report.found = Some(match given.form {
@@ -85,7 +85,7 @@ fn of_tree(report: &mut Report, given: &Given, nodes: &[Node], source: Option<&S
         report.rule = "a text is one statement, and has no procedures".into();
         report.remedy =
             "leave --procedures out, or write the program as an outline, which has them".into();
-        report.found = Some(counted(given.procedures, "procedure"));
+        report.found = Some(counted(given.aside.procedures, "procedure"));
         return;
     }
     if place < nodes.len() {
@@ -96,7 +96,7 @@ fn of_tree(report: &mut Report, given: &Given, nodes: &[Node], source: Option<&S
     let Some(Below { node, child }) = preorder::places(nodes).1 else {
         let (roots, _) = preorder::roots(nodes);
         let missing = match roots.len() {
-            root if root < given.procedures => format!("procedure {root}"),
+            root if root < given.aside.procedures => format!("procedure {root}"),
             _ => "the main program".to_string(),
         };
         report.rule = format!("the nodes run out: {missing} is missing");
@@ -121,7 +121,7 @@ fn of_delay(report: &mut Report, given: &Given, nodes: &[Node], source: Option<&
     // Whether a shorter pulse would do with less.
     let long = report.least > least_delay(short, nodes, place);
     let with = match long {
-        true => format!("with pulses of {} instants ", given.pulse),
+        true => format!("with pulses of {} instants ", given.aside.pulse),
         false => String::new(),
     };
     let least = counted(report.least.unwrap_or(u8::MAX).into(), "instant");
@@ -247,16 +247,16 @@ fn of_exit(report: &mut Report, given: &Given, nodes: &[Node], source: Option<&S
 fn of_call(report: &mut Report, given: &Given, nodes: &[Node], source: Option<&Source>) {
     let call = report.refusal.place;
     let (root, called) = (calls::root_of(nodes, call), usize::from(nodes[call].n));
-    if called == root && root < given.procedures {
+    if called == root && root < given.aside.procedures {
         report.rule = "this procedure calls itself".into();
         report.remedy = "go round in a loop".into();
-    } else if called < given.procedures {
+    } else if called < given.aside.procedures {
         let name = given.names().procedure(nodes[call].n);
         report.rule = format!("procedure {name} stands later than this call");
         report.remedy = "put the procedure before those that call it".into();
     } else {
         report.rule = format!("there is no procedure {called}");
-        report.remedy = match given.procedures {
+        report.remedy = match given.aside.procedures {
             0 => "write the procedure before the main program".into(),
             1 => "call procedure 0, the only one that there is".into(),
             count => format!("call one of procedures 0 to {}", count - 1),
@@ -267,7 +267,7 @@ fn of_call(report: &mut Report, given: &Given, nodes: &[Node], source: Option<&S
 
 fn of_shared(report: &mut Report, given: &Given, nodes: &[Node], source: Option<&Source>) {
     let parallel = report.refusal.place;
-    let Some((procedure, sides)) = calls::shared(given.procedures, nodes, parallel) else {
+    let Some((procedure, sides)) = calls::shared(given.aside.procedures, nodes, parallel) else {
         return;
     };
     let names = given.names();

@@ -33,14 +33,12 @@ fn of(form: Form, beside: Beside, bytes: &[u8]) -> Circuit {
         name: "a program".to_string(),
         form,
         bytes: bytes.to_vec(),
-        times: None,
-        procedures: beside.procedures,
-        pulse: beside.pulse,
+        aside: beside.into(),
         long: None,
     };
     if form == Form::Text {
         given.read_long().expect("a text");
-        given.procedures = given.source().expect("a text").procedures;
+        given.aside.procedures = given.source().expect("a text").procedures;
     }
     given.circuit().expect("an accepted program")
 }

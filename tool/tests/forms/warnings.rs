@@ -21,9 +21,7 @@ fn warned(program: &Program) -> Vec<Warning> {
         names: Names::default(),
         said: Vec::new(),
     };
-    warnings(program.beside(), &accepted, &|node| {
-        format!("node {node}")
-    })
+    warnings(program.beside(), &accepted, &|node| format!("node {node}"))
 }
 
 /// A text, and of each warning about it what it is about, and the node.

@@ -9,18 +9,29 @@ use std::num::IntErrorKind;
 /// The options that a command takes.
 #[derive(Clone, Copy, Debug)]
 pub struct Options {
-    /// Whether it takes a program, and with it what is said of one.
-    program: bool,
+    /// What it takes, and with it what is said of a program.
+    takes: Takes,
     /// With a value, and without.
     valued: Names,
     flags: Names,
 }
 
+/// What a command is about.
+#[derive(Clone, Copy, Debug, PartialEq, Eq)]
+enum Takes {
+    /// A program in whatever form.
+    Program,
+    Outline,
+    Other,
+}
+
 type Names = &'static [&'static str];
 
-/// What is said of a program: the names of the options, and what their values are
-/// called, where they have one.
-const OF_PROGRAMS: [(&str, Option<&str>); 4] = [
+/// The name of an option, and what its value is called, where it has one.
+type Row = (&'static str, Option<&'static str>);
+
+/// What is said of a program.
+const OF_PROGRAMS: [Row; 4] = [
     ("as", Some("FORM")),
     ("times", Some("T")),
     ("procedures", Some("N")),
@@ -140,7 +151,15 @@ impl Options {
     /// Of a command that takes a program.
     pub const fn of_program(valued: Names, flags: Names) -> Options {
         Options {
-            program: true,
+            takes: Takes::Program,
+            ..Options::plain(valued, flags)
+        }
+    }
+
+    /// Of a command that takes an outline.
+    pub const fn of_outline(valued: Names, flags: Names) -> Options {
+        Options {
+            takes: Takes::Outline,
             ..Options::plain(valued, flags)
         }
     }
@@ -148,44 +167,50 @@ impl Options {
     /// Of a command that takes none.
     pub const fn plain(valued: Names, flags: Names) -> Options {
         Options {
-            program: false,
+            takes: Takes::Other,
             valued,
             flags,
         }
     }
 
+    /// All options: their names, and what their values are called where they have one.
+    fn all(self) -> impl Iterator<Item = Row> {
+        let valued = self.valued.iter().map(|name| (*name, Some("VALUE")));
+        let flags = self.flags.iter().map(|name| (*name, None));
+        valued.chain(flags).chain(self.shared())
+    }
+
+    /// Those that many commands take: what is said of a program, and --json. Of an outline
+    /// it is known what it is.
+    fn shared(self) -> impl Iterator<Item = Row> {
+        let said = move |name: &str| match self.takes {
+            Takes::Program => true,
+            Takes::Outline => name != "as",
+            Takes::Other => false,
+        };
+        let of_program = OF_PROGRAMS.into_iter();
+        let of_program = of_program.filter(move |(name, _)| said(name));
+        of_program.chain([("json", None)])
+    }
+
     /// Whether an option takes a value, if there is one of this name.
     fn takes(self, name: &str) -> Option<bool> {
-        let of_program = OF_PROGRAMS.iter().filter(|_| self.program);
-        let of_program = of_program.map(|(name, value)| (*name, value.is_some()));
-        let own = self.valued.iter().map(|name| (*name, true));
-        let flags = self
-            .flags
-            .iter()
-            .chain(&["json"])
-            .map(|name| (*name, false));
-        let mut all = own.chain(flags).chain(of_program);
-        all.find(|(option, _)| *option == name)
-            .map(|(_, valued)| valued)
+        let own = self.all().find(|(option, _)| *option == name);
+        own.map(|(_, value)| value.is_some())
     }
 
     /// The names of all options, as they are typed.
     pub fn names(self) -> Vec<String> {
-        let of_program = OF_PROGRAMS.iter().filter(|_| self.program);
-        let of_program = of_program.map(|(name, _)| *name);
-        let own = self.valued.iter().chain(self.flags).copied();
-        let all = own.chain(of_program).chain(["json"]);
-        all.map(dashed).collect()
+        self.all().map(|(name, _)| dashed(name)).collect()
     }
 
-    /// The usage of the options that are said of a program, where there are any.
+    /// The usage of the options that many commands share.
     pub fn usage(self) -> String {
-        let usage = |(name, value): &(&str, Option<&str>)| match value {
+        let usage = |(name, value)| match value {
             Some(value) => format!(" [{} {value}]", dashed(name)),
             None => format!(" [{}]", dashed(name)),
         };
-        let all = OF_PROGRAMS.iter().filter(|_| self.program);
-        all.map(usage).collect()
+        self.shared().map(usage).collect()
     }
 }
 

@@ -177,8 +177,8 @@ fn named(name: &str) -> Result<&'static Command, Fault> {
 
 /// How a command is called.
 fn usage(command: &Command) -> String {
-    let of_program = command.options.usage();
-    format!("hub {} {}{of_program}", command.name, command.usage)
+    let shared = command.options.usage();
+    format!("hub {} {}{shared}", command.name, command.usage)
 }
 
 /// No command writes over what it reads, but for those that are there to change a

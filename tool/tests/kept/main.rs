@@ -190,3 +190,17 @@ fn every_command_has_an_example() {
         assert!(lines.contains(&page), "no kept help of {name}");
     }
 }
+
+/// The usage line of every command names all options that it takes.
+#[test]
+fn usage_lines_name_all_options() {
+    let lines = kept_lines();
+    for command in hub::commands::COMMANDS {
+        let begins = format!("usage: hub {} ", command.name);
+        let usage = lines.iter().find(|line| line.starts_with(&begins));
+        let usage = usage.expect("a kept usage line");
+        for option in command.options.names() {
+            assert!(usage.contains(&option), "{option} in {usage}");
+        }
+    }
+}

@@ -246,7 +246,7 @@ impl<'w> Writer<'w> {
     fn delay(&self, tree: &Tree) -> String {
         match self.said.get(tree.at).filter(|_| !self.every_delay) {
             Some(Said::Least) => String::new(),
-            Some(Said::More(more)) => format!(" @+{more}"),
+            Some(Said::More(_, word)) => format!(" @+{word}"),
             Some(Said::Written(word)) => format!(" @{word}"),
             _ => format!(" @{}", tree.node.delay),
         }

@@ -41,8 +41,8 @@ pub enum Said {
     Plain,
     /// The delay is left out: it is the least that the product takes.
     Least,
-    /// The delay is so much more than that.
-    More(u8),
+    /// The delay is so much more than that, and how that is written.
+    More(u8, String),
     /// The number is written in this way, by a constant's name or in hexadecimal.
     Written(String),
     /// A less with its sides changed: `a > b`, or in `a <= b`.

@@ -59,7 +59,7 @@ fn long_delays(beside: Beside, program: &Program, line: &dyn Fn(usize) -> String
     let nodes = &program.nodes;
     let meant = |node: &usize| {
         nodes[*node].kind == TICK
-            || matches!(program.said.get(*node), Some(Said::More(_) | Said::Least))
+            || matches!(program.said.get(*node), Some(Said::More(..) | Said::Least))
     };
     let mut all = Vec::new();
     for node in (0..nodes.len()).filter(|node| nodes[*node].delay > 0 && !meant(node)) {

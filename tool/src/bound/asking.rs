@@ -54,14 +54,17 @@ impl<'n> Asking<'n> {
 
     /// How long a round of a loop takes.
     pub fn round(&self, at: usize) -> Takes {
-        let (least, most) = (self.rounds(at, Want::Least), self.rounds(at, Want::Most));
-        let span = |of: fn(&(Option<u32>, Option<u32>)) -> Option<u32>| Span {
-            least: of(&least),
-            most: of(&most),
+        let [least, most] = [Want::Least, Want::Most].map(|want| self.rounds(at, want));
+        let round = Span {
+            least: least.0,
+            most: most.0,
         };
-        let last = span(|(_, last)| *last);
+        let last = Span {
+            least: least.1,
+            most: most.1,
+        };
         let tells = self.nodes[at].kind != REPEAT && last != Span::default();
-        Takes::Round(span(|(round, _)| *round), tells.then_some(last))
+        Takes::Round(round, tells.then_some(last))
     }
 
     /// A round that goes round, and the last one.

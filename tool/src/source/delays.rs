@@ -13,7 +13,7 @@ impl Source {
         for node in 0..self.nodes.len() {
             let more = match self.said.get(node) {
                 Some(Said::Least) => 0,
-                Some(Said::More(more)) => *more,
+                Some(Said::More(more, _)) => *more,
                 _ => continue,
             };
             let least = least_delay(beside, &self.nodes, node).unwrap_or(u8::MAX);

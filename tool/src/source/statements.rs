@@ -66,7 +66,7 @@ impl<'t> Reader<'t> {
 
     fn tick(&mut self, first: Word) -> Read<Tree> {
         let mut tree = Tree::leaf(17, 0, first.span);
-        let number = self.delay_number(&mut tree)?;
+        let number = self.delay_number(&mut tree)?.span;
         tree.place.delay = Some(number);
         Ok(tree.over(first.span.to(number)))
     }
@@ -213,16 +213,17 @@ impl<'t> Reader<'t> {
             return Ok(before);
         };
         let more = self.skip("+").is_some();
-        let place = sign.to(self.delay_number(tree)?);
+        let number = self.delay_number(tree)?;
+        let place = sign.to(number.span);
         if more {
-            tree.said = Said::More(std::mem::take(&mut tree.node.delay));
+            tree.said = Said::More(std::mem::take(&mut tree.node.delay), number.shown());
         }
         tree.place.delay = Some(place);
         Ok(place)
     }
 
     /// The number of a delay.
-    fn delay_number(&mut self, tree: &mut Tree) -> Read<Span> {
+    fn delay_number(&mut self, tree: &mut Tree) -> Read<Word<'t>> {
         let (value, word) = self.number()?;
         let Ok(delay) = value.try_into() else {
             let rule = rules::DELAY;
@@ -233,6 +234,6 @@ impl<'t> Reader<'t> {
         if word.shown() != value.to_string() {
             tree.said = Said::Written(word.shown());
         }
-        Ok(word.span)
+        Ok(word)
     }
 }

@@ -104,7 +104,7 @@ fn delays_that_are_left_out_are_the_least() {
         for more in [0, 3] {
             let said = |kind: u8| match has(kind) {
                 true if more == 0 => Said::Least,
-                true => Said::More(more),
+                true => Said::More(more, more.to_string()),
                 false => Said::Plain,
             };
             source.said = nodes.iter().map(|node| said(node.kind)).collect();

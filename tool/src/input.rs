@@ -149,46 +149,38 @@ impl Given {
 
     /// The program, accepted by the product.
     pub fn program(&self) -> Result<Program, Stop> {
-        match self.form {
-            Form::Text | Form::Short if self.long.is_none() => self.program_of_text(),
-            Form::Text | Form::Short | Form::Outline => {
-                let Source {
-                    nodes,
-                    places,
-                    names,
-                    said,
-                    ..
-                } = self.source()?;
-                let bytes = product::program_bytes(&nodes);
-                product::check(self.beside(), &bytes).map_err(|met| self.refused(met))?;
-                Ok(Program {
-                    procedures: self.aside.procedures,
-                    bytes,
-                    nodes,
-                    places: Some(places),
-                    long: self.long.is_some(),
-                    names,
-                    said,
-                })
-            }
-            Form::Program => {
-                product::check(self.beside(), &self.bytes).map_err(|met| self.refused(met))?;
-                Ok(Program {
-                    procedures: self.aside.procedures,
-                    bytes: self.bytes.clone(),
-                    nodes: product::nodes(&self.bytes),
-                    places: None,
-                    long: false,
-                    names: Names::default(),
-                    said: Vec::new(),
-                })
-            }
+        let (bytes, source) = match self.form {
             Form::Netlist => {
                 let name = &self.name;
                 let message = format!("{name} is a netlist, without its program; give the program");
-                Err(Fault::usage(message).into())
+                return Err(Fault::usage(message).into());
             }
+            Form::Program => (self.bytes.clone(), None),
+            Form::Text | Form::Short if self.long.is_none() => {
+                let read = product::read_text(self.beside(), &self.bytes);
+                (read.map_err(|met| self.refused(met))?, Some(self.source()?))
+            }
+            Form::Text | Form::Short | Form::Outline => {
+                let source = self.source()?;
+                (product::program_bytes(&source.nodes), Some(source))
+            }
+        };
+        product::check(self.beside(), &bytes).map_err(|met| self.refused(met))?;
+        let nodes = product::nodes(&bytes);
+        if source.as_ref().is_some_and(|source| source.nodes != nodes) {
+            return Err(self.misread().into());
         }
+        let places = source.as_ref().map(|source| source.places.clone());
+        let Source { names, said, .. } = source.unwrap_or_default();
+        Ok(Program {
+            procedures: self.aside.procedures,
+            bytes,
+            nodes,
+            places,
+            long: self.long.is_some(),
+            names,
+            said,
+        })
     }
 
     /// The tool's own reading of a text or an outline.
@@ -201,25 +193,6 @@ impl Given {
             return Ok(long.clone());
         }
         source::read(&self.bytes).map_err(|_| self.misread())
-    }
-
-    fn program_of_text(&self) -> Result<Program, Stop> {
-        let read = product::read_text(self.beside(), &self.bytes);
-        let bytes = read.map_err(|met| self.refused(met))?;
-        let nodes = product::nodes(&bytes);
-        let source = self.source()?;
-        if source.nodes != nodes {
-            return Err(self.misread().into());
-        }
-        Ok(Program {
-            procedures: self.aside.procedures,
-            bytes,
-            nodes,
-            places: Some(source.places),
-            long: false,
-            names: Names::default(),
-            said: Vec::new(),
-        })
     }
 
     /// The netlist, accepted or compiled by the product.

@@ -1,12 +1,10 @@
 //! `hub begin`: the state of a circuit at instant 0.
 
 use super::states::{asked_format, Kept};
-use super::{Command, Stop};
+use super::{started, Command, Stop};
 use crate::args::{Args, Options};
-use crate::input::Given;
 use crate::product;
 use crate::refusals;
-use crate::start;
 use crate::types::{Done, DONE};
 
 pub const COMMAND: Command = Command {
@@ -27,9 +25,7 @@ pub const COMMAND: Command = Command {
 fn run(args: &Args) -> Result<Done, Stop> {
     let (file, words) = args.file_and_words()?;
     let to = args.needed("o")?;
-    let given = Given::read(args, file)?;
-    let circuit = given.circuit()?;
-    let start = start::store(args, words, &circuit.names())?;
+    let (given, circuit, start) = started(args, file, words)?;
     let format = asked_format(args);
     let begun = product::begin(format, &circuit.file, &start);
     let (state, answer) = begun.map_err(|met| match met.number {

@@ -24,11 +24,13 @@ mod wire;
 
 use crate::answers::counted;
 use crate::args::{Args, Options};
-use crate::files;
+use crate::input::{Circuit, Given};
 use crate::json::Json;
 use crate::refusals::Report;
 use crate::source::nearest;
+use crate::store::Store;
 use crate::types::{Done, Fault, REFUSED};
+use crate::{files, start as start_words};
 
 pub struct Command {
     pub name: &'static str,
@@ -206,6 +208,14 @@ fn check_output(command: &Command, args: &Args) -> Result<(), Fault> {
         }
         None => Ok(()),
     }
+}
+
+/// What a run begins with: a file, its circuit, and the words that it starts with.
+fn started(args: &Args, file: &str, words: &[String]) -> Result<(Given, Circuit, Store), Stop> {
+    let given = Given::read(args, file)?;
+    let circuit = given.circuit()?;
+    let start = start_words::store(args, words, &circuit.names())?;
+    Ok((given, circuit, start))
 }
 
 /// Writes a command's file and tells it, with a count of what is in it.

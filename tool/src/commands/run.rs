@@ -1,15 +1,14 @@
 //! `hub run`: a program on its circuit, and what the rules say.
 
-use super::{Command, Stop};
+use super::{started, Command, Stop};
 use crate::answers;
 use crate::args::{Args, Options};
-use crate::input::{Circuit, Given};
+use crate::input::Circuit;
 use crate::json::Json;
 use crate::names::Names;
 use crate::product;
 use crate::progress::Progress;
 use crate::refusals;
-use crate::start;
 use crate::store::{self, Store};
 use crate::types::{Answer, Done, End, Fault, Format, Refusal, DONE, OPEN};
 
@@ -41,10 +40,8 @@ const SLICE: u32 = 2_000;
 fn run(args: &Args) -> Result<Done, Stop> {
     let (file, words) = args.file_and_words()?;
     let budget = args.number("budget")?.unwrap_or(BUDGET);
-    let given = Given::read(args, file)?;
-    let circuit = given.circuit()?;
+    let (given, circuit, start) = started(args, file, words)?;
     let names = circuit.names();
-    let start = start::store(args, words, &names)?;
     product::check_budget(&circuit.file, budget)
         .map_err(|met| Stop::from(refusals::plain("--budget", met)))?;
     let ran = full_run(&circuit, &start, budget);

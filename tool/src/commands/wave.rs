@@ -1,6 +1,6 @@
 //! `hub wave`: waveforms of named wires.
 
-use super::{Command, Stop};
+use super::{started, Command, Stop};
 use crate::args::{Args, Options};
 use crate::input::{Circuit, Given};
 use crate::json::Json;
@@ -9,7 +9,7 @@ use crate::refusals::{self, Report};
 use crate::types::{Done, Netlist, Refusal};
 use crate::wave::course::Course;
 use crate::wave::{choice, record, svg, terminal, vcd, Shows, Waveforms};
-use crate::{output, product, start};
+use crate::{output, product};
 
 pub const COMMAND: Command = Command {
     name: "wave",
@@ -33,9 +33,7 @@ const AFTER: u32 = 2;
 
 fn run(args: &Args) -> Result<Done, Stop> {
     let (file, words) = args.file_and_words()?;
-    let given = Given::read(args, file)?;
-    let circuit = given.circuit()?;
-    let start = start::store(args, words, &circuit.names())?;
+    let (given, circuit, start) = started(args, file, words)?;
     let wires = choice::wires(
         &circuit,
         &given.bytes,

@@ -89,16 +89,8 @@ impl Scope {
             Sort::Procedure => Meaning::Procedure(push(&mut self.names.procedures, name)),
             Sort::Constant(value) => Meaning::Constant(value),
         };
-        match meaning {
-            Meaning::Word(number) if usize::from(number) >= VARIABLES => {
-                let remedy = "keep what belongs together in an array, or use a word again";
-                return Err(broken(rules::SIXTEEN_WORDS.into(), remedy));
-            }
-            Meaning::Array(number) if usize::from(number) >= ARRAYS => {
-                let remedy = "put what is short into one array, at other indices";
-                return Err(broken(rules::FOUR_ARRAYS.into(), remedy));
-            }
-            _ => {}
+        if let Some((rule, remedy)) = too_many(meaning) {
+            return Err(broken(rule.into(), remedy));
         }
         if let Some(used) = self.numbered.get(&meaning) {
             let number = numbered(meaning);
@@ -211,6 +203,21 @@ pub fn names_in(words: &[Word]) -> Names {
         }
     }
     names
+}
+
+/// What is told where a word or an array is more than there are.
+fn too_many(meaning: Meaning) -> Option<(&'static str, &'static str)> {
+    match meaning {
+        Meaning::Word(number) if usize::from(number) >= VARIABLES => {
+            let remedy = "keep what belongs together in an array, or use a word again";
+            Some((rules::SIXTEEN_WORDS, remedy))
+        }
+        Meaning::Array(number) if usize::from(number) >= ARRAYS => {
+            let remedy = "put what is short into one array, at other indices";
+            Some((rules::FOUR_ARRAYS, remedy))
+        }
+        _ => None,
+    }
 }
 
 fn push(names: &mut Vec<String>, name: &str) -> u16 {

@@ -54,25 +54,11 @@ struct Walk<'w> {
 impl Walk<'_> {
     fn statement(&mut self, at: usize) -> Way {
         let first = at + 1;
-        let second = |walk: &Self| subtree_end(walk.nodes, first);
         match self.nodes[at].kind {
-            19 => {
-                let left = self.statement(first);
-                let next = second(self);
-                if !left.finishes {
-                    self.unreached
-                        .push((next, "what stands before it never finishes"));
-                    return left;
-                }
-                let right = self.statement(next);
-                Way {
-                    finishes: right.finishes,
-                    exits: left.exits || right.exits,
-                }
-            }
+            19 => self.sequence(first),
             20 => {
-                let next = second(self);
-                let (left, right) = (self.statement(first), self.statement(next));
+                let second = subtree_end(self.nodes, first);
+                let (left, right) = (self.statement(first), self.statement(second));
                 Way {
                     finishes: left.finishes && right.finishes,
                     exits: false,
@@ -81,21 +67,17 @@ impl Walk<'_> {
             21 => self.choice(at),
             22 => self.while_loop(at),
             23 => {
-                let next = second(self);
-                let body = self.statement(next);
+                let body = self.statement(subtree_end(self.nodes, first));
                 let tested = self.conditions.always(at) != Some(false);
                 Way {
                     finishes: body.finishes && tested,
                     ..body
                 }
             }
-            25 => {
-                let body = self.statement(first);
-                Way {
-                    finishes: body.exits,
-                    exits: false,
-                }
-            }
+            25 => Way {
+                finishes: self.statement(first).exits,
+                exits: false,
+            },
             26 => Way {
                 finishes: false,
                 exits: true,
@@ -108,6 +90,21 @@ impl Walk<'_> {
                 }
             }
             _ => ON,
+        }
+    }
+
+    fn sequence(&mut self, first: usize) -> Way {
+        let left = self.statement(first);
+        let second = subtree_end(self.nodes, first);
+        if !left.finishes {
+            let why = "what stands before it never finishes";
+            self.unreached.push((second, why));
+            return left;
+        }
+        let right = self.statement(second);
+        Way {
+            finishes: right.finishes,
+            exits: left.exits || right.exits,
         }
     }
 

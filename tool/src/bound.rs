@@ -11,22 +11,51 @@ use crate::preorder::{children, roots, subtree_end};
 use crate::types::{Beside, Node};
 use asking::Asking;
 
-/// Instants; none where there is no such number, or where it can't be found.
-#[derive(Clone, Copy, Debug, Default, PartialEq, Eq)]
+/// Instants, or why there is no such number.
+#[derive(Clone, Copy, Debug, PartialEq, Eq)]
 pub struct Span {
-    pub least: Option<u32>,
-    pub most: Option<u32>,
+    pub least: Found<u32>,
+    pub most: Found<u32>,
 }
 
+/// Why there is no least or no most.
+#[derive(Clone, Copy, Debug, PartialEq, Eq)]
+pub enum Lack {
+    /// There is none: it never ends, or may go round as often as one likes.
+    None,
+    /// What would have to be asked is more than a program or a run may be, or there are too
+    /// many ways to try.
+    Unknown,
+}
+
+pub type Found<T> = Result<T, Lack>;
+
 impl Span {
+    /// Of what never ends.
+    pub const NEVER: Span = Span {
+        least: Err(Lack::None),
+        most: Err(Lack::None),
+    };
+
     /// For a reader.
     pub fn text(self) -> String {
+        let instants = |number: u32| counted(number as usize, "instant");
         match (self.least, self.most) {
-            (Some(least), Some(most)) if least == most => counted(least as usize, "instant"),
-            (Some(least), Some(most)) => format!("{least} to {most} instants"),
-            (Some(least), None) => format!("{} or more", counted(least as usize, "instant")),
-            (None, _) => "never".to_string(),
+            (Ok(least), Ok(most)) if least == most => instants(least),
+            (Ok(least), Ok(most)) => format!("{least} to {}", instants(most)),
+            (Ok(least), Err(Lack::None)) => format!("{} or more", instants(least)),
+            (Ok(least), Err(Lack::Unknown)) => {
+                format!("{} or more, the most isn't found", instants(least))
+            }
+            (Err(Lack::None), _) => "never".to_string(),
+            (Err(Lack::Unknown), Ok(most)) => format!("at most {}", instants(most)),
+            (Err(Lack::Unknown), Err(_)) => "not found, it is too big".to_string(),
         }
+    }
+
+    /// Whether nothing is left unknown.
+    pub fn is_known(self) -> bool {
+        ![self.least, self.most].contains(&Err(Lack::Unknown))
     }
 }
 
@@ -34,7 +63,7 @@ impl Span {
 pub fn round(beside: Beside, nodes: &[Node], at: usize) -> Span {
     match Asking::of(beside, nodes).round(at) {
         Takes::Round(round, _) => round,
-        _ => Span::default(),
+        _ => Span::NEVER,
     }
 }
 

@@ -76,7 +76,7 @@ fn long_delays(beside: Beside, program: &Program, line: &dyn Fn(usize) -> String
             let (word, line) = (word_of(nodes[around].kind), line(around));
             let round = bound::round(beside, nodes, around);
             what += &format!(" in each round of the {word} in {line}");
-            if round.least.is_some() {
+            if round.least.is_ok() {
                 what += &format!(", which takes {}", round.text());
             }
         }

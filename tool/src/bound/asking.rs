@@ -1,7 +1,7 @@
 //! The times of statements, asked of the reference run of the product.
 
 use super::choices::{self, Choice, Way, LOOP};
-use super::{Span, Takes, Want};
+use super::{Found, Lack, Span, Takes, Want};
 use crate::preorder::{children, roots, subtree_end};
 use crate::product;
 use crate::store::{LENGTH, VARIABLES};
@@ -14,8 +14,8 @@ pub struct Asking<'n> {
     beside: Beside<'n>,
     nodes: &'n [Node],
     /// The bodies with constants in place of their conditions, for the least and for the
-    /// most; none where a body has no such time.
-    bodies: [Vec<Option<Vec<Node>>>; 2],
+    /// most, if they have such a time.
+    bodies: [Vec<Found<Vec<Node>>>; 2],
 }
 
 impl<'n> Asking<'n> {
@@ -54,27 +54,25 @@ impl<'n> Asking<'n> {
 
     /// How long a round of a loop takes.
     pub fn round(&self, at: usize) -> Takes {
-        let [least, most] = [Want::Least, Want::Most].map(|want| self.rounds(at, want));
-        let round = Span {
-            least: least.0,
-            most: most.0,
-        };
-        let last = Span {
-            least: least.1,
-            most: most.1,
-        };
-        let tells = self.nodes[at].kind != REPEAT && last != Span::default();
+        let least = self.rounds(at, Want::Least);
+        let most = self.rounds(at, Want::Most);
+        let [round, last] = [0, 1].map(|k| Span {
+            least: least[k],
+            most: most[k],
+        });
+        let tells = self.nodes[at].kind != REPEAT && last != Span::NEVER;
         Takes::Round(round, tells.then_some(last))
     }
 
     /// A round that goes round, and the last one.
-    fn rounds(&self, at: usize, want: Want) -> (Option<u32>, Option<u32>) {
+    fn rounds(&self, at: usize, want: Want) -> [Found<u32>; 2] {
         let body = match self.nodes[at].kind {
             LOOP => at + 1,
             _ => subtree_end(self.nodes, at + 1),
         };
-        let Some(ways) = choices::all(self.nodes, body) else {
-            return (None, None);
+        let ways = match choices::all(self.nodes, body) {
+            Ok(ways) => ways,
+            Err(lack) => return [Err(lack); 2],
         };
         let asked = |way: Way| {
             let ways = ways.iter();
@@ -90,14 +88,14 @@ impl<'n> Asking<'n> {
         let last = match self.nodes[at].kind {
             LOOP => best(want, asked(Way::Exits)),
             WHILE => self.time(&[self.nodes[at], constant(0), OK], want),
-            _ => None,
+            _ => Err(Lack::None),
         };
-        (best(want, asked(Way::Finishes)), last)
+        [best(want, asked(Way::Finishes)), last]
     }
 
     /// What one round more makes a loop take: with a word that nobody uses in place of the
     /// condition the loop is run once round and not at all.
-    fn one_round(&self, own: Node, body: &[Node], want: Want) -> Option<u32> {
+    fn one_round(&self, own: Node, body: &[Node], want: Want) -> Found<u32> {
         if own.kind == REPEAT {
             return self.time(&[&[own, constant(1)][..], body].concat(), want);
         }
@@ -134,11 +132,12 @@ impl<'n> Asking<'n> {
         // Both begin with setting the word, and the round ends with it.
         let set = self.time(&set(0), want)?;
         let (once, never) = (self.time(&once, want)?, self.time(&never, want)?);
-        once.checked_sub(never)?.checked_sub(set)
+        let round = once.checked_sub(never + set);
+        round.ok_or(Lack::Unknown)
     }
 
     /// A word that neither these nodes nor any body use.
-    fn free_word(&self, body: &[Node]) -> Option<u16> {
+    fn free_word(&self, body: &[Node]) -> Found<u16> {
         let bodies = self.bodies.iter().flatten().flatten().flatten();
         let nodes: Vec<&Node> = body.iter().chain(bodies).collect();
         let used = |word: u16| {
@@ -146,12 +145,13 @@ impl<'n> Asking<'n> {
                 .iter()
                 .any(|node| matches!(node.kind, 2 | 18) && node.n == word)
         };
-        (0..VARIABLES as u16).find(|word| !used(*word))
+        let free = (0..VARIABLES as u16).find(|word| !used(*word));
+        free.ok_or(Lack::Unknown)
     }
 
     /// How long nodes take that are one statement without open conditions; an exit that
     /// is left in them, and isn't come to, has a loop around it.
-    fn time(&self, statement: &[Node], want: Want) -> Option<u32> {
+    fn time(&self, statement: &[Node], want: Want) -> Found<u32> {
         let bodies = &self.bodies[want as usize];
         let bodies = bodies.iter().map(|body| body.clone().unwrap_or(vec![OK]));
         let mut nodes: Vec<Node> = bodies.flatten().collect();
@@ -164,36 +164,36 @@ impl<'n> Asking<'n> {
             ..self.beside
         };
         let end = product::reference(beside, &program, &[0; LENGTH], BUDGET);
-        Some(end.ok()??.instant)
+        match end {
+            Ok(Some(end)) => Ok(end.instant),
+            _ => Err(Lack::Unknown),
+        }
     }
 
     /// The nodes of a statement with constants in place of its conditions, so that it
     /// takes least or most; conditions that are chosen come to what they are chosen for.
-    fn resolved(&self, at: usize, want: Want, choice: &Choice) -> Option<Vec<Node>> {
+    fn resolved(&self, at: usize, want: Want, choice: &Choice) -> Found<Vec<Node>> {
         let own = self.nodes[at];
         let parts = self.parts(at);
         let raw = |part: usize| self.nodes[part..subtree_end(self.nodes, part)].to_vec();
         let of = |part: usize| self.resolved(part, want, choice);
-        Some(match own.kind {
+        Ok(match own.kind {
             19 if choices::way(self.nodes, parts[0], choice) != Way::Finishes => {
                 [vec![own], of(parts[0])?, raw(parts[1])].concat()
             }
             19 | 20 => [vec![own], of(parts[0])?, of(parts[1])?].concat(),
             21 => {
                 let chosen = choice.get(&at).copied();
-                let sides = [1, 2].map(|side| {
-                    let taken = chosen.is_none_or(|holds| holds == (side == 1));
-                    taken.then(|| of(parts[side])).flatten()
-                });
+                let sides = [of(parts[1]), of(parts[2])];
                 let holds = match chosen {
                     Some(holds) => holds,
                     None => self.better(want, &sides)?,
                 };
                 let [then, other] = sides;
                 let taken = if holds { &then } else { &other };
-                taken.as_ref()?;
-                let then = then.unwrap_or_else(|| raw(parts[1]));
-                let other = other.unwrap_or_else(|| raw(parts[2]));
+                taken.as_ref().map_err(|lack| *lack)?;
+                let then = then.unwrap_or_else(|_| raw(parts[1]));
+                let other = other.unwrap_or_else(|_| raw(parts[2]));
                 [vec![own, constant(holds.into())], then, other].concat()
             }
             22 if choice.get(&at) == Some(&true) => {
@@ -202,11 +202,11 @@ impl<'n> Asking<'n> {
             22 if want == Want::Least => [vec![own, constant(0)], raw(parts[1])].concat(),
             23 if want == Want::Least => [vec![own, constant(1)], of(parts[1])?].concat(),
             LOOP if want == Want::Least => self.left_soonest(at)?,
-            22 | 23 | LOOP => return None,
+            22 | 23 | LOOP => return Err(Lack::None),
             27 => {
-                self.bodies[want as usize]
-                    .get(usize::from(own.n))?
-                    .as_ref()?;
+                let called = self.bodies[want as usize].get(usize::from(own.n));
+                let body = called.ok_or(Lack::Unknown)?;
+                body.as_ref().map_err(|lack| *lack)?;
                 vec![own]
             }
             _ => raw(at),
@@ -214,27 +214,35 @@ impl<'n> Asking<'n> {
     }
 
     /// A loop that is left in its first round, as soon as can be.
-    fn left_soonest(&self, at: usize) -> Option<Vec<Node>> {
+    fn left_soonest(&self, at: usize) -> Found<Vec<Node>> {
         let ways = choices::all(self.nodes, at + 1)?;
         let leaves = |choice: &&Choice| choices::way(self.nodes, at + 1, choice) == Way::Exits;
-        let bodies = ways.iter().filter(leaves);
-        let loops = bodies.filter_map(|choice| {
-            let body = self.resolved(at + 1, Want::Least, choice)?;
-            Some([vec![self.nodes[at]], body].concat())
-        });
-        loops.min_by_key(|nodes| self.time(nodes, Want::Least))
+        let mut soonest = Err(Lack::None);
+        for choice in ways.iter().filter(leaves) {
+            let body = match self.resolved(at + 1, Want::Least, choice) {
+                Ok(body) => body,
+                Err(Lack::None) => continue,
+                Err(Lack::Unknown) => return Err(Lack::Unknown),
+            };
+            let nodes = [vec![self.nodes[at]], body].concat();
+            let time = self.time(&nodes, Want::Least)?;
+            if !matches!(&soonest, Ok((least, _)) if *least <= time) {
+                soonest = Ok((time, nodes));
+            }
+        }
+        soonest.map(|(_, nodes)| nodes)
     }
 
     /// Whether the first of two sides takes less, or more. Where one has no end, the other
     /// takes less, and there is no most.
-    fn better(&self, want: Want, sides: &[Option<Vec<Node>>; 2]) -> Option<bool> {
-        let [then, other] = sides.each_ref().map(|side| self.time(side.as_ref()?, want));
-        match (want, then, other) {
-            (Want::Least, Some(then), Some(other)) => Some(then <= other),
-            (Want::Least, None, None) => None,
-            (Want::Least, then, _) => Some(then.is_some()),
-            (Want::Most, then, other) => Some(then? >= other?),
-        }
+    fn better(&self, want: Want, sides: &[Found<Vec<Node>>; 2]) -> Found<bool> {
+        let time = |side: &Found<Vec<Node>>| match side {
+            Ok(nodes) => self.time(nodes, want),
+            Err(lack) => Err(*lack),
+        };
+        let [then, other] = sides.each_ref().map(time);
+        let taken = best(want, [then, other].into_iter())?;
+        Ok(then == Ok(taken))
     }
 
     /// Where the children of a statement stand.
@@ -249,12 +257,20 @@ impl<'n> Asking<'n> {
     }
 }
 
-/// The least or the most of times; without one that is known there is none.
-fn best(want: Want, times: impl Iterator<Item = Option<u32>>) -> Option<u32> {
-    match want {
-        Want::Least => times.flatten().min(),
-        Want::Most => times.collect::<Option<Vec<u32>>>()?.into_iter().max(),
+/// The least or the most of times. What has none takes longest, so that with it there is no
+/// most; where one is unknown, so are both.
+fn best(want: Want, times: impl Iterator<Item = Found<u32>>) -> Found<u32> {
+    let times: Vec<Found<u32>> = times.collect();
+    if times.contains(&Err(Lack::Unknown)) {
+        return Err(Lack::Unknown);
     }
+    let known = times.iter().flatten().copied();
+    let best = match want {
+        Want::Least => known.min(),
+        Want::Most if times.contains(&Err(Lack::None)) => None,
+        Want::Most => known.max(),
+    };
+    best.ok_or(Lack::None)
 }
 
 const WHILE: u8 = 22;

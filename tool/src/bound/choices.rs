@@ -1,6 +1,7 @@
 //! The ways through a statement: which conditions decide whether it comes to an exit of
 //! the loop around it, and which statement does.
 
+use super::{Found, Lack};
 use crate::preorder::subtree_end;
 use crate::types::Node;
 use std::collections::BTreeMap;
@@ -12,22 +13,22 @@ const MOST: usize = 10;
 pub type Choice = BTreeMap<usize, bool>;
 
 /// All choices for the conditions in a statement on which it depends whether it comes to
-/// an exit of a loop around it; none where there are too many.
-pub fn all(nodes: &[Node], at: usize) -> Option<Vec<Choice>> {
+/// an exit of a loop around it; unknown where there are too many.
+pub fn all(nodes: &[Node], at: usize) -> Found<Vec<Choice>> {
     let decides = |node: &usize| matches!(nodes[*node].kind, 21 | 22) && exits(nodes, *node);
     let deciding: Vec<usize> = (at..subtree_end(nodes, at)).filter(decides).collect();
     // Those in a loop of their own decide nothing here.
     let outside = |node: &usize| !(at..*node).any(|other| holds(nodes, other, *node));
     let deciding: Vec<usize> = deciding.into_iter().filter(outside).collect();
     if deciding.len() > MOST {
-        return None;
+        return Err(Lack::Unknown);
     }
     let choice = |number: usize| {
         let bits = deciding.iter().enumerate();
         bits.map(|(bit, node)| (*node, number >> bit & 1 == 1))
             .collect()
     };
-    Some((0..1 << deciding.len()).map(choice).collect())
+    Ok((0..1 << deciding.len()).map(choice).collect())
 }
 
 /// Whether a statement has an exit of a loop around it.

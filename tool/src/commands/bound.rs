@@ -15,7 +15,8 @@ pub const COMMAND: Command = Command {
     more: "Told are the main program and each procedure, each loop with a round that goes round and\n\
         with its last, and the parts between loops. What has a loop in it has a least, with as few\n\
         rounds as can be, and no most. The times are asked of the rules, with constants in place of\n\
-        conditions: every way is taken to be possible, whatever the words are.",
+        conditions: every way is taken to be possible, whatever the words are. What can't be asked,\n\
+        because the part is as big as a program may be, or longer than a run, is said not to be found.",
     example: "hub bound examples/first_flag.hub",
     options: Options::of_program(&[], &[]),
     run,
@@ -57,8 +58,9 @@ fn run(args: &Args) -> Result<Done, Stop> {
 fn json(bound: &Bound) -> Json {
     let span = |span: Span| {
         Json::Object(vec![
-            ("least", Json::maybe(span.least, Json::number)),
-            ("most", Json::maybe(span.most, Json::number)),
+            ("least", Json::maybe(span.least.ok(), Json::number)),
+            ("most", Json::maybe(span.most.ok(), Json::number)),
+            ("known", Json::Bool(span.is_known())),
         ])
     };
     let (kind, first, last) = match bound.takes {

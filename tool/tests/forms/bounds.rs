@@ -1,29 +1,26 @@
 //! Bounds: worked out by hand, and on generated programs held against runs.
 
 use crate::programs::{programs, Chance};
-use hub::bound::{bounds, Bound, Span, Takes};
+use hub::bound::{bounds, Bound, Lack, Span, Takes};
 use hub::store::LENGTH;
 use hub::types::Beside;
 use hub::{product, source};
 
 fn span(least: u32, most: u32) -> Span {
     Span {
-        least: Some(least),
-        most: Some(most),
+        least: Ok(least),
+        most: Ok(most),
     }
 }
 
 fn at_least(least: u32) -> Span {
     Span {
-        least: Some(least),
-        most: None,
+        least: Ok(least),
+        most: Err(Lack::None),
     }
 }
 
-const NEVER: Span = Span {
-    least: None,
-    most: None,
-};
+const NEVER: Span = Span::NEVER;
 
 fn of(text: &str, pulse: u8) -> Vec<Bound> {
     let mut source = source::read(text.as_bytes()).expect(text);
@@ -110,9 +107,9 @@ fn longer_pulses_are_asked_for() {
     let text = "while x0 @9 do x0 := x0 - 1 end";
     let round = |pulse: u8| match takes(text, pulse)[1] {
         Takes::Round(round, _) => round.least,
-        _ => None,
+        _ => Err(Lack::None),
     };
-    assert_eq!([1, 2, 8].map(round), [Some(27), Some(28), Some(34)]);
+    assert_eq!([1, 2, 8].map(round), [Ok(27), Ok(28), Ok(34)]);
 }
 
 /// The end of every run is within the bounds of its program.
@@ -139,12 +136,36 @@ fn runs_end_within_their_bounds() {
             let least = whole.least.expect("it ends");
             assert!(least <= end.instant, "{nodes:?}");
             assert!(
-                whole.most.is_none_or(|most| end.instant <= most),
+                whole.most.is_ok_and(|most| end.instant <= most) || whole.most.is_err(),
                 "{nodes:?}"
             );
             ended += 1;
-            both += usize::from(whole.most.is_some());
+            both += usize::from(whole.most.is_ok());
         }
     }
     assert!(ended > 500 && both > 100, "{ended} {both}");
+}
+
+/// What is too big to be asked about is told as such, and not as what never ends.
+#[test]
+fn what_is_too_big_is_not_found() {
+    let unknown = Span {
+        least: Err(Lack::Unknown),
+        most: Err(Lack::Unknown),
+    };
+    let long = vec!["ok"; 100].join(" ; ");
+    assert_eq!(takes(&long, 1), [Takes::Main(unknown)]);
+    let mut calls = "procedure p0 do tick 255 ; tick 255 ; tick 255 end\n".to_string();
+    for next in 1..8 {
+        let call = format!("call p{}", next - 1);
+        let body = vec![call; 7].join(" ; ");
+        calls += &format!("procedure p{next} do {body} end\n");
+    }
+    let takes = takes(&(calls + "if x0 then call p7 else tick 1 end"), 1);
+    assert_eq!(takes[3], Takes::Procedure(3, span(262_794, 262_794)));
+    assert_eq!(takes[7], Takes::Procedure(7, unknown));
+    assert_eq!(takes[8], Takes::Main(unknown));
+    assert!(takes
+        .iter()
+        .all(|takes| !format!("{takes:?}").contains("None")));
 }

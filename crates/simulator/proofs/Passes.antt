@@ -1,5 +1,4 @@
 -- Passes over the cells and over the elements' start words: their turns, what they leave, and the passes of an instant together. Assumes nothing.
-use mathlib.Core.Bool.{Bool}
 use mathlib.Core.List.{List, _++_, append-assoc}
 use mathlib.Core.Logic.{_⊎_, inl, inr}
 use mathlib.Core.Path.{_≡_, refl, sym, _∙_, ap}
@@ -11,8 +10,8 @@ use lib.ListN.{length, getD, take, drop, replicate, length-take}
 use lib.Seq.{sets, sets-eq, drop-at}
 use Rattle.model.specs.Circuit.{Netlist}
 use Rattle.model.specs.declared.Format.{Format}
-use Rattle.model.specs.Word.{bytes16, put16, put32}
-use Rattle.model.specs.State.{instantOf, cellSize, base, nowAt, value, firstValue, upTo, aged, shown, settled, counted, wordBytes, blank, evaluate, beginState, stepState}
+use Rattle.model.specs.Word.{bytes16, put16}
+use Rattle.model.specs.State.{cellSize, base, nowAt, firstValue, upTo, shown, settled, counted, wordBytes, blank, evaluate, beginState}
 use Rattle.laws.specs.State.Bytes.{get16-same, upTo-frame}
 use Rattle.laws.specs.State.Lines.{below, rising}
 use Rattle.laws.specs.State.Passes.{settled-frame}

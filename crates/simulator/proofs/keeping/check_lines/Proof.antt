@@ -1,14 +1,13 @@
 -- `check_lines` meets its contract: no line below cell k, which begins at the cursor, is crowded. Assumes nothing.
 use mathlib.Core.Logic.{⊎-elim}
 use mathlib.Core.Path.{_≡_, refl, sym, _∙_, ap}
-use Prim.Native.Nat.{ℕ, _-_, _≤_}
+use Prim.Native.Nat.{_-_, _≤_}
 use native.Mathlib.Omega.{arith}
-use Rattle.model.specs.declared.Cell.{Cell}
 use Rattle.model.specs.NetlistFile.{inFile, netOf}
 use Rattle.laws.specs.Refusals.Search.{Searched, searched-none, fault-here, fault-next, faults-end}
 use Rattle.netlist.proofs.Following.{follows}
 use Rattle.state.specs.Crowds.{crowds}
-use Rattle.simulator.proofs.Cells.{fits-few, net-length, net-cell, cursor-there, cursor-low, cursor-cell, holds, holds-cell}
+use Rattle.simulator.proofs.Cells.{fits-few, net-length, cursor-there, cursor-low, cursor-cell, holds, holds-cell}
 use Rattle.simulator.proofs.Crowding.{crowdFault, crowding-faults, crowded-here, not-crowded-here, crowds-other}
 use Rattle.simulator.proofs.keeping.check_lines.Statement.{statement}
 use Rattle.simulator.proofs.keeping.check_lines.Tie as tie

@@ -1,12 +1,11 @@
 -- `take_values_back` meets its contract: the state so far is the pass up to cell k. Assumes nothing.
-use mathlib.Core.Path.{_≡_, refl, _∙_, ap₂}
+use mathlib.Core.Path.{_≡_, refl, _∙_}
 use mathlib.Core.List.{List}
 use Prim.Native.Nat.{ℕ, _+_, _-_, _*_}
 use native.Mathlib.Omega.{arith}
 use Rattle.model.specs.Word.{get16, put16}
 use Rattle.model.specs.State.{base, beforeAt}
 use Rattle.model.specs.declared.Format.{Format}
-use Rattle.state.specs.Stands.{Stands}
 use Rattle.state.proofs.Standing.{stands-in}
 use Rattle.simulator.specs.Keeping.{takenBack}
 use Rattle.simulator.proofs.Passes.{Passed, passed-none, passed-more, passed-all}

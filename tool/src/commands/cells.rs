@@ -15,7 +15,7 @@ pub const COMMAND: Command = Command {
     more: "Memories and arrays that nothing writes to are left out; --all lists them too.\n\
         What stands after # is for the reader: 'hub wire' takes the list back.",
     example: "hub cells examples/two_boards.hub",
-    options: Options::of_program(&["o"], &["all"]),
+    options: Options::of_circuit(&["o"], &["all"]),
     run,
 };
 

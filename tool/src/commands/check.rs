@@ -24,7 +24,7 @@ pub const COMMAND: Command = Command {
            what to do, of too small delays all. NAME.outline is an outline, NAME.prog a program's\n\
            bytes, NAME.net a netlist, or --as says it (text, short, outline, program, netlist).",
     example: "hub check examples/two_boards.hub",
-    options: Options::of_program(&[], &["deny"]),
+    options: Options::of_circuit(&[], &["deny"]),
     run,
 };
 

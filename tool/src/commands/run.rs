@@ -28,7 +28,7 @@ pub const COMMAND: Command = Command {
            and elements those are told that have changed, with --all all sixteen words, and the\n\
            elements that aren't 0. The exit status is 0 if the run ended, 2 if it is still open.",
     example: "hub run examples/two_boards.hub x0=3 x1=5",
-    options: Options::of_program(&["budget", "start"], &["all"]),
+    options: Options::of_circuit(&["budget", "start"], &["all"]),
     run,
 };
 
@@ -68,11 +68,12 @@ fn run(args: &Args) -> Result<Done, Stop> {
 /// A beginning, and continuings unless the finish was high; with the words and
 /// elements at its end.
 pub fn full_run(circuit: &Circuit, start: &Store, budget: u32) -> Result<(Answer, Store), Refusal> {
-    let (mut state, mut answer) = product::begin(Format::Full, &circuit.file, start)?;
+    let mode = circuit.mode(Format::Full);
+    let (mut state, mut answer) = product::begin(mode, &circuit.file, start)?;
     let mut progress = Progress::new(budget);
     while !answer.ended && answer.instant < budget {
         let slice = SLICE.min(budget - answer.instant);
-        answer = product::go(Format::Full, &circuit.file, &mut state, slice)?;
+        answer = product::go(mode, &circuit.file, &mut state, slice)?;
         progress.show(answer.instant);
     }
     let cells = circuit.netlist.cells.len();

@@ -22,7 +22,7 @@ pub const COMMAND: Command = Command {
         gives a wire another name. --starts says at which instants the hub is started again.\n\
         Without --to the waves go to the last finish, at most 240 instants.",
     example: "hub wave examples/two_boards.hub x0=1 x1=2 --to 40",
-    options: Options::of_program(&["from", "to", "start", "starts", "wires", "o"], &["all"]),
+    options: Options::of_circuit(&["from", "to", "start", "starts", "wires", "o"], &["all"]),
     run,
 };
 

@@ -141,7 +141,8 @@ impl Given {
             procedures, pulse, ..
         } = self.aside;
         if args.flag("procedures") && procedures > 0 {
-            let message = "--procedures goes with the imperative circuit: a functional one is made \
+            let message =
+                "--procedures goes with the imperative circuit: a functional one is made \
                  of a program without procedures";
             return Err(args.fault(message));
         }
@@ -153,7 +154,8 @@ impl Given {
             )));
         }
         if pulse != 1 {
-            let message = "--pulse goes with the imperative circuit: the pulses of a functional one \
+            let message =
+                "--pulse goes with the imperative circuit: the pulses of a functional one \
                  are one instant long";
             return Err(args.fault(message));
         }

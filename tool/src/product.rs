@@ -87,12 +87,7 @@ fn state_for(format: Format, file: &[u8]) -> Result<Vec<u8>, Refusal> {
 }
 
 /// Continues a run by at most `n` instants.
-pub fn go(
-    mode: impl Into<Mode>,
-    file: &[u8],
-    state: &mut [u8],
-    n: u32,
-) -> Result<Answer, Refusal> {
+pub fn go(mode: impl Into<Mode>, file: &[u8], state: &mut [u8], n: u32) -> Result<Answer, Refusal> {
     let Mode { format, wiring } = mode.into();
     match wiring {
         Wiring::Imperative => calls::continue_by(format, file, state, n),

@@ -15,6 +15,7 @@ use crate::refusals;
 use crate::store::Store;
 use crate::trailer::Trailer;
 use crate::types::{Answer, Done, Fault, Format, Mode, Refusal, Wiring, DONE, OPEN, REFUSED};
+use crate::wiring;
 
 /// A state, and what stands behind it in its file.
 pub struct Kept {
@@ -116,6 +117,8 @@ impl Kept {
         let output = match args.flag("json") {
             true => {
                 let mut fields = answers::fields(&self.names, answer, &last);
+                let wiring = wiring::name(self.mode.wiring);
+                fields.push(("circuit", Json::text(wiring)));
                 fields.push(("in_flight", Json::number(in_flight)));
                 fields.push(("idle", Json::Bool(idle)));
                 Json::Object(fields).line()
@@ -127,7 +130,13 @@ impl Kept {
                     (false, number) => format!("{number} in flight"),
                 };
                 let all = args.flag("all");
-                answers::text_of_state(&self.names, start, answer, &last, &busy, all).into_bytes()
+                let free = match self.mode.wiring {
+                    Wiring::Functional if !answer.ended && !idle => answers::FREE,
+                    _ => "",
+                };
+                let names = &self.names;
+                let told = answers::text_of_state(names, start, answer, &last, &busy, all);
+                (told + free).into_bytes()
             }
         };
         let exit = if answer.ended { DONE } else { OPEN };

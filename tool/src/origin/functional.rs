@@ -78,8 +78,7 @@ impl Walk<'_> {
         self.put(Cell::new(33, 0, 0, 0), None, "ground", None);
         self.put(Cell::new(1, 0, 0, 0), None, "zero", None);
         let idle = crate::kinds::IDLE;
-        let memories =
-            std::array::from_fn(|x| self.put(idle, None, "at the start", x as u16));
+        let memories = std::array::from_fn(|x| self.put(idle, None, "at the start", x as u16));
         for array in 0..ARRAYS as u8 {
             let [cell, address] = idle_array(array);
             self.put(cell, None, "array", None);
@@ -266,7 +265,13 @@ impl Walk<'_> {
         let finish = self.cell(37, [delay, condition], at, "finish");
         let (p_finish, round) = self.statement(body, p_start, latched);
         let test = self.cell(35, [start, p_finish], at, "test");
-        self.load(at, (first, latching), test, [start, p_finish], [words, round]);
+        self.load(
+            at,
+            (first, latching),
+            test,
+            [start, p_finish],
+            [words, round],
+        );
         (finish, latched)
     }
 

@@ -2,7 +2,7 @@
 //! texts and netlists that differ a little from the refused one.
 
 use super::calls;
-use crate::kinds::idle_array;
+use crate::kinds::{self, idle_array};
 use crate::preorder::{children, subtree_end};
 use crate::product;
 use crate::store::{ARRAYS, VARIABLES};
@@ -67,6 +67,35 @@ fn alone(nodes: &[Node], node: usize) -> (Vec<Node>, usize) {
     }
     (alone, 0)
 }
+
+/// Whether a node is of a kind that no functional circuit has: the product is asked about
+/// that node, with constants and ok below it.
+pub fn is_added(node: Node) -> bool {
+    let plain = |kind, delay| Node { kind, delay, n: 0 };
+    let mut alone = match node.kind < OK {
+        true => vec![plain(18, u8::MAX), node],
+        false => vec![node],
+    };
+    let own = alone.len() - 1;
+    let below = kinds::children(node.kind).iter();
+    alone.extend(below.map(|child| match EXPRESSIONS.contains(child) {
+        true => plain(1, 0),
+        false => plain(OK, 0),
+    }));
+    asked(Beside::FUNCTIONAL, &alone) == Err(Refusal::new(28, own))
+}
+
+const OK: u8 = 16;
+
+/// The children of nodes that are expressions.
+const EXPRESSIONS: [&str; 6] = [
+    "operand",
+    "first operand",
+    "second operand",
+    "index",
+    "value",
+    "condition",
+];
 
 /// Whether a node, of a program in which at most delays are too small, has a delay for
 /// something to settle in. A tick is there for its delay: another would be another program.

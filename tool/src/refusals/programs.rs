@@ -1,4 +1,4 @@
-//! Refusals 1 to 8, 22, 24 and 25, of programs.
+//! Refusals 1 to 8, 22, 24, 25 and 28, of programs.
 
 use super::{asking, calls, least_delay, Mark, Report};
 use crate::answers::counted;
@@ -57,6 +57,7 @@ fn of_nodes(mut report: Report, given: &Given, nodes: &[Node], source: Option<&S
         22 => of_exit(&mut report, given, nodes, source),
         24 => of_call(&mut report, given, nodes, source),
         25 => of_shared(&mut report, given, nodes, source),
+        28 => of_added(&mut report, given, nodes, source),
         _ => of_node(&mut report, given, nodes, source),
     }
     report
@@ -290,6 +291,27 @@ fn of_shared(report: &mut Report, given: &Given, nodes: &[Node], source: Option<
         (sides[1], &right),
     ];
     show(report, given, nodes, source, &told);
+}
+
+/// Refusal 28: what only the imperative circuit has, and how many such nodes more.
+fn of_added(report: &mut Report, given: &Given, nodes: &[Node], source: Option<&Source>) {
+    let place = report.refusal.place;
+    let (thing, instead) = match nodes[place].kind {
+        10 | 24 => ("arrays", "keep the words in x0 to x15"),
+        25 | 26 => ("loops that an exit ends", "write while or repeat"),
+        _ => ("calls", "write the procedure's statement here"),
+    };
+    report.rule = format!("a functional circuit has no {thing}");
+    report.remedy =
+        format!("{instead}, or leave --functional out: the imperative circuit has them");
+    show(report, given, nodes, source, &[(place, "")]);
+    let more = nodes[place + 1..].iter();
+    let more = more.filter(|node| asking::is_added(**node)).count();
+    if more > 0 {
+        let here = report.found.take().map(|here| here + ", ");
+        let more = counted(more, "more such node");
+        report.found = Some(format!("{}and {more} behind it", here.unwrap_or_default()));
+    }
 }
 
 /// Shows nodes with what is said of each, in the text where there is one.

@@ -35,12 +35,12 @@ pub fn words_of(cell: &Cell) -> String {
 /// said of a cell, on its line.
 pub fn list(
     netlist: &Netlist,
-    left_out: impl Fn(usize) -> bool,
+    left_out: &[bool],
     note: impl Fn(usize) -> Option<String>,
 ) -> String {
     let mut lines = vec![whole(netlist)];
     for (number, cell) in netlist.cells.iter().enumerate() {
-        if left_out(number) {
+        if left_out[number] {
             continue;
         }
         let words = words_of(cell);

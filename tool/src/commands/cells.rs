@@ -24,12 +24,14 @@ fn run(args: &Args) -> Result<Done, Stop> {
     let given = Given::only(args)?;
     let circuit = given.circuit()?;
     let notes = labels::of_cells(&circuit, &given.bytes)?;
-    let untold = untold(&circuit.netlist, circuit.wiring);
-    let left_out = |cell: usize| untold[cell] && !args.flag("all");
-    let list = listing::list(&circuit.netlist, left_out, |cell| notes[cell].clone());
+    let left_out = match args.flag("all") {
+        true => vec![false; circuit.netlist.cells.len()],
+        false => untold(&circuit.netlist, circuit.wiring),
+    };
+    let list = listing::list(&circuit.netlist, &left_out, |cell| notes[cell].clone());
     output::put(args, list, || {
         let cells = circuit.netlist.cells.iter().enumerate();
-        let cells = cells.filter(|(number, _)| !left_out(*number));
+        let cells = cells.filter(|(number, _)| !left_out[*number]);
         Json::Object(vec![
             ("circuit", Json::text(wiring::name(circuit.wiring))),
             ("count", Json::number(circuit.netlist.cells.len())),

@@ -188,7 +188,7 @@ impl Places<'_> {
             0,
         );
         let block = self.joined(block, tree, ["at first", "of a round", "to latch"], 0);
-        let latches = self.words(tree, "latch").iter().enumerate();
+        let latches = self.words(tree, "latched").iter().enumerate();
         latches.fold(block, |block, (k, latch)| block.with(*latch, 2, 1 + 2 * k))
     }
 

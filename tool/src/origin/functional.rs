@@ -223,7 +223,7 @@ impl Walk<'_> {
         let mut latched = words;
         for x in self.written(body) {
             let empty = Cell::new(LATCH, 0, 0, 0);
-            latched[usize::from(x)] = self.put(empty, Some(at), "latch", x);
+            latched[usize::from(x)] = self.put(empty, Some(at), "latched", x);
         }
         (first, self.delay(1, 0, at, "latching"), latched)
     }

@@ -293,7 +293,7 @@ fn of_shared(report: &mut Report, given: &Given, nodes: &[Node], source: Option<
     show(report, given, nodes, source, &told);
 }
 
-/// Refusal 28: what only the imperative circuit has, and how many such nodes more.
+/// Refusal 28: what only the imperative circuit has, and how many such nodes there are.
 fn of_added(report: &mut Report, given: &Given, nodes: &[Node], source: Option<&Source>) {
     let place = report.refusal.place;
     let (thing, instead) = match nodes[place].kind {
@@ -305,12 +305,11 @@ fn of_added(report: &mut Report, given: &Given, nodes: &[Node], source: Option<&
     report.remedy =
         format!("{instead}, or leave --functional out: the imperative circuit has them");
     show(report, given, nodes, source, &[(place, "")]);
-    let more = nodes[place + 1..].iter();
-    let more = more.filter(|node| asking::is_added(**node)).count();
-    if more > 0 {
-        let here = report.found.take().map(|here| here + ", ");
-        let more = counted(more, "more such node");
-        report.found = Some(format!("{}and {more} behind it", here.unwrap_or_default()));
+    let such = nodes.iter().filter(|node| asking::is_added(**node)).count();
+    if such > 1 {
+        let here = report.found.take().map(|here| here + "; ");
+        let here = here.unwrap_or_default();
+        report.found = Some(format!("{here}{such} such nodes in all"));
     }
 }
 

@@ -4,6 +4,7 @@
 use crate::circuits::{self, recorded};
 use crate::pictures::{assert_clear, cells};
 use crate::programs::{programs, Program};
+use hub::bound::{self, Takes};
 use hub::draw::{dot, svg};
 use hub::input::Circuit;
 use hub::kinds::{is_idle, untold};
@@ -128,10 +129,7 @@ fn graphs_are_whole() {
     for (_, circuit) in circuits() {
         let graph = dot::dot(&circuit, &[], false).expect("a graph");
         let flags = graph.matches("shape=cds").count();
-        assert_eq!(
-            graph.matches("[label=\"").count() - flags,
-            drawn(&circuit)
-        );
+        assert_eq!(graph.matches("[label=\"").count() - flags, drawn(&circuit));
         assert_eq!(graph.matches('{').count(), graph.matches('}').count());
     }
 }
@@ -168,7 +166,10 @@ fn runs_end_as_the_rules_say_and_again_from_the_start_words() {
         let held = product::go(mode, &circuit.file, &mut state, 30).expect("it goes on");
         assert_eq!((held.ended, held.words), (false, rules.words));
         let started = product::start(mode, &circuit.file, &mut state).expect("a start");
-        assert_eq!(started.words, rules.words, "held in the instant of the start");
+        assert_eq!(
+            started.words, rules.words,
+            "held in the instant of the start"
+        );
         let second = ended(&circuit, &mut state, started).expect("a second end");
         let from = second.instant - started.instant;
         assert_eq!((from, second.words), (rules.instant, rules.words));
@@ -224,4 +225,31 @@ fn netlists_run_as_functional_ones_if_they_are() {
             assert_eq!(met.number, 12);
         }
     }
+}
+
+/// A run takes no less than the least and no more than the most.
+#[test]
+fn runs_take_what_is_told_before() {
+    let mut both = 0;
+    for program in functional() {
+        let nodes = product::nodes(&program.bytes);
+        let bounds = bound::bounds(Beside::FUNCTIONAL, &nodes);
+        let Takes::Main(span) = bounds[0].takes else {
+            panic!("the main program comes first")
+        };
+        assert!(span.is_known() || nodes.len() > 60, "{}", nodes.len());
+        let rules = product::reference(Beside::FUNCTIONAL, &program.bytes, &start(), 2_000);
+        if let Some(end) = rules.expect("a program") {
+            assert!(
+                span.least.is_ok_and(|least| least <= end.instant),
+                "{span:?}"
+            );
+            assert!(
+                span.most.map_or(true, |most| most >= end.instant),
+                "{span:?}"
+            );
+            both += usize::from(span.most.is_ok());
+        }
+    }
+    assert!(both > 10, "{both}");
 }

@@ -7,9 +7,9 @@ use crate::types::{Cell, Format, Netlist};
 /// The most bytes of a text, of a program and of a netlist file.
 pub const TEXT: usize = 4_096;
 pub const PROGRAM: usize = 800;
-pub const FILE: usize = 6_656;
+pub const FILE: usize = 100_352;
 /// The most cells of a netlist.
-pub const CELLS: usize = 1_024;
+pub const CELLS: usize = 16_384;
 
 /// A netlist file is made of blocks, a header and cells in each.
 const BLOCK: usize = 512;

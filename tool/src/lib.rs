@@ -37,3 +37,4 @@ pub mod trailer;
 pub mod types;
 pub mod warnings;
 pub mod wave;
+pub mod wiring;

@@ -35,7 +35,7 @@ fn elements<'t>(picture: &'t str, name: &str) -> Vec<&'t str> {
 }
 
 /// The boxes of the cells: those that have a stroke of their own kind.
-fn cells(picture: &str) -> Vec<Box> {
+pub fn cells(picture: &str) -> Vec<Box> {
     let cell = |line: &&str| line.contains("stroke-width");
     let rectangles = elements(picture, "rect").into_iter().filter(cell);
     rectangles
@@ -119,7 +119,7 @@ pub fn assert_legible(picture: &str) {
     }
 }
 
-fn assert_clear(picture: &str) {
+pub fn assert_clear(picture: &str) {
     assert_legible(picture);
     let (cells, wires) = (cells(picture), wires(picture));
     for (k, cell) in cells.iter().enumerate() {
@@ -232,6 +232,14 @@ fn accepted(graph: &str) -> bool {
     reader.wait().expect("it ends").success()
 }
 
+/// The examples that have a functional circuit.
+const FUNCTIONAL: [&str; 4] = [
+    "eight_groups",
+    "overstepped",
+    "sixty_four_boards",
+    "two_boards",
+];
+
 /// The examples' pictures, graphs and dumps are those that are kept. With
 /// KEEP=1 they are made anew.
 #[test]
@@ -243,7 +251,14 @@ fn pictures_of_the_examples_are_kept() {
     let outlines = outlines()
         .into_iter()
         .map(|(name, text)| (name, circuits::of_outline(&text), text));
-    for (name, circuit, text) in texts.chain(outlines) {
+    let functional = examples()
+        .into_iter()
+        .filter(|(name, _)| FUNCTIONAL.contains(&name.as_str()))
+        .map(|(name, text)| {
+            let circuit = circuits::functional_of_text(&text);
+            (format!("{name}_functional"), circuit, text)
+        });
+    for (name, circuit, text) in texts.chain(outlines).chain(functional) {
         let bytes = text.as_bytes();
         let wires = choice::wires(&circuit, bytes, None, false).expect("wires");
         let words = std::array::from_fn(|k| 3 + k as u16);

@@ -117,10 +117,10 @@ unfoldable pub valueBytes : (ℕ → ℕ) → ℕ → ℕ → List ℕ
 valueBytes v k zero = []
 valueBytes v k (suc n) = bytes16 (v k) ++ valueBytes v (k + 1) n
 
--- Lent are a list for the values, and one to work in: two bytes for each of the last 256 instants, of each cell's value, of each element and of what each
--- cell holds.
+-- Lent are a list for the values, and one to work in: two bytes for each of the last 256 instants, of each cell's value and of what each cell holds, and
+-- for each element.
 abbrev pub slowSize : ℕ → ℕ
-slowSize n = 512 * (2 * n + 256)
+slowSize n = 512 * (2 * n + 1)
 
 -- "for imperative programs of pulse length 1": of what is given beside a program the table and the number of procedures are looked at, and no pulse length
 abbrev pub withPulse : ℕ → Options → Options

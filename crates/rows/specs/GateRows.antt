@@ -8,6 +8,7 @@ use lib.Dec.{eqb}
 use lib.ListN.{length, getD, replicate}
 use Rattle.model.specs.declared.Cell.{Cell}
 use Rattle.model.specs.declared.Checked.{Checked}
+use Rattle.model.specs.declared.Checked.the-variants.{Accepted}
 use Rattle.model.specs.Refusals.{refuse, first}
 use Rattle.model.specs.Word.{pick, bit, operate, elementWord, bytes16}
 use Rattle.model.specs.Program.{const, Code, ok, assign, assignElem, seq, alone, timeIn, builtInTimes}
@@ -75,8 +76,8 @@ ors-right = refl
 
 -- The call ---------------------------------------------------------------------------------------------------------------------------------
 
--- ok has 27 cells: 54 bytes for their values, and 512 * (2 * 27 + 256) to work in
-size-right : slowSize 27 ≡ 158720
+-- ok has 27 cells: 54 bytes for their values, and 512 * (2 * 27 + 1) to work in
+size-right : slowSize 27 ≡ 28160
 size-right = refl
 
 abbrev okProgram : List ℕ
@@ -96,7 +97,8 @@ orders =
     ∷ (first (slowRunChecks (load (beside builtIn 0 9)) okProgram [] 1000001 [] []), refuse 13 0)
     ∷ (first (slowRunChecks (load (beside builtIn 0 1)) okProgram (room 543) 1000000 (room 54) []), refuse 14 0)
     ∷ (first (slowRunChecks (load (beside builtIn 0 1)) okProgram (room 544) 1000000 (room 53) []), refuse 14 0)
-    ∷ (first (slowRunChecks (load (beside builtIn 0 1)) okProgram (room 544) 1000000 (room 54) []), refuse 14 0)
+    ∷ (first (slowRunChecks (load (beside builtIn 0 1)) okProgram (room 544) 1000000 (room 54) (room 28159)), refuse 14 0)
+    ∷ (first (slowRunChecks (load (beside builtIn 0 1)) okProgram (room 544) 1000000 (room 54) (room 28160)), Accepted)
     ∷ []
 
 orders-right : map (λ r. r .0) orders ≡ map (λ r. r .1) orders

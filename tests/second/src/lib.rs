@@ -27,6 +27,7 @@ pub mod program;
 pub mod rules;
 mod runs;
 pub mod simulate;
+mod slow;
 pub mod state;
 pub mod table;
 pub mod text;

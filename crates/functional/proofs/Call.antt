@@ -39,7 +39,7 @@ use Rattle.program.specs.Shape.{Functionally}
 use Rattle.netlist.proofs.Calls.{Tells, refused}
 use Rattle.compiler.specs.Writes.{write}
 use Rattle.compiler.proofs.Writes.{write-length}
-use Rattle.functional.specs.Walk.{plainly, plainAt, plainFile, Main}
+use Rattle.functional.specs.Walk.{plainly, plainAt, plainFile, plainCount, Main}
 
 -- a statement without calls is the same whatever a call stands for
 inline-plain : (I : ℕ → Stmt) (P : Code) → Basic P → inline I P ≡ plainly P
@@ -74,12 +74,12 @@ listed n lent part = putMid (listAt n) (512 * blocksFor n - listAt n) lent part
 
 -- The file -----------------------------------------------------------------------------------------------------------------------------------
 
-module _ {s ends : List ℕ} {n : ℕ} (M : Main s ends n) where
+module _ (s : List ℕ) {n : ℕ} (q : n ≡ plainCount s) where
   abbrev net : List Cell
   net = netlistOf (plainAt s 0)
 
   net-size : length net ≡ n
-  net-size = net-len (plainAt s 0) ∙ sym (M .cells)
+  net-size = net-len (plainAt s 0) ∙ sym q
 
   pub file-size : length (plainFile s) ≡ 512 * blocksFor n
   file-size = file-length 1 net (finishOf (plainAt s 0)) ∙ rw net-size refl
@@ -108,9 +108,9 @@ module _ {s ends : List ℕ} {n : ℕ} (M : Main s ends n) where
       pub file-put : {f : ℕ} {after : List ℕ} → f ≡ finishOf (plainAt s 0)
           → after ≡ sets (listed n lent part) 0 (fileOf 1 (cellsAt inList (drop (listAt n) (listed n lent part)) 0 n) f)
           → after ≡ overwrite (plainFile s) lent
-      file-put {f} q w =
+      file-put {f} end w =
           let file = plainFile s in
-          let made : fileOf 1 (cellsAt inList (drop (listAt n) (listed n lent part)) 0 n) f ≡ file = rw (cells-listed, q) refl in
+          let made : fileOf 1 (cellsAt inList (drop (listAt n) (listed n lent part)) 0 n) f ≡ file = rw (cells-listed, end) refl in
           let behind : drop (length file) (listed n lent part) ≡ drop (length file) lent =
           rw file-size (drop-put (listAt n) (512 * blocksFor n) lent part (omega arith) fit part-size) in
           rw made at w
@@ -149,21 +149,20 @@ module _ (options : Options) (s : List ℕ) (e : checkFunctionalCall options s �
   pub same-file : functionalFile s ≡ plainFile s
   same-file = rw same-statement refl
 
-  pub few : count (plainAt s 0) ≤ 7000
+  few : count (plainAt s 0) ≤ 7000
   few = omega (arith, rw same-statement at (fits (tableAlone options) s whole basic .1), net-len (plainAt s 0))
 
-  pub same-count : length (netlistOf (statementOf s)) ≡ 43 + count (plainAt s 0)
+  pub same-count : length (netlistOf (statementOf s)) ≡ plainCount s
   same-count = rw same-statement (net-len (plainAt s 0))
 
   -- with its ends
   module _ {r : Scanned} (S : Functionally options s r) where
-    pub scanned-main : {n : ℕ} → n ≡ 43 + count (plainAt s 0) → Main s (r .ends) n
-    scanned-main q = record {
+    pub scanned-main : Main s (r .ends)
+    scanned-main = record {
       laid = record { short = accepted (tableAlone options) s whole .readable .short; each = λ j l. S .shaped e j l .end };
       formed = rw (← main-here s) (program-admitted (tableAlone options) s whole .main .fit .formed);
       basic = rw (← main-here s) basic;
-      cells = q;
-      few = omega (arith, q, few);
+      few = few;
     }
 
 -- its file is never refused
@@ -185,9 +184,9 @@ pub compile-refused : (options : Options) (s lent : List ℕ) {r : Refusal} → 
 unfolding compileFunctionalCall checkFunctionalCall writing
 compile-refused options s lent e = rw (first-take 2 (compileFunctionalChecks options s lent) e) (refl, refl)
 
-module _ (options : Options) (s : List ℕ) {ends : List ℕ} {n : ℕ} (e : checkFunctionalCall options s ≡ Accepted) (M : Main s ends n) where
+module _ (options : Options) (s : List ℕ) {n : ℕ} (e : checkFunctionalCall options s ≡ Accepted) (q : n ≡ plainCount s) where
   pub functional-size : length (functionalFile s) ≡ 512 * blocksFor n
-  functional-size = rw (same-file options s e) (file-size M)
+  functional-size = rw (same-file options s e) (file-size s q)
 
   pub compile-short : {lent : List ℕ} → length lent < 512 * blocksFor n → Tells (refused 14) lent (compileFunctionalCall options s lent)
   unfolding compileFunctionalCall checkFunctionalCall writing
@@ -196,6 +195,6 @@ module _ (options : Options) (s : List ℕ) {ends : List ℕ} {n : ℕ} (e : che
   pub compile-done : (lent : List ℕ) {f : ℕ} {after : List ℕ} → 512 * blocksFor n ≤ length lent → f ≡ finishOf (plainAt s 0) → after ≡ overwrite (plainFile s) lent
       → Tells (Done (512 * blocksFor n) f) after (compileFunctionalCall options s lent)
   unfolding compileFunctionalCall checkFunctionalCall writing
-  compile-done lent h q w =
+  compile-done lent h end w =
       rw (first-drop 2 (compileFunctionalChecks options s lent) e, functional-size, le-ltb _ _ h)
-      (rw (q, same-statement options s e) refl, w ∙ ap (λ (file : List ℕ). overwrite file lent) (sym (same-file options s e)))
+      (rw (end, same-statement options s e) refl, w ∙ ap (λ (file : List ℕ). overwrite file lent) (sym (same-file options s e)))

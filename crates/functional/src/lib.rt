@@ -10,12 +10,12 @@ ghost use Rattle.model.specs.declared.Checked.the-variants.{Accepted};
 ghost use Rattle.model.specs.Circuit.{cell};
 ghost use Rattle.model.specs.NetlistFile.{cellLimit, cellsAt, inList, blocksFor, fileOf};
 ghost use Rattle.model.specs.Numbering.{headCells};
-ghost use Rattle.model.specs.Functional.{sixteen, idleArrays, startWires, count, netlistOf, finishOf};
+ghost use Rattle.model.specs.Functional.{sixteen, idleArrays, startWires, netlistOf, finishOf};
 ghost use Rattle.model.specs.Calls.{overwrite};
 ghost use Rattle.model.specs.FunctionalCalls.{checkFunctionalCall, statementOf, functionalFile, compileFunctionalCall};
 ghost use Rattle.compiler.specs.Writes.{write};
 ghost use Rattle.functional.specs.Sets.{Agrees};
-ghost use Rattle.functional.specs.Walk.{plainAt, plainFile, Main};
+ghost use Rattle.functional.specs.Walk.{plainAt, plainFile, plainCount, Main};
 
 mod sets; // sets of variables, and wires
 mod rows; // a cell for each variable of a set
@@ -67,7 +67,7 @@ fn start_wires() -> sets::Wires
 
 // The netlist of an accepted program, whose statement is at node 0, as a list of cells; answers its finish.
 fn put_netlist(cells: &mut [u8], program: &[u8], ends: &[usize; 200]) -> u16
-    requires { ⌜ Main (now program) (now ends) (43 + count (plainAt (now program) 0)) × (length (now cells) ≡ 6 * (43 + count (plainAt (now program) 0))) ⌝ }
+    requires { ⌜ Main (now program) (now ends) × (length (now cells) ≡ 6 * plainCount (now program)) ⌝ }
     ensures cells { λ _. ⌜ now (cells .exit) ≡ write 0 (netlistOf (plainAt (now (program .entry)) 0)) (now (cells .entry)) ⌝ }
     ensures finish { λ r. ⌜ r ≡ finishOf (plainAt (now (program .entry)) 0) ⌝ }
 {
@@ -104,7 +104,7 @@ fn put_in_place(d: &mut [u8], from: usize, n: usize, finish: u16)
 
 // Puts the file of an accepted program's netlist of n cells in; answers its finish.
 fn put_file(file: &mut [u8], program: &[u8], ends: &[usize; 200], n: usize) -> u16
-    requires { ⌜ Main (now program) (now ends) n × (512 * blocksFor n ≤ length (now file)) ⌝ }
+    requires { ⌜ Main (now program) (now ends) × (n ≡ plainCount (now program)) × (512 * blocksFor n ≤ length (now file)) ⌝ }
     ensures lent { λ _. ⌜ now (file .exit) ≡ overwrite (plainFile (now (program .entry))) (now (file .entry)) ⌝ }
     ensures finish { λ r. ⌜ r ≡ finishOf (plainAt (now (program .entry)) 0) ⌝ }
 {

@@ -1,77 +1,69 @@
+-- `compile` meets its contract. Assumes nothing.
+use mathlib.Core.Path.{sym, _∙_, ap}
+use Prim.Native.Nat.{_+_}
+use native.Mathlib.Omega.{arith}
 use borrow.Author.Needs.{needs}
+use Rattle.functional.proofs.Call.{scanned-main, compile-refused, compile-short, compile-done}
 use Rattle.functional.proofs.compile.Statement.{statement}
 use Rattle.functional.proofs.compile.Tie as tie
-use Rattle.functional.proofs.compile.Reads as reads
-use Rattle.functional.proofs.compile.Lts as lts
-use Rattle.functional.proofs.counts.count_stmt.Reads as count-stmt-reads
-use Rattle.functional.proofs.put_file.Reads as put-file-reads
-use Rattle.program.proofs.scan_functional.Reads as scan-functional-reads
 
--- src/lib.rt:146:9
-scan-functional-requires : tie.Need-scan-functional-requires
-scan-functional-requires c κs = search needs
-
--- src/lib.rt:148:29
-enum-known-checked : tie.Need-enum-known-checked
-enum-known-checked c = search needs
-
--- src/lib.rt:149:9
 returns : tie.Need-returns
-returns c = ?
+returns c =
+    let at-scan = c .before .before .before in
+    compile-refused (at-scan .before .before .before .args .options) _ _ (sym (at-scan .scan-functional .ensures .checked) ∙ c .before .checked .given .1)
 
-enum-told : tie.Need-enum-told
-enum-told c = search needs
-
--- src/lib.rt:152:19
 count-stmt-requires : tie.Need-count-stmt-requires
-count-stmt-requires c κs = ?
+count-stmt-requires c κs =
+    let at-told = c .before .before in
+    let at-scan = at-told .before .before in
+    let scan = at-scan .scan-functional .ensures in
+    let M = scanned-main (at-scan .before .before .before .args .options) _ (sym (scan .checked) ∙ at-told .enum-told .given .1) scan in
+    (M .laid, M .basic, M .few)
 
--- src/lib.rt:152:19
-cast-n : tie.Need-cast-n
-cast-n c = search needs
-
--- src/lib.rt:152:13
-add-n : tie.Need-add-n
-add-n c = search needs
-
--- src/lib.rt:153:27
-add-count : tie.Need-add-count
-add-count c = search needs
-
--- src/lib.rt:153:17
-mul-count : tie.Need-mul-count
-mul-count c = search needs
-
--- src/lib.rt:155:9
 returns-2 : tie.Need-returns-2
-returns-2 c = ?
+returns-2 c =
+    let at-count = c .before in
+    let at-told = at-count .before .before .before in
+    let at-scan = at-told .before .before in
+    compile-short (at-scan .before .before .before .args .options) _ (sym (at-scan .scan-functional .ensures .checked) ∙ at-told .enum-told .given .1)
+    (ap (_+_ 43) (at-count .count-stmt .ensures)) (c .if1 .taken)
 
--- src/lib.rt:160:9
 put-file-requires : tie.Need-put-file-requires
-put-file-requires c κs = ?
+put-file-requires c κs =
+    let at-if = c .before .before in
+    let at-count = at-if .before in
+    let at-told = at-count .before .before .before in
+    let at-scan = at-told .before .before in
+    let scan = at-scan .scan-functional .ensures in (
+      scanned-main (at-scan .before .before .before .args .options) _ (sym (scan .checked) ∙ at-told .enum-told .given .1) scan,
+      ap (_+_ 43) (at-count .count-stmt .ensures),
+      omega (arith, at-if .if1 .left),
+    )
 
--- src/lib.rt:142:1
-same-length : tie.Need-same-length
-same-length c = search needs
-
--- src/lib.rt:142:1
 returns-3 : tie.Need-returns-3
-returns-3 c = ?
+returns-3 c =
+    let at-file = c .before .before in
+    let at-if = at-file .before .before .before in
+    let at-count = at-if .before in
+    let at-told = at-count .before .before .before in
+    let at-scan = at-told .before .before in
+    compile-done (at-scan .before .before .before .args .options) _ (sym (at-scan .scan-functional .ensures .checked) ∙ at-told .enum-told .given .1)
+    (ap (_+_ 43) (at-count .count-stmt .ensures)) _ (at-if .if1 .left) (at-file .put-file .ensures .1) (at-file .put-file .ensures .0)
 
 pub compile-spec : {M : Type 1} → statement M
 compile-spec =
     tie.close
     (tie.spec
-    scan-functional-requires
-    enum-known-checked
+    (λ c κs. search needs)
+    (λ c. search needs)
     returns
-    enum-told
+    (λ c. search needs)
     count-stmt-requires
-    cast-n
-    add-n
-    add-count
-    mul-count
+    (λ c. search needs)
+    (λ c. search needs)
+    (λ c. search needs)
+    (λ c. search needs)
     returns-2
     put-file-requires
-    same-length
+    (λ c. search needs)
     returns-3)

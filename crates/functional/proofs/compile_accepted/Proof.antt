@@ -1,58 +1,49 @@
+-- `compile_accepted` meets its contract. Assumes nothing.
+use mathlib.Core.Path.{sym, ap}
+use Prim.Native.Nat.{_+_}
+use native.Mathlib.Omega.{arith}
 use borrow.Author.Needs.{needs}
+use Rattle.functional.proofs.Call.{same-file, scanned-main, functional-size}
 use Rattle.functional.proofs.compile_accepted.Statement.{statement}
 use Rattle.functional.proofs.compile_accepted.Tie as tie
-use Rattle.functional.proofs.compile_accepted.Reads as reads
-use Rattle.functional.proofs.compile_accepted.Lts as lts
-use Rattle.functional.proofs.counts.count_stmt.Reads as count-stmt-reads
-use Rattle.functional.proofs.put_file.Reads as put-file-reads
-use Rattle.program.proofs.scan_functional.Reads as scan-functional-reads
 
--- src/lib.rt:134:9
-scan-functional-requires : tie.Need-scan-functional-requires
-scan-functional-requires c κs = search needs
-
--- src/lib.rt:136:19
 count-stmt-requires : tie.Need-count-stmt-requires
-count-stmt-requires c κs = ?
+count-stmt-requires c κs =
+    let at-scan = c .before .before in
+    let start = at-scan .before .before .before in
+    let M = scanned-main (start .args .options) _ (start .pre .0) (at-scan .scan-functional .ensures) in
+    (M .laid, M .basic, M .few)
 
--- src/lib.rt:136:19
-cast-n : tie.Need-cast-n
-cast-n c = search needs
-
--- src/lib.rt:136:13
-add-n : tie.Need-add-n
-add-n c = search needs
-
--- src/lib.rt:137:5
 put-file-requires : tie.Need-put-file-requires
-put-file-requires c κs = ?
+put-file-requires c κs =
+    let at-count = c .before .before in
+    let at-scan = at-count .before .before .before in
+    let start = at-scan .before .before .before in
+    let n = ap (_+_ 43) (at-count .count-stmt .ensures) in (
+      scanned-main (start .args .options) _ (start .pre .0) (at-scan .scan-functional .ensures),
+      n,
+      omega (arith, functional-size (start .args .options) _ (start .pre .0) n, start .pre .1),
+    )
 
--- src/lib.rt:138:15
-add-result : tie.Need-add-result
-add-result c = search needs
-
--- src/lib.rt:138:5
-mul-result : tie.Need-mul-result
-mul-result c = search needs
-
--- src/lib.rt:129:1
-same-length : tie.Need-same-length
-same-length c = search needs
-
--- src/lib.rt:129:1
 returns : tie.Need-returns
-returns c = ?
+returns c =
+    let at-file = c .before .before in
+    let at-count = at-file .before .before .before in
+    let start = at-count .before .before .before .before .before .before in (
+      sym (functional-size (start .args .options) _ (start .pre .0) (ap (_+_ 43) (at-count .count-stmt .ensures))),
+      rw (same-file (start .args .options) _ (start .pre .0)) (at-file .put-file .ensures .0),
+    )
 
 pub compile-accepted-spec : {M : Type 1} → statement M
 compile-accepted-spec =
     tie.close
     (tie.spec
-    scan-functional-requires
+    (λ c κs. search needs)
     count-stmt-requires
-    cast-n
-    add-n
+    (λ c. search needs)
+    (λ c. search needs)
     put-file-requires
-    add-result
-    mul-result
-    same-length
+    (λ c. search needs)
+    (λ c. search needs)
+    (λ c. search needs)
     returns)

@@ -1,32 +1,24 @@
+-- `count_cells` meets its contract. Assumes nothing.
+use mathlib.Core.Path.{sym, _∙_, ap}
+use Prim.Native.Nat.{_+_}
 use borrow.Author.Needs.{needs}
+use Rattle.functional.proofs.Call.{same-count, scanned-main}
 use Rattle.functional.proofs.count_cells.Statement.{statement}
 use Rattle.functional.proofs.count_cells.Tie as tie
-use Rattle.functional.proofs.count_cells.Reads as reads
-use Rattle.functional.proofs.count_cells.Lts as lts
-use Rattle.functional.proofs.counts.count_stmt.Reads as count-stmt-reads
-use Rattle.program.proofs.scan_functional.Reads as scan-functional-reads
 
--- src/lib.rt:123:9
-scan-functional-requires : tie.Need-scan-functional-requires
-scan-functional-requires c κs = search needs
-
--- src/lib.rt:125:11
 count-stmt-requires : tie.Need-count-stmt-requires
-count-stmt-requires c κs = ?
+count-stmt-requires c κs =
+    let at-scan = c .before .before in
+    let start = at-scan .before .before in
+    let M = scanned-main (start .args .options) _ (start .pre) (at-scan .scan-functional .ensures) in
+    (M .laid, M .basic, M .few)
 
--- src/lib.rt:125:11
-cast-result : tie.Need-cast-result
-cast-result c = search needs
-
--- src/lib.rt:125:5
-add-result : tie.Need-add-result
-add-result c = search needs
-
--- src/lib.rt:119:1
 returns : tie.Need-returns
-returns c = ?
+returns c =
+    let start = c .before .before .before .before .before in
+    ap (_+_ 43) (c .count-stmt .ensures) ∙ sym (same-count (start .args .options) _ (start .pre))
 
 pub count-cells-spec : {M : Type 1} → statement M
 count-cells-spec =
     tie.close
-    (tie.spec scan-functional-requires count-stmt-requires cast-result add-result returns)
+    (tie.spec (λ c κs. search needs) count-stmt-requires (λ c. search needs) (λ c. search needs) returns)

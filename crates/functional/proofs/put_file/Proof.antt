@@ -1,67 +1,43 @@
+-- `put_file` meets its contract. Assumes nothing.
+use mathlib.Core.Path.{_∙_, ap}
+use Prim.Native.Nat.{_*_}
+use native.Mathlib.Omega.{arith}
 use borrow.Author.Needs.{needs}
+use Rattle.functional.proofs.Call.{room-size, listed-size, file-put}
 use Rattle.functional.proofs.put_file.Statement.{statement}
 use Rattle.functional.proofs.put_file.Tie as tie
-use Rattle.functional.proofs.put_file.Reads as reads
-use Rattle.functional.proofs.put_file.Lts as lts
-use Rattle.functional.proofs.put_in_place.Reads as put-in-place-reads
-use Rattle.functional.proofs.put_netlist.Reads as put-netlist-reads
 
--- src/lib.rt:111:27
-add-count : tie.Need-add-count
-add-count c = search needs
-
--- src/lib.rt:111:17
-mul-count : tie.Need-mul-count
-mul-count c = search needs
-
--- src/lib.rt:112:24
-mul-from : tie.Need-mul-from
-mul-from c = search needs
-
--- src/lib.rt:112:16
-sub-from : tie.Need-sub-from
-sub-from c = search needs
-
--- src/lib.rt:113:30
-sub-put-netlist : tie.Need-sub-put-netlist
-sub-put-netlist c = search needs
-
--- src/lib.rt:113:30
-part-put-netlist-start : tie.Need-part-put-netlist-start
-part-put-netlist-start c = search needs
-
--- src/lib.rt:113:30
-part-put-netlist-end : tie.Need-part-put-netlist-end
-part-put-netlist-end c = search needs
-
--- src/lib.rt:113:9
 put-netlist-requires : tie.Need-put-netlist-requires
-put-netlist-requires c κs = search needs
+put-netlist-requires c κs =
+    let pre = c .before .before .before .pre in
+    (pre .0, room-size _ (pre .1) _ (pre .2) ∙ ap (_*_ 6) (pre .1))
 
--- src/lib.rt:114:5
 put-in-place-requires : tie.Need-put-in-place-requires
-put-in-place-requires c κs = search needs
+put-in-place-requires c κs =
+    let at-net = c .before .before .before in
+    let pre = at-net .before .before .before .before .pre in
+    (omega (arith, pre .0 .few, pre .1), omega arith, omega (arith, pre .2, listed-size _ (pre .1) _ (pre .2) (at-net .put-netlist .ensures .0)))
 
--- src/lib.rt:106:1
-same-length : tie.Need-same-length
-same-length c = search needs
-
--- src/lib.rt:106:1
 returns : tie.Need-returns
-returns c = ?
+returns c =
+    let at-place = c .before .before in
+    let at-net = at-place .before .before .before .before in
+    let pre = at-net .before .before .before .before .pre in
+    let net = at-net .put-netlist .ensures in
+    (file-put _ (pre .1) _ (pre .2) (net .0) (net .1) (at-place .put-in-place .ensures), net .1)
 
 pub put-file-spec : {M : Type 1} → statement M
 put-file-spec =
     tie.close
     (tie.spec
-    add-count
-    mul-count
-    mul-from
-    sub-from
-    sub-put-netlist
-    part-put-netlist-start
-    part-put-netlist-end
+    (λ c. search needs)
+    (λ c. search needs)
+    (λ c. search needs)
+    (λ c. search needs)
+    (λ c. search needs)
+    (λ c. search needs)
+    (λ c. search needs)
     put-netlist-requires
     put-in-place-requires
-    same-length
+    (λ c. search needs)
     returns)

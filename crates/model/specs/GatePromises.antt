@@ -1,5 +1,6 @@
 -- What is promised of gates that take their time, as a type: the values that a slow run works out obey the equations and are the only ones, they agree
--- with the ideal ones wherever the paper says, and so a slow run answers as a full run does.
+-- with the ideal ones wherever the paper says, and so a slow run answers as a full run does. What it refuses is in model/RefusalPromises: `slowRuns`.
+-- The proof is in crate theory, file Promises/Gates: gates.
 -- Assumes nothing: definitions.
 use mathlib.Core.Path.{_≡_}
 use mathlib.Core.Bool.{Bool, true, _||_}

@@ -28,8 +28,8 @@ unfoldable pub past : ℕ → (ℕ → ℕ) → ℕ → ℕ
 past d w t = pick (leb d t) (w (t - d)) 0
 
 -- "each operator cell, kind 44 too (its array's words are inputs), shows the result of its inputs as they were its own time earlier": what cell k,
--- which is c, shows at instant t, with pulses of 1; τ tells the operator time of each kind of node, and a kind 44 is a node of kind 10. The others, a constant among
--- them, which has no inputs, are as in the ideal circuit: "Control cells, kind 41 ... stay instant."
+-- which is c, shows at instant t, with pulses of 1; τ tells the operator time of each kind of node, and a kind 44 is a node of kind 10. The others are as
+-- in the ideal circuit, a constant among them, which has no inputs: "Control cells, kind 41 ... stay instant."
 unfoldable pub gate : (ℕ → ℕ) → Shape → Sig → ℕ → Elements → Values → ℕ → Cell → ℕ → ℕ
 gate τ kConstant starts word₀ E W k c t = equation 1 kConstant starts word₀ E W k c t
 gate τ kComplement starts word₀ E W k c t = operate 3 (past (τ 3) (W (c .a)) t) 0
@@ -141,7 +141,7 @@ slowRunChecks options program words n forValues forWork =
     ∷ short (length forWork) (slowSize cells)
     ∷ []
 
--- the answer, and both lists at exit; what was worked in is left 0
+-- the answer, and both lists at exit: what was worked in is left 0
 pub record ReturnedSlow : Type 0 where
   pub answer : Answer
   pub values : List ℕ

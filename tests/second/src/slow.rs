@@ -34,7 +34,9 @@ impl History {
 
     /// The word so long before an instant, and 0 before instant 0.
     fn before(&self, instant: Instant, time: u32) -> u16 {
-        instant.checked_sub(time).map_or(0, |earlier| self.at(earlier))
+        instant
+            .checked_sub(time)
+            .map_or(0, |earlier| self.at(earlier))
     }
 }
 
@@ -149,7 +151,10 @@ impl<'a> SlowRun<'a> {
 
     fn value(&mut self, number: usize, instant: Instant) -> u16 {
         let Cell { kind, delay, a, b } = self.cells[number];
-        let (wire_a, wire_b) = (|run: &Self| run.word(a, instant), |run: &Self| run.word(b, instant));
+        let (wire_a, wire_b) = (
+            |run: &Self| run.word(a, instant),
+            |run: &Self| run.word(b, instant),
+        );
         match kind {
             CONSTANT => a,
             START => u16::from(instant == 0),
@@ -195,7 +200,10 @@ impl<'a> SlowRun<'a> {
     fn memory(&self, number: usize, instant: Instant) -> u16 {
         let Cell { a, b, .. } = self.cells[number];
         let Some(before) = instant.checked_sub(1) else {
-            let variable = self.memories().take_while(|&memory| memory < number).count();
+            let variable = self
+                .memories()
+                .take_while(|&memory| memory < number)
+                .count();
             return self.start.words[variable];
         };
         if self.falls(a, instant) {

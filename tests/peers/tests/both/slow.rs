@@ -1,11 +1,11 @@
 //! Full runs in which operators take their time: every vector, beside the ideal run and
 //! without; what is lent; the order of refusals.
 
-use crate::expect::{refused, start_with, START};
+use crate::expect::{start_with, START};
 use crate::nodes::*;
 use crate::vector::*;
 use peers::{Reply, BOTH};
-use values::{Answer, Given, Table};
+use values::{Answer, Given, Refusal, Table};
 
 /// The bytes that so many cells are lent to work in.
 const fn work_length(cells: usize) -> usize {
@@ -43,7 +43,10 @@ impl Ran {
         let mut values = LENT.to_vec();
         values[..2_000].copy_from_slice(&self.reply.lent[0]);
         let lent = vec![values];
-        Reply { lent, ..self.reply.clone() }
+        Reply {
+            lent,
+            ..self.reply.clone()
+        }
     }
 
     /// What a cell shows at the last instant.
@@ -60,7 +63,11 @@ fn runs_answer_and_show_as_told() {
         let procedures = vector.given(&table).procedures;
         let (words, budget) = (vector.bytes("words"), vector.number("budget"));
         let ran = slow_run(table.as_deref(), procedures, &program, &words, budget);
-        assert_eq!(answer_text(ran.reply.result), vector.text("expect"), "{name}");
+        assert_eq!(
+            answer_text(ran.reply.result),
+            vector.text("expect"),
+            "{name}"
+        );
         ran.assert_lent(&vector.may_have("values").unwrap_or_default(), name);
     });
 }
@@ -118,31 +125,56 @@ fn a_longer_pulse_is_of_no_concern() {
     assert!(ran.reply.result.is_ok());
 }
 
+/// What a slow run with so much room is refused for; nothing that was lent is changed.
+fn refusal(given: Given, program: &[u8], words: &[u8], budget: u32, room: [usize; 2]) -> Refusal {
+    let [values, work] = room.map(|length| vec![0xa5; length]);
+    let (table, procedures) = (given.table, given.procedures);
+    let reply = (BOTH.slow_run)(table, procedures, program, words, budget, &values, &work);
+    assert_eq!(reply.lent, [values, work]);
+    reply.result.expect_err("a refusal")
+}
+
 #[test]
 fn refusals_come_in_their_order() {
-    let long = 1_000_001;
-    let program = complement();
-    let short_table: Table = Some(&[0; 511]);
-    let of = |table: Table, procedures: usize, program: &[u8], words: &[u8], budget: u32, values: usize, work: usize| {
-        let (values, work) = (&LENT[..values], &vec![0xa5; work][..]);
-        let reply = (BOTH.slow_run)(table, procedures, program, words, budget, values, work);
-        assert!(reply.result.is_err() && reply.lent == [values, work]);
-        reply.result
+    let (nothing, long, none) = (Given::NOTHING, 1_000_001, [0, 0]);
+    let nine = Given {
+        procedures: 9,
+        ..nothing
     };
-    assert_eq!(of(short_table, 9, &[], &[], long, 0, 0), refused(19, 0));
-    assert_eq!(of(None, 9, &program, &[], long, 0, 0), refused(1, 0));
-    assert_eq!(of(None, 0, &exit(), &[], long, 0, 0), refused(22, 0));
-    assert_eq!(of(None, 0, &slow_delay(), &[], long, 0, 0), refused(7, 0));
-    assert_eq!(of(None, 0, &program, &[], long, 0, 0), refused(13, 0));
-    let (values, work) = (2 * 31, work_length(31));
-    assert_eq!(of(None, 0, &program, &START[..543], 1, values, work), refused(14, 0));
-    assert_eq!(of(None, 0, &program, &START, 1, values - 1, work), refused(14, 0));
-    assert_eq!(of(None, 0, &program, &START, 1, values, work - 1), refused(14, 0));
-    let reply = (BOTH.slow_run)(None, 0, &program, &START, 1, &LENT[..values], &vec![7; work]);
-    assert!(reply.result.is_ok());
+    let short_table = Given {
+        table: Some(&[0; 511]),
+        ..nine
+    };
+    let program = complement();
+    let told = [
+        (refusal(short_table, &[], &[], long, none), 19),
+        (refusal(nine, &program, &[], long, none), 1),
+        (refusal(nothing, &exit(), &[], long, none), 22),
+        (refusal(nothing, &one_short(), &[], long, none), 7),
+        (refusal(nothing, &program, &[], long, none), 13),
+    ];
+    for (refusal, number) in told {
+        assert_eq!(refusal, Refusal::new(number, 0));
+    }
+    let [values, work] = [2 * 31, work_length(31)];
+    let no_room = Refusal::new(14, 0);
+    let of = |words: &[u8], room| refusal(nothing, &program, words, 1, room);
+    assert_eq!(of(&START[..543], [values, work]), no_room);
+    assert_eq!(of(&START, [values - 1, work]), no_room);
+    assert_eq!(of(&START, [values, work - 1]), no_room);
+    let exact = (BOTH.slow_run)(
+        None,
+        0,
+        &program,
+        &START,
+        1,
+        &LENT[..values],
+        &vec![7; work],
+    );
+    assert!(exact.result.is_ok());
 }
 
 /// A delay one short of its expression's time.
-fn slow_delay() -> Vec<u8> {
+fn one_short() -> Vec<u8> {
     assign(0, sum(variable(0), constant(1)), 15)
 }

@@ -51,7 +51,7 @@ impl Pair<'_> {
     }
 
     /// Every value, operators' too; the room is now and then too little.
-    fn same_slow_run(&self, job: &Job) -> Result<(), String> {
+    pub fn same_slow_run(&self, job: &Job) -> Result<(), String> {
         let (table, program, words) = (job.lent_table(), &job.program, &job.words);
         let (values, work) = (lent(job.file_length), lent(16 * job.state_length));
         let budget = against_slow::budget(job);

@@ -3,7 +3,7 @@
 
 use crate::exports::*;
 use crate::reply::{accepted, answer, end, shape, written};
-use values::{Answer, End, Format, Given, Refusal, Shape};
+use values::{Answer, End, Format, Given, Refusal, Shape, Table};
 
 /// Checks a program.
 pub fn check(given: Given, program: &[u8]) -> Result<(), Refusal> {
@@ -140,6 +140,25 @@ pub fn run_program(
             file,
             state,
             reply,
+        )
+    });
+    told.map(answer)
+}
+
+/// A full run of a program in which operators take their time, with pulses of one instant;
+/// every cell's value at its last instant, and a buffer to work in, are lent.
+pub fn slow_run(
+    table: Table,
+    procedures: usize,
+    program: &[u8],
+    words: &[u8],
+    budget: u32,
+    values: &mut [u8],
+    work: &mut [u8],
+) -> Result<Answer, Refusal> {
+    let told = accepted(|reply| {
+        hub_slow_run(
+            table, procedures, program, words, budget, values, work, reply,
         )
     });
     told.map(answer)

@@ -46,8 +46,8 @@ macro_rules! exports {
     )*};
 }
 
-// crates/exports/src/calls.rt; the definitions are those of model/Calls and
-// model/TextCalls. A call that checks a program has in front what is given
+// crates/exports/src/calls.rt; the definitions are those of model/Calls,
+// model/Gates and model/TextCalls. A call that checks a program has in front what is given
 // beside it: the table of operator times, if any, the number of procedures and
 // the pulse length.
 exports! {
@@ -110,6 +110,12 @@ exports! {
     /// runNetlistCall
     hub_run_netlist(
         netlist: &[u8], words: &[u8], budget: u32, state: &mut [u8], reply: &mut [u8]
+    );
+
+    /// slowRunCall, which no pulse length is given to
+    hub_slow_run(
+        table: ?[u8], procedures: usize, program: &[u8], words: &[u8], budget: u32,
+        values: &mut [u8], work: &mut [u8], reply: &mut [u8]
     );
 
     /// referenceCall

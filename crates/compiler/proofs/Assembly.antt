@@ -233,7 +233,7 @@ module _ {pulse k : ℕ} {s ends : List ℕ} {n : ℕ} (G : Given pulse k s ends
         addresses-ready = ready u l addressJoint (addressesOf S) (omega arith) (omega arith) (marked-indices u l) (omega (arith, v .next, net-length S, most))
 
         pub walked : {after : List ℕ} {r : Ors} → Ored addressJoint (q .next) (sourcesFrom 3 marked 0 (e .mark / 4)) mid₂ after r
-            → Walked S before after (record { wires = q .wires; addresses = r .wires; count = r .next; finish = e .wire })
+            → Walked S before after (record { wires = q .wires; addresses = r .wires; count = r .next; finish = e .wire; ors = e .cell })
         unfolding finish finishOfRoot
         walked w₀ =
             let w = rw (v .next) at (ored-alike _ _ (marked-indices u l) w₀) in
@@ -243,6 +243,7 @@ module _ {pulse k : ℕ} {s ends : List ℕ} {n : ℕ} (G : Given pulse k s ends
               addresses = w .wires;
               count = w .next ∙ sym (net-length S);
               finish = u .wire;
+              ors = u .cell;
             }
 
 pub clock-twenty : {S : Program} {ms b : List ℕ} {r : Clocks} → Clocked S ms b r → length (r .wires) ≡ 20
@@ -313,7 +314,7 @@ pub made : {pulse k : ℕ} {s ends : List ℕ} {n : ℕ} → Given pulse k s end
     → b₅ ≡ write 0 (cell 32 0 0 0 ∷ []) b₄
     → b₆ ≡ write 1 (cell 33 0 0 0 ∷ []) b₅
     → b₇ ≡ write 2 (cell 1 0 0 0 ∷ []) b₆
-    → Made (programOf pulse k s) b₇ (record { count = w .count; finish = w .finish })
+    → Made (programOf pulse k s) b₇ (record { count = w .count; finish = w .finish; ors = w .ors })
 made {pulse} {k} {s} G {b₄ = b₄} l K W e₃ e₄ e₅ e₆ e₇ =
     let S = programOf pulse k s in
     let head : write 2 (cell 1 0 0 0 ∷ []) (write 1 (cell 33 0 0 0 ∷ []) (write 0 (cell 32 0 0 0 ∷ []) b₄)) ≡ write 0 headCells b₄ =
@@ -325,4 +326,5 @@ made {pulse} {k} {s} G {b₄ = b₄} l K W e₃ e₄ e₅ e₆ e₇ =
       cells = rw (all, W .count) (cells-put (netlist S) (K .first) (omega (arith, most G)));
       count = W .count;
       finish = W .finish;
+      ors = W .ors;
     }

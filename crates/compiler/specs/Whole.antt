@@ -122,9 +122,11 @@ pub record Walked (S : Program) (before after : List ℕ) (r : Finished) : Type 
   pub addresses : drop 16 (r .addresses) ≡ addressWires S
   pub count : r .count ≡ length (netlist S)
   pub finish : r .finish ≡ finish S
+  pub ors : r .ors ≡ dataAt S
 
 -- its netlist
 pub record Made (S : Program) (after : List ℕ) (r : Netlist) : Type 0 where
   pub cells : cellsAt inList after 0 (r .count) ≡ netlist S
   pub count : r .count ≡ length (netlist S)
   pub finish : r .finish ≡ finish S
+  pub ors : r .ors ≡ dataAt S

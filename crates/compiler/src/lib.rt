@@ -7,12 +7,14 @@ ghost use Rattle.model.specs.declared.Checked.the-variants.{Accepted};
 ghost use Rattle.model.specs.ProgramChecks.{programWith};
 ghost use Rattle.model.specs.Numbering.{netlist};
 ghost use Rattle.model.specs.Calls.{overwrite, checkCall, compiledFile, compileCall};
+ghost use Rattle.compiler.specs.Whole.{Made};
 
 pub mod nodes; // nodes as parts of the tree
 pub mod walk; // delay cells and walk cells
 mod ors; // ors and memories
-mod whole; // the whole netlist
+pub mod whole; // the whole netlist
 
+use crate::whole::Netlist;
 use model::Checked;
 use model::Options;
 use model::Refusal;
@@ -38,6 +40,16 @@ pub fn count_cells(options: Options, program: &[u8]) -> usize
         options.pulse,
     );
     made.count as usize
+}
+
+// The cells of an accepted program's netlist, six bytes each, into a list of their most.
+pub fn list_accepted(options: Options, program: &[u8], cells: &mut [u8]) -> Netlist
+    requires { ⌜ (checkCall options (now program) ≡ Accepted) × (length (now cells) ≡ 3762) ⌝ }
+    ensures { λ r. ⌜ Made (programWith options (now (program .entry))) (now (cells .exit)) r ⌝ }
+{
+    let told = program::scan(options, program);
+    let ends = told.ends;
+    whole::put_netlist(cells, program, &ends, options.procedures, options.pulse)
 }
 
 // Writes the netlist file of an accepted program into a buffer that is long enough; answers its length.

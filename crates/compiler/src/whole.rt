@@ -23,18 +23,21 @@ pub struct Clocks {
     pub count: usize,
 }
 
-// What the walk and the ors of words leave: each variable's data wire, each array's address wire, the number of cells, and the finish.
+// What the walk and the ors of words leave: each variable's data wire, each array's address wire, the number of cells, the finish, and where the ors
+// begin.
 pub struct Finished {
     pub wires: [u16; 20],
     pub addresses: [u16; 20],
     pub count: u16,
     pub finish: u16,
+    pub ors: u16,
 }
 
-// How many cells a netlist has, and its finish.
+// How many cells a netlist has, its finish, and where the ors behind the walk begin.
 pub struct Netlist {
     pub count: u16,
     pub finish: u16,
+    pub ors: u16,
 }
 
 // A root: its number, the node at which it begins, and its start where nobody calls it.
@@ -229,6 +232,7 @@ fn put_walk(
         addresses,
         count: addressed.next,
         finish: end.wire,
+        ors: end.cell,
     }
 }
 
@@ -273,5 +277,6 @@ pub fn put_netlist(
     Netlist {
         count: walked.count,
         finish: walked.finish,
+        ors: walked.ors,
     }
 }

@@ -1,9 +1,10 @@
 // The calls on bytes: numbers and byte slices in, the answer as 48 bytes in a lent buffer (reply/specs/Replies).
 // Each answers whether there was room for the reply; where there was none it did nothing. Before a program or a text stands what is given beside
-// it: a flag that tells whether a table of operator times is given, the table, the number of procedures, and the pulse length.
+// it: a flag that tells whether a table of operator times is given, the table, the number of procedures, and the pulse length, which a slow run has not.
 ghost use mathlib.Core.Path.{_≡_};
 ghost use Rattle.model.specs.TimeTables.{givenIf, beside, load};
 ghost use Rattle.model.specs.Calls.{checkCall, compileCall, writeCall, readCall, beginCall, continueCall, startCall, runNetlistCall, runProgramCall, referenceCall};
+ghost use Rattle.model.specs.Gates.{slowRunCall};
 ghost use Rattle.model.specs.TextCalls.{readTextCall, compileTextCall, runTextCall};
 ghost use Rattle.model.specs.declared.Format.the-variants.{Full, Compact};
 ghost use Rattle.reply.specs.Replies.{checkedReply, writtenReply, answerReply, replied, roomFor, ifRoom};
@@ -200,6 +201,32 @@ pub extern "C" fn hub_run_program(
     }
     let options = hub::load_if(timed, table, procedures, pulse);
     let answer = hub::run_program(options, program, words, budget, netlist, state);
+    reply::put(reply, reply::of_answer(answer));
+    true
+}
+
+#[no_mangle]
+pub extern "C" fn hub_slow_run(
+    timed: bool,
+    table: &[u8],
+    procedures: usize,
+    program: &[u8],
+    words: &[u8],
+    budget: u32,
+    values: &mut [u8],
+    work: &mut [u8],
+    reply: &mut [u8],
+) -> bool
+    ensures done { λ r. ⌜ r ≡ roomFor (now (reply .entry)) ⌝ }
+    ensures values { λ _. ⌜ now (values .exit) ≡ ifRoom (now (reply .entry)) (slowRunCall (load (beside (givenIf timed (now (table .entry))) procedures 1)) (now (program .entry)) (now (words .entry)) budget (now (values .entry)) (now (work .entry)) .values) (now (values .entry)) ⌝ }
+    ensures work { λ _. ⌜ now (work .exit) ≡ ifRoom (now (reply .entry)) (slowRunCall (load (beside (givenIf timed (now (table .entry))) procedures 1)) (now (program .entry)) (now (words .entry)) budget (now (values .entry)) (now (work .entry)) .work) (now (work .entry)) ⌝ }
+    ensures reply { λ _. ⌜ now (reply .exit) ≡ ifRoom (now (reply .entry)) (replied (answerReply (slowRunCall (load (beside (givenIf timed (now (table .entry))) procedures 1)) (now (program .entry)) (now (words .entry)) budget (now (values .entry)) (now (work .entry)) .answer)) (now (reply .entry))) (now (reply .entry)) ⌝ }
+{
+    if reply.len() < reply::LENGTH {
+        return false;
+    }
+    let options = hub::load_if(timed, table, procedures, 1);
+    let answer = hub::slow_run(options, program, words, budget, values, work);
     reply::put(reply, reply::of_answer(answer));
     true
 }

@@ -5,6 +5,7 @@ ghost use mathlib.Core.Path.{_≡_};
 ghost use Rattle.model.specs.TimeTables.{givenIf, beside, load, defaults};
 ghost use Rattle.model.specs.Calls.{checkCall, compileCall, writeCall, readCall, beginCall, continueCall, startCall, runNetlistCall, runProgramCall, referenceCall};
 ghost use Rattle.model.specs.FunctionalCalls.{checkFunctionalCall, compileFunctionalCall, referenceFunctionalCall, beginFunctionalCall, continueFunctionalCall, startFunctionalCall, runFunctionalCall, runFunctionalProgramCall};
+ghost use Rattle.model.specs.Gates.{slowRunCall};
 ghost use Rattle.model.specs.TextCalls.{readTextCall, compileTextCall, runTextCall};
 
 pub mod full; // the full run of a program
@@ -106,6 +107,23 @@ pub fn run_program(
     ensures state { λ _. ⌜ now (state .exit) ≡ runProgramCall options (now (program .entry)) (now (words .entry)) budget (now (netlist .entry)) (now (state .entry)) .state ⌝ }
 {
     full::run(options, program, words, budget, netlist, state)
+}
+
+// A second full run, in which operators take their time, with pulses of one instant: every cell's value at its last instant into a lent buffer; the other is
+// to work in.
+pub fn slow_run(
+    options: Options,
+    program: &[u8],
+    words: &[u8],
+    budget: u32,
+    values: &mut [u8],
+    work: &mut [u8],
+) -> Answer
+    ensures answer { λ r. ⌜ r ≡ slowRunCall options (now (program .entry)) (now (words .entry)) budget (now (values .entry)) (now (work .entry)) .answer ⌝ }
+    ensures values { λ _. ⌜ now (values .exit) ≡ slowRunCall options (now (program .entry)) (now (words .entry)) budget (now (values .entry)) (now (work .entry)) .values ⌝ }
+    ensures work { λ _. ⌜ now (work .exit) ≡ slowRunCall options (now (program .entry)) (now (words .entry)) budget (now (values .entry)) (now (work .entry)) .work ⌝ }
+{
+    slow::calls::slow_run(options, program, words, budget, values, work)
 }
 
 // The program by its own rules, without a circuit.

@@ -16,6 +16,7 @@ pub mod Text
 pub mod Reader
 pub mod Calls
 pub mod FunctionalCalls
+pub mod Gates
 pub mod TextCalls
 pub mod CellSlices
 pub mod Hubrun
@@ -28,6 +29,7 @@ pub mod FunctionalPromises
 pub mod FilePromises
 pub mod TablePromises
 pub mod ProgramPromises
+pub mod GatePromises
 pub mod CellPromises
 pub mod TextPromises
 pub mod Netlists

@@ -21,6 +21,7 @@ use Rattle.model.specs.NetlistFile.{fileChecks, fileCheck, netOf, finish
 use Rattle.model.specs.State.{Course, nowAt, stepState, crowded, crowding, continued}
 use Rattle.model.specs.TimeTables.{tableChecks, given, Given, beside, load, givenChecks, givenCheck}
 use Rattle.model.specs.Calls.{verdict, writtenVerdict, checkCall, compileChecks, compileCall, writeChecks, writeCall, readChecks, readCall, beginChecks, beginCall, continueChecks, continueCall, startChecks, startCall, runNetlistChecks, runNetlistCall, runProgramChecks, runProgramCall, referenceChecks, referenceCall}
+use Rattle.model.specs.Gates.{slowRunChecks, slowRunCall}
 use Rattle.model.specs.CellSlices.{hasCells, renumberCall, checkCellsChecks, checkCellsCall, writeCellsChecks, writeCellsCall, readCellsChecks, readCellsCall}
 
 -- "the answer is the result or the first refusal in the published order, given only when its condition holds, and a refusal leaves all lent
@@ -156,6 +157,12 @@ pub record Demand1 : Type 0 where
       let c = verdict (r .answer .outcome) in
       Refuses (givenNumbers ∷ programNumbers ∷ just 13 ∷ just 14 ∷ just 14 ∷ just 14 ∷ []) (runProgramChecks (load G) program words n forFile lent) c
       × Leaves c forFile (r .netlist) × Leaves c lent (r .state)
+  -- no pulse length is given there: of G it is not looked at
+  pub slowRuns : (G : Given) (program words : List ℕ) (n : ℕ) (forValues forWork : List ℕ) →
+      let r = slowRunCall (load G) program words n forValues forWork in
+      let c = verdict (r .answer .outcome) in
+      Refuses (tableNumbers ∷ programNumbers ∷ just 13 ∷ just 14 ∷ just 14 ∷ just 14 ∷ []) (slowRunChecks (load G) program words n forValues forWork) c
+      × Leaves c forValues (r .values) × Leaves c forWork (r .work)
   pub references : (G : Given) (program words : List ℕ) (n : ℕ)
       → Refuses (givenNumbers ∷ programNumbers ∷ just 13 ∷ just 14 ∷ []) (referenceChecks (load G) program words n)
       (verdict (referenceCall (load G) program words n .outcome))

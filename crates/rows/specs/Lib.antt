@@ -10,4 +10,5 @@ pub mod ProcedureRows
 pub mod PulseRows
 pub mod PulsedPrograms
 pub mod FunctionalRows
+pub mod GateRows
 pub mod Texts

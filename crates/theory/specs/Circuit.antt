@@ -1,4 +1,3 @@
 -- A netlist's equations have one solution, and its values are words.
-pub mod Unique
 pub mod Exists
 pub mod Bounds

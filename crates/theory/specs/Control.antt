@@ -10,6 +10,7 @@ pub mod Wiring
 pub mod World
 pub mod Memories
 pub mod History
+pub mod Gates
 pub mod Calm
 pub mod Rest
 pub mod Surge

@@ -6,4 +6,5 @@ pub mod Roots
 pub mod Whole
 pub mod Flying
 pub mod Given
+pub mod Uses
 pub mod Cellwise

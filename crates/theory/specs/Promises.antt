@@ -10,5 +10,7 @@ pub mod FullRuns
 pub mod Demands
 pub mod Formats
 pub mod Reference
+pub mod Slowly
+pub mod Gates
 pub mod Tables
 pub mod Cases

@@ -47,6 +47,7 @@ pub const BOTH: Peer = both! {
         continue_by(format, file, n, state);
         start(format, file, state);
         run_program(given, program, words, budget, file, state);
+        slow_run(table, procedures, program, words, budget, values, work);
         run_text(given, text, words, budget, file, state);
         run_netlist(file, words, budget, state);
         reference_run(given, program, words, budget);

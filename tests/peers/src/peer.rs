@@ -1,6 +1,6 @@
 //! The boundary behind which an implementation stands.
 //!
-//! A peer is nineteen plain functions on numbers and slices of bytes or cells, and
+//! A peer is twenty plain functions on numbers and slices of bytes or cells, and
 //! eight more on functional circuits. Nothing is lent to them: each is given what a lent buffer holds at entry and
 //! gives back what it holds afterwards, so two peers are compared by comparing
 //! replies.
@@ -86,6 +86,8 @@ pub struct Peer {
     pub start: Start,
     /// given, program, start words, budget; lent: netlist file, state
     pub run_program: fn(Given, Bytes, Bytes, u32, Bytes, Bytes) -> Reply<Answer>,
+    /// table, number of procedures, program, start words, budget; lent: values, work
+    pub slow_run: fn(Table, usize, Bytes, Bytes, u32, Bytes, Bytes) -> Reply<Answer>,
     /// given, text, start words, budget; lent: netlist file, state
     pub run_text: fn(Given, Bytes, Bytes, u32, Bytes, Bytes) -> Reply<Answer>,
     pub run_netlist: RunNetlist,
@@ -206,6 +208,11 @@ macro_rules! implementation {
             run_program: |given, program, words, budget, file, state| {
                 Reply::lending_two(file, state, |file, state| {
                     calls::run_program(given, program, words, budget, file, state)
+                })
+            },
+            slow_run: |table, procedures, program, words, budget, values, work| {
+                Reply::lending_two(values, work, |values, work| {
+                    calls::slow_run(table, procedures, program, words, budget, values, work)
                 })
             },
             run_text: |given, text, words, budget, file, state| {

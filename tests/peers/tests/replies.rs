@@ -30,6 +30,7 @@ struct Memory {
     lent_bytes: Vec<u8>,
     lent_cells: Vec<Cell>,
     lent_state: Vec<u8>,
+    lent_work: Vec<u8>,
     plain: States,
     functional: States,
 }
@@ -86,6 +87,7 @@ impl Memory {
             lent_bytes: vec![LENT_BYTE; 6 * (count + 1)],
             lent_cells: vec![lent_cell; count + 2],
             lent_state: vec![LENT_BYTE; 3_000],
+            lent_work: vec![LENT_BYTE; 512 * (2 * count + 1)],
             plain: States::of(Circuit::Imperative, compiled.lent[0].clone()),
             functional: States::of(Circuit::Functional, functional.lent[0].clone()),
         }
@@ -136,6 +138,8 @@ const WRITING: &[(&str, Call)] = calls! { m:
     hub_start_compact(&m.plain.netlist, &mut m.plain.idle_compact);
     hub_run_program(None, 0, 1, &m.program, &m.words, 10, &mut m.lent_file, &mut m.lent_state);
     hub_run_program(Some(&m.table), 0, 8, &m.program, &m.words, 10, &mut m.lent_file, &mut m.lent_state);
+    hub_slow_run(None, 0, &m.program, &m.words, 10, &mut m.lent_file, &mut m.lent_work);
+    hub_slow_run(Some(&m.table), 0, &m.program, &m.words, 10, &mut m.lent_file, &mut m.lent_work);
     hub_run_text(None, 0, 1, TEXT, &m.words, 10, &mut m.lent_file, &mut m.lent_state);
     hub_run_text(Some(&m.table), 0, 8, TEXT, &m.words, 10, &mut m.lent_file, &mut m.lent_state);
     hub_run_netlist(&m.plain.netlist, &m.words, 10, &mut m.plain.lent_state);

@@ -2,6 +2,7 @@
 //! lent byte. And each by itself: a refused call changes no lent byte, unless it
 //! is refusal 26.
 
+use crate::against_slow;
 use crate::against_text;
 use crate::damage;
 use crate::formats::instant_of;
@@ -32,6 +33,7 @@ impl Pair<'_> {
         self.same("run_program", &[&file, &state], |peer| {
             (peer.run_program)(given, program, &job.words, job.budget, &file, &state)
         })?;
+        self.same_slow_run(job)?;
         self.same("reference_run", &[], |peer| {
             (peer.reference_run)(given, program, &job.words, job.budget)
         })?;
@@ -46,6 +48,25 @@ impl Pair<'_> {
         };
         let file = &compiled.lent[0][..file_length(shape.cells.into())];
         self.compare_netlist(file, &job.words, &job.calls, job.damage)
+    }
+
+    /// Every value, operators' too; the room is now and then too little.
+    pub fn same_slow_run(&self, job: &Job) -> Result<(), String> {
+        let (table, program, words) = (job.lent_table(), &job.program, &job.words);
+        let (values, work) = (lent(job.file_length), lent(16 * job.state_length));
+        let budget = against_slow::budget(job);
+        self.same("slow_run", &[&values, &work], |peer| {
+            (peer.slow_run)(
+                table,
+                job.procedures,
+                program,
+                words,
+                budget,
+                &values,
+                &work,
+            )
+        })?;
+        Ok(())
     }
 
     /// All calls on a good netlist file, and on damaged ones.

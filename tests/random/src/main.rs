@@ -12,6 +12,7 @@ mod against_full;
 mod against_functional;
 mod against_peer;
 mod against_rules;
+mod against_slow;
 mod against_tables;
 mod against_text;
 mod damage;

@@ -9,7 +9,7 @@ use crate::list::Seen;
 use crate::tally::Tally;
 use crate::xorshift::Random;
 use crate::{against_equations, against_full, against_functional, against_rules};
-use crate::{against_tables, against_text};
+use crate::{against_slow, against_tables, against_text};
 use crate::{generate, listing, minimise, netlists};
 use peers::{Peer, PROVED, SECOND};
 use second::netfile;
@@ -41,7 +41,8 @@ pub fn run(seed: u64, count: u64) -> Result<Tally, String> {
 }
 
 /// A program: the peers with each other, and each by itself, calls with the
-/// table, texts with the program, compact states with full ones and the circuit
+/// table, texts with the program, slow runs with full ones, compact states with full
+/// ones and the circuit
 /// with the rules, for the functional one with each compiler's netlist on the other's
 /// simulator. Tells how many calls there were on compact states.
 fn compare(job: &Job) -> Result<(Seen, Seen, u64), String> {
@@ -54,6 +55,8 @@ fn compare(job: &Job) -> Result<(Seen, Seen, u64), String> {
     against_tables::compare(&RIGHT, job)?;
     against_text::compare(&LEFT, job)?;
     against_text::compare(&RIGHT, job)?;
+    against_slow::compare(&LEFT, job)?;
+    against_slow::compare(&RIGHT, job)?;
     let mut compact = 0;
     for circuit in circuits(job) {
         against_full::compare(&LEFT, *circuit, job)?;

@@ -16,7 +16,7 @@ use crate::rules::Moment;
 use crate::runs::{self, calls_on_runs, put, shape};
 use crate::table::{self, Times};
 use crate::text;
-use values::{Answer, Cell, Circuit, End, Format, Given, Refusal, Shape};
+use values::{Answer, Cell, Circuit, End, Format, Given, Refusal, Shape, Table};
 
 const IMPERATIVE: Circuit = Circuit::Imperative;
 
@@ -79,6 +79,23 @@ pub fn run_program(
 ) -> Result<Answer, Refusal> {
     let program = checked(given, program)?;
     runs::run_program(IMPERATIVE, &program, words, budget, file, state)
+}
+
+/// A full run of a program in which operators take their time: refusals 19 to 21, 1 to 8,
+/// 22, 24 and 25, 13, 14. No pulse length is given: it is 1. Every cell's value at the last
+/// instant stands in one lent buffer; the other, to work in, is left 0.
+pub fn slow_run(
+    table: Table,
+    procedures: usize,
+    program: &[u8],
+    words: &[u8],
+    budget: u32,
+    values: &mut [u8],
+    work: &mut [u8],
+) -> Result<Answer, Refusal> {
+    let times = table::times(table)?;
+    let program = check::check(program, procedures, 1, &times)?;
+    runs::slow_run(&program, &times, words, budget, values, work)
 }
 
 /// A full run of a text: refusals 17, 18, and those of its program's run.

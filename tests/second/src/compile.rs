@@ -20,6 +20,11 @@ type Contributions = [Vec<Wire>; TARGETS];
 
 /// The netlist of a checked program.
 pub fn compile(program: &Program) -> Netlist {
+    compile_to_the_ors(program).0
+}
+
+/// The same, and where the walk ends: from there on stand the ors of data and addresses.
+pub fn compile_to_the_ors(program: &Program) -> (Netlist, usize) {
     let pulse = program.pulse;
     let mut wiring = Wiring::new();
     let first_delay = wiring.next();
@@ -45,12 +50,14 @@ pub fn compile(program: &Program) -> Netlist {
         walk.body(body, callers);
     }
     let finish = walk.statement(&program.main, START_WIRE);
+    let walk_end = walk.wiring.cells.len();
     walk.join_gates();
-    Netlist {
+    let netlist = Netlist {
         pulse,
         cells: walk.wiring.cells,
         finish,
-    }
+    };
+    (netlist, walk_end)
 }
 
 /// Appends a memory, or the two cells of an array; data and address come later.

@@ -32,6 +32,7 @@ mod reading;
 pub mod rules;
 mod runs;
 pub mod simulate;
+mod slow;
 pub mod state;
 pub mod table;
 pub mod text;

@@ -12,7 +12,9 @@ use crate::netfile;
 use crate::program::Program;
 use crate::rules::{self, Moment};
 use crate::simulate::{Crowded, Simulator};
+use crate::slow;
 use crate::state;
+use crate::table::Times;
 use values::{Answer, Circuit, Format, Refusal, Shape};
 
 /// The last instant that a run may come to.
@@ -153,6 +155,33 @@ pub fn run_program(
     let state = state_room(Format::Full, state, &netlist)?;
     put(&netfile::write(&netlist), file)?;
     Ok(full_run(circuit, &netlist, contents, budget, state))
+}
+
+/// The bytes that a slow run of so many cells is lent to work in.
+fn slow_length(cells: usize) -> usize {
+    512 * (2 * cells + 1)
+}
+
+/// A slow run of a checked program: refusals 13, 14. The histories are kept elsewhere, so
+/// that of the buffer to work in there is only its end to make.
+pub fn slow_run(
+    program: &Program,
+    times: &Times,
+    words: &[u8],
+    budget: u32,
+    values: &mut [u8],
+    work: &mut [u8],
+) -> Result<Answer, Refusal> {
+    check_budget(budget)?;
+    let contents = start_contents(words)?;
+    let cells = compile::compile(program).cells.len();
+    room(values, 2 * cells)?;
+    let work = room(work, slow_length(cells))?;
+    let (answer, shown) = slow::run(program, times, contents, budget);
+    let bytes: Vec<u8> = shown.into_iter().flat_map(u16::to_le_bytes).collect();
+    put(&bytes, values)?;
+    work.fill(0);
+    Ok(answer)
 }
 
 /// Compiles a checked program to a netlist file: refusal 14.

@@ -1,6 +1,6 @@
 -- The netlist of an accepted program keeps every rule of a netlist: its file is never refused.
 use mathlib.Core.Path.{_≡_, refl, subst}
-use borrow.Author.Tests.{eq-eqb, ne-eqb, le-leb, lt-ltb, le-ltb}
+use borrow.Author.Tests.{eq-eqb, ne-eqb, eqb-true, le-leb, lt-ltb, le-ltb}
 use mathlib.Core.Bool.{Bool, true, false}
 use mathlib.Core.List.{List, [], _∷_, _++_}
 use Prim.Native.Nat.{ℕ, zero, suc, _+_, _<_, _≤_, suc-le-suc}
@@ -29,7 +29,7 @@ use Rattle.model.specs.NetlistFile.{cellLimit, ofArray, stands, placed, cellFau
 use Rattle.laws.specs.Refusals.Laws.{by-le, faultless}
 use Rattle.laws.specs.Program.Trees.{by-pick}
 
-abbrev EveryWire : (ℕ → Type 0) → List Source → Type 0
+abbrev pub EveryWire : (ℕ → Type 0) → List Source → Type 0
 EveryWire Q [] = Unit {0}
 EveryWire Q (w ∷ ws) = Q (w .1) × EveryWire Q ws
 
@@ -37,11 +37,20 @@ wire-append : (Q : ℕ → Type 0) (us vs : List Source) → EveryWire Q us → 
 wire-append Q [] vs h h′ = h′
 wire-append Q (u ∷ us) vs h h′ = (h .0, wire-append Q us vs (h .1) h′)
 
+pub wires-all : (Q R : ℕ → Type 0) → ((k : ℕ) → Q k → R k) → (ws : List Source) → EveryWire Q ws → EveryWire R ws
+wires-all Q R f [] h = tt
+wires-all Q R f (w ∷ ws) h = (f (w .1) (h .0), wires-all Q R f ws (h .1))
+
 both-appended : (Q : ℕ → Type 0) (us vs us′ vs′ : List Source) → EveryWire Q us × EveryWire Q us′ → EveryWire Q vs × EveryWire Q vs′
     → EveryWire Q (us ++ vs) × EveryWire Q (us′ ++ vs′)
 both-appended Q us vs us′ vs′ h h′ = (wire-append Q us vs (h .0) (h′ .0), wire-append Q us′ vs′ (h .1) (h′ .1))
 
-wires-every : (Q : ℕ → Type 0) (y : ℕ) (ws : List Source) → EveryWire Q ws → Every Q (wiresOf y ws)
+pub every-at : (Q : ℕ → Type 0) (ws : List ℕ) → Every Q ws → (i : ℕ) → i < length ws → Q (getD ws i 0)
+every-at Q [] h i l = absurd (not-suc-le-zero l)
+every-at Q (w ∷ ws) h zero l = h .0
+every-at Q (w ∷ ws) h (suc i) l = every-at Q ws (h .1) i (le-of-suc-le-suc l)
+
+pub wires-every : (Q : ℕ → Type 0) (y : ℕ) (ws : List Source) → EveryWire Q ws → Every Q (wiresOf y ws)
 unfolding wiresOf
 wires-every Q y [] h = tt
 wires-every Q y (w ∷ ws) h = go (eqb (w .0) y) (wires-every Q y ws (h .1))
@@ -80,70 +89,72 @@ module _ (K : ℕ → ℕ) where
   clocks-ok w exit s d c lim l h = (tt, tt)
   clocks-ok w (call δ p) s d c lim l h = (tt, ((omega arith, rw (h .0)), tt))
 
-  datas-ok : (M : Wires) (F : ℕ → ℕ) (P : Code) (s d c lim : ℕ) → c + walkCount P ≤ lim → All (HasKind K) c (walk M F P s d c)
-      → EveryWire (In word K lim) (dataSources P c) × EveryWire (In word K lim) (addressSources P c)
-  unfolding dataSources addressSources walk walkCount word ofArray
-  datas-ok M F ok s d c lim l h = (tt, tt)
-  datas-ok M F (tick δ) s d c lim l h = (tt, tt)
-  datas-ok M F (assign δ x e) s d c lim l h =
-      let r = split (HasKind K) c (exprCount e) (exprCells M e c) (cell 41 0 d (exprWire M e c) ∷ []) (e-len M e c) h in
-      (((omega arith, rw (r .1 .0)), tt), tt)
-  datas-ok M F (assignElem δ k i e) s d c lim l h =
-      let ce = c + exprCount i in
-      let o = cell 41 0 d (exprWire M e ce) in
-      let o′ = cell 41 0 d (exprWire M i c) in
-      let ri = split (HasKind K) c (exprCount i) (exprCells M i c) (exprCells M e ce ++ (o ∷ (o′ ∷ []))) (e-len M i c) h in
-      let re = split (HasKind K) ce (exprCount e) (exprCells M e ce) (o ∷ (o′ ∷ [])) (e-len M e ce) (ri .1) in
-      (((omega arith, rw (re .1 .0)), tt), ((omega arith, rw (re .1 .1 .0)), tt))
-  datas-ok M F (seq P Q) s d c lim l h =
-      let g = finishWire P s d c in
-      let r = split (HasKind K) c (walkCount P) (walk M F P s d c) (walk M F Q g (d + delayCount P) (c + walkCount P)) (w-len M F P s d c) h in
-      let iP = datas-ok M F P s d c lim (omega arith) (r .0) in
-      let iQ = datas-ok M F Q g (d + delayCount P) (c + walkCount P) lim (omega arith) (r .1) in
-      both-appended (In word K lim) (dataSources P c) (dataSources Q (c + walkCount P)) (addressSources P c) (addressSources Q (c + walkCount P)) iP iQ
-  datas-ok M F (par P Q) s d c lim l h =
-      let dQ = d + delayCount P in
-      let cQ = c + walkCount P in
-      let o = cell 38 0 (finishWire P s d c) (finishWire Q s dQ cQ) in
-      let r = split (HasKind K) c (walkCount P) (walk M F P s d c) (walk M F Q s dQ cQ ++ (o ∷ [])) (w-len M F P s d c) h in
-      let q = split (HasKind K) cQ (walkCount Q) (walk M F Q s dQ cQ) (o ∷ []) (w-len M F Q s dQ cQ) (r .1) in
-      let iP = datas-ok M F P s d c lim (omega arith) (r .0) in
-      let iQ = datas-ok M F Q s dQ cQ lim (omega arith) (q .0) in
-      both-appended (In word K lim) (dataSources P c) (dataSources Q cQ) (addressSources P c) (addressSources Q cQ) iP iQ
-  datas-ok M F (ite δ e P Q) s d c lim l h =
-      let p = c + exprCount e in
-      let dP = d + ifDelayCount δ in
-      let cP = p + 1 + 1 in
-      let dQ = dP + delayCount P in
-      let cQ = cP + walkCount P in
-      let o = cell 35 0 (finishWire P p dP cP) (finishWire Q (p + 1) dQ cQ) in
-      let o6 = cell 36 0 (ifPulse δ s d) (exprWire M e c) in
-      let o7 = cell 37 0 (ifPulse δ s d) (exprWire M e c) in
-      let re = split (HasKind K) c (exprCount e) (exprCells M e c) (o6 ∷ (o7 ∷ (walk M F P p dP cP ++ (walk M F Q (p + 1) dQ cQ ++ (o ∷ []))))) (e-len M e c) h in
-      let rP = split (HasKind K) cP (walkCount P) (walk M F P p dP cP) (walk M F Q (p + 1) dQ cQ ++ (o ∷ [])) (w-len M F P p dP cP) (re .1 .1 .1) in
-      let rQ = split (HasKind K) cQ (walkCount Q) (walk M F Q (p + 1) dQ cQ) (o ∷ []) (w-len M F Q (p + 1) dQ cQ) (rP .1) in
-      let iP = datas-ok M F P p dP cP lim (omega arith) (rP .0) in
-      let iQ = datas-ok M F Q (p + 1) dQ cQ lim (omega arith) (rQ .0) in
-      both-appended (In word K lim) (dataSources P cP) (dataSources Q cQ) (addressSources P cP) (addressSources Q cQ) iP iQ
-  datas-ok M F (while δ e P) s d c lim l h =
-      let p = c + exprCount e in
-      let cP = p + 1 + 1 in
-      let o = cell 35 0 s (finishWire P p (d + 1) cP) in
-      let o6 = cell 36 0 d (exprWire M e c) in
-      let o7 = cell 37 0 d (exprWire M e c) in
-      let re = split (HasKind K) c (exprCount e) (exprCells M e c) (o6 ∷ (o7 ∷ (walk M F P p (d + 1) cP ++ (o ∷ [])))) (e-len M e c) h in
-      let rP = split (HasKind K) cP (walkCount P) (walk M F P p (d + 1) cP) (o ∷ []) (w-len M F P p (d + 1) cP) (re .1 .1 .1) in
-      datas-ok M F P p (d + 1) cP lim (omega arith) (rP .0)
-  datas-ok M F (repeat δ e P) s d c lim l h =
-      let p = c + exprCount e in
-      let cP = p + 1 + 1 + 1 in
-      let re = split (HasKind K) c (exprCount e) (exprCells M e c) (cell 36 0 d (exprWire M e c) ∷ (cell 37 0 d (exprWire M e c) ∷ (cell 35 0 s (p + 1) ∷ walk M F P (p + 1 + 1) (d + 1) cP))) (e-len M e c) h in
-      datas-ok M F P (p + 1 + 1) (d + 1) cP lim (omega arith) (re .1 .1 .1 .1)
-  datas-ok M F (loop δ P) s d c lim l h =
-      let r = split (HasKind K) (c + 1) (walkCount P) (walk M F P c (d + 1) (c + 1)) (ors 35 (exitsAt P c) (loopExits P d c)) (w-len M F P c (d + 1) (c + 1)) (h .1) in
-      datas-ok M F P c (d + 1) (c + 1) lim (omega arith) (r .0)
-  datas-ok M F exit s d c lim l h = (tt, tt)
-  datas-ok M F (call δ p) s d c lim l h = (tt, tt)
+  -- the wires of assignments are kinds 41
+  module _ (sort : ℕ → Bool) (gated : sort 41 ≡ true) where
+    datas-ok : (M : Wires) (F : ℕ → ℕ) (P : Code) (s d c lim : ℕ) → c + walkCount P ≤ lim → All (HasKind K) c (walk M F P s d c)
+        → EveryWire (In sort K lim) (dataSources P c) × EveryWire (In sort K lim) (addressSources P c)
+    unfolding dataSources addressSources walk walkCount
+    datas-ok M F ok s d c lim l h = (tt, tt)
+    datas-ok M F (tick δ) s d c lim l h = (tt, tt)
+    datas-ok M F (assign δ x e) s d c lim l h =
+        let r = split (HasKind K) c (exprCount e) (exprCells M e c) (cell 41 0 d (exprWire M e c) ∷ []) (e-len M e c) h in
+        (((omega arith, rw (r .1 .0) gated), tt), tt)
+    datas-ok M F (assignElem δ k i e) s d c lim l h =
+        let ce = c + exprCount i in
+        let o = cell 41 0 d (exprWire M e ce) in
+        let o′ = cell 41 0 d (exprWire M i c) in
+        let ri = split (HasKind K) c (exprCount i) (exprCells M i c) (exprCells M e ce ++ (o ∷ (o′ ∷ []))) (e-len M i c) h in
+        let re = split (HasKind K) ce (exprCount e) (exprCells M e ce) (o ∷ (o′ ∷ [])) (e-len M e ce) (ri .1) in
+        (((omega arith, rw (re .1 .0) gated), tt), ((omega arith, rw (re .1 .1 .0) gated), tt))
+    datas-ok M F (seq P Q) s d c lim l h =
+        let g = finishWire P s d c in
+        let r = split (HasKind K) c (walkCount P) (walk M F P s d c) (walk M F Q g (d + delayCount P) (c + walkCount P)) (w-len M F P s d c) h in
+        let iP = datas-ok M F P s d c lim (omega arith) (r .0) in
+        let iQ = datas-ok M F Q g (d + delayCount P) (c + walkCount P) lim (omega arith) (r .1) in
+        both-appended (In sort K lim) (dataSources P c) (dataSources Q (c + walkCount P)) (addressSources P c) (addressSources Q (c + walkCount P)) iP iQ
+    datas-ok M F (par P Q) s d c lim l h =
+        let dQ = d + delayCount P in
+        let cQ = c + walkCount P in
+        let o = cell 38 0 (finishWire P s d c) (finishWire Q s dQ cQ) in
+        let r = split (HasKind K) c (walkCount P) (walk M F P s d c) (walk M F Q s dQ cQ ++ (o ∷ [])) (w-len M F P s d c) h in
+        let q = split (HasKind K) cQ (walkCount Q) (walk M F Q s dQ cQ) (o ∷ []) (w-len M F Q s dQ cQ) (r .1) in
+        let iP = datas-ok M F P s d c lim (omega arith) (r .0) in
+        let iQ = datas-ok M F Q s dQ cQ lim (omega arith) (q .0) in
+        both-appended (In sort K lim) (dataSources P c) (dataSources Q cQ) (addressSources P c) (addressSources Q cQ) iP iQ
+    datas-ok M F (ite δ e P Q) s d c lim l h =
+        let p = c + exprCount e in
+        let dP = d + ifDelayCount δ in
+        let cP = p + 1 + 1 in
+        let dQ = dP + delayCount P in
+        let cQ = cP + walkCount P in
+        let o = cell 35 0 (finishWire P p dP cP) (finishWire Q (p + 1) dQ cQ) in
+        let o6 = cell 36 0 (ifPulse δ s d) (exprWire M e c) in
+        let o7 = cell 37 0 (ifPulse δ s d) (exprWire M e c) in
+        let re = split (HasKind K) c (exprCount e) (exprCells M e c) (o6 ∷ (o7 ∷ (walk M F P p dP cP ++ (walk M F Q (p + 1) dQ cQ ++ (o ∷ []))))) (e-len M e c) h in
+        let rP = split (HasKind K) cP (walkCount P) (walk M F P p dP cP) (walk M F Q (p + 1) dQ cQ ++ (o ∷ [])) (w-len M F P p dP cP) (re .1 .1 .1) in
+        let rQ = split (HasKind K) cQ (walkCount Q) (walk M F Q (p + 1) dQ cQ) (o ∷ []) (w-len M F Q (p + 1) dQ cQ) (rP .1) in
+        let iP = datas-ok M F P p dP cP lim (omega arith) (rP .0) in
+        let iQ = datas-ok M F Q (p + 1) dQ cQ lim (omega arith) (rQ .0) in
+        both-appended (In sort K lim) (dataSources P cP) (dataSources Q cQ) (addressSources P cP) (addressSources Q cQ) iP iQ
+    datas-ok M F (while δ e P) s d c lim l h =
+        let p = c + exprCount e in
+        let cP = p + 1 + 1 in
+        let o = cell 35 0 s (finishWire P p (d + 1) cP) in
+        let o6 = cell 36 0 d (exprWire M e c) in
+        let o7 = cell 37 0 d (exprWire M e c) in
+        let re = split (HasKind K) c (exprCount e) (exprCells M e c) (o6 ∷ (o7 ∷ (walk M F P p (d + 1) cP ++ (o ∷ [])))) (e-len M e c) h in
+        let rP = split (HasKind K) cP (walkCount P) (walk M F P p (d + 1) cP) (o ∷ []) (w-len M F P p (d + 1) cP) (re .1 .1 .1) in
+        datas-ok M F P p (d + 1) cP lim (omega arith) (rP .0)
+    datas-ok M F (repeat δ e P) s d c lim l h =
+        let p = c + exprCount e in
+        let cP = p + 1 + 1 + 1 in
+        let re = split (HasKind K) c (exprCount e) (exprCells M e c) (cell 36 0 d (exprWire M e c) ∷ (cell 37 0 d (exprWire M e c) ∷ (cell 35 0 s (p + 1) ∷ walk M F P (p + 1 + 1) (d + 1) cP))) (e-len M e c) h in
+        datas-ok M F P (p + 1 + 1) (d + 1) cP lim (omega arith) (re .1 .1 .1 .1)
+    datas-ok M F (loop δ P) s d c lim l h =
+        let r = split (HasKind K) (c + 1) (walkCount P) (walk M F P c (d + 1) (c + 1)) (ors 35 (exitsAt P c) (loopExits P d c)) (w-len M F P c (d + 1) (c + 1)) (h .1) in
+        datas-ok M F P c (d + 1) (c + 1) lim (omega arith) (r .0)
+    datas-ok M F exit s d c lim l h = (tt, tt)
+    datas-ok M F (call δ p) s d c lim l h = (tt, tt)
 
   -- ors of a kind over wires of a sort, all of them below lim
   module _ (n kind : ℕ) (sort : ℕ → Bool) (this : sort kind ≡ true)
@@ -161,11 +172,6 @@ module _ (K : ℕ → ℕ) where
         let i = ors-ok K n kind sort this mk lim zip c (wiresOf x ws) l z (wires-every (In sort K lim) x ws e) (r .0) in
         let i′ = orsFrom-ok zip ws (c + k) (x + 1) j top (omega arith) (omega arith) z e (r .1) in
         (join (Ok K n) c k here rest (ors-len kind c (wiresOf x ws)) (i .0) (i′ .0), ((omega arith, i .1 .1), i′ .1))
-
-  every-at : (Q : ℕ → Type 0) (ws : List ℕ) → Every Q ws → (i : ℕ) → i < length ws → Q (getD ws i 0)
-  every-at Q [] h i l = absurd (not-suc-le-zero l)
-  every-at Q (w ∷ ws) h zero l = h .0
-  every-at Q (w ∷ ws) h (suc i) l = every-at Q ws (h .1) i (le-of-suc-le-suc l)
 
   -- memories and arrays, from wires that are good
   module _ (n lim : ℕ) (ks ds js : List ℕ) (clocks : (x : ℕ) → x < 20 → In control K lim (getD ks x 0))
@@ -209,12 +215,12 @@ module _ (K : ℕ → ℕ) where
       (rootSources callSources Ps (d + delayCount P)) (clocks-ok w P s d c₀ lim (omega arith) (q .0))
       (root-clocks-ok w z cs (r + 1) Ps (d + delayCount P) (pastRoot cs r P c) lim (omega arith) (q .1))
 
-  root-datas-ok : (M : Wires) (F : ℕ → ℕ) (z : ℕ) (cs : List Source) (r : ℕ) (Ps : List Code) (d c lim : ℕ) → c + rootWalkCount cs r Ps ≤ lim
-      → All (HasKind K) c (rootWalks M F z cs r Ps d c)
-      → EveryWire (In word K lim) (rootWalkSources dataSources cs r Ps c) × EveryWire (In word K lim) (rootWalkSources addressSources cs r Ps c)
+  root-datas-ok : (sort : ℕ → Bool) → sort 41 ≡ true → (M : Wires) (F : ℕ → ℕ) (z : ℕ) (cs : List Source) (r : ℕ) (Ps : List Code) (d c lim : ℕ)
+      → c + rootWalkCount cs r Ps ≤ lim → All (HasKind K) c (rootWalks M F z cs r Ps d c)
+      → EveryWire (In sort K lim) (rootWalkSources dataSources cs r Ps c) × EveryWire (In sort K lim) (rootWalkSources addressSources cs r Ps c)
   unfolding rootWalks rootWalkCount rootWalkSources
-  root-datas-ok M F z cs r [] d c lim l h = (tt, tt)
-  root-datas-ok M F z cs r (P ∷ Ps) d c lim l h =
+  root-datas-ok sort gated M F z cs r [] d c lim l h = (tt, tt)
+  root-datas-ok sort gated M F z cs r (P ∷ Ps) d c lim l h =
       let s = rootStart z cs r c in
       let c₀ = rootWalk cs r c in
       let d₁ = d + delayCount P in
@@ -222,9 +228,9 @@ module _ (K : ℕ → ℕ) where
       let rest = rootWalks M F z cs (r + 1) Ps d₁ c₁ in
       let o = split (HasKind K) c (orCount (wiresOf r cs)) (ors 35 c (wiresOf r cs)) (walk M F P s d c₀ ++ rest) (ors-len 35 c (wiresOf r cs)) h in
       let q = split (HasKind K) c₀ (walkCount P) (walk M F P s d c₀) rest (w-len M F P s d c₀) (o .1) in
-      both-appended (In word K lim) (dataSources P c₀) (rootWalkSources dataSources cs (r + 1) Ps c₁) (addressSources P c₀)
-      (rootWalkSources addressSources cs (r + 1) Ps c₁) (datas-ok M F P s d c₀ lim (omega arith) (q .0))
-      (root-datas-ok M F z cs (r + 1) Ps d₁ c₁ lim (omega arith) (q .1))
+      both-appended (In sort K lim) (dataSources P c₀) (rootWalkSources dataSources cs (r + 1) Ps c₁) (addressSources P c₀)
+      (rootWalkSources addressSources cs (r + 1) Ps c₁) (datas-ok sort gated M F P s d c₀ lim (omega arith) (q .0))
+      (root-datas-ok sort gated M F z cs (r + 1) Ps d₁ c₁ lim (omega arith) (q .1))
 
   -- F p is the finish of body p
   module _ (n : ℕ) (M : Wires) (top : ℕ) (words : Brings K top M) (arrays : Arrays K top M) (start : K 0 ≡ 32) (ground : K 1 ≡ 33)
@@ -307,6 +313,10 @@ module _ (S : Program) (pos : 1 ≤ S .pulse) (low : S .pulse ≤ 255) (w : Ever
   unfolding word ofArray shape cellTable
   words x l = rw (memory-wire (memoryAt S) x l) (omega arith, rw (mems-kind K (clockWires S) (dataWires S) 0 16 (memoryAt S) (has .at-mems) x l))
 
+  pub memory-kinds : (x : ℕ) → x < 16 → kinds (netlist S) (memoryAt S + x) ≡ 40
+  unfolding K
+  memory-kinds x l = mems-kind K (clockWires S) (dataWires S) 0 16 (memoryAt S) (has .at-mems) x l
+
   arrays : Arrays K (walkAt S) (memoryWires (memoryAt S))
   arrays k l =
       rw (array-wire (memoryAt S) k)
@@ -335,32 +345,41 @@ module _ (S : Program) (pos : 1 ≤ S .pulse) (low : S .pulse ≤ 255) (w : Ever
       orsFrom-ok K n 35 control refl (λ k a b i j. (refl, (refl, i, j))) (clockAt S) 1 (clocksOf S) (clockAt S) 0 20 (memoryAt S) (omega arith) (omega arith)
       (omega arith, rw (has .at-ground)) (wires .0) (has .at-clocks)
 
-  sources : EveryWire (In word K (dataAt S)) (dataOf S) × EveryWire (In word K (dataAt S)) (addressesOf S)
-  sources =
-      root-datas-ok K (memoryWires (memoryAt S)) (finishOfRoot S) (procedures S) (callsOf S) 0 (roots S) 3 (walkAt S) (dataAt S) (omega arith) (has .at-walk)
+  sources : (sort : ℕ → Bool) → sort 41 ≡ true → EveryWire (In sort K (dataAt S)) (dataOf S) × EveryWire (In sort K (dataAt S)) (addressesOf S)
+  sources sort gated =
+      root-datas-ok K sort gated (memoryWires (memoryAt S)) (finishOfRoot S) (procedures S) (callsOf S) 0 (roots S) 3 (walkAt S) (dataAt S) (omega arith)
+      (has .at-walk)
 
   dataParts : All (Ok K n) (dataAt S) (dataOrs S) × Every (In word K n) (dataWires S)
   unfolding word ofArray shape cellTable stands
   dataParts =
       orsFrom-ok K n 7 word refl (λ k a b i j. (refl, (refl, i, j))) (dataAt S) 2 (dataOf S) (dataAt S) 0 20 n (omega arith) (omega (arith, total))
-      (omega arith, rw (has .at-zero)) (sources .0) (has .at-datas)
+      (omega arith, rw (has .at-zero)) (sources word refl .0) (has .at-datas)
 
   addressParts : All (Ok K n) (addressAt S) (addressOrs S) × Every (In word K n) (addressWires S)
   unfolding word ofArray shape cellTable stands
   addressParts =
       orsFrom-ok K n 7 word refl (λ k a b i j. (refl, (refl, i, j))) (dataAt S) 2 (addressesOf S) (addressAt S) 16 4 n (omega arith) (omega (arith, total))
-      (omega arith, rw (has .at-zero)) (sources .1) (has .at-addresses)
+      (omega arith, rw (has .at-zero)) (sources word refl .1) (has .at-addresses)
 
   clock-in : (x : ℕ) → x < 20 → In control K (memoryAt S) (getD (clockWires S) x 0)
   clock-in x l =
-      every-at K (In control K (memoryAt S)) (clockWires S) (clockParts .1) x (rw (outs-len 1 (clocksOf S) (clockAt S) 0 20) l)
+      every-at (In control K (memoryAt S)) (clockWires S) (clockParts .1) x (rw (outs-len 1 (clocksOf S) (clockAt S) 0 20) l)
 
   data-in : (x : ℕ) → x < 20 → In word K n (getD (dataWires S) x 0)
-  data-in x l = every-at K (In word K n) (dataWires S) (dataParts .1) x (rw (outs-len 2 (dataOf S) (dataAt S) 0 20) l)
+  data-in x l = every-at (In word K n) (dataWires S) (dataParts .1) x (rw (outs-len 2 (dataOf S) (dataAt S) 0 20) l)
 
   address-in : (k : ℕ) → k < 4 → In word K n (getD (addressWires S) k 0)
   address-in k l =
-      every-at K (In word K n) (addressWires S) (addressParts .1) k (rw (outs-len 2 (addressesOf S) (addressAt S) 16 4) l)
+      every-at (In word K n) (addressWires S) (addressParts .1) k (rw (outs-len 2 (addressesOf S) (addressAt S) 16 4) l)
+
+  -- what data and address ors join are kinds 41
+  pub gated-sources : EveryWire (λ k. kinds (netlist S) k ≡ 41) (dataOf S) × EveryWire (λ k. kinds (netlist S) k ≡ 41) (addressesOf S)
+  unfolding K
+  gated-sources =
+      let r = sources (λ k. eqb k 41) refl in
+      let of : (k : ℕ) → In (λ k. eqb k 41) K (dataAt S) k → K k ≡ 41 = λ k i. eqb-true (K k) 41 (i .1) in
+      (wires-all _ _ of (dataOf S) (r .0), wires-all _ _ of (addressesOf S) (r .1))
 
   laid-ok : Laid (Ok K n) S
   unfolding shape cellTable stands

@@ -19,7 +19,7 @@ use Rattle.model.specs.Program.{Expr, Code, Stmt, ok, tick, assign, assignElem,
 use Rattle.model.specs.Procedures.{bodyAt, inline, inlined, reaches, reached}
 use Rattle.model.specs.ProgramChecks.{conflict, conflicts, shared, shares, nodeFault, programWith}
 use Rattle.model.specs.Calls.{checkCall}
-use Rattle.laws.specs.Program.Fit.{FormedExpr, Formed, Enough, Apart, Single, Distinct, Fit}
+use Rattle.laws.specs.Program.Fit.{FormedExpr, Formed, Enough, Covered, Apart, Single, Distinct, Fit}
 use Rattle.laws.specs.Program.Inlined.{everywhere-inline, inlined-all}
 use Rattle.laws.specs.Program.Trees.{root-has}
 use Rattle.laws.specs.Program.Grows.{known-kind, low-variable, low-array}
@@ -236,6 +236,44 @@ module _ (τ : ℕ → ℕ) (w : ℕ) (bodies : List Code) (I : ℕ → Stmt) (f
       (λ l h s c.
       rest-stmt (asExpr x) (asExpr y) (asStmt x) (asStmt y) (asStmt z) (formed-s x u) (formed-s y v) (rest-s x p) (rest-s y q) (rest-s z r) h s c)
 
+-- delays that cover the times of expressions
+module _ (τ : ℕ → ℕ) where
+  abbrev CoveredT : Tree → Type 0
+  CoveredT (expr e) = Unit {0}
+  CoveredT (stmt P) = Covered τ P
+
+  covered-s : (t : Tree) → CoveredT t → Covered τ (asStmt t)
+  unfolding asStmt
+  covered-s (expr e) h = tt
+  covered-s (stmt P) h = h
+
+  module _ (w : ℕ) (a : Node) where
+    abbrev Covers : Code → Type 0
+    Covers S = least τ w S ≤ a .delay → Covered τ S
+
+    covered-stmt : (e g : Expr) (O P Q : Code) → Covered τ O → Covered τ P → Covered τ Q → Covers (stmtOf a e g O P Q)
+    unfolding stmtOf least
+    covered-stmt e g O P Q o p q =
+        by-test Covers (eqb (a .kind) 16) _ _ (λ t h. tt)
+        (λ n. by-test Covers (eqb (a .kind) 17) _ _ (λ t h. tt)
+        (λ n. by-test Covers (eqb (a .kind) 18) _ _ (λ t h. omega arith)
+        (λ n. by-test Covers (eqb (a .kind) 19) _ _ (λ t h. (o, p))
+        (λ n. by-test Covers (eqb (a .kind) 20) _ _ (λ t h. (o, p))
+        (λ n. by-test Covers (eqb (a .kind) 21) _ _ (λ t h. (h, p, q))
+        (λ n. by-test Covers (eqb (a .kind) 22) _ _ (λ t h. (omega arith, p))
+        (λ n. by-test Covers (eqb (a .kind) 24) _ _ (λ t h. (omega arith, omega arith))
+        (λ n. by-test Covers (eqb (a .kind) 25) _ _ (λ t h. o)
+        (λ n. by-test Covers (eqb (a .kind) 26) _ _ (λ t h. tt)
+        (λ n. by-test Covers (eqb (a .kind) 27) _ _ (λ t h. tt)
+        (λ n h. (omega arith, p))))))))))))
+
+    covered-tree : (x y z : Tree) → CoveredT x → CoveredT y → CoveredT z → least τ w (asStmt (treeOf a x y z)) ≤ a .delay → CoveredT (treeOf a x y z)
+    unfolding treeOf asStmt
+    covered-tree x y z p q r =
+        by-test (λ (t : Tree). least τ w (asStmt t) ≤ a .delay → CoveredT t) (ltb (a .kind) 16) _ _
+        (λ l h. tt)
+        (λ l h. covered-stmt (asExpr x) (asExpr y) (asStmt x) (asStmt y) (asStmt z) (covered-s x p) (covered-s y q) (covered-s z r) h)
+
 -- Roots ----------------------------------------------------------------------------------------------------------------------------------------
 
 -- a root of a program is one of the trees
@@ -289,3 +327,14 @@ module _ (τ : ℕ → ℕ) (w k : ℕ) (s : List ℕ) (passed : Passed τ w k s
 
 pub program-fit : (options : Options) (s : List ℕ) → checkCall options s ≡ Accepted → (r : ℕ) → Fit (options .pulse) (programWith options s .bodies) (rootAt (programWith options s) r)
 program-fit options s e = root-fit (timeIn (options .times)) (options .pulse) (options .procedures) s (accepted options s e)
+
+pub program-covered : (options : Options) (s : List ℕ) → checkCall options s ≡ Accepted
+    → (r : ℕ) → Covered (timeIn (options .times)) (rootAt (programWith options s) r)
+unfolding stmtAt
+program-covered options s e r =
+    let τ = timeIn (options .times) in
+    let w = options .pulse in
+    let passed = accepted options s e in
+    subst (λ (P : Code). Covered τ P) (at-root τ w (options .procedures) s passed r)
+    (covered-s τ _
+    (root-has (CoveredT τ) tt s (λ i l x y z t u v o. covered-tree τ w (nodeAt s i) x y z u v o (rw t at (passed .slowless i l))) r))

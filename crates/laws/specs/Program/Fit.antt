@@ -5,7 +5,7 @@ use mathlib.Core.Bool.{Bool, true, false, _||_}
 use mathlib.Core.List.{List, [], _∷_}
 use Prim.Native.Nat.{ℕ, _+_, _<_, _≤_}
 use lib.ListN.{length}
-use Rattle.model.specs.Program.{Expr, const, var, compl, op, elem, Statement, Code, Stmt, ok, tick, assign, assignElem, seq, par, ite, while, repeat, loop, exit, call, gap, writes, touches}
+use Rattle.model.specs.Program.{Expr, const, var, compl, op, elem, Statement, Code, Stmt, ok, tick, assign, assignElem, seq, par, ite, while, repeat, loop, exit, call, time, gap, writes, touches}
 use Rattle.model.specs.Procedures.{inline, inlined, reaches, reached}
 
 -- what is asked of the delays, variables, arrays, expressions and called procedures in a statement, and of the sides of a parallel; loopDelay is
@@ -150,6 +150,21 @@ Short P = Everywhere (delaying (λ d. d ≤ 255) (λ d. d ≤ 255) (λ d. d ≤ 
 -- delays of 1 to 255, or 0 at an if
 abbrev pub Low : {C : Type 0} → Statement C → Type 0
 Low P = Everywhere (delaying (λ d. (1 ≤ d) × (d ≤ 255)) (λ d. d ≤ 255) (λ d. (1 ≤ d) × (d ≤ 255))) P
+
+-- "A node's delay d is at least its expression's time", "An element's delay covers both children's times": with operator times τ
+abbrev pub Covered : (ℕ → ℕ) → Code → Type 0
+Covered τ ok = Unit {0}
+Covered τ (tick d) = Unit {0}
+Covered τ (assign d x e) = time τ e ≤ d
+Covered τ (assignElem d k i e) = (time τ i ≤ d) × (time τ e ≤ d)
+Covered τ (seq P Q) = Covered τ P × Covered τ Q
+Covered τ (par P Q) = Covered τ P × Covered τ Q
+Covered τ (ite d e P Q) = (time τ e ≤ d) × Covered τ P × Covered τ Q
+Covered τ (while d e P) = (time τ e ≤ d) × Covered τ P
+Covered τ (repeat d e P) = (time τ e ≤ d) × Covered τ P
+Covered τ (loop d P) = Covered τ P
+Covered τ exit = Unit {0}
+Covered τ (call d p) = Unit {0}
 
 -- what P writes, Q does not touch
 unfoldable pub Apart : Stmt → Stmt → Type 0

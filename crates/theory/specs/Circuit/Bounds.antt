@@ -19,7 +19,7 @@ use Rattle.model.specs.Word.{pick, bit, operate, index, get16, Bytes}
 use Rattle.model.specs.Circuit.{falls, cellAt, arrayAt, Sig, Values, level, element, memory, latch, equation, startWord, Obeys, Shape, cellTable, shape, kConstant, kComplement, kOperator, kStart, kGround, kDelay, kOr, kWhenTrue, kWhenFalse, kMerge, kReturn, kMemory, kGated, kArray, kAddress, kRead, kLatch, kUnknown}
 use Rattle.model.specs.NetlistFile.{cellFrom, cellsAt, inFile, cellsOf, countOf, finishOf, netCheck, fileCheck, netOf, pulseOf}
 use Rattle.laws.specs.Circuit.Ordered.{Looks, kinds}
-use Rattle.theory.specs.Circuit.Unique.{Feeds, feeds}
+use Rattle.laws.specs.Circuit.Unique.{Feeds, feeds}
 use Rattle.laws.specs.NetlistFile.Passed.{net-ordered, file-passed}
 use Rattle.laws.specs.Circuit.Shapes.{bit-le}
 

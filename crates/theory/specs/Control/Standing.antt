@@ -137,18 +137,22 @@ module _ (S : Program) (A : Admitted S) (G : Signals S) (s f : Sig) (g : Gives) 
           words = λ x i. T .words x;
         }
 
-    -- no line has held two pulses, in the main statement's circuit and in the bodies'
-    pub stands-lines : Lined W (S .main) s f g circuit (suc b)
-        × ((q : ℕ) → q < length (S .bodies) → Lined W (bodyAt (S .bodies) q) (G .all .calls q) (G .ret q) (G .each q) (G .built q) (suc b))
+    -- every word that was used had been held since its pulse entered the delay, and no line has held two pulses, in the main statement's circuit and in
+    -- the bodies'
+    pub stands-sofar : Sofar W (S .main) s f g circuit (suc b) × ((q : ℕ) → q < length (S .bodies) → BodySofar W q (suc b))
     unfolding u
-    stands-lines =
-        let past : Sofar W (S .main) s f g circuit (suc b) × ((q : ℕ) → q < length (S .bodies) → BodySofar W q (suc b)) =
+    stands-sofar =
         rw now at
         (sofar-at W (S .main) paced apart enclosed (lone-main S A) U σ s f g circuit a e ready begins (follows a e) (λ t l h. silent t) u
-        (omega (arith, now))) in (
-          sofar-lines W (S .main) s f g circuit (suc b) (past .0),
-          λ q l. sofar-lines W (bodyAt (S .bodies) q) (G .all .calls q) (G .ret q) (G .each q) (G .built q) (suc b) (past .1 q l),
-        )
+        (omega (arith, now)))
+
+    -- that no line has, alone
+    pub stands-lines : Lined W (S .main) s f g circuit (suc b)
+        × ((q : ℕ) → q < length (S .bodies) → Lined W (bodyAt (S .bodies) q) (G .all .calls q) (G .ret q) (G .each q) (G .built q) (suc b))
+    stands-lines = (
+      sofar-lines W (S .main) s f g circuit (suc b) (stands-sofar .0),
+      λ q l. sofar-lines W (bodyAt (S .bodies) q) (G .all .calls q) (G .ret q) (G .each q) (G .built q) (suc b) (stands-sofar .1 q l),
+    )
 
     pub stands-finish : f b ≡ due (imperative (S .pulse)) (S .pulse) (meaning S) σ (b - a)
     unfolding u due
@@ -163,11 +167,8 @@ module _ (S : Program) (A : Admitted S) (G : Signals S) (s f : Sig) (g : Gives) 
     unfolding u
     stands-alive p r =
         let l : a + u < e = omega (arith, now) in
-        let past : Sofar W (S .main) s f g circuit (suc b) =
-        rw now at
-        (sofar-at W (S .main) paced apart enclosed (lone-main S A) U σ s f g circuit a e ready begins (follows a e) (λ t l h. silent t) u l .0) in
         alive-at W (S .main) paced apart enclosed (lone-main S A) U σ s f g circuit a e ready begins (follows a e) (λ t l h. silent t) u l
-        (same σ u ∙ p) (rw now (rests-calm W (S .main) s f g circuit (suc b) r past))
+        (same σ u ∙ p) (rw now (rests-calm W (S .main) s f g circuit (suc b) r (stands-sofar .0)))
 
     -- from the end on
     module _ (t : ℕ) (σ′ : Store) (p : run (imperative (S .pulse)) t (meaning S) σ ≡ ended t σ′) (past : a + t ≤ b) where

@@ -27,9 +27,10 @@ use Rattle.theory.specs.Control.Signal.{Clear, delayed-at, delayed-off}
 use Rattle.theory.specs.Control.Merge.{Empty}
 use Rattle.theory.specs.Control.Returns.{NoCall, call-is}
 use Rattle.theory.specs.Control.Pulses.{Pulse}
-use Rattle.theory.specs.Control.Calm.{Resting}
+use Rattle.theory.specs.Control.Calm.{Resting, Sofar}
+use Rattle.theory.specs.Control.Bodies.{BodySofar}
 use Rattle.theory.specs.Control.History.{Spaced}
-use Rattle.theory.specs.Control.Standing.{Signals, world, Standing, stands-first, stands-lines, stands-finish, stands-alive, stands-words, stands-rest, stands-again}
+use Rattle.theory.specs.Control.Standing.{Signals, world, Standing, stands-first, stands-sofar, stands-lines, stands-finish, stands-alive, stands-words, stands-rest, stands-again}
 use Rattle.theory.specs.Numbering.Whole.{showing, shows, shows-element, startOf, start-main, start-is, finishWireOf, finish-main, main-is, begin-is, signals}
 use Rattle.theory.specs.Numbering.Given.{g, follows, silent}
 use Rattle.theory.specs.Numbering.Flying.{OfCell}
@@ -188,6 +189,13 @@ module _ (S : Program) (A : Admitted S) (starts : Sig) (σ₀ : Store) (W : Valu
     finish-due =
         finish-at t
         ∙ stands-finish S A G s f (g S A starts σ₀ W obeys) (main-is S A starts σ₀ W obeys) (follows S A starts σ₀ W obeys) (silent S A starts σ₀ W obeys)
+        σ a t (T .stands) since quiet
+
+    -- every word that was used had been held since its pulse entered the delay
+    pub words-held : Sofar (world S A G) (S .main) s f (g S A starts σ₀ W obeys) (main-is S A starts σ₀ W obeys) (suc t)
+        × ((q : ℕ) → q < last → BodySofar (world S A G) q (suc t))
+    words-held =
+        stands-sofar S A G s f (g S A starts σ₀ W obeys) (main-is S A starts σ₀ W obeys) (follows S A starts σ₀ W obeys) (silent S A starts σ₀ W obeys)
         σ a t (T .stands) since quiet
 
     -- no pulse has entered a line whose pulse hadn't come out

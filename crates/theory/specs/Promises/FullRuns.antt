@@ -14,20 +14,23 @@ use Rattle.model.specs.declared.Format.the-variants.{Full}
 use Rattle.model.specs.declared.Options.{Options}
 use Rattle.model.specs.declared.Checked.{Checked}
 use Rattle.model.specs.declared.Checked.the-variants.{Accepted}
-use Rattle.model.specs.declared.Outcome.the-variants.{Open}
+use Rattle.model.specs.declared.Outcome.the-variants.{Ended, Open}
 use Rattle.model.specs.declared.Answer.{Answer}
+use Rattle.model.specs.Word.{pick}
 use Rattle.model.specs.Refusals.{first}
 use Rattle.model.specs.Program.{Stmt, Program}
 use Rattle.model.specs.Procedures.{meaning}
 use Rattle.model.specs.ProgramChecks.{programWith}
 use Rattle.model.specs.Rules.{imperative, Store, ended, still, run, showsAt, due, atEnd}
 use Rattle.model.specs.Circuit.{Netlist, Sig, Values, high, level, Obeys}
+use Rattle.model.specs.Numbering.{memoryAt}
 use Rattle.model.specs.NetlistFile.{cellsOf, netOf, finishOf}
 use Rattle.model.specs.State.{instantOf, Course, stateSize, nowAt, beginState, continued, wordsIn}
 use Rattle.model.specs.Calls.{Returned, verdict, checkCall, compiledFile, wordAt, shows, running, tooLong, beginCall, continueChecks, continueCall, fullState, fullCount, runNetlistCall, runProgramChecks, runProgramCall, listed, referenceAnswer}
 use Rattle.model.specs.CircuitPromises.{stopsAt, NoStart}
 use Rattle.model.specs.RunPromises.{seen, stand, Runs, dueAt, stands, startsOf, lastOf, FullRuns}
 use Rattle.laws.specs.Refusals.Laws.{by-bool, first-drop}
+use Rattle.laws.specs.Numbering.Parts.{net-length}
 use Rattle.laws.specs.Program.Fit.{Timed}
 use Rattle.laws.specs.Program.Admitted.{meaning-timed}
 use Rattle.laws.specs.Rules.Laws.{steady, still-before, still-below}
@@ -36,6 +39,7 @@ use Rattle.theory.specs.Rules.Relation.{run-ends}
 use Rattle.theory.specs.State.Holding.{Holding}
 use Rattle.theory.specs.State.Sound.{sound-held}
 use Rattle.theory.specs.State.Running.{continues, stops-high, stops-low}
+use Rattle.theory.specs.Promises.Answers.{listed-same, memory-words}
 use Rattle.theory.specs.Promises.Stands.{Given}
 use Rattle.theory.specs.Promises.Replay.{accepted-going, checked}
 use Rattle.theory.specs.Promises.Served.{OfProgram}
@@ -60,6 +64,13 @@ stops-never F zero a h = omega arith
 stops-never F (suc n) a h =
     stops-low F a n (h (suc a) (omega arith) (omega arith)) ∙ stops-never F n (suc a) (λ u l k. h u (omega arith) (omega arith)) ∙ omega arith
 
+-- and not further
+stops-within : (F : ℕ → Bool) (n a : ℕ) → stopsAt F a n ≤ a + n
+unfolding stopsAt
+stops-within F zero a = omega arith
+stops-within F (suc n) a =
+    by-bool (F (suc a)) (λ e. omega (arith, stops-high F a n e)) (λ e. omega (arith, stops-low F a n e, stops-within F n (suc a)))
+
 -- Full runs ----------------------------------------------------------------------------------------------------------------------------
 
 module _ (options : Options) (program file words lent : List ℕ) (accepted : checkCall options program ≡ Accepted) (e : file ≡ compiledFile options program)
@@ -67,7 +78,7 @@ module _ (options : Options) (program file words lent : List ℕ) (accepted : ch
   abbrev S : Program
   S = programWith options program
 
-  B : Begun Full S file words lent
+  pub B : Begun Full S file words lent
   B = begins Full options program file words lent accepted e begun
 
   abbrev X : OfProgram S file
@@ -101,13 +112,13 @@ module _ (options : Options) (program file words lent : List ℕ) (accepted : ch
   on n = continued Full net fin n state
 
   -- with no start but the beginning's
-  abbrev starts₁ : Sig
+  abbrev pub starts₁ : Sig
   starts₁ = starts Full S file words lent B []
 
-  abbrev W₁ : Values
+  abbrev pub W₁ : Values
   W₁ = W Full S file words lent B []
 
-  obeys₁ : Obeys net starts₁ σ W₁
+  pub obeys₁ : Obeys net starts₁ σ W₁
   obeys₁ = obeys Full S file words lent B []
 
   given₁ : Given w rules (stateSize Full net) starts₁ (stand 0 σ 0) []
@@ -172,6 +183,33 @@ module _ (options : Options) (program file words lent : List ℕ) (accepted : ch
       (λ k. runNetlistCall file words k lent .answer)
   full-runs forFile fits =
       record { programRuns = λ n l. program-run forFile fits n l ∙ last-is n l; netlistRuns = λ n l. netlist-run n l ∙ last-is n l }
+
+  -- By the values: it answers what they are at the instant at which it stops
+  abbrev stop : ℕ → ℕ
+  stop n = pick (level W₁ fin 0) 0 (stopsAt (level W₁ fin) 0 n)
+
+  abbrev valuesAt : ℕ → Answer
+  valuesAt t = record { outcome = pick (level W₁ fin t) Ended Open; instant = t; count = t + 1; words = listed (λ x. W₁ (memoryAt S + x) t) 0 16 }
+
+  told-values : (s : List ℕ) (m t : ℕ) → t ≤ 1000000 → Holding Full net σ W₁ t s → m ≡ t + 1 → shows Full file s m ≡ valuesAt t
+  unfolding shows
+  told-values s m t l H e =
+      let words : wordsIn Full (cellsOf file) 0 s ≡ listed (λ x. W₁ (memoryAt S + x) t) 0 16 =
+      ap (λ (cs : List Cell). wordsIn Full cs 0 s) (X .cells-are)
+      ∙ memory-words S (X .sixteen) (nowAt Full s)
+      ∙ listed-same _ _ 0 16 (λ x a b. H .body .present (memoryAt S + x) (rw (X .cells-are) (omega (arith, net-length S)))) in
+      rw (e, words, H .instant l, H .body .present fin (X .ofFile .wire))
+
+  pub run-values : (n : ℕ) → n ≤ 1000000 → whole-run n ≡ valuesAt (stop n)
+  unfolding whole-run fullState fullCount
+  run-values n l =
+      let begins : high (nowAt Full state fin) ≡ level W₁ fin 0 = ap high (first-holds .body .present fin (X .ofFile .wire)) in
+      by-bool (level W₁ fin 0)
+      (λ z. rw (begins ∙ z, z) (told-values state 1 0 (omega arith) first-holds (omega arith)))
+      (λ z.
+      let C = continues Full net (X .ofFile .ordered) starts₁ σ W₁ obeys₁ fin (X .ofFile .wire) n 0 state first-holds first-long (alone _) tt in
+      let b : stopsAt (level W₁ fin) 0 n ≤ n = omega (arith, stops-within (level W₁ fin) n 0) in
+      rw (begins ∙ z, z) (told-values (on n .state) _ (stopsAt (level W₁ fin) 0 n) (omega (arith, b)) (C .holding) (omega (arith, C .count))))
 
   -- A full run and a reference run agree -----------------------------------------------------------------------------------------------
 

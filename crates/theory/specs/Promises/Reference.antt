@@ -89,7 +89,7 @@ module _ (options : Options) (program words : List ℕ) (n : ℕ) (forFile lent 
   abbrev file : List ℕ
   file = compiledFile options program
 
-  accepts : checkCall options program ≡ Accepted
+  pub accepts : checkCall options program ≡ Accepted
   unfolding checkCall
   accepts = accept-take 2 (runProgramChecks options program words n forFile lent) checks
 
@@ -102,7 +102,7 @@ module _ (options : Options) (program words : List ℕ) (n : ℕ) (forFile lent 
   state-fits : ltb (length lent) (stateSize Full (netOf file)) ≡ false
   state-fits = refuse-unless _ 14 0 (all-accept (runProgramChecks options program words n forFile lent) checks 5)
 
-  begins : verdict (beginCall Full file words lent .answer .outcome) ≡ Accepted
+  pub begins : verdict (beginCall Full file words lent .answer .outcome) ≡ Accepted
   unfolding beginCall running shows tooLong
   begins =
       rw (compiled-accepted options program bytes accepts, words-fit, state-fits)
@@ -114,7 +114,7 @@ module _ (options : Options) (program words : List ℕ) (n : ℕ) (forFile lent 
   abbrev reference : Answer
   reference = referenceCall options program words n
 
-  full-is : full ≡ whole-run options program file words lent accepts refl begins n
+  pub full-is : full ≡ whole-run options program file words lent accepts refl begins n
   full-is =
       program-run options program file words lent accepts refl begins forFile
       (refuse-unless _ 14 0 (all-accept (runProgramChecks options program words n forFile lent) checks 4)) n (ltb-false 1000000 n budget)

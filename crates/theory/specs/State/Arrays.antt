@@ -16,7 +16,7 @@ use Rattle.model.specs.Circuit.{Netlist, cellAt, high, arrayAt}
 use Rattle.model.specs.State.{cellSize, base, stateSize, elementBase, elementNow, nowAt, beforeAt, stored, shown}
 use Rattle.laws.specs.Refusals.Laws.{by-bool, and-true}
 use Rattle.laws.specs.Circuit.Ordered.{Ordered}
-use Rattle.theory.specs.Circuit.Unique.{feeds}
+use Rattle.laws.specs.Circuit.Unique.{feeds}
 use Rattle.laws.specs.State.Bytes.{put16-other, put16-same, get16-same, upTo-frame, upTo-at}
 use Rattle.laws.specs.State.Lines.{below, behind}
 use Rattle.laws.specs.State.Passes.{shown-put, two, length-two, now-two, seen-before, after, after-behind}

@@ -18,7 +18,7 @@ use Rattle.model.specs.State.{instantOf, wordBytes, cellSize, base, stateSize, 
 use Rattle.model.specs.CircuitPromises.{earlier, kept}
 use Rattle.laws.specs.Circuit.Ordered.{kinds, Ordered}
 use Rattle.laws.specs.Circuit.Shapes.{memory-kind, memory-shape}
-use Rattle.theory.specs.Circuit.Unique.{feeds}
+use Rattle.laws.specs.Circuit.Unique.{feeds}
 use Rattle.theory.specs.State.Arrays.{element-late, element-after}
 use Rattle.laws.specs.State.Lines.{least, below, remaining-from, remaining-within, kept-all, Line, line-empty, kept-empty, vacant-empty}
 use Rattle.laws.specs.State.Passes.{shapeAt, two, two-high, length-three, after, seen-before, seen-held, seen-line, before-after, line-old, line-kept}

@@ -13,7 +13,7 @@ use Rattle.model.specs.declared.Checked.the-variants.{Accepted}
 use Rattle.model.specs.Circuit.{Netlist, Sig, Values, high, level, Obeys}
 use Rattle.model.specs.State.{course, stateSize, continued}
 use Rattle.model.specs.CircuitPromises.{stateAt, stopsAt, NoStart, Apart, OneRun}
-use Rattle.theory.specs.Circuit.Unique.{unique}
+use Rattle.laws.specs.Circuit.Unique.{unique}
 use Rattle.laws.specs.Circuit.Ordered.{Ordered}
 use Rattle.theory.specs.Circuit.Exists.{solution, solution-obeys}
 use Rattle.laws.specs.Circuit.Shapes.{level-bound}

@@ -13,7 +13,7 @@ use Rattle.model.specs.Circuit.{Netlist, cellAt, Sig, Values, high, level, dela
 use Rattle.model.specs.State.{instantOf, cellSize, base, stateSize, elementNow, nowAt, beforeAt, heldAt, remainingByte, remainingAt, nextValue, value, lineAt, counted, stepState}
 use Rattle.model.specs.CircuitPromises.{earlier, kept, Apart}
 use Rattle.laws.specs.Circuit.Ordered.{kinds, Ordered}
-use Rattle.theory.specs.Circuit.Unique.{feeds}
+use Rattle.laws.specs.Circuit.Unique.{feeds}
 use Rattle.theory.specs.State.Arrays.{element-late, element-after}
 use Rattle.laws.specs.State.Bytes.{get16-same}
 use Rattle.laws.specs.State.Lines.{least, below, remaining-from, remaining-within, kept-all, Line, Vacant, line-same, kept-same, vacant-same}

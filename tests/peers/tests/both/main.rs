@@ -30,6 +30,7 @@ mod pulses;
 mod remaining;
 mod returns;
 mod run;
+mod slow;
 mod stack;
 mod starts;
 mod states;

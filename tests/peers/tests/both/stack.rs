@@ -41,6 +41,9 @@ fn programs() {
         assert!(ended.result.is_ok());
         let ran = (PROVED.run_program)(given, &program, &START, 9_000, &room, &state);
         assert!(ran.result.is_ok());
+        let work = vec![0; 650_000];
+        let slow = (PROVED.slow_run)(table, 0, &program, &START, 900, &room, &work);
+        assert!(slow.result.is_ok());
         let functional = PROVED.functional;
         assert!((functional.check)(table, &program).result.is_ok());
         assert!((functional.compile)(table, &program, &room).result.is_ok());

@@ -9,6 +9,7 @@ mod loops;
 mod procedures;
 mod pulses;
 pub mod runs;
+mod slow;
 mod starts;
 mod tables;
 mod tests;

@@ -8,6 +8,7 @@ use super::loops::*;
 use super::procedures::*;
 use super::pulses::*;
 use super::runs::*;
+use super::slow::*;
 use super::starts::*;
 use super::tables::*;
 use super::texts::*;
@@ -16,7 +17,7 @@ use crate::job::{self, Job};
 use crate::texts::has_loops;
 use crate::xorshift::Random;
 use crate::{against_equations, against_full, against_functional, against_rules};
-use crate::{against_tables, against_text, generate, netlists};
+use crate::{against_slow, against_tables, against_text, generate, netlists};
 use peers::{Peer, SECOND};
 use values::{Circuit, Format};
 
@@ -132,6 +133,30 @@ fn equations_and_a_good_peer_tell_faulty_merges_of_calls() {
     for disagrees in [disagrees_with_equations, disagrees_with_second_on_netlists] {
         assert_tells(disagrees, &[LONE_B_KEPT, NOT_CLEARED]);
     }
+}
+
+fn disagrees_with_full_runs(peer: &Peer) -> bool {
+    (0..4 * JOBS).any(|seed| against_slow::compare(peer, &Job::of_seed(seed)).is_err())
+}
+
+/// What is late must be there when it is used, and no answer tells more.
+#[test]
+fn full_runs_tell_faulty_slow_runs() {
+    assert!(!disagrees_with_full_runs(&BY_ROWS));
+    assert_tells(disagrees_with_full_runs, &[LATE_ORS, ONE_MORE]);
+    assert!(!disagrees_with_full_runs(&LATE_RESULTS));
+    assert!(!disagrees_with_full_runs(&READS_AT_ONCE));
+}
+
+#[test]
+fn a_good_peer_tells_faulty_slow_runs() {
+    let disagrees = |peer: &Peer| {
+        let pair = with_second(peer);
+        (0..10 * JOBS).any(|seed| pair.same_slow_run(&Job::of_seed(seed)).is_err())
+    };
+    assert!(!disagrees(&BY_ROWS));
+    let faulty = [LATE_RESULTS, LATE_ORS, READS_AT_ONCE, ONE_MORE];
+    assert_tells(disagrees, &faulty);
 }
 
 /// Compiled programs, started again as soon as they are idle.

@@ -4,17 +4,18 @@ use mathlib.Core.Bool.{Bool, true, false, _&&_, _||_, not}
 use mathlib.Core.List.{List}
 use mathlib.Core.Logic.{⊎-elim}
 use Prim.Native.Nat.{ℕ, zero, suc, _+_, _-_, _<_, _≤_}
-use native.Mathlib.Nat.{not-suc-le-zero, le-of-suc-le-suc, eq-or-lt-of-le, le-refl}
+use native.Mathlib.Nat.{eq-or-lt-of-le, le-refl}
 use native.Mathlib.Omega.{arith}
 use lib.Dec.{eqb, leb, leb→le}
 use lib.ListN.{length}
 use borrow.Author.Tests.{eqb-true}
 use Rattle.laws.specs.Circuit.Ordered.{Looks, kinds, Ordered}
 use Rattle.model.specs.Word.{pick, bit, operate, index}
 use Rattle.model.specs.declared.Cell.{Cell}
 use Rattle.model.specs.declared.Merged.{Merged}
 use Rattle.model.specs.Circuit.{cellAt, arrayAt, delayed, merged, mergeStep, returnStep, Step, mergedBefore, Sig, Values, level, memory, latch, element, Shape, cellTable, shape, cellRow, equation, startWord, Obeys, Netlist}
 use Rattle.laws.specs.Numbering.Cells.{cellVal}
+use Rattle.laws.specs.Circuit.Causal.{Alike, Causal, one}
 use Rattle.model.specs.Circuit.{kConstant, kComplement, kOperator, kStart, kGround, kDelay, kOr, kWhenTrue, kWhenFalse, kMerge, kReturn, kMemory, kGated, kArray, kAddress, kRead, kLatch, kUnknown}
 
 -- what the words of an array look at, if its kind 42 is cell j: clock, data and address
@@ -46,12 +47,11 @@ feeds net o j l q =
     (r .0, r .1, address-input (kinds net) (length net) (j + 1) (cellAt net (j + 1)) (cellAt net (j + 1) .kind) k (o .looks (j + 1) b))
 
 module _ (net : List Cell) (words : ℕ → ℕ) (U W : Values) where
-  -- equal at every cell before instant t, and at the cells below k at t
   abbrev pub Before : ℕ → ℕ → Type 0
-  Before t k = ((u : ℕ) → u < t → (j : ℕ) → j < length net → U j u ≡ W j u) × ((j : ℕ) → j < k → U j t ≡ W j t)
+  Before t k = Alike (length net) U W t k
 
   -- a cell below k that is equal up to and with instant t
-  upto : (t k : ℕ) → k < length net → Before t k → (j : ℕ) → j < k → (u : ℕ) → u ≤ t → U j u ≡ W j u
+  pub upto : (t k : ℕ) → k < length net → Before t k → (j : ℕ) → j < k → (u : ℕ) → u ≤ t → U j u ≡ W j u
   upto t k l h j lj u lu =
       ⊎-elim (λ (e : u ≡ t). rw e (h .1 j lj)) (λ (lt : u < t). h .0 u lt j (omega arith)) (eq-or-lt-of-le lu)
 
@@ -65,13 +65,13 @@ module _ (net : List Cell) (words : ℕ → ℕ) (U W : Values) where
       let eb : U b t ≡ W b t = h′ t (omega arith) in
       λ i. step (e i .out) (e i .held) (eqb (ea i) 1) (eqb (eb i) 1)
 
-  merged-cong : (step : Step) (a b : ℕ) (t : ℕ) → ((u : ℕ) → u ≤ t → U a u ≡ W a u) → ((u : ℕ) → u ≤ t → U b u ≡ W b u)
+  pub merged-cong : (step : Step) (a b : ℕ) (t : ℕ) → ((u : ℕ) → u ≤ t → U a u ≡ W a u) → ((u : ℕ) → u ≤ t → U b u ≡ W b u)
       → merged step (level U a) (level U b) t ≡ merged step (level W a) (level W b) t
   unfolding merged
   merged-cong step a b t h h′ =
       ap (λ (m : Merged). m .out) (held-cong step a b (suc t) (λ u l. h u (omega arith)) (λ u l. h′ u (omega arith)))
 
-  delayed-here : (d a t : ℕ) → 1 ≤ d → ((u : ℕ) → u < t → U a u ≡ W a u) → delayed d (level U a) t ≡ delayed d (level W a) t
+  pub delayed-here : (d a t : ℕ) → 1 ≤ d → ((u : ℕ) → u < t → U a u ≡ W a u) → delayed d (level U a) t ≡ delayed d (level W a) t
   unfolding delayed
   delayed-here d a t l h = go (leb d t) refl
     where
@@ -100,7 +100,7 @@ module _ (net : List Cell) (words : ℕ → ℕ) (U W : Values) where
       let e₃ : U k t ≡ W k t = h .0 t (le-refl (suc t)) k l in
       cc (e₁, e₂, e₃)
 
-  element-cong : (j i t : ℕ) → Feeds net j → j ≤ length net → ((u : ℕ) → u < t → (m : ℕ) → m < length net → U m u ≡ W m u)
+  pub element-cong : (j i t : ℕ) → Feeds net j → j ≤ length net → ((u : ℕ) → u < t → (m : ℕ) → m < length net → U m u ≡ W m u)
       → ((m : ℕ) → m < j → U m t ≡ W m t) → element net words U j i t ≡ element net words W j i t
   unfolding element
   element-cong j i zero f l past below = refl
@@ -148,26 +148,21 @@ module _ (net : List Cell) (words : ℕ → ℕ) (U W : Values) where
     unfolding cellVal
     cell-cong first k c t l o h = shape-cong (shape (c .kind)) first k c t l o h
 
-module _ (net : Netlist) (o : Ordered (net .cells)) (starts : Sig) (words : ℕ → ℕ) (U W : Values) (hV : Obeys net starts words U) (hW : Obeys net starts words W) where
-  -- at instant t, if they are equal before
-  row : (t : ℕ) → ((u : ℕ) → u < t → (j : ℕ) → j < length (net .cells) → U j u ≡ W j u) → (k : ℕ) → k ≤ length (net .cells) → (j : ℕ) → j < k → U j t ≡ W j t
-  unfolding Obeys cellVal
-  row t h zero l j lj = absurd (not-suc-le-zero lj)
-  row t h (suc k) l j lj =
-      let ih = row t h k (omega arith) in
-      ⊎-elim (λ (e : j ≡ k).
-      rw e
-      (hV k l t ∙ cell-cong (net .cells) words U W (net .pulse) starts (feeds (net .cells) o) (startWord (net .cells) words k) k (cellAt (net .cells) k) t l (o .looks k l) (h, ih) ∙ sym (hW k l t)))
-      (λ (lt : j < k). ih j lt) (eq-or-lt-of-le (le-of-suc-le-suc lj))
+-- what each cell shows
+unfoldable pub shows : Netlist → Sig → (ℕ → ℕ) → Values → ℕ → ℕ → ℕ
+shows net starts words W k t =
+    cellVal (net .pulse) starts (startWord (net .cells) words k) (element (net .cells) words W) W k (cellAt (net .cells) k) t
 
-  rows : (t : ℕ) (u : ℕ) → u < t → (j : ℕ) → j < length (net .cells) → U j u ≡ W j u
-  rows zero u l j lj = absurd (not-suc-le-zero l)
-  rows (suc t) u l j lj =
-      ⊎-elim (λ (e : u ≡ t). rw e (row t (rows t) (length (net .cells)) (le-refl (length (net .cells))) j lj))
-      (λ (lt : u < t). rows t u lt j lj) (eq-or-lt-of-le (le-of-suc-le-suc l))
+pub shows-causal : (net : Netlist) → Ordered (net .cells) → (starts : Sig) (words : ℕ → ℕ) → Causal (length (net .cells)) (shows net starts words)
+unfolding shows
+shows-causal net o starts words U W k t l b =
+    let cs = net .cells in
+    cell-cong cs words U W (net .pulse) starts (feeds cs o) (startWord cs words k) k (cellAt cs k) t l (o .looks k l) b
 
+module _ (net : Netlist) (o : Ordered (net .cells)) (starts : Sig) (words : ℕ → ℕ) (U W : Values) (hU : Obeys net starts words U) (hW : Obeys net starts words W) where
   pub unique : (k : ℕ) → k < length (net .cells) → (t : ℕ) → U k t ≡ W k t
-  unique k l t = rows (suc t) t (le-refl (suc t)) k l
+  unfolding Obeys cellVal shows
+  unique = one (length (net .cells)) (shows net starts words) (shows-causal net o starts words) U W hU hW
 
   -- and so are the words of an array, whose kind 42 is cell j
   pub unique-elements : (j i t : ℕ) → j < length (net .cells) → cellAt (net .cells) j .kind ≡ 42 → element (net .cells) words U j i t ≡ element (net .cells) words W j i t

@@ -16,9 +16,7 @@ pub const MOST_CELLS: usize = 16384;
 
 pub const FILE_MOST: usize = 196 * BLOCK;
 
-// A list of cells, of any netlist and of a compiled one.
-pub const LIST_MOST: usize = MOST_CELLS * CELL;
-
+// The list of cells of a compiled netlist.
 pub const COMPILED_MOST: usize = 3762;
 
 // Room for the file and the state of any imperative program.
@@ -37,12 +35,10 @@ pub const LINE: usize = 32;
 
 pub const ELEMENTS: usize = 512;
 
-// A compact state: a cell, its line's number, the longest state.
+// A compact state: a cell, its line's number.
 pub const COMPACT_CELL: usize = 8;
 
 pub const COMPACT_LEFT: usize = 6;
-
-pub const COMPACT_MOST: usize = STATE_HEADER + MOST_CELLS * COMPACT_CELL + ELEMENTS;
 
 // A program, a text, the start words, a run.
 pub const NODE: usize = 4;

@@ -5,6 +5,7 @@
 use super::block::{Block, Frame, Placed};
 use super::Plan;
 use std::collections::{BTreeMap, HashMap, HashSet};
+use std::ops::Range;
 
 /// A channel before a column (`Up`, for wires that go up or down) or before a
 /// row (`Along`).
@@ -58,10 +59,11 @@ struct Run {
 pub fn routes(plan: &Plan) -> Routes {
     let taken: HashSet<_> = plan.block.cells.iter().map(|p| (p.column, p.row)).collect();
     let mut links = links(plan);
+    let borders = Borders::of(&plan.block);
     let mut runs: BTreeMap<(Channel, Zone), Vec<Run>> = BTreeMap::new();
     for (number, link) in links.iter_mut().enumerate() {
         for (channel, one, other) in ways(link, &taken) {
-            let zone = zone(&plan.block, link, channel);
+            let zone = zone(&plan.block, &borders, link, channel);
             runs.entry((channel, zone)).or_default().push(Run {
                 link: number,
                 lane: link.lanes.len(),
@@ -136,68 +138,109 @@ fn ways(link: &Link, taken: &HashSet<(usize, usize)>) -> Vec<(Channel, usize, us
 
 /// The zone of a channel in which a link stays inside the smallest frame that
 /// holds both its ends.
-fn zone(block: &Block, link: &Link, channel: Channel) -> Zone {
+fn zone(block: &Block, borders: &Borders, link: &Link, channel: Channel) -> Zone {
     let Some(frame) = block.frame_of(&[link.from, link.to]) else {
         return 0;
     };
-    let frame = &block.frames[frame];
-    let borders = Borders::of(block, channel);
-    let (range, at) = borders.range(frame);
+    let (across, at) = borders.across(channel);
+    let range = &across[frame].range;
     if range.start == at {
-        return 1 + borders.begins(frame) as Zone;
+        return 1 + borders.begins(channel, frame) as Zone;
     }
     if range.end == at {
-        return borders.ends(frame) as Zone - borders.ending() as Zone;
+        return borders.ends(channel, frame) as Zone - borders.ending(channel) as Zone;
     }
     0
 }
 
-/// The frames that begin or end in a channel.
-pub struct Borders<'b> {
-    block: &'b Block,
-    channel: Channel,
+/// The borders of all frames, by the channels in which they lie.
+pub struct Borders {
+    up: Vec<Border>,
+    along: Vec<Border>,
 }
 
-impl<'b> Borders<'b> {
-    pub fn of(block: &'b Block, channel: Channel) -> Borders<'b> {
-        Borders { block, channel }
+/// A frame's extent across channels.
+struct Border {
+    range: Range<usize>,
+    /// How many frames around this one begin in the same channel.
+    begins: usize,
+    /// How deep the frames in this one that end in the same channel are.
+    ends: usize,
+}
+
+impl Borders {
+    pub fn of(block: &Block) -> Borders {
+        // The smallest frame around is the last that stands before.
+        let frames = &block.frames;
+        let around = |k: usize| {
+            frames[..k]
+                .iter()
+                .rposition(|outer| outer.holds(&frames[k]))
+        };
+        let around: Vec<Option<usize>> = (0..frames.len()).map(around).collect();
+        let borders = |range: fn(&Frame) -> Range<usize>| {
+            let ranges: Vec<Range<usize>> = frames.iter().map(range).collect();
+            Border::all(&ranges, &around)
+        };
+        Borders {
+            up: borders(|frame| frame.columns.clone()),
+            along: borders(|frame| frame.rows.clone()),
+        }
     }
 
-    /// A frame's extent across the channel, and where the channel is.
-    fn range(&self, frame: &Frame) -> (std::ops::Range<usize>, usize) {
-        match self.channel {
-            Channel::Up(at) => (frame.columns.clone(), at),
-            Channel::Along(at) => (frame.rows.clone(), at),
+    /// The borders across a channel, and where it is.
+    fn across(&self, channel: Channel) -> (&[Border], usize) {
+        match channel {
+            Channel::Up(at) => (&self.up, at),
+            Channel::Along(at) => (&self.along, at),
         }
     }
 
     /// How many frames around this one begin in the same channel.
-    pub fn begins(&self, frame: &Frame) -> usize {
-        let start = self.range(frame).0.start;
-        let around = |other: &&Frame| other.holds(frame) && self.range(other).0.start == start;
-        self.block.frames.iter().filter(around).count()
+    pub fn begins(&self, channel: Channel, frame: usize) -> usize {
+        self.across(channel).0[frame].begins
     }
 
     /// How deep the frames in this one that end in the same channel are.
-    pub fn ends(&self, frame: &Frame) -> usize {
-        let end = self.range(frame).0.end;
-        let inside = |other: &&Frame| frame.holds(other) && self.range(other).0.end == end;
-        let inside = self.block.frames.iter().filter(inside);
-        inside.map(|other| 1 + self.ends(other)).max().unwrap_or(0)
+    pub fn ends(&self, channel: Channel, frame: usize) -> usize {
+        self.across(channel).0[frame].ends
     }
 
     /// How many borders the frames that begin here have, one inside another.
-    pub fn beginning(&self) -> usize {
-        let here = |frame: &&Frame| self.range(frame).0.start == self.range(frame).1;
-        let here = self.block.frames.iter().filter(here);
-        here.map(|frame| 1 + self.begins(frame)).max().unwrap_or(0)
+    pub fn beginning(&self, channel: Channel) -> usize {
+        let (borders, at) = self.across(channel);
+        let here = borders.iter().filter(|border| border.range.start == at);
+        here.map(|border| 1 + border.begins).max().unwrap_or(0)
     }
 
     /// How many borders the frames that end here have.
-    pub fn ending(&self) -> usize {
-        let here = |frame: &&Frame| self.range(frame).0.end == self.range(frame).1;
-        let here = self.block.frames.iter().filter(here);
-        here.map(|frame| 1 + self.ends(frame)).max().unwrap_or(0)
+    pub fn ending(&self, channel: Channel) -> usize {
+        let (borders, at) = self.across(channel);
+        let here = borders.iter().filter(|border| border.range.end == at);
+        here.map(|border| 1 + border.ends).max().unwrap_or(0)
+    }
+}
+
+impl Border {
+    /// Those of frames with these extents and, of each, the frame around it, which stands
+    /// before it.
+    fn all(ranges: &[Range<usize>], around: &[Option<usize>]) -> Vec<Border> {
+        let mut all: Vec<Border> = Vec::new();
+        for (range, around) in ranges.iter().zip(around) {
+            let outer = around.map(|outer| &all[outer]);
+            let same = outer.filter(|outer| outer.range.start == range.start);
+            all.push(Border {
+                range: range.clone(),
+                begins: same.map_or(0, |outer| 1 + outer.begins),
+                ends: 0,
+            });
+        }
+        for k in (0..all.len()).rev() {
+            if let Some(outer) = around[k].filter(|outer| ranges[*outer].end == ranges[k].end) {
+                all[outer].ends = all[outer].ends.max(1 + all[k].ends);
+            }
+        }
+        all
     }
 }
 

@@ -1,6 +1,6 @@
 //! From the grid to the page: where columns, rows, tracks and frames lie.
 
-use super::block::{Frame, Placed};
+use super::block::Placed;
 use super::route::{Borders, Channel, Lane, Link, Routes, Zone};
 use super::Plan;
 use std::collections::BTreeMap;
@@ -29,6 +29,7 @@ struct Axis {
 
 pub struct Scale<'p> {
     plan: &'p Plan<'p>,
+    borders: Borders,
     across: Axis,
     down: Axis,
     /// The columns that have flags on the left of their cells.
@@ -48,10 +49,12 @@ impl<'p> Scale<'p> {
         };
         let widths: Vec<i32> = (0..plan.block.width).map(column).collect();
         let heights = vec![CELL.1; plan.block.height];
+        let borders = Borders::of(&plan.block);
         Scale {
             plan,
-            across: axis(plan, routes, Channel::Up, &widths, BORDER),
-            down: axis(plan, routes, Channel::Along, &heights, BORDER + TITLE),
+            across: axis(&borders, routes, Channel::Up, &widths, BORDER),
+            down: axis(&borders, routes, Channel::Along, &heights, BORDER + TITLE),
+            borders,
             tagged,
         }
     }
@@ -115,13 +118,14 @@ impl<'p> Scale<'p> {
     }
 
     /// A frame's left, top, right and bottom.
-    pub fn frame(&self, frame: &Frame) -> [i32; 4] {
+    pub fn frame(&self, frame: usize) -> [i32; 4] {
         let begin = |axis: &Axis, channel: Channel, at: usize| {
-            axis.begins[&(at, Borders::of(&self.plan.block, channel).begins(frame))]
+            axis.begins[&(at, self.borders.begins(channel, frame))]
         };
         let end = |axis: &Axis, channel: Channel, at: usize| {
-            axis.ends[&(at, Borders::of(&self.plan.block, channel).ends(frame))]
+            axis.ends[&(at, self.borders.ends(channel, frame))]
         };
+        let frame = &self.plan.block.frames[frame];
         let (columns, rows) = (&frame.columns, &frame.rows);
         [
             begin(&self.across, Channel::Up(columns.start), columns.start),
@@ -151,7 +155,7 @@ fn tagged(plan: &Plan) -> Vec<bool> {
 
 /// Lays channels and columns, or rows, one after another.
 fn axis(
-    plan: &Plan,
+    borders: &Borders,
     routes: &Routes,
     channel: fn(usize) -> Channel,
     sizes: &[i32],
@@ -165,7 +169,7 @@ fn axis(
         length: 0,
     };
     for at in 0..=sizes.len() {
-        axis.lay(plan, routes, channel(at), at, begin);
+        axis.lay(borders, routes, channel(at), at, begin);
         axis.starts.push(axis.length);
         axis.length += sizes.get(at).copied().unwrap_or(0);
     }
@@ -174,9 +178,8 @@ fn axis(
 
 impl Axis {
     /// Lays the zones and borders of a channel.
-    fn lay(&mut self, plan: &Plan, routes: &Routes, channel: Channel, at: usize, begin: i32) {
-        let borders = Borders::of(&plan.block, channel);
-        let (ending, beginning) = (borders.ending(), borders.beginning());
+    fn lay(&mut self, borders: &Borders, routes: &Routes, channel: Channel, at: usize, begin: i32) {
+        let (ending, beginning) = (borders.ending(channel), borders.beginning(channel));
         self.length += MARGIN;
         for zone in -(ending as Zone)..=beginning as Zone {
             if zone > 0 {

@@ -27,12 +27,12 @@ pub fn svg(circuit: &Circuit, text: &[u8], all: bool) -> Result<String, Fault> {
          <rect x=\"{}\" y=\"{}\" width=\"{width}\" height=\"{height}\" fill=\"white\"/>\n",
         -MARGIN, -MARGIN, -MARGIN, -MARGIN
     );
-    for frame in &plan.block.frames {
+    for frame in 0..plan.block.frames.len() {
         put_border(&mut out, frame, &scale);
     }
     put_wires(&mut out, &plan, &routes, &scale);
-    for frame in &plan.block.frames {
-        put_title(&mut out, frame, &scale);
+    for (number, frame) in plan.block.frames.iter().enumerate() {
+        put_title(&mut out, frame, scale.frame(number));
     }
     for placed in &plan.block.cells {
         put_cell(&mut out, &plan, placed, &scale);
@@ -56,7 +56,7 @@ fn put_legend(out: &mut String, top: i32) {
     );
 }
 
-fn put_border(out: &mut String, frame: &Frame, scale: &Scale) {
+fn put_border(out: &mut String, frame: usize, scale: &Scale) {
     let [left, top, right, bottom] = scale.frame(frame);
     let _ = writeln!(
         out,
@@ -68,8 +68,7 @@ fn put_border(out: &mut String, frame: &Frame, scale: &Scale) {
 }
 
 /// A frame's title, cut where the frame is too small for it.
-fn put_title(out: &mut String, frame: &Frame, scale: &Scale) {
-    let [left, top, right, _] = scale.frame(frame);
+fn put_title(out: &mut String, frame: &Frame, [left, top, right, _]: [i32; 4]) {
     let room = (10 * (right - left - 10) / LETTER).max(1) as usize;
     let title: String = match frame.title.chars().count() > room {
         true => frame.title.chars().take(room - 1).chain(['…']).collect(),

@@ -253,3 +253,18 @@ fn runs_take_what_is_told_before() {
     }
     assert!(both > 10, "{both}");
 }
+
+/// Many loops in each other are drawn at once, in both circuits: the frames' borders are
+/// counted one by one.
+#[test]
+fn deep_programs_are_drawn() {
+    let deep = (0..40).fold("x0 := 0 @1".to_string(), |inner, _| {
+        format!("while x0 @1 do {inner} end")
+    });
+    for circuit in [
+        circuits::of_text(&deep),
+        circuits::functional_of_text(&deep),
+    ] {
+        assert_clear(&svg::svg(&circuit, deep.as_bytes(), false).expect("a picture"));
+    }
+}

@@ -29,6 +29,7 @@ fn main() {
             second_engine::row(&workload),
             proved_engine::row(&workload),
             proved_engine::compact_row(&workload),
+            proved_engine::slow_row(&workload),
             c_engine::row(&workload),
             c_engine::compact_row(&workload),
             verilator::row(&workload),

@@ -1,5 +1,5 @@
-//! The proved simulator, by its public calls: a full run, and a beginning and a
-//! continuing of a compact state.
+//! The proved simulator, by its public calls: a full run, a beginning and a
+//! continuing of a compact state, and a slow run of the program.
 
 use crate::engine::{Engine, Measured, Row};
 use crate::workload::{Workload, START};
@@ -25,6 +25,21 @@ pub fn compact_row(workload: &Workload) -> Row {
             calls::continue_by(Format::Compact, file, state, INSTANTS)
         },
     )
+}
+
+/// A run in which operators take their time; it comes to the same words.
+pub fn slow_row(workload: &Workload) -> Row {
+    let program = workload.program.clone().expect("a workload's program");
+    let cells = workload.netlist.cells.len();
+    let engine = Engine::new(INSTANTS, move || {
+        let (mut values, mut work) = (vec![0; 2 * cells], vec![0; 512 * (2 * cells + 1)]);
+        let begin = Instant::now();
+        let result = calls::slow_run(None, 0, &program, &START, INSTANTS, &mut values, &mut work);
+        let nanoseconds = begin.elapsed().as_nanos() as u64;
+        let words = result.expect("the workloads are good programs").words;
+        Measured { nanoseconds, words }
+    });
+    Row::of("proved, slow", engine)
 }
 
 fn row_of(

@@ -13,6 +13,8 @@ pub const START: [u8; CONTENTS_LENGTH] = [0; CONTENTS_LENGTH];
 #[derive(Clone)]
 pub struct Workload {
     pub name: String,
+    /// The program that it is compiled from, where that stands beside it.
+    pub program: Option<Vec<u8>>,
     pub file: Vec<u8>,
     pub netlist: Netlist,
 }
@@ -43,6 +45,7 @@ impl Workload {
         let name = path.file_stem().expect("a name").to_string_lossy();
         Workload {
             name: name.into_owned(),
+            program: fs::read(path.with_extension("prog")).ok(),
             file,
             netlist,
         }

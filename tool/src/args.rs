@@ -1,7 +1,6 @@
 //! The words after a command: files and such in order, `--name value`, `-o
 //! value`, and flags.
 
-use crate::store::{self, Store, LENGTH};
 use crate::types::Fault;
 use std::collections::BTreeMap;
 use std::fmt::Display;
@@ -10,21 +9,33 @@ use std::num::IntErrorKind;
 /// The options that a command takes.
 #[derive(Clone, Copy, Debug)]
 pub struct Options {
-    /// Whether it takes a program, and with it what is said of one.
-    program: bool,
+    /// What it takes, and with it what is said of a program.
+    takes: Takes,
     /// With a value, and without.
     valued: Names,
     flags: Names,
 }
 
+/// What a command is about.
+#[derive(Clone, Copy, Debug, PartialEq, Eq)]
+enum Takes {
+    /// A program in whatever form.
+    Program,
+    Outline,
+    Other,
+}
+
 type Names = &'static [&'static str];
 
-/// What is said of a program: the names of the options, and their usage.
-const OF_PROGRAMS: [(&str, &str); 4] = [
-    ("as", "[--as FORM]"),
-    ("times", "[--times T]"),
-    ("procedures", "[--procedures N]"),
-    ("pulse", "[--pulse W]"),
+/// The name of an option, and what its value is called, where it has one.
+type Row = (&'static str, Option<&'static str>);
+
+/// What is said of a program.
+const OF_PROGRAMS: [Row; 4] = [
+    ("as", Some("FORM")),
+    ("times", Some("T")),
+    ("procedures", Some("N")),
+    ("pulse", Some("W")),
 ];
 
 #[derive(Clone, Debug, Default)]
@@ -90,6 +101,12 @@ impl Args {
         self.value(name).ok_or_else(|| self.missing(name))
     }
 
+    /// An option that was given and is about a program, other than what the file is.
+    pub fn said_of_program(&self) -> Option<&'static str> {
+        let mut names = OF_PROGRAMS.iter().map(|(name, _)| *name);
+        names.find(|name| *name != "as" && self.flag(name))
+    }
+
     /// An option that is a decimal number. One that four bytes can't hold is
     /// taken as the largest that they can, which the product refuses as well.
     pub fn number(&self, name: &str) -> Result<Option<u32>, Fault> {
@@ -110,24 +127,12 @@ impl Args {
         Ok(number.map(|number| number.try_into().unwrap_or(u8::MAX)))
     }
 
-    /// A file, and start words such as x0=3 and a2[5]=7 after it; those not
-    /// given are 0.
-    pub fn file_and_words(&self) -> Result<(&str, Store), Fault> {
-        let Some((file, words)) = self.given.split_first() else {
-            return Err(self.fault("FILE is missing"));
-        };
-        let mut start = [None; LENGTH];
-        for word in words {
-            let Some((place, value)) = start_word(word) else {
-                let form = "one is x0=3 or a2[5]=7, with x0 to x15 or a0[0] to a3[63], \
-                    and -32768 to 65535";
-                return Err(self.fault(format!("'{word}' is no start word; {form}")));
-            };
-            if start[place].replace(value).is_some() {
-                return Err(self.fault(format!("{} has two start words", store::name(place))));
-            }
+    /// A file, and the words after it.
+    pub fn file_and_words(&self) -> Result<(&str, &[String]), Fault> {
+        match self.given.split_first() {
+            Some((file, words)) => Ok((file, words)),
+            None => Err(self.fault("FILE is missing")),
         }
-        Ok((file, start.map(Option::unwrap_or_default)))
     }
 
     /// Exactly so many words, each named in the usage.
@@ -146,7 +151,15 @@ impl Options {
     /// Of a command that takes a program.
     pub const fn of_program(valued: Names, flags: Names) -> Options {
         Options {
-            program: true,
+            takes: Takes::Program,
+            ..Options::plain(valued, flags)
+        }
+    }
+
+    /// Of a command that takes an outline.
+    pub const fn of_outline(valued: Names, flags: Names) -> Options {
+        Options {
+            takes: Takes::Outline,
             ..Options::plain(valued, flags)
         }
     }
@@ -154,24 +167,50 @@ impl Options {
     /// Of a command that takes none.
     pub const fn plain(valued: Names, flags: Names) -> Options {
         Options {
-            program: false,
+            takes: Takes::Other,
             valued,
             flags,
         }
     }
 
-    /// Whether an option takes a value, if there is one of this name.
-    fn takes(self, name: &str) -> Option<bool> {
-        let flag = name == "json" || self.flags.contains(&name);
-        let of_program = OF_PROGRAMS.iter().any(|(option, _)| *option == name);
-        let valued = self.valued.contains(&name) || self.program && of_program;
-        (flag || valued).then_some(valued)
+    /// All options: their names, and what their values are called where they have one.
+    fn all(self) -> impl Iterator<Item = Row> {
+        let valued = self.valued.iter().map(|name| (*name, Some("VALUE")));
+        let flags = self.flags.iter().map(|name| (*name, None));
+        valued.chain(flags).chain(self.shared())
     }
 
-    /// The usage of the options that are said of a program, where there are any.
+    /// Those that many commands take: what is said of a program, and --json. Of an outline
+    /// it is known what it is.
+    fn shared(self) -> impl Iterator<Item = Row> {
+        let said = move |name: &str| match self.takes {
+            Takes::Program => true,
+            Takes::Outline => name != "as",
+            Takes::Other => false,
+        };
+        let of_program = OF_PROGRAMS.into_iter();
+        let of_program = of_program.filter(move |(name, _)| said(name));
+        of_program.chain([("json", None)])
+    }
+
+    /// Whether an option takes a value, if there is one of this name.
+    fn takes(self, name: &str) -> Option<bool> {
+        let own = self.all().find(|(option, _)| *option == name);
+        own.map(|(_, value)| value.is_some())
+    }
+
+    /// The names of all options, as they are typed.
+    pub fn names(self) -> Vec<String> {
+        self.all().map(|(name, _)| dashed(name)).collect()
+    }
+
+    /// The usage of the options that many commands share.
     pub fn usage(self) -> String {
-        let usage = OF_PROGRAMS.iter().filter(|_| self.program);
-        usage.map(|(_, usage)| format!(" {usage}")).collect()
+        let usage = |(name, value)| match value {
+            Some(value) => format!(" [{} {value}]", dashed(name)),
+            None => format!(" [{}]", dashed(name)),
+        };
+        self.shared().map(usage).collect()
     }
 }
 
@@ -190,12 +229,4 @@ fn option(word: &str) -> Option<(&str, Option<&str>)> {
 fn dashed(name: &str) -> String {
     let dashes = if name.len() == 1 { "-" } else { "--" };
     format!("{dashes}{name}")
-}
-
-fn start_word(word: &str) -> Option<(usize, u16)> {
-    let (name, value) = word.split_once('=')?;
-    let place = store::place(name)?;
-    let value: i32 = value.parse().ok()?;
-    let fits = (-32_768..=65_535).contains(&value);
-    fits.then_some((place, value as u16))
 }

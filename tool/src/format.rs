@@ -1,9 +1,18 @@
 //! A program as text with the fewest brackets: on a line where it fits, else
 //! broken over lines, each part indented below what it belongs to.
 
+mod expressions;
+mod long;
+
+pub use long::long;
+
+use crate::input::Program;
 use crate::layout::TEXT;
+use crate::names::Names;
 use crate::preorder::children;
+use crate::source::Said;
 use crate::types::Node;
+use std::collections::BTreeMap;
 
 /// How wide a line may be before a statement is broken over several.
 const WIDTH: usize = 80;
@@ -16,8 +25,8 @@ pub struct Tree {
     pub parts: Vec<Tree>,
 }
 
-/// Whether a program can be a text: texts have no words for arrays, loops that
-/// exits end, exits, and procedures.
+/// Whether a program can be a text that the product reads: it has no words for
+/// arrays, loops that exits end, exits, and procedures.
 pub fn has_text(procedures: usize, nodes: &[Node]) -> bool {
     let untyped = |node: &Node| matches!(node.kind, 10 | 24..=27);
     procedures == 0 && !nodes.iter().any(untyped)
@@ -47,14 +56,16 @@ fn tree_from(nodes: &[Node], next: &mut usize) -> Option<Tree> {
     Some(Tree { at, node, parts })
 }
 
-/// The text of a program. Where indenting would make it longer than a text may
-/// be, it stands on one line.
+/// The text of a program, as the product reads it. Where indenting would make it
+/// longer than a text may be, it stands on one line.
 pub fn format(tree: &Tree) -> String {
-    let broken = lines(tree, 0, Binds::Parallel) + "\n";
+    let names = Names::default();
+    let writer = Writer::new(&names, &[], false);
+    let broken = writer.lines(tree, 0, Binds::Parallel) + "\n";
     if broken.len() <= TEXT {
         return broken;
     }
-    on_a_line(tree, Binds::Parallel) + "\n"
+    writer.on_a_line(tree, Binds::Parallel) + "\n"
 }
 
 /// What a statement without braces may be: any, no parallel, or neither
@@ -84,122 +95,182 @@ impl Binds {
     }
 }
 
-/// A statement on one line.
-fn on_a_line(tree: &Tree, may_be: Binds) -> String {
-    if Binds::of(tree.node.kind) < may_be {
-        return format!("{{ {} }}", on_a_line(tree, Binds::Parallel));
-    }
-    let part = |k: usize| on_a_line(&tree.parts[k], Binds::Parallel);
-    match tree.node.kind {
-        19 | 20 => {
-            let (left, right) = Binds::sides(tree.node.kind);
-            let left = on_a_line(&tree.parts[0], left);
-            let right = on_a_line(&tree.parts[1], right);
-            format!("{left} {} {right}", sign(tree.node.kind))
+/// How nodes are written.
+pub struct Writer<'w> {
+    names: &'w Names,
+    /// How each node was written, where that is known.
+    said: &'w [Said],
+    /// Whether it is a long text, in which more can be left out.
+    long: bool,
+    /// Whether every delay is told as its number.
+    every_delay: bool,
+    /// The comments that stand above a statement, by its node.
+    comments: BTreeMap<usize, Vec<String>>,
+}
+
+impl<'w> Writer<'w> {
+    pub fn new(names: &'w Names, said: &'w [Said], long: bool) -> Writer<'w> {
+        Writer {
+            names,
+            said,
+            long,
+            every_delay: false,
+            comments: BTreeMap::new(),
         }
-        21 => format!("{} then {} else {} end", head(tree), part(1), part(2)),
-        22 => format!("{} do {} end", head(tree), part(1)),
-        23 => format!("repeat {} {} end", part(1), head(tree)),
-        _ => head(tree),
+    }
+
+    /// Of an accepted program for its reader, with every delay.
+    pub fn of_program(program: &'w Program) -> Writer<'w> {
+        Writer {
+            every_delay: true,
+            ..Writer::new(&program.names, &program.said, program.long)
+        }
+    }
+
+    /// A statement on one line.
+    fn on_a_line(&self, tree: &Tree, may_be: Binds) -> String {
+        if Binds::of(tree.node.kind) < may_be {
+            return format!("{{ {} }}", self.on_a_line(tree, Binds::Parallel));
+        }
+        let part = |k: usize| self.on_a_line(&tree.parts[k], Binds::Parallel);
+        let head = || self.head(tree);
+        match tree.node.kind {
+            19 | 20 => {
+                let (left, right) = Binds::sides(tree.node.kind);
+                let left = self.on_a_line(&tree.parts[0], left);
+                let right = self.on_a_line(&tree.parts[1], right);
+                format!("{left} {} {right}", sign(tree.node.kind))
+            }
+            21 if self.has_no_else(tree) => format!("{} then {} end", head(), part(1)),
+            21 => format!("{} then {} else {} end", head(), part(1), part(2)),
+            22 => format!("{} do {} end", head(), part(1)),
+            23 => format!("repeat {} {} end", part(1), head()),
+            25 => format!("{} do {} end", head(), part(0)),
+            _ => head(),
+        }
+    }
+
+    /// A statement, below its comments, broken over lines where it doesn't fit on one.
+    fn lines(&self, tree: &Tree, indent: usize, may_be: Binds) -> String {
+        let blank = " ".repeat(indent);
+        let mut text = String::new();
+        for comment in self.comments.get(&tree.at).into_iter().flatten() {
+            text += &format!("{blank}{comment}\n");
+        }
+        let line = self.on_a_line(tree, may_be);
+        // In a long text statements that follow each other stand below each other.
+        let apart = self.long && tree.node.kind == 19;
+        if indent + line.len() <= WIDTH && !apart && !self.has_comments_in(tree) {
+            return text + &blank + &line;
+        }
+        if Binds::of(tree.node.kind) < may_be {
+            let inner = self.broken(tree, indent + 2, line);
+            return format!("{text}{blank}{{\n{inner}\n{blank}}}");
+        }
+        text + &self.broken(tree, indent, line)
+    }
+
+    /// A statement over several lines, without its own comments.
+    fn broken(&self, tree: &Tree, indent: usize, line: String) -> String {
+        let blank = " ".repeat(indent);
+        let part = |k: usize| self.lines(&tree.parts[k], indent + 2, Binds::Parallel);
+        let head = || self.head(tree);
+        match tree.node.kind {
+            19 => {
+                let (left, right) = Binds::sides(19);
+                let left = self.lines(&tree.parts[0], indent, left);
+                format!("{left} ;\n{}", self.lines(&tree.parts[1], indent, right))
+            }
+            20 => self.sides(tree, indent),
+            21 => {
+                let other = match self.has_no_else(tree) {
+                    true => String::new(),
+                    false => format!("{blank}else\n{}\n", part(2)),
+                };
+                format!("{blank}{} then\n{}\n{other}{blank}end", head(), part(1))
+            }
+            22 => format!("{blank}{} do\n{}\n{blank}end", head(), part(1)),
+            23 => format!("{blank}repeat\n{}\n{blank}{} end", part(1), head()),
+            25 => format!("{blank}{} do\n{}\n{blank}end", head(), part(0)),
+            _ => blank + &line,
+        }
+    }
+
+    /// The sides of a parallel, one below the other with the sign in front.
+    fn sides(&self, tree: &Tree, indent: usize) -> String {
+        let (left, right) = Binds::sides(20);
+        let second = &tree.parts[1];
+        let below = match second.node.kind {
+            20 => self.sides(second, indent),
+            _ => self.lines(second, indent + 3, right),
+        };
+        let blank = " ".repeat(indent);
+        let first = self.lines(&tree.parts[0], indent + 3, left);
+        format!("{first}\n{blank}|| {}", below.trim_start())
+    }
+
+    fn has_comments_in(&self, tree: &Tree) -> bool {
+        let parts = tree.at + 1..tree.end();
+        self.comments.range(parts).next().is_some()
+    }
+
+    /// Whether an else is left out: it is ok, without a comment.
+    fn has_no_else(&self, tree: &Tree) -> bool {
+        let other = &tree.parts[2];
+        self.long && other.node.kind == 16 && !self.comments.contains_key(&other.at)
+    }
+
+    /// A statement without the statements in it. What no text has a word for is
+    /// written much like the rest, for a reader.
+    pub fn head(&self, tree: &Tree) -> String {
+        let Node { kind, delay, n } = tree.node;
+        let e = |part: usize| self.expression(&tree.parts[part], 0);
+        let after = self.delay(tree);
+        match kind {
+            16 => "ok".to_string(),
+            17 => format!("tick {}", self.written(tree).unwrap_or(delay.to_string())),
+            18 => format!("{} := {}{after}", self.names.word(n), e(0)),
+            19 | 20 => sign(kind).to_string(),
+            21 => format!("if {}{after}", e(0)),
+            22 => format!("while {}{after}", e(0)),
+            23 => format!("until {}{after}", e(0)),
+            24 => format!("{}[{}] := {}{after}", self.names.array(n), e(0), e(1)),
+            25 => format!("loop{after}"),
+            26 => "exit".to_string(),
+            27 => format!("call {}{after}", self.names.procedure(n)),
+            _ => self.expression(tree, 0),
+        }
+    }
+
+    /// A delay as it was written, or else as its number.
+    fn delay(&self, tree: &Tree) -> String {
+        match self.said.get(tree.at).filter(|_| !self.every_delay) {
+            Some(Said::Least) => String::new(),
+            Some(Said::More(_, word)) => format!(" @+{word}"),
+            Some(Said::Written(word)) => format!(" @{word}"),
+            _ => format!(" @{}", tree.node.delay),
+        }
+    }
+
+    /// A number as it was written, if that is known.
+    fn written(&self, tree: &Tree) -> Option<String> {
+        match self.said.get(tree.at)? {
+            Said::Written(word) => Some(word.clone()),
+            _ => None,
+        }
     }
 }
 
-/// A statement, broken over lines where it doesn't fit on one.
-fn lines(tree: &Tree, indent: usize, may_be: Binds) -> String {
-    let line = on_a_line(tree, may_be);
-    if indent + line.len() <= WIDTH {
-        return " ".repeat(indent) + &line;
+impl Tree {
+    /// The number of the node after the last one below this one.
+    fn end(&self) -> usize {
+        self.parts.last().map_or(self.at + 1, Tree::end)
     }
-    let blank = " ".repeat(indent);
-    if Binds::of(tree.node.kind) < may_be {
-        let inner = lines(tree, indent + 2, Binds::Parallel);
-        return format!("{blank}{{\n{inner}\n{blank}}}");
-    }
-    let part = |k: usize| lines(&tree.parts[k], indent + 2, Binds::Parallel);
-    match tree.node.kind {
-        19 => {
-            let (left, right) = Binds::sides(19);
-            let left = lines(&tree.parts[0], indent, left);
-            format!("{left} ;\n{}", lines(&tree.parts[1], indent, right))
-        }
-        20 => sides(tree, indent),
-        21 => format!(
-            "{blank}{} then\n{}\n{blank}else\n{}\n{blank}end",
-            head(tree),
-            part(1),
-            part(2)
-        ),
-        22 => format!("{blank}{} do\n{}\n{blank}end", head(tree), part(1)),
-        23 => format!("{blank}repeat\n{}\n{blank}{} end", part(1), head(tree)),
-        _ => blank + &line,
-    }
-}
-
-/// The sides of a parallel, one below the other with the sign in front.
-fn sides(tree: &Tree, indent: usize) -> String {
-    let (left, right) = Binds::sides(20);
-    let below = match tree.parts[1].node.kind {
-        20 => sides(&tree.parts[1], indent),
-        _ => lines(&tree.parts[1], indent + 3, right),
-    };
-    let blank = " ".repeat(indent);
-    let first = lines(&tree.parts[0], indent + 3, left);
-    format!("{first}\n{blank}|| {}", below.trim_start())
 }
 
 fn sign(kind: u8) -> &'static str {
     match kind {
         19 => ";",
         _ => "||",
-    }
-}
-
-/// A statement without the statements in it. What no text has a word for is
-/// written much like the rest, for a reader.
-pub fn head(tree: &Tree) -> String {
-    let Node { kind, delay, n } = tree.node;
-    let e = || expression(&tree.parts[0], 0);
-    match kind {
-        16 => "ok".to_string(),
-        17 => format!("tick {delay}"),
-        18 => format!("x{n} := {} @{delay}", e()),
-        19 | 20 => sign(kind).to_string(),
-        21 => format!("if {} @{delay}", e()),
-        22 => format!("while {} @{delay}", e()),
-        23 => format!("until {} @{delay}", e()),
-        24 => format!(
-            "a{n}[{}] := {} @{delay}",
-            e(),
-            expression(&tree.parts[1], 0)
-        ),
-        25 => format!("loop @{delay}"),
-        26 => "exit".to_string(),
-        27 => format!("call {n} @{delay}"),
-        _ => expression(tree, 0),
-    }
-}
-
-/// An expression: what binds less than `least` stands in parentheses.
-fn expression(tree: &Tree, least: u8) -> String {
-    let Node { kind, n, .. } = tree.node;
-    let (binds, sign) = match kind {
-        7 => (1, "|"),
-        6 => (2, "&"),
-        8 => (3, "="),
-        9 => (3, "<"),
-        4 => (4, "+"),
-        5 => (4, "-"),
-        3 => return format!("!{}", expression(&tree.parts[0], 5)),
-        2 => return format!("x{n}"),
-        10 => return format!("a{n}[{}]", expression(&tree.parts[0], 0)),
-        _ => return n.to_string(),
-    };
-    // An equal or less doesn't chain: neither side may be one.
-    let left = if binds == 3 { 4 } else { binds };
-    let left = expression(&tree.parts[0], left);
-    let right = expression(&tree.parts[1], binds + 1);
-    match binds < least {
-        true => format!("({left} {sign} {right})"),
-        false => format!("{left} {sign} {right}"),
     }
 }

@@ -4,19 +4,24 @@
 
 use crate::answers::counted;
 use crate::args::Args;
+use crate::aside::Aside;
 use crate::assemble::assemble;
 use crate::commands::Stop;
 use crate::files;
 use crate::lines;
+use crate::names::Names;
 use crate::origin::{self, Trace};
 use crate::product;
 use crate::refusals;
-use crate::source::{self, Place, Source};
+use crate::source::{self, Place, Said, Source};
 use crate::types::{Beside, Fault, Netlist, Node, Refusal};
 
 #[derive(Clone, Copy, Debug, PartialEq, Eq)]
 pub enum Form {
+    /// As the product reads it, or else as the tool does: a long one.
     Text,
+    /// As the product reads it, and no other.
+    Short,
     Outline,
     Program,
     Netlist,
@@ -28,13 +33,9 @@ pub struct Given {
     pub name: String,
     pub form: Form,
     pub bytes: Vec<u8>,
-    /// The name and bytes of a table of operator times.
-    pub times: Option<(String, Vec<u8>)>,
-    /// How many procedures its program has, as an outline's headings or
-    /// --procedures say.
-    pub procedures: usize,
-    /// The pulse length that its program is compiled for, as --pulse says.
-    pub pulse: u8,
+    pub aside: Aside,
+    /// The tool's reading of a text that the product doesn't read.
+    pub long: Option<Source>,
 }
 
 /// An accepted program. Its nodes have places if it came as a text or an
@@ -45,6 +46,11 @@ pub struct Program {
     pub bytes: Vec<u8>,
     pub nodes: Vec<Node>,
     pub places: Option<Vec<Place>>,
+    /// Whether it came as a long text, the names that it has there, and how its nodes
+    /// were written.
+    pub long: bool,
+    pub names: Names,
+    pub said: Vec<Said>,
 }
 
 /// An accepted netlist, with the program that it was compiled from and the
@@ -56,9 +62,19 @@ pub struct Circuit {
     pub program: Option<(Program, Trace)>,
 }
 
+impl Circuit {
+    /// The names that its program has.
+    pub fn names(&self) -> Names {
+        let program = self.program.as_ref();
+        program
+            .map(|(program, _)| program.names.clone())
+            .unwrap_or_default()
+    }
+}
+
 impl Given {
     /// Reads the one FILE that a command is given.
-    pub fn only(args: &Args) -> Result<Given, Fault> {
+    pub fn only(args: &Args) -> Result<Given, Stop> {
         let [file] = args.exactly(["FILE"])?;
         Given::read(args, file)
     }
@@ -66,10 +82,10 @@ impl Given {
     /// Reads FILE, and the file of --times; --as says what FILE is, or else
     /// its name: NAME.outline an outline, NAME.prog a program's bytes, NAME.net
     /// a netlist, others texts.
-    pub fn read(args: &Args, name: &str) -> Result<Given, Fault> {
+    pub fn read(args: &Args, name: &str) -> Result<Given, Stop> {
         let form = match args.value("as") {
             Some(word) => form_named(word).ok_or_else(|| {
-                let forms = "text, outline, program or netlist";
+                let forms = "text, short, outline, program or netlist";
                 args.fault(format!("--as takes {forms}, not '{word}'"))
             })?,
             None => form_of(name),
@@ -78,75 +94,93 @@ impl Given {
     }
 
     /// Reads FILE, which is of this form, and the file of --times.
-    pub fn read_as(args: &Args, name: &str, form: Form) -> Result<Given, Fault> {
-        let times = match args.value("times") {
-            Some(table) => Some((table.to_string(), files::read(table)?)),
-            None => None,
-        };
-        let idle = |option: &&str| form == Form::Netlist && args.flag(option);
-        if let Some(option) = ["times", "procedures", "pulse"].into_iter().find(idle) {
+    pub fn read_as(args: &Args, name: &str, form: Form) -> Result<Given, Stop> {
+        if let Some(option) = args.said_of_program().filter(|_| form == Form::Netlist) {
             let message = "goes with a program, and a netlist is compiled already";
-            return Err(args.fault(format!("--{option} {message}")));
+            return Err(args.fault(format!("--{option} {message}")).into());
         }
         let mut given = Given {
             name: files::shown(name).to_string(),
             form,
+            aside: Aside::of(args)?,
             bytes: files::read(name)?,
-            times,
-            procedures: args.number("procedures")?.unwrap_or(0) as usize,
-            pulse: args.byte("pulse")?.unwrap_or(1),
+            long: None,
         };
-        if form == Form::Outline {
+        if form == Form::Text {
+            given.read_long()?;
+        }
+        if form == Form::Outline || given.long.is_some() {
             let (said, own) = (args.value("procedures"), given.source()?.procedures);
-            if said.is_some() && given.procedures != own {
+            if said.is_some() && given.aside.procedures != own {
                 let message = format!("{name} has {}", counted(own, "procedure"));
-                return Err(args.fault(message));
+                return Err(args.fault(message).into());
             }
-            given.procedures = own;
+            given.aside.procedures = own;
         }
         Ok(given)
     }
 
+    /// Reads a text that the product, which is asked first, finds no words or no
+    /// order in.
+    pub fn read_long(&mut self) -> Result<(), Stop> {
+        let met = product::read_text(self.beside(), &self.bytes).err();
+        if !met.is_some_and(|met| matches!(met.number, 17 | 18)) {
+            return Ok(());
+        }
+        let read = source::read(&self.bytes).and_then(|mut source| {
+            source.settle(self.beside())?;
+            Ok(source)
+        });
+        let read = read.map_err(|broken| refusals::of_long(self, &broken))?;
+        self.long = Some(read);
+        Ok(())
+    }
+
+    /// The names that a long text has.
+    pub fn names(&self) -> Names {
+        let long = self.long.as_ref();
+        long.map(|source| source.names.clone()).unwrap_or_default()
+    }
+
     /// What is given beside the program.
     pub fn beside(&self) -> Beside<'_> {
-        let table = self.times.as_ref().map(|(_, bytes)| bytes.as_slice());
-        Beside {
-            table,
-            procedures: self.procedures,
-            pulse: self.pulse,
-        }
+        self.aside.lent()
     }
 
     /// The program, accepted by the product.
     pub fn program(&self) -> Result<Program, Stop> {
-        match self.form {
-            Form::Text => self.program_of_text(),
-            Form::Outline => {
-                let Source { nodes, places, .. } = self.source()?;
-                let bytes = product::program_bytes(&nodes);
-                product::check(self.beside(), &bytes).map_err(|met| self.refused(met))?;
-                Ok(Program {
-                    procedures: self.procedures,
-                    bytes,
-                    nodes,
-                    places: Some(places),
-                })
-            }
-            Form::Program => {
-                product::check(self.beside(), &self.bytes).map_err(|met| self.refused(met))?;
-                Ok(Program {
-                    procedures: self.procedures,
-                    bytes: self.bytes.clone(),
-                    nodes: product::nodes(&self.bytes),
-                    places: None,
-                })
-            }
+        let (bytes, source) = match self.form {
             Form::Netlist => {
                 let name = &self.name;
                 let message = format!("{name} is a netlist, without its program; give the program");
-                Err(Fault::usage(message).into())
+                return Err(Fault::usage(message).into());
             }
+            Form::Program => (self.bytes.clone(), None),
+            Form::Text | Form::Short if self.long.is_none() => {
+                let read = product::read_text(self.beside(), &self.bytes);
+                (read.map_err(|met| self.refused(met))?, Some(self.source()?))
+            }
+            Form::Text | Form::Short | Form::Outline => {
+                let source = self.source()?;
+                (product::program_bytes(&source.nodes), Some(source))
+            }
+        };
+        product::check(self.beside(), &bytes).map_err(|met| self.refused(met))?;
+        let nodes = product::nodes(&bytes);
+        if source.as_ref().is_some_and(|source| source.nodes != nodes) {
+            return Err(self.misread().into());
         }
+        let places = source.as_ref().map(|source| source.places.clone());
+        let Source { names, said, .. } = source.unwrap_or_default();
+        Ok(Program {
+            procedures: self.aside.procedures,
+            bytes,
+            nodes,
+            places,
+            long: self.long.is_some(),
+            names,
+            said,
+        })
     }
 
     /// The tool's own reading of a text or an outline.
@@ -155,23 +189,10 @@ impl Given {
             let text = lines::text_of(&self.name, &self.bytes)?;
             return assemble(text).map_err(|wrong| wrong.fault(&self.name));
         }
-        source::read(&self.bytes).map_err(|_| self.misread())
-    }
-
-    fn program_of_text(&self) -> Result<Program, Stop> {
-        let read = product::read_text(self.beside(), &self.bytes);
-        let bytes = read.map_err(|met| self.refused(met))?;
-        let nodes = product::nodes(&bytes);
-        let source = self.source()?;
-        if source.nodes != nodes {
-            return Err(self.misread().into());
+        if let Some(long) = &self.long {
+            return Ok(long.clone());
         }
-        Ok(Program {
-            procedures: self.procedures,
-            bytes,
-            nodes,
-            places: Some(source.places),
-        })
+        source::read(&self.bytes).map_err(|_| self.misread())
     }
 
     /// The netlist, accepted or compiled by the product.
@@ -216,6 +237,7 @@ impl Given {
 fn form_named(word: &str) -> Option<Form> {
     match word {
         "text" => Some(Form::Text),
+        "short" => Some(Form::Short),
         "outline" => Some(Form::Outline),
         "program" => Some(Form::Program),
         "netlist" => Some(Form::Netlist),

@@ -1,11 +1,12 @@
 //! How the nodes of a program and the cells of its circuit are called: where
 //! they stand and what stands there.
 
-use crate::format::{self, Tree};
+use crate::format::{self, Tree, Writer};
 use crate::input::{Circuit, Program};
 use crate::kinds::{ADDRESS, ARRAY, MEMORY};
+use crate::names::Names;
 use crate::origin::Trace;
-use crate::types::{Fault, Netlist};
+use crate::types::{Fault, Netlist, Span};
 
 /// Of each node, in node order.
 #[derive(Clone, Debug)]
@@ -16,16 +17,26 @@ pub struct Labels {
     pub heads: Vec<String>,
     /// Of the procedures and, the last, of the main program.
     pub trees: Vec<Tree>,
+    pub names: Names,
 }
 
 impl Labels {
+    /// A node on a line: as it stands in a text, or else as text.
+    pub fn line(&self, program: &Program, text: &[u8], node: usize) -> String {
+        match &program.places {
+            Some(places) => first_line(text, places[node].whole),
+            None => cut(&self.heads[node]),
+        }
+    }
+
     /// Of a program that came with this text, or with none.
     pub fn of(program: &Program, text: &[u8]) -> Result<Labels, Fault> {
         let trees = format::trees(&program.nodes)
             .ok_or_else(|| Fault::internal("an accepted program that is no tree"))?;
         let mut heads = vec![String::new(); program.nodes.len()];
+        let writer = Writer::of_program(program);
         for tree in &trees {
-            put_heads(tree, &mut heads);
+            put_heads(&writer, tree, &mut heads);
         }
         let place = |node: usize| match &program.places {
             Some(places) => format!("line {}", line_of(text, places[node].mark.start)),
@@ -35,6 +46,7 @@ impl Labels {
             places: (0..heads.len()).map(place).collect(),
             heads,
             trees,
+            names: program.names.clone(),
         })
     }
 }
@@ -42,13 +54,26 @@ impl Labels {
 /// Its head stands behind the statement in it.
 const REPEAT: u8 = 23;
 
-fn put_heads(tree: &Tree, heads: &mut [String]) {
+fn put_heads(writer: &Writer, tree: &Tree, heads: &mut [String]) {
     heads[tree.at] = match tree.node.kind {
-        REPEAT => format!("repeat {}", format::head(tree)),
-        _ => format::head(tree),
+        REPEAT => format!("repeat {}", writer.head(tree)),
+        _ => writer.head(tree),
     };
     for part in &tree.parts {
-        put_heads(part, heads);
+        put_heads(writer, part, heads);
+    }
+}
+
+/// The first line of a statement, cut where it is long.
+pub fn first_line(text: &[u8], whole: Span) -> String {
+    let shown = String::from_utf8_lossy(&text[whole.start..whole.end]).replace('\t', " ");
+    cut(shown.lines().next().unwrap_or_default().trim_end())
+}
+
+fn cut(line: &str) -> String {
+    match line.char_indices().nth(40) {
+        Some((at, _)) => format!("{}...", &line[..at]),
+        None => line.to_string(),
     }
 }
 
@@ -60,7 +85,7 @@ fn line_of(text: &[u8], at: usize) -> usize {
 /// What is said of each cell; nothing of those that every netlist has, but
 /// for memories and arrays, which have the names of their variables.
 pub fn of_cells(circuit: &Circuit, text: &[u8]) -> Result<Vec<Option<String>>, Fault> {
-    let mut notes = of_stores(&circuit.netlist);
+    let mut notes = of_stores(&circuit.netlist, &circuit.names());
     if let Some((program, trace)) = &circuit.program {
         let labels = Labels::of(program, text)?;
         for (note, said) in notes.iter_mut().zip(of_origins(&labels, trace)) {
@@ -72,24 +97,24 @@ pub fn of_cells(circuit: &Circuit, text: &[u8]) -> Result<Vec<Option<String>>, F
 
 /// The names of memories and arrays, at their cells; an address stands behind
 /// its array.
-pub fn of_stores(netlist: &Netlist) -> Vec<Option<String>> {
-    let mut names = of_memories(netlist);
+pub fn of_stores(netlist: &Netlist, names: &Names) -> Vec<Option<String>> {
+    let mut stores = of_memories(netlist, names);
     for (number, cell) in netlist.cells.iter().enumerate() {
         match cell.kind {
-            ARRAY => names[number] = Some(format!("a{}", cell.delay)),
-            ADDRESS if number > 0 => names[number] = names[number - 1].clone(),
+            ARRAY => stores[number] = Some(names.array(cell.delay.into())),
+            ADDRESS if number > 0 => stores[number] = stores[number - 1].clone(),
             _ => {}
         }
     }
-    names
+    stores
 }
 
 /// The names of the memories, at their cells.
-pub fn of_memories(netlist: &Netlist) -> Vec<Option<String>> {
+pub fn of_memories(netlist: &Netlist, names: &Names) -> Vec<Option<String>> {
     let mut variables = 0..;
     let name = |kind: u8| {
         let variable = (kind == MEMORY).then(|| variables.next()).flatten();
-        variable.map(|k| format!("x{k}"))
+        variable.map(|k| names.word(k))
     };
     netlist
         .cells

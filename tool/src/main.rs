@@ -1,8 +1,8 @@
 //! The program `hub`: what a command tells goes to standard output, a fault to
 //! standard error, and the exit status says which.
 
-use hub::files;
-use std::io::{stderr, Write};
+use hub::{colour, files};
+use std::io::{stderr, stdout, Write};
 
 fn main() {
     let words = std::env::args_os().skip(1);
@@ -10,9 +10,17 @@ fn main() {
         .map(|word| word.to_string_lossy().into_owned())
         .collect();
     let told = hub::commands::run(&words);
-    let (exit, error) = match files::print(&told.output) {
+    let output = match told.tells && colour::wanted(&stdout()) {
+        true => colour::painted(&String::from_utf8_lossy(&told.output)).into_bytes(),
+        false => told.output,
+    };
+    let (exit, error) = match files::print(&output) {
         Ok(()) => (told.exit, told.error),
         Err(fault) => (fault.exit, format!("hub: {}\n", fault.message)),
+    };
+    let error = match colour::wanted(&stderr()) {
+        true => colour::painted(&error),
+        false => error,
     };
     // There is nobody left to tell if this can't be written.
     let _ = stderr().write_all(error.as_bytes());

@@ -3,6 +3,7 @@
 //! are procedures, a heading stands over each and over the main program.
 
 use crate::kinds::NODES;
+use crate::names::Names;
 use crate::preorder;
 use crate::template::{byte, word};
 use crate::types::Node;
@@ -15,14 +16,19 @@ pub enum Heading {
     Main,
 }
 
-/// The outline of nodes in preorder, of which so many statements are procedures.
-pub fn outline(procedures: usize, nodes: &[Node]) -> String {
+/// The outline of nodes in preorder, of which so many statements are procedures; what
+/// has a name is shown with it, behind the sign for what is passed over.
+pub fn outline(procedures: usize, nodes: &[Node], names: &Names) -> String {
     let (places, _) = preorder::places(nodes);
     let (mut lines, mut roots, mut depths) = (String::new(), 0, Vec::new());
     for (node, place) in nodes.iter().zip(&places) {
         if place.is_none() && procedures > 0 {
             match roots.cmp(&procedures) {
-                Ordering::Less => lines += &format!("procedure {roots}\n"),
+                Ordering::Less => {
+                    let heading = format!("procedure {roots}");
+                    let name = names.procedures.get(roots).map(String::as_str);
+                    lines += &(noted(heading, name) + "\n");
+                }
                 Ordering::Equal => lines += "main\n",
                 Ordering::Greater => {}
             }
@@ -30,10 +36,32 @@ pub fn outline(procedures: usize, nodes: &[Node]) -> String {
         }
         let under_heading = usize::from(procedures > 0);
         let depth = place.map_or(under_heading, |below| 1 + depths[below.node]);
-        lines += &format!("{}{}\n", "  ".repeat(depth), words_of(node));
+        let line = "  ".repeat(depth) + &words_of(node);
+        lines += &(noted(line, name_of(node, names)) + "\n");
         depths.push(depth);
     }
     lines
+}
+
+fn noted(line: String, name: Option<&str>) -> String {
+    match name {
+        Some(name) => format!("{line:NOTES$}  # {name}"),
+        None => line,
+    }
+}
+
+/// Where names stand, if the lines aren't longer.
+const NOTES: usize = 28;
+
+/// The name of what a node is about.
+fn name_of<'n>(node: &Node, names: &'n Names) -> Option<&'n str> {
+    let named = match node.kind {
+        2 | 18 => &names.words,
+        10 | 24 => &names.arrays,
+        27 => &names.procedures,
+        _ => return None,
+    };
+    named.get(usize::from(node.n)).map(String::as_str)
 }
 
 /// The heading that words are, if they are one.

@@ -2,6 +2,7 @@
 
 mod asking;
 mod calls;
+mod long;
 mod marks;
 mod netlists;
 mod programs;
@@ -9,6 +10,8 @@ mod rules;
 mod texts;
 
 pub use asking::{has_delay, least_delay};
+pub use calls::run_by;
+pub use long::of_long;
 pub use marks::Mark;
 pub use netlists::of_wired;
 pub use rules::{rule, Counts, Rule, RULES};
@@ -63,7 +66,7 @@ pub fn plain(file: &str, refusal: Refusal) -> Report {
 pub fn report(given: &Given, refusal: Refusal) -> Result<Report, Fault> {
     let report = plain(&given.name, refusal);
     Ok(match (refusal.number, given.form) {
-        (19..=21, _) => match &given.times {
+        (19..=21, _) => match &given.aside.times {
             Some((name, bytes)) => of_times(name, bytes, refusal),
             None => report,
         },
@@ -75,7 +78,7 @@ pub fn report(given: &Given, refusal: Refusal) -> Result<Report, Fault> {
         (9..=12, _) => netlists::of_file(report, &given.bytes),
         (17, _) => texts::of_word(report, &given.bytes),
         (18, _) => texts::of_grammar(report, given),
-        (_, Form::Text | Form::Outline) => programs::of_source(report, given)?,
+        (_, Form::Text | Form::Short | Form::Outline) => programs::of_source(report, given)?,
         _ => programs::of_bytes(report, given),
     })
 }

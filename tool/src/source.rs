@@ -1,14 +1,32 @@
-//! The tool's own reader of texts, which finds where each node stands. It is
-//! asked only about texts that the product has read, and its bytes are held
-//! against the product's.
+//! The tool's own reader of texts, which finds where each node stands. Of a text
+//! that the product has read its nodes are held against the product's; of others,
+//! long texts, it makes the nodes, and the product is asked about them.
 
+mod broken;
+mod declarations;
+mod delays;
+mod expressions;
+mod habits;
+mod nearest;
+mod reader;
+pub mod rules;
+mod scope;
+mod statements;
+mod tree;
 mod words;
 
+pub use broken::Broken;
+pub use nearest::nearest;
+pub use words::{word_at, KEYWORDS, SIGNS};
+
+use crate::names::Names;
 use crate::types::{Node, Span};
-use words::{Word, Words};
+use broken::Read;
+use reader::Reader;
+use scope::Scope;
 
 /// Where a node stands: all of it, and the word or sign that names it; for a
-/// node with a delay, that too.
+/// node with a delay, that too, which is empty where it is left out.
 #[derive(Clone, Copy, Debug, PartialEq, Eq)]
 pub struct Place {
     pub whole: Span,
@@ -16,247 +34,116 @@ pub struct Place {
     pub delay: Option<Span>,
 }
 
-/// The nodes of a text or an outline and, for each, its place. An outline tells
-/// how many procedures stand before the main program.
+/// How a node was written, where its bytes don't tell.
+#[derive(Clone, Debug, Default, PartialEq, Eq)]
+pub enum Said {
+    #[default]
+    Plain,
+    /// The delay is left out: it is the least that the product takes.
+    Least,
+    /// The delay is so much more than that, and how that is written.
+    More(u8, String),
+    /// The number is written in this way, by a constant's name or in hexadecimal.
+    Written(String),
+    /// A less with its sides changed: `a > b`, or in `a <= b`.
+    Changed,
+    /// An equal to 0 that is written as `not`.
+    Not,
+}
+
+/// A declaration as it was written.
+#[derive(Clone, Debug, PartialEq, Eq)]
+pub enum Declared {
+    /// Names and values.
+    Constants(Vec<(String, String)>),
+    Words(Vec<String>),
+    Arrays(Vec<String>),
+    Procedure(String),
+}
+
+/// The nodes of a text or an outline and, for each, its place.
 #[derive(Clone, Debug, Default, PartialEq, Eq)]
 pub struct Source {
+    /// How many procedures stand before the main program.
     pub procedures: usize,
     pub nodes: Vec<Node>,
     pub places: Vec<Place>,
+    /// How nodes were written; an outline says it all in its nodes.
+    pub said: Vec<Said>,
+    pub names: Names,
+    /// In their order, with where each begins.
+    pub declared: Vec<(Declared, Span)>,
+    pub comments: Vec<Span>,
 }
 
-/// Reads a text, or tells the byte where the reader doesn't know what to do.
-pub fn read(text: &[u8]) -> Result<Source, usize> {
-    let mut reader = Reader {
-        words: Words::of(text),
-    };
-    let tree = reader.parallel()?;
-    if let Some(left) = reader.words.peek() {
-        return Err(left.span.start);
-    }
-    let mut source = Source::default();
-    tree.put(&mut source);
-    Ok(source)
-}
-
-/// The word at a place, or the place alone.
-pub fn word_at(text: &[u8], place: usize) -> Span {
-    let mut words = Words::of(text);
-    words.skip_to(place);
-    words.peek().map_or(
-        Span {
-            start: place,
-            end: place,
-        },
-        |word| word.span,
-    )
-}
-
-/// A node with its children.
-struct Tree {
-    node: Node,
-    place: Place,
-    children: Vec<Tree>,
-}
-
-impl Tree {
-    fn leaf(kind: u8, delay: u8, n: u16, mark: Span) -> Tree {
-        Tree {
-            node: Node { kind, delay, n },
-            place: Place {
-                whole: mark,
-                mark,
-                delay: None,
+impl Source {
+    /// Of a program that was given in another form; its procedures get names.
+    pub fn of_nodes(procedures: usize, nodes: &[Node]) -> Source {
+        let names: Vec<String> = (0..procedures).map(|number| format!("p{number}")).collect();
+        let nowhere = Span { start: 0, end: 0 };
+        let declared = |name: &String| (Declared::Procedure(name.clone()), nowhere);
+        Source {
+            procedures,
+            nodes: nodes.to_vec(),
+            declared: names.iter().map(declared).collect(),
+            names: Names {
+                procedures: names,
+                ..Names::default()
             },
-            children: Vec::new(),
-        }
-    }
-
-    /// Two parts with a sign between them.
-    fn joined(kind: u8, mark: Span, left: Tree, right: Tree) -> Tree {
-        let whole = left.place.whole.to(right.place.whole);
-        Tree {
-            children: vec![left, right],
-            ..Tree::leaf(kind, 0, 0, mark)
-        }
-        .over(whole)
-    }
-
-    fn over(mut self, whole: Span) -> Tree {
-        self.place.whole = whole;
-        self
-    }
-
-    /// Adds the nodes in preorder.
-    fn put(self, source: &mut Source) {
-        source.nodes.push(self.node);
-        source.places.push(self.place);
-        for child in self.children {
-            child.put(source);
+            ..Source::default()
         }
     }
 }
 
-impl Span {
-    fn to(self, last: Span) -> Span {
-        Span {
-            start: self.start,
-            end: last.end,
-        }
-    }
-}
+/// The stack on which a text is read: brackets may stand some thousands deep.
+const STACK: usize = 64 << 20;
 
-struct Reader<'a> {
-    words: Words<'a>,
-}
-
-impl Reader<'_> {
-    /// Statements joined by `||`, which groups to the right.
-    fn parallel(&mut self) -> Result<Tree, usize> {
-        let left = self.sequence()?;
-        let Some(sign) = self.words.skip(b"||") else {
-            return Ok(left);
-        };
-        Ok(Tree::joined(20, sign, left, self.parallel()?))
-    }
-
-    /// Statements joined by `;`, which groups to the right.
-    fn sequence(&mut self) -> Result<Tree, usize> {
-        let left = self.statement()?;
-        let Some(sign) = self.words.skip(b";") else {
-            return Ok(left);
-        };
-        Ok(Tree::joined(19, sign, left, self.sequence()?))
-    }
-
-    fn statement(&mut self) -> Result<Tree, usize> {
-        let first = self.words.next()?;
-        match first.text {
-            b"ok" => Ok(Tree::leaf(16, 0, 0, first.span)),
-            b"tick" => self.tick(first),
-            b"{" => {
-                let inner = self.parallel()?;
-                let whole = first.span.to(self.words.expect(b"}")?);
-                Ok(inner.over(whole))
-            }
-            b"if" => self.choice(first),
-            b"while" => self.while_loop(first),
-            b"repeat" => self.repeat_loop(first),
-            _ => self.assignment(first),
-        }
-    }
-
-    fn tick(&mut self, first: Word) -> Result<Tree, usize> {
-        let number = self.words.next()?;
-        let mut tree = Tree::leaf(17, number.delay()?, 0, first.span);
-        tree.place.delay = Some(number.span);
-        Ok(tree.over(first.span.to(number.span)))
-    }
-
-    fn assignment(&mut self, first: Word) -> Result<Tree, usize> {
-        let variable = first.variable().ok_or(first.span.start)?;
-        self.words.expect(b":=")?;
-        let value = self.expression(0)?;
-        let tree = Tree::leaf(18, 0, variable, first.span);
-        let (mut tree, at) = self.delayed(tree)?;
-        tree.children = vec![value];
-        Ok(tree.over(first.span.to(at)))
-    }
-
-    fn choice(&mut self, first: Word) -> Result<Tree, usize> {
-        let condition = self.expression(0)?;
-        let (mut tree, _) = self.delayed(Tree::leaf(21, 0, 0, first.span))?;
-        self.words.expect(b"then")?;
-        let yes = self.parallel()?;
-        self.words.expect(b"else")?;
-        let no = self.parallel()?;
-        tree.children = vec![condition, yes, no];
-        self.ended(tree, first)
-    }
-
-    fn while_loop(&mut self, first: Word) -> Result<Tree, usize> {
-        let condition = self.expression(0)?;
-        let (mut tree, _) = self.delayed(Tree::leaf(22, 0, 0, first.span))?;
-        self.words.expect(b"do")?;
-        tree.children = vec![condition, self.parallel()?];
-        self.ended(tree, first)
-    }
-
-    fn repeat_loop(&mut self, first: Word) -> Result<Tree, usize> {
-        let body = self.parallel()?;
-        self.words.expect(b"until")?;
-        let condition = self.expression(0)?;
-        let (mut tree, _) = self.delayed(Tree::leaf(23, 0, 0, first.span))?;
-        tree.children = vec![condition, body];
-        self.ended(tree, first)
-    }
-
-    /// The `end` of a statement that began with this word.
-    fn ended(&mut self, tree: Tree, first: Word) -> Result<Tree, usize> {
-        let whole = first.span.to(self.words.expect(b"end")?);
-        Ok(tree.over(whole))
-    }
-
-    /// The `@n` of a node, and where it stands.
-    fn delayed(&mut self, mut tree: Tree) -> Result<(Tree, Span), usize> {
-        let sign = self.words.expect(b"@")?;
-        let number = self.words.next()?;
-        let place = sign.to(number.span);
-        tree.node.delay = number.delay()?;
-        tree.place.delay = Some(place);
-        Ok((tree, place))
-    }
-
-    /// An expression whose operators bind at least so tightly.
-    fn expression(&mut self, level: u8) -> Result<Tree, usize> {
-        let mut left = self.operand()?;
-        let mut most = u8::MAX;
-        while let Some((kind, binds, chains)) = self.words.peek().and_then(operator) {
-            if binds < level || binds > most {
-                break;
-            }
-            let sign = self.words.next()?.span;
-            let right = self.expression(binds + 1)?;
-            left = Tree::joined(kind, sign, left, right);
-            // After a comparison only what binds less tightly may follow.
-            most = if chains { binds } else { binds - 1 };
-        }
-        Ok(left)
-    }
-
-    fn operand(&mut self) -> Result<Tree, usize> {
-        let first = self.words.next()?;
-        if let Some(variable) = first.variable() {
-            return Ok(Tree::leaf(2, 0, variable, first.span));
-        }
-        match first.text {
-            b"!" => {
-                let inner = self.operand()?;
-                let whole = first.span.to(inner.place.whole);
-                let mut tree = Tree::leaf(3, 0, 0, first.span);
-                tree.children = vec![inner];
-                Ok(tree.over(whole))
-            }
-            b"(" => {
-                let inner = self.expression(0)?;
-                let whole = first.span.to(self.words.expect(b")")?);
-                Ok(inner.over(whole))
-            }
-            _ => Ok(Tree::leaf(1, 0, first.number()?, first.span)),
-        }
-    }
-}
-
-/// Of a word that is an operator of two operands: its kind, how tightly it
-/// binds, and whether another of its level may follow.
-fn operator(word: Word) -> Option<(u8, u8, bool)> {
-    Some(match word.text {
-        b"|" => (7, 0, true),
-        b"&" => (6, 1, true),
-        b"=" => (8, 2, false),
-        b"<" => (9, 2, false),
-        b"+" => (4, 3, true),
-        b"-" => (5, 3, true),
-        _ => return None,
+/// Reads a text, or tells why it can't be read. Delays that are left out are still
+/// to be settled.
+pub fn read(text: &[u8]) -> Result<Source, Box<Broken>> {
+    let reading = std::thread::Builder::new().stack_size(STACK);
+    std::thread::scope(|scope| {
+        let reading = reading.spawn_scoped(scope, || whole(text));
+        let reading = reading.expect("a thread");
+        reading
+            .join()
+            .unwrap_or_else(|fault| std::panic::resume_unwind(fault))
     })
+}
+
+/// The names that the beginning of a text declares.
+pub fn names_in(begun: &[u8]) -> Names {
+    let words = words::words(begun);
+    words.map_or(Names::default(), |(words, _)| scope::names_in(&words))
+}
+
+fn whole(text: &[u8]) -> Read<Source> {
+    let (words, comments) = words::words(text)?;
+    let mut reader = Reader {
+        scope: Scope::of(&words),
+        words,
+        at: 0,
+        length: text.len(),
+        depth: 0,
+    };
+    let mut source = Source {
+        comments,
+        ..Source::default()
+    };
+    while let Some(declaration) = reader.declaration()? {
+        source
+            .declared
+            .push((declaration.declared, declaration.span));
+        if let Some(body) = declaration.body {
+            source.procedures += 1;
+            body.put(&mut source);
+        }
+    }
+    let main = reader.parallel()?;
+    if reader.peek().is_some() {
+        return Err(reader.broken());
+    }
+    main.put(&mut source);
+    source.names = reader.scope.names;
+    Ok(source)
 }

@@ -8,9 +8,10 @@ use std::os::unix::fs::symlink;
 use std::path::{Path, PathBuf};
 use std::process::Command;
 
-const PAGES: [&str; 4] = [
+const PAGES: [&str; 5] = [
     "docs/LANGUAGE.md",
     "docs/COURSE.md",
+    "docs/JSON.md",
     "README.md",
     "examples/README.md",
 ];
@@ -141,6 +142,22 @@ fn compare_pictures(folder: &Path, page: &str) {
             page.contains(&format!("](course/{name})")),
             "{name} is shown"
         );
+    }
+}
+
+/// The man page and the completion are those that the tool writes.
+#[test]
+fn written_files_are_those_of_the_tool() {
+    for (file, line) in [
+        ("docs/hub.1", "hub help --man"),
+        ("tool/hub.bash", "hub help --bash"),
+    ] {
+        let made = told(line, &top());
+        if keep() {
+            fs::write(top().join(file), &made).expect("a file that can be written");
+        }
+        let kept = fs::read_to_string(top().join(file)).expect("a kept file");
+        assert_eq!(made, kept, "{file}");
     }
 }
 

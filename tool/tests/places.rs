@@ -28,9 +28,8 @@ fn given(name: &Path) -> Given {
         name: name.display().to_string(),
         form: Form::Program,
         bytes: fs::read(name).expect("a vector"),
-        times: None,
-        procedures: 0,
-        pulse: 1,
+        aside: Beside::NOTHING.into(),
+        long: None,
     }
 }
 
@@ -200,8 +199,8 @@ fn typed_programs_are_read_as_the_product_reads_them() {
 fn broken_texts_are_met_with_a_place() {
     let text = "while x0 @1 do { x0 := (x0 - 1) & 3 @18 || ok } end";
     for end in 0..text.len() {
-        if let Err(place) = source::read(&text.as_bytes()[..end]) {
-            assert!(place <= end, "{end}");
+        if let Err(broken) = source::read(&text.as_bytes()[..end]) {
+            assert!(broken.span.end <= end, "{end}");
         }
     }
 }

@@ -3,11 +3,9 @@
 //! What groups to the left names itself first, what groups to the right
 //! names itself last, and what doesn't chain doesn't name itself.
 
+use crate::grammar::Grammar;
 use crate::kinds::Sort;
 use std::sync::OnceLock;
-
-/// A part is a nonterminal symbol: a number that counts PARTS.
-pub type Part = usize;
 
 /// Each part of a text, the loosest first, and what may stand there.
 const PARTS: [(&str, Sort); 9] = [
@@ -21,9 +19,6 @@ const PARTS: [(&str, Sort); 9] = [
     ("Complement", Sort::Expression),
     ("Operand", Sort::Expression),
 ];
-
-/// The part that a whole text is.
-pub const WHOLE: Part = 0;
 
 /// A part, what it may be, and the kind of node that this makes; what makes
 /// none is the same as its one part. No rule is empty.
@@ -64,49 +59,8 @@ const RULES: [(&str, &str, Option<u8>); 26] = [
     ("Operand", "( Or )", None),
 ];
 
-#[derive(Clone, Copy, Debug, PartialEq, Eq)]
-pub enum Symbol {
-    Word(&'static str),
-    Part(Part),
-}
-
-pub struct Rule {
-    pub left: Part,
-    pub right: Vec<Symbol>,
-    pub kind: Option<u8>,
-}
-
-pub struct Grammar {
-    pub rules: Vec<Rule>,
-}
-
-impl Grammar {
-    /// The one grammar, its symbols told apart.
-    pub fn get() -> &'static Grammar {
-        static GRAMMAR: OnceLock<Grammar> = OnceLock::new();
-        GRAMMAR.get_or_init(|| Grammar {
-            rules: RULES.iter().map(rule).collect(),
-        })
-    }
-
-    /// Whether a part is an expression or a statement.
-    pub fn sort(part: Part) -> Sort {
-        PARTS[part].1
-    }
-}
-
-fn rule((left, right, kind): &(&'static str, &'static str, Option<u8>)) -> Rule {
-    Rule {
-        left: part(left).expect("a rule is for a part"),
-        right: right.split(' ').map(symbol).collect(),
-        kind: *kind,
-    }
-}
-
-fn symbol(name: &'static str) -> Symbol {
-    part(name).map_or(Symbol::Word(name), Symbol::Part)
-}
-
-fn part(name: &str) -> Option<Part> {
-    PARTS.iter().position(|(part, _)| *part == name)
+/// The grammar, its symbols told apart.
+pub fn grammar() -> &'static Grammar {
+    static GRAMMAR: OnceLock<Grammar> = OnceLock::new();
+    GRAMMAR.get_or_init(|| Grammar::of(&PARTS, &RULES))
 }

@@ -8,7 +8,7 @@ use crate::types::Done;
 
 pub const COMMAND: Command = Command {
     name: "assemble",
-    usage: "OUTLINE -o PROG [--times T] [--pulse W] [--unchecked]",
+    usage: "OUTLINE -o PROG [--unchecked]",
     about: "makes a program's bytes of an outline",
     more: "The order of the lines counts, and the indentation must agree with it, unless no line is\n\
         indented; text after # is passed over. Procedures stand first, each behind a line\n\
@@ -16,7 +16,7 @@ pub const COMMAND: Command = Command {
         there are, so that --procedures N has to go with them. A program that the product refuses\n\
         isn't written, unless --unchecked is given. The other commands take NAME.outline as it is.",
     example: "hub outline examples/two_boards.hub | hub assemble - -o two_boards.prog",
-    options: Options::plain(&["o", "times", "pulse"], &["unchecked"]),
+    options: Options::of_outline(&["o"], &["unchecked"]),
     run,
 };
 
@@ -29,5 +29,5 @@ fn run(args: &Args) -> Result<Done, Stop> {
         false => given.program()?.nodes,
     };
     let program = product::program_bytes(&nodes);
-    written_program(args, out, &program, given.procedures)
+    written_program(args, out, &program, given.aside.procedures)
 }

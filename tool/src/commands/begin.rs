@@ -1,16 +1,15 @@
 //! `hub begin`: the state of a circuit at instant 0.
 
 use super::states::{asked_format, Kept};
-use super::{Command, Stop};
+use super::{started, Command, Stop};
 use crate::args::{Args, Options};
-use crate::input::Given;
 use crate::product;
 use crate::refusals;
 use crate::types::{Done, DONE};
 
 pub const COMMAND: Command = Command {
     name: "begin",
-    usage: "FILE [xK=N aK[I]=N ..] -o STATE [--compact] [--bare] [--all]",
+    usage: "FILE [NAME=N ..] [--start FILE] -o STATE [--compact] [--bare] [--all]",
     about: "begins a run, and writes its state to go on from",
     more:
         "FILE is a netlist, NAME.net, or a program that is compiled first. Told is also how many\n\
@@ -19,15 +18,14 @@ pub const COMMAND: Command = Command {
            program. Behind the state stands of which netlist it is; with --bare it stands alone,\n\
            as a hub has it. The exit status is 0.",
     example: "hub begin two_boards.net x0=3 x1=5 -o two_boards.state",
-    options: Options::of_program(&["o"], &["all", "bare", "compact"]),
+    options: Options::of_program(&["o", "start"], &["all", "bare", "compact"]),
     run,
 };
 
 fn run(args: &Args) -> Result<Done, Stop> {
-    let (file, start) = args.file_and_words()?;
+    let (file, words) = args.file_and_words()?;
     let to = args.needed("o")?;
-    let given = Given::read(args, file)?;
-    let circuit = given.circuit()?;
+    let (given, circuit, start) = started(args, file, words)?;
     let format = asked_format(args);
     let begun = product::begin(format, &circuit.file, &start);
     let (state, answer) = begun.map_err(|met| match met.number {

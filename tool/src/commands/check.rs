@@ -5,21 +5,26 @@ use crate::answers::counted;
 use crate::args::{Args, Options};
 use crate::input::{Circuit, Given, Program};
 use crate::json::Json;
+use crate::labels::{first_line, Labels};
 use crate::listing;
 use crate::refusals::{has_delay, least_delay, Mark};
-use crate::types::{Beside, Done, Span};
+use crate::types::{Beside, Done, DONE, REFUSED};
+use crate::warnings::{warnings, Warning};
 
 pub const COMMAND: Command = Command {
     name: "check",
-    usage: "FILE",
+    usage: "FILE [--deny]",
     about: "tells whether a program is accepted, or where and why not",
     more:
-        "Of an accepted program: its nodes, its cells, and for each delay but a tick's the least\n\
-           that would do. Of a refused one: line and column, the place, the rule and what to do.\n\
-           NAME.outline is an outline, NAME.prog a program's bytes, NAME.net a netlist, or --as\n\
-           says it (text, outline, program, netlist).",
+        "Of an accepted program: its nodes, its cells, for each delay but a tick's the least that\n\
+           would do, and warnings of what is most likely not meant: conditions that always or never\n\
+           hold, loops that can't end, delays above the least, statements that are never reached,\n\
+           procedures that nobody calls; words that are never read are noted. With --deny a warning\n\
+           makes the exit status 1. Of a refused program: line and column, the place, the rule and\n\
+           what to do, of too small delays all. NAME.outline is an outline, NAME.prog a program's\n\
+           bytes, NAME.net a netlist, or --as says it (text, short, outline, program, netlist).",
     example: "hub check examples/two_boards.hub",
-    options: Options::of_program(&[], &[]),
+    options: Options::of_program(&[], &["deny"]),
     run,
 };
 
@@ -39,10 +44,58 @@ fn run(args: &Args) -> Result<Done, Stop> {
         Some((program, _)) => delays(given.beside(), program, &given.bytes),
         None => Vec::new(),
     };
-    Ok(Done::printing(match args.flag("json") {
-        true => json(&given, &circuit, &delays).line(),
-        false => text(&given, &circuit, &delays).into_bytes(),
-    }))
+    let warnings = warnings_of(&given, &circuit)?;
+    let output = match args.flag("json") {
+        true => json(&given, &circuit, &delays, &warnings).line(),
+        false => (text(&given, &circuit, &delays) + &warned(&warnings)).into_bytes(),
+    };
+    let denied = args.flag("deny") && warnings.iter().any(|(warning, ..)| !warning.note);
+    let exit = if denied { REFUSED } else { DONE };
+    Ok(Done { exit, output })
+}
+
+/// A warning, how its place is called, and the place in a text.
+type Told = (Warning, String, Option<Mark>);
+
+fn warnings_of(given: &Given, circuit: &Circuit) -> Result<Vec<Told>, Stop> {
+    let Some((program, _)) = &circuit.program else {
+        return Ok(Vec::new());
+    };
+    let labels = Labels::of(program, &given.bytes)?;
+    let line = |node: usize| labels.places[node].clone();
+    let found = warnings(given.beside(), program, &line);
+    let told = |warning: Warning| {
+        let places = program.places.as_ref();
+        let mark = places.map(|places| {
+            let place = places[warning.node];
+            let delay = place.delay.filter(|_| warning.about == "delay");
+            Mark::new(&given.bytes, delay.unwrap_or(place.whole), "")
+        });
+        let head = &labels.heads[warning.node];
+        let place = match &mark {
+            Some(mark) => format!("{}:{}:{}", given.name, mark.line, mark.column),
+            None => format!("{}: {}, {head}", given.name, line(warning.node)),
+        };
+        (warning, place, mark)
+    };
+    Ok(found.into_iter().map(told).collect())
+}
+
+fn warned(warnings: &[Told]) -> String {
+    let mut text = String::new();
+    // Results are most of it, and need no line each.
+    let notes = warnings.iter().filter(|(warning, ..)| warning.note);
+    let notes: Vec<&str> = notes.map(|(note, ..)| note.name.as_str()).collect();
+    if !notes.is_empty() {
+        let names = notes.join(", ");
+        text += &format!("  written and never read, as results are: {names}\n");
+    }
+    for (warning, place, mark) in warnings.iter().filter(|(warning, ..)| !warning.note) {
+        text += &format!("{place}: warning: {}\n", warning.what);
+        text += &Mark::all_lines(mark.as_slice());
+        text += &format!("  to do: {}\n", warning.remedy);
+    }
+    text
 }
 
 fn delays(beside: Beside, program: &Program, text: &[u8]) -> Vec<Delay> {
@@ -68,16 +121,6 @@ fn delays(beside: Beside, program: &Program, text: &[u8]) -> Vec<Delay> {
 }
 
 const TICK: u8 = 17;
-
-/// The first line of a statement, cut where it is long.
-fn first_line(text: &[u8], whole: Span) -> String {
-    let shown = String::from_utf8_lossy(&text[whole.start..whole.end]);
-    let line = shown.lines().next().unwrap_or_default();
-    match line.char_indices().nth(40) {
-        Some((cut, _)) => format!("{}...", &line[..cut]),
-        None => line.to_string(),
-    }
-}
 
 fn text(given: &Given, circuit: &Circuit, delays: &[Delay]) -> String {
     let nodes = match &circuit.program {
@@ -110,7 +153,7 @@ fn text(given: &Given, circuit: &Circuit, delays: &[Delay]) -> String {
     text
 }
 
-fn json(given: &Given, circuit: &Circuit, delays: &[Delay]) -> Json {
+fn json(given: &Given, circuit: &Circuit, delays: &[Delay], warnings: &[Told]) -> Json {
     let program = circuit.program.as_ref().map(|(program, _)| program);
     let nodes = program.map(|program| program.nodes.len());
     let procedures = program.map(|program| program.procedures);
@@ -136,5 +179,20 @@ fn json(given: &Given, circuit: &Circuit, delays: &[Delay]) -> Json {
         ("finish", Json::number(circuit.netlist.finish)),
         ("pulse", Json::number(circuit.netlist.pulse)),
         ("delays", Json::list(delays, delay)),
+        ("warnings", Json::list(warnings, of_warning)),
+    ])
+}
+
+fn of_warning((warning, _, mark): &Told) -> Json {
+    let of_mark =
+        |number: fn(&Mark) -> usize| Json::maybe(mark.as_ref(), |mark| Json::number(number(mark)));
+    Json::Object(vec![
+        ("about", Json::text(warning.about)),
+        ("note", Json::Bool(warning.note)),
+        ("node", Json::number(warning.node)),
+        ("line", of_mark(|mark| mark.line)),
+        ("column", of_mark(|mark| mark.column)),
+        ("what", Json::text(&warning.what)),
+        ("remedy", Json::text(&warning.remedy)),
     ])
 }

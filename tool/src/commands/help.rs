@@ -1,22 +1,36 @@
 //! `hub help`: the commands, or one of them with an example.
 
-use super::{named, usage, Command, Stop, COMMANDS};
+use super::{manual, named, usage, Command, Stop, COMMANDS};
 use crate::args::{Args, Options};
 use crate::json::Json;
 use crate::types::Done;
 
 pub const COMMAND: Command = Command {
     name: "help",
-    usage: "[COMMAND]",
+    usage: "[COMMAND | --man | --bash]",
     about: "lists the commands, or tells one with an example",
-    more: "",
+    more:
+        "--man prints all of them as a man page, --bash a completion for bash, which is read by\n\
+        'source'.",
     example: "hub help run",
-    options: Options::plain(&[], &[]),
+    options: Options::plain(&[], &["bash", "man"]),
     run,
 };
 
 fn run(args: &Args) -> Result<Done, Stop> {
     let json = args.flag("json");
+    for (flag, written) in [
+        ("man", manual::man as fn() -> String),
+        ("bash", manual::bash as fn() -> String),
+    ] {
+        if args.flag(flag) {
+            let text = written();
+            return Ok(Done::printing(match json {
+                true => Json::text(text).line(),
+                false => text.into_bytes(),
+            }));
+        }
+    }
     if args.given.is_empty() {
         return Ok(Done::printing(match json {
             true => Json::list(COMMANDS, |command| fields(command)).line(),
@@ -51,7 +65,7 @@ pub fn overview() -> String {
     for command in COMMANDS {
         text += &format!("  hub {:10} {}\n", command.name, command.about);
     }
-    text + "\n'hub help COMMAND' tells more; every command takes --json.\n\
+    text + "\n'hub help COMMAND' tells more; every command takes --json; 'hub --version' tells which.\n\
         Exit status: 0 ended or done, 1 refused, 2 open, 64 wrong usage."
 }
 

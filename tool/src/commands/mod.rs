@@ -2,28 +2,35 @@
 
 mod assemble;
 mod begin;
+mod bound;
 mod cells;
 mod check;
 mod compile;
+mod delays;
 mod draw;
 mod format;
 mod go;
 mod help;
+mod manual;
 mod outline;
 mod read;
 mod run;
 mod start;
 mod states;
+mod test;
 mod times;
 mod wave;
 mod wire;
 
 use crate::answers::counted;
 use crate::args::{Args, Options};
-use crate::files;
+use crate::input::{Circuit, Given};
 use crate::json::Json;
 use crate::refusals::Report;
+use crate::source::nearest;
+use crate::store::Store;
 use crate::types::{Done, Fault, REFUSED};
+use crate::{files, start as start_words};
 
 pub struct Command {
     pub name: &'static str,
@@ -43,6 +50,9 @@ pub struct Command {
 pub const COMMANDS: &[&Command] = &[
     &run::COMMAND,
     &check::COMMAND,
+    &test::COMMAND,
+    &delays::COMMAND,
+    &bound::COMMAND,
     &cells::COMMAND,
     &wire::COMMAND,
     &draw::COMMAND,
@@ -84,6 +94,8 @@ pub struct Told {
     pub exit: i32,
     pub output: Vec<u8>,
     pub error: String,
+    /// Whether the output is told to a reader, and may have colours.
+    pub tells: bool,
 }
 
 /// Follows a command line, whose first word is the command.
@@ -94,6 +106,10 @@ pub fn run(words: &[String]) -> Told {
             exit: done.exit,
             output: done.output,
             error: String::new(),
+            tells: !json
+                && words
+                    .first()
+                    .is_some_and(|name| name == "check" || name == "test"),
         },
         Err(Stop::Refused(report)) if json => told(REFUSED, report.json().line(), String::new()),
         Err(Stop::Refused(report)) => told(REFUSED, Vec::new(), report.text()),
@@ -112,6 +128,7 @@ fn told(exit: i32, output: Vec<u8>, error: String) -> Told {
         exit,
         output,
         error,
+        tells: false,
     }
 }
 
@@ -119,6 +136,15 @@ fn chosen(words: &[String]) -> Result<Done, Stop> {
     let Some((name, words)) = words.split_first() else {
         return Err(Fault::usage(help::overview()).into());
     };
+    if name == "--version" || name == "-V" {
+        let version = env!("CARGO_PKG_VERSION");
+        return Ok(Done::printing(
+            match words.iter().any(|word| word == "--json") {
+                true => Json::Object(vec![("version", Json::text(version))]).line(),
+                false => format!("hub {version}\n").into_bytes(),
+            },
+        ));
+    }
     let command = named(name)?;
     let has = |option: &str| words.iter().any(|word| word == option);
     if has("--help") || has("-h") {
@@ -140,23 +166,28 @@ fn named(name: &str) -> Result<&'static Command, Fault> {
         .find(|command| command.name == name)
         .copied()
         .ok_or_else(|| {
+            let names = COMMANDS.iter().map(|command| command.name);
+            let meant = match nearest(name, names) {
+                Some(near) => format!("did you mean {near}? "),
+                None => String::new(),
+            };
             Fault::usage(format!(
-                "there is no command '{name}'; 'hub help' lists them"
+                "there is no command '{name}'; {meant}'hub help' lists them"
             ))
         })
 }
 
 /// How a command is called.
 fn usage(command: &Command) -> String {
-    let of_program = command.options.usage();
-    format!("hub {} {}{of_program}", command.name, command.usage)
+    let shared = command.options.usage();
+    format!("hub {} {}{shared}", command.name, command.usage)
 }
 
 /// No command writes over what it reads, but for those that are there to change a
 /// file.
 fn check_output(command: &Command, args: &Args) -> Result<(), Fault> {
     let changed = match command.name {
-        "format" => Some(0),
+        "format" | "delays" => Some(0),
         "go" | "start" => Some(1),
         _ => None,
     };
@@ -164,7 +195,8 @@ fn check_output(command: &Command, args: &Args) -> Result<(), Fault> {
     let read = read.filter(|(word, _)| Some(*word) != changed);
     let read = read
         .map(|(_, word)| word.as_str())
-        .chain(args.value("times"));
+        .chain(args.value("times"))
+        .chain(args.value("start"));
     let Some(out) = args.value("o") else {
         return Ok(());
     };
@@ -176,6 +208,14 @@ fn check_output(command: &Command, args: &Args) -> Result<(), Fault> {
         }
         None => Ok(()),
     }
+}
+
+/// What a run begins with: a file, its circuit, and the words that it starts with.
+fn started(args: &Args, file: &str, words: &[String]) -> Result<(Given, Circuit, Store), Stop> {
+    let given = Given::read(args, file)?;
+    let circuit = given.circuit()?;
+    let start = start_words::store(args, words, &circuit.names())?;
+    Ok((given, circuit, start))
 }
 
 /// Writes a command's file and tells it, with a count of what is in it.

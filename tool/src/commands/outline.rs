@@ -11,11 +11,11 @@ pub const COMMAND: Command = Command {
     name: "outline",
     usage: "FILE [-o OUTLINE]",
     about: "shows the nodes of a program as an indented outline, which 'hub assemble' takes back",
-    more:
-        "Every kind has a name there, also those that no text has a word for: elements of arrays,\n\
-        loop, exit and call; a node that no name fits stands as its bytes. Over each procedure and\n\
-        over the main program stands a heading. The nodes of a file of program bytes are shown also\n\
-        where the product refuses them; --procedures N tells how many procedures they begin with.",
+    more: "So it is seen how a text was read, a long one too: which delay stands where none was\n\
+        written, and which word has which name. Every kind has a name there; a node that no name\n\
+        fits stands as its bytes. Over each procedure and over the main program stands a heading.\n\
+        The nodes of a file of program bytes are shown also where the product refuses them;\n\
+        --procedures N tells how many procedures they begin with.",
     example: "hub outline examples/two_boards.hub",
     options: Options::of_program(&["o"], &[]),
     run,
@@ -28,10 +28,12 @@ fn run(args: &Args) -> Result<Done, Stop> {
         Form::Program if bytes_of_nodes => product::nodes(&given.bytes),
         _ => given.program()?.nodes,
     };
-    let procedures = given.procedures;
-    output::put(args, outline::outline(procedures, &nodes), || {
-        Json::list(&nodes, json)
-    })
+    let procedures = given.aside.procedures;
+    output::put(
+        args,
+        outline::outline(procedures, &nodes, &given.names()),
+        || Json::list(&nodes, json),
+    )
 }
 
 fn json(node: &Node) -> Json {

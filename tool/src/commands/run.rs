@@ -1,10 +1,11 @@
 //! `hub run`: a program on its circuit, and what the rules say.
 
-use super::{Command, Stop};
+use super::{started, Command, Stop};
 use crate::answers;
 use crate::args::{Args, Options};
-use crate::input::{Circuit, Given};
+use crate::input::Circuit;
 use crate::json::Json;
+use crate::names::Names;
 use crate::product;
 use crate::progress::Progress;
 use crate::refusals;
@@ -13,31 +14,34 @@ use crate::types::{Answer, Done, End, Fault, Format, Refusal, DONE, OPEN};
 
 pub const COMMAND: Command = Command {
     name: "run",
-    usage: "FILE [xK=N aK[I]=N ..] [--budget N] [--all]",
+    usage: "FILE [NAME=N ..] [--start FILE] [--budget N] [--all]",
     about: "runs a program on its circuit, and tells what the rules say",
     more: "FILE is a text; NAME.outline is an outline, NAME.prog a program's bytes, NAME.net a\n\
-           netlist, or --as says it (text, outline, program, netlist). x0=3 is the word that x0\n\
-           starts with, a2[5]=7 that of element 5 of array 2; those that aren't given start as 0.\n\
+           netlist, or --as says it (text, short for a text without what long texts have, outline,\n\
+           program, netlist). x0=3 is the word that x0 starts with, a2[5]=7 that of element 5 of\n\
+           array 2, a2=7,8,9 those of its first elements, and ',..' behind the last goes on to\n\
+           its end; words and arrays that have names are named. Those that aren't given start as\n\
+           0, or as the file of --start has them, a line or more of such words.\n\
            --times T is a table of operator times, --procedures N how many statements of a\n\
            program's bytes are procedures, --pulse W for how many instants a pulse is high, 1 to 8.\n\
            The budget is the most instants that are run, 1,000,000 if it isn't given. Of the words\n\
            and elements those are told that have changed, with --all all sixteen words, and the\n\
            elements that aren't 0. The exit status is 0 if the run ended, 2 if it is still open.",
     example: "hub run examples/two_boards.hub x0=3 x1=5",
-    options: Options::of_program(&["budget"], &["all"]),
+    options: Options::of_program(&["budget", "start"], &["all"]),
     run,
 };
 
-const BUDGET: u32 = 1_000_000;
+pub const BUDGET: u32 = 1_000_000;
 
 /// So many instants are run before the time is looked at.
 const SLICE: u32 = 2_000;
 
 fn run(args: &Args) -> Result<Done, Stop> {
-    let (file, start) = args.file_and_words()?;
+    let (file, words) = args.file_and_words()?;
     let budget = args.number("budget")?.unwrap_or(BUDGET);
-    let given = Given::read(args, file)?;
-    let circuit = given.circuit()?;
+    let (given, circuit, start) = started(args, file, words)?;
+    let names = circuit.names();
     product::check_budget(&circuit.file, budget)
         .map_err(|met| Stop::from(refusals::plain("--budget", met)))?;
     let ran = full_run(&circuit, &start, budget);
@@ -51,9 +55,9 @@ fn run(args: &Args) -> Result<Done, Stop> {
     };
     agree(&answer, rules)?;
     let output = match args.flag("json") {
-        true => json(&start, &answer, &last, rules).line(),
+        true => json(&names, &start, &answer, &last, rules).line(),
         false => {
-            let told = answers::text(&start, &answer, &last, args.flag("all"));
+            let told = answers::text(&names, &start, &answer, &last, args.flag("all"));
             (told + &said(&answer, rules, writes_elements(&circuit))).into_bytes()
         }
     };
@@ -63,7 +67,7 @@ fn run(args: &Args) -> Result<Done, Stop> {
 
 /// A beginning, and continuings unless the finish was high; with the words and
 /// elements at its end.
-fn full_run(circuit: &Circuit, start: &Store, budget: u32) -> Result<(Answer, Store), Refusal> {
+pub fn full_run(circuit: &Circuit, start: &Store, budget: u32) -> Result<(Answer, Store), Refusal> {
     let (mut state, mut answer) = product::begin(Format::Full, &circuit.file, start)?;
     let mut progress = Progress::new(budget);
     while !answer.ended && answer.instant < budget {
@@ -78,7 +82,7 @@ fn full_run(circuit: &Circuit, start: &Store, budget: u32) -> Result<(Answer, St
 
 /// The product proves that circuit and rules agree: where they don't, the tool
 /// has asked wrongly. The rules tell no elements.
-fn agree(answer: &Answer, rules: Option<Option<End>>) -> Result<(), Fault> {
+pub fn agree(answer: &Answer, rules: Option<Option<End>>) -> Result<(), Fault> {
     let circuit = answer.ended.then_some(End {
         instant: answer.instant,
         words: answer.words,
@@ -115,8 +119,14 @@ fn said(answer: &Answer, rules: Option<Option<End>>, arrays: bool) -> String {
     said + "\n"
 }
 
-fn json(start: &Store, answer: &Answer, last: &Store, rules: Option<Option<End>>) -> Json {
-    let mut fields = answers::fields(answer, last);
+fn json(
+    names: &Names,
+    start: &Store,
+    answer: &Answer,
+    last: &Store,
+    rules: Option<Option<End>>,
+) -> Json {
+    let mut fields = answers::fields(names, answer, last);
     fields.push(("start", answers::words(&store::words(start))));
     fields.push(("start_elements", answers::elements(start)));
     let end = |end: End| {

@@ -9,6 +9,7 @@ use crate::files;
 use crate::input::{Circuit, Given};
 use crate::json::Json;
 use crate::layout::in_flight_in;
+use crate::names::Names;
 use crate::product;
 use crate::refusals;
 use crate::store::Store;
@@ -21,16 +22,23 @@ pub struct Kept {
     pub state: Vec<u8>,
     /// None for a bare state.
     pub trailer: Option<Trailer>,
+    /// Those of the program, or else those that the state was begun with.
+    names: Names,
 }
 
 impl Kept {
     /// A state that was begun on a circuit.
     pub fn begun(args: &Args, circuit: &Circuit, format: Format, state: Vec<u8>) -> Kept {
-        let trailer = (!args.flag("bare")).then(|| Trailer::new(format, &circuit.file));
+        let names = circuit.names();
+        let trailer = (!args.flag("bare")).then(|| Trailer {
+            names: names.text(),
+            ..Trailer::new(format, &circuit.file)
+        });
         Kept {
             format,
             state,
             trailer,
+            names,
         }
     }
 
@@ -67,10 +75,15 @@ impl Kept {
                  with what it was begun with, or begin anew with 'hub begin'"
             )));
         }
+        let names = match (&circuit.program, &trailer) {
+            (None, Some(trailer)) => Names::of_text(&trailer.names),
+            _ => circuit.names(),
+        };
         Ok(Kept {
             format,
             state: state.to_vec(),
             trailer,
+            names,
         })
     }
 
@@ -90,7 +103,7 @@ impl Kept {
         let idle = product::is_idle(self.format, &circuit.file, &self.state);
         let output = match args.flag("json") {
             true => {
-                let mut fields = answers::fields(answer, &last);
+                let mut fields = answers::fields(&self.names, answer, &last);
                 fields.push(("in_flight", Json::number(in_flight)));
                 fields.push(("idle", Json::Bool(idle)));
                 Json::Object(fields).line()
@@ -102,7 +115,7 @@ impl Kept {
                     (false, number) => format!("{number} in flight"),
                 };
                 let all = args.flag("all");
-                answers::text_of_state(start, answer, &last, &busy, all).into_bytes()
+                answers::text_of_state(&self.names, start, answer, &last, &busy, all).into_bytes()
             }
         };
         let exit = if answer.ended { DONE } else { OPEN };

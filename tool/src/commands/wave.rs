@@ -1,11 +1,11 @@
 //! `hub wave`: waveforms of named wires.
 
-use super::{Command, Stop};
+use super::{started, Command, Stop};
 use crate::args::{Args, Options};
 use crate::input::{Circuit, Given};
 use crate::json::Json;
+use crate::names::Names;
 use crate::refusals::{self, Report};
-use crate::store;
 use crate::types::{Done, Netlist, Refusal};
 use crate::wave::course::Course;
 use crate::wave::{choice, record, svg, terminal, vcd, Shows, Waveforms};
@@ -13,7 +13,7 @@ use crate::{output, product};
 
 pub const COMMAND: Command = Command {
     name: "wave",
-    usage: "FILE [xK=N aK[I]=N ..] [--from A] [--to B] [--starts S,..] [--wires W,.. | --all] [-o x.vcd | x.svg]",
+    usage: "FILE [NAME=N ..] [--start FILE] [--from A] [--to B] [--starts S,..] [--wires W,.. | --all] [-o x.vcd | x.svg]",
     about: "shows how wires go up and down in a run: in the terminal, as VCD for GTKWave, as SVG",
     more: "Shown are start, finish, the words that are written, and each statement's start and\n\
         finish, named by its kind and node, as while1.start; with --all all words. --wires\n\
@@ -22,7 +22,7 @@ pub const COMMAND: Command = Command {
         gives a wire another name. --starts says at which instants the hub is started again.\n\
         Without --to the waves go to the last finish, at most 240 instants.",
     example: "hub wave examples/two_boards.hub x0=1 x1=2 --to 40",
-    options: Options::of_program(&["from", "to", "starts", "wires", "o"], &["all"]),
+    options: Options::of_program(&["from", "to", "start", "starts", "wires", "o"], &["all"]),
     run,
 };
 
@@ -32,9 +32,8 @@ const MOST: u32 = 240;
 const AFTER: u32 = 2;
 
 fn run(args: &Args) -> Result<Done, Stop> {
-    let (file, start) = args.file_and_words()?;
-    let given = Given::read(args, file)?;
-    let circuit = given.circuit()?;
+    let (file, words) = args.file_and_words()?;
+    let (given, circuit, start) = started(args, file, words)?;
     let wires = choice::wires(
         &circuit,
         &given.bytes,
@@ -62,7 +61,7 @@ fn run(args: &Args) -> Result<Done, Stop> {
     let cells = circuit.netlist.cells.len();
     let waves = record::record(&mut course, cells, wires, from, to);
     let waves = waves.map_err(|met| refused(&given, &circuit.netlist, &course, met))?;
-    shown(args, &waves)
+    shown(args, &circuit.names(), &waves)
 }
 
 /// An instant that is given, up to which the product takes a run.
@@ -139,7 +138,7 @@ fn last(course: &mut Course, netlist: &Netlist, from: u32, starts: &[u32]) -> Re
     })
 }
 
-fn shown(args: &Args, waves: &Waveforms) -> Result<Done, Stop> {
+fn shown(args: &Args, names: &Names, waves: &Waveforms) -> Result<Done, Stop> {
     let text = match args.value("o") {
         Some(name) if name.ends_with(".vcd") => vcd::vcd(waves),
         Some(name) if name.ends_with(".svg") => svg::svg(waves),
@@ -149,10 +148,10 @@ fn shown(args: &Args, waves: &Waveforms) -> Result<Done, Stop> {
             return Err(args.fault(message).into());
         }
     };
-    output::put(args, text, || json(waves))
+    output::put(args, text, || json(names, waves))
 }
 
-fn json(waves: &Waveforms) -> Json {
+fn json(names: &Names, waves: &Waveforms) -> Json {
     let wires = waves.wires.iter().zip(&waves.values);
     Json::Object(vec![
         ("from", Json::number(waves.from)),
@@ -162,7 +161,7 @@ fn json(waves: &Waveforms) -> Json {
             Json::list(wires, |(wire, values)| {
                 let (cell, element) = match wire.shows {
                     Shows::Cell(cell) => (Json::number(cell), Json::Null),
-                    Shows::Element(place) => (Json::Null, Json::text(store::name(place))),
+                    Shows::Element(place) => (Json::Null, Json::text(names.at(place))),
                     Shows::InFlight | Shows::StartLeft => (Json::Null, Json::Null),
                 };
                 Json::Object(vec![

@@ -41,7 +41,7 @@ impl<'c> Plan<'c> {
         };
         Ok(Plan {
             netlist,
-            variables: labels::of_stores(netlist),
+            variables: labels::of_stores(netlist, &circuit.names()),
             block,
         })
     }

@@ -72,7 +72,8 @@ impl<'p> Places<'p> {
             block = block.with(*join, 0, row);
         }
         let body = block.beside(self.statement(tree));
-        body.named(format!("procedure {number}"))
+        let name = self.labels.names.procedure(number as u16);
+        body.named(format!("procedure {name}"))
     }
 
     fn statement(&self, tree: &Tree) -> Block {

@@ -3,22 +3,66 @@
 
 use super::calls;
 use crate::kinds::idle_array;
-use crate::preorder::subtree_end;
+use crate::preorder::{children, subtree_end};
 use crate::product;
 use crate::store::{ARRAYS, VARIABLES};
 use crate::types::{Beside, Cell, Netlist, Node, Refusal};
 use std::ops::Range;
 
-/// The least delay of a node whose program has no other delay that is too
-/// small before it; none where 255 is too small.
+/// The least delay of a node, which its statements have no part in: the product is
+/// asked about that node alone. None where 255 is too small.
 pub fn least_delay(beside: Beside, nodes: &[Node], node: usize) -> Option<u8> {
-    let too_small = |delay: &u8| {
-        let mut nodes = nodes.to_vec();
-        nodes[node].delay = *delay;
-        asked(beside, &nodes) == Err(Refusal::new(7, node))
+    let (mut alone, procedures) = alone(nodes, node);
+    let beside = Beside {
+        procedures,
+        ..beside
     };
-    let delays: Vec<u8> = (0..=255).collect();
-    delays.get(delays.partition_point(too_small)).copied()
+    let mut too_small = |delay: u8| {
+        alone[procedures].delay = delay;
+        asked(beside, &alone) == Err(Refusal::new(7, procedures))
+    };
+    let (mut least, mut most) = (0_u16, 256);
+    while least < most {
+        let middle = (least + most) / 2;
+        match too_small(middle as u8) {
+            true => least = middle + 1,
+            false => most = middle,
+        }
+    }
+    least.try_into().ok()
+}
+
+/// A node with its expressions, and ok in place of its statements; before a call, the
+/// procedure that it calls. Tells the number of procedures.
+fn alone(nodes: &[Node], node: usize) -> (Vec<Node>, usize) {
+    let ok = Node {
+        kind: 16,
+        delay: 0,
+        n: 0,
+    };
+    if nodes[node].kind == calls::CALL {
+        return (
+            vec![
+                ok,
+                Node {
+                    n: 0,
+                    ..nodes[node]
+                },
+            ],
+            1,
+        );
+    }
+    let mut alone = vec![nodes[node]];
+    let mut next = node + 1;
+    for _ in 0..children(nodes[node].kind) {
+        let end = subtree_end(nodes, next);
+        match nodes[next].kind < ok.kind {
+            true => alone.extend(&nodes[next..end]),
+            false => alone.push(ok),
+        }
+        next = end;
+    }
+    (alone, 0)
 }
 
 /// Whether a node of an accepted program has a use for its delay.

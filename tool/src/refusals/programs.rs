@@ -31,11 +31,11 @@ pub fn of_source(report: Report, given: &Given) -> Result<Report, Fault> {
 
 fn of_nodes(mut report: Report, given: &Given, nodes: &[Node], source: Option<&Source>) -> Report {
     match report.refusal.number {
-        1 if given.procedures > MOST_PROCEDURES => {
+        1 if given.aside.procedures > MOST_PROCEDURES => {
             report.rule = "a program has at most eight procedures".into();
             report.remedy =
                 "put the steps of two procedures into one, or into their callers".into();
-            report.found = Some(counted(given.procedures, "procedure"));
+            report.found = Some(counted(given.aside.procedures, "procedure"));
         }
         1 if nodes.is_empty() => {
             report.found = Some(match given.form {
@@ -81,11 +81,11 @@ fn of_node(report: &mut Report, given: &Given, nodes: &[Node], source: Option<&S
 /// Refusal 6: nodes that are missing at the end, or a first one that is left.
 fn of_tree(report: &mut Report, given: &Given, nodes: &[Node], source: Option<&Source>) {
     let place = report.refusal.place;
-    if given.form == Form::Text {
+    if matches!(given.form, Form::Text | Form::Short) {
         report.rule = "a text is one statement, and has no procedures".into();
         report.remedy =
             "leave --procedures out, or write the program as an outline, which has them".into();
-        report.found = Some(counted(given.procedures, "procedure"));
+        report.found = Some(counted(given.aside.procedures, "procedure"));
         return;
     }
     if place < nodes.len() {
@@ -96,7 +96,7 @@ fn of_tree(report: &mut Report, given: &Given, nodes: &[Node], source: Option<&S
     let Some(Below { node, child }) = preorder::places(nodes).1 else {
         let (roots, _) = preorder::roots(nodes);
         let missing = match roots.len() {
-            root if root < given.procedures => format!("procedure {root}"),
+            root if root < given.aside.procedures => format!("procedure {root}"),
             _ => "the main program".to_string(),
         };
         report.rule = format!("the nodes run out: {missing} is missing");
@@ -121,7 +121,7 @@ fn of_delay(report: &mut Report, given: &Given, nodes: &[Node], source: Option<&
     // Whether a shorter pulse would do with less.
     let long = report.least > least_delay(short, nodes, place);
     let with = match long {
-        true => format!("with pulses of {} instants ", given.pulse),
+        true => format!("with pulses of {} instants ", given.aside.pulse),
         false => String::new(),
     };
     let least = counted(report.least.unwrap_or(u8::MAX).into(), "instant");
@@ -136,8 +136,8 @@ fn of_delay(report: &mut Report, given: &Given, nodes: &[Node], source: Option<&
         _ => report.rule.clone(),
     };
     let written = match (given.form, nodes[place].kind) {
-        (Form::Text, 17) => "write tick ",
-        (Form::Text | Form::Outline, _) => "write @",
+        (Form::Text | Form::Short, 17) => "write tick ",
+        (Form::Text | Form::Short | Form::Outline, _) => "write @",
         _ => "set it to ",
     };
     report.remedy = match report.least {
@@ -146,12 +146,37 @@ fn of_delay(report: &mut Report, given: &Given, nodes: &[Node], source: Option<&
             "no delay up to 255 is enough: work the expression out in several assignments".into()
         }
     };
-    match source.map(|source| source.places[place]) {
-        Some(found) => {
-            let span = found.delay.unwrap_or(found.mark);
-            report.marks = vec![Mark::new(&given.bytes, span, "")];
+    show_delays(report, given, nodes, source);
+}
+
+/// Shows all delays that are too small, the refusal's own first.
+fn show_delays(report: &mut Report, given: &Given, nodes: &[Node], source: Option<&Source>) {
+    let place = report.refusal.place;
+    let least = |node: usize| least_delay(given.beside(), nodes, node);
+    let too_small = |node: &usize| least(*node).is_none_or(|least| nodes[*node].delay < least);
+    let others = (place + 1..nodes.len()).filter(too_small);
+    let caption = |node: usize| match least(node) {
+        Some(least) => format!("too small as well, the least is {least}"),
+        None => "too small as well, and no delay is enough".to_string(),
+    };
+    let others = others.map(|node| (node, caption(node)));
+    let all: Vec<(usize, String)> = [(place, String::new())].into_iter().chain(others).collect();
+    match source {
+        Some(source) => {
+            let mark = |(node, caption): &(usize, String)| {
+                let place = source.places[*node];
+                let delay = place.delay.filter(|span| span.start < span.end);
+                Mark::new(&given.bytes, delay.unwrap_or(place.mark), caption)
+            };
+            report.marks = all.iter().map(mark).collect();
         }
-        None => report.found = Some(node_shown(nodes, place)),
+        None => {
+            let shown = |(node, caption): &(usize, String)| match caption.is_empty() {
+                true => node_shown(nodes, *node),
+                false => format!("{}, {caption}", node_shown(nodes, *node)),
+            };
+            report.found = Some(all.iter().map(shown).collect::<Vec<_>>().join("; "));
+        }
     }
 }
 
@@ -163,8 +188,8 @@ fn of_clash(report: &mut Report, given: &Given, nodes: &[Node], source: Option<&
     report.uses = Some(uses);
     let Node { n, .. } = nodes[uses[0]];
     let (name, thing) = match is_array(nodes[uses[0]]) {
-        true => (format!("a{n}"), "array"),
-        false => (format!("x{n}"), "variable"),
+        true => (given.names().array(n), "array"),
+        false => (given.names().word(n), "variable"),
     };
     let own = |of: &str| (thing == of).then_some(n);
     (report.variable, report.array) = (own("variable"), own("array"));
@@ -177,10 +202,7 @@ fn of_clash(report: &mut Report, given: &Given, nodes: &[Node], source: Option<&
             format!("{name} is {left} on one side of a parallel statement and {right} on the other")
         }
     };
-    let apart = match given.form {
-        Form::Text => "with ';'",
-        _ => "in a sequence",
-    };
+    let apart = apart(given.form);
     report.remedy =
         format!("use another {thing} on one side, or put the sides one after the other {apart}");
     match source {
@@ -225,15 +247,16 @@ fn of_exit(report: &mut Report, given: &Given, nodes: &[Node], source: Option<&S
 fn of_call(report: &mut Report, given: &Given, nodes: &[Node], source: Option<&Source>) {
     let call = report.refusal.place;
     let (root, called) = (calls::root_of(nodes, call), usize::from(nodes[call].n));
-    if called == root && root < given.procedures {
+    if called == root && root < given.aside.procedures {
         report.rule = "this procedure calls itself".into();
         report.remedy = "go round in a loop".into();
-    } else if called < given.procedures {
-        report.rule = format!("procedure {called} stands later than this call");
+    } else if called < given.aside.procedures {
+        let name = given.names().procedure(nodes[call].n);
+        report.rule = format!("procedure {name} stands later than this call");
         report.remedy = "put the procedure before those that call it".into();
     } else {
         report.rule = format!("there is no procedure {called}");
-        report.remedy = match given.procedures {
+        report.remedy = match given.aside.procedures {
             0 => "write the procedure before the main program".into(),
             1 => "call procedure 0, the only one that there is".into(),
             count => format!("call one of procedures 0 to {}", count - 1),
@@ -244,16 +267,21 @@ fn of_call(report: &mut Report, given: &Given, nodes: &[Node], source: Option<&S
 
 fn of_shared(report: &mut Report, given: &Given, nodes: &[Node], source: Option<&Source>) {
     let parallel = report.refusal.place;
-    let Some((procedure, sides)) = calls::shared(given.procedures, nodes, parallel) else {
+    let Some((procedure, sides)) = calls::shared(given.aside.procedures, nodes, parallel) else {
         return;
     };
-    report.rule = format!("both sides of a parallel statement reach procedure {procedure}");
+    let names = given.names();
+    let name = names.procedure(procedure as u16);
+    report.rule = format!("both sides of a parallel statement reach procedure {name}");
+    let apart = apart(given.form);
     report.remedy =
-        "put the sides one after the other in a sequence, or give each a procedure of its own"
-            .into();
-    let caption = |call: usize| match usize::from(nodes[call].n) {
-        called if called == procedure => format!("procedure {procedure} is called here"),
-        called => format!("procedure {called} is called here, which reaches procedure {procedure}"),
+        format!("put the sides one after the other {apart}, or give each a procedure of its own");
+    let caption = |call: usize| match nodes[call].n {
+        called if usize::from(called) == procedure => format!("procedure {name} is called here"),
+        called => {
+            let called = names.procedure(called);
+            format!("procedure {called} is called here, which reaches procedure {name}")
+        }
     };
     let [left, right] = sides.map(caption);
     let told = [
@@ -283,6 +311,14 @@ fn show(
             let shown = told.iter().map(|(node, _)| node_shown(nodes, *node));
             report.found = Some(shown.collect::<Vec<_>>().join("; "));
         }
+    }
+}
+
+/// How two sides are put one after the other.
+fn apart(form: Form) -> &'static str {
+    match form {
+        Form::Text | Form::Short => "with ';'",
+        _ => "in a sequence",
     }
 }
 

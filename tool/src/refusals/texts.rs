@@ -43,8 +43,8 @@ fn outside(word: &[u8], rest: &[u8]) -> (&'static str, String) {
             "save it as plain text, without the mark",
         ),
         b"#" => (
-            "texts have no comments",
-            "leave it out; an outline may have them",
+            "short texts have no comments",
+            "leave it out, or take the text as a long one",
         ),
         b">" if rest.starts_with(b"=") => (
             "there is no sign for 'at least'",
@@ -55,12 +55,12 @@ fn outside(word: &[u8], rest: &[u8]) -> (&'static str, String) {
             "write it the other way round, b < a for a > b",
         ),
         b"loop" | b"exit" | b"call" | b"procedure" => (
-            "texts have no words for loop, exit and procedures",
-            "write the program as an outline of nodes, which has them",
+            "short texts have no words for loop, exit and procedures",
+            "take the text as a long one, which has them",
         ),
         [b'[' | b']'] | [b'a', b'0'..=b'9', ..] => (
-            "texts have no words for arrays",
-            "write the program as an outline of nodes, which has 'element a0' and 'assign a0'",
+            "short texts have no words for arrays",
+            "take the text as a long one, which has them",
         ),
         [b'x', ..] => ("this is no variable", "use x0 to x15"),
         [b'0'..=b'9', ..] => (
@@ -106,7 +106,7 @@ pub fn of_grammar(mut report: Report, given: &Given) -> Report {
 }
 
 /// The place after the last word.
-fn end_of_words(text: &[u8]) -> Span {
+pub fn end_of_words(text: &[u8]) -> Span {
     let last = text.iter().rposition(|byte| !byte.is_ascii_whitespace());
     let end = last.map_or(0, |last| last + 1);
     Span { start: end, end }

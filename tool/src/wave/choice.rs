@@ -2,9 +2,11 @@
 //! a program's statements, and those that were asked for.
 
 use super::{Shows, Wire};
-use crate::input::Circuit;
+use crate::input::{Circuit, Program};
 use crate::kinds::{is_control, is_idle, NODES};
 use crate::labels::{self, Labels};
+use crate::names::Names;
+use crate::source::nearest;
 use crate::store;
 use crate::types::{Fault, Netlist};
 
@@ -16,7 +18,8 @@ pub fn wires(
     asked: Option<&str>,
     all: bool,
 ) -> Result<Vec<Wire>, Fault> {
-    let mut named = of_every(&circuit.netlist);
+    let names = circuit.names();
+    let mut named = of_every(&circuit.netlist, &names);
     named.extend(of_statements(circuit, text)?);
     match asked {
         None => Ok(named
@@ -26,7 +29,7 @@ pub fn wires(
         Some(asked) => {
             let wires = asked
                 .split(',')
-                .map(|word| chosen(&named, &circuit.netlist, word));
+                .map(|word| chosen(&named, &circuit.netlist, &names, word));
             wires.collect()
         }
     }
@@ -41,12 +44,12 @@ fn moves(circuit: &Circuit, wire: &Wire) -> bool {
 }
 
 /// Start, finish and the memories.
-fn of_every(netlist: &Netlist) -> Vec<Wire> {
+fn of_every(netlist: &Netlist, names: &Names) -> Vec<Wire> {
     let mut wires = vec![
         wire(netlist, "start".to_string(), 0),
         wire(netlist, "finish".to_string(), netlist.finish),
     ];
-    let memories = (0..).zip(labels::of_memories(netlist));
+    let memories = (0..).zip(labels::of_memories(netlist, names));
     wires.extend(memories.filter_map(|(cell, name)| Some(wire(netlist, name?, cell))));
     wires
 }
@@ -60,7 +63,8 @@ fn of_statements(circuit: &Circuit, text: &[u8]) -> Result<Vec<Wire>, Fault> {
     let mut wires = Vec::new();
     for (node, ends) in trace.ends.iter().enumerate() {
         let kind = program.nodes[node].kind;
-        let (Some(ends), false) = (ends, kind == SEQUENCE) else {
+        let (Some(ends), false) = (ends, kind == SEQUENCE || is_implied(program, text, node))
+        else {
             continue;
         };
         for (end, cell) in [("start", ends.start), ("finish", ends.finish)] {
@@ -73,6 +77,13 @@ fn of_statements(circuit: &Circuit, text: &[u8]) -> Result<Vec<Wire>, Fault> {
         }
     }
     Ok(wires)
+}
+
+/// Whether a statement stands in no text: the else of an if that has none is ok, at the
+/// place of its end.
+fn is_implied(program: &Program, text: &[u8], node: usize) -> bool {
+    let mark = program.places.as_ref().map(|places| places[node].mark);
+    program.long && mark.is_some_and(|mark| text[mark.start..mark.end] == *b"end")
 }
 
 const SEQUENCE: u8 = 19;
@@ -95,7 +106,7 @@ fn wire(netlist: &Netlist, name: String, cell: u16) -> Wire {
 
 /// A wire by its name or its cell, or an element, also under a name of its own:
 /// NAME=WIRE.
-fn chosen(named: &[Wire], netlist: &Netlist, word: &str) -> Result<Wire, Fault> {
+fn chosen(named: &[Wire], netlist: &Netlist, names: &Names, word: &str) -> Result<Wire, Fault> {
     let (own, wire) = match word.split_once('=') {
         Some((own, wire)) => (Some(name_of(own)?), wire),
         None => (None, word),
@@ -103,9 +114,9 @@ fn chosen(named: &[Wire], netlist: &Netlist, word: &str) -> Result<Wire, Fault> 
     let found = match named.iter().find(|known| known.name == wire) {
         Some(known) => known.clone(),
         None => of_cell(netlist, wire)
-            .or_else(|| of_element(wire))
+            .or_else(|| of_place(named, names, wire))
             .or_else(|| of_state(wire))
-            .ok_or_else(|| unknown(named, wire))?,
+            .ok_or_else(|| unknown(named, names, wire))?,
     };
     Ok(match own {
         Some(name) => Wire {
@@ -135,10 +146,15 @@ fn of_cell(netlist: &Netlist, number: &str) -> Option<Wire> {
     there.then(|| wire(netlist, format!("cell{cell}"), cell))
 }
 
-fn of_element(name: &str) -> Option<Wire> {
-    let place = store::place(name).filter(|place| store::OF_ARRAYS.contains(place))?;
+/// A word by its number where it has a name, or an element by either.
+fn of_place(named: &[Wire], names: &Names, name: &str) -> Option<Wire> {
+    let place = names.place(name)?;
+    let own = names.at(place);
+    if !store::OF_ARRAYS.contains(&place) {
+        return named.iter().find(|wire| wire.name == own).cloned();
+    }
     Some(Wire {
-        name: name.to_string(),
+        name: own,
         about: String::new(),
         shows: Shows::Element(place),
         control: false,
@@ -161,12 +177,20 @@ const OF_STATE: [(&str, Shows); 2] = [
     ("start_left", Shows::StartLeft),
 ];
 
-fn unknown(named: &[Wire], name: &str) -> Fault {
-    let names: Vec<&str> = named.iter().map(|wire| wire.name.as_str()).collect();
-    let names = names.join(", ");
+fn unknown(named: &[Wire], names: &Names, name: &str) -> Fault {
+    let wires: Vec<&str> = named.iter().map(|wire| wire.name.as_str()).collect();
+    let near = match nearest(name, wires.iter().copied()) {
+        Some(near) => format!("did you mean {near}? "),
+        None => String::new(),
+    };
+    let wires = wires.join(", ");
     let of_state = OF_STATE.map(|(name, _)| name).join(", ");
+    let element = match names.arrays.first() {
+        Some(array) => format!("{array}[5]"),
+        None => "a2[5]".to_string(),
+    };
     Fault::usage(format!(
-        "no wire is called '{name}'; there are cells by number, elements as a2[5], {of_state}, \
-         and {names}"
+        "no wire is called '{name}'; {near}there are cells by number, elements as {element}, \
+         {of_state}, and {wires}"
     ))
 }

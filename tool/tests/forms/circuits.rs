@@ -29,14 +29,17 @@ pub fn of_outline(text: &str) -> Circuit {
 }
 
 fn of(form: Form, beside: Beside, bytes: &[u8]) -> Circuit {
-    let given = Given {
+    let mut given = Given {
         name: "a program".to_string(),
         form,
         bytes: bytes.to_vec(),
-        times: None,
-        procedures: beside.procedures,
-        pulse: beside.pulse,
+        aside: beside.into(),
+        long: None,
     };
+    if form == Form::Text {
+        given.read_long().expect("a text");
+        given.aside.procedures = given.source().expect("a text").procedures;
+    }
     given.circuit().expect("an accepted program")
 }
 

@@ -3,6 +3,7 @@
 
 use crate::programs::{programs, Chance};
 use hub::assemble::assemble;
+use hub::names::Names;
 use hub::{outline, preorder, product};
 
 /// For each line the nearest line before it that is less deep.
@@ -25,7 +26,7 @@ fn moved_lines_are_refused_where_they_disagree_with_the_tree() {
     let (mut refused, mut taken) = (0, 0);
     for program in programs().into_iter().filter(|one| one.procedures == 0) {
         let nodes = product::nodes(&program.bytes);
-        let outline = outline::outline(0, &nodes);
+        let outline = outline::outline(0, &nodes, &Names::default());
         let lines: Vec<&str> = outline.lines().map(str::trim_start).collect();
         let own = outline.lines().zip(&lines);
         let own: Vec<usize> = own.map(|(line, said)| line.len() - said.len()).collect();
@@ -67,7 +68,7 @@ fn moved_lines_are_refused_where_they_disagree_with_the_tree() {
 fn without_indentation_the_order_counts() {
     for program in programs() {
         let nodes = product::nodes(&program.bytes);
-        let outline = outline::outline(program.procedures, &nodes);
+        let outline = outline::outline(program.procedures, &nodes, &Names::default());
         let lines: Vec<&str> = outline.lines().map(str::trim_start).collect();
         for depth in [0, 3] {
             let flat = indented(&lines, &vec![depth; lines.len()]);

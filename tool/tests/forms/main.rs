@@ -1,12 +1,18 @@
 //! The forms in which the tool shows programs and circuits, and takes them
-//! back: lists, outlines, texts, waveforms, pictures; on the examples and on
-//! generated programs of every kind.
+//! back: lists, outlines, texts, waveforms, pictures; and what it tells of programs
+//! before a run: warnings, delays, bounds; on the examples and on generated programs of
+//! every kind.
 
+mod bounds;
 mod circuits;
+mod delays;
 mod indentation;
 mod kinds;
+mod long_texts;
+mod long_typing;
 mod pictures;
 mod programs;
 mod round_trips;
 mod vcd;
+mod warnings;
 mod waves;

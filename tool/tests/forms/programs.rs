@@ -2,7 +2,7 @@
 //! generated from a number, so that a failure can be tried again.
 
 use hub::types::{Beside, Node, Refusal};
-use hub::{assemble, product};
+use hub::{assemble, product, source};
 use std::fs;
 use std::path::{Path, PathBuf};
 
@@ -74,11 +74,17 @@ pub fn texts() -> Vec<Vec<u8>> {
 /// The programs of the examples, and generated ones, accepted by the product.
 pub fn programs() -> Vec<Program> {
     let examples = examples().into_iter().map(|(name, text)| {
+        let long = || {
+            let mut source = source::read(text.as_bytes()).expect(&name);
+            source.settle(Beside::NOTHING).expect(&name);
+            (source.procedures, product::program_bytes(&source.nodes))
+        };
         let read = product::read_text(Beside::NOTHING, text.as_bytes());
+        let (procedures, bytes) = read.map_or_else(|_| long(), |bytes| (0, bytes));
         Program {
-            procedures: 0,
+            procedures,
             pulse: 1,
-            bytes: read.unwrap_or_else(|met| panic!("{name}: {met}")),
+            bytes,
         }
     });
     let outlines = outlines().into_iter().map(|(name, text)| {

@@ -1,6 +1,7 @@
 //! The files that the kept command lines find in their folder: for every
 //! refusal a text, a program, a netlist, a state or a table that meets it.
 
+use crate::{help_inputs, long_inputs};
 use hub::product;
 use hub::trailer::Trailer;
 use hub::types::{Beside, Format};
@@ -257,7 +258,11 @@ pub fn make(folder: &Path) {
     let put = |name: &str, bytes: &[u8]| {
         fs::write(folder.join(name), bytes).expect("a file in the folder");
     };
-    for (name, text) in TEXTS.iter().chain(LINES) {
+    let texts = [TEXTS, LINES, long_inputs::TEXTS, help_inputs::TEXTS];
+    for (name, text) in texts.into_iter().flatten() {
+        put(name, text.as_bytes());
+    }
+    for (name, text) in long_inputs::made() {
         put(name, text.as_bytes());
     }
     put("long.hub", &[b"ok", b" ".repeat(4_095).as_slice()].concat());
@@ -274,7 +279,7 @@ pub fn make(folder: &Path) {
         "folded.hub",
         format!("x0 := {} @1\n", "x0 & ".repeat(40) + "x17").as_bytes(),
     );
-    for (name, nodes) in PROGRAMS {
+    for (name, nodes) in PROGRAMS.iter().chain(help_inputs::PROGRAMS) {
         let bytes: Vec<u8> = nodes
             .iter()
             .flat_map(|[kind, delay, n]| [*kind, *delay, *n, 0])

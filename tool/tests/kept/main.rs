@@ -3,8 +3,10 @@
 //! output, standard error, and the exit status where it isn't 0. With KEEP=1 the
 //! files are made anew, to be looked at before they are kept.
 
+mod help_inputs;
 mod inputs;
 mod json;
+mod long_inputs;
 
 use std::fs;
 use std::path::{Path, PathBuf};
@@ -160,6 +162,22 @@ fn every_refusal_is_kept() {
     }
 }
 
+/// The kept files show every rule of the reader of long texts.
+#[test]
+fn every_rule_of_the_reader_is_kept() {
+    let lines = kept_lines();
+    for rule in hub::source::rules::ALL {
+        let met = |line: &String| {
+            let mut rest = line.split(": refused 1").nth(1)?;
+            for part in rule.split("{}") {
+                rest = &rest[rest.find(part)? + part.len()..];
+            }
+            Some(())
+        };
+        assert!(lines.iter().any(|line| met(line).is_some()), "{rule}");
+    }
+}
+
 /// The help of every command is kept, with an example of that command.
 #[test]
 fn every_command_has_an_example() {
@@ -170,5 +188,19 @@ fn every_command_has_an_example() {
         assert!(command.example.contains(&words), "{}", command.example);
         let page = format!("{PROMPT}help {name}");
         assert!(lines.contains(&page), "no kept help of {name}");
+    }
+}
+
+/// The usage line of every command names all options that it takes.
+#[test]
+fn usage_lines_name_all_options() {
+    let lines = kept_lines();
+    for command in hub::commands::COMMANDS {
+        let begins = format!("usage: hub {} ", command.name);
+        let usage = lines.iter().find(|line| line.starts_with(&begins));
+        let usage = usage.expect("a kept usage line");
+        for option in command.options.names() {
+            assert!(usage.contains(&option), "{option} in {usage}");
+        }
     }
 }

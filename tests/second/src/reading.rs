@@ -1,4 +1,4 @@
-//! Earley's reading of words by the grammar: refusal 18.
+//! Earley's reading of words by a grammar: refusal 18.
 //!
 //! After each word stands the list of all rules that may be under way there,
 //! so that a word which advances none of them is one where no continuation
@@ -6,8 +6,7 @@
 //! As no rule is empty, a rule never ends where it began; as a text has one
 //! reading, no rule comes to the same point in two ways.
 
-use crate::text_grammar::{Grammar, Part, Rule, Symbol, WHOLE};
-use crate::text_words::Word;
+use crate::grammar::{Grammar, Part, Rule, Symbol, WHOLE};
 
 /// A rule under way, of which some symbols are read.
 #[derive(Clone, Copy)]
@@ -50,36 +49,36 @@ struct Point {
 }
 
 /// A text that the grammar allows.
-pub struct Reading<'a> {
-    words: &'a [Word],
+pub struct Reading {
+    grammar: &'static Grammar,
     points: Vec<Point>,
     whole: Link,
 }
 
-/// What a rule has read, in text order.
-pub struct Phrase<'a> {
+/// What a rule has read, in text order: words by their numbers.
+pub struct Phrase {
     pub rule: &'static Rule,
-    pub words: Vec<&'a Word>,
+    pub words: Vec<usize>,
     pub parts: Vec<Link>,
 }
 
-impl<'a> Reading<'a> {
-    /// The reading of these words, or the number of the first word where no
-    /// continuation fits; where words are missing, how many there are.
-    pub fn of_words(words: &'a [Word]) -> Result<Reading<'a>, usize> {
-        let mut points = vec![first_point()];
-        for number in 0..words.len() {
-            close(&mut points);
-            let items = after_word(&points[number], number, words[number].sign);
+impl Reading {
+    /// The reading of words with these signs, or the number of the first word where
+    /// no continuation fits; where words are missing, how many there are.
+    pub fn of(grammar: &'static Grammar, signs: &[&'static str]) -> Result<Reading, usize> {
+        let mut points = vec![Point::new(beginnings(grammar, WHOLE, 0).collect())];
+        for (number, sign) in signs.iter().enumerate() {
+            close(grammar, &mut points);
+            let items = after_word(grammar, &points[number], number, sign);
             if items.is_empty() {
                 return Err(number);
             }
             points.push(Point::new(items));
         }
-        close(&mut points);
-        let whole = whole(&points).ok_or(words.len())?;
+        close(grammar, &mut points);
+        let whole = whole(grammar, &points).ok_or(signs.len())?;
         Ok(Reading {
-            words,
+            grammar,
             points,
             whole,
         })
@@ -91,16 +90,16 @@ impl<'a> Reading<'a> {
     }
 
     pub fn rule(&self, link: Link) -> &'static Rule {
-        self.item(link).rule()
+        self.item(link).rule(self.grammar)
     }
 
     /// What the item at its end has read, found from the end to its beginning.
-    pub fn phrase(&self, link: Link) -> Phrase<'a> {
+    pub fn phrase(&self, link: Link) -> Phrase {
         let (mut words, mut parts) = (vec![], vec![]);
         let mut item = self.item(link);
         while let Some(step) = item.last {
             match step.read {
-                Read::Word(number) => words.push(&self.words[number]),
+                Read::Word(number) => words.push(number),
                 Read::Part(part) => parts.push(part),
             }
             item = self.item(step.before);
@@ -108,7 +107,7 @@ impl<'a> Reading<'a> {
         words.reverse();
         parts.reverse();
         Phrase {
-            rule: item.rule(),
+            rule: item.rule(self.grammar),
             words,
             parts,
         }
@@ -129,13 +128,13 @@ impl Item {
         }
     }
 
-    fn rule(self) -> &'static Rule {
-        &Grammar::get().rules[self.rule]
+    fn rule(self, grammar: &Grammar) -> &Rule {
+        &grammar.rules[self.rule]
     }
 
     /// The symbol to be read next; none at its end.
-    fn next(self) -> Option<Symbol> {
-        self.rule().right.get(self.read).copied()
+    fn next(self, grammar: &Grammar) -> Option<Symbol> {
+        self.rule(grammar).right.get(self.read).copied()
     }
 
     fn step(self, before: Link, read: Read) -> Item {
@@ -157,40 +156,36 @@ impl Point {
 
     /// Notes that an item goes on with a part; the first to do so brings the
     /// beginnings of that part's rules.
-    fn wait(&mut self, item: usize, part: Part, point: usize) {
+    fn wait(&mut self, grammar: &Grammar, item: usize, part: Part, point: usize) {
         if self.waiting.iter().all(|&(other, _)| other != part) {
-            self.items.extend(beginnings(part, point));
+            self.items.extend(beginnings(grammar, part, point));
         }
         self.waiting.push((part, item));
     }
 }
 
-fn first_point() -> Point {
-    Point::new(beginnings(WHOLE, 0).collect())
-}
-
-fn beginnings(part: Part, point: usize) -> impl Iterator<Item = Item> {
-    let rules = Grammar::get().rules.iter().enumerate();
+fn beginnings(grammar: &Grammar, part: Part, point: usize) -> impl Iterator<Item = Item> + use<'_> {
+    let rules = grammar.rules.iter().enumerate();
     rules
         .filter(move |(_, rule)| rule.left == part)
         .map(move |(number, _)| Item::begin(number, point))
 }
 
 /// Adds to the last point all that its items bring along.
-fn close(points: &mut [Point]) {
+fn close(grammar: &Grammar, points: &mut [Point]) {
     let (last, earlier) = points.split_last_mut().expect("there is a first point");
     let point = earlier.len();
     let mut number = 0;
     while let Some(&item) = last.items.get(number) {
-        match item.next() {
-            Some(Symbol::Part(part)) => last.wait(number, part, point),
+        match item.next(grammar) {
+            Some(Symbol::Part(part)) => last.wait(grammar, number, part, point),
             Some(Symbol::Word(_)) => {}
             None => {
                 let ended = Link {
                     point,
                     item: number,
                 };
-                last.items.extend(after_part(earlier, item, ended));
+                last.items.extend(after_part(grammar, earlier, item, ended));
             }
         }
         number += 1;
@@ -198,8 +193,13 @@ fn close(points: &mut [Point]) {
 }
 
 /// The items that waited for a part, now that one has ended.
-fn after_part(earlier: &[Point], ended: Item, link: Link) -> impl Iterator<Item = Item> + '_ {
-    let (point, part) = (&earlier[ended.from], ended.rule().left);
+fn after_part<'p>(
+    grammar: &Grammar,
+    earlier: &'p [Point],
+    ended: Item,
+    link: Link,
+) -> impl Iterator<Item = Item> + use<'p> {
+    let (point, part) = (&earlier[ended.from], ended.rule(grammar).left);
     let waiting = point
         .waiting
         .iter()
@@ -214,10 +214,10 @@ fn after_part(earlier: &[Point], ended: Item, link: Link) -> impl Iterator<Item 
 }
 
 /// The items of a point that go on with this word, each a step on.
-fn after_word(point: &Point, number: usize, sign: &'static str) -> Vec<Item> {
+fn after_word(grammar: &Grammar, point: &Point, number: usize, sign: &'static str) -> Vec<Item> {
     let items = point.items.iter().enumerate();
     items
-        .filter(|(_, item)| item.next() == Some(Symbol::Word(sign)))
+        .filter(|(_, item)| item.next(grammar) == Some(Symbol::Word(sign)))
         .map(|(place, item)| {
             let before = Link {
                 point: number,
@@ -229,10 +229,12 @@ fn after_word(point: &Point, number: usize, sign: &'static str) -> Vec<Item> {
 }
 
 /// The one whole text among the items of the last point, if there is one.
-fn whole(points: &[Point]) -> Option<Link> {
+fn whole(grammar: &Grammar, points: &[Point]) -> Option<Link> {
     let (last, earlier) = points.split_last()?;
-    let is_whole =
-        |item: &Item| item.from == 0 && item.rule().left == WHOLE && item.next().is_none();
+    let is_whole = |item: &Item| {
+        let ended = item.next(grammar).is_none();
+        item.from == 0 && item.rule(grammar).left == WHOLE && ended
+    };
     let places = (0..last.items.len()).filter(|&item| is_whole(&last.items[item]));
     let found: Vec<usize> = places.collect();
     assert!(found.len() <= 1, "a text has one reading");

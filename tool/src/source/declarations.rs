@@ -1,0 +1,85 @@
+//! What stands before the statement of a text: constants, the names of words and
+//! arrays, and procedures.
+
+use super::broken::Read;
+use super::reader::Reader;
+use super::scope::Sort;
+use super::tree::Tree;
+use super::Declared;
+use crate::types::Span;
+
+/// A declaration, where it begins, and the body of a procedure.
+pub struct Declaration {
+    pub declared: Declared,
+    pub span: Span,
+    pub body: Option<Tree>,
+}
+
+impl<'t> Reader<'t> {
+    /// The next declaration, if one is next.
+    pub fn declaration(&mut self) -> Read<Option<Declaration>> {
+        let Some(first) = self.peek() else {
+            return Ok(None);
+        };
+        let mut body = None;
+        self.at += 1;
+        let declared = match first.text {
+            b"constant" => Declared::Constants(self.listed(|reader| reader.constant())?),
+            b"word" => Declared::Words(self.listed(|reader| reader.declared(Sort::Word))?),
+            b"array" => Declared::Arrays(self.listed(|reader| reader.declared(Sort::Array))?),
+            b"procedure" => {
+                let name = self.declared(Sort::Procedure)?;
+                self.expect("do")?;
+                body = Some(self.parallel()?);
+                self.expect("end")?;
+                Declared::Procedure(name)
+            }
+            _ => {
+                self.at -= 1;
+                return Ok(None);
+            }
+        };
+        self.skip(";");
+        Ok(Some(Declaration {
+            declared,
+            span: first.span,
+            body,
+        }))
+    }
+
+    /// Some of these, with commas between them.
+    fn listed<T>(&mut self, one: impl Fn(&mut Self) -> Read<T>) -> Read<Vec<T>> {
+        let mut all = vec![one(self)?];
+        while self.skip(",").is_some() {
+            all.push(one(self)?);
+        }
+        Ok(all)
+    }
+
+    fn declared(&mut self, sort: Sort) -> Read<String> {
+        let Some(word) = self.peek() else {
+            return Err(self.broken());
+        };
+        self.scope.declare(word, sort)?;
+        self.at += 1;
+        Ok(word.shown())
+    }
+
+    /// A constant's name and its value as it is written.
+    fn constant(&mut self) -> Read<(String, String)> {
+        let Some(name) = self.peek() else {
+            return Err(self.broken());
+        };
+        if name.name().is_none() {
+            self.scope.declare(name, Sort::Constant(0))?;
+        }
+        self.at += 1;
+        self.expect("=")?;
+        let (sign, (value, word)) = match self.skip("-") {
+            Some(_) => ("-", self.below_zero()?),
+            None => ("", self.number()?),
+        };
+        self.scope.declare(name, Sort::Constant(value))?;
+        Ok((name.shown(), format!("{sign}{}", word.shown())))
+    }
+}

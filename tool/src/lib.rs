@@ -35,5 +35,6 @@ pub mod template;
 pub mod times;
 pub mod trailer;
 pub mod types;
+pub mod version;
 pub mod warnings;
 pub mod wave;

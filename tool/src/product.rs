@@ -24,7 +24,7 @@ pub fn read_text(beside: Beside, text: &[u8]) -> Result<Vec<u8>, Refusal> {
 pub fn compile(beside: Beside, program: &[u8]) -> Result<Vec<u8>, Refusal> {
     let mut file = vec![0; FILE];
     let shape = calls::compile(beside, program, &mut file)?;
-    file.truncate(file_length(shape.cells));
+    file.truncate(file_length(usize::from(shape.cells)));
     Ok(file)
 }
 
@@ -54,7 +54,7 @@ pub fn write_netlist(netlist: &Netlist) -> Result<Vec<u8>, Refusal> {
     } = netlist;
     let mut file = vec![0; FILE];
     let shape = cell_calls::write(*pulse, cells, *finish, &mut file)?;
-    file.truncate(file_length(shape.cells));
+    file.truncate(file_length(usize::from(shape.cells)));
     Ok(file)
 }
 

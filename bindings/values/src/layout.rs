@@ -48,6 +48,9 @@ pub const PROCEDURES: usize = 8;
 /// A reply.
 pub const REPLY: usize = 48;
 
+/// Stack that is enough for every call.
+pub const STACK: usize = 1_048_576;
+
 /// A netlist file of so many cells.
 pub const fn file_length(cells: usize) -> usize {
     BLOCK * cells.div_ceil(BLOCK_CELLS)

@@ -31,7 +31,10 @@ fn declarations<'a>(text: &'a str, begin: &'a str) -> impl Iterator<Item = (Stri
 
 /// The parts between commas.
 fn parts(given: &str) -> impl Iterator<Item = &str> {
-    given.split(',').map(str::trim).filter(|part| !part.is_empty())
+    given
+        .split(',')
+        .map(str::trim)
+        .filter(|part| !part.is_empty())
 }
 
 /// The types after the colons.
@@ -126,7 +129,9 @@ fn python_declares_every_export() {
 fn the_page_tells_every_export() {
     let page = text("docs/LIBRARY.md");
     for name in in_rattle().keys() {
-        let row = page.lines().find(|line| line.starts_with('|') && line.contains(&format!("`{name}`")));
+        let row = page
+            .lines()
+            .find(|line| line.starts_with('|') && line.contains(&format!("`{name}`")));
         assert!(row.is_some(), "{name} has no row in docs/LIBRARY.md");
     }
 }
@@ -135,7 +140,9 @@ fn the_page_tells_every_export() {
 fn the_example_uses_every_export() {
     let lines = text("bindings/example.txt");
     for name in in_rattle().keys() {
-        let told = lines.lines().any(|line| line.starts_with(&format!("{name}: ")));
+        let told = lines
+            .lines()
+            .any(|line| line.starts_with(&format!("{name}: ")));
         assert!(told, "{name} isn't called in the example");
     }
 }
@@ -175,8 +182,16 @@ fn number(text: &str, begin: &str) -> Option<usize> {
 fn sizes_are_the_same() {
     let (c, python) = (text("bindings/c/hub.h"), text("bindings/python/hub.py"));
     for (name, size) in SIZES {
-        assert_eq!(number(&c, &format!("#define HUB_{name} ")), Some(size), "{name} in C");
-        assert_eq!(number(&python, &format!("{name} = ")), Some(size), "{name} in Python");
+        assert_eq!(
+            number(&c, &format!("#define HUB_{name} ")),
+            Some(size),
+            "{name} in C"
+        );
+        assert_eq!(
+            number(&python, &format!("{name} = ")),
+            Some(size),
+            "{name} in Python"
+        );
     }
 }
 

@@ -32,7 +32,14 @@ fn c_calls_the_archive() {
     let program = made("example");
     printed(
         Command::new("cc")
-            .args(["-std=c11", "-Wall", "-Wextra", "-Wpedantic", "-Werror", "-o"])
+            .args([
+                "-std=c11",
+                "-Wall",
+                "-Wextra",
+                "-Wpedantic",
+                "-Werror",
+                "-o",
+            ])
             .arg(&program)
             .args([here("c/example.c"), bindings::ARCHIVE.into()]),
     );
@@ -50,7 +57,11 @@ fn python_calls_the_archive() {
         Command::new("cc")
             .args(["-shared", "-o"])
             .arg(&library)
-            .args(["-Wl,--whole-archive", bindings::ARCHIVE, "-Wl,--no-whole-archive"]),
+            .args([
+                "-Wl,--whole-archive",
+                bindings::ARCHIVE,
+                "-Wl,--no-whole-archive",
+            ]),
     );
     let lines = printed(
         Command::new("python3")

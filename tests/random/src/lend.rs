@@ -1,9 +1,9 @@
 //! Lent buffers: how long results are, and what a buffer holds before one.
 
-use values::layout::{BLOCK, BLOCK_CELLS, FUNCTIONAL_CELLS, IMPERATIVE_CELLS};
 pub use values::layout::{
     cell_length, file_length, state_length, ELEMENTS as ARRAYS, STATE_HEADER as HEADER, WORDS,
 };
+use values::layout::{BLOCK, BLOCK_CELLS, FUNCTIONAL_CELLS, IMPERATIVE_CELLS};
 use values::{Cell, Format};
 
 /// Room for the netlist file of any program's imperative circuit, and for its full

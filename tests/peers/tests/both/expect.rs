@@ -1,8 +1,8 @@
 //! What many tests expect or ask.
 
 use peers::BOTH;
-use values::layout::{ELEMENTS, WORDS};
 pub use values::layout::{cell_length, state_length};
+use values::layout::{ELEMENTS, WORDS};
 use values::{Format, Given, Refusal, Words};
 
 /// Start words, sixteen and 256, that are 0.

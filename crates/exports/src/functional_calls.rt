@@ -2,7 +2,7 @@
 // and the table: no number of procedures, and no pulse length.
 ghost use mathlib.Core.Path.{_≡_};
 ghost use Rattle.model.specs.TimeTables.{givenIf, beside, load};
-ghost use Rattle.model.specs.FunctionalCalls.{checkFunctionalCall, compileFunctionalCall, beginFunctionalCall, continueFunctionalCall, startFunctionalCall, runFunctionalCall, runFunctionalProgramCall};
+ghost use Rattle.model.specs.FunctionalCalls.{checkFunctionalCall, compileFunctionalCall, referenceFunctionalCall, beginFunctionalCall, continueFunctionalCall, startFunctionalCall, runFunctionalCall, runFunctionalProgramCall};
 ghost use Rattle.model.specs.declared.Format.the-variants.{Full, Compact};
 ghost use Rattle.reply.specs.Replies.{checkedReply, writtenReply, answerReply, replied, roomFor, ifRoom};
 use model::Format;
@@ -87,6 +87,27 @@ pub extern "C" fn hub_compile_functional(
     let options = hub::load_if(timed, table, 0, 1);
     let answer = hub::compile_functional(options, program, file);
     reply::put(reply, reply::of_written(answer));
+    true
+}
+
+#[no_mangle]
+pub extern "C" fn hub_reference_functional(
+    timed: bool,
+    table: &[u8],
+    program: &[u8],
+    words: &[u8],
+    budget: u32,
+    reply: &mut [u8],
+) -> bool
+    ensures done { λ r. ⌜ r ≡ roomFor (now (reply .entry)) ⌝ }
+    ensures reply { λ _. ⌜ now (reply .exit) ≡ ifRoom (now (reply .entry)) (replied (answerReply (referenceFunctionalCall (load (beside (givenIf timed (now (table .entry))) 0 1)) (now (program .entry)) (now (words .entry)) budget)) (now (reply .entry))) (now (reply .entry)) ⌝ }
+{
+    if reply.len() < reply::LENGTH {
+        return false;
+    }
+    let options = hub::load_if(timed, table, 0, 1);
+    let answer = hub::reference_functional(options, program, words, budget);
+    reply::put(reply, reply::of_answer(answer));
     true
 }
 

@@ -10,13 +10,12 @@ use Rattle.model.specs.declared.Checked.the-variants.{Accepted, Refused}
 use Rattle.model.specs.declared.Format.{Format}
 use Rattle.model.specs.declared.Format.the-variants.{Full}
 use Rattle.model.specs.declared.Outcome.{Outcome}
-use Rattle.model.specs.declared.Outcome.the-variants.{Ended, Open}
 use Rattle.model.specs.declared.Refusal.{Refusal}
 use Rattle.model.specs.Refusals.{first}
-use Rattle.model.specs.NetlistFile.{fileCheck, cellsOf, netOf, lastCheck}
+use Rattle.model.specs.NetlistFile.{fileCheck, cellsOf, lastCheck}
 use Rattle.model.specs.State.{Course}
 use Rattle.model.specs.Calls.{Returned, verdict, refusedAnswer, running, goingOn, beginChecks, beginCall, continueChecks, continueCall, startChecks, startCall, runNetlistChecks, runNetlistCall}
-use Rattle.model.specs.FunctionalCalls.{lastChecks, retold, inMode, functionally}
+use Rattle.model.specs.FunctionalCalls.{retold, inMode, functionally}
 use Rattle.laws.specs.Refusals.Laws.{not-refused}
 use Rattle.state.specs.Stands.{Runs}
 use Rattle.simulator.proofs.Refusing.{Tells, begin-accepted, continue-accepted, start-accepted, run-accepted}
@@ -41,13 +40,13 @@ module _ {file : List ℕ} where
 -- How an answer is told ----------------------------------------------------------------------------------------------------------------
 
 module _ (F : Format) (file : List ℕ) (a : Answer) (s : List ℕ) where
-  pub told-shown : (o : Outcome) → a .outcome ≡ o → verdict o ≡ Accepted → withLast F file a s ≡ retoldAs F file a s
+  pub told-shown : verdict (a .outcome) ≡ Accepted → withLast F file a s ≡ retoldAs F file a s
   unfolding retold
-  told-shown o e v = rw (e, v) (rw (← e) refl)
+  told-shown v = rw (retoldAs, v) refl
 
   pub told-refused : {r : Refusal} → a .outcome ≡ Outcome.Refused r → a ≡ retoldAs F file a s
   unfolding retold verdict
-  told-refused e = rw e refl
+  told-refused e = rw (retoldAs, e) refl
 
 module _ (F : Format) (file lent : List ℕ) where
   pub mode-refused : {c : Checked} {r : Refusal} {a : Answer} (t : Returned Answer) → Ahead file c → c ≡ Refused r → a ≡ refusedAnswer r
@@ -65,10 +64,10 @@ module _ (F : Format) (file lent : List ℕ) where
   left-as t (Refused r) = refl
 
   in-mode : (t : Returned Answer) → Ahead file Accepted → Refuses t → functionally F file lent t ≡ retold F file (verdict (t .answer .outcome)) t
+  unfolding inMode retold verdict
   in-mode t H R = ap (λ (c : Checked). inMode F file c lent t) (H .left refl) ∙ go (fileCheck file) refl
     where
       go : (c : Checked) → fileCheck file ≡ c → inMode F file c lent t ≡ retold F file (verdict (t .answer .outcome)) t
-      unfolding inMode retold verdict
       go Accepted e = refl
       go (Refused q) e = rw (R q e) refl
 
@@ -91,7 +90,7 @@ going-behind F Accepted file k lent e = refl
 going-behind F (Refused r) file k lent e = not-refused e
 
 -- a state as long as one that has its size
-same-size : {F : Format} {file lent s : List ℕ} → length s ≡ length lent → Runs F file lent → Runs F file s
+pub same-size : {F : Format} {file lent s : List ℕ} → length s ≡ length lent → Runs F file lent → Runs F file s
 same-size l r = record { accepted = r .accepted; room = rw l (r .room) }
 
 module _ (F : Format) (file : List ℕ) where

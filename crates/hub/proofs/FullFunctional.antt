@@ -1,5 +1,5 @@
 -- The full run of a program's functional circuit: which refusal comes first, what a run that is not refused has, and what the call tells. Assumes nothing.
-use mathlib.Core.List.{List}
+use mathlib.Core.List.{List, [], _∷_}
 use mathlib.Core.Path.{_≡_, refl, sym, _∙_}
 use Prim.Native.Nat.{ℕ, _≤_}
 use native.Mathlib.Omega.{arith}
@@ -11,12 +11,14 @@ use Rattle.model.specs.declared.Checked.the-variants.{Accepted, Refused}
 use Rattle.model.specs.declared.Format.the-variants.{Full}
 use Rattle.model.specs.Refusals.{first}
 use Rattle.model.specs.Word.{Bytes}
+use Rattle.model.specs.ProgramChecks.{checkFunctional}
 use Rattle.model.specs.Functional.{netlistOf, finishOf}
 use Rattle.model.specs.Calls.{overwrite, refusedAnswer, shows, running, writing, fullState, fullCount}
 use Rattle.model.specs.FunctionalCalls.{checkFunctionalCall, statementOf, functionalFile, retold, runFunctionalProgramChecks, runFunctionalProgramCall}
-use Rattle.laws.specs.Refusals.Laws.{first-take, first-drop, accept-take}
-use Rattle.laws.specs.Functional.Count.{net-len}
-use Rattle.functional.proofs.Call.{same-count, few, functional-accepted}
+use Rattle.laws.specs.Refusals.Laws.{all-accept, first-take, first-drop, accept-take}
+use Rattle.laws.specs.Functional.Count.{net-len, fits}
+use Rattle.laws.specs.Functional.Accepted.{tableAlone, also-accepted, main-basic}
+use Rattle.functional.proofs.Call.{functional-accepted}
 use Rattle.functional_runs.specs.Modes.{withLast}
 use Rattle.state.specs.Stands.{Runs}
 use Rattle.hub.specs.Lent.{lentChecks}
@@ -24,7 +26,10 @@ use Rattle.hub.proofs.Lent.{asked-as, Enough, enough}
 
 -- A netlist has few cells
 pub few-cells : (options : Options) (program : List ℕ) → checkFunctionalCall options program ≡ Accepted → length (netlistOf (statementOf program)) ≤ 7043
-few-cells options program e = omega (arith, same-count options program e, few options program e)
+unfolding checkFunctionalCall
+few-cells options program e =
+    let a = all-accept (options .checked ∷ checkFunctional options program ∷ []) e in
+    fits (tableAlone options) program (also-accepted options program (a 0) (a 1)) (main-basic options program (a 0) (a 1)) .1
 
 module _ (options : Options) (program words : List ℕ) (budget : ℕ) (file state : List ℕ) where
   abbrev checks : List Checked
@@ -53,7 +58,7 @@ module _ (options : Options) (program words : List ℕ) (budget : ℕ) (file sta
   accepted e = accept-take 2 checks e
 
   pub ready : verdict ≡ Accepted → Enough (functionalFile program) words budget file state
-  ready e = enough _ _ (functionalFile program) words budget file state e
+  ready e = enough (options .checked) (checkFunctional options program) (functionalFile program) words budget file state e
 
   pub runs : Bytes program → verdict ≡ Accepted → Runs Full (functionalFile program) state
   runs bytes e = record { accepted = functional-accepted options program bytes (accepted e); room = ready e .room }

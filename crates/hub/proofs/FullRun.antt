@@ -11,7 +11,8 @@ use Rattle.model.specs.declared.Checked.the-variants.{Accepted, Refused}
 use Rattle.model.specs.declared.Format.the-variants.{Full}
 use Rattle.model.specs.Refusals.{first}
 use Rattle.model.specs.Word.{Bytes}
-use Rattle.model.specs.ProgramChecks.{programWith}
+use Rattle.model.specs.ProgramChecks.{checkOf, programWith}
+use Rattle.model.specs.TimeTables.{givenCheck}
 use Rattle.model.specs.Numbering.{netlist, finish}
 use Rattle.model.specs.Calls.{checkCall, overwrite, compiledFile, refusedAnswer, shows, running, writing, fullState, fullCount, runProgramChecks, runProgramCall}
 use Rattle.laws.specs.Refusals.Laws.{first-take, first-drop, accept-take}
@@ -54,7 +55,7 @@ module _ (options : Options) (program words : List ℕ) (budget : ℕ) (file sta
   accepted e = accept-take 2 checks e
 
   pub ready : verdict ≡ Accepted → Enough (compiledFile options program) words budget file state
-  ready e = enough _ _ (compiledFile options program) words budget file state e
+  ready e = enough (givenCheck options) (checkOf options program) (compiledFile options program) words budget file state e
 
   pub runs : Bytes program → verdict ≡ Accepted → Runs Full (compiledFile options program) state
   runs bytes e = record { accepted = compiled-accepted options program bytes (accepted e); room = ready e .room }

@@ -4,7 +4,7 @@
 ghost use mathlib.Core.Path.{_≡_};
 ghost use Rattle.model.specs.TimeTables.{givenIf, beside, load, defaults};
 ghost use Rattle.model.specs.Calls.{checkCall, compileCall, writeCall, readCall, beginCall, continueCall, startCall, runNetlistCall, runProgramCall, referenceCall};
-ghost use Rattle.model.specs.FunctionalCalls.{checkFunctionalCall, compileFunctionalCall, beginFunctionalCall, continueFunctionalCall, startFunctionalCall, runFunctionalCall, runFunctionalProgramCall};
+ghost use Rattle.model.specs.FunctionalCalls.{checkFunctionalCall, compileFunctionalCall, referenceFunctionalCall, beginFunctionalCall, continueFunctionalCall, startFunctionalCall, runFunctionalCall, runFunctionalProgramCall};
 ghost use Rattle.model.specs.TextCalls.{readTextCall, compileTextCall, runTextCall};
 
 pub mod full; // the full run of a program
@@ -162,6 +162,13 @@ pub fn compile_functional(options: Options, program: &[u8], file: &mut [u8]) -> 
     ensures lent { λ _. ⌜ now (file .exit) ≡ compileFunctionalCall options (now (program .entry)) (now (file .entry)) .lent ⌝ }
 {
     functional::compile(options, program, file)
+}
+
+// The program by its own rules, with the times of a functional circuit.
+pub fn reference_functional(options: Options, program: &[u8], words: &[u8], budget: u32) -> Answer
+    ensures { λ r. ⌜ r ≡ referenceFunctionalCall options (now (program .entry)) (now (words .entry)) budget ⌝ }
+{
+    rules::reference_functional(options, program, words, budget)
 }
 
 // As the calls above, on a netlist whose last sixteen cells carry the last words, which the answer shows.

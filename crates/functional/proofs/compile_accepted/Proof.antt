@@ -29,8 +29,7 @@ returns : tie.Need-returns
 returns c =
     let at-file = c .before .before in
     let at-count = at-file .before .before .before in
-    let start = at-count .before .before .before .before .before .before in
-    (
+    let start = at-count .before .before .before .before .before .before in (
       sym (functional-size (start .args .options) _ (start .pre .0) (ap (_+_ 43) (at-count .count-stmt .ensures))),
       rw (same-file (start .args .options) _ (start .pre .0)) (at-file .put-file .ensures .0),
     )

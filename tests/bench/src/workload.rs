@@ -1,5 +1,7 @@
 //! Netlists of tests/vectors, to be run from zero start words.
 
+use hub::store;
+use hub::verilog::{module, Edges};
 use second::cells::Netlist;
 use second::contents::CONTENTS_LENGTH;
 use second::{netfile, state};
@@ -46,6 +48,16 @@ impl Workload {
             file,
             netlist,
         }
+    }
+
+    /// It as Verilog, from zero start words.
+    pub fn verilog(&self) -> String {
+        let netlist = hub::types::Netlist {
+            cells: self.netlist.cells.clone(),
+            finish: self.netlist.finish,
+            pulse: self.netlist.pulse,
+        };
+        module(&netlist, Edges::Both, &[0; store::LENGTH], &[])
     }
 
     /// A buffer for its state.

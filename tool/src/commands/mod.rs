@@ -19,6 +19,7 @@ mod start;
 mod states;
 mod test;
 mod times;
+mod verilog;
 mod wave;
 mod wire;
 
@@ -57,6 +58,7 @@ pub const COMMANDS: &[&Command] = &[
     &wire::COMMAND,
     &draw::COMMAND,
     &wave::COMMAND,
+    &verilog::COMMAND,
     &compile::COMMAND,
     &read::COMMAND,
     &begin::COMMAND,

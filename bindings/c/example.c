@@ -9,7 +9,9 @@
 #include <string.h>
 
 static const char TWO_BOARDS[] = "while x0 @1 do x0 := x0 - 1 @17 end || while x1 @1 do x1 := x1 - 1 @17 end";
-static const char ONE_BOARD[] = "x1 := 5 @1; while x0 @1 do x0 := x0 - 1 @17 end";
+
+/* A loop that is left at once, as nodes: no functional circuit has one. */
+static const uint8_t LEFT_LOOP[] = {25, 1, 0, 0, 26, 0, 0, 0};
 
 _Static_assert(sizeof(struct hub_reply) == HUB_REPLY && sizeof(struct hub_cell) == HUB_CELL, "as the archive has them");
 
@@ -121,8 +123,7 @@ static void runs(size_t length)
 static void functional_programs(void)
 {
     size_t length = read_text(TWO_BOARDS);
-    CALL(hub_check_functional, false, NULL, 0, program, length);
-    length = read_text(ONE_BOARD);
+    CALL(hub_check_functional, false, NULL, 0, LEFT_LOOP, sizeof LEFT_LOOP);
     CALL(hub_check_functional, false, NULL, 0, program, length);
     CALL(hub_run_functional_program, false, NULL, 0, program, length, words, sizeof words, 1000, netlist, sizeof netlist, state, sizeof state);
     CALL(hub_reference_functional, false, NULL, 0, program, length, words, sizeof words, 1000);

@@ -158,8 +158,9 @@ impl<'w> Writer<'w> {
             text += &format!("{blank}{comment}\n");
         }
         let line = self.on_a_line(tree, may_be);
-        // In a long text statements that follow each other stand below each other.
-        let apart = self.long && tree.node.kind == 19;
+        // In a long text statements that follow each other stand below each other, and so do
+        // those in a loop.
+        let apart = self.long && (tree.node.kind == 19 || tree.has_steps_in_loops());
         if indent + line.len() <= WIDTH && !apart && !self.has_comments_in(tree) {
             return text + &blank + &line;
         }
@@ -262,6 +263,18 @@ impl<'w> Writer<'w> {
 }
 
 impl Tree {
+    /// Whether a loop has statements in it that follow each other.
+    fn has_steps_in_loops(&self) -> bool {
+        match self.node.kind {
+            22 | 23 | 25 => self.has_steps(),
+            _ => self.parts.iter().any(Tree::has_steps_in_loops),
+        }
+    }
+
+    fn has_steps(&self) -> bool {
+        self.node.kind == 19 || self.parts.iter().any(Tree::has_steps)
+    }
+
     /// The number of the node after the last one below this one.
     fn end(&self) -> usize {
         self.parts.last().map_or(self.at + 1, Tree::end)

@@ -9,7 +9,7 @@ mod programs;
 mod rules;
 mod texts;
 
-pub use asking::{has_delay, least_delay};
+pub use asking::{least_delay, settles};
 pub use calls::run_by;
 pub use long::of_long;
 pub use marks::Mark;

@@ -125,6 +125,7 @@ fn whole(text: &[u8]) -> Read<Source> {
         at: 0,
         length: text.len(),
         depth: 0,
+        open: Vec::new(),
     };
     let mut source = Source {
         comments,

@@ -8,7 +8,7 @@ mod uses;
 use crate::bound;
 use crate::input::Program;
 use crate::kinds::NODES;
-use crate::refusals::least_delay;
+use crate::refusals::{least_delay, settles};
 use crate::source::Said;
 use crate::types::Beside;
 use conditions::Conditions;
@@ -54,23 +54,18 @@ pub fn warnings(beside: Beside, program: &Program, line: &dyn Fn(usize) -> Strin
 }
 
 /// Delays above the least, but for those that say so, with the loop whose every round
-/// they make longer. A tick is there for its delay.
+/// they make longer.
 fn long_delays(beside: Beside, program: &Program, line: &dyn Fn(usize) -> String) -> Vec<Warning> {
     let nodes = &program.nodes;
-    let meant = |node: &usize| {
-        nodes[*node].kind == TICK
-            || matches!(program.said.get(*node), Some(Said::More(..) | Said::Least))
-    };
+    let meant = |node: usize| matches!(program.said.get(node), Some(Said::More(..) | Said::Least));
     let mut all = Vec::new();
-    for node in (0..nodes.len()).filter(|node| nodes[*node].delay > 0 && !meant(node)) {
-        let (delay, least) = (nodes[node].delay, least_delay(beside, nodes, node));
-        let Some(more) = least
-            .and_then(|least| delay.checked_sub(least))
-            .filter(|more| *more > 0)
-        else {
+    for node in (0..nodes.len()).filter(|node| !meant(*node) && settles(beside, nodes, *node)) {
+        let delay = nodes[node].delay;
+        let least = least_delay(beside, nodes, node).unwrap_or(delay);
+        let more = delay - least;
+        if more == 0 {
             continue;
-        };
-        let least = delay - more;
+        }
         let mut what = format!("this delay is {delay}, and {least} is the least: {more} more");
         if let Some(around) = uses::loop_around(nodes, node) {
             let (word, line) = (word_of(nodes[around].kind), line(around));
@@ -85,8 +80,6 @@ fn long_delays(beside: Beside, program: &Program, line: &dyn Fn(usize) -> String
     }
     all
 }
-
-const TICK: u8 = 17;
 
 /// The word for a kind of node.
 fn word_of(kind: u8) -> &'static str {

@@ -7,7 +7,7 @@ use crate::input::{Circuit, Given, Program};
 use crate::json::Json;
 use crate::labels::{first_line, Labels};
 use crate::listing;
-use crate::refusals::{has_delay, least_delay, Mark};
+use crate::refusals::{least_delay, settles, Mark};
 use crate::types::{Beside, Done, DONE, REFUSED};
 use crate::warnings::{warnings, Warning};
 
@@ -100,9 +100,7 @@ fn warned(warnings: &[Told]) -> String {
 
 fn delays(beside: Beside, program: &Program, text: &[u8]) -> Vec<Delay> {
     let nodes = &program.nodes;
-    // A tick is there for its delay: a smaller one would be another program.
-    let settling = |node: &usize| nodes[*node].kind != TICK && has_delay(beside, nodes, *node);
-    let delayed = (0..nodes.len()).filter(settling);
+    let delayed = (0..nodes.len()).filter(|node| settles(beside, nodes, *node));
     let told = |node: usize| {
         let place = program.places.as_ref().map(|places| {
             let whole = places[node].whole;
@@ -119,8 +117,6 @@ fn delays(beside: Beside, program: &Program, text: &[u8]) -> Vec<Delay> {
     };
     delayed.map(told).collect()
 }
-
-const TICK: u8 = 17;
 
 fn text(given: &Given, circuit: &Circuit, delays: &[Delay]) -> String {
     let nodes = match &circuit.program {

@@ -4,7 +4,7 @@ use super::{Command, Stop};
 use crate::args::{Args, Options};
 use crate::input::{Form, Given};
 use crate::json::Json;
-use crate::refusals::least_delay;
+use crate::refusals::{least_delay, settles};
 use crate::source::{Place, Source};
 use crate::types::{Done, Fault, Node};
 use crate::{format, output, product};
@@ -64,13 +64,12 @@ struct Delay {
 
 impl Delay {
     fn of(given: &Given, nodes: &[Node], node: usize) -> Option<Delay> {
-        let delayed = matches!(nodes[node].kind, 18 | 21..=25 | 27);
-        let least = least_delay(given.beside(), nodes, node);
-        delayed.then_some(Delay {
+        let beside = given.beside();
+        settles(beside, nodes, node).then(|| Delay {
             node,
             given: nodes[node].delay,
             // The longest, which the product refuses.
-            least: least.unwrap_or(u8::MAX),
+            least: least_delay(beside, nodes, node).unwrap_or(u8::MAX),
         })
     }
 

@@ -18,7 +18,12 @@ pub fn man() -> String {
         let about = escaped(command.about);
         page += &format!(".TP\n.B {}\n{about}.\n", escaped(&usage(command)));
         for line in command.more.lines() {
-            page += &format!("{}\n", escaped(line.trim_start()));
+            let shown = escaped(line.trim_start());
+            // What is indented is an example, on a line of its own.
+            page += &match line.starts_with(' ') {
+                true => format!(".br\n\\ \\ {shown}\n.br\n"),
+                false => format!("{shown}\n"),
+            };
         }
         page += &format!(".IP\nExample:\n.B {}\n", escaped(command.example));
     }

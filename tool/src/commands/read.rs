@@ -9,7 +9,9 @@ pub const COMMAND: Command = Command {
     name: "read",
     usage: "FILE -o PROG",
     about: "writes the bytes of a text's program",
-    more: "The bytes are those that hubtext writes and hubrun reads; a refused text writes none.",
+    more: "Those of a short text are what hubtext writes, and hubrun reads such bytes. They don't tell\n\
+        how many procedures there are, so that --procedures N has to go with them. A refused\n\
+        program writes none.",
     example: "hub read examples/two_boards.hub -o two_boards.prog",
     options: Options::of_program(&["o"], &[]),
     run,

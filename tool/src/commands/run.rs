@@ -108,7 +108,7 @@ const ELEMENT_ASSIGNMENT: u8 = 24;
 /// What the rules say, as a line.
 fn said(answer: &Answer, rules: Option<Option<End>>, arrays: bool) -> String {
     let same = match arrays {
-        true => "the same x0 to x15; elements are not compared",
+        true => "the same sixteen words; elements are not compared",
         false => "the same words",
     };
     let said = match rules {

@@ -19,7 +19,7 @@ pub const COMMAND: Command = Command {
     about: "runs a program from many start words, and tells which runs are as expected",
     more: "CASES has a line 'program NAME', of a file beside it, or else NAME.cases is about\n\
         NAME.hub; and a line for each case: start words, an arrow, and what is expected:\n\
-          x0=3 x1=5 -> end 96 x0=0 x1=0\n\
+          \x20 x0=3 x1=5 -> end 96 x0=0 x1=0\n\
         'end N' is an end at that instant, 'open N' none up to it; without either the run has to\n\
         end. Words that aren't named may be as they are. Text after # is passed over. Each run is\n\
         also held against the rules. The exit status is 1 if a case isn't as expected.",

@@ -65,12 +65,15 @@ fn alone(nodes: &[Node], node: usize) -> (Vec<Node>, usize) {
     (alone, 0)
 }
 
-/// Whether a node of an accepted program has a use for its delay.
-pub fn has_delay(beside: Beside, nodes: &[Node], node: usize) -> bool {
+/// Whether a node, of a program in which at most delays are too small, has a delay for
+/// something to settle in. A tick is there for its delay: another would be another program.
+pub fn settles(beside: Beside, nodes: &[Node], node: usize) -> bool {
     let mut nodes = nodes.to_vec();
     nodes[node].delay = 255;
-    asked(beside, &nodes) != Err(Refusal::new(3, node))
+    nodes[node].kind != TICK && asked(beside, &nodes) != Err(Refusal::new(3, node))
 }
+
+const TICK: u8 = 17;
 
 /// The first uses, one on each side, for which a parallel node is refused, be it
 /// in a body that a side reaches. The product is asked about two statements side

@@ -82,9 +82,9 @@ fn of_node(report: &mut Report, given: &Given, nodes: &[Node], source: Option<&S
 fn of_tree(report: &mut Report, given: &Given, nodes: &[Node], source: Option<&Source>) {
     let place = report.refusal.place;
     if matches!(given.form, Form::Text | Form::Short) {
-        report.rule = "a text is one statement, and has no procedures".into();
+        report.rule = "a short text is one statement, and has no procedures".into();
         report.remedy =
-            "leave --procedures out, or write the program as an outline, which has them".into();
+            "leave --procedures out; a long text declares its procedures, and tells them".into();
         report.found = Some(counted(given.aside.procedures, "procedure"));
         return;
     }

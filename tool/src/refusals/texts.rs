@@ -15,7 +15,8 @@ pub fn of_word(mut report: Report, text: &[u8]) -> Report {
     let (rule, remedy) = match text.len() > place && place == TEXT {
         true => {
             report.found = Some(format!("{} bytes", text.len()));
-            ("a text has at most 4,096 bytes", "make it shorter".into())
+            let remedy = "make it shorter, or take it as a long one";
+            ("a short text has at most 4,096 bytes", remedy.into())
         }
         false => outside(&text[word.start..word.end], &text[word.end..]),
     };

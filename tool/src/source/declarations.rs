@@ -1,10 +1,12 @@
 //! What stands before the statement of a text: constants, the names of words and
 //! arrays, and procedures.
 
-use super::broken::Read;
+use super::broken::{Broken, Read};
+use super::habits;
 use super::reader::Reader;
 use super::scope::Sort;
 use super::tree::Tree;
+use super::words::Word;
 use super::Declared;
 use crate::types::Span;
 
@@ -28,10 +30,8 @@ impl<'t> Reader<'t> {
             b"word" => Declared::Words(self.listed(|reader| reader.declared(Sort::Word))?),
             b"array" => Declared::Arrays(self.listed(|reader| reader.declared(Sort::Array))?),
             b"procedure" => {
-                let name = self.declared(Sort::Procedure)?;
-                self.expect("do")?;
-                body = Some(self.parallel()?);
-                self.expect("end")?;
+                let (name, tree) = self.within(first, Self::procedure)?;
+                body = Some(tree);
                 Declared::Procedure(name)
             }
             _ => {
@@ -39,12 +39,32 @@ impl<'t> Reader<'t> {
                 return Ok(None);
             }
         };
+        self.ends(first)?;
         self.skip(";");
         Ok(Some(Declaration {
             declared,
             span: first.span,
             body,
         }))
+    }
+
+    fn procedure(&mut self, _: Word<'t>) -> Read<(String, Tree)> {
+        let name = self.declared(Sort::Procedure)?;
+        self.expect("do")?;
+        let body = self.parallel()?;
+        self.expect("end")?;
+        Ok((name, body))
+    }
+
+    /// Nothing stands behind a declaration that people add to one elsewhere.
+    fn ends(&self, first: Word) -> Read<()> {
+        let Some(next) = self.peek() else {
+            return Ok(());
+        };
+        match habits::behind_names(first.text, next.text) {
+            Some((rule, remedy)) => Err(Broken::order(next.span, rule, Some(remedy.into()))),
+            None => Ok(()),
+        }
     }
 
     /// Some of these, with commas between them.

@@ -72,9 +72,7 @@ impl<'t> Reader<'t> {
             }
             b"(" => {
                 self.at += 1;
-                let inner = self.deeper(|reader| reader.expression())?;
-                let whole = first.span.to(self.expect(")")?);
-                Ok(inner.over(whole))
+                self.within(first, Self::bracketed)
             }
             b"-" => {
                 self.at += 1;
@@ -85,6 +83,12 @@ impl<'t> Reader<'t> {
             }
             _ => self.named(first),
         }
+    }
+
+    fn bracketed(&mut self, first: Word<'t>) -> Read<Tree> {
+        let inner = self.deeper(|reader| reader.expression())?;
+        let whole = first.span.to(self.expect(")")?);
+        Ok(inner.over(whole))
     }
 
     /// A number, a word, an element or a constant.

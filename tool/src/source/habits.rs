@@ -44,11 +44,43 @@ fn capitals(word: &[u8]) -> (&'static str, String) {
     (rules::CAPITALS, format!("write {small}"))
 }
 
+/// Whether an expression may end with a word.
+fn ends_operand(word: &[u8]) -> bool {
+    let last = word.last().copied().unwrap_or_default();
+    last.is_ascii_alphanumeric() || matches!(last, b'_' | b')' | b']')
+}
+
+/// What is told of a sign behind the names of a declaration.
+pub fn behind_names(keyword: &[u8], sign: &[u8]) -> Option<(&'static str, &'static str)> {
+    Some(match (keyword, sign) {
+        (b"word" | b"array", b"[") => (
+            rules::LENGTH,
+            "leave the brackets out; an index stands where an element is used",
+        ),
+        (b"word" | b"array", b"=" | b":=") => (
+            rules::FIRST_VALUE,
+            "assign it in the program, or give it with the run, as left=5",
+        ),
+        (b"constant", b"+" | b"-" | b"&" | b"|") => {
+            (rules::ONE_NUMBER, "work it out, and write the number")
+        }
+        _ => return None,
+    })
+}
+
 /// What is told where the text can't go on with the middle one of three words.
 pub fn wrong_order([before, word, after]: [&[u8]; 3]) -> Option<(&'static str, &'static str)> {
     Some(match (before, word) {
         (b"=", b"=") => (rules::EQUAL, "write ="),
-        (b"&", b"&") => (rules::AND, "write &"),
+        (b"&", b"&") | (_, b"and") => (rules::AND, "write &"),
+        (_, b"or") => (rules::OR, "write |"),
+        (before, b"||") if ends_operand(before) => {
+            (rules::OR, "write |; || is for statements side by side")
+        }
+        (_, b"elseif" | b"elsif" | b"elif") => (
+            rules::ELSE_IF,
+            "write else if .. then .. end end, with an end for each if",
+        ),
         (b"<", b">") => (rules::NOT_EQUAL, "write !="),
         (_, b"+" | b"-") if after == word || after == b"=" => {
             (rules::COUNTING, "write x := x + 1, or x := x - 1")

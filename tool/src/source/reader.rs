@@ -19,6 +19,8 @@ pub struct Reader<'t> {
     pub length: usize,
     pub scope: Scope,
     pub depth: usize,
+    /// The words and signs that opened what isn't closed yet.
+    pub open: Vec<Span>,
 }
 
 impl<'t> Reader<'t> {
@@ -54,7 +56,11 @@ impl<'t> Reader<'t> {
         let Some(word) = self.peek() else {
             let end = self.length;
             let span = Span { start: end, end };
-            return Broken::order(span, rules::TOO_EARLY, None);
+            let broken = Broken::order(span, rules::TOO_EARLY, None);
+            return match self.open.last() {
+                Some(open) => broken.with(*open, "this isn't closed yet"),
+                None => broken,
+            };
         };
         let near = |at: Option<usize>| {
             let word = at.and_then(|at| self.words.get(at));
@@ -82,6 +88,18 @@ impl<'t> Reader<'t> {
         self.depth += 1;
         let found = read(self)?;
         self.depth -= 1;
+        Ok(found)
+    }
+
+    /// Reads what this word opens and something else closes.
+    pub fn within<T>(
+        &mut self,
+        first: Word<'t>,
+        read: fn(&mut Self, Word<'t>) -> Read<T>,
+    ) -> Read<T> {
+        self.open.push(first.span);
+        let found = read(self, first)?;
+        self.open.pop();
         Ok(found)
     }
 

@@ -156,6 +156,8 @@ impl Scope {
         let mut names: Vec<&str> = declared.map(|(name, _)| name.as_str()).collect();
         names.sort_unstable();
         let remedy = match nearest(&name, names.into_iter().chain(KEYWORDS)) {
+            _ if name == "true" => "write 1; a condition holds if it isn't 0".to_string(),
+            _ if name == "false" => "write 0".to_string(),
             Some(near) => format!("did you mean {near}?"),
             None if what == "procedure" => {
                 format!("declare it before the program: procedure {name} do .. end")

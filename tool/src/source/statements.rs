@@ -47,21 +47,23 @@ impl<'t> Reader<'t> {
             b"ok" => Ok(Tree::leaf(16, 0, first.span)),
             b"exit" => Ok(Tree::leaf(26, 0, first.span)),
             b"tick" => self.tick(first),
-            b"{" => {
-                let inner = self.deeper(|reader| reader.parallel())?;
-                let whole = first.span.to(self.expect("}")?);
-                Ok(inner.over(whole))
-            }
-            b"if" => self.choice(first),
-            b"while" => self.while_loop(first),
-            b"repeat" => self.repeat_loop(first),
-            b"loop" => self.exit_loop(first),
             b"call" => self.call(first),
+            b"if" => self.within(first, Self::choice),
+            b"while" => self.within(first, Self::while_loop),
+            b"repeat" => self.within(first, Self::repeat_loop),
+            b"loop" => self.within(first, Self::exit_loop),
+            b"{" => self.within(first, Self::braces),
             _ => {
                 self.at -= 1;
                 self.assignment(first)
             }
         }
+    }
+
+    fn braces(&mut self, first: Word<'t>) -> Read<Tree> {
+        let inner = self.deeper(|reader| reader.parallel())?;
+        let whole = first.span.to(self.expect("}")?);
+        Ok(inner.over(whole))
     }
 
     fn tick(&mut self, first: Word) -> Read<Tree> {
@@ -130,7 +132,7 @@ impl<'t> Reader<'t> {
         broken
     }
 
-    fn choice(&mut self, first: Word) -> Read<Tree> {
+    fn choice(&mut self, first: Word<'t>) -> Read<Tree> {
         let mut tree = self.tested(21, first)?;
         self.expect("then")?;
         tree.children.push(self.deeper(|reader| reader.parallel())?);
@@ -144,14 +146,14 @@ impl<'t> Reader<'t> {
         Ok(tree.over(first.span.to(end)))
     }
 
-    fn while_loop(&mut self, first: Word) -> Read<Tree> {
+    fn while_loop(&mut self, first: Word<'t>) -> Read<Tree> {
         let mut tree = self.tested(22, first)?;
         self.expect("do")?;
         tree.children.push(self.deeper(|reader| reader.parallel())?);
         self.ended(tree, first)
     }
 
-    fn repeat_loop(&mut self, first: Word) -> Read<Tree> {
+    fn repeat_loop(&mut self, first: Word<'t>) -> Read<Tree> {
         let body = self.deeper(|reader| reader.parallel())?;
         self.expect("until")?;
         let mut tree = self.tested(23, first)?;
@@ -159,7 +161,7 @@ impl<'t> Reader<'t> {
         self.ended(tree, first)
     }
 
-    fn exit_loop(&mut self, first: Word) -> Read<Tree> {
+    fn exit_loop(&mut self, first: Word<'t>) -> Read<Tree> {
         let mut tree = Tree::leaf(25, 0, first.span);
         self.delay(&mut tree, first.span)?;
         self.expect("do")?;
@@ -183,6 +185,14 @@ impl<'t> Reader<'t> {
             return Err(self.scope.unknown(name, "procedure", fits));
         };
         self.at += 1;
+        if let Some(bracket) = self.skip("(") {
+            let remedy = "leave the brackets out: what goes in and comes out stands in words";
+            return Err(Broken::order(
+                bracket,
+                rules::NO_ARGUMENTS,
+                Some(remedy.into()),
+            ));
+        }
         let mut tree = Tree::leaf(27, number, first.span);
         let last = self.delay(&mut tree, name.span)?;
         Ok(tree.over(first.span.to(last)))

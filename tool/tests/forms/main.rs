@@ -8,6 +8,7 @@ mod circuits;
 mod delays;
 mod indentation;
 mod kinds;
+mod long_commands;
 mod long_texts;
 mod long_typing;
 mod pictures;

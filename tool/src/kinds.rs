@@ -58,6 +58,7 @@ pub const CELLS: Templates = Templates {
         kind(42, "array a{d} clock {a} data {b}"),
         kind(43, "address {a}"),
         kind(44, "element {b} of {a}"),
+        kind(45, "latch {b} by {a}"),
     ],
     any: kind(0, "kind {k} delay {d} a {n} b {m}"),
 };

@@ -13,7 +13,7 @@ use std::process::{Command, Output};
 
 /// Proves anything, and tells each call in a file.
 const KIT: &str = "#!/bin/sh
-echo \"$@\" >>asked
+echo \"$@\" >>$(dirname $0)/asked
 case $1 in
 version) echo a kit ;;
 check) [ ! -e broken ] || { echo not proved; exit 1; } ;;
@@ -87,7 +87,7 @@ impl Repository {
 
     /// What was asked of the kit, but for its version.
     fn asked(&self) -> Vec<String> {
-        let asked = fs::read_to_string(self.at("top/asked")).unwrap_or_default();
+        let asked = fs::read_to_string(self.at("bin/asked")).unwrap_or_default();
         let lines = asked.lines().filter(|line| *line != "version");
         lines.map(str::to_string).collect()
     }

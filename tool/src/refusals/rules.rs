@@ -97,7 +97,7 @@ pub const RULES: &[Rule] = &[
     rule_of(
         9,
         Counts::Nothing,
-        "a netlist file has 1 to 13 blocks of 512 bytes each",
+        "a netlist file has 1 to 196 blocks of 512 bytes each",
         "give a netlist file as 'hub compile' or 'hub wire' writes it",
     ),
     rule_of(
@@ -110,7 +110,7 @@ pub const RULES: &[Rule] = &[
         11,
         Counts::Blocks,
         "this block's header is wrong, or a byte without a use isn't zero; \
-         a netlist has 27 to 1,024 cells, the finish is one of them, and its pulses are \
+         a netlist has 27 to 16,384 cells, the finish is one of them, and its pulses are \
          1 to 8 instants long, by every block",
         "make the file again, from the program or the list",
     ),

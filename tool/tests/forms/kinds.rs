@@ -29,7 +29,7 @@ fn with(words: &str) -> (Netlist, u16) {
 fn wired(kind: u8, words: &str) -> String {
     let [a, b] = match kind {
         34 | 35 | 38 | 39 => ["start", "start"],
-        36 | 37 | 40 | 41 | 42 => ["start", "2"],
+        36 | 37 | 40 | 41 | 42 | 45 => ["start", "2"],
         44 => ["a0", "2"],
         _ => ["2", "2"],
     };

@@ -248,14 +248,14 @@ fn wrong_lists_are_told_with_their_line() {
         ("finish 0\nname:\n", 2, "no cell after it"),
         ("finish 0, pulse long\nstart\n", 1, "below 256"),
         ("finish 0 pulse 3\nstart\n", 1, "which cell is the finish"),
-        ("2000 cells, finish 0\n", 1, "at most 1024"),
-        ("99999999999999999999 cells, finish 0\n", 1, "at most 1024"),
+        ("20000 cells, finish 0\n", 1, "at most 16384"),
+        ("99999999999999999999 cells, finish 0\n", 1, "at most 16384"),
         (
             "finish 0\na: start\na: ground\n",
             3,
             "a second cell is called a",
         ),
-        ("finish 0\n1024 start\n", 2, "cell 1024"),
+        ("finish 0\n16384 start\n", 2, "cell 16384"),
     ];
     told_with_their_line(listing::wired, &wrong);
 }

@@ -104,7 +104,7 @@ impl Repository {
 }
 
 fn told(output: Output) -> (String, String, i32) {
-    let [out, error] = [output.stdout, output.stderr].map(|bytes| String::from_utf8(bytes));
+    let [out, error] = [output.stdout, output.stderr].map(String::from_utf8);
     let exit = output.status.code().expect("an exit status");
     (out.expect("a text"), error.expect("a text"), exit)
 }

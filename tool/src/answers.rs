@@ -24,6 +24,9 @@ pub fn text_of_state(
     format!("{outcome} at {}, {busy}\n", answer.instant) + &changes(names, start, last, all)
 }
 
+/// What is said of the words of a functional circuit whose run is open.
+pub const FREE: &str = "  until the end these are words in the making, not the program's\n";
+
 /// The words and elements that changed; of those that didn't, all words, and all
 /// elements that aren't 0, if asked for.
 fn changes(names: &Names, start: &Store, last: &Store, all: bool) -> String {

@@ -21,6 +21,8 @@ pub struct Options {
 enum Takes {
     /// A program in whatever form.
     Program,
+    /// One whose circuit is made or run, or a netlist.
+    Circuit,
     Outline,
     Other,
 }
@@ -156,6 +158,14 @@ impl Options {
         }
     }
 
+    /// Of a command that makes or runs the circuit of a program.
+    pub const fn of_circuit(valued: Names, flags: Names) -> Options {
+        Options {
+            takes: Takes::Circuit,
+            ..Options::plain(valued, flags)
+        }
+    }
+
     /// Of a command that takes an outline.
     pub const fn of_outline(valued: Names, flags: Names) -> Options {
         Options {
@@ -184,13 +194,14 @@ impl Options {
     /// it is known what it is.
     fn shared(self) -> impl Iterator<Item = Row> {
         let said = move |name: &str| match self.takes {
-            Takes::Program => true,
+            Takes::Program | Takes::Circuit => true,
             Takes::Outline => name != "as",
             Takes::Other => false,
         };
         let of_program = OF_PROGRAMS.into_iter();
         let of_program = of_program.filter(move |(name, _)| said(name));
-        of_program.chain([("json", None)])
+        let functional = (self.takes == Takes::Circuit).then_some(("functional", None));
+        of_program.chain(functional).chain([("json", None)])
     }
 
     /// Whether an option takes a value, if there is one of this name.

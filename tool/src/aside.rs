@@ -2,7 +2,7 @@
 
 use crate::args::Args;
 use crate::files;
-use crate::types::{Beside, Fault};
+use crate::types::{Beside, Fault, Wiring};
 
 #[derive(Clone, Debug)]
 pub struct Aside {
@@ -13,6 +13,8 @@ pub struct Aside {
     pub procedures: usize,
     /// The pulse length that it is compiled for.
     pub pulse: u8,
+    /// The circuit that is made of it.
+    pub wiring: Wiring,
 }
 
 impl Aside {
@@ -26,6 +28,10 @@ impl Aside {
             times,
             procedures: args.number("procedures")?.unwrap_or(0) as usize,
             pulse: args.byte("pulse")?.unwrap_or(1),
+            wiring: match args.flag("functional") {
+                true => Wiring::Functional,
+                false => Wiring::Imperative,
+            },
         })
     }
 
@@ -36,6 +42,7 @@ impl Aside {
             table,
             procedures: self.procedures,
             pulse: self.pulse,
+            wiring: self.wiring,
         }
     }
 }
@@ -47,6 +54,7 @@ impl From<Beside<'_>> for Aside {
             times: beside.table.map(named),
             procedures: beside.procedures,
             pulse: beside.pulse,
+            wiring: beside.wiring,
         }
     }
 }

@@ -14,7 +14,7 @@ use crate::origin::{self, Trace};
 use crate::product;
 use crate::refusals;
 use crate::source::{self, Place, Said, Source};
-use crate::types::{Beside, Fault, Netlist, Node, Refusal};
+use crate::types::{Beside, Fault, Format, Mode, Netlist, Node, Refusal, Wiring};
 
 #[derive(Clone, Copy, Debug, PartialEq, Eq)]
 pub enum Form {
@@ -57,6 +57,7 @@ pub struct Program {
 /// origins of its cells, unless it came as a netlist file.
 #[derive(Clone, Debug)]
 pub struct Circuit {
+    pub wiring: Wiring,
     pub file: Vec<u8>,
     pub netlist: Netlist,
     pub program: Option<(Program, Trace)>,
@@ -69,6 +70,14 @@ impl Circuit {
         program
             .map(|(program, _)| program.names.clone())
             .unwrap_or_default()
+    }
+
+    /// How it is run on a state of this format.
+    pub fn mode(&self, format: Format) -> Mode {
+        Mode {
+            format,
+            wiring: self.wiring,
+        }
     }
 }
 
@@ -117,7 +126,40 @@ impl Given {
             }
             given.aside.procedures = own;
         }
-        Ok(given)
+        let wiring = given.aside.wiring;
+        Ok(given.wired(args, wiring)?)
+    }
+
+    /// The same file for this circuit. Beside a program that is to become a functional one
+    /// nothing is given but a table.
+    pub fn wired(mut self, args: &Args, wiring: Wiring) -> Result<Given, Fault> {
+        self.aside.wiring = wiring;
+        if wiring == Wiring::Imperative || self.form == Form::Netlist {
+            return Ok(self);
+        }
+        let Aside {
+            procedures, pulse, ..
+        } = self.aside;
+        if args.flag("procedures") && procedures > 0 {
+            let message =
+                "--procedures goes with the imperative circuit: a functional one is made \
+                 of a program without procedures";
+            return Err(args.fault(message));
+        }
+        if procedures > 0 {
+            let (name, own) = (&self.name, counted(procedures, "procedure"));
+            return Err(Fault::usage(format!(
+                "{name} has {own}, and a functional circuit is made of a program without any; \
+                 write their statements where they are called, or take the imperative circuit"
+            )));
+        }
+        if pulse != 1 {
+            let message =
+                "--pulse goes with the imperative circuit: the pulses of a functional one \
+                 are one instant long";
+            return Err(args.fault(message));
+        }
+        Ok(self)
     }
 
     /// Reads a text that the product, which is asked first, finds no words or no
@@ -199,7 +241,11 @@ impl Given {
     pub fn circuit(&self) -> Result<Circuit, Stop> {
         if self.form == Form::Netlist {
             let netlist = product::read_netlist(&self.bytes).map_err(|met| self.refused(met))?;
+            if self.aside.wiring == Wiring::Functional {
+                product::check_last(&self.bytes).map_err(|met| self.refused(met))?;
+            }
             return Ok(Circuit {
+                wiring: self.aside.wiring,
                 file: self.bytes.clone(),
                 netlist,
                 program: None,
@@ -211,8 +257,12 @@ impl Given {
         let netlist = product::read_netlist(&file).map_err(|met| {
             Fault::internal(format!("the compiled netlist of {}: {met}", self.name))
         })?;
-        let trace = origin::trace(program.procedures, &program.nodes, &netlist)?;
+        let trace = match self.aside.wiring {
+            Wiring::Imperative => origin::trace(program.procedures, &program.nodes, &netlist)?,
+            Wiring::Functional => origin::trace_functional(&program.nodes, &netlist)?,
+        };
         Ok(Circuit {
+            wiring: self.aside.wiring,
             file,
             netlist,
             program: Some((program, trace)),

@@ -1,8 +1,9 @@
 //! The kinds of nodes and cells by name, as outlines, lists and pictures show
 //! them. What a kind means is the product's alone.
 
+use crate::store::VARIABLES;
 use crate::template::{Template, Templates};
-use crate::types::Cell;
+use crate::types::{Cell, Netlist, Wiring};
 
 /// Fields: k the kind, d the delay, n the number.
 pub const NODES: Templates = Templates {
@@ -116,6 +117,21 @@ pub const fn idle_array(array: u8) -> [Cell; 2] {
 /// Whether a cell is that of a memory or an array that nothing writes to.
 pub fn is_idle(cell: &Cell) -> bool {
     *cell == IDLE || idle_array(cell.delay).contains(cell)
+}
+
+/// The cells that tell nothing: memories and arrays that nothing writes to; in a
+/// functional circuit, where no memory is written, those that nothing reads but the last
+/// sixteen cells, which carry the words at the end.
+pub fn untold(netlist: &Netlist, wiring: Wiring) -> Vec<bool> {
+    let cells = &netlist.cells;
+    let mut untold: Vec<bool> = cells.iter().map(is_idle).collect();
+    if wiring == Wiring::Functional {
+        let body = &cells[..cells.len() - VARIABLES];
+        for read in body.iter().filter(|cell| !is_idle(cell)).flat_map(inputs) {
+            untold[usize::from(read)] = false;
+        }
+    }
+    untold
 }
 
 /// Whether a cell of this kind is that of a memory or an array.

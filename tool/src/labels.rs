@@ -6,7 +6,8 @@ use crate::input::{Circuit, Program};
 use crate::kinds::{ADDRESS, ARRAY, MEMORY};
 use crate::names::Names;
 use crate::origin::Trace;
-use crate::types::{Fault, Netlist, Span};
+use crate::store::VARIABLES;
+use crate::types::{Fault, Netlist, Origin, Span, Wiring};
 
 /// Of each node, in node order.
 #[derive(Clone, Debug)]
@@ -86,10 +87,13 @@ fn line_of(text: &[u8], at: usize) -> usize {
 /// for memories and arrays, which have the names of their variables.
 pub fn of_cells(circuit: &Circuit, text: &[u8]) -> Result<Vec<Option<String>>, Fault> {
     let mut notes = of_stores(&circuit.netlist, &circuit.names());
+    for (word, cell) in of_last(circuit) {
+        notes[usize::from(cell)] = Some(format!("{word} at the end"));
+    }
     if let Some((program, trace)) = &circuit.program {
         let labels = Labels::of(program, text)?;
         for (note, said) in notes.iter_mut().zip(of_origins(&labels, trace)) {
-            *note = note.take().or(said);
+            *note = said.or(note.take());
         }
     }
     Ok(notes)
@@ -109,6 +113,17 @@ pub fn of_stores(netlist: &Netlist, names: &Names) -> Vec<Option<String>> {
     stores
 }
 
+/// The last sixteen cells of a functional circuit, with the names of their words.
+pub fn of_last(circuit: &Circuit) -> Vec<(String, u16)> {
+    if circuit.wiring == Wiring::Imperative {
+        return Vec::new();
+    }
+    let names = circuit.names();
+    let first = circuit.netlist.cells.len() - VARIABLES;
+    let word = |k: u16| (names.word(k), first as u16 + k);
+    (0..VARIABLES as u16).map(word).collect()
+}
+
 /// The names of the memories, at their cells.
 pub fn of_memories(netlist: &Netlist, names: &Names) -> Vec<Option<String>> {
     let mut variables = 0..;
@@ -125,15 +140,21 @@ pub fn of_memories(netlist: &Netlist, names: &Names) -> Vec<Option<String>> {
 }
 
 fn of_origins(labels: &Labels, trace: &Trace) -> Vec<Option<String>> {
-    let said = |node: usize, role: &str| {
-        let (place, head) = (&labels.places[node], &labels.heads[node]);
-        match role {
-            "value" => format!("{place}, {head}"),
-            _ => format!("{place}, {head}: {role}"),
+    let said = |origin: &Origin| {
+        let role = match origin.word {
+            Some(word) => format!("{} {}", labels.names.word(word), origin.role),
+            None => origin.role.to_string(),
+        };
+        match (origin.node, origin.role) {
+            (None, _) => origin.word.map(|_| role),
+            (Some(node), "value") => {
+                Some(format!("{}, {}", labels.places[node], labels.heads[node]))
+            }
+            (Some(node), _) => {
+                let (place, head) = (&labels.places[node], &labels.heads[node]);
+                Some(format!("{place}, {head}: {role}"))
+            }
         }
     };
-    let origins = trace.origins.iter();
-    origins
-        .map(|origin| origin.node.map(|node| said(node, origin.role)))
-        .collect()
+    trace.origins.iter().map(said).collect()
 }

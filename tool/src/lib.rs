@@ -39,3 +39,4 @@ pub mod verilog;
 pub mod version;
 pub mod warnings;
 pub mod wave;
+pub mod wiring;

@@ -2,7 +2,7 @@
 //! write may name its cells; a number that is left out is an idle memory or,
 //! behind the sixteenth memory, an idle array.
 
-use crate::kinds::{idle_array, is_idle, ARRAY, CELLS, IDLE, MEMORY};
+use crate::kinds::{idle_array, ARRAY, CELLS, IDLE, MEMORY};
 use crate::layout;
 use crate::lines::{self, Wrong};
 use crate::store::{ARRAYS, VARIABLES};
@@ -31,11 +31,16 @@ pub fn words_of(cell: &Cell) -> String {
     })
 }
 
-/// The list of a netlist. `note` is what is said of a cell, on its line.
-pub fn list(netlist: &Netlist, all: bool, note: impl Fn(usize) -> Option<String>) -> String {
+/// The list of a netlist, without those of its cells that are left out. `note` is what is
+/// said of a cell, on its line.
+pub fn list(
+    netlist: &Netlist,
+    left_out: &[bool],
+    note: impl Fn(usize) -> Option<String>,
+) -> String {
     let mut lines = vec![whole(netlist)];
     for (number, cell) in netlist.cells.iter().enumerate() {
-        if is_idle(cell) && !all {
+        if left_out[number] {
             continue;
         }
         let words = words_of(cell);

@@ -2,6 +2,7 @@
 //! nodes lays the cells out, and these are held against the product's, cell
 //! for cell: what is told of a cell is told of the product's.
 
+mod functional;
 mod walk;
 
 use crate::store::VARIABLES;
@@ -12,6 +13,14 @@ use crate::types::{Fault, Netlist, Node, Origin};
 pub struct Ends {
     pub start: u16,
     pub finish: u16,
+}
+
+/// A word that a statement has written and hands on, on a wire of its own.
+#[derive(Clone, Copy, Debug, PartialEq, Eq)]
+pub struct HandedOn {
+    pub node: usize,
+    pub variable: u16,
+    pub wire: u16,
 }
 
 /// What the walk over a program's nodes found.
@@ -25,6 +34,8 @@ pub struct Trace {
     pub values: Vec<Option<u16>>,
     /// The cell of variable 0's memory; the others follow.
     pub first_memory: u16,
+    /// The words that statements of a functional circuit hand on.
+    pub words: Vec<HandedOn>,
 }
 
 impl Trace {
@@ -41,7 +52,16 @@ fn array_behind(first_memory: u16, array: u16) -> u16 {
 
 /// The trace of a program with so many procedures whose netlist is this one.
 pub fn trace(procedures: usize, nodes: &[Node], netlist: &Netlist) -> Result<Trace, Fault> {
-    let (own, trace) = walk::lay_out(procedures, netlist.pulse, nodes);
+    held(walk::lay_out(procedures, netlist.pulse, nodes), netlist)
+}
+
+/// The trace of a program whose functional netlist is this one.
+pub fn trace_functional(nodes: &[Node], netlist: &Netlist) -> Result<Trace, Fault> {
+    held(functional::lay_out(nodes), netlist)
+}
+
+/// What was laid out, if it is the product's netlist.
+fn held((own, trace): (Netlist, Trace), netlist: &Netlist) -> Result<Trace, Fault> {
     if own != *netlist {
         let message = "the tool lays out other cells than the product has compiled";
         return Err(Fault::internal(message));

@@ -4,18 +4,21 @@ use crate::layout::{
     element_in, file_length, pulse_in, state_length, store_bytes, CELLS, FILE, PROGRAM,
 };
 use crate::store::{self, Store, LENGTH, OF_ARRAYS};
-use crate::types::{Answer, Beside, Cell, End, Format, Netlist, Node, Refusal};
-use bindings::{calls, cell_calls};
+use crate::types::{Answer, Beside, Cell, End, Format, Mode, Netlist, Node, Refusal, Wiring};
+use bindings::{calls, cell_calls, functional_calls};
 
 /// Checks a program.
 pub fn check(beside: Beside, program: &[u8]) -> Result<(), Refusal> {
-    calls::check(beside, program)
+    match beside.wiring {
+        Wiring::Imperative => calls::check(beside.given(), program),
+        Wiring::Functional => functional_calls::check(beside.table, program),
+    }
 }
 
 /// The bytes of an accepted text's program.
 pub fn read_text(beside: Beside, text: &[u8]) -> Result<Vec<u8>, Refusal> {
     let mut program = vec![0; PROGRAM];
-    let length = calls::read_text(beside, text, &mut program)?;
+    let length = calls::read_text(beside.given(), text, &mut program)?;
     program.truncate(length);
     Ok(program)
 }
@@ -23,7 +26,10 @@ pub fn read_text(beside: Beside, text: &[u8]) -> Result<Vec<u8>, Refusal> {
 /// The netlist file of a program.
 pub fn compile(beside: Beside, program: &[u8]) -> Result<Vec<u8>, Refusal> {
     let mut file = vec![0; FILE];
-    let shape = calls::compile(beside, program, &mut file)?;
+    let shape = match beside.wiring {
+        Wiring::Imperative => calls::compile(beside.given(), program, &mut file)?,
+        Wiring::Functional => functional_calls::compile(beside.table, program, &mut file)?,
+    };
     file.truncate(file_length(usize::from(shape.cells)));
     Ok(file)
 }
@@ -59,28 +65,49 @@ pub fn write_netlist(netlist: &Netlist) -> Result<Vec<u8>, Refusal> {
 }
 
 /// Begins a run of a netlist file: its state at instant 0.
-pub fn begin(format: Format, file: &[u8], start: &Store) -> Result<(Vec<u8>, Answer), Refusal> {
-    let mut state = vec![0; state_length(format, CELLS)];
-    let answer = calls::begin(format, file, &store_bytes(start), &mut state)?;
-    let cells = read_netlist(file)?.cells.len();
-    state.truncate(state_length(format, cells));
+pub fn begin(
+    mode: impl Into<Mode>,
+    file: &[u8],
+    start: &Store,
+) -> Result<(Vec<u8>, Answer), Refusal> {
+    let Mode { format, wiring } = mode.into();
+    let mut state = state_for(format, file)?;
+    let call = match wiring {
+        Wiring::Imperative => calls::begin,
+        Wiring::Functional => functional_calls::begin,
+    };
+    let answer = call(format, file, &store_bytes(start), &mut state)?;
     Ok((state, answer))
 }
 
+/// Room for a state of a netlist.
+fn state_for(format: Format, file: &[u8]) -> Result<Vec<u8>, Refusal> {
+    let cells = read_netlist(file)?.cells.len();
+    Ok(vec![0; state_length(format, cells)])
+}
+
 /// Continues a run by at most `n` instants.
-pub fn go(format: Format, file: &[u8], state: &mut [u8], n: u32) -> Result<Answer, Refusal> {
-    calls::continue_by(format, file, state, n)
+pub fn go(mode: impl Into<Mode>, file: &[u8], state: &mut [u8], n: u32) -> Result<Answer, Refusal> {
+    let Mode { format, wiring } = mode.into();
+    match wiring {
+        Wiring::Imperative => calls::continue_by(format, file, state, n),
+        Wiring::Functional => functional_calls::continue_by(format, file, state, n),
+    }
 }
 
 /// Gives a second start pulse at the next instant.
-pub fn start(format: Format, file: &[u8], state: &mut [u8]) -> Result<Answer, Refusal> {
-    calls::start(format, file, state)
+pub fn start(mode: impl Into<Mode>, file: &[u8], state: &mut [u8]) -> Result<Answer, Refusal> {
+    let Mode { format, wiring } = mode.into();
+    match wiring {
+        Wiring::Imperative => calls::start(format, file, state),
+        Wiring::Functional => functional_calls::start(format, file, state),
+    }
 }
 
 /// Whether a second start pulse would be taken, but for the instant that it comes
 /// to.
-pub fn is_idle(format: Format, file: &[u8], state: &[u8]) -> bool {
-    let started = start(format, file, &mut state.to_vec());
+pub fn is_idle(mode: impl Into<Mode>, file: &[u8], state: &[u8]) -> bool {
+    let started = start(mode, file, &mut state.to_vec());
     !matches!(started, Err(Refusal { number: 23, .. }))
 }
 
@@ -96,14 +123,35 @@ pub fn contents(format: Format, answer: &Answer, state: &[u8], cells: usize) -> 
 
 /// A full run of a netlist file.
 pub fn run_netlist(file: &[u8], start: &Store, budget: u32) -> Result<Answer, Refusal> {
-    let mut state = vec![0; state_length(Format::Full, CELLS)];
+    let mut state = state_for(Format::Full, file)?;
     calls::run_netlist(file, &store_bytes(start), budget, &mut state)
 }
 
 /// Whether a netlist file may be run with this budget. A full run looks at the
 /// budget before it looks at the room for its state, and here there is none.
 pub fn check_budget(file: &[u8], budget: u32) -> Result<(), Refusal> {
-    match calls::run_netlist(file, &store_bytes(&[0; LENGTH]), budget, &mut []) {
+    but_for_room(calls::run_netlist(
+        file,
+        &store_bytes(&[0; LENGTH]),
+        budget,
+        &mut [],
+    ))
+}
+
+/// Whether the last sixteen cells of an accepted netlist are those of a functional
+/// circuit.
+pub fn check_last(file: &[u8]) -> Result<(), Refusal> {
+    but_for_room(functional_calls::run_netlist(
+        file,
+        &store_bytes(&[0; LENGTH]),
+        0,
+        &mut [],
+    ))
+}
+
+/// Why a run is refused that was lent no room.
+fn but_for_room(ran: Result<Answer, Refusal>) -> Result<(), Refusal> {
+    match ran {
         Err(refusal) if refusal.number != 14 => Err(refusal),
         _ => Ok(()),
     }
@@ -116,7 +164,13 @@ pub fn reference(
     start: &Store,
     budget: u32,
 ) -> Result<Option<End>, Refusal> {
-    calls::reference_run(beside, program, &store_bytes(start), budget)
+    let words = store_bytes(start);
+    match beside.wiring {
+        Wiring::Imperative => calls::reference_run(beside.given(), program, &words, budget),
+        Wiring::Functional => {
+            functional_calls::reference_run(beside.table, program, &words, budget)
+        }
+    }
 }
 
 /// The nodes that stand in a program's bytes, four for each.

@@ -1,17 +1,29 @@
-//! What the tool writes behind a state in its file: which format the state has, and
+//! What the tool writes behind a state in its file: in which mode its run is made, and
 //! of which netlist it is. The product never looks there: lent bytes past a result
 //! keep their values.
 
-use crate::types::Format;
+use crate::types::{Format, Mode, Wiring};
 
 const MAGIC: &[u8] = b"hubstate";
 /// The bytes of a sum, and of the number of bytes that the names have.
 const SUM: usize = 8;
 const NAMES: usize = 4;
 
+/// The modes, by the byte that stands for each.
+const MODES: [Mode; 4] = [
+    mode(Format::Full, Wiring::Imperative),
+    mode(Format::Compact, Wiring::Imperative),
+    mode(Format::Full, Wiring::Functional),
+    mode(Format::Compact, Wiring::Functional),
+];
+
+const fn mode(format: Format, wiring: Wiring) -> Mode {
+    Mode { format, wiring }
+}
+
 #[derive(Clone, Debug, PartialEq, Eq)]
 pub struct Trailer {
-    pub format: Format,
+    pub mode: Mode,
     /// The sum of the netlist file.
     pub sum: u64,
     /// The names that its program has for words; a program without any has none.
@@ -19,9 +31,9 @@ pub struct Trailer {
 }
 
 impl Trailer {
-    pub fn new(format: Format, netlist: &[u8]) -> Trailer {
+    pub fn new(mode: impl Into<Mode>, netlist: &[u8]) -> Trailer {
         Trailer {
-            format,
+            mode: mode.into(),
             sum: sum(netlist),
             names: String::new(),
         }
@@ -32,15 +44,12 @@ impl Trailer {
         self.sum == sum(netlist)
     }
 
-    /// The magic, the format, the sum, the names and how long they are, which is
+    /// The magic, the mode, the sum, the names and how long they are, which is
     /// last, so that the trailer is found from the end of a file.
     pub fn bytes(&self) -> Vec<u8> {
-        let format = match self.format {
-            Format::Full => 0,
-            Format::Compact => 1,
-        };
+        let mode = MODES.iter().position(|mode| *mode == self.mode);
         let mut bytes = MAGIC.to_vec();
-        bytes.push(format);
+        bytes.extend(mode.map(|mode| mode as u8));
         bytes.extend(self.sum.to_le_bytes());
         bytes.extend(self.names.as_bytes());
         bytes.extend((self.names.len() as u32).to_le_bytes());
@@ -53,13 +62,9 @@ impl Trailer {
         let names = u32::from_le_bytes(*length) as usize;
         let (rest, names) = rest.split_at_checked(rest.len().checked_sub(names)?)?;
         let (rest, sum) = rest.split_last_chunk::<SUM>()?;
-        let (format, rest) = rest.split_last()?;
+        let (mode, rest) = rest.split_last()?;
         let trailer = Trailer {
-            format: match format {
-                0 => Format::Full,
-                1 => Format::Compact,
-                _ => return None,
-            },
+            mode: *MODES.get(usize::from(*mode))?,
             sum: u64::from_le_bytes(*sum),
             names: String::from_utf8(names.to_vec()).ok()?,
         };

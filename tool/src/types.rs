@@ -1,6 +1,7 @@
 //! The values that the modules hand to each other.
 
-pub use values::{Answer, Cell, End, Format, Given as Beside, Refusal, Table, Words};
+pub use crate::wiring::{Beside, Mode, Wiring};
+pub use values::{Answer, Cell, End, Format, Refusal, Table, Words};
 
 /// A node of a program: four bytes, kind, delay, n low, n high.
 #[derive(Clone, Copy, Debug, PartialEq, Eq)]
@@ -19,11 +20,12 @@ pub struct Netlist {
 }
 
 /// Where a cell comes from: a node of the program, none for what every netlist
-/// has, and what it does for that node.
+/// has, what it does for that node, and for which word, where it is for one.
 #[derive(Clone, Copy, Debug, PartialEq, Eq)]
 pub struct Origin {
     pub node: Option<usize>,
     pub role: &'static str,
+    pub word: Option<u16>,
 }
 
 /// Bytes of a text, from `start` up to `end`.

@@ -7,7 +7,7 @@ pub use testbench::{testbench, Expected};
 
 use crate::kinds::*;
 use crate::store::{Store, ELEMENTS, VARIABLES};
-use crate::types::{Cell, Netlist};
+use crate::types::{Cell, Netlist, Wiring};
 
 /// The edges of the clock that are an instant.
 #[derive(Clone, Copy, Debug, PartialEq, Eq)]
@@ -20,17 +20,24 @@ pub enum Edges {
 /// The module `hub`: a clock in, the finish wire and the words out, x0 lowest. Before
 /// the first edge the wires have their values of instant 0. Its parameters are the
 /// words that it starts with; a note tells what a cell is for.
-pub fn module(netlist: &Netlist, edges: Edges, start: &Store, notes: &[Option<String>]) -> String {
+pub fn module(
+    netlist: &Netlist,
+    wiring: Wiring,
+    edges: Edges,
+    start: &Store,
+    notes: &[Option<String>],
+) -> String {
     let writer = Writer { netlist };
     let edge = match edges {
         Edges::Rising => "posedge clk",
         Edges::Both => "posedge clk or negedge clk",
     };
     let words: Vec<String> = writer
-        .memories()
-        .map(|memory| format!("w{memory}"))
+        .words(wiring)
+        .into_iter()
+        .rev()
+        .map(|cell| format!("w{cell}"))
         .collect();
-    let words: Vec<&str> = words.iter().rev().map(String::as_str).collect();
     let value = |writer: &Writer, number: usize, cell: Cell| {
         let note = notes.get(number).cloned().flatten();
         noted(writer.value(number, cell), note)
@@ -75,6 +82,16 @@ impl Writer<'_> {
         let cells = self.netlist.cells.iter().enumerate();
         let memories = cells.filter(|(_, cell)| cell.kind == MEMORY);
         memories.map(|(number, _)| number)
+    }
+
+    /// The cells that show the words: the memories or, in a functional circuit, where
+    /// these keep the words that it starts with, the last sixteen.
+    fn words(&self, wiring: Wiring) -> Vec<usize> {
+        let cells = self.netlist.cells.len();
+        match wiring {
+            Wiring::Imperative => self.memories().collect(),
+            Wiring::Functional => (cells - VARIABLES..cells).collect(),
+        }
     }
 
     /// The cells but for the arrays that are neither written nor read, and their

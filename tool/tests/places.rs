@@ -63,6 +63,7 @@ fn traced(file: &Path) -> Option<usize> {
         table: table.as_deref(),
         procedures,
         pulse,
+        ..Beside::NOTHING
     };
     let compiled = product::compile(beside, &bytes).ok()?;
     let nodes = product::nodes(&bytes);

@@ -9,14 +9,18 @@ use std::fs;
 use std::path::{Path, PathBuf};
 use std::process::Command;
 
-/// Examples, start words and options: words alone, arrays, procedures, a run that is
-/// still open, longer pulses.
+/// Examples, start words and options: words alone, functional circuits, arrays,
+/// procedures, runs that are still open.
 const RUNS: &[&str] = &[
     "two_boards.hub x0=3 x1=5",
     "two_boards.hub x0=3 x1=65535 --budget 500",
     "overstepped.hub x0=2 x1=9",
     "eight_groups.hub x0=1 x1=2 x2=3 x3=4 x4=5 x5=6 x6=7 x7=8",
     "sixty_four_boards.hub x0=9",
+    "two_boards.hub x0=3 x1=5 --functional",
+    "overstepped.hub x0=2 x1=9 --functional",
+    "eight_groups.hub x0=1 x1=2 x2=3 x3=4 x4=5 x5=6 x6=7 x7=8 --functional",
+    "sixty_four_boards.hub x0=9 --functional --budget 300",
     "hall.hub",
     "first_flag.hub",
     "board_times.outline a0=7,0,9",

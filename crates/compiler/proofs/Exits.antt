@@ -8,9 +8,9 @@ use lib.ListN.{length, getD, set, take, drop, length-set, drop-of-length-le}
 use lib.Seq.{drop-at, drop-cons, getD-take, take-at, take-take, take-suc-set, length-take-le}
 use Rattle.model.specs.Program.{Expr, Code, seq, par, ite, while, repeat, loop, exit}
 use Rattle.model.specs.Circuit.{cell}
-use Rattle.model.specs.Numbering.{orChain, orChainOut, ors, orsOut, orCount, exitCount, exitWires}
+use Rattle.model.specs.Numbering.{Wires, orChain, orChainOut, ors, orsOut, orCount, exitCount, exitWires}
+use Rattle.compiler.specs.declared.walk.Word.{Word}
 use Rattle.compiler.specs.declared.walk.Place.{Place}
-use Rattle.compiler.specs.declared.walk.Pulse.{Pulse}
 use Rattle.compiler.specs.Writes.{write}
 use Rattle.compiler.specs.Walk.{place, Switched, Owned, Done, Opened, waiting, ExitsReady, ExitsJoined}
 use Rattle.compiler.proofs.Writes.{write-none, write-append, write-length}
@@ -44,21 +44,21 @@ module _ {P Q : Code} {p : Place} {o o₁ o₂ : List ℕ} where
     unfolding exitCount exitWires
     par-opened d u v₀ = let v = rw (left d) at v₀ in record { same = v .same ∙ u .same; starts = two u v refl }
 
-module _ {P Q : Code} {M δ g t : ℕ} {pulse : ℕ} {F : ℕ → ℕ} {E : Expr} {p q : Place} {o o₁ o₂ m₀ m₁ m₂ b a k l : List ℕ} where
-  pub if-opened : {ow : Pulse} → Owned δ (p .wire) (p .delay) m₀ m₁ ow
-      → Switched M E (p .cell) g m₁ m₂ t
-      → Done pulse M F P (place t (ow .delay) (t + 1 + 1) (p .mark) (p .out)) b a k l q
-      → Opened P (place t (ow .delay) (t + 1 + 1) (p .mark) (p .out)) o o₁
+module _ {P Q : Code} {ws : Wires} {M δ g t : ℕ} {pulse : ℕ} {F : ℕ → ℕ} {E : Expr} {p q : Place} {o o₁ o₂ m₀ m₁ m₂ b a k l : List ℕ} where
+  pub if-opened : {ow : Word} → Owned δ (p .wire) (p .delay) m₀ m₁ ow
+      → Switched ws E (p .cell) g m₁ m₂ t
+      → Done pulse M F P (place t (ow .cell) (t + 1 + 1) (p .mark) (p .out)) b a k l q
+      → Opened P (place t (ow .cell) (t + 1 + 1) (p .mark) (p .out)) o o₁
       → Opened Q (place (t + 1) (q .delay) (q .cell) (q .mark) (q .out)) o₁ o₂
       → Opened (ite δ E P Q) p o o₂
   unfolding exitCount exitWires
   if-opened ow sw d₀ u₀ v₀ =
-      let d = rw (sw .switch, ow .delay) at d₀ in
-      let u = rw (sw .switch, ow .delay) at u₀ in
+      let d = rw (sw .switch, ow .cell) at d₀ in
+      let u = rw (sw .switch, ow .cell) at u₀ in
       let v = rw (sw .switch, left d) at v₀ in
       record { same = v .same ∙ u .same; starts = two u v refl }
 
-module _ {P : Code} {M δ g t : ℕ} {E : Expr} {p : Place} {o o₁ m₁ m₂ : List ℕ} (sw : Switched M E (p .cell) g m₁ m₂ t) where
+module _ {P : Code} {ws : Wires} {δ g t : ℕ} {E : Expr} {p : Place} {o o₁ m₁ m₂ : List ℕ} (sw : Switched ws E (p .cell) g m₁ m₂ t) where
   pub while-opened : Opened P (place t (p .delay + 1) (t + 1 + 1) (p .mark) (p .out)) o o₁ → Opened (while δ E P) p o o₁
   unfolding exitCount exitWires
   while-opened u₀ = let u = rw (sw .switch) at u₀ in record { same = u .same; starts = u .starts }

@@ -5,19 +5,18 @@ use Prim.Native.Nat.{ℕ, _+_, _*_, _≤_, _<_}
 use native.Mathlib.Omega.{arith}
 use lib.ListN.{length}
 use Rattle.model.specs.Program.{Expr, Code, assign, assignElem, seq, par, ite, while, repeat, loop, call}
-use Rattle.model.specs.Numbering.{exprCount, pastSwitches, delayCount, walkCount, loopExits}
+use Rattle.model.specs.Numbering.{memoryWires, exprCount, pastSwitches, delayCount, walkCount, loopExits}
 use Rattle.laws.specs.Numbering.Lengths.{exit-ors}
 use Rattle.laws.specs.Program.Fit.{FormedExpr, Formed, Earlier}
 use Rattle.compiler.specs.declared.walk.Word.{Word}
 use Rattle.compiler.specs.declared.walk.Place.{Place}
-use Rattle.compiler.specs.declared.walk.Pulse.{Pulse}
 use Rattle.compiler.specs.Walk.{place, ExprReady, ExprDone, SwitchReady, Switched, assignments, allExits, Owned, Ready, Done, Opened, waiting, ExitsReady}
 use Rattle.compiler.proofs.Sizes.{some-exits}
 use Rattle.compiler.proofs.Growth.{left}
 use Rattle.compiler.proofs.Exits.{opened-waiting}
 
 -- the switches' cells have small numbers
-pub switch-low : {M n c g t : ℕ} {E : Expr} {b a : List ℕ} → SwitchReady M E c n → Switched M E c g b a t → t + 2 ≤ 627
+pub switch-low : {M n c g t : ℕ} {E : Expr} {b a : List ℕ} → SwitchReady M E c n → Switched (memoryWires M) E c g b a t → t + 2 ≤ 627
 switch-low r sw = omega (arith, r .room, r .expr .small, sw .switch)
 
 module _ {M n : ℕ} {p : Place} where
@@ -56,7 +55,7 @@ module _ {M n : ℕ} {p : Place} where
   assign-expr r = expr-part r (r .formed .2) (omega arith)
 
   -- its kind 41 cell lies within the list
-  pub assign-cell : {δ x : ℕ} {E : Expr} {b a : List ℕ} {e : Word} → Ready M (assign δ x E) p n → ExprDone M E (p .cell) b a e
+  pub assign-cell : {δ x : ℕ} {E : Expr} {b a : List ℕ} {e : Word} → Ready M (assign δ x E) p n → ExprDone (memoryWires M) E (p .cell) b a e
       → 6 * e .cell + 6 ≤ n
   unfolding walkCount
   assign-cell r u = omega (arith, r .room, u .cell)
@@ -66,13 +65,13 @@ module _ {M n : ℕ} {p : Place} where
     unfolding walkCount
     element-index = expr-part r (r .formed .2) (omega arith)
 
-    module _ {b a : List ℕ} {i : Word} (u : ExprDone M I (p .cell) b a i) where
+    module _ {b a : List ℕ} {i : Word} (u : ExprDone (memoryWires M) I (p .cell) b a i) where
       pub element-value : ExprReady M E (i .cell) n
       unfolding walkCount
       element-value = expr-part r (r .formed .3) (omega (arith, u .cell))
 
       -- its kind 41 cells lie within the list
-      pub element-cells : {b₂ a₂ : List ℕ} {e : Word} → ExprDone M E (i .cell) b₂ a₂ e → 6 * (e .cell + 2) ≤ n
+      pub element-cells : {b₂ a₂ : List ℕ} {e : Word} → ExprDone (memoryWires M) E (i .cell) b₂ a₂ e → 6 * (e .cell + 2) ≤ n
       unfolding walkCount
       element-cells w = omega (arith, r .room, u .cell, w .cell)
 
@@ -109,20 +108,20 @@ module _ {M n : ℕ} {p : Place} where
       unfolding walkCount
       if-switches = switch-part r (r .formed .1) (omega arith)
 
-      module _ {g t : ℕ} {m₀ m₁ m₂ : List ℕ} {o : Pulse} (ow : Owned δ (p .wire) (p .delay) m₀ m₁ o) (sw : Switched M E (p .cell) g m₁ m₂ t) where
-        pub if-first : Ready M P (place t (o .delay) (t + 1 + 1) (p .mark) (p .out)) n
+      module _ {g t : ℕ} {m₀ m₁ m₂ : List ℕ} {o : Word} (ow : Owned δ (p .wire) (p .delay) m₀ m₁ o) (sw : Switched (memoryWires M) E (p .cell) g m₁ m₂ t) where
+        pub if-first : Ready M P (place t (o .cell) (t + 1 + 1) (p .mark) (p .out)) n
         unfolding delayCount walkCount assignments allExits
-        if-first = rw (sw .switch, ow .delay) (part r (r .formed .2) (r .earlier .2) (omega (arith, r .apart)) (omega arith) (omega arith) (omega arith))
+        if-first = rw (sw .switch, ow .cell) (part r (r .formed .2) (r .earlier .2) (omega (arith, r .apart)) (omega arith) (omega arith) (omega arith))
 
-        pub if-second : {pulse : ℕ} {F : ℕ → ℕ} {q : Place} {b a k l : List ℕ} → Done pulse M F P (place t (o .delay) (t + 1 + 1) (p .mark) (p .out)) b a k l q
+        pub if-second : {pulse : ℕ} {F : ℕ → ℕ} {q : Place} {b a k l : List ℕ} → Done pulse M F P (place t (o .cell) (t + 1 + 1) (p .mark) (p .out)) b a k l q
             → Ready M Q (place (t + 1) (q .delay) (q .cell) (q .mark) (q .out)) n
         unfolding delayCount walkCount assignments allExits
         if-second u₀ =
-            let u = rw (sw .switch, ow .delay) at u₀ in
+            let u = rw (sw .switch, ow .cell) at u₀ in
             rw (sw .switch, left u) (part r (r .formed .3) (r .earlier .3) (omega (arith, r .apart)) (omega arith) (omega arith) (omega (arith, some-exits P)))
 
         pub if-merge : {pulse : ℕ} {F : ℕ → ℕ} {q s : Place} {b a k l b′ a′ k′ l′ : List ℕ}
-            → Done pulse M F P (place t (o .delay) (t + 1 + 1) (p .mark) (p .out)) b a k l q
+            → Done pulse M F P (place t (o .cell) (t + 1 + 1) (p .mark) (p .out)) b a k l q
             → Done pulse M F Q (place (t + 1) (q .delay) (q .cell) (q .mark) (q .out)) b′ a′ k′ l′ s → 6 * s .cell + 6 ≤ n
         unfolding walkCount
         if-merge u v = omega (arith, r .room, sw .switch, u .cell, v .cell)
@@ -132,12 +131,12 @@ module _ {M n : ℕ} {p : Place} where
     unfolding walkCount
     while-switches r = switch-part r (r .formed .1) (omega arith)
 
-    pub while-body : {g t : ℕ} {m₁ m₂ : List ℕ} → Ready M (while δ E P) p n → Switched M E (p .cell) g m₁ m₂ t
+    pub while-body : {g t : ℕ} {m₁ m₂ : List ℕ} → Ready M (while δ E P) p n → Switched (memoryWires M) E (p .cell) g m₁ m₂ t
         → Ready M P (place t (p .delay + 1) (t + 1 + 1) (p .mark) (p .out)) n
     unfolding delayCount walkCount assignments allExits
     while-body r sw = rw (sw .switch) (part r (r .formed .2) (r .earlier .2) (omega (arith, r .apart)) (omega arith) (omega arith) (omega arith))
 
-    pub while-merge : {g t : ℕ} {pulse : ℕ} {F : ℕ → ℕ} {m₁ m₂ b a k l : List ℕ} {q : Place} → Ready M (while δ E P) p n → Switched M E (p .cell) g m₁ m₂ t
+    pub while-merge : {g t : ℕ} {pulse : ℕ} {F : ℕ → ℕ} {m₁ m₂ b a k l : List ℕ} {q : Place} → Ready M (while δ E P) p n → Switched (memoryWires M) E (p .cell) g m₁ m₂ t
         → Done pulse M F P (place t (p .delay + 1) (t + 1 + 1) (p .mark) (p .out)) b a k l q → 6 * q .cell + 6 ≤ n
     unfolding walkCount
     while-merge r sw u = omega (arith, r .room, sw .switch, u .cell)
@@ -146,7 +145,7 @@ module _ {M n : ℕ} {p : Place} where
     unfolding walkCount
     repeat-switches r = switch-part r (r .formed .1) (omega arith)
 
-    pub repeat-body : {g t : ℕ} {m₁ m₂ : List ℕ} → Ready M (repeat δ E P) p n → Switched M E (p .cell) g m₁ m₂ t
+    pub repeat-body : {g t : ℕ} {m₁ m₂ : List ℕ} → Ready M (repeat δ E P) p n → Switched (memoryWires M) E (p .cell) g m₁ m₂ t
         → Ready M P (place (t + 1 + 1) (p .delay + 1) (t + 1 + 1 + 1) (p .mark) (p .out)) n
     unfolding delayCount walkCount assignments allExits
     repeat-body r sw = rw (sw .switch) (part r (r .formed .2) (r .earlier .2) (omega (arith, r .apart)) (omega arith) (omega arith) (omega arith))

@@ -11,7 +11,6 @@ use Rattle.model.specs.Numbering.{memoryWires, exprCount, exprWire, exprCells, 
 use Rattle.laws.specs.Numbering.Lengths.{e-len, ors-len, own-len}
 use Rattle.compiler.specs.declared.walk.Word.{Word}
 use Rattle.compiler.specs.declared.walk.Place.{Place}
-use Rattle.compiler.specs.declared.walk.Pulse.{Pulse}
 use Rattle.compiler.specs.Writes.{write}
 use Rattle.compiler.specs.Walk.{place, ExprDone, Switched, marksOf, Owned, Done, ExitsJoined}
 use Rattle.compiler.proofs.Writes.{behind, write-none, write-append}
@@ -31,7 +30,7 @@ module _ {pulse M : ℕ} {F : ℕ → ℕ} {p : Place} {before marked : List ℕ
   tick-done h w l = closed (grow-delay grown-none _ refl h w) refl refl refl (rw l (omega arith)) (rw l refl)
 
   pub assign-done : {δ x : ℕ} {E : Expr} {m₁ m₂ end remarked : List ℕ} {e : Word} {r : Place} → p .delay + delayCount (assign δ x E) ≤ p .cell
-      → ExprDone M E (p .cell) before m₁ e
+      → ExprDone (memoryWires M) E (p .cell) before m₁ e
       → m₂ ≡ write (e .cell) (cell 41 0 (p .delay) (e .wire) ∷ []) m₁
       → end ≡ write (p .delay) (cell 34 δ (p .wire) 0 ∷ cell 34 pulse (p .delay) 0 ∷ []) m₂
       → remarked ≡ sets marked (p .mark) (x ∷ p .delay ∷ e .cell ∷ 0 ∷ [])
@@ -47,8 +46,8 @@ module _ {pulse M : ℕ} {F : ℕ → ℕ} {p : Place} {before marked : List ℕ
 
   pub element-done : {δ v : ℕ} {I E : Expr} {m₁ m₂ m₃ m₄ end remarked : List ℕ} {i e : Word} {r : Place}
       → p .delay + delayCount (assignElem δ v I E) ≤ p .cell
-      → ExprDone M I (p .cell) before m₁ i
-      → ExprDone M E (i .cell) m₁ m₂ e
+      → ExprDone (memoryWires M) I (p .cell) before m₁ i
+      → ExprDone (memoryWires M) E (i .cell) m₁ m₂ e
       → m₃ ≡ write (e .cell) (cell 41 0 (p .delay) (e .wire) ∷ []) m₂
       → m₄ ≡ write (e .cell + 1) (cell 41 0 (p .delay) (i .wire) ∷ []) m₃
       → end ≡ write (p .delay) (cell 34 δ (p .wire) 0 ∷ cell 34 pulse (p .delay) 0 ∷ []) m₄
@@ -79,34 +78,6 @@ module _ {pulse M : ℕ} {F : ℕ → ℕ} {p : Place} {before marked : List ℕ
   call-done h w k l =
       closed (grow-marks (grow-walk (grow-delay grown-none _ refl h refl) _ refl w) _ refl k) refl refl refl (rw l (omega arith)) (rw l refl)
 
--- an if's own delay cell
-module _ {s d : ℕ} {before : List ℕ} where
-  pub own-none : {δ : ℕ} → δ ≡ 0 → Owned δ s d before before (record { wire = s; delay = d })
-  unfolding ifDelayCells ifPulse ifDelayCount
-  own-none e = rw e (record { cells = sym (write-none d before); wire = refl; delay = omega arith })
-
-  pub own-some : (δ : ℕ) {end : List ℕ} → (δ ≡ 0 → ⊥) → end ≡ write d (cell 34 δ s 0 ∷ []) before
-      → Owned δ s d before end (record { wire = d; delay = d + 1 })
-  unfolding ifDelayCells ifPulse ifDelayCount
-  own-some zero n w = absurd (n refl)
-  own-some (suc δ) n w = record { cells = w; wire = refl; delay = refl }
-
-pub switches-done : {M c w : ℕ} {E : Expr} {before m₁ m₂ end : List ℕ} {e : Word} → ExprDone M E c before m₁ e
-    → m₂ ≡ write (e .cell) (cell 36 0 w (e .wire) ∷ []) m₁ → end ≡ write (e .cell + 1) (cell 37 0 w (e .wire) ∷ []) m₂
-    → Switched M E c w before end (e .cell)
-switches-done {M} {c} {w} {E} {before} u a b =
-    let f = c + exprCount E in
-    let x = cell 36 0 w (exprWire (memoryWires M) E c) in
-    let y = cell 37 0 w (exprWire (memoryWires M) E c) in
-    record {
-      cells =
-          rw (u .cell, u .wire) at b
-          ∙ ap (write (f + 1) (y ∷ [])) (rw (u .cell, u .wire, u .cells) at a)
-          ∙ write-append f (f + 1) (x ∷ []) (y ∷ []) (write c (exprCells (memoryWires M) E c) before) refl
-          ∙ write-append c f (exprCells (memoryWires M) E c) (x ∷ (y ∷ [])) before (behind c (e-len (memoryWires M) E c));
-      switch = u .cell;
-    }
-
 -- Statements with parts ----------------------------------------------------------------------------------------------------------------
 
 after-switches : (M g : ℕ) (E : Expr) (c : ℕ) → pastSwitches E c ≡ c + length (switches (memoryWires M) E g c [])
@@ -130,10 +101,10 @@ module _ {pulse M : ℕ} {F : ℕ → ℕ} {P Q : Code} {p q r : Place} {before 
       let g = grow-part (grow-part grown-none (omega arith) u) (omega arith) v in
       closed (grow-walk g _ refl (rw (left v, u .wire) at a)) refl (simp append-assoc) refl (omega (arith, v .out)) (rw (left v) refl)
 
-  pub if-done : {δ t : ℕ} {E : Expr} {start m₀ end : List ℕ} {o : Pulse} → p .delay + delayCount (ite δ E P Q) ≤ p .cell
+  pub if-done : {δ t : ℕ} {E : Expr} {start m₀ end : List ℕ} {o : Word} → p .delay + delayCount (ite δ E P Q) ≤ p .cell
       → Owned δ (p .wire) (p .delay) start m₀ o
-      → Switched M E (p .cell) (o .wire) m₀ before t
-      → Done pulse M F P (place t (o .delay) (t + 1 + 1) (p .mark) (p .out)) before m₁ marked k₁ q
+      → Switched (memoryWires M) E (p .cell) (o .wire) m₀ before t
+      → Done pulse M F P (place t (o .cell) (t + 1 + 1) (p .mark) (p .out)) before m₁ marked k₁ q
       → Done pulse M F Q (place (t + 1) (q .delay) (q .cell) (q .mark) (q .out)) m₁ m₂ k₁ k₂ r
       → end ≡ write (r .cell) (cell 35 0 (q .wire) (r .wire) ∷ []) m₂
       → Done pulse M F (ite δ E P Q) p start end marked k₂ (place (r .cell) (r .delay) (r .cell + 1) (r .mark) (r .out))
@@ -143,7 +114,7 @@ module _ {pulse M : ℕ} {F : ℕ → ℕ} {P Q : Code} {p q r : Place} {before 
       let d = p .delay in
       let c = p .cell in
       let sw = rw (ow .wire) at sw₀ in
-      let u = rw (sw .switch, ow .delay) at u₀ in
+      let u = rw (sw .switch, ow .cell) at u₀ in
       let v = rw (sw .switch, left u) at v₀ in
       let z = grown-none {d = d} {c = c} {k = p .mark} {before = start} {marked = marked} in
       let o = grow-delay z _ (behind d (own-len δ w)) (omega arith) (ow .cells) in
@@ -154,7 +125,7 @@ module _ {pulse M : ℕ} {F : ℕ → ℕ} {P Q : Code} {p q r : Place} {before 
 -- loops: the body's delay cells come after the loop's own, which is put in last
 module _ {pulse M δ t : ℕ} {F : ℕ → ℕ} {E : Expr} {P : Code} {p q : Place} {before m₁ m₂ m₃ end marked k₁ : List ℕ} where
   pub while-done : p .delay + delayCount (while δ E P) ≤ p .cell
-      → Switched M E (p .cell) (p .delay) before m₁ t
+      → Switched (memoryWires M) E (p .cell) (p .delay) before m₁ t
       → Done pulse M F P (place t (p .delay + 1) (t + 1 + 1) (p .mark) (p .out)) m₁ m₂ marked k₁ q
       → m₃ ≡ write (q .cell) (cell 35 0 (p .wire) (q .wire) ∷ []) m₂
       → end ≡ write (p .delay) (cell 34 δ (q .cell) 0 ∷ []) m₃
@@ -167,7 +138,7 @@ module _ {pulse M δ t : ℕ} {F : ℕ → ℕ} {E : Expr} {P : Code} {p q : Pla
       closed (grow-front g (omega arith) (rw (left u) at b)) refl (simp append-assoc) refl (u .out) (rw (sw .switch, left u) refl)
 
   pub repeat-done : p .delay + delayCount (repeat δ E P) ≤ p .cell
-      → Switched M E (p .cell) (p .delay) before m₁ t
+      → Switched (memoryWires M) E (p .cell) (p .delay) before m₁ t
       → m₂ ≡ write (t + 1 + 1) (cell 35 0 (p .wire) (t + 1) ∷ []) m₁
       → Done pulse M F P (place (t + 1 + 1) (p .delay + 1) (t + 1 + 1 + 1) (p .mark) (p .out)) m₂ m₃ marked k₁ q
       → end ≡ write (p .delay) (cell 34 δ (q .wire) 0 ∷ []) m₃

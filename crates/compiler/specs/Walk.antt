@@ -5,11 +5,10 @@ use Prim.Native.Nat.{ℕ, _+_, _*_, _≤_}
 use lib.ListN.{length, getD, take, drop}
 use lib.Seq.{sets}
 use Rattle.model.specs.Program.{Expr, Code, ok, tick, assign, assignElem, seq, par, ite, while, repeat, loop, exit, call, arrayVar}
-use Rattle.model.specs.Numbering.{memoryWires, exprCount, exprWire, exprCells, onTrue, pastSwitches, switches, ifDelayCount, ifDelayCells, ifPulse, delayCount, exitCount, walkCount, finishWire, exitWires, ors, orsOut, orCount, delays, walk}
+use Rattle.model.specs.Numbering.{Wires, memoryWires, exprCount, exprWire, exprCells, onTrue, pastSwitches, switches, ifDelayCount, ifDelayCells, ifPulse, delayCount, exitCount, walkCount, finishWire, exitWires, ors, orsOut, orCount, delays, walk}
 use Rattle.laws.specs.Program.Fit.{FormedExpr, Formed, Earlier}
 use Rattle.compiler.specs.declared.walk.Word.{Word}
 use Rattle.compiler.specs.declared.walk.Place.{Place}
-use Rattle.compiler.specs.declared.walk.Pulse.{Pulse}
 use Rattle.compiler.specs.Writes.{write, both}
 
 -- Expressions --------------------------------------------------------------------------------------------------------------------------
@@ -24,9 +23,9 @@ pub record ExprReady (M : ℕ) (e : Expr) (c n : ℕ) : Type 0 where
   pub room : 6 * (c + exprCount e) ≤ n
   pub small : n ≤ 3762
 
-pub record ExprDone (M : ℕ) (e : Expr) (c : ℕ) (before after : List ℕ) (r : Word) : Type 0 where
-  pub cells : after ≡ write c (exprCells (memoryWires M) e c) before
-  pub wire : r .wire ≡ exprWire (memoryWires M) e c
+pub record ExprDone (ws : Wires) (e : Expr) (c : ℕ) (before after : List ℕ) (r : Word) : Type 0 where
+  pub cells : after ≡ write c (exprCells ws e c) before
+  pub wire : r .wire ≡ exprWire ws e c
   pub cell : r .cell ≡ c + exprCount e
 
 -- a condition and its switches go there
@@ -34,8 +33,8 @@ pub record SwitchReady (M : ℕ) (e : Expr) (c n : ℕ) : Type 0 where
   pub expr : ExprReady M e c n
   pub room : 6 * pastSwitches e c ≤ n
 
-pub record Switched (M : ℕ) (e : Expr) (c ifPulse : ℕ) (before after : List ℕ) (r : ℕ) : Type 0 where
-  pub cells : after ≡ write c (switches (memoryWires M) e ifPulse c []) before
+pub record Switched (ws : Wires) (e : Expr) (c ifPulse : ℕ) (before after : List ℕ) (r : ℕ) : Type 0 where
+  pub cells : after ≡ write c (switches ws e ifPulse c []) before
   pub switch : r ≡ onTrue e c
 
 -- Statements ---------------------------------------------------------------------------------------------------------------------------
@@ -91,10 +90,10 @@ marksOf exit d c = []
 marksOf (call δ p) d c = (20 + p) ∷ d ∷ 0 ∷ 0 ∷ []
 
 -- an if's own delay cell
-pub record Owned (δ start d : ℕ) (before after : List ℕ) (r : Pulse) : Type 0 where
-  pub cells : after ≡ write d (ifDelayCells δ start) before
-  pub wire : r .wire ≡ ifPulse δ start d
-  pub delay : r .delay ≡ d + ifDelayCount δ
+pub record Owned (δ start k : ℕ) (before after : List ℕ) (r : Word) : Type 0 where
+  pub cells : after ≡ write k (ifDelayCells δ start) before
+  pub wire : r .wire ≡ ifPulse δ start k
+  pub cell : r .cell ≡ k + ifDelayCount δ
 
 -- P goes to place p of a list of n bytes; its delay cells end below its walk cells
 pub record Ready (M : ℕ) (P : Code) (p : Place) (n : ℕ) : Type 0 where

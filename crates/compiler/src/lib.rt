@@ -9,7 +9,7 @@ ghost use Rattle.model.specs.Numbering.{netlist};
 ghost use Rattle.model.specs.Calls.{overwrite, checkCall, compiledFile, compileCall};
 
 pub mod nodes; // nodes as parts of the tree
-mod walk; // delay cells and walk cells
+pub mod walk; // delay cells and walk cells
 mod ors; // ors and memories
 mod whole; // the whole netlist
 

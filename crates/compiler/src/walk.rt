@@ -7,6 +7,7 @@ ghost use Prim.Native.Nat.{ℕ, _+_, _*_, _<_, _≤_};
 ghost use lib.ListN.{length};
 ghost use lib.Seq.{sets};
 ghost use Rattle.model.specs.Circuit.{cell};
+ghost use Rattle.model.specs.Numbering.{memoryWires};
 ghost use Rattle.model.specs.Program.{exprAt, stmtAt, assign, assignElem, seq, par, ite, while, repeat, loop, exit};
 ghost use Rattle.program.specs.Ends.{Laid};
 ghost use Rattle.compiler.specs.Writes.{write};
@@ -14,7 +15,7 @@ ghost use Rattle.compiler.specs.Walk.{word, place, ExprReady, ExprDone, 
 use model::Cell;
 use model::Node;
 
-// An expression's wire, and the next walk cell.
+// A wire, an expression's or the pulse that an if switches, and the next cell.
 pub struct Word {
     pub wire: u16,
     pub cell: u16,
@@ -28,12 +29,6 @@ pub struct Place {
     pub cell: u16,
     pub mark: usize,
     pub out: usize,
-}
-
-// The pulse that an if switches, and the next delay cell.
-pub struct Pulse {
-    pub wire: u16,
-    pub delay: u16,
 }
 
 // What the walk is to know of the netlist around it: the first memory, the length of a pulse, and the finish of each body that has been walked, for
@@ -62,8 +57,8 @@ pub fn put(cells: &mut [u8], k: u16, kind: u8, delay: u8, a: u16, b: u16)
 }
 
 // Puts a word's cell in at k; it is the word's wire.
-fn put_word(cells: &mut [u8], k: u16, kind: u8, a: u16, b: u16) -> Word
-    requires { ⌜ (k < 627) × (6 * k + 6 ≤ length (now cells)) ⌝ }
+pub fn put_word(cells: &mut [u8], k: u16, kind: u8, a: u16, b: u16) -> Word
+    requires { ⌜ (k < 65535) × (6 * k + 6 ≤ length (now cells)) ⌝ }
     ensures cells { λ _. ⌜ now (cells .exit) ≡ write k (cell kind 0 a b ∷ []) (now (cells .entry)) ⌝ }
     ensures word { λ r. ⌜ r ≡ word k (k + 1) ⌝ }
 {
@@ -85,7 +80,7 @@ fn put_expr(
     c: u16,
 ) -> Word
     requires { ⌜ Laid (now program) (now ends) × ExprReady memory (exprAt (now program) i) c (length (now cells)) ⌝ }
-    ensures { λ r. ⌜ ExprDone memory (exprAt (now (program .entry)) i) c (now (cells .entry)) (now (cells .exit)) r ⌝ }
+    ensures { λ r. ⌜ ExprDone (memoryWires memory) (exprAt (now (program .entry)) i) c (now (cells .entry)) (now (cells .exit)) r ⌝ }
 {
     let node = crate::nodes::expr_node(program, i);
     let kind = node.kind;
@@ -113,21 +108,21 @@ fn put_expr(
     put_word(cells, f.cell, kind, e.wire, f.wire)
 }
 
-// An if's own delay cell, unless its delay is 0.
-fn put_own(cells: &mut [u8], delay: u8, start: u16, d: u16) -> Pulse
-    requires { ⌜ (d < 627) × (6 * d + 6 ≤ length (now cells)) ⌝ }
-    ensures { λ r. ⌜ Owned delay start d (now (cells .entry)) (now (cells .exit)) r ⌝ }
+// An if's own delay cell, put in at k unless its delay is 0.
+pub fn put_own(cells: &mut [u8], delay: u8, start: u16, k: u16) -> Word
+    requires { ⌜ (k < 65535) × (6 * k + 6 ≤ length (now cells)) ⌝ }
+    ensures { λ r. ⌜ Owned delay start k (now (cells .entry)) (now (cells .exit)) r ⌝ }
 {
     if delay == 0 {
-        return Pulse {
+        return Word {
             wire: start,
-            delay: d,
+            cell: k,
         };
     }
-    put(cells, d, 34, delay, start, 0);
-    Pulse {
-        wire: d,
-        delay: d + 1,
+    put(cells, k, 34, delay, start, 0);
+    Word {
+        wire: k,
+        cell: k + 1,
     }
 }
 
@@ -142,7 +137,7 @@ fn put_switches(
     pulse: u16,
 ) -> u16
     requires { ⌜ Laid (now program) (now ends) × SwitchReady memory (exprAt (now program) i) c (length (now cells)) ⌝ }
-    ensures { λ r. ⌜ Switched memory (exprAt (now (program .entry)) i) c pulse (now (cells .entry)) (now (cells .exit)) r ⌝ }
+    ensures { λ r. ⌜ Switched (memoryWires memory) (exprAt (now (program .entry)) i) c pulse (now (cells .entry)) (now (cells .exit)) r ⌝ }
 {
     let e = put_expr(cells, program, ends, memory, i, c);
     put(cells, e.cell, 36, 0, pulse, e.wire);
@@ -458,7 +453,7 @@ fn put_if(
     let switch = put_switches(cells, program, ends, known.memory, first, at.cell, own.wire);
     let when_true = Place {
         wire: switch,
-        delay: own.delay,
+        delay: own.cell,
         cell: switch + 1 + 1,
         mark: at.mark,
         out: at.out,

@@ -14,14 +14,13 @@ use lib.Seq.{getD-set-same, getD-set-other}
 use Rattle.model.specs.declared.Cell.{Cell}
 use Rattle.model.specs.Word.{pick}
 use Rattle.model.specs.Circuit.{cell}
-use Rattle.model.specs.Numbering.{Wires, ifDelayCount, ifDelayCells, ifPulse}
+use Rattle.model.specs.Numbering.{Wires}
 use Rattle.model.specs.Functional.{rowsOf, each, among, rank, many, placed, choices}
 use Rattle.laws.specs.Refusals.Laws.{by-bool}
 use Rattle.laws.specs.Functional.Count.{each-len}
 use Rattle.compiler.specs.Writes.{write}
 use Rattle.compiler.proofs.Writes.{write-none, write-append, write-two}
 use Rattle.functional.specs.Sets.{has, Agrees}
-use Rattle.functional.specs.Walk.{Owned}
 
 -- Bits -----------------------------------------------------------------------------------------------------------------------------------
 
@@ -199,19 +198,6 @@ pub write-three : (k : ℕ) (x y z : Cell) (s : List ℕ) {m₁ m₂ end : List 
     → end ≡ write (k + 2) (z ∷ []) m₂ → end ≡ write k (x ∷ y ∷ z ∷ []) s
 write-three k x y z s a b c =
     c ∙ ap (write (k + 2) (z ∷ [])) (write-two k x y s a b) ∙ write-append k (k + 2) (x ∷ y ∷ []) (z ∷ []) s refl
-
--- An if's own delay cell -------------------------------------------------------------------------------------------------------------------
-
-module _ {s c : ℕ} {before : List ℕ} where
-  pub own-none : {δ : ℕ} → δ ≡ 0 → Owned δ s c before before (record { wire = s; cell = c })
-  unfolding ifDelayCells ifPulse ifDelayCount
-  own-none e = rw e (record { cells = sym (write-none c before); wire = refl; cell = omega arith })
-
-  pub own-some : (δ : ℕ) {end : List ℕ} → (δ ≡ 0 → ⊥) → end ≡ write c (cell 34 δ s 0 ∷ []) before
-      → Owned δ s c before end (record { wire = c; cell = c + 1 })
-  unfolding ifDelayCells ifPulse ifDelayCount
-  own-some zero n w = absurd (n refl)
-  own-some (suc δ) n w = record { cells = w; wire = refl; cell = refl }
 
 -- All sixteen ------------------------------------------------------------------------------------------------------------------------------
 

@@ -15,13 +15,13 @@ use Rattle.laws.specs.Numbering.Lengths.{e-len}
 use Rattle.laws.specs.Functional.Count.{w-len}
 use Rattle.laws.specs.Numbering.Lengths.{own-len}
 use Rattle.compiler.specs.Writes.{write}
+use Rattle.compiler.specs.Walk.{ExprDone, Owned}
 use Rattle.compiler.proofs.Writes.{write-append, write-two}
-use Rattle.functional.specs.declared.walk.Word.{Word}
+use Rattle.compiler.specs.declared.walk.Word.{Word}
 use Rattle.functional.specs.declared.walk.Place.{Place}
-use Rattle.functional.specs.declared.walk.Pulse.{Pulse}
 use Rattle.functional.specs.declared.sets.Wires as declared
 use Rattle.functional.specs.Sets.{has, wired, Agrees, Tells}
-use Rattle.functional.specs.Walk.{plainly, place, ExprReady, ExprDone, Owned, Ready, Done, End}
+use Rattle.functional.specs.Walk.{plainly, place, ExprReady, Ready, Done, End}
 use Rattle.functional.proofs.Bits.{choices-same, many-set, placed-set, choices-set}
 
 -- Its own delay ----------------------------------------------------------------------------------------------------------------------------------
@@ -155,7 +155,7 @@ end-done set n word ws ones zeros out p q before {m₁} {m₂} {end} {r} told w�
       words = λ y l. a₃ y l ∙ rw e₅ refl;
     }
 
-pub if-done : (δ : ℕ) (E : Expr) (P Q : Code) (at : Place) (us : Wires) (set : ℕ) {before m₁ m₂ m₃ m₄ m₅ m₆ end : List ℕ} {e : Word} {o : Pulse} {p q r : Place}
+pub if-done : (δ : ℕ) (E : Expr) (P Q : Code) (at : Place) (us : Wires) (set : ℕ) {before m₁ m₂ m₃ m₄ m₅ m₆ end : List ℕ} {e : Word} {o : Word} {p q r : Place}
     → Agrees (at .words .of) us
     → ExprDone us E (at .cell) before m₁ e
     → Owned δ (at .wire) (e .cell) m₁ m₂ o

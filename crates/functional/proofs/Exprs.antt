@@ -1,72 +1,13 @@
--- What the walk of an expression asks of its parts, and what it leaves, kind by kind. Assumes nothing.
-use mathlib.Core.Path.{_≡_, refl, sym, _∙_, ap}
-use mathlib.Core.List.{List, [], _∷_, _++_}
+-- What the walk of an expression asks of its parts, kind by kind. Assumes nothing.
 use Prim.Native.Nat.{ℕ, _+_, _*_, _<_, _≤_}
 use native.Mathlib.Omega.{arith}
-use Rattle.model.specs.declared.Cell.{Cell}
-use Rattle.model.specs.Program.{Expr, const, var, compl, op}
-use Rattle.model.specs.Circuit.{cell}
-use Rattle.model.specs.Numbering.{Wires, exprCount, exprWire, exprCells}
-use Rattle.laws.specs.Numbering.Lengths.{e-len}
-use Rattle.compiler.specs.Writes.{write}
-use Rattle.compiler.proofs.Writes.{behind, write-none, write-append}
-use Rattle.functional.specs.declared.walk.Word.{Word}
-use Rattle.functional.specs.Walk.{word, ExprReady, ExprDone, Switched}
-
-module _ {ws : Wires} {c : ℕ} {before : List ℕ} where
-  pub const-done : {n : ℕ} {end : List ℕ} → end ≡ write c (cell 1 0 n 0 ∷ []) before → ExprDone ws (const n) c before end (word c (c + 1))
-  unfolding exprCells exprWire exprCount
-  const-done w = record { cells = w; wire = refl; cell = refl }
-
-  pub var-done : {x v : ℕ} → v ≡ ws x → ExprDone ws (var x) c before before (word v c)
-  unfolding exprCells exprWire exprCount
-  var-done e = record { cells = sym (write-none c before); wire = e; cell = omega arith }
-
-  module _ {E : Expr} {mid : List ℕ} {e : Word} (u : ExprDone ws E c before mid e) where
-    one-more : (y : Cell) {end : List ℕ} → end ≡ write (e .cell) (y ∷ []) mid → end ≡ write c (exprCells ws E c ++ (y ∷ [])) before
-    one-more y w = rw (u .cell, u .cells) at w ∙ write-append c _ (exprCells ws E c) _ before (behind c (e-len ws E c))
-
-    pub compl-done : {end : List ℕ} → end ≡ write (e .cell) (cell 3 0 (e .wire) 0 ∷ []) mid
-        → ExprDone ws (compl E) c before end (word (e .cell) (e .cell + 1))
-    unfolding exprCells exprWire exprCount
-    compl-done w = record { cells = rw (u .wire) at (one-more _ w); wire = u .cell; cell = omega (arith, u .cell) }
-
-    pub op-done : {k : ℕ} {F : Expr} {mid₂ end : List ℕ} {f : Word} → ExprDone ws F (e .cell) mid mid₂ f
-        → end ≡ write (f .cell) (cell k 0 (e .wire) (f .wire) ∷ []) mid₂ → ExprDone ws (op k E F) c before end (word (f .cell) (f .cell + 1))
-    unfolding exprCells exprWire exprCount
-    op-done {k} {F} v₀ w =
-        let c₂ = c + exprCount E in
-        let v = rw (u .cell) at v₀ in
-        rw (v .cell)
-        (record {
-          cells =
-              rw (v .cell, v .wire, u .wire, v .cells, u .cells) at w
-              ∙ write-append c₂ _ (exprCells ws F c₂) _ (write c (exprCells ws E c) before) (behind c₂ (e-len ws F c₂))
-              ∙ write-append c c₂ (exprCells ws E c) _ before (behind c (e-len ws E c));
-          wire = refl;
-          cell = omega arith;
-        })
-
-    -- with its switches
-    pub switches-done : {g : ℕ} {m₂ end : List ℕ} → m₂ ≡ write (e .cell) (cell 36 0 g (e .wire) ∷ []) mid
-        → end ≡ write (e .cell + 1) (cell 37 0 g (e .wire) ∷ []) m₂ → Switched ws E c g before end e
-    switches-done {g} a b =
-        let f = c + exprCount E in
-        let x = cell 36 0 g (exprWire ws E c) in
-        let y = cell 37 0 g (exprWire ws E c) in
-        record {
-          cells =
-              rw (u .cell, u .wire) at b
-              ∙ ap (write (f + 1) (y ∷ [])) (rw (u .cell, u .wire, u .cells) at a)
-              ∙ write-append f (f + 1) (x ∷ []) (y ∷ []) (write c (exprCells ws E c) before) refl
-              ∙ write-append c f (exprCells ws E c) (x ∷ (y ∷ [])) before (behind c (e-len ws E c));
-          wire = u .wire;
-          cell = u .cell;
-        }
+use Rattle.model.specs.Program.{Expr, compl, op}
+use Rattle.model.specs.Numbering.{exprCount}
+use Rattle.functional.specs.Walk.{ExprReady}
 
 module _ {c n : ℕ} where
   -- there is room for an expression's cells, of which k is one
-  pub last-fits : {E : Expr} {k : ℕ} → ExprReady E c n → k < c + exprCount E → (k < 7043) × (6 * k + 6 ≤ n)
+  pub last-fits : {E : Expr} {k : ℕ} → ExprReady E c n → k < c + exprCount E → (k < 65535) × (6 * k + 6 ≤ n)
   last-fits r h = (omega (arith, h, r .room, r .small), omega (arith, h, r .room))
 
   pub compl-ready : {E : Expr} → ExprReady (compl E) c n → ExprReady E c n

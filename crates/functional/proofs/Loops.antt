@@ -14,12 +14,12 @@ use Rattle.model.specs.Functional.{each, rank, many, placed, joinsAt, choices, 
 use Rattle.laws.specs.Numbering.Lengths.{e-len}
 use Rattle.laws.specs.Functional.Count.{each-len, w-len}
 use Rattle.compiler.specs.Writes.{write}
+use Rattle.compiler.specs.Walk.{Switched}
 use Rattle.compiler.proofs.Writes.{write-append, write-before}
-use Rattle.functional.specs.declared.walk.Word.{Word}
 use Rattle.functional.specs.declared.walk.Place.{Place}
 use Rattle.functional.specs.declared.sets.Wires as declared
 use Rattle.functional.specs.Sets.{has, wired, Agrees, Tells}
-use Rattle.functional.specs.Walk.{plainly, place, ExprReady, Switched, Ready, Done, Round}
+use Rattle.functional.specs.Walk.{plainly, place, ExprReady, Ready, Done, Round}
 use Rattle.functional.proofs.Bits.{each-same, choices-same, many-set, rank-set, each-set, placed-set, choices-set}
 
 -- Latches and loads --------------------------------------------------------------------------------------------------------------------------
@@ -160,16 +160,16 @@ module _ {δ c n : ℕ} {E : Expr} {P : Code} (r : Ready (while δ E P) c n) {k 
   pub while-body : {t : ℕ} → t ≡ c + k + 2 + exprCount E → Ready P (t + 1 + 1) n
   while-body q = record { formed = r .formed .2; basic = r .basic .1; room = omega (arith, while-room, q); small = r .small }
 
-pub while-done : (δ : ℕ) (E : Expr) (P : Code) (at : Place) (us : Wires) (set n : ℕ) (latches : declared.Wires) {before m₁ m₂ m₃ end : List ℕ} {e : Word} {p : Place} {r : ℕ}
+pub while-done : (δ : ℕ) (E : Expr) (P : Code) (at : Place) (us : Wires) (set n : ℕ) (latches : declared.Wires) {before m₁ m₂ m₃ end : List ℕ} {e : ℕ} {p : Place} {r : ℕ}
     → Agrees (at .words .of) us
     → Tells set (writes (plainly P))
     → n ≡ many (has set)
     → Agrees (latches .of) (placed (has set) (at .cell) (wired (at .words .of)))
     → m₁ ≡ write (at .cell + n + 1) (cell 34 δ (at .cell + n) 0 ∷ []) before
     → ((vs : Wires) → Agrees (latches .of) vs → Switched vs E (at .cell + n + 2) (at .cell + n + 1) m₁ m₂ e)
-    → ((vs : Wires) → Agrees (latches .of) vs → Done (plainly P) (place (e .cell) (e .cell + 1 + 1) latches) vs m₂ m₃ p)
+    → ((vs : Wires) → Agrees (latches .of) vs → Done (plainly P) (place e (e + 1 + 1) latches) vs m₂ m₃ p)
     → Round set at (p .wire) (p .words) (p .cell) m₃ end r
-    → Done (plainly (while δ E P)) at us before end (place (e .cell + 1) r latches)
+    → Done (plainly (while δ E P)) at us before end (place (e + 1) r latches)
 unfolding inline finishWire count outs
 while-done δ E P at us set n latches {before} {m₁} {m₂} {m₃} {end} {e} {p} {r} same t told a w₁ switched body round =
     let c = at .cell in
@@ -180,11 +180,11 @@ while-done δ E P at us set n latches {before} {m₁} {m₂} {m₃} {end} {e} {p
     let eN : n ≡ N = many-told set P′ t told in
     let k : c + n + 2 ≡ c + N + 1 + 1 = omega (arith, eN) in
     let u : Switched ls E (c + N + 1 + 1) (c + N + 1) m₁ m₂ e = rw (k, eN) at (switched ls la) in
-    let v : Done P′ (place (whileTrue E P′ c) (whileBody E P′ c) latches) ls m₂ m₃ p = rw (u .cell) at (body ls la) in
+    let v : Done P′ (place (whileTrue E P′ c) (whileBody E P′ c) latches) ls m₂ m₃ p = rw (u .switch) at (body ls la) in
     let o = round-told set P′ at (p .wire) (p .words) (p .cell) us (outs P′ ls (whileBody E P′ c)) m₃ t same (v .words) round in
     record {
       cells = while-cells δ E P′ (at .wire) us c before (rw eN at w₁) (u .cells) (v .cells) (rw (v .wire, v .cell) at o);
-      wire = rw (u .cell) refl;
+      wire = rw (u .switch) refl;
       cell = omega (arith, round .cell, v .cell, eN, told);
       words = la;
     }
@@ -253,7 +253,7 @@ module _ {δ c n : ℕ} {E : Expr} {P : Code} (r : Ready (repeat δ E P) c n) {k
   pub repeat-expr : {q : ℕ} → q ≡ c + k + 1 + count (plainly P) → ExprReady E (q + 1) n
   repeat-expr h = record { formed = r .formed .1; basic = r .basic .0; room = omega (arith, repeat-room, h); small = r .small }
 
-pub repeat-done : (δ : ℕ) (E : Expr) (P : Code) (at : Place) (us : Wires) (set n : ℕ) (latches : declared.Wires) {before m₁ m₂ m₃ end : List ℕ} {e : Word} {p : Place} {r : ℕ}
+pub repeat-done : (δ : ℕ) (E : Expr) (P : Code) (at : Place) (us : Wires) (set n : ℕ) (latches : declared.Wires) {before m₁ m₂ m₃ end : List ℕ} {e : ℕ} {p : Place} {r : ℕ}
     → Agrees (at .words .of) us
     → Tells set (writes (plainly P))
     → n ≡ many (has set)
@@ -261,8 +261,8 @@ pub repeat-done : (δ : ℕ) (E : Expr) (P : Code) (at : Place) (us : Wires) (se
     → ((vs : Wires) → Agrees (latches .of) vs → Done (plainly P) (place (at .cell + n) (at .cell + n + 1) latches) vs before m₁ p)
     → m₂ ≡ write (p .cell) (cell 34 δ (p .wire) 0 ∷ []) m₁
     → ((vs : Wires) → Agrees (p .words .of) vs → Switched vs E (p .cell + 1) (p .cell) m₂ m₃ e)
-    → Round set at (e .cell + 1) (p .words) (e .cell + 2) m₃ end r
-    → Done (plainly (repeat δ E P)) at us before end (place (e .cell) r (p .words))
+    → Round set at (e + 1) (p .words) (e + 2) m₃ end r
+    → Done (plainly (repeat δ E P)) at us before end (place e r (p .words))
 unfolding inline finishWire count outs
 repeat-done δ E P at us set n latches {before} {m₁} {m₂} {m₃} {end} {e} {p} {r} same t told a body w₂ switched round =
     let c = at .cell in
@@ -274,11 +274,11 @@ repeat-done δ E P at us set n latches {before} {m₁} {m₂} {m₃} {end} {e} {
     let v : Done P′ (place (c + N) (repeatBody E P′ c) latches) ls before m₁ p = rw eN at (body ls la) in
     let vs : Wires = outs P′ ls (repeatBody E P′ c) in
     let u : Switched vs E (repeatDelay E P′ c + 1) (repeatDelay E P′ c) m₂ m₃ e = rw (v .cell) at (switched vs (v .words)) in
-    let o = round-told set P′ at (e .cell + 1) (p .words) (e .cell + 2) us vs m₃ t same (v .words) round in
-    let k : e .cell + 2 ≡ repeatLoad E P′ c = omega (arith, u .cell) in
+    let o = round-told set P′ at (e + 1) (p .words) (e + 2) us vs m₃ t same (v .words) round in
+    let k : e + 2 ≡ repeatLoad E P′ c = omega (arith, u .switch) in
     record {
-      cells = repeat-cells δ E P′ (at .wire) us c before (v .cells) (rw (v .cell, v .wire) at w₂) (u .cells) (rw (k, u .cell) at o);
-      wire = u .cell;
-      cell = omega (arith, round .cell, u .cell, eN, told);
+      cells = repeat-cells δ E P′ (at .wire) us c before (v .cells) (rw (v .cell, v .wire) at w₂) (u .cells) (rw (k, u .switch) at o);
+      wire = u .switch;
+      cell = omega (arith, round .cell, u .switch, eN, told);
       words = v .words;
     }

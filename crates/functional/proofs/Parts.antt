@@ -14,12 +14,13 @@ use Rattle.model.specs.Functional.{count, finishWire, outs, walk}
 use Rattle.laws.specs.Numbering.Lengths.{e-len}
 use Rattle.laws.specs.Functional.Count.{w-len}
 use Rattle.compiler.specs.Writes.{write}
+use Rattle.compiler.specs.Walk.{ExprDone}
 use Rattle.compiler.proofs.Writes.{behind, write-none, write-append}
-use Rattle.functional.specs.declared.walk.Word.{Word}
+use Rattle.compiler.specs.declared.walk.Word.{Word}
 use Rattle.functional.specs.declared.walk.Place.{Place}
 use Rattle.functional.specs.declared.sets.Wires as declared
 use Rattle.functional.specs.Sets.{has, wired, Agrees, Tells}
-use Rattle.functional.specs.Walk.{plainly, place, ExprReady, ExprDone, Ready, Done}
+use Rattle.functional.specs.Walk.{plainly, place, ExprReady, Ready, Done}
 
 -- Nothing, and a tick -----------------------------------------------------------------------------------------------------------------------
 

@@ -5,16 +5,14 @@ use mathlib.Core.List.{List, [], _∷_, _++_}
 use Prim.Native.Nat.{ℕ, _+_, _*_, _≤_}
 use Rattle.model.specs.Program.{Expr, Code, Stmt, ok, stmtAt, writes}
 use Rattle.model.specs.Procedures.{inline}
-use Rattle.model.specs.Numbering.{Wires, exprCount, exprWire, exprCells, ifDelayCount, ifDelayCells, ifPulse}
+use Rattle.model.specs.Numbering.{Wires, exprCount}
 use Rattle.model.specs.Circuit.{cell}
 use Rattle.model.specs.Functional.{each, rank, many, placed, joinsAt, choices, count, finishWire, outs, walk, netlistOf, finishOf}
 use Rattle.model.specs.NetlistFile.{fileOf}
 use Rattle.laws.specs.Program.Fit.{FormedExpr, BasicExpr, Formed, Basic}
 use Rattle.program.specs.Ends.{Laid}
 use Rattle.compiler.specs.Writes.{write}
-use Rattle.functional.specs.declared.walk.Word.{Word}
 use Rattle.functional.specs.declared.walk.Place.{Place}
-use Rattle.functional.specs.declared.walk.Pulse.{Pulse}
 use Rattle.functional.specs.declared.sets.Wires as declared
 use Rattle.functional.specs.Sets.{has, wired, Agrees, Tells}
 
@@ -45,33 +43,12 @@ Writes s i set = Tells set (writes (plainAt s i))
 
 -- Expressions --------------------------------------------------------------------------------------------------------------------------
 
-abbrev pub word : ℕ → ℕ → Word
-word w c = record { wire = w; cell = c }
-
 -- e goes to cell c of a list of n bytes
 pub record ExprReady (e : Expr) (c n : ℕ) : Type 0 where
   pub formed : FormedExpr e
   pub basic : BasicExpr e
   pub room : 6 * (c + exprCount e) ≤ n
   pub small : n ≤ 42258
-
-pub record ExprDone (ws : Wires) (e : Expr) (c : ℕ) (before after : List ℕ) (r : Word) : Type 0 where
-  pub cells : after ≡ write c (exprCells ws e c) before
-  pub wire : r .wire ≡ exprWire ws e c
-  pub cell : r .cell ≡ c + exprCount e
-
--- e and its switches, on a pulse
-pub record Switched (ws : Wires) (e : Expr) (c pulse : ℕ) (before after : List ℕ) (r : Word) : Type 0 where
-  pub cells :
-      after ≡ write c (exprCells ws e c ++ (cell 36 0 pulse (exprWire ws e c) ∷ cell 37 0 pulse (exprWire ws e c) ∷ [])) before
-  pub wire : r .wire ≡ exprWire ws e c
-  pub cell : r .cell ≡ c + exprCount e
-
--- an if's own delay cell
-pub record Owned (δ start c : ℕ) (before after : List ℕ) (r : Pulse) : Type 0 where
-  pub cells : after ≡ write c (ifDelayCells δ start) before
-  pub wire : r .wire ≡ ifPulse δ start c
-  pub cell : r .cell ≡ c + ifDelayCount δ
 
 -- Statements ---------------------------------------------------------------------------------------------------------------------------
 

@@ -23,8 +23,8 @@ mod counts; // what is written, and how many cells
 mod walk; // the cells of a statement
 
 use crate::rows::Row;
-use crate::rows::put;
 use crate::walk::Place;
+use compiler::walk::put;
 use model::Checked;
 use model::Options;
 use model::Refusal;

@@ -8,22 +8,13 @@ ghost use Rattle.model.specs.Functional.{each, many, choices};
 ghost use Rattle.compiler.specs.Writes.{write};
 ghost use Rattle.functional.specs.Sets.{has, rowCell};
 use crate::sets::Wires;
-use model::Cell;
+use compiler::walk::put;
 
 // A kind, and the inputs of each variable's cell.
 pub struct Row {
     pub kind: u8,
     pub a: Wires,
     pub b: Wires,
-}
-
-// Puts cell k in.
-pub fn put(cells: &mut [u8], k: u16, kind: u8, delay: u8, a: u16, b: u16)
-    requires { ⌜ 6 * k + 6 ≤ length (now cells) ⌝ }
-    ensures { λ _. ⌜ now (cells .exit) ≡ write k (cell kind delay a b ∷ []) (now (cells .entry)) ⌝ }
-{
-    let c = Cell { kind, delay, a, b };
-    netlist::cells::put_cell(cells, 6 * (k as usize), c, 0);
 }
 
 // Puts a cell for each variable of a set in, from cell k on; answers the next cell.

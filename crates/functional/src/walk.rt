@@ -10,42 +10,21 @@ ghost use Rattle.model.specs.Numbering.{exprCount};
 ghost use Rattle.program.specs.Ends.{Laid};
 ghost use Rattle.compiler.specs.Writes.{write};
 ghost use Rattle.functional.specs.Sets.{Agrees};
-ghost use Rattle.functional.specs.Walk.{plainly, word, place, ExprReady, ExprDone, Switched, Owned, Ready, Done, EndReady, End, RoundReady, Round};
+ghost use Rattle.compiler.specs.Walk.{ExprDone, Switched};
+ghost use Rattle.functional.specs.Walk.{plainly, place, ExprReady, Ready, Done, EndReady, End, RoundReady, Round};
 use crate::rows::Row;
-use crate::rows::put;
 use crate::sets::Wires;
+use compiler::walk::Word;
+use compiler::walk::put;
+use compiler::walk::put_own;
+use compiler::walk::put_word;
 use model::Node;
-
-// An expression's wire, and the next cell.
-pub struct Word {
-    pub wire: u16,
-    pub cell: u16,
-}
 
 // Where the walk is: the wire that starts a statement or has just finished one, the next cell, and the wires of the words.
 pub struct Place {
     pub wire: u16,
     pub cell: u16,
     pub words: Wires,
-}
-
-// The pulse that an if switches, and the next cell.
-pub struct Pulse {
-    pub wire: u16,
-    pub cell: u16,
-}
-
-// Puts a word's cell in at k; it is the word's wire.
-fn put_word(cells: &mut [u8], k: u16, kind: u8, a: u16, b: u16) -> Word
-    requires { ⌜ (k < 7043) × (6 * k + 6 ≤ length (now cells)) ⌝ }
-    ensures cells { λ _. ⌜ now (cells .exit) ≡ write k (cell kind 0 a b ∷ []) (now (cells .entry)) ⌝ }
-    ensures word { λ r. ⌜ r ≡ word k (k + 1) ⌝ }
-{
-    put(cells, k, kind, 0, a, b);
-    Word {
-        wire: k,
-        cell: k + 1,
-    }
 }
 
 // The cells of the expression at node i, from cell c on: children, then its cell; a variable is the wire that brings its word.
@@ -83,7 +62,7 @@ fn put_expr(
     put_word(cells, f.cell, kind, e.wire, f.wire)
 }
 
-// A condition, and its 36 and 37.
+// A condition, and its 36 and 37; answers the 36.
 fn put_switches(
     cells: &mut [u8],
     program: &[u8],
@@ -92,14 +71,14 @@ fn put_switches(
     i: usize,
     c: u16,
     pulse: u16,
-) -> Word
+) -> u16
     requires { ⌜ Laid (now program) (now ends) × ExprReady (exprAt (now program) i) c (length (now cells)) × (6 * (c + exprCount (exprAt (now program) i) + 2) ≤ length (now cells)) ⌝ }
     ensures { λ r. ⌜ ((us : ℕ → ℕ) → Agrees (ws .of) us → Switched us (exprAt (now (program .entry)) i) c pulse (now (cells .entry)) (now (cells .exit)) r) ⌝ }
 {
     let e = put_expr(cells, program, ends, ws, i, c);
     put(cells, e.cell, 36, 0, pulse, e.wire);
     put(cells, e.cell + 1, 37, 0, pulse, e.wire);
-    e
+    e.cell
 }
 
 // A tick's delay cell, which is its finish.
@@ -215,24 +194,6 @@ fn put_par(
         wire: q.cell,
         cell: q.cell + 1,
         words: crate::sets::chosen(of_p, us, right),
-    }
-}
-
-// An if's own delay cell, unless its delay is 0.
-fn put_own(cells: &mut [u8], delay: u8, start: u16, c: u16) -> Pulse
-    requires { ⌜ (c < 7043) × (6 * c + 6 ≤ length (now cells)) ⌝ }
-    ensures { λ r. ⌜ Owned delay start c (now (cells .entry)) (now (cells .exit)) r ⌝ }
-{
-    if delay == 0 {
-        return Pulse {
-            wire: start,
-            cell: c,
-        };
-    }
-    put(cells, c, 34, delay, start, 0);
-    Pulse {
-        wire: c,
-        cell: c + 1,
     }
 }
 
@@ -360,8 +321,7 @@ fn put_while(
     let latches = crate::sets::placed(set, at.cell, ws);
     let waits = at.cell + n;
     put(cells, waits + 1, 34, delay, waits, 0);
-    let e = put_switches(cells, program, ends, latches, first, waits + 2, waits + 1);
-    let switch = e.cell;
+    let switch = put_switches(cells, program, ends, latches, first, waits + 2, waits + 1);
     let body = Place {
         wire: switch,
         cell: switch + 1 + 1,
@@ -403,8 +363,7 @@ fn put_repeat(
     let p = put_stmt(cells, program, ends, second, body);
     let us = p.words;
     put(cells, p.cell, 34, delay, p.wire, 0);
-    let e = put_switches(cells, program, ends, us, first, p.cell + 1, p.cell);
-    let switch = e.cell;
+    let switch = put_switches(cells, program, ends, us, first, p.cell + 1, p.cell);
     let end = put_round(cells, set, n, at, switch + 1, us, switch + 2);
     Place {
         wire: switch,

@@ -1,4 +1,4 @@
--- The laws behind the proofs of the functions. A crate that puts cells in by itself needs Bytes and Putting.
+-- The laws behind the proofs of the functions. A crate that puts cells in by itself needs Bytes and Putting, one that goes over those of a file Following.
 pub mod Bytes
 pub mod CellChecks
 pub mod LastChecks
@@ -7,3 +7,4 @@ pub mod FileChecks
 pub mod Putting
 pub mod Calls
 pub mod Headers
+pub mod Following

@@ -5,8 +5,8 @@ ghost use mathlib.Core.List.{[], _∷_};
 ghost use Prim.Native.Nat.{_+_, _*_, _<_, _≤_};
 ghost use lib.ListN.{length};
 ghost use lib.Seq.{sets};
-ghost use Rattle.model.specs.NetlistFile.{cellLimit, cellBytes, cellFrom, cellsAt, sumWith};
-ghost use Rattle.netlist.specs.Offsets.{offset, Room};
+ghost use Rattle.model.specs.NetlistFile.{cellLimit, fileLimit, cellBytes, cellFrom, cellsAt, sumWith};
+ghost use Rattle.netlist.specs.Offsets.{offset, after, Room};
 use model::Cell;
 use model::sizes::BLOCK;
 use model::sizes::BLOCK_CELLS;
@@ -30,16 +30,35 @@ pub fn offset(layout: Layout, k: usize) -> usize
     }
 }
 
-pub fn cell_at(s: &[u8], layout: Layout, k: usize) -> Cell
-    requires { ⌜ (k < cellLimit) × (offset layout k + 6 ≤ length (now s)) ⌝ }
-    ensures { λ r. ⌜ r ≡ cellFrom (now (s .entry)) (offset layout k) ⌝ }
+// The byte of a file at which the cell behind the one at i begins: a loop over the cells goes by it, and divides nowhere.
+pub fn next_offset(i: usize) -> usize
+    requires { ⌜ i ≤ fileLimit ⌝ }
+    ensures { λ r. ⌜ r ≡ after i ⌝ }
 {
-    let i = offset(layout, k);
+    let next = i + CELL;
+    if next % BLOCK == 0 {
+        return next + BLOCK_HEADER;
+    }
+    next
+}
+
+// The cell that begins at byte i.
+pub fn cell_from(s: &[u8], i: usize) -> Cell
+    requires { ⌜ i + 6 ≤ length (now s) ⌝ }
+    ensures { λ r. ⌜ r ≡ cellFrom (now (s .entry)) i ⌝ }
+{
     let kind = s[i];
     let delay = s[i + 1];
     let a = word::get16(s, i + 2);
     let b = word::get16(s, i + 4);
     Cell { kind, delay, a, b }
+}
+
+pub fn cell_at(s: &[u8], layout: Layout, k: usize) -> Cell
+    requires { ⌜ (k < cellLimit) × (offset layout k + 6 ≤ length (now s)) ⌝ }
+    ensures { λ r. ⌜ r ≡ cellFrom (now (s .entry)) (offset layout k) ⌝ }
+{
+    cell_from(s, offset(layout, k))
 }
 
 // Puts a cell in at i; answers the sum after it, from the sum before.

@@ -1,4 +1,4 @@
--- Answers of runs: what a state shows, and the results of continuings and full runs in terms of the file. Assumes nothing.
+-- Answers of runs: what a state shows, and the results of continuings and full runs. Assumes nothing.
 use mathlib.Core.Bool.{Bool, true, false}
 use mathlib.Core.List.{List}
 use mathlib.Core.Path.{_≡_, refl, _∙_, ap}
@@ -9,7 +9,7 @@ use Rattle.model.specs.declared.Refusal.{Refusal}
 use Rattle.model.specs.declared.Checked.the-variants.{Accepted, Refused}
 use Rattle.model.specs.declared.Outcome.the-variants.{Ended, Open}
 use Rattle.model.specs.Word.{pick}
-use Rattle.model.specs.Circuit.{Netlist, high}
+use Rattle.model.specs.Circuit.{high}
 use Rattle.model.specs.NetlistFile.{cellsOf, netOf, finishOf}
 use Rattle.model.specs.State.{Course, instantOf, nowAt, beginState, continued, wordsIn}
 use Rattle.model.specs.Calls.{wordAt, refusedAnswer, shows, running, fullState, fullCount}
@@ -31,29 +31,21 @@ module _ (F : Format) (file : List ℕ) (c : Course) where
   unfolding running
   told-shows e = rw e refl
 
--- net and f are the cells and the finish of the file
-module _ (file : List ℕ) (net : Netlist) (f : ℕ) (is-net : net ≡ netOf file) (is-finish : f ≡ finishOf file) where
-  pub file-course : (F : Format) (starts : Bool) (n : ℕ) (s : List ℕ) → continuedWith F net starts f n s ≡ continuedWith F (netOf file) starts (finishOf file) n s
-  file-course F starts n s = rw (is-net, is-finish) refl
+-- b is the state that a beginning on s leaves
+module _ (file words : List ℕ) (n : ℕ) (s b : List ℕ) (begun : b ≡ beginState Full (netOf file) (wordAt words) s) where
+  wire : (level : Bool) → high (nowAt Full b (finishOf file)) ≡ level → high (nowAt Full (beginState Full (netOf file) (wordAt words) s) (finishOf file)) ≡ level
+  wire level h = rw begun at h
 
-  -- b is the state that a beginning on s leaves
-  module _ (words : List ℕ) (n : ℕ) (s b : List ℕ) (begun : b ≡ beginState Full net (wordAt words) s) where
-    begun-file : b ≡ beginState Full (netOf file) (wordAt words) s
-    begun-file = rw is-net at begun
+  pub full-ended : high (nowAt Full b (finishOf file)) ≡ true → (b ≡ fullState file words n s) × (1 ≡ fullCount file words n s)
+  unfolding fullState fullCount
+  full-ended h = (rw (wire true h) begun, rw (wire true h) refl)
 
-    wire : (level : Bool) → high (nowAt Full b f) ≡ level → high (nowAt Full (beginState Full (netOf file) (wordAt words) s) (finishOf file)) ≡ level
-    wire level h = rw (begun-file, is-finish) at h
-
-    pub full-ended : high (nowAt Full b f) ≡ true → (b ≡ fullState file words n s) × (1 ≡ fullCount file words n s)
-    unfolding fullState fullCount
-    full-ended h = (rw (wire true h) begun-file, rw (wire true h) refl)
-
-    pub full-open : high (nowAt Full b f) ≡ false → (t : List ℕ) (k : ℕ) → t ≡ continuedWith Full net false f n b .state → k ≡ continuedWith Full net false f n b .count
-        → (t ≡ fullState file words n s) × (1 + k ≡ fullCount file words n s)
-    unfolding fullState fullCount
-    full-open h t k last count =
-        let z : continuedWith Full net false f n b ≡ continued Full (netOf file) (finishOf file) n (beginState Full (netOf file) (wordAt words) s) =
-        file-course Full false n b ∙ with-none Full (netOf file) (finishOf file) n b ∙ ap (continued Full (netOf file) (finishOf file) n) begun-file in (
-          rw (wire false h) (last ∙ ap (λ (c : Course). c .state) z),
-          rw (wire false h) (ap (λ (m : ℕ). 1 + m) (count ∙ ap (λ (c : Course). c .count) z)),
-        )
+  pub full-open : high (nowAt Full b (finishOf file)) ≡ false → (t : List ℕ) (k : ℕ) → t ≡ continuedWith Full (netOf file) false (finishOf file) n b .state
+      → k ≡ continuedWith Full (netOf file) false (finishOf file) n b .count → (t ≡ fullState file words n s) × (1 + k ≡ fullCount file words n s)
+  unfolding fullState fullCount
+  full-open h t k last count =
+      let z : continuedWith Full (netOf file) false (finishOf file) n b ≡ continued Full (netOf file) (finishOf file) n (beginState Full (netOf file) (wordAt words) s) =
+      with-none Full (netOf file) (finishOf file) n b ∙ ap (continued Full (netOf file) (finishOf file) n) begun in (
+        rw (wire false h) (last ∙ ap (λ (c : Course). c .state) z),
+        rw (wire false h) (ap (λ (m : ℕ). 1 + m) (count ∙ ap (λ (c : Course). c .count) z)),
+      )

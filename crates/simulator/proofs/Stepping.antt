@@ -143,8 +143,8 @@ restored s t z k u m x y a b h =
     y ∙ ap (λ (r : List ℕ). paste t 0 r m) x ∙ ap₂ (λ (x y : List ℕ). x ++ y) q p ∙ take-append-drop m s
 
 -- so its good instants may be evaluated again
-pub again-asks : (F : Format) (cells : List ℕ) (h : Header) (budget count : ℕ) (s t : List ℕ) → t ≡ s → count ≤ budget → Continues F cells h budget s → Continues F cells h count t
-again-asks F cells h budget count s t e l p = rw e (p .0, p .1, omega (arith, p .2), p .3)
+pub again-asks : (F : Format) (file : List ℕ) (h : Header) (budget count : ℕ) (s t : List ℕ) → t ≡ s → count ≤ budget → Continues F file h budget s → Continues F file h count t
+again-asks F file h budget count s t e l p = rw e (p .0, omega (arith, p .1), p .2)
 
 -- and are
 pub redone : (F : Format) (net : Netlist) (starts : Bool) (f n count : ℕ) (s t : List ℕ) (r : Refusal) → t ≡ s → count ≡ continuedWith F net starts f n s .count

@@ -1,5 +1,4 @@
-// Beginning: instant 0 of a netlist, whose cells stand in a list of six bytes each.
-// The cells fit the state, and sixteen of them are memories.
+// Beginning: instant 0 of a netlist file that is accepted, on a state of its size.
 // It is an instant with a start pulse, from a state with nothing in flight.
 ghost use mathlib.Core.Path.{_≡_};
 ghost use mathlib.Core.List.{_++_};
@@ -7,13 +6,14 @@ ghost use Prim.Native.Nat.{_+_, _*_, _<_, _≤_};
 ghost use lib.ListN.{length, take, drop, replicate};
 ghost use lib.Seq.{sets};
 ghost use Rattle.model.specs.Circuit.{memories};
+ghost use Rattle.model.specs.NetlistFile.{cellsOf, netOf};
 ghost use Rattle.model.specs.State.{firstValue, upTo, shown, wordBytes, beginState};
 ghost use Rattle.model.specs.Calls.{wordAt};
-ghost use Rattle.simulator.specs.Fits.{listIn, netBy, Fits, Holds};
+ghost use Rattle.simulator.specs.Fits.{Fits, Holds};
 use crate::instant;
 use model::Cell;
 use model::Format;
-use netlist::cells::Layout;
+use model::sizes::BLOCK_HEADER;
 use netlist::header::Header;
 use state::wires;
 
@@ -47,7 +47,7 @@ fn put_elements(state: &mut [u8], i: usize, words: &[u8])
 // What cell k, which is c, shows at instant 0; j memories stand below it.
 fn first_value(
     format: Format,
-    cells: &[u8],
+    file: &[u8],
     h: Header,
     c: Cell,
     words: &[u8],
@@ -55,43 +55,45 @@ fn first_value(
     k: usize,
     j: usize,
 ) -> u16
-    requires { ⌜ Holds format (now cells) (h .count) (now state) k c × (544 ≤ length (now words)) × (c .kind ≡ 40 → j < 16) ⌝ }
-    ensures { λ r. ⌜ (memories (take k (listIn (now (cells .entry)) (h .count))) ≡ j → r ≡ firstValue format (netBy h (now (cells .entry))) (wordAt (now (words .entry))) (now (state .entry)) k) ⌝ }
+    requires { ⌜ Holds format (now file) h (now state) k c × (544 ≤ length (now words)) × (c .kind ≡ 40 → j < 16) ⌝ }
+    ensures { λ r. ⌜ (memories (take k (cellsOf (now (file .entry)))) ≡ j → r ≡ firstValue format (netOf (now (file .entry))) (wordAt (now (words .entry))) (now (state .entry)) k) ⌝ }
 {
     let kind = c.kind;
     if kind == 40 {
         return word::get16(words, 2 * j);
     }
-    instant::next_value(format, cells, h, true, c, state, k)
+    instant::next_value(format, file, h, true, c, state, k)
 }
 
 // The k-th memory is variable k, so memories are counted on the way.
-fn show_first(format: Format, cells: &[u8], h: Header, words: &[u8], state: &mut [u8])
-    requires { ⌜ Fits format (now cells) (h .count) (now state) × (544 ≤ length (now words)) × (memories (listIn (now cells) (h .count)) ≡ 16) ⌝ }
-    ensures { λ _. ⌜ now (state .exit) ≡ upTo (shown format (netBy h (now (cells .entry))) (firstValue format (netBy h (now (cells .entry))) (wordAt (now (words .entry))))) (h .count) (now (state .entry)) ⌝ }
+fn show_first(format: Format, file: &[u8], h: Header, words: &[u8], state: &mut [u8])
+    requires { ⌜ Fits format (now file) h (now state) × (544 ≤ length (now words)) ⌝ }
+    ensures { λ _. ⌜ now (state .exit) ≡ upTo (shown format (netOf (now (file .entry))) (firstValue format (netOf (now (file .entry))) (wordAt (now (words .entry))))) (h .count) (now (state .entry)) ⌝ }
 {
     let n = h.count;
     let mut j: usize = 0;
+    let mut at: usize = BLOCK_HEADER;
     let mut k: usize = 0;
     while k < n {
-        let c = netlist::cells::cell_at(cells, Layout::InList, k);
-        let v = first_value(format, cells, h, c, words, state, k, j);
-        instant::store(format, cells, n, c, state, k);
-        let at = wires::base(format, k);
-        word::put16(state, at, v);
+        let c = netlist::cells::cell_from(file, at);
+        let v = first_value(format, file, h, c, words, state, k, j);
+        instant::store(format, file, h, c, state, k);
+        let to = wires::base(format, k);
+        word::put16(state, to, v);
         j += word::bit(c.kind == 40) as usize;
+        at = netlist::cells::next_offset(at);
         k += 1;
     }
 }
 
 // Evaluates instant 0. Every line is empty, so 26 has no place here.
-pub fn begin_state(format: Format, cells: &[u8], h: Header, words: &[u8], state: &mut [u8])
-    requires { ⌜ Fits format (now cells) (h .count) (now state) × (544 ≤ length (now words)) × (memories (listIn (now cells) (h .count)) ≡ 16) ⌝ }
-    ensures { λ _. ⌜ now (state .exit) ≡ beginState format (netBy h (now (cells .entry))) (wordAt (now (words .entry))) (now (state .entry)) ⌝ }
+pub fn begin_state(format: Format, file: &[u8], h: Header, words: &[u8], state: &mut [u8])
+    requires { ⌜ Fits format (now file) h (now state) × (544 ≤ length (now words)) ⌝ }
+    ensures { λ _. ⌜ now (state .exit) ≡ beginState format (netOf (now (file .entry))) (wordAt (now (words .entry))) (now (state .entry)) ⌝ }
 {
     let end = wires::base(format, h.count);
     put_elements(state, end, words);
     clear(state, end);
-    show_first(format, cells, h, words, state);
-    instant::settle_all(format, cells, h, state);
+    show_first(format, file, h, words, state);
+    instant::settle_all(format, file, h, state);
 }

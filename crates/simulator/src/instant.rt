@@ -1,4 +1,4 @@
-// One further instant of n cells, which stand in a list of six bytes each and fit the state.
+// One further instant of a netlist file that is accepted, on a state of its size. The cells are read where the file is lent.
 // Three passes over the cells, each an equation with `upTo` of model/State. The third keeps the number in flight: it adds what comes in and
 // takes off what goes out, cell by cell; and it looks for refusal 26 on its way, where it leaves the instant unfinished.
 ghost use mathlib.Core.Path.{_≡_};
@@ -8,41 +8,44 @@ ghost use Rattle.model.specs.declared.Checked.the-variants.{Accepted};
 ghost use Rattle.model.specs.Word.{elementOf, put32};
 ghost use Rattle.model.specs.Circuit.{cellAt, shape};
 ghost use Rattle.model.specs.State.{elementNow, instantOf, nextValue, value, upTo, aged, stored, shown, settle, settled, counted, crowding, base, stepState};
-ghost use Rattle.model.specs.NetlistFile.{cellLimit};
+ghost use Rattle.model.specs.NetlistFile.{cellLimit, cellsOf, netOf};
 ghost use Rattle.laws.specs.State.Flight.{comesIn, goesOut};
 ghost use Rattle.state.specs.Stands.{Stands, Sees, Ready};
-ghost use Rattle.simulator.specs.Fits.{listIn, netIn, netBy, Fits, Holds, Spares};
+ghost use Rattle.simulator.specs.Fits.{Fits, Holds, Spares};
 use model::Cell;
 use model::Checked;
 use model::Format;
 use model::Refusal;
-use model::sizes::CELL;
+use model::sizes::BLOCK_HEADER;
 use netlist::cells::Layout;
 use netlist::header::Header;
 use state::lines;
 use state::wires;
 
 // The element with index w, as it is now, of the array whose 42 is cell a.
-fn element_now(format: Format, cells: &[u8], n: usize, a: usize, w: u16, state: &[u8]) -> u16
-    requires { ⌜ Fits format (now cells) n (now state) × (a < n) × (cellAt (listIn (now cells) n) a .delay < 4) ⌝ }
-    ensures { λ r. ⌜ r ≡ elementNow format (netIn 1 (now (cells .entry)) n) (now (state .entry)) (elementOf (cellAt (listIn (now (cells .entry)) n) a .delay) w) ⌝ }
+fn element_now(format: Format, file: &[u8], h: Header, a: usize, w: u16, state: &[u8]) -> u16
+    requires { ⌜ Fits format (now file) h (now state) × (a < h .count) × (cellAt (cellsOf (now file)) a .delay < 4) ⌝ }
+    ensures { λ r. ⌜ r ≡ elementNow format (netOf (now (file .entry))) (now (state .entry)) (elementOf (cellAt (cellsOf (now (file .entry))) a .delay) w) ⌝ }
 {
-    let array = cells[CELL * a + 1] as usize;
-    word::get16(state, wires::element_place(format, n, array, w))
+    let array = netlist::cells::cell_at(file, Layout::InFile, a);
+    word::get16(
+        state,
+        wires::element_place(format, h.count, array.delay as usize, w),
+    )
 }
 
 // What cell k, which is c, shows after instant 0; starts tells whether a start pulse is given.
 pub fn next_value(
     format: Format,
-    cells: &[u8],
+    file: &[u8],
     h: Header,
     starts: bool,
     c: Cell,
     state: &[u8],
     k: usize,
 ) -> u16
-    requires { ⌜ Holds format (now cells) (h .count) (now state) k c ⌝ }
-    ensures { λ r. ⌜ r ≡ nextValue format (shape (c .kind)) starts (netBy h (now (cells .entry))) (now (state .entry)) k c ⌝ }
+    requires { ⌜ Holds format (now file) h (now state) k c ⌝ }
+    ensures { λ r. ⌜ r ≡ nextValue format (shape (c .kind)) starts (netOf (now (file .entry))) (now (state .entry)) k c ⌝ }
 {
     let kind = c.kind;
     if kind == 1 {
@@ -73,24 +76,24 @@ pub fn next_value(
         38 => wires::merged(format, state, k, h.pulse, kind, x == 1, y == 1),
         39 => wires::merged(format, state, k, h.pulse, kind, x == 1, y == 1),
         41 => if x == 1 { y } else { 0 },
-        44 => element_now(format, cells, h.count, a, y, state),
+        44 => element_now(format, file, h, a, y, state),
         45 => wires::latched(format, state, k, a, b),
         _ => 0,
     }
 }
 
 // A 42 whose clock falls takes a word in, from the data and the address of an instant ago.
-pub fn store(format: Format, cells: &[u8], n: usize, c: Cell, state: &mut [u8], k: usize)
-    requires { ⌜ Holds format (now cells) n (now state) k c ⌝ }
-    ensures { λ _. ⌜ ((w : ℕ) → now (state .exit) ≡ stored format (netIn w (now (cells .entry)) n) (now (state .entry)) k) ⌝ }
+pub fn store(format: Format, file: &[u8], h: Header, c: Cell, state: &mut [u8], k: usize)
+    requires { ⌜ Holds format (now file) h (now state) k c ⌝ }
+    ensures { λ _. ⌜ now (state .exit) ≡ stored format (netOf (now (file .entry))) (now (state .entry)) k ⌝ }
 {
     let kind = c.kind;
     if kind == 42 {
         if wires::has_fallen(format, state, c.a as usize) {
-            let next = netlist::cells::cell_at(cells, Layout::InList, k + 1);
+            let next = netlist::cells::cell_at(file, Layout::InFile, k + 1);
             let w = wires::before_at(format, state, next.a as usize);
             let v = wires::before_at(format, state, c.b as usize);
-            let place = wires::element_place(format, n, c.delay as usize, w);
+            let place = wires::element_place(format, h.count, c.delay as usize, w);
             word::put16(state, place, v);
         }
     }
@@ -159,34 +162,37 @@ fn age_all(format: Format, state: &mut [u8], n: usize)
 }
 
 // In rising order, since cells look at what lower ones are now, and a read at what its array has taken in.
-fn show_all(format: Format, cells: &[u8], h: Header, starts: bool, state: &mut [u8])
-    requires { ⌜ Fits format (now cells) (h .count) (now state) ⌝ }
-    ensures { λ _. ⌜ now (state .exit) ≡ upTo (shown format (netBy h (now (cells .entry))) (value format (netBy h (now (cells .entry))) starts)) (h .count) (now (state .entry)) ⌝ }
+fn show_all(format: Format, file: &[u8], h: Header, starts: bool, state: &mut [u8])
+    requires { ⌜ Fits format (now file) h (now state) ⌝ }
+    ensures { λ _. ⌜ now (state .exit) ≡ upTo (shown format (netOf (now (file .entry))) (value format (netOf (now (file .entry))) starts)) (h .count) (now (state .entry)) ⌝ }
 {
     let n = h.count;
+    let mut at: usize = BLOCK_HEADER;
     let mut k: usize = 0;
     while k < n {
-        let c = netlist::cells::cell_at(cells, Layout::InList, k);
-        let v = next_value(format, cells, h, starts, c, state, k);
-        store(format, cells, n, c, state, k);
-        let at = wires::base(format, k);
-        word::put16(state, at, v);
+        let c = netlist::cells::cell_from(file, at);
+        let v = next_value(format, file, h, starts, c, state, k);
+        store(format, file, h, c, state, k);
+        let to = wires::base(format, k);
+        word::put16(state, to, v);
+        at = netlist::cells::next_offset(at);
         k += 1;
     }
 }
 
 // Comes last: a delay's input may be a higher cell. The header gets the number in flight that this leaves, unless 26 ends it at some cell.
-pub fn settle_all(format: Format, cells: &[u8], h: Header, state: &mut [u8]) -> Checked
-    requires { ⌜ Fits format (now cells) (h .count) (now state) × Ready format (netBy h (now cells)) (now state) ⌝ }
-    ensures check { λ r. ⌜ r ≡ crowding format (netBy h (now (cells .entry))) (now (state .entry)) (now (state .entry)) ⌝ }
-    ensures state { λ r. ⌜ (r ≡ Accepted → now (state .exit) ≡ counted format (netBy h (now (cells .entry))) (upTo (settled format (netBy h (now (cells .entry)))) (h .count) (now (state .entry)))) ⌝ }
+pub fn settle_all(format: Format, file: &[u8], h: Header, state: &mut [u8]) -> Checked
+    requires { ⌜ Fits format (now file) h (now state) × Ready format (netOf (now file)) (now state) ⌝ }
+    ensures check { λ r. ⌜ r ≡ crowding format (netOf (now (file .entry))) (now (state .entry)) (now (state .entry)) ⌝ }
+    ensures state { λ r. ⌜ (r ≡ Accepted → now (state .exit) ≡ counted format (netOf (now (file .entry))) (upTo (settled format (netOf (now (file .entry)))) (h .count) (now (state .entry)))) ⌝ }
     ensures spares { λ _. ⌜ Spares format (h .count) (now (state .entry)) (now (state .exit)) ⌝ }
 {
     let n = h.count;
     let mut number = word::get32(state, 4);
+    let mut at: usize = BLOCK_HEADER;
     let mut k: usize = 0;
     while k < n {
-        let c = netlist::cells::cell_at(cells, Layout::InList, k);
+        let c = netlist::cells::cell_from(file, at);
         if c.kind == 34 {
             if lines::is_crowded(format, c, state, k) {
                 return Checked::Refused(Refusal {
@@ -196,6 +202,7 @@ pub fn settle_all(format: Format, cells: &[u8], h: Header, state: &mut [u8]) -> 
             }
         }
         number = settle(format, h.pulse, c, state, k, number);
+        at = netlist::cells::next_offset(at);
         k += 1;
     }
     word::put32(state, 4, number);
@@ -203,14 +210,14 @@ pub fn settle_all(format: Format, cells: &[u8], h: Header, state: &mut [u8]) -> 
 }
 
 // One further instant, with a start pulse or without. Where 26 ends it, the state is at no instant.
-pub fn step(format: Format, cells: &[u8], h: Header, starts: bool, state: &mut [u8]) -> Checked
-    requires { ⌜ Fits format (now cells) (h .count) (now state) × (instantOf (now state) < 1000000) × Ready format (netBy h (now cells)) (now state) ⌝ }
-    ensures check { λ r. ⌜ r ≡ crowding format (netBy h (now (cells .entry))) (now (state .entry)) (stepState format (netBy h (now (cells .entry))) starts (now (state .entry))) ⌝ }
-    ensures state { λ r. ⌜ (r ≡ Accepted → now (state .exit) ≡ stepState format (netBy h (now (cells .entry))) starts (now (state .entry))) ⌝ }
+pub fn step(format: Format, file: &[u8], h: Header, starts: bool, state: &mut [u8]) -> Checked
+    requires { ⌜ Fits format (now file) h (now state) × (instantOf (now state) < 1000000) × Ready format (netOf (now file)) (now state) ⌝ }
+    ensures check { λ r. ⌜ r ≡ crowding format (netOf (now (file .entry))) (now (state .entry)) (stepState format (netOf (now (file .entry))) starts (now (state .entry))) ⌝ }
+    ensures state { λ r. ⌜ (r ≡ Accepted → now (state .exit) ≡ stepState format (netOf (now (file .entry))) starts (now (state .entry))) ⌝ }
     ensures spares { λ _. ⌜ Spares format (h .count) (now (state .entry)) (now (state .exit)) ⌝ }
 {
     tick(state);
     age_all(format, state, h.count);
-    show_all(format, cells, h, starts, state);
-    settle_all(format, cells, h, state)
+    show_all(format, file, h, starts, state);
+    settle_all(format, file, h, state)
 }

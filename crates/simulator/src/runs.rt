@@ -1,17 +1,15 @@
 // Runs of a netlist file that is accepted, on a state of its size.
-// The file's cells are copied once into a list without headers; the contracts speak of the file.
 ghost use mathlib.Core.Path.{_≡_};
-ghost use Prim.Native.Nat.{_+_, _*_, _≤_};
+ghost use Prim.Native.Nat.{_+_, _≤_};
 ghost use lib.ListN.{length};
 ghost use lib.Seq.{paste};
 ghost use Rattle.model.specs.declared.Checked.the-variants.{Accepted};
 ghost use Rattle.model.specs.declared.Format.the-variants.{Full, Compact};
-ghost use Rattle.model.specs.NetlistFile.{cellLimit, fileCheck, cellsOf, countOf, finishOf, netOf};
+ghost use Rattle.model.specs.NetlistFile.{cellsOf, finishOf, netOf};
 ghost use Rattle.model.specs.State.{instantOf, beginState, wordsIn};
 ghost use Rattle.model.specs.Calls.{wordAt, shows, fullState, fullCount};
-ghost use Rattle.netlist.specs.Headers.{headerOf};
 ghost use Rattle.state.specs.Stands.{Runs, Ready};
-ghost use Rattle.simulator.specs.Fits.{listIn, netBy, Spares, Continues};
+ghost use Rattle.simulator.specs.Fits.{Fits, Spares, Continues};
 ghost use Rattle.simulator.specs.Levels.{continuedWith, told};
 use crate::beginning;
 use crate::instant;
@@ -19,10 +17,9 @@ use model::Answer;
 use model::Checked;
 use model::Format;
 use model::Outcome;
+use model::sizes::BLOCK_HEADER;
 use model::sizes::COMPACT_MOST;
 use model::sizes::ELEMENTS;
-use model::sizes::LIST_MOST;
-use netlist::cells::Layout;
 use netlist::header;
 use netlist::header::Header;
 use state::wires;
@@ -33,35 +30,27 @@ pub struct Went {
     pub count: u32,
 }
 
-// Copies the n cells of a file, six bytes each.
-fn load(cells: &mut [u8], file: &[u8], n: usize)
-    requires { ⌜ (6 * cellLimit ≤ length (now cells)) × (fileCheck (now file) ≡ Accepted) × (n ≡ countOf (now file)) ⌝ }
-    ensures { λ _. ⌜ listIn (now (cells .exit)) n ≡ cellsOf (now (file .entry)) ⌝ }
-{
-    netlist::cells::put_cells(cells, 0, file, Layout::InFile, 0, n);
-}
-
 // Continuing -----------------------------------------------------------------------------------------------------------------------------
 
 // Further instants, each with a start pulse or each without, until the finish is high or the budget is used; counts those that it
 // evaluates. Where 26 ends it, the state is at no instant. The one caller of `step`, so that a step is compiled into its loop.
 fn continue_state(
     format: Format,
-    cells: &[u8],
+    file: &[u8],
     h: Header,
     starts: bool,
     state: &mut [u8],
     budget: u32,
 ) -> Went
-    requires { ⌜ Continues format (now cells) h budget (now state) ⌝ }
-    ensures check { λ r. ⌜ r .checked ≡ continuedWith format (netBy h (now (cells .entry))) starts (h .finish) budget (now (state .entry)) .check ⌝ }
-    ensures count { λ r. ⌜ r .count ≡ continuedWith format (netBy h (now (cells .entry))) starts (h .finish) budget (now (state .entry)) .count ⌝ }
-    ensures state { λ r. ⌜ (r .checked ≡ Accepted → now (state .exit) ≡ continuedWith format (netBy h (now (cells .entry))) starts (h .finish) budget (now (state .entry)) .state) ⌝ }
+    requires { ⌜ Continues format (now file) h budget (now state) ⌝ }
+    ensures check { λ r. ⌜ r .checked ≡ continuedWith format (netOf (now (file .entry))) starts (finishOf (now (file .entry))) budget (now (state .entry)) .check ⌝ }
+    ensures count { λ r. ⌜ r .count ≡ continuedWith format (netOf (now (file .entry))) starts (finishOf (now (file .entry))) budget (now (state .entry)) .count ⌝ }
+    ensures state { λ r. ⌜ (r .checked ≡ Accepted → now (state .exit) ≡ continuedWith format (netOf (now (file .entry))) starts (finishOf (now (file .entry))) budget (now (state .entry)) .state) ⌝ }
     ensures spares { λ _. ⌜ Spares format (h .count) (now (state .entry)) (now (state .exit)) ⌝ }
 {
     let mut count: u32 = 0;
     while count < budget {
-        let checked = instant::step(format, cells, h, starts, state);
+        let checked = instant::step(format, file, h, starts, state);
         if let Checked::Refused(r) = checked {
             return Went {
                 checked: Checked::Refused(r),
@@ -96,20 +85,20 @@ fn copy(to: &mut [u8], from: &[u8], n: usize)
 
 // The same on a compact state, which is left at the last good instant: where 26 ends it, the state is put back as it was, and its good
 // instants are evaluated again. So no instant costs a copy.
-fn continue_compact(cells: &[u8], h: Header, starts: bool, state: &mut [u8], budget: u32) -> Went
-    requires { ⌜ Continues Compact (now cells) h budget (now state) ⌝ }
-    ensures check { λ r. ⌜ r .checked ≡ continuedWith Compact (netBy h (now (cells .entry))) starts (h .finish) budget (now (state .entry)) .check ⌝ }
-    ensures count { λ r. ⌜ r .count ≡ continuedWith Compact (netBy h (now (cells .entry))) starts (h .finish) budget (now (state .entry)) .count ⌝ }
-    ensures state { λ _. ⌜ now (state .exit) ≡ continuedWith Compact (netBy h (now (cells .entry))) starts (h .finish) budget (now (state .entry)) .state ⌝ }
+fn continue_compact(file: &[u8], h: Header, starts: bool, state: &mut [u8], budget: u32) -> Went
+    requires { ⌜ Continues Compact (now file) h budget (now state) ⌝ }
+    ensures check { λ r. ⌜ r .checked ≡ continuedWith Compact (netOf (now (file .entry))) starts (finishOf (now (file .entry))) budget (now (state .entry)) .check ⌝ }
+    ensures count { λ r. ⌜ r .count ≡ continuedWith Compact (netOf (now (file .entry))) starts (finishOf (now (file .entry))) budget (now (state .entry)) .count ⌝ }
+    ensures state { λ _. ⌜ now (state .exit) ≡ continuedWith Compact (netOf (now (file .entry))) starts (finishOf (now (file .entry))) budget (now (state .entry)) .state ⌝ }
 {
     let mut kept = [0u8; COMPACT_MOST];
     let size = wires::base(Format::Compact, h.count) + ELEMENTS;
     copy(&mut kept, state, size);
-    let went = continue_state(Format::Compact, cells, h, starts, state, budget);
+    let went = continue_state(Format::Compact, file, h, starts, state, budget);
     let checked = went.checked;
     if let Checked::Refused(r) = checked {
         copy(state, &kept, size);
-        continue_state(Format::Compact, cells, h, starts, state, went.count);
+        continue_state(Format::Compact, file, h, starts, state, went.count);
         return Went {
             checked: Checked::Refused(r),
             count: went.count,
@@ -121,36 +110,39 @@ fn continue_compact(cells: &[u8], h: Header, starts: bool, state: &mut [u8], bud
 // The same in either format; 26 never ends it on a full state.
 fn continue_in(
     format: Format,
-    cells: &[u8],
+    file: &[u8],
     h: Header,
     starts: bool,
     state: &mut [u8],
     budget: u32,
 ) -> Went
-    requires { ⌜ Continues format (now cells) h budget (now state) ⌝ }
-    ensures check { λ r. ⌜ r .checked ≡ continuedWith format (netBy h (now (cells .entry))) starts (h .finish) budget (now (state .entry)) .check ⌝ }
-    ensures count { λ r. ⌜ r .count ≡ continuedWith format (netBy h (now (cells .entry))) starts (h .finish) budget (now (state .entry)) .count ⌝ }
-    ensures state { λ _. ⌜ now (state .exit) ≡ continuedWith format (netBy h (now (cells .entry))) starts (h .finish) budget (now (state .entry)) .state ⌝ }
+    requires { ⌜ Continues format (now file) h budget (now state) ⌝ }
+    ensures check { λ r. ⌜ r .checked ≡ continuedWith format (netOf (now (file .entry))) starts (finishOf (now (file .entry))) budget (now (state .entry)) .check ⌝ }
+    ensures count { λ r. ⌜ r .count ≡ continuedWith format (netOf (now (file .entry))) starts (finishOf (now (file .entry))) budget (now (state .entry)) .count ⌝ }
+    ensures state { λ _. ⌜ now (state .exit) ≡ continuedWith format (netOf (now (file .entry))) starts (finishOf (now (file .entry))) budget (now (state .entry)) .state ⌝ }
 {
     match format {
-        Format::Full => continue_state(Format::Full, cells, h, starts, state, budget),
-        Format::Compact => continue_compact(cells, h, starts, state, budget),
+        Format::Full => continue_state(Format::Full, file, h, starts, state, budget),
+        Format::Compact => continue_compact(file, h, starts, state, budget),
     }
 }
 
 // Answers --------------------------------------------------------------------------------------------------------------------------------
 
-// The values of the sixteen memories, among the n cells of a file.
-fn words_in(format: Format, file: &[u8], n: usize, state: &[u8]) -> [u16; 16]
-    requires { ⌜ Runs format (now file) (now state) × (n ≡ countOf (now file)) ⌝ }
+// The values of the sixteen memories.
+fn words_in(format: Format, file: &[u8], h: Header, state: &[u8]) -> [u16; 16]
+    requires { ⌜ Fits format (now file) h (now state) ⌝ }
     ensures { λ r. ⌜ r ≡ wordsIn format (cellsOf (now (file .entry))) 0 (now (state .entry)) ⌝ }
 {
+    let n = h.count;
     let mut words = [0u16; 16];
     let mut j: usize = 0;
+    let mut at: usize = BLOCK_HEADER;
     let mut k: usize = 0;
     while k < n {
-        let c = netlist::cells::cell_at(file, Layout::InFile, k);
+        let c = netlist::cells::cell_from(file, at);
         let v = wires::now_at(format, state, k);
+        at = netlist::cells::next_offset(at);
         k += 1;
         if c.kind == 40 {
             words[j] = v;
@@ -162,10 +154,10 @@ fn words_in(format: Format, file: &[u8], n: usize, state: &[u8]) -> [u16; 16]
 
 // What a state shows after a call that evaluated so many instants.
 fn shows(format: Format, file: &[u8], h: Header, state: &[u8], count: u32) -> Answer
-    requires { ⌜ Runs format (now file) (now state) × (h ≡ headerOf (now file)) ⌝ }
+    requires { ⌜ Fits format (now file) h (now state) ⌝ }
     ensures { λ r. ⌜ r ≡ shows format (now (file .entry)) (now (state .entry)) count ⌝ }
 {
-    let words = words_in(format, file, h.count, state);
+    let words = words_in(format, file, h, state);
     let instant = word::get32(state, 0);
     let outcome = if wires::is_high(format, state, h.finish) {
         Outcome::Ended
@@ -188,9 +180,7 @@ pub fn begin(format: Format, file: &[u8], words: &[u8], state: &mut [u8]) -> Ans
     ensures answer { λ r. ⌜ r ≡ shows format (now (file .entry)) (beginState format (netOf (now (file .entry))) (wordAt (now (words .entry))) (now (state .entry))) 1 ⌝ }
 {
     let h = header::header_of(file);
-    let mut cells = [0u8; LIST_MOST];
-    load(&mut cells, file, h.count);
-    beginning::begin_state(format, &cells, h, words, state);
+    beginning::begin_state(format, file, h, words, state);
     shows(format, file, h, state, 1)
 }
 
@@ -207,9 +197,7 @@ pub fn continue_by(
     ensures answer { λ r. ⌜ r ≡ told format (now (file .entry)) (continuedWith format (netOf (now (file .entry))) starts (finishOf (now (file .entry))) budget (now (state .entry))) ⌝ }
 {
     let h = header::header_of(file);
-    let mut cells = [0u8; LIST_MOST];
-    load(&mut cells, file, h.count);
-    let went = continue_in(format, &cells, h, starts, state, budget);
+    let went = continue_in(format, file, h, starts, state, budget);
     let checked = went.checked;
     if let Checked::Refused(r) = checked {
         return crate::refused(r);
@@ -224,12 +212,10 @@ pub fn full_run(file: &[u8], words: &[u8], budget: u32, state: &mut [u8]) -> Ans
     ensures answer { λ r. ⌜ r ≡ shows Full (now (file .entry)) (fullState (now (file .entry)) (now (words .entry)) budget (now (state .entry))) (fullCount (now (file .entry)) (now (words .entry)) budget (now (state .entry))) ⌝ }
 {
     let h = header::header_of(file);
-    let mut cells = [0u8; LIST_MOST];
-    load(&mut cells, file, h.count);
-    beginning::begin_state(Format::Full, &cells, h, words, state);
+    beginning::begin_state(Format::Full, file, h, words, state);
     if wires::is_high(Format::Full, state, h.finish) {
         return shows(Format::Full, file, h, state, 1);
     }
-    let went = continue_in(Format::Full, &cells, h, false, state, budget);
+    let went = continue_in(Format::Full, file, h, false, state, budget);
     shows(Format::Full, file, h, state, 1 + went.count)
 }

@@ -1,6 +1,7 @@
 //! Netlists of tests/vectors, to be run from zero start words.
 
 use hub::store;
+use hub::types::Wiring;
 use hub::verilog::{module, Edges};
 use second::cells::Netlist;
 use second::contents::CONTENTS_LENGTH;
@@ -57,7 +58,8 @@ impl Workload {
             finish: self.netlist.finish,
             pulse: self.netlist.pulse,
         };
-        module(&netlist, Edges::Both, &[0; store::LENGTH], &[])
+        let start = [0; store::LENGTH];
+        module(&netlist, Wiring::Imperative, Edges::Both, &start, &[])
     }
 
     /// A buffer for its state.

@@ -18,7 +18,7 @@ pub const COMMAND: Command = Command {
            program. Behind the state stands of which netlist it is; with --bare it stands alone,\n\
            as a hub has it. The exit status is 0.",
     example: "hub begin two_boards.net x0=3 x1=5 -o two_boards.state",
-    options: Options::of_program(&["o", "start"], &["all", "bare", "compact"]),
+    options: Options::of_circuit(&["o", "start"], &["all", "bare", "compact"]),
     run,
 };
 
@@ -27,7 +27,7 @@ fn run(args: &Args) -> Result<Done, Stop> {
     let to = args.needed("o")?;
     let (given, circuit, start) = started(args, file, words)?;
     let format = asked_format(args);
-    let begun = product::begin(format, &circuit.file, &start);
+    let begun = product::begin(circuit.mode(format), &circuit.file, &start);
     let (state, answer) = begun.map_err(|met| match met.number {
         27 => refusals::of_compact(&given.name, &circuit.netlist, met).into(),
         _ => given.refused(met),

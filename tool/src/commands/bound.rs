@@ -18,7 +18,7 @@ pub const COMMAND: Command = Command {
         conditions: every way is taken to be possible, whatever the words are. What can't be asked,\n\
         because the part is as big as a program may be, or longer than a run, is said not to be found.",
     example: "hub bound examples/first_flag.hub",
-    options: Options::of_program(&[], &[]),
+    options: Options::of_circuit(&[], &[]),
     run,
 };
 

@@ -8,8 +8,9 @@ use crate::json::Json;
 use crate::labels::{first_line, Labels};
 use crate::listing;
 use crate::refusals::{least_delay, settles, Mark};
-use crate::types::{Beside, Done, DONE, REFUSED};
+use crate::types::{Beside, Done, Wiring, DONE, REFUSED};
 use crate::warnings::{warnings, Warning};
+use crate::wiring;
 
 pub const COMMAND: Command = Command {
     name: "check",
@@ -24,7 +25,7 @@ pub const COMMAND: Command = Command {
            what to do, of too small delays all. NAME.outline is an outline, NAME.prog a program's\n\
            bytes, NAME.net a netlist, or --as says it (text, short, outline, program, netlist).",
     example: "hub check examples/two_boards.hub",
-    options: Options::of_program(&[], &["deny"]),
+    options: Options::of_circuit(&[], &["deny"]),
     run,
 };
 
@@ -135,7 +136,11 @@ fn text(given: &Given, circuit: &Circuit, delays: &[Delay]) -> String {
         None => String::new(),
     };
     let (name, whole) = (&given.name, listing::whole(&circuit.netlist));
-    let mut text = format!("{name}: accepted: {nodes}{whole}\n");
+    let accepted = match circuit.wiring {
+        Wiring::Imperative => "accepted",
+        Wiring::Functional => "accepted as a functional circuit",
+    };
+    let mut text = format!("{name}: {accepted}: {nodes}{whole}\n");
     for delay in delays {
         let Delay {
             node, given, least, ..
@@ -169,6 +174,7 @@ fn json(given: &Given, circuit: &Circuit, delays: &[Delay], warnings: &[Told]) -
     Json::Object(vec![
         ("outcome", Json::text("accepted")),
         ("file", Json::text(&given.name)),
+        ("circuit", Json::text(wiring::name(circuit.wiring))),
         ("procedures", Json::maybe(procedures, Json::number)),
         ("nodes", Json::maybe(nodes, Json::number)),
         ("cells", Json::number(circuit.netlist.cells.len())),

@@ -12,7 +12,7 @@ pub const COMMAND: Command = Command {
     more: "FILE is a text, NAME.outline an outline, NAME.prog a program's bytes, or --as says it\n\
            (text, outline, program).",
     example: "hub compile examples/two_boards.hub -o two_boards.net",
-    options: Options::of_program(&["o"], &[]),
+    options: Options::of_circuit(&["o"], &[]),
     run,
 };
 

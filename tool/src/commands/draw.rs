@@ -16,7 +16,7 @@ pub const COMMAND: Command = Command {
         lighter; a word or an array that is read is a flag with its name. Memories and arrays\n\
         that nothing writes to are left out; --all draws them too.",
     example: "hub draw examples/two_boards.hub -o two_boards.svg",
-    options: Options::of_program(&["o"], &["all"]),
+    options: Options::of_circuit(&["o"], &["all"]),
     run,
 };
 

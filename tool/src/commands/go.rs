@@ -18,7 +18,7 @@ pub const COMMAND: Command = Command {
            taken with --bare, and with --compact if it is compact. The exit status is 0 if the\n\
            finish is high, 2 if the run is still open.",
     example: "hub go two_boards.net two_boards.state --by 50",
-    options: Options::of_program(&["by", "o"], &["all", "bare", "compact"]),
+    options: Options::of_circuit(&["by", "o"], &["all", "bare", "compact"]),
     run,
 };
 
@@ -26,7 +26,7 @@ fn run(args: &Args) -> Result<Done, Stop> {
     args.exactly(["FILE", "STATE"])?;
     args.needed("by")?;
     let instants = args.number("by")?.unwrap_or_default();
-    on_state(args, |format, file, state| {
-        product::go(format, file, state, instants)
+    on_state(args, |mode, file, state| {
+        product::go(mode, file, state, instants)
     })
 }

@@ -5,6 +5,7 @@ mod begin;
 mod bound;
 mod cells;
 mod check;
+mod compare;
 mod compile;
 mod delays;
 mod draw;
@@ -50,6 +51,7 @@ pub struct Command {
 /// In the order in which help lists them.
 pub const COMMANDS: &[&Command] = &[
     &run::COMMAND,
+    &compare::COMMAND,
     &check::COMMAND,
     &test::COMMAND,
     &delays::COMMAND,

@@ -5,12 +5,12 @@ use crate::answers;
 use crate::args::{Args, Options};
 use crate::input::Circuit;
 use crate::json::Json;
-use crate::names::Names;
 use crate::product;
 use crate::progress::Progress;
 use crate::refusals;
 use crate::store::{self, Store};
-use crate::types::{Answer, Done, End, Fault, Format, Refusal, DONE, OPEN};
+use crate::types::{Answer, Done, End, Fault, Format, Refusal, Wiring, DONE, OPEN};
+use crate::wiring;
 
 pub const COMMAND: Command = Command {
     name: "run",
@@ -24,11 +24,13 @@ pub const COMMAND: Command = Command {
            0, or as the file of --start has them, a line or more of such words.\n\
            --times T is a table of operator times, --procedures N how many statements of a\n\
            program's bytes are procedures, --pulse W for how many instants a pulse is high, 1 to 8.\n\
+           --functional makes and runs the functional circuit, which hands words on, of a program\n\
+           without arrays, loops that exits end, and procedures; its times are others.\n\
            The budget is the most instants that are run, 1,000,000 if it isn't given. Of the words\n\
            and elements those are told that have changed, with --all all sixteen words, and the\n\
            elements that aren't 0. The exit status is 0 if the run ended, 2 if it is still open.",
     example: "hub run examples/two_boards.hub x0=3 x1=5",
-    options: Options::of_program(&["budget", "start"], &["all"]),
+    options: Options::of_circuit(&["budget", "start"], &["all"]),
     run,
 };
 
@@ -55,10 +57,10 @@ fn run(args: &Args) -> Result<Done, Stop> {
     };
     agree(&answer, rules)?;
     let output = match args.flag("json") {
-        true => json(&names, &start, &answer, &last, rules).line(),
+        true => json(&circuit, &start, &answer, &last, rules).line(),
         false => {
             let told = answers::text(&names, &start, &answer, &last, args.flag("all"));
-            (told + &said(&answer, rules, writes_elements(&circuit))).into_bytes()
+            (told + &said(&circuit, &answer, rules)).into_bytes()
         }
     };
     let exit = if answer.ended { DONE } else { OPEN };
@@ -68,11 +70,12 @@ fn run(args: &Args) -> Result<Done, Stop> {
 /// A beginning, and continuings unless the finish was high; with the words and
 /// elements at its end.
 pub fn full_run(circuit: &Circuit, start: &Store, budget: u32) -> Result<(Answer, Store), Refusal> {
-    let (mut state, mut answer) = product::begin(Format::Full, &circuit.file, start)?;
+    let mode = circuit.mode(Format::Full);
+    let (mut state, mut answer) = product::begin(mode, &circuit.file, start)?;
     let mut progress = Progress::new(budget);
     while !answer.ended && answer.instant < budget {
         let slice = SLICE.min(budget - answer.instant);
-        answer = product::go(Format::Full, &circuit.file, &mut state, slice)?;
+        answer = product::go(mode, &circuit.file, &mut state, slice)?;
         progress.show(answer.instant);
     }
     let cells = circuit.netlist.cells.len();
@@ -106,27 +109,36 @@ fn writes_elements(circuit: &Circuit) -> bool {
 const ELEMENT_ASSIGNMENT: u8 = 24;
 
 /// What the rules say, as a line.
-fn said(answer: &Answer, rules: Option<Option<End>>, arrays: bool) -> String {
-    let same = match arrays {
+fn said(circuit: &Circuit, answer: &Answer, rules: Option<Option<End>>) -> String {
+    let same = match writes_elements(circuit) {
         true => "the same sixteen words; elements are not compared",
         false => "the same words",
     };
+    let the_rules = match circuit.wiring {
+        Wiring::Imperative => "the rules",
+        Wiring::Functional => "the rules, with the times of a functional circuit",
+    };
     let said = match rules {
         None => "no rules: a netlist alone was given".to_string(),
-        Some(Some(end)) => format!("the rules: ended at {}, with {same}", end.instant),
-        Some(None) => format!("the rules: no end up to {}", answer.instant),
+        Some(Some(end)) => format!("{the_rules}: ended at {}, with {same}", end.instant),
+        Some(None) => format!("{the_rules}: no end up to {}", answer.instant),
     };
-    said + "\n"
+    let free = match circuit.wiring == Wiring::Functional && !answer.ended {
+        true => answers::FREE,
+        false => "",
+    };
+    format!("{free}{said}\n")
 }
 
 fn json(
-    names: &Names,
+    circuit: &Circuit,
     start: &Store,
     answer: &Answer,
     last: &Store,
     rules: Option<Option<End>>,
 ) -> Json {
-    let mut fields = answers::fields(names, answer, last);
+    let mut fields = answers::fields(&circuit.names(), answer, last);
+    fields.push(("circuit", Json::text(wiring::name(circuit.wiring))));
     fields.push(("start", answers::words(&store::words(start))));
     fields.push(("start_elements", answers::elements(start)));
     let end = |end: End| {

@@ -14,11 +14,12 @@ use crate::product;
 use crate::refusals;
 use crate::store::Store;
 use crate::trailer::Trailer;
-use crate::types::{Answer, Done, Fault, Format, Refusal, DONE, OPEN, REFUSED};
+use crate::types::{Answer, Done, Fault, Format, Mode, Refusal, Wiring, DONE, OPEN, REFUSED};
+use crate::wiring;
 
 /// A state, and what stands behind it in its file.
 pub struct Kept {
-    pub format: Format,
+    pub mode: Mode,
     pub state: Vec<u8>,
     /// None for a bare state.
     pub trailer: Option<Trailer>,
@@ -29,26 +30,31 @@ pub struct Kept {
 impl Kept {
     /// A state that was begun on a circuit.
     pub fn begun(args: &Args, circuit: &Circuit, format: Format, state: Vec<u8>) -> Kept {
-        let names = circuit.names();
+        let (names, mode) = (circuit.names(), circuit.mode(format));
         let trailer = (!args.flag("bare")).then(|| Trailer {
             names: names.text(),
-            ..Trailer::new(format, &circuit.file)
+            ..Trailer::new(mode, &circuit.file)
         });
         Kept {
-            format,
+            mode,
             state,
             trailer,
             names,
         }
     }
 
-    /// Reads a state that is to go on under this circuit, which came from FILE.
-    fn read(args: &Args, name: &str, circuit: &Circuit, file: &str) -> Result<Kept, Fault> {
-        let bytes = files::read(name)?;
+    /// The state in a file's bytes, which is to go on under this circuit, which came from
+    /// FILE.
+    fn of(
+        args: &Args,
+        (name, bytes): (&str, &[u8]),
+        circuit: &Circuit,
+        file: &str,
+    ) -> Result<Kept, Fault> {
         let (name, bare) = (files::shown(name), args.flag("bare"));
-        let (state, trailer) = match (Trailer::split(&bytes), bare) {
+        let (state, trailer) = match (Trailer::split(bytes), bare) {
             (Some((state, trailer)), false) => (state, Some(trailer)),
-            (None, true) => (&bytes[..], None),
+            (None, true) => (bytes, None),
             (Some(_), true) => {
                 let message = format!("{name} tells of which netlist it is; leave --bare out");
                 return Err(args.fault(message));
@@ -61,9 +67,16 @@ impl Kept {
             }
         };
         let asked = asked_format(args);
-        let format = trailer.as_ref().map_or(asked, |trailer| trailer.format);
-        if args.flag("compact") && format != asked {
+        let mode = match &trailer {
+            Some(trailer) => trailer.mode,
+            None => circuit.mode(asked),
+        };
+        if args.flag("compact") && mode.format != asked {
             return Err(args.fault(format!("{name} is a full state; leave --compact out")));
+        }
+        if args.flag("functional") && mode.wiring == Wiring::Imperative {
+            let message = "was begun without --functional; leave it out here, too";
+            return Err(args.fault(format!("{name} {message}")));
         }
         if trailer
             .as_ref()
@@ -80,7 +93,7 @@ impl Kept {
             _ => circuit.names(),
         };
         Ok(Kept {
-            format,
+            mode,
             state: state.to_vec(),
             trailer,
             names,
@@ -100,10 +113,12 @@ impl Kept {
     pub fn answered(&self, args: &Args, circuit: &Circuit, start: &Store, answer: &Answer) -> Done {
         let last = self.contents(circuit, answer);
         let in_flight = in_flight_in(&self.state);
-        let idle = product::is_idle(self.format, &circuit.file, &self.state);
+        let idle = product::is_idle(self.mode, &circuit.file, &self.state);
         let output = match args.flag("json") {
             true => {
                 let mut fields = answers::fields(&self.names, answer, &last);
+                let wiring = wiring::name(self.mode.wiring);
+                fields.push(("circuit", Json::text(wiring)));
                 fields.push(("in_flight", Json::number(in_flight)));
                 fields.push(("idle", Json::Bool(idle)));
                 Json::Object(fields).line()
@@ -115,7 +130,13 @@ impl Kept {
                     (false, number) => format!("{number} in flight"),
                 };
                 let all = args.flag("all");
-                answers::text_of_state(&self.names, start, answer, &last, &busy, all).into_bytes()
+                let free = match self.mode.wiring {
+                    Wiring::Functional if !answer.ended && !idle => answers::FREE,
+                    _ => "",
+                };
+                let names = &self.names;
+                let told = answers::text_of_state(names, start, answer, &last, &busy, all);
+                (told + free).into_bytes()
             }
         };
         let exit = if answer.ended { DONE } else { OPEN };
@@ -125,7 +146,7 @@ impl Kept {
     /// The words that an answer tells, and the elements of this state.
     fn contents(&self, circuit: &Circuit, answer: &Answer) -> Store {
         let cells = circuit.netlist.cells.len();
-        product::contents(self.format, answer, &self.state, cells)
+        product::contents(self.mode.format, answer, &self.state, cells)
     }
 }
 
@@ -147,17 +168,22 @@ fn refused(message: String) -> Fault {
 /// it to its last good instant.
 pub fn on_state(
     args: &Args,
-    call: impl FnOnce(Format, &[u8], &mut [u8]) -> Result<Answer, Refusal>,
+    call: impl FnOnce(Mode, &[u8], &mut [u8]) -> Result<Answer, Refusal>,
 ) -> Result<Done, Stop> {
     let [file, name] = args.exactly(["FILE", "STATE"])?;
-    let circuit = Given::read(args, file)?.circuit()?;
-    let mut kept = Kept::read(args, name, &circuit, file)?;
+    let given = Given::read(args, file)?;
+    let bytes = files::read(name)?;
+    // The circuit is the one that the state was begun with.
+    let own = Trailer::split(&bytes).map(|(_, trailer)| trailer.mode.wiring);
+    let wiring = own.unwrap_or(given.aside.wiring);
+    let circuit = given.wired(args, wiring)?.circuit()?;
+    let mut kept = Kept::of(args, (name, &bytes), &circuit, file)?;
     let refused = |kept: &Kept, met| refusals::of_state(name, &circuit.netlist, &kept.state, met);
     // By none: the words as they are.
-    let before = product::go(kept.format, &circuit.file, &mut kept.state, 0)
+    let before = product::go(kept.mode, &circuit.file, &mut kept.state, 0)
         .map_err(|met| refused(&kept, met))?;
     let start = kept.contents(&circuit, &before);
-    let answer = call(kept.format, &circuit.file, &mut kept.state);
+    let answer = call(kept.mode, &circuit.file, &mut kept.state);
     if matches!(answer, Ok(_) | Err(Refusal { number: 26, .. })) {
         kept.write(args.value("o").unwrap_or(name))?;
     }

@@ -24,7 +24,7 @@ pub const COMMAND: Command = Command {
         end. Words that aren't named may be as they are. Text after # is passed over. Each run is\n\
         also held against the rules. The exit status is 1 if a case isn't as expected.",
     example: "hub test examples/two_boards.cases",
-    options: Options::of_program(&[], &[]),
+    options: Options::of_circuit(&[], &[]),
     run,
 };
 

@@ -17,9 +17,10 @@ pub const COMMAND: Command = Command {
            and the sixteen words, x0 lowest; the start pulse is given at instant 0. What the words\n\
            and elements start with are its parameters. The module hub_test runs it and prints PASS\n\
            if it ends at the instant and with the words and elements that the proved simulator\n\
-           tells, or is still open after the budget, 1,000,000 instants if none is given.",
+           tells, or is still open after the budget, 1,000,000 instants if none is given.\n\
+           --functional writes the functional circuit.",
     example: "hub verilog examples/two_boards.hub x0=3 x1=5 -o two_boards.v",
-    options: Options::of_program(&["budget", "o", "start"], &[]),
+    options: Options::of_circuit(&["budget", "o", "start"], &[]),
     run,
 };
 
@@ -38,8 +39,9 @@ fn run(args: &Args) -> Result<Done, Stop> {
         instant: answer.instant,
         last: &last,
     };
-    let text = module(&circuit.netlist, Edges::Rising, &start, &notes)
-        + &testbench(&circuit.netlist, expected);
-    let cells = circuit.netlist.cells.len();
+    let netlist = &circuit.netlist;
+    let text = module(netlist, circuit.wiring, Edges::Rising, &start, &notes)
+        + &testbench(netlist, expected);
+    let cells = netlist.cells.len();
     written(args, to, text.as_bytes(), (cells, "cell"))
 }

@@ -2,12 +2,11 @@
 //! each number of cells that a pulse or word has come through.
 
 use super::block::Block;
-use super::{shown, stores, with_finish};
+use super::{stores, with_finish};
 use crate::kinds::{inputs, is_store};
 use crate::types::Netlist;
 
-pub fn placed(netlist: &Netlist, all: bool) -> Block {
-    let shown = shown(netlist, all);
+pub fn placed(netlist: &Netlist, shown: &[bool]) -> Block {
     let levels = levels(netlist);
     let mut rows: Vec<usize> = Vec::new();
     let mut block = Block::default();
@@ -21,7 +20,7 @@ pub fn placed(netlist: &Netlist, all: bool) -> Block {
         block = block.with(cell, column, rows[column]);
         rows[column] += 1;
     }
-    let words = stores(netlist, &shown);
+    let words = stores(netlist, shown);
     let words = words
         .into_iter()
         .map(Block::cell)

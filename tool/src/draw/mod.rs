@@ -1,10 +1,11 @@
-//! A circuit as a picture: cells are placed on a grid (`place`, and `level`
+//! A circuit as a picture: cells are placed on a grid (`place`, `functional`, and `level`
 //! where there is no program), wires are laid in the channels between its
 //! columns and rows (`route`), and both are drawn (`svg`). `dot` leaves all of
 //! this to Graphviz.
 
 mod block;
 pub mod dot;
+mod functional;
 mod level;
 mod place;
 mod route;
@@ -12,10 +13,11 @@ mod scale;
 pub mod svg;
 
 use crate::input::Circuit;
-use crate::kinds::{inputs, is_control, is_idle, is_store, ADDRESS, ARRAY, START};
+use crate::kinds::{inputs, is_control, is_idle, is_store, ADDRESS, ARRAY, MEMORY, START};
 use crate::labels;
 use crate::listing::words_of;
-use crate::types::{Fault, Netlist};
+use crate::store::VARIABLES;
+use crate::types::{Cell, Fault, Netlist, Wiring};
 use block::Block;
 
 /// Stands among the cells for the end of the finish wire.
@@ -24,24 +26,31 @@ const FINISH: u16 = u16::MAX;
 /// What is drawn, with its places on the grid.
 struct Plan<'c> {
     netlist: &'c Netlist,
-    /// The variables of memories and arrays, at their cells.
+    wiring: Wiring,
+    /// The variables of memories and arrays, at their cells; in a functional circuit also
+    /// those of the words that a cell is about.
     variables: Vec<Option<String>>,
     block: Block,
 }
 
 impl<'c> Plan<'c> {
     fn of(circuit: &'c Circuit, text: &[u8], all: bool) -> Result<Plan<'c>, Fault> {
-        let netlist = &circuit.netlist;
+        let (netlist, wiring) = (&circuit.netlist, circuit.wiring);
+        let shown = shown(netlist, wiring, all);
         let block = match &circuit.program {
             Some((program, trace)) => {
                 let labels = labels::Labels::of(program, text)?;
-                place::placed(netlist, trace, &labels, all)
+                match wiring {
+                    Wiring::Imperative => place::placed(netlist, trace, &labels, &shown),
+                    Wiring::Functional => functional::placed(netlist, trace, &labels, &shown),
+                }
             }
-            None => level::placed(netlist, all),
+            None => level::placed(netlist, &shown),
         };
         Ok(Plan {
             netlist,
-            variables: labels::of_stores(netlist, &circuit.names()),
+            wiring,
+            variables: variables(circuit),
             block,
         })
     }
@@ -64,7 +73,11 @@ impl<'c> Plan<'c> {
         match (&self.variables[at], own.kind) {
             (Some(array), ARRAY) => format!("array {array}"),
             (Some(array), ADDRESS) => format!("address {array}"),
-            (Some(variable), _) => format!("memory {variable}"),
+            (Some(variable), MEMORY) => format!("memory {variable}"),
+            (Some(variable), _) => {
+                let title = title(&words_of(own), self.inputs(cell).len());
+                format!("{title} {variable}")
+            }
             (None, START) if self.netlist.pulse > 1 => {
                 format!("start for {}", self.netlist.pulse)
             }
@@ -76,13 +89,35 @@ impl<'c> Plan<'c> {
         is_control(self.netlist.cells[usize::from(cell)].kind)
     }
 
-    /// The name by which a wire is known everywhere: that of a memory or an
-    /// array. No cell reads an address.
+    /// The name by which a wire is known everywhere: that of a memory or an array, and in
+    /// a functional circuit 0, which many cells read. No cell reads an address.
     fn tag(&self, wire: u16) -> Option<&str> {
+        if wire == ZERO && self.wiring == Wiring::Functional {
+            return Some("0");
+        }
         let at = usize::from(wire);
         let name = self.variables[at].as_deref();
-        name.filter(|_| self.netlist.cells[at].kind != ADDRESS)
+        name.filter(|_| matches!(self.netlist.cells[at].kind, MEMORY | ARRAY))
     }
+}
+
+/// The cell that is always 0.
+const ZERO: u16 = 2;
+
+/// The variables that cells are about.
+fn variables(circuit: &Circuit) -> Vec<Option<String>> {
+    let names = circuit.names();
+    let mut variables = labels::of_stores(&circuit.netlist, &names);
+    for (name, cell) in labels::of_last(circuit) {
+        variables[usize::from(cell)] = Some(name);
+    }
+    if let Some((_, trace)) = &circuit.program {
+        for (variable, origin) in variables.iter_mut().zip(&trace.origins) {
+            let own = origin.word.map(|word| names.word(word));
+            *variable = own.or(variable.take());
+        }
+    }
+    variables
 }
 
 /// The words of a cell without its inputs.
@@ -98,18 +133,21 @@ fn title(words: &str, inputs: usize) -> String {
 
 /// The cells that are drawn if not all are: no idle memories and arrays, and
 /// of those that every netlist has only what something drawn takes in, the
-/// finish among it.
-fn shown(netlist: &Netlist, all: bool) -> Vec<bool> {
-    let mut shown: Vec<bool> = netlist
-        .cells
-        .iter()
-        .map(|cell| all || !is_idle(cell))
-        .collect();
-    for fixed in [1, 2] {
-        let takes =
-            |(cell, shown): (&crate::types::Cell, &bool)| *shown && inputs(cell).contains(&fixed);
-        let taken = netlist.cells.iter().zip(&shown).any(takes);
-        shown[usize::from(fixed)] = all || taken || netlist.finish == fixed;
+/// finish among it. Of the last cells of a functional circuit those are left out that
+/// carry a word as it was at the start; its 0 is a name.
+fn shown(netlist: &Netlist, wiring: Wiring, all: bool) -> Vec<bool> {
+    let cells = &netlist.cells;
+    let mut shown: Vec<bool> = cells.iter().map(|cell| all || !is_idle(cell)).collect();
+    if wiring == Wiring::Functional {
+        for (at, cell) in cells.iter().enumerate().skip(cells.len() - VARIABLES) {
+            shown[at] = all || !is_idle(&cells[usize::from(cell.a)]);
+        }
+    }
+    for fixed in [1, ZERO] {
+        let takes = |(cell, shown): (&Cell, &bool)| *shown && inputs(cell).contains(&fixed);
+        let taken = cells.iter().zip(&shown).any(takes);
+        let named = fixed == ZERO && wiring == Wiring::Functional;
+        shown[usize::from(fixed)] = all || taken && !named || netlist.finish == fixed;
     }
     shown
 }

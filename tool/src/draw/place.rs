@@ -2,7 +2,7 @@
 //! parts in the order in which the pulse goes through them.
 
 use super::block::Block;
-use super::{shown, stores, with_finish};
+use super::{stores, with_finish};
 use crate::format::Tree;
 use crate::labels::Labels;
 use crate::origin::Trace;
@@ -14,9 +14,8 @@ const WIDE: usize = 9;
 
 /// All of a program's cells: start, the program below its procedures, and the
 /// words beside it.
-pub fn placed(netlist: &Netlist, trace: &Trace, labels: &Labels, all: bool) -> Block {
+pub fn placed(netlist: &Netlist, trace: &Trace, labels: &Labels, shown: &[bool]) -> Block {
     let places = Places::of(netlist, trace, labels);
-    let shown = shown(netlist, all);
     let mut first = Block::cell(0);
     for fixed in [1, 2] {
         if shown[fixed] {
@@ -24,7 +23,7 @@ pub fn placed(netlist: &Netlist, trace: &Trace, labels: &Labels, all: bool) -> B
         }
     }
     let program = first.beside(places.program(&labels.trees));
-    with_finish(program, netlist).beside(places.words(netlist, &shown))
+    with_finish(program, netlist).beside(places.words(netlist, shown))
 }
 
 struct Places<'p> {

@@ -86,13 +86,18 @@ impl<'a> Walk<'a> {
             ends: self.ends,
             values: self.values,
             first_memory: self.first_memory,
+            words: Vec::new(),
         };
         (netlist, trace)
     }
 
     fn put(&mut self, cell: Cell, node: Option<usize>, role: &'static str) -> u16 {
         self.cells.push(cell);
-        self.origins.push(Origin { node, role });
+        self.origins.push(Origin {
+            node,
+            role,
+            word: None,
+        });
         (self.cells.len() - 1) as u16
     }
 

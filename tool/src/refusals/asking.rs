@@ -2,19 +2,22 @@
 //! texts and netlists that differ a little from the refused one.
 
 use super::calls;
-use crate::kinds::idle_array;
+use crate::kinds::{self, idle_array};
 use crate::preorder::{children, subtree_end};
 use crate::product;
 use crate::store::{ARRAYS, VARIABLES};
-use crate::types::{Beside, Cell, Netlist, Node, Refusal};
+use crate::types::{Beside, Cell, Netlist, Node, Refusal, Wiring};
+use std::collections::BTreeMap;
 use std::ops::Range;
 
 /// The least delay of a node, which its statements have no part in: the product is
 /// asked about that node alone. None where 255 is too small.
 pub fn least_delay(beside: Beside, nodes: &[Node], node: usize) -> Option<u8> {
     let (mut alone, procedures) = alone(nodes, node);
+    // It is the same for both circuits, and functional ones have no calls.
     let beside = Beside {
         procedures,
+        wiring: Wiring::Imperative,
         ..beside
     };
     let mut too_small = |delay: u8| {
@@ -64,6 +67,35 @@ fn alone(nodes: &[Node], node: usize) -> (Vec<Node>, usize) {
     }
     (alone, 0)
 }
+
+/// Whether a node is of a kind that no functional circuit has: the product is asked about
+/// that node, with constants and ok below it.
+pub fn is_added(node: Node) -> bool {
+    let plain = |kind, delay| Node { kind, delay, n: 0 };
+    let mut alone = match node.kind < OK {
+        true => vec![plain(18, u8::MAX), node],
+        false => vec![node],
+    };
+    let own = alone.len() - 1;
+    let below = kinds::children(node.kind).iter();
+    alone.extend(below.map(|child| match EXPRESSIONS.contains(child) {
+        true => plain(1, 0),
+        false => plain(OK, 0),
+    }));
+    asked(Beside::FUNCTIONAL, &alone) == Err(Refusal::new(28, own))
+}
+
+const OK: u8 = 16;
+
+/// The children of nodes that are expressions.
+const EXPRESSIONS: [&str; 6] = [
+    "operand",
+    "first operand",
+    "second operand",
+    "index",
+    "value",
+    "condition",
+];
 
 /// Whether a node, of a program in which at most delays are too small, has a delay for
 /// something to settle in. A tick is there for its delay: another would be another program.
@@ -163,12 +195,12 @@ pub fn wrong_field(netlist: &Netlist, place: usize) -> Option<&'static str> {
         change(&mut changed.cells[place]);
         product::check_netlist(&changed) != Err(Refusal::new(12, place))
     };
-    let wires = 0..netlist.cells.len() as u16;
+    let wires = one_of_each(netlist);
     if (0..=255).any(|delay| fits(&|cell| cell.delay = delay)) {
         Some("delay")
-    } else if wires.clone().any(|a| fits(&|cell| cell.a = a)) {
+    } else if wires.iter().any(|a| fits(&|cell| cell.a = *a)) {
         Some("a")
-    } else if wires.clone().any(|b| fits(&|cell| cell.b = b)) {
+    } else if wires.iter().any(|b| fits(&|cell| cell.b = *b)) {
         Some("b")
     } else if idle_arrays().any(|idle| fits(&|cell| *cell = idle)) {
         Some("array")
@@ -177,6 +209,16 @@ pub fn wrong_field(netlist: &Netlist, place: usize) -> Option<&'static str> {
     } else {
         None
     }
+}
+
+/// Of each kind the first cell and the last: an input is refused for its kind, or
+/// because it stands too high.
+fn one_of_each(netlist: &Netlist) -> Vec<u16> {
+    let mut ends: BTreeMap<u8, [u16; 2]> = BTreeMap::new();
+    for (number, cell) in (0..).zip(&netlist.cells) {
+        ends.entry(cell.kind).or_insert([number; 2])[1] = number;
+    }
+    ends.into_values().flatten().collect()
 }
 
 fn idle_arrays() -> impl Iterator<Item = Cell> {

@@ -3,6 +3,7 @@
 use super::{asking, plain, Report};
 use crate::kinds::{ADDRESS, ARRAY, MEMORY};
 use crate::layout::netlist_in;
+use crate::product;
 use crate::store::VARIABLES;
 use crate::types::{Cell, Netlist, Refusal};
 
@@ -40,6 +41,9 @@ fn of_cell(mut report: Report, netlist: &Netlist) -> Report {
     report.found = Some(format!(
         "cell {place} has kind {kind}, delay {delay}, a {a}, b {b}"
     ));
+    if product::check_netlist(netlist).is_ok() {
+        return of_last(report, netlist);
+    }
     if asking::finish_alone(netlist) {
         report.rule = "the finish is a word wire".into();
         report.remedy = "name a control wire, of kinds 32 to 39, as the finish".into();
@@ -68,9 +72,25 @@ fn of_cell(mut report: Report, netlist: &Netlist) -> Report {
     report
 }
 
+/// A netlist that is accepted, but not for a functional run.
+fn of_last(report: Report, netlist: &Netlist) -> Report {
+    let first = netlist.cells.len() - VARIABLES;
+    let word = report.refusal.place.saturating_sub(first);
+    Report {
+        rule: format!(
+            "the last sixteen cells of a functional circuit carry the words at the end, each kind 7 \
+             with cell 2 as b, and this one, that of x{word}, does not"
+        ),
+        remedy: "run it without --functional; or end the list with sixteen lines 'or WIRE 2', \
+             x0's first"
+            .into(),
+        ..report
+    }
+}
+
 const INPUTS: &str = "name a cell of the right sort, control or word, an array for an element and \
-    nowhere else; only a delay's input, a memory's data, and an array's data and address may stand \
-    higher than the cell";
+    nowhere else; only a delay's input, a memory's data, an array's data and address, and a latch's \
+    inputs may stand higher than the cell";
 
 /// Refusal 12 with the number of cells as its place.
 fn of_all(report: Report, netlist: &Netlist) -> Report {

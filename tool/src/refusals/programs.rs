@@ -1,4 +1,4 @@
-//! Refusals 1 to 8, 22, 24 and 25, of programs.
+//! Refusals 1 to 8, 22, 24, 25 and 28, of programs.
 
 use super::{asking, calls, least_delay, Mark, Report};
 use crate::answers::counted;
@@ -57,6 +57,7 @@ fn of_nodes(mut report: Report, given: &Given, nodes: &[Node], source: Option<&S
         22 => of_exit(&mut report, given, nodes, source),
         24 => of_call(&mut report, given, nodes, source),
         25 => of_shared(&mut report, given, nodes, source),
+        28 => of_added(&mut report, given, nodes, source),
         _ => of_node(&mut report, given, nodes, source),
     }
     report
@@ -290,6 +291,26 @@ fn of_shared(report: &mut Report, given: &Given, nodes: &[Node], source: Option<
         (sides[1], &right),
     ];
     show(report, given, nodes, source, &told);
+}
+
+/// Refusal 28: what only the imperative circuit has, and how many such nodes there are.
+fn of_added(report: &mut Report, given: &Given, nodes: &[Node], source: Option<&Source>) {
+    let place = report.refusal.place;
+    let (thing, instead) = match nodes[place].kind {
+        10 | 24 => ("arrays", "keep the words in x0 to x15"),
+        25 | 26 => ("loops that an exit ends", "write while or repeat"),
+        _ => ("calls", "write the procedure's statement here"),
+    };
+    report.rule = format!("a functional circuit has no {thing}");
+    report.remedy =
+        format!("{instead}, or leave --functional out: the imperative circuit has them");
+    show(report, given, nodes, source, &[(place, "")]);
+    let such = nodes.iter().filter(|node| asking::is_added(**node)).count();
+    if such > 1 {
+        let here = report.found.take().map(|here| here + "; ");
+        let here = here.unwrap_or_default();
+        report.found = Some(format!("{here}{such} such nodes in all"));
+    }
 }
 
 /// Shows nodes with what is said of each, in the text where there is one.

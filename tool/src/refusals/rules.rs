@@ -215,4 +215,10 @@ pub const RULES: &[Rule] = &[
         "a pulse is 1 to 8 instants long",
         "give --pulse a number from 1 to 8",
     ),
+    rule_of(
+        28,
+        Counts::Nodes,
+        "a functional circuit has no arrays, no loops that exits end, and no calls",
+        "leave --functional out: the imperative circuit has them",
+    ),
 ];

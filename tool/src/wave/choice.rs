@@ -7,8 +7,8 @@ use crate::kinds::{is_control, is_idle, NODES};
 use crate::labels::{self, Labels};
 use crate::names::Names;
 use crate::source::nearest;
-use crate::store;
-use crate::types::{Fault, Netlist};
+use crate::store::{self, VARIABLES};
+use crate::types::{Fault, Netlist, Wiring};
 
 /// The wires asked for, elements and the number in flight among them, or else those that have a name:
 /// all, or all but memories that nothing writes to.
@@ -19,7 +19,7 @@ pub fn wires(
     all: bool,
 ) -> Result<Vec<Wire>, Fault> {
     let names = circuit.names();
-    let mut named = of_every(&circuit.netlist, &names);
+    let mut named = of_every(circuit, &names);
     named.extend(of_statements(circuit, text)?);
     match asked {
         None => Ok(named
@@ -35,26 +35,43 @@ pub fn wires(
     }
 }
 
-/// Whether a wire is more than an idle memory.
+/// Whether a wire is more than an idle memory, or a word that is as at the start.
 fn moves(circuit: &Circuit, wire: &Wire) -> bool {
     match wire.shows {
-        Shows::Cell(cell) => !is_idle(&circuit.netlist.cells[usize::from(cell)]),
+        Shows::Cell(cell) => {
+            let cells = &circuit.netlist.cells;
+            let idle = |cell: u16| is_idle(&cells[usize::from(cell)]);
+            let at = usize::from(cell);
+            let last = circuit.wiring == Wiring::Functional && at >= cells.len() - VARIABLES;
+            !idle(cell) && !(last && idle(cells[at].a))
+        }
         Shows::Element(_) | Shows::InFlight | Shows::StartLeft => true,
     }
 }
 
-/// Start, finish and the memories.
-fn of_every(netlist: &Netlist, names: &Names) -> Vec<Wire> {
+/// Start, finish and the words: the memories, or in a functional circuit the last sixteen
+/// cells, and behind them the memories, which keep the start words.
+fn of_every(circuit: &Circuit, names: &Names) -> Vec<Wire> {
+    let netlist = &circuit.netlist;
     let mut wires = vec![
         wire(netlist, "start".to_string(), 0),
         wire(netlist, "finish".to_string(), netlist.finish),
     ];
+    let last = labels::of_last(circuit).into_iter();
+    wires.extend(last.map(|(name, cell)| wire(netlist, name, cell)));
     let memories = (0..).zip(labels::of_memories(netlist, names));
-    wires.extend(memories.filter_map(|(cell, name)| Some(wire(netlist, name?, cell))));
+    wires.extend(memories.filter_map(|(cell, name)| {
+        let name = match circuit.wiring {
+            Wiring::Imperative => name?,
+            Wiring::Functional => format!("{}.memory", name?),
+        };
+        Some(wire(netlist, name, cell))
+    }));
     wires
 }
 
-/// Start and finish of each statement that is more than a sequence.
+/// Start and finish of each statement that is more than a sequence, and in a functional
+/// circuit the words that it hands on.
 fn of_statements(circuit: &Circuit, text: &[u8]) -> Result<Vec<Wire>, Fault> {
     let Some((program, trace)) = &circuit.program else {
         return Ok(Vec::new());
@@ -73,6 +90,19 @@ fn of_statements(circuit: &Circuit, text: &[u8]) -> Result<Vec<Wire>, Fault> {
             wires.push(Wire {
                 about,
                 ..wire(&circuit.netlist, name, cell)
+            });
+        }
+        for handed in trace.words.iter().filter(|handed| handed.node == node) {
+            let named = program.names.word(handed.variable);
+            let word = match named.as_str() {
+                "start" | "finish" => format!("x{}", handed.variable),
+                _ => named,
+            };
+            let name = format!("{}{node}.{word}", word_of(kind));
+            let about = format!("{}, {}", labels.places[node], labels.heads[node]);
+            wires.push(Wire {
+                about,
+                ..wire(&circuit.netlist, name, handed.wire)
             });
         }
     }

@@ -13,6 +13,16 @@ pub fn of_program(program: &Program) -> Circuit {
     of(Form::Program, program.beside(), &program.bytes)
 }
 
+/// The functional circuit of a program.
+pub fn functional(program: &Program) -> Circuit {
+    of(Form::Program, Beside::FUNCTIONAL, &program.bytes)
+}
+
+/// The functional circuit of a text.
+pub fn functional_of_text(text: &str) -> Circuit {
+    of(Form::Text, Beside::FUNCTIONAL, text.as_bytes())
+}
+
 /// The circuit of a text.
 pub fn of_text(text: &str) -> Circuit {
     of(Form::Text, Beside::NOTHING, text.as_bytes())

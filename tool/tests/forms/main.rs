@@ -6,6 +6,7 @@
 mod bounds;
 mod circuits;
 mod delays;
+mod functional;
 mod indentation;
 mod kinds;
 mod long_commands;

@@ -39,7 +39,7 @@ fn elements<'t>(picture: &'t str, name: &str) -> Vec<&'t str> {
 }
 
 /// The boxes of the cells: those that have a stroke of their own kind.
-fn cells(picture: &str) -> Vec<Box> {
+pub fn cells(picture: &str) -> Vec<Box> {
     let cell = |line: &&str| line.contains("stroke-width");
     let rectangles = elements(picture, "rect").into_iter().filter(cell);
     rectangles
@@ -123,7 +123,7 @@ pub fn assert_legible(picture: &str) {
     }
 }
 
-fn assert_clear(picture: &str) {
+pub fn assert_clear(picture: &str) {
     assert_legible(picture);
     let (cells, wires) = (cells(picture), wires(picture));
     for (k, cell) in cells.iter().enumerate() {
@@ -236,19 +236,29 @@ fn accepted(graph: &str) -> bool {
     reader.wait().expect("it ends").success()
 }
 
+/// The examples that have a functional circuit.
+const FUNCTIONAL: [&str; 4] = [
+    "eight_groups",
+    "overstepped",
+    "sixty_four_boards",
+    "two_boards",
+];
+
 /// A circuit as Verilog, with a testbench of 60 instants.
 fn as_verilog(circuit: &Circuit, text: &[u8]) -> String {
     let (netlist, start) = (&circuit.netlist, [3; LENGTH]);
-    let begun = product::begin(Format::Full, &circuit.file, &start);
+    let mode = circuit.mode(Format::Full);
+    let begun = product::begin(mode, &circuit.file, &start);
     let (mut state, _) = begun.expect("a state");
-    let answer = product::go(Format::Full, &circuit.file, &mut state, 60).expect("an answer");
+    let answer = product::go(mode, &circuit.file, &mut state, 60).expect("an answer");
     let expected = Expected {
         ended: answer.ended,
         instant: answer.instant,
         last: &product::contents(Format::Full, &answer, &state, netlist.cells.len()),
     };
     let notes = labels::of_cells(circuit, text).expect("notes");
-    module(netlist, Edges::Rising, &start, &notes) + &testbench(netlist, expected)
+    let text = module(netlist, circuit.wiring, Edges::Rising, &start, &notes);
+    text + &testbench(netlist, expected)
 }
 
 /// The examples' pictures, graphs, dumps and modules are those that are kept. With
@@ -262,7 +272,14 @@ fn pictures_of_the_examples_are_kept() {
     let outlines = outlines()
         .into_iter()
         .map(|(name, text)| (name, circuits::of_outline(&text), text));
-    for (name, circuit, text) in texts.chain(outlines) {
+    let functional = examples()
+        .into_iter()
+        .filter(|(name, _)| FUNCTIONAL.contains(&name.as_str()))
+        .map(|(name, text)| {
+            let circuit = circuits::functional_of_text(&text);
+            (format!("{name}_functional"), circuit, text)
+        });
+    for (name, circuit, text) in texts.chain(outlines).chain(functional) {
         let bytes = text.as_bytes();
         let wires = choice::wires(&circuit, bytes, None, false).expect("wires");
         let words = std::array::from_fn(|k| 3 + k as u16);

@@ -2,6 +2,7 @@
 
 use crate::programs::{programs, texts, Chance};
 use crate::{circuits, programs};
+use hub::kinds::untold;
 use hub::lines::Wrong;
 use hub::names::Names;
 use hub::types::{Beside, Cell, Netlist, Node};
@@ -164,8 +165,9 @@ fn lists_give_the_netlist_file_back() {
     for program in programs() {
         let circuit = circuits::of_program(&program);
         let notes = labels::of_cells(&circuit, &[]).expect("notes");
-        for all in [false, true] {
-            let list = listing::list(&circuit.netlist, all, |cell| notes[cell].clone());
+        let all = vec![false; circuit.netlist.cells.len()];
+        for left_out in [untold(&circuit.netlist, circuit.wiring), all] {
+            let list = listing::list(&circuit.netlist, &left_out, |cell| notes[cell].clone());
             let listed = listing::wired(&list).unwrap_or_else(|wrong| panic!("{wrong:?}\n{list}"));
             let file = product::write_netlist(&listed.netlist);
             assert_eq!(file.as_ref(), Ok(&circuit.file), "{list}");
@@ -189,7 +191,8 @@ fn lists_give_any_cells_back() {
             finish: 3,
             pulse: 1 + chance.below(255) as u8,
         };
-        let list = listing::list(&netlist, true, |_| None);
+        let all = vec![false; netlist.cells.len()];
+        let list = listing::list(&netlist, &all, |_| None);
         let listed = listing::wired(&list).unwrap_or_else(|wrong| panic!("{wrong:?}\n{list}"));
         assert_eq!(listed.netlist, netlist, "{list}");
     }

@@ -1,5 +1,5 @@
 -- `walk::put_expr` meets its contract: the tree at its node, by the node's kind, tells its parts. The nodes that are left fall. Assumes nothing.
-use mathlib.Core.Path.{_≡_}
+use mathlib.Core.Path.{_≡_, sym}
 use Prim.Native.Nat.{ℕ, _+_, _-_, _<_}
 use native.Mathlib.Omega.{arith}
 use denote.Ref.{now}
@@ -8,6 +8,7 @@ use borrow.Fn.Kinds.{In}
 use borrow.Fn.PlainCycle.{Measures, is, falls, and}
 use Rattle.model.specs.Program.{const, var, compl, op, elem, exprAt, nodeCount, nodeAt}
 use Rattle.model.specs.Numbering.{exprCount}
+use Rattle.laws.specs.Numbering.Valid.{memory-wire, array-wire}
 use Rattle.laws.specs.Program.Trees.{at-var, at-compl, at-elem}
 use Rattle.program.proofs.Children.{Inner, second-later, op-read}
 use Rattle.compiler.proofs.Exprs.{last-fits, const-done, var-done, compl-done, elem-done, op-done, compl-ready, elem-ready, op-first, op-second}
@@ -115,7 +116,7 @@ module _ (t : ℕ) where
   returns-2 : lts.Need-returns-2 calls (expr-here t) expr-reads.Post
   returns-2 c =
       let ready = rw (var-of (c .before)) at (c .before .before .before .before .before .before .pre .1 .1) in
-      rw (var-of (c .before)) (var-done (ready .formed))
+      rw (var-of (c .before)) (var-done (sym (memory-wire _ _ (ready .formed))))
 
   add-first : lts.Need-add-first calls (expr-here t) expr-reads.Post
   add-first c = omega (arith, here-of (c .before) .0, c .before .before .before .before .before .pre .1 .0 .short)
@@ -173,7 +174,7 @@ module _ (t : ℕ) where
   returns-4 c =
       let w = c .before .before in
       let e = w .before .before .before .before .before in
-      rw (elem-of (e .before .before), w .put-word3 .ensures .1) (elem-done (e .put-expr2 .ensures) (w .put-word3 .ensures .0))
+      rw (elem-of (e .before .before), w .put-word3 .ensures .1) (elem-done (e .put-expr2 .ensures) (sym (array-wire _ _)) (w .put-word3 .ensures .0))
 
   next-requires : lts.Need-next-requires calls (expr-here t) expr-reads.Post
   next-requires c κs = omega (arith, c .before .before .before .before .before .before .before .pre .1 .0 .short)

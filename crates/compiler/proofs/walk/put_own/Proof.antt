@@ -1,6 +1,6 @@
 -- `walk::put_own` meets its contract. Assumes nothing.
 use borrow.Author.Needs.{needs}
-use Rattle.compiler.proofs.Stmts.{own-none, own-some}
+use Rattle.compiler.proofs.Exprs.{own-none, own-some}
 use Rattle.compiler.proofs.walk.put_own.Statement.{statement}
 use Rattle.compiler.proofs.walk.put_own.Tie as tie
 

@@ -1,6 +1,6 @@
 -- `walk::put_switches` meets its contract. Assumes nothing.
 use borrow.Author.Needs.{needs}
-use Rattle.compiler.proofs.Stmts.{switches-done}
+use Rattle.compiler.proofs.Exprs.{switches-done}
 use Rattle.compiler.proofs.walk.put_switches.Statement.{statement}
 use Rattle.compiler.proofs.walk.put_switches.Tie as tie
 

@@ -10,12 +10,13 @@ use Rattle.model.specs.Program.{const, var, compl, op, exprAt, nodeCount, nodeA
 use Rattle.model.specs.Numbering.{exprCount}
 use Rattle.laws.specs.Program.Trees.{at-var, at-compl}
 use Rattle.program.proofs.Children.{Inner, second-later, op-read, elem-read}
-use Rattle.functional.proofs.Exprs.{last-fits, const-done, var-done, compl-done, op-done, compl-ready, op-first, op-second}
+use Rattle.compiler.proofs.Exprs.{const-done, var-done, compl-done, op-done}
+use Rattle.functional.proofs.Exprs.{last-fits, compl-ready, op-first, op-second}
 use Rattle.program.proofs.nodes.next.Reads as next-reads
 use Rattle.compiler.proofs.nodes.expr_node.Reads as expr-node-reads
 use Rattle.functional.proofs.walk.put_expr.Reads as expr-reads
 use Rattle.functional.proofs.walk.put_expr.Kinds as expr-kinds
-use Rattle.functional.proofs.walk.put_word.Reads as word-reads
+use Rattle.compiler.proofs.walk.put_word.Reads as word-reads
 use Rattle.functional.proofs.walk.+put_expr.Lts-put_expr as lts
 use Rattle.functional.proofs.walk.+put_expr.{statement}
 use Rattle.functional.proofs.walk.+put_expr.Tie.{close}

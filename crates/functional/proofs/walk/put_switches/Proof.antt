@@ -1,7 +1,7 @@
 -- `walk::put_switches` meets its contract. Assumes nothing.
 use mathlib.Core.Path.{refl}
 use native.Mathlib.Omega.{arith}
-use Rattle.functional.proofs.Exprs.{switches-done}
+use Rattle.compiler.proofs.Exprs.{switches-done}
 use borrow.Author.Needs.{needs}
 use Rattle.functional.proofs.walk.put_switches.Statement.{statement}
 use Rattle.functional.proofs.walk.put_switches.Tie as tie

@@ -3,7 +3,7 @@ use mathlib.Core.Path.{sym, _∙_, ap}
 use native.Mathlib.Omega.{arith}
 use borrow.Author.Needs.{needs}
 use Rattle.model.specs.Calls.{wordAt}
-use Rattle.simulator.specs.Fits.{netBy}
+use Rattle.model.specs.NetlistFile.{netOf}
 use Rattle.simulator.proofs.Cells.{holds-cell}
 use Rattle.simulator.proofs.Memories.{first-memory, first-other}
 use Rattle.simulator.proofs.beginning.first_value.Statement.{statement}
@@ -23,7 +23,7 @@ returns : tie.Need-returns
 returns c =
     let pre = c .before .before .before .before .before .pre in
     let args = c .before .before .before .before .before .args in
-    let net = netBy (args .h) (args .cells .now) in
+    let net = netOf (args .file .now) in
     λ m.
     c .get16 .ensures ∙ ap (wordAt (args .words .now)) (sym m)
     ∙ sym (first-memory (args .format) net (wordAt (args .words .now)) (args .state .now) (args .k) (args .c) (holds-cell (pre .0)) (c .before .if1 .taken))
@@ -32,7 +32,7 @@ returns-2 : tie.Need-returns-2
 returns-2 c =
     let pre = c .before .before .before .before .before .pre in
     let args = c .before .before .before .before .before .args in
-    let net = netBy (args .h) (args .cells .now) in
+    let net = netOf (args .file .now) in
     λ m.
     c .next-value .ensures
     ∙ sym (first-other (args .format) net (wordAt (args .words .now)) (args .state .now) (args .k) (args .c) (holds-cell (pre .0)) (c .before .if1 .left))

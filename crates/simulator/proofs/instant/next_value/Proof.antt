@@ -6,9 +6,9 @@ use native.Mathlib.Omega.{arith}
 use borrow.Author.Needs.{needs}
 use Rattle.model.specs.Word.{bit, isZero, operate, elementOf}
 use Rattle.model.specs.Circuit.{cellAt, high, merges, stepOf}
-use Rattle.model.specs.State.{beforeAt, heldAt, elementNow}
-use Rattle.simulator.specs.Fits.{netBy}
-use Rattle.simulator.proofs.Cells.{read-array}
+use Rattle.model.specs.State.{nowAt, beforeAt, heldAt, elementNow}
+use Rattle.model.specs.NetlistFile.{netOf}
+use Rattle.simulator.proofs.Cells.{fits-pulse, read-array}
 use Rattle.simulator.proofs.ByKind.{no-operator-low, no-operator-high, next-constant, next-start, next-delay, next-or, next-when-true, next-when-false, next-merge, next-fallen, next-kept, next-gate-open, next-gate-shut, next-operator, next-latch, next-read, next-still}
 use Rattle.simulator.proofs.instant.next_value.Statement.{statement}
 use Rattle.simulator.proofs.instant.next_value.Tie as tie
@@ -70,17 +70,21 @@ returns-8 c = c .bit4 .ensures ∙ ap₂ (λ (x y : ℕ). bit (high x && isZero 
 returns-9 : tie.Need-returns-9
 unfolding merges
 returns-9 c =
+    let pre = c .before .before .before .before .before .before .before .before .before .before .before .pre in
     let args = c .before .before .before .before .before .before .before .before .before .before .before .args in
     c .merged .ensures
     ∙ ap₂ (λ (x y : ℕ). bit (stepOf (args .h .pulse) (args .c .kind) (high (beforeAt (args .format) (args .state .now) (args .k))) (heldAt (args .format) (args .state .now) (args .k)) (high x) (high y) .out)) (c .before .before .before .now-at .ensures) (c .before .before .now-at2 .ensures)
+    ∙ ap (λ (w : ℕ). bit (stepOf w (args .c .kind) (high (beforeAt (args .format) (args .state .now) (args .k))) (heldAt (args .format) (args .state .now) (args .k)) (high (nowAt (args .format) (args .state .now) (args .c .a))) (high (nowAt (args .format) (args .state .now) (args .c .b))) .out)) (fits-pulse (pre .fits))
     ∙ sym (next-merge _ _ _ _ _ _ (rw (c .before .match .keys5) refl))
 
 returns-10 : tie.Need-returns-10
 unfolding merges
 returns-10 c =
+    let pre = c .before .before .before .before .before .before .before .before .before .before .before .pre in
     let args = c .before .before .before .before .before .before .before .before .before .before .before .args in
     c .merged2 .ensures
     ∙ ap₂ (λ (x y : ℕ). bit (stepOf (args .h .pulse) (args .c .kind) (high (beforeAt (args .format) (args .state .now) (args .k))) (heldAt (args .format) (args .state .now) (args .k)) (high x) (high y) .out)) (c .before .before .before .now-at .ensures) (c .before .before .now-at2 .ensures)
+    ∙ ap (λ (w : ℕ). bit (stepOf w (args .c .kind) (high (beforeAt (args .format) (args .state .now) (args .k))) (heldAt (args .format) (args .state .now) (args .k)) (high (nowAt (args .format) (args .state .now) (args .c .a))) (high (nowAt (args .format) (args .state .now) (args .c .b))) .out)) (fits-pulse (pre .fits))
     ∙ sym (next-merge _ _ _ _ _ _ (rw (c .before .match .keys6) refl))
 
 returns-11 : tie.Need-returns-11
@@ -96,7 +100,7 @@ returns-12 c =
 returns-13 : tie.Need-returns-13
 returns-13 c =
     let args = c .before .before .before .before .before .before .before .before .before .before .before .args in
-    let net = netBy (args .h) (args .cells .now) in
+    let net = netOf (args .file .now) in
     c .element-now .ensures ∙ ap (λ (y : ℕ). elementNow (args .format) net (args .state .now) (elementOf (cellAt (net .cells) (args .c .a) .delay) y)) (c .before .before .now-at2 .ensures) ∙ sym (next-read _ _ _ _ _ _ (c .before .match .keys8))
 
 returns-14 : tie.Need-returns-14

@@ -3,8 +3,8 @@ use mathlib.Core.Path.{sym, _∙_}
 use Prim.Native.Nat.{_+_}
 use native.Mathlib.Omega.{arith}
 use borrow.Author.Needs.{needs}
-use Rattle.simulator.specs.Fits.{netIn}
-use Rattle.simulator.proofs.Cells.{net-cell, net-length, holds-cell, array-address}
+use Rattle.model.specs.NetlistFile.{netOf}
+use Rattle.simulator.proofs.Cells.{fits-few, fits-room, net-cell, net-length, cell-there, holds-cell, array-address}
 use Rattle.simulator.proofs.Arrays.{stored-other, stored-kept, stored-put}
 use Rattle.simulator.proofs.instant.store.Statement.{statement}
 use Rattle.simulator.proofs.instant.store.Tie as tie
@@ -19,7 +19,7 @@ cell-at-requires c κs =
     let if1 = c .before .before .before .before .if1 in
     let pre = c .before .before .before .before .before .before .before .pre in
     let place = array-address pre (if1 .taken) .1 in
-    (omega (arith, pre .fits .few, place), omega (arith, pre .fits .list, place))
+    (omega (arith, fits-few (pre .fits), place), cell-there (pre .fits) (c .before .before .before .before .before .before .before .args .k + 1) place)
 
 before-at-requires : tie.Need-before-at-requires
 before-at-requires c κs =
@@ -36,13 +36,13 @@ element-place-requires : tie.Need-element-place-requires
 element-place-requires c κs =
     let if1 = c .before .before .before .before .before .before .before .before .before .before .before .before .if1 in
     let pre = c .before .before .before .before .before .before .before .before .before .before .before .before .before .before .before .pre in
-    (pre .fits .few, array-address pre (if1 .taken) .0)
+    (fits-few (pre .fits), array-address pre (if1 .taken) .0)
 
 put16-requires : tie.Need-put16-requires
 put16-requires c κs =
     let if1 = c .before .before .before .before .before .before .before .before .before .before .before .before .before .before .if1 in
     let pre = c .before .before .before .before .before .before .before .before .before .before .before .before .before .before .before .before .before .pre in
-    omega (arith, pre .fits .room, array-address pre (if1 .taken) .0, c .before .element-place .ensures)
+    omega (arith, fits-room (pre .fits), array-address pre (if1 .taken) .0, c .before .element-place .ensures)
 
 returns : tie.Need-returns
 returns c =
@@ -56,21 +56,19 @@ returns c =
     let args = c .before .before .before .before .before .before .before .before .before .before .before .before .before .before .before .before .before .before .before .before .args in
     let pre = c .before .before .before .before .before .before .before .before .before .before .before .before .before .before .before .before .before .before .before .before .pre in
     let array = if1 .taken in
-    let cells = args .cells .now in
-    let next = net-cell cells (args .n) (args .k + 1) (array-address pre array .1) ∙ sym (cell-at .ensures) in
+    let next = net-cell (pre .fits) (args .k + 1) (array-address pre array .1) ∙ sym (cell-at .ensures) in
     let fallen = sym (has-fallen .ensures) ∙ if2 .taken in
-    λ w.
     c .before .before .put16 .ensures
-    ∙ stored-put (args .format) (netIn w cells (args .n)) (args .state .now) (args .k) (args .c) (holds-cell pre) array fallen _ _ _ _ _ (net-length cells (args .n)) next (element-place .ensures) (before-at .ensures) (before-at2 .ensures)
+    ∙ stored-put (args .format) (netOf (args .file .now)) (args .state .now) (args .k) (args .c) (holds-cell pre) array fallen _ _ _ _ _ (net-length (pre .fits)) next (element-place .ensures) (before-at .ensures) (before-at2 .ensures)
 
 returns-2 : tie.Need-returns-2
 returns-2 c =
     let pre = c .before .before .before .before .before .before .before .pre in
     let if1 = c .before .before .before .before .if1 in
-    λ w. sym (stored-kept _ (netIn w _ _) _ _ _ (holds-cell pre) (if1 .taken) (sym (c .before .has-fallen .ensures) ∙ c .if2 .left))
+    sym (stored-kept _ (netOf _) _ _ _ (holds-cell pre) (if1 .taken) (sym (c .before .has-fallen .ensures) ∙ c .if2 .left))
 
 returns-3 : tie.Need-returns-3
-returns-3 c = λ w. sym (stored-other _ (netIn w _ _) _ _ _ (holds-cell (c .before .before .before .pre)) (c .if1 .left))
+returns-3 c = sym (stored-other _ (netOf _) _ _ _ (holds-cell (c .before .before .before .pre)) (c .if1 .left))
 
 pub store-spec : {M : Type 1} → statement M
 store-spec =

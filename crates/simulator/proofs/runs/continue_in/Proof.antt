@@ -1,7 +1,8 @@
 -- `continue_in` meets its contract. Assumes nothing.
 use mathlib.Core.Path.{_∙_}
 use borrow.Author.Needs.{needs}
-use Rattle.simulator.specs.Fits.{netBy, Continues}
+use Rattle.model.specs.NetlistFile.{netOf, finishOf}
+use Rattle.simulator.specs.Fits.{Continues}
 use Rattle.simulator.proofs.Continuing.{full-accepted}
 use Rattle.simulator.proofs.runs.continue_in.Statement.{statement}
 use Rattle.simulator.proofs.runs.continue_in.Tie as tie
@@ -10,14 +11,14 @@ continue-state-requires : tie.Need-continue-state-requires
 continue-state-requires c κs =
     let pre = c .before .before .before .before .before .pre in
     let args = c .before .before .before .before .before .args in
-    let asks : Continues (args .format) (args .cells .now) (args .h) (args .budget) (args .state .now) = pre in
+    let asks : Continues (args .format) (args .file .now) (args .h) (args .budget) (args .state .now) = pre in
     rw (c .before .enum-told .given .1) at asks
 
 continue-compact-requires : tie.Need-continue-compact-requires
 continue-compact-requires c κs =
     let pre = c .before .before .before .before .before .pre in
     let args = c .before .before .before .before .before .args in
-    let asks : Continues (args .format) (args .cells .now) (args .h) (args .budget) (args .state .now) = pre in
+    let asks : Continues (args .format) (args .file .now) (args .h) (args .budget) (args .state .now) = pre in
     rw (c .before .enum-told2 .given .1) at asks
 
 returns : tie.Need-returns
@@ -25,7 +26,7 @@ returns c =
     let enum-told = c .before .before .before .before .enum-told in
     let args = c .before .before .before .before .before .before .before .before .args in
     let went = c .before .before .continue-state .ensures in
-    let accepted = went .0 ∙ full-accepted (netBy (args .h) (args .cells .now)) (args .starts) (args .h .finish) (args .budget) (args .state .now) in
+    let accepted = went .0 ∙ full-accepted (netOf (args .file .now)) (args .starts) (finishOf (args .file .now)) (args .budget) (args .state .now) in
     rw (enum-told .given .1) (went .0, (went .1 .0, went .1 .1 .0 accepted))
 
 returns-2 : tie.Need-returns-2

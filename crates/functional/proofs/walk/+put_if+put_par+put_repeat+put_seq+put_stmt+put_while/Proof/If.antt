@@ -9,11 +9,11 @@ use Rattle.functional.specs.Sets.{has}
 use Rattle.functional.proofs.Bits.{many-set}
 use Rattle.functional.proofs.Branches.{if-room, if-expr, if-first, if-second, if-done}
 use Rattle.functional.proofs.counts.both.Reads as both-reads
-use Rattle.functional.proofs.rows.put.Reads as put-reads
+use Rattle.compiler.proofs.walk.put.Reads as put-reads
 use Rattle.functional.proofs.walk.put_end.Reads as put-end-reads
 use Rattle.functional.proofs.walk.put_expr.Reads as put-expr-reads
 use Rattle.functional.proofs.walk.put_if.Reads as if-reads
-use Rattle.functional.proofs.walk.put_own.Reads as put-own-reads
+use Rattle.compiler.proofs.walk.put_own.Reads as put-own-reads
 use Rattle.functional.proofs.walk.put_stmt.Reads as stmt-reads
 use Rattle.functional.proofs.walk.+put_if+put_par+put_repeat+put_seq+put_stmt+put_while.Lts-put_if as lts
 use Rattle.functional.proofs.walk.+put_if+put_par+put_repeat+put_seq+put_stmt+put_while.Proof.Falls.{if-here, stmt-below}

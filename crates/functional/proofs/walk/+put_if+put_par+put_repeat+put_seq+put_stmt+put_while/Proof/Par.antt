@@ -7,7 +7,7 @@ use lib.ListN.{length}
 use borrow.Author.Needs.{needs}
 use Rattle.functional.proofs.Parts.{par-first, par-second, par-room, par-done}
 use Rattle.functional.proofs.counts.written.Reads as written-reads
-use Rattle.functional.proofs.rows.put.Reads as put-reads
+use Rattle.compiler.proofs.walk.put.Reads as put-reads
 use Rattle.functional.proofs.sets.chosen.Reads as chosen-reads
 use Rattle.functional.proofs.walk.put_par.Reads as par-reads
 use Rattle.functional.proofs.walk.put_stmt.Reads as stmt-reads

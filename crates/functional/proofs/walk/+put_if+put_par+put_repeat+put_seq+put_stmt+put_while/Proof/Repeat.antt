@@ -9,7 +9,7 @@ use Rattle.model.specs.Functional.{many}
 use Rattle.functional.specs.Walk.{plainAt}
 use Rattle.functional.proofs.Loops.{many-told, repeat-room, repeat-body, repeat-expr, repeat-done}
 use Rattle.functional.proofs.counts.written.Reads as written-reads
-use Rattle.functional.proofs.rows.put.Reads as put-reads
+use Rattle.compiler.proofs.walk.put.Reads as put-reads
 use Rattle.functional.proofs.sets.many.Reads as many-reads
 use Rattle.functional.proofs.sets.placed.Reads as placed-reads
 use Rattle.functional.proofs.walk.put_repeat.Reads as repeat-reads
@@ -45,7 +45,7 @@ module _ (t : ℕ) where
   low-of : (w : lts.After-many calls (repeat-here t) repeat-reads.Post) → w .before .before .before .before .before .args .at .cell + w .many .result + 1 ≤ 7043
   low-of w = let start = w .before .before .before .before .before in omega (arith, repeat-room (start .pre .1 .1) (told-of w), start .pre .1 .1 .small)
 
-  switch-of : (w : lts.After-put-switches calls (repeat-here t) repeat-reads.Post) → w .put-switches .result .cell + 2 ≤ 7043
+  switch-of : (w : lts.After-put-switches calls (repeat-here t) repeat-reads.Post) → w .put-switches .result + 2 ≤ 7043
   switch-of w =
       let p = w .before .before .before .before .before .before .before .before .before .before in
       let m = p .before .before .before .before in
@@ -55,7 +55,7 @@ module _ (t : ℕ) where
         repeat-room (start .pre .1 .1) (told-of m),
         start .pre .1 .1 .small,
         p .put-stmt .ensures _ (λ x h. refl) .cell,
-        w .put-switches .ensures _ (λ x h. refl) .cell,
+        w .put-switches .ensures _ (λ x h. refl) .switch,
       )
 
   written-requires : lts.Need-written-requires calls (repeat-here t) repeat-reads.Post
@@ -121,7 +121,7 @@ module _ (t : ℕ) where
       let start = at-many .before .before .before .before .before in
       let room = repeat-room (start .pre .1 .1) (told-of at-many) in
       let p = at-put-stmt .put-stmt .ensures _ (λ x h. refl) .cell in
-      let e = at-put-switches .put-switches .ensures _ (λ x h. refl) .cell in
+      let e = at-put-switches .put-switches .ensures _ (λ x h. refl) .switch in
       rw (at-put-switches .put-switches .kept .0, at-put .put .kept .0, at-put-stmt .put-stmt .kept .0)
       (record { written = at-many .many .ensures; before = omega (arith, p, e); room = omega (arith, room, p, e, at-many .many .ensures); small = start .pre .1 .1 .small })
 

@@ -9,7 +9,7 @@ use Rattle.model.specs.Functional.{many}
 use Rattle.functional.specs.Walk.{plainAt}
 use Rattle.functional.proofs.Loops.{many-told, while-room, while-expr, while-body, while-done}
 use Rattle.functional.proofs.counts.written.Reads as written-reads
-use Rattle.functional.proofs.rows.put.Reads as put-reads
+use Rattle.compiler.proofs.walk.put.Reads as put-reads
 use Rattle.functional.proofs.sets.many.Reads as many-reads
 use Rattle.functional.proofs.sets.placed.Reads as placed-reads
 use Rattle.functional.proofs.walk.put_round.Reads as put-round-reads
@@ -45,11 +45,11 @@ module _ (t : ℕ) where
   low-of : (w : lts.After-many calls (while-here t) while-reads.Post) → w .before .before .before .before .before .args .at .cell + w .many .result + 2 ≤ 7043
   low-of w = let start = w .before .before .before .before .before in omega (arith, while-room (start .pre .1 .1) (told-of w), start .pre .1 .1 .small)
 
-  switch-of : (w : lts.After-put-switches calls (while-here t) while-reads.Post) → w .put-switches .result .cell + 2 ≤ 7043
+  switch-of : (w : lts.After-put-switches calls (while-here t) while-reads.Post) → w .put-switches .result + 2 ≤ 7043
   switch-of w =
       let m = w .before .before .before .before .before .before .before .before in
       let start = m .before .before .before .before .before in
-      omega (arith, while-room (start .pre .1 .1) (told-of m), start .pre .1 .1 .small, w .put-switches .ensures _ (λ x h. refl) .cell)
+      omega (arith, while-room (start .pre .1 .1) (told-of m), start .pre .1 .1 .small, w .put-switches .ensures _ (λ x h. refl) .switch)
 
   written-requires : lts.Need-written-requires calls (while-here t) while-reads.Post
   written-requires c κs =
@@ -89,11 +89,11 @@ module _ (t : ℕ) where
       let told = told-of at-many in
       rw (at-put .put .kept .0) (start .pre .1 .0, while-expr (start .pre .1 .1) told, omega (arith, while-room (start .pre .1 .1) told))
 
-  add-t22 : lts.Need-add-t22 calls (while-here t) while-reads.Post
-  add-t22 c = omega (arith, switch-of (c .before .before))
+  add-t21 : lts.Need-add-t21 calls (while-here t) while-reads.Post
+  add-t21 c = omega (arith, switch-of (c .before .before))
 
-  add-t25 : lts.Need-add-t25 calls (while-here t) while-reads.Post
-  add-t25 c = omega (arith, switch-of (c .before .before))
+  add-t24 : lts.Need-add-t24 calls (while-here t) while-reads.Post
+  add-t24 c = omega (arith, switch-of (c .before .before))
 
   put-stmt-requires : lts.Need-put-stmt-requires calls (while-here t) while-reads.Post
   put-stmt-requires c κs =
@@ -102,7 +102,7 @@ module _ (t : ℕ) where
       let at-many = at-put .before .before .before .before in
       let start = at-many .before .before .before .before .before in
       rw (at-put-switches .put-switches .kept .0, at-put .put .kept .0)
-      (omega (arith, start .pre .0), (start .pre .1 .0, while-body (start .pre .1 .1) (told-of at-many) (at-put-switches .put-switches .ensures _ (λ x h. refl) .cell)))
+      (omega (arith, start .pre .0), (start .pre .1 .0, while-body (start .pre .1 .1) (told-of at-many) (at-put-switches .put-switches .ensures _ (λ x h. refl) .switch)))
 
   put-round-requires : lts.Need-put-round-requires calls (while-here t) while-reads.Post
   put-round-requires c κs =
@@ -113,12 +113,12 @@ module _ (t : ℕ) where
       let start = at-many .before .before .before .before .before in
       let room = while-room (start .pre .1 .1) (told-of at-many) in
       let p = at-put-stmt .put-stmt .ensures _ (λ x h. refl) .cell in
-      let e = at-put-switches .put-switches .ensures _ (λ x h. refl) .cell in
+      let e = at-put-switches .put-switches .ensures _ (λ x h. refl) .switch in
       rw (at-put-stmt .put-stmt .kept .0, at-put-switches .put-switches .kept .0, at-put .put .kept .0)
       (record { written = at-many .many .ensures; before = omega (arith, p, e); room = omega (arith, room, p, e, at-many .many .ensures); small = start .pre .1 .1 .small })
 
-  add-t22-2 : lts.Need-add-t22-2 calls (while-here t) while-reads.Post
-  add-t22-2 c =
+  add-t21-2 : lts.Need-add-t21-2 calls (while-here t) while-reads.Post
+  add-t21-2 c =
       omega (arith, switch-of (c .before .before .before .before .before .before .before .before .before .before .before))
 
   same-length : lts.Need-same-length calls (while-here t) while-reads.Post
@@ -140,4 +140,4 @@ module _ (t : ℕ) where
   while-closed =
       lts.spec calls (while-here t) while-reads.Post
       written-requires many-requires placed-requires add-waits add-put put-requires add-put-switches add-put-switches-2 put-switches-requires
-      add-t22 add-t25 put-stmt-requires put-round-requires add-t22-2 same-length returns
+      add-t21 add-t24 put-stmt-requires put-round-requires add-t21-2 same-length returns

@@ -150,7 +150,7 @@ impl Given {
             let (name, own) = (&self.name, counted(procedures, "procedure"));
             return Err(Fault::usage(format!(
                 "{name} has {own}, and a functional circuit is made of a program without any; \
-                 write their statements where they are called, or take the imperative circuit"
+                 write the statements of procedures where they are called, or take the imperative circuit"
             )));
         }
         if pulse != 1 {

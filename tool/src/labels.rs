@@ -87,6 +87,14 @@ fn line_of(text: &[u8], at: usize) -> usize {
 /// for memories and arrays, which have the names of their variables.
 pub fn of_cells(circuit: &Circuit, text: &[u8]) -> Result<Vec<Option<String>>, Fault> {
     let mut notes = of_stores(&circuit.netlist, &circuit.names());
+    if circuit.wiring == Wiring::Functional {
+        let memories = of_memories(&circuit.netlist, &circuit.names());
+        for (note, word) in notes.iter_mut().zip(memories) {
+            *note = word
+                .map(|word| format!("{word} at the start"))
+                .or(note.take());
+        }
+    }
     for (word, cell) in of_last(circuit) {
         notes[usize::from(cell)] = Some(format!("{word} at the end"));
     }

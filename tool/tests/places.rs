@@ -2,7 +2,7 @@
 //! asking: held against the product on the vectors of tests/vectors.
 
 use hub::input::{Form, Given};
-use hub::origin::{trace, Ends};
+use hub::origin::{trace, trace_functional, Ends};
 use hub::preorder::{roots, subtree_end};
 use hub::refusals::Report;
 use hub::source::Place;
@@ -11,15 +11,20 @@ use hub::{product, refusals, source};
 use std::fs;
 use std::path::{Path, PathBuf};
 
-/// The programs of a folder of the vectors.
+/// The programs of a folder of the vectors, which has many.
 fn programs(folder: &str) -> Vec<PathBuf> {
+    let files = vectors(folder);
+    assert!(files.len() > 40, "{folder} has programs");
+    files
+}
+
+fn vectors(folder: &str) -> Vec<PathBuf> {
     let vectors = Path::new(env!("CARGO_MANIFEST_DIR")).join("../tests/vectors");
     let entries = fs::read_dir(vectors.join(folder)).expect("the vectors");
     let mut files: Vec<PathBuf> = entries
         .map(|entry| entry.expect("an entry").path())
         .collect();
     files.retain(|file| file.extension().is_some_and(|ending| ending == "prog"));
-    assert!(files.len() > 40, "{folder} has programs");
     files
 }
 
@@ -50,6 +55,39 @@ fn cells_come_from_the_nodes_of_their_program() {
         let found = (traced.len(), traced.iter().sum());
         assert_eq!(found, (accepted, calls), "{folder}");
     }
+}
+
+/// Folders of vectors, and of each the programs that have a functional circuit.
+const HANDED_ON: [&str; 4] = ["compile", "s05/compile", "s06/compile", "s11/functional"];
+
+/// The functional circuit of a program is the product's, cell by cell, and each statement
+/// has its ends in it.
+#[test]
+fn functional_cells_come_from_the_nodes_of_their_program() {
+    let mut traced = 0;
+    for file in HANDED_ON.into_iter().flat_map(vectors) {
+        let bytes = fs::read(&file).expect("a vector");
+        let Ok(compiled) = product::compile(Beside::FUNCTIONAL, &bytes) else {
+            continue;
+        };
+        let nodes = product::nodes(&bytes);
+        let netlist = product::read_netlist(&compiled).expect("an accepted netlist");
+        let trace = trace_functional(&nodes, &netlist).expect("the product's cells");
+        assert_eq!(trace.origins.len(), netlist.cells.len());
+        let finish = netlist.finish;
+        assert_eq!(trace.ends[0], Some(Ends { start: 0, finish }));
+        for (node, found) in nodes.iter().enumerate() {
+            let statement = found.kind >= 16;
+            assert_eq!(trace.ends[node].is_some(), statement, "node {node}");
+            assert_eq!(trace.values[node].is_some(), !statement, "node {node}");
+        }
+        traced += 1;
+        let mut other = netlist;
+        other.cells[30].a ^= 1;
+        let fault = trace_functional(&nodes, &other).expect_err("another input");
+        assert_eq!(fault.exit, INTERNAL);
+    }
+    assert!(traced > 80, "{traced}");
 }
 
 /// Holds the trace of a program, if it is accepted, against its nodes and cells, and

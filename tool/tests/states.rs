@@ -5,7 +5,7 @@ mod shared;
 use hub::product;
 use hub::store::LENGTH;
 use hub::trailer::Trailer;
-use hub::types::{Beside, Format};
+use hub::types::{Beside, Format, Mode, Wiring};
 use shared::{hub, Folder};
 use std::fs;
 use std::path::{Path, PathBuf};
@@ -104,12 +104,13 @@ fn a_state_is_the_products_with_a_trailer_behind_it() {
 #[test]
 fn trailers_are_found_again() {
     let state: Vec<u8> = (0..200).collect();
-    for format in Format::BOTH {
+    let modes = Wiring::BOTH.map(|wiring| Format::BOTH.map(|format| Mode { format, wiring }));
+    for mode in modes.into_iter().flatten() {
         for names in ["", "x0 clock\n", "x0 clock\nx1 flag\n"] {
             let names = names.to_string();
             let trailer = Trailer {
                 names,
-                ..Trailer::new(format, &[1, 2, 3])
+                ..Trailer::new(mode, &[1, 2, 3])
             };
             let file = [&state[..], &trailer.bytes()].concat();
             assert_eq!(Trailer::split(&file), Some((&state[..], trailer.clone())));
@@ -124,4 +125,49 @@ fn trailers_are_found_again() {
         assert_eq!(Trailer::split(&vec![0; length]), None);
         assert_eq!(Trailer::split(&vec![255; length]), None);
     }
+}
+
+/// A state that was begun on a functional circuit goes on so without being told, under the
+/// program and under its netlist; what is given otherwise is refused, and leaves it as it was.
+#[test]
+fn a_state_knows_its_circuit() {
+    let folder = Folder::new("circuit");
+    let [net, state] = ["a.net", "a.state"].map(|name| folder.at(name));
+    let [net, name] = [&net, &state].map(|path| path.to_str().expect("a name in letters"));
+    let program = top().join("examples/two_boards.hub");
+    let program = program.to_str().expect("a name in letters");
+    let compile = ["compile", program, "--functional", "-o", net];
+    assert_eq!(told(&compile).0, Some(0));
+    for compact in [&[][..], &["--compact"]] {
+        for (begun_by, gone_on_by) in [(program, net), (net, program), (program, program)] {
+            let begin = [
+                "begin",
+                begun_by,
+                "x0=1",
+                "x1=2",
+                "--functional",
+                "-o",
+                name,
+            ];
+            assert_eq!(told(&[&begin, compact].concat()).0, Some(0));
+            let begun = fs::read(&state).expect("a state");
+            for wrong in ["--pulse", "--procedures"] {
+                let go = ["go", program, name, "--by", "60", wrong, "2"];
+                assert_eq!(told(&go).0, Some(64), "{wrong}");
+                assert_eq!(fs::read(&state).expect("a state"), begun);
+            }
+            for end in ["\"instant\":40,", "\"instant\":81,"] {
+                let ran = hub(&["go", gone_on_by, name, "--by", "60", "--json"], "");
+                let output = String::from_utf8_lossy(&ran.stdout).into_owned();
+                assert!(output.contains(end), "{output}");
+                assert!(output.contains("\"circuit\":\"functional\""), "{output}");
+                assert_eq!(told(&["start", gone_on_by, name]).0, Some(0));
+            }
+        }
+    }
+    let begin = ["begin", program, "-o", name];
+    assert_eq!(told(&begin).0, Some(0));
+    let (exit, error) = told(&["go", program, name, "--by", "5", "--functional"]);
+    assert_eq!(exit, Some(64));
+    assert!(error.contains("was begun without --functional"), "{error}");
 }

@@ -185,7 +185,7 @@ pub rank-none : (b : ℕ → Bool) (c : ℕ) → c ≡ c + rank b 0
 unfolding among
 rank-none b c = omega arith
 
--- Constant arrays, and arrays with one entry replaced ------------------------------------------------------------------------------------
+-- Constant arrays -------------------------------------------------------------------------------------------------------------------------
 
 pub same-at : (w n y : ℕ) → y < n → getD (replicate n w) y 0 ≡ w
 same-at w zero y h = absurd (not-suc-le-zero h)

@@ -8,8 +8,8 @@ use Rattle.model.specs.declared.Cell.{Cell}
 use Rattle.model.specs.Program.{Stmt}
 use Rattle.model.specs.Circuit.{cell}
 use Rattle.model.specs.Numbering.{headCells}
-use Rattle.model.specs.Functional.{rows, sixteen, rowsOf, each, among, many, idleArrays, startWires, lastWires, count, walk, netlistOf, finishOf}
-use Rattle.laws.specs.Functional.Count.{rows-len, arrays-len, w-len}
+use Rattle.model.specs.Functional.{rows, sixteen, rowsOf, each, many, idleArrays, startWires, lastWires, count, walk, netlistOf, finishOf}
+use Rattle.laws.specs.Functional.Count.{many-most, rows-len, arrays-len, w-len}
 use Rattle.compiler.specs.Writes.{write}
 use Rattle.compiler.proofs.Writes.{write-none, write-append, write-two}
 use Rattle.functional.specs.declared.walk.Place.{Place}
@@ -20,9 +20,8 @@ use Rattle.functional.proofs.Bits.{each-same, write-three}
 
 -- All sixteen --------------------------------------------------------------------------------------------------------------------------------
 
-pub many-full : many (has 65535) ≡ 16
-unfolding has among
-many-full = refl
+pub row-fits : (set k n : ℕ) → 6 * (k + 16) ≤ n → 6 * (k + many (has set)) ≤ n
+row-fits set k n h = omega (arith, h, many-most (has set))
 
 each-full : (f : ℕ → Cell) → each (has 65535) f ≡ sixteen f
 unfolding has rowsOf rows

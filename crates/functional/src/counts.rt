@@ -4,7 +4,7 @@ ghost use Prim.Native.Nat.{_≤_};
 ghost use Rattle.model.specs.Program.{exprAt, seq, ite, while, stmtAt};
 ghost use Rattle.model.specs.Numbering.{exprCount};
 ghost use Rattle.model.specs.Functional.{branches, count};
-ghost use Rattle.laws.specs.Program.Fit.{Basic};
+ghost use Rattle.laws.specs.Program.Fit.{BasicExpr, Basic};
 ghost use Rattle.program.specs.Ends.{Laid};
 ghost use Rattle.functional.specs.Sets.{Tells};
 ghost use Rattle.functional.specs.Walk.{plainly, plainAt, Writes};
@@ -51,7 +51,7 @@ pub fn both(program: &[u8], ends: &[usize; 200], first: usize, second: usize) ->
 
 // How many cells the expression at node i takes.
 pub fn count_expr(program: &[u8], ends: &[usize; 200], i: usize) -> u16
-    requires { ⌜ Laid (now program) (now ends) × (exprCount (exprAt (now program) i) ≤ 7000) ⌝ }
+    requires { ⌜ Laid (now program) (now ends) × BasicExpr (exprAt (now program) i) × (exprCount (exprAt (now program) i) ≤ 7000) ⌝ }
     ensures { λ r. ⌜ r ≡ exprCount (exprAt (now (program .entry)) i) ⌝ }
 {
     let node = compiler::nodes::expr_node(program, i);
@@ -64,9 +64,6 @@ pub fn count_expr(program: &[u8], ends: &[usize; 200], i: usize) -> u16
     }
     let first = i + 1;
     if kind == 3 {
-        return count_expr(program, ends, first) + 1;
-    }
-    if kind == 10 {
         return count_expr(program, ends, first) + 1;
     }
     let second = program::nodes::next(ends, program.len() / 4, first);

@@ -115,6 +115,15 @@ fn put_file(file: &mut [u8], program: &[u8], ends: &[usize; 200], n: usize) -> u
     finish
 }
 
+// How many cells the netlist of an accepted program has: 27 before those of its statement, and the last sixteen.
+fn count_main(program: &[u8], ends: &[usize; 200]) -> usize
+    requires { ⌜ Main (now program) (now ends) ⌝ }
+    ensures cells { λ r. ⌜ r ≡ plainCount (now (program .entry)) ⌝ }
+    ensures few { λ r. ⌜ r ≤ 7043 ⌝ }
+{
+    43 + (counts::count_stmt(program, ends, 0) as usize)
+}
+
 // How many cells the functional netlist of an accepted program has; its file takes 512 bytes for every 84 of them.
 pub fn count_cells(options: Options, program: &[u8]) -> usize
     requires { ⌜ checkFunctionalCall options (now program) ≡ Accepted ⌝ }
@@ -122,7 +131,7 @@ pub fn count_cells(options: Options, program: &[u8]) -> usize
 {
     let told = program::scan_functional(options, program);
     let ends = told.ends;
-    43 + (counts::count_stmt(program, &ends, 0) as usize)
+    count_main(program, &ends)
 }
 
 // Writes the functional netlist file of an accepted program into a buffer that is long enough; answers its length.
@@ -133,7 +142,7 @@ pub fn compile_accepted(options: Options, program: &[u8], file: &mut [u8]) -> us
 {
     let told = program::scan_functional(options, program);
     let ends = told.ends;
-    let n = 43 + (counts::count_stmt(program, &ends, 0) as usize);
+    let n = count_main(program, &ends);
     put_file(file, program, &ends, n);
     BLOCK * ((n + BLOCK_LAST) / BLOCK_CELLS)
 }
@@ -149,7 +158,7 @@ pub fn compile(options: Options, program: &[u8], file: &mut [u8]) -> Written
         return Written::Refused(r);
     }
     let ends = told.ends;
-    let n = 43 + (counts::count_stmt(program, &ends, 0) as usize);
+    let n = count_main(program, &ends);
     let count = BLOCK * ((n + BLOCK_LAST) / BLOCK_CELLS);
     if file.len() < count {
         return Written::Refused(Refusal {

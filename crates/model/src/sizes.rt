@@ -16,12 +16,9 @@ pub const MOST_CELLS: usize = 16384;
 
 pub const FILE_MOST: usize = 196 * BLOCK;
 
-// A list of cells, of any netlist and of a compiled one.
-pub const LIST_MOST: usize = MOST_CELLS * CELL;
-
+// A list of the cells of any imperative program, and room for its file and its state.
 pub const COMPILED_MOST: usize = 3762;
 
-// Room for the file and the state of any imperative program.
 pub const COMPILED_FILE: usize = 6656;
 
 pub const COMPILED_STATE: usize = 41480;
@@ -37,12 +34,10 @@ pub const LINE: usize = 32;
 
 pub const ELEMENTS: usize = 512;
 
-// A compact state: a cell, its line's number, the longest state.
+// A compact state: a cell, and its line's number.
 pub const COMPACT_CELL: usize = 8;
 
 pub const COMPACT_LEFT: usize = 6;
-
-pub const COMPACT_MOST: usize = STATE_HEADER + MOST_CELLS * COMPACT_CELL + ELEMENTS;
 
 // A program, a text, the start words, a run.
 pub const NODE: usize = 4;

@@ -16,7 +16,7 @@ use Rattle.laws.specs.Circuit.Ordered.{Ordered, In, Looks, array, kinds}
 use Rattle.laws.specs.NetlistFile.Passed.{count-cells}
 use Rattle.netlist.specs.declared.header.Header.{Header}
 use Rattle.netlist.proofs.Headers.{header-count, header-finish, header-pulse}
-use Rattle.state.specs.Stands.{Stands, Sees}
+use Rattle.state.specs.Stands.{Stands}
 use Rattle.state.proofs.Standing.{stands-in}
 use Rattle.state.proofs.Files.{Sized, sized, file-cell, file-room, file-ordered}
 use Rattle.simulator.specs.Fits.{Fits, Holds}

@@ -79,10 +79,10 @@ module _ (F : Format) (net : Netlist) (starts : Bool) (f : ℕ) where
       turned : C n s ≡ later count (C (suc (n - (count + 1))) t)
       turned = p .rest ∙ ap (λ (m : ℕ). later count (C m t)) left
 
-      pub going-crowded : (r : Refusal) → crowding F net t u ≡ Refused r → (C n s .check ≡ Refused r) × (C n s .count ≡ count)
+      pub going-crowded : (r : Refusal) → crowding F net t u ≡ Refused r → C n s ≡ course (Refused r) t count
       going-crowded r e =
-          let z : C n s ≡ course (Refused r) t (count + 0) = turned ∙ ap (later count) (crowded-turn (n - (count + 1)) t r e) in
-          (ap (λ (c : Course). c .check) z, ap (λ (c : Course). c .count) z ∙ omega arith)
+          let z : count + 0 ≡ count = omega arith in
+          turned ∙ ap (later count) (crowded-turn (n - (count + 1)) t r e) ∙ ap (course (Refused r) t) z
 
       pub going-high : crowding F net t u ≡ Accepted → high (nowAt F u f) ≡ true → C n s ≡ course Accepted u (count + 1)
       going-high e h = turned ∙ ap (later count) (high-turn (n - (count + 1)) t e h)

@@ -30,6 +30,7 @@ use Rattle.laws.specs.State.Flight.{comesIn, goesOut, flight-kept, flight-aged,
 use Rattle.state.specs.Stands.{Lined, Ready}
 use Rattle.state.specs.Crowds.{crowds}
 use Rattle.simulator.specs.Fits.{Spares}
+use Rattle.simulator.specs.Levels.{valued}
 use Rattle.simulator.proofs.Crowding.{crowdFault, crowding-faults, crowded-here, not-crowded-here, crowds-same, vacant-if}
 use Rattle.simulator.proofs.Passes.{Passed, passed-none, passed-more, passed-all, settled-values, settled-later}
 
@@ -119,10 +120,6 @@ module _ (F : Format) (net : Netlist) (ordered : Ordered (net .cells)) (n : ℕ)
         lines = lined-same F net s (one F s (length (net .cells))) (λ k j l a b. one-high F s (length (net .cells)) k j (omega arith) b) (h .lines);
       })
 
-  pub step-ready : (starts : Bool) (t u v : List ℕ) → Ready F net s → t ≡ put32 s 0 (instantOf s + 1) → u ≡ upTo (aged F) n t
-      → v ≡ upTo (shown F net (value F net starts)) n u → Ready F net v
-  step-ready starts t u v h a b c = rw (c, b, a) (shown-ready (value F net starts) _ (aged-ready h))
-
   -- with nothing in any line
   blank-empty : (words : ℕ → ℕ) (k : ℕ) → k < length (net .cells) → leftAt F (blank F net words s) k ≡ 0
   blank-empty words k l = cleared-zero (base F (length (net .cells))) _ (base F k + 6) (omega (arith, below F k (length (net .cells)) l, least F))
@@ -144,6 +141,12 @@ module _ (F : Format) (net : Netlist) (ordered : Ordered (net .cells)) (n : ℕ)
   begin-empty words t u a b k l =
       rw (b, a, ← e)
       (two-high F net (firstValue F net words) (blank F net words s) (length (net .cells)) k (base F k + 6) l (omega arith) (omega (arith, least F)) ∙ blank-empty words k l)
+
+pub step-ready : (F : Format) (net : Netlist) → Ordered (net .cells) → (starts : Bool) (s : List ℕ) → Ready F net s → Ready F net (valued F net starts s)
+unfolding two one ticked
+step-ready F net ordered starts s h =
+    let n = length (net .cells) in
+    shown-ready F net ordered n refl s (value F net starts) _ (aged-ready F net ordered n refl s h)
 
 -- The third pass -------------------------------------------------------------------------------------------------------------------------
 

@@ -3,6 +3,7 @@ pub mod Passes
 pub mod Crowding
 pub mod InFlight
 pub mod Stepping
+pub mod TakingBack
 pub mod ByKind
 pub mod Arrays
 pub mod Memories

@@ -1,5 +1,4 @@
 -- Passes over the cells and over the elements' start words: their turns, what they leave, and the passes of an instant together. Assumes nothing.
-use mathlib.Core.Bool.{Bool}
 use mathlib.Core.List.{List, _++_, append-assoc}
 use mathlib.Core.Logic.{_⊎_, inl, inr}
 use mathlib.Core.Path.{_≡_, refl, sym, _∙_, ap}
@@ -11,8 +10,8 @@ use lib.ListN.{length, getD, take, drop, replicate, length-take}
 use lib.Seq.{sets, sets-eq, drop-at}
 use Rattle.model.specs.Circuit.{Netlist}
 use Rattle.model.specs.declared.Format.{Format}
-use Rattle.model.specs.Word.{bytes16, put16, put32}
-use Rattle.model.specs.State.{instantOf, cellSize, base, nowAt, value, firstValue, upTo, aged, shown, settled, counted, wordBytes, blank, evaluate, beginState, stepState}
+use Rattle.model.specs.Word.{bytes16, put16}
+use Rattle.model.specs.State.{cellSize, base, nowAt, firstValue, upTo, shown, settled, counted, wordBytes, blank, evaluate, beginState}
 use Rattle.laws.specs.State.Bytes.{get16-same, upTo-frame}
 use Rattle.laws.specs.State.Lines.{below, rising}
 use Rattle.laws.specs.State.Passes.{settled-frame}
@@ -61,14 +60,8 @@ module _ (words : ℕ → ℕ) (d : List ℕ) (i x n : ℕ) where
   unfolding wordBytes
   words-done h = let e : n - x ≡ 0 = omega arith in rw e refl
 
--- the passes of one further instant, and of instant 0
+-- the passes of instant 0
 module _ (F : Format) (net : Netlist) (n : ℕ) (e : length (net .cells) ≡ n) (s : List ℕ) where
-  pub stepped : (starts : Bool) (t u v w : List ℕ) → t ≡ put32 s 0 (instantOf s + 1) → u ≡ upTo (aged F) n t → v ≡ upTo (shown F net (value F net starts)) n u
-      → w ≡ counted F net (upTo (settled F net) n v) → w ≡ stepState F net starts s
-  unfolding stepState evaluate
-  stepped starts t u v w a b c d =
-      d ∙ ap (λ (x : List ℕ). counted F net (upTo (settled F net) n x)) (c ∙ ap (upTo (shown F net (value F net starts)) n) (b ∙ ap (upTo (aged F) n) a)) ∙ rw e refl
-
   -- the elements' start words, then zeros before them
   pub blank-is : (words : ℕ → ℕ) (r t : List ℕ) → base F n + 512 ≤ length s → r ≡ sets s (base F n) (wordBytes words 16 256)
       → t ≡ replicate (base F n) 0 ++ drop (base F n) r → t ≡ blank F net words s

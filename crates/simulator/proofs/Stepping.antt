@@ -27,7 +27,7 @@ use Rattle.laws.specs.State.Passes.{ticked, one, two, three, one-high, two-high
 use Rattle.netlist.specs.declared.header.Header.{Header}
 use Rattle.state.specs.Stands.{Ready}
 use Rattle.simulator.specs.Fits.{Spares, Continues}
-use Rattle.simulator.specs.Levels.{continuedWith}
+use Rattle.simulator.specs.Levels.{valued, continuedWith}
 use Rattle.simulator.proofs.InFlight.{stepped-ready}
 use Rattle.simulator.proofs.Continuing.{Going, going-none, going-low, again}
 use Rattle.simulator.proofs.Passes.{settled-values}
@@ -43,32 +43,40 @@ unfolding crowded
 crowded-same net s t v k a b = rw (a, b) refl
 
 module _ (F : Format) (net : Netlist) (starts : Bool) (s : List ℕ) where
-  -- the state before the third pass
-  abbrev v : List ℕ
-  v = two F net (value F net starts) (one F s (length (net .cells))) (length (net .cells))
+  -- the passes that lead to it
+  pub valued-is : (n : ℕ) → length (net .cells) ≡ n → (t u r : List ℕ) → t ≡ put32 s 0 (instantOf s + 1) → u ≡ upTo (aged F) n t
+      → r ≡ upTo (shown F net (value F net starts)) n u → r ≡ valued F net starts s
+  unfolding two one ticked
+  valued-is n e t u r a b c = rw (e, c, b, a) refl
+
+  -- the third pass from there
+  pub stepped : (n : ℕ) → length (net .cells) ≡ n → (r t : List ℕ) → r ≡ valued F net starts s → t ≡ counted F net (upTo (settled F net) n r) → t ≡ stepState F net starts s
+  unfolding three
+  stepped n e r t a b = b ∙ ap₂ (λ (m : ℕ) (x : List ℕ). counted F net (upTo (settled F net) m x)) (sym e) a ∙ sym (step-is F net starts s)
 
   -- it has the values of the state after, and the lines of the state before
-  values-after : (a : ℕ) → nowAt F v a ≡ nowAt F (stepState F net starts s) a
+  values-after : (a : ℕ) → nowAt F (valued F net starts s) a ≡ nowAt F (stepState F net starts s) a
   unfolding three
   values-after a =
+      let v = valued F net starts s in
       let w = upTo (settled F net) (length (net .cells)) v in
       sym
       (ap (λ (t : List ℕ). nowAt F t a) (step-is F net starts s)
       ∙ get16-same w (counted F net w) (base F a) (counted-other F net w (base F a) (inr (omega arith))) (counted-other F net w (base F a + 1) (inr (omega arith)))
       ∙ settled-values F net v (length (net .cells)) a)
 
-  lines-before : (k : ℕ) → k < length (net .cells) → leftAt F v k ≡ leftAt F s k
+  lines-before : (k : ℕ) → k < length (net .cells) → leftAt F (valued F net starts s) k ≡ leftAt F s k
   lines-before k l =
       two-high F net (value F net starts) (one F s (length (net .cells))) (length (net .cells)) k (base F k + 6) l (omega arith) (omega (arith, least F))
       ∙ one-high F s (length (net .cells)) k (base F k + 6) (omega arith) (omega (arith, least F))
 
-crowding-passes : (F : Format) (net : Netlist) (starts : Bool) (s : List ℕ)
-    → crowding F net (v F net starts s) (v F net starts s) ≡ crowding F net s (stepState F net starts s)
+pub step-crowding : (F : Format) (net : Netlist) (starts : Bool) (s : List ℕ)
+    → crowding F net (valued F net starts s) (valued F net starts s) ≡ crowding F net s (stepState F net starts s)
 unfolding crowding
-crowding-passes Full net starts s = refl
-crowding-passes Compact net starts s =
+step-crowding Full net starts s = refl
+step-crowding Compact net starts s =
     faults-same _ _ 0 (length (net .cells))
-    (λ k a b. crowded-same net s (stepState Compact net starts s) (v Compact net starts s) k (values-after Compact net starts s (cellAt (net .cells) k .a)) (lines-before Compact net starts s k (omega arith)))
+    (λ k a b. crowded-same net s (stepState Compact net starts s) (valued Compact net starts s) k (values-after Compact net starts s (cellAt (net .cells) k .a)) (lines-before Compact net starts s k (omega arith)))
 
 module _ (F : Format) (net : Netlist) (ordered : Ordered (net .cells)) where
   -- an array's word stands before what is behind the state
@@ -84,48 +92,36 @@ module _ (F : Format) (net : Netlist) (ordered : Ordered (net .cells)) where
   shown-behind : (w : List ℕ → ℕ → ℕ) (t : List ℕ) (k : ℕ) → k < length (net .cells) → (j : ℕ) → base F (length (net .cells)) + 512 ≤ j → getD (shown F net w t k) j 0 ≡ getD t j 0
   shown-behind w t k l j h = shown-put F net w t k j (inr (omega (arith, below F k (length (net .cells)) l, least F))) ∙ stored-behind t k l j h
 
-  module _ (n : ℕ) (e : length (net .cells) ≡ n) (starts : Bool) (s t u r : List ℕ) (a : t ≡ put32 s 0 (instantOf s + 1)) (b : u ≡ upTo (aged F) n t)
-      (c : r ≡ upTo (shown F net (value F net starts)) n u) where
-    passes : r ≡ v F net starts s
-    unfolding two one ticked
-    passes = rw (e, c, b, a) refl
-
-    pub step-crowding : crowding F net r r ≡ crowding F net s (stepState F net starts s)
-    step-crowding = ap (λ (x : List ℕ). crowding F net x x) passes ∙ crowding-passes F net starts s
-
-    pub step-spares : Spares F n s r
-    unfolding two
-    step-spares j h =
-        ap (λ (x : List ℕ). getD x j 0) passes
-        ∙ upTo-frame (shown F net (value F net starts)) j (length (net .cells)) (one F s (length (net .cells))) (λ x k l. shown-behind (value F net starts) x k l j (rw e h))
-        ∙ one-behind F s (length (net .cells)) j (rw e (omega arith))
+  pub step-spares : (starts : Bool) (s : List ℕ) → Spares F (length (net .cells)) s (valued F net starts s)
+  unfolding two
+  step-spares starts s j h =
+      upTo-frame (shown F net (value F net starts)) j (length (net .cells)) (one F s (length (net .cells))) (λ x k l. shown-behind (value F net starts) x k l j h)
+      ∙ one-behind F s (length (net .cells)) j (omega arith)
 
 -- Instants one after another -------------------------------------------------------------------------------------------------------------
 
--- of n instants from s on, count are done, and t is the state so far, of m cells
-pub record Underway (F : Format) (net : Netlist) (m : ℕ) (starts : Bool) (f n : ℕ) (s t : List ℕ) (count : ℕ) : Type 0 where
+-- of n instants from s on, count are done, and t is the state so far
+pub record Underway (F : Format) (net : Netlist) (starts : Bool) (f n : ℕ) (s t : List ℕ) (count : ℕ) : Type 0 where
   pub long : length t ≡ length s
   pub bytes : (j : ℕ) → getD t j 0 < 256
   pub instant : instantOf t + (n - count) ≤ 1000000
   pub ready : Ready F net t
-  pub spares : Spares F m s t
   pub going : Going F net starts f n s t count
 
-module _ {F : Format} {net : Netlist} {m : ℕ} {starts : Bool} {f n : ℕ} {s : List ℕ} where
-  pub underway-none : ((j : ℕ) → getD s j 0 < 256) → instantOf s + n ≤ 1000000 → Ready F net s → Underway F net m starts f n s s 0
-  underway-none b h r = record { long = refl; bytes = b; instant = omega arith; ready = r; spares = λ j l. refl; going = going-none F net starts f n s }
+module _ {F : Format} {net : Netlist} {starts : Bool} {f n : ℕ} {s : List ℕ} where
+  pub underway-none : ((j : ℕ) → getD s j 0 < 256) → instantOf s + n ≤ 1000000 → Ready F net s → Underway F net starts f n s s 0
+  underway-none b h r = record { long = refl; bytes = b; instant = omega arith; ready = r; going = going-none F net starts f n s }
 
-  pub underway-more : {t : List ℕ} {count : ℕ} (p : Underway F net m starts f n s t count) → count < n → Ordered (net .cells) → length (net .cells) ≡ m → base F m + 512 ≤ length s
+  pub underway-more : {t : List ℕ} {count : ℕ} (p : Underway F net starts f n s t count) → count < n → Ordered (net .cells) → base F (length (net .cells)) + 512 ≤ length s
       → (u : List ℕ) → length u ≡ length t → ((j : ℕ) → getD u j 0 < 256) → crowding F net t (stepState F net starts t) ≡ Accepted → u ≡ stepState F net starts t
-      → Spares F m t u → high (nowAt F u f) ≡ false → Underway F net m starts f n s u (count + 1)
-  underway-more {t} {count} p l ordered e room u long bytes free is spares low =
+      → high (nowAt F u f) ≡ false → Underway F net starts f n s u (count + 1)
+  underway-more {t} {count} p l ordered room u long bytes free is low =
       let now : instantOf (stepState F net starts t) ≡ instantOf t + 1 = count-now F net starts t (omega (arith, p .long)) in
       record {
         long = long ∙ p .long;
         bytes = bytes;
         instant = rw is (omega (arith, now, p .instant));
-        ready = stepped-ready F net ordered starts t u (rw e (omega (arith, p .long))) (p .bytes) (p .ready) is;
-        spares = λ j h. spares j h ∙ p .spares j h;
+        ready = stepped-ready F net ordered starts t u (omega (arith, p .long)) (p .bytes) (p .ready) is;
         going = rw is (going-low F net starts f (p .going) l free (rw is at low));
       }
 

@@ -77,11 +77,11 @@ fn show_first(format: Format, file: &[u8], h: Header, words: &[u8], state: &mut 
     while k < n {
         let c = netlist::cells::cell_from(file, at);
         let v = first_value(format, file, h, c, words, state, k, j);
-        instant::store(format, file, h, c, state, k);
+        at = netlist::cells::next_offset(at);
+        instant::store(format, file, h, c, at, state, k);
         let to = wires::base(format, k);
         word::put16(state, to, v);
         j += word::bit(c.kind == 40) as usize;
-        at = netlist::cells::next_offset(at);
         k += 1;
     }
 }

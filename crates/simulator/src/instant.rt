@@ -2,16 +2,20 @@
 // Three passes over the cells, each an equation with `upTo` of model/State. The third keeps the number in flight: it adds what comes in and
 // takes off what goes out, cell by cell; and it looks for refusal 26 on its way, where it leaves the instant unfinished.
 ghost use mathlib.Core.Path.{_≡_};
-ghost use Prim.Native.Nat.{ℕ, _+_, _*_, _<_, _≤_};
+ghost use Prim.Native.Nat.{_+_, _*_, _<_, _≤_};
 ghost use lib.ListN.{length};
-ghost use Rattle.model.specs.declared.Checked.the-variants.{Accepted};
+ghost use Rattle.model.specs.declared.Checked.the-variants.{Accepted, Refused};
+ghost use Rattle.model.specs.declared.Refusal.{Refusal};
 ghost use Rattle.model.specs.Word.{elementOf, put32};
 ghost use Rattle.model.specs.Circuit.{cellAt, shape};
 ghost use Rattle.model.specs.State.{elementNow, instantOf, nextValue, value, upTo, aged, stored, shown, settle, settled, counted, crowding, base, stepState};
-ghost use Rattle.model.specs.NetlistFile.{cellLimit, cellsOf, netOf};
+ghost use Rattle.model.specs.NetlistFile.{cellLimit, inFile, cellsOf, netOf};
 ghost use Rattle.laws.specs.State.Flight.{comesIn, goesOut};
 ghost use Rattle.state.specs.Stands.{Stands, Sees, Ready};
 ghost use Rattle.simulator.specs.Fits.{Fits, Holds, Spares};
+ghost use Rattle.simulator.specs.Keeping.{Roomy};
+ghost use Rattle.simulator.specs.Levels.{valued};
+use crate::keeping;
 use model::Cell;
 use model::Checked;
 use model::Format;
@@ -82,16 +86,24 @@ pub fn next_value(
     }
 }
 
-// A 42 whose clock falls takes a word in, from the data and the address of an instant ago.
-pub fn store(format: Format, file: &[u8], h: Header, c: Cell, state: &mut [u8], k: usize)
-    requires { ⌜ Holds format (now file) h (now state) k c ⌝ }
+// A 42 whose clock falls takes a word in, from the data and the address of an instant ago. The cell behind it, which names the address, begins at next.
+pub fn store(
+    format: Format,
+    file: &[u8],
+    h: Header,
+    c: Cell,
+    next: usize,
+    state: &mut [u8],
+    k: usize,
+)
+    requires { ⌜ Holds format (now file) h (now state) k c × (next ≡ inFile (k + 1)) ⌝ }
     ensures { λ _. ⌜ now (state .exit) ≡ stored format (netOf (now (file .entry))) (now (state .entry)) k ⌝ }
 {
     let kind = c.kind;
     if kind == 42 {
         if wires::has_fallen(format, state, c.a as usize) {
-            let next = netlist::cells::cell_at(file, Layout::InFile, k + 1);
-            let w = wires::before_at(format, state, next.a as usize);
+            let address = netlist::cells::cell_from(file, next);
+            let w = wires::before_at(format, state, address.a as usize);
             let v = wires::before_at(format, state, c.b as usize);
             let place = wires::element_place(format, h.count, c.delay as usize, w);
             word::put16(state, place, v);
@@ -172,10 +184,10 @@ fn show_all(format: Format, file: &[u8], h: Header, starts: bool, state: &mut [u
     while k < n {
         let c = netlist::cells::cell_from(file, at);
         let v = next_value(format, file, h, starts, c, state, k);
-        store(format, file, h, c, state, k);
+        at = netlist::cells::next_offset(at);
+        store(format, file, h, c, at, state, k);
         let to = wires::base(format, k);
         word::put16(state, to, v);
-        at = netlist::cells::next_offset(at);
         k += 1;
     }
 }
@@ -209,15 +221,40 @@ pub fn settle_all(format: Format, file: &[u8], h: Header, state: &mut [u8]) -> C
     Checked::Accepted
 }
 
-// One further instant, with a start pulse or without. Where 26 ends it, the state is at no instant.
-pub fn step(format: Format, file: &[u8], h: Header, starts: bool, state: &mut [u8]) -> Checked
-    requires { ⌜ Fits format (now file) h (now state) × (instantOf (now state) < 1000000) × Ready format (netOf (now file)) (now state) ⌝ }
-    ensures check { λ r. ⌜ r ≡ crowding format (netOf (now (file .entry))) (now (state .entry)) (stepState format (netOf (now (file .entry))) starts (now (state .entry))) ⌝ }
-    ensures state { λ r. ⌜ (r ≡ Accepted → now (state .exit) ≡ stepState format (netOf (now (file .entry))) starts (now (state .entry))) ⌝ }
-    ensures spares { λ _. ⌜ Spares format (h .count) (now (state .entry)) (now (state .exit)) ⌝ }
+// The first two passes: each cell shows its value of the next instant.
+fn show(format: Format, file: &[u8], h: Header, starts: bool, state: &mut [u8])
+    requires { ⌜ Fits format (now file) h (now state) × (instantOf (now state) < 1000000) ⌝ }
+    ensures { λ _. ⌜ now (state .exit) ≡ valued format (netOf (now (file .entry))) starts (now (state .entry)) ⌝ }
 {
     tick(state);
     age_all(format, state, h.count);
     show_all(format, file, h, starts, state);
+}
+
+// One further instant, with a start pulse or without. Where 26 ends it, the state is as it was if there is room to keep what the instant overwrites, and
+// else at no instant.
+pub fn step(
+    format: Format,
+    file: &[u8],
+    h: Header,
+    starts: bool,
+    state: &mut [u8],
+    kept: &mut [u8],
+) -> Checked
+    requires { ⌜ Fits format (now file) h (now state) × (instantOf (now state) < 1000000) × Ready format (netOf (now file)) (now state) ⌝ }
+    ensures check { λ r. ⌜ r ≡ crowding format (netOf (now (file .entry))) (now (state .entry)) (stepState format (netOf (now (file .entry))) starts (now (state .entry))) ⌝ }
+    ensures state { λ r. ⌜ (r ≡ Accepted → now (state .exit) ≡ stepState format (netOf (now (file .entry))) starts (now (state .entry))) ⌝ }
+    ensures spares { λ _. ⌜ Spares format (h .count) (now (state .entry)) (now (state .exit)) ⌝ }
+    ensures back { λ r. ⌜ (Roomy (now (kept .entry)) → (q : Refusal) → r ≡ Refused q → now (state .exit) ≡ now (state .entry)) ⌝ }
+{
+    keeping::keep(format, kept, state, h.count);
+    show(format, file, h, starts, state);
+    if keeping::KEPT <= kept.len() {
+        let checked = keeping::check_lines(format, file, h, state);
+        if let Checked::Refused(r) = checked {
+            keeping::take_back(format, state, kept, h.count);
+            return Checked::Refused(r);
+        }
+    }
     settle_all(format, file, h, state)
 }

@@ -3,6 +3,7 @@
 ghost use mathlib.Core.Path.{_≡_};
 ghost use Rattle.model.specs.Calls.{refusedAnswer, beginCall, continueCall, startCall, runNetlistCall};
 
+pub mod keeping; // an instant taken back
 pub mod instant; // one further instant
 pub mod beginning; // instant 0
 pub mod runs; // runs of a file that is accepted

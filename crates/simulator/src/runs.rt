@@ -2,7 +2,6 @@
 ghost use mathlib.Core.Path.{_≡_};
 ghost use Prim.Native.Nat.{_+_, _≤_};
 ghost use lib.ListN.{length};
-ghost use lib.Seq.{paste};
 ghost use Rattle.model.specs.declared.Checked.the-variants.{Accepted};
 ghost use Rattle.model.specs.declared.Format.the-variants.{Full, Compact};
 ghost use Rattle.model.specs.NetlistFile.{cellsOf, finishOf, netOf};
@@ -10,19 +9,28 @@ ghost use Rattle.model.specs.State.{instantOf, beginState, wordsIn};
 ghost use Rattle.model.specs.Calls.{wordAt, shows, fullState, fullCount};
 ghost use Rattle.state.specs.Stands.{Runs, Ready};
 ghost use Rattle.simulator.specs.Fits.{Fits, Spares, Continues};
+ghost use Rattle.simulator.specs.Keeping.{Roomy};
 ghost use Rattle.simulator.specs.Levels.{continuedWith, told};
 use crate::beginning;
 use crate::instant;
+use crate::keeping;
+use crate::keeping::KEPT;
 use model::Answer;
 use model::Checked;
 use model::Format;
 use model::Outcome;
 use model::sizes::BLOCK_HEADER;
-use model::sizes::COMPACT_MOST;
+use model::sizes::COMPACT_CELL;
 use model::sizes::ELEMENTS;
+use model::sizes::STATE_HEADER;
 use netlist::header;
 use netlist::header::Header;
 use state::wires;
+
+// The most cells of a netlist whose compact state is kept whole during a continuing, and the bytes of their state.
+const FEW: usize = 1024;
+
+const WHOLE: usize = STATE_HEADER + FEW * COMPACT_CELL + ELEMENTS;
 
 // How a continuing went: whether 26 ended it, and how many instants it evaluated.
 pub struct Went {
@@ -33,7 +41,8 @@ pub struct Went {
 // Continuing -----------------------------------------------------------------------------------------------------------------------------
 
 // Further instants, each with a start pulse or each without, until the finish is high or the budget is used; counts those that it
-// evaluates. Where 26 ends it, the state is at no instant. The one caller of `step`, so that a step is compiled into its loop.
+// evaluates. Where 26 ends it, the state is at the last good instant if there is room to keep what an instant overwrites, and else at no instant.
+// The one caller of `step`, so that a step is compiled into its loop.
 fn continue_state(
     format: Format,
     file: &[u8],
@@ -41,16 +50,18 @@ fn continue_state(
     starts: bool,
     state: &mut [u8],
     budget: u32,
+    kept: &mut [u8],
 ) -> Went
     requires { ⌜ Continues format (now file) h budget (now state) ⌝ }
     ensures check { λ r. ⌜ r .checked ≡ continuedWith format (netOf (now (file .entry))) starts (finishOf (now (file .entry))) budget (now (state .entry)) .check ⌝ }
     ensures count { λ r. ⌜ r .count ≡ continuedWith format (netOf (now (file .entry))) starts (finishOf (now (file .entry))) budget (now (state .entry)) .count ⌝ }
     ensures state { λ r. ⌜ (r .checked ≡ Accepted → now (state .exit) ≡ continuedWith format (netOf (now (file .entry))) starts (finishOf (now (file .entry))) budget (now (state .entry)) .state) ⌝ }
     ensures spares { λ _. ⌜ Spares format (h .count) (now (state .entry)) (now (state .exit)) ⌝ }
+    ensures back { λ r. ⌜ (Roomy (now (kept .entry)) → now (state .exit) ≡ continuedWith format (netOf (now (file .entry))) starts (finishOf (now (file .entry))) budget (now (state .entry)) .state) ⌝ }
 {
     let mut count: u32 = 0;
     while count < budget {
-        let checked = instant::step(format, file, h, starts, state);
+        let checked = instant::step(format, file, h, starts, state, kept);
         if let Checked::Refused(r) = checked {
             return Went {
                 checked: Checked::Refused(r),
@@ -71,40 +82,51 @@ fn continue_state(
     }
 }
 
-// The first n bytes become those of another list.
-fn copy(to: &mut [u8], from: &[u8], n: usize)
-    requires { ⌜ (n ≤ length (now to)) × (n ≤ length (now from)) ⌝ }
-    ensures { λ _. ⌜ now (to .exit) ≡ paste (now (to .entry)) 0 (now (from .entry)) n ⌝ }
-{
-    let mut i: usize = 0;
-    while i < n {
-        to[i] = from[i];
-        i += 1;
-    }
-}
-
-// The same on a compact state, which is left at the last good instant: where 26 ends it, the state is put back as it was, and its good
-// instants are evaluated again. So no instant costs a copy.
-fn continue_compact(file: &[u8], h: Header, starts: bool, state: &mut [u8], budget: u32) -> Went
-    requires { ⌜ Continues Compact (now file) h budget (now state) ⌝ }
+// The same on a compact state of few cells, which is left at the last good instant: where 26 ends it, the state is put back as it was, and its good
+// instants are evaluated again. So no instant costs anything.
+fn continue_again(file: &[u8], h: Header, starts: bool, state: &mut [u8], budget: u32) -> Went
+    requires { ⌜ Continues Compact (now file) h budget (now state) × (h .count ≤ 1024) ⌝ }
     ensures check { λ r. ⌜ r .checked ≡ continuedWith Compact (netOf (now (file .entry))) starts (finishOf (now (file .entry))) budget (now (state .entry)) .check ⌝ }
     ensures count { λ r. ⌜ r .count ≡ continuedWith Compact (netOf (now (file .entry))) starts (finishOf (now (file .entry))) budget (now (state .entry)) .count ⌝ }
     ensures state { λ _. ⌜ now (state .exit) ≡ continuedWith Compact (netOf (now (file .entry))) starts (finishOf (now (file .entry))) budget (now (state .entry)) .state ⌝ }
 {
-    let mut kept = [0u8; COMPACT_MOST];
+    let mut none = [0u8; 0];
+    let mut whole = [0u8; WHOLE];
     let size = wires::base(Format::Compact, h.count) + ELEMENTS;
-    copy(&mut kept, state, size);
-    let went = continue_state(Format::Compact, file, h, starts, state, budget);
+    keeping::copy(&mut whole, 0, state, 0, size);
+    let went = continue_state(Format::Compact, file, h, starts, state, budget, &mut none);
     let checked = went.checked;
     if let Checked::Refused(r) = checked {
-        copy(state, &kept, size);
-        continue_state(Format::Compact, file, h, starts, state, went.count);
+        keeping::copy(state, 0, &whole, 0, size);
+        continue_state(
+            Format::Compact,
+            file,
+            h,
+            starts,
+            state,
+            went.count,
+            &mut none,
+        );
         return Went {
             checked: Checked::Refused(r),
             count: went.count,
         };
     }
     went
+}
+
+// The same on any compact state.
+fn continue_compact(file: &[u8], h: Header, starts: bool, state: &mut [u8], budget: u32) -> Went
+    requires { ⌜ Continues Compact (now file) h budget (now state) ⌝ }
+    ensures check { λ r. ⌜ r .checked ≡ continuedWith Compact (netOf (now (file .entry))) starts (finishOf (now (file .entry))) budget (now (state .entry)) .check ⌝ }
+    ensures count { λ r. ⌜ r .count ≡ continuedWith Compact (netOf (now (file .entry))) starts (finishOf (now (file .entry))) budget (now (state .entry)) .count ⌝ }
+    ensures state { λ _. ⌜ now (state .exit) ≡ continuedWith Compact (netOf (now (file .entry))) starts (finishOf (now (file .entry))) budget (now (state .entry)) .state ⌝ }
+{
+    if h.count <= FEW {
+        return continue_again(file, h, starts, state, budget);
+    }
+    let mut kept = [0u8; KEPT];
+    continue_state(Format::Compact, file, h, starts, state, budget, &mut kept)
 }
 
 // The same in either format; 26 never ends it on a full state.
@@ -122,7 +144,10 @@ fn continue_in(
     ensures state { λ _. ⌜ now (state .exit) ≡ continuedWith format (netOf (now (file .entry))) starts (finishOf (now (file .entry))) budget (now (state .entry)) .state ⌝ }
 {
     match format {
-        Format::Full => continue_state(Format::Full, file, h, starts, state, budget),
+        Format::Full => {
+            let mut none = [0u8; 0];
+            continue_state(Format::Full, file, h, starts, state, budget, &mut none)
+        }
         Format::Compact => continue_compact(file, h, starts, state, budget),
     }
 }

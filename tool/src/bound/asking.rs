@@ -5,7 +5,7 @@ use super::{Found, Lack, Span, Takes, Want};
 use crate::preorder::{children, roots, subtree_end};
 use crate::product;
 use crate::store::{LENGTH, VARIABLES};
-use crate::types::{Beside, Node};
+use crate::types::{Beside, Node, Wiring};
 
 /// The longest run that is asked for.
 const BUDGET: u32 = 1_000_000;
@@ -155,9 +155,14 @@ impl<'n> Asking<'n> {
         let bodies = &self.bodies[want as usize];
         let bodies = bodies.iter().map(|body| body.clone().unwrap_or(vec![OK]));
         let mut nodes: Vec<Node> = bodies.flatten().collect();
-        nodes.extend([node(LOOP, u8::MAX, 0), SEQUENCE]);
-        nodes.extend(statement);
-        nodes.push(EXIT);
+        // In a program for a functional circuit no exit is left.
+        if self.beside.wiring == Wiring::Functional {
+            nodes.extend(statement);
+        } else {
+            nodes.extend([node(LOOP, u8::MAX, 0), SEQUENCE]);
+            nodes.extend(statement);
+            nodes.push(EXIT);
+        }
         let program = product::program_bytes(&nodes);
         let beside = Beside {
             procedures: self.bodies[want as usize].len(),

@@ -15,8 +15,8 @@ pub const COMMAND: Command = Command {
         "FILE is a netlist, NAME.net, or a program that is compiled first. Told is also how many\n\
            pulses are in flight, or that the hub is idle. With --compact the state has 8 bytes for\n\
            each cell and not 40, with room for one pulse in each delay, which is enough for every\n\
-           program. Behind the state stands of which netlist it is; with --bare it stands alone,\n\
-           as a hub has it. The exit status is 0.",
+           program. Behind the state stands of which netlist it is, and whether it was begun with\n\
+           --functional; with --bare it stands alone, as a hub has it. The exit status is 0.",
     example: "hub begin two_boards.net x0=3 x1=5 -o two_boards.state",
     options: Options::of_circuit(&["o", "start"], &["all", "bare", "compact"]),
     run,

@@ -6,7 +6,7 @@ use crate::bound::{bounds, Bound, Span, Takes};
 use crate::input::Given;
 use crate::json::Json;
 use crate::labels::Labels;
-use crate::types::Done;
+use crate::types::{Done, Wiring};
 
 pub const COMMAND: Command = Command {
     name: "bound",
@@ -50,8 +50,12 @@ fn run(args: &Args) -> Result<Done, Stop> {
         text += &format!("  {place:8}  {head:43}  {told}\n");
     }
     let name = &given.name;
+    let of = match given.aside.wiring {
+        Wiring::Imperative => "",
+        Wiring::Functional => " of the functional circuit",
+    };
     Ok(Done::printing(format!(
-        "{name}: instants, least and most\n{text}"
+        "{name}: instants{of}, least and most\n{text}"
     )))
 }
 

@@ -10,7 +10,8 @@ pub const COMMAND: Command = Command {
     usage: "FILE -o NET",
     about: "writes the netlist file of a program",
     more: "FILE is a text, NAME.outline an outline, NAME.prog a program's bytes, or --as says it\n\
-           (text, outline, program).",
+           (text, outline, program). With --functional it is the functional circuit, which hands\n\
+           words on.",
     example: "hub compile examples/two_boards.hub -o two_boards.net",
     options: Options::of_circuit(&["o"], &[]),
     run,

@@ -14,7 +14,8 @@ pub const COMMAND: Command = Command {
     about: "draws a program's circuit, or a netlist, as a picture: SVG, or DOT for Graphviz",
     more: "Each statement has a frame. Control wires are thin and dark, word wires wide and\n\
         lighter; a word or an array that is read is a flag with its name. Memories and arrays\n\
-        that nothing writes to are left out; --all draws them too.",
+        that nothing writes to are left out; --all draws them too. Of a functional circuit the\n\
+        words that the program writes are drawn as they are at its end.",
     example: "hub draw examples/two_boards.hub -o two_boards.svg",
     options: Options::of_circuit(&["o"], &["all"]),
     run,

@@ -15,7 +15,8 @@ pub const COMMAND: Command = Command {
            back, or with -o to another file; a refused one is left as it is, but a compact one that\n\
            meets refusal 26 is written as it is at the last good instant. It goes on under the\n\
            netlist that it was begun with, and no other. A bare one, which doesn't tell that, is\n\
-           taken with --bare, and with --compact if it is compact. The exit status is 0 if the\n\
+           taken with --bare, with --compact if it is compact, and with --functional if it was\n\
+           begun so. The exit status is 0 if the\n\
            finish is high, 2 if the run is still open.",
     example: "hub go two_boards.net two_boards.state --by 50",
     options: Options::of_circuit(&["by", "o"], &["all", "bare", "compact"]),

@@ -22,7 +22,8 @@ pub const COMMAND: Command = Command {
           \x20 x0=3 x1=5 -> end 96 x0=0 x1=0\n\
         'end N' is an end at that instant, 'open N' none up to it; without either the run has to\n\
         end. Words that aren't named may be as they are. Text after # is passed over. Each run is\n\
-        also held against the rules. The exit status is 1 if a case isn't as expected.",
+        also held against the rules. With --functional the functional circuit is run, whose times\n\
+        are others. The exit status is 1 if a case isn't as expected.",
     example: "hub test examples/two_boards.cases",
     options: Options::of_circuit(&[], &[]),
     run,

@@ -20,8 +20,9 @@ pub const COMMAND: Command = Command {
         chooses some of them, cells by number, elements, as a2[5], in_flight, the number of\n\
         pulses in flight, or start_left, for how many instants the start stays high; NAME=WIRE\n\
         gives a wire another name. Of a functional circuit x0 is the word at its end, x0.memory\n\
-        the start word, while1.x0 a word that a statement hands on. --starts says at which instants the hub is started again.\n\
-        Without --to the waves go to the last finish, at most 240 instants.",
+        the start word, while1.x0 a word that a statement hands on. --starts says at which\n\
+        instants the hub is started again. Without --to the waves go to the last finish, at most\n\
+        240 instants.",
     example: "hub wave examples/two_boards.hub x0=1 x1=2 --to 40",
     options: Options::of_circuit(&["from", "to", "start", "starts", "wires", "o"], &["all"]),
     run,

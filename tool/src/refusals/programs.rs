@@ -302,8 +302,7 @@ fn of_added(report: &mut Report, given: &Given, nodes: &[Node], source: Option<&
         _ => ("calls", "write the procedure's statement here"),
     };
     report.rule = format!("a functional circuit has no {thing}");
-    report.remedy =
-        format!("{instead}, or leave --functional out: the imperative circuit has them");
+    report.remedy = format!("{instead}; or take the imperative circuit, without --functional");
     show(report, given, nodes, source, &[(place, "")]);
     let such = nodes.iter().filter(|node| asking::is_added(**node)).count();
     if such > 1 {

@@ -219,6 +219,6 @@ pub const RULES: &[Rule] = &[
         28,
         Counts::Nodes,
         "a functional circuit has no arrays, no loops that exits end, and no calls",
-        "leave --functional out: the imperative circuit has them",
+        "take the imperative circuit, without --functional",
     ),
 ];

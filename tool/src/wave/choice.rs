@@ -93,11 +93,7 @@ fn of_statements(circuit: &Circuit, text: &[u8]) -> Result<Vec<Wire>, Fault> {
             });
         }
         for handed in trace.words.iter().filter(|handed| handed.node == node) {
-            let named = program.names.word(handed.variable);
-            let word = match named.as_str() {
-                "start" | "finish" => format!("x{}", handed.variable),
-                _ => named,
-            };
+            let word = program.names.word(handed.variable);
             let name = format!("{}{node}.{word}", word_of(kind));
             let about = format!("{}, {}", labels.places[node], labels.heads[node]);
             wires.push(Wire {

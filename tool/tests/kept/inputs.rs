@@ -46,6 +46,9 @@ const TEXTS: &[(&str, &str)] = &[
     ("call.hub", "call 0 @1\n"),
     ("loop.hub", "loop @1 do exit end\n"),
     ("exit.hub", "while 1 @1 do exit end\n"),
+    ("chosen.hub", "if x0 < 3 @17 then x1 := 1 @1 ; x2 := 2 @1 else x1 := x0 - 3 @17 end ;\nx3 := x1 + 1 @16\n"),
+    ("handed_on.hub", "word left, flag\nwhile left do left := left - 1 end ; flag := 1\n"),
+    ("functional.cases", "program down.hub\nx0=3 -> end 71 x0=0\nx0=0 -> end 5\n"),
 ];
 
 /// Lists of cells and outlines, by name.

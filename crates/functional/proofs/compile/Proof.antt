@@ -1,6 +1,5 @@
 -- `compile` meets its contract. Assumes nothing.
-use mathlib.Core.Path.{sym, _∙_, ap}
-use Prim.Native.Nat.{_+_}
+use mathlib.Core.Path.{sym, _∙_}
 use native.Mathlib.Omega.{arith}
 use borrow.Author.Needs.{needs}
 use Rattle.functional.proofs.Call.{scanned-main, compile-refused, compile-short, compile-done}
@@ -12,13 +11,12 @@ returns c =
     let at-scan = c .before .before .before in
     compile-refused (at-scan .before .before .before .args .options) _ _ (sym (at-scan .scan-functional .ensures .checked) ∙ c .before .checked .given .1)
 
-count-stmt-requires : tie.Need-count-stmt-requires
-count-stmt-requires c κs =
+count-main-requires : tie.Need-count-main-requires
+count-main-requires c κs =
     let at-told = c .before .before in
     let at-scan = at-told .before .before in
     let scan = at-scan .scan-functional .ensures in
-    let M = scanned-main (at-scan .before .before .before .args .options) _ (sym (scan .checked) ∙ at-told .enum-told .given .1) scan in
-    (M .laid, M .basic, M .few)
+    scanned-main (at-scan .before .before .before .args .options) _ (sym (scan .checked) ∙ at-told .enum-told .given .1) scan
 
 returns-2 : tie.Need-returns-2
 returns-2 c =
@@ -26,7 +24,7 @@ returns-2 c =
     let at-told = at-count .before .before .before in
     let at-scan = at-told .before .before in
     compile-short (at-scan .before .before .before .args .options) _ (sym (at-scan .scan-functional .ensures .checked) ∙ at-told .enum-told .given .1)
-    (ap (_+_ 43) (at-count .count-stmt .ensures)) (c .if1 .taken)
+    (at-count .count-main .ensures .0) (omega (arith, c .if1 .taken))
 
 put-file-requires : tie.Need-put-file-requires
 put-file-requires c κs =
@@ -36,7 +34,7 @@ put-file-requires c κs =
     let at-scan = at-told .before .before in
     let scan = at-scan .scan-functional .ensures in (
       scanned-main (at-scan .before .before .before .args .options) _ (sym (scan .checked) ∙ at-told .enum-told .given .1) scan,
-      ap (_+_ 43) (at-count .count-stmt .ensures),
+      at-count .count-main .ensures .0,
       omega (arith, at-if .if1 .left),
     )
 
@@ -48,7 +46,7 @@ returns-3 c =
     let at-told = at-count .before .before .before in
     let at-scan = at-told .before .before in
     compile-done (at-scan .before .before .before .args .options) _ (sym (at-scan .scan-functional .ensures .checked) ∙ at-told .enum-told .given .1)
-    (ap (_+_ 43) (at-count .count-stmt .ensures)) _ (at-if .if1 .left) (at-file .put-file .ensures .1) (at-file .put-file .ensures .0)
+    (at-count .count-main .ensures .0) _ (omega (arith, at-if .if1 .left)) (at-file .put-file .ensures .1) (at-file .put-file .ensures .0)
 
 pub compile-spec : {M : Type 1} → statement M
 compile-spec =
@@ -58,9 +56,7 @@ compile-spec =
     (λ c. search needs)
     returns
     (λ c. search needs)
-    count-stmt-requires
-    (λ c. search needs)
-    (λ c. search needs)
+    count-main-requires
     (λ c. search needs)
     (λ c. search needs)
     returns-2

@@ -6,7 +6,7 @@ use lib.ListN.{length}
 use borrow.Author.Needs.{needs}
 use Rattle.model.specs.Functional.{idleArrays}
 use Rattle.compiler.specs.Writes.{write}
-use Rattle.functional.proofs.Whole.{many-full, arrays-next, arrays-end, head-done}
+use Rattle.functional.proofs.Whole.{row-fits, arrays-next, arrays-end, head-done}
 use Rattle.functional.proofs.put_head.Statement.{statement}
 use Rattle.functional.proofs.put_head.Tie as tie
 
@@ -18,7 +18,7 @@ abbrev μ-loop : tie.MeasureT-loop
 μ-loop cells₀ k₀ cells k = 4 - k
 
 put-each-requires : tie.Need-put-each-requires Inv-loop μ-loop
-put-each-requires c κs = (omega (arith, many-full), omega arith)
+put-each-requires c κs = (row-fits _ _ _ (omega arith), omega arith)
 
 loop-holds : tie.Need-loop-holds Inv-loop μ-loop
 loop-holds c = (omega arith, refl, refl)

@@ -2,7 +2,7 @@
 use mathlib.Core.Path.{refl}
 use native.Mathlib.Omega.{arith}
 use borrow.Author.Needs.{needs}
-use Rattle.functional.proofs.Whole.{many-full, net-done}
+use Rattle.functional.proofs.Whole.{row-fits, net-done}
 use Rattle.functional.proofs.put_netlist.Statement.{statement}
 use Rattle.functional.proofs.put_netlist.Tie as tie
 
@@ -20,7 +20,7 @@ put-each-requires c κs =
     let at-head = at-stmt .before .before .before .before .before in
     let pre = at-head .before .before .before .before .pre in
     let end = at-stmt .put-stmt .ensures _ (λ x h. refl) .cell in (
-      omega (arith, many-full, end, pre .1, at-stmt .put-stmt .kept .0, at-head .put-head .kept .0),
+      row-fits _ _ _ (omega (arith, end, pre .1, at-stmt .put-stmt .kept .0, at-head .put-head .kept .0)),
       omega (arith, end, pre .0 .few),
     )
 

@@ -11,9 +11,7 @@ returns c =
     mode-refused (args .format) (args .netlist .now) (args .state .now) (continueCall (args .format) (args .netlist .now) (args .n) (args .state .now)) (c .before .before .before .before .check .ensures) (c .before .before .checked .given .1) (c .refused .ensures)
 
 retold-requires : tie.Need-retold-requires
-retold-requires c κs =
-    let args = c .before .before .before .before .before .before .before .before .before .before .args in
-    continue-runs (args .format) (args .netlist .now) (args .n) (args .state .now) (search needs) (c .before .before .before .continue-by .ensures)
+retold-requires c κs = continue-runs _ _ _ _ (search needs) (c .before .before .before .continue-by .ensures)
 
 returns-2 : tie.Need-returns-2
 returns-2 c =

@@ -12,9 +12,7 @@ returns c =
     mode-refused Full (args .netlist .now) (args .state .now) (runNetlistCall (args .netlist .now) (args .words .now) (args .budget) (args .state .now)) (c .before .before .before .before .check .ensures) (c .before .before .checked .given .1) (c .refused .ensures)
 
 retold-requires : tie.Need-retold-requires
-retold-requires c κs =
-    let args = c .before .before .before .before .before .before .before .before .before .before .before .args in
-    run-runs (args .netlist .now) (args .words .now) (args .budget) (args .state .now) (search needs) (c .before .before .before .run-netlist .ensures)
+retold-requires c κs = run-runs _ _ _ _ (search needs) (c .before .before .before .run-netlist .ensures)
 
 returns-2 : tie.Need-returns-2
 returns-2 c =

@@ -1,12 +1,10 @@
 -- `element_now` meets its contract. Assumes nothing.
-use mathlib.Core.Path.{_≡_, sym, _∙_, ap, ap₂}
-use Prim.Native.Nat.{ℕ, _+_, _*_, _<_}
+use mathlib.Core.Path.{sym, _∙_, ap, ap₂}
+use Prim.Native.Nat.{ℕ, _+_, _*_}
 use native.Mathlib.Omega.{arith}
 use borrow.Author.Needs.{needs}
 use Rattle.model.specs.declared.Cell.{Cell}
 use Rattle.model.specs.Word.{get16, elementOf}
-use Rattle.model.specs.Circuit.{cellAt}
-use Rattle.model.specs.NetlistFile.{cellsOf}
 use Rattle.model.specs.State.{base}
 use Rattle.simulator.proofs.Cells.{fits-few, fits-room, net-cell, net-length, cell-there}
 use Rattle.simulator.proofs.instant.element_now.Statement.{statement}

@@ -36,35 +36,38 @@ next-value-requires c κs =
 
 store-requires : tie.Need-store-requires Inv-loop μ-loop
 store-requires c κs =
-    let pre = c .before .before .before .before .before .before .before .before .pre in
-    let test = c .before .before .before .before .loop-test in
-    let loop = c .before .before .before .before .before .loop in
-    let cell-from = c .before .before .before .cell-from in
-    holds pre (loop .k) (test .taken) (loop .state) (loop .inv .0 .long) _ (cursor-cell pre (loop .k) (test .taken) (loop .inv .1) (cell-from .ensures))
+    let pre = c .before .before .before .before .before .before .before .before .before .pre in
+    let test = c .before .before .before .before .before .loop-test in
+    let loop = c .before .before .before .before .before .before .loop in
+    let cell-from = c .before .before .before .before .cell-from in
+    let next-offset = c .before .next-offset in (
+      holds pre (loop .k) (test .taken) (loop .state) (loop .inv .0 .long) _ (cursor-cell pre (loop .k) (test .taken) (loop .inv .1) (cell-from .ensures)),
+      follows (loop .k) (loop .inv .1) (next-offset .ensures),
+    )
 
 loop-again : tie.Need-loop-again Inv-loop μ-loop
 loop-again c =
     let test = c .before .before .before .before .before .before .before .before .before .before .before .before .before .loop-test in
-    let put16 = c .before .before .before .put16 in
-    let store = c .before .before .before .before .before .before .before .before .store in
+    let put16 = c .before .before .put16 in
+    let store = c .before .before .before .before .before .before .before .store in
     let cell-from = c .before .before .before .before .before .before .before .before .before .before .before .before .cell-from in
-    let next-offset = c .next-offset in
+    let next-offset = c .before .before .before .before .before .before .before .before .before .next-offset in
     let pre = c .before .before .before .before .before .before .before .before .before .before .before .before .before .before .before .before .before .pre in
-    let base = c .before .before .before .before .before .base in
+    let base = c .before .before .before .before .base in
     let next-value = c .before .before .before .before .before .before .before .before .before .before .next-value in
     let loop = c .before .before .before .before .before .before .before .before .before .before .before .before .before .before .loop in
     let args = c .before .before .before .before .before .before .before .before .before .before .before .before .before .before .before .before .before .args in
     let here = cursor-cell pre (loop .k) (test .taken) (loop .inv .1) (cell-from .ensures) in (
-      passed-more (loop .inv .0) (test .taken) (put16 .kept .0 ∙ store .kept .1 .1 .1 .1 .0)
+      passed-more (loop .inv .0) (test .taken) (put16 .kept .0 ∙ store .kept .1 .1 .1 .1 .1 .0)
           (put16 .ensures ∙ shown-value pre (loop .k) (test .taken) (args .starts) (loop .state) _ _ _ _ here (store .ensures) (base .ensures) (next-value .ensures)),
       follows (loop .k) (loop .inv .1) (next-offset .ensures),
     )
 
 next-offset-requires : tie.Need-next-offset-requires Inv-loop μ-loop
 next-offset-requires c κs =
-    let pre = c .before .before .before .before .before .before .before .before .before .before .before .before .before .before .before .before .pre in
-    let loop = c .before .before .before .before .before .before .before .before .before .before .before .before .before .loop in
-    cursor-low pre (loop .k) (c .before .before .before .before .before .before .before .before .before .before .before .before .loop-test .taken) (loop .inv .1)
+    let pre = c .before .before .before .before .before .before .before .pre in
+    let loop = c .before .before .before .before .loop in
+    cursor-low pre (loop .k) (c .before .before .before .loop-test .taken) (loop .inv .1)
 
 same-length : tie.Need-same-length Inv-loop μ-loop
 same-length c = c .before .loop .inv .0 .long
@@ -74,19 +77,19 @@ returns c = passed-all (c .before .loop .inv .0) (c .loop-test .left)
 
 base-requires : tie.Need-base-requires Inv-loop μ-loop
 base-requires c κs =
-    let pre = c .before .before .before .before .before .before .before .before .before .before .before .pre in
-    let test = c .before .before .before .before .before .before .before .loop-test in
+    let pre = c .before .before .before .before .before .before .before .before .before .before .before .before .pre in
+    let test = c .before .before .before .before .before .before .before .before .loop-test in
     omega (arith, fits-few pre, test .taken)
 
 put16-requires : tie.Need-put16-requires Inv-loop μ-loop
 put16-requires c κs =
-    let args = c .before .before .before .before .before .before .before .before .before .before .before .before .before .args in
-    let loop = c .before .before .before .before .before .before .before .before .before .before .loop in
-    let test = c .before .before .before .before .before .before .before .before .before .loop-test in
-    let pre = c .before .before .before .before .before .before .before .before .before .before .before .before .before .pre in
+    let args = c .before .before .before .before .before .before .before .before .before .before .before .before .before .before .args in
+    let loop = c .before .before .before .before .before .before .before .before .before .before .before .loop in
+    let test = c .before .before .before .before .before .before .before .before .before .before .loop-test in
+    let pre = c .before .before .before .before .before .before .before .before .before .before .before .before .before .before .pre in
     let store = c .before .before .before .before .store in
     let st = stands-in (args .format) (loop .state) (loop .k) (args .h .count) (test .taken) (fits-few pre) (omega (arith, fits-room pre, loop .inv .0 .long)) in
-    omega (arith, c .before .base .ensures, st .front, store .kept .1 .1 .1 .1 .0)
+    omega (arith, c .before .base .ensures, st .front, store .kept .1 .1 .1 .1 .1 .0)
 
 pub show-all-spec : {M : Type 1} → statement M
 show-all-spec =
@@ -97,10 +100,10 @@ show-all-spec =
     loop-holds
     cell-from-requires
     next-value-requires
+    next-offset-requires
     store-requires
     base-requires
     put16-requires
-    next-offset-requires
     (λ c. omega arith)
     (λ c. omega arith)
     loop-again

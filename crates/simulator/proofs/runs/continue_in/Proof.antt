@@ -9,10 +9,10 @@ use Rattle.simulator.proofs.runs.continue_in.Tie as tie
 
 continue-state-requires : tie.Need-continue-state-requires
 continue-state-requires c κs =
-    let pre = c .before .before .before .before .before .pre in
-    let args = c .before .before .before .before .before .args in
+    let pre = c .before .before .before .before .before .before .pre in
+    let args = c .before .before .before .before .before .before .args in
     let asks : Continues (args .format) (args .file .now) (args .h) (args .budget) (args .state .now) = pre in
-    rw (c .before .enum-told .given .1) at asks
+    rw (c .before .before .enum-told .given .1) at asks
 
 continue-compact-requires : tie.Need-continue-compact-requires
 continue-compact-requires c κs =
@@ -23,9 +23,9 @@ continue-compact-requires c κs =
 
 returns : tie.Need-returns
 returns c =
-    let enum-told = c .before .before .before .before .enum-told in
-    let args = c .before .before .before .before .before .before .before .before .args in
-    let went = c .before .before .continue-state .ensures in
+    let enum-told = c .before .before .before .before .before .before .enum-told in
+    let args = c .before .before .before .before .before .before .before .before .before .before .args in
+    let went = c .before .before .before .continue-state .ensures in
     let accepted = went .0 ∙ full-accepted (netOf (args .file .now)) (args .starts) (finishOf (args .file .now)) (args .budget) (args .state .now) in
     rw (enum-told .given .1) (went .0, (went .1 .0, went .1 .1 .0 accepted))
 
@@ -38,6 +38,7 @@ pub continue-in-spec : {M : Type 1} → statement M
 continue-in-spec =
     tie.close
     (tie.spec
+    (λ c. search needs)
     (λ c. search needs)
     continue-state-requires
     (λ c. search needs)

@@ -85,8 +85,9 @@ module _ (t : ℕ) where
   unfolding inline count
   count-expr-requires c κs =
       let start = c .before .before .before .before .before in
+      let basic = rw (assign-of c) at (start .pre .1 .1) in
       let bound = rw (assign-of c) at (start .pre .1 .2) in
-      (start .pre .1 .0, omega (arith, bound))
+      (start .pre .1 .0, basic, omega (arith, bound))
 
   add-result : lts.Need-add-result calls (stmt-here t) stmt-reads.Post
   unfolding inline count

@@ -27,23 +27,42 @@ fn kept() -> String {
     fs::read_to_string(here("example.txt")).expect("the kept lines")
 }
 
-#[test]
-fn c_calls_the_archive() {
-    let program = made("example");
+/// Builds a program in C over the archive, and gives what it prints.
+fn printed_by_c(source: &Path, program: &Path) -> String {
+    let strict = ["-std=c11", "-Wall", "-Wextra", "-Wpedantic", "-Werror"];
     printed(
         Command::new("cc")
-            .args([
-                "-std=c11",
-                "-Wall",
-                "-Wextra",
-                "-Wpedantic",
-                "-Werror",
-                "-o",
-            ])
-            .arg(&program)
-            .args([here("c/example.c"), bindings::ARCHIVE.into()]),
+            .args(strict)
+            .arg("-I")
+            .arg(here("c"))
+            .arg("-o")
+            .args([program, source, bindings::ARCHIVE.as_ref()]),
     );
-    let lines = printed(&mut Command::new(program));
+    printed(&mut Command::new(program))
+}
+
+/// What a program in Python prints, over a library made of the archive.
+fn printed_by_python(source: &Path, name: &str) -> String {
+    let library = made(name);
+    printed(
+        Command::new("cc")
+            .args(["-shared", "-o"])
+            .arg(&library)
+            .args(["-Wl,--whole-archive", bindings::ARCHIVE])
+            .arg("-Wl,--no-whole-archive"),
+    );
+    printed(
+        Command::new("python3")
+            .arg("-B")
+            .arg(source)
+            .env("PYTHONPATH", here("python"))
+            .env("HUB_LIBRARY", &library),
+    )
+}
+
+#[test]
+fn c_calls_the_archive() {
+    let lines = printed_by_c(&here("c/example.c"), &made("example"));
     if std::env::var_os("KEEP").is_some() {
         fs::write(here("example.txt"), &lines).expect("a file that can be written");
     }
@@ -52,22 +71,38 @@ fn c_calls_the_archive() {
 
 #[test]
 fn python_calls_the_archive() {
-    let library = made("libhub.so");
-    printed(
-        Command::new("cc")
-            .args(["-shared", "-o"])
-            .arg(&library)
-            .args([
-                "-Wl,--whole-archive",
-                bindings::ARCHIVE,
-                "-Wl,--no-whole-archive",
-            ]),
-    );
-    let lines = printed(
-        Command::new("python3")
-            .arg("-B")
-            .arg(here("python/example.py"))
-            .env("HUB_LIBRARY", &library),
-    );
+    let lines = printed_by_python(&here("python/example.py"), "libhub.so");
     assert_eq!(lines, kept());
+}
+
+/// A block of the page on the library, in this language.
+fn block(language: &str) -> String {
+    let page = fs::read_to_string(here("../docs/LIBRARY.md")).expect("the page");
+    let (_, rest) = page
+        .split_once(&format!("```{language}\n"))
+        .expect("a block");
+    rest.split_once("```").expect("its end").0.to_string()
+}
+
+/// What the page says that its blocks print, behind the sign of a comment.
+#[test]
+fn the_page_shows_what_is_printed() {
+    let (c, python) = (block("c"), block("python"));
+    let source = made("page.c");
+    let text = format!(
+        "#include \"hub.h\"\n#include <stdio.h>\n#include <string.h>\nint main(void) {{\n{c}return 0;\n}}\n"
+    );
+    fs::write(&source, text).expect("a file");
+    let lines = printed_by_c(&source, &made("page"));
+    assert!(
+        c.contains(&format!("/* {} */", lines.trim_end())),
+        "{lines}"
+    );
+    let source = made("page.py");
+    fs::write(&source, &python).expect("a file");
+    let lines = printed_by_python(&source, "libpage.so");
+    assert!(
+        python.contains(&format!("# {}", lines.trim_end())),
+        "{lines}"
+    );
 }

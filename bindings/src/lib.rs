@@ -10,3 +10,6 @@ pub mod functional_calls;
 mod reply;
 
 pub use reply::{replied, Kind, Reply};
+
+/// The archive that is linked here.
+pub const ARCHIVE: &str = env!("ARCHIVE");

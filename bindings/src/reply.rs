@@ -1,8 +1,7 @@
 //! The 48 bytes of a reply, as crates/reply/specs/Replies.antt tells them.
 
+use values::layout::{file_length, REPLY};
 use values::{Answer, End, Refusal, Shape, Words};
-
-const LENGTH: usize = 48;
 
 #[derive(Clone, Copy, Debug, PartialEq, Eq)]
 pub enum Kind {
@@ -27,7 +26,7 @@ pub struct Reply {
 /// Lends bytes for a reply to a call and reads them. The bytes are not zero
 /// at entry, so that one left unwritten shows.
 pub fn replied(call: impl FnOnce(&mut [u8]) -> bool) -> Reply {
-    let mut bytes = [0xa5; LENGTH];
+    let mut bytes = [0xa5; REPLY];
     assert!(call(&mut bytes), "48 bytes are enough for a reply");
     Reply::of_bytes(&bytes)
 }
@@ -39,7 +38,7 @@ impl Reply {
         (self.kind == Kind::Refused).then_some(refusal)
     }
 
-    fn of_bytes(bytes: &[u8; LENGTH]) -> Reply {
+    fn of_bytes(bytes: &[u8; REPLY]) -> Reply {
         assert_eq!(bytes[2..4], [0, 0], "bytes 2 and 3 of a reply are zero");
         let number = |at: usize| u32::from_le_bytes(bytes[at..at + 4].try_into().unwrap());
         Reply {
@@ -71,8 +70,8 @@ pub(crate) fn accepted(call: impl FnOnce(&mut [u8]) -> bool) -> Result<Reply, Re
 /// file's length, the file its number of cells.
 pub(crate) fn written(told: Reply, file: &[u8]) -> Shape {
     let cells = u16::from_le_bytes([file[2], file[3]]);
-    let length = 512 * u32::from(cells).div_ceil(84);
-    assert_eq!(told.first, length, "the bytes written");
+    let length = file_length(usize::from(cells));
+    assert_eq!(told.first as usize, length, "the bytes written");
     let finish = two_bytes(told.second);
     Shape { cells, finish }
 }

@@ -81,11 +81,29 @@ pub fn children(kind: u8) -> &'static [&'static str] {
     }
 }
 
+/// The kinds of cells.
+pub const CONSTANT: u8 = 1;
+pub const COMPLEMENT: u8 = 3;
+pub const SUM: u8 = 4;
+pub const DIFFERENCE: u8 = 5;
+pub const AND: u8 = 6;
+pub const OR: u8 = 7;
+pub const EQUAL: u8 = 8;
+pub const LESS: u8 = 9;
 pub const START: u8 = 32;
+pub const GROUND: u8 = 33;
 pub const DELAY: u8 = 34;
+pub const EITHER: u8 = 35;
+pub const WHEN_TRUE: u8 = 36;
+pub const WHEN_FALSE: u8 = 37;
+pub const MERGE: u8 = 38;
+pub const RETURN: u8 = 39;
 pub const MEMORY: u8 = 40;
+pub const GATED: u8 = 41;
 pub const ARRAY: u8 = 42;
 pub const ADDRESS: u8 = 43;
+pub const ELEMENT: u8 = 44;
+pub const LATCH: u8 = 45;
 
 /// A memory that nothing writes to: its clock is ground, its data the zero.
 pub const IDLE: Cell = Cell::new(MEMORY, 0, 1, 2);

@@ -1,33 +1,16 @@
-//! The published layout of what the product takes and gives: the most that
-//! there may be of it, and where things stand in a file and in a state.
+//! Where things stand in the bytes that the product takes and gives, by their
+//! published layout.
 
 use crate::store::{Store, OF_ARRAYS};
 use crate::types::{Cell, Format, Netlist};
+use values::layout::{cell_at, BLOCK, BLOCK_HEADER};
+pub use values::layout::{file_length, state_length, CELLS, FILE, PROGRAM, TEXT};
 
-/// The most bytes of a text, of a program and of a netlist file.
-pub const TEXT: usize = 4_096;
-pub const PROGRAM: usize = 800;
-pub const FILE: usize = 100_352;
-/// The most cells of a netlist.
-pub const CELLS: usize = 16_384;
-
-/// A netlist file is made of blocks, a header and cells in each.
-const BLOCK: usize = 512;
-const BLOCK_HEADER: usize = 8;
-
-/// A state has a header, the instant and the number in flight, so many bytes for
-/// each cell, and behind them the words of all elements.
-const STATE_HEADER: usize = 8;
+/// The number in flight stands behind the instant.
 const IN_FLIGHT: usize = 4;
 /// Where a cell's line begins, behind its values, held bits and zero bytes.
 const LINE: usize = 8;
 const WORD: usize = 2;
-
-/// The bytes of a netlist file with so many cells.
-pub fn file_length(cells: u16) -> usize {
-    let in_block = (BLOCK - BLOCK_HEADER) / Cell::LENGTH;
-    BLOCK * usize::from(cells).div_ceil(in_block)
-}
 
 /// The netlist in a file whose blocks the product has accepted.
 pub fn netlist_in(file: &[u8]) -> Netlist {
@@ -47,20 +30,6 @@ pub fn netlist_in(file: &[u8]) -> Netlist {
 /// is the high byte of every block number.
 pub fn pulse_in(file: &[u8]) -> u8 {
     1 + file[1]
-}
-
-/// The bytes of a state of so many cells.
-pub fn state_length(format: Format, cells: usize) -> usize {
-    cell_at(format, cells) + WORD * OF_ARRAYS.len()
-}
-
-/// Where the bytes of a cell begin in a state.
-fn cell_at(format: Format, cell: usize) -> usize {
-    let length = match format {
-        Format::Full => 40,
-        Format::Compact => 8,
-    };
-    STATE_HEADER + length * cell
 }
 
 fn word_at(state: &[u8], at: usize) -> u16 {

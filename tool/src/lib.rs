@@ -35,6 +35,8 @@ pub mod template;
 pub mod times;
 pub mod trailer;
 pub mod types;
+pub mod verilog;
+pub mod version;
 pub mod warnings;
 pub mod wave;
 pub mod wiring;

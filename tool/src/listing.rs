@@ -142,7 +142,8 @@ fn header<'t>(entries: &[Entry<'t>]) -> Result<Header<'t>, Wrong> {
     }
     let count = count.map(|count| count.parse().unwrap_or(usize::MAX));
     if count.is_some_and(|count| count > layout::CELLS) {
-        return Err(Wrong::new(line, "a netlist has at most 16384 cells"));
+        let most = format!("a netlist has at most {} cells", layout::CELLS);
+        return Err(Wrong::new(line, most));
     }
     let pulse = pulse.map_or(Ok(1), byte);
     Ok(Header {

@@ -30,7 +30,7 @@ pub fn compile(beside: Beside, program: &[u8]) -> Result<Vec<u8>, Refusal> {
         Wiring::Imperative => calls::compile(beside.given(), program, &mut file)?,
         Wiring::Functional => functional_calls::compile(beside.table, program, &mut file)?,
     };
-    file.truncate(file_length(shape.cells));
+    file.truncate(file_length(usize::from(shape.cells)));
     Ok(file)
 }
 
@@ -60,7 +60,7 @@ pub fn write_netlist(netlist: &Netlist) -> Result<Vec<u8>, Refusal> {
     } = netlist;
     let mut file = vec![0; FILE];
     let shape = cell_calls::write(*pulse, cells, *finish, &mut file)?;
-    file.truncate(file_length(shape.cells));
+    file.truncate(file_length(usize::from(shape.cells)));
     Ok(file)
 }
 

@@ -3,6 +3,7 @@
 
 use crate::product;
 use crate::types::{Beside, Fault, Node, Refusal, Table};
+use values::layout::TABLE;
 
 /// The operators that have a time of their own, by the names of their nodes.
 pub const OPERATORS: [(u8, &str); 8] = [
@@ -16,7 +17,6 @@ pub const OPERATORS: [(u8, &str); 8] = [
     (10, "element"),
 ];
 
-const LENGTH: usize = 512;
 /// Where the number of kinds, the check and the time of kind 1 stand.
 const COUNT: usize = 2;
 const CHECK: usize = 6;
@@ -61,7 +61,7 @@ pub fn operator_at(byte: usize) -> Option<&'static str> {
 
 /// The file of a table with these times, in the order of the operators.
 pub fn file(times: &[u8]) -> Result<Vec<u8>, Fault> {
-    let mut bytes = vec![0; LENGTH];
+    let mut bytes = vec![0; TABLE];
     bytes[COUNT] = KINDS;
     for ((kind, _), time) in OPERATORS.iter().zip(times) {
         bytes[TIMES + usize::from(*kind) - 1] = *time;

@@ -6,6 +6,7 @@ mod cell;
 mod circuit;
 mod format;
 mod given;
+pub mod layout;
 
 pub use answer::{Answer, End, Refusal, Shape};
 pub use cell::Cell;

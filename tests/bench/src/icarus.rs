@@ -2,7 +2,6 @@
 
 use crate::engine::{Engine, Measured, Row};
 use crate::tool::{folder, output, words_of_hex};
-use crate::verilog;
 use crate::workload::Workload;
 use std::fs;
 use std::path::{Path, PathBuf};
@@ -49,7 +48,7 @@ fn engine(workload: &Workload) -> Engine {
 pub fn build(workload: &Workload, bench: &str) -> PathBuf {
     let folder = folder("icarus", &workload.name);
     let (source, program) = (folder.join("hub.v"), folder.join("hub.vvp"));
-    let text = verilog::module(&workload.netlist) + bench;
+    let text = workload.verilog() + bench;
     fs::write(&source, text).expect("the folder can be written");
     output(
         Command::new("iverilog")

@@ -13,7 +13,6 @@ mod second_engine;
 mod tests;
 mod tool;
 mod verilator;
-mod verilog;
 mod workload;
 
 use engine::{Engine, Row};

@@ -29,7 +29,7 @@ fn workloads() -> Vec<Workload> {
     all.collect()
 }
 
-/// Those for which there are compact states, and Verilog.
+/// Those for which there are compact states.
 fn of_one_instant() -> Vec<Workload> {
     let mut short = workloads();
     short.retain(|workload| workload.netlist.pulse == 1);
@@ -114,7 +114,7 @@ fn watched(netlist: &Netlist) -> String {
 #[test]
 #[ignore = "asks for Icarus Verilog"]
 fn verilog_shows_the_same_wires() {
-    for workload in &of_one_instant() {
+    for workload in &workloads() {
         let Workload { name, netlist, .. } = workload;
         let program = icarus::build(workload, &watching(netlist));
         let (found, expected) = (icarus::run(&program, WATCHED), watched(netlist));

@@ -2,7 +2,6 @@
 
 use crate::engine::{Engine, Measured, Row};
 use crate::tool::{folder, measured, output};
-use crate::verilog;
 use crate::workload::Workload;
 use std::fs;
 use std::path::{Path, PathBuf};
@@ -50,7 +49,7 @@ fn engine(workload: &Workload) -> Engine {
 
 fn build(workload: &Workload) -> PathBuf {
     let folder = folder("verilator", &workload.name);
-    let text = verilog::module(&workload.netlist);
+    let text = workload.verilog();
     fs::write(folder.join("hub.v"), text).expect("the folder can be written");
     fs::write(folder.join("main.cpp"), MAIN).expect("the folder can be written");
     let mut verilator = Command::new("verilator");

@@ -1,5 +1,8 @@
 //! Netlists of tests/vectors, to be run from zero start words.
 
+use hub::store;
+use hub::types::Wiring;
+use hub::verilog::{module, Edges};
 use second::cells::Netlist;
 use second::contents::CONTENTS_LENGTH;
 use second::{netfile, state};
@@ -49,6 +52,17 @@ impl Workload {
             file,
             netlist,
         }
+    }
+
+    /// It as Verilog, from zero start words.
+    pub fn verilog(&self) -> String {
+        let netlist = hub::types::Netlist {
+            cells: self.netlist.cells.clone(),
+            finish: self.netlist.finish,
+            pulse: self.netlist.pulse,
+        };
+        let start = [0; store::LENGTH];
+        module(&netlist, Wiring::Imperative, Edges::Both, &start, &[])
     }
 
     /// A buffer for its state.

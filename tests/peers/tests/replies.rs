@@ -4,10 +4,10 @@
 use bindings::exports::*;
 use peers::SECOND;
 use second::table::BUILT_IN;
+use values::layout::REPLY as LENGTH;
 use values::{Cell, Circuit, Format, Given};
 
-/// The bytes of a reply, the first of which is 3 where a call was refused.
-const LENGTH: usize = 48;
+/// The first byte of a reply, where a call was refused.
 const REFUSED: u8 = 3;
 
 const LENT_BYTE: u8 = 0xa5;

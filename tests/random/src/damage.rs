@@ -9,10 +9,8 @@ use crate::lend::{cell_length, ARRAYS, HEADER};
 use crate::xorshift::Random;
 use second::cells::{sort, Netlist, Sort, DELAY, MERGE, RETURN};
 use second::netfile;
+use values::layout::{BLOCK, BLOCK_CELLS};
 use values::{Cell, Format};
-
-const BLOCK: usize = 512;
-const CELLS_IN_BLOCK: usize = 84;
 
 /// Kinds at and beyond the ends of the known ranges.
 const KINDS: [u8; 16] = [0, 1, 2, 9, 10, 11, 15, 16, 18, 20, 23, 25, 26, 27, 28, 32];
@@ -101,7 +99,7 @@ fn set_random_byte(bytes: &mut [u8], random: &mut Random) {
 /// Changes a field of a cell, in a used or an unused place.
 fn damage_cell(file: &mut [u8], random: &mut Random) {
     let block = BLOCK * random.below(file.len() / BLOCK);
-    let cell = block + 8 + 6 * random.below(CELLS_IN_BLOCK);
+    let cell = block + 8 + 6 * random.below(BLOCK_CELLS);
     match random.below(5) {
         0 => file[cell] = random.pick(&CELL_KINDS),
         1 => file[cell + 1] = random.byte(),

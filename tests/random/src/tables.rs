@@ -4,9 +4,8 @@ use crate::damage::mend_checks;
 use crate::xorshift::Random;
 use second::table::Times;
 use std::ops::RangeInclusive;
+use values::layout::TABLE as LENGTH;
 use values::Refusal;
-
-const LENGTH: usize = 512;
 
 /// The places of the times of operators and elements; those of the other kinds
 /// are 0.

@@ -66,7 +66,9 @@ pub fn overview() -> String {
         text += &format!("  hub {:10} {}\n", command.name, command.about);
     }
     text + "\n'hub help COMMAND' tells more; every command takes --json; 'hub --version' tells which.\n\
-        Exit status: 0 ended or done, 1 refused, 2 open, 64 wrong usage."
+        Exit status: 0 ended or done, 1 refused, 2 open, 64 wrong usage.\n\
+        In the repository './hub prove' proves the archive that the tool is built over, and\n\
+        './hub install PREFIX' puts the tool, the library and their pages below PREFIX."
 }
 
 fn of(command: &Command) -> String {

@@ -20,6 +20,7 @@ mod start;
 mod states;
 mod test;
 mod times;
+mod verilog;
 mod wave;
 mod wire;
 
@@ -30,7 +31,7 @@ use crate::json::Json;
 use crate::refusals::Report;
 use crate::source::nearest;
 use crate::store::Store;
-use crate::types::{Done, Fault, REFUSED};
+use crate::types::{Done, Fault, DONE, REFUSED};
 use crate::{files, start as start_words};
 
 pub struct Command {
@@ -59,6 +60,7 @@ pub const COMMANDS: &[&Command] = &[
     &wire::COMMAND,
     &draw::COMMAND,
     &wave::COMMAND,
+    &verilog::COMMAND,
     &compile::COMMAND,
     &read::COMMAND,
     &begin::COMMAND,
@@ -100,6 +102,13 @@ pub struct Told {
     pub tells: bool,
 }
 
+impl Told {
+    /// What is printed where all went well.
+    pub fn printing(output: Vec<u8>) -> Told {
+        told(DONE, output, String::new())
+    }
+}
+
 /// Follows a command line, whose first word is the command.
 pub fn run(words: &[String]) -> Told {
     let json = words.iter().any(|word| word == "--json");
@@ -138,15 +147,6 @@ fn chosen(words: &[String]) -> Result<Done, Stop> {
     let Some((name, words)) = words.split_first() else {
         return Err(Fault::usage(help::overview()).into());
     };
-    if name == "--version" || name == "-V" {
-        let version = env!("CARGO_PKG_VERSION");
-        return Ok(Done::printing(
-            match words.iter().any(|word| word == "--json") {
-                true => Json::Object(vec![("version", Json::text(version))]).line(),
-                false => format!("hub {version}\n").into_bytes(),
-            },
-        ));
-    }
     let command = named(name)?;
     let has = |option: &str| words.iter().any(|word| word == option);
     if has("--help") || has("-h") {

@@ -6,7 +6,11 @@ use crate::programs::{examples, outlines, programs, top};
 use hub::draw::{dot, svg};
 use hub::input::Circuit;
 use hub::kinds::is_idle;
+use hub::store::LENGTH;
+use hub::types::Format;
+use hub::verilog::{module, testbench, Edges, Expected};
 use hub::wave::{choice, vcd};
+use hub::{labels, product};
 use std::fs;
 use std::io::Write;
 use std::process::{Command, Stdio};
@@ -240,7 +244,24 @@ const FUNCTIONAL: [&str; 4] = [
     "two_boards",
 ];
 
-/// The examples' pictures, graphs and dumps are those that are kept. With
+/// A circuit as Verilog, with a testbench of 60 instants.
+fn as_verilog(circuit: &Circuit, text: &[u8]) -> String {
+    let (netlist, start) = (&circuit.netlist, [3; LENGTH]);
+    let mode = circuit.mode(Format::Full);
+    let begun = product::begin(mode, &circuit.file, &start);
+    let (mut state, _) = begun.expect("a state");
+    let answer = product::go(mode, &circuit.file, &mut state, 60).expect("an answer");
+    let expected = Expected {
+        ended: answer.ended,
+        instant: answer.instant,
+        last: &product::contents(Format::Full, &answer, &state, netlist.cells.len()),
+    };
+    let notes = labels::of_cells(circuit, text).expect("notes");
+    let text = module(netlist, circuit.wiring, Edges::Rising, &start, &notes);
+    text + &testbench(netlist, expected)
+}
+
+/// The examples' pictures, graphs, dumps and modules are those that are kept. With
 /// KEEP=1 they are made anew.
 #[test]
 fn pictures_of_the_examples_are_kept() {
@@ -267,6 +288,7 @@ fn pictures_of_the_examples_are_kept() {
             ("svg", svg::svg(&circuit, bytes, false).expect("a picture")),
             ("dot", dot::dot(&circuit, bytes, false).expect("a graph")),
             ("vcd", vcd::vcd(&waves)),
+            ("v", as_verilog(&circuit, bytes)),
         ] {
             let file = folder.join(format!("{name}.{ending}"));
             if std::env::var_os("KEEP").is_some() {

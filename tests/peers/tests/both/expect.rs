@@ -1,23 +1,12 @@
 //! What many tests expect or ask.
 
 use peers::BOTH;
+pub use values::layout::{cell_length, state_length};
+use values::layout::{ELEMENTS, WORDS};
 use values::{Format, Given, Refusal, Words};
 
 /// Start words, sixteen and 256, that are 0.
-pub const START: [u8; 544] = [0; 544];
-
-/// The bytes of a cell in a state.
-pub const fn cell_length(format: Format) -> usize {
-    match format {
-        Format::Full => 40,
-        Format::Compact => 8,
-    }
-}
-
-/// The bytes of the state of so many cells, the words of the arrays last.
-pub const fn state_length(format: Format, cells: usize) -> usize {
-    8 + cell_length(format) * cells + 512
-}
+pub const START: [u8; WORDS] = [0; WORDS];
 
 /// The words of the arrays in the state that a run of a program has left; its
 /// netlist file and the state are lent.
@@ -25,7 +14,7 @@ pub fn elements(lent: &[Vec<u8>]) -> &[u8] {
     let (file, state) = (&lent[0], &lent[1]);
     let cells = usize::from(u16::from_le_bytes([file[2], file[3]]));
     let length = state_length(Format::Full, cells);
-    &state[length - 512..length]
+    &state[length - ELEMENTS..length]
 }
 
 pub fn refused<T>(number: u8, place: usize) -> Result<T, Refusal> {

@@ -60,7 +60,7 @@ pub const DELAY_SKIPPED: Peer = Peer {
 /// The netlist in which every cell but the call's merge that names a call's delay
 /// names what feeds it, as far as the cells then keep the rules.
 fn undelayed(shape: Shape, right: Reply<Shape>, file: &[u8]) -> Reply<Shape> {
-    let length = 512 * usize::from(shape.cells).div_ceil(84);
+    let length = values::layout::file_length(usize::from(shape.cells));
     let Netlist {
         pulse,
         mut cells,

@@ -22,6 +22,8 @@ const IN_FLIGHT: usize = 4;
 /// Where a cell's line begins, behind its values, held bits and zero bytes.
 const LINE: usize = 8;
 const WORD: usize = 2;
+/// Where a merge's held bits stand, behind a cell's two values.
+const HELD: usize = 4;
 
 /// The bytes of a netlist file with so many cells.
 pub fn file_length(cells: u16) -> usize {
@@ -90,6 +92,29 @@ pub fn start_left_in(state: &[u8]) -> u8 {
 /// What a cell shows in a full state.
 pub fn value_in(state: &[u8], cell: u16) -> u16 {
     word_at(state, cell_at(Format::Full, usize::from(cell)))
+}
+
+/// What a cell showed an instant ago, in a full state.
+pub fn value_before_in(state: &[u8], cell: u16) -> u16 {
+    word_at(state, cell_at(Format::Full, usize::from(cell)) + WORD)
+}
+
+/// The bits that a merge holds, in a full state: 1 for that of a, 2 for that of b.
+pub fn held_in(state: &[u8], cell: u16) -> u8 {
+    let at = cell_at(Format::Full, usize::from(cell)) + HELD;
+    state[at] + 2 * state[at + 1]
+}
+
+/// Whether the input of a delay was 1 so many instants ago, up to 255, in a full state.
+pub fn input_in(state: &[u8], cell: u16, ago: u8) -> bool {
+    let at = cell_at(Format::Full, usize::from(cell)) + LINE;
+    state[at + usize::from(ago / 8)] >> (ago % 8) & 1 == 1
+}
+
+/// The cells of a full state.
+pub fn cells_in(state: &[u8]) -> usize {
+    let ends = state.len() - WORD * OF_ARRAYS.len() - STATE_HEADER;
+    ends / (cell_at(Format::Full, 1) - STATE_HEADER)
 }
 
 /// An element, by its place in the store, in a state of so many cells.

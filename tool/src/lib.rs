@@ -18,6 +18,7 @@ pub mod kinds;
 pub mod labels;
 pub mod layout;
 pub mod lines;
+pub mod listed;
 pub mod listing;
 pub mod names;
 pub mod origin;

@@ -2,9 +2,8 @@
 
 use super::{written, Command, Stop};
 use crate::args::{Args, Options};
-use crate::listing;
 use crate::types::Done;
-use crate::{files, lines, product, refusals};
+use crate::{lines, listed};
 
 pub const COMMAND: Command = Command {
     name: "wire",
@@ -25,11 +24,6 @@ fn run(args: &Args) -> Result<Done, Stop> {
     let [name] = args.exactly(["LIST"])?;
     let out = args.needed("o")?;
     let text = lines::read(name)?;
-    let listed = listing::wired(&text).map_err(|wrong| wrong.fault(name))?;
-    let file = product::write_netlist(&listed.netlist).map_err(|met| {
-        let own = listed.lines.get(met.place).filter(|_| met.number == 12);
-        let report = refusals::of_wired(files::shown(name), &listed.netlist, met);
-        lines::lined(report, &text, own.copied().flatten())
-    })?;
+    let (listed, file) = listed::accepted(name, &text)?;
     written(args, out, &file, (listed.netlist.cells.len(), "cell"))
 }

@@ -1,10 +1,10 @@
 //! The wires that are shown: those that have names in every circuit, those of
 //! a program's statements, and those that were asked for.
 
+use super::named::{by_nodes, of_cell, of_every, of_list, of_statements, of_stores};
 use super::{Shows, Wire};
-use crate::input::{Circuit, Program};
-use crate::kinds::{is_control, is_idle, NODES};
-use crate::labels::{self, Labels};
+use crate::input::Circuit;
+use crate::kinds::is_idle;
 use crate::names::Names;
 use crate::source::nearest;
 use crate::store;
@@ -21,18 +21,22 @@ pub fn wires(
     let names = circuit.names();
     let mut named = of_every(&circuit.netlist, &names);
     named.extend(of_statements(circuit, text)?);
-    match asked {
-        None => Ok(named
-            .into_iter()
-            .filter(|wire| all || moves(circuit, wire))
-            .collect()),
-        Some(asked) => {
-            let wires = asked
-                .split(',')
-                .map(|word| chosen(&named, &circuit.netlist, &names, word));
-            wires.collect()
-        }
-    }
+    named.extend(of_list(circuit));
+    let Some(asked) = asked else {
+        let shown = |wire: &Wire| all || moves(circuit, wire);
+        return Ok(named.into_iter().filter(shown).collect());
+    };
+    named.extend(of_stores(&circuit.netlist, &names));
+    let known = Known {
+        named,
+        by_nodes: match &circuit.program {
+            Some((program, trace)) => by_nodes(program, trace, &circuit.netlist),
+            None => Vec::new(),
+        },
+        netlist: &circuit.netlist,
+        names,
+    };
+    asked.split(',').map(|word| known.chosen(word)).collect()
 }
 
 /// Whether a wire is more than an idle memory.
@@ -43,89 +47,40 @@ fn moves(circuit: &Circuit, wire: &Wire) -> bool {
     }
 }
 
-/// Start, finish and the memories.
-fn of_every(netlist: &Netlist, names: &Names) -> Vec<Wire> {
-    let mut wires = vec![
-        wire(netlist, "start".to_string(), 0),
-        wire(netlist, "finish".to_string(), netlist.finish),
-    ];
-    let memories = (0..).zip(labels::of_memories(netlist, names));
-    wires.extend(memories.filter_map(|(cell, name)| Some(wire(netlist, name?, cell))));
-    wires
+/// What can be asked for.
+struct Known<'c> {
+    named: Vec<Wire>,
+    by_nodes: Vec<Wire>,
+    netlist: &'c Netlist,
+    names: Names,
 }
 
-/// Start and finish of each statement that is more than a sequence.
-fn of_statements(circuit: &Circuit, text: &[u8]) -> Result<Vec<Wire>, Fault> {
-    let Some((program, trace)) = &circuit.program else {
-        return Ok(Vec::new());
-    };
-    let labels = Labels::of(program, text)?;
-    let mut wires = Vec::new();
-    for (node, ends) in trace.ends.iter().enumerate() {
-        let kind = program.nodes[node].kind;
-        let (Some(ends), false) = (ends, kind == SEQUENCE || is_implied(program, text, node))
-        else {
-            continue;
+impl Known<'_> {
+    /// A wire by its name or its cell, or an element, also under a name of its own:
+    /// NAME=WIRE.
+    fn chosen(&self, word: &str) -> Result<Wire, Fault> {
+        let (own, wire) = match word.split_once('=') {
+            Some((own, wire)) => (Some(name_of(own)?), wire),
+            None => (None, word),
         };
-        for (end, cell) in [("start", ends.start), ("finish", ends.finish)] {
-            let name = format!("{}{node}.{end}", word_of(kind));
-            let about = format!("{}, {}", labels.places[node], labels.heads[node]);
-            wires.push(Wire {
-                about,
-                ..wire(&circuit.netlist, name, cell)
-            });
-        }
+        let mut wires = self.named.iter().chain(&self.by_nodes);
+        let found = match wires.find(|known| known.name == wire) {
+            Some(known) => known.clone(),
+            None => of_number(self.netlist, wire)
+                .or_else(|| of_place(&self.named, &self.names, wire))
+                .or_else(|| of_state(wire))
+                .ok_or_else(|| unknown(&self.named, &self.names, wire))?,
+        };
+        Ok(match own {
+            Some(name) => Wire {
+                name,
+                about: String::new(),
+                scope: Vec::new(),
+                ..found
+            },
+            None => found,
+        })
     }
-    Ok(wires)
-}
-
-/// Whether a statement stands in no text: the else of an if that has none is ok, at the
-/// place of its end.
-fn is_implied(program: &Program, text: &[u8], node: usize) -> bool {
-    let mark = program.places.as_ref().map(|places| places[node].mark);
-    program.long && mark.is_some_and(|mark| text[mark.start..mark.end] == *b"end")
-}
-
-const SEQUENCE: u8 = 19;
-
-/// The word for a kind of node.
-fn word_of(kind: u8) -> &'static str {
-    let own = NODES.kinds.iter().find(|template| template.kind == kind);
-    own.and_then(|template| template.words.split(' ').next())
-        .unwrap_or("node")
-}
-
-fn wire(netlist: &Netlist, name: String, cell: u16) -> Wire {
-    Wire {
-        name,
-        about: String::new(),
-        shows: Shows::Cell(cell),
-        control: is_control(netlist.cells[usize::from(cell)].kind),
-    }
-}
-
-/// A wire by its name or its cell, or an element, also under a name of its own:
-/// NAME=WIRE.
-fn chosen(named: &[Wire], netlist: &Netlist, names: &Names, word: &str) -> Result<Wire, Fault> {
-    let (own, wire) = match word.split_once('=') {
-        Some((own, wire)) => (Some(name_of(own)?), wire),
-        None => (None, word),
-    };
-    let found = match named.iter().find(|known| known.name == wire) {
-        Some(known) => known.clone(),
-        None => of_cell(netlist, wire)
-            .or_else(|| of_place(named, names, wire))
-            .or_else(|| of_state(wire))
-            .ok_or_else(|| unknown(named, names, wire))?,
-    };
-    Ok(match own {
-        Some(name) => Wire {
-            name,
-            about: String::new(),
-            ..found
-        },
-        None => found,
-    })
 }
 
 /// A name that a dump can have, too.
@@ -140,10 +95,10 @@ fn name_of(word: &str) -> Result<String, Fault> {
     }
 }
 
-fn of_cell(netlist: &Netlist, number: &str) -> Option<Wire> {
+fn of_number(netlist: &Netlist, number: &str) -> Option<Wire> {
     let cell: u16 = number.parse().ok()?;
     let there = usize::from(cell) < netlist.cells.len();
-    there.then(|| wire(netlist, format!("cell{cell}"), cell))
+    there.then(|| of_cell(netlist, format!("cell{cell}"), cell))
 }
 
 /// A word by its number where it has a name, or an element by either.
@@ -156,6 +111,7 @@ fn of_place(named: &[Wire], names: &Names, name: &str) -> Option<Wire> {
     Some(Wire {
         name: own,
         about: String::new(),
+        scope: Vec::new(),
         shows: Shows::Element(place),
         control: false,
     })
@@ -167,6 +123,7 @@ fn of_state(name: &str) -> Option<Wire> {
     Some(Wire {
         name: name.to_string(),
         about: String::new(),
+        scope: Vec::new(),
         shows: *shows,
         control: false,
     })

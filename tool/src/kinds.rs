@@ -79,6 +79,7 @@ pub fn children(kind: u8) -> &'static [&'static str] {
     }
 }
 
+pub const CONSTANT: u8 = 1;
 pub const START: u8 = 32;
 pub const DELAY: u8 = 34;
 pub const MEMORY: u8 = 40;

@@ -86,6 +86,11 @@ fn line_of(text: &[u8], at: usize) -> usize {
 /// for memories and arrays, which have the names of their variables.
 pub fn of_cells(circuit: &Circuit, text: &[u8]) -> Result<Vec<Option<String>>, Fault> {
     let mut notes = of_stores(&circuit.netlist, &circuit.names());
+    if let Some(listed) = &circuit.listed {
+        for (note, name) in notes.iter_mut().zip(&listed.names) {
+            *note = note.take().or(name.clone());
+        }
+    }
     if let Some((program, trace)) = &circuit.program {
         let labels = Labels::of(program, text)?;
         for (note, said) in notes.iter_mut().zip(of_origins(&labels, trace)) {

@@ -28,6 +28,7 @@ pub mod preorder;
 pub mod product;
 pub mod progress;
 pub mod refusals;
+pub mod show;
 pub mod source;
 pub mod start;
 pub mod store;

@@ -15,6 +15,7 @@ mod manual;
 mod outline;
 mod read;
 mod run;
+mod show;
 mod start;
 mod states;
 mod test;
@@ -57,6 +58,7 @@ pub const COMMANDS: &[&Command] = &[
     &wire::COMMAND,
     &draw::COMMAND,
     &wave::COMMAND,
+    &show::COMMAND,
     &compile::COMMAND,
     &read::COMMAND,
     &begin::COMMAND,

@@ -55,7 +55,7 @@ fn run(args: &Args) -> Result<Done, Stop> {
     let (to, cut) = match to {
         Some(to) => (to, None),
         None => {
-            let last = last(&mut course, &circuit.netlist, from, &starts);
+            let last = last(&mut course, &circuit.netlist, (from, MOST), &starts);
             last.map_err(|met| refused(&given, &circuit.netlist, &course, met))?
         }
     };
@@ -105,7 +105,7 @@ impl Cut {
 }
 
 /// A number with a comma before each three digits.
-fn grouped(number: u32) -> String {
+pub fn grouped(number: u32) -> String {
     let digits = number.to_string();
     let mut text = String::new();
     for (k, digit) in digits.chars().enumerate() {
@@ -118,7 +118,7 @@ fn grouped(number: u32) -> String {
 }
 
 /// An instant that is given, up to which the product takes a run.
-fn instant(args: &Args, circuit: &Circuit, name: &str) -> Result<Option<u32>, Stop> {
+pub fn instant(args: &Args, circuit: &Circuit, name: &str) -> Result<Option<u32>, Stop> {
     let Some(instant) = args.number(name)? else {
         return Ok(None);
     };
@@ -137,7 +137,7 @@ fn check_reach(circuit: &Circuit, name: &str, instant: u32) -> Result<(), Stop> 
 }
 
 /// The instants of second starts, none after the last that is shown.
-fn starts(args: &Args, circuit: &Circuit, to: Option<u32>) -> Result<Vec<u32>, Stop> {
+pub fn starts(args: &Args, circuit: &Circuit, to: Option<u32>) -> Result<Vec<u32>, Stop> {
     let Some(value) = args.value("starts") else {
         return Ok(Vec::new());
     };
@@ -161,7 +161,7 @@ fn starts(args: &Args, circuit: &Circuit, to: Option<u32>) -> Result<Vec<u32>, S
 }
 
 /// Why a run stops at a refusal, most likely of a start.
-fn refused(given: &Given, netlist: &Netlist, course: &Course, met: Refusal) -> Stop {
+pub fn refused(given: &Given, netlist: &Netlist, course: &Course, met: Refusal) -> Stop {
     if met.number != 23 {
         return given.refused(met);
     }
@@ -173,16 +173,16 @@ fn refused(given: &Given, netlist: &Netlist, course: &Course, met: Refusal) -> S
     .into()
 }
 
-/// The last instant that is shown: a little after the whole pulse of the finish
-/// that comes after the last start.
-fn last(
+/// The last instant that is shown, at most so many after the first: a little after the
+/// whole pulse of the finish that comes after the last start.
+pub fn last(
     course: &mut Course,
     netlist: &Netlist,
-    from: u32,
+    (from, most): (u32, u32),
     starts: &[u32],
 ) -> Result<(u32, Option<Cut>), Refusal> {
     let start = starts.last().copied().unwrap_or(0);
-    let most = from.max(start) + MOST;
+    let most = from.max(start) + most;
     course.reach(start)?;
     if !course.answer.ended {
         course.go(most)?;

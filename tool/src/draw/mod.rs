@@ -4,6 +4,7 @@
 //! this to Graphviz.
 
 mod block;
+mod chains;
 pub mod dot;
 mod level;
 mod place;
@@ -26,22 +27,32 @@ struct Plan<'c> {
     netlist: &'c Netlist,
     /// The variables of memories and arrays, at their cells.
     variables: Vec<Option<String>>,
+    /// The names that a list gives to its cells.
+    listed: Vec<Option<String>>,
     block: Block,
+    /// The next or of a chain that is drawn as one.
+    chains: Vec<Option<u16>>,
 }
 
 impl<'c> Plan<'c> {
     fn of(circuit: &'c Circuit, text: &[u8], all: bool) -> Result<Plan<'c>, Fault> {
         let netlist = &circuit.netlist;
+        let chains = chains::chains(circuit);
         let block = match &circuit.program {
             Some((program, trace)) => {
                 let labels = labels::Labels::of(program, text)?;
                 place::placed(netlist, trace, &labels, all)
             }
-            None => level::placed(netlist, all),
+            None => level::placed(netlist, &chains, all),
         };
         Ok(Plan {
             netlist,
             variables: labels::of_stores(netlist, &circuit.names()),
+            listed: match &circuit.listed {
+                Some(listed) => listed.names.clone(),
+                None => vec![None; netlist.cells.len()],
+            },
+            chains: chains::drawn(chains, &block),
             block,
         })
     }
@@ -51,6 +62,38 @@ impl<'c> Plan<'c> {
         match cell {
             FINISH => vec![self.netlist.finish],
             cell => inputs(&self.netlist.cells[usize::from(cell)]),
+        }
+    }
+
+    /// The next or of a cell's chain.
+    fn next(&self, cell: u16) -> Option<u16> {
+        self.chains.get(usize::from(cell)).copied().flatten()
+    }
+
+    /// The ors of a chain that ends with this cell; a cell that is in none is one
+    /// alone.
+    fn chain(&self, last: u16) -> Vec<u16> {
+        chains::ending(&self.chains, last)
+    }
+
+    /// The last or of the chain that a cell is in.
+    fn wide(&self, mut cell: u16) -> u16 {
+        while let Some(next) = self.next(cell) {
+            cell = next;
+        }
+        cell
+    }
+
+    /// Whether a wire goes from an or to the next of its chain, inside of one box.
+    fn is_inside(&self, wire: u16, to: u16) -> bool {
+        self.next(wire) == Some(to)
+    }
+
+    /// The number of a cell, or those of a chain.
+    fn numbers(&self, last: u16) -> String {
+        match self.chain(last)[..] {
+            [first, .., last] => format!("{first} to {last}"),
+            _ => last.to_string(),
         }
     }
 
@@ -68,7 +111,17 @@ impl<'c> Plan<'c> {
             (None, START) if self.netlist.pulse > 1 => {
                 format!("start for {}", self.netlist.pulse)
             }
-            (None, _) => title(&words_of(own), self.inputs(cell).len()),
+            (None, _) => {
+                let mut title = title(&words_of(own), self.inputs(cell).len());
+                let ors = self.chain(cell).len();
+                if ors > 1 && self.next(cell).is_none() {
+                    title = format!("{title} of {}", ors + 1);
+                }
+                match &self.listed[at] {
+                    Some(name) => format!("{name}: {title}"),
+                    None => title,
+                }
+            }
         }
     }
 

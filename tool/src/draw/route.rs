@@ -92,6 +92,9 @@ fn links(plan: &Plan) -> Vec<Link> {
     for to in &plan.block.cells {
         let inputs = plan.inputs(to.cell);
         for (port, wire) in inputs.iter().enumerate() {
+            if plan.is_inside(*wire, to.cell) {
+                continue;
+            }
             if let (None, Some(from)) = (plan.tag(*wire), places.get(wire)) {
                 links.push(Link {
                     from: *from,

@@ -4,7 +4,7 @@
 use super::named::{by_nodes, of_cell, of_every, of_list, of_statements, of_stores};
 use super::{Shows, Wire};
 use crate::input::Circuit;
-use crate::kinds::is_idle;
+use crate::kinds::{is_idle, CONSTANT};
 use crate::names::Names;
 use crate::source::nearest;
 use crate::store;
@@ -39,10 +39,13 @@ pub fn wires(
     asked.split(',').map(|word| known.chosen(word)).collect()
 }
 
-/// Whether a wire is more than an idle memory.
+/// Whether a wire is more than an idle memory or a constant.
 fn moves(circuit: &Circuit, wire: &Wire) -> bool {
     match wire.shows {
-        Shows::Cell(cell) => !is_idle(&circuit.netlist.cells[usize::from(cell)]),
+        Shows::Cell(cell) => {
+            let cell = &circuit.netlist.cells[usize::from(cell)];
+            !is_idle(cell) && cell.kind != CONSTANT
+        }
         Shows::Element(_) | Shows::InFlight | Shows::StartLeft => true,
     }
 }

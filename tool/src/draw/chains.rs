@@ -9,13 +9,16 @@ use std::collections::HashMap;
 
 const EITHER: u8 = 35;
 const OR: u8 = 7;
+/// The roles of ors that join.
+const JOINING: [&str; 5] = ["clock", "data", "address", "callers", "joined"];
 
-/// For each cell the next or of its chain, if it has one. The ors of a program's
-/// expressions are no chains: they are drawn as they are written.
+/// For each cell the next or of its chain, if it has one. In a program those are the
+/// ors that join the wires of many statements, and not those of expressions, which are
+/// drawn as they are written.
 pub fn chains(circuit: &Circuit) -> Vec<Option<u16>> {
     let netlist = &circuit.netlist;
     let trace = circuit.program.as_ref().map(|(_, trace)| trace);
-    let role = |cell: usize| trace.map_or("", |trace| trace.origins[cell].role);
+    let role = |cell: usize| trace.map_or(JOINING[0], |trace| trace.origins[cell].role);
     let readers = readers(netlist);
     let next = |cell: usize| {
         let own = &netlist.cells[cell];
@@ -23,10 +26,10 @@ pub fn chains(circuit: &Circuit) -> Vec<Option<u16>> {
             return None;
         };
         let next = &netlist.cells[usize::from(reader)];
-        let joins = matches!(own.kind, EITHER | OR) && own.kind == next.kind;
+        let ors = matches!(own.kind, EITHER | OR) && own.kind == next.kind;
         let first = usize::from(next.a) == cell && usize::from(netlist.finish) != cell;
-        let alike = role(cell) == role(usize::from(reader)) && role(cell) != "value";
-        (joins && first && alike).then_some(reader)
+        let joins = JOINING.contains(&role(cell)) && role(cell) == role(reader.into());
+        (ors && first && joins).then_some(reader)
     };
     (0..netlist.cells.len()).map(next).collect()
 }

@@ -12,6 +12,8 @@ mod long_commands;
 mod long_texts;
 mod long_typing;
 mod pictures;
+mod names;
+mod probes;
 mod programs;
 mod round_trips;
 mod vcd;

@@ -2,7 +2,7 @@
 _hub() {
     local word=${COMP_WORDS[COMP_CWORD]} options=''
     if [ "$COMP_CWORD" -eq 1 ]; then
-        mapfile -t COMPREPLY < <(compgen -W 'run check test delays bound cells wire draw wave compile read begin go start outline assemble format times help' -- "$word")
+        mapfile -t COMPREPLY < <(compgen -W 'run check test delays bound cells wire draw wave show compile read begin go start outline assemble format times help' -- "$word")
         return
     fi
     case ${COMP_WORDS[1]} in
@@ -13,8 +13,9 @@ _hub() {
         bound) options='--as --times --procedures --pulse --json' ;;
         cells) options='-o --all --as --times --procedures --pulse --json' ;;
         wire) options='-o --json' ;;
-        draw) options='-o --all --as --times --procedures --pulse --json' ;;
-        wave) options='--from --to --start --starts --wires -o --all --as --times --procedures --pulse --json' ;;
+        draw) options='-o --format --all --as --times --procedures --pulse --json' ;;
+        wave) options='--from --to --start --starts --wires -o --format --all --as --times --procedures --pulse --json' ;;
+        show) options='-o --start --to --starts --as --times --procedures --pulse --json' ;;
         compile) options='-o --as --times --procedures --pulse --json' ;;
         read) options='-o --as --times --procedures --pulse --json' ;;
         begin) options='-o --start --all --bare --compact --as --times --procedures --pulse --json' ;;
@@ -29,7 +30,7 @@ _hub() {
     if [ "${COMP_WORDS[COMP_CWORD-1]}" = --as ]; then
         options='text short outline program netlist'
     elif [ "${COMP_WORDS[1]}" = help ] && [ "$COMP_CWORD" -eq 2 ]; then
-        options="$options run check test delays bound cells wire draw wave compile read begin go start outline assemble format times help"
+        options="$options run check test delays bound cells wire draw wave show compile read begin go start outline assemble format times help"
     elif [ "${word#-}" = "$word" ]; then
         mapfile -t COMPREPLY < <(compgen -f -- "$word")
         return

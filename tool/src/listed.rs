@@ -34,7 +34,9 @@ pub fn names(listed: &Listed) -> Names {
     };
     let usual = |names: &[String], usual: &str| {
         let numbers = names.iter().enumerate();
-        numbers.into_iter().all(|(k, name)| *name == format!("{usual}{k}"))
+        numbers
+            .into_iter()
+            .all(|(k, name)| *name == format!("{usual}{k}"))
     };
     let (words, arrays) = (of(MEMORY, "x"), of(ARRAY, "a"));
     match usual(&words, "x") && usual(&arrays, "a") {

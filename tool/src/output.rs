@@ -51,7 +51,9 @@ pub fn format<'f>(
         _ => {
             let endings: Vec<String> = endings.iter().map(|format| format!(".{format}")).collect();
             let endings = endings.join(" or ");
-            Err(args.fault(format!("{out}: the name of {what} ends with {endings}, or --format says it")))
+            Err(args.fault(format!(
+                "{out}: the name of {what} ends with {endings}, or --format says it"
+            )))
         }
     }
 }

@@ -33,7 +33,13 @@ const PAGES: [Shown; 4] = [
     },
     Shown {
         file: "examples/eight_groups.hub",
-        words: &[("x0", 0, 2), ("x1", 1, 1), ("x2", 2, 2), ("x3", 3, 1), ("x7", 7, 3)],
+        words: &[
+            ("x0", 0, 2),
+            ("x1", 1, 1),
+            ("x2", 2, 2),
+            ("x3", 3, 1),
+            ("x7", 7, 3),
+        ],
         names: &["x0", "x1", "x2", "x3"],
         instants: &[0, 6, 7, 24, 29, 30, 31, 59, 60],
     },
@@ -114,14 +120,25 @@ fn seen(folder: &Folder, page: &str, script: &str) -> String {
     let file = folder.at("tried.html");
     fs::write(&file, page).expect("a page");
     let ran = Command::new("chromium")
-        .args(["--headless", "--no-sandbox", "--disable-gpu", "--virtual-time-budget=4000"])
-        .arg(format!("--user-data-dir={}", folder.at("profile").display()))
+        .args([
+            "--headless",
+            "--no-sandbox",
+            "--disable-gpu",
+            "--virtual-time-budget=4000",
+        ])
+        .arg(format!(
+            "--user-data-dir={}",
+            folder.at("profile").display()
+        ))
         .arg("--dump-dom")
         .arg(format!("file://{}", file.display()))
         .output()
         .expect("it runs");
     let dom = String::from_utf8_lossy(&ran.stdout).into_owned();
-    let told = dom.split("<pre id=\"told\">").nth(1).expect("what the script wrote");
+    let told = dom
+        .split("<pre id=\"told\">")
+        .nth(1)
+        .expect("what the script wrote");
     told.split("</pre>").next().unwrap_or_default().to_string()
 }
 
@@ -133,18 +150,33 @@ fn top() -> std::path::PathBuf {
 fn made(folder: &Folder, shown: &Shown) -> (String, Vec<u8>) {
     let file = top().join(shown.file).display().to_string();
     let [page, net] = ["page.html", "x.net"].map(|name| folder.at(name).display().to_string());
-    let words: Vec<String> = shown.words.iter().map(|(name, _, word)| format!("{name}={word}")).collect();
+    let words: Vec<String> = shown
+        .words
+        .iter()
+        .map(|(name, _, word)| format!("{name}={word}"))
+        .collect();
     let mut line = vec!["show", &file, "-o", &page, "--to", "130"];
     line.extend(words.iter().map(String::as_str));
     for line in [line, vec!["compile", &file, "-o", &net]] {
         let ran = hub(&line, "");
-        assert!(ran.status.success(), "{}", String::from_utf8_lossy(&ran.stderr));
+        assert!(
+            ran.status.success(),
+            "{}",
+            String::from_utf8_lossy(&ran.stderr)
+        );
     }
-    (fs::read_to_string(page).expect("a page"), fs::read(net).expect("a netlist"))
+    (
+        fs::read_to_string(page).expect("a page"),
+        fs::read(net).expect("a netlist"),
+    )
 }
 
 fn set(part: &str) -> BTreeSet<String> {
-    part.trim().split(',').filter(|word| !word.is_empty()).map(String::from).collect()
+    part.trim()
+        .split(',')
+        .filter(|word| !word.is_empty())
+        .map(String::from)
+        .collect()
 }
 
 /// The cells that have a pulse in them or put one out.
@@ -163,24 +195,52 @@ fn compare(shown: &Shown, netlist: &Netlist, state: &[u8], line: &str, page: &st
     let kind = |cell: u16| netlist.cells[usize::from(cell)].kind;
     let high = |cell: &u16| is_control(kind(*cell)) && value_in(state, *cell) > 0;
     let drawn = |cell: &u16| page.contains(&format!("<rect id=\"c{cell}\""));
-    let mut boxes: BTreeSet<String> = cells().filter(high).filter(drawn).map(|c| format!("c{c}")).collect();
+    let mut boxes: BTreeSet<String> = cells()
+        .filter(high)
+        .filter(drawn)
+        .map(|c| format!("c{c}"))
+        .collect();
     if high(&netlist.finish) {
         boxes.insert("finish".to_string());
     }
     assert_eq!(set(parts[1]), boxes, "boxes: {line}");
     let wired = |cell: &u16| page.contains(&format!("<path id=\"w{cell}-"));
-    let wires = cells().filter(high).filter(wired).map(|c| c.to_string()).collect();
+    let wires = cells()
+        .filter(high)
+        .filter(wired)
+        .map(|c| c.to_string())
+        .collect();
     assert_eq!(set(parts[2]), wires, "wires: {line}");
     let mut dots = BTreeSet::new();
     for cell in cells().filter(|cell| kind(*cell) == DELAY) {
         let ages = 0..netlist.cells[usize::from(cell)].delay;
-        dots.extend(ages.filter(|age| input_in(state, cell, *age)).map(|age| format!("{cell}@{age}")));
+        dots.extend(
+            ages.filter(|age| input_in(state, cell, *age))
+                .map(|age| format!("{cell}@{age}")),
+        );
     }
     assert_eq!(set(parts[3]), dots, "dots: {line}");
     let merges = cells().filter(|cell| matches!(kind(*cell), 38 | 39));
-    let bits = |cell: u16| [(1, "a"), (2, "b")].into_iter().filter(move |(bit, _)| held_in(state, cell) & bit > 0).map(move |(_, name)| format!("{cell}{name}"));
-    assert_eq!(set(parts[4]), merges.flat_map(bits).collect(), "held: {line}");
-    let lit: BTreeSet<String> = spans(page).into_iter().filter(|own| own.split('+').any(|cell| cell.parse().is_ok_and(|cell| is_active(netlist, state, cell)))).collect();
+    let bits = |cell: u16| {
+        [(1, "a"), (2, "b")]
+            .into_iter()
+            .filter(move |(bit, _)| held_in(state, cell) & bit > 0)
+            .map(move |(_, name)| format!("{cell}{name}"))
+    };
+    assert_eq!(
+        set(parts[4]),
+        merges.flat_map(bits).collect(),
+        "held: {line}"
+    );
+    let lit: BTreeSet<String> = spans(page)
+        .into_iter()
+        .filter(|own| {
+            own.split('+').any(|cell| {
+                cell.parse()
+                    .is_ok_and(|cell| is_active(netlist, state, cell))
+            })
+        })
+        .collect();
     let on: BTreeSet<String> = set(parts[5]);
     assert_eq!(on, lit, "lit: {line}");
     let memories: Vec<u16> = cells().filter(|cell| kind(*cell) == 40).collect();
@@ -197,7 +257,10 @@ fn compare(shown: &Shown, netlist: &Netlist, state: &[u8], line: &str, page: &st
 fn spans(page: &str) -> BTreeSet<String> {
     let spans = page.split("data-cells=\"").skip(1);
     let spans = spans.filter_map(|rest| rest.split('"').next());
-    spans.filter(|cells| !cells.is_empty() && !cells.contains('$')).map(|cells| cells.replace(' ', "+")).collect()
+    spans
+        .filter(|cells| !cells.is_empty() && !cells.contains('$'))
+        .map(|cells| cells.replace(' ', "+"))
+        .collect()
 }
 
 fn is_installed() -> bool {
@@ -215,18 +278,34 @@ fn pages_show_what_the_states_hold() {
         let folder = Folder::new("shown");
         let (page, file) = made(&folder, shown);
         let others = page.replace("http://www.w3.org/2000/svg", "");
-        assert!(!others.contains("http") && !others.contains("src="), "one file is all");
+        assert!(
+            !others.contains("http") && !others.contains("src="),
+            "one file is all"
+        );
         let netlist = product::read_netlist(&file).expect("a netlist");
-        let all: BTreeSet<String> = spans(&page).iter().flat_map(|own| own.split('+').map(String::from).collect::<Vec<_>>()).collect();
+        let all: BTreeSet<String> = spans(&page)
+            .iter()
+            .flat_map(|own| own.split('+').map(String::from).collect::<Vec<_>>())
+            .collect();
         for (cell, own) in netlist.cells.iter().enumerate() {
-            assert!(own.kind != DELAY || all.contains(&cell.to_string()), "cell {cell} is a statement's");
+            assert!(
+                own.kind != DELAY || all.contains(&cell.to_string()),
+                "cell {cell} is a statement's"
+            );
         }
         if !installed {
             continue;
         }
-        let looks: String = shown.instants.iter().map(|t| format!("look({t});\n")).collect();
+        let looks: String = shown
+            .instants
+            .iter()
+            .map(|t| format!("look({t});\n"))
+            .collect();
         let told = seen(&folder, &page, &format!("{LOOK}{looks}"));
-        let lines: Vec<&str> = told.lines().filter(|line| line.starts_with("at ")).collect();
+        let lines: Vec<&str> = told
+            .lines()
+            .filter(|line| line.starts_with("at "))
+            .collect();
         assert_eq!(lines.len(), shown.instants.len(), "{told}");
         let mut start: Store = [0; store::LENGTH];
         for (_, place, word) in shown.words {
@@ -252,10 +331,21 @@ fn pages_do_what_is_asked() {
     let folder = Folder::new("asked");
     let (page, _) = made(&folder, &PAGES[0]);
     let told = seen(&folder, &page, &format!("{LOOK}{TRY}"));
-    let told: Vec<&str> = told.lines().filter(|line| !line.starts_with("at ")).collect();
+    let told: Vec<&str> = told
+        .lines()
+        .filter(|line| !line.starts_with("at "))
+        .collect();
     let expected = [
-        "rows 0", "rows 1", "rows 0", "rows 1", "folded 1 true", "folded 0 false", "step 6",
-        "step 5", "zoom true", "played true",
+        "rows 0",
+        "rows 1",
+        "rows 0",
+        "rows 1",
+        "folded 1 true",
+        "folded 0 false",
+        "step 6",
+        "step 5",
+        "zoom true",
+        "played true",
     ];
     assert_eq!(told, expected);
 }

@@ -39,7 +39,8 @@ fn run(args: &Args) -> Result<Done, Stop> {
     let to = instant(args, &circuit, "to")?;
     if let Some(to) = to.filter(|to| *to > LIMIT) {
         let most = grouped(LIMIT);
-        let message = format!("--to {to}: a page shows at most {most} instants; 'hub wave' shows more");
+        let message =
+            format!("--to {to}: a page shows at most {most} instants; 'hub wave' shows more");
         return Err(args.fault(message).into());
     }
     let starts = starts(args, &circuit, to)?;
@@ -56,7 +57,9 @@ fn run(args: &Args) -> Result<Done, Stop> {
     let ran = recording::record(&mut course, &circuit.netlist, to);
     let ran = ran.map_err(|met| refused(&given, &circuit.netlist, &course, met))?;
     let note = cut.as_ref().map(Cut::line).unwrap_or_default();
-    let title = [vec![given.name.clone()], words.to_vec()].concat().join(" ");
+    let title = [vec![given.name.clone()], words.to_vec()]
+        .concat()
+        .join(" ");
     let text = page(&circuit, &given.bytes, &ran, (&title, note.trim_end()))?;
     let mut done = output::put(args, text, || Json::Null)?;
     if out != "-" && !args.flag("json") {

@@ -95,7 +95,11 @@ impl Cut {
     pub fn line(&self) -> String {
         let at = grouped(self.at);
         match self.of {
-            Some(of) => format!("cut at {at} of {}: --to {} shows all\n", grouped(of), of + AFTER),
+            Some(of) => format!(
+                "cut at {at} of {}: --to {} shows all\n",
+                grouped(of),
+                of + AFTER
+            ),
             None => {
                 let look = grouped(LOOK);
                 format!("cut at {at}, and still open {look} later: --to N shows more\n")

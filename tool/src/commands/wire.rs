@@ -14,7 +14,8 @@ pub const COMMAND: Command = Command {
         finish wire; 'finish CELL, pulse W' tells also how long pulses are, 1 to 8 instants.\n\
         Numbers that are left out, and the lines 'idle memories' and 'idle arrays', are memories\n\
         and arrays that nothing writes to; where no line is about arrays, they stand behind 'idle\n\
-        memories'. Text after # is passed over.",
+        memories'. Text after # is passed over. Every command takes NAME.list as well, in place\n\
+        of the netlist file, with the names that it gives.",
     example: "hub cells examples/two_boards.hub | hub wire - -o two_boards.net",
     options: Options::plain(&["o"], &[]),
     run,

@@ -103,11 +103,26 @@ fn data(circuit: &Circuit, text: &[u8], run: &Recording, wires: &[Wire]) -> Resu
                 Json::list(fields, Json::number)
             }),
         ),
-        ("names", Json::list(0..netlist.cells.len(), |cell| Json::text(called(cell)))),
-        ("abouts", Json::list(notes, |note| Json::text(note.unwrap_or_default()))),
+        (
+            "names",
+            Json::list(0..netlist.cells.len(), |cell| Json::text(called(cell))),
+        ),
+        (
+            "abouts",
+            Json::list(notes, |note| Json::text(note.unwrap_or_default())),
+        ),
         ("v", Json::list(&run.cells, changes)),
-        ("held", Json::Map(held.map(|(cell, own)| (cell.to_string(), changes(own))).collect())),
-        ("words", Json::List(memories.iter().enumerate().filter_map(word).collect())),
+        (
+            "held",
+            Json::Map(
+                held.map(|(cell, own)| (cell.to_string(), changes(own)))
+                    .collect(),
+            ),
+        ),
+        (
+            "words",
+            Json::List(memories.iter().enumerate().filter_map(word).collect()),
+        ),
         (
             "elements",
             Json::list(&run.elements, |(place, own)| {

@@ -33,7 +33,11 @@ pub fn source(circuit: &Circuit, text: &[u8]) -> Result<String, Fault> {
             None => writer.outlined(tree, &labels, 0),
         }
     }
-    writer.upto(if program.places.is_some() { text.len() } else { 0 });
+    writer.upto(if program.places.is_some() {
+        text.len()
+    } else {
+        0
+    });
     Ok(writer.out)
 }
 

@@ -141,7 +141,10 @@ fn scopes(labels: &Labels, called: &[Option<String>]) -> Vec<Vec<String>> {
     let mut all = vec![Vec::new(); called.len()];
     for (number, tree) in labels.trees.iter().enumerate() {
         let around = match number + 1 < labels.trees.len() {
-            true => vec![format!("procedure.{}", labels.names.procedure(number as u16))],
+            true => vec![format!(
+                "procedure.{}",
+                labels.names.procedure(number as u16)
+            )],
             false => Vec::new(),
         };
         put(tree, &around, called, &mut all);

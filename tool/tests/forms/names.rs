@@ -24,7 +24,9 @@ fn wires_of_a_text_tell_their_line() {
     let (_, text) = &examples()[examples().len() - 1];
     let circuit = circuits::of_text(text);
     let wires = wires(&circuit, text, None);
-    let loops = wires.iter().filter(|wire| wire.name.ends_with("while.start"));
+    let loops = wires
+        .iter()
+        .filter(|wire| wire.name.ends_with("while.start"));
     let loops: Vec<&Wire> = loops.collect();
     assert_eq!(loops[0].name, "line1.while.start");
     assert_eq!(loops[1].name, "line2.while.start");
@@ -39,7 +41,12 @@ fn statements_of_one_line_differ() {
     let text = "x0 := 1 @1 ; x0 := 2 @1 ; tick 3 ; a1[0] := 3 @1";
     let circuit = circuits::of_text(text);
     let shown = wires(&circuit, text, None);
-    for name in ["line1.x0.start", "line1.x0_2.start", "line1.tick.finish", "line1.a1.finish"] {
+    for name in [
+        "line1.x0.start",
+        "line1.x0_2.start",
+        "line1.tick.finish",
+        "line1.a1.finish",
+    ] {
         assert!(names(&shown).contains(&name), "{name}");
     }
     let asked = wires(&circuit, text, Some("line1.x0_2.start,assign4.start"));
@@ -79,11 +86,16 @@ fn names_in_dumps_differ() {
         let wires = wires(&circuit, "", None);
         let waves = recorded(&circuit, (&[0; hub::store::LENGTH], &[]), wires, 0, 20);
         let full = scopes(vcd::WHOLE, &waves.wires).full();
-        let leaves: BTreeSet<&str> = full.iter().map(|n| n.rsplit('.').next().expect("a name")).collect();
+        let leaves: BTreeSet<&str> = full
+            .iter()
+            .map(|n| n.rsplit('.').next().expect("a name"))
+            .collect();
         assert_eq!(leaves.len(), full.len());
         let rows = gtkw::gtkw("x.vcd", &waves);
         let rows = rows.lines().filter(|line| line.starts_with("hub."));
-        let rows: BTreeSet<String> = rows.map(|row| row.split('[').next().expect("a name").to_string()).collect();
+        let rows: BTreeSet<String> = rows
+            .map(|row| row.split('[').next().expect("a name").to_string())
+            .collect();
         let (dumped, _) = read(&vcd::vcd(&waves));
         assert_eq!(rows, dumped.keys().cloned().collect());
     }

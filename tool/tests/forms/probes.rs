@@ -27,7 +27,10 @@ fn stops_tell_what_every_instant_does() {
             let by_stops = probe::record(&file, &start(), wires.clone(), from, 90).expect("a run");
             let by_instants = circuits::recorded(&circuit, (&start(), &[]), wires, from, 90);
             assert_eq!(by_stops, by_instants, "{name}");
-            let moves = by_stops.values[0].windows(2).filter(|pair| pair[0] != pair[1]).count();
+            let moves = by_stops.values[0]
+                .windows(2)
+                .filter(|pair| pair[0] != pair[1])
+                .count();
             changes += moves;
             pulses += usize::from(program.pulse > 1 && moves > 0);
         }
@@ -47,7 +50,10 @@ fn many_wires_share_their_stops() {
             continue;
         };
         let by_stops = probe::record(&file, &start(), wires.clone(), 0, 200).expect("a run");
-        assert_eq!(by_stops, circuits::recorded(&circuit, (&start(), &[]), wires, 0, 200));
+        assert_eq!(
+            by_stops,
+            circuits::recorded(&circuit, (&start(), &[]), wires, 0, 200)
+        );
     }
     let circuit = circuits::of_program(&programs()[0]);
     let wires = choice::wires(&circuit, &[], Some("in_flight"), false).expect("a wire");

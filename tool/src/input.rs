@@ -1,5 +1,5 @@
-//! The file that a command is about: a text, an outline, a program's bytes or a
-//! netlist file, with a table of operator times where one is given, the number
+//! The file that a command is about: a text, an outline, a program's bytes, a
+//! netlist file or a list of cells, with a table of operator times where one is given, the number
 //! of procedures and the pulse length.
 
 use crate::answers::counted;
@@ -9,6 +9,8 @@ use crate::assemble::assemble;
 use crate::commands::Stop;
 use crate::files;
 use crate::lines;
+use crate::listed;
+use crate::listing::Listed;
 use crate::names::Names;
 use crate::origin::{self, Trace};
 use crate::product;
@@ -25,6 +27,15 @@ pub enum Form {
     Outline,
     Program,
     Netlist,
+    /// A netlist as a list of its cells.
+    List,
+}
+
+impl Form {
+    /// Whether it tells a circuit and no program.
+    fn is_circuit(self) -> bool {
+        matches!(self, Form::Netlist | Form::List)
+    }
 }
 
 /// A file as it was given.
@@ -61,15 +72,18 @@ pub struct Circuit {
     pub file: Vec<u8>,
     pub netlist: Netlist,
     pub program: Option<(Program, Trace)>,
+    /// The list that it was wired by.
+    pub listed: Option<Listed>,
 }
 
 impl Circuit {
-    /// The names that its program has.
+    /// The names that its program or its list has.
     pub fn names(&self) -> Names {
-        let program = self.program.as_ref();
-        program
-            .map(|(program, _)| program.names.clone())
-            .unwrap_or_default()
+        match (&self.program, &self.listed) {
+            (Some((program, _)), _) => program.names.clone(),
+            (None, Some(listed)) => listed::names(listed),
+            (None, None) => Names::default(),
+        }
     }
 
     /// How it is run on a state of this format.
@@ -90,11 +104,11 @@ impl Given {
 
     /// Reads FILE, and the file of --times; --as says what FILE is, or else
     /// its name: NAME.outline an outline, NAME.prog a program's bytes, NAME.net
-    /// a netlist, others texts.
+    /// a netlist, NAME.list a list of cells, others texts.
     pub fn read(args: &Args, name: &str) -> Result<Given, Stop> {
         let form = match args.value("as") {
             Some(word) => form_named(word).ok_or_else(|| {
-                let forms = "text, short, outline, program or netlist";
+                let forms = "text, short, outline, program, netlist or list";
                 args.fault(format!("--as takes {forms}, not '{word}'"))
             })?,
             None => form_of(name),
@@ -104,7 +118,7 @@ impl Given {
 
     /// Reads FILE, which is of this form, and the file of --times.
     pub fn read_as(args: &Args, name: &str, form: Form) -> Result<Given, Stop> {
-        if let Some(option) = args.said_of_program().filter(|_| form == Form::Netlist) {
+        if let Some(option) = args.said_of_program().filter(|_| form.is_circuit()) {
             let message = "goes with a program, and a netlist is compiled already";
             return Err(args.fault(format!("--{option} {message}")).into());
         }
@@ -134,7 +148,7 @@ impl Given {
     /// nothing is given but a table.
     pub fn wired(mut self, args: &Args, wiring: Wiring) -> Result<Given, Fault> {
         self.aside.wiring = wiring;
-        if wiring == Wiring::Imperative || self.form == Form::Netlist {
+        if wiring == Wiring::Imperative || self.form.is_circuit() {
             return Ok(self);
         }
         let Aside {
@@ -192,7 +206,7 @@ impl Given {
     /// The program, accepted by the product.
     pub fn program(&self) -> Result<Program, Stop> {
         let (bytes, source) = match self.form {
-            Form::Netlist => {
+            Form::Netlist | Form::List => {
                 let name = &self.name;
                 let message = format!("{name} is a netlist, without its program; give the program");
                 return Err(Fault::usage(message).into());
@@ -249,6 +263,18 @@ impl Given {
                 file: self.bytes.clone(),
                 netlist,
                 program: None,
+                listed: None,
+            });
+        }
+        if self.form == Form::List {
+            let text = lines::text_of(&self.name, &self.bytes)?;
+            let (listed, file) = listed::accepted(&self.name, text, self.aside.wiring)?;
+            return Ok(Circuit {
+                wiring: self.aside.wiring,
+                file,
+                netlist: listed.netlist.clone(),
+                program: None,
+                listed: Some(listed),
             });
         }
         let program = self.program()?;
@@ -266,6 +292,7 @@ impl Given {
             file,
             netlist,
             program: Some((program, trace)),
+            listed: None,
         })
     }
 
@@ -291,6 +318,7 @@ fn form_named(word: &str) -> Option<Form> {
         "outline" => Some(Form::Outline),
         "program" => Some(Form::Program),
         "netlist" => Some(Form::Netlist),
+        "list" => Some(Form::List),
         _ => None,
     }
 }
@@ -302,6 +330,8 @@ fn form_of(name: &str) -> Form {
         Form::Outline
     } else if name.ends_with(".net") {
         Form::Netlist
+    } else if name.ends_with(".list") {
+        Form::List
     } else {
         Form::Text
     }

@@ -10,6 +10,8 @@ pub enum Json {
     Text(String),
     List(Vec<Json>),
     Object(Vec<(&'static str, Json)>),
+    /// An object whose names aren't known beforehand.
+    Map(Vec<(String, Json)>),
 }
 
 impl Json {
@@ -47,6 +49,10 @@ impl Display for Json {
                 separated(out, ['[', ']'], values, |value, out| write!(out, "{value}"))
             }
             Json::Object(fields) => separated(out, ['{', '}'], fields, |(name, value), out| {
+                quoted(name, out)?;
+                write!(out, ":{value}")
+            }),
+            Json::Map(fields) => separated(out, ['{', '}'], fields, |(name, value), out| {
                 quoted(name, out)?;
                 write!(out, ":{value}")
             }),

@@ -98,6 +98,11 @@ pub fn of_cells(circuit: &Circuit, text: &[u8]) -> Result<Vec<Option<String>>, F
     for (word, cell) in of_last(circuit) {
         notes[usize::from(cell)] = Some(format!("{word} at the end"));
     }
+    if let Some(listed) = &circuit.listed {
+        for (note, name) in notes.iter_mut().zip(&listed.names) {
+            *note = note.take().or(name.clone());
+        }
+    }
     if let Some((program, trace)) = &circuit.program {
         let labels = Labels::of(program, text)?;
         for (note, said) in notes.iter_mut().zip(of_origins(&labels, trace)) {

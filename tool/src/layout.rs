@@ -3,7 +3,7 @@
 
 use crate::store::{Store, OF_ARRAYS};
 use crate::types::{Cell, Format, Netlist};
-use values::layout::{cell_at, BLOCK, BLOCK_HEADER};
+use values::layout::{cell_at, cell_length, BLOCK, BLOCK_HEADER, STATE_HEADER};
 pub use values::layout::{file_length, state_length, CELLS, FILE, PROGRAM, TEXT};
 
 /// The number in flight stands behind the instant.
@@ -11,6 +11,8 @@ const IN_FLIGHT: usize = 4;
 /// Where a cell's line begins, behind its values, held bits and zero bytes.
 const LINE: usize = 8;
 const WORD: usize = 2;
+/// Where a merge's held bits stand, behind a cell's two values.
+const HELD: usize = 4;
 
 /// The netlist in a file whose blocks the product has accepted.
 pub fn netlist_in(file: &[u8]) -> Netlist {
@@ -59,6 +61,29 @@ pub fn start_left_in(state: &[u8]) -> u8 {
 /// What a cell shows in a full state.
 pub fn value_in(state: &[u8], cell: u16) -> u16 {
     word_at(state, cell_at(Format::Full, usize::from(cell)))
+}
+
+/// What a cell showed an instant ago, in a full state.
+pub fn value_before_in(state: &[u8], cell: u16) -> u16 {
+    word_at(state, cell_at(Format::Full, usize::from(cell)) + WORD)
+}
+
+/// The bits that a merge holds, in a full state: 1 for that of a, 2 for that of b.
+pub fn held_in(state: &[u8], cell: u16) -> u8 {
+    let at = cell_at(Format::Full, usize::from(cell)) + HELD;
+    state[at] + 2 * state[at + 1]
+}
+
+/// Whether the input of a delay was 1 so many instants ago, up to 255, in a full state.
+pub fn input_in(state: &[u8], cell: u16, ago: u8) -> bool {
+    let at = cell_at(Format::Full, usize::from(cell)) + LINE;
+    state[at + usize::from(ago / 8)] >> (ago % 8) & 1 == 1
+}
+
+/// The cells of a full state.
+pub fn cells_in(state: &[u8]) -> usize {
+    let cells = state.len() - WORD * OF_ARRAYS.len() - STATE_HEADER;
+    cells / cell_length(Format::Full)
 }
 
 /// An element, by its place in the store, in a state of so many cells.

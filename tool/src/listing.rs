@@ -11,11 +11,13 @@ use crate::types::{Cell, Netlist};
 use std::collections::{HashMap, HashSet};
 
 /// A netlist from a list, with the line of each cell.
-#[derive(Debug)]
+#[derive(Clone, Debug)]
 pub struct Listed {
     pub netlist: Netlist,
     /// For each cell its line; an idle one that was left out has none.
     pub lines: Vec<Option<usize>>,
+    /// The names that the list gives to its cells.
+    pub names: Vec<Option<String>>,
 }
 
 /// A cell in words.
@@ -82,8 +84,11 @@ pub fn wired(text: &str) -> Result<Listed, Wrong> {
             Slot::Idle(cell) => *cell,
         });
     }
-    let lines = placed.iter().map(Slot::line).collect();
-    Ok(Listed { netlist, lines })
+    Ok(Listed {
+        netlist,
+        lines: placed.iter().map(Slot::line).collect(),
+        names: placed.iter().map(Slot::name).collect(),
+    })
 }
 
 /// A line of a list that isn't empty.
@@ -216,6 +221,13 @@ impl Slot<'_, '_> {
     fn line(&self) -> Option<usize> {
         match self {
             Slot::Listed(entry) => Some(entry.line),
+            Slot::Idle(_) => None,
+        }
+    }
+
+    fn name(&self) -> Option<String> {
+        match self {
+            Slot::Listed(entry) => entry.name.map(String::from),
             Slot::Idle(_) => None,
         }
     }

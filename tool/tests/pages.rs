@@ -15,6 +15,7 @@ const PAGES: [&str; 5] = [
     "README.md",
     "examples/README.md",
 ];
+const EXERCISES: &str = "docs/course/exercises";
 const PROMPT: &str = "$ ";
 const FENCE: &str = "```console";
 /// What a command line is followed by where its exit status isn't 0.
@@ -32,7 +33,7 @@ fn keep() -> bool {
 fn folder(page: &str) -> PathBuf {
     let name = page.replace(['/', '.'], "-");
     let folder = std::env::temp_dir().join(format!("hub-{name}-{}", std::process::id()));
-    for part in ["examples", "docs/course"] {
+    for part in ["examples", "docs/course", EXERCISES] {
         fs::create_dir_all(folder.join(part)).expect("a folder");
         for file in files(&top().join(part)) {
             let name = file.file_name().expect("a name");
@@ -50,13 +51,16 @@ fn files(folder: &Path) -> Vec<PathBuf> {
     let entries = fs::read_dir(folder).expect("a readable folder");
     let mut files: Vec<_> = entries
         .map(|entry| entry.expect("an entry").path())
+        .filter(|file| file.is_file())
         .collect();
     files.sort();
     files
 }
 
+/// Whether a file is made by a command line: a picture, or a page of a run.
 fn is_picture(file: &Path) -> bool {
-    file.extension().is_some_and(|ending| ending == "svg")
+    file.extension()
+        .is_some_and(|ending| ending == "svg" || ending == "html")
 }
 
 /// What a line of a shell tells, with the tool on its path.
@@ -142,6 +146,28 @@ fn compare_pictures(folder: &Path, page: &str) {
             page.contains(&format!("](course/{name})")),
             "{name} is shown"
         );
+    }
+}
+
+/// The course has eight exercises, and the solution of each is as expected: all of its
+/// runs pass, and nothing is warned of.
+#[test]
+fn exercises_have_solutions() {
+    let course = fs::read_to_string(top().join("docs/COURSE.md")).expect("a page");
+    let ending = |file: &PathBuf| file.extension().map(|e| e.to_string_lossy().into_owned());
+    let all = files(&top().join(EXERCISES));
+    let (cases, solutions): (Vec<PathBuf>, Vec<PathBuf>) = all
+        .into_iter()
+        .partition(|file| ending(file).is_some_and(|ending| ending == "cases"));
+    assert_eq!((cases.len(), solutions.len()), (8, 8));
+    for (cases, solution) in cases.iter().zip(&solutions) {
+        let name = cases.file_stem().expect("a name").to_string_lossy();
+        assert_eq!(cases.file_stem(), solution.file_stem());
+        assert!(course.contains(&format!("({name})")), "{name} is asked for");
+        let tested = told(&format!("hub test {}", cases.display()), &top());
+        assert!(tested.ends_with(" passed, 0 failed\n"), "{tested}");
+        let checked = told(&format!("hub check --deny {}", solution.display()), &top());
+        assert!(!checked.contains(STATUS), "{checked}");
     }
 }
 

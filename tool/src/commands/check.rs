@@ -23,8 +23,9 @@ pub const COMMAND: Command = Command {
            procedures that nobody calls; words that are never read are noted. With --deny a warning\n\
            makes the exit status 1. Of a refused program: line and column, the place, the rule and\n\
            what to do, of too small delays all. NAME.outline is an outline, NAME.prog a program's\n\
-           bytes, NAME.net a netlist, or --as says it (text, short, outline, program, netlist). With\n\
-           --functional it is told whether there is a functional circuit.",
+           bytes, NAME.net a netlist, NAME.list a list of cells, or --as says it (text, short,\n\
+           outline, program, netlist, list). With --functional it is told whether there is a\n\
+           functional circuit.",
     example: "hub check examples/two_boards.hub",
     options: Options::of_circuit(&[], &["deny"]),
     run,

@@ -10,28 +10,25 @@ use crate::types::Done;
 
 pub const COMMAND: Command = Command {
     name: "draw",
-    usage: "FILE -o x.svg | x.dot [--all]",
+    usage: "FILE -o x.svg | x.dot [--format F] [--all]",
     about: "draws a program's circuit, or a netlist, as a picture: SVG, or DOT for Graphviz",
     more: "Each statement has a frame. Control wires are thin and dark, word wires wide and\n\
         lighter; a word or an array that is read is a flag with its name. Memories and arrays\n\
         that nothing writes to are left out; --all draws them too. Of a functional circuit the\n\
-        words that the program writes are drawn as they are at its end.",
+        words that the program writes are drawn as they are at its end. --format says svg or dot\n\
+        where no name does, as in -o -.",
     example: "hub draw examples/two_boards.hub -o two_boards.svg",
-    options: Options::of_circuit(&["o"], &["all"]),
+    options: Options::of_circuit(&["o", "format"], &["all"]),
     run,
 };
 
 fn run(args: &Args) -> Result<Done, Stop> {
     let [file] = args.exactly(["FILE"])?;
-    let out = args.needed("o")?;
+    args.needed("o")?;
     let all = args.flag("all");
-    let drawn = if out.ends_with(".svg") {
-        svg::svg
-    } else if out.ends_with(".dot") {
-        dot::dot
-    } else {
-        let message = format!("{out}: the name of a picture ends with .svg or .dot");
-        return Err(args.fault(message).into());
+    let drawn = match output::format(args, &["svg", "dot"], None, "a picture")? {
+        "svg" => svg::svg,
+        _ => dot::dot,
     };
     let given = Given::read(args, file)?;
     let circuit = given.circuit()?;

@@ -16,6 +16,7 @@ mod manual;
 mod outline;
 mod read;
 mod run;
+mod show;
 mod start;
 mod states;
 mod test;
@@ -60,6 +61,7 @@ pub const COMMANDS: &[&Command] = &[
     &wire::COMMAND,
     &draw::COMMAND,
     &wave::COMMAND,
+    &show::COMMAND,
     &verilog::COMMAND,
     &compile::COMMAND,
     &read::COMMAND,

@@ -17,8 +17,8 @@ pub const COMMAND: Command = Command {
     usage: "FILE [NAME=N ..] [--start FILE] [--budget N] [--all]",
     about: "runs a program on its circuit, and tells what the rules say",
     more: "FILE is a text; NAME.outline is an outline, NAME.prog a program's bytes, NAME.net a\n\
-           netlist, or --as says it (text, short for a text without what long texts have, outline,\n\
-           program, netlist). x0=3 is the word that x0 starts with, a2[5]=7 that of element 5 of\n\
+           netlist, NAME.list a list of cells, or --as says it (text, short for a text without what\n\
+           long texts have, outline, program, netlist, list). x0=3 is the word that x0 starts with, a2[5]=7 that of element 5 of\n\
            array 2, a2=7,8,9 those of its first elements, and ',..' behind the last goes on to\n\
            its end; words and arrays that have names are named. Those that aren't given start as\n\
            0, or as the file of --start has them, a line or more of such words.\n\

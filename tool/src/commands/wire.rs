@@ -2,9 +2,8 @@
 
 use super::{written, Command, Stop};
 use crate::args::{Args, Options};
-use crate::listing;
-use crate::types::Done;
-use crate::{files, lines, product, refusals};
+use crate::types::{Done, Wiring};
+use crate::{lines, listed};
 
 pub const COMMAND: Command = Command {
     name: "wire",
@@ -15,7 +14,8 @@ pub const COMMAND: Command = Command {
         finish wire; 'finish CELL, pulse W' tells also how long pulses are, 1 to 8 instants.\n\
         Numbers that are left out, and the lines 'idle memories' and 'idle arrays', are memories\n\
         and arrays that nothing writes to; where no line is about arrays, they stand behind 'idle\n\
-        memories'. Text after # is passed over.",
+        memories'. Text after # is passed over. Every command takes NAME.list as well, in place\n\
+        of the netlist file, with the names that it gives.",
     example: "hub cells examples/two_boards.hub | hub wire - -o two_boards.net",
     options: Options::plain(&["o"], &[]),
     run,
@@ -25,11 +25,6 @@ fn run(args: &Args) -> Result<Done, Stop> {
     let [name] = args.exactly(["LIST"])?;
     let out = args.needed("o")?;
     let text = lines::read(name)?;
-    let listed = listing::wired(&text).map_err(|wrong| wrong.fault(name))?;
-    let file = product::write_netlist(&listed.netlist).map_err(|met| {
-        let own = listed.lines.get(met.place).filter(|_| met.number == 12);
-        let report = refusals::of_wired(files::shown(name), &listed.netlist, met);
-        lines::lined(report, &text, own.copied().flatten())
-    })?;
+    let (listed, file) = listed::accepted(name, &text, Wiring::Imperative)?;
     written(args, out, &file, (listed.netlist.cells.len(), "cell"))
 }

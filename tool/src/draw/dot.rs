@@ -47,20 +47,23 @@ fn put_cells(out: &mut String, block: &Block, plan: &Plan, frame: Option<usize>)
     for placed in block
         .cells
         .iter()
-        .filter(|p| block.frame_of(&[**p]) == frame)
+        .filter(|p| block.frame_of(&[**p]) == frame && plan.next(p.cell).is_none())
     {
-        put_flags(out, plan, placed.cell);
+        for or in plan.chain(placed.cell) {
+            put_flags(out, plan, or);
+        }
+        let numbers = plan.numbers(placed.cell);
         let title = escaped(&plan.title(placed.cell));
         let _ = match placed.cell {
             FINISH => writeln!(out, "  finish [shape=oval];"),
             cell if plan.is_control(cell) => writeln!(
                 out,
-                "  c{cell} [label=\"{title}\\n{cell}\", shape=box, style=rounded, \
+                "  c{cell} [label=\"{title}\\n{numbers}\", shape=box, style=rounded, \
                  color=\"{CONTROL_COLOUR}\"];"
             ),
             cell => writeln!(
                 out,
-                "  c{cell} [label=\"{title}\\n{cell}\", shape=box, penwidth=2, \
+                "  c{cell} [label=\"{title}\\n{numbers}\", shape=box, penwidth=2, \
                  color=\"{WORD_COLOUR}\"];"
             ),
         };
@@ -90,11 +93,14 @@ fn put_flags(out: &mut String, plan: &Plan, cell: u16) {
 
 /// The wires that a cell takes in.
 fn put_edges(out: &mut String, plan: &Plan, cell: u16) {
-    let to = name(cell);
+    let (own, to) = (name(cell), name(plan.wide(cell)));
     for (port, wire) in plan.inputs(cell).into_iter().enumerate() {
+        if plan.is_inside(wire, cell) {
+            continue;
+        }
         let word = format!("[color=\"{WORD_COLOUR}\", penwidth=2.6]");
         let _ = match plan.tag(wire) {
-            Some(_) => writeln!(out, "  {to}_{port} -> {to} {word};"),
+            Some(_) => writeln!(out, "  {own}_{port} -> {to} {word};"),
             None if plan.is_control(wire) => {
                 writeln!(out, "  c{wire} -> {to} [color=\"{CONTROL_COLOUR}\"];")
             }

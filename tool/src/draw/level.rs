@@ -2,11 +2,13 @@
 //! each number of cells that a pulse or word has come through.
 
 use super::block::Block;
+use super::chains::ending;
 use super::{stores, with_finish};
 use crate::kinds::{inputs, is_store};
 use crate::types::Netlist;
 
-pub fn placed(netlist: &Netlist, shown: &[bool]) -> Block {
+/// The ors of a chain stand below each other, in the column of the last.
+pub fn placed(netlist: &Netlist, chains: &[Option<u16>], shown: &[bool]) -> Block {
     let levels = levels(netlist);
     let mut rows: Vec<usize> = Vec::new();
     let mut block = Block::default();
@@ -15,10 +17,15 @@ pub fn placed(netlist: &Netlist, shown: &[bool]) -> Block {
         if !shown[at] || is_store(netlist.cells[at].kind) {
             continue;
         }
+        if chains[at].is_some() {
+            continue;
+        }
         let column = levels[at];
         rows.resize(rows.len().max(column + 1), 0);
-        block = block.with(cell, column, rows[column]);
-        rows[column] += 1;
+        for cell in ending(chains, cell) {
+            block = block.with(cell, column, rows[column]);
+            rows[column] += 1;
+        }
     }
     let words = stores(netlist, shown);
     let words = words

@@ -4,6 +4,7 @@
 //! this to Graphviz.
 
 mod block;
+mod chains;
 pub mod dot;
 mod functional;
 mod level;
@@ -30,13 +31,18 @@ struct Plan<'c> {
     /// The variables of memories and arrays, at their cells; in a functional circuit also
     /// those of the words that a cell is about.
     variables: Vec<Option<String>>,
+    /// The names that a list gives to its cells.
+    listed: Vec<Option<String>>,
     block: Block,
+    /// The next or of a chain that is drawn as one.
+    chains: Vec<Option<u16>>,
 }
 
 impl<'c> Plan<'c> {
     fn of(circuit: &'c Circuit, text: &[u8], all: bool) -> Result<Plan<'c>, Fault> {
         let (netlist, wiring) = (&circuit.netlist, circuit.wiring);
         let shown = shown(netlist, wiring, all);
+        let chains = chains::chains(circuit);
         let block = match &circuit.program {
             Some((program, trace)) => {
                 let labels = labels::Labels::of(program, text)?;
@@ -45,12 +51,17 @@ impl<'c> Plan<'c> {
                     Wiring::Functional => functional::placed(netlist, trace, &labels, &shown),
                 }
             }
-            None => level::placed(netlist, &shown),
+            None => level::placed(netlist, &chains, &shown),
         };
         Ok(Plan {
             netlist,
             wiring,
             variables: variables(circuit),
+            listed: match &circuit.listed {
+                Some(listed) => listed.names.clone(),
+                None => vec![None; netlist.cells.len()],
+            },
+            chains: chains::drawn(chains, &block),
             block,
         })
     }
@@ -60,6 +71,38 @@ impl<'c> Plan<'c> {
         match cell {
             FINISH => vec![self.netlist.finish],
             cell => inputs(&self.netlist.cells[usize::from(cell)]),
+        }
+    }
+
+    /// The next or of a cell's chain.
+    fn next(&self, cell: u16) -> Option<u16> {
+        self.chains.get(usize::from(cell)).copied().flatten()
+    }
+
+    /// The ors of a chain that ends with this cell; a cell that is in none is one
+    /// alone.
+    fn chain(&self, last: u16) -> Vec<u16> {
+        chains::ending(&self.chains, last)
+    }
+
+    /// The last or of the chain that a cell is in.
+    fn wide(&self, mut cell: u16) -> u16 {
+        while let Some(next) = self.next(cell) {
+            cell = next;
+        }
+        cell
+    }
+
+    /// Whether a wire goes from an or to the next of its chain, inside of one box.
+    fn is_inside(&self, wire: u16, to: u16) -> bool {
+        self.next(wire) == Some(to)
+    }
+
+    /// The number of a cell, or those of a chain.
+    fn numbers(&self, last: u16) -> String {
+        match self.chain(last)[..] {
+            [first, .., last] => format!("{first} to {last}"),
+            _ => last.to_string(),
         }
     }
 
@@ -74,14 +117,25 @@ impl<'c> Plan<'c> {
             (Some(array), ARRAY) => format!("array {array}"),
             (Some(array), ADDRESS) => format!("address {array}"),
             (Some(variable), MEMORY) => format!("memory {variable}"),
-            (Some(variable), _) => {
-                let title = title(&words_of(own), self.inputs(cell).len());
-                format!("{title} {variable}")
-            }
+            (Some(variable), _) => format!("{} {variable}", self.words(cell)),
             (None, START) if self.netlist.pulse > 1 => {
                 format!("start for {}", self.netlist.pulse)
             }
-            (None, _) => title(&words_of(own), self.inputs(cell).len()),
+            (None, _) => match &self.listed[at] {
+                Some(name) => format!("{name}: {}", self.words(cell)),
+                None => self.words(cell),
+            },
+        }
+    }
+
+    /// The words for a cell, or for the chain that ends with it.
+    fn words(&self, cell: u16) -> String {
+        let own = &self.netlist.cells[usize::from(cell)];
+        let title = title(&words_of(own), self.inputs(cell).len());
+        let ors = self.chain(cell).len();
+        match ors > 1 && self.next(cell).is_none() {
+            true => format!("{title} of {}", ors + 1),
+            false => title,
         }
     }
 

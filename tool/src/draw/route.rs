@@ -57,7 +57,7 @@ struct Run {
 }
 
 pub fn routes(plan: &Plan) -> Routes {
-    let taken: HashSet<_> = plan.block.cells.iter().map(|p| (p.column, p.row)).collect();
+    let taken = Taken::of(plan);
     let mut links = links(plan);
     let borders = Borders::of(&plan.block);
     let mut runs: BTreeMap<(Channel, Zone), Vec<Run>> = BTreeMap::new();
@@ -94,6 +94,9 @@ fn links(plan: &Plan) -> Vec<Link> {
     for to in &plan.block.cells {
         let inputs = plan.inputs(to.cell);
         for (port, wire) in inputs.iter().enumerate() {
+            if plan.is_inside(*wire, to.cell) {
+                continue;
+            }
             if let (None, Some(from)) = (plan.tag(*wire), places.get(wire)) {
                 links.push(Link {
                     from: *from,
@@ -108,15 +111,46 @@ fn links(plan: &Plan) -> Vec<Link> {
     links
 }
 
+/// What is in a wire's way.
+struct Taken {
+    cells: HashSet<(usize, usize)>,
+    /// The columns and rows before which a box goes on from the row above: that of a
+    /// chain of ors.
+    inside: HashSet<(usize, usize)>,
+    rows: usize,
+}
+
+impl Taken {
+    fn of(plan: &Plan) -> Taken {
+        let cells = || plan.block.cells.iter();
+        let goes_on = |p: &&Placed| plan.chains.contains(&Some(p.cell));
+        let places = |p: &Placed| (p.column, p.row);
+        Taken {
+            cells: cells().map(places).collect(),
+            inside: cells().filter(goes_on).map(places).collect(),
+            rows: plan.block.height,
+        }
+    }
+
+    /// The row nearest to this one before which no box is in these columns.
+    fn clear_row(&self, row: usize, columns: std::ops::Range<usize>) -> usize {
+        let clear = |row: &usize| columns.clone().all(|c| !self.inside.contains(&(c, *row)));
+        let above = |by: usize| row.checked_sub(by);
+        let below = |by: usize| Some(row + by).filter(|row| *row <= self.rows);
+        let near = (0..=self.rows).flat_map(|by| [above(by), below(by)]);
+        near.flatten().find(clear).unwrap_or(row)
+    }
+}
+
 /// The channels that a link takes, with the heights or columns between which.
 /// Heights are such that the channel before row r has 10 r, and that no port
 /// but one that is reached straight has the height of a row's outputs.
-fn ways(link: &Link, taken: &HashSet<(usize, usize)>) -> Vec<(Channel, usize, usize)> {
+fn ways(link: &Link, taken: &Taken) -> Vec<(Channel, usize, usize)> {
     let (from, to) = (link.from, link.to);
     let leaves = 10 * from.row + 5;
     let comes = 10 * to.row + if link.port == 0 { 3 } else { 7 };
     let ahead = from.column < to.column;
-    let free = |column: usize| !taken.contains(&(column, from.row));
+    let free = |column: usize| !taken.cells.contains(&(column, from.row));
     if ahead && (from.column + 1..to.column).all(free) {
         return match link.ports == 1 && from.row == to.row {
             true => Vec::new(),
@@ -128,6 +162,8 @@ fn ways(link: &Link, taken: &HashSet<(usize, usize)>) -> Vec<(Channel, usize, us
     } else {
         from.row
     };
+    let (one, other) = (from.column + 1, to.column);
+    let row = taken.clear_row(row, one.min(other)..one.max(other));
     let along = 10 * row;
     vec![
         (Channel::Up(from.column + 1), leaves, along),

@@ -1,13 +1,16 @@
 //! From the grid to the page: where columns, rows, tracks and frames lie.
 
-use super::block::Placed;
+use super::block::{Frame, Placed};
 use super::route::{Borders, Channel, Lane, Link, Routes, Zone};
 use super::Plan;
 use std::collections::BTreeMap;
 
+/// The least width of a cell, and its height.
 pub const CELL: (i32, i32) = (92, 36);
-/// A flag with the name of a wire, beside a cell.
+/// The same of a flag with the name of a wire, beside a cell.
 pub const TAG: (i32, i32) = (30, 13);
+/// The width of a character, in hundredths of its size.
+const LETTER: i32 = 61;
 /// Between two tracks, around a channel, and around a frame's border.
 const PITCH: i32 = 9;
 const MARGIN: i32 = 9;
@@ -32,31 +35,76 @@ pub struct Scale<'p> {
     borders: Borders,
     across: Axis,
     down: Axis,
-    /// The columns that have flags on the left of their cells.
-    tagged: Vec<bool>,
+    /// Of each column the width of the flags on the left of its cells, and of the
+    /// cells.
+    tags: Vec<i32>,
+    boxes: Vec<i32>,
+}
+
+/// The width of a text in this size.
+pub fn width(text: &str, size: i32) -> i32 {
+    (text.chars().count() as i32 * LETTER * size + 99) / 100
+}
+
+/// The width of a flag with a name.
+pub fn tag_width(name: &str) -> i32 {
+    TAG.0.max(width(name, 10) + 14)
+}
+
+/// The width that a frame needs for its title.
+fn title_width(frame: &Frame) -> i32 {
+    width(&frame.title, 10) + 12
 }
 
 impl<'p> Scale<'p> {
     pub fn of(plan: &'p Plan<'p>, routes: &Routes) -> Scale<'p> {
-        let tagged = tagged(plan);
-        let column = |k: usize| {
-            let memory = plan
-                .block
-                .cells
-                .iter()
-                .any(|p| p.column == k && outgoing(plan, p));
-            CELL.0 + TAG.0 * (i32::from(tagged[k]) + i32::from(memory))
-        };
-        let widths: Vec<i32> = (0..plan.block.width).map(column).collect();
+        let tags = widest(plan, |placed| {
+            let names = plan.inputs(placed.cell);
+            let names = names.iter().filter_map(|wire| plan.tag(*wire));
+            names.map(tag_width).max().unwrap_or(0)
+        });
+        let boxes = widest(plan, |placed| {
+            CELL.0.max(width(&plan.title(placed.cell), 11) + 14)
+        });
+        let outgoing = widest(plan, |placed| outgoing(plan, placed).map_or(0, tag_width));
+        let mut widths: Vec<i32> = (0..plan.block.width)
+            .map(|k| tags[k] + boxes[k] + outgoing[k])
+            .collect();
         let heights = vec![CELL.1; plan.block.height];
         let borders = Borders::of(&plan.block);
-        Scale {
+        let mut scale = Scale {
             plan,
             across: axis(&borders, routes, Channel::Up, &widths, BORDER),
             down: axis(&borders, routes, Channel::Along, &heights, BORDER + TITLE),
             borders,
-            tagged,
+            tags,
+            boxes,
+        };
+        if scale.widen(&mut widths) {
+            scale.across = axis(&scale.borders, routes, Channel::Up, &widths, BORDER);
         }
+        scale
+    }
+
+    /// Widens the last column of each frame that is too small for its title, those
+    /// further inside first; tells whether there was one.
+    fn widen(&self, widths: &mut [i32]) -> bool {
+        let mut added = vec![0; widths.len()];
+        for (number, frame) in self.plan.block.frames.iter().enumerate().rev() {
+            let [left, _, right, _] = self.frame(number);
+            let more: i32 = added[frame.columns.clone()].iter().sum();
+            let lacks = title_width(frame) - (right - left + more);
+            added[frame.columns.end - 1] += lacks.max(0);
+        }
+        for (width, added) in widths.iter_mut().zip(&added) {
+            *width += added;
+        }
+        added.iter().any(|added| *added > 0)
+    }
+
+    /// The width of a cell's box.
+    pub fn box_width(&self, placed: &Placed) -> i32 {
+        self.boxes[placed.column]
     }
 
     pub fn size(&self) -> (i32, i32) {
@@ -65,9 +113,8 @@ impl<'p> Scale<'p> {
 
     /// The upper left corner of a cell.
     pub fn corner(&self, placed: &Placed) -> (i32, i32) {
-        let tag = if self.tagged[placed.column] { TAG.0 } else { 0 };
         (
-            self.across.starts[placed.column] + tag,
+            self.across.starts[placed.column] + self.tags[placed.column],
             self.down.starts[placed.row],
         )
     }
@@ -87,7 +134,7 @@ impl<'p> Scale<'p> {
     /// The corners of a link's way.
     pub fn points(&self, link: &Link) -> Vec<(i32, i32)> {
         let (left, top) = self.corner(&link.from);
-        let leaves = (left + CELL.0, top + CELL.1 / 2);
+        let leaves = (left + self.box_width(&link.from), top + CELL.1 / 2);
         let comes = self.port(&link.to, link.port, link.lanes.is_empty());
         let mut points = vec![leaves];
         let mut y = leaves.1;
@@ -136,21 +183,21 @@ impl<'p> Scale<'p> {
     }
 }
 
-/// Whether a cell has a flag on its right: a memory's name.
-pub fn outgoing(plan: &Plan, placed: &Placed) -> bool {
-    placed.cell != super::FINISH && plan.tag(placed.cell).is_some()
+/// The flag that a cell has on its right: a memory's name.
+pub fn outgoing<'p>(plan: &'p Plan, placed: &Placed) -> Option<&'p str> {
+    match placed.cell {
+        super::FINISH => None,
+        cell => plan.tag(cell),
+    }
 }
 
-fn tagged(plan: &Plan) -> Vec<bool> {
-    let mut tagged = vec![false; plan.block.width];
+/// Of each column the most that its cells need.
+fn widest(plan: &Plan, needs: impl Fn(&Placed) -> i32) -> Vec<i32> {
+    let mut widest = vec![0; plan.block.width];
     for placed in &plan.block.cells {
-        let named = plan
-            .inputs(placed.cell)
-            .iter()
-            .any(|wire| plan.tag(*wire).is_some());
-        tagged[placed.column] |= named;
+        widest[placed.column] = widest[placed.column].max(needs(placed));
     }
-    tagged
+    widest
 }
 
 /// Lays channels and columns, or rows, one after another.

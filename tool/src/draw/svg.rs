@@ -3,7 +3,7 @@
 
 use super::block::{Frame, Placed};
 use super::route::{routes, Link, Routes};
-use super::scale::{outgoing, Scale, CELL, TAG, TITLE};
+use super::scale::{outgoing, tag_width, width, Scale, CELL, TAG, TITLE};
 use super::{Plan, FINISH};
 use crate::input::Circuit;
 use crate::svg::{escaped, CONTROL, CONTROL_COLOUR, FONT, WORD, WORD_COLOUR};
@@ -11,8 +11,6 @@ use crate::types::Fault;
 use std::collections::{BTreeMap, BTreeSet};
 use std::fmt::Write;
 
-/// The width of a character of a title, in tenths.
-const LETTER: i32 = 61;
 const MARGIN: i32 = 8;
 
 pub fn svg(circuit: &Circuit, text: &[u8], all: bool) -> Result<String, Fault> {
@@ -27,12 +25,12 @@ pub fn svg(circuit: &Circuit, text: &[u8], all: bool) -> Result<String, Fault> {
          <rect x=\"{}\" y=\"{}\" width=\"{width}\" height=\"{height}\" fill=\"white\"/>\n",
         -MARGIN, -MARGIN, -MARGIN, -MARGIN
     );
-    for frame in 0..plan.block.frames.len() {
-        put_border(&mut out, frame, &scale);
+    for number in 0..plan.block.frames.len() {
+        put_border(&mut out, number, &scale);
     }
     put_wires(&mut out, &plan, &routes, &scale);
     for (number, frame) in plan.block.frames.iter().enumerate() {
-        put_title(&mut out, frame, scale.frame(number));
+        put_title(&mut out, number, frame, &scale);
     }
     for placed in &plan.block.cells {
         put_cell(&mut out, &plan, placed, &scale);
@@ -56,34 +54,30 @@ fn put_legend(out: &mut String, top: i32) {
     );
 }
 
-fn put_border(out: &mut String, frame: usize, scale: &Scale) {
-    let [left, top, right, bottom] = scale.frame(frame);
+fn put_border(out: &mut String, number: usize, scale: &Scale) {
+    let [left, top, right, bottom] = scale.frame(number);
     let _ = writeln!(
         out,
-        "<rect x=\"{left}\" y=\"{top}\" width=\"{}\" height=\"{}\" rx=\"5\" \
+        "<rect id=\"f{number}\" x=\"{left}\" y=\"{top}\" width=\"{}\" height=\"{}\" rx=\"5\" \
          fill=\"#000000\" fill-opacity=\"0.025\" stroke=\"#888888\" stroke-dasharray=\"4 3\"/>",
         right - left,
         bottom - top
     );
 }
 
-/// A frame's title, cut where the frame is too small for it.
-fn put_title(out: &mut String, frame: &Frame, [left, top, right, _]: [i32; 4]) {
-    let room = (10 * (right - left - 10) / LETTER).max(1) as usize;
-    let title: String = match frame.title.chars().count() > room {
-        true => frame.title.chars().take(room - 1).chain(['…']).collect(),
-        false => frame.title.clone(),
-    };
-    let width = title.chars().count() as i32 * LETTER / 10 + 4;
+/// A frame's title; the frame is wide enough for it.
+fn put_title(out: &mut String, number: usize, frame: &Frame, scale: &Scale) {
+    let [left, top, _, _] = scale.frame(number);
     let _ = writeln!(
         out,
-        "<rect x=\"{}\" y=\"{}\" width=\"{width}\" height=\"13\" fill=\"white\"/>\n\
-         <text x=\"{}\" y=\"{}\" font-size=\"10\" fill=\"#333333\">{}</text>",
+        "<rect x=\"{}\" y=\"{}\" width=\"{}\" height=\"13\" fill=\"white\"/>\n\
+         <text id=\"t{number}\" x=\"{}\" y=\"{}\" font-size=\"10\" fill=\"#333333\">{}</text>",
         left + 3,
         top + 2,
+        width(&frame.title, 10) + 4,
         left + 5,
         top + TITLE - 4,
-        escaped(&title)
+        escaped(&frame.title)
     );
 }
 
@@ -109,13 +103,16 @@ fn put_wires(out: &mut String, plan: &Plan, routes: &Routes, scale: &Scale) {
                 "<path id=\"w{wire}-{number}\" d=\"{path}\" fill=\"none\" {stroke}/>"
             );
             if let Some((x, y)) = way.last() {
-                let _ = writeln!(out, "<path d=\"M{x} {y}l-7 -3.5v7z\" fill=\"{colour}\"/>");
+                let _ = writeln!(
+                    out,
+                    "<path class=\"w{wire}\" d=\"M{x} {y}l-7 -3.5v7z\" fill=\"{colour}\"/>"
+                );
             }
         }
         for (x, y) in joints(&ways) {
             let _ = writeln!(
                 out,
-                "<circle cx=\"{x}\" cy=\"{y}\" r=\"3\" fill=\"{colour}\"/>"
+                "<circle class=\"w{wire}\" cx=\"{x}\" cy=\"{y}\" r=\"3\" fill=\"{colour}\"/>"
             );
         }
     }
@@ -151,13 +148,22 @@ fn directions_at((x, y): (i32, i32), from: (i32, i32), to: (i32, i32)) -> Vec<(i
 
 fn put_cell(out: &mut String, plan: &Plan, placed: &Placed, scale: &Scale) {
     put_flags(out, plan, placed, scale);
-    let (x, y) = scale.corner(placed);
+    if plan.next(placed.cell).is_some() {
+        return;
+    }
+    // A chain's box begins at its first or, so many rows above.
+    let first = Placed {
+        row: placed.row + 1 - plan.chain(placed.cell).len(),
+        ..*placed
+    };
+    let (x, y) = scale.corner(&first);
+    let below = scale.corner(placed).1 - y;
     let title = escaped(&plan.title(placed.cell));
-    let (width, height) = CELL;
+    let (width, height) = (scale.box_width(placed), CELL.1 + below);
     if placed.cell == FINISH {
         let _ = writeln!(
             out,
-            "<rect x=\"{x}\" y=\"{y}\" width=\"60\" height=\"{height}\" rx=\"9\" \
+            "<rect id=\"finish\" x=\"{x}\" y=\"{y}\" width=\"60\" height=\"{height}\" rx=\"9\" \
              fill=\"#e8eef8\" {CONTROL}/>\n\
              <text x=\"{}\" y=\"{}\" text-anchor=\"middle\" font-size=\"11\">{title}</text>",
             x + 30,
@@ -171,13 +177,14 @@ fn put_cell(out: &mut String, plan: &Plan, placed: &Placed, scale: &Scale) {
     };
     let _ = writeln!(
         out,
-        "<rect x=\"{x}\" y=\"{y}\" width=\"{width}\" height=\"{height}\" rx=\"{corner}\" \
+        "<rect id=\"c{4}\" x=\"{x}\" y=\"{y}\" width=\"{width}\" height=\"{height}\" rx=\"{corner}\" \
          fill=\"{fill}\" {stroke}/>\n\
          <text x=\"{0}\" y=\"{1}\" text-anchor=\"middle\" font-size=\"11\">{title}</text>\n\
          <text x=\"{0}\" y=\"{2}\" text-anchor=\"middle\" font-size=\"9\" fill=\"#555555\">{3}</text>",
         x + width / 2,
         y + 16,
         y + 29,
+        plan.numbers(placed.cell),
         placed.cell
     );
 }
@@ -188,23 +195,23 @@ fn put_flags(out: &mut String, plan: &Plan, placed: &Placed, scale: &Scale) {
     for (port, wire) in inputs.iter().enumerate() {
         if let Some(tag) = plan.tag(*wire) {
             let (x, y) = scale.port(placed, port, inputs.len() == 1);
-            put_tag(out, tag, x - TAG.0, y);
+            put_tag(out, *wire, tag, x - tag_width(tag), y);
         }
     }
-    if outgoing(plan, placed) {
+    if let Some(tag) = outgoing(plan, placed) {
         let (x, y) = scale.corner(placed);
-        let tag = plan.tag(placed.cell).unwrap_or_default();
-        put_tag(out, tag, x + CELL.0, y + CELL.1 / 2);
+        let x = x + scale.box_width(placed);
+        put_tag(out, placed.cell, tag, x, y + CELL.1 / 2);
     }
 }
 
 /// A flag with a wire's name, whose middle is at this height.
-fn put_tag(out: &mut String, tag: &str, x: i32, y: i32) {
-    let width = TAG.0;
+fn put_tag(out: &mut String, wire: u16, tag: &str, x: i32, y: i32) {
+    let width = tag_width(tag);
     let (top, bottom, middle) = (y - TAG.1 / 2, y + TAG.1 / 2, x + width / 2 - 2);
     let _ = writeln!(
         out,
-        "<path d=\"M{x} {top}h{0}l6 {1}l-6 {1}h-{0}z\" fill=\"#fdf3e7\" stroke=\"{WORD_COLOUR}\"/>\n\
+        "<path class=\"w{wire}\" d=\"M{x} {top}h{0}l6 {1}l-6 {1}h-{0}z\" fill=\"#fdf3e7\" stroke=\"{WORD_COLOUR}\"/>\n\
          <text x=\"{middle}\" y=\"{2}\" text-anchor=\"middle\" font-size=\"10\">{tag}</text>",
         width - 8,
         (bottom - top) / 2,

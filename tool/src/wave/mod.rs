@@ -3,7 +3,11 @@
 
 pub mod choice;
 pub mod course;
+pub mod gtkw;
+pub mod named;
+pub mod probe;
 pub mod record;
+pub mod scopes;
 pub mod svg;
 pub mod terminal;
 pub mod vcd;
@@ -11,10 +15,12 @@ pub mod vcd;
 /// A wire that is shown.
 #[derive(Clone, Debug, PartialEq, Eq)]
 pub struct Wire {
-    /// As `start`, `x0`, `a2[5]`, or for a statement `while1.start`.
+    /// As `start`, `x0`, `a2[5]`, or for a statement `line3.while.start`.
     pub name: String,
     /// What it belongs to, in words; may be empty.
     pub about: String,
+    /// The statements around it, the outermost first.
+    pub scope: Vec<String>,
     pub shows: Shows,
     pub control: bool,
 }

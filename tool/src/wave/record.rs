@@ -3,6 +3,7 @@
 use super::course::Course;
 use super::{Shows, Waveforms, Wire};
 use crate::layout::{element_in, in_flight_in, start_left_in, value_in};
+use crate::progress::Progress;
 use crate::types::{Format, Refusal};
 
 /// The values of these wires from one instant up to another, in a run of so
@@ -15,17 +16,12 @@ pub fn record(
     to: u32,
 ) -> Result<Waveforms, Refusal> {
     let mut values = vec![Vec::new(); wires.len()];
+    let mut progress = Progress::new(to);
     for instant in from..=to {
         course.reach(instant)?;
+        progress.show(instant);
         for (wire, values) in wires.iter().zip(&mut values) {
-            values.push(match wire.shows {
-                Shows::Cell(cell) => value_in(&course.state, cell).into(),
-                Shows::Element(place) => {
-                    element_in(Format::Full, &course.state, cells, place).into()
-                }
-                Shows::InFlight => in_flight_in(&course.state),
-                Shows::StartLeft => start_left_in(&course.state).into(),
-            });
+            values.push(value(wire, &course.state, cells));
         }
     }
     Ok(Waveforms {
@@ -34,4 +30,14 @@ pub fn record(
         wires,
         values,
     })
+}
+
+/// What a wire shows in a full state of so many cells.
+pub fn value(wire: &Wire, state: &[u8], cells: usize) -> u32 {
+    match wire.shows {
+        Shows::Cell(cell) => value_in(state, cell).into(),
+        Shows::Element(place) => element_in(Format::Full, state, cells, place).into(),
+        Shows::InFlight => in_flight_in(state),
+        Shows::StartLeft => start_left_in(state).into(),
+    }
 }

@@ -8,8 +8,9 @@ use std::fmt::Write;
 const ROW: usize = 26;
 const TOP: usize = 30;
 const MARGIN: usize = 10;
-/// The width of a character of the font.
+/// The width of a character of the font, and of one of a label, in tenths.
 const LETTER: usize = 7;
+const LABEL: usize = 73;
 /// How wide the waveforms are, together, where the instants allow it.
 const WIDTH: usize = 720;
 
@@ -30,7 +31,7 @@ pub fn svg(waves: &Waveforms) -> String {
         .map(|wire| label(wire).chars().count())
         .max();
     let scale = Scale {
-        left: 2 * MARGIN + LETTER * name.unwrap_or(0),
+        left: 2 * MARGIN + (LABEL * name.unwrap_or(0)).div_ceil(10),
         instant: (WIDTH / count.max(1)).clamp(4, 30),
         count,
         bottom: TOP + ROW * waves.wires.len(),

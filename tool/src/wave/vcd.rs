@@ -1,19 +1,18 @@
 //! Waveforms as a value change dump, which GTKWave and other viewers open. An
-//! instant is a nanosecond; a statement's wires stand in a scope of its own.
+//! instant is a nanosecond; scopes lie in each other as statements do.
 
+use super::scopes::{scopes, Scope};
 use super::{Shows, Waveforms, Wire};
 use std::fmt::Write;
 
+/// The scope around all wires.
+pub const WHOLE: &str = "hub";
+
 /// The file.
 pub fn vcd(waves: &Waveforms) -> String {
-    let mut text = String::from("$timescale 1 ns $end\n$scope module hub $end\n");
-    let mut scope = None;
-    for (number, wire) in waves.wires.iter().enumerate() {
-        enter(&mut text, &mut scope, split(&wire.name).0);
-        declare(&mut text, wire, number);
-    }
-    enter(&mut text, &mut scope, None);
-    text += "$upscope $end\n$enddefinitions $end\n";
+    let mut text = String::from("$timescale 1 ns $end\n");
+    put_scope(&mut text, &scopes(WHOLE, &waves.wires), &waves.wires);
+    text += "$enddefinitions $end\n";
     let count = waves.values.first().map_or(0, Vec::len);
     for at in 0..count {
         changes(&mut text, waves, at);
@@ -23,31 +22,18 @@ pub fn vcd(waves: &Waveforms) -> String {
     text
 }
 
-/// A wire's scope and its name in there.
-fn split(name: &str) -> (Option<&str>, &str) {
-    match name.split_once('.') {
-        Some((scope, name)) => (Some(scope), name),
-        None => (None, name),
+fn put_scope(text: &mut String, scope: &Scope, wires: &[Wire]) {
+    let _ = writeln!(text, "$scope module {} $end", scope.name);
+    for (number, name) in &scope.wires {
+        declare(text, &wires[*number], *number, name);
     }
+    for inner in &scope.inner {
+        put_scope(text, inner, wires);
+    }
+    *text += "$upscope $end\n";
 }
 
-/// Leaves the scope that is open, if it is another, and opens the next.
-fn enter<'w>(text: &mut String, open: &mut Option<&'w str>, next: Option<&'w str>) {
-    if *open == next {
-        return;
-    }
-    if open.is_some() {
-        *text += "$upscope $end\n";
-    }
-    if let Some(next) = next {
-        let _ = writeln!(text, "$scope module {next} $end");
-    }
-    *open = next;
-}
-
-fn declare(text: &mut String, wire: &Wire, number: usize) {
-    // In a dump brackets are for bits: an element is called a2_5.
-    let name = split(&wire.name).1.replace('[', "_").replace(']', "");
+fn declare(text: &mut String, wire: &Wire, number: usize, name: &str) {
     let code = code(number);
     let _ = match (wire.control, wire.shows) {
         (true, _) => writeln!(text, "$var wire 1 {code} {name} $end"),

@@ -28,6 +28,11 @@ pub fn of_text(text: &str) -> Circuit {
     of(Form::Text, Beside::NOTHING, text.as_bytes())
 }
 
+/// The circuit of a list.
+pub fn of_list(text: &str) -> Circuit {
+    of(Form::List, Beside::NOTHING, text.as_bytes())
+}
+
 /// The circuit of an outline.
 pub fn of_outline(text: &str) -> Circuit {
     let procedures = assemble::assemble(text).expect("an outline").procedures;

@@ -2,7 +2,7 @@
 //! and runs.
 
 use crate::circuits::{self, recorded};
-use crate::pictures::{assert_clear, cells};
+use crate::pictures::{assert_clear, cells, chained};
 use crate::programs::{programs, Program};
 use hub::bound::{self, Takes};
 use hub::draw::{dot, svg};
@@ -23,7 +23,7 @@ pub fn functional() -> Vec<Program> {
     programs
 }
 
-fn circuits() -> impl Iterator<Item = (Program, Circuit)> {
+pub fn circuits() -> impl Iterator<Item = (Program, Circuit)> {
     let programs = functional().into_iter();
     programs.map(|program| {
         let circuit = circuits::functional(&program);
@@ -110,7 +110,8 @@ fn pictures_are_clear() {
         for circuit in [circuit, alone] {
             let picture = svg::svg(&circuit, &[], false).expect("a picture");
             assert_clear(&picture);
-            assert_eq!(cells(&picture).len(), 1 + drawn(&circuit), "{picture}");
+            let boxes = 1 + drawn(&circuit) - chained(&circuit);
+            assert_eq!(cells(&picture).len(), boxes, "{picture}");
         }
     }
 }

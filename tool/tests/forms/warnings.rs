@@ -174,6 +174,7 @@ fn what_is_never_reached_is_not_started() {
         let wire = |node: usize| Wire {
             name: String::new(),
             about: String::new(),
+            scope: Vec::new(),
             shows: Shows::Cell(trace.ends[node].expect("a statement").start),
             control: true,
         };

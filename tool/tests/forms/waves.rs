@@ -1,15 +1,16 @@
 //! Waveforms: what they show is the run, and what is written of them can be
 //! read by others.
 
+use crate::circuits;
 use crate::circuits::recorded;
 use crate::pictures::assert_legible;
-use crate::programs::{examples, programs, Program};
+use crate::programs::{programs, Program};
 use crate::vcd::{read, values, Changes};
-use crate::{circuits, programs};
 use hub::layout::{in_flight_in, start_left_in};
 use hub::product;
 use hub::store::{self, Store};
 use hub::types::Format;
+use hub::wave::scopes::scopes;
 use hub::wave::{choice, svg, terminal, vcd, Waveforms};
 use std::fs;
 use std::process::Command;
@@ -40,11 +41,11 @@ fn all_waves() -> impl Iterator<Item = Waveforms> {
 }
 
 /// A wire's values in a dump are those of the run.
-fn assert_same(waves: &Waveforms, changes: &Changes, names: impl Fn(&str) -> String) {
+fn assert_same(waves: &Waveforms, changes: &Changes) {
+    let names = scopes(vcd::WHOLE, &waves.wires).full();
     assert_eq!(changes.len(), waves.wires.len());
-    for (wire, own) in waves.wires.iter().zip(&waves.values) {
-        let changes = &changes[&names(&wire.name)];
-        let read = values(changes, waves.from.into(), waves.to.into());
+    for ((wire, own), name) in waves.wires.iter().zip(&waves.values).zip(names) {
+        let read = values(&changes[&name], waves.from.into(), waves.to.into());
         assert_eq!(read, *own, "{}", wire.name);
     }
 }
@@ -53,7 +54,7 @@ fn assert_same(waves: &Waveforms, changes: &Changes, names: impl Fn(&str) -> Str
 fn dumps_hold_the_values() {
     for waves in all_waves() {
         let (changes, last) = read(&vcd::vcd(&waves));
-        assert_same(&waves, &changes, |name| format!("hub.{name}"));
+        assert_same(&waves, &changes);
         assert_eq!(last, u64::from(waves.to) + 1);
         for changes in changes.values() {
             let change = |pair: &[(u64, u64)]| pair[0].0 < pair[1].0 && pair[0].1 != pair[1].1;
@@ -91,7 +92,7 @@ fn gtkwave_takes_the_dumps() {
             .output()
             .expect("it runs");
         let back = String::from_utf8(back.stdout).expect("a dump");
-        assert_same(&waves, &read(&back).0, |name| format!("hub.{name}"));
+        assert_same(&waves, &read(&back).0);
     }
     fs::remove_dir_all(&folder).expect("the folder goes");
 }
@@ -153,9 +154,7 @@ fn elements_are_waves_too() {
         }
         changes += waves.values.iter().filter(|v| v[0] != v[90]).count();
         let (dumped, _) = read(&vcd::vcd(&waves));
-        assert_same(&waves, &dumped, |name| {
-            format!("hub.{}", name.replace('[', "_").replace(']', ""))
-        });
+        assert_same(&waves, &dumped);
     }
     assert!(changes > 20, "{changes} elements were written");
 }
@@ -199,7 +198,7 @@ fn what_a_state_tells_is_a_wave_too() {
         assert_eq!(waves.values, [high, in_flight, told.clone()]);
         assert_eq!(told, lefts);
         let (dumped, _) = read(&vcd::vcd(&waves));
-        assert_same(&waves, &dumped, |name| format!("hub.{name}"));
+        assert_same(&waves, &dumped);
         idle += starts.len();
     }
     assert!(idle > 20, "{idle} second starts");
@@ -280,18 +279,4 @@ fn pictures_of_waves_are_legible() {
     }
     let late = waves(&programs()[0], 999_700, 1_000_000);
     assert_legible(&svg::svg(&late));
-}
-
-/// A text's wires are named with its lines.
-#[test]
-fn wires_of_a_text_tell_their_line() {
-    let (_, text) = &examples()[programs::examples().len() - 1];
-    let circuit = circuits::of_text(text);
-    let wires = choice::wires(&circuit, text.as_bytes(), None, false).expect("wires");
-    let loops: Vec<&str> = wires
-        .iter()
-        .filter(|wire| wire.name.starts_with("while") && wire.name.ends_with("start"))
-        .map(|wire| wire.about.as_str())
-        .collect();
-    assert_eq!(loops, ["line 1, while x0 @1", "line 2, while x1 @1"]);
 }

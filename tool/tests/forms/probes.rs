@@ -15,7 +15,7 @@ fn start() -> Store {
 #[test]
 fn stops_tell_what_every_instant_does() {
     let (mut changes, mut pulses) = (0, 0);
-    let some = programs().into_iter().step_by(5);
+    let some = programs().into_iter().step_by(2);
     for (program, from) in some.zip([0, 1, 17].into_iter().cycle()) {
         let circuit = circuits::of_program(&program);
         let cells = (0..circuit.netlist.cells.len()).map(|cell| cell.to_string());

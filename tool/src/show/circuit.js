@@ -42,8 +42,9 @@ function fold(frame) {
     if (!f.folded || gone.has(f.border)) continue;
     const { left, top, width, height } = f.own;
     f.cover = make('rect', { x: left, y: top, width, height, rx: 5, 'data-frame': f.border.id });
-    const cells = f.cells.length === 1 ? '1 cell' : `${f.cells.length} cells`;
-    covers.append(f.cover, make('text', { x: left + 5, y: top + 12, 'font-size': 10 }, `▸ ${f.title.textContent} (${cells})`));
+    const cells = f.cells.length === 1 ? ' (1 cell)' : ` (${f.cells.length} cells)`;
+    const title = `▸ ${f.title.textContent}`, fits = (title + cells).length * 6.1 + 8 < width;
+    covers.append(f.cover, make('text', { x: left + 5, y: top + 12, 'font-size': 10 }, fits ? title + cells : title));
   }
   show(now);
 }

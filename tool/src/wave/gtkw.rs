@@ -19,14 +19,24 @@ const GROUP_END: &str = "@1000200";
 pub fn gtkw(dump: &str, waves: &Waveforms) -> String {
     let mut text = format!(
         "{OURS} gtkwave {dump} and this file\n[dumpfile] \"{dump}\"\n[timestart] {}\n\
-         [size] 1400 800\n[pos] -1 -1\n*-3.0 {} -1 -1 -1 -1 -1 -1 -1 -1 -1 -1\n",
-        waves.from, waves.from
+         [size] 1400 800\n[pos] -1 -1\n*{:.1} {} -1 -1 -1 -1 -1 -1 -1 -1 -1 -1\n",
+        waves.from,
+        zoom(waves),
+        waves.from
     );
     let whole = scopes(WHOLE, &waves.wires);
     put_opened(&mut text, &whole, "");
     text += "[sst_width] 240\n[signals_width] 260\n[sst_expanded] 1\n";
     put_rows(&mut text, &whole, "", &waves.wires);
     text
+}
+
+/// How far it is zoomed: at 0 an instant is so many pixels wide, at -1 half as many.
+fn zoom(waves: &Waveforms) -> f64 {
+    const PIXELS: f64 = 184.0;
+    const VIEW: f64 = 700.0;
+    let instants = f64::from(waves.to - waves.from + 1);
+    (VIEW / (PIXELS * instants)).log2().min(-1.0)
 }
 
 /// The scopes, all of them opened.

@@ -111,7 +111,13 @@ const wide = width();
 click(document.getElementById('in'));
 note('zoom ' + (width() > wide));
 click(document.getElementById('play'));
-setTimeout(() => note('played ' + (Number(instant()) > 2)), 900);
+let looks = 0;
+const watch = setInterval(() => {
+  const played = Number(instant()) > 2;
+  if (!played && ++looks < 100) return;
+  clearInterval(watch);
+  note('played ' + played);
+}, 100);
 "#;
 
 /// What a browser makes of a page with a script behind its own.
@@ -124,7 +130,7 @@ fn seen(folder: &Folder, page: &str, script: &str) -> String {
             "--headless",
             "--no-sandbox",
             "--disable-gpu",
-            "--virtual-time-budget=4000",
+            "--virtual-time-budget=12000",
         ])
         .arg(format!(
             "--user-data-dir={}",

@@ -10,8 +10,8 @@ ghost use Rattle.model.specs.NetlistFile.{cellLimit, cellsAt, inFile, blocksFor
 ghost use Rattle.reply.specs.Replies.{checkedReply, writtenReply, replied, roomFor, ifRoom};
 ghost use Rattle.netlist.specs.declared.cells.Layout.the-variants.{InFile};
 ghost use Rattle.netlist.specs.Offsets.{Room};
-ghost use Rattle.netlist.specs.Scans.{Scanned};
 ghost use Rattle.exports.specs.Writes.{numbered};
+ghost use Rattle.exports.specs.Looks.{Looked};
 
 pub mod calls; // the calls on bytes
 pub mod functional_calls; // those for functional circuits
@@ -24,13 +24,13 @@ mod writing; // what writing puts in
 use model::Cell;
 use netlist::rules::Scan;
 
-// What is found of a netlist's cells, one after another.
+// What is found of a netlist's cells, one after another; of more than a netlist may have none is looked at.
 fn scanned(cells: &[Cell], finish: u16) -> Scan
-    ensures { λ r. ⌜ Scanned (now (cells .entry)) finish (length (now (cells .entry))) r ⌝ }
+    ensures { λ r. ⌜ Looked (now (cells .entry)) finish (length (now (cells .entry))) r ⌝ }
 {
     let n = cells.len();
     let mut scan = netlist::rules::begin(n, finish as usize);
-    let mut k: usize = 0;
+    let mut k = checking::first_looked(n);
     while k < n {
         let c = cells[k];
         let i = netlist::rules::input(n, k, c.a);

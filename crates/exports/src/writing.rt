@@ -1,12 +1,12 @@
 // Writing a netlist: what is to be put into the file, from a scan of its cells, and the reply.
-// The contract speaks of whatever cells the scan is of (netlist/specs/Scans, specs/Writes).
+// The contract speaks of whatever cells the scan is of (specs/Looks, specs/Writes).
 ghost use mathlib.Core.Path.{_≡_};
 ghost use mathlib.Core.List.{List};
 ghost use Prim.Native.Nat.{ℕ, _*_, _^_, _<_};
 ghost use lib.ListN.{length};
 ghost use Rattle.model.specs.declared.Cell.{Cell};
 ghost use Rattle.model.specs.CellSlices.{writeCellsCall};
-ghost use Rattle.netlist.specs.Scans.{Scanned};
+ghost use Rattle.exports.specs.Looks.{Looked};
 ghost use Rattle.exports.specs.Writes.{Writes};
 use model::Checked;
 use model::Refusal;
@@ -26,7 +26,7 @@ pub struct Write {
 // What writing answers, for a file with so much room: refusals 27, 11, 12, 14.
 fn written(pulse: u8, s: Scan, finish: u16, room: usize) -> Written
     requires { ⌜ 6 * s .n < 2 ^ 63 ⌝ }
-    ensures { λ r. ⌜ ((cs : List Cell) (lent : List ℕ) → Scanned cs finish (length cs) s → length lent ≡ room → r ≡ writeCellsCall pulse cs finish lent .answer) ⌝ }
+    ensures { λ r. ⌜ ((cs : List Cell) (lent : List ℕ) → Looked cs finish (length cs) s → length lent ≡ room → r ≡ writeCellsCall pulse cs finish lent .answer) ⌝ }
 {
     if netlist::blocks::pulse_wrong(pulse as u16) {
         return Written::Refused(Refusal {
@@ -52,7 +52,7 @@ fn written(pulse: u8, s: Scan, finish: u16, room: usize) -> Written
 // Tells the answer; without room for a reply there is nothing to do.
 pub fn planned(pulse: u8, s: Scan, finish: u16, room: usize, reply: &mut [u8]) -> Write
     requires { ⌜ 6 * s .n < 2 ^ 63 ⌝ }
-    ensures { λ w. ⌜ ((cs : List Cell) → Scanned cs finish (length cs) s → Writes pulse cs finish room (now (reply .entry)) w (now (reply .exit))) ⌝ }
+    ensures { λ w. ⌜ ((cs : List Cell) → Looked cs finish (length cs) s → Writes pulse cs finish room (now (reply .entry)) w (now (reply .exit))) ⌝ }
 {
     if reply.len() < reply::LENGTH {
         return Write {

@@ -8,9 +8,9 @@ ghost use Rattle.model.specs.FunctionalCalls.{checkFunctionalCall, compileFunct
 ghost use Rattle.model.specs.Gates.{slowRunCall};
 ghost use Rattle.model.specs.TextCalls.{readTextCall, compileTextCall, runTextCall};
 
-pub mod full; // the full run of a program
-pub mod full_functional; // the full run of a program's functional circuit
-pub mod texts; // compiling and running a text
+mod full; // the full run of a program
+mod full_functional; // the full run of a program's functional circuit
+mod texts; // compiling and running a text
 
 use model::Answer;
 use model::Checked;

@@ -1,6 +1,7 @@
-// The program hubrun: text has what it prints. This reads and writes.
+// The program hubrun: text has what it prints. This reads and writes, and says where nothing could be written.
 mod text;
 
+use libc::STDERR_FILENO;
 use libc::STDIN_FILENO;
 use libc::STDOUT_FILENO;
 
@@ -10,5 +11,7 @@ fn main() {
     let n = io::read_full(STDIN_FILENO, &mut input);
     let mut out = [0u8; 512];
     let m = text::text(&input[..n], &mut out);
-    io::write_all(STDOUT_FILENO, &out[..m]);
+    if !io::write_all(STDOUT_FILENO, &out[..m]) {
+        io::write_all(STDERR_FILENO, b"hubrun: standard output can't be written\n");
+    }
 }

@@ -1,6 +1,7 @@
-// The program hubtext: output has what it writes. This reads and writes.
+// The program hubtext: output has what it writes. This reads and writes, and says where nothing could be written.
 mod output;
 
+use libc::STDERR_FILENO;
 use libc::STDIN_FILENO;
 use libc::STDOUT_FILENO;
 
@@ -10,5 +11,7 @@ fn main() {
     let n = io::read_full(STDIN_FILENO, &mut source);
     let mut out = [0u8; 1024];
     let m = output::output(&source[..n], &mut out);
-    io::write_all(STDOUT_FILENO, &out[..m]);
+    if !io::write_all(STDOUT_FILENO, &out[..m]) {
+        io::write_all(STDERR_FILENO, b"hubtext: standard output can't be written\n");
+    }
 }

@@ -43,9 +43,9 @@ use Rattle.model.specs.CellSlices.{checkCellsCall}
 use Rattle.reply.specs.Replies.{checkedReply, replied, roomFor, ifRoom}
 use Rattle.model.proofs.Cell as T
 use Rattle.netlist.specs.declared.rules.Scan.{Scan}
-use Rattle.netlist.specs.Scans.{Scanned}
 use Rattle.netlist.proofs.rules.Scan as S
 use Rattle.netlist.proofs.rules.Scan.Laws as S′
+use Rattle.exports.specs.Looks.{Looked}
 use Rattle.exports.proofs.Saying.{says-two}
 use Rattle.exports.proofs.scanned as scanned
 use Rattle.exports.proofs.scanned.Symbol as scanned-def
@@ -122,8 +122,8 @@ module _ {M : Type 1} (𝓤 : URA M) (H : Heap 𝓤) (A : Atoms 𝓤) (W : Given
       -- [the reply's token; the cells; the reply; true]
       keep ! (1 ∷ 0 ∷ 2 ∷ []) $ done !
 
-  said : (r : Scan) → ent 𝓤 (ensured 𝓤 H A scanned.ended (scanned.clauses 𝓤 H A mem run) (κ, tt) (s, (finish, tt)) tt r) (fact 𝓤 (Scanned xs finish (length xs) r))
-  said r = exE 𝓤 _ (λ ws. snd∗ 𝓤 (sem 𝓤 H A (lasts scanned.ended (κ, tt) (s, (finish, tt)) ws)) (fact 𝓤 (Scanned xs finish (length xs) r)))
+  said : (r : Scan) → ent 𝓤 (ensured 𝓤 H A scanned.ended (scanned.clauses 𝓤 H A mem run) (κ, tt) (s, (finish, tt)) tt r) (fact 𝓤 (Looked xs finish (length xs) r))
+  said r = exE 𝓤 _ (λ ws. snd∗ 𝓤 (sem 𝓤 H A (lasts scanned.ended (κ, tt) (s, (finish, tt)) ws)) (fact 𝓤 (Looked xs finish (length xs) r)))
 
   abbrev to-tell : Scan → Val → Tell 𝓤 H A mem run .Ghost
   to-tell p u = (((η, tt), (q₁, tt), tt, (p, (d, tt)), (u ∷ [], (v₁ ∷ [], tt))), tt)
@@ -134,7 +134,7 @@ module _ {M : Type 1} (𝓤 : URA M) (H : Heap 𝓤) (A : Atoms 𝓤) (W : Given
       nothing ! $ move ! (2 ∷ 0 ∷ []) $ fjoin ! $ move ! (1 ∷ 0 ∷ []) $ fjoin ! $ done !
 
   -- as many cells as the scan counts fit in memory
-  counts : (p : Scan) → Scanned xs finish (length xs) p → 6 * p .n < 2 ^ 63
+  counts : (p : Scan) → Looked xs finish (length xs) p → 6 * p .n < 2 ^ 63
   counts p e = omega (arith, room .1, e .count)
 
   exits : (r : Bool) (u : Val) (zs : List ℕ) → Tells xs finish ys r zs → length zs ≡ length ys
@@ -156,7 +156,7 @@ module _ {M : Type 1} (𝓤 : URA M) (H : Heap 𝓤) (A : Atoms 𝓤) (W : Given
         -- [what `scanned` asks; the reply's token; the reply; the cells; _6; …; _5; …; _4; …; _3; …; _2; …; _1; …; room for _0; …]
         calls-at ! fm (Scanning 𝓤 H A mem run) known-scanned to (and-then ! (load ! (from ! (stop !)) (look ! 14 refl)) (and-then ! (load ! (from ! (stop !)) (look ! 12 refl)) (no-more !))) (λ w.
         use1 W (later (some (λ (p : Scan). ((‵ (flft κ q) ⊛ ‵ ftrue) ⊛ ‵ (S.the-row .own p (w ∷ []))) ⊛ raw (ensured 𝓤 H A scanned.ended (scanned.clauses 𝓤 H A mem run) (κ, tt) (s, (finish, tt)) tt p)))) (id⊢ 𝓤 _) $ await ! tt $ pick ! (λ p.
-        split ! $ move ! (1 ∷ []) $ use1 W (raw (fact 𝓤 (Scanned xs finish (length xs) p))) (said p) $ heard ! (Scanned xs finish (length xs) p) (λ e. split ! $ move ! (1 ∷ []) $
+        split ! $ move ! (1 ∷ []) $ use1 W (raw (fact 𝓤 (Looked xs finish (length xs) p))) (said p) $ heard ! (Looked xs finish (length xs) p) (λ e. split ! $ move ! (1 ∷ []) $
         -- [what the list owns; the cells' token; the reply's token; the reply; the cells; _6; …; _5; …; room for _4; …; _3; …]
         peeks ! S.the-row (Is S.the-row) (shows 𝓤 H A S.the-row) p (w ∷ []) (λ is.
         land ! (from ! (stop !)) (init ! 9 refl (LL.lawful S.the-type S′.the-laws 𝓤 H A W .typed p _ is .0)) $
@@ -167,8 +167,8 @@ module _ {M : Type 1} (𝓤 : URA M) (H : Heap 𝓤) (A : Atoms 𝓤) (W : Given
         calls-at ! fm (Tell 𝓤 H A mem run) known (to-tell p w) (and-then ! (load ! (from ! (stop !)) (look ! 7 refl)) (and-then ! (load ! (from ! (stop !)) (look ! 3 refl)) (no-more !))) (λ u.
         use1 W (later (some (λ (r : Bool). ((‵ (flft η q₁) ⊛ ‵ ftrue) ⊛ ‵ (bool .own r (u ∷ []))) ⊛ raw (ensured 𝓤 H A tell.ended (tell.clauses 𝓤 H A mem run) (η, tt) (p, (d, tt)) tt r)))) (id⊢ 𝓤 _) $ await ! tt $ pick ! (λ r.
         split ! $ move ! (1 ∷ []) $
-        use1 W (some (λ (zs : Unit {0} × (List ℕ × Unit {0})). ‵ (lasts tell.ended (η, tt) (p, (d, tt)) zs) ⊛ raw (fact 𝓤 ((cs : List Cell) (g : ℕ) → Scanned cs g (length cs) p → Tells cs g ys r (zs .1 .0))))) (id⊢ 𝓤 _) $ pick ! (λ zs.
-        split ! $ move ! (1 ∷ []) $ heard ! ((cs : List Cell) (g : ℕ) → Scanned cs g (length cs) p → Tells cs g ys r (zs .1 .0)) (λ g. fsplit ! $ drop ! $ fsplit ! $ fsplit ! $ move ! (1 ∷ []) $ feqL ! (λ l.
+        use1 W (some (λ (zs : Unit {0} × (List ℕ × Unit {0})). ‵ (lasts tell.ended (η, tt) (p, (d, tt)) zs) ⊛ raw (fact 𝓤 ((cs : List Cell) (g : ℕ) → Looked cs g (length cs) p → Tells cs g ys r (zs .1 .0))))) (id⊢ 𝓤 _) $ pick ! (λ zs.
+        split ! $ move ! (1 ∷ []) $ heard ! ((cs : List Cell) (g : ℕ) → Looked cs g (length cs) p → Tells cs g ys r (zs .1 .0)) (λ g. fsplit ! $ drop ! $ fsplit ! $ fsplit ! $ move ! (1 ∷ []) $ feqL ! (λ l.
         -- [the reply's last list; true; the reply's token and the answer; the cells' token; the cells; _6; …]
         move ! (2 ∷ []) $ split ! $ move ! (1 ∷ []) $ peeks ! bool (Is bool) (shows 𝓤 H A bool) r (u ∷ []) (λ is′.
         land ! (from ! (stop !)) (init ! 18 refl (bool-lawful 𝓤 H A W .typed r _ is′ .0)) $

@@ -47,10 +47,10 @@ use Rattle.model.specs.CellSlices.{writeCellsCall}
 use Rattle.reply.specs.Replies.{writtenReply, replied, roomFor, ifRoom}
 use Rattle.model.proofs.Cell as T
 use Rattle.netlist.specs.declared.rules.Scan.{Scan}
-use Rattle.netlist.specs.Scans.{Scanned}
 use Rattle.netlist.proofs.rules.Scan as S
 use Rattle.netlist.proofs.rules.Scan.Laws as S′
 use Rattle.exports.specs.declared.writing.Write.{Write}
+use Rattle.exports.specs.Looks.{Looked}
 use Rattle.exports.specs.Writes.{numbered, Writes}
 use Rattle.exports.proofs.Saying.{says-three}
 use Rattle.exports.proofs.writing.Write as P
@@ -157,11 +157,11 @@ module _ {M : Type 1} (𝓤 : URA M) (H : Heap 𝓤) (A : Atoms 𝓤) (W : Given
       -- [the reply's token; the file's token; the cells; the reply; true; the file]
       keep ! (2 ∷ 1 ∷ 5 ∷ 0 ∷ 3 ∷ []) $ done !
 
-  said : (r : Scan) → ent 𝓤 (ensured 𝓤 H A scanned.ended (scanned.clauses 𝓤 H A mem run) (κ, tt) (s, (finish, tt)) tt r) (fact 𝓤 (Scanned xs finish (length xs) r))
-  said r = exE 𝓤 _ (λ ws. snd∗ 𝓤 (sem 𝓤 H A (lasts scanned.ended (κ, tt) (s, (finish, tt)) ws)) (fact 𝓤 (Scanned xs finish (length xs) r)))
+  said : (r : Scan) → ent 𝓤 (ensured 𝓤 H A scanned.ended (scanned.clauses 𝓤 H A mem run) (κ, tt) (s, (finish, tt)) tt r) (fact 𝓤 (Looked xs finish (length xs) r))
+  said r = exE 𝓤 _ (λ ws. snd∗ 𝓤 (sem 𝓤 H A (lasts scanned.ended (κ, tt) (s, (finish, tt)) ws)) (fact 𝓤 (Looked xs finish (length xs) r)))
 
   -- as many cells as the scan counts fit in memory
-  counts : (r : Scan) → Scanned xs finish (length xs) r → 6 * r .n < 2 ^ 63
+  counts : (r : Scan) → Looked xs finish (length xs) r → 6 * r .n < 2 ^ 63
   counts r h = omega (arith, room .1, h .count)
 
   -- planning
@@ -175,7 +175,7 @@ module _ {M : Type 1} (𝓤 : URA M) (H : Heap 𝓤) (A : Atoms 𝓤) (W : Given
       move ! (1 ∷ 0 ∷ []) $ fjoin ! $ owned ! u8 (Is u8) (uint-makes 𝓤 H A W w8) pulse _ (refl, pulse-fits) $ fjoin ! $ done !
 
   abbrev Plans : Scan → Write → List ℕ → Type 0
-  Plans r p us = (cs : List Cell) → Scanned cs finish (length cs) r → Writes pulse cs finish (length ys) rs p us
+  Plans r p us = (cs : List Cell) → Looked cs finish (length cs) r → Writes pulse cs finish (length ys) rs p us
 
   -- what is known of a plan, at its machine value written out
   same : (p : Write) (w : Val) → Is P.the-row p (w ∷ []) → Is P.the-row p (LL.vals P.the-type P′.the-laws p)
@@ -227,7 +227,7 @@ module _ {M : Type 1} (𝓤 : URA M) (H : Heap 𝓤) (A : Atoms 𝓤) (W : Given
         -- [what `scanned` asks; the reply's token; the reply; the file; the file's token; the cells; _12; …; _11; …; … ; _1; …; room for _0; …]
         calls-at ! fm (Scanning 𝓤 H A mem run) known-scanned to (and-then ! (load ! (from ! (stop !)) (look ! 28 refl)) (and-then ! (load ! (from ! (stop !)) (look ! 26 refl)) (no-more !))) (λ u.
         use1 W (later (some (λ (r : Scan). ((‵ (flft κ q) ⊛ ‵ ftrue) ⊛ ‵ (S.the-row .own r (u ∷ []))) ⊛ raw (ensured 𝓤 H A scanned.ended (scanned.clauses 𝓤 H A mem run) (κ, tt) (s, (finish, tt)) tt r)))) (id⊢ 𝓤 _) $ await ! tt $ pick ! (λ r.
-        split ! $ move ! (1 ∷ []) $ use1 W (raw (fact 𝓤 (Scanned xs finish (length xs) r))) (said r) $ heard ! (Scanned xs finish (length xs) r) (λ h. split ! $ move ! (1 ∷ []) $
+        split ! $ move ! (1 ∷ []) $ use1 W (raw (fact 𝓤 (Looked xs finish (length xs) r))) (said r) $ heard ! (Looked xs finish (length xs) r) (λ h. split ! $ move ! (1 ∷ []) $
         -- [what the scan owns; the cells' token; the reply's token; the reply; the file; the file's token; the cells; _12; …]
         peeks ! S.the-row (Is S.the-row) (shows 𝓤 H A S.the-row) r (u ∷ []) (λ is.
         land ! (from ! (stop !)) (init ! 21 refl (LL.lawful S.the-type S′.the-laws 𝓤 H A W .typed r _ is .0)) $

@@ -4,8 +4,9 @@
 use crate::expect::{refused, start_with, state_length, words_with, START};
 use crate::netlist::*;
 use crate::run::*;
-use peers::BOTH;
+use peers::{BOTH, PROVED};
 use second::cells::{CONSTANT, DELAY, LATCH, OR};
+use std::time::{Duration, Instant};
 use values::{Cell, Circuit, Format};
 
 pub const MOST: usize = 16_384;
@@ -155,4 +156,26 @@ fn the_last_line_of_16384_cells_is_told_when_crowded() {
     assert!(met.lent == [begun]);
     run = Run::begin(&file(&cells, 1), &START);
     assert_eq!(run.go(5).count, 5);
+}
+
+/// 11 tells that there are too many cells, so that none of them is looked at: 100
+/// million take no longer than one. Memory that nobody writes to isn't there.
+#[test]
+fn too_many_cells_are_refused_at_once() {
+    let most = 100_000_000;
+    let bytes = vec![0u8; most * size_of::<Cell>()];
+    // A cell is any six bytes, and its numbers stand at even places.
+    let (before, cells, after) = unsafe { bytes.align_to::<Cell>() };
+    assert!(before.is_empty() && after.is_empty() && cells.len() == most);
+    let least = (0..5).map(|_| {
+        let began = Instant::now();
+        assert_eq!((PROVED.check_cells)(cells, 0).result, refused(11, 0));
+        let written = (PROVED.write_cells)(1, cells, 0, &[0xa5; 9]);
+        assert_eq!(written.result, refused(11, 0));
+        assert_eq!(written.lent, [[0xa5; 9]]);
+        began.elapsed()
+    });
+    assert!(least.min().expect("five") < Duration::from_millis(100));
+    let one_more = vec![Cell::new(32, 0, 0, 0); MOST + 1];
+    assert_eq!((BOTH.check_cells)(&one_more, 0).result, refused(11, 0));
 }

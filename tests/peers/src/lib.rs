@@ -10,7 +10,7 @@ mod second;
 pub use both::BOTH;
 pub use peer::{Bytes, Continue, Functional, Peer, Reply};
 #[cfg(feature = "proved")]
-pub use proved::PROVED;
+pub use proved::{complaint, PROVED};
 #[cfg(not(feature = "proved"))]
 pub use second::SECOND as PROVED;
 pub use second::SECOND;

@@ -60,3 +60,14 @@ fn a_program_is_refused_before_its_budget() {
     let expected = "end 0\n0 0 0 0 0 0 0 0 0 0 0 0 0 0 0 0\n";
     assert_eq!(printed(1_000_000, &OK), expected);
 }
+
+/// As a full disk takes nothing.
+#[cfg(feature = "proved")]
+#[test]
+fn output_that_cannot_be_written_is_told() {
+    for program in ["hubrun", "hubtext"] {
+        let told = String::from_utf8(peers::complaint(program)).expect("a text");
+        let expected = format!("{program}: standard output can't be written\n");
+        assert_eq!(told, expected);
+    }
+}

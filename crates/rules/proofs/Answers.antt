@@ -29,7 +29,7 @@ use Rattle.laws.specs.Program.Admitted.{program-admitted, meaning-formed, meani
 use Rattle.laws.specs.Functional.Accepted.{tableAlone, also-accepted}
 use Rattle.program.specs.declared.Scanned.{Scanned}
 use Rattle.program.specs.Shape.{Scans, Functionally, scanned-laid}
-use Rattle.rules.specs.declared.statements.Ran.{Ran}
+use Rattle.rules.specs.declared.ways.Ran.{Ran}
 use Rattle.rules.specs.Ran.{storeOf, runOf, Stands, mainAnswer, Ready}
 use Rattle.rules.proofs.Procedures.{trees-enough}
 use Rattle.rules.proofs.Stores.{listed-at}

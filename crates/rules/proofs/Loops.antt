@@ -13,7 +13,7 @@ use Rattle.model.specs.Program.{Expr, Stmt, while, repeat, loop}
 use Rattle.model.specs.Rules.{Costs, postponed, Store, atEnd, atExit, Run, done, ended, still, eval, after, wait, chain, caught, whiles, repeats, loops, run}
 use Rattle.laws.specs.Refusals.Laws.{by-bool}
 use Rattle.laws.specs.Rules.Laws.{extended-is, Body, wait-is, wait-short, whiles-stop, whiles-more, again, repeats-is, again-more, again-stop, round, loops-is, round-is}
-use Rattle.rules.specs.declared.statements.Ran.{Ran}
+use Rattle.rules.specs.declared.ways.Ran.{Ran}
 use Rattle.rules.specs.Ran.{storeOf, runOf, Stands}
 use Rattle.rules.proofs.Runs.{flagged, run-ended, unended, chain-unended, stands-still}
 

@@ -13,7 +13,7 @@ use Rattle.model.specs.Program.{Expr, Stmt, ok, tick, assign, assignElem, seq, 
 use Rattle.model.specs.Rules.{Costs, Store, Run, ended, left, still, eval, put, kept, after, wait, chain, both, caught, run}
 use Rattle.laws.specs.Program.Fit.{Formed, Separate}
 use Rattle.laws.specs.Rules.Laws.{wait-is, wait-short, both-of, ite-then, ite-else}
-use Rattle.rules.specs.declared.statements.Ran.{Ran}
+use Rattle.rules.specs.declared.ways.Ran.{Ran}
 use Rattle.rules.specs.Ran.{storeOf, runOf, Stands, Leaving}
 use Rattle.rules.proofs.Sides.{second-ended, second-unended}
 

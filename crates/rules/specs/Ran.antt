@@ -15,7 +15,7 @@ use Rattle.model.specs.Calls.{wordAt, short, overBudget, referenceAnswer, answe
 use Rattle.laws.specs.Program.Fit.{Formed, Timed, Separate}
 use Rattle.program.specs.Ends.{Laid}
 use Rattle.rules.specs.declared.statements.Costs.{Costs}
-use Rattle.rules.specs.declared.statements.Ran.{Ran}
+use Rattle.rules.specs.declared.ways.Ran.{Ran}
 
 -- the costs that costs in code are
 abbrev pub costsOf : Costs → rules.Costs

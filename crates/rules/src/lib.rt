@@ -1,20 +1,19 @@
 // The reference run: a program is checked, and then run on its bytes by its own rules, with the times of a kind of circuit, within a budget.
 // Contracts are equations with model/Calls and model/FunctionalCalls; specs/Ran says what words, costs and runs in code stand for.
 ghost use mathlib.Core.Path.{_≡_};
-ghost use mathlib.Core.List.{List};
 ghost use Prim.Native.Nat.{_≤_};
 ghost use Rattle.model.specs.Program.{programOf};
 ghost use Rattle.model.specs.Procedures.{meaning};
-ghost use Rattle.model.specs.Rules.{ended};
 ghost use Rattle.model.specs.Calls.{refusedAnswer, referenceAnswer, referenceCall};
 ghost use Rattle.model.specs.FunctionalCalls.{referenceFunctionalCall};
-ghost use Rattle.rules.specs.Ran.{costsOf, storeOf, runOf, mainAnswer, Ready};
+ghost use Rattle.rules.specs.Ran.{costsOf, runOf, mainAnswer, Ready};
 
 mod words; // words and expressions
+mod ways; // how a statement ran
 mod statements; // statements by their nodes
 
 use crate::statements::Costs;
-use crate::statements::Ran;
+use crate::ways::Ran;
 use model::Answer;
 use model::Checked;
 use model::Options;

@@ -2,12 +2,13 @@
 // Contracts are equations with model/Rules; specs/Ran says what words, costs and runs in code stand for.
 // Each kind of statement has a function that runs it from its children's nodes. Of a run that is still going the words say nothing.
 ghost use mathlib.Core.Path.{_≡_};
-ghost use mathlib.Core.List.{List};
-ghost use Prim.Native.Nat.{ℕ, _+_, _≤_, _<_, max};
+ghost use Prim.Native.Nat.{_≤_, _<_};
 ghost use lib.ListN.{length};
 ghost use Rattle.model.specs.Program.{exprAt, tick, assign, assignElem, seq, par, ite, while, repeat, loop};
-ghost use Rattle.model.specs.Rules.{ended, still, after, wait, caught, run};
-ghost use Rattle.rules.specs.Ran.{costsOf, storeOf, runOf, Stands, Leaving, calledAt, meantAt, Statable, Ready};
+ghost use Rattle.model.specs.Rules.{run};
+ghost use Rattle.rules.specs.Ran.{costsOf, storeOf, Leaving, calledAt, meantAt, Statable, Ready};
+use crate::ways;
+use crate::ways::Ran;
 use crate::words;
 use program::nodes;
 
@@ -16,67 +17,6 @@ use program::nodes;
 pub struct Costs {
     pub write: u8,
     pub latch: u8,
-}
-
-// How a statement ran within a budget: after `time` instants it ended, or came to an exit of a loop around it (`left`); or it is still going.
-pub struct Ran {
-    pub ended: bool,
-    pub left: bool,
-    pub time: u32,
-}
-
-// A run that has not ended; its time says nothing.
-fn unfinished() -> Ran
-    ensures { λ r. ⌜ ((w : List ℕ) → Stands 0 still r w) ⌝ }
-{
-    Ran {
-        ended: false,
-        left: false,
-        time: 0,
-    }
-}
-
-// d instants, and then the end.
-fn pause(d: u32, budget: u32) -> Ran
-    ensures { λ r. ⌜ ((w : List ℕ) → Stands budget (wait d budget (λ k. ended 0 (storeOf w))) r w) ⌝ }
-{
-    if d <= budget {
-        return Ran {
-            ended: true,
-            left: false,
-            time: d,
-        };
-    }
-    unfinished()
-}
-
-// A run that begins d instants later.
-fn later(d: u32, r: Ran) -> Ran
-    requires { ⌜ d + r .time < 4294967296 ⌝ }
-    ensures { λ q. ⌜ ((w : List ℕ) → Stands (d + r .time) (after d (runOf r w)) q w) ⌝ }
-{
-    Ran {
-        ended: r.ended,
-        left: r.left,
-        time: d + r.time,
-    }
-}
-
-// What comes to an exit in the body of a loop ends the loop.
-fn caught(r: Ran) -> Ran
-    ensures { λ q. ⌜ ((w : List ℕ) → Stands (r .time) (caught (runOf r w)) q w) ⌝ }
-{
-    Ran {
-        ended: r.ended | r.left,
-        left: false,
-        time: r.time,
-    }
-}
-
-fn larger(a: u32, b: u32) -> u32
-    ensures { λ r. ⌜ r ≡ max a b ⌝ }
-{
-    if a < b { b } else { a }
 }
 
 // The variable x gets the expression at node e.
@@ -95,7 +35,7 @@ fn assign_at(
 {
     let value = words::eval_at(program, ends, e, words);
     words[x as usize] = value;
-    pause(d + costs.write as u32, budget)
+    ways::pause(d + costs.write as u32, budget)
 }
 
 // The element of an array, whose index is the expression at node e, gets the expression at node f.
@@ -116,7 +56,7 @@ fn assign_elem_at(
     let index = words::eval_at(program, ends, e, words);
     let value = words::eval_at(program, ends, f, words);
     words[words::element_word(array, index)] = value;
-    pause(d + costs.write as u32, budget)
+    ways::pause(d + costs.write as u32, budget)
 }
 
 // The statement at node p, and then that at node q.
@@ -146,7 +86,7 @@ fn seq_at(
         budget - first.time,
         costs,
     );
-    later(first.time, rest)
+    ways::later(first.time, rest)
 }
 
 // The statements at nodes p and q, side by side. No side writes what the other touches (refusal 8): so the second may start from the first's last words,
@@ -166,16 +106,16 @@ fn par_at(
 {
     let first = run_at(words, program, ends, procedures, p, budget, costs);
     if !first.ended {
-        return unfinished();
+        return ways::unfinished();
     }
     let second = run_at(words, program, ends, procedures, q, budget, costs);
     if !second.ended {
-        return unfinished();
+        return ways::unfinished();
     }
     Ran {
         ended: true,
         left: false,
-        time: larger(first.time, second.time),
+        time: ways::larger(first.time, second.time),
     }
 }
 
@@ -196,15 +136,16 @@ fn if_at(
     ensures { λ r. ⌜ Leaving budget (run (costsOf costs) budget (ite d (exprAt (now (program .entry)) e) (meantAt procedures (now (program .entry)) p) (meantAt procedures (now (program .entry)) q)) (storeOf (now (words .entry)))) r (now (words .exit)) ⌝ }
 {
     if budget < d {
-        return unfinished();
+        return ways::unfinished();
     }
-    if words::eval_at(program, ends, e, words) == 0 {
-        return later(
+    let value = words::eval_at(program, ends, e, words);
+    if value == 0 {
+        return ways::later(
             d,
             run_at(words, program, ends, procedures, q, budget - d, costs),
         );
     }
-    later(
+    ways::later(
         d,
         run_at(words, program, ends, procedures, p, budget - d, costs),
     )
@@ -238,11 +179,11 @@ fn while_at(
         }
         let turn = run_at(words, program, ends, procedures, p, rest, costs);
         if !turn.ended {
-            return later(budget - rest, turn);
+            return ways::later(budget - rest, turn);
         }
         left = rest - turn.time;
     }
-    unfinished()
+    ways::unfinished()
 }
 
 // The statement at node p, until the expression at node e is true.
@@ -266,11 +207,11 @@ fn repeat_at(
         let awake = left - latch;
         let turn = run_at(words, program, ends, procedures, p, awake, costs);
         if !turn.ended {
-            return later(budget - awake, turn);
+            return ways::later(budget - awake, turn);
         }
         let rest = awake - turn.time;
         if rest < d {
-            return unfinished();
+            return ways::unfinished();
         }
         left = rest - d;
         if words::eval_at(program, ends, e, words) != 0 {
@@ -281,7 +222,7 @@ fn repeat_at(
             };
         }
     }
-    unfinished()
+    ways::unfinished()
 }
 
 // The statement at node p, again and again, until it comes to an exit.
@@ -302,11 +243,11 @@ fn loop_at(
     loop {
         let turn = run_at(words, program, ends, procedures, p, left, costs);
         if !turn.ended {
-            return caught(later(budget - left, turn));
+            return ways::caught(ways::later(budget - left, turn));
         }
         let rest = left - turn.time;
         if rest < d {
-            return unfinished();
+            return ways::unfinished();
         }
         left = rest - d;
     }
@@ -326,7 +267,7 @@ fn body_at(
     ensures { λ r. ⌜ Leaving budget (run (costsOf costs) budget (calledAt procedures (now (program .entry)) p) (storeOf (now (words .entry)))) r (now (words .exit)) ⌝ }
 {
     if procedures <= p {
-        return pause(0, budget);
+        return ways::pause(0, budget);
     }
     let body = nodes::skip(ends, program.len() / 4, 0, p);
     run_at(words, program, ends, p, body, budget, costs)
@@ -347,12 +288,10 @@ fn call_at(
     ensures { λ r. ⌜ Leaving budget (run (costsOf costs) budget (seq (tick d) (calledAt procedures (now (program .entry)) p)) (storeOf (now (words .entry)))) r (now (words .exit)) ⌝ }
 {
     if budget < d {
-        return unfinished();
+        return ways::unfinished();
     }
-    later(
-        d,
-        body_at(words, program, ends, procedures, p, budget - d, costs),
-    )
+    let body = body_at(words, program, ends, procedures, p, budget - d, costs);
+    ways::later(d, body)
 }
 
 // The statement at node i, from these words on; it may call the first so many procedures.
@@ -370,17 +309,17 @@ pub fn run_at(
 {
     let count = program.len() / 4;
     if count <= i {
-        return pause(0, budget);
+        return ways::pause(0, budget);
     }
     let node = nodes::read_node(program, i);
     let kind = node.kind;
     if kind <= 16 {
-        return pause(0, budget);
+        return ways::pause(0, budget);
     }
     let d = node.delay as u32;
     let second = nodes::next(ends, count, i + 1);
     match kind {
-        17 => pause(d, budget),
+        17 => ways::pause(d, budget),
         18 => assign_at(words, program, ends, i + 1, node.n, d, budget, costs),
         19 => seq_at(
             words,

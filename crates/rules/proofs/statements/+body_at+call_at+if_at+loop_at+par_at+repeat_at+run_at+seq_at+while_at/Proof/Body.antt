@@ -5,7 +5,7 @@ use Rattle.rules.proofs.Runs.{leaving-as, run-ok}
 use Rattle.rules.proofs.Procedures.{called-none, called-body, body-ready}
 use Rattle.program.proofs.nodes.skip.Reads as skip
 use Rattle.rules.proofs.statements.body_at.Reads as body-reads
-use Rattle.rules.proofs.statements.pause.Reads as pause
+use Rattle.rules.proofs.ways.pause.Reads as pause
 use Rattle.rules.proofs.statements.run_at.Reads as run-reads
 use Rattle.rules.proofs.statements.+body_at+call_at+if_at+loop_at+par_at+repeat_at+run_at+seq_at+while_at.Lts-body_at as lts
 use Rattle.rules.proofs.statements.+body_at+call_at+if_at+loop_at+par_at+repeat_at+run_at+seq_at+while_at.Proof.Falls.{body-here, run-below}

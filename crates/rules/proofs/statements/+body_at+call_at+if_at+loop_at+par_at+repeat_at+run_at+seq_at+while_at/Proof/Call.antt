@@ -5,8 +5,8 @@ use Rattle.rules.proofs.Parts.{seq-second}
 use Rattle.rules.proofs.Runs.{call-still, call-on}
 use Rattle.rules.proofs.statements.body_at.Reads as body-reads
 use Rattle.rules.proofs.statements.call_at.Reads as call-reads
-use Rattle.rules.proofs.statements.later.Reads as later
-use Rattle.rules.proofs.statements.unfinished.Reads as unfinished
+use Rattle.rules.proofs.ways.later.Reads as later
+use Rattle.rules.proofs.ways.unfinished.Reads as unfinished
 use Rattle.rules.proofs.statements.+body_at+call_at+if_at+loop_at+par_at+repeat_at+run_at+seq_at+while_at.Lts-call_at as lts
 use Rattle.rules.proofs.statements.+body_at+call_at+if_at+loop_at+par_at+repeat_at+run_at+seq_at+while_at.Proof.Falls.{call-here, body-below}
 

@@ -5,9 +5,9 @@ use Rattle.rules.proofs.Parts.{ite-first, ite-second}
 use Rattle.rules.proofs.Runs.{if-still, if-then, if-else}
 use Rattle.rules.proofs.words.eval_at.Reads as eval-at
 use Rattle.rules.proofs.statements.if_at.Reads as if-reads
-use Rattle.rules.proofs.statements.later.Reads as later
+use Rattle.rules.proofs.ways.later.Reads as later
 use Rattle.rules.proofs.statements.run_at.Reads as run-reads
-use Rattle.rules.proofs.statements.unfinished.Reads as unfinished
+use Rattle.rules.proofs.ways.unfinished.Reads as unfinished
 use Rattle.rules.proofs.statements.+body_at+call_at+if_at+loop_at+par_at+repeat_at+run_at+seq_at+while_at.Lts-if_at as lts
 use Rattle.rules.proofs.statements.+body_at+call_at+if_at+loop_at+par_at+repeat_at+run_at+seq_at+while_at.Proof.Falls.{if-here, run-below}
 

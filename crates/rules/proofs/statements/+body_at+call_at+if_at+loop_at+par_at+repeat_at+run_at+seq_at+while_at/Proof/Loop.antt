@@ -9,11 +9,11 @@ use Rattle.model.specs.Rules.{run}
 use Rattle.rules.specs.Ran.{costsOf, storeOf, meantAt}
 use Rattle.rules.proofs.Parts.{loop-body, loop-delay}
 use Rattle.rules.proofs.Loops.{loop-unended, loop-out, loop-on, Going, going-start, going-still, going-caught, going-on}
-use Rattle.rules.proofs.statements.caught.Reads as caught
-use Rattle.rules.proofs.statements.later.Reads as later
+use Rattle.rules.proofs.ways.caught.Reads as caught
+use Rattle.rules.proofs.ways.later.Reads as later
 use Rattle.rules.proofs.statements.loop_at.Reads as loop-reads
 use Rattle.rules.proofs.statements.run_at.Reads as run-reads
-use Rattle.rules.proofs.statements.unfinished.Reads as unfinished
+use Rattle.rules.proofs.ways.unfinished.Reads as unfinished
 use Rattle.rules.proofs.statements.+body_at+call_at+if_at+loop_at+par_at+repeat_at+run_at+seq_at+while_at.Lts-loop_at as lts
 use Rattle.rules.proofs.statements.+body_at+call_at+if_at+loop_at+par_at+repeat_at+run_at+seq_at+while_at.Proof.Falls.{loop-here, run-below}
 

@@ -4,10 +4,10 @@ use native.Mathlib.Omega.{arith}
 use borrow.Author.Tests.{not-true, not-false}
 use Rattle.rules.proofs.Parts.{par-first, par-second}
 use Rattle.rules.proofs.Runs.{par-ends, par-second-still, par-still}
-use Rattle.rules.proofs.statements.larger.Reads as larger
+use Rattle.rules.proofs.ways.larger.Reads as larger
 use Rattle.rules.proofs.statements.par_at.Reads as par-reads
 use Rattle.rules.proofs.statements.run_at.Reads as run-reads
-use Rattle.rules.proofs.statements.unfinished.Reads as unfinished
+use Rattle.rules.proofs.ways.unfinished.Reads as unfinished
 use Rattle.rules.proofs.statements.+body_at+call_at+if_at+loop_at+par_at+repeat_at+run_at+seq_at+while_at.Lts-par_at as lts
 use Rattle.rules.proofs.statements.+body_at+call_at+if_at+loop_at+par_at+repeat_at+run_at+seq_at+while_at.Proof.Falls.{par-here, run-below}
 

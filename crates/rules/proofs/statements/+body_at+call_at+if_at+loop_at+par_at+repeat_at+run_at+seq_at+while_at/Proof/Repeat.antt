@@ -10,10 +10,10 @@ use Rattle.rules.specs.Ran.{costsOf, storeOf, meantAt}
 use Rattle.rules.proofs.Parts.{repeat-body, repeat-delay}
 use Rattle.rules.proofs.Loops.{repeat-late, repeat-unended, repeat-out, repeat-end, repeat-on, Going, going-start, going-still, going-unended, going-end, going-on}
 use Rattle.rules.proofs.words.eval_at.Reads as eval-at
-use Rattle.rules.proofs.statements.later.Reads as later
+use Rattle.rules.proofs.ways.later.Reads as later
 use Rattle.rules.proofs.statements.repeat_at.Reads as repeat-reads
 use Rattle.rules.proofs.statements.run_at.Reads as run-reads
-use Rattle.rules.proofs.statements.unfinished.Reads as unfinished
+use Rattle.rules.proofs.ways.unfinished.Reads as unfinished
 use Rattle.rules.proofs.statements.+body_at+call_at+if_at+loop_at+par_at+repeat_at+run_at+seq_at+while_at.Lts-repeat_at as lts
 use Rattle.rules.proofs.statements.+body_at+call_at+if_at+loop_at+par_at+repeat_at+run_at+seq_at+while_at.Proof.Falls.{repeat-here, run-below}
 

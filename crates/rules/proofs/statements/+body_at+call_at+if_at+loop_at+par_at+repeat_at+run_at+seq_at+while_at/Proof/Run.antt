@@ -19,7 +19,7 @@ use Rattle.rules.proofs.statements.call_at.Reads as call-reads
 use Rattle.rules.proofs.statements.if_at.Reads as if-reads
 use Rattle.rules.proofs.statements.loop_at.Reads as loop-reads
 use Rattle.rules.proofs.statements.par_at.Reads as par-reads
-use Rattle.rules.proofs.statements.pause.Reads as pause
+use Rattle.rules.proofs.ways.pause.Reads as pause
 use Rattle.rules.proofs.statements.repeat_at.Reads as repeat-reads
 use Rattle.rules.proofs.statements.run_at.Reads as run-reads
 use Rattle.rules.proofs.statements.seq_at.Reads as seq-reads

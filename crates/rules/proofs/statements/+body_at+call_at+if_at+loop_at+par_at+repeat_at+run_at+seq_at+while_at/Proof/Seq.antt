@@ -4,7 +4,7 @@ use native.Mathlib.Omega.{arith}
 use borrow.Author.Tests.{not-true, not-false}
 use Rattle.rules.proofs.Parts.{seq-first, seq-second}
 use Rattle.rules.proofs.Runs.{seq-ends, seq-unended}
-use Rattle.rules.proofs.statements.later.Reads as later
+use Rattle.rules.proofs.ways.later.Reads as later
 use Rattle.rules.proofs.statements.run_at.Reads as run-reads
 use Rattle.rules.proofs.statements.seq_at.Reads as seq-reads
 use Rattle.rules.proofs.statements.+body_at+call_at+if_at+loop_at+par_at+repeat_at+run_at+seq_at+while_at.Lts-seq_at as lts

@@ -2,8 +2,8 @@
 use mathlib.Core.Path.{refl}
 use native.Mathlib.Omega.{arith}
 use Rattle.rules.specs.Ran.{runOf}
-use Rattle.rules.proofs.statements.unfinished.Statement.{statement}
-use Rattle.rules.proofs.statements.unfinished.Tie as tie
+use Rattle.rules.proofs.ways.unfinished.Statement.{statement}
+use Rattle.rules.proofs.ways.unfinished.Tie as tie
 
 returns : tie.Need-returns
 unfolding runOf

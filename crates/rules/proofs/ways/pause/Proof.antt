@@ -5,8 +5,8 @@ use borrow.Author.Needs.{needs}
 use Rattle.laws.specs.Rules.Laws.{wait-short}
 use Rattle.rules.specs.Ran.{runOf}
 use Rattle.rules.proofs.Runs.{stands-still, wait-ends}
-use Rattle.rules.proofs.statements.pause.Statement.{statement}
-use Rattle.rules.proofs.statements.pause.Tie as tie
+use Rattle.rules.proofs.ways.pause.Statement.{statement}
+use Rattle.rules.proofs.ways.pause.Tie as tie
 
 returns : tie.Need-returns
 unfolding runOf

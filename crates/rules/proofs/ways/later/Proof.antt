@@ -2,8 +2,8 @@
 use native.Mathlib.Omega.{arith}
 use borrow.Author.Needs.{needs}
 use Rattle.rules.proofs.Runs.{run-later}
-use Rattle.rules.proofs.statements.later.Statement.{statement}
-use Rattle.rules.proofs.statements.later.Tie as tie
+use Rattle.rules.proofs.ways.later.Statement.{statement}
+use Rattle.rules.proofs.ways.later.Tie as tie
 
 returns : tie.Need-returns
 returns c w = record { is = run-later _ w _; within = omega arith }

@@ -31,7 +31,7 @@ extern "C" {
 #define HUB_ELEMENTS 512   /* those of the arrays among them */
 #define HUB_PULSE 8        /* the longest pulse, in instants */
 #define HUB_INSTANT 1000000 /* the last instant of a run, and the largest budget */
-#define HUB_STACK 1048576  /* stack that is enough for every call */
+#define HUB_STACK 131072   /* stack that is enough for every call */
 
 #define HUB_BLOCK 512      /* a block of a netlist file: a header and cells */
 #define HUB_BLOCK_HEADER 8

@@ -49,7 +49,7 @@ pub const PROCEDURES: usize = 8;
 pub const REPLY: usize = 48;
 
 /// Stack that is enough for every call.
-pub const STACK: usize = 1_048_576;
+pub const STACK: usize = 131_072;
 
 /// A netlist file of so many cells.
 pub const fn file_length(cells: usize) -> usize {

@@ -18,7 +18,7 @@ use Rattle.model.specs.Program.{programOf}
 use Rattle.model.specs.Procedures.{meaning}
 use Rattle.model.specs.TimeTables.{givenCheck}
 use Rattle.model.specs.ProgramChecks.{programWith, checkOf, checkFunctional}
-use Rattle.model.specs.Rules.{Costs, imperative, functional, ended, run}
+use Rattle.model.specs.Rules.{Costs, imperative, functional, run}
 use Rattle.model.specs.Refusals.{refuseIf, first}
 use Rattle.model.specs.Calls.{wordAt, listed, refusedAnswer, referenceAnswer, answering, short, checkCall, overBudget, referenceCall}
 use Rattle.model.specs.FunctionalCalls.{checkFunctionalCall, referenceFunctionalCall}
@@ -29,32 +29,28 @@ use Rattle.laws.specs.Program.Admitted.{program-admitted, meaning-formed, meani
 use Rattle.laws.specs.Functional.Accepted.{tableAlone, also-accepted}
 use Rattle.program.specs.declared.Scanned.{Scanned}
 use Rattle.program.specs.Shape.{Scans, Functionally, scanned-laid}
-use Rattle.rules.specs.declared.Ran.{Ran}
+use Rattle.rules.specs.declared.ways.Ran.{Ran}
 use Rattle.rules.specs.Ran.{storeOf, runOf, Stands, mainAnswer, Ready}
 use Rattle.rules.proofs.Procedures.{trees-enough}
-use Rattle.rules.proofs.Words.{listed-at}
+use Rattle.rules.proofs.Stores.{listed-at}
 use Rattle.rules.proofs.Agree.{same-answer}
 use Rattle.rules.proofs.Runs.{flagged, run-ended, unended}
 
 -- Runs ---------------------------------------------------------------------------------------------------------------------------------
 
-pub answer-words : (t : ℕ) (ws held : List ℕ) → held ≡ listed (storeOf ws) 0 16
-    → record { outcome = Ended; instant = t; count = t + 1; words = held } ≡ referenceAnswer t (ended t (storeOf ws))
-unfolding referenceAnswer
-answer-words t ws held e = ap (λ (ws : List ℕ). record { outcome = Ended; instant = t; count = t + 1; words = ws }) e
-
-module _ (n : ℕ) (r : Ran) where
-  pub answer-ended : (a : Answer) → a ≡ referenceAnswer (r .time) (ended (r .time) (storeOf (r .words))) → r .ended ≡ true
-      → a ≡ referenceAnswer n (runOf r)
+module _ (n : ℕ) (r : Ran) (w : List ℕ) where
+  pub answer-ended : (ws : List ℕ) → ws ≡ listed (storeOf w) 0 16 → r .ended ≡ true
+      → record { outcome = Ended; instant = r .time; count = r .time + 1; words = ws } ≡ referenceAnswer n (runOf r w)
   unfolding referenceAnswer
-  answer-ended a h e = h ∙ sym (ap (referenceAnswer n) (run-ended r e))
+  answer-ended ws ew e =
+      ap (λ (ws : List ℕ). record { outcome = Ended; instant = r .time; count = r .time + 1; words = ws }) ew ∙ sym (ap (referenceAnswer n) (run-ended r w e))
 
   pub answer-open : r .ended ≡ false
-      → record { outcome = Open; instant = n; count = n + 1; words = replicate 16 0 } ≡ referenceAnswer n (runOf r)
+      → record { outcome = Open; instant = n; count = n + 1; words = replicate 16 0 } ≡ referenceAnswer n (runOf r w)
   unfolding referenceAnswer
-  answer-open e = sym (ap (referenceAnswer n) (unended r e) ∙ go (r .left))
+  answer-open e = sym (ap (referenceAnswer n) (unended r w e) ∙ go (r .left))
     where
-      go : (l : Bool) → referenceAnswer n (flagged false l (r .time) (storeOf (r .words))) ≡ record { outcome = Open; instant = n; count = n + 1; words = replicate 16 0 }
+      go : (l : Bool) → referenceAnswer n (flagged false l (r .time) (storeOf w)) ≡ record { outcome = Open; instant = n; count = n + 1; words = replicate 16 0 }
       go true = refl
       go false = refl
 
@@ -92,9 +88,9 @@ module _ (κ : Costs) (k : ℕ) (s bytes : List ℕ) (n : ℕ) where
   main-short h l = main-by false true (le-ltb _ _ h) (lt-ltb _ _ l)
 
   pub main-runs : n ≤ 1000000 → 544 ≤ length bytes → Formed (meaning (programOf 1 k s)) → (ws : List ℕ) → ws ≡ listed (wordAt bytes) 0 272
-      → (r : Ran) → Stands n (run κ n (meaning (programOf 1 k s)) (storeOf ws)) r → (a : Answer) → a ≡ referenceAnswer n (runOf r) → a ≡ mainAnswer κ k s bytes n
+      → (r : Ran) (w : List ℕ) → Stands n (run κ n (meaning (programOf 1 k s)) (storeOf ws)) r w → (a : Answer) → a ≡ referenceAnswer n (runOf r w) → a ≡ mainAnswer κ k s bytes n
   unfolding answering storeOf
-  main-runs h l formed ws ew r R a ea =
+  main-runs h l formed ws ew r w R a ea =
       ea ∙ ap (referenceAnswer n) (R .is)
       ∙ same-answer κ (meaning (programOf 1 k s)) formed n (storeOf ws) (wordAt bytes)
       (λ x m. ap (λ (ws : List ℕ). getD ws x 0) ew ∙ listed-at (wordAt bytes) 272 0 x m ∙ ap (wordAt bytes) (omega arith))

@@ -1,6 +1,7 @@
 -- What the proofs of several functions use.
-pub mod Words
+pub mod Stores
 pub mod Agree
+pub mod Sides
 pub mod Nodes
 pub mod Parts
 pub mod Runs

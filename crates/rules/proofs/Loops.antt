@@ -13,7 +13,7 @@ use Rattle.model.specs.Program.{Expr, Stmt, while, repeat, loop}
 use Rattle.model.specs.Rules.{Costs, postponed, Store, atEnd, atExit, Run, done, ended, still, eval, after, wait, chain, caught, whiles, repeats, loops, run}
 use Rattle.laws.specs.Refusals.Laws.{by-bool}
 use Rattle.laws.specs.Rules.Laws.{extended-is, Body, wait-is, wait-short, whiles-stop, whiles-more, again, repeats-is, again-more, again-stop, round, loops-is, round-is}
-use Rattle.rules.specs.declared.Ran.{Ran}
+use Rattle.rules.specs.declared.ways.Ran.{Ran}
 use Rattle.rules.specs.Ran.{storeOf, runOf, Stands}
 use Rattle.rules.proofs.Runs.{flagged, run-ended, unended, chain-unended, stands-still}
 
@@ -96,16 +96,16 @@ postponed-is zero body k σ =
     sym (wait-is 0 k (λ k₁. body k₁ σ) (omega arith) ∙ after-zero (body (k - 0) σ) ∙ ap (λ (m : ℕ). body m σ) z)
 postponed-is (suc n) body k σ = refl
 
-chain-later : (l : ℕ) (r : Ran) → r .ended ≡ true → (c : ℕ → Store → Run) → chain (after l (runOf r)) c ≡ after (l + r .time) (c (l + r .time) (storeOf (r .words)))
+chain-later : (l : ℕ) (r : Ran) (w : List ℕ) → r .ended ≡ true → (c : ℕ → Store → Run) → chain (after l (runOf r w)) c ≡ after (l + r .time) (c (l + r .time) (storeOf w))
 unfolding chain after
-chain-later l r f c = ap (λ (q : Run). chain (after l q) c) (run-ended r f)
+chain-later l r w f c = ap (λ (q : Run). chain (after l q) c) (run-ended r w f)
 
 -- nothing goes on after one that has not ended
-chain-later-unended : (l : ℕ) (r : Ran) → r .ended ≡ false → (c : ℕ → Store → Run) → chain (after l (runOf r)) c ≡ after l (runOf r)
+chain-later-unended : (l : ℕ) (r : Ran) (w : List ℕ) → r .ended ≡ false → (c : ℕ → Store → Run) → chain (after l (runOf r w)) c ≡ after l (runOf r w)
 unfolding chain after
-chain-later-unended l r f c = rw (unended r f) (go (r .left))
+chain-later-unended l r w f c = rw (unended r w f) (go (r .left))
   where
-    go : (b : Bool) → chain (after l (flagged false b (r .time) (storeOf (r .words)))) c ≡ after l (flagged false b (r .time) (storeOf (r .words)))
+    go : (b : Bool) → chain (after l (flagged false b (r .time) (storeOf w))) c ≡ after l (flagged false b (r .time) (storeOf w))
     go true = refl
     go false = refl
 
@@ -135,23 +135,23 @@ module _ (κ : Costs) (d : ℕ) (e : Expr) (P : Stmt) (k : ℕ) (σ : Store) whe
     pub while-end : v ≡ 0 → run κ k (while d e P) σ ≡ after (d + κ .latch) (ended 0 σ)
     while-end z = while-is κ d e P k σ ∙ whiles-stop body test e k k σ (eq-eqb _ 0 (sym ev ∙ z)) ∙ wait-is test k _ l
 
-    module _ (n : v ≡ 0 → ⊥) (r : Ran) (R : Stands (k - (d + κ .latch)) (run κ (k - (d + κ .latch)) P σ) r) where
-      while-turn : run κ k (while d e P) σ ≡ after test (chain (runOf r) whileRest)
+    module _ (n : v ≡ 0 → ⊥) (r : Ran) (w : List ℕ) (R : Stands (k - (d + κ .latch)) (run κ (k - (d + κ .latch)) P σ) r w) where
+      while-turn : run κ k (while d e P) σ ≡ after test (chain (runOf r w) whileRest)
       while-turn =
           while-is κ d e P k σ ∙ whiles-more body test e k k σ (ne-eqb _ 0 (λ z. n (ev ∙ z))) ∙ wait-is test k _ l
           ∙ ap (λ (q : Run). after test (chain q whileRest)) (sym (R .is))
 
-      pub while-unended : r .ended ≡ false → run κ k (while d e P) σ ≡ after (d + κ .latch) (runOf r)
-      while-unended f = while-turn ∙ ap (after test) (chain-unended r f whileRest)
+      pub while-unended : r .ended ≡ false → run κ k (while d e P) σ ≡ after (d + κ .latch) (runOf r w)
+      while-unended f = while-turn ∙ ap (after test) (chain-unended r w f whileRest)
 
       pub while-on : r .ended ≡ true → 1 ≤ d
-          → run κ k (while d e P) σ ≡ after (d + κ .latch + r .time) (run κ (k - (d + κ .latch) - r .time) (while d e P) (storeOf (r .words)))
+          → run κ k (while d e P) σ ≡ after (d + κ .latch + r .time) (run κ (k - (d + κ .latch) - r .time) (while d e P) (storeOf w))
       unfolding chain
       while-on f one =
           let t = r .time in
-          while-turn ∙ ap (λ (q : Run). after test (chain q whileRest)) (run-ended r f) ∙ after-after test t _
-          ∙ ap (after (test + t)) (whiles-enough body test e (omega arith) k (suc (k - test - t)) (k - test - t) (storeOf (r .words)) (omega arith) (omega arith))
-          ∙ ap (after (test + t)) (sym (while-is κ d e P (k - test - t) (storeOf (r .words))))
+          while-turn ∙ ap (λ (q : Run). after test (chain q whileRest)) (run-ended r w f) ∙ after-after test t _
+          ∙ ap (after (test + t)) (whiles-enough body test e (omega arith) k (suc (k - test - t)) (k - test - t) (storeOf w) (omega arith) (omega arith))
+          ∙ ap (after (test + t)) (sym (while-is κ d e P (k - test - t) (storeOf w)))
 
 module _ (κ : Costs) (d : ℕ) (e : Expr) (P : Stmt) (k : ℕ) (σ : Store) where
   -- a repeat's turn begins when the words are latched
@@ -171,72 +171,72 @@ module _ (κ : Costs) (d : ℕ) (e : Expr) (P : Stmt) (k : ℕ) (σ : Store) whe
   repeat-late l = repeat-is ∙ ap (λ (q : Run). chain q repeatRest) (wait-short (κ .latch) k _ l)
 
   -- the turn r, and where it ended the test, whose word is v
-  module _ (h : κ .latch ≤ k) (r : Ran) (R : Stands (k - κ .latch) (run κ (k - κ .latch) P σ) r) where
-    repeat-turn : run κ k (repeat d e P) σ ≡ chain (after (κ .latch) (runOf r)) repeatRest
+  module _ (h : κ .latch ≤ k) (r : Ran) (w : List ℕ) (R : Stands (k - κ .latch) (run κ (k - κ .latch) P σ) r w) where
+    repeat-turn : run κ k (repeat d e P) σ ≡ chain (after (κ .latch) (runOf r w)) repeatRest
     repeat-turn = repeat-is ∙ ap (λ (q : Run). chain q repeatRest) (wait-is (κ .latch) k _ h ∙ ap (after (κ .latch)) (sym (R .is)))
 
-    pub repeat-unended : r .ended ≡ false → run κ k (repeat d e P) σ ≡ after (κ .latch) (runOf r)
-    repeat-unended f = repeat-turn ∙ chain-later-unended (κ .latch) r f repeatRest
+    pub repeat-unended : r .ended ≡ false → run κ k (repeat d e P) σ ≡ after (κ .latch) (runOf r w)
+    repeat-unended f = repeat-turn ∙ chain-later-unended (κ .latch) r w f repeatRest
 
     module _ (f : r .ended ≡ true) where
-      repeat-turned : run κ k (repeat d e P) σ ≡ after (κ .latch + r .time) (again turned d e k (k - κ .latch - r .time) (storeOf (r .words)))
+      repeat-turned : run κ k (repeat d e P) σ ≡ after (κ .latch + r .time) (again turned d e k (k - κ .latch - r .time) (storeOf w))
       repeat-turned =
           let same : k - (κ .latch + r .time) ≡ k - κ .latch - r .time = omega arith in
-          repeat-turn ∙ chain-later (κ .latch) r f repeatRest
-          ∙ ap (λ (m : ℕ). after (κ .latch + r .time) (again turned d e k m (storeOf (r .words)))) same
+          repeat-turn ∙ chain-later (κ .latch) r w f repeatRest
+          ∙ ap (λ (m : ℕ). after (κ .latch + r .time) (again turned d e k m (storeOf w))) same
 
       pub repeat-out : k - κ .latch - r .time < d → run κ k (repeat d e P) σ ≡ still
       unfolding again after
       repeat-out l = repeat-turned ∙ ap (after (κ .latch + r .time)) (wait-short d (k - κ .latch - r .time) _ l)
 
-      module _ (l : d ≤ k - κ .latch - r .time) (v : ℕ) (ev : v ≡ eval e (storeOf (r .words))) where
-        pub repeat-end : (v ≡ 0 → ⊥) → run κ k (repeat d e P) σ ≡ after (κ .latch + r .time + d) (ended 0 (storeOf (r .words)))
+      module _ (l : d ≤ k - κ .latch - r .time) (v : ℕ) (ev : v ≡ eval e (storeOf w)) where
+        pub repeat-end : (v ≡ 0 → ⊥) → run κ k (repeat d e P) σ ≡ after (κ .latch + r .time + d) (ended 0 (storeOf w))
         repeat-end n =
             let t = κ .latch + r .time in
             let m = k - κ .latch - r .time in
             repeat-turned ∙ ap (after t) (again-stop turned d e k m _ (ne-eqb _ 0 (λ z. n (ev ∙ z))) ∙ wait-is d m _ l) ∙ after-after t d _
 
         pub repeat-on : v ≡ 0 → 1 ≤ d
-            → run κ k (repeat d e P) σ ≡ after (κ .latch + r .time + d) (run κ (k - κ .latch - r .time - d) (repeat d e P) (storeOf (r .words)))
+            → run κ k (repeat d e P) σ ≡ after (κ .latch + r .time + d) (run κ (k - κ .latch - r .time - d) (repeat d e P) (storeOf w))
         unfolding run
         repeat-on z one =
             let t = κ .latch + r .time in
             let m = k - κ .latch - r .time in
             repeat-turned ∙ ap (after t) (again-more turned d e k m _ (eq-eqb _ 0 (sym ev ∙ z)) ∙ wait-is d m _ l) ∙ after-after t d _
-            ∙ ap (after (t + d)) (repeats-enough turned d e one k (suc (m - d)) (m - d) (storeOf (r .words)) (omega arith) (omega arith))
+            ∙ ap (after (t + d)) (repeats-enough turned d e one k (suc (m - d)) (m - d) (storeOf w) (omega arith) (omega arith))
 
 -- a loop's turn r
-module _ (κ : Costs) (d : ℕ) (P : Stmt) (k : ℕ) (σ : Store) (r : Ran) (R : Stands k (run κ k P σ) r) where
+module _ (κ : Costs) (d : ℕ) (P : Stmt) (k : ℕ) (σ : Store) (r : Ran) (w : List ℕ) (R : Stands k (run κ k P σ) r w) where
   abbrev turns : Body
   turns k₁ σ₁ = run κ k₁ P σ₁
 
   abbrev loopRest : ℕ → Store → Run
   loopRest t σ₁ = round turns d k (k - t) σ₁
 
-  loop-turn : run κ k (loop d P) σ ≡ caught (chain (runOf r) loopRest)
+  loop-turn : run κ k (loop d P) σ ≡ caught (chain (runOf r w) loopRest)
   unfolding run
   loop-turn = ap caught (loops-is turns d k k σ ∙ ap (λ (q : Run). chain q loopRest) (sym (R .is)))
 
-  pub loop-unended : r .ended ≡ false → run κ k (loop d P) σ ≡ caught (runOf r)
-  loop-unended f = loop-turn ∙ ap caught (chain-unended r f loopRest)
+  pub loop-unended : r .ended ≡ false → run κ k (loop d P) σ ≡ caught (runOf r w)
+  loop-unended f = loop-turn ∙ ap caught (chain-unended r w f loopRest)
 
   module _ (f : r .ended ≡ true) where
-    loop-turned : run κ k (loop d P) σ ≡ caught (after (r .time) (round turns d k (k - r .time) (storeOf (r .words))))
+    loop-turned : run κ k (loop d P) σ ≡ caught (after (r .time) (round turns d k (k - r .time) (storeOf w)))
     unfolding chain
-    loop-turned = loop-turn ∙ ap (λ (q : Run). caught (chain q loopRest)) (run-ended r f)
+    loop-turned = loop-turn ∙ ap (λ (q : Run). caught (chain q loopRest)) (run-ended r w f)
 
     pub loop-out : k - r .time < d → run κ k (loop d P) σ ≡ still
     unfolding after caught
     loop-out l = loop-turned ∙ ap (λ (q : Run). caught (after (r .time) q)) (round-is turns d k (k - r .time) _ ∙ wait-short d (k - r .time) _ l)
 
-    pub loop-on : d ≤ k - r .time → 1 ≤ d → run κ k (loop d P) σ ≡ after (r .time + d) (run κ (k - r .time - d) (loop d P) (storeOf (r .words)))
+    pub loop-on : d ≤ k - r .time → 1 ≤ d → run κ k (loop d P) σ ≡ after (r .time + d) (run κ (k - r .time - d) (loop d P) (storeOf w))
     unfolding run
     loop-on l one =
         let t = r .time in
         loop-turned
         ∙ ap caught (ap (after t) (round-is turns d k (k - t) _ ∙ wait-is d (k - t) _ l) ∙ after-after t d _)
         ∙ caught-after (t + d) _
-        ∙ ap (λ (q : Run). after (t + d) (caught q)) (loops-enough turns d one k (suc (k - t - d)) (k - t - d) (storeOf (r .words)) (omega arith) (omega arith))
+        ∙ ap (λ (q : Run). after (t + d) (caught q)) (loops-enough turns d one k (suc (k - t - d)) (k - t - d) (storeOf w) (omega arith) (omega arith))
 
 -- A loop on its way --------------------------------------------------------------------------------------------------------------------
 
@@ -251,34 +251,34 @@ going-start B X =
     record { within = omega arith; is = sym (after-zero X) ∙ ap (λ (t : ℕ). after t X) e }
 
 module _ {B l : ℕ} {X Y : Run} (G : Going B l X Y) where
-  pub going-still : {r : Ran} → Y ≡ still → Stands 0 still r → Stands B X r
+  pub going-still : {r : Ran} {w : List ℕ} → Y ≡ still → Stands 0 still r w → Stands B X r w
   unfolding after
   going-still e S = stands-still S (G .is ∙ ap (after (B - l)) e)
 
   -- a turn q that has not ended, u instants from here, is the last
-  pub going-unended : (u : ℕ) (q : Ran) → Y ≡ after u (runOf q) → (t : ℕ) → t + l ≡ B + u → u + q .time ≤ l → (r : Ran)
-      → Stands (t + q .time) (after t (runOf q)) r → Stands B X r
-  going-unended u q e t h m r S =
+  pub going-unended : (u : ℕ) (q : Ran) (w : List ℕ) → Y ≡ after u (runOf q w) → (t : ℕ) → t + l ≡ B + u → u + q .time ≤ l → (r : Ran)
+      → Stands (t + q .time) (after t (runOf q w)) r w → Stands B X r w
+  going-unended u q w e t h m r S =
       let f : t ≡ B - l + u = omega (arith, G .within) in
       record {
-        is = S .is ∙ ap (λ (t : ℕ). after t (runOf q)) f ∙ sym (G .is ∙ ap (after (B - l)) e ∙ after-after (B - l) u _);
+        is = S .is ∙ ap (λ (t : ℕ). after t (runOf q w)) f ∙ sym (G .is ∙ ap (after (B - l)) e ∙ after-after (B - l) u _);
         within = omega (arith, S .within);
       }
 
   -- an exit in it ends the loop
-  pub going-caught : (q : Ran) → Y ≡ caught (runOf q) → (t : ℕ) → t + l ≡ B → q .time ≤ l → (p : Ran) → Stands (t + q .time) (after t (runOf q)) p
-      → (r : Ran) → Stands (p .time) (caught (runOf p)) r → Stands B X r
-  going-caught q e t h m p S r C =
+  pub going-caught : (q : Ran) (w : List ℕ) → Y ≡ caught (runOf q w) → (t : ℕ) → t + l ≡ B → q .time ≤ l → (p : Ran)
+      → Stands (t + q .time) (after t (runOf q w)) p w → (r : Ran) → Stands (p .time) (caught (runOf p w)) r w → Stands B X r w
+  going-caught q w e t h m p S r C =
       let f : t ≡ B - l = omega (arith, G .within) in
       record {
         is =
-            C .is ∙ ap caught (S .is ∙ ap (λ (t : ℕ). after t (runOf q)) f) ∙ caught-after (B - l) (runOf q)
+            C .is ∙ ap caught (S .is ∙ ap (λ (t : ℕ). after t (runOf q w)) f) ∙ caught-after (B - l) (runOf q w)
             ∙ sym (G .is ∙ ap (after (B - l)) e);
         within = omega (arith, S .within, C .within);
       }
 
   pub going-end : (u : ℕ) (w : List ℕ) → Y ≡ after u (ended 0 (storeOf w)) → (t : ℕ) → t + l ≡ B + u → u ≤ l
-      → Stands B X (record { words = w; ended = true; left = false; time = t })
+      → Stands B X (record { ended = true; left = false; time = t }) w
   unfolding after runOf
   going-end u w e t h m =
       let f : t ≡ B - l + (u + 0) = omega (arith, G .within) in

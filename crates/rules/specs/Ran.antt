@@ -4,7 +4,6 @@ use mathlib.Core.Path.{_≡_}
 use mathlib.Core.List.{List, [], _∷_}
 use Prim.Native.Nat.{ℕ, _≤_}
 use lib.ListN.{length, getD}
-use lib.Dec.{eqb}
 use Rattle.model.specs.declared.Answer.{Answer}
 use Rattle.model.specs.Word.{pick}
 use Rattle.model.specs.Refusals.{first}
@@ -15,8 +14,8 @@ use Rattle.model.specs.Rules.{Store, Run, ended, left, still, run}
 use Rattle.model.specs.Calls.{wordAt, short, overBudget, referenceAnswer, answering}
 use Rattle.laws.specs.Program.Fit.{Formed, Timed, Separate}
 use Rattle.program.specs.Ends.{Laid}
-use Rattle.rules.specs.declared.Costs.{Costs}
-use Rattle.rules.specs.declared.Ran.{Ran}
+use Rattle.rules.specs.declared.statements.Costs.{Costs}
+use Rattle.rules.specs.declared.ways.Ran.{Ran}
 
 -- the costs that costs in code are
 abbrev pub costsOf : Costs → rules.Costs
@@ -26,18 +25,19 @@ costsOf c = record { write = c .write; latch = c .latch }
 unfoldable pub storeOf : List ℕ → Store
 storeOf words x = getD words x 0
 
--- the run that a run in code is
-unfoldable pub runOf : Ran → Run
-runOf r = pick (r .ended) (ended (r .time) (storeOf (r .words))) (pick (r .left) (left (r .time) (storeOf (r .words))) still)
+-- the run that a run in code is, with the words w that it left
+unfoldable pub runOf : Ran → List ℕ → Run
+runOf r w = pick (r .ended) (ended (r .time) (storeOf w)) (pick (r .left) (left (r .time) (storeOf w)) still)
 
--- r is the run R, within k instants
-pub record Stands (k : ℕ) (R : Run) (r : Ran) : Type 0 where
-  pub is : runOf r ≡ R
+-- r, which left w, is the run R, within k instants
+pub record Stands (k : ℕ) (R : Run) (r : Ran) (w : List ℕ) : Type 0 where
+  pub is : runOf r w ≡ R
   pub within : r .time ≤ k
 
--- the words after two sides that began with σ: those that the first changed, and of the others the second's
-unfoldable pub joins : Store → Store → Store → Store
-joins σ σ₁ σ₂ x = pick (eqb (σ₁ x) (σ x)) (σ₂ x) (σ₁ x)
+-- and w are 272
+pub record Leaving (k : ℕ) (R : Run) (r : Ran) (w : List ℕ) : Type 0 where
+  pub stands : Stands k R r w
+  pub whole : length w ≡ 272
 
 -- the first so many bodies without calls, and the statement at node i with these for its calls
 abbrev pub calledAt : ℕ → List ℕ → ℕ → Stmt

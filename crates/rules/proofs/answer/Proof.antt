@@ -5,10 +5,10 @@ use Rattle.rules.proofs.answer.Statement.{statement}
 use Rattle.rules.proofs.answer.Tie as tie
 
 returns : tie.Need-returns
-returns c = answer-ended _ (c .before .before .before .args .ran) _ (c .ended-at .ensures) (c .before .before .if1 .taken)
+returns c = answer-ended _ _ _ _ (c .variables .ensures) (c .before .before .if1 .taken)
 
 returns-2 : tie.Need-returns-2
-returns-2 c = answer-open _ _ (c .if1 .left)
+returns-2 c = answer-open _ _ _ (c .if1 .left)
 
 pub answer-spec : {M : Type 1} → statement M
-answer-spec = tie.close (tie.spec (λ c κs. search needs) returns (λ c. search needs) returns-2)
+answer-spec = tie.close (tie.spec (λ c. search needs) (λ c κs. search needs) returns (λ c. search needs) returns-2)

@@ -1,5 +1,5 @@
-//! Every call at its largest input on a stack of 256 KB, so that none keeps a whole
-//! netlist or state there. Without the archive it is the second's calls that run.
+//! Every call at the inputs that take it deepest, on the stack that is said to be
+//! enough. Without the archive it is the second's calls that run, on a larger one.
 
 use crate::expect::{start_with, state_length, START};
 use crate::limits::{largest, MOST};
@@ -7,14 +7,23 @@ use crate::netlist::file;
 use crate::nodes::*;
 use peers::PROVED;
 use second::table::BUILT_IN;
-use values::{Cell, Circuit, Format, Given};
+use values::{layout, Cell, Circuit, Format, Given};
 
-const STACK: usize = 256 * 1024;
+const STACK: usize = if cfg!(feature = "proved") {
+    layout::STACK
+} else {
+    2 << 20
+};
 
 /// An overflow ends the whole test program.
 fn on_a_small_stack(test: impl FnOnce() + Send + 'static) {
     let thread = std::thread::Builder::new().stack_size(STACK).spawn(test);
     thread.expect("a thread").join().expect("it passes");
+}
+
+/// A program around itself so many times.
+fn nested(times: usize, inside: Vec<u8>, around: impl Fn(Vec<u8>) -> Vec<u8>) -> Vec<u8> {
+    (0..times).fold(inside, |program, _| around(program))
 }
 
 /// 76 loops within each other around assignments to sixteen variables: 199 nodes.
@@ -28,45 +37,124 @@ pub fn deepest() -> Vec<u8> {
     })
 }
 
+/// Of each kind that has a child one within another, as deep as 200 nodes are.
+fn deep() -> Vec<Vec<u8>> {
+    let zero = || assign(0, constant(0), 1);
+    let one = || assign(0, constant(1), 1);
+    let value =
+        |times, around: fn(Vec<u8>) -> Vec<u8>| assign(0, nested(times, variable(0), around), 255);
+    vec![
+        deepest(),
+        nested(99, zero(), |p| while_do(variable(0), 1, p)),
+        nested(99, one(), |p| repeat_until(p, variable(0), 1)),
+        nested(66, tick(1), |p| if_then_else(constant(1), 1, p, ok())),
+        nested(66, tick(1), |p| if_then_else(constant(0), 1, ok(), p)),
+        nested(99, tick(1), |p| parallel(p, ok())),
+        nested(99, tick(1), |p| parallel(ok(), p)),
+        nested(99, tick(1), |p| sequence(p, ok())),
+        nested(99, tick(1), |p| sequence(ok(), p)),
+        value(198, |e| [node(3, 0, 0), e].concat()),
+        value(99, |e| operation(6, e, variable(0))),
+        value(99, |e| operation(6, variable(0), e)),
+    ]
+}
+
+/// Those that no functional circuit has: 199 loops around an exit, elements of
+/// elements, and eight bodies of loops around a call, each of the body before it.
+fn deep_imperative() -> Vec<(usize, Vec<u8>)> {
+    let loops = |times, inside| nested(times, inside, |p| loop_of(1, p));
+    let first = loops(23, exit());
+    let bodies = (0..7).flat_map(|number| loops(23, call(number, 1)));
+    let main = loops(7, call(7, 1));
+    let elements = |times| nested(times, variable(0), |e| element(0, e));
+    vec![
+        (0, loops(199, exit())),
+        (0, assign(0, elements(63), 255)),
+        (0, assign_element(0, elements(63), elements(63), 255)),
+        (8, first.into_iter().chain(bodies).chain(main).collect()),
+    ]
+}
+
+fn run_imperative(procedures: usize, program: &[u8]) {
+    let table = BUILT_IN.file();
+    let given = Given {
+        table: Some(&table),
+        ..Given::procedures(procedures)
+    };
+    let (room, state) = (vec![0; 6_656], vec![0; 42_000]);
+    assert_eq!((PROVED.check)(given, program).result, Ok(()));
+    assert!((PROVED.compile)(given, program, &room).result.is_ok());
+    let ended = (PROVED.reference_run)(given, program, &START, 9_000);
+    assert!(ended.result.is_ok());
+    let ran = (PROVED.run_program)(given, program, &START, 9_000, &room, &state);
+    assert!(ran.result.is_ok());
+    let (values, work) = (vec![0; 2_048], vec![0; 1_049_088]);
+    let slow = (PROVED.slow_run)(
+        given.table,
+        procedures,
+        program,
+        &START,
+        900,
+        &values,
+        &work,
+    );
+    assert!(slow.result.is_ok());
+}
+
+fn run_functional(program: &[u8]) {
+    let (table, functional) = (BUILT_IN.file(), PROVED.functional);
+    let table = Some(&table[..]);
+    let (room, state) = (vec![0; 100_352], vec![0; 300_000]);
+    assert_eq!((functional.check)(table, program).result, Ok(()));
+    assert!((functional.compile)(table, program, &room).result.is_ok());
+    let ended = (functional.reference_run)(table, program, &START, 9_000);
+    assert!(ended.result.is_ok());
+    let ran = (functional.run_program)(table, program, &START, 9_000, &room, &state);
+    assert!(ran.result.is_ok());
+}
+
 #[test]
 fn programs() {
-    on_a_small_stack(|| {
-        let (program, table) = (deepest(), BUILT_IN.file());
-        let (room, state) = (vec![0; 100_352], vec![0; 300_000]);
-        let given = Given::table(Some(&table));
-        let table = given.table;
-        assert!((PROVED.check)(given, &program).result.is_ok());
-        assert!((PROVED.compile)(given, &program, &room).result.is_ok());
-        let ended = (PROVED.reference_run)(given, &program, &START, 9_000);
-        assert!(ended.result.is_ok());
-        let ran = (PROVED.run_program)(given, &program, &START, 9_000, &room, &state);
-        assert!(ran.result.is_ok());
-        let work = vec![0; 650_000];
-        let slow = (PROVED.slow_run)(table, 0, &program, &START, 900, &room, &work);
-        assert!(slow.result.is_ok());
-        let functional = PROVED.functional;
-        assert!((functional.check)(table, &program).result.is_ok());
-        assert!((functional.compile)(table, &program, &room).result.is_ok());
-        let ended = (functional.reference_run)(table, &program, &START, 9_000);
-        assert!(ended.result.is_ok());
-        let ran = (functional.run_program)(table, &program, &START, 9_000, &room, &state);
-        assert!(ran.result.is_ok());
-    });
+    for program in deep() {
+        on_a_small_stack(move || {
+            run_imperative(0, &program);
+            run_functional(&program);
+        });
+    }
+    for (procedures, program) in deep_imperative() {
+        on_a_small_stack(move || run_imperative(procedures, &program));
+    }
 }
 
 /// As long and as deep as a text may be.
 #[test]
 fn texts() {
-    on_a_small_stack(|| {
-        let (open, close) = ("(".repeat(2_044), ")".repeat(2_044));
-        let text = format!("x0:={open}1{close}@1");
-        let (text, given) = (text.as_bytes(), Given::NOTHING);
-        let (room, state) = (vec![0; 6_656], vec![0; 42_000]);
-        assert!((PROVED.read_text)(given, text, &room).result.is_ok());
-        assert!((PROVED.compile_text)(given, text, &room).result.is_ok());
-        let ran = (PROVED.run_text)(given, text, &START, 9, &room, &state);
-        assert!(ran.result.is_ok());
-    });
+    let nested = |[before, open, inside, close, after]: [&str; 5], times| {
+        [
+            before,
+            &open.repeat(times),
+            inside,
+            &close.repeat(times),
+            after,
+        ]
+        .concat()
+    };
+    for text in [
+        nested(["x0:=", "(", "1", ")", "@1"], 2_044),
+        nested(["", "{", "ok", "}", ""], 2_047),
+        nested(["", "while x0@1 do ", "ok", " end", ""], 99),
+        nested(["", "{ok||", "ok", "}", ""], 99),
+        nested(["x0:=", "!", "1", "", "@255"], 198),
+    ] {
+        on_a_small_stack(move || {
+            let (text, given) = (text.as_bytes(), Given::NOTHING);
+            let (room, state) = (vec![0; 6_656], vec![0; 42_000]);
+            assert!((PROVED.read_text)(given, text, &room).result.is_ok());
+            assert!((PROVED.compile_text)(given, text, &room).result.is_ok());
+            let ran = (PROVED.run_text)(given, text, &START, 9, &room, &state);
+            assert!(ran.result.is_ok());
+        });
+    }
 }
 
 #[test]

@@ -24,6 +24,8 @@ enum Takes {
     /// One whose circuit is made or run, or a netlist.
     Circuit,
     Outline,
+    /// One that is run with gates that take their time.
+    Slow,
     Other,
 }
 
@@ -72,7 +74,10 @@ impl Args {
                 (Some(false), Some(_)) => {
                     return Err(args.fault(format!("{} takes no value", dashed(name))))
                 }
-                (None, _) => return Err(args.fault(format!("{} is no option", dashed(name)))),
+                (None, _) => {
+                    let why = options.why_not(name).unwrap_or("is no option");
+                    return Err(args.fault(format!("{} {why}", dashed(name))));
+                }
             };
             if args.options.insert(name.to_string(), value).is_some() {
                 return Err(args.fault(format!("{} stands twice", dashed(name))));
@@ -174,6 +179,14 @@ impl Options {
         }
     }
 
+    /// Of a command that runs a program with gates that take their time.
+    pub const fn of_slow(valued: Names, flags: Names) -> Options {
+        Options {
+            takes: Takes::Slow,
+            ..Options::plain(valued, flags)
+        }
+    }
+
     /// Of a command that takes none.
     pub const fn plain(valued: Names, flags: Names) -> Options {
         Options {
@@ -196,6 +209,7 @@ impl Options {
         let said = move |name: &str| match self.takes {
             Takes::Program | Takes::Circuit => true,
             Takes::Outline => name != "as",
+            Takes::Slow => name != "pulse",
             Takes::Other => false,
         };
         let of_program = OF_PROGRAMS.into_iter();
@@ -208,6 +222,19 @@ impl Options {
     fn takes(self, name: &str) -> Option<bool> {
         let own = self.all().find(|(option, _)| *option == name);
         own.map(|(_, value)| value.is_some())
+    }
+
+    /// Why an option that others take isn't one here.
+    fn why_not(self, name: &str) -> Option<&'static str> {
+        match (self.takes, name) {
+            (Takes::Slow, "pulse") => {
+                Some("isn't taken here: gates that take their time are run with pulses of 1")
+            }
+            (Takes::Slow, "functional") => Some(
+                "isn't taken here: gates that take their time are run in the imperative circuit",
+            ),
+            _ => None,
+        }
     }
 
     /// The names of all options, as they are typed.
@@ -237,7 +264,7 @@ fn option(word: &str) -> Option<(&str, Option<&str>)> {
     })
 }
 
-fn dashed(name: &str) -> String {
+pub fn dashed(name: &str) -> String {
     let dashes = if name.len() == 1 { "-" } else { "--" };
     format!("{dashes}{name}")
 }

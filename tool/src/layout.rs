@@ -92,6 +92,17 @@ pub fn element_in(format: Format, state: &[u8], cells: usize, place: usize) -> u
     word_at(state, elements + WORD * (place - OF_ARRAYS.start))
 }
 
+/// The bytes that a run of so many cells with gates that take their time works in.
+pub fn slow_length(cells: usize) -> usize {
+    512 * (2 * cells + 1)
+}
+
+/// The words in a list of their bytes.
+pub fn words_in(bytes: &[u8]) -> Vec<u16> {
+    let words = bytes.chunks_exact(WORD);
+    words.map(|word| word_at(word, 0)).collect()
+}
+
 /// The bytes of start words.
 pub fn store_bytes(store: &Store) -> Vec<u8> {
     store.iter().flat_map(|word| word.to_le_bytes()).collect()

@@ -17,6 +17,7 @@ mod outline;
 mod read;
 mod run;
 mod show;
+mod slow;
 mod start;
 mod states;
 mod test;
@@ -63,6 +64,7 @@ pub const COMMANDS: &[&Command] = &[
     &wave::COMMAND,
     &show::COMMAND,
     &verilog::COMMAND,
+    &slow::COMMAND,
     &compile::COMMAND,
     &read::COMMAND,
     &begin::COMMAND,

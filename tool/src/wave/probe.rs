@@ -95,12 +95,12 @@ pub fn record(
         for (wire, values) in wires.iter().zip(&mut values) {
             let between = match wire.shows {
                 Shows::Cell(cell) => value_before_in(&state, cell).into(),
-                _ => value(wire, &state, cells),
+                _ => value(wire.shows, &state, cells),
             };
             let untold = now.saturating_sub(next.max(from)) as usize;
             values.resize(values.len() + untold, between);
             if now >= from {
-                values.push(value(wire, &state, cells));
+                values.push(value(wire.shows, &state, cells));
             }
         }
         if now == to {
@@ -110,11 +110,13 @@ pub fn record(
         progress.show(now);
         answer = product::go(Format::Full, file, &mut state, SLICE.min(to - now))?;
     }
+    let marks = vec![Vec::new(); wires.len()];
     Ok(Waveforms {
         from,
         to,
         wires,
         values,
+        marks,
     })
 }
 

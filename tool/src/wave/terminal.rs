@@ -79,7 +79,8 @@ fn legend(waves: &Waveforms, width: usize) -> String {
     let mut text = String::new();
     let mut last = "";
     for wire in waves.wires.iter().filter(|wire| !wire.about.is_empty()) {
-        let name = wire.name.rsplit_once('.').map_or("", |(name, _)| name);
+        let dotted = wire.name.rsplit_once('.');
+        let name = dotted.map_or(wire.name.as_str(), |(name, _)| name);
         if name != last {
             let _ = writeln!(text, "{name:width$}  {}", wire.about);
         }

@@ -63,9 +63,10 @@ pub fn value_in(state: &[u8], cell: u16) -> u16 {
     word_at(state, cell_at(Format::Full, usize::from(cell)))
 }
 
-/// What a cell showed an instant ago, in a full state.
-pub fn value_before_in(state: &[u8], cell: u16) -> u16 {
-    word_at(state, cell_at(Format::Full, usize::from(cell)) + WORD)
+/// What a cell shows, and what it showed an instant ago.
+pub fn values_in(format: Format, state: &[u8], cell: u16) -> [u16; 2] {
+    let at = cell_at(format, usize::from(cell));
+    [word_at(state, at), word_at(state, at + WORD)]
 }
 
 /// The bits that a merge holds, in a full state: 1 for that of a, 2 for that of b.
@@ -80,10 +81,10 @@ pub fn input_in(state: &[u8], cell: u16, ago: u8) -> bool {
     state[at + usize::from(ago / 8)] >> (ago % 8) & 1 == 1
 }
 
-/// The cells of a full state.
-pub fn cells_in(state: &[u8]) -> usize {
+/// The cells of a state.
+pub fn cells_in(format: Format, state: &[u8]) -> usize {
     let cells = state.len() - WORD * OF_ARRAYS.len() - STATE_HEADER;
-    cells / cell_length(Format::Full)
+    cells / cell_length(format)
 }
 
 /// An element, by its place in the store, in a state of so many cells.

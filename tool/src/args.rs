@@ -1,6 +1,7 @@
 //! The words after a command: files and such in order, `--name value`, `-o
 //! value`, and flags.
 
+use crate::source::nearest;
 use crate::types::Fault;
 use std::collections::BTreeMap;
 use std::fmt::Display;
@@ -74,10 +75,7 @@ impl Args {
                 (Some(false), Some(_)) => {
                     return Err(args.fault(format!("{} takes no value", dashed(name))))
                 }
-                (None, _) => {
-                    let why = options.why_not(name).unwrap_or("is no option");
-                    return Err(args.fault(format!("{} {why}", dashed(name))));
-                }
+                (None, _) => return Err(args.fault(options.why_not(name))),
             };
             if args.options.insert(name.to_string(), value).is_some() {
                 return Err(args.fault(format!("{} stands twice", dashed(name))));
@@ -224,16 +222,23 @@ impl Options {
         own.map(|(_, value)| value.is_some())
     }
 
-    /// Why an option that others take isn't one here.
-    fn why_not(self, name: &str) -> Option<&'static str> {
-        match (self.takes, name) {
-            (Takes::Slow, "pulse") => {
-                Some("isn't taken here: gates that take their time are run with pulses of 1")
-            }
-            (Takes::Slow, "functional") => Some(
-                "isn't taken here: gates that take their time are run in the imperative circuit",
-            ),
+    /// Why there is no option of this name: it is another command's, or none at all.
+    fn why_not(self, name: &str) -> String {
+        let how = match (self.takes, name) {
+            (Takes::Slow, "pulse") => Some("with pulses of 1"),
+            (Takes::Slow, "functional") => Some("in the imperative circuit"),
             _ => None,
+        };
+        let (own, near) = (
+            dashed(name),
+            nearest(name, self.all().map(|(name, _)| name)),
+        );
+        match (how, near) {
+            (Some(how), _) => {
+                format!("{own} isn't taken here: gates that take their time are run {how}")
+            }
+            (None, Some(near)) => format!("{own} is no option; did you mean {}?", dashed(near)),
+            (None, None) => format!("{own} is no option"),
         }
     }
 

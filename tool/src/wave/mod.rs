@@ -48,6 +48,20 @@ pub struct Waveforms {
     pub marks: Vec<Vec<usize>>,
 }
 
+impl Waveforms {
+    /// Those of wires without marks.
+    pub fn of(from: u32, to: u32, wires: Vec<Wire>, values: Vec<Vec<u32>>) -> Waveforms {
+        let marks = vec![Vec::new(); wires.len()];
+        Waveforms {
+            from,
+            to,
+            wires,
+            values,
+            marks,
+        }
+    }
+}
+
 /// A stretch of instants in which a wire keeps a value: from, up to, value;
 /// both ends count from the first instant.
 pub type Stretch<T> = (usize, usize, T);

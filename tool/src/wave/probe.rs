@@ -92,14 +92,7 @@ pub fn record(
         }) => by(Format::Full)?,
         values => values?,
     };
-    let marks = vec![Vec::new(); wires.len()];
-    Ok(Waveforms {
-        from,
-        to,
-        wires,
-        values,
-        marks,
-    })
+    Ok(Waveforms::of(from, to, wires, values))
 }
 
 fn values(

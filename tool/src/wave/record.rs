@@ -24,14 +24,7 @@ pub fn record(
             values.push(value(wire.shows, &course.state, cells));
         }
     }
-    let marks = vec![Vec::new(); wires.len()];
-    Ok(Waveforms {
-        from,
-        to,
-        wires,
-        values,
-        marks,
-    })
+    Ok(Waveforms::of(from, to, wires, values))
 }
 
 /// What is shown in a state of so many cells.

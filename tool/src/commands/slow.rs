@@ -22,11 +22,11 @@ pub const COMMAND: Command = Command {
         instant 0. Both are run, the imperative circuit with pulses of one instant; they end alike.\n\
         Told are the wires that show other words at the last instant, which is the end, or the\n\
         budget, 1,000,000 if it isn't given. --at N looks at an instant before the end.\n\
-        --wave shows both up to the end, at most 240 instants, or up to --to: start, finish, the\n\
-        words that are written and all wires that differ, or those of --wires, as 'hub wave' has\n\
-        them; below each word is that of the slow run, marked where it differs. -o and --format\n\
-        are those of 'hub wave'. The exit status is 0, or 2 if the budget is over and the run\n\
-        still open.",
+        --wave shows both up to the end, at most 240 instants, or up to --to, at most 10,000, for\n\
+        each takes a run of its own: start, finish, the words that are written and all wires that\n\
+        differ, or those of --wires, as 'hub wave' has them; below each word is that of the slow\n\
+        run, marked where it differs. -o and --format are those of 'hub wave'. The exit status is\n\
+        0, or 2 if the budget is over and the run still open.",
     example: "hub slow docs/course/settling.hub x0=3 x1=5 --at 10",
     options: Options::of_slow(
         &["at", "budget", "start", "to", "wires", "o", "format"],

@@ -1,6 +1,7 @@
 //! The words after a command: files and such in order, `--name value`, `-o
 //! value`, and flags.
 
+use crate::source::nearest;
 use crate::types::Fault;
 use std::collections::BTreeMap;
 use std::fmt::Display;
@@ -24,6 +25,8 @@ enum Takes {
     /// One whose circuit is made or run, or a netlist.
     Circuit,
     Outline,
+    /// One that is run with gates that take their time.
+    Slow,
     Other,
 }
 
@@ -72,7 +75,7 @@ impl Args {
                 (Some(false), Some(_)) => {
                     return Err(args.fault(format!("{} takes no value", dashed(name))))
                 }
-                (None, _) => return Err(args.fault(format!("{} is no option", dashed(name)))),
+                (None, _) => return Err(args.fault(options.why_not(name))),
             };
             if args.options.insert(name.to_string(), value).is_some() {
                 return Err(args.fault(format!("{} stands twice", dashed(name))));
@@ -174,6 +177,14 @@ impl Options {
         }
     }
 
+    /// Of a command that runs a program with gates that take their time.
+    pub const fn of_slow(valued: Names, flags: Names) -> Options {
+        Options {
+            takes: Takes::Slow,
+            ..Options::plain(valued, flags)
+        }
+    }
+
     /// Of a command that takes none.
     pub const fn plain(valued: Names, flags: Names) -> Options {
         Options {
@@ -196,6 +207,7 @@ impl Options {
         let said = move |name: &str| match self.takes {
             Takes::Program | Takes::Circuit => true,
             Takes::Outline => name != "as",
+            Takes::Slow => name != "pulse",
             Takes::Other => false,
         };
         let of_program = OF_PROGRAMS.into_iter();
@@ -208,6 +220,26 @@ impl Options {
     fn takes(self, name: &str) -> Option<bool> {
         let own = self.all().find(|(option, _)| *option == name);
         own.map(|(_, value)| value.is_some())
+    }
+
+    /// Why there is no option of this name: it is another command's, or none at all.
+    fn why_not(self, name: &str) -> String {
+        let how = match (self.takes, name) {
+            (Takes::Slow, "pulse") => Some("with pulses of 1"),
+            (Takes::Slow, "functional") => Some("in the imperative circuit"),
+            _ => None,
+        };
+        let (own, near) = (
+            dashed(name),
+            nearest(name, self.all().map(|(name, _)| name)),
+        );
+        match (how, near) {
+            (Some(how), _) => {
+                format!("{own} isn't taken here: gates that take their time are run {how}")
+            }
+            (None, Some(near)) => format!("{own} is no option; did you mean {}?", dashed(near)),
+            (None, None) => format!("{own} is no option"),
+        }
     }
 
     /// The names of all options, as they are typed.
@@ -237,7 +269,7 @@ fn option(word: &str) -> Option<(&str, Option<&str>)> {
     })
 }
 
-fn dashed(name: &str) -> String {
+pub fn dashed(name: &str) -> String {
     let dashes = if name.len() == 1 { "-" } else { "--" };
     format!("{dashes}{name}")
 }

@@ -32,6 +32,24 @@ pub enum Form {
 }
 
 impl Form {
+    /// What --as says that a file is, or else its name: NAME.outline an outline,
+    /// NAME.prog a program's bytes, NAME.net a netlist, NAME.list a list of cells,
+    /// others texts.
+    pub fn of(args: &Args, name: &str) -> Result<Form, Fault> {
+        match args.value("as") {
+            Some(word) => form_named(word).ok_or_else(|| {
+                let forms = "text, short, outline, program, netlist or list";
+                args.fault(format!("--as takes {forms}, not '{word}'"))
+            }),
+            None => Ok(form_of(name)),
+        }
+    }
+
+    /// Whether it is a text, short or long.
+    pub fn is_text(self) -> bool {
+        matches!(self, Form::Text | Form::Short)
+    }
+
     /// Whether it tells a circuit and no program.
     fn is_circuit(self) -> bool {
         matches!(self, Form::Netlist | Form::List)
@@ -102,18 +120,9 @@ impl Given {
         Given::read(args, file)
     }
 
-    /// Reads FILE, and the file of --times; --as says what FILE is, or else
-    /// its name: NAME.outline an outline, NAME.prog a program's bytes, NAME.net
-    /// a netlist, NAME.list a list of cells, others texts.
+    /// Reads FILE, of whatever form, and the file of --times.
     pub fn read(args: &Args, name: &str) -> Result<Given, Stop> {
-        let form = match args.value("as") {
-            Some(word) => form_named(word).ok_or_else(|| {
-                let forms = "text, short, outline, program, netlist or list";
-                args.fault(format!("--as takes {forms}, not '{word}'"))
-            })?,
-            None => form_of(name),
-        };
-        Given::read_as(args, name, form)
+        Given::read_as(args, name, Form::of(args, name)?)
     }
 
     /// Reads FILE, which is of this form, and the file of --times.

@@ -63,9 +63,10 @@ pub fn value_in(state: &[u8], cell: u16) -> u16 {
     word_at(state, cell_at(Format::Full, usize::from(cell)))
 }
 
-/// What a cell showed an instant ago, in a full state.
-pub fn value_before_in(state: &[u8], cell: u16) -> u16 {
-    word_at(state, cell_at(Format::Full, usize::from(cell)) + WORD)
+/// What a cell shows, and what it showed an instant ago.
+pub fn values_in(format: Format, state: &[u8], cell: u16) -> [u16; 2] {
+    let at = cell_at(format, usize::from(cell));
+    [word_at(state, at), word_at(state, at + WORD)]
 }
 
 /// The bits that a merge holds, in a full state: 1 for that of a, 2 for that of b.
@@ -80,16 +81,27 @@ pub fn input_in(state: &[u8], cell: u16, ago: u8) -> bool {
     state[at + usize::from(ago / 8)] >> (ago % 8) & 1 == 1
 }
 
-/// The cells of a full state.
-pub fn cells_in(state: &[u8]) -> usize {
+/// The cells of a state.
+pub fn cells_in(format: Format, state: &[u8]) -> usize {
     let cells = state.len() - WORD * OF_ARRAYS.len() - STATE_HEADER;
-    cells / cell_length(Format::Full)
+    cells / cell_length(format)
 }
 
 /// An element, by its place in the store, in a state of so many cells.
 pub fn element_in(format: Format, state: &[u8], cells: usize, place: usize) -> u16 {
     let elements = cell_at(format, cells);
     word_at(state, elements + WORD * (place - OF_ARRAYS.start))
+}
+
+/// The bytes that a run of so many cells with gates that take their time works in.
+pub fn slow_length(cells: usize) -> usize {
+    512 * (2 * cells + 1)
+}
+
+/// The words in a list of their bytes.
+pub fn words_in(bytes: &[u8]) -> Vec<u16> {
+    let words = bytes.chunks_exact(WORD);
+    words.map(|word| word_at(word, 0)).collect()
 }
 
 /// The bytes of start words.

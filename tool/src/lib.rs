@@ -29,6 +29,7 @@ pub mod product;
 pub mod progress;
 pub mod refusals;
 pub mod show;
+pub mod slow;
 pub mod source;
 pub mod start;
 pub mod store;

@@ -1,7 +1,8 @@
 //! The product's calls, with buffers of the size that each result needs.
 
 use crate::layout::{
-    element_in, file_length, pulse_in, state_length, store_bytes, CELLS, FILE, PROGRAM,
+    element_in, file_length, pulse_in, slow_length, state_length, store_bytes, words_in, CELLS,
+    FILE, PROGRAM,
 };
 use crate::store::{self, Store, LENGTH, OF_ARRAYS};
 use crate::types::{Answer, Beside, Cell, End, Format, Mode, Netlist, Node, Refusal, Wiring};
@@ -125,6 +126,28 @@ pub fn contents(format: Format, answer: &Answer, state: &[u8], cells: usize) -> 
 pub fn run_netlist(file: &[u8], start: &Store, budget: u32) -> Result<Answer, Refusal> {
     let mut state = state_for(Format::Full, file)?;
     calls::run_netlist(file, &store_bytes(start), budget, &mut state)
+}
+
+/// A full run of a program of so many cells with gates that take their time, and every
+/// cell's word at its last instant. Its pulses are one instant long, whatever is given.
+pub fn slow_run(
+    beside: Beside,
+    program: &[u8],
+    start: &Store,
+    budget: u32,
+    cells: usize,
+) -> Result<(Answer, Vec<u16>), Refusal> {
+    let (mut values, mut work) = (vec![0; 2 * cells], vec![0; slow_length(cells)]);
+    let answer = calls::slow_run(
+        beside.table,
+        beside.procedures,
+        program,
+        &store_bytes(start),
+        budget,
+        &mut values,
+        &mut work,
+    )?;
+    Ok((answer, words_in(&values)))
 }
 
 /// Whether a netlist file may be run with this budget. A full run looks at the

@@ -123,6 +123,42 @@ fn what_is_read_is_left_as_it_was() {
     assert!(link.is_symlink());
 }
 
+/// A text, an outline and bytes: each is written over by what stays of its form.
+#[test]
+fn what_is_changed_keeps_its_form() {
+    let folder = Folder::new("form");
+    let text = folder.at("me.hub");
+    fs::write(&text, GOOD).expect("a file");
+    let name = |ending: &str| folder.at(ending).to_str().expect("a name").to_string();
+    let (text, outline, bytes) = (name("me.hub"), name("me.outline"), name("me.prog"));
+    assert!(hub(&["outline", &text, "-o", &outline], "")
+        .status
+        .success());
+    assert!(hub(&["read", &text, "-o", &bytes], "").status.success());
+    let rows = [
+        ("format", &text, true),
+        ("format", &outline, false),
+        ("format", &bytes, false),
+        ("delays", &text, true),
+        ("delays", &outline, true),
+        ("delays", &bytes, false),
+    ];
+    for (command, file, taken) in rows {
+        let before = fs::read(file).expect("it is there");
+        let told = hub(&[command, file, "-o", file], "");
+        let error = String::from_utf8_lossy(&told.stderr);
+        assert_eq!(told.status.success(), taken, "{command} {file}: {error}");
+        if !taken {
+            assert!(error.contains("would write over"), "{error}");
+            assert_eq!(fs::read(file).expect("it is there"), before);
+        }
+        assert!(
+            hub(&["check", file], "").status.success(),
+            "{command} {file}"
+        );
+    }
+}
+
 #[test]
 fn standard_input_and_output_are_files_too() {
     let folder = Folder::new("standard");

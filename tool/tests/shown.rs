@@ -105,6 +105,11 @@ click(document.getElementById('more'));
 note('step ' + instant());
 document.dispatchEvent(new KeyboardEvent('keydown', { key: 'ArrowLeft' }));
 note('step ' + instant());
+const header = document.querySelector('header');
+const height = (width, t) => { header.style.width = width + 'px'; look(t); return header.offsetHeight; };
+let moves = 0;
+for (let width = 500; width < 1500; width += 10) moves += height(width, 0) !== height(width, 96);
+note('moved ' + moves);
 click(document.getElementById('start'));
 const width = () => Number(document.querySelector('#circuit svg').getAttribute('width'));
 const wide = width();
@@ -350,6 +355,7 @@ fn pages_do_what_is_asked() {
         "folded 0 false",
         "step 6",
         "step 5",
+        "moved 0",
         "zoom true",
         "played true",
     ];

@@ -17,6 +17,7 @@ mod outline;
 mod read;
 mod run;
 mod show;
+mod slow;
 mod start;
 mod states;
 mod test;
@@ -27,7 +28,7 @@ mod wire;
 
 use crate::answers::counted;
 use crate::args::{Args, Options};
-use crate::input::{Circuit, Given};
+use crate::input::{Circuit, Form, Given};
 use crate::json::Json;
 use crate::refusals::Report;
 use crate::source::nearest;
@@ -63,6 +64,7 @@ pub const COMMANDS: &[&Command] = &[
     &wave::COMMAND,
     &show::COMMAND,
     &verilog::COMMAND,
+    &slow::COMMAND,
     &compile::COMMAND,
     &read::COMMAND,
     &begin::COMMAND,
@@ -188,11 +190,13 @@ fn usage(command: &Command) -> String {
 }
 
 /// No command writes over what it reads, but for those that are there to change a
-/// file.
+/// file, and leave it of the form that it has.
 fn check_output(command: &Command, args: &Args) -> Result<(), Fault> {
-    let changed = match command.name {
-        "format" | "delays" => Some(0),
-        "go" | "start" => Some(1),
+    let first = args.given.first().map(|name| Form::of(args, name));
+    let changed = match (command.name, first) {
+        ("format", Some(Ok(form))) if form.is_text() => Some(0),
+        ("delays", Some(Ok(form))) if form.is_text() || form == Form::Outline => Some(0),
+        ("go" | "start", _) => Some(1),
         _ => None,
     };
     let read = args.given.iter().enumerate();

@@ -36,7 +36,7 @@ pub const COMMAND: Command = Command {
 
 /// The most instants that are shown if the last isn't given, how many after the
 /// finish, and how far a finish is looked for to tell what is cut.
-const MOST: u32 = 240;
+pub const MOST: u32 = 240;
 const AFTER: u32 = 2;
 const LOOK: u32 = 100_000;
 
@@ -132,7 +132,8 @@ pub fn instant(args: &Args, circuit: &Circuit, name: &str) -> Result<Option<u32>
     Ok(Some(instant))
 }
 
-fn check_reach(circuit: &Circuit, name: &str, instant: u32) -> Result<(), Stop> {
+/// The product takes a run up to an instant that an option gives.
+pub fn check_reach(circuit: &Circuit, name: &str, instant: u32) -> Result<(), Stop> {
     product::check_budget(&circuit.file, instant).map_err(|met| {
         let report = Report {
             remedy: format!("give a smaller --{name}"),
@@ -202,7 +203,13 @@ pub fn last(
     Ok((most, Some(Cut { at: most, of })))
 }
 
-fn shown(args: &Args, names: &Names, waves: &Waveforms, cut: Option<Cut>) -> Result<Done, Stop> {
+/// Puts waveforms out, in the format that is asked for, and tells what is cut.
+pub fn shown(
+    args: &Args,
+    names: &Names,
+    waves: &Waveforms,
+    cut: Option<Cut>,
+) -> Result<Done, Stop> {
     let format = output::format(args, &["vcd", "svg"], Some("text"), "a file of waves")?;
     let text = match format {
         "vcd" => vcd::vcd(waves),

@@ -1,6 +1,7 @@
-//! Waveforms: the values of named wires over a stretch (`record`) of a run
-//! (`course`), as VCD (`vcd`), as a picture (`svg`) or as characters (`terminal`).
+//! Waveforms: the values of named wires over a stretch (`record`) of a run (`course`), or
+//! of two (`both`), as VCD (`vcd`), as a picture (`svg`) or as characters (`terminal`).
 
+pub mod both;
 pub mod choice;
 pub mod course;
 pub mod gtkw;
@@ -43,16 +44,32 @@ pub struct Waveforms {
     pub wires: Vec<Wire>,
     /// For each wire, a value for each instant.
     pub values: Vec<Vec<u32>>,
+    /// For each wire, the instants that are marked, counted from the first.
+    pub marks: Vec<Vec<usize>>,
+}
+
+impl Waveforms {
+    /// Those of wires without marks.
+    pub fn of(from: u32, to: u32, wires: Vec<Wire>, values: Vec<Vec<u32>>) -> Waveforms {
+        let marks = vec![Vec::new(); wires.len()];
+        Waveforms {
+            from,
+            to,
+            wires,
+            values,
+            marks,
+        }
+    }
 }
 
 /// A stretch of instants in which a wire keeps a value: from, up to, value;
 /// both ends count from the first instant.
-pub type Stretch = (usize, usize, u32);
+pub type Stretch<T> = (usize, usize, T);
 
 /// The stretches of a wire's values.
-pub fn stretches(values: &[u32]) -> Vec<Stretch> {
-    let mut all: Vec<Stretch> = Vec::new();
-    for (at, &value) in values.iter().enumerate() {
+pub fn stretches<T: PartialEq>(values: impl IntoIterator<Item = T>) -> Vec<Stretch<T>> {
+    let mut all: Vec<Stretch<T>> = Vec::new();
+    for (at, value) in values.into_iter().enumerate() {
         match all.last_mut() {
             Some(last) if last.2 == value => last.1 = at + 1,
             _ => all.push((at, at + 1, value)),

@@ -5,10 +5,9 @@
 //! tells the value of every cell now and an instant ago, and in between nothing
 //! changes: no instant needs a call of its own.
 
-use super::record::value;
 use super::{Shows, Waveforms, Wire};
 use crate::kinds::{inputs, is_control, ARRAY, EITHER, GATED, LATCH, MEMORY};
-use crate::layout::{cells_in, value_before_in, CELLS};
+use crate::layout::{cells_in, element_in, values_in, CELLS};
 use crate::product;
 use crate::progress::Progress;
 use crate::store::{self, Store};
@@ -76,7 +75,9 @@ fn watch(netlist: &Netlist, cell: u16, watched: &mut BTreeSet<u16>, seen: &mut B
     }
 }
 
-/// The values of wires from one instant up to another, on the file of their probe.
+/// The values of wires from one instant up to another, on the file of their probe. Each
+/// stop checks the state, so that it is a compact one where the run fits in: with pulses
+/// of one instant (27), and one at a time in each delay (26).
 pub fn record(
     file: &[u8],
     start: &Store,
@@ -84,38 +85,56 @@ pub fn record(
     from: u32,
     to: u32,
 ) -> Result<Waveforms, Refusal> {
-    let (mut state, mut answer) = product::begin(Format::Full, file, start)?;
-    let cells = cells_in(&state);
+    let by = |format| values(format, file, start, &wires, (from, to));
+    let values = match by(Format::Compact) {
+        Err(Refusal {
+            number: 26 | 27, ..
+        }) => by(Format::Full)?,
+        values => values?,
+    };
+    Ok(Waveforms::of(from, to, wires, values))
+}
+
+fn values(
+    format: Format,
+    file: &[u8],
+    start: &Store,
+    wires: &[Wire],
+    (from, to): (u32, u32),
+) -> Result<Vec<Vec<u32>>, Refusal> {
+    let (mut state, mut answer) = product::begin(format, file, start)?;
+    let cells = cells_in(format, &state);
     let mut progress = Progress::new(to);
     let mut values: Vec<Vec<u32>> = vec![Vec::new(); wires.len()];
     // The first instant that isn't told yet.
     let mut next = 0;
     loop {
         let now = answer.instant;
+        let untold = now.saturating_sub(next.max(from)) as usize;
         for (wire, values) in wires.iter().zip(&mut values) {
-            let between = match wire.shows {
-                Shows::Cell(cell) => value_before_in(&state, cell).into(),
-                _ => value(wire, &state, cells),
-            };
-            let untold = now.saturating_sub(next.max(from)) as usize;
-            values.resize(values.len() + untold, between);
+            let [value, before] = at_stop(format, &state, cells, wire.shows);
+            values.resize(values.len() + untold, before);
             if now >= from {
-                values.push(value(wire, &state, cells));
+                values.push(value);
             }
         }
         if now == to {
-            break;
+            return Ok(values);
         }
         next = now + 1;
         progress.show(now);
-        answer = product::go(Format::Full, file, &mut state, SLICE.min(to - now))?;
+        answer = product::go(format, file, &mut state, SLICE.min(to - now))?;
     }
-    Ok(Waveforms {
-        from,
-        to,
-        wires,
-        values,
-    })
+}
+
+/// What is shown at a stop, and since the one before: an element changes in the instant
+/// after a stop.
+fn at_stop(format: Format, state: &[u8], cells: usize, shows: Shows) -> [u32; 2] {
+    match shows {
+        Shows::Cell(cell) => values_in(format, state, cell).map(u32::from),
+        Shows::Element(place) => [element_in(format, state, cells, place).into(); 2],
+        Shows::InFlight | Shows::StartLeft => unreachable!("no probe tells it"),
+    }
 }
 
 /// So many instants are run before the progress is looked at.

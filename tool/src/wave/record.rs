@@ -21,20 +21,15 @@ pub fn record(
         course.reach(instant)?;
         progress.show(instant);
         for (wire, values) in wires.iter().zip(&mut values) {
-            values.push(value(wire, &course.state, cells));
+            values.push(value(wire.shows, &course.state, cells));
         }
     }
-    Ok(Waveforms {
-        from,
-        to,
-        wires,
-        values,
-    })
+    Ok(Waveforms::of(from, to, wires, values))
 }
 
-/// What a wire shows in a full state of so many cells.
-pub fn value(wire: &Wire, state: &[u8], cells: usize) -> u32 {
-    match wire.shows {
+/// What is shown in a state of so many cells.
+pub fn value(shows: Shows, state: &[u8], cells: usize) -> u32 {
+    match shows {
         Shows::Cell(cell) => value_in(state, cell).into(),
         Shows::Element(place) => element_in(Format::Full, state, cells, place).into(),
         Shows::InFlight => in_flight_in(state),

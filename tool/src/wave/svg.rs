@@ -14,6 +14,8 @@ const LABEL: usize = 73;
 /// How wide the waveforms are, together, where the instants allow it.
 const WIDTH: usize = 720;
 
+const MARKED: &str = "#f4b6a6";
+
 /// Where things stand: the left edge of instant 0, and a width for each.
 struct Scale {
     left: usize,
@@ -43,7 +45,8 @@ pub fn svg(waves: &Waveforms) -> String {
          <rect width=\"{width}\" height=\"{height}\" fill=\"white\"/>\n"
     );
     axis(&mut text, waves, &scale);
-    for (row, (wire, values)) in waves.wires.iter().zip(&waves.values).enumerate() {
+    let rows = waves.wires.iter().zip(&waves.values).zip(&waves.marks);
+    for (row, ((wire, values), marks)) in rows.enumerate() {
         let top = TOP + ROW * row + 5;
         let (x, y) = (scale.left - MARGIN, top + 12);
         let label = escaped(&label(wire));
@@ -53,7 +56,7 @@ pub fn svg(waves: &Waveforms) -> String {
         );
         match wire.control {
             true => control(&mut text, values, top, &scale),
-            false => word(&mut text, values, top, &scale),
+            false => word(&mut text, values, marks, top, &scale),
         }
     }
     text + "</svg>\n"
@@ -94,20 +97,23 @@ fn axis(text: &mut String, waves: &Waveforms, scale: &Scale) {
 fn control(text: &mut String, values: &[u32], top: usize, scale: &Scale) {
     let mut path = String::new();
     for (from, to, value) in stretches(values) {
-        let y = if value == 0 { top + 16 } else { top };
+        let y = if *value == 0 { top + 16 } else { top };
         let step = if path.is_empty() { "M" } else { "L" };
         let _ = write!(path, "{step}{} {y}L{} {y}", scale.x(from), scale.x(to));
     }
     let _ = writeln!(text, "<path d=\"{path}\" fill=\"none\" {CONTROL}/>");
 }
 
-/// A word: a band for each stretch, with the value in it where there is room.
-fn word(text: &mut String, values: &[u32], top: usize, scale: &Scale) {
-    for (from, to, value) in stretches(values) {
+/// A word: a band for each stretch, with the value in it where there is room; what is
+/// marked is red.
+fn word(text: &mut String, values: &[u32], marks: &[usize], top: usize, scale: &Scale) {
+    let marked = |(at, value): (usize, &u32)| (*value, marks.contains(&at));
+    for (from, to, (value, marked)) in stretches(values.iter().enumerate().map(marked)) {
         let (x, width) = (scale.x(from), scale.x(to) - scale.x(from));
+        let fill = if marked { MARKED } else { "#fdf3e7" };
         let _ = writeln!(
             text,
-            "<rect x=\"{x}\" y=\"{top}\" width=\"{width}\" height=\"16\" fill=\"#fdf3e7\" {WORD}/>"
+            "<rect x=\"{x}\" y=\"{top}\" width=\"{width}\" height=\"16\" fill=\"{fill}\" {WORD}/>"
         );
         let value = value.to_string();
         if value.len() * LETTER + 4 <= width {

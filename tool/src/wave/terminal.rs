@@ -7,6 +7,8 @@ use std::fmt::Write;
 const BAND: usize = 60;
 const LOW: char = '▁';
 const HIGH: char = '█';
+/// Stands below an instant that is marked.
+const MARK: char = '^';
 /// Stands for a value that is too wide for its stretch.
 const NARROW: char = '*';
 
@@ -23,12 +25,18 @@ pub fn terminal(waves: &Waveforms) -> String {
         let end = count.min(band + BAND);
         let axis = axis(waves.from as usize + band, end - band);
         let _ = writeln!(text, "{:width$}  {axis}", "instant");
-        for (wire, values) in waves.wires.iter().zip(&waves.values) {
+        let rows = waves.wires.iter().zip(&waves.values).zip(&waves.marks);
+        for ((wire, values), marks) in rows {
             let drawn = match wire.control {
                 true => control(&values[band..end]),
                 false => word(&values[band..end]),
             };
             let _ = writeln!(text, "{:width$}  {}", wire.name, drawn.trim_end());
+            if marks.iter().any(|at| (band..end).contains(at)) {
+                let mark = |at| if marks.contains(&at) { MARK } else { ' ' };
+                let line: String = (band..end).map(mark).collect();
+                let _ = writeln!(text, "{:width$}  {}", "", line.trim_end());
+            }
         }
     }
     text + &legend(waves, width)
@@ -71,7 +79,8 @@ fn legend(waves: &Waveforms, width: usize) -> String {
     let mut text = String::new();
     let mut last = "";
     for wire in waves.wires.iter().filter(|wire| !wire.about.is_empty()) {
-        let name = wire.name.rsplit_once('.').map_or("", |(name, _)| name);
+        let dotted = wire.name.rsplit_once('.');
+        let name = dotted.map_or(wire.name.as_str(), |(name, _)| name);
         if name != last {
             let _ = writeln!(text, "{name:width$}  {}", wire.about);
         }

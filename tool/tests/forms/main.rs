@@ -17,6 +17,7 @@ mod pictures;
 mod probes;
 mod programs;
 mod round_trips;
+mod slow;
 mod vcd;
 mod warnings;
 mod waves;

@@ -6,7 +6,9 @@ use crate::{circuits, functional};
 use hub::input::Circuit;
 use hub::kinds::LATCH;
 use hub::layout::CELLS;
+use hub::product;
 use hub::store::{self, Store};
+use hub::types::Format;
 use hub::wave::{choice, probe, Shows};
 
 fn start() -> Store {
@@ -70,4 +72,26 @@ fn many_wires_share_their_stops() {
     let circuit = circuits::of_program(&programs()[0]);
     let wires = choice::wires(&circuit, &[], Some("in_flight"), false).expect("a wire");
     assert!(probe::probe(&circuit.netlist, &wires).is_none());
+}
+
+/// Two pulses on their way in one delay, for which a compact state has no room.
+#[test]
+fn crowded_delays_are_recorded_too() {
+    let list = "finish line\nstart\nground\nconstant 0\nidle memories\ntwo: delay 2 of start\n\
+                four: delay 4 of start\nboth: either two four\nline: delay 5 of both\n";
+    let circuit = circuits::of_list(list);
+    let wires = choice::wires(&circuit, &[], Some("both,line"), false).expect("wires");
+    let file = probe::probe(&circuit.netlist, &wires).expect("a probe");
+    let crowded = product::begin(Format::Compact, &file, &start());
+    let (mut state, _) = crowded.expect("a state");
+    let mut went = |_| product::go(Format::Compact, &file, &mut state, 20);
+    let met = (0..20).map(&mut went).find_map(Result::err);
+    assert_eq!(met.map(|met| met.number), Some(26));
+    let by_stops = probe::record(&file, &start(), wires.clone(), 0, 20).expect("a run");
+    let high = |row: usize| {
+        let values = (0..).zip(&by_stops.values[row]);
+        let high = values.filter(|(_, value)| **value == 1);
+        high.map(|(instant, _)| instant).collect::<Vec<u32>>()
+    };
+    assert_eq!((high(0), high(1)), (vec![2, 4], vec![7, 9]));
 }

@@ -317,93 +317,40 @@ pub fn run_at(
         return ways::pause(0, budget);
     }
     let d = node.delay as u32;
-    let second = nodes::next(ends, count, i + 1);
+    let i1 = i + 1;
+    let i2 = nodes::next(ends, count, i1);
     match kind {
         17 => ways::pause(d, budget),
-        18 => assign_at(words, program, ends, i + 1, node.n, d, budget, costs),
-        19 => seq_at(
-            words,
-            program,
-            ends,
-            procedures,
-            i + 1,
-            second,
-            budget,
-            costs,
-        ),
-        20 => par_at(
-            words,
-            program,
-            ends,
-            procedures,
-            i + 1,
-            second,
-            budget,
-            costs,
-        ),
+        18 => assign_at(words, program, ends, i1, node.n, d, budget, costs),
+        19 => seq_at(words, program, ends, procedures, i1, i2, budget, costs),
+        20 => par_at(words, program, ends, procedures, i1, i2, budget, costs),
         21 => {
-            let third = nodes::next(ends, count, second);
+            let i3 = nodes::next(ends, count, i2);
             if_at(
                 words,
                 program,
                 ends,
                 procedures,
-                i + 1,
-                second,
-                third,
+                i1,
+                i2,
+                i3,
                 d,
                 budget,
                 costs,
             )
         }
-        22 => while_at(
-            words,
-            program,
-            ends,
-            procedures,
-            i + 1,
-            second,
-            d,
-            budget,
-            costs,
-        ),
-        24 => assign_elem_at(
-            words,
-            program,
-            ends,
-            i + 1,
-            second,
-            node.n,
-            d,
-            budget,
-            costs,
-        ),
-        25 => loop_at(words, program, ends, procedures, i + 1, d, budget, costs),
+        22 => while_at(words, program, ends, procedures, i1, i2, d, budget, costs),
+        24 => assign_elem_at(words, program, ends, i1, i2, node.n, d, budget, costs),
+        25 => loop_at(words, program, ends, procedures, i1, d, budget, costs),
         26 => Ran {
             ended: false,
             left: true,
             time: 0,
         },
-        27 => call_at(
-            words,
-            program,
-            ends,
-            procedures,
-            node.n as usize,
-            d,
-            budget,
-            costs,
-        ),
-        _ => repeat_at(
-            words,
-            program,
-            ends,
-            procedures,
-            i + 1,
-            second,
-            d,
-            budget,
-            costs,
-        ),
+        27 => {
+            let p = node.n as usize;
+            call_at(words, program, ends, procedures, p, d, budget, costs)
+        }
+        _ => repeat_at(words, program, ends, procedures, i1, i2, d, budget, costs),
     }
 }

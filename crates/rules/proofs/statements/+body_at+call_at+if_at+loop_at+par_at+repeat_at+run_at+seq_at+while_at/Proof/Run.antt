@@ -92,8 +92,8 @@ module _ (t : ℕ) where
   cast-d : lts.Need-cast-d calls (run-here t) run-reads.Post
   cast-d c = omega arith
 
-  add-next : lts.Need-add-next calls (run-here t) run-reads.Post
-  add-next c = omega arith
+  add-i1 : lts.Need-add-i1 calls (run-here t) run-reads.Post
+  add-i1 c = omega arith
 
   next-requires : lts.Need-next-requires calls (run-here t) run-reads.Post
   next-requires c κs =
@@ -103,9 +103,6 @@ module _ (t : ℕ) where
   pause-requires-3 : lts.Need-pause-requires-3 calls (run-here t) run-reads.Post
   pause-requires-3 c κs = tt
 
-  add-assign-at : lts.Need-add-assign-at calls (run-here t) run-reads.Post
-  add-assign-at c = omega arith
-
   assign-at-requires : lts.Need-assign-at-requires calls (run-here t) run-reads.Post
   unfolding inline
   assign-at-requires c κs =
@@ -113,18 +110,12 @@ module _ (t : ℕ) where
       let pre = c .before .before .before .before .before .before .before .before .pre in
       (ready-as (meant-as _ _ _ (assign-read n (c .before .match .keys2))) (pre .1 .0) .fit, omega arith, pre .1 .1)
 
-  add-seq-at : lts.Need-add-seq-at calls (run-here t) run-reads.Post
-  add-seq-at c = omega arith
-
   seq-at-requires : lts.Need-seq-at-requires calls (run-here t) run-reads.Post
   unfolding inline
   seq-at-requires c κs =
       let n = inner-of (c .before .before) in
       let pre = c .before .before .before .before .before .before .before .before .pre in
       (omega (arith, pre .0, n .here), (ready-as (meant-as _ _ _ (seq-read n (c .before .match .keys3))) (pre .1 .0), second-later n, pre .1 .1))
-
-  add-par-at : lts.Need-add-par-at calls (run-here t) run-reads.Post
-  add-par-at c = omega arith
 
   par-at-requires : lts.Need-par-at-requires calls (run-here t) run-reads.Post
   unfolding inline
@@ -138,9 +129,6 @@ module _ (t : ℕ) where
       let pre = c .before .before .before .before .before .before .before .pre in
       omega (arith, pre .1 .0 .fit .laid .short)
 
-  add-if-at : lts.Need-add-if-at calls (run-here t) run-reads.Post
-  add-if-at c = omega arith
-
   if-at-requires : lts.Need-if-at-requires calls (run-here t) run-reads.Post
   unfolding inline
   if-at-requires c κs =
@@ -150,18 +138,12 @@ module _ (t : ℕ) where
       let is = meant-as _ _ _ (ite-read n _ third (c .before .before .match .keys5)) in
       (omega (arith, pre .0, n .here, second-later n), (ready-as is (pre .1 .0), past-later _ _ _ (n .laid .each _) _ third, pre .1 .1))
 
-  add-while-at : lts.Need-add-while-at calls (run-here t) run-reads.Post
-  add-while-at c = omega arith
-
   while-at-requires : lts.Need-while-at-requires calls (run-here t) run-reads.Post
   unfolding inline
   while-at-requires c κs =
       let n = inner-of (c .before .before) in
       let pre = c .before .before .before .before .before .before .before .before .pre in
       (omega (arith, pre .0, n .here, second-later n), (ready-as (meant-as _ _ _ (while-read n (c .before .match .keys6))) (pre .1 .0), omega arith, pre .1 .1))
-
-  add-assign-elem-at : lts.Need-add-assign-elem-at calls (run-here t) run-reads.Post
-  add-assign-elem-at c = omega arith
 
   assign-elem-at-requires : lts.Need-assign-elem-at-requires calls (run-here t) run-reads.Post
   unfolding inline
@@ -170,9 +152,6 @@ module _ (t : ℕ) where
       let pre = c .before .before .before .before .before .before .before .before .pre in
       (ready-as (meant-as _ _ _ (assign-elem-read n (c .before .match .keys7))) (pre .1 .0) .fit, omega arith, pre .1 .1)
 
-  add-loop-at : lts.Need-add-loop-at calls (run-here t) run-reads.Post
-  add-loop-at c = omega arith
-
   loop-at-requires : lts.Need-loop-at-requires calls (run-here t) run-reads.Post
   unfolding inline
   loop-at-requires c κs =
@@ -180,8 +159,8 @@ module _ (t : ℕ) where
       let pre = c .before .before .before .before .before .before .before .before .pre in
       (omega (arith, pre .0, n .here), (ready-as (meant-as _ _ _ (at-loop _ _ (n .here) _ (n .node) (c .before .match .keys8))) (pre .1 .0), pre .1 .1))
 
-  cast-call-at : lts.Need-cast-call-at calls (run-here t) run-reads.Post
-  cast-call-at c = omega arith
+  cast-p : lts.Need-cast-p calls (run-here t) run-reads.Post
+  cast-p c = omega arith
 
   call-at-requires : lts.Need-call-at-requires calls (run-here t) run-reads.Post
   unfolding inline
@@ -189,9 +168,6 @@ module _ (t : ℕ) where
       let n = inner-of (c .before .before .before) in
       let pre = c .before .before .before .before .before .before .before .before .before .pre in
       (omega (arith, pre .0, n .here), (ready-as (meant-as _ _ _ (at-call _ _ (n .here) _ (n .node) (c .before .before .match .keys10))) (pre .1 .0), pre .1 .1))
-
-  add-repeat-at : lts.Need-add-repeat-at calls (run-here t) run-reads.Post
-  add-repeat-at c = omega arith
 
   repeat-at-requires : lts.Need-repeat-at-requires calls (run-here t) run-reads.Post
   unfolding inline
@@ -259,7 +235,7 @@ module _ (t : ℕ) where
   pub run-closed : {M : Type 1} → lts.Closed calls (run-here t) run-reads.Post M
   run-closed =
       lts.spec calls (run-here t) run-reads.Post
-      pause-requires returns read-node-requires pause-requires-2 returns-2 cast-d add-next next-requires pause-requires-3 add-assign-at
-      assign-at-requires add-seq-at seq-at-requires add-par-at par-at-requires next-requires-2 add-if-at if-at-requires add-while-at
-      while-at-requires add-assign-elem-at assign-elem-at-requires add-loop-at loop-at-requires cast-call-at call-at-requires add-repeat-at
-      repeat-at-requires returns-3 returns-4 returns-5 returns-6 returns-7 returns-8 returns-9 returns-10 returns-11 returns-12 returns-13
+      pause-requires returns read-node-requires pause-requires-2 returns-2 cast-d add-i1 next-requires pause-requires-3 assign-at-requires
+      seq-at-requires par-at-requires next-requires-2 if-at-requires while-at-requires assign-elem-at-requires loop-at-requires cast-p
+      call-at-requires repeat-at-requires returns-3 returns-4 returns-5 returns-6 returns-7 returns-8 returns-9 returns-10 returns-11 returns-12
+      returns-13

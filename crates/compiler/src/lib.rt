@@ -11,7 +11,7 @@ ghost use Rattle.compiler.specs.Whole.{Made};
 
 pub mod nodes; // nodes as parts of the tree
 pub mod walk; // delay cells and walk cells
-mod ors; // ors and memories
+pub mod ors; // ors and memories
 pub mod whole; // the whole netlist
 
 use crate::whole::Netlist;

@@ -79,7 +79,7 @@ unfoldable pub placing : Checked → ℕ → List Cell → ℕ → ℕ → List 
 placing Accepted k cs n f lent = record { answer = Done n f; lent = take k lent ++ (cs ++ drop (k + length cs) lent) }
 placing (Checked.Refused r) k cs n f lent = record { answer = Written.Refused r; lent = lent }
 
--- reading a netlist behind k cells that stand already, as joining netlists does: 9 to 12, 14. The finish is the file's own.
+-- reading a netlist behind k cells that stand already: 9 to 12, 14. The finish is the file's own.
 abbrev pub readCellsChecks : List ℕ → ℕ → List Cell → List Checked
 readCellsChecks file k lent = fileCheck file ∷ short (length lent) (k + countOf file) ∷ []
 

@@ -156,6 +156,15 @@ module _ {pulse k : ℕ} {s ends : List ℕ} {n : ℕ} (G : Given pulse k s ends
   walk-ready m T =
       record { given = G; calls = callsOf S; told = T; apart = omega (arith, m); room = omega (arith, m, net-length S, fits S (facts .nodes) .1) }
 
+  -- what a walk leaves, and what is there before the memories
+  pub all-put : {cs : List Source} {M : ℕ} {before after ms marked : List ℕ} {e : Place} → RootsDone S cs M before after ms marked e → length ms ≡ 800
+      → length after ≡ n → Put S cs M before after ms marked e
+  all-put done long kept = record { fitting = fitting; done = done; long = long; size = kept ∙ G .size }
+
+  pub all-closing : {ms before after : List ℕ} {c : Clocks} {w : Finished} → Clocked S ms before c → Walked S before after w → length after ≡ n
+      → Closing S after c w
+  all-closing clocks walk kept = record { fitting = fitting; ms = _; before = _; clocks = clocks; walk = walk; size = kept ∙ G .size }
+
 -- Ors ------------------------------------------------------------------------------------------------------------------------------------
 
 module _ {S : Program} (f : Fitting S) where

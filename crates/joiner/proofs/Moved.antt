@@ -12,7 +12,8 @@ use Rattle.laws.specs.Program.Fit.{Formed, Earlier}
 use Rattle.laws.specs.Program.Sequence.{oneRoot}
 use Rattle.laws.specs.Numbering.Parts.{net-length}
 use Rattle.laws.specs.NetlistFile.Passed.{count-cells}
-use Rattle.joiner.specs.Moving.{rewired, newNumber}
+use Rattle.model.specs.CellSlices.{rewired}
+use Rattle.joiner.specs.Moving.{newNumber}
 use Rattle.joiner.proofs.Renumber.{Shift, finish-at, delays-at, walk-at}
 use Rattle.joiner.proofs.NewNumbers.{new-start, new-ground, new-delays, new-wires, new-walk}
 use Rattle.joiner.proofs.Regions.{delay-count, walk-count, memory-is, finish-is, delays-stand, walk-stands, file-cells}

@@ -16,7 +16,8 @@ use Rattle.compiler.specs.Writes.{write, both}
 use Rattle.joiner.specs.declared.moving.Stand.{Stand}
 use Rattle.joiner.specs.declared.moving.Own.{Own}
 use Rattle.joiner.specs.declared.moving.Spot.{Spot}
-use Rattle.joiner.specs.Moving.{rewired, newNumber}
+use Rattle.model.specs.CellSlices.{rewired}
+use Rattle.joiner.specs.Moving.{newNumber}
 use Rattle.joiner.specs.Stands.{moves, Fits, LowCells, PartReady, OwnOf, PartDone}
 use Rattle.joiner.proofs.Lows.{file-low}
 use Rattle.joiner.proofs.Moved.{delays-moved, walk-moved, finish-moved}

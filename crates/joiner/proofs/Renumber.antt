@@ -13,7 +13,7 @@ use Rattle.model.specs.Numbering.{Wires, exprCount, exprWire, exprCells, orChai
 use Rattle.laws.specs.Circuit.Shapes.{operator-shape}
 use Rattle.laws.specs.Program.Fit.{FormedExpr, Formed, Earlier}
 use Rattle.laws.specs.Numbering.Lengths.{exit-ors}
-use Rattle.joiner.specs.Moving.{rewired}
+use Rattle.model.specs.CellSlices.{rewired}
 
 -- f takes n wires from c on to those from c′ on
 pub record Shift (f : ℕ → ℕ) (c n c′ : ℕ) : Type 0 where

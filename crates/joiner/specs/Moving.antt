@@ -3,15 +3,7 @@
 -- Assumes nothing: definitions.
 use Prim.Native.Nat.{ℕ, _+_, _-_}
 use lib.Dec.{eqb, ltb}
-use Rattle.model.specs.declared.Cell.{Cell}
 use Rattle.model.specs.Word.{pick}
-use Rattle.model.specs.Circuit.{cell, cellRow, names}
-
--- a cell with its inputs renumbered: as model/CellSlices' moved, with any map
-unfoldable pub rewired : (ℕ → ℕ) → Cell → Cell
-rewired f c =
-    let row = cellRow (c .kind) in
-    cell (c .kind) (c .delay) (pick (names (row .a)) (f (c .a)) (c .a)) (pick (names (row .b)) (f (c .b)) (c .b))
 
 -- the new number of a part's wire j. The part's own first memory is m; in the whole, the first memory is M, and the part has the start s, delay cells
 -- from d on and walk cells from c on. No delay cell and no walk cell names a clock or or a data or.

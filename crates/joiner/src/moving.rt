@@ -1,16 +1,14 @@
 // A part's cells, moved from its own netlist file to where it stands in the whole. What an input that names a cell becomes is told by where in the
 // part's own netlist that cell stands; which inputs name cells is told by the table of cell kinds.
 ghost use mathlib.Core.Path.{_≡_};
-ghost use mathlib.Core.Bool.{true};
 ghost use mathlib.Core.List.{map};
 ghost use Prim.Native.Nat.{ℕ, _+_, _*_, _≤_};
 ghost use lib.ListN.{length};
 ghost use lib.Seq.{sets};
-ghost use Rattle.model.specs.Word.{pick};
 ghost use Rattle.model.specs.NetlistFile.{cellBytes, cellsAt, inFile};
+ghost use Rattle.model.specs.CellSlices.{rewired};
 ghost use Rattle.netlist.specs.Offsets.{Room};
 ghost use Rattle.netlist.specs.declared.cells.Layout.the-variants.{InFile};
-ghost use Rattle.joiner.specs.Moving.{rewired};
 ghost use Rattle.model.specs.Program.{Code};
 ghost use Rattle.joiner.specs.Stands.{moves, Fits, Low, LowCells, PartReady, OwnOf, PartDone};
 use model::Cell;
@@ -40,11 +38,14 @@ pub struct Spot {
     pub cell: u16,
 }
 
-// The new number of wire j.
+// The new number of wire j; a number that no cell has stays.
 pub fn new_number(at: Stand, j: u16) -> u16
-    requires { ⌜ Fits at × (j ≤ 16384) ⌝ }
-    ensures { λ r. ⌜ r ≡ moves at j ⌝ }
+    requires { ⌜ Fits at ⌝ }
+    ensures { λ r. ⌜ (j ≤ 16384 → r ≡ moves at j) ⌝ }
 {
+    if 16384 < j {
+        return j;
+    }
     if j == 0 {
         return at.start;
     }
@@ -60,33 +61,14 @@ pub fn new_number(at: Stand, j: u16) -> u16
     at.walk + (j - (at.own + 24))
 }
 
-// An input, renumbered where it names a cell.
-fn input(names: bool, at: Stand, j: u16) -> u16
-    requires { ⌜ Fits at × (names ≡ true → j ≤ 16384) ⌝ }
-    ensures { λ r. ⌜ r ≡ pick names (moves at j) j ⌝ }
-{
-    if names {
-        return new_number(at, j);
-    }
-    j
-}
-
 // A cell with its inputs renumbered.
 fn rewired(c: Cell, at: Stand) -> Cell
     requires { ⌜ Fits at × Low c ⌝ }
     ensures { λ r. ⌜ r ≡ rewired (moves at) c ⌝ }
 {
-    let row = netlist::kinds::cell_row(c.kind);
-    let use_a = row.a;
-    let use_b = row.b;
-    let a = input(netlist::kinds::names(use_a), at, c.a);
-    let b = input(netlist::kinds::names(use_b), at, c.b);
-    Cell {
-        kind: c.kind,
-        delay: c.delay,
-        a,
-        b,
-    }
+    let a = new_number(at, c.a);
+    let b = new_number(at, c.b);
+    netlist::moves::rewired(c, a, b)
 }
 
 // Puts n cells of a file, from cell k on, renumbered, into a list of cells, at byte i.

@@ -24,11 +24,15 @@ use Rattle.model.specs.Calls.{Returned, short, writing}
 abbrev pub renumbered : ℕ → ℕ → ℕ
 renumbered k j = (j + k) % 65536
 
--- a cell whose inputs stand k places later
-unfoldable pub moved : ℕ → Cell → Cell
-moved k c =
+-- a cell whose inputs, where they name a cell, have new numbers
+unfoldable pub rewired : (ℕ → ℕ) → Cell → Cell
+rewired f c =
     let row = cellRow (c .kind) in
-    cell (c .kind) (c .delay) (pick (names (row .a)) (renumbered k (c .a)) (c .a)) (pick (names (row .b)) (renumbered k (c .b)) (c .b))
+    cell (c .kind) (c .delay) (pick (names (row .a)) (f (c .a)) (c .a)) (pick (names (row .b)) (f (c .b)) (c .b))
+
+-- a cell whose inputs stand k places later
+abbrev pub moved : ℕ → Cell → Cell
+moved k = rewired (renumbered k)
 
 -- the cells of a netlist as they stand behind k others
 abbrev pub behind : ℕ → List Cell → List Cell

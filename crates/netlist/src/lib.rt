@@ -10,6 +10,7 @@ pub mod kinds; // the table of cell kinds
 pub mod rules; // refusal 12
 pub mod blocks; // refusals 10 and 11, and putting blocks in
 pub mod header; // what a file that is accepted tells beside its cells
+pub mod moves; // inputs that name cells, with new numbers
 pub mod same; // whether a file is that of a list of cells
 
 use cells::Layout;

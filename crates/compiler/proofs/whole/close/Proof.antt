@@ -1,7 +1,6 @@
 -- `whole::close` meets its contract. Assumes nothing.
 use mathlib.Core.Path.{_∙_}
 use native.Mathlib.Omega.{arith}
-use borrow.Author.Needs.{needs}
 use Rattle.compiler.proofs.Assembly.{walk-low, clock-twenty, data-twenty, address-twenty, made}
 use Rattle.compiler.proofs.whole.close.Statement.{statement}
 use Rattle.compiler.proofs.whole.close.Tie as tie
@@ -21,19 +20,29 @@ put-arrays-requires : tie.Need-put-arrays-requires
 put-arrays-requires c κs =
     let C = c .before .before .before .before .before .before .before .before .before .before .before .before .before .before .pre .closing in
     let low = walk-low (C .fitting) (C .clocks .memory) in
-    (omega (arith, low), omega (arith, low, C .size, c .before .before .before .before .before .before .put-memories .kept .0), clock-twenty (C .clocks), data-twenty (C .walk), address-twenty (C .walk))
+    let memories = c .before .before .before .before .before .before .put-memories in
+    (omega (arith, low), omega (arith, low, C .size, memories .kept .0), clock-twenty (C .clocks), data-twenty (C .walk), address-twenty (C .walk))
 
 put-requires : tie.Need-put-requires
 put-requires c κs =
-    omega (arith, c .before .before .before .before .before .before .before .before .before .before .before .before .before .before .before .before .before .before .pre .closing .size, c .before .before .before .put-arrays .kept .0, c .before .before .before .before .before .before .before .before .before .before .put-memories .kept .0)
+    let arrays = c .before .before .before .put-arrays in
+    let memories = c .before .before .before .before .before .before .before .before .before .before .put-memories in
+    omega (arith, c .before .before .before .before .before .before .before .before .before .before .before .before .before .before .before .before .before .before .pre .closing .size, arrays .kept .0, memories .kept .0)
 
 put-requires-2 : tie.Need-put-requires-2
 put-requires-2 c κs =
-    omega (arith, c .before .before .before .before .before .before .before .before .before .before .before .before .before .before .before .before .before .before .before .before .before .before .pre .closing .size, c .before .before .before .put .kept .0, c .before .before .before .before .before .before .before .put-arrays .kept .0, c .before .before .before .before .before .before .before .before .before .before .before .before .before .before .put-memories .kept .0)
+    let first = c .before .before .before .put in
+    let arrays = c .before .before .before .before .before .before .before .put-arrays in
+    let memories = c .before .before .before .before .before .before .before .before .before .before .before .before .before .before .put-memories in
+    omega (arith, c .before .before .before .before .before .before .before .before .before .before .before .before .before .before .before .before .before .before .before .before .before .before .pre .closing .size, first .kept .0, arrays .kept .0, memories .kept .0)
 
 put-requires-3 : tie.Need-put-requires-3
 put-requires-3 c κs =
-    omega (arith, c .before .before .before .before .before .before .before .before .before .before .before .before .before .before .before .before .before .before .before .before .before .before .before .before .before .before .pre .closing .size, c .before .before .before .put2 .kept .0, c .before .before .before .before .before .before .before .put .kept .0, c .before .before .before .before .before .before .before .before .before .before .before .put-arrays .kept .0, c .before .before .before .before .before .before .before .before .before .before .before .before .before .before .before .before .before .before .put-memories .kept .0)
+    let second = c .before .before .before .put2 in
+    let first = c .before .before .before .before .before .before .before .put in
+    let arrays = c .before .before .before .before .before .before .before .before .before .before .before .put-arrays in
+    let memories = c .before .before .before .before .before .before .before .before .before .before .before .before .before .before .before .before .before .before .put-memories in
+    omega (arith, c .before .before .before .before .before .before .before .before .before .before .before .before .before .before .before .before .before .before .before .before .before .before .before .before .before .before .pre .closing .size, second .kept .0, first .kept .0, arrays .kept .0, memories .kept .0)
 
 same-length : tie.Need-same-length
 same-length c =
@@ -41,7 +50,12 @@ same-length c =
 
 returns : tie.Need-returns
 returns c =
-    λ S C. made C (c .before .before .before .before .before .before .before .before .before .before .before .before .before .before .before .before .before .before .before .before .before .put-memories .ensures) (c .before .before .before .before .before .before .before .before .before .before .before .before .before .before .put-arrays .ensures) (c .before .before .before .before .before .before .before .before .before .before .put .ensures) (c .before .before .before .before .before .before .put2 .ensures) (c .before .before .put3 .ensures)
+    let third = c .before .before .put3 in
+    let second = c .before .before .before .before .before .before .put2 in
+    let first = c .before .before .before .before .before .before .before .before .before .before .put in
+    let arrays = c .before .before .before .before .before .before .before .before .before .before .before .before .before .before .put-arrays in
+    let memories = c .before .before .before .before .before .before .before .before .before .before .before .before .before .before .before .before .before .before .before .before .before .put-memories in
+    λ S C. made C (memories .ensures) (arrays .ensures) (first .ensures) (second .ensures) (third .ensures)
 
 pub close-spec : {M : Type 1} → statement M
 close-spec =

@@ -5,12 +5,12 @@ use Rattle.compiler.proofs.whole.join_words.Statement.{statement}
 use Rattle.compiler.proofs.whole.join_words.Tie as tie
 
 put-ors-requires : tie.Need-put-ors-requires
-put-ors-requires c κs =
-    datas-ready (c .before .before .before .pre .put)
+put-ors-requires c κs = datas-ready (c .before .before .before .pre .put)
 
 put-ors-requires-2 : tie.Need-put-ors-requires-2
 put-ors-requires-2 c κs =
-    rw (c .before .before .before .before .before .put-ors .kept .0) (addresses-ready (c .before .before .before .before .before .before .before .before .before .pre .put) (c .before .before .before .before .before .put-ors .ensures))
+    let datas = c .before .before .before .before .before .put-ors in
+    rw (datas .kept .0) (addresses-ready (c .before .before .before .before .before .before .before .before .before .pre .put) (datas .ensures))
 
 same-length : tie.Need-same-length
 same-length c = search needs

@@ -6,8 +6,8 @@ use native.Mathlib.Omega.{arith}
 use lib.ListN.{length}
 use lib.Seq.{sets}
 use Rattle.model.specs.NetlistFile.{cellBytes, cellsAt, inFile}
+use Rattle.model.specs.CellSlices.{rewired}
 use Rattle.netlist.proofs.Bytes.{cell-fits}
-use Rattle.joiner.specs.Moving.{rewired}
 use Rattle.joiner.specs.Stands.{moves, Low}
 use Rattle.joiner.proofs.Putting.{moved-more, moved-done}
 use Rattle.joiner.proofs.moving.put_moved.Statement.{statement}

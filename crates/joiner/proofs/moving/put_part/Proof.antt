@@ -46,7 +46,7 @@ get16-requires : tie.Need-get16-requires
 get16-requires c κs = header (c .before .before .before .before .before .before .before .before .before .before .before .before .before .before .before .pre)
 
 new-number-requires : tie.Need-new-number-requires
-new-number-requires c κs = (stand-fits (c .before .before .before .before .before .before .before .before .before .before .before .before .before .before .before .before .pre), subst (λ (k : ℕ). k ≤ 16384) (sym (c .get16 .ensures)) (finish-low (c .before .before .before .before .before .before .before .before .before .before .before .before .before .before .before .before .pre)))
+new-number-requires c κs = stand-fits (c .before .before .before .before .before .before .before .before .before .before .before .before .before .before .before .before .pre)
 
 add-t20 : tie.Need-add-t20
 add-t20 c = omega (arith, c .before .before .before .before .before .before .before .before .before .before .before .before .before .before .before .before .before .before .before .pre .delayRoom .0)
@@ -61,7 +61,8 @@ returns : tie.Need-returns
 returns c =
     let start = c .before .before .before .before .before .before .before .before .before .before .before .before .before .before .before .before .before .before .before .before .before in
     put-in (start .pre) (start .args .cells .now) (c .before .before .before .before .before .before .before .before .before .before .before .before .before .put-moved .ensures) (c .before .before .before .before .before .before .before .before .put-moved2 .ensures)
-    (c .before .before .before .before .new-number .ensures ∙ ap (moves (standAt (start .args .own) (start .args .memory) (start .args .at))) (c .before .before .before .before .before .get16 .ensures))
+    (c .before .before .before .before .new-number .ensures (subst (λ (k : ℕ). k ≤ 16384) (sym (c .before .before .before .before .before .get16 .ensures)) (finish-low (start .pre)))
+    ∙ ap (moves (standAt (start .args .own) (start .args .memory) (start .args .at))) (c .before .before .before .before .before .get16 .ensures))
 
 pub put-part-spec : {M : Type 1} → statement M
 put-part-spec =

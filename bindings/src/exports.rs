@@ -47,9 +47,9 @@ macro_rules! exports {
 }
 
 // crates/exports/src/calls.rt; the definitions are those of model/Calls,
-// model/Gates, model/PartCalls and model/TextCalls. A call that checks a program has in front what is given
-// beside it: the table of operator times, if any, the number of procedures and
-// the pulse length.
+// model/Gates, model/PartCalls and model/TextCalls. A call that checks a program has in
+// front what is given beside it: the table of operator times, if any, the number of
+// procedures and the pulse length.
 exports! {
     /// checkCall
     hub_check(

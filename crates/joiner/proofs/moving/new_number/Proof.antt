@@ -20,8 +20,8 @@ add-result c = search needs
 returns-4 : tie.Need-returns-4
 returns-4 c = λ low. arm-delay _ _ _ _ _ _ (omega arith) (omega arith)
 
-add-if4 : tie.Need-add-if4
-add-if4 c = search needs
+add-if5 : tie.Need-add-if5
+add-if5 c = search needs
 
 add-result-2 : tie.Need-add-result-2
 add-result-2 c = search needs
@@ -50,7 +50,7 @@ new-number-spec =
     returns-3
     add-result
     returns-4
-    add-if4
+    add-if5
     add-result-2
     returns-5
     add-result-3

@@ -2,11 +2,10 @@
 use mathlib.Core.Path.{_≡_, refl, sym, ap, ap₂, subst, _∙_}
 use mathlib.Core.Bool.{Bool, true, false, not, _&&_, _||_}
 use mathlib.Core.List.{List, [], _∷_}
-use Prim.Native.Nat.{ℕ, _*_, _<_, _≤_}
+use Prim.Native.Nat.{ℕ, _≤_}
 use native.Mathlib.Omega.{arith}
 use lib.Dec.{leb, ltb}
 use lib.ListN.{length, getD}
-use lib.Seq.{sets}
 use borrow.Author.Tests.{ltb-true, ltb-false, le-leb, lt-leb}
 use Rattle.model.specs.declared.Refusal.{Refusal}
 use Rattle.model.specs.declared.Options.{Options}
@@ -14,11 +13,10 @@ use Rattle.model.specs.declared.Checked.{Checked}
 use Rattle.model.specs.declared.Checked.the-variants.{Accepted, Refused}
 use Rattle.model.specs.Refusals.{refuse, refuseIf, first, firstFault}
 use Rattle.model.specs.declared.Written.{Written}
-use Rattle.model.specs.declared.Written.the-variants.{Done}
 use Rattle.model.specs.Program.{Program}
 use Rattle.model.specs.ProgramChecks.{programWith}
-use Rattle.model.specs.NetlistFile.{cellsAt, inList, fileOf, blocksFor}
-use Rattle.model.specs.Calls.{Returned, short, writing}
+use Rattle.model.specs.NetlistFile.{cellsAt, inList}
+use Rattle.model.specs.Calls.{short, writing}
 use Rattle.model.specs.PartCalls.{Part, partsIn, wholeProgram, besideWhole, ownChecks, nodesFault, pulseFault, otherFault, jointChecks, partChecks, wholeFile, joinCall}
 use Rattle.laws.specs.Refusals.Laws.{by-bool, first-one, first-append, refused-append}
 use Rattle.model.specs.PartPromises.{joinedProgram}
@@ -26,10 +24,11 @@ use Rattle.laws.specs.Program.Passed.{accepted-pulse}
 use Rattle.laws.specs.Program.Joining.{passing, whole-checked, whole-is, join-compiles}
 use Rattle.netlist.specs.declared.cells.Layout.the-variants.{InList}
 use Rattle.netlist.specs.Offsets.{Room}
-use Rattle.netlist.proofs.Calls.{Tells, refused}
+use Rattle.netlist.specs.Blocks.{writtenFile}
+use Rattle.netlist.proofs.Calls.{Tells}
 use Rattle.compiler.specs.declared.whole.Netlist.{Netlist}
 use Rattle.compiler.specs.Whole.{Made}
-use Rattle.compiler.proofs.Call.{list-room, compile-short, compile-done}
+use Rattle.compiler.proofs.Call.{list-room, compile-writes}
 use Rattle.joiner.specs.Cuts.{partCount}
 use Rattle.joiner.specs.Stands.{Given}
 use Rattle.joiner.proofs.Cuts.{count-is, pulse-is}
@@ -125,14 +124,10 @@ module _ (options : Options) (lengths pulses s : List ℕ) (e : first (partCheck
     pub room : length cells ≡ 3762 → Room InList cells (made .count)
     room l = list-room W (wholeProgram parts) m (whole-checked options parts e) l
 
-    pub join-short : {lent : List ℕ} → length lent < 512 * blocksFor (made .count) → Tells (refused 14) lent (joinCall options parts lent)
-    join-short {lent} h =
-        subst (λ (t : Returned Written). Tells (refused 14) lent t) (sym (join-compiles options parts e lent))
-        (compile-short W (wholeProgram parts) m (whole-checked options parts e) h)
-
-    pub join-done : (lent : List ℕ) {after : List ℕ} {w : ℕ} → 512 * blocksFor (made .count) ≤ length lent → w ≡ getD pulses 0 0
-        → after ≡ sets lent 0 (fileOf w (cellsAt inList cells 0 (made .count)) (made .finish))
-        → Tells (Done (512 * blocksFor (made .count)) (made .finish)) after (joinCall options parts lent)
-    join-done lent {after} h ew q =
-        subst (λ (t : Returned Written). Tells (Done (512 * blocksFor (made .count)) (made .finish)) after t) (sym (join-compiles options parts e lent))
-        (compile-done W (wholeProgram parts) m (whole-checked options parts e) lent h (rw (pulse-first ew) at q))
+    -- what is accepted is written
+    pub join-writes : (lent : List ℕ) {w : ℕ} → w ≡ getD pulses 0 0
+        → joinCall options parts lent ≡ writtenFile w (cellsAt inList cells 0 (made .count)) (made .finish) lent
+    join-writes lent ew =
+        join-compiles options parts e lent
+        ∙ compile-writes W (wholeProgram parts) m (whole-checked options parts e) lent
+        ∙ ap (λ (w : ℕ). writtenFile w (cellsAt inList cells 0 (made .count)) (made .finish) lent) (sym (pulse-first ew))

@@ -14,11 +14,7 @@ pub mod joining; // the parts put in one after another, and the netlist of the w
 
 use model::Checked;
 use model::Options;
-use model::Refusal;
 use model::Written;
-use model::sizes::BLOCK;
-use model::sizes::BLOCK_CELLS;
-use model::sizes::BLOCK_LAST;
 use model::sizes::COMPILED_MOST;
 
 // Joins parts: of each 27, 19 to 21, 1 to 8, 22, 24 and 25, and 9 to 12; 29, 30, 31; 14. The lent bytes are each part's program and its netlist file,
@@ -40,15 +36,6 @@ pub fn join(
     let mut cells = [0u8; COMPILED_MOST];
     let made = joining::put_netlist(&mut cells, lengths, parts);
     let n = made.count as usize;
-    let finish = made.finish;
-    let count = BLOCK * ((n + BLOCK_LAST) / BLOCK_CELLS);
-    if netlist.len() < count {
-        return Written::Refused(Refusal {
-            number: 14,
-            place: 0,
-        });
-    }
     let pulse = parts::pulse_at(pulses, 0);
-    netlist::blocks::put_file(netlist, &cells, n, pulse as u16, finish);
-    Written::Done { count, finish }
+    netlist::write_file(netlist, &cells, n, pulse as u16, made.finish)
 }

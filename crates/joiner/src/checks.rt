@@ -102,16 +102,8 @@ fn is_own(options: Options, program: &[u8], file: &[u8]) -> bool
     requires { ⌜ (checkCall options (now program) ≡ Accepted) × (fileCheck (now file) ≡ Accepted) ⌝ }
     ensures { λ r. ⌜ r ≡ same (now (file .entry)) (compiledFile options (now (program .entry))) ⌝ }
 {
-    let told = program::scan(options, program);
-    let ends = told.ends;
     let mut cells = [0u8; COMPILED_MOST];
-    let made = compiler::whole::put_netlist(
-        &mut cells,
-        program,
-        &ends,
-        options.procedures,
-        options.pulse,
-    );
+    let made = compiler::list_accepted(options, program, &mut cells);
     netlist::same::is_file_of(
         file,
         &cells,

@@ -39,6 +39,18 @@ five =
     (front (cell 34 1 0 0 ∷ cell 34 1 3 0 ∷ cell 40 0 3 30 ∷ idle 15 (arrays (cell 1 0 5 0 ∷ cell 41 0 3 29 ∷ []))))
     4
 
+-- five twice, in one part. Delays 3 4, 5 6; clock or 7 of 3 and 5; memories 8 to 23, arrays 24 to 31; 32 constant 5, 33 the 41 on 3, 34 constant 5, 35
+-- the 41 on 5; data or 36 of 33 and 35.
+abbrev twice : Part
+twice =
+    part (raw 19 0 0 ++ five .program ++ five .program)
+    (front
+    (cell 34 1 0 0 ∷ cell 34 1 3 0 ∷ cell 34 1 4 0 ∷ cell 34 1 5 0
+    ∷ cell 35 0 3 5
+    ∷ cell 40 0 7 36 ∷ idle 15
+    (arrays (cell 1 0 5 0 ∷ cell 41 0 3 32 ∷ cell 1 0 5 0 ∷ cell 41 0 5 34 ∷ cell 7 0 33 35 ∷ []))))
+    6
+
 -- x0 := x0 + 3, d 16. Delays 3 and 4; memories 5 to 20, arrays 21 to 28; 29 constant 3, 30 sum of 5 and 29, 31 the 41 on 3.
 abbrev adds : Part
 adds =
@@ -81,6 +93,20 @@ drawings =
           ∷ cell 1 0 3 0 ∷ cell 4 0 8 34 ∷ cell 41 0 5 35
           ∷ cell 7 0 33 36 ∷ []))),
       6,
+    )
+    -- five; twice. The part's ors, 35 of 3 and 5 and 7 of 33 and 35, are not moved: of the whole's delays 3, 5 and 7 clock or 9 joins 3 and 5, and 10
+    -- joins 9 and 7; so do the data ors 41 and 42 with the 41s 36, 38 and 40. Memories 11 to 26, arrays 27 to 34.
+    ∷ (
+      five ∷ twice ∷ [],
+      front
+          (cell 34 1 0 0 ∷ cell 34 1 3 0 ∷ cell 34 1 4 0 ∷ cell 34 1 5 0 ∷ cell 34 1 6 0 ∷ cell 34 1 7 0
+          ∷ cell 35 0 3 5 ∷ cell 35 0 9 7
+          ∷ cell 40 0 10 42 ∷ idle 15
+          (arrays (cell 1 0 5 0 ∷ cell 41 0 3 35
+          ∷ cell 1 0 5 0 ∷ cell 41 0 5 37
+          ∷ cell 1 0 5 0 ∷ cell 41 0 7 39
+          ∷ cell 7 0 36 38 ∷ cell 7 0 41 40 ∷ []))),
+      8,
     )
     -- a part that is ok has no cell: the next starts where it starts
     ∷ (rests ∷ waits ∷ rests ∷ waits ∷ [], front (cell 34 7 0 0 ∷ cell 34 7 3 0 ∷ idle 16 (arrays [])), 4)

@@ -12,6 +12,7 @@ mod draw;
 mod format;
 mod go;
 mod help;
+mod join;
 mod manual;
 mod outline;
 mod read;
@@ -64,6 +65,7 @@ pub const COMMANDS: &[&Command] = &[
     &show::COMMAND,
     &verilog::COMMAND,
     &compile::COMMAND,
+    &join::COMMAND,
     &read::COMMAND,
     &begin::COMMAND,
     &go::COMMAND,

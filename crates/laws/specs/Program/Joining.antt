@@ -6,7 +6,7 @@ use mathlib.Core.List.{List, [], _∷_, _++_}
 use Prim.Native.Nat.{ℕ, zero, suc, _+_, _-_, _*_, _<_, _≤_}
 use native.Mathlib.Omega.{arith}
 use native.Mathlib.Nat.{le-of-suc-le-suc}
-use lib.Dec.{leb, eqb}
+use lib.Dec.{leb}
 use lib.ListN.{length}
 use borrow.Author.Tests.{ltb-false, le-ltb, le-leb, leb-true, eqb-true, eq-eqb}
 use Rattle.model.specs.declared.Options.{Options}
@@ -18,7 +18,7 @@ use Rattle.model.specs.ProgramChecks.{programWith, checkOf}
 use Rattle.model.specs.NetlistFile.{fileCheck}
 use Rattle.model.specs.Numbering.{finish}
 use Rattle.model.specs.Calls.{short, writing, checkCall, compiledFile, compileChecks, compileCall}
-use Rattle.model.specs.TimeTables.{givenCheck, givenChecks}
+use Rattle.model.specs.TimeTables.{givenCheck}
 use Rattle.model.specs.PartCalls.{Part, partAt, wholeProgram, besidePart, besideWhole, ownChecks, nodesUpTo, nodesFault, pulseFault, otherFault, jointChecks, partChecks, joinChecks, joinCall}
 use Rattle.model.specs.PartPromises.{wholeStatement, joinedProgram, EachPart}
 use Rattle.laws.specs.Refusals.Laws.{not-refused, not-false, and-true, and-of, all-accept, accept-all, refuse-unless, fault-unless, first-append, no-fault, faultless}

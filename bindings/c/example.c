@@ -55,6 +55,7 @@ static uint8_t again[HUB_NETLIST(HUB_FUNCTIONAL_CELLS)];
 static uint8_t state[HUB_STATE(HUB_FUNCTIONAL_CELLS)];
 static uint8_t values[HUB_VALUES(HUB_IMPERATIVE_CELLS)];
 static uint8_t work[HUB_WORK(HUB_IMPERATIVE_CELLS)];
+static uint8_t parts[2 * (HUB_PROGRAM + HUB_NETLIST(HUB_IMPERATIVE_CELLS))];
 static uint8_t bytes[HUB_CELL * HUB_IMPERATIVE_CELLS];
 static struct hub_cell cells[HUB_IMPERATIVE_CELLS];
 static uint8_t words[HUB_WORDS] = {3, 0, 5, 0};
@@ -85,6 +86,22 @@ static void programs(void)
     show("values", values, HUB_VALUES(HUB_CELLS_IN(netlist)));
     CALL(hub_reference, false, NULL, 0, 0, 1, program, length, words, sizeof words, 1000);
     CALL(hub_reference, false, NULL, 0, 0, 1, program, length, words, sizeof words, 95);
+    join(length);
+}
+
+/* The program twice, one after the other, as two clubs that have compiled it would join it; one part alone is refused. */
+static void join(size_t length)
+{
+    size_t size = HUB_NETLIST(HUB_CELLS_IN(netlist));
+    uint32_t lengths[] = {(uint32_t)length, (uint32_t)size, (uint32_t)length, (uint32_t)size};
+    uint8_t pulses[] = {1, 1};
+    for (size_t i = 0; i < 2; i++) {
+        memcpy(parts + i * (length + size), program, length);
+        memcpy(parts + i * (length + size) + length, netlist, size);
+    }
+    CALL(hub_join, false, NULL, 0, lengths, 4, pulses, 2, parts, 2 * (length + size), again, sizeof again);
+    show("netlist", again, reply.length);
+    CALL(hub_join, false, NULL, 0, lengths, 2, pulses, 1, parts, length + size, again, sizeof again);
 }
 
 static void netlists(size_t length)

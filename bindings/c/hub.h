@@ -108,6 +108,16 @@ bool hub_compile(
     uint8_t *netlist, size_t netlist_length,
     struct hub_reply *reply, size_t reply_length);
 
+/* Joins two to eight programs without procedures that were compiled one by one to the netlist of their sequence. The parts stand one after another, each
+ * a program and then its netlist; the lengths are those of these, in that order, and each part has its pulse length. */
+bool hub_join(
+    bool timed, const uint8_t *table, size_t table_length,
+    const uint32_t *lengths, size_t lengths_count,
+    const uint8_t *pulses, size_t pulses_count,
+    const uint8_t *parts, size_t parts_length,
+    uint8_t *netlist, size_t netlist_length,
+    struct hub_reply *reply, size_t reply_length);
+
 bool hub_run_program(
     bool timed, const uint8_t *table, size_t table_length, size_t procedures, uint8_t pulse,
     const uint8_t *program, size_t program_length,

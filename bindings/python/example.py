@@ -62,7 +62,15 @@ def programs():
     show("values", values[: hub.values_length(hub.cells_in(netlist))])
     hub.reference(program, WORDS, 1000)
     hub.reference(program, WORDS, 95)
+    join(program, netlist)
     return netlist
+
+
+def join(program, netlist):
+    """The program twice, one after the other, as two clubs that have compiled it would join it;
+    one part alone is refused."""
+    show("netlist", hub.join([(program, netlist), (program, netlist)]))
+    refused(hub.join, [(program, netlist)])
 
 
 def netlists(netlist):

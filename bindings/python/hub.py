@@ -19,6 +19,7 @@ from collections import namedtuple
 EXPORTS = """
 hub_check(table: ?[u8], procedures: usize, pulse: u8, program: &[u8], reply: &mut [u8])
 hub_compile(table: ?[u8], procedures: usize, pulse: u8, program: &[u8], file: &mut [u8], reply: &mut [u8])
+hub_join(table: ?[u8], lengths: &[u32], pulses: &[u8], parts: &[u8], file: &mut [u8], reply: &mut [u8])
 hub_read_text(table: ?[u8], procedures: usize, pulse: u8, text: &[u8], program: &mut [u8], reply: &mut [u8])
 hub_compile_text(table: ?[u8], procedures: usize, pulse: u8, text: &[u8], file: &mut [u8], reply: &mut [u8])
 hub_write(pulse: u8, cells: &[u8], finish: u16, file: &mut [u8], reply: &mut [u8])
@@ -167,7 +168,9 @@ def _passed(part, given):
         return [ctypes.create_string_buffer(bytes(given), len(given)), len(given)]
     if part == "&mut [u8]":
         return [(ctypes.c_uint8 * len(given)).from_buffer(given), len(given)]
-    # A list of cells.
+    # A list of numbers or of cells.
+    if part == "&[u32]":
+        given = (ctypes.c_uint32 * len(given))(*given)
     if part == "&[Cell]":
         given = (Cell * len(given))(*given)
     return [given, len(given)]
@@ -267,6 +270,15 @@ def compile(program, table=None, procedures=0, pulse=1, functional=False):
     if functional:
         return _written("hub_compile_functional", room, table, program)
     return _written("hub_compile", room, table, procedures, pulse, program)
+
+
+def join(parts, table=None, pulse=1):
+    """The netlist file of the sequence of two to eight programs that were compiled one by one,
+    from these programs and their netlist files, a pair for each part."""
+    listed = [piece for part in parts for piece in part]
+    lengths, pulses = [len(piece) for piece in listed], bytes([pulse] * len(parts))
+    given = [table, lengths, pulses, b"".join(listed)]
+    return _written("hub_join", netlist_length(IMPERATIVE_CELLS), *given)
 
 
 def read_text(text, table=None, procedures=0, pulse=1):

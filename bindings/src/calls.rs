@@ -3,7 +3,7 @@
 
 use crate::exports::*;
 use crate::reply::{accepted, answer, end, shape, written};
-use values::{Answer, End, Format, Given, Refusal, Shape, Table};
+use values::{Answer, End, Format, Given, Part, Refusal, Shape, Table};
 
 /// Checks a program.
 pub fn check(given: Given, program: &[u8]) -> Result<(), Refusal> {
@@ -24,6 +24,17 @@ pub fn compile(given: Given, program: &[u8], file: &mut [u8]) -> Result<Shape, R
             reply,
         )
     });
+    told.map(|told| written(told, file))
+}
+
+/// Joins parts to the netlist file of their sequence.
+pub fn join(table: Table, parts: &[Part], file: &mut [u8]) -> Result<Shape, Refusal> {
+    let pieces = parts.iter().flat_map(|part| [part.program, part.file]);
+    let pieces: Vec<&[u8]> = pieces.collect();
+    let lengths: Vec<u32> = pieces.iter().map(|piece| piece.len() as u32).collect();
+    let pulses: Vec<u8> = parts.iter().map(|part| part.pulse).collect();
+    let bytes = pieces.concat();
+    let told = accepted(|reply| hub_join(table, &lengths, &pulses, &bytes, file, reply));
     told.map(|told| written(told, file))
 }
 

@@ -47,9 +47,9 @@ macro_rules! exports {
 }
 
 // crates/exports/src/calls.rt; the definitions are those of model/Calls,
-// model/Gates and model/TextCalls. A call that checks a program has in front what is given
-// beside it: the table of operator times, if any, the number of procedures and
-// the pulse length.
+// model/Gates, model/PartCalls and model/TextCalls. A call that checks a program has in
+// front what is given beside it: the table of operator times, if any, the number of
+// procedures and the pulse length.
 exports! {
     /// checkCall
     hub_check(
@@ -59,6 +59,11 @@ exports! {
     /// compileCall
     hub_compile(
         table: ?[u8], procedures: usize, pulse: u8, program: &[u8], file: &mut [u8], reply: &mut [u8]
+    );
+
+    /// joinCall, of the parts that PartCalls' partsIn finds
+    hub_join(
+        table: ?[u8], lengths: &[u32], pulses: &[u8], parts: &[u8], file: &mut [u8], reply: &mut [u8]
     );
 
     /// readTextCall

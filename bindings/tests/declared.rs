@@ -65,6 +65,7 @@ fn of_c(given: &str) -> Vec<String> {
             "uint16_t" => Err("u16"),
             "uint32_t" => Err("u32"),
             "const uint8_t" => Ok("&[u8]"),
+            "const uint32_t" => Ok("&[u32]"),
             "uint8_t" | "struct hub_reply" => Ok("&mut [u8]"),
             "const struct hub_cell" => Ok("&[Cell]"),
             "struct hub_cell" => Ok("&mut [Cell]"),

@@ -101,6 +101,14 @@ impl Args {
         self.options.get(name).map(String::as_str)
     }
 
+    /// The same words, and an option with a value, unless it was given.
+    pub fn or(&self, name: &str, value: impl ToString) -> Args {
+        let mut args = self.clone();
+        let option = args.options.entry(name.to_string());
+        option.or_insert_with(|| value.to_string());
+        args
+    }
+
     /// The value of an option that must be given.
     pub fn needed(&self, name: &str) -> Result<&str, Fault> {
         self.value(name).ok_or_else(|| self.missing(name))

@@ -24,6 +24,7 @@ pub mod names;
 pub mod origin;
 pub mod outline;
 pub mod output;
+pub mod parts;
 pub mod preorder;
 pub mod product;
 pub mod progress;

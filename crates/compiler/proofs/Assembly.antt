@@ -15,7 +15,7 @@ use Rattle.model.specs.Numbering.{clockAt, memoryAt, arraysAt, walkAt, dataAt, 
 use Rattle.laws.specs.Numbering.Lengths.{root-d-len, root-w-len}
 use Rattle.laws.specs.Numbering.Parts.{delayCells, clockOrs, memoryCells, arrayCells, walkCells, dataOrs, addressOrs, orsFrom-len, outs-len, mems-len, arrays-len, net-length}
 use Rattle.laws.specs.Numbering.Count.{rootNodes, fits}
-use Rattle.laws.specs.Program.Fit.{Formed, Earlier, EveryRoot}
+use Rattle.laws.specs.Program.Fit.{Formed, Earlier}
 use Rattle.laws.specs.Program.Accepted.{program-fit}
 use Rattle.laws.specs.Program.Enclosed.{rootAt, root-earlier}
 use Rattle.laws.specs.Program.Passed.{Readable, accepted, count-bodies}
@@ -32,7 +32,7 @@ use Rattle.compiler.specs.declared.whole.Finished.{Finished}
 use Rattle.compiler.specs.Writes.{write, both}
 use Rattle.compiler.specs.Walk.{finishIn}
 use Rattle.compiler.specs.Ors.{sourcesFrom, OrsReady, Ored}
-use Rattle.compiler.specs.Whole.{Given, callersOf, Told, RootReady, RootDone, rootAssignments, behindArrays, RootsReady, RootsDone, Clocked, Walked, Made}
+use Rattle.compiler.specs.Whole.{Given, Fitting, callersOf, Told, RootReady, RootDone, rootAssignments, behindArrays, RootsReady, RootsDone, Put, Clocked, Walked, Made, Closing}
 use Rattle.compiler.proofs.Writes.{write-append, write-before, write-length}
 use Rattle.compiler.proofs.Sizes.{few, few-roots, one-root}
 use Rattle.compiler.proofs.Marks.{clock-marks, call-marks, data-marks, index-marks}
@@ -96,14 +96,8 @@ module _ {pulse k : ℕ} {s ends : List ℕ} {n : ℕ} (G : Given pulse k s ends
   unfolding programOf
   root-here r i l e = root-is rooted r i l e
 
-  formed : EveryRoot (λ r P. Formed P) 0 (roots S)
-  formed = every-root (λ r P. Formed P) 0 (roots S) (λ j l. facts .formed j)
-
-  most : length (netlist S) ≤ 627
-  most = fits S (facts .nodes) .1
-
-  assigned : rootAssignments (roots S) ≤ 200
-  assigned = omega (arith, few-roots 0 (roots S), facts .nodes)
+  pub fitting : Fitting S
+  fitting = record { formed = every-root (λ r P. Formed P) 0 (roots S) (λ j l. facts .formed j); nodes = facts .nodes }
 
   -- Roots ------------------------------------------------------------------------------------------------------------------------------
 
@@ -127,7 +121,7 @@ module _ {pulse k : ℕ} {s ends : List ℕ} {n : ℕ} (G : Given pulse k s ends
                 apart = omega (arith, room-delays S cs M C inside, C .onward);
                 room = omega (arith, room-walk S cs M C inside, G .size);
                 small = omega (arith, G .size);
-                marks = omega (arith, room-marks S cs M C inside, assigned);
+                marks = omega (arith, room-marks S cs M C inside, few-roots 0 (roots S), facts .nodes);
                 outs = omega (arith, few (rootAt S r), one-root (roots S) r inside, facts .nodes);
               };
         })
@@ -157,94 +151,118 @@ module _ {pulse k : ℕ} {s ends : List ℕ} {n : ℕ} (G : Given pulse k s ends
         room = omega (arith, few-roots 0 (roots S), facts .nodes);
       }
 
-  -- what the marks of a walk tell
-  module _ {cs : List Source} {M : ℕ} {before after ms marked : List ℕ} {e : Place} (u : RootsDone S cs M before after ms marked e) (l : length ms ≡ 800) where
-    marked-count : e .mark / 4 ≡ rootAssignments (roots S)
-    marked-count = omega (arith, u .mark)
-
-    long : 4 * rootAssignments (roots S) ≤ length ms
-    long = omega (arith, assigned)
-
-    pub marked-calls : Told (callsOf S) marked (e .mark / 4)
-    marked-calls =
-        record {
-          few = omega (arith, marked-count, assigned);
-          calls = λ p. rw (marked-count, u .marks) (call-marks cs (roots S) 3 (behindArrays M) formed ms long p);
-        }
-
-    marked-clocks : (y : ℕ) → 0 ≤ y → y < 0 + 20 → wiresOf y (sourcesFrom 1 marked 0 (e .mark / 4)) ≡ wiresOf y (clocksOf S)
-    marked-clocks y g h = rw (marked-count, u .marks) (clock-marks cs (roots S) 3 (behindArrays M) formed ms long y h)
-
-    marked-datas : (y : ℕ) → 0 ≤ y → y < 0 + 20
-        → wiresOf y (sourcesFrom 2 marked 0 (e .mark / 4)) ≡ wiresOf y (rootWalkSources dataSources cs 0 (roots S) (behindArrays M))
-    marked-datas y g h = rw (marked-count, u .marks) (data-marks cs (roots S) 3 (behindArrays M) formed ms long y h)
-
-    marked-indices : (y : ℕ) → 16 ≤ y → y < 16 + 4
-        → wiresOf y (sourcesFrom 3 marked 0 (e .mark / 4)) ≡ wiresOf y (rootWalkSources addressSources cs 0 (roots S) (behindArrays M))
-    marked-indices y g h = rw (marked-count, u .marks) (index-marks cs (roots S) 3 (behindArrays M) formed ms long y h g)
-
-    -- ors of these
-    ready : (j : Joint) (ps : List Source) {c : ℕ} → j .mark ≤ 3 → j .first ≤ 20
-        → ((y : ℕ) → j .first ≤ y → y < j .first + (20 - j .first) → wiresOf y (sourcesFrom (j .mark) marked 0 (e .mark / 4)) ≡ wiresOf y ps)
-        → c + orCountFrom ps (j .first) (20 - j .first) ≤ 627
-        → OrsReady j (e .mark / 4) c (orCountFrom (sourcesFrom (j .mark) marked 0 (e .mark / 4)) (j .first) (20 - j .first)) n
-    ready j ps m f alike room =
-        rw (counts-alike (sourcesFrom (j .mark) marked 0 (e .mark / 4)) ps (j .first) (20 - j .first) alike)
-        (record {
-          few = omega (arith, marked-count, assigned);
-          mark = m;
-          first = f;
-          room = omega (arith, room, G .size);
-          small = omega (arith, G .size);
-        })
-
-  -- the clock ors, by the first walk
-  module _ {before first ms marked : List ℕ} {e : Place} (u : RootsDone S [] 179 before first ms marked e) (l : length ms ≡ 800) where
-    pub clocks-ready : OrsReady clockJoint (e .mark / 4) (e .delay) (orCountFrom (sourcesFrom 1 marked 0 (e .mark / 4)) 0 20) n
-    clocks-ready = ready u l clockJoint (clocksOf S) (omega arith) (omega arith) (marked-clocks u l) (omega (arith, u .delay, net-length S, most))
-
-    pub clocked : {after : List ℕ} {r : Ors} → Ored clockJoint (e .delay) (sourcesFrom 1 marked 0 (e .mark / 4)) first after r
-        → Clocked S marked after (record { wires = r .wires; memory = r .next; count = e .mark / 4 })
-    clocked v₀ =
-        let v = rw (u .delay) at (ored-alike _ _ (marked-clocks u l) v₀) in
-        record { first = first; cells = v .cells; wires = v .wires; memory = v .next; told = marked-calls u l }
-
   -- the second walk
-  module _ {M : ℕ} (m : M ≡ memoryAt S) where
-    pub walk-low : M + 24 ≤ 627
-    walk-low = omega (arith, m, net-length S, most)
+  pub walk-ready : {M : ℕ} → M ≡ memoryAt S → {ms : List ℕ} {count : ℕ} → Told (callsOf S) ms count → RootsReady pulse k s ends ms count M n
+  walk-ready m T =
+      record { given = G; calls = callsOf S; told = T; apart = omega (arith, m); room = omega (arith, m, net-length S, fits S (facts .nodes) .1) }
 
-    pub walk-ready : {ms : List ℕ} {count : ℕ} → Told (callsOf S) ms count → RootsReady pulse k s ends ms count M n
-    walk-ready T =
-        record { given = G; calls = callsOf S; told = T; apart = omega (arith, m); room = omega (arith, m, net-length S, most) }
+  -- what a walk leaves, and what is there before the memories
+  pub all-put : {cs : List Source} {M : ℕ} {before after ms marked : List ℕ} {e : Place} → RootsDone S cs M before after ms marked e → length ms ≡ 800
+      → length after ≡ n → Put S cs M before after ms marked e
+  all-put done long kept = record { fitting = fitting; done = done; long = long; size = kept ∙ G .size }
 
-    module _ {before mid ms marked : List ℕ} {e : Place} (u₀ : RootsDone S (callsOf S) M before mid ms marked e) (l : length ms ≡ 800) where
-      u : RootsDone S (callsOf S) (memoryAt S) before mid ms marked e
-      u = rw m at u₀
+  pub all-closing : {ms before after : List ℕ} {c : Clocks} {w : Finished} → Clocked S ms before c → Walked S before after w → length after ≡ n
+      → Closing S after c w
+  all-closing clocks walk kept = record { fitting = fitting; ms = _; before = _; clocks = clocks; walk = walk; size = kept ∙ G .size }
 
-      pub datas-ready : OrsReady dataJoint (e .mark / 4) (e .cell) (orCountFrom (sourcesFrom 2 marked 0 (e .mark / 4)) 0 20) n
-      datas-ready = ready u l dataJoint (dataOf S) (omega arith) (omega arith) (marked-datas u l) (omega (arith, u .cell, net-length S, most))
+-- Ors ------------------------------------------------------------------------------------------------------------------------------------
 
-      module _ {mid₂ : List ℕ} {q : Ors} (v₀ : Ored dataJoint (e .cell) (sourcesFrom 2 marked 0 (e .mark / 4)) mid mid₂ q) where
-        v : Ored dataJoint (dataAt S) (dataOf S) mid mid₂ q
-        v = rw (u .cell) at (ored-alike _ _ (marked-datas u l) v₀)
+module _ {S : Program} (f : Fitting S) where
+  most : length (netlist S) ≤ 627
+  most = fits S (f .nodes) .1
 
-        pub addresses-ready : OrsReady addressJoint (e .mark / 4) (q .next) (orCountFrom (sourcesFrom 3 marked 0 (e .mark / 4)) 16 4) n
-        addresses-ready = ready u l addressJoint (addressesOf S) (omega arith) (omega arith) (marked-indices u l) (omega (arith, v .next, net-length S, most))
+  assigned : rootAssignments (roots S) ≤ 200
+  assigned = omega (arith, few-roots 0 (roots S), f .nodes)
 
-        pub walked : {after : List ℕ} {r : Ors} → Ored addressJoint (q .next) (sourcesFrom 3 marked 0 (e .mark / 4)) mid₂ after r
-            → Walked S before after (record { wires = q .wires; addresses = r .wires; count = r .next; finish = e .wire; ors = e .cell })
-        unfolding finish finishOfRoot
-        walked w₀ =
-            let w = rw (v .next) at (ored-alike _ _ (marked-indices u l) w₀) in
-            record {
-              cells = rw (v .cells, u .cells) at (w .cells);
-              wires = v .wires;
-              addresses = w .wires;
-              count = w .next ∙ sym (net-length S);
-              finish = u .wire;
-              ors = u .cell;
-            }
+  pub walk-low : {M : ℕ} → M ≡ memoryAt S → M + 24 ≤ 627
+  walk-low m = omega (arith, m, net-length S, most)
+
+-- what the marks of a walk tell
+module _ {S : Program} {cs : List Source} {M : ℕ} {before after ms marked : List ℕ} {e : Place} (p : Put S cs M before after ms marked e) where
+  u : RootsDone S cs M before after ms marked e
+  u = p .done
+
+  marked-count : e .mark / 4 ≡ rootAssignments (roots S)
+  marked-count = omega (arith, u .mark)
+
+  few-marks : rootAssignments (roots S) ≤ 200
+  few-marks = assigned (p .fitting)
+
+  long : 4 * rootAssignments (roots S) ≤ length ms
+  long = omega (arith, few-marks, p .long)
+
+  marked-calls : Told (callsOf S) marked (e .mark / 4)
+  marked-calls =
+      record {
+        few = omega (arith, marked-count, few-marks);
+        calls = λ q. rw (marked-count, u .marks) (call-marks cs (roots S) 3 (behindArrays M) (p .fitting .formed) ms long q);
+      }
+
+  marked-clocks : (y : ℕ) → 0 ≤ y → y < 0 + 20 → wiresOf y (sourcesFrom 1 marked 0 (e .mark / 4)) ≡ wiresOf y (clocksOf S)
+  marked-clocks y g h = rw (marked-count, u .marks) (clock-marks cs (roots S) 3 (behindArrays M) (p .fitting .formed) ms long y h)
+
+  marked-datas : (y : ℕ) → 0 ≤ y → y < 0 + 20
+      → wiresOf y (sourcesFrom 2 marked 0 (e .mark / 4)) ≡ wiresOf y (rootWalkSources dataSources cs 0 (roots S) (behindArrays M))
+  marked-datas y g h = rw (marked-count, u .marks) (data-marks cs (roots S) 3 (behindArrays M) (p .fitting .formed) ms long y h)
+
+  marked-indices : (y : ℕ) → 16 ≤ y → y < 16 + 4
+      → wiresOf y (sourcesFrom 3 marked 0 (e .mark / 4)) ≡ wiresOf y (rootWalkSources addressSources cs 0 (roots S) (behindArrays M))
+  marked-indices y g h = rw (marked-count, u .marks) (index-marks cs (roots S) 3 (behindArrays M) (p .fitting .formed) ms long y h g)
+
+  -- ors of these
+  ready : (j : Joint) (ps : List Source) {c n : ℕ} → n ≡ 3762 → j .mark ≤ 3 → j .first ≤ 20
+      → ((y : ℕ) → j .first ≤ y → y < j .first + (20 - j .first) → wiresOf y (sourcesFrom (j .mark) marked 0 (e .mark / 4)) ≡ wiresOf y ps)
+      → c + orCountFrom ps (j .first) (20 - j .first) ≤ 627
+      → OrsReady j (e .mark / 4) c (orCountFrom (sourcesFrom (j .mark) marked 0 (e .mark / 4)) (j .first) (20 - j .first)) n
+  ready j ps size m f alike room =
+      rw (counts-alike (sourcesFrom (j .mark) marked 0 (e .mark / 4)) ps (j .first) (20 - j .first) alike)
+      (record {
+        few = omega (arith, marked-count, few-marks);
+        mark = m;
+        first = f;
+        room = omega (arith, room, size);
+        small = omega (arith, size);
+      })
+
+-- the clock ors, by the first walk
+module _ {S : Program} {before first ms marked : List ℕ} {e : Place} (p : Put S [] 179 before first ms marked e) where
+  pub clocks-ready : OrsReady clockJoint (e .mark / 4) (e .delay) (orCountFrom (sourcesFrom 1 marked 0 (e .mark / 4)) 0 20) (length first)
+  clocks-ready =
+      ready p clockJoint (clocksOf S) (p .size) (omega arith) (omega arith) (marked-clocks p) (omega (arith, p .done .delay, net-length S, most (p .fitting)))
+
+  pub clocked : {after : List ℕ} {r : Ors} → Ored clockJoint (e .delay) (sourcesFrom 1 marked 0 (e .mark / 4)) first after r
+      → Clocked S marked after (record { wires = r .wires; memory = r .next; count = e .mark / 4 })
+  clocked v₀ =
+      let v = rw (p .done .delay) at (ored-alike _ _ (marked-clocks p) v₀) in
+      record { first = first; cells = v .cells; wires = v .wires; memory = v .next; told = marked-calls p }
+
+-- the ors of words, by the second
+module _ {S : Program} {before mid ms marked : List ℕ} {e : Place} (p : Put S (callsOf S) (memoryAt S) before mid ms marked e) where
+  pub datas-ready : OrsReady dataJoint (e .mark / 4) (e .cell) (orCountFrom (sourcesFrom 2 marked 0 (e .mark / 4)) 0 20) (length mid)
+  datas-ready =
+      ready p dataJoint (dataOf S) (p .size) (omega arith) (omega arith) (marked-datas p) (omega (arith, p .done .cell, net-length S, most (p .fitting)))
+
+  module _ {mid₂ : List ℕ} {q : Ors} (v₀ : Ored dataJoint (e .cell) (sourcesFrom 2 marked 0 (e .mark / 4)) mid mid₂ q) where
+    v : Ored dataJoint (dataAt S) (dataOf S) mid mid₂ q
+    v = rw (p .done .cell) at (ored-alike _ _ (marked-datas p) v₀)
+
+    pub addresses-ready : OrsReady addressJoint (e .mark / 4) (q .next) (orCountFrom (sourcesFrom 3 marked 0 (e .mark / 4)) 16 4) (length mid)
+    addresses-ready =
+        ready p addressJoint (addressesOf S) (p .size) (omega arith) (omega arith) (marked-indices p) (omega (arith, v .next, net-length S, most (p .fitting)))
+
+    pub walked : {after : List ℕ} {r : Ors} → Ored addressJoint (q .next) (sourcesFrom 3 marked 0 (e .mark / 4)) mid₂ after r
+        → Walked S before after (record { wires = q .wires; addresses = r .wires; count = r .next; finish = e .wire; ors = e .cell })
+    unfolding finish finishOfRoot
+    walked w₀ =
+        let w = rw (v .next) at (ored-alike _ _ (marked-indices p) w₀) in
+        record {
+          cells = rw (v .cells, p .done .cells) at (w .cells);
+          wires = v .wires;
+          addresses = w .wires;
+          count = w .next ∙ sym (net-length S);
+          finish = p .done .wire;
+          ors = p .done .cell;
+        }
 
 pub clock-twenty : {S : Program} {ms b : List ℕ} {r : Clocks} → Clocked S ms b r → length (r .wires) ≡ 20
 clock-twenty {S} K = ap length (K .wires) ∙ outs-len 1 (clocksOf S) (clockAt S) 0 20
@@ -306,24 +324,31 @@ cells-put cs s h =
     let z : 6 * (0 + i) ≡ 6 * i = omega arith in
     rw (z, ← overwrite-sets (cellBytes cs) s (omega (arith, bytes-length cs))) (from-bytes cs _ i l))
 
-pub made : {pulse k : ℕ} {s ends : List ℕ} {n : ℕ} → Given pulse k s ends n → {ms b₁ b₂ b₃ b₄ b₅ b₆ b₇ : List ℕ} {r : Clocks} {w : Finished} → length b₁ ≡ n
-    → Clocked (programOf pulse k s) ms b₁ r
-    → Walked (programOf pulse k s) b₁ b₂ w
+-- what was put in is as long as the list was
+walked-length : {S : Program} {b a : List ℕ} {w : Finished} → Walked S b a w → length a ≡ length b
+unfolding both
+walked-length {S} {b} W =
+    ap length (W .cells) ∙ write-length (addressAt S) (addressOrs S) _ ∙ write-length (dataAt S) (dataOrs S) _ ∙ write-length (walkAt S) (walkCells S) _
+    ∙ write-length 3 (delayCells S) b
+
+pub made : {S : Program} {b₂ b₃ b₄ b₅ b₆ b₇ : List ℕ} {r : Clocks} {w : Finished} → Closing S b₂ r w
     → b₃ ≡ write (r .memory) (memoriesOf (r .wires) (w .wires) 0 16) b₂
     → b₄ ≡ write (r .memory + 16) (arraysOf (r .wires) (w .wires) (drop 16 (w .addresses)) 0 4) b₃
     → b₅ ≡ write 0 (cell 32 0 0 0 ∷ []) b₄
     → b₆ ≡ write 1 (cell 33 0 0 0 ∷ []) b₅
     → b₇ ≡ write 2 (cell 1 0 0 0 ∷ []) b₆
-    → Made (programOf pulse k s) b₇ (record { count = w .count; finish = w .finish; ors = w .ors })
-made {pulse} {k} {s} G {b₄ = b₄} l K W e₃ e₄ e₅ e₆ e₇ =
-    let S = programOf pulse k s in
+    → Made S b₇ (record { count = w .count; finish = w .finish; ors = w .ors })
+made {S} {b₄ = b₄} C e₃ e₄ e₅ e₆ e₇ =
+    let K = C .clocks in
+    let W = C .walk in
     let head : write 2 (cell 1 0 0 0 ∷ []) (write 1 (cell 33 0 0 0 ∷ []) (write 0 (cell 32 0 0 0 ∷ []) b₄)) ≡ write 0 headCells b₄ =
     ap (write 2 (cell 1 0 0 0 ∷ [])) (write-append 0 1 (cell 32 0 0 0 ∷ []) (cell 33 0 0 0 ∷ []) b₄ refl)
     ∙ write-append 0 2 (cell 32 0 0 0 ∷ (cell 33 0 0 0 ∷ [])) (cell 1 0 0 0 ∷ []) b₄ refl in
     let all = rw (e₆, e₅, head, e₄, e₃, K .memory, K .wires, W .wires, W .addresses, W .cells, K .cells, assembled S (K .first)) at e₇ in
-    let long : length (K .first) ≡ 3762 = sym (write-length (clockAt S) (clockOrs S) (K .first)) ∙ sym (ap length (K .cells)) ∙ l ∙ G .size in
+    let long : length (K .first) ≡ 3762 =
+    sym (write-length (clockAt S) (clockOrs S) (K .first)) ∙ sym (ap length (K .cells)) ∙ sym (walked-length W) ∙ C .size in
     record {
-      cells = rw (all, W .count) (cells-put (netlist S) (K .first) (omega (arith, most G)));
+      cells = rw (all, W .count) (cells-put (netlist S) (K .first) (omega (arith, long, most (C .fitting))));
       count = W .count;
       finish = W .finish;
       ors = W .ors;

@@ -12,6 +12,8 @@ use Rattle.model.specs.Numbering.{memoryWires, ors, orsOut, orCount, delayCount
 use Rattle.model.specs.Numbering.{callsOf, clockAt, memoryAt, dataAt, addressAt, walkAt, clockWires, dataWires, addressWires, procedures, netlist, finish}
 use Rattle.model.specs.Calls.{checkCall}
 use Rattle.laws.specs.Numbering.Parts.{delayCells, clockOrs, walkCells, dataOrs, addressOrs}
+use Rattle.laws.specs.Numbering.Count.{rootNodes}
+use Rattle.laws.specs.Program.Fit.{Formed, EveryRoot}
 use Rattle.program.specs.Ends.{Laid}
 use Rattle.compiler.specs.declared.walk.Place.{Place}
 use Rattle.compiler.specs.declared.whole.Clocks.{Clocks}
@@ -29,6 +31,11 @@ pub record Given (w k : ℕ) (s ends : List ℕ) (n : ℕ) : Type 0 where
   pub accepted : checkCall options s ≡ Accepted
   pub laid : Laid s ends
   pub size : n ≡ 3762
+
+-- a program whose netlist has room in 627 cells
+pub record Fitting (S : Program) : Type 0 where
+  pub formed : EveryRoot (λ r P. Formed P) 0 (roots S)
+  pub nodes : rootNodes (roots S) ≤ 200
 
 -- Roots --------------------------------------------------------------------------------------------------------------------------------
 -- cs are the calls, as in model/Numbering.
@@ -106,6 +113,26 @@ pub record RootsDone (S : Program) (cs : List Source) (M : ℕ) (before after ma
 
 -- The parts of the netlist ---------------------------------------------------------------------------------------------------------------
 
+-- the walks of the roots of S have been put in, and their marks
+pub record Put (S : Program) (cs : List Source) (M : ℕ) (before after ms marked : List ℕ) (e : Place) : Type 0 where
+  pub fitting : Fitting S
+  pub done : RootsDone S cs M before after ms marked e
+  pub long : length ms ≡ 800
+  pub size : length after ≡ 3762
+
+-- of some program: the first walk, and the second
+pub record FirstPut (after marked : List ℕ) (e : Place) : Type 0 where
+  pub program : Program
+  pub before : List ℕ
+  pub ms : List ℕ
+  pub put : Put program [] 179 before after ms marked e
+
+pub record LastPut (after marked : List ℕ) (e : Place) : Type 0 where
+  pub program : Program
+  pub before : List ℕ
+  pub ms : List ℕ
+  pub put : Put program (callsOf program) (memoryAt program) before after ms marked e
+
 -- the clock ors of S, put in after a first walk, which tells the calls
 pub record Clocked (S : Program) (ms after : List ℕ) (r : Clocks) : Type 0 where
   pub first : List ℕ
@@ -130,3 +157,16 @@ pub record Made (S : Program) (after : List ℕ) (r : Netlist) : Type 0 where
   pub count : r .count ≡ length (netlist S)
   pub finish : r .finish ≡ finish S
   pub ors : r .ors ≡ dataAt S
+
+-- the clock ors and the walk of S have been put in
+pub record Closing (S : Program) (after : List ℕ) (k : Clocks) (w : Finished) : Type 0 where
+  pub fitting : Fitting S
+  pub ms : List ℕ
+  pub before : List ℕ
+  pub clocks : Clocked S ms before k
+  pub walk : Walked S before after w
+  pub size : length after ≡ 3762
+
+pub record Closable (after : List ℕ) (k : Clocks) (w : Finished) : Type 0 where
+  pub program : Program
+  pub closing : Closing program after k w

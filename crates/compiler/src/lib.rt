@@ -11,13 +11,12 @@ ghost use Rattle.compiler.specs.Whole.{Made};
 
 pub mod nodes; // nodes as parts of the tree
 pub mod walk; // delay cells and walk cells
-mod ors; // ors and memories
+pub mod ors; // ors and memories
 pub mod whole; // the whole netlist
 
 use crate::whole::Netlist;
 use model::Checked;
 use model::Options;
-use model::Refusal;
 use model::Written;
 use model::sizes::BLOCK;
 use model::sizes::BLOCK_CELLS;
@@ -93,14 +92,5 @@ pub fn compile(options: Options, program: &[u8], netlist: &mut [u8]) -> Written
         options.pulse,
     );
     let n = made.count as usize;
-    let finish = made.finish;
-    let count = BLOCK * ((n + BLOCK_LAST) / BLOCK_CELLS);
-    if netlist.len() < count {
-        return Written::Refused(Refusal {
-            number: 14,
-            place: 0,
-        });
-    }
-    netlist::blocks::put_file(netlist, &cells, n, options.pulse as u16, finish);
-    Written::Done { count, finish }
+    netlist::write_file(netlist, &cells, n, options.pulse as u16, made.finish)
 }

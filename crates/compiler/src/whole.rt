@@ -4,14 +4,14 @@
 // netlist: it begins at cell 203, since a program of 200 nodes has at most 200 delay cells; and it stays below cell 627, the most that a netlist
 // has, since no walk has more than 400.
 ghost use mathlib.Core.Path.{_≡_};
-ghost use mathlib.Core.List.{List};
-ghost use Prim.Native.Nat.{_≤_};
+ghost use mathlib.Core.List.{List, []};
+ghost use Prim.Native.Nat.{ℕ, _≤_};
 ghost use lib.ListN.{length};
-ghost use Rattle.model.specs.Program.{stmtAt, programOf};
+ghost use Rattle.model.specs.Program.{Program, stmtAt, programOf};
 ghost use Rattle.model.specs.Numbering.{Source, idleStart, callsOf, memoryAt};
 ghost use Rattle.program.specs.Ends.{Laid};
 ghost use Rattle.compiler.specs.Walk.{finishIn};
-ghost use Rattle.compiler.specs.Whole.{Given, callersOf, Told, RootReady, RootDone, RootsReady, RootsDone, Clocked, Walked, Made};
+ghost use Rattle.compiler.specs.Whole.{Given, callersOf, Told, RootReady, RootDone, RootsReady, RootsDone, Put, FirstPut, LastPut, Clocked, Walked, Closing, Closable, Made};
 use crate::ors::Joint;
 use crate::walk::Known;
 use crate::walk::Place;
@@ -145,6 +145,84 @@ fn put_roots(
     at
 }
 
+// The clock ors, by the marks of a first walk that has come to a place.
+pub fn join_clocks(cells: &mut [u8], marks: &[u16; 800], end: Place) -> Clocks
+    requires { ⌜ FirstPut (now cells) (now marks) end ⌝ }
+    ensures { λ r. ⌜ ((S : Program) (before ms : List ℕ) → Put S [] 179 before (now (cells .entry)) ms (now (marks .entry)) end → Clocked S (now (marks .entry)) (now (cells .exit)) r) ⌝ }
+{
+    let count = end.mark / 4;
+    let joint = Joint {
+        kind: 35,
+        none: 1,
+        mark: 1,
+        first: 0,
+    };
+    let joined = crate::ors::put_ors(cells, marks, count, joint, end.delay);
+    let wires = joined.wires;
+    Clocks {
+        wires,
+        memory: joined.next,
+        count,
+    }
+}
+
+// The data ors and the address ors, by the marks of a second walk that has come to a place.
+pub fn join_words(cells: &mut [u8], marks: &[u16; 800], end: Place) -> Finished
+    requires { ⌜ LastPut (now cells) (now marks) end ⌝ }
+    ensures { λ r. ⌜ ((S : Program) (before ms : List ℕ) → Put S (callsOf S) (memoryAt S) before (now (cells .entry)) ms (now (marks .entry)) end → Walked S before (now (cells .exit)) r) ⌝ }
+{
+    let of_data = Joint {
+        kind: 7,
+        none: 2,
+        mark: 2,
+        first: 0,
+    };
+    let joined = crate::ors::put_ors(cells, marks, end.mark / 4, of_data, end.cell);
+    let wires = joined.wires;
+    let of_address = Joint {
+        kind: 7,
+        none: 2,
+        mark: 3,
+        first: 16,
+    };
+    let addressed = crate::ors::put_ors(cells, marks, end.mark / 4, of_address, joined.next);
+    let addresses = addressed.wires;
+    Finished {
+        wires,
+        addresses,
+        count: addressed.next,
+        finish: end.wire,
+        ors: end.cell,
+    }
+}
+
+// The memories, the arrays and the first three cells.
+pub fn close(cells: &mut [u8], clocks: Clocks, walked: Finished) -> Netlist
+    requires { ⌜ Closable (now cells) clocks walked ⌝ }
+    ensures { λ r. ⌜ ((S : Program) → Closing S (now (cells .entry)) clocks walked → Made S (now (cells .exit)) r) ⌝ }
+{
+    let memory = clocks.memory;
+    let clock_wires = clocks.wires;
+    let data_wires = walked.wires;
+    let address_wires = walked.addresses;
+    crate::ors::put_memories(cells, &clock_wires, &data_wires, memory);
+    crate::ors::put_arrays(
+        cells,
+        &clock_wires,
+        &data_wires,
+        &address_wires,
+        memory + 16,
+    );
+    crate::walk::put(cells, 0, 32, 0, 0, 0);
+    crate::walk::put(cells, 1, 33, 0, 0, 0);
+    crate::walk::put(cells, 2, 1, 0, 0, 0);
+    Netlist {
+        count: walked.count,
+        finish: walked.finish,
+        ors: walked.ors,
+    }
+}
+
 // The first walk, with no callers, and the clock ors by its marks, which are left for the second. Behind memory 179 it begins at cell 203.
 fn put_clocks(
     cells: &mut [u8],
@@ -169,20 +247,7 @@ fn put_clocks(
         179,
         pulse,
     );
-    let count = first.mark / 4;
-    let joint = Joint {
-        kind: 35,
-        none: 1,
-        mark: 1,
-        first: 0,
-    };
-    let joined = crate::ors::put_ors(cells, callers, count, joint, first.delay);
-    let wires = joined.wires;
-    Clocks {
-        wires,
-        memory: joined.next,
-        count,
-    }
+    join_clocks(cells, callers, first)
 }
 
 // The second walk, with the callers that the first told: the delay cells and the walks; then the data ors and the address ors by its marks.
@@ -211,29 +276,7 @@ fn put_walk(
         memory,
         pulse,
     );
-    let of_data = Joint {
-        kind: 7,
-        none: 2,
-        mark: 2,
-        first: 0,
-    };
-    let joined = crate::ors::put_ors(cells, &marks, end.mark / 4, of_data, end.cell);
-    let wires = joined.wires;
-    let of_address = Joint {
-        kind: 7,
-        none: 2,
-        mark: 3,
-        first: 16,
-    };
-    let addressed = crate::ors::put_ors(cells, &marks, end.mark / 4, of_address, joined.next);
-    let addresses = addressed.wires;
-    Finished {
-        wires,
-        addresses,
-        count: addressed.next,
-        finish: end.wire,
-        ors: end.cell,
-    }
+    join_words(cells, &marks, end)
 }
 
 // The netlist of an accepted program.
@@ -249,7 +292,6 @@ pub fn put_netlist(
 {
     let mut callers = [0u16; 800];
     let clocks = put_clocks(cells, &mut callers, program, ends, procedures, pulse);
-    let memory = clocks.memory;
     let walked = put_walk(
         cells,
         &callers,
@@ -257,26 +299,8 @@ pub fn put_netlist(
         program,
         ends,
         procedures,
-        memory,
+        clocks.memory,
         pulse,
     );
-    let clock_wires = clocks.wires;
-    let data_wires = walked.wires;
-    let address_wires = walked.addresses;
-    crate::ors::put_memories(cells, &clock_wires, &data_wires, memory);
-    crate::ors::put_arrays(
-        cells,
-        &clock_wires,
-        &data_wires,
-        &address_wires,
-        memory + 16,
-    );
-    crate::walk::put(cells, 0, 32, 0, 0, 0);
-    crate::walk::put(cells, 1, 33, 0, 0, 0);
-    crate::walk::put(cells, 2, 1, 0, 0, 0);
-    Netlist {
-        count: walked.count,
-        finish: walked.finish,
-        ors: walked.ors,
-    }
+    close(cells, clocks, walked)
 }

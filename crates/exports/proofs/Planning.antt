@@ -15,7 +15,7 @@ use Rattle.model.specs.declared.Checked.the-variants.{Accepted}
 use Rattle.model.specs.declared.Written.{Written}
 use Rattle.model.specs.declared.Written.the-variants.{Done}
 use Rattle.model.specs.NetlistFile.{cellsAt, inFile, countOf, finishOf, cellsOf, fileCheck}
-use Rattle.model.specs.CellSlices.{renumbered, moved, placing, readCellsCall}
+use Rattle.model.specs.CellSlices.{renumbered, rewired, moved, placing, readCellsCall}
 use Rattle.reply.specs.declared.Reply.{Reply}
 use Rattle.reply.specs.Replies.{writtenReply, replied}
 use Rattle.reply.proofs.Rooms.{room as has-room, left, put-in, no-room, untouched}
@@ -38,7 +38,7 @@ later-wraps : (k j : ℕ) → renumbered (k % 65536) j ≡ renumbered k j
 later-wraps k j = omega arith
 
 moved-wraps : (k : ℕ) (cs : List Cell) → map (moved (k % 65536)) cs ≡ map (moved k) cs
-unfolding moved
+unfolding rewired
 moved-wraps k [] = refl
 moved-wraps k (c ∷ cs) = rw (later-wraps k (c .a), later-wraps k (c .b), moved-wraps k cs) refl
 

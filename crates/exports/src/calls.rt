@@ -6,6 +6,7 @@ ghost use Rattle.model.specs.TimeTables.{givenIf, beside, load};
 ghost use Rattle.model.specs.Calls.{checkCall, compileCall, writeCall, readCall, beginCall, continueCall, startCall, runNetlistCall, runProgramCall, referenceCall};
 ghost use Rattle.model.specs.Gates.{slowRunCall};
 ghost use Rattle.model.specs.TextCalls.{readTextCall, compileTextCall, runTextCall};
+ghost use Rattle.model.specs.PartCalls.{partsIn, joinCall};
 ghost use Rattle.model.specs.declared.Format.the-variants.{Full, Compact};
 ghost use Rattle.reply.specs.Replies.{checkedReply, writtenReply, answerReply, replied, roomFor, ifRoom};
 use crate::runs;
@@ -51,6 +52,31 @@ pub extern "C" fn hub_compile(
     }
     let options = hub::load_if(timed, table, procedures, pulse);
     let answer = hub::compile(options, program, file);
+    reply::put(reply, reply::of_written(answer));
+    true
+}
+
+// Parts stand one after another in the lent bytes, each a program and its netlist file; the lengths are those of these, in that order, and each part has
+// its pulse length.
+#[no_mangle]
+pub extern "C" fn hub_join(
+    timed: bool,
+    table: &[u8],
+    lengths: &[u32],
+    pulses: &[u8],
+    parts: &[u8],
+    file: &mut [u8],
+    reply: &mut [u8],
+) -> bool
+    ensures done { λ r. ⌜ r ≡ roomFor (now (reply .entry)) ⌝ }
+    ensures file { λ _. ⌜ now (file .exit) ≡ ifRoom (now (reply .entry)) (joinCall (load (beside (givenIf timed (now (table .entry))) 0 1)) (partsIn (now (lengths .entry)) (now (pulses .entry)) (now (parts .entry))) (now (file .entry)) .lent) (now (file .entry)) ⌝ }
+    ensures reply { λ _. ⌜ now (reply .exit) ≡ ifRoom (now (reply .entry)) (replied (writtenReply (joinCall (load (beside (givenIf timed (now (table .entry))) 0 1)) (partsIn (now (lengths .entry)) (now (pulses .entry)) (now (parts .entry))) (now (file .entry)) .answer)) (now (reply .entry))) (now (reply .entry)) ⌝ }
+{
+    if reply.len() < reply::LENGTH {
+        return false;
+    }
+    let options = hub::load_if(timed, table, 0, 1);
+    let answer = hub::join(options, lengths, pulses, parts, file);
     reply::put(reply, reply::of_written(answer));
     true
 }

@@ -108,7 +108,7 @@ fn place_cells(cells: &mut [Cell], from: usize, end: usize, k: u16, file: &[u8])
     renumber(cells, from, end, k)
 }
 
-// Reads a netlist file behind the first `at` cells, as joining netlists does: refusals 9 to 12, 14.
+// Reads a netlist file behind the first `at` cells: refusals 9 to 12, 14.
 #[no_mangle]
 pub extern "C" fn hub_read_cells(
     file: &[u8],

@@ -3,39 +3,20 @@
 ghost use mathlib.Core.Path.{_≡_};
 ghost use Prim.Native.Nat.{_*_, _≤_};
 ghost use lib.ListN.{length};
-ghost use Rattle.model.specs.Word.{pick};
-ghost use Rattle.model.specs.CellSlices.{renumbered, moved, movedBytes, hasCells, renumberCall};
+ghost use Rattle.model.specs.CellSlices.{moved, movedBytes, hasCells, renumberCall};
 ghost use Rattle.model.specs.NetlistFile.{cellLimit};
 use model::Cell;
 use model::sizes::CELL;
 use model::sizes::MOST_CELLS;
 use netlist::cells::Layout;
 
-// An input, k places later where it names a cell.
-fn renumbered(names: bool, j: u16, k: u16) -> u16
-    ensures { λ r. ⌜ r ≡ pick names (renumbered k j) j ⌝ }
-{
-    if names {
-        return std::num::wrapping_add_u16(j, k);
-    }
-    j
-}
-
 // The cell with its inputs k places later.
 pub fn moved(c: Cell, k: u16) -> Cell
     ensures { λ r. ⌜ r ≡ moved k c ⌝ }
 {
-    let row = netlist::kinds::cell_row(c.kind);
-    let use_a = row.a;
-    let use_b = row.b;
-    let a = renumbered(netlist::kinds::names(use_a), c.a, k);
-    let b = renumbered(netlist::kinds::names(use_b), c.b, k);
-    Cell {
-        kind: c.kind,
-        delay: c.delay,
-        a,
-        b,
-    }
+    let a = std::num::wrapping_add_u16(c.a, k);
+    let b = std::num::wrapping_add_u16(c.b, k);
+    netlist::moves::rewired(c, a, b)
 }
 
 // The cells from number `from` up to `end` moved k places on.

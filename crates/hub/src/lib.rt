@@ -7,6 +7,7 @@ ghost use Rattle.model.specs.Calls.{checkCall, compileCall, writeCall, readCall
 ghost use Rattle.model.specs.FunctionalCalls.{checkFunctionalCall, compileFunctionalCall, referenceFunctionalCall, beginFunctionalCall, continueFunctionalCall, startFunctionalCall, runFunctionalCall, runFunctionalProgramCall};
 ghost use Rattle.model.specs.Gates.{slowRunCall};
 ghost use Rattle.model.specs.TextCalls.{readTextCall, compileTextCall, runTextCall};
+ghost use Rattle.model.specs.PartCalls.{partsIn, joinCall};
 
 mod full; // the full run of a program
 mod full_functional; // the full run of a program's functional circuit
@@ -45,6 +46,20 @@ pub fn compile(options: Options, program: &[u8], file: &mut [u8]) -> Written
     ensures lent { λ _. ⌜ now (file .exit) ≡ compileCall options (now (program .entry)) (now (file .entry)) .lent ⌝ }
 {
     compiler::compile(options, program, file)
+}
+
+// The netlist file of a sequence of programs, joined from these programs and their netlist files, into a lent buffer. Of the options the table serves.
+pub fn join(
+    options: Options,
+    lengths: &[u32],
+    pulses: &[u8],
+    parts: &[u8],
+    file: &mut [u8],
+) -> Written
+    ensures answer { λ r. ⌜ r ≡ joinCall options (partsIn (now (lengths .entry)) (now (pulses .entry)) (now (parts .entry))) (now (file .entry)) .answer ⌝ }
+    ensures lent { λ _. ⌜ now (file .exit) ≡ joinCall options (partsIn (now (lengths .entry)) (now (pulses .entry)) (now (parts .entry))) (now (file .entry)) .lent ⌝ }
+{
+    joiner::join(options, lengths, pulses, parts, file)
 }
 
 pub fn write_netlist(pulse: u8, cells: &[u8], finish: u16, file: &mut [u8]) -> Written

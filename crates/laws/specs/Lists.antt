@@ -1,2 +1,3 @@
 -- Laws of lists.
 pub mod Writes
+pub mod Same

@@ -11,4 +11,6 @@ pub mod Inlined
 pub mod Accepted
 pub mod Admitted
 pub mod Size
+pub mod Sequence
+pub mod Joining
 pub mod NodeBytes

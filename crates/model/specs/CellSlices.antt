@@ -24,11 +24,15 @@ use Rattle.model.specs.Calls.{Returned, short, writing}
 abbrev pub renumbered : ℕ → ℕ → ℕ
 renumbered k j = (j + k) % 65536
 
--- a cell whose inputs stand k places later
-unfoldable pub moved : ℕ → Cell → Cell
-moved k c =
+-- a cell whose inputs, where they name a cell, have new numbers
+unfoldable pub rewired : (ℕ → ℕ) → Cell → Cell
+rewired f c =
     let row = cellRow (c .kind) in
-    cell (c .kind) (c .delay) (pick (names (row .a)) (renumbered k (c .a)) (c .a)) (pick (names (row .b)) (renumbered k (c .b)) (c .b))
+    cell (c .kind) (c .delay) (pick (names (row .a)) (f (c .a)) (c .a)) (pick (names (row .b)) (f (c .b)) (c .b))
+
+-- a cell whose inputs stand k places later
+abbrev pub moved : ℕ → Cell → Cell
+moved k = rewired (renumbered k)
 
 -- the cells of a netlist as they stand behind k others
 abbrev pub behind : ℕ → List Cell → List Cell
@@ -79,7 +83,7 @@ unfoldable pub placing : Checked → ℕ → List Cell → ℕ → ℕ → List 
 placing Accepted k cs n f lent = record { answer = Done n f; lent = take k lent ++ (cs ++ drop (k + length cs) lent) }
 placing (Checked.Refused r) k cs n f lent = record { answer = Written.Refused r; lent = lent }
 
--- reading a netlist behind k cells that stand already, as joining netlists does: 9 to 12, 14. The finish is the file's own.
+-- reading a netlist behind k cells that stand already: 9 to 12, 14. The finish is the file's own.
 abbrev pub readCellsChecks : List ℕ → ℕ → List Cell → List Checked
 readCellsChecks file k lent = fileCheck file ∷ short (length lent) (k + countOf file) ∷ []
 

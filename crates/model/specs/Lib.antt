@@ -18,6 +18,7 @@ pub mod Calls
 pub mod FunctionalCalls
 pub mod Gates
 pub mod TextCalls
+pub mod PartCalls
 pub mod CellSlices
 pub mod Hubrun
 pub mod Hubtext
@@ -32,5 +33,6 @@ pub mod ProgramPromises
 pub mod GatePromises
 pub mod CellPromises
 pub mod TextPromises
+pub mod PartPromises
 pub mod Netlists
 pub mod Cases

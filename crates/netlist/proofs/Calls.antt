@@ -8,6 +8,7 @@ use borrow.Author.Tests.{lt-ltb, le-ltb}
 use lib.Dec.{ltb}
 use lib.ListN.{length}
 use lib.Seq.{sets}
+use Rattle.model.specs.declared.Cell.{Cell}
 use Rattle.model.specs.declared.Refusal.{Refusal}
 use Rattle.model.specs.declared.Checked.{Checked}
 use Rattle.model.specs.declared.Checked.the-variants.{Accepted}
@@ -16,9 +17,11 @@ use Rattle.model.specs.declared.Written.the-variants.{Done}
 use Rattle.model.specs.Refusals.{refuseIf, first}
 use Rattle.model.specs.NetlistFile.{pulseWrong, cellBytes, cellsAt, inList, inFile, fileOf, blocksFor, countOf, finishOf, cellsOf, countWrong, netCheck, fileCheck}
 use Rattle.model.specs.Calls.{Returned, short, writing, cellsIn, writeCall, readCall}
+use Rattle.laws.specs.Refusals.Laws.{first-one}
 use Rattle.laws.specs.NetlistFile.CellBytes.{bytes-length}
 use Rattle.netlist.specs.declared.cells.Layout.the-variants.{InList}
 use Rattle.netlist.specs.Offsets.{Room}
+use Rattle.netlist.specs.Blocks.{writtenFile}
 use Rattle.word.proofs.Puts.{overwrite-sets}
 use Rattle.netlist.proofs.Bytes.{cells-length}
 use Rattle.laws.specs.NetlistFile.Files.{file-length}
@@ -51,6 +54,23 @@ module _ (file lent : List ℕ) where
         let l : length bytes ≡ 6 * n = bytes-length (cellsAt inFile file 0 n) ∙ ap (λ (x : ℕ). 6 * x) (cells-length inFile file 0 n) in
         rw (e, ← count, ← finish, le-ltb _ _ h) (refl, q ∙ sym (overwrite-sets bytes lent (omega arith)))
 
+-- Files --------------------------------------------------------------------------------------------------------------------------------
+
+module _ (w : ℕ) (s : List ℕ) (n f : ℕ) (lent : List ℕ) where
+  abbrev cs : List Cell
+  cs = cellsAt inList s 0 n
+
+  put-size : length (fileOf w cs f) ≡ 512 * blocksFor n
+  put-size = file-length w cs f ∙ ap (λ (x : ℕ). 512 * blocksFor x) (cells-length inList s 0 n)
+
+  pub file-short : length lent < 512 * blocksFor n → Tells (refused 14) lent (writtenFile w cs f lent)
+  unfolding writing
+  file-short h = rw (put-size, lt-ltb _ _ h) (refl, refl)
+
+  pub file-done : {d : List ℕ} → 512 * blocksFor n ≤ length lent → d ≡ sets lent 0 (fileOf w cs f) → Tells (Done (512 * blocksFor n) f) d (writtenFile w cs f lent)
+  unfolding writing
+  file-done h q = rw (put-size, le-ltb _ _ h) (refl, q ∙ sym (overwrite-sets (fileOf w cs f) lent (omega (arith, put-size))))
+
 -- Writing ------------------------------------------------------------------------------------------------------------------------------
 
 module _ (w : ℕ) (cells : List ℕ) (f : ℕ) (lent : List ℕ) where
@@ -60,16 +80,13 @@ module _ (w : ℕ) (cells : List ℕ) (f : ℕ) (lent : List ℕ) where
   abbrev countTest : Bool
   countTest = ltb 0 (length cells % 6) || countWrong (blocksFor n) n f
 
-  abbrev size : ℕ
-  size = 512 * blocksFor n
-
-  file-size : length (fileOf w (cellsIn cells) f) ≡ size
-  file-size = file-length w (cellsIn cells) f ∙ ap (λ (x : ℕ). 512 * blocksFor x) (cells-length inList cells 0 n)
+  abbrev file : List ℕ
+  file = fileOf w (cellsIn cells) f
 
   write-as : writeCall w cells f lent
-      ≡ writing (first (refuseIf (pulseWrong w) 27 0 ∷ refuseIf countTest 11 0 ∷ netCheck (cellsIn cells) f ∷ short (length lent) size ∷ [])) (fileOf w (cellsIn cells) f) size f lent
+      ≡ writing (first (refuseIf (pulseWrong w) 27 0 ∷ refuseIf countTest 11 0 ∷ netCheck (cellsIn cells) f ∷ short (length lent) (length file) ∷ [])) file (length file) f lent
   unfolding writeCall
-  write-as = rw (file-size, cells-length inList cells 0 n) refl
+  write-as = rw (cells-length inList cells 0 n) refl
 
   pub pulse-refused : pulseWrong w ≡ true → Tells (refused 27) lent (writeCall w cells f lent)
   unfolding writing
@@ -87,13 +104,6 @@ module _ (w : ℕ) (cells : List ℕ) (f : ℕ) (lent : List ℕ) where
     unfolding writing
     cells-refused g = rw (write-as, p, e, g) (refl, refl)
 
-    module _ (g : netCheck (cellsIn cells) f ≡ Accepted) where
-      pub write-short : length lent < size → Tells (refused 14) lent (writeCall w cells f lent)
-      unfolding writing
-      write-short h = rw (write-as, p, e, g, lt-ltb _ _ h) (refl, refl)
-
-      pub write-done : {d : List ℕ} → size ≤ length lent → d ≡ sets lent 0 (fileOf w (cellsIn cells) f)
-          → Tells (Done size f) d (writeCall w cells f lent)
-      unfolding writing
-      write-done h q =
-          rw (write-as, p, e, g, le-ltb _ _ h) (refl, q ∙ sym (overwrite-sets (fileOf w (cellsIn cells) f) lent (omega (arith, file-size))))
+    -- what is accepted is written
+    pub write-file : netCheck (cellsIn cells) f ≡ Accepted → writeCall w cells f lent ≡ writtenFile w (cellsIn cells) f lent
+    write-file g = write-as ∙ rw (p, e, g, ← first-one (short (length lent) (length file))) refl

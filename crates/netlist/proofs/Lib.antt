@@ -7,4 +7,5 @@ pub mod FileChecks
 pub mod Putting
 pub mod Calls
 pub mod Headers
+pub mod Comparing
 pub mod Following

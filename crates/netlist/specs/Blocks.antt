@@ -1,12 +1,20 @@
--- A block's header as a struct, and a file with the first cells put in. Assumes nothing: definitions.
+-- A file written into a lent list, a block's header as a struct, and a file with the first cells put in. Assumes nothing: definitions.
 use mathlib.Core.List.{List}
 use mathlib.Core.Path.{_≡_}
 use Prim.Native.Nat.{ℕ, _+_, _*_, _/_, _%_, _<_, _≤_}
 use lib.ListN.{length, take, drop}
 use lib.Seq.{sets}
 use Rattle.model.specs.declared.Cell.{Cell}
-use Rattle.model.specs.NetlistFile.{cellBytes, headBytes, runningSum, blocks, blocksFor}
+use Rattle.model.specs.declared.Written.{Written}
+use Rattle.model.specs.NetlistFile.{cellBytes, headBytes, runningSum, blocks, blocksFor, fileOf}
+use Rattle.model.specs.Calls.{Returned, short, writing}
 use Rattle.netlist.specs.declared.blocks.BlockHeader.{BlockHeader}
+
+-- the file of cells, written into a lent list: 14
+abbrev pub writtenFile : ℕ → List Cell → ℕ → List ℕ → Returned Written
+writtenFile w cs finish lent =
+    let file = fileOf w cs finish in
+    writing (short (length lent) (length file)) file (length file) finish lent
 
 abbrev pub headerBytes : BlockHeader → List ℕ
 headerBytes h = headBytes (h .number) (h .count) (h .finish)

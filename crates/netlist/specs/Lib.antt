@@ -4,3 +4,4 @@ pub mod Inputs
 pub mod Scans
 pub mod Blocks
 pub mod Headers
+pub mod Compared

@@ -1,15 +1,20 @@
 // Netlist files: checked, written from cells of six bytes each, read back to them.
-// The three calls have no requires, and their contracts are equations with model/NetlistFile and model/Calls.
+// The calls that check, write and read have no requires, and their contracts are equations with model/NetlistFile and model/Calls.
 ghost use mathlib.Core.Path.{_≡_};
 ghost use Rattle.model.specs.declared.Checked.the-variants.{Accepted};
-ghost use Rattle.model.specs.NetlistFile.{fileCheck, cellsOf, lastCheck};
+ghost use Prim.Native.Nat.{_≤_};
+ghost use Rattle.model.specs.NetlistFile.{fileCheck, cellsAt, inList, cellsOf, lastCheck};
 ghost use Rattle.model.specs.Calls.{writeCall, readCall};
+ghost use Rattle.netlist.specs.Offsets.{Room};
+ghost use Rattle.netlist.specs.Blocks.{writtenFile};
 
 pub mod cells; // cells in bytes
 pub mod kinds; // the table of cell kinds
 pub mod rules; // refusal 12
 pub mod blocks; // refusals 10 and 11, and putting blocks in
 pub mod header; // what a file that is accepted tells beside its cells
+pub mod moves; // inputs that name cells, with new numbers
+pub mod same; // whether a file is that of a list of cells
 
 use cells::Layout;
 use model::Checked;
@@ -67,6 +72,23 @@ pub fn check_last(file: &[u8]) -> Checked
     rules::check_last(file, Layout::InFile, n)
 }
 
+// Writes n cells of a list, with their pulse length and finish, as a file: refusal 14.
+pub fn write_file(file: &mut [u8], cells: &[u8], n: usize, pulse: u16, finish: u16) -> Written
+    requires { ⌜ Room Layout.InList (now cells) n × (pulse ≤ 256) ⌝ }
+    ensures answer { λ r. ⌜ r ≡ writtenFile pulse (cellsAt inList (now (cells .entry)) 0 n) finish (now (file .entry)) .answer ⌝ }
+    ensures lent { λ _. ⌜ now (file .exit) ≡ writtenFile pulse (cellsAt inList (now (cells .entry)) 0 n) finish (now (file .entry)) .lent ⌝ }
+{
+    let count = BLOCK * ((n + BLOCK_LAST) / BLOCK_CELLS);
+    if file.len() < count {
+        return Written::Refused(Refusal {
+            number: 14,
+            place: 0,
+        });
+    }
+    blocks::put_file(file, cells, n, pulse, finish);
+    Written::Done { count, finish }
+}
+
 // Writes a netlist of this pulse length, of six bytes for each cell, as a file: refusals 27, 11, 12, 14.
 pub fn write_netlist(pulse: u8, cells: &[u8], finish: u16, file: &mut [u8]) -> Written
     ensures answer { λ r. ⌜ r ≡ writeCall pulse (now (cells .entry)) finish (now (file .entry)) .answer ⌝ }
@@ -92,15 +114,7 @@ pub fn write_netlist(pulse: u8, cells: &[u8], finish: u16, file: &mut [u8]) -> W
     if let Checked::Refused(r) = checked {
         return Written::Refused(r);
     }
-    let count = BLOCK * m;
-    if file.len() < count {
-        return Written::Refused(Refusal {
-            number: 14,
-            place: 0,
-        });
-    }
-    blocks::put_file(file, cells, n, length, finish);
-    Written::Done { count, finish }
+    write_file(file, cells, n, length, finish)
 }
 
 // Reads a netlist file into cells of six bytes each: refusals 9 to 12, 14.

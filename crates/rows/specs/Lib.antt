@@ -11,4 +11,5 @@ pub mod PulseRows
 pub mod PulsedPrograms
 pub mod FunctionalRows
 pub mod GateRows
+pub mod PartRows
 pub mod Texts

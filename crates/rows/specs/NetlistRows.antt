@@ -17,7 +17,7 @@ use Rattle.model.specs.Circuit.{cell, shape, control, names, memories, pastMemo
 use Rattle.model.specs.NetlistFile.{runningSum, sumAfter, sumWith, cellBytes, cellFrom, cellsAt, wordSum, restBytes, blockWith, block, blocks, fileOf, cellsOf, fileLengthWrong, sumFault, countWrong, pulseWrong, allZero, headerRight, headerFault, controlIn, wordIn, ofArray, arrayIn, kept, keeps, stands, placed, arrayPlaced, cellFault, netCheck, fileCheck}
 use Rattle.model.specs.TimeTables.{defaults}
 use Rattle.model.specs.Calls.{Returned, writing, compileCall, readCall, writeCall}
-use Rattle.model.specs.CellSlices.{moved, behind, renumberCall}
+use Rattle.model.specs.CellSlices.{rewired, behind, renumberCall}
 use Rattle.model.specs.Netlists.{numbering, front, idle, array, idleArrays, arrays}
 use Rattle.model.specs.Cases.{raw, repeated, checkOfProgram}
 
@@ -297,7 +297,7 @@ moves =
     ∷ []
 
 moves-right : behind 100 (map (λ r. r .0) moves) ≡ map (λ r. r .1) moves
-unfolding moves moved names shape
+unfolding moves rewired names shape
 moves-right = refl
 
 -- of four delays of six bytes each, those from 1 up to 3 moved; a list that is too short stays
@@ -305,5 +305,5 @@ renumber-right :
     (renumberCall 100 1 3 (cellBytes (cell 34 1 0 0 ∷ cell 34 1 1 0 ∷ cell 34 1 2 0 ∷ cell 34 1 3 0 ∷ []))
     ≡ cellBytes (cell 34 1 0 0 ∷ cell 34 1 101 0 ∷ cell 34 1 102 0 ∷ cell 34 1 3 0 ∷ []))
     × (renumberCall 100 0 2 (cellBytes (cell 34 1 0 0 ∷ [])) ≡ cellBytes (cell 34 1 0 0 ∷ []))
-unfolding checkOfFile moved names
+unfolding checkOfFile rewired names
 renumber-right = (refl, refl)

@@ -13,4 +13,5 @@ pub mod Reference
 pub mod Slowly
 pub mod Gates
 pub mod Tables
+pub mod Parts
 pub mod Cases

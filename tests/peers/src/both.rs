@@ -35,6 +35,7 @@ pub const BOTH: Peer = both! {
     {
         check(given, program);
         compile(given, program, file);
+        join(table, parts, file);
         read_text(given, text, program);
         compile_text(given, text, file);
         write_netlist(pulse, cells, finish, file);

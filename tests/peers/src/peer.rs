@@ -5,7 +5,7 @@
 //! gives back what it holds afterwards, so two peers are compared by comparing
 //! replies.
 
-use values::{Answer, Cell, Circuit, End, Format, Given, Refusal, Shape, Table};
+use values::{Answer, Cell, Circuit, End, Format, Given, Part, Refusal, Shape, Table};
 
 /// What a call answered, and its lent buffers afterwards, in argument order.
 #[derive(Clone, Debug, PartialEq, Eq)]
@@ -65,6 +65,8 @@ pub struct Peer {
     pub check: fn(Given, Bytes) -> Reply<()>,
     /// given, program; lent: netlist file
     pub compile: fn(Given, Bytes, Bytes) -> Reply<Shape>,
+    /// table, parts; lent: netlist file
+    pub join: fn(Table, &[Part], Bytes) -> Reply<Shape>,
     /// given, text; lent: program; tells the program's bytes
     pub read_text: fn(Given, Bytes, Bytes) -> Reply<usize>,
     /// given, text; lent: netlist file
@@ -176,6 +178,9 @@ macro_rules! implementation {
             check: |given, program| Reply::lending_none(calls::check(given, program)),
             compile: |given, program, file| {
                 Reply::lending(file, |file| calls::compile(given, program, file))
+            },
+            join: |table, parts, file| {
+                Reply::lending(file, |file| calls::join(table, parts, file))
             },
             read_text: |given, text, program| {
                 Reply::lending(program, |program| calls::read_text(given, text, program))

@@ -22,6 +22,8 @@ struct Memory {
     program: Vec<u8>,
     table: Vec<u8>,
     words: Vec<u8>,
+    lengths: Vec<u32>,
+    parts: Vec<u8>,
     bytes: Vec<u8>,
     cells: Vec<Cell>,
     finish: u16,
@@ -79,6 +81,8 @@ impl Memory {
             program: PROGRAM.to_vec(),
             table: BUILT_IN.file().to_vec(),
             words: vec![1; 544],
+            lengths: [PROGRAM.len() as u32, 512].repeat(2),
+            parts: [&PROGRAM[..], &compiled.lent[0]].concat().repeat(2),
             bytes: Cell::all_bytes(&read.lent[0]),
             cells: read.lent[0].clone(),
             finish: shape.finish,
@@ -124,6 +128,8 @@ const ANSWERING: &[(&str, Call)] = calls! { m:
 const WRITING: &[(&str, Call)] = calls! { m:
     hub_compile(None, 0, 1, &m.program, &mut m.lent_file);
     hub_compile(Some(&m.table), 0, 8, &m.program, &mut m.lent_file);
+    hub_join(None, &m.lengths, &[1, 1], &m.parts, &mut m.lent_file);
+    hub_join(Some(&m.table), &m.lengths, &[1, 1], &m.parts, &mut m.lent_file);
     hub_read_text(None, 0, 1, TEXT, &mut m.lent_program);
     hub_read_text(Some(&m.table), 0, 8, TEXT, &mut m.lent_program);
     hub_compile_text(None, 0, 1, TEXT, &mut m.lent_file);

@@ -1,6 +1,6 @@
 //! Random comparison: circuits of both kinds with rules, compact states with full ones, texts
 //! with programs, simulators with equations, netlists as cells with netlists as
-//! bytes, peers with each other, all of it under random tables.
+//! bytes, parts with their sequence, peers with each other, all of it under random tables.
 //! `random [--seed S] [--count C]`
 //!
 //! A disagreement is printed with a minimised program and ends the run with
@@ -10,6 +10,7 @@ mod against_bytes;
 mod against_equations;
 mod against_full;
 mod against_functional;
+mod against_parts;
 mod against_peer;
 mod against_rules;
 mod against_slow;

@@ -8,7 +8,7 @@ use crate::job::{self, Job};
 use crate::list::Seen;
 use crate::tally::Tally;
 use crate::xorshift::Random;
-use crate::{against_equations, against_full, against_functional, against_rules};
+use crate::{against_equations, against_full, against_functional, against_parts, against_rules};
 use crate::{against_slow, against_tables, against_text};
 use crate::{generate, listing, minimise, netlists};
 use peers::{Peer, PROVED, SECOND};
@@ -31,6 +31,8 @@ pub fn run(seed: u64, count: u64) -> Result<Tally, String> {
             Ok((seen, functional, compact)) => tally.add(&job, seen, functional, compact),
             Err(what) => return Err(report(&job, number, &what)),
         }
+        let met = against_parts::compare(&LEFT, &RIGHT, &mut Random::new(job_seed.rotate_left(32)));
+        tally.add_parts(met.map_err(|what| format!("parts {number}: {what}"))?);
         if number % PROGRAMS_FOR_NETLIST == 0 {
             tally.crowded += compare_netlist(&mut Random::new(!job_seed))
                 .map_err(|what| format!("netlist {number}: {what}"))?;
@@ -140,6 +142,7 @@ mod tests {
         assert!(handed_on >= 500, "{tally}");
         let pulses = tally.pulses.into_iter().fold(tally.no_pulses, u64::min);
         assert!(pulses >= 60, "{tally}");
+        assert!(tally.parts.into_iter().min() >= Some(50), "{tally}");
         assert_eq!(tally.netlists, 125);
         assert!(tally.compact >= 100_000 && tally.crowded >= 60, "{tally}");
     }

@@ -28,12 +28,24 @@ pub struct Tally {
     pub functional_starts: Starts,
     /// Calls on compact states of programs, compared with full ones.
     pub compact: u64,
+    /// Lists of parts that were joined, that met 29, 30 and 31, and others.
+    pub parts: [u64; 5],
     pub netlists: u64,
     /// Runs of netlists that refusal 26 ended.
     pub crowded: u64,
 }
 
 impl Tally {
+    /// Counts a list of parts, by the number of its refusal.
+    pub fn add_parts(&mut self, met: Option<u8>) {
+        let place = match met {
+            None => 0,
+            Some(number @ 29..=31) => usize::from(number) - 28,
+            Some(_) => 4,
+        };
+        self.parts[place] += 1;
+    }
+
     /// Counts a program.
     pub fn add(&mut self, job: &Job, seen: Seen, functional: Seen, compact: u64) {
         self.functional[functional.outcome as usize] += 1;
@@ -75,6 +87,7 @@ impl Display for Tally {
             functional: [handed, running, turned_down],
             functional_starts,
             compact,
+            parts: [joined, number, pulses_differ, others, own],
             netlists,
             crowded,
         } = self;
@@ -89,6 +102,8 @@ impl Display for Tally {
         write!(text, "functional: {handed} ended, {running} open, ")?;
         write!(text, "{turned_down} refused, starts: {functional_starts}; ")?;
         write!(text, "{compact} calls on compact states as on full ones; ")?;
+        write!(text, "{joined} lists of parts joined, {number} met 29, ")?;
+        write!(text, "{pulses_differ} 30, {others} 31, {own} others; ")?;
         write!(text, "{netlists} netlists agree, {crowded} runs met 26")
     }
 }

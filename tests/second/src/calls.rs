@@ -11,12 +11,13 @@
 
 use crate::check;
 use crate::netfile;
+use crate::parts;
 use crate::program::Program;
 use crate::rules::Moment;
 use crate::runs::{self, calls_on_runs, put, shape};
 use crate::table::{self, Times};
 use crate::text;
-use values::{Answer, Cell, Circuit, End, Format, Given, Refusal, Shape, Table};
+use values::{Answer, Cell, Circuit, End, Format, Given, Part, Refusal, Shape, Table};
 
 const IMPERATIVE: Circuit = Circuit::Imperative;
 
@@ -28,6 +29,24 @@ pub fn check(given: Given, program: &[u8]) -> Result<(), Refusal> {
 /// Compiles a program to a netlist file: refusals 1 to 8, 22, 24 and 25, 14.
 pub fn compile(given: Given, program: &[u8], file: &mut [u8]) -> Result<Shape, Refusal> {
     runs::compile(IMPERATIVE, &checked(given, program)?, file)
+}
+
+/// Joins parts to the netlist file of their sequence: of each part 27, 19 to 21, 1
+/// to 8, 22, 24 and 25, and 9 to 12, with no part the table's; then 29, 30, 31, 14.
+pub fn join(table: Table, parts: &[Part], file: &mut [u8]) -> Result<Shape, Refusal> {
+    for part in parts {
+        check(parts::given(table, part), part.program)?;
+        netfile::read(part.file)?;
+    }
+    table::times(table)?;
+    parts::check(parts, |part| {
+        let program = checked(parts::given(table, part), part.program);
+        netfile::write(&runs::compiled(
+            IMPERATIVE,
+            &program.expect("it was checked"),
+        ))
+    })?;
+    compile(parts::given(table, &parts[0]), &parts::whole(parts), file)
 }
 
 /// Reads a text to its program's bytes: refusals 17, 18, 1 to 8, 22, 24 and 25,

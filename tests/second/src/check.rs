@@ -14,7 +14,7 @@ use std::collections::BTreeSet;
 use values::Refusal;
 
 const NODE_LENGTH: usize = 4;
-const MOST_NODES: usize = 200;
+pub const MOST_NODES: usize = 200;
 const MOST_PROCEDURES: usize = 8;
 
 /// The program with so many procedures that these bytes are, for pulses of this

@@ -27,6 +27,7 @@ mod long_grammar;
 mod long_words;
 pub mod netfile;
 pub mod operator;
+pub mod parts;
 pub mod program;
 mod reading;
 pub mod rules;

@@ -203,7 +203,7 @@ pub fn last_moment(
     Ok(rules::run(program, circuit, contents, budget))
 }
 
-fn compiled(circuit: Circuit, program: &Program) -> Netlist {
+pub fn compiled(circuit: Circuit, program: &Program) -> Netlist {
     match circuit {
         Circuit::Imperative => compile::compile(program),
         Circuit::Functional => functional::compile(program),

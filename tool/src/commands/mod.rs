@@ -12,6 +12,7 @@ mod draw;
 mod format;
 mod go;
 mod help;
+mod join;
 mod manual;
 mod outline;
 mod read;
@@ -66,6 +67,7 @@ pub const COMMANDS: &[&Command] = &[
     &verilog::COMMAND,
     &slow::COMMAND,
     &compile::COMMAND,
+    &join::COMMAND,
     &read::COMMAND,
     &begin::COMMAND,
     &go::COMMAND,

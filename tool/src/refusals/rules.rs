@@ -9,6 +9,7 @@ pub enum Counts {
     Blocks,
     Cells,
     Bytes,
+    Parts,
 }
 
 impl Counts {
@@ -19,6 +20,7 @@ impl Counts {
             Counts::Blocks => Some("blocks"),
             Counts::Cells => Some("cells"),
             Counts::Bytes => Some("bytes"),
+            Counts::Parts => Some("parts"),
         }
     }
 }
@@ -220,5 +222,23 @@ pub const RULES: &[Rule] = &[
         Counts::Nodes,
         "a functional circuit has no arrays, no loops that exits end, and no calls",
         "take the imperative circuit, without --functional",
+    ),
+    rule_of(
+        29,
+        Counts::Parts,
+        "two to eight parts are joined, of 200 nodes in all, with a sequence between each two",
+        "give two to eight programs",
+    ),
+    rule_of(
+        30,
+        Counts::Parts,
+        "the pulses of this part are not as long as those of the first",
+        "compile all parts with one pulse length",
+    ),
+    rule_of(
+        31,
+        Counts::Parts,
+        "this netlist isn't that of its program",
+        "compile the program again",
     ),
 ];

@@ -152,7 +152,7 @@ fn every_refusal_is_kept() {
         .iter()
         .map(|rule| rule.number)
         .collect();
-    assert_eq!(numbers, (1..=28).collect::<Vec<u8>>());
+    assert_eq!(numbers, (1..=31).collect::<Vec<u8>>());
     for number in numbers {
         let met = format!(": refused {number}: ");
         assert!(

@@ -18,7 +18,7 @@ use Rattle.model.specs.Word.{pick, bytes16, get16, Bytes}
 use Rattle.model.specs.Circuit.{noCell, cellRow, names}
 use Rattle.model.specs.NetlistFile.{cellBytes, cellFrom, cellsAt, cellsOf, inList, inFile, countOf, finishOf, netCheck}
 use Rattle.model.specs.Calls.{writing, writeCall, readCall}
-use Rattle.model.specs.CellSlices.{renumbered, moved, behind, movedFrom, movedBytes, placing, writeCellsCall, readCellsCall}
+use Rattle.model.specs.CellSlices.{renumbered, rewired, moved, behind, movedFrom, movedBytes, placing, writeCellsCall, readCellsCall}
 use Rattle.model.specs.CellPromises.{SameCells}
 use Rattle.laws.specs.Refusals.Laws.{by-le}
 use Rattle.laws.specs.NetlistFile.CellBytes.{bytes-length, bytes-append, from-bytes, cells-are}
@@ -82,7 +82,7 @@ module _ (file : List ℕ) (y : Bytes file) where
   two-bytes i = omega (arith, y i, y (i + 1))
 
   unmoved : (i : ℕ) → moved 0 (cellFrom file i) ≡ cellFrom file i
-  unfolding moved cellFrom
+  unfolding rewired cellFrom
   unmoved i =
       let kind = getD file i 0 in
       rw (still (names (cellRow kind .a)) (get16 file (i + 2)) (two-bytes (i + 2)), still (names (cellRow kind .b)) (get16 file (i + 4)) (two-bytes (i + 4))) refl

@@ -95,6 +95,7 @@ module _ (a : Node) (f : nodeFault a ≡ 0) where
 pub record Grown (a : Node) (ts : List Tree) (ws : List ℕ) : Type 0 where
   pub sorts : sortsOf (grow a ts) ≡ rowOf (a .kind) .sort ∷ ws
   pub nodes : allNodes (grow a ts) ≡ a ∷ allNodes ts
+  pub behind : (vs : List Tree) → grow a (ts ++ vs) ≡ grow a ts ++ vs
   pub known : AllKnown ts → AllKnown (grow a ts)
 
 nodes-append : (ts us : List Tree) → allNodes (ts ++ us) ≡ allNodes ts ++ allNodes us
@@ -105,14 +106,15 @@ known-apart : (ts us : List Tree) → AllKnown (ts ++ us) → AllKnown ts × All
 known-apart [] us k = (tt, k)
 known-apart (t ∷ ts) us k = let q = known-apart ts us (k .1) in ((k .0, q .0), q .1)
 
--- by its tree t, over the children ts
-grown : {a : Node} (t : Tree) (ts us : List Tree) → grow a (ts ++ us) ≡ t ∷ us → sortOf t ≡ rowOf (a .kind) .sort → nodesOf t ≡ a ∷ allNodes ts
-    → (AllKnown ts → KnownT t) → Grown a (ts ++ us) (sortsOf us)
+-- by its tree t, over the children ts, whatever stands behind them
+grown : {a : Node} (t : Tree) (ts us : List Tree) → ((vs : List Tree) → grow a (ts ++ vs) ≡ t ∷ vs) → sortOf t ≡ rowOf (a .kind) .sort
+    → nodesOf t ≡ a ∷ allNodes ts → (AllKnown ts → KnownT t) → Grown a (ts ++ us) (sortsOf us)
 grown {a} t ts us made sort nodes known =
     record {
-      sorts = ap sortsOf made ∙ ap (λ (k : ℕ). k ∷ sortsOf us) sort;
-      nodes = ap allNodes made ∙ ap (λ (l : List Node). l ++ allNodes us) nodes ∙ ap (λ (l : List Node). a ∷ l) (sym (nodes-append ts us));
-      known = λ k. let q = known-apart ts us k in subst AllKnown (sym made) (known (q .0), q .1);
+      sorts = ap sortsOf (made us) ∙ ap (λ (k : ℕ). k ∷ sortsOf us) sort;
+      nodes = ap allNodes (made us) ∙ ap (λ (l : List Node). l ++ allNodes us) nodes ∙ ap (λ (l : List Node). a ∷ l) (sym (nodes-append ts us));
+      behind = λ vs. ap (grow a) (append-assoc ts us vs) ∙ made (us ++ vs) ∙ sym (ap (λ (l : List Tree). l ++ vs) (made us));
+      known = λ k. let q = known-apart ts us k in subst AllKnown (sym (made us)) (known (q .0), q .1);
     }
 
 -- Every kind ---------------------------------------------------------------------------------------------------------------------------
@@ -143,29 +145,29 @@ kinds-grow : Below Grows 28
 unfolding rowOf children grow treeOf exprOf stmtOf asExpr asStmt preorderE preorder
 kinds-grow =
     start then none 0 refl
-    then (λ u d n us. grown (expr (const n)) [] us refl refl refl (λ k. tt))
-    then (λ u d n us. grown (expr (var n)) [] us refl refl refl (λ k. tt))
-    then (λ u d n e us. grown (expr (compl e)) (expr e ∷ []) us refl refl (rw append-nil refl) (λ k. k .0))
-    then (λ u d n e f us. grown (expr (op 4 e f)) (expr e ∷ expr f ∷ []) us refl refl (rw append-nil refl) (λ k. (omega arith, omega arith, k .0, k .1 .0)))
-    then (λ u d n e f us. grown (expr (op 5 e f)) (expr e ∷ expr f ∷ []) us refl refl (rw append-nil refl) (λ k. (omega arith, omega arith, k .0, k .1 .0)))
-    then (λ u d n e f us. grown (expr (op 6 e f)) (expr e ∷ expr f ∷ []) us refl refl (rw append-nil refl) (λ k. (omega arith, omega arith, k .0, k .1 .0)))
-    then (λ u d n e f us. grown (expr (op 7 e f)) (expr e ∷ expr f ∷ []) us refl refl (rw append-nil refl) (λ k. (omega arith, omega arith, k .0, k .1 .0)))
-    then (λ u d n e f us. grown (expr (op 8 e f)) (expr e ∷ expr f ∷ []) us refl refl (rw append-nil refl) (λ k. (omega arith, omega arith, k .0, k .1 .0)))
-    then (λ u d n e f us. grown (expr (op 9 e f)) (expr e ∷ expr f ∷ []) us refl refl (rw append-nil refl) (λ k. (omega arith, omega arith, k .0, k .1 .0)))
-    then (λ u d n e us. grown (expr (elem n e)) (expr e ∷ []) us refl refl (rw append-nil refl) (λ k. k .0))
+    then (λ u d n us. grown (expr (const n)) [] us (λ vs. refl) refl refl (λ k. tt))
+    then (λ u d n us. grown (expr (var n)) [] us (λ vs. refl) refl refl (λ k. tt))
+    then (λ u d n e us. grown (expr (compl e)) (expr e ∷ []) us (λ vs. refl) refl (rw append-nil refl) (λ k. k .0))
+    then (λ u d n e f us. grown (expr (op 4 e f)) (expr e ∷ expr f ∷ []) us (λ vs. refl) refl (rw append-nil refl) (λ k. (omega arith, omega arith, k .0, k .1 .0)))
+    then (λ u d n e f us. grown (expr (op 5 e f)) (expr e ∷ expr f ∷ []) us (λ vs. refl) refl (rw append-nil refl) (λ k. (omega arith, omega arith, k .0, k .1 .0)))
+    then (λ u d n e f us. grown (expr (op 6 e f)) (expr e ∷ expr f ∷ []) us (λ vs. refl) refl (rw append-nil refl) (λ k. (omega arith, omega arith, k .0, k .1 .0)))
+    then (λ u d n e f us. grown (expr (op 7 e f)) (expr e ∷ expr f ∷ []) us (λ vs. refl) refl (rw append-nil refl) (λ k. (omega arith, omega arith, k .0, k .1 .0)))
+    then (λ u d n e f us. grown (expr (op 8 e f)) (expr e ∷ expr f ∷ []) us (λ vs. refl) refl (rw append-nil refl) (λ k. (omega arith, omega arith, k .0, k .1 .0)))
+    then (λ u d n e f us. grown (expr (op 9 e f)) (expr e ∷ expr f ∷ []) us (λ vs. refl) refl (rw append-nil refl) (λ k. (omega arith, omega arith, k .0, k .1 .0)))
+    then (λ u d n e us. grown (expr (elem n e)) (expr e ∷ []) us (λ vs. refl) refl (rw append-nil refl) (λ k. k .0))
     then none 11 refl then none 12 refl then none 13 refl then none 14 refl then none 15 refl
-    then (λ u d n us. grown (stmt ok) [] us refl refl refl (λ k. tt))
-    then (λ u d n us. grown (stmt (tick d)) [] us refl refl refl (λ k. tt))
-    then (λ u d n e us. grown (stmt (assign d n e)) (expr e ∷ []) us refl refl (rw append-nil refl) (λ k. (tt, tt, k .0)))
-    then (λ u d n P Q us. grown (stmt (seq P Q)) (stmt P ∷ stmt Q ∷ []) us refl refl (rw append-nil refl) (λ k. (k .0, k .1 .0)))
-    then (λ u d n P Q us. grown (stmt (par P Q)) (stmt P ∷ stmt Q ∷ []) us refl refl (rw append-nil refl) (λ k. (k .0, k .1 .0, tt)))
-    then (λ u d n e P Q us. grown (stmt (ite d e P Q)) (expr e ∷ stmt P ∷ stmt Q ∷ []) us refl refl (rw append-nil refl) (λ k. (tt, k .0, k .1 .0, k .1 .1 .0)))
-    then (λ u d n e P us. grown (stmt (while d e P)) (expr e ∷ stmt P ∷ []) us refl refl (rw append-nil refl) (λ k. (tt, k .0, k .1 .0)))
-    then (λ u d n e P us. grown (stmt (repeat d e P)) (expr e ∷ stmt P ∷ []) us refl refl (rw append-nil refl) (λ k. (tt, k .0, k .1 .0)))
-    then (λ u d n i e us. grown (stmt (assignElem d n i e)) (expr i ∷ expr e ∷ []) us refl refl (rw append-nil refl) (λ k. (tt, tt, k .0, k .1 .0)))
-    then (λ u d n P us. grown (stmt (loop d P)) (stmt P ∷ []) us refl refl (rw append-nil refl) (λ k. (tt, k .0)))
-    then (λ u d n us. grown (stmt exit) [] us refl refl refl (λ k. tt))
-    then (λ u d n us. grown (stmt (call d n)) [] us refl refl refl (λ k. (tt, tt)))
+    then (λ u d n us. grown (stmt ok) [] us (λ vs. refl) refl refl (λ k. tt))
+    then (λ u d n us. grown (stmt (tick d)) [] us (λ vs. refl) refl refl (λ k. tt))
+    then (λ u d n e us. grown (stmt (assign d n e)) (expr e ∷ []) us (λ vs. refl) refl (rw append-nil refl) (λ k. (tt, tt, k .0)))
+    then (λ u d n P Q us. grown (stmt (seq P Q)) (stmt P ∷ stmt Q ∷ []) us (λ vs. refl) refl (rw append-nil refl) (λ k. (k .0, k .1 .0)))
+    then (λ u d n P Q us. grown (stmt (par P Q)) (stmt P ∷ stmt Q ∷ []) us (λ vs. refl) refl (rw append-nil refl) (λ k. (k .0, k .1 .0, tt)))
+    then (λ u d n e P Q us. grown (stmt (ite d e P Q)) (expr e ∷ stmt P ∷ stmt Q ∷ []) us (λ vs. refl) refl (rw append-nil refl) (λ k. (tt, k .0, k .1 .0, k .1 .1 .0)))
+    then (λ u d n e P us. grown (stmt (while d e P)) (expr e ∷ stmt P ∷ []) us (λ vs. refl) refl (rw append-nil refl) (λ k. (tt, k .0, k .1 .0)))
+    then (λ u d n e P us. grown (stmt (repeat d e P)) (expr e ∷ stmt P ∷ []) us (λ vs. refl) refl (rw append-nil refl) (λ k. (tt, k .0, k .1 .0)))
+    then (λ u d n i e us. grown (stmt (assignElem d n i e)) (expr i ∷ expr e ∷ []) us (λ vs. refl) refl (rw append-nil refl) (λ k. (tt, tt, k .0, k .1 .0)))
+    then (λ u d n P us. grown (stmt (loop d P)) (stmt P ∷ []) us (λ vs. refl) refl (rw append-nil refl) (λ k. (tt, k .0)))
+    then (λ u d n us. grown (stmt exit) [] us (λ vs. refl) refl refl (λ k. tt))
+    then (λ u d n us. grown (stmt (call d n)) [] us (λ vs. refl) refl refl (λ k. (tt, tt)))
 
 past-table : (k : ℕ) → 28 ≤ k → rowOf k .sort ≡ 0
 unfolding rowOf

@@ -3,12 +3,12 @@
 use mathlib.Core.Path.{_≡_, refl, sym, _∙_, ap, ap₂}
 use mathlib.Core.Bool.{false, _||_, or-true}
 use mathlib.Core.List.{List, [], _∷_, _++_, map}
-use Prim.Native.Nat.{ℕ, zero, suc, _+_, _-_, _≤_, _<_}
+use Prim.Native.Nat.{ℕ, zero, suc, _+_, _-_, _*_, _%_, _≤_, _<_}
 use native.Mathlib.Omega.{arith}
 use native.Mathlib.Numerals.{add-one}
 use lib.ListN.{length, length-append, getD, take, drop}
 use lib.Dec.{ltb, eqb}
-use borrow.Author.Tests.{lt-ltb, ltb-false}
+use borrow.Author.Tests.{lt-ltb, ltb-false, eqb-false}
 use Rattle.model.specs.declared.Checked.the-variants.{Accepted}
 use Rattle.model.specs.declared.Options.{Options}
 use Rattle.model.specs.Refusals.{refuse, first}
@@ -31,6 +31,8 @@ use Rattle.laws.specs.Program.Whole.{Whole, whole}
 pub record Readable (k : ℕ) (s : List ℕ) : Type 0 where
   pub few : k ≤ 8
   pub short : length s ≤ 800
+  pub bytes : length s ≡ 4 * nodeCount s
+  pub some : 1 ≤ nodeCount s
   pub faultless : (j : ℕ) → j < nodeCount s → nodeFault (nodeAt s j) ≡ 0
   pub read : reading (rootSorts k) 0 (nodesAt s 0) ≡ Accepted
 
@@ -49,6 +51,16 @@ pub right-length : (s : List ℕ) → programLengthWrong s ≡ false → length 
 unfolding programLengthWrong
 right-length s h = ltb-false 800 (length s) (or-false (ltb 800 (length s)) _ (or-false (eqb (length s) 0) _ h .1) .0)
 
+-- a whole number of nodes, and at least one
+whole-nodes : (s : List ℕ) → programLengthWrong s ≡ false → (length s ≡ 4 * nodeCount s) × (1 ≤ nodeCount s)
+unfolding programLengthWrong
+whole-nodes s h =
+    let a = or-false (eqb (length s) 0) _ h in
+    let b = or-false (ltb 800 (length s)) _ (a .1) in
+    let n = eqb-false (length s) 0 (a .0) in
+    let m = ltb-false 0 (length s % 4) (b .1) in
+    (omega arith, omega (arith, n))
+
 -- a program above 800 bytes is refused whatever its nodes are
 pub long-refused : (options : Options) (s : List ℕ) → 800 < length s → checkOf options s ≡ refuse 1 0
 unfolding checkOf programLengthWrong
@@ -64,6 +76,8 @@ module _ (τ : ℕ → ℕ) (w k : ℕ) (s : List ℕ) where
       record {
         few = ltb-false 8 k (f .0);
         short = right-length s (f .1);
+        bytes = whole-nodes s (f .1) .0;
+        some = whole-nodes s (f .1) .1;
         faultless = no-fault (λ i. nodeFault (nodeAt s i)) (nodeCount s) (a 1);
         read = a 2;
       }
@@ -142,7 +156,8 @@ nodes-roots [] = refl
 nodes-roots (P ∷ Ps) = ap (_++_ (preorder P)) (nodes-roots Ps)
 
 module _ (k : ℕ) (s : List ℕ) (R : Readable k s) where
-  reading-at : (i : ℕ) → i ≤ nodeCount s → (ws : List ℕ) × (reading ws i (nodesAt s i) ≡ Accepted)
+  -- from each node on nodes of some sorts are read
+  pub reading-at : (i : ℕ) → i ≤ nodeCount s → (ws : List ℕ) × (reading ws i (nodesAt s i) ≡ Accepted)
   reading-at zero h = (rootSorts k, R .read)
   reading-at (suc i) h =
       let r = reading-at i (omega arith) in

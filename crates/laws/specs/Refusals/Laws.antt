@@ -90,6 +90,15 @@ all-accept (Accepted ∷ cs) e zero = refl
 all-accept (Accepted ∷ cs) e (suc j) = all-accept cs e j
 all-accept (Refused q ∷ cs) e j = not-refused e
 
+-- and the reverse
+abbrev pub AllAccept : List Checked → Type 0
+AllAccept [] = Unit {0}
+AllAccept (c ∷ cs) = (c ≡ Accepted) × AllAccept cs
+
+pub accept-all : (cs : List Checked) → AllAccept cs → first cs ≡ Accepted
+accept-all [] h = refl
+accept-all (c ∷ cs) h = ap (λ (c : Checked). first (c ∷ cs)) (h .0) ∙ accept-all cs (h .1)
+
 -- what is found first stands in the list, and everything before it accepts, if no refusal there has the number 0
 pub first-found : (cs : List Checked) → (numberOf (first cs) ≡ 0 → first cs ≡ Accepted) → FirstFound cs (first cs)
 first-found [] p = record { accepted = λ e j. refl; refused = λ l. absurd (omega arith) }

@@ -2,7 +2,7 @@
 use mathlib.Core.Path.{sym, _∙_}
 use native.Mathlib.Omega.{arith}
 use borrow.Author.Needs.{needs}
-use Rattle.netlist.proofs.Calls.{list-room, pulse-refused, count-refused, cells-refused, write-short, write-done}
+use Rattle.netlist.proofs.Calls.{list-room, pulse-refused, count-refused, cells-refused, write-file}
 use Rattle.netlist.proofs.write_netlist.Statement.{statement}
 use Rattle.netlist.proofs.write_netlist.Tie as tie
 
@@ -38,42 +38,22 @@ returns-3 c =
     let count-right = rw (count-wrong .ensures) at (c .before .before .before .before .if2 .left) in
     cells-refused (args .pulse) cells (args .finish) lent pulse-right count-right (sym (c .before .before .before .check-cells .ensures) ∙ c .before .checked .given .1)
 
-returns-4 : tie.Need-returns-4
-returns-4 c =
+write-file-requires : tie.Need-write-file-requires
+write-file-requires c κs =
     let args = c .before .before .before .before .before .before .before .before .before .before .args in
     let pulse-right = sym (c .before .before .before .before .before .before .before .pulse-wrong .ensures) ∙ c .before .before .before .before .before .before .if1 .left in
     let count-wrong = c .before .before .before .before .before .count-wrong in
     let cells = args .cells .now in
-    let lent = args .file .now in
     let count-right = rw (count-wrong .ensures) at (c .before .before .before .before .if2 .left) in
-    let cells-right = sym (c .before .before .before .check-cells .ensures) ∙ c .before .enum-told .given .1 in
-    write-short (args .pulse) cells (args .finish) lent pulse-right count-right cells-right (c .if3 .taken)
+    (list-room (args .pulse) cells (args .finish) (args .file .now) pulse-right count-right, omega arith)
 
-put-file-requires : tie.Need-put-file-requires
-put-file-requires c κs =
-    let args = c .before .before .before .before .before .before .before .before .before .before .before .args in
-    let pulse-right = sym (c .before .before .before .before .before .before .before .before .pulse-wrong .ensures) ∙ c .before .before .before .before .before .before .before .if1 .left in
-    let count-wrong = c .before .before .before .before .before .before .count-wrong in
-    let if2 = c .before .before .before .before .before .if2 in
-    let cells = args .cells .now in
-    let lent = args .file .now in
-    let count-right = rw (count-wrong .ensures) at (if2 .left) in
-    (c .before .if3 .left, list-room (args .pulse) cells (args .finish) lent pulse-right count-right, omega arith)
-
-returns-5 : tie.Need-returns-5
-returns-5 c =
-    let args = c .before .before .before .before .before .before .before .before .before .before .before .before .before .before .args in
-    let pulse-right = sym (c .before .before .before .before .before .before .before .before .before .before .before .pulse-wrong .ensures) ∙ c .before .before .before .before .before .before .before .before .before .before .if1 .left in
-    let count-wrong = c .before .before .before .before .before .before .before .before .before .count-wrong in
-    let if2 = c .before .before .before .before .before .before .before .before .if2 in
-    let check-cells = c .before .before .before .before .before .before .before .check-cells in
-    let enum-told = c .before .before .before .before .before .enum-told in
-    let cells = args .cells .now in
-    let lent = args .file .now in
-    let count-right = rw (count-wrong .ensures) at (if2 .left) in
-    let cells-right = sym (check-cells .ensures) ∙ enum-told .given .1 in
-    write-done (args .pulse) cells (args .finish) lent pulse-right count-right cells-right (c .before .before .before .before .if3 .left)
-    (c .before .before .put-file .ensures)
+returns-4 : tie.Need-returns-4
+returns-4 c =
+    let args = c .before .before .before .before .before .before .before .before .before .before .before .before .before .args in
+    let pulse-right = sym (c .before .before .before .before .before .before .before .before .before .before .pulse-wrong .ensures) ∙ c .before .before .before .before .before .before .before .before .before .if1 .left in
+    let count-right = rw (c .before .before .before .before .before .before .before .before .count-wrong .ensures) at (c .before .before .before .before .before .before .before .if2 .left) in
+    let cells-right = sym (c .before .before .before .before .before .before .check-cells .ensures) ∙ c .before .before .before .before .enum-told .given .1 in
+    rw (write-file (args .pulse) (args .cells .now) (args .finish) (args .file .now) pulse-right count-right cells-right) (c .before .before .write-file .ensures)
 
 pub write-netlist-spec : {M : Type 1} → statement M
 write-netlist-spec =
@@ -88,8 +68,6 @@ write-netlist-spec =
     (λ c. search needs)
     returns-3
     (λ c. search needs)
+    write-file-requires
     (λ c. search needs)
-    returns-4
-    put-file-requires
-    (λ c. search needs)
-    returns-5)
+    returns-4)

@@ -23,6 +23,7 @@ mod loops;
 mod netlist;
 mod netlists;
 mod nodes;
+mod parts;
 mod procedures;
 mod pulse_files;
 mod pulse_refusals;

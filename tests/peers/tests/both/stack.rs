@@ -7,7 +7,7 @@ use crate::netlist::file;
 use crate::nodes::*;
 use peers::PROVED;
 use second::table::BUILT_IN;
-use values::{layout, Cell, Circuit, Format, Given};
+use values::{layout, Cell, Circuit, Format, Given, Part};
 
 const STACK: usize = if cfg!(feature = "proved") {
     layout::STACK
@@ -124,6 +124,26 @@ fn programs() {
     for (procedures, program) in deep_imperative() {
         on_a_small_stack(move || run_imperative(procedures, &program));
     }
+}
+
+/// Two parts of 98 nodes each.
+#[test]
+fn parts() {
+    on_a_small_stack(|| {
+        let program = (0..32).fold(assign(0, variable(1), 1), |program, n| {
+            sequence(program, assign(n % 16, variable(0), 1))
+        });
+        let room = vec![0; 6_656];
+        let compiled = (PROVED.compile)(Given::NOTHING, &program, &room);
+        let cells = usize::from(compiled.result.expect("it is accepted").cells);
+        let part = Part {
+            program: &program,
+            file: &compiled.lent[0][..cells.div_ceil(84) * 512],
+            pulse: 1,
+        };
+        let joined = (PROVED.join)(None, &[part, part], &room);
+        assert!(joined.result.is_ok());
+    });
 }
 
 /// As long and as deep as a text may be.

@@ -6,6 +6,7 @@ mod cells;
 mod compact;
 mod functional;
 mod loops;
+mod parts;
 mod procedures;
 mod pulses;
 pub mod runs;

@@ -5,6 +5,7 @@ use super::cells::*;
 use super::compact::*;
 use super::functional::*;
 use super::loops::*;
+use super::parts::*;
 use super::procedures::*;
 use super::pulses::*;
 use super::runs::*;
@@ -17,7 +18,7 @@ use crate::job::{self, Job};
 use crate::texts::has_loops;
 use crate::xorshift::Random;
 use crate::{against_equations, against_full, against_functional, against_rules};
-use crate::{against_slow, against_tables, against_text, generate, netlists};
+use crate::{against_parts, against_slow, against_tables, against_text, generate, netlists};
 use peers::{Peer, SECOND};
 use values::{Circuit, Format};
 
@@ -156,6 +157,18 @@ fn a_good_peer_tells_faulty_slow_runs() {
     };
     assert!(!disagrees(&BY_ROWS));
     let faulty = [LATE_RESULTS, LATE_ORS, READS_AT_ONCE, ONE_MORE];
+    assert_tells(disagrees, &faulty);
+}
+
+#[test]
+fn a_good_peer_tells_faulty_joining() {
+    let disagrees = |peer: &Peer| {
+        // A netlist of another program that is as long is rare.
+        (0..40 * JOBS)
+            .any(|seed| against_parts::compare(peer, &SECOND, &mut Random::new(seed)).is_err())
+    };
+    assert!(!disagrees(&BY_MOVING));
+    let faulty = [ORS_BY_PARTS, START_STAYS, AS_LONG, PULSES_LAST];
     assert_tells(disagrees, &faulty);
 }
 

@@ -1,7 +1,7 @@
 -- `whole::put_walk` meets its contract. Assumes nothing.
 use mathlib.Core.Path.{refl}
 use borrow.Author.Needs.{needs}
-use Rattle.compiler.proofs.Assembly.{walk-ready, datas-ready, addresses-ready, walked}
+use Rattle.compiler.proofs.Assembly.{walk-ready, all-put}
 use Rattle.compiler.proofs.whole.put_walk.Statement.{statement}
 use Rattle.compiler.proofs.whole.put_walk.Tie as tie
 
@@ -10,26 +10,20 @@ put-roots-requires c κs =
     let pre = c .before .before .before .before .pre in
     walk-ready (pre .0) (pre .1) (pre .2)
 
-put-ors-requires : tie.Need-put-ors-requires
-put-ors-requires c κs =
-    let pre = c .before .before .before .before .before .before .before .before .before .before .pre in
-    let put-roots = c .before .before .before .before .before .put-roots in
-    rw (put-roots .kept .0) (datas-ready (pre .0) (pre .1) (put-roots .ensures _ (pre .2)) refl)
+join-words-requires : tie.Need-join-words-requires
+join-words-requires c κs =
+    let pre = c .before .before .before .before .before .before .before .before .before .pre in
+    let walk = c .before .before .before .before .put-roots in
+    record { program = _; before = _; ms = _; put = all-put (pre .0) (rw (pre .1) at (walk .ensures _ (pre .2))) refl (walk .kept .0) }
 
-put-ors-requires-2 : tie.Need-put-ors-requires-2
-put-ors-requires-2 c κs =
-    let pre = c .before .before .before .before .before .before .before .before .before .before .before .before .before .before .before .before .before .pre in
-    let put-roots = c .before .before .before .before .before .before .before .before .before .before .before .before .put-roots in
-    let put-ors = c .before .before .before .before .before .before .put-ors in
-    rw (put-ors .kept .0, put-roots .kept .0) (addresses-ready (pre .0) (pre .1) (put-roots .ensures _ (pre .2)) refl (put-ors .ensures))
+same-length : tie.Need-same-length
+same-length c = search needs
 
 returns : tie.Need-returns
 returns c =
-    let pre = c .before .before .before .before .before .before .before .before .before .before .before .before .before .before .before .before .before .before .before .before .before .pre in
-    let put-roots = c .before .before .before .before .before .before .before .before .before .before .before .before .before .before .before .before .put-roots in
-    let put-ors = c .before .before .before .before .before .before .before .before .before .before .put-ors in
-    let put-ors2 = c .before .before .before .put-ors2 in
-    walked (pre .0) (pre .1) (put-roots .ensures _ (pre .2)) refl (put-ors .ensures) (put-ors2 .ensures)
+    let pre = c .before .before .before .before .before .before .before .before .before .before .before .before .pre in
+    let walk = c .before .before .before .before .before .before .before .put-roots in
+    c .before .before .join-words .ensures _ _ _ (all-put (pre .0) (rw (pre .1) at (walk .ensures _ (pre .2))) refl (walk .kept .0))
 
 pub put-walk-spec : {M : Type 1} → statement M
-put-walk-spec = tie.close (tie.spec put-roots-requires put-ors-requires put-ors-requires-2 (λ c. search needs) returns)
+put-walk-spec = tie.close (tie.spec put-roots-requires join-words-requires same-length returns)

@@ -1,0 +1,19 @@
+-- The laws behind the proofs of the functions.
+pub mod Cuts
+pub mod Refusing
+pub mod Calling
+pub mod Renumber
+pub mod NewNumbers
+pub mod Regions
+pub mod Moved
+pub mod Lows
+pub mod Putting
+pub mod Placing
+pub mod KindRuns
+pub mod Runs
+pub mod Gating
+pub mod GateMarks
+pub mod Marking
+pub mod Walking
+pub mod Chaining
+pub mod Netting

@@ -65,8 +65,8 @@ pub record FunctionalTells (F : Format) (P : Stmt) (σ : Store) (file : List ℕ
   -- and from then on the words are its last ones, in the buffer and in the answer of a call that was not refused
   pub words : (t₀ : ℕ) (σ′ : Store) → Ends functional P σ t₀ σ′ → st .begun + t₀ ≤ st .now
       → LastWords (cellsOf file) (nowAt F (r .lent)) σ′ × (verdict (r .answer .outcome) ≡ Accepted → r .answer .words ≡ listed σ′ 0 16)
-  -- where it has no end no answer says ended
-  pub endless : ((t₀ : ℕ) (σ′ : Store) → Ends functional P σ t₀ σ′ → ⊥) → r .answer .outcome ≡ Ended → ⊥
+  -- where it has no end up to now the answer doesn't say ended
+  pub endless : ((t₀ : ℕ) (σ′ : Store) → Ends functional P σ t₀ σ′ → st .begun + t₀ ≤ st .now → ⊥) → r .answer .outcome ≡ Ended → ⊥
 
 -- One statement about a beginning and a whole list of continuings and starts: P is the statement that the program means, σ its start words.
 pub record FunctionalKeeps (F : Format) (P : Stmt) (σ : Store) (file : List ℕ) (begun : Returned Answer) (calls : List Call) : Type 0 where

@@ -186,8 +186,9 @@ pub record Behaves (F : Format) (w : ℕ) (P : Stmt) (σ : Store) (file : List �
   -- from then on the words are its last ones
   pub lasts : (t₀ : ℕ) (σ′ : Store) → Ends (imperative w) P (st .from) t₀ σ′ → (t : ℕ) → st .begun + t₀ ≤ t → NoStart starts (st .begun) t
       → HasWords (cellsOf file) σ W t σ′
-  -- where the run has no end nobody sees a finish any more
-  pub endless : ((t₀ : ℕ) (σ′ : Store) → Ends (imperative w) P (st .from) t₀ σ′ → ⊥) → (t : ℕ) → st .begun ≤ t → level W (finishOf file) t ≡ false
+  -- where the run has no end up to an instant, nobody has seen a finish of it by then
+  pub endless : (t : ℕ) → st .begun ≤ t → ((t₀ : ℕ) (σ′ : Store) → Ends (imperative w) P (st .from) t₀ σ′ → st .begun + t₀ ≤ t → ⊥)
+      → level W (finishOf file) t ≡ false
   -- the buffer holds the values of the instant at which it stands
   pub buffer : Holds F (netOf file) σ W (st .now) (r .lent)
 
@@ -202,8 +203,8 @@ pub record Tells (F : Format) (w : ℕ) (P : Stmt) (file : List ℕ) (st : Stand
   -- and from then on the words are its last ones, in the buffer and in the answer of a call that was not refused
   pub words : (t₀ : ℕ) (σ′ : Store) → Ends (imperative w) P (st .from) t₀ σ′ → st .begun + t₀ ≤ st .now
       → ShowsWords F file (r .lent) σ′ × (verdict (r .answer .outcome) ≡ Accepted → r .answer .words ≡ listed σ′ 0 16)
-  -- where it has no end no answer says ended
-  pub endless : ((t₀ : ℕ) (σ′ : Store) → Ends (imperative w) P (st .from) t₀ σ′ → ⊥) → r .answer .outcome ≡ Ended → ⊥
+  -- where it has no end up to now the answer doesn't say ended
+  pub endless : ((t₀ : ℕ) (σ′ : Store) → Ends (imperative w) P (st .from) t₀ σ′ → st .begun + t₀ ≤ st .now → ⊥) → r .answer .outcome ≡ Ended → ⊥
 
 -- where a call was refused, the buffer is as it was before
 abbrev pub Unchanged : List ℕ → List (Returned Answer) → Type 0

@@ -358,14 +358,16 @@ module _ (F : Format) (options : Options) (program file words lent : List ℕ) (
                 (λ y a b. whole.last-next Q formed basic timed starts σ W same bounded (st .begun) t B (omega arith) none t₀ σ′ p l y (omega arith)),
           )
 
-      never : ((t₀ : ℕ) (σ′ : Store) → Ends functional Q σ t₀ σ′ → ⊥) → (t : ℕ) → st .begun ≤ t → level W (finishOf file) t ≡ false
+      never : (t : ℕ) → st .begun ≤ t → ((t₀ : ℕ) (σ′ : Store) → Ends functional Q σ t₀ σ′ → st .begun + t₀ ≤ t → ⊥) → level W (finishOf file) t ≡ false
       unfolding dueAt due
-      never h t l =
+      never t l h =
           due-by t l
-          (given-alone 1 rules size starts st cs (N .given)
-          (λ k u τ q. h u τ (run-ends functional Q k σ u τ (ap (run functional k Q) (sym (N .began .0)) ∙ q))) t)
+          (given-alone 1 rules size starts st cs (N .given) t
+          (λ k u τ g q.
+          let d = decides functional Q timed σ k u τ .0 (ap (run functional k Q) (sym (N .began .0)) ∙ q) in
+          h u τ (d .1) (omega (arith, g, d .0))))
           ∙ ap (λ (τ : Store). due functional 1 Q τ (t - st .begun)) (N .began .0)
-          ∙ never-due functional 1 Q timed σ h (t - st .begun)
+          ∙ never-due functional 1 Q timed σ (t - st .begun) (λ t₀ τ E g. h t₀ τ E (omega (arith, l, g)))
 
       -- a state shows what the circuit has
       shown-at : (t : ℕ) → st .begun ≤ t → NoStart starts (st .begun) t → (t₀ : ℕ) (σ′ : Store) → Ends functional Q σ t₀ σ′ → st .begun + t₀ ≤ t
@@ -428,7 +430,7 @@ module _ (F : Format) (options : Options) (program file words lent : List ℕ) (
             from = N .began .0;
             number = number-is b K;
             words = λ t₀ σ′ E l. (shown-words t₀ σ′ E l b K, λ z. shown-words t₀ σ′ E l s H);
-            endless = λ h. rw (H .body .present (finishOf file) (X .wire), never h (st .now) (N .given .since)) open-no-end;
+            endless = λ h. rw (H .body .present (finishOf file) (X .wire), never (st .now) (N .given .since) h) open-no-end;
           }
 
     -- a whole list

@@ -11,15 +11,16 @@ use Rattle.model.specs.declared.Cell.{Cell}
 use Rattle.model.specs.declared.Merge.{Merge}
 use Rattle.model.specs.declared.Format.{Format}
 use Rattle.model.specs.declared.Format.the-variants.{Full, Compact}
+use Rattle.model.specs.declared.Options.{Options}
 use Rattle.model.specs.declared.Checked.the-variants.{Accepted}
 use Rattle.model.specs.declared.Written.the-variants.{Done}
 use Rattle.model.specs.Word.{bit}
-use Rattle.model.specs.Program.{Program, programOf}
+use Rattle.model.specs.Program.{Program}
+use Rattle.model.specs.ProgramChecks.{programWith}
 use Rattle.model.specs.Rules.{Store}
 use Rattle.model.specs.Circuit.{cellAt, Netlist, control, Sig, Values, level, element, arrayAt, Obeys, delayed, remainingBefore, heldBefore, merges, stepOf, shape, kStart, kDelay}
 use Rattle.model.specs.Numbering.{netlist, finish}
 use Rattle.model.specs.NetlistFile.{fileCheck, cellsOf, netOf, finishOf, pulseOf}
-use Rattle.model.specs.TimeTables.{load, Given}
 use Rattle.model.specs.State.{instantOf, flightOf, flightIn, course, stateSize, elementNow, nowAt, beforeAt, heldAt, lineAt, remainingAt, flight, beginState, stepState, crowded, continued, sound}
 use Rattle.model.specs.Calls.{overwrite, compileCall, writeCall, readCall, wordAt}
 use Rattle.model.specs.Word.{Bytes}
@@ -137,8 +138,8 @@ pub record OneRun (net : Netlist) (starts : Sig) (words : Store) : Type 0 where
   pub controls : (k : ℕ) → k < length (net .cells) → control (cellAt (net .cells) k .kind) ≡ true → (t : ℕ) → values k t ≤ 1
 
 pub record Demand2 : Type 0 where
-  pub compiled : (G : Given) (program lent : List ℕ) (n f : ℕ) → Bytes program → compileCall (load G) program lent .answer ≡ Done n f
-      → Published (programOf (G .pulse) (G .procedures) program) (take n (compileCall (load G) program lent .lent)) f
+  pub compiled : (options : Options) (program lent : List ℕ) (n f : ℕ) → Bytes program → compileCall options program lent .answer ≡ Done n f
+      → Published (programWith options program) (take n (compileCall options program lent .lent)) f
   pub files : SameFile
   pub runs : (file : List ℕ) (starts : Sig) (words : Store) → starts 0 ≡ true → fileCheck file ≡ Accepted → OneRun (netOf file) starts words
   -- "each call keeps it true", from whatever state

@@ -5,6 +5,7 @@ use mathlib.Core.Path.{_≡_}
 use mathlib.Core.List.{List, [], _∷_, map}
 use Prim.Native.Nat.{ℕ, _<_}
 use lib.ListN.{length, take}
+use Rattle.model.specs.declared.Options.{Options}
 use Rattle.model.specs.declared.Format.the-variants.{Full, Compact}
 use Rattle.model.specs.declared.Checked.the-variants.{Accepted}
 use Rattle.model.specs.declared.Written.the-variants.{Done}
@@ -12,7 +13,6 @@ use Rattle.model.specs.declared.Answer.{Answer}
 use Rattle.model.specs.Refusals.{numberOf}
 use Rattle.model.specs.Circuit.{Netlist}
 use Rattle.model.specs.NetlistFile.{netOf}
-use Rattle.model.specs.TimeTables.{Given, load}
 use Rattle.model.specs.State.{instantOf, flightOf, nowAt, beforeAt, elementNow}
 use Rattle.model.specs.Calls.{Returned, verdict, compileCall, beginCall}
 use Rattle.model.specs.RunPromises.{Request, Call, replay}
@@ -47,9 +47,9 @@ each n qs = map (λ q. record { request = q; lent = n }) qs
 -- from a beginning."
 unfoldable pub SameWires : Type 0
 SameWires =
-    (G : Given) (program forFile words forFull forCompact : List ℕ) (requests : List Request) (n f : ℕ)
-    → compileCall (load G) program forFile .answer ≡ Done n f →
-    let file = take n (compileCall (load G) program forFile .lent) in
+    (options : Options) (program forFile words forFull forCompact : List ℕ) (requests : List Request) (n f : ℕ)
+    → compileCall options program forFile .answer ≡ Done n f →
+    let file = take n (compileCall options program forFile .lent) in
     let full = beginCall Full file words forFull in
     let compact = beginCall Compact file words forCompact in
     verdict (full .answer .outcome) ≡ Accepted → verdict (compact .answer .outcome) ≡ Accepted

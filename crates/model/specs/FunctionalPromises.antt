@@ -8,6 +8,7 @@ use mathlib.Core.Logic.{_↔_}
 use mathlib.Core.List.{List, [], _∷_, _++_, map}
 use Prim.Native.Nat.{ℕ, suc, _+_, _≤_}
 use lib.ListN.{length, take}
+use Rattle.model.specs.declared.Options.{Options}
 use Rattle.model.specs.declared.Cell.{Cell}
 use Rattle.model.specs.declared.Format.{Format}
 use Rattle.model.specs.declared.Checked.the-variants.{Accepted}
@@ -149,26 +150,26 @@ pub record FunctionalRefusals : Type 0 where
       × Leaves c forFile (r .netlist) × Leaves c lent (r .state)
 
 pub record Functional : Type 0 where
-  pub compiled : (G : Given) (program forFile : List ℕ) (n f : ℕ) → Bytes program → compileFunctionalCall (load G) program forFile .answer ≡ Done n f
-      → FunctionalFile (statementOf program) (take n (compileFunctionalCall (load G) program forFile .lent)) f
-  pub lists : (F : Format) (G : Given) (program forFile words forState : List ℕ) (calls : List Call) (n f : ℕ)
-      → compileFunctionalCall (load G) program forFile .answer ≡ Done n f →
-      let file = take n (compileFunctionalCall (load G) program forFile .lent) in
+  pub compiled : (options : Options) (program forFile : List ℕ) (n f : ℕ) → Bytes program → compileFunctionalCall options program forFile .answer ≡ Done n f
+      → FunctionalFile (statementOf program) (take n (compileFunctionalCall options program forFile .lent)) f
+  pub lists : (F : Format) (options : Options) (program forFile words forState : List ℕ) (calls : List Call) (n f : ℕ)
+      → compileFunctionalCall options program forFile .answer ≡ Done n f →
+      let file = take n (compileFunctionalCall options program forFile .lent) in
       let begun = beginFunctionalCall F file words forState in
       Bytes file → Bytes words → verdict (begun .answer .outcome) ≡ Accepted
       → FunctionalKeeps F (statementOf program) (wordAt words) file begun calls
-  pub fullRuns : (G : Given) (program forFile words forState : List ℕ) (n f : ℕ)
-      → compileFunctionalCall (load G) program forFile .answer ≡ Done n f →
-      let file = take n (compileFunctionalCall (load G) program forFile .lent) in
+  pub fullRuns : (options : Options) (program forFile words forState : List ℕ) (n f : ℕ)
+      → compileFunctionalCall options program forFile .answer ≡ Done n f →
+      let file = take n (compileFunctionalCall options program forFile .lent) in
       let begun = beginFunctionalCall Full file words forState in
       Bytes file → Bytes words → verdict (begun .answer .outcome) ≡ Accepted
       → FunctionalRuns (statementOf program) (wordAt words) file begun
-      (λ k. runFunctionalProgramCall (load G) program words k forFile forState .answer) (λ k. runFunctionalCall file words k forState .answer)
+      (λ k. runFunctionalProgramCall options program words k forFile forState .answer) (λ k. runFunctionalCall file words k forState .answer)
   -- the reference run answers an end within its budget, and no other
-  pub ends : (G : Given) (program words : List ℕ) (n t : ℕ) (σ′ : Store) → verdict (referenceFunctionalCall (load G) program words n .outcome) ≡ Accepted
-      → Ends functional (statementOf program) (wordAt words) t σ′ → t ≤ n → referenceFunctionalCall (load G) program words n ≡ endedAnswer t σ′
-  pub ended : (G : Given) (program words : List ℕ) (n : ℕ) → referenceFunctionalCall (load G) program words n .outcome ≡ Ended
+  pub ends : (options : Options) (program words : List ℕ) (n t : ℕ) (σ′ : Store) → verdict (referenceFunctionalCall options program words n .outcome) ≡ Accepted
+      → Ends functional (statementOf program) (wordAt words) t σ′ → t ≤ n → referenceFunctionalCall options program words n ≡ endedAnswer t σ′
+  pub ended : (options : Options) (program words : List ℕ) (n : ℕ) → referenceFunctionalCall options program words n .outcome ≡ Ended
       → (t : ℕ) × (σ′ : Store) × (t ≤ n) × Ends functional (statementOf program) (wordAt words) t σ′
-  pub stillOpen : (G : Given) (program words : List ℕ) (n : ℕ) → referenceFunctionalCall (load G) program words n .outcome ≡ Open
-      → (referenceFunctionalCall (load G) program words n ≡ openAnswer n)
+  pub stillOpen : (options : Options) (program words : List ℕ) (n : ℕ) → referenceFunctionalCall options program words n .outcome ≡ Open
+      → (referenceFunctionalCall options program words n ≡ openAnswer n)
       × ((t : ℕ) (σ′ : Store) → Ends functional (statementOf program) (wordAt words) t σ′ → t ≤ n → ⊥)

@@ -11,18 +11,19 @@ use lib.ListN.{take, drop}
 use Rattle.model.specs.declared.Cell.{Cell}
 use Rattle.model.specs.declared.Format.{Format}
 use Rattle.model.specs.declared.Format.the-variants.{Full}
+use Rattle.model.specs.declared.Options.{Options}
 use Rattle.model.specs.declared.Checked.the-variants.{Accepted}
 use Rattle.model.specs.declared.Outcome.{Outcome}
 use Rattle.model.specs.declared.Outcome.the-variants.{Ended, Open}
 use Rattle.model.specs.declared.Written.the-variants.{Done}
 use Rattle.model.specs.declared.Answer.{Answer}
 use Rattle.model.specs.Word.{pick, elementWord}
-use Rattle.model.specs.Program.{Stmt, programOf, gap}
+use Rattle.model.specs.Program.{Stmt, gap}
+use Rattle.model.specs.ProgramChecks.{programWith}
 use Rattle.model.specs.Procedures.{meaning}
 use Rattle.model.specs.Rules.{imperative, Store, Ends, Run, atEnd, atExit, done, still, ended, showsAt}
 use Rattle.model.specs.Circuit.{memoryWords, Sig, Values, level, element, arrayAt, Obeys}
 use Rattle.model.specs.NetlistFile.{cellsOf, netOf, finishOf}
-use Rattle.model.specs.TimeTables.{Given, load}
 use Rattle.model.specs.State.{flightOf, stateSize, elementNow, wordsIn}
 use Rattle.model.specs.Calls.{Returned, verdict, compileCall, wordAt, beginCall, continueCall, startCall, runNetlistCall, runProgramCall, listed}
 use Rattle.model.specs.RefusalPromises.{Leaves}
@@ -256,13 +257,13 @@ pub record FullRuns (file : List ℕ) (begun : Returned Answer) (programRun netl
 -- "A program is accepted when compiling gives its netlist. The list starts from the state that an unrefused beginning wrote for that netlist
 -- and the start words", a full or a compact one. "Under every table that loads, finish and last words are the program's."
 pub record Demand3 : Type 0 where
-  pub lists : (F : Format) (G : Given) (program forFile words forState : List ℕ) (calls : List Call) (n f : ℕ)
-      → compileCall (load G) program forFile .answer ≡ Done n f →
-      let file = take n (compileCall (load G) program forFile .lent) in
+  pub lists : (F : Format) (options : Options) (program forFile words forState : List ℕ) (calls : List Call) (n f : ℕ)
+      → compileCall options program forFile .answer ≡ Done n f →
+      let file = take n (compileCall options program forFile .lent) in
       let begun = beginCall F file words forState in
-      verdict (begun .answer .outcome) ≡ Accepted → Keeps F (G .pulse) (meaning (programOf (G .pulse) (G .procedures) program)) (wordAt words) file begun calls
-  pub fullRuns : (G : Given) (program forFile words forState : List ℕ) (n f : ℕ) → compileCall (load G) program forFile .answer ≡ Done n f →
-      let file = take n (compileCall (load G) program forFile .lent) in
+      verdict (begun .answer .outcome) ≡ Accepted → Keeps F (options .pulse) (meaning (programWith options program)) (wordAt words) file begun calls
+  pub fullRuns : (options : Options) (program forFile words forState : List ℕ) (n f : ℕ) → compileCall options program forFile .answer ≡ Done n f →
+      let file = take n (compileCall options program forFile .lent) in
       let begun = beginCall Full file words forState in
       verdict (begun .answer .outcome) ≡ Accepted
-      → FullRuns file begun (λ k. runProgramCall (load G) program words k forFile forState .answer) (λ k. runNetlistCall file words k forState .answer)
+      → FullRuns file begun (λ k. runProgramCall options program words k forFile forState .answer) (λ k. runNetlistCall file words k forState .answer)

@@ -24,7 +24,6 @@ use Rattle.model.specs.Program.{Stmt, programOf}
 use Rattle.model.specs.Rules.{functional, Store, Ends, ended, still, run, showsAt, due, atEnd}
 use Rattle.model.specs.Circuit.{Netlist, Sig, Values, high, level, Obeys}
 use Rattle.model.specs.NetlistFile.{cellsOf, netOf, finishOf, lastWords}
-use Rattle.model.specs.TimeTables.{load}
 use Rattle.model.specs.State.{instantOf, Course, stateSize, nowAt, beginState, continued}
 use Rattle.model.specs.Calls.{Returned, verdict, checkCall, wordAt, shows, running, tooLong, continueChecks, continueCall, fullState, fullCount, runNetlistChecks, runNetlistCall, listed, referenceAnswer}
 use Rattle.model.specs.CircuitPromises.{stopsAt, NoStart}
@@ -275,14 +274,14 @@ module _ (options : Options) (program words : List ℕ) (n : ℕ) (answered-so :
 pub functional-demand : Functional
 functional-demand =
     record {
-      compiled = λ G program forFile n f bytes done. functional-file (load G) program forFile n f done bytes;
-      lists = λ F G program forFile words forState calls n f done bytes wordBytes begun.
-          keeps F (load G) program (take n (compileFunctionalCall (load G) program forFile .lent)) words forState (table-accepted (load G) program forFile n f done)
-          (program-accepted (load G) program forFile n f done) (file-made (load G) program forFile n f done) bytes wordBytes begun calls;
-      fullRuns = λ G program forFile words forState n f done bytes wordBytes begun.
-          full-runs (load G) program (take n (compileFunctionalCall (load G) program forFile .lent)) words forState (table-accepted (load G) program forFile n f done)
-          (program-accepted (load G) program forFile n f done) (file-made (load G) program forFile n f done) bytes wordBytes begun forFile (file-room (load G) program forFile n f done);
-      ends = λ G program words n t σ′ v. reference-ends (load G) program words n v t σ′;
-      ended = λ G program words n e. reference-ended (load G) program words n (ap verdict e ∙ accepted-ended) e;
-      stillOpen = λ G program words n e. reference-open (load G) program words n (ap verdict e ∙ accepted-open) e;
+      compiled = λ options program forFile n f bytes done. functional-file options program forFile n f done bytes;
+      lists = λ F options program forFile words forState calls n f done bytes wordBytes begun.
+          keeps F options program (take n (compileFunctionalCall options program forFile .lent)) words forState (table-accepted options program forFile n f done)
+          (program-accepted options program forFile n f done) (file-made options program forFile n f done) bytes wordBytes begun calls;
+      fullRuns = λ options program forFile words forState n f done bytes wordBytes begun.
+          full-runs options program (take n (compileFunctionalCall options program forFile .lent)) words forState (table-accepted options program forFile n f done)
+          (program-accepted options program forFile n f done) (file-made options program forFile n f done) bytes wordBytes begun forFile (file-room options program forFile n f done);
+      ends = λ options program words n t σ′ v. reference-ends options program words n v t σ′;
+      ended = λ options program words n e. reference-ended options program words n (ap verdict e ∙ accepted-ended) e;
+      stillOpen = λ options program words n e. reference-open options program words n (ap verdict e ∙ accepted-open) e;
     }

@@ -21,7 +21,7 @@ use Rattle.model.specs.Program.{programOf}
 use Rattle.model.specs.ProgramChecks.{programWith}
 use Rattle.model.specs.NetlistFile.{netOf, blocksFor, fileCheck, cellsOf, fileLengthWrong}
 use Rattle.model.specs.Numbering.{netlist, finish}
-use Rattle.model.specs.TimeTables.{builtIn, beside, load, defaults}
+use Rattle.model.specs.TimeTables.{load, defaults}
 use Rattle.model.specs.declared.Format.the-variants.{Full}
 use Rattle.model.specs.State.{stateSize}
 use Rattle.model.specs.Calls.{writtenVerdict, checkCall, writing, compiledFile, compileChecks, compileCall, runProgramCall, referenceCall, runProgramChecks}
@@ -169,7 +169,7 @@ on-circuit (compiles p n f) e g = λ lent room.
     let end : finish S ≡ f = ap (λ r. numbers-of r .1) e in
     let size = file-length 1 (netlist S) (finish S) ∙ ap (λ k. 512 * blocksFor k) cells in
     let told = compile-is defaults p y (ap checked-of e) lent room ∙ ap₂ Done size end in
-    (told, ap length (demand2 .compiled (beside builtIn 0 1) p lent (512 * blocksFor n) f y told .cells) ∙ cells)
+    (told, ap length (demand2 .compiled defaults p lent (512 * blocksFor n) f y told .cells) ∙ cells)
 on-circuit (prints p v n text) e g =
     let b = and-true (bytesOnly p) (ltb n 65536) g in
     hubrun-is p v n

@@ -23,7 +23,6 @@ use Rattle.model.specs.ProgramChecks.{programWith}
 use Rattle.model.specs.Rules.{imperative, Store, Run, done, atEnd, atExit, still, run}
 use Rattle.model.specs.Circuit.{Netlist, Sig, Values, high, memoryWords, Obeys}
 use Rattle.model.specs.NetlistFile.{cellsOf, netOf, finishOf}
-use Rattle.model.specs.TimeTables.{load}
 use Rattle.model.specs.State.{instantOf, stateSize, nowAt, wordsIn}
 use Rattle.model.specs.Calls.{Returned, verdict, compileCall, wordAt, refusedAnswer, shows, beginCall}
 use Rattle.model.specs.CircuitPromises.{stopsAt}
@@ -286,10 +285,10 @@ module _ (S : Program) (file words forFull forCompact : List ℕ) (B : Begun Ful
       (subst AllUnmet (sym compact) unmet)
 
 pub same-wires : SameWires
-unfolding SameWires load
-same-wires G program forFile words forFull forCompact requests n f made full compact =
-    let file = take n (compileCall (load G) program forFile .lent) in
-    let good = program-accepted (load G) program forFile n f made in
-    let written = file-made (load G) program forFile n f made in
-    both-same (programWith (load G) program) file words forFull forCompact (begins Full (load G) program file words forFull good written full)
-    (begins Compact (load G) program file words forCompact good written compact) requests
+unfolding SameWires
+same-wires options program forFile words forFull forCompact requests n f made full compact =
+    let file = take n (compileCall options program forFile .lent) in
+    let good = program-accepted options program forFile n f made in
+    let written = file-made options program forFile n f made in
+    both-same (programWith options program) file words forFull forCompact (begins Full options program file words forFull good written full)
+    (begins Compact options program file words forCompact good written compact) requests

@@ -26,9 +26,9 @@ use Rattle.model.specs.Functional.{netlistOf}
 use Rattle.model.specs.Functional as circuit
 use Rattle.model.specs.TimeTables.{Given, load}
 use Rattle.model.specs.State.{flightOf, stateSize, nowAt, continued}
-use Rattle.model.specs.Calls.{Returned, verdict, writtenVerdict, wordAt, beginChecks, continueChecks, startChecks, runNetlistChecks, listed}
-use Rattle.model.specs.CircuitPromises.{Holds, NoStart}
-use Rattle.model.specs.RunPromises.{Request, continuing, start, Call, replayBy, seen, seenIn, seenOf, endedIf, lastOf, Stand, stand, Runs, dueAt, expected, stands, startsOf, Along, Unchanged}
+use Rattle.model.specs.Calls.{Returned, ReturnedBoth, overwrite, verdict, writtenVerdict, wordAt, beginChecks, continueChecks, startChecks, runNetlistChecks, listed}
+use Rattle.model.specs.CircuitPromises.{Holds, NoStart, endedIf, wholeOf}
+use Rattle.model.specs.RunPromises.{Request, continuing, start, Call, replayBy, seen, seenIn, seenOf, Stand, stand, Runs, dueAt, expected, stands, startsOf, Along, Unchanged}
 use Rattle.model.specs.RefusalPromises.{Refuses, tableNumbers, fileNumbers, longNumbers, just, Leaves, crowdNumbers, LeavesBut}
 use Rattle.model.specs.ProgramPromises.{endedAnswer, openAnswer}
 use Rattle.model.specs.FunctionalCalls.{checkFunctionalCall, statementOf, compileFunctionalChecks, compileFunctionalCall, referenceFunctionalChecks, referenceFunctionalCall, lastChecks, beginFunctionalCall, continueFunctionalCall, startFunctionalCall, runFunctionalCall, runFunctionalProgramChecks, runFunctionalProgramCall}
@@ -102,12 +102,12 @@ pub record FunctionalFile (P : Stmt) (file : List ℕ) (f : ℕ) : Type 0 where
 
 -- full runs, on a full state: "A full run answers as its last call does, its calls' counts added", and as a reference run does; the words of one that is open
 -- are those that its cells show
-pub record FunctionalRuns (P : Stmt) (σ : Store) (file : List ℕ) (begun : Returned Answer) (programRun whole : ℕ → Answer) : Type 0 where
-  pub alike : (n : ℕ) → n ≤ 1000000 → programRun n ≡ whole n
-  pub runs : (n : ℕ) → n ≤ 1000000
-      → whole n ≡ lastOf (begun .answer .outcome) (begun .answer) (continueFunctionalCall Full file n (begun .lent) .answer)
-  pub ends : (n t : ℕ) (σ′ : Store) → n ≤ 1000000 → Ends functional P σ t σ′ → t ≤ n → whole n ≡ endedAnswer t σ′
-  pub goesOn : (n : ℕ) → n ≤ 1000000 → ((t : ℕ) (σ′ : Store) → Ends functional P σ t σ′ → t ≤ n → ⊥) → seenIn (whole n) ≡ seen Open n (n + 1)
+pub record FunctionalRuns (P : Stmt) (σ : Store) (file forFile : List ℕ) (begun : Returned Answer) (programRun : ℕ → ReturnedBoth) (whole : ℕ → Returned Answer)
+    : Type 0 where
+  pub alike : (n : ℕ) → n ≤ 1000000 → programRun n ≡ record { answer = whole n .answer; netlist = overwrite file forFile; state = whole n .lent }
+  pub runs : (n : ℕ) → n ≤ 1000000 → whole n ≡ wholeOf (begun .answer .outcome) begun (continueFunctionalCall Full file n (begun .lent))
+  pub ends : (n t : ℕ) (σ′ : Store) → n ≤ 1000000 → Ends functional P σ t σ′ → t ≤ n → whole n .answer ≡ endedAnswer t σ′
+  pub goesOn : (n : ℕ) → n ≤ 1000000 → ((t : ℕ) (σ′ : Store) → Ends functional P σ t σ′ → t ≤ n → ⊥) → seenIn (whole n .answer) ≡ seen Open n (n + 1)
 
 -- Demand 1 of the calls of functional circuits: the refusals in the published order, and what a refusal leaves. A functional run has the file's
 -- refusals, then the rule of the last sixteen cells, then those of the run that it is.
@@ -163,8 +163,8 @@ pub record Functional : Type 0 where
       let file = take n (compileFunctionalCall options program forFile .lent) in
       let begun = beginFunctionalCall Full file words forState in
       Bytes file → Bytes words → verdict (begun .answer .outcome) ≡ Accepted
-      → FunctionalRuns (statementOf program) (wordAt words) file begun
-      (λ k. runFunctionalProgramCall options program words k forFile forState .answer) (λ k. runFunctionalCall file words k forState .answer)
+      → FunctionalRuns (statementOf program) (wordAt words) file forFile begun
+      (λ k. runFunctionalProgramCall options program words k forFile forState) (λ k. runFunctionalCall file words k forState)
   -- the reference run answers an end within its budget, and no other
   pub ends : (options : Options) (program words : List ℕ) (n t : ℕ) (σ′ : Store) → verdict (referenceFunctionalCall options program words n .outcome) ≡ Accepted
       → Ends functional (statementOf program) (wordAt words) t σ′ → t ≤ n → referenceFunctionalCall options program words n ≡ endedAnswer t σ′

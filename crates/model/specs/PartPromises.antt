@@ -83,5 +83,5 @@ pub record Joins : Type 0 where
       let file = take n (joinCall options ps forFile .lent) in
       let begun = beginCall Full file words forState in
       verdict (begun .answer .outcome) ≡ Accepted
-      → FullRuns file begun (λ k. runProgramCall (besideWhole options ps) (wholeProgram ps) words k forFile forState .answer)
-      (λ k. runNetlistCall file words k forState .answer)
+      → FullRuns file forFile begun (λ k. runProgramCall (besideWhole options ps) (wholeProgram ps) words k forFile forState)
+      (λ k. runNetlistCall file words k forState)

@@ -34,8 +34,8 @@ use Rattle.model.specs.Functional as circuit
 use Rattle.model.specs.TimeTables.{load}
 use Rattle.model.specs.State.{flightOf, stateSize, nowAt, beginState}
 use Rattle.model.specs.Calls.{Returned, verdict, wordAt, refusedAnswer, shows, running, tooLong, beginChecks, beginCall, listed}
-use Rattle.model.specs.CircuitPromises.{Apart, Idle, NoStart}
-use Rattle.model.specs.RunPromises.{Request, continuing, start, Call, respond, replayBy, Seen, seen, seenIn, seenOf, endedIf, Stand, stand, Runs, runAt, dueAt, expected, stands, startsOf, Along, Unchanged}
+use Rattle.model.specs.CircuitPromises.{Apart, Idle, NoStart, endedIf}
+use Rattle.model.specs.RunPromises.{Request, continuing, start, Call, respond, replayBy, Seen, seen, seenIn, seenOf, Stand, stand, Runs, runAt, dueAt, expected, stands, startsOf, Along, Unchanged}
 use Rattle.model.specs.FunctionalCalls.{statementOf, functionalFile, compileFunctionalChecks, compileFunctionalCall, retold, lastChecks, inMode, functionally, beginFunctionalCall}
 use Rattle.model.specs.FunctionalPromises.{respondFunctional, replayFunctional, LastWords, FunctionalBehaves, FunctionalTells, FunctionalKeeps, FunctionalFile}
 use Rattle.laws.specs.Refusals.Laws.{by-bool, not-refused, all-accept, refuse-unless, accept-take}

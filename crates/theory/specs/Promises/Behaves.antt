@@ -7,6 +7,7 @@ use mathlib.Core.List.{List}
 use mathlib.Core.Logic.{_↔_}
 use Prim.Native.Nat.{ℕ, suc, _+_, _-_, _*_, _/_, _%_, _≤_, _<_}
 use native.Mathlib.Omega.{arith}
+use Rattle.model.specs.declared.Checked.the-variants.{Accepted}
 use Rattle.model.specs.declared.Refusal.{Refusal}
 use Rattle.model.specs.declared.Cell.{Cell}
 use Rattle.model.specs.declared.Format.{Format}
@@ -36,7 +37,7 @@ use Rattle.theory.specs.Rules.Relation.{run-ends, ends-run, due-ends, en
 use Rattle.theory.specs.Numbering.Whole.{showing}
 use Rattle.theory.specs.State.Holding.{Holding}
 use Rattle.theory.specs.State.Sound.{holds}
-use Rattle.theory.specs.Promises.Answers.{memory-words, listed-same, listed-further}
+use Rattle.theory.specs.Promises.Answers.{memory-same, memory-words, listed-same, listed-further}
 use Rattle.theory.specs.Promises.Due.{shown-word, shown-element, last-words}
 use Rattle.theory.specs.Promises.Stands.{given-alone}
 use Rattle.theory.specs.Promises.Served.{OfProgram, published, served}
@@ -154,14 +155,24 @@ module _ (F : Format) (S : Program) (file : List ℕ) (X : OfProgram S file) (st
         (λ k u τ g e. let d = decides (imperative (S .pulse)) P timed (st .from) k u τ .0 e in h u τ (d .1) (omega (arith, g, d .0))))
         ∙ never-due (imperative (S .pulse)) w P timed (st .from) (t - st .begun) (λ t₀ τ E g. h t₀ τ E (omega (arith, l, g)))
 
-    pub behaves : (r : Returned Answer) → Holding F net σ W (st .now) (r .lent) → Behaves F w P σ file rules starts W st r
-    behaves r H =
+    -- what an answer made from a state shows
+    pub words-shown : (s : List ℕ) → Holding F net σ W (st .now) s → wordsIn F (cellsOf file) 0 s ≡ memoryWords (cellsOf file) 0 (λ k. W k (st .now))
+    words-shown s H =
+        memory-same (cellsOf file) 0 (nowAt F s) (λ k. W k (st .now))
+        (λ i h.
+        let z : 0 + i ≡ i = omega arith in
+        rw z (H .body .present i h))
+
+    pub behaves : (r : Returned Answer) → Holding F net σ W (st .now) (r .lent)
+        → (verdict (r .answer .outcome) ≡ Accepted → r .answer .words ≡ memoryWords (cellsOf file) 0 (λ k. W k (st .now))) → Behaves F w P σ file rules starts W st r
+    behaves r H shown =
         record {
           begins = has-words (st .begun) (st .from) (N .began .stands .words);
           finishes = due-by;
           lasts = λ t₀ σ′ E t l none. has-words t σ′ (lasting t₀ σ′ E t l none);
           endless = never;
           buffer = holds F net (X .ofFile .ordered) starts σ W o (st .now) (r .lent) H;
+          answered = shown;
         }
 
     number-is : (s : List ℕ) → Holding F net σ W (st .now) s → flightOf s ≡ 0

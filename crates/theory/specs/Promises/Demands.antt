@@ -27,6 +27,7 @@ use Rattle.laws.specs.Program.Passed.{accepted-pulse}
 use Rattle.laws.specs.NetlistFile.ReadWrite.{same-file}
 use Rattle.theory.specs.Refusals.Demand.{demand-1}
 use Rattle.theory.specs.Promises.Kept.{compiled, program-accepted, file-fits, file-made, begins, keeps}
+use Rattle.theory.specs.Promises.Answering.{answers, full-run}
 use Rattle.theory.specs.Promises.FullRuns.{full-runs}
 
 pub demand1 : Demand1
@@ -62,6 +63,8 @@ demand2 =
       numbers = λ F file lent starts e room.
           step-true F (netOf file) (net-ordered (cellsOf file) (finishOf file) (file-passed file e .cells)) starts lent (omega arith);
       bounded = λ file words y z e starts. file-bounded file y e starts (wordAt words) (word-low words z);
+      answers = answers;
+      fullRuns = full-run;
     }
 
 pub demand3 : Demand3

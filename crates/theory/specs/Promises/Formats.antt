@@ -4,7 +4,7 @@
 use mathlib.Core.Path.{_≡_, refl, sym, _∙_, ap, ap₂, subst}
 use mathlib.Core.Bool.{Bool, true, false, _&&_}
 use mathlib.Core.List.{List, [], _∷_, map}
-use Prim.Native.Nat.{ℕ, suc, _+_, _-_, _*_, _/_, _%_, _<_, _≤_, suc-le-suc}
+use Prim.Native.Nat.{ℕ, suc, _+_, _-_, _*_, _/_, _%_, _<_, _≤_}
 use native.Mathlib.Nat.{add-zero}
 use native.Mathlib.Omega.{arith}
 use lib.Dec.{ltb, eqb}
@@ -25,14 +25,15 @@ use Rattle.model.specs.Circuit.{Netlist, Sig, Values, high, memoryWords, Obeys}
 use Rattle.model.specs.NetlistFile.{cellsOf, netOf, finishOf}
 use Rattle.model.specs.State.{instantOf, stateSize, nowAt, wordsIn}
 use Rattle.model.specs.Calls.{Returned, verdict, compileCall, wordAt, refusedAnswer, shows, beginCall}
-use Rattle.model.specs.CircuitPromises.{stopsAt}
-use Rattle.model.specs.RunPromises.{Request, continuing, start, Call, replay, Seen, seen, seenOf, endedIf, Stand, stand, Runs, dueAt, Next, refuses, pulsed, afterRequest, next, expected, stands, startsOf, Along}
+use Rattle.model.specs.CircuitPromises.{stopsAt, endedIf}
+use Rattle.model.specs.RunPromises.{Request, continuing, start, Call, replay, Seen, seen, seenOf, Stand, stand, Runs, dueAt, Next, refuses, pulsed, afterRequest, next, expected, stands, startsOf, Along}
 use Rattle.model.specs.FormatPromises.{Alike, AllSame, each, SameWires}
 use Rattle.laws.specs.Refusals.Laws.{by-le}
 use Rattle.laws.specs.Circuit.Ordered.{Ordered}
 use Rattle.theory.specs.Circuit.Exists.{solution, solution-obeys}
 use Rattle.theory.specs.State.Holding.{Holding}
 use Rattle.theory.specs.State.Flight.{number-is}
+use Rattle.theory.specs.Promises.Answers.{memory-same}
 use Rattle.theory.specs.Promises.Stands.{anew, next-short, next-long, continues-late, continues-now, start-late, start-now, Given, given-first}
 use Rattle.theory.specs.Promises.Replay.{at0}
 use Rattle.theory.specs.Promises.Kept.{program-accepted, file-made, Begun, begins, room, along, told}
@@ -109,16 +110,6 @@ all-unmet w rules size [] st = tt
 all-unmet w rules size (c ∷ cs) st = (unmet-next w rules size st c, all-unmet w rules size cs _)
 
 -- What calls show, from the values -------------------------------------------------------------------------------------------------------
-
-memory-same : (cs : List Cell) (k : ℕ) (v w : ℕ → ℕ) → ((i : ℕ) → i < length cs → v (k + i) ≡ w (k + i)) → memoryWords cs k v ≡ memoryWords cs k w
-unfolding memoryWords
-memory-same [] k v w h = refl
-memory-same (c ∷ cs) k v w h =
-    ap₂ (λ (x : ℕ) (l : List ℕ). pick (eqb (c .kind) 40) (x ∷ l) l) (rw add-zero at (h 0 (omega arith)))
-    (memory-same cs (k + 1) v w
-    (λ i l.
-    let e : k + 1 + i ≡ k + suc i = omega arith in
-    rw e (h (suc i) (suc-le-suc l))))
 
 -- an answer shows these words, unless it is a refusal
 wordsShown : Outcome → List ℕ → List ℕ

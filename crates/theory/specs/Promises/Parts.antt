@@ -180,8 +180,8 @@ join-runs : (O : Options) (ps : List Part) (forFile words forState : List ℕ) (
     let file = take n (joinCall O ps forFile .lent) in
     let begun = beginCall Full file words forState in
     verdict (begun .answer .outcome) ≡ Accepted
-    → FullRuns file begun (λ k. runProgramCall (besideWhole O ps) (wholeProgram ps) words k forFile forState .answer)
-    (λ k. runNetlistCall file words k forState .answer)
+    → FullRuns file forFile begun (λ k. runProgramCall (besideWhole O ps) (wholeProgram ps) words k forFile forState)
+    (λ k. runNetlistCall file words k forState)
 join-runs O ps forFile words forState n f made =
     let e = done-accepted O ps forFile n f made in
     let same = join-same O ps forFile e in

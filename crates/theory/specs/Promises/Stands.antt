@@ -11,8 +11,8 @@ use lib.Dec.{eqb, ltb}
 use borrow.Author.Tests.{lt-ltb, le-ltb, eq-eqb, ne-eqb}
 use Rattle.model.specs.Rules.{Store, Run, atEnd, atExit, done, ended, still}
 use Rattle.model.specs.Circuit.{Sig}
-use Rattle.model.specs.CircuitPromises.{stopsAt, NoStart}
-use Rattle.model.specs.RunPromises.{Request, continuing, start, Call, seen, endedIf, Stand, stand, Runs, runAt, dueAt, Next, refuses, afterContinuing, pulsed, afterStart, afterRequest, next, stands, startsOf}
+use Rattle.model.specs.CircuitPromises.{stopsAt, NoStart, endedIf}
+use Rattle.model.specs.RunPromises.{Request, continuing, start, Call, seen, Stand, stand, Runs, runAt, dueAt, Next, refuses, afterContinuing, pulsed, afterStart, afterRequest, next, stands, startsOf}
 use Rattle.laws.specs.Refusals.Laws.{by-le}
 use Rattle.theory.specs.State.Running.{stops-ge}
 

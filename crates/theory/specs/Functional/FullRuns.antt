@@ -4,7 +4,7 @@
 use mathlib.Core.Path.{_≡_, refl, sym, _∙_, ap}
 use mathlib.Core.Bool.{Bool, true, false}
 use mathlib.Core.List.{List, [], _∷_}
-use Prim.Native.Nat.{ℕ, suc, _+_, _<_, _≤_}
+use Prim.Native.Nat.{ℕ, _+_, _<_, _≤_}
 use native.Mathlib.Omega.{arith}
 use native.Mathlib.Decide.{ℕ-discrete}
 use lib.Dec.{ltb}
@@ -13,7 +13,6 @@ use borrow.Author.Tests.{lt-ltb, le-ltb, ne-eqb}
 use Rattle.model.specs.declared.Cell.{Cell}
 use Rattle.model.specs.declared.Format.the-variants.{Full}
 use Rattle.model.specs.declared.Options.{Options}
-use Rattle.model.specs.declared.Checked.{Checked}
 use Rattle.model.specs.declared.Checked.the-variants.{Accepted}
 use Rattle.model.specs.declared.Outcome.the-variants.{Ended, Open}
 use Rattle.model.specs.declared.Answer.{Answer}
@@ -25,7 +24,7 @@ use Rattle.model.specs.Rules.{functional, Store, Ends, ended, still, run, shows
 use Rattle.model.specs.Circuit.{Netlist, Sig, Values, high, level, Obeys}
 use Rattle.model.specs.NetlistFile.{cellsOf, netOf, finishOf, lastWords}
 use Rattle.model.specs.State.{instantOf, Course, stateSize, nowAt, beginState, continued}
-use Rattle.model.specs.Calls.{Returned, verdict, checkCall, wordAt, shows, running, tooLong, continueChecks, continueCall, fullState, fullCount, runNetlistChecks, runNetlistCall, listed, referenceAnswer, overwrite, writing}
+use Rattle.model.specs.Calls.{Returned, verdict, checkCall, wordAt, shows, running, tooLong, continueChecks, continueCall, fullState, fullCount, runNetlistCall, listed, referenceAnswer, overwrite, writing}
 use Rattle.model.specs.CircuitPromises.{stopsAt, NoStart}
 use Rattle.model.specs.RunPromises.{seen, seenIn, stand, Runs, dueAt, stands, startsOf}
 use Rattle.model.specs.CircuitPromises.{wholeOf}

@@ -3,7 +3,7 @@
 use mathlib.Core.Path.{_≡_, refl, sym, _∙_, ap}
 use mathlib.Core.Bool.{Bool, true, false}
 use mathlib.Core.List.{List, []}
-use Prim.Native.Nat.{ℕ, suc, _+_, _-_, _<_, _≤_}
+use Prim.Native.Nat.{ℕ, suc, _+_, _-_, _≤_}
 use native.Mathlib.Omega.{arith}
 use lib.Dec.{ltb}
 use lib.ListN.{length}
@@ -17,8 +17,8 @@ use Rattle.model.specs.Refusals.{first}
 use Rattle.model.specs.Circuit.{memoryWords, Netlist, Sig, Values, high, level, Obeys}
 use Rattle.model.specs.NetlistFile.{fileCheck, cellsOf, netOf, finishOf}
 use Rattle.model.specs.State.{instantOf, stateSize, nowAt, Course, beginState, stepState, continued, wordsIn}
-use Rattle.model.specs.Calls.{Returned, verdict, wordAt, shows, goingOn, running, tooLong, beginChecks, beginCall, continueChecks, continueCall, startChecks, startCall, fullState, fullCount, runNetlistChecks, runNetlistCall}
-use Rattle.model.specs.CircuitPromises.{stateAt, stopsAt, NoStart, Apart, Holds, answerAt, Answers, wholeOf}
+use Rattle.model.specs.Calls.{verdict, wordAt, shows, goingOn, tooLong, beginChecks, beginCall, continueChecks, continueCall, startChecks, startCall, fullState, fullCount, runNetlistChecks, runNetlistCall}
+use Rattle.model.specs.CircuitPromises.{stateAt, stopsAt, Apart, Holds, answerAt, Answers, wholeOf}
 use Rattle.laws.specs.Refusals.Laws.{by-bool, all-accept, accept-take, refuse-unless}
 use Rattle.laws.specs.Circuit.Ordered.{Ordered}
 use Rattle.laws.specs.State.Continuing.{full-free}

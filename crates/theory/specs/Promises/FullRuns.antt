@@ -5,10 +5,10 @@ use mathlib.Core.Bool.{Bool, true, false}
 use mathlib.Core.List.{List, []}
 use Prim.Native.Nat.{ℕ, zero, suc, _+_, _-_, _<_, _≤_}
 use native.Mathlib.Omega.{arith}
-use native.Mathlib.Decide.{ℕ-discrete, decLt}
-use lib.Dec.{eqb, ltb}
+use native.Mathlib.Decide.{ℕ-discrete}
+use lib.Dec.{ltb}
 use lib.ListN.{length}
-use borrow.Author.Tests.{le-ltb, eq-eqb, ne-eqb, lt-ltb}
+use borrow.Author.Tests.{le-ltb, ne-eqb, lt-ltb}
 use Rattle.model.specs.declared.Cell.{Cell}
 use Rattle.model.specs.declared.Format.the-variants.{Full}
 use Rattle.model.specs.declared.Options.{Options}
@@ -25,8 +25,8 @@ use Rattle.model.specs.Rules.{imperative, Store, ended, still, run, showsAt, du
 use Rattle.model.specs.Circuit.{Netlist, Sig, Values, high, level, Obeys}
 use Rattle.model.specs.Numbering.{memoryAt}
 use Rattle.model.specs.NetlistFile.{cellsOf, netOf, finishOf}
-use Rattle.model.specs.State.{instantOf, Course, stateSize, nowAt, beginState, continued, wordsIn}
-use Rattle.model.specs.Calls.{Returned, verdict, checkCall, compiledFile, wordAt, shows, running, tooLong, beginCall, continueChecks, continueCall, fullState, fullCount, runNetlistCall, runProgramChecks, runProgramCall, listed, referenceAnswer, overwrite, writing, ReturnedBoth}
+use Rattle.model.specs.State.{Course, stateSize, nowAt, beginState, continued, wordsIn}
+use Rattle.model.specs.Calls.{Returned, verdict, checkCall, compiledFile, wordAt, shows, running, beginCall, continueCall, fullState, fullCount, runNetlistCall, runProgramChecks, runProgramCall, listed, referenceAnswer, overwrite, writing, ReturnedBoth}
 use Rattle.model.specs.CircuitPromises.{stopsAt, NoStart, wholeOf}
 use Rattle.model.specs.RunPromises.{seen, stand, Runs, dueAt, stands, startsOf, FullRuns}
 use Rattle.laws.specs.Refusals.Laws.{by-bool, first-drop}
@@ -34,10 +34,8 @@ use Rattle.laws.specs.Numbering.Parts.{net-length}
 use Rattle.laws.specs.Program.Fit.{Timed}
 use Rattle.laws.specs.Program.Admitted.{meaning-timed}
 use Rattle.laws.specs.Rules.Laws.{steady, still-before, still-below}
-use Rattle.laws.specs.State.Continuing.{full-free}
 use Rattle.theory.specs.Rules.Relation.{run-ends}
 use Rattle.theory.specs.State.Holding.{Holding}
-use Rattle.theory.specs.State.Sound.{sound-held}
 use Rattle.theory.specs.State.Running.{continues, stops-high, stops-low, stops-within}
 use Rattle.theory.specs.Promises.Answers.{listed-same, memory-words}
 use Rattle.theory.specs.Promises.Stands.{Given}

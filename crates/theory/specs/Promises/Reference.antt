@@ -14,12 +14,12 @@ use Rattle.model.specs.declared.Checked.the-variants.{Accepted}
 use Rattle.model.specs.declared.Outcome.the-variants.{Ended, Open}
 use Rattle.model.specs.declared.Answer.{Answer}
 use Rattle.model.specs.Refusals.{first}
-use Rattle.model.specs.Program.{programOf, Stmt, Program}
+use Rattle.model.specs.Program.{programOf, Stmt}
 use Rattle.model.specs.Procedures.{inlined, meaning}
 use Rattle.model.specs.ProgramChecks.{programWith}
 use Rattle.model.specs.Rules.{imperative, Store, Ends, ended, run, atEnd}
 use Rattle.model.specs.Circuit.{high}
-use Rattle.model.specs.NetlistFile.{netOf, cellsOf, finishOf}
+use Rattle.model.specs.NetlistFile.{netOf, finishOf}
 use Rattle.model.specs.State.{stateSize, nowAt, beginState}
 use Rattle.model.specs.Calls.{tooLong, verdict, checkCall, compiledFile, wordAt, shows, running, beginCall, runProgramChecks, runProgramCall, fullState, fullCount, referenceAnswer, answering, referenceChecks, referenceCall}
 use Rattle.model.specs.Word.{Bytes}

@@ -10,7 +10,7 @@ use Rattle.model.specs.declared.Options.{Options}
 use Rattle.model.specs.declared.Node.{Node}
 use Rattle.model.specs.declared.Checked.the-variants.{Accepted}
 use Rattle.model.specs.declared.Written.the-variants.{Done}
-use Rattle.model.specs.Program.{Code, alone, stmt, roots, timeIn, preorder, nodeBytes, programOf}
+use Rattle.model.specs.Program.{Code, stmt, roots, timeIn, preorder, nodeBytes, programOf}
 use Rattle.model.specs.ProgramChecks.{checkOf}
 use Rattle.laws.specs.Program.Passed.{passed, program-trees, count-bodies}
 use Rattle.model.specs.Text.{wordsOf, tokens, Means, BreaksAt}

@@ -156,8 +156,9 @@ module _ (F : Format) (S : Program) (file : List ℕ) (X : OfProgram S file) (st
         ∙ never-due (imperative (S .pulse)) w P timed (st .from) (t - st .begun) (λ t₀ τ E g. h t₀ τ E (omega (arith, l, g)))
 
     -- what an answer made from a state shows
-    pub words-shown : (s : List ℕ) → Holding F net σ W (st .now) s → wordsIn F (cellsOf file) 0 s ≡ memoryWords (cellsOf file) 0 (λ k. W k (st .now))
-    words-shown s H =
+    pub shows-memories : (s : List ℕ) (n : ℕ) → Holding F net σ W (st .now) s → shows F file s n .words ≡ memoryWords (cellsOf file) 0 (λ k. W k (st .now))
+    unfolding shows
+    shows-memories s n H =
         memory-same (cellsOf file) 0 (nowAt F s) (λ k. W k (st .now))
         (λ i h.
         let z : 0 + i ≡ i = omega arith in

@@ -45,7 +45,7 @@ use Rattle.theory.specs.Promises.Due.{run-first}
 use Rattle.theory.specs.Promises.Stands.{Given, given-first}
 use Rattle.theory.specs.Promises.Served.{OfProgram, published, served}
 use Rattle.theory.specs.Promises.Replay.{at0, asCalled, Good, good, answer-seen}
-use Rattle.theory.specs.Promises.Behaves.{decides, due-exactly, Stood, words-shown, behaves, tells-refused, tells-answer}
+use Rattle.theory.specs.Promises.Behaves.{decides, due-exactly, Stood, shows-memories, behaves, tells-refused, tells-answer}
 
 -- Calls that are not refused -----------------------------------------------------------------------------------------------------------
 
@@ -232,7 +232,7 @@ module _ (F : Format) (S : Program) (file words lent : List ℕ) (B : Begun F S 
         (beginCall F file words lent ∷ replay F file (beginCall F file words lent .lent) calls)
     circuit W o =
         along starts W o calls given pulse (Behaves F w P σ file rules starts W) (λ st cs N k b l H. behaves F S file X starts σ W o st cs N _ H (λ z. unfold verdict in not-refused z))
-        (λ st cs N s b n l H K. behaves F S file X starts σ W o st cs N _ K (λ z. unfold shows in words-shown F S file X starts σ W o st cs N s H))
+        (λ st cs N s b n l H K. behaves F S file X starts σ W o st cs N _ K (λ z. shows-memories F S file X starts σ W o st cs N s n H))
 
     pub told : map seenOf (beginCall F file words lent ∷ replay F file (beginCall F file words lent .lent) calls)
         ≡ seen (endedIf (dueAt w rules (stand 0 σ 0) 0)) 0 1 ∷ expected w rules size (stand 0 σ 0) calls

@@ -14,10 +14,10 @@ use Rattle.model.specs.declared.Format.the-variants.{Full}
 use Rattle.model.specs.declared.Options.{Options}
 use Rattle.model.specs.declared.Checked.the-variants.{Accepted}
 use Rattle.model.specs.declared.Outcome.{Outcome}
-use Rattle.model.specs.declared.Outcome.the-variants.{Ended, Open}
+use Rattle.model.specs.declared.Outcome.the-variants.{Ended}
 use Rattle.model.specs.declared.Written.the-variants.{Done}
 use Rattle.model.specs.declared.Answer.{Answer}
-use Rattle.model.specs.Word.{pick, elementWord}
+use Rattle.model.specs.Word.{elementWord}
 use Rattle.model.specs.Program.{Stmt, gap}
 use Rattle.model.specs.ProgramChecks.{programWith}
 use Rattle.model.specs.Procedures.{meaning}
